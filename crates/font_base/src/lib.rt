@@ -1,0 +1,2 @@
+//! Scalars of OpenType.
+#![tactic(auto)]

@@ -1,0 +1,4 @@
+//! Reads lines on standard input and answers each.
+#![tactic(auto)]
+
+fn main() {}
