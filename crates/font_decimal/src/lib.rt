@@ -1,2 +1,14 @@
-//! Scalars of OpenType.
+//! Decimal texts of fixed-point numbers: reading them, writing the shortest one, and padding.
+//!
+//! A fixed-point number with `f` bits of fraction stands for its bits over `2^f`. Nothing here allocates.
 #![tactic(auto)]
+
+mod grammar;
+pub mod laws;
+mod padding;
+mod reader;
+mod shortest;
+
+pub use padding::{Align, Pad, write_padded};
+pub use reader::{DecimalFault, read_decimal};
+pub use shortest::Shortest;

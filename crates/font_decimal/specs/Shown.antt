@@ -1,0 +1,7 @@
+-- The text that a `Shortest` holds.
+use Rattle.std.specs.Prelude.{ℕ, List, drop}
+use Rattle.font_decimal.specs.declared.shortest.Shortest.{Shortest}
+
+-- its bytes from the start of the text on
+unfoldable pub shown : Shortest → List ℕ
+shown s = drop s.start s.bytes
