@@ -1,4 +1,6 @@
-//! Reads lines on standard input and answers each.
+//! Answers lines of commands about font values.
 #![tactic(auto)]
+
+mod device;
 
 fn main() {}

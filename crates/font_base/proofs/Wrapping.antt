@@ -1,0 +1,157 @@
+-- That wrapping has one answer, and how it meets std's words for the widths of the number types.
+use Rattle.std.proofs.Common.{◌≡◌, ◌∙◌, sym, ap, subst, refl, ℕ, zero, suc, ◌+◌, ◌-◌, ◌*◌, ◌/◌, ◌%◌, ◌^◌, ◌<◌, ◌≤◌, ℤ, pos, negsuc, ◌+ℤ◌, ◌-ℤ◌, ◌*ℤ◌, neg_ℤ, ◌≤ℤ◌, ◌<ℤ◌, lit<, inl, inr, arith}
+use Rattle.std.proofs.lemmas.Int.{ints, by_lt_z, to_z_pos}
+use Rattle.std.proofs.Math.Nat.{mul-le-mul_right, pow-suc, add-mul, mod-lt}
+use Rattle.std.proofs.lemmas.Nat.{pow_pos, div-add-mod'}
+use Rattle.std.proofs.lemmas.Bool.{cases_lt}
+use Rattle.std.proofs.Math.Facts.{to_z-neg}
+use Rattle.std.specs.Int.{int_rem_euclid, int_wrap, Width, w8, w16, w32, w64, w128}
+use borrow.Author.Differences.{up, down, sum_is_lem}
+use mir.Val.{SFits, to_z, bits, hbits}
+use Rattle.font_base.specs.Wrap.{half_range, FitsBits, IsWrapped, wrap}
+
+-- w bits tell apart twice as many numbers as w - 1 bits
+pub two_halves : (w : ℕ) → 0 < w → 2 ^ w ≡ half_range w + half_range w
+two_halves zero positive = absurd (omega arith)
+two_halves (suc w) positive =
+    let less : suc w - 1 ≡ w = omega arith in rw less (omega (arith, pow-suc 2 w))
+
+-- multiples add up
+pub times_sum : (a b : ℤ) (d : ℕ) → ((a +ℤ b) *ℤ pos d) ≡ ((a *ℤ pos d) +ℤ (b *ℤ pos d))
+times_sum a b d =
+    let scaled = ap (λ n. n * d) (sum_is_lem a b) in
+    omega (arith, ints, scaled, add-mul (up (a +ℤ b) + down a) (down b) d, add-mul (up (a +ℤ b)) (down a) d, add-mul (down (a +ℤ b) + up a) (up b) d, add-mul (down (a +ℤ b)) (up a) d)
+
+-- a whole number is its remainder and a multiple of the divisor
+pub record Remainder (z : ℤ) (d : ℕ) : Type 0 where
+  pub rest : ℕ
+  pub turns : ℤ
+  pub below : rest < d
+  pub is : int_rem_euclid z (pos d) ≡ pos rest
+  pub parts : z ≡ (pos rest +ℤ (turns *ℤ pos d))
+
+pub remainder : (z : ℤ) (d : ℕ) → 0 < d → Remainder z d
+remainder (pos a) d positive = record {
+  rest = a % d;
+  turns = pos (a / d);
+  below = mod-lt a positive;
+  is = refl;
+  parts = omega (arith, ints, div-add-mod' a d)
+}
+remainder (negsuc a) d positive = record {
+  rest = d - 1 - a % d;
+  turns = negsuc (a / d);
+  below = omega (arith, mod-lt a positive);
+  is = refl;
+  parts = omega (arith, ints, div-add-mod' a d, mod-lt a positive)
+}
+
+pub wrap_is : (w : ℕ) (z : ℤ) → 0 < w → IsWrapped w z (wrap w z)
+unfolding wrap
+wrap_is w z positive =
+    let whole = two_halves w positive in
+    let some : 0 < 2 ^ w = pow_pos w in
+    let parts = remainder (z +ℤ pos (half_range w)) (2 ^ w) some in
+    let below = parts.below in
+    record {
+      fits = record { low = rw parts.is (omega (arith, ints)); high = rw parts.is (omega (arith, ints, whole, below)) };
+      turns = parts.turns;
+      differs = rw parts.is (omega (arith, ints, parts.parts))
+    }
+
+-- of two numbers that are turns apart, the one with more turns is at least a whole turn above
+turn_above : (d : ℕ) (t u r s : ℤ) → t <ℤ u → (r +ℤ (t *ℤ pos d)) ≡ (s +ℤ (u *ℤ pos d)) → (s +ℤ pos d) ≤ℤ r
+turn_above d t u r s less same =
+    let fewer : up t + down u + 1 ≤ up u + down t = omega (arith, ints, less) in
+    let scaled : (up t + down u + 1) * d ≤ (up u + down t) * d = mul-le-mul_right d fewer in
+    omega (arith, ints, same, scaled, add-mul (up t + down u) 1 d, add-mul (up t) (down u) d, add-mul (up u) (down t) d)
+
+-- two numbers less than d apart are equal where they differ by a multiple of d
+pub same_rest : (d : ℕ) (m n t u : ℤ) → m <ℤ (n +ℤ pos d) → n <ℤ (m +ℤ pos d) → (m +ℤ (t *ℤ pos d)) ≡ (n +ℤ (u *ℤ pos d)) → m ≡ n
+same_rest d m n t u near far same =
+    by_lt_z t u
+      (λ less. let above = turn_above d t u m n less same in absurd (omega (arith, ints, above, near)))
+      (λ more. by_lt_z u t
+        (λ less. let above = turn_above d u t n m less (sym same) in absurd (omega (arith, ints, above, far)))
+        (λ fewer. let equal : t ≡ u = omega (arith, ints, more, fewer) in omega (arith, ints, same, ap (λ k. k *ℤ pos d) equal)))
+
+-- no two numbers of w bits differ by a multiple of 2^w
+pub wrap_unique : (w : ℕ) (z r s : ℤ) → 0 < w → IsWrapped w z r → IsWrapped w z s → r ≡ s
+wrap_unique w z r s positive p q =
+    let whole = two_halves w positive in
+    same_rest (2 ^ w) r s p.turns q.turns (omega (arith, ints, whole)) (omega (arith, ints, whole)) (sym p.differs ∙ q.differs)
+
+-- what an answer gives is what `wrap` gives
+pub is_wrap : (w : ℕ) (z r : ℤ) → 0 < w → IsWrapped w z r → r ≡ wrap w z
+is_wrap w z r positive given = wrap_unique w z r (wrap w z) positive given (wrap_is w z positive)
+
+-- a number that fits is left as it is
+pub wrap_fits : (w : ℕ) (z : ℤ) → 0 < w → FitsBits w z → wrap w z ≡ z
+wrap_fits w z positive fits =
+    sym (is_wrap w z z positive (record { fits = fits; turns = pos 0; differs = omega (arith, ints) }))
+
+-- numbers a multiple of 2^w apart wrap to the same
+pub wrap_same : (w : ℕ) (y z : ℤ) (turns : ℤ) → 0 < w → y ≡ (z +ℤ (turns *ℤ pos (2 ^ w))) → wrap w y ≡ wrap w z
+wrap_same w y z turns positive apart =
+    let given = wrap_is w z positive in
+    sym (is_wrap w y (wrap w z) positive (record {
+      fits = given.fits;
+      turns = given.turns +ℤ turns;
+      differs = omega (arith, ints, apart, given.differs, times_sum given.turns turns (2 ^ w))
+    }))
+
+-- ---- the widths of the number types
+
+half_range-bits : (w : Width) → half_range (bits w) ≡ 2 ^ hbits w
+half_range-bits w8 = refl
+half_range-bits w16 = refl
+half_range-bits w32 = refl
+half_range-bits w64 = refl
+half_range-bits w128 = refl
+
+pub bits_positive : (w : Width) → 0 < bits w
+bits_positive w8 = lit< tt
+bits_positive w16 = lit< tt
+bits_positive w32 = lit< tt
+bits_positive w64 = lit< tt
+bits_positive w128 = lit< tt
+
+-- a value of a signed type fits its bits, and the other way
+pub FitsBits-signed : (w : Width) (z : ℤ) → SFits w z → FitsBits (bits w) z
+FitsBits-signed w z fits =
+    let half = half_range-bits w in
+    record { low = omega (arith, ints, fits, half); high = omega (arith, ints, fits, half) }
+
+pub signed-FitsBits : (w : Width) (z : ℤ) → FitsBits (bits w) z → SFits w z
+signed-FitsBits w z fits = let half = half_range-bits w in omega (arith, ints, fits.low, fits.high, half)
+
+-- a cast to the signed type keeps the bits
+pub to_z-wrap : (w : Width) (n : ℕ) → n < 2 ^ bits w → to_z w n ≡ wrap (bits w) (pos n)
+to_z-wrap w n below =
+    let half = half_range-bits w in
+    let whole = two_halves (bits w) (bits_positive w) in
+    is_wrap (bits w) (pos n) (to_z w n) (bits_positive w) (elim (cases_lt n (2 ^ hbits w)) [
+      inl low ↦ rw (to_z_pos w n low) (record {
+        fits = record { low = omega (arith, ints); high = omega (arith, ints, half, low) };
+        turns = pos 0;
+        differs = omega (arith, ints)
+      })
+    | inr high ↦
+        let k : ℕ = 2 ^ bits w - suc n in
+        let small : k < 2 ^ hbits w = omega arith in
+        let split : n ≡ 2 ^ bits w - suc k = omega arith in
+        let is : to_z w n ≡ negsuc k = ap (to_z w) split ∙ to_z-neg w k small in
+        rw is (record {
+          fits = record { low = omega (arith, ints, half, small); high = omega (arith, ints) };
+          turns = pos 1;
+          differs = omega (arith, ints, split, below)
+        })
+    ])
+
+-- std's wrapping is this one
+pub int_wrap-wrap : (w : Width) (z : ℤ) → int_wrap w z ≡ wrap (bits w) z
+unfolding int_wrap
+int_wrap-wrap w z =
+    let parts = remainder z (2 ^ bits w) (pow_pos (bits w)) in
+    rw parts.is (to_z-wrap w parts.rest parts.below
+      ∙ sym (wrap_same (bits w) z (pos parts.rest) parts.turns (bits_positive w) parts.parts))
