@@ -1,2 +1,4 @@
 pub mod Wrap
 pub mod Bytes
+pub mod Uint24
+pub mod Int24

@@ -1,5 +1,6 @@
 -- Wrapping: what is left of a whole number where only so many bits are kept, as two's complement.
-use Rattle.std.specs.Prelude.{◌≡◌, ℕ, ◌-◌, ◌*◌, ◌^◌, ℤ, pos, ◌+ℤ◌, ◌-ℤ◌, ◌*ℤ◌, neg_ℤ, ◌≤ℤ◌, ◌<ℤ◌}
+pub mod Laws
+use Rattle.std.specs.Prelude.{◌≡◌, ℕ, ◌-◌, ◌*◌, ◌^◌, ℤ, pos, ◌+ℤ◌, ◌-ℤ◌, ◌*ℤ◌, neg_ℤ, ◌≤ℤ◌, ◌<ℤ◌, Bool, ◌&&◌, int_le, int_lt}
 use Rattle.std.specs.Int.{int_rem_euclid}
 
 -- half the count of numbers that `w` bits can tell apart
@@ -11,6 +12,10 @@ half_range w = 2 ^ (w - 1)
 pub record FitsBits (w : ℕ) (z : ℤ) : Type 0 where
   pub low : neg_ℤ (pos (half_range w)) ≤ℤ z
   pub high : z <ℤ pos (half_range w)
+
+-- the same as a test
+abbrev pub fits_bits : ℕ → ℤ → Bool
+fits_bits w z = int_le (neg_ℤ (pos (half_range w))) z && int_lt z (pos (half_range w))
 
 -- r is z wrapped to w bits: it is in range, and differs from z by a multiple of 2^w
 pub record IsWrapped (w : ℕ) (z r : ℤ) : Type 0 where

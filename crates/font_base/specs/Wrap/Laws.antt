@@ -1,14 +1,23 @@
 -- That wrapping has one answer, and how it meets std's words for the widths of the number types.
-use Rattle.std.proofs.Common.{◌≡◌, ◌∙◌, sym, ap, subst, refl, ℕ, zero, suc, ◌+◌, ◌-◌, ◌*◌, ◌/◌, ◌%◌, ◌^◌, ◌<◌, ◌≤◌, ℤ, pos, negsuc, ◌+ℤ◌, ◌-ℤ◌, ◌*ℤ◌, neg_ℤ, ◌≤ℤ◌, ◌<ℤ◌, lit<, inl, inr, arith}
+use Rattle.std.proofs.Common.{◌≡◌, ◌∙◌, sym, ap, subst, refl, ℕ, zero, suc, ◌+◌, ◌-◌, ◌*◌, ◌/◌, ◌%◌, ◌^◌, ◌<◌, ◌≤◌, ℤ, pos, negsuc, ◌+ℤ◌, ◌-ℤ◌, ◌*ℤ◌, neg_ℤ, ◌≤ℤ◌, ◌<ℤ◌, lit<, inl, inr, Bool, true, false, ◌&&◌, int_le, int_lt, IsTrue, arith}
 use Rattle.std.proofs.lemmas.Int.{ints, by_lt_z, to_z_pos}
 use Rattle.std.proofs.Math.Nat.{mul-le-mul_right, pow-suc, add-mul, mod-lt}
 use Rattle.std.proofs.lemmas.Nat.{pow_pos, div-add-mod'}
 use Rattle.std.proofs.lemmas.Bool.{cases_lt}
 use Rattle.std.proofs.Math.Facts.{to_z-neg}
+use Rattle.std.specs.Cmp.Derive.{both_true}
 use Rattle.std.specs.Int.{int_rem_euclid, int_wrap, Width, w8, w16, w32, w64, w128}
 use borrow.Author.Differences.{up, down, sum_is_lem}
 use mir.Val.{SFits, to_z, bits, hbits}
-use Rattle.font_base.specs.Wrap.{half_range, FitsBits, IsWrapped, wrap}
+use Rattle.font_base.specs.Wrap.{half_range, FitsBits, fits_bits, IsWrapped, wrap}
+
+pub both_left : (s t : Bool) → (s && t) ≡ true → s ≡ true
+both_left true t h = refl
+both_left false t h = h
+
+pub both_right : (s t : Bool) → (s && t) ≡ true → t ≡ true
+both_right true t h = h
+both_right false t h = cc
 
 -- w bits tell apart twice as many numbers as w - 1 bits
 pub two_halves : (w : ℕ) → 0 < w → 2 ^ w ≡ half_range w + half_range w
@@ -36,14 +45,14 @@ remainder (pos a) d positive = record {
   turns = pos (a / d);
   below = mod-lt a positive;
   is = refl;
-  parts = omega (arith, ints, div-add-mod' a d)
+  parts = omega (arith, ints, div-add-mod' a d);
 }
 remainder (negsuc a) d positive = record {
   rest = d - 1 - a % d;
   turns = negsuc (a / d);
   below = omega (arith, mod-lt a positive);
   is = refl;
-  parts = omega (arith, ints, div-add-mod' a d, mod-lt a positive)
+  parts = omega (arith, ints, div-add-mod' a d, mod-lt a positive);
 }
 
 pub wrap_is : (w : ℕ) (z : ℤ) → 0 < w → IsWrapped w z (wrap w z)
@@ -56,7 +65,7 @@ wrap_is w z positive =
     record {
       fits = record { low = rw parts.is (omega (arith, ints)); high = rw parts.is (omega (arith, ints, whole, below)) };
       turns = parts.turns;
-      differs = rw parts.is (omega (arith, ints, parts.parts))
+      differs = rw parts.is (omega (arith, ints, parts.parts));
     }
 
 -- of two numbers that are turns apart, the one with more turns is at least a whole turn above
@@ -70,10 +79,10 @@ turn_above d t u r s less same =
 pub same_rest : (d : ℕ) (m n t u : ℤ) → m <ℤ (n +ℤ pos d) → n <ℤ (m +ℤ pos d) → (m +ℤ (t *ℤ pos d)) ≡ (n +ℤ (u *ℤ pos d)) → m ≡ n
 same_rest d m n t u near far same =
     by_lt_z t u
-      (λ less. let above = turn_above d t u m n less same in absurd (omega (arith, ints, above, near)))
-      (λ more. by_lt_z u t
-        (λ less. let above = turn_above d u t n m less (sym same) in absurd (omega (arith, ints, above, far)))
-        (λ fewer. let equal : t ≡ u = omega (arith, ints, more, fewer) in omega (arith, ints, same, ap (λ k. k *ℤ pos d) equal)))
+    (λ less. let above = turn_above d t u m n less same in absurd (omega (arith, ints, above, near)))
+    (λ more. by_lt_z u t
+    (λ less. let above = turn_above d u t n m less (sym same) in absurd (omega (arith, ints, above, far)))
+    (λ fewer. let equal : t ≡ u = omega (arith, ints, more, fewer) in omega (arith, ints, same, ap (λ k. k *ℤ pos d) equal)))
 
 -- no two numbers of w bits differ by a multiple of 2^w
 pub wrap_unique : (w : ℕ) (z r s : ℤ) → 0 < w → IsWrapped w z r → IsWrapped w z s → r ≡ s
@@ -97,8 +106,21 @@ wrap_same w y z turns positive apart =
     sym (is_wrap w y (wrap w z) positive (record {
       fits = given.fits;
       turns = given.turns +ℤ turns;
-      differs = omega (arith, ints, apart, given.differs, times_sum given.turns turns (2 ^ w))
+      differs = omega (arith, ints, apart, given.differs, times_sum given.turns turns (2 ^ w));
     }))
+
+-- the test of a range and the range
+pub FitsBits-test : (w : ℕ) (z : ℤ) → IsTrue (fits_bits w z) → FitsBits w z
+FitsBits-test w z test =
+    let low = both_left (int_le (neg_ℤ (pos (half_range w))) z) (int_lt z (pos (half_range w))) test in
+    let high = both_right (int_le (neg_ℤ (pos (half_range w))) z) (int_lt z (pos (half_range w))) test in
+    record { low = omega (arith, ints, low); high = omega (arith, ints, high) }
+
+pub test-FitsBits : (w : ℕ) (z : ℤ) → FitsBits w z → IsTrue (fits_bits w z)
+test-FitsBits w z fits =
+    let low : true ≡ int_le (neg_ℤ (pos (half_range w))) z = omega (arith, ints, fits.low) in
+    let high : true ≡ int_lt z (pos (half_range w)) = omega (arith, ints, fits.high) in
+    both_true (sym low) (sym high)
 
 -- ---- the widths of the number types
 
@@ -131,21 +153,21 @@ to_z-wrap w n below =
     let half = half_range-bits w in
     let whole = two_halves (bits w) (bits_positive w) in
     is_wrap (bits w) (pos n) (to_z w n) (bits_positive w) (elim (cases_lt n (2 ^ hbits w)) [
-      inl low ↦ rw (to_z_pos w n low) (record {
+      | inl low ↦ rw (to_z_pos w n low) (record {
         fits = record { low = omega (arith, ints); high = omega (arith, ints, half, low) };
         turns = pos 0;
-        differs = omega (arith, ints)
+        differs = omega (arith, ints);
       })
-    | inr high ↦
-        let k : ℕ = 2 ^ bits w - suc n in
-        let small : k < 2 ^ hbits w = omega arith in
-        let split : n ≡ 2 ^ bits w - suc k = omega arith in
-        let is : to_z w n ≡ negsuc k = ap (to_z w) split ∙ to_z-neg w k small in
-        rw is (record {
-          fits = record { low = omega (arith, ints, half, small); high = omega (arith, ints) };
-          turns = pos 1;
-          differs = omega (arith, ints, split, below)
-        })
+      | inr high ↦
+          let k : ℕ = 2 ^ bits w - suc n in
+          let small : k < 2 ^ hbits w = omega arith in
+          let split : n ≡ 2 ^ bits w - suc k = omega arith in
+          let is : to_z w n ≡ negsuc k = ap (to_z w) split ∙ to_z-neg w k small in
+          rw is (record {
+            fits = record { low = omega (arith, ints, half, small); high = omega (arith, ints) };
+            turns = pos 1;
+            differs = omega (arith, ints, split, below);
+          })
     ])
 
 -- std's wrapping is this one
@@ -154,4 +176,4 @@ unfolding int_wrap
 int_wrap-wrap w z =
     let parts = remainder z (2 ^ bits w) (pow_pos (bits w)) in
     rw parts.is (to_z-wrap w parts.rest parts.below
-      ∙ sym (wrap_same (bits w) z (pos parts.rest) parts.turns (bits_positive w) parts.parts))
+    ∙ sym (wrap_same (bits w) z (pos parts.rest) parts.turns (bits_positive w) parts.parts))

@@ -1,0 +1,5 @@
+use Rattle.font_base.proofs.ThreeBytes.{last_three}
+use Rattle.font_base.proofs.uint24.Uint24.to_be_bytes.Goals as goal
+
+pub returns : goal.returns
+returns c = last_three c.args.self.value c.to_be_bytes.result c.to_be_bytes.ensures

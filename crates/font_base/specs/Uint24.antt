@@ -1,0 +1,26 @@
+-- The unsigned integer of 24 bits (OpenType, data types: uint24).
+pub mod Laws
+use Rattle.std.specs.Prelude.{ℕ, ◌%◌, ◌^◌, ◌<◌, Bool, List, pos}
+use Rattle.std.proofs.Math.Nat.{mod-lt}
+use Rattle.std.proofs.Common.{lit<}
+use Rattle.font_base.specs.Bytes.{numeral, bytes_of}
+use Rattle.font_base.specs.declared.uint24.Uint24.{Uint24}
+
+-- the number that a `Uint24` is
+abbrev pub uint24_number : Uint24 → ℕ
+uint24_number n = n.value
+
+-- the greatest of them, 2^24 - 1
+abbrev pub UINT24_MAX : ℕ
+UINT24_MAX = 16777215
+
+-- the `Uint24` of a number, of which 24 bits are kept
+unfoldable pub uint24_of : ℕ → Uint24
+uint24_of n = record { value = n % 2 ^ 24; in_range = mod-lt n (lit< tt) }
+
+-- the `Uint24` of three bytes, and its bytes
+abbrev pub uint24_of_bytes : List ℕ → Uint24
+uint24_of_bytes bytes = uint24_of (numeral bytes)
+
+abbrev pub bytes_of_uint24 : Uint24 → List ℕ
+bytes_of_uint24 n = bytes_of 3 (pos (uint24_number n))

@@ -1,0 +1,32 @@
+-- That a `Uint24` and its three bytes determine each other.
+use Rattle.std.proofs.Common.{◌≡◌, ◌∙◌, refl, ap, sym, ℕ, ◌%◌, ◌^◌, ◌<◌, List, IsTrue, pos, lit<}
+use Rattle.std.proofs.Math.Nat.{mod-eq_of_lt}
+use mathlib.Core.HLevel.{is_prop→PathP}
+use denote.Struct.Props.{props}
+use Rattle.font_base.specs.declared.uint24.Uint24.{Uint24}
+use Rattle.font_base.specs.Bytes.{are_bytes, numeral, bytes_of, IsBytesOf}
+use Rattle.font_base.specs.Bytes.Laws.{numeral-bytes_of, numeral-below, bytes_of-numeral, is_bytes_of, bytes_unique, bytes_of_is}
+use Rattle.font_base.specs.Uint24.{uint24_number, uint24_of, uint24_of_bytes, bytes_of_uint24}
+
+-- two of one number are the same value
+pub same_uint24 : (m n : Uint24) → uint24_number m ≡ uint24_number n → m ≡ n
+same_uint24 m n same =
+    let prop : (k : ℕ) → IsProp (k < 2 ^ 24) = λ k. hlevel props in
+    λ i. record { value = same i; in_range = is_prop→PathP (λ j. same j < 2 ^ 24) (λ j. prop (same j)) m.in_range n.in_range i }
+
+pub uint24_number-of : (n : ℕ) → n < 2 ^ 24 → uint24_number (uint24_of n) ≡ n
+unfolding uint24_of
+uint24_number-of n below = mod-eq_of_lt below
+
+pub uint24_back : (n : Uint24) → uint24_of_bytes (bytes_of_uint24 n) ≡ n
+uint24_back n =
+    let number = numeral-bytes_of 3 (uint24_number n) n.in_range in
+    ap uint24_of number ∙ same_uint24 (uint24_of (uint24_number n)) n (uint24_number-of (uint24_number n) n.in_range)
+
+pub uint24_forth : (bytes : List ℕ) → IsTrue (are_bytes 3 bytes) → bytes_of_uint24 (uint24_of_bytes bytes) ≡ bytes
+uint24_forth bytes are =
+    ap (λ n. bytes_of 3 (pos n)) (uint24_number-of (numeral bytes) (numeral-below 3 bytes are)) ∙ bytes_of-numeral 3 bytes are
+
+-- the value whose bytes these are
+pub uint24_read : (n : Uint24) (bytes : List ℕ) → IsBytesOf 3 (pos (uint24_number n)) bytes → n ≡ uint24_of_bytes bytes
+uint24_read n bytes given = sym (uint24_back n) ∙ ap uint24_of_bytes (sym (is_bytes_of 3 (pos (uint24_number n)) bytes given))

@@ -1,0 +1,154 @@
+//! The signed integer of 24 bits.
+
+ghost use Rattle.std.specs.Prelude.{◌≡◌, ◌≤ℤ◌, ◌<ℤ◌, ◌↔◌, pos, neg_ℤ, Some, IsSome, IfSome};
+ghost use Rattle.std.specs.Int.{int_min, int_max};
+ghost use Rattle.std.specs.Fmt.{signed_decimal};
+
+use crate::raw::{FixedSize, Scalar};
+use crate::uint24::Uint24;
+use std::fmt;
+
+/// A signed integer of 24 bits, from -8388608 to 8388607.
+///
+/// `Int24::new(-2).to_be_bytes()` is `[0xFF, 0xFF, 0xFE]`.
+#[derive(Clone, Copy, PartialEq, Eq, PartialOrd, Ord, Hash)]
+pub struct Int24 {
+    value: i32,
+    ghost low: { neg_ℤ (pos 8388608) ≤ℤ value },
+    ghost high: { value <ℤ pos 8388608 },
+}
+
+impl Int24 {
+    ghost use Rattle.font_base.specs.Int24.{INT24_MIN, INT24_MAX, int24_number};
+    ghost use Rattle.font_base.specs.Bytes.{IsBytesOf};
+
+    /// The least value, -8388608.
+    pub const MIN: Self = Int24 { value: -0x80_0000 };
+
+    /// The greatest value, 8388607.
+    pub const MAX: Self = Int24 { value: 0x7F_FFFF };
+
+    /// The number, or the nearest value where the number is out of range.
+    pub fn new(raw: i32) -> Int24
+        ensures { int24_number result ≡ int_max INT24_MIN (int_min raw INT24_MAX) }
+    {
+        Int24 {
+            value: raw.clamp(Self::MIN.value, Self::MAX.value),
+        }
+    }
+
+    /// The number, or `None` where it is out of range.
+    pub fn checked_new(raw: i32) -> Option<Int24>
+        ensures variant { IsSome result ↔ ((INT24_MIN ≤ℤ raw) × (raw ≤ℤ INT24_MAX)) }
+        ensures value { IfSome result (λ n. int24_number n ≡ raw) }
+    {
+        if raw < Self::MIN.value || raw > Self::MAX.value {
+            None
+        } else {
+            Some(Int24 { value: raw })
+        }
+    }
+
+    /// The number.
+    pub fn to_i32(self) -> i32
+        ensures { result ≡ int24_number self }
+    {
+        self.value
+    }
+
+    /// The three bytes in two's complement, highest first.
+    pub fn to_be_bytes(self) -> [u8; 3]
+        ensures { IsBytesOf 3 (int24_number self) result }
+    {
+        let [_, high, middle, low] = self.value.to_be_bytes();
+        [high, middle, low]
+    }
+
+    /// The number of three bytes in two's complement, highest first.
+    pub fn from_be_bytes(bytes: [u8; 3]) -> Int24
+        ensures { IsBytesOf 3 (int24_number result) bytes }
+    {
+        let unsigned = Uint24::from_be_bytes(bytes).to_u32() as i32;
+        let value = if unsigned > Self::MAX.value {
+            unsigned - 0x100_0000
+        } else {
+            unsigned
+        };
+        Int24 { value }
+    }
+}
+
+impl Default for Int24 {
+    ghost use Rattle.font_base.specs.Int24.{int24_number};
+
+    ghost is_default = { λ n. int24_number n ≡ pos 0 };
+
+    fn default() -> Int24 {
+        Int24 { value: 0 }
+    }
+}
+
+impl fmt::Debug for Int24 {
+    fn fmt<W: fmt::Write>(&self, f: &mut fmt::Formatter<W>) -> fmt::Result {
+        f.debug_tuple("Int24").field(&self.value).finish()
+    }
+}
+
+impl fmt::Display for Int24 {
+    ghost use Rattle.font_base.specs.Int24.{int24_number};
+
+    ghost output = { λ n. Some (signed_decimal (int24_number n)) };
+
+    fn fmt<W: fmt::Write>(&self, f: &mut fmt::Formatter<W>) -> fmt::Result {
+        fmt::Display::fmt(&self.value, f)
+    }
+}
+
+impl From<Int24> for i32 {
+    ghost use Rattle.font_base.specs.Int24.{int24_number};
+
+    ghost from_gives = { λ n number. number ≡ int24_number n };
+
+    fn from(n: Int24) -> i32 {
+        n.value
+    }
+}
+
+impl FixedSize for Int24 {
+    const RAW_BYTE_LEN: usize = 3;
+
+    ghost RAW_BYTE_LEN = { 3 };
+}
+
+impl Scalar for Int24 {
+    ghost use Rattle.std.specs.Prelude.{true, refl};
+    ghost use Rattle.font_base.specs.Bytes.Laws.{are_bytes-bytes_of};
+    ghost use Rattle.font_base.specs.Int24.{int24_number, int24_of_bytes, bytes_of_int24};
+    ghost use Rattle.font_base.specs.Int24.Laws.{int24_back, int24_forth};
+
+    type Raw = [u8; 3];
+
+    ghost is_scalar = { λ _. true };
+
+    ghost of_raw = { int24_of_bytes };
+
+    ghost raw_of = { bytes_of_int24 };
+
+    ghost of_raw_value = { λ _ _. refl };
+
+    ghost raw_of_value = { λ n _. are_bytes-bytes_of 3 ((int24_number n)) };
+
+    ghost back = { λ n _. int24_back n };
+
+    ghost forth = { int24_forth };
+
+    ghost lengths_agree = { refl };
+
+    fn from_raw(raw: [u8; 3]) -> Int24 {
+        Int24::from_be_bytes(raw)
+    }
+
+    fn to_raw(self) -> [u8; 3] {
+        self.to_be_bytes()
+    }
+}

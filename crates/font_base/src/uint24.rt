@@ -1,0 +1,185 @@
+//! The unsigned integer of 24 bits.
+
+ghost use Rattle.std.specs.Prelude.{◌≡◌, ◌≤◌, ◌<◌, ◌^◌, ◌↔◌, min, pos, Some, IsSome, IsNone, IfSome, MatchResult};
+ghost use Rattle.std.specs.Fmt.{decimal};
+
+use crate::raw::{BeByteArray, FixedSize, Scalar};
+use std::fmt;
+use thiserror::Error;
+
+/// An unsigned integer of 24 bits, from 0 to 16777215.
+///
+/// `Uint24::new(5).to_be_bytes()` is `[0, 0, 5]`.
+#[derive(Clone, Copy, PartialEq, Eq, PartialOrd, Ord, Hash)]
+pub struct Uint24 {
+    value: u32,
+    ghost in_range: { value < 2 ^ 24 },
+}
+
+impl Uint24 {
+    ghost use Rattle.font_base.specs.Uint24.{UINT24_MAX, uint24_number};
+    ghost use Rattle.font_base.specs.Bytes.{IsBytesOf};
+
+    /// The least value, 0.
+    pub const MIN: Self = Uint24 { value: 0 };
+
+    /// The greatest value, 16777215.
+    pub const MAX: Self = Uint24 { value: 0xFF_FFFF };
+
+    /// The number, or the greatest value where the number is above it.
+    pub fn new(raw: u32) -> Uint24
+        ensures { uint24_number result ≡ min raw UINT24_MAX }
+    {
+        Uint24 {
+            value: raw.min(Self::MAX.value),
+        }
+    }
+
+    /// The number, or `None` where it is above the greatest value.
+    pub fn checked_new(raw: u32) -> Option<Uint24>
+        ensures variant { IsSome result ↔ (raw ≤ UINT24_MAX) }
+        ensures value { IfSome result (λ n. uint24_number n ≡ raw) }
+    {
+        if raw > Self::MAX.value {
+            None
+        } else {
+            Some(Uint24 { value: raw })
+        }
+    }
+
+    /// The number.
+    pub fn to_u32(self) -> u32
+        ensures { result ≡ uint24_number self }
+    {
+        self.value
+    }
+
+    /// The three bytes, highest first.
+    pub fn to_be_bytes(self) -> [u8; 3]
+        ensures { IsBytesOf 3 (pos (uint24_number self)) result }
+    {
+        let [_, high, middle, low] = self.value.to_be_bytes();
+        [high, middle, low]
+    }
+
+    /// The number of three bytes, highest first.
+    pub fn from_be_bytes(bytes: [u8; 3]) -> Uint24
+        ensures { IsBytesOf 3 (pos (uint24_number result)) bytes }
+    {
+        let bytes = BeByteArray::as_slice(&bytes);
+        let value = u32::from(bytes[0]) * 0x1_0000
+            + u32::from(bytes[1]) * 0x100
+            + u32::from(bytes[2]);
+        Uint24 { value }
+    }
+}
+
+impl Default for Uint24 {
+    ghost use Rattle.font_base.specs.Uint24.{uint24_number};
+
+    ghost is_default = { λ n. uint24_number n ≡ 0 };
+
+    fn default() -> Uint24 {
+        Self::MIN
+    }
+}
+
+impl fmt::Debug for Uint24 {
+    fn fmt<W: fmt::Write>(&self, f: &mut fmt::Formatter<W>) -> fmt::Result {
+        f.debug_tuple("Uint24").field(&self.value).finish()
+    }
+}
+
+impl fmt::Display for Uint24 {
+    ghost use Rattle.font_base.specs.Uint24.{uint24_number};
+
+    ghost output = { λ n. Some (decimal (uint24_number n)) };
+
+    fn fmt<W: fmt::Write>(&self, f: &mut fmt::Formatter<W>) -> fmt::Result {
+        fmt::Display::fmt(&self.value, f)
+    }
+}
+
+impl From<Uint24> for u32 {
+    ghost use Rattle.font_base.specs.Uint24.{uint24_number};
+
+    ghost from_gives = { λ n number. number ≡ uint24_number n };
+
+    fn from(n: Uint24) -> u32 {
+        n.value
+    }
+}
+
+impl From<Uint24> for usize {
+    ghost use Rattle.font_base.specs.Uint24.{uint24_number};
+
+    ghost from_gives = { λ n number. number ≡ uint24_number n };
+
+    fn from(n: Uint24) -> usize {
+        n.value as usize
+    }
+}
+
+/// A number that is above `Uint24::MAX`.
+#[derive(Debug, Drop, Error)]
+#[error("failed to convert usize value into Uint24.")]
+pub struct TryFromUint24Error;
+
+impl TryFrom<usize> for Uint24 {
+    ghost use Rattle.font_base.specs.Uint24.{UINT24_MAX, uint24_number};
+
+    type Error = TryFromUint24Error;
+
+    ghost try_from_gives = { λ number result. MatchResult result
+        (λ n. uint24_number n ≡ number)
+        (λ _. UINT24_MAX < number) };
+
+    fn try_from(number: usize) -> Result<Uint24, TryFromUint24Error> {
+        if number > Self::MAX.value as usize {
+            Err(TryFromUint24Error)
+        } else {
+            Ok(Uint24 {
+                value: number as u32,
+            })
+        }
+    }
+}
+
+impl FixedSize for Uint24 {
+    const RAW_BYTE_LEN: usize = 3;
+
+    ghost RAW_BYTE_LEN = { 3 };
+}
+
+impl Scalar for Uint24 {
+    ghost use Rattle.std.specs.Prelude.{true, refl};
+    ghost use Rattle.font_base.specs.Bytes.Laws.{are_bytes-bytes_of};
+    ghost use Rattle.font_base.specs.Uint24.{uint24_number, uint24_of_bytes, bytes_of_uint24};
+    ghost use Rattle.font_base.specs.Uint24.Laws.{uint24_back, uint24_forth};
+
+    type Raw = [u8; 3];
+
+    ghost is_scalar = { λ _. true };
+
+    ghost of_raw = { uint24_of_bytes };
+
+    ghost raw_of = { bytes_of_uint24 };
+
+    ghost of_raw_value = { λ _ _. refl };
+
+    ghost raw_of_value = { λ n _. are_bytes-bytes_of 3 (pos (uint24_number n)) };
+
+    ghost back = { λ n _. uint24_back n };
+
+    ghost forth = { uint24_forth };
+
+    ghost lengths_agree = { refl };
+
+    fn from_raw(raw: [u8; 3]) -> Uint24 {
+        Uint24::from_be_bytes(raw)
+    }
+
+    fn to_raw(self) -> [u8; 3] {
+        self.to_be_bytes()
+    }
+}
