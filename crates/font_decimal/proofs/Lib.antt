@@ -1,1 +1,6 @@
 pub mod Near
+pub mod Texts
+pub mod Digits
+pub mod Rounding
+pub mod Readings
+pub mod Splits

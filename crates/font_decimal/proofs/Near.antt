@@ -22,9 +22,9 @@ rounded_unique n d q r x y =
     elim (cases_order q r) [
       | inl e ↦ e
       | inr order ↦ elim order [
-          | inl less ↦ absurd (omega (arith, next_product q r d less))
-          | inr more ↦ absurd (omega (arith, next_product r q d more))
-        ]
+        | inl less ↦ absurd (omega (arith, next_product q r d less))
+        | inr more ↦ absurd (omega (arith, next_product r q d more))
+      ]
     ]
 
 pub rounded_is : (n d : ℕ) → 0 < d → Rounded n d (near_magnitude n d)
@@ -38,6 +38,11 @@ neg-times : (q : ℤ) (d : ℕ) → neg_ℤ q *ℤ pos d ≡ neg_ℤ (q *ℤ pos
 neg-times (pos zero) d = rw zero-mul
 neg-times (pos (suc n)) d = refl
 neg-times (negsuc n) d = sym (neg_ℤ-neg_ℤ (pos (suc n * d)))
+
+-- a sign stays outside of a product
+pub signed_times : (s : Bool) (n d : ℕ) → signed s n *ℤ pos d ≡ signed s (n * d)
+signed_times false n d = refl
+signed_times true n d = neg-times (pos n) d
 
 negated_abs : (x y : ℤ) → unsigned_abs (neg_ℤ x -ℤ neg_ℤ y) ≡ unsigned_abs (x -ℤ y)
 negated_abs x y = omega (arith, ints)
@@ -77,10 +82,10 @@ magnitude_positive : (n d : ℕ) (q : ℤ) → 0 < d → Near (pos n) d q → Ha
 magnitude_positive n d (pos q) h r =
     let close = r.close in
     let below : 2 * n + d < 2 * (q * d) + 2 * d =
-        elim (cases_lt (2 * n + d) (2 * (q * d) + 2 * d)) [
-          | inl less ↦ less
-          | inr more ↦ absurd (omega (arith, r.away (omega (arith, ints))))
-        ] in
+    elim (cases_lt (2 * n + d) (2 * (q * d) + 2 * d)) [
+      | inl less ↦ less
+      | inr more ↦ absurd (omega (arith, r.away (omega (arith, ints))))
+    ] in
     record { magnitude = q; is = refl; rounded = record { low = omega (arith, ints); high = below } }
 magnitude_positive n d (negsuc q) h r =
     let close = r.close in
@@ -124,11 +129,11 @@ times_monotone (negsuc a) (negsuc b) d h = omega (arith, ints, mul-le-mul_right 
 pub up_unique : (n : ℤ) (d : ℕ) (q r : ℤ) → 0 < d → Up n d q → Up n d r → q ≡ r
 up_unique n d q r h x y =
     let apart = λ (a b : ℤ) (less : a <ℤ b) (p : Up n d a) (o : Up n d b).
-        let step : ((a +ℤ pos 1) *ℤ pos d) ≤ℤ (b *ℤ pos d) = times_monotone (a +ℤ pos 1) b d (omega (arith, ints)) in
-        let above = p.high in
-        let below = o.low in
-        let none : ⊥ = omega (arith, ints) in
-        none in
+    let step : ((a +ℤ pos 1) *ℤ pos d) ≤ℤ (b *ℤ pos d) = times_monotone (a +ℤ pos 1) b d (omega (arith, ints)) in
+    let above = p.high in
+    let below = o.low in
+    let none : ⊥ = omega (arith, ints) in
+    none in
     by_lt_z q r (λ less. absurd (apart q r less x y)) (λ not_less. by_lt_z r q (λ more. absurd (apart r q more y x)) (λ not_more. omega (arith, ints)))
 
 pub up_is : (n : ℤ) (d : ℕ) → 0 < d → Up n d (up n d)

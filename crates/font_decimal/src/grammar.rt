@@ -1,7 +1,10 @@
 // The parts of a decimal text.
-ghost use Rattle.std.specs.Prelude.{IsTrue, MatchOption, ◌↔◌};
+ghost use Rattle.std.specs.Prelude.{◌≡◌, ◌≢◌, ℕ, false, List, ◌∷◌, ◌++◌, IfSome, IsSomeAnd, MatchOption};
+ghost use Rattle.std.specs.Fmt.{sign_text};
+ghost use Rattle.std.specs.Char.{is_ascii_digit};
+ghost use Rattle.std.specs.List.{list_all};
 ghost use Rattle.std.specs.Str.Parse.{AllDigits};
-ghost use Rattle.font_decimal.specs.Grammar.{HasParts, IsNoDecimal};
+ghost use Rattle.font_decimal.specs.Grammar.{point_text, HasParts, IsNoDecimal};
 
 // The digits in front of the point and those behind it, of which there may be none.
 #[derive(Clone, Copy)]
@@ -12,20 +15,28 @@ pub struct Parts<'a> {
 }
 
 fn are_digits(text: &str) -> bool
-    ensures { IsTrue result ↔ AllDigits 10 text.now }
+    ensures { result ≡ list_all is_ascii_digit text.now }
 {
     text.bytes().all(|byte| byte.is_ascii_digit())
 }
 
-fn split_sign(text: &str) -> (bool, &str) {
+// A sign and what follows it.
+fn split_sign(text: &str) -> (bool, &str)
+    ensures minus { text.now ≡ sign_text result.0 ++ result.1.now }
+    ensures plain { result.0 ≡ false → (rest : List ℕ) → text.now ≢ 45 ∷ rest }
+{
     match text.strip_prefix('-') {
         Some(rest) => (true, rest),
         None => (false, text),
     }
 }
 
-// `None` where a point has no digit behind it.
-fn split_point(text: &str) -> Option<(&str, &str)> {
+// The parts round the first point, or `None` where nothing stands behind it.
+fn split_point(text: &str) -> Option<(&str, &str)>
+    ensures cut { (whole fraction : List ℕ) → AllDigits 10 whole → text.now ≡ whole ++ point_text fraction
+        → IsSomeAnd result (λ p. (p.0.now ≡ whole) × (p.1.now ≡ fraction)) }
+    ensures joined { IfSome result (λ p. text.now ≡ p.0.now ++ point_text p.1.now) }
+{
     match text.split_once('.') {
         Some((_, "")) => None,
         Some(parts) => Some(parts),
