@@ -4,3 +4,5 @@ pub mod Digits
 pub mod Rounding
 pub mod Readings
 pub mod Splits
+pub mod Fewest
+pub mod Written

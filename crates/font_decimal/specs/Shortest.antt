@@ -40,7 +40,7 @@ fewest_places m f = places_from m f f 0
 -- the last p digits of n
 abbrev pub last_digits : ℕ → ℕ → List ℕ
 last_digits zero n = []
-last_digits (suc p) n = last_digits p (n / 10) ++ (48 + n % 10) ∷ []
+last_digits (suc p) n = (48 + n / 10 ^ p % 10) ∷ last_digits p n
 
 -- n / 10^p with p digits behind the point
 abbrev pub decimal_text : ℕ → ℕ → List ℕ

@@ -1,0 +1,173 @@
+-- The text of the shortest decimal is what it says: plain, nearest, read back, with the fewest places, and at most 22 bytes long.
+use Rattle.std.proofs.Common.{◌≡◌, ◌≢◌, ℕ, zero, suc, ◌+◌, ◌-◌, ◌*◌, ◌/◌, ◌%◌, ◌^◌, ◌<◌, ◌≤◌, ◌⊎◌, inl, inr, Bool, true, false, true≢false, List, [], ◌∷◌, ◌++◌, length, get_or, ℤ, pos, negsuc, refl, sym, ap, subst, ◌∙◌, arith, add-one, length-append}
+use Rattle.std.specs.Prelude.{◌*ℤ◌, neg_ℤ, ◌<ℤ◌, ◌↔◌, IsTrue, unsigned_abs}
+use Rattle.std.specs.Int.{is_negative}
+use Rattle.std.specs.Fmt.{decimal, sign_text}
+use Rattle.std.specs.Str.Parse.{digits_value, AllDigits, IsNumeral}
+use Rattle.std.specs.Char.{digit_value}
+use Rattle.std.proofs.Math.Nat.{suc-mul, mul-le-mul, mul-le-mul_right, le_of_mul-le-mul_right, pow-suc, one-le-pow, div-div-eq-div-mul, div-mul-le_self, div-add-mod', mod-lt, div-one, le_trans, le-mul_of_pos_right, mul-le-mul_left, pow-le-pow_right, lt_of_mul-lt-mul_right}
+use Rattle.std.proofs.lemmas.Bool.{cases_lt, cases_order, le-ltb}
+use Rattle.std.proofs.lemmas.Int.{ints}
+use Rattle.std.proofs.lemmas.Nat.{pow_pos, pow-add}
+use Rattle.std.proofs.lemmas.Str.{digit_value_digit}
+use Rattle.std.proofs.lemmas.Fmt.{decimal_is_IsNumeral, decimal_digit, first_decimal, length-decimal-le_wide, length-decimal-le}
+use Rattle.font_decimal.specs.Near.{signed, Near, near_magnitude}
+use Rattle.font_decimal.specs.Grammar.{point_text, HasParts, Decimal, Plain}
+use Rattle.font_decimal.specs.Reading.{Rounds}
+use Rattle.font_decimal.specs.Shortest.{IsShortest, distance, nearest_numeral, reads_back, fewest_places, last_digits, decimal_text, shortest_text}
+use Rattle.font_decimal.proofs.Near.{Rounded, rounded_is, near_from, is_signed, signed_times}
+use Rattle.font_decimal.proofs.Texts.{decimal_of}
+use Rattle.font_decimal.proofs.Digits.{digits_value-append}
+use Rattle.font_decimal.proofs.Readings.{ten_pos}
+use Rattle.font_decimal.proofs.Fewest.{IsFewest, fewest_is, within_half, none_fewer, unit_below}
+
+pub last_length : (p n : ℕ) → length (last_digits p n) ≡ p
+last_length zero n = refl
+last_length (suc p) n = ap suc (last_length p n)
+
+glyph_value : (d : ℕ) → d < 10 → digit_value (48 + d) ≡ d
+glyph_value d h = omega (arith, digit_value_digit (48 + d) (omega arith, omega arith))
+
+pub last_all_digits : (p n : ℕ) → AllDigits 10 (last_digits p n)
+last_all_digits zero n = tt
+last_all_digits (suc p) n = let small : n / 10 ^ p % 10 < 10 = mod-lt (n / 10 ^ p) (omega arith) in (rw glyph_value small, last_all_digits p n)
+
+joined_value : (n m ten tenfold high low front value more : ℕ) → high * 10 + low ≡ m → m * ten + value ≡ n → more ≡ (0 * 10 + low) * ten + value
+    → front ≡ high → tenfold ≡ ten * 10 → front * tenfold + more ≡ n
+joined_value n m ten tenfold high low front value more split rest joined same power = rw (same, power, joined) (sym (omega (arith, ap (λ k. k * ten) split)))
+
+pub last_value : (p n : ℕ) → n / 10 ^ p * 10 ^ p + digits_value 10 (last_digits p n) ≡ n
+last_value zero n = rw div-one (omega arith)
+last_value (suc p) n =
+    let m = n / 10 ^ p in
+    let digit : m % 10 < 10 = mod-lt m (omega arith) in
+    let power : 10 ^ suc p ≡ 10 ^ p * 10 = pow-suc 10 p in
+    let front : n / 10 ^ suc p ≡ m / 10 = ap (λ d. n / d) power ∙ sym (div-div-eq-div-mul n (10 ^ p) 10) in
+    let joined : digits_value 10 (last_digits (suc p) n) ≡ (0 * 10 + digit_value (48 + m % 10)) * 10 ^ length (last_digits p n) + digits_value 10 (last_digits p n) =
+        digits_value-append ((48 + m % 10) ∷ []) (last_digits p n) in
+    let first = glyph_value (m % 10) digit in
+    let long = ap (λ k. 10 ^ k) (last_length p n) in
+    let split : m / 10 * 10 + m % 10 ≡ m = div-add-mod' m 10 in
+    let rest = last_value p n in
+    joined_value n m (10 ^ p) (10 ^ suc p) (m / 10) (m % 10) _ (digits_value 10 (last_digits p n)) _ split rest (rw (first, long) at joined) front power
+
+-- the digits in front of the point and behind it write the numeral
+pub numeral_value : (p n : ℕ) → n / 10 ^ p < 2 ^ 64 → digits_value 10 (decimal (n / 10 ^ p) ++ last_digits p n) ≡ n
+numeral_value p n small =
+    let whole = decimal_is_IsNumeral (n / 10 ^ p) small in
+    digits_value-append (decimal (n / 10 ^ p)) (last_digits p n) ∙ rw (whole.1, last_length p n) (last_value p n)
+
+pub written_parts : (s : Bool) (p n : ℕ) → n / 10 ^ p < 2 ^ 64 → HasParts (sign_text s ++ decimal_text n p) s (decimal (n / 10 ^ p)) (last_digits p n)
+written_parts s p n small = record { written = refl; whole_digits = (decimal_is_IsNumeral (n / 10 ^ p) small).0; fraction_digits = last_all_digits p n }
+
+pub written_decimal : (s : Bool) (p n : ℕ) → n / 10 ^ p < 2 ^ 64 → Decimal (sign_text s ++ decimal_text n p) (signed s n) p
+written_decimal s p n small = record {
+  negative = s;
+  whole = decimal (n / 10 ^ p);
+  fraction = last_digits p n;
+  parts = written_parts s p n small;
+  numeral = ap (signed s) (sym (numeral_value p n small));
+  places = sym (last_length p n);
+}
+
+no_zero_in_front : (n : ℕ) → n < 2 ^ 64 → get_or (decimal n) 0 0 ≡ 48 → length (decimal n) ≡ 1
+no_zero_in_front n small e = elim (cases_lt 0 n) [
+  | inl some ↦ absurd (omega (arith, first_decimal n some small))
+  | inr none ↦ ap length (decimal_digit n (omega arith))
+]
+
+-- the numeral that is shown is zero only where the value is
+not_zero : (m d t ten : ℕ) → 2 * distance (d * t) (m * ten) < ten → d ≡ 0 → m ≡ 0
+not_zero zero d t ten close e = refl
+not_zero (suc m) d t ten close e = absurd (let none : d * t ≡ 0 = rw e (omega arith) in omega (arith, suc-mul m ten))
+
+minus_shown : (b : ℤ) (d : ℕ) → (d ≡ 0 → unsigned_abs b ≡ 0) → IsTrue (is_negative b) ↔ (signed (is_negative b) d <ℤ pos 0)
+minus_shown (pos n) d h = rw (le-ltb n 0 (omega arith)) (λ t. absurd (true≢false (sym t)), λ less. absurd (omega (arith, ints)))
+minus_shown (negsuc n) zero h = let none : suc n ≡ 0 = h refl in absurd (omega arith)
+minus_shown (negsuc n) (suc d) h = (λ _. omega (arith, ints), λ _. refl)
+
+-- the whole part of the numeral is at most one above that of the value
+whole_below : (m t ten d w : ℕ) → 0 < t → 0 < ten → Rounded (m * ten) t d → w * ten ≤ d → w ≤ m + 1
+whole_below m t ten d w ht hten r low = elim (cases_lt (m + 1) w) [
+  | inl more ↦
+      let above = r.low in
+      let from : (m + 2) * ten ≤ d = le_trans (mul-le-mul_right {m = m + 2} {n = w} ten (omega arith)) low in
+      let scaled : (m + 2) * ten * t ≤ d * t = mul-le-mul_right t from in
+      let first : m * ten ≤ m * ten * t = le-mul_of_pos_right (m * ten) ht in
+      let second : t ≤ t * ten = le-mul_of_pos_right t hten in
+      absurd (omega arith)
+  | inr few ↦ few
+]
+
+pub whole_fits : (m f p : ℕ) → m ≤ 2 ^ 63 → nearest_numeral m f p / 10 ^ p < 2 ^ 64
+whole_fits m f p small =
+    let d = nearest_numeral m f p in
+    let low : d / 10 ^ p * 10 ^ p ≤ d = div-mul-le_self d (10 ^ p) in
+    omega (arith, whole_below m (2 ^ f) (10 ^ p) d (d / 10 ^ p) (pow_pos f) (ten_pos p) (rounded_is (m * 10 ^ p) (2 ^ f) (pow_pos f)) low)
+
+-- the text of the fewest places is the shortest
+pub shortest_is : (b : ℤ) (f : ℕ) → unsigned_abs b ≤ 2 ^ 63 → IsShortest b f (shortest_text b f)
+unfolding shortest_text written_decimal
+shortest_is b f small =
+    let s = is_negative b in
+    let m = unsigned_abs b in
+    let p = fewest_places m f in
+    let d = nearest_numeral m f p in
+    let fewest = fewest_is m f in
+    let whole = whole_fits m f p small in
+    let close = within_half m f p fewest.reads in
+    let text = written_decimal s p d whole in
+    let nearest : Rounded (m * 10 ^ p) (2 ^ f) d = rounded_is (m * 10 ^ p) (2 ^ f) (pow_pos f) in
+    let back : Rounded (d * 2 ^ f) (10 ^ p) m = record { low = omega arith; high = omega arith } in
+    let Back : ℤ → Type 0 = λ v. Near (signed s d *ℤ pos (2 ^ f)) (10 ^ p) v in
+    let There : ℤ → Type 0 = λ v. Near (v *ℤ pos (10 ^ p)) (2 ^ f) (signed s d) in
+    record {
+      numeral = signed s d;
+      places = p;
+      plain = record {
+        decimal = text;
+        no_needless_zero = no_zero_in_front (d / 10 ^ p) whole;
+        minus = minus_shown b d (not_zero m d (2 ^ f) (10 ^ p) close);
+      };
+      rounds = record {
+        numeral = signed s d;
+        places = p;
+        decimal = text;
+        nearest = subst Back (sym (is_signed b)) (rw (signed_times s d (2 ^ f)) (near_from s (d * 2 ^ f) (10 ^ p) m (ten_pos p) back));
+      };
+      nearest = subst There (sym (is_signed b)) (rw (signed_times s m (10 ^ p)) (near_from s (m * 10 ^ p) (2 ^ f) d (pow_pos f) nearest));
+      fewest = λ j n h near. none_fewer f j p n b fewest h near;
+    }
+
+-- ---- how long the text is
+-- 10 ^ 11 steps of any width that is allowed are more than ten
+pub few_places : (f p : ℕ) → f ≤ 30 → 10 ^ p ≤ 10 * 2 ^ f → p ≤ 10
+few_places f p few unit = elim (cases_lt p 11) [
+  | inl less ↦ omega arith
+  | inr more ↦
+      let step : 2 ^ f ≤ 2 ^ 30 = pow-le-pow_right {n = 2} (omega arith) {i = f} {j = 30} few in
+      let wide : 10 ^ 11 ≤ 10 ^ p = pow-le-pow_right {n = 10} (omega arith) {i = 11} {j = p} more in
+      absurd (omega arith)
+]
+
+-- with the fewest places the numeral is at most ten times the magnitude
+numeral_below : (m t ten d : ℕ) → 0 < t → ten ≤ 10 * t → Rounded (m * ten) t d → d ≤ 10 * m
+numeral_below m t ten d h unit r =
+    let low = r.low in
+    let units : m * ten ≤ m * (10 * t) = mul-le-mul_left m unit in
+    let scaled : 2 * d * t ≤ (20 * m + 1) * t = omega arith in
+    let most : 2 * d ≤ 20 * m + 1 = le_of_mul-le-mul_right scaled h in
+    omega arith
+
+-- room for at most 20 digits in all
+pub digits_fit : (m f p : ℕ) → m ≤ 2 ^ 63 → f ≤ 30 → 10 ^ p ≤ 10 * 2 ^ f → length (decimal (nearest_numeral m f p / 10 ^ p)) + p ≤ 20
+digits_fit m f p small few unit =
+    let d = nearest_numeral m f p in
+    let w = d / 10 ^ p in
+    let places = few_places f p few unit in
+    let most : d ≤ 10 * m = numeral_below m (2 ^ f) (10 ^ p) d (pow_pos f) unit (rounded_is (m * 10 ^ p) (2 ^ f) (pow_pos f)) in
+    let low : w * 10 ^ p ≤ d = div-mul-le_self d (10 ^ p) in
+    let split : 10 ^ 20 ≡ 10 ^ (20 - p) * 10 ^ p = ap (λ n. 10 ^ n) (let e : 20 ≡ 20 - p + p = omega arith in e) ∙ pow-add 10 (20 - p) p in
+    let below : w * 10 ^ p < 10 ^ (20 - p) * 10 ^ p = omega arith in
+    let bound : w < 10 ^ (20 - p) = lt_of_mul-lt-mul_right (10 ^ p) below in
+    omega (arith, length-decimal-le (20 - p) w (omega arith) bound (whole_fits m f p small))
