@@ -1,4 +1,6 @@
 pub mod Wrap
+pub mod BigEndian
 pub mod Bytes
 pub mod Uint24
 pub mod Int24
+pub mod TableData

@@ -4,7 +4,7 @@ ghost use Rattle.std.specs.Prelude.{◌≡◌, ◌≤ℤ◌, ◌<ℤ◌, ◌↔�
 ghost use Rattle.std.specs.Int.{int_min, int_max};
 ghost use Rattle.std.specs.Fmt.{signed_decimal};
 
-use crate::raw::{FixedSize, Scalar};
+use crate::raw::{FixedSize, IdentityEq, Scalar};
 use crate::uint24::Uint24;
 use std::fmt;
 
@@ -151,4 +151,10 @@ impl Scalar for Int24 {
     fn to_raw(self) -> [u8; 3] {
         self.to_be_bytes()
     }
+}
+
+impl IdentityEq for Int24 {
+    ghost use Rattle.font_base.specs.Int24.Laws.{int24_identity};
+
+    ghost identity = { int24_identity };
 }

@@ -2,6 +2,8 @@
 
 ghost use Rattle.std.specs.Prelude.{◌≡◌, ℕ, ℤ, pos, Bool, true, List, IsTrue, IsSome, IfSome, ◌↔◌, ◌^◌, nat_lt, length, refl};
 ghost use Rattle.std.proofs.Common.{rules, lit<};
+ghost use Rattle.std.specs.Bool.{Decides};
+ghost use Rattle.std.specs.Cmp.{signed_Decides, unsigned_Decides};
 ghost use Rattle.font_base.specs.Wrap.{fits_bits};
 ghost use Rattle.font_base.specs.Bytes.{are_bytes, numeral, bytes_of, signed_numeral};
 ghost use Rattle.font_base.specs.Bytes.Laws.{are_bytes-bytes_of, bytes_of-numeral, bytes_of-signed_numeral, unsigned_value, unsigned_back, signed_value, signed_back};
@@ -96,7 +98,11 @@ pub trait Scalar: FixedSize {
         ensures value { IsTrue (is_scalar self) };
 
     /// Reads a value from a slice of exactly `RAW_BYTE_LEN` bytes, `None` at any other length.
-    fn read(slice: &[u8]) -> Option<Self> {
+    fn read(slice: &[u8]) -> Option<Self>
+        ensures length { IsSome result ↔ (length slice.now ≡ Self.RAW_BYTE_LEN) }
+        ensures bytes { IfSome result (λ v. Self.Raw.bytes (raw_of v) ≡ slice.now) }
+        ensures value { IfSome result (λ v. IsTrue (is_scalar v)) }
+    {
         let raw = Self::Raw::from_slice(slice)?;
         Some(Self::from_raw(raw))
     }
@@ -110,6 +116,11 @@ pub trait Scalar: FixedSize {
     ghost forth: { (r : Self.Raw) → IsTrue (Self.Raw.is_value r) → raw_of (of_raw r) ≡ r };
 
     ghost lengths_agree: { Self.Raw.LEN ≡ Self.RAW_BYTE_LEN };
+}
+
+/// A scalar whose `==` joins no two values: `a == b` is true exactly where they are the same.
+pub trait IdentityEq: Eq {
+    ghost identity: { (a b : Self) → Decides (Self.eq a b) (a ≡ b) };
 }
 
 impl FixedSize for u8 {
@@ -146,6 +157,10 @@ impl Scalar for u8 {
     }
 }
 
+impl IdentityEq for u8 {
+    ghost identity = { unsigned_Decides };
+}
+
 impl FixedSize for u16 {
     const RAW_BYTE_LEN: usize = 2;
 
@@ -178,6 +193,10 @@ impl Scalar for u16 {
     fn to_raw(self) -> [u8; 2] {
         self.to_be_bytes()
     }
+}
+
+impl IdentityEq for u16 {
+    ghost identity = { unsigned_Decides };
 }
 
 impl FixedSize for u32 {
@@ -214,6 +233,10 @@ impl Scalar for u32 {
     }
 }
 
+impl IdentityEq for u32 {
+    ghost identity = { unsigned_Decides };
+}
+
 impl FixedSize for i8 {
     const RAW_BYTE_LEN: usize = 1;
 
@@ -246,6 +269,10 @@ impl Scalar for i8 {
     fn to_raw(self) -> [u8; 1] {
         self.to_be_bytes()
     }
+}
+
+impl IdentityEq for i8 {
+    ghost identity = { signed_Decides };
 }
 
 impl FixedSize for i16 {
@@ -282,6 +309,10 @@ impl Scalar for i16 {
     }
 }
 
+impl IdentityEq for i16 {
+    ghost identity = { signed_Decides };
+}
+
 impl FixedSize for i32 {
     const RAW_BYTE_LEN: usize = 4;
 
@@ -316,6 +347,10 @@ impl Scalar for i32 {
     }
 }
 
+impl IdentityEq for i32 {
+    ghost identity = { signed_Decides };
+}
+
 impl FixedSize for i64 {
     const RAW_BYTE_LEN: usize = 8;
 
@@ -348,4 +383,8 @@ impl Scalar for i64 {
     fn to_raw(self) -> [u8; 8] {
         self.to_be_bytes()
     }
+}
+
+impl IdentityEq for i64 {
+    ghost identity = { signed_Decides };
 }

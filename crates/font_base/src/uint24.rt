@@ -3,7 +3,7 @@
 ghost use Rattle.std.specs.Prelude.{◌≡◌, ◌≤◌, ◌<◌, ◌^◌, ◌↔◌, min, pos, Some, IsSome, IsNone, IfSome, MatchResult};
 ghost use Rattle.std.specs.Fmt.{decimal};
 
-use crate::raw::{BeByteArray, FixedSize, Scalar};
+use crate::raw::{BeByteArray, FixedSize, IdentityEq, Scalar};
 use std::fmt;
 use thiserror::Error;
 
@@ -182,4 +182,10 @@ impl Scalar for Uint24 {
     fn to_raw(self) -> [u8; 3] {
         self.to_be_bytes()
     }
+}
+
+impl IdentityEq for Uint24 {
+    ghost use Rattle.font_base.specs.Uint24.Laws.{uint24_identity};
+
+    ghost identity = { uint24_identity };
 }

@@ -1,5 +1,8 @@
 -- That an `Int24` and its three bytes determine each other.
 use Rattle.std.proofs.Common.{◌≡◌, ◌∙◌, refl, ap, sym, ℕ, ℤ, pos, neg_ℤ, ◌≤ℤ◌, ◌<ℤ◌, List, IsTrue, lit<}
+use Rattle.std.specs.Bool.{Decides}
+use Rattle.std.specs.Cmp.{signed_Decides}
+use Rattle.std.specs.Ordering.{int_eq}
 use mathlib.Core.HLevel.{is_prop→PathP}
 use denote.Struct.Props.{props}
 use Rattle.font_base.specs.declared.int24.Int24.{Int24}
@@ -40,3 +43,9 @@ int24_forth bytes are =
 -- the value whose bytes these are
 pub int24_read : (n : Int24) (bytes : List ℕ) → IsBytesOf 3 (int24_number n) bytes → n ≡ int24_of_bytes bytes
 int24_read n bytes given = sym (int24_back n) ∙ ap int24_of_bytes (sym (is_bytes_of 3 (int24_number n) bytes given))
+
+-- `==` of the numbers joins no two values
+pub int24_identity : (m n : Int24) → Decides (int_eq (int24_number m) (int24_number n)) (m ≡ n)
+int24_identity m n =
+    let decides = signed_Decides (int24_number m) (int24_number n) in
+    (λ same. same_int24 m n (decides.0 same), λ same. decides.1 (ap int24_number same))

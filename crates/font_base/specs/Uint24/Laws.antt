@@ -1,6 +1,8 @@
 -- That a `Uint24` and its three bytes determine each other.
-use Rattle.std.proofs.Common.{◌≡◌, ◌∙◌, refl, ap, sym, ℕ, ◌%◌, ◌^◌, ◌<◌, List, IsTrue, pos, lit<}
+use Rattle.std.proofs.Common.{◌≡◌, ◌∙◌, refl, ap, sym, ℕ, ◌%◌, ◌^◌, ◌<◌, List, IsTrue, nat_eq, pos, lit<}
 use Rattle.std.proofs.Math.Nat.{mod-eq_of_lt}
+use Rattle.std.specs.Cmp.{unsigned_Decides}
+use Rattle.std.specs.Bool.{Decides}
 use mathlib.Core.HLevel.{is_prop→PathP}
 use denote.Struct.Props.{props}
 use Rattle.font_base.specs.declared.uint24.Uint24.{Uint24}
@@ -30,3 +32,9 @@ uint24_forth bytes are =
 -- the value whose bytes these are
 pub uint24_read : (n : Uint24) (bytes : List ℕ) → IsBytesOf 3 (pos (uint24_number n)) bytes → n ≡ uint24_of_bytes bytes
 uint24_read n bytes given = sym (uint24_back n) ∙ ap uint24_of_bytes (sym (is_bytes_of 3 (pos (uint24_number n)) bytes given))
+
+-- `==` of the numbers joins no two values
+pub uint24_identity : (m n : Uint24) → Decides (nat_eq (uint24_number m) (uint24_number n)) (m ≡ n)
+uint24_identity m n =
+    let decides = unsigned_Decides (uint24_number m) (uint24_number n) in
+    (λ same. same_uint24 m n (decides.0 same), λ same. decides.1 (ap uint24_number same))

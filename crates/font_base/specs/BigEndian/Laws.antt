@@ -1,0 +1,33 @@
+-- That fields are equal where their bytes are, and that their order agrees.
+use Rattle.std.proofs.Common.{◌≡◌, ap, refl, sym, ◌∙◌, ℕ, List, Bool, true, nat_eq, IsTrue}
+use Rattle.std.specs.Bool.{Decides}
+use Rattle.std.specs.Cmp.{both_ways}
+use Rattle.std.specs.Cmp.Lexicographic.{pointwise, bytes_decides}
+use Rattle.std.specs.Ordering.{is_eq}
+use mathlib.Core.HLevel.{is_prop→PathP}
+use denote.Struct.Props.{props}
+use Rattle.font_base.specs.declared.raw.BeByteArray as BeByteArray
+use Rattle.font_base.specs.declared.raw.FixedSize as FixedSize
+use Rattle.font_base.specs.declared.raw.Scalar as Scalar
+use Rattle.font_base.specs.declared.big_endian.BigEndian.{BigEndian}
+use Rattle.font_base.specs.BigEndian.{raw_value}
+use Rattle.std.specs.declared.cmp.Ordering.{Ordering}
+
+-- an order of values that agrees with their equality, which joins no two, agrees with the equality of bytes that are those of the values
+pub same_answer : {V : Type 0} (R : V → V → Ordering) (E : V → V → Bool) → ((a b : V) → E a b ≡ is_eq (R a b)) → ((a b : V) → Decides (E a b) (a ≡ b))
+    → (a b : V) (xs ys : List ℕ) → (xs ≡ ys → a ≡ b) → (a ≡ b → xs ≡ ys) → pointwise nat_eq xs ys ≡ is_eq (R a b)
+same_answer R E agrees identity a b xs ys to from =
+    both_ways (pointwise nat_eq xs ys) (is_eq (R a b))
+    (λ same. sym (agrees a b) ∙ (identity a b).1 (to ((bytes_decides xs ys).0 same)))
+    (λ tied. (bytes_decides xs ys).1 (from ((identity a b).0 (agrees a b ∙ tied))))
+
+-- fields of one array are the same
+pub same_field : {T R X : Type 0} {scalar : Scalar.Ghosts T X} {size : FixedSize.Ghosts T} {x : BeByteArray.Ghosts X} {r : BeByteArray.Ghosts R}
+    → (a b : BigEndian T R X scalar size x r) → raw_value a ≡ raw_value b → a ≡ b
+same_field {R = R} {r = r} a b same =
+    let prop : (raw : R) → IsProp (IsTrue (r.is_value raw)) = λ raw. hlevel props in
+    λ i. record {
+      raw = same i;
+      scalar = a.scalar;
+      value = is_prop→PathP (λ j. IsTrue (r.is_value (same j))) (λ j. prop (same j)) a.value b.value i;
+    }
