@@ -1,17 +1,18 @@
 -- The fewest places at which a value m / 2^f has a decimal that reads back.
 use Rattle.std.proofs.Common.{◌≡◌, ◌≢◌, ℕ, zero, suc, ◌+◌, ◌-◌, ◌*◌, ◌/◌, ◌%◌, ◌^◌, ◌<◌, ◌≤◌, ◌⊎◌, inl, inr, Bool, true, false, cond, true≢false, ℤ, pos, negsuc, refl, sym, ap, subst, ◌∙◌, arith, add-one}
 use Rattle.std.specs.Prelude.{◌*ℤ◌, unsigned_abs, nat_lt}
+use Rattle.std.specs.Int.{abs_diff}
 use Rattle.std.proofs.Math.Nat.{suc-mul, mul-sub, pow-suc, one-le-pow, eq_of_mul-eq-mul_left}
 use Rattle.std.proofs.lemmas.Bool.{cases_lt, cases_order, cases_Bool, lt-ltb, le-ltb, ltb-true, ltb-false}
 use Rattle.std.proofs.lemmas.Int.{ints}
 use Rattle.std.proofs.lemmas.Nat.{pow_pos, pow-add, mul-pow}
 use Rattle.font_decimal.specs.Near.{Near, near_magnitude}
-use Rattle.font_decimal.specs.Shortest.{distance, nearest_numeral, reads_back, places_from, fewest_places}
+use Rattle.font_decimal.specs.Shortest.{nearest_numeral, reads_back, places_from, fewest_places}
 use Rattle.font_decimal.proofs.Near.{Rounded, rounded_is, next_product}
 use Rattle.font_decimal.proofs.Readings.{ten_pos}
 
 -- no other multiple is nearer than the rounded one
-nearest_distance : (n d q m : ℕ) → Rounded n d q → distance (q * d) n ≤ distance (m * d) n
+nearest_distance : (n d q m : ℕ) → Rounded n d q → abs_diff (q * d) n ≤ abs_diff (m * d) n
 nearest_distance n d q m r =
     let low = r.low in
     let high = r.high in
@@ -20,13 +21,13 @@ nearest_distance n d q m r =
       | inr order ↦ elim order [ inl less ↦ omega (arith, next_product m q d less) | inr more ↦ omega (arith, next_product q m d more) ]
     ]
 
-half_distance : (n d q : ℕ) → Rounded n d q → 2 * distance (q * d) n ≤ d
+half_distance : (n d q : ℕ) → Rounded n d q → 2 * abs_diff (q * d) n ≤ d
 half_distance n d q r =
     let low = r.low in
     let high = r.high in
     omega arith
 
-distance_times : (k a b : ℕ) → distance (k * a) (k * b) ≡ k * distance a b
+distance_times : (k a b : ℕ) → abs_diff (k * a) (k * b) ≡ k * abs_diff a b
 distance_times k a b = rw (sym (mul-sub k a b), sym (mul-sub k b a)) (omega arith)
 
 five_odd : (j : ℕ) → (h : ℕ) × (5 ^ j ≡ 2 * h + 1)
@@ -43,17 +44,17 @@ not_even j d e = let odd = five_odd j in omega (arith, odd.1)
 
 -- no decimal of at most f places lies just half way between two multiples of 1 / 2^f: in units of 2^j its distance would make
 -- an even number equal to 5^j
-no_tie : (m f j n : ℕ) → j ≤ f → 2 * distance (n * 2 ^ f) (m * 10 ^ j) ≢ 10 ^ j
+no_tie : (m f j n : ℕ) → j ≤ f → 2 * abs_diff (n * 2 ^ f) (m * 10 ^ j) ≢ 10 ^ j
 no_tie m f j n h tie =
     let split : 2 ^ f ≡ 2 ^ j * 2 ^ (f - j) = ap (λ i. 2 ^ i) (let e : f ≡ j + (f - j) = omega arith in e) ∙ pow-add 2 j (f - j) in
     let ten : 10 ^ j ≡ 2 ^ j * 5 ^ j = mul-pow 2 5 j in
     let left : n * 2 ^ f ≡ 2 ^ j * (n * 2 ^ (f - j)) = rw split (omega arith) in
     let right : m * 10 ^ j ≡ 2 ^ j * (m * 5 ^ j) = rw ten (omega arith) in
     let apart = distance_times (2 ^ j) (n * 2 ^ (f - j)) (m * 5 ^ j) in
-    let same : distance (n * 2 ^ f) (m * 10 ^ j) ≡ 2 ^ j * distance (n * 2 ^ (f - j)) (m * 5 ^ j) = rw (left, right) apart in
-    not_even j (distance (n * 2 ^ (f - j)) (m * 5 ^ j)) (half_units (2 ^ j) _ _ (5 ^ j) (10 ^ j) (pow_pos j) same tie ten)
+    let same : abs_diff (n * 2 ^ f) (m * 10 ^ j) ≡ 2 ^ j * abs_diff (n * 2 ^ (f - j)) (m * 5 ^ j) = rw (left, right) apart in
+    not_even j (abs_diff (n * 2 ^ (f - j)) (m * 5 ^ j)) (half_units (2 ^ j) _ _ (5 ^ j) (10 ^ j) (pow_pos j) same tie ten)
 
-unfolded : (m f p : ℕ) → reads_back m f p ≡ nat_lt (2 * distance (nearest_numeral m f p * 2 ^ f) (m * 10 ^ p)) (10 ^ p)
+unfolded : (m f p : ℕ) → reads_back m f p ≡ nat_lt (2 * abs_diff (nearest_numeral m f p * 2 ^ f) (m * 10 ^ p)) (10 ^ p)
 unfolding reads_back
 unfolded m f p = refl
 
@@ -61,7 +62,7 @@ rounded_at : (m f p : ℕ) → Rounded (m * 10 ^ p) (2 ^ f) (nearest_numeral m f
 rounded_at m f p = rounded_is (m * 10 ^ p) (2 ^ f) (pow_pos f)
 
 -- what it says of the nearest decimal that it reads back, or does not
-pub within_half : (m f p : ℕ) → reads_back m f p ≡ true → 2 * distance (nearest_numeral m f p * 2 ^ f) (m * 10 ^ p) < 10 ^ p
+pub within_half : (m f p : ℕ) → reads_back m f p ≡ true → 2 * abs_diff (nearest_numeral m f p * 2 ^ f) (m * 10 ^ p) < 10 ^ p
 within_half m f p e = ltb-true _ _ (sym (unfolded m f p) ∙ e)
 
 -- where it does not, a step is at least as wide as a unit of the last place
@@ -72,7 +73,7 @@ fails_wide m f p e =
     omega arith
 
 -- where any decimal of so many places is within half a step, the nearest one reads back
-pub nearest_reads_back : (m f p n : ℕ) → p ≤ f → 2 * distance (n * 2 ^ f) (m * 10 ^ p) ≤ 10 ^ p → reads_back m f p ≡ true
+pub nearest_reads_back : (m f p n : ℕ) → p ≤ f → 2 * abs_diff (n * 2 ^ f) (m * 10 ^ p) ≤ 10 ^ p → reads_back m f p ≡ true
 nearest_reads_back m f p n h close =
     let nearer = nearest_distance (m * 10 ^ p) (2 ^ f) (nearest_numeral m f p) n (rounded_at m f p) in
     let apart = no_tie m f p (nearest_numeral m f p) h in
@@ -136,9 +137,9 @@ fewest_unique m f p q x y =
     elim (cases_order p q) [
       | inl same ↦ same
       | inr order ↦ elim order [
-          | inl less ↦ absurd (true≢false (sym x.reads ∙ y.before p less))
-          | inr more ↦ absurd (true≢false (sym y.reads ∙ x.before q more))
-        ]
+        | inl less ↦ absurd (true≢false (sym x.reads ∙ y.before p less))
+        | inr more ↦ absurd (true≢false (sym y.reads ∙ x.before q more))
+      ]
     ]
 
 -- while all places so far fail, there is one more to try
@@ -154,7 +155,7 @@ unit_below m f zero fails = let step = pow_pos f in omega arith
 unit_below m f (suc p) fails = let wide = fails_wide m f p (fails p (omega arith)) in omega (arith, pow-suc 10 p)
 
 -- a decimal of any sign that rounds to a value of any sign
-pub magnitudes_close : (f j : ℕ) (n b : ℤ) → Near (n *ℤ pos (2 ^ f)) (10 ^ j) b → 2 * distance (unsigned_abs n * 2 ^ f) (unsigned_abs b * 10 ^ j) ≤ 10 ^ j
+pub magnitudes_close : (f j : ℕ) (n b : ℤ) → Near (n *ℤ pos (2 ^ f)) (10 ^ j) b → 2 * abs_diff (unsigned_abs n * 2 ^ f) (unsigned_abs b * 10 ^ j) ≤ 10 ^ j
 magnitudes_close f j (pos n) (pos b) near = let close = near.close in omega (arith, ints)
 magnitudes_close f j (pos n) (negsuc b) near = let close = near.close in omega (arith, ints)
 magnitudes_close f j (negsuc n) (pos b) near = let close = near.close in omega (arith, ints)
@@ -165,3 +166,15 @@ pub none_fewer : (f j p : ℕ) (n b : ℤ) → IsFewest (unsigned_abs b) f p →
 none_fewer f j p n b fewest h near =
     let few = fewest.few in
     true≢false (sym (nearest_reads_back (unsigned_abs b) f j (unsigned_abs n) (omega arith) (magnitudes_close f j n b near)) ∙ fewest.before j h)
+
+-- what the code's test says of so many places
+module _ (m f p t unit magnitude apart : ℕ) (same : magnitude ≡ m) (step : t ≡ 2 ^ f) (ten : unit ≡ 10 ^ p)
+    (apart_is : apart ≡ abs_diff ((2 * (magnitude * unit) + t) / (2 * t) * t) (magnitude * unit)) where
+  is_apart : apart ≡ abs_diff (nearest_numeral m f p * 2 ^ f) (m * 10 ^ p)
+  is_apart = apart_is ∙ rw (same, step, ten)
+
+  pub passes : 2 * apart < unit → reads_back m f p ≡ true
+  passes h = unfolded m f p ∙ lt-ltb _ _ (let here = is_apart in omega (arith, h))
+
+  pub misses : unit ≤ 2 * apart → reads_back m f p ≡ false
+  misses h = unfolded m f p ∙ le-ltb _ _ (let here = is_apart in omega (arith, h))

@@ -1,20 +1,22 @@
 -- The text of the shortest decimal is what it says: plain, nearest, read back, with the fewest places, and at most 22 bytes long.
 use Rattle.std.proofs.Common.{◌≡◌, ◌≢◌, ℕ, zero, suc, ◌+◌, ◌-◌, ◌*◌, ◌/◌, ◌%◌, ◌^◌, ◌<◌, ◌≤◌, ◌⊎◌, inl, inr, Bool, true, false, true≢false, List, [], ◌∷◌, ◌++◌, length, get_or, ℤ, pos, negsuc, refl, sym, ap, subst, ◌∙◌, arith, add-one, length-append}
-use Rattle.std.specs.Prelude.{◌*ℤ◌, neg_ℤ, ◌<ℤ◌, ◌↔◌, IsTrue, unsigned_abs}
-use Rattle.std.specs.Int.{is_negative}
+use Rattle.std.specs.Prelude.{◌*ℤ◌, neg_ℤ, ◌<ℤ◌, ◌↔◌, IsTrue, unsigned_abs, FitsSigned}
+use Rattle.std.specs.Int.{is_negative, abs_diff, w64}
+use mir.Val.{to_z, of_z}
 use Rattle.std.specs.Fmt.{decimal, sign_text}
 use Rattle.std.specs.Str.Parse.{digits_value, AllDigits, IsNumeral}
 use Rattle.std.specs.Char.{digit_value}
 use Rattle.std.proofs.Math.Nat.{suc-mul, mul-le-mul, mul-le-mul_right, le_of_mul-le-mul_right, pow-suc, one-le-pow, div-div-eq-div-mul, div-mul-le_self, div-add-mod', mod-lt, div-one, le_trans, le-mul_of_pos_right, mul-le-mul_left, pow-le-pow_right, lt_of_mul-lt-mul_right}
 use Rattle.std.proofs.lemmas.Bool.{cases_lt, cases_order, le-ltb}
-use Rattle.std.proofs.lemmas.Int.{ints}
+use Rattle.std.proofs.lemmas.Int.{ints, to_z-of_z}
 use Rattle.std.proofs.lemmas.Nat.{pow_pos, pow-add}
+use Rattle.std.proofs.lemmas.List.{append-nil}
 use Rattle.std.proofs.lemmas.Str.{digit_value_digit}
 use Rattle.std.proofs.lemmas.Fmt.{decimal_is_IsNumeral, decimal_digit, first_decimal, length-decimal-le_wide, length-decimal-le}
 use Rattle.font_decimal.specs.Near.{signed, Near, near_magnitude}
 use Rattle.font_decimal.specs.Grammar.{point_text, HasParts, Decimal, Plain}
 use Rattle.font_decimal.specs.Reading.{Rounds}
-use Rattle.font_decimal.specs.Shortest.{IsShortest, distance, nearest_numeral, reads_back, fewest_places, last_digits, decimal_text, shortest_text}
+use Rattle.font_decimal.specs.Shortest.{IsShortest, nearest_numeral, reads_back, fewest_places, last_digits, decimal_text, shortest_text}
 use Rattle.font_decimal.proofs.Near.{Rounded, rounded_is, near_from, is_signed, signed_times}
 use Rattle.font_decimal.proofs.Texts.{decimal_of}
 use Rattle.font_decimal.proofs.Digits.{digits_value-append}
@@ -44,7 +46,7 @@ last_value (suc p) n =
     let power : 10 ^ suc p ≡ 10 ^ p * 10 = pow-suc 10 p in
     let front : n / 10 ^ suc p ≡ m / 10 = ap (λ d. n / d) power ∙ sym (div-div-eq-div-mul n (10 ^ p) 10) in
     let joined : digits_value 10 (last_digits (suc p) n) ≡ (0 * 10 + digit_value (48 + m % 10)) * 10 ^ length (last_digits p n) + digits_value 10 (last_digits p n) =
-        digits_value-append ((48 + m % 10) ∷ []) (last_digits p n) in
+    digits_value-append ((48 + m % 10) ∷ []) (last_digits p n) in
     let first = glyph_value (m % 10) digit in
     let long = ap (λ k. 10 ^ k) (last_length p n) in
     let split : m / 10 * 10 + m % 10 ≡ m = div-add-mod' m 10 in
@@ -77,7 +79,7 @@ no_zero_in_front n small e = elim (cases_lt 0 n) [
 ]
 
 -- the numeral that is shown is zero only where the value is
-not_zero : (m d t ten : ℕ) → 2 * distance (d * t) (m * ten) < ten → d ≡ 0 → m ≡ 0
+not_zero : (m d t ten : ℕ) → 2 * abs_diff (d * t) (m * ten) < ten → d ≡ 0 → m ≡ 0
 not_zero zero d t ten close e = refl
 not_zero (suc m) d t ten close e = absurd (let none : d * t ≡ 0 = rw e (omega arith) in omega (arith, suc-mul m ten))
 
@@ -171,3 +173,44 @@ digits_fit m f p small few unit =
     let below : w * 10 ^ p < 10 ^ (20 - p) * 10 ^ p = omega arith in
     let bound : w < 10 ^ (20 - p) = lt_of_mul-lt-mul_right (10 ^ p) below in
     omega (arith, length-decimal-le (20 - p) w (omega arith) bound (whole_fits m f p small))
+
+-- ---- the digits are written from the last one on
+pub last_more : (left n p : ℕ) → left ≡ n / 10 ^ p → (48 + left % 10) ∷ last_digits p n ≡ last_digits (p + 1) n
+last_more left n p e = rw (e, add-one)
+
+pub left_more : (left n p : ℕ) → left ≡ n / 10 ^ p → left / 10 ≡ n / 10 ^ (p + 1)
+left_more left n p e = rw (e, add-one, pow-suc 10 p) (div-div-eq-div-mul n (10 ^ p) 10)
+
+pub point_before : (p n : ℕ) → 0 < p → 46 ∷ last_digits p n ≡ point_text (last_digits p n)
+point_before zero n h = absurd (omega arith)
+point_before (suc p) n h = refl
+
+-- ---- what the writer makes of a value, step by step, and that there is room for it
+module _ (b : ℤ) (f magnitude places numeral : ℕ) (fits : FitsSigned w64 b) (high : f ≤ 16) (same : magnitude ≡ unsigned_abs (to_z w64 (of_z w64 b))) (small : magnitude ≤ 2 ^ 63)
+    (few : places ≡ fewest_places magnitude f) (nearest : numeral ≡ nearest_numeral magnitude f places) where
+  size : magnitude ≡ unsigned_abs b
+  size = same ∙ ap unsigned_abs (to_z-of_z w64 b fits)
+
+  unit_small : 10 ^ places ≤ 10 * 2 ^ f
+  unit_small = rw few (unit_below magnitude f (fewest_places magnitude f) (fewest_is magnitude f).before)
+
+  pub places_room : places ≤ 10
+  places_room = few_places f places (omega (arith, high)) unit_small
+
+  pub whole_room : (whole : ℕ) → whole ≡ numeral / 10 ^ places → whole < 2 ^ 64
+  whole_room whole front = rw (front, nearest) (whole_fits magnitude f places small)
+
+  pub digits_room : (whole : ℕ) → whole ≡ numeral / 10 ^ places → length (decimal whole) + places ≤ 20
+  digits_room whole front = rw (front, nearest) (digits_fit magnitude f places small (omega (arith, high)) unit_small)
+
+  pub text_is : (whole : ℕ) → whole ≡ numeral / 10 ^ places
+      → sign_text (is_negative b) ++ (decimal whole ++ (point_text (last_digits places numeral) ++ [])) ≡ shortest_text b f
+  unfolding shortest_text
+  text_is whole front = rw (front, append-nil, nearest, few, size)
+
+  pub is_shortest : IsShortest b f (shortest_text b f)
+  is_shortest = shortest_is b f (omega (arith, size, small))
+
+pub point_length : (p n : ℕ) → length (point_text (last_digits p n)) ≤ p + 1
+point_length zero n = omega arith
+point_length (suc p) n = omega (arith, last_length p n)

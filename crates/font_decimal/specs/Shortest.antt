@@ -1,6 +1,6 @@
 -- The shortest decimal of a value b / 2^f: of all that read back to it the nearest with the fewest fractional digits.
-use Rattle.std.specs.Prelude.{ℕ, zero, suc, ◌+◌, ◌-◌, ◌*◌, ◌/◌, ◌%◌, ◌^◌, ◌<◌, Bool, List, [], ◌∷◌, ◌++◌, ℤ, pos, ◌*ℤ◌, unsigned_abs, nat_lt, if◌then◌else◌}
-use Rattle.std.specs.Int.{is_negative}
+use Rattle.std.specs.Prelude.{ℕ, zero, suc, ◌+◌, ◌*◌, ◌/◌, ◌%◌, ◌^◌, ◌<◌, Bool, List, [], ◌∷◌, ◌++◌, ℤ, pos, ◌*ℤ◌, unsigned_abs, nat_lt, if◌then◌else◌}
+use Rattle.std.specs.Int.{is_negative, abs_diff}
 use Rattle.std.specs.Fmt.{decimal, sign_text}
 use Rattle.font_decimal.specs.Near.{Near, near_magnitude}
 use Rattle.font_decimal.specs.Grammar.{Plain, point_text}
@@ -16,17 +16,13 @@ pub record IsShortest (b : ℤ) (f : ℕ) (text : List ℕ) : Type 0 where
   pub nearest : Near (b *ℤ pos (10 ^ places)) (2 ^ f) numeral
   pub fewest : (j : ℕ) (m : ℤ) → j < places → ¬ (Near (m *ℤ pos (2 ^ f)) (10 ^ j) b)
 
--- how far apart two numbers are
-abbrev pub distance : ℕ → ℕ → ℕ
-distance a b = (a - b) + (b - a)
-
 -- the numeral of the decimal of p places that is nearest to m / 2^f
 abbrev pub nearest_numeral : ℕ → ℕ → ℕ → ℕ
 nearest_numeral m f p = near_magnitude (m * 10 ^ p) (2 ^ f)
 
 -- that decimal lies within half a step of m / 2^f
 unfoldable pub reads_back : ℕ → ℕ → ℕ → Bool
-reads_back m f p = nat_lt (2 * distance (nearest_numeral m f p * 2 ^ f) (m * 10 ^ p)) (10 ^ p)
+reads_back m f p = nat_lt (2 * abs_diff (nearest_numeral m f p * 2 ^ f) (m * 10 ^ p)) (10 ^ p)
 
 -- the first number of places from p on, of as many as are left, whose nearest decimal reads back
 abbrev pub places_from : ℕ → ℕ → ℕ → ℕ → ℕ

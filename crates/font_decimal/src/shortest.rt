@@ -1,5 +1,8 @@
 // Writing the shortest decimal text of a fixed-point number.
-ghost use Rattle.std.specs.Prelude.{◌≡◌, ℕ, ◌≤◌, ◌<◌, ◌∷◌, length, get_or, Some};
+ghost use Rattle.std.specs.Prelude.{◌≡◌, ℕ, ◌+◌, ◌/◌, ◌^◌, ◌≤◌, ◌<◌, [], ◌∷◌, ◌++◌, length, slice_index, Some};
+ghost use Rattle.std.specs.Fmt.{decimal, sign_text};
+ghost use Rattle.font_decimal.specs.Grammar.{point_text};
+ghost use Rattle.font_decimal.specs.Shortest.{fewest_places, nearest_numeral, last_digits};
 
 use std::fmt;
 
@@ -12,41 +15,47 @@ const LEN: usize = 22;
 /// ```
 #[derive(Clone, Copy)]
 pub struct Shortest {
+    // The text stands at the back, so that it can be written from its last byte on.
     bytes: [u8; LEN],
     start: usize,
     ghost within: { start ≤ 22 },
-    ghost ascii: { (i : ℕ) → get_or bytes i 0 < 128 },
+    ghost ascii: { (i : ℕ) → slice_index bytes i < 128 },
 }
 
 impl Shortest {
     ghost use Rattle.font_decimal.specs.Shortest.{IsShortest, shortest_text};
     ghost use Rattle.font_decimal.specs.Shown.{shown};
 
-    /// The shortest decimal of `bits / 2^f`: of all that read back as `bits` the nearest with the fewest fractional digits.
+    /// The shortest decimal of `bits / 2^f`: of all that read back as `bits` the nearest with the fewest fractional
+    /// digits.
     pub fn new(bits: i64, f: u32) -> Self
         requires { (6 ≤ f) × (f ≤ 16) }
         ensures shortest { IsShortest bits f (shown result) }
         ensures text { shown result ≡ shortest_text bits f }
     {
-        let magnitude = u128::from(bits.unsigned_abs());
-        let (places, numeral) = fewest_places(magnitude, f);
-        let mut text = Self {
-            bytes: [b'0'; LEN],
-            start: LEN,
-        };
+        let (numeral, places) = shortest_numeral(bits.unsigned_abs(), f);
+        let mut text = Self::empty();
         let whole = text.push_fraction(numeral, places);
-        text.push_whole(whole);
-        if bits < 0 {
-            text.push(b'-');
-        }
+        text.push_whole(whole as u64);
+        text.push_sign(bits < 0);
         text
     }
 
     /// The text.
     pub fn as_str(&self) -> &str
-        ensures { result.now ≡ shown self.now }
+        ensures text { result.now ≡ shown self.now }
+        ensures short { length result.now ≤ 22 }
     {
         unsafe { std::str::from_utf8_unchecked(&self.bytes[self.start..]) }
+    }
+
+    fn empty() -> Self
+        ensures { shown result ≡ [] }
+    {
+        Self {
+            bytes: [0; LEN],
+            start: LEN,
+        }
     }
 
     // Puts a byte in front of the text.
@@ -58,10 +67,14 @@ impl Shortest {
         self.bytes[self.start] = byte;
     }
 
-    // Puts the last `places` digits in front, with a point before them, and returns the digits that are left.
-    fn push_fraction(&mut self, numeral: u128, places: u32) -> u128 {
+    // Puts the last `places` digits in front, with a point before them, and returns the number without them.
+    fn push_fraction(&mut self, numeral: u128, places: u32) -> u128
+        requires { places + 1 + length (shown self.old) ≤ 22 }
+        ensures digits { shown self.new ≡ point_text (last_digits places numeral) ++ shown self.old }
+        ensures rest { result ≡ numeral / 10 ^ places }
+    {
         let mut left = numeral;
-        for _ in 0..places {
+        for _place in 0..places {
             self.push(b'0' + (left % 10) as u8);
             left /= 10;
         }
@@ -71,13 +84,27 @@ impl Shortest {
         left
     }
 
-    fn push_whole(&mut self, whole: u128) {
+    // Puts the digits of a whole number in front.
+    fn push_whole(&mut self, whole: u64)
+        requires { length (decimal whole) + length (shown self.old) ≤ 22 }
+        ensures { shown self.new ≡ decimal whole ++ shown self.old }
+    {
         let mut left = whole;
         while left >= 10 {
             self.push(b'0' + (left % 10) as u8);
             left /= 10;
         }
         self.push(b'0' + left as u8);
+    }
+
+    // Puts a `-` in front of a negative number.
+    fn push_sign(&mut self, negative: bool)
+        requires { length (shown self.old) < 22 }
+        ensures { shown self.new ≡ sign_text negative ++ shown self.old }
+    {
+        if negative {
+            self.push(b'-');
+        }
     }
 }
 
@@ -91,16 +118,20 @@ impl fmt::Display for Shortest {
     }
 }
 
-// The fewest places whose nearest decimal reads back, and that decimal's numeral.
-fn fewest_places(magnitude: u128, f: u32) -> (u32, u128) {
+// The numeral and the fewest places whose nearest decimal reads back: it lies within half a step.
+fn shortest_numeral(magnitude: u64, f: u32) -> (u128, u32)
+    requires { (f ≤ 16) × (magnitude ≤ 2 ^ 63) }
+    ensures places { result.1 ≡ fewest_places magnitude f }
+    ensures numeral { result.0 ≡ nearest_numeral magnitude f result.1 }
+{
     let step = 1u128 << f;
     let mut places = 0;
     let mut unit = 1;
     loop {
-        let exact = magnitude * unit;
+        let exact = u128::from(magnitude) * unit;
         let numeral = (2 * exact + step) / (2 * step);
         if 2 * (numeral * step).abs_diff(exact) < unit {
-            return (places, numeral);
+            return (numeral, places);
         }
         places += 1;
         unit *= 10;

@@ -20,7 +20,7 @@ returns-in_default-parse c =
     let parts = c.in-Some.parts in
     let large = whole_read parts.whole.now (Err c.in_default-parse.field-0) c.in_default-parse.ensures.value.0 c.in-Some.ensures.whole_digits in
     let reading = too_large c.args.f c.args.text.now c.args.min c.args.max parts.negative parts.whole.now parts.fraction.now
-        (omega (arith, c.requires.bits_of_fraction.1)) c.in-Some.ensures c.ranges.min c.ranges.max large in
+    (omega (arith, c.requires.bits_of_fraction.1)) c.in-Some.ensures c.ranges.min c.ranges.max large in
     record {
       ok = λ b. answers_as c.args.text.now c.args.f c.args.min c.args.max (Err OutOfRange) (Ok b) reading;
       reading = reading;
@@ -36,8 +36,8 @@ returns c =
     let max_fits : FitsSigned w64 c.args.max = c.ranges.max in
     let judged = simp to_z-of_z at c.in_range.ensures in
     let by_steps = read_by c.args.f c.args.text.now c.args.min c.args.max parts.negative parts.whole.now parts.fraction.now
-        c.in-Ok.whole c.kept_digits.result c.nearest_steps-magnitude.result c.in_range.result (omega (arith, c.requires.bits_of_fraction.1))
-        c.in-Some.ensures whole c.kept_digits.ensures.numeral c.nearest_steps-magnitude.ensures.nearest judged in
+    c.in-Ok.whole c.kept_digits.result c.nearest_steps-magnitude.result c.in_range.result (omega (arith, c.requires.bits_of_fraction.1))
+    c.in-Some.ensures whole c.kept_digits.ensures.numeral c.nearest_steps-magnitude.ensures.nearest judged in
     let P : Result ℤ _ → Type 0 = λ r. IsReading c.args.text.now c.args.f c.args.min c.args.max r in
     let reading = subst P (sym c.ok_or.ensures.value) by_steps in
     record {
