@@ -1,1 +1,5 @@
 pub mod Device
+pub mod Text
+pub mod Command
+pub mod Answers
+pub mod Serve

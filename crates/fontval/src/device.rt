@@ -6,6 +6,9 @@ ghost use Rattle.fontval.specs.Device.{failed_after};
 
 use std::io::{Read, Write};
 
+#[cfg(test)]
+mod tests;
+
 /// A read or a write failed. The device keeps that it has.
 #[derive(Drop)]
 pub struct Failed;

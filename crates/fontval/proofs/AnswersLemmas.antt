@@ -1,0 +1,36 @@
+-- Answering line after line.
+use Rattle.std.proofs.Common.{◌≡◌, ℕ, List, [], ◌∷◌, ◌++◌, refl, sym, ◌∙◌, subst, append_assoc}
+use Rattle.std.proofs.lemmas.List.{append-nil}
+use Rattle.fontval.specs.Answers.{Answers, AnswersLines, AppendsAnswer}
+use Rattle.fontval.specs.Text.{lines_of}
+
+-- the output answers the input up to `left`: what answers the lines of `left` completes it
+pub record IsAnsweredUpTo (input left output : List ℕ) : Type 0 where
+  pub completes : (rest : List ℕ) → AnswersLines (lines_of left) rest → Answers input (output ++ rest)
+
+-- at the start nothing is answered
+pub answered_none : (input : List ℕ) → IsAnsweredUpTo input input []
+answered_none input = record { completes = λ rest answers. answers }
+
+-- one line more is answered, and followed by a line feed
+pub answered_more : (input left left' line output output' : List ℕ)
+    → IsAnsweredUpTo input left output
+    → lines_of left ≡ line ∷ lines_of left'
+    → AppendsAnswer line output output'
+    → IsAnsweredUpTo input left' (output' ++ 10 ∷ [])
+answered_more input left left' line output output' so_far next one = record {
+  completes = λ rest others.
+      let answer = one.text in
+      let all = so_far.completes (answer ++ 10 ∷ rest)
+      (rw next (record { text = answer; rest = rest; answers = one.answers; others = others; joined = refl })) in
+      let regrouped : (output' ++ 10 ∷ []) ++ rest ≡ output ++ (answer ++ 10 ∷ rest) =
+      rw one.appended (append_assoc (output ++ answer) (10 ∷ []) rest ∙ append_assoc output answer (10 ∷ rest)) in
+      let P : List ℕ → Type 0 = λ whole. Answers input whole in
+      subst P (sym regrouped) all;
+}
+
+-- when no line is left, the whole input is answered
+pub answered_all : (input left output : List ℕ) → IsAnsweredUpTo input left output → lines_of left ≡ [] → Answers input output
+answered_all input left output so_far none =
+    let P : List ℕ → Type 0 = λ whole. Answers input whole in
+    subst P (append-nil output) (so_far.completes [] (rw none refl))

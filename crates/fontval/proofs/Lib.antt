@@ -1,0 +1,4 @@
+pub mod AnswersLemmas
+pub mod DeviceLemmas
+pub mod IntegerLemmas
+pub mod TextLemmas

@@ -1,0 +1,46 @@
+-- What it means that a source has been served.
+use Rattle.std.specs.Prelude.{◌≡◌, ◌≢◌, ℕ, Bool, true, false, List, [], ◌++◌, Option}
+use Rattle.std.specs.Io.KnownBytes.{Appends, Consumes, IsAtEnd}
+use Rattle.fontval.specs.declared.serve.ServeFault.{ServeFault}
+use Rattle.fontval.specs.declared.serve.ServeFault.TheVariants.{Memory, Read, Write}
+use Rattle.fontval.specs.Answers.{Answers}
+
+-- All that a source had left was read, and the sink took the answers to it and nothing else. `left`
+-- and `taken` are the bytes that are known of the source and the sink.
+pub record Serves (left left' taken taken' : Option (List ℕ)) : Type 0 where
+  pub input : List ℕ
+  pub output : List ℕ
+  pub read : Consumes left left' input
+  pub ended : IsAtEnd left'
+  pub answers : Answers input output
+  pub written : Appends taken taken' output
+
+-- The same, but that the sink took only a beginning of the answers, and not the whole.
+pub record ServesInPart (left left' taken taken' : Option (List ℕ)) : Type 0 where
+  pub input : List ℕ
+  pub output : List ℕ
+  pub unwritten : List ℕ
+  pub read : Consumes left left' input
+  pub ended : IsAtEnd left'
+  pub answers : Answers input (output ++ unwritten)
+  pub partial : unwritten ≢ []
+  pub written : Appends taken taken' output
+
+-- all that a source had left was read
+pub record ReadsAll (left left' : Option (List ℕ)) (input : List ℕ) : Type 0 where
+  pub read : Consumes left left' input
+  pub ended : IsAtEnd left'
+
+-- some of the bytes were written, from the first on, and not all
+pub record WritesInPart (taken taken' : Option (List ℕ)) (bytes : List ℕ) : Type 0 where
+  pub output : List ℕ
+  pub unwritten : List ℕ
+  pub parts : bytes ≡ output ++ unwritten
+  pub partial : unwritten ≢ []
+  pub written : Appends taken taken' output
+
+-- a fault of reading: memory, where no read has failed, or a read that has
+abbrev pub ReadFails : ServeFault → Bool → Type 0
+ReadFails Memory failed = failed ≡ false
+ReadFails Read failed = failed ≡ true
+ReadFails Write failed = ⊥

@@ -1,0 +1,119 @@
+//! The lines of an input and the words of a line.
+
+ghost use Rattle.std.specs.Prelude.{◌≡◌, not, position};
+ghost use Rattle.std.specs.Iterator.{YieldsFirstRef, item_count};
+ghost use Rattle.std.specs.List.{before_first, after_first};
+ghost use Rattle.fontval.specs.Text.{is_line_feed, lines_of, is_blank, from_first, words_of};
+
+/// The lines of an input, first to last, each without its line feed. The last line may lack one.
+#[derive(Drop)]
+pub struct Lines<'a> {
+    /// The input behind the lines that were given.
+    pub rest: &'a [u8],
+}
+
+impl<'a> Lines<'a> {
+    /// The lines of `input`.
+    pub fn new(input: &'a [u8]) -> Self
+        ensures { result.rest.now ≡ input.now }
+    {
+        Lines { rest: input }
+    }
+}
+
+impl<'a> Iterator for Lines<'a> {
+    type Item = &'a [u8];
+
+    ghost next_gives = { YieldsFirstRef (λ lines. lines_of lines.rest.now) };
+
+    ghost remaining = { item_count (λ lines. lines_of lines.rest.now) };
+
+    #[tactic(auto, using(crate::proofs::TextLemmas::first_line, crate::proofs::TextLemmas::no_lines))]
+    fn next(&mut self) -> Option<&'a [u8]> {
+        if self.rest.is_empty() {
+            return None;
+        }
+        let (line, rest) = split_line(self.rest);
+        self.rest = rest;
+        Some(line)
+    }
+}
+
+// What stands before the first line feed of an input, and what stands behind it.
+fn split_line(input: &[u8]) -> (&[u8], &[u8])
+    ensures line { result.0.now ≡ before_first is_line_feed input.now }
+    ensures rest { result.1.now ≡ after_first is_line_feed input.now }
+{
+    match line_feed_at(input) {
+        Some(end) => (&input[..end], &input[end + 1..]),
+        None => (input, &[]),
+    }
+}
+
+fn line_feed_at(input: &[u8]) -> Option<usize>
+    ensures { result ≡ position is_line_feed input.now }
+{
+    input.iter().position(|byte| *byte == b'\n')
+}
+
+/// The words of a line, first to last.
+#[derive(Drop)]
+pub struct Words<'a> {
+    /// The line behind the words that were given.
+    pub rest: &'a [u8],
+}
+
+impl<'a> Words<'a> {
+    /// The words of `line`.
+    pub fn new(line: &'a [u8]) -> Self
+        ensures { result.rest.now ≡ line.now }
+    {
+        Words { rest: line }
+    }
+}
+
+impl<'a> Iterator for Words<'a> {
+    type Item = &'a [u8];
+
+    ghost next_gives = { YieldsFirstRef (λ words. words_of words.rest.now) };
+
+    ghost remaining = { item_count (λ words. words_of words.rest.now) };
+
+    #[tactic(auto, using(crate::proofs::TextLemmas::first_word, crate::proofs::TextLemmas::no_words))]
+    fn next(&mut self) -> Option<&'a [u8]> {
+        let (_, text) = self.rest.split_at(word_at(self.rest)?);
+        let (word, rest) = split_word(text);
+        self.rest = rest;
+        Some(word)
+    }
+}
+
+fn word_at(text: &[u8]) -> Option<usize>
+    ensures { result ≡ position (λ byte. not (is_blank byte)) text.now }
+{
+    text.iter().position(|byte| !is_blank(*byte))
+}
+
+// What stands before the first blank, and the rest.
+fn split_word(text: &[u8]) -> (&[u8], &[u8])
+    ensures word { result.0.now ≡ before_first is_blank text.now }
+    ensures rest { result.1.now ≡ from_first is_blank text.now }
+{
+    match blank_at(text) {
+        Some(end) => text.split_at(end),
+        None => (text, &[]),
+    }
+}
+
+fn blank_at(text: &[u8]) -> Option<usize>
+    ensures { result ≡ position is_blank text.now }
+{
+    text.iter().position(|byte| is_blank(*byte))
+}
+
+// Whether a byte stands between words.
+fn is_blank(byte: u8) -> bool
+    ensures { result ≡ is_blank byte }
+{
+    matches!(byte, b' ' | b'\t' | b'\r')
+}
