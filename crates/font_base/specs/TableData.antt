@@ -1,6 +1,5 @@
 -- Table data with a header of a fixed size at its start.
 use Rattle.std.specs.Prelude.{◌≡◌, ℕ, List, take, drop}
-use denote.Bor.{Bor}
 use Rattle.font_base.specs.declared.table_data.TableHeader as TableHeader
 use Rattle.font_base.specs.declared.table_data.TableDataRef.{TableDataRef}
 use Rattle.font_base.specs.declared.table_data.SampleHeader.{SampleHeader}

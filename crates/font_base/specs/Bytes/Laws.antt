@@ -1,5 +1,5 @@
 -- That a number and its bytes determine each other.
-use Rattle.std.proofs.Common.{◌≡◌, ◌∙◌, sym, ap, subst, refl, ℕ, zero, suc, ◌+◌, ◌-◌, ◌*◌, ◌/◌, ◌%◌, ◌^◌, ◌<◌, ◌≤◌, Bool, true, false, ◌&&◌, ℤ, pos, negsuc, ◌+ℤ◌, ◌*ℤ◌, List, [], ◌∷◌, length, get_or, drop, fold, ◌≢◌, Option, Result, Ok, Err, MatchResult, IfSome, arith, IsTrue, nat_lt, ◌==◌, unsigned_abs, lit<, lit≤}
+use Rattle.std.proofs.Common.{◌≡◌, ◌∙◌, sym, ap, subst, refl, ℕ, zero, suc, ◌+◌, ◌-◌, ◌*◌, ◌/◌, ◌%◌, ◌^◌, ◌<◌, ◌≤◌, Bool, true, ℤ, pos, negsuc, ◌+ℤ◌, ◌*ℤ◌, List, [], ◌∷◌, length, get_or, drop, fold, ◌≢◌, Option, Result, Ok, Err, MatchResult, IfSome, arith, IsTrue, nat_lt, ◌==◌, lit<, lit≤}
 use Rattle.std.proofs.lemmas.Int.{ints, to_z-of_z}
 use Rattle.std.proofs.lemmas.Nat.{pow-add, div-add-mod'}
 use Rattle.std.proofs.lemmas.Bool.{eq-eqb, eqb-true, lt-ltb, ltb-true}
@@ -11,7 +11,7 @@ use Rattle.std.specs.Int.{Width, w8, w16, w32, w64, w128, byte_len, bytes_high_f
 use Rattle.std.specs.Result.{result_ok}
 use Rattle.std.specs.Array.{IsWholeChunk}
 use mir.Val.{SFits, to_z, of_z, bits, hbits}
-use lib.Arith.{digits_lt, digits_div, digits_mod, mod-mul}
+use lib.Arith.{digits_lt, digits_div, mod-mul}
 use Rattle.font_base.specs.Wrap.{FitsBits, fits_bits, wrap}
 use Rattle.font_base.specs.Wrap.Laws.{both_left, both_right, FitsBits-test, test-FitsBits, remainder, same_rest, times_sum, wrap_is, wrap_same, wrap_fits, to_z-wrap}
 use Rattle.font_base.specs.Bytes.{numeral, are_bytes, IsBytesOf, bytes_of, signed_numeral}

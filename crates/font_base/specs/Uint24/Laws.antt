@@ -1,5 +1,5 @@
 -- That a `Uint24` and its three bytes determine each other.
-use Rattle.std.proofs.Common.{◌≡◌, ◌∙◌, refl, ap, sym, ℕ, ◌%◌, ◌^◌, ◌<◌, List, IsTrue, nat_eq, pos, lit<}
+use Rattle.std.proofs.Common.{◌≡◌, ◌∙◌, ap, sym, ℕ, ◌^◌, ◌<◌, List, IsTrue, nat_eq, pos}
 use Rattle.std.proofs.Math.Nat.{mod-eq_of_lt}
 use Rattle.std.specs.Cmp.{unsigned_Decides}
 use Rattle.std.specs.Bool.{Decides}
@@ -7,7 +7,7 @@ use mathlib.Core.HLevel.{is_prop→PathP}
 use denote.Struct.Props.{props}
 use Rattle.font_base.specs.declared.uint24.Uint24.{Uint24}
 use Rattle.font_base.specs.Bytes.{are_bytes, numeral, bytes_of, IsBytesOf}
-use Rattle.font_base.specs.Bytes.Laws.{numeral-bytes_of, numeral-below, bytes_of-numeral, is_bytes_of, bytes_unique, bytes_of_is}
+use Rattle.font_base.specs.Bytes.Laws.{numeral-bytes_of, numeral-below, bytes_of-numeral, is_bytes_of}
 use Rattle.font_base.specs.Uint24.{uint24_number, uint24_of, uint24_of_bytes, bytes_of_uint24}
 
 -- two of one number are the same value

@@ -1,6 +1,5 @@
-use Rattle.std.proofs.Common.{arith, subst, ℤ, pos, negsuc}
+use Rattle.std.proofs.Common.{arith, pos, negsuc}
 use Rattle.std.proofs.lemmas.Int.{ints}
-use Rattle.font_base.specs.Bytes.{IsBytesOf}
 use Rattle.font_base.specs.Bytes.Laws.{IsBytesOf-apart}
 use Rattle.font_base.proofs.int24.Int24.from_be_bytes.Goals as goal
 use Rattle.font_base.proofs.int24.Int24.from_be_bytes.Goals.{then-unsigned, else-unsigned}

@@ -1,0 +1,89 @@
+//! Fields laid over bytes, and headers made of them.
+
+use crate::{BigEndian, FixedSize, Int24, SampleHeader, TableDataRef, Uint24};
+use std::collections::HashSet;
+use std::test::Fail;
+
+#[test]
+fn ordered_by_value(rt: HostRuntime) {
+    let below = BigEndian::<i16>::new([0xFF, 0xFF]);
+    let above = BigEndian::<i16>::new([0x00, 0x01]);
+    assert!(rt; below < above);
+    assert_eq!(rt; below.get(), -1);
+    assert!(rt; below.eq_value(&-1));
+}
+
+#[test]
+fn sorted_by_value(rt: HostRuntime) -> Result<(), Fail> {
+    let fields = [
+        BigEndian::<i16>::from(7),
+        BigEndian::from(-8),
+        BigEndian::from(1),
+    ];
+    let mut fields = fields.to_vec(rt.alloc())?;
+    fields.sort()?;
+    let sorted = [
+        BigEndian::<i16>::from(-8),
+        BigEndian::from(1),
+        BigEndian::from(7),
+    ];
+    assert!(rt; fields.as_slice() == sorted.as_slice());
+    Ok(())
+}
+
+#[test]
+fn equal_by_bytes(rt: HostRuntime) -> Result<(), Fail> {
+    let mut field = BigEndian::<u32>::default();
+    field.set(0x0102_0304);
+    assert!(rt; field.be_bytes() == [1, 2, 3, 4].as_slice());
+    assert!(rt; BigEndian::from_slice(&[1, 2, 3, 4]) == Some(field.clone()?));
+    assert!(rt; BigEndian::<u32>::from_slice(&[1, 2, 3]).is_none());
+    assert_eq!(rt; BigEndian::<Uint24>::RAW_BYTE_LEN, 3);
+    Ok(())
+}
+
+#[test]
+fn hashed_by_bytes(rt: HostRuntime) -> Result<(), Fail> {
+    let mut set = HashSet::new(rt.alloc());
+    set.insert(BigEndian::<u32>::from(4))?;
+    assert!(rt; set.contains(&BigEndian::new([0, 0, 0, 4])));
+    assert!(rt; !set.contains(&BigEndian::new([4, 0, 0, 0])));
+    Ok(())
+}
+
+#[test]
+fn printed_by_value(rt: HostRuntime) -> Result<(), Fail> {
+    let field = BigEndian::<Int24>::new([0xFF, 0xFF, 0xFB]);
+    let text = format!(in rt.alloc(); "{field} {field:?}")?;
+    assert_eq!(rt; text.as_str(), "-5 Int24(-5)");
+    Ok(())
+}
+
+#[test]
+fn header_in_front_of_a_table(rt: HostRuntime) -> Result<(), Fail> {
+    let bytes = [0x00, 0x01, 0x00, 0x00, 0x00, 0x02, 0xFF];
+    let table = TableDataRef::<SampleHeader>::new(&bytes).ok_or("long enough")?;
+    let header = table.clone()?.header();
+    assert_eq!(rt; header.a.get(), 1);
+    assert_eq!(rt; header.b.get(), 2);
+    assert_eq!(rt; table.data().len(), 7);
+    Ok(())
+}
+
+#[test]
+fn header_behind_a_cut(rt: HostRuntime) -> Result<(), Fail> {
+    let bytes = [0xFF, 0x00, 0x03, 0x00, 0x00, 0x00, 0x04];
+    let header = TableDataRef::<SampleHeader>::new(&bytes[1..])
+        .ok_or("long enough")?
+        .header();
+    assert_eq!(rt; header.a.get(), 3);
+    assert_eq!(rt; header.b.get(), 4);
+    Ok(())
+}
+
+#[test]
+fn header_wants_its_length(rt: HostRuntime) {
+    let bytes = [0x00, 0x01, 0x00, 0x00, 0x00, 0x02];
+    assert!(rt; TableDataRef::<SampleHeader>::new(&bytes[..5]).is_none());
+    assert!(rt; TableDataRef::<SampleHeader>::new(&bytes).is_some());
+}

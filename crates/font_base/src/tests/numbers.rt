@@ -1,0 +1,109 @@
+//! The integers and their bytes.
+
+use crate::{BeByteArray, Int24, Scalar, Uint24};
+use std::test::Fail;
+
+#[test]
+fn signed_bytes_of_24_bits(rt: HostRuntime) {
+    for (number, bytes) in [
+        (0, [0x00, 0x00, 0x00]),
+        (123456, [0x01, 0xE2, 0x40]),
+        (-123456, [0xFE, 0x1D, 0xC0]),
+        (8388607, [0x7F, 0xFF, 0xFF]),
+        (-8388608, [0x80, 0x00, 0x00]),
+    ] {
+        assert!(rt; Int24::new(number).to_be_bytes() == bytes);
+        assert_eq!(rt; Int24::from_be_bytes(bytes).to_i32(), number);
+    }
+}
+
+#[test]
+fn unsigned_bytes_of_24_bits(rt: HostRuntime) {
+    for (number, bytes) in [
+        (16755404, [0xFF, 0xAA, 0xCC]),
+        (16777215, [0xFF, 0xFF, 0xFF]),
+        (0, [0x00, 0x00, 0x00]),
+    ] {
+        assert!(rt; Uint24::new(number).to_be_bytes() == bytes);
+        assert_eq!(rt; Uint24::from_be_bytes(bytes).to_u32(), number);
+    }
+}
+
+#[test]
+fn ends_of_signed_24_bits(rt: HostRuntime) {
+    assert!(rt; Int24::new(8388608) == Int24::MAX);
+    assert!(rt; Int24::new(-8388609) == Int24::MIN);
+    assert!(rt; Int24::checked_new(8388608).is_none());
+    assert!(rt; Int24::checked_new(-8388608) == Some(Int24::MIN));
+}
+
+#[test]
+fn ends_of_unsigned_24_bits(rt: HostRuntime) {
+    assert!(rt; Uint24::new(16777216) == Uint24::MAX);
+    assert!(rt; Uint24::checked_new(16777216).is_none());
+    assert!(rt; Uint24::checked_new(16777215) == Some(Uint24::MAX));
+    assert!(rt; Uint24::try_from(16777216usize).is_err());
+}
+
+#[test]
+fn conversions_of_24_bits(rt: HostRuntime) {
+    assert_eq!(rt; i32::from(Int24::MIN), -8388608);
+    assert_eq!(rt; u32::from(Uint24::MAX), 16777215);
+    assert_eq!(rt; usize::from(Uint24::default()), 0);
+    assert!(rt; Int24::MIN < Int24::default());
+}
+
+#[test]
+fn text_of_unsigned_24_bits(rt: HostRuntime) -> Result<(), Fail> {
+    let number = Uint24::new(5);
+    let text = format!(in rt.alloc(); "{number} {number:?}")?;
+    assert_eq!(rt; text.as_str(), "5 Uint24(5)");
+    Ok(())
+}
+
+#[test]
+fn text_of_signed_24_bits(rt: HostRuntime) -> Result<(), Fail> {
+    let number = Int24::new(-5);
+    let text = format!(in rt.alloc(); "{number} {number:?}")?;
+    assert_eq!(rt; text.as_str(), "-5 Int24(-5)");
+    Ok(())
+}
+
+#[test]
+fn text_of_a_number_too_large(rt: HostRuntime) -> Result<(), Fail> {
+    if let Err(e) = Uint24::try_from(16777216usize) {
+        let text = format!(in rt.alloc(); "{e} {e:?}")?;
+        assert_eq!(rt;
+            text.as_str(),
+            "failed to convert usize value into Uint24. TryFromUint24Error"
+        );
+    }
+    Ok(())
+}
+
+const BYTES: [u8; 9] = [0xFF, 0xFE, 0xFD, 0xFC, 0xFB, 0xFA, 0xF9, 0xF8, 0xF7];
+
+#[test]
+fn reads_unsigned_numbers(rt: HostRuntime) {
+    assert!(rt; u8::read(&BYTES[..1]) == Some(255));
+    assert!(rt; u16::read(&BYTES[..2]) == Some(65534));
+    assert!(rt; Uint24::read(&BYTES[..3]) == Some(Uint24::new(16776957)));
+    assert!(rt; u32::read(&BYTES[..4]) == Some(4294901244));
+}
+
+#[test]
+fn reads_signed_numbers(rt: HostRuntime) {
+    assert!(rt; i8::read(&BYTES[..1]) == Some(-1));
+    assert!(rt; i16::read(&BYTES[..2]) == Some(-2));
+    assert!(rt; Int24::read(&BYTES[..3]) == Some(Int24::new(-259)));
+    assert!(rt; i32::read(&BYTES[..4]) == Some(-66052));
+    assert!(rt; i64::read(&BYTES[..8]) == Some(-283686952306184));
+}
+
+#[test]
+fn reads_exactly_its_length(rt: HostRuntime) {
+    assert!(rt; u16::read(&BYTES[..1]).is_none());
+    assert!(rt; u16::read(&BYTES[..3]).is_none());
+    assert!(rt; <[u8; 4]>::from_slice(&BYTES).is_none());
+    assert!(rt; BeByteArray::as_slice(&(-283686952306184i64).to_raw()) == &BYTES[..8]);
+}
