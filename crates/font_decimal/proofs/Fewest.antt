@@ -1,15 +1,14 @@
 -- The fewest places at which a value m / 2^f has a decimal that reads back.
-use Rattle.std.proofs.Common.{◌≡◌, ◌≢◌, ℕ, zero, suc, ◌+◌, ◌-◌, ◌*◌, ◌/◌, ◌%◌, ◌^◌, ◌<◌, ◌≤◌, ◌⊎◌, inl, inr, Bool, true, false, cond, true≢false, ℤ, pos, negsuc, refl, sym, ap, subst, ◌∙◌, arith, add-one}
+use Rattle.std.proofs.Common.{◌≡◌, ◌≢◌, ℕ, zero, suc, ◌+◌, ◌-◌, ◌*◌, ◌/◌, ◌^◌, ◌<◌, ◌≤◌, inl, inr, Bool, true, false, cond, true≢false, ℤ, pos, negsuc, refl, sym, ap, ◌∙◌, arith}
 use Rattle.std.specs.Prelude.{◌*ℤ◌, unsigned_abs, nat_lt}
 use Rattle.std.specs.Int.{abs_diff}
-use Rattle.std.proofs.Math.Nat.{suc-mul, mul-sub, pow-suc, one-le-pow, eq_of_mul-eq-mul_left}
-use Rattle.std.proofs.lemmas.Bool.{cases_lt, cases_order, cases_Bool, lt-ltb, le-ltb, ltb-true, ltb-false}
+use Rattle.std.proofs.Math.Nat.{mul-sub, pow-suc, eq_of_mul-eq-mul_left}
+use Rattle.std.proofs.lemmas.Bool.{cases_order, lt-ltb, le-ltb, ltb-true, ltb-false}
 use Rattle.std.proofs.lemmas.Int.{ints}
 use Rattle.std.proofs.lemmas.Nat.{pow_pos, pow-add, mul-pow}
-use Rattle.font_decimal.specs.Near.{Near, near_magnitude}
+use Rattle.font_decimal.specs.Near.{Near}
 use Rattle.font_decimal.specs.Shortest.{nearest_numeral, reads_back, places_from, fewest_places}
 use Rattle.font_decimal.proofs.Near.{Rounded, rounded_is, next_product}
-use Rattle.font_decimal.proofs.Readings.{ten_pos}
 
 -- no other multiple is nearer than the rounded one
 nearest_distance : (n d q m : ℕ) → Rounded n d q → abs_diff (q * d) n ≤ abs_diff (m * d) n

@@ -6,3 +6,5 @@ pub mod Readings
 pub mod Splits
 pub mod Fewest
 pub mod Written
+pub mod Order
+pub mod Padded

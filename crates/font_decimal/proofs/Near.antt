@@ -1,5 +1,5 @@
 -- Each fraction n / d with 0 < d has one nearest whole number, by either rule for ties.
-use Rattle.std.proofs.Common.{◌≡◌, ℕ, zero, suc, ◌+◌, ◌-◌, ◌*◌, ◌/◌, ◌%◌, ◌<◌, ◌≤◌, ◌⊎◌, inl, inr, Bool, true, false, ℤ, pos, negsuc, refl, sym, ap, subst, ◌∙◌, arith}
+use Rattle.std.proofs.Common.{◌≡◌, ℕ, zero, suc, ◌+◌, ◌*◌, ◌/◌, ◌<◌, ◌≤◌, inl, inr, Bool, true, false, ℤ, pos, negsuc, refl, sym, ap, subst, ◌∙◌, arith}
 use Rattle.std.specs.Prelude.{neg_ℤ, ◌+ℤ◌, ◌-ℤ◌, ◌*ℤ◌, ◌≤ℤ◌, ◌<ℤ◌, unsigned_abs}
 use Rattle.std.specs.Int.{is_negative}
 use Rattle.std.proofs.Math.IntN.{neg_ℤ-neg_ℤ, +ℤ_one, suc_ℤ-*ℤ}
@@ -34,7 +34,7 @@ rounded_is n d h =
     let above : 2 * n + d < (2 * n + d) / (2 * d) * (2 * d) + 2 * d = lt-div-mul-add positive in
     record { low = omega arith; high = omega arith }
 
-neg-times : (q : ℤ) (d : ℕ) → neg_ℤ q *ℤ pos d ≡ neg_ℤ (q *ℤ pos d)
+pub neg-times : (q : ℤ) (d : ℕ) → neg_ℤ q *ℤ pos d ≡ neg_ℤ (q *ℤ pos d)
 neg-times (pos zero) d = rw zero-mul
 neg-times (pos (suc n)) d = refl
 neg-times (negsuc n) d = sym (neg_ℤ-neg_ℤ (pos (suc n * d)))

@@ -1,6 +1,6 @@
 -- Each text has just one reading: a value, out of range, or no decimal.
-use Rattle.std.proofs.Common.{◌≡◌, ℕ, zero, suc, ◌+◌, ◌-◌, ◌*◌, ◌/◌, ◌^◌, ◌<◌, ◌≤◌, ◌↔◌, ◌⊎◌, inl, inr, Bool, true, false, List, [], ◌∷◌, ◌++◌, length, ℤ, pos, negsuc, refl, sym, ap, subst, ◌∙◌, arith}
-use Rattle.std.specs.Prelude.{Option, Some, None, Result, Ok, Err, SomeIff, MatchResult, FitsSigned, ◌*ℤ◌, ◌≤ℤ◌, ◌<ℤ◌, neg_ℤ}
+use Rattle.std.proofs.Common.{◌≡◌, ℕ, ◌+◌, ◌-◌, ◌*◌, ◌^◌, ◌<◌, ◌≤◌, ◌↔◌, ◌⊎◌, inl, inr, Bool, true, false, List, ◌++◌, length, ℤ, pos, refl, sym, ap, subst, ◌∙◌, arith}
+use Rattle.std.specs.Prelude.{Option, Some, None, Result, Ok, Err, SomeIff, MatchResult, FitsSigned, ◌*ℤ◌, ◌≤ℤ◌, ◌<ℤ◌}
 use Rattle.std.specs.Str.Parse.{digits_value, AllDigits, IsNumeral, ParsesUnsigned}
 use Rattle.std.specs.Option.{ok_or}
 use Rattle.std.specs.Int.{w64}
@@ -9,14 +9,14 @@ use Rattle.std.proofs.lemmas.Str.Parse.{IsNumeralModel, numerals_by_value, tells
 use Rattle.std.proofs.Math.Nat.{one-le-pow, mul-pos, mul-le-mul}
 use Rattle.std.proofs.lemmas.Int.{ints, by_lt_z}
 use Rattle.std.proofs.lemmas.Nat.{pow_pos}
-use Rattle.font_decimal.specs.Near.{signed, Near, near_magnitude}
-use Rattle.font_decimal.specs.Grammar.{HasParts, Decimal, IsNoDecimal}
-use Rattle.font_decimal.specs.Reading.{Rounds, Reads, IsOutOfRange, IsReading, IsAtMost}
+use Rattle.font_decimal.specs.Near.{signed, near_magnitude}
+use Rattle.font_decimal.specs.Grammar.{HasParts}
+use Rattle.font_decimal.specs.Reading.{Rounds, Reads, IsOutOfRange, IsReading}
 use Rattle.font_decimal.specs.declared.reader.DecimalFault.{DecimalFault}
 use Rattle.font_decimal.specs.declared.reader.DecimalFault.TheVariants.{Syntax, OutOfRange}
-use Rattle.font_decimal.proofs.Near.{Rounded, rounded_is, near_from, near_unique, near_to, signed_times}
+use Rattle.font_decimal.proofs.Near.{Rounded, rounded_is, near_from, near_unique, signed_times}
 use Rattle.font_decimal.proofs.Texts.{decimal_of, decimal_unique}
-use Rattle.font_decimal.proofs.Digits.{digits_value-append, first_digits, IsCut, is_cut}
+use Rattle.font_decimal.proofs.Digits.{digits_value-append, first_digits, is_cut}
 use Rattle.font_decimal.proofs.Rounding.{cut_rounds, whole_rounds, half_steps}
 
 pub ten_pos : (k : ℕ) → 0 < 10 ^ k

@@ -1,9 +1,9 @@
 -- The first digits of a fraction decide how it is rounded.
-use Rattle.std.proofs.Common.{◌≡◌, ℕ, zero, suc, ◌+◌, ◌-◌, ◌*◌, ◌/◌, ◌^◌, ◌<◌, ◌≤◌, refl, sym, ap, ◌∙◌, arith}
-use Rattle.std.proofs.Math.Nat.{mul-le-mul_left, mul-le-mul_right, le_of_mul-le-mul_left, lt_of_mul-lt-mul_left, mul_assoc, mul_comm, mul_left_comm, add-mul, mul-add, mul-le-mul, mul-div-mul_left, pow-le-pow_right}
+use Rattle.std.proofs.Common.{◌≡◌, ℕ, ◌+◌, ◌-◌, ◌*◌, ◌/◌, ◌^◌, ◌<◌, ◌≤◌, sym, ap, ◌∙◌, arith}
+use Rattle.std.proofs.Math.Nat.{mul-le-mul_right, le_of_mul-le-mul_left, lt_of_mul-lt-mul_left, mul-le-mul, mul-div-mul_left, pow-le-pow_right}
 use Rattle.std.proofs.lemmas.Nat.{pow-add, mul-pow}
 use Rattle.font_decimal.specs.Near.{near_magnitude}
-use Rattle.font_decimal.proofs.Near.{Rounded, rounded_is}
+use Rattle.font_decimal.proofs.Near.{Rounded}
 
 -- In units of 1 / (2 t u) a half step of 1 / t is u units. So a fraction that is kept in whole units, with a rest below one unit,
 -- is rounded as its whole units are.

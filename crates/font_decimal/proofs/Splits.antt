@@ -1,18 +1,17 @@
 -- What a split at the first point says of a text that is digits, a point and a fraction.
-use Rattle.std.proofs.Common.{◌≡◌, ◌≢◌, ℕ, zero, suc, ◌+◌, ◌<◌, ◌≤◌, List, [], ◌∷◌, ◌++◌, length, get_or, refl, sym, ap, ◌∙◌, arith, length-append, rules, Bool, true, false, true≢false}
+use Rattle.std.proofs.Common.{◌≡◌, ◌≢◌, ℕ, suc, ◌+◌, ◌<◌, List, [], ◌∷◌, ◌++◌, length, get_or, refl, sym, ap, ◌∙◌, arith, length-append, rules, Bool, true, false, true≢false}
 use Rattle.std.specs.Prelude.{Some, None, ◌==◌}
 use Rattle.std.proofs.lemmas.Bool.{eqb-true, eqb-false}
 use Rattle.std.proofs.Math.Nat.{pos_of_ne-zero}
 use Rattle.std.specs.Borrow.{Bor}
 use Rattle.std.specs.Str.Parse.{AllDigits, IsNumeral, digits_value}
-use Rattle.std.specs.Int.{IsInRange}
 use Rattle.std.specs.List.{list_all}
-use Rattle.std.specs.Char.{is_ascii_digit, digit_value}
+use Rattle.std.specs.Char.{is_ascii_digit}
 use Rattle.std.proofs.lemmas.Str.Pattern.{IsSplitOnceResult, split_after, split_parts}
 use Rattle.std.proofs.lemmas.Str.Parse.{digit_at, IsNumeralModel, numerals_by_value}
 use Rattle.std.proofs.lemmas.List.{append-nil, get_or_at}
 use Rattle.std.specs.Fmt.{sign_text}
-use Rattle.font_decimal.specs.Grammar.{point_text, HasParts, Decimal, IsNoDecimal}
+use Rattle.font_decimal.specs.Grammar.{point_text, HasParts, IsNoDecimal}
 use Rattle.font_decimal.proofs.Texts.{no_minus}
 
 no_point_in : (ds : List ℕ) → AllDigits 10 ds → (i : ℕ) → i < length ds → get_or ds i 0 ≢ 46

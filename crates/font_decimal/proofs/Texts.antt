@@ -1,5 +1,5 @@
 -- A decimal text has its parts in one way only, and so stands for one number.
-use Rattle.std.proofs.Common.{◌≡◌, ℕ, zero, suc, ◌+◌, ◌-◌, ◌*◌, ◌^◌, ◌<◌, ◌≤◌, Bool, true, false, List, [], ◌∷◌, ◌++◌, length, ℤ, refl, sym, ap, ◌∙◌, arith, append_assoc, length-append}
+use Rattle.std.proofs.Common.{◌≡◌, ℕ, ◌<◌, Bool, true, false, List, [], ◌∷◌, ◌++◌, length, ℤ, refl, sym, ◌∙◌, arith}
 use Rattle.std.specs.Fmt.{sign_text}
 use Rattle.std.specs.Str.{IsAscii, IsUtf8}
 use Rattle.std.specs.Str.Parse.{digits_value, AllDigits, IsNumeral}
@@ -9,7 +9,7 @@ use Rattle.std.proofs.lemmas.Str.Ascii.{IsAscii-cons, IsAscii-nil}
 use Rattle.std.proofs.lemmas.Str.Parse.{digit_from_value}
 use Rattle.std.proofs.lemmas.Fmt.{IsAscii-from_digits}
 use Rattle.font_decimal.specs.Near.{signed}
-use Rattle.font_decimal.specs.Grammar.{point_text, HasParts, Decimal, IsNoDecimal}
+use Rattle.font_decimal.specs.Grammar.{point_text, HasParts, Decimal}
 
 same_point : (e g : List ℕ) → point_text e ≡ point_text g → e ≡ g
 same_point [] [] h = refl

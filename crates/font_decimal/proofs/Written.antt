@@ -1,27 +1,25 @@
 -- The text of the shortest decimal is what it says: plain, nearest, read back, with the fewest places, and at most 22 bytes long.
-use Rattle.std.proofs.Common.{◌≡◌, ◌≢◌, ℕ, zero, suc, ◌+◌, ◌-◌, ◌*◌, ◌/◌, ◌%◌, ◌^◌, ◌<◌, ◌≤◌, ◌⊎◌, inl, inr, Bool, true, false, true≢false, List, [], ◌∷◌, ◌++◌, length, get_or, ℤ, pos, negsuc, refl, sym, ap, subst, ◌∙◌, arith, add-one, length-append}
-use Rattle.std.specs.Prelude.{◌*ℤ◌, neg_ℤ, ◌<ℤ◌, ◌↔◌, IsTrue, unsigned_abs, FitsSigned}
+use Rattle.std.proofs.Common.{◌≡◌, ℕ, zero, suc, ◌+◌, ◌-◌, ◌*◌, ◌/◌, ◌%◌, ◌^◌, ◌<◌, ◌≤◌, inl, inr, Bool, true≢false, [], ◌∷◌, ◌++◌, length, get_or, ℤ, pos, negsuc, refl, sym, ap, subst, ◌∙◌, arith, add-one}
+use Rattle.std.specs.Prelude.{◌*ℤ◌, ◌<ℤ◌, ◌↔◌, IsTrue, unsigned_abs, FitsSigned}
 use Rattle.std.specs.Int.{is_negative, abs_diff, w64}
 use mir.Val.{to_z, of_z}
 use Rattle.std.specs.Fmt.{decimal, sign_text}
-use Rattle.std.specs.Str.Parse.{digits_value, AllDigits, IsNumeral}
+use Rattle.std.specs.Str.Parse.{digits_value, AllDigits}
 use Rattle.std.specs.Char.{digit_value}
-use Rattle.std.proofs.Math.Nat.{suc-mul, mul-le-mul, mul-le-mul_right, le_of_mul-le-mul_right, pow-suc, one-le-pow, div-div-eq-div-mul, div-mul-le_self, div-add-mod', mod-lt, div-one, le_trans, le-mul_of_pos_right, mul-le-mul_left, pow-le-pow_right, lt_of_mul-lt-mul_right}
-use Rattle.std.proofs.lemmas.Bool.{cases_lt, cases_order, le-ltb}
+use Rattle.std.proofs.Math.Nat.{suc-mul, mul-le-mul_right, le_of_mul-le-mul_right, pow-suc, div-div-eq-div-mul, div-mul-le_self, div-add-mod', mod-lt, div-one, le_trans, le-mul_of_pos_right, mul-le-mul_left, pow-le-pow_right, lt_of_mul-lt-mul_right}
+use Rattle.std.proofs.lemmas.Bool.{cases_lt, le-ltb}
 use Rattle.std.proofs.lemmas.Int.{ints, to_z-of_z}
 use Rattle.std.proofs.lemmas.Nat.{pow_pos, pow-add}
 use Rattle.std.proofs.lemmas.List.{append-nil}
 use Rattle.std.proofs.lemmas.Str.{digit_value_digit}
-use Rattle.std.proofs.lemmas.Fmt.{decimal_is_IsNumeral, decimal_digit, first_decimal, length-decimal-le_wide, length-decimal-le}
-use Rattle.font_decimal.specs.Near.{signed, Near, near_magnitude}
-use Rattle.font_decimal.specs.Grammar.{point_text, HasParts, Decimal, Plain}
-use Rattle.font_decimal.specs.Reading.{Rounds}
-use Rattle.font_decimal.specs.Shortest.{IsShortest, nearest_numeral, reads_back, fewest_places, last_digits, decimal_text, shortest_text}
+use Rattle.std.proofs.lemmas.Fmt.{decimal_is_IsNumeral, decimal_digit, first_decimal, length-decimal-le}
+use Rattle.font_decimal.specs.Near.{signed, Near}
+use Rattle.font_decimal.specs.Grammar.{point_text, HasParts, Decimal}
+use Rattle.font_decimal.specs.Shortest.{IsShortest, nearest_numeral, fewest_places, last_digits, decimal_text, shortest_text}
 use Rattle.font_decimal.proofs.Near.{Rounded, rounded_is, near_from, is_signed, signed_times}
-use Rattle.font_decimal.proofs.Texts.{decimal_of}
 use Rattle.font_decimal.proofs.Digits.{digits_value-append}
 use Rattle.font_decimal.proofs.Readings.{ten_pos}
-use Rattle.font_decimal.proofs.Fewest.{IsFewest, fewest_is, within_half, none_fewer, unit_below}
+use Rattle.font_decimal.proofs.Fewest.{fewest_is, within_half, none_fewer, unit_below}
 
 pub last_length : (p n : ℕ) → length (last_digits p n) ≡ p
 last_length zero n = refl

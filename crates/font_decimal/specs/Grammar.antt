@@ -1,6 +1,6 @@
 -- Decimal texts: an optional `-`, one or more digits, and optionally a point with one or more digits behind it. No plus sign,
 -- exponent or space. This is the project's own form of a fixed-point number in text.
-use Rattle.std.specs.Prelude.{◌≡◌, ℕ, ◌≤◌, ◌<◌, ◌↔◌, Bool, IsTrue, List, [], ◌∷◌, ◌++◌, length, slice_index, ℤ, pos, ◌<ℤ◌}
+use Rattle.std.specs.Prelude.{◌≡◌, ℕ, ◌↔◌, Bool, IsTrue, List, [], ◌∷◌, ◌++◌, length, slice_index, ℤ, pos, ◌<ℤ◌}
 use Rattle.std.specs.Fmt.{sign_text}
 use Rattle.std.specs.Str.Parse.{digits_value, AllDigits, IsNumeral}
 use Rattle.font_decimal.specs.Near.{signed}

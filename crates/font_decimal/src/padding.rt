@@ -1,7 +1,7 @@
 // A decimal text in a field of some width.
-ghost use Rattle.std.specs.Prelude.{◌≡◌, ◌≤◌, ◌<◌, ◌↔◌, length, IfSome, IfNone, IsSome};
+ghost use Rattle.std.specs.Prelude.{◌≡◌, ℕ, ◌+◌, ◌≤◌, ◌<◌, ◌↔◌, List, ◌++◌, length, take, drop, replicate, IfSome, IfNone, IsSome};
 ghost use Rattle.font_decimal.specs.Grammar.{IsDecimal};
-ghost use Rattle.font_decimal.specs.Padding.{padded_text, FillsFront};
+ghost use Rattle.font_decimal.specs.Padding.{shown_sign, unsigned_body, laid_out, padded_text, FillsFront};
 
 /// Where a text stands in a field that is wider.
 #[derive(Clone, Copy)]
@@ -39,27 +39,38 @@ pub fn write_padded(text: &str, out: &mut [u8], pad: &Pad) -> Option<usize>
     ensures room { IsSome result ↔ (length (padded_text text.now pad.now) ≤ length out.old) }
     ensures untouched { IfNone result (out.new ≡ out.old) }
 {
-    let (sign, body) = match text.strip_prefix('-') {
-        Some(body) => ("-", body),
-        None if pad.plus => ("+", text),
-        None => ("", text),
-    };
+    let (sign, body) = shown_parts(text, pad.plus);
     let len = sign.len() + body.len();
-    let spare = pad.width.saturating_sub(len);
-    if out.len() < len || out.len() - len < spare {
+    let shown_len = len.max(pad.width);
+    if out.len() < shown_len {
         return None;
     }
-    let (front, zeros, back) = spread(spare, pad);
-    let mut at = 0;
-    at = put_fill(out, at, pad.fill, front);
-    at = put(out, at, sign.as_bytes());
-    at = put_fill(out, at, b'0', zeros);
-    at = put(out, at, body.as_bytes());
+    let (front, zeros, back) = spread(shown_len - len, pad);
+    let at = put_fill(out, 0, pad.fill, front);
+    let at = put(out, at, sign.as_bytes());
+    let at = put_fill(out, at, b'0', zeros);
+    let at = put(out, at, body.as_bytes());
     Some(put_fill(out, at, pad.fill, back))
 }
 
+// The sign that is shown, and the text without its own.
+fn shown_parts(text: &str, plus: bool) -> (&'static str, &str)
+    ensures sign { result.0.now ≡ shown_sign plus text.now }
+    ensures body { result.1.now ≡ unsigned_body text.now }
+{
+    match text.strip_prefix('-') {
+        Some(body) => ("-", body),
+        None if plus => ("+", text),
+        None => ("", text),
+    }
+}
+
 // How many of the spare bytes are fill in front, zeros behind the sign, and fill behind.
-fn spread(spare: usize, pad: &Pad) -> (usize, usize, usize) {
+fn spread(spare: usize, pad: &Pad) -> (usize, usize, usize)
+    ensures all { result.0 + result.1 + result.2 ≡ spare }
+    ensures places { (sign body : List ℕ) → laid_out pad.now sign body spare
+        ≡ replicate result.0 pad.now.fill ++ (sign ++ (replicate result.1 48 ++ (body ++ replicate result.2 pad.now.fill))) }
+{
     if pad.zeros {
         return (0, spare, 0);
     }
@@ -71,13 +82,23 @@ fn spread(spare: usize, pad: &Pad) -> (usize, usize, usize) {
     (front, 0, spare - front)
 }
 
-fn put(out: &mut [u8], at: usize, bytes: &[u8]) -> usize {
+// Writes bytes behind the first `at`, and returns where they end.
+fn put(out: &mut [u8], at: usize, bytes: &[u8]) -> usize
+    requires { at + length bytes.now ≤ length out.old }
+    ensures end { result ≡ at + length bytes.now }
+    ensures written { out.new ≡ take at out.old ++ (bytes.now ++ drop (at + length bytes.now) out.old) }
+{
     let end = at + bytes.len();
     out[at..end].copy_from_slice(bytes);
     end
 }
 
-fn put_fill(out: &mut [u8], at: usize, byte: u8, count: usize) -> usize {
+// The same with one byte, a number of times.
+fn put_fill(out: &mut [u8], at: usize, byte: u8, count: usize) -> usize
+    requires { at + count ≤ length out.old }
+    ensures end { result ≡ at + count }
+    ensures written { out.new ≡ take at out.old ++ (replicate count byte ++ drop (at + count) out.old) }
+{
     let end = at + count;
     out[at..end].fill(byte);
     end

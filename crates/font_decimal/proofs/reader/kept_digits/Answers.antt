@@ -1,4 +1,4 @@
-use Rattle.std.proofs.Common.{◌≡◌, ℕ, ◌<◌, ◌≤◌, length, get_or, arith, sym, ap, ◌∙◌}
+use Rattle.std.proofs.Common.{◌≡◌, ◌<◌, arith, ◌∙◌}
 use Rattle.font_decimal.proofs.Digits.{digit_there, digit_below, digit_in, digit_past, kept_more, kept_below, kept_fits}
 use Rattle.font_decimal.proofs.reader.kept_digits.Goals as goal
 use Rattle.font_decimal.proofs.reader.kept_digits.Goals.{in-Some, in-None}

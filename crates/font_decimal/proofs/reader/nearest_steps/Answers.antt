@@ -1,4 +1,4 @@
-use Rattle.std.proofs.Common.{◌≡◌, ℕ, ◌+◌, ◌*◌, ◌/◌, ◌%◌, ◌^◌, ◌<◌, arith, ap}
+use Rattle.std.proofs.Common.{◌≡◌, ◌+◌, ◌*◌, ◌/◌, ◌%◌, ◌^◌, ◌<◌, arith, ap}
 use Rattle.std.proofs.lemmas.Nat.{one_shl}
 use Rattle.font_decimal.proofs.Rounding.{halved_quotient, steps_below}
 use Rattle.font_decimal.proofs.reader.nearest_steps.Goals as goal

@@ -1,4 +1,4 @@
-use Rattle.std.proofs.Common.{◌≡◌, ℕ, ◌+◌, ◌*◌, ◌%◌, ◌^◌, ◌<◌, arith, below_more, false}
+use Rattle.std.proofs.Common.{◌≡◌, ℕ, ◌*◌, ◌%◌, ◌^◌, ◌<◌, arith, below_more, false}
 use Rattle.std.proofs.Math.Nat.{pow-suc}
 use Rattle.std.proofs.Math.Numerals.{add-one}
 use Rattle.std.proofs.lemmas.Nat.{one_shl}
@@ -13,7 +13,7 @@ pub returns-then-abs_diff-unit-clause-places : goal.returns-then-abs_diff-unit-c
 returns-then-abs_diff-unit-clause-places c =
     let l = c.loop-unit in
     let reads = passes c.args.magnitude c.args.f l.places _ l.unit c.from.result c.abs_diff.result c.from.ensures
-        (step_is c.args.f (omega (arith, c.requires.0))) l.invariant.unit c.abs_diff.ensures c.if-abs_diff-unit.true in
+    (step_is c.args.f (omega (arith, c.requires.0))) l.invariant.unit c.abs_diff.ensures c.if-abs_diff-unit.true in
     let here : IsFewest c.args.magnitude c.args.f l.places = record { few = l.invariant.within; reads = reads; before = l.invariant.fail } in
     fewest_unique c.args.magnitude c.args.f l.places _ here (fewest_is c.args.magnitude c.args.f)
 
@@ -25,7 +25,7 @@ fails_here : (c : goal.Else-abs_diff-unit) → reads_back c.args.magnitude c.arg
 fails_here c =
     let l = c.loop-unit in
     misses c.args.magnitude c.args.f l.places _ l.unit c.from.result c.abs_diff.result c.from.ensures
-        (step_is c.args.f (omega (arith, c.requires.0))) l.invariant.unit c.abs_diff.ensures c.if-abs_diff-unit.false
+    (step_is c.args.f (omega (arith, c.requires.0))) l.invariant.unit c.abs_diff.ensures c.if-abs_diff-unit.false
 
 pub loop-unit-smaller : goal.loop-unit-smaller
 loop-unit-smaller c =

@@ -7,7 +7,7 @@ use Rattle.font_decimal.proofs.shortest.Shortest.push_whole.Goals as goal
 room : (left whole : ℕ) (text old : List ℕ) → left < 2 ^ 64 → decimal left ++ text ≡ decimal whole ++ old → length (decimal whole) + length old ≤ 22 → length text < 22
 room left whole text old small e fits =
     let long : length (decimal left) + length text ≡ length (decimal whole) + length old =
-        sym (length-append (decimal left) text) ∙ ap length e ∙ length-append (decimal whole) old in
+    sym (length-append (decimal left) text) ∙ ap length e ∙ length-append (decimal whole) old in
     let some = decimal_nonempty left small in
     omega arith
 
