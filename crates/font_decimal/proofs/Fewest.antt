@@ -26,8 +26,8 @@ half_distance n d q r =
     let high = r.high in
     omega arith
 
-distance_times : (k a b : ℕ) → abs_diff (k * a) (k * b) ≡ k * abs_diff a b
-distance_times k a b = rw (sym (mul-sub k a b), sym (mul-sub k b a)) (omega arith)
+pub abs_diff_times : (k a b : ℕ) → abs_diff (k * a) (k * b) ≡ k * abs_diff a b
+abs_diff_times k a b = rw (sym (mul-sub k a b), sym (mul-sub k b a)) (omega arith)
 
 five_odd : (j : ℕ) → (h : ℕ) × (5 ^ j ≡ 2 * h + 1)
 five_odd zero = (0, refl)
@@ -49,7 +49,7 @@ no_tie m f j n h tie =
     let ten : 10 ^ j ≡ 2 ^ j * 5 ^ j = mul-pow 2 5 j in
     let left : n * 2 ^ f ≡ 2 ^ j * (n * 2 ^ (f - j)) = rw split (omega arith) in
     let right : m * 10 ^ j ≡ 2 ^ j * (m * 5 ^ j) = rw ten (omega arith) in
-    let apart = distance_times (2 ^ j) (n * 2 ^ (f - j)) (m * 5 ^ j) in
+    let apart = abs_diff_times (2 ^ j) (n * 2 ^ (f - j)) (m * 5 ^ j) in
     let same : abs_diff (n * 2 ^ f) (m * 10 ^ j) ≡ 2 ^ j * abs_diff (n * 2 ^ (f - j)) (m * 5 ^ j) = rw (left, right) apart in
     not_even j (abs_diff (n * 2 ^ (f - j)) (m * 5 ^ j)) (half_units (2 ^ j) _ _ (5 ^ j) (10 ^ j) (pow_pos j) same tie ten)
 

@@ -8,3 +8,4 @@ pub mod Fewest
 pub mod Written
 pub mod Order
 pub mod Padded
+pub mod Printed

@@ -1,0 +1,139 @@
+-- What callers rely on of printed texts.
+use Rattle.std.proofs.Common.{◌≡◌, ◌≢◌, ℕ, zero, suc, ◌+◌, ◌-◌, ◌*◌, ◌/◌, ◌%◌, ◌^◌, ◌<◌, ◌≤◌, Bool, true, false, true≢false, List, [], ◌∷◌, ◌++◌, length, get_or, ℤ, pos, negsuc, refl, sym, ap, subst, ◌∙◌, arith, append_assoc, length-append}
+use Rattle.std.specs.Prelude.{◌≤ℤ◌, ◌<ℤ◌, unsigned_abs, Result, Ok}
+use Rattle.std.specs.Int.{is_negative, abs_diff}
+use Rattle.std.specs.Fmt.{decimal, sign_text}
+use Rattle.std.specs.Str.{IsAscii}
+use Rattle.std.specs.Str.Parse.{AllDigits}
+use Rattle.std.proofs.Math.Nat.{pow-suc, mul_comm, div-div-eq-div-mul, div-add-mod', div-one, lt_of_mul-lt-mul_left}
+use Rattle.std.proofs.lemmas.Int.{ints}
+use Rattle.std.proofs.lemmas.List.{append-nil, same_from_push}
+use Rattle.std.proofs.lemmas.Fmt.{decimal_is_IsNumeral}
+use Rattle.std.proofs.lemmas.Str.Parse.{digit_from_value}
+use Rattle.font_decimal.specs.Near.{signed}
+use Rattle.font_decimal.specs.Grammar.{HasParts, Decimal, IsDecimal, Plain, point_text}
+use Rattle.font_decimal.specs.Reading.{Rounds, Reads, IsReading}
+use Rattle.font_decimal.specs.Shortest.{IsShortest, nearest_numeral, reads_back, fewest_places, last_digits, shortest_text}
+use Rattle.font_decimal.specs.declared.reader.DecimalFault.{DecimalFault}
+use Rattle.font_decimal.proofs.Texts.{same_parts, decimal_unique, decimal_of, decimal_is_ascii}
+use Rattle.font_decimal.proofs.Readings.{rounds_unique, reading_unique}
+use Rattle.font_decimal.proofs.Fewest.{IsFewest, fewest_is, within_half, nearest_reads_back, abs_diff_times, unit_below}
+use Rattle.font_decimal.proofs.Written.{shortest_is, whole_fits, digits_fit, point_length}
+
+-- a shortest text is in the grammar
+pub shortest_is_decimal : (b : ℤ) (f : ℕ) (text : List ℕ) → IsShortest b f text → IsDecimal text
+shortest_is_decimal b f text s = record { numeral = s.numeral; places = s.places; decimal = s.plain.decimal }
+
+pub shortest_is_ascii : (b : ℤ) (f : ℕ) (text : List ℕ) → IsShortest b f text → IsAscii text
+shortest_is_ascii b f text s = decimal_is_ascii text s.numeral s.places s.plain.decimal
+
+-- a printed text is read as its value and as no other
+pub printed_rounds : (b : ℤ) (f : ℕ) → unsigned_abs b ≤ 2 ^ 63 → Rounds (shortest_text b f) f b
+printed_rounds b f small = (shortest_is b f small).rounds
+
+pub printed_reads_once : (b c : ℤ) (f : ℕ) → unsigned_abs b ≤ 2 ^ 63 → Rounds (shortest_text b f) f c → c ≡ b
+printed_reads_once b c f small x = rounds_unique (shortest_text b f) f c b x (printed_rounds b f small)
+
+pub printed_is_read : (b : ℤ) (f : ℕ) (min max : ℤ) (r : Result ℤ DecimalFault) → unsigned_abs b ≤ 2 ^ 63 → min ≤ℤ b → b ≤ℤ max
+    → IsReading (shortest_text b f) f min max r → r ≡ Ok b
+printed_is_read b f min max r small low high x =
+    let own : Reads (shortest_text b f) f min max b = record { rounds = printed_rounds b f small; low = low; high = high } in
+    reading_unique (shortest_text b f) f min max r (Ok b) x own
+
+-- distinct values print distinct texts
+pub same_value : (b c : ℤ) (f : ℕ) → unsigned_abs b ≤ 2 ^ 63 → unsigned_abs c ≤ 2 ^ 63 → shortest_text b f ≡ shortest_text c f → b ≡ c
+same_value b c f small smaller e = printed_reads_once c b f smaller (subst (λ t. Rounds t f b) e (printed_rounds b f small))
+
+-- no value prints `-0`
+minus_zero : HasParts (45 ∷ 48 ∷ []) true (48 ∷ []) []
+minus_zero = record { written = refl; whole_digits = (omega arith, (omega arith, tt)); fraction_digits = tt }
+
+pub plain_is_not_minus_zero : (text : List ℕ) (n : ℤ) (k : ℕ) → Plain text n k → text ≢ 45 ∷ 48 ∷ []
+plain_is_not_minus_zero text n k p e =
+    let d = p.decimal in
+    let zero_parts = subst (λ t. HasParts t true (48 ∷ []) []) (sym e) minus_zero in
+    let same = same_parts d.negative true d.whole (48 ∷ []) d.fraction [] text d.parts zero_parts in
+    let below = p.minus.0 same.negative in
+    let none = (decimal_unique text n (pos 0) k 0 d (decimal_of text true (48 ∷ []) [] zero_parts)).numeral in
+    omega (arith, ints)
+
+pub printed_is_not_minus_zero : (b : ℤ) (f : ℕ) → unsigned_abs b ≤ 2 ^ 63 → shortest_text b f ≢ 45 ∷ 48 ∷ []
+printed_is_not_minus_zero b f small = let s = shortest_is b f small in plain_is_not_minus_zero (shortest_text b f) s.numeral s.places s.plain
+
+-- ---- no printed text with a point ends in 0
+last_is : (p n : ℕ) → last_digits (suc p) n ≡ last_digits p (n / 10) ++ ((48 + n % 10) ∷ [])
+last_is zero n = rw div-one
+last_is (suc p) n =
+    let front : n / 10 ^ suc p ≡ n / 10 / 10 ^ p = ap (λ d. n / d) (pow-suc 10 p ∙ mul_comm (10 ^ p) 10) ∙ sym (div-div-eq-div-mul n 10 (10 ^ p)) in
+    rw front (ap (λ ds. (48 + n / 10 / 10 ^ p % 10) ∷ ds) (last_is p n))
+
+tenth : (x y ten tenfold : ℕ) → x ≡ 10 * y → tenfold ≡ ten * 10 → 2 * x < tenfold → 2 * y ≤ ten
+tenth x y ten tenfold e power h = omega arith
+
+-- a numeral that ends in 0 would read back with one place fewer
+zero_drops : (m f p : ℕ) → IsFewest m f (suc p) → nearest_numeral m f (suc p) % 10 ≢ 0
+zero_drops m f p fewest e =
+    let d = nearest_numeral m f (suc p) in
+    let tens : d ≡ 10 * (d / 10) = omega (arith, div-add-mod' d 10) in
+    let close = within_half m f (suc p) fewest.reads in
+    let left : d * 2 ^ f ≡ 10 * (d / 10 * 2 ^ f) = ap (λ n. n * 2 ^ f) tens ∙ (let regroup : 10 * (d / 10) * 2 ^ f ≡ 10 * (d / 10 * 2 ^ f) = omega arith in regroup) in
+    let right : m * 10 ^ suc p ≡ 10 * (m * 10 ^ p) = rw (pow-suc 10 p) (omega arith) in
+    let apart : abs_diff (d * 2 ^ f) (m * 10 ^ suc p) ≡ 10 * abs_diff (d / 10 * 2 ^ f) (m * 10 ^ p) =
+        ap (λ x. abs_diff x (m * 10 ^ suc p)) left ∙ ap (λ y. abs_diff (10 * (d / 10 * 2 ^ f)) y) right ∙ abs_diff_times 10 (d / 10 * 2 ^ f) (m * 10 ^ p) in
+    let closer = tenth _ _ (10 ^ p) (10 ^ suc p) apart (pow-suc 10 p) close in
+    let few = fewest.few in
+    true≢false (sym (nearest_reads_back m f p (d / 10) (omega arith) closer) ∙ fewest.before p (omega arith))
+
+no_point_at : (ds : List ℕ) (i : ℕ) → AllDigits 10 ds → get_or ds i 0 ≢ 46
+no_point_at [] i h e = omega arith
+no_point_at (c ∷ cs) zero h e = let digit = digit_from_value c h.0 in omega arith
+no_point_at (c ∷ cs) (suc i) h e = no_point_at cs i h.1 e
+
+no_point_signed : (s : Bool) (ds : List ℕ) (i : ℕ) → AllDigits 10 ds → get_or (sign_text s ++ (ds ++ [])) i 0 ≢ 46
+no_point_signed s ds i h = rw append-nil (by_sign s i) where
+  by_sign : (t : Bool) (j : ℕ) → get_or (sign_text t ++ ds) j 0 ≢ 46
+  by_sign true zero e = omega arith
+  by_sign true (suc j) e = no_point_at ds j h e
+  by_sign false j e = no_point_at ds j h e
+
+last_byte : (s : Bool) (whole : List ℕ) (p n : ℕ) (front : List ℕ) → sign_text s ++ (whole ++ point_text (last_digits (suc p) n)) ≡ front ++ (48 ∷ []) → n % 10 ≡ 0
+last_byte s whole p n front e =
+    let before : List ℕ = 46 ∷ last_digits p (n / 10) in
+    let last : List ℕ = (48 + n % 10) ∷ [] in
+    let fraction : point_text (last_digits (suc p) n) ≡ before ++ last = ap (λ ds. 46 ∷ ds) (last_is p n) in
+    let regroup : sign_text s ++ (whole ++ (before ++ last)) ≡ (sign_text s ++ (whole ++ before)) ++ last =
+        sym (append_assoc (sign_text s) (whole ++ before) last ∙ ap (λ xs. sign_text s ++ xs) (append_assoc whole before last)) in
+    let ends = same_from_push (sign_text s ++ (whole ++ before)) front (48 + n % 10) 48 (sym regroup ∙ sym (ap (λ xs. sign_text s ++ (whole ++ xs)) fraction) ∙ e) in
+    let same = ends.1 in
+    omega arith
+
+ends_or_whole : (s : Bool) (m f p i : ℕ) (front : List ℕ) → IsFewest m f p → nearest_numeral m f p / 10 ^ p < 2 ^ 64
+    → sign_text s ++ (decimal (nearest_numeral m f p / 10 ^ p) ++ point_text (last_digits p (nearest_numeral m f p))) ≡ front ++ (48 ∷ [])
+    → get_or (sign_text s ++ (decimal (nearest_numeral m f p / 10 ^ p) ++ point_text (last_digits p (nearest_numeral m f p)))) i 0 ≢ 46
+ends_or_whole s m f zero i front fewest small e = no_point_signed s _ i (decimal_is_IsNumeral _ small).0.1
+ends_or_whole s m f (suc p) i front fewest small e = absurd (zero_drops m f p fewest last_zero) where
+  last_zero : nearest_numeral m f (suc p) % 10 ≡ 0
+  last_zero = last_byte s (decimal (nearest_numeral m f (suc p) / 10 ^ suc p)) p (nearest_numeral m f (suc p)) front e
+
+pub zero_ends_no_fraction : (b : ℤ) (f i : ℕ) (front : List ℕ) → unsigned_abs b ≤ 2 ^ 63 → shortest_text b f ≡ front ++ (48 ∷ []) → get_or (shortest_text b f) i 0 ≢ 46
+unfolding shortest_text
+zero_ends_no_fraction b f i front small e =
+    let m = unsigned_abs b in
+    ends_or_whole (is_negative b) m f (fewest_places m f) i front (fewest_is m f) (whole_fits m f (fewest_places m f) small) e
+
+sign_length : (s : Bool) → length (sign_text s) ≤ 1
+sign_length true = omega arith
+sign_length false = omega arith
+
+-- and each printed text is at most 22 bytes long
+pub shortest_length : (b : ℤ) (f : ℕ) → unsigned_abs b ≤ 2 ^ 63 → f ≤ 30 → length (shortest_text b f) ≤ 22
+unfolding shortest_text
+shortest_length b f small few =
+    let m = unsigned_abs b in
+    let p = fewest_places m f in
+    let n = nearest_numeral m f p in
+    let whole : List ℕ = decimal (n / 10 ^ p) in
+    let digits = digits_fit m f p small few (unit_below m f p (fewest_is m f).before) in
+    let all : length (sign_text (is_negative b) ++ (whole ++ point_text (last_digits p n))) ≡ length (sign_text (is_negative b)) + (length whole + length (point_text (last_digits p n))) =
+        length-append (sign_text (is_negative b)) _ ∙ ap (λ k. length (sign_text (is_negative b)) + k) (length-append whole _) in
+    omega (arith, all, point_length p n, sign_length (is_negative b))
