@@ -79,7 +79,7 @@ zero_drops m f p fewest e =
     let left : d * 2 ^ f ≡ 10 * (d / 10 * 2 ^ f) = ap (λ n. n * 2 ^ f) tens ∙ (let regroup : 10 * (d / 10) * 2 ^ f ≡ 10 * (d / 10 * 2 ^ f) = omega arith in regroup) in
     let right : m * 10 ^ suc p ≡ 10 * (m * 10 ^ p) = rw (pow-suc 10 p) (omega arith) in
     let apart : abs_diff (d * 2 ^ f) (m * 10 ^ suc p) ≡ 10 * abs_diff (d / 10 * 2 ^ f) (m * 10 ^ p) =
-        ap (λ x. abs_diff x (m * 10 ^ suc p)) left ∙ ap (λ y. abs_diff (10 * (d / 10 * 2 ^ f)) y) right ∙ abs_diff_times 10 (d / 10 * 2 ^ f) (m * 10 ^ p) in
+    ap (λ x. abs_diff x (m * 10 ^ suc p)) left ∙ ap (λ y. abs_diff (10 * (d / 10 * 2 ^ f)) y) right ∙ abs_diff_times 10 (d / 10 * 2 ^ f) (m * 10 ^ p) in
     let closer = tenth _ _ (10 ^ p) (10 ^ suc p) apart (pow-suc 10 p) close in
     let few = fewest.few in
     true≢false (sym (nearest_reads_back m f p (d / 10) (omega arith) closer) ∙ fewest.before p (omega arith))
@@ -102,7 +102,7 @@ last_byte s whole p n front e =
     let last : List ℕ = (48 + n % 10) ∷ [] in
     let fraction : point_text (last_digits (suc p) n) ≡ before ++ last = ap (λ ds. 46 ∷ ds) (last_is p n) in
     let regroup : sign_text s ++ (whole ++ (before ++ last)) ≡ (sign_text s ++ (whole ++ before)) ++ last =
-        sym (append_assoc (sign_text s) (whole ++ before) last ∙ ap (λ xs. sign_text s ++ xs) (append_assoc whole before last)) in
+    sym (append_assoc (sign_text s) (whole ++ before) last ∙ ap (λ xs. sign_text s ++ xs) (append_assoc whole before last)) in
     let ends = same_from_push (sign_text s ++ (whole ++ before)) front (48 + n % 10) 48 (sym regroup ∙ sym (ap (λ xs. sign_text s ++ (whole ++ xs)) fraction) ∙ e) in
     let same = ends.1 in
     omega arith
@@ -135,5 +135,5 @@ shortest_length b f small few =
     let whole : List ℕ = decimal (n / 10 ^ p) in
     let digits = digits_fit m f p small few (unit_below m f p (fewest_is m f).before) in
     let all : length (sign_text (is_negative b) ++ (whole ++ point_text (last_digits p n))) ≡ length (sign_text (is_negative b)) + (length whole + length (point_text (last_digits p n))) =
-        length-append (sign_text (is_negative b)) _ ∙ ap (λ k. length (sign_text (is_negative b)) + k) (length-append whole _) in
+    length-append (sign_text (is_negative b)) _ ∙ ap (λ k. length (sign_text (is_negative b)) + k) (length-append whole _) in
     omega (arith, all, point_length p n, sign_length (is_negative b))

@@ -8,6 +8,8 @@ pub mod laws;
 mod padding;
 mod reader;
 mod shortest;
+#[cfg(test)]
+mod tests;
 
 pub use padding::{Align, Pad, write_padded};
 pub use reader::{DecimalFault, read_decimal};

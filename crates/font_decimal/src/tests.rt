@@ -1,0 +1,316 @@
+// Worked values, and what no clause says: texts of faults, and that long texts are read.
+ghost use Rattle.std.specs.Prelude.{◌≡◌, ◌≤◌};
+
+use crate::laws::reads_in_order;
+use crate::{Align, DecimalFault, Pad, Shortest, read_decimal, write_padded};
+use std::alloc::{AllocError, Global};
+use std::test::Fail;
+
+const LEAST: i64 = -0x8000_0000;
+
+const GREATEST: i64 = 0x7FFF_FFFF;
+
+// A reading as a 32-bit number with 16 bits of fraction.
+fn fixed(text: &str) -> Result<i64, DecimalFault> {
+    read_decimal(text, 16, LEAST, GREATEST)
+}
+
+fn text_of(
+    alloc: Global,
+    head: &str,
+    digit: char,
+    count: usize,
+    tail: &str,
+) -> Result<String, AllocError> {
+    let mut text = String::from_str(alloc, head)?;
+    for _ in 0..count {
+        text.push(digit)?;
+    }
+    text.push_str(tail)?;
+    Ok(text)
+}
+
+#[test]
+fn reads_the_nearest_value(rt: HostRuntime) {
+    for (text, bits) in [
+        ("1.5", 98304),
+        ("-1.5", -98304),
+        ("0.6", 0x999A),
+        ("00012.50", 819200),
+        ("-0.000", 0),
+        ("0.00000762939453125", 1),
+        ("-0.00000762939453125", -1),
+        ("0.00000762939453124", 0),
+        ("32767.99998", GREATEST),
+        ("32767.99999", GREATEST),
+        ("-32768", LEAST),
+        ("-32768.000007", LEAST),
+    ] {
+        assert_eq!(rt; fixed(text), Ok(bits), "at {text}");
+    }
+    for (text, f, bits) in [
+        ("0.12", 6, 8),
+        ("0.13", 6, 8),
+        ("0.0078125", 6, 1),
+        ("-0.61884", 14, -10139),
+        ("0.0001220703125", 12, 1),
+        ("-0.00048828125", 10, -1),
+        ("1.99996", 14, 32767),
+        ("-2.00003", 14, -32768),
+    ] {
+        assert_eq!(rt;
+            read_decimal(text, f, LEAST, GREATEST),
+            Ok(bits),
+            "at {text}"
+        );
+    }
+}
+
+#[test]
+fn refuses_by_grammar_then_by_range(rt: HostRuntime) {
+    for text in [
+        "", "-", ".5", "5.", "+1", "1e3", "1.2.3", " 1", "1 ", "--1", "-.5", "1_0",
+    ] {
+        assert_eq!(rt; fixed(text), Err(DecimalFault::Syntax), "at {text}");
+    }
+    for text in [
+        "32768",
+        "32767.999993",
+        "32767.99999237060546875",
+        "-32768.00000762939453125",
+        "4294967296",
+        "18446744073709551616",
+        "-18446744073709551616.5",
+    ] {
+        assert_eq!(rt; fixed(text), Err(DecimalFault::OutOfRange), "at {text}");
+    }
+    assert_eq!(rt;
+        read_decimal("1.99997", 14, -32768, 32767),
+        Err(DecimalFault::OutOfRange)
+    );
+    assert_eq!(rt;
+        read_decimal("-2.00004", 14, -32768, 32767),
+        Err(DecimalFault::OutOfRange)
+    );
+    assert_eq!(rt;
+        read_decimal("140737488355327.99998", 16, i64::MIN, i64::MAX),
+        Ok(i64::MAX)
+    );
+    assert_eq!(rt;
+        read_decimal("140737488355327.99999237060546875", 16, i64::MIN, i64::MAX),
+        Err(DecimalFault::OutOfRange)
+    );
+}
+
+#[test]
+fn reads_texts_of_any_length(rt: HostRuntime) -> Result<(), Fail> {
+    for (head, digit, count, tail, want) in [
+        ("0.00000762939453124", '9', 3000, "", Ok(0)),
+        ("", '0', 5000, "12.5", Ok(819200)),
+        ("0.", '0', 5000, "1", Ok(0)),
+        ("-0.", '0', 5000, "1", Ok(0)),
+        ("1", '0', 4999, "", Err(DecimalFault::OutOfRange)),
+        ("", '9', 4999, "x", Err(DecimalFault::Syntax)),
+        ("32767.99999237060546874", '9', 3000, "", Ok(GREATEST)),
+        ("-32768.00000762939453124", '9', 3000, "", Ok(LEAST)),
+    ] {
+        let text = text_of(rt.alloc(), head, digit, count, tail)?;
+        assert_eq!(rt; fixed(text.as_str()), want, "at {head}");
+    }
+    Ok(())
+}
+
+#[test]
+fn prints_the_shortest_decimal(rt: HostRuntime) {
+    for (bits, f, text) in [
+        (GREATEST, 16, "32767.99998"),
+        (LEAST, 16, "-32768"),
+        (1, 16, "0.00002"),
+        (-1, 16, "-0.00002"),
+        (0, 16, "0"),
+        (-32768, 14, "-2"),
+        (32767, 14, "1.99994"),
+        (9830, 14, "0.6"),
+        (-10139, 14, "-0.61884"),
+        (1, 14, "0.00006"),
+        (-1, 14, "-0.00006"),
+        (-32768, 12, "-8"),
+        (32767, 12, "7.9998"),
+        (-32768, 10, "-32"),
+        (32767, 10, "31.999"),
+        (LEAST, 6, "-33554432"),
+        (GREATEST, 6, "33554431.98"),
+        (8, 6, "0.13"),
+        (1, 6, "0.02"),
+        (-3, 6, "-0.05"),
+        (32, 6, "0.5"),
+        (65, 6, "1.02"),
+        (-96, 6, "-1.5"),
+        (6416, 6, "100.25"),
+        (i64::MIN, 16, "-140737488355328"),
+        (i64::MAX, 16, "140737488355327.99998"),
+        (i64::MIN + 1, 16, "-140737488355327.99998"),
+        (1 << 56, 16, "1099511627776"),
+    ] {
+        assert!(rt; f >= 6 && f <= 16);
+        let shown = Shortest::new(bits, f);
+        assert_eq!(rt; shown.as_str(), text);
+        let read = read_decimal(shown.as_str(), f, i64::MIN, i64::MAX);
+        assert_eq!(rt; read, Ok(bits), "at {bits} over 2^{f}");
+    }
+}
+
+// A plain reader of four fractional digits.
+#[test]
+fn reads_as_a_slow_reader_does(rt: HostRuntime) -> Result<(), Fail> {
+    for n in 0..3000u64 {
+        let (whole, fraction) = (n / 97, n * 3);
+        let text = format!(in rt.alloc(); "{whole}.{fraction:04}")?;
+        let numeral = whole * 10_000 + fraction;
+        let bits = (2 * numeral * 65536 + 10_000) / 20_000;
+        assert_eq!(rt; fixed(text.as_str()), Ok(bits as i64), "at {text}");
+    }
+    Ok(())
+}
+
+// The first number of places whose nearest decimal is nearest to the value again.
+fn slow_places(bits: u64, f: u32) -> usize
+    requires { (6 ≤ f) × (f ≤ 16) }
+{
+    let step = 1u64 << f;
+    let mut unit = 1u64;
+    for places in 0..16 {
+        let numeral = bits.wrapping_mul(unit).wrapping_mul(2).wrapping_add(step) / (2 * step);
+        let back = numeral
+            .wrapping_mul(step)
+            .wrapping_mul(2)
+            .wrapping_add(unit)
+            .checked_div(unit.wrapping_mul(2));
+        if back == Some(bits) {
+            return places;
+        }
+        unit = unit.wrapping_mul(10);
+    }
+    16
+}
+
+#[test]
+fn prints_as_few_places_as_a_slow_writer(rt: HostRuntime) {
+    for f in 6..17u32 {
+        for n in 0..500u64 {
+            let bits = n * 131;
+            let shown = Shortest::new(bits as i64, f);
+            let places = match shown.as_str().split_once('.') {
+                Some((_, fraction)) => fraction.len(),
+                None => 0,
+            };
+            assert_eq!(rt; places, slow_places(bits, f), "at {bits}, {f}");
+            assert_eq!(rt;
+                read_decimal(shown.as_str(), f, i64::MIN, i64::MAX),
+                Ok(bits as i64)
+            );
+        }
+    }
+}
+
+fn pad(width: usize, fill: u8, align: Align, plus: bool, zeros: bool) -> Pad
+    ensures { result.fill ≡ fill }
+{
+    Pad {
+        width,
+        fill,
+        align,
+        plus,
+        zeros,
+    }
+}
+
+#[test]
+fn pads_to_a_width(rt: HostRuntime) {
+    for (bits, f, pad, want) in [
+        (
+            9830,
+            14,
+            pad(9, b'*', Align::Center, false, false),
+            "***0.6***",
+        ),
+        (
+            9830,
+            14,
+            pad(8, b'*', Align::Center, false, false),
+            "**0.6***",
+        ),
+        (
+            9830,
+            14,
+            pad(8, b' ', Align::Left, false, false),
+            "0.6     ",
+        ),
+        (
+            9830,
+            14,
+            pad(8, b' ', Align::Right, false, false),
+            "     0.6",
+        ),
+        (9830, 14, pad(8, b' ', Align::Left, false, true), "000000.6"),
+        (9830, 14, pad(0, b' ', Align::Left, true, false), "+0.6"),
+        (
+            -24576,
+            14,
+            pad(8, b' ', Align::Left, false, true),
+            "-00001.5",
+        ),
+        (
+            -24576,
+            14,
+            pad(9, b' ', Align::Left, true, true),
+            "-000001.5",
+        ),
+        (
+            16384,
+            14,
+            pad(9, b' ', Align::Left, true, true),
+            "+00000001",
+        ),
+        (-614, 10, pad(0, b' ', Align::Left, false, false), "-0.6"),
+    ] {
+        assert!(rt; pad.fill < 128);
+        let mut out = [b'#'; 12];
+        let shown = Shortest::new(bits, f);
+        assert_eq!(rt;
+            write_padded(shown.as_str(), &mut out, &pad),
+            Some(want.len())
+        );
+        assert!(rt; out.starts_with(want.as_bytes()), "at {want}");
+        assert!(rt; out.ends_with(b"###"), "at {want}");
+    }
+}
+
+#[test]
+fn refuses_to_pad_into_too_little_room(rt: HostRuntime) {
+    let mut short = [b'#'; 7];
+    let shown = Shortest::new(-24576, 14);
+    let zeros = pad(8, b' ', Align::Left, false, true);
+    assert_eq!(rt; write_padded(shown.as_str(), &mut short, &zeros), None);
+    assert_eq!(rt; short, *b"#######");
+}
+
+#[test]
+fn texts_and_numbers_of_faults(rt: HostRuntime) -> Result<(), Fail> {
+    let alloc = rt.alloc();
+    let syntax = format!(in alloc; "{} {:?}", DecimalFault::Syntax, DecimalFault::Syntax)?;
+    assert_eq!(rt; syntax.as_str(), "not a decimal number Syntax");
+    let range = format!(in alloc;
+        "{} {:?}",
+        DecimalFault::OutOfRange,
+        DecimalFault::OutOfRange
+    )?;
+    assert_eq!(rt; range.as_str(), "number out of range OutOfRange");
+    assert_eq!(rt; DecimalFault::Syntax as u8, 1);
+    assert_eq!(rt; DecimalFault::OutOfRange as u8, 2);
+    assert_eq!(rt; DecimalFault::Syntax.clone()?, DecimalFault::Syntax);
+    let shown = format!(in alloc; "{}", Shortest::new(-10139, 14))?;
+    assert_eq!(rt; shown.as_str(), "-0.61884");
+    assert_eq!(rt; reads_in_order("0.5", "-1", 6, -64, 64), (Ok(32), Ok(-64)));
+    Ok(())
+}
