@@ -1,11 +1,11 @@
 pub mod Near
 pub mod Texts
-pub mod Digits
-pub mod Rounding
 pub mod Readings
-pub mod Splits
-pub mod Fewest
-pub mod Written
 pub mod Order
 pub mod Padded
 pub mod Printed
+mod Digits
+mod Rounding
+mod Splits
+mod Fewest
+mod Written

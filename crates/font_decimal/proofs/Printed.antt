@@ -1,24 +1,27 @@
 -- What callers rely on of printed texts.
-use Rattle.std.proofs.Common.{◌≡◌, ◌≢◌, ℕ, zero, suc, ◌+◌, ◌-◌, ◌*◌, ◌/◌, ◌%◌, ◌^◌, ◌<◌, ◌≤◌, Bool, true, false, true≢false, List, [], ◌∷◌, ◌++◌, length, get_or, ℤ, pos, negsuc, refl, sym, ap, subst, ◌∙◌, arith, append_assoc, length-append}
-use Rattle.std.specs.Prelude.{◌≤ℤ◌, ◌<ℤ◌, unsigned_abs, Result, Ok}
+use Rattle.std.proofs.Common.{◌≡◌, ◌≢◌, ℕ, zero, suc, ◌+◌, ◌*◌, ◌/◌, ◌%◌, ◌^◌, ◌<◌, ◌≤◌, Bool, true, false, true≢false, List, [], ◌∷◌, ◌++◌, length, get_or, ℤ, pos, refl, sym, ap, subst, ◌∙◌, arith, append_assoc, length-append}
+use Rattle.std.specs.Prelude.{◌≤ℤ◌, unsigned_abs, Result, Ok}
 use Rattle.std.specs.Int.{is_negative, abs_diff}
 use Rattle.std.specs.Fmt.{decimal, sign_text}
 use Rattle.std.specs.Str.{IsAscii}
 use Rattle.std.specs.Str.Parse.{AllDigits}
-use Rattle.std.proofs.Math.Nat.{pow-suc, mul_comm, div-div-eq-div-mul, div-add-mod', div-one, lt_of_mul-lt-mul_left}
+use Rattle.std.proofs.Math.Nat.{pow-suc, mul_comm, div-div-eq-div-mul, div-add-mod', div-one}
 use Rattle.std.proofs.lemmas.Int.{ints}
 use Rattle.std.proofs.lemmas.List.{append-nil, same_from_push}
 use Rattle.std.proofs.lemmas.Fmt.{decimal_is_IsNumeral}
 use Rattle.std.proofs.lemmas.Str.Parse.{digit_from_value}
-use Rattle.font_decimal.specs.Near.{signed}
-use Rattle.font_decimal.specs.Grammar.{HasParts, Decimal, IsDecimal, Plain, point_text}
+use Rattle.font_decimal.specs.Grammar.{HasParts, IsDecimal, Plain, point_text}
 use Rattle.font_decimal.specs.Reading.{Rounds, Reads, IsReading}
-use Rattle.font_decimal.specs.Shortest.{IsShortest, nearest_numeral, reads_back, fewest_places, last_digits, shortest_text}
+use Rattle.font_decimal.specs.Shortest.{IsShortest, nearest_numeral, fewest_places, last_digits, shortest_text}
 use Rattle.font_decimal.specs.declared.reader.DecimalFault.{DecimalFault}
 use Rattle.font_decimal.proofs.Texts.{same_parts, decimal_unique, decimal_of, decimal_is_ascii}
 use Rattle.font_decimal.proofs.Readings.{rounds_unique, reading_unique}
 use Rattle.font_decimal.proofs.Fewest.{IsFewest, fewest_is, within_half, nearest_reads_back, abs_diff_times, unit_below}
 use Rattle.font_decimal.proofs.Written.{shortest_is, whole_fits, digits_fit, point_length}
+
+-- the text of a value is its shortest decimal
+pub printed_is_shortest : (b : ℤ) (f : ℕ) → unsigned_abs b ≤ 2 ^ 63 → IsShortest b f (shortest_text b f)
+printed_is_shortest = shortest_is
 
 -- a shortest text is in the grammar
 pub shortest_is_decimal : (b : ℤ) (f : ℕ) (text : List ℕ) → IsShortest b f text → IsDecimal text
