@@ -1,13 +1,16 @@
 //! Where the program's bytes come from and where they go.
 
-ghost use Rattle.std.specs.Prelude.{◌≡◌, ℕ, ◌≤◌, Bool, false, List, None, Option, length, IfOk};
+ghost use Rattle.std.specs.Prelude.{◌≡◌, ℕ, ◌≤◌, Bool, List, None, Option, length, IfOk};
 ghost use Rattle.std.specs.Io.KnownBytes.{ReadConsumes, WriteAppends};
 ghost use Rattle.fontval.specs.Device.{failed_after};
 
-use std::io::{Read, Write};
-
+mod from_read;
+mod from_write;
 #[cfg(test)]
 mod tests;
+
+pub use from_read::FromRead;
+pub use from_write::FromWrite;
 
 /// A read or a write failed. The device keeps that it has.
 #[derive(Drop)]
@@ -52,85 +55,4 @@ pub trait Sink {
     /// Whether a write has failed.
     fn has_failed(&self) -> bool
         ensures { result ≡ failed self.now };
-}
-
-/// A source over a reader. Each error of the reader is a failure, an interrupted call too.
-#[derive(Drop)]
-pub struct FromRead<R> {
-    reader: R,
-    failed: bool,
-}
-
-impl<R: Read> FromRead<R> {
-    /// A source that has not failed yet.
-    pub fn new(reader: R) -> Self
-        ensures left { ⟦<FromRead<R> as Source>⟧.left result ≡ R.remaining reader }
-        ensures sound { ⟦<FromRead<R> as Source>⟧.failed result ≡ false }
-    {
-        FromRead {
-            reader,
-            failed: false,
-        }
-    }
-}
-
-impl<R: Read> Source for FromRead<R> {
-    ghost left = { λ source. R.remaining source.reader };
-
-    ghost failed = { λ source. source.failed };
-
-    fn read(&mut self, buf: &mut [u8]) -> Result<usize, Failed> {
-        match self.reader.read(buf) {
-            Ok(n) => Ok(n),
-            Err(_) => {
-                self.failed = true;
-                Err(Failed)
-            }
-        }
-    }
-
-    fn has_failed(&self) -> bool {
-        self.failed
-    }
-}
-
-/// A sink over a writer. Each error of the writer is a failure, an interrupted call too, and so
-/// is a write of a nonempty slice that takes no byte.
-#[derive(Drop)]
-pub struct FromWrite<W> {
-    writer: W,
-    failed: bool,
-}
-
-impl<W: Write> FromWrite<W> {
-    /// A sink that has not failed yet.
-    pub fn new(writer: W) -> Self
-        ensures taken { ⟦<FromWrite<W> as Sink>⟧.taken result ≡ W.contents writer }
-        ensures sound { ⟦<FromWrite<W> as Sink>⟧.failed result ≡ false }
-    {
-        FromWrite {
-            writer,
-            failed: false,
-        }
-    }
-}
-
-impl<W: Write> Sink for FromWrite<W> {
-    ghost taken = { λ sink. W.contents sink.writer };
-
-    ghost failed = { λ sink. sink.failed };
-
-    fn write(&mut self, buf: &[u8]) -> Result<usize, Failed> {
-        match self.writer.write(buf) {
-            Ok(n) if n > 0 || buf.is_empty() => Ok(n),
-            _ => {
-                self.failed = true;
-                Err(Failed)
-            }
-        }
-    }
-
-    fn has_failed(&self) -> bool {
-        self.failed
-    }
 }

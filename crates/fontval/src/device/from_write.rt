@@ -1,0 +1,47 @@
+//! A writer as a sink.
+
+ghost use Rattle.std.specs.Prelude.{◌≡◌, false};
+
+use super::{Failed, Sink};
+use std::io::Write;
+
+/// A sink over a writer. Each error of the writer is a failure, an interrupted call too, and so
+/// is a write of a nonempty slice that takes no byte.
+#[derive(Drop)]
+pub struct FromWrite<W> {
+    writer: W,
+    failed: bool,
+}
+
+impl<W: Write> FromWrite<W> {
+    /// A sink that has not failed yet.
+    pub fn new(writer: W) -> Self
+        ensures taken { ⟦<FromWrite<W> as Sink>⟧.taken result ≡ W.contents writer }
+        ensures sound { ⟦<FromWrite<W> as Sink>⟧.failed result ≡ false }
+    {
+        FromWrite {
+            writer,
+            failed: false,
+        }
+    }
+}
+
+impl<W: Write> Sink for FromWrite<W> {
+    ghost taken = { λ sink. W.contents sink.writer };
+
+    ghost failed = { λ sink. sink.failed };
+
+    fn write(&mut self, buf: &[u8]) -> Result<usize, Failed> {
+        match self.writer.write(buf) {
+            Ok(n) if n > 0 || buf.is_empty() => Ok(n),
+            _ => {
+                self.failed = true;
+                Err(Failed)
+            }
+        }
+    }
+
+    fn has_failed(&self) -> bool {
+        self.failed
+    }
+}
