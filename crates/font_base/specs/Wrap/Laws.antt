@@ -124,7 +124,7 @@ test-FitsBits w z fits =
 
 -- ---- the widths of the number types
 
-half_range-bits : (w : Width) → half_range (bits w) ≡ 2 ^ hbits w
+pub half_range-bits : (w : Width) → half_range (bits w) ≡ 2 ^ hbits w
 half_range-bits w8 = refl
 half_range-bits w16 = refl
 half_range-bits w32 = refl

@@ -1,0 +1,65 @@
+-- What callers rely on of sums, floors and printed texts, over the bits of numbers with w bits and f bits of fraction.
+use Rattle.std.proofs.Common.{◌≡◌, ◌∙◌, sym, ap, ℕ, ◌-◌, ◌^◌, ◌<◌, ◌≤◌, ℤ, pos, neg_ℤ, ◌+ℤ◌, ◌*ℤ◌, ◌≤ℤ◌, ◌<ℤ◌, unsigned_abs, arith}
+use Rattle.std.proofs.lemmas.Int.{ints}
+use borrow.Author.Differences.{abs_is}
+use Rattle.font_base.specs.Wrap.{wrap, FitsBits}
+use Rattle.font_base.specs.Wrap.Laws.{wrap_is, wrap_same, wrap_fits, same_rest}
+use Rattle.font_decimal.specs.Shortest.{shortest_text}
+use Rattle.font_decimal.proofs.Near.{neg-times}
+use Rattle.font_decimal.proofs.Printed.{printed_rounds}
+use Rattle.font_arithmetic.specs.Operations.{IsFloor, IsFract, ReadsAs}
+
+-- ---- sums are a commutative group modulo 2^w
+
+-- wrapping a part of a sum first changes nothing
+pub wrap-add_left : (w : ℕ) (a b : ℤ) → 0 < w → wrap w (wrap w a +ℤ b) ≡ wrap w (a +ℤ b)
+wrap-add_left w a b some =
+    let given = wrap_is w a some in
+    sym (wrap_same w (a +ℤ b) (wrap w a +ℤ b) given.turns some (omega (arith, ints, given.differs)))
+
+pub sum_commutes : (w : ℕ) (a b : ℤ) → wrap w (a +ℤ b) ≡ wrap w (b +ℤ a)
+sum_commutes w a b = ap (wrap w) (omega (arith, ints))
+
+pub wrap-add_right : (w : ℕ) (a b : ℤ) → 0 < w → wrap w (a +ℤ wrap w b) ≡ wrap w (a +ℤ b)
+wrap-add_right w a b some = sum_commutes w a (wrap w b) ∙ wrap-add_left w b a some ∙ sum_commutes w b a
+
+pub sum_associates : (w : ℕ) (a b c : ℤ) → 0 < w → wrap w (wrap w (a +ℤ b) +ℤ c) ≡ wrap w (a +ℤ wrap w (b +ℤ c))
+sum_associates w a b c some =
+    wrap-add_left w (a +ℤ b) c some ∙ ap (wrap w) (omega (arith, ints)) ∙ sym (wrap-add_right w a (b +ℤ c) some)
+
+pub zero_is_neutral : (w : ℕ) (a : ℤ) → 0 < w → FitsBits w a → wrap w (a +ℤ pos 0) ≡ a
+zero_is_neutral w a some fits = let same : (a +ℤ pos 0) ≡ a = omega (arith, ints) in ap (wrap w) same ∙ wrap_fits w a some fits
+
+pub opposite_is_inverse : (w : ℕ) (a : ℤ) → 0 < w → wrap w (a +ℤ wrap w (neg_ℤ a)) ≡ wrap w (pos 0)
+opposite_is_inverse w a some = wrap-add_right w a (neg_ℤ a) some ∙ ap (wrap w) (omega (arith, ints))
+
+-- ---- the floor and what is above it make the number, and the latter is from 0 to a step below 1
+
+no_rest : (p k : ℤ) (d : ℕ) → p ≡ (k *ℤ pos d) → (p +ℤ (neg_ℤ k *ℤ pos d)) ≡ pos 0
+no_rest p k d is = ap (λ y. p +ℤ y) (neg-times k d) ∙ cancels p (k *ℤ pos d) is
+  where
+    cancels : (p q : ℤ) → p ≡ q → (p +ℤ neg_ℤ q) ≡ pos 0
+    cancels p q is = omega (arith, ints, is)
+
+one_floor : (f : ℕ) (b p q : ℤ) → IsFloor f b p → IsFloor f b q → p ≡ q
+one_floor f b p q x y =
+    same_rest (2 ^ f) p q (neg_ℤ x.whole) (neg_ℤ y.whole) (near b p q (2 ^ f) x.low y.high) (near b q p (2 ^ f) y.low x.high)
+    (no_rest p x.whole (2 ^ f) x.bits ∙ sym (no_rest q y.whole (2 ^ f) y.bits))
+  where
+    near : (b p q : ℤ) (d : ℕ) → p ≤ℤ b → b <ℤ (q +ℤ pos d) → p <ℤ (q +ℤ pos d)
+    near b p q d low high = omega (arith, ints, low, high)
+
+pub floor_and_fract : (f : ℕ) (b p r : ℤ) → IsFloor f b p → IsFract f b r → (p +ℤ r) ≡ b
+floor_and_fract f b p r floor fract = omega (arith, ints, one_floor f b p fract.floor floor fract.is_floor, fract.rest)
+
+pub fract_is_below_one : (f : ℕ) (b r : ℤ) → IsFract f b r → (pos 0 ≤ℤ r) × (r <ℤ pos (2 ^ f))
+fract_is_below_one f b r fract =
+    let floor = fract.is_floor in
+    (omega (arith, ints, fract.rest, floor.low), omega (arith, ints, fract.rest, floor.high))
+
+-- ---- the printed text of a number is read as that number
+
+pub printed_reads : (w f : ℕ) (b : ℤ) → 2 ^ (w - 1) ≤ 2 ^ 63 → FitsBits w b → ReadsAs w f (shortest_text b f) b
+printed_reads w f b room fits =
+    let below : unsigned_abs b ≤ 2 ^ 63 = omega (arith, ints, fits.low, fits.high, abs_is b, room) in
+    record { rounds = printed_rounds b f below; low = fits.low; high = omega (arith, ints, fits.high) }

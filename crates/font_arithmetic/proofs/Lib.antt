@@ -1,0 +1,5 @@
+pub mod Wrapped
+pub mod Rounding
+pub mod Texts
+pub mod Laws
+pub mod Group

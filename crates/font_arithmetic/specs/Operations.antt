@@ -1,0 +1,76 @@
+-- What each operation on fixed-point numbers gives, over their bits. A number of w bits with f bits of fraction stands for its bits
+-- over 2^f (OpenType, data types: Fixed is 16.16, F2DOT14 is 2.14).
+pub mod Laws
+use Rattle.std.specs.Prelude.{◌≡◌, ℕ, zero, suc, ◌-◌, ◌^◌, Bool, not, List, ℤ, pos, negsuc, neg_ℤ, ◌+ℤ◌, ◌-ℤ◌, ◌*ℤ◌, ◌≤ℤ◌, ◌<ℤ◌, if◌then◌else◌}
+use Rattle.std.specs.Int.{is_negative, saturate_to_bits}
+use Rattle.font_base.specs.Wrap.{half_range, wrap}
+use Rattle.font_decimal.specs.Near.{signed, Near, Up}
+use Rattle.font_decimal.specs.Reading.{Reads, IsOutOfRange}
+
+-- r is n / d rounded to the nearest whole number, ties away from zero, and wrapped to w bits
+pub record IsRounded (w : ℕ) (n : ℤ) (d : ℕ) (r : ℤ) : Type 0 where
+  pub exact : ℤ
+  pub nearest : Near n d exact
+  pub wrapped : r ≡ wrap w exact
+
+-- r is b / d rounded to the nearest whole number, ties upwards, and wrapped to w bits
+pub record IsNarrowed (w : ℕ) (b : ℤ) (d : ℕ) (r : ℤ) : Type 0 where
+  pub exact : ℤ
+  pub nearest : Up b d exact
+  pub wrapped : r ≡ wrap w exact
+
+-- r is the bits of the whole number nearest to b / 2^f, ties upwards, and wrapped to w bits
+pub record IsRound (w f : ℕ) (b r : ℤ) : Type 0 where
+  pub whole : ℤ
+  pub nearest : Up b (2 ^ f) whole
+  pub wrapped : r ≡ wrap w (whole *ℤ pos (2 ^ f))
+
+-- r is the bits of the greatest whole number that is not above b / 2^f
+pub record IsFloor (f : ℕ) (b r : ℤ) : Type 0 where
+  pub whole : ℤ
+  pub bits : r ≡ (whole *ℤ pos (2 ^ f))
+  pub low : r ≤ℤ b
+  pub high : b <ℤ (r +ℤ pos (2 ^ f))
+
+-- r is what b has above its floor
+pub record IsFract (f : ℕ) (b r : ℤ) : Type 0 where
+  pub floor : ℤ
+  pub is_floor : IsFloor f b floor
+  pub rest : r ≡ (b -ℤ floor)
+
+-- the least and the greatest number of w bits
+abbrev pub least : ℕ → ℤ
+least w = neg_ℤ (pos (half_range w))
+
+abbrev pub greatest : ℕ → ℤ
+greatest w = pos (half_range w - 1)
+
+-- the text is read as the number of w bits with f bits of fraction whose bits are b
+abbrev pub ReadsAs : ℕ → ℕ → List ℕ → ℤ → Type 0
+ReadsAs w f text b = Reads text f (least w) (greatest w) b
+
+-- the text is a decimal too far from zero for a number of w bits with f bits of fraction
+abbrev pub IsTooFar : ℕ → ℕ → List ℕ → Type 0
+IsTooFar w f text = IsOutOfRange text f (least w) (greatest w)
+
+-- the number of w bits that is nearest to z
+abbrev pub clamp : ℕ → ℤ → ℤ
+clamp w z = saturate_to_bits (w - 1) z
+
+-- just one of two numbers is negative
+abbrev pub differ_in_sign : ℤ → ℤ → Bool
+differ_in_sign x y = if is_negative x then not (is_negative y) else is_negative y
+
+-- r is the product of the numbers with bits x and y: their exact product, rounded and wrapped
+abbrev pub IsProduct : ℕ → ℕ → ℤ → ℤ → ℤ → Type 0
+IsProduct w f x y r = IsRounded w (x *ℤ y) (2 ^ f) r
+
+-- r is x * a / c rounded and wrapped. A zero divisor gives the greatest number of w bits, negated where just one of x and a is negative.
+abbrev pub IsMulDiv : ℕ → ℤ → ℤ → ℤ → ℤ → Type 0
+IsMulDiv w x a (pos zero) r = r ≡ signed (differ_in_sign x a) (half_range w - 1)
+IsMulDiv w x a (pos (suc c)) r = IsRounded w (x *ℤ a) (suc c) r
+IsMulDiv w x a (negsuc c) r = IsRounded w (neg_ℤ (x *ℤ a)) (suc c) r
+
+-- r is the quotient of the numbers with bits x and y: x * 2^f / y, rounded and wrapped
+abbrev pub IsQuotient : ℕ → ℕ → ℤ → ℤ → ℤ → Type 0
+IsQuotient w f x y r = IsMulDiv w x (pos (2 ^ f)) y r

@@ -1,0 +1,11 @@
+-- The fixed-point number of 32 bits with 16 bits of fraction (OpenType, data types: Fixed, "32-bit signed fixed-point number (16.16)").
+use Rattle.std.specs.Prelude.{ℤ}
+use Rattle.font_fixed.specs.declared.fixed.Fixed.{Fixed}
+
+-- the bits of a `Fixed`, which stand for their number over 2^16
+abbrev pub fixed_bits : Fixed → ℤ
+fixed_bits x = x.0
+
+-- the `Fixed` of these bits
+abbrev pub fixed_of : ℤ → Fixed
+fixed_of bits = record { 0 = bits }

@@ -1,0 +1,2 @@
+pub mod Fixed
+pub use Rattle.font_arithmetic.specs.Operations

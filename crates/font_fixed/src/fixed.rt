@@ -1,0 +1,413 @@
+//! The fixed-point number of 32 bits with 16 bits of fraction.
+
+ghost use Rattle.std.specs.Prelude.{◌≡◌, ◌+◌, ◌-◌, ◌^◌, ◌<◌, ◌≤◌, ◌↔◌, ℤ, pos, negsuc, neg_ℤ, ◌+ℤ◌, ◌-ℤ◌, ◌*ℤ◌, Some, IsSome, IfSome, IfNone, IfOk, refl, length, unsigned_abs};
+ghost use Rattle.std.proofs.Common.{ap, lit<};
+ghost use Rattle.std.specs.Int.{is_negative};
+ghost use Rattle.font_base.specs.Wrap.{FitsBits, fits_bits, wrap};
+ghost use Rattle.font_base.specs.Bytes.{IsBytesOf, bytes_of, signed_numeral};
+ghost use Rattle.font_decimal.specs.Grammar.{IsNoDecimal};
+ghost use Rattle.font_decimal.specs.Padding.{padded_text, FillsFront};
+ghost use Rattle.font_decimal.specs.Near.{signed, near_magnitude};
+ghost use Rattle.font_decimal.specs.Shortest.{IsShortest, shortest_text};
+ghost use Rattle.font_decimal.specs.Shown.{shown};
+ghost use Rattle.font_arithmetic.specs.Operations.{IsRounded, IsNarrowed, IsRound, IsFloor, IsFract, clamp, differ_in_sign, IsProduct, IsQuotient, IsMulDiv, ReadsAs, IsTooFar};
+ghost use Rattle.font_base.specs.Bytes.Laws.{are_bytes-bytes_of, bytes_of-signed_numeral, signed_value, signed_back};
+ghost use Rattle.font_arithmetic.specs.Operations.Laws.{same_bits_identity};
+
+use font_base::{FixedSize, IdentityEq, Scalar};
+use font_decimal::{DecimalFault, Pad, Shortest, read_decimal};
+use std::fmt;
+use std::ops::{Add, AddAssign, Div, DivAssign, Mul, MulAssign, Neg, Sub, SubAssign};
+
+/// A fixed-point number of 32 bits, the last 16 of which are its fraction.
+///
+/// Its bits are counted in steps of `1 / 65536`: `Fixed::from_bits(0x18000)` is 1.5. Sums, products and quotients
+/// that leave the range wrap.
+#[derive(Clone, Copy, PartialEq, Eq, PartialOrd, Ord, Hash, Default)]
+pub struct Fixed(i32);
+
+impl Fixed {
+    ghost use Rattle.font_fixed.specs.declared.fixed.Fixed.{Fixed};
+    ghost use Rattle.font_fixed.specs.Fixed.{fixed_bits};
+
+    /// The least value, -32768.
+    pub const MIN: Self = Self(-0x8000_0000);
+
+    /// The greatest value, a step below 32768.
+    pub const MAX: Self = Self(0x7FFF_FFFF);
+
+    /// One step, `1 / 65536`.
+    pub const EPSILON: Self = Self(1);
+
+    /// 0.
+    pub const ZERO: Self = Self(0);
+
+    /// 1.
+    pub const ONE: Self = Self(0x1_0000);
+
+    /// -1.
+    pub const NEG_ONE: Self = Self(-0x1_0000);
+
+    const FRACTION_BITS: u32 = 16;
+
+    /// The number with these bits.
+    pub fn from_bits(bits: i32) -> Self
+        ensures { fixed_bits result ≡ bits }
+    {
+        Self(bits)
+    }
+
+    /// The bits.
+    pub fn to_bits(self) -> i32
+        ensures { result ≡ fixed_bits self }
+    {
+        self.0
+    }
+
+    /// The nearest whole number, ties upwards. It wraps: `Fixed::MAX.round()` is `Fixed::MIN`.
+    pub fn round(self) -> Self
+        ensures { IsRound 32 16 (fixed_bits self) (fixed_bits result) }
+    {
+        self.wrapping_add(Self(0x8000)).floor()
+    }
+
+    /// The greatest whole number that is not above the number.
+    pub fn floor(self) -> Self
+        ensures { IsFloor 16 (fixed_bits self) (fixed_bits result) }
+    {
+        Self(self.0 - self.fract().0)
+    }
+
+    /// What the number has above its floor, from 0 to a step below 1.
+    pub fn fract(self) -> Self
+        ensures { IsFract 16 (fixed_bits self) (fixed_bits result) }
+    {
+        Self(self.0.rem_euclid(0x1_0000))
+    }
+
+    /// The number without its sign. It wraps: `Fixed::MIN.abs()` is `Fixed::MIN`.
+    pub fn abs(self) -> Self
+        ensures { fixed_bits result ≡ wrap 32 (pos (unsigned_abs (fixed_bits self))) }
+    {
+        Self(self.0.wrapping_abs())
+    }
+
+    /// The sum, wrapped.
+    pub fn wrapping_add(self, other: Self) -> Self
+        ensures { fixed_bits result ≡ wrap 32 (fixed_bits self +ℤ fixed_bits other) }
+    {
+        Self(self.0.wrapping_add(other.0))
+    }
+
+    /// The difference, wrapped.
+    pub fn wrapping_sub(self, other: Self) -> Self
+        ensures { fixed_bits result ≡ wrap 32 (fixed_bits self -ℤ fixed_bits other) }
+    {
+        Self(self.0.wrapping_sub(other.0))
+    }
+
+    /// The sum, or the nearest end of the range where it is out of it.
+    pub fn saturating_add(self, other: Self) -> Self
+        ensures { fixed_bits result ≡ clamp 32 (fixed_bits self +ℤ fixed_bits other) }
+    {
+        Self(self.0.saturating_add(other.0))
+    }
+
+    /// The difference, or the nearest end of the range where it is out of it.
+    pub fn saturating_sub(self, other: Self) -> Self
+        ensures { fixed_bits result ≡ clamp 32 (fixed_bits self -ℤ fixed_bits other) }
+    {
+        Self(self.0.saturating_sub(other.0))
+    }
+
+    /// The sum, or `None` where it is out of range.
+    pub fn checked_add(self, other: Self) -> Option<Self>
+        ensures variant { IsSome result ↔ FitsBits 32 (fixed_bits self +ℤ fixed_bits other) }
+        ensures value { IfSome result (λ sum. fixed_bits sum ≡ (fixed_bits self +ℤ fixed_bits other)) }
+    {
+        Some(Self(self.0.checked_add(other.0)?))
+    }
+
+    /// The four bytes of the bits, highest first.
+    pub fn to_be_bytes(self) -> [u8; 4]
+        ensures { IsBytesOf 4 (fixed_bits self) result }
+    {
+        self.0.to_raw()
+    }
+
+    /// `self * a / c`, rounded once to the nearest step, ties away from zero, and wrapped.
+    ///
+    /// Where `c` is zero it is the greatest number, negated where just one of `self` and `a` is negative.
+    pub fn mul_div(&self, a: Self, c: Self) -> Self
+        ensures { IsMulDiv 32 (fixed_bits self.now) (fixed_bits a) (fixed_bits c) (fixed_bits result) }
+    {
+        let product = self.magnitude() * a.magnitude();
+        let negative = self.differs_in_sign(a) != c.is_negative();
+        Self::with_sign(negative, rounded_quotient(product, c.magnitude()))
+    }
+
+    /// A whole number, wrapped.
+    pub fn from_i32(number: i32) -> Self
+        ensures { fixed_bits result ≡ wrap 32 (number *ℤ pos (2 ^ 16)) }
+    {
+        Self(number.wrapping_mul(0x1_0000))
+    }
+
+    /// The nearest whole number, ties upwards, wrapped to 16 bits.
+    pub fn to_i32(self) -> i32
+        ensures { IsNarrowed 16 (fixed_bits self) (2 ^ 16) result }
+    {
+        self.wrapping_add(Self(0x8000)).0 >> 16
+    }
+
+    /// The number nearest to a decimal text, ties away from zero.
+    ///
+    /// `Fixed::from_decimal("1.5")` has bits 98304. A text outside the grammar is refused as `Syntax`, one whose
+    /// nearest number is out of range as `OutOfRange`.
+    pub fn from_decimal(text: &str) -> Result<Self, DecimalFault>
+        ensures ok { (x : Fixed) → (result ≡ Ok x) ↔ ReadsAs 32 16 text.now (fixed_bits x) }
+        ensures reads { IfOk result (λ x. ReadsAs 32 16 text.now (fixed_bits x)) }
+        ensures out_of_range { (result ≡ Err DecimalFault.OutOfRange) ↔ IsTooFar 32 16 text.now }
+        ensures syntax { (result ≡ Err DecimalFault.Syntax) ↔ IsNoDecimal text.now }
+    {
+        let bits = read_decimal(
+            text,
+            Self::FRACTION_BITS,
+            i64::from(i32::MIN),
+            i64::from(i32::MAX),
+        )?;
+        Ok(Self(bits as i32))
+    }
+
+    /// Writes the printed text to the front of `out`, padded, and returns the number of bytes; `None` where `out` is
+    /// too short, which then stays as it was.
+    pub fn write_padded(self, out: &mut [u8], pad: &Pad) -> Option<usize>
+        requires { pad.now.fill < 128 }
+        ensures written { IfSome result (λ n. FillsFront (padded_text (shortest_text (fixed_bits self) 16) pad.now) n out.old out.new) }
+        ensures room { IsSome result ↔ (length (padded_text (shortest_text (fixed_bits self) 16) pad.now) ≤ length out.old) }
+        ensures untouched { IfNone result (out.new ≡ out.old) }
+    {
+        font_decimal::write_padded(self.shortest().as_str(), out, pad)
+    }
+
+    fn shortest(self) -> Shortest
+        ensures shortest { IsShortest (fixed_bits self) 16 (shown result) }
+        ensures text { shown result ≡ shortest_text (fixed_bits self) 16 }
+    {
+        Shortest::new(i64::from(self.0), Self::FRACTION_BITS)
+    }
+
+    fn is_negative(self) -> bool
+        ensures { result ≡ is_negative (fixed_bits self) }
+    {
+        self.0.is_negative()
+    }
+
+    fn differs_in_sign(self, other: Self) -> bool
+        ensures { result ≡ differ_in_sign (fixed_bits self) (fixed_bits other) }
+    {
+        self.is_negative() != other.is_negative()
+    }
+
+    // The bits without their sign.
+    fn magnitude(self) -> u64
+        ensures value { result ≡ unsigned_abs (fixed_bits self) }
+        ensures bound { result ≤ 2 ^ 31 }
+    {
+        u64::from(self.0.unsigned_abs())
+    }
+
+    // The number whose bits have this magnitude, negated where asked, and wrapped.
+    fn with_sign(negative: bool, magnitude: u64) -> Self
+        ensures { fixed_bits result ≡ wrap 32 (signed negative magnitude) }
+    {
+        let number = Self(((magnitude % (1 << 32)) as u32).cast_signed());
+        if negative { -number } else { number }
+    }
+}
+
+// `n / d` rounded to the nearest whole number, ties away from zero; where `d` is zero, the greatest of 32 bits.
+fn rounded_quotient(n: u64, d: u64) -> u64
+    requires { (n ≤ 2 ^ 62) × (d ≤ 2 ^ 31) }
+    ensures quotient { 0 < d → result ≡ near_magnitude n d }
+    ensures zero { d ≡ 0 → result ≡ 2 ^ 31 - 1 }
+{
+    if d == 0 { 0x7FFF_FFFF } else { (n + d / 2) / d }
+}
+
+impl Add for Fixed {
+    ghost use Rattle.font_fixed.specs.Fixed.{fixed_bits};
+
+    type Output = Fixed;
+
+    ghost add_gives = { λ x y sum. fixed_bits sum ≡ wrap 32 (fixed_bits x +ℤ fixed_bits y) };
+
+    fn add(self, other: Fixed) -> Fixed {
+        self.wrapping_add(other)
+    }
+}
+
+impl AddAssign for Fixed {
+    ghost use Rattle.font_fixed.specs.Fixed.{fixed_bits};
+
+    ghost add_assign_gives = { λ x y sum. fixed_bits sum ≡ wrap 32 (fixed_bits x +ℤ fixed_bits y) };
+
+    fn add_assign(&mut self, other: Fixed) {
+        *self = *self + other;
+    }
+}
+
+impl Sub for Fixed {
+    ghost use Rattle.font_fixed.specs.Fixed.{fixed_bits};
+
+    type Output = Fixed;
+
+    ghost sub_gives = { λ x y rest. fixed_bits rest ≡ wrap 32 (fixed_bits x -ℤ fixed_bits y) };
+
+    fn sub(self, other: Fixed) -> Fixed {
+        self.wrapping_sub(other)
+    }
+}
+
+impl SubAssign for Fixed {
+    ghost use Rattle.font_fixed.specs.Fixed.{fixed_bits};
+
+    ghost sub_assign_gives = { λ x y rest. fixed_bits rest ≡ wrap 32 (fixed_bits x -ℤ fixed_bits y) };
+
+    fn sub_assign(&mut self, other: Fixed) {
+        *self = *self - other;
+    }
+}
+
+impl Neg for Fixed {
+    ghost use Rattle.font_fixed.specs.Fixed.{fixed_bits};
+
+    type Output = Fixed;
+
+    ghost neg_gives = { λ x opposite. fixed_bits opposite ≡ wrap 32 (neg_ℤ (fixed_bits x)) };
+
+    fn neg(self) -> Fixed {
+        Self(self.0.wrapping_neg())
+    }
+}
+
+impl Mul for Fixed {
+    ghost use Rattle.font_fixed.specs.Fixed.{fixed_bits};
+
+    type Output = Fixed;
+
+    ghost mul_gives = { λ x y product. IsProduct 32 16 (fixed_bits x) (fixed_bits y) (fixed_bits product) };
+
+    fn mul(self, other: Fixed) -> Fixed {
+        let product = self.magnitude() * other.magnitude();
+        Self::with_sign(
+            self.differs_in_sign(other),
+            rounded_quotient(product, 0x1_0000),
+        )
+    }
+}
+
+impl MulAssign for Fixed {
+    ghost use Rattle.font_fixed.specs.Fixed.{fixed_bits};
+
+    ghost mul_assign_gives = { λ x y product. IsProduct 32 16 (fixed_bits x) (fixed_bits y) (fixed_bits product) };
+
+    fn mul_assign(&mut self, other: Fixed) {
+        *self = *self * other;
+    }
+}
+
+/// A zero divisor gives `Fixed::MAX`, or its opposite where the dividend is negative.
+impl Div for Fixed {
+    ghost use Rattle.font_fixed.specs.Fixed.{fixed_bits};
+
+    type Output = Fixed;
+
+    ghost div_gives = { λ x y quotient. IsQuotient 32 16 (fixed_bits x) (fixed_bits y) (fixed_bits quotient) };
+
+    fn div(self, other: Fixed) -> Fixed {
+        self.mul_div(Self::ONE, other)
+    }
+}
+
+impl DivAssign for Fixed {
+    ghost use Rattle.font_fixed.specs.Fixed.{fixed_bits};
+
+    ghost div_assign_gives = { λ x y quotient. IsQuotient 32 16 (fixed_bits x) (fixed_bits y) (fixed_bits quotient) };
+
+    fn div_assign(&mut self, other: Fixed) {
+        *self = *self / other;
+    }
+}
+
+impl From<i32> for Fixed {
+    ghost use Rattle.font_fixed.specs.Fixed.{fixed_bits};
+
+    ghost from_gives = { λ number fixed. fixed_bits fixed ≡ wrap 32 (number *ℤ pos (2 ^ 16)) };
+
+    fn from(number: i32) -> Fixed {
+        Fixed::from_i32(number)
+    }
+}
+
+impl fmt::Display for Fixed {
+    ghost use Rattle.font_fixed.specs.Fixed.{fixed_bits};
+
+    ghost output = { λ x. Some (shortest_text (fixed_bits x) 16) };
+
+    fn fmt<W: fmt::Write>(&self, f: &mut fmt::Formatter<W>) -> fmt::Result {
+        fmt::Display::fmt(&self.shortest(), f)
+    }
+}
+
+impl fmt::Debug for Fixed {
+    ghost use Rattle.font_fixed.specs.Fixed.{fixed_bits};
+
+    ghost debug_output = { λ x. Some (shortest_text (fixed_bits x) 16) };
+
+    fn fmt<W: fmt::Write>(&self, f: &mut fmt::Formatter<W>) -> fmt::Result {
+        fmt::Display::fmt(&self.shortest(), f)
+    }
+}
+
+impl FixedSize for Fixed {
+    const RAW_BYTE_LEN: usize = 4;
+
+    ghost RAW_BYTE_LEN = { 4 };
+}
+
+impl Scalar for Fixed {
+    ghost use Rattle.font_fixed.specs.Fixed.{fixed_bits, fixed_of};
+
+    type Raw = [u8; 4];
+
+    ghost is_scalar = { λ x. fits_bits 32 (fixed_bits x) };
+
+    ghost of_raw = { λ bytes. fixed_of (signed_numeral 4 bytes) };
+
+    ghost raw_of = { λ x. bytes_of 4 (fixed_bits x) };
+
+    ghost of_raw_value = { signed_value 4 (lit< tt) };
+
+    ghost raw_of_value = { λ x _. are_bytes-bytes_of 4 (fixed_bits x) };
+
+    ghost back = { λ x value. ap fixed_of (signed_back 4 (lit< tt) (fixed_bits x) value) };
+
+    ghost forth = { λ bytes. bytes_of-signed_numeral 4 bytes (lit< tt) };
+
+    ghost lengths_agree = { refl };
+
+    fn from_raw(raw: [u8; 4]) -> Fixed {
+        Self(i32::from_raw(raw))
+    }
+
+    fn to_raw(self) -> [u8; 4] {
+        self.0.to_raw()
+    }
+}
+
+impl IdentityEq for Fixed {
+    ghost use Rattle.font_fixed.specs.Fixed.{fixed_bits, fixed_of};
+
+    ghost identity = { same_bits_identity fixed_bits fixed_of (λ _. refl) };
+}

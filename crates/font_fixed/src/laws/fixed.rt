@@ -1,0 +1,28 @@
+//! Laws of `Fixed`, as contracts of functions that make the calls.
+
+ghost use Rattle.font_fixed.specs.Fixed.{fixed_bits};
+ghost use Rattle.font_arithmetic.specs.NumberLaws.{OnFour, ProductLaws, QuotientLaws};
+
+use crate::Fixed;
+
+/// `x * y`, `y * x`, `x * ONE` and `x.mul_div(y, ONE)`.
+///
+/// The first, the second and the last are equal, and the third is `x`.
+pub fn product_laws(x: Fixed, y: Fixed) -> [Fixed; 4]
+    ensures { OnFour result (λ product flipped by_one in_one_step.
+        ProductLaws 32 16 (fixed_bits x) (fixed_bits y)
+        (fixed_bits product) (fixed_bits flipped) (fixed_bits by_one) (fixed_bits in_one_step)) }
+{
+    [x * y, y * x, x * Fixed::ONE, x.mul_div(y, Fixed::ONE)]
+}
+
+/// `x / y`, `x.mul_div(ONE, y)`, `x / ONE` and `x / x`.
+///
+/// The first two are equal, also where `y` is zero; the third is `x`, and the last is `ONE` where `x` is not zero.
+pub fn quotient_laws(x: Fixed, y: Fixed) -> [Fixed; 4]
+    ensures { OnFour result (λ quotient in_one_step by_one by_itself.
+        QuotientLaws 32 16 (fixed_bits x) (fixed_bits y)
+        (fixed_bits quotient) (fixed_bits in_one_step) (fixed_bits by_one) (fixed_bits by_itself)) }
+{
+    [x / y, x.mul_div(Fixed::ONE, y), x / Fixed::ONE, x / x]
+}

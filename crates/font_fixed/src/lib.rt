@@ -1,0 +1,7 @@
+//! Fixed-point numbers.
+#![tactic(auto)]
+
+mod fixed;
+pub mod laws;
+
+pub use fixed::Fixed;
