@@ -5,3 +5,6 @@ mod fixed;
 pub mod laws;
 
 pub use fixed::Fixed;
+
+#[cfg(test)]
+mod tests;
