@@ -1,10 +1,13 @@
 -- The program's output for an input, by the program's own rule.
 use Rattle.std.specs.Prelude.{◌≡◌, ℕ, List, [], ◌∷◌, ◌++◌, codes, decimal, Result, Ok, Err}
 use Rattle.std.specs.Fmt.{signed_decimal}
+use Rattle.hex.specs.Hex.{encode_lower}
+use Rattle.font_decimal.specs.Shortest.{shortest_text}
+use Rattle.font_fixed.specs.Fixed.{fixed_bits}
 use Rattle.fontval.specs.Command.{IsResult}
 use Rattle.fontval.specs.Text.{lines_of, words_of}
 use Rattle.fontval.specs.declared.command.Answer.{Answer}
-use Rattle.fontval.specs.declared.command.Answer.TheVariants.{Number}
+use Rattle.fontval.specs.declared.command.Answer.TheVariants.{Number, Fixed, Bytes4}
 use Rattle.fontval.specs.declared.command.Refusal.{Refusal}
 use Rattle.fontval.specs.declared.command.Refusal.TheVariants.{UnknownCommand, WordCount, NotHexadecimal, NotDecimal, OutOfRange, NotWhole}
 
@@ -20,6 +23,8 @@ refusal_number NotWhole = 6
 -- the text of an answer
 abbrev pub answer_text : Answer → List ℕ
 answer_text (Number n) = signed_decimal n
+answer_text (Fixed x) = shortest_text (fixed_bits x) 16
+answer_text (Bytes4 bytes) = encode_lower bytes
 
 -- the text of an answer, or that of a refusal
 abbrev pub text_of : Result Answer Refusal → List ℕ

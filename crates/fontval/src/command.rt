@@ -1,11 +1,13 @@
 //! The commands, and what they answer.
 
 ghost use Rattle.std.specs.Prelude.{◌≡◌, MatchResult, find, bytes_eq};
-ghost use Rattle.fontval.specs.Command.{command_named, hexadecimal, integer, name_of, only_word, IsResult};
+ghost use Rattle.fontval.specs.Command.{command_named, fixed_point, hexadecimal, integer, name_of, only_word, two_words, IsRead, IsResult, IsResultOf};
 ghost use Rattle.fontval.specs.Text.{words_of};
 
 use crate::text::Words;
 use font_base::{Int24, Scalar, Uint24};
+use font_decimal::DecimalFault;
+use font_fixed::Fixed;
 use hex::FromHex;
 
 /// What a line asks for.
@@ -13,6 +15,10 @@ use hex::FromHex;
 pub enum Command {
     /// The number that a hexadecimal word's bytes stand for.
     Integer(IntegerType),
+    /// The fixed-point number whose bits a hexadecimal word's bytes are.
+    FixedPoint(FixedType),
+    /// The bytes of the fixed-point number that a decimal text is read as, of the type named first.
+    Read,
 }
 
 /// The integer types of OpenType, by how their bytes are read.
@@ -29,11 +35,22 @@ pub enum IntegerType {
     Int64,
 }
 
+/// The fixed-point types of OpenType, by how their bits are read.
+#[derive(Clone, Copy)]
+pub enum FixedType {
+    /// 32 bits, 16 of them fraction.
+    Fixed,
+}
+
 /// What a command answers.
 #[derive(Clone, Copy)]
 pub enum Answer {
     /// A whole number, shown in decimal.
     Number(i64),
+    /// A fixed-point number, shown as its shortest decimal.
+    Fixed(Fixed),
+    /// Four bytes, shown in lower-case hexadecimal.
+    Bytes4([u8; 4]),
 }
 
 /// Why a line is refused. It is shown by its number.
@@ -54,7 +71,7 @@ pub enum Refusal {
 }
 
 impl Command {
-    const ALL: [Command; 9] = [
+    const ALL: [Command; 11] = [
         Command::Integer(IntegerType::Uint8),
         Command::Integer(IntegerType::Int8),
         Command::Integer(IntegerType::Uint16),
@@ -64,6 +81,8 @@ impl Command {
         Command::Integer(IntegerType::Uint32),
         Command::Integer(IntegerType::Int32),
         Command::Integer(IntegerType::Int64),
+        Command::FixedPoint(FixedType::Fixed),
+        Command::Read,
     ];
 
     // The word that a line names it by.
@@ -80,6 +99,8 @@ impl Command {
             Command::Integer(IntegerType::Uint32) => b"uint32",
             Command::Integer(IntegerType::Int32) => b"int32",
             Command::Integer(IntegerType::Int64) => b"int64",
+            Command::FixedPoint(FixedType::Fixed) => b"fixed",
+            Command::Read => b"read",
         }
     }
 
@@ -110,6 +131,8 @@ pub fn result_of(line: &[u8]) -> Result<Answer, Refusal>
     let command = words.next().and_then(Command::named);
     match command.ok_or(Refusal::UnknownCommand)? {
         Command::Integer(kind) => integer(kind, only_word(words)?),
+        Command::FixedPoint(kind) => fixed_point(kind, only_word(words)?),
+        Command::Read => read_words(words),
     }
 }
 
@@ -121,6 +144,18 @@ fn only_word(mut words: Words<'_>) -> Result<&[u8], Refusal>
 {
     match (words.next(), words.next()) {
         (Some(word), None) => Ok(word),
+        _ => Err(Refusal::WordCount),
+    }
+}
+
+// The words of a command that takes two.
+fn two_words(mut words: Words<'_>) -> Result<(&[u8], &[u8]), Refusal>
+    ensures { MatchResult result
+        (λ pair. two_words (words_of words.entry.rest.now) ≡ Ok (pair.0.now, pair.1.now))
+        (λ refusal. two_words (words_of words.entry.rest.now) ≡ Err refusal) }
+{
+    match (words.next(), words.next(), words.next()) {
+        (Some(first), Some(second), None) => Ok((first, second)),
         _ => Err(Refusal::WordCount),
     }
 }
@@ -141,6 +176,47 @@ fn integer(kind: IntegerType, word: &[u8]) -> Result<Answer, Refusal>
         IntegerType::Int64 => i64::from_raw(from_hex(word)?),
     };
     Ok(Answer::Number(number))
+}
+
+// The fixed-point number whose bits the bytes of a hexadecimal word are.
+fn fixed_point(kind: FixedType, word: &[u8]) -> Result<Answer, Refusal>
+    ensures { result ≡ fixed_point kind word.now }
+{
+    match kind {
+        FixedType::Fixed => Ok(Answer::Fixed(Fixed::from_raw(from_hex(word)?))),
+    }
+}
+
+// The bytes of the number that the second word is read as, of the type that the first names.
+fn read_words(words: Words<'_>) -> Result<Answer, Refusal>
+    ensures { IsResultOf Command.Read (words_of words.entry.rest.now) result }
+{
+    let (name, text) = two_words(words)?;
+    match Command::named(name) {
+        Some(Command::FixedPoint(kind)) => read(kind, text),
+        _ => Err(Refusal::UnknownCommand),
+    }
+}
+
+fn read(kind: FixedType, word: &[u8]) -> Result<Answer, Refusal>
+    ensures { IsRead kind word.now result }
+{
+    match kind {
+        FixedType::Fixed => read_fixed(word),
+    }
+}
+
+fn read_fixed(word: &[u8]) -> Result<Answer, Refusal>
+    ensures { IsRead FixedType.Fixed word.now result }
+{
+    let Ok(text) = str::from_utf8(word) else {
+        return Err(Refusal::NotDecimal);
+    };
+    match Fixed::from_decimal(text) {
+        Ok(number) => Ok(Answer::Bytes4(number.to_raw())),
+        Err(DecimalFault::Syntax) => Err(Refusal::NotDecimal),
+        Err(DecimalFault::OutOfRange) => Err(Refusal::OutOfRange),
+    }
 }
 
 // The bytes of a hexadecimal word, in digits of either case, that has `N` of them.

@@ -92,7 +92,7 @@ fn sums_out_of_range(rt: HostRuntime) {
 fn assigning(rt: HostRuntime) {
     let mut number = Fixed::ONE;
     number += Fixed::ONE;
-    number *= number;
+    number *= Fixed::from_i32(2);
     number /= Fixed::from_i32(8);
     number -= Fixed::ONE;
     assert_eq!(rt; number.to_bits(), -0x8000);

@@ -1,4 +1,4 @@
-use Rattle.std.proofs.Common.{◌≡◌, ap, refl, lit≤}
+use Rattle.std.proofs.Common.{ap, refl, lit≤}
 use Rattle.std.specs.Int.{w32, w64}
 use mir.Val.{to_z, of_z}
 use Rattle.font_fixed.specs.Fixed.{fixed_bits, fixed_of}

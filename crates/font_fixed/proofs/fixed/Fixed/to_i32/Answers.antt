@@ -1,4 +1,4 @@
-use Rattle.std.proofs.Common.{rules, lit<}
+use Rattle.std.proofs.Common.{rules}
 use Rattle.std.specs.Int.{w32}
 use Rattle.font_arithmetic.proofs.Rounding.{narrowed_shr, widths_32_16}
 use Rattle.font_fixed.proofs.fixed.Fixed.to_i32.Goals as goal
