@@ -52,8 +52,8 @@ wrap-neg w z some =
     wrap_same w (neg_ℤ (wrap w z)) (neg_ℤ z) given.turns some (omega (arith, ints, given.differs))
 
 -- the bytes of the bits
-pub bytes_code : (w : Width) (n : ℕ) (v : ℤ) (bytes : List ℕ) → SFits w v → bytes ≡ bytes_of n (to_z w (of_z w v)) → IsBytesOf n v bytes
-bytes_code w n v bytes fits is = rw (is, to_z-of_z w v fits) (bytes_of_is n v)
+pub bytes_code : (n : ℕ) (v : ℤ) (bytes : List ℕ) → bytes ≡ bytes_of n v → IsBytesOf n v bytes
+bytes_code n v bytes is = rw is (bytes_of_is n v)
 
 -- the rest behind the greatest multiple that is not above
 pub fract_code : (w : Width) (f : ℕ) (x r : ℤ) → 2 ^ f ≤ 2 ^ hbits w → SFits w x → r ≡ int_rem_euclid (to_z w (of_z w x)) (pos (2 ^ f)) → IsFract f x (to_z w (of_z w r))

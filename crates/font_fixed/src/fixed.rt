@@ -1,4 +1,5 @@
 //! The fixed-point number of 32 bits with 16 bits of fraction.
+#![tactic(auto, using(font_arithmetic::proofs::Width32::code_32_16))]
 
 ghost use Rattle.std.specs.Prelude.{◌≡◌, ◌+◌, ◌-◌, ◌^◌, ◌<◌, ◌≤◌, ◌↔◌, ℤ, pos, negsuc, neg_ℤ, ◌+ℤ◌, ◌-ℤ◌, ◌*ℤ◌, Some, IsSome, IfSome, IfNone, IfOk, refl, length, unsigned_abs};
 ghost use Rattle.std.proofs.Common.{ap, lit<};
@@ -10,6 +11,8 @@ ghost use Rattle.font_decimal.specs.Padding.{padded_text, FillsFront};
 ghost use Rattle.font_decimal.specs.Near.{signed, near_magnitude};
 ghost use Rattle.font_decimal.specs.Shortest.{IsShortest, shortest_text};
 ghost use Rattle.font_decimal.specs.Shown.{shown};
+ghost use Rattle.font_fixed.specs.declared.fixed.Fixed.{Fixed};
+ghost use Rattle.font_fixed.specs.Fixed.{fixed_bits, fixed_of};
 ghost use Rattle.font_arithmetic.specs.Operations.{IsRounded, IsNarrowed, IsRound, IsFloor, IsFract, clamp, differ_in_sign, IsProduct, IsQuotient, IsMulDiv, ReadsAs, IsTooFar};
 ghost use Rattle.font_base.specs.Bytes.Laws.{are_bytes-bytes_of, bytes_of-signed_numeral, signed_value, signed_back};
 ghost use Rattle.font_arithmetic.specs.Operations.Laws.{same_bits_identity};
@@ -27,9 +30,6 @@ use std::ops::{Add, AddAssign, Div, DivAssign, Mul, MulAssign, Neg, Sub, SubAssi
 pub struct Fixed(i32);
 
 impl Fixed {
-    ghost use Rattle.font_fixed.specs.declared.fixed.Fixed.{Fixed};
-    ghost use Rattle.font_fixed.specs.Fixed.{fixed_bits};
-
     /// The least value, -32768.
     pub const MIN: Self = Self(-0x8000_0000);
 
@@ -132,7 +132,7 @@ impl Fixed {
     pub fn to_be_bytes(self) -> [u8; 4]
         ensures { IsBytesOf 4 (fixed_bits self) result }
     {
-        self.0.to_raw()
+        self.to_raw()
     }
 
     /// `self * a / c`, rounded once to the nearest step, ties away from zero, and wrapped.
@@ -236,8 +236,6 @@ fn rounded_quotient(n: u64, d: u64) -> u64
 }
 
 impl Add for Fixed {
-    ghost use Rattle.font_fixed.specs.Fixed.{fixed_bits};
-
     type Output = Fixed;
 
     ghost add_gives = { λ x y sum. fixed_bits sum ≡ wrap 32 (fixed_bits x +ℤ fixed_bits y) };
@@ -248,8 +246,6 @@ impl Add for Fixed {
 }
 
 impl AddAssign for Fixed {
-    ghost use Rattle.font_fixed.specs.Fixed.{fixed_bits};
-
     ghost add_assign_gives = { λ x y sum. fixed_bits sum ≡ wrap 32 (fixed_bits x +ℤ fixed_bits y) };
 
     fn add_assign(&mut self, other: Fixed) {
@@ -258,8 +254,6 @@ impl AddAssign for Fixed {
 }
 
 impl Sub for Fixed {
-    ghost use Rattle.font_fixed.specs.Fixed.{fixed_bits};
-
     type Output = Fixed;
 
     ghost sub_gives = { λ x y rest. fixed_bits rest ≡ wrap 32 (fixed_bits x -ℤ fixed_bits y) };
@@ -270,8 +264,6 @@ impl Sub for Fixed {
 }
 
 impl SubAssign for Fixed {
-    ghost use Rattle.font_fixed.specs.Fixed.{fixed_bits};
-
     ghost sub_assign_gives = { λ x y rest. fixed_bits rest ≡ wrap 32 (fixed_bits x -ℤ fixed_bits y) };
 
     fn sub_assign(&mut self, other: Fixed) {
@@ -280,8 +272,6 @@ impl SubAssign for Fixed {
 }
 
 impl Neg for Fixed {
-    ghost use Rattle.font_fixed.specs.Fixed.{fixed_bits};
-
     type Output = Fixed;
 
     ghost neg_gives = { λ x opposite. fixed_bits opposite ≡ wrap 32 (neg_ℤ (fixed_bits x)) };
@@ -292,8 +282,6 @@ impl Neg for Fixed {
 }
 
 impl Mul for Fixed {
-    ghost use Rattle.font_fixed.specs.Fixed.{fixed_bits};
-
     type Output = Fixed;
 
     ghost mul_gives = { λ x y product. IsProduct 32 16 (fixed_bits x) (fixed_bits y) (fixed_bits product) };
@@ -308,8 +296,6 @@ impl Mul for Fixed {
 }
 
 impl MulAssign for Fixed {
-    ghost use Rattle.font_fixed.specs.Fixed.{fixed_bits};
-
     ghost mul_assign_gives = { λ x y product. IsProduct 32 16 (fixed_bits x) (fixed_bits y) (fixed_bits product) };
 
     fn mul_assign(&mut self, other: Fixed) {
@@ -319,8 +305,6 @@ impl MulAssign for Fixed {
 
 /// A zero divisor gives `Fixed::MAX`, or its opposite where the dividend is negative.
 impl Div for Fixed {
-    ghost use Rattle.font_fixed.specs.Fixed.{fixed_bits};
-
     type Output = Fixed;
 
     ghost div_gives = { λ x y quotient. IsQuotient 32 16 (fixed_bits x) (fixed_bits y) (fixed_bits quotient) };
@@ -331,8 +315,6 @@ impl Div for Fixed {
 }
 
 impl DivAssign for Fixed {
-    ghost use Rattle.font_fixed.specs.Fixed.{fixed_bits};
-
     ghost div_assign_gives = { λ x y quotient. IsQuotient 32 16 (fixed_bits x) (fixed_bits y) (fixed_bits quotient) };
 
     fn div_assign(&mut self, other: Fixed) {
@@ -341,8 +323,6 @@ impl DivAssign for Fixed {
 }
 
 impl From<i32> for Fixed {
-    ghost use Rattle.font_fixed.specs.Fixed.{fixed_bits};
-
     ghost from_gives = { λ number fixed. fixed_bits fixed ≡ wrap 32 (number *ℤ pos (2 ^ 16)) };
 
     fn from(number: i32) -> Fixed {
@@ -351,8 +331,6 @@ impl From<i32> for Fixed {
 }
 
 impl fmt::Display for Fixed {
-    ghost use Rattle.font_fixed.specs.Fixed.{fixed_bits};
-
     ghost output = { λ x. Some (shortest_text (fixed_bits x) 16) };
 
     fn fmt<W: fmt::Write>(&self, f: &mut fmt::Formatter<W>) -> fmt::Result {
@@ -361,8 +339,6 @@ impl fmt::Display for Fixed {
 }
 
 impl fmt::Debug for Fixed {
-    ghost use Rattle.font_fixed.specs.Fixed.{fixed_bits};
-
     ghost debug_output = { λ x. Some (shortest_text (fixed_bits x) 16) };
 
     fn fmt<W: fmt::Write>(&self, f: &mut fmt::Formatter<W>) -> fmt::Result {
@@ -377,8 +353,6 @@ impl FixedSize for Fixed {
 }
 
 impl Scalar for Fixed {
-    ghost use Rattle.font_fixed.specs.Fixed.{fixed_bits, fixed_of};
-
     type Raw = [u8; 4];
 
     ghost is_scalar = { λ x. fits_bits 32 (fixed_bits x) };
@@ -407,7 +381,5 @@ impl Scalar for Fixed {
 }
 
 impl IdentityEq for Fixed {
-    ghost use Rattle.font_fixed.specs.Fixed.{fixed_bits, fixed_of};
-
     ghost identity = { same_bits_identity fixed_bits fixed_of (λ _. refl) };
 }
