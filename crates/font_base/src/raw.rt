@@ -33,8 +33,10 @@ pub trait BeByteArray: Copy {
         ensures length { length result.now ≡ LEN }
         ensures value { IsTrue (is_value self.now) };
 
+    // A value has as many bytes as the type says.
     ghost length_is: { (a : Self) → IsTrue (is_value a) → length (bytes a) ≡ LEN };
 
+    // Equal bytes are the same value.
     ghost same_bytes: { (a b : Self) → IsTrue (is_value a) → IsTrue (is_value b) → bytes a ≡ bytes b → a ≡ b };
 }
 
@@ -77,6 +79,9 @@ pub trait FixedSize: Sized {
 }
 
 /// A value that is stored as a fixed number of big-endian bytes.
+///
+/// An `impl` says which bytes a value has, and proves that the two determine each other. That is all that fields,
+/// headers and their laws ask of a type: `u16::read(&[0x01, 0x00])` is `Some(256)`.
 pub trait Scalar: FixedSize {
     /// The array of bytes.
     type Raw: BeByteArray;
@@ -84,8 +89,10 @@ pub trait Scalar: FixedSize {
     // that this is a value of the type
     ghost is_scalar: { Self → Bool };
 
+    // the value of an array of bytes
     ghost of_raw: { Self.Raw → Self };
 
+    // the array of bytes of a value
     ghost raw_of: { Self → Self.Raw };
 
     /// The value that the bytes stand for.
@@ -107,6 +114,7 @@ pub trait Scalar: FixedSize {
         Some(Self::from_raw(raw))
     }
 
+    // Bytes give values and values give bytes, and both ways undo each other.
     ghost of_raw_value: { (r : Self.Raw) → IsTrue (Self.Raw.is_value r) → IsTrue (is_scalar (of_raw r)) };
 
     ghost raw_of_value: { (v : Self) → IsTrue (is_scalar v) → IsTrue (Self.Raw.is_value (raw_of v)) };
@@ -115,6 +123,7 @@ pub trait Scalar: FixedSize {
 
     ghost forth: { (r : Self.Raw) → IsTrue (Self.Raw.is_value r) → raw_of (of_raw r) ≡ r };
 
+    // The array is as long as the type says.
     ghost lengths_agree: { Self.Raw.LEN ≡ Self.RAW_BYTE_LEN };
 }
 
