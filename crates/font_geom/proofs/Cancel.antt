@@ -5,23 +5,23 @@ use Rattle.font_base.specs.Wrap.Laws.{wrap_fits}
 use Rattle.font_arithmetic.proofs.Group.{wrap-add_left, wrap-add_right}
 use Rattle.font_geom.specs.declared.matrix.Matrix.{Matrix}
 use Rattle.font_geom.specs.declared.point.Point.{Point}
-use Rattle.font_geom.specs.Matrix.{linear, affine, image_of, product_of}
+use Rattle.font_geom.specs.Matrix.{linear_form, affine_form, image_of, product_of}
 use Rattle.font_geom.specs.FixedMatrix.{rounded_product, wrapped_product, wrapped_sum, FitsMatrix, FitsPoint}
 
-wrapped-linear : (p x q y : ℤ) → linear wrapped_sum wrapped_product p x q y ≡ wrap 32 (linear ◌+ℤ◌ rounded_product p x q y)
-wrapped-linear p x q y =
+wrapped-linear_form : (p x q y : ℤ) → linear_form wrapped_sum wrapped_product p x q y ≡ wrap 32 (linear_form ◌+ℤ◌ rounded_product p x q y)
+wrapped-linear_form p x q y =
     wrap-add_left 32 (rounded_product p x) (wrapped_product q y) (lit< tt)
     ∙ wrap-add_right 32 (rounded_product p x) (rounded_product q y) (lit< tt)
 
-wrapped-affine : (p x q y d : ℤ) → affine wrapped_sum wrapped_product p x q y d ≡ wrap 32 (affine ◌+ℤ◌ rounded_product p x q y d)
-wrapped-affine p x q y d =
-    ap (λ n. wrapped_sum n d) (wrapped-linear p x q y) ∙ wrap-add_left 32 (linear ◌+ℤ◌ rounded_product p x q y) d (lit< tt)
+wrapped-affine_form : (p x q y d : ℤ) → affine_form wrapped_sum wrapped_product p x q y d ≡ wrap 32 (affine_form ◌+ℤ◌ rounded_product p x q y d)
+wrapped-affine_form p x q y d =
+    ap (λ n. wrapped_sum n d) (wrapped-linear_form p x q y) ∙ wrap-add_left 32 (linear_form ◌+ℤ◌ rounded_product p x q y) d (lit< tt)
 
-linear_fits : (p x q y : ℤ) → FitsBits 32 (linear ◌+ℤ◌ rounded_product p x q y) → linear wrapped_sum wrapped_product p x q y ≡ linear ◌+ℤ◌ rounded_product p x q y
-linear_fits p x q y fits = wrapped-linear p x q y ∙ wrap_fits 32 (linear ◌+ℤ◌ rounded_product p x q y) (lit< tt) fits
+linear_fits : (p x q y : ℤ) → FitsBits 32 (linear_form ◌+ℤ◌ rounded_product p x q y) → linear_form wrapped_sum wrapped_product p x q y ≡ linear_form ◌+ℤ◌ rounded_product p x q y
+linear_fits p x q y fits = wrapped-linear_form p x q y ∙ wrap_fits 32 (linear_form ◌+ℤ◌ rounded_product p x q y) (lit< tt) fits
 
-affine_fits : (p x q y d : ℤ) → FitsBits 32 (affine ◌+ℤ◌ rounded_product p x q y d) → affine wrapped_sum wrapped_product p x q y d ≡ affine ◌+ℤ◌ rounded_product p x q y d
-affine_fits p x q y d fits = wrapped-affine p x q y d ∙ wrap_fits 32 (affine ◌+ℤ◌ rounded_product p x q y d) (lit< tt) fits
+affine_fits : (p x q y d : ℤ) → FitsBits 32 (affine_form ◌+ℤ◌ rounded_product p x q y d) → affine_form wrapped_sum wrapped_product p x q y d ≡ affine_form ◌+ℤ◌ rounded_product p x q y d
+affine_fits p x q y d fits = wrapped-affine_form p x q y d ∙ wrap_fits 32 (affine_form ◌+ℤ◌ rounded_product p x q y d) (lit< tt) fits
 
 pub image_of_fits : (m : Matrix ℤ) (p : Point ℤ) → FitsPoint (image_of ◌+ℤ◌ rounded_product m p) → image_of wrapped_sum wrapped_product m p ≡ image_of ◌+ℤ◌ rounded_product m p
 image_of_fits m p fits = λ i. record {

@@ -2,7 +2,7 @@
 use Rattle.std.proofs.Common.{◌≡◌, ◌∙◌, ap}
 use Rattle.font_geom.specs.declared.matrix.Matrix.{Matrix}
 use Rattle.font_geom.specs.declared.point.Point.{Point}
-use Rattle.font_geom.specs.Matrix.{IsLinear, IsAffine, IsTransformed, IsProductOf, linear, affine, image_of, product_of}
+use Rattle.font_geom.specs.Matrix.{IsLinearForm, IsAffineForm, IsTransformed, IsProductOf, linear_form, affine_form, image_of, product_of}
 
 -- the matrix and the point of what a function gives at each element
 abbrev pub map_matrix : {T V : Type 0} → (T → V) → Matrix T → Matrix V
@@ -17,13 +17,13 @@ pub record HasOneAnswer {T V : Type 0} (product sum : T → T → T → Type 0) 
   pub sum_is : (x y r : T) → sum x y r → shown r ≡ plus (shown x) (shown y)
 
 module _ {T V : Type 0} {product sum : T → T → T → Type 0} {shown : T → V} {plus times : V → V → V} (one : HasOneAnswer product sum shown plus times) where
-  linear_is : (p x q y r : T) → IsLinear product sum p x q y r → shown r ≡ linear plus times (shown p) (shown x) (shown q) (shown y)
+  linear_is : (p x q y r : T) → IsLinearForm product sum p x q y r → shown r ≡ linear_form plus times (shown p) (shown x) (shown q) (shown y)
   linear_is p x q y r it =
       one.sum_is it.first it.second r it.is_sum
       ∙ ap (λ n. plus n (shown it.second)) (one.product_is p x it.first it.is_first)
       ∙ ap (plus (times (shown p) (shown x))) (one.product_is q y it.second it.is_second)
 
-  affine_is : (p x q y d r : T) → IsAffine product sum p x q y d r → shown r ≡ affine plus times (shown p) (shown x) (shown q) (shown y) (shown d)
+  affine_is : (p x q y d r : T) → IsAffineForm product sum p x q y d r → shown r ≡ affine_form plus times (shown p) (shown x) (shown q) (shown y) (shown d)
   affine_is p x q y d r it = one.sum_is it.linear d r it.is_sum ∙ ap (λ n. plus n (shown d)) (linear_is p x q y it.linear it.is_linear)
 
   pub image_is : (m : Matrix T) (p r : Point T) → IsTransformed product sum m p.x p.y r.x r.y → map_point shown r ≡ image_of plus times (map_matrix shown m) (map_point shown p)

@@ -1,5 +1,5 @@
 -- What calls on matrices of `Fixed` give, over their bits.
-use Rattle.std.proofs.Common.{◌≡◌, ◌∙◌, sym, ap, subst, refl, ℕ, ◌*◌, ◌<◌, ℤ, pos, ◌+ℤ◌, ◌-ℤ◌, ◌*ℤ◌, unsigned_abs, arith, lit<}
+use Rattle.std.proofs.Common.{◌≡◌, ◌∙◌, sym, ap, subst, refl, ℤ, pos, ◌+ℤ◌, ◌-ℤ◌, ◌*ℤ◌, unsigned_abs, arith, lit<}
 use Rattle.std.proofs.lemmas.Int.{ints}
 use Rattle.std.proofs.Math.IntN.{*ℤ_comm, *ℤ-zero, zero-*ℤ}
 use Rattle.font_base.specs.Wrap.{wrap, FitsBits}
@@ -32,17 +32,22 @@ answers = record {
   sum_is = λ x y r given. given;
 }
 
--- ---- images of points
+-- the bits of a product, and of a point that was moved
+pub product_value : {a b ab : Matrix Fixed} → IsProductOf Product Sum a b ab → matrix_bits ab ≡ product_of wrapped_sum wrapped_product (matrix_bits a) (matrix_bits b)
+product_value {a} {b} {ab} given = product_of_is answers a b ab given
+
+pub image_value : {m : Matrix Fixed} {p r : Point Fixed} → IsTransformed Product Sum m p.x p.y r.x r.y → point_bits r ≡ image_of wrapped_sum wrapped_product (matrix_bits m) (point_bits p)
+image_value {m} {p} {r} given = image_is answers m p r given
+
+-- ---- images of points under two matrices
 
 pub composed_value : {a b ab : Matrix Fixed} {p r : Point Fixed} → IsProductOf Product Sum a b ab → IsTransformed Product Sum ab p.x p.y r.x r.y
     → point_bits r ≡ image_of wrapped_sum wrapped_product (product_of wrapped_sum wrapped_product (matrix_bits a) (matrix_bits b)) (point_bits p)
-composed_value {a} {b} {ab} {p} {r} first second =
-    image_is answers ab p r second ∙ ap (λ m. image_of wrapped_sum wrapped_product m (point_bits p)) (product_of_is answers a b ab first)
+composed_value {p = p} first second = image_value second ∙ ap (λ m. image_of wrapped_sum wrapped_product m (point_bits p)) (product_value first)
 
 pub in_turn_value : {a b : Matrix Fixed} {p bp r : Point Fixed} → IsTransformed Product Sum b p.x p.y bp.x bp.y → IsTransformed Product Sum a bp.x bp.y r.x r.y
     → point_bits r ≡ image_of wrapped_sum wrapped_product (matrix_bits a) (image_of wrapped_sum wrapped_product (matrix_bits b) (point_bits p))
-in_turn_value {a} {b} {p} {bp} {r} first second =
-    image_is answers a bp r second ∙ ap (image_of wrapped_sum wrapped_product (matrix_bits a)) (image_is answers b p bp first)
+in_turn_value {a = a} first second = image_value second ∙ ap (image_of wrapped_sum wrapped_product (matrix_bits a)) (image_value first)
 
 composed_near : (a b : Matrix ℤ) (p : Point ℤ) → FitsComposed a b p → IsCloseComposed a b p (image_of wrapped_sum wrapped_product (product_of wrapped_sum wrapped_product a b) p)
 composed_near a b p fits =
@@ -58,12 +63,12 @@ in_turn_near a b p fits =
 
 pub composed_is_close : {a b ab : Matrix Fixed} {p r : Point Fixed} → IsProductOf Product Sum a b ab → IsTransformed Product Sum ab p.x p.y r.x r.y
     → FitsComposed (matrix_bits a) (matrix_bits b) (point_bits p) → IsCloseComposed (matrix_bits a) (matrix_bits b) (point_bits p) (point_bits r)
-composed_is_close {a} {b} {ab} {p} {r} first second fits =
+composed_is_close {a = a} {b = b} {p = p} first second fits =
     subst (IsCloseComposed (matrix_bits a) (matrix_bits b) (point_bits p)) (sym (composed_value first second)) (composed_near (matrix_bits a) (matrix_bits b) (point_bits p) fits)
 
 pub in_turn_is_close : {a b : Matrix Fixed} {p bp r : Point Fixed} → IsTransformed Product Sum b p.x p.y bp.x bp.y → IsTransformed Product Sum a bp.x bp.y r.x r.y
     → FitsInTurn (matrix_bits a) (matrix_bits b) (point_bits p) → IsCloseInTurn (matrix_bits a) (matrix_bits b) (point_bits p) (point_bits r)
-in_turn_is_close {a} {b} {p} {bp} {r} first second fits =
+in_turn_is_close {a = a} {b = b} {p = p} first second fits =
     subst (IsCloseInTurn (matrix_bits a) (matrix_bits b) (point_bits p)) (sym (in_turn_value first second)) (in_turn_near (matrix_bits a) (matrix_bits b) (point_bits p) fits)
 
 -- ---- the identity
@@ -100,12 +105,12 @@ pub left_identity : {a identity r : Matrix Fixed} → FitsEach (FitsBits 32) (ma
     → (matrix_bits r ≡ product_of wrapped_sum wrapped_product (identity_matrix (pos 0) (pos 65536)) (matrix_bits a)) × (r ≡ a)
 left_identity {a} {identity} {r} fits is given =
     let value : matrix_bits r ≡ product_of wrapped_sum wrapped_product (identity_matrix (pos 0) (pos 65536)) (matrix_bits a) =
-    product_of_is answers identity a r given ∙ ap (λ m. product_of wrapped_sum wrapped_product (matrix_bits m) (matrix_bits a)) is in
+    product_value given ∙ ap (λ m. product_of wrapped_sum wrapped_product (matrix_bits m) (matrix_bits a)) is in
     (value, same_matrix a r (value ∙ identity_times neutral (matrix_bits a) fits))
 
 pub right_identity : {a identity r : Matrix Fixed} → FitsEach (FitsBits 32) (matrix_bits a) → identity ≡ identity_matrix (fixed_of (pos 0)) (fixed_of (pos 65536)) → IsProductOf Product Sum a identity r
     → (matrix_bits r ≡ product_of wrapped_sum wrapped_product (matrix_bits a) (identity_matrix (pos 0) (pos 65536))) × (r ≡ a)
 right_identity {a} {identity} {r} fits is given =
     let value : matrix_bits r ≡ product_of wrapped_sum wrapped_product (matrix_bits a) (identity_matrix (pos 0) (pos 65536)) =
-    product_of_is answers a identity r given ∙ ap (λ m. product_of wrapped_sum wrapped_product (matrix_bits a) (matrix_bits m)) is in
+    product_value given ∙ ap (λ m. product_of wrapped_sum wrapped_product (matrix_bits a) (matrix_bits m)) is in
     (value, same_matrix a r (value ∙ times_identity neutral (matrix_bits a) fits))

@@ -1,7 +1,7 @@
 -- That the identity matrix is neutral on both sides, where zero and one are among the elements that fit.
 use Rattle.std.proofs.Common.{◌≡◌, ◌∙◌, ap}
 use Rattle.font_geom.specs.declared.matrix.Matrix.{Matrix}
-use Rattle.font_geom.specs.Matrix.{linear, affine, identity_matrix, product_of}
+use Rattle.font_geom.specs.Matrix.{linear_form, affine_form, identity_matrix, product_of}
 
 -- what zero and one do to the elements that fit
 pub record NeutralLaws {T : Type 0} (fits : T → Type 0) (zero one : T) (plus times : T → T → T) : Type 0 where
@@ -24,19 +24,19 @@ pub record FitsEach {T : Type 0} (fits : T → Type 0) (m : Matrix T) : Type 0 w
 
 module _ {T : Type 0} {fits : T → Type 0} {zero one : T} {plus times : T → T → T} (laws : NeutralLaws fits zero one plus times) where
   -- one * x + zero * y, and the other three
-  first_of : (x y : T) → fits x → fits y → linear plus times one x zero y ≡ x
+  first_of : (x y : T) → fits x → fits y → linear_form plus times one x zero y ≡ x
   first_of x y f g = ap (plus (times one x)) (laws.zero_times y g) ∙ ap (λ n. plus n zero) (laws.one_times x f) ∙ laws.plus_zero x f
 
-  second_of : (x y : T) → fits x → fits y → linear plus times zero x one y ≡ y
+  second_of : (x y : T) → fits x → fits y → linear_form plus times zero x one y ≡ y
   second_of x y f g = ap (λ n. plus n (times one y)) (laws.zero_times x f) ∙ ap (plus zero) (laws.one_times y g) ∙ laws.zero_plus y g
 
-  first_kept : (x y : T) → fits x → fits y → linear plus times x one y zero ≡ x
+  first_kept : (x y : T) → fits x → fits y → linear_form plus times x one y zero ≡ x
   first_kept x y f g = ap (plus (times x one)) (laws.times_zero y g) ∙ ap (λ n. plus n zero) (laws.times_one x f) ∙ laws.plus_zero x f
 
-  second_kept : (x y : T) → fits x → fits y → linear plus times x zero y one ≡ y
+  second_kept : (x y : T) → fits x → fits y → linear_form plus times x zero y one ≡ y
   second_kept x y f g = ap (λ n. plus n (times y one)) (laws.times_zero x f) ∙ ap (plus zero) (laws.times_one y g) ∙ laws.zero_plus y g
 
-  shift_kept : (x y d : T) → fits x → fits y → fits d → affine plus times x zero y zero d ≡ d
+  shift_kept : (x y d : T) → fits x → fits y → fits d → affine_form plus times x zero y zero d ≡ d
   shift_kept x y d f g h =
       ap (λ n. plus n d) (ap (plus (times x zero)) (laws.times_zero y g) ∙ ap (λ n. plus n zero) (laws.times_zero x f) ∙ laws.plus_zero zero laws.zero_fits)
       ∙ laws.zero_plus d h

@@ -1,12 +1,12 @@
 -- The whole numbers obey the laws of a ring.
 use Rattle.std.proofs.Common.{◌≡◌, ◌∙◌, sym, ap, ℕ, ◌+◌, ◌*◌, ℤ, pos, ◌+ℤ◌, ◌*ℤ◌, arith}
 use Rattle.std.proofs.lemmas.Int.{ints}
-use Rattle.std.proofs.Math.Nat.{add_assoc, add_comm, mul_assoc, mul-add, add-mul}
+use Rattle.std.proofs.Math.Nat.{add_comm, mul_assoc, mul-add, add-mul}
 use Rattle.std.proofs.Math.IntN.{*ℤ_comm, *ℤ-one, *ℤ-zero, zero-*ℤ}
 use lib.IntN.{one}
 use borrow.Author.Differences.{up, down, same_in, sum_is_lem, product_is}
 use Rattle.font_geom.specs.Ring.{RingLaws}
-use Rattle.font_geom.proofs.RingMatrices.{linear-linear}
+use Rattle.font_geom.proofs.RingMatrices.{linear_form-linear_form}
 
 naturals : RingLaws 0 1 ◌+◌ ◌*◌
 naturals = record {
@@ -37,7 +37,7 @@ sum-times x y z =
 
 -- of the parts a - b, c - d and m - n of three numbers
 parts_product : (a b c d m n : ℕ) → (a * c + b * d) * m + (a * d + b * c) * n ≡ a * (c * m + d * n) + b * (c * n + d * m)
-parts_product a b c d m n = linear-linear naturals a b c d d c m n ∙ ap (λ k. a * (c * m + d * n) + b * k) (add_comm (d * m) (c * n))
+parts_product a b c d m n = linear_form-linear_form naturals a b c d d c m n ∙ ap (λ k. a * (c * m + d * n) + b * k) (add_comm (d * m) (c * n))
 
 product-times : (x y z : ℤ) → ((x *ℤ y) *ℤ z) ≡ (x *ℤ (y *ℤ z))
 product-times x y z =

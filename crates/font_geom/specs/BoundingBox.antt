@@ -1,4 +1,5 @@
 -- Boxes of least and greatest coordinates.
+pub mod Laws
 use Rattle.std.specs.Prelude.{◌≡◌, Bool, IsTrue, ◌&&◌, ◌⊎◌, if◌then◌else◌}
 use Rattle.font_geom.specs.declared.bbox.BoundingBox.{BoundingBox}
 
@@ -21,8 +22,8 @@ abbrev pub is_normalized : {T : Type 0} → (T → T → Bool) → BoundingBox T
 is_normalized le box = le box.x_min box.x_max && le box.y_min box.y_max
 
 -- a pair for which the test is true stays, and every other pair is swapped
-abbrev pub normalized : {T : Type 0} → (T → T → Bool) → BoundingBox T → BoundingBox T
-normalized le box = record {
+abbrev pub normalized_box : {T : Type 0} → (T → T → Bool) → BoundingBox T → BoundingBox T
+normalized_box le box = record {
   x_min = if le box.x_min box.x_max then box.x_min else box.x_max;
   y_min = if le box.y_min box.y_max then box.y_min else box.y_max;
   x_max = if le box.x_min box.x_max then box.x_max else box.x_min;

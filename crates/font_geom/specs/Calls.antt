@@ -1,5 +1,5 @@
 -- A function that is called at each element of a list, first to last, and may change its state between calls.
-use Rattle.std.specs.Prelude.{◌≡◌, List, [], ◌∷◌, ⊤}
+use Rattle.std.specs.Prelude.{List, [], ◌∷◌, ⊤}
 
 -- in the state f it may be called at each of these, in order: `pre f x` says that it may be called at x, and `step f x y g` that the call
 -- may give y and leave the state g

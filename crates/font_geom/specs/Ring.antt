@@ -1,4 +1,5 @@
 -- Elements that obey the laws of a ring, the opposite of an element aside. So products of their matrices associate.
+pub mod Laws
 use Rattle.std.specs.Prelude.{◌≡◌}
 
 pub record RingLaws {T : Type 0} (zero one : T) (plus times : T → T → T) : Type 0 where

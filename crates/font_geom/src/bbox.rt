@@ -2,7 +2,7 @@
 
 ghost use Rattle.std.specs.Prelude.{◌≡◌, IsTrue};
 ghost use Rattle.std.specs.Ordering.{partial_le};
-ghost use Rattle.font_geom.specs.BoundingBox.{CanScale, IsScaled, is_normalized, normalized, Compares, HasSamePairs};
+ghost use Rattle.font_geom.specs.BoundingBox.{CanScale, IsScaled, is_normalized, normalized_box, Compares, HasSamePairs};
 
 use std::ops::Mul;
 
@@ -48,10 +48,10 @@ impl<T: PartialOrd + Copy> BoundingBox<T> {
     ///
     /// A pair that does not compare is swapped too, and then the box is not normalized.
     pub fn normalize(&self) -> Self
-        ensures value { result ≡ normalized (partial_le T.partial_cmp) self.now }
+        ensures value { result ≡ normalized_box (partial_le T.partial_cmp) self.now }
         ensures pairs { HasSamePairs self.now result }
         ensures in_order { Compares (partial_le T.partial_cmp) self.now → IsTrue (is_normalized (partial_le T.partial_cmp) result) }
-        ensures once { Compares (partial_le T.partial_cmp) self.now → normalized (partial_le T.partial_cmp) result ≡ result }
+        ensures once { Compares (partial_le T.partial_cmp) self.now → normalized_box (partial_le T.partial_cmp) result ≡ result }
     {
         let (x_min, x_max) = if self.x_min <= self.x_max {
             (self.x_min, self.x_max)

@@ -11,3 +11,6 @@ pub use bbox::BoundingBox;
 pub use matrix::{Matrix, MatrixElement};
 pub use point::Point;
 pub use ring::RingElement;
+
+#[cfg(test)]
+mod tests;
