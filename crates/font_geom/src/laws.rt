@@ -46,7 +46,8 @@ pub fn fixed_identity(a: Matrix<Fixed>) -> (Matrix<Fixed>, Matrix<Fixed>)
     ensures left { result.0 ≡ a }
     ensures right { result.1 ≡ a }
 {
-    (Matrix::identity() * a, a * Matrix::identity())
+    let identity = Matrix::identity();
+    (identity * a, a * identity)
 }
 
 /// `(a * b) * p`, which is near the exact image of `p` where no entry of the product and no coordinate of the answer leaves 32 bits.

@@ -18,6 +18,6 @@ returns c =
       dx = FitsBits-signed w32 a.dx.0 (search rules);
       dy = FitsBits-signed w32 a.dy.0 (search rules);
     } in
-    let left = left_identity fits c.identity.ensures c.mul.ensures in
-    let right = right_identity fits c.identity-2.ensures c.mul-2.ensures in
+    let left = left_identity fits c.identity-identity.ensures c.mul.ensures in
+    let right = right_identity fits c.identity-identity.ensures c.mul-2.ensures in
     record { first = left.0; second = right.0; left = left.1; right = right.1 }
