@@ -1,4 +1,5 @@
 //! Scalars, and the big-endian bytes that they are stored as.
+#![tactic(auto, using(crate::proofs::StdBytes::std_bytes))]
 
 ghost use Rattle.std.specs.Prelude.{◌≡◌, ℕ, ℤ, pos, Bool, true, List, IsTrue, IsSome, IfSome, ◌↔◌, ◌^◌, nat_lt, length, refl};
 ghost use Rattle.std.proofs.Common.{rules, lit<};

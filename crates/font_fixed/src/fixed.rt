@@ -1,21 +1,21 @@
 //! The fixed-point number of 32 bits with 16 bits of fraction.
-#![tactic(auto, using(font_arithmetic::proofs::Width32::code_32_16))]
+#![tactic(auto, using(font_arithmetic::proofs::Width32::code_32))]
 
-ghost use Rattle.std.specs.Prelude.{◌≡◌, ◌+◌, ◌-◌, ◌^◌, ◌<◌, ◌≤◌, ◌↔◌, ℤ, pos, negsuc, neg_ℤ, ◌+ℤ◌, ◌-ℤ◌, ◌*ℤ◌, Some, IsSome, IfSome, IfNone, IfOk, refl, length, unsigned_abs};
-ghost use Rattle.std.proofs.Common.{ap, lit<};
-ghost use Rattle.std.specs.Int.{is_negative};
+ghost use Rattle.std.specs.Prelude.{◌≡◌, ◌+◌, ◌-◌, ◌^◌, ◌<◌, ◌≤◌, ◌↔◌, ℤ, pos, negsuc, neg_ℤ, ◌+ℤ◌, ◌-ℤ◌, ◌*ℤ◌, Some, IsSome, IfSome, IfNone, IfOk, refl, length, unsigned_abs, FitsSigned};
+ghost use Rattle.std.proofs.Common.{lit<};
+ghost use Rattle.std.specs.Int.{w32, is_negative};
+ghost use Rattle.std.specs.Result.{result_map_both};
 ghost use Rattle.font_base.specs.Wrap.{FitsBits, fits_bits, wrap};
 ghost use Rattle.font_base.specs.Bytes.{IsBytesOf, bytes_of, signed_numeral};
 ghost use Rattle.font_decimal.specs.Grammar.{IsNoDecimal};
 ghost use Rattle.font_decimal.specs.Padding.{padded_text, FillsFront};
 ghost use Rattle.font_decimal.specs.Near.{signed, near_magnitude};
-ghost use Rattle.font_decimal.specs.Shortest.{IsShortest, shortest_text};
+ghost use Rattle.font_decimal.specs.Shortest.{IsShortest};
 ghost use Rattle.font_decimal.specs.Shown.{shown};
 ghost use Rattle.font_fixed.specs.declared.fixed.Fixed.{Fixed};
-ghost use Rattle.font_fixed.specs.Fixed.{fixed_bits, fixed_of};
-ghost use Rattle.font_arithmetic.specs.Operations.{IsRounded, IsNarrowed, IsRound, IsFloor, IsFract, clamp, differ_in_sign, IsProduct, IsQuotient, IsMulDiv, ReadsAs, IsTooFar};
-ghost use Rattle.font_base.specs.Bytes.Laws.{are_bytes-bytes_of, bytes_of-signed_numeral, signed_value, signed_back};
-ghost use Rattle.font_arithmetic.specs.Operations.Laws.{same_bits_identity};
+ghost use Rattle.font_fixed.specs.Fixed.{fixed_bits, fixed_of, fixed_text};
+ghost use Rattle.font_arithmetic.specs.Operations.{IsWrappedNear, IsNarrowed, IsNearestWhole, IsFloor, IsFract, clamp, differ_in_sign, IsProduct, IsQuotient, IsMulDiv, ReadsAs, IsTooFar, ReadingGives};
+ghost use Rattle.font_base.specs.Scalar.Laws.{signed_newtype, signed_identity};
 
 use font_base::{FixedSize, IdentityEq, Scalar};
 use font_decimal::{DecimalFault, Pad, Shortest, read_decimal};
@@ -66,7 +66,7 @@ impl Fixed {
 
     /// The nearest whole number, ties upwards. It wraps: `Fixed::MAX.round()` is `Fixed::MIN`.
     pub fn round(self) -> Self
-        ensures { IsRound 32 16 (fixed_bits self) (fixed_bits result) }
+        ensures { IsNearestWhole 32 16 (fixed_bits self) (fixed_bits result) }
     {
         self.wrapping_add(Self(0x8000)).floor()
     }
@@ -167,6 +167,8 @@ impl Fixed {
     pub fn from_decimal(text: &str) -> Result<Self, DecimalFault>
         ensures ok { (x : Fixed) → (result ≡ Ok x) ↔ ReadsAs 32 16 text.now (fixed_bits x) }
         ensures reads { IfOk result (λ x. ReadsAs 32 16 text.now (fixed_bits x)) }
+        ensures gives { ReadingGives 32 16 text.now (result_map_both fixed_bits (λ fault. fault) result) }
+        ensures printed { (x : Fixed) → FitsSigned w32 (fixed_bits x) → text.now ≡ fixed_text x → result ≡ Ok x }
         ensures out_of_range { (result ≡ Err DecimalFault.OutOfRange) ↔ IsTooFar 32 16 text.now }
         ensures syntax { (result ≡ Err DecimalFault.Syntax) ↔ IsNoDecimal text.now }
     {
@@ -183,8 +185,8 @@ impl Fixed {
     /// too short, which then stays as it was.
     pub fn write_padded(self, out: &mut [u8], pad: &Pad) -> Option<usize>
         requires { pad.now.fill < 128 }
-        ensures written { IfSome result (λ n. FillsFront (padded_text (shortest_text (fixed_bits self) 16) pad.now) n out.old out.new) }
-        ensures room { IsSome result ↔ (length (padded_text (shortest_text (fixed_bits self) 16) pad.now) ≤ length out.old) }
+        ensures written { IfSome result (λ n. FillsFront (padded_text (fixed_text self) pad.now) n out.old out.new) }
+        ensures room { IsSome result ↔ (length (padded_text (fixed_text self) pad.now) ≤ length out.old) }
         ensures untouched { IfNone result (out.new ≡ out.old) }
     {
         font_decimal::write_padded(self.shortest().as_str(), out, pad)
@@ -192,7 +194,7 @@ impl Fixed {
 
     fn shortest(self) -> Shortest
         ensures shortest { IsShortest (fixed_bits self) 16 (shown result) }
-        ensures text { shown result ≡ shortest_text (fixed_bits self) 16 }
+        ensures text { shown result ≡ fixed_text self }
     {
         Shortest::new(i64::from(self.0), Self::FRACTION_BITS)
     }
@@ -331,7 +333,7 @@ impl From<i32> for Fixed {
 }
 
 impl fmt::Display for Fixed {
-    ghost output = { λ x. Some (shortest_text (fixed_bits x) 16) };
+    ghost output = { λ x. Some (fixed_text x) };
 
     fn fmt<W: fmt::Write>(&self, f: &mut fmt::Formatter<W>) -> fmt::Result {
         fmt::Display::fmt(&self.shortest(), f)
@@ -339,7 +341,7 @@ impl fmt::Display for Fixed {
 }
 
 impl fmt::Debug for Fixed {
-    ghost debug_output = { λ x. Some (shortest_text (fixed_bits x) 16) };
+    ghost debug_output = { λ x. Some (fixed_text x) };
 
     fn fmt<W: fmt::Write>(&self, f: &mut fmt::Formatter<W>) -> fmt::Result {
         fmt::Display::fmt(&self.shortest(), f)
@@ -361,15 +363,7 @@ impl Scalar for Fixed {
 
     ghost raw_of = { λ x. bytes_of 4 (fixed_bits x) };
 
-    ghost of_raw_value = { signed_value 4 (lit< tt) };
-
-    ghost raw_of_value = { λ x _. are_bytes-bytes_of 4 (fixed_bits x) };
-
-    ghost back = { λ x value. ap fixed_of (signed_back 4 (lit< tt) (fixed_bits x) value) };
-
-    ghost forth = { λ bytes. bytes_of-signed_numeral 4 bytes (lit< tt) };
-
-    ghost lengths_agree = { refl };
+    ghost laws = { signed_newtype 4 (lit< tt) fixed_bits fixed_of (λ _. refl) (λ _. refl) };
 
     fn from_raw(raw: [u8; 4]) -> Fixed {
         Self(i32::from_raw(raw))
@@ -381,5 +375,5 @@ impl Scalar for Fixed {
 }
 
 impl IdentityEq for Fixed {
-    ghost identity = { same_bits_identity fixed_bits fixed_of (λ _. refl) };
+    ghost identity = { signed_identity fixed_bits fixed_of (λ _. refl) };
 }

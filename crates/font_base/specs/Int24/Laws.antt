@@ -7,9 +7,9 @@ use mathlib.Core.HLevel.{is_prop→PathP}
 use denote.Struct.Props.{props}
 use Rattle.font_base.specs.declared.int24.Int24.{Int24}
 use Rattle.font_base.specs.Wrap.{FitsBits}
-use Rattle.font_base.specs.Wrap.Laws.{wrap_fits}
+use Rattle.font_base.specs.Wrap.Laws.{wrap-fits}
 use Rattle.font_base.specs.Bytes.{are_bytes, bytes_of, signed_numeral, IsBytesOf}
-use Rattle.font_base.specs.Bytes.Laws.{are_bytes-bytes_of, signed_numeral-bytes_of, FitsBits-signed_numeral, bytes_of-signed_numeral, is_bytes_of}
+use Rattle.font_base.specs.Bytes.Laws.{are_bytes-bytes_of, signed_numeral-bytes_of, FitsBits-signed_numeral, bytes_of-signed_numeral, bytes_of_gives}
 use Rattle.font_base.specs.Scalar.{ScalarLaws}
 use Rattle.font_base.specs.Int24.{int24_number, int24_of, int24_of_bytes, bytes_of_int24}
 
@@ -29,7 +29,7 @@ int24_fits n = record { low = n.low; high = n.high }
 
 pub int24_number-of : (z : ℤ) → FitsBits 24 z → int24_number (int24_of z) ≡ z
 unfolding int24_of
-int24_number-of z fits = wrap_fits 24 z (lit< tt) fits
+int24_number-of z fits = wrap-fits 24 z (lit< tt) fits
 
 int24_back : (n : Int24) → int24_of_bytes (bytes_of_int24 n) ≡ n
 int24_back n =
@@ -53,7 +53,7 @@ int24_laws = record {
 
 -- the value whose bytes these are
 pub int24_read : (n : Int24) (bytes : List ℕ) → IsBytesOf 3 (int24_number n) bytes → n ≡ int24_of_bytes bytes
-int24_read n bytes given = sym (int24_back n) ∙ ap int24_of_bytes (sym (is_bytes_of 3 (int24_number n) bytes given))
+int24_read n bytes given = sym (int24_back n) ∙ ap int24_of_bytes (sym (bytes_of_gives 3 (int24_number n) bytes given))
 
 -- `==` of the numbers joins no two values
 pub int24_identity : (m n : Int24) → Decides (int_eq (int24_number m) (int24_number n)) (m ≡ n)
