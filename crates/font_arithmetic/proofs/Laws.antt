@@ -19,7 +19,7 @@ no_distance : (z : ℤ) → unsigned_abs (z -ℤ z) ≡ 0
 no_distance z = omega (arith, ints)
 
 -- a whole number needs no rounding
-near_exact : (q : ℤ) (d : ℕ) → 0 < d → Near (q *ℤ pos d) d q
+pub near_exact : (q : ℤ) (d : ℕ) → 0 < d → Near (q *ℤ pos d) d q
 near_exact q d some =
     let none = no_distance (q *ℤ pos d) in
     record { close = omega (arith, none); away = λ same. absurd (omega (arith, none, same, some)) }
@@ -28,7 +28,7 @@ rounded_exact : (w : ℕ) (q : ℤ) (d : ℕ) (r : ℤ) → 0 < w → 0 < d → 
 rounded_exact w q d r wide some fits a =
     a.wrapped ∙ ap (wrap w) (near_unique (q *ℤ pos d) d a.exact q some a.nearest (near_exact q d some)) ∙ wrap-fits w q wide fits
 
-times_comm : (x y : ℤ) → (x *ℤ y) ≡ (y *ℤ x)
+pub times_comm : (x y : ℤ) → (x *ℤ y) ≡ (y *ℤ x)
 times_comm x y = omega (arith, ints, mul_comm (up x) (up y), mul_comm (up x) (down y), mul_comm (down x) (up y), mul_comm (down x) (down y))
 
 mul_div_unique : (w : ℕ) (x a c q r : ℤ) → IsMulDiv w x a c q → IsMulDiv w x a c r → q ≡ r

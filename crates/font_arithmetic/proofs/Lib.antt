@@ -6,3 +6,4 @@ pub mod Group
 pub mod Width16
 pub mod Width32
 pub mod Width64
+pub mod Calls

@@ -1,19 +1,19 @@
 -- Rounded and narrowed numbers, from the steps that code takes.
-use Rattle.std.proofs.Common.{◌≡◌, ◌∙◌, sym, ap, refl, subst, ℕ, zero, suc, ◌+◌, ◌-◌, ◌*◌, ◌/◌, ◌%◌, ◌^◌, ◌<◌, ◌≤◌, Bool, true, false, not, ℤ, pos, negsuc, neg_ℤ, ◌+ℤ◌, ◌*ℤ◌, ◌≤ℤ◌, ◌<ℤ◌, unsigned_abs, arith, lit<, if◌then◌else◌, IsTrue, nat_lt, ◌&&◌, ◌==◌, inl, inr}
+use Rattle.std.proofs.Common.{◌≡◌, ◌∙◌, sym, ap, refl, subst, ℕ, zero, suc, ◌+◌, ◌-◌, ◌*◌, ◌/◌, ◌%◌, ◌^◌, ◌<◌, ◌≤◌, Bool, true, false, not, ℤ, pos, negsuc, neg_ℤ, ◌+ℤ◌, ◌-ℤ◌, ◌*ℤ◌, ◌≤ℤ◌, ◌<ℤ◌, unsigned_abs, arith, lit<, if◌then◌else◌, IsTrue, nat_lt, ◌&&◌, ◌==◌, inl, inr}
 use Rattle.std.proofs.lemmas.Int.{ints, by_lt_z, to_z-of_z}
 use Rattle.std.proofs.lemmas.Nat.{pow_pos, div-add-mod'}
-use Rattle.std.proofs.Math.Nat.{mul_assoc, mod-lt, div-le_self, lt_of_le_of_lt as le_lt_trans}
+use Rattle.std.proofs.Math.Nat.{mul_assoc, mul-le-mul, mod-lt, div-le_self, lt_of_le_of_lt as le_lt_trans}
 use Rattle.std.proofs.lemmas.Bool.{cases_lt, eqb-true, ltb-true}
 use Rattle.std.specs.Cmp.{first_so, second_so}
-use Rattle.std.specs.Int.{Width, w32, is_negative}
-use borrow.Author.Differences.{up, down, product_is, false_is_lt}
+use Rattle.std.specs.Int.{Width, w32, w64, is_negative}
+use borrow.Author.Differences.{up, down, product_is, false_is_lt, abs_is}
 use mir.Val.{SFits, to_z, of_z, bits}
-use lib.Signed.{shr_z}
+use lib.Signed.{shr_z, lt_z}
 use Rattle.font_base.specs.Wrap.{half_range, wrap, FitsBits}
 use Rattle.font_base.specs.Wrap.Laws.{wrap_is, wrap_gives, wrap-fits, times_sum}
 use Rattle.font_base.proofs.Widths.{bits_positive}
-use Rattle.font_decimal.specs.Near.{signed, Near, Up, near_magnitude}
-use Rattle.font_decimal.proofs.Near.{rounded_unique, rounded_is, near_from, near_gives, up_gives, neg-times, times_monotone}
+use Rattle.font_decimal.specs.Near.{signed, Near, near, Up, near_magnitude}
+use Rattle.font_decimal.proofs.Near.{rounded_unique, rounded_is, near_from, near_is, near_gives, up_gives, neg-times, times_monotone}
 use mathlib.Core.Bool.{beq}
 use Rattle.font_arithmetic.proofs.Wrapped.{low_bits-wrap, wrap-neg}
 use Rattle.font_arithmetic.specs.Operations.{IsWrappedNear, IsNarrowed, IsNearestWhole, IsFloor, differ_in_sign, IsMulDiv}
@@ -202,12 +202,6 @@ wrapped_near_from w n d exact r some nearest wrapped =
 signed_is_near : (w : ℕ) (s : Bool) (n d m : ℕ) (r : ℤ) → 0 < d → m ≡ near_magnitude n d → r ≡ wrap w (signed s m) → IsWrappedNear w (signed s n) d r
 signed_is_near w s n d m r some near is = wrapped_near_from w (signed s n) d (signed s m) r some (near_from s n d m some (rw near (rounded_is n d some))) is
 
-pub signed_is_product : (w d : ℕ) (x y r : ℤ) (s : Bool) (m a b : ℕ) → 0 < d → s ≡ differ_in_sign x y → a ≡ unsigned_abs x → b ≡ unsigned_abs y
-    → m ≡ near_magnitude (a * b) d → r ≡ wrap w (signed s m) → IsWrappedNear w (x *ℤ y) d r
-signed_is_product w d x y r s m a b some sign first second near is =
-    subst (λ (n : ℤ). IsWrappedNear w n d r) (rw (sign, first, second) (sym (product_signed x y)))
-    (signed_is_near w s (a * b) d m r some near is)
-
 signed_not : (s : Bool) (n : ℕ) → neg_ℤ (signed s n) ≡ signed (not s) n
 signed_not false n = refl
 signed_not true n = twice (pos n)
@@ -293,3 +287,67 @@ shr_is_narrowed w v d half x s test fits is =
     (is_narrowed (bits w) v d half x (shr_z s d) it (bits_positive w)
     (subst (λ (y : ℤ). (shr_z s d *ℤ pos d) ≤ℤ y) is (shr_low s d some))
     (subst (λ (y : ℤ). y <ℤ ((shr_z s d *ℤ pos d) +ℤ pos d)) is (shr_high s d some)))
+
+-- the product of two numbers of 32 bits
+pub products_fit : (x y : ℤ) → SFits w32 x → SFits w32 y → SFits w64 (x *ℤ y)
+products_fit x y f g =
+    let small : unsigned_abs x * unsigned_abs y ≤ 2 ^ 31 * 2 ^ 31 =
+    mul-le-mul {n₁ = unsigned_abs x} {m₁ = unsigned_abs y} {n₂ = 2 ^ 31} {m₂ = 2 ^ 31} (omega (arith, ints, f, abs_is x)) (omega (arith, ints, g, abs_is y)) in
+    rw (product_signed x y) (either (differ_in_sign x y) (unsigned_abs x * unsigned_abs y) (omega (arith, small)))
+  where
+    either : (s : Bool) (n : ℕ) → n ≤ 2 ^ 62 → SFits w64 (signed s n)
+    either true n small = omega (arith, ints, small)
+    either false n small = omega (arith, ints, small)
+
+-- ---- a product that is rounded by a shift: half a step is added, less one where it is negative
+
+abs_times : (q : ℤ) (d : ℕ) → unsigned_abs (q *ℤ pos d) ≡ unsigned_abs q * d
+abs_times (pos m) d = refl
+abs_times (negsuc m) d = abs_neg (suc m * d)
+  where
+    abs_neg : (n : ℕ) → unsigned_abs (neg_ℤ (pos n)) ≡ n
+    abs_neg n = omega (arith, ints)
+
+near_from_above : (n p : ℤ) (k d half : ℕ) → d ≡ half + half → 0 < half → pos 0 ≤ℤ n → k ≡ unsigned_abs p → p ≤ℤ (n +ℤ pos half) → (n +ℤ pos half) <ℤ (p +ℤ pos d)
+    → (2 * unsigned_abs (p -ℤ n) ≤ d) × (2 * unsigned_abs (p -ℤ n) ≡ d → unsigned_abs n < k)
+near_from_above n p k d half halves some sign is low high = (omega (arith, ints, halves, low, high), λ tie. omega (arith, ints, halves, some, sign, is, low, high, tie))
+
+near_from_below : (n p : ℤ) (k d less : ℕ) → d ≡ (less + 1) + (less + 1) → n <ℤ pos 0 → k ≡ unsigned_abs p → p ≤ℤ (n +ℤ pos less) → (n +ℤ pos less) <ℤ (p +ℤ pos d)
+    → (2 * unsigned_abs (p -ℤ n) ≤ d) × (2 * unsigned_abs (p -ℤ n) ≡ d → unsigned_abs n < k)
+near_from_below n p k d less halves sign is low high = (omega (arith, ints, halves, sign, low, high), λ tie. omega (arith, ints, halves, sign, is, low, high, tie))
+
+-- the shift of a sum that fits
+module _ (n : ℤ) (more d : ℕ) (some : 0 < d) (fits : SFits w64 n) (small : unsigned_abs n ≤ 2 ^ 62) (step : more ≤ 2 ^ 32) where
+  shifted : ℤ
+  shifted = shr_z (n +ℤ pos more) d
+
+  sum_fits : SFits w64 (n +ℤ pos more)
+  sum_fits = omega (arith, ints, small, step, abs_is n)
+
+  unfolded : to_z w64 (of_z w64 (shr_z (to_z w64 (of_z w64 (to_z w64 (of_z w64 n) +ℤ pos more))) d)) ≡ shr_z (n +ℤ pos more) d
+  unfolded =
+      ap (λ y. to_z w64 (of_z w64 (shr_z (to_z w64 (of_z w64 (y +ℤ pos more))) d))) (to_z-of_z w64 n fits)
+      ∙ ap (λ y. to_z w64 (of_z w64 (shr_z y d))) (to_z-of_z w64 (n +ℤ pos more) sum_fits)
+      ∙ to_z-of_z w64 (shr_z (n +ℤ pos more) d) (shr_fits w64 (n +ℤ pos more) d sum_fits)
+
+pub shr_is_near_above : (n : ℤ) (half d : ℕ) → SFits w64 n → unsigned_abs n ≤ 2 ^ 62 → lt_z (to_z w64 (of_z w64 n)) (pos 0) ≡ false → half ≤ 2 ^ 32 → 0 < half → d ≡ half + half
+    → to_z w64 (of_z w64 (shr_z (to_z w64 (of_z w64 (to_z w64 (of_z w64 n) +ℤ pos half))) d)) ≡ near n d
+shr_is_near_above n half d fits small sign step some halves =
+    let positive : 0 < d = omega (arith, some, halves) in
+    let q = shr_z (n +ℤ pos half) d in
+    let above : pos 0 ≤ℤ n = let same = to_z-of_z w64 n fits in omega (arith, ints, sign, same) in
+    let near = near_from_above n (q *ℤ pos d) (unsigned_abs q * d) d half halves some above (sym (abs_times q d)) (shr_low (n +ℤ pos half) d positive) (shr_high (n +ℤ pos half) d positive) in
+    unfolded n half d positive fits small step ∙ near_gives n d q positive (record { close = near.0; away = near.1 })
+
+pub shr_is_near_below : (n : ℤ) (less d : ℕ) → SFits w64 n → unsigned_abs n ≤ 2 ^ 62 → lt_z (to_z w64 (of_z w64 n)) (pos 0) ≡ true → less ≤ 2 ^ 32 → d ≡ (less + 1) + (less + 1)
+    → to_z w64 (of_z w64 (shr_z (to_z w64 (of_z w64 (to_z w64 (of_z w64 n) +ℤ pos less))) d)) ≡ near n d
+shr_is_near_below n less d fits small sign step halves =
+    let positive : 0 < d = omega (arith, halves) in
+    let q = shr_z (n +ℤ pos less) d in
+    let below : n <ℤ pos 0 = let same = to_z-of_z w64 n fits in omega (arith, ints, sign, same) in
+    let near = near_from_below n (q *ℤ pos d) (unsigned_abs q * d) d less halves below (sym (abs_times q d)) (shr_low (n +ℤ pos less) d positive) (shr_high (n +ℤ pos less) d positive) in
+    unfolded n less d positive fits small step ∙ near_gives n d q positive (record { close = near.0; away = near.1 })
+
+-- the wrapped answer is a rounded one
+pub near_is_wrapped_near : (w : ℕ) (n : ℤ) (d : ℕ) (r : ℤ) → 0 < d → r ≡ wrap w (near n d) → IsWrappedNear w n d r
+near_is_wrapped_near w n d r some is = wrapped_near_from w n d (near n d) r some (near_is n d some) is

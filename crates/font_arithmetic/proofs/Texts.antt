@@ -1,8 +1,9 @@
 -- What a decimal text is read as, from the number that the reader gives.
-use Rattle.std.proofs.Common.{◌≡◌, ◌∙◌, sym, ap, subst, ℕ, ◌^◌, ◌≤◌, List, ℤ, ◌≤ℤ◌, ◌-◌, Result, Ok, Err, ◌↔◌, arith}
+use Rattle.std.proofs.Common.{◌≡◌, ◌∙◌, sym, ap, subst, ℕ, ◌^◌, ◌≤◌, List, ℤ, ◌≤ℤ◌, ◌-◌, length, max, unsigned_abs, Option, IsSome, Result, Ok, Err, ◌↔◌, arith}
 use Rattle.std.proofs.lemmas.Int.{ints, to_z-of_z}
 use Rattle.std.proofs.lemmas.Nat.{pow_pos}
 use Rattle.std.specs.Int.{Width, w64}
+use borrow.Author.Differences.{abs_is}
 use mir.Val.{SFits, to_z, of_z, bits, hbits}
 use Rattle.font_base.proofs.Widths.{half_range-bits}
 use Rattle.font_base.specs.Wrap.{FitsBits}
@@ -10,6 +11,10 @@ use Rattle.std.specs.Result.{result_map_both}
 use Rattle.font_decimal.specs.Reading.{Reads, IsReading}
 use Rattle.font_decimal.specs.Shortest.{shortest_text}
 use Rattle.font_decimal.specs.declared.reader.DecimalFault.{DecimalFault}
+use Rattle.font_decimal.specs.Padding.{padded_text}
+use Rattle.font_decimal.specs.declared.padding.Pad.{Pad}
+use Rattle.font_decimal.proofs.Padded.{padded_fits}
+use Rattle.font_decimal.proofs.Printed.{shortest_length}
 use Rattle.font_decimal.proofs.Readings.{rounds_unique, reading_unique}
 use Rattle.font_arithmetic.specs.Operations.{least, greatest, ReadsAs, ReadingGives}
 use Rattle.font_arithmetic.proofs.Group.{printed_reads}
@@ -46,3 +51,10 @@ printed_is_read_as bits_of of_bits back w f text (Err fault) room gives x fits s
     let reading : IsReading text f (least w) (greatest w) (Ok (bits_of x)) = rw same (printed_reads w f (bits_of x) room fits) in
     let equal = reading_unique text f (least w) (greatest w) (Err fault) (Ok (bits_of x)) gives reading in
     absurd (cc)
+
+-- the padded text of a number of at most 64 bits finds room in a cell of 23 bytes, or of the width where that is greater
+pub padded_has_room : (w : Width) (b : ℤ) (f : ℕ) (pad : Pad) (old : List ℕ) (result : Option ℕ) → 2 ^ hbits w ≤ 2 ^ 63 → SFits w b → f ≤ 30
+    → IsSome result ↔ (length (padded_text (shortest_text b f) pad) ≤ length old) → max 23 pad.width ≤ length old → IsSome result
+padded_has_room w b f pad old result small fits few room cell =
+    let below : unsigned_abs b ≤ 2 ^ 63 = omega (arith, ints, fits, abs_is b, small) in
+    room.1 (padded_fits (shortest_text b f) pad (length old) (shortest_length b f below few) cell)

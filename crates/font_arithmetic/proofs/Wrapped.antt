@@ -73,3 +73,15 @@ rem_euclid_is_fract w f d x r step room fits is =
       };
       rest = omega (arith, ints, parts.parts);
     })
+
+-- the last bits of a number, by the remainder
+pub rem_euclid-wrap : (v w : Width) (n e r : ℤ) → 2 ^ bits v ≤ 2 ^ hbits w → SFits w n → e ≡ int_rem_euclid (to_z w (of_z w n)) (pos (2 ^ bits v))
+    → r ≡ to_z v (unsigned_abs (to_z w (of_z w e))) → to_z v (of_z v r) ≡ wrap (bits v) n
+rem_euclid-wrap v w n e r room fits is cast =
+    let parts = remainder n (2 ^ bits v) (pow_pos (bits v)) in
+    let rest : e ≡ pos parts.rest = is ∙ ap (λ y. int_rem_euclid y (pos (2 ^ bits v))) (to_z-of_z w n fits) ∙ parts.is in
+    let below = parts.below in
+    let small : SFits w (pos parts.rest) = record { sfits = omega arith } in
+    let kept : r ≡ to_z v parts.rest = cast ∙ ap (λ y. to_z v (unsigned_abs (to_z w (of_z w y)))) rest ∙ ap (λ y. to_z v (unsigned_abs y)) (to_z-of_z w (pos parts.rest) small) in
+    to_z-of_z v r (subst (SFits v) (sym kept) (sfits_to_z (Fits-of_lt below))) ∙ kept ∙ to_z-wrap v parts.rest below
+    ∙ sym (wrap_same (bits v) n (pos parts.rest) parts.turns (bits_positive v) parts.parts)

@@ -1,7 +1,7 @@
 //! The fixed-point number of 32 bits with 16 bits of fraction.
 #![tactic(auto, using(font_arithmetic::proofs::Width32::code_32))]
 
-ghost use Rattle.std.specs.Prelude.{◌≡◌, ◌+◌, ◌-◌, ◌^◌, ◌<◌, ◌≤◌, ◌↔◌, ℤ, pos, negsuc, neg_ℤ, ◌+ℤ◌, ◌-ℤ◌, ◌*ℤ◌, Some, IsSome, IfSome, IfNone, IfOk, refl, length, unsigned_abs, FitsSigned};
+ghost use Rattle.std.specs.Prelude.{◌≡◌, ◌+◌, ◌-◌, ◌^◌, ◌<◌, ◌≤◌, ◌↔◌, ℤ, pos, negsuc, neg_ℤ, ◌+ℤ◌, ◌-ℤ◌, ◌*ℤ◌, Some, IsSome, IfSome, IfNone, IfOk, refl, length, max, unsigned_abs, FitsSigned};
 ghost use Rattle.std.proofs.Common.{lit<};
 ghost use Rattle.std.specs.Int.{w32, is_negative};
 ghost use Rattle.std.specs.Result.{result_map_both};
@@ -9,7 +9,7 @@ ghost use Rattle.font_base.specs.Wrap.{FitsBits, fits_bits, wrap};
 ghost use Rattle.font_base.specs.Bytes.{IsBytesOf, bytes_of, signed_numeral};
 ghost use Rattle.font_decimal.specs.Grammar.{IsNoDecimal};
 ghost use Rattle.font_decimal.specs.Padding.{padded_text, FillsFront};
-ghost use Rattle.font_decimal.specs.Near.{signed, near_magnitude};
+ghost use Rattle.font_decimal.specs.Near.{signed, near, near_magnitude};
 ghost use Rattle.font_decimal.specs.Shortest.{IsShortest};
 ghost use Rattle.font_decimal.specs.Shown.{shown};
 ghost use Rattle.font_fixed.specs.declared.fixed.Fixed.{Fixed};
@@ -187,6 +187,7 @@ impl Fixed {
         requires { pad.now.fill < 128 }
         ensures written { IfSome result (λ n. FillsFront (padded_text (fixed_text self) pad.now) n out.old out.new) }
         ensures room { IsSome result ↔ (length (padded_text (fixed_text self) pad.now) ≤ length out.old) }
+        ensures cell { max 23 pad.now.width ≤ length out.old → IsSome result }
         ensures untouched { IfNone result (out.new ≡ out.old) }
     {
         font_decimal::write_padded(self.shortest().as_str(), out, pad)
@@ -226,6 +227,25 @@ impl Fixed {
         let number = Self(((magnitude % (1 << 32)) as u32).cast_signed());
         if negative { -number } else { number }
     }
+}
+
+// `n / 2^16` rounded to the nearest whole number, ties away from zero.
+fn nearest_steps(n: i64) -> i64
+    requires { unsigned_abs n ≤ 2 ^ 62 }
+    ensures { result ≡ near n 65536 }
+{
+    if n < 0 {
+        (n + 0x7FFF) >> 16
+    } else {
+        (n + 0x8000) >> 16
+    }
+}
+
+// The last 32 bits of a number, as a signed one.
+fn low_bits(n: i64) -> i32
+    ensures { result ≡ wrap 32 n }
+{
+    (n.rem_euclid(1 << 32) as u32).cast_signed()
 }
 
 // `n / d` rounded to the nearest whole number, ties away from zero; where `d` is zero, the greatest of 32 bits.
@@ -289,11 +309,8 @@ impl Mul for Fixed {
     ghost mul_gives = { λ x y product. IsProduct 32 16 (fixed_bits x) (fixed_bits y) (fixed_bits product) };
 
     fn mul(self, other: Fixed) -> Fixed {
-        let product = self.magnitude() * other.magnitude();
-        Self::with_sign(
-            self.differs_in_sign(other),
-            rounded_quotient(product, 0x1_0000),
-        )
+        let product = i64::from(self.0) * i64::from(other.0);
+        Self(low_bits(nearest_steps(product)))
     }
 }
 
