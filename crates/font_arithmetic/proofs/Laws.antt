@@ -9,7 +9,7 @@ use Rattle.font_base.specs.Wrap.Laws.{wrap-fits}
 use Rattle.font_decimal.specs.Near.{Near}
 use Rattle.font_decimal.proofs.Near.{near_unique}
 use Rattle.font_arithmetic.specs.Operations.{IsWrappedNear, IsProduct, IsQuotient, IsMulDiv}
-use Rattle.font_arithmetic.specs.NumberLaws.{ProductLaws, QuotientLaws}
+use Rattle.font_arithmetic.specs.NumberLaws.{ProductLaws, ProductInOneStep, QuotientLaws, QuotientInOneStep}
 
 -- a fraction has one answer
 rounded_unique : (w : ℕ) (n : ℤ) (d : ℕ) (q r : ℤ) → 0 < d → IsWrappedNear w n d q → IsWrappedNear w n d r → q ≡ r
@@ -41,15 +41,19 @@ mul_div_rounded : (w : ℕ) (x a : ℤ) (d : ℕ) (r : ℤ) → 0 < d → IsMulD
 mul_div_rounded w x a zero r some p = absurd (omega arith)
 mul_div_rounded w x a (suc d) r some p = p
 
-pub product_laws_hold : (w f : ℕ) (x y product flipped by_one in_one_step : ℤ) → 0 < w → FitsBits w x → IsProduct w f x y product → IsProduct w f y x flipped
-    → IsProduct w f x (pos (2 ^ f)) by_one → IsMulDiv w x y (pos (2 ^ f)) in_one_step → ProductLaws w f x y product flipped by_one in_one_step
-product_laws_hold w f x y product flipped by_one in_one_step wide fits p q r s = record {
+pub product_laws_hold : (w f : ℕ) (x y product flipped by_one : ℤ) → 0 < w → FitsBits w x → IsProduct w f x y product → IsProduct w f y x flipped
+    → IsProduct w f x (pos (2 ^ f)) by_one → ProductLaws w f x y product flipped by_one
+product_laws_hold w f x y product flipped by_one wide fits p q r = record {
   is_product = p;
   is_flipped = q;
   is_by_one = r;
-  is_in_one_step = s;
   commutes = rounded_unique w (x *ℤ y) (2 ^ f) flipped product (pow_pos f) (subst (λ (n : ℤ). IsWrappedNear w n (2 ^ f) flipped) (times_comm y x) q) p;
   one_is_neutral = rounded_exact w x (2 ^ f) by_one wide (pow_pos f) fits r;
+}
+
+pub product_in_one_step : (w f : ℕ) (x y product in_one_step : ℤ) → IsProduct w f x y product → IsMulDiv w x y (pos (2 ^ f)) in_one_step → ProductInOneStep w f x y product in_one_step
+product_in_one_step w f x y product in_one_step p s = record {
+  is_in_one_step = s;
   steps_agree = rounded_unique w (x *ℤ y) (2 ^ f) in_one_step product (pow_pos f) (mul_div_rounded w x y (2 ^ f) in_one_step (pow_pos f) s) p;
 }
 
@@ -65,14 +69,18 @@ itself w f (negsuc n) r wide fits p other =
     turned : (a b : ℕ) → neg_ℤ (neg_ℤ (pos (b * a))) ≡ (pos a *ℤ pos b)
     turned a b = omega (arith, ints, mul_comm a b)
 
-pub quotient_laws_hold : (w f : ℕ) (x y quotient in_one_step by_one by_itself : ℤ) → 0 < w → FitsBits w x → FitsBits w (pos (2 ^ f)) → IsQuotient w f x y quotient
-    → IsMulDiv w x (pos (2 ^ f)) y in_one_step → IsQuotient w f x (pos (2 ^ f)) by_one → IsQuotient w f x x by_itself → QuotientLaws w f x y quotient in_one_step by_one by_itself
-quotient_laws_hold w f x y quotient in_one_step by_one by_itself wide fits one p q r s = record {
+pub quotient_laws_hold : (w f : ℕ) (x y quotient by_one by_itself : ℤ) → 0 < w → FitsBits w x → FitsBits w (pos (2 ^ f)) → IsQuotient w f x y quotient
+    → IsQuotient w f x (pos (2 ^ f)) by_one → IsQuotient w f x x by_itself → QuotientLaws w f x y quotient by_one by_itself
+quotient_laws_hold w f x y quotient by_one by_itself wide fits one p r s = record {
   is_quotient = p;
-  is_in_one_step = q;
   is_by_one = r;
   is_by_itself = s;
-  steps_agree = mul_div_unique w x (pos (2 ^ f)) y in_one_step quotient q p;
   one_is_neutral = rounded_exact w x (2 ^ f) by_one wide (pow_pos f) fits (mul_div_rounded w x (pos (2 ^ f)) (2 ^ f) by_one (pow_pos f) r);
   itself_gives_one = itself w f x by_itself wide one s;
+}
+
+pub quotient_in_one_step : (w f : ℕ) (x y quotient in_one_step : ℤ) → IsQuotient w f x y quotient → IsMulDiv w x (pos (2 ^ f)) y in_one_step → QuotientInOneStep w f x y quotient in_one_step
+quotient_in_one_step w f x y quotient in_one_step p q = record {
+  is_in_one_step = q;
+  steps_agree = mul_div_unique w x (pos (2 ^ f)) y in_one_step quotient q p;
 }

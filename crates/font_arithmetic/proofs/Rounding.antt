@@ -1,7 +1,7 @@
 -- Rounded and narrowed numbers, from the steps that code takes.
 use Rattle.std.proofs.Common.{◌≡◌, ◌∙◌, sym, ap, refl, subst, ℕ, zero, suc, ◌+◌, ◌-◌, ◌*◌, ◌/◌, ◌%◌, ◌^◌, ◌<◌, ◌≤◌, Bool, true, false, not, ℤ, pos, negsuc, neg_ℤ, ◌+ℤ◌, ◌-ℤ◌, ◌*ℤ◌, ◌≤ℤ◌, ◌<ℤ◌, unsigned_abs, arith, lit<, if◌then◌else◌, IsTrue, nat_lt, ◌&&◌, ◌==◌, inl, inr}
 use Rattle.std.proofs.lemmas.Int.{ints, by_lt_z, to_z-of_z}
-use Rattle.std.proofs.lemmas.Nat.{pow_pos, div-add-mod'}
+use Rattle.std.proofs.lemmas.Nat.{pow_pos, pow-add, div-add-mod'}
 use Rattle.std.proofs.Math.Nat.{mul_assoc, mul-le-mul, mod-lt, div-le_self, lt_of_le_of_lt as le_lt_trans}
 use Rattle.std.proofs.lemmas.Bool.{cases_lt, eqb-true, ltb-true}
 use Rattle.std.specs.Cmp.{first_so, second_so}
@@ -10,7 +10,7 @@ use borrow.Author.Differences.{up, down, product_is, false_is_lt, abs_is}
 use mir.Val.{SFits, to_z, of_z, bits}
 use lib.Signed.{shr_z, lt_z}
 use Rattle.font_base.specs.Wrap.{half_range, wrap, FitsBits}
-use Rattle.font_base.specs.Wrap.Laws.{wrap_is, wrap_gives, wrap-fits, times_sum}
+use Rattle.font_base.specs.Wrap.Laws.{wrap_is, wrap_same, wrap_gives, wrap-fits, times_sum}
 use Rattle.font_base.proofs.Widths.{bits_positive}
 use Rattle.font_decimal.specs.Near.{signed, Near, near, Up, near_magnitude}
 use Rattle.font_decimal.proofs.Near.{rounded_unique, rounded_is, near_from, near_is, near_gives, up_gives, neg-times, times_monotone}
@@ -351,3 +351,22 @@ shr_is_near_below n less d fits small sign step halves =
 -- the wrapped answer is a rounded one
 pub near_is_wrapped_near : (w : ℕ) (n : ℤ) (d : ℕ) (r : ℤ) → 0 < d → r ≡ wrap w (near n d) → IsWrappedNear w n d r
 near_is_wrapped_near w n d r some is = wrapped_near_from w n d (near n d) r some (near_is n d some) is
+
+-- ---- a narrowed number of which fewer bits are kept
+
+wrap-wrap : (u v : ℕ) (z : ℤ) → 0 < u → u ≤ v → wrap u (wrap v z) ≡ wrap u z
+wrap-wrap u v z some less =
+    let given = wrap_is v z (omega (arith, some, less)) in
+    let power : 2 ^ v ≡ 2 ^ (v - u) * 2 ^ u = ap (λ n. 2 ^ n) (let split : v ≡ v - u + u = omega (arith, less) in split) ∙ pow-add 2 (v - u) u in
+    sym (wrap_same u z (wrap v z) (given.turns *ℤ pos (2 ^ (v - u))) some
+    (given.differs ∙ ap (λ y. wrap v z +ℤ y) (ap (λ n. given.turns *ℤ pos n) power ∙ sym (times_assoc given.turns (2 ^ (v - u)) (2 ^ u)))))
+
+pub narrowed_again : (v u : ℕ) (x : ℤ) (d : ℕ) (q r : ℤ) → 0 < d → 0 < u → u ≤ v → IsNarrowed v x d q → r ≡ wrap u q → IsNarrowed u x d r
+narrowed_again v u x d q r some one less given is =
+    narrowed_from u x d given.exact r some given.nearest (is ∙ ap (wrap u) given.wrapped ∙ wrap-wrap u v given.exact one less)
+
+-- the same as code has it: the last bits of the narrowed number
+pub narrowed_low_bits : (w u : Width) (v : ℕ) (x : ℤ) (d : ℕ) (q l r : ℤ) → 0 < d → bits u ≤ v → IsNarrowed v x d q → SFits w q → l ≡ wrap (bits u) (to_z w (of_z w q)) → SFits u l
+    → r ≡ to_z u (of_z u l) → IsNarrowed (bits u) x d r
+narrowed_low_bits w u v x d q l r some less given fits is narrow same =
+    narrowed_again v (bits u) x d q r some (bits_positive u) less given (same ∙ to_z-of_z u l narrow ∙ is ∙ ap (wrap (bits u)) (to_z-of_z w q fits))

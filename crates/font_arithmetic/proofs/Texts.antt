@@ -30,6 +30,14 @@ cast_reads w f text b min max room low high reads =
     let wide : SFits w64 b = omega (arith, ints, narrow, room) in
     rw (to_z-of_z w64 b wide, to_z-of_z w b narrow) (record { rounds = reads.rounds; low = above; high = below })
 
+-- the number of 64 bits is not cast
+pub wide_reads : (f : ℕ) (text : List ℕ) (b : ℤ) → Reads text f (least 64) (greatest 64) b → ReadsAs 64 f text (to_z w64 (of_z w64 b))
+wide_reads f text b reads =
+    let low = reads.low in
+    let high = reads.high in
+    let fits : SFits w64 b = omega (arith, ints, low, high) in
+    rw (to_z-of_z w64 b fits) reads
+
 -- and put into its type
 pub ok_of_bits : {T : Type 0} (of_bits : ℤ → T) (bits_of : T → ℤ) → ((z : ℤ) → bits_of (of_bits z) ≡ z) → ((x : T) → of_bits (bits_of x) ≡ x)
     → (w f : ℕ) (text : List ℕ) (b : ℤ) → ReadsAs w f text b → (x : T) → (let read : Result T DecimalFault = Ok (of_bits b) in read ≡ Ok x) ↔ ReadsAs w f text (bits_of x)

@@ -2,7 +2,7 @@
 -- that goals have, over every fraction.
 use Rattle.std.proofs.Common.{◌≡◌, ◌∙◌, ap, refl, Bool, ℕ, ◌+◌, ◌-◌, ◌*◌, ◌/◌, ◌%◌, ◌^◌, ◌<◌, ◌≤◌, ℤ, pos, neg_ℤ, ◌+ℤ◌, ◌-ℤ◌, ◌*ℤ◌, unsigned_abs, IsTrue, lit<, lit≤, arith, length, max, List, Option, IsSome, ◌↔◌}
 use Rattle.std.proofs.lemmas.Int.{ints, to_z-of_z}
-use Rattle.std.specs.Int.{w32, w64, int_wrapping_neg, int_rem_euclid}
+use Rattle.std.specs.Int.{w16, w32, w64, int_wrapping_neg, int_rem_euclid}
 use lib.Signed.{shr_z}
 use mir.Val.{SFits, to_z, of_z}
 use Rattle.font_base.specs.Wrap.{wrap}
@@ -45,6 +45,9 @@ scaled_32 x d f g = wrapping_mul-wrap w32 x d f g
 
 pub low_bits_32 : (n e r : ℤ) → r ≡ to_z w32 (unsigned_abs (to_z w64 (of_z w64 e))) → e ≡ int_rem_euclid (to_z w64 (of_z w64 n)) (pos 4294967296) → SFits w64 n → to_z w32 (of_z w32 r) ≡ wrap 32 n
 low_bits_32 n e r cast is fits = rem_euclid-wrap w32 w64 n e r (lit≤ tt) fits is cast
+
+pub low_bits_16 : (n e r : ℤ) → r ≡ to_z w16 (unsigned_abs (to_z w32 (of_z w32 e))) → e ≡ int_rem_euclid (to_z w32 (of_z w32 n)) (pos 65536) → SFits w32 n → to_z w16 (of_z w16 r) ≡ wrap 16 n
+low_bits_16 n e r cast is fits = rem_euclid-wrap w16 w32 n e r (lit≤ tt) fits is cast
 
 pub product_32 : (x y a b m l : ℤ) (d : ℕ) → SFits w32 x → SFits w32 y → l ≡ wrap 32 (to_z w64 (of_z w64 m)) → m ≡ near (to_z w64 (of_z w64 (to_z w64 (of_z w64 a) *ℤ to_z w64 (of_z w64 b)))) d
     → a ≡ to_z w32 (of_z w32 x) → b ≡ to_z w32 (of_z w32 y) → SFits w64 m → SFits w32 l → 0 < d → IsWrappedNear 32 (x *ℤ y) d (to_z w32 (of_z w32 l))

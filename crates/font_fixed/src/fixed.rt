@@ -14,11 +14,17 @@ ghost use Rattle.font_decimal.specs.Shortest.{IsShortest};
 ghost use Rattle.font_decimal.specs.Shown.{shown};
 ghost use Rattle.font_fixed.specs.declared.fixed.Fixed.{Fixed};
 ghost use Rattle.font_fixed.specs.Fixed.{fixed_bits, fixed_of, fixed_text};
+ghost use Rattle.font_fixed.specs.F2Dot14.{f2dot14_bits};
+ghost use Rattle.font_fixed.specs.F48Dot16.{f48dot16_bits};
+ghost use Rattle.font_f26.specs.F26Dot6.{f26dot6_bits};
 ghost use Rattle.font_arithmetic.specs.Operations.{IsWrappedNear, IsNarrowed, IsNearestWhole, IsFloor, IsFract, clamp, differ_in_sign, IsProduct, IsQuotient, IsMulDiv, ReadsAs, IsTooFar, ReadingGives};
 ghost use Rattle.font_base.specs.Scalar.Laws.{signed_newtype, signed_identity};
 
+use crate::f2dot14::F2Dot14;
+use crate::f48dot16::F48Dot16;
 use font_base::{FixedSize, IdentityEq, Scalar};
 use font_decimal::{DecimalFault, Pad, Shortest, read_decimal};
+use font_f26::F26Dot6;
 use std::fmt;
 use std::ops::{Add, AddAssign, Div, DivAssign, Mul, MulAssign, Neg, Sub, SubAssign};
 
@@ -160,6 +166,43 @@ impl Fixed {
         self.wrapping_add(Self(0x8000)).0 >> 16
     }
 
+    /// The nearest `F26Dot6`, ties upwards, its bits wrapped to 22.
+    pub fn to_f26dot6(self) -> F26Dot6
+        ensures { IsNarrowed 22 (fixed_bits self) (2 ^ 10) (f26dot6_bits result) }
+    {
+        F26Dot6::from_bits(self.wrapping_add(Self(0x200)).0 >> 10)
+    }
+
+    /// The nearest `F2Dot14`, ties upwards, its bits wrapped to 16.
+    pub fn to_f2dot14(self) -> F2Dot14
+        ensures { IsNarrowed 16 (fixed_bits self) 4 (f2dot14_bits result) }
+    {
+        F2Dot14::from_bits(low_half(self.quarter()))
+    }
+
+    /// The same number as an `F48Dot16`.
+    pub fn to_f48dot16(self) -> F48Dot16
+        ensures { f48dot16_bits result ≡ fixed_bits self }
+    {
+        F48Dot16::from_bits(i64::from(self.0))
+    }
+
+    /// The exact product with a whole number.
+    pub fn mul_i32(self, number: i32) -> F48Dot16
+        ensures { f48dot16_bits result ≡ (fixed_bits self *ℤ number) }
+    {
+        F48Dot16::from_bits(i64::from(self.0) * i64::from(number))
+    }
+
+    /// The number moved by a sum of deltas, exactly, in units of `2^-32`.
+    ///
+    /// A delta counts in units of `1 / 65536`, the last bit of this type, with 16 bits of fraction behind it.
+    pub fn apply_delta(self, delta: F48Dot16) -> i128
+        ensures { result ≡ (fixed_bits self *ℤ pos 65536 +ℤ f48dot16_bits delta) }
+    {
+        i128::from(self.0) * 0x1_0000 + i128::from(delta.to_bits())
+    }
+
     /// The number nearest to a decimal text, ties away from zero.
     ///
     /// `Fixed::from_decimal("1.5")` has bits 98304. A text outside the grammar is refused as `Syntax`, one whose
@@ -198,6 +241,13 @@ impl Fixed {
         ensures text { shown result ≡ fixed_text self }
     {
         Shortest::new(i64::from(self.0), Self::FRACTION_BITS)
+    }
+
+    // The nearest number of four steps, ties upwards, wrapped to 30 bits.
+    fn quarter(self) -> i32
+        ensures { IsNarrowed 30 (fixed_bits self) 4 result }
+    {
+        self.wrapping_add(Self(2)).0 >> 2
     }
 
     fn is_negative(self) -> bool
@@ -246,6 +296,13 @@ fn low_bits(n: i64) -> i32
     ensures { result ≡ wrap 32 n }
 {
     (n.rem_euclid(1 << 32) as u32).cast_signed()
+}
+
+// The last 16 bits of a number, as a signed one.
+fn low_half(n: i32) -> i16
+    ensures { result ≡ wrap 16 n }
+{
+    (n.rem_euclid(0x1_0000) as u16).cast_signed()
 }
 
 // `n / d` rounded to the nearest whole number, ties away from zero; where `d` is zero, the greatest of 32 bits.
