@@ -10,3 +10,6 @@ mod f26dot6;
 pub mod laws;
 
 pub use f26dot6::F26Dot6;
+
+#[cfg(test)]
+mod tests;

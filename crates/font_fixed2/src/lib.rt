@@ -11,3 +11,6 @@ mod f6dot10;
 
 pub use f4dot12::F4Dot12;
 pub use f6dot10::F6Dot10;
+
+#[cfg(test)]
+mod tests;
