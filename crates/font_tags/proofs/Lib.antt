@@ -1,0 +1,4 @@
+pub mod Good
+pub mod TagText
+pub mod Written
+pub mod VersionText
