@@ -1,5 +1,5 @@
 -- Good bytes, index by index, and where others go wrong.
-use Rattle.std.proofs.Common.{◌≡◌, ◌≢◌, ◌∙◌, sym, ap, subst, ℕ, ◌+◌, ◌-◌, ◌<◌, ◌≤◌, ◌⊎◌, inl, inr, List, ◌∷◌, ◌++◌, length, take, replicate, get_or, arith, All, min, refl, drop, Option, None, Some, unwrap_or, MatchOption, IsSomeAnd}
+use Rattle.std.proofs.Common.{◌≡◌, ◌≢◌, ◌∙◌, sym, ap, subst, ℕ, ◌+◌, ◌-◌, ◌<◌, ◌≤◌, inl, inr, List, ◌++◌, length, take, replicate, get_or, arith, min, refl, drop, Option, None, Some, unwrap_or, MatchOption, IsSomeAnd}
 use Rattle.std.specs.List.{AllWithin, HoldsAt}
 use Rattle.std.proofs.lemmas.Bool.{cases_lt}
 use Rattle.std.proofs.lemmas.List.{ext_get_or, length-take-le, length-append, length-replicate, get_or-take, get_or_append_left, get_or-append_right, get_or-replicate, get_or-drop, length-drop, drop-replicate, append_assoc, replicate-append-replicate}

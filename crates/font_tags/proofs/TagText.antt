@@ -1,15 +1,15 @@
 -- How tags are printed.
-use Rattle.std.proofs.Common.{◌≡◌, ◌≢◌, ◌∙◌, sym, ap, subst, refl, ℕ, ◌+◌, ◌-◌, ◌/◌, ◌%◌, ◌^◌, ◌<◌, ◌≤◌, ◌⊎◌, inl, inr, Bool, true, false, Option, Some, Result, List, [], ◌∷◌, ◌++◌, arith}
+use Rattle.std.proofs.Common.{◌≡◌, ap, ℕ, ◌/◌, ◌%◌, ◌<◌, ◌⊎◌, inl, inr, true, Some, List, [], ◌∷◌}
 use Rattle.std.proofs.lemmas.Fmt.{hex_byte}
-use Rattle.std.proofs.lemmas.Bool.{le-leb, lt-leb, cases_lt, cond-false, and_left, and_right}
-use Rattle.std.specs.Fmt.{digits, digit_glyph, padded_integral, format_spec, styled_digits_output, digits_output, DisplaysOnOk, WritesOnOk, ◌++?◌}
+use Rattle.std.proofs.lemmas.Bool.{lt-leb, cond-false, and_left, and_right}
+use Rattle.std.specs.Fmt.{digits, digit_glyph, format_spec, styled_digits_output, digits_output, DisplaysOnOk, WritesOnOk, ◌++?◌}
 use Rattle.font_tags.specs.Tag.{byte_text}
 
 -- a byte outside 0x20 to 0x7E
 abbrev pub IsHidden : ℕ → Type 0
 IsHidden byte = (byte < 0x20) ⊎ (0x7E < byte)
 
-hidden_text : (byte : ℕ) → IsHidden byte → byte_text byte ≡ 123 ∷ 48 ∷ 120 ∷ digit_glyph true (byte / 16) ∷ digit_glyph true (byte % 16) ∷ 125 ∷ []
+pub hidden_text : (byte : ℕ) → IsHidden byte → byte_text byte ≡ 123 ∷ 48 ∷ 120 ∷ digit_glyph true (byte / 16) ∷ digit_glyph true (byte % 16) ∷ 125 ∷ []
 hidden_text byte (inl below) = cond-false _ _ _ (and_left _ _ (lt-leb 0x20 byte below))
 hidden_text byte (inr above) = cond-false _ _ _ (and_right _ _ (lt-leb byte 0x7E above))
 

@@ -1,5 +1,5 @@
 -- How the bits of a version are printed.
-use Rattle.std.proofs.Common.{◌≡◌, ◌∙◌, ap, refl, ℕ, ◌-◌, false, Some, List, [], ◌++◌, length, replicate, arith}
+use Rattle.std.proofs.Common.{◌≡◌, ◌∙◌, ap, ℕ, ◌-◌, false, Some, List, [], ◌++◌, length, replicate, arith}
 use Rattle.std.proofs.lemmas.List.{append-nil}
 use Rattle.std.specs.Fmt.{digits, digits_output, styled_digits_output, format_spec, padded_integral, char_count, WritesOnOk, DisplaysOnOk, ◌++?◌}
 use Rattle.font_tags.specs.Version.{hex_text}

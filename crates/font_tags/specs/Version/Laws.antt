@@ -1,9 +1,9 @@
 -- That a pair of numbers and its four bytes determine each other, and that equality joins no two pairs.
-use Rattle.std.proofs.Common.{◌≡◌, ◌∙◌, sym, ap, subst, refl, ℕ, ◌^◌, ◌+◌, Bool, true, ◌&&◌, ◌==◌, nat_eq, nat_lt, pos, List, ◌++◌, IsTrue, take, drop, length, arith}
+use Rattle.std.proofs.Common.{◌≡◌, ◌∙◌, sym, ap, refl, ℕ, ◌^◌, ◌+◌, Bool, true, ◌&&◌, ◌==◌, nat_eq, nat_lt, pos, List, ◌++◌, IsTrue, take, drop, length, arith}
 use Rattle.std.specs.Bool.{Decides}
 use Rattle.std.specs.Cmp.{unsigned_Decides}
 use Rattle.std.specs.List.{list_all}
-use Rattle.std.proofs.lemmas.Bool.{and_parts, and_from, eq-eqb, eqb-true}
+use Rattle.std.proofs.lemmas.Bool.{and_parts, and_from, eq-eqb}
 use Rattle.std.proofs.lemmas.List.{length-append, length-take-le, length-drop, take-append-drop, take_at, drop_at}
 use Rattle.std.proofs.lemmas.List.Folds.{list_all-append}
 use Rattle.font_base.specs.Bytes.{numeral, are_bytes, bytes_of}
