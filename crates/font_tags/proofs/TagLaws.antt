@@ -112,25 +112,25 @@ same_bytes (x ∷ xs) (y ∷ ys) few_x few_y many bytes_x bytes_y same =
     let rest : tag_text xs ≡ tag_text ys → xs ≡ ys = same_bytes xs ys (omega arith) (omega arith) (omega (arith, many)) (λ i. bytes_x (suc i)) (λ i. bytes_y (suc i)) in
     elim (shown_or_hidden x) [
       | inl shown_x ↦ elim (shown_or_hidden y) [
-          | inl shown_y ↦
-              let whole = rw (shown_text x shown_x, shown_text y shown_y) at same in
-              let first : x ≡ y = cc in
-              let others = rest (cc) in
-              cc
-          | inr hidden_y ↦ absurd (shown_not_hidden x y xs ys shown_x hidden_y (bytes_y 0) (omega arith) same)
-        ]
+        | inl shown_y ↦
+            let whole = rw (shown_text x shown_x, shown_text y shown_y) at same in
+            let first : x ≡ y = cc in
+            let others = rest (cc) in
+            cc
+        | inr hidden_y ↦ absurd (shown_not_hidden x y xs ys shown_x hidden_y (bytes_y 0) (omega arith) same)
+      ]
       | inr hidden_x ↦ elim (shown_or_hidden y) [
-          | inl shown_y ↦ absurd (shown_not_hidden y x ys xs shown_y hidden_x (bytes_x 0) (omega arith) (sym same))
-          | inr hidden_y ↦
-              let small_x : x < 256 = bytes_x 0 in
-              let small_y : y < 256 = bytes_y 0 in
-              let whole = rw (hidden_text x hidden_x, hidden_text y hidden_y) at same in
-              let high : x / 16 ≡ y / 16 = same_glyph (x / 16) (y / 16) (omega arith) (omega arith) (cc) in
-              let low : x % 16 ≡ y % 16 = same_glyph (x % 16) (y % 16) (omega arith) (omega arith) (cc) in
-              let first : x ≡ y = omega (arith, high, low) in
-              let others = rest (cc) in
-              cc
-        ]
+        | inl shown_y ↦ absurd (shown_not_hidden y x ys xs shown_y hidden_x (bytes_x 0) (omega arith) (sym same))
+        | inr hidden_y ↦
+            let small_x : x < 256 = bytes_x 0 in
+            let small_y : y < 256 = bytes_y 0 in
+            let whole = rw (hidden_text x hidden_x, hidden_text y hidden_y) at same in
+            let high : x / 16 ≡ y / 16 = same_glyph (x / 16) (y / 16) (omega arith) (omega arith) (cc) in
+            let low : x % 16 ≡ y % 16 = same_glyph (x % 16) (y % 16) (omega arith) (omega arith) (cc) in
+            let first : x ≡ y = omega (arith, high, low) in
+            let others = rest (cc) in
+            cc
+      ]
     ]
 
 each_byte : (n : ℕ) (bytes : List ℕ) → IsTrue (are_bytes n bytes) → (i : ℕ) → get_or bytes i 0 < 256

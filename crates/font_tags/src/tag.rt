@@ -224,11 +224,11 @@ impl Scalar for Tag {
     ghost raw_of = { tag_bytes };
 
     ghost laws = { record {
-        of_raw_value = λ _ value. value;
-        raw_of_value = λ _ value. value;
-        back = λ _ _. refl;
-        forth = λ _ _. refl;
-        lengths_agree = refl;
+      of_raw_value = λ _ value. value;
+      raw_of_value = λ _ value. value;
+      back = λ _ _. refl;
+      forth = λ _ _. refl;
+      lengths_agree = refl;
     } };
 
     fn from_raw(raw: [u8; 4]) -> Tag {

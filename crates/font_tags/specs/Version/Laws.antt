@@ -28,7 +28,7 @@ halves : (raw : List ℕ) → IsTrue (are_bytes 4 raw) → IsTrue (are_bytes 2 (
 halves raw are =
     let many = are_bytes-length 4 raw are in
     let each : (list_all is_byte (take 2 raw) && list_all is_byte (drop 2 raw)) ≡ true =
-        sym (list_all-append is_byte (take 2 raw) (drop 2 raw)) ∙ ap (λ bytes. list_all is_byte bytes) (take-append-drop 2 raw) ∙ (and_parts (length raw == 4) _ are).1 in
+    sym (list_all-append is_byte (take 2 raw) (drop 2 raw)) ∙ ap (λ bytes. list_all is_byte bytes) (take-append-drop 2 raw) ∙ (and_parts (length raw == 4) _ are).1 in
     let parts = and_parts _ _ each in
     (and_from _ _ (eq-eqb _ 2 (length-take-le 2 raw (omega arith))) parts.0, and_from _ _ (eq-eqb _ 2 (length-drop 2 raw ∙ omega arith)) parts.1)
 
@@ -52,6 +52,7 @@ major_minor_laws = record {
 pub major_minor_identity : (a b : MajorMinor) → Decides (nat_eq a.major b.major && nat_eq a.minor b.minor) (a ≡ b)
 major_minor_identity a b =
     let first = unsigned_Decides a.major b.major in
-    let second = unsigned_Decides a.minor b.minor in
-    (λ same. let parts = and_parts _ _ same in λ i. record { major = first.0 parts.0 i; minor = second.0 parts.1 i },
-     λ same. and_from _ _ (first.1 (ap (λ version. version.major) same)) (second.1 (ap (λ version. version.minor) same)))
+    let second = unsigned_Decides a.minor b.minor in (
+      λ same. let parts = and_parts _ _ same in λ i. record { major = first.0 parts.0 i; minor = second.0 parts.1 i },
+      λ same. and_from _ _ (first.1 (ap (λ version. version.major) same)) (second.1 (ap (λ version. version.minor) same)),
+    )
