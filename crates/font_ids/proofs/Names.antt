@@ -1,0 +1,30 @@
+-- The predefined name ids, one by one.
+use Rattle.std.proofs.Common.{◌≡◌, ◌≢◌, ◌∙◌, sym, ap, refl, ℕ, ◌+◌, ◌<◌, ◌≤◌, ◌⊎◌, inl, inr, Bool, true, false, ◌==◌, ◌||◌, ◌&&◌, nat_le, nat_eq, List, [], ◌∷◌, map, filter, arith, IsTrue}
+use Rattle.std.proofs.lemmas.Bool.{agree_below, agree_below_at, or_cases, eqb-true, leb-true, lt-leb, and_parts, cond-false}
+use Rattle.std.specs.List.{list_all}
+use Rattle.std.specs.Cmp.Lexicographic.{pointwise, bytes_decides}
+use Rattle.font_ids.specs.NameId.{predefined_numbers}
+
+-- the predefined numbers that are not below n
+abbrev pub left_from : ℕ → List ℕ
+left_from n = filter (λ number. nat_le n number) predefined_numbers
+
+abbrev is_step : ℕ → Bool
+is_step n = pointwise nat_eq (left_from n) (n ∷ left_from (n + 1)) || (n == 15)
+
+-- each of them comes before those above it
+pub left_from-step : (n : ℕ) → n ≤ 25 → n ≢ 15 → left_from n ≡ n ∷ left_from (n + 1)
+left_from-step n small other = elim (or_cases _ _ (agree_below_at is_step (λ _. true) 26 n refl (omega arith))) [
+  | inl same ↦ (bytes_decides (left_from n) (n ∷ left_from (n + 1))).0 same
+  | inr gap ↦ absurd (other (eqb-true n 15 gap))
+]
+
+none_from : (n : ℕ) (numbers : List ℕ) → 25 < n → list_all (λ number. nat_le number 25) numbers ≡ true → filter (λ number. nat_le n number) numbers ≡ []
+none_from n [] large small = refl
+none_from n (number ∷ numbers) large small =
+    let parts = and_parts (nat_le number 25) (list_all (λ number. nat_le number 25) numbers) small in
+    cond-false _ _ _ (lt-leb n number (omega (arith, leb-true number 25 parts.0))) ∙ none_from n numbers large parts.1
+
+-- and none comes behind the last
+pub left_from-end : (n : ℕ) → 25 < n → left_from n ≡ []
+left_from-end n large = none_from n predefined_numbers large refl
