@@ -1,6 +1,6 @@
 -- The predefined name ids, one by one.
-use Rattle.std.proofs.Common.{◌≡◌, ◌≢◌, ◌∙◌, sym, ap, refl, ℕ, ◌+◌, ◌<◌, ◌≤◌, ◌⊎◌, inl, inr, Bool, true, false, ◌==◌, ◌||◌, ◌&&◌, nat_le, nat_eq, List, [], ◌∷◌, map, filter, arith, IsTrue}
-use Rattle.std.proofs.lemmas.Bool.{agree_below, agree_below_at, or_cases, eqb-true, leb-true, lt-leb, and_parts, cond-false}
+use Rattle.std.proofs.Common.{◌≡◌, ◌≢◌, ◌∙◌, sym, ap, refl, ℕ, ◌+◌, ◌<◌, ◌≤◌, ◌⊎◌, inl, inr, Bool, true, ◌==◌, ◌||◌, nat_le, nat_eq, List, [], ◌∷◌, filter, arith}
+use Rattle.std.proofs.lemmas.Bool.{agree_below_at, or_cases, eqb-true, leb-true, lt-leb, and_parts, cond-false}
 use Rattle.std.specs.List.{list_all}
 use Rattle.std.specs.Cmp.Lexicographic.{pointwise, bytes_decides}
 use Rattle.font_ids.specs.NameId.{predefined_numbers}
@@ -28,3 +28,8 @@ none_from n (number ∷ numbers) large small =
 -- and none comes behind the last
 pub left_from-end : (n : ℕ) → 25 < n → left_from n ≡ []
 left_from-end n large = none_from n predefined_numbers large refl
+
+-- the number that comes next: the one that is reached, or the one behind the gap
+pub next_step : (n k : ℕ) → ((n ≡ 15) × (k ≡ 16)) ⊎ ((n ≢ 15) × (k ≡ n)) → k ≤ 25 → left_from n ≡ k ∷ left_from (k + 1)
+next_step n k (inl gap) small = ap left_from gap.0 ∙ left_from-step 16 (omega arith) (λ same. omega (arith, same)) ∙ sym (ap (λ m. m ∷ left_from (m + 1)) gap.1)
+next_step n k (inr plain) small = left_from-step n (omega (arith, plain.1)) plain.0 ∙ sym (ap (λ m. m ∷ left_from (m + 1)) plain.1)

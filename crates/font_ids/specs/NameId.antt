@@ -1,5 +1,5 @@
 -- Name identifiers (OpenType, naming table: name IDs 0 to 25 are predefined, without 15; 26 to 255 are reserved for future names, 256 to 32767 for the font's own).
-use Rattle.std.specs.Prelude.{ℕ, ◌+◌, List, [], ◌∷◌, ◌++◌, ◌==◌, if◌then◌else◌, nat_le, map, filter}
+use Rattle.std.specs.Prelude.{ℕ, List, [], ◌∷◌, ◌++◌, ◌==◌, if◌then◌else◌, nat_le, map, filter}
 use Rattle.std.specs.Fmt.{decimal}
 use lib.Chars.{codes}
 use Rattle.font_ids.specs.declared.name_id.NameId.{NameId}

@@ -1,7 +1,7 @@
 -- Offsets to tables (OpenType, data types: Offset16, Offset24, Offset32, "Short/24-bit/Long offset to a table, same as uint16/uint24/uint32, NULL offset = 0x0000..").
 use Rattle.std.specs.Prelude.{ℕ}
 use Rattle.font_base.specs.declared.uint24.Uint24.{Uint24}
-use Rattle.font_base.specs.Uint24.{uint24_number, uint24_of}
+use Rattle.font_base.specs.Uint24.{uint24_number}
 use Rattle.font_ids.specs.declared.offset.Offset16.{Offset16}
 use Rattle.font_ids.specs.declared.offset.Offset24.{Offset24}
 use Rattle.font_ids.specs.declared.offset.Offset32.{Offset32}
