@@ -19,16 +19,6 @@ left_from-step n small other = elim (or_cases _ _ (agree_below_at is_step (λ _.
   | inr gap ↦ absurd (other (eqb-true n 15 gap))
 ]
 
-none_from : (n : ℕ) (numbers : List ℕ) → 25 < n → list_all (λ number. nat_le number 25) numbers ≡ true → filter (λ number. nat_le n number) numbers ≡ []
-none_from n [] large small = refl
-none_from n (number ∷ numbers) large small =
-    let parts = and_parts (nat_le number 25) (list_all (λ number. nat_le number 25) numbers) small in
-    cond-false _ _ _ (lt-leb n number (omega (arith, leb-true number 25 parts.0))) ∙ none_from n numbers large parts.1
-
--- and none comes behind the last
-pub left_from-end : (n : ℕ) → 25 < n → left_from n ≡ []
-left_from-end n large = none_from n predefined_numbers large refl
-
 -- the number that comes next: the one that is reached, or the one behind the gap
 pub next_step : (n k : ℕ) → ((n ≡ 15) × (k ≡ 16)) ⊎ ((n ≢ 15) × (k ≡ n)) → k ≤ 25 → left_from n ≡ k ∷ left_from (k + 1)
 next_step n k (inl gap) small = ap left_from gap.0 ∙ left_from-step 16 (omega arith) (λ same. omega (arith, same)) ∙ sym (ap (λ m. m ∷ left_from (m + 1)) gap.1)
