@@ -1,0 +1,9 @@
+pub mod RingMatrices
+pub mod Identity
+pub mod Integers
+pub mod Elements
+pub mod Cancel
+pub mod Close
+pub mod Bounds
+pub mod RingCalls
+pub mod FixedCalls

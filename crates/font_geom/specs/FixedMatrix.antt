@@ -1,0 +1,78 @@
+-- Matrices of `Fixed`, over their bits (OpenType, data types: Fixed is 16.16), and how far from its exact image they move a point.
+use Rattle.std.specs.Prelude.{ℕ, ◌+◌, ◌*◌, ◌^◌, ◌≤◌, ℤ, pos, ◌+ℤ◌, ◌-ℤ◌, ◌*ℤ◌, unsigned_abs}
+use Rattle.font_base.specs.Wrap.{FitsBits, wrap}
+use Rattle.font_decimal.specs.Near.{near}
+use Rattle.font_fixed.specs.declared.fixed.Fixed.{Fixed}
+use Rattle.font_fixed.specs.Fixed.{fixed_bits}
+use Rattle.font_geom.specs.declared.matrix.Matrix.{Matrix}
+use Rattle.font_geom.specs.declared.point.Point.{Point}
+use Rattle.font_geom.specs.Matrix.{image_of, product_of}
+
+-- the bits of each element, and of each coordinate
+abbrev pub matrix_bits : Matrix Fixed → Matrix ℤ
+matrix_bits m = record { xx = fixed_bits m.xx; yx = fixed_bits m.yx; xy = fixed_bits m.xy; yy = fixed_bits m.yy; dx = fixed_bits m.dx; dy = fixed_bits m.dy }
+
+abbrev pub point_bits : Point Fixed → Point ℤ
+point_bits p = record { x = fixed_bits p.x; y = fixed_bits p.y }
+
+-- the product of two numbers, rounded to the nearest step, ties away from zero, and not wrapped
+abbrev pub rounded_product : ℤ → ℤ → ℤ
+rounded_product x y = near (x *ℤ y) 65536
+
+-- what `*` and `+` give: the rounded product and the sum, each wrapped to 32 bits
+abbrev pub wrapped_product : ℤ → ℤ → ℤ
+wrapped_product x y = wrap 32 (rounded_product x y)
+
+abbrev pub wrapped_sum : ℤ → ℤ → ℤ
+wrapped_sum x y = wrap 32 (x +ℤ y)
+
+-- ---- where no entry and no coordinate leaves 32 bits. Each is an exact sum of rounded products: what happens on the way may wrap.
+
+pub record FitsMatrix (m : Matrix ℤ) : Type 0 where
+  pub xx : FitsBits 32 m.xx
+  pub yx : FitsBits 32 m.yx
+  pub xy : FitsBits 32 m.xy
+  pub yy : FitsBits 32 m.yy
+  pub dx : FitsBits 32 m.dx
+  pub dy : FitsBits 32 m.dy
+
+pub record FitsPoint (p : Point ℤ) : Type 0 where
+  pub x : FitsBits 32 p.x
+  pub y : FitsBits 32 p.y
+
+-- no entry of a * b and no coordinate of (a * b) * p
+pub record FitsComposed (a b : Matrix ℤ) (p : Point ℤ) : Type 0 where
+  pub product : FitsMatrix (product_of ◌+ℤ◌ rounded_product a b)
+  pub image : FitsPoint (image_of ◌+ℤ◌ rounded_product (product_of ◌+ℤ◌ rounded_product a b) p)
+
+-- no coordinate of b * p and none of a * (b * p)
+pub record FitsInTurn (a b : Matrix ℤ) (p : Point ℤ) : Type 0 where
+  pub first : FitsPoint (image_of ◌+ℤ◌ rounded_product b p)
+  pub image : FitsPoint (image_of ◌+ℤ◌ rounded_product a (image_of ◌+ℤ◌ rounded_product b p))
+
+-- ---- the exact image
+
+-- 2^32 times the exact coordinate, in bits, of the point p after b and then the row (u, v, d) of another matrix
+abbrev pub exact_coordinate : ℤ → ℤ → ℤ → Matrix ℤ → Point ℤ → ℤ
+exact_coordinate u v d b p =
+    (u *ℤ ((b.xx *ℤ p.x) +ℤ (b.xy *ℤ p.y) +ℤ (pos 65536 *ℤ b.dx)))
+    +ℤ (v *ℤ ((b.yx *ℤ p.x) +ℤ (b.yy *ℤ p.y) +ℤ (pos 65536 *ℤ b.dy)))
+    +ℤ (pos (2 ^ 32) *ℤ d)
+
+-- 2^32 times the exact image of p, in bits, after b and then a
+abbrev pub exact_image : Matrix ℤ → Matrix ℤ → Point ℤ → Point ℤ
+exact_image a b p = record { x = exact_coordinate a.xx a.xy a.dx b p; y = exact_coordinate a.yx a.yy a.dy b p }
+
+-- the coordinate, in bits, is within e / 2^32 of the exact one
+abbrev pub IsWithin : ℕ → ℤ → ℤ → Type 0
+IsWithin e exact coordinate = unsigned_abs ((pos (2 ^ 32) *ℤ coordinate) -ℤ exact) ≤ e
+
+-- how far (a * b) * p may be from the exact image: (|x| + |y|) / 65536 + 2 bits
+pub record IsCloseComposed (a b : Matrix ℤ) (p moved : Point ℤ) : Type 0 where
+  pub x : IsWithin (65536 * (unsigned_abs p.x + unsigned_abs p.y + 2 * 65536)) (exact_image a b p).x moved.x
+  pub y : IsWithin (65536 * (unsigned_abs p.x + unsigned_abs p.y + 2 * 65536)) (exact_image a b p).y moved.y
+
+-- how far a * (b * p) may be from it: the magnitudes of the linear entries of a's row, over 65536, and 1 bit
+pub record IsCloseInTurn (a b : Matrix ℤ) (p moved : Point ℤ) : Type 0 where
+  pub x : IsWithin (65536 * (unsigned_abs a.xx + unsigned_abs a.xy + 65536)) (exact_image a b p).x moved.x
+  pub y : IsWithin (65536 * (unsigned_abs a.yx + unsigned_abs a.yy + 65536)) (exact_image a b p).y moved.y

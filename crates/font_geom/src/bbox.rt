@@ -1,0 +1,73 @@
+//! Boxes with sides along the axes.
+
+ghost use Rattle.std.specs.Prelude.{◌≡◌, IsTrue};
+ghost use Rattle.std.specs.Ordering.{partial_le};
+ghost use Rattle.font_geom.specs.BoundingBox.{CanScale, IsScaled, is_normalized, normalized_box, Compares, HasSamePairs};
+
+use std::ops::Mul;
+
+/// The least and greatest coordinates of a region.
+#[derive(Clone, Copy, PartialEq, Eq, Default, Debug)]
+pub struct BoundingBox<T> {
+    /// The least x, the left side.
+    pub x_min: T,
+    /// The least y, the bottom where y goes up, as in fonts.
+    pub y_min: T,
+    /// The greatest x, the right side.
+    pub x_max: T,
+    /// The greatest y, the top where y goes up.
+    pub y_max: T,
+}
+
+impl<T: Mul<Output = T> + Copy> BoundingBox<T> {
+    /// The box with each entry times the factor.
+    ///
+    /// A negative factor turns the box round: call `normalize` after it.
+    pub fn scale(&self, factor: T) -> Self
+        requires { CanScale T.can_mul self.now factor }
+        ensures { IsScaled T.mul_gives self.now factor result }
+    {
+        Self {
+            x_min: self.x_min * factor,
+            y_min: self.y_min * factor,
+            x_max: self.x_max * factor,
+            y_max: self.y_max * factor,
+        }
+    }
+}
+
+impl<T: PartialOrd + Copy> BoundingBox<T> {
+    /// Whether `x_min <= x_max` and `y_min <= y_max`.
+    pub fn is_normalized(&self) -> bool
+        ensures { result ≡ is_normalized (partial_le T.partial_cmp) self.now }
+    {
+        self.x_min <= self.x_max && self.y_min <= self.y_max
+    }
+
+    /// The box whose pairs are in order: a pair for which `min <= max` is true stays, and every other pair is swapped.
+    ///
+    /// A pair that does not compare is swapped too, and then the box is not normalized.
+    pub fn normalize(&self) -> Self
+        ensures value { result ≡ normalized_box (partial_le T.partial_cmp) self.now }
+        ensures pairs { HasSamePairs self.now result }
+        ensures in_order { Compares (partial_le T.partial_cmp) self.now → IsTrue (is_normalized (partial_le T.partial_cmp) result) }
+        ensures once { Compares (partial_le T.partial_cmp) self.now → normalized_box (partial_le T.partial_cmp) result ≡ result }
+    {
+        let (x_min, x_max) = if self.x_min <= self.x_max {
+            (self.x_min, self.x_max)
+        } else {
+            (self.x_max, self.x_min)
+        };
+        let (y_min, y_max) = if self.y_min <= self.y_max {
+            (self.y_min, self.y_max)
+        } else {
+            (self.y_max, self.y_min)
+        };
+        Self {
+            x_min,
+            y_min,
+            x_max,
+            y_max,
+        }
+    }
+}

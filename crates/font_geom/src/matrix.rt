@@ -1,0 +1,173 @@
+//! Affine matrices.
+
+ghost use Rattle.std.specs.Prelude.{◌≡◌, pos};
+ghost use Rattle.font_fixed.specs.Fixed.{fixed_of};
+ghost use Rattle.font_geom.specs.Calls.{CanCallEach, CallsEach};
+ghost use Rattle.font_geom.specs.Matrix.{elements_of, identity_matrix, CanTransform, IsTransformed, CanMultiply, IsProductOf};
+
+use crate::Point;
+use font_fixed::Fixed;
+use std::ops::{Add, Mul, MulAssign};
+
+/// A matrix that moves points: one of 2 by 2 elements, and a translation.
+///
+/// ```none
+/// | xx xy dx |
+/// | yx yy dy |
+/// ```
+///
+/// It sends `(x, y)` to `(xx * x + xy * y + dx, yx * x + yy * y + dy)`. The product `a * b` applies `b` and then `a`.
+#[derive(Clone, Copy, PartialEq, Eq, Debug)]
+pub struct Matrix<T> {
+    /// What x adds to x.
+    pub xx: T,
+    /// What x adds to y.
+    pub yx: T,
+    /// What y adds to x.
+    pub xy: T,
+    /// What y adds to y.
+    pub yy: T,
+    /// The translation along x.
+    pub dx: T,
+    /// The translation along y.
+    pub dy: T,
+}
+
+/// A type whose values can be elements of a matrix.
+pub trait MatrixElement: Copy + Add<Output = Self> + Mul<Output = Self> {
+    /// 0.
+    const ZERO: Self;
+
+    /// 1.
+    const ONE: Self;
+
+    ghost ZERO: { Self };
+
+    ghost ONE: { Self };
+}
+
+impl MatrixElement for Fixed {
+    const ZERO: Self = Fixed::ZERO;
+
+    const ONE: Self = Fixed::ONE;
+
+    ghost ZERO = { fixed_of (pos 0) };
+
+    ghost ONE = { fixed_of (pos 65536) };
+}
+
+impl<T: Copy> Matrix<T> {
+    /// The matrix of these elements, in the order `[xx, yx, xy, yy, dx, dy]`.
+    pub fn from_elements(elements: [T; 6]) -> Self
+        ensures { elements_of result ≡ elements }
+    {
+        let [xx, yx, xy, yy, dx, dy] = elements;
+        Self {
+            xx,
+            yx,
+            xy,
+            yy,
+            dx,
+            dy,
+        }
+    }
+
+    /// The elements in the order `[xx, yx, xy, yy, dx, dy]`.
+    pub fn elements(&self) -> [T; 6]
+        ensures { result ≡ elements_of self.now }
+    {
+        [self.xx, self.yx, self.xy, self.yy, self.dx, self.dy]
+    }
+
+    /// The matrix of what the function gives at each element, in the order of `elements`.
+    pub fn map<U: Copy, F: FnMut(T) -> U>(self, mut f: F) -> Matrix<U>
+        requires { CanCallEach F.pre F.step f (elements_of self) }
+        ensures { CallsEach F.step f (elements_of self) (elements_of result) }
+    {
+        Matrix {
+            xx: f(self.xx),
+            yx: f(self.yx),
+            xy: f(self.xy),
+            yy: f(self.yy),
+            dx: f(self.dx),
+            dy: f(self.dy),
+        }
+    }
+}
+
+impl<T: MatrixElement> Matrix<T> {
+    /// The matrix that leaves every point where it is.
+    pub fn identity() -> Self
+        ensures { result ≡ identity_matrix T.ZERO T.ONE }
+    {
+        Self {
+            xx: T::ONE,
+            yx: T::ZERO,
+            xy: T::ZERO,
+            yy: T::ONE,
+            dx: T::ZERO,
+            dy: T::ZERO,
+        }
+    }
+
+    /// Where the point `(x, y)` goes.
+    pub fn transform(&self, x: T, y: T) -> (T, T)
+        requires { CanTransform T.can_mul T.mul_gives T.can_add T.add_gives self.now x y }
+        ensures { IsTransformed T.mul_gives T.add_gives self.now x y result.0 result.1 }
+    {
+        (
+            self.xx * x + self.xy * y + self.dx,
+            self.yx * x + self.yy * y + self.dy,
+        )
+    }
+}
+
+impl<T: MatrixElement> Default for Matrix<T> {
+    ghost is_default = { λ matrix. matrix ≡ identity_matrix T.ZERO T.ONE };
+
+    fn default() -> Matrix<T> {
+        Self::identity()
+    }
+}
+
+impl<T: MatrixElement> Mul for Matrix<T> {
+    type Output = Matrix<T>;
+
+    ghost can_mul = { CanMultiply T.can_mul T.mul_gives T.can_add T.add_gives };
+
+    ghost mul_gives = { IsProductOf T.mul_gives T.add_gives };
+
+    fn mul(self, rhs: Matrix<T>) -> Matrix<T> {
+        Matrix {
+            xx: self.xx * rhs.xx + self.xy * rhs.yx,
+            yx: self.yx * rhs.xx + self.yy * rhs.yx,
+            xy: self.xx * rhs.xy + self.xy * rhs.yy,
+            yy: self.yx * rhs.xy + self.yy * rhs.yy,
+            dx: self.xx * rhs.dx + self.xy * rhs.dy + self.dx,
+            dy: self.yx * rhs.dx + self.yy * rhs.dy + self.dy,
+        }
+    }
+}
+
+impl<T: MatrixElement> MulAssign for Matrix<T> {
+    ghost can_mul_assign = { CanMultiply T.can_mul T.mul_gives T.can_add T.add_gives };
+
+    ghost mul_assign_gives = { IsProductOf T.mul_gives T.add_gives };
+
+    fn mul_assign(&mut self, rhs: Matrix<T>) {
+        *self = *self * rhs;
+    }
+}
+
+impl<T: MatrixElement> Mul<Point<T>> for Matrix<T> {
+    type Output = Point<T>;
+
+    ghost can_mul = { λ matrix p. CanTransform T.can_mul T.mul_gives T.can_add T.add_gives matrix p.x p.y };
+
+    ghost mul_gives = { λ matrix p moved. IsTransformed T.mul_gives T.add_gives matrix p.x p.y moved.x moved.y };
+
+    fn mul(self, rhs: Point<T>) -> Point<T> {
+        let (x, y) = self.transform(rhs.x, rhs.y);
+        Point::new(x, y)
+    }
+}

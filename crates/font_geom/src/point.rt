@@ -1,0 +1,217 @@
+//! Points of two coordinates.
+
+ghost use Rattle.std.specs.Prelude.{◌≡◌, [], ◌∷◌};
+ghost use Rattle.font_geom.specs.Calls.{CanCallEach, CallsEach};
+
+use std::ops::{Add, AddAssign, Div, DivAssign, Mul, MulAssign, Neg, Sub, SubAssign};
+
+/// A point of the plane.
+#[derive(Clone, Copy, PartialEq, Eq, Default, Debug)]
+pub struct Point<T> {
+    /// The x coordinate.
+    pub x: T,
+    /// The y coordinate.
+    pub y: T,
+}
+
+impl<T> Point<T> {
+    /// The point with these coordinates.
+    pub fn new(x: T, y: T) -> Self
+        ensures { result ≡ record { x = x; y = y } }
+    {
+        Self { x, y }
+    }
+
+    /// The point with both coordinates the same.
+    pub fn broadcast(xy: T) -> Self
+    where
+        T: Copy,
+        ensures { result ≡ record { x = xy; y = xy } }
+    {
+        Self { x: xy, y: xy }
+    }
+
+    /// The point of what the function gives at each coordinate, x first.
+    ///
+    /// `point.map(|n| n / 2)` halves both. The function may be called at x, and then at y in the state that it is left in.
+    pub fn map<U, F: FnMut(T) -> U>(self, mut f: F) -> Point<U>
+        requires { CanCallEach F.pre F.step f (self.x ∷ self.y ∷ []) }
+        ensures { CallsEach F.step f (self.x ∷ self.y ∷ []) (result.x ∷ result.y ∷ []) }
+    {
+        Point {
+            x: f(self.x),
+            y: f(self.y),
+        }
+    }
+}
+
+impl<T: Add<Output = T>> Add for Point<T> {
+    type Output = Point<T>;
+
+    ghost can_add = { λ p q. T.can_add p.x q.x × T.can_add p.y q.y };
+
+    ghost add_gives = { λ p q sum. T.add_gives p.x q.x sum.x × T.add_gives p.y q.y sum.y };
+
+    fn add(self, rhs: Point<T>) -> Point<T> {
+        Point {
+            x: self.x + rhs.x,
+            y: self.y + rhs.y,
+        }
+    }
+}
+
+impl<T: AddAssign> AddAssign for Point<T> {
+    ghost can_add_assign = { λ p q. T.can_add_assign p.x q.x × T.can_add_assign p.y q.y };
+
+    ghost add_assign_gives = { λ p q sum. T.add_assign_gives p.x q.x sum.x × T.add_assign_gives p.y q.y sum.y };
+
+    fn add_assign(&mut self, rhs: Point<T>) {
+        self.x += rhs.x;
+        self.y += rhs.y;
+    }
+}
+
+impl<T: Sub<Output = T>> Sub for Point<T> {
+    type Output = Point<T>;
+
+    ghost can_sub = { λ p q. T.can_sub p.x q.x × T.can_sub p.y q.y };
+
+    ghost sub_gives = { λ p q rest. T.sub_gives p.x q.x rest.x × T.sub_gives p.y q.y rest.y };
+
+    fn sub(self, rhs: Point<T>) -> Point<T> {
+        Point {
+            x: self.x - rhs.x,
+            y: self.y - rhs.y,
+        }
+    }
+}
+
+impl<T: SubAssign> SubAssign for Point<T> {
+    ghost can_sub_assign = { λ p q. T.can_sub_assign p.x q.x × T.can_sub_assign p.y q.y };
+
+    ghost sub_assign_gives = { λ p q rest. T.sub_assign_gives p.x q.x rest.x × T.sub_assign_gives p.y q.y rest.y };
+
+    fn sub_assign(&mut self, rhs: Point<T>) {
+        self.x -= rhs.x;
+        self.y -= rhs.y;
+    }
+}
+
+impl<T: Mul<Output = T>> Mul for Point<T> {
+    type Output = Point<T>;
+
+    ghost can_mul = { λ p q. T.can_mul p.x q.x × T.can_mul p.y q.y };
+
+    ghost mul_gives = { λ p q product. T.mul_gives p.x q.x product.x × T.mul_gives p.y q.y product.y };
+
+    fn mul(self, rhs: Point<T>) -> Point<T> {
+        Point {
+            x: self.x * rhs.x,
+            y: self.y * rhs.y,
+        }
+    }
+}
+
+impl<T: Mul<Output = T> + Copy> Mul<T> for Point<T> {
+    type Output = Point<T>;
+
+    ghost can_mul = { λ p factor. T.can_mul p.x factor × T.can_mul p.y factor };
+
+    ghost mul_gives = { λ p factor product. T.mul_gives p.x factor product.x × T.mul_gives p.y factor product.y };
+
+    fn mul(self, rhs: T) -> Point<T> {
+        Point {
+            x: self.x * rhs,
+            y: self.y * rhs,
+        }
+    }
+}
+
+impl<T: MulAssign> MulAssign for Point<T> {
+    ghost can_mul_assign = { λ p q. T.can_mul_assign p.x q.x × T.can_mul_assign p.y q.y };
+
+    ghost mul_assign_gives = { λ p q product. T.mul_assign_gives p.x q.x product.x × T.mul_assign_gives p.y q.y product.y };
+
+    fn mul_assign(&mut self, rhs: Point<T>) {
+        self.x *= rhs.x;
+        self.y *= rhs.y;
+    }
+}
+
+impl<T: MulAssign + Copy> MulAssign<T> for Point<T> {
+    ghost can_mul_assign = { λ p factor. T.can_mul_assign p.x factor × T.can_mul_assign p.y factor };
+
+    ghost mul_assign_gives = { λ p factor product. T.mul_assign_gives p.x factor product.x × T.mul_assign_gives p.y factor product.y };
+
+    fn mul_assign(&mut self, rhs: T) {
+        self.x *= rhs;
+        self.y *= rhs;
+    }
+}
+
+impl<T: Div<Output = T>> Div for Point<T> {
+    type Output = Point<T>;
+
+    ghost can_div = { λ p q. T.can_div p.x q.x × T.can_div p.y q.y };
+
+    ghost div_gives = { λ p q quotient. T.div_gives p.x q.x quotient.x × T.div_gives p.y q.y quotient.y };
+
+    fn div(self, rhs: Point<T>) -> Point<T> {
+        Point {
+            x: self.x / rhs.x,
+            y: self.y / rhs.y,
+        }
+    }
+}
+
+impl<T: Div<Output = T> + Copy> Div<T> for Point<T> {
+    type Output = Point<T>;
+
+    ghost can_div = { λ p divisor. T.can_div p.x divisor × T.can_div p.y divisor };
+
+    ghost div_gives = { λ p divisor quotient. T.div_gives p.x divisor quotient.x × T.div_gives p.y divisor quotient.y };
+
+    fn div(self, rhs: T) -> Point<T> {
+        Point {
+            x: self.x / rhs,
+            y: self.y / rhs,
+        }
+    }
+}
+
+impl<T: DivAssign> DivAssign for Point<T> {
+    ghost can_div_assign = { λ p q. T.can_div_assign p.x q.x × T.can_div_assign p.y q.y };
+
+    ghost div_assign_gives = { λ p q quotient. T.div_assign_gives p.x q.x quotient.x × T.div_assign_gives p.y q.y quotient.y };
+
+    fn div_assign(&mut self, rhs: Point<T>) {
+        self.x /= rhs.x;
+        self.y /= rhs.y;
+    }
+}
+
+impl<T: DivAssign + Copy> DivAssign<T> for Point<T> {
+    ghost can_div_assign = { λ p divisor. T.can_div_assign p.x divisor × T.can_div_assign p.y divisor };
+
+    ghost div_assign_gives = { λ p divisor quotient. T.div_assign_gives p.x divisor quotient.x × T.div_assign_gives p.y divisor quotient.y };
+
+    fn div_assign(&mut self, rhs: T) {
+        self.x /= rhs;
+        self.y /= rhs;
+    }
+}
+
+impl<T: Neg<Output = T>> Neg for Point<T> {
+    type Output = Point<T>;
+
+    ghost can_neg = { λ p. T.can_neg p.x × T.can_neg p.y };
+
+    ghost neg_gives = { λ p opposite. T.neg_gives p.x opposite.x × T.neg_gives p.y opposite.y };
+
+    fn neg(self) -> Point<T> {
+        Point {
+            x: -self.x,
+            y: -self.y,
+        }
+    }
+}

@@ -1,0 +1,101 @@
+//! Boxes of whole numbers.
+
+ghost use Rattle.std.specs.Prelude.{◌≡◌, ◌&&◌, nat_le};
+ghost use Rattle.font_geom.specs.BoundingBox.Laws.{is_tied, order_of, equality_laws, order_laws, coordinates_chain};
+
+use crate::BoundingBox;
+use std::cmp::Ordering;
+use std::test::Fail;
+
+fn sides(x_min: i32, y_min: i32, x_max: i32, y_max: i32) -> BoundingBox<i32>
+    ensures { result ≡ record { x_min = x_min; y_min = y_min; x_max = x_max; y_max = y_max } }
+{
+    BoundingBox {
+        x_min,
+        y_min,
+        x_max,
+        y_max,
+    }
+}
+
+#[test]
+fn turned_round_by_a_negative_factor(rt: HostRuntime) {
+    let turned = sides(5, 5, 10, 10).scale(-2);
+    assert!(rt; turned == sides(-10, -10, -20, -20));
+    assert!(rt; !turned.is_normalized());
+    assert!(rt; turned.normalize() == sides(-20, -20, -10, -10));
+}
+
+#[test]
+fn normalized_by_pairs(rt: HostRuntime) {
+    assert!(rt; sides(1, 4, 3, 2).normalize() == sides(1, 2, 3, 4));
+    assert!(rt; sides(3, 2, 1, 4).normalize() == sides(1, 2, 3, 4));
+    assert!(rt; sides(3, 3, 3, 3).is_normalized());
+    assert!(rt; BoundingBox::<i32>::default() == sides(0, 0, 0, 0));
+}
+
+#[test]
+fn shown_and_cloned(rt: HostRuntime) -> Result<(), Fail> {
+    let square = sides(0, 1, 2, 3);
+    let text = "BoundingBox { x_min: 0, y_min: 1, x_max: 2, y_max: 3 }";
+    assert_eq!(rt; format!(in rt.alloc(); "{square:?}")?.as_str(), text);
+    assert!(rt; square.clone()? == square);
+    Ok(())
+}
+
+/// A corner, which is at most another where no coordinate is greater.
+#[derive(Clone, Copy)]
+struct Corner {
+    x: u8,
+    y: u8,
+}
+
+impl Corner {
+    fn is_within(&self, other: &Corner) -> bool
+        ensures { result ≡ (nat_le self.now.x other.now.x && nat_le self.now.y other.now.y) }
+    {
+        self.x <= other.x && self.y <= other.y
+    }
+}
+
+impl PartialEq for Corner {
+    ghost eq = { is_tied (λ a b. nat_le a.x b.x && nat_le a.y b.y) };
+
+    ghost laws = { equality_laws (λ a b. nat_le a.x b.x && nat_le a.y b.y) (λ a b c. coordinates_chain a.x b.x c.x a.y b.y c.y) };
+
+    fn eq(&self, other: &Corner) -> bool {
+        self.is_within(other) && other.is_within(self)
+    }
+}
+
+impl PartialOrd for Corner {
+    ghost partial_cmp = { order_of (λ a b. nat_le a.x b.x && nat_le a.y b.y) };
+
+    ghost laws = { order_laws (λ a b. nat_le a.x b.x && nat_le a.y b.y) (λ a b c. coordinates_chain a.x b.x c.x a.y b.y c.y) };
+
+    fn partial_cmp(&self, other: &Corner) -> Option<Ordering> {
+        match (self.is_within(other), other.is_within(self)) {
+            (true, true) => Some(Ordering::Equal),
+            (true, false) => Some(Ordering::Less),
+            (false, true) => Some(Ordering::Greater),
+            (false, false) => None,
+        }
+    }
+}
+
+#[test]
+fn a_pair_that_does_not_compare_is_swapped(rt: HostRuntime) {
+    let (left, right) = (Corner { x: 1, y: 2 }, Corner { x: 2, y: 1 });
+    assert!(rt; left.partial_cmp(&right).is_none());
+    let odd = BoundingBox {
+        x_min: left,
+        y_min: left,
+        x_max: right,
+        y_max: left,
+    };
+    let swapped = odd.normalize();
+    assert!(rt; swapped.x_min == right && swapped.x_max == left);
+    assert!(rt; swapped.y_min == left && swapped.y_max == left);
+    assert!(rt; !swapped.is_normalized());
+    assert!(rt; swapped.normalize() == odd);
+}
