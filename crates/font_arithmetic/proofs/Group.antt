@@ -3,7 +3,7 @@ use Rattle.std.proofs.Common.{◌≡◌, ◌∙◌, sym, ap, ℕ, ◌-◌, ◌^�
 use Rattle.std.proofs.lemmas.Int.{ints}
 use borrow.Author.Differences.{abs_is}
 use Rattle.font_base.specs.Wrap.{wrap, FitsBits}
-use Rattle.font_base.specs.Wrap.Laws.{wrap_is, wrap_same, wrap_fits, same_rest}
+use Rattle.font_base.specs.Wrap.Laws.{wrap_is, wrap_same, wrap-fits, same_rest}
 use Rattle.font_decimal.specs.Shortest.{shortest_text}
 use Rattle.font_decimal.proofs.Near.{neg-times}
 use Rattle.font_decimal.proofs.Printed.{printed_rounds}
@@ -28,7 +28,7 @@ sum_associates w a b c some =
     wrap-add_left w (a +ℤ b) c some ∙ ap (wrap w) (omega (arith, ints)) ∙ sym (wrap-add_right w a (b +ℤ c) some)
 
 pub zero_is_neutral : (w : ℕ) (a : ℤ) → 0 < w → FitsBits w a → wrap w (a +ℤ pos 0) ≡ a
-zero_is_neutral w a some fits = let same : (a +ℤ pos 0) ≡ a = omega (arith, ints) in ap (wrap w) same ∙ wrap_fits w a some fits
+zero_is_neutral w a some fits = let same : (a +ℤ pos 0) ≡ a = omega (arith, ints) in ap (wrap w) same ∙ wrap-fits w a some fits
 
 pub opposite_is_inverse : (w : ℕ) (a : ℤ) → 0 < w → wrap w (a +ℤ wrap w (neg_ℤ a)) ≡ wrap w (pos 0)
 opposite_is_inverse w a some = wrap-add_right w a (neg_ℤ a) some ∙ ap (wrap w) (omega (arith, ints))

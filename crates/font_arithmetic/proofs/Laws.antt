@@ -5,30 +5,30 @@ use Rattle.std.proofs.lemmas.Nat.{pow_pos}
 use Rattle.std.proofs.Math.Nat.{mul_comm}
 use borrow.Author.Differences.{up, down}
 use Rattle.font_base.specs.Wrap.{wrap, FitsBits}
-use Rattle.font_base.specs.Wrap.Laws.{wrap_fits}
+use Rattle.font_base.specs.Wrap.Laws.{wrap-fits}
 use Rattle.font_decimal.specs.Near.{Near}
 use Rattle.font_decimal.proofs.Near.{near_unique}
-use Rattle.font_arithmetic.specs.Operations.{IsRounded, IsProduct, IsQuotient, IsMulDiv}
-use Rattle.font_arithmetic.specs.NumberLaws.{ProductLaws, QuotientLaws}
+use Rattle.font_arithmetic.specs.Operations.{IsWrappedNear, IsProduct, IsQuotient, IsMulDiv}
+use Rattle.font_arithmetic.specs.NumberLaws.{ProductLaws, ProductInOneStep, QuotientLaws, QuotientInOneStep}
 
 -- a fraction has one answer
-rounded_unique : (w : ℕ) (n : ℤ) (d : ℕ) (q r : ℤ) → 0 < d → IsRounded w n d q → IsRounded w n d r → q ≡ r
+rounded_unique : (w : ℕ) (n : ℤ) (d : ℕ) (q r : ℤ) → 0 < d → IsWrappedNear w n d q → IsWrappedNear w n d r → q ≡ r
 rounded_unique w n d q r some a b = a.wrapped ∙ ap (wrap w) (near_unique n d a.exact b.exact some a.nearest b.nearest) ∙ sym b.wrapped
 
 no_distance : (z : ℤ) → unsigned_abs (z -ℤ z) ≡ 0
 no_distance z = omega (arith, ints)
 
 -- a whole number needs no rounding
-near_exact : (q : ℤ) (d : ℕ) → 0 < d → Near (q *ℤ pos d) d q
+pub near_exact : (q : ℤ) (d : ℕ) → 0 < d → Near (q *ℤ pos d) d q
 near_exact q d some =
     let none = no_distance (q *ℤ pos d) in
     record { close = omega (arith, none); away = λ same. absurd (omega (arith, none, same, some)) }
 
-rounded_exact : (w : ℕ) (q : ℤ) (d : ℕ) (r : ℤ) → 0 < w → 0 < d → FitsBits w q → IsRounded w (q *ℤ pos d) d r → r ≡ q
+rounded_exact : (w : ℕ) (q : ℤ) (d : ℕ) (r : ℤ) → 0 < w → 0 < d → FitsBits w q → IsWrappedNear w (q *ℤ pos d) d r → r ≡ q
 rounded_exact w q d r wide some fits a =
-    a.wrapped ∙ ap (wrap w) (near_unique (q *ℤ pos d) d a.exact q some a.nearest (near_exact q d some)) ∙ wrap_fits w q wide fits
+    a.wrapped ∙ ap (wrap w) (near_unique (q *ℤ pos d) d a.exact q some a.nearest (near_exact q d some)) ∙ wrap-fits w q wide fits
 
-times_comm : (x y : ℤ) → (x *ℤ y) ≡ (y *ℤ x)
+pub times_comm : (x y : ℤ) → (x *ℤ y) ≡ (y *ℤ x)
 times_comm x y = omega (arith, ints, mul_comm (up x) (up y), mul_comm (up x) (down y), mul_comm (down x) (up y), mul_comm (down x) (down y))
 
 mul_div_unique : (w : ℕ) (x a c q r : ℤ) → IsMulDiv w x a c q → IsMulDiv w x a c r → q ≡ r
@@ -37,19 +37,23 @@ mul_div_unique w x a (pos (suc c)) q r p s = rounded_unique w (x *ℤ a) (suc c)
 mul_div_unique w x a (negsuc c) q r p s = rounded_unique w (neg_ℤ (x *ℤ a)) (suc c) q r (omega arith) p s
 
 -- a positive divisor
-mul_div_rounded : (w : ℕ) (x a : ℤ) (d : ℕ) (r : ℤ) → 0 < d → IsMulDiv w x a (pos d) r → IsRounded w (x *ℤ a) d r
+mul_div_rounded : (w : ℕ) (x a : ℤ) (d : ℕ) (r : ℤ) → 0 < d → IsMulDiv w x a (pos d) r → IsWrappedNear w (x *ℤ a) d r
 mul_div_rounded w x a zero r some p = absurd (omega arith)
 mul_div_rounded w x a (suc d) r some p = p
 
-pub product_laws_hold : (w f : ℕ) (x y product flipped by_one in_one_step : ℤ) → 0 < w → FitsBits w x → IsProduct w f x y product → IsProduct w f y x flipped
-    → IsProduct w f x (pos (2 ^ f)) by_one → IsMulDiv w x y (pos (2 ^ f)) in_one_step → ProductLaws w f x y product flipped by_one in_one_step
-product_laws_hold w f x y product flipped by_one in_one_step wide fits p q r s = record {
+pub product_laws_hold : (w f : ℕ) (x y product flipped by_one : ℤ) → 0 < w → FitsBits w x → IsProduct w f x y product → IsProduct w f y x flipped
+    → IsProduct w f x (pos (2 ^ f)) by_one → ProductLaws w f x y product flipped by_one
+product_laws_hold w f x y product flipped by_one wide fits p q r = record {
   is_product = p;
   is_flipped = q;
   is_by_one = r;
-  is_in_one_step = s;
-  commutes = rounded_unique w (x *ℤ y) (2 ^ f) flipped product (pow_pos f) (subst (λ (n : ℤ). IsRounded w n (2 ^ f) flipped) (times_comm y x) q) p;
+  commutes = rounded_unique w (x *ℤ y) (2 ^ f) flipped product (pow_pos f) (subst (λ (n : ℤ). IsWrappedNear w n (2 ^ f) flipped) (times_comm y x) q) p;
   one_is_neutral = rounded_exact w x (2 ^ f) by_one wide (pow_pos f) fits r;
+}
+
+pub product_in_one_step : (w f : ℕ) (x y product in_one_step : ℤ) → IsProduct w f x y product → IsMulDiv w x y (pos (2 ^ f)) in_one_step → ProductInOneStep w f x y product in_one_step
+product_in_one_step w f x y product in_one_step p s = record {
+  is_in_one_step = s;
   steps_agree = rounded_unique w (x *ℤ y) (2 ^ f) in_one_step product (pow_pos f) (mul_div_rounded w x y (2 ^ f) in_one_step (pow_pos f) s) p;
 }
 
@@ -57,22 +61,26 @@ itself : (w f : ℕ) (x r : ℤ) → 0 < w → FitsBits w (pos (2 ^ f)) → IsQu
 itself w f (pos zero) r wide fits p other = absurd (other refl)
 itself w f (pos (suc n)) r wide fits p other =
     rounded_exact w (pos (2 ^ f)) (suc n) r wide (omega arith) fits
-    (subst (λ (m : ℤ). IsRounded w m (suc n) r) (times_comm (pos (suc n)) (pos (2 ^ f))) p)
+    (subst (λ (m : ℤ). IsWrappedNear w m (suc n) r) (times_comm (pos (suc n)) (pos (2 ^ f))) p)
 itself w f (negsuc n) r wide fits p other =
     rounded_exact w (pos (2 ^ f)) (suc n) r wide (omega arith) fits
-    (subst (λ (m : ℤ). IsRounded w m (suc n) r) (turned (2 ^ f) (suc n)) p)
+    (subst (λ (m : ℤ). IsWrappedNear w m (suc n) r) (turned (2 ^ f) (suc n)) p)
   where
     turned : (a b : ℕ) → neg_ℤ (neg_ℤ (pos (b * a))) ≡ (pos a *ℤ pos b)
     turned a b = omega (arith, ints, mul_comm a b)
 
-pub quotient_laws_hold : (w f : ℕ) (x y quotient in_one_step by_one by_itself : ℤ) → 0 < w → FitsBits w x → FitsBits w (pos (2 ^ f)) → IsQuotient w f x y quotient
-    → IsMulDiv w x (pos (2 ^ f)) y in_one_step → IsQuotient w f x (pos (2 ^ f)) by_one → IsQuotient w f x x by_itself → QuotientLaws w f x y quotient in_one_step by_one by_itself
-quotient_laws_hold w f x y quotient in_one_step by_one by_itself wide fits one p q r s = record {
+pub quotient_laws_hold : (w f : ℕ) (x y quotient by_one by_itself : ℤ) → 0 < w → FitsBits w x → FitsBits w (pos (2 ^ f)) → IsQuotient w f x y quotient
+    → IsQuotient w f x (pos (2 ^ f)) by_one → IsQuotient w f x x by_itself → QuotientLaws w f x y quotient by_one by_itself
+quotient_laws_hold w f x y quotient by_one by_itself wide fits one p r s = record {
   is_quotient = p;
-  is_in_one_step = q;
   is_by_one = r;
   is_by_itself = s;
-  steps_agree = mul_div_unique w x (pos (2 ^ f)) y in_one_step quotient q p;
   one_is_neutral = rounded_exact w x (2 ^ f) by_one wide (pow_pos f) fits (mul_div_rounded w x (pos (2 ^ f)) (2 ^ f) by_one (pow_pos f) r);
   itself_gives_one = itself w f x by_itself wide one s;
+}
+
+pub quotient_in_one_step : (w f : ℕ) (x y quotient in_one_step : ℤ) → IsQuotient w f x y quotient → IsMulDiv w x (pos (2 ^ f)) y in_one_step → QuotientInOneStep w f x y quotient in_one_step
+quotient_in_one_step w f x y quotient in_one_step p q = record {
+  is_in_one_step = q;
+  steps_agree = mul_div_unique w x (pos (2 ^ f)) y in_one_step quotient q p;
 }

@@ -1,48 +1,84 @@
--- The lemmas that the file of a type of 32 bits names once, in the form that its goals have: then its calls need no answers. Each is
--- the lemma for every width, with the numerals of this one.
-use Rattle.std.proofs.Common.{◌≡◌, ℕ, ◌+◌, ◌-◌, ◌*◌, ◌%◌, ◌<◌, Bool, ℤ, pos, neg_ℤ, ◌+ℤ◌, ◌-ℤ◌, ◌*ℤ◌, unsigned_abs, lit<, lit≤}
-use Rattle.std.specs.Int.{w32, int_wrapping_neg, int_rem_euclid}
+-- What the file of a type of 32 bits names once, so that its calls need no answers: what std's calls and steps of code on 32 bits give, in the form
+-- that goals have, over every fraction.
+use Rattle.std.proofs.Common.{◌≡◌, ◌∙◌, ap, refl, Bool, ℕ, ◌+◌, ◌-◌, ◌*◌, ◌/◌, ◌%◌, ◌^◌, ◌<◌, ◌≤◌, ℤ, pos, neg_ℤ, ◌+ℤ◌, ◌-ℤ◌, ◌*ℤ◌, unsigned_abs, IsTrue, lit<, lit≤, arith, length, max, List, Option, IsSome, ◌↔◌}
+use Rattle.std.proofs.lemmas.Int.{ints, to_z-of_z}
+use Rattle.std.specs.Int.{w16, w32, w64, int_wrapping_neg, int_rem_euclid}
 use lib.Signed.{shr_z}
 use mir.Val.{SFits, to_z, of_z}
 use Rattle.font_base.specs.Wrap.{wrap}
-use Rattle.font_decimal.specs.Near.{signed, near_magnitude}
+use Rattle.font_decimal.specs.Near.{near}
 pub use Rattle.font_decimal.proofs.Printed.{shortest_is_decimal}
-use Rattle.font_arithmetic.specs.Operations.{IsFloor, IsFract, IsRound, IsNarrowed, IsRounded, differ_in_sign}
-use Rattle.font_arithmetic.proofs.Wrapped.{sum_code, difference_code, negated_code, abs_code, fract_code, scaled_code}
-use Rattle.font_arithmetic.proofs.Rounding.{round_code, widths_32_16, narrowed_shr, sign_code, minus_code, product_code, mul_div_code}
-
--- ---- for every fraction
+use Rattle.font_decimal.specs.Padding.{padded_text}
+use Rattle.font_decimal.specs.Shortest.{shortest_text}
+use Rattle.font_decimal.specs.declared.padding.Pad.{Pad}
+use Rattle.font_arithmetic.proofs.Texts.{padded_has_room}
+use Rattle.font_arithmetic.specs.Operations.{IsFloor, IsFract, IsNearestWhole, IsNarrowed, IsWrappedNear}
+use Rattle.font_arithmetic.proofs.Wrapped.{wrapping_add-wrap, wrapping_sub-wrap, wrapping_neg-wrap, wrapping_abs-wrap, rem_euclid_is_fract, wrapping_mul-wrap, rem_euclid-wrap}
+use Rattle.font_arithmetic.proofs.Calls.{wrap-signed_fits, wrap-add_zero, wrap-zero_add, wrap-sub_zero}
+use Rattle.font_arithmetic.proofs.Rounding.{splits, floor_is_nearest_whole, shr_is_narrowed, low_bits-signed, low_bits-negated, shr_is_near_above, shr_is_near_below, near_is_wrapped_near, products_fit, signed_is_mul_div}
 
 pub sum_32 : (x y : ℤ) → SFits w32 x → SFits w32 y → to_z w32 ((of_z w32 x + of_z w32 y) % 4294967296) ≡ wrap 32 (x +ℤ y)
-sum_32 x y f g = sum_code w32 x y f g
+sum_32 x y f g = wrapping_add-wrap w32 x y f g
 
 pub difference_32 : (x y : ℤ) → SFits w32 x → SFits w32 y → to_z w32 ((of_z w32 x + (4294967296 - of_z w32 y)) % 4294967296) ≡ wrap 32 (x -ℤ y)
-difference_32 x y f g = difference_code w32 x y f g
+difference_32 x y f g = wrapping_sub-wrap w32 x y f g
 
 pub negated_32 : (x r : ℤ) → SFits w32 x → SFits w32 r → r ≡ int_wrapping_neg w32 (to_z w32 (of_z w32 x)) → to_z w32 (of_z w32 r) ≡ wrap 32 (neg_ℤ x)
-negated_32 x r f g is = negated_code w32 x r f g is
+negated_32 x r f g is = wrapping_neg-wrap w32 x r f g is
 
 pub abs_32 : (x r : ℤ) → SFits w32 x → r ≡ to_z w32 (unsigned_abs (to_z w32 (of_z w32 x))) → to_z w32 (of_z w32 r) ≡ wrap 32 (pos (unsigned_abs x))
-abs_32 x r f is = abs_code w32 x r f is
+abs_32 x r f is = wrapping_abs-wrap w32 x r f is
 
-pub ruleset code_32 = (sum_32, difference_32, negated_32, abs_32, sign_code, minus_code, mul_div_code, shortest_is_decimal)
+pub fract_32 : (f d : ℕ) (x r : ℤ) → d ≡ 2 ^ f → 2 ^ f ≤ 2 ^ 31 → SFits w32 x → r ≡ int_rem_euclid (to_z w32 (of_z w32 x)) (pos d) → IsFract f x (to_z w32 (of_z w32 r))
+fract_32 f d x r step room fits is = rem_euclid_is_fract w32 f d x r step room fits is
 
--- ---- for 16 bits of fraction
+pub nearest_whole_32 : (f : ℕ) (x s r : ℤ) → s ≡ wrap 32 (x +ℤ pos (2 ^ f / 2)) → IsFloor f s r → IsTrue (splits 32 (32 - f) (2 ^ f) (2 ^ f / 2)) → IsNearestWhole 32 f x r
+nearest_whole_32 f x s r is floor test = floor_is_nearest_whole 32 f (2 ^ f / 2) x s r (lit< tt) test is floor
 
-pub fract_32_16 : (x r : ℤ) → SFits w32 x → r ≡ int_rem_euclid (to_z w32 (of_z w32 x)) (pos 65536) → IsFract 16 x (to_z w32 (of_z w32 r))
-fract_32_16 x r f is = fract_code w32 16 x r (lit≤ tt) f is
+pub narrowed_32 : (v d half : ℕ) (x s : ℤ) → SFits w32 s → s ≡ wrap 32 (x +ℤ pos half) → IsTrue (splits 32 v d half) → IsNarrowed v x d (to_z w32 (of_z w32 (shr_z (to_z w32 (of_z w32 s)) d)))
+narrowed_32 v d half x s fits is test = shr_is_narrowed w32 v d half x s test fits is
 
-pub round_32_16 : (x s r : ℤ) → s ≡ wrap 32 (x +ℤ pos 32768) → IsFloor 16 s r → IsRound 32 16 x r
-round_32_16 x s r is floor = round_code 32 16 16 32768 x s r widths_32_16 (lit< tt) is floor
+pub scaled_32 : (x : ℤ) (d : ℕ) → SFits w32 x → SFits w32 (pos d) → to_z w32 (of_z w32 x * d % 4294967296) ≡ wrap 32 (x *ℤ pos d)
+scaled_32 x d f g = wrapping_mul-wrap w32 x d f g
 
-pub narrowed_32_16 : (x s : ℤ) → SFits w32 s → s ≡ wrap 32 (x +ℤ pos 32768) → IsNarrowed 16 x 65536 (to_z w32 (of_z w32 (shr_z (to_z w32 (of_z w32 s)) 65536)))
-narrowed_32_16 x s fits is = narrowed_shr w32 16 16 32768 x s widths_32_16 fits is
+-- products are rounded by a shift of 64 bits, of which 32 are kept, and quotients on magnitudes
 
-pub scaled_32_16 : (x : ℤ) → SFits w32 x → to_z w32 (of_z w32 x * 65536 % 4294967296) ≡ wrap 32 (x *ℤ pos 65536)
-scaled_32_16 x f = scaled_code w32 x 65536 f (record { sfits = lit< tt })
+pub low_bits_32 : (n e r : ℤ) → r ≡ to_z w32 (unsigned_abs (to_z w64 (of_z w64 e))) → e ≡ int_rem_euclid (to_z w64 (of_z w64 n)) (pos 4294967296) → SFits w64 n → to_z w32 (of_z w32 r) ≡ wrap 32 n
+low_bits_32 n e r cast is fits = rem_euclid-wrap w32 w64 n e r (lit≤ tt) fits is cast
 
-pub product_32_16 : (x y r : ℤ) (s : Bool) (m a b : ℕ) → s ≡ differ_in_sign x y → a ≡ unsigned_abs x → b ≡ unsigned_abs y
-    → (0 < 65536 → m ≡ near_magnitude (a * b) 65536) → r ≡ wrap 32 (signed s m) → IsRounded 32 (x *ℤ y) 65536 r
-product_32_16 x y r s m a b sign first second near is = product_code 32 16 x y r s m a b sign first second (near (lit< tt)) is
+pub low_bits_16 : (n e r : ℤ) → r ≡ to_z w16 (unsigned_abs (to_z w32 (of_z w32 e))) → e ≡ int_rem_euclid (to_z w32 (of_z w32 n)) (pos 65536) → SFits w32 n → to_z w16 (of_z w16 r) ≡ wrap 16 n
+low_bits_16 n e r cast is fits = rem_euclid-wrap w16 w32 n e r (lit≤ tt) fits is cast
 
-pub ruleset code_32_16 = (code_32, fract_32_16, round_32_16, narrowed_32_16, scaled_32_16, product_32_16)
+pub product_32 : (x y a b m l : ℤ) (d : ℕ) → SFits w32 x → SFits w32 y → l ≡ wrap 32 (to_z w64 (of_z w64 m)) → m ≡ near (to_z w64 (of_z w64 (to_z w64 (of_z w64 a) *ℤ to_z w64 (of_z w64 b)))) d
+    → a ≡ to_z w32 (of_z w32 x) → b ≡ to_z w32 (of_z w32 y) → SFits w64 m → SFits w32 l → 0 < d → IsWrappedNear 32 (x *ℤ y) d (to_z w32 (of_z w32 l))
+product_32 x y a b m l d f g is rounded first second wide narrow some =
+    let first_is : a ≡ x = first ∙ to_z-of_z w32 x f in
+    let second_is : b ≡ y = second ∙ to_z-of_z w32 y g in
+    let product : SFits w64 (x *ℤ y) = products_fit x y f g in
+    let first_wide : SFits w64 x = omega (arith, ints, f) in
+    let second_wide : SFits w64 y = omega (arith, ints, g) in
+    let exact : m ≡ near (x *ℤ y) d =
+    rounded ∙ rw (first_is, second_is, to_z-of_z w64 x first_wide, to_z-of_z w64 y second_wide, to_z-of_z w64 (x *ℤ y) product) refl in
+    near_is_wrapped_near 32 (x *ℤ y) d _ some (to_z-of_z w32 l narrow ∙ is ∙ ap (wrap 32) (to_z-of_z w64 m wide ∙ exact))
+
+pub cell_32 : (b : ℤ) (f : ℕ) (pad : Pad) (old : List ℕ) (result : Option ℕ) → IsSome result ↔ (length (padded_text (shortest_text b f) pad) ≤ length old) → SFits w32 b → f ≤ 30
+    → max 23 pad.width ≤ length old → IsSome result
+cell_32 b f pad old result room fits few cell = padded_has_room w32 b f pad old result (lit≤ tt) fits few room cell
+
+pub ruleset code_32 = (sum_32, difference_32, negated_32, abs_32, fract_32, nearest_whole_32, narrowed_32, scaled_32, shr_is_near_above, shr_is_near_below, low_bits-signed, low_bits-negated, signed_is_mul_div, cell_32, shortest_is_decimal)
+
+-- ---- for callers: a sum with zero, and wrapping of what fits
+
+pub fits_32 : (z : ℤ) → SFits w32 z → wrap 32 z ≡ z
+fits_32 z fits = wrap-signed_fits w32 z fits
+
+pub add_zero_32 : (z : ℤ) → SFits w32 z → wrap 32 (z +ℤ pos 0) ≡ z
+add_zero_32 z fits = wrap-add_zero w32 z fits
+
+pub zero_add_32 : (z : ℤ) → SFits w32 z → wrap 32 (pos 0 +ℤ z) ≡ z
+zero_add_32 z fits = wrap-zero_add w32 z fits
+
+pub sub_zero_32 : (z : ℤ) → SFits w32 z → wrap 32 (z -ℤ pos 0) ≡ z
+sub_zero_32 z fits = wrap-sub_zero w32 z fits
+
+pub ruleset calls_32 = (fits_32, add_zero_32, zero_add_32, sub_zero_32)

@@ -8,26 +8,27 @@ use Rattle.std.specs.Int.{Width, int_wrapping_add, int_wrapping_sub, int_wrappin
 use borrow.Author.Differences.{abs_is}
 use mir.Val.{SFits, to_z, of_z, bits, hbits}
 use Rattle.font_base.specs.Wrap.{wrap}
-use Rattle.font_base.specs.Wrap.Laws.{wrap_is, wrap_same, two_halves, half_range-bits, int_wrap-wrap, to_z-wrap, bits_positive, remainder}
+use Rattle.font_base.specs.Wrap.Laws.{wrap_is, wrap_same, two_halves, remainder}
+use Rattle.font_base.proofs.Widths.{half_range-bits, int_wrap-wrap, to_z-wrap, bits_positive}
 use Rattle.font_base.specs.Bytes.{IsBytesOf, bytes_of}
 use Rattle.font_base.specs.Bytes.Laws.{bytes_of_is}
 use Rattle.font_arithmetic.specs.Operations.{IsFract}
 
 -- a sum that wraps
-pub sum_code : (w : Width) (x y : ℤ) → SFits w x → SFits w y → int_wrapping_add w x y ≡ wrap (bits w) (x +ℤ y)
-sum_code w x y f g = wrapping_add_is w x y f g ∙ int_wrap-wrap w (x +ℤ y)
+pub wrapping_add-wrap : (w : Width) (x y : ℤ) → SFits w x → SFits w y → int_wrapping_add w x y ≡ wrap (bits w) (x +ℤ y)
+wrapping_add-wrap w x y f g = wrapping_add_is w x y f g ∙ int_wrap-wrap w (x +ℤ y)
 
-pub difference_code : (w : Width) (x y : ℤ) → SFits w x → SFits w y → int_wrapping_sub w x y ≡ wrap (bits w) (x -ℤ y)
-difference_code w x y f g = wrapping_sub_is w x y f g ∙ int_wrap-wrap w (x -ℤ y)
+pub wrapping_sub-wrap : (w : Width) (x y : ℤ) → SFits w x → SFits w y → int_wrapping_sub w x y ≡ wrap (bits w) (x -ℤ y)
+wrapping_sub-wrap w x y f g = wrapping_sub_is w x y f g ∙ int_wrap-wrap w (x -ℤ y)
 
 -- a negated number that wraps
-pub negated_code : (w : Width) (x r : ℤ) → SFits w x → SFits w r → r ≡ int_wrapping_neg w (to_z w (of_z w x)) → to_z w (of_z w r) ≡ wrap (bits w) (neg_ℤ x)
-negated_code w x r f g is =
+pub wrapping_neg-wrap : (w : Width) (x r : ℤ) → SFits w x → SFits w r → r ≡ int_wrapping_neg w (to_z w (of_z w x)) → to_z w (of_z w r) ≡ wrap (bits w) (neg_ℤ x)
+wrapping_neg-wrap w x r f g is =
     to_z-of_z w r g ∙ is ∙ ap (int_wrapping_neg w) (to_z-of_z w x f) ∙ wrapping_neg_is w x f ∙ int_wrap-wrap w (neg_ℤ x)
 
 -- a magnitude that is read as a signed number
-pub abs_code : (w : Width) (x r : ℤ) → SFits w x → r ≡ to_z w (unsigned_abs (to_z w (of_z w x))) → to_z w (of_z w r) ≡ wrap (bits w) (pos (unsigned_abs x))
-abs_code w x r f is =
+pub wrapping_abs-wrap : (w : Width) (x r : ℤ) → SFits w x → r ≡ to_z w (unsigned_abs (to_z w (of_z w x))) → to_z w (of_z w r) ≡ wrap (bits w) (pos (unsigned_abs x))
+wrapping_abs-wrap w x r f is =
     let same : r ≡ to_z w (unsigned_abs x) = is ∙ ap (λ y. to_z w (unsigned_abs y)) (to_z-of_z w x f) in
     let half = half_range-bits w in
     let whole = two_halves (bits w) (bits_positive w) in
@@ -35,13 +36,13 @@ abs_code w x r f is =
     to_z-of_z w r (subst (SFits w) (sym same) (sfits_to_z (Fits-of_lt below))) ∙ same ∙ to_z-wrap w (unsigned_abs x) below
 
 -- a number times a constant
-pub scaled_code : (w : Width) (x : ℤ) (d : ℕ) → SFits w x → SFits w (pos d) → to_z w (of_z w x * d % 2 ^ bits w) ≡ wrap (bits w) (x *ℤ pos d)
-scaled_code w x d f g =
+pub wrapping_mul-wrap : (w : Width) (x : ℤ) (d : ℕ) → SFits w x → SFits w (pos d) → to_z w (of_z w x * d % 2 ^ bits w) ≡ wrap (bits w) (x *ℤ pos d)
+wrapping_mul-wrap w x d f g =
     wrapping_mul_onto w (of_z w x) (pos d) (Fits-of_z f).fits g ∙ ap (λ y. int_wrap w (y *ℤ pos d)) (to_z-of_z w x f) ∙ int_wrap-wrap w (x *ℤ pos d)
 
 -- the low bits of a magnitude
-pub low_bits_code : (w : Width) (m : ℕ) (r : ℤ) → r ≡ to_z w (m % 2 ^ bits w) → r ≡ wrap (bits w) (pos m)
-low_bits_code w m r is =
+pub low_bits-wrap : (w : Width) (m : ℕ) (r : ℤ) → r ≡ to_z w (m % 2 ^ bits w) → r ≡ wrap (bits w) (pos m)
+low_bits-wrap w m r is =
     is ∙ to_z-wrap w (m % 2 ^ bits w) (mod-lt m (pow_pos (bits w)))
     ∙ sym (wrap_same (bits w) (pos m) (pos (m % 2 ^ bits w)) (pos (m / 2 ^ bits w)) (bits_positive w) (omega (arith, ints, div-add-mod' m (2 ^ bits w))))
 
@@ -52,15 +53,15 @@ wrap-neg w z some =
     wrap_same w (neg_ℤ (wrap w z)) (neg_ℤ z) given.turns some (omega (arith, ints, given.differs))
 
 -- the bytes of the bits
-pub bytes_code : (n : ℕ) (v : ℤ) (bytes : List ℕ) → bytes ≡ bytes_of n v → IsBytesOf n v bytes
-bytes_code n v bytes is = rw is (bytes_of_is n v)
+pub bytes_of_are : (n : ℕ) (v : ℤ) (bytes : List ℕ) → bytes ≡ bytes_of n v → IsBytesOf n v bytes
+bytes_of_are n v bytes is = rw is (bytes_of_is n v)
 
 -- the rest behind the greatest multiple that is not above
-pub fract_code : (w : Width) (f : ℕ) (x r : ℤ) → 2 ^ f ≤ 2 ^ hbits w → SFits w x → r ≡ int_rem_euclid (to_z w (of_z w x)) (pos (2 ^ f)) → IsFract f x (to_z w (of_z w r))
-fract_code w f x r room fits is =
+pub rem_euclid_is_fract : (w : Width) (f d : ℕ) (x r : ℤ) → d ≡ 2 ^ f → 2 ^ f ≤ 2 ^ hbits w → SFits w x → r ≡ int_rem_euclid (to_z w (of_z w x)) (pos d) → IsFract f x (to_z w (of_z w r))
+rem_euclid_is_fract w f d x r step room fits is =
     let parts = remainder x (2 ^ f) (pow_pos f) in
     let below = parts.below in
-    let same : r ≡ pos parts.rest = is ∙ ap (λ y. int_rem_euclid y (pos (2 ^ f))) (to_z-of_z w x fits) ∙ parts.is in
+    let same : r ≡ pos parts.rest = is ∙ ap (λ n. int_rem_euclid (to_z w (of_z w x)) (pos n)) step ∙ ap (λ y. int_rem_euclid y (pos (2 ^ f))) (to_z-of_z w x fits) ∙ parts.is in
     let small : SFits w (pos parts.rest) = record { sfits = omega arith } in
     rw (same, to_z-of_z w (pos parts.rest) small) (record {
       floor = parts.turns *ℤ pos (2 ^ f);
@@ -72,3 +73,15 @@ fract_code w f x r room fits is =
       };
       rest = omega (arith, ints, parts.parts);
     })
+
+-- the last bits of a number, by the remainder
+pub rem_euclid-wrap : (v w : Width) (n e r : ℤ) → 2 ^ bits v ≤ 2 ^ hbits w → SFits w n → e ≡ int_rem_euclid (to_z w (of_z w n)) (pos (2 ^ bits v))
+    → r ≡ to_z v (unsigned_abs (to_z w (of_z w e))) → to_z v (of_z v r) ≡ wrap (bits v) n
+rem_euclid-wrap v w n e r room fits is cast =
+    let parts = remainder n (2 ^ bits v) (pow_pos (bits v)) in
+    let rest : e ≡ pos parts.rest = is ∙ ap (λ y. int_rem_euclid y (pos (2 ^ bits v))) (to_z-of_z w n fits) ∙ parts.is in
+    let below = parts.below in
+    let small : SFits w (pos parts.rest) = record { sfits = omega arith } in
+    let kept : r ≡ to_z v parts.rest = cast ∙ ap (λ y. to_z v (unsigned_abs (to_z w (of_z w y)))) rest ∙ ap (λ y. to_z v (unsigned_abs y)) (to_z-of_z w (pos parts.rest) small) in
+    to_z-of_z v r (subst (SFits v) (sym kept) (sfits_to_z (Fits-of_lt below))) ∙ kept ∙ to_z-wrap v parts.rest below
+    ∙ sym (wrap_same (bits v) n (pos parts.rest) parts.turns (bits_positive v) parts.parts)

@@ -11,22 +11,36 @@ OnFour (a ∷ b ∷ c ∷ []) P = ⊥
 OnFour (a ∷ b ∷ c ∷ d ∷ []) P = P a b c d
 OnFour (a ∷ b ∷ c ∷ d ∷ e ∷ rest) P = ⊥
 
--- x * y, y * x, x * 1 and x * y / 1 in one step: the order of factors does not matter, 1 is neutral, and the last is the product
-pub record ProductLaws (w f : ℕ) (x y product flipped by_one in_one_step : ℤ) : Type 0 where
+-- the list has three elements, of which this holds
+abbrev pub OnThree : {T : Type 0} → List T → (T → T → T → Type 0) → Type 0
+OnThree [] P = ⊥
+OnThree (a ∷ []) P = ⊥
+OnThree (a ∷ b ∷ []) P = ⊥
+OnThree (a ∷ b ∷ c ∷ []) P = P a b c
+OnThree (a ∷ b ∷ c ∷ d ∷ rest) P = ⊥
+
+-- x * y, y * x and x * 1: the order of factors does not matter, and 1 is neutral
+pub record ProductLaws (w f : ℕ) (x y product flipped by_one : ℤ) : Type 0 where
   pub is_product : IsProduct w f x y product
   pub is_flipped : IsProduct w f y x flipped
   pub is_by_one : IsProduct w f x (pos (2 ^ f)) by_one
-  pub is_in_one_step : IsMulDiv w x y (pos (2 ^ f)) in_one_step
   pub commutes : flipped ≡ product
   pub one_is_neutral : by_one ≡ x
+
+-- x * y / 1 in one step is the product
+pub record ProductInOneStep (w f : ℕ) (x y product in_one_step : ℤ) : Type 0 where
+  pub is_in_one_step : IsMulDiv w x y (pos (2 ^ f)) in_one_step
   pub steps_agree : in_one_step ≡ product
 
--- x / y, x * 1 / y in one step, x / 1 and x / x: the first two agree, also for a zero divisor, x / 1 is x, and x / x is 1 where x is not 0
-pub record QuotientLaws (w f : ℕ) (x y quotient in_one_step by_one by_itself : ℤ) : Type 0 where
+-- x / y, x / 1 and x / x: x / 1 is x, and x / x is 1 where x is not 0
+pub record QuotientLaws (w f : ℕ) (x y quotient by_one by_itself : ℤ) : Type 0 where
   pub is_quotient : IsQuotient w f x y quotient
-  pub is_in_one_step : IsMulDiv w x (pos (2 ^ f)) y in_one_step
   pub is_by_one : IsQuotient w f x (pos (2 ^ f)) by_one
   pub is_by_itself : IsQuotient w f x x by_itself
-  pub steps_agree : in_one_step ≡ quotient
   pub one_is_neutral : by_one ≡ x
   pub itself_gives_one : x ≢ pos 0 → by_itself ≡ pos (2 ^ f)
+
+-- x * 1 / y in one step is the quotient, also for a zero divisor
+pub record QuotientInOneStep (w f : ℕ) (x y quotient in_one_step : ℤ) : Type 0 where
+  pub is_in_one_step : IsMulDiv w x (pos (2 ^ f)) y in_one_step
+  pub steps_agree : in_one_step ≡ quotient

@@ -1,29 +1,44 @@
 -- What each operation on fixed-point numbers gives, over their bits. A number of w bits with f bits of fraction stands for its bits
 -- over 2^f (OpenType, data types: Fixed is 16.16, F2DOT14 is 2.14).
-pub mod Laws
-use Rattle.std.specs.Prelude.{◌≡◌, ℕ, zero, suc, ◌-◌, ◌^◌, Bool, not, List, ℤ, pos, negsuc, neg_ℤ, ◌+ℤ◌, ◌-ℤ◌, ◌*ℤ◌, ◌≤ℤ◌, ◌<ℤ◌, if◌then◌else◌}
+use Rattle.std.specs.Prelude.{◌≡◌, ℕ, zero, suc, ◌-◌, ◌^◌, Bool, not, List, ℤ, pos, negsuc, neg_ℤ, ◌+ℤ◌, ◌-ℤ◌, ◌*ℤ◌, ◌≤ℤ◌, ◌<ℤ◌, Result, if◌then◌else◌}
 use Rattle.std.specs.Int.{is_negative, saturate_to_bits}
 use Rattle.font_base.specs.Wrap.{half_range, wrap}
-use Rattle.font_decimal.specs.Near.{signed, Near, Up}
-use Rattle.font_decimal.specs.Reading.{Reads, IsOutOfRange}
+use Rattle.font_decimal.specs.Near.{signed, Near, near, Up, up}
+use Rattle.font_decimal.specs.Reading.{Reads, IsOutOfRange, IsReading}
+use Rattle.font_decimal.specs.declared.reader.DecimalFault.{DecimalFault}
 
--- r is n / d rounded to the nearest whole number, ties away from zero, and wrapped to w bits
-pub record IsRounded (w : ℕ) (n : ℤ) (d : ℕ) (r : ℤ) : Type 0 where
+-- n / d rounded to the nearest whole number, ties away from zero, and wrapped to w bits
+abbrev pub wrapped_near : ℕ → ℤ → ℕ → ℤ
+wrapped_near w n d = wrap w (near n d)
+
+-- r is that number
+pub record IsWrappedNear (w : ℕ) (n : ℤ) (d : ℕ) (r : ℤ) : Type 0 where
   pub exact : ℤ
   pub nearest : Near n d exact
   pub wrapped : r ≡ wrap w exact
+  pub is : r ≡ wrapped_near w n d
 
--- r is b / d rounded to the nearest whole number, ties upwards, and wrapped to w bits
+-- b / d rounded to the nearest whole number, ties upwards, and wrapped to w bits
+abbrev pub narrowed : ℕ → ℤ → ℕ → ℤ
+narrowed w b d = wrap w (up b d)
+
+-- r is that number
 pub record IsNarrowed (w : ℕ) (b : ℤ) (d : ℕ) (r : ℤ) : Type 0 where
   pub exact : ℤ
   pub nearest : Up b d exact
   pub wrapped : r ≡ wrap w exact
+  pub is : r ≡ narrowed w b d
 
--- r is the bits of the whole number nearest to b / 2^f, ties upwards, and wrapped to w bits
-pub record IsRound (w f : ℕ) (b r : ℤ) : Type 0 where
+-- the bits of the whole number nearest to b / 2^f, ties upwards, wrapped to w bits
+abbrev pub nearest_whole : ℕ → ℕ → ℤ → ℤ
+nearest_whole w f b = wrap w (up b (2 ^ f) *ℤ pos (2 ^ f))
+
+-- r is those bits
+pub record IsNearestWhole (w f : ℕ) (b r : ℤ) : Type 0 where
   pub whole : ℤ
   pub nearest : Up b (2 ^ f) whole
   pub wrapped : r ≡ wrap w (whole *ℤ pos (2 ^ f))
+  pub is : r ≡ nearest_whole w f b
 
 -- r is the bits of the greatest whole number that is not above b / 2^f
 pub record IsFloor (f : ℕ) (b r : ℤ) : Type 0 where
@@ -53,6 +68,10 @@ ReadsAs w f text b = Reads text f (least w) (greatest w) b
 abbrev pub IsTooFar : ℕ → ℕ → List ℕ → Type 0
 IsTooFar w f text = IsOutOfRange text f (least w) (greatest w)
 
+-- what reading the text as a number of w bits with f bits of fraction comes to: the bits, or the fault that it has
+abbrev pub ReadingGives : ℕ → ℕ → List ℕ → Result ℤ DecimalFault → Type 0
+ReadingGives w f text result = IsReading text f (least w) (greatest w) result
+
 -- the number of w bits that is nearest to z
 abbrev pub clamp : ℕ → ℤ → ℤ
 clamp w z = saturate_to_bits (w - 1) z
@@ -61,16 +80,30 @@ clamp w z = saturate_to_bits (w - 1) z
 abbrev pub differ_in_sign : ℤ → ℤ → Bool
 differ_in_sign x y = if is_negative x then not (is_negative y) else is_negative y
 
--- r is the product of the numbers with bits x and y: their exact product, rounded and wrapped
-abbrev pub IsProduct : ℕ → ℕ → ℤ → ℤ → ℤ → Type 0
-IsProduct w f x y r = IsRounded w (x *ℤ y) (2 ^ f) r
+-- the product of the numbers with bits x and y: their exact product, rounded and wrapped
+abbrev pub product_of : ℕ → ℕ → ℤ → ℤ → ℤ
+product_of w f x y = wrapped_near w (x *ℤ y) (2 ^ f)
 
--- r is x * a / c rounded and wrapped. A zero divisor gives the greatest number of w bits, negated where just one of x and a is negative.
+-- r is that product
+abbrev pub IsProduct : ℕ → ℕ → ℤ → ℤ → ℤ → Type 0
+IsProduct w f x y r = IsWrappedNear w (x *ℤ y) (2 ^ f) r
+
+-- x * a / c rounded and wrapped. A zero divisor gives the greatest number of w bits, negated where just one of x and a is negative.
+abbrev pub mul_div_of : ℕ → ℤ → ℤ → ℤ → ℤ
+mul_div_of w x a (pos zero) = signed (differ_in_sign x a) (half_range w - 1)
+mul_div_of w x a (pos (suc c)) = wrapped_near w (x *ℤ a) (suc c)
+mul_div_of w x a (negsuc c) = wrapped_near w (neg_ℤ (x *ℤ a)) (suc c)
+
+-- r is that number
 abbrev pub IsMulDiv : ℕ → ℤ → ℤ → ℤ → ℤ → Type 0
 IsMulDiv w x a (pos zero) r = r ≡ signed (differ_in_sign x a) (half_range w - 1)
-IsMulDiv w x a (pos (suc c)) r = IsRounded w (x *ℤ a) (suc c) r
-IsMulDiv w x a (negsuc c) r = IsRounded w (neg_ℤ (x *ℤ a)) (suc c) r
+IsMulDiv w x a (pos (suc c)) r = IsWrappedNear w (x *ℤ a) (suc c) r
+IsMulDiv w x a (negsuc c) r = IsWrappedNear w (neg_ℤ (x *ℤ a)) (suc c) r
 
--- r is the quotient of the numbers with bits x and y: x * 2^f / y, rounded and wrapped
+-- the quotient of the numbers with bits x and y: x * 2^f / y, rounded and wrapped
+abbrev pub quotient_of : ℕ → ℕ → ℤ → ℤ → ℤ
+quotient_of w f x y = mul_div_of w x (pos (2 ^ f)) y
+
+-- r is that quotient
 abbrev pub IsQuotient : ℕ → ℕ → ℤ → ℤ → ℤ → Type 0
 IsQuotient w f x y r = IsMulDiv w x (pos (2 ^ f)) y r

@@ -1,1 +1,3 @@
-mod ThreeBytes
+pub mod Widths
+pub mod StdBytes
+pub mod ThreeBytes

@@ -4,7 +4,8 @@ use Rattle.std.proofs.lemmas.Int.{ints, to_z-of_z}
 use Rattle.std.specs.Int.{w32, to_be_bytes}
 use mir.Val.{SFits, to_z, of_z}
 use Rattle.font_base.specs.Bytes.{numeral, are_bytes, IsBytesOf}
-use Rattle.font_base.specs.Bytes.Laws.{are_bytes-length, complement, IsBytesOf-numeral, IsBytesOf-high_first, IsBytesOf-apart}
+use Rattle.font_base.proofs.StdBytes.{complement}
+use Rattle.font_base.specs.Bytes.Laws.{are_bytes-length, IsBytesOf-numeral, IsBytesOf-high_first, IsBytesOf-apart}
 
 -- the last three of the four bytes of a number
 pub last_three : (m : ℕ) (bytes : List ℕ) → bytes ≡ to_be_bytes w32 m → IsBytesOf 3 (pos m) (get_or bytes 1 0 ∷ get_or bytes 2 0 ∷ get_or bytes 3 0 ∷ [])

@@ -54,7 +54,8 @@ impl<T: Scalar> BigEndian<T> {
 
     /// The value that the bytes stand for.
     pub fn get(&self) -> T
-        ensures { result ≡ T.of_raw (raw_value self.now) }
+        ensures value { result ≡ T.of_raw (raw_value self.now) }
+        ensures back { T.raw_of result ≡ raw_value self.now }
     {
         T::from_raw(self.raw)
     }
@@ -157,7 +158,7 @@ impl<T: Scalar + Copy + Ord + IdentityEq> PartialOrd for BigEndian<T> {
         (λ a b. same_answer T.cmp T.eq T.matches_eq T.identity (T.of_raw (raw_value a)) (T.of_raw (raw_value b))
         (T.Raw.bytes (raw_value a)) (T.Raw.bytes (raw_value b))
         (λ same. ap T.of_raw (T.Raw.same_bytes (raw_value a) (raw_value b) a.value b.value same))
-        (λ same. ap T.Raw.bytes (sym (T.forth (raw_value a) a.value) ∙ ap T.raw_of same ∙ T.forth (raw_value b) b.value))) };
+        (λ same. ap T.Raw.bytes (sym (T.Scalar.laws.forth (raw_value a) a.value) ∙ ap T.raw_of same ∙ T.Scalar.laws.forth (raw_value b) b.value))) };
 
     fn partial_cmp(&self, other: &BigEndian<T>) -> Option<Ordering> {
         Some(self.cmp(other))
@@ -177,7 +178,7 @@ impl<T: Scalar + Copy + Ord + IdentityEq> Ord for BigEndian<T> {
     ghost matches_eq = { λ a b. same_answer T.cmp T.eq T.matches_eq T.identity (T.of_raw (raw_value a)) (T.of_raw (raw_value b))
         (T.Raw.bytes (raw_value a)) (T.Raw.bytes (raw_value b))
         (λ same. ap T.of_raw (T.Raw.same_bytes (raw_value a) (raw_value b) a.value b.value same))
-        (λ same. ap T.Raw.bytes (sym (T.forth (raw_value a) a.value) ∙ ap T.raw_of same ∙ T.forth (raw_value b) b.value)) };
+        (λ same. ap T.Raw.bytes (sym (T.Scalar.laws.forth (raw_value a) a.value) ∙ ap T.raw_of same ∙ T.Scalar.laws.forth (raw_value b) b.value)) };
 
     fn cmp(&self, other: &BigEndian<T>) -> Ordering {
         self.get().cmp(&other.get())

@@ -121,10 +121,9 @@ impl FixedSize for Int24 {
 }
 
 impl Scalar for Int24 {
-    ghost use Rattle.std.specs.Prelude.{true, refl};
-    ghost use Rattle.font_base.specs.Bytes.Laws.{are_bytes-bytes_of};
+    ghost use Rattle.std.specs.Prelude.{true};
     ghost use Rattle.font_base.specs.Int24.{int24_number, int24_of_bytes, bytes_of_int24};
-    ghost use Rattle.font_base.specs.Int24.Laws.{int24_back, int24_forth};
+    ghost use Rattle.font_base.specs.Int24.Laws.{int24_laws};
 
     type Raw = [u8; 3];
 
@@ -134,15 +133,7 @@ impl Scalar for Int24 {
 
     ghost raw_of = { bytes_of_int24 };
 
-    ghost of_raw_value = { λ _ _. refl };
-
-    ghost raw_of_value = { λ n _. are_bytes-bytes_of 3 ((int24_number n)) };
-
-    ghost back = { λ n _. int24_back n };
-
-    ghost forth = { int24_forth };
-
-    ghost lengths_agree = { refl };
+    ghost laws = { int24_laws };
 
     fn from_raw(raw: [u8; 3]) -> Int24 {
         Int24::from_be_bytes(raw)

@@ -1,4 +1,5 @@
 //! Scalars, and the big-endian bytes that they are stored as.
+#![tactic(auto, using(crate::proofs::StdBytes::std_bytes))]
 
 ghost use Rattle.std.specs.Prelude.{◌≡◌, ℕ, ℤ, pos, Bool, true, List, IsTrue, IsSome, IfSome, ◌↔◌, ◌^◌, nat_lt, length, refl};
 ghost use Rattle.std.proofs.Common.{rules, lit<};
@@ -6,7 +7,8 @@ ghost use Rattle.std.specs.Bool.{Decides};
 ghost use Rattle.std.specs.Cmp.{signed_Decides, unsigned_Decides};
 ghost use Rattle.font_base.specs.Wrap.{fits_bits};
 ghost use Rattle.font_base.specs.Bytes.{are_bytes, numeral, bytes_of, signed_numeral};
-ghost use Rattle.font_base.specs.Bytes.Laws.{are_bytes-bytes_of, bytes_of-numeral, bytes_of-signed_numeral, unsigned_value, unsigned_back, signed_value, signed_back};
+ghost use Rattle.font_base.specs.Scalar.{ScalarLaws, IsValueOf};
+ghost use Rattle.font_base.specs.Scalar.Laws.{unsigned_laws, signed_laws};
 
 /// An array of a fixed number of bytes, highest first.
 pub trait BeByteArray: Copy {
@@ -108,23 +110,15 @@ pub trait Scalar: FixedSize {
     fn read(slice: &[u8]) -> Option<Self>
         ensures length { IsSome result ↔ (length slice.now ≡ Self.RAW_BYTE_LEN) }
         ensures bytes { IfSome result (λ v. Self.Raw.bytes (raw_of v) ≡ slice.now) }
+        ensures reads { IfSome result (λ v. IsValueOf Self.Raw.bytes of_raw slice.now v) }
         ensures value { IfSome result (λ v. IsTrue (is_scalar v)) }
     {
         let raw = Self::Raw::from_slice(slice)?;
         Some(Self::from_raw(raw))
     }
 
-    // Bytes give values and values give bytes, and both ways undo each other.
-    ghost of_raw_value: { (r : Self.Raw) → IsTrue (Self.Raw.is_value r) → IsTrue (is_scalar (of_raw r)) };
-
-    ghost raw_of_value: { (v : Self) → IsTrue (is_scalar v) → IsTrue (Self.Raw.is_value (raw_of v)) };
-
-    ghost back: { (v : Self) → IsTrue (is_scalar v) → of_raw (raw_of v) ≡ v };
-
-    ghost forth: { (r : Self.Raw) → IsTrue (Self.Raw.is_value r) → raw_of (of_raw r) ≡ r };
-
-    // The array is as long as the type says.
-    ghost lengths_agree: { Self.Raw.LEN ≡ Self.RAW_BYTE_LEN };
+    // Values and arrays determine each other, and the array is as long as the type says.
+    ghost laws: { ScalarLaws is_scalar Self.Raw.is_value of_raw raw_of Self.Raw.LEN Self.RAW_BYTE_LEN };
 }
 
 /// A scalar whose `==` joins no two values: `a == b` is true exactly where they are the same.
@@ -147,15 +141,7 @@ impl Scalar for u8 {
 
     ghost raw_of = { λ n. bytes_of 1 (pos n) };
 
-    ghost of_raw_value = { unsigned_value 1 };
-
-    ghost raw_of_value = { λ n _. are_bytes-bytes_of 1 (pos n) };
-
-    ghost back = { unsigned_back 1 };
-
-    ghost forth = { bytes_of-numeral 1 };
-
-    ghost lengths_agree = { refl };
+    ghost laws = { unsigned_laws 1 };
 
     fn from_raw(raw: [u8; 1]) -> u8 {
         u8::from_be_bytes(raw)
@@ -185,15 +171,7 @@ impl Scalar for u16 {
 
     ghost raw_of = { λ n. bytes_of 2 (pos n) };
 
-    ghost of_raw_value = { unsigned_value 2 };
-
-    ghost raw_of_value = { λ n _. are_bytes-bytes_of 2 (pos n) };
-
-    ghost back = { unsigned_back 2 };
-
-    ghost forth = { bytes_of-numeral 2 };
-
-    ghost lengths_agree = { refl };
+    ghost laws = { unsigned_laws 2 };
 
     fn from_raw(raw: [u8; 2]) -> u16 {
         u16::from_be_bytes(raw)
@@ -223,15 +201,7 @@ impl Scalar for u32 {
 
     ghost raw_of = { λ n. bytes_of 4 (pos n) };
 
-    ghost of_raw_value = { unsigned_value 4 };
-
-    ghost raw_of_value = { λ n _. are_bytes-bytes_of 4 (pos n) };
-
-    ghost back = { unsigned_back 4 };
-
-    ghost forth = { bytes_of-numeral 4 };
-
-    ghost lengths_agree = { refl };
+    ghost laws = { unsigned_laws 4 };
 
     fn from_raw(raw: [u8; 4]) -> u32 {
         u32::from_be_bytes(raw)
@@ -261,15 +231,7 @@ impl Scalar for i8 {
 
     ghost raw_of = { bytes_of 1 };
 
-    ghost of_raw_value = { signed_value 1 (lit< tt) };
-
-    ghost raw_of_value = { λ n _. are_bytes-bytes_of 1 n };
-
-    ghost back = { signed_back 1 (lit< tt) };
-
-    ghost forth = { λ bytes. bytes_of-signed_numeral 1 bytes (lit< tt) };
-
-    ghost lengths_agree = { refl };
+    ghost laws = { signed_laws 1 (lit< tt) };
 
     fn from_raw(raw: [u8; 1]) -> i8 {
         u8::from_be_bytes(raw).cast_signed()
@@ -299,15 +261,7 @@ impl Scalar for i16 {
 
     ghost raw_of = { bytes_of 2 };
 
-    ghost of_raw_value = { signed_value 2 (lit< tt) };
-
-    ghost raw_of_value = { λ n _. are_bytes-bytes_of 2 n };
-
-    ghost back = { signed_back 2 (lit< tt) };
-
-    ghost forth = { λ bytes. bytes_of-signed_numeral 2 bytes (lit< tt) };
-
-    ghost lengths_agree = { refl };
+    ghost laws = { signed_laws 2 (lit< tt) };
 
     fn from_raw(raw: [u8; 2]) -> i16 {
         u16::from_be_bytes(raw).cast_signed()
@@ -337,15 +291,7 @@ impl Scalar for i32 {
 
     ghost raw_of = { bytes_of 4 };
 
-    ghost of_raw_value = { signed_value 4 (lit< tt) };
-
-    ghost raw_of_value = { λ n _. are_bytes-bytes_of 4 n };
-
-    ghost back = { signed_back 4 (lit< tt) };
-
-    ghost forth = { λ bytes. bytes_of-signed_numeral 4 bytes (lit< tt) };
-
-    ghost lengths_agree = { refl };
+    ghost laws = { signed_laws 4 (lit< tt) };
 
     fn from_raw(raw: [u8; 4]) -> i32 {
         u32::from_be_bytes(raw).cast_signed()
@@ -375,15 +321,7 @@ impl Scalar for i64 {
 
     ghost raw_of = { bytes_of 8 };
 
-    ghost of_raw_value = { signed_value 8 (lit< tt) };
-
-    ghost raw_of_value = { λ n _. are_bytes-bytes_of 8 n };
-
-    ghost back = { signed_back 8 (lit< tt) };
-
-    ghost forth = { λ bytes. bytes_of-signed_numeral 8 bytes (lit< tt) };
-
-    ghost lengths_agree = { refl };
+    ghost laws = { signed_laws 8 (lit< tt) };
 
     fn from_raw(raw: [u8; 8]) -> i64 {
         u64::from_be_bytes(raw).cast_signed()

@@ -152,10 +152,9 @@ impl FixedSize for Uint24 {
 }
 
 impl Scalar for Uint24 {
-    ghost use Rattle.std.specs.Prelude.{true, refl};
-    ghost use Rattle.font_base.specs.Bytes.Laws.{are_bytes-bytes_of};
+    ghost use Rattle.std.specs.Prelude.{true};
     ghost use Rattle.font_base.specs.Uint24.{uint24_number, uint24_of_bytes, bytes_of_uint24};
-    ghost use Rattle.font_base.specs.Uint24.Laws.{uint24_back, uint24_forth};
+    ghost use Rattle.font_base.specs.Uint24.Laws.{uint24_laws};
 
     type Raw = [u8; 3];
 
@@ -165,15 +164,7 @@ impl Scalar for Uint24 {
 
     ghost raw_of = { bytes_of_uint24 };
 
-    ghost of_raw_value = { λ _ _. refl };
-
-    ghost raw_of_value = { λ n _. are_bytes-bytes_of 3 (pos (uint24_number n)) };
-
-    ghost back = { λ n _. uint24_back n };
-
-    ghost forth = { uint24_forth };
-
-    ghost lengths_agree = { refl };
+    ghost laws = { uint24_laws };
 
     fn from_raw(raw: [u8; 3]) -> Uint24 {
         Uint24::from_be_bytes(raw)

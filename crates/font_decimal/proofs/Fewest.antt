@@ -8,10 +8,10 @@ use Rattle.std.proofs.lemmas.Int.{ints}
 use Rattle.std.proofs.lemmas.Nat.{pow_pos, pow-add, mul-pow}
 use Rattle.font_decimal.specs.Near.{Near}
 use Rattle.font_decimal.specs.Shortest.{nearest_numeral, reads_back, places_from, fewest_places}
-use Rattle.font_decimal.proofs.Near.{Rounded, rounded_is, next_product}
+use Rattle.font_decimal.proofs.Near.{IsNearMagnitude, rounded_is, next_product}
 
 -- no other multiple is nearer than the rounded one
-nearest_distance : (n d q m : ℕ) → Rounded n d q → abs_diff (q * d) n ≤ abs_diff (m * d) n
+nearest_distance : (n d q m : ℕ) → IsNearMagnitude n d q → abs_diff (q * d) n ≤ abs_diff (m * d) n
 nearest_distance n d q m r =
     let low = r.low in
     let high = r.high in
@@ -20,7 +20,7 @@ nearest_distance n d q m r =
       | inr order ↦ elim order [ inl less ↦ omega (arith, next_product m q d less) | inr more ↦ omega (arith, next_product q m d more) ]
     ]
 
-half_distance : (n d q : ℕ) → Rounded n d q → 2 * abs_diff (q * d) n ≤ d
+half_distance : (n d q : ℕ) → IsNearMagnitude n d q → 2 * abs_diff (q * d) n ≤ d
 half_distance n d q r =
     let low = r.low in
     let high = r.high in
@@ -57,7 +57,7 @@ unfolded : (m f p : ℕ) → reads_back m f p ≡ nat_lt (2 * abs_diff (nearest_
 unfolding reads_back
 unfolded m f p = refl
 
-rounded_at : (m f p : ℕ) → Rounded (m * 10 ^ p) (2 ^ f) (nearest_numeral m f p)
+rounded_at : (m f p : ℕ) → IsNearMagnitude (m * 10 ^ p) (2 ^ f) (nearest_numeral m f p)
 rounded_at m f p = rounded_is (m * 10 ^ p) (2 ^ f) (pow_pos f)
 
 -- what it says of the nearest decimal that it reads back, or does not

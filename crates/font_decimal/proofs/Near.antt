@@ -9,7 +9,7 @@ use Rattle.std.proofs.lemmas.Int.{ints, by_lt_z}
 use Rattle.font_decimal.specs.Near.{signed, Near, near, near_magnitude, Up, up}
 
 -- q is n / d and a half, rounded down
-pub record Rounded (n d q : ℕ) : Type 0 where
+pub record IsNearMagnitude (n d q : ℕ) : Type 0 where
   pub low : 2 * (q * d) ≤ 2 * n + d
   pub high : 2 * n + d < 2 * (q * d) + 2 * d
 
@@ -17,7 +17,7 @@ pub record Rounded (n d q : ℕ) : Type 0 where
 pub next_product : (q r d : ℕ) → q < r → q * d + d ≤ r * d
 next_product q r d h = omega (arith, mul-le-mul_right {m = suc q} {n = r} d (omega arith), suc-mul q d)
 
-pub rounded_unique : (n d q r : ℕ) → Rounded n d q → Rounded n d r → q ≡ r
+pub rounded_unique : (n d q r : ℕ) → IsNearMagnitude n d q → IsNearMagnitude n d r → q ≡ r
 rounded_unique n d q r x y =
     elim (cases_order q r) [
       | inl e ↦ e
@@ -27,7 +27,7 @@ rounded_unique n d q r x y =
       ]
     ]
 
-pub rounded_is : (n d : ℕ) → 0 < d → Rounded n d (near_magnitude n d)
+pub rounded_is : (n d : ℕ) → 0 < d → IsNearMagnitude n d (near_magnitude n d)
 rounded_is n d h =
     let positive : 0 < 2 * d = omega arith in
     let below : (2 * n + d) / (2 * d) * (2 * d) ≤ 2 * n + d = div-mul-le_self (2 * n + d) (2 * d) in
@@ -61,14 +61,14 @@ pub is_signed : (n : ℤ) → n ≡ signed (is_negative n) (unsigned_abs n)
 is_signed (pos n) = rw (le-ltb n 0 (omega arith))
 is_signed (negsuc n) = refl
 
-near_positive : (n d q : ℕ) → 0 < d → Rounded n d q → Near (pos n) d (pos q)
+near_positive : (n d q : ℕ) → 0 < d → IsNearMagnitude n d q → Near (pos n) d (pos q)
 near_positive n d q h r =
     let low = r.low in
     let high = r.high in
     record { close = omega (arith, ints); away = λ tie. omega (arith, ints, tie) }
 
 -- a magnitude that is rounded, with its sign
-pub near_from : (s : Bool) (n d q : ℕ) → 0 < d → Rounded n d q → Near (signed s n) d (signed s q)
+pub near_from : (s : Bool) (n d q : ℕ) → 0 < d → IsNearMagnitude n d q → Near (signed s n) d (signed s q)
 near_from false n d q h r = near_positive n d q h r
 near_from true n d q h r = near_opposite (pos n) d (pos q) (near_positive n d q h r)
 
@@ -76,7 +76,7 @@ near_from true n d q h r = near_opposite (pos n) d (pos q) (near_positive n d q 
 pub record HasMagnitude (s : Bool) (n d : ℕ) (q : ℤ) : Type 0 where
   pub magnitude : ℕ
   pub is : q ≡ signed s magnitude
-  pub rounded : Rounded n d magnitude
+  pub rounded : IsNearMagnitude n d magnitude
 
 magnitude_positive : (n d : ℕ) (q : ℤ) → 0 < d → Near (pos n) d q → HasMagnitude false n d q
 magnitude_positive n d (pos q) h r =

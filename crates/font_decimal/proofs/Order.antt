@@ -7,11 +7,11 @@ use Rattle.std.proofs.lemmas.Int.{ints}
 use Rattle.font_decimal.specs.Near.{Near}
 use Rattle.font_decimal.specs.Reading.{Rounds, IsReading, IsAtMost}
 use Rattle.font_decimal.specs.declared.reader.DecimalFault.{DecimalFault}
-use Rattle.font_decimal.proofs.Near.{Rounded, near_to, neg-times, times_monotone}
+use Rattle.font_decimal.proofs.Near.{IsNearMagnitude, near_to, neg-times, times_monotone}
 use Rattle.font_decimal.proofs.Texts.{decimal_unique}
 use Rattle.font_decimal.proofs.Readings.{ten_pos}
 
-rounded_monotone : (n d q m e r : ℕ) → 0 < d → Rounded n d q → Rounded m e r → n * e ≤ m * d → q ≤ r
+rounded_monotone : (n d q m e r : ℕ) → 0 < d → IsNearMagnitude n d q → IsNearMagnitude m e r → n * e ≤ m * d → q ≤ r
 rounded_monotone n d q m e r h x y order = elim (cases_lt r q) [
   | inl more ↦
       let step : suc r * (d * e) ≤ q * (d * e) = mul-le-mul_right (d * e) more in

@@ -14,7 +14,7 @@ use Rattle.font_decimal.specs.Grammar.{HasParts}
 use Rattle.font_decimal.specs.Reading.{Rounds, Reads, IsOutOfRange, IsReading}
 use Rattle.font_decimal.specs.declared.reader.DecimalFault.{DecimalFault}
 use Rattle.font_decimal.specs.declared.reader.DecimalFault.TheVariants.{Syntax, OutOfRange}
-use Rattle.font_decimal.proofs.Near.{Rounded, rounded_is, near_from, near_unique, signed_times}
+use Rattle.font_decimal.proofs.Near.{IsNearMagnitude, rounded_is, near_from, near_unique, signed_times}
 use Rattle.font_decimal.proofs.Texts.{decimal_of, decimal_unique}
 use Rattle.font_decimal.proofs.Digits.{digits_value-append, first_digits, is_cut}
 use Rattle.font_decimal.proofs.Rounding.{cut_rounds, whole_rounds, half_steps}
@@ -44,7 +44,7 @@ rounds_by p f text s w e h parts =
     let unit = half_steps f p h in
     let u_pos : 0 < u = mul-pos (pow_pos (p - 1 - f)) (one-le-pow p 5 (omega arith)) in
     let near_kept = near_magnitude (kept * t) (10 ^ p) in
-    let units = subst (λ d. Rounded (kept * t) d near_kept) unit (rounded_is (kept * t) (10 ^ p) (ten_pos p)) in
+    let units = subst (λ d. IsNearMagnitude (kept * t) d near_kept) unit (rounded_is (kept * t) (10 ^ p) (ten_pos p)) in
     let cut_units = subst (λ d. value * d ≡ kept * 10 ^ k + cut.rest) unit cut.is in
     let fraction = cut_rounds value kept cut.rest (10 ^ k) t u near_kept (pow_pos f) u_pos cut_units cut.below units in
     let all = whole_rounds (digits_value 10 w) value (10 ^ k) t near_kept fraction in

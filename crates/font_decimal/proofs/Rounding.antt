@@ -3,12 +3,12 @@ use Rattle.std.proofs.Common.{◌≡◌, ℕ, ◌+◌, ◌-◌, ◌*◌, ◌/◌
 use Rattle.std.proofs.Math.Nat.{mul-le-mul_right, le_of_mul-le-mul_left, lt_of_mul-lt-mul_left, mul-le-mul, mul-div-mul_left, pow-le-pow_right}
 use Rattle.std.proofs.lemmas.Nat.{pow-add, mul-pow}
 use Rattle.font_decimal.specs.Near.{near_magnitude}
-use Rattle.font_decimal.proofs.Near.{Rounded}
+use Rattle.font_decimal.proofs.Near.{IsNearMagnitude}
 
 -- In units of 1 / (2 t u) a half step of 1 / t is u units. So a fraction that is kept in whole units, with a rest below one unit,
 -- is rounded as its whole units are.
 pub cut_rounds : (value kept rest k t u r : ℕ) → 0 < t → 0 < u → value * (2 * (t * u)) ≡ kept * k + rest → rest < k
-    → Rounded (kept * t) (2 * (t * u)) r → Rounded (value * t) k r
+    → IsNearMagnitude (kept * t) (2 * (t * u)) r → IsNearMagnitude (value * t) k r
 cut_rounds value kept rest k t u r ht hu is below rounded =
     let low = rounded.low in
     let high = rounded.high in
@@ -23,7 +23,7 @@ cut_rounds value kept rest k t u r ht hu is below rounded =
     record { low = le_of_mul-le-mul_left low_units hu; high = lt_of_mul-lt-mul_left u high_units }
 
 -- whole steps in front of a fraction stay whole
-pub whole_rounds : (whole value k t r : ℕ) → Rounded (value * t) k r → Rounded ((whole * k + value) * t) k (whole * t + r)
+pub whole_rounds : (whole value k t r : ℕ) → IsNearMagnitude (value * t) k r → IsNearMagnitude ((whole * k + value) * t) k (whole * t + r)
 whole_rounds whole value k t r rounded =
     let low = rounded.low in
     let high = rounded.high in

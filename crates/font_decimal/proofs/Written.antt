@@ -16,7 +16,7 @@ use Rattle.std.proofs.lemmas.Fmt.{decimal_is_IsNumeral, decimal_digit, first_dec
 use Rattle.font_decimal.specs.Near.{signed, Near}
 use Rattle.font_decimal.specs.Grammar.{point_text, HasParts, Decimal}
 use Rattle.font_decimal.specs.Shortest.{IsShortest, nearest_numeral, fewest_places, last_digits, decimal_text, shortest_text}
-use Rattle.font_decimal.proofs.Near.{Rounded, rounded_is, near_from, is_signed, signed_times}
+use Rattle.font_decimal.proofs.Near.{IsNearMagnitude, rounded_is, near_from, is_signed, signed_times}
 use Rattle.font_decimal.proofs.Digits.{digits_value-append}
 use Rattle.font_decimal.proofs.Readings.{ten_pos}
 use Rattle.font_decimal.proofs.Fewest.{fewest_is, within_half, none_fewer, unit_below}
@@ -87,7 +87,7 @@ minus_shown (negsuc n) zero h = let none : suc n ≡ 0 = h refl in absurd (omega
 minus_shown (negsuc n) (suc d) h = (λ _. omega (arith, ints), λ _. refl)
 
 -- the whole part of the numeral is at most one above that of the value
-whole_below : (m t ten d w : ℕ) → 0 < t → 0 < ten → Rounded (m * ten) t d → w * ten ≤ d → w ≤ m + 1
+whole_below : (m t ten d w : ℕ) → 0 < t → 0 < ten → IsNearMagnitude (m * ten) t d → w * ten ≤ d → w ≤ m + 1
 whole_below m t ten d w ht hten r low = elim (cases_lt (m + 1) w) [
   | inl more ↦
       let above = r.low in
@@ -117,8 +117,8 @@ shortest_is b f small =
     let whole = whole_fits m f p small in
     let close = within_half m f p fewest.reads in
     let text = written_decimal s p d whole in
-    let nearest : Rounded (m * 10 ^ p) (2 ^ f) d = rounded_is (m * 10 ^ p) (2 ^ f) (pow_pos f) in
-    let back : Rounded (d * 2 ^ f) (10 ^ p) m = record { low = omega arith; high = omega arith } in
+    let nearest : IsNearMagnitude (m * 10 ^ p) (2 ^ f) d = rounded_is (m * 10 ^ p) (2 ^ f) (pow_pos f) in
+    let back : IsNearMagnitude (d * 2 ^ f) (10 ^ p) m = record { low = omega arith; high = omega arith } in
     let Back : ℤ → Type 0 = λ v. Near (signed s d *ℤ pos (2 ^ f)) (10 ^ p) v in
     let There : ℤ → Type 0 = λ v. Near (v *ℤ pos (10 ^ p)) (2 ^ f) (signed s d) in
     record {
@@ -151,7 +151,7 @@ few_places f p few unit = elim (cases_lt p 11) [
 ]
 
 -- with the fewest places the numeral is at most ten times the magnitude
-numeral_below : (m t ten d : ℕ) → 0 < t → ten ≤ 10 * t → Rounded (m * ten) t d → d ≤ 10 * m
+numeral_below : (m t ten d : ℕ) → 0 < t → ten ≤ 10 * t → IsNearMagnitude (m * ten) t d → d ≤ 10 * m
 numeral_below m t ten d h unit r =
     let low = r.low in
     let units : m * ten ≤ m * (10 * t) = mul-le-mul_left m unit in

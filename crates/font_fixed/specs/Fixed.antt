@@ -1,5 +1,6 @@
 -- The fixed-point number of 32 bits with 16 bits of fraction (OpenType, data types: Fixed, "32-bit signed fixed-point number (16.16)").
-use Rattle.std.specs.Prelude.{ℤ}
+use Rattle.std.specs.Prelude.{ℕ, ℤ, List}
+use Rattle.font_decimal.specs.Shortest.{shortest_text}
 use Rattle.font_fixed.specs.declared.fixed.Fixed.{Fixed}
 
 -- the bits of a `Fixed`, which stand for their number over 2^16
@@ -9,3 +10,7 @@ fixed_bits x = x.0
 -- the `Fixed` of these bits
 abbrev pub fixed_of : ℤ → Fixed
 fixed_of bits = record { 0 = bits }
+
+-- the text that a `Fixed` is printed as: its shortest decimal
+abbrev pub fixed_text : Fixed → List ℕ
+fixed_text x = shortest_text (fixed_bits x) 16

@@ -1,2 +1,12 @@
 pub mod Fixed
+pub mod F2Dot14
+pub mod F48Dot16
+pub use Rattle.font_base.specs.Wrap
+pub use Rattle.font_base.specs.Bytes
+pub use Rattle.font_decimal.specs.Grammar
+pub use Rattle.font_decimal.specs.Padding
+pub use Rattle.font_decimal.specs.Near
+pub use Rattle.font_decimal.specs.Shortest
 pub use Rattle.font_arithmetic.specs.Operations
+pub use Rattle.font_arithmetic.specs.NumberLaws
+pub use Rattle.font_f26.specs.F26Dot6

@@ -1,24 +1,30 @@
 //! The fixed-point number of 32 bits with 16 bits of fraction.
-#![tactic(auto, using(font_arithmetic::proofs::Width32::code_32_16))]
+#![tactic(auto, using(font_arithmetic::proofs::Width32::code_32))]
 
-ghost use Rattle.std.specs.Prelude.{◌≡◌, ◌+◌, ◌-◌, ◌^◌, ◌<◌, ◌≤◌, ◌↔◌, ℤ, pos, negsuc, neg_ℤ, ◌+ℤ◌, ◌-ℤ◌, ◌*ℤ◌, Some, IsSome, IfSome, IfNone, IfOk, refl, length, unsigned_abs};
-ghost use Rattle.std.proofs.Common.{ap, lit<};
-ghost use Rattle.std.specs.Int.{is_negative};
+ghost use Rattle.std.specs.Prelude.{◌≡◌, ◌+◌, ◌-◌, ◌^◌, ◌<◌, ◌≤◌, ◌↔◌, ℤ, pos, negsuc, neg_ℤ, ◌+ℤ◌, ◌-ℤ◌, ◌*ℤ◌, Some, IsSome, IfSome, IfNone, IfOk, refl, length, max, unsigned_abs, FitsSigned};
+ghost use Rattle.std.proofs.Common.{lit<};
+ghost use Rattle.std.specs.Int.{w32, is_negative};
+ghost use Rattle.std.specs.Result.{result_map_both};
 ghost use Rattle.font_base.specs.Wrap.{FitsBits, fits_bits, wrap};
 ghost use Rattle.font_base.specs.Bytes.{IsBytesOf, bytes_of, signed_numeral};
 ghost use Rattle.font_decimal.specs.Grammar.{IsNoDecimal};
 ghost use Rattle.font_decimal.specs.Padding.{padded_text, FillsFront};
-ghost use Rattle.font_decimal.specs.Near.{signed, near_magnitude};
-ghost use Rattle.font_decimal.specs.Shortest.{IsShortest, shortest_text};
+ghost use Rattle.font_decimal.specs.Near.{signed, near, near_magnitude};
+ghost use Rattle.font_decimal.specs.Shortest.{IsShortest};
 ghost use Rattle.font_decimal.specs.Shown.{shown};
 ghost use Rattle.font_fixed.specs.declared.fixed.Fixed.{Fixed};
-ghost use Rattle.font_fixed.specs.Fixed.{fixed_bits, fixed_of};
-ghost use Rattle.font_arithmetic.specs.Operations.{IsRounded, IsNarrowed, IsRound, IsFloor, IsFract, clamp, differ_in_sign, IsProduct, IsQuotient, IsMulDiv, ReadsAs, IsTooFar};
-ghost use Rattle.font_base.specs.Bytes.Laws.{are_bytes-bytes_of, bytes_of-signed_numeral, signed_value, signed_back};
-ghost use Rattle.font_arithmetic.specs.Operations.Laws.{same_bits_identity};
+ghost use Rattle.font_fixed.specs.Fixed.{fixed_bits, fixed_of, fixed_text};
+ghost use Rattle.font_fixed.specs.F2Dot14.{f2dot14_bits};
+ghost use Rattle.font_fixed.specs.F48Dot16.{f48dot16_bits};
+ghost use Rattle.font_f26.specs.F26Dot6.{f26dot6_bits};
+ghost use Rattle.font_arithmetic.specs.Operations.{IsWrappedNear, IsNarrowed, IsNearestWhole, IsFloor, IsFract, clamp, differ_in_sign, IsProduct, IsQuotient, IsMulDiv, ReadsAs, IsTooFar, ReadingGives};
+ghost use Rattle.font_base.specs.Scalar.Laws.{signed_newtype, signed_identity};
 
+use crate::f2dot14::F2Dot14;
+use crate::f48dot16::F48Dot16;
 use font_base::{FixedSize, IdentityEq, Scalar};
 use font_decimal::{DecimalFault, Pad, Shortest, read_decimal};
+use font_f26::F26Dot6;
 use std::fmt;
 use std::ops::{Add, AddAssign, Div, DivAssign, Mul, MulAssign, Neg, Sub, SubAssign};
 
@@ -66,7 +72,7 @@ impl Fixed {
 
     /// The nearest whole number, ties upwards. It wraps: `Fixed::MAX.round()` is `Fixed::MIN`.
     pub fn round(self) -> Self
-        ensures { IsRound 32 16 (fixed_bits self) (fixed_bits result) }
+        ensures { IsNearestWhole 32 16 (fixed_bits self) (fixed_bits result) }
     {
         self.wrapping_add(Self(0x8000)).floor()
     }
@@ -160,6 +166,43 @@ impl Fixed {
         self.wrapping_add(Self(0x8000)).0 >> 16
     }
 
+    /// The nearest `F26Dot6`, ties upwards, its bits wrapped to 22.
+    pub fn to_f26dot6(self) -> F26Dot6
+        ensures { IsNarrowed 22 (fixed_bits self) (2 ^ 10) (f26dot6_bits result) }
+    {
+        F26Dot6::from_bits(self.wrapping_add(Self(0x200)).0 >> 10)
+    }
+
+    /// The nearest `F2Dot14`, ties upwards, its bits wrapped to 16.
+    pub fn to_f2dot14(self) -> F2Dot14
+        ensures { IsNarrowed 16 (fixed_bits self) 4 (f2dot14_bits result) }
+    {
+        F2Dot14::from_bits(low_half(self.quarter()))
+    }
+
+    /// The same number as an `F48Dot16`.
+    pub fn to_f48dot16(self) -> F48Dot16
+        ensures { f48dot16_bits result ≡ fixed_bits self }
+    {
+        F48Dot16::from_bits(i64::from(self.0))
+    }
+
+    /// The exact product with a whole number.
+    pub fn mul_i32(self, number: i32) -> F48Dot16
+        ensures { f48dot16_bits result ≡ (fixed_bits self *ℤ number) }
+    {
+        F48Dot16::from_bits(i64::from(self.0) * i64::from(number))
+    }
+
+    /// The number moved by a sum of deltas, exactly, in units of `2^-32`.
+    ///
+    /// A delta counts in units of `1 / 65536`, the last bit of this type, with 16 bits of fraction behind it.
+    pub fn apply_delta(self, delta: F48Dot16) -> i128
+        ensures { result ≡ (fixed_bits self *ℤ pos 65536 +ℤ f48dot16_bits delta) }
+    {
+        i128::from(self.0) * 0x1_0000 + i128::from(delta.to_bits())
+    }
+
     /// The number nearest to a decimal text, ties away from zero.
     ///
     /// `Fixed::from_decimal("1.5")` has bits 98304. A text outside the grammar is refused as `Syntax`, one whose
@@ -167,6 +210,8 @@ impl Fixed {
     pub fn from_decimal(text: &str) -> Result<Self, DecimalFault>
         ensures ok { (x : Fixed) → (result ≡ Ok x) ↔ ReadsAs 32 16 text.now (fixed_bits x) }
         ensures reads { IfOk result (λ x. ReadsAs 32 16 text.now (fixed_bits x)) }
+        ensures gives { ReadingGives 32 16 text.now (result_map_both fixed_bits (λ fault. fault) result) }
+        ensures printed { (x : Fixed) → FitsSigned w32 (fixed_bits x) → text.now ≡ fixed_text x → result ≡ Ok x }
         ensures out_of_range { (result ≡ Err DecimalFault.OutOfRange) ↔ IsTooFar 32 16 text.now }
         ensures syntax { (result ≡ Err DecimalFault.Syntax) ↔ IsNoDecimal text.now }
     {
@@ -183,8 +228,9 @@ impl Fixed {
     /// too short, which then stays as it was.
     pub fn write_padded(self, out: &mut [u8], pad: &Pad) -> Option<usize>
         requires { pad.now.fill < 128 }
-        ensures written { IfSome result (λ n. FillsFront (padded_text (shortest_text (fixed_bits self) 16) pad.now) n out.old out.new) }
-        ensures room { IsSome result ↔ (length (padded_text (shortest_text (fixed_bits self) 16) pad.now) ≤ length out.old) }
+        ensures written { IfSome result (λ n. FillsFront (padded_text (fixed_text self) pad.now) n out.old out.new) }
+        ensures room { IsSome result ↔ (length (padded_text (fixed_text self) pad.now) ≤ length out.old) }
+        ensures cell { max 23 pad.now.width ≤ length out.old → IsSome result }
         ensures untouched { IfNone result (out.new ≡ out.old) }
     {
         font_decimal::write_padded(self.shortest().as_str(), out, pad)
@@ -192,9 +238,16 @@ impl Fixed {
 
     fn shortest(self) -> Shortest
         ensures shortest { IsShortest (fixed_bits self) 16 (shown result) }
-        ensures text { shown result ≡ shortest_text (fixed_bits self) 16 }
+        ensures text { shown result ≡ fixed_text self }
     {
         Shortest::new(i64::from(self.0), Self::FRACTION_BITS)
+    }
+
+    // The nearest number of four steps, ties upwards, wrapped to 30 bits.
+    fn quarter(self) -> i32
+        ensures { IsNarrowed 30 (fixed_bits self) 4 result }
+    {
+        self.wrapping_add(Self(2)).0 >> 2
     }
 
     fn is_negative(self) -> bool
@@ -224,6 +277,32 @@ impl Fixed {
         let number = Self(((magnitude % (1 << 32)) as u32).cast_signed());
         if negative { -number } else { number }
     }
+}
+
+// `n / 2^16` rounded to the nearest whole number, ties away from zero.
+fn nearest_steps(n: i64) -> i64
+    requires { unsigned_abs n ≤ 2 ^ 62 }
+    ensures { result ≡ near n 65536 }
+{
+    if n < 0 {
+        (n + 0x7FFF) >> 16
+    } else {
+        (n + 0x8000) >> 16
+    }
+}
+
+// The last 32 bits of a number, as a signed one.
+fn low_bits(n: i64) -> i32
+    ensures { result ≡ wrap 32 n }
+{
+    (n.rem_euclid(1 << 32) as u32).cast_signed()
+}
+
+// The last 16 bits of a number, as a signed one.
+fn low_half(n: i32) -> i16
+    ensures { result ≡ wrap 16 n }
+{
+    (n.rem_euclid(0x1_0000) as u16).cast_signed()
 }
 
 // `n / d` rounded to the nearest whole number, ties away from zero; where `d` is zero, the greatest of 32 bits.
@@ -287,11 +366,8 @@ impl Mul for Fixed {
     ghost mul_gives = { λ x y product. IsProduct 32 16 (fixed_bits x) (fixed_bits y) (fixed_bits product) };
 
     fn mul(self, other: Fixed) -> Fixed {
-        let product = self.magnitude() * other.magnitude();
-        Self::with_sign(
-            self.differs_in_sign(other),
-            rounded_quotient(product, 0x1_0000),
-        )
+        let product = i64::from(self.0) * i64::from(other.0);
+        Self(low_bits(nearest_steps(product)))
     }
 }
 
@@ -331,7 +407,7 @@ impl From<i32> for Fixed {
 }
 
 impl fmt::Display for Fixed {
-    ghost output = { λ x. Some (shortest_text (fixed_bits x) 16) };
+    ghost output = { λ x. Some (fixed_text x) };
 
     fn fmt<W: fmt::Write>(&self, f: &mut fmt::Formatter<W>) -> fmt::Result {
         fmt::Display::fmt(&self.shortest(), f)
@@ -339,7 +415,7 @@ impl fmt::Display for Fixed {
 }
 
 impl fmt::Debug for Fixed {
-    ghost debug_output = { λ x. Some (shortest_text (fixed_bits x) 16) };
+    ghost debug_output = { λ x. Some (fixed_text x) };
 
     fn fmt<W: fmt::Write>(&self, f: &mut fmt::Formatter<W>) -> fmt::Result {
         fmt::Display::fmt(&self.shortest(), f)
@@ -361,15 +437,7 @@ impl Scalar for Fixed {
 
     ghost raw_of = { λ x. bytes_of 4 (fixed_bits x) };
 
-    ghost of_raw_value = { signed_value 4 (lit< tt) };
-
-    ghost raw_of_value = { λ x _. are_bytes-bytes_of 4 (fixed_bits x) };
-
-    ghost back = { λ x value. ap fixed_of (signed_back 4 (lit< tt) (fixed_bits x) value) };
-
-    ghost forth = { λ bytes. bytes_of-signed_numeral 4 bytes (lit< tt) };
-
-    ghost lengths_agree = { refl };
+    ghost laws = { signed_newtype 4 (lit< tt) fixed_bits fixed_of (λ _. refl) (λ _. refl) };
 
     fn from_raw(raw: [u8; 4]) -> Fixed {
         Self(i32::from_raw(raw))
@@ -381,5 +449,5 @@ impl Scalar for Fixed {
 }
 
 impl IdentityEq for Fixed {
-    ghost identity = { same_bits_identity fixed_bits fixed_of (λ _. refl) };
+    ghost identity = { signed_identity fixed_bits fixed_of (λ _. refl) };
 }

@@ -1,4 +1,9 @@
-//! Values from the definition of 16.16 numbers and from the original crate.
+//! Values from the definitions of the numbers and from the original crate.
 
 mod arithmetic;
+mod calling;
+mod conversions;
+mod every_value;
+mod narrow;
 mod texts;
+mod wide;

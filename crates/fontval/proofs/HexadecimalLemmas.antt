@@ -6,15 +6,15 @@ use Rattle.std.specs.List.{list_all}
 use Rattle.std.specs.Str.{IsUtf8}
 use Rattle.hex.specs.Hex.{encode_lower, lower_digits}
 use Rattle.hex.proofs.HexLemmas.{IsAscii-encode_with}
-use Rattle.font_base.specs.Wrap.Laws.{both_left, both_right}
+use Rattle.std.specs.Cmp.{first_so, second_so}
 
 abbrev below_128 : ℕ → Bool
 below_128 byte = nat_lt byte 128
 
 each_is_ascii : (bytes : List ℕ) (i : ℕ) → list_all below_128 bytes ≡ true → get_or bytes i 0 < 128
 each_is_ascii [] i test = lit< tt
-each_is_ascii (b ∷ bytes) zero test = ltb-true b 128 (both_left (below_128 b) (list_all below_128 bytes) test)
-each_is_ascii (b ∷ bytes) (suc i) test = each_is_ascii bytes i (both_right (below_128 b) (list_all below_128 bytes) test)
+each_is_ascii (b ∷ bytes) zero test = ltb-true b 128 (first_so (below_128 b) (list_all below_128 bytes) test)
+each_is_ascii (b ∷ bytes) (suc i) test = each_is_ascii bytes i (second_so (below_128 b) (list_all below_128 bytes) test)
 
 pub hexadecimal_is_text : (bytes : List ℕ) → IsUtf8 (encode_lower bytes)
 hexadecimal_is_text bytes =

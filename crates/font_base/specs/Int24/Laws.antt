@@ -1,5 +1,5 @@
 -- That an `Int24` and its three bytes determine each other.
-use Rattle.std.proofs.Common.{◌≡◌, ◌∙◌, ap, sym, ℕ, ℤ, pos, neg_ℤ, ◌≤ℤ◌, ◌<ℤ◌, List, IsTrue, lit<}
+use Rattle.std.proofs.Common.{◌≡◌, ◌∙◌, ap, sym, refl, true, ℕ, ℤ, pos, neg_ℤ, ◌≤ℤ◌, ◌<ℤ◌, List, IsTrue, lit<}
 use Rattle.std.specs.Bool.{Decides}
 use Rattle.std.specs.Cmp.{signed_Decides}
 use Rattle.std.specs.Ordering.{int_eq}
@@ -7,9 +7,10 @@ use mathlib.Core.HLevel.{is_prop→PathP}
 use denote.Struct.Props.{props}
 use Rattle.font_base.specs.declared.int24.Int24.{Int24}
 use Rattle.font_base.specs.Wrap.{FitsBits}
-use Rattle.font_base.specs.Wrap.Laws.{wrap_fits}
+use Rattle.font_base.specs.Wrap.Laws.{wrap-fits}
 use Rattle.font_base.specs.Bytes.{are_bytes, bytes_of, signed_numeral, IsBytesOf}
-use Rattle.font_base.specs.Bytes.Laws.{signed_numeral-bytes_of, FitsBits-signed_numeral, bytes_of-signed_numeral, is_bytes_of}
+use Rattle.font_base.specs.Bytes.Laws.{are_bytes-bytes_of, signed_numeral-bytes_of, FitsBits-signed_numeral, bytes_of-signed_numeral, bytes_of_gives}
+use Rattle.font_base.specs.Scalar.{ScalarLaws}
 use Rattle.font_base.specs.Int24.{int24_number, int24_of, int24_of_bytes, bytes_of_int24}
 
 -- two of one number are the same value
@@ -28,21 +29,31 @@ int24_fits n = record { low = n.low; high = n.high }
 
 pub int24_number-of : (z : ℤ) → FitsBits 24 z → int24_number (int24_of z) ≡ z
 unfolding int24_of
-int24_number-of z fits = wrap_fits 24 z (lit< tt) fits
+int24_number-of z fits = wrap-fits 24 z (lit< tt) fits
 
-pub int24_back : (n : Int24) → int24_of_bytes (bytes_of_int24 n) ≡ n
+int24_back : (n : Int24) → int24_of_bytes (bytes_of_int24 n) ≡ n
 int24_back n =
     let number = signed_numeral-bytes_of 3 (int24_number n) (lit< tt) (int24_fits n) in
     ap int24_of number ∙ same_int24 (int24_of (int24_number n)) n (int24_number-of (int24_number n) (int24_fits n))
 
-pub int24_forth : (bytes : List ℕ) → IsTrue (are_bytes 3 bytes) → bytes_of_int24 (int24_of_bytes bytes) ≡ bytes
+int24_forth : (bytes : List ℕ) → IsTrue (are_bytes 3 bytes) → bytes_of_int24 (int24_of_bytes bytes) ≡ bytes
 int24_forth bytes are =
     ap (λ z. bytes_of 3 z) (int24_number-of (signed_numeral 3 bytes) (FitsBits-signed_numeral 3 bytes (lit< tt)))
     ∙ bytes_of-signed_numeral 3 bytes (lit< tt) are
 
+-- an `Int24` is a scalar
+pub int24_laws : ScalarLaws (λ (n : Int24). true) (are_bytes 3) int24_of_bytes bytes_of_int24 3 3
+int24_laws = record {
+  of_raw_value = λ bytes are. refl;
+  raw_of_value = λ n _. are_bytes-bytes_of 3 (int24_number n);
+  back = λ n _. int24_back n;
+  forth = int24_forth;
+  lengths_agree = refl;
+}
+
 -- the value whose bytes these are
 pub int24_read : (n : Int24) (bytes : List ℕ) → IsBytesOf 3 (int24_number n) bytes → n ≡ int24_of_bytes bytes
-int24_read n bytes given = sym (int24_back n) ∙ ap int24_of_bytes (sym (is_bytes_of 3 (int24_number n) bytes given))
+int24_read n bytes given = sym (int24_back n) ∙ ap int24_of_bytes (sym (bytes_of_gives 3 (int24_number n) bytes given))
 
 -- `==` of the numbers joins no two values
 pub int24_identity : (m n : Int24) → Decides (int_eq (int24_number m) (int24_number n)) (m ≡ n)

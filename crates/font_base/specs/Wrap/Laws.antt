@@ -1,23 +1,14 @@
--- That wrapping has one answer, and how it meets std's words for the widths of the number types.
+-- That wrapping has one answer.
 use Rattle.std.proofs.Common.{◌≡◌, ◌∙◌, sym, ap, refl, ℕ, zero, suc, ◌+◌, ◌-◌, ◌*◌, ◌/◌, ◌%◌, ◌^◌, ◌<◌, ◌≤◌, ℤ, pos, negsuc, ◌+ℤ◌, ◌*ℤ◌, neg_ℤ, ◌≤ℤ◌, ◌<ℤ◌, lit<, inl, inr, Bool, true, false, ◌&&◌, int_le, int_lt, IsTrue, arith}
 use Rattle.std.proofs.lemmas.Int.{ints, by_lt_z, to_z_pos}
 use Rattle.std.proofs.Math.Nat.{mul-le-mul_right, pow-suc, add-mul, mod-lt}
 use Rattle.std.proofs.lemmas.Nat.{pow_pos, div-add-mod'}
 use Rattle.std.proofs.lemmas.Bool.{cases_lt}
-use Rattle.std.proofs.Math.Facts.{to_z-neg}
+use Rattle.std.specs.Cmp.{first_so, second_so}
 use Rattle.std.specs.Cmp.Derive.{both_true}
-use Rattle.std.specs.Int.{int_rem_euclid, int_wrap, Width, w8, w16, w32, w64, w128}
+use Rattle.std.specs.Int.{int_rem_euclid}
 use borrow.Author.Differences.{up, down, sum_is_lem}
-use mir.Val.{SFits, to_z, bits, hbits}
 use Rattle.font_base.specs.Wrap.{half_range, FitsBits, fits_bits, IsWrapped, wrap}
-
-pub both_left : (s t : Bool) → (s && t) ≡ true → s ≡ true
-both_left true t h = refl
-both_left false t h = h
-
-pub both_right : (s t : Bool) → (s && t) ≡ true → t ≡ true
-both_right true t h = h
-both_right false t h = cc
 
 -- w bits tell apart twice as many numbers as w - 1 bits
 pub two_halves : (w : ℕ) → 0 < w → 2 ^ w ≡ half_range w + half_range w
@@ -91,89 +82,33 @@ wrap_unique w z r s positive p q =
     same_rest (2 ^ w) r s p.turns q.turns (omega (arith, ints, whole)) (omega (arith, ints, whole)) (sym p.differs ∙ q.differs)
 
 -- what an answer gives is what `wrap` gives
-pub is_wrap : (w : ℕ) (z r : ℤ) → 0 < w → IsWrapped w z r → r ≡ wrap w z
-is_wrap w z r positive given = wrap_unique w z r (wrap w z) positive given (wrap_is w z positive)
+pub wrap_gives : (w : ℕ) (z r : ℤ) → 0 < w → IsWrapped w z r → r ≡ wrap w z
+wrap_gives w z r positive given = wrap_unique w z r (wrap w z) positive given (wrap_is w z positive)
 
 -- a number that fits is left as it is
-pub wrap_fits : (w : ℕ) (z : ℤ) → 0 < w → FitsBits w z → wrap w z ≡ z
-wrap_fits w z positive fits =
-    sym (is_wrap w z z positive (record { fits = fits; turns = pos 0; differs = omega (arith, ints) }))
+pub wrap-fits : (w : ℕ) (z : ℤ) → 0 < w → FitsBits w z → wrap w z ≡ z
+wrap-fits w z positive fits =
+    sym (wrap_gives w z z positive (record { fits = fits; turns = pos 0; differs = omega (arith, ints) }))
 
 -- numbers a multiple of 2^w apart wrap to the same
 pub wrap_same : (w : ℕ) (y z : ℤ) (turns : ℤ) → 0 < w → y ≡ (z +ℤ (turns *ℤ pos (2 ^ w))) → wrap w y ≡ wrap w z
 wrap_same w y z turns positive apart =
     let given = wrap_is w z positive in
-    sym (is_wrap w y (wrap w z) positive (record {
+    sym (wrap_gives w y (wrap w z) positive (record {
       fits = given.fits;
       turns = given.turns +ℤ turns;
       differs = omega (arith, ints, apart, given.differs, times_sum given.turns turns (2 ^ w));
     }))
 
 -- the test of a range and the range
-pub FitsBits-test : (w : ℕ) (z : ℤ) → IsTrue (fits_bits w z) → FitsBits w z
-FitsBits-test w z test =
-    let low = both_left (int_le (neg_ℤ (pos (half_range w))) z) (int_lt z (pos (half_range w))) test in
-    let high = both_right (int_le (neg_ℤ (pos (half_range w))) z) (int_lt z (pos (half_range w))) test in
+pub fits_bits-true : (w : ℕ) (z : ℤ) → IsTrue (fits_bits w z) → FitsBits w z
+fits_bits-true w z test =
+    let low = first_so (int_le (neg_ℤ (pos (half_range w))) z) (int_lt z (pos (half_range w))) test in
+    let high = second_so (int_le (neg_ℤ (pos (half_range w))) z) (int_lt z (pos (half_range w))) test in
     record { low = omega (arith, ints, low); high = omega (arith, ints, high) }
 
-pub test-FitsBits : (w : ℕ) (z : ℤ) → FitsBits w z → IsTrue (fits_bits w z)
-test-FitsBits w z fits =
+pub FitsBits-fits_bits : (w : ℕ) (z : ℤ) → FitsBits w z → IsTrue (fits_bits w z)
+FitsBits-fits_bits w z fits =
     let low : true ≡ int_le (neg_ℤ (pos (half_range w))) z = omega (arith, ints, fits.low) in
     let high : true ≡ int_lt z (pos (half_range w)) = omega (arith, ints, fits.high) in
     both_true (sym low) (sym high)
-
--- ---- the widths of the number types
-
-pub half_range-bits : (w : Width) → half_range (bits w) ≡ 2 ^ hbits w
-half_range-bits w8 = refl
-half_range-bits w16 = refl
-half_range-bits w32 = refl
-half_range-bits w64 = refl
-half_range-bits w128 = refl
-
-pub bits_positive : (w : Width) → 0 < bits w
-bits_positive w8 = lit< tt
-bits_positive w16 = lit< tt
-bits_positive w32 = lit< tt
-bits_positive w64 = lit< tt
-bits_positive w128 = lit< tt
-
--- a value of a signed type fits its bits, and the other way
-pub FitsBits-signed : (w : Width) (z : ℤ) → SFits w z → FitsBits (bits w) z
-FitsBits-signed w z fits =
-    let half = half_range-bits w in
-    record { low = omega (arith, ints, fits, half); high = omega (arith, ints, fits, half) }
-
-pub signed-FitsBits : (w : Width) (z : ℤ) → FitsBits (bits w) z → SFits w z
-signed-FitsBits w z fits = let half = half_range-bits w in omega (arith, ints, fits.low, fits.high, half)
-
--- a cast to the signed type keeps the bits
-pub to_z-wrap : (w : Width) (n : ℕ) → n < 2 ^ bits w → to_z w n ≡ wrap (bits w) (pos n)
-to_z-wrap w n below =
-    let half = half_range-bits w in
-    let whole = two_halves (bits w) (bits_positive w) in
-    is_wrap (bits w) (pos n) (to_z w n) (bits_positive w) (elim (cases_lt n (2 ^ hbits w)) [
-      | inl low ↦ rw (to_z_pos w n low) (record {
-        fits = record { low = omega (arith, ints); high = omega (arith, ints, half, low) };
-        turns = pos 0;
-        differs = omega (arith, ints);
-      })
-      | inr high ↦
-          let k : ℕ = 2 ^ bits w - suc n in
-          let small : k < 2 ^ hbits w = omega arith in
-          let split : n ≡ 2 ^ bits w - suc k = omega arith in
-          let is : to_z w n ≡ negsuc k = ap (to_z w) split ∙ to_z-neg w k small in
-          rw is (record {
-            fits = record { low = omega (arith, ints, half, small); high = omega (arith, ints) };
-            turns = pos 1;
-            differs = omega (arith, ints, split, below);
-          })
-    ])
-
--- std's wrapping is this one
-pub int_wrap-wrap : (w : Width) (z : ℤ) → int_wrap w z ≡ wrap (bits w) z
-unfolding int_wrap
-int_wrap-wrap w z =
-    let parts = remainder z (2 ^ bits w) (pow_pos (bits w)) in
-    rw parts.is (to_z-wrap w parts.rest parts.below
-    ∙ sym (wrap_same (bits w) z (pos parts.rest) parts.turns (bits_positive w) parts.parts))

@@ -1,10 +1,8 @@
 //! A scalar and a header of a reader of tables, as its author would write them.
 
 ghost use Rattle.std.specs.Prelude.{◌≡◌, ◌^◌, pos, nat_lt, take, drop, refl};
-ghost use Rattle.std.proofs.Common.{ap};
-ghost use Rattle.std.specs.Cmp.{unsigned_Decides};
 ghost use Rattle.font_base.specs.Bytes.{numeral, bytes_of};
-ghost use Rattle.font_base.specs.Bytes.Laws.{are_bytes-bytes_of, bytes_of-numeral, unsigned_back, unsigned_value};
+ghost use Rattle.font_base.specs.Scalar.Laws.{unsigned_newtype, unsigned_identity};
 ghost use Rattle.font_base.specs.BigEndian.{raw_value};
 
 use crate::{BigEndian, FixedSize, IdentityEq, Scalar, TableDataRef, TableHeader};
@@ -29,15 +27,7 @@ impl Scalar for WeightClass {
 
     ghost raw_of = { λ weight. bytes_of 2 (pos weight.0) };
 
-    ghost of_raw_value = { unsigned_value 2 };
-
-    ghost raw_of_value = { λ weight _. are_bytes-bytes_of 2 (pos weight.0) };
-
-    ghost back = { λ weight value. ap (λ n. record { 0 = n }) (unsigned_back 2 weight.0 value) };
-
-    ghost forth = { bytes_of-numeral 2 };
-
-    ghost lengths_agree = { refl };
+    ghost laws = { unsigned_newtype 2 (λ weight. weight.0) (λ n. record { 0 = n }) (λ _. refl) (λ _. refl) };
 
     fn from_raw(raw: [u8; 2]) -> WeightClass {
         WeightClass(u16::from_raw(raw))
@@ -49,7 +39,7 @@ impl Scalar for WeightClass {
 }
 
 impl IdentityEq for WeightClass {
-    ghost identity = { λ a b. ((λ same. ap (λ n. record { 0 = n }) ((unsigned_Decides a.0 b.0).0 same)), (λ same. (unsigned_Decides a.0 b.0).1 (ap (λ weight. weight.0) same))) };
+    ghost identity = { unsigned_identity (λ weight. weight.0) (λ n. record { 0 = n }) (λ _. refl) };
 }
 
 /// The first fields of the table of metrics.

@@ -3,6 +3,43 @@
 use crate::Fixed;
 use crate::laws::fixed::{product_laws, quotient_laws};
 use font_base::{BigEndian, Scalar};
+use std::collections::HashSet;
+use std::test::Fail;
+
+#[test]
+fn constants(rt: HostRuntime) {
+    for (number, bits) in [
+        (Fixed::MIN, i32::MIN),
+        (Fixed::MAX, i32::MAX),
+        (Fixed::EPSILON, 1),
+        (Fixed::ZERO, 0),
+        (Fixed::default(), 0),
+        (Fixed::ONE, 0x1_0000),
+        (Fixed::NEG_ONE, -0x1_0000),
+    ] {
+        assert_eq!(rt; number.to_bits(), bits);
+    }
+}
+
+#[test]
+fn compared(rt: HostRuntime) -> Result<(), Fail> {
+    assert!(rt; Fixed::NEG_ONE < Fixed::ZERO);
+    assert!(rt; Fixed::ONE.max(Fixed::NEG_ONE) == Fixed::ONE.clone()?);
+    let mut set = HashSet::new(rt.alloc());
+    set.insert(Fixed::ONE)?;
+    assert!(rt; set.contains(&Fixed::from_i32(1)));
+    assert!(rt; !set.contains(&Fixed::ZERO));
+    Ok(())
+}
+
+#[test]
+fn sums(rt: HostRuntime) {
+    let (half, step) = (Fixed::from_bits(0x8000), Fixed::EPSILON);
+    assert_eq!(rt; (half + step).to_bits(), 0x8001);
+    assert_eq!(rt; (step - half).to_bits(), -0x7FFF);
+    assert!(rt; Fixed::MAX + step == Fixed::MIN);
+    assert!(rt; half.checked_add(half) == Some(Fixed::ONE));
+}
 
 #[test]
 fn products(rt: HostRuntime) {

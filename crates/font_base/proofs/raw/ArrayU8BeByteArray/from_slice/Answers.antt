@@ -1,4 +1,4 @@
-use Rattle.font_base.specs.Bytes.Laws.{chunk_is_bytes}
+use Rattle.font_base.proofs.StdBytes.{chunk_is_bytes}
 use Rattle.font_base.proofs.raw.ArrayU8BeByteArray.from_slice.Goals as goal
 
 pub returns-clause-value : goal.returns-clause-value

@@ -1,0 +1,166 @@
+-- The bytes that std reads and writes, in the words of numerals.
+use Rattle.std.proofs.Common.{◌≡◌, ◌∙◌, sym, ap, refl, ℕ, zero, suc, ◌-◌, ◌*◌, ◌^◌, ◌<◌, ◌≤◌, ℤ, pos, negsuc, ◌+ℤ◌, ◌*ℤ◌, List, [], ◌∷◌, length, get_or, drop, ◌≢◌, Option, Result, Ok, Err, MatchResult, IfSome, arith, IsTrue, lit≤}
+use Rattle.std.proofs.lemmas.Int.{ints, to_z-of_z}
+use Rattle.std.proofs.Math.Nat.{mod-eq_of_lt}
+use Rattle.std.proofs.Math.Facts.{Fits-of_z, Fits-of_lt, sfits_to_z}
+use Rattle.std.specs.Int.{Width, w8, w16, w32, w64, w128, byte_len, bytes_high_first, to_be_bytes, from_be_bytes}
+use Rattle.std.specs.Result.{result_ok}
+use Rattle.std.specs.Array.{IsWholeChunk}
+use mir.Val.{SFits, to_z, of_z, bits, hbits}
+use Rattle.font_base.specs.Wrap.{wrap}
+use Rattle.font_base.specs.Bytes.{numeral, are_bytes, bytes_of, signed_numeral}
+use Rattle.font_base.specs.Bytes.Laws.{are_bytes_in, bytes_of-same}
+use Rattle.font_base.proofs.Widths.{to_z-wrap}
+
+byte_len-bits : (w : Width) → 256 ^ byte_len w ≡ 2 ^ bits w
+byte_len-bits w8 = refl
+byte_len-bits w16 = refl
+byte_len-bits w32 = refl
+byte_len-bits w64 = refl
+byte_len-bits w128 = refl
+
+bits-byte_len : (w : Width) → bits w ≡ 8 * byte_len w
+bits-byte_len w8 = refl
+bits-byte_len w16 = refl
+bits-byte_len w32 = refl
+bits-byte_len w64 = refl
+bits-byte_len w128 = refl
+
+halves : (w : Width) → 2 ^ hbits w ≤ 2 ^ bits w
+halves w8 = lit≤ tt
+halves w16 = lit≤ tt
+halves w32 = lit≤ tt
+halves w64 = lit≤ tt
+halves w128 = lit≤ tt
+
+pub to_be_bytes-bytes_of : (w : Width) (n : ℕ) → n < 2 ^ bits w → to_be_bytes w n ≡ bytes_of (byte_len w) (pos n)
+unfolding bytes_of
+to_be_bytes-bytes_of w n below =
+    let small : n < 256 ^ byte_len w = rw (byte_len-bits w) below in
+    ap (λ m. bytes_high_first (byte_len w) m) (sym (mod-eq_of_lt small))
+
+-- a negative number and its two's complement
+pub complement : (z : ℤ) (whole n : ℕ) → z ≡ negsuc n → n < whole → pos (whole - suc n) ≡ (z +ℤ (pos 1 *ℤ pos whole))
+complement z whole n is below = omega (arith, ints, is)
+
+pub to_be_bytes-signed : (w : Width) (z : ℤ) → SFits w z → to_be_bytes w (of_z w z) ≡ bytes_of (byte_len w) z
+to_be_bytes-signed w z fits =
+    to_be_bytes-bytes_of w (of_z w z) (Fits-of_z fits).fits ∙ bytes_of-same (byte_len w) (pos (of_z w z)) z (wrapped_turns z) (turned w z fits)
+  where
+    wrapped_turns : ℤ → ℤ
+    wrapped_turns (pos n) = pos 0
+    wrapped_turns (negsuc n) = pos 1
+
+    turned : (w : Width) (z : ℤ) → SFits w z → pos (of_z w z) ≡ (z +ℤ (wrapped_turns z *ℤ pos (256 ^ byte_len w)))
+    turned w (pos n) fits = omega (arith, ints)
+    turned w (negsuc n) fits = rw (byte_len-bits w) (complement (negsuc n) (2 ^ bits w) n refl (omega (arith, ints, fits, halves w)))
+
+-- the first n elements of a list, one by one
+items : ℕ → List ℕ → List ℕ
+items zero bytes = []
+items (suc n) bytes = get_or bytes 0 0 ∷ items n (drop 1 bytes)
+
+items_are : (n : ℕ) (bytes : List ℕ) → length bytes ≡ n → bytes ≡ items n bytes
+unfolding items
+items_are zero [] many = refl
+items_are zero (b ∷ bs) many = absurd (omega arith)
+items_are (suc n) [] many = absurd (omega arith)
+items_are (suc n) (b ∷ bs) many = ap (λ xs. b ∷ xs) (items_are n bs (omega arith))
+
+pub from_be_bytes-numeral_1 : (bytes : List ℕ) → length bytes ≡ 1 → from_be_bytes w8 bytes ≡ numeral bytes
+unfolding items
+from_be_bytes-numeral_1 bytes many =
+    let e = items_are 1 bytes many in
+    let same : from_be_bytes w8 (items 1 bytes) ≡ numeral (items 1 bytes) = omega arith in
+    ap (from_be_bytes w8) e ∙ same ∙ sym (ap numeral e)
+
+pub from_be_bytes-numeral_2 : (bytes : List ℕ) → length bytes ≡ 2 → from_be_bytes w16 bytes ≡ numeral bytes
+unfolding items
+from_be_bytes-numeral_2 bytes many =
+    let e = items_are 2 bytes many in
+    let same : from_be_bytes w16 (items 2 bytes) ≡ numeral (items 2 bytes) = omega arith in
+    ap (from_be_bytes w16) e ∙ same ∙ sym (ap numeral e)
+
+pub from_be_bytes-numeral_4 : (bytes : List ℕ) → length bytes ≡ 4 → from_be_bytes w32 bytes ≡ numeral bytes
+unfolding items
+from_be_bytes-numeral_4 bytes many =
+    let e = items_are 4 bytes many in
+    let same : from_be_bytes w32 (items 4 bytes) ≡ numeral (items 4 bytes) = omega arith in
+    ap (from_be_bytes w32) e ∙ same ∙ sym (ap numeral e)
+
+pub from_be_bytes-numeral_8 : (bytes : List ℕ) → length bytes ≡ 8 → from_be_bytes w64 bytes ≡ numeral bytes
+unfolding items
+from_be_bytes-numeral_8 bytes many =
+    let e = items_are 8 bytes many in
+    let same : from_be_bytes w64 (items 8 bytes) ≡ numeral (items 8 bytes) = omega arith in
+    ap (from_be_bytes w64) e ∙ same ∙ sym (ap numeral e)
+
+-- a cast of the bytes' number to the signed type
+pub to_z-signed_numeral : (w : Width) (bytes : List ℕ) → numeral bytes < 2 ^ bits w → to_z w (numeral bytes) ≡ signed_numeral (byte_len w) bytes
+unfolding signed_numeral
+to_z-signed_numeral w bytes below =
+    to_z-wrap w (numeral bytes) below ∙ ap (λ k. wrap k (pos (numeral bytes))) (bits-byte_len w)
+
+-- what a slice of the right length is converted to
+pub chunk_is_bytes : {E : Type 0} (n : ℕ) (slice : List ℕ) (array : Result (List ℕ) E) (found : Option (List ℕ))
+    → MatchResult array (λ bytes. IsWholeChunk slice bytes n) (λ _. length slice ≢ n) → found ≡ result_ok array
+    → ((i : ℕ) → get_or slice i 0 < 256) → IfSome found (λ bytes. IsTrue (are_bytes n bytes))
+chunk_is_bytes n slice (Ok bytes) found chunk is each =
+    rw (is, chunk.same) (are_bytes_in n slice chunk.long each)
+chunk_is_bytes n slice (Err e) found chunk is each = rw is tt
+
+-- ---- what std's calls read and write, in the form that the goals of `from_raw` and `to_raw` have
+
+signed_read : (w : Width) (bytes : List ℕ) (n : ℕ) (z : ℤ) → n < 2 ^ bits w → from_be_bytes w bytes ≡ numeral bytes
+    → n ≡ from_be_bytes w bytes → z ≡ to_z w n → to_z w (of_z w z) ≡ signed_numeral (byte_len w) bytes
+signed_read w bytes n z below same is cast =
+    let number : n ≡ numeral bytes = is ∙ same in
+    let fits : SFits w z = rw cast (sfits_to_z (Fits-of_lt below)) in
+    to_z-of_z w z fits ∙ cast ∙ ap (to_z w) number ∙ to_z-signed_numeral w bytes (rw (← number) below)
+
+signed_written : (w : Width) (z : ℤ) (bytes : List ℕ) → SFits w z → bytes ≡ to_be_bytes w (of_z w (to_z w (of_z w z))) → bytes ≡ bytes_of (byte_len w) z
+signed_written w z bytes fits is = is ∙ ap (λ y. to_be_bytes w (of_z w y)) (to_z-of_z w z fits) ∙ to_be_bytes-signed w z fits
+
+-- std writes one byte as it is
+pub u8_written : (n : ℕ) (bytes : List ℕ) → n < 256 → bytes ≡ n ∷ [] → bytes ≡ bytes_of 1 (pos n)
+u8_written n bytes below is = is ∙ ap (λ b. b ∷ []) (sym (mod-eq_of_lt below)) ∙ to_be_bytes-bytes_of w8 n below
+
+pub i8_written : (z : ℤ) (bytes : List ℕ) → SFits w8 z → bytes ≡ of_z w8 (to_z w8 (of_z w8 z)) ∷ [] → bytes ≡ bytes_of 1 z
+i8_written z bytes fits is =
+    let below = (Fits-of_z fits).fits in
+    is ∙ ap (λ y. of_z w8 y ∷ []) (to_z-of_z w8 z fits) ∙ ap (λ b. b ∷ []) (sym (mod-eq_of_lt below)) ∙ to_be_bytes-signed w8 z fits
+
+pub i8_read : (bytes : List ℕ) (n : ℕ) (z : ℤ) → length bytes ≡ 1 → n < 2 ^ 8 → n ≡ from_be_bytes w8 bytes → z ≡ to_z w8 n → to_z w8 (of_z w8 z) ≡ signed_numeral 1 bytes
+i8_read bytes n z many below is cast = signed_read w8 bytes n z below (from_be_bytes-numeral_1 bytes many) is cast
+
+pub u16_read : (bytes : List ℕ) (n : ℕ) → length bytes ≡ 2 → n ≡ from_be_bytes w16 bytes → n ≡ numeral bytes
+u16_read bytes n many is = is ∙ from_be_bytes-numeral_2 bytes many
+
+pub u16_written : (n : ℕ) (bytes : List ℕ) → n < 2 ^ 16 → bytes ≡ to_be_bytes w16 n → bytes ≡ bytes_of 2 (pos n)
+u16_written n bytes below is = is ∙ to_be_bytes-bytes_of w16 n below
+
+pub i16_read : (bytes : List ℕ) (n : ℕ) (z : ℤ) → length bytes ≡ 2 → n < 2 ^ 16 → n ≡ from_be_bytes w16 bytes → z ≡ to_z w16 n → to_z w16 (of_z w16 z) ≡ signed_numeral 2 bytes
+i16_read bytes n z many below is cast = signed_read w16 bytes n z below (from_be_bytes-numeral_2 bytes many) is cast
+
+pub i16_written : (z : ℤ) (bytes : List ℕ) → SFits w16 z → bytes ≡ to_be_bytes w16 (of_z w16 (to_z w16 (of_z w16 z))) → bytes ≡ bytes_of 2 z
+i16_written z bytes fits is = signed_written w16 z bytes fits is
+
+pub u32_read : (bytes : List ℕ) (n : ℕ) → length bytes ≡ 4 → n ≡ from_be_bytes w32 bytes → n ≡ numeral bytes
+u32_read bytes n many is = is ∙ from_be_bytes-numeral_4 bytes many
+
+pub u32_written : (n : ℕ) (bytes : List ℕ) → n < 2 ^ 32 → bytes ≡ to_be_bytes w32 n → bytes ≡ bytes_of 4 (pos n)
+u32_written n bytes below is = is ∙ to_be_bytes-bytes_of w32 n below
+
+pub i32_read : (bytes : List ℕ) (n : ℕ) (z : ℤ) → length bytes ≡ 4 → n < 2 ^ 32 → n ≡ from_be_bytes w32 bytes → z ≡ to_z w32 n → to_z w32 (of_z w32 z) ≡ signed_numeral 4 bytes
+i32_read bytes n z many below is cast = signed_read w32 bytes n z below (from_be_bytes-numeral_4 bytes many) is cast
+
+pub i32_written : (z : ℤ) (bytes : List ℕ) → SFits w32 z → bytes ≡ to_be_bytes w32 (of_z w32 (to_z w32 (of_z w32 z))) → bytes ≡ bytes_of 4 z
+i32_written z bytes fits is = signed_written w32 z bytes fits is
+
+pub i64_read : (bytes : List ℕ) (n : ℕ) (z : ℤ) → length bytes ≡ 8 → n < 2 ^ 64 → n ≡ from_be_bytes w64 bytes → z ≡ to_z w64 n → to_z w64 (of_z w64 z) ≡ signed_numeral 8 bytes
+i64_read bytes n z many below is cast = signed_read w64 bytes n z below (from_be_bytes-numeral_8 bytes many) is cast
+
+pub i64_written : (z : ℤ) (bytes : List ℕ) → SFits w64 z → bytes ≡ to_be_bytes w64 (of_z w64 (to_z w64 (of_z w64 z))) → bytes ≡ bytes_of 8 z
+i64_written z bytes fits is = signed_written w64 z bytes fits is
+
+pub ruleset std_bytes = (u8_written, i8_written, i8_read, u16_read, u16_written, i16_read, i16_written, u32_read, u32_written, i32_read, i32_written, i64_read, i64_written)

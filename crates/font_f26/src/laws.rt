@@ -1,0 +1,3 @@
+//! Functions whose contracts are laws of the numbers.
+
+pub mod f26dot6;

@@ -1,0 +1,58 @@
+//! Printed and read texts.
+
+use crate::F26Dot6;
+use font_decimal::{Align, DecimalFault, Pad};
+use std::test::Fail;
+
+#[test]
+fn printed(rt: HostRuntime) -> Result<(), Fail> {
+    for (bits, text) in [
+        (i32::MIN, "-33554432"),
+        (i32::MAX, "33554431.98"),
+        (8, "0.13"),
+        (1, "0.02"),
+        (-3, "-0.05"),
+        (32, "0.5"),
+        (65, "1.02"),
+        (-96, "-1.5"),
+        (6416, "100.25"),
+    ] {
+        let number = F26Dot6::from_bits(bits);
+        let both = format!(in rt.alloc(); "{number} {number:?}")?;
+        assert_eq!(rt;
+            both.as_str(),
+            format!(in rt.alloc(); "{text} {text}")?.as_str()
+        );
+        assert!(rt; F26Dot6::from_decimal(text) == Ok(number));
+    }
+    Ok(())
+}
+
+#[test]
+fn read(rt: HostRuntime) {
+    for (text, bits) in [
+        ("0.12", 8),
+        ("0.0078125", 1),
+        ("-1001.1", -64070),
+        ("-0.0", 0),
+    ] {
+        assert!(rt; F26Dot6::from_decimal(text) == Ok(F26Dot6::from_bits(bits)));
+    }
+    assert!(rt; F26Dot6::from_decimal("33554431.9921875") == Err(DecimalFault::OutOfRange));
+    assert!(rt; F26Dot6::from_decimal("1.") == Err(DecimalFault::Syntax));
+}
+
+#[test]
+fn padded(rt: HostRuntime) {
+    let pad = Pad {
+        width: 6,
+        fill: b' ',
+        align: Align::Left,
+        plus: true,
+        zeros: false,
+    };
+    let mut out = [b'-'; 7];
+    assert!(rt; F26Dot6::from_bits(32).write_padded(&mut out, &pad) == Some(6));
+    assert!(rt; &out == b"+0.5  -");
+    assert!(rt; F26Dot6::MIN.write_padded(&mut out, &pad).is_none());
+}

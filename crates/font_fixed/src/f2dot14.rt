@@ -1,0 +1,287 @@
+//! The fixed-point number of 16 bits with 14 bits of fraction.
+#![tactic(auto, using(font_arithmetic::proofs::Width16::code_16))]
+
+ghost use Rattle.std.specs.Prelude.{◌≡◌, ◌^◌, ◌<◌, ◌≤◌, ◌↔◌, ℤ, pos, neg_ℤ, ◌+ℤ◌, ◌-ℤ◌, ◌*ℤ◌, Some, IsSome, IfSome, IfNone, IfOk, refl, length, max, unsigned_abs, FitsSigned};
+ghost use Rattle.std.proofs.Common.{lit<};
+ghost use Rattle.std.specs.Int.{w16};
+ghost use Rattle.std.specs.Result.{result_map_both};
+ghost use Rattle.font_base.specs.Wrap.{FitsBits, fits_bits, wrap};
+ghost use Rattle.font_base.specs.Bytes.{IsBytesOf, bytes_of, signed_numeral};
+ghost use Rattle.font_base.specs.Scalar.Laws.{signed_newtype, signed_identity};
+ghost use Rattle.font_decimal.specs.Grammar.{IsNoDecimal};
+ghost use Rattle.font_decimal.specs.Padding.{padded_text, FillsFront};
+ghost use Rattle.font_decimal.specs.Shortest.{IsShortest};
+ghost use Rattle.font_decimal.specs.Shown.{shown};
+ghost use Rattle.font_arithmetic.specs.Operations.{IsNearestWhole, IsFloor, IsFract, clamp, ReadsAs, IsTooFar, ReadingGives};
+ghost use Rattle.font_fixed.specs.declared.f2dot14.F2Dot14.{F2Dot14};
+ghost use Rattle.font_fixed.specs.F2Dot14.{f2dot14_bits, f2dot14_of, f2dot14_text};
+ghost use Rattle.font_fixed.specs.Fixed.{fixed_bits};
+ghost use Rattle.font_fixed.specs.F48Dot16.{f48dot16_bits};
+
+use crate::f48dot16::F48Dot16;
+use crate::fixed::Fixed;
+use font_base::{FixedSize, IdentityEq, Scalar};
+use font_decimal::{DecimalFault, Pad, Shortest, read_decimal};
+use std::fmt;
+use std::ops::{Add, AddAssign, Neg, Sub, SubAssign};
+
+/// A fixed-point number of 16 bits, the last 14 of which are its fraction: a coordinate in a normalized design space.
+///
+/// Its bits are counted in steps of `1 / 16384`: `F2Dot14::from_bits(0x6000)` is 1.5. Sums that leave the range
+/// wrap.
+#[derive(Clone, Copy, PartialEq, Eq, PartialOrd, Ord, Hash, Default)]
+pub struct F2Dot14(i16);
+
+impl F2Dot14 {
+    /// The least value, -2.
+    pub const MIN: Self = Self(-0x8000);
+
+    /// The greatest value, a step below 2.
+    pub const MAX: Self = Self(0x7FFF);
+
+    /// One step, `1 / 16384`.
+    pub const EPSILON: Self = Self(1);
+
+    /// 0.
+    pub const ZERO: Self = Self(0);
+
+    /// 1.
+    pub const ONE: Self = Self(0x4000);
+
+    /// -1.
+    pub const NEG_ONE: Self = Self(-0x4000);
+
+    const FRACTION_BITS: u32 = 14;
+
+    /// The number with these bits.
+    pub fn from_bits(bits: i16) -> Self
+        ensures { f2dot14_bits result ≡ bits }
+    {
+        Self(bits)
+    }
+
+    /// The bits.
+    pub fn to_bits(self) -> i16
+        ensures { result ≡ f2dot14_bits self }
+    {
+        self.0
+    }
+
+    /// The nearest whole number, ties upwards. It wraps: `F2Dot14::MAX.round()` is `F2Dot14::MIN`.
+    pub fn round(self) -> Self
+        ensures { IsNearestWhole 16 14 (f2dot14_bits self) (f2dot14_bits result) }
+    {
+        self.wrapping_add(Self(0x2000)).floor()
+    }
+
+    /// The greatest whole number that is not above the number.
+    pub fn floor(self) -> Self
+        ensures { IsFloor 14 (f2dot14_bits self) (f2dot14_bits result) }
+    {
+        Self(self.0 - self.fract().0)
+    }
+
+    /// What the number has above its floor, from 0 to a step below 1.
+    pub fn fract(self) -> Self
+        ensures { IsFract 14 (f2dot14_bits self) (f2dot14_bits result) }
+    {
+        Self(self.0.rem_euclid(0x4000))
+    }
+
+    /// The number without its sign. It wraps: `F2Dot14::MIN.abs()` is `F2Dot14::MIN`.
+    pub fn abs(self) -> Self
+        ensures { f2dot14_bits result ≡ wrap 16 (pos (unsigned_abs (f2dot14_bits self))) }
+    {
+        Self(self.0.wrapping_abs())
+    }
+
+    /// The sum, wrapped.
+    pub fn wrapping_add(self, other: Self) -> Self
+        ensures { f2dot14_bits result ≡ wrap 16 (f2dot14_bits self +ℤ f2dot14_bits other) }
+    {
+        Self(self.0.wrapping_add(other.0))
+    }
+
+    /// The difference, wrapped.
+    pub fn wrapping_sub(self, other: Self) -> Self
+        ensures { f2dot14_bits result ≡ wrap 16 (f2dot14_bits self -ℤ f2dot14_bits other) }
+    {
+        Self(self.0.wrapping_sub(other.0))
+    }
+
+    /// The sum, or the nearest end of the range where it is out of it.
+    pub fn saturating_add(self, other: Self) -> Self
+        ensures { f2dot14_bits result ≡ clamp 16 (f2dot14_bits self +ℤ f2dot14_bits other) }
+    {
+        Self(self.0.saturating_add(other.0))
+    }
+
+    /// The difference, or the nearest end of the range where it is out of it.
+    pub fn saturating_sub(self, other: Self) -> Self
+        ensures { f2dot14_bits result ≡ clamp 16 (f2dot14_bits self -ℤ f2dot14_bits other) }
+    {
+        Self(self.0.saturating_sub(other.0))
+    }
+
+    /// The sum, or `None` where it is out of range.
+    pub fn checked_add(self, other: Self) -> Option<Self>
+        ensures variant { IsSome result ↔ FitsBits 16 (f2dot14_bits self +ℤ f2dot14_bits other) }
+        ensures value { IfSome result (λ sum. f2dot14_bits sum ≡ (f2dot14_bits self +ℤ f2dot14_bits other)) }
+    {
+        Some(Self(self.0.checked_add(other.0)?))
+    }
+
+    /// The two bytes of the bits, highest first.
+    pub fn to_be_bytes(self) -> [u8; 2]
+        ensures { IsBytesOf 2 (f2dot14_bits self) result }
+    {
+        self.to_raw()
+    }
+
+    /// The same number as a `Fixed`.
+    pub fn to_fixed(self) -> Fixed
+        ensures { fixed_bits result ≡ (f2dot14_bits self *ℤ pos 4) }
+    {
+        Fixed::from_bits(i32::from(self.0) * 4)
+    }
+
+    /// The number moved by a sum of deltas, exactly, in units of `2^-30`.
+    ///
+    /// A delta counts in units of `1 / 16384`, the last bit of this type, with 16 bits of fraction behind it.
+    pub fn apply_delta(self, delta: F48Dot16) -> i128
+        ensures { result ≡ (f2dot14_bits self *ℤ pos 65536 +ℤ f48dot16_bits delta) }
+    {
+        i128::from(self.0) * 0x1_0000 + i128::from(delta.to_bits())
+    }
+
+    /// The number nearest to a decimal text, ties away from zero.
+    ///
+    /// A text outside the grammar is refused as `Syntax`, one whose nearest number is out of range as `OutOfRange`.
+    pub fn from_decimal(text: &str) -> Result<Self, DecimalFault>
+        ensures ok { (x : F2Dot14) → (result ≡ Ok x) ↔ ReadsAs 16 14 text.now (f2dot14_bits x) }
+        ensures reads { IfOk result (λ x. ReadsAs 16 14 text.now (f2dot14_bits x)) }
+        ensures gives { ReadingGives 16 14 text.now (result_map_both f2dot14_bits (λ fault. fault) result) }
+        ensures printed { (x : F2Dot14) → FitsSigned w16 (f2dot14_bits x) → text.now ≡ f2dot14_text x → result ≡ Ok x }
+        ensures out_of_range { (result ≡ Err DecimalFault.OutOfRange) ↔ IsTooFar 16 14 text.now }
+        ensures syntax { (result ≡ Err DecimalFault.Syntax) ↔ IsNoDecimal text.now }
+    {
+        let bits = read_decimal(
+            text,
+            Self::FRACTION_BITS,
+            i64::from(i16::MIN),
+            i64::from(i16::MAX),
+        )?;
+        Ok(Self(bits as i16))
+    }
+
+    /// Writes the printed text to the front of `out`, padded, and returns the number of bytes; `None` where `out` is
+    /// too short, which then stays as it was.
+    pub fn write_padded(self, out: &mut [u8], pad: &Pad) -> Option<usize>
+        requires { pad.now.fill < 128 }
+        ensures written { IfSome result (λ n. FillsFront (padded_text (f2dot14_text self) pad.now) n out.old out.new) }
+        ensures room { IsSome result ↔ (length (padded_text (f2dot14_text self) pad.now) ≤ length out.old) }
+        ensures cell { max 23 pad.now.width ≤ length out.old → IsSome result }
+        ensures untouched { IfNone result (out.new ≡ out.old) }
+    {
+        font_decimal::write_padded(self.shortest().as_str(), out, pad)
+    }
+
+    fn shortest(self) -> Shortest
+        ensures shortest { IsShortest (f2dot14_bits self) 14 (shown result) }
+        ensures text { shown result ≡ f2dot14_text self }
+    {
+        Shortest::new(i64::from(self.0), Self::FRACTION_BITS)
+    }
+}
+
+impl Add for F2Dot14 {
+    type Output = F2Dot14;
+
+    ghost add_gives = { λ x y sum. f2dot14_bits sum ≡ wrap 16 (f2dot14_bits x +ℤ f2dot14_bits y) };
+
+    fn add(self, other: F2Dot14) -> F2Dot14 {
+        self.wrapping_add(other)
+    }
+}
+
+impl AddAssign for F2Dot14 {
+    ghost add_assign_gives = { λ x y sum. f2dot14_bits sum ≡ wrap 16 (f2dot14_bits x +ℤ f2dot14_bits y) };
+
+    fn add_assign(&mut self, other: F2Dot14) {
+        *self = *self + other;
+    }
+}
+
+impl Sub for F2Dot14 {
+    type Output = F2Dot14;
+
+    ghost sub_gives = { λ x y rest. f2dot14_bits rest ≡ wrap 16 (f2dot14_bits x -ℤ f2dot14_bits y) };
+
+    fn sub(self, other: F2Dot14) -> F2Dot14 {
+        self.wrapping_sub(other)
+    }
+}
+
+impl SubAssign for F2Dot14 {
+    ghost sub_assign_gives = { λ x y rest. f2dot14_bits rest ≡ wrap 16 (f2dot14_bits x -ℤ f2dot14_bits y) };
+
+    fn sub_assign(&mut self, other: F2Dot14) {
+        *self = *self - other;
+    }
+}
+
+impl Neg for F2Dot14 {
+    type Output = F2Dot14;
+
+    ghost neg_gives = { λ x opposite. f2dot14_bits opposite ≡ wrap 16 (neg_ℤ (f2dot14_bits x)) };
+
+    fn neg(self) -> F2Dot14 {
+        Self(self.0.wrapping_neg())
+    }
+}
+
+impl fmt::Display for F2Dot14 {
+    ghost output = { λ x. Some (f2dot14_text x) };
+
+    fn fmt<W: fmt::Write>(&self, f: &mut fmt::Formatter<W>) -> fmt::Result {
+        fmt::Display::fmt(&self.shortest(), f)
+    }
+}
+
+impl fmt::Debug for F2Dot14 {
+    ghost debug_output = { λ x. Some (f2dot14_text x) };
+
+    fn fmt<W: fmt::Write>(&self, f: &mut fmt::Formatter<W>) -> fmt::Result {
+        fmt::Display::fmt(&self.shortest(), f)
+    }
+}
+
+impl FixedSize for F2Dot14 {
+    const RAW_BYTE_LEN: usize = 2;
+
+    ghost RAW_BYTE_LEN = { 2 };
+}
+
+impl Scalar for F2Dot14 {
+    type Raw = [u8; 2];
+
+    ghost is_scalar = { λ x. fits_bits 16 (f2dot14_bits x) };
+
+    ghost of_raw = { λ bytes. f2dot14_of (signed_numeral 2 bytes) };
+
+    ghost raw_of = { λ x. bytes_of 2 (f2dot14_bits x) };
+
+    ghost laws = { signed_newtype 2 (lit< tt) f2dot14_bits f2dot14_of (λ _. refl) (λ _. refl) };
+
+    fn from_raw(raw: [u8; 2]) -> F2Dot14 {
+        Self(i16::from_raw(raw))
+    }
+
+    fn to_raw(self) -> [u8; 2] {
+        self.0.to_raw()
+    }
+}
+
+impl IdentityEq for F2Dot14 {
+    ghost identity = { signed_identity f2dot14_bits f2dot14_of (λ _. refl) };
+}

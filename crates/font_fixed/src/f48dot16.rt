@@ -1,0 +1,274 @@
+//! The fixed-point number of 64 bits with 16 bits of fraction.
+#![tactic(auto, using(font_arithmetic::proofs::Width64::code_64))]
+
+ghost use Rattle.std.specs.Prelude.{◌≡◌, ◌^◌, ◌<◌, ◌≤◌, ◌↔◌, ℤ, pos, neg_ℤ, ◌+ℤ◌, ◌-ℤ◌, ◌*ℤ◌, Some, IsSome, IfSome, IfNone, IfOk, length, max, unsigned_abs, FitsSigned};
+ghost use Rattle.std.specs.Int.{w64};
+ghost use Rattle.std.specs.Result.{result_map_both};
+ghost use Rattle.font_base.specs.Wrap.{FitsBits, wrap};
+ghost use Rattle.font_base.specs.Bytes.{IsBytesOf};
+ghost use Rattle.font_decimal.specs.Grammar.{IsNoDecimal};
+ghost use Rattle.font_decimal.specs.Padding.{padded_text, FillsFront};
+ghost use Rattle.font_decimal.specs.Shortest.{IsShortest};
+ghost use Rattle.font_decimal.specs.Shown.{shown};
+ghost use Rattle.font_arithmetic.specs.Operations.{IsNarrowed, IsNearestWhole, IsFloor, IsFract, clamp, ReadsAs, IsTooFar, ReadingGives};
+ghost use Rattle.font_fixed.specs.declared.f48dot16.F48Dot16.{F48Dot16};
+ghost use Rattle.font_fixed.specs.F48Dot16.{f48dot16_bits, f48dot16_text};
+ghost use Rattle.font_fixed.specs.Fixed.{fixed_bits};
+
+use crate::fixed::Fixed;
+use font_base::Scalar;
+use font_decimal::{DecimalFault, Pad, Shortest, read_decimal};
+use std::fmt;
+use std::ops::{Add, AddAssign, Neg, Sub, SubAssign};
+
+/// A fixed-point number of 64 bits, the last 16 of which are its fraction: a sum of deltas.
+///
+/// Its bits are counted in steps of `1 / 65536`: `F48Dot16::from_bits(0x18000)` is 1.5. Sums that leave the range
+/// wrap.
+#[derive(Clone, Copy, PartialEq, Eq, PartialOrd, Ord, Hash, Default)]
+pub struct F48Dot16(i64);
+
+impl F48Dot16 {
+    /// The least value, -140737488355328.
+    pub const MIN: Self = Self(-0x8000_0000_0000_0000);
+
+    /// The greatest value, a step below 140737488355328.
+    pub const MAX: Self = Self(0x7FFF_FFFF_FFFF_FFFF);
+
+    /// One step, `1 / 65536`.
+    pub const EPSILON: Self = Self(1);
+
+    /// 0.
+    pub const ZERO: Self = Self(0);
+
+    /// 1.
+    pub const ONE: Self = Self(0x1_0000);
+
+    /// -1.
+    pub const NEG_ONE: Self = Self(-0x1_0000);
+
+    const FRACTION_BITS: u32 = 16;
+
+    /// The number with these bits.
+    pub fn from_bits(bits: i64) -> Self
+        ensures { f48dot16_bits result ≡ bits }
+    {
+        Self(bits)
+    }
+
+    /// The bits.
+    pub fn to_bits(self) -> i64
+        ensures { result ≡ f48dot16_bits self }
+    {
+        self.0
+    }
+
+    /// The nearest whole number, ties upwards. It wraps: `F48Dot16::MAX.round()` is `F48Dot16::MIN`.
+    pub fn round(self) -> Self
+        ensures { IsNearestWhole 64 16 (f48dot16_bits self) (f48dot16_bits result) }
+    {
+        self.wrapping_add(Self(0x8000)).floor()
+    }
+
+    /// The greatest whole number that is not above the number.
+    pub fn floor(self) -> Self
+        ensures { IsFloor 16 (f48dot16_bits self) (f48dot16_bits result) }
+    {
+        Self(self.0 - self.fract().0)
+    }
+
+    /// What the number has above its floor, from 0 to a step below 1.
+    pub fn fract(self) -> Self
+        ensures { IsFract 16 (f48dot16_bits self) (f48dot16_bits result) }
+    {
+        Self(self.0.rem_euclid(0x1_0000))
+    }
+
+    /// The number without its sign. It wraps: `F48Dot16::MIN.abs()` is `F48Dot16::MIN`.
+    pub fn abs(self) -> Self
+        ensures { f48dot16_bits result ≡ wrap 64 (pos (unsigned_abs (f48dot16_bits self))) }
+    {
+        Self(self.0.wrapping_abs())
+    }
+
+    /// The sum, wrapped.
+    pub fn wrapping_add(self, other: Self) -> Self
+        ensures { f48dot16_bits result ≡ wrap 64 (f48dot16_bits self +ℤ f48dot16_bits other) }
+    {
+        Self(self.0.wrapping_add(other.0))
+    }
+
+    /// The difference, wrapped.
+    pub fn wrapping_sub(self, other: Self) -> Self
+        ensures { f48dot16_bits result ≡ wrap 64 (f48dot16_bits self -ℤ f48dot16_bits other) }
+    {
+        Self(self.0.wrapping_sub(other.0))
+    }
+
+    /// The sum, or the nearest end of the range where it is out of it.
+    pub fn saturating_add(self, other: Self) -> Self
+        ensures { f48dot16_bits result ≡ clamp 64 (f48dot16_bits self +ℤ f48dot16_bits other) }
+    {
+        Self(self.0.saturating_add(other.0))
+    }
+
+    /// The difference, or the nearest end of the range where it is out of it.
+    pub fn saturating_sub(self, other: Self) -> Self
+        ensures { f48dot16_bits result ≡ clamp 64 (f48dot16_bits self -ℤ f48dot16_bits other) }
+    {
+        Self(self.0.saturating_sub(other.0))
+    }
+
+    /// The sum, or `None` where it is out of range.
+    pub fn checked_add(self, other: Self) -> Option<Self>
+        ensures variant { IsSome result ↔ FitsBits 64 (f48dot16_bits self +ℤ f48dot16_bits other) }
+        ensures value { IfSome result (λ sum. f48dot16_bits sum ≡ (f48dot16_bits self +ℤ f48dot16_bits other)) }
+    {
+        Some(Self(self.0.checked_add(other.0)?))
+    }
+
+    /// The eight bytes of the bits, highest first.
+    pub fn to_be_bytes(self) -> [u8; 8]
+        ensures { IsBytesOf 8 (f48dot16_bits self) result }
+    {
+        self.0.to_raw()
+    }
+
+    /// A whole number, wrapped.
+    pub fn from_i64(number: i64) -> Self
+        ensures { f48dot16_bits result ≡ wrap 64 (number *ℤ pos (2 ^ 16)) }
+    {
+        Self(number.wrapping_mul(0x1_0000))
+    }
+
+    /// A whole number, which always fits.
+    pub fn from_i32(number: i32) -> Self
+        ensures { f48dot16_bits result ≡ (number *ℤ pos (2 ^ 16)) }
+    {
+        Self(i64::from(number) * 0x1_0000)
+    }
+
+    /// The nearest whole number, ties upwards, wrapped to 48 bits.
+    pub fn to_i64(self) -> i64
+        ensures { IsNarrowed 48 (f48dot16_bits self) (2 ^ 16) result }
+    {
+        self.wrapping_add(Self(0x8000)).0 >> 16
+    }
+
+    /// The nearest whole number, ties upwards, wrapped to 32 bits.
+    pub fn to_i32(self) -> i32
+        ensures { IsNarrowed 32 (f48dot16_bits self) (2 ^ 16) result }
+    {
+        low_bits(self.to_i64())
+    }
+
+    /// The same number as a `Fixed`, its bits wrapped to 32.
+    pub fn to_fixed(self) -> Fixed
+        ensures { fixed_bits result ≡ wrap 32 (f48dot16_bits self) }
+    {
+        Fixed::from_bits(low_bits(self.0))
+    }
+
+    /// The number nearest to a decimal text, ties away from zero.
+    ///
+    /// A text outside the grammar is refused as `Syntax`, one whose nearest number is out of range as `OutOfRange`.
+    pub fn from_decimal(text: &str) -> Result<Self, DecimalFault>
+        ensures ok { (x : F48Dot16) → (result ≡ Ok x) ↔ ReadsAs 64 16 text.now (f48dot16_bits x) }
+        ensures reads { IfOk result (λ x. ReadsAs 64 16 text.now (f48dot16_bits x)) }
+        ensures gives { ReadingGives 64 16 text.now (result_map_both f48dot16_bits (λ fault. fault) result) }
+        ensures printed { (x : F48Dot16) → FitsSigned w64 (f48dot16_bits x) → text.now ≡ f48dot16_text x → result ≡ Ok x }
+        ensures out_of_range { (result ≡ Err DecimalFault.OutOfRange) ↔ IsTooFar 64 16 text.now }
+        ensures syntax { (result ≡ Err DecimalFault.Syntax) ↔ IsNoDecimal text.now }
+    {
+        let bits = read_decimal(text, Self::FRACTION_BITS, i64::MIN, i64::MAX)?;
+        Ok(Self(bits))
+    }
+
+    /// Writes the printed text to the front of `out`, padded, and returns the number of bytes; `None` where `out` is
+    /// too short, which then stays as it was.
+    pub fn write_padded(self, out: &mut [u8], pad: &Pad) -> Option<usize>
+        requires { pad.now.fill < 128 }
+        ensures written { IfSome result (λ n. FillsFront (padded_text (f48dot16_text self) pad.now) n out.old out.new) }
+        ensures room { IsSome result ↔ (length (padded_text (f48dot16_text self) pad.now) ≤ length out.old) }
+        ensures cell { max 23 pad.now.width ≤ length out.old → IsSome result }
+        ensures untouched { IfNone result (out.new ≡ out.old) }
+    {
+        font_decimal::write_padded(self.shortest().as_str(), out, pad)
+    }
+
+    fn shortest(self) -> Shortest
+        ensures shortest { IsShortest (f48dot16_bits self) 16 (shown result) }
+        ensures text { shown result ≡ f48dot16_text self }
+    {
+        Shortest::new(self.0, Self::FRACTION_BITS)
+    }
+}
+
+// The last 32 bits of a number, as a signed one.
+fn low_bits(n: i64) -> i32
+    ensures { result ≡ wrap 32 n }
+{
+    (n.rem_euclid(1 << 32) as u32).cast_signed()
+}
+
+impl Add for F48Dot16 {
+    type Output = F48Dot16;
+
+    ghost add_gives = { λ x y sum. f48dot16_bits sum ≡ wrap 64 (f48dot16_bits x +ℤ f48dot16_bits y) };
+
+    fn add(self, other: F48Dot16) -> F48Dot16 {
+        self.wrapping_add(other)
+    }
+}
+
+impl AddAssign for F48Dot16 {
+    ghost add_assign_gives = { λ x y sum. f48dot16_bits sum ≡ wrap 64 (f48dot16_bits x +ℤ f48dot16_bits y) };
+
+    fn add_assign(&mut self, other: F48Dot16) {
+        *self = *self + other;
+    }
+}
+
+impl Sub for F48Dot16 {
+    type Output = F48Dot16;
+
+    ghost sub_gives = { λ x y rest. f48dot16_bits rest ≡ wrap 64 (f48dot16_bits x -ℤ f48dot16_bits y) };
+
+    fn sub(self, other: F48Dot16) -> F48Dot16 {
+        self.wrapping_sub(other)
+    }
+}
+
+impl SubAssign for F48Dot16 {
+    ghost sub_assign_gives = { λ x y rest. f48dot16_bits rest ≡ wrap 64 (f48dot16_bits x -ℤ f48dot16_bits y) };
+
+    fn sub_assign(&mut self, other: F48Dot16) {
+        *self = *self - other;
+    }
+}
+
+impl Neg for F48Dot16 {
+    type Output = F48Dot16;
+
+    ghost neg_gives = { λ x opposite. f48dot16_bits opposite ≡ wrap 64 (neg_ℤ (f48dot16_bits x)) };
+
+    fn neg(self) -> F48Dot16 {
+        Self(self.0.wrapping_neg())
+    }
+}
+
+impl fmt::Display for F48Dot16 {
+    ghost output = { λ x. Some (f48dot16_text x) };
+
+    fn fmt<W: fmt::Write>(&self, f: &mut fmt::Formatter<W>) -> fmt::Result {
+        fmt::Display::fmt(&self.shortest(), f)
+    }
+}
+
+impl fmt::Debug for F48Dot16 {
+    ghost debug_output = { λ x. Some (f48dot16_text x) };
+
+    fn fmt<W: fmt::Write>(&self, f: &mut fmt::Formatter<W>) -> fmt::Result {
+        fmt::Display::fmt(&self.shortest(), f)
+    }
+}

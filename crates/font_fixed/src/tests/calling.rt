@@ -1,0 +1,66 @@
+//! Callers of numbers, with contracts of their own and no proof file.
+
+ghost use Rattle.std.specs.Prelude.{◌≡◌, ◌≤◌, ◌<◌, Ok, IfOk, length};
+ghost use Rattle.font_fixed.specs.Fixed.{fixed_bits, fixed_text};
+ghost use Rattle.font_decimal.specs.Padding.{padded_text, FillsFront};
+
+use crate::Fixed;
+use font_decimal::{Align, DecimalFault, Pad};
+use std::alloc::{AllocError, Global};
+use std::test::Fail;
+
+#[tactic(auto, using(crate::proofs::FixedCalls::fixed_calls))]
+fn unchanged(a: Fixed) -> Fixed
+    ensures { result ≡ a }
+{
+    a * Fixed::ONE * Fixed::ONE + a * Fixed::ZERO
+}
+
+#[tactic(auto, using(crate::proofs::FixedCalls::fixed_calls))]
+fn by_one(a: Fixed) -> Fixed
+    ensures { result ≡ a }
+{
+    a / Fixed::ONE
+}
+
+/// The number `t` of the way from `a` to `b`.
+#[tactic(auto, using(crate::proofs::FixedCalls::fixed_calls))]
+fn lerp(a: Fixed, b: Fixed, t: Fixed) -> Fixed
+    ensures { t ≡ Fixed.ZERO → result ≡ a }
+{
+    a + (b - a) * t
+}
+
+fn printed_and_read(alloc: Global, x: Fixed) -> Result<Result<Fixed, DecimalFault>, AllocError>
+    ensures { IfOk result (λ read. read ≡ Ok x) }
+{
+    let text = format!(in alloc; "{x}")?;
+    Ok(Fixed::from_decimal(text.as_str()))
+}
+
+/// A cell of a table, padded to `width`.
+fn cell(x: Fixed, width: usize) -> [u8; 24]
+    requires { width ≤ 24 }
+{
+    let mut out = [b' '; 24];
+    let pad = Pad {
+        width,
+        fill: b' ',
+        align: Align::Right,
+        plus: false,
+        zeros: false,
+    };
+    let _written = x.write_padded(&mut out, &pad).unwrap();
+    out
+}
+
+#[test]
+fn callers(rt: HostRuntime) -> Result<(), Fail> {
+    let (half, two) = (Fixed::from_bits(0x8000), Fixed::from_i32(2));
+    assert!(rt; unchanged(half) == half);
+    assert!(rt; by_one(half) == half);
+    assert!(rt; lerp(half, two, half) == Fixed::from_bits(0x1_4000));
+    assert!(rt; printed_and_read(rt.alloc(), half)? == Ok(half));
+    assert!(rt; &cell(half, 6)[..8] == b"   0.5  ".as_slice());
+    Ok(())
+}

@@ -1,0 +1,267 @@
+//! The fixed-point number of 16 bits with 10 bits of fraction.
+#![tactic(auto, using(font_arithmetic::proofs::Width16::code_16))]
+
+ghost use Rattle.std.specs.Prelude.{◌≡◌, ◌^◌, ◌<◌, ◌≤◌, ◌↔◌, ℤ, pos, neg_ℤ, ◌+ℤ◌, ◌-ℤ◌, Some, IsSome, IfSome, IfNone, IfOk, refl, length, max, unsigned_abs, FitsSigned};
+ghost use Rattle.std.proofs.Common.{lit<};
+ghost use Rattle.std.specs.Int.{w16};
+ghost use Rattle.std.specs.Result.{result_map_both};
+ghost use Rattle.font_base.specs.Wrap.{FitsBits, fits_bits, wrap};
+ghost use Rattle.font_base.specs.Bytes.{IsBytesOf, bytes_of, signed_numeral};
+ghost use Rattle.font_base.specs.Scalar.Laws.{signed_newtype, signed_identity};
+ghost use Rattle.font_decimal.specs.Grammar.{IsNoDecimal};
+ghost use Rattle.font_decimal.specs.Padding.{padded_text, FillsFront};
+ghost use Rattle.font_decimal.specs.Shortest.{IsShortest};
+ghost use Rattle.font_decimal.specs.Shown.{shown};
+ghost use Rattle.font_arithmetic.specs.Operations.{IsNearestWhole, IsFloor, IsFract, clamp, ReadsAs, IsTooFar, ReadingGives};
+ghost use Rattle.font_fixed2.specs.declared.f6dot10.F6Dot10.{F6Dot10};
+ghost use Rattle.font_fixed2.specs.F6Dot10.{f6dot10_bits, f6dot10_of, f6dot10_text};
+
+use font_base::{FixedSize, IdentityEq, Scalar};
+use font_decimal::{DecimalFault, Pad, Shortest, read_decimal};
+use std::fmt;
+use std::ops::{Add, AddAssign, Neg, Sub, SubAssign};
+
+/// A fixed-point number of 16 bits, the last 10 of which are its fraction.
+///
+/// Its bits are counted in steps of `1 / 1024`: `F6Dot10::from_bits(0x600)` is 1.5. Sums that leave the range
+/// wrap.
+#[derive(Clone, Copy, PartialEq, Eq, PartialOrd, Ord, Hash, Default)]
+pub struct F6Dot10(i16);
+
+impl F6Dot10 {
+    /// The least value, -32.
+    pub const MIN: Self = Self(-0x8000);
+
+    /// The greatest value, a step below 32.
+    pub const MAX: Self = Self(0x7FFF);
+
+    /// One step, `1 / 1024`.
+    pub const EPSILON: Self = Self(1);
+
+    /// 0.
+    pub const ZERO: Self = Self(0);
+
+    /// 1.
+    pub const ONE: Self = Self(0x400);
+
+    /// -1.
+    pub const NEG_ONE: Self = Self(-0x400);
+
+    const FRACTION_BITS: u32 = 10;
+
+    /// The number with these bits.
+    pub fn from_bits(bits: i16) -> Self
+        ensures { f6dot10_bits result ≡ bits }
+    {
+        Self(bits)
+    }
+
+    /// The bits.
+    pub fn to_bits(self) -> i16
+        ensures { result ≡ f6dot10_bits self }
+    {
+        self.0
+    }
+
+    /// The nearest whole number, ties upwards. It wraps: `F6Dot10::MAX.round()` is `F6Dot10::MIN`.
+    pub fn round(self) -> Self
+        ensures { IsNearestWhole 16 10 (f6dot10_bits self) (f6dot10_bits result) }
+    {
+        self.wrapping_add(Self(0x200)).floor()
+    }
+
+    /// The greatest whole number that is not above the number.
+    pub fn floor(self) -> Self
+        ensures { IsFloor 10 (f6dot10_bits self) (f6dot10_bits result) }
+    {
+        Self(self.0 - self.fract().0)
+    }
+
+    /// What the number has above its floor, from 0 to a step below 1.
+    pub fn fract(self) -> Self
+        ensures { IsFract 10 (f6dot10_bits self) (f6dot10_bits result) }
+    {
+        Self(self.0.rem_euclid(0x400))
+    }
+
+    /// The number without its sign. It wraps: `F6Dot10::MIN.abs()` is `F6Dot10::MIN`.
+    pub fn abs(self) -> Self
+        ensures { f6dot10_bits result ≡ wrap 16 (pos (unsigned_abs (f6dot10_bits self))) }
+    {
+        Self(self.0.wrapping_abs())
+    }
+
+    /// The sum, wrapped.
+    pub fn wrapping_add(self, other: Self) -> Self
+        ensures { f6dot10_bits result ≡ wrap 16 (f6dot10_bits self +ℤ f6dot10_bits other) }
+    {
+        Self(self.0.wrapping_add(other.0))
+    }
+
+    /// The difference, wrapped.
+    pub fn wrapping_sub(self, other: Self) -> Self
+        ensures { f6dot10_bits result ≡ wrap 16 (f6dot10_bits self -ℤ f6dot10_bits other) }
+    {
+        Self(self.0.wrapping_sub(other.0))
+    }
+
+    /// The sum, or the nearest end of the range where it is out of it.
+    pub fn saturating_add(self, other: Self) -> Self
+        ensures { f6dot10_bits result ≡ clamp 16 (f6dot10_bits self +ℤ f6dot10_bits other) }
+    {
+        Self(self.0.saturating_add(other.0))
+    }
+
+    /// The difference, or the nearest end of the range where it is out of it.
+    pub fn saturating_sub(self, other: Self) -> Self
+        ensures { f6dot10_bits result ≡ clamp 16 (f6dot10_bits self -ℤ f6dot10_bits other) }
+    {
+        Self(self.0.saturating_sub(other.0))
+    }
+
+    /// The sum, or `None` where it is out of range.
+    pub fn checked_add(self, other: Self) -> Option<Self>
+        ensures variant { IsSome result ↔ FitsBits 16 (f6dot10_bits self +ℤ f6dot10_bits other) }
+        ensures value { IfSome result (λ sum. f6dot10_bits sum ≡ (f6dot10_bits self +ℤ f6dot10_bits other)) }
+    {
+        Some(Self(self.0.checked_add(other.0)?))
+    }
+
+    /// The two bytes of the bits, highest first.
+    pub fn to_be_bytes(self) -> [u8; 2]
+        ensures { IsBytesOf 2 (f6dot10_bits self) result }
+    {
+        self.to_raw()
+    }
+
+    /// The number nearest to a decimal text, ties away from zero.
+    ///
+    /// A text outside the grammar is refused as `Syntax`, one whose nearest number is out of range as `OutOfRange`.
+    pub fn from_decimal(text: &str) -> Result<Self, DecimalFault>
+        ensures ok { (x : F6Dot10) → (result ≡ Ok x) ↔ ReadsAs 16 10 text.now (f6dot10_bits x) }
+        ensures reads { IfOk result (λ x. ReadsAs 16 10 text.now (f6dot10_bits x)) }
+        ensures gives { ReadingGives 16 10 text.now (result_map_both f6dot10_bits (λ fault. fault) result) }
+        ensures printed { (x : F6Dot10) → FitsSigned w16 (f6dot10_bits x) → text.now ≡ f6dot10_text x → result ≡ Ok x }
+        ensures out_of_range { (result ≡ Err DecimalFault.OutOfRange) ↔ IsTooFar 16 10 text.now }
+        ensures syntax { (result ≡ Err DecimalFault.Syntax) ↔ IsNoDecimal text.now }
+    {
+        let bits = read_decimal(
+            text,
+            Self::FRACTION_BITS,
+            i64::from(i16::MIN),
+            i64::from(i16::MAX),
+        )?;
+        Ok(Self(bits as i16))
+    }
+
+    /// Writes the printed text to the front of `out`, padded, and returns the number of bytes; `None` where `out` is
+    /// too short, which then stays as it was.
+    pub fn write_padded(self, out: &mut [u8], pad: &Pad) -> Option<usize>
+        requires { pad.now.fill < 128 }
+        ensures written { IfSome result (λ n. FillsFront (padded_text (f6dot10_text self) pad.now) n out.old out.new) }
+        ensures room { IsSome result ↔ (length (padded_text (f6dot10_text self) pad.now) ≤ length out.old) }
+        ensures cell { max 23 pad.now.width ≤ length out.old → IsSome result }
+        ensures untouched { IfNone result (out.new ≡ out.old) }
+    {
+        font_decimal::write_padded(self.shortest().as_str(), out, pad)
+    }
+
+    fn shortest(self) -> Shortest
+        ensures shortest { IsShortest (f6dot10_bits self) 10 (shown result) }
+        ensures text { shown result ≡ f6dot10_text self }
+    {
+        Shortest::new(i64::from(self.0), Self::FRACTION_BITS)
+    }
+}
+
+impl Add for F6Dot10 {
+    type Output = F6Dot10;
+
+    ghost add_gives = { λ x y sum. f6dot10_bits sum ≡ wrap 16 (f6dot10_bits x +ℤ f6dot10_bits y) };
+
+    fn add(self, other: F6Dot10) -> F6Dot10 {
+        self.wrapping_add(other)
+    }
+}
+
+impl AddAssign for F6Dot10 {
+    ghost add_assign_gives = { λ x y sum. f6dot10_bits sum ≡ wrap 16 (f6dot10_bits x +ℤ f6dot10_bits y) };
+
+    fn add_assign(&mut self, other: F6Dot10) {
+        *self = *self + other;
+    }
+}
+
+impl Sub for F6Dot10 {
+    type Output = F6Dot10;
+
+    ghost sub_gives = { λ x y rest. f6dot10_bits rest ≡ wrap 16 (f6dot10_bits x -ℤ f6dot10_bits y) };
+
+    fn sub(self, other: F6Dot10) -> F6Dot10 {
+        self.wrapping_sub(other)
+    }
+}
+
+impl SubAssign for F6Dot10 {
+    ghost sub_assign_gives = { λ x y rest. f6dot10_bits rest ≡ wrap 16 (f6dot10_bits x -ℤ f6dot10_bits y) };
+
+    fn sub_assign(&mut self, other: F6Dot10) {
+        *self = *self - other;
+    }
+}
+
+impl Neg for F6Dot10 {
+    type Output = F6Dot10;
+
+    ghost neg_gives = { λ x opposite. f6dot10_bits opposite ≡ wrap 16 (neg_ℤ (f6dot10_bits x)) };
+
+    fn neg(self) -> F6Dot10 {
+        Self(self.0.wrapping_neg())
+    }
+}
+
+impl fmt::Display for F6Dot10 {
+    ghost output = { λ x. Some (f6dot10_text x) };
+
+    fn fmt<W: fmt::Write>(&self, f: &mut fmt::Formatter<W>) -> fmt::Result {
+        fmt::Display::fmt(&self.shortest(), f)
+    }
+}
+
+impl fmt::Debug for F6Dot10 {
+    ghost debug_output = { λ x. Some (f6dot10_text x) };
+
+    fn fmt<W: fmt::Write>(&self, f: &mut fmt::Formatter<W>) -> fmt::Result {
+        fmt::Display::fmt(&self.shortest(), f)
+    }
+}
+
+impl FixedSize for F6Dot10 {
+    const RAW_BYTE_LEN: usize = 2;
+
+    ghost RAW_BYTE_LEN = { 2 };
+}
+
+impl Scalar for F6Dot10 {
+    type Raw = [u8; 2];
+
+    ghost is_scalar = { λ x. fits_bits 16 (f6dot10_bits x) };
+
+    ghost of_raw = { λ bytes. f6dot10_of (signed_numeral 2 bytes) };
+
+    ghost raw_of = { λ x. bytes_of 2 (f6dot10_bits x) };
+
+    ghost laws = { signed_newtype 2 (lit< tt) f6dot10_bits f6dot10_of (λ _. refl) (λ _. refl) };
+
+    fn from_raw(raw: [u8; 2]) -> F6Dot10 {
+        Self(i16::from_raw(raw))
+    }
+
+    fn to_raw(self) -> [u8; 2] {
+        self.0.to_raw()
+    }
+}
+
+impl IdentityEq for F6Dot10 {
+    ghost identity = { signed_identity f6dot10_bits f6dot10_of (λ _. refl) };
+}

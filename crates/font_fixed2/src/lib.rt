@@ -1,0 +1,16 @@
+//! The fixed-point numbers 4.12 and 6.10.
+//!
+//! ```text
+//! F4Dot12::from_decimal("7.9998")       // Ok(F4Dot12::MAX)
+//! F6Dot10::MIN.to_be_bytes()            // [0x80, 0x00]
+//! ```
+#![tactic(auto)]
+
+mod f4dot12;
+mod f6dot10;
+
+pub use f4dot12::F4Dot12;
+pub use f6dot10::F6Dot10;
+
+#[cfg(test)]
+mod tests;

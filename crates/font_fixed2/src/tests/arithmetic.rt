@@ -1,0 +1,98 @@
+//! Sums, roundings and bytes.
+
+use crate::{F4Dot12, F6Dot10};
+use font_base::{BigEndian, Scalar};
+
+#[test]
+fn constants(rt: HostRuntime) {
+    for (number, bits) in [
+        (F4Dot12::MIN, -32768),
+        (F4Dot12::MAX, 32767),
+        (F4Dot12::EPSILON, 1),
+        (F4Dot12::default(), 0),
+        (F4Dot12::ONE, 4096),
+        (F4Dot12::NEG_ONE, -4096),
+    ] {
+        assert_eq!(rt; number.to_bits(), bits);
+    }
+    for (number, bits) in [
+        (F6Dot10::MIN, -32768),
+        (F6Dot10::MAX, 32767),
+        (F6Dot10::EPSILON, 1),
+        (F6Dot10::default(), 0),
+        (F6Dot10::ONE, 1024),
+        (F6Dot10::NEG_ONE, -1024),
+    ] {
+        assert_eq!(rt; number.to_bits(), bits);
+    }
+}
+
+#[test]
+fn roundings(rt: HostRuntime) {
+    for (bits, rounded, floor, fract) in [
+        (0x1800, 0x2000, 0x1000, 0x800),
+        (-0x1800, -0x1000, -0x2000, 0x800),
+        (0x7FFF, -0x8000, 0x7000, 0xFFF),
+    ] {
+        let number = F4Dot12::from_bits(bits);
+        assert_eq!(rt; number.round().to_bits(), rounded);
+        assert_eq!(rt; number.floor().to_bits(), floor);
+        assert_eq!(rt; number.fract().to_bits(), fract);
+    }
+    for (bits, rounded, floor, fract) in [
+        (0x600, 0x800, 0x400, 0x200),
+        (-0x600, -0x400, -0x800, 0x200),
+        (0x7FFF, -0x8000, 0x7C00, 0x3FF),
+    ] {
+        let number = F6Dot10::from_bits(bits);
+        assert_eq!(rt; number.round().to_bits(), rounded);
+        assert_eq!(rt; number.floor().to_bits(), floor);
+        assert_eq!(rt; number.fract().to_bits(), fract);
+    }
+}
+
+#[test]
+fn sums_of_4_12(rt: HostRuntime) {
+    let (max, step) = (F4Dot12::MAX, F4Dot12::EPSILON);
+    assert!(rt; max.wrapping_add(step) == F4Dot12::MIN);
+    assert!(rt; max.saturating_add(step) == max);
+    assert!(rt; max.checked_add(step).is_none());
+    assert!(rt; F4Dot12::ONE.checked_add(F4Dot12::NEG_ONE) == Some(F4Dot12::ZERO));
+    assert!(rt; F4Dot12::MIN.wrapping_sub(step) == max);
+    assert!(rt; F4Dot12::MIN.saturating_sub(step) == F4Dot12::MIN);
+}
+
+#[test]
+fn sums_of_6_10(rt: HostRuntime) {
+    let (max, step) = (F6Dot10::MAX, F6Dot10::EPSILON);
+    assert!(rt; max.wrapping_add(step) == F6Dot10::MIN);
+    assert!(rt; max.saturating_add(step) == max);
+    assert!(rt; max.checked_add(step).is_none());
+    assert!(rt; F6Dot10::ONE.checked_add(F6Dot10::NEG_ONE) == Some(F6Dot10::ZERO));
+    assert!(rt; F6Dot10::MIN.wrapping_sub(step) == max);
+    assert!(rt; F6Dot10::MIN.saturating_sub(step) == F6Dot10::MIN);
+}
+
+#[test]
+fn operators(rt: HostRuntime) {
+    let mut number = F4Dot12::ONE;
+    number += F4Dot12::ONE;
+    number -= F4Dot12::from_bits(0x800);
+    assert_eq!(rt; (-number).abs().to_bits(), 0x1800);
+    assert!(rt; -F4Dot12::MIN == F4Dot12::MIN.abs());
+    let mut other = F6Dot10::ONE;
+    other += F6Dot10::ONE;
+    other -= F6Dot10::from_bits(0x200);
+    assert_eq!(rt; (-other).abs().to_bits(), 0x600);
+    assert!(rt; -F6Dot10::MIN == F6Dot10::MIN.abs());
+}
+
+#[test]
+fn bytes(rt: HostRuntime) {
+    assert!(rt; F4Dot12::from_bits(-2).to_be_bytes() == [0xFF, 0xFE]);
+    assert!(rt; F4Dot12::read(&[0x10, 0x00]) == Some(F4Dot12::ONE));
+    assert!(rt; F6Dot10::from_bits(-2).to_be_bytes() == [0xFF, 0xFE]);
+    assert!(rt; F6Dot10::read(&[0x04, 0x00]) == Some(F6Dot10::ONE));
+    assert!(rt; BigEndian::from(F6Dot10::NEG_ONE) < BigEndian::from(F6Dot10::ZERO));
+    assert!(rt; BigEndian::from(F4Dot12::NEG_ONE) < BigEndian::from(F4Dot12::ZERO));
+}

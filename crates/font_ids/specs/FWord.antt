@@ -1,0 +1,18 @@
+-- Quantities in font design units.
+use Rattle.std.specs.Prelude.{ℕ, ℤ}
+use Rattle.font_ids.specs.declared.fword.FWord.{FWord}
+use Rattle.font_ids.specs.declared.fword.UfWord.{UfWord}
+
+-- the number that an `FWord` is (OpenType, data types: FWORD, "int16 that describes a quantity in font design units"), and the `FWord` of a number
+abbrev pub fword_number : FWord → ℤ
+fword_number word = word.0
+
+abbrev pub fword_of : ℤ → FWord
+fword_of number = record { 0 = number }
+
+-- the same of a `UfWord` (OpenType, data types: UFWORD, "uint16 that describes a quantity in font design units")
+abbrev pub ufword_number : UfWord → ℕ
+ufword_number word = word.0
+
+abbrev pub ufword_of : ℕ → UfWord
+ufword_of number = record { 0 = number }

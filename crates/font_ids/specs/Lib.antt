@@ -1,0 +1,10 @@
+pub mod FWord
+pub mod GlyphId
+pub mod NameId
+pub mod Newtype
+pub mod Offset
+pub use Rattle.font_base.specs.Bytes
+pub use Rattle.font_fixed.specs.Fixed
+pub use Rattle.font_tags.specs.LongDateTime
+pub use Rattle.font_tags.specs.Tag
+pub use Rattle.font_tags.specs.Version

@@ -1,0 +1,190 @@
+//! Quantities in font design units, of 16 bits.
+
+ghost use Rattle.std.specs.Prelude.{◌≡◌, ◌^◌, ◌*ℤ◌, pos, nat_lt, Some, refl};
+ghost use Rattle.std.proofs.Common.{lit<};
+ghost use Rattle.std.specs.Fmt.{decimal, signed_decimal};
+ghost use Rattle.font_base.specs.Wrap.{fits_bits, wrap};
+ghost use Rattle.font_base.specs.Bytes.{IsBytesOf, bytes_of, numeral, signed_numeral};
+ghost use Rattle.font_base.specs.Scalar.Laws.{unsigned_newtype, unsigned_identity, signed_newtype, signed_identity};
+ghost use Rattle.font_fixed.specs.Fixed.{fixed_bits};
+ghost use Rattle.font_ids.specs.FWord.{fword_number, fword_of, ufword_number, ufword_of};
+
+use font_base::{FixedSize, IdentityEq, Scalar};
+use font_fixed::Fixed;
+use std::fmt;
+
+/// A signed quantity in font design units.
+#[derive(Clone, Copy, Debug, Default, PartialEq, Eq, PartialOrd, Ord, Hash)]
+pub struct FWord(i16);
+
+impl FWord {
+    /// The quantity of a number.
+    pub fn new(raw: i16) -> Self
+        ensures { fword_number result ≡ raw }
+    {
+        Self(raw)
+    }
+
+    /// The number.
+    pub fn to_i16(self) -> i16
+        ensures { result ≡ fword_number self }
+    {
+        self.0
+    }
+
+    /// The number as a 16.16 number.
+    pub fn to_fixed(self) -> Fixed
+        ensures { fixed_bits result ≡ wrap 32 (fword_number self *ℤ pos (2 ^ 16)) }
+    {
+        Fixed::from_i32(i32::from(self.0))
+    }
+
+    /// The two bytes in two's complement, highest first.
+    pub fn to_be_bytes(self) -> [u8; 2]
+        ensures { IsBytesOf 2 (fword_number self) result }
+    {
+        self.to_raw()
+    }
+}
+
+impl fmt::Display for FWord {
+    ghost output = { λ word. Some (signed_decimal (fword_number word)) };
+
+    fn fmt<W: fmt::Write>(&self, f: &mut fmt::Formatter<W>) -> fmt::Result {
+        fmt::Display::fmt(&self.0, f)
+    }
+}
+
+impl From<i16> for FWord {
+    ghost from_gives = { λ number word. fword_number word ≡ number };
+
+    fn from(number: i16) -> FWord {
+        FWord(number)
+    }
+}
+
+impl From<FWord> for i16 {
+    ghost from_gives = { λ word number. number ≡ fword_number word };
+
+    fn from(word: FWord) -> i16 {
+        word.0
+    }
+}
+
+impl FixedSize for FWord {
+    const RAW_BYTE_LEN: usize = 2;
+
+    ghost RAW_BYTE_LEN = { 2 };
+}
+
+impl Scalar for FWord {
+    type Raw = [u8; 2];
+
+    ghost is_scalar = { λ word. fits_bits 16 (fword_number word) };
+
+    ghost of_raw = { λ raw. fword_of (signed_numeral 2 raw) };
+
+    ghost raw_of = { λ word. bytes_of 2 (fword_number word) };
+
+    ghost laws = { signed_newtype 2 (lit< tt) fword_number fword_of (λ _. refl) (λ _. refl) };
+
+    fn from_raw(raw: [u8; 2]) -> FWord {
+        FWord(i16::from_raw(raw))
+    }
+
+    fn to_raw(self) -> [u8; 2] {
+        self.0.to_raw()
+    }
+}
+
+impl IdentityEq for FWord {
+    ghost identity = { signed_identity fword_number fword_of (λ _. refl) };
+}
+
+/// An unsigned quantity in font design units.
+#[derive(Clone, Copy, Debug, Default, PartialEq, Eq, PartialOrd, Ord, Hash)]
+pub struct UfWord(u16);
+
+impl UfWord {
+    /// The quantity of a number.
+    pub fn new(raw: u16) -> Self
+        ensures { ufword_number result ≡ raw }
+    {
+        Self(raw)
+    }
+
+    /// The number.
+    pub fn to_u16(self) -> u16
+        ensures { result ≡ ufword_number self }
+    {
+        self.0
+    }
+
+    /// The number as a 16.16 number. It wraps: from 32768 on the answer is negative.
+    pub fn to_fixed(self) -> Fixed
+        ensures { fixed_bits result ≡ wrap 32 (pos (ufword_number self) *ℤ pos (2 ^ 16)) }
+    {
+        Fixed::from_i32(i32::from(self.0))
+    }
+
+    /// The two bytes, highest first.
+    pub fn to_be_bytes(self) -> [u8; 2]
+        ensures { IsBytesOf 2 (pos (ufword_number self)) result }
+    {
+        self.to_raw()
+    }
+}
+
+impl fmt::Display for UfWord {
+    ghost output = { λ word. Some (decimal (ufword_number word)) };
+
+    fn fmt<W: fmt::Write>(&self, f: &mut fmt::Formatter<W>) -> fmt::Result {
+        fmt::Display::fmt(&self.0, f)
+    }
+}
+
+impl From<u16> for UfWord {
+    ghost from_gives = { λ number word. ufword_number word ≡ number };
+
+    fn from(number: u16) -> UfWord {
+        UfWord(number)
+    }
+}
+
+impl From<UfWord> for u16 {
+    ghost from_gives = { λ word number. number ≡ ufword_number word };
+
+    fn from(word: UfWord) -> u16 {
+        word.0
+    }
+}
+
+impl FixedSize for UfWord {
+    const RAW_BYTE_LEN: usize = 2;
+
+    ghost RAW_BYTE_LEN = { 2 };
+}
+
+impl Scalar for UfWord {
+    type Raw = [u8; 2];
+
+    ghost is_scalar = { λ word. nat_lt (ufword_number word) (2 ^ 16) };
+
+    ghost of_raw = { λ raw. ufword_of (numeral raw) };
+
+    ghost raw_of = { λ word. bytes_of 2 (pos (ufword_number word)) };
+
+    ghost laws = { unsigned_newtype 2 ufword_number ufword_of (λ _. refl) (λ _. refl) };
+
+    fn from_raw(raw: [u8; 2]) -> UfWord {
+        UfWord(u16::from_raw(raw))
+    }
+
+    fn to_raw(self) -> [u8; 2] {
+        self.0.to_raw()
+    }
+}
+
+impl IdentityEq for UfWord {
+    ghost identity = { unsigned_identity ufword_number ufword_of (λ _. refl) };
+}

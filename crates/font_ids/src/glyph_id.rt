@@ -1,0 +1,356 @@
+//! Glyph identifiers, as types of their own.
+
+ghost use Rattle.std.specs.Prelude.{◌≡◌, ◌<◌, ◌≤◌, ◌^◌, ◌↔◌, pos, min, nat_lt, true, Some, IsTrue, IsSome, IfSome, MatchResult, refl};
+ghost use Rattle.std.specs.Ordering.{nat_cmp};
+ghost use Rattle.font_base.specs.Uint24.{UINT24_MAX, uint24_of_bytes, bytes_of_uint24};
+ghost use Rattle.font_base.specs.Uint24.Laws.{uint24_laws, uint24_identity};
+ghost use Rattle.font_base.specs.Bytes.{IsBytesOf, bytes_of, numeral};
+ghost use Rattle.font_base.specs.Scalar.Laws.{unsigned_newtype, unsigned_identity};
+ghost use Rattle.font_ids.specs.Newtype.{newtype_laws, newtype_identity};
+ghost use Rattle.font_ids.specs.GlyphId.{glyph16_number, glyph16_of, glyph24_number, glyph24_of, glyph_number, refused_number, glyph_text};
+
+use font_base::{FixedSize, IdentityEq, Scalar, Uint24};
+use std::cmp::Ordering;
+use std::fmt;
+use thiserror::Error;
+
+/// A glyph identifier of 16 bits.
+#[derive(Clone, Copy, Debug, Default, PartialEq, Eq, PartialOrd, Ord, Hash)]
+pub struct GlyphId16(u16);
+
+impl GlyphId16 {
+    /// The glyph that stands for an unknown one, 0.
+    pub const NOTDEF: Self = Self(0);
+
+    /// The id of a number.
+    pub fn new(raw: u16) -> Self
+        ensures { glyph16_number result ≡ raw }
+    {
+        Self(raw)
+    }
+
+    /// The number.
+    pub fn to_u16(self) -> u16
+        ensures { result ≡ glyph16_number self }
+    {
+        self.0
+    }
+
+    /// The number.
+    pub fn to_u32(self) -> u32
+        ensures { result ≡ glyph16_number self }
+    {
+        u32::from(self.0)
+    }
+
+    /// The two bytes of the number, highest first.
+    pub fn to_be_bytes(self) -> [u8; 2]
+        ensures { IsBytesOf 2 (pos (glyph16_number self)) result }
+    {
+        self.to_raw()
+    }
+
+    /// Whether both are the id of one glyph.
+    pub fn eq_gid(&self, other: &GlyphId) -> bool
+        ensures { IsTrue result ↔ (glyph16_number self.now ≡ glyph_number other.now) }
+    {
+        self.to_u32() == other.to_u32()
+    }
+
+    /// The order of the two numbers.
+    pub fn cmp_gid(&self, other: &GlyphId) -> Ordering
+        ensures { result ≡ nat_cmp (glyph16_number self.now) (glyph_number other.now) }
+    {
+        self.to_u32().cmp(&other.to_u32())
+    }
+}
+
+impl fmt::Display for GlyphId16 {
+    ghost output = { λ id. Some (glyph_text (glyph16_number id)) };
+
+    fn fmt<W: fmt::Write>(&self, f: &mut fmt::Formatter<W>) -> fmt::Result {
+        write!(f, "GID_{}", self.0)
+    }
+}
+
+impl From<u16> for GlyphId16 {
+    ghost from_gives = { λ number id. glyph16_number id ≡ number };
+
+    fn from(number: u16) -> GlyphId16 {
+        GlyphId16(number)
+    }
+}
+
+impl From<GlyphId16> for u32 {
+    ghost from_gives = { λ id number. number ≡ glyph16_number id };
+
+    fn from(id: GlyphId16) -> u32 {
+        id.to_u32()
+    }
+}
+
+impl From<GlyphId16> for usize {
+    ghost from_gives = { λ id number. number ≡ glyph16_number id };
+
+    fn from(id: GlyphId16) -> usize {
+        usize::from(id.0)
+    }
+}
+
+impl TryFrom<GlyphId> for GlyphId16 {
+    type Error = TryFromGlyphIdError;
+
+    ghost try_from_gives = { λ id result. MatchResult result
+        (λ narrow. glyph16_number narrow ≡ glyph_number id)
+        (λ error. (2 ^ 16 ≤ glyph_number id) × (refused_number error ≡ glyph_number id)) };
+
+    fn try_from(id: GlyphId) -> Result<GlyphId16, TryFromGlyphIdError> {
+        match u16::try_from(id.0) {
+            Ok(number) => Ok(GlyphId16(number)),
+            Err(_) => Err(TryFromGlyphIdError(id.0)),
+        }
+    }
+}
+
+impl FixedSize for GlyphId16 {
+    const RAW_BYTE_LEN: usize = 2;
+
+    ghost RAW_BYTE_LEN = { 2 };
+}
+
+impl Scalar for GlyphId16 {
+    type Raw = [u8; 2];
+
+    ghost is_scalar = { λ id. nat_lt (glyph16_number id) (2 ^ 16) };
+
+    ghost of_raw = { λ raw. glyph16_of (numeral raw) };
+
+    ghost raw_of = { λ id. bytes_of 2 (pos (glyph16_number id)) };
+
+    ghost laws = { unsigned_newtype 2 glyph16_number glyph16_of (λ _. refl) (λ _. refl) };
+
+    fn from_raw(raw: [u8; 2]) -> GlyphId16 {
+        GlyphId16(u16::from_raw(raw))
+    }
+
+    fn to_raw(self) -> [u8; 2] {
+        self.0.to_raw()
+    }
+}
+
+impl IdentityEq for GlyphId16 {
+    ghost identity = { unsigned_identity glyph16_number glyph16_of (λ _. refl) };
+}
+
+/// A glyph identifier of 24 bits.
+#[derive(Clone, Copy, Debug, Default, PartialEq, Eq, PartialOrd, Ord, Hash)]
+pub struct GlyphId24(Uint24);
+
+impl GlyphId24 {
+    /// The glyph that stands for an unknown one, 0.
+    pub const NOTDEF: Self = Self(Uint24::MIN);
+
+    /// The id of a number, or the greatest id where the number is above it.
+    pub fn new(raw: u32) -> Self
+        ensures { glyph24_number result ≡ min raw UINT24_MAX }
+    {
+        Self(Uint24::new(raw))
+    }
+
+    /// The id of a number, or `None` where it is above 16777215.
+    pub fn checked_new(raw: u32) -> Option<Self>
+        ensures variant { IsSome result ↔ (raw ≤ UINT24_MAX) }
+        ensures value { IfSome result (λ id. glyph24_number id ≡ raw) }
+    {
+        Some(Self(Uint24::checked_new(raw)?))
+    }
+
+    /// The number.
+    pub fn to_u32(self) -> u32
+        ensures { result ≡ glyph24_number self }
+    {
+        self.0.to_u32()
+    }
+
+    /// The three bytes of the number, highest first.
+    pub fn to_be_bytes(self) -> [u8; 3]
+        ensures { IsBytesOf 3 (pos (glyph24_number self)) result }
+    {
+        self.0.to_be_bytes()
+    }
+
+    /// The id of three bytes, highest first.
+    pub fn from_be_bytes(bytes: [u8; 3]) -> Self
+        ensures { IsBytesOf 3 (pos (glyph24_number result)) bytes }
+    {
+        Self(Uint24::from_be_bytes(bytes))
+    }
+}
+
+impl fmt::Display for GlyphId24 {
+    ghost output = { λ id. Some (glyph_text (glyph24_number id)) };
+
+    fn fmt<W: fmt::Write>(&self, f: &mut fmt::Formatter<W>) -> fmt::Result {
+        write!(f, "GID_{}", self.to_u32())
+    }
+}
+
+impl From<GlyphId24> for u32 {
+    ghost from_gives = { λ id number. number ≡ glyph24_number id };
+
+    fn from(id: GlyphId24) -> u32 {
+        id.to_u32()
+    }
+}
+
+impl From<GlyphId24> for usize {
+    ghost from_gives = { λ id number. number ≡ glyph24_number id };
+
+    fn from(id: GlyphId24) -> usize {
+        usize::from(id.0)
+    }
+}
+
+impl TryFrom<GlyphId> for GlyphId24 {
+    type Error = TryFromGlyphIdError;
+
+    ghost try_from_gives = { λ id result. MatchResult result
+        (λ narrow. glyph24_number narrow ≡ glyph_number id)
+        (λ error. (2 ^ 24 ≤ glyph_number id) × (refused_number error ≡ glyph_number id)) };
+
+    fn try_from(id: GlyphId) -> Result<GlyphId24, TryFromGlyphIdError> {
+        match Uint24::checked_new(id.0) {
+            Some(number) => Ok(GlyphId24(number)),
+            None => Err(TryFromGlyphIdError(id.0)),
+        }
+    }
+}
+
+impl FixedSize for GlyphId24 {
+    const RAW_BYTE_LEN: usize = 3;
+
+    ghost RAW_BYTE_LEN = { 3 };
+}
+
+impl Scalar for GlyphId24 {
+    type Raw = [u8; 3];
+
+    ghost is_scalar = { λ _. true };
+
+    ghost of_raw = { λ raw. glyph24_of (uint24_of_bytes raw) };
+
+    ghost raw_of = { λ id. bytes_of_uint24 id.0 };
+
+    ghost laws = { newtype_laws (λ id. id.0) glyph24_of (λ _. refl) (λ _. refl) uint24_laws };
+
+    fn from_raw(raw: [u8; 3]) -> GlyphId24 {
+        GlyphId24(Uint24::from_raw(raw))
+    }
+
+    fn to_raw(self) -> [u8; 3] {
+        self.0.to_raw()
+    }
+}
+
+impl IdentityEq for GlyphId24 {
+    ghost identity = { newtype_identity (λ id. id.0) glyph24_of (λ _. refl) uint24_identity };
+}
+
+/// A glyph identifier of 32 bits, into which those of 16 and 24 bits convert.
+#[derive(Clone, Copy, Debug, Default, PartialEq, Eq, PartialOrd, Ord, Hash)]
+pub struct GlyphId(u32);
+
+impl GlyphId {
+    /// The glyph that stands for an unknown one, 0.
+    pub const NOTDEF: Self = Self(0);
+
+    /// The id of a number.
+    pub fn new(raw: u32) -> Self
+        ensures { glyph_number result ≡ raw }
+    {
+        Self(raw)
+    }
+
+    /// The number.
+    pub fn to_u32(self) -> u32
+        ensures { result ≡ glyph_number self }
+    {
+        self.0
+    }
+
+    /// Whether both are the id of one glyph.
+    pub fn eq_gid16(&self, other: &GlyphId16) -> bool
+        ensures { IsTrue result ↔ (glyph_number self.now ≡ glyph16_number other.now) }
+    {
+        self.to_u32() == other.to_u32()
+    }
+
+    /// The order of the two numbers.
+    pub fn cmp_gid16(&self, other: &GlyphId16) -> Ordering
+        ensures { result ≡ nat_cmp (glyph_number self.now) (glyph16_number other.now) }
+    {
+        self.to_u32().cmp(&other.to_u32())
+    }
+}
+
+impl fmt::Display for GlyphId {
+    ghost output = { λ id. Some (glyph_text (glyph_number id)) };
+
+    fn fmt<W: fmt::Write>(&self, f: &mut fmt::Formatter<W>) -> fmt::Result {
+        write!(f, "GID_{}", self.0)
+    }
+}
+
+impl From<u16> for GlyphId {
+    ghost from_gives = { λ number id. glyph_number id ≡ number };
+
+    fn from(number: u16) -> GlyphId {
+        GlyphId(u32::from(number))
+    }
+}
+
+impl From<u32> for GlyphId {
+    ghost from_gives = { λ number id. glyph_number id ≡ number };
+
+    fn from(number: u32) -> GlyphId {
+        GlyphId(number)
+    }
+}
+
+impl From<GlyphId16> for GlyphId {
+    ghost from_gives = { λ narrow id. glyph_number id ≡ glyph16_number narrow };
+
+    fn from(narrow: GlyphId16) -> GlyphId {
+        GlyphId(narrow.to_u32())
+    }
+}
+
+impl From<GlyphId24> for GlyphId {
+    ghost from_gives = { λ narrow id. glyph_number id ≡ glyph24_number narrow };
+
+    fn from(narrow: GlyphId24) -> GlyphId {
+        GlyphId(narrow.to_u32())
+    }
+}
+
+impl From<GlyphId> for u32 {
+    ghost from_gives = { λ id number. number ≡ glyph_number id };
+
+    fn from(id: GlyphId) -> u32 {
+        id.0
+    }
+}
+
+/// A glyph identifier that is too large for the type it was to be converted to.
+#[derive(Debug, Drop, Error)]
+#[error("glyph identifier {0} too large for conversion")]
+pub struct TryFromGlyphIdError(u32);
+
+impl TryFromGlyphIdError {
+    /// The number that was too large.
+    pub fn value(&self) -> u32
+        ensures { result ≡ refused_number self.now }
+    {
+        self.0
+    }
+}

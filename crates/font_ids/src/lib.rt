@@ -1,0 +1,18 @@
+//! Font units, glyph and name ids, and offsets; with the tags, versions and dates of `font_tags`.
+#![tactic(auto)]
+
+mod fword;
+mod glyph_id;
+mod name_id;
+mod offset;
+
+pub use font_tags::{
+    Compatible, InvalidTag, LongDateTime, MajorMinor, TTC_HEADER_TAG, Tag, Version16Dot16,
+};
+pub use fword::{FWord, UfWord};
+pub use glyph_id::{GlyphId, GlyphId16, GlyphId24, TryFromGlyphIdError};
+pub use name_id::{NameId, Predefined};
+pub use offset::{Nullable, Offset16, Offset24, Offset32, OffsetValue};
+
+#[cfg(test)]
+mod tests;

@@ -1,0 +1,330 @@
+//! Offsets to tables.
+
+ghost use Rattle.std.specs.Prelude.{◌≡◌, ◌^◌, ◌↔◌, ℕ, pos, nat_lt, true, IsTrue, refl};
+ghost use Rattle.std.proofs.Common.{lit<};
+ghost use Rattle.font_base.specs.Uint24.{uint24_number, uint24_of, uint24_of_bytes, bytes_of_uint24};
+ghost use Rattle.font_base.specs.Uint24.Laws.{uint24_laws, uint24_identity, uint24_number-of};
+ghost use Rattle.font_base.specs.Bytes.{bytes_of, numeral};
+ghost use Rattle.font_base.specs.Scalar.Laws.{unsigned_newtype, unsigned_identity};
+ghost use Rattle.font_ids.specs.Newtype.{newtype_laws, newtype_identity};
+ghost use Rattle.font_ids.specs.Offset.{offset16_number, offset16_of, offset24_number, offset24_of, offset32_number, offset32_of, nullable_offset, nullable_of};
+
+use font_base::{FixedSize, IdentityEq, Scalar, Uint24};
+
+/// An offset of 16 bits to a table. Zero is null, and stands for no table where the field allows it.
+#[derive(Clone, Copy, Debug, PartialEq, Eq, PartialOrd, Ord)]
+pub struct Offset16(u16);
+
+impl Offset16 {
+    /// The offset of a number.
+    pub fn new(raw: u16) -> Self
+        ensures { offset16_number result ≡ raw }
+    {
+        Self(raw)
+    }
+
+    /// Whether the offset is zero.
+    pub fn is_null(self) -> bool
+        ensures { IsTrue result ↔ (offset16_number self ≡ 0) }
+    {
+        self.0 == 0
+    }
+
+    /// The number.
+    pub fn to_u32(self) -> u32
+        ensures { result ≡ offset16_number self }
+    {
+        u32::from(self.0)
+    }
+
+    /// Whether this is the offset's number.
+    pub fn eq_u32(&self, other: &u32) -> bool
+        ensures { IsTrue result ↔ (offset16_number self.now ≡ other.now) }
+    {
+        self.to_u32() == *other
+    }
+}
+
+impl FixedSize for Offset16 {
+    const RAW_BYTE_LEN: usize = 2;
+
+    ghost RAW_BYTE_LEN = { 2 };
+}
+
+impl Scalar for Offset16 {
+    type Raw = [u8; 2];
+
+    ghost is_scalar = { λ offset. nat_lt (offset16_number offset) (2 ^ 16) };
+
+    ghost of_raw = { λ raw. offset16_of (numeral raw) };
+
+    ghost raw_of = { λ offset. bytes_of 2 (pos (offset16_number offset)) };
+
+    ghost laws = { unsigned_newtype 2 offset16_number offset16_of (λ _. refl) (λ _. refl) };
+
+    fn from_raw(raw: [u8; 2]) -> Offset16 {
+        Offset16(u16::from_raw(raw))
+    }
+
+    fn to_raw(self) -> [u8; 2] {
+        self.0.to_raw()
+    }
+}
+
+impl IdentityEq for Offset16 {
+    ghost identity = { unsigned_identity offset16_number offset16_of (λ _. refl) };
+}
+
+/// An offset of 24 bits to a table. Zero is null, and stands for no table where the field allows it.
+#[derive(Clone, Copy, Debug, PartialEq, Eq, PartialOrd, Ord)]
+pub struct Offset24(Uint24);
+
+impl Offset24 {
+    /// The offset of a number.
+    pub fn new(raw: Uint24) -> Self
+        ensures { offset24_number result ≡ uint24_number raw }
+    {
+        Self(raw)
+    }
+
+    /// Whether the offset is zero.
+    pub fn is_null(self) -> bool
+        ensures { IsTrue result ↔ (offset24_number self ≡ 0) }
+    {
+        self.to_u32() == 0
+    }
+
+    /// The number.
+    pub fn to_u32(self) -> u32
+        ensures { result ≡ offset24_number self }
+    {
+        self.0.to_u32()
+    }
+
+    /// Whether this is the offset's number.
+    pub fn eq_u32(&self, other: &u32) -> bool
+        ensures { IsTrue result ↔ (offset24_number self.now ≡ other.now) }
+    {
+        self.to_u32() == *other
+    }
+}
+
+impl FixedSize for Offset24 {
+    const RAW_BYTE_LEN: usize = 3;
+
+    ghost RAW_BYTE_LEN = { 3 };
+}
+
+impl Scalar for Offset24 {
+    type Raw = [u8; 3];
+
+    ghost is_scalar = { λ _. true };
+
+    ghost of_raw = { λ raw. offset24_of (uint24_of_bytes raw) };
+
+    ghost raw_of = { λ offset. bytes_of_uint24 offset.0 };
+
+    ghost laws = { newtype_laws (λ offset. offset.0) offset24_of (λ _. refl) (λ _. refl) uint24_laws };
+
+    fn from_raw(raw: [u8; 3]) -> Offset24 {
+        Offset24(Uint24::from_raw(raw))
+    }
+
+    fn to_raw(self) -> [u8; 3] {
+        self.0.to_raw()
+    }
+}
+
+impl IdentityEq for Offset24 {
+    ghost identity = { newtype_identity (λ offset. offset.0) offset24_of (λ _. refl) uint24_identity };
+}
+
+/// An offset of 32 bits to a table. Zero is null, and stands for no table where the field allows it.
+#[derive(Clone, Copy, Debug, PartialEq, Eq, PartialOrd, Ord)]
+pub struct Offset32(u32);
+
+impl Offset32 {
+    /// The offset of a number.
+    pub fn new(raw: u32) -> Self
+        ensures { offset32_number result ≡ raw }
+    {
+        Self(raw)
+    }
+
+    /// Whether the offset is zero.
+    pub fn is_null(self) -> bool
+        ensures { IsTrue result ↔ (offset32_number self ≡ 0) }
+    {
+        self.0 == 0
+    }
+
+    /// The number.
+    pub fn to_u32(self) -> u32
+        ensures { result ≡ offset32_number self }
+    {
+        self.0
+    }
+
+    /// Whether this is the offset's number.
+    pub fn eq_u32(&self, other: &u32) -> bool
+        ensures { IsTrue result ↔ (offset32_number self.now ≡ other.now) }
+    {
+        self.to_u32() == *other
+    }
+}
+
+impl FixedSize for Offset32 {
+    const RAW_BYTE_LEN: usize = 4;
+
+    ghost RAW_BYTE_LEN = { 4 };
+}
+
+impl Scalar for Offset32 {
+    type Raw = [u8; 4];
+
+    ghost is_scalar = { λ offset. nat_lt (offset32_number offset) (2 ^ 32) };
+
+    ghost of_raw = { λ raw. offset32_of (numeral raw) };
+
+    ghost raw_of = { λ offset. bytes_of 4 (pos (offset32_number offset)) };
+
+    ghost laws = { unsigned_newtype 4 offset32_number offset32_of (λ _. refl) (λ _. refl) };
+
+    fn from_raw(raw: [u8; 4]) -> Offset32 {
+        Offset32(u32::from_raw(raw))
+    }
+
+    fn to_raw(self) -> [u8; 4] {
+        self.0.to_raw()
+    }
+}
+
+impl IdentityEq for Offset32 {
+    ghost identity = { unsigned_identity offset32_number offset32_of (λ _. refl) };
+}
+
+/// What an offset is to [`Nullable`]: a number, with the offset of zero.
+pub trait OffsetValue: Copy {
+    /// The offset of zero.
+    const NULL: Self;
+
+    ghost NULL: { Self };
+
+    // the number of the offset
+    ghost number_of: { Self → ℕ };
+
+    /// The number.
+    fn value_u32(&self) -> u32
+        ensures { result ≡ number_of self.now };
+
+    // Null is zero.
+    ghost null_is_zero: { number_of NULL ≡ 0 };
+}
+
+impl OffsetValue for Offset16 {
+    const NULL: Offset16 = Offset16(0);
+
+    ghost NULL = { offset16_of 0 };
+
+    ghost number_of = { offset16_number };
+
+    ghost null_is_zero = { refl };
+
+    fn value_u32(&self) -> u32 {
+        self.to_u32()
+    }
+}
+
+impl OffsetValue for Offset24 {
+    const NULL: Offset24 = Offset24(Uint24::MIN);
+
+    ghost NULL = { offset24_of (uint24_of 0) };
+
+    ghost number_of = { offset24_number };
+
+    ghost null_is_zero = { uint24_number-of 0 (lit< tt) };
+
+    fn value_u32(&self) -> u32 {
+        self.to_u32()
+    }
+}
+
+impl OffsetValue for Offset32 {
+    const NULL: Offset32 = Offset32(0);
+
+    ghost NULL = { offset32_of 0 };
+
+    ghost number_of = { offset32_number };
+
+    ghost null_is_zero = { refl };
+
+    fn value_u32(&self) -> u32 {
+        self.to_u32()
+    }
+}
+
+/// An offset in a field that allows null, which then stands for no table.
+///
+/// `Nullable::<Offset16>::read(&[0, 0])` is null.
+#[derive(Clone, Copy, Debug, PartialEq, Eq)]
+pub struct Nullable<T>(T);
+
+impl<T> Nullable<T> {
+    /// The offset, null or not.
+    pub fn offset(&self) -> &T
+        ensures { result.now ≡ nullable_offset self.now }
+    {
+        &self.0
+    }
+}
+
+impl<T: OffsetValue> Nullable<T> {
+    /// Whether the offset is zero.
+    pub fn is_null(&self) -> bool
+        ensures { IsTrue result ↔ (T.number_of (nullable_offset self.now) ≡ 0) }
+    {
+        self.0.value_u32() == 0
+    }
+
+    /// Whether this is the offset's number.
+    pub fn eq_u32(&self, other: &u32) -> bool
+        ensures { IsTrue result ↔ (T.number_of (nullable_offset self.now) ≡ other.now) }
+    {
+        self.0.value_u32() == *other
+    }
+}
+
+/// Null.
+impl<T: OffsetValue> Default for Nullable<T> {
+    ghost is_default = { λ nullable. nullable_offset nullable ≡ T.NULL };
+
+    fn default() -> Nullable<T> {
+        Nullable(T::NULL)
+    }
+}
+
+impl<T: FixedSize> FixedSize for Nullable<T> {
+    const RAW_BYTE_LEN: usize = T::RAW_BYTE_LEN;
+
+    ghost RAW_BYTE_LEN = { T.RAW_BYTE_LEN };
+}
+
+impl<T: Scalar> Scalar for Nullable<T> {
+    type Raw = T::Raw;
+
+    ghost is_scalar = { λ nullable. T.is_scalar (nullable_offset nullable) };
+
+    ghost of_raw = { λ raw. nullable_of (T.of_raw raw) };
+
+    ghost raw_of = { λ nullable. T.raw_of (nullable_offset nullable) };
+
+    ghost laws = { newtype_laws nullable_offset nullable_of (λ _. refl) (λ _. refl) T.Scalar.laws };
+
+    fn from_raw(raw: T::Raw) -> Nullable<T> {
+        Nullable(T::from_raw(raw))
+    }
+
+    fn to_raw(self) -> T::Raw {
+        self.0.to_raw()
+    }
+}

@@ -1,0 +1,69 @@
+//! Offsets, null or not.
+
+use crate::{Nullable, Offset16, Offset24, Offset32, OffsetValue};
+use font_base::{BigEndian, FixedSize, Scalar, Uint24};
+use std::test::Fail;
+
+#[test]
+fn null(rt: HostRuntime) {
+    assert!(rt; Offset16::new(0).is_null() && !Offset16::new(256).is_null());
+    assert!(rt;
+        Offset24::new(Uint24::MIN).is_null() && !Offset24::new(Uint24::new(65536)).is_null()
+    );
+    assert!(rt; Offset32::new(0).is_null() && !Offset32::new(65536).is_null());
+    assert!(rt; Offset16::NULL.is_null() && Offset24::NULL.is_null() && Offset32::NULL.is_null());
+}
+
+#[test]
+fn numbers(rt: HostRuntime) {
+    assert_eq!(rt; Offset16::new(65535).to_u32(), 65535);
+    assert_eq!(rt; Offset24::new(Uint24::MAX).to_u32(), 16777215);
+    assert_eq!(rt; Offset32::new(4294967295).value_u32(), 4294967295);
+    assert!(rt; Offset16::new(7).eq_u32(&7) && !Offset16::new(7).eq_u32(&65543));
+    assert!(rt; Offset24::new(Uint24::new(7)).eq_u32(&7));
+    assert!(rt; Offset32::new(7).eq_u32(&7) && !Offset32::new(7).eq_u32(&8));
+    assert_eq!(rt;
+        Offset16::new(7).value_u32() + Offset24::new(Uint24::new(7)).value_u32(),
+        14
+    );
+}
+
+#[test]
+fn stored(rt: HostRuntime) {
+    assert!(rt; Offset16::read(&[1, 2]) == Some(Offset16::new(0x0102)));
+    assert!(rt; Offset24::read(&[1, 2, 3]) == Some(Offset24::new(Uint24::new(0x01_0203))));
+    assert!(rt; Offset32::read(&[1, 2, 3, 4]) == Some(Offset32::new(0x0102_0304)));
+    assert!(rt; Offset24::read(&[1, 2, 3, 4]).is_none());
+    assert!(rt; BigEndian::from(Offset24::new(Uint24::new(5))).be_bytes() == [0, 0, 5].as_slice());
+    assert!(rt; Offset16::new(1) < Offset16::new(2) && Offset32::new(1) < Offset32::new(2));
+    assert_eq!(rt;
+        Offset16::RAW_BYTE_LEN + Offset24::RAW_BYTE_LEN + Offset32::RAW_BYTE_LEN,
+        9
+    );
+}
+
+#[test]
+fn nullable(rt: HostRuntime) -> Result<(), Fail> {
+    let null = Nullable::<Offset24>::read(&[0, 0, 0]).ok_or("three bytes")?;
+    assert!(rt; null.is_null() && null == Nullable::default());
+    let some = Nullable::<Offset16>::from_raw([1, 2]);
+    assert!(rt; !some.is_null() && some.offset() == &Offset16::new(0x0102));
+    assert!(rt; some.eq_u32(&0x0102) && !some.eq_u32(&2));
+    assert!(rt; some.clone()? == some && some.to_raw() == [1, 2]);
+    assert!(rt; Nullable::<Offset32>::read(&[0, 0, 0]).is_none());
+    assert!(rt; Nullable::<Offset32>::default().is_null());
+    assert_eq!(rt; Nullable::<Offset24>::RAW_BYTE_LEN, 3);
+    Ok(())
+}
+
+#[test]
+fn printed(rt: HostRuntime) -> Result<(), Fail> {
+    let (short, middle) = (Offset16::new(5), Offset24::new(Uint24::new(5)));
+    let null = Nullable::<Offset16>::default();
+    let text = format!(in rt.alloc(); "{short:?} {middle:?} {:?} {null:?}", Offset32::new(5))?;
+    assert_eq!(rt;
+        text.as_str(),
+        "Offset16(5) Offset24(Uint24(5)) Offset32(5) Nullable(Offset16(0))"
+    );
+    Ok(())
+}

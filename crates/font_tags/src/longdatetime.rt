@@ -1,0 +1,67 @@
+//! Dates and times.
+
+ghost use Rattle.std.specs.Prelude.{◌≡◌, refl};
+ghost use Rattle.std.proofs.Common.{lit<};
+ghost use Rattle.font_base.specs.Wrap.{fits_bits};
+ghost use Rattle.font_base.specs.Bytes.{IsBytesOf, bytes_of, signed_numeral};
+ghost use Rattle.font_base.specs.Scalar.Laws.{signed_newtype, signed_identity};
+ghost use Rattle.font_tags.specs.LongDateTime.{date_seconds, date_of};
+
+use font_base::{FixedSize, IdentityEq, Scalar};
+
+/// A date and time: seconds since midnight of January 1, 1904, UTC, and negative before.
+#[derive(Clone, Copy, Debug, Default, PartialEq, Eq, PartialOrd, Ord, Hash)]
+pub struct LongDateTime(i64);
+
+impl LongDateTime {
+    /// The date that is so many seconds after 1904-01-01 00:00 UTC.
+    pub fn new(secs: i64) -> Self
+        ensures { date_seconds result ≡ secs }
+    {
+        Self(secs)
+    }
+
+    /// The seconds since 1904-01-01 00:00 UTC.
+    pub fn as_secs(&self) -> i64
+        ensures { result ≡ date_seconds self.now }
+    {
+        self.0
+    }
+
+    /// The eight bytes of the seconds, highest first.
+    pub fn to_be_bytes(self) -> [u8; 8]
+        ensures { IsBytesOf 8 (date_seconds self) result }
+    {
+        self.to_raw()
+    }
+}
+
+impl FixedSize for LongDateTime {
+    const RAW_BYTE_LEN: usize = 8;
+
+    ghost RAW_BYTE_LEN = { 8 };
+}
+
+impl Scalar for LongDateTime {
+    type Raw = [u8; 8];
+
+    ghost is_scalar = { λ date. fits_bits 64 (date_seconds date) };
+
+    ghost of_raw = { λ raw. date_of (signed_numeral 8 raw) };
+
+    ghost raw_of = { λ date. bytes_of 8 (date_seconds date) };
+
+    ghost laws = { signed_newtype 8 (lit< tt) date_seconds date_of (λ _. refl) (λ _. refl) };
+
+    fn from_raw(raw: [u8; 8]) -> LongDateTime {
+        LongDateTime(i64::from_raw(raw))
+    }
+
+    fn to_raw(self) -> [u8; 8] {
+        self.0.to_raw()
+    }
+}
+
+impl IdentityEq for LongDateTime {
+    ghost identity = { signed_identity date_seconds date_of (λ _. refl) };
+}

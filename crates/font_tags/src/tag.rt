@@ -1,0 +1,248 @@
+//! Tags of four bytes.
+
+ghost use Rattle.std.specs.Prelude.{◌≡◌, ◌<◌, ◌++◌, ◌↔◌, pos, Some, IsTrue, IsOk, IfOk, MatchOption, length, replicate, refl};
+ghost use Rattle.std.specs.Fmt.{WritesOnOk};
+ghost use lib.Chars.{codes};
+ghost use Rattle.font_base.specs.Bytes.{IsBytesOf, are_bytes};
+ghost use Rattle.font_tags.specs.Tag.{tag_bytes, tag_of, four_spaces, IsGood, IsFault, IsAcceptable, IsChecked, IsValidated, byte_text, tag_text};
+
+use font_base::{BeByteArray, FixedSize, IdentityEq, Scalar};
+use std::fmt;
+use std::str::FromStr;
+use thiserror::Error;
+
+/// The tag in front of a font collection, `ttcf`.
+pub const TTC_HEADER_TAG: Tag = Tag([0x74, 0x74, 0x63, 0x66]);
+
+/// A name of four bytes, of a table, a script, a feature and the like.
+///
+/// A good tag has one to four visible characters of ASCII, filled to four bytes with spaces. Fonts hold others too, so any four
+/// bytes are a `Tag`: [`Tag::new_checked`] takes good ones alone, and [`Tag::validate`] judges a tag.
+#[derive(Clone, Copy, PartialEq, Eq, PartialOrd, Ord, Hash)]
+pub struct Tag([u8; 4]);
+
+impl Tag {
+    /// The tag of four bytes, whatever they are.
+    pub fn new(src: &[u8; 4]) -> Self
+        ensures { tag_bytes result ≡ src.now }
+    {
+        Self(*src)
+    }
+
+    /// The tag of one to four good bytes, filled with spaces.
+    ///
+    /// `Tag::new_checked(b"cv1")` is `cv1` and a space. Every fault of the bytes is `InvalidByte`, also a visible byte after a space.
+    #[tactic(auto, using(crate::proofs::Good::judged))]
+    pub fn new_checked(src: &[u8]) -> Result<Self, InvalidTag>
+        ensures judged { IsChecked src.now result }
+        ensures ok { IsOk result ↔ IsAcceptable src.now }
+        ensures valid { IfOk result (λ tag. IsGood (tag_bytes tag)) }
+    {
+        if src.is_empty() || src.len() > 4 {
+            return Err(InvalidTag::InvalidLength(src.len()));
+        }
+        if let Some(pos) = first_fault(src) {
+            return Err(InvalidTag::InvalidByte {
+                pos,
+                byte: src[pos],
+            });
+        }
+        let mut bytes = [b' '; 4];
+        bytes[..src.len()].copy_from_slice(src);
+        Ok(Self(bytes))
+    }
+
+    /// The tag of a number's four bytes, highest first.
+    pub fn from_u32(src: u32) -> Self
+        ensures { IsBytesOf 4 (pos src) (tag_bytes result) }
+    {
+        Self(src.to_raw())
+    }
+
+    /// The tag of four bytes, whatever they are.
+    pub fn from_be_bytes(bytes: [u8; 4]) -> Self
+        ensures { tag_bytes result ≡ bytes }
+    {
+        Self(bytes)
+    }
+
+    /// The four bytes, first to last.
+    pub fn to_be_bytes(self) -> [u8; 4]
+        ensures { result ≡ tag_bytes self }
+    {
+        self.0
+    }
+
+    /// The four bytes, first to last.
+    pub fn into_bytes(self) -> [u8; 4]
+        ensures { result ≡ tag_bytes self }
+    {
+        self.0
+    }
+
+    /// The four bytes, first to last.
+    pub fn as_bytes(&self) -> &[u8; 4]
+        ensures { result.now ≡ tag_bytes self.now }
+    {
+        &self.0
+    }
+
+    /// Whether these are the tag's bytes.
+    pub fn eq_bytes(&self, other: &[u8; 4]) -> bool
+        ensures { IsTrue result ↔ (tag_bytes self.now ≡ other.now) }
+    {
+        self.0 == *other
+    }
+
+    /// Whether these are the tag's bytes; a text of another length never is.
+    pub fn eq_str(&self, other: &str) -> bool
+        ensures { IsTrue result ↔ (tag_bytes self.now ≡ other.now) }
+    {
+        self.eq_slice(other.as_bytes())
+    }
+
+    /// Whether these are the tag's bytes; a slice of another length never is.
+    pub fn eq_slice(&self, other: &[u8]) -> bool
+        ensures { IsTrue result ↔ (tag_bytes self.now ≡ other.now) }
+    {
+        self.0.as_slice() == other
+    }
+
+    /// Whether the tag is good: visible characters, and only spaces behind them.
+    ///
+    /// Four spaces are refused as a tag of no bytes, `InvalidLength(0)`.
+    #[tactic(auto, using(crate::proofs::Good::judged))]
+    pub fn validate(self) -> Result<(), InvalidTag>
+        ensures judged { IsValidated (tag_bytes self) result }
+        ensures ok { IsOk result ↔ IsGood (tag_bytes self) }
+    {
+        if self.eq_bytes(&[b' '; 4]) {
+            return Err(InvalidTag::InvalidLength(0));
+        }
+        match first_fault(&self.0) {
+            None => Ok(()),
+            Some(pos) if self.0[pos].is_ascii_graphic() => Err(InvalidTag::ByteAfterSpace { pos }),
+            Some(pos) => Err(InvalidTag::InvalidByte {
+                pos,
+                byte: self.0[pos],
+            }),
+        }
+    }
+}
+
+// Where the bytes cease to be good, or `None` where they are good.
+fn first_fault(bytes: &[u8]) -> Option<usize>
+    requires { 0 < length bytes.now }
+    ensures { MatchOption result (IsGood bytes.now) (λ index. IsFault bytes.now index) }
+{
+    let run = bytes
+        .iter()
+        .position(|byte| !byte.is_ascii_graphic())
+        .unwrap_or(bytes.len());
+    if run == 0 {
+        return Some(0);
+    }
+    let behind = bytes[run..].iter().position(|byte| *byte != b' ');
+    behind.map(|index| run + index)
+}
+
+/// Why bytes are no good tag.
+#[derive(Clone, Debug, PartialEq, Eq, Drop, Error)]
+pub enum InvalidTag {
+    /// There were not one to four bytes; a tag of four spaces has none.
+    #[error("Invalid length ({0})")]
+    InvalidLength(usize),
+    /// The byte at `pos` cannot stand there.
+    #[error("Invalid byte 0x{byte:X} at index {pos}")]
+    InvalidByte { pos: usize, byte: u8 },
+    /// The byte at `pos` is visible, and stands after a space.
+    #[error("Non-space character after first space")]
+    ByteAfterSpace { pos: usize },
+}
+
+impl FromStr for Tag {
+    type Err = InvalidTag;
+
+    ghost from_str_gives = { IsChecked };
+
+    fn from_str(src: &str) -> Result<Self, InvalidTag> {
+        Tag::new_checked(src.as_bytes())
+    }
+}
+
+/// Four spaces.
+impl Default for Tag {
+    ghost is_default = { λ tag. tag_bytes tag ≡ four_spaces };
+
+    fn default() -> Tag {
+        Tag([b' '; 4])
+    }
+}
+
+impl fmt::Display for Tag {
+    ghost output = { λ tag. Some (tag_text (tag_bytes tag)) };
+
+    fn fmt<W: fmt::Write>(&self, f: &mut fmt::Formatter<W>) -> fmt::Result {
+        for byte in &self.0 {
+            write_byte(f, *byte)?;
+        }
+        Ok(())
+    }
+}
+
+// Writes a byte as a tag shows it.
+fn write_byte<W: fmt::Write>(f: &mut fmt::Formatter<W>, byte: u8) -> fmt::Result
+    ensures { WritesOnOk W.write_str_gives f.old result (byte_text byte) f.new }
+{
+    match byte {
+        0x20..=0x7E => write!(f, "{}", char::from(byte)),
+        _ => write!(f, "{{0x{byte:02X}}}"),
+    }
+}
+
+impl fmt::Debug for Tag {
+    ghost debug_output = { λ tag. Some (codes "Tag(" ++ tag_text (tag_bytes tag) ++ codes ")") };
+
+    fn fmt<W: fmt::Write>(&self, f: &mut fmt::Formatter<W>) -> fmt::Result {
+        write!(f, "Tag({self})")
+    }
+}
+
+impl FixedSize for Tag {
+    const RAW_BYTE_LEN: usize = 4;
+
+    ghost RAW_BYTE_LEN = { 4 };
+}
+
+impl Scalar for Tag {
+    type Raw = [u8; 4];
+
+    ghost is_scalar = { λ tag. are_bytes 4 (tag_bytes tag) };
+
+    ghost of_raw = { tag_of };
+
+    ghost raw_of = { tag_bytes };
+
+    ghost laws = { record {
+      of_raw_value = λ _ value. value;
+      raw_of_value = λ _ value. value;
+      back = λ _ _. refl;
+      forth = λ _ _. refl;
+      lengths_agree = refl;
+    } };
+
+    fn from_raw(raw: [u8; 4]) -> Tag {
+        Tag(raw)
+    }
+
+    fn to_raw(self) -> [u8; 4] {
+        let _bytes = BeByteArray::as_slice(&self.0);
+        self.0
+    }
+}
+
+impl IdentityEq for Tag {
+    ghost use Rattle.font_tags.specs.Tag.Laws.{tag_identity};
+
+    ghost identity = { tag_identity };
+}

@@ -1,0 +1,4 @@
+//! Values from the OpenType data types and from the original crate.
+
+mod tags;
+mod versions;
