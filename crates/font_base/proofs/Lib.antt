@@ -1,3 +1,4 @@
 pub mod Widths
 pub mod StdBytes
 pub mod ThreeBytes
+mod Rows

@@ -9,3 +9,4 @@ mod Rounding
 mod Splits
 mod Fewest
 mod Written
+mod Rows

@@ -1,6 +1,7 @@
 //! The integers and their bytes.
 
-use crate::{BeByteArray, Int24, Scalar, Uint24};
+use crate::{BeByteArray, FixedSize, Int24, Scalar, Uint24};
+use std::collections::HashSet;
 use std::test::Fail;
 
 #[test]
@@ -55,29 +56,107 @@ fn conversions_of_24_bits(rt: HostRuntime) {
 
 #[test]
 fn text_of_unsigned_24_bits(rt: HostRuntime) -> Result<(), Fail> {
-    let number = Uint24::new(5);
-    let text = format!(in rt.alloc(); "{number} {number:?}")?;
-    assert_eq!(rt; text.as_str(), "5 Uint24(5)");
+    for (number, text) in [
+        (0, "0 Uint24(0)"),
+        (5, "5 Uint24(5)"),
+        (65536, "65536 Uint24(65536)"),
+        (16777215, "16777215 Uint24(16777215)"),
+    ] {
+        let number = Uint24::new(number);
+        assert_eq!(rt;
+            format!(in rt.alloc(); "{number} {number:?}")?.as_str(),
+            text
+        );
+    }
     Ok(())
 }
 
 #[test]
 fn text_of_signed_24_bits(rt: HostRuntime) -> Result<(), Fail> {
-    let number = Int24::new(-5);
-    let text = format!(in rt.alloc(); "{number} {number:?}")?;
-    assert_eq!(rt; text.as_str(), "-5 Int24(-5)");
+    for (number, text) in [
+        (-5, "-5 Int24(-5)"),
+        (65536, "65536 Int24(65536)"),
+        (8388607, "8388607 Int24(8388607)"),
+        (-8388608, "-8388608 Int24(-8388608)"),
+    ] {
+        let number = Int24::new(number);
+        assert_eq!(rt;
+            format!(in rt.alloc(); "{number} {number:?}")?.as_str(),
+            text
+        );
+    }
+    Ok(())
+}
+
+// The flags of a format go to the number inside, as in the original crate.
+#[test]
+fn text_with_flags(rt: HostRuntime) -> Result<(), Fail> {
+    let (number, negative) = (Uint24::new(5), Int24::new(-5));
+    let text = format!(in rt.alloc(); "{number:4}|{number:<3}|{negative:04}")?;
+    assert_eq!(rt; text.as_str(), "   5|5  |-005");
     Ok(())
 }
 
 #[test]
+fn compared_and_hashed(rt: HostRuntime) -> Result<(), Fail> {
+    assert!(rt; Uint24::new(256) > Uint24::new(255).clone()?);
+    assert!(rt; Int24::new(-256) < Int24::new(255).clone()?);
+    let mut set = HashSet::new(rt.alloc());
+    set.insert(Int24::new(-1))?;
+    assert!(rt; set.contains(&Int24::from_be_bytes([0xFF, 0xFF, 0xFF])));
+    assert!(rt; !set.contains(&Int24::MAX));
+    Ok(())
+}
+
+#[test]
+fn converted_from_a_size(rt: HostRuntime) -> Result<(), Fail> {
+    let number = Uint24::try_from(16777215usize)?;
+    assert!(rt; number == Uint24::MAX);
+    assert_eq!(rt; usize::from(number), 16777215);
+    Ok(())
+}
+
+#[test]
+fn raw_bytes(rt: HostRuntime) {
+    assert!(rt; u8::from_raw([200]) == 200 && 200u8.to_raw() == [200]);
+    assert!(rt; i8::from_raw([200]) == -56 && (-56i8).to_raw() == [200]);
+    assert!(rt; u16::from_raw([1, 2]) == 258 && 258u16.to_raw() == [1, 2]);
+    assert!(rt; i16::from_raw([255, 2]) == -254 && (-254i16).to_raw() == [255, 2]);
+}
+
+#[test]
+fn raw_bytes_of_wide_numbers(rt: HostRuntime) {
+    assert!(rt; u32::from_raw([1, 2, 3, 4]) == 16909060 && 16909060u32.to_raw() == [1, 2, 3, 4]);
+    assert!(rt;
+        i32::from_raw([255, 2, 3, 4]) == -16645372 && (-16645372i32).to_raw() == [255, 2, 3, 4]
+    );
+    assert!(rt;
+        Uint24::from_raw([1, 2, 3]) == Uint24::new(66051)
+            && Uint24::new(66051).to_raw() == [1, 2, 3]
+    );
+    assert!(rt;
+        Int24::from_raw([255, 2, 3]) == Int24::new(-65021)
+            && Int24::new(-65021).to_raw() == [255, 2, 3]
+    );
+}
+
+#[test]
+fn lengths(rt: HostRuntime) {
+    assert!(rt; <[u8; 4]>::from_slice(&BYTES[..4]) == Some([0xFF, 0xFE, 0xFD, 0xFC]));
+    assert_eq!(rt; <[u8; 4] as BeByteArray>::LEN, 4);
+    assert!(rt; u8::RAW_BYTE_LEN == 1 && i8::RAW_BYTE_LEN == 1 && u16::RAW_BYTE_LEN == 2);
+    assert!(rt; i16::RAW_BYTE_LEN == 2 && Uint24::RAW_BYTE_LEN == 3 && Int24::RAW_BYTE_LEN == 3);
+    assert!(rt; u32::RAW_BYTE_LEN == 4 && i32::RAW_BYTE_LEN == 4 && i64::RAW_BYTE_LEN == 8);
+}
+
+#[test]
 fn text_of_a_number_too_large(rt: HostRuntime) -> Result<(), Fail> {
-    if let Err(e) = Uint24::try_from(16777216usize) {
-        let text = format!(in rt.alloc(); "{e} {e:?}")?;
-        assert_eq!(rt;
-            text.as_str(),
-            "failed to convert usize value into Uint24. TryFromUint24Error"
-        );
-    }
+    let fault = Uint24::try_from(16777216usize).err().ok_or("refused")?;
+    let text = format!(in rt.alloc(); "{fault} {fault:?}")?;
+    assert_eq!(rt;
+        text.as_str(),
+        "failed to convert usize value into Uint24. TryFromUint24Error"
+    );
     Ok(())
 }
 
