@@ -1,0 +1,116 @@
+//! Scalars as JSON values.
+
+ghost use Rattle.std.specs.Prelude.{◌≡◌, Bool, IsTrue, Some, IfOk, IfErr, Option, Result, MatchResult, pos, List, None};
+ghost use Rattle.serde_json.specs.Data.{Data};
+ghost use Rattle.serde_json.specs.Find.{as_str};
+ghost use Rattle.serde_json.specs.View.{view};
+ghost use Rattle.font_types.specs.Json.{whole_number};
+ghost use Rattle.font_types.specs.declared.json.JsonFault.{JsonFault};
+ghost use Rattle.font_types.specs.declared.json.JsonFault.TheVariants.{Memory};
+
+mod fixed;
+
+use font_decimal::DecimalFault;
+use serde_json::Value;
+use std::alloc::{AllocError, Global};
+use thiserror::Error;
+
+/// Why a value has no JSON form, or a JSON value is none of the type.
+#[derive(Clone, Debug, PartialEq, Eq, Drop, Error)]
+pub enum JsonFault {
+    /// Memory for the value was refused.
+    #[error("out of memory")]
+    Memory = 1,
+    /// Another kind of JSON value is wanted.
+    #[error("wrong kind of value")]
+    WrongKind = 2,
+    /// The number is out of the type's range.
+    #[error("number out of range")]
+    OutOfRange = 3,
+    /// The text is no decimal number.
+    #[error("not a decimal number")]
+    Syntax = 4,
+    /// The bytes of a tag are no text.
+    #[error("tag is not UTF-8")]
+    NotUtf8 = 5,
+    /// The text is no tag.
+    #[error("invalid tag")]
+    InvalidTag = 6,
+    /// A member of the object is absent.
+    #[error("missing member")]
+    MissingMember = 7,
+}
+
+impl From<AllocError> for JsonFault {
+    ghost from_gives = { λ _ fault. fault ≡ Memory };
+
+    fn from(_fault: AllocError) -> JsonFault {
+        JsonFault::Memory
+    }
+}
+
+impl From<DecimalFault> for JsonFault {
+    ghost use Rattle.font_types.specs.Json.{json_fault};
+
+    ghost from_gives = { λ fault json. json ≡ json_fault fault };
+
+    fn from(fault: DecimalFault) -> JsonFault {
+        match fault {
+            DecimalFault::Syntax => JsonFault::Syntax,
+            DecimalFault::OutOfRange => JsonFault::OutOfRange,
+        }
+    }
+}
+
+/// A type whose values have a JSON form.
+///
+/// Fixed-point numbers and tags are texts, whole numbers are numbers, and a `MajorMinor` is an object.
+pub trait JsonScalar: Sized {
+    // that this is a value of the type
+    ghost is_value: { Self → Bool };
+
+    // that the data is the form of the value
+    ghost shows: { Self → Data → Type 0 };
+
+    // that the value may be refused so
+    ghost refuses: { Self → JsonFault → Type 0 };
+
+    // what the data is read as
+    ghost reads: { Data → Result Self JsonFault → Type 0 };
+
+    // what the form of a value is read as: the value, but for a tag that is not good
+    ghost read_back: { Self → Result Self JsonFault };
+
+    /// The JSON form of the value.
+    fn to_json(self, alloc: Global) -> Result<Value, JsonFault>
+        ensures shown { IfOk result (λ value. shows self (view value)) }
+        ensures refused { IfErr result (λ fault. refuses self fault) }
+        ensures value { IsTrue (is_value self) };
+
+    /// The value whose form this is.
+    fn from_json(value: &Value) -> Result<Self, JsonFault>
+        ensures { reads (view value.now) result };
+
+    // What is shown is read back.
+    ghost round_trip: { (v : Self) (d : Data) (result : Result Self JsonFault) → IsTrue (is_value v) → shows v d → reads d result → result ≡ read_back v };
+}
+
+// The text that a value is, if it is one.
+fn text_of(value: &Value) -> Result<&str, JsonFault>
+    ensures { MatchResult result (λ text. as_str (view value.now) ≡ Some text.now)
+        (λ fault. (as_str (view value.now) ≡ None) × (fault ≡ JsonFault.WrongKind)) }
+{
+    value.as_str().ok_or(JsonFault::WrongKind)
+}
+
+// The whole number from `min` to `max` that a value is.
+fn whole_number(value: &Value, min: i64, max: i64) -> Result<i64, JsonFault>
+    ensures { result ≡ whole_number min max (view value.now) }
+{
+    let number = value.as_number().ok_or(JsonFault::WrongKind)?;
+    let whole = number.as_i128().ok_or(JsonFault::WrongKind)?;
+    if whole < i128::from(min) || whole > i128::from(max) {
+        return Err(JsonFault::OutOfRange);
+    }
+    Ok(whole as i64)
+}
