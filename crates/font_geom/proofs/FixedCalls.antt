@@ -3,7 +3,7 @@ use Rattle.std.proofs.Common.{◌≡◌, ◌∙◌, sym, ap, subst, refl, ℤ, p
 use Rattle.std.proofs.lemmas.Int.{ints}
 use Rattle.std.proofs.Math.IntN.{*ℤ_comm, *ℤ-zero, zero-*ℤ}
 use Rattle.font_base.specs.Wrap.{wrap, FitsBits}
-use Rattle.font_base.specs.Wrap.Laws.{wrap_fits}
+use Rattle.font_base.specs.Wrap.Laws.{wrap-fits}
 use Rattle.font_decimal.specs.Near.{Near, near}
 use Rattle.font_decimal.proofs.Near.{near_gives}
 use Rattle.font_arithmetic.specs.Operations.{IsProduct}
@@ -81,7 +81,7 @@ near_whole n q is =
     sym (near_gives n 65536 q (lit< tt) exact)
 
 wrapped_whole : (n x : ℤ) → FitsBits 32 x → n ≡ (x *ℤ pos 65536) → wrap 32 (near n 65536) ≡ x
-wrapped_whole n x fits is = ap (wrap 32) (near_whole n x is) ∙ wrap_fits 32 x (lit< tt) fits
+wrapped_whole n x fits is = ap (wrap 32) (near_whole n x is) ∙ wrap-fits 32 x (lit< tt) fits
 
 zero_fits : FitsBits 32 (pos 0)
 zero_fits = record { low = omega (arith, ints); high = omega (arith, ints) }

@@ -1,6 +1,7 @@
 //! Scalars as JSON values.
 
-ghost use Rattle.std.specs.Prelude.{◌≡◌, Bool, IsTrue, Some, IfOk, IfErr, Option, Result, MatchResult, pos, List, None};
+ghost use Rattle.std.specs.Prelude.{◌≡◌, Bool, IsTrue, Some, IfOk, IfErr, Option, Result, MatchResult, pos, List, None, ◌≤◌, ◌≤ℤ◌, ◌^◌};
+ghost use Rattle.std.specs.Result.{result_map_both};
 ghost use Rattle.serde_json.specs.Data.{Data};
 ghost use Rattle.serde_json.specs.Find.{as_str};
 ghost use Rattle.serde_json.specs.View.{view};
@@ -9,6 +10,7 @@ ghost use Rattle.font_types.specs.declared.json.JsonFault.{JsonFault};
 ghost use Rattle.font_types.specs.declared.json.JsonFault.TheVariants.{Memory};
 
 mod fixed;
+mod number;
 
 use font_decimal::DecimalFault;
 use serde_json::Value;
@@ -105,7 +107,8 @@ fn text_of(value: &Value) -> Result<&str, JsonFault>
 
 // The whole number from `min` to `max` that a value is.
 fn whole_number(value: &Value, min: i64, max: i64) -> Result<i64, JsonFault>
-    ensures { result ≡ whole_number min max (view value.now) }
+    ensures number { result ≡ whole_number min max (view value.now) }
+    ensures within { IfOk result (λ z. (min ≤ℤ z) × (z ≤ℤ max)) }
 {
     let number = value.as_number().ok_or(JsonFault::WrongKind)?;
     let whole = number.as_i128().ok_or(JsonFault::WrongKind)?;
@@ -113,4 +116,12 @@ fn whole_number(value: &Value, min: i64, max: i64) -> Result<i64, JsonFault>
         return Err(JsonFault::OutOfRange);
     }
     Ok(whole as i64)
+}
+
+// The same of a number that is not signed.
+fn natural(value: &Value, max: u32) -> Result<u32, JsonFault>
+    ensures number { result_map_both (λ n. pos n) (λ fault. fault) result ≡ whole_number (pos 0) (pos max) (view value.now) }
+    ensures within { IfOk result (λ n. n ≤ max) }
+{
+    Ok(whole_number(value, 0, i64::from(max))? as u32)
 }

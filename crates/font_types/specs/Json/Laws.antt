@@ -1,5 +1,5 @@
 -- That what is shown as JSON is read back.
-use Rattle.std.proofs.Common.{◌≡◌, ◌∙◌, sym, ap, ℕ, ◌-◌, ◌^◌, ◌≤◌, ℤ, pos, ◌≤ℤ◌, List, IsTrue, Option, Some, None, Result, Ok, Err, ◌&&◌, int_le, arith}
+use Rattle.std.proofs.Common.{◌≡◌, ◌∙◌, sym, ap, refl, negsuc, ℕ, ◌-◌, ◌^◌, ◌≤◌, ℤ, pos, ◌≤ℤ◌, List, IsTrue, Option, Some, None, Result, Ok, Err, ◌&&◌, int_le, arith}
 use Rattle.std.proofs.lemmas.Int.{ints}
 use Rattle.std.specs.Result.{result_map_both}
 use Rattle.serde_json.specs.Data.{Data, string, number}
@@ -40,3 +40,29 @@ fixed_round_trip w f bits_of of_bits back room x d result value shown read =
     let text : IsTextRead w f (shortest_text (bits_of x) f) (result_map_both bits_of (λ fault. fault) result) = rw shown at read in
     same_read bits_of of_bits back x result
     (text_reads_back w f (shortest_text (bits_of x) f) (bits_of x) _ (printed_reads w f (bits_of x) room (fits_bits-true w (bits_of x) value)) text)
+
+-- ---- whole numbers
+
+-- a number in the range is read as itself
+number_reads_back : (min max z : ℤ) → IsTrue (int_le min z && int_le z max) → whole_number min max (number (of_integer z)) ≡ Ok z
+number_reads_back min max (pos n) within = rw within refl
+number_reads_back min max (negsuc n) within = rw within refl
+
+-- a value whose number determines it
+pub number_round_trip : {T : Type 0} (number_of : T → ℤ) → ((x y : T) → number_of x ≡ number_of y → x ≡ y) → (min max : ℤ) (x : T) (d : Data) (result : Result T JsonFault)
+    → IsTrue (int_le min (number_of x) && int_le (number_of x) max) → d ≡ number (of_integer (number_of x))
+    → result_map_both number_of (λ fault. fault) result ≡ whole_number min max d → result ≡ Ok x
+number_round_trip number_of same min max x d (Ok y) within shown read =
+    let equal : result_map_both number_of (λ fault. fault) (Ok y) ≡ Ok (number_of x) = read ∙ rw shown (number_reads_back min max (number_of x) within) in
+    let numbers : number_of y ≡ number_of x = cc in
+    ap Ok (same y x numbers)
+number_round_trip number_of same min max x d (Err fault) within shown read =
+    let equal : result_map_both number_of (λ fault. fault) (Err fault) ≡ Ok (number_of x) = read ∙ rw shown (number_reads_back min max (number_of x) within) in
+    absurd (cc)
+
+-- the same of a number that is not signed
+pub natural_round_trip : {T : Type 0} (number_of : T → ℕ) → ((x y : T) → number_of x ≡ number_of y → x ≡ y) → (max : ℕ) (x : T) (d : Data) (result : Result T JsonFault)
+    → IsTrue (int_le (pos 0) (pos (number_of x)) && int_le (pos (number_of x)) (pos max)) → d ≡ number (of_integer (pos (number_of x)))
+    → result_map_both (λ y. pos (number_of y)) (λ fault. fault) result ≡ whole_number (pos 0) (pos max) d → result ≡ Ok x
+natural_round_trip number_of same max =
+    number_round_trip (λ y. pos (number_of y)) (λ x y equal. let numbers : number_of x ≡ number_of y = cc in same x y numbers) (pos 0) (pos max)

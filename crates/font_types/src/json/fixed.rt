@@ -7,14 +7,42 @@ ghost use Rattle.serde_json.specs.Data.{string};
 ghost use Rattle.serde_json.specs.Find.{as_str};
 ghost use Rattle.font_base.specs.Wrap.{fits_bits};
 ghost use Rattle.font_fixed.specs.Fixed.{fixed_bits, fixed_of, fixed_text};
+ghost use Rattle.font_fixed.specs.F2Dot14.{f2dot14_bits, f2dot14_of, f2dot14_text};
+ghost use Rattle.font_f26.specs.F26Dot6.{f26dot6_bits, f26dot6_of, f26dot6_text};
+ghost use Rattle.font_fixed.specs.F48Dot16.{f48dot16_bits, f48dot16_of, f48dot16_text};
+ghost use Rattle.font_fixed2.specs.F4Dot12.{f4dot12_bits, f4dot12_of, f4dot12_text};
+ghost use Rattle.font_fixed2.specs.F6Dot10.{f6dot10_bits, f6dot10_of, f6dot10_text};
 ghost use Rattle.font_types.specs.Json.{IsDecimalRead};
 ghost use Rattle.font_types.specs.Json.Laws.{fixed_round_trip};
 ghost use Rattle.font_types.specs.declared.json.JsonFault.TheVariants.{Memory};
 
 use super::{JsonFault, JsonScalar, text_of};
-use font_fixed::Fixed;
+use font_fixed::{F2Dot14, F26Dot6, F48Dot16, Fixed};
+use font_fixed2::{F4Dot12, F6Dot10};
 use serde_json::Value;
 use std::alloc::Global;
+
+impl JsonScalar for F2Dot14 {
+    ghost is_value = { λ x. fits_bits 16 (f2dot14_bits x) };
+
+    ghost shows = { λ x d. d ≡ string (f2dot14_text x) };
+
+    ghost refuses = { λ _ fault. fault ≡ Memory };
+
+    ghost reads = { λ d result. IsDecimalRead 16 14 (as_str d) (result_map_both f2dot14_bits (λ fault. fault) result) };
+
+    ghost read_back = { Ok };
+
+    ghost round_trip = { fixed_round_trip 16 14 f2dot14_bits f2dot14_of (λ _. refl) (lit≤ tt) };
+
+    fn to_json(self, alloc: Global) -> Result<Value, JsonFault> {
+        Ok(Value::String(format!(in alloc; "{self}")?))
+    }
+
+    fn from_json(value: &Value) -> Result<F2Dot14, JsonFault> {
+        Ok(F2Dot14::from_decimal(text_of(value)?)?)
+    }
+}
 
 impl JsonScalar for Fixed {
     ghost is_value = { λ x. fits_bits 32 (fixed_bits x) };
@@ -35,5 +63,93 @@ impl JsonScalar for Fixed {
 
     fn from_json(value: &Value) -> Result<Fixed, JsonFault> {
         Ok(Fixed::from_decimal(text_of(value)?)?)
+    }
+}
+
+impl JsonScalar for F26Dot6 {
+    ghost is_value = { λ x. fits_bits 32 (f26dot6_bits x) };
+
+    ghost shows = { λ x d. d ≡ string (f26dot6_text x) };
+
+    ghost refuses = { λ _ fault. fault ≡ Memory };
+
+    ghost reads = { λ d result. IsDecimalRead 32 6 (as_str d) (result_map_both f26dot6_bits (λ fault. fault) result) };
+
+    ghost read_back = { Ok };
+
+    ghost round_trip = { fixed_round_trip 32 6 f26dot6_bits f26dot6_of (λ _. refl) (lit≤ tt) };
+
+    fn to_json(self, alloc: Global) -> Result<Value, JsonFault> {
+        Ok(Value::String(format!(in alloc; "{self}")?))
+    }
+
+    fn from_json(value: &Value) -> Result<F26Dot6, JsonFault> {
+        Ok(F26Dot6::from_decimal(text_of(value)?)?)
+    }
+}
+
+impl JsonScalar for F48Dot16 {
+    ghost is_value = { λ x. fits_bits 64 (f48dot16_bits x) };
+
+    ghost shows = { λ x d. d ≡ string (f48dot16_text x) };
+
+    ghost refuses = { λ _ fault. fault ≡ Memory };
+
+    ghost reads = { λ d result. IsDecimalRead 64 16 (as_str d) (result_map_both f48dot16_bits (λ fault. fault) result) };
+
+    ghost read_back = { Ok };
+
+    ghost round_trip = { fixed_round_trip 64 16 f48dot16_bits f48dot16_of (λ _. refl) (lit≤ tt) };
+
+    fn to_json(self, alloc: Global) -> Result<Value, JsonFault> {
+        Ok(Value::String(format!(in alloc; "{self}")?))
+    }
+
+    fn from_json(value: &Value) -> Result<F48Dot16, JsonFault> {
+        Ok(F48Dot16::from_decimal(text_of(value)?)?)
+    }
+}
+
+impl JsonScalar for F4Dot12 {
+    ghost is_value = { λ x. fits_bits 16 (f4dot12_bits x) };
+
+    ghost shows = { λ x d. d ≡ string (f4dot12_text x) };
+
+    ghost refuses = { λ _ fault. fault ≡ Memory };
+
+    ghost reads = { λ d result. IsDecimalRead 16 12 (as_str d) (result_map_both f4dot12_bits (λ fault. fault) result) };
+
+    ghost read_back = { Ok };
+
+    ghost round_trip = { fixed_round_trip 16 12 f4dot12_bits f4dot12_of (λ _. refl) (lit≤ tt) };
+
+    fn to_json(self, alloc: Global) -> Result<Value, JsonFault> {
+        Ok(Value::String(format!(in alloc; "{self}")?))
+    }
+
+    fn from_json(value: &Value) -> Result<F4Dot12, JsonFault> {
+        Ok(F4Dot12::from_decimal(text_of(value)?)?)
+    }
+}
+
+impl JsonScalar for F6Dot10 {
+    ghost is_value = { λ x. fits_bits 16 (f6dot10_bits x) };
+
+    ghost shows = { λ x d. d ≡ string (f6dot10_text x) };
+
+    ghost refuses = { λ _ fault. fault ≡ Memory };
+
+    ghost reads = { λ d result. IsDecimalRead 16 10 (as_str d) (result_map_both f6dot10_bits (λ fault. fault) result) };
+
+    ghost read_back = { Ok };
+
+    ghost round_trip = { fixed_round_trip 16 10 f6dot10_bits f6dot10_of (λ _. refl) (lit≤ tt) };
+
+    fn to_json(self, alloc: Global) -> Result<Value, JsonFault> {
+        Ok(Value::String(format!(in alloc; "{self}")?))
+    }
+
+    fn from_json(value: &Value) -> Result<F6Dot10, JsonFault> {
+        Ok(F6Dot10::from_decimal(text_of(value)?)?)
     }
 }
