@@ -1,4 +1,5 @@
--- Name identifiers (OpenType, naming table: name IDs 0 to 25 are predefined, without 15; 26 to 255 are reserved for future names, 256 to 32767 for the font's own).
+-- Name identifiers.
+-- (OpenType, name IDs: 0 to 25 without 15 are predefined, those up to 255 are reserved for standard names, and 256 to 32767 are for the font's own)
 use Rattle.std.specs.Prelude.{ℕ, List, [], ◌∷◌, ◌++◌, ◌==◌, if◌then◌else◌, nat_le, map, filter}
 use Rattle.std.specs.Fmt.{decimal}
 use lib.Chars.{codes}
@@ -12,7 +13,7 @@ name_number id = id.0
 abbrev pub name_id_of : ℕ → NameId
 name_id_of number = record { 0 = number }
 
--- the predefined numbers, each with its name
+-- the predefined numbers, each with its name, which is that of the constant
 abbrev pub names : List (ℕ × List ℕ)
 names =
     (0, codes "COPYRIGHT_NOTICE") ∷ (1, codes "FAMILY_NAME") ∷ (2, codes "SUBFAMILY_NAME") ∷ (3, codes "UNIQUE_ID") ∷ (4, codes "FULL_NAME")

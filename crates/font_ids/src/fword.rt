@@ -1,16 +1,17 @@
 //! Quantities in font design units, of 16 bits.
 
-ghost use Rattle.std.specs.Prelude.{◌≡◌, ◌^◌, ◌*ℤ◌, pos, nat_lt, Some, refl};
+ghost use Rattle.std.specs.Prelude.{◌≡◌, ◌^◌, ◌+ℤ◌, ◌*ℤ◌, pos, nat_lt, Some, refl};
 ghost use Rattle.std.proofs.Common.{lit<};
 ghost use Rattle.std.specs.Fmt.{decimal, signed_decimal};
 ghost use Rattle.font_base.specs.Wrap.{fits_bits, wrap};
 ghost use Rattle.font_base.specs.Bytes.{IsBytesOf, bytes_of, numeral, signed_numeral};
 ghost use Rattle.font_base.specs.Scalar.Laws.{unsigned_newtype, unsigned_identity, signed_newtype, signed_identity};
+ghost use Rattle.font_fixed.specs.F48Dot16.{f48dot16_bits};
 ghost use Rattle.font_fixed.specs.Fixed.{fixed_bits};
 ghost use Rattle.font_ids.specs.FWord.{fword_number, fword_of, ufword_number, ufword_of};
 
 use font_base::{FixedSize, IdentityEq, Scalar};
-use font_fixed::Fixed;
+use font_fixed::{F48Dot16, Fixed};
 use std::fmt;
 
 /// A signed quantity in font design units.
@@ -36,14 +37,21 @@ impl FWord {
     pub fn to_fixed(self) -> Fixed
         ensures { fixed_bits result ≡ wrap 32 (fword_number self *ℤ pos (2 ^ 16)) }
     {
-        Fixed::from_i32(i32::from(self.0))
+        Fixed::from_i32(i32::from(self.to_i16()))
+    }
+
+    /// The number moved by a sum of deltas, exactly, in units of `2^-16`.
+    pub fn apply_delta(self, delta: F48Dot16) -> i128
+        ensures { result ≡ (fword_number self *ℤ pos 65536 +ℤ f48dot16_bits delta) }
+    {
+        i128::from(self.to_i16()) * 0x1_0000 + i128::from(delta.to_bits())
     }
 
     /// The two bytes in two's complement, highest first.
     pub fn to_be_bytes(self) -> [u8; 2]
         ensures { IsBytesOf 2 (fword_number self) result }
     {
-        self.to_raw()
+        FWord::to_raw(self)
     }
 }
 
@@ -93,7 +101,7 @@ impl Scalar for FWord {
     }
 
     fn to_raw(self) -> [u8; 2] {
-        self.0.to_raw()
+        i16::to_raw(self.0)
     }
 }
 
@@ -124,14 +132,21 @@ impl UfWord {
     pub fn to_fixed(self) -> Fixed
         ensures { fixed_bits result ≡ wrap 32 (pos (ufword_number self) *ℤ pos (2 ^ 16)) }
     {
-        Fixed::from_i32(i32::from(self.0))
+        Fixed::from_i32(i32::from(self.to_u16()))
+    }
+
+    /// The number moved by a sum of deltas, exactly, in units of `2^-16`.
+    pub fn apply_delta(self, delta: F48Dot16) -> i128
+        ensures { result ≡ (pos (ufword_number self) *ℤ pos 65536 +ℤ f48dot16_bits delta) }
+    {
+        i128::from(self.to_u16()) * 0x1_0000 + i128::from(delta.to_bits())
     }
 
     /// The two bytes, highest first.
     pub fn to_be_bytes(self) -> [u8; 2]
         ensures { IsBytesOf 2 (pos (ufword_number self)) result }
     {
-        self.to_raw()
+        UfWord::to_raw(self)
     }
 }
 
@@ -181,7 +196,7 @@ impl Scalar for UfWord {
     }
 
     fn to_raw(self) -> [u8; 2] {
-        self.0.to_raw()
+        u16::to_raw(self.0)
     }
 }
 

@@ -54,14 +54,14 @@ impl GlyphId16 {
     pub fn eq_gid(&self, other: &GlyphId) -> bool
         ensures { IsTrue result ↔ (glyph16_number self.now ≡ glyph_number other.now) }
     {
-        self.to_u32() == other.to_u32()
+        GlyphId::from(*self) == *other
     }
 
     /// The order of the two numbers.
     pub fn cmp_gid(&self, other: &GlyphId) -> Ordering
         ensures { result ≡ nat_cmp (glyph16_number self.now) (glyph_number other.now) }
     {
-        self.to_u32().cmp(&other.to_u32())
+        GlyphId::from(*self).cmp(other)
     }
 }
 
@@ -282,14 +282,14 @@ impl GlyphId {
     pub fn eq_gid16(&self, other: &GlyphId16) -> bool
         ensures { IsTrue result ↔ (glyph_number self.now ≡ glyph16_number other.now) }
     {
-        self.to_u32() == other.to_u32()
+        *self == GlyphId::from(*other)
     }
 
     /// The order of the two numbers.
     pub fn cmp_gid16(&self, other: &GlyphId16) -> Ordering
         ensures { result ≡ nat_cmp (glyph_number self.now) (glyph16_number other.now) }
     {
-        self.to_u32().cmp(&other.to_u32())
+        self.cmp(&GlyphId::from(*other))
     }
 }
 

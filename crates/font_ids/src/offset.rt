@@ -27,7 +27,7 @@ impl Offset16 {
     pub fn is_null(self) -> bool
         ensures { IsTrue result ↔ (offset16_number self ≡ 0) }
     {
-        self.0 == 0
+        self == Offset16::NULL
     }
 
     /// The number.
@@ -91,7 +91,7 @@ impl Offset24 {
     pub fn is_null(self) -> bool
         ensures { IsTrue result ↔ (offset24_number self ≡ 0) }
     {
-        self.to_u32() == 0
+        self == Offset24::NULL
     }
 
     /// The number.
@@ -155,7 +155,7 @@ impl Offset32 {
     pub fn is_null(self) -> bool
         ensures { IsTrue result ↔ (offset32_number self ≡ 0) }
     {
-        self.0 == 0
+        self == Offset32::NULL
     }
 
     /// The number.
@@ -325,6 +325,6 @@ impl<T: Scalar> Scalar for Nullable<T> {
     }
 
     fn to_raw(self) -> T::Raw {
-        self.0.to_raw()
+        T::to_raw(self.0)
     }
 }

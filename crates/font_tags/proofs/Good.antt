@@ -14,11 +14,11 @@ pub record GoodAt (bytes : List ℕ) (n : ℕ) : Type 0 where
   pub spaces : (i : ℕ) → n ≤ i → i < length bytes → get_or bytes i 0 ≡ 0x20
 
 -- the run and the spaces behind it, index by index
-run_reads : (bytes run : List ℕ) (spaces i : ℕ) → bytes ≡ run ++ replicate spaces 0x20 → i < length run → get_or bytes i 0 ≡ get_or run i 0
-run_reads bytes run spaces i whole below = rw whole (get_or_append_left run (replicate spaces 0x20) 0 i below)
+get_or-run : (bytes run : List ℕ) (spaces i : ℕ) → bytes ≡ run ++ replicate spaces 0x20 → i < length run → get_or bytes i 0 ≡ get_or run i 0
+get_or-run bytes run spaces i whole below = rw whole (get_or_append_left run (replicate spaces 0x20) 0 i below)
 
-space_reads : (bytes run : List ℕ) (spaces i : ℕ) → bytes ≡ run ++ replicate spaces 0x20 → length run ≤ i → i < length bytes → get_or bytes i 0 ≡ 0x20
-space_reads bytes run spaces i whole from below =
+get_or-space : (bytes run : List ℕ) (spaces i : ℕ) → bytes ≡ run ++ replicate spaces 0x20 → length run ≤ i → i < length bytes → get_or bytes i 0 ≡ 0x20
+get_or-space bytes run spaces i whole from below =
     let many = ap length whole ∙ length-append run (replicate spaces 0x20) in
     rw whole (get_or-append_right run (replicate spaces 0x20) (length run) i 0 refl from
     ∙ get_or-replicate spaces (i - length run) 0x20 0 (omega (arith, many, length-replicate {A = ℕ} spaces 0x20)))
@@ -46,8 +46,8 @@ at_good bytes good =
     record {
       nonempty = good.nonempty;
       within = omega (arith, total);
-      visible = λ i below. rw (run_reads bytes good.run good.spaces i good.whole below) (All-get_or IsVisible good.run i 0 below good.visible);
-      spaces = λ i from below. space_reads bytes good.run good.spaces i good.whole from below;
+      visible = λ i below. rw (get_or-run bytes good.run good.spaces i good.whole below) (All-get_or IsVisible good.run i 0 below good.visible);
+      spaces = λ i from below. get_or-space bytes good.run good.spaces i good.whole from below;
     }
 
 -- a nonempty front of good bytes is good

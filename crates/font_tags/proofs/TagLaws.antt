@@ -11,7 +11,7 @@ use Rattle.font_tags.specs.declared.tag.InvalidTag.{InvalidTag}
 use Rattle.font_tags.specs.declared.tag.InvalidTag.TheVariants.{InvalidLength, InvalidByte, ByteAfterSpace}
 use Rattle.font_tags.specs.Tag.{tag_bytes, tag_of, IsGood, IsChecked, IsValidated, byte_text, tag_text}
 use Rattle.font_tags.proofs.Good.{fault_not_good, spaces_not_good, filled_good}
-use Rattle.font_tags.proofs.TagText.{IsHidden, hidden_text}
+use Rattle.font_tags.proofs.TagText.{IsHidden, byte_text-hidden}
 
 -- ---- the judges
 
@@ -54,8 +54,8 @@ shown_or_hidden byte = elim (cases_lt byte 0x20) [
   | inr from ↦ elim (cases_lt 0x7E byte) [ inl above ↦ inr (inr above) | inr to ↦ inl (from, to) ]
 ]
 
-shown_text : (byte : ℕ) → IsShown byte → byte_text byte ≡ byte ∷ []
-shown_text byte shown = cond-true _ _ _ (and_from _ _ (le-leb 0x20 byte shown.0) (le-leb byte 0x7E shown.1))
+byte_text-shown : (byte : ℕ) → IsShown byte → byte_text byte ≡ byte ∷ []
+byte_text-shown byte shown = cond-true _ _ _ (and_from _ _ (le-leb 0x20 byte shown.0) (le-leb byte 0x7E shown.1))
 
 -- two hexadecimal digits are equal where their glyphs are, and neither is a brace
 glyph_is : (d : ℕ) → d < 16 → ((d < 10) × (digit_glyph true d ≡ 48 + d)) ⊎ ((10 ≤ d) × (digit_glyph true d ≡ 55 + d))
@@ -82,8 +82,8 @@ pub record TextBehind (bytes text : List ℕ) : Type 0 where
 behind : (bytes : List ℕ) (c : ℕ) (text : List ℕ) → c ≢ 123 → tag_text bytes ≡ c ∷ text → TextBehind bytes text
 behind [] c text plain is = absurd (cc)
 behind (byte ∷ bytes) c text plain is = elim (shown_or_hidden byte) [
-  | inl shown ↦ let whole = rw (shown_text byte shown) at is in record { rest = bytes; shown = cc; fewer = refl }
-  | inr hidden ↦ let whole = rw (hidden_text byte hidden) at is in absurd (plain (cc))
+  | inl shown ↦ let whole = rw (byte_text-shown byte shown) at is in record { rest = bytes; shown = cc; fewer = refl }
+  | inr hidden ↦ let whole = rw (byte_text-hidden byte hidden) at is in absurd (plain (cc))
 ]
 
 -- no three bytes are shown as the five characters behind the brace of a hidden byte, and more
@@ -99,7 +99,7 @@ too_few bytes high low text few small_high small_low is =
 -- a byte shown as it is, before so few bytes, is not what a hidden byte is shown as
 shown_not_hidden : (x y : ℕ) (xs ys : List ℕ) → IsShown x → IsHidden y → y < 256 → length xs ≤ 3 → tag_text (x ∷ xs) ≡ tag_text (y ∷ ys) → ⊥
 shown_not_hidden x y xs ys shown hidden small few same =
-    let whole = rw (shown_text x shown, hidden_text y hidden) at same in
+    let whole = rw (byte_text-shown x shown, byte_text-hidden y hidden) at same in
     too_few xs (y / 16) (y % 16) (tag_text ys) few (omega arith) (omega arith) (cc)
 
 -- so few bytes are told from one another by how they are shown
@@ -113,7 +113,7 @@ same_bytes (x ∷ xs) (y ∷ ys) few_x few_y many bytes_x bytes_y same =
     elim (shown_or_hidden x) [
       | inl shown_x ↦ elim (shown_or_hidden y) [
         | inl shown_y ↦
-            let whole = rw (shown_text x shown_x, shown_text y shown_y) at same in
+            let whole = rw (byte_text-shown x shown_x, byte_text-shown y shown_y) at same in
             let first : x ≡ y = cc in
             let others = rest (cc) in
             cc
@@ -124,7 +124,7 @@ same_bytes (x ∷ xs) (y ∷ ys) few_x few_y many bytes_x bytes_y same =
         | inr hidden_y ↦
             let small_x : x < 256 = bytes_x 0 in
             let small_y : y < 256 = bytes_y 0 in
-            let whole = rw (hidden_text x hidden_x, hidden_text y hidden_y) at same in
+            let whole = rw (byte_text-hidden x hidden_x, byte_text-hidden y hidden_y) at same in
             let high : x / 16 ≡ y / 16 = same_glyph (x / 16) (y / 16) (omega arith) (omega arith) (cc) in
             let low : x % 16 ≡ y % 16 = same_glyph (x % 16) (y % 16) (omega arith) (omega arith) (cc) in
             let first : x ≡ y = omega (arith, high, low) in

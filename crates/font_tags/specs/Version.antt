@@ -16,7 +16,7 @@ abbrev pub version_of : ℕ → Version16Dot16
 version_of bits = record { 0 = bits }
 
 -- the major number, which is the high half of the bits, and the minor number, which is the highest four bits of the low half
--- (OpenType, table version numbers: "the minor version is in the high four bits of the low-order 16 bits", as 0x00005000 for 0.5)
+-- (OpenType, table version numbers: 0x00005000 is version 0.5, and 0x00011000 is version 1.1)
 abbrev pub version_major : Version16Dot16 → ℕ
 version_major version = version_bits version / 65536
 

@@ -2,6 +2,7 @@
 
 use crate::{FWord, UfWord};
 use font_base::{BigEndian, FixedSize, Scalar};
+use font_fixed::F48Dot16;
 use std::test::Fail;
 
 #[test]
@@ -18,6 +19,20 @@ fn as_fixed(rt: HostRuntime) {
     }
     for (number, bits) in [(-32768, -2147483648), (-1, -65536), (100, 6553600)] {
         assert_eq!(rt; FWord::new(number).to_fixed().to_bits(), bits);
+    }
+}
+
+#[test]
+fn moved_by_deltas(rt: HostRuntime) {
+    for (number, bits, moved) in [
+        (100, 163840, 6717440),
+        (-100, -16384, -6569984),
+        (32767, i64::MAX, 9223372039002193919),
+    ] {
+        assert!(rt; FWord::new(number).apply_delta(F48Dot16::from_bits(bits)) == moved);
+    }
+    for (number, bits, moved) in [(1000, -98304, 65437696), (0, 0, 0), (65535, 0, 4294901760)] {
+        assert!(rt; UfWord::new(number).apply_delta(F48Dot16::from_bits(bits)) == moved);
     }
 }
 

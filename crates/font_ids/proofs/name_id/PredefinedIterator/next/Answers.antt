@@ -1,6 +1,6 @@
 use Rattle.std.proofs.Common.{◌≡◌, ◌≢◌, ◌⊎◌, inl, inr, ap, map, length, rules}
 use Rattle.font_ids.specs.NameId.{name_id_of}
-use Rattle.font_ids.proofs.Names.{next_step}
+use Rattle.font_ids.proofs.Names.{left_from-next}
 use Rattle.font_ids.proofs.name_id.PredefinedIterator.next.Goals as goal
 use Rattle.font_ids.proofs.name_id.PredefinedIterator.next.Goals.{then-self-eq15, else-self-eq15}
 
@@ -12,7 +12,7 @@ returns-clause-steps c =
       | then-self-eq15 w ↦ inl (w.if-self-eq15.true, ap (λ ids. ids.next) w.self-is)
       | else-self-eq15 w ↦ inr (w.if-self-eq15.false, ap (λ ids. ids.next) w.self-is)
     ] in
-    ap (λ numbers. map name_id_of numbers) (next_step n k reached c.if-self-gt25.false)
+    ap (λ numbers. map name_id_of numbers) (left_from-next n k reached c.if-self-gt25.false)
 
 pub returns-clause-goes : goal.returns-clause-goes
 returns-clause-goes c = let shorter = ap length (returns-clause-steps c) in search rules

@@ -1,6 +1,6 @@
 use Rattle.std.proofs.Common.{rules}
-use Rattle.font_tags.proofs.Written.{bytes_code}
+use Rattle.font_tags.proofs.Written.{bytes_of_are}
 use Rattle.font_tags.proofs.tag.Tag.from_u32.Goals as goal
 
 pub returns : goal.returns
-returns c = search (rules, bytes_code)
+returns c = search (rules, bytes_of_are)
