@@ -1,7 +1,7 @@
 -- Wrapping on the way changes nothing where the exact sum of rounded products fits 32 bits.
 use Rattle.std.proofs.Common.{◌≡◌, ◌∙◌, ap, ℤ, ◌+ℤ◌, lit<}
 use Rattle.font_base.specs.Wrap.{wrap, FitsBits}
-use Rattle.font_base.specs.Wrap.Laws.{wrap_fits}
+use Rattle.font_base.specs.Wrap.Laws.{wrap-fits}
 use Rattle.font_arithmetic.proofs.Group.{wrap-add_left, wrap-add_right}
 use Rattle.font_geom.specs.declared.matrix.Matrix.{Matrix}
 use Rattle.font_geom.specs.declared.point.Point.{Point}
@@ -18,10 +18,10 @@ wrapped-affine_form p x q y d =
     ap (λ n. wrapped_sum n d) (wrapped-linear_form p x q y) ∙ wrap-add_left 32 (linear_form ◌+ℤ◌ rounded_product p x q y) d (lit< tt)
 
 linear_fits : (p x q y : ℤ) → FitsBits 32 (linear_form ◌+ℤ◌ rounded_product p x q y) → linear_form wrapped_sum wrapped_product p x q y ≡ linear_form ◌+ℤ◌ rounded_product p x q y
-linear_fits p x q y fits = wrapped-linear_form p x q y ∙ wrap_fits 32 (linear_form ◌+ℤ◌ rounded_product p x q y) (lit< tt) fits
+linear_fits p x q y fits = wrapped-linear_form p x q y ∙ wrap-fits 32 (linear_form ◌+ℤ◌ rounded_product p x q y) (lit< tt) fits
 
 affine_fits : (p x q y d : ℤ) → FitsBits 32 (affine_form ◌+ℤ◌ rounded_product p x q y d) → affine_form wrapped_sum wrapped_product p x q y d ≡ affine_form ◌+ℤ◌ rounded_product p x q y d
-affine_fits p x q y d fits = wrapped-affine_form p x q y d ∙ wrap_fits 32 (affine_form ◌+ℤ◌ rounded_product p x q y d) (lit< tt) fits
+affine_fits p x q y d fits = wrapped-affine_form p x q y d ∙ wrap-fits 32 (affine_form ◌+ℤ◌ rounded_product p x q y d) (lit< tt) fits
 
 pub image_of_fits : (m : Matrix ℤ) (p : Point ℤ) → FitsPoint (image_of ◌+ℤ◌ rounded_product m p) → image_of wrapped_sum wrapped_product m p ≡ image_of ◌+ℤ◌ rounded_product m p
 image_of_fits m p fits = λ i. record {
