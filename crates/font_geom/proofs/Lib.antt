@@ -1,9 +1,10 @@
 pub mod RingMatrices
-pub mod Identity
-pub mod Integers
+mod Identity
+mod Integers
 pub mod Elements
-pub mod Cancel
-pub mod Close
-pub mod Bounds
+mod Cancel
+mod Close
+mod Bounds
 pub mod RingCalls
+pub mod Images
 pub mod FixedCalls

@@ -1,11 +1,14 @@
 -- JSON forms of scalars. All of it is the project's own rule, but for what JSON itself has: texts, numbers and objects.
 pub mod Laws
-use Rattle.std.specs.Prelude.{◌≡◌, ℕ, ℤ, ◌&&◌, int_le, if◌then◌else◌, List, Option, Some, None, option_and_then, Result, Ok, Err}
-use Rattle.serde_json.specs.Data.{Data}
-use Rattle.serde_json.specs.Find.{as_number, as_integer}
+use Rattle.std.specs.Prelude.{◌≡◌, ℕ, ℤ, ◌&&◌, int_le, if◌then◌else◌, List, Option, Some, None, option_and_then, is_some, pos, IsUtf8, Result, Ok, Err}
+use lib.Chars.{codes}
+use Rattle.serde_json.specs.Data.{Data, object, member, no_members, number, unsigned}
+use Rattle.serde_json.specs.Find.{as_number, as_integer, as_object, get}
 use Rattle.font_decimal.specs.Grammar.{IsNoDecimal}
 use Rattle.font_arithmetic.specs.Operations.{ReadsAs, IsTooFar}
 use Rattle.font_decimal.specs.declared.reader.DecimalFault.{DecimalFault}
+use Rattle.font_tags.specs.declared.tag.Tag.{Tag}
+use Rattle.font_tags.specs.Tag.{tag_bytes, IsGood, IsAcceptable, filled}
 use Rattle.font_types.specs.declared.json.JsonFault.{JsonFault}
 use Rattle.font_types.specs.declared.json.JsonFault.TheVariants.{Memory, WrongKind, OutOfRange, Syntax, NotUtf8, InvalidTag, MissingMember}
 
@@ -42,3 +45,60 @@ IsTextRead w f text (Err MissingMember) = ⊥
 abbrev pub IsDecimalRead : ℕ → ℕ → Option (List ℕ) → Result ℤ JsonFault → Type 0
 IsDecimalRead w f None result = result ≡ Err WrongKind
 IsDecimalRead w f (Some text) result = IsTextRead w f text result
+
+-- ---- tags
+
+-- how a tag is refused: where its bytes are no text, or where memory for the text is
+abbrev pub IsTagRefused : List ℕ → JsonFault → Type 0
+IsTagRefused bytes Memory = IsUtf8 bytes
+IsTagRefused bytes NotUtf8 = ¬ IsUtf8 bytes
+IsTagRefused bytes WrongKind = ⊥
+IsTagRefused bytes OutOfRange = ⊥
+IsTagRefused bytes Syntax = ⊥
+IsTagRefused bytes InvalidTag = ⊥
+IsTagRefused bytes MissingMember = ⊥
+
+-- what a text is read as: a tag where a tag can be made of its bytes
+abbrev pub IsTagMade : List ℕ → Result Tag JsonFault → Type 0
+IsTagMade text (Ok tag) = IsAcceptable text × (tag_bytes tag ≡ filled text)
+IsTagMade text (Err InvalidTag) = ¬ IsAcceptable text
+IsTagMade text (Err Memory) = ⊥
+IsTagMade text (Err WrongKind) = ⊥
+IsTagMade text (Err OutOfRange) = ⊥
+IsTagMade text (Err Syntax) = ⊥
+IsTagMade text (Err NotUtf8) = ⊥
+IsTagMade text (Err MissingMember) = ⊥
+
+-- the same of data that may be a text
+abbrev pub IsTagRead : Option (List ℕ) → Result Tag JsonFault → Type 0
+IsTagRead None result = result ≡ Err WrongKind
+IsTagRead (Some text) result = IsTagMade text result
+
+-- what the form of a tag is read as: the tag where it is good
+pub record TagComesBack (tag : Tag) (result : Result Tag JsonFault) : Type 0 where
+  pub good : IsGood (tag_bytes tag) → result ≡ Ok tag
+  pub other : ¬ IsGood (tag_bytes tag) → result ≡ Err InvalidTag
+
+-- ---- versions of two numbers
+
+-- the form of two numbers: an object of two members
+abbrev pub version_form : ℕ → ℕ → Data
+version_form major minor = object (member (codes "major") (number (unsigned major)) (member (codes "minor") (number (unsigned minor)) no_members))
+
+-- the number of 16 bits that a member is
+abbrev pub member_or_fault : Option Data → Result ℤ JsonFault
+member_or_fault None = Err MissingMember
+member_or_fault (Some d) = whole_number (pos 0) (pos 65535) d
+
+abbrev pub member_number : List ℕ → Data → Result ℤ JsonFault
+member_number name d = member_or_fault (get name d)
+
+-- both numbers, of which the first is judged first
+abbrev pub both_numbers : Result ℤ JsonFault → Result ℤ JsonFault → Result (ℤ × ℤ) JsonFault
+both_numbers (Err fault) second = Err fault
+both_numbers (Ok a) (Err fault) = Err fault
+both_numbers (Ok a) (Ok b) = Ok (a, b)
+
+-- the two numbers of an object, whose other members do not matter; any other data is the wrong kind
+abbrev pub version_read : Data → Result (ℤ × ℤ) JsonFault
+version_read d = if is_some (as_object d) then both_numbers (member_number (codes "major") d) (member_number (codes "minor") d) else Err WrongKind

@@ -1,6 +1,6 @@
 //! Scalars as JSON values.
 
-ghost use Rattle.std.specs.Prelude.{◌≡◌, Bool, IsTrue, Some, IfOk, IfErr, Option, Result, MatchResult, pos, List, None, ◌≤◌, ◌≤ℤ◌, ◌^◌};
+ghost use Rattle.std.specs.Prelude.{◌≡◌, Ok, Bool, IsTrue, Some, IfOk, IfErr, Option, Result, MatchResult, pos, List, None, ◌≤◌, ◌≤ℤ◌, ◌^◌};
 ghost use Rattle.std.specs.Result.{result_map_both};
 ghost use Rattle.serde_json.specs.Data.{Data};
 ghost use Rattle.serde_json.specs.Find.{as_str};
@@ -11,6 +11,8 @@ ghost use Rattle.font_types.specs.declared.json.JsonFault.TheVariants.{Memory};
 
 mod fixed;
 mod number;
+mod tag;
+mod version;
 
 use font_decimal::DecimalFault;
 use serde_json::Value;
@@ -81,7 +83,7 @@ pub trait JsonScalar: Sized {
     ghost reads: { Data → Result Self JsonFault → Type 0 };
 
     // what the form of a value is read as: the value, but for a tag that is not good
-    ghost read_back: { Self → Result Self JsonFault };
+    ghost comes_back: { Self → Result Self JsonFault → Type 0 } = { λ v result. result ≡ Ok v };
 
     /// The JSON form of the value.
     fn to_json(self, alloc: Global) -> Result<Value, JsonFault>
@@ -94,7 +96,7 @@ pub trait JsonScalar: Sized {
         ensures { reads (view value.now) result };
 
     // What is shown is read back.
-    ghost round_trip: { (v : Self) (d : Data) (result : Result Self JsonFault) → IsTrue (is_value v) → shows v d → reads d result → result ≡ read_back v };
+    ghost round_trip: { (v : Self) (d : Data) (result : Result Self JsonFault) → IsTrue (is_value v) → shows v d → reads d result → comes_back v result };
 }
 
 // The text that a value is, if it is one.

@@ -1,5 +1,5 @@
 -- That what is shown as JSON is read back.
-use Rattle.std.proofs.Common.{◌≡◌, ◌∙◌, sym, ap, refl, negsuc, ℕ, ◌-◌, ◌^◌, ◌≤◌, ℤ, pos, ◌≤ℤ◌, List, IsTrue, Option, Some, None, Result, Ok, Err, ◌&&◌, int_le, arith}
+use Rattle.std.proofs.Common.{◌≡◌, ◌∙◌, sym, ap, refl, negsuc, ℕ, ◌-◌, ◌^◌, ◌≤◌, ℤ, pos, ◌≤ℤ◌, List, ◌++◌, length, replicate, true, nat_lt, IsUtf8, IsTrue, Option, Some, None, Result, Ok, Err, ◌&&◌, int_le, arith}
 use Rattle.std.proofs.lemmas.Int.{ints}
 use Rattle.std.specs.Result.{result_map_both}
 use Rattle.serde_json.specs.Data.{Data, string, number}
@@ -12,7 +12,16 @@ use Rattle.font_arithmetic.specs.Operations.{ReadsAs, least, greatest}
 use Rattle.font_arithmetic.proofs.Group.{printed_reads}
 use Rattle.font_types.specs.declared.json.JsonFault.{JsonFault}
 use Rattle.font_types.specs.declared.json.JsonFault.TheVariants.{Memory, WrongKind, OutOfRange, Syntax, NotUtf8, InvalidTag, MissingMember}
-use Rattle.font_types.specs.Json.{IsTextRead, IsDecimalRead, whole_number}
+use Rattle.font_types.specs.Json.{IsTextRead, IsDecimalRead, whole_number, IsTagMade, IsTagRead, TagComesBack, version_form, version_read}
+use Rattle.std.specs.Cmp.{first_so, second_so}
+use Rattle.std.specs.Cmp.Derive.{both_true}
+use Rattle.std.proofs.lemmas.Bool.{ltb-true}
+use Rattle.std.proofs.lemmas.List.{append-nil}
+use Rattle.font_base.specs.Bytes.{are_bytes}
+use Rattle.font_base.specs.Bytes.Laws.{are_bytes-length}
+use Rattle.font_tags.specs.declared.tag.Tag.{Tag}
+use Rattle.font_tags.specs.declared.version.MajorMinor.{MajorMinor}
+use Rattle.font_tags.specs.Tag.{tag_bytes, tag_of, filled}
 use Rattle.font_decimal.proofs.Readings.{not_outside}
 
 -- a printed number is read as itself
@@ -66,3 +75,57 @@ pub natural_round_trip : {T : Type 0} (number_of : T → ℕ) → ((x y : T) →
     → result_map_both (λ y. pos (number_of y)) (λ fault. fault) result ≡ whole_number (pos 0) (pos max) d → result ≡ Ok x
 natural_round_trip number_of same max =
     number_round_trip (λ y. pos (number_of y)) (λ x y equal. let numbers : number_of x ≡ number_of y = cc in same x y numbers) (pos 0) (pos max)
+
+-- ---- tags
+
+-- four bytes need no filling
+unfilled : (bytes : List ℕ) → length bytes ≡ 4 → filled bytes ≡ bytes
+unfilled bytes many = let none : 4 - length bytes ≡ 0 = omega (arith, many) in ap (λ n. bytes ++ replicate n 0x20) none ∙ append-nil
+
+pub tag_round_trip : (tag : Tag) (d : Data) (result : Result Tag JsonFault) → IsTrue (are_bytes 4 (tag_bytes tag)) → (IsUtf8 (tag_bytes tag) × (d ≡ string (tag_bytes tag)))
+    → IsTagRead (as_str d) result → TagComesBack tag result
+tag_round_trip tag d result value shown read =
+    let many = are_bytes-length 4 (tag_bytes tag) value in
+    let text : IsTagMade (tag_bytes tag) result = rw shown.1 at read in
+    came_back tag result many text
+  where
+    came_back : (tag : Tag) (result : Result Tag JsonFault) → length (tag_bytes tag) ≡ 4 → IsTagMade (tag_bytes tag) result → TagComesBack tag result
+    came_back tag (Ok other) many made = record {
+      good = λ _. ap Ok (ap tag_of (made.1 ∙ unfilled (tag_bytes tag) many));
+      other = λ bad. absurd (bad made.0.1);
+    }
+    came_back tag (Err InvalidTag) many made = record {
+      good = λ good. absurd (made ((omega (arith, many), omega (arith, many)), good));
+      other = λ _. refl;
+    }
+    came_back tag (Err Memory) many made = absurd made
+    came_back tag (Err WrongKind) many made = absurd made
+    came_back tag (Err OutOfRange) many made = absurd made
+    came_back tag (Err Syntax) many made = absurd made
+    came_back tag (Err NotUtf8) many made = absurd made
+    came_back tag (Err MissingMember) many made = absurd made
+
+-- ---- versions of two numbers
+
+sixteen_bits : (n : ℕ) → IsTrue (nat_lt n (2 ^ 16)) → IsTrue (int_le (pos 0) (pos n) && int_le (pos n) (pos 65535))
+sixteen_bits n test =
+    let below = ltb-true n (2 ^ 16) test in
+    let low : true ≡ int_le (pos 0) (pos n) = omega (arith, ints) in
+    let high : true ≡ int_le (pos n) (pos 65535) = omega (arith, ints, below) in
+    both_true (sym low) (sym high)
+
+pub version_round_trip : (version : MajorMinor) (d : Data) (result : Result MajorMinor JsonFault) → IsTrue (nat_lt version.major (2 ^ 16) && nat_lt version.minor (2 ^ 16))
+    → d ≡ version_form version.major version.minor
+    → result_map_both (λ v. (pos v.major, pos v.minor)) (λ fault. fault) result ≡ version_read d → result ≡ Ok version
+version_round_trip version d result value shown read =
+    let first = sixteen_bits version.major (first_so (nat_lt version.major (2 ^ 16)) (nat_lt version.minor (2 ^ 16)) value) in
+    let second = sixteen_bits version.minor (second_so (nat_lt version.major (2 ^ 16)) (nat_lt version.minor (2 ^ 16)) value) in
+    came_back version result (read ∙ rw shown (rw (first, second) refl))
+  where
+    came_back : (version : MajorMinor) (result : Result MajorMinor JsonFault)
+        → result_map_both (λ v. (pos v.major, pos v.minor)) (λ fault. fault) result ≡ Ok (pos version.major, pos version.minor) → result ≡ Ok version
+    came_back version (Ok other) same =
+        let major : other.major ≡ version.major = cc in
+        let minor : other.minor ≡ version.minor = cc in
+        ap Ok (λ i. record { major = major i; minor = minor i })
+    came_back version (Err fault) same = absurd (cc)

@@ -31,8 +31,6 @@ impl JsonScalar for F2Dot14 {
 
     ghost reads = { λ d result. IsDecimalRead 16 14 (as_str d) (result_map_both f2dot14_bits (λ fault. fault) result) };
 
-    ghost read_back = { Ok };
-
     ghost round_trip = { fixed_round_trip 16 14 f2dot14_bits f2dot14_of (λ _. refl) (lit≤ tt) };
 
     fn to_json(self, alloc: Global) -> Result<Value, JsonFault> {
@@ -52,8 +50,6 @@ impl JsonScalar for Fixed {
     ghost refuses = { λ _ fault. fault ≡ Memory };
 
     ghost reads = { λ d result. IsDecimalRead 32 16 (as_str d) (result_map_both fixed_bits (λ fault. fault) result) };
-
-    ghost read_back = { Ok };
 
     ghost round_trip = { fixed_round_trip 32 16 fixed_bits fixed_of (λ _. refl) (lit≤ tt) };
 
@@ -75,8 +71,6 @@ impl JsonScalar for F26Dot6 {
 
     ghost reads = { λ d result. IsDecimalRead 32 6 (as_str d) (result_map_both f26dot6_bits (λ fault. fault) result) };
 
-    ghost read_back = { Ok };
-
     ghost round_trip = { fixed_round_trip 32 6 f26dot6_bits f26dot6_of (λ _. refl) (lit≤ tt) };
 
     fn to_json(self, alloc: Global) -> Result<Value, JsonFault> {
@@ -96,8 +90,6 @@ impl JsonScalar for F48Dot16 {
     ghost refuses = { λ _ fault. fault ≡ Memory };
 
     ghost reads = { λ d result. IsDecimalRead 64 16 (as_str d) (result_map_both f48dot16_bits (λ fault. fault) result) };
-
-    ghost read_back = { Ok };
 
     ghost round_trip = { fixed_round_trip 64 16 f48dot16_bits f48dot16_of (λ _. refl) (lit≤ tt) };
 
@@ -119,8 +111,6 @@ impl JsonScalar for F4Dot12 {
 
     ghost reads = { λ d result. IsDecimalRead 16 12 (as_str d) (result_map_both f4dot12_bits (λ fault. fault) result) };
 
-    ghost read_back = { Ok };
-
     ghost round_trip = { fixed_round_trip 16 12 f4dot12_bits f4dot12_of (λ _. refl) (lit≤ tt) };
 
     fn to_json(self, alloc: Global) -> Result<Value, JsonFault> {
@@ -140,8 +130,6 @@ impl JsonScalar for F6Dot10 {
     ghost refuses = { λ _ fault. fault ≡ Memory };
 
     ghost reads = { λ d result. IsDecimalRead 16 10 (as_str d) (result_map_both f6dot10_bits (λ fault. fault) result) };
-
-    ghost read_back = { Ok };
 
     ghost round_trip = { fixed_round_trip 16 10 f6dot10_bits f6dot10_of (λ _. refl) (lit≤ tt) };
 

@@ -36,8 +36,6 @@ impl JsonScalar for Uint24 {
 
     ghost reads = { λ d result. result_map_both (λ x. pos (uint24_number x)) (λ fault. fault) result ≡ whole_number (pos 0) (pos 16777215) d };
 
-    ghost read_back = { Ok };
-
     ghost round_trip = { natural_round_trip uint24_number same_uint24 16777215 };
 
     fn to_json(self, _alloc: Global) -> Result<Value, JsonFault> {
@@ -57,8 +55,6 @@ impl JsonScalar for Int24 {
     ghost refuses = { λ _ _. ⊥ };
 
     ghost reads = { λ d result. result_map_both int24_number (λ fault. fault) result ≡ whole_number (neg_ℤ (pos 8388608)) (pos 8388607) d };
-
-    ghost read_back = { Ok };
 
     ghost round_trip = { number_round_trip int24_number same_int24 (neg_ℤ (pos 8388608)) (pos 8388607) };
 
@@ -80,8 +76,6 @@ impl JsonScalar for FWord {
 
     ghost reads = { λ d result. result_map_both fword_number (λ fault. fault) result ≡ whole_number (neg_ℤ (pos 32768)) (pos 32767) d };
 
-    ghost read_back = { Ok };
-
     ghost round_trip = { number_round_trip fword_number (λ _ _ same. ap fword_of same) (neg_ℤ (pos 32768)) (pos 32767) };
 
     fn to_json(self, _alloc: Global) -> Result<Value, JsonFault> {
@@ -101,8 +95,6 @@ impl JsonScalar for UfWord {
     ghost refuses = { λ _ _. ⊥ };
 
     ghost reads = { λ d result. result_map_both (λ x. pos (ufword_number x)) (λ fault. fault) result ≡ whole_number (pos 0) (pos 65535) d };
-
-    ghost read_back = { Ok };
 
     ghost round_trip = { natural_round_trip ufword_number (λ _ _ same. ap ufword_of same) 65535 };
 
@@ -124,8 +116,6 @@ impl JsonScalar for GlyphId16 {
 
     ghost reads = { λ d result. result_map_both (λ x. pos (glyph16_number x)) (λ fault. fault) result ≡ whole_number (pos 0) (pos 65535) d };
 
-    ghost read_back = { Ok };
-
     ghost round_trip = { natural_round_trip glyph16_number (λ _ _ same. ap glyph16_of same) 65535 };
 
     fn to_json(self, _alloc: Global) -> Result<Value, JsonFault> {
@@ -145,8 +135,6 @@ impl JsonScalar for GlyphId24 {
     ghost refuses = { λ _ _. ⊥ };
 
     ghost reads = { λ d result. result_map_both (λ x. pos (glyph24_number x)) (λ fault. fault) result ≡ whole_number (pos 0) (pos 16777215) d };
-
-    ghost read_back = { Ok };
 
     ghost round_trip = { natural_round_trip glyph24_number (λ x y same. ap glyph24_of (same_uint24 x.0 y.0 same)) 16777215 };
 
@@ -168,8 +156,6 @@ impl JsonScalar for GlyphId {
 
     ghost reads = { λ d result. result_map_both (λ x. pos (glyph_number x)) (λ fault. fault) result ≡ whole_number (pos 0) (pos 4294967295) d };
 
-    ghost read_back = { Ok };
-
     ghost round_trip = { natural_round_trip glyph_number (λ _ _ same. ap (λ n. record { 0 = n }) same) 4294967295 };
 
     fn to_json(self, _alloc: Global) -> Result<Value, JsonFault> {
@@ -189,8 +175,6 @@ impl JsonScalar for LongDateTime {
     ghost refuses = { λ _ _. ⊥ };
 
     ghost reads = { λ d result. result_map_both date_seconds (λ fault. fault) result ≡ whole_number (neg_ℤ (pos 9223372036854775808)) (pos 9223372036854775807) d };
-
-    ghost read_back = { Ok };
 
     ghost round_trip = { number_round_trip date_seconds (λ _ _ same. ap date_of same) (neg_ℤ (pos 9223372036854775808)) (pos 9223372036854775807) };
 
@@ -212,8 +196,6 @@ impl JsonScalar for NameId {
 
     ghost reads = { λ d result. result_map_both (λ x. pos (name_number x)) (λ fault. fault) result ≡ whole_number (pos 0) (pos 65535) d };
 
-    ghost read_back = { Ok };
-
     ghost round_trip = { natural_round_trip name_number (λ _ _ same. ap name_id_of same) 65535 };
 
     fn to_json(self, _alloc: Global) -> Result<Value, JsonFault> {
@@ -233,8 +215,6 @@ impl JsonScalar for Offset16 {
     ghost refuses = { λ _ _. ⊥ };
 
     ghost reads = { λ d result. result_map_both (λ x. pos (offset16_number x)) (λ fault. fault) result ≡ whole_number (pos 0) (pos 65535) d };
-
-    ghost read_back = { Ok };
 
     ghost round_trip = { natural_round_trip offset16_number (λ _ _ same. ap offset16_of same) 65535 };
 
@@ -256,8 +236,6 @@ impl JsonScalar for Offset24 {
 
     ghost reads = { λ d result. result_map_both (λ x. pos (offset24_number x)) (λ fault. fault) result ≡ whole_number (pos 0) (pos 16777215) d };
 
-    ghost read_back = { Ok };
-
     ghost round_trip = { natural_round_trip offset24_number (λ x y same. ap offset24_of (same_uint24 x.0 y.0 same)) 16777215 };
 
     fn to_json(self, _alloc: Global) -> Result<Value, JsonFault> {
@@ -277,8 +255,6 @@ impl JsonScalar for Offset32 {
     ghost refuses = { λ _ _. ⊥ };
 
     ghost reads = { λ d result. result_map_both (λ x. pos (offset32_number x)) (λ fault. fault) result ≡ whole_number (pos 0) (pos 4294967295) d };
-
-    ghost read_back = { Ok };
 
     ghost round_trip = { natural_round_trip offset32_number (λ _ _ same. ap offset32_of same) 4294967295 };
 
@@ -300,8 +276,6 @@ impl JsonScalar for Version16Dot16 {
     ghost refuses = { λ _ _. ⊥ };
 
     ghost reads = { λ d result. result_map_both (λ x. pos (version_bits x)) (λ fault. fault) result ≡ whole_number (pos 0) (pos 4294967295) d };
-
-    ghost read_back = { Ok };
 
     ghost round_trip = { natural_round_trip version_bits (λ _ _ same. ap version_of same) 4294967295 };
 

@@ -1,0 +1,44 @@
+//! Tags as texts of their four bytes.
+
+ghost use Rattle.std.specs.Prelude.{◌≡◌, IsUtf8};
+ghost use Rattle.serde_json.specs.Data.{string};
+ghost use Rattle.serde_json.specs.Find.{as_str};
+ghost use Rattle.font_base.specs.Bytes.{are_bytes};
+ghost use Rattle.font_tags.specs.Tag.{tag_bytes};
+ghost use Rattle.font_types.specs.Json.{IsTagRefused, IsTagRead, TagComesBack};
+ghost use Rattle.font_types.specs.Json.Laws.{tag_round_trip};
+
+use super::{JsonFault, JsonScalar, text_of};
+use font_base::Scalar;
+use font_ids::Tag;
+use serde_json::Value;
+use std::alloc::Global;
+
+impl JsonScalar for Tag {
+    ghost is_value = { λ tag. are_bytes 4 (tag_bytes tag) };
+
+    ghost shows = { λ tag d. IsUtf8 (tag_bytes tag) × (d ≡ string (tag_bytes tag)) };
+
+    ghost refuses = { λ tag fault. IsTagRefused (tag_bytes tag) fault };
+
+    ghost reads = { λ d result. IsTagRead (as_str d) result };
+
+    ghost comes_back = { TagComesBack };
+
+    ghost round_trip = { tag_round_trip };
+
+    fn to_json(self, alloc: Global) -> Result<Value, JsonFault> {
+        let bytes = self.to_raw();
+        let Ok(text) = str::from_utf8(&bytes) else {
+            return Err(JsonFault::NotUtf8);
+        };
+        Ok(Value::String(String::from_str(alloc, text)?))
+    }
+
+    fn from_json(value: &Value) -> Result<Tag, JsonFault> {
+        match Tag::new_checked(text_of(value)?.as_bytes()) {
+            Ok(tag) => Ok(tag),
+            Err(_) => Err(JsonFault::InvalidTag),
+        }
+    }
+}

@@ -1,0 +1,47 @@
+//! Versions of two numbers as objects.
+
+ghost use Rattle.std.specs.Prelude.{◌≡◌, ◌^◌, ◌&&◌, nat_lt, pos};
+ghost use Rattle.std.specs.Result.{result_map_both};
+ghost use Rattle.serde_json.specs.View.{view};
+ghost use Rattle.font_types.specs.Json.{version_form, version_read, member_number};
+ghost use Rattle.font_types.specs.Json.Laws.{version_round_trip};
+ghost use Rattle.font_types.specs.declared.json.JsonFault.TheVariants.{Memory};
+
+use super::{JsonFault, JsonScalar, natural};
+use font_ids::MajorMinor;
+use serde_json::{Value, json};
+use std::alloc::Global;
+
+impl JsonScalar for MajorMinor {
+    ghost is_value = { λ version. nat_lt version.major (2 ^ 16) && nat_lt version.minor (2 ^ 16) };
+
+    ghost shows = { λ version d. d ≡ version_form version.major version.minor };
+
+    ghost refuses = { λ _ fault. fault ≡ Memory };
+
+    ghost reads = { λ d result. result_map_both (λ version. (pos version.major, pos version.minor)) (λ fault. fault) result ≡ version_read d };
+
+    ghost round_trip = { version_round_trip };
+
+    fn to_json(self, alloc: Global) -> Result<Value, JsonFault> {
+        let MajorMinor { major, minor } = self;
+        Ok(json!(in alloc; { "major": major, "minor": minor })?)
+    }
+
+    fn from_json(value: &Value) -> Result<MajorMinor, JsonFault> {
+        if !value.is_object() {
+            return Err(JsonFault::WrongKind);
+        }
+        let major = member(value, "major")?;
+        let minor = member(value, "minor")?;
+        Ok(MajorMinor { major, minor })
+    }
+}
+
+// The number of 16 bits that a member is.
+fn member(value: &Value, name: &str) -> Result<u16, JsonFault>
+    ensures { result_map_both (λ n. pos n) (λ fault. fault) result ≡ member_number name.now (view value.now) }
+{
+    let number = value.get(name).ok_or(JsonFault::MissingMember)?;
+    Ok(natural(number, 0xFFFF)? as u16)
+}
