@@ -80,7 +80,7 @@ natural_round_trip number_of same max =
 
 -- four bytes need no filling
 unfilled : (bytes : List ℕ) → length bytes ≡ 4 → filled bytes ≡ bytes
-unfilled bytes many = let none : 4 - length bytes ≡ 0 = omega (arith, many) in ap (λ n. bytes ++ replicate n 0x20) none ∙ append-nil
+unfilled bytes many = let none : 4 - length bytes ≡ 0 = omega (arith, many) in ap (λ n. bytes ++ replicate n 0x20) none ∙ append-nil bytes
 
 pub tag_round_trip : (tag : Tag) (d : Data) (result : Result Tag JsonFault) → IsTrue (are_bytes 4 (tag_bytes tag)) → (IsUtf8 (tag_bytes tag) × (d ≡ string (tag_bytes tag)))
     → IsTagRead (as_str d) result → TagComesBack tag result
@@ -116,15 +116,22 @@ sixteen_bits n test =
 
 pub version_round_trip : (version : MajorMinor) (d : Data) (result : Result MajorMinor JsonFault) → IsTrue (nat_lt version.major (2 ^ 16) && nat_lt version.minor (2 ^ 16))
     → d ≡ version_form version.major version.minor
-    → result_map_both (λ v. (pos v.major, pos v.minor)) (λ fault. fault) result ≡ version_read d → result ≡ Ok version
+    → result_map_both {U = ℤ × ℤ} (λ v. (pos v.major, pos v.minor)) (λ fault. fault) result ≡ version_read d → result ≡ Ok version
 version_round_trip version d result value shown read =
     let first = sixteen_bits version.major (first_so (nat_lt version.major (2 ^ 16)) (nat_lt version.minor (2 ^ 16)) value) in
     let second = sixteen_bits version.minor (second_so (nat_lt version.major (2 ^ 16)) (nat_lt version.minor (2 ^ 16)) value) in
-    came_back version result (read ∙ rw shown (rw (first, second) refl))
+    let numbers : Result (ℤ × ℤ) JsonFault = Ok (pos version.major, pos version.minor) in
+    let form : version_read (version_form version.major version.minor) ≡ numbers = rw (first, second) refl in
+    came_back version result (read ∙ ap version_read shown ∙ form)
   where
     came_back : (version : MajorMinor) (result : Result MajorMinor JsonFault)
-        → result_map_both (λ v. (pos v.major, pos v.minor)) (λ fault. fault) result ≡ Ok (pos version.major, pos version.minor) → result ≡ Ok version
+        → result_map_both {U = ℤ × ℤ} (λ v. (pos v.major, pos v.minor)) (λ fault. fault) result ≡ Ok (pos version.major, pos version.minor) → result ≡ Ok version
     came_back version (Ok other) same =
+        let read : ℤ × ℤ = (pos other.major, pos other.minor) in
+        let shown : ℤ × ℤ = (pos version.major, pos version.minor) in
+        let pair : read ≡ shown = cc in
+        let first : pos other.major ≡ pos version.major = ap (λ (p : ℤ × ℤ). p.0) pair in
+        let second : pos other.minor ≡ pos version.minor = ap (λ (p : ℤ × ℤ). p.1) pair in
         let major : other.major ≡ version.major = cc in
         let minor : other.minor ≡ version.minor = cc in
         ap Ok (λ i. record { major = major i; minor = minor i })
