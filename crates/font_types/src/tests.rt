@@ -1,0 +1,8 @@
+//! JSON forms, sums and what users name, by values from the definitions and from the original crate.
+
+mod calling;
+mod deltas;
+mod fixed;
+mod numbers;
+mod refused;
+mod tags;

@@ -1,0 +1,31 @@
+//! The faults in words and numbers.
+
+use crate::JsonFault;
+use std::test::Fail;
+
+#[test]
+fn faults_in_words(rt: HostRuntime) -> Result<(), Fail> {
+    for (fault, text) in [
+        (JsonFault::Memory, "out of memory Memory"),
+        (JsonFault::WrongKind, "wrong kind of value WrongKind"),
+        (JsonFault::OutOfRange, "number out of range OutOfRange"),
+        (JsonFault::Syntax, "not a decimal number Syntax"),
+        (JsonFault::NotUtf8, "tag is not UTF-8 NotUtf8"),
+        (JsonFault::InvalidTag, "invalid tag InvalidTag"),
+        (JsonFault::MissingMember, "missing member MissingMember"),
+    ] {
+        assert_eq!(rt; format!(in rt.alloc(); "{fault} {fault:?}")?.as_str(), text);
+    }
+    Ok(())
+}
+
+#[test]
+fn faults_in_numbers(rt: HostRuntime) {
+    assert!(rt;
+        JsonFault::Memory as u8 == 1
+            && JsonFault::WrongKind as u8 == 2
+            && JsonFault::OutOfRange as u8 == 3
+    );
+    assert!(rt; JsonFault::Syntax as u8 == 4 && JsonFault::NotUtf8 as u8 == 5);
+    assert!(rt; JsonFault::InvalidTag as u8 == 6 && JsonFault::MissingMember as u8 == 7);
+}

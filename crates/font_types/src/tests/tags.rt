@@ -1,0 +1,75 @@
+//! Tags as texts, and versions as objects.
+
+use crate::laws::round_trip;
+use crate::{JsonFault, JsonScalar, MajorMinor, Tag};
+use serde_json::{Value, json};
+use std::test::Fail;
+
+#[test]
+fn tags(rt: HostRuntime) -> Result<(), Fail> {
+    let alloc = rt.alloc();
+    for (bytes, text) in [(b"head", "head"), (b"cvt ", "cvt ")] {
+        let tag = Tag::new(bytes);
+        let value = tag.to_json(alloc)?;
+        assert!(rt; value.as_str() == Some(text));
+        assert!(rt; Tag::from_json(&value) == Ok(tag));
+    }
+    assert!(rt; Tag::from_json(&json!(in alloc; "ab")?) == Ok(Tag::new(b"ab  ")));
+    Ok(())
+}
+
+#[test]
+fn texts_that_are_no_tag(rt: HostRuntime) -> Result<(), Fail> {
+    let alloc = rt.alloc();
+    for text in ["", "abcde", "b cc", "\u{7F}abc"] {
+        let value = Value::String(String::from_str(alloc, text)?);
+        assert!(rt;
+            Tag::from_json(&value) == Err(JsonFault::InvalidTag),
+            "{text}"
+        );
+    }
+    assert!(rt; Tag::from_json(&json!(in alloc; 1)?) == Err(JsonFault::WrongKind));
+    Ok(())
+}
+
+#[test]
+fn tags_that_are_no_text_and_no_tag(rt: HostRuntime) -> Result<(), Fail> {
+    let alloc = rt.alloc();
+    let no_text = Tag::new(&[0x03, 0xF4, 0x00, 0xDD]);
+    assert!(rt; matches!(no_text.to_json(alloc), Err(JsonFault::NotUtf8)));
+    let no_tag = Tag::new(&[0x19, 0x7A, 0x40, 0x7F]);
+    assert!(rt; round_trip(no_tag, alloc)? == Err(JsonFault::InvalidTag));
+    assert!(rt; round_trip(Tag::new(b"glyf"), alloc)? == Ok(Tag::new(b"glyf")));
+    Ok(())
+}
+
+#[test]
+fn versions(rt: HostRuntime) -> Result<(), Fail> {
+    let alloc = rt.alloc();
+    let version = MajorMinor::new(10, 5);
+    let value = version.to_json(alloc)?;
+    assert_eq!(rt;
+        value.to_string(alloc)?.as_str(),
+        "{\"major\":10,\"minor\":5}"
+    );
+    assert!(rt; MajorMinor::from_json(&value) == Ok(version));
+    Ok(())
+}
+
+#[test]
+fn objects_that_are_no_version(rt: HostRuntime) -> Result<(), Fail> {
+    let alloc = rt.alloc();
+    for (text, fault) in [
+        ("[1,0]", JsonFault::WrongKind),
+        ("{\"major\":10}", JsonFault::MissingMember),
+        ("{\"minor\":5}", JsonFault::MissingMember),
+        ("{\"minor\":70000,\"major\":\"x\"}", JsonFault::WrongKind),
+        ("{\"minor\":70000,\"major\":1}", JsonFault::OutOfRange),
+    ] {
+        let value = Value::from_str(alloc, text)?;
+        assert!(rt; MajorMinor::from_json(&value) == Err(fault), "{text}");
+    }
+    let more = Value::from_str(alloc, "{\"name\":null,\"minor\":2,\"major\":1}")?;
+    assert!(rt; MajorMinor::from_json(&more) == Ok(MajorMinor::VERSION_1_2));
+    Ok(())
+}
