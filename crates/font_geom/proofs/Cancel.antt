@@ -17,10 +17,12 @@ wrapped-affine_form : (p x q y d : ℤ) → affine_form wrapped_sum wrapped_prod
 wrapped-affine_form p x q y d =
     ap (λ n. wrapped_sum n d) (wrapped-linear_form p x q y) ∙ wrap-add_left 32 (linear_form ◌+ℤ◌ rounded_product p x q y) d (lit< tt)
 
-linear_fits : (p x q y : ℤ) → FitsBits 32 (linear_form ◌+ℤ◌ rounded_product p x q y) → linear_form wrapped_sum wrapped_product p x q y ≡ linear_form ◌+ℤ◌ rounded_product p x q y
+linear_fits : (p x q y : ℤ) → FitsBits 32 (linear_form ◌+ℤ◌ rounded_product p x q y)
+    → linear_form wrapped_sum wrapped_product p x q y ≡ linear_form ◌+ℤ◌ rounded_product p x q y
 linear_fits p x q y fits = wrapped-linear_form p x q y ∙ wrap-fits 32 (linear_form ◌+ℤ◌ rounded_product p x q y) (lit< tt) fits
 
-affine_fits : (p x q y d : ℤ) → FitsBits 32 (affine_form ◌+ℤ◌ rounded_product p x q y d) → affine_form wrapped_sum wrapped_product p x q y d ≡ affine_form ◌+ℤ◌ rounded_product p x q y d
+affine_fits : (p x q y d : ℤ) → FitsBits 32 (affine_form ◌+ℤ◌ rounded_product p x q y d)
+    → affine_form wrapped_sum wrapped_product p x q y d ≡ affine_form ◌+ℤ◌ rounded_product p x q y d
 affine_fits p x q y d fits = wrapped-affine_form p x q y d ∙ wrap-fits 32 (affine_form ◌+ℤ◌ rounded_product p x q y d) (lit< tt) fits
 
 pub image_of_fits : (m : Matrix ℤ) (p : Point ℤ) → FitsPoint (image_of ◌+ℤ◌ rounded_product m p) → image_of wrapped_sum wrapped_product m p ≡ image_of ◌+ℤ◌ rounded_product m p

@@ -1,11 +1,8 @@
 -- What calls on matrices of `Fixed` give, over their bits.
-use Rattle.std.proofs.Common.{◌≡◌, ◌∙◌, sym, ap, subst, refl, ℤ, pos, ◌+ℤ◌, ◌-ℤ◌, ◌*ℤ◌, unsigned_abs, arith, lit<}
+use Rattle.std.proofs.Common.{◌≡◌, ◌∙◌, ap, pos, ◌+ℤ◌, arith, lit<}
 use Rattle.std.proofs.lemmas.Int.{ints}
-use Rattle.std.proofs.Math.IntN.{*ℤ_comm, *ℤ-zero, zero-*ℤ}
 use Rattle.font_base.specs.Wrap.{wrap, FitsBits}
 use Rattle.font_base.specs.Wrap.Laws.{wrap-fits}
-use Rattle.font_decimal.specs.Near.{Near, near}
-use Rattle.font_decimal.proofs.Near.{near_gives}
 use Rattle.font_arithmetic.specs.Operations.{IsProduct}
 use Rattle.font_arithmetic.proofs.Calls.{near-times, near-times_left, near-times_zero, near-zero_times}
 use Rattle.font_arithmetic.proofs.Group.{sum_commutes, zero_is_neutral}
@@ -14,7 +11,7 @@ use Rattle.font_fixed.specs.Fixed.{fixed_bits, fixed_of}
 use Rattle.font_geom.specs.declared.matrix.Matrix.{Matrix}
 use Rattle.font_geom.specs.declared.point.Point.{Point}
 use Rattle.font_geom.specs.Matrix.{IsTransformed, IsProductOf, identity_matrix, image_of, product_of}
-use Rattle.font_geom.specs.FixedMatrix.{matrix_bits, point_bits, rounded_product, wrapped_product, wrapped_sum, FitsComposed, FitsInTurn, IsCloseComposed, IsCloseInTurn}
+use Rattle.font_geom.specs.FixedMatrix.{matrix_bits, point_bits, wrapped_product, wrapped_sum}
 use Rattle.font_geom.proofs.Elements.{HasOneAnswer, map_matrix, image_is, product_of_is}
 use Rattle.font_geom.proofs.Identity.{NeutralLaws, FitsEach, identity_times, times_identity}
 
@@ -58,15 +55,15 @@ neutral = record {
 same_matrix : (a r : Matrix Fixed) → matrix_bits r ≡ matrix_bits a → r ≡ a
 same_matrix a r same = ap (map_matrix fixed_of) same
 
-pub left_identity : {a identity r : Matrix Fixed} → FitsEach (FitsBits 32) (matrix_bits a) → identity ≡ identity_matrix (fixed_of (pos 0)) (fixed_of (pos 65536)) → IsProductOf Product Sum identity a r
-    → (matrix_bits r ≡ product_of wrapped_sum wrapped_product (identity_matrix (pos 0) (pos 65536)) (matrix_bits a)) × (r ≡ a)
+pub left_identity : {a identity r : Matrix Fixed} → FitsEach (FitsBits 32) (matrix_bits a) → identity ≡ identity_matrix (fixed_of (pos 0)) (fixed_of (pos 65536))
+    → IsProductOf Product Sum identity a r → (matrix_bits r ≡ product_of wrapped_sum wrapped_product (identity_matrix (pos 0) (pos 65536)) (matrix_bits a)) × (r ≡ a)
 left_identity {a} {identity} {r} fits is given =
     let value : matrix_bits r ≡ product_of wrapped_sum wrapped_product (identity_matrix (pos 0) (pos 65536)) (matrix_bits a) =
     product_value given ∙ ap (λ m. product_of wrapped_sum wrapped_product (matrix_bits m) (matrix_bits a)) is in
     (value, same_matrix a r (value ∙ identity_times neutral (matrix_bits a) fits))
 
-pub right_identity : {a identity r : Matrix Fixed} → FitsEach (FitsBits 32) (matrix_bits a) → identity ≡ identity_matrix (fixed_of (pos 0)) (fixed_of (pos 65536)) → IsProductOf Product Sum a identity r
-    → (matrix_bits r ≡ product_of wrapped_sum wrapped_product (matrix_bits a) (identity_matrix (pos 0) (pos 65536))) × (r ≡ a)
+pub right_identity : {a identity r : Matrix Fixed} → FitsEach (FitsBits 32) (matrix_bits a) → identity ≡ identity_matrix (fixed_of (pos 0)) (fixed_of (pos 65536))
+    → IsProductOf Product Sum a identity r → (matrix_bits r ≡ product_of wrapped_sum wrapped_product (matrix_bits a) (identity_matrix (pos 0) (pos 65536))) × (r ≡ a)
 right_identity {a} {identity} {r} fits is given =
     let value : matrix_bits r ≡ product_of wrapped_sum wrapped_product (matrix_bits a) (identity_matrix (pos 0) (pos 65536)) =
     product_value given ∙ ap (λ m. product_of wrapped_sum wrapped_product (matrix_bits a) (matrix_bits m)) is in

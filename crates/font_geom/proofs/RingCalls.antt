@@ -10,8 +10,8 @@ use Rattle.font_geom.proofs.Identity.{NeutralLaws, FitsEach, identity_times, tim
 
 module _ {T : Type 0} {product sum : T → T → T → Type 0} {zero one : T} {plus times : T → T → T}
     (answers : HasOneAnswer product sum (λ x. x) plus times) (ring : RingLaws zero one plus times) where
-  pub products_agree : {a b c ab abc bc a_bc : Matrix T} → IsProductOf product sum a b ab → IsProductOf product sum ab c abc → IsProductOf product sum b c bc → IsProductOf product sum a bc a_bc
-      → abc ≡ a_bc
+  pub products_agree : {a b c ab abc bc a_bc : Matrix T} → IsProductOf product sum a b ab → IsProductOf product sum ab c abc → IsProductOf product sum b c bc
+      → IsProductOf product sum a bc a_bc → abc ≡ a_bc
   products_agree {a} {b} {c} {ab} {abc} {bc} {a_bc} first second third fourth =
       product_of_is answers ab c abc second
       ∙ ap (λ m. product_of plus times m c) (product_of_is answers a b ab first)
