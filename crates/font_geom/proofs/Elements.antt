@@ -2,7 +2,7 @@
 use Rattle.std.proofs.Common.{◌≡◌, ◌∙◌, ap}
 use Rattle.font_geom.specs.declared.matrix.Matrix.{Matrix}
 use Rattle.font_geom.specs.declared.point.Point.{Point}
-use Rattle.font_geom.specs.Matrix.{IsLinearForm, IsAffineForm, IsTransformed, IsProductOf, linear_form, affine_form, image_of, product_of}
+use Rattle.font_geom.specs.Matrix.{IsLinearForm, IsAffineForm, IsTransformed, IsProductOf, linear_form, affine_form, image_of, matrix_product}
 
 -- the matrix and the point of what a function gives at each element
 abbrev pub map_matrix : {T V : Type 0} → (T → V) → Matrix T → Matrix V
@@ -29,8 +29,8 @@ module _ {T V : Type 0} {product sum : T → T → T → Type 0} {shown : T → 
   pub image_is : (m : Matrix T) (p r : Point T) → IsTransformed product sum m p.x p.y r.x r.y → map_point shown r ≡ image_of plus times (map_matrix shown m) (map_point shown p)
   image_is m p r it = λ i. record { x = affine_is m.xx p.x m.xy p.y m.dx r.x it.on_x i; y = affine_is m.yx p.x m.yy p.y m.dy r.y it.on_y i }
 
-  pub product_of_is : (a b c : Matrix T) → IsProductOf product sum a b c → map_matrix shown c ≡ product_of plus times (map_matrix shown a) (map_matrix shown b)
-  product_of_is a b c it = λ i. record {
+  pub matrix_product_is : (a b c : Matrix T) → IsProductOf product sum a b c → map_matrix shown c ≡ matrix_product plus times (map_matrix shown a) (map_matrix shown b)
+  matrix_product_is a b c it = λ i. record {
     xx = linear_is a.xx b.xx a.xy b.yx c.xx it.xx i;
     yx = linear_is a.yx b.xx a.yy b.yx c.yx it.yx i;
     xy = linear_is a.xx b.xy a.xy b.yy c.xy it.xy i;

@@ -10,9 +10,9 @@ use Rattle.font_fixed.specs.declared.fixed.Fixed.{Fixed}
 use Rattle.font_fixed.specs.Fixed.{fixed_bits, fixed_of}
 use Rattle.font_geom.specs.declared.matrix.Matrix.{Matrix}
 use Rattle.font_geom.specs.declared.point.Point.{Point}
-use Rattle.font_geom.specs.Matrix.{IsTransformed, IsProductOf, identity_matrix, image_of, product_of}
+use Rattle.font_geom.specs.Matrix.{IsTransformed, IsProductOf, identity_matrix, image_of, matrix_product}
 use Rattle.font_geom.specs.FixedMatrix.{matrix_bits, point_bits, wrapped_product, wrapped_sum}
-use Rattle.font_geom.proofs.Elements.{HasOneAnswer, map_matrix, image_is, product_of_is}
+use Rattle.font_geom.proofs.Elements.{HasOneAnswer, map_matrix, image_is, matrix_product_is}
 use Rattle.font_geom.proofs.Identity.{NeutralLaws, FitsEach, identity_times, times_identity}
 
 -- what `*` and `+` promise
@@ -29,8 +29,8 @@ answers = record {
 }
 
 -- the bits of a product, and of a point that was moved
-pub product_value : {a b ab : Matrix Fixed} → IsProductOf Product Sum a b ab → matrix_bits ab ≡ product_of wrapped_sum wrapped_product (matrix_bits a) (matrix_bits b)
-product_value {a} {b} {ab} given = product_of_is answers a b ab given
+pub product_value : {a b ab : Matrix Fixed} → IsProductOf Product Sum a b ab → matrix_bits ab ≡ matrix_product wrapped_sum wrapped_product (matrix_bits a) (matrix_bits b)
+product_value {a} {b} {ab} given = matrix_product_is answers a b ab given
 
 pub image_value : {m : Matrix Fixed} {p r : Point Fixed} → IsTransformed Product Sum m p.x p.y r.x r.y → point_bits r ≡ image_of wrapped_sum wrapped_product (matrix_bits m) (point_bits p)
 image_value {m} {p} {r} given = image_is answers m p r given
@@ -56,15 +56,15 @@ same_matrix : (a r : Matrix Fixed) → matrix_bits r ≡ matrix_bits a → r ≡
 same_matrix a r same = ap (map_matrix fixed_of) same
 
 pub left_identity : {a identity r : Matrix Fixed} → FitsEach (FitsBits 32) (matrix_bits a) → identity ≡ identity_matrix (fixed_of (pos 0)) (fixed_of (pos 65536))
-    → IsProductOf Product Sum identity a r → (matrix_bits r ≡ product_of wrapped_sum wrapped_product (identity_matrix (pos 0) (pos 65536)) (matrix_bits a)) × (r ≡ a)
+    → IsProductOf Product Sum identity a r → (matrix_bits r ≡ matrix_product wrapped_sum wrapped_product (identity_matrix (pos 0) (pos 65536)) (matrix_bits a)) × (r ≡ a)
 left_identity {a} {identity} {r} fits is given =
-    let value : matrix_bits r ≡ product_of wrapped_sum wrapped_product (identity_matrix (pos 0) (pos 65536)) (matrix_bits a) =
-    product_value given ∙ ap (λ m. product_of wrapped_sum wrapped_product (matrix_bits m) (matrix_bits a)) is in
+    let value : matrix_bits r ≡ matrix_product wrapped_sum wrapped_product (identity_matrix (pos 0) (pos 65536)) (matrix_bits a) =
+    product_value given ∙ ap (λ m. matrix_product wrapped_sum wrapped_product (matrix_bits m) (matrix_bits a)) is in
     (value, same_matrix a r (value ∙ identity_times neutral (matrix_bits a) fits))
 
 pub right_identity : {a identity r : Matrix Fixed} → FitsEach (FitsBits 32) (matrix_bits a) → identity ≡ identity_matrix (fixed_of (pos 0)) (fixed_of (pos 65536))
-    → IsProductOf Product Sum a identity r → (matrix_bits r ≡ product_of wrapped_sum wrapped_product (matrix_bits a) (identity_matrix (pos 0) (pos 65536))) × (r ≡ a)
+    → IsProductOf Product Sum a identity r → (matrix_bits r ≡ matrix_product wrapped_sum wrapped_product (matrix_bits a) (identity_matrix (pos 0) (pos 65536))) × (r ≡ a)
 right_identity {a} {identity} {r} fits is given =
-    let value : matrix_bits r ≡ product_of wrapped_sum wrapped_product (matrix_bits a) (identity_matrix (pos 0) (pos 65536)) =
-    product_value given ∙ ap (λ m. product_of wrapped_sum wrapped_product (matrix_bits a) (matrix_bits m)) is in
+    let value : matrix_bits r ≡ matrix_product wrapped_sum wrapped_product (matrix_bits a) (identity_matrix (pos 0) (pos 65536)) =
+    product_value given ∙ ap (λ m. matrix_product wrapped_sum wrapped_product (matrix_bits a) (matrix_bits m)) is in
     (value, same_matrix a r (value ∙ times_identity neutral (matrix_bits a) fits))

@@ -1,7 +1,7 @@
 -- That the identity matrix is neutral on both sides, where zero and one are among the elements that fit.
 use Rattle.std.proofs.Common.{◌≡◌, ◌∙◌, ap}
 use Rattle.font_geom.specs.declared.matrix.Matrix.{Matrix}
-use Rattle.font_geom.specs.Matrix.{linear_form, affine_form, identity_matrix, product_of}
+use Rattle.font_geom.specs.Matrix.{linear_form, affine_form, identity_matrix, matrix_product}
 
 -- what zero and one do to the elements that fit
 pub record NeutralLaws {T : Type 0} (fits : T → Type 0) (zero one : T) (plus times : T → T → T) : Type 0 where
@@ -41,7 +41,7 @@ module _ {T : Type 0} {fits : T → Type 0} {zero one : T} {plus times : T → T
       ap (λ n. plus n d) (ap (plus (times x zero)) (laws.times_zero y g) ∙ ap (λ n. plus n zero) (laws.times_zero x f) ∙ laws.plus_zero zero laws.zero_fits)
       ∙ laws.zero_plus d h
 
-  pub identity_times : (m : Matrix T) → FitsEach fits m → product_of plus times (identity_matrix zero one) m ≡ m
+  pub identity_times : (m : Matrix T) → FitsEach fits m → matrix_product plus times (identity_matrix zero one) m ≡ m
   identity_times m each = λ i. record {
     xx = first_of m.xx m.yx each.xx each.yx i;
     yx = second_of m.xx m.yx each.xx each.yx i;
@@ -51,7 +51,7 @@ module _ {T : Type 0} {fits : T → Type 0} {zero one : T} {plus times : T → T
     dy = (ap (λ n. plus n zero) (second_of m.dx m.dy each.dx each.dy) ∙ laws.plus_zero m.dy each.dy) i;
   }
 
-  pub times_identity : (m : Matrix T) → FitsEach fits m → product_of plus times m (identity_matrix zero one) ≡ m
+  pub times_identity : (m : Matrix T) → FitsEach fits m → matrix_product plus times m (identity_matrix zero one) ≡ m
   times_identity m each = λ i. record {
     xx = first_kept m.xx m.xy each.xx each.xy i;
     yx = first_kept m.yx m.yy each.yx each.yy i;

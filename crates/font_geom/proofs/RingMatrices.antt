@@ -2,7 +2,7 @@
 use Rattle.std.proofs.Common.{◌≡◌, ◌∙◌, sym, ap}
 use Rattle.font_geom.specs.declared.matrix.Matrix.{Matrix}
 use Rattle.font_geom.specs.declared.point.Point.{Point}
-use Rattle.font_geom.specs.Matrix.{linear_form, affine_form, image_of, product_of}
+use Rattle.font_geom.specs.Matrix.{linear_form, affine_form, image_of, matrix_product}
 use Rattle.font_geom.specs.Ring.{RingLaws}
 
 module _ {T : Type 0} {zero one : T} {plus times : T → T → T} (ring : RingLaws zero one plus times) where
@@ -44,8 +44,8 @@ module _ {T : Type 0} {zero one : T} {plus times : T → T → T} (ring : RingLa
       ∙ sym (ap (λ x. plus x (times q (plus second f))) (ring.times_sum p first e)
       ∙ ap (plus (plus (times p first) (times p e))) (ring.times_sum q second f)))
 
-  pub product_of-product_of : (a b c : Matrix T) → product_of plus times (product_of plus times a b) c ≡ product_of plus times a (product_of plus times b c)
-  product_of-product_of a b c = λ i. record {
+  pub matrix_product-matrix_product : (a b c : Matrix T) → matrix_product plus times (matrix_product plus times a b) c ≡ matrix_product plus times a (matrix_product plus times b c)
+  matrix_product-matrix_product a b c = λ i. record {
     xx = linear_form-linear_form a.xx a.xy b.xx b.yx b.xy b.yy c.xx c.yx i;
     yx = linear_form-linear_form a.yx a.yy b.xx b.yx b.xy b.yy c.xx c.yx i;
     xy = linear_form-linear_form a.xx a.xy b.xx b.yx b.xy b.yy c.xy c.yy i;
@@ -54,8 +54,8 @@ module _ {T : Type 0} {zero one : T} {plus times : T → T → T} (ring : RingLa
     dy = affine_form-affine_form a.yx a.yy a.dy b.xx b.yx b.xy b.yy b.dx b.dy c.dx c.dy i;
   }
 
-  pub image_of-product_of : (a b : Matrix T) (p : Point T) → image_of plus times (product_of plus times a b) p ≡ image_of plus times a (image_of plus times b p)
-  image_of-product_of a b p = λ i. record {
+  pub image_of-matrix_product : (a b : Matrix T) (p : Point T) → image_of plus times (matrix_product plus times a b) p ≡ image_of plus times a (image_of plus times b p)
+  image_of-matrix_product a b p = λ i. record {
     x = affine_form-affine_form a.xx a.xy a.dx b.xx b.yx b.xy b.yy b.dx b.dy p.x p.y i;
     y = affine_form-affine_form a.yx a.yy a.dy b.xx b.yx b.xy b.yy b.dx b.dy p.x p.y i;
   }

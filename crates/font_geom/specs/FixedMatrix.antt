@@ -6,7 +6,7 @@ use Rattle.font_fixed.specs.declared.fixed.Fixed.{Fixed}
 use Rattle.font_fixed.specs.Fixed.{fixed_bits}
 use Rattle.font_geom.specs.declared.matrix.Matrix.{Matrix}
 use Rattle.font_geom.specs.declared.point.Point.{Point}
-use Rattle.font_geom.specs.Matrix.{image_of, product_of}
+use Rattle.font_geom.specs.Matrix.{image_of, matrix_product}
 
 -- the bits of each element, and of each coordinate
 abbrev pub matrix_bits : Matrix Fixed → Matrix ℤ
@@ -42,8 +42,8 @@ pub record FitsPoint (p : Point ℤ) : Type 0 where
 
 -- no entry of a * b and no coordinate of (a * b) * p
 pub record FitsComposed (a b : Matrix ℤ) (p : Point ℤ) : Type 0 where
-  pub product : FitsMatrix (product_of ◌+ℤ◌ rounded_product a b)
-  pub image : FitsPoint (image_of ◌+ℤ◌ rounded_product (product_of ◌+ℤ◌ rounded_product a b) p)
+  pub product : FitsMatrix (matrix_product ◌+ℤ◌ rounded_product a b)
+  pub image : FitsPoint (image_of ◌+ℤ◌ rounded_product (matrix_product ◌+ℤ◌ rounded_product a b) p)
 
 -- no coordinate of b * p and none of a * (b * p)
 pub record FitsInTurn (a b : Matrix ℤ) (p : Point ℤ) : Type 0 where

@@ -86,8 +86,8 @@ module _ {T : Type 0} (plus times : T → T → T) where
   image_of m p = record { x = affine_form m.xx p.x m.xy p.y m.dx; y = affine_form m.yx p.x m.yy p.y m.dy }
 
   -- the matrix that applies b and then a
-  abbrev pub product_of : Matrix T → Matrix T → Matrix T
-  product_of a b = record {
+  abbrev pub matrix_product : Matrix T → Matrix T → Matrix T
+  matrix_product a b = record {
     xx = linear_form a.xx b.xx a.xy b.yx;
     yx = linear_form a.yx b.xx a.yy b.yx;
     xy = linear_form a.xx b.xy a.xy b.yy;

@@ -1,7 +1,7 @@
 //! Functions whose contracts are laws of matrices: they make the calls that a law speaks of, and answer what those give.
 
 ghost use Rattle.std.specs.Prelude.{◌≡◌, pos};
-ghost use Rattle.font_geom.specs.Matrix.{identity_matrix, image_of, product_of};
+ghost use Rattle.font_geom.specs.Matrix.{identity_matrix, image_of, matrix_product};
 ghost use Rattle.font_geom.specs.FixedMatrix.{matrix_bits, point_bits, wrapped_sum, wrapped_product, FitsComposed, FitsInTurn, IsCloseComposed, IsCloseInTurn};
 
 use crate::{Matrix, Point, RingElement};
@@ -13,8 +13,8 @@ pub fn associative<T: RingElement>(
     b: Matrix<T>,
     c: Matrix<T>,
 ) -> (Matrix<T>, Matrix<T>)
-    ensures first { result.0 ≡ product_of T.plus T.times (product_of T.plus T.times a b) c }
-    ensures second { result.1 ≡ product_of T.plus T.times a (product_of T.plus T.times b c) }
+    ensures first { result.0 ≡ matrix_product T.plus T.times (matrix_product T.plus T.times a b) c }
+    ensures second { result.1 ≡ matrix_product T.plus T.times a (matrix_product T.plus T.times b c) }
     ensures equal { result.0 ≡ result.1 }
 {
     ((a * b) * c, a * (b * c))
@@ -22,7 +22,7 @@ pub fn associative<T: RingElement>(
 
 /// `(a * b) * p` and `a * (b * p)`, which are equal.
 pub fn action<T: RingElement>(a: Matrix<T>, b: Matrix<T>, p: Point<T>) -> (Point<T>, Point<T>)
-    ensures first { result.0 ≡ image_of T.plus T.times (product_of T.plus T.times a b) p }
+    ensures first { result.0 ≡ image_of T.plus T.times (matrix_product T.plus T.times a b) p }
     ensures second { result.1 ≡ image_of T.plus T.times a (image_of T.plus T.times b p) }
     ensures equal { result.0 ≡ result.1 }
 {
@@ -31,8 +31,8 @@ pub fn action<T: RingElement>(a: Matrix<T>, b: Matrix<T>, p: Point<T>) -> (Point
 
 /// The identity times `a`, and `a` times the identity: both are `a`.
 pub fn identity_neutral<T: RingElement>(a: Matrix<T>) -> (Matrix<T>, Matrix<T>)
-    ensures first { result.0 ≡ product_of T.plus T.times (identity_matrix T.ZERO T.ONE) a }
-    ensures second { result.1 ≡ product_of T.plus T.times a (identity_matrix T.ZERO T.ONE) }
+    ensures first { result.0 ≡ matrix_product T.plus T.times (identity_matrix T.ZERO T.ONE) a }
+    ensures second { result.1 ≡ matrix_product T.plus T.times a (identity_matrix T.ZERO T.ONE) }
     ensures left { result.0 ≡ a }
     ensures right { result.1 ≡ a }
 {
@@ -41,8 +41,8 @@ pub fn identity_neutral<T: RingElement>(a: Matrix<T>) -> (Matrix<T>, Matrix<T>)
 
 /// The identity times `a`, and `a` times the identity: both are `a`, also where products are rounded and sums wrap.
 pub fn fixed_identity(a: Matrix<Fixed>) -> (Matrix<Fixed>, Matrix<Fixed>)
-    ensures first { matrix_bits result.0 ≡ product_of wrapped_sum wrapped_product (identity_matrix (pos 0) (pos 65536)) (matrix_bits a) }
-    ensures second { matrix_bits result.1 ≡ product_of wrapped_sum wrapped_product (matrix_bits a) (identity_matrix (pos 0) (pos 65536)) }
+    ensures first { matrix_bits result.0 ≡ matrix_product wrapped_sum wrapped_product (identity_matrix (pos 0) (pos 65536)) (matrix_bits a) }
+    ensures second { matrix_bits result.1 ≡ matrix_product wrapped_sum wrapped_product (matrix_bits a) (identity_matrix (pos 0) (pos 65536)) }
     ensures left { result.0 ≡ a }
     ensures right { result.1 ≡ a }
 {
@@ -55,7 +55,7 @@ pub fn fixed_identity(a: Matrix<Fixed>) -> (Matrix<Fixed>, Matrix<Fixed>)
 /// Each coordinate is then at most `(|x| + |y|) / 65536 + 2` bits from the exact one, magnitudes in bits. What happens on the way may wrap.
 pub fn composed(a: Matrix<Fixed>, b: Matrix<Fixed>, p: Point<Fixed>) -> Point<Fixed>
     ensures value { point_bits result
-        ≡ image_of wrapped_sum wrapped_product (product_of wrapped_sum wrapped_product (matrix_bits a) (matrix_bits b)) (point_bits p) }
+        ≡ image_of wrapped_sum wrapped_product (matrix_product wrapped_sum wrapped_product (matrix_bits a) (matrix_bits b)) (point_bits p) }
     ensures close { FitsComposed (matrix_bits a) (matrix_bits b) (point_bits p)
         → IsCloseComposed (matrix_bits a) (matrix_bits b) (point_bits p) (point_bits result) }
 {
