@@ -1,4 +1,5 @@
 pub mod Widths
 pub mod StdBytes
-pub mod ThreeBytes
+mod ThreeBytes
+mod TwentyFourBits
 mod Rows

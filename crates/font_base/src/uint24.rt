@@ -18,7 +18,7 @@ pub struct Uint24 {
 
 impl Uint24 {
     ghost use Rattle.font_base.specs.Uint24.{UINT24_MAX, uint24_number};
-    ghost use Rattle.font_base.specs.Bytes.{IsBytesOf};
+    ghost use Rattle.font_base.specs.Bytes.{IsBytesOf, numeral};
 
     /// The least value, 0.
     pub const MIN: Self = Uint24 { value: 0 };
@@ -64,7 +64,8 @@ impl Uint24 {
 
     /// The number of three bytes, highest first.
     pub fn from_be_bytes(bytes: [u8; 3]) -> Uint24
-        ensures { IsBytesOf 3 (pos (uint24_number result)) bytes }
+        ensures bytes { IsBytesOf 3 (pos (uint24_number result)) bytes }
+        ensures number { uint24_number result ≡ numeral bytes }
     {
         let bytes = BeByteArray::as_slice(&bytes);
         let value = u32::from(bytes[0]) * 0x1_0000

@@ -1,2 +1,3 @@
 pub mod JsonLemmas
+pub mod Callers
 mod DeltaLemmas

@@ -33,3 +33,5 @@ pub use Rattle.font_geom.specs.BoundingBox
 pub use Rattle.font_geom.specs.Matrix
 pub use Rattle.font_geom.specs.Ring
 pub use Rattle.font_geom.specs.FixedMatrix
+pub use Rattle.font_decimal.specs.declared.reader.DecimalFault
+pub use Rattle.font_tags.specs.declared.tag.InvalidTag

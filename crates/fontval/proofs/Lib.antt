@@ -1,5 +1,6 @@
 pub mod AnswersLemmas
+pub mod CommandLemmas
 pub mod DeviceLemmas
-pub mod IntegerLemmas
+pub mod GivenLemmas
 pub mod TextLemmas
 mod HexadecimalLemmas

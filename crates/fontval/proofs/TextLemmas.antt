@@ -1,10 +1,10 @@
 -- The first line of an input, and the first word of a line.
-use Rattle.std.proofs.Common.{◌≡◌, ℕ, suc, ◌+◌, ◌<◌, Bool, true, false, cond, List, [], ◌∷◌, length, take, drop, refl, ap, ◌∙◌, arith, Some, None}
+use Rattle.std.proofs.Common.{◌≡◌, ℕ, zero, suc, ◌+◌, ◌<◌, ◌≤◌, Bool, true, false, cond, List, [], ◌∷◌, length, take, drop, refl, ap, ◌∙◌, arith, Some, None}
 use Rattle.std.specs.List.{position_or_len, before_first, after_first, onto_first, slice_split}
 use Rattle.std.specs.Prelude.{not, position, nat_lt}
 use Rattle.std.proofs.Common.{get_or, drop-cons}
-use Rattle.std.proofs.lemmas.Bool.{ltb-false}
-use Rattle.std.proofs.lemmas.List.{drop_all}
+use Rattle.std.proofs.lemmas.Bool.{le-ltb, lt-ltb, ltb-false, ltb-true}
+use Rattle.std.proofs.lemmas.List.{drop_all, length-take, length-take-le}
 use Rattle.std.proofs.lemmas.List.Quantifiers.{position-Some}
 use Rattle.std.proofs.lemmas.Option.{cond_some}
 use Rattle.fontval.specs.Text.{is_line_feed, lines_of, is_blank, is_nonempty, from_first, words_of}
@@ -14,6 +14,74 @@ one_more n = omega arith
 
 one_more_and_one : (n : ℕ) → suc n + 1 ≡ suc (n + 1)
 one_more_and_one n = omega arith
+
+-- ---- the first line feed, sought in parts
+
+-- there is no line feed in front of `rest`, of which so many bytes stand in front
+pub record IsPassed (input rest : List ℕ) (passed : ℕ) : Type 0 where
+  pub long : length input ≡ passed + length rest
+  pub first : position_or_len is_line_feed input ≡ passed + position_or_len is_line_feed rest
+
+pub none_passed : (input : List ℕ) → IsPassed input input 0
+none_passed input = record { long = omega arith; first = omega arith }
+
+-- how many bytes stand in front of the first line feed
+abbrev before_feed : List ℕ → ℕ
+before_feed bytes = position_or_len is_line_feed bytes
+
+-- a front without a line feed is passed over
+first_behind : (n : ℕ) (bytes : List ℕ) → n ≤ length bytes → n ≤ before_feed (take n bytes) → before_feed bytes ≡ n + before_feed (drop n bytes)
+first_behind zero bytes within none = omega arith
+first_behind (suc n) [] within none = absurd (omega arith)
+first_behind (suc n) (byte ∷ bytes) within none =
+    elim (is_line_feed byte)
+    as (λ b. suc n ≤ cond (not b) (1 + before_feed (take n bytes)) 0 → cond (not b) (1 + before_feed bytes) 0 ≡ suc n + before_feed (drop n bytes)) [
+      | true ↦ λ absent. absurd (omega arith)
+      | false ↦ λ later. let behind = first_behind n bytes (omega arith) (omega arith) in omega arith
+    ] none
+
+-- a line feed in a front is the first of all
+first_in_front : (n : ℕ) (bytes : List ℕ) → before_feed (take n bytes) < length (take n bytes) → before_feed bytes ≡ before_feed (take n bytes)
+first_in_front zero bytes there = absurd (omega arith)
+first_in_front (suc n) [] there = absurd (omega arith)
+first_in_front (suc n) (byte ∷ bytes) there =
+    elim (is_line_feed byte)
+    as (λ b. cond (not b) (1 + before_feed (take n bytes)) 0 < suc (length (take n bytes)) → cond (not b) (1 + before_feed bytes) 0 ≡ cond (not b) (1 + before_feed (take n bytes)) 0) [
+      | true ↦ λ here. refl
+      | false ↦ λ later. ap (λ k. 1 + k) (first_in_front n bytes (omega arith))
+    ] there
+
+-- what `position` tells
+none_found : (bytes : List ℕ) → position is_line_feed bytes ≡ None → length bytes ≤ before_feed bytes
+none_found bytes none =
+    elim (nat_lt (before_feed bytes) (length bytes)) as (λ b. nat_lt (before_feed bytes) (length bytes) ≡ b → length bytes ≤ before_feed bytes) [
+      | true ↦ λ e. absurd (let s = rw e at none in cc)
+      | false ↦ λ e. ltb-false _ _ e
+    ] refl
+
+some_found : (bytes : List ℕ) (at : ℕ) → position is_line_feed bytes ≡ Some at → (before_feed bytes < length bytes) × (before_feed bytes ≡ at)
+some_found bytes at found = let parts = cond_some _ _ _ found in (ltb-true _ _ parts.0, parts.1)
+
+pub more_passed : (input rest behind : List ℕ) (passed : ℕ) → IsPassed input rest passed → position is_line_feed (take 16 rest) ≡ None
+    → length behind + 16 ≡ length rest → behind ≡ drop 16 rest → IsPassed input behind (passed + 16)
+more_passed input rest behind passed so_far none long is =
+    let long_enough : length (take 16 rest) ≡ 16 = length-take-le 16 rest (omega arith) in
+    let later = first_behind 16 rest (omega arith) (omega (arith, long_enough, none_found (take 16 rest) none)) in
+    record { long = omega (arith, so_far.long, long); first = rw is (omega (arith, so_far.first, later)) }
+
+pub found_behind : (input rest : List ℕ) (passed at : ℕ) → IsPassed input rest passed → position is_line_feed (take 16 rest) ≡ Some at → Some (passed + at) ≡ position is_line_feed input
+found_behind input rest passed at so_far found =
+    let parts = some_found (take 16 rest) at found in
+    let first = first_in_front 16 rest parts.0 in
+    let here : before_feed input ≡ passed + at = omega (arith, so_far.first, first, parts.1) in
+    let within : before_feed input < length input = omega (arith, here, so_far.long, parts.0, parts.1, length-take 16 rest) in
+    rw (lt-ltb _ _ within, here) refl
+
+pub none_behind : (input rest : List ℕ) (passed : ℕ) → IsPassed input rest passed → position is_line_feed rest ≡ None → None ≡ position is_line_feed input
+none_behind input rest passed so_far none =
+    let absent = none_found rest none in
+    let past : length input ≤ before_feed input = omega (arith, so_far.first, so_far.long, absent) in
+    rw (le-ltb _ _ past) refl
 
 -- no line stands in an empty input
 pub no_lines : (input : List ℕ) → length input ≡ 0 → lines_of input ≡ []

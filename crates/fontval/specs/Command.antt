@@ -1,141 +1,140 @@
--- The commands of the program: the word that names each, and what it makes of the words behind it.
--- All of it is the program's own rule, but for what bytes stand for.
-use Rattle.std.specs.Prelude.{◌≡◌, ℕ, ℤ, pos, List, [], ◌∷◌, codes, bytes_eq, find, Option, Some, None, Result, Ok, Err, MatchOption, MatchResult}
+-- The commands of the program: the word that names each, and what it answers to the words behind it.
+-- All of it is the program's own rule, but for what the bytes of a type stand for.
+use Rattle.std.specs.Prelude.{◌≡◌, ◌≢◌, ℕ, ℤ, pos, ◌/◌, Bool, true, false, if◌then◌else◌, List, [], ◌∷◌, ◌++◌, codes, decimal, Result, Ok, Err, MatchResult}
+use Rattle.std.specs.Fmt.{signed_decimal}
 use Rattle.std.specs.Result.{result_map_both}
-use Rattle.hex.specs.Hex.{decode_sized}
-use Rattle.font_base.specs.Bytes.{numeral, signed_numeral, bytes_of}
-use Rattle.font_decimal.specs.Grammar.{IsNoDecimal}
-use Rattle.font_arithmetic.specs.Operations.{ReadsAs, IsTooFar}
-use Rattle.font_fixed.specs.Fixed.{fixed_of}
-use Rattle.fontval.specs.declared.command.Answer.{Answer}
-use Rattle.fontval.specs.declared.command.Answer.TheVariants.{Number, Fixed as FixedAnswer, Bytes4}
+use Rattle.hex.specs.Hex.{decode_sized, encode_lower}
+use Rattle.font_types.specs.Bytes.{numeral, signed_numeral, bytes_of}
+use Rattle.font_types.specs.Shortest.{shortest_text}
+use Rattle.font_types.specs.DecimalFault.{DecimalFault}
+use Rattle.font_types.specs.Operations.{ReadingGives}
+use Rattle.font_types.specs.Tag.{IsValidated, tag_text}
+use Rattle.font_types.specs.InvalidTag.{InvalidTag}
+use Rattle.font_types.specs.InvalidTag.TheVariants.{InvalidLength, InvalidByte, ByteAfterSpace}
+use Rattle.fontval.specs.Refusal.{Answer, refusal_of}
 use Rattle.fontval.specs.declared.command.Command.{Command}
-use Rattle.fontval.specs.declared.command.Command.TheVariants.{Integer, FixedPoint, Read}
+use Rattle.fontval.specs.declared.command.Command.TheVariants.{Integer, FixedPoint, Read, Tag}
 use Rattle.fontval.specs.declared.command.FixedType.{FixedType}
-use Rattle.fontval.specs.declared.command.FixedType.TheVariants.{Fixed}
+use Rattle.fontval.specs.declared.command.FixedType.TheVariants.{F2Dot14, F4Dot12, F6Dot10, Fixed, F26Dot6, F48Dot16}
 use Rattle.fontval.specs.declared.command.IntegerType.{IntegerType}
 use Rattle.fontval.specs.declared.command.IntegerType.TheVariants.{Uint8, Int8, Uint16, Int16, Uint24, Int24, Uint32, Int32, Int64}
-use Rattle.fontval.specs.declared.command.Refusal.{Refusal}
-use Rattle.fontval.specs.declared.command.Refusal.TheVariants.{UnknownCommand, WordCount, NotHexadecimal, NotDecimal, OutOfRange, NotWhole}
+use Rattle.fontval.specs.declared.refusal.Refusal.{Refusal}
+use Rattle.fontval.specs.declared.refusal.Refusal.TheVariants.{UnknownCommand, WordCount, NotHexadecimal}
 
--- the n bytes of a word of hexadecimal digits, of either case
-abbrev pub hexadecimal : ℕ → List ℕ → Result (List ℕ) Refusal
-hexadecimal n word = result_map_both (λ bytes. bytes) (λ fault. NotHexadecimal) (decode_sized word n)
+-- ---- the commands
 
--- ---- integers
+-- whether a type's bytes are read as two's complement
+abbrev pub unsigned : Bool
+unsigned = false
 
--- how many bytes an integer type is stored in (OpenType, data types: uint8 to int64)
-abbrev pub byte_count : IntegerType → ℕ
-byte_count Uint8 = 1
-byte_count Int8 = 1
-byte_count Uint16 = 2
-byte_count Int16 = 2
-byte_count Uint24 = 3
-byte_count Int24 = 3
-byte_count Uint32 = 4
-byte_count Int32 = 4
-byte_count Int64 = 8
+abbrev pub signed : Bool
+signed = true
 
--- the number that bytes stand for: their base-256 numeral, highest byte first, which a signed type
--- reads as two's complement (OpenType, data types)
-abbrev pub number_of : IntegerType → List ℕ → ℤ
-number_of Uint8 bytes = pos (numeral bytes)
-number_of Uint16 bytes = pos (numeral bytes)
-number_of Uint24 bytes = pos (numeral bytes)
-number_of Uint32 bytes = pos (numeral bytes)
-number_of Int8 bytes = signed_numeral 1 bytes
-number_of Int16 bytes = signed_numeral 2 bytes
-number_of Int24 bytes = signed_numeral 3 bytes
-number_of Int32 bytes = signed_numeral 4 bytes
-number_of Int64 bytes = signed_numeral 8 bytes
+-- the integer types: the word that names each, how many bytes it has, and whether these have a sign
+-- (OpenType, data types: uint8 to int64)
+abbrev pub integer_row : IntegerType → List ℕ × ℕ × Bool
+integer_row Uint8 = (codes "uint8", 1, unsigned)
+integer_row Int8 = (codes "int8", 1, signed)
+integer_row Uint16 = (codes "uint16", 2, unsigned)
+integer_row Int16 = (codes "int16", 2, signed)
+integer_row Uint24 = (codes "uint24", 3, unsigned)
+integer_row Int24 = (codes "int24", 3, signed)
+integer_row Uint32 = (codes "uint32", 4, unsigned)
+integer_row Int32 = (codes "int32", 4, signed)
+integer_row Int64 = (codes "int64", 8, signed)
 
--- the number of a hexadecimal word of as many bytes as the type has
-abbrev pub integer : IntegerType → List ℕ → Result Answer Refusal
-integer type word =
-    result_map_both (λ bytes. Number (number_of type bytes)) (λ refusal. refusal) (hexadecimal (byte_count type) word)
+-- the fixed-point types: the word that names each, how many bits it has, and how many of them stand behind the point
+-- (OpenType, data types: Fixed is 16.16 and F2DOT14 is 2.14)
+abbrev pub fixed_row : FixedType → List ℕ × ℕ × ℕ
+fixed_row F2Dot14 = (codes "f2dot14", 16, 14)
+fixed_row F4Dot12 = (codes "f4dot12", 16, 12)
+fixed_row F6Dot10 = (codes "f6dot10", 16, 10)
+fixed_row Fixed = (codes "fixed", 32, 16)
+fixed_row F26Dot6 = (codes "f26dot6", 32, 6)
+fixed_row F48Dot16 = (codes "f48dot16", 64, 16)
 
--- ---- fixed-point numbers
-
--- the number whose bits the bytes of a hexadecimal word are (OpenType, data types: Fixed)
-abbrev pub fixed_point : FixedType → List ℕ → Result Answer Refusal
-fixed_point Fixed word =
-    result_map_both (λ bytes. FixedAnswer (fixed_of (signed_numeral 4 bytes))) (λ refusal. refusal) (hexadecimal 4 word)
-
--- the text is read as a number of w bits with f bits of fraction, which is answered by `shown` of its bits
-pub record AnswersReading (w f : ℕ) (shown : ℤ → Answer) (text : List ℕ) (answer : Answer) : Type 0 where
-  pub number : ℤ
-  pub reads : ReadsAs w f text number
-  pub is_shown : answer ≡ shown number
-
--- what the text comes to where it is read as such a number
-abbrev pub IsReading : ℕ → ℕ → (ℤ → Answer) → List ℕ → Result Answer Refusal → Type 0
-IsReading w f shown text (Ok answer) = AnswersReading w f shown text answer
-IsReading w f shown text (Err NotDecimal) = IsNoDecimal text
-IsReading w f shown text (Err OutOfRange) = IsTooFar w f text
-IsReading w f shown text (Err UnknownCommand) = ⊥
-IsReading w f shown text (Err WordCount) = ⊥
-IsReading w f shown text (Err NotHexadecimal) = ⊥
-IsReading w f shown text (Err NotWhole) = ⊥
-
--- what the text comes to where it is read as a number of the type
-abbrev pub IsRead : FixedType → List ℕ → Result Answer Refusal → Type 0
-IsRead Fixed text result = IsReading 32 16 (λ number. Bytes4 (bytes_of 4 number)) text result
-
--- the same, where the type is told by the command of its name
-abbrev pub IsReadAs : Option Command → List ℕ → Result Answer Refusal → Type 0
-IsReadAs (Some (FixedPoint type)) text result = IsRead type text result
-IsReadAs (Some (Integer type)) text result = result ≡ Err UnknownCommand
-IsReadAs (Some Read) text result = result ≡ Err UnknownCommand
-IsReadAs None text result = result ≡ Err UnknownCommand
-
--- ---- all commands
-
--- the word that a command is named by
+-- the word that names a command
 abbrev pub name_of : Command → List ℕ
-name_of (Integer Uint8) = codes "uint8"
-name_of (Integer Int8) = codes "int8"
-name_of (Integer Uint16) = codes "uint16"
-name_of (Integer Int16) = codes "int16"
-name_of (Integer Uint24) = codes "uint24"
-name_of (Integer Int24) = codes "int24"
-name_of (Integer Uint32) = codes "uint32"
-name_of (Integer Int32) = codes "int32"
-name_of (Integer Int64) = codes "int64"
-name_of (FixedPoint Fixed) = codes "fixed"
+name_of (Integer type) = (integer_row type).0
+name_of (FixedPoint type) = (fixed_row type).0
 name_of Read = codes "read"
+name_of Tag = codes "tag"
 
--- every command
-abbrev pub commands : List Command
-commands =
-    Integer Uint8 ∷ Integer Int8 ∷ Integer Uint16 ∷ Integer Int16 ∷ Integer Uint24 ∷ Integer Int24
-    ∷ Integer Uint32 ∷ Integer Int32 ∷ Integer Int64 ∷ FixedPoint Fixed ∷ Read ∷ []
+-- the command is the one that a word names, or there is none and the word is refused
+abbrev pub IsNamed : List ℕ → Result Command Refusal → Type 0
+IsNamed word (Ok command) = name_of command ≡ word
+IsNamed word (Err refusal) = (refusal ≡ UnknownCommand) × ((command : Command) → name_of command ≢ word)
 
--- the command that a word names
-abbrev pub command_named : List ℕ → Option Command
-command_named word = find (λ command. bytes_eq (name_of command) word) commands
+-- the answer is right for the command that a word names, or refuses a word that names none
+pub record ForNamed (word : List ℕ) (IsRight : Command → Answer → Type 0) (answer : Answer) : Type 0 where
+  pub command : Result Command Refusal
+  pub named : IsNamed word command
+  pub is_right : MatchResult command (λ known. IsRight known answer) (λ refusal. answer ≡ Err refusal)
 
--- the word of a command that takes one
-abbrev pub only_word : List (List ℕ) → Result (List ℕ) Refusal
-only_word (word ∷ []) = Ok word
-only_word words = Err WordCount
+-- ---- what a command answers to the words behind it
 
--- the words of a command that takes two
+-- the n bytes of the only word, in hexadecimal digits of either case
+abbrev pub hexadecimal : ℕ → List (List ℕ) → Result (List ℕ) Refusal
+hexadecimal n (word ∷ []) = result_map_both (λ bytes. bytes) (λ fault. NotHexadecimal) (decode_sized word n)
+hexadecimal n words = Err WordCount
+
+-- the two words of a command that takes two
 abbrev pub two_words : List (List ℕ) → Result (List ℕ × List ℕ) Refusal
 two_words (first ∷ second ∷ []) = Ok (first, second)
 two_words words = Err WordCount
 
--- What a command makes of the words behind it. Their number is judged first, and then each of them
--- from left to right.
-abbrev pub IsResultOf : Command → List (List ℕ) → Result Answer Refusal → Type 0
-IsResultOf (Integer type) words result =
-    MatchResult (only_word words) (λ word. result ≡ integer type word) (λ refusal. result ≡ Err refusal)
-IsResultOf (FixedPoint type) words result =
-    MatchResult (only_word words) (λ word. result ≡ fixed_point type word) (λ refusal. result ≡ Err refusal)
-IsResultOf Read words result =
-    MatchResult (two_words words) (λ pair. IsReadAs (command_named pair.0) pair.1 result) (λ refusal. result ≡ Err refusal)
+-- the number that n bytes stand for: their base-256 numeral, highest byte first, in two's complement where they
+-- have a sign
+abbrev pub number_of : ℕ → Bool → List ℕ → ℤ
+number_of n sign bytes = if sign then signed_numeral n bytes else pos (numeral bytes)
 
--- what the words of a line come to: the first of them names the command
-abbrev pub IsResult : List (List ℕ) → Result Answer Refusal → Type 0
-IsResult [] result = result ≡ Err UnknownCommand
-IsResult (name ∷ words) result =
-    MatchOption (command_named name) (result ≡ Err UnknownCommand) (λ command. IsResultOf command words result)
+-- the number of an integer type that the bytes of a word stand for
+abbrev pub integer : IntegerType → List (List ℕ) → Result ℤ Refusal
+integer type words =
+    let n = (integer_row type).1 in
+    result_map_both (number_of n (integer_row type).2) (λ refusal. refusal) (hexadecimal n words)
+
+-- the text of the fixed-point number whose bits the bytes of a word are
+abbrev pub fixed_point : FixedType → List (List ℕ) → Answer
+fixed_point type words =
+    let n = (fixed_row type).1 / 8 in
+    result_map_both (λ bytes. shortest_text (signed_numeral n bytes) (fixed_row type).2) (λ refusal. refusal) (hexadecimal n words)
+
+-- the answer is the bytes, in hexadecimal digits, of the number of w bits with f bits of fraction that
+-- the text is read as
+pub record ShowsReading (w f : ℕ) (text : List ℕ) (answer : Answer) : Type 0 where
+  pub bits : Result ℤ DecimalFault
+  pub read : ReadingGives w f text bits
+  pub shows : answer ≡ result_map_both (λ b. encode_lower (bytes_of (w / 8) b)) refusal_of bits
+
+-- the same where a command word says what the text is read as: only a fixed-point type is read
+abbrev pub ShowsReadingAs : List ℕ → Command → Answer → Type 0
+ShowsReadingAs text (FixedPoint type) answer = ShowsReading (fixed_row type).1 (fixed_row type).2 text answer
+ShowsReadingAs text other answer = answer ≡ Err UnknownCommand
+
+-- what is said of a tag: that it is good, or the fault that it has and where it has it
+abbrev pub verdict_text : Result (Unit {0}) InvalidTag → List ℕ
+verdict_text (Ok good) = codes " valid"
+verdict_text (Err (InvalidLength n)) = codes " length"
+verdict_text (Err (InvalidByte index byte)) = codes " byte " ++ decimal index
+verdict_text (Err (ByteAfterSpace index)) = codes " space " ++ decimal index
+
+-- the answer is the text of the tag of four bytes, and what is said of it
+pub record JudgesTag (bytes : List ℕ) (answer : Answer) : Type 0 where
+  pub verdict : Result (Unit {0}) InvalidTag
+  pub judged : IsValidated bytes verdict
+  pub shows : answer ≡ Ok (tag_text bytes ++ verdict_text verdict)
+
+-- What a command answers to the words behind it. Their number is judged first, and then each of them
+-- from left to right.
+abbrev pub AnswersWords : List (List ℕ) → Command → Answer → Type 0
+AnswersWords words (Integer type) answer = answer ≡ result_map_both signed_decimal (λ refusal. refusal) (integer type words)
+AnswersWords words (FixedPoint type) answer = answer ≡ fixed_point type words
+AnswersWords words Read answer =
+    MatchResult (two_words words) (λ pair. ForNamed pair.0 (ShowsReadingAs pair.1) answer) (λ refusal. answer ≡ Err refusal)
+AnswersWords words Tag answer = MatchResult (hexadecimal 4 words) (λ bytes. JudgesTag bytes answer) (λ refusal. answer ≡ Err refusal)
+
+-- what is answered to the words of a line: the first of them names the command
+abbrev pub IsAnswer : List (List ℕ) → Answer → Type 0
+IsAnswer [] answer = answer ≡ Err UnknownCommand
+IsAnswer (name ∷ words) answer = ForNamed name (AnswersWords words) answer

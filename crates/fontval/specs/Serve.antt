@@ -1,5 +1,5 @@
 -- What it means that a source has been served.
-use Rattle.std.specs.Prelude.{◌≡◌, ◌≢◌, ℕ, Bool, true, false, List, [], ◌++◌, Option}
+use Rattle.std.specs.Prelude.{◌≡◌, ◌≢◌, ℕ, Bool, true, false, List, [], ◌∷◌, ◌++◌, codes, Option, Result, Ok, Err}
 use Rattle.std.specs.Io.KnownBytes.{Appends, Consumes, IsAtEnd}
 use Rattle.fontval.specs.declared.serve.ServeFault.{ServeFault}
 use Rattle.fontval.specs.declared.serve.ServeFault.TheVariants.{Memory, Read, Write}
@@ -44,3 +44,15 @@ abbrev pub ReadFails : ServeFault → Bool → Type 0
 ReadFails Memory failed = failed ≡ false
 ReadFails Read failed = failed ≡ true
 ReadFails Write failed = ⊥
+
+-- the status that the program ends with
+abbrev pub status_of : Result (Unit {0}) ServeFault → ℕ
+status_of (Ok done) = 0
+status_of (Err fault) = 1
+
+-- what it says on standard error: nothing, or its name and the fault
+abbrev pub complaint_of : Result (Unit {0}) ServeFault → List ℕ
+complaint_of (Ok done) = []
+complaint_of (Err Memory) = codes "fontval: memory" ++ 10 ∷ []
+complaint_of (Err Read) = codes "fontval: read" ++ 10 ∷ []
+complaint_of (Err Write) = codes "fontval: write" ++ 10 ∷ []

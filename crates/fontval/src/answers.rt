@@ -1,11 +1,14 @@
 //! The answers to lines, as text.
 
-ghost use Rattle.std.specs.Prelude.{◌≡◌, ◌++◌, string_bytes, IfOk, OnOk};
-ghost use Rattle.hex.specs.Hex.{encode_lower};
+ghost use Rattle.std.specs.Prelude.{◌≡◌, string_bytes, IfOk, OnOk};
 ghost use Rattle.fontval.specs.Answers.{AppendsAnswer, Answers};
+ghost use Rattle.fontval.specs.Command.{IsAnswer};
+ghost use Rattle.fontval.specs.Refusal.{GivesAnswer};
+ghost use Rattle.fontval.specs.Text.{words_of};
 
-use crate::command::{Answer, result_of};
-use crate::text::Lines;
+use crate::command::Command;
+use crate::refusal::{Refusal, Unanswered};
+use crate::text::{Lines, Words};
 use std::alloc::{AllocError, Allocator};
 
 /// The answers to the lines of an input, each followed by a line feed.
@@ -25,19 +28,20 @@ pub fn answers<A: Allocator>(alloc: A, input: &[u8]) -> Result<String<A>, AllocE
 fn append_answer<A: Allocator>(line: &[u8], output: &mut String<A>) -> Result<(), AllocError>
     ensures { OnOk result (AppendsAnswer line.now (string_bytes output.old) (string_bytes output.new)) }
 {
-    match result_of(line) {
-        Ok(Answer::Number(number)) => write!(output, "{number}"),
-        Ok(Answer::Fixed(number)) => write!(output, "{number}"),
-        Ok(Answer::Bytes4(bytes)) => append_bytes(&bytes, output),
-        Err(refusal) => write!(output, "error {}", refusal as u8),
+    match append_text(line, output) {
+        Ok(()) => Ok(()),
+        Err(Unanswered::Memory) => Err(AllocError),
+        Err(Unanswered::Refused(refusal)) => write!(output, "error {}", refusal as u8),
     }
 }
 
-// Appends bytes in lower-case hexadecimal.
-fn append_bytes<A: Allocator>(bytes: &[u8; 4], output: &mut String<A>) -> Result<(), AllocError>
-    ensures { OnOk result (string_bytes output.new ≡ string_bytes output.old ++ encode_lower bytes.now) }
+// Appends the answer to a line that is not refused.
+#[tactic(auto, using(crate::proofs::GivenLemmas::given_refusal))]
+fn append_text<A: Allocator>(line: &[u8], output: &mut String<A>) -> Result<(), Unanswered>
+    ensures { GivesAnswer (IsAnswer (words_of line.now))
+        (string_bytes output.old) (string_bytes output.new) result }
 {
-    let mut digits = [0; 8];
-    hex::encode_to_slice(bytes.as_slice(), &mut digits).unwrap();
-    output.push_str(str::from_utf8(&digits).unwrap())
+    let mut words = Words::new(line);
+    let name = words.next().ok_or(Refusal::UnknownCommand)?;
+    Command::named(name)?.answer(words, output)
 }

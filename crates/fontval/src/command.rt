@@ -1,14 +1,19 @@
 //! The commands, and what they answer.
 
-ghost use Rattle.std.specs.Prelude.{◌≡◌, MatchResult, find, bytes_eq};
-ghost use Rattle.fontval.specs.Command.{command_named, fixed_point, hexadecimal, integer, name_of, only_word, two_words, IsRead, IsResult, IsResultOf};
+ghost use Rattle.std.specs.Prelude.{◌≡◌, [], ◌∷◌, IsTrue, bytes_eq, find, option_map, string_bytes};
+ghost use Rattle.std.specs.List.{list_all, list_any};
+ghost use Rattle.fontval.specs.Command.{integer, name_of, AnswersWords, IsNamed, JudgesTag, ShowsReadingAs};
+ghost use Rattle.font_types.specs.Tag.{tag_bytes};
+ghost use Rattle.fontval.specs.Refusal.{GivesAnswer};
 ghost use Rattle.fontval.specs.Text.{words_of};
 
+use crate::judgement::Judgement;
+use crate::output::{append, append_read};
+use crate::parse::{decimal_text, hexadecimal, only_word, two_words};
+use crate::refusal::{Refusal, Unanswered};
 use crate::text::Words;
-use font_base::{Int24, Scalar, Uint24};
-use font_decimal::DecimalFault;
-use font_fixed::Fixed;
-use hex::FromHex;
+use font_types::{F2Dot14, F4Dot12, F6Dot10, F26Dot6, F48Dot16, Fixed, Int24, Scalar, Tag, Uint24};
+use std::alloc::Allocator;
 
 /// What a line asks for.
 #[derive(Clone, Copy)]
@@ -19,6 +24,8 @@ pub enum Command {
     FixedPoint(FixedType),
     /// The bytes of the fixed-point number that a decimal text is read as, of the type named first.
     Read,
+    /// The text of the tag of four bytes, and whether it is good.
+    Tag,
 }
 
 /// The integer types of OpenType, by how their bytes are read.
@@ -38,190 +45,170 @@ pub enum IntegerType {
 /// The fixed-point types of OpenType, by how their bits are read.
 #[derive(Clone, Copy)]
 pub enum FixedType {
-    /// 32 bits, 16 of them fraction.
+    F2Dot14,
+    F4Dot12,
+    F6Dot10,
     Fixed,
+    F26Dot6,
+    F48Dot16,
 }
 
-/// What a command answers.
-#[derive(Clone, Copy)]
-pub enum Answer {
-    /// A whole number, shown in decimal.
-    Number(i64),
-    /// A fixed-point number, shown as its shortest decimal.
-    Fixed(Fixed),
-    /// Four bytes, shown in lower-case hexadecimal.
-    Bytes4([u8; 4]),
-}
-
-/// Why a line is refused. It is shown by its number.
-#[derive(Clone, Copy)]
-pub enum Refusal {
-    /// No word, or a first word that names no command.
-    UnknownCommand = 1,
-    /// Too few words or too many.
-    WordCount = 2,
-    /// A word that is not hexadecimal, or has another number of bytes.
-    NotHexadecimal = 3,
-    /// A word outside the grammar of decimal texts.
-    NotDecimal = 4,
-    /// A number outside the range of its type.
-    OutOfRange = 5,
-    /// A word that is no whole number.
-    NotWhole = 6,
-}
+// The commands, each with the word that names it.
+static COMMANDS: &[(&[u8], Command)] = &[
+    (b"uint8", Command::Integer(IntegerType::Uint8)),
+    (b"int8", Command::Integer(IntegerType::Int8)),
+    (b"uint16", Command::Integer(IntegerType::Uint16)),
+    (b"int16", Command::Integer(IntegerType::Int16)),
+    (b"uint24", Command::Integer(IntegerType::Uint24)),
+    (b"int24", Command::Integer(IntegerType::Int24)),
+    (b"uint32", Command::Integer(IntegerType::Uint32)),
+    (b"int32", Command::Integer(IntegerType::Int32)),
+    (b"int64", Command::Integer(IntegerType::Int64)),
+    (b"f2dot14", Command::FixedPoint(FixedType::F2Dot14)),
+    (b"f4dot12", Command::FixedPoint(FixedType::F4Dot12)),
+    (b"f6dot10", Command::FixedPoint(FixedType::F6Dot10)),
+    (b"fixed", Command::FixedPoint(FixedType::Fixed)),
+    (b"f26dot6", Command::FixedPoint(FixedType::F26Dot6)),
+    (b"f48dot16", Command::FixedPoint(FixedType::F48Dot16)),
+    (b"read", Command::Read),
+    (b"tag", Command::Tag),
+];
 
 impl Command {
-    const ALL: [Command; 11] = [
-        Command::Integer(IntegerType::Uint8),
-        Command::Integer(IntegerType::Int8),
-        Command::Integer(IntegerType::Uint16),
-        Command::Integer(IntegerType::Int16),
-        Command::Integer(IntegerType::Uint24),
-        Command::Integer(IntegerType::Int24),
-        Command::Integer(IntegerType::Uint32),
-        Command::Integer(IntegerType::Int32),
-        Command::Integer(IntegerType::Int64),
-        Command::FixedPoint(FixedType::Fixed),
-        Command::Read,
-    ];
+    /// The command that a word names.
+    pub fn named(word: &[u8]) -> Result<Command, Refusal>
+        ensures { IsNamed word.now result }
+    {
+        named_in(COMMANDS, word)
+    }
 
-    // The word that a line names it by.
-    fn name(self) -> &'static [u8]
-        ensures { result.now ≡ name_of self }
+    /// Appends what the command answers to the words behind it.
+    #[tactic(auto, using(crate::proofs::GivenLemmas::given_refusal, crate::proofs::GivenLemmas::given_text))]
+    pub fn answer<A: Allocator>(
+        self,
+        words: Words<'_>,
+        output: &mut String<A>,
+    ) -> Result<(), Unanswered>
+        ensures { GivesAnswer (AnswersWords (words_of words.entry.rest.now) self)
+            (string_bytes output.old) (string_bytes output.new) result }
     {
         match self {
-            Command::Integer(IntegerType::Uint8) => b"uint8",
-            Command::Integer(IntegerType::Int8) => b"int8",
-            Command::Integer(IntegerType::Uint16) => b"uint16",
-            Command::Integer(IntegerType::Int16) => b"int16",
-            Command::Integer(IntegerType::Uint24) => b"uint24",
-            Command::Integer(IntegerType::Int24) => b"int24",
-            Command::Integer(IntegerType::Uint32) => b"uint32",
-            Command::Integer(IntegerType::Int32) => b"int32",
-            Command::Integer(IntegerType::Int64) => b"int64",
-            Command::FixedPoint(FixedType::Fixed) => b"fixed",
-            Command::Read => b"read",
+            Command::Integer(kind) => append(kind.number(only_word(words)?)?, output),
+            Command::FixedPoint(kind) => kind.show(only_word(words)?, output),
+            Command::Read => read(words, output),
+            Command::Tag => judge(Tag::from_be_bytes(hexadecimal(only_word(words)?)?), output),
+        }
+    }
+}
+
+// The same by a table in which each row has its command's name, and each command a row.
+fn named_in(rows: &[(&[u8], Command)], word: &[u8]) -> Result<Command, Refusal>
+    requires right { IsTrue (list_all (λ row. bytes_eq (name_of row.1) row.0.now) rows.now) }
+    requires whole { (command : _) → IsTrue (list_any (λ row. bytes_eq row.0.now (name_of command)) rows.now) }
+    ensures { IsNamed word.now result }
+{
+    first_named(rows, word).ok_or(Refusal::UnknownCommand)
+}
+
+// The command of the first row that has the word.
+fn first_named(rows: &[(&[u8], Command)], word: &[u8]) -> Option<Command>
+    ensures { result ≡ option_map (λ row. row.1) (find (λ row. bytes_eq row.0.now word.now) rows.now) }
+{
+    let (_, command) = rows.iter().find(|row| row.0 == word)?;
+    Some(*command)
+}
+
+impl IntegerType {
+    // The number that the bytes of a hexadecimal word stand for.
+    fn number(self, word: &[u8]) -> Result<i64, Refusal>
+        ensures { result ≡ integer self (word.now ∷ []) }
+    {
+        Ok(match self {
+            IntegerType::Uint8 => i64::from(u8::from_raw(hexadecimal(word)?)),
+            IntegerType::Int8 => i64::from(i8::from_raw(hexadecimal(word)?)),
+            IntegerType::Uint16 => i64::from(u16::from_raw(hexadecimal(word)?)),
+            IntegerType::Int16 => i64::from(i16::from_raw(hexadecimal(word)?)),
+            IntegerType::Uint24 => i64::from(Uint24::from_be_bytes(hexadecimal(word)?).to_u32()),
+            IntegerType::Int24 => i64::from(Int24::from_be_bytes(hexadecimal(word)?).to_i32()),
+            IntegerType::Uint32 => i64::from(u32::from_raw(hexadecimal(word)?)),
+            IntegerType::Int32 => i64::from(i32::from_raw(hexadecimal(word)?)),
+            IntegerType::Int64 => i64::from_raw(hexadecimal(word)?),
+        })
+    }
+}
+
+impl FixedType {
+    // Appends the number whose bits the bytes of a hexadecimal word are.
+    #[tactic(auto, using(crate::proofs::GivenLemmas::given_refusal, crate::proofs::GivenLemmas::given_text))]
+    fn show<A: Allocator>(self, word: &[u8], output: &mut String<A>) -> Result<(), Unanswered>
+        ensures { GivesAnswer (AnswersWords (word.now ∷ []) (Command.FixedPoint self))
+            (string_bytes output.old) (string_bytes output.new) result }
+    {
+        match self {
+            FixedType::F2Dot14 => append(F2Dot14::from_raw(hexadecimal(word)?), output),
+            FixedType::F4Dot12 => append(F4Dot12::from_raw(hexadecimal(word)?), output),
+            FixedType::F6Dot10 => append(F6Dot10::from_raw(hexadecimal(word)?), output),
+            FixedType::Fixed => append(Fixed::from_raw(hexadecimal(word)?), output),
+            FixedType::F26Dot6 => append(
+                F26Dot6::from_bits(i32::from_raw(hexadecimal(word)?)),
+                output,
+            ),
+            FixedType::F48Dot16 => append(
+                F48Dot16::from_bits(i64::from_raw(hexadecimal(word)?)),
+                output,
+            ),
         }
     }
 
-    // The command that a word names.
-    fn named(word: &[u8]) -> Option<Command>
-        ensures { result ≡ command_named word.now }
+    // Appends the bytes of the number that a text is read as.
+    fn read<A: Allocator>(self, text: &str, output: &mut String<A>) -> Result<(), Unanswered>
+        ensures { GivesAnswer (ShowsReadingAs text.now (Command.FixedPoint self))
+            (string_bytes output.old) (string_bytes output.new) result }
     {
-        first_named(&Command::ALL, word)
+        match self {
+            FixedType::F2Dot14 => append_read(
+                F2Dot14::from_decimal(text).map(F2Dot14::to_bits),
+                output,
+            ),
+            FixedType::F4Dot12 => append_read(
+                F4Dot12::from_decimal(text).map(F4Dot12::to_bits),
+                output,
+            ),
+            FixedType::F6Dot10 => append_read(
+                F6Dot10::from_decimal(text).map(F6Dot10::to_bits),
+                output,
+            ),
+            FixedType::Fixed => append_read(Fixed::from_decimal(text).map(Fixed::to_bits), output),
+            FixedType::F26Dot6 => append_read(
+                F26Dot6::from_decimal(text).map(F26Dot6::to_bits),
+                output,
+            ),
+            FixedType::F48Dot16 => append_read(
+                F48Dot16::from_decimal(text).map(F48Dot16::to_bits),
+                output,
+            ),
+        }
     }
 }
 
-// The first command of the list that a word names.
-fn first_named(commands: &[Command], word: &[u8]) -> Option<Command>
-    ensures { result ≡ find (λ command. bytes_eq (name_of command) word.now) commands.now }
+// Appends the bytes of the number that the second word is read as, of the type that the first names.
+#[tactic(auto, using(crate::proofs::GivenLemmas::given_refusal, crate::proofs::CommandLemmas::refused_reading, crate::proofs::CommandLemmas::reads_nothing, crate::proofs::CommandLemmas::reads_no_decimal))]
+fn read<A: Allocator>(words: Words<'_>, output: &mut String<A>) -> Result<(), Unanswered>
+    ensures { GivesAnswer (AnswersWords (words_of words.entry.rest.now) Command.Read)
+        (string_bytes output.old) (string_bytes output.new) result }
 {
-    commands
-        .iter()
-        .copied()
-        .find(|command| command.name() == word)
-}
-
-/// What a line comes to. The command word is judged first, then the number of words, and then the
-/// other words from left to right.
-pub fn result_of(line: &[u8]) -> Result<Answer, Refusal>
-    ensures { IsResult (words_of line.now) result }
-{
-    let mut words = Words::new(line);
-    let command = words.next().and_then(Command::named);
-    match command.ok_or(Refusal::UnknownCommand)? {
-        Command::Integer(kind) => integer(kind, only_word(words)?),
-        Command::FixedPoint(kind) => fixed_point(kind, only_word(words)?),
-        Command::Read => read_words(words),
+    let (name, word) = two_words(words)?;
+    match Command::named(name)? {
+        Command::FixedPoint(kind) => kind.read(decimal_text(word)?, output),
+        _ => Err(Refusal::UnknownCommand.into()),
     }
 }
 
-// The word of a command that takes one.
-fn only_word(mut words: Words<'_>) -> Result<&[u8], Refusal>
-    ensures { MatchResult result
-        (λ word. only_word (words_of words.entry.rest.now) ≡ Ok word.now)
-        (λ refusal. only_word (words_of words.entry.rest.now) ≡ Err refusal) }
+// Appends the text of a tag, and what is said of it.
+#[tactic(auto, using(crate::proofs::CommandLemmas::judged_tag))]
+fn judge<A: Allocator>(tag: Tag, output: &mut String<A>) -> Result<(), Unanswered>
+    ensures { GivesAnswer (JudgesTag (tag_bytes tag)) (string_bytes output.old) (string_bytes output.new) result }
 {
-    match (words.next(), words.next()) {
-        (Some(word), None) => Ok(word),
-        _ => Err(Refusal::WordCount),
-    }
-}
-
-// The words of a command that takes two.
-fn two_words(mut words: Words<'_>) -> Result<(&[u8], &[u8]), Refusal>
-    ensures { MatchResult result
-        (λ pair. two_words (words_of words.entry.rest.now) ≡ Ok (pair.0.now, pair.1.now))
-        (λ refusal. two_words (words_of words.entry.rest.now) ≡ Err refusal) }
-{
-    match (words.next(), words.next(), words.next()) {
-        (Some(first), Some(second), None) => Ok((first, second)),
-        _ => Err(Refusal::WordCount),
-    }
-}
-
-// The number that the bytes of a hexadecimal word stand for.
-fn integer(kind: IntegerType, word: &[u8]) -> Result<Answer, Refusal>
-    ensures { result ≡ integer kind word.now }
-{
-    let number = match kind {
-        IntegerType::Uint8 => i64::from(u8::from_raw(from_hex(word)?)),
-        IntegerType::Int8 => i64::from(i8::from_raw(from_hex(word)?)),
-        IntegerType::Uint16 => i64::from(u16::from_raw(from_hex(word)?)),
-        IntegerType::Int16 => i64::from(i16::from_raw(from_hex(word)?)),
-        IntegerType::Uint24 => i64::from(Uint24::from_be_bytes(from_hex(word)?).to_u32()),
-        IntegerType::Int24 => i64::from(Int24::from_be_bytes(from_hex(word)?).to_i32()),
-        IntegerType::Uint32 => i64::from(u32::from_raw(from_hex(word)?)),
-        IntegerType::Int32 => i64::from(i32::from_raw(from_hex(word)?)),
-        IntegerType::Int64 => i64::from_raw(from_hex(word)?),
-    };
-    Ok(Answer::Number(number))
-}
-
-// The fixed-point number whose bits the bytes of a hexadecimal word are.
-fn fixed_point(kind: FixedType, word: &[u8]) -> Result<Answer, Refusal>
-    ensures { result ≡ fixed_point kind word.now }
-{
-    match kind {
-        FixedType::Fixed => Ok(Answer::Fixed(Fixed::from_raw(from_hex(word)?))),
-    }
-}
-
-// The bytes of the number that the second word is read as, of the type that the first names.
-fn read_words(words: Words<'_>) -> Result<Answer, Refusal>
-    ensures { IsResultOf Command.Read (words_of words.entry.rest.now) result }
-{
-    let (name, text) = two_words(words)?;
-    match Command::named(name) {
-        Some(Command::FixedPoint(kind)) => read(kind, text),
-        _ => Err(Refusal::UnknownCommand),
-    }
-}
-
-fn read(kind: FixedType, word: &[u8]) -> Result<Answer, Refusal>
-    ensures { IsRead kind word.now result }
-{
-    match kind {
-        FixedType::Fixed => read_fixed(word),
-    }
-}
-
-fn read_fixed(word: &[u8]) -> Result<Answer, Refusal>
-    ensures { IsRead FixedType.Fixed word.now result }
-{
-    let Ok(text) = str::from_utf8(word) else {
-        return Err(Refusal::NotDecimal);
-    };
-    match Fixed::from_decimal(text) {
-        Ok(number) => Ok(Answer::Bytes4(number.to_raw())),
-        Err(DecimalFault::Syntax) => Err(Refusal::NotDecimal),
-        Err(DecimalFault::OutOfRange) => Err(Refusal::OutOfRange),
-    }
-}
-
-// The bytes of a hexadecimal word, in digits of either case, that has `N` of them.
-fn from_hex<const N: usize>(word: &[u8]) -> Result<[u8; N], Refusal>
-    ensures { result ≡ hexadecimal N word.now }
-{
-    <[u8; N]>::from_hex(word).map_err(|_| Refusal::NotHexadecimal)
+    let verdict = tag.validate();
+    append(Judgement { tag, verdict }, output)
 }

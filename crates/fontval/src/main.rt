@@ -5,22 +5,26 @@
 mod answers;
 mod command;
 mod device;
+mod ending;
+mod judgement;
+mod output;
+mod parse;
+mod refusal;
 mod serve;
 mod text;
 
 use device::{FromRead, FromWrite};
+use ending::ending;
 use serve::serve;
 use std::io;
 use std::process::ExitCode;
 
+// No clause can say what standard input gave and what standard output and standard error took. A
+// complaint that standard error refuses is lost, and the status stays.
 fn main(rt: HostRuntime) -> ExitCode {
     let mut source = FromRead::new(rt.stdin());
     let mut sink = FromWrite::new(io::writer(&rt));
-    match serve(rt.alloc(), &mut source, &mut sink) {
-        Ok(()) => ExitCode::SUCCESS,
-        Err(fault) => {
-            let _ = eprintln!(rt; "fontval: {fault}");
-            ExitCode::FAILURE
-        }
-    }
+    let (status, complaint) = ending(serve(rt.alloc(), &mut source, &mut sink));
+    let _ = eprint!(rt; "{complaint}");
+    status
 }

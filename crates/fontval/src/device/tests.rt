@@ -1,16 +1,43 @@
 //! The adapters over std's readers and writers.
 
+ghost use Rattle.std.specs.Prelude.{◌≡◌, IfOk};
+
 use super::{FromRead, FromWrite, Sink, Source};
 use std::io;
-use std::io::{ErrorKind, Read};
+use std::io::{ErrorKind, Read, Write};
 
-/// A reader whose reads are interrupted.
+/// A device whose first call is interrupted. Those behind it pass, and move what they can.
 #[derive(Drop)]
-struct Interrupted;
+struct InterruptedOnce {
+    calls: usize,
+}
 
-impl Read for Interrupted {
-    fn read(&mut self, _buf: &mut [u8]) -> io::Result<usize> {
-        Err(io::Error::from(ErrorKind::Interrupted))
+impl InterruptedOnce {
+    fn moved(&mut self, len: usize) -> io::Result<usize>
+        ensures { IfOk result (λ n. n ≡ len) }
+    {
+        self.calls = self.calls.saturating_add(1);
+        if self.calls == 1 {
+            Err(io::Error::from(ErrorKind::Interrupted))
+        } else {
+            Ok(len)
+        }
+    }
+}
+
+impl Read for InterruptedOnce {
+    fn read(&mut self, buf: &mut [u8]) -> io::Result<usize> {
+        self.moved(buf.len())
+    }
+}
+
+impl Write for InterruptedOnce {
+    fn write(&mut self, buf: &[u8]) -> io::Result<usize> {
+        self.moved(buf.len())
+    }
+
+    fn flush(&mut self) -> io::Result<()> {
+        Ok(())
     }
 }
 
@@ -26,12 +53,23 @@ fn reads_to_the_end(rt: HostRuntime) {
     assert!(rt; !source.has_failed());
 }
 
+// An interrupted call is a failure, and is not tried again.
 #[test]
 fn an_interrupted_read_fails(rt: HostRuntime) {
-    let mut source = FromRead::new(Interrupted);
-    assert!(rt; !source.has_failed());
+    let mut source = FromRead::new(InterruptedOnce { calls: 0 });
     assert!(rt; source.read(&mut [0; 2]).is_err());
     assert!(rt; source.has_failed());
+    assert!(rt; matches!(source.read(&mut [0; 2]), Ok(2)));
+    assert!(rt; source.has_failed());
+}
+
+#[test]
+fn an_interrupted_write_fails(rt: HostRuntime) {
+    let mut sink = FromWrite::new(InterruptedOnce { calls: 0 });
+    assert!(rt; sink.write(b"ab").is_err());
+    assert!(rt; sink.has_failed());
+    assert!(rt; matches!(sink.write(b"ab"), Ok(2)));
+    assert!(rt; sink.has_failed());
 }
 
 #[test]

@@ -1,6 +1,6 @@
 //! The program over memory, with devices that fail and with memory that runs out.
 
-ghost use Rattle.std.specs.Prelude.{◌≡◌, Some, false, nat_lt};
+ghost use Rattle.std.specs.Prelude.{◌≡◌, Some, false};
 
 use super::{ServeFault, serve};
 use crate::device::{Failed, FromRead, FromWrite, Sink, Source};
@@ -12,12 +12,13 @@ const LINES: &[u8] = b"int24 fe1dc0\nint24 fe1d\n\nbogus 1\nuint8";
 
 const ANSWERS: &[u8] = b"-123456\nerror 3\nerror 1\nerror 1\nerror 2\n";
 
-/// A source that gives one byte a call, as long as it has calls that pass.
+/// A source that gives one byte a call, as long as it has calls that pass. It counts every call.
 #[derive(Drop)]
 struct Drip<'a> {
     left: &'a [u8],
     passes: usize,
-    failures: usize,
+    calls: usize,
+    failed: bool,
 }
 
 impl<'a> Drip<'a> {
@@ -27,7 +28,8 @@ impl<'a> Drip<'a> {
         Drip {
             left,
             passes,
-            failures: 0,
+            calls: 0,
+            failed: false,
         }
     }
 }
@@ -35,11 +37,12 @@ impl<'a> Drip<'a> {
 impl Source for Drip<'_> {
     ghost left = { λ drip. Some drip.left.now };
 
-    ghost failed = { λ drip. nat_lt 0 drip.failures };
+    ghost failed = { λ drip. drip.failed };
 
     fn read(&mut self, buf: &mut [u8]) -> Result<usize, Failed> {
+        self.calls = self.calls.saturating_add(1);
         if self.passes == 0 {
-            self.failures = self.failures.saturating_add(1);
+            self.failed = true;
             return Err(Failed);
         }
         self.passes -= 1;
@@ -55,16 +58,18 @@ impl Source for Drip<'_> {
     }
 
     fn has_failed(&self) -> bool {
-        self.failures > 0
+        self.failed
     }
 }
 
-/// A sink that takes one byte a call, as long as it has calls that pass.
+/// A sink that takes one byte a call, as long as it has calls that pass. It counts every call, also one
+/// with nothing to write.
 #[derive(Drop)]
 struct Trickle {
     taken: Vec<u8>,
     passes: usize,
-    failures: usize,
+    calls: usize,
+    failed: bool,
 }
 
 impl Trickle {
@@ -74,7 +79,8 @@ impl Trickle {
         Trickle {
             taken: Vec::new(alloc),
             passes,
-            failures: 0,
+            calls: 0,
+            failed: false,
         }
     }
 }
@@ -82,14 +88,15 @@ impl Trickle {
 impl Sink for Trickle {
     ghost taken = { λ trickle. Some trickle.taken.items };
 
-    ghost failed = { λ trickle. nat_lt 0 trickle.failures };
+    ghost failed = { λ trickle. trickle.failed };
 
     fn write(&mut self, buf: &[u8]) -> Result<usize, Failed> {
+        self.calls = self.calls.saturating_add(1);
         if buf.is_empty() {
             return Ok(0);
         }
         if self.passes == 0 || self.taken.push(buf[0]).is_err() {
-            self.failures = self.failures.saturating_add(1);
+            self.failed = true;
             return Err(Failed);
         }
         self.passes -= 1;
@@ -97,7 +104,7 @@ impl Sink for Trickle {
     }
 
     fn has_failed(&self) -> bool {
-        self.failures > 0
+        self.failed
     }
 }
 
@@ -119,6 +126,18 @@ fn answers_each_line(rt: HostRuntime) -> Result<(), Fail> {
 #[test]
 fn empty_input_writes_nothing(rt: HostRuntime) -> Result<(), Fail> {
     assert!(rt; served(rt.alloc(), b"")?.is_empty());
+    Ok(())
+}
+
+// Many blocks of input and more than a megabyte of each, so that no limit on either goes unseen.
+#[test]
+fn long_input_is_answered(rt: HostRuntime) -> Result<(), Fail> {
+    let times = 60_000;
+    let input = "read fixed 0.60\nuint24 x\n".repeat(rt.alloc(), times)?;
+    let answers = "0000999a\nerror 3\n".repeat(rt.alloc(), times)?;
+    let output = served(rt.alloc(), input.as_bytes())?;
+    assert!(rt; output.len() > 1_000_000);
+    assert!(rt; output.as_slice() == answers.as_bytes());
     Ok(())
 }
 
@@ -151,12 +170,15 @@ fn rows(rt: HostRuntime) -> Result<(), Fail> {
     Ok(())
 }
 
+// Each byte is read once and the end is asked for once: on a terminal a second time would wait for a person.
 #[test]
 fn one_byte_a_call(rt: HostRuntime) -> Result<(), Fail> {
     let mut source = Drip::new(LINES, usize::MAX);
     let mut sink = Trickle::new(rt.alloc(), usize::MAX);
     serve(rt.alloc(), &mut source, &mut sink)?;
     assert_eq!(rt; sink.taken.as_slice(), ANSWERS);
+    assert_eq!(rt; source.calls, LINES.len() + 1);
+    assert_eq!(rt; sink.calls, ANSWERS.len());
     Ok(())
 }
 
@@ -167,8 +189,8 @@ fn a_failed_read_writes_nothing(rt: HostRuntime) {
         let mut sink = Trickle::new(rt.alloc(), usize::MAX);
         let result = serve(rt.alloc(), &mut source, &mut sink);
         assert!(rt; matches!(result, Err(ServeFault::Read)), "{passes}");
-        assert_eq!(rt; source.failures, 1, "{passes}");
-        assert!(rt; sink.taken.is_empty(), "{passes}");
+        assert_eq!(rt; source.calls, passes + 1, "{passes}");
+        assert_eq!(rt; sink.calls, 0, "{passes}");
     }
 }
 
@@ -179,7 +201,7 @@ fn a_failed_write_keeps_what_passed(rt: HostRuntime) {
         let mut sink = Trickle::new(rt.alloc(), passes);
         let result = serve(rt.alloc(), &mut source, &mut sink);
         assert!(rt; matches!(result, Err(ServeFault::Write)), "{passes}");
-        assert_eq!(rt; sink.failures, 1, "{passes}");
+        assert_eq!(rt; sink.calls, passes + 1, "{passes}");
         assert_eq!(rt; sink.taken.as_slice(), &ANSWERS[..passes], "{passes}");
     }
 }
@@ -199,7 +221,7 @@ fn each_growth_refused(rt: HostRuntime) -> Result<(), Fail> {
             }
             Err(fault) => {
                 assert!(rt; matches!(fault, ServeFault::Memory), "{size}");
-                assert!(rt; sink.taken.is_empty(), "{size}");
+                assert_eq!(rt; sink.calls, 0, "{size}");
                 refused = size;
             }
         }
@@ -210,12 +232,14 @@ fn each_growth_refused(rt: HostRuntime) -> Result<(), Fail> {
 
 #[test]
 fn faults_in_words(rt: HostRuntime) -> Result<(), Fail> {
-    for (fault, text) in [
-        (ServeFault::Memory, "memory"),
-        (ServeFault::Read, "read"),
-        (ServeFault::Write, "write"),
+    for (fault, number, text, shown) in [
+        (ServeFault::Memory, 1, "memory", "Memory"),
+        (ServeFault::Read, 2, "read", "Read"),
+        (ServeFault::Write, 3, "write", "Write"),
     ] {
         assert_eq!(rt; fault.to_string(rt.alloc())?.as_str(), text);
+        assert_eq!(rt; format!(in rt.alloc(); "{fault:?}")?.as_str(), shown);
+        assert_eq!(rt; fault as u8, number);
     }
     Ok(())
 }

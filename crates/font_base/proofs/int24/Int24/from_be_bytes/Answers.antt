@@ -1,11 +1,23 @@
 use Rattle.std.proofs.Common.{arith, pos, negsuc}
 use Rattle.std.proofs.lemmas.Int.{ints}
 use Rattle.font_base.specs.Bytes.Laws.{IsBytesOf-apart}
+use Rattle.font_base.specs.Wrap.{FitsBits}
+use Rattle.font_base.proofs.TwentyFourBits.{int24_numeral}
 use Rattle.font_base.proofs.int24.Int24.from_be_bytes.Goals as goal
 use Rattle.font_base.proofs.int24.Int24.from_be_bytes.Goals.{then-unsigned, else-unsigned}
 
-pub returns : goal.returns
-returns c = elim c.if-unsigned.branch [
-  | then-unsigned w ↦ IsBytesOf-apart 3 _ _ (negsuc 0) c.args.bytes (omega (arith, ints)) c.from_be_bytes.ensures
-  | else-unsigned w ↦ IsBytesOf-apart 3 _ _ (pos 0) c.args.bytes (omega (arith, ints)) c.from_be_bytes.ensures
+pub returns-clause-bytes : goal.returns-clause-bytes
+returns-clause-bytes c = elim c.if-unsigned.branch [
+  | then-unsigned w ↦ IsBytesOf-apart 3 _ _ (negsuc 0) c.args.bytes (omega (arith, ints)) c.from_be_bytes.ensures.bytes
+  | else-unsigned w ↦ IsBytesOf-apart 3 _ _ (pos 0) c.args.bytes (omega (arith, ints)) c.from_be_bytes.ensures.bytes
 ]
+
+pub returns-clause-number : goal.returns-clause-number
+returns-clause-number c =
+    let unsigned = c.from_be_bytes.result.in_range in
+    let is = c.to_u32-unsigned.ensures in
+    let fits : FitsBits 24 _ = elim c.if-unsigned.branch [
+      | then-unsigned w ↦ record { low = omega (arith, ints, unsigned, is); high = omega (arith, ints, unsigned, is) }
+      | else-unsigned w ↦ record { low = omega (arith, ints, unsigned, is); high = omega (arith, ints, unsigned, is) }
+    ] in
+    int24_numeral _ c.args.bytes fits (returns-clause-bytes c)

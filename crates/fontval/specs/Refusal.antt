@@ -1,0 +1,44 @@
+-- What is answered to a line, by the program's own rule: a text, or a refusal, which is shown by its number.
+use Rattle.std.specs.Prelude.{◌≡◌, ℕ, List, ◌++◌, codes, decimal, Result, Ok, Err}
+use Rattle.font_types.specs.DecimalFault.{DecimalFault}
+use Rattle.font_types.specs.DecimalFault.TheVariants.{Syntax, OutOfRange as TooFar}
+use Rattle.fontval.specs.declared.refusal.Refusal.{Refusal}
+use Rattle.fontval.specs.declared.refusal.Refusal.TheVariants.{UnknownCommand, WordCount, NotHexadecimal, NotDecimal, OutOfRange}
+use Rattle.fontval.specs.declared.refusal.Unanswered.{Unanswered}
+use Rattle.fontval.specs.declared.refusal.Unanswered.TheVariants.{Memory, Refused}
+
+-- what is answered: a text, or why there is none
+abbrev pub Answer : Type 0
+Answer = Result (List ℕ) Refusal
+
+-- the number that a refusal is shown by
+abbrev pub refusal_number : Refusal → ℕ
+refusal_number UnknownCommand = 1
+refusal_number WordCount = 2
+refusal_number NotHexadecimal = 3
+refusal_number NotDecimal = 4
+refusal_number OutOfRange = 5
+
+-- the refusal of a word that is no decimal of its type
+abbrev pub refusal_of : DecimalFault → Refusal
+refusal_of Syntax = NotDecimal
+refusal_of TooFar = OutOfRange
+
+-- the text that an answer is shown by
+abbrev pub text_of : Answer → List ℕ
+text_of (Ok text) = text
+text_of (Err refusal) = codes "error " ++ decimal (refusal_number refusal)
+
+-- How a command ends that gives this answer: the output has grown by the text, or there was no memory for it;
+-- a refusal is told, and leaves the output as it was.
+abbrev pub IsGiven : Answer → List ℕ → List ℕ → Result (Unit {0}) Unanswered → Type 0
+IsGiven (Ok text) old new (Ok done) = new ≡ old ++ text
+IsGiven (Ok text) old new (Err Memory) = Unit {0}
+IsGiven (Ok text) old new (Err (Refused refusal)) = ⊥
+IsGiven (Err refusal) old new outcome = (outcome ≡ Err (Refused refusal)) × (new ≡ old)
+
+-- a right answer is given
+pub record GivesAnswer (IsRight : Answer → Type 0) (old new : List ℕ) (outcome : Result (Unit {0}) Unanswered) : Type 0 where
+  pub answer : Answer
+  pub is_right : IsRight answer
+  pub is_given : IsGiven answer old new outcome

@@ -1,0 +1,24 @@
+//! How the program ends.
+
+ghost use Rattle.std.specs.Prelude.{◌≡◌};
+ghost use Rattle.std.specs.Process.{exit_status};
+ghost use Rattle.fontval.specs.Serve.{complaint_of, status_of};
+
+use crate::serve::ServeFault;
+use std::process::ExitCode;
+
+#[cfg(test)]
+mod tests;
+
+/// The status that the program ends with, and what it says on standard error.
+pub fn ending(served: Result<(), ServeFault>) -> (ExitCode, &'static str)
+    ensures status { exit_status result.0 ≡ status_of served }
+    ensures complaint { result.1.now ≡ complaint_of served }
+{
+    match served {
+        Ok(()) => (ExitCode::SUCCESS, ""),
+        Err(ServeFault::Memory) => (ExitCode::FAILURE, "fontval: memory\n"),
+        Err(ServeFault::Read) => (ExitCode::FAILURE, "fontval: read\n"),
+        Err(ServeFault::Write) => (ExitCode::FAILURE, "fontval: write\n"),
+    }
+}

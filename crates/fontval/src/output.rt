@@ -1,0 +1,49 @@
+//! What a command appends to the output.
+
+ghost use Rattle.std.specs.Prelude.{◌≡◌, ◌≤◌, [], IsSome, length, unwrap_or, string_bytes};
+ghost use Rattle.std.specs.Result.{result_map_both};
+ghost use Rattle.hex.specs.Hex.{encode_lower};
+ghost use Rattle.fontval.specs.Refusal.{refusal_of, GivesAnswer};
+
+use crate::refusal::Unanswered;
+use font_types::{DecimalFault, Scalar};
+use std::alloc::Allocator;
+use std::fmt::Display;
+
+/// Appends a value as it is printed.
+pub fn append<T: Display + Drop, A: Allocator>(
+    value: T,
+    output: &mut String<A>,
+) -> Result<(), Unanswered>
+    requires prints { IsSome (T.output value) }
+    ensures { GivesAnswer (λ answer. answer ≡ Ok (unwrap_or (T.output value) []))
+        (string_bytes output.old) (string_bytes output.new) result }
+{
+    write!(output, "{value}")?;
+    Ok(())
+}
+
+/// Appends the bytes of a number that was read.
+pub fn append_read<T: Scalar<Raw = [u8; N]> + Drop, const N: usize, A: Allocator>(
+    number: Result<T, DecimalFault>,
+    output: &mut String<A>,
+) -> Result<(), Unanswered>
+    requires room { N ≤ 8 }
+    ensures { GivesAnswer (λ answer. answer ≡ result_map_both (λ value. encode_lower (T.raw_of value)) refusal_of number)
+        (string_bytes output.old) (string_bytes output.new) result }
+{
+    append_bytes(number?.to_raw().as_slice(), output)
+}
+
+// Appends at most eight bytes in lower-case hexadecimal digits.
+fn append_bytes<A: Allocator>(bytes: &[u8], output: &mut String<A>) -> Result<(), Unanswered>
+    requires few { length bytes.now ≤ 8 }
+    ensures { GivesAnswer (λ answer. answer ≡ Ok (encode_lower bytes.now))
+        (string_bytes output.old) (string_bytes output.new) result }
+{
+    let mut room = [0; 16];
+    let digits = &mut room[..2 * bytes.len()];
+    hex::encode_to_slice(bytes, digits).unwrap();
+    output.push_str(str::from_utf8(digits).unwrap())?;
+    Ok(())
+}

@@ -1,0 +1,51 @@
+//! What a command makes of its words.
+
+ghost use Rattle.std.specs.Prelude.{◌≡◌, [], ◌∷◌, MatchResult};
+ghost use Rattle.font_types.specs.Grammar.{IsNoDecimal};
+ghost use Rattle.fontval.specs.Command.{hexadecimal, two_words};
+ghost use Rattle.fontval.specs.Text.{words_of};
+
+use crate::refusal::Refusal;
+use crate::text::Words;
+use hex::FromHex;
+
+/// The word of a command that takes one.
+pub fn only_word(mut words: Words<'_>) -> Result<&[u8], Refusal>
+    ensures { MatchResult result
+        (λ word. words_of words.entry.rest.now ≡ word.now ∷ [])
+        (λ refusal. (n : _) → hexadecimal n (words_of words.entry.rest.now) ≡ Err refusal) }
+{
+    match (words.next(), words.next()) {
+        (Some(word), None) => Ok(word),
+        _ => Err(Refusal::WordCount),
+    }
+}
+
+/// The words of a command that takes two.
+pub fn two_words(mut words: Words<'_>) -> Result<(&[u8], &[u8]), Refusal>
+    ensures { MatchResult result
+        (λ pair. two_words (words_of words.entry.rest.now) ≡ Ok (pair.0.now, pair.1.now))
+        (λ refusal. two_words (words_of words.entry.rest.now) ≡ Err refusal) }
+{
+    match (words.next(), words.next(), words.next()) {
+        (Some(first), Some(second), None) => Ok((first, second)),
+        _ => Err(Refusal::WordCount),
+    }
+}
+
+/// The bytes of a word of hexadecimal digits, of either case.
+pub fn hexadecimal<const N: usize>(word: &[u8]) -> Result<[u8; N], Refusal>
+    ensures { result ≡ hexadecimal N (word.now ∷ []) }
+{
+    <[u8; N]>::from_hex(word).map_err(|_| Refusal::NotHexadecimal)
+}
+
+/// A word as text. One that is none is no decimal.
+pub fn decimal_text(word: &[u8]) -> Result<&str, Refusal>
+    ensures { MatchResult result (λ text. text.now ≡ word.now) (λ refusal. (refusal ≡ Refusal.NotDecimal) × IsNoDecimal word.now) }
+{
+    match str::from_utf8(word) {
+        Ok(text) => Ok(text),
+        Err(_) => Err(Refusal::NotDecimal),
+    }
+}

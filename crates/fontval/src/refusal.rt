@@ -1,0 +1,67 @@
+//! Why a line is refused, and why a command appends nothing.
+
+ghost use Rattle.std.specs.Prelude.{◌≡◌};
+ghost use Rattle.fontval.specs.Refusal.{refusal_of};
+ghost use Rattle.fontval.specs.declared.refusal.Unanswered.{Unanswered};
+
+use font_types::DecimalFault;
+use std::alloc::AllocError;
+
+/// Why a line is refused. It is shown by its number.
+#[derive(Clone, Copy)]
+pub enum Refusal {
+    /// No word, or a first word that names no command.
+    UnknownCommand = 1,
+    /// Too few words or too many.
+    WordCount = 2,
+    /// A word that is not hexadecimal, or has another number of bytes.
+    NotHexadecimal = 3,
+    /// A word outside the grammar of decimal texts.
+    NotDecimal = 4,
+    /// A number outside the range of its type.
+    OutOfRange = 5,
+}
+
+impl From<DecimalFault> for Refusal {
+    ghost from_gives = { λ fault refusal. refusal ≡ refusal_of fault };
+
+    fn from(fault: DecimalFault) -> Refusal {
+        match fault {
+            DecimalFault::Syntax => Refusal::NotDecimal,
+            DecimalFault::OutOfRange => Refusal::OutOfRange,
+        }
+    }
+}
+
+/// Why a command appends nothing.
+#[derive(Clone, Copy)]
+pub enum Unanswered {
+    /// There is no memory for the answer.
+    Memory,
+    /// The line is refused.
+    Refused(Refusal),
+}
+
+impl From<AllocError> for Unanswered {
+    ghost from_gives = { λ _ reason. reason ≡ Unanswered.Memory };
+
+    fn from(_error: AllocError) -> Unanswered {
+        Unanswered::Memory
+    }
+}
+
+impl From<Refusal> for Unanswered {
+    ghost from_gives = { λ refusal reason. reason ≡ Unanswered.Refused refusal };
+
+    fn from(refusal: Refusal) -> Unanswered {
+        Unanswered::Refused(refusal)
+    }
+}
+
+impl From<DecimalFault> for Unanswered {
+    ghost from_gives = { λ fault reason. reason ≡ Unanswered.Refused (refusal_of fault) };
+
+    fn from(fault: DecimalFault) -> Unanswered {
+        Unanswered::Refused(fault.into())
+    }
+}
