@@ -1,17 +1,13 @@
 -- That a number and its bytes determine each other.
-use Rattle.std.proofs.Common.{◌≡◌, ◌∙◌, sym, ap, subst, refl, ℕ, zero, suc, ◌+◌, ◌-◌, ◌*◌, ◌/◌, ◌%◌, ◌^◌, ◌<◌, ◌≤◌, Bool, true, ℤ, pos, negsuc, ◌+ℤ◌, ◌*ℤ◌, List, [], ◌∷◌, length, get_or, drop, fold, ◌≢◌, Option, Result, Ok, Err, MatchResult, IfSome, arith, IsTrue, nat_lt, ◌==◌, lit<, lit≤}
-use Rattle.std.proofs.lemmas.Int.{ints, to_z-of_z}
+use Rattle.std.proofs.Common.{◌≡◌, ◌∙◌, sym, ap, subst, refl, ℕ, zero, suc, ◌+◌, ◌*◌, ◌/◌, ◌%◌, ◌^◌, ◌<◌, Bool, true, ℤ, pos, ◌+ℤ◌, ◌*ℤ◌, List, [], ◌∷◌, length, get_or, fold, arith, IsTrue, nat_lt, ◌==◌, lit<}
+use Rattle.std.proofs.lemmas.Int.{ints}
 use Rattle.std.proofs.lemmas.Nat.{pow-add, div-add-mod'}
 use Rattle.std.proofs.lemmas.Bool.{eq-eqb, eqb-true, lt-ltb, ltb-true}
 use Rattle.std.proofs.Math.Nat.{pow-suc, add-mul, mul_assoc, add_comm, mod-lt, mod-eq_of_lt, one-le-pow, add-mul-div_right, add-mul-mod_self_right}
-use Rattle.std.proofs.Math.Facts.{Fits-of_z, Fits-of_lt, sfits_to_z}
 use Rattle.std.specs.Cmp.{first_so, second_so}
 use Rattle.std.specs.Cmp.Derive.{both_true}
 use Rattle.std.specs.List.{list_all}
-use Rattle.std.specs.Int.{Width, w8, w16, w32, w64, w128, byte_len, bytes_high_first, byte_at, to_be_bytes, from_be_bytes}
-use Rattle.std.specs.Result.{result_ok}
-use Rattle.std.specs.Array.{IsWholeChunk}
-use mir.Val.{SFits, to_z, of_z, bits, hbits}
+use Rattle.std.specs.Int.{bytes_high_first, byte_at}
 use lib.Arith.{digits_lt, digits_div, mod-mul}
 use Rattle.font_base.specs.Wrap.{FitsBits, fits_bits, wrap}
 use Rattle.font_base.specs.Wrap.Laws.{fits_bits-true, FitsBits-fits_bits, remainder, same_rest, times_sum, wrap_is, wrap_same, wrap-fits}

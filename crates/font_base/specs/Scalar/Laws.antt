@@ -1,5 +1,5 @@
 -- The laws of a scalar that is a number, or a newtype round one: for a type of `n` bytes, with the number of a value and the value of a number.
-use Rattle.std.proofs.Common.{◌≡◌, ◌∙◌, sym, ap, refl, ℕ, ◌^◌, ◌*◌, ◌<◌, ℤ, pos, nat_eq, nat_lt, List, IsTrue}
+use Rattle.std.proofs.Common.{◌≡◌, ◌∙◌, sym, ap, refl, ℕ, ◌^◌, ◌*◌, ◌<◌, ℤ, pos, nat_eq, nat_lt}
 use Rattle.std.specs.Bool.{Decides}
 use Rattle.std.specs.Cmp.{signed_Decides, unsigned_Decides}
 use Rattle.std.specs.Ordering.{int_eq}
