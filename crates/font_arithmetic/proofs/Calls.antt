@@ -1,12 +1,12 @@
 -- What callers know of sums and products with 0 and with 1, as equations of the words `wrap` and `near`.
-use Rattle.std.proofs.Common.{◌≡◌, ◌∙◌, sym, ap, ℕ, ◌<◌, ℤ, pos, ◌+ℤ◌, ◌-ℤ◌, ◌*ℤ◌, unsigned_abs, arith}
+use Rattle.std.proofs.Common.{◌≡◌, ◌∙◌, sym, ap, ℕ, ◌<◌, ℤ, pos, ◌+ℤ◌, ◌-ℤ◌, ◌*ℤ◌, arith}
 use Rattle.std.proofs.lemmas.Int.{ints}
 use Rattle.std.specs.Int.{Width}
 use mir.Val.{SFits, bits}
 use Rattle.font_base.specs.Wrap.{wrap}
 use Rattle.font_base.specs.Wrap.Laws.{wrap-fits}
 use Rattle.font_base.proofs.Widths.{signed_fits, bits_positive}
-use Rattle.font_decimal.specs.Near.{Near, near}
+use Rattle.font_decimal.specs.Near.{near}
 use Rattle.font_decimal.proofs.Near.{near_gives}
 use Rattle.font_arithmetic.proofs.Laws.{near_exact, times_comm}
 

@@ -1,6 +1,6 @@
 -- What the file of a type of 32 bits names once, so that its calls need no answers: what std's calls and steps of code on 32 bits give, in the form
 -- that goals have, over every fraction.
-use Rattle.std.proofs.Common.{◌≡◌, ◌∙◌, ap, refl, Bool, ℕ, ◌+◌, ◌-◌, ◌*◌, ◌/◌, ◌%◌, ◌^◌, ◌<◌, ◌≤◌, ℤ, pos, neg_ℤ, ◌+ℤ◌, ◌-ℤ◌, ◌*ℤ◌, unsigned_abs, IsTrue, lit<, lit≤, arith, length, max, List, Option, IsSome, ◌↔◌}
+use Rattle.std.proofs.Common.{◌≡◌, ◌∙◌, ap, refl, ℕ, ◌+◌, ◌-◌, ◌*◌, ◌/◌, ◌%◌, ◌^◌, ◌<◌, ◌≤◌, ℤ, pos, neg_ℤ, ◌+ℤ◌, ◌-ℤ◌, ◌*ℤ◌, unsigned_abs, IsTrue, lit<, lit≤, arith, length, max, List, Option, IsSome, ◌↔◌}
 use Rattle.std.proofs.lemmas.Int.{ints, to_z-of_z}
 use Rattle.std.specs.Int.{w16, w32, w64, int_wrapping_neg, int_rem_euclid}
 use lib.Signed.{shr_z}
