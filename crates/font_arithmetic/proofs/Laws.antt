@@ -24,7 +24,7 @@ near_exact q d some =
     let none = no_distance (q *ℤ pos d) in
     record { close = omega (arith, none); away = λ same. absurd (omega (arith, none, same, some)) }
 
-rounded_exact : (w : ℕ) (q : ℤ) (d : ℕ) (r : ℤ) → 0 < w → 0 < d → FitsBits w q → IsWrappedNear w (q *ℤ pos d) d r → r ≡ q
+pub rounded_exact : (w : ℕ) (q : ℤ) (d : ℕ) (r : ℤ) → 0 < w → 0 < d → FitsBits w q → IsWrappedNear w (q *ℤ pos d) d r → r ≡ q
 rounded_exact w q d r wide some fits a =
     a.wrapped ∙ ap (wrap w) (near_unique (q *ℤ pos d) d a.exact q some a.nearest (near_exact q d some)) ∙ wrap-fits w q wide fits
 

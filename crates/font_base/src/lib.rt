@@ -1,4 +1,10 @@
 //! The raw bytes of OpenType's scalar types, and the integers of 24 bits.
+//!
+//! ```text
+//! u16::read(&[0x01, 0x00])                              // Some(256)
+//! Int24::new(-2).to_be_bytes()                          // [0xFF, 0xFF, 0xFE]
+//! TableDataRef::<SampleHeader>::new(bytes)?.header()    // decoded from the first six bytes
+//! ```
 #![tactic(auto)]
 
 mod big_endian;

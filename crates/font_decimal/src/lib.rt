@@ -1,6 +1,11 @@
 //! Decimal texts of fixed-point numbers: reading them, writing the shortest one, and padding.
 //!
 //! A fixed-point number with `f` bits of fraction stands for its bits over `2^f`. Nothing here allocates.
+//!
+//! ```text
+//! read_decimal("0.6", 14, -32768, 32767)                // Ok(9830)
+//! Shortest::new(9830, 14).as_str()                      // "0.6"
+//! ```
 #![tactic(auto)]
 
 mod grammar;

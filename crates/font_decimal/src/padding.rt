@@ -1,5 +1,5 @@
 // A decimal text in a field of some width.
-ghost use Rattle.std.specs.Prelude.{◌≡◌, ℕ, ◌+◌, ◌≤◌, ◌<◌, ◌↔◌, List, ◌++◌, length, take, drop, replicate, IfSome, IfNone, IsSome};
+ghost use Rattle.std.specs.Prelude.{◌≡◌, ℕ, ◌+◌, ◌≤◌, ◌<◌, ◌↔◌, List, ◌++◌, length, take, drop, replicate, IfSome, IfNone, IsSome, false};
 ghost use Rattle.font_decimal.specs.Grammar.{IsDecimal};
 ghost use Rattle.font_decimal.specs.Padding.{shown_sign, unsigned_body, laid_out, padded_text, FillsFront};
 
@@ -27,6 +27,23 @@ pub struct Pad {
     pub plus: bool,
     /// Whether zeros between the sign and the digits stand in place of the fill.
     pub zeros: bool,
+}
+
+impl Pad {
+    /// At least so many bytes, with spaces in front.
+    ///
+    /// The other fields are public: `Pad { plus: true, ..Pad::new(8) }` shows a plus sign too.
+    pub fn new(width: usize) -> Self
+        ensures { result ≡ record { width = width; fill = 32; align = Align.Right; plus = false; zeros = false } }
+    {
+        Self {
+            width,
+            fill: b' ',
+            align: Align::Right,
+            plus: false,
+            zeros: false,
+        }
+    }
 }
 
 /// Writes a decimal text to the front of `out`, padded, and returns the number of bytes.

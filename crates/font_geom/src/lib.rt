@@ -1,4 +1,9 @@
 //! Points, boxes and matrices over any element.
+//!
+//! ```text
+//! let turned = Matrix::from_elements([a, b, c, d, e, f]);
+//! (turned * point, Matrix::identity() * point)          // a point moved, and left where it is
+//! ```
 #![tactic(auto)]
 
 mod bbox;

@@ -1,4 +1,9 @@
 //! Font units, glyph and name ids, and offsets; with the tags, versions and dates of `font_tags`.
+//!
+//! ```text
+//! format!(in alloc; "{}", NameId::FAMILY_NAME)          // "FAMILY_NAME"
+//! GlyphId16::try_from(GlyphId::new(65536))              // refused, and the error has the number
+//! ```
 #![tactic(auto)]
 
 mod fword;

@@ -1,5 +1,5 @@
 -- A sum that wraps at each step is the exact sum, wrapped.
-use Rattle.std.proofs.Common.{◌≡◌, ◌∙◌, sym, ap, ℕ, ◌+◌, ◌<◌, List, length, take, get_or, ℤ, pos, ◌+ℤ◌, lit<, fold}
+use Rattle.std.proofs.Common.{◌≡◌, ◌∙◌, sym, ap, ℕ, ◌+◌, ◌<◌, List, length, take, get_or, ℤ, pos, ◌+ℤ◌, lit<}
 use Rattle.std.proofs.lemmas.List.Sums.{fold_more}
 use Rattle.font_base.specs.Wrap.{wrap}
 use Rattle.font_arithmetic.proofs.Group.{wrap-add_left}

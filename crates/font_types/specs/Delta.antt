@@ -1,6 +1,6 @@
 -- Sums of deltas: each term is the product of a scalar, a `Fixed`, and a whole number of font units.
 -- (OpenType, item variation stores: an interpolated delta is the sum of the scaled deltas of all regions)
-use Rattle.std.specs.Prelude.{ℕ, List, fold, ℤ, pos, ◌+ℤ◌, ◌*ℤ◌}
+use Rattle.std.specs.Prelude.{List, fold, ℤ, pos, ◌+ℤ◌, ◌*ℤ◌}
 use Rattle.font_fixed.specs.declared.fixed.Fixed.{Fixed}
 use Rattle.font_fixed.specs.Fixed.{fixed_bits}
 

@@ -5,7 +5,7 @@ ghost use Rattle.font_fixed.specs.Fixed.{fixed_bits, fixed_text};
 ghost use Rattle.font_decimal.specs.Padding.{padded_text, FillsFront};
 
 use crate::Fixed;
-use font_decimal::{Align, DecimalFault, Pad};
+use font_decimal::{DecimalFault, Pad};
 use std::alloc::{AllocError, Global};
 use std::test::Fail;
 
@@ -43,14 +43,7 @@ fn cell(x: Fixed, width: usize) -> [u8; 24]
     requires { width ≤ 24 }
 {
     let mut out = [b' '; 24];
-    let pad = Pad {
-        width,
-        fill: b' ',
-        align: Align::Right,
-        plus: false,
-        zeros: false,
-    };
-    let _written = x.write_padded(&mut out, &pad).unwrap();
+    let _written = x.write_padded(&mut out, &Pad::new(width)).unwrap();
     out
 }
 

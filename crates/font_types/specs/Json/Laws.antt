@@ -1,5 +1,5 @@
 -- That what is shown as JSON is read back.
-use Rattle.std.proofs.Common.{◌≡◌, ◌∙◌, sym, ap, refl, negsuc, ℕ, ◌-◌, ◌^◌, ◌≤◌, ℤ, pos, ◌≤ℤ◌, List, ◌++◌, length, replicate, true, nat_lt, IsUtf8, IsTrue, Option, Some, None, Result, Ok, Err, ◌&&◌, int_le, arith}
+use Rattle.std.proofs.Common.{◌≡◌, ◌∙◌, sym, ap, refl, negsuc, ℕ, ◌-◌, ◌^◌, ◌≤◌, ℤ, pos, List, ◌++◌, length, replicate, true, nat_lt, IsUtf8, IsTrue, Result, Ok, Err, ◌&&◌, int_le, arith}
 use Rattle.std.proofs.lemmas.Int.{ints}
 use Rattle.std.specs.Result.{result_map_both}
 use Rattle.serde_json.specs.Data.{Data, string, number}
@@ -7,7 +7,7 @@ use Rattle.serde_json.specs.Find.{as_str, of_integer}
 use Rattle.font_base.specs.Wrap.{fits_bits}
 use Rattle.font_base.specs.Wrap.Laws.{fits_bits-true}
 use Rattle.font_decimal.specs.Shortest.{shortest_text}
-use Rattle.font_decimal.proofs.Readings.{rounds_unique, reading_unique}
+use Rattle.font_decimal.proofs.Readings.{rounds_unique}
 use Rattle.font_arithmetic.specs.Operations.{ReadsAs, least, greatest}
 use Rattle.font_arithmetic.proofs.Group.{printed_reads}
 use Rattle.font_types.specs.declared.json.JsonFault.{JsonFault}

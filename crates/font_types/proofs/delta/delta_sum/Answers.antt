@@ -1,4 +1,4 @@
-use Rattle.std.proofs.Common.{rules, refl}
+use Rattle.std.proofs.Common.{refl}
 use Rattle.font_base.specs.Wrap.{wrap}
 use Rattle.font_types.proofs.DeltaLemmas.{one_more}
 use Rattle.font_types.proofs.delta.delta_sum.Goals as goal
