@@ -35,3 +35,6 @@ pub use Rattle.font_geom.specs.Ring
 pub use Rattle.font_geom.specs.FixedMatrix
 pub use Rattle.font_decimal.specs.declared.reader.DecimalFault
 pub use Rattle.font_tags.specs.declared.tag.InvalidTag
+pub use Rattle.font_fixed.specs.declared.fixed
+pub use Rattle.font_geom.specs.declared.matrix
+pub use Rattle.font_geom.specs.declared.point

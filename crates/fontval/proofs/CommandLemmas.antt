@@ -11,11 +11,18 @@ use Rattle.font_types.specs.Tag.{IsValidated, tag_text}
 use Rattle.font_types.specs.InvalidTag.{InvalidTag}
 use Rattle.fontval.specs.Command.{AnswersWords, IsNamed, JudgesTag, verdict_text, ShowsReading, ShowsReadingAs, name_of, two_words}
 use Rattle.fontval.specs.Refusal.{GivesAnswer}
+use Rattle.fontval.specs.Numbers.{Then, ReadsJust}
+use Rattle.fontval.specs.Images.{images_text}
+use Rattle.font_types.specs.fixed.Fixed.{Fixed}
+use Rattle.font_types.specs.matrix.Matrix.{Matrix}
+use Rattle.font_types.specs.point.Point.{Point}
+use Rattle.font_types.specs.Matrix.{elements_of}
+use Rattle.font_types.specs.FixedMatrix.{matrix_bits, point_bits}
 use Rattle.fontval.specs.declared.refusal.Unanswered.{Unanswered}
 use Rattle.fontval.specs.declared.refusal.Unanswered.TheVariants.{Refused}
 use Rattle.fontval.proofs.GivenLemmas.{given_refusal, given_text}
 use Rattle.fontval.specs.declared.command.Command.{Command}
-use Rattle.fontval.specs.declared.command.Command.TheVariants.{FixedPoint, Read}
+use Rattle.fontval.specs.declared.command.Command.TheVariants.{FixedPoint, Read, Image}
 use Rattle.fontval.specs.declared.command.FixedType.{FixedType}
 use Rattle.fontval.specs.declared.refusal.Refusal.{Refusal}
 use Rattle.fontval.specs.declared.refusal.Refusal.TheVariants.{UnknownCommand, NotDecimal}
@@ -85,3 +92,21 @@ pub judged_tag : (bytes : List ℕ) (verdict : Result (Unit {0}) InvalidTag) (ol
     → GivesAnswer (λ answer. answer ≡ Ok (tag_text bytes ++ verdict_text verdict)) old new outcome → IsValidated bytes verdict → GivesAnswer (JudgesTag bytes) old new outcome
 judged_tag bytes verdict old new outcome given judged =
     given_text (JudgesTag bytes) (tag_text bytes ++ verdict_text verdict) old new outcome given (record { verdict = verdict; judged = judged; shows = refl })
+
+-- numbers that are not read
+pub refused_images : (words : List (List ℕ)) (refusal : Refusal) (old : List ℕ) (outcome : Result (Unit {0}) Unanswered)
+    → outcome ≡ Err (Refused refusal) → ReadsJust 14 words (Err refusal) → GivesAnswer (AnswersWords words Image) old old outcome
+refused_images words refusal old outcome is refused =
+    given_refusal (AnswersWords words Image) refusal old outcome is (record { first = Err refusal; is_first = refused; goes_on = refl })
+
+-- where numbers that are read send a point
+pub given_images : (words : List (List ℕ)) (numbers : List Fixed) (a b : Matrix Fixed) (p : Point Fixed) (old new : List ℕ) (outcome : Result (Unit {0}) Unanswered)
+    → GivesAnswer (λ answer. answer ≡ Ok (images_text (matrix_bits a) (matrix_bits b) (point_bits p))) old new outcome
+    → ReadsJust 14 words (Ok numbers) → numbers ≡ elements_of a ++ elements_of b ++ p.x ∷ p.y ∷ []
+    → GivesAnswer (AnswersWords words Image) old new outcome
+given_images words numbers a b p old new outcome given read are =
+    given_text (AnswersWords words Image) (images_text (matrix_bits a) (matrix_bits b) (point_bits p)) old new outcome given (record {
+      first = Ok numbers;
+      is_first = read;
+      goes_on = record { a = a; b = b; p = p; are = are; shows = refl };
+    })

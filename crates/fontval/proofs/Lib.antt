@@ -1,4 +1,5 @@
 pub mod AnswersLemmas
+pub mod NumbersLemmas
 pub mod CommandLemmas
 pub mod DeviceLemmas
 pub mod GivenLemmas

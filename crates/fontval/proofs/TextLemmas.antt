@@ -7,6 +7,8 @@ use Rattle.std.proofs.lemmas.Bool.{le-ltb, lt-ltb, ltb-false, ltb-true}
 use Rattle.std.proofs.lemmas.List.{drop_all, length-take, length-take-le}
 use Rattle.std.proofs.lemmas.List.Quantifiers.{position-Some}
 use Rattle.std.proofs.lemmas.Option.{cond_some}
+use Rattle.std.proofs.lemmas.List.Splits.{length-slice_split}
+use Rattle.std.proofs.lemmas.List.Sums.{length-filter, count_by-le-length}
 use Rattle.fontval.specs.Text.{is_line_feed, lines_of, is_blank, is_nonempty, from_first, words_of}
 
 one_more : (n : ℕ) → 1 + n ≡ suc n
@@ -200,3 +202,8 @@ no_words line absent =
       | true ↦ λ e. absurd (let s = rw e at absent in cc)
       | false ↦ λ e. words_behind_blanks line ∙ ap words_of (drop_all _ line (ltb-false _ _ e))
     ] refl
+
+-- there is at most one word more than bytes
+pub words_fit : (line : List ℕ) → length (words_of line) ≤ length line + 1
+unfolding words_of
+words_fit line = omega (arith, length-filter is_nonempty (slice_split is_blank line), count_by-le-length is_nonempty (slice_split is_blank line), length-slice_split is_blank line, count_by-le-length is_blank line)

@@ -12,8 +12,10 @@ use Rattle.font_types.specs.Tag.{IsValidated, tag_text}
 use Rattle.font_types.specs.InvalidTag.{InvalidTag}
 use Rattle.font_types.specs.InvalidTag.TheVariants.{InvalidLength, InvalidByte, ByteAfterSpace}
 use Rattle.fontval.specs.Refusal.{Answer, refusal_of}
+use Rattle.fontval.specs.Numbers.{Then, ReadsJust}
+use Rattle.fontval.specs.Images.{ShowsImages}
 use Rattle.fontval.specs.declared.command.Command.{Command}
-use Rattle.fontval.specs.declared.command.Command.TheVariants.{Integer, FixedPoint, Read, Tag}
+use Rattle.fontval.specs.declared.command.Command.TheVariants.{Integer, FixedPoint, Read, Tag, Image}
 use Rattle.fontval.specs.declared.command.FixedType.{FixedType}
 use Rattle.fontval.specs.declared.command.FixedType.TheVariants.{F2Dot14, F4Dot12, F6Dot10, Fixed, F26Dot6, F48Dot16}
 use Rattle.fontval.specs.declared.command.IntegerType.{IntegerType}
@@ -59,6 +61,7 @@ name_of (Integer type) = (integer_row type).0
 name_of (FixedPoint type) = (fixed_row type).0
 name_of Read = codes "read"
 name_of Tag = codes "tag"
+name_of Image = codes "image"
 
 -- the command is the one that a word names, or there is none and the word is refused
 abbrev pub IsNamed : List ℕ → Result Command Refusal → Type 0
@@ -133,6 +136,7 @@ AnswersWords words (FixedPoint type) answer = answer ≡ fixed_point type words
 AnswersWords words Read answer =
     MatchResult (two_words words) (λ pair. ForNamed pair.0 (ShowsReadingAs pair.1) answer) (λ refusal. answer ≡ Err refusal)
 AnswersWords words Tag answer = MatchResult (hexadecimal 4 words) (λ bytes. JudgesTag bytes answer) (λ refusal. answer ≡ Err refusal)
+AnswersWords words Image answer = Then (ReadsJust 14 words) ShowsImages answer
 
 -- what is answered to the words of a line: the first of them names the command
 abbrev pub IsAnswer : List (List ℕ) → Answer → Type 0

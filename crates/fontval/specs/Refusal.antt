@@ -3,7 +3,7 @@ use Rattle.std.specs.Prelude.{◌≡◌, ℕ, List, ◌++◌, codes, decimal, Re
 use Rattle.font_types.specs.DecimalFault.{DecimalFault}
 use Rattle.font_types.specs.DecimalFault.TheVariants.{Syntax, OutOfRange as TooFar}
 use Rattle.fontval.specs.declared.refusal.Refusal.{Refusal}
-use Rattle.fontval.specs.declared.refusal.Refusal.TheVariants.{UnknownCommand, WordCount, NotHexadecimal, NotDecimal, OutOfRange}
+use Rattle.fontval.specs.declared.refusal.Refusal.TheVariants.{UnknownCommand, WordCount, NotHexadecimal, NotDecimal, OutOfRange, NotWhole}
 use Rattle.fontval.specs.declared.refusal.Unanswered.{Unanswered}
 use Rattle.fontval.specs.declared.refusal.Unanswered.TheVariants.{Memory, Refused}
 
@@ -18,6 +18,7 @@ refusal_number WordCount = 2
 refusal_number NotHexadecimal = 3
 refusal_number NotDecimal = 4
 refusal_number OutOfRange = 5
+refusal_number NotWhole = 6
 
 -- the refusal of a word that is no decimal of its type
 abbrev pub refusal_of : DecimalFault → Refusal

@@ -7,7 +7,9 @@ ghost use Rattle.font_types.specs.Tag.{tag_bytes};
 ghost use Rattle.fontval.specs.Refusal.{GivesAnswer};
 ghost use Rattle.fontval.specs.Text.{words_of};
 
+use crate::images::Move;
 use crate::judgement::Judgement;
+use crate::numbers::fixed_numbers;
 use crate::output::{append, append_read};
 use crate::parse::{decimal_text, hexadecimal, only_word, two_words};
 use crate::refusal::{Refusal, Unanswered};
@@ -26,6 +28,8 @@ pub enum Command {
     Read,
     /// The text of the tag of four bytes, and whether it is good.
     Tag,
+    /// Where a point goes by two matrices.
+    Image,
 }
 
 /// The integer types of OpenType, by how their bytes are read.
@@ -72,6 +76,7 @@ static COMMANDS: &[(&[u8], Command)] = &[
     (b"f48dot16", Command::FixedPoint(FixedType::F48Dot16)),
     (b"read", Command::Read),
     (b"tag", Command::Tag),
+    (b"image", Command::Image),
 ];
 
 impl Command {
@@ -97,6 +102,7 @@ impl Command {
             Command::FixedPoint(kind) => kind.show(only_word(words)?, output),
             Command::Read => read(words, output),
             Command::Tag => judge(Tag::from_be_bytes(hexadecimal(only_word(words)?)?), output),
+            Command::Image => image(words, output),
         }
     }
 }
@@ -211,4 +217,13 @@ fn judge<A: Allocator>(tag: Tag, output: &mut String<A>) -> Result<(), Unanswere
 {
     let verdict = tag.validate();
     append(Judgement { tag, verdict }, output)
+}
+
+// Appends where a point goes by two matrices.
+#[tactic(auto, using(crate::proofs::CommandLemmas::refused_images, crate::proofs::CommandLemmas::given_images))]
+fn image<A: Allocator>(words: Words<'_>, output: &mut String<A>) -> Result<(), Unanswered>
+    ensures { GivesAnswer (AnswersWords (words_of words.entry.rest.now) Command.Image)
+        (string_bytes output.old) (string_bytes output.new) result }
+{
+    append(Move::of(fixed_numbers(words)?), output)
 }

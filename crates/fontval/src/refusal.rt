@@ -20,6 +20,8 @@ pub enum Refusal {
     NotDecimal = 4,
     /// A number outside the range of its type.
     OutOfRange = 5,
+    /// A word that is no whole number: an optional `-`, and one or more digits.
+    NotWhole = 6,
 }
 
 impl From<DecimalFault> for Refusal {

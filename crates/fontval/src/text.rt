@@ -1,6 +1,6 @@
 //! The lines of an input and the words of a line.
 
-ghost use Rattle.std.specs.Prelude.{◌≡◌, not, position};
+ghost use Rattle.std.specs.Prelude.{◌≡◌, length, not, position};
 ghost use Rattle.std.specs.Iterator.{YieldsFirstRef, item_count};
 ghost use Rattle.std.specs.List.{before_first, after_first};
 ghost use Rattle.fontval.specs.Text.{is_line_feed, lines_of, is_blank, from_first, words_of};
@@ -86,6 +86,14 @@ impl<'a> Words<'a> {
         ensures { result.rest.now ≡ line.now }
     {
         Words { rest: line }
+    }
+
+    /// How many words are left.
+    #[tactic(auto, using(crate::proofs::TextLemmas::words_fit))]
+    pub fn left(&self) -> usize
+        ensures { result ≡ length (words_of self.now.rest.now) }
+    {
+        Words::new(self.rest).count()
     }
 }
 

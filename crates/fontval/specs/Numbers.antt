@@ -1,0 +1,60 @@
+-- The numbers that the words of a line are read as, one after another: the first word that is refused decides.
+-- All of it is the program's own rule, but for what a decimal text is read as.
+use Rattle.std.specs.Prelude.{◌≡◌, ℕ, ◌==◌, if◌then◌else◌, List, [], ◌∷◌, length, drop, ℤ, Result, Ok, Err, MatchResult}
+use Rattle.std.specs.Bool.{MatchBool}
+use Rattle.std.specs.Result.{result_map_both}
+use Rattle.std.specs.Str.Parse.{IsNumeral, starts_with_minus, signed_digits_value}
+use Rattle.font_types.specs.DecimalFault.{DecimalFault}
+use Rattle.font_types.specs.Fixed.{fixed_of}
+use Rattle.font_types.specs.fixed.Fixed.{Fixed}
+use Rattle.font_types.specs.Operations.{ReadingGives}
+use Rattle.font_types.specs.Wrap.{FitsBits}
+use Rattle.fontval.specs.Refusal.{refusal_of}
+use Rattle.fontval.specs.declared.refusal.Refusal.{Refusal}
+use Rattle.fontval.specs.declared.refusal.Refusal.TheVariants.{WordCount, NotWhole, OutOfRange}
+
+-- what is read first decides how it goes on; where it is refused, so is the whole
+pub record Then {A B : Type 0} (IsFirst : Result A Refusal → Type 0) (GoesOn : A → Result B Refusal → Type 0) (result : Result B Refusal) : Type 0 where
+  pub first : Result A Refusal
+  pub is_first : IsFirst first
+  pub goes_on : MatchResult first (λ value. GoesOn value result) (λ refusal. result ≡ Err refusal)
+
+-- the values of a list, each read in turn
+abbrev pub ReadsEach : {W T : Type 0} → (W → Result T Refusal → Type 0) → List W → Result (List T) Refusal → Type 0
+ReadsEach reads [] result = result ≡ Ok []
+ReadsEach reads (word ∷ words) result = Then (reads word) (λ value. Then (ReadsEach reads words) (λ values all. all ≡ Ok (value ∷ values))) result
+
+-- the `Fixed` that a word is read as
+pub record ReadsFixed (word : List ℕ) (result : Result Fixed Refusal) : Type 0 where
+  pub bits : Result ℤ DecimalFault
+  pub read : ReadingGives 32 16 word bits
+  pub gives : result ≡ result_map_both fixed_of refusal_of bits
+
+-- just n numbers: another count of words is refused before any of them
+abbrev pub ReadsJust : ℕ → List (List ℕ) → Result (List Fixed) Refusal → Type 0
+ReadsJust n words result = MatchBool (length words == n) (ReadsEach ReadsFixed words result) (result ≡ Err WordCount)
+
+-- the bytes of a word behind its `-`, or all of them
+abbrev pub behind_minus : List ℕ → List ℕ
+behind_minus word = if starts_with_minus word then drop 1 word else word
+
+-- the word is a whole number: an optional `-`, and one or more digits
+abbrev pub IsWhole : List ℕ → Type 0
+IsWhole word = IsNumeral 10 (behind_minus word)
+
+-- the whole number of w bits that a word is read as
+abbrev pub ReadsWhole : ℕ → List ℕ → Result ℤ Refusal → Type 0
+ReadsWhole w word (Ok n) = IsWhole word × (n ≡ signed_digits_value 10 word) × FitsBits w n
+ReadsWhole w word (Err NotWhole) = ¬ (IsWhole word)
+ReadsWhole w word (Err OutOfRange) = IsWhole word × ¬ (FitsBits w (signed_digits_value 10 word))
+ReadsWhole w word (Err other) = ⊥
+
+-- the words two by two
+abbrev pub pairs_of : {W : Type 0} → List W → List (W × W)
+pairs_of [] = []
+pairs_of (last ∷ []) = []
+pairs_of (first ∷ second ∷ words) = (first, second) ∷ pairs_of words
+
+-- the term that two words are read as: a scalar, and a whole number of 32 bits
+abbrev pub ReadsTerm : List ℕ × List ℕ → Result (Fixed × ℤ) Refusal → Type 0
+ReadsTerm words result = Then (ReadsFixed words.0) (λ scalar. Then (ReadsWhole 32 words.1) (λ delta term. term ≡ Ok (scalar, delta))) result

@@ -1,0 +1,46 @@
+//! Where a point goes by two matrices.
+
+ghost use Rattle.std.specs.Prelude.{◌≡◌, [], ◌∷◌, ◌++◌, codes, Some};
+ghost use Rattle.font_types.specs.Matrix.{elements_of};
+ghost use Rattle.font_types.specs.FixedMatrix.{matrix_bits, point_bits};
+ghost use Rattle.fontval.specs.Images.{images_text};
+
+use font_types::{Fixed, Matrix, Point, laws};
+use std::fmt;
+
+/// Two matrices and a point.
+#[derive(Clone, Copy)]
+pub struct Move {
+    /// The matrix that is applied last.
+    pub a: Matrix<Fixed>,
+    /// The matrix that is applied first.
+    pub b: Matrix<Fixed>,
+    /// The point.
+    pub p: Point<Fixed>,
+}
+
+impl Move {
+    /// The move of these numbers: the elements of both matrices, and the coordinates of the point.
+    pub fn of(numbers: [Fixed; 14]) -> Self
+        ensures { numbers ≡ elements_of result.a ++ elements_of result.b ++ result.p.x ∷ result.p.y ∷ [] }
+    {
+        let (a, rest) = numbers.split_first_chunk::<6>().unwrap();
+        let (b, rest) = rest.split_first_chunk::<6>().unwrap();
+        Self {
+            a: Matrix::from_elements(*a),
+            b: Matrix::from_elements(*b),
+            p: Point::new(rest[0], rest[1]),
+        }
+    }
+}
+
+// Shown by the images of the point: by the product of the matrices, and by one after the other.
+impl fmt::Display for Move {
+    ghost output = { λ m. Some (images_text (matrix_bits m.a) (matrix_bits m.b) (point_bits m.p)) };
+
+    fn fmt<W: fmt::Write>(&self, f: &mut fmt::Formatter<W>) -> fmt::Result {
+        let composed = laws::composed(self.a, self.b, self.p);
+        let in_turn = laws::in_turn(self.a, self.b, self.p);
+        write!(f, "{} {} {} {}", composed.x, composed.y, in_turn.x, in_turn.y)
+    }
+}
