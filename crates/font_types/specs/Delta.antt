@@ -1,6 +1,7 @@
 -- Sums of deltas: each term is the product of a scalar, a `Fixed`, and a whole number of font units.
 -- (OpenType, item variation stores: an interpolated delta is the sum of the scaled deltas of all regions)
-use Rattle.std.specs.Prelude.{List, fold, ℤ, pos, ◌+ℤ◌, ◌*ℤ◌}
+use Rattle.std.specs.Prelude.{List, fold, Option, Some, None, option_map, if◌then◌else◌, ℤ, pos, ◌+ℤ◌, ◌*ℤ◌}
+use Rattle.font_base.specs.Wrap.{fits_bits}
 use Rattle.font_fixed.specs.declared.fixed.Fixed.{Fixed}
 use Rattle.font_fixed.specs.Fixed.{fixed_bits}
 
@@ -11,3 +12,11 @@ term_product term = fixed_bits term.0 *ℤ term.1
 -- the exact sum of the products, in bits
 abbrev pub exact_sum : List (Fixed × ℤ) → ℤ
 exact_sum terms = fold (λ sum term. sum +ℤ term_product term) (pos 0) terms
+
+-- that sum where it is a number of 64 bits
+abbrev pub sum_in_range : List (Fixed × ℤ) → Option ℤ
+sum_in_range terms = if fits_bits 64 (exact_sum terms) then Some (exact_sum terms) else None
+
+-- a number of font units moved by that sum, in units of 2^-16
+abbrev pub varied : ℤ → List (Fixed × ℤ) → Option ℤ
+varied base terms = option_map (λ sum. base *ℤ pos 65536 +ℤ sum) (sum_in_range terms)

@@ -13,7 +13,7 @@ mod delta;
 mod json;
 pub mod laws;
 
-pub use delta::delta_sum;
+pub use delta::{checked_delta_sum, delta_sum, vary};
 pub use font_base::{
     BeByteArray, BigEndian, FixedSize, IdentityEq, Int24, SampleHeader, Scalar, TableDataRef,
     TableHeader, TryFromUint24Error, Uint24,

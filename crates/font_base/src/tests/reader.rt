@@ -1,6 +1,6 @@
 //! A scalar and a header of a reader of tables, as its author would write them.
 
-ghost use Rattle.std.specs.Prelude.{◌≡◌, ◌^◌, pos, nat_lt, take, drop, refl};
+ghost use Rattle.std.specs.Prelude.{◌≡◌, ◌^◌, pos, nat_lt, length, take, drop, refl};
 ghost use Rattle.font_base.specs.Bytes.{numeral, bytes_of};
 ghost use Rattle.font_base.specs.Scalar.Laws.{unsigned_newtype, unsigned_identity};
 ghost use Rattle.font_base.specs.BigEndian.{raw_value};
@@ -66,6 +66,32 @@ impl TableHeader for MetricsHeader {
             weight: BigEndian::from_slice(&bytes[4..]).unwrap(),
         }
     }
+}
+
+/// A header of no fields, which stands in no bytes.
+#[derive(Drop)]
+struct EmptyHeader;
+
+impl TableHeader for EmptyHeader {
+    const BYTE_LEN: usize = 0;
+
+    ghost BYTE_LEN = { 0 };
+
+    ghost decodes = { λ bytes _. length bytes ≡ 0 };
+
+    fn decode(_bytes: &[u8]) -> EmptyHeader {
+        EmptyHeader
+    }
+}
+
+#[test]
+fn reads_a_header_of_no_bytes(rt: HostRuntime) -> Result<(), Fail> {
+    let table = TableDataRef::<EmptyHeader>::new(&[]).ok_or("long enough")?;
+    let EmptyHeader = table.header();
+    assert!(rt; table.data().is_empty());
+    let longer = TableDataRef::<EmptyHeader>::new(&[7]).ok_or("long enough")?;
+    assert!(rt; longer.data() == [7].as_slice());
+    Ok(())
 }
 
 #[test]

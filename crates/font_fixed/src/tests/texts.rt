@@ -28,6 +28,7 @@ fn read(rt: HostRuntime) {
         ("00012.50", 819200),
         ("-0.000", 0),
         ("32767.99999", 0x7FFF_FFFF),
+        ("32767.99999237060546874", 0x7FFF_FFFF),
         ("-32768.00000762939453124", -0x8000_0000),
     ] {
         assert!(rt; Fixed::from_decimal(text) == Ok(Fixed::from_bits(bits)));
