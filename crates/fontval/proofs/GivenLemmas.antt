@@ -1,17 +1,28 @@
 -- What is given for an answer.
-use Rattle.std.proofs.Common.{◌≡◌, ℕ, List, refl, subst, Result, Ok, Err}
-use Rattle.fontval.specs.Refusal.{Answer, GivesAnswer, IsGiven}
+use Rattle.std.proofs.Common.{◌≡◌, ℕ, List, refl, sym, subst, Result, Ok, Err}
+use Rattle.fontval.specs.Refusal.{Answer, GivesAnswer}
 use Rattle.fontval.specs.declared.refusal.Refusal.{Refusal}
 use Rattle.fontval.specs.declared.refusal.Unanswered.{Unanswered}
-use Rattle.fontval.specs.declared.refusal.Unanswered.TheVariants.{Refused}
+use Rattle.fontval.specs.declared.refusal.Unanswered.TheVariants.{Memory, Refused}
 
 -- a refusal that is right
 pub given_refusal : (IsRight : Answer → Type 0) (refusal : Refusal) (old : List ℕ) (outcome : Result (Unit {0}) Unanswered)
     → outcome ≡ Err (Refused refusal) → IsRight (Err refusal) → GivesAnswer IsRight old old outcome
-given_refusal IsRight refusal old outcome is right = record { answer = Err refusal; is_right = right; is_given = (is, refl) }
+given_refusal IsRight refusal old outcome is right = record { is_given = rw is (right, refl) }
 
--- a text that is right
-pub given_text : (IsRight : Answer → Type 0) (text old new : List ℕ) (outcome : Result (Unit {0}) Unanswered)
-    → GivesAnswer (λ answer. answer ≡ Ok text) old new outcome → IsRight (Ok text) → GivesAnswer IsRight old new outcome
-given_text IsRight text old new outcome given right =
-    record { answer = Ok text; is_right = right; is_given = subst (λ answer. IsGiven answer old new outcome) given.is_right given.is_given }
+-- an answer that is right by one rule is right by another
+pub given_as : (IsRight IsMeant : Answer → Type 0) (old new : List ℕ) (outcome : Result (Unit {0}) Unanswered)
+    → ((answer : Answer) → IsRight answer → IsMeant answer) → GivesAnswer IsRight old new outcome → GivesAnswer IsMeant old new outcome
+given_as IsRight IsMeant old new (Ok done) means given =
+    let shown = given.is_given in
+    record { is_given = record { text = shown.text; is_right = means (Ok shown.text) shown.is_right; grown = shown.grown } }
+given_as IsRight IsMeant old new (Err Memory) means given = record { is_given = tt }
+given_as IsRight IsMeant old new (Err (Refused refusal)) means given =
+    let refused = given.is_given in
+    record { is_given = (means (Err refusal) refused.0, refused.1) }
+
+-- an answer that is right
+pub given_answer : (IsRight : Answer → Type 0) (answer : Answer) (old new : List ℕ) (outcome : Result (Unit {0}) Unanswered)
+    → GivesAnswer (λ other. other ≡ answer) old new outcome → IsRight answer → GivesAnswer IsRight old new outcome
+given_answer IsRight answer old new outcome given right =
+    given_as (λ other. other ≡ answer) IsRight old new outcome (λ other same. subst IsRight (sym same) right) given

@@ -1,5 +1,5 @@
 -- What is answered to a line, by the program's own rule: a text, or a refusal, which is shown by its number.
-use Rattle.std.specs.Prelude.{◌≡◌, ℕ, List, ◌++◌, codes, decimal, Result, Ok, Err}
+use Rattle.std.specs.Prelude.{◌≡◌, ℕ, List, ◌++◌, codes, decimal, Result, Ok, Err, ⊤}
 use Rattle.font_types.specs.DecimalFault.{DecimalFault}
 use Rattle.font_types.specs.DecimalFault.TheVariants.{Syntax, OutOfRange as TooFar}
 use Rattle.fontval.specs.declared.refusal.Refusal.{Refusal}
@@ -30,16 +30,19 @@ abbrev pub text_of : Answer → List ℕ
 text_of (Ok text) = text
 text_of (Err refusal) = codes "error " ++ decimal (refusal_number refusal)
 
--- How a command ends that gives this answer: the output has grown by the text, or there was no memory for it;
--- a refusal is told, and leaves the output as it was.
-abbrev pub IsGiven : Answer → List ℕ → List ℕ → Result (Unit {0}) Unanswered → Type 0
-IsGiven (Ok text) old new (Ok done) = new ≡ old ++ text
-IsGiven (Ok text) old new (Err Memory) = Unit {0}
-IsGiven (Ok text) old new (Err (Refused refusal)) = ⊥
-IsGiven (Err refusal) old new outcome = (outcome ≡ Err (Refused refusal)) × (new ≡ old)
+-- the output has grown by the text of a right answer
+pub record Grows (IsRight : Answer → Type 0) (old new : List ℕ) : Type 0 where
+  pub text : List ℕ
+  pub is_right : IsRight (Ok text)
+  pub grown : new ≡ old ++ text
+
+-- How a command ends that gives a right answer: the output has grown by its text, or there was no memory for it. A refusal
+-- is told, and leaves the output as it was.
+abbrev pub IsGiven : (Answer → Type 0) → List ℕ → List ℕ → Result (Unit {0}) Unanswered → Type 0
+IsGiven IsRight old new (Ok done) = Grows IsRight old new
+IsGiven IsRight old new (Err Memory) = ⊤
+IsGiven IsRight old new (Err (Refused refusal)) = IsRight (Err refusal) × (new ≡ old)
 
 -- a right answer is given
 pub record GivesAnswer (IsRight : Answer → Type 0) (old new : List ℕ) (outcome : Result (Unit {0}) Unanswered) : Type 0 where
-  pub answer : Answer
-  pub is_right : IsRight answer
-  pub is_given : IsGiven answer old new outcome
+  pub is_given : IsGiven IsRight old new outcome

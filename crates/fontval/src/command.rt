@@ -88,7 +88,7 @@ impl Command {
     }
 
     /// Appends what the command answers to the words behind it.
-    #[tactic(auto, using(crate::proofs::GivenLemmas::given_refusal, crate::proofs::GivenLemmas::given_text))]
+    #[tactic(auto, using(crate::proofs::GivenLemmas::given_refusal, crate::proofs::GivenLemmas::given_answer))]
     pub fn answer<A: Allocator>(
         self,
         words: Words<'_>,
@@ -145,7 +145,7 @@ impl IntegerType {
 
 impl FixedType {
     // Appends the number whose bits the bytes of a hexadecimal word are.
-    #[tactic(auto, using(crate::proofs::GivenLemmas::given_refusal, crate::proofs::GivenLemmas::given_text))]
+    #[tactic(auto, using(crate::proofs::GivenLemmas::given_refusal, crate::proofs::GivenLemmas::given_answer))]
     fn show<A: Allocator>(self, word: &[u8], output: &mut String<A>) -> Result<(), Unanswered>
         ensures { GivesAnswer (AnswersWords (word.now ∷ []) (Command.FixedPoint self))
             (string_bytes output.old) (string_bytes output.new) result }
