@@ -1,13 +1,20 @@
 -- Reading one word after another.
-use Rattle.std.proofs.Common.{◌≡◌, ℕ, ◌+◌, ◌<◌, true, arith, length, take, set, List, [], ◌∷◌, ◌++◌, Result, Ok, Err, MatchResult, refl, sym, ap, ◌∙◌, subst, append_assoc}
+use Rattle.std.proofs.Common.{◌≡◌, ℕ, ◌+◌, ◌<◌, true, false, true≢false, arith, length, take, set, List, [], ◌∷◌, ◌++◌, Result, Ok, Err, MatchResult, refl, sym, ap, ◌∙◌, subst, append_assoc, rules}
 use Rattle.std.specs.Result.{result_map_both}
 use Rattle.std.proofs.lemmas.List.{append-nil, take_more_set, length-set}
 use Rattle.std.proofs.Math.Seq.{take-length}
-use Rattle.std.proofs.lemmas.Bool.{eq-eqb}
-use Rattle.std.specs.Prelude.{◌==◌}
+use Rattle.std.proofs.lemmas.Bool.{eq-eqb, eqb-true}
+use Rattle.std.specs.Prelude.{◌==◌, if◌then◌else◌}
+use Rattle.std.specs.Char.{is_ascii_digit}
+use Rattle.std.specs.List.{list_all}
+use Rattle.std.specs.Str.{IsUtf8}
+use Rattle.std.specs.Fmt.{sign_text}
+use Rattle.std.specs.Str.Parse.{IsNumeral, digits_value, starts_with_minus}
+use Rattle.std.proofs.lemmas.Str.Parse.{IsNumeralModel, numerals_by_value}
+use Rattle.font_types.proofs.Callers.{decimal_is_utf8}
 use Rattle.font_types.specs.DecimalFault.TheVariants.{Syntax}
 use Rattle.font_types.specs.Grammar.{IsNoDecimal}
-use Rattle.fontval.specs.Numbers.{Then, ReadsEach, ReadsFixed, ReadsJust}
+use Rattle.fontval.specs.Numbers.{Then, ReadsEach, ReadsFixed, ReadsJust, IsWhole, behind_minus}
 use Rattle.fontval.specs.Text.{words_of}
 use Rattle.font_types.specs.fixed.Fixed.{Fixed}
 use Rattle.fontval.specs.declared.refusal.Refusal.{Refusal}
@@ -104,3 +111,39 @@ pub refused_number : (n : ℕ) (text left left' word : List ℕ) (numbers : List
 refused_number n text left left' word numbers at refusal so_far next one =
     let read = one_refused ReadsFixed (words_of text) (words_of left') word (take at numbers) refusal (subst (λ ws. IsReadUpTo ReadsFixed (words_of text) ws (take at numbers)) next so_far.read) one in
     rw so_far.all read
+
+-- ---- whole numbers
+
+by_test : IsNumeralModel (λ ds. list_all is_ascii_digit ds ≡ true) (digits_value 10)
+by_test = numerals_by_value _ (search rules)
+
+-- digits that follow a `-`, or nothing
+pub digits_are_whole : (word digits : List ℕ) → digits ≡ behind_minus word → 0 < length digits → list_all is_ascii_digit digits ≡ true → IsWhole word
+digits_are_whole word digits is some all =
+    let numeral : IsNumeral 10 digits = (some, by_test.to digits all) in
+    subst (λ ds. IsNumeral 10 ds) is numeral
+
+pub others_are_not_whole : (word digits : List ℕ) → digits ≡ behind_minus word → list_all is_ascii_digit digits ≡ false → ¬ (IsWhole word)
+others_are_not_whole word digits is other whole =
+    let numeral : IsNumeral 10 digits = subst (λ ds. IsNumeral 10 ds) (sym is) whole in
+    true≢false (sym (by_test.from digits numeral.1) ∙ other)
+
+-- a word is its `-`, if it has one, and what stands behind it
+minus_and_rest : (word : List ℕ) → word ≡ sign_text (starts_with_minus word) ++ behind_minus word
+minus_and_rest [] = refl
+minus_and_rest (byte ∷ rest) =
+    elim (byte == 45) as (λ b. (byte == 45) ≡ b → byte ∷ rest ≡ sign_text b ++ (if b then rest else byte ∷ rest)) [
+      | true ↦ λ minus. ap (λ c. c ∷ rest) (eqb-true byte 45 minus)
+      | false ↦ λ plain. refl
+    ] refl
+
+-- a whole number is a decimal with no fraction, and so it is text
+pub whole_is_text : (word : List ℕ) → IsWhole word → IsUtf8 word
+whole_is_text word whole = decimal_is_utf8 word _ 0 (record {
+  negative = starts_with_minus word;
+  whole = behind_minus word;
+  fraction = [];
+  parts = record { written = minus_and_rest word ∙ ap (λ digits. sign_text (starts_with_minus word) ++ digits) (sym (append-nil (behind_minus word))); whole_digits = whole; fraction_digits = tt };
+  numeral = refl;
+  places = refl;
+})

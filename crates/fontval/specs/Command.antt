@@ -12,10 +12,11 @@ use Rattle.font_types.specs.Tag.{IsValidated, tag_text}
 use Rattle.font_types.specs.InvalidTag.{InvalidTag}
 use Rattle.font_types.specs.InvalidTag.TheVariants.{InvalidLength, InvalidByte, ByteAfterSpace}
 use Rattle.fontval.specs.Refusal.{Answer, refusal_of}
-use Rattle.fontval.specs.Numbers.{Then, ReadsJust}
+use Rattle.fontval.specs.Numbers.{Then, ReadsJust, ReadsTerms}
+use Rattle.fontval.specs.Deltas.{sum_of, Varies}
 use Rattle.fontval.specs.Images.{ShowsImages}
 use Rattle.fontval.specs.declared.command.Command.{Command}
-use Rattle.fontval.specs.declared.command.Command.TheVariants.{Integer, FixedPoint, Read, Tag, Image}
+use Rattle.fontval.specs.declared.command.Command.TheVariants.{Integer, FixedPoint, Read, Tag, Image, Sum, Vary}
 use Rattle.fontval.specs.declared.command.FixedType.{FixedType}
 use Rattle.fontval.specs.declared.command.FixedType.TheVariants.{F2Dot14, F4Dot12, F6Dot10, Fixed, F26Dot6, F48Dot16}
 use Rattle.fontval.specs.declared.command.IntegerType.{IntegerType}
@@ -62,6 +63,8 @@ name_of (FixedPoint type) = (fixed_row type).0
 name_of Read = codes "read"
 name_of Tag = codes "tag"
 name_of Image = codes "image"
+name_of Sum = codes "sum"
+name_of Vary = codes "vary"
 
 -- the command is the one that a word names, or there is none and the word is refused
 abbrev pub IsNamed : List ℕ → Result Command Refusal → Type 0
@@ -137,6 +140,8 @@ AnswersWords words Read answer =
     MatchResult (two_words words) (λ pair. ForNamed pair.0 (ShowsReadingAs pair.1) answer) (λ refusal. answer ≡ Err refusal)
 AnswersWords words Tag answer = MatchResult (hexadecimal 4 words) (λ bytes. JudgesTag bytes answer) (λ refusal. answer ≡ Err refusal)
 AnswersWords words Image answer = Then (ReadsJust 14 words) ShowsImages answer
+AnswersWords words Sum answer = Then (ReadsTerms words) (λ terms shown. shown ≡ sum_of terms) answer
+AnswersWords words Vary answer = Varies words answer
 
 -- what is answered to the words of a line: the first of them names the command
 abbrev pub IsAnswer : List (List ℕ) → Answer → Type 0

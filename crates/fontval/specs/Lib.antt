@@ -3,6 +3,7 @@ pub mod Text
 pub mod Refusal
 pub mod Numbers
 pub mod Images
+pub mod Deltas
 pub mod Command
 pub mod Answers
 pub mod Serve

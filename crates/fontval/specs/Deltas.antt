@@ -1,0 +1,27 @@
+-- Sums of deltas, as text. Each term is a scalar and a whole number of font units.
+use Rattle.std.specs.Prelude.{◌≡◌, ℕ, ◌%◌, ◌==◌, List, [], ◌∷◌, length, ℤ, option_map, Err}
+use Rattle.std.specs.Bool.{MatchBool}
+use Rattle.std.specs.Fmt.{signed_decimal}
+use Rattle.std.specs.Option.{ok_or}
+use Rattle.font_types.specs.Delta.{sum_in_range, varied}
+use Rattle.font_types.specs.Shortest.{shortest_text}
+use Rattle.font_types.specs.fixed.Fixed.{Fixed}
+use Rattle.fontval.specs.Numbers.{Then, ReadsEach, ReadsTerm, ReadsWhole, pairs_of}
+use Rattle.fontval.specs.Refusal.{Answer}
+use Rattle.fontval.specs.declared.refusal.Refusal.TheVariants.{WordCount, OutOfRange}
+
+-- the exact sum of terms, as it is printed
+abbrev pub sum_of : List (Fixed × ℤ) → Answer
+sum_of terms = ok_or (option_map (λ bits. shortest_text bits 16) (sum_in_range terms)) OutOfRange
+
+-- so many font units moved by that sum, in units of 2^-16
+abbrev pub varied_by : ℤ → List (Fixed × ℤ) → Answer
+varied_by units terms = ok_or (option_map signed_decimal (varied units terms)) OutOfRange
+
+-- what is answered to a whole number of 16 bits and the words of terms: their count is judged before any of them
+abbrev pub Varies : List (List ℕ) → Answer → Type 0
+Varies [] answer = answer ≡ Err WordCount
+Varies (base ∷ words) answer =
+    MatchBool (length words % 2 == 0)
+    (Then (ReadsWhole 16 base) (λ units. Then (ReadsEach ReadsTerm (pairs_of words)) (λ terms shown. shown ≡ varied_by units terms)) answer)
+    (answer ≡ Err WordCount)
