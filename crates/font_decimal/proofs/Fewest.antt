@@ -1,5 +1,5 @@
 -- The fewest places at which a value m / 2^f has a decimal that reads back.
-use Rattle.std.proofs.Common.{◌≡◌, ◌≢◌, ℕ, zero, suc, ◌+◌, ◌-◌, ◌*◌, ◌/◌, ◌^◌, ◌<◌, ◌≤◌, inl, inr, Bool, true, false, cond, true≢false, ℤ, pos, negsuc, refl, sym, ap, ◌∙◌, arith}
+use Rattle.std.proofs.Common.{◌≡◌, ◌≢◌, ℕ, zero, suc, ◌+◌, ◌-◌, ◌*◌, ◌^◌, ◌<◌, ◌≤◌, inl, inr, Bool, true, false, cond, true≢false, ℤ, pos, negsuc, refl, sym, ap, ◌∙◌, arith}
 use Rattle.std.specs.Prelude.{◌*ℤ◌, unsigned_abs, nat_lt}
 use Rattle.std.specs.Int.{abs_diff}
 use Rattle.std.proofs.Math.Nat.{mul-sub, pow-suc, eq_of_mul-eq-mul_left}
@@ -63,6 +63,12 @@ rounded_at m f p = rounded_is (m * 10 ^ p) (2 ^ f) (pow_pos f)
 -- what it says of the nearest decimal that it reads back, or does not
 pub within_half : (m f p : ℕ) → reads_back m f p ≡ true → 2 * abs_diff (nearest_numeral m f p * 2 ^ f) (m * 10 ^ p) < 10 ^ p
 within_half m f p e = ltb-true _ _ (sym (unfolded m f p) ∙ e)
+
+pub reads_within : (m f p : ℕ) → 2 * abs_diff (nearest_numeral m f p * 2 ^ f) (m * 10 ^ p) < 10 ^ p → reads_back m f p ≡ true
+reads_within m f p h = unfolded m f p ∙ lt-ltb _ _ h
+
+pub fails_past : (m f p : ℕ) → 10 ^ p ≤ 2 * abs_diff (nearest_numeral m f p * 2 ^ f) (m * 10 ^ p) → reads_back m f p ≡ false
+fails_past m f p h = unfolded m f p ∙ le-ltb _ _ h
 
 -- where it does not, a step is at least as wide as a unit of the last place
 pub fails_wide : (m f p : ℕ) → reads_back m f p ≡ false → 10 ^ p ≤ 2 ^ f
@@ -165,15 +171,3 @@ pub none_fewer : (f j p : ℕ) (n b : ℤ) → IsFewest (unsigned_abs b) f p →
 none_fewer f j p n b fewest h near =
     let few = fewest.few in
     true≢false (sym (nearest_reads_back (unsigned_abs b) f j (unsigned_abs n) (omega arith) (magnitudes_close f j n b near)) ∙ fewest.before j h)
-
--- what the code's test says of so many places
-module _ (m f p t unit magnitude apart : ℕ) (same : magnitude ≡ m) (step : t ≡ 2 ^ f) (ten : unit ≡ 10 ^ p)
-    (apart_is : apart ≡ abs_diff ((2 * (magnitude * unit) + t) / (2 * t) * t) (magnitude * unit)) where
-  is_apart : apart ≡ abs_diff (nearest_numeral m f p * 2 ^ f) (m * 10 ^ p)
-  is_apart = apart_is ∙ rw (same, step, ten)
-
-  pub passes : 2 * apart < unit → reads_back m f p ≡ true
-  passes h = unfolded m f p ∙ lt-ltb _ _ (let here = is_apart in omega (arith, h))
-
-  pub misses : unit ≤ 2 * apart → reads_back m f p ≡ false
-  misses h = unfolded m f p ∙ le-ltb _ _ (let here = is_apart in omega (arith, h))

@@ -8,5 +8,6 @@ mod Digits
 mod Rounding
 mod Splits
 mod Fewest
+mod Remainder
 mod Written
 mod Rows

@@ -6,10 +6,10 @@ use mir.Val.{to_z, of_z}
 use Rattle.std.specs.Fmt.{decimal, sign_text}
 use Rattle.std.specs.Str.Parse.{digits_value, AllDigits}
 use Rattle.std.specs.Char.{digit_value}
-use Rattle.std.proofs.Math.Nat.{suc-mul, mul-le-mul_right, le_of_mul-le-mul_right, pow-suc, div-div-eq-div-mul, div-mul-le_self, div-add-mod', mod-lt, div-one, le_trans, le-mul_of_pos_right, mul-le-mul_left, pow-le-pow_right, lt_of_mul-lt-mul_right}
+use Rattle.std.proofs.Math.Nat.{suc-mul, mul-le-mul_right, le_of_mul-le-mul_right, pow-suc, div-div-eq-div-mul, div-mul-le_self, div-add-mod', mod-lt, div-one, le_trans, le-mul_of_pos_right, mul-le-mul_left, pow-le-pow_right, lt_of_mul-lt-mul_right, add-mul-div_left, add-mul-mod_self_right}
 use Rattle.std.proofs.lemmas.Bool.{cases_lt, le-ltb}
 use Rattle.std.proofs.lemmas.Int.{ints, to_z-of_z}
-use Rattle.std.proofs.lemmas.Nat.{pow_pos, pow-add}
+use Rattle.std.proofs.lemmas.Nat.{pow_pos, pow-add, div-mul-add}
 use Rattle.std.proofs.lemmas.List.{append-nil}
 use Rattle.std.proofs.lemmas.Str.{digit_value_digit}
 use Rattle.std.proofs.lemmas.Fmt.{decimal_is_IsNumeral, decimal_digit, first_decimal, length-decimal-le}
@@ -179,13 +179,20 @@ last_more left n p e = rw (e, add-one)
 pub left_more : (left n p : ℕ) → left ≡ n / 10 ^ p → left / 10 ≡ n / 10 ^ (p + 1)
 left_more left n p e = rw (e, add-one, pow-suc 10 p) (div-div-eq-div-mul n (10 ^ p) 10)
 
-pub point_before : (p n : ℕ) → 0 < p → 46 ∷ last_digits p n ≡ point_text (last_digits p n)
-point_before zero n h = absurd (omega arith)
-point_before (suc p) n h = refl
+-- digits further in front change nothing
+pub last_behind : (p w n : ℕ) → last_digits p (w * 10 ^ p + n) ≡ last_digits p n
+last_behind zero w n = refl
+last_behind (suc p) w n =
+    let ten = 10 ^ p in
+    let split : w * 10 ^ suc p + n ≡ w * 10 * ten + n = rw (pow-suc 10 p) (omega arith) in
+    let turned : w * 10 * ten + n ≡ n + ten * (w * 10) = omega arith in
+    let front : (w * 10 ^ suc p + n) / ten ≡ n / ten + w * 10 = ap (λ k. k / ten) (split ∙ turned) ∙ add-mul-div_left n (w * 10) (ten_pos p) in
+    rw (front, add-mul-mod_self_right (n / ten) w 10, split, last_behind p (w * 10) n) refl
 
 -- ---- what the writer makes of a value, step by step, and that there is room for it
-module _ (b : ℤ) (f magnitude places numeral : ℕ) (fits : FitsSigned w64 b) (high : f ≤ 16) (same : magnitude ≡ unsigned_abs (to_z w64 (of_z w64 b))) (small : magnitude ≤ 2 ^ 63)
-    (few : places ≡ fewest_places magnitude f) (nearest : numeral ≡ nearest_numeral magnitude f places) where
+module _ (b : ℤ) (f magnitude whole fraction places : ℕ) (fits : FitsSigned w64 b) (high : f ≤ 30) (same : magnitude ≡ unsigned_abs (to_z w64 (of_z w64 b)))
+    (small : magnitude ≤ 2 ^ 63) (few : places ≡ fewest_places magnitude f) (nearest : whole * 10 ^ places + fraction ≡ nearest_numeral magnitude f places)
+    (below : fraction < 10 ^ places) where
   size : magnitude ≡ unsigned_abs b
   size = same ∙ ap unsigned_abs (to_z-of_z w64 b fits)
 
@@ -193,18 +200,20 @@ module _ (b : ℤ) (f magnitude places numeral : ℕ) (fits : FitsSigned w64 b) 
   unit_small = rw few (unit_below magnitude f (fewest_places magnitude f) (fewest_is magnitude f).before)
 
   pub places_room : places ≤ 10
-  places_room = few_places f places (omega (arith, high)) unit_small
+  places_room = few_places f places high unit_small
 
-  pub whole_room : (whole : ℕ) → whole ≡ numeral / 10 ^ places → whole < 2 ^ 64
-  whole_room whole front = rw (front, nearest) (whole_fits magnitude f places small)
+  whole_is : whole ≡ nearest_numeral magnitude f places / 10 ^ places
+  whole_is = sym (ap (λ n. n / 10 ^ places) (sym nearest) ∙ div-mul-add whole (10 ^ places) fraction below)
 
-  pub digits_room : (whole : ℕ) → whole ≡ numeral / 10 ^ places → length (decimal whole) + places ≤ 20
-  digits_room whole front = rw (front, nearest) (digits_fit magnitude f places small (omega (arith, high)) unit_small)
+  pub digits_room : length (decimal whole) + places ≤ 20
+  digits_room = rw whole_is (digits_fit magnitude f places small high unit_small)
 
-  pub text_is : (whole : ℕ) → whole ≡ numeral / 10 ^ places
-      → sign_text (is_negative b) ++ (decimal whole ++ (point_text (last_digits places numeral) ++ [])) ≡ shortest_text b f
+  fraction_is : last_digits places fraction ≡ last_digits places (nearest_numeral magnitude f places)
+  fraction_is = sym (last_behind places whole fraction) ∙ ap (last_digits places) nearest
+
+  pub text_is : sign_text (is_negative b) ++ (decimal whole ++ (point_text (last_digits places fraction) ++ [])) ≡ shortest_text b f
   unfolding shortest_text
-  text_is whole front = rw (front, append-nil, nearest, few, size)
+  text_is = rw (fraction_is, whole_is, append-nil, few, size) refl
 
   pub is_shortest : IsShortest b f (shortest_text b f)
   is_shortest = shortest_is b f (omega (arith, size, small))

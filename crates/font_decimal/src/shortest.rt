@@ -1,5 +1,5 @@
 // Writing the shortest decimal text of a fixed-point number.
-ghost use Rattle.std.specs.Prelude.{◌≡◌, ℕ, ◌+◌, ◌/◌, ◌^◌, ◌≤◌, ◌<◌, [], ◌∷◌, ◌++◌, length, slice_index, Some};
+ghost use Rattle.std.specs.Prelude.{◌≡◌, ℕ, ◌+◌, ◌*◌, ◌^◌, ◌≤◌, ◌<◌, [], ◌∷◌, ◌++◌, length, slice_index, Some};
 ghost use Rattle.std.specs.Fmt.{decimal, sign_text};
 ghost use Rattle.font_decimal.specs.Grammar.{point_text};
 ghost use Rattle.font_decimal.specs.Shortest.{fewest_places, nearest_numeral, last_digits};
@@ -7,6 +7,14 @@ ghost use Rattle.font_decimal.specs.Shortest.{fewest_places, nearest_numeral, la
 use std::fmt;
 
 const LEN: usize = 22;
+
+// The digits of a decimal: its whole part, and its fraction as a numeral of so many places.
+#[derive(Clone, Copy)]
+struct Digits {
+    whole: u64,
+    fraction: u64,
+    places: u32,
+}
 
 /// The shortest decimal text of a fixed-point number, at most 22 bytes long.
 ///
@@ -33,10 +41,10 @@ impl Shortest {
         ensures shortest { IsShortest bits f (shown result) }
         ensures text { shown result ≡ shortest_text bits f }
     {
-        let (numeral, places) = shortest_numeral(bits.unsigned_abs(), f);
+        let digits = shortest_digits(bits.unsigned_abs(), f);
         let mut text = Self::empty();
-        let whole = text.push_fraction(numeral, places);
-        text.push_whole(whole as u64);
+        text.push_fraction(digits.fraction, digits.places);
+        text.push_whole(digits.whole);
         text.push_sign(bits < 0);
         text
     }
@@ -67,13 +75,12 @@ impl Shortest {
         self.bytes[self.start] = byte;
     }
 
-    // Puts the last `places` digits in front, with a point before them, and returns the number without them.
-    fn push_fraction(&mut self, numeral: u128, places: u32) -> u128
+    // Puts the last `places` digits of a fraction in front, with a point before them.
+    fn push_fraction(&mut self, fraction: u64, places: u32)
         requires { places + 1 + length (shown self.old) ≤ 22 }
-        ensures digits { shown self.new ≡ point_text (last_digits places numeral) ++ shown self.old }
-        ensures rest { result ≡ numeral / 10 ^ places }
+        ensures { shown self.new ≡ point_text (last_digits places fraction) ++ shown self.old }
     {
-        let mut left = numeral;
+        let mut left = fraction;
         for _place in 0..places {
             self.push(b'0' + (left % 10) as u8);
             left /= 10;
@@ -81,7 +88,6 @@ impl Shortest {
         if places > 0 {
             self.push(b'.');
         }
-        left
     }
 
     // Puts the digits of a whole number in front.
@@ -118,22 +124,33 @@ impl fmt::Display for Shortest {
     }
 }
 
-// The numeral and the fewest places whose nearest decimal reads back: it lies within half a step.
-fn shortest_numeral(magnitude: u64, f: u32) -> (u128, u32)
-    requires { (f ≤ 16) × (magnitude ≤ 2 ^ 63) }
-    ensures places { result.1 ≡ fewest_places magnitude f }
-    ensures numeral { result.0 ≡ nearest_numeral magnitude f result.1 }
+// The shortest decimal of `magnitude / 2^f`. Of the last place `rest / unit` is left, and half a step is `margin / unit`.
+fn shortest_digits(magnitude: u64, f: u32) -> Digits
+    requires { f ≤ 30 }
+    ensures places { result.places ≡ fewest_places magnitude f }
+    ensures numeral { result.whole * 10 ^ result.places + result.fraction ≡ nearest_numeral magnitude f result.places }
+    ensures below { result.fraction < 10 ^ result.places }
 {
-    let step = 1u128 << f;
+    let step = 1u64 << f;
+    let unit = 1u64 << (f + 1);
+    let whole = magnitude / step;
+    let mut rest = 2 * (magnitude % step);
+    let mut margin = 1u64;
+    let mut fraction = 0;
     let mut places = 0;
-    let mut unit = 1;
-    loop {
-        let exact = u128::from(magnitude) * unit;
-        let numeral = (2 * exact + step) / (2 * step);
-        if 2 * (numeral * step).abs_diff(exact) < unit {
-            return (numeral, places);
-        }
+    while rest.min(unit - rest) >= margin {
+        let tenfold = 10 * rest;
+        fraction = 10 * fraction + tenfold / unit;
+        rest = tenfold % unit;
+        margin *= 10;
         places += 1;
-        unit *= 10;
+    }
+    if 2 * rest >= unit {
+        fraction += 1;
+    }
+    Digits {
+        whole,
+        fraction,
+        places,
     }
 }

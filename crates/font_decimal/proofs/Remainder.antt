@@ -1,0 +1,95 @@
+-- What is left of a value m / 2^f behind its first p places.
+use Rattle.std.proofs.Common.{◌≡◌, ℕ, ◌+◌, ◌-◌, ◌*◌, ◌/◌, ◌%◌, ◌^◌, ◌<◌, ◌≤◌, inl, inr, true, false, arith, add-one}
+use Rattle.std.specs.Prelude.{min}
+use Rattle.std.specs.Int.{abs_diff}
+use Rattle.std.proofs.Math.Nat.{pow-suc, div-add-mod', div-lt_iff_lt-mul, mod-lt, mul-le-mul_right}
+use Rattle.std.proofs.lemmas.Bool.{cases_lt}
+use Rattle.std.proofs.lemmas.Nat.{pow_pos}
+use Rattle.font_decimal.specs.Shortest.{nearest_numeral, reads_back, fewest_places}
+use Rattle.font_decimal.proofs.Near.{rounded_is, rounded_unique}
+use Rattle.font_decimal.proofs.Fewest.{IsFewest, fewest_is, fewest_unique, reads_within, fails_past, within_half}
+
+-- m / 2^f cut off after p places is the numeral q, and of the last place rest / 2^(f+1) is left
+pub record HasRest (m f p q rest : ℕ) : Type 0 where
+  pub value : 2 * (m * 10 ^ p) ≡ 2 * (q * 2 ^ f) + rest
+  pub below : rest < 2 * 2 ^ f
+
+tenfold_value : (m ten tenfold q t rest digit left : ℕ) → tenfold ≡ ten * 10 → 2 * (m * ten) ≡ 2 * (q * t) + rest → digit * (2 * t) + left ≡ 10 * rest
+    → 2 * (m * tenfold) ≡ 2 * ((10 * q + digit) * t) + left
+tenfold_value m ten tenfold q t rest digit left power value split = rw power (omega arith)
+
+-- one digit more
+pub next_rest : (m f p q rest : ℕ) → HasRest m f p q rest
+    → HasRest m f (p + 1) (10 * q + 10 * rest / (2 * 2 ^ f)) (10 * rest % (2 * 2 ^ f))
+next_rest m f p q rest h =
+    let step = pow_pos f in
+    record {
+      value = tenfold_value m (10 ^ p) (10 ^ (p + 1)) q (2 ^ f) rest _ _ (rw add-one (pow-suc 10 p)) h.value (div-add-mod' (10 * rest) (2 * 2 ^ f));
+      below = mod-lt (10 * rest) (omega arith);
+    }
+
+-- the nearest numeral is the one cut off, or one more where half of the last place or more is left
+pub rounded_down : (m f p q rest : ℕ) → HasRest m f p q rest → rest < 2 ^ f → nearest_numeral m f p ≡ q
+rounded_down m f p q rest h low =
+    let value = h.value in
+    rounded_unique (m * 10 ^ p) (2 ^ f) _ q (rounded_is (m * 10 ^ p) (2 ^ f) (pow_pos f)) (record { low = omega arith; high = omega arith })
+
+pub rounded_up : (m f p q rest : ℕ) → HasRest m f p q rest → 2 ^ f ≤ rest → nearest_numeral m f p ≡ q + 1
+rounded_up m f p q rest h high =
+    let value = h.value in
+    let below = h.below in
+    rounded_unique (m * 10 ^ p) (2 ^ f) _ (q + 1) (rounded_is (m * 10 ^ p) (2 ^ f) (pow_pos f)) (record { low = omega arith; high = omega arith })
+
+-- the distance of the nearest numeral from the value, in the same parts of the last place
+pub distance : (m f p q rest : ℕ) → HasRest m f p q rest → 2 * abs_diff (nearest_numeral m f p * 2 ^ f) (m * 10 ^ p) ≡ min rest (2 * 2 ^ f - rest)
+distance m f p q rest h =
+    let value = h.value in
+    let below = h.below in
+    elim (cases_lt rest (2 ^ f)) [
+      | inl low ↦ rw (rounded_down m f p q rest h low) (omega arith)
+      | inr high ↦ rw (rounded_up m f p q rest h high) (omega arith)
+    ]
+
+-- half a step is 10^p such parts: within it the nearest decimal reads back
+pub reads_here : (m f p q rest : ℕ) → HasRest m f p q rest → min rest (2 * 2 ^ f - rest) < 10 ^ p → reads_back m f p ≡ true
+reads_here m f p q rest h close = reads_within m f p (omega (arith, distance m f p q rest h))
+
+pub fails_here : (m f p q rest : ℕ) → HasRest m f p q rest → 10 ^ p ≤ min rest (2 * 2 ^ f - rest) → reads_back m f p ≡ false
+fails_here m f p q rest h far = fails_past m f p (omega (arith, distance m f p q rest h))
+
+-- and the first places that do are the fewest
+pub are_fewest : (m f p : ℕ) → p ≤ f → reads_back m f p ≡ true → ((j : ℕ) → j < p → reads_back m f j ≡ false) → p ≡ fewest_places m f
+are_fewest m f p few reads fails =
+    let here : IsFewest m f p = record { few = few; reads = reads; before = fails } in
+    fewest_unique m f p (fewest_places m f) here (fewest_is m f)
+
+-- the numeral with one digit more behind the same whole digits
+pub next_numeral : (m f p w n rest unit : ℕ) → HasRest m f p (w * 10 ^ p + n) rest → unit ≡ 2 * 2 ^ f
+    → HasRest m f (p + 1) (w * 10 ^ (p + 1) + (10 * n + 10 * rest / unit)) (10 * rest % unit)
+next_numeral m f p w n rest unit h is =
+    let power : 10 ^ (p + 1) ≡ 10 ^ p * 10 = rw add-one (pow-suc 10 p) in
+    let regroup : w * 10 ^ (p + 1) + (10 * n + 10 * rest / unit) ≡ 10 * (w * 10 ^ p + n) + 10 * rest / unit = rw power (omega arith) in
+    rw (regroup, is) (next_rest m f p (w * 10 ^ p + n) rest h)
+
+-- and its fraction has as many places as digits
+pub next_below : (n ten rest unit : ℕ) → n < ten → rest < unit → 10 * n + 10 * rest / unit < ten * 10
+next_below n ten rest unit low less =
+    let digit : 10 * rest / unit < 10 = (div-lt_iff_lt-mul {k = unit} {x = 10 * rest} {y = 10} (omega arith)).1 (omega arith) in
+    omega arith
+
+past_whole : (m w t ten n : ℕ) → m < (w + 1) * t → 2 * abs_diff ((w * ten + n) * t) (m * ten) < ten → ten ≤ n → ⊥
+past_whole m w t ten n below close high =
+    let past : (w * ten + ten) * t ≤ (w * ten + n) * t = mul-le-mul_right t (omega arith) in
+    let next : (m + 1) * ten ≤ (w + 1) * t * ten = mul-le-mul_right ten (omega arith) in
+    omega arith
+
+-- where the nearest decimal reads back, its fraction is below one: raising the last digit carries into no whole digit
+pub fraction_below : (m f p n : ℕ) → reads_back m f p ≡ true → nearest_numeral m f p ≡ m / 2 ^ f * 10 ^ p + n → n < 10 ^ p
+fraction_below m f p n reads split =
+    let parts = div-add-mod' m (2 ^ f) in
+    let less : m % 2 ^ f < 2 ^ f = mod-lt m (pow_pos f) in
+    let below : m < (m / 2 ^ f + 1) * 2 ^ f = omega arith in
+    elim (cases_lt n (10 ^ p)) [
+      | inl low ↦ low
+      | inr high ↦ absurd (past_whole m (m / 2 ^ f) (2 ^ f) (10 ^ p) n below (rw split at (within_half m f p reads)) high)
+    ]

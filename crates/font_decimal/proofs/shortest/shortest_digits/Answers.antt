@@ -1,0 +1,74 @@
+use Rattle.std.proofs.Common.{◌≡◌, ℕ, ◌+◌, ◌*◌, ◌/◌, ◌%◌, ◌^◌, ◌≤◌, true, false, arith, sym, ◌∙◌, add-one, below_more}
+use Rattle.std.proofs.Math.Nat.{pow-suc}
+use Rattle.std.proofs.lemmas.Nat.{one_shl}
+use Rattle.font_decimal.specs.Shortest.{nearest_numeral, reads_back}
+use Rattle.font_decimal.proofs.Fewest.{one_more}
+use Rattle.font_decimal.proofs.Remainder.{reads_here, fails_here, are_fewest, rounded_up, rounded_down, next_numeral, next_below, fraction_below}
+use Rattle.font_decimal.proofs.shortest.shortest_digits.Goals as goal
+
+step_is : (f : ℕ) → f ≤ 30 → 1 * 2 ^ f % 18446744073709551616 ≡ 2 ^ f
+step_is f h = one_shl f 64 (omega arith)
+
+unit_is : (f : ℕ) → f ≤ 30 → 1 * 2 ^ (f + 1) % 18446744073709551616 ≡ 2 * 2 ^ f
+unit_is f h = one_shl (f + 1) 64 (omega arith) ∙ rw add-one (omega (arith, pow-suc 2 f))
+
+fails : (c : goal.In-loop-margin) → reads_back c.args.magnitude c.args.f c.loop-margin.places ≡ false
+fails c =
+    let l = c.loop-margin in
+    fails_here c.args.magnitude c.args.f l.places _ l.rest l.invariant.rest (omega (arith, c.min.ensures, unit_is c.args.f c.requires))
+
+pub loop-margin-smaller : goal.loop-margin-smaller
+loop-margin-smaller c =
+    let more = one_more c.args.magnitude c.args.f c.loop-margin.places c.loop-margin.invariant.within (fails c) in
+    omega arith
+
+pub loop-margin-preserved : goal.loop-margin-preserved
+loop-margin-preserved c =
+    let l = c.loop-margin in
+    let more = one_more c.args.magnitude c.args.f l.places l.invariant.within (fails c) in
+    let unit = unit_is c.args.f c.requires in
+    let below = l.invariant.rest.below in
+    record {
+      margin = rw (l.invariant.margin, add-one) (sym (pow-suc 10 l.places));
+      fraction = next_below l.fraction l.margin l.rest _ l.invariant.fraction (omega arith);
+      rest = next_numeral c.args.magnitude c.args.f l.places _ l.fraction l.rest _ l.invariant.rest unit;
+      within = omega arith;
+      fail = below_more (λ j. reads_back c.args.magnitude c.args.f j ≡ false) l.places l.invariant.fail (fails c);
+    }
+
+-- where the last digit is raised
+reads_raised : (c : goal.Then-rest-unit) → reads_back c.args.magnitude c.args.f c.loop-margin.places ≡ true
+reads_raised c =
+    let l = c.loop-margin in
+    reads_here c.args.magnitude c.args.f l.places _ l.rest l.invariant.rest (omega (arith, c.min.ensures, unit_is c.args.f c.requires))
+
+raised : (c : goal.Then-rest-unit) → nearest_numeral c.args.magnitude c.args.f c.loop-margin.places
+    ≡ c.args.magnitude / (1 * 2 ^ c.args.f % 18446744073709551616) * 10 ^ c.loop-margin.places + c.loop-margin.fraction + 1
+raised c =
+    let l = c.loop-margin in
+    rounded_up c.args.magnitude c.args.f l.places _ l.rest l.invariant.rest (omega (arith, unit_is c.args.f c.requires))
+
+pub returns-then-rest-unit-clause-places : goal.returns-then-rest-unit-clause-places
+returns-then-rest-unit-clause-places c =
+    let l = c.loop-margin in
+    are_fewest c.args.magnitude c.args.f l.places l.invariant.within (reads_raised c) l.invariant.fail
+
+pub returns-then-rest-unit-clause-numeral : goal.returns-then-rest-unit-clause-numeral
+returns-then-rest-unit-clause-numeral c = omega (arith, raised c)
+
+pub returns-then-rest-unit-clause-below : goal.returns-then-rest-unit-clause-below
+returns-then-rest-unit-clause-below c =
+    let l = c.loop-margin in
+    fraction_below c.args.magnitude c.args.f l.places (l.fraction + 1) (reads_raised c) (raised c ∙ rw (step_is c.args.f c.requires) (omega arith))
+
+-- where it stands
+pub returns-else-rest-unit-clause-places : goal.returns-else-rest-unit-clause-places
+returns-else-rest-unit-clause-places c =
+    let l = c.loop-margin in
+    let reads = reads_here c.args.magnitude c.args.f l.places _ l.rest l.invariant.rest (omega (arith, c.min.ensures, unit_is c.args.f c.requires)) in
+    are_fewest c.args.magnitude c.args.f l.places l.invariant.within reads l.invariant.fail
+
+pub returns-else-rest-unit-clause-numeral : goal.returns-else-rest-unit-clause-numeral
+returns-else-rest-unit-clause-numeral c =
+    let l = c.loop-margin in
+    sym (rounded_down c.args.magnitude c.args.f l.places _ l.rest l.invariant.rest (omega (arith, unit_is c.args.f c.requires)))
