@@ -37,7 +37,7 @@ impl Shortest {
     /// The shortest decimal of `bits / 2^f`: of all that read back as `bits` the nearest with the fewest fractional
     /// digits.
     pub fn new(bits: i64, f: u32) -> Self
-        requires { (6 ≤ f) × (f ≤ 16) }
+        requires { (6 ≤ f) × (f ≤ 30) }
         ensures shortest { IsShortest bits f (shown result) }
         ensures text { shown result ≡ shortest_text bits f }
     {

@@ -160,6 +160,25 @@ fn prints_the_shortest_decimal(rt: HostRuntime) {
     }
 }
 
+#[test]
+fn prints_up_to_ten_places(rt: HostRuntime) {
+    for (bits, f, text) in [
+        (1, 30, "0.000000001"),
+        (7, 30, "0.0000000065"),
+        (22, 30, "0.0000000205"),
+        (644245094, 30, "0.6"),
+        (GREATEST, 30, "1.999999999"),
+        (LEAST, 30, "-2"),
+        (-2147483641, 30, "-1.9999999935"),
+        (i64::MIN + 7, 30, "-8589934591.9999999935"),
+        (i64::MAX, 24, "549755813887.99999994"),
+        (1, 20, "0.000001"),
+    ] {
+        assert!(rt; f >= 20 && f <= 30);
+        assert_eq!(rt; Shortest::new(bits, f).as_str(), text);
+    }
+}
+
 // A plain reader of four fractional digits.
 #[test]
 fn reads_as_a_slow_reader_does(rt: HostRuntime) -> Result<(), Fail> {

@@ -8,8 +8,7 @@ use Rattle.font_decimal.proofs.shortest.Shortest.new.Goals as goal
 pub push_fraction-requires : goal.push_fraction-requires
 push_fraction-requires c =
     let made = c.shortest_digits-digits in
-    let high : c.args.f ≤ 30 = omega (arith, c.requires.1) in
-    let few = places_room c.args.bits c.args.f c.unsigned_abs.result made.result.whole made.result.fraction made.result.places c.ranges.bits high
+    let few = places_room c.args.bits c.args.f c.unsigned_abs.result made.result.whole made.result.fraction made.result.places c.ranges.bits c.requires.1
     c.unsigned_abs.ensures.value c.unsigned_abs.ensures.bound made.ensures.places made.ensures.numeral made.ensures.below in
     rw c.empty-text.ensures (omega arith)
 
@@ -20,8 +19,7 @@ fraction_length p n text old empty e =
 pub push_whole-requires : goal.push_whole-requires
 push_whole-requires c =
     let made = c.shortest_digits-digits in
-    let high : c.args.f ≤ 30 = omega (arith, c.requires.1) in
-    let room = digits_room c.args.bits c.args.f c.unsigned_abs.result made.result.whole made.result.fraction made.result.places c.ranges.bits high
+    let room = digits_room c.args.bits c.args.f c.unsigned_abs.result made.result.whole made.result.fraction made.result.places c.ranges.bits c.requires.1
     c.unsigned_abs.ensures.value c.unsigned_abs.ensures.bound made.ensures.places made.ensures.numeral made.ensures.below in
     let long = fraction_length made.result.places made.result.fraction (shown c.push_fraction.new.self) (shown c.empty-text.result) c.empty-text.ensures c.push_fraction.ensures in
     omega arith
@@ -29,8 +27,7 @@ push_whole-requires c =
 pub push_sign-requires : goal.push_sign-requires
 push_sign-requires c =
     let made = c.shortest_digits-digits in
-    let high : c.args.f ≤ 30 = omega (arith, c.requires.1) in
-    let room = digits_room c.args.bits c.args.f c.unsigned_abs.result made.result.whole made.result.fraction made.result.places c.ranges.bits high
+    let room = digits_room c.args.bits c.args.f c.unsigned_abs.result made.result.whole made.result.fraction made.result.places c.ranges.bits c.requires.1
     c.unsigned_abs.ensures.value c.unsigned_abs.ensures.bound made.ensures.places made.ensures.numeral made.ensures.below in
     let long = fraction_length made.result.places made.result.fraction (shown c.push_fraction.new.self) (shown c.empty-text.result) c.empty-text.ensures c.push_fraction.ensures in
     rw c.push_whole.ensures (omega (arith, length-append {A = ℕ}))
@@ -39,14 +36,13 @@ pub returns : goal.returns
 returns c =
     let made = c.shortest_digits-digits in
     let fits : FitsSigned w64 c.args.bits = c.ranges.bits in
-    let high : c.args.f ≤ 30 = omega (arith, c.requires.1) in
-    let full = text_is c.args.bits c.args.f c.unsigned_abs.result made.result.whole made.result.fraction made.result.places c.ranges.bits high
+    let full = text_is c.args.bits c.args.f c.unsigned_abs.result made.result.whole made.result.fraction made.result.places c.ranges.bits c.requires.1
     c.unsigned_abs.ensures.value c.unsigned_abs.ensures.bound made.ensures.places made.ensures.numeral made.ensures.below in
     let signed = simp to_z-of_z at c.push_sign.ensures in
     let text : shown c.push_sign.new.self ≡ shortest_text c.args.bits c.args.f = signed ∙ rw (c.push_whole.ensures, c.push_fraction.ensures, c.empty-text.ensures) full in
     let P : List ℕ → Type 0 = λ shown_text. IsShortest c.args.bits c.args.f shown_text in
     record {
-      shortest = subst P (sym text) (is_shortest c.args.bits c.args.f c.unsigned_abs.result made.result.whole made.result.fraction made.result.places c.ranges.bits high
+      shortest = subst P (sym text) (is_shortest c.args.bits c.args.f c.unsigned_abs.result made.result.whole made.result.fraction made.result.places c.ranges.bits c.requires.1
           c.unsigned_abs.ensures.value c.unsigned_abs.ensures.bound made.ensures.places made.ensures.numeral made.ensures.below);
       text = text;
     }
