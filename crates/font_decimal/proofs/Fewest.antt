@@ -1,8 +1,8 @@
 -- The fewest places at which a value m / 2^f has a decimal that reads back.
-use Rattle.std.proofs.Common.{◌≡◌, ◌≢◌, ℕ, zero, suc, ◌+◌, ◌-◌, ◌*◌, ◌^◌, ◌<◌, ◌≤◌, inl, inr, Bool, true, false, cond, true≢false, ℤ, pos, negsuc, refl, sym, ap, ◌∙◌, arith}
+use Rattle.std.proofs.Common.{◌≡◌, ◌≢◌, ℕ, zero, suc, ◌+◌, ◌-◌, ◌*◌, ◌/◌, ◌%◌, ◌^◌, ◌<◌, ◌≤◌, inl, inr, Bool, true, false, cond, true≢false, ℤ, pos, negsuc, refl, sym, ap, ◌∙◌, arith}
 use Rattle.std.specs.Prelude.{◌*ℤ◌, unsigned_abs, nat_lt}
 use Rattle.std.specs.Int.{abs_diff}
-use Rattle.std.proofs.Math.Nat.{mul-sub, pow-suc, eq_of_mul-eq-mul_left}
+use Rattle.std.proofs.Math.Nat.{mul-sub, pow-suc, div-add-mod', eq_of_mul-eq-mul_left}
 use Rattle.std.proofs.lemmas.Bool.{cases_order, lt-ltb, le-ltb, ltb-true, ltb-false}
 use Rattle.std.proofs.lemmas.Int.{ints}
 use Rattle.std.proofs.lemmas.Nat.{pow_pos, pow-add, mul-pow}
@@ -26,7 +26,7 @@ half_distance n d q r =
     let high = r.high in
     omega arith
 
-pub abs_diff_times : (k a b : ℕ) → abs_diff (k * a) (k * b) ≡ k * abs_diff a b
+abs_diff_times : (k a b : ℕ) → abs_diff (k * a) (k * b) ≡ k * abs_diff a b
 abs_diff_times k a b = rw (sym (mul-sub k a b), sym (mul-sub k b a)) (omega arith)
 
 five_odd : (j : ℕ) → (h : ℕ) × (5 ^ j ≡ 2 * h + 1)
@@ -158,6 +158,23 @@ one_more m f p h fails = elim (cases_order p f) [
 pub unit_below : (m f p : ℕ) → ((j : ℕ) → j < p → reads_back m f j ≡ false) → 10 ^ p ≤ 10 * 2 ^ f
 unit_below m f zero fails = let step = pow_pos f in omega arith
 unit_below m f (suc p) fails = let wide = fails_wide m f p (fails p (omega arith)) in omega (arith, pow-suc 10 p)
+
+tenth : (x y ten tenfold : ℕ) → x ≡ 10 * y → tenfold ≡ ten * 10 → 2 * x < tenfold → 2 * y ≤ ten
+tenth x y ten tenfold e power h = omega arith
+
+-- a numeral that ends in 0 would read back with one place fewer
+pub zero_drops : (m f p : ℕ) → IsFewest m f (suc p) → nearest_numeral m f (suc p) % 10 ≢ 0
+zero_drops m f p fewest e =
+    let d = nearest_numeral m f (suc p) in
+    let tens : d ≡ 10 * (d / 10) = omega (arith, div-add-mod' d 10) in
+    let close = within_half m f (suc p) fewest.reads in
+    let left : d * 2 ^ f ≡ 10 * (d / 10 * 2 ^ f) = ap (λ n. n * 2 ^ f) tens ∙ (let regroup : 10 * (d / 10) * 2 ^ f ≡ 10 * (d / 10 * 2 ^ f) = omega arith in regroup) in
+    let right : m * 10 ^ suc p ≡ 10 * (m * 10 ^ p) = rw (pow-suc 10 p) (omega arith) in
+    let apart : abs_diff (d * 2 ^ f) (m * 10 ^ suc p) ≡ 10 * abs_diff (d / 10 * 2 ^ f) (m * 10 ^ p) =
+    ap (λ x. abs_diff x (m * 10 ^ suc p)) left ∙ ap (λ y. abs_diff (10 * (d / 10 * 2 ^ f)) y) right ∙ abs_diff_times 10 (d / 10 * 2 ^ f) (m * 10 ^ p) in
+    let closer = tenth _ _ (10 ^ p) (10 ^ suc p) apart (pow-suc 10 p) close in
+    let few = fewest.few in
+    true≢false (sym (nearest_reads_back m f p (d / 10) (omega arith) closer) ∙ fewest.before p (omega arith))
 
 -- a decimal of any sign that rounds to a value of any sign
 pub magnitudes_close : (f j : ℕ) (n b : ℤ) → Near (n *ℤ pos (2 ^ f)) (10 ^ j) b → 2 * abs_diff (unsigned_abs n * 2 ^ f) (unsigned_abs b * 10 ^ j) ≤ 10 ^ j

@@ -1,11 +1,11 @@
 -- What callers rely on of printed texts.
-use Rattle.std.proofs.Common.{◌≡◌, ◌≢◌, ℕ, zero, suc, ◌+◌, ◌*◌, ◌/◌, ◌%◌, ◌^◌, ◌<◌, ◌≤◌, Bool, true, false, true≢false, List, [], ◌∷◌, ◌++◌, length, get_or, ℤ, pos, refl, sym, ap, subst, ◌∙◌, arith, append_assoc, length-append}
+use Rattle.std.proofs.Common.{◌≡◌, ◌≢◌, ℕ, zero, suc, ◌+◌, ◌/◌, ◌%◌, ◌^◌, ◌<◌, ◌≤◌, Bool, true, false, List, [], ◌∷◌, ◌++◌, length, get_or, ℤ, pos, refl, sym, ap, subst, ◌∙◌, arith, append_assoc, length-append}
 use Rattle.std.specs.Prelude.{◌≤ℤ◌, unsigned_abs, Result, Ok}
-use Rattle.std.specs.Int.{is_negative, abs_diff}
+use Rattle.std.specs.Int.{is_negative}
 use Rattle.std.specs.Fmt.{decimal, sign_text}
 use Rattle.std.specs.Str.{IsAscii}
 use Rattle.std.specs.Str.Parse.{AllDigits}
-use Rattle.std.proofs.Math.Nat.{pow-suc, mul_comm, div-div-eq-div-mul, div-add-mod', div-one}
+use Rattle.std.proofs.Math.Nat.{pow-suc, mul_comm, div-div-eq-div-mul, div-one}
 use Rattle.std.proofs.lemmas.Int.{ints}
 use Rattle.std.proofs.lemmas.List.{append-nil, same_from_push}
 use Rattle.std.proofs.lemmas.Fmt.{decimal_is_IsNumeral}
@@ -16,7 +16,7 @@ use Rattle.font_decimal.specs.Shortest.{IsShortest, nearest_numeral, fewest_plac
 use Rattle.font_decimal.specs.declared.reader.DecimalFault.{DecimalFault}
 use Rattle.font_decimal.proofs.Texts.{same_parts, decimal_unique, decimal_of, decimal_is_ascii}
 use Rattle.font_decimal.proofs.Readings.{rounds_unique, reading_unique}
-use Rattle.font_decimal.proofs.Fewest.{IsFewest, fewest_is, within_half, nearest_reads_back, abs_diff_times, unit_below}
+use Rattle.font_decimal.proofs.Fewest.{IsFewest, fewest_is, zero_drops, unit_below}
 use Rattle.font_decimal.proofs.Written.{shortest_is, whole_fits, digits_fit, point_length}
 
 -- the text of a value is its shortest decimal
@@ -69,23 +69,6 @@ last_is zero n = rw div-one
 last_is (suc p) n =
     let front : n / 10 ^ suc p ≡ n / 10 / 10 ^ p = ap (λ d. n / d) (pow-suc 10 p ∙ mul_comm (10 ^ p) 10) ∙ sym (div-div-eq-div-mul n 10 (10 ^ p)) in
     rw front (ap (λ ds. (48 + n / 10 / 10 ^ p % 10) ∷ ds) (last_is p n))
-
-tenth : (x y ten tenfold : ℕ) → x ≡ 10 * y → tenfold ≡ ten * 10 → 2 * x < tenfold → 2 * y ≤ ten
-tenth x y ten tenfold e power h = omega arith
-
--- a numeral that ends in 0 would read back with one place fewer
-zero_drops : (m f p : ℕ) → IsFewest m f (suc p) → nearest_numeral m f (suc p) % 10 ≢ 0
-zero_drops m f p fewest e =
-    let d = nearest_numeral m f (suc p) in
-    let tens : d ≡ 10 * (d / 10) = omega (arith, div-add-mod' d 10) in
-    let close = within_half m f (suc p) fewest.reads in
-    let left : d * 2 ^ f ≡ 10 * (d / 10 * 2 ^ f) = ap (λ n. n * 2 ^ f) tens ∙ (let regroup : 10 * (d / 10) * 2 ^ f ≡ 10 * (d / 10 * 2 ^ f) = omega arith in regroup) in
-    let right : m * 10 ^ suc p ≡ 10 * (m * 10 ^ p) = rw (pow-suc 10 p) (omega arith) in
-    let apart : abs_diff (d * 2 ^ f) (m * 10 ^ suc p) ≡ 10 * abs_diff (d / 10 * 2 ^ f) (m * 10 ^ p) =
-    ap (λ x. abs_diff x (m * 10 ^ suc p)) left ∙ ap (λ y. abs_diff (10 * (d / 10 * 2 ^ f)) y) right ∙ abs_diff_times 10 (d / 10 * 2 ^ f) (m * 10 ^ p) in
-    let closer = tenth _ _ (10 ^ p) (10 ^ suc p) apart (pow-suc 10 p) close in
-    let few = fewest.few in
-    true≢false (sym (nearest_reads_back m f p (d / 10) (omega arith) closer) ∙ fewest.before p (omega arith))
 
 no_point_at : (ds : List ℕ) (i : ℕ) → AllDigits 10 ds → get_or ds i 0 ≢ 46
 no_point_at [] i h e = omega arith

@@ -1,13 +1,13 @@
 -- What is left of a value m / 2^f behind its first p places.
-use Rattle.std.proofs.Common.{◌≡◌, ℕ, ◌+◌, ◌-◌, ◌*◌, ◌/◌, ◌%◌, ◌^◌, ◌<◌, ◌≤◌, inl, inr, true, false, arith, add-one}
+use Rattle.std.proofs.Common.{◌≡◌, ℕ, ◌+◌, ◌-◌, ◌*◌, ◌/◌, ◌%◌, ◌^◌, ◌<◌, ◌≤◌, inl, inr, false, ap, ◌∙◌, zero, suc, arith, add-one}
 use Rattle.std.specs.Prelude.{min}
 use Rattle.std.specs.Int.{abs_diff}
-use Rattle.std.proofs.Math.Nat.{pow-suc, div-add-mod', div-lt_iff_lt-mul, mod-lt, mul-le-mul_right}
+use Rattle.std.proofs.Math.Nat.{pow-suc, div-add-mod', div-lt_iff_lt-mul, mod-lt, mul-le-mul_right, add-mul-mod_self_left}
 use Rattle.std.proofs.lemmas.Bool.{cases_lt}
 use Rattle.std.proofs.lemmas.Nat.{pow_pos}
 use Rattle.font_decimal.specs.Shortest.{nearest_numeral, reads_back, fewest_places}
 use Rattle.font_decimal.proofs.Near.{rounded_is, rounded_unique}
-use Rattle.font_decimal.proofs.Fewest.{IsFewest, fewest_is, fewest_unique, reads_within, fails_past, within_half}
+use Rattle.font_decimal.proofs.Fewest.{IsFewest, fewest_is, fewest_unique, reads_within, fails_past, zero_drops, within_half}
 
 -- m / 2^f cut off after p places is the numeral q, and of the last place rest / 2^(f+1) is left
 pub record HasRest (m f p q rest : ℕ) : Type 0 where
@@ -50,18 +50,16 @@ distance m f p q rest h =
       | inr high ↦ rw (rounded_up m f p q rest h high) (omega arith)
     ]
 
--- half a step is 10^p such parts: within it the nearest decimal reads back
-pub reads_here : (m f p q rest : ℕ) → HasRest m f p q rest → min rest (2 * 2 ^ f - rest) < 10 ^ p → reads_back m f p ≡ true
-reads_here m f p q rest h close = reads_within m f p (omega (arith, distance m f p q rest h))
+-- half a step is 10^p such parts: the first places within it are the fewest
+pub stopped : (m f p q rest : ℕ) → HasRest m f p q rest → min rest (2 * 2 ^ f - rest) < 10 ^ p → p ≤ f → ((j : ℕ) → j < p → reads_back m f j ≡ false) → IsFewest m f p
+stopped m f p q rest h close few fails = record { few = few; reads = reads_within m f p (omega (arith, distance m f p q rest h)); before = fails }
 
+pub places_are : (m f p : ℕ) → IsFewest m f p → p ≡ fewest_places m f
+places_are m f p fewest = fewest_unique m f p (fewest_places m f) fewest (fewest_is m f)
+
+-- and past it the nearest decimal does not read back
 pub fails_here : (m f p q rest : ℕ) → HasRest m f p q rest → 10 ^ p ≤ min rest (2 * 2 ^ f - rest) → reads_back m f p ≡ false
 fails_here m f p q rest h far = fails_past m f p (omega (arith, distance m f p q rest h))
-
--- and the first places that do are the fewest
-pub are_fewest : (m f p : ℕ) → p ≤ f → reads_back m f p ≡ true → ((j : ℕ) → j < p → reads_back m f j ≡ false) → p ≡ fewest_places m f
-are_fewest m f p few reads fails =
-    let here : IsFewest m f p = record { few = few; reads = reads; before = fails } in
-    fewest_unique m f p (fewest_places m f) here (fewest_is m f)
 
 -- the numeral with one digit more behind the same whole digits
 pub next_numeral : (m f p w n rest unit : ℕ) → HasRest m f p (w * 10 ^ p + n) rest → unit ≡ 2 * 2 ^ f
@@ -84,12 +82,27 @@ past_whole m w t ten n below close high =
     omega arith
 
 -- where the nearest decimal reads back, its fraction is below one: raising the last digit carries into no whole digit
-pub fraction_below : (m f p n : ℕ) → reads_back m f p ≡ true → nearest_numeral m f p ≡ m / 2 ^ f * 10 ^ p + n → n < 10 ^ p
-fraction_below m f p n reads split =
+pub fraction_below : (m f p n : ℕ) → IsFewest m f p → nearest_numeral m f p ≡ m / 2 ^ f * 10 ^ p + n → n < 10 ^ p
+fraction_below m f p n fewest split =
     let parts = div-add-mod' m (2 ^ f) in
     let less : m % 2 ^ f < 2 ^ f = mod-lt m (pow_pos f) in
     let below : m < (m / 2 ^ f + 1) * 2 ^ f = omega arith in
     elim (cases_lt n (10 ^ p)) [
       | inl low ↦ low
-      | inr high ↦ absurd (past_whole m (m / 2 ^ f) (2 ^ f) (10 ^ p) n below (rw split at (within_half m f p reads)) high)
+      | inr high ↦ absurd (past_whole m (m / 2 ^ f) (2 ^ f) (10 ^ p) n below (rw split at (within_half m f p fewest.reads)) high)
     ]
+
+nine_ends : (w ten tenfold n numeral : ℕ) → tenfold ≡ ten * 10 → numeral ≡ w * tenfold + n + 1 → 9 ≤ n % 10 → numeral % 10 ≡ 0
+nine_ends w ten tenfold n numeral power split nine =
+    let digits : n / 10 * 10 + n % 10 ≡ n = div-add-mod' n 10 in
+    let digit : n % 10 < 10 = mod-lt n (omega arith) in
+    let tens : numeral ≡ 0 + 10 * (w * ten + n / 10 + 1) = split ∙ rw power (omega arith) in
+    ap (λ k. k % 10) tens ∙ add-mul-mod_self_left 0 10 (w * ten + n / 10 + 1)
+
+-- a last digit that is raised is no 9: the decimal would end in 0, and so would have been found with one place fewer
+pub no_carry : (m f p w n : ℕ) → IsFewest m f p → n < 10 ^ p → nearest_numeral m f p ≡ w * 10 ^ p + n + 1 → n % 10 < 9
+no_carry m f zero w n fewest low split = let none : n ≡ 0 = omega arith in rw none (omega arith)
+no_carry m f (suc p) w n fewest low split = elim (cases_lt (n % 10) 9) [
+  | inl less ↦ less
+  | inr nine ↦ absurd (zero_drops m f p fewest (nine_ends w (10 ^ p) (10 ^ suc p) n _ (pow-suc 10 p) split nine))
+]

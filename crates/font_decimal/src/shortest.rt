@@ -1,5 +1,5 @@
 // Writing the shortest decimal text of a fixed-point number.
-ghost use Rattle.std.specs.Prelude.{◌≡◌, ℕ, ◌+◌, ◌*◌, ◌^◌, ◌≤◌, ◌<◌, [], ◌∷◌, ◌++◌, length, slice_index, Some};
+ghost use Rattle.std.specs.Prelude.{◌≡◌, ℕ, ◌+◌, ◌*◌, ◌%◌, ◌^◌, ◌≤◌, ◌<◌, [], ◌∷◌, ◌++◌, length, slice_index, Some};
 ghost use Rattle.std.specs.Fmt.{decimal, sign_text};
 ghost use Rattle.font_decimal.specs.Grammar.{point_text};
 ghost use Rattle.font_decimal.specs.Shortest.{fewest_places, nearest_numeral, last_digits};
@@ -146,11 +146,19 @@ fn shortest_digits(magnitude: u64, f: u32) -> Digits
         places += 1;
     }
     if 2 * rest >= unit {
-        fraction += 1;
+        fraction = raise_last_digit(fraction);
     }
     Digits {
         whole,
         fraction,
         places,
     }
+}
+
+// The numeral with its last digit raised, which is no 9: nothing is carried.
+fn raise_last_digit(numeral: u64) -> u64
+    requires { (numeral % 10 < 9) × (numeral + 1 < 2 ^ 64) }
+    ensures { result ≡ numeral + 1 }
+{
+    numeral + 1
 }

@@ -1,9 +1,9 @@
-use Rattle.std.proofs.Common.{◌≡◌, ℕ, ◌+◌, ◌*◌, ◌/◌, ◌%◌, ◌^◌, ◌≤◌, true, false, arith, sym, ◌∙◌, add-one, below_more}
+use Rattle.std.proofs.Common.{◌≡◌, ℕ, ◌+◌, ◌*◌, ◌/◌, ◌%◌, ◌^◌, ◌≤◌, false, arith, sym, ◌∙◌, add-one, below_more}
 use Rattle.std.proofs.Math.Nat.{pow-suc}
 use Rattle.std.proofs.lemmas.Nat.{one_shl}
 use Rattle.font_decimal.specs.Shortest.{nearest_numeral, reads_back}
-use Rattle.font_decimal.proofs.Fewest.{one_more}
-use Rattle.font_decimal.proofs.Remainder.{reads_here, fails_here, are_fewest, rounded_up, rounded_down, next_numeral, next_below, fraction_below}
+use Rattle.font_decimal.proofs.Fewest.{IsFewest, one_more}
+use Rattle.font_decimal.proofs.Remainder.{stopped, places_are, fails_here, rounded_up, rounded_down, next_numeral, next_below, fraction_below, no_carry}
 use Rattle.font_decimal.proofs.shortest.shortest_digits.Goals as goal
 
 step_is : (f : ℕ) → f ≤ 30 → 1 * 2 ^ f % 18446744073709551616 ≡ 2 ^ f
@@ -37,36 +37,44 @@ loop-margin-preserved c =
     }
 
 -- where the last digit is raised
-reads_raised : (c : goal.Then-rest-unit) → reads_back c.args.magnitude c.args.f c.loop-margin.places ≡ true
-reads_raised c =
+pub raise_last_digit-fraction-requires : goal.raise_last_digit-fraction-requires
+raise_last_digit-fraction-requires c =
     let l = c.loop-margin in
-    reads_here c.args.magnitude c.args.f l.places _ l.rest l.invariant.rest (omega (arith, c.min.ensures, unit_is c.args.f c.requires))
+    let small = unit_is c.args.f c.requires in
+    let fewest = stopped c.args.magnitude c.args.f l.places _ l.rest l.invariant.rest (omega (arith, c.min.ensures, small)) l.invariant.within l.invariant.fail in
+    let numeral = rounded_up c.args.magnitude c.args.f l.places _ l.rest l.invariant.rest (omega (arith, small)) in
+    (no_carry c.args.magnitude c.args.f l.places _ l.fraction fewest (omega arith) numeral, omega arith)
 
-raised : (c : goal.Then-rest-unit) → nearest_numeral c.args.magnitude c.args.f c.loop-margin.places
+fewest : (c : goal.After-raise_last_digit-fraction) → IsFewest c.args.magnitude c.args.f c.loop-margin.places
+fewest c =
+    let l = c.loop-margin in
+    stopped c.args.magnitude c.args.f l.places _ l.rest l.invariant.rest (omega (arith, c.min.ensures, unit_is c.args.f c.requires)) l.invariant.within l.invariant.fail
+
+raised : (c : goal.After-raise_last_digit-fraction) → nearest_numeral c.args.magnitude c.args.f c.loop-margin.places
     ≡ c.args.magnitude / (1 * 2 ^ c.args.f % 18446744073709551616) * 10 ^ c.loop-margin.places + c.loop-margin.fraction + 1
 raised c =
     let l = c.loop-margin in
     rounded_up c.args.magnitude c.args.f l.places _ l.rest l.invariant.rest (omega (arith, unit_is c.args.f c.requires))
 
 pub returns-then-rest-unit-clause-places : goal.returns-then-rest-unit-clause-places
-returns-then-rest-unit-clause-places c =
-    let l = c.loop-margin in
-    are_fewest c.args.magnitude c.args.f l.places l.invariant.within (reads_raised c) l.invariant.fail
+returns-then-rest-unit-clause-places c = places_are c.args.magnitude c.args.f c.loop-margin.places (fewest c)
 
 pub returns-then-rest-unit-clause-numeral : goal.returns-then-rest-unit-clause-numeral
-returns-then-rest-unit-clause-numeral c = omega (arith, raised c)
+returns-then-rest-unit-clause-numeral c = rw c.raise_last_digit-fraction.ensures (omega (arith, raised c))
 
 pub returns-then-rest-unit-clause-below : goal.returns-then-rest-unit-clause-below
 returns-then-rest-unit-clause-below c =
     let l = c.loop-margin in
-    fraction_below c.args.magnitude c.args.f l.places (l.fraction + 1) (reads_raised c) (raised c ∙ rw (step_is c.args.f c.requires) (omega arith))
+    let split = raised c ∙ rw (step_is c.args.f c.requires) (omega arith) in
+    rw c.raise_last_digit-fraction.ensures (fraction_below c.args.magnitude c.args.f l.places (l.fraction + 1) (fewest c) split)
 
--- where it stands
+-- where it is not
 pub returns-else-rest-unit-clause-places : goal.returns-else-rest-unit-clause-places
 returns-else-rest-unit-clause-places c =
     let l = c.loop-margin in
-    let reads = reads_here c.args.magnitude c.args.f l.places _ l.rest l.invariant.rest (omega (arith, c.min.ensures, unit_is c.args.f c.requires)) in
-    are_fewest c.args.magnitude c.args.f l.places l.invariant.within reads l.invariant.fail
+    let fewest = stopped c.args.magnitude c.args.f l.places _ l.rest l.invariant.rest (omega (arith, c.min.ensures, unit_is c.args.f c.requires))
+    l.invariant.within l.invariant.fail in
+    places_are c.args.magnitude c.args.f l.places fewest
 
 pub returns-else-rest-unit-clause-numeral : goal.returns-else-rest-unit-clause-numeral
 returns-else-rest-unit-clause-numeral c =
