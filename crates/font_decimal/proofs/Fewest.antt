@@ -64,9 +64,11 @@ rounded_at m f p = rounded_is (m * 10 ^ p) (2 ^ f) (pow_pos f)
 pub within_half : (m f p : ℕ) → reads_back m f p ≡ true → 2 * abs_diff (nearest_numeral m f p * 2 ^ f) (m * 10 ^ p) < 10 ^ p
 within_half m f p e = ltb-true _ _ (sym (unfolded m f p) ∙ e)
 
+-- a decimal within half a step reads back
 pub reads_within : (m f p : ℕ) → 2 * abs_diff (nearest_numeral m f p * 2 ^ f) (m * 10 ^ p) < 10 ^ p → reads_back m f p ≡ true
 reads_within m f p h = unfolded m f p ∙ lt-ltb _ _ h
 
+-- and one that is half a step away or more does not
 pub fails_past : (m f p : ℕ) → 10 ^ p ≤ 2 * abs_diff (nearest_numeral m f p * 2 ^ f) (m * 10 ^ p) → reads_back m f p ≡ false
 fails_past m f p h = unfolded m f p ∙ le-ltb _ _ h
 

@@ -14,6 +14,7 @@ pub record HasRest (m f p q rest : ℕ) : Type 0 where
   pub value : 2 * (m * 10 ^ p) ≡ 2 * (q * 2 ^ f) + rest
   pub below : rest < 2 * 2 ^ f
 
+-- the equation of the value, ten times as great
 tenfold_value : (m ten tenfold q t rest digit left : ℕ) → tenfold ≡ ten * 10 → 2 * (m * ten) ≡ 2 * (q * t) + rest → digit * (2 * t) + left ≡ 10 * rest
     → 2 * (m * tenfold) ≡ 2 * ((10 * q + digit) * t) + left
 tenfold_value m ten tenfold q t rest digit left power value split = rw power (omega arith)
@@ -28,12 +29,13 @@ next_rest m f p q rest h =
       below = mod-lt (10 * rest) (omega arith);
     }
 
--- the nearest numeral is the one cut off, or one more where half of the last place or more is left
+-- the nearest numeral is the one cut off where less than half of the last place is left
 pub rounded_down : (m f p q rest : ℕ) → HasRest m f p q rest → rest < 2 ^ f → nearest_numeral m f p ≡ q
 rounded_down m f p q rest h low =
     let value = h.value in
     rounded_unique (m * 10 ^ p) (2 ^ f) _ q (rounded_is (m * 10 ^ p) (2 ^ f) (pow_pos f)) (record { low = omega arith; high = omega arith })
 
+-- one more where half of the last place or more is left
 pub rounded_up : (m f p q rest : ℕ) → HasRest m f p q rest → 2 ^ f ≤ rest → nearest_numeral m f p ≡ q + 1
 rounded_up m f p q rest h high =
     let value = h.value in
@@ -54,6 +56,7 @@ distance m f p q rest h =
 pub stopped : (m f p q rest : ℕ) → HasRest m f p q rest → min rest (2 * 2 ^ f - rest) < 10 ^ p → p ≤ f → ((j : ℕ) → j < p → reads_back m f j ≡ false) → IsFewest m f p
 stopped m f p q rest h close few fails = record { few = few; reads = reads_within m f p (omega (arith, distance m f p q rest h)); before = fails }
 
+-- and these are the places that the definition gives
 pub places_are : (m f p : ℕ) → IsFewest m f p → p ≡ fewest_places m f
 places_are m f p fewest = fewest_unique m f p (fewest_places m f) fewest (fewest_is m f)
 
@@ -75,6 +78,7 @@ next_below n ten rest unit low less =
     let digit : 10 * rest / unit < 10 = (div-lt_iff_lt-mul {k = unit} {x = 10 * rest} {y = 10} (omega arith)).1 (omega arith) in
     omega arith
 
+-- a numeral past the whole part above the value is half a step away or more
 past_whole : (m w t ten n : ℕ) → m < (w + 1) * t → 2 * abs_diff ((w * ten + n) * t) (m * ten) < ten → ten ≤ n → ⊥
 past_whole m w t ten n below close high =
     let past : (w * ten + ten) * t ≤ (w * ten + n) * t = mul-le-mul_right t (omega arith) in
@@ -92,6 +96,7 @@ fraction_below m f p n fewest split =
       | inr high ↦ absurd (past_whole m (m / 2 ^ f) (2 ^ f) (10 ^ p) n below (rw split at (within_half m f p fewest.reads)) high)
     ]
 
+-- one above a numeral that ends in 9 is a multiple of ten
 nine_ends : (w ten tenfold n numeral : ℕ) → tenfold ≡ ten * 10 → numeral ≡ w * tenfold + n + 1 → 9 ≤ n % 10 → numeral % 10 ≡ 0
 nine_ends w ten tenfold n numeral power split nine =
     let digits : n / 10 * 10 + n % 10 ≡ n = div-add-mod' n 10 in
