@@ -1,14 +1,18 @@
--- The number that digits write, where they are joined, cut and filled up with zeros.
-use Rattle.std.proofs.Common.{◌≡◌, ℕ, zero, suc, ◌+◌, ◌-◌, ◌*◌, ◌^◌, ◌<◌, ◌≤◌, List, [], ◌∷◌, ◌++◌, length, take, drop, refl, sym, ap, ◌∙◌, arith, add-one, length-append, length-drop, get_or}
-use Rattle.std.specs.Prelude.{replicate}
+-- The number that digits write, where they are joined and cut.
+use Rattle.std.proofs.Common.{◌≡◌, ℕ, zero, suc, ◌+◌, ◌-◌, ◌*◌, ◌^◌, ◌<◌, ◌≤◌, inl, inr, List, [], ◌∷◌, ◌++◌, length, take, drop, min, refl, sym, ap, ◌∙◌, arith, rules, true≢false, length-drop, get_or}
 use Rattle.std.specs.Str.Parse.{digits_value, digits_value_after, AllDigits}
-use Rattle.std.specs.Char.{digit_value}
-use Rattle.std.proofs.Math.Nat.{pow-le-pow_right, pow-suc}
-use Rattle.std.proofs.lemmas.List.{take-append-drop, length-replicate, length-take-le, get_or_append_left, get_or-append_right, get_or-replicate}
+use Rattle.std.specs.Char.{digit_value, is_ascii_digit, IsAsciiDigit}
+use Rattle.std.specs.List.{list_all}
+use Rattle.std.specs.Prelude.{true, false}
+use Rattle.std.proofs.Math.Nat.{pow-suc, mul-lt-mul_of_pos_right, one-le-pow, pow-le-pow_right}
+use Rattle.std.proofs.lemmas.Bool.{cases_lt}
+use Rattle.std.proofs.lemmas.Nat.{pow-add}
+use Rattle.std.proofs.lemmas.List.{take-append-drop, length-take, length-take-le}
 use Rattle.std.proofs.lemmas.Int.Digits.{digits_value-lt, digits_value_more}
-use Rattle.std.proofs.lemmas.Str.Parse.{digit_from_value}
 use Rattle.std.proofs.lemmas.Str.{digit_value_digit}
+use Rattle.std.proofs.lemmas.Str.Parse.{IsNumeralModel, numerals_by_value}
 
+-- digits that follow a number move it up by their count
 after_is : (n : ℕ) (cs : List ℕ) → digits_value_after 10 n cs ≡ n * 10 ^ length cs + digits_value 10 cs
 after_is n [] = omega arith
 after_is n (c ∷ cs) =
@@ -17,25 +21,16 @@ after_is n (c ∷ cs) =
     let power : 10 ^ suc (length cs) ≡ 10 ^ length cs * 10 = pow-suc 10 (length cs) in
     rw (here, first, power) (omega arith)
 
+-- digits are read in two goes as in one
 after-append : (n : ℕ) (xs ys : List ℕ) → digits_value_after 10 n (xs ++ ys) ≡ digits_value_after 10 (digits_value_after 10 n xs) ys
 after-append n [] ys = refl
 after-append n (x ∷ xs) ys = after-append (n * 10 + digit_value x) xs ys
 
+-- the number of joined digits
 pub digits_value-append : (xs ys : List ℕ) → digits_value 10 (xs ++ ys) ≡ digits_value 10 xs * 10 ^ length ys + digits_value 10 ys
 digits_value-append xs ys = after-append 0 xs ys ∙ after_is (digits_value 10 xs) ys
 
-pub zeros_value : (n : ℕ) → digits_value 10 (replicate n 48) ≡ 0
-zeros_value zero = refl
-zeros_value (suc n) = zeros_value n
-
-pub all_zeros : (n : ℕ) → AllDigits 10 (replicate n 48)
-all_zeros zero = tt
-all_zeros (suc n) = (omega arith, all_zeros n)
-
-pub digits-append : (xs ys : List ℕ) → AllDigits 10 xs → AllDigits 10 ys → AllDigits 10 (xs ++ ys)
-digits-append [] ys p q = q
-digits-append (x ∷ xs) ys p q = (p.0, digits-append xs ys p.1 q)
-
+-- what is left of digits, from either end, is digits
 pub digits-drop : (n : ℕ) (xs : List ℕ) → AllDigits 10 xs → AllDigits 10 (drop n xs)
 digits-drop zero xs p = p
 digits-drop (suc n) [] p = p
@@ -46,86 +41,114 @@ digits-take zero xs p = tt
 digits-take (suc n) [] p = tt
 digits-take (suc n) (x ∷ xs) p = (p.0, digits-take n xs p.1)
 
--- the first n digits, with zeros for those that are missing
-abbrev pub first_digits : ℕ → List ℕ → List ℕ
-first_digits n ds = take n (ds ++ replicate n 48)
+-- and two parts that are digits are digits together
+pub digits_from_parts : (n : ℕ) (xs : List ℕ) → AllDigits 10 (take n xs) → AllDigits 10 (drop n xs) → AllDigits 10 xs
+digits_from_parts zero xs p q = q
+digits_from_parts (suc n) [] p q = tt
+digits_from_parts (suc n) (x ∷ xs) p q = (p.0, digits_from_parts n xs p.1 q)
 
--- a fraction is its first n digits, and a rest below their last place
-pub record IsCut (n : ℕ) (ds : List ℕ) : Type 0 where
-  pub rest : ℕ
-  pub is : digits_value 10 ds * 10 ^ n ≡ digits_value 10 (first_digits n ds) * 10 ^ length ds + rest
-  pub below : rest < 10 ^ length ds
+-- a test of each byte tells digits
+by_test : IsNumeralModel (λ ds. list_all is_ascii_digit ds ≡ true) (digits_value 10)
+by_test = numerals_by_value _ (search rules)
 
-pub is_cut : (n : ℕ) (ds : List ℕ) → AllDigits 10 ds → IsCut n ds
-is_cut n ds p =
-    let zeros : List ℕ = replicate n 48 in
-    let all = ds ++ zeros in
-    let back = drop n all in
-    let long : length back ≡ length ds = rw (length-drop n all, length-append ds zeros, length-replicate n) (omega arith) in
-    let whole : digits_value 10 all ≡ digits_value 10 ds * 10 ^ n =
-    digits_value-append ds zeros ∙ rw (zeros_value n, length-replicate n) (omega arith) in
-    let parts : digits_value 10 all ≡ digits_value 10 (take n all) * 10 ^ length back + digits_value 10 back =
-    ap (digits_value 10) (sym (take-append-drop n all)) ∙ digits_value-append (take n all) back in
-    record {
-      rest = digits_value 10 back;
-      is = sym whole ∙ (rw long at parts);
-      below = rw long at (digits_value-lt 10 back (digits-drop n all (digits-append ds zeros p (all_zeros n))));
-    }
+-- where it passes, there are digits
+pub digits_pass : (ds : List ℕ) → true ≡ list_all is_ascii_digit ds → AllDigits 10 ds
+digits_pass ds t = by_test.to ds (sym t)
 
-pub first_digits_below : (n : ℕ) (ds : List ℕ) → AllDigits 10 ds → digits_value 10 (first_digits n ds) < 10 ^ n
-first_digits_below n ds p =
-    let zeros : List ℕ = replicate n 48 in
-    let all = ds ++ zeros in
-    let long : length (take n all) ≡ n = length-take-le n all (omega (arith, length-append ds zeros, length-replicate n (let d : ℕ = 48 in d))) in
-    rw long at (digits_value-lt 10 (take n all) (digits-take n all (digits-append ds zeros p (all_zeros n))))
-
-digit_is : (c : ℕ) → digit_value c < 10 → (48 ≤ c) × (digit_value c ≡ c - 48)
-digit_is c h = let digit = digit_from_value c h in (omega arith, omega (arith, digit_value_digit c digit))
-
-value_at : (xs : List ℕ) (i : ℕ) → AllDigits 10 xs → i < length xs → digit_value (get_or xs i 0) < 10
-value_at [] i h low = absurd (omega arith)
-value_at (x ∷ xs) zero h low = h.0
-value_at (x ∷ xs) (suc i) h low = value_at xs i h.1 (omega arith)
-
--- the digit at a place of a fraction that is filled up with zeros
-unfoldable pub digit_there : ℕ → List ℕ → ℕ → ℕ
-digit_there p ds i = digit_value (get_or (ds ++ replicate p 48) i 0)
-
-filled_length : (p : ℕ) (ds : List ℕ) → length (ds ++ replicate p 48) ≡ length ds + p
-filled_length p ds = let zeros : List ℕ = replicate p 48 in length-append ds zeros ∙ ap (λ n. length ds + n) (length-replicate p (let d : ℕ = 48 in d))
-
-pub digit_below : (p : ℕ) (ds : List ℕ) (i : ℕ) → AllDigits 10 ds → i < p → digit_there p ds i < 10
-unfolding digit_there
-digit_below p ds i h low =
-    let zeros : List ℕ = replicate p 48 in
-    value_at (ds ++ zeros) i (digits-append ds zeros h (all_zeros p)) (omega (arith, filled_length p ds))
-
-pub digit_in : (p : ℕ) (ds : List ℕ) (i byte : ℕ) → AllDigits 10 ds → i < length ds → byte ≡ get_or ds i 0 → (48 ≤ byte) × (byte - 48 ≡ digit_there p ds i)
-unfolding digit_there
-digit_in p ds i byte h low e =
-    let zeros : List ℕ = replicate p 48 in
-    let digit = digit_is (get_or ds i 0) (value_at ds i h low) in
-    (omega (arith, digit.0), rw (e, get_or_append_left ds zeros 0 i low) (sym digit.1))
-
-pub digit_past : (p : ℕ) (ds : List ℕ) (i : ℕ) → length ds ≤ i → i < p → 0 ≡ digit_there p ds i
-unfolding digit_there
-digit_past p ds i high low =
-    let zeros : List ℕ = replicate p 48 in
-    let zero_there : get_or (ds ++ zeros) i 0 ≡ 48 = get_or-append_right ds zeros (length ds) i 0 refl high ∙ get_or-replicate p (i - length ds) 48 0 (omega arith) in
-    ap digit_value (sym zero_there)
+-- and where it fails, there are none
+pub digits_fail : (ds : List ℕ) → false ≡ list_all is_ascii_digit ds → AllDigits 10 ds → ⊥
+digits_fail ds t p = true≢false (sym (by_test.from ds p) ∙ sym t)
 
 -- one digit more
-pub kept_more : (p : ℕ) (ds : List ℕ) (i numeral digit : ℕ) → AllDigits 10 ds → i < p → numeral ≡ digits_value 10 (take i (ds ++ replicate p 48)) → digit ≡ digit_there p ds i
-    → numeral * 10 + digit ≡ digits_value 10 (take (i + 1) (ds ++ replicate p 48))
-unfolding digit_there
-kept_more p ds i numeral digit h low so_far next =
-    let zeros : List ℕ = replicate p 48 in
-    let more = digits_value_more 10 (ds ++ zeros) i (omega (arith, filled_length p ds)) in
-    rw (so_far, next) (sym more)
+pub one_digit_more : (xs : List ℕ) (i n digit : ℕ) → i < length xs → IsAsciiDigit (get_or xs i 0) → n ≡ digits_value 10 (take i xs) → digit ≡ get_or xs i 0 - 48
+    → n * 10 + digit ≡ digits_value 10 (take (i + 1) xs)
+one_digit_more xs i n digit low ascii so_far next =
+    let value = digit_value_digit (get_or xs i 0) ascii in
+    omega (arith, digits_value_more 10 xs i low)
 
--- and a bound
-pub kept_below : (i numeral digit : ℕ) → numeral < 10 ^ i → digit < 10 → numeral * 10 + digit < 10 ^ (i + 1)
-kept_below i numeral digit h small = omega (arith, pow-suc 10 i, ap (λ n. 10 ^ n) (add-one i))
+-- and the same where a greater number is cut to the greatest that counts
+pub one_digit_more_capped : (xs : List ℕ) (i n digit most : ℕ) → i < length xs → IsAsciiDigit (get_or xs i 0) → n ≡ min (digits_value 10 (take i xs)) most → digit ≡ get_or xs i 0 - 48
+    → min (n * 10 + digit) most ≡ min (digits_value 10 (take (i + 1) xs)) most
+one_digit_more_capped xs i n digit most low ascii so_far next =
+    let more = one_digit_more xs i (digits_value 10 (take i xs)) digit low ascii refl next in
+    omega arith
 
-pub kept_fits : (i numeral digit : ℕ) → i < 17 → numeral < 10 ^ i → digit < 10 → numeral * 10 + digit < 2 ^ 64
-kept_fits i numeral digit low h small = let most : 10 ^ i ≤ 10 ^ 16 = pow-le-pow_right {n = 10} (omega arith) {i = i} {j = 16} (omega arith) in omega arith
+-- at most 18 digits write a number below 10^18
+pub few_digits : (xs : List ℕ) (i : ℕ) → AllDigits 10 (take i xs) → i ≤ length xs → i ≤ 18 → digits_value 10 (take i xs) < 10 ^ 18
+few_digits xs i h within few =
+    let below = digits_value-lt 10 (take i xs) h in
+    let power : 10 ^ length (take i xs) ≤ 10 ^ 18 = pow-le-pow_right {n = 10} (omega arith) {i = length (take i xs)} {j = 18} (omega (arith, length-take-le i xs within)) in
+    omega arith
+
+-- no more digits are taken than there are
+pub take_all : (n : ℕ) (xs : List ℕ) → length xs ≤ n → take n xs ≡ xs
+take_all zero [] h = refl
+take_all zero (x ∷ xs) h = absurd (omega arith)
+take_all (suc n) [] h = refl
+take_all (suc n) (x ∷ xs) h = ap (λ ys. x ∷ ys) (take_all n xs (omega arith))
+
+-- what stands from a place on is all that follows it
+pub take_rest : (n : ℕ) (xs : List ℕ) → take (length xs - n) (drop n xs) ≡ drop n xs
+take_rest n xs = take_all (length xs - n) (drop n xs) (omega (arith, length-drop n xs))
+
+-- to take p digits, or all of them where there are fewer, is to take p digits
+pub take_min : (n p : ℕ) (xs : List ℕ) → n ≡ min (length xs) p → take n xs ≡ take p xs
+take_min n p xs e = elim (cases_lt p (length xs)) [
+  | inl long ↦ ap (λ k. take k xs) (omega arith)
+  | inr short ↦ take_all n xs (omega arith) ∙ sym (take_all p xs short)
+]
+
+-- the numeral of the first p digits, with zeros for those that are missing
+abbrev pub kept_numeral : ℕ → List ℕ → ℕ
+kept_numeral p ds = digits_value 10 (take p ds) * 10 ^ (p - length ds)
+
+-- a power of ten in two factors
+ten_to : (n a b : ℕ) → n ≡ a + b → 10 ^ n ≡ 10 ^ a * 10 ^ b
+ten_to n a b e = ap (λ k. 10 ^ k) e ∙ pow-add 10 a b
+
+-- a fraction is its first p digits, and a rest below their last place
+pub record IsCut (p : ℕ) (ds : List ℕ) : Type 0 where
+  pub rest : ℕ
+  pub is : digits_value 10 ds * 10 ^ p ≡ kept_numeral p ds * 10 ^ length ds + rest
+  pub below : rest < 10 ^ length ds
+
+-- each fraction is so cut
+pub is_cut : (p : ℕ) (ds : List ℕ) → AllDigits 10 ds → IsCut p ds
+is_cut p ds h = elim (cases_lt p (length ds)) [
+  | inl long ↦
+      let k = length ds in
+      let front = digits_value 10 (take p ds) in
+      let back = digits_value 10 (drop p ds) in
+      let many : length (drop p ds) ≡ k - p = length-drop p ds in
+      let joined : digits_value 10 ds ≡ front * 10 ^ (k - p) + back =
+      ap (digits_value 10) (sym (take-append-drop p ds)) ∙ digits_value-append (take p ds) (drop p ds) ∙ ap (λ n. front * 10 ^ n + back) many in
+      let none : 10 ^ (p - k) ≡ 1 = ap (λ n. 10 ^ n) (let e : p - k ≡ 0 = omega arith in e) in
+      let power : 10 ^ k ≡ 10 ^ (k - p) * 10 ^ p = ten_to k (k - p) p (omega arith) in
+      let small : back < 10 ^ (k - p) = rw many at (digits_value-lt 10 (drop p ds) (digits-drop p ds h)) in
+      record {
+        rest = back * 10 ^ p;
+        is = rw (joined, none, power) (omega arith);
+        below = rw power (mul-lt-mul_of_pos_right small (one-le-pow p 10 (omega arith)));
+      }
+  | inr short ↦
+      let k = length ds in
+      let power : 10 ^ p ≡ 10 ^ (p - k) * 10 ^ k = ten_to p (p - k) k (omega arith) in
+      record {
+        rest = 0;
+        is = rw (take_all p ds short, power) (omega arith);
+        below = one-le-pow k 10 (omega arith);
+      }
+]
+
+-- the numeral of digits, filled up with zeros to p places, has at most p digits
+pub filled_below : (p : ℕ) (ds : List ℕ) → AllDigits 10 ds → length ds ≤ p → digits_value 10 ds * 10 ^ (p - length ds) < 10 ^ p
+filled_below p ds h short =
+    rw (ten_to p (length ds) (p - length ds) (omega arith)) (mul-lt-mul_of_pos_right (digits_value-lt 10 ds h) (one-le-pow (p - length ds) 10 (omega arith)))
+
+-- and so has the numeral that is kept
+pub kept_below : (p : ℕ) (ds : List ℕ) → AllDigits 10 ds → kept_numeral p ds < 10 ^ p
+kept_below p ds h =
+    let few : length (take p ds) ≡ min p (length ds) = length-take p ds in
+    let filled = filled_below p (take p ds) (digits-take p ds h) (omega arith) in
+    let same : p - length (take p ds) ≡ p - length ds = omega arith in
+    rw same at filled

@@ -6,6 +6,7 @@ pub mod Padded
 pub mod Printed
 mod Digits
 mod Rounding
+mod Parts
 mod Splits
 mod Fewest
 mod Remainder

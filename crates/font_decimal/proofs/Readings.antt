@@ -1,12 +1,11 @@
 -- Each text has just one reading: a value, out of range, or no decimal.
-use Rattle.std.proofs.Common.{◌≡◌, ℕ, ◌+◌, ◌-◌, ◌*◌, ◌^◌, ◌<◌, ◌≤◌, ◌↔◌, ◌⊎◌, inl, inr, Bool, true, false, List, ◌++◌, length, ℤ, pos, refl, sym, ap, subst, ◌∙◌, arith}
-use Rattle.std.specs.Prelude.{Option, Some, None, Result, Ok, Err, SomeIff, MatchResult, FitsSigned, ◌*ℤ◌, ◌≤ℤ◌, ◌<ℤ◌}
-use Rattle.std.specs.Str.Parse.{digits_value, AllDigits, IsNumeral, ParsesUnsigned}
+use Rattle.std.proofs.Common.{◌≡◌, ℕ, ◌+◌, ◌-◌, ◌*◌, ◌/◌, ◌^◌, ◌<◌, ◌≤◌, ◌↔◌, ◌⊎◌, inl, inr, Bool, true, false, List, ◌++◌, length, take, min, ℤ, pos, refl, sym, ap, subst, ◌∙◌, arith}
+use Rattle.std.specs.Prelude.{Option, Some, None, Result, Ok, Err, SomeIff, FitsSigned, ◌*ℤ◌, ◌≤ℤ◌}
+use Rattle.std.specs.Str.Parse.{digits_value}
+use Rattle.std.specs.Fmt.{sign_text}
 use Rattle.std.specs.Option.{ok_or}
 use Rattle.std.specs.Int.{w64}
-use Rattle.std.proofs.lemmas.Bool.{cases_lt}
-use Rattle.std.proofs.lemmas.Str.Parse.{IsNumeralModel, numerals_by_value, tells_digits, parse_digits}
-use Rattle.std.proofs.Math.Nat.{one-le-pow, mul-pos, mul-le-mul}
+use Rattle.std.proofs.Math.Nat.{one-le-pow, mul-pos}
 use Rattle.std.proofs.lemmas.Int.{ints, by_lt_z}
 use Rattle.std.proofs.lemmas.Nat.{pow_pos}
 use Rattle.font_decimal.specs.Near.{signed, near_magnitude}
@@ -16,8 +15,8 @@ use Rattle.font_decimal.specs.declared.reader.DecimalFault.{DecimalFault}
 use Rattle.font_decimal.specs.declared.reader.DecimalFault.TheVariants.{Syntax, OutOfRange}
 use Rattle.font_decimal.proofs.Near.{IsNearMagnitude, rounded_is, near_from, near_unique, signed_times}
 use Rattle.font_decimal.proofs.Texts.{decimal_of, decimal_unique}
-use Rattle.font_decimal.proofs.Digits.{digits_value-append, first_digits, is_cut}
-use Rattle.font_decimal.proofs.Rounding.{cut_rounds, whole_rounds, half_steps}
+use Rattle.font_decimal.proofs.Digits.{digits_value-append, kept_numeral, is_cut}
+use Rattle.font_decimal.proofs.Rounding.{cut_rounds, whole_rounds, half_steps, half_steps_halved, steps_capped}
 
 pub ten_pos : (k : ℕ) → 0 < 10 ^ k
 ten_pos k = one-le-pow k 10 (omega arith)
@@ -31,7 +30,7 @@ rounds_unique text f b c x y =
 
 -- the nearest number of steps, by the first p digits of the fraction
 abbrev pub steps_by : ℕ → ℕ → List ℕ → List ℕ → ℕ
-steps_by p f w e = digits_value 10 w * 2 ^ f + near_magnitude (digits_value 10 (first_digits p e) * 2 ^ f) (10 ^ p)
+steps_by p f w e = digits_value 10 w * 2 ^ f + near_magnitude (kept_numeral p e * 2 ^ f) (10 ^ p)
 
 pub rounds_by : (p f : ℕ) (text : List ℕ) (s : Bool) (w e : List ℕ) → f < p → HasParts text s w e → Rounds text f (signed s (steps_by p f w e))
 rounds_by p f text s w e h parts =
@@ -39,7 +38,7 @@ rounds_by p f text s w e h parts =
     let k = length e in
     let u = 2 ^ (p - 1 - f) * 5 ^ p in
     let value = digits_value 10 e in
-    let kept = digits_value 10 (first_digits p e) in
+    let kept = kept_numeral p e in
     let cut = is_cut p e parts.fraction_digits in
     let unit = half_steps f p h in
     let u_pos : 0 < u = mul-pos (pow_pos (p - 1 - f)) (one-le-pow p 5 (omega arith)) in
@@ -54,6 +53,20 @@ rounds_by p f text s w e h parts =
       decimal = decimal_of text s w e parts;
       nearest = rw (digits_value-append w e, signed_times s _ t) (near_from s _ (10 ^ k) _ (ten_pos k) all);
     }
+
+-- a number stands for the nearest number of steps to unsigned digits: it is that number, or both are above 2^63
+abbrev pub StandsForSteps : ℕ → List ℕ → ℕ → Type 0
+StandsForSteps f digits n = (steps : ℕ) × ((n ≡ steps) ⊎ ((2 ^ 63 < n) × (2 ^ 63 < steps))) × ((negative : Bool) → Rounds (sign_text negative ++ digits) f (signed negative steps))
+
+pub steps_found : (f whole halves n : ℕ) (digits e : List ℕ) (len : ℕ) → f ≤ 30 → ((s : Bool) → HasParts (sign_text s ++ digits) s (take len digits) e)
+    → whole ≡ min (digits_value 10 (take len digits)) (2 ^ (63 - f) + 1) → halves ≡ kept_numeral (f + 1) e / 5 ^ (f + 1)
+    → n ≡ whole * 2 ^ f + (halves + 1) / 2 → StandsForSteps f digits n
+steps_found f whole halves n digits e len few parts cut halves_are n_is =
+    let w = take len digits in
+    let rounded : (halves + 1) / 2 ≡ near_magnitude (kept_numeral (f + 1) e * 2 ^ f) (10 ^ (f + 1)) =
+    ap (λ h. (h + 1) / 2) halves_are ∙ half_steps_halved f (kept_numeral (f + 1) e) in
+    let capped = steps_capped f (digits_value 10 w) whole ((halves + 1) / 2) few cut in
+    (digits_value 10 w * 2 ^ f + (halves + 1) / 2, rw n_is capped, λ s. rw rounded (rounds_by (f + 1) f (sign_text s ++ digits) s w e (omega arith) (parts s)))
 
 -- what is read is in range, and no other number is read
 pub not_outside : (f : ℕ) (text : List ℕ) (min max b : ℤ) → Reads text f min max b → IsOutOfRange text f min max → ⊥
@@ -79,38 +92,22 @@ reading_unique text f min max (Err OutOfRange) (Err OutOfRange) x y = refl
 pub answers_as : (text : List ℕ) (f : ℕ) (min max : ℤ) (q r : Result ℤ DecimalFault) → IsReading text f min max q → (q ≡ r) ↔ IsReading text f min max r
 answers_as text f min max q r x = (λ e. subst (λ t. IsReading text f min max t) e x, λ y. reading_unique text f min max q r x y)
 
-by_value : IsNumeralModel (AllDigits 10) (digits_value 10)
-by_value = numerals_by_value _ tells_digits
-
 -- a text whose nearest number is judged by the range
 pub judged : (text : List ℕ) (f : ℕ) (min max b : ℤ) (r : Option ℤ) → Rounds text f b → SomeIff r ((min ≤ℤ b) × (b ≤ℤ max)) b → IsReading text f min max (ok_or r OutOfRange)
 judged text f min max b None rounds none = record { nearest = b; rounds = rounds; outside = by_lt_z b min inl (λ low. by_lt_z max b inr (λ high. absurd (none (low, high)))) }
 judged text f min max b (Some c) rounds some = subst (λ v. Reads text f min max v) (sym some.1) (record { rounds = rounds; low = some.0.0; high = some.0.1 })
 
--- what `parse` says of the whole digits
-pub whole_read : {E : Type 0} → (w : List ℕ) (r : Result ℕ E) → ParsesUnsigned 64 10 w r → IsNumeral 10 w → MatchResult r (λ n. n ≡ digits_value 10 w) (λ _. 2 ^ 64 ≤ digits_value 10 w)
-whole_read {E} w (Ok n) parsed numeral = (parse_digits by_value {E = E} 64 w (Ok n) parsed numeral.1).1
-whole_read w (Err e) parsed numeral =
-    let large = parse_digits by_value 64 w (Err e) parsed numeral.1 in
-    elim (cases_lt (digits_value 10 w) (2 ^ 64)) [ inl small ↦ absurd (large (numeral.0, small)) | inr high ↦ high ]
-
--- whole digits that do not fit 64 bits are out of every range of 64-bit numbers
-pub too_large : (f : ℕ) (text : List ℕ) (min max : ℤ) (s : Bool) (w e : List ℕ) → f < 17 → HasParts text s w e → FitsSigned w64 min → FitsSigned w64 max
-    → 2 ^ 64 ≤ digits_value 10 w → IsOutOfRange text f min max
-too_large f text min max s w e h parts low high large =
-    let steps = steps_by 17 f w e in
-    let many : 2 ^ 64 ≤ steps = omega (arith, mul-le-mul {n₁ = 2 ^ 64} {m₁ = 1} {n₂ = digits_value 10 w} {m₂ = 2 ^ f} large (pow_pos f)) in
-    record { nearest = signed s steps; rounds = rounds_by 17 f text s w e h parts; outside = beyond s steps many }
-  where
-    beyond : (t : Bool) (n : ℕ) → 2 ^ 64 ≤ n → (signed t n <ℤ min) ⊎ (max <ℤ signed t n)
-    beyond true n many = inl (omega (arith, ints))
-    beyond false n many = inr (omega (arith, ints))
-
--- a text whose whole digits fit is read by its steps
-pub read_by : (f : ℕ) (text : List ℕ) (min max : ℤ) (s : Bool) (w e : List ℕ) (whole kept steps : ℕ) (r : Option ℤ) → f < 17 → HasParts text s w e
-    → whole ≡ digits_value 10 w → kept ≡ digits_value 10 (first_digits 17 e) → steps ≡ whole * 2 ^ f + near_magnitude (kept * 2 ^ f) (10 ^ 17)
-    → SomeIff r ((min ≤ℤ signed s steps) × (signed s steps ≤ℤ max)) (signed s steps) → IsReading text f min max (ok_or r OutOfRange)
-read_by f text min max s w e whole kept steps r h parts whole_is kept_is steps_are some =
-    let same : steps ≡ steps_by 17 f w e = steps_are ∙ rw (whole_is, kept_is) in
-    let P : ℕ → Type 0 = λ n. SomeIff r ((min ≤ℤ signed s n) × (signed s n ≤ℤ max)) (signed s n) in
-    judged text f min max (signed s (steps_by 17 f w e)) r (rounds_by 17 f text s w e h parts) (subst P same some)
+-- a number of steps that is judged by the range: it, or one that is above 2^63 just as it is
+pub judged_steps : (s : Bool) (n steps : ℕ) (min max : ℤ) (r : Option ℤ) → FitsSigned w64 min → FitsSigned w64 max
+    → (n ≡ steps) ⊎ ((2 ^ 63 < n) × (2 ^ 63 < steps))
+    → SomeIff r ((min ≤ℤ signed s n) × (signed s n ≤ℤ max)) (signed s n) → SomeIff r ((min ≤ℤ signed s steps) × (signed s steps ≤ℤ max)) (signed s steps)
+judged_steps s n steps min max r low high same some = elim same [
+  | inl e ↦ subst (λ m. SomeIff r ((min ≤ℤ signed s m) × (signed s m ≤ℤ max)) (signed s m)) e some
+  | inr large ↦ beyond s r large some
+] where
+  beyond : (s : Bool) (r : Option ℤ) → (2 ^ 63 < n) × (2 ^ 63 < steps) → SomeIff r ((min ≤ℤ signed s n) × (signed s n ≤ℤ max)) (signed s n)
+      → SomeIff r ((min ≤ℤ signed s steps) × (signed s steps ≤ℤ max)) (signed s steps)
+  beyond true None large none = λ within. omega (arith, ints, large, within)
+  beyond false None large none = λ within. omega (arith, ints, large, within)
+  beyond true (Some c) large some = absurd (omega (arith, ints, large.0, some.0))
+  beyond false (Some c) large some = absurd (omega (arith, ints, large.0, some.0))

@@ -11,7 +11,8 @@ use Rattle.std.proofs.lemmas.Fmt.{IsAscii-from_digits}
 use Rattle.font_decimal.specs.Near.{signed}
 use Rattle.font_decimal.specs.Grammar.{point_text, HasParts, Decimal}
 
-same_point : (e g : List ℕ) → point_text e ≡ point_text g → e ≡ g
+-- a fraction is known from how it is written
+pub same_point : (e g : List ℕ) → point_text e ≡ point_text g → e ≡ g
 same_point [] [] h = refl
 same_point [] (d ∷ g) h = cc
 same_point (c ∷ e) [] h = cc

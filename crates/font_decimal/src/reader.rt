@@ -1,11 +1,13 @@
 // Reading a decimal text as the nearest fixed-point number.
-ghost use Rattle.std.specs.Prelude.{◌≡◌, ◌+◌, ◌*◌, ◌^◌, ◌<◌, ◌≤◌, ◌↔◌, ◌++◌, take, replicate, SomeIff, ℤ, pos, ◌≤ℤ◌};
+ghost use Rattle.std.specs.Prelude.{◌≡◌, ℕ, ◌+◌, ◌-◌, ◌*◌, ◌/◌, ◌^◌, ◌<◌, ◌≤◌, ◌⊎◌, ◌↔◌, ◌++◌, Bool, List, min, length, take, slice_index, false, SomeIff, IfSome, IfNone, MatchOption, ℤ, pos, ◌≤ℤ◌};
+ghost use Rattle.std.specs.Fmt.{sign_text};
+ghost use Rattle.std.specs.Char.{digit_value};
 ghost use Rattle.std.specs.Str.Parse.{digits_value, AllDigits};
-ghost use Rattle.font_decimal.specs.Near.{signed, near_magnitude};
-ghost use Rattle.font_decimal.specs.Grammar.{IsNoDecimal};
-ghost use Rattle.font_decimal.specs.Reading.{Reads, IsOutOfRange, IsReading};
+ghost use Rattle.font_decimal.specs.Near.{signed};
+ghost use Rattle.font_decimal.specs.Grammar.{HasParts, IsNoDecimal};
+ghost use Rattle.font_decimal.specs.Reading.{Rounds, Reads, IsOutOfRange, IsReading};
 
-use crate::grammar::parts_of;
+use crate::grammar::{are_digits, behind_point, split_sign};
 use thiserror::Error;
 
 /// Why a text is not read.
@@ -18,11 +20,6 @@ pub enum DecimalFault {
     #[error("number out of range")]
     OutOfRange = 2,
 }
-
-// Fractional digits that decide the rounding where a half step has at most 17 places, so for at most 16 bits of fraction.
-const KEPT_DIGITS: usize = 17;
-
-const KEPT_UNIT: u128 = 100_000_000_000_000_000;
 
 /// Reads a decimal text as the nearest multiple of `1 / 2^f`, ties away from zero, and gives that multiple's number of
 /// steps of `1 / 2^f`.
@@ -41,57 +38,95 @@ pub fn read_decimal(text: &str, f: u32, min: i64, max: i64) -> Result<i64, Decim
     ensures out_of_range { (result ≡ Err DecimalFault.OutOfRange) ↔ IsOutOfRange text.now f min max }
     ensures syntax { (result ≡ Err DecimalFault.Syntax) ↔ IsNoDecimal text.now }
 {
-    let Some(parts) = parts_of(text) else {
+    let (negative, digits) = split_sign(text.as_bytes());
+    let Some(steps) = nearest_steps(digits, f) else {
         return Err(DecimalFault::Syntax);
     };
-    let Ok(whole) = parts.whole.parse::<u64>() else {
-        return Err(DecimalFault::OutOfRange);
-    };
-    let magnitude = nearest_steps(whole, kept_digits(parts.fraction), f);
-    in_range(parts.negative, magnitude, min, max).ok_or(DecimalFault::OutOfRange)
+    in_range(negative, steps, min, max).ok_or(DecimalFault::OutOfRange)
 }
 
-// The numeral of the first 17 fractional digits, with zeros for those that are missing.
-fn kept_digits(fraction: &str) -> u64
-    requires { AllDigits 10 fraction.now }
-    ensures numeral { result ≡ digits_value 10 (take 17 (fraction.now ++ replicate 17 48)) }
-    ensures below { result < 10 ^ 17 }
+// The number of steps of `1 / 2^f` nearest to a decimal with no sign, where it is at most 2^63, otherwise some number
+// above 2^63.
+fn nearest_steps(digits: &[u8], f: u32) -> Option<u64>
+    requires { (6 ≤ f) × (f ≤ 16) }
+    ensures none { IfNone result ((whole fraction : List ℕ) → ¬ (HasParts digits.now false whole fraction)) }
+    ensures some { IfSome result (λ n. (steps : ℕ)
+        × ((n ≡ steps) ⊎ ((2 ^ 63 < n) × (2 ^ 63 < steps)))
+        × ((negative : Bool) → Rounds (sign_text negative ++ digits.now) f (signed negative steps))) }
 {
-    let digits = fraction.as_bytes();
-    let mut numeral = 0;
-    for place in 0..KEPT_DIGITS {
-        let digit = match digits.get(place) {
-            Some(digit) => *digit - b'0',
-            None => 0,
-        };
-        numeral = numeral * 10 + u64::from(digit);
+    let (whole, len) = whole_digits(digits, (1 << (63 - f)) + 1);
+    if len == 0 {
+        return None;
     }
-    numeral
+    let half_steps = half_steps(behind_point(&digits[len..])?, f)?;
+    Some((whole << f) + (half_steps + 1) / 2)
 }
 
-// The number of steps of `1 / 2^f` nearest to `whole + kept / 10^17`.
-fn nearest_steps(whole: u64, kept: u64, f: u32) -> u128
-    requires { (f ≤ 16) × (kept < 10 ^ 17) }
-    ensures nearest { result ≡ whole * 2 ^ f + near_magnitude (kept * 2 ^ f) (10 ^ 17) }
-    ensures below { result < 2 ^ 82 }
+// The number that the digits in front write, or `too_large` where it is greater, and how many digits they are.
+fn whole_digits(text: &[u8], too_large: u64) -> (u64, usize)
+    requires { too_large < 2 ^ 60 }
+    ensures within { result.1 ≤ length text.now }
+    ensures digits { AllDigits 10 (take result.1 text.now) }
+    ensures end { 10 ≤ digit_value (slice_index text.now result.1) }
+    ensures number { result.0 ≡ min (digits_value 10 (take result.1 text.now)) too_large }
 {
-    let step = 1u128 << f;
-    u128::from(whole) * step + (u128::from(kept) * step + KEPT_UNIT / 2) / KEPT_UNIT
+    let mut whole = 0u64;
+    for place in 0..text.len() {
+        let digit = text[place];
+        if !digit.is_ascii_digit() {
+            return (whole, place);
+        }
+        whole = (whole * 10 + u64::from(digit - b'0')).min(too_large);
+    }
+    (whole, text.len())
+}
+
+// The number of whole half steps of `1 / 2^f` in a fraction. A half step has `f + 1` places, so that later digits do not
+// count; and where there are fewer digits, the fives of the missing zeros are left out.
+fn half_steps(fraction: &[u8], f: u32) -> Option<u64>
+    requires { f ≤ 18 }
+    ensures { MatchOption result (¬ (AllDigits 10 fraction.now)) (λ n. AllDigits 10 fraction.now
+        × (n ≡ digits_value 10 (take (f + 1) fraction.now) * 10 ^ (f + 1 - length fraction.now) / 5 ^ (f + 1))) }
+{
+    let places = fraction.len().min(f as usize + 1);
+    let (kept, late) = fraction.split_at(places);
+    let (numeral, fives) = numeral_and_fives(kept)?;
+    if !are_digits(late) {
+        return None;
+    }
+    Some((numeral << (f as usize + 1 - places)) / fives)
+}
+
+// The number that digits write, and five to the power of how many they are.
+fn numeral_and_fives(digits: &[u8]) -> Option<(u64, u64)>
+    requires { length digits.now ≤ 19 }
+    ensures { MatchOption result (¬ (AllDigits 10 digits.now)) (λ n. AllDigits 10 digits.now
+        × (n.0 ≡ digits_value 10 digits.now) × (n.1 ≡ 5 ^ length digits.now)) }
+{
+    let mut numeral = 0u64;
+    let mut fives = 1u64;
+    for digit in digits {
+        if !digit.is_ascii_digit() {
+            return None;
+        }
+        numeral = numeral * 10 + u64::from(*digit - b'0');
+        fives *= 5;
+    }
+    Some((numeral, fives))
 }
 
 // The signed number of steps, or `None` where it is out of the range.
-fn in_range(negative: bool, magnitude: u128, min: i64, max: i64) -> Option<i64>
-    requires { magnitude < 2 ^ 82 }
-    ensures { let steps = signed negative magnitude in
-        SomeIff result ((min ≤ℤ steps) × (steps ≤ℤ max)) steps }
+fn in_range(negative: bool, steps: u64, min: i64, max: i64) -> Option<i64>
+    ensures { let number = signed negative steps in
+        SomeIff result ((min ≤ℤ number) × (number ≤ℤ max)) number }
 {
-    let steps = if negative {
-        -(magnitude as i128)
+    let number = if negative {
+        0i64.checked_sub_unsigned(steps)?
     } else {
-        magnitude as i128
+        0i64.checked_add_unsigned(steps)?
     };
-    if steps < i128::from(min) || steps > i128::from(max) {
+    if number < min || number > max {
         return None;
     }
-    Some(steps as i64)
+    Some(number)
 }

@@ -93,29 +93,68 @@ fn refuses_by_grammar_then_by_range(rt: HostRuntime) {
         Err(DecimalFault::OutOfRange)
     );
     assert_eq!(rt;
-        read_decimal("140737488355327.99998", 16, i64::MIN, i64::MAX),
-        Ok(i64::MAX)
-    );
-    assert_eq!(rt;
-        read_decimal("140737488355327.99999237060546875", 16, i64::MIN, i64::MAX),
+        read_decimal("33554431.9921875", 6, LEAST, GREATEST),
         Err(DecimalFault::OutOfRange)
     );
 }
 
 #[test]
+fn reads_to_the_ends_of_64_bits(rt: HostRuntime) {
+    for (text, want) in [
+        ("140737488355327.99998", Ok(i64::MAX)),
+        (
+            "140737488355327.99999237060546875",
+            Err(DecimalFault::OutOfRange),
+        ),
+        ("140737488355328", Err(DecimalFault::OutOfRange)),
+        ("-140737488355328", Ok(i64::MIN)),
+        ("-140737488355328.00000762939453124", Ok(i64::MIN)),
+        (
+            "-140737488355328.00000762939453125",
+            Err(DecimalFault::OutOfRange),
+        ),
+        ("-140737488355329", Err(DecimalFault::OutOfRange)),
+        ("18446744073709551616", Err(DecimalFault::OutOfRange)),
+        ("-18446744073709551616", Err(DecimalFault::OutOfRange)),
+    ] {
+        let read = read_decimal(text, 16, i64::MIN, i64::MAX);
+        assert_eq!(rt; read, want, "at {text}");
+    }
+}
+
+#[test]
+fn reads_values_of_16_bits(rt: HostRuntime) {
+    for (text, f, want) in [
+        ("0.0001220703125", 12, Ok(1)),
+        ("-0.00048828125", 10, Ok(-1)),
+        ("-0.00048828124", 10, Ok(0)),
+        ("7.9999", 12, Err(DecimalFault::OutOfRange)),
+        ("-8.0001", 12, Ok(-32768)),
+    ] {
+        assert!(rt; f >= 6 && f <= 16);
+        let read = read_decimal(text, f, -32768, 32767);
+        assert_eq!(rt; read, want, "at {text}");
+    }
+}
+
+#[test]
 fn reads_texts_of_any_length(rt: HostRuntime) -> Result<(), Fail> {
-    for (head, digit, count, tail, want) in [
-        ("0.00000762939453124", '9', 3000, "", Ok(0)),
-        ("", '0', 5000, "12.5", Ok(819200)),
-        ("0.", '0', 5000, "1", Ok(0)),
-        ("-0.", '0', 5000, "1", Ok(0)),
-        ("1", '0', 4999, "", Err(DecimalFault::OutOfRange)),
-        ("", '9', 4999, "x", Err(DecimalFault::Syntax)),
-        ("32767.99999237060546874", '9', 3000, "", Ok(GREATEST)),
-        ("-32768.00000762939453124", '9', 3000, "", Ok(LEAST)),
+    for (head, digit, count, tail, f, want) in [
+        ("0.00000762939453124", '9', 3000, "", 16, Ok(0)),
+        ("0.0078124", '9', 3000, "", 6, Ok(0)),
+        ("", '0', 5000, "12.5", 16, Ok(819200)),
+        ("0.", '0', 5000, "1", 16, Ok(0)),
+        ("-0.", '0', 5000, "1", 16, Ok(0)),
+        ("1", '0', 4999, "", 16, Err(DecimalFault::OutOfRange)),
+        ("", '9', 4999, "x", 16, Err(DecimalFault::Syntax)),
+        ("0.5", '0', 4999, "x", 16, Err(DecimalFault::Syntax)),
+        ("32767.99999237060546874", '9', 3000, "", 16, Ok(GREATEST)),
+        ("-32768.00000762939453124", '9', 3000, "", 16, Ok(LEAST)),
     ] {
         let text = text_of(rt.alloc(), head, digit, count, tail)?;
-        assert_eq!(rt; fixed(text.as_str()), want, "at {head}");
+        assert!(rt; f >= 6 && f <= 16);
+        let read = read_decimal(text.as_str(), f, LEAST, GREATEST);
+        assert_eq!(rt; read, want, "at {head}");
     }
     Ok(())
 }

@@ -1,22 +1,60 @@
-use Rattle.std.proofs.Common.{◌≡◌, ℕ, ◌+◌, ◌*◌, ◌%◌, ◌^◌, ◌<◌, arith, ap}
+use Rattle.std.proofs.Common.{◌+◌, ◌-◌, ◌^◌, ◌≤◌, arith, refl, sym, subst, ◌∙◌, take}
+use Rattle.std.specs.Str.Parse.{digits_value, AllDigits}
+use Rattle.std.proofs.Math.Nat.{pow-le-pow_right}
 use Rattle.std.proofs.lemmas.Nat.{one_shl}
-use Rattle.font_decimal.proofs.Rounding.{halved_quotient, steps_below}
+use Rattle.font_decimal.proofs.Digits.{take_rest, kept_below, kept_numeral}
+use Rattle.font_decimal.proofs.Texts.{same_point}
+use Rattle.font_decimal.proofs.Parts.{split_parts, parts_found}
+use Rattle.font_decimal.proofs.Rounding.{half_steps_below, steps_fit, StepsFit}
+use Rattle.font_decimal.proofs.Readings.{steps_found}
 use Rattle.font_decimal.proofs.reader.nearest_steps.Goals as goal
 
-step_is : (f : ℕ) → f < 128 → 1 * 2 ^ f % 2 ^ 128 ≡ 2 ^ f
-step_is f h = one_shl f 128 h
+pub whole_digits-whole-requires : goal.whole_digits-whole-requires
+whole_digits-whole-requires c =
+    let most : 2 ^ (63 - c.args.f) ≤ 2 ^ 57 = pow-le-pow_right {n = 2} (omega arith) {i = 63 - c.args.f} {j = 57} (omega (arith, c.requires)) in
+    rw (one_shl (63 - c.args.f) 64 (omega arith)) (omega arith)
+
+pub returns-in_err-behind_point-clause-none : goal.returns-in_err-behind_point-clause-none
+returns-in_err-behind_point-clause-none c =
+    let whole = c.whole_digits-whole in
+    rw c.from_residual.ensures
+    (λ w e parts.
+    let split = split_parts c.args.digits.now w e whole.result.1 parts whole.ensures.digits whole.ensures.within whole.ensures.end in
+    c.in_err-behind_point.ensures e (take_rest whole.result.1 c.args.digits.now ∙ split.back))
+
+pub returns-in_err-half_steps-clause-none : goal.returns-in_err-half_steps-clause-none
+returns-in_err-half_steps-clause-none c =
+    let whole = c.whole_digits-whole in
+    let rest = sym (take_rest whole.result.1 c.args.digits.now) ∙ c.in_ok-behind_point.ensures in
+    rw c.from_residual-in_err-half_steps.ensures (λ w e parts.
+    let split = split_parts c.args.digits.now w e whole.result.1 parts whole.ensures.digits whole.ensures.within whole.ensures.end in
+    let same = same_point e c.in_ok-behind_point.field-0.now (sym split.back ∙ rest) in
+    c.in_err-half_steps.ensures (subst (λ ds. AllDigits 10 ds) same parts.fraction_digits))
+
+fit : (c : goal.In_ok-half_steps) → StepsFit c.args.f c.whole_digits-whole.result.0 c.in_ok-half_steps.half_steps
+fit c =
+    let fraction = c.in_ok-behind_point.field-0.now in
+    let halves = c.in_ok-half_steps.ensures in
+    let below = half_steps_below (c.args.f + 1) (kept_numeral (c.args.f + 1) fraction) (kept_below (c.args.f + 1) fraction halves.0) in
+    let cap = rw (one_shl (63 - c.args.f) 64 (omega arith)) at c.whole_digits-whole.ensures.number in
+    steps_fit c.args.f c.whole_digits-whole.result.0 c.in_ok-half_steps.half_steps (digits_value 10 (take c.whole_digits-whole.result.1 c.args.digits.now))
+    (omega (arith, c.requires)) cap (rw halves.1 below)
+
+pub overflow_add-result : goal.overflow_add-result
+overflow_add-result c = omega (arith, (fit c).one_more)
 
 pub overflow_add-result-2 : goal.overflow_add-result-2
-overflow_add-result-2 c =
-    let small = steps_below c.args.whole c.args.kept c.args.f (omega arith) c.requires.1 c.requires.0 in
-    rw (c.from.ensures, c.from-2.ensures, step_is c.args.f (omega (arith, c.requires.0))) (omega arith)
+overflow_add-result-2 c = rw (fit c).shifted (omega (arith, (fit c).total))
 
-pub returns-clause-nearest : goal.returns-clause-nearest
-returns-clause-nearest c =
-    rw (c.from.ensures, c.from-2.ensures, step_is c.args.f (omega (arith, c.requires.0)))
-    (ap (λ n. c.args.whole * 2 ^ c.args.f + n) (halved_quotient (c.args.kept * 2 ^ c.args.f)))
-
-pub returns-clause-below : goal.returns-clause-below
-returns-clause-below c =
-    rw (c.from.ensures, c.from-2.ensures, step_is c.args.f (omega (arith, c.requires.0)))
-    (steps_below c.args.whole c.args.kept c.args.f (omega arith) c.requires.1 c.requires.0)
+pub returns-clause-some : goal.returns-clause-some
+returns-clause-some c =
+    let whole = c.whole_digits-whole in
+    let digits = c.args.digits.now in
+    let fraction = c.in_ok-behind_point.field-0.now in
+    let halves = c.in_ok-half_steps.ensures in
+    let rest = sym (take_rest whole.result.1 digits) ∙ c.in_ok-behind_point.ensures in
+    let cap = rw (one_shl (63 - c.args.f) 64 (omega arith)) at whole.ensures.number in
+    rw (fit c).shifted
+    (steps_found c.args.f whole.result.0 c.in_ok-half_steps.half_steps _ digits fraction whole.result.1 (omega (arith, c.requires))
+    (λ s. parts_found digits fraction whole.result.1 s whole.ensures.digits (omega (arith, c.if-len-eq0.false)) whole.ensures.within rest halves.0)
+    cap halves.1 refl)
