@@ -1,12 +1,12 @@
 -- The number that digits write, where they are joined and cut.
-use Rattle.std.proofs.Common.{◌≡◌, ℕ, zero, suc, ◌+◌, ◌-◌, ◌*◌, ◌^◌, ◌<◌, ◌≤◌, inl, inr, List, [], ◌∷◌, ◌++◌, length, take, drop, min, refl, sym, ap, ◌∙◌, arith, rules, true≢false, length-drop, get_or}
+use Rattle.std.proofs.Common.{◌≡◌, ℕ, zero, suc, ◌+◌, ◌-◌, ◌*◌, ◌%◌, ◌^◌, ◌<◌, ◌≤◌, inl, inr, List, [], ◌∷◌, ◌++◌, length, take, drop, min, refl, sym, ap, ◌∙◌, arith, rules, true≢false, length-append, length-drop, get_or}
 use Rattle.std.specs.Str.Parse.{digits_value, digits_value_after, AllDigits}
 use Rattle.std.specs.Char.{digit_value, is_ascii_digit, IsAsciiDigit}
 use Rattle.std.specs.List.{list_all}
 use Rattle.std.specs.Prelude.{true, false}
-use Rattle.std.proofs.Math.Nat.{pow-suc, mul-lt-mul_of_pos_right, one-le-pow, pow-le-pow_right}
+use Rattle.std.proofs.Math.Nat.{pow-suc, mul-lt-mul_of_pos_right, one-le-pow, pow-le-pow_right, mod-eq_of_lt}
 use Rattle.std.proofs.lemmas.Bool.{cases_lt}
-use Rattle.std.proofs.lemmas.Nat.{pow-add}
+use Rattle.std.proofs.lemmas.Nat.{pow-add, mul-pow}
 use Rattle.std.proofs.lemmas.List.{take-append-drop, length-take, length-take-le}
 use Rattle.std.proofs.lemmas.Int.Digits.{digits_value-lt, digits_value_more}
 use Rattle.std.proofs.lemmas.Str.{digit_value_digit}
@@ -41,11 +41,10 @@ digits-take zero xs p = tt
 digits-take (suc n) [] p = tt
 digits-take (suc n) (x ∷ xs) p = (p.0, digits-take n xs p.1)
 
--- and two parts that are digits are digits together
-pub digits_from_parts : (n : ℕ) (xs : List ℕ) → AllDigits 10 (take n xs) → AllDigits 10 (drop n xs) → AllDigits 10 xs
-digits_from_parts zero xs p q = q
-digits_from_parts (suc n) [] p q = tt
-digits_from_parts (suc n) (x ∷ xs) p q = (p.0, digits_from_parts n xs p.1 q)
+-- and digits behind digits are digits
+pub digits-append : (xs ys : List ℕ) → AllDigits 10 xs → AllDigits 10 ys → AllDigits 10 (xs ++ ys)
+digits-append [] ys p q = q
+digits-append (x ∷ xs) ys p q = (p.0, digits-append xs ys p.1 q)
 
 -- a test of each byte tells digits
 by_test : IsNumeralModel (λ ds. list_all is_ascii_digit ds ≡ true) (digits_value 10)
@@ -152,3 +151,33 @@ kept_below p ds h =
     let filled = filled_below p (take p ds) (digits-take p ds h) (omega arith) in
     let same : p - length (take p ds) ≡ p - length ds = omega arith in
     rw same at filled
+
+-- these are digits with their number, and five to the power of their count
+abbrev pub HasNumeral : List ℕ → ℕ → ℕ → Type 0
+HasNumeral ds numeral fives = AllDigits 10 ds × (numeral ≡ digits_value 10 ds) × (fives ≡ 5 ^ length ds)
+
+-- the same of digits in two parts, by those of each, in 128 bits
+pub record IsJoined (ds : List ℕ) (back high low high_fives low_fives : ℕ) : Type 0 where
+  pub digits : AllDigits 10 ds
+  pub tens : low_fives * 2 ^ back % 2 ^ 128 ≡ 10 ^ back
+  pub numeral : high * 10 ^ back + low ≡ digits_value 10 ds
+  pub fits : digits_value 10 ds < 2 ^ 128
+  pub fives : high_fives * low_fives ≡ 5 ^ length ds
+
+pub joined : (ds front back : List ℕ) (high low high_fives low_fives : ℕ) → length ds ≤ 31 → ds ≡ front ++ back → HasNumeral front high high_fives → HasNumeral back low low_fives
+    → IsJoined ds (length back) high low high_fives low_fives
+joined ds front back high low high_fives low_fives few parts first second =
+    let b = length back in
+    let count : length ds ≡ length front + b = ap length parts ∙ length-append front back in
+    let ten : 5 ^ b * 2 ^ b ≡ 10 ^ b = sym (mul-pow 5 2 b) in
+    let most : 10 ^ b ≤ 10 ^ 31 = pow-le-pow_right {n = 10} (omega arith) {i = b} {j = 31} (omega arith) in
+    let all : 10 ^ length ds ≤ 10 ^ 31 = pow-le-pow_right {n = 10} (omega arith) {i = length ds} {j = 31} few in
+    let small : 5 ^ b * 2 ^ b < 2 ^ 128 = rw ten (omega arith) in
+    let digits : AllDigits 10 ds = rw parts (digits-append front back first.0 second.0) in
+    record {
+      digits = digits;
+      tens = rw second.2 (mod-eq_of_lt small ∙ ten);
+      numeral = rw (first.1, second.1) (sym (ap (digits_value 10) parts ∙ digits_value-append front back));
+      fits = omega (arith, digits_value-lt 10 ds digits);
+      fives = rw (first.2, second.2) (sym (ap (λ k. 5 ^ k) count ∙ pow-add 5 (length front) b));
+    }

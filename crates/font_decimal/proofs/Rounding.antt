@@ -1,5 +1,5 @@
 -- The first digits of a fraction decide how it is rounded.
-use Rattle.std.proofs.Common.{◌≡◌, ℕ, ◌+◌, ◌-◌, ◌*◌, ◌/◌, ◌%◌, ◌^◌, ◌<◌, ◌≤◌, ◌⊎◌, inl, inr, List, length, take, min, refl, sym, ap, ◌∙◌, arith}
+use Rattle.std.proofs.Common.{◌≡◌, ℕ, ◌+◌, ◌-◌, ◌*◌, ◌/◌, ◌%◌, ◌^◌, ◌<◌, ◌≤◌, ◌⊎◌, inl, inr, List, ◌++◌, length, take, min, refl, sym, ap, ◌∙◌, arith}
 use Rattle.std.proofs.Math.Nat.{mul-le-mul_left, mul-le-mul_right, le_of_mul-le-mul_left, lt_of_mul-lt-mul_left, mul-div-mul_left, mul-div-mul_right, div-div-eq-div-mul, div-lt_iff_lt-mul, add-div_right, one-le-pow, pow-le-pow_left, pow-le-pow_right, mod-eq_of_lt}
 use Rattle.std.specs.Str.Parse.{digits_value, AllDigits}
 use Rattle.std.proofs.lemmas.List.{length-take-le}
@@ -7,7 +7,7 @@ use Rattle.std.proofs.lemmas.Nat.{pow-add, mul-pow, pow_pos}
 use Rattle.std.proofs.lemmas.Bool.{cases_lt}
 use Rattle.font_decimal.specs.Near.{near_magnitude}
 use Rattle.font_decimal.proofs.Near.{IsNearMagnitude}
-use Rattle.font_decimal.proofs.Digits.{digits-take, take_min, filled_below, kept_numeral}
+use Rattle.font_decimal.proofs.Digits.{digits-take, digits-append, take_min, filled_below, kept_numeral, HasNumeral}
 
 -- In units of 1 / (2 t u) a half step of 1 / t is u units. So a fraction that is kept in whole units, with a rest below one unit,
 -- is rounded as its whole units are.
@@ -73,23 +73,24 @@ shifted_below p places e digits within few =
     let powers : 2 ^ (p - places) ≤ 10 ^ (p - places) = pow-le-pow_left {n = 2} {m = 10} (omega arith) (p - places) in
     omega (arith, mul-le-mul_left (digits_value 10 (take places e)) powers)
 
--- the quotient of the digits that there are is that of the digits with zeros behind them, and all that is computed fits 64 bits
-pub half_steps_of_kept : (f places numeral fives : ℕ) (e : List ℕ) → f ≤ 18 → AllDigits 10 e → places ≡ min (length e) (f + 1)
-    → numeral ≡ digits_value 10 (take places e) → fives ≡ 5 ^ length (take places e)
-    → numeral * 2 ^ (f + 1 - places) % 2 ^ 64 / fives ≡ kept_numeral (f + 1) e / 5 ^ (f + 1)
-half_steps_of_kept f places numeral fives e small digits places_are numeral_is fives_are =
-    let k = f + 1 - places in
-    let count : length (take places e) ≡ places = length-take-le places e (omega arith) in
-    let taken : take places e ≡ take (f + 1) e = take_min places (f + 1) e places_are in
-    let below = shifted_below (f + 1) places e digits (omega arith) (omega arith) in
-    let most : 10 ^ (f + 1) ≤ 10 ^ 19 = pow-le-pow_right {n = 10} (omega arith) {i = f + 1} {j = 19} (omega arith) in
-    let fits : numeral * 2 ^ k < 2 ^ 64 = rw numeral_is (omega arith) in
-    let missing : f + 1 - length e ≡ k = omega arith in
-    let filled : places + k ≡ f + 1 = omega arith in
-    let same = fives_left_out numeral places k in
-    let divisor : fives ≡ 5 ^ places = rw count at fives_are in
-    let whole : numeral * 2 ^ k % 2 ^ 64 ≡ numeral * 2 ^ k = mod-eq_of_lt fits in
-    rw (whole, divisor, same, filled, missing, sym taken, sym numeral_is) refl
+-- the half steps of digits, as the code finds them from the first p of these and with the late ones judged
+abbrev pub HasHalfSteps : ℕ → List ℕ → ℕ → Type 0
+HasHalfSteps p e halves = AllDigits 10 e × (halves ≡ kept_numeral p e / 5 ^ p)
+
+pub half_steps_of_kept : (bits p places numeral fives : ℕ) (e kept late : List ℕ) → 10 ^ p ≤ 2 ^ bits → places ≡ min (length e) p
+    → e ≡ kept ++ late → kept ≡ take places e → HasNumeral kept numeral fives → AllDigits 10 late
+    → HasHalfSteps p e (numeral * 2 ^ (p - places) % 2 ^ bits / fives)
+half_steps_of_kept bits p places numeral fives e kept late room places_are joined front first second =
+    let k = p - places in
+    let digits : AllDigits 10 e = rw joined (digits-append kept late first.0 second) in
+    let count : length kept ≡ places = ap length front ∙ length-take-le places e (omega arith) in
+    let taken : kept ≡ take p e = front ∙ take_min places p e places_are in
+    let missing : p - length e ≡ k = omega arith in
+    let filled : places + k ≡ p = omega arith in
+    let below : numeral * 2 ^ k < 10 ^ p = rw (first.1, front) (shifted_below p places e digits (omega arith) (omega arith)) in
+    let whole : numeral * 2 ^ k % 2 ^ bits ≡ numeral * 2 ^ k = mod-eq_of_lt (omega arith) in
+    let divisor : fives ≡ 5 ^ places = rw count at first.2 in
+    (digits, rw (whole, divisor, fives_left_out numeral places k, filled, missing, sym taken, sym first.1) refl)
 
 -- Whole steps that are cut to one more than 2^(63-f) of them stand for any greater number: either way the number of steps is
 -- above 2^63.

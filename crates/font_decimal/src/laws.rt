@@ -12,7 +12,7 @@ pub fn reads_in_order(
     min: i64,
     max: i64,
 ) -> (Result<i64, DecimalFault>, Result<i64, DecimalFault>)
-    requires bits_of_fraction { (6 ≤ f) × (f ≤ 16) }
+    requires bits_of_fraction { (6 ≤ f) × (f ≤ 30) }
     requires around_zero { (min ≤ℤ pos 0) × (pos 0 ≤ℤ max) }
     ensures first { IsReading s.now f min max result.0 }
     ensures second { IsReading t.now f min max result.1 }

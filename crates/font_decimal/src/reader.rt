@@ -24,14 +24,14 @@ pub enum DecimalFault {
 /// Reads a decimal text as the nearest multiple of `1 / 2^f`, ties away from zero, and gives that multiple's number of
 /// steps of `1 / 2^f`.
 ///
-/// A text is an optional `-`, one or more digits, and optionally a point followed by one or more digits. It may have
-/// any length. The rounding comes first; a result below `min` or above `max` is refused.
+/// There are 6 to 30 bits of fraction. A text is an optional `-`, one or more digits, and optionally a point followed by
+/// one or more digits. It may have any length. The rounding comes first; a result below `min` or above `max` is refused.
 ///
 /// ```text
 /// read_decimal("-1.5", 16, i64::MIN, i64::MAX) == Ok(-98304)
 /// ```
 pub fn read_decimal(text: &str, f: u32, min: i64, max: i64) -> Result<i64, DecimalFault>
-    requires bits_of_fraction { (6 ≤ f) × (f ≤ 16) }
+    requires bits_of_fraction { (6 ≤ f) × (f ≤ 30) }
     requires around_zero { (min ≤ℤ pos 0) × (pos 0 ≤ℤ max) }
     ensures ok { (b : ℤ) → (result ≡ Ok b) ↔ Reads text.now f min max b }
     ensures reading { IsReading text.now f min max result }
@@ -45,15 +45,15 @@ pub fn read_decimal(text: &str, f: u32, min: i64, max: i64) -> Result<i64, Decim
     in_range(negative, steps, min, max).ok_or(DecimalFault::OutOfRange)
 }
 
-// The number of steps of `1 / 2^f` nearest to a decimal with no sign, where it is at most 2^63, otherwise some number
-// above 2^63.
+// The number of steps of `1 / 2^f` nearest to a decimal with no sign, or where that is above 2^63, some number above 2^63.
 fn nearest_steps(digits: &[u8], f: u32) -> Option<u64>
-    requires { (6 ≤ f) × (f ≤ 16) }
+    requires { (6 ≤ f) × (f ≤ 30) }
     ensures none { IfNone result ((whole fraction : List ℕ) → ¬ (HasParts digits.now false whole fraction)) }
     ensures some { IfSome result (λ n. (steps : ℕ)
         × ((n ≡ steps) ⊎ ((2 ^ 63 < n) × (2 ^ 63 < steps)))
         × ((negative : Bool) → Rounds (sign_text negative ++ digits.now) f (signed negative steps))) }
 {
+    // One whole more than 2^63 steps is out of every range.
     let (whole, len) = whole_digits(digits, (1 << (63 - f)) + 1);
     if len == 0 {
         return None;
@@ -84,17 +84,24 @@ fn whole_digits(text: &[u8], too_large: u64) -> (u64, usize)
 // The number of whole half steps of `1 / 2^f` in a fraction. A half step has `f + 1` places, so that later digits do not
 // count; and where there are fewer digits, the fives of the missing zeros are left out.
 fn half_steps(fraction: &[u8], f: u32) -> Option<u64>
-    requires { f ≤ 18 }
+    requires { f ≤ 30 }
     ensures { MatchOption result (¬ (AllDigits 10 fraction.now)) (λ n. AllDigits 10 fraction.now
         × (n ≡ digits_value 10 (take (f + 1) fraction.now) * 10 ^ (f + 1 - length fraction.now) / 5 ^ (f + 1))) }
 {
     let places = fraction.len().min(f as usize + 1);
     let (kept, late) = fraction.split_at(places);
-    let (numeral, fives) = numeral_and_fives(kept)?;
     if !are_digits(late) {
         return None;
     }
-    Some((numeral << (f as usize + 1 - places)) / fives)
+    let missing = f as usize + 1 - places;
+    // 19 digits fit 64 bits.
+    if f <= 18 {
+        let (numeral, fives) = numeral_and_fives(kept)?;
+        Some((numeral << missing) / fives)
+    } else {
+        let (numeral, fives) = long_numeral_and_fives(kept)?;
+        Some(((numeral << missing) / fives) as u64)
+    }
 }
 
 // The number that digits write, and five to the power of how many they are.
@@ -113,6 +120,20 @@ fn numeral_and_fives(digits: &[u8]) -> Option<(u64, u64)>
         fives *= 5;
     }
     Some((numeral, fives))
+}
+
+// The same of up to 31 digits, by their two halves.
+fn long_numeral_and_fives(digits: &[u8]) -> Option<(u128, u128)>
+    requires { length digits.now ≤ 31 }
+    ensures { MatchOption result (¬ (AllDigits 10 digits.now)) (λ n. AllDigits 10 digits.now
+        × (n.0 ≡ digits_value 10 digits.now) × (n.1 ≡ 5 ^ length digits.now)) }
+{
+    let (front, back) = digits.split_at(digits.len() / 2);
+    let (high, high_fives) = numeral_and_fives(front)?;
+    let (low, low_fives) = numeral_and_fives(back)?;
+    let tens = u128::from(low_fives) << back.len();
+    let numeral = u128::from(high) * tens + u128::from(low);
+    Some((numeral, u128::from(high_fives) * u128::from(low_fives)))
 }
 
 // The signed number of steps, or `None` where it is out of the range.

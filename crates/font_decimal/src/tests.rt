@@ -122,6 +122,37 @@ fn reads_to_the_ends_of_64_bits(rt: HostRuntime) {
     }
 }
 
+// Half a step of 1 / 2^30 has 31 digits, and half a step of 1 / 2^19 is the first whose 20 digits do not fit 64 bits.
+#[test]
+fn reads_long_fractions(rt: HostRuntime) {
+    for (text, f, want) in [
+        ("0.0000000004656612873077392578125", 30, Ok(1)),
+        ("0.00000000046566128730773925781249999", 30, Ok(0)),
+        ("-0.0000000004656612873077392578125", 30, Ok(-1)),
+        ("-0.0000000004656612873077392578124", 30, Ok(0)),
+        ("1.5", 30, Ok(0x6000_0000)),
+        ("-2", 30, Ok(LEAST)),
+        ("1.999999999", 30, Ok(GREATEST)),
+        (
+            "1.9999999995343387126922607421875",
+            30,
+            Err(DecimalFault::OutOfRange),
+        ),
+        ("1.9999999995343387126922607421874", 30, Ok(GREATEST)),
+        ("0.00000095367431640625", 19, Ok(1)),
+        ("0.00000095367431640624", 19, Ok(0)),
+        ("0.0000019073486328125", 18, Ok(1)),
+        ("0.0000019073486328124", 18, Ok(0)),
+        ("0.9999999999999999999", 18, Ok(1 << 18)),
+        ("0.99999999999999999999", 19, Ok(1 << 19)),
+        ("0.9999999999999999999999999999999", 30, Ok(1 << 30)),
+    ] {
+        assert!(rt; f >= 6 && f <= 30);
+        let read = read_decimal(text, f, LEAST, GREATEST);
+        assert_eq!(rt; read, want, "at {text}");
+    }
+}
+
 #[test]
 fn reads_values_of_16_bits(rt: HostRuntime) {
     for (text, f, want) in [
