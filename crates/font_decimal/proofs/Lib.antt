@@ -7,7 +7,6 @@ pub mod Printed
 mod Digits
 mod Rounding
 mod Parts
-mod Splits
 mod Fewest
 mod Remainder
 mod Written

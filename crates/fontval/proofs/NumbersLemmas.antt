@@ -1,5 +1,5 @@
 -- Reading one word after another.
-use Rattle.std.proofs.Common.{◌≡◌, ℕ, ◌+◌, ◌<◌, true, false, true≢false, arith, length, take, set, List, [], ◌∷◌, ◌++◌, Result, Ok, Err, MatchResult, refl, sym, ap, ◌∙◌, subst, append_assoc, rules}
+use Rattle.std.proofs.Common.{◌≡◌, ℕ, ℤ, ◌+◌, ◌<◌, true, false, true≢false, arith, length, take, set, List, [], ◌∷◌, ◌++◌, Result, Ok, Err, MatchResult, refl, sym, ap, ◌∙◌, subst, append_assoc, rules}
 use Rattle.std.specs.Result.{result_map_both}
 use Rattle.std.proofs.lemmas.List.{append-nil, take_more_set, length-set}
 use Rattle.std.proofs.Math.Seq.{take-length}
@@ -14,7 +14,7 @@ use Rattle.std.proofs.lemmas.Str.Parse.{IsNumeralModel, numerals_by_value}
 use Rattle.font_types.proofs.Callers.{decimal_is_utf8}
 use Rattle.font_types.specs.DecimalFault.TheVariants.{Syntax}
 use Rattle.font_types.specs.Grammar.{IsNoDecimal}
-use Rattle.fontval.specs.Numbers.{Then, ReadsEach, ReadsFixed, ReadsJust, IsWhole, behind_minus}
+use Rattle.fontval.specs.Numbers.{Then, ReadsEach, ReadsFixed, ReadsJust, ReadsTerm, IsWhole, behind_minus, pairs_of}
 use Rattle.fontval.specs.Text.{words_of}
 use Rattle.font_types.specs.fixed.Fixed.{Fixed}
 use Rattle.fontval.specs.declared.refusal.Refusal.{Refusal}
@@ -111,6 +111,42 @@ pub refused_number : (n : ℕ) (text left left' word : List ℕ) (numbers : List
 refused_number n text left left' word numbers at refusal so_far next one =
     let read = one_refused ReadsFixed (words_of text) (words_of left') word (take at numbers) refusal (subst (λ ws. IsReadUpTo ReadsFixed (words_of text) ws (take at numbers)) next so_far.read) one in
     rw so_far.all read
+
+-- ---- the same for two words at a time
+
+-- the words of a text are read as terms, two by two, up to those of another
+pub record AreTermsUpTo (text left : List ℕ) (terms : List (Fixed × ℤ)) : Type 0 where
+  pub read : IsReadUpTo ReadsTerm (pairs_of (words_of text)) (pairs_of (words_of left)) terms
+
+pub no_term : (text : List ℕ) → AreTermsUpTo text text []
+no_term text = record { read = none_read ReadsTerm (pairs_of (words_of text)) }
+
+-- the first two words are the first pair
+first_pair : (left middle left' scalar delta : List ℕ) → words_of left ≡ scalar ∷ words_of middle → words_of middle ≡ delta ∷ words_of left'
+    → pairs_of (words_of left) ≡ (scalar, delta) ∷ pairs_of (words_of left')
+first_pair left middle left' scalar delta first second = ap pairs_of (first ∙ ap (λ words. scalar ∷ words) second)
+
+pub one_more_term : (text left middle left' scalar delta : List ℕ) (terms : List (Fixed × ℤ)) (term : Fixed × ℤ)
+    → AreTermsUpTo text left terms → words_of left ≡ scalar ∷ words_of middle → words_of middle ≡ delta ∷ words_of left' → ReadsTerm (scalar, delta) (Ok term)
+    → AreTermsUpTo text left' (terms ++ term ∷ [])
+one_more_term text left middle left' scalar delta terms term so_far first second one =
+    let next = first_pair left middle left' scalar delta first second in
+    let before = subst (λ pairs. IsReadUpTo ReadsTerm (pairs_of (words_of text)) pairs terms) next so_far.read in
+    record { read = one_more_read ReadsTerm (pairs_of (words_of text)) (pairs_of (words_of left')) (scalar, delta) terms term before one }
+
+pub refused_term : (text left middle left' scalar delta : List ℕ) (terms : List (Fixed × ℤ)) (refusal : Refusal)
+    → AreTermsUpTo text left terms → words_of left ≡ scalar ∷ words_of middle → words_of middle ≡ delta ∷ words_of left' → ReadsTerm (scalar, delta) (Err refusal)
+    → ReadsEach ReadsTerm (pairs_of (words_of text)) (Err refusal)
+refused_term text left middle left' scalar delta terms refusal so_far first second one =
+    let next = first_pair left middle left' scalar delta first second in
+    let before = subst (λ pairs. IsReadUpTo ReadsTerm (pairs_of (words_of text)) pairs terms) next so_far.read in
+    one_refused ReadsTerm (pairs_of (words_of text)) (pairs_of (words_of left')) (scalar, delta) terms refusal before one
+
+-- when no pair is left, all terms are read
+pub all_terms : (text left : List ℕ) (terms : List (Fixed × ℤ)) → AreTermsUpTo text left terms → pairs_of (words_of left) ≡ []
+    → ReadsEach ReadsTerm (pairs_of (words_of text)) (Ok terms)
+all_terms text left terms so_far none =
+    all_read ReadsTerm (pairs_of (words_of text)) terms (subst (λ pairs. IsReadUpTo ReadsTerm (pairs_of (words_of text)) pairs terms) none so_far.read)
 
 -- ---- whole numbers
 

@@ -13,22 +13,26 @@ use std::alloc::{AllocError, Allocator};
 
 /// The answers to the lines of an input, each followed by a line feed.
 #[tactic(auto, using(crate::proofs::AnswersLemmas::answered_none, crate::proofs::AnswersLemmas::answered_more, crate::proofs::AnswersLemmas::answered_all))]
-pub fn answers<A: Allocator>(alloc: A, input: &[u8]) -> Result<String<A>, AllocError>
+pub fn answers<A: Allocator + Copy>(alloc: A, input: &[u8]) -> Result<String<A>, AllocError>
     ensures { IfOk result (λ output. Answers input.now (string_bytes output)) }
 {
     let mut output = String::new(alloc);
     for line in Lines::new(input) {
-        append_answer(line, &mut output)?;
+        append_answer(alloc, line, &mut output)?;
         output.push_str("\n")?;
     }
     Ok(output)
 }
 
 // Appends the answer to a line.
-fn append_answer<A: Allocator>(line: &[u8], output: &mut String<A>) -> Result<(), AllocError>
+fn append_answer<A: Allocator>(
+    alloc: A,
+    line: &[u8],
+    output: &mut String<A>,
+) -> Result<(), AllocError>
     ensures { OnOk result (AppendsAnswer line.now (string_bytes output.old) (string_bytes output.new)) }
 {
-    match append_text(line, output) {
+    match append_text(alloc, line, output) {
         Ok(()) => Ok(()),
         Err(Unanswered::Memory) => Err(AllocError),
         Err(Unanswered::Refused(refusal)) => write!(output, "error {}", refusal as u8),
@@ -37,11 +41,15 @@ fn append_answer<A: Allocator>(line: &[u8], output: &mut String<A>) -> Result<()
 
 // Appends the answer to a line that is not refused.
 #[tactic(auto, using(crate::proofs::GivenLemmas::given_refusal))]
-fn append_text<A: Allocator>(line: &[u8], output: &mut String<A>) -> Result<(), Unanswered>
+fn append_text<A: Allocator>(
+    alloc: A,
+    line: &[u8],
+    output: &mut String<A>,
+) -> Result<(), Unanswered>
     ensures { GivesAnswer (IsAnswer (words_of line.now))
         (string_bytes output.old) (string_bytes output.new) result }
 {
     let mut words = Words::new(line);
     let name = words.next().ok_or(Refusal::UnknownCommand)?;
-    Command::named(name)?.answer(words, output)
+    Command::named(name)?.answer(alloc, words, output)
 }

@@ -4,17 +4,21 @@ ghost use Rattle.std.specs.Prelude.{◌≡◌, [], ◌∷◌, IsTrue, bytes_eq, 
 ghost use Rattle.std.specs.List.{list_all, list_any};
 ghost use Rattle.fontval.specs.Command.{integer, name_of, AnswersWords, IsNamed, JudgesTag, ShowsReadingAs};
 ghost use Rattle.font_types.specs.Tag.{tag_bytes};
+ghost use Rattle.fontval.specs.Deltas.{sum_of, varied_by};
 ghost use Rattle.fontval.specs.Refusal.{GivesAnswer};
 ghost use Rattle.fontval.specs.Text.{words_of};
 
 use crate::images::Move;
 use crate::judgement::Judgement;
-use crate::numbers::fixed_numbers;
+use crate::numbers::{fixed_numbers, in_pairs, short_number, terms};
 use crate::output::{append, append_read};
 use crate::parse::{decimal_text, hexadecimal, only_word, two_words};
 use crate::refusal::{Refusal, Unanswered};
 use crate::text::Words;
-use font_types::{F2Dot14, F4Dot12, F6Dot10, F26Dot6, F48Dot16, Fixed, Int24, Scalar, Tag, Uint24};
+use font_types::{
+    F2Dot14, F4Dot12, F6Dot10, F26Dot6, F48Dot16, FWord, Fixed, Int24, Scalar, Tag, Uint24,
+    checked_delta_sum, vary,
+};
 use std::alloc::Allocator;
 
 /// What a line asks for.
@@ -30,6 +34,10 @@ pub enum Command {
     Tag,
     /// Where a point goes by two matrices.
     Image,
+    /// The sum of the products of scalars and whole numbers.
+    Sum,
+    /// A whole number of font units moved by such a sum.
+    Vary,
 }
 
 /// The integer types of OpenType, by how their bytes are read.
@@ -77,6 +85,8 @@ static COMMANDS: &[(&[u8], Command)] = &[
     (b"read", Command::Read),
     (b"tag", Command::Tag),
     (b"image", Command::Image),
+    (b"sum", Command::Sum),
+    (b"vary", Command::Vary),
 ];
 
 impl Command {
@@ -91,6 +101,7 @@ impl Command {
     #[tactic(auto, using(crate::proofs::GivenLemmas::given_refusal, crate::proofs::GivenLemmas::given_answer))]
     pub fn answer<A: Allocator>(
         self,
+        alloc: A,
         words: Words<'_>,
         output: &mut String<A>,
     ) -> Result<(), Unanswered>
@@ -103,6 +114,8 @@ impl Command {
             Command::Read => read(words, output),
             Command::Tag => judge(Tag::from_be_bytes(hexadecimal(only_word(words)?)?), output),
             Command::Image => image(words, output),
+            Command::Sum => sum(alloc, words, output),
+            Command::Vary => move_units(alloc, words, output),
         }
     }
 }
@@ -226,4 +239,55 @@ fn image<A: Allocator>(words: Words<'_>, output: &mut String<A>) -> Result<(), U
         (string_bytes output.old) (string_bytes output.new) result }
 {
     append(Move::of(fixed_numbers(words)?), output)
+}
+
+// Appends the sum of terms.
+fn sum<A: Allocator>(
+    alloc: A,
+    words: Words<'_>,
+    output: &mut String<A>,
+) -> Result<(), Unanswered>
+    ensures { GivesAnswer (AnswersWords (words_of words.entry.rest.now) Command.Sum)
+        (string_bytes output.old) (string_bytes output.new) result }
+{
+    in_pairs(&words)?;
+    let terms = terms(alloc, words)?;
+    append_sum(&terms, output)
+}
+
+// Appends the sum of these terms.
+fn append_sum<A: Allocator>(
+    terms: &[(Fixed, i32)],
+    output: &mut String<A>,
+) -> Result<(), Unanswered>
+    ensures { GivesAnswer (λ answer. answer ≡ sum_of terms.now) (string_bytes output.old) (string_bytes output.new) result }
+{
+    append(checked_delta_sum(terms).ok_or(Refusal::OutOfRange)?, output)
+}
+
+// Appends a whole number of font units moved by the sum of terms.
+fn move_units<A: Allocator>(
+    alloc: A,
+    mut words: Words<'_>,
+    output: &mut String<A>,
+) -> Result<(), Unanswered>
+    ensures { GivesAnswer (AnswersWords (words_of words.entry.rest.now) Command.Vary)
+        (string_bytes output.old) (string_bytes output.new) result }
+{
+    let base = words.next().ok_or(Refusal::WordCount)?;
+    in_pairs(&words)?;
+    let units = short_number(base)?;
+    let terms = terms(alloc, words)?;
+    append_moved(units, &terms, output)
+}
+
+// Appends so many font units moved by the sum of these terms.
+fn append_moved<A: Allocator>(
+    units: i16,
+    terms: &[(Fixed, i32)],
+    output: &mut String<A>,
+) -> Result<(), Unanswered>
+    ensures { GivesAnswer (λ answer. answer ≡ varied_by units terms.now) (string_bytes output.old) (string_bytes output.new) result }
+{
+    append(vary(FWord::new(units), terms).ok_or(Refusal::OutOfRange)?, output)
 }

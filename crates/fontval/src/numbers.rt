@@ -1,6 +1,6 @@
 //! The numbers that the words of a line are read as.
 
-ghost use Rattle.std.specs.Prelude.{◌≡◌, ◌%◌, ◌==◌, Ok, Err, MatchResult, length};
+ghost use Rattle.std.specs.Prelude.{◌≡◌, ◌%◌, ◌==◌, Ok, Err, true, false, MatchResult, length};
 ghost use Rattle.std.specs.Bool.{MatchBool};
 ghost use Rattle.std.specs.Char.{is_ascii_digit};
 ghost use Rattle.std.specs.List.{list_all};
@@ -39,6 +39,7 @@ fn fixed_number(word: &[u8]) -> Result<Fixed, Refusal>
 }
 
 /// The terms that words are read as two by two: a scalar, and a whole number of font units.
+#[tactic(auto, using(crate::proofs::NumbersLemmas::no_term, crate::proofs::NumbersLemmas::one_more_term, crate::proofs::NumbersLemmas::refused_term, crate::proofs::NumbersLemmas::all_terms))]
 pub fn terms<A: Allocator>(
     alloc: A,
     mut words: Words<'_>,
