@@ -4,6 +4,7 @@ pub mod NameId
 pub mod Newtype
 pub mod Offset
 pub use Rattle.font_base.specs.Bytes
+pub use Rattle.font_base.specs.Uint24
 pub use Rattle.font_base.specs.Wrap
 pub use Rattle.font_fixed.specs.F48Dot16
 pub use Rattle.font_fixed.specs.Fixed

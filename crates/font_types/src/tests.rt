@@ -3,6 +3,7 @@
 mod calling;
 mod deltas;
 mod fixed;
+mod memory;
 mod numbers;
 mod refused;
 mod tags;
