@@ -12,8 +12,8 @@ use Rattle.font_types.specs.Tag.{IsValidated, tag_text}
 use Rattle.font_types.specs.InvalidTag.{InvalidTag}
 use Rattle.font_types.specs.InvalidTag.TheVariants.{InvalidLength, InvalidByte, ByteAfterSpace}
 use Rattle.fontval.specs.Refusal.{Answer, refusal_of}
-use Rattle.fontval.specs.Numbers.{Then, ReadsJust, ReadsTerms}
-use Rattle.fontval.specs.Deltas.{sum_of, Varies}
+use Rattle.fontval.specs.Numbers.{Then, ReadsJust}
+use Rattle.fontval.specs.Deltas.{Sums, Varies}
 use Rattle.fontval.specs.Images.{ShowsImages}
 use Rattle.fontval.specs.declared.command.Command.{Command}
 use Rattle.fontval.specs.declared.command.Command.TheVariants.{Integer, FixedPoint, Read, Tag, Image, Sum, Vary}
@@ -140,7 +140,7 @@ AnswersWords words Read answer =
     MatchResult (two_words words) (λ pair. ForNamed pair.0 (ShowsReadingAs pair.1) answer) (λ refusal. answer ≡ Err refusal)
 AnswersWords words Tag answer = MatchResult (hexadecimal 4 words) (λ bytes. JudgesTag bytes answer) (λ refusal. answer ≡ Err refusal)
 AnswersWords words Image answer = Then (ReadsJust 14 words) ShowsImages answer
-AnswersWords words Sum answer = Then (ReadsTerms words) (λ terms shown. shown ≡ sum_of terms) answer
+AnswersWords words Sum answer = Sums words answer
 AnswersWords words Vary answer = Varies words answer
 
 -- what is answered to the words of a line: the first of them names the command

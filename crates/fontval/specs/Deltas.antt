@@ -18,7 +18,14 @@ sum_of terms = ok_or (option_map (λ bits. shortest_text bits 16) (sum_in_range 
 abbrev pub varied_by : ℤ → List (Fixed × ℤ) → Answer
 varied_by units terms = ok_or (option_map signed_decimal (varied units terms)) OutOfRange
 
--- what is answered to a whole number of 16 bits and the words of terms: their count is judged before any of them
+-- what is answered to the words of terms: their count is judged before any of them
+abbrev pub Sums : List (List ℕ) → Answer → Type 0
+Sums words answer =
+    MatchBool (length words % 2 == 0)
+    (Then (ReadsEach ReadsTerm (pairs_of words)) (λ terms shown. shown ≡ sum_of terms) answer)
+    (answer ≡ Err WordCount)
+
+-- what is answered to a whole number of 16 bits and the words of terms
 abbrev pub Varies : List (List ℕ) → Answer → Type 0
 Varies [] answer = answer ≡ Err WordCount
 Varies (base ∷ words) answer =

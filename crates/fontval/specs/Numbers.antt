@@ -1,6 +1,6 @@
 -- The numbers that the words of a line are read as, one after another: the first word that is refused decides.
 -- All of it is the program's own rule, but for what a decimal text is read as.
-use Rattle.std.specs.Prelude.{◌≡◌, ℕ, ◌%◌, ◌==◌, if◌then◌else◌, List, [], ◌∷◌, length, drop, ℤ, Result, Ok, Err, MatchResult}
+use Rattle.std.specs.Prelude.{◌≡◌, ℕ, ◌==◌, if◌then◌else◌, List, [], ◌∷◌, length, drop, ℤ, Result, Ok, Err, MatchResult}
 use Rattle.std.specs.Bool.{MatchBool}
 use Rattle.std.specs.Result.{result_map_both}
 use Rattle.std.specs.Str.Parse.{IsNumeral, starts_with_minus, signed_digits_value}
@@ -58,7 +58,3 @@ pairs_of (first ∷ second ∷ words) = (first, second) ∷ pairs_of words
 -- the term that two words are read as: a scalar, and a whole number of 32 bits
 abbrev pub ReadsTerm : List ℕ × List ℕ → Result (Fixed × ℤ) Refusal → Type 0
 ReadsTerm words result = Then (ReadsFixed words.0) (λ scalar. Then (ReadsWhole 32 words.1) (λ delta term. term ≡ Ok (scalar, delta))) result
-
--- the terms that an even count of words is read as: an odd word left over is refused before any of them
-abbrev pub ReadsTerms : List (List ℕ) → Result (List (Fixed × ℤ)) Refusal → Type 0
-ReadsTerms words result = MatchBool (length words % 2 == 0) (ReadsEach ReadsTerm (pairs_of words) result) (result ≡ Err WordCount)

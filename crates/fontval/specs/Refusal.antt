@@ -46,3 +46,8 @@ IsGiven IsRight old new (Err (Refused refusal)) = IsRight (Err refusal) × (new 
 -- a right answer is given
 pub record GivesAnswer (IsRight : Answer → Type 0) (old new : List ℕ) (outcome : Result (Unit {0}) Unanswered) : Type 0 where
   pub is_given : IsGiven IsRight old new outcome
+
+-- where a line is refused, it is for this
+abbrev pub OnRefused : Unanswered → (Refusal → Type 0) → Type 0
+OnRefused Memory IsFor = ⊤
+OnRefused (Refused refusal) IsFor = IsFor refusal

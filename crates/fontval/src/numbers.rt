@@ -5,6 +5,7 @@ ghost use Rattle.std.specs.Bool.{MatchBool};
 ghost use Rattle.std.specs.Char.{is_ascii_digit};
 ghost use Rattle.std.specs.List.{list_all};
 ghost use Rattle.fontval.specs.Numbers.{ReadsEach, ReadsFixed, ReadsJust, ReadsTerm, ReadsWhole, IsWhole, pairs_of};
+ghost use Rattle.fontval.specs.Refusal.{OnRefused};
 ghost use Rattle.fontval.specs.Text.{words_of};
 
 use crate::parse::decimal_text;
@@ -46,7 +47,7 @@ pub fn terms<A: Allocator>(
 ) -> Result<Vec<(Fixed, i32), A>, Unanswered>
     ensures { MatchResult result
         (λ terms. ReadsEach ReadsTerm (pairs_of (words_of words.entry.rest.now)) (Ok terms.items))
-        (λ reason. (refusal : _) → reason ≡ Unanswered.Refused refusal → ReadsEach ReadsTerm (pairs_of (words_of words.entry.rest.now)) (Err refusal)) }
+        (λ reason. OnRefused reason (λ refusal. ReadsEach ReadsTerm (pairs_of (words_of words.entry.rest.now)) (Err refusal))) }
 {
     let mut terms = Vec::new(alloc);
     while let (Some(scalar), Some(delta)) = (words.next(), words.next()) {
