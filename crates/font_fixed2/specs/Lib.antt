@@ -1,5 +1,6 @@
 pub mod F4Dot12
 pub mod F6Dot10
+pub mod F2Dot30
 pub use Rattle.font_base.specs.Wrap
 pub use Rattle.font_base.specs.Bytes
 pub use Rattle.font_decimal.specs.Grammar

@@ -1,0 +1,267 @@
+//! The fixed-point number of 32 bits with 30 bits of fraction.
+#![tactic(auto, using(font_arithmetic::proofs::Width32::code_32))]
+
+ghost use Rattle.std.specs.Prelude.{◌≡◌, ◌^◌, ◌<◌, ◌≤◌, ◌↔◌, ℤ, pos, neg_ℤ, ◌+ℤ◌, ◌-ℤ◌, Some, IsSome, IfSome, IfNone, IfOk, refl, length, max, unsigned_abs, FitsSigned};
+ghost use Rattle.std.proofs.Common.{lit<};
+ghost use Rattle.std.specs.Int.{w32};
+ghost use Rattle.std.specs.Result.{result_map_both};
+ghost use Rattle.font_base.specs.Wrap.{FitsBits, fits_bits, wrap};
+ghost use Rattle.font_base.specs.Bytes.{IsBytesOf, bytes_of, signed_numeral};
+ghost use Rattle.font_base.specs.Scalar.Laws.{signed_newtype, signed_identity};
+ghost use Rattle.font_decimal.specs.Grammar.{IsNoDecimal};
+ghost use Rattle.font_decimal.specs.Padding.{padded_text, FillsFront};
+ghost use Rattle.font_decimal.specs.Shortest.{IsShortest};
+ghost use Rattle.font_decimal.specs.Shown.{shown};
+ghost use Rattle.font_arithmetic.specs.Operations.{IsNearestWhole, IsFloor, IsFract, clamp, ReadsAs, IsTooFar, ReadingGives};
+ghost use Rattle.font_fixed2.specs.declared.f2dot30.F2Dot30.{F2Dot30};
+ghost use Rattle.font_fixed2.specs.F2Dot30.{f2dot30_bits, f2dot30_of, f2dot30_text};
+
+use font_base::{FixedSize, IdentityEq, Scalar};
+use font_decimal::{DecimalFault, Pad, Shortest, read_decimal};
+use std::fmt;
+use std::ops::{Add, AddAssign, Neg, Sub, SubAssign};
+
+/// A fixed-point number of 32 bits, the last 30 of which are its fraction.
+///
+/// Its bits are counted in steps of `1 / 2^30`: `F2Dot30::from_bits(0x6000_0000)` is 1.5. Sums that leave the
+/// range wrap.
+#[derive(Clone, Copy, PartialEq, Eq, PartialOrd, Ord, Hash, Default)]
+pub struct F2Dot30(i32);
+
+impl F2Dot30 {
+    /// The least value, -2.
+    pub const MIN: Self = Self(-0x8000_0000);
+
+    /// The greatest value, a step below 2.
+    pub const MAX: Self = Self(0x7FFF_FFFF);
+
+    /// One step, `1 / 2^30`.
+    pub const EPSILON: Self = Self(1);
+
+    /// 0.
+    pub const ZERO: Self = Self(0);
+
+    /// 1.
+    pub const ONE: Self = Self(0x4000_0000);
+
+    /// -1.
+    pub const NEG_ONE: Self = Self(-0x4000_0000);
+
+    const FRACTION_BITS: u32 = 30;
+
+    /// The number with these bits.
+    pub fn from_bits(bits: i32) -> Self
+        ensures { f2dot30_bits result ≡ bits }
+    {
+        Self(bits)
+    }
+
+    /// The bits.
+    pub fn to_bits(self) -> i32
+        ensures { result ≡ f2dot30_bits self }
+    {
+        self.0
+    }
+
+    /// The nearest whole number, ties upwards. It wraps: `F2Dot30::MAX.round()` is `F2Dot30::MIN`.
+    pub fn round(self) -> Self
+        ensures { IsNearestWhole 32 30 (f2dot30_bits self) (f2dot30_bits result) }
+    {
+        self.wrapping_add(Self(0x2000_0000)).floor()
+    }
+
+    /// The greatest whole number that is not above the number.
+    pub fn floor(self) -> Self
+        ensures { IsFloor 30 (f2dot30_bits self) (f2dot30_bits result) }
+    {
+        Self(self.0 - self.fract().0)
+    }
+
+    /// What the number has above its floor, from 0 to a step below 1.
+    pub fn fract(self) -> Self
+        ensures { IsFract 30 (f2dot30_bits self) (f2dot30_bits result) }
+    {
+        Self(self.0.rem_euclid(0x4000_0000))
+    }
+
+    /// The number without its sign. It wraps: `F2Dot30::MIN.abs()` is `F2Dot30::MIN`.
+    pub fn abs(self) -> Self
+        ensures { f2dot30_bits result ≡ wrap 32 (pos (unsigned_abs (f2dot30_bits self))) }
+    {
+        Self(self.0.wrapping_abs())
+    }
+
+    /// The sum, wrapped.
+    pub fn wrapping_add(self, other: Self) -> Self
+        ensures { f2dot30_bits result ≡ wrap 32 (f2dot30_bits self +ℤ f2dot30_bits other) }
+    {
+        Self(self.0.wrapping_add(other.0))
+    }
+
+    /// The difference, wrapped.
+    pub fn wrapping_sub(self, other: Self) -> Self
+        ensures { f2dot30_bits result ≡ wrap 32 (f2dot30_bits self -ℤ f2dot30_bits other) }
+    {
+        Self(self.0.wrapping_sub(other.0))
+    }
+
+    /// The sum, or the nearest end of the range where it is out of it.
+    pub fn saturating_add(self, other: Self) -> Self
+        ensures { f2dot30_bits result ≡ clamp 32 (f2dot30_bits self +ℤ f2dot30_bits other) }
+    {
+        Self(self.0.saturating_add(other.0))
+    }
+
+    /// The difference, or the nearest end of the range where it is out of it.
+    pub fn saturating_sub(self, other: Self) -> Self
+        ensures { f2dot30_bits result ≡ clamp 32 (f2dot30_bits self -ℤ f2dot30_bits other) }
+    {
+        Self(self.0.saturating_sub(other.0))
+    }
+
+    /// The sum, or `None` where it is out of range.
+    pub fn checked_add(self, other: Self) -> Option<Self>
+        ensures variant { IsSome result ↔ FitsBits 32 (f2dot30_bits self +ℤ f2dot30_bits other) }
+        ensures value { IfSome result (λ sum. f2dot30_bits sum ≡ (f2dot30_bits self +ℤ f2dot30_bits other)) }
+    {
+        Some(Self(self.0.checked_add(other.0)?))
+    }
+
+    /// The four bytes of the bits, highest first.
+    pub fn to_be_bytes(self) -> [u8; 4]
+        ensures { IsBytesOf 4 (f2dot30_bits self) result }
+    {
+        self.to_raw()
+    }
+
+    /// The number nearest to a decimal text, ties away from zero.
+    ///
+    /// A text outside the grammar is refused as `Syntax`, one whose nearest number is out of range as `OutOfRange`.
+    pub fn from_decimal(text: &str) -> Result<Self, DecimalFault>
+        ensures ok { (x : F2Dot30) → (result ≡ Ok x) ↔ ReadsAs 32 30 text.now (f2dot30_bits x) }
+        ensures reads { IfOk result (λ x. ReadsAs 32 30 text.now (f2dot30_bits x)) }
+        ensures gives { ReadingGives 32 30 text.now (result_map_both f2dot30_bits (λ fault. fault) result) }
+        ensures printed { (x : F2Dot30) → FitsSigned w32 (f2dot30_bits x) → text.now ≡ f2dot30_text x → result ≡ Ok x }
+        ensures out_of_range { (result ≡ Err DecimalFault.OutOfRange) ↔ IsTooFar 32 30 text.now }
+        ensures syntax { (result ≡ Err DecimalFault.Syntax) ↔ IsNoDecimal text.now }
+    {
+        let bits = read_decimal(
+            text,
+            Self::FRACTION_BITS,
+            i64::from(i32::MIN),
+            i64::from(i32::MAX),
+        )?;
+        Ok(Self(bits as i32))
+    }
+
+    /// Writes the printed text to the front of `out`, padded, and returns the number of bytes; `None` where `out` is
+    /// too short, which then stays as it was.
+    pub fn write_padded(self, out: &mut [u8], pad: &Pad) -> Option<usize>
+        requires { pad.now.fill < 128 }
+        ensures written { IfSome result (λ n. FillsFront (padded_text (f2dot30_text self) pad.now) n out.old out.new) }
+        ensures room { IsSome result ↔ (length (padded_text (f2dot30_text self) pad.now) ≤ length out.old) }
+        ensures cell { max 23 pad.now.width ≤ length out.old → IsSome result }
+        ensures untouched { IfNone result (out.new ≡ out.old) }
+    {
+        font_decimal::write_padded(self.shortest().as_str(), out, pad)
+    }
+
+    fn shortest(self) -> Shortest
+        ensures shortest { IsShortest (f2dot30_bits self) 30 (shown result) }
+        ensures text { shown result ≡ f2dot30_text self }
+    {
+        Shortest::new(i64::from(self.0), Self::FRACTION_BITS)
+    }
+}
+
+impl Add for F2Dot30 {
+    type Output = F2Dot30;
+
+    ghost add_gives = { λ x y sum. f2dot30_bits sum ≡ wrap 32 (f2dot30_bits x +ℤ f2dot30_bits y) };
+
+    fn add(self, other: F2Dot30) -> F2Dot30 {
+        self.wrapping_add(other)
+    }
+}
+
+impl AddAssign for F2Dot30 {
+    ghost add_assign_gives = { λ x y sum. f2dot30_bits sum ≡ wrap 32 (f2dot30_bits x +ℤ f2dot30_bits y) };
+
+    fn add_assign(&mut self, other: F2Dot30) {
+        *self = *self + other;
+    }
+}
+
+impl Sub for F2Dot30 {
+    type Output = F2Dot30;
+
+    ghost sub_gives = { λ x y rest. f2dot30_bits rest ≡ wrap 32 (f2dot30_bits x -ℤ f2dot30_bits y) };
+
+    fn sub(self, other: F2Dot30) -> F2Dot30 {
+        self.wrapping_sub(other)
+    }
+}
+
+impl SubAssign for F2Dot30 {
+    ghost sub_assign_gives = { λ x y rest. f2dot30_bits rest ≡ wrap 32 (f2dot30_bits x -ℤ f2dot30_bits y) };
+
+    fn sub_assign(&mut self, other: F2Dot30) {
+        *self = *self - other;
+    }
+}
+
+impl Neg for F2Dot30 {
+    type Output = F2Dot30;
+
+    ghost neg_gives = { λ x opposite. f2dot30_bits opposite ≡ wrap 32 (neg_ℤ (f2dot30_bits x)) };
+
+    fn neg(self) -> F2Dot30 {
+        Self(self.0.wrapping_neg())
+    }
+}
+
+impl fmt::Display for F2Dot30 {
+    ghost output = { λ x. Some (f2dot30_text x) };
+
+    fn fmt<W: fmt::Write>(&self, f: &mut fmt::Formatter<W>) -> fmt::Result {
+        fmt::Display::fmt(&self.shortest(), f)
+    }
+}
+
+impl fmt::Debug for F2Dot30 {
+    ghost debug_output = { λ x. Some (f2dot30_text x) };
+
+    fn fmt<W: fmt::Write>(&self, f: &mut fmt::Formatter<W>) -> fmt::Result {
+        fmt::Display::fmt(&self.shortest(), f)
+    }
+}
+
+impl FixedSize for F2Dot30 {
+    const RAW_BYTE_LEN: usize = 4;
+
+    ghost RAW_BYTE_LEN = { 4 };
+}
+
+impl Scalar for F2Dot30 {
+    type Raw = [u8; 4];
+
+    ghost is_scalar = { λ x. fits_bits 32 (f2dot30_bits x) };
+
+    ghost of_raw = { λ bytes. f2dot30_of (signed_numeral 4 bytes) };
+
+    ghost raw_of = { λ x. bytes_of 4 (f2dot30_bits x) };
+
+    ghost laws = { signed_newtype 4 (lit< tt) f2dot30_bits f2dot30_of (λ _. refl) (λ _. refl) };
+
+    fn from_raw(raw: [u8; 4]) -> F2Dot30 {
+        Self(i32::from_raw(raw))
+    }
+
+    fn to_raw(self) -> [u8; 4] {
+        self.0.to_raw()
+    }
+}
+
+impl IdentityEq for F2Dot30 {
+    ghost identity = { signed_identity f2dot30_bits f2dot30_of (λ _. refl) };
+}
