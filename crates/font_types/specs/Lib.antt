@@ -21,6 +21,7 @@ pub use Rattle.font_fixed.specs.F2Dot14
 pub use Rattle.font_fixed.specs.F48Dot16
 pub use Rattle.font_fixed2.specs.F4Dot12
 pub use Rattle.font_fixed2.specs.F6Dot10
+pub use Rattle.font_fixed2.specs.F2Dot30
 pub use Rattle.font_tags.specs.Tag
 pub use Rattle.font_tags.specs.Version
 pub use Rattle.font_tags.specs.LongDateTime

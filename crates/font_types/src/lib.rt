@@ -20,7 +20,7 @@ pub use font_base::{
 };
 pub use font_decimal::{Align, DecimalFault, Pad, Shortest, read_decimal, write_padded};
 pub use font_fixed::{F2Dot14, F26Dot6, F48Dot16, Fixed};
-pub use font_fixed2::{F4Dot12, F6Dot10};
+pub use font_fixed2::{F2Dot30, F4Dot12, F6Dot10};
 pub use font_geom::{BoundingBox, Matrix, MatrixElement, Point, RingElement};
 pub use font_ids::{
     Compatible, FWord, GlyphId, GlyphId16, GlyphId24, InvalidTag, LongDateTime, MajorMinor, NameId,

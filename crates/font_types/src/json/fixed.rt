@@ -12,13 +12,14 @@ ghost use Rattle.font_f26.specs.F26Dot6.{f26dot6_bits, f26dot6_of, f26dot6_text}
 ghost use Rattle.font_fixed.specs.F48Dot16.{f48dot16_bits, f48dot16_of, f48dot16_text};
 ghost use Rattle.font_fixed2.specs.F4Dot12.{f4dot12_bits, f4dot12_of, f4dot12_text};
 ghost use Rattle.font_fixed2.specs.F6Dot10.{f6dot10_bits, f6dot10_of, f6dot10_text};
+ghost use Rattle.font_fixed2.specs.F2Dot30.{f2dot30_bits, f2dot30_of, f2dot30_text};
 ghost use Rattle.font_types.specs.Json.{IsDecimalRead};
 ghost use Rattle.font_types.specs.Json.Laws.{fixed_round_trip};
 ghost use Rattle.font_types.specs.declared.json.JsonFault.TheVariants.{Memory};
 
 use super::{JsonFault, JsonScalar, text_of};
 use font_fixed::{F2Dot14, F26Dot6, F48Dot16, Fixed};
-use font_fixed2::{F4Dot12, F6Dot10};
+use font_fixed2::{F2Dot30, F4Dot12, F6Dot10};
 use serde_json::Value;
 use std::alloc::Global;
 
@@ -139,5 +140,25 @@ impl JsonScalar for F6Dot10 {
 
     fn from_json(value: &Value) -> Result<F6Dot10, JsonFault> {
         Ok(F6Dot10::from_decimal(text_of(value)?)?)
+    }
+}
+
+impl JsonScalar for F2Dot30 {
+    ghost is_value = { λ x. fits_bits 32 (f2dot30_bits x) };
+
+    ghost shows = { λ x d. d ≡ string (f2dot30_text x) };
+
+    ghost refuses = { λ _ fault. fault ≡ Memory };
+
+    ghost reads = { λ d result. IsDecimalRead 32 30 (as_str d) (result_map_both f2dot30_bits (λ fault. fault) result) };
+
+    ghost round_trip = { fixed_round_trip 32 30 f2dot30_bits f2dot30_of (λ _. refl) (lit≤ tt) };
+
+    fn to_json(self, alloc: Global) -> Result<Value, JsonFault> {
+        Ok(Value::String(format!(in alloc; "{self}")?))
+    }
+
+    fn from_json(value: &Value) -> Result<F2Dot30, JsonFault> {
+        Ok(F2Dot30::from_decimal(text_of(value)?)?)
     }
 }

@@ -1,6 +1,6 @@
 //! Fixed-point numbers as texts.
 
-use crate::{F2Dot14, F4Dot12, F6Dot10, F26Dot6, F48Dot16, Fixed, JsonFault, JsonScalar};
+use crate::{F2Dot14, F2Dot30, F4Dot12, F6Dot10, F26Dot6, F48Dot16, Fixed, JsonFault, JsonScalar};
 use serde_json::{Value, json};
 use std::test::Fail;
 
@@ -94,6 +94,23 @@ fn f6dot10(rt: HostRuntime) -> Result<(), Fail> {
         let value = number.to_json(rt.alloc())?;
         assert!(rt; value.as_str() == Some(text), "{text}");
         assert!(rt; F6Dot10::from_json(&value) == Ok(number), "{text}");
+    }
+    Ok(())
+}
+
+#[test]
+fn f2dot30(rt: HostRuntime) -> Result<(), Fail> {
+    for (bits, text) in [
+        (i32::MIN, "-2"),
+        (i32::MAX, "1.999999999"),
+        (1, "0.000000001"),
+        (7, "0.0000000065"),
+        (0x2666_6666, "0.6"),
+    ] {
+        let number = F2Dot30::from_bits(bits);
+        let value = number.to_json(rt.alloc())?;
+        assert!(rt; value.as_str() == Some(text), "{text}");
+        assert!(rt; F2Dot30::from_json(&value) == Ok(number), "{text}");
     }
     Ok(())
 }
