@@ -1,5 +1,6 @@
-//! Values from the definitions of 4.12 and 6.10 numbers and from the original crate.
+//! Values from the definitions of 4.12, 6.10 and 2.30 numbers and from the original crate.
 
 mod arithmetic;
+mod edges;
 mod every_value;
 mod texts;

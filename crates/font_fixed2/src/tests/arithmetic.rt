@@ -1,7 +1,7 @@
 //! Sums, roundings and bytes.
 
-use crate::{F4Dot12, F6Dot10};
-use font_base::{BigEndian, Scalar};
+use crate::{F2Dot30, F4Dot12, F6Dot10};
+use font_base::{BigEndian, FixedSize, Scalar};
 
 #[test]
 fn constants(rt: HostRuntime) {
@@ -22,6 +22,16 @@ fn constants(rt: HostRuntime) {
         (F6Dot10::default(), 0),
         (F6Dot10::ONE, 1024),
         (F6Dot10::NEG_ONE, -1024),
+    ] {
+        assert_eq!(rt; number.to_bits(), bits);
+    }
+    for (number, bits) in [
+        (F2Dot30::MIN, -2_147_483_648),
+        (F2Dot30::MAX, 2_147_483_647),
+        (F2Dot30::EPSILON, 1),
+        (F2Dot30::default(), 0),
+        (F2Dot30::ONE, 1_073_741_824),
+        (F2Dot30::NEG_ONE, -1_073_741_824),
     ] {
         assert_eq!(rt; number.to_bits(), bits);
     }
@@ -52,6 +62,21 @@ fn roundings(rt: HostRuntime) {
 }
 
 #[test]
+fn roundings_of_2_30(rt: HostRuntime) {
+    for (bits, rounded, floor, fract) in [
+        (0x6000_0000, -0x8000_0000, 0x4000_0000, 0x2000_0000),
+        (0x5FFF_FFFF, 0x4000_0000, 0x4000_0000, 0x1FFF_FFFF),
+        (-0x6000_0000, -0x4000_0000, -0x8000_0000, 0x2000_0000),
+        (-1, 0, -0x4000_0000, 0x3FFF_FFFF),
+    ] {
+        let number = F2Dot30::from_bits(bits);
+        assert_eq!(rt; number.round().to_bits(), rounded);
+        assert_eq!(rt; number.floor().to_bits(), floor);
+        assert_eq!(rt; number.fract().to_bits(), fract);
+    }
+}
+
+#[test]
 fn sums_of_4_12(rt: HostRuntime) {
     let (max, step) = (F4Dot12::MAX, F4Dot12::EPSILON);
     assert!(rt; max.wrapping_add(step) == F4Dot12::MIN);
@@ -74,6 +99,16 @@ fn sums_of_6_10(rt: HostRuntime) {
 }
 
 #[test]
+fn sums_of_2_30(rt: HostRuntime) {
+    let (max, step) = (F2Dot30::MAX, F2Dot30::EPSILON);
+    assert!(rt; max.wrapping_add(step) == F2Dot30::MIN);
+    assert!(rt; max.saturating_add(step) == max && max.checked_add(step).is_none());
+    assert!(rt; F2Dot30::ONE.checked_add(F2Dot30::NEG_ONE) == Some(F2Dot30::ZERO));
+    assert!(rt; F2Dot30::MIN.wrapping_sub(step) == max);
+    assert!(rt; F2Dot30::MIN.saturating_sub(step) == F2Dot30::MIN);
+}
+
+#[test]
 fn operators(rt: HostRuntime) {
     let mut number = F4Dot12::ONE;
     number += F4Dot12::ONE;
@@ -88,6 +123,16 @@ fn operators(rt: HostRuntime) {
 }
 
 #[test]
+fn operators_of_2_30(rt: HostRuntime) {
+    let mut number = F2Dot30::ONE;
+    number += F2Dot30::ONE;
+    assert!(rt; number == F2Dot30::MIN);
+    number -= F2Dot30::from_bits(0x2000_0000);
+    assert_eq!(rt; (-number).abs().to_bits(), 0x6000_0000);
+    assert!(rt; -F2Dot30::MIN == F2Dot30::MIN.abs());
+}
+
+#[test]
 fn bytes(rt: HostRuntime) {
     assert!(rt; F4Dot12::from_bits(-2).to_be_bytes() == [0xFF, 0xFE]);
     assert!(rt; F4Dot12::read(&[0x10, 0x00]) == Some(F4Dot12::ONE));
@@ -95,4 +140,13 @@ fn bytes(rt: HostRuntime) {
     assert!(rt; F6Dot10::read(&[0x04, 0x00]) == Some(F6Dot10::ONE));
     assert!(rt; BigEndian::from(F6Dot10::NEG_ONE) < BigEndian::from(F6Dot10::ZERO));
     assert!(rt; BigEndian::from(F4Dot12::NEG_ONE) < BigEndian::from(F4Dot12::ZERO));
+}
+
+#[test]
+fn bytes_of_2_30(rt: HostRuntime) {
+    assert!(rt; F2Dot30::RAW_BYTE_LEN == 4);
+    assert!(rt; F2Dot30::from_bits(0x0102_0304).to_be_bytes() == [1, 2, 3, 4]);
+    assert!(rt; F2Dot30::read(&[0xC0, 0x00, 0x00, 0x00]) == Some(F2Dot30::NEG_ONE));
+    assert!(rt; F2Dot30::read(&[0x40, 0x00]).is_none());
+    assert!(rt; BigEndian::from(F2Dot30::NEG_ONE) < BigEndian::from(F2Dot30::ZERO));
 }

@@ -1,6 +1,6 @@
 //! Printed and read texts.
 
-use crate::{F4Dot12, F6Dot10};
+use crate::{F2Dot30, F4Dot12, F6Dot10};
 use font_decimal::{Align, DecimalFault, Pad};
 use std::test::Fail;
 
@@ -32,6 +32,25 @@ fn printed(rt: HostRuntime) -> Result<(), Fail> {
 }
 
 #[test]
+fn printed_2_30(rt: HostRuntime) -> Result<(), Fail> {
+    for (bits, text) in [
+        (1, "0.000000001"),
+        (7, "0.0000000065"),
+        (0x7FFF_FFFF, "1.999999999"),
+        (-0x8000_0000, "-2"),
+        (0x2666_6666, "0.6"),
+        (-0x6000_0000, "-1.5"),
+    ] {
+        let number = F2Dot30::from_bits(bits);
+        assert_eq!(rt;
+            format!(in rt.alloc(); "{number} {number:?}")?.as_str(),
+            format!(in rt.alloc(); "{text} {text}")?.as_str()
+        );
+    }
+    Ok(())
+}
+
+#[test]
 fn read(rt: HostRuntime) {
     for (text, bits) in [
         ("0.0001220703125", 1),
@@ -42,6 +61,41 @@ fn read(rt: HostRuntime) {
     }
     for (text, bits) in [("-0.00048828125", -1), ("31.9995", 32767), ("-0.6", -614)] {
         assert!(rt; F6Dot10::from_decimal(text) == Ok(F6Dot10::from_bits(bits)));
+    }
+}
+
+#[test]
+fn read_2_30(rt: HostRuntime) {
+    for (text, bits) in [
+        ("0.6", 0x2666_6666),
+        ("0.0000000004656612873077392578125", 1),
+        ("-0.0000000004656612873077392578125", -1),
+        ("1.9999999995", 0x7FFF_FFFF),
+        ("-2.0000000004", -0x8000_0000),
+    ] {
+        assert!(rt; F2Dot30::from_decimal(text) == Ok(F2Dot30::from_bits(bits)));
+    }
+}
+
+// Below half a step by less than any number of places that is kept.
+#[test]
+fn nines_below_half_a_step(rt: HostRuntime) -> Result<(), Fail> {
+    let mut text = String::from_str(rt.alloc(), "0.0000000004656612873077392578124")?;
+    for _ in 0..3000 {
+        text.push('9')?;
+    }
+    assert!(rt; F2Dot30::from_decimal(text.as_str()) == Ok(F2Dot30::ZERO));
+    Ok(())
+}
+
+#[test]
+fn refused_2_30(rt: HostRuntime) {
+    for (text, fault) in [
+        ("1.9999999996", DecimalFault::OutOfRange),
+        ("-2.0000000005", DecimalFault::OutOfRange),
+        ("1.", DecimalFault::Syntax),
+    ] {
+        assert!(rt; F2Dot30::from_decimal(text) == Err(fault));
     }
 }
 
@@ -66,4 +120,12 @@ fn padded(rt: HostRuntime) {
     assert!(rt; F6Dot10::from_bits(-614).write_padded(&mut out, &pad) == Some(4));
     assert!(rt; &out == b"-0.6--");
     assert!(rt; F4Dot12::MIN.write_padded(&mut out[..1], &pad).is_none());
+    let mut cell = [b'-'; 23];
+    let zeros = Pad {
+        width: 12,
+        zeros: true,
+        ..pad
+    };
+    assert!(rt; F2Dot30::from_bits(-7).write_padded(&mut cell, &zeros) == Some(13));
+    assert!(rt; cell.starts_with(b"-0.0000000065-"));
 }
