@@ -1,4 +1,4 @@
--- The fixed-point number of 32 bits with 30 bits of fraction (2.30; it is stored in no table).
+-- The fixed-point number of 32 bits with 30 bits of fraction (2.30, the project's own: no table stores it).
 use Rattle.std.specs.Prelude.{ℕ, ℤ, List}
 use Rattle.font_decimal.specs.Shortest.{shortest_text}
 use Rattle.font_fixed2.specs.declared.f2dot30.F2Dot30.{F2Dot30}

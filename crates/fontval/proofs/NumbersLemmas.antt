@@ -53,7 +53,7 @@ module _ {W T : Type 0} (reads : W → Result T Refusal → Type 0) (words : Lis
         let all = so_far.completes (behind (value ∷ []) rest) (record {
           first = Ok value;
           is_first = one;
-          goes_on = record { first = rest; is_first = read; goes_on = elim rest as (λ r. MatchResult r (λ more. behind (value ∷ []) r ≡ Ok (value ∷ more)) (λ refusal. behind (value ∷ []) r ≡ Err refusal)) [ | Ok more ↦ refl | Err refusal ↦ refl ] };
+          goes_on = record { first = rest; is_first = read; goes_on = elim rest as (λ r. MatchResult r (λ more. behind (value ∷ []) r ≡ Ok (value ∷ more)) (λ refusal. behind (value ∷ []) r ≡ Err refusal)) [ Ok more ↦ refl | Err refusal ↦ refl ] };
         }) in
         subst (λ r. ReadsEach reads words r) (behind_one_more values value rest) all;
   }

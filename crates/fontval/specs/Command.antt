@@ -18,7 +18,7 @@ use Rattle.fontval.specs.Images.{ShowsImages}
 use Rattle.fontval.specs.declared.command.Command.{Command}
 use Rattle.fontval.specs.declared.command.Command.TheVariants.{Integer, FixedPoint, Read, Tag, Image, Sum, Vary}
 use Rattle.fontval.specs.declared.command.FixedType.{FixedType}
-use Rattle.fontval.specs.declared.command.FixedType.TheVariants.{F2Dot14, F4Dot12, F6Dot10, Fixed, F26Dot6, F48Dot16}
+use Rattle.fontval.specs.declared.command.FixedType.TheVariants.{F2Dot14, F4Dot12, F6Dot10, Fixed, F26Dot6, F48Dot16, F2Dot30}
 use Rattle.fontval.specs.declared.command.IntegerType.{IntegerType}
 use Rattle.fontval.specs.declared.command.IntegerType.TheVariants.{Uint8, Int8, Uint16, Int16, Uint24, Int24, Uint32, Int32, Int64}
 use Rattle.fontval.specs.declared.refusal.Refusal.{Refusal}
@@ -55,6 +55,7 @@ fixed_row F6Dot10 = (codes "f6dot10", 16, 10)
 fixed_row Fixed = (codes "fixed", 32, 16)
 fixed_row F26Dot6 = (codes "f26dot6", 32, 6)
 fixed_row F48Dot16 = (codes "f48dot16", 64, 16)
+fixed_row F2Dot30 = (codes "f2dot30", 32, 30)
 
 -- the word that names a command
 abbrev pub name_of : Command → List ℕ

@@ -16,8 +16,8 @@ use crate::parse::{decimal_text, hexadecimal, only_word, two_words};
 use crate::refusal::{Refusal, Unanswered};
 use crate::text::Words;
 use font_types::{
-    F2Dot14, F4Dot12, F6Dot10, F26Dot6, F48Dot16, FWord, Fixed, Int24, Scalar, Tag, Uint24,
-    checked_delta_sum, vary,
+    F2Dot14, F2Dot30, F4Dot12, F6Dot10, F26Dot6, F48Dot16, FWord, Fixed, Int24, Scalar, Tag,
+    Uint24, checked_delta_sum, vary,
 };
 use std::alloc::Allocator;
 
@@ -63,6 +63,7 @@ pub enum FixedType {
     Fixed,
     F26Dot6,
     F48Dot16,
+    F2Dot30,
 }
 
 // The commands, each with the word that names it.
@@ -82,6 +83,7 @@ static COMMANDS: &[(&[u8], Command)] = &[
     (b"fixed", Command::FixedPoint(FixedType::Fixed)),
     (b"f26dot6", Command::FixedPoint(FixedType::F26Dot6)),
     (b"f48dot16", Command::FixedPoint(FixedType::F48Dot16)),
+    (b"f2dot30", Command::FixedPoint(FixedType::F2Dot30)),
     (b"read", Command::Read),
     (b"tag", Command::Tag),
     (b"image", Command::Image),
@@ -176,6 +178,7 @@ impl FixedType {
                 F48Dot16::from_bits(i64::from_raw(hexadecimal(word)?)),
                 output,
             ),
+            FixedType::F2Dot30 => append(F2Dot30::from_raw(hexadecimal(word)?), output),
         }
     }
 
@@ -204,6 +207,10 @@ impl FixedType {
             ),
             FixedType::F48Dot16 => append_read(
                 F48Dot16::from_decimal(text).map(F48Dot16::to_bits),
+                output,
+            ),
+            FixedType::F2Dot30 => append_read(
+                F2Dot30::from_decimal(text).map(F2Dot30::to_bits),
                 output,
             ),
         }
@@ -242,11 +249,7 @@ fn image<A: Allocator>(words: Words<'_>, output: &mut String<A>) -> Result<(), U
 }
 
 // Appends the sum of terms.
-fn sum<A: Allocator>(
-    alloc: A,
-    words: Words<'_>,
-    output: &mut String<A>,
-) -> Result<(), Unanswered>
+fn sum<A: Allocator>(alloc: A, words: Words<'_>, output: &mut String<A>) -> Result<(), Unanswered>
     ensures { GivesAnswer (AnswersWords (words_of words.entry.rest.now) Command.Sum)
         (string_bytes output.old) (string_bytes output.new) result }
 {
@@ -289,5 +292,8 @@ fn append_moved<A: Allocator>(
 ) -> Result<(), Unanswered>
     ensures { GivesAnswer (λ answer. answer ≡ varied_by units terms.now) (string_bytes output.old) (string_bytes output.new) result }
 {
-    append(vary(FWord::new(units), terms).ok_or(Refusal::OutOfRange)?, output)
+    append(
+        vary(FWord::new(units), terms).ok_or(Refusal::OutOfRange)?,
+        output,
+    )
 }

@@ -41,6 +41,10 @@ impl fmt::Display for Move {
     fn fmt<W: fmt::Write>(&self, f: &mut fmt::Formatter<W>) -> fmt::Result {
         let composed = laws::composed(self.a, self.b, self.p);
         let in_turn = laws::in_turn(self.a, self.b, self.p);
-        write!(f, "{} {} {} {}", composed.x, composed.y, in_turn.x, in_turn.y)
+        write!(
+            f,
+            "{} {} {} {}",
+            composed.x, composed.y, in_turn.x, in_turn.y
+        )
     }
 }

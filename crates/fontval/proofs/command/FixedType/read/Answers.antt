@@ -32,3 +32,8 @@ pub returns-in-F48Dot16 : goal.returns-in-F48Dot16
 returns-in-F48Dot16 g c =
     let read : ReadingGives 64 16 c.args.text.now c.map-in-F48Dot16.result = search rules in
     rw c.in-F48Dot16.is (given_reading 8 64 16 c.map-in-F48Dot16.result c.args.text.now _ _ _ c.append_read-in-F48Dot16.ensures read refl)
+
+pub returns-in-F2Dot30 : goal.returns-in-F2Dot30
+returns-in-F2Dot30 g c =
+    let read : ReadingGives 32 30 c.args.text.now c.map-in-F2Dot30.result = search rules in
+    rw c.in-F2Dot30.is (given_reading 4 32 30 c.map-in-F2Dot30.result c.args.text.now _ _ _ c.append_read-in-F2Dot30.ensures read refl)
