@@ -12,6 +12,11 @@ const LINES: &[u8] = b"int24 fe1dc0\nint24 fe1d\n\nbogus 1\nuint8";
 
 const ANSWERS: &[u8] = b"-123456\nerror 3\nerror 1\nerror 1\nerror 2\n";
 
+/// A line that needs memory for its terms, too.
+const SUM: &[u8] = b"sum 1 100 0.5 -250 0.25 37\n";
+
+const SUM_ANSWER: &[u8] = b"-15.75\n";
+
 /// A source that gives one byte a call, as long as it has calls that pass. It counts every call.
 #[derive(Drop)]
 struct Drip<'a> {
@@ -129,6 +134,15 @@ fn empty_input_writes_nothing(rt: HostRuntime) -> Result<(), Fail> {
     Ok(())
 }
 
+#[test]
+fn lines_a_thousand_times(rt: HostRuntime) -> Result<(), Fail> {
+    let input = "int24 fe1dc0\nint24 fe1d\n\nbogus 1\nuint8\n".repeat(rt.alloc(), 1000)?;
+    let answers = "-123456\nerror 3\nerror 1\nerror 1\nerror 2\n".repeat(rt.alloc(), 1000)?;
+    let output = served(rt.alloc(), input.as_bytes())?;
+    assert!(rt; output.as_slice() == answers.as_bytes());
+    Ok(())
+}
+
 // Many blocks of input and more than a megabyte of each, so that no limit on either goes unseen.
 #[test]
 fn long_input_is_answered(rt: HostRuntime) -> Result<(), Fail> {
@@ -165,6 +179,20 @@ fn rows(rt: HostRuntime) -> Result<(), Fail> {
         ("tag 68656164", "head valid\n"),
         ("tag 62206363", "b cc space 2\n"),
         ("tag 616263", "error 3\n"),
+        ("image 2 0 0 3 0 0 1 0 0 1 10 20 5 -22", "30 -6 30 -6\n"),
+        ("image 1 0 0 1 0 0 1 0 0 1 0 0 32768 x", "error 5\n"),
+        ("image 1", "error 2\n"),
+        ("sum 1 100 0.5 -250 0.25 37", "-15.75\n"),
+        ("sum", "0\n"),
+        ("sum 1", "error 2\n"),
+        ("sum 1 +5", "error 6\n"),
+        ("sum 1 2147483648", "error 5\n"),
+        ("sum 1 99999999999x", "error 6\n"),
+        ("vary 100 1 100 0.5 -250 0.25 37", "5521408\n"),
+        ("vary 100 1", "error 2\n"),
+        ("vary 32768", "error 5\n"),
+        ("f2dot30 00000007", "0.0000000065\n"),
+        ("read f2dot30 0.6", "26666666\n"),
         ("int24 000000", "0\n"),
         ("int24 01E240", "123456\n"),
         ("int24 7fffff", "8388607\n"),
@@ -214,27 +242,25 @@ fn a_failed_write_keeps_what_passed(rt: HostRuntime) {
     }
 }
 
+// From ever more memory, until the input is answered.
 #[test]
 fn each_growth_refused(rt: HostRuntime) -> Result<(), Fail> {
-    let mut refused = 0usize;
-    for size in 1..100usize {
-        let heap = LocalHeap::new(rt.alloc(), 16 * size)?;
-        let mut source = Drip::new(LINES, usize::MAX);
-        let mut sink = Trickle::new(rt.alloc(), usize::MAX);
-        match serve(&heap, &mut source, &mut sink) {
-            Ok(()) => {
-                assert_eq!(rt; sink.taken.as_slice(), ANSWERS);
-                assert!(rt; refused > 3);
-                return Ok(());
-            }
-            Err(fault) => {
-                assert!(rt; matches!(fault, ServeFault::Memory), "{size}");
-                assert_eq!(rt; sink.calls, 0, "{size}");
-                refused = size;
-            }
+    for (input, answers) in [(LINES, ANSWERS), (SUM, SUM_ANSWER)] {
+        let mut refused = 0usize;
+        for size in 1..100usize {
+            let heap = LocalHeap::new(rt.alloc(), 16 * size)?;
+            let mut source = Drip::new(input, usize::MAX);
+            let mut sink = Trickle::new(rt.alloc(), usize::MAX);
+            let Err(fault) = serve(&heap, &mut source, &mut sink) else {
+                assert_eq!(rt; sink.taken.as_slice(), answers);
+                break;
+            };
+            assert!(rt; matches!(fault, ServeFault::Memory), "{size}");
+            assert_eq!(rt; sink.calls, 0, "{size}");
+            refused = size;
         }
+        assert!(rt; refused > 3 && refused < 99);
     }
-    assert!(rt; false, "never served");
     Ok(())
 }
 
