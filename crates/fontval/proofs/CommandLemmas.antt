@@ -1,10 +1,5 @@
--- The table of commands.
-use Rattle.std.proofs.Common.{◌≡◌, ◌≢◌, ℕ, List, [], ◌∷◌, ◌++◌, Bool, true, false, cond, Bor, Option, Some, None, Result, Ok, Err, sym, ap, ◌∙◌, refl}
-use Rattle.std.specs.Prelude.{find, bytes_eq, option_map, ◌||◌}
-use Rattle.std.specs.List.{list_all, list_any}
-use Rattle.std.specs.Option.{ok_or}
-use Rattle.std.proofs.lemmas.Slice.Eq.{bytes_eq-Decides}
-use Rattle.std.specs.Cmp.{first_so, second_so}
+-- What is read of named words, said of tags, and where points go.
+use Rattle.std.proofs.Common.{◌≡◌, ◌≢◌, ℕ, List, [], ◌∷◌, ◌++◌, Result, Ok, Err, refl}
 use Rattle.font_types.specs.Grammar.{IsNoDecimal}
 use Rattle.std.specs.Prelude.{ℤ, ◌/◌}
 use Rattle.std.specs.Result.{result_map_both}
@@ -15,9 +10,9 @@ use Rattle.font_types.specs.DecimalFault.TheVariants.{Syntax}
 use Rattle.font_types.specs.Operations.{ReadingGives}
 use Rattle.font_types.specs.Tag.{IsValidated, tag_text}
 use Rattle.font_types.specs.InvalidTag.{InvalidTag}
-use Rattle.fontval.specs.Command.{AnswersWords, IsNamed, JudgesTag, verdict_text, ShowsReading, ShowsReadingAs, name_of, two_words}
+use Rattle.fontval.specs.Command.{AnswersWords, JudgesTag, verdict_text, ShowsReading, ShowsReadingAs, name_of, two_words}
 use Rattle.fontval.specs.Refusal.{GivesAnswer, refusal_of}
-use Rattle.fontval.specs.Numbers.{Then, ReadsJust}
+use Rattle.fontval.specs.Numbers.{ReadsJust}
 use Rattle.fontval.specs.Images.{images_text}
 use Rattle.font_types.specs.fixed.Fixed.{Fixed}
 use Rattle.font_types.specs.matrix.Matrix.{Matrix}
@@ -32,50 +27,6 @@ use Rattle.fontval.specs.declared.command.Command.TheVariants.{FixedPoint, Read,
 use Rattle.fontval.specs.declared.command.FixedType.{FixedType}
 use Rattle.fontval.specs.declared.refusal.Refusal.{Refusal}
 use Rattle.fontval.specs.declared.refusal.Refusal.TheVariants.{UnknownCommand, NotDecimal}
-
--- a row of the table
-abbrev Row : Type 0
-Row = Bor (List ℕ) × Command
-
--- the test that a row has the word, and the test that it has its command's name
-abbrev has : List ℕ → Row → Bool
-has word row = bytes_eq row.0.now word
-
-abbrev pub is_right : Row → Bool
-is_right row = bytes_eq (name_of row.1) row.0.now
-
--- the command of the first row that has the word
-abbrev first : List Row → List ℕ → Option Command
-first rows word = option_map (λ row. row.1) (find (has word) rows)
-
--- where each row has its command's name, the command that is found has the word for its name
-some_is_named : (rows : List Row) (word : List ℕ) (command : Command) → list_all is_right rows ≡ true → first rows word ≡ Some command → name_of command ≡ word
-some_is_named [] word command right found = cc
-some_is_named (row ∷ rows) word command right found =
-    elim (has word row) as (λ b. has word row ≡ b → option_map (λ (r : Row). r.1) (cond b (Some row) (find (has word) rows)) ≡ Some command → name_of command ≡ word) [
-      | true ↦ λ same is.
-          let at : row.1 ≡ command = cc in
-          ap name_of (sym at)
-          ∙ (bytes_eq-Decides (name_of row.1) row.0.now).0 (first_so (is_right row) (list_all is_right rows) right)
-          ∙ (bytes_eq-Decides row.0.now word).0 same
-      | false ↦ λ other is. some_is_named rows word command (second_so (is_right row) (list_all is_right rows) right) is
-    ] refl found
-
--- where a row has the word, a command is found
-some_is_first : (rows : List Row) (word : List ℕ) → list_any (has word) rows ≡ true → first rows word ≡ None → ⊥
-some_is_first [] word there none = cc
-some_is_first (row ∷ rows) word there none =
-    elim (has word row) as (λ b. (b || list_any (has word) rows) ≡ true → option_map (λ (r : Row). r.1) (cond b (Some row) (find (has word) rows)) ≡ None → ⊥) [
-      | true ↦ λ _ absent. cc
-      | false ↦ λ later absent. some_is_first rows word later absent
-    ] there none
-
--- In a table in which each row has its command's name, and each command a row, the first row that has a word is that of the command that it names.
-pub first_is_named : (rows : List Row) (word : List ℕ) → list_all is_right rows ≡ true → ((command : Command) → list_any (has (name_of command)) rows ≡ true)
-    → (found : Option Command) (named : Result Command Refusal) → found ≡ first rows word → named ≡ ok_or found UnknownCommand → IsNamed word named
-first_is_named rows word right every (Some command) named is gives = rw gives (some_is_named rows word command right (sym is))
-first_is_named rows word right every None named is gives =
-    rw gives (refl, λ command same. some_is_first rows (name_of command) (every command) (rw same (sym is)))
 
 -- a command that is no fixed-point type's reads nothing
 pub reads_nothing : (text : List ℕ) (command : Command) → ((type : FixedType) → command ≢ FixedPoint type) → ShowsReadingAs text command (Err UnknownCommand)

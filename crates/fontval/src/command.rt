@@ -1,8 +1,7 @@
 //! The commands, and what they answer.
 
-ghost use Rattle.std.specs.Prelude.{◌≡◌, [], ◌∷◌, IsTrue, bytes_eq, find, option_map, string_bytes};
-ghost use Rattle.std.specs.List.{list_all, list_any};
-ghost use Rattle.fontval.specs.Command.{integer, name_of, AnswersWords, IsNamed, JudgesTag, ShowsReadingAs};
+ghost use Rattle.std.specs.Prelude.{◌≡◌, [], ◌∷◌, string_bytes};
+ghost use Rattle.fontval.specs.Command.{integer, AnswersWords, IsNamed, JudgesTag, ShowsReadingAs};
 ghost use Rattle.font_types.specs.Tag.{tag_bytes};
 ghost use Rattle.fontval.specs.Deltas.{sum_of, varied_by};
 ghost use Rattle.fontval.specs.Refusal.{GivesAnswer};
@@ -66,37 +65,35 @@ pub enum FixedType {
     F2Dot30,
 }
 
-// The commands, each with the word that names it.
-static COMMANDS: &[(&[u8], Command)] = &[
-    (b"uint8", Command::Integer(IntegerType::Uint8)),
-    (b"int8", Command::Integer(IntegerType::Int8)),
-    (b"uint16", Command::Integer(IntegerType::Uint16)),
-    (b"int16", Command::Integer(IntegerType::Int16)),
-    (b"uint24", Command::Integer(IntegerType::Uint24)),
-    (b"int24", Command::Integer(IntegerType::Int24)),
-    (b"uint32", Command::Integer(IntegerType::Uint32)),
-    (b"int32", Command::Integer(IntegerType::Int32)),
-    (b"int64", Command::Integer(IntegerType::Int64)),
-    (b"f2dot14", Command::FixedPoint(FixedType::F2Dot14)),
-    (b"f4dot12", Command::FixedPoint(FixedType::F4Dot12)),
-    (b"f6dot10", Command::FixedPoint(FixedType::F6Dot10)),
-    (b"fixed", Command::FixedPoint(FixedType::Fixed)),
-    (b"f26dot6", Command::FixedPoint(FixedType::F26Dot6)),
-    (b"f48dot16", Command::FixedPoint(FixedType::F48Dot16)),
-    (b"f2dot30", Command::FixedPoint(FixedType::F2Dot30)),
-    (b"read", Command::Read),
-    (b"tag", Command::Tag),
-    (b"image", Command::Image),
-    (b"sum", Command::Sum),
-    (b"vary", Command::Vary),
-];
-
 impl Command {
-    /// The command that a word names.
+    /// The command that a word names. Each has a row.
     pub fn named(word: &[u8]) -> Result<Command, Refusal>
         ensures { IsNamed word.now result }
     {
-        named_in(COMMANDS, word)
+        Ok(match word {
+            b"uint8" => Command::Integer(IntegerType::Uint8),
+            b"int8" => Command::Integer(IntegerType::Int8),
+            b"uint16" => Command::Integer(IntegerType::Uint16),
+            b"int16" => Command::Integer(IntegerType::Int16),
+            b"uint24" => Command::Integer(IntegerType::Uint24),
+            b"int24" => Command::Integer(IntegerType::Int24),
+            b"uint32" => Command::Integer(IntegerType::Uint32),
+            b"int32" => Command::Integer(IntegerType::Int32),
+            b"int64" => Command::Integer(IntegerType::Int64),
+            b"f2dot14" => Command::FixedPoint(FixedType::F2Dot14),
+            b"f4dot12" => Command::FixedPoint(FixedType::F4Dot12),
+            b"f6dot10" => Command::FixedPoint(FixedType::F6Dot10),
+            b"fixed" => Command::FixedPoint(FixedType::Fixed),
+            b"f26dot6" => Command::FixedPoint(FixedType::F26Dot6),
+            b"f48dot16" => Command::FixedPoint(FixedType::F48Dot16),
+            b"f2dot30" => Command::FixedPoint(FixedType::F2Dot30),
+            b"read" => Command::Read,
+            b"tag" => Command::Tag,
+            b"image" => Command::Image,
+            b"sum" => Command::Sum,
+            b"vary" => Command::Vary,
+            _ => return Err(Refusal::UnknownCommand),
+        })
     }
 
     /// Appends what the command answers to the words behind it.
@@ -120,23 +117,6 @@ impl Command {
             Command::Vary => move_units(alloc, words, output),
         }
     }
-}
-
-// The same by a table in which each row has its command's name, and each command a row.
-fn named_in(rows: &[(&[u8], Command)], word: &[u8]) -> Result<Command, Refusal>
-    requires right { IsTrue (list_all (λ row. bytes_eq (name_of row.1) row.0.now) rows.now) }
-    requires whole { (command : _) → IsTrue (list_any (λ row. bytes_eq row.0.now (name_of command)) rows.now) }
-    ensures { IsNamed word.now result }
-{
-    first_named(rows, word).ok_or(Refusal::UnknownCommand)
-}
-
-// The command of the first row that has the word.
-fn first_named(rows: &[(&[u8], Command)], word: &[u8]) -> Option<Command>
-    ensures { result ≡ option_map (λ row. row.1) (find (λ row. bytes_eq row.0.now word.now) rows.now) }
-{
-    let (_, command) = rows.iter().find(|row| row.0 == word)?;
-    Some(*command)
 }
 
 impl IntegerType {
