@@ -12,7 +12,7 @@ use Rattle.font_base.specs.Wrap.Laws.{wrap_is, wrap_same, two_halves, remainder}
 use Rattle.font_base.proofs.Widths.{half_range-bits, int_wrap-wrap, to_z-wrap, bits_positive}
 use Rattle.font_base.specs.Bytes.{IsBytesOf, bytes_of}
 use Rattle.font_base.specs.Bytes.Laws.{bytes_of_is}
-use Rattle.font_arithmetic.specs.Operations.{IsFract}
+use Rattle.font_arithmetic.specs.Operations.{IsFract, fract_of}
 
 -- a sum that wraps
 pub wrapping_add-wrap : (w : Width) (x y : ℤ) → SFits w x → SFits w y → int_wrapping_add w x y ≡ wrap (bits w) (x +ℤ y)
@@ -58,6 +58,7 @@ bytes_of_are n v bytes is = rw is (bytes_of_is n v)
 
 -- the rest behind the greatest multiple that is not above
 pub rem_euclid_is_fract : (w : Width) (f d : ℕ) (x r : ℤ) → d ≡ 2 ^ f → 2 ^ f ≤ 2 ^ hbits w → SFits w x → r ≡ int_rem_euclid (to_z w (of_z w x)) (pos d) → IsFract f x (to_z w (of_z w r))
+unfolding fract_of
 rem_euclid_is_fract w f d x r step room fits is =
     let parts = remainder x (2 ^ f) (pow_pos f) in
     let below = parts.below in
@@ -70,8 +71,10 @@ rem_euclid_is_fract w f d x r step room fits is =
         bits = refl;
         low = omega (arith, ints, parts.parts);
         high = omega (arith, ints, parts.parts, below);
+        is = omega (arith, ints, parts.parts, parts.is);
       };
       rest = omega (arith, ints, parts.parts);
+      is = sym parts.is;
     })
 
 -- the last bits of a number, by the remainder

@@ -1,7 +1,7 @@
 -- What each operation on fixed-point numbers gives, over their bits. A number of w bits with f bits of fraction stands for its bits
 -- over 2^f (OpenType, data types: Fixed is 16.16, F2DOT14 is 2.14).
 use Rattle.std.specs.Prelude.{◌≡◌, ℕ, zero, suc, ◌-◌, ◌^◌, Bool, not, List, ℤ, pos, negsuc, neg_ℤ, ◌+ℤ◌, ◌-ℤ◌, ◌*ℤ◌, ◌≤ℤ◌, ◌<ℤ◌, Result, if◌then◌else◌}
-use Rattle.std.specs.Int.{is_negative, saturate_to_bits}
+use Rattle.std.specs.Int.{is_negative, int_rem_euclid, saturate_to_bits}
 use Rattle.font_base.specs.Wrap.{half_range, wrap}
 use Rattle.font_decimal.specs.Near.{signed, Near, near, Up, up}
 use Rattle.font_decimal.specs.Reading.{Reads, IsOutOfRange, IsReading}
@@ -40,18 +40,27 @@ pub record IsNearestWhole (w f : ℕ) (b r : ℤ) : Type 0 where
   pub wrapped : r ≡ wrap w (whole *ℤ pos (2 ^ f))
   pub is : r ≡ nearest_whole w f b
 
--- r is the bits of the greatest whole number that is not above b / 2^f
+-- what b / 2^f has above the greatest whole number that is not above it, and the bits of that whole number
+unfoldable pub fract_of : ℕ → ℤ → ℤ
+fract_of f b = int_rem_euclid b (pos (2 ^ f))
+
+abbrev pub floor_of : ℕ → ℤ → ℤ
+floor_of f b = b -ℤ fract_of f b
+
+-- r is the bits of that whole number
 pub record IsFloor (f : ℕ) (b r : ℤ) : Type 0 where
   pub whole : ℤ
   pub bits : r ≡ (whole *ℤ pos (2 ^ f))
   pub low : r ≤ℤ b
   pub high : b <ℤ (r +ℤ pos (2 ^ f))
+  pub is : r ≡ floor_of f b
 
 -- r is what b has above its floor
 pub record IsFract (f : ℕ) (b r : ℤ) : Type 0 where
   pub floor : ℤ
   pub is_floor : IsFloor f b floor
   pub rest : r ≡ (b -ℤ floor)
+  pub is : r ≡ fract_of f b
 
 -- the least and the greatest number of w bits
 abbrev pub least : ℕ → ℤ

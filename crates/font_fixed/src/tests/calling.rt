@@ -23,6 +23,13 @@ fn by_one(a: Fixed) -> Fixed
     a / Fixed::ONE
 }
 
+#[tactic(auto, using(crate::proofs::FixedCalls::fixed_calls))]
+fn put_together(a: Fixed) -> Fixed
+    ensures { result ≡ a }
+{
+    a.floor() + a.fract()
+}
+
 /// The number `t` of the way from `a` to `b`.
 #[tactic(auto, using(crate::proofs::FixedCalls::fixed_calls))]
 fn lerp(a: Fixed, b: Fixed, t: Fixed) -> Fixed
@@ -52,6 +59,7 @@ fn callers(rt: HostRuntime) -> Result<(), Fail> {
     let (half, two) = (Fixed::from_bits(0x8000), Fixed::from_i32(2));
     assert!(rt; unchanged(half) == half);
     assert!(rt; by_one(half) == half);
+    assert!(rt; put_together(half) == half);
     assert!(rt; lerp(half, two, half) == Fixed::from_bits(0x1_4000));
     assert!(rt; printed_and_read(rt.alloc(), half)? == Ok(half));
     assert!(rt; &cell(half, 6)[..8] == b"   0.5  ".as_slice());
