@@ -1,5 +1,5 @@
 -- The first line of an input, and the first word of a line.
-use Rattle.std.proofs.Common.{◌≡◌, ℕ, zero, suc, ◌+◌, ◌<◌, ◌≤◌, Bool, true, false, cond, List, [], ◌∷◌, length, take, drop, refl, ap, ◌∙◌, arith, Some, None}
+use Rattle.std.proofs.Common.{◌≡◌, ℕ, zero, suc, ◌+◌, ◌<◌, ◌≤◌, Bool, true, false, cond, List, [], ◌∷◌, length, map, take, drop, refl, ap, ◌∙◌, arith, Some, None}
 use Rattle.std.specs.List.{position_or_len, before_first, after_first, onto_first, slice_split}
 use Rattle.std.specs.Prelude.{not, position, nat_lt}
 use Rattle.std.proofs.Common.{get_or, drop-cons}
@@ -9,6 +9,9 @@ use Rattle.std.proofs.lemmas.List.Quantifiers.{position-Some}
 use Rattle.std.proofs.lemmas.Option.{cond_some}
 use Rattle.std.proofs.lemmas.List.Splits.{length-slice_split}
 use Rattle.std.proofs.lemmas.List.Sums.{length-filter, count_by-le-length}
+use Rattle.std.proofs.lemmas.Simd.{leading_from_mask_l, trailing_mask_l}
+use Rattle.std.specs.Simd.Lanes.{mask_l}
+use lib.Count.{count_trailing_zeros}
 use Rattle.fontval.specs.Text.{is_line_feed, lines_of, is_blank, is_nonempty, from_first, words_of}
 
 one_more : (n : ℕ) → 1 + n ≡ suc n
@@ -84,6 +87,30 @@ none_behind input rest passed so_far none =
     let absent = none_found rest none in
     let past : length input ≤ before_feed input = omega (arith, so_far.first, so_far.long, absent) in
     rw (le-ltb _ _ past) refl
+
+-- ---- the first line feed of a block, by a mask with a bit for each byte
+
+abbrev marks : List ℕ → ℕ
+marks bytes = mask_l (map is_line_feed bytes)
+
+-- where no bit is set there is no line feed
+pub none_marked : (bytes : List ℕ) → marks bytes ≡ 0 → None ≡ position is_line_feed bytes
+none_marked bytes none =
+    let all : length bytes ≤ before_feed bytes = omega (arith, leading_from_mask_l is_line_feed bytes none) in
+    rw (le-ltb _ _ all) refl
+
+-- where a bit is set there is a line feed
+some_marked : (bytes : List ℕ) → 0 < marks bytes → before_feed bytes < length bytes
+some_marked [] some = absurd (omega arith)
+some_marked (byte ∷ bytes) some =
+    elim (is_line_feed byte) as (λ b. 0 < mask_l (b ∷ map is_line_feed bytes) → cond (not b) (1 + before_feed bytes) 0 < suc (length bytes)) [
+      | true ↦ λ here. omega arith
+      | false ↦ λ later. let within = some_marked bytes (omega arith) in omega arith
+    ] some
+
+-- the lowest bit that is set is the first line feed's
+pub first_marked : (bytes : List ℕ) → length bytes ≤ 64 → 0 < marks bytes → Some (count_trailing_zeros 64 (marks bytes)) ≡ position is_line_feed bytes
+first_marked bytes few some = rw (trailing_mask_l is_line_feed 64 bytes few some, lt-ltb _ _ (some_marked bytes some)) refl
 
 -- no line stands in an empty input
 pub no_lines : (input : List ℕ) → length input ≡ 0 → lines_of input ≡ []

@@ -5,6 +5,8 @@ ghost use Rattle.std.specs.Iterator.{YieldsFirstRef, item_count};
 ghost use Rattle.std.specs.List.{before_first, after_first};
 ghost use Rattle.fontval.specs.Text.{is_line_feed, lines_of, is_blank, from_first, words_of};
 
+use std::simd::prelude::*;
+
 /// The lines of an input, first to last, each without its line feed. The last line may lack one.
 #[derive(Drop)]
 pub struct Lines<'a> {
@@ -58,13 +60,27 @@ fn line_feed_at(input: &[u8]) -> Option<usize>
     let mut passed = 0;
     let mut rest = input;
     while let Some((block, behind)) = rest.split_first_chunk::<16>() {
-        if let Some(at) = line_feed_in(block) {
+        if let Some(at) = line_feed_among(block) {
             return Some(passed + at);
         }
         passed += 16;
         rest = behind;
     }
     Some(passed + line_feed_in(rest)?)
+}
+
+// The same of sixteen bytes, which are compared at once.
+fn line_feed_among(block: &[u8; 16]) -> Option<usize>
+    ensures { result ≡ position is_line_feed block.now }
+{
+    let feeds = u8x16::from_array(*block)
+        .simd_eq(u8x16::splat(b'\n'))
+        .to_bitmask();
+    if feeds == 0 {
+        None
+    } else {
+        Some(feeds.trailing_zeros() as usize)
+    }
 }
 
 fn line_feed_in(bytes: &[u8]) -> Option<usize>
