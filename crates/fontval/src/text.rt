@@ -146,10 +146,43 @@ fn split_word(text: &[u8]) -> (&[u8], &[u8])
     }
 }
 
+// Where the first blank stands. Eight bytes are looked at in a row, since most words are short.
+#[tactic(auto, using(crate::proofs::TextLemmas::none_passed, crate::proofs::TextLemmas::more_passed, crate::proofs::TextLemmas::found_behind, crate::proofs::TextLemmas::none_behind))]
 fn blank_at(text: &[u8]) -> Option<usize>
     ensures { result ≡ position is_blank text.now }
 {
-    text.iter().position(|byte| is_blank(*byte))
+    let mut passed = 0;
+    let mut rest = text;
+    while let Some((block, behind)) = rest.split_first_chunk::<8>() {
+        if let Some(at) = blank_among(block) {
+            return Some(passed + at);
+        }
+        passed += 8;
+        rest = behind;
+    }
+    Some(passed + blank_in(rest)?)
+}
+
+// The same of eight bytes, which are compared at once.
+fn blank_among(block: &[u8; 8]) -> Option<usize>
+    ensures { result ≡ position is_blank block.now }
+{
+    let bytes = u8x8::from_array(*block);
+    let spaces = bytes.simd_eq(u8x8::splat(b' '));
+    let tabs = bytes.simd_eq(u8x8::splat(b'\t'));
+    let returns = bytes.simd_eq(u8x8::splat(b'\r'));
+    let blanks = (spaces | tabs | returns).to_bitmask();
+    if blanks == 0 {
+        None
+    } else {
+        Some(blanks.trailing_zeros() as usize)
+    }
+}
+
+fn blank_in(bytes: &[u8]) -> Option<usize>
+    ensures { result ≡ position is_blank bytes.now }
+{
+    bytes.iter().position(|byte| is_blank(*byte))
 }
 
 // Whether a byte stands between words.
