@@ -85,7 +85,7 @@ pub fn whole_number(word: &[u8]) -> Result<i32, Refusal>
     if !is_whole(word) {
         return Err(Refusal::NotWhole);
     }
-    let text = str::from_utf8(word).map_err(|_| Refusal::NotWhole)?;
+    let text = unsafe { str::from_utf8_unchecked(word) };
     text.parse().map_err(|_| Refusal::OutOfRange)
 }
 

@@ -40,12 +40,12 @@ pub fn hexadecimal<const N: usize>(word: &[u8]) -> Result<[u8; N], Refusal>
     <[u8; N]>::from_hex(word).map_err(|_| Refusal::NotHexadecimal)
 }
 
-/// A word as text. One that is none is no decimal.
+/// A word as text. One that is not ASCII is no decimal.
 pub fn decimal_text(word: &[u8]) -> Result<&str, Refusal>
     ensures { MatchResult result (λ text. text.now ≡ word.now) (λ refusal. (refusal ≡ Refusal.NotDecimal) × IsNoDecimal word.now) }
 {
-    match str::from_utf8(word) {
-        Ok(text) => Ok(text),
-        Err(_) => Err(Refusal::NotDecimal),
+    if !word.is_ascii() {
+        return Err(Refusal::NotDecimal);
     }
+    Ok(unsafe { str::from_utf8_unchecked(word) })
 }

@@ -1,6 +1,13 @@
-use Rattle.std.proofs.Common.{refl}
-use Rattle.font_types.proofs.Callers.{decimal_is_utf8}
+use Rattle.std.proofs.Common.{rules, refl, arith}
+use Rattle.std.proofs.lemmas.Str.{IsUtf8-from_ascii}
+use Rattle.std.specs.Str.{IsAscii, IsNotAscii}
+use Rattle.font_types.proofs.Callers.{decimal_is_ascii}
 use Rattle.fontval.proofs.parse.decimal_text.Goals as goal
 
-pub returns-in-Err : goal.returns-in-Err
-returns-in-Err c = (refl, λ n k decimal. c.in-Err.ensures.cases.0 (decimal_is_utf8 c.args.word.now n k decimal))
+pub returns-then-not-is_ascii : goal.returns-then-not-is_ascii
+returns-then-not-is_ascii c =
+    let other : IsNotAscii c.args.word.now = search rules in
+    (refl, λ n k decimal. omega (arith, decimal_is_ascii c.args.word.now n k decimal other.0, other.1))
+
+pub from_utf8_unchecked-requires : goal.from_utf8_unchecked-requires
+from_utf8_unchecked-requires c = let ascii : IsAscii c.args.word.now = search rules in IsUtf8-from_ascii c.args.word.now ascii
