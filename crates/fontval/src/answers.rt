@@ -24,7 +24,8 @@ pub fn answers<A: Allocator + Copy>(alloc: A, input: &[u8]) -> Result<String<A>,
     Ok(output)
 }
 
-// Appends the answer to a line.
+// Appends the answer to a line. Every line comes here, so no call is spent on it.
+#[inline(always)]
 fn append_answer<A: Allocator>(
     alloc: A,
     line: &[u8],
