@@ -241,15 +241,27 @@ word_begins : (line : List ℕ) (start : ℕ) → position (λ byte. not (is_bla
     → position_or_len (λ byte. not (is_blank byte)) line ≡ start
 word_begins line start found = (cond_some _ _ _ found).1
 
+-- the blank behind a word changes no word
+words_behind_word : (text : List ℕ) → words_of (from_first is_blank text) ≡ words_of (after_first is_blank text)
+words_behind_word [] = refl
+words_behind_word (byte ∷ rest) =
+    let inside = position_or_len is_blank rest in
+    elim (is_blank byte)
+    as (λ b. is_blank byte ≡ b → words_of (drop (cond (not b) (1 + inside) 0) (byte ∷ rest)) ≡ words_of (drop (cond (not b) (1 + inside) 0 + 1) (byte ∷ rest))) [
+      | true ↦ λ blank. words_behind_blank byte rest blank
+      | false ↦ λ word. rw (one_more inside, one_more_and_one inside) (words_behind_word rest)
+    ] refl
+
 -- the first word of a line that has one, and the words behind it
 pub first_word : (line : List ℕ) (start : ℕ) → position (λ byte. not (is_blank byte)) line ≡ Some start
-    → words_of line ≡ before_first is_blank (drop start line) ∷ words_of (from_first is_blank (drop start line))
+    → words_of line ≡ before_first is_blank (drop start line) ∷ words_of (after_first is_blank (drop start line))
 first_word line start found =
     let at = position-Some (λ byte. not (is_blank byte)) line start 0 found in
     let from = drop-cons line start 0 at.0 in
     words_behind_blanks line
     ∙ ap (λ n. words_of (drop n line)) (word_begins line start found)
     ∙ words_from_word (drop start line) (rw from (begins_word (get_or line start 0) (drop (suc start) line) at.1))
+    ∙ ap (λ words. before_first is_blank (drop start line) ∷ words) (words_behind_word (drop start line))
 
 -- a line that has no word
 pub no_words : (line : List ℕ) → position (λ byte. not (is_blank byte)) line ≡ None → words_of line ≡ []

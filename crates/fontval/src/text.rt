@@ -3,7 +3,7 @@
 ghost use Rattle.std.specs.Prelude.{◌≡◌, length, not, position};
 ghost use Rattle.std.specs.Iterator.{YieldsFirstRef, item_count};
 ghost use Rattle.std.specs.List.{before_first, after_first};
-ghost use Rattle.fontval.specs.Text.{is_line_feed, lines_of, is_blank, from_first, words_of};
+ghost use Rattle.fontval.specs.Text.{is_line_feed, lines_of, is_blank, words_of};
 
 use std::simd::prelude::*;
 
@@ -135,13 +135,13 @@ fn word_at(text: &[u8]) -> Option<usize>
     text.iter().position(|byte| !is_blank(*byte))
 }
 
-// What stands before the first blank, and the rest.
+// What stands before the first blank, and what stands behind it.
 fn split_word(text: &[u8]) -> (&[u8], &[u8])
     ensures word { result.0.now ≡ before_first is_blank text.now }
-    ensures rest { result.1.now ≡ from_first is_blank text.now }
+    ensures rest { result.1.now ≡ after_first is_blank text.now }
 {
     match blank_at(text) {
-        Some(end) => text.split_at(end),
+        Some(end) => (&text[..end], &text[end + 1..]),
         None => (text, &[]),
     }
 }
