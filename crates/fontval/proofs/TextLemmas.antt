@@ -1,10 +1,10 @@
 -- The first line of an input, and the first word of a line.
-use Rattle.std.proofs.Common.{◌≡◌, ℕ, zero, suc, ◌+◌, ◌<◌, ◌≤◌, Bool, true, false, cond, List, [], ◌∷◌, length, map, take, drop, refl, ap, ◌∙◌, arith, Some, None}
+use Rattle.std.proofs.Common.{◌≡◌, ℕ, zero, suc, ◌+◌, ◌%◌, ◌^◌, ◌<◌, ◌≤◌, eqb, Bool, true, false, cond, List, [], ◌∷◌, length, map, replicate, take, drop, refl, ap, ◌∙◌, arith, Some, None}
 use Rattle.std.specs.List.{position_or_len, before_first, after_first, onto_first, slice_split}
-use Rattle.std.specs.Prelude.{not, position, nat_lt}
+use Rattle.std.specs.Prelude.{◌||◌, not, position, nat_lt}
 use Rattle.std.proofs.Common.{get_or, drop-cons}
 use Rattle.std.proofs.lemmas.Bool.{le-ltb, lt-ltb, ltb-false, ltb-true}
-use Rattle.std.proofs.lemmas.List.{drop_all, length-take, length-take-le}
+use Rattle.std.proofs.lemmas.List.{drop_all, length-map, length-take, length-take-le}
 use Rattle.std.proofs.lemmas.List.Quantifiers.{position-Some}
 use Rattle.std.proofs.lemmas.Option.{cond_some}
 use Rattle.std.proofs.lemmas.List.Splits.{length-slice_split}
@@ -12,9 +12,6 @@ use Rattle.std.proofs.lemmas.List.Sums.{length-filter, count_by-le-length}
 use Rattle.std.proofs.lemmas.Simd.{leading_from_mask_l, trailing_mask_l, mask_l-mod, zip2_of_maps, zip2_splat}
 use lib.Lanes.{mask_l, top, zip2}
 use lib.Bits.{bit_or}
-use Rattle.std.proofs.lemmas.List.{length-map}
-use Rattle.std.proofs.Common.{eqb, replicate, ◌%◌, ◌^◌}
-use Rattle.std.specs.Prelude.{◌||◌}
 use lib.Count.{count_trailing_zeros}
 use Rattle.fontval.specs.Text.{is_line_feed, lines_of, is_blank, is_nonempty, from_first, words_of}
 

@@ -66,7 +66,7 @@ pub enum FixedType {
 }
 
 impl Command {
-    /// The command that a word names. Each has a row.
+    /// The command that a word names. Each command has a row.
     pub fn named(word: &[u8]) -> Result<Command, Refusal>
         ensures { IsNamed word.now result }
     {

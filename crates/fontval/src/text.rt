@@ -52,7 +52,7 @@ fn split_line(input: &[u8]) -> (&[u8], &[u8])
     }
 }
 
-// Where the first line feed stands. Sixteen bytes are looked at in a row, which takes a third of the steps.
+// Where the first line feed stands. It is sought in blocks of sixteen bytes, and then in what is left.
 #[tactic(auto, using(crate::proofs::TextLemmas::none_passed, crate::proofs::TextLemmas::more_passed, crate::proofs::TextLemmas::found_behind, crate::proofs::TextLemmas::none_behind))]
 fn line_feed_at(input: &[u8]) -> Option<usize>
     ensures { result ≡ position is_line_feed input.now }
@@ -146,7 +146,7 @@ fn split_word(text: &[u8]) -> (&[u8], &[u8])
     }
 }
 
-// Where the first blank stands. Eight bytes are looked at in a row, since most words are short.
+// Where the first blank stands. It is sought in blocks of eight bytes, since most words are short.
 #[tactic(auto, using(crate::proofs::TextLemmas::none_passed, crate::proofs::TextLemmas::more_passed, crate::proofs::TextLemmas::found_behind, crate::proofs::TextLemmas::none_behind))]
 fn blank_at(text: &[u8]) -> Option<usize>
     ensures { result ≡ position is_blank text.now }
