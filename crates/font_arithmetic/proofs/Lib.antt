@@ -7,3 +7,4 @@ pub mod Width16
 pub mod Width32
 pub mod Width64
 pub mod Calls
+mod Steps

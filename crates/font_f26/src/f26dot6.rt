@@ -2,21 +2,20 @@
 #![tactic(auto, using(font_arithmetic::proofs::Width32::code_32))]
 
 ghost use Rattle.std.specs.Prelude.{◌≡◌, ◌-◌, ◌^◌, ◌<◌, ◌≤◌, ◌↔◌, ℤ, pos, neg_ℤ, ◌+ℤ◌, ◌-ℤ◌, ◌*ℤ◌, Some, IsSome, IfSome, IfNone, IfOk, length, max, unsigned_abs, FitsSigned};
-ghost use Rattle.std.specs.Int.{w32, is_negative};
-ghost use Rattle.std.specs.Result.{result_map_both};
+ghost use Rattle.std.specs.Int.{w32};
 ghost use Rattle.font_base.specs.Wrap.{FitsBits, wrap};
 ghost use Rattle.font_base.specs.Bytes.{IsBytesOf};
-ghost use Rattle.font_decimal.specs.Grammar.{IsNoDecimal};
 ghost use Rattle.font_decimal.specs.Padding.{padded_text, FillsFront};
-ghost use Rattle.font_decimal.specs.Near.{signed, near, near_magnitude};
 ghost use Rattle.font_decimal.specs.Shortest.{IsShortest};
 ghost use Rattle.font_decimal.specs.Shown.{shown};
-ghost use Rattle.font_arithmetic.specs.Operations.{IsNarrowed, IsNearestWhole, IsFloor, IsFract, clamp, differ_in_sign, IsProduct, IsQuotient, IsMulDiv, ReadsAs, IsTooFar, ReadingGives};
+ghost use Rattle.font_arithmetic.specs.Operations.{IsNarrowed, IsNearestWhole, IsFloor, IsFract, clamp, IsProduct, IsQuotient};
+ghost use Rattle.font_arithmetic.specs.Reading.{ReadsBy};
 ghost use Rattle.font_f26.specs.declared.f26dot6.F26Dot6.{F26Dot6};
 ghost use Rattle.font_f26.specs.F26Dot6.{f26dot6_bits, f26dot6_text};
 
+use font_arithmetic::{mul_div, product, read_bits_32};
 use font_base::Scalar;
-use font_decimal::{DecimalFault, Pad, Shortest, read_decimal};
+use font_decimal::{DecimalFault, Pad, Shortest};
 use std::fmt;
 use std::ops::{Add, AddAssign, Div, DivAssign, Mul, MulAssign, Neg, Sub, SubAssign};
 
@@ -151,20 +150,9 @@ impl F26Dot6 {
     ///
     /// A text outside the grammar is refused as `Syntax`, one whose nearest number is out of range as `OutOfRange`.
     pub fn from_decimal(text: &str) -> Result<Self, DecimalFault>
-        ensures ok { (x : F26Dot6) → (result ≡ Ok x) ↔ ReadsAs 32 6 text.now (f26dot6_bits x) }
-        ensures reads { IfOk result (λ x. ReadsAs 32 6 text.now (f26dot6_bits x)) }
-        ensures gives { ReadingGives 32 6 text.now (result_map_both f26dot6_bits (λ fault. fault) result) }
-        ensures printed { (x : F26Dot6) → FitsSigned w32 (f26dot6_bits x) → text.now ≡ f26dot6_text x → result ≡ Ok x }
-        ensures out_of_range { (result ≡ Err DecimalFault.OutOfRange) ↔ IsTooFar 32 6 text.now }
-        ensures syntax { (result ≡ Err DecimalFault.Syntax) ↔ IsNoDecimal text.now }
+        ensures { ReadsBy w32 6 f26dot6_bits text.now result }
     {
-        let bits = read_decimal(
-            text,
-            Self::FRACTION_BITS,
-            i64::from(i32::MIN),
-            i64::from(i32::MAX),
-        )?;
-        Ok(Self(bits as i32))
+        read_bits_32(text, Self::FRACTION_BITS).map(Self)
     }
 
     /// Writes the printed text to the front of `out`, padded, and returns the number of bytes; `None` where `out` is
@@ -185,67 +173,6 @@ impl F26Dot6 {
     {
         Shortest::new(i64::from(self.0), Self::FRACTION_BITS)
     }
-
-    // `self * a / c`, rounded once and wrapped.
-    fn mul_div(self, a: Self, c: Self) -> Self
-        ensures { IsMulDiv 32 (f26dot6_bits self) (f26dot6_bits a) (f26dot6_bits c) (f26dot6_bits result) }
-    {
-        let product = self.magnitude() * a.magnitude();
-        let negative = self.differs_in_sign(a) != c.is_negative();
-        Self::with_sign(negative, rounded_quotient(product, c.magnitude()))
-    }
-
-    fn is_negative(self) -> bool
-        ensures { result ≡ is_negative (f26dot6_bits self) }
-    {
-        self.0.is_negative()
-    }
-
-    fn differs_in_sign(self, other: Self) -> bool
-        ensures { result ≡ differ_in_sign (f26dot6_bits self) (f26dot6_bits other) }
-    {
-        self.is_negative() != other.is_negative()
-    }
-
-    // The bits without their sign.
-    fn magnitude(self) -> u64
-        ensures value { result ≡ unsigned_abs (f26dot6_bits self) }
-        ensures bound { result ≤ 2 ^ 31 }
-    {
-        u64::from(self.0.unsigned_abs())
-    }
-
-    // The number whose bits have this magnitude, negated where asked, and wrapped.
-    fn with_sign(negative: bool, magnitude: u64) -> Self
-        ensures { f26dot6_bits result ≡ wrap 32 (signed negative magnitude) }
-    {
-        let number = Self(((magnitude % (1 << 32)) as u32).cast_signed());
-        if negative { -number } else { number }
-    }
-}
-
-// `n / 2^6` rounded to the nearest whole number, ties away from zero.
-fn nearest_steps(n: i64) -> i64
-    requires { unsigned_abs n ≤ 2 ^ 62 }
-    ensures { result ≡ near n 64 }
-{
-    if n < 0 { (n + 31) >> 6 } else { (n + 32) >> 6 }
-}
-
-// The last 32 bits of a number, as a signed one.
-fn low_bits(n: i64) -> i32
-    ensures { result ≡ wrap 32 n }
-{
-    (n.rem_euclid(1 << 32) as u32).cast_signed()
-}
-
-// `n / d` rounded to the nearest whole number, ties away from zero; where `d` is zero, the greatest of 32 bits.
-fn rounded_quotient(n: u64, d: u64) -> u64
-    requires { (n ≤ 2 ^ 62) × (d ≤ 2 ^ 31) }
-    ensures quotient { 0 < d → result ≡ near_magnitude n d }
-    ensures zero { d ≡ 0 → result ≡ 2 ^ 31 - 1 }
-{
-    if d == 0 { 0x7FFF_FFFF } else { (n + d / 2) / d }
 }
 
 impl Add for F26Dot6 {
@@ -300,8 +227,7 @@ impl Mul for F26Dot6 {
     ghost mul_gives = { λ x y product. IsProduct 32 6 (f26dot6_bits x) (f26dot6_bits y) (f26dot6_bits product) };
 
     fn mul(self, other: F26Dot6) -> F26Dot6 {
-        let product = i64::from(self.0) * i64::from(other.0);
-        Self(low_bits(nearest_steps(product)))
+        Self(product(self.0, other.0, Self::FRACTION_BITS))
     }
 }
 
@@ -320,7 +246,7 @@ impl Div for F26Dot6 {
     ghost div_gives = { λ x y quotient. IsQuotient 32 6 (f26dot6_bits x) (f26dot6_bits y) (f26dot6_bits quotient) };
 
     fn div(self, other: F26Dot6) -> F26Dot6 {
-        self.mul_div(Self::ONE, other)
+        Self(mul_div(self.0, Self::ONE.0, other.0))
     }
 }
 

@@ -3,21 +3,21 @@
 
 ghost use Rattle.std.specs.Prelude.{◌≡◌, ◌^◌, ◌<◌, ◌≤◌, ◌↔◌, ℤ, pos, neg_ℤ, ◌+ℤ◌, ◌-ℤ◌, ◌*ℤ◌, Some, IsSome, IfSome, IfNone, IfOk, length, max, unsigned_abs, FitsSigned};
 ghost use Rattle.std.specs.Int.{w64};
-ghost use Rattle.std.specs.Result.{result_map_both};
 ghost use Rattle.font_base.specs.Wrap.{FitsBits, wrap};
 ghost use Rattle.font_base.specs.Bytes.{IsBytesOf};
-ghost use Rattle.font_decimal.specs.Grammar.{IsNoDecimal};
 ghost use Rattle.font_decimal.specs.Padding.{padded_text, FillsFront};
 ghost use Rattle.font_decimal.specs.Shortest.{IsShortest};
 ghost use Rattle.font_decimal.specs.Shown.{shown};
-ghost use Rattle.font_arithmetic.specs.Operations.{IsNarrowed, IsNearestWhole, IsFloor, IsFract, clamp, ReadsAs, IsTooFar, ReadingGives};
+ghost use Rattle.font_arithmetic.specs.Operations.{IsNarrowed, IsNearestWhole, IsFloor, IsFract, clamp};
+ghost use Rattle.font_arithmetic.specs.Reading.{ReadsBy};
 ghost use Rattle.font_fixed.specs.declared.f48dot16.F48Dot16.{F48Dot16};
 ghost use Rattle.font_fixed.specs.F48Dot16.{f48dot16_bits, f48dot16_text};
 ghost use Rattle.font_fixed.specs.Fixed.{fixed_bits};
 
 use crate::fixed::Fixed;
+use font_arithmetic::{low_bits, read_bits_64};
 use font_base::Scalar;
-use font_decimal::{DecimalFault, Pad, Shortest, read_decimal};
+use font_decimal::{DecimalFault, Pad, Shortest};
 use std::fmt;
 use std::ops::{Add, AddAssign, Neg, Sub, SubAssign};
 
@@ -173,15 +173,9 @@ impl F48Dot16 {
     ///
     /// A text outside the grammar is refused as `Syntax`, one whose nearest number is out of range as `OutOfRange`.
     pub fn from_decimal(text: &str) -> Result<Self, DecimalFault>
-        ensures ok { (x : F48Dot16) → (result ≡ Ok x) ↔ ReadsAs 64 16 text.now (f48dot16_bits x) }
-        ensures reads { IfOk result (λ x. ReadsAs 64 16 text.now (f48dot16_bits x)) }
-        ensures gives { ReadingGives 64 16 text.now (result_map_both f48dot16_bits (λ fault. fault) result) }
-        ensures printed { (x : F48Dot16) → FitsSigned w64 (f48dot16_bits x) → text.now ≡ f48dot16_text x → result ≡ Ok x }
-        ensures out_of_range { (result ≡ Err DecimalFault.OutOfRange) ↔ IsTooFar 64 16 text.now }
-        ensures syntax { (result ≡ Err DecimalFault.Syntax) ↔ IsNoDecimal text.now }
+        ensures { ReadsBy w64 16 f48dot16_bits text.now result }
     {
-        let bits = read_decimal(text, Self::FRACTION_BITS, i64::MIN, i64::MAX)?;
-        Ok(Self(bits))
+        read_bits_64(text, Self::FRACTION_BITS).map(Self)
     }
 
     /// Writes the printed text to the front of `out`, padded, and returns the number of bytes; `None` where `out` is
@@ -202,13 +196,6 @@ impl F48Dot16 {
     {
         Shortest::new(self.0, Self::FRACTION_BITS)
     }
-}
-
-// The last 32 bits of a number, as a signed one.
-fn low_bits(n: i64) -> i32
-    ensures { result ≡ wrap 32 n }
-{
-    (n.rem_euclid(1 << 32) as u32).cast_signed()
 }
 
 impl Add for F48Dot16 {

@@ -4,20 +4,20 @@
 ghost use Rattle.std.specs.Prelude.{◌≡◌, ◌^◌, ◌<◌, ◌≤◌, ◌↔◌, ℤ, pos, neg_ℤ, ◌+ℤ◌, ◌-ℤ◌, Some, IsSome, IfSome, IfNone, IfOk, refl, length, max, unsigned_abs, FitsSigned};
 ghost use Rattle.std.proofs.Common.{lit<};
 ghost use Rattle.std.specs.Int.{w32};
-ghost use Rattle.std.specs.Result.{result_map_both};
 ghost use Rattle.font_base.specs.Wrap.{FitsBits, fits_bits, wrap};
 ghost use Rattle.font_base.specs.Bytes.{IsBytesOf, bytes_of, signed_numeral};
 ghost use Rattle.font_base.specs.Scalar.Laws.{signed_newtype, signed_identity};
-ghost use Rattle.font_decimal.specs.Grammar.{IsNoDecimal};
 ghost use Rattle.font_decimal.specs.Padding.{padded_text, FillsFront};
 ghost use Rattle.font_decimal.specs.Shortest.{IsShortest};
 ghost use Rattle.font_decimal.specs.Shown.{shown};
-ghost use Rattle.font_arithmetic.specs.Operations.{IsNearestWhole, IsFloor, IsFract, clamp, ReadsAs, IsTooFar, ReadingGives};
+ghost use Rattle.font_arithmetic.specs.Operations.{IsNearestWhole, IsFloor, IsFract, clamp};
+ghost use Rattle.font_arithmetic.specs.Reading.{ReadsBy};
 ghost use Rattle.font_fixed2.specs.declared.f2dot30.F2Dot30.{F2Dot30};
 ghost use Rattle.font_fixed2.specs.F2Dot30.{f2dot30_bits, f2dot30_of, f2dot30_text};
 
+use font_arithmetic::read_bits_32;
 use font_base::{FixedSize, IdentityEq, Scalar};
-use font_decimal::{DecimalFault, Pad, Shortest, read_decimal};
+use font_decimal::{DecimalFault, Pad, Shortest};
 use std::fmt;
 use std::ops::{Add, AddAssign, Neg, Sub, SubAssign};
 
@@ -138,20 +138,9 @@ impl F2Dot30 {
     ///
     /// A text outside the grammar is refused as `Syntax`, one whose nearest number is out of range as `OutOfRange`.
     pub fn from_decimal(text: &str) -> Result<Self, DecimalFault>
-        ensures ok { (x : F2Dot30) → (result ≡ Ok x) ↔ ReadsAs 32 30 text.now (f2dot30_bits x) }
-        ensures reads { IfOk result (λ x. ReadsAs 32 30 text.now (f2dot30_bits x)) }
-        ensures gives { ReadingGives 32 30 text.now (result_map_both f2dot30_bits (λ fault. fault) result) }
-        ensures printed { (x : F2Dot30) → FitsSigned w32 (f2dot30_bits x) → text.now ≡ f2dot30_text x → result ≡ Ok x }
-        ensures out_of_range { (result ≡ Err DecimalFault.OutOfRange) ↔ IsTooFar 32 30 text.now }
-        ensures syntax { (result ≡ Err DecimalFault.Syntax) ↔ IsNoDecimal text.now }
+        ensures { ReadsBy w32 30 f2dot30_bits text.now result }
     {
-        let bits = read_decimal(
-            text,
-            Self::FRACTION_BITS,
-            i64::from(i32::MIN),
-            i64::from(i32::MAX),
-        )?;
-        Ok(Self(bits as i32))
+        read_bits_32(text, Self::FRACTION_BITS).map(Self)
     }
 
     /// Writes the printed text to the front of `out`, padded, and returns the number of bytes; `None` where `out` is

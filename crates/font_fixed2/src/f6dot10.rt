@@ -4,20 +4,20 @@
 ghost use Rattle.std.specs.Prelude.{◌≡◌, ◌^◌, ◌<◌, ◌≤◌, ◌↔◌, ℤ, pos, neg_ℤ, ◌+ℤ◌, ◌-ℤ◌, Some, IsSome, IfSome, IfNone, IfOk, refl, length, max, unsigned_abs, FitsSigned};
 ghost use Rattle.std.proofs.Common.{lit<};
 ghost use Rattle.std.specs.Int.{w16};
-ghost use Rattle.std.specs.Result.{result_map_both};
 ghost use Rattle.font_base.specs.Wrap.{FitsBits, fits_bits, wrap};
 ghost use Rattle.font_base.specs.Bytes.{IsBytesOf, bytes_of, signed_numeral};
 ghost use Rattle.font_base.specs.Scalar.Laws.{signed_newtype, signed_identity};
-ghost use Rattle.font_decimal.specs.Grammar.{IsNoDecimal};
 ghost use Rattle.font_decimal.specs.Padding.{padded_text, FillsFront};
 ghost use Rattle.font_decimal.specs.Shortest.{IsShortest};
 ghost use Rattle.font_decimal.specs.Shown.{shown};
-ghost use Rattle.font_arithmetic.specs.Operations.{IsNearestWhole, IsFloor, IsFract, clamp, ReadsAs, IsTooFar, ReadingGives};
+ghost use Rattle.font_arithmetic.specs.Operations.{IsNearestWhole, IsFloor, IsFract, clamp};
+ghost use Rattle.font_arithmetic.specs.Reading.{ReadsBy};
 ghost use Rattle.font_fixed2.specs.declared.f6dot10.F6Dot10.{F6Dot10};
 ghost use Rattle.font_fixed2.specs.F6Dot10.{f6dot10_bits, f6dot10_of, f6dot10_text};
 
+use font_arithmetic::read_bits_16;
 use font_base::{FixedSize, IdentityEq, Scalar};
-use font_decimal::{DecimalFault, Pad, Shortest, read_decimal};
+use font_decimal::{DecimalFault, Pad, Shortest};
 use std::fmt;
 use std::ops::{Add, AddAssign, Neg, Sub, SubAssign};
 
@@ -138,20 +138,9 @@ impl F6Dot10 {
     ///
     /// A text outside the grammar is refused as `Syntax`, one whose nearest number is out of range as `OutOfRange`.
     pub fn from_decimal(text: &str) -> Result<Self, DecimalFault>
-        ensures ok { (x : F6Dot10) → (result ≡ Ok x) ↔ ReadsAs 16 10 text.now (f6dot10_bits x) }
-        ensures reads { IfOk result (λ x. ReadsAs 16 10 text.now (f6dot10_bits x)) }
-        ensures gives { ReadingGives 16 10 text.now (result_map_both f6dot10_bits (λ fault. fault) result) }
-        ensures printed { (x : F6Dot10) → FitsSigned w16 (f6dot10_bits x) → text.now ≡ f6dot10_text x → result ≡ Ok x }
-        ensures out_of_range { (result ≡ Err DecimalFault.OutOfRange) ↔ IsTooFar 16 10 text.now }
-        ensures syntax { (result ≡ Err DecimalFault.Syntax) ↔ IsNoDecimal text.now }
+        ensures { ReadsBy w16 10 f6dot10_bits text.now result }
     {
-        let bits = read_decimal(
-            text,
-            Self::FRACTION_BITS,
-            i64::from(i16::MIN),
-            i64::from(i16::MAX),
-        )?;
-        Ok(Self(bits as i16))
+        read_bits_16(text, Self::FRACTION_BITS).map(Self)
     }
 
     /// Writes the printed text to the front of `out`, padded, and returns the number of bytes; `None` where `out` is
