@@ -15,11 +15,10 @@ use Rattle.font_decimal.specs.declared.reader.DecimalFault.TheVariants.{Syntax, 
 use Rattle.font_decimal.specs.Padding.{padded_text}
 use Rattle.font_decimal.specs.declared.padding.Pad.{Pad}
 use Rattle.font_decimal.proofs.Padded.{padded_fits}
-use Rattle.font_decimal.proofs.Printed.{shortest_length}
+use Rattle.font_decimal.proofs.Printed.{shortest_length, printed_rounds}
 use Rattle.font_decimal.proofs.Readings.{rounds_unique, reading_unique, answers_as}
 use Rattle.font_arithmetic.specs.Operations.{least, greatest, ReadsAs, ReadingGives}
 use Rattle.font_arithmetic.specs.Reading.{ReadsBy}
-use Rattle.font_arithmetic.proofs.Group.{printed_reads}
 
 -- the number is cast to the type of the bits
 pub cast_reads : (w : Width) (f : ℕ) (text : List ℕ) (b min max : ℤ) → 2 ^ hbits w ≤ 2 ^ 63 → min ≡ least (bits w) → max ≡ greatest (bits w) → Reads text f min max b
@@ -33,6 +32,12 @@ cast_reads w f text b min max room low high reads =
     rw (to_z-of_z w64 b wide, to_z-of_z w b narrow) (record { rounds = reads.rounds; low = above; high = below })
 
 -- the printed text of a number is read as that number
+pub printed_reads : (w f : ℕ) (b : ℤ) → 2 ^ (w - 1) ≤ 2 ^ 63 → FitsBits w b → ReadsAs w f (shortest_text b f) b
+printed_reads w f b room fits =
+    let below : unsigned_abs b ≤ 2 ^ 63 = omega (arith, ints, fits.low, fits.high, abs_is b, room) in
+    record { rounds = printed_rounds b f below; low = fits.low; high = omega (arith, ints, fits.high) }
+
+-- and in a type of its own
 pub printed_is_read_as : {T : Type 0} (bits_of : T → ℤ) (of_bits : ℤ → T) → ((x : T) → of_bits (bits_of x) ≡ x) → (w f : ℕ) (text : List ℕ) (result : Result T DecimalFault)
     → 2 ^ (w - 1) ≤ 2 ^ 63 → ReadingGives w f text (result_map_both bits_of (λ fault. fault) result)
     → (x : T) → FitsBits w (bits_of x) → text ≡ shortest_text (bits_of x) f → result ≡ Ok x

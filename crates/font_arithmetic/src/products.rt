@@ -1,5 +1,5 @@
 //! Products and quotients of fixed-point numbers of 32 bits, over their bits.
-#![tactic(auto, using(crate::proofs::Width32::code_32))]
+#![tactic(auto, using(crate::proofs::Width32::code_32, crate::proofs::Quotients::signed_code))]
 
 ghost use Rattle.std.specs.Prelude.{◌≡◌, ◌-◌, ◌^◌, ◌<◌, ◌≤◌, ℤ, ◌*ℤ◌, unsigned_abs};
 ghost use Rattle.std.specs.Int.{is_negative};

@@ -19,10 +19,6 @@ use Rattle.font_decimal.proofs.Readings.{rounds_unique, reading_unique}
 use Rattle.font_decimal.proofs.Fewest.{IsFewest, fewest_is, zero_drops, unit_below}
 use Rattle.font_decimal.proofs.Written.{shortest_is, whole_fits, digits_fit, point_length}
 
--- the text of a value is its shortest decimal
-pub printed_is_shortest : (b : ℤ) (f : ℕ) → unsigned_abs b ≤ 2 ^ 63 → IsShortest b f (shortest_text b f)
-printed_is_shortest = shortest_is
-
 -- a shortest text is in the grammar
 pub shortest_is_decimal : (b : ℤ) (f : ℕ) (text : List ℕ) → IsShortest b f text → IsDecimal text
 shortest_is_decimal b f text s = record { numeral = s.numeral; places = s.places; decimal = s.plain.decimal }

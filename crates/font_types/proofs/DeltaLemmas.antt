@@ -2,7 +2,7 @@
 use Rattle.std.proofs.Common.{◌≡◌, ◌∙◌, sym, ap, ℕ, ◌+◌, ◌<◌, List, length, take, get_or, ℤ, pos, ◌+ℤ◌, lit<}
 use Rattle.std.proofs.lemmas.List.Sums.{fold_more}
 use Rattle.font_base.specs.Wrap.{wrap}
-use Rattle.font_arithmetic.proofs.Group.{wrap-add_left}
+use Rattle.font_base.specs.Wrap.Laws.{wrap-add_left}
 use Rattle.font_fixed.specs.declared.fixed.Fixed.{Fixed}
 use Rattle.font_types.specs.Delta.{term_product, exact_sum}
 

@@ -9,7 +9,7 @@ use Rattle.font_base.specs.Wrap.Laws.{fits_bits-true}
 use Rattle.font_decimal.specs.Shortest.{shortest_text}
 use Rattle.font_decimal.proofs.Readings.{rounds_unique}
 use Rattle.font_arithmetic.specs.Operations.{ReadsAs, least, greatest}
-use Rattle.font_arithmetic.proofs.Group.{printed_reads}
+use Rattle.font_arithmetic.proofs.Texts.{printed_reads}
 use Rattle.font_types.specs.declared.json.JsonFault.{JsonFault}
 use Rattle.font_types.specs.declared.json.JsonFault.TheVariants.{Memory, WrongKind, OutOfRange, Syntax, NotUtf8, InvalidTag, MissingMember}
 use Rattle.font_types.specs.Json.{IsTextRead, IsDecimalRead, whole_number, IsTagMade, IsTagRead, TagComesBack, version_form, version_read}

@@ -1,7 +1,7 @@
 use Rattle.std.proofs.Common.{rules}
 use Rattle.std.specs.Int.{w32}
 use Rattle.std.proofs.lemmas.Int.{to_z-of_z}
-use Rattle.font_arithmetic.proofs.Rounding.{signed_is_mul_div}
+use Rattle.font_arithmetic.proofs.Quotients.{signed_is_mul_div}
 use Rattle.font_arithmetic.proofs.products.mul_div.Goals as goal
 
 pub returns : goal.returns

@@ -1,6 +1,6 @@
 use Rattle.std.proofs.Common.{rules}
 use Rattle.std.proofs.lemmas.Nat.{pow_pos}
-use Rattle.font_arithmetic.proofs.Width32.{product_32}
+use Rattle.font_arithmetic.proofs.Steps.{product_32}
 use Rattle.font_arithmetic.proofs.products.product.Goals as goal
 
 pub returns : goal.returns
