@@ -18,6 +18,19 @@ fn signed_bytes_of_24_bits(rt: HostRuntime) {
     }
 }
 
+// Every 257th number of 24 bits, so that each byte takes each value, and the ends.
+#[test]
+fn signed_bytes_of_many_numbers(rt: HostRuntime) {
+    for step in 0..65281i32 {
+        let number = Int24::new(step * 257 - 8388608);
+        assert!(rt;
+            Int24::from_be_bytes(number.to_be_bytes()) == number,
+            "{number}"
+        );
+    }
+    assert!(rt; Int24::new(65280 * 257 - 8388608) < Int24::MAX);
+}
+
 #[test]
 fn unsigned_bytes_of_24_bits(rt: HostRuntime) {
     for (number, bytes) in [
@@ -34,15 +47,27 @@ fn unsigned_bytes_of_24_bits(rt: HostRuntime) {
 fn ends_of_signed_24_bits(rt: HostRuntime) {
     assert!(rt; Int24::new(8388608) == Int24::MAX);
     assert!(rt; Int24::new(-8388609) == Int24::MIN);
-    assert!(rt; Int24::checked_new(8388608).is_none());
-    assert!(rt; Int24::checked_new(-8388608) == Some(Int24::MIN));
+    for (number, checked) in [
+        (8388608, None),
+        (8388607, Some(Int24::MAX)),
+        (-8388608, Some(Int24::MIN)),
+        (-8388609, None),
+    ] {
+        assert!(rt; Int24::checked_new(number) == checked);
+    }
+    assert_eq!(rt; Int24::default().to_i32(), 0);
 }
 
 #[test]
 fn ends_of_unsigned_24_bits(rt: HostRuntime) {
     assert!(rt; Uint24::new(16777216) == Uint24::MAX);
-    assert!(rt; Uint24::checked_new(16777216).is_none());
-    assert!(rt; Uint24::checked_new(16777215) == Some(Uint24::MAX));
+    for (number, checked) in [
+        (16777216, None),
+        (16777215, Some(Uint24::MAX)),
+        (0, Some(Uint24::MIN)),
+    ] {
+        assert!(rt; Uint24::checked_new(number) == checked);
+    }
     assert!(rt; Uint24::try_from(16777216usize).is_err());
 }
 
