@@ -403,3 +403,15 @@ fn texts_and_numbers_of_faults(rt: HostRuntime) -> Result<(), Fail> {
     assert_eq!(rt; reads_in_order("0.5", "-1", 6, -64, 64), (Ok(32), Ok(-64)));
     Ok(())
 }
+
+// No flag of a format is heard.
+#[test]
+fn prints_without_flags(rt: HostRuntime) -> Result<(), Fail> {
+    for (bits, f, text) in [(9830, 14, "0.6"), (-98304, 16, "-1.5")] {
+        let number = Shortest::new(bits, f);
+        let flagged = format!(in rt.alloc(); "{number:8}|{number:.0}|{number:+}")?;
+        let plain = format!(in rt.alloc(); "{text}|{text}|{text}")?;
+        assert_eq!(rt; flagged.as_str(), plain.as_str());
+    }
+    Ok(())
+}

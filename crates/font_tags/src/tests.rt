@@ -1,4 +1,5 @@
 //! Values from the OpenType data types and from the original crate.
 
 mod tags;
+mod traits;
 mod versions;

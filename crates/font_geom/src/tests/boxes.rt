@@ -27,6 +27,32 @@ fn turned_round_by_a_negative_factor(rt: HostRuntime) {
 }
 
 #[test]
+fn each_side_scaled(rt: HostRuntime) {
+    assert!(rt; sides(1, 2, 3, 4).scale(5) == sides(5, 10, 15, 20));
+    for (x_min, y_min, x_max, y_max, normalized) in [
+        (1, 2, 3, 4, true),
+        (1, 4, 3, 2, false),
+        (3, 2, 1, 4, false),
+        (3, 4, 1, 2, false),
+    ] {
+        assert!(rt; sides(x_min, y_min, x_max, y_max).is_normalized() == normalized);
+    }
+}
+
+#[test]
+fn unequal_in_one_side(rt: HostRuntime) {
+    let one = sides(1, 2, 3, 4);
+    for other in [
+        sides(0, 2, 3, 4),
+        sides(1, 0, 3, 4),
+        sides(1, 2, 0, 4),
+        sides(1, 2, 3, 0),
+    ] {
+        assert!(rt; one != other);
+    }
+}
+
+#[test]
 fn normalized_by_pairs(rt: HostRuntime) {
     assert!(rt; sides(1, 4, 3, 2).normalize() == sides(1, 2, 3, 4));
     assert!(rt; sides(3, 2, 1, 4).normalize() == sides(1, 2, 3, 4));
