@@ -18,17 +18,18 @@ fn signed_bytes_of_24_bits(rt: HostRuntime) {
     }
 }
 
-// Every 257th number of 24 bits, so that each byte takes each value, and the ends.
+// Each pair of upper bytes, with a lower one that varies with both: 65,536 numbers of both signs.
 #[test]
 fn signed_bytes_of_many_numbers(rt: HostRuntime) {
-    for step in 0..65281i32 {
-        let number = Int24::new(step * 257 - 8388608);
-        assert!(rt;
-            Int24::from_be_bytes(number.to_be_bytes()) == number,
-            "{number}"
-        );
+    for high in 0..=255u8 {
+        for middle in 0..=255u8 {
+            let bytes = [high, middle, high ^ middle];
+            let sign = if high < 0x80 { 0 } else { 0xFF };
+            let number = i32::from_be_bytes([sign, high, middle, high ^ middle]);
+            assert!(rt; Int24::new(number).to_be_bytes() == bytes);
+            assert_eq!(rt; Int24::from_be_bytes(bytes).to_i32(), number);
+        }
     }
-    assert!(rt; Int24::new(65280 * 257 - 8388608) < Int24::MAX);
 }
 
 #[test]
