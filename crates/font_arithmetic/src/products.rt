@@ -1,13 +1,14 @@
 //! Products and quotients of fixed-point numbers of 32 bits, over their bits.
 #![tactic(auto, using(crate::proofs::Width32::code_32, crate::proofs::Quotients::signed_code))]
 
-ghost use Rattle.std.specs.Prelude.{◌≡◌, ◌-◌, ◌^◌, ◌<◌, ◌≤◌, ℤ, ◌*ℤ◌, unsigned_abs};
+ghost use Rattle.std.specs.Prelude.{◌≡◌, ◌-◌, ◌^◌, ◌<◌, ◌≤◌, unsigned_abs};
 ghost use Rattle.std.specs.Int.{is_negative};
 ghost use Rattle.font_base.specs.Wrap.{wrap};
 ghost use Rattle.font_decimal.specs.Near.{signed, near, near_magnitude};
 ghost use Rattle.font_arithmetic.specs.Operations.{differ_in_sign, IsProduct, IsMulDiv};
 
-/// The product of two numbers with `f` bits of fraction, rounded to the nearest step, ties away from zero, and wrapped.
+/// The product of two numbers with `f` bits of fraction, rounded to the nearest step, ties away
+/// from zero, and wrapped.
 pub fn product(x: i32, y: i32, f: u32) -> i32
     requires { (6 ≤ f) × (f ≤ 30) }
     ensures { IsProduct 32 f x y result }
@@ -17,7 +18,8 @@ pub fn product(x: i32, y: i32, f: u32) -> i32
 
 /// `x * a / c`, rounded once to the nearest whole number, ties away from zero, and wrapped.
 ///
-/// Where `c` is zero it is the greatest number of 32 bits, negated where just one of `x` and `a` is negative.
+/// Where `c` is zero it is the greatest number of 32 bits, negated where just one of `x` and `a` is
+/// negative.
 pub fn mul_div(x: i32, a: i32, c: i32) -> i32
     ensures { IsMulDiv 32 x a c result }
 {
@@ -47,7 +49,8 @@ fn nearest_steps(n: i64, f: u32) -> i64
     }
 }
 
-// `n / d` rounded to the nearest whole number, ties away from zero; where `d` is zero, the greatest of 32 bits.
+// `n / d` rounded to the nearest whole number, ties away from zero; where `d` is zero, the greatest
+// of 32 bits.
 fn rounded_quotient(n: u64, d: u64) -> u64
     requires { (n ≤ 2 ^ 62) × (d ≤ 2 ^ 31) }
     ensures quotient { 0 < d → result ≡ near_magnitude n d }

@@ -6,7 +6,8 @@ ghost use Rattle.font_arithmetic.specs.Reading.{ReadsBy};
 
 use font_decimal::{DecimalFault, read_decimal};
 
-/// The bits of the number nearest to a decimal text, ties away from zero, of 16 bits, `f` of which are its fraction.
+/// The bits of the number nearest to a decimal text, ties away from zero, of 16 bits, `f` of which
+/// are its fraction.
 pub fn read_bits_16(text: &str, f: u32) -> Result<i16, DecimalFault>
     requires { (6 ≤ f) × (f ≤ 30) }
     ensures { ReadsBy w16 f (λ bits. bits) text.now result }
@@ -15,7 +16,8 @@ pub fn read_bits_16(text: &str, f: u32) -> Result<i16, DecimalFault>
     Ok(bits as i16)
 }
 
-/// The bits of the number nearest to a decimal text, ties away from zero, of 32 bits, `f` of which are its fraction.
+/// The bits of the number nearest to a decimal text, ties away from zero, of 32 bits, `f` of which
+/// are its fraction.
 pub fn read_bits_32(text: &str, f: u32) -> Result<i32, DecimalFault>
     requires { (6 ≤ f) × (f ≤ 30) }
     ensures { ReadsBy w32 f (λ bits. bits) text.now result }
@@ -24,7 +26,8 @@ pub fn read_bits_32(text: &str, f: u32) -> Result<i32, DecimalFault>
     Ok(bits as i32)
 }
 
-/// The bits of the number nearest to a decimal text, ties away from zero, of 64 bits, `f` of which are its fraction.
+/// The bits of the number nearest to a decimal text, ties away from zero, of 64 bits, `f` of which
+/// are its fraction.
 pub fn read_bits_64(text: &str, f: u32) -> Result<i64, DecimalFault>
     requires { (6 ≤ f) × (f ≤ 30) }
     ensures { ReadsBy w64 f (λ bits. bits) text.now result }

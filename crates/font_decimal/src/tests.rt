@@ -1,4 +1,4 @@
-// Worked values, and what no clause says: texts of faults, and that long texts are read.
+//! Worked values, and what no clause says: texts of faults, and that long texts are read.
 ghost use Rattle.std.specs.Prelude.{◌≡◌, ◌≤◌};
 
 use crate::laws::reads_in_order;
@@ -122,7 +122,8 @@ fn reads_to_the_ends_of_64_bits(rt: HostRuntime) {
     }
 }
 
-// Half a step of 1 / 2^30 has 31 digits, and half a step of 1 / 2^19 is the first whose 20 digits do not fit 64 bits.
+// Half a step of 1 / 2^30 has 31 digits, and half a step of 1 / 2^19 is the first whose 20 digits
+// do not fit 64 bits.
 #[test]
 fn reads_long_fractions(rt: HostRuntime) {
     for (text, f, want) in [

@@ -1,14 +1,16 @@
 //! The fixed-point number of 32 bits with 6 bits of fraction.
 #![tactic(auto, using(font_arithmetic::proofs::Width32::code_32))]
 
-ghost use Rattle.std.specs.Prelude.{◌≡◌, ◌-◌, ◌^◌, ◌<◌, ◌≤◌, ◌↔◌, ℤ, pos, neg_ℤ, ◌+ℤ◌, ◌-ℤ◌, ◌*ℤ◌, Some, IsSome, IfSome, IfNone, IfOk, length, max, unsigned_abs, FitsSigned};
+ghost use Rattle.std.specs.Prelude.{◌≡◌, ◌-◌, ◌^◌, ◌<◌, ◌≤◌, ◌↔◌, ℤ, pos, neg_ℤ, ◌+ℤ◌, ◌-ℤ◌, ◌*ℤ◌};
+ghost use Rattle.std.specs.Prelude.{Some, IsSome, IfSome, IfNone, length, max, unsigned_abs};
 ghost use Rattle.std.specs.Int.{w32};
 ghost use Rattle.font_base.specs.Wrap.{FitsBits, wrap};
 ghost use Rattle.font_base.specs.Bytes.{IsBytesOf};
 ghost use Rattle.font_decimal.specs.Padding.{padded_text, FillsFront};
 ghost use Rattle.font_decimal.specs.Shortest.{IsShortest};
 ghost use Rattle.font_decimal.specs.Shown.{shown};
-ghost use Rattle.font_arithmetic.specs.Operations.{IsNarrowed, IsNearestWhole, IsFloor, IsFract, clamp, IsProduct, IsQuotient};
+ghost use Rattle.font_arithmetic.specs.Operations.{IsNarrowed, IsNearestWhole, IsFloor, IsFract};
+ghost use Rattle.font_arithmetic.specs.Operations.{clamp, IsProduct, IsQuotient};
 ghost use Rattle.font_arithmetic.specs.Reading.{ReadsBy};
 ghost use Rattle.font_f26.specs.declared.f26dot6.F26Dot6.{F26Dot6};
 ghost use Rattle.font_f26.specs.F26Dot6.{f26dot6_bits, f26dot6_text};
@@ -19,10 +21,11 @@ use font_decimal::{DecimalFault, Pad, Shortest};
 use std::fmt;
 use std::ops::{Add, AddAssign, Div, DivAssign, Mul, MulAssign, Neg, Sub, SubAssign};
 
-/// A fixed-point number of 32 bits, the last 6 of which are its fraction: the unit of scaled outlines.
+/// A fixed-point number of 32 bits, the last 6 of which are its fraction: the unit of scaled
+/// outlines.
 ///
-/// Its bits are counted in steps of `1 / 64`: `F26Dot6::from_bits(96)` is 1.5. Sums, products and quotients that leave the range
-/// wrap.
+/// Its bits are counted in steps of `1 / 64`: `F26Dot6::from_bits(96)` is 1.5. Sums, products and
+/// quotients that leave the range wrap.
 #[derive(Clone, Copy, PartialEq, Eq, PartialOrd, Ord, Hash, Default)]
 pub struct F26Dot6(i32);
 
@@ -120,7 +123,8 @@ impl F26Dot6 {
     /// The sum, or `None` where it is out of range.
     pub fn checked_add(self, other: Self) -> Option<Self>
         ensures variant { IsSome result ↔ FitsBits 32 (f26dot6_bits self +ℤ f26dot6_bits other) }
-        ensures value { IfSome result (λ sum. f26dot6_bits sum ≡ (f26dot6_bits self +ℤ f26dot6_bits other)) }
+        ensures value { IfSome result
+            (λ sum. f26dot6_bits sum ≡ (f26dot6_bits self +ℤ f26dot6_bits other)) }
     {
         Some(Self(self.0.checked_add(other.0)?))
     }
@@ -148,19 +152,22 @@ impl F26Dot6 {
 
     /// The number nearest to a decimal text, ties away from zero.
     ///
-    /// A text outside the grammar is refused as `Syntax`, one whose nearest number is out of range as `OutOfRange`.
+    /// A text outside the grammar is refused as `Syntax`, one whose nearest number is out of range
+    /// as `OutOfRange`.
     pub fn from_decimal(text: &str) -> Result<Self, DecimalFault>
         ensures { ReadsBy w32 6 f26dot6_bits text.now result }
     {
         read_bits_32(text, Self::FRACTION_BITS).map(Self)
     }
 
-    /// Writes the printed text to the front of `out`, padded, and returns the number of bytes; `None` where `out` is
-    /// too short, which then stays as it was.
+    /// Writes the printed text to the front of `out`, padded, and returns the number of bytes;
+    /// `None` where `out` is too short, which then stays as it was.
     pub fn write_padded(self, out: &mut [u8], pad: &Pad) -> Option<usize>
         requires { pad.now.fill < 128 }
-        ensures written { IfSome result (λ n. FillsFront (padded_text (f26dot6_text self) pad.now) n out.old out.new) }
-        ensures room { IsSome result ↔ (length (padded_text (f26dot6_text self) pad.now) ≤ length out.old) }
+        ensures written { IfSome result
+            (λ n. FillsFront (padded_text (f26dot6_text self) pad.now) n out.old out.new) }
+        ensures room { IsSome result
+            ↔ (length (padded_text (f26dot6_text self) pad.now) ≤ length out.old) }
         ensures cell { max 23 pad.now.width ≤ length out.old → IsSome result }
         ensures untouched { IfNone result (out.new ≡ out.old) }
     {
@@ -186,7 +193,8 @@ impl Add for F26Dot6 {
 }
 
 impl AddAssign for F26Dot6 {
-    ghost add_assign_gives = { λ x y sum. f26dot6_bits sum ≡ wrap 32 (f26dot6_bits x +ℤ f26dot6_bits y) };
+    ghost add_assign_gives = { λ x y sum. f26dot6_bits sum
+        ≡ wrap 32 (f26dot6_bits x +ℤ f26dot6_bits y) };
 
     fn add_assign(&mut self, other: F26Dot6) {
         *self = *self + other;
@@ -196,7 +204,8 @@ impl AddAssign for F26Dot6 {
 impl Sub for F26Dot6 {
     type Output = F26Dot6;
 
-    ghost sub_gives = { λ x y rest. f26dot6_bits rest ≡ wrap 32 (f26dot6_bits x -ℤ f26dot6_bits y) };
+    ghost sub_gives = { λ x y rest. f26dot6_bits rest
+        ≡ wrap 32 (f26dot6_bits x -ℤ f26dot6_bits y) };
 
     fn sub(self, other: F26Dot6) -> F26Dot6 {
         self.wrapping_sub(other)
@@ -204,7 +213,8 @@ impl Sub for F26Dot6 {
 }
 
 impl SubAssign for F26Dot6 {
-    ghost sub_assign_gives = { λ x y rest. f26dot6_bits rest ≡ wrap 32 (f26dot6_bits x -ℤ f26dot6_bits y) };
+    ghost sub_assign_gives = { λ x y rest. f26dot6_bits rest
+        ≡ wrap 32 (f26dot6_bits x -ℤ f26dot6_bits y) };
 
     fn sub_assign(&mut self, other: F26Dot6) {
         *self = *self - other;
@@ -224,7 +234,8 @@ impl Neg for F26Dot6 {
 impl Mul for F26Dot6 {
     type Output = F26Dot6;
 
-    ghost mul_gives = { λ x y product. IsProduct 32 6 (f26dot6_bits x) (f26dot6_bits y) (f26dot6_bits product) };
+    ghost mul_gives = { λ x y product.
+        IsProduct 32 6 (f26dot6_bits x) (f26dot6_bits y) (f26dot6_bits product) };
 
     fn mul(self, other: F26Dot6) -> F26Dot6 {
         Self(product(self.0, other.0, Self::FRACTION_BITS))
@@ -232,7 +243,8 @@ impl Mul for F26Dot6 {
 }
 
 impl MulAssign for F26Dot6 {
-    ghost mul_assign_gives = { λ x y product. IsProduct 32 6 (f26dot6_bits x) (f26dot6_bits y) (f26dot6_bits product) };
+    ghost mul_assign_gives = { λ x y product.
+        IsProduct 32 6 (f26dot6_bits x) (f26dot6_bits y) (f26dot6_bits product) };
 
     fn mul_assign(&mut self, other: F26Dot6) {
         *self = *self * other;
@@ -243,7 +255,8 @@ impl MulAssign for F26Dot6 {
 impl Div for F26Dot6 {
     type Output = F26Dot6;
 
-    ghost div_gives = { λ x y quotient. IsQuotient 32 6 (f26dot6_bits x) (f26dot6_bits y) (f26dot6_bits quotient) };
+    ghost div_gives = { λ x y quotient.
+        IsQuotient 32 6 (f26dot6_bits x) (f26dot6_bits y) (f26dot6_bits quotient) };
 
     fn div(self, other: F26Dot6) -> F26Dot6 {
         Self(mul_div(self.0, Self::ONE.0, other.0))
@@ -251,7 +264,8 @@ impl Div for F26Dot6 {
 }
 
 impl DivAssign for F26Dot6 {
-    ghost div_assign_gives = { λ x y quotient. IsQuotient 32 6 (f26dot6_bits x) (f26dot6_bits y) (f26dot6_bits quotient) };
+    ghost div_assign_gives = { λ x y quotient.
+        IsQuotient 32 6 (f26dot6_bits x) (f26dot6_bits y) (f26dot6_bits quotient) };
 
     fn div_assign(&mut self, other: F26Dot6) {
         *self = *self / other;

@@ -1,7 +1,9 @@
 //! The fixed-point number of 32 bits with 16 bits of fraction.
 #![tactic(auto, using(font_arithmetic::proofs::Width32::code_32))]
 
-ghost use Rattle.std.specs.Prelude.{◌≡◌, ◌+◌, ◌-◌, ◌^◌, ◌<◌, ◌≤◌, ◌↔◌, ℤ, pos, negsuc, neg_ℤ, ◌+ℤ◌, ◌-ℤ◌, ◌*ℤ◌, Some, IsSome, IfSome, IfNone, IfOk, refl, length, max, unsigned_abs, FitsSigned};
+ghost use Rattle.std.specs.Prelude.{◌≡◌, ◌+◌, ◌-◌, ◌^◌, ◌<◌, ◌≤◌, ◌↔◌, ℤ, pos, neg_ℤ, ◌+ℤ◌, ◌-ℤ◌};
+ghost use Rattle.std.specs.Prelude.{◌*ℤ◌, Some, IsSome, IfSome, IfNone, refl, length, max};
+ghost use Rattle.std.specs.Prelude.{unsigned_abs};
 ghost use Rattle.std.proofs.Common.{lit<};
 ghost use Rattle.std.specs.Int.{w32};
 ghost use Rattle.font_base.specs.Wrap.{FitsBits, fits_bits, wrap};
@@ -14,7 +16,8 @@ ghost use Rattle.font_fixed.specs.Fixed.{fixed_bits, fixed_of, fixed_text};
 ghost use Rattle.font_fixed.specs.F2Dot14.{f2dot14_bits};
 ghost use Rattle.font_fixed.specs.F48Dot16.{f48dot16_bits};
 ghost use Rattle.font_f26.specs.F26Dot6.{f26dot6_bits};
-ghost use Rattle.font_arithmetic.specs.Operations.{IsWrappedNear, IsNarrowed, IsNearestWhole, IsFloor, IsFract, clamp, IsProduct, IsQuotient, IsMulDiv};
+ghost use Rattle.font_arithmetic.specs.Operations.{IsNarrowed, IsNearestWhole, IsFloor, IsFract};
+ghost use Rattle.font_arithmetic.specs.Operations.{clamp, IsProduct, IsQuotient, IsMulDiv};
 ghost use Rattle.font_arithmetic.specs.Reading.{ReadsBy};
 ghost use Rattle.font_base.specs.Scalar.Laws.{signed_newtype, signed_identity};
 
@@ -29,8 +32,8 @@ use std::ops::{Add, AddAssign, Div, DivAssign, Mul, MulAssign, Neg, Sub, SubAssi
 
 /// A fixed-point number of 32 bits, the last 16 of which are its fraction.
 ///
-/// Its bits are counted in steps of `1 / 65536`: `Fixed::from_bits(0x18000)` is 1.5. Sums, products and quotients
-/// that leave the range wrap.
+/// Its bits are counted in steps of `1 / 65536`: `Fixed::from_bits(0x18000)` is 1.5. Sums, products
+/// and quotients that leave the range wrap.
 #[derive(Clone, Copy, PartialEq, Eq, PartialOrd, Ord, Hash, Default)]
 pub struct Fixed(i32);
 
@@ -128,7 +131,8 @@ impl Fixed {
     /// The sum, or `None` where it is out of range.
     pub fn checked_add(self, other: Self) -> Option<Self>
         ensures variant { IsSome result ↔ FitsBits 32 (fixed_bits self +ℤ fixed_bits other) }
-        ensures value { IfSome result (λ sum. fixed_bits sum ≡ (fixed_bits self +ℤ fixed_bits other)) }
+        ensures value { IfSome result
+            (λ sum. fixed_bits sum ≡ (fixed_bits self +ℤ fixed_bits other)) }
     {
         Some(Self(self.0.checked_add(other.0)?))
     }
@@ -142,9 +146,11 @@ impl Fixed {
 
     /// `self * a / c`, rounded once to the nearest step, ties away from zero, and wrapped.
     ///
-    /// Where `c` is zero it is the greatest number, negated where just one of `self` and `a` is negative.
+    /// Where `c` is zero it is the greatest number, negated where just one of `self` and `a` is
+    /// negative.
     pub fn mul_div(&self, a: Self, c: Self) -> Self
-        ensures { IsMulDiv 32 (fixed_bits self.now) (fixed_bits a) (fixed_bits c) (fixed_bits result) }
+        ensures { IsMulDiv 32 (fixed_bits self.now) (fixed_bits a) (fixed_bits c)
+            (fixed_bits result) }
     {
         Self(mul_div(self.0, a.0, c.0))
     }
@@ -193,7 +199,8 @@ impl Fixed {
 
     /// The number moved by a sum of deltas, exactly, in units of `2^-32`.
     ///
-    /// A delta counts in units of `1 / 65536`, the last bit of this type, with 16 bits of fraction behind it.
+    /// A delta counts in units of `1 / 65536`, the last bit of this type, with 16 bits of fraction
+    /// behind it.
     pub fn apply_delta(self, delta: F48Dot16) -> i128
         ensures { result ≡ (fixed_bits self *ℤ pos 65536 +ℤ f48dot16_bits delta) }
     {
@@ -202,20 +209,22 @@ impl Fixed {
 
     /// The number nearest to a decimal text, ties away from zero.
     ///
-    /// `Fixed::from_decimal("1.5")` has bits 98304. A text outside the grammar is refused as `Syntax`, one whose
-    /// nearest number is out of range as `OutOfRange`.
+    /// `Fixed::from_decimal("1.5")` has bits 98304. A text outside the grammar is refused as
+    /// `Syntax`, one whose nearest number is out of range as `OutOfRange`.
     pub fn from_decimal(text: &str) -> Result<Self, DecimalFault>
         ensures { ReadsBy w32 16 fixed_bits text.now result }
     {
         read_bits_32(text, Self::FRACTION_BITS).map(Self)
     }
 
-    /// Writes the printed text to the front of `out`, padded, and returns the number of bytes; `None` where `out` is
-    /// too short, which then stays as it was.
+    /// Writes the printed text to the front of `out`, padded, and returns the number of bytes;
+    /// `None` where `out` is too short, which then stays as it was.
     pub fn write_padded(self, out: &mut [u8], pad: &Pad) -> Option<usize>
         requires { pad.now.fill < 128 }
-        ensures written { IfSome result (λ n. FillsFront (padded_text (fixed_text self) pad.now) n out.old out.new) }
-        ensures room { IsSome result ↔ (length (padded_text (fixed_text self) pad.now) ≤ length out.old) }
+        ensures written { IfSome result
+            (λ n. FillsFront (padded_text (fixed_text self) pad.now) n out.old out.new) }
+        ensures room { IsSome result
+            ↔ (length (padded_text (fixed_text self) pad.now) ≤ length out.old) }
         ensures cell { max 23 pad.now.width ≤ length out.old → IsSome result }
         ensures untouched { IfNone result (out.new ≡ out.old) }
     {
@@ -273,7 +282,8 @@ impl Sub for Fixed {
 }
 
 impl SubAssign for Fixed {
-    ghost sub_assign_gives = { λ x y rest. fixed_bits rest ≡ wrap 32 (fixed_bits x -ℤ fixed_bits y) };
+    ghost sub_assign_gives = { λ x y rest. fixed_bits rest
+        ≡ wrap 32 (fixed_bits x -ℤ fixed_bits y) };
 
     fn sub_assign(&mut self, other: Fixed) {
         *self = *self - other;
@@ -293,7 +303,8 @@ impl Neg for Fixed {
 impl Mul for Fixed {
     type Output = Fixed;
 
-    ghost mul_gives = { λ x y product. IsProduct 32 16 (fixed_bits x) (fixed_bits y) (fixed_bits product) };
+    ghost mul_gives = { λ x y product.
+        IsProduct 32 16 (fixed_bits x) (fixed_bits y) (fixed_bits product) };
 
     fn mul(self, other: Fixed) -> Fixed {
         Self(product(self.0, other.0, Self::FRACTION_BITS))
@@ -301,7 +312,8 @@ impl Mul for Fixed {
 }
 
 impl MulAssign for Fixed {
-    ghost mul_assign_gives = { λ x y product. IsProduct 32 16 (fixed_bits x) (fixed_bits y) (fixed_bits product) };
+    ghost mul_assign_gives = { λ x y product.
+        IsProduct 32 16 (fixed_bits x) (fixed_bits y) (fixed_bits product) };
 
     fn mul_assign(&mut self, other: Fixed) {
         *self = *self * other;
@@ -312,7 +324,8 @@ impl MulAssign for Fixed {
 impl Div for Fixed {
     type Output = Fixed;
 
-    ghost div_gives = { λ x y quotient. IsQuotient 32 16 (fixed_bits x) (fixed_bits y) (fixed_bits quotient) };
+    ghost div_gives = { λ x y quotient.
+        IsQuotient 32 16 (fixed_bits x) (fixed_bits y) (fixed_bits quotient) };
 
     fn div(self, other: Fixed) -> Fixed {
         self.mul_div(Self::ONE, other)
@@ -320,7 +333,8 @@ impl Div for Fixed {
 }
 
 impl DivAssign for Fixed {
-    ghost div_assign_gives = { λ x y quotient. IsQuotient 32 16 (fixed_bits x) (fixed_bits y) (fixed_bits quotient) };
+    ghost div_assign_gives = { λ x y quotient.
+        IsQuotient 32 16 (fixed_bits x) (fixed_bits y) (fixed_bits quotient) };
 
     fn div_assign(&mut self, other: Fixed) {
         *self = *self / other;

@@ -4,7 +4,8 @@ use crate::{F26Dot6, Fixed};
 use std::alloc::{AllocError, Global};
 use std::test::Fail;
 
-/// The two decimals with a place fewer next to a decimal with a point: cut, and with the last digit then raised, where it is no 9.
+/// The two decimals with a place fewer next to a decimal with a point: cut, and with the last digit
+/// then raised, where it is no 9.
 fn with_a_place_fewer(alloc: Global, text: &str) -> Result<(String, String), AllocError> {
     let mut cut = String::from_str(alloc, text)?;
     cut.pop();

@@ -1,7 +1,8 @@
 //! Boxes of whole numbers.
 
 ghost use Rattle.std.specs.Prelude.{◌≡◌, ◌&&◌, nat_le};
-ghost use Rattle.font_geom.specs.BoundingBox.Laws.{is_tied, order_of, equality_laws, order_laws, coordinates_chain};
+ghost use Rattle.font_geom.specs.BoundingBox.Laws.{is_tied, order_of, equality_laws, order_laws};
+ghost use Rattle.font_geom.specs.BoundingBox.Laws.{coordinates_chain};
 
 use crate::BoundingBox;
 use std::cmp::Ordering;
@@ -87,7 +88,8 @@ impl Corner {
 impl PartialEq for Corner {
     ghost eq = { is_tied (λ a b. nat_le a.x b.x && nat_le a.y b.y) };
 
-    ghost laws = { equality_laws (λ a b. nat_le a.x b.x && nat_le a.y b.y) (λ a b c. coordinates_chain a.x b.x c.x a.y b.y c.y) };
+    ghost laws = { equality_laws (λ a b. nat_le a.x b.x && nat_le a.y b.y)
+        (λ a b c. coordinates_chain a.x b.x c.x a.y b.y c.y) };
 
     fn eq(&self, other: &Corner) -> bool {
         self.is_within(other) && other.is_within(self)
@@ -97,7 +99,8 @@ impl PartialEq for Corner {
 impl PartialOrd for Corner {
     ghost partial_cmp = { order_of (λ a b. nat_le a.x b.x && nat_le a.y b.y) };
 
-    ghost laws = { order_laws (λ a b. nat_le a.x b.x && nat_le a.y b.y) (λ a b c. coordinates_chain a.x b.x c.x a.y b.y c.y) };
+    ghost laws = { order_laws (λ a b. nat_le a.x b.x && nat_le a.y b.y)
+        (λ a b c. coordinates_chain a.x b.x c.x a.y b.y c.y) };
 
     fn partial_cmp(&self, other: &Corner) -> Option<Ordering> {
         match (self.is_within(other), other.is_within(self)) {
