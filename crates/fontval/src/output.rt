@@ -29,7 +29,8 @@ pub fn append_read<T: Scalar<Raw = [u8; N]> + Drop, const N: usize, A: Allocator
     output: &mut String<A>,
 ) -> Result<(), Unanswered>
     requires room { N ≤ 8 }
-    ensures { GivesAnswer (λ answer. answer ≡ result_map_both (λ value. encode_lower (T.raw_of value)) refusal_of number)
+    ensures { GivesAnswer
+        (λ answer. answer ≡ result_map_both (λ value. encode_lower (T.raw_of value)) refusal_of number)
         (string_bytes output.old) (string_bytes output.new) result }
 {
     append_bytes(number?.to_raw().as_slice(), output)
