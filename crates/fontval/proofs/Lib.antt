@@ -8,4 +8,4 @@ pub mod CommandLemmas
 pub mod DeviceLemmas
 pub mod GivenLemmas
 pub mod TextLemmas
-mod HexadecimalLemmas
+pub mod HexadecimalLemmas

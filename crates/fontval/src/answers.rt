@@ -44,6 +44,7 @@ fn append_answer<A: Allocator>(
 }
 
 // Appends the answer to a line that is not refused.
+#[inline(always)]
 #[tactic(auto, using(crate::proofs::GivenLemmas::given_refusal))]
 fn append_text<A: Allocator>(
     alloc: A,

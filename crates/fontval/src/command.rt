@@ -98,6 +98,7 @@ impl Command {
     }
 
     /// Appends what the command answers to the words behind it.
+    #[inline(always)]
     #[tactic(auto, using(crate::proofs::GivenLemmas::given))]
     pub fn answer<A: Allocator>(
         self,
@@ -211,6 +212,7 @@ impl FixedType {
 }
 
 // Appends the bytes of the number that the second word is read as, of the type that the first names.
+#[inline(never)]
 #[tactic(auto, using(crate::proofs::CommandLemmas::reading_given))]
 fn read<A: Allocator>(words: Words<'_>, output: &mut String<A>) -> Result<(), Unanswered>
     ensures { GivesAnswer (AnswersWords (words_of words.entry.rest.now) Command.Read)
@@ -221,6 +223,7 @@ fn read<A: Allocator>(words: Words<'_>, output: &mut String<A>) -> Result<(), Un
 }
 
 // Appends the text of a tag, and what is said of it.
+#[inline(never)]
 #[tactic(auto, using(crate::proofs::CommandLemmas::judged_tag))]
 fn judge<A: Allocator>(tag: Tag, output: &mut String<A>) -> Result<(), Unanswered>
     ensures { GivesAnswer (JudgesTag (tag_bytes tag))
@@ -231,6 +234,7 @@ fn judge<A: Allocator>(tag: Tag, output: &mut String<A>) -> Result<(), Unanswere
 }
 
 // Appends where a point goes by two matrices.
+#[inline(never)]
 #[tactic(auto, using(crate::proofs::CommandLemmas::images_given))]
 fn image<A: Allocator>(words: Words<'_>, output: &mut String<A>) -> Result<(), Unanswered>
     ensures { GivesAnswer (AnswersWords (words_of words.entry.rest.now) Command.Image)
@@ -240,6 +244,7 @@ fn image<A: Allocator>(words: Words<'_>, output: &mut String<A>) -> Result<(), U
 }
 
 // Appends the sum of terms.
+#[inline(never)]
 fn sum<A: Allocator>(alloc: A, words: Words<'_>, output: &mut String<A>) -> Result<(), Unanswered>
     ensures { GivesAnswer (AnswersWords (words_of words.entry.rest.now) Command.Sum)
         (string_bytes output.old) (string_bytes output.new) result }
@@ -260,6 +265,7 @@ fn append_sum<A: Allocator>(
 }
 
 // Appends a whole number of font units moved by the sum of terms.
+#[inline(never)]
 fn move_units<A: Allocator>(
     alloc: A,
     mut words: Words<'_>,

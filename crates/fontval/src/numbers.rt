@@ -14,6 +14,9 @@ use crate::text::Words;
 use font_types::Fixed;
 use std::alloc::Allocator;
 
+// So many terms find room at once. Most lines have fewer.
+const FEW_TERMS: usize = 16;
+
 /// The numbers that just N words are read as.
 ///
 /// The words are read as they come, and counted only where one of them is refused: their number is
@@ -62,7 +65,7 @@ pub fn terms<A: Allocator>(
         (λ reason. OnRefused reason
         (λ refusal. ReadsTerms (words_of words.entry.rest.now) (Err refusal))) }
 {
-    let mut terms = Vec::new(alloc);
+    let mut terms = Vec::with_capacity(alloc, FEW_TERMS)?;
     while let Some(scalar) = words.next() {
         let delta = words.next().ok_or(Refusal::WordCount)?;
         match term(scalar, delta) {

@@ -1,8 +1,8 @@
 //! What a command makes of its words.
 
-ghost use Rattle.std.specs.Prelude.{◌≡◌, Ok, Err, MatchResult};
+ghost use Rattle.std.specs.Prelude.{◌≡◌, ◌<◌, Ok, Err, MatchResult};
 ghost use Rattle.font_types.specs.Grammar.{IsNoDecimal};
-ghost use Rattle.fontval.specs.Command.{only_bytes, only_word, two_words};
+ghost use Rattle.fontval.specs.Command.{hexadecimal, only_bytes, only_word, two_words};
 ghost use Rattle.fontval.specs.Text.{words_of};
 
 use crate::refusal::Refusal;
@@ -34,11 +34,34 @@ pub fn two_words(mut words: Words<'_>) -> Result<(&[u8], &[u8]), Refusal>
 }
 
 /// The bytes of the only word, of hexadecimal digits of either case.
+///
+/// Where all that is left are such digits, they are one word, and no other is sought.
+#[tactic(auto, using(crate::proofs::HexadecimalLemmas::decoded_alone))]
 pub fn hexadecimal<const N: usize>(words: Words<'_>) -> Result<[u8; N], Refusal>
+    requires some { 0 < N }
     ensures { result ≡ only_bytes N (words_of words.entry.rest.now) }
 {
-    let word = only_word(words)?;
-    <[u8; N]>::from_hex(word).map_err(|_| Refusal::NotHexadecimal)
+    match decoded(words.rest) {
+        Ok(bytes) => Ok(bytes),
+        Err(_) => hexadecimal_word(words),
+    }
+}
+
+// The same, with the words told apart first.
+#[cold]
+#[inline(never)]
+fn hexadecimal_word<const N: usize>(words: Words<'_>) -> Result<[u8; N], Refusal>
+    ensures { result ≡ only_bytes N (words_of words.entry.rest.now) }
+{
+    decoded(only_word(words)?)
+}
+
+// The bytes of a text of hexadecimal digits.
+#[inline(never)]
+fn decoded<const N: usize>(text: &[u8]) -> Result<[u8; N], Refusal>
+    ensures { result ≡ hexadecimal N text.now }
+{
+    <[u8; N]>::from_hex(text).map_err(|_| Refusal::NotHexadecimal)
 }
 
 /// A word as text. One that is not ASCII is no decimal.
