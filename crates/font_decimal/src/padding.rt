@@ -1,4 +1,4 @@
-// A decimal text in a field of some width.
+//! A decimal text in a field of some width.
 ghost use Rattle.std.specs.Prelude.{◌≡◌, ℕ, ◌+◌, ◌≤◌, ◌<◌, ◌↔◌, List, ◌++◌, length, take, drop, replicate, IfSome, IfNone, IsSome, false};
 ghost use Rattle.font_decimal.specs.Grammar.{IsDecimal};
 ghost use Rattle.font_decimal.specs.Padding.{shown_sign, unsigned_body, laid_out, padded_text, FillsFront};

@@ -1,4 +1,4 @@
-// Worked values, and what no clause says: texts of faults, and that long texts are read.
+//! Worked values, and what no clause says: texts of faults, and that long texts are read.
 ghost use Rattle.std.specs.Prelude.{◌≡◌, ◌≤◌};
 
 use crate::laws::reads_in_order;

@@ -1,10 +1,10 @@
 -- Bytes in hexadecimal are text, and hold no blank.
-use Rattle.std.proofs.Common.{◌≡◌, ◌<◌, ◌∷◌, [], List, ℕ, zero, suc, get_or, Bool, true, nat_lt, Result, Ok, Err, MatchResult, IsOk, refl, sym, ap, ◌∙◌, lit<, length, arith, false, true≢false, rules}
+use Rattle.std.proofs.Common.{◌≡◌, ◌<◌, ◌∷◌, [], List, ℕ, zero, suc, get_or, Bool, true, nat_lt, Result, Ok, Err, IsOk, refl, sym, ap, ◌∙◌, lit<, length, arith, false, true≢false}
 use Rattle.std.proofs.lemmas.Bool.{ltb-true, ne_eqb}
 use Rattle.std.proofs.lemmas.Str.{IsUtf8-from_ascii}
 use Rattle.std.specs.List.{list_all}
 use Rattle.std.specs.Str.{IsUtf8}
-use Rattle.std.specs.Prelude.{◌==◌, ◌*◌}
+use Rattle.std.specs.Prelude.{◌==◌}
 use Rattle.std.specs.List.{AllPass, onto_first, slice_split}
 use Rattle.std.specs.Result.{result_map_both}
 use Rattle.std.proofs.lemmas.List.Elements.{All-head, All-tail}
@@ -27,11 +27,6 @@ each_is_ascii (b ∷ bytes) (suc i) test = each_is_ascii bytes i (second_so (bel
 pub hexadecimal_is_text : (bytes : List ℕ) → IsUtf8 (encode_lower bytes)
 hexadecimal_is_text bytes =
     IsUtf8-from_ascii (encode_lower bytes) (IsAscii-encode_with lower_digits bytes (λ i. each_is_ascii lower_digits i refl))
-
--- what is text is read as text
-pub text_is_read : {T E : Type 0} (read : Result T E) (P : T → Type 0) (Q : E → Type 0) (bytes : List ℕ) → MatchResult read P (λ e. ¬ (IsUtf8 bytes) × Q e) → IsUtf8 bytes → IsOk read
-text_is_read (Ok text) P Q bytes cases utf8 = search rules
-text_is_read (Err e) P Q bytes cases utf8 = absurd (cases.0 utf8)
 
 -- ---- digits are one word
 

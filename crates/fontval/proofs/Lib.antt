@@ -7,5 +7,7 @@ mod WholeLemmas
 pub mod CommandLemmas
 pub mod DeviceLemmas
 pub mod GivenLemmas
-pub mod TextLemmas
+pub mod SearchLemmas
+pub mod LinesLemmas
+pub mod WordsLemmas
 pub mod HexadecimalLemmas

@@ -1,4 +1,5 @@
--- The commands of the program: the word that names each, and what it answers to the words behind it.
+-- The commands of the program: the word that names each, and what it answers to the words behind
+-- it.
 -- All of it is the program's own rule, but for what the bytes of a type stand for.
 use Rattle.std.specs.Prelude.{◌≡◌, ◌≢◌, ℕ, ℤ, pos, ◌/◌, Bool, true, false, if◌then◌else◌, List, [], ◌∷◌, ◌++◌, codes, decimal, Result, Ok, Err, MatchResult}
 use Rattle.std.specs.Fmt.{signed_decimal}
@@ -44,7 +45,8 @@ integer_row Uint32 = (codes "uint32", 4, unsigned)
 integer_row Int32 = (codes "int32", 4, signed)
 integer_row Int64 = (codes "int64", 8, signed)
 
--- the fixed-point types: the word that names each, how many bits it has, and how many of them stand behind the point
+-- the fixed-point types: the word that names each, how many bits it has, and how many of them
+-- stand behind the point
 -- (OpenType, data types: Fixed is 16.16 and F2DOT14 is 2.14)
 abbrev pub fixed_row : FixedType → List ℕ × ℕ × ℕ
 fixed_row F2Dot14 = (codes "f2dot14", 16, 14)
@@ -68,12 +70,14 @@ name_of Vary = codes "vary"
 -- the command is the one that a word names, or there is none and the word is refused
 abbrev pub IsNamed : List ℕ → Result Command Refusal → Type 0
 IsNamed word (Ok command) = name_of command ≡ word
-IsNamed word (Err refusal) = (refusal ≡ UnknownCommand) × ((command : Command) → name_of command ≢ word)
+IsNamed word (Err refusal) =
+    (refusal ≡ UnknownCommand) × ((command : Command) → name_of command ≢ word)
 
 -- the same of the fixed-point types
 abbrev pub IsNamedType : List ℕ → Result FixedType Refusal → Type 0
 IsNamedType word (Ok type) = (fixed_row type).0 ≡ word
-IsNamedType word (Err refusal) = (refusal ≡ UnknownCommand) × ((type : FixedType) → (fixed_row type).0 ≢ word)
+IsNamedType word (Err refusal) =
+    (refusal ≡ UnknownCommand) × ((type : FixedType) → (fixed_row type).0 ≢ word)
 
 -- ---- what a command answers to the words behind it
 
@@ -84,19 +88,21 @@ only_word words = Err WordCount
 
 -- the n bytes that a word writes in hexadecimal digits of either case
 abbrev pub hexadecimal : ℕ → List ℕ → Result (List ℕ) Refusal
-hexadecimal n word = result_map_both (λ bytes. bytes) (λ fault. NotHexadecimal) (decode_sized word n)
+hexadecimal n word =
+    result_map_both (λ bytes. bytes) (λ fault. NotHexadecimal) (decode_sized word n)
 
 -- the n bytes that the only word writes
 abbrev pub only_bytes : ℕ → List (List ℕ) → Result (List ℕ) Refusal
-only_bytes n words = result_flatten (result_map_both (hexadecimal n) (λ refusal. refusal) (only_word words))
+only_bytes n words =
+    result_flatten (result_map_both (hexadecimal n) (λ refusal. refusal) (only_word words))
 
 -- the two words of a command that takes two
 abbrev pub two_words : List (List ℕ) → Result (List ℕ × List ℕ) Refusal
 two_words (first ∷ second ∷ []) = Ok (first, second)
 two_words words = Err WordCount
 
--- the number that n bytes stand for: their base-256 numeral, highest byte first, in two's complement where they
--- have a sign
+-- the number that n bytes stand for: their base-256 numeral, highest byte first, in two's
+-- complement where they have a sign
 abbrev pub number_of : ℕ → Bool → List ℕ → ℤ
 number_of n sign bytes = if sign then signed_numeral n bytes else pos (numeral bytes)
 
@@ -110,7 +116,9 @@ integer type words =
 abbrev pub fixed_point : FixedType → List (List ℕ) → Answer
 fixed_point type words =
     let n = (fixed_row type).1 / 8 in
-    result_map_both (λ bytes. shortest_text (signed_numeral n bytes) (fixed_row type).2) (λ refusal. refusal) (only_bytes n words)
+    let text : List ℕ → List ℕ =
+    λ bytes. shortest_text (signed_numeral n bytes) (fixed_row type).2 in
+    result_map_both text (λ refusal. refusal) (only_bytes n words)
 
 -- the answer is the bytes, in hexadecimal digits, of the number of a type that the text is read as
 abbrev pub ShowsReading : FixedType → List ℕ → Answer → Type 0
@@ -131,16 +139,20 @@ pub record JudgesTag (bytes : List ℕ) (answer : Answer) : Type 0 where
   pub judged : IsValidated bytes verdict
   pub shows : answer ≡ Ok (tag_text bytes ++ verdict_text verdict)
 
--- What a command answers to the words behind it. Their number is judged first, and then each of them
--- from left to right.
+-- What a command answers to the words behind it. Their number is judged first, and then each of
+-- them from left to right.
 abbrev pub AnswersWords : List (List ℕ) → Command → Answer → Type 0
-AnswersWords words (Integer type) answer = answer ≡ result_map_both signed_decimal (λ refusal. refusal) (integer type words)
+AnswersWords words (Integer type) answer =
+    answer ≡ result_map_both signed_decimal (λ refusal. refusal) (integer type words)
 AnswersWords words (FixedPoint type) answer = answer ≡ fixed_point type words
 AnswersWords words Read answer =
     MatchResult (two_words words)
     (λ pair. Then (IsNamedType pair.0) (λ type. ShowsReading type pair.1) answer)
     (λ refusal. answer ≡ Err refusal)
-AnswersWords words Tag answer = MatchResult (only_bytes 4 words) (λ bytes. JudgesTag bytes answer) (λ refusal. answer ≡ Err refusal)
+AnswersWords words Tag answer =
+    MatchResult (only_bytes 4 words)
+    (λ bytes. JudgesTag bytes answer)
+    (λ refusal. answer ≡ Err refusal)
 AnswersWords words Image answer = Then (ReadsJust 14 words) ShowsImages answer
 AnswersWords words Sum answer = Then (ReadsTerms words) ShowsSum answer
 AnswersWords words Vary answer = Varies words answer

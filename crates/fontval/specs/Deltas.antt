@@ -22,10 +22,12 @@ varied_by units terms = ok_or (option_map signed_decimal (varied units terms)) O
 abbrev pub ShowsSum : List (Fixed × ℤ) → Answer → Type 0
 ShowsSum terms answer = answer ≡ sum_of terms
 
--- what is answered to a whole number of 16 bits and the words of terms: the count of the words is judged first
+-- what is answered to a whole number of 16 bits and the words of terms: the count of the words is
+-- judged first
 abbrev pub Varies : List (List ℕ) → Answer → Type 0
 Varies [] answer = answer ≡ Err WordCount
 Varies (base ∷ words) answer =
     MatchBool (length words % 2 == 0)
-    (Then (ReadsWhole 16 base) (λ units. Then (ReadsTerms words) (λ terms shown. shown ≡ varied_by units terms)) answer)
+    (Then (ReadsWhole 16 base)
+    (λ units. Then (ReadsTerms words) (λ terms shown. shown ≡ varied_by units terms)) answer)
     (answer ≡ Err WordCount)

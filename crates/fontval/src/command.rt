@@ -211,7 +211,8 @@ impl FixedType {
     }
 }
 
-// Appends the bytes of the number that the second word is read as, of the type that the first names.
+// Appends the bytes of the number that the second word is read as, of the type that the first
+// names.
 #[inline(never)]
 #[tactic(auto, using(crate::proofs::CommandLemmas::reading_given))]
 fn read<A: Allocator>(words: Words<'_>, output: &mut String<A>) -> Result<(), Unanswered>
