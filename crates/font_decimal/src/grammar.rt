@@ -1,4 +1,5 @@
 //! The parts of a decimal text.
+
 ghost use Rattle.std.specs.Prelude.{◌≡◌, ◌≢◌, ℕ, false, List, ◌∷◌, ◌++◌, MatchOption};
 ghost use Rattle.std.specs.Fmt.{sign_text};
 ghost use Rattle.std.specs.Char.{is_ascii_digit};

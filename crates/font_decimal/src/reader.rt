@@ -1,5 +1,10 @@
-// Reading a decimal text as the nearest fixed-point number.
-ghost use Rattle.std.specs.Prelude.{◌≡◌, ℕ, ◌+◌, ◌-◌, ◌*◌, ◌/◌, ◌^◌, ◌<◌, ◌≤◌, ◌⊎◌, ◌↔◌, ◌++◌, Bool, List, min, length, take, slice_index, false, SomeIff, IfSome, IfNone, MatchOption, ℤ, pos, ◌≤ℤ◌};
+//! Reading a decimal text as the nearest fixed-point number.
+//!
+//! A caller reads by one fraction and one range: all is inlined, so that they are known there.
+
+ghost use Rattle.std.specs.Prelude.{◌≡◌, ◌+◌, ◌-◌, ◌*◌, ◌/◌, ◌^◌, ◌<◌, ◌≤◌, ◌≤ℤ◌, ◌⊎◌, ◌↔◌, ◌++◌};
+ghost use Rattle.std.specs.Prelude.{ℕ, ℤ, pos, Bool, false, List, length, min, slice_index, take};
+ghost use Rattle.std.specs.Prelude.{SomeIff, IfSome, IfNone, MatchOption};
 ghost use Rattle.std.specs.Fmt.{sign_text};
 ghost use Rattle.std.specs.Char.{digit_value};
 ghost use Rattle.std.specs.Str.Parse.{digits_value, AllDigits};
@@ -30,6 +35,7 @@ pub enum DecimalFault {
 /// ```text
 /// read_decimal("-1.5", 16, i64::MIN, i64::MAX) == Ok(-98304)
 /// ```
+#[inline(always)]
 pub fn read_decimal(text: &str, f: u32, min: i64, max: i64) -> Result<i64, DecimalFault>
     requires bits_of_fraction { (6 ≤ f) × (f ≤ 30) }
     requires around_zero { (min ≤ℤ pos 0) × (pos 0 ≤ℤ max) }
@@ -46,6 +52,7 @@ pub fn read_decimal(text: &str, f: u32, min: i64, max: i64) -> Result<i64, Decim
 }
 
 // The number of steps of `1 / 2^f` nearest to a decimal with no sign, or where that is above 2^63, some number above 2^63.
+#[inline(always)]
 fn nearest_steps(digits: &[u8], f: u32) -> Option<u64>
     requires { (6 ≤ f) × (f ≤ 30) }
     ensures none { IfNone result ((whole fraction : List ℕ) → ¬ (HasParts digits.now false whole fraction)) }
@@ -63,6 +70,7 @@ fn nearest_steps(digits: &[u8], f: u32) -> Option<u64>
 }
 
 // The number that the digits in front write, or `too_large` where it is greater, and how many digits they are.
+#[inline(always)]
 fn whole_digits(text: &[u8], too_large: u64) -> (u64, usize)
     requires { too_large < 2 ^ 60 }
     ensures within { result.1 ≤ length text.now }
@@ -83,6 +91,7 @@ fn whole_digits(text: &[u8], too_large: u64) -> (u64, usize)
 
 // The number of whole half steps of `1 / 2^f` in a fraction. A half step has `f + 1` places, so that later digits do not
 // count; and where there are fewer digits, the fives of the missing zeros are left out.
+#[inline(always)]
 fn half_steps(fraction: &[u8], f: u32) -> Option<u64>
     requires { f ≤ 30 }
     ensures { MatchOption result (¬ (AllDigits 10 fraction.now)) (λ n. AllDigits 10 fraction.now
@@ -105,6 +114,7 @@ fn half_steps(fraction: &[u8], f: u32) -> Option<u64>
 }
 
 // The number that digits write, and five to the power of how many they are.
+#[inline(always)]
 fn numeral_and_fives(digits: &[u8]) -> Option<(u64, u64)>
     requires { length digits.now ≤ 19 }
     ensures { MatchOption result (¬ (AllDigits 10 digits.now)) (λ n. AllDigits 10 digits.now
@@ -137,6 +147,7 @@ fn long_numeral_and_fives(digits: &[u8]) -> Option<(u128, u128)>
 }
 
 // The signed number of steps, or `None` where it is out of the range.
+#[inline(always)]
 fn in_range(negative: bool, steps: u64, min: i64, max: i64) -> Option<i64>
     ensures { let number = signed negative steps in
         SomeIff result ((min ≤ℤ number) × (number ≤ℤ max)) number }

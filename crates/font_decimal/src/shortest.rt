@@ -1,4 +1,4 @@
-// Writing the shortest decimal text of a fixed-point number.
+//! Writing the shortest decimal text of a fixed-point number.
 ghost use Rattle.std.specs.Prelude.{◌≡◌, ℕ, ◌+◌, ◌*◌, ◌%◌, ◌^◌, ◌≤◌, ◌<◌, [], ◌∷◌, ◌++◌, length, slice_index, Some};
 ghost use Rattle.std.specs.Fmt.{decimal, sign_text};
 ghost use Rattle.font_decimal.specs.Grammar.{point_text};

@@ -3,6 +3,7 @@ use Rattle.std.proofs.Common.{◌≡◌, ℕ, List, [], ◌∷◌, ◌++◌, ref
 use Rattle.std.proofs.lemmas.List.{append-nil}
 use Rattle.fontval.specs.Answers.{Answers, AnswersLines, AppendsAnswer}
 use Rattle.fontval.specs.Text.{lines_of}
+use Rattle.fontval.proofs.OneAnswer.{only_answer}
 
 -- the output answers the input up to `left`: what answers the lines of `left` completes it
 pub record IsAnsweredUpTo (input left output : List ℕ) : Type 0 where
@@ -34,3 +35,5 @@ pub answered_all : (input left output : List ℕ) → IsAnsweredUpTo input left 
 answered_all input left output so_far none =
     let P : List ℕ → Type 0 = λ whole. Answers input whole in
     subst P (append-nil output) (so_far.completes [] (rw none refl))
+
+pub ruleset answer_steps = (answered_none, answered_more, answered_all, only_answer)

@@ -1,18 +1,18 @@
 -- What is read of named words, said of tags, and where points go.
-use Rattle.std.proofs.Common.{◌≡◌, ◌≢◌, ℕ, List, [], ◌∷◌, ◌++◌, Result, Ok, Err, refl}
-use Rattle.font_types.specs.Grammar.{IsNoDecimal}
+use Rattle.std.proofs.Common.{◌≡◌, ◌≢◌, ℕ, List, [], ◌∷◌, ◌++◌, Bool, true, false, true≢false, Result, Ok, Err, refl, sym, ◌∙◌}
 use Rattle.std.specs.Prelude.{ℤ, ◌/◌}
+use Rattle.std.specs.Bool.{MatchBool}
 use Rattle.std.specs.Result.{result_map_both}
 use Rattle.hex.specs.Hex.{encode_lower}
 use Rattle.font_types.specs.Bytes.{bytes_of}
 use Rattle.font_types.specs.DecimalFault.{DecimalFault}
-use Rattle.font_types.specs.DecimalFault.TheVariants.{Syntax}
 use Rattle.font_types.specs.Operations.{ReadingGives}
 use Rattle.font_types.specs.Tag.{IsValidated, tag_text}
 use Rattle.font_types.specs.InvalidTag.{InvalidTag}
-use Rattle.fontval.specs.Command.{AnswersWords, JudgesTag, verdict_text, ShowsReading, ShowsReadingAs, name_of, two_words}
+use Rattle.fontval.specs.Command.{AnswersWords, JudgesTag, IsNamedType, verdict_text, ShowsReading, fixed_row, name_of, two_words}
 use Rattle.fontval.specs.Refusal.{GivesAnswer, refusal_of}
-use Rattle.fontval.specs.Numbers.{ReadsJust}
+use Rattle.fontval.specs.Numbers.{ReadsJust, ReadsTerms, ReadsWhole}
+use Rattle.fontval.specs.Deltas.{Varies, varied_by}
 use Rattle.fontval.specs.Images.{images_text}
 use Rattle.font_types.specs.fixed.Fixed.{Fixed}
 use Rattle.font_types.specs.matrix.Matrix.{Matrix}
@@ -22,43 +22,36 @@ use Rattle.font_types.specs.FixedMatrix.{matrix_bits, point_bits}
 use Rattle.fontval.specs.declared.refusal.Unanswered.{Unanswered}
 use Rattle.fontval.specs.declared.refusal.Unanswered.TheVariants.{Refused}
 use Rattle.fontval.proofs.GivenLemmas.{given_refusal, given_answer, given_as}
+use Rattle.fontval.proofs.NumbersLemmas.{reads_no_number}
+use Rattle.fontval.proofs.TermsLemmas.{terms_are_even}
+use Rattle.fontval.proofs.OneAnswer.{commands_apart}
 use Rattle.fontval.specs.declared.command.Command.{Command}
-use Rattle.fontval.specs.declared.command.Command.TheVariants.{FixedPoint, Read, Image}
+use Rattle.fontval.specs.declared.command.Command.TheVariants.{FixedPoint, Read, Image, Vary}
 use Rattle.fontval.specs.declared.command.FixedType.{FixedType}
 use Rattle.fontval.specs.declared.refusal.Refusal.{Refusal}
-use Rattle.fontval.specs.declared.refusal.Refusal.TheVariants.{UnknownCommand, NotDecimal}
+use Rattle.fontval.specs.declared.refusal.Refusal.TheVariants.{UnknownCommand}
 
--- a command that is no fixed-point type's reads nothing
-pub reads_nothing : (text : List ℕ) (command : Command) → ((type : FixedType) → command ≢ FixedPoint type) → ShowsReadingAs text command (Err UnknownCommand)
-reads_nothing text (FixedPoint type) other = absurd (other type refl)
-reads_nothing text _ other = refl
-
--- a text that is no decimal is refused as such
-pub reads_no_decimal : (w f : ℕ) (text : List ℕ) → IsNoDecimal text → ShowsReading w f text (Err NotDecimal)
-reads_no_decimal w f text none = record { bits = Err Syntax; read = none; shows = refl }
+-- a word that names another command names no type
+pub names_no_type : (word : List ℕ) (command : Command) → name_of command ≡ word → ((type : FixedType) → command ≢ FixedPoint type)
+    → IsNamedType word (Err UnknownCommand)
+names_no_type word command named other = (refl, λ type same. other type (commands_apart command (FixedPoint type) (named ∙ sym same)))
 
 -- the bytes of what a text is read as
-pub given_reading : (n w f : ℕ) (bits : Result ℤ DecimalFault) (text old new : List ℕ) (outcome : Result (Unit {0}) Unanswered)
+pub given_number : (type : FixedType) (name : List ℕ) (n w f : ℕ) (bits : Result ℤ DecimalFault) (text old new : List ℕ) (outcome : Result (Unit {0}) Unanswered)
     → GivesAnswer (λ answer. answer ≡ result_map_both (λ value. encode_lower (bytes_of n value)) refusal_of bits) old new outcome
-    → ReadingGives w f text bits → w / 8 ≡ n → GivesAnswer (ShowsReading w f text) old new outcome
-given_reading n w f bits text old new outcome given read size =
-    given_answer (ShowsReading w f text) (result_map_both (λ value. encode_lower (bytes_of n value)) refusal_of bits) old new outcome given
-    (record { bits = bits; read = read; shows = rw size refl })
+    → ReadingGives w f text bits → fixed_row type ≡ (name, w, f) → w / 8 ≡ n
+    → GivesAnswer (ShowsReading type text) old new outcome
+given_number type name n w f bits text old new outcome given read row size =
+    given_answer (ShowsReading type text) (result_map_both (λ value. encode_lower (bytes_of n value)) refusal_of bits) old new outcome given
+    (rw (row, size) (record { bits = bits; read = read; gives = refl }))
 
--- a number that is not read of two words, the first of which names a command
-pub refused_reading : (words : List (List ℕ)) (name word : List ℕ) (command : Command) (refusal : Refusal) (old : List ℕ) (outcome : Result (Unit {0}) Unanswered)
-    → outcome ≡ Err (Refused refusal) → two_words words ≡ Ok (name, word) → name_of command ≡ name → ShowsReadingAs word command (Err refusal)
-    → GivesAnswer (AnswersWords words Read) old old outcome
-refused_reading words name word command refusal old outcome is two named right =
-    given_refusal (AnswersWords words Read) refusal old outcome is (rw two (record { command = Ok command; named = named; is_right = right }))
-
--- what is read of two words, the first of which names a command
-pub given_named_reading : (words : List (List ℕ)) (name word : List ℕ) (command : Command) (old new : List ℕ) (outcome : Result (Unit {0}) Unanswered)
-    → GivesAnswer (ShowsReadingAs word command) old new outcome → two_words words ≡ Ok (name, word) → name_of command ≡ name
+-- what is read of two words, the first of which names a type
+pub given_reading : (words : List (List ℕ)) (name word : List ℕ) (type : FixedType) (old new : List ℕ) (outcome : Result (Unit {0}) Unanswered)
+    → GivesAnswer (ShowsReading type word) old new outcome → two_words words ≡ Ok (name, word) → (fixed_row type).0 ≡ name
     → GivesAnswer (AnswersWords words Read) old new outcome
-given_named_reading words name word command old new outcome given two named =
-    given_as (ShowsReadingAs word command) (AnswersWords words Read) old new outcome
-    (λ answer right. rw two (record { command = Ok command; named = named; is_right = right })) given
+given_reading words name word type old new outcome given two named =
+    given_as (ShowsReading type word) (AnswersWords words Read) old new outcome
+    (λ answer right. rw two (record { first = Ok type; is_first = named; goes_on = right })) given
 
 -- what is said of a tag that was judged
 pub judged_tag : (bytes : List ℕ) (verdict : Result (Unit {0}) InvalidTag) (old new : List ℕ) (outcome : Result (Unit {0}) Unanswered)
@@ -83,3 +76,21 @@ given_images words numbers a b p old new outcome given read are =
       is_first = read;
       goes_on = record { a = a; b = b; p = p; are = are; shows = refl };
     })
+
+-- a fact where a test is passed
+where_true : {X : Type 0} (Y : Type 0) (b : Bool) → b ≡ true → X → MatchBool b X Y
+where_true Y true passed x = x
+where_true Y false passed x = absurd (true≢false (sym passed))
+
+-- a number of units that terms which are read move
+pub given_moved : (words rest : List (List ℕ)) (base : List ℕ) (units : ℤ) (terms : List (Fixed × ℤ)) (old new : List ℕ) (outcome : Result (Unit {0}) Unanswered)
+    → GivesAnswer (λ answer. answer ≡ varied_by units terms) old new outcome → words ≡ base ∷ rest → ReadsWhole 16 base (Ok units) → ReadsTerms rest (Ok terms)
+    → GivesAnswer (AnswersWords words Vary) old new outcome
+given_moved words rest base units terms old new outcome given is whole read =
+    let right : Varies (base ∷ rest) (varied_by units terms) = where_true _ _ (terms_are_even rest terms read)
+    (record { first = Ok units; is_first = whole; goes_on = record { first = Ok terms; is_first = read; goes_on = refl } }) in
+    given_answer (AnswersWords words Vary) (varied_by units terms) old new outcome given (rw is right)
+
+pub ruleset reading_given = (given_refusal, given_reading, reads_no_number)
+
+pub ruleset images_given = (refused_images, given_images)

@@ -57,3 +57,5 @@ written_in_part taken taken' taken'' bytes rest so_far some kept = record {
   partial = λ none. absurd (let e = ap length none in omega arith);
   written = appends_kept taken taken' taken'' so_far.output so_far.written kept;
 }
+
+pub ruleset write_steps = (written_none, written_more, written_all, written_in_part)

@@ -26,3 +26,5 @@ pub given_answer : (IsRight : Answer → Type 0) (answer : Answer) (old new : Li
     → GivesAnswer (λ other. other ≡ answer) old new outcome → IsRight answer → GivesAnswer IsRight old new outcome
 given_answer IsRight answer old new outcome given right =
     given_as (λ other. other ≡ answer) IsRight old new outcome (λ other same. subst IsRight (sym same) right) given
+
+pub ruleset given = (given_refusal, given_answer)

@@ -1,11 +1,19 @@
--- Bytes in hexadecimal are text.
-use Rattle.std.proofs.Common.{◌≡◌, ◌<◌, ◌∷◌, [], List, ℕ, zero, suc, get_or, Bool, true, nat_lt, Result, Ok, Err, MatchResult, IsOk, refl, lit<, rules}
-use Rattle.std.proofs.lemmas.Bool.{ltb-true}
+-- Bytes in hexadecimal are text, and hold no blank.
+use Rattle.std.proofs.Common.{◌≡◌, ◌<◌, ◌∷◌, [], List, ℕ, zero, suc, get_or, Bool, true, nat_lt, Result, Ok, Err, IsOk, refl, sym, ap, ◌∙◌, lit<, length, arith, false, true≢false}
+use Rattle.std.proofs.lemmas.Bool.{ltb-true, ne_eqb}
 use Rattle.std.proofs.lemmas.Str.{IsUtf8-from_ascii}
 use Rattle.std.specs.List.{list_all}
 use Rattle.std.specs.Str.{IsUtf8}
-use Rattle.hex.specs.Hex.{encode_lower, lower_digits}
-use Rattle.hex.proofs.HexLemmas.{IsAscii-encode_with}
+use Rattle.std.specs.Prelude.{◌==◌}
+use Rattle.std.specs.List.{AllPass, onto_first, slice_split}
+use Rattle.std.specs.Result.{result_map_both}
+use Rattle.std.proofs.lemmas.List.Elements.{All-head, All-tail}
+use Rattle.hex.specs.Hex.{decode_sized, encode_lower, is_hex_digit, lower_digits}
+use Rattle.hex.specs.declared.error.FromHexError.{FromHexError}
+use Rattle.hex.proofs.HexLemmas.{IsAscii-encode_with, IsOk-decode_sized}
+use Rattle.fontval.specs.Command.{hexadecimal, only_bytes}
+use Rattle.fontval.specs.Text.{is_blank, words_of}
+use Rattle.fontval.specs.declared.refusal.Refusal.TheVariants.{NotHexadecimal}
 use Rattle.std.specs.Cmp.{first_so, second_so}
 
 abbrev below_128 : ℕ → Bool
@@ -20,7 +28,31 @@ pub hexadecimal_is_text : (bytes : List ℕ) → IsUtf8 (encode_lower bytes)
 hexadecimal_is_text bytes =
     IsUtf8-from_ascii (encode_lower bytes) (IsAscii-encode_with lower_digits bytes (λ i. each_is_ascii lower_digits i refl))
 
--- what is text is read as text
-pub text_is_read : {T E : Type 0} (read : Result T E) (P : T → Type 0) (Q : E → Type 0) (bytes : List ℕ) → MatchResult read P (λ e. ¬ (IsUtf8 bytes) × Q e) → IsUtf8 bytes → IsOk read
-text_is_read (Ok text) P Q bytes cases utf8 = search rules
-text_is_read (Err e) P Q bytes cases utf8 = absurd (cases.0 utf8)
+-- ---- digits are one word
+
+other_byte : (byte blank : ℕ) → is_hex_digit blank ≡ false → is_hex_digit byte ≡ true → (byte == blank) ≡ false
+other_byte byte blank none digit = ne_eqb byte blank (λ same. true≢false (sym digit ∙ ap is_hex_digit same ∙ none))
+
+digit_is_not_blank : (byte : ℕ) → is_hex_digit byte ≡ true → is_blank byte ≡ false
+digit_is_not_blank byte digit = rw (other_byte byte 32 refl digit, other_byte byte 9 refl digit, other_byte byte 13 refl digit) refl
+
+one_part : (text : List ℕ) → AllPass is_hex_digit text → slice_split is_blank text ≡ text ∷ []
+one_part [] all = refl
+one_part (byte ∷ rest) all =
+    rw (digit_is_not_blank byte (All-head (λ c. is_hex_digit c ≡ true) byte rest all))
+    (ap (onto_first byte) (one_part rest (All-tail (λ c. is_hex_digit c ≡ true) byte rest all)))
+
+digits_are_one_word : (text : List ℕ) → 0 < length text → AllPass is_hex_digit text → words_of text ≡ text ∷ []
+unfolding words_of
+digits_are_one_word [] some all = absurd (omega arith)
+digits_are_one_word (byte ∷ rest) some all = rw (one_part (byte ∷ rest) all) refl
+
+-- what is decoded is the only word
+pub decoded_alone : (n : ℕ) (text bytes : List ℕ) → 0 < n → Ok bytes ≡ hexadecimal n text → Ok bytes ≡ only_bytes n (words_of text)
+decoded_alone n text bytes some found = judged (decode_sized text n) refl found where
+  judged : (d : Result (List ℕ) FromHexError) → decode_sized text n ≡ d → Ok bytes ≡ result_map_both (λ b. b) (λ fault. NotHexadecimal) d → Ok bytes ≡ only_bytes n (words_of text)
+  judged (Ok all) is same =
+      let ok : IsOk (decode_sized text n) = rw is refl in
+      let digits = (IsOk-decode_sized text n).0 ok in
+      rw (digits_are_one_word text (omega (arith, digits.0)) digits.1, is) same
+  judged (Err fault) is same = absurd (let e = same in cc)

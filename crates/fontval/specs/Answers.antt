@@ -17,7 +17,8 @@ pub record AppendsAnswer (line old new : List ℕ) : Type 0 where
   pub appended : new ≡ old ++ text
 
 -- the output begins with the answer to a line and a line feed, and goes on with `Rest`
-pub record BeginsWithAnswer (line : List ℕ) (Rest : List ℕ → Type 0) (output : List ℕ) : Type 0 where
+pub record BeginsWithAnswer (line : List ℕ) (Rest : List ℕ → Type 0) (output : List ℕ)
+    : Type 0 where
   pub text : List ℕ
   pub rest : List ℕ
   pub answers : AnswersLine line text

@@ -1,19 +1,18 @@
--- The commands of the program: the word that names each, and what it answers to the words behind it.
+-- The commands of the program: the word that names each, and what it answers to the words behind
+-- it.
 -- All of it is the program's own rule, but for what the bytes of a type stand for.
 use Rattle.std.specs.Prelude.{◌≡◌, ◌≢◌, ℕ, ℤ, pos, ◌/◌, Bool, true, false, if◌then◌else◌, List, [], ◌∷◌, ◌++◌, codes, decimal, Result, Ok, Err, MatchResult}
 use Rattle.std.specs.Fmt.{signed_decimal}
-use Rattle.std.specs.Result.{result_map_both}
+use Rattle.std.specs.Result.{result_flatten, result_map_both}
 use Rattle.hex.specs.Hex.{decode_sized, encode_lower}
 use Rattle.font_types.specs.Bytes.{numeral, signed_numeral, bytes_of}
 use Rattle.font_types.specs.Shortest.{shortest_text}
-use Rattle.font_types.specs.DecimalFault.{DecimalFault}
-use Rattle.font_types.specs.Operations.{ReadingGives}
 use Rattle.font_types.specs.Tag.{IsValidated, tag_text}
 use Rattle.font_types.specs.InvalidTag.{InvalidTag}
 use Rattle.font_types.specs.InvalidTag.TheVariants.{InvalidLength, InvalidByte, ByteAfterSpace}
-use Rattle.fontval.specs.Refusal.{Answer, refusal_of}
-use Rattle.fontval.specs.Numbers.{Then, ReadsJust}
-use Rattle.fontval.specs.Deltas.{Sums, Varies}
+use Rattle.fontval.specs.Refusal.{Answer}
+use Rattle.fontval.specs.Numbers.{Then, ReadsJust, ReadsNumber, ReadsTerms}
+use Rattle.fontval.specs.Deltas.{ShowsSum, Varies}
 use Rattle.fontval.specs.Images.{ShowsImages}
 use Rattle.fontval.specs.declared.command.Command.{Command}
 use Rattle.fontval.specs.declared.command.Command.TheVariants.{Integer, FixedPoint, Read, Tag, Image, Sum, Vary}
@@ -46,7 +45,8 @@ integer_row Uint32 = (codes "uint32", 4, unsigned)
 integer_row Int32 = (codes "int32", 4, signed)
 integer_row Int64 = (codes "int64", 8, signed)
 
--- the fixed-point types: the word that names each, how many bits it has, and how many of them stand behind the point
+-- the fixed-point types: the word that names each, how many bits it has, and how many of them
+-- stand behind the point
 -- (OpenType, data types: Fixed is 16.16 and F2DOT14 is 2.14)
 abbrev pub fixed_row : FixedType → List ℕ × ℕ × ℕ
 fixed_row F2Dot14 = (codes "f2dot14", 16, 14)
@@ -70,28 +70,39 @@ name_of Vary = codes "vary"
 -- the command is the one that a word names, or there is none and the word is refused
 abbrev pub IsNamed : List ℕ → Result Command Refusal → Type 0
 IsNamed word (Ok command) = name_of command ≡ word
-IsNamed word (Err refusal) = (refusal ≡ UnknownCommand) × ((command : Command) → name_of command ≢ word)
+IsNamed word (Err refusal) =
+    (refusal ≡ UnknownCommand) × ((command : Command) → name_of command ≢ word)
 
--- the answer is right for the command that a word names, or refuses a word that names none
-pub record ForNamed (word : List ℕ) (IsRight : Command → Answer → Type 0) (answer : Answer) : Type 0 where
-  pub command : Result Command Refusal
-  pub named : IsNamed word command
-  pub is_right : MatchResult command (λ known. IsRight known answer) (λ refusal. answer ≡ Err refusal)
+-- the same of the fixed-point types
+abbrev pub IsNamedType : List ℕ → Result FixedType Refusal → Type 0
+IsNamedType word (Ok type) = (fixed_row type).0 ≡ word
+IsNamedType word (Err refusal) =
+    (refusal ≡ UnknownCommand) × ((type : FixedType) → (fixed_row type).0 ≢ word)
 
 -- ---- what a command answers to the words behind it
 
--- the n bytes of the only word, in hexadecimal digits of either case
-abbrev pub hexadecimal : ℕ → List (List ℕ) → Result (List ℕ) Refusal
-hexadecimal n (word ∷ []) = result_map_both (λ bytes. bytes) (λ fault. NotHexadecimal) (decode_sized word n)
-hexadecimal n words = Err WordCount
+-- the word of a command that takes one
+abbrev pub only_word : List (List ℕ) → Result (List ℕ) Refusal
+only_word (word ∷ []) = Ok word
+only_word words = Err WordCount
+
+-- the n bytes that a word writes in hexadecimal digits of either case
+abbrev pub hexadecimal : ℕ → List ℕ → Result (List ℕ) Refusal
+hexadecimal n word =
+    result_map_both (λ bytes. bytes) (λ fault. NotHexadecimal) (decode_sized word n)
+
+-- the n bytes that the only word writes
+abbrev pub only_bytes : ℕ → List (List ℕ) → Result (List ℕ) Refusal
+only_bytes n words =
+    result_flatten (result_map_both (hexadecimal n) (λ refusal. refusal) (only_word words))
 
 -- the two words of a command that takes two
 abbrev pub two_words : List (List ℕ) → Result (List ℕ × List ℕ) Refusal
 two_words (first ∷ second ∷ []) = Ok (first, second)
 two_words words = Err WordCount
 
--- the number that n bytes stand for: their base-256 numeral, highest byte first, in two's complement where they
--- have a sign
+-- the number that n bytes stand for: their base-256 numeral, highest byte first, in two's
+-- complement where they have a sign
 abbrev pub number_of : ℕ → Bool → List ℕ → ℤ
 number_of n sign bytes = if sign then signed_numeral n bytes else pos (numeral bytes)
 
@@ -99,25 +110,21 @@ number_of n sign bytes = if sign then signed_numeral n bytes else pos (numeral b
 abbrev pub integer : IntegerType → List (List ℕ) → Result ℤ Refusal
 integer type words =
     let n = (integer_row type).1 in
-    result_map_both (number_of n (integer_row type).2) (λ refusal. refusal) (hexadecimal n words)
+    result_map_both (number_of n (integer_row type).2) (λ refusal. refusal) (only_bytes n words)
 
 -- the text of the fixed-point number whose bits the bytes of a word are
 abbrev pub fixed_point : FixedType → List (List ℕ) → Answer
 fixed_point type words =
     let n = (fixed_row type).1 / 8 in
-    result_map_both (λ bytes. shortest_text (signed_numeral n bytes) (fixed_row type).2) (λ refusal. refusal) (hexadecimal n words)
+    let text : List ℕ → List ℕ =
+    λ bytes. shortest_text (signed_numeral n bytes) (fixed_row type).2 in
+    result_map_both text (λ refusal. refusal) (only_bytes n words)
 
--- the answer is the bytes, in hexadecimal digits, of the number of w bits with f bits of fraction that
--- the text is read as
-pub record ShowsReading (w f : ℕ) (text : List ℕ) (answer : Answer) : Type 0 where
-  pub bits : Result ℤ DecimalFault
-  pub read : ReadingGives w f text bits
-  pub shows : answer ≡ result_map_both (λ b. encode_lower (bytes_of (w / 8) b)) refusal_of bits
-
--- the same where a command word says what the text is read as: only a fixed-point type is read
-abbrev pub ShowsReadingAs : List ℕ → Command → Answer → Type 0
-ShowsReadingAs text (FixedPoint type) answer = ShowsReading (fixed_row type).1 (fixed_row type).2 text answer
-ShowsReadingAs text other answer = answer ≡ Err UnknownCommand
+-- the answer is the bytes, in hexadecimal digits, of the number of a type that the text is read as
+abbrev pub ShowsReading : FixedType → List ℕ → Answer → Type 0
+ShowsReading type text answer =
+    let w = (fixed_row type).1 in
+    ReadsNumber w (fixed_row type).2 (λ b. encode_lower (bytes_of (w / 8) b)) text answer
 
 -- what is said of a tag: that it is good, or the fault that it has and where it has it
 abbrev pub verdict_text : Result (Unit {0}) InvalidTag → List ℕ
@@ -132,19 +139,25 @@ pub record JudgesTag (bytes : List ℕ) (answer : Answer) : Type 0 where
   pub judged : IsValidated bytes verdict
   pub shows : answer ≡ Ok (tag_text bytes ++ verdict_text verdict)
 
--- What a command answers to the words behind it. Their number is judged first, and then each of them
--- from left to right.
+-- What a command answers to the words behind it. Their number is judged first, and then each of
+-- them from left to right.
 abbrev pub AnswersWords : List (List ℕ) → Command → Answer → Type 0
-AnswersWords words (Integer type) answer = answer ≡ result_map_both signed_decimal (λ refusal. refusal) (integer type words)
+AnswersWords words (Integer type) answer =
+    answer ≡ result_map_both signed_decimal (λ refusal. refusal) (integer type words)
 AnswersWords words (FixedPoint type) answer = answer ≡ fixed_point type words
 AnswersWords words Read answer =
-    MatchResult (two_words words) (λ pair. ForNamed pair.0 (ShowsReadingAs pair.1) answer) (λ refusal. answer ≡ Err refusal)
-AnswersWords words Tag answer = MatchResult (hexadecimal 4 words) (λ bytes. JudgesTag bytes answer) (λ refusal. answer ≡ Err refusal)
+    MatchResult (two_words words)
+    (λ pair. Then (IsNamedType pair.0) (λ type. ShowsReading type pair.1) answer)
+    (λ refusal. answer ≡ Err refusal)
+AnswersWords words Tag answer =
+    MatchResult (only_bytes 4 words)
+    (λ bytes. JudgesTag bytes answer)
+    (λ refusal. answer ≡ Err refusal)
 AnswersWords words Image answer = Then (ReadsJust 14 words) ShowsImages answer
-AnswersWords words Sum answer = Sums words answer
+AnswersWords words Sum answer = Then (ReadsTerms words) ShowsSum answer
 AnswersWords words Vary answer = Varies words answer
 
 -- what is answered to the words of a line: the first of them names the command
 abbrev pub IsAnswer : List (List ℕ) → Answer → Type 0
 IsAnswer [] answer = answer ≡ Err UnknownCommand
-IsAnswer (name ∷ words) answer = ForNamed name (AnswersWords words) answer
+IsAnswer (name ∷ words) answer = Then (IsNamed name) (AnswersWords words) answer

@@ -6,7 +6,7 @@ use Rattle.std.specs.Option.{ok_or}
 use Rattle.font_types.specs.Delta.{sum_in_range, varied}
 use Rattle.font_types.specs.Shortest.{shortest_text}
 use Rattle.font_types.specs.fixed.Fixed.{Fixed}
-use Rattle.fontval.specs.Numbers.{Then, ReadsEach, ReadsTerm, ReadsWhole, pairs_of}
+use Rattle.fontval.specs.Numbers.{Then, ReadsTerms, ReadsWhole}
 use Rattle.fontval.specs.Refusal.{Answer}
 use Rattle.fontval.specs.declared.refusal.Refusal.TheVariants.{WordCount, OutOfRange}
 
@@ -18,17 +18,16 @@ sum_of terms = ok_or (option_map (λ bits. shortest_text bits 16) (sum_in_range 
 abbrev pub varied_by : ℤ → List (Fixed × ℤ) → Answer
 varied_by units terms = ok_or (option_map signed_decimal (varied units terms)) OutOfRange
 
--- what is answered to the words of terms: their count is judged before any of them
-abbrev pub Sums : List (List ℕ) → Answer → Type 0
-Sums words answer =
-    MatchBool (length words % 2 == 0)
-    (Then (ReadsEach ReadsTerm (pairs_of words)) (λ terms shown. shown ≡ sum_of terms) answer)
-    (answer ≡ Err WordCount)
+-- what is answered to terms
+abbrev pub ShowsSum : List (Fixed × ℤ) → Answer → Type 0
+ShowsSum terms answer = answer ≡ sum_of terms
 
--- what is answered to a whole number of 16 bits and the words of terms
+-- what is answered to a whole number of 16 bits and the words of terms: the count of the words is
+-- judged first
 abbrev pub Varies : List (List ℕ) → Answer → Type 0
 Varies [] answer = answer ≡ Err WordCount
 Varies (base ∷ words) answer =
     MatchBool (length words % 2 == 0)
-    (Then (ReadsWhole 16 base) (λ units. Then (ReadsEach ReadsTerm (pairs_of words)) (λ terms shown. shown ≡ varied_by units terms)) answer)
+    (Then (ReadsWhole 16 base)
+    (λ units. Then (ReadsTerms words) (λ terms shown. shown ≡ varied_by units terms)) answer)
     (answer ≡ Err WordCount)

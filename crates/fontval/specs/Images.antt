@@ -12,19 +12,24 @@ use Rattle.fontval.specs.Refusal.{Answer}
 abbrev pub point_text : Point ℤ → List ℕ
 point_text p = shortest_text p.x 16 ++ codes " " ++ shortest_text p.y 16
 
--- where the product of a and b sends the point, which applies b and then a: products are rounded, and sums wrap
+-- where the product of a and b sends the point, which applies b and then a: products are rounded,
+-- and sums wrap
 abbrev pub composed_image : Matrix ℤ → Matrix ℤ → Point ℤ → Point ℤ
-composed_image a b p = image_of wrapped_sum wrapped_product (matrix_product wrapped_sum wrapped_product a b) p
+composed_image a b p =
+    image_of wrapped_sum wrapped_product (matrix_product wrapped_sum wrapped_product a b) p
 
 -- where a sends the point to which b sends this one
 abbrev pub image_in_turn : Matrix ℤ → Matrix ℤ → Point ℤ → Point ℤ
-image_in_turn a b p = image_of wrapped_sum wrapped_product a (image_of wrapped_sum wrapped_product b p)
+image_in_turn a b p =
+    image_of wrapped_sum wrapped_product a (image_of wrapped_sum wrapped_product b p)
 
 -- both images, in this order
 abbrev pub images_text : Matrix ℤ → Matrix ℤ → Point ℤ → List ℕ
-images_text a b p = point_text (composed_image a b p) ++ codes " " ++ point_text (image_in_turn a b p)
+images_text a b p =
+    point_text (composed_image a b p) ++ codes " " ++ point_text (image_in_turn a b p)
 
--- the numbers are the elements of two matrices and the coordinates of a point, and the answer is where these send it
+-- the numbers are the elements of two matrices and the coordinates of a point, and the answer is
+-- where these send it
 pub record ShowsImages (numbers : List Fixed) (answer : Answer) : Type 0 where
   pub a : Matrix Fixed
   pub b : Matrix Fixed

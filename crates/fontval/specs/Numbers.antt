@@ -1,6 +1,7 @@
--- The numbers that the words of a line are read as, one after another: the first word that is refused decides.
+-- The numbers that the words of a line are read as, one after another: the first word that is
+-- refused decides.
 -- All of it is the program's own rule, but for what a decimal text is read as.
-use Rattle.std.specs.Prelude.{◌≡◌, ℕ, ◌==◌, if◌then◌else◌, List, [], ◌∷◌, length, drop, ℤ, Result, Ok, Err, MatchResult}
+use Rattle.std.specs.Prelude.{◌≡◌, ℕ, ◌%◌, ◌==◌, if◌then◌else◌, List, [], ◌∷◌, length, drop, ℤ, Result, Ok, Err, MatchResult}
 use Rattle.std.specs.Bool.{MatchBool}
 use Rattle.std.specs.Result.{result_map_both}
 use Rattle.std.specs.Str.Parse.{IsNumeral, starts_with_minus, signed_digits_value}
@@ -14,25 +15,36 @@ use Rattle.fontval.specs.declared.refusal.Refusal.{Refusal}
 use Rattle.fontval.specs.declared.refusal.Refusal.TheVariants.{WordCount, NotWhole, OutOfRange}
 
 -- what is read first decides how it goes on; where it is refused, so is the whole
-pub record Then {A B : Type 0} (IsFirst : Result A Refusal → Type 0) (GoesOn : A → Result B Refusal → Type 0) (result : Result B Refusal) : Type 0 where
+pub record Then {A B : Type 0} (IsFirst : Result A Refusal → Type 0)
+    (GoesOn : A → Result B Refusal → Type 0) (result : Result B Refusal) : Type 0 where
   pub first : Result A Refusal
   pub is_first : IsFirst first
   pub goes_on : MatchResult first (λ value. GoesOn value result) (λ refusal. result ≡ Err refusal)
 
 -- the values of a list, each read in turn
-abbrev pub ReadsEach : {W T : Type 0} → (W → Result T Refusal → Type 0) → List W → Result (List T) Refusal → Type 0
+abbrev pub ReadsEach : {W T : Type 0} → (W → Result T Refusal → Type 0) → List W
+    → Result (List T) Refusal → Type 0
 ReadsEach reads [] result = result ≡ Ok []
-ReadsEach reads (word ∷ words) result = Then (reads word) (λ value. Then (ReadsEach reads words) (λ values all. all ≡ Ok (value ∷ values))) result
+ReadsEach reads (word ∷ words) result =
+    Then (reads word)
+    (λ value. Then (ReadsEach reads words) (λ values all. all ≡ Ok (value ∷ values))) result
+
+-- the text is read as a number of w bits with f bits of fraction, and gives what `value` makes of
+-- its bits
+pub record ReadsNumber {T : Type 0} (w f : ℕ) (value : ℤ → T) (text : List ℕ)
+    (result : Result T Refusal) : Type 0 where
+  pub bits : Result ℤ DecimalFault
+  pub read : ReadingGives w f text bits
+  pub gives : result ≡ result_map_both value refusal_of bits
 
 -- the `Fixed` that a word is read as
-pub record ReadsFixed (word : List ℕ) (result : Result Fixed Refusal) : Type 0 where
-  pub bits : Result ℤ DecimalFault
-  pub read : ReadingGives 32 16 word bits
-  pub gives : result ≡ result_map_both fixed_of refusal_of bits
+abbrev pub ReadsFixed : List ℕ → Result Fixed Refusal → Type 0
+ReadsFixed word result = ReadsNumber 32 16 fixed_of word result
 
 -- just n numbers: another count of words is refused before any of them
 abbrev pub ReadsJust : ℕ → List (List ℕ) → Result (List Fixed) Refusal → Type 0
-ReadsJust n words result = MatchBool (length words == n) (ReadsEach ReadsFixed words result) (result ≡ Err WordCount)
+ReadsJust n words result =
+    MatchBool (length words == n) (ReadsEach ReadsFixed words result) (result ≡ Err WordCount)
 
 -- the bytes of a word behind its `-`, or all of them
 abbrev pub behind_minus : List ℕ → List ℕ
@@ -57,4 +69,13 @@ pairs_of (first ∷ second ∷ words) = (first, second) ∷ pairs_of words
 
 -- the term that two words are read as: a scalar, and a whole number of 32 bits
 abbrev pub ReadsTerm : List ℕ × List ℕ → Result (Fixed × ℤ) Refusal → Type 0
-ReadsTerm words result = Then (ReadsFixed words.0) (λ scalar. Then (ReadsWhole 32 words.1) (λ delta term. term ≡ Ok (scalar, delta))) result
+ReadsTerm words result =
+    Then (ReadsFixed words.0)
+    (λ scalar. Then (ReadsWhole 32 words.1) (λ delta term. term ≡ Ok (scalar, delta))) result
+
+-- the terms that words are read as: an odd count of words is refused before any of them
+abbrev pub ReadsTerms : List (List ℕ) → Result (List (Fixed × ℤ)) Refusal → Type 0
+ReadsTerms words result =
+    MatchBool (length words % 2 == 0)
+    (ReadsEach ReadsTerm (pairs_of words) result)
+    (result ≡ Err WordCount)

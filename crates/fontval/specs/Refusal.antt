@@ -1,4 +1,5 @@
--- What is answered to a line, by the program's own rule: a text, or a refusal, which is shown by its number.
+-- What is answered to a line, by the program's own rule: a text, or a refusal, which is shown by
+-- its number.
 use Rattle.std.specs.Prelude.{◌≡◌, ℕ, List, ◌++◌, codes, decimal, Result, Ok, Err, ⊤}
 use Rattle.font_types.specs.DecimalFault.{DecimalFault}
 use Rattle.font_types.specs.DecimalFault.TheVariants.{Syntax, OutOfRange as TooFar}
@@ -36,15 +37,16 @@ pub record Grows (IsRight : Answer → Type 0) (old new : List ℕ) : Type 0 whe
   pub is_right : IsRight (Ok text)
   pub grown : new ≡ old ++ text
 
--- How a command ends that gives a right answer: the output has grown by its text, or there was no memory for it. A refusal
--- is told, and leaves the output as it was.
+-- How a command ends that gives a right answer: the output has grown by its text, or there was no
+-- memory for it. A refusal is told, and leaves the output as it was.
 abbrev pub IsGiven : (Answer → Type 0) → List ℕ → List ℕ → Result (Unit {0}) Unanswered → Type 0
 IsGiven IsRight old new (Ok done) = Grows IsRight old new
 IsGiven IsRight old new (Err Memory) = ⊤
 IsGiven IsRight old new (Err (Refused refusal)) = IsRight (Err refusal) × (new ≡ old)
 
 -- a right answer is given
-pub record GivesAnswer (IsRight : Answer → Type 0) (old new : List ℕ) (outcome : Result (Unit {0}) Unanswered) : Type 0 where
+pub record GivesAnswer (IsRight : Answer → Type 0) (old new : List ℕ)
+    (outcome : Result (Unit {0}) Unanswered) : Type 0 where
   pub is_given : IsGiven IsRight old new outcome
 
 -- where a line is refused, it is for this

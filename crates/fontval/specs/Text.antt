@@ -10,7 +10,8 @@ is_line_feed byte = byte == 10
 -- the last line feed there is no line.
 unfoldable pub lines_of : List ℕ → List (List ℕ)
 lines_of [] = []
-lines_of (byte ∷ rest) = if is_line_feed byte then [] ∷ lines_of rest else onto_first byte (lines_of rest)
+lines_of (byte ∷ rest) =
+    if is_line_feed byte then [] ∷ lines_of rest else onto_first byte (lines_of rest)
 
 -- whether a byte stands between words: a space, a tab or a carriage return
 abbrev pub is_blank : ℕ → Bool

@@ -1,6 +1,6 @@
 //! The answers to lines, as text.
 
-ghost use Rattle.std.specs.Prelude.{◌≡◌, string_bytes, IfOk, OnOk};
+ghost use Rattle.std.specs.Prelude.{◌≡◌, ℕ, List, string_bytes, IfOk, OnOk};
 ghost use Rattle.fontval.specs.Answers.{AppendsAnswer, Answers};
 ghost use Rattle.fontval.specs.Command.{IsAnswer};
 ghost use Rattle.fontval.specs.Refusal.{GivesAnswer};
@@ -12,9 +12,11 @@ use crate::text::{Lines, Words};
 use std::alloc::{AllocError, Allocator};
 
 /// The answers to the lines of an input, each followed by a line feed.
-#[tactic(auto, using(crate::proofs::AnswersLemmas::answered_none, crate::proofs::AnswersLemmas::answered_more, crate::proofs::AnswersLemmas::answered_all))]
+#[tactic(auto, using(crate::proofs::AnswersLemmas::answer_steps))]
 pub fn answers<A: Allocator + Copy>(alloc: A, input: &[u8]) -> Result<String<A>, AllocError>
-    ensures { IfOk result (λ output. Answers input.now (string_bytes output)) }
+    ensures answers { IfOk result (λ output. Answers input.now (string_bytes output)) }
+    ensures only { IfOk result (λ output. (other : List ℕ)
+        → Answers input.now other → other ≡ string_bytes output) }
 {
     let mut output = String::new(alloc);
     for line in Lines::new(input) {
@@ -31,7 +33,8 @@ fn append_answer<A: Allocator>(
     line: &[u8],
     output: &mut String<A>,
 ) -> Result<(), AllocError>
-    ensures { OnOk result (AppendsAnswer line.now (string_bytes output.old) (string_bytes output.new)) }
+    ensures { OnOk result
+        (AppendsAnswer line.now (string_bytes output.old) (string_bytes output.new)) }
 {
     match append_text(alloc, line, output) {
         Ok(()) => Ok(()),
@@ -41,6 +44,7 @@ fn append_answer<A: Allocator>(
 }
 
 // Appends the answer to a line that is not refused.
+#[inline(always)]
 #[tactic(auto, using(crate::proofs::GivenLemmas::given_refusal))]
 fn append_text<A: Allocator>(
     alloc: A,

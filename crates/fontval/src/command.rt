@@ -1,8 +1,9 @@
 //! The commands, and what they answer.
 
 ghost use Rattle.std.specs.Prelude.{◌≡◌, [], ◌∷◌, string_bytes};
-ghost use Rattle.fontval.specs.Command.{integer, AnswersWords, IsNamed, JudgesTag, ShowsReadingAs};
 ghost use Rattle.font_types.specs.Tag.{tag_bytes};
+ghost use Rattle.fontval.specs.Command.{AnswersWords, IsNamed, IsNamedType, JudgesTag};
+ghost use Rattle.fontval.specs.Command.{ShowsReading, fixed_point, integer};
 ghost use Rattle.fontval.specs.Deltas.{sum_of, varied_by};
 ghost use Rattle.fontval.specs.Refusal.{GivesAnswer};
 ghost use Rattle.fontval.specs.Text.{words_of};
@@ -11,7 +12,7 @@ use crate::images::Move;
 use crate::judgement::Judgement;
 use crate::numbers::{fixed_numbers, in_pairs, short_number, terms};
 use crate::output::{append, append_read};
-use crate::parse::{decimal_text, hexadecimal, only_word, two_words};
+use crate::parse::{decimal_text, hexadecimal, two_words};
 use crate::refusal::{Refusal, Unanswered};
 use crate::text::Words;
 use font_types::{
@@ -97,7 +98,8 @@ impl Command {
     }
 
     /// Appends what the command answers to the words behind it.
-    #[tactic(auto, using(crate::proofs::GivenLemmas::given_refusal, crate::proofs::GivenLemmas::given_answer))]
+    #[inline(always)]
+    #[tactic(auto, using(crate::proofs::GivenLemmas::given))]
     pub fn answer<A: Allocator>(
         self,
         alloc: A,
@@ -108,10 +110,10 @@ impl Command {
             (string_bytes output.old) (string_bytes output.new) result }
     {
         match self {
-            Command::Integer(kind) => append(kind.number(only_word(words)?)?, output),
-            Command::FixedPoint(kind) => kind.show(only_word(words)?, output),
+            Command::Integer(kind) => append(kind.number(words)?, output),
+            Command::FixedPoint(kind) => kind.show(words, output),
             Command::Read => read(words, output),
-            Command::Tag => judge(Tag::from_be_bytes(hexadecimal(only_word(words)?)?), output),
+            Command::Tag => judge(Tag::from_be_bytes(hexadecimal(words)?), output),
             Command::Image => image(words, output),
             Command::Sum => sum(alloc, words, output),
             Command::Vary => move_units(alloc, words, output),
@@ -120,51 +122,63 @@ impl Command {
 }
 
 impl IntegerType {
-    // The number that the bytes of a hexadecimal word stand for.
-    fn number(self, word: &[u8]) -> Result<i64, Refusal>
-        ensures { result ≡ integer self (word.now ∷ []) }
+    // The number that the bytes of the only word stand for.
+    fn number(self, words: Words<'_>) -> Result<i64, Refusal>
+        ensures { result ≡ integer self (words_of words.entry.rest.now) }
     {
         Ok(match self {
-            IntegerType::Uint8 => i64::from(u8::from_raw(hexadecimal(word)?)),
-            IntegerType::Int8 => i64::from(i8::from_raw(hexadecimal(word)?)),
-            IntegerType::Uint16 => i64::from(u16::from_raw(hexadecimal(word)?)),
-            IntegerType::Int16 => i64::from(i16::from_raw(hexadecimal(word)?)),
-            IntegerType::Uint24 => i64::from(Uint24::from_be_bytes(hexadecimal(word)?).to_u32()),
-            IntegerType::Int24 => i64::from(Int24::from_be_bytes(hexadecimal(word)?).to_i32()),
-            IntegerType::Uint32 => i64::from(u32::from_raw(hexadecimal(word)?)),
-            IntegerType::Int32 => i64::from(i32::from_raw(hexadecimal(word)?)),
-            IntegerType::Int64 => i64::from_raw(hexadecimal(word)?),
+            IntegerType::Uint8 => i64::from(u8::from_raw(hexadecimal(words)?)),
+            IntegerType::Int8 => i64::from(i8::from_raw(hexadecimal(words)?)),
+            IntegerType::Uint16 => i64::from(u16::from_raw(hexadecimal(words)?)),
+            IntegerType::Int16 => i64::from(i16::from_raw(hexadecimal(words)?)),
+            IntegerType::Uint24 => i64::from(Uint24::from_be_bytes(hexadecimal(words)?).to_u32()),
+            IntegerType::Int24 => i64::from(Int24::from_be_bytes(hexadecimal(words)?).to_i32()),
+            IntegerType::Uint32 => i64::from(u32::from_raw(hexadecimal(words)?)),
+            IntegerType::Int32 => i64::from(i32::from_raw(hexadecimal(words)?)),
+            IntegerType::Int64 => i64::from_raw(hexadecimal(words)?),
         })
     }
 }
 
 impl FixedType {
-    // Appends the number whose bits the bytes of a hexadecimal word are.
-    #[tactic(auto, using(crate::proofs::GivenLemmas::given_refusal, crate::proofs::GivenLemmas::given_answer))]
-    fn show<A: Allocator>(self, word: &[u8], output: &mut String<A>) -> Result<(), Unanswered>
-        ensures { GivesAnswer (AnswersWords (word.now ∷ []) (Command.FixedPoint self))
+    /// The fixed-point type that a word names.
+    #[tactic(auto, using(crate::proofs::CommandLemmas::names_no_type))]
+    pub fn named(word: &[u8]) -> Result<FixedType, Refusal>
+        ensures { IsNamedType word.now result }
+    {
+        match Command::named(word)? {
+            Command::FixedPoint(kind) => Ok(kind),
+            _ => Err(Refusal::UnknownCommand),
+        }
+    }
+
+    // Appends the number whose bits the bytes of the only word are.
+    #[tactic(auto, using(crate::proofs::GivenLemmas::given))]
+    fn show<A: Allocator>(self, words: Words<'_>, output: &mut String<A>) -> Result<(), Unanswered>
+        ensures { GivesAnswer (λ answer. answer ≡ fixed_point self (words_of words.entry.rest.now))
             (string_bytes output.old) (string_bytes output.new) result }
     {
         match self {
-            FixedType::F2Dot14 => append(F2Dot14::from_raw(hexadecimal(word)?), output),
-            FixedType::F4Dot12 => append(F4Dot12::from_raw(hexadecimal(word)?), output),
-            FixedType::F6Dot10 => append(F6Dot10::from_raw(hexadecimal(word)?), output),
-            FixedType::Fixed => append(Fixed::from_raw(hexadecimal(word)?), output),
+            FixedType::F2Dot14 => append(F2Dot14::from_raw(hexadecimal(words)?), output),
+            FixedType::F4Dot12 => append(F4Dot12::from_raw(hexadecimal(words)?), output),
+            FixedType::F6Dot10 => append(F6Dot10::from_raw(hexadecimal(words)?), output),
+            FixedType::Fixed => append(Fixed::from_raw(hexadecimal(words)?), output),
             FixedType::F26Dot6 => append(
-                F26Dot6::from_bits(i32::from_raw(hexadecimal(word)?)),
+                F26Dot6::from_bits(i32::from_raw(hexadecimal(words)?)),
                 output,
             ),
             FixedType::F48Dot16 => append(
-                F48Dot16::from_bits(i64::from_raw(hexadecimal(word)?)),
+                F48Dot16::from_bits(i64::from_raw(hexadecimal(words)?)),
                 output,
             ),
-            FixedType::F2Dot30 => append(F2Dot30::from_raw(hexadecimal(word)?), output),
+            FixedType::F2Dot30 => append(F2Dot30::from_raw(hexadecimal(words)?), output),
         }
     }
 
     // Appends the bytes of the number that a text is read as.
+    #[tactic(auto, using(crate::proofs::CommandLemmas::given_number))]
     fn read<A: Allocator>(self, text: &str, output: &mut String<A>) -> Result<(), Unanswered>
-        ensures { GivesAnswer (ShowsReadingAs text.now (Command.FixedPoint self))
+        ensures { GivesAnswer (ShowsReading self text.now)
             (string_bytes output.old) (string_bytes output.new) result }
     {
         match self {
@@ -197,30 +211,32 @@ impl FixedType {
     }
 }
 
-// Appends the bytes of the number that the second word is read as, of the type that the first names.
-#[tactic(auto, using(crate::proofs::GivenLemmas::given_refusal, crate::proofs::CommandLemmas::refused_reading, crate::proofs::CommandLemmas::reads_nothing, crate::proofs::CommandLemmas::reads_no_decimal))]
+// Appends the bytes of the number that the second word is read as, of the type that the first
+// names.
+#[inline(never)]
+#[tactic(auto, using(crate::proofs::CommandLemmas::reading_given))]
 fn read<A: Allocator>(words: Words<'_>, output: &mut String<A>) -> Result<(), Unanswered>
     ensures { GivesAnswer (AnswersWords (words_of words.entry.rest.now) Command.Read)
         (string_bytes output.old) (string_bytes output.new) result }
 {
     let (name, word) = two_words(words)?;
-    match Command::named(name)? {
-        Command::FixedPoint(kind) => kind.read(decimal_text(word)?, output),
-        _ => Err(Refusal::UnknownCommand.into()),
-    }
+    FixedType::named(name)?.read(decimal_text(word)?, output)
 }
 
 // Appends the text of a tag, and what is said of it.
+#[inline(never)]
 #[tactic(auto, using(crate::proofs::CommandLemmas::judged_tag))]
 fn judge<A: Allocator>(tag: Tag, output: &mut String<A>) -> Result<(), Unanswered>
-    ensures { GivesAnswer (JudgesTag (tag_bytes tag)) (string_bytes output.old) (string_bytes output.new) result }
+    ensures { GivesAnswer (JudgesTag (tag_bytes tag))
+        (string_bytes output.old) (string_bytes output.new) result }
 {
     let verdict = tag.validate();
     append(Judgement { tag, verdict }, output)
 }
 
 // Appends where a point goes by two matrices.
-#[tactic(auto, using(crate::proofs::CommandLemmas::refused_images, crate::proofs::CommandLemmas::given_images))]
+#[inline(never)]
+#[tactic(auto, using(crate::proofs::CommandLemmas::images_given))]
 fn image<A: Allocator>(words: Words<'_>, output: &mut String<A>) -> Result<(), Unanswered>
     ensures { GivesAnswer (AnswersWords (words_of words.entry.rest.now) Command.Image)
         (string_bytes output.old) (string_bytes output.new) result }
@@ -229,11 +245,11 @@ fn image<A: Allocator>(words: Words<'_>, output: &mut String<A>) -> Result<(), U
 }
 
 // Appends the sum of terms.
+#[inline(never)]
 fn sum<A: Allocator>(alloc: A, words: Words<'_>, output: &mut String<A>) -> Result<(), Unanswered>
     ensures { GivesAnswer (AnswersWords (words_of words.entry.rest.now) Command.Sum)
         (string_bytes output.old) (string_bytes output.new) result }
 {
-    in_pairs(&words)?;
     let terms = terms(alloc, words)?;
     append_sum(&terms, output)
 }
@@ -243,12 +259,14 @@ fn append_sum<A: Allocator>(
     terms: &[(Fixed, i32)],
     output: &mut String<A>,
 ) -> Result<(), Unanswered>
-    ensures { GivesAnswer (λ answer. answer ≡ sum_of terms.now) (string_bytes output.old) (string_bytes output.new) result }
+    ensures { GivesAnswer (λ answer. answer ≡ sum_of terms.now)
+        (string_bytes output.old) (string_bytes output.new) result }
 {
     append(checked_delta_sum(terms).ok_or(Refusal::OutOfRange)?, output)
 }
 
 // Appends a whole number of font units moved by the sum of terms.
+#[inline(never)]
 fn move_units<A: Allocator>(
     alloc: A,
     mut words: Words<'_>,
@@ -258,8 +276,13 @@ fn move_units<A: Allocator>(
         (string_bytes output.old) (string_bytes output.new) result }
 {
     let base = words.next().ok_or(Refusal::WordCount)?;
-    in_pairs(&words)?;
-    let units = short_number(base)?;
+    let units = match short_number(base) {
+        Ok(units) => units,
+        Err(refusal) => {
+            in_pairs(&words)?;
+            return Err(refusal.into());
+        }
+    };
     let terms = terms(alloc, words)?;
     append_moved(units, &terms, output)
 }
@@ -270,7 +293,8 @@ fn append_moved<A: Allocator>(
     terms: &[(Fixed, i32)],
     output: &mut String<A>,
 ) -> Result<(), Unanswered>
-    ensures { GivesAnswer (λ answer. answer ≡ varied_by units terms.now) (string_bytes output.old) (string_bytes output.new) result }
+    ensures { GivesAnswer (λ answer. answer ≡ varied_by units terms.now)
+        (string_bytes output.old) (string_bytes output.new) result }
 {
     append(
         vary(FWord::new(units), terms).ok_or(Refusal::OutOfRange)?,

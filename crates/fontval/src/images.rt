@@ -22,7 +22,8 @@ pub struct Move {
 impl Move {
     /// The move of these numbers: the elements of both matrices, and the coordinates of the point.
     pub fn of(numbers: [Fixed; 14]) -> Self
-        ensures { numbers ≡ elements_of result.a ++ elements_of result.b ++ result.p.x ∷ result.p.y ∷ [] }
+        ensures { numbers
+            ≡ elements_of result.a ++ elements_of result.b ++ result.p.x ∷ result.p.y ∷ [] }
     {
         let (a, rest) = numbers.split_first_chunk::<6>().unwrap();
         let (b, rest) = rest.split_first_chunk::<6>().unwrap();

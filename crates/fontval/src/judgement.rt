@@ -17,7 +17,8 @@ pub struct Judgement {
 }
 
 impl fmt::Display for Judgement {
-    ghost output = { λ judged. Some (tag_text (tag_bytes judged.tag) ++ verdict_text judged.verdict) };
+    ghost output = { λ judged.
+        Some (tag_text (tag_bytes judged.tag) ++ verdict_text judged.verdict) };
 
     fn fmt<W: fmt::Write>(&self, f: &mut fmt::Formatter<W>) -> fmt::Result {
         write!(f, "{}", self.tag)?;

@@ -1,10 +1,10 @@
 //! The numbers that the words of a line are read as.
 
-ghost use Rattle.std.specs.Prelude.{◌≡◌, ◌%◌, ◌==◌, Ok, Err, true, false, MatchResult, length};
-ghost use Rattle.std.specs.Bool.{MatchBool};
-ghost use Rattle.std.specs.Char.{is_ascii_digit};
-ghost use Rattle.std.specs.List.{list_all};
-ghost use Rattle.fontval.specs.Numbers.{ReadsEach, ReadsFixed, ReadsJust, ReadsTerm, ReadsWhole, IsWhole, pairs_of};
+ghost use Rattle.std.specs.Prelude.{◌≡◌, ◌%◌, ◌^◌, ◌==◌, Ok, Err, true, false, length, min, pos};
+ghost use Rattle.std.specs.Prelude.{MatchOption, MatchResult};
+ghost use Rattle.std.specs.Str.Parse.{IsNumeral, digits_value, starts_with_minus};
+ghost use Rattle.fontval.specs.Numbers.{ReadsFixed, ReadsJust, ReadsTerm, ReadsTerms, ReadsWhole};
+ghost use Rattle.fontval.specs.Numbers.{behind_minus};
 ghost use Rattle.fontval.specs.Refusal.{OnRefused};
 ghost use Rattle.fontval.specs.Text.{words_of};
 
@@ -14,25 +14,38 @@ use crate::text::Words;
 use font_types::Fixed;
 use std::alloc::Allocator;
 
+// So many terms find room at once. Most lines have fewer.
+const FEW_TERMS: usize = 16;
+
 /// The numbers that just N words are read as.
-#[tactic(auto, using(crate::proofs::NumbersLemmas::no_number, crate::proofs::NumbersLemmas::room_for_number, crate::proofs::NumbersLemmas::one_more_number, crate::proofs::NumbersLemmas::all_numbers, crate::proofs::NumbersLemmas::refused_number))]
-pub fn fixed_numbers<const N: usize>(words: Words<'_>) -> Result<[Fixed; N], Refusal>
+///
+/// The words are read as they come, and counted only where one of them is refused: their number is
+/// judged before any of them.
+#[tactic(auto, using(crate::proofs::NumbersLemmas::number_steps))]
+pub fn fixed_numbers<const N: usize>(mut words: Words<'_>) -> Result<[Fixed; N], Refusal>
     ensures { ReadsJust N (words_of words.entry.rest.now) result }
 {
-    if words.left() != N {
-        return Err(Refusal::WordCount);
-    }
     let mut numbers = [Fixed::ZERO; N];
     let mut at = 0;
-    for word in words {
-        numbers[at] = fixed_number(word)?;
+    while let Some(word) = words.next() {
+        if at == N {
+            return Err(Refusal::WordCount);
+        }
+        match fixed_number(word) {
+            Ok(number) => numbers[at] = number,
+            Err(refusal) if words.left() == N - at - 1 => return Err(refusal),
+            Err(_) => return Err(Refusal::WordCount),
+        }
         at += 1;
+    }
+    if at < N {
+        return Err(Refusal::WordCount);
     }
     Ok(numbers)
 }
 
 // The `Fixed` that a word is read as.
-#[tactic(auto, using(crate::proofs::NumbersLemmas::reads_no_fixed))]
+#[tactic(auto, using(crate::proofs::NumbersLemmas::reads_no_number))]
 fn fixed_number(word: &[u8]) -> Result<Fixed, Refusal>
     ensures { ReadsFixed word.now result }
 {
@@ -40,19 +53,28 @@ fn fixed_number(word: &[u8]) -> Result<Fixed, Refusal>
 }
 
 /// The terms that words are read as two by two: a scalar, and a whole number of font units.
-#[tactic(auto, using(crate::proofs::NumbersLemmas::no_term, crate::proofs::NumbersLemmas::one_more_term, crate::proofs::NumbersLemmas::refused_term, crate::proofs::NumbersLemmas::all_terms))]
+///
+/// The words are counted only where one of them is refused, as those of `fixed_numbers`.
+#[tactic(auto, using(crate::proofs::TermsLemmas::term_steps))]
 pub fn terms<A: Allocator>(
     alloc: A,
     mut words: Words<'_>,
 ) -> Result<Vec<(Fixed, i32), A>, Unanswered>
     ensures { MatchResult result
-        (λ terms. ReadsEach ReadsTerm (pairs_of (words_of words.entry.rest.now)) (Ok terms.items))
-        (λ reason. OnRefused reason (λ refusal. ReadsEach ReadsTerm (pairs_of (words_of words.entry.rest.now)) (Err refusal))) }
+        (λ terms. ReadsTerms (words_of words.entry.rest.now) (Ok terms.items))
+        (λ reason. OnRefused reason
+        (λ refusal. ReadsTerms (words_of words.entry.rest.now) (Err refusal))) }
 {
-    let mut terms = Vec::new(alloc);
-    while let (Some(scalar), Some(delta)) = (words.next(), words.next()) {
-        let term = term(scalar, delta)?;
-        terms.push(term).map_err(|_| Unanswered::Memory)?;
+    let mut terms = Vec::with_capacity(alloc, FEW_TERMS)?;
+    while let Some(scalar) = words.next() {
+        let delta = words.next().ok_or(Refusal::WordCount)?;
+        match term(scalar, delta) {
+            Ok(term) => terms.push(term).map_err(|_| Unanswered::Memory)?,
+            Err(refusal) => {
+                in_pairs(&words)?;
+                return Err(refusal.into());
+            }
+        }
     }
     Ok(terms)
 }
@@ -61,7 +83,8 @@ pub fn terms<A: Allocator>(
 pub fn in_pairs(words: &Words<'_>) -> Result<(), Refusal>
     ensures { MatchResult result
         (λ _. (length (words_of words.now.rest.now) % 2 == 0) ≡ true)
-        (λ refusal. ((length (words_of words.now.rest.now) % 2 == 0) ≡ false) × (refusal ≡ Refusal.WordCount)) }
+        (λ refusal. ((length (words_of words.now.rest.now) % 2 == 0) ≡ false)
+        × (refusal ≡ Refusal.WordCount)) }
 {
     if words.left().is_multiple_of(2) {
         Ok(())
@@ -78,15 +101,13 @@ fn term(scalar: &[u8], delta: &[u8]) -> Result<(Fixed, i32), Refusal>
 }
 
 /// The whole number of 32 bits that a word is read as.
-#[tactic(auto, using(crate::proofs::NumbersLemmas::whole_is_text))]
 pub fn whole_number(word: &[u8]) -> Result<i32, Refusal>
     ensures { ReadsWhole 32 word.now result }
 {
-    if !is_whole(word) {
-        return Err(Refusal::NotWhole);
-    }
-    let text = unsafe { str::from_utf8_unchecked(word) };
-    text.parse().map_err(|_| Refusal::OutOfRange)
+    let (negative, digits) = split_minus(word);
+    let magnitude = magnitude(digits).ok_or(Refusal::NotWhole)?;
+    let number = if negative { -magnitude } else { magnitude };
+    i32::try_from(number).map_err(|_| Refusal::OutOfRange)
 }
 
 /// The whole number of 16 bits that a word is read as.
@@ -96,17 +117,32 @@ pub fn short_number(word: &[u8]) -> Result<i16, Refusal>
     i16::try_from(whole_number(word)?).map_err(|_| Refusal::OutOfRange)
 }
 
-// Whether a word is a whole number.
-#[tactic(auto, using(crate::proofs::NumbersLemmas::digits_are_whole, crate::proofs::NumbersLemmas::others_are_not_whole))]
-fn is_whole(word: &[u8]) -> bool
-    ensures { MatchBool result (IsWhole word.now) (¬ (IsWhole word.now)) }
+// Whether a word begins with a `-`, and what stands behind it.
+fn split_minus(word: &[u8]) -> (bool, &[u8])
+    ensures minus { result.0 ≡ starts_with_minus word.now }
+    ensures rest { result.1.now ≡ behind_minus word.now }
 {
-    let digits = word.strip_prefix(b"-").unwrap_or(word);
-    !digits.is_empty() && are_digits(digits)
+    match word {
+        [b'-', rest @ ..] => (true, rest),
+        _ => (false, word),
+    }
 }
 
-fn are_digits(bytes: &[u8]) -> bool
-    ensures { result ≡ list_all is_ascii_digit bytes.now }
+// The number that one or more digits write, or 2^40 where it is greater.
+fn magnitude(digits: &[u8]) -> Option<i64>
+    ensures { MatchOption result
+        (¬ (IsNumeral 10 digits.now))
+        (λ n. IsNumeral 10 digits.now × (n ≡ pos (min (digits_value 10 digits.now) (2 ^ 40)))) }
 {
-    bytes.iter().all(|byte| byte.is_ascii_digit())
+    if digits.is_empty() {
+        return None;
+    }
+    let mut number = 0u64;
+    for digit in digits {
+        if !digit.is_ascii_digit() {
+            return None;
+        }
+        number = (number * 10 + u64::from(*digit - b'0')).min(1 << 40);
+    }
+    Some(number as i64)
 }

@@ -29,7 +29,9 @@ pub fn append_read<T: Scalar<Raw = [u8; N]> + Drop, const N: usize, A: Allocator
     output: &mut String<A>,
 ) -> Result<(), Unanswered>
     requires room { N ≤ 8 }
-    ensures { GivesAnswer (λ answer. answer ≡ result_map_both (λ value. encode_lower (T.raw_of value)) refusal_of number)
+    ensures { GivesAnswer
+        (λ answer. answer
+        ≡ result_map_both (λ value. encode_lower (T.raw_of value)) refusal_of number)
         (string_bytes output.old) (string_bytes output.new) result }
 {
     append_bytes(number?.to_raw().as_slice(), output)
@@ -44,6 +46,6 @@ fn append_bytes<A: Allocator>(bytes: &[u8], output: &mut String<A>) -> Result<()
     let mut room = [0; 16];
     let digits = &mut room[..2 * bytes.len()];
     hex::encode_to_slice(bytes, digits).unwrap();
-    output.push_str(str::from_utf8(digits).unwrap())?;
+    output.push_str(unsafe { str::from_utf8_unchecked(digits) })?;
     Ok(())
 }

@@ -1,19 +1,19 @@
 //! What a command makes of its words.
 
-ghost use Rattle.std.specs.Prelude.{◌≡◌, [], ◌∷◌, MatchResult};
+ghost use Rattle.std.specs.Prelude.{◌≡◌, ◌<◌, Ok, Err, MatchResult};
 ghost use Rattle.font_types.specs.Grammar.{IsNoDecimal};
-ghost use Rattle.fontval.specs.Command.{hexadecimal, two_words};
+ghost use Rattle.fontval.specs.Command.{hexadecimal, only_bytes, only_word, two_words};
 ghost use Rattle.fontval.specs.Text.{words_of};
 
 use crate::refusal::Refusal;
 use crate::text::Words;
 use hex::FromHex;
 
-/// The word of a command that takes one.
-pub fn only_word(mut words: Words<'_>) -> Result<&[u8], Refusal>
+// The word of a command that takes one.
+fn only_word(mut words: Words<'_>) -> Result<&[u8], Refusal>
     ensures { MatchResult result
-        (λ word. words_of words.entry.rest.now ≡ word.now ∷ [])
-        (λ refusal. (n : _) → hexadecimal n (words_of words.entry.rest.now) ≡ Err refusal) }
+        (λ word. only_word (words_of words.entry.rest.now) ≡ Ok word.now)
+        (λ refusal. only_word (words_of words.entry.rest.now) ≡ Err refusal) }
 {
     match (words.next(), words.next()) {
         (Some(word), None) => Ok(word),
@@ -33,16 +33,42 @@ pub fn two_words(mut words: Words<'_>) -> Result<(&[u8], &[u8]), Refusal>
     }
 }
 
-/// The bytes of a word of hexadecimal digits, of either case.
-pub fn hexadecimal<const N: usize>(word: &[u8]) -> Result<[u8; N], Refusal>
-    ensures { result ≡ hexadecimal N (word.now ∷ []) }
+/// The bytes of the only word, of hexadecimal digits of either case.
+///
+/// Where all that is left are such digits, they are one word, and no other is sought.
+#[tactic(auto, using(crate::proofs::HexadecimalLemmas::decoded_alone))]
+pub fn hexadecimal<const N: usize>(words: Words<'_>) -> Result<[u8; N], Refusal>
+    requires some { 0 < N }
+    ensures { result ≡ only_bytes N (words_of words.entry.rest.now) }
 {
-    <[u8; N]>::from_hex(word).map_err(|_| Refusal::NotHexadecimal)
+    match decoded(words.rest) {
+        Ok(bytes) => Ok(bytes),
+        Err(_) => hexadecimal_word(words),
+    }
+}
+
+// The same, with the words told apart first.
+#[cold]
+#[inline(never)]
+fn hexadecimal_word<const N: usize>(words: Words<'_>) -> Result<[u8; N], Refusal>
+    ensures { result ≡ only_bytes N (words_of words.entry.rest.now) }
+{
+    decoded(only_word(words)?)
+}
+
+// The bytes of a text of hexadecimal digits.
+#[inline(never)]
+fn decoded<const N: usize>(text: &[u8]) -> Result<[u8; N], Refusal>
+    ensures { result ≡ hexadecimal N text.now }
+{
+    <[u8; N]>::from_hex(text).map_err(|_| Refusal::NotHexadecimal)
 }
 
 /// A word as text. One that is not ASCII is no decimal.
 pub fn decimal_text(word: &[u8]) -> Result<&str, Refusal>
-    ensures { MatchResult result (λ text. text.now ≡ word.now) (λ refusal. (refusal ≡ Refusal.NotDecimal) × IsNoDecimal word.now) }
+    ensures { MatchResult result
+        (λ text. text.now ≡ word.now)
+        (λ refusal. (refusal ≡ Refusal.NotDecimal) × IsNoDecimal word.now) }
 {
     if !word.is_ascii() {
         return Err(Refusal::NotDecimal);

@@ -6,21 +6,31 @@ ghost use Rattle.fontval.specs.declared.refusal.Unanswered.{Unanswered};
 
 use font_types::DecimalFault;
 use std::alloc::AllocError;
+use thiserror::Error;
 
-/// Why a line is refused. It is shown by its number.
-#[derive(Clone, Copy)]
+#[cfg(test)]
+mod tests;
+
+/// Why a line is refused. In an answer it is shown by its number.
+#[derive(Clone, Copy, Debug, Error)]
 pub enum Refusal {
     /// No word, or a first word that names no command.
+    #[error("unknown command")]
     UnknownCommand = 1,
     /// Too few words or too many.
+    #[error("wrong number of words")]
     WordCount = 2,
     /// A word that is not hexadecimal, or has another number of bytes.
+    #[error("not hexadecimal bytes of the type")]
     NotHexadecimal = 3,
     /// A word outside the grammar of decimal texts.
+    #[error("not a decimal number")]
     NotDecimal = 4,
     /// A number outside the range of its type.
+    #[error("number out of range")]
     OutOfRange = 5,
     /// A word that is no whole number: an optional `-`, and one or more digits.
+    #[error("not a whole number")]
     NotWhole = 6,
 }
 
@@ -36,11 +46,13 @@ impl From<DecimalFault> for Refusal {
 }
 
 /// Why a command appends nothing.
-#[derive(Clone, Copy)]
+#[derive(Clone, Copy, Debug, Error)]
 pub enum Unanswered {
     /// There is no memory for the answer.
+    #[error("memory")]
     Memory,
     /// The line is refused.
+    #[error("refused: {0}")]
     Refused(Refusal),
 }
 

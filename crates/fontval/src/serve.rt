@@ -1,6 +1,7 @@
 //! The work of the program: all input is read, all answers are made, and then they are written.
 
-ghost use Rattle.std.specs.Prelude.{◌≡◌, Ok, Err, IfOk, IfErr, OnOk, OnErr, true, false, string_bytes};
+ghost use Rattle.std.specs.Prelude.{◌≡◌, Ok, Err, true, false, string_bytes};
+ghost use Rattle.std.specs.Prelude.{IfOk, IfErr, OnOk, OnErr};
 ghost use Rattle.std.specs.Io.KnownBytes.{Appends, Keeps};
 ghost use Rattle.fontval.specs.Serve.{Serves, ServesInPart, ReadsAll, WritesInPart, ReadFails};
 
@@ -43,19 +44,24 @@ pub fn serve<A: Allocator + Copy, S: Source, K: Sink>(
     requires sink_works { K.failed sink.old ≡ false }
 
     // All was read and all answers were written, and nothing has failed.
-    ensures ok { OnOk result (Serves (S.left source.old) (S.left source.new) (K.taken sink.old) (K.taken sink.new)) }
+    ensures ok { OnOk result (Serves
+        (S.left source.old) (S.left source.new) (K.taken sink.old) (K.taken sink.new)) }
     ensures ok_works { OnOk result ((S.failed source.new ≡ false) × (K.failed sink.new ≡ false)) }
 
     // Where memory or a read is refused, nothing was written.
     ensures memory { result ≡ Err ServeFault.Memory → Keeps (K.taken sink.old) (K.taken sink.new) }
-    ensures memory_works { result ≡ Err ServeFault.Memory → (S.failed source.new ≡ false) × (K.failed sink.new ≡ false) }
+    ensures memory_works { result ≡ Err ServeFault.Memory
+        → (S.failed source.new ≡ false) × (K.failed sink.new ≡ false) }
     ensures read { result ≡ Err ServeFault.Read → Keeps (K.taken sink.old) (K.taken sink.new) }
-    ensures read_failed { result ≡ Err ServeFault.Read → (S.failed source.new ≡ true) × (K.failed sink.new ≡ false) }
+    ensures read_failed { result ≡ Err ServeFault.Read
+        → (S.failed source.new ≡ true) × (K.failed sink.new ≡ false) }
 
     // Where a write is refused, a beginning of the answers was written, and not the whole.
     ensures write { result ≡ Err ServeFault.Write
-        → ServesInPart (S.left source.old) (S.left source.new) (K.taken sink.old) (K.taken sink.new) }
-    ensures write_failed { result ≡ Err ServeFault.Write → (S.failed source.new ≡ false) × (K.failed sink.new ≡ true) }
+        → ServesInPart
+        (S.left source.old) (S.left source.new) (K.taken sink.old) (K.taken sink.new) }
+    ensures write_failed { result ≡ Err ServeFault.Write
+        → (S.failed source.new ≡ false) × (K.failed sink.new ≡ true) }
 {
     let input = read_all(alloc, source)?;
     let Ok(output) = answers(alloc, &input) else {
@@ -67,7 +73,8 @@ pub fn serve<A: Allocator + Copy, S: Source, K: Sink>(
 // Reads a source to its end.
 fn read_all<A: Allocator, S: Source>(alloc: A, source: &mut S) -> Result<Vec<u8, A>, ServeFault>
     requires { S.failed source.old ≡ false }
-    ensures ok { IfOk result (λ input. ReadsAll (S.left source.old) (S.left source.new) input.items) }
+    ensures ok { IfOk result (λ input.
+        ReadsAll (S.left source.old) (S.left source.new) input.items) }
     ensures ok_works { OnOk result (S.failed source.new ≡ false) }
     ensures err { IfErr result (λ fault. ReadFails fault (S.failed source.new)) }
 {
@@ -87,7 +94,7 @@ fn read_all<A: Allocator, S: Source>(alloc: A, source: &mut S) -> Result<Vec<u8,
 }
 
 // Writes all the bytes.
-#[tactic(auto, using(crate::proofs::DeviceLemmas::written_none, crate::proofs::DeviceLemmas::written_more, crate::proofs::DeviceLemmas::written_all, crate::proofs::DeviceLemmas::written_in_part))]
+#[tactic(auto, using(crate::proofs::DeviceLemmas::write_steps))]
 fn write_all<K: Sink>(sink: &mut K, bytes: &[u8]) -> Result<(), ServeFault>
     requires { K.failed sink.old ≡ false }
     ensures ok { OnOk result (Appends (K.taken sink.old) (K.taken sink.new) bytes.now) }

@@ -67,8 +67,8 @@ impl Source for Drip<'_> {
     }
 }
 
-/// A sink that takes one byte a call, as long as it has calls that pass. It counts every call, also one
-/// with nothing to write.
+/// A sink that takes one byte a call, as long as it has calls that pass. It counts every call,
+/// also one with nothing to write.
 #[derive(Drop)]
 struct Trickle {
     taken: Vec<u8>,
@@ -206,7 +206,8 @@ fn rows(rt: HostRuntime) -> Result<(), Fail> {
     Ok(())
 }
 
-// Each byte is read once and the end is asked for once: on a terminal a second time would wait for a person.
+// Each byte is read once and the end is asked for once: on a terminal a second time would wait for
+// a person.
 #[test]
 fn one_byte_a_call(rt: HostRuntime) -> Result<(), Fail> {
     let mut source = Drip::new(LINES, usize::MAX);

@@ -1,5 +1,4 @@
-use Rattle.std.proofs.Common.{length}
-use Rattle.fontval.proofs.NumbersLemmas.{AreTermsUpTo}
+use Rattle.fontval.proofs.TermsLemmas.{AreTermsUpTo}
 use Rattle.fontval.proofs.numbers.terms.Given as goal
 
 abbrev pub invariant-loop-scalar : goal.invariant-loop-scalar

@@ -1,11 +1,10 @@
 use Rattle.std.proofs.Common.{◌≡◌, List, ℕ, subst, sym}
 use Rattle.std.specs.Str.{IsUtf8}
 use Rattle.hex.specs.Hex.{encode_lower}
-use Rattle.fontval.proofs.HexadecimalLemmas.{hexadecimal_is_text, text_is_read}
+use Rattle.fontval.proofs.HexadecimalLemmas.{hexadecimal_is_text}
 use Rattle.fontval.proofs.output.append_bytes.Goals as goal
 
-pub unwrap-requires-2 : goal.unwrap-requires-2
-unwrap-requires-2 g c =
+pub from_utf8_unchecked-requires : goal.from_utf8_unchecked-requires
+from_utf8_unchecked-requires g c =
     let written : c.encode_to_slice.new.output ≡ encode_lower c.args.bytes.now = rw c.unwrap.ensures at c.encode_to_slice.ensures.written in
-    text_is_read c.from_utf8.result _ _ c.encode_to_slice.new.output c.from_utf8.ensures.cases
-    (subst (λ (bytes : List ℕ). IsUtf8 bytes) (sym written) (hexadecimal_is_text c.args.bytes.now))
+    subst (λ (bytes : List ℕ). IsUtf8 bytes) (sym written) (hexadecimal_is_text c.args.bytes.now)

@@ -1,4 +1,4 @@
-use Rattle.std.proofs.Common.{rules, ◌≡◌, ◌∙◌, ℕ, List, [], ◌∷◌, ◌++◌, take, drop, length, arith, sym, ap, refl, slice_index_or, pos}
+use Rattle.std.proofs.Common.{rules, ◌≡◌, ◌∙◌, List, [], ◌∷◌, ◌++◌, take, drop, length, arith, sym, ap, refl, slice_index_or, pos}
 use Rattle.std.proofs.lemmas.List.{take-append-drop}
 use Rattle.font_types.specs.Matrix.{elements_of}
 use Rattle.font_types.specs.Fixed.{fixed_of}

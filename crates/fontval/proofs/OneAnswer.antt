@@ -1,0 +1,268 @@
+-- An input has one answer: each definition on the way from a line to its text has one result.
+use Rattle.std.proofs.Common.{◌≡◌, ℕ, ℤ, zero, suc, Bool, true, false, List, [], ◌∷◌, ◌++◌, ◌⊎◌, inl, inr, length, Option, Some, None, Result, Ok, Err, MatchResult, refl, sym, ap, ◌∙◌, subst, arith, get_or, unwrap_or, pos}
+use Rattle.std.specs.Prelude.{◌%◌, ◌==◌, if◌then◌else◌}
+use Rattle.std.specs.Bool.{MatchBool}
+use Rattle.std.specs.Result.{result_map_both}
+use Rattle.std.specs.Str.{bytes_eq}
+use Rattle.std.specs.Str.Parse.{signed_digits_value}
+use Rattle.std.specs.Fmt.{signed_decimal}
+use Rattle.std.proofs.lemmas.Bool.{cases_lt, false≢true}
+use Rattle.font_types.specs.DecimalFault.{DecimalFault}
+use Rattle.font_types.specs.Wrap.{FitsBits}
+use Rattle.font_types.specs.Tag.{IsFault, IsValidated, IsVisible, four_spaces}
+use Rattle.font_types.specs.InvalidTag.{InvalidTag}
+use Rattle.font_types.specs.InvalidTag.TheVariants.{InvalidLength, InvalidByte, ByteAfterSpace}
+use Rattle.font_types.specs.Fixed.{fixed_of}
+use Rattle.font_types.specs.FixedMatrix.{matrix_bits, point_bits}
+use Rattle.font_types.specs.fixed.Fixed.{Fixed}
+use Rattle.font_types.proofs.Callers.{reading_unique, validated_good}
+use Rattle.fontval.specs.Answers.{Answers, AnswersLine, AnswersLines}
+use Rattle.fontval.specs.Command.{AnswersWords, IsAnswer, IsNamed, IsNamedType, JudgesTag, fixed_point, fixed_row, integer, name_of, only_bytes, two_words, verdict_text}
+use Rattle.fontval.specs.Deltas.{Varies, sum_of, varied_by}
+use Rattle.fontval.specs.Images.{ShowsImages, images_text}
+use Rattle.fontval.specs.Numbers.{IsWhole, ReadsEach, ReadsFixed, ReadsJust, ReadsNumber, ReadsTerm, ReadsTerms, ReadsWhole, Then, pairs_of}
+use Rattle.fontval.specs.Refusal.{Answer, refusal_of, text_of}
+use Rattle.fontval.specs.Text.{lines_of, words_of}
+use Rattle.fontval.specs.declared.command.Command.{Command}
+use Rattle.fontval.specs.declared.command.Command.TheVariants.{Integer, FixedPoint, Read, Tag, Image, Sum, Vary}
+use Rattle.fontval.specs.declared.command.FixedType.{FixedType}
+use Rattle.fontval.specs.declared.command.FixedType.TheVariants.{F2Dot14, F4Dot12, F6Dot10, Fixed as Fixed16, F26Dot6, F48Dot16, F2Dot30}
+use Rattle.fontval.specs.declared.command.IntegerType.TheVariants.{Uint8, Int8, Uint16, Int16, Uint24, Int24, Uint32, Int32, Int64}
+use Rattle.fontval.specs.declared.refusal.Refusal.{Refusal}
+use Rattle.fontval.specs.declared.refusal.Refusal.TheVariants.{UnknownCommand, WordCount, NotHexadecimal, NotDecimal, OutOfRange, NotWhole}
+
+-- not two different things are so
+abbrev pub IsOne : {T : Type 0} → (T → Type 0) → Type 0
+IsOne {T} Is = (x y : T) → Is x → Is y → x ≡ y
+
+one_value : {T : Type 0} (value : T) → IsOne (λ (x : T). x ≡ value)
+one_value value x y p q = p ∙ sym q
+
+module _ {T : Type 0} (P Q : T → Type 0) where
+  one_either : (b : Bool) → IsOne P → IsOne Q → IsOne (λ x. MatchBool b (P x) (Q x))
+  one_either true p q = p
+  one_either false p q = q
+
+module _ {A B : Type 0} (GoesOn : A → Result B Refusal → Type 0) (one : (value : A) → IsOne (GoesOn value)) where
+  one_after : (first : Result A Refusal) → IsOne (λ r. MatchResult first (λ value. GoesOn value r) (λ refusal. r ≡ Err refusal))
+  one_after (Ok value) = one value
+  one_after (Err refusal) = one_value (Err refusal)
+
+  one_then : (IsFirst : Result A Refusal → Type 0) → IsOne IsFirst → IsOne (Then IsFirst GoesOn)
+  one_then IsFirst one_first x y p q =
+      let same = one_first p.first q.first p.is_first q.is_first in
+      let behind = subst (λ first. MatchResult first (λ value. GoesOn value y) (λ refusal. y ≡ Err refusal)) (sym same) q.goes_on in
+      one_after p.first x y p.goes_on behind
+
+-- ---- numbers
+
+one_number : {T : Type 0} (w f : ℕ) (value : ℤ → T) (text : List ℕ) → IsOne (ReadsNumber w f value text)
+one_number w f value text x y p q =
+    p.gives ∙ ap (result_map_both value refusal_of) (reading_unique text f _ _ p.bits q.bits p.read q.read) ∙ sym q.gives
+
+-- what a word that is read as no whole number of w bits is refused as
+abbrev IsNoWhole : ℕ → List ℕ → Refusal → Type 0
+IsNoWhole w word refusal =
+    ((refusal ≡ NotWhole) × (¬ (IsWhole word)))
+    ⊎ ((refusal ≡ OutOfRange) × (IsWhole word × (¬ (FitsBits w (signed_digits_value 10 word)))))
+
+no_whole : (w : ℕ) (word : List ℕ) (refusal : Refusal) → ReadsWhole w word (Err refusal) → IsNoWhole w word refusal
+no_whole w word NotWhole read = inl (refl, read)
+no_whole w word OutOfRange read = inr (refl, read)
+no_whole w word UnknownCommand read = absurd read
+no_whole w word WordCount read = absurd read
+no_whole w word NotHexadecimal read = absurd read
+no_whole w word NotDecimal read = absurd read
+
+whole_or_not : (w : ℕ) (word : List ℕ) (n : ℤ) (refusal : Refusal) → ReadsWhole w word (Ok n) → ¬ (ReadsWhole w word (Err refusal))
+whole_or_not w word n refusal read none = elim (no_whole w word refusal none) [
+  | inl other ↦ other.1 read.0
+  | inr far ↦ far.1.1 (subst (FitsBits w) read.1 read.2)
+]
+
+one_whole : (w : ℕ) (word : List ℕ) → IsOne (ReadsWhole w word)
+one_whole w word (Ok n) (Ok m) p q = ap Ok (p.1 ∙ sym q.1)
+one_whole w word (Ok n) (Err refusal) p q = absurd (whole_or_not w word n refusal p q)
+one_whole w word (Err refusal) (Ok n) p q = absurd (whole_or_not w word n refusal q p)
+one_whole w word (Err refusal) (Err other) p q = ap Err (same (no_whole w word refusal p) (no_whole w word other q)) where
+  same : IsNoWhole w word refusal → IsNoWhole w word other → refusal ≡ other
+  same (inl a) (inl b) = a.0 ∙ sym b.0
+  same (inl a) (inr b) = absurd (a.1 b.1.0)
+  same (inr a) (inl b) = absurd (b.1 a.1.0)
+  same (inr a) (inr b) = a.0 ∙ sym b.0
+
+one_each : {W T : Type 0} (reads : W → Result T Refusal → Type 0) → ((word : W) → IsOne (reads word)) → (words : List W) → IsOne (ReadsEach reads words)
+one_each reads one [] = one_value (Ok [])
+one_each reads one (word ∷ words) =
+    one_then _ (λ value. one_then _ (λ values. one_value (Ok (value ∷ values))) (ReadsEach reads words) (one_each reads one words)) (reads word) (one word)
+
+one_term : (words : List ℕ × List ℕ) → IsOne (ReadsTerm words)
+one_term words =
+    one_then _ (λ scalar. one_then _ (λ delta. one_value (Ok (scalar, delta))) (ReadsWhole 32 words.1) (one_whole 32 words.1)) (ReadsFixed words.0) (one_number 32 16 fixed_of words.0)
+
+one_terms : (words : List (List ℕ)) → IsOne (ReadsTerms words)
+one_terms words = one_either _ _ (length words % 2 == 0) (one_each ReadsTerm one_term (pairs_of words)) (one_value (Err WordCount))
+
+one_just : (n : ℕ) (words : List (List ℕ)) → IsOne (ReadsJust n words)
+one_just n words = one_either _ _ (length words == n) (one_each ReadsFixed (one_number 32 16 fixed_of) words) (one_value (Err WordCount))
+
+-- ---- names
+
+-- the command of a list that a word names
+abbrev sought : List ℕ → List Command → Option Command
+sought word [] = None
+sought word (command ∷ commands) = if bytes_eq (name_of command) word then Some command else sought word commands
+
+abbrev commands : List Command
+commands =
+    Integer Uint8 ∷ Integer Int8 ∷ Integer Uint16 ∷ Integer Int16 ∷ Integer Uint24 ∷ Integer Int24 ∷ Integer Uint32 ∷ Integer Int32 ∷ Integer Int64
+    ∷ FixedPoint F2Dot14 ∷ FixedPoint F4Dot12 ∷ FixedPoint F6Dot10 ∷ FixedPoint Fixed16 ∷ FixedPoint F26Dot6 ∷ FixedPoint F48Dot16 ∷ FixedPoint F2Dot30
+    ∷ Read ∷ Tag ∷ Image ∷ Sum ∷ Vary ∷ []
+
+-- each command is found by its name
+found : (command : Command) → sought (name_of command) commands ≡ Some command
+found (Integer Uint8) = refl
+found (Integer Int8) = refl
+found (Integer Uint16) = refl
+found (Integer Int16) = refl
+found (Integer Uint24) = refl
+found (Integer Int24) = refl
+found (Integer Uint32) = refl
+found (Integer Int32) = refl
+found (Integer Int64) = refl
+found (FixedPoint F2Dot14) = refl
+found (FixedPoint F4Dot12) = refl
+found (FixedPoint F6Dot10) = refl
+found (FixedPoint Fixed16) = refl
+found (FixedPoint F26Dot6) = refl
+found (FixedPoint F48Dot16) = refl
+found (FixedPoint F2Dot30) = refl
+found Read = refl
+found Tag = refl
+found Image = refl
+found Sum = refl
+found Vary = refl
+
+pub commands_apart : (a b : Command) → name_of a ≡ name_of b → a ≡ b
+commands_apart a b same =
+    ap (λ (o : Option Command). unwrap_or o a) (sym (found a) ∙ ap (λ word. sought word commands) same ∙ found b)
+
+abbrev type_of : Command → FixedType
+type_of (FixedPoint type) = type
+type_of _ = Fixed16
+
+types_apart : (a b : FixedType) → (fixed_row a).0 ≡ (fixed_row b).0 → a ≡ b
+types_apart a b same = ap type_of (commands_apart (FixedPoint a) (FixedPoint b) same)
+
+one_named : (word : List ℕ) → IsOne (IsNamed word)
+one_named word (Ok a) (Ok b) p q = ap Ok (commands_apart a b (p ∙ sym q))
+one_named word (Ok a) (Err refusal) p q = absurd (q.1 a p)
+one_named word (Err refusal) (Ok b) p q = absurd (p.1 b q)
+one_named word (Err refusal) (Err other) p q = ap Err (p.0 ∙ sym q.0)
+
+one_named_type : (word : List ℕ) → IsOne (IsNamedType word)
+one_named_type word (Ok a) (Ok b) p q = ap Ok (types_apart a b (p ∙ sym q))
+one_named_type word (Ok a) (Err refusal) p q = absurd (q.1 a p)
+one_named_type word (Err refusal) (Ok b) p q = absurd (p.1 b q)
+one_named_type word (Err refusal) (Err other) p q = ap Err (p.0 ∙ sym q.0)
+
+-- ---- tags
+
+one_fault : (bytes : List ℕ) → IsOne (IsFault bytes)
+one_fault bytes i j p q = elim (cases_lt i j) [
+  | inl before ↦ absurd (p.fails (q.least i before))
+  | inr behind ↦ elim (cases_lt j i) [
+    | inl before ↦ absurd (q.fails (p.least j before))
+    | inr same ↦ omega (arith, behind, same)
+  ]
+]
+
+spaces_hidden : (i : ℕ) → ¬ (IsVisible (get_or four_spaces i 0))
+spaces_hidden zero visible = absurd (omega (arith, visible.0))
+spaces_hidden (suc zero) visible = absurd (omega (arith, visible.0))
+spaces_hidden (suc (suc zero)) visible = absurd (omega (arith, visible.0))
+spaces_hidden (suc (suc (suc zero))) visible = absurd (omega (arith, visible.0))
+spaces_hidden (suc (suc (suc (suc i)))) visible = absurd (omega (arith, visible.0))
+
+module _ (bytes : List ℕ) where
+  apart : (i j byte : ℕ) → IsValidated bytes (Err (InvalidByte i byte)) → ¬ (IsValidated bytes (Err (ByteAfterSpace j)))
+  apart i j byte p q =
+      let same = one_fault bytes i j p.1 q.0 in
+      p.2 (subst IsVisible (ap (λ k. get_or bytes k 0) (sym same) ∙ sym p.3) q.1)
+
+  spaces : (n j : ℕ) → IsValidated bytes (Err (InvalidLength n)) → ¬ (IsValidated bytes (Err (ByteAfterSpace j)))
+  spaces n j p q = spaces_hidden j (subst (λ list. IsVisible (get_or list j 0)) p.0 q.1)
+
+  one_invalid : IsOne (λ e. IsValidated bytes (Err e))
+  one_invalid (InvalidLength n) (InvalidLength m) p q = ap InvalidLength (p.1 ∙ sym q.1)
+  one_invalid (InvalidLength n) (InvalidByte j byte) p q = absurd (q.0 p.0)
+  one_invalid (InvalidLength n) (ByteAfterSpace j) p q = absurd (spaces n j p q)
+  one_invalid (InvalidByte i byte) (InvalidLength m) p q = absurd (p.0 q.0)
+  one_invalid (InvalidByte i byte) (InvalidByte j other) p q =
+      let same = one_fault bytes i j p.1 q.1 in
+      ap (λ k. InvalidByte k byte) same ∙ ap (InvalidByte j) (p.3 ∙ ap (λ k. get_or bytes k 0) same ∙ sym q.3)
+  one_invalid (InvalidByte i byte) (ByteAfterSpace j) p q = absurd (apart i j byte p q)
+  one_invalid (ByteAfterSpace i) (InvalidLength m) p q = absurd (spaces m i q p)
+  one_invalid (ByteAfterSpace i) (InvalidByte j byte) p q = absurd (apart j i byte q p)
+  one_invalid (ByteAfterSpace i) (ByteAfterSpace j) p q = ap ByteAfterSpace (one_fault bytes i j p.0 q.0)
+
+  one_verdict : IsOne (IsValidated bytes)
+  one_verdict (Ok a) (Ok b) p q = refl
+  one_verdict (Ok a) (Err e) p q = absurd (false≢true ((validated_good bytes (Err e) q).1 p))
+  one_verdict (Err e) (Ok b) p q = absurd (false≢true ((validated_good bytes (Err e) p).1 q))
+  one_verdict (Err e) (Err d) p q = ap Err (one_invalid e d p q)
+
+  one_judgement : IsOne (JudgesTag bytes)
+  one_judgement x y p q =
+      p.shows ∙ ap (λ verdict. Ok (Rattle.font_types.specs.Tag.tag_text bytes ++ verdict_text verdict)) (one_verdict p.verdict q.verdict p.judged q.judged) ∙ sym q.shows
+
+-- ---- images
+
+-- where numbers send a point, by their places
+abbrev images_at : List Fixed → Answer
+images_at numbers =
+    let at : ℕ → Fixed = λ i. get_or numbers i (fixed_of (pos 0)) in
+    Ok (images_text
+    (matrix_bits (record { xx = at 0; yx = at 1; xy = at 2; yy = at 3; dx = at 4; dy = at 5 }))
+    (matrix_bits (record { xx = at 6; yx = at 7; xy = at 8; yy = at 9; dx = at 10; dy = at 11 }))
+    (point_bits (record { x = at 12; y = at 13 })))
+
+one_images : (numbers : List Fixed) → IsOne (ShowsImages numbers)
+one_images numbers x y p q = (p.shows ∙ ap images_at (sym p.are)) ∙ sym (q.shows ∙ ap images_at (sym q.are))
+
+-- ---- lines
+
+one_vary : (words : List (List ℕ)) → IsOne (Varies words)
+one_vary [] = one_value (Err WordCount)
+one_vary (base ∷ words) =
+    one_either _ _ (length words % 2 == 0)
+    (one_then _ (λ units. one_then _ (λ terms. one_value (varied_by units terms)) (ReadsTerms words) (one_terms words)) (ReadsWhole 16 base) (one_whole 16 base))
+    (one_value (Err WordCount))
+
+one_answer_of : (words : List (List ℕ)) (command : Command) → IsOne (AnswersWords words command)
+one_answer_of words (Integer type) = one_value (result_map_both signed_decimal (λ refusal. refusal) (integer type words))
+one_answer_of words (FixedPoint type) = one_value (fixed_point type words)
+one_answer_of words Read =
+    one_after _ (λ pair. one_then _ (λ type. one_number _ _ _ pair.1) (IsNamedType pair.0) (one_named_type pair.0)) (two_words words)
+one_answer_of words Tag = one_after _ one_judgement (only_bytes 4 words)
+one_answer_of words Image = one_then _ one_images (ReadsJust 14 words) (one_just 14 words)
+one_answer_of words Sum = one_then _ (λ terms. one_value (sum_of terms)) (ReadsTerms words) (one_terms words)
+one_answer_of words Vary = one_vary words
+
+one_answer : (words : List (List ℕ)) → IsOne (IsAnswer words)
+one_answer [] = one_value (Err UnknownCommand)
+one_answer (name ∷ words) = one_then _ (one_answer_of words) (IsNamed name) (one_named name)
+
+one_text : (line : List ℕ) → IsOne (AnswersLine line)
+one_text line x y p q = p.shown ∙ ap text_of (one_answer (words_of line) p.answer q.answer p.meant q.meant) ∙ sym q.shown
+
+one_output : (lines : List (List ℕ)) → IsOne (AnswersLines lines)
+one_output [] x y p q = p ∙ sym q
+one_output (line ∷ lines) x y p q =
+    let text = one_text line p.text q.text p.answers q.answers in
+    let rest = one_output lines p.rest q.rest p.others q.others in
+    p.joined ∙ ap (λ t. t ++ 10 ∷ p.rest) text ∙ ap (λ r. q.text ++ 10 ∷ r) rest ∙ sym q.joined
+
+-- what answers an input is its one answer
+pub only_answer : (input output : List ℕ) → Answers input output → (other : List ℕ) → Answers input other → other ≡ output
+only_answer input output answers other others = one_output (lines_of input) other output others answers

@@ -1,0 +1,30 @@
+//! The texts of refusals.
+
+use super::{Refusal, Unanswered};
+use std::test::Fail;
+
+#[test]
+fn refusals_in_words(rt: HostRuntime) -> Result<(), Fail> {
+    for (refusal, number, text) in [
+        (Refusal::UnknownCommand, 1, "unknown command"),
+        (Refusal::WordCount, 2, "wrong number of words"),
+        (
+            Refusal::NotHexadecimal,
+            3,
+            "not hexadecimal bytes of the type",
+        ),
+        (Refusal::NotDecimal, 4, "not a decimal number"),
+        (Refusal::OutOfRange, 5, "number out of range"),
+        (Refusal::NotWhole, 6, "not a whole number"),
+    ] {
+        assert_eq!(rt; refusal as u8, number);
+        assert_eq!(rt; refusal.to_string(rt.alloc())?.as_str(), text);
+        let told = Unanswered::Refused(refusal).to_string(rt.alloc())?;
+        assert_eq!(rt; told.as_str().strip_prefix("refused: "), Some(text));
+    }
+    assert_eq!(rt;
+        Unanswered::Memory.to_string(rt.alloc())?.as_str(),
+        "memory"
+    );
+    Ok(())
+}
