@@ -16,10 +16,7 @@ fn main() {
     println!("cargo::rerun-if-env-changed={FOLDER}");
     println!("cargo::rerun-if-changed={}", archive.display());
     if !archive.is_file() {
-        println!(
-            "cargo::error=there is no {}: {HELP}",
-            archive.display()
-        );
+        println!("cargo::error=there is no {}: {HELP}", archive.display());
         return;
     }
     println!("cargo::rustc-link-search=native={}", folder.display());

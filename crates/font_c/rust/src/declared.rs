@@ -37,25 +37,30 @@ pub struct Calls<B> {
 
 impl<B: Copy> Calls<B> {
     /// The status of reading a text. `bits` is written just where it is 0.
-    pub(crate) fn from_decimal(&self, text: &[u8], bits: &mut B) -> u32 {
+    pub(crate) fn read_decimal(&self, text: &[u8], bits: &mut B) -> u32 {
+        // SAFETY: text and place are borrowed for the call.
         unsafe { (self.from_decimal)(text.as_ptr(), text.len(), bits) }
     }
 
     /// How many bytes of the decimal were written, or 0 where `out` is too short.
-    pub(crate) fn to_decimal(&self, bits: B, out: &mut [u8]) -> usize {
+    pub(crate) fn write_decimal(&self, bits: B, out: &mut [u8]) -> usize {
+        // SAFETY: the room is borrowed for the call.
         unsafe { (self.to_decimal)(bits, out.as_mut_ptr(), out.len()) }
     }
 
     /// The same, padded; 0 also where `pad` is none.
     pub(crate) fn write_padded(&self, bits: B, pad: &Padding, out: &mut [u8]) -> usize {
+        // SAFETY: padding and room are borrowed for the call.
         unsafe { (self.write_padded)(bits, pad, out.as_mut_ptr(), out.len()) }
     }
 
     pub(crate) fn round(&self, bits: B) -> B {
+        // SAFETY: it takes no pointer.
         unsafe { (self.round)(bits) }
     }
 
     pub(crate) fn floor(&self, bits: B) -> B {
+        // SAFETY: it takes no pointer.
         unsafe { (self.floor)(bits) }
     }
 }
@@ -118,22 +123,26 @@ pub(crate) const F2DOT30: Calls<i32> = Calls {
 
 /// The status of making a tag. `tag` is written just where it is 0.
 pub(crate) fn tag_new(text: &[u8], tag: &mut u32) -> u32 {
+    // SAFETY: text and place are borrowed for the call.
     unsafe { font_tag_new(text.as_ptr(), text.len(), tag) }
 }
 
 /// The status of judging a tag. `position` is written just where it is 2 or 3.
 pub(crate) fn tag_validate(bytes: &[u8], position: &mut u32) -> u32 {
+    // SAFETY: bytes and place are borrowed for the call.
     unsafe { font_tag_validate(bytes.as_ptr(), bytes.len(), position) }
 }
 
 /// How many bytes of the tag's text were written, or 0 where `out` is too short.
 pub(crate) fn tag_to_text(tag: u32, out: &mut [u8]) -> usize {
+    // SAFETY: the room is borrowed for the call.
     unsafe { font_tag_to_text(tag, out.as_mut_ptr(), out.len()) }
 }
 
 /// The status of adding up. `sum` is written just where it is 0.
 pub(crate) fn delta_sum(scalars: &[Fixed], deltas: &[i32], sum: &mut i64) -> u32 {
     let bits = scalars.as_ptr().cast::<i32>();
+    // SAFETY: slices and place are borrowed for the call, and a `Fixed` is laid out as its bits.
     unsafe { font_delta_sum(bits, scalars.len(), deltas.as_ptr(), deltas.len(), sum) }
 }
 

@@ -92,7 +92,7 @@ impl<F: Format> Number<F> {
     /// The shortest decimal that is read back as the number, in a buffer of its own.
     pub fn to_decimal(self) -> Decimal {
         let mut bytes = [0; LONGEST];
-        let length = F::CALLS.to_decimal(self.0, &mut bytes);
+        let length = F::CALLS.write_decimal(self.0, &mut bytes);
         Decimal { bytes, length }
     }
 
@@ -283,7 +283,7 @@ impl<F: Format> TryFrom<&[u8]> for Number<F> {
 
     fn try_from(text: &[u8]) -> Result<Self, DecimalFault> {
         let mut number = Self::ZERO;
-        match F::CALLS.from_decimal(text, &mut number.0) {
+        match F::CALLS.read_decimal(text, &mut number.0) {
             0 => Ok(number),
             1 => Err(DecimalFault::Syntax),
             _ => Err(DecimalFault::OutOfRange),

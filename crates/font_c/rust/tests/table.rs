@@ -26,7 +26,7 @@ fn numbers<const N: usize>(words: &[&str]) -> [i32; N] {
 }
 
 /// The lines of a kind whose first word is the type's.
-fn of_type<F: Format>(kind: &str, name: &str, check: impl Fn(&[&str]) -> bool) {
+fn of_type(kind: &str, name: &str, check: impl Fn(&[&str]) -> bool) {
     for words in lines(kind).iter().filter(|words| words[0] == name) {
         assert!(check(&words[1..]), "{kind} {words:?}");
     }
@@ -38,7 +38,7 @@ fn number<F: Format<Bits: TryFrom<i64>>>(word: &str) -> Number<F> {
 }
 
 fn type_is_as_in_the_table<F: Format<Bits: TryFrom<i64>>>(name: &str) {
-    of_type::<F>("read", name, |words| {
+    of_type("read", name, |words| {
         let expected = match words[1] {
             "0" => Ok(number::<F>(words[2])),
             "1" => Err(DecimalFault::Syntax),
@@ -46,14 +46,14 @@ fn type_is_as_in_the_table<F: Format<Bits: TryFrom<i64>>>(name: &str) {
         };
         words[0].parse() == expected && Number::try_from(words[0].as_bytes()) == expected
     });
-    of_type::<F>("write", name, |words| {
+    of_type("write", name, |words| {
         number::<F>(words[0]).to_string() == words[1]
     });
-    of_type::<F>("whole", name, |words| {
+    of_type("whole", name, |words| {
         let x = number::<F>(words[0]);
         [x.round(), x.floor()] == [number(words[1]), number(words[2])] && x.floor() + x.fract() == x
     });
-    of_type::<F>("pad", name, |words| {
+    of_type("pad", name, |words| {
         let [width, fill, align, plus, zeros] = numbers(&words[1..6]);
         let Some(align) = [Align::Left, Align::Center, Align::Right]
             .get(align as usize)
