@@ -76,43 +76,15 @@ fn read_there<S: Shared>(text: &Decimal) -> Option<S::There> {
 
 // The flags that both have: width, fill, alignment, sign and zeros.
 fn padded_alike<S: Shared>(here: Number<S::Format>, there: S::There) -> bool {
-    let pad = Pad::new(0);
     let cases = [
-        (Pad { width: 12, ..pad }, format!("{there:>12}")),
+        (pad(12, b' ', Align::Right), format!("{there:>12}")),
+        (pad(9, b'*', Align::Left), format!("{there:*<9}")),
+        (pad(13, b'_', Align::Center), format!("{there:_^13}")),
+        (with_plus(pad(0, b' ', Align::Right)), format!("{there:+}")),
+        (with_zeros(pad(8, b' ', Align::Left)), format!("{there:08}")),
         (
-            Pad {
-                width: 9,
-                fill: b'*',
-                align: Align::Left,
-                ..pad
-            },
-            format!("{there:*<9}"),
-        ),
-        (
-            Pad {
-                width: 13,
-                align: Align::Center,
-                ..pad
-            },
-            format!("{there:^13}"),
-        ),
-        (Pad { plus: true, ..pad }, format!("{there:+}")),
-        (
-            Pad {
-                width: 12,
-                plus: true,
-                zeros: true,
-                ..pad
-            },
+            with_zeros(with_plus(pad(12, b' ', Align::Left))),
             format!("{there:+012}"),
-        ),
-        (
-            Pad {
-                width: 8,
-                zeros: true,
-                ..pad
-            },
-            format!("{there:08}"),
         ),
     ];
     cases.iter().all(|(pad, text)| {
@@ -120,6 +92,22 @@ fn padded_alike<S: Shared>(here: Number<S::Format>, there: S::There) -> bool {
         let length = here.write_padded(&mut out, pad);
         length.is_some_and(|length| &out[..length] == text.as_bytes())
     })
+}
+
+fn pad(width: usize, fill: u8, align: Align) -> Pad {
+    Pad {
+        fill,
+        align,
+        ..Pad::new(width)
+    }
+}
+
+fn with_plus(pad: Pad) -> Pad {
+    Pad { plus: true, ..pad }
+}
+
+fn with_zeros(pad: Pad) -> Pad {
+    Pad { zeros: true, ..pad }
 }
 
 /// Every value of `Fixed`, narrowed.
