@@ -54,7 +54,8 @@ product_in_one_step w f x y product in_one_step p s = record {
   steps_agree = rounded_unique w (x *ℤ y) (2 ^ f) in_one_step product (pow_pos f) (mul_div_rounded w x y (2 ^ f) in_one_step (pow_pos f) s) p;
 }
 
-itself : (w f : ℕ) (x r : ℤ) → 0 < w → FitsBits w (pos (2 ^ f)) → IsQuotient w f x x r → x ≢ pos 0 → r ≡ pos (2 ^ f)
+-- a number over itself is 1
+pub itself : (w f : ℕ) (x r : ℤ) → 0 < w → FitsBits w (pos (2 ^ f)) → IsQuotient w f x x r → x ≢ pos 0 → r ≡ pos (2 ^ f)
 itself w f (pos zero) r wide fits p other = absurd (other refl)
 itself w f (pos (suc n)) r wide fits p other =
     rounded_exact w (pos (2 ^ f)) (suc n) r wide (omega arith) fits
