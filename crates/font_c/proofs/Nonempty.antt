@@ -2,7 +2,7 @@
 use Rattle.std.proofs.Common.{ℕ, ◌+◌, ◌<◌, Bool, true, false, List, [], ◌∷◌, ◌++◌, length, drop, ap, arith, length-append, ◌==◌, if◌then◌else◌}
 use Rattle.std.specs.Prelude.{slice_index}
 use Rattle.std.specs.Fmt.{sign_text}
-use Rattle.font_decimal.specs.Grammar.{IsDecimal, point_text}
+use Rattle.font_decimal.specs.Grammar.{IsDecimal, fraction_text}
 use Rattle.font_decimal.specs.Padding.{padded_text}
 use Rattle.font_decimal.specs.declared.padding.Pad.{Pad}
 use Rattle.font_decimal.proofs.Padded.{padded_length}
@@ -13,8 +13,8 @@ decimal_not_empty given =
     omega (
       arith,
       ap length decimal.parts.written,
-      length-append (sign_text decimal.negative) (decimal.whole ++ point_text decimal.fraction),
-      length-append decimal.whole (point_text decimal.fraction),
+      length-append (sign_text decimal.negative) (decimal.whole ++ fraction_text decimal.fraction),
+      length-append decimal.whole (fraction_text decimal.fraction),
       decimal.parts.whole_digits.0,
     )
 
