@@ -26,11 +26,12 @@ pub enum DecimalFault {
     OutOfRange = 2,
 }
 
-/// Reads a decimal text as the nearest multiple of `1 / 2^f`, ties away from zero, and gives that multiple's number of
-/// steps of `1 / 2^f`.
+/// Reads a decimal text as the nearest multiple of `1 / 2^f`, ties away from zero, and gives that
+/// multiple's number of steps of `1 / 2^f`.
 ///
-/// There are 6 to 30 bits of fraction. A text is an optional `-`, one or more digits, and optionally a point followed by
-/// one or more digits. It may have any length. The rounding comes first; a result below `min` or above `max` is refused.
+/// There are 6 to 30 bits of fraction. A text is an optional `-`, one or more digits, and optionally
+/// a point followed by one or more digits. It may have any length. The rounding comes first; a
+/// result below `min` or above `max` is refused.
 ///
 /// ```text
 /// read_decimal("-1.5", 16, i64::MIN, i64::MAX) == Ok(-98304)
@@ -41,7 +42,8 @@ pub fn read_decimal(text: &str, f: u32, min: i64, max: i64) -> Result<i64, Decim
     requires around_zero { (min ≤ℤ pos 0) × (pos 0 ≤ℤ max) }
     ensures ok { (b : ℤ) → (result ≡ Ok b) ↔ Reads text.now f min max b }
     ensures reading { IsReading text.now f min max result }
-    ensures out_of_range { (result ≡ Err DecimalFault.OutOfRange) ↔ IsOutOfRange text.now f min max }
+    ensures out_of_range { (result ≡ Err DecimalFault.OutOfRange)
+        ↔ IsOutOfRange text.now f min max }
     ensures syntax { (result ≡ Err DecimalFault.Syntax) ↔ IsNoDecimal text.now }
 {
     let (negative, digits) = split_sign(text.as_bytes());
@@ -51,14 +53,17 @@ pub fn read_decimal(text: &str, f: u32, min: i64, max: i64) -> Result<i64, Decim
     in_range(negative, steps, min, max).ok_or(DecimalFault::OutOfRange)
 }
 
-// The number of steps of `1 / 2^f` nearest to a decimal with no sign, or where that is above 2^63, some number above 2^63.
+// The number of steps of `1 / 2^f` nearest to a decimal with no sign, or where that is above 2^63,
+// some number above 2^63.
 #[inline(always)]
 fn nearest_steps(digits: &[u8], f: u32) -> Option<u64>
     requires { (6 ≤ f) × (f ≤ 30) }
-    ensures none { IfNone result ((whole fraction : List ℕ) → ¬ (HasParts digits.now false whole fraction)) }
+    ensures none { IfNone result ((whole fraction : List ℕ)
+        → ¬ (HasParts digits.now false whole fraction)) }
     ensures some { IfSome result (λ n. (steps : ℕ)
         × ((n ≡ steps) ⊎ ((2 ^ 63 < n) × (2 ^ 63 < steps)))
-        × ((negative : Bool) → Rounds (sign_text negative ++ digits.now) f (signed negative steps))) }
+        × ((negative : Bool)
+        → Rounds (sign_text negative ++ digits.now) f (signed negative steps))) }
 {
     // One whole more than 2^63 steps is out of every range.
     let (whole, len) = whole_digits(digits, (1 << (63 - f)) + 1);
@@ -69,7 +74,8 @@ fn nearest_steps(digits: &[u8], f: u32) -> Option<u64>
     Some((whole << f) + (half_steps + 1) / 2)
 }
 
-// The number that the digits in front write, or `too_large` where it is greater, and how many digits they are.
+// The number that the digits in front write, or `too_large` where it is greater, and how many
+// digits they are.
 #[inline(always)]
 fn whole_digits(text: &[u8], too_large: u64) -> (u64, usize)
     requires { too_large < 2 ^ 60 }
@@ -89,13 +95,15 @@ fn whole_digits(text: &[u8], too_large: u64) -> (u64, usize)
     (whole, text.len())
 }
 
-// The number of whole half steps of `1 / 2^f` in a fraction. A half step has `f + 1` places, so that later digits do not
-// count; and where there are fewer digits, the fives of the missing zeros are left out.
+// The number of whole half steps of `1 / 2^f` in a fraction. A half step has `f + 1` places, so that
+// later digits do not count; and where there are fewer digits, the fives of the missing zeros are
+// left out.
 #[inline(always)]
 fn half_steps(fraction: &[u8], f: u32) -> Option<u64>
     requires { f ≤ 30 }
     ensures { MatchOption result (¬ (AllDigits 10 fraction.now)) (λ n. AllDigits 10 fraction.now
-        × (n ≡ digits_value 10 (take (f + 1) fraction.now) * 10 ^ (f + 1 - length fraction.now) / 5 ^ (f + 1))) }
+        × (n ≡ digits_value 10 (take (f + 1) fraction.now) * 10 ^ (f + 1 - length fraction.now)
+        / 5 ^ (f + 1))) }
 {
     let places = fraction.len().min(f as usize + 1);
     let (kept, late) = fraction.split_at(places);

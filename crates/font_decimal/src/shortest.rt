@@ -1,5 +1,7 @@
 //! Writing the shortest decimal text of a fixed-point number.
-ghost use Rattle.std.specs.Prelude.{◌≡◌, ℕ, ◌+◌, ◌*◌, ◌%◌, ◌^◌, ◌≤◌, ◌<◌, [], ◌∷◌, ◌++◌, length, slice_index, Some};
+
+ghost use Rattle.std.specs.Prelude.{◌≡◌, ◌+◌, ◌*◌, ◌%◌, ◌^◌, ◌≤◌, ◌<◌, [], ◌∷◌, ◌++◌};
+ghost use Rattle.std.specs.Prelude.{ℕ, length, slice_index, Some};
 ghost use Rattle.std.specs.Fmt.{decimal, sign_text};
 ghost use Rattle.font_decimal.specs.Grammar.{fraction_text};
 ghost use Rattle.font_decimal.specs.Shortest.{fewest_places, nearest_numeral, last_digits};
@@ -34,8 +36,8 @@ impl Shortest {
     ghost use Rattle.font_decimal.specs.Shortest.{IsShortest, shortest_text};
     ghost use Rattle.font_decimal.specs.Shown.{shown};
 
-    /// The shortest decimal of `bits / 2^f`: of all that read back as `bits` the nearest with the fewest fractional
-    /// digits.
+    /// The shortest decimal of `bits / 2^f`: of all that read back as `bits` the nearest with the
+    /// fewest fractional digits.
     pub fn new(bits: i64, f: u32) -> Self
         requires { (6 ≤ f) × (f ≤ 30) }
         ensures shortest { IsShortest bits f (shown result) }
@@ -124,11 +126,13 @@ impl fmt::Display for Shortest {
     }
 }
 
-// The shortest decimal of `magnitude / 2^f`. Of the last place `rest / unit` is left, and half a step is `margin / unit`.
+// The shortest decimal of `magnitude / 2^f`. Of the last place `rest / unit` is left, and half a step
+// is `margin / unit`.
 fn shortest_digits(magnitude: u64, f: u32) -> Digits
     requires { f ≤ 30 }
     ensures places { result.places ≡ fewest_places magnitude f }
-    ensures numeral { result.whole * 10 ^ result.places + result.fraction ≡ nearest_numeral magnitude f result.places }
+    ensures numeral { result.whole * 10 ^ result.places + result.fraction
+        ≡ nearest_numeral magnitude f result.places }
     ensures below { result.fraction < 10 ^ result.places }
 {
     let step = 1u64 << f;

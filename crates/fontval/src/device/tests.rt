@@ -72,15 +72,18 @@ fn an_interrupted_write_fails(rt: HostRuntime) {
     assert!(rt; sink.has_failed());
 }
 
+// A write of no byte fails where there was one to take.
 #[test]
 fn a_write_of_no_byte_fails(rt: HostRuntime) {
     let mut room = [0; 2];
     let mut sink = FromWrite::new(room.as_mut_slice());
-    assert!(rt; matches!(sink.write(b"abc"), Ok(2)));
-    assert!(rt; matches!(sink.write(b""), Ok(0)));
-    assert!(rt; !sink.has_failed());
-    assert!(rt; sink.write(b"c").is_err());
-    assert!(rt; sink.has_failed());
-    assert!(rt; matches!(sink.write(b""), Ok(0)));
-    assert!(rt; sink.has_failed());
+    for (bytes, taken, failed) in [
+        (b"abc".as_slice(), Some(2), false),
+        (b"", Some(0), false),
+        (b"c", None, true),
+        (b"", Some(0), true),
+    ] {
+        assert_eq!(rt; sink.write(bytes).ok(), taken);
+        assert_eq!(rt; sink.has_failed(), failed);
+    }
 }

@@ -4,18 +4,24 @@ ghost use Rattle.std.specs.Prelude.{◌≡◌, Some, false};
 
 use super::{ServeFault, serve};
 use crate::device::{Failed, FromRead, FromWrite, Sink, Source};
-use linked_list_allocator::LocalHeap;
 use std::alloc::Global;
 use std::test::Fail;
+
+mod refusing;
+
+use refusing::Refusing;
 
 const LINES: &[u8] = b"int24 fe1dc0\nint24 fe1d\n\nbogus 1\nuint8";
 
 const ANSWERS: &[u8] = b"-123456\nerror 3\nerror 1\nerror 1\nerror 2\n";
 
-/// A line that needs memory for its terms, too.
-const SUM: &[u8] = b"sum 1 100 0.5 -250 0.25 37\n";
+/// Lines that need memory for their terms, too: more of them than find room at first.
+const SUM: &[u8] =
+    b"sum 1 1 1 1 1 1 1 1 1 1 1 1 1 1 1 1 1 1 1 1 1 1 1 1 1 1 1 1 1 1 1 1 1 1 0.5 -3\n";
 
-const SUM_ANSWER: &[u8] = b"-15.75\n";
+const VARY: &[u8] = b"vary 100 1 100 0.5 -250 0.25 37\n";
+
+const IMAGE: &[u8] = b"image 2 0 0 3 0 0 1 0 0 1 10 20 5 -22\n";
 
 /// A source that gives one byte a call, as long as it has calls that pass. It counts every call.
 #[derive(Drop)]
@@ -243,24 +249,29 @@ fn a_failed_write_keeps_what_passed(rt: HostRuntime) {
     }
 }
 
-// From ever more memory, until the input is answered.
+// Each request for memory is refused in turn, until the input is answered.
 #[test]
 fn each_growth_refused(rt: HostRuntime) -> Result<(), Fail> {
-    for (input, answers) in [(LINES, ANSWERS), (SUM, SUM_ANSWER)] {
+    for (input, answers, fewest) in [
+        (LINES, ANSWERS, 3),
+        (SUM, b"15.5\n".as_slice(), 4),
+        (VARY, b"5521408\n".as_slice(), 3),
+        (IMAGE, b"30 -6 30 -6\n".as_slice(), 2),
+    ] {
         let mut refused = 0usize;
-        for size in 1..100usize {
-            let heap = LocalHeap::new(rt.alloc(), 16 * size)?;
+        for before in 0..100usize {
+            let memory = Refusing::after(before, rt.alloc());
             let mut source = Drip::new(input, usize::MAX);
             let mut sink = Trickle::new(rt.alloc(), usize::MAX);
-            let Err(fault) = serve(&heap, &mut source, &mut sink) else {
+            let Err(fault) = serve(&memory, &mut source, &mut sink) else {
                 assert_eq!(rt; sink.taken.as_slice(), answers);
                 break;
             };
-            assert!(rt; matches!(fault, ServeFault::Memory), "{size}");
-            assert_eq!(rt; sink.calls, 0, "{size}");
-            refused = size;
+            assert!(rt; matches!(fault, ServeFault::Memory), "{before}");
+            assert_eq!(rt; sink.calls, 0, "{before}");
+            refused = before + 1;
         }
-        assert!(rt; refused > 3 && refused < 99);
+        assert!(rt; refused >= fewest && refused < 100, "{refused}");
     }
     Ok(())
 }
