@@ -1,6 +1,6 @@
 //! Tags, as numbers of 32 bits whose bytes they are, highest first.
 
-ghost use Rattle.std.specs.Prelude.{◌≡◌, ◌≢◌, ◌+◌, ◌<◌, ◌≤◌, ◌++◌, [], length, true};
+ghost use Rattle.std.specs.Prelude.{◌≡◌, ◌≢◌, ◌<◌, ◌≤◌, length};
 ghost use Rattle.font_types.specs.Tag.{tag_text};
 ghost use Rattle.font_c.specs.Tags.{IsJudged, IsMade, number_bytes};
 ghost use Rattle.font_c.specs.Texts.{WritesText};
