@@ -1,10 +1,58 @@
-//! A user of the library: a value of each family.
+//! A user of the library: a value of each family, and what its contracts say of numbers.
+
+ghost use Rattle.std.specs.Int.{w32};
+ghost use Rattle.std.specs.Prelude.{◌≡◌, IfSome};
+ghost use Rattle.font_types.specs.Fixed.{fixed_bits};
+ghost use Rattle.font_types.specs.NumberReading.{ReadsBy};
+ghost use Rattle.font_types.specs.Operations.{ReadsAs};
 
 use crate::{
     BigEndian, DecimalFault, F2Dot14, F2Dot30, F4Dot12, F6Dot10, F26Dot6, F48Dot16, FWord, Fixed,
     JsonScalar, MajorMinor, Matrix, Point, Scalar, Tag, Uint24, delta_sum,
 };
 use std::test::Fail;
+
+#[tactic(auto, using(crate::proofs::Callers::calls_16))]
+fn with_nothing_narrow(x: F2Dot14) -> F2Dot14
+    ensures { result ≡ x }
+{
+    x + F2Dot14::ZERO
+}
+
+#[tactic(auto, using(crate::proofs::Callers::calls_32))]
+fn with_nothing(x: F26Dot6) -> F26Dot6
+    ensures { result ≡ x }
+{
+    F26Dot6::ZERO + x
+}
+
+#[tactic(auto, using(crate::proofs::Callers::calls_64))]
+fn with_nothing_wide(x: F48Dot16) -> F48Dot16
+    ensures { result ≡ x }
+{
+    x - F48Dot16::ZERO
+}
+
+fn number_of(text: &str) -> Option<Fixed>
+    ensures { IfSome result (λ x. ReadsAs 32 16 text.now (fixed_bits x)) }
+{
+    text.parse().ok()
+}
+
+fn parsed(text: &str) -> Result<Fixed, DecimalFault>
+    ensures { ReadsBy w32 16 fixed_bits text.now result }
+{
+    text.parse()
+}
+
+#[test]
+fn numbers_unchanged(rt: HostRuntime) {
+    assert!(rt; with_nothing_narrow(F2Dot14::MIN) == F2Dot14::MIN);
+    assert!(rt; with_nothing(F26Dot6::MAX) == F26Dot6::MAX);
+    assert!(rt; with_nothing_wide(F48Dot16::MIN) == F48Dot16::MIN);
+    assert!(rt; number_of("-0.5") == Some(Fixed::from_bits(-32768)));
+    assert!(rt; number_of("32768").is_none() && parsed("-.5") == Err(DecimalFault::Syntax));
+}
 
 #[test]
 fn one_of_each_family(rt: HostRuntime) -> Result<(), Fail> {
