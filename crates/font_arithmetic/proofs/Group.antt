@@ -1,30 +1,18 @@
--- What callers rely on of sums, floors and printed texts, over the bits of numbers with w bits and f bits of fraction.
-use Rattle.std.proofs.Common.{◌≡◌, ◌∙◌, sym, ap, ℕ, ◌-◌, ◌^◌, ◌<◌, ◌≤◌, ℤ, pos, neg_ℤ, ◌+ℤ◌, ◌*ℤ◌, ◌≤ℤ◌, ◌<ℤ◌, unsigned_abs, arith}
+-- What callers rely on of sums and floors, over the bits of numbers with w bits and f bits of fraction.
+use Rattle.std.proofs.Common.{◌≡◌, ◌∙◌, sym, ap, ℕ, ◌^◌, ◌<◌, ℤ, pos, neg_ℤ, ◌+ℤ◌, ◌*ℤ◌, ◌≤ℤ◌, ◌<ℤ◌, arith}
 use Rattle.std.proofs.lemmas.Int.{ints}
-use borrow.Author.Differences.{abs_is}
 use Rattle.font_base.specs.Wrap.{wrap, FitsBits}
-use Rattle.font_base.specs.Wrap.Laws.{wrap_is, wrap_same, wrap-fits, same_rest}
-use Rattle.font_decimal.specs.Shortest.{shortest_text}
+use Rattle.font_base.specs.Wrap.Laws.{wrap-fits, wrap-add_left, wrap-add_right, same_rest}
 use Rattle.font_decimal.proofs.Near.{neg-times}
-use Rattle.font_decimal.proofs.Printed.{printed_rounds}
-use Rattle.font_arithmetic.specs.Operations.{IsFloor, IsFract, ReadsAs}
+use Rattle.font_arithmetic.specs.Operations.{IsFloor, IsFract}
 
 -- ---- sums are a commutative group modulo 2^w
 
--- wrapping a part of a sum first changes nothing
-pub wrap-add_left : (w : ℕ) (a b : ℤ) → 0 < w → wrap w (wrap w a +ℤ b) ≡ wrap w (a +ℤ b)
-wrap-add_left w a b some =
-    let given = wrap_is w a some in
-    sym (wrap_same w (a +ℤ b) (wrap w a +ℤ b) given.turns some (omega (arith, ints, given.differs)))
+pub wrap-add_comm : (w : ℕ) (a b : ℤ) → wrap w (a +ℤ b) ≡ wrap w (b +ℤ a)
+wrap-add_comm w a b = ap (wrap w) (omega (arith, ints))
 
-pub sum_commutes : (w : ℕ) (a b : ℤ) → wrap w (a +ℤ b) ≡ wrap w (b +ℤ a)
-sum_commutes w a b = ap (wrap w) (omega (arith, ints))
-
-pub wrap-add_right : (w : ℕ) (a b : ℤ) → 0 < w → wrap w (a +ℤ wrap w b) ≡ wrap w (a +ℤ b)
-wrap-add_right w a b some = sum_commutes w a (wrap w b) ∙ wrap-add_left w b a some ∙ sum_commutes w b a
-
-pub sum_associates : (w : ℕ) (a b c : ℤ) → 0 < w → wrap w (wrap w (a +ℤ b) +ℤ c) ≡ wrap w (a +ℤ wrap w (b +ℤ c))
-sum_associates w a b c some =
+pub wrap-add_assoc : (w : ℕ) (a b c : ℤ) → 0 < w → wrap w (wrap w (a +ℤ b) +ℤ c) ≡ wrap w (a +ℤ wrap w (b +ℤ c))
+wrap-add_assoc w a b c some =
     wrap-add_left w (a +ℤ b) c some ∙ ap (wrap w) (omega (arith, ints)) ∙ sym (wrap-add_right w a (b +ℤ c) some)
 
 pub zero_is_neutral : (w : ℕ) (a : ℤ) → 0 < w → FitsBits w a → wrap w (a +ℤ pos 0) ≡ a
@@ -56,10 +44,3 @@ pub fract_is_below_one : (f : ℕ) (b r : ℤ) → IsFract f b r → (pos 0 ≤�
 fract_is_below_one f b r fract =
     let floor = fract.is_floor in
     (omega (arith, ints, fract.rest, floor.low), omega (arith, ints, fract.rest, floor.high))
-
--- ---- the printed text of a number is read as that number
-
-pub printed_reads : (w f : ℕ) (b : ℤ) → 2 ^ (w - 1) ≤ 2 ^ 63 → FitsBits w b → ReadsAs w f (shortest_text b f) b
-printed_reads w f b room fits =
-    let below : unsigned_abs b ≤ 2 ^ 63 = omega (arith, ints, fits.low, fits.high, abs_is b, room) in
-    record { rounds = printed_rounds b f below; low = fits.low; high = omega (arith, ints, fits.high) }

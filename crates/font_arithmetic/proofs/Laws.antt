@@ -2,8 +2,8 @@
 use Rattle.std.proofs.Common.{◌≡◌, ◌≢◌, ◌∙◌, sym, ap, refl, subst, ℕ, zero, suc, ◌*◌, ◌^◌, ◌<◌, ℤ, pos, negsuc, neg_ℤ, ◌-ℤ◌, ◌*ℤ◌, unsigned_abs, arith}
 use Rattle.std.proofs.lemmas.Int.{ints}
 use Rattle.std.proofs.lemmas.Nat.{pow_pos}
+use Rattle.std.proofs.Math.IntN.{*ℤ_comm}
 use Rattle.std.proofs.Math.Nat.{mul_comm}
-use borrow.Author.Differences.{up, down}
 use Rattle.font_base.specs.Wrap.{wrap, FitsBits}
 use Rattle.font_base.specs.Wrap.Laws.{wrap-fits}
 use Rattle.font_decimal.specs.Near.{Near}
@@ -28,9 +28,6 @@ pub rounded_exact : (w : ℕ) (q : ℤ) (d : ℕ) (r : ℤ) → 0 < w → 0 < d 
 rounded_exact w q d r wide some fits a =
     a.wrapped ∙ ap (wrap w) (near_unique (q *ℤ pos d) d a.exact q some a.nearest (near_exact q d some)) ∙ wrap-fits w q wide fits
 
-pub times_comm : (x y : ℤ) → (x *ℤ y) ≡ (y *ℤ x)
-times_comm x y = omega (arith, ints, mul_comm (up x) (up y), mul_comm (up x) (down y), mul_comm (down x) (up y), mul_comm (down x) (down y))
-
 mul_div_unique : (w : ℕ) (x a c q r : ℤ) → IsMulDiv w x a c q → IsMulDiv w x a c r → q ≡ r
 mul_div_unique w x a (pos zero) q r p s = p ∙ sym s
 mul_div_unique w x a (pos (suc c)) q r p s = rounded_unique w (x *ℤ a) (suc c) q r (omega arith) p s
@@ -47,7 +44,7 @@ product_laws_hold w f x y product flipped by_one wide fits p q r = record {
   is_product = p;
   is_flipped = q;
   is_by_one = r;
-  commutes = rounded_unique w (x *ℤ y) (2 ^ f) flipped product (pow_pos f) (subst (λ (n : ℤ). IsWrappedNear w n (2 ^ f) flipped) (times_comm y x) q) p;
+  commutes = rounded_unique w (x *ℤ y) (2 ^ f) flipped product (pow_pos f) (subst (λ (n : ℤ). IsWrappedNear w n (2 ^ f) flipped) (*ℤ_comm y x) q) p;
   one_is_neutral = rounded_exact w x (2 ^ f) by_one wide (pow_pos f) fits r;
 }
 
@@ -57,11 +54,12 @@ product_in_one_step w f x y product in_one_step p s = record {
   steps_agree = rounded_unique w (x *ℤ y) (2 ^ f) in_one_step product (pow_pos f) (mul_div_rounded w x y (2 ^ f) in_one_step (pow_pos f) s) p;
 }
 
-itself : (w f : ℕ) (x r : ℤ) → 0 < w → FitsBits w (pos (2 ^ f)) → IsQuotient w f x x r → x ≢ pos 0 → r ≡ pos (2 ^ f)
+-- a number over itself is 1
+pub itself : (w f : ℕ) (x r : ℤ) → 0 < w → FitsBits w (pos (2 ^ f)) → IsQuotient w f x x r → x ≢ pos 0 → r ≡ pos (2 ^ f)
 itself w f (pos zero) r wide fits p other = absurd (other refl)
 itself w f (pos (suc n)) r wide fits p other =
     rounded_exact w (pos (2 ^ f)) (suc n) r wide (omega arith) fits
-    (subst (λ (m : ℤ). IsWrappedNear w m (suc n) r) (times_comm (pos (suc n)) (pos (2 ^ f))) p)
+    (subst (λ (m : ℤ). IsWrappedNear w m (suc n) r) (*ℤ_comm (pos (suc n)) (pos (2 ^ f))) p)
 itself w f (negsuc n) r wide fits p other =
     rounded_exact w (pos (2 ^ f)) (suc n) r wide (omega arith) fits
     (subst (λ (m : ℤ). IsWrappedNear w m (suc n) r) (turned (2 ^ f) (suc n)) p)

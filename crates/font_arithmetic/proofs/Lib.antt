@@ -1,5 +1,8 @@
 pub mod Wrapped
-pub mod Rounding
+pub mod Shifts
+pub mod Narrowing
+pub mod Quotients
+pub mod Steps
 pub mod Texts
 pub mod Laws
 pub mod Group

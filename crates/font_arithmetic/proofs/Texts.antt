@@ -1,23 +1,24 @@
 -- What a decimal text is read as, from the number that the reader gives.
-use Rattle.std.proofs.Common.{◌≡◌, ◌∙◌, sym, ap, subst, ℕ, ◌^◌, ◌≤◌, List, ℤ, ◌≤ℤ◌, ◌-◌, length, max, unsigned_abs, Option, IsSome, Result, Ok, Err, ◌↔◌, arith}
+use Rattle.std.proofs.Common.{◌≡◌, ◌∙◌, sym, ap, subst, ℕ, ◌^◌, ◌≤◌, List, ℤ, ◌≤ℤ◌, ◌-◌, length, max, unsigned_abs, Option, IsSome, Result, Ok, Err, IfOk, ◌↔◌, arith}
 use Rattle.std.proofs.lemmas.Int.{ints, to_z-of_z}
 use Rattle.std.proofs.lemmas.Nat.{pow_pos}
 use Rattle.std.specs.Int.{Width, w64}
 use borrow.Author.Differences.{abs_is}
 use mir.Val.{SFits, to_z, of_z, bits, hbits}
-use Rattle.font_base.proofs.Widths.{half_range-bits}
+use Rattle.font_base.proofs.Widths.{half_range-bits, signed_fits}
 use Rattle.font_base.specs.Wrap.{FitsBits}
 use Rattle.std.specs.Result.{result_map_both}
 use Rattle.font_decimal.specs.Reading.{Reads, IsReading}
 use Rattle.font_decimal.specs.Shortest.{shortest_text}
 use Rattle.font_decimal.specs.declared.reader.DecimalFault.{DecimalFault}
+use Rattle.font_decimal.specs.declared.reader.DecimalFault.TheVariants.{Syntax, OutOfRange}
 use Rattle.font_decimal.specs.Padding.{padded_text}
 use Rattle.font_decimal.specs.declared.padding.Pad.{Pad}
 use Rattle.font_decimal.proofs.Padded.{padded_fits}
-use Rattle.font_decimal.proofs.Printed.{shortest_length}
-use Rattle.font_decimal.proofs.Readings.{rounds_unique, reading_unique}
+use Rattle.font_decimal.proofs.Printed.{shortest_length, printed_rounds}
+use Rattle.font_decimal.proofs.Readings.{rounds_unique, reading_unique, answers_as}
 use Rattle.font_arithmetic.specs.Operations.{least, greatest, ReadsAs, ReadingGives}
-use Rattle.font_arithmetic.proofs.Group.{printed_reads}
+use Rattle.font_arithmetic.specs.Reading.{ReadsBy}
 
 -- the number is cast to the type of the bits
 pub cast_reads : (w : Width) (f : ℕ) (text : List ℕ) (b min max : ℤ) → 2 ^ hbits w ≤ 2 ^ 63 → min ≡ least (bits w) → max ≡ greatest (bits w) → Reads text f min max b
@@ -30,24 +31,13 @@ cast_reads w f text b min max room low high reads =
     let wide : SFits w64 b = omega (arith, ints, narrow, room) in
     rw (to_z-of_z w64 b wide, to_z-of_z w b narrow) (record { rounds = reads.rounds; low = above; high = below })
 
--- the number of 64 bits is not cast
-pub wide_reads : (f : ℕ) (text : List ℕ) (b : ℤ) → Reads text f (least 64) (greatest 64) b → ReadsAs 64 f text (to_z w64 (of_z w64 b))
-wide_reads f text b reads =
-    let low = reads.low in
-    let high = reads.high in
-    let fits : SFits w64 b = omega (arith, ints, low, high) in
-    rw (to_z-of_z w64 b fits) reads
-
--- and put into its type
-pub ok_of_bits : {T : Type 0} (of_bits : ℤ → T) (bits_of : T → ℤ) → ((z : ℤ) → bits_of (of_bits z) ≡ z) → ((x : T) → of_bits (bits_of x) ≡ x)
-    → (w f : ℕ) (text : List ℕ) (b : ℤ) → ReadsAs w f text b → (x : T) → (let read : Result T DecimalFault = Ok (of_bits b) in read ≡ Ok x) ↔ ReadsAs w f text (bits_of x)
-ok_of_bits {T} of_bits bits_of there back w f text b reads x = (
-  (λ same. let equal : of_bits b ≡ x = cc in subst (ReadsAs w f text) (sym (there b) ∙ ap bits_of equal) reads),
-  (λ other. let equal : bits_of x ≡ b = rounds_unique text f (bits_of x) b other.rounds reads.rounds in
-      ap Ok (ap of_bits (sym equal) ∙ back x)),
-)
-
 -- the printed text of a number is read as that number
+pub printed_reads : (w f : ℕ) (b : ℤ) → 2 ^ (w - 1) ≤ 2 ^ 63 → FitsBits w b → ReadsAs w f (shortest_text b f) b
+printed_reads w f b room fits =
+    let below : unsigned_abs b ≤ 2 ^ 63 = omega (arith, ints, fits.low, fits.high, abs_is b, room) in
+    record { rounds = printed_rounds b f below; low = fits.low; high = omega (arith, ints, fits.high) }
+
+-- and in a type of its own
 pub printed_is_read_as : {T : Type 0} (bits_of : T → ℤ) (of_bits : ℤ → T) → ((x : T) → of_bits (bits_of x) ≡ x) → (w f : ℕ) (text : List ℕ) (result : Result T DecimalFault)
     → 2 ^ (w - 1) ≤ 2 ^ 63 → ReadingGives w f text (result_map_both bits_of (λ fault. fault) result)
     → (x : T) → FitsBits w (bits_of x) → text ≡ shortest_text (bits_of x) f → result ≡ Ok x
@@ -66,3 +56,37 @@ pub padded_has_room : (w : Width) (b : ℤ) (f : ℕ) (pad : Pad) (old : List �
 padded_has_room w b f pad old result small fits few room cell =
     let below : unsigned_abs b ≤ 2 ^ 63 = omega (arith, ints, fits, abs_is b, small) in
     room.1 (padded_fits (shortest_text b f) pad (length old) (shortest_length b f below few) cell)
+
+-- ---- in the words of a type of its own: a result with the bits of its number in place of the number
+
+abbrev pub as_bits : {T : Type 0} → (T → ℤ) → Result T DecimalFault → Result ℤ DecimalFault
+as_bits bits_of result = result_map_both bits_of (λ fault. fault) result
+
+same_result : {T : Type 0} (bits_of : T → ℤ) (of_bits : ℤ → T) → ((x : T) → of_bits (bits_of x) ≡ x) → (q r : Result T DecimalFault)
+    → as_bits bits_of q ≡ as_bits bits_of r → q ≡ r
+same_result bits_of of_bits back (Ok x) (Ok y) same = let equal : bits_of x ≡ bits_of y = cc in ap Ok (sym (back x) ∙ ap of_bits equal ∙ back y)
+same_result bits_of of_bits back (Ok x) (Err d) same = absurd (cc)
+same_result bits_of of_bits back (Err c) (Ok y) same = absurd (cc)
+same_result bits_of of_bits back (Err c) (Err d) same = cc
+
+if_ok_reads : {T : Type 0} (w f : ℕ) (bits_of : T → ℤ) (text : List ℕ) (q : Result T DecimalFault) → ReadingGives w f text (as_bits bits_of q)
+    → IfOk q (λ x. ReadsAs w f text (bits_of x))
+if_ok_reads w f bits_of text (Ok x) gives = gives
+if_ok_reads w f bits_of text (Err fault) gives = tt
+
+-- all that callers know of a reading, from what it comes to in bits
+pub reads_by : {T : Type 0} (w : Width) (f : ℕ) (bits_of : T → ℤ) (of_bits : ℤ → T) (text : List ℕ) (q : Result T DecimalFault)
+    → ((x : T) → of_bits (bits_of x) ≡ x) → 2 ^ hbits w ≤ 2 ^ 63 → ReadingGives (bits w) f text (as_bits bits_of q) → ReadsBy w f bits_of text q
+reads_by {T} w f bits_of of_bits text q back room gives =
+    let half : 2 ^ (bits w - 1) ≤ 2 ^ 63 = rw (half_range-bits w) room in
+    let only : (r : Result T DecimalFault) → (q ≡ r) ↔ ReadingGives (bits w) f text (as_bits bits_of r)
+    = λ r. let answer = answers_as text f (least (bits w)) (greatest (bits w)) (as_bits bits_of q) (as_bits bits_of r) gives in
+    (λ same. answer.0 (ap (as_bits bits_of) same), λ other. same_result bits_of of_bits back q r (answer.1 other)) in
+    record {
+      ok = λ x. only (Ok x);
+      reads = if_ok_reads (bits w) f bits_of text q gives;
+      gives = gives;
+      printed = λ x fits same. printed_is_read_as bits_of of_bits back (bits w) f text q half gives x (signed_fits w (bits_of x) fits) same;
+      out_of_range = only (Err OutOfRange);
+      syntax = only (Err Syntax);
+    }

@@ -13,7 +13,7 @@ use Rattle.font_arithmetic.proofs.Texts.{padded_has_room}
 use Rattle.font_arithmetic.specs.Operations.{IsFloor, IsFract, IsNearestWhole, IsNarrowed}
 use Rattle.font_arithmetic.proofs.Wrapped.{wrapping_add-wrap, wrapping_sub-wrap, wrapping_neg-wrap, wrapping_abs-wrap, rem_euclid_is_fract, wrapping_mul-wrap}
 use Rattle.font_arithmetic.proofs.Calls.{wrap-signed_fits, wrap-add_zero, wrap-zero_add, wrap-sub_zero}
-use Rattle.font_arithmetic.proofs.Rounding.{splits, floor_is_nearest_whole, shr_is_narrowed}
+use Rattle.font_arithmetic.proofs.Narrowing.{splits, floor_is_nearest_whole, shr_is_narrowed}
 
 pub sum_16 : (x y : ℤ) → SFits w16 x → SFits w16 y → to_z w16 ((of_z w16 x + of_z w16 y) % 65536) ≡ wrap 16 (x +ℤ y)
 sum_16 x y f g = wrapping_add-wrap w16 x y f g

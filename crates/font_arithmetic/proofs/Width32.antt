@@ -1,21 +1,22 @@
 -- What the file of a type of 32 bits names once, so that its calls need no answers: what std's calls and steps of code on 32 bits give, in the form
 -- that goals have, over every fraction.
-use Rattle.std.proofs.Common.{◌≡◌, ◌∙◌, ap, refl, ℕ, ◌+◌, ◌-◌, ◌*◌, ◌/◌, ◌%◌, ◌^◌, ◌<◌, ◌≤◌, ℤ, pos, neg_ℤ, ◌+ℤ◌, ◌-ℤ◌, ◌*ℤ◌, unsigned_abs, IsTrue, lit<, lit≤, arith, length, max, List, Option, IsSome, ◌↔◌}
-use Rattle.std.proofs.lemmas.Int.{ints, to_z-of_z}
-use Rattle.std.specs.Int.{w16, w32, w64, int_wrapping_neg, int_rem_euclid}
+use Rattle.std.proofs.Common.{◌≡◌, ap, ◌∙◌, ℕ, ◌+◌, ◌-◌, ◌*◌, ◌/◌, ◌%◌, ◌^◌, ◌≤◌, ℤ, pos, neg_ℤ, ◌+ℤ◌, ◌-ℤ◌, ◌*ℤ◌, unsigned_abs, IsTrue, lit<, lit≤, length, max, List, Option, IsSome, ◌↔◌}
+use Rattle.std.proofs.lemmas.Int.{to_z-of_z}
+use Rattle.std.specs.Int.{w32, int_wrapping_neg, int_rem_euclid}
 use lib.Signed.{shr_z}
 use mir.Val.{SFits, to_z, of_z}
 use Rattle.font_base.specs.Wrap.{wrap}
-use Rattle.font_decimal.specs.Near.{near}
+use Rattle.font_base.specs.Bytes.{IsBytesOf, bytes_of}
+use Rattle.font_base.specs.Bytes.Laws.{bytes_of_are}
 pub use Rattle.font_decimal.proofs.Printed.{shortest_is_decimal}
 use Rattle.font_decimal.specs.Padding.{padded_text}
 use Rattle.font_decimal.specs.Shortest.{shortest_text}
 use Rattle.font_decimal.specs.declared.padding.Pad.{Pad}
 use Rattle.font_arithmetic.proofs.Texts.{padded_has_room}
-use Rattle.font_arithmetic.specs.Operations.{IsFloor, IsFract, IsNearestWhole, IsNarrowed, IsWrappedNear}
-use Rattle.font_arithmetic.proofs.Wrapped.{wrapping_add-wrap, wrapping_sub-wrap, wrapping_neg-wrap, wrapping_abs-wrap, rem_euclid_is_fract, wrapping_mul-wrap, rem_euclid-wrap}
+use Rattle.font_arithmetic.specs.Operations.{IsFloor, IsFract, IsNearestWhole, IsNarrowed}
+use Rattle.font_arithmetic.proofs.Wrapped.{wrapping_add-wrap, wrapping_sub-wrap, wrapping_neg-wrap, wrapping_abs-wrap, rem_euclid_is_fract, wrapping_mul-wrap}
 use Rattle.font_arithmetic.proofs.Calls.{wrap-signed_fits, wrap-add_zero, wrap-zero_add, wrap-sub_zero}
-use Rattle.font_arithmetic.proofs.Rounding.{splits, floor_is_nearest_whole, shr_is_narrowed, low_bits-signed, low_bits-negated, shr_is_near_above, shr_is_near_below, near_is_wrapped_near, products_fit, signed_is_mul_div}
+use Rattle.font_arithmetic.proofs.Narrowing.{splits, floor_is_nearest_whole, shr_is_narrowed}
 
 pub sum_32 : (x y : ℤ) → SFits w32 x → SFits w32 y → to_z w32 ((of_z w32 x + of_z w32 y) % 4294967296) ≡ wrap 32 (x +ℤ y)
 sum_32 x y f g = wrapping_add-wrap w32 x y f g
@@ -41,31 +42,15 @@ narrowed_32 v d half x s fits is test = shr_is_narrowed w32 v d half x s test fi
 pub scaled_32 : (x : ℤ) (d : ℕ) → SFits w32 x → SFits w32 (pos d) → to_z w32 (of_z w32 x * d % 4294967296) ≡ wrap 32 (x *ℤ pos d)
 scaled_32 x d f g = wrapping_mul-wrap w32 x d f g
 
--- products are rounded by a shift of 64 bits, of which 32 are kept, and quotients on magnitudes
-
-pub low_bits_32 : (n e r : ℤ) → r ≡ to_z w32 (unsigned_abs (to_z w64 (of_z w64 e))) → e ≡ int_rem_euclid (to_z w64 (of_z w64 n)) (pos 4294967296) → SFits w64 n → to_z w32 (of_z w32 r) ≡ wrap 32 n
-low_bits_32 n e r cast is fits = rem_euclid-wrap w32 w64 n e r (lit≤ tt) fits is cast
-
-pub low_bits_16 : (n e r : ℤ) → r ≡ to_z w16 (unsigned_abs (to_z w32 (of_z w32 e))) → e ≡ int_rem_euclid (to_z w32 (of_z w32 n)) (pos 65536) → SFits w32 n → to_z w16 (of_z w16 r) ≡ wrap 16 n
-low_bits_16 n e r cast is fits = rem_euclid-wrap w16 w32 n e r (lit≤ tt) fits is cast
-
-pub product_32 : (x y a b m l : ℤ) (d : ℕ) → SFits w32 x → SFits w32 y → l ≡ wrap 32 (to_z w64 (of_z w64 m)) → m ≡ near (to_z w64 (of_z w64 (to_z w64 (of_z w64 a) *ℤ to_z w64 (of_z w64 b)))) d
-    → a ≡ to_z w32 (of_z w32 x) → b ≡ to_z w32 (of_z w32 y) → SFits w64 m → SFits w32 l → 0 < d → IsWrappedNear 32 (x *ℤ y) d (to_z w32 (of_z w32 l))
-product_32 x y a b m l d f g is rounded first second wide narrow some =
-    let first_is : a ≡ x = first ∙ to_z-of_z w32 x f in
-    let second_is : b ≡ y = second ∙ to_z-of_z w32 y g in
-    let product : SFits w64 (x *ℤ y) = products_fit x y f g in
-    let first_wide : SFits w64 x = omega (arith, ints, f) in
-    let second_wide : SFits w64 y = omega (arith, ints, g) in
-    let exact : m ≡ near (x *ℤ y) d =
-    rounded ∙ rw (first_is, second_is, to_z-of_z w64 x first_wide, to_z-of_z w64 y second_wide, to_z-of_z w64 (x *ℤ y) product) refl in
-    near_is_wrapped_near 32 (x *ℤ y) d _ some (to_z-of_z w32 l narrow ∙ is ∙ ap (wrap 32) (to_z-of_z w64 m wide ∙ exact))
-
 pub cell_32 : (b : ℤ) (f : ℕ) (pad : Pad) (old : List ℕ) (result : Option ℕ) → IsSome result ↔ (length (padded_text (shortest_text b f) pad) ≤ length old) → SFits w32 b → f ≤ 30
     → max 23 pad.width ≤ length old → IsSome result
 cell_32 b f pad old result room fits few cell = padded_has_room w32 b f pad old result (lit≤ tt) fits few room cell
 
-pub ruleset code_32 = (sum_32, difference_32, negated_32, abs_32, fract_32, nearest_whole_32, narrowed_32, scaled_32, shr_is_near_above, shr_is_near_below, low_bits-signed, low_bits-negated, signed_is_mul_div, cell_32, shortest_is_decimal)
+-- the bytes of the raw number are those of the bits
+pub bytes_32 : (v : ℤ) (bytes : List ℕ) → SFits w32 v → bytes ≡ bytes_of 4 (to_z w32 (of_z w32 v)) → IsBytesOf 4 v bytes
+bytes_32 v bytes fits is = bytes_of_are 4 v bytes (is ∙ ap (bytes_of 4) (to_z-of_z w32 v fits))
+
+pub ruleset code_32 = (sum_32, difference_32, negated_32, abs_32, fract_32, nearest_whole_32, narrowed_32, scaled_32, cell_32, shortest_is_decimal)
 
 -- ---- for callers: a sum with zero, and wrapping of what fits
 

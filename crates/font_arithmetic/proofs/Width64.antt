@@ -1,10 +1,13 @@
 -- What the file of a type of 64 bits names once, so that its calls need no answers: what std's calls and steps of code on 64 bits give, in the form
 -- that goals have, over every fraction.
-use Rattle.std.proofs.Common.{◌≡◌, ℕ, ◌+◌, ◌-◌, ◌*◌, ◌/◌, ◌%◌, ◌^◌, ◌≤◌, ℤ, pos, neg_ℤ, ◌+ℤ◌, ◌-ℤ◌, ◌*ℤ◌, unsigned_abs, IsTrue, lit<, lit≤, length, max, List, Option, IsSome, ◌↔◌}
+use Rattle.std.proofs.Common.{◌≡◌, ap, ◌∙◌, ℕ, ◌+◌, ◌-◌, ◌*◌, ◌/◌, ◌%◌, ◌^◌, ◌≤◌, ℤ, pos, neg_ℤ, ◌+ℤ◌, ◌-ℤ◌, ◌*ℤ◌, unsigned_abs, IsTrue, lit<, lit≤, length, max, List, Option, IsSome, ◌↔◌}
+use Rattle.std.proofs.lemmas.Int.{to_z-of_z}
 use Rattle.std.specs.Int.{w64, int_wrapping_neg, int_rem_euclid}
 use lib.Signed.{shr_z}
 use mir.Val.{SFits, to_z, of_z}
 use Rattle.font_base.specs.Wrap.{wrap}
+use Rattle.font_base.specs.Bytes.{IsBytesOf, bytes_of}
+use Rattle.font_base.specs.Bytes.Laws.{bytes_of_are}
 pub use Rattle.font_decimal.proofs.Printed.{shortest_is_decimal}
 use Rattle.font_decimal.specs.Padding.{padded_text}
 use Rattle.font_decimal.specs.Shortest.{shortest_text}
@@ -13,7 +16,7 @@ use Rattle.font_arithmetic.proofs.Texts.{padded_has_room}
 use Rattle.font_arithmetic.specs.Operations.{IsFloor, IsFract, IsNearestWhole, IsNarrowed}
 use Rattle.font_arithmetic.proofs.Wrapped.{wrapping_add-wrap, wrapping_sub-wrap, wrapping_neg-wrap, wrapping_abs-wrap, rem_euclid_is_fract, wrapping_mul-wrap}
 use Rattle.font_arithmetic.proofs.Calls.{wrap-signed_fits, wrap-add_zero, wrap-zero_add, wrap-sub_zero}
-use Rattle.font_arithmetic.proofs.Rounding.{splits, floor_is_nearest_whole, shr_is_narrowed}
+use Rattle.font_arithmetic.proofs.Narrowing.{splits, floor_is_nearest_whole, shr_is_narrowed}
 
 pub sum_64 : (x y : ℤ) → SFits w64 x → SFits w64 y → to_z w64 ((of_z w64 x + of_z w64 y) % 18446744073709551616) ≡ wrap 64 (x +ℤ y)
 sum_64 x y f g = wrapping_add-wrap w64 x y f g
@@ -42,6 +45,10 @@ scaled_64 x d f g = wrapping_mul-wrap w64 x d f g
 pub cell_64 : (b : ℤ) (f : ℕ) (pad : Pad) (old : List ℕ) (result : Option ℕ) → IsSome result ↔ (length (padded_text (shortest_text b f) pad) ≤ length old) → SFits w64 b → f ≤ 30
     → max 23 pad.width ≤ length old → IsSome result
 cell_64 b f pad old result room fits few cell = padded_has_room w64 b f pad old result (lit≤ tt) fits few room cell
+
+-- the bytes of the raw number are those of the bits
+pub bytes_64 : (v : ℤ) (bytes : List ℕ) → SFits w64 v → bytes ≡ bytes_of 8 (to_z w64 (of_z w64 v)) → IsBytesOf 8 v bytes
+bytes_64 v bytes fits is = bytes_of_are 8 v bytes (is ∙ ap (bytes_of 8) (to_z-of_z w64 v fits))
 
 pub ruleset code_64 = (sum_64, difference_64, negated_64, abs_64, fract_64, nearest_whole_64, narrowed_64, scaled_64, cell_64, shortest_is_decimal)
 

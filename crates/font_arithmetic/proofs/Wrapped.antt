@@ -1,5 +1,5 @@
 -- What std's calls on the bits of a number give, in the words of `wrap`.
-use Rattle.std.proofs.Common.{◌≡◌, ◌∙◌, sym, ap, refl, subst, ℕ, ◌*◌, ◌/◌, ◌%◌, ◌^◌, ◌<◌, ◌≤◌, ℤ, pos, neg_ℤ, ◌+ℤ◌, ◌-ℤ◌, ◌*ℤ◌, List, unsigned_abs, arith}
+use Rattle.std.proofs.Common.{◌≡◌, ◌∙◌, sym, ap, refl, subst, ℕ, ◌*◌, ◌/◌, ◌%◌, ◌^◌, ◌<◌, ◌≤◌, ℤ, pos, neg_ℤ, ◌+ℤ◌, ◌-ℤ◌, ◌*ℤ◌, unsigned_abs, arith}
 use Rattle.std.proofs.lemmas.Int.{ints, to_z-of_z, wrapping_add_is, wrapping_sub_is, wrapping_mul_onto, wrapping_neg_is}
 use Rattle.std.proofs.lemmas.Nat.{pow_pos, div-add-mod'}
 use Rattle.std.proofs.Math.Nat.{mod-lt}
@@ -8,10 +8,8 @@ use Rattle.std.specs.Int.{Width, int_wrapping_add, int_wrapping_sub, int_wrappin
 use borrow.Author.Differences.{abs_is}
 use mir.Val.{SFits, to_z, of_z, bits, hbits}
 use Rattle.font_base.specs.Wrap.{wrap}
-use Rattle.font_base.specs.Wrap.Laws.{wrap_is, wrap_same, two_halves, remainder}
+use Rattle.font_base.specs.Wrap.Laws.{wrap_same, two_halves, remainder}
 use Rattle.font_base.proofs.Widths.{half_range-bits, int_wrap-wrap, to_z-wrap, bits_positive}
-use Rattle.font_base.specs.Bytes.{IsBytesOf, bytes_of}
-use Rattle.font_base.specs.Bytes.Laws.{bytes_of_is}
 use Rattle.font_arithmetic.specs.Operations.{IsFract, fract_of}
 
 -- a sum that wraps
@@ -45,16 +43,6 @@ pub low_bits-wrap : (w : Width) (m : ℕ) (r : ℤ) → r ≡ to_z w (m % 2 ^ bi
 low_bits-wrap w m r is =
     is ∙ to_z-wrap w (m % 2 ^ bits w) (mod-lt m (pow_pos (bits w)))
     ∙ sym (wrap_same (bits w) (pos m) (pos (m % 2 ^ bits w)) (pos (m / 2 ^ bits w)) (bits_positive w) (omega (arith, ints, div-add-mod' m (2 ^ bits w))))
-
--- wrapping before a number is negated changes nothing
-pub wrap-neg : (w : ℕ) (z : ℤ) → 0 < w → wrap w (neg_ℤ (wrap w z)) ≡ wrap w (neg_ℤ z)
-wrap-neg w z some =
-    let given = wrap_is w z some in
-    wrap_same w (neg_ℤ (wrap w z)) (neg_ℤ z) given.turns some (omega (arith, ints, given.differs))
-
--- the bytes of the bits
-pub bytes_of_are : (n : ℕ) (v : ℤ) (bytes : List ℕ) → bytes ≡ bytes_of n v → IsBytesOf n v bytes
-bytes_of_are n v bytes is = rw is (bytes_of_is n v)
 
 -- the rest behind the greatest multiple that is not above
 pub rem_euclid_is_fract : (w : Width) (f d : ℕ) (x r : ℤ) → d ≡ 2 ^ f → 2 ^ f ≤ 2 ^ hbits w → SFits w x → r ≡ int_rem_euclid (to_z w (of_z w x)) (pos d) → IsFract f x (to_z w (of_z w r))

@@ -1,5 +1,6 @@
 pub mod Widths
 pub mod StdBytes
+pub mod ScalarCalls
 mod ThreeBytes
 mod TwentyFourBits
 mod Rows

@@ -1,3 +1,4 @@
+pub mod Integers
 pub mod Wrap
 pub mod BigEndian
 pub mod Bytes

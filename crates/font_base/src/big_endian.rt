@@ -1,9 +1,11 @@
 //! Fields laid over big-endian bytes.
 
-ghost use Rattle.std.specs.Prelude.{◌≡◌, ⊤, ℕ, nat_eq, List, Some, IsTrue, IsSome, IfSome, ◌↔◌, length, refl};
+ghost use Rattle.std.specs.Prelude.{◌≡◌, ⊤, nat_eq, Some, IsTrue, IsSome, IfSome, ◌↔◌, length};
+ghost use Rattle.std.specs.Prelude.{refl};
 ghost use Rattle.std.proofs.Common.{rules, ap, sym, ◌∙◌};
 ghost use Rattle.std.specs.Ordering.{on};
-ghost use Rattle.std.specs.Cmp.{on_per, on_equiv, on_total, partial_equiv_from_equiv, partial_order_from_agreeing_total};
+ghost use Rattle.std.specs.Cmp.{on_per, on_equiv, on_total, partial_equiv_from_equiv};
+ghost use Rattle.std.specs.Cmp.{partial_order_from_agreeing_total};
 ghost use Rattle.std.specs.Cmp.Lexicographic.{nat_list_eq_equiv, pointwise};
 ghost use Rattle.std.specs.Hash as fed;
 ghost use Rattle.std.specs.Cmp.Rules.{hashing};
@@ -109,7 +111,8 @@ impl<T: Scalar> FixedSize for BigEndian<T> {
 impl<T: Scalar> From<T> for BigEndian<T> {
     ghost use Rattle.font_base.specs.BigEndian.{raw_value};
 
-    ghost from_gives = { λ value field. (raw_value field ≡ T.raw_of value) × (T.of_raw (raw_value field) ≡ value) };
+    ghost from_gives = { λ value field. (raw_value field ≡ T.raw_of value)
+        × (T.of_raw (raw_value field) ≡ value) };
 
     fn from(value: T) -> BigEndian<T> {
         BigEndian::new(value.to_raw())
@@ -121,7 +124,8 @@ impl<T: Scalar> PartialEq for BigEndian<T> {
 
     ghost eq = { on (λ field. T.Raw.bytes (raw_value field)) (pointwise nat_eq) };
 
-    ghost laws = { on_per (λ field. T.Raw.bytes (raw_value field)) (partial_equiv_from_equiv nat_list_eq_equiv) };
+    ghost laws = { on_per
+        (λ field. T.Raw.bytes (raw_value field)) (partial_equiv_from_equiv nat_list_eq_equiv) };
 
     fn eq(&self, other: &BigEndian<T>) -> bool {
         self.be_bytes() == other.be_bytes()
@@ -152,13 +156,16 @@ impl<T: Scalar + Copy + Ord + IdentityEq> PartialOrd for BigEndian<T> {
 
     ghost partial_cmp = { λ a b. Some (T.cmp (T.of_raw (raw_value a)) (T.of_raw (raw_value b))) };
 
-    ghost laws = { partial_order_from_agreeing_total (on (λ field. T.of_raw (raw_value field)) T.cmp)
+    ghost laws = { partial_order_from_agreeing_total
+        (on (λ field. T.of_raw (raw_value field)) T.cmp)
         (on_total (λ field. T.of_raw (raw_value field)) T.total)
         (λ a b. refl)
-        (λ a b. same_answer T.cmp T.eq T.matches_eq T.identity (T.of_raw (raw_value a)) (T.of_raw (raw_value b))
+        (λ a b. same_answer T.cmp T.eq T.matches_eq T.identity (T.of_raw (raw_value a))
+        (T.of_raw (raw_value b))
         (T.Raw.bytes (raw_value a)) (T.Raw.bytes (raw_value b))
         (λ same. ap T.of_raw (T.Raw.same_bytes (raw_value a) (raw_value b) a.value b.value same))
-        (λ same. ap T.Raw.bytes (sym (T.Scalar.laws.forth (raw_value a) a.value) ∙ ap T.raw_of same ∙ T.Scalar.laws.forth (raw_value b) b.value))) };
+        (λ same. ap T.Raw.bytes (sym (T.Scalar.laws.forth (raw_value a) a.value) ∙ ap T.raw_of same
+        ∙ T.Scalar.laws.forth (raw_value b) b.value))) };
 
     fn partial_cmp(&self, other: &BigEndian<T>) -> Option<Ordering> {
         Some(self.cmp(other))
@@ -175,10 +182,12 @@ impl<T: Scalar + Copy + Ord + IdentityEq> Ord for BigEndian<T> {
 
     ghost matches_partial_cmp = { λ a b. refl };
 
-    ghost matches_eq = { λ a b. same_answer T.cmp T.eq T.matches_eq T.identity (T.of_raw (raw_value a)) (T.of_raw (raw_value b))
+    ghost matches_eq = { λ a b. same_answer T.cmp T.eq T.matches_eq T.identity
+        (T.of_raw (raw_value a)) (T.of_raw (raw_value b))
         (T.Raw.bytes (raw_value a)) (T.Raw.bytes (raw_value b))
         (λ same. ap T.of_raw (T.Raw.same_bytes (raw_value a) (raw_value b) a.value b.value same))
-        (λ same. ap T.Raw.bytes (sym (T.Scalar.laws.forth (raw_value a) a.value) ∙ ap T.raw_of same ∙ T.Scalar.laws.forth (raw_value b) b.value)) };
+        (λ same. ap T.Raw.bytes (sym (T.Scalar.laws.forth (raw_value a) a.value) ∙ ap T.raw_of same
+        ∙ T.Scalar.laws.forth (raw_value b) b.value)) };
 
     fn cmp(&self, other: &BigEndian<T>) -> Ordering {
         self.get().cmp(&other.get())

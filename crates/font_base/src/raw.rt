@@ -1,7 +1,8 @@
 //! Scalars, and the big-endian bytes that they are stored as.
 #![tactic(auto, using(crate::proofs::StdBytes::std_bytes))]
 
-ghost use Rattle.std.specs.Prelude.{◌≡◌, ℕ, ℤ, pos, Bool, true, List, IsTrue, IsSome, IfSome, ◌↔◌, ◌^◌, nat_lt, length, refl};
+ghost use Rattle.std.specs.Prelude.{◌≡◌, ℕ, pos, Bool, List, IsTrue, IsSome, IfSome, ◌↔◌, ◌^◌};
+ghost use Rattle.std.specs.Prelude.{nat_lt, length};
 ghost use Rattle.std.proofs.Common.{rules, lit<};
 ghost use Rattle.std.specs.Bool.{Decides};
 ghost use Rattle.std.specs.Cmp.{signed_Decides, unsigned_Decides};
@@ -39,7 +40,8 @@ pub trait BeByteArray: Copy {
     ghost length_is: { (a : Self) → IsTrue (is_value a) → length (bytes a) ≡ LEN };
 
     // Equal bytes are the same value.
-    ghost same_bytes: { (a b : Self) → IsTrue (is_value a) → IsTrue (is_value b) → bytes a ≡ bytes b → a ≡ b };
+    ghost same_bytes: { (a b : Self) → IsTrue (is_value a) → IsTrue (is_value b) → bytes a ≡ bytes b
+        → a ≡ b };
 }
 
 // The same slice, with the fact that its elements are bytes.
@@ -82,8 +84,9 @@ pub trait FixedSize: Sized {
 
 /// A value that is stored as a fixed number of big-endian bytes.
 ///
-/// An `impl` says which bytes a value has, and proves that the two determine each other. That is all that fields,
-/// headers and their laws ask of a type: `u16::read(&[0x01, 0x00])` is `Some(256)`.
+/// An `impl` says which bytes a value has, and proves that the two determine each other. That is
+/// all that fields, headers and their laws ask of a type: `u16::read(&[0x01, 0x00])` is
+/// `Some(256)`.
 pub trait Scalar: FixedSize {
     /// The array of bytes.
     type Raw: BeByteArray;
@@ -118,7 +121,8 @@ pub trait Scalar: FixedSize {
     }
 
     // Values and arrays determine each other, and the array is as long as the type says.
-    ghost laws: { ScalarLaws is_scalar Self.Raw.is_value of_raw raw_of Self.Raw.LEN Self.RAW_BYTE_LEN };
+    ghost laws: { ScalarLaws is_scalar Self.Raw.is_value of_raw raw_of
+        Self.Raw.LEN Self.RAW_BYTE_LEN };
 }
 
 /// A scalar whose `==` joins no two values: `a == b` is true exactly where they are the same.

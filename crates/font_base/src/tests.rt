@@ -4,3 +4,4 @@ mod calling;
 mod fields;
 mod numbers;
 mod reader;
+mod traits;

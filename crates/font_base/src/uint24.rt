@@ -1,6 +1,7 @@
 //! The unsigned integer of 24 bits.
 
-ghost use Rattle.std.specs.Prelude.{◌≡◌, ◌≤◌, ◌<◌, ◌^◌, ◌↔◌, min, pos, Some, IsSome, IsNone, IfSome, MatchResult};
+ghost use Rattle.std.specs.Prelude.{◌≡◌, ◌≤◌, ◌<◌, ◌^◌, ◌↔◌, min, pos, Some, IsSome, IfSome};
+ghost use Rattle.std.specs.Prelude.{MatchResult};
 ghost use Rattle.std.specs.Fmt.{decimal};
 
 use crate::raw::{BeByteArray, FixedSize, IdentityEq, Scalar};

@@ -10,7 +10,7 @@ use Rattle.std.proofs.lemmas.Int.{ints}
 use Rattle.std.proofs.lemmas.List.{append-nil, same_from_push}
 use Rattle.std.proofs.lemmas.Fmt.{decimal_is_IsNumeral}
 use Rattle.std.proofs.lemmas.Str.Parse.{digit_from_value}
-use Rattle.font_decimal.specs.Grammar.{HasParts, IsDecimal, Plain, point_text}
+use Rattle.font_decimal.specs.Grammar.{HasParts, IsDecimal, Plain, fraction_text}
 use Rattle.font_decimal.specs.Reading.{Rounds, Reads, IsReading}
 use Rattle.font_decimal.specs.Shortest.{IsShortest, nearest_numeral, fewest_places, last_digits, shortest_text}
 use Rattle.font_decimal.specs.declared.reader.DecimalFault.{DecimalFault}
@@ -18,10 +18,6 @@ use Rattle.font_decimal.proofs.Texts.{same_parts, decimal_unique, decimal_of, de
 use Rattle.font_decimal.proofs.Readings.{rounds_unique, reading_unique}
 use Rattle.font_decimal.proofs.Fewest.{IsFewest, fewest_is, zero_drops, unit_below}
 use Rattle.font_decimal.proofs.Written.{shortest_is, whole_fits, digits_fit, point_length}
-
--- the text of a value is its shortest decimal
-pub printed_is_shortest : (b : ℤ) (f : ℕ) → unsigned_abs b ≤ 2 ^ 63 → IsShortest b f (shortest_text b f)
-printed_is_shortest = shortest_is
 
 -- a shortest text is in the grammar
 pub shortest_is_decimal : (b : ℤ) (f : ℕ) (text : List ℕ) → IsShortest b f text → IsDecimal text
@@ -82,11 +78,11 @@ no_point_signed s ds i h = rw append-nil (by_sign s i) where
   by_sign true (suc j) e = no_point_at ds j h e
   by_sign false j e = no_point_at ds j h e
 
-last_byte : (s : Bool) (whole : List ℕ) (p n : ℕ) (front : List ℕ) → sign_text s ++ (whole ++ point_text (last_digits (suc p) n)) ≡ front ++ (48 ∷ []) → n % 10 ≡ 0
+last_byte : (s : Bool) (whole : List ℕ) (p n : ℕ) (front : List ℕ) → sign_text s ++ (whole ++ fraction_text (last_digits (suc p) n)) ≡ front ++ (48 ∷ []) → n % 10 ≡ 0
 last_byte s whole p n front e =
     let before : List ℕ = 46 ∷ last_digits p (n / 10) in
     let last : List ℕ = (48 + n % 10) ∷ [] in
-    let fraction : point_text (last_digits (suc p) n) ≡ before ++ last = ap (λ ds. 46 ∷ ds) (last_is p n) in
+    let fraction : fraction_text (last_digits (suc p) n) ≡ before ++ last = ap (λ ds. 46 ∷ ds) (last_is p n) in
     let regroup : sign_text s ++ (whole ++ (before ++ last)) ≡ (sign_text s ++ (whole ++ before)) ++ last =
     sym (append_assoc (sign_text s) (whole ++ before) last ∙ ap (λ xs. sign_text s ++ xs) (append_assoc whole before last)) in
     let ends = same_from_push (sign_text s ++ (whole ++ before)) front (48 + n % 10) 48 (sym regroup ∙ sym (ap (λ xs. sign_text s ++ (whole ++ xs)) fraction) ∙ e) in
@@ -94,8 +90,8 @@ last_byte s whole p n front e =
     omega arith
 
 ends_or_whole : (s : Bool) (m f p i : ℕ) (front : List ℕ) → IsFewest m f p → nearest_numeral m f p / 10 ^ p < 2 ^ 64
-    → sign_text s ++ (decimal (nearest_numeral m f p / 10 ^ p) ++ point_text (last_digits p (nearest_numeral m f p))) ≡ front ++ (48 ∷ [])
-    → get_or (sign_text s ++ (decimal (nearest_numeral m f p / 10 ^ p) ++ point_text (last_digits p (nearest_numeral m f p)))) i 0 ≢ 46
+    → sign_text s ++ (decimal (nearest_numeral m f p / 10 ^ p) ++ fraction_text (last_digits p (nearest_numeral m f p))) ≡ front ++ (48 ∷ [])
+    → get_or (sign_text s ++ (decimal (nearest_numeral m f p / 10 ^ p) ++ fraction_text (last_digits p (nearest_numeral m f p)))) i 0 ≢ 46
 ends_or_whole s m f zero i front fewest small e = no_point_signed s _ i (decimal_is_IsNumeral _ small).0.1
 ends_or_whole s m f (suc p) i front fewest small e = absurd (zero_drops m f p fewest last_zero) where
   last_zero : nearest_numeral m f (suc p) % 10 ≡ 0
@@ -120,6 +116,6 @@ shortest_length b f small few =
     let n = nearest_numeral m f p in
     let whole : List ℕ = decimal (n / 10 ^ p) in
     let digits = digits_fit m f p small few (unit_below m f p (fewest_is m f).before) in
-    let all : length (sign_text (is_negative b) ++ (whole ++ point_text (last_digits p n))) ≡ length (sign_text (is_negative b)) + (length whole + length (point_text (last_digits p n))) =
+    let all : length (sign_text (is_negative b) ++ (whole ++ fraction_text (last_digits p n))) ≡ length (sign_text (is_negative b)) + (length whole + length (fraction_text (last_digits p n))) =
     length-append (sign_text (is_negative b)) _ ∙ ap (λ k. length (sign_text (is_negative b)) + k) (length-append whole _) in
     omega (arith, all, point_length p n, sign_length (is_negative b))

@@ -9,16 +9,16 @@ use Rattle.std.proofs.lemmas.Str.Ascii.{IsAscii-cons, IsAscii-nil}
 use Rattle.std.proofs.lemmas.Str.Parse.{digit_from_value}
 use Rattle.std.proofs.lemmas.Fmt.{IsAscii-from_digits}
 use Rattle.font_decimal.specs.Near.{signed}
-use Rattle.font_decimal.specs.Grammar.{point_text, HasParts, Decimal}
+use Rattle.font_decimal.specs.Grammar.{fraction_text, HasParts, Decimal}
 
 -- a fraction is known from how it is written
-pub same_point : (e g : List ℕ) → point_text e ≡ point_text g → e ≡ g
+pub same_point : (e g : List ℕ) → fraction_text e ≡ fraction_text g → e ≡ g
 same_point [] [] h = refl
 same_point [] (d ∷ g) h = cc
 same_point (c ∷ e) [] h = cc
 same_point (c ∷ e) (d ∷ g) h = cc
 
-no_point : (c : ℕ) (w e g : List ℕ) → digit_value c < 10 → point_text e ≡ c ∷ (w ++ point_text g) → ⊥
+no_point : (c : ℕ) (w e g : List ℕ) → digit_value c < 10 → fraction_text e ≡ c ∷ (w ++ fraction_text g) → ⊥
 no_point c w [] g small h = cc
 no_point c w (d ∷ e) g small h =
     let digit = digit_from_value c small in
@@ -26,18 +26,18 @@ no_point c w (d ∷ e) g small h =
     omega arith
 
 -- two texts that agree have the same digits on each side of the point
-same_split : (v w e g : List ℕ) → AllDigits 10 v → AllDigits 10 w → v ++ point_text e ≡ w ++ point_text g → (v ≡ w) × (e ≡ g)
+same_split : (v w e g : List ℕ) → AllDigits 10 v → AllDigits 10 w → v ++ fraction_text e ≡ w ++ fraction_text g → (v ≡ w) × (e ≡ g)
 same_split [] [] e g p q h = (refl, same_point e g h)
 same_split [] (c ∷ w) e g p q h = absurd (no_point c w e g q.0 h)
 same_split (c ∷ v) [] e g p q h = absurd (no_point c v g e p.0 (sym h))
 same_split (c ∷ v) (d ∷ w) e g p q h =
-    let rest : v ++ point_text e ≡ w ++ point_text g = cc in
+    let rest : v ++ fraction_text e ≡ w ++ fraction_text g = cc in
     let first : c ≡ d = cc in
     let same = same_split v w e g p.1 q.1 rest in
     let whole = same.0 in
     (cc, same.1)
 
-pub no_minus : (w e : List ℕ) (rest : List ℕ) → IsNumeral 10 w → w ++ point_text e ≡ 45 ∷ rest → ⊥
+pub no_minus : (w e : List ℕ) (rest : List ℕ) → IsNumeral 10 w → w ++ fraction_text e ≡ 45 ∷ rest → ⊥
 no_minus [] e rest n h = omega (arith, n.0)
 no_minus (c ∷ w) e rest n h =
     let digit = digit_from_value c n.1.0 in
@@ -53,12 +53,12 @@ pub same_parts : (s t : Bool) (v w e g text : List ℕ) → HasParts text s v e 
 same_parts false false v w e g text x y =
     let same = same_split v w e g x.whole_digits.1 y.whole_digits.1 (sym x.written ∙ y.written) in
     record { negative = refl; whole = same.0; fraction = same.1 }
-same_parts false true v w e g text x y = absurd (no_minus v e (w ++ point_text g) x.whole_digits (sym x.written ∙ y.written))
-same_parts true false v w e g text x y = absurd (no_minus w g (v ++ point_text e) y.whole_digits (sym y.written ∙ x.written))
+same_parts false true v w e g text x y = absurd (no_minus v e (w ++ fraction_text g) x.whole_digits (sym x.written ∙ y.written))
+same_parts true false v w e g text x y = absurd (no_minus w g (v ++ fraction_text e) y.whole_digits (sym y.written ∙ x.written))
 same_parts true true v w e g text x y =
     let text_is = x.written in
     let text_is_too = y.written in
-    let rest : v ++ point_text e ≡ w ++ point_text g = cc in
+    let rest : v ++ fraction_text e ≡ w ++ fraction_text g = cc in
     let same = same_split v w e g x.whole_digits.1 y.whole_digits.1 rest in
     record { negative = refl; whole = same.0; fraction = same.1 }
 
@@ -83,7 +83,7 @@ decimal_unique text n m j k x y =
 pub decimal_of : (text : List ℕ) (s : Bool) (w e : List ℕ) → HasParts text s w e → Decimal text (signed s (digits_value 10 (w ++ e))) (length e)
 decimal_of text s w e p = record { negative = s; whole = w; fraction = e; parts = p; numeral = refl; places = refl }
 
-ascii_point : (e : List ℕ) → AllDigits 10 e → IsAscii (point_text e)
+ascii_point : (e : List ℕ) → AllDigits 10 e → IsAscii (fraction_text e)
 ascii_point [] p = IsAscii-nil
 ascii_point (d ∷ e) p = IsAscii-cons 46 (d ∷ e) (omega arith) (IsAscii-from_digits (d ∷ e) p)
 

@@ -14,7 +14,7 @@ use Rattle.std.proofs.lemmas.List.{append-nil}
 use Rattle.std.proofs.lemmas.Str.{digit_value_digit}
 use Rattle.std.proofs.lemmas.Fmt.{decimal_is_IsNumeral, decimal_digit, first_decimal, length-decimal-le}
 use Rattle.font_decimal.specs.Near.{signed, Near}
-use Rattle.font_decimal.specs.Grammar.{point_text, HasParts, Decimal}
+use Rattle.font_decimal.specs.Grammar.{fraction_text, HasParts, Decimal}
 use Rattle.font_decimal.specs.Shortest.{IsShortest, nearest_numeral, fewest_places, last_digits, decimal_text, shortest_text}
 use Rattle.font_decimal.proofs.Near.{IsNearMagnitude, rounded_is, near_from, is_signed, signed_times}
 use Rattle.font_decimal.proofs.Digits.{digits_value-append}
@@ -211,13 +211,13 @@ module _ (b : ℤ) (f magnitude whole fraction places : ℕ) (fits : FitsSigned 
   fraction_is : last_digits places fraction ≡ last_digits places (nearest_numeral magnitude f places)
   fraction_is = sym (last_behind places whole fraction) ∙ ap (last_digits places) nearest
 
-  pub text_is : sign_text (is_negative b) ++ (decimal whole ++ (point_text (last_digits places fraction) ++ [])) ≡ shortest_text b f
+  pub text_is : sign_text (is_negative b) ++ (decimal whole ++ (fraction_text (last_digits places fraction) ++ [])) ≡ shortest_text b f
   unfolding shortest_text
   text_is = rw (fraction_is, whole_is, append-nil, few, size) refl
 
   pub is_shortest : IsShortest b f (shortest_text b f)
   is_shortest = shortest_is b f (omega (arith, size, small))
 
-pub point_length : (p n : ℕ) → length (point_text (last_digits p n)) ≤ p + 1
+pub point_length : (p n : ℕ) → length (fraction_text (last_digits p n)) ≤ p + 1
 point_length zero n = omega arith
 point_length (suc p) n = omega (arith, last_length p n)

@@ -6,13 +6,13 @@ use Rattle.std.specs.Str.Parse.{digits_value, AllDigits, IsNumeral}
 use Rattle.font_decimal.specs.Near.{signed}
 
 -- the fraction as it is written: nothing where it has no digit, otherwise a point and its digits
-abbrev pub point_text : List ℕ → List ℕ
-point_text [] = []
-point_text (digit ∷ digits) = 46 ∷ (digit ∷ digits)
+abbrev pub fraction_text : List ℕ → List ℕ
+fraction_text [] = []
+fraction_text (digit ∷ digits) = 46 ∷ (digit ∷ digits)
 
 -- the text is made of these parts: a sign, the digits in front of the point, and those behind it
 pub record HasParts (text : List ℕ) (negative : Bool) (whole fraction : List ℕ) : Type 0 where
-  pub written : text ≡ sign_text negative ++ (whole ++ point_text fraction)
+  pub written : text ≡ sign_text negative ++ (whole ++ fraction_text fraction)
   pub whole_digits : IsNumeral 10 whole
   pub fraction_digits : AllDigits 10 fraction
 

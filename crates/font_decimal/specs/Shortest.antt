@@ -3,7 +3,7 @@ use Rattle.std.specs.Prelude.{ℕ, zero, suc, ◌+◌, ◌*◌, ◌/◌, ◌%◌
 use Rattle.std.specs.Int.{is_negative, abs_diff}
 use Rattle.std.specs.Fmt.{decimal, sign_text}
 use Rattle.font_decimal.specs.Near.{Near, near_magnitude}
-use Rattle.font_decimal.specs.Grammar.{Plain, point_text}
+use Rattle.font_decimal.specs.Grammar.{Plain, fraction_text}
 use Rattle.font_decimal.specs.Reading.{Rounds}
 
 -- the text is plain and reads back as b; among the decimals of its number of places none is nearer to b / 2^f; and no number with
@@ -40,7 +40,7 @@ last_digits (suc p) n = (48 + n / 10 ^ p % 10) ∷ last_digits p n
 
 -- n / 10^p with p digits behind the point
 abbrev pub decimal_text : ℕ → ℕ → List ℕ
-decimal_text n p = decimal (n / 10 ^ p) ++ point_text (last_digits p n)
+decimal_text n p = decimal (n / 10 ^ p) ++ fraction_text (last_digits p n)
 
 -- the text of the shortest decimal of b / 2^f
 unfoldable pub shortest_text : ℤ → ℕ → List ℕ

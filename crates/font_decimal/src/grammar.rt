@@ -4,7 +4,7 @@ ghost use Rattle.std.specs.Prelude.{◌≡◌, ◌≢◌, ℕ, false, List, ◌�
 ghost use Rattle.std.specs.Fmt.{sign_text};
 ghost use Rattle.std.specs.Char.{is_ascii_digit};
 ghost use Rattle.std.specs.List.{list_all};
-ghost use Rattle.font_decimal.specs.Grammar.{point_text};
+ghost use Rattle.font_decimal.specs.Grammar.{fraction_text};
 
 // A sign and what follows it.
 pub fn split_sign(text: &[u8]) -> (bool, &[u8])
@@ -19,8 +19,8 @@ pub fn split_sign(text: &[u8]) -> (bool, &[u8])
 
 // What follows the whole digits, without its point: nothing, or one byte or more behind a point.
 pub fn behind_point(text: &[u8]) -> Option<&[u8]>
-    ensures { MatchOption result ((fraction : List ℕ) → text.now ≢ point_text fraction)
-        (λ fraction. text.now ≡ point_text fraction.now) }
+    ensures { MatchOption result ((fraction : List ℕ) → text.now ≢ fraction_text fraction)
+        (λ fraction. text.now ≡ fraction_text fraction.now) }
 {
     match text {
         [] => Some(text),

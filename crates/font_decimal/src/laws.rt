@@ -4,7 +4,8 @@ ghost use Rattle.font_decimal.specs.Reading.{IsReading, IsAtMost};
 
 use crate::{DecimalFault, read_decimal};
 
-/// Reads both texts. Where both are accepted, the one of greater decimal value never gives the lesser number.
+/// Reads both texts. Where both are accepted, the one of greater decimal value never gives the
+/// lesser number.
 pub fn reads_in_order(
     s: &str,
     t: &str,
@@ -16,7 +17,8 @@ pub fn reads_in_order(
     requires around_zero { (min ≤ℤ pos 0) × (pos 0 ≤ℤ max) }
     ensures first { IsReading s.now f min max result.0 }
     ensures second { IsReading t.now f min max result.1 }
-    ensures in_order { (a b : ℤ) → result.0 ≡ Ok a → result.1 ≡ Ok b → IsAtMost s.now t.now → a ≤ℤ b }
+    ensures in_order { (a b : ℤ) → result.0 ≡ Ok a → result.1 ≡ Ok b → IsAtMost s.now t.now
+        → a ≤ℤ b }
 {
     (read_decimal(s, f, min, max), read_decimal(t, f, min, max))
 }

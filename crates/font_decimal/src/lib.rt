@@ -1,6 +1,7 @@
 //! Decimal texts of fixed-point numbers: reading them, writing the shortest one, and padding.
 //!
-//! A fixed-point number with `f` bits of fraction stands for its bits over `2^f`. Nothing here allocates.
+//! A fixed-point number with `f` bits of fraction stands for its bits over `2^f`. Nothing here
+//! allocates.
 //!
 //! ```text
 //! read_decimal("0.6", 14, -32768, 32767)                // Ok(9830)

@@ -3,7 +3,7 @@
 ghost use Rattle.std.specs.Prelude.{◌≡◌, ◌+◌, ◌*◌, ◌%◌, ◌^◌, ◌≤◌, ◌<◌, [], ◌∷◌, ◌++◌};
 ghost use Rattle.std.specs.Prelude.{ℕ, length, slice_index, Some};
 ghost use Rattle.std.specs.Fmt.{decimal, sign_text};
-ghost use Rattle.font_decimal.specs.Grammar.{point_text};
+ghost use Rattle.font_decimal.specs.Grammar.{fraction_text};
 ghost use Rattle.font_decimal.specs.Shortest.{fewest_places, nearest_numeral, last_digits};
 
 use std::fmt;
@@ -80,7 +80,7 @@ impl Shortest {
     // Puts the last `places` digits of a fraction in front, with a point before them.
     fn push_fraction(&mut self, fraction: u64, places: u32)
         requires { places + 1 + length (shown self.old) ≤ 22 }
-        ensures { shown self.new ≡ point_text (last_digits places fraction) ++ shown self.old }
+        ensures { shown self.new ≡ fraction_text (last_digits places fraction) ++ shown self.old }
     {
         let mut left = fraction;
         for _place in 0..places {

@@ -122,7 +122,8 @@ fn reads_to_the_ends_of_64_bits(rt: HostRuntime) {
     }
 }
 
-// Half a step of 1 / 2^30 has 31 digits, and half a step of 1 / 2^19 is the first whose 20 digits do not fit 64 bits.
+// Half a step of 1 / 2^30 has 31 digits, and half a step of 1 / 2^19 is the first whose 20 digits
+// do not fit 64 bits.
 #[test]
 fn reads_long_fractions(rt: HostRuntime) {
     for (text, f, want) in [
@@ -401,5 +402,17 @@ fn texts_and_numbers_of_faults(rt: HostRuntime) -> Result<(), Fail> {
     let shown = format!(in alloc; "{}", Shortest::new(-10139, 14))?;
     assert_eq!(rt; shown.as_str(), "-0.61884");
     assert_eq!(rt; reads_in_order("0.5", "-1", 6, -64, 64), (Ok(32), Ok(-64)));
+    Ok(())
+}
+
+// No flag of a format is heard.
+#[test]
+fn prints_without_flags(rt: HostRuntime) -> Result<(), Fail> {
+    for (bits, f, text) in [(9830, 14, "0.6"), (-98304, 16, "-1.5")] {
+        let number = Shortest::new(bits, f);
+        let flagged = format!(in rt.alloc(); "{number:8}|{number:.0}|{number:+}")?;
+        let plain = format!(in rt.alloc(); "{text}|{text}|{text}")?;
+        assert_eq!(rt; flagged.as_str(), plain.as_str());
+    }
     Ok(())
 }

@@ -2,3 +2,4 @@
 
 mod arithmetic;
 mod texts;
+mod traits;

@@ -1,11 +1,16 @@
--- What callers of `Fixed` name once: products and quotients by 0 and by 1, sums with 0, and wrapping of what fits.
-use Rattle.std.proofs.Common.{◌≡◌, ◌∙◌, ℤ, pos, ◌+ℤ◌, ◌-ℤ◌, ◌*ℤ◌, ap, arith, lit<, w32}
+-- What callers of `Fixed` name once: products and quotients by 0 and by 1, sums with 0, differences, a number over itself, a part of a whole, and
+-- wrapping of what fits.
+use Rattle.std.proofs.Common.{◌≡◌, ◌≢◌, ◌∙◌, ap, refl, arith, lit<, ℕ, zero, suc, ◌*◌, ◌<◌, ◌≤◌, ℤ, pos, negsuc, ◌+ℤ◌, ◌-ℤ◌, ◌*ℤ◌, ◌≤ℤ◌, w32, false, inl, inr}
+use Rattle.std.proofs.lemmas.Bool.{cases_lt}
 use Rattle.std.proofs.lemmas.Int.{ints}
 use mir.Val.{SFits}
-use Rattle.font_base.specs.Wrap.{wrap}
+use Rattle.font_base.specs.Wrap.{wrap, FitsBits}
+use Rattle.font_base.specs.Wrap.Laws.{wrap-add_right}
 use Rattle.font_decimal.specs.Near.{near}
+use Rattle.font_decimal.proofs.Near.{IsNearMagnitude, near_to, next_product}
+use Rattle.font_arithmetic.specs.Operations.{IsQuotient, floor_of, fract_of}
 use Rattle.font_arithmetic.proofs.Calls.{near-times, near-times_left, near-times_zero, near-zero_times}
-use Rattle.font_arithmetic.specs.Operations.{floor_of, fract_of}
+use Rattle.font_arithmetic.proofs.Laws.{itself}
 use Rattle.font_arithmetic.proofs.Width32.{fits_32, calls_32}
 
 pub by_one : (x : ℤ) → near (x *ℤ pos 65536) 65536 ≡ x
@@ -26,4 +31,63 @@ floor_plus_fract b fits = ap (wrap 32) (ends b (fract_of 16 b)) ∙ fits_32 b fi
     ends : (x m : ℤ) → ((x -ℤ m) +ℤ m) ≡ x
     ends x m = omega (arith, ints)
 
-pub ruleset fixed_calls = (calls_32, by_one, one_by, by_zero, zero_by, floor_plus_fract)
+-- ---- differences
+
+-- a difference that is added back: a + (b - a) is b
+pub there_and_back : (a b : ℤ) → SFits w32 b → wrap 32 (a +ℤ wrap 32 (b -ℤ a)) ≡ b
+there_and_back a b fits = wrap-add_right 32 a (b -ℤ a) (lit< tt) ∙ ap (wrap 32) (ends a b) ∙ fits_32 b fits
+  where
+    ends : (x y : ℤ) → (x +ℤ (y -ℤ x)) ≡ y
+    ends x y = omega (arith, ints)
+
+-- a number less itself is 0
+pub less_itself : (a : ℤ) → wrap 32 (a -ℤ a) ≡ pos 0
+less_itself a = let none : (a -ℤ a) ≡ pos 0 = omega (arith, ints) in ap (wrap 32) none ∙ fits_32 (pos 0) (omega (arith, ints))
+
+-- ---- quotients
+
+one_fits : FitsBits 32 (pos 65536)
+one_fits = record { low = omega (arith, ints); high = omega (arith, ints) }
+
+pub over_itself : (x r : ℤ) → IsQuotient 32 16 x x r → x ≢ pos 0 → r ≡ pos 65536
+over_itself x r quotient other = itself 32 16 x r (lit< tt) one_fits quotient other
+
+-- in steps of 1 / 65536, the share of x in d is at most 65536
+share_is_at_most_one : (x d m : ℕ) → 0 < d → x ≤ d → IsNearMagnitude (x * 65536) d m → m ≤ 65536
+share_is_at_most_one x d m some within rounded =
+    elim (cases_lt 65536 m) [
+      | inl more ↦ absurd (omega (arith, rounded.low, next_product 65536 m d more))
+      | inr less ↦ less
+    ]
+
+-- a part of a whole, over the whole
+share : (x y r : ℤ) → IsQuotient 32 16 x y r → pos 0 ≤ℤ x → x ≤ℤ y → y ≢ pos 0 → (pos 0 ≤ℤ r) × (r ≤ℤ pos 65536)
+share (negsuc x) y r quotient low high some = absurd (omega (arith, ints, low))
+share (pos x) (negsuc d) r quotient low high some = absurd (omega (arith, ints, high))
+share (pos x) (pos zero) r quotient low high some = absurd (some refl)
+share (pos x) (pos (suc d)) r quotient low high some =
+    let rounded = near_to false (x * 65536) (suc d) quotient.exact (omega arith) quotient.nearest in
+    let bound = share_is_at_most_one x (suc d) rounded.magnitude (omega arith) (omega (arith, ints, high)) rounded.rounded in
+    let same : r ≡ pos rounded.magnitude =
+    quotient.wrapped ∙ ap (wrap 32) rounded.is ∙ fits_32 (pos rounded.magnitude) (omega (arith, ints, bound)) in
+    (omega (arith, ints, same), omega (arith, ints, same, bound))
+
+pub part_is_not_negative : (x y r : ℤ) → IsQuotient 32 16 x y r → pos 0 ≤ℤ x → x ≤ℤ y → y ≢ pos 0 → pos 0 ≤ℤ r
+part_is_not_negative x y r quotient low high some = (share x y r quotient low high some).0
+
+pub part_is_at_most_one : (x y r : ℤ) → IsQuotient 32 16 x y r → pos 0 ≤ℤ x → x ≤ℤ y → y ≢ pos 0 → r ≤ℤ pos 65536
+part_is_at_most_one x y r quotient low high some = (share x y r quotient low high some).1
+
+pub ruleset fixed_calls = (
+  calls_32,
+  by_one,
+  one_by,
+  by_zero,
+  zero_by,
+  floor_plus_fract,
+  there_and_back,
+  less_itself,
+  over_itself,
+  part_is_not_negative,
+  part_is_at_most_one,
+)

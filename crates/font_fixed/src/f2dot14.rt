@@ -1,18 +1,18 @@
 //! The fixed-point number of 16 bits with 14 bits of fraction.
 #![tactic(auto, using(font_arithmetic::proofs::Width16::code_16))]
 
-ghost use Rattle.std.specs.Prelude.{◌≡◌, ◌^◌, ◌<◌, ◌≤◌, ◌↔◌, ℤ, pos, neg_ℤ, ◌+ℤ◌, ◌-ℤ◌, ◌*ℤ◌, Some, IsSome, IfSome, IfNone, IfOk, refl, length, max, unsigned_abs, FitsSigned};
+ghost use Rattle.std.specs.Prelude.{◌≡◌, ◌<◌, ◌≤◌, ◌↔◌, ℤ, pos, neg_ℤ, ◌+ℤ◌, ◌-ℤ◌, ◌*ℤ◌, Some};
+ghost use Rattle.std.specs.Prelude.{IsSome, IfSome, IfNone, refl, length, max, unsigned_abs};
 ghost use Rattle.std.proofs.Common.{lit<};
 ghost use Rattle.std.specs.Int.{w16};
-ghost use Rattle.std.specs.Result.{result_map_both};
 ghost use Rattle.font_base.specs.Wrap.{FitsBits, fits_bits, wrap};
 ghost use Rattle.font_base.specs.Bytes.{IsBytesOf, bytes_of, signed_numeral};
 ghost use Rattle.font_base.specs.Scalar.Laws.{signed_newtype, signed_identity};
-ghost use Rattle.font_decimal.specs.Grammar.{IsNoDecimal};
 ghost use Rattle.font_decimal.specs.Padding.{padded_text, FillsFront};
 ghost use Rattle.font_decimal.specs.Shortest.{IsShortest};
 ghost use Rattle.font_decimal.specs.Shown.{shown};
-ghost use Rattle.font_arithmetic.specs.Operations.{IsNearestWhole, IsFloor, IsFract, clamp, ReadsAs, IsTooFar, ReadingGives};
+ghost use Rattle.font_arithmetic.specs.Operations.{IsNearestWhole, IsFloor, IsFract, clamp};
+ghost use Rattle.font_arithmetic.specs.Reading.{ReadsBy};
 ghost use Rattle.font_fixed.specs.declared.f2dot14.F2Dot14.{F2Dot14};
 ghost use Rattle.font_fixed.specs.F2Dot14.{f2dot14_bits, f2dot14_of, f2dot14_text};
 ghost use Rattle.font_fixed.specs.Fixed.{fixed_bits};
@@ -20,15 +20,17 @@ ghost use Rattle.font_fixed.specs.F48Dot16.{f48dot16_bits};
 
 use crate::f48dot16::F48Dot16;
 use crate::fixed::Fixed;
+use font_arithmetic::read_bits_16;
 use font_base::{FixedSize, IdentityEq, Scalar};
-use font_decimal::{DecimalFault, Pad, Shortest, read_decimal};
+use font_decimal::{DecimalFault, Pad, Shortest};
 use std::fmt;
 use std::ops::{Add, AddAssign, Neg, Sub, SubAssign};
 
-/// A fixed-point number of 16 bits, the last 14 of which are its fraction: a coordinate in a normalized design space.
+/// A fixed-point number of 16 bits, the last 14 of which are its fraction: a coordinate in a
+/// normalized design space.
 ///
-/// Its bits are counted in steps of `1 / 16384`: `F2Dot14::from_bits(0x6000)` is 1.5. Sums that leave the range
-/// wrap.
+/// Its bits are counted in steps of `1 / 16384`: `F2Dot14::from_bits(0x6000)` is 1.5. Sums that
+/// leave the range wrap.
 #[derive(Clone, Copy, PartialEq, Eq, PartialOrd, Ord, Hash, Default)]
 pub struct F2Dot14(i16);
 
@@ -126,7 +128,8 @@ impl F2Dot14 {
     /// The sum, or `None` where it is out of range.
     pub fn checked_add(self, other: Self) -> Option<Self>
         ensures variant { IsSome result ↔ FitsBits 16 (f2dot14_bits self +ℤ f2dot14_bits other) }
-        ensures value { IfSome result (λ sum. f2dot14_bits sum ≡ (f2dot14_bits self +ℤ f2dot14_bits other)) }
+        ensures value { IfSome result
+            (λ sum. f2dot14_bits sum ≡ (f2dot14_bits self +ℤ f2dot14_bits other)) }
     {
         Some(Self(self.0.checked_add(other.0)?))
     }
@@ -147,7 +150,8 @@ impl F2Dot14 {
 
     /// The number moved by a sum of deltas, exactly, in units of `2^-30`.
     ///
-    /// A delta counts in units of `1 / 16384`, the last bit of this type, with 16 bits of fraction behind it.
+    /// A delta counts in units of `1 / 16384`, the last bit of this type, with 16 bits of fraction
+    /// behind it.
     pub fn apply_delta(self, delta: F48Dot16) -> i128
         ensures { result ≡ (f2dot14_bits self *ℤ pos 65536 +ℤ f48dot16_bits delta) }
     {
@@ -156,30 +160,22 @@ impl F2Dot14 {
 
     /// The number nearest to a decimal text, ties away from zero.
     ///
-    /// A text outside the grammar is refused as `Syntax`, one whose nearest number is out of range as `OutOfRange`.
+    /// A text outside the grammar is refused as `Syntax`, one whose nearest number is out of range
+    /// as `OutOfRange`.
     pub fn from_decimal(text: &str) -> Result<Self, DecimalFault>
-        ensures ok { (x : F2Dot14) → (result ≡ Ok x) ↔ ReadsAs 16 14 text.now (f2dot14_bits x) }
-        ensures reads { IfOk result (λ x. ReadsAs 16 14 text.now (f2dot14_bits x)) }
-        ensures gives { ReadingGives 16 14 text.now (result_map_both f2dot14_bits (λ fault. fault) result) }
-        ensures printed { (x : F2Dot14) → FitsSigned w16 (f2dot14_bits x) → text.now ≡ f2dot14_text x → result ≡ Ok x }
-        ensures out_of_range { (result ≡ Err DecimalFault.OutOfRange) ↔ IsTooFar 16 14 text.now }
-        ensures syntax { (result ≡ Err DecimalFault.Syntax) ↔ IsNoDecimal text.now }
+        ensures { ReadsBy w16 14 f2dot14_bits text.now result }
     {
-        let bits = read_decimal(
-            text,
-            Self::FRACTION_BITS,
-            i64::from(i16::MIN),
-            i64::from(i16::MAX),
-        )?;
-        Ok(Self(bits as i16))
+        read_bits_16(text, Self::FRACTION_BITS).map(Self)
     }
 
-    /// Writes the printed text to the front of `out`, padded, and returns the number of bytes; `None` where `out` is
-    /// too short, which then stays as it was.
+    /// Writes the printed text to the front of `out`, padded, and returns the number of bytes;
+    /// `None` where `out` is too short, which then stays as it was.
     pub fn write_padded(self, out: &mut [u8], pad: &Pad) -> Option<usize>
         requires { pad.now.fill < 128 }
-        ensures written { IfSome result (λ n. FillsFront (padded_text (f2dot14_text self) pad.now) n out.old out.new) }
-        ensures room { IsSome result ↔ (length (padded_text (f2dot14_text self) pad.now) ≤ length out.old) }
+        ensures written { IfSome result
+            (λ n. FillsFront (padded_text (f2dot14_text self) pad.now) n out.old out.new) }
+        ensures room { IsSome result
+            ↔ (length (padded_text (f2dot14_text self) pad.now) ≤ length out.old) }
         ensures cell { max 23 pad.now.width ≤ length out.old → IsSome result }
         ensures untouched { IfNone result (out.new ≡ out.old) }
     {
@@ -205,7 +201,8 @@ impl Add for F2Dot14 {
 }
 
 impl AddAssign for F2Dot14 {
-    ghost add_assign_gives = { λ x y sum. f2dot14_bits sum ≡ wrap 16 (f2dot14_bits x +ℤ f2dot14_bits y) };
+    ghost add_assign_gives = { λ x y sum. f2dot14_bits sum
+        ≡ wrap 16 (f2dot14_bits x +ℤ f2dot14_bits y) };
 
     fn add_assign(&mut self, other: F2Dot14) {
         *self = *self + other;
@@ -215,7 +212,8 @@ impl AddAssign for F2Dot14 {
 impl Sub for F2Dot14 {
     type Output = F2Dot14;
 
-    ghost sub_gives = { λ x y rest. f2dot14_bits rest ≡ wrap 16 (f2dot14_bits x -ℤ f2dot14_bits y) };
+    ghost sub_gives = { λ x y rest. f2dot14_bits rest
+        ≡ wrap 16 (f2dot14_bits x -ℤ f2dot14_bits y) };
 
     fn sub(self, other: F2Dot14) -> F2Dot14 {
         self.wrapping_sub(other)
@@ -223,7 +221,8 @@ impl Sub for F2Dot14 {
 }
 
 impl SubAssign for F2Dot14 {
-    ghost sub_assign_gives = { λ x y rest. f2dot14_bits rest ≡ wrap 16 (f2dot14_bits x -ℤ f2dot14_bits y) };
+    ghost sub_assign_gives = { λ x y rest. f2dot14_bits rest
+        ≡ wrap 16 (f2dot14_bits x -ℤ f2dot14_bits y) };
 
     fn sub_assign(&mut self, other: F2Dot14) {
         *self = *self - other;

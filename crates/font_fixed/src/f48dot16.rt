@@ -1,30 +1,32 @@
 //! The fixed-point number of 64 bits with 16 bits of fraction.
 #![tactic(auto, using(font_arithmetic::proofs::Width64::code_64))]
 
-ghost use Rattle.std.specs.Prelude.{◌≡◌, ◌^◌, ◌<◌, ◌≤◌, ◌↔◌, ℤ, pos, neg_ℤ, ◌+ℤ◌, ◌-ℤ◌, ◌*ℤ◌, Some, IsSome, IfSome, IfNone, IfOk, length, max, unsigned_abs, FitsSigned};
+ghost use Rattle.std.specs.Prelude.{◌≡◌, ◌^◌, ◌<◌, ◌≤◌, ◌↔◌, ℤ, pos, neg_ℤ, ◌+ℤ◌, ◌-ℤ◌, ◌*ℤ◌, Some};
+ghost use Rattle.std.specs.Prelude.{IsSome, IfSome, IfNone, length, max, unsigned_abs};
 ghost use Rattle.std.specs.Int.{w64};
-ghost use Rattle.std.specs.Result.{result_map_both};
 ghost use Rattle.font_base.specs.Wrap.{FitsBits, wrap};
 ghost use Rattle.font_base.specs.Bytes.{IsBytesOf};
-ghost use Rattle.font_decimal.specs.Grammar.{IsNoDecimal};
 ghost use Rattle.font_decimal.specs.Padding.{padded_text, FillsFront};
 ghost use Rattle.font_decimal.specs.Shortest.{IsShortest};
 ghost use Rattle.font_decimal.specs.Shown.{shown};
-ghost use Rattle.font_arithmetic.specs.Operations.{IsNarrowed, IsNearestWhole, IsFloor, IsFract, clamp, ReadsAs, IsTooFar, ReadingGives};
+ghost use Rattle.font_arithmetic.specs.Operations.{IsNarrowed, IsNearestWhole, IsFloor, IsFract};
+ghost use Rattle.font_arithmetic.specs.Operations.{clamp};
+ghost use Rattle.font_arithmetic.specs.Reading.{ReadsBy};
 ghost use Rattle.font_fixed.specs.declared.f48dot16.F48Dot16.{F48Dot16};
 ghost use Rattle.font_fixed.specs.F48Dot16.{f48dot16_bits, f48dot16_text};
 ghost use Rattle.font_fixed.specs.Fixed.{fixed_bits};
 
 use crate::fixed::Fixed;
+use font_arithmetic::{low_bits, read_bits_64};
 use font_base::Scalar;
-use font_decimal::{DecimalFault, Pad, Shortest, read_decimal};
+use font_decimal::{DecimalFault, Pad, Shortest};
 use std::fmt;
 use std::ops::{Add, AddAssign, Neg, Sub, SubAssign};
 
 /// A fixed-point number of 64 bits, the last 16 of which are its fraction: a sum of deltas.
 ///
-/// Its bits are counted in steps of `1 / 65536`: `F48Dot16::from_bits(0x18000)` is 1.5. Sums that leave the range
-/// wrap.
+/// Its bits are counted in steps of `1 / 65536`: `F48Dot16::from_bits(0x18000)` is 1.5. Sums that
+/// leave the range wrap.
 #[derive(Clone, Copy, PartialEq, Eq, PartialOrd, Ord, Hash, Default)]
 pub struct F48Dot16(i64);
 
@@ -63,7 +65,8 @@ impl F48Dot16 {
         self.0
     }
 
-    /// The nearest whole number, ties upwards. It wraps: `F48Dot16::MAX.round()` is `F48Dot16::MIN`.
+    /// The nearest whole number, ties upwards. It wraps: `F48Dot16::MAX.round()` is
+    /// `F48Dot16::MIN`.
     pub fn round(self) -> Self
         ensures { IsNearestWhole 64 16 (f48dot16_bits self) (f48dot16_bits result) }
     {
@@ -122,7 +125,8 @@ impl F48Dot16 {
     /// The sum, or `None` where it is out of range.
     pub fn checked_add(self, other: Self) -> Option<Self>
         ensures variant { IsSome result ↔ FitsBits 64 (f48dot16_bits self +ℤ f48dot16_bits other) }
-        ensures value { IfSome result (λ sum. f48dot16_bits sum ≡ (f48dot16_bits self +ℤ f48dot16_bits other)) }
+        ensures value { IfSome result
+            (λ sum. f48dot16_bits sum ≡ (f48dot16_bits self +ℤ f48dot16_bits other)) }
     {
         Some(Self(self.0.checked_add(other.0)?))
     }
@@ -171,25 +175,22 @@ impl F48Dot16 {
 
     /// The number nearest to a decimal text, ties away from zero.
     ///
-    /// A text outside the grammar is refused as `Syntax`, one whose nearest number is out of range as `OutOfRange`.
+    /// A text outside the grammar is refused as `Syntax`, one whose nearest number is out of range
+    /// as `OutOfRange`.
     pub fn from_decimal(text: &str) -> Result<Self, DecimalFault>
-        ensures ok { (x : F48Dot16) → (result ≡ Ok x) ↔ ReadsAs 64 16 text.now (f48dot16_bits x) }
-        ensures reads { IfOk result (λ x. ReadsAs 64 16 text.now (f48dot16_bits x)) }
-        ensures gives { ReadingGives 64 16 text.now (result_map_both f48dot16_bits (λ fault. fault) result) }
-        ensures printed { (x : F48Dot16) → FitsSigned w64 (f48dot16_bits x) → text.now ≡ f48dot16_text x → result ≡ Ok x }
-        ensures out_of_range { (result ≡ Err DecimalFault.OutOfRange) ↔ IsTooFar 64 16 text.now }
-        ensures syntax { (result ≡ Err DecimalFault.Syntax) ↔ IsNoDecimal text.now }
+        ensures { ReadsBy w64 16 f48dot16_bits text.now result }
     {
-        let bits = read_decimal(text, Self::FRACTION_BITS, i64::MIN, i64::MAX)?;
-        Ok(Self(bits))
+        read_bits_64(text, Self::FRACTION_BITS).map(Self)
     }
 
-    /// Writes the printed text to the front of `out`, padded, and returns the number of bytes; `None` where `out` is
-    /// too short, which then stays as it was.
+    /// Writes the printed text to the front of `out`, padded, and returns the number of bytes;
+    /// `None` where `out` is too short, which then stays as it was.
     pub fn write_padded(self, out: &mut [u8], pad: &Pad) -> Option<usize>
         requires { pad.now.fill < 128 }
-        ensures written { IfSome result (λ n. FillsFront (padded_text (f48dot16_text self) pad.now) n out.old out.new) }
-        ensures room { IsSome result ↔ (length (padded_text (f48dot16_text self) pad.now) ≤ length out.old) }
+        ensures written { IfSome result
+            (λ n. FillsFront (padded_text (f48dot16_text self) pad.now) n out.old out.new) }
+        ensures room { IsSome result
+            ↔ (length (padded_text (f48dot16_text self) pad.now) ≤ length out.old) }
         ensures cell { max 23 pad.now.width ≤ length out.old → IsSome result }
         ensures untouched { IfNone result (out.new ≡ out.old) }
     {
@@ -204,17 +205,11 @@ impl F48Dot16 {
     }
 }
 
-// The last 32 bits of a number, as a signed one.
-fn low_bits(n: i64) -> i32
-    ensures { result ≡ wrap 32 n }
-{
-    (n.rem_euclid(1 << 32) as u32).cast_signed()
-}
-
 impl Add for F48Dot16 {
     type Output = F48Dot16;
 
-    ghost add_gives = { λ x y sum. f48dot16_bits sum ≡ wrap 64 (f48dot16_bits x +ℤ f48dot16_bits y) };
+    ghost add_gives = { λ x y sum. f48dot16_bits sum
+        ≡ wrap 64 (f48dot16_bits x +ℤ f48dot16_bits y) };
 
     fn add(self, other: F48Dot16) -> F48Dot16 {
         self.wrapping_add(other)
@@ -222,7 +217,8 @@ impl Add for F48Dot16 {
 }
 
 impl AddAssign for F48Dot16 {
-    ghost add_assign_gives = { λ x y sum. f48dot16_bits sum ≡ wrap 64 (f48dot16_bits x +ℤ f48dot16_bits y) };
+    ghost add_assign_gives = { λ x y sum. f48dot16_bits sum
+        ≡ wrap 64 (f48dot16_bits x +ℤ f48dot16_bits y) };
 
     fn add_assign(&mut self, other: F48Dot16) {
         *self = *self + other;
@@ -232,7 +228,8 @@ impl AddAssign for F48Dot16 {
 impl Sub for F48Dot16 {
     type Output = F48Dot16;
 
-    ghost sub_gives = { λ x y rest. f48dot16_bits rest ≡ wrap 64 (f48dot16_bits x -ℤ f48dot16_bits y) };
+    ghost sub_gives = { λ x y rest. f48dot16_bits rest
+        ≡ wrap 64 (f48dot16_bits x -ℤ f48dot16_bits y) };
 
     fn sub(self, other: F48Dot16) -> F48Dot16 {
         self.wrapping_sub(other)
@@ -240,7 +237,8 @@ impl Sub for F48Dot16 {
 }
 
 impl SubAssign for F48Dot16 {
-    ghost sub_assign_gives = { λ x y rest. f48dot16_bits rest ≡ wrap 64 (f48dot16_bits x -ℤ f48dot16_bits y) };
+    ghost sub_assign_gives = { λ x y rest. f48dot16_bits rest
+        ≡ wrap 64 (f48dot16_bits x -ℤ f48dot16_bits y) };
 
     fn sub_assign(&mut self, other: F48Dot16) {
         *self = *self - other;

@@ -1,15 +1,14 @@
 //! The fixed-point number of 32 bits with 16 bits of fraction.
 #![tactic(auto, using(font_arithmetic::proofs::Width32::code_32))]
 
-ghost use Rattle.std.specs.Prelude.{◌≡◌, ◌+◌, ◌-◌, ◌^◌, ◌<◌, ◌≤◌, ◌↔◌, ℤ, pos, negsuc, neg_ℤ, ◌+ℤ◌, ◌-ℤ◌, ◌*ℤ◌, Some, IsSome, IfSome, IfNone, IfOk, refl, length, max, unsigned_abs, FitsSigned};
+ghost use Rattle.std.specs.Prelude.{◌≡◌, ◌+◌, ◌-◌, ◌^◌, ◌<◌, ◌≤◌, ◌↔◌, ℤ, pos, neg_ℤ, ◌+ℤ◌, ◌-ℤ◌};
+ghost use Rattle.std.specs.Prelude.{◌*ℤ◌, Some, IsSome, IfSome, IfNone, refl, length, max};
+ghost use Rattle.std.specs.Prelude.{unsigned_abs};
 ghost use Rattle.std.proofs.Common.{lit<};
-ghost use Rattle.std.specs.Int.{w32, is_negative};
-ghost use Rattle.std.specs.Result.{result_map_both};
+ghost use Rattle.std.specs.Int.{w32};
 ghost use Rattle.font_base.specs.Wrap.{FitsBits, fits_bits, wrap};
 ghost use Rattle.font_base.specs.Bytes.{IsBytesOf, bytes_of, signed_numeral};
-ghost use Rattle.font_decimal.specs.Grammar.{IsNoDecimal};
 ghost use Rattle.font_decimal.specs.Padding.{padded_text, FillsFront};
-ghost use Rattle.font_decimal.specs.Near.{signed, near, near_magnitude};
 ghost use Rattle.font_decimal.specs.Shortest.{IsShortest};
 ghost use Rattle.font_decimal.specs.Shown.{shown};
 ghost use Rattle.font_fixed.specs.declared.fixed.Fixed.{Fixed};
@@ -17,21 +16,24 @@ ghost use Rattle.font_fixed.specs.Fixed.{fixed_bits, fixed_of, fixed_text};
 ghost use Rattle.font_fixed.specs.F2Dot14.{f2dot14_bits};
 ghost use Rattle.font_fixed.specs.F48Dot16.{f48dot16_bits};
 ghost use Rattle.font_f26.specs.F26Dot6.{f26dot6_bits};
-ghost use Rattle.font_arithmetic.specs.Operations.{IsWrappedNear, IsNarrowed, IsNearestWhole, IsFloor, IsFract, clamp, differ_in_sign, IsProduct, IsQuotient, IsMulDiv, ReadsAs, IsTooFar, ReadingGives};
+ghost use Rattle.font_arithmetic.specs.Operations.{IsNarrowed, IsNearestWhole, IsFloor, IsFract};
+ghost use Rattle.font_arithmetic.specs.Operations.{clamp, IsProduct, IsQuotient, IsMulDiv};
+ghost use Rattle.font_arithmetic.specs.Reading.{ReadsBy};
 ghost use Rattle.font_base.specs.Scalar.Laws.{signed_newtype, signed_identity};
 
 use crate::f2dot14::F2Dot14;
 use crate::f48dot16::F48Dot16;
+use font_arithmetic::{mul_div, product, read_bits_32};
 use font_base::{FixedSize, IdentityEq, Scalar};
-use font_decimal::{DecimalFault, Pad, Shortest, read_decimal};
+use font_decimal::{DecimalFault, Pad, Shortest};
 use font_f26::F26Dot6;
 use std::fmt;
 use std::ops::{Add, AddAssign, Div, DivAssign, Mul, MulAssign, Neg, Sub, SubAssign};
 
 /// A fixed-point number of 32 bits, the last 16 of which are its fraction.
 ///
-/// Its bits are counted in steps of `1 / 65536`: `Fixed::from_bits(0x18000)` is 1.5. Sums, products and quotients
-/// that leave the range wrap.
+/// Its bits are counted in steps of `1 / 65536`: `Fixed::from_bits(0x18000)` is 1.5. Sums, products
+/// and quotients that leave the range wrap.
 #[derive(Clone, Copy, PartialEq, Eq, PartialOrd, Ord, Hash, Default)]
 pub struct Fixed(i32);
 
@@ -129,7 +131,8 @@ impl Fixed {
     /// The sum, or `None` where it is out of range.
     pub fn checked_add(self, other: Self) -> Option<Self>
         ensures variant { IsSome result ↔ FitsBits 32 (fixed_bits self +ℤ fixed_bits other) }
-        ensures value { IfSome result (λ sum. fixed_bits sum ≡ (fixed_bits self +ℤ fixed_bits other)) }
+        ensures value { IfSome result
+            (λ sum. fixed_bits sum ≡ (fixed_bits self +ℤ fixed_bits other)) }
     {
         Some(Self(self.0.checked_add(other.0)?))
     }
@@ -143,13 +146,13 @@ impl Fixed {
 
     /// `self * a / c`, rounded once to the nearest step, ties away from zero, and wrapped.
     ///
-    /// Where `c` is zero it is the greatest number, negated where just one of `self` and `a` is negative.
+    /// Where `c` is zero it is the greatest number, negated where just one of `self` and `a` is
+    /// negative.
     pub fn mul_div(&self, a: Self, c: Self) -> Self
-        ensures { IsMulDiv 32 (fixed_bits self.now) (fixed_bits a) (fixed_bits c) (fixed_bits result) }
+        ensures { IsMulDiv 32 (fixed_bits self.now) (fixed_bits a) (fixed_bits c)
+            (fixed_bits result) }
     {
-        let product = self.magnitude() * a.magnitude();
-        let negative = self.differs_in_sign(a) != c.is_negative();
-        Self::with_sign(negative, rounded_quotient(product, c.magnitude()))
+        Self(mul_div(self.0, a.0, c.0))
     }
 
     /// A whole number, wrapped.
@@ -196,7 +199,8 @@ impl Fixed {
 
     /// The number moved by a sum of deltas, exactly, in units of `2^-32`.
     ///
-    /// A delta counts in units of `1 / 65536`, the last bit of this type, with 16 bits of fraction behind it.
+    /// A delta counts in units of `1 / 65536`, the last bit of this type, with 16 bits of fraction
+    /// behind it.
     pub fn apply_delta(self, delta: F48Dot16) -> i128
         ensures { result ≡ (fixed_bits self *ℤ pos 65536 +ℤ f48dot16_bits delta) }
     {
@@ -205,31 +209,22 @@ impl Fixed {
 
     /// The number nearest to a decimal text, ties away from zero.
     ///
-    /// `Fixed::from_decimal("1.5")` has bits 98304. A text outside the grammar is refused as `Syntax`, one whose
-    /// nearest number is out of range as `OutOfRange`.
+    /// `Fixed::from_decimal("1.5")` has bits 98304. A text outside the grammar is refused as
+    /// `Syntax`, one whose nearest number is out of range as `OutOfRange`.
     pub fn from_decimal(text: &str) -> Result<Self, DecimalFault>
-        ensures ok { (x : Fixed) → (result ≡ Ok x) ↔ ReadsAs 32 16 text.now (fixed_bits x) }
-        ensures reads { IfOk result (λ x. ReadsAs 32 16 text.now (fixed_bits x)) }
-        ensures gives { ReadingGives 32 16 text.now (result_map_both fixed_bits (λ fault. fault) result) }
-        ensures printed { (x : Fixed) → FitsSigned w32 (fixed_bits x) → text.now ≡ fixed_text x → result ≡ Ok x }
-        ensures out_of_range { (result ≡ Err DecimalFault.OutOfRange) ↔ IsTooFar 32 16 text.now }
-        ensures syntax { (result ≡ Err DecimalFault.Syntax) ↔ IsNoDecimal text.now }
+        ensures { ReadsBy w32 16 fixed_bits text.now result }
     {
-        let bits = read_decimal(
-            text,
-            Self::FRACTION_BITS,
-            i64::from(i32::MIN),
-            i64::from(i32::MAX),
-        )?;
-        Ok(Self(bits as i32))
+        read_bits_32(text, Self::FRACTION_BITS).map(Self)
     }
 
-    /// Writes the printed text to the front of `out`, padded, and returns the number of bytes; `None` where `out` is
-    /// too short, which then stays as it was.
+    /// Writes the printed text to the front of `out`, padded, and returns the number of bytes;
+    /// `None` where `out` is too short, which then stays as it was.
     pub fn write_padded(self, out: &mut [u8], pad: &Pad) -> Option<usize>
         requires { pad.now.fill < 128 }
-        ensures written { IfSome result (λ n. FillsFront (padded_text (fixed_text self) pad.now) n out.old out.new) }
-        ensures room { IsSome result ↔ (length (padded_text (fixed_text self) pad.now) ≤ length out.old) }
+        ensures written { IfSome result
+            (λ n. FillsFront (padded_text (fixed_text self) pad.now) n out.old out.new) }
+        ensures room { IsSome result
+            ↔ (length (padded_text (fixed_text self) pad.now) ≤ length out.old) }
         ensures cell { max 23 pad.now.width ≤ length out.old → IsSome result }
         ensures untouched { IfNone result (out.new ≡ out.old) }
     {
@@ -249,53 +244,6 @@ impl Fixed {
     {
         self.wrapping_add(Self(2)).0 >> 2
     }
-
-    fn is_negative(self) -> bool
-        ensures { result ≡ is_negative (fixed_bits self) }
-    {
-        self.0.is_negative()
-    }
-
-    fn differs_in_sign(self, other: Self) -> bool
-        ensures { result ≡ differ_in_sign (fixed_bits self) (fixed_bits other) }
-    {
-        self.is_negative() != other.is_negative()
-    }
-
-    // The bits without their sign.
-    fn magnitude(self) -> u64
-        ensures value { result ≡ unsigned_abs (fixed_bits self) }
-        ensures bound { result ≤ 2 ^ 31 }
-    {
-        u64::from(self.0.unsigned_abs())
-    }
-
-    // The number whose bits have this magnitude, negated where asked, and wrapped.
-    fn with_sign(negative: bool, magnitude: u64) -> Self
-        ensures { fixed_bits result ≡ wrap 32 (signed negative magnitude) }
-    {
-        let number = Self(((magnitude % (1 << 32)) as u32).cast_signed());
-        if negative { -number } else { number }
-    }
-}
-
-// `n / 2^16` rounded to the nearest whole number, ties away from zero.
-fn nearest_steps(n: i64) -> i64
-    requires { unsigned_abs n ≤ 2 ^ 62 }
-    ensures { result ≡ near n 65536 }
-{
-    if n < 0 {
-        (n + 0x7FFF) >> 16
-    } else {
-        (n + 0x8000) >> 16
-    }
-}
-
-// The last 32 bits of a number, as a signed one.
-fn low_bits(n: i64) -> i32
-    ensures { result ≡ wrap 32 n }
-{
-    (n.rem_euclid(1 << 32) as u32).cast_signed()
 }
 
 // The last 16 bits of a number, as a signed one.
@@ -303,15 +251,6 @@ fn low_half(n: i32) -> i16
     ensures { result ≡ wrap 16 n }
 {
     (n.rem_euclid(0x1_0000) as u16).cast_signed()
-}
-
-// `n / d` rounded to the nearest whole number, ties away from zero; where `d` is zero, the greatest of 32 bits.
-fn rounded_quotient(n: u64, d: u64) -> u64
-    requires { (n ≤ 2 ^ 62) × (d ≤ 2 ^ 31) }
-    ensures quotient { 0 < d → result ≡ near_magnitude n d }
-    ensures zero { d ≡ 0 → result ≡ 2 ^ 31 - 1 }
-{
-    if d == 0 { 0x7FFF_FFFF } else { (n + d / 2) / d }
 }
 
 impl Add for Fixed {
@@ -343,7 +282,8 @@ impl Sub for Fixed {
 }
 
 impl SubAssign for Fixed {
-    ghost sub_assign_gives = { λ x y rest. fixed_bits rest ≡ wrap 32 (fixed_bits x -ℤ fixed_bits y) };
+    ghost sub_assign_gives = { λ x y rest. fixed_bits rest
+        ≡ wrap 32 (fixed_bits x -ℤ fixed_bits y) };
 
     fn sub_assign(&mut self, other: Fixed) {
         *self = *self - other;
@@ -363,16 +303,17 @@ impl Neg for Fixed {
 impl Mul for Fixed {
     type Output = Fixed;
 
-    ghost mul_gives = { λ x y product. IsProduct 32 16 (fixed_bits x) (fixed_bits y) (fixed_bits product) };
+    ghost mul_gives = { λ x y product.
+        IsProduct 32 16 (fixed_bits x) (fixed_bits y) (fixed_bits product) };
 
     fn mul(self, other: Fixed) -> Fixed {
-        let product = i64::from(self.0) * i64::from(other.0);
-        Self(low_bits(nearest_steps(product)))
+        Self(product(self.0, other.0, Self::FRACTION_BITS))
     }
 }
 
 impl MulAssign for Fixed {
-    ghost mul_assign_gives = { λ x y product. IsProduct 32 16 (fixed_bits x) (fixed_bits y) (fixed_bits product) };
+    ghost mul_assign_gives = { λ x y product.
+        IsProduct 32 16 (fixed_bits x) (fixed_bits y) (fixed_bits product) };
 
     fn mul_assign(&mut self, other: Fixed) {
         *self = *self * other;
@@ -383,7 +324,8 @@ impl MulAssign for Fixed {
 impl Div for Fixed {
     type Output = Fixed;
 
-    ghost div_gives = { λ x y quotient. IsQuotient 32 16 (fixed_bits x) (fixed_bits y) (fixed_bits quotient) };
+    ghost div_gives = { λ x y quotient.
+        IsQuotient 32 16 (fixed_bits x) (fixed_bits y) (fixed_bits quotient) };
 
     fn div(self, other: Fixed) -> Fixed {
         self.mul_div(Self::ONE, other)
@@ -391,7 +333,8 @@ impl Div for Fixed {
 }
 
 impl DivAssign for Fixed {
-    ghost div_assign_gives = { λ x y quotient. IsQuotient 32 16 (fixed_bits x) (fixed_bits y) (fixed_bits quotient) };
+    ghost div_assign_gives = { λ x y quotient.
+        IsQuotient 32 16 (fixed_bits x) (fixed_bits y) (fixed_bits quotient) };
 
     fn div_assign(&mut self, other: Fixed) {
         *self = *self / other;

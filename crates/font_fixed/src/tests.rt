@@ -5,5 +5,7 @@ mod calling;
 mod conversions;
 mod every_value;
 mod narrow;
+mod sampled;
 mod texts;
+mod traits;
 mod wide;

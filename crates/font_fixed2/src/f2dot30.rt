@@ -1,30 +1,31 @@
 //! The fixed-point number of 32 bits with 30 bits of fraction.
 #![tactic(auto, using(font_arithmetic::proofs::Width32::code_32))]
 
-ghost use Rattle.std.specs.Prelude.{◌≡◌, ◌^◌, ◌<◌, ◌≤◌, ◌↔◌, ℤ, pos, neg_ℤ, ◌+ℤ◌, ◌-ℤ◌, Some, IsSome, IfSome, IfNone, IfOk, refl, length, max, unsigned_abs, FitsSigned};
+ghost use Rattle.std.specs.Prelude.{◌≡◌, ◌<◌, ◌≤◌, ◌↔◌, ℤ, pos, neg_ℤ, ◌+ℤ◌, ◌-ℤ◌, Some, IsSome};
+ghost use Rattle.std.specs.Prelude.{IfSome, IfNone, refl, length, max, unsigned_abs};
 ghost use Rattle.std.proofs.Common.{lit<};
 ghost use Rattle.std.specs.Int.{w32};
-ghost use Rattle.std.specs.Result.{result_map_both};
 ghost use Rattle.font_base.specs.Wrap.{FitsBits, fits_bits, wrap};
 ghost use Rattle.font_base.specs.Bytes.{IsBytesOf, bytes_of, signed_numeral};
 ghost use Rattle.font_base.specs.Scalar.Laws.{signed_newtype, signed_identity};
-ghost use Rattle.font_decimal.specs.Grammar.{IsNoDecimal};
 ghost use Rattle.font_decimal.specs.Padding.{padded_text, FillsFront};
 ghost use Rattle.font_decimal.specs.Shortest.{IsShortest};
 ghost use Rattle.font_decimal.specs.Shown.{shown};
-ghost use Rattle.font_arithmetic.specs.Operations.{IsNearestWhole, IsFloor, IsFract, clamp, ReadsAs, IsTooFar, ReadingGives};
+ghost use Rattle.font_arithmetic.specs.Operations.{IsNearestWhole, IsFloor, IsFract, clamp};
+ghost use Rattle.font_arithmetic.specs.Reading.{ReadsBy};
 ghost use Rattle.font_fixed2.specs.declared.f2dot30.F2Dot30.{F2Dot30};
 ghost use Rattle.font_fixed2.specs.F2Dot30.{f2dot30_bits, f2dot30_of, f2dot30_text};
 
+use font_arithmetic::read_bits_32;
 use font_base::{FixedSize, IdentityEq, Scalar};
-use font_decimal::{DecimalFault, Pad, Shortest, read_decimal};
+use font_decimal::{DecimalFault, Pad, Shortest};
 use std::fmt;
 use std::ops::{Add, AddAssign, Neg, Sub, SubAssign};
 
 /// A fixed-point number of 32 bits, the last 30 of which are its fraction.
 ///
-/// Its bits are counted in steps of `1 / 2^30`: `F2Dot30::from_bits(0x6000_0000)` is 1.5. Sums that leave the
-/// range wrap.
+/// Its bits are counted in steps of `1 / 2^30`: `F2Dot30::from_bits(0x6000_0000)` is 1.5. Sums that
+/// leave the range wrap.
 #[derive(Clone, Copy, PartialEq, Eq, PartialOrd, Ord, Hash, Default)]
 pub struct F2Dot30(i32);
 
@@ -122,7 +123,8 @@ impl F2Dot30 {
     /// The sum, or `None` where it is out of range.
     pub fn checked_add(self, other: Self) -> Option<Self>
         ensures variant { IsSome result ↔ FitsBits 32 (f2dot30_bits self +ℤ f2dot30_bits other) }
-        ensures value { IfSome result (λ sum. f2dot30_bits sum ≡ (f2dot30_bits self +ℤ f2dot30_bits other)) }
+        ensures value { IfSome result
+            (λ sum. f2dot30_bits sum ≡ (f2dot30_bits self +ℤ f2dot30_bits other)) }
     {
         Some(Self(self.0.checked_add(other.0)?))
     }
@@ -136,30 +138,22 @@ impl F2Dot30 {
 
     /// The number nearest to a decimal text, ties away from zero.
     ///
-    /// A text outside the grammar is refused as `Syntax`, one whose nearest number is out of range as `OutOfRange`.
+    /// A text outside the grammar is refused as `Syntax`, one whose nearest number is out of range
+    /// as `OutOfRange`.
     pub fn from_decimal(text: &str) -> Result<Self, DecimalFault>
-        ensures ok { (x : F2Dot30) → (result ≡ Ok x) ↔ ReadsAs 32 30 text.now (f2dot30_bits x) }
-        ensures reads { IfOk result (λ x. ReadsAs 32 30 text.now (f2dot30_bits x)) }
-        ensures gives { ReadingGives 32 30 text.now (result_map_both f2dot30_bits (λ fault. fault) result) }
-        ensures printed { (x : F2Dot30) → FitsSigned w32 (f2dot30_bits x) → text.now ≡ f2dot30_text x → result ≡ Ok x }
-        ensures out_of_range { (result ≡ Err DecimalFault.OutOfRange) ↔ IsTooFar 32 30 text.now }
-        ensures syntax { (result ≡ Err DecimalFault.Syntax) ↔ IsNoDecimal text.now }
+        ensures { ReadsBy w32 30 f2dot30_bits text.now result }
     {
-        let bits = read_decimal(
-            text,
-            Self::FRACTION_BITS,
-            i64::from(i32::MIN),
-            i64::from(i32::MAX),
-        )?;
-        Ok(Self(bits as i32))
+        read_bits_32(text, Self::FRACTION_BITS).map(Self)
     }
 
-    /// Writes the printed text to the front of `out`, padded, and returns the number of bytes; `None` where `out` is
-    /// too short, which then stays as it was.
+    /// Writes the printed text to the front of `out`, padded, and returns the number of bytes;
+    /// `None` where `out` is too short, which then stays as it was.
     pub fn write_padded(self, out: &mut [u8], pad: &Pad) -> Option<usize>
         requires { pad.now.fill < 128 }
-        ensures written { IfSome result (λ n. FillsFront (padded_text (f2dot30_text self) pad.now) n out.old out.new) }
-        ensures room { IsSome result ↔ (length (padded_text (f2dot30_text self) pad.now) ≤ length out.old) }
+        ensures written { IfSome result
+            (λ n. FillsFront (padded_text (f2dot30_text self) pad.now) n out.old out.new) }
+        ensures room { IsSome result
+            ↔ (length (padded_text (f2dot30_text self) pad.now) ≤ length out.old) }
         ensures cell { max 23 pad.now.width ≤ length out.old → IsSome result }
         ensures untouched { IfNone result (out.new ≡ out.old) }
     {
@@ -185,7 +179,8 @@ impl Add for F2Dot30 {
 }
 
 impl AddAssign for F2Dot30 {
-    ghost add_assign_gives = { λ x y sum. f2dot30_bits sum ≡ wrap 32 (f2dot30_bits x +ℤ f2dot30_bits y) };
+    ghost add_assign_gives = { λ x y sum. f2dot30_bits sum
+        ≡ wrap 32 (f2dot30_bits x +ℤ f2dot30_bits y) };
 
     fn add_assign(&mut self, other: F2Dot30) {
         *self = *self + other;
@@ -195,7 +190,8 @@ impl AddAssign for F2Dot30 {
 impl Sub for F2Dot30 {
     type Output = F2Dot30;
 
-    ghost sub_gives = { λ x y rest. f2dot30_bits rest ≡ wrap 32 (f2dot30_bits x -ℤ f2dot30_bits y) };
+    ghost sub_gives = { λ x y rest. f2dot30_bits rest
+        ≡ wrap 32 (f2dot30_bits x -ℤ f2dot30_bits y) };
 
     fn sub(self, other: F2Dot30) -> F2Dot30 {
         self.wrapping_sub(other)
@@ -203,7 +199,8 @@ impl Sub for F2Dot30 {
 }
 
 impl SubAssign for F2Dot30 {
-    ghost sub_assign_gives = { λ x y rest. f2dot30_bits rest ≡ wrap 32 (f2dot30_bits x -ℤ f2dot30_bits y) };
+    ghost sub_assign_gives = { λ x y rest. f2dot30_bits rest
+        ≡ wrap 32 (f2dot30_bits x -ℤ f2dot30_bits y) };
 
     fn sub_assign(&mut self, other: F2Dot30) {
         *self = *self - other;

@@ -1,30 +1,31 @@
 //! The fixed-point number of 16 bits with 12 bits of fraction.
 #![tactic(auto, using(font_arithmetic::proofs::Width16::code_16))]
 
-ghost use Rattle.std.specs.Prelude.{◌≡◌, ◌^◌, ◌<◌, ◌≤◌, ◌↔◌, ℤ, pos, neg_ℤ, ◌+ℤ◌, ◌-ℤ◌, Some, IsSome, IfSome, IfNone, IfOk, refl, length, max, unsigned_abs, FitsSigned};
+ghost use Rattle.std.specs.Prelude.{◌≡◌, ◌<◌, ◌≤◌, ◌↔◌, ℤ, pos, neg_ℤ, ◌+ℤ◌, ◌-ℤ◌, Some, IsSome};
+ghost use Rattle.std.specs.Prelude.{IfSome, IfNone, refl, length, max, unsigned_abs};
 ghost use Rattle.std.proofs.Common.{lit<};
 ghost use Rattle.std.specs.Int.{w16};
-ghost use Rattle.std.specs.Result.{result_map_both};
 ghost use Rattle.font_base.specs.Wrap.{FitsBits, fits_bits, wrap};
 ghost use Rattle.font_base.specs.Bytes.{IsBytesOf, bytes_of, signed_numeral};
 ghost use Rattle.font_base.specs.Scalar.Laws.{signed_newtype, signed_identity};
-ghost use Rattle.font_decimal.specs.Grammar.{IsNoDecimal};
 ghost use Rattle.font_decimal.specs.Padding.{padded_text, FillsFront};
 ghost use Rattle.font_decimal.specs.Shortest.{IsShortest};
 ghost use Rattle.font_decimal.specs.Shown.{shown};
-ghost use Rattle.font_arithmetic.specs.Operations.{IsNearestWhole, IsFloor, IsFract, clamp, ReadsAs, IsTooFar, ReadingGives};
+ghost use Rattle.font_arithmetic.specs.Operations.{IsNearestWhole, IsFloor, IsFract, clamp};
+ghost use Rattle.font_arithmetic.specs.Reading.{ReadsBy};
 ghost use Rattle.font_fixed2.specs.declared.f4dot12.F4Dot12.{F4Dot12};
 ghost use Rattle.font_fixed2.specs.F4Dot12.{f4dot12_bits, f4dot12_of, f4dot12_text};
 
+use font_arithmetic::read_bits_16;
 use font_base::{FixedSize, IdentityEq, Scalar};
-use font_decimal::{DecimalFault, Pad, Shortest, read_decimal};
+use font_decimal::{DecimalFault, Pad, Shortest};
 use std::fmt;
 use std::ops::{Add, AddAssign, Neg, Sub, SubAssign};
 
 /// A fixed-point number of 16 bits, the last 12 of which are its fraction.
 ///
-/// Its bits are counted in steps of `1 / 4096`: `F4Dot12::from_bits(0x1800)` is 1.5. Sums that leave the range
-/// wrap.
+/// Its bits are counted in steps of `1 / 4096`: `F4Dot12::from_bits(0x1800)` is 1.5. Sums that
+/// leave the range wrap.
 #[derive(Clone, Copy, PartialEq, Eq, PartialOrd, Ord, Hash, Default)]
 pub struct F4Dot12(i16);
 
@@ -122,7 +123,8 @@ impl F4Dot12 {
     /// The sum, or `None` where it is out of range.
     pub fn checked_add(self, other: Self) -> Option<Self>
         ensures variant { IsSome result ↔ FitsBits 16 (f4dot12_bits self +ℤ f4dot12_bits other) }
-        ensures value { IfSome result (λ sum. f4dot12_bits sum ≡ (f4dot12_bits self +ℤ f4dot12_bits other)) }
+        ensures value { IfSome result
+            (λ sum. f4dot12_bits sum ≡ (f4dot12_bits self +ℤ f4dot12_bits other)) }
     {
         Some(Self(self.0.checked_add(other.0)?))
     }
@@ -136,30 +138,22 @@ impl F4Dot12 {
 
     /// The number nearest to a decimal text, ties away from zero.
     ///
-    /// A text outside the grammar is refused as `Syntax`, one whose nearest number is out of range as `OutOfRange`.
+    /// A text outside the grammar is refused as `Syntax`, one whose nearest number is out of range
+    /// as `OutOfRange`.
     pub fn from_decimal(text: &str) -> Result<Self, DecimalFault>
-        ensures ok { (x : F4Dot12) → (result ≡ Ok x) ↔ ReadsAs 16 12 text.now (f4dot12_bits x) }
-        ensures reads { IfOk result (λ x. ReadsAs 16 12 text.now (f4dot12_bits x)) }
-        ensures gives { ReadingGives 16 12 text.now (result_map_both f4dot12_bits (λ fault. fault) result) }
-        ensures printed { (x : F4Dot12) → FitsSigned w16 (f4dot12_bits x) → text.now ≡ f4dot12_text x → result ≡ Ok x }
-        ensures out_of_range { (result ≡ Err DecimalFault.OutOfRange) ↔ IsTooFar 16 12 text.now }
-        ensures syntax { (result ≡ Err DecimalFault.Syntax) ↔ IsNoDecimal text.now }
+        ensures { ReadsBy w16 12 f4dot12_bits text.now result }
     {
-        let bits = read_decimal(
-            text,
-            Self::FRACTION_BITS,
-            i64::from(i16::MIN),
-            i64::from(i16::MAX),
-        )?;
-        Ok(Self(bits as i16))
+        read_bits_16(text, Self::FRACTION_BITS).map(Self)
     }
 
-    /// Writes the printed text to the front of `out`, padded, and returns the number of bytes; `None` where `out` is
-    /// too short, which then stays as it was.
+    /// Writes the printed text to the front of `out`, padded, and returns the number of bytes;
+    /// `None` where `out` is too short, which then stays as it was.
     pub fn write_padded(self, out: &mut [u8], pad: &Pad) -> Option<usize>
         requires { pad.now.fill < 128 }
-        ensures written { IfSome result (λ n. FillsFront (padded_text (f4dot12_text self) pad.now) n out.old out.new) }
-        ensures room { IsSome result ↔ (length (padded_text (f4dot12_text self) pad.now) ≤ length out.old) }
+        ensures written { IfSome result
+            (λ n. FillsFront (padded_text (f4dot12_text self) pad.now) n out.old out.new) }
+        ensures room { IsSome result
+            ↔ (length (padded_text (f4dot12_text self) pad.now) ≤ length out.old) }
         ensures cell { max 23 pad.now.width ≤ length out.old → IsSome result }
         ensures untouched { IfNone result (out.new ≡ out.old) }
     {
@@ -185,7 +179,8 @@ impl Add for F4Dot12 {
 }
 
 impl AddAssign for F4Dot12 {
-    ghost add_assign_gives = { λ x y sum. f4dot12_bits sum ≡ wrap 16 (f4dot12_bits x +ℤ f4dot12_bits y) };
+    ghost add_assign_gives = { λ x y sum. f4dot12_bits sum
+        ≡ wrap 16 (f4dot12_bits x +ℤ f4dot12_bits y) };
 
     fn add_assign(&mut self, other: F4Dot12) {
         *self = *self + other;
@@ -195,7 +190,8 @@ impl AddAssign for F4Dot12 {
 impl Sub for F4Dot12 {
     type Output = F4Dot12;
 
-    ghost sub_gives = { λ x y rest. f4dot12_bits rest ≡ wrap 16 (f4dot12_bits x -ℤ f4dot12_bits y) };
+    ghost sub_gives = { λ x y rest. f4dot12_bits rest
+        ≡ wrap 16 (f4dot12_bits x -ℤ f4dot12_bits y) };
 
     fn sub(self, other: F4Dot12) -> F4Dot12 {
         self.wrapping_sub(other)
@@ -203,7 +199,8 @@ impl Sub for F4Dot12 {
 }
 
 impl SubAssign for F4Dot12 {
-    ghost sub_assign_gives = { λ x y rest. f4dot12_bits rest ≡ wrap 16 (f4dot12_bits x -ℤ f4dot12_bits y) };
+    ghost sub_assign_gives = { λ x y rest. f4dot12_bits rest
+        ≡ wrap 16 (f4dot12_bits x -ℤ f4dot12_bits y) };
 
     fn sub_assign(&mut self, other: F4Dot12) {
         *self = *self - other;

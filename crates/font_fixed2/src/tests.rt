@@ -4,3 +4,4 @@ mod arithmetic;
 mod edges;
 mod every_value;
 mod texts;
+mod traits;

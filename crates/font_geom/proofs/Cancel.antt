@@ -1,12 +1,11 @@
 -- Wrapping on the way changes nothing where the exact sum of rounded products fits 32 bits.
 use Rattle.std.proofs.Common.{◌≡◌, ◌∙◌, ap, ℤ, ◌+ℤ◌, lit<}
 use Rattle.font_base.specs.Wrap.{wrap, FitsBits}
-use Rattle.font_base.specs.Wrap.Laws.{wrap-fits}
-use Rattle.font_arithmetic.proofs.Group.{wrap-add_left, wrap-add_right}
+use Rattle.font_base.specs.Wrap.Laws.{wrap-fits, wrap-add_left, wrap-add_right}
 use Rattle.font_geom.specs.declared.matrix.Matrix.{Matrix}
 use Rattle.font_geom.specs.declared.point.Point.{Point}
-use Rattle.font_geom.specs.Matrix.{linear_form, affine_form, image_of, matrix_product}
-use Rattle.font_geom.specs.FixedMatrix.{rounded_product, wrapped_product, wrapped_sum, FitsMatrix, FitsPoint}
+use Rattle.font_geom.specs.Matrix.{linear_form, affine_form, image_of, matrix_product, FitsEach}
+use Rattle.font_geom.specs.FixedMatrix.{rounded_product, wrapped_product, wrapped_sum, FitsPoint}
 
 wrapped-linear_form : (p x q y : ℤ) → linear_form wrapped_sum wrapped_product p x q y ≡ wrap 32 (linear_form ◌+ℤ◌ rounded_product p x q y)
 wrapped-linear_form p x q y =
@@ -31,7 +30,7 @@ image_of_fits m p fits = λ i. record {
   y = affine_fits m.yx p.x m.yy p.y m.dy fits.y i;
 }
 
-pub matrix_product_fits : (a b : Matrix ℤ) → FitsMatrix (matrix_product ◌+ℤ◌ rounded_product a b) → matrix_product wrapped_sum wrapped_product a b ≡ matrix_product ◌+ℤ◌ rounded_product a b
+pub matrix_product_fits : (a b : Matrix ℤ) → FitsEach (FitsBits 32) (matrix_product ◌+ℤ◌ rounded_product a b) → matrix_product wrapped_sum wrapped_product a b ≡ matrix_product ◌+ℤ◌ rounded_product a b
 matrix_product_fits a b fits = λ i. record {
   xx = linear_fits a.xx b.xx a.xy b.yx fits.xx i;
   yx = linear_fits a.yx b.xx a.yy b.yx fits.yx i;

@@ -5,15 +5,15 @@ use Rattle.font_base.specs.Wrap.{wrap, FitsBits}
 use Rattle.font_base.specs.Wrap.Laws.{wrap-fits}
 use Rattle.font_arithmetic.specs.Operations.{IsProduct}
 use Rattle.font_arithmetic.proofs.Calls.{near-times, near-times_left, near-times_zero, near-zero_times}
-use Rattle.font_arithmetic.proofs.Group.{sum_commutes, zero_is_neutral}
+use Rattle.font_arithmetic.proofs.Group.{wrap-add_comm, zero_is_neutral}
 use Rattle.font_fixed.specs.declared.fixed.Fixed.{Fixed}
 use Rattle.font_fixed.specs.Fixed.{fixed_bits, fixed_of}
 use Rattle.font_geom.specs.declared.matrix.Matrix.{Matrix}
 use Rattle.font_geom.specs.declared.point.Point.{Point}
-use Rattle.font_geom.specs.Matrix.{IsTransformed, IsProductOf, identity_matrix, image_of, matrix_product}
+use Rattle.font_geom.specs.Matrix.{IsTransformed, IsProductOf, identity_matrix, image_of, matrix_product, FitsEach}
 use Rattle.font_geom.specs.FixedMatrix.{matrix_bits, point_bits, wrapped_product, wrapped_sum}
 use Rattle.font_geom.proofs.Elements.{HasOneAnswer, map_matrix, image_is, matrix_product_is}
-use Rattle.font_geom.proofs.Identity.{NeutralLaws, FitsEach, identity_times, times_identity}
+use Rattle.font_geom.proofs.Identity.{NeutralLaws, identity_times, times_identity}
 
 -- what `*` and `+` promise
 abbrev Product : Fixed → Fixed → Fixed → Type 0
@@ -47,7 +47,7 @@ neutral = record {
   zero_times = λ x fits. ap (wrap 32) (near-zero_times x 65536 (lit< tt)) ∙ wrap-fits 32 (pos 0) (lit< tt) zero_fits;
   times_zero = λ x fits. ap (wrap 32) (near-times_zero x 65536 (lit< tt)) ∙ wrap-fits 32 (pos 0) (lit< tt) zero_fits;
   plus_zero = λ x fits. zero_is_neutral 32 x (lit< tt) fits;
-  zero_plus = λ x fits. sum_commutes 32 (pos 0) x ∙ zero_is_neutral 32 x (lit< tt) fits;
+  zero_plus = λ x fits. wrap-add_comm 32 (pos 0) x ∙ zero_is_neutral 32 x (lit< tt) fits;
   zero_fits = zero_fits;
 }
 

@@ -1,7 +1,7 @@
 -- That the identity matrix is neutral on both sides, where zero and one are among the elements that fit.
 use Rattle.std.proofs.Common.{◌≡◌, ◌∙◌, ap}
 use Rattle.font_geom.specs.declared.matrix.Matrix.{Matrix}
-use Rattle.font_geom.specs.Matrix.{linear_form, affine_form, identity_matrix, matrix_product}
+use Rattle.font_geom.specs.Matrix.{linear_form, affine_form, identity_matrix, matrix_product, FitsEach}
 
 -- what zero and one do to the elements that fit
 pub record NeutralLaws {T : Type 0} (fits : T → Type 0) (zero one : T) (plus times : T → T → T) : Type 0 where
@@ -12,15 +12,6 @@ pub record NeutralLaws {T : Type 0} (fits : T → Type 0) (zero one : T) (plus t
   pub plus_zero : (x : T) → fits x → plus x zero ≡ x
   pub zero_plus : (x : T) → fits x → plus zero x ≡ x
   pub zero_fits : fits zero
-
--- every element fits
-pub record FitsEach {T : Type 0} (fits : T → Type 0) (m : Matrix T) : Type 0 where
-  pub xx : fits m.xx
-  pub yx : fits m.yx
-  pub xy : fits m.xy
-  pub yy : fits m.yy
-  pub dx : fits m.dx
-  pub dy : fits m.dy
 
 module _ {T : Type 0} {fits : T → Type 0} {zero one : T} {plus times : T → T → T} (laws : NeutralLaws fits zero one plus times) where
   -- one * x + zero * y, and the other three

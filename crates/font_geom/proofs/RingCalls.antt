@@ -2,11 +2,11 @@
 use Rattle.std.proofs.Common.{◌≡◌, ◌∙◌, sym, ap}
 use Rattle.font_geom.specs.declared.matrix.Matrix.{Matrix}
 use Rattle.font_geom.specs.declared.point.Point.{Point}
-use Rattle.font_geom.specs.Matrix.{IsTransformed, IsProductOf, identity_matrix, image_of, matrix_product}
+use Rattle.font_geom.specs.Matrix.{IsTransformed, IsProductOf, identity_matrix, image_of, matrix_product, FitsEach}
 use Rattle.font_geom.specs.Ring.{RingLaws}
 use Rattle.font_geom.proofs.Elements.{HasOneAnswer, image_is, matrix_product_is}
 use Rattle.font_geom.proofs.RingMatrices.{matrix_product-matrix_product, image_of-matrix_product}
-use Rattle.font_geom.proofs.Identity.{NeutralLaws, FitsEach, identity_times, times_identity}
+use Rattle.font_geom.proofs.Identity.{NeutralLaws, identity_times, times_identity}
 
 module _ {T : Type 0} {product sum : T → T → T → Type 0} {zero one : T} {plus times : T → T → T}
     (answers : HasOneAnswer product sum (λ x. x) plus times) (ring : RingLaws zero one plus times) where

@@ -6,7 +6,7 @@ use Rattle.font_fixed.specs.declared.fixed.Fixed.{Fixed}
 use Rattle.font_fixed.specs.Fixed.{fixed_bits}
 use Rattle.font_geom.specs.declared.matrix.Matrix.{Matrix}
 use Rattle.font_geom.specs.declared.point.Point.{Point}
-use Rattle.font_geom.specs.Matrix.{image_of, matrix_product}
+use Rattle.font_geom.specs.Matrix.{image_of, matrix_product, FitsEach}
 
 -- the bits of each element, and of each coordinate
 abbrev pub matrix_bits : Matrix Fixed → Matrix ℤ
@@ -28,21 +28,13 @@ wrapped_sum x y = wrap 32 (x +ℤ y)
 
 -- ---- where no entry and no coordinate leaves 32 bits. Each is an exact sum of rounded products: what happens on the way may wrap.
 
-pub record FitsMatrix (m : Matrix ℤ) : Type 0 where
-  pub xx : FitsBits 32 m.xx
-  pub yx : FitsBits 32 m.yx
-  pub xy : FitsBits 32 m.xy
-  pub yy : FitsBits 32 m.yy
-  pub dx : FitsBits 32 m.dx
-  pub dy : FitsBits 32 m.dy
-
 pub record FitsPoint (p : Point ℤ) : Type 0 where
   pub x : FitsBits 32 p.x
   pub y : FitsBits 32 p.y
 
 -- no entry of a * b and no coordinate of (a * b) * p
 pub record FitsComposed (a b : Matrix ℤ) (p : Point ℤ) : Type 0 where
-  pub product : FitsMatrix (matrix_product ◌+ℤ◌ rounded_product a b)
+  pub product : FitsEach (FitsBits 32) (matrix_product ◌+ℤ◌ rounded_product a b)
   pub image : FitsPoint (image_of ◌+ℤ◌ rounded_product (matrix_product ◌+ℤ◌ rounded_product a b) p)
 
 -- no coordinate of b * p and none of a * (b * p)

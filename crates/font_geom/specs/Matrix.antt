@@ -7,6 +7,15 @@ use Rattle.font_geom.specs.declared.point.Point.{Point}
 abbrev pub elements_of : {T : Type 0} → Matrix T → List T
 elements_of m = m.xx ∷ m.yx ∷ m.xy ∷ m.yy ∷ m.dx ∷ m.dy ∷ []
 
+-- each element fits
+pub record FitsEach {T : Type 0} (fits : T → Type 0) (m : Matrix T) : Type 0 where
+  pub xx : fits m.xx
+  pub yx : fits m.yx
+  pub xy : fits m.xy
+  pub yy : fits m.yy
+  pub dx : fits m.dx
+  pub dy : fits m.dy
+
 -- the matrix that leaves every point where it is
 abbrev pub identity_matrix : {T : Type 0} → T → T → Matrix T
 identity_matrix zero one = record { xx = one; yx = zero; xy = zero; yy = one; dx = zero; dy = zero }

@@ -2,7 +2,8 @@
 
 ghost use Rattle.std.specs.Prelude.{◌≡◌, IsTrue};
 ghost use Rattle.std.specs.Ordering.{partial_le};
-ghost use Rattle.font_geom.specs.BoundingBox.{CanScale, IsScaled, is_normalized, normalized_box, Compares, HasSamePairs};
+ghost use Rattle.font_geom.specs.BoundingBox.{CanScale, IsScaled, is_normalized, normalized_box};
+ghost use Rattle.font_geom.specs.BoundingBox.{Compares, HasSamePairs};
 
 use std::ops::Mul;
 
@@ -44,14 +45,17 @@ impl<T: PartialOrd + Copy> BoundingBox<T> {
         self.x_min <= self.x_max && self.y_min <= self.y_max
     }
 
-    /// The box whose pairs are in order: a pair for which `min <= max` is true stays, and every other pair is swapped.
+    /// The box whose pairs are in order: a pair for which `min <= max` is true stays, and every
+    /// other pair is swapped.
     ///
     /// A pair that does not compare is swapped too, and then the box is not normalized.
     pub fn normalize(&self) -> Self
         ensures value { result ≡ normalized_box (partial_le T.partial_cmp) self.now }
         ensures pairs { HasSamePairs self.now result }
-        ensures in_order { Compares (partial_le T.partial_cmp) self.now → IsTrue (is_normalized (partial_le T.partial_cmp) result) }
-        ensures once { Compares (partial_le T.partial_cmp) self.now → normalized_box (partial_le T.partial_cmp) result ≡ result }
+        ensures in_order { Compares (partial_le T.partial_cmp) self.now
+            → IsTrue (is_normalized (partial_le T.partial_cmp) result) }
+        ensures once { Compares (partial_le T.partial_cmp) self.now
+            → normalized_box (partial_le T.partial_cmp) result ≡ result }
     {
         let (x_min, x_max) = if self.x_min <= self.x_max {
             (self.x_min, self.x_max)

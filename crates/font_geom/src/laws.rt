@@ -1,8 +1,11 @@
-//! Functions whose contracts are laws of matrices: they make the calls that a law speaks of, and answer what those give.
+//! Functions whose contracts are laws of matrices: they make the calls that a law speaks of, and
+//! answer what those give.
 
 ghost use Rattle.std.specs.Prelude.{◌≡◌, pos};
 ghost use Rattle.font_geom.specs.Matrix.{identity_matrix, image_of, matrix_product};
-ghost use Rattle.font_geom.specs.FixedMatrix.{matrix_bits, point_bits, wrapped_sum, wrapped_product, FitsComposed, FitsInTurn, IsCloseComposed, IsCloseInTurn};
+ghost use Rattle.font_geom.specs.FixedMatrix.{matrix_bits, point_bits, wrapped_sum};
+ghost use Rattle.font_geom.specs.FixedMatrix.{wrapped_product, FitsComposed, FitsInTurn};
+ghost use Rattle.font_geom.specs.FixedMatrix.{IsCloseComposed, IsCloseInTurn};
 
 use crate::{Matrix, Point, RingElement};
 use font_fixed::Fixed;
@@ -14,7 +17,8 @@ pub fn associative<T: RingElement>(
     c: Matrix<T>,
 ) -> (Matrix<T>, Matrix<T>)
     ensures first { result.0 ≡ matrix_product T.plus T.times (matrix_product T.plus T.times a b) c }
-    ensures second { result.1 ≡ matrix_product T.plus T.times a (matrix_product T.plus T.times b c) }
+    ensures second { result.1
+        ≡ matrix_product T.plus T.times a (matrix_product T.plus T.times b c) }
     ensures equal { result.0 ≡ result.1 }
 {
     ((a * b) * c, a * (b * c))
@@ -39,10 +43,13 @@ pub fn identity_neutral<T: RingElement>(a: Matrix<T>) -> (Matrix<T>, Matrix<T>)
     (Matrix::identity() * a, a * Matrix::identity())
 }
 
-/// The identity times `a`, and `a` times the identity: both are `a`, also where products are rounded and sums wrap.
+/// The identity times `a`, and `a` times the identity: both are `a`, also where products are
+/// rounded and sums wrap.
 pub fn fixed_identity(a: Matrix<Fixed>) -> (Matrix<Fixed>, Matrix<Fixed>)
-    ensures first { matrix_bits result.0 ≡ matrix_product wrapped_sum wrapped_product (identity_matrix (pos 0) (pos 65536)) (matrix_bits a) }
-    ensures second { matrix_bits result.1 ≡ matrix_product wrapped_sum wrapped_product (matrix_bits a) (identity_matrix (pos 0) (pos 65536)) }
+    ensures first { matrix_bits result.0 ≡ matrix_product wrapped_sum wrapped_product
+        (identity_matrix (pos 0) (pos 65536)) (matrix_bits a) }
+    ensures second { matrix_bits result.1 ≡ matrix_product wrapped_sum wrapped_product
+        (matrix_bits a) (identity_matrix (pos 0) (pos 65536)) }
     ensures left { result.0 ≡ a }
     ensures right { result.1 ≡ a }
 {
@@ -50,25 +57,30 @@ pub fn fixed_identity(a: Matrix<Fixed>) -> (Matrix<Fixed>, Matrix<Fixed>)
     (identity * a, a * identity)
 }
 
-/// `(a * b) * p`, which is near the exact image of `p` where no entry of the product and no coordinate of the answer leaves 32 bits.
+/// `(a * b) * p`, which is near the exact image of `p` where no entry of the product and no
+/// coordinate of the answer leaves 32 bits.
 ///
-/// Each coordinate is then at most `(|x| + |y|) / 65536 + 2` bits from the exact one, magnitudes in bits. What happens on the way may wrap.
+/// Each coordinate is then at most `(|x| + |y|) / 65536 + 2` bits from the exact one, magnitudes in
+/// bits. What happens on the way may wrap.
 pub fn composed(a: Matrix<Fixed>, b: Matrix<Fixed>, p: Point<Fixed>) -> Point<Fixed>
     ensures value { point_bits result
-        ≡ image_of wrapped_sum wrapped_product (matrix_product wrapped_sum wrapped_product (matrix_bits a) (matrix_bits b)) (point_bits p) }
+        ≡ image_of wrapped_sum wrapped_product (matrix_product wrapped_sum wrapped_product
+        (matrix_bits a) (matrix_bits b)) (point_bits p) }
     ensures close { FitsComposed (matrix_bits a) (matrix_bits b) (point_bits p)
         → IsCloseComposed (matrix_bits a) (matrix_bits b) (point_bits p) (point_bits result) }
 {
     (a * b) * p
 }
 
-/// `a * (b * p)`, which is near the exact image of `p` where no coordinate of `b * p` and none of the answer leaves 32 bits.
+/// `a * (b * p)`, which is near the exact image of `p` where no coordinate of `b * p` and none of
+/// the answer leaves 32 bits.
 ///
-/// A coordinate is then at most the magnitudes of the two linear entries of its row of `a`, in bits, over 65536, and 1 bit from the exact
-/// one. What happens on the way may wrap.
+/// A coordinate is then at most the magnitudes of the two linear entries of its row of `a`, in
+/// bits, over 65536, and 1 bit from the exact one. What happens on the way may wrap.
 pub fn in_turn(a: Matrix<Fixed>, b: Matrix<Fixed>, p: Point<Fixed>) -> Point<Fixed>
     ensures value { point_bits result
-        ≡ image_of wrapped_sum wrapped_product (matrix_bits a) (image_of wrapped_sum wrapped_product (matrix_bits b) (point_bits p)) }
+        ≡ image_of wrapped_sum wrapped_product (matrix_bits a)
+        (image_of wrapped_sum wrapped_product (matrix_bits b) (point_bits p)) }
     ensures close { FitsInTurn (matrix_bits a) (matrix_bits b) (point_bits p)
         → IsCloseInTurn (matrix_bits a) (matrix_bits b) (point_bits p) (point_bits result) }
 {

@@ -3,7 +3,8 @@
 ghost use Rattle.std.specs.Prelude.{◌≡◌, pos};
 ghost use Rattle.font_fixed.specs.Fixed.{fixed_of};
 ghost use Rattle.font_geom.specs.Calls.{CanCallEach, CallsEach};
-ghost use Rattle.font_geom.specs.Matrix.{elements_of, identity_matrix, CanTransform, IsTransformed, CanMultiply, IsProductOf};
+ghost use Rattle.font_geom.specs.Matrix.{elements_of, identity_matrix, CanTransform, IsTransformed};
+ghost use Rattle.font_geom.specs.Matrix.{CanMultiply, IsProductOf};
 
 use crate::Point;
 use font_fixed::Fixed;
@@ -16,7 +17,8 @@ use std::ops::{Add, Mul, MulAssign};
 /// | yx yy dy |
 /// ```
 ///
-/// It sends `(x, y)` to `(xx * x + xy * y + dx, yx * x + yy * y + dy)`. The product `a * b` applies `b` and then `a`.
+/// It sends `(x, y)` to `(xx * x + xy * y + dx, yx * x + yy * y + dy)`. The product `a * b` applies
+/// `b` and then `a`.
 #[derive(Clone, Copy, PartialEq, Eq, Debug)]
 pub struct Matrix<T> {
     /// What x adds to x.
@@ -162,9 +164,11 @@ impl<T: MatrixElement> MulAssign for Matrix<T> {
 impl<T: MatrixElement> Mul<Point<T>> for Matrix<T> {
     type Output = Point<T>;
 
-    ghost can_mul = { λ matrix p. CanTransform T.can_mul T.mul_gives T.can_add T.add_gives matrix p.x p.y };
+    ghost can_mul = { λ matrix p.
+        CanTransform T.can_mul T.mul_gives T.can_add T.add_gives matrix p.x p.y };
 
-    ghost mul_gives = { λ matrix p moved. IsTransformed T.mul_gives T.add_gives matrix p.x p.y moved.x moved.y };
+    ghost mul_gives = { λ matrix p moved.
+        IsTransformed T.mul_gives T.add_gives matrix p.x p.y moved.x moved.y };
 
     fn mul(self, rhs: Point<T>) -> Point<T> {
         let (x, y) = self.transform(rhs.x, rhs.y);

@@ -33,7 +33,8 @@ impl<T> Point<T> {
 
     /// The point of what the function gives at each coordinate, x first.
     ///
-    /// `point.map(|n| n / 2)` halves both. The function may be called at x, and then at y in the state that it is left in.
+    /// `point.map(|n| n / 2)` halves both. The function may be called at x, and then at y in the
+    /// state that it is left in.
     pub fn map<U, F: FnMut(T) -> U>(self, mut f: F) -> Point<U>
         requires { CanCallEach F.pre F.step f (self.x ∷ self.y ∷ []) }
         ensures { CallsEach F.step f (self.x ∷ self.y ∷ []) (result.x ∷ result.y ∷ []) }
@@ -63,7 +64,8 @@ impl<T: Add<Output = T>> Add for Point<T> {
 impl<T: AddAssign> AddAssign for Point<T> {
     ghost can_add_assign = { λ p q. T.can_add_assign p.x q.x × T.can_add_assign p.y q.y };
 
-    ghost add_assign_gives = { λ p q sum. T.add_assign_gives p.x q.x sum.x × T.add_assign_gives p.y q.y sum.y };
+    ghost add_assign_gives = { λ p q sum. T.add_assign_gives p.x q.x sum.x
+        × T.add_assign_gives p.y q.y sum.y };
 
     fn add_assign(&mut self, rhs: Point<T>) {
         self.x += rhs.x;
@@ -89,7 +91,8 @@ impl<T: Sub<Output = T>> Sub for Point<T> {
 impl<T: SubAssign> SubAssign for Point<T> {
     ghost can_sub_assign = { λ p q. T.can_sub_assign p.x q.x × T.can_sub_assign p.y q.y };
 
-    ghost sub_assign_gives = { λ p q rest. T.sub_assign_gives p.x q.x rest.x × T.sub_assign_gives p.y q.y rest.y };
+    ghost sub_assign_gives = { λ p q rest. T.sub_assign_gives p.x q.x rest.x
+        × T.sub_assign_gives p.y q.y rest.y };
 
     fn sub_assign(&mut self, rhs: Point<T>) {
         self.x -= rhs.x;
@@ -102,7 +105,8 @@ impl<T: Mul<Output = T>> Mul for Point<T> {
 
     ghost can_mul = { λ p q. T.can_mul p.x q.x × T.can_mul p.y q.y };
 
-    ghost mul_gives = { λ p q product. T.mul_gives p.x q.x product.x × T.mul_gives p.y q.y product.y };
+    ghost mul_gives = { λ p q product. T.mul_gives p.x q.x product.x
+        × T.mul_gives p.y q.y product.y };
 
     fn mul(self, rhs: Point<T>) -> Point<T> {
         Point {
@@ -117,7 +121,8 @@ impl<T: Mul<Output = T> + Copy> Mul<T> for Point<T> {
 
     ghost can_mul = { λ p factor. T.can_mul p.x factor × T.can_mul p.y factor };
 
-    ghost mul_gives = { λ p factor product. T.mul_gives p.x factor product.x × T.mul_gives p.y factor product.y };
+    ghost mul_gives = { λ p factor product. T.mul_gives p.x factor product.x
+        × T.mul_gives p.y factor product.y };
 
     fn mul(self, rhs: T) -> Point<T> {
         Point {
@@ -130,7 +135,8 @@ impl<T: Mul<Output = T> + Copy> Mul<T> for Point<T> {
 impl<T: MulAssign> MulAssign for Point<T> {
     ghost can_mul_assign = { λ p q. T.can_mul_assign p.x q.x × T.can_mul_assign p.y q.y };
 
-    ghost mul_assign_gives = { λ p q product. T.mul_assign_gives p.x q.x product.x × T.mul_assign_gives p.y q.y product.y };
+    ghost mul_assign_gives = { λ p q product. T.mul_assign_gives p.x q.x product.x
+        × T.mul_assign_gives p.y q.y product.y };
 
     fn mul_assign(&mut self, rhs: Point<T>) {
         self.x *= rhs.x;
@@ -139,9 +145,11 @@ impl<T: MulAssign> MulAssign for Point<T> {
 }
 
 impl<T: MulAssign + Copy> MulAssign<T> for Point<T> {
-    ghost can_mul_assign = { λ p factor. T.can_mul_assign p.x factor × T.can_mul_assign p.y factor };
+    ghost can_mul_assign = { λ p factor. T.can_mul_assign p.x factor
+        × T.can_mul_assign p.y factor };
 
-    ghost mul_assign_gives = { λ p factor product. T.mul_assign_gives p.x factor product.x × T.mul_assign_gives p.y factor product.y };
+    ghost mul_assign_gives = { λ p factor product. T.mul_assign_gives p.x factor product.x
+        × T.mul_assign_gives p.y factor product.y };
 
     fn mul_assign(&mut self, rhs: T) {
         self.x *= rhs;
@@ -154,7 +162,8 @@ impl<T: Div<Output = T>> Div for Point<T> {
 
     ghost can_div = { λ p q. T.can_div p.x q.x × T.can_div p.y q.y };
 
-    ghost div_gives = { λ p q quotient. T.div_gives p.x q.x quotient.x × T.div_gives p.y q.y quotient.y };
+    ghost div_gives = { λ p q quotient. T.div_gives p.x q.x quotient.x
+        × T.div_gives p.y q.y quotient.y };
 
     fn div(self, rhs: Point<T>) -> Point<T> {
         Point {
@@ -169,7 +178,8 @@ impl<T: Div<Output = T> + Copy> Div<T> for Point<T> {
 
     ghost can_div = { λ p divisor. T.can_div p.x divisor × T.can_div p.y divisor };
 
-    ghost div_gives = { λ p divisor quotient. T.div_gives p.x divisor quotient.x × T.div_gives p.y divisor quotient.y };
+    ghost div_gives = { λ p divisor quotient. T.div_gives p.x divisor quotient.x
+        × T.div_gives p.y divisor quotient.y };
 
     fn div(self, rhs: T) -> Point<T> {
         Point {
@@ -182,7 +192,8 @@ impl<T: Div<Output = T> + Copy> Div<T> for Point<T> {
 impl<T: DivAssign> DivAssign for Point<T> {
     ghost can_div_assign = { λ p q. T.can_div_assign p.x q.x × T.can_div_assign p.y q.y };
 
-    ghost div_assign_gives = { λ p q quotient. T.div_assign_gives p.x q.x quotient.x × T.div_assign_gives p.y q.y quotient.y };
+    ghost div_assign_gives = { λ p q quotient. T.div_assign_gives p.x q.x quotient.x
+        × T.div_assign_gives p.y q.y quotient.y };
 
     fn div_assign(&mut self, rhs: Point<T>) {
         self.x /= rhs.x;
@@ -191,9 +202,11 @@ impl<T: DivAssign> DivAssign for Point<T> {
 }
 
 impl<T: DivAssign + Copy> DivAssign<T> for Point<T> {
-    ghost can_div_assign = { λ p divisor. T.can_div_assign p.x divisor × T.can_div_assign p.y divisor };
+    ghost can_div_assign = { λ p divisor. T.can_div_assign p.x divisor
+        × T.can_div_assign p.y divisor };
 
-    ghost div_assign_gives = { λ p divisor quotient. T.div_assign_gives p.x divisor quotient.x × T.div_assign_gives p.y divisor quotient.y };
+    ghost div_assign_gives = { λ p divisor quotient. T.div_assign_gives p.x divisor quotient.x
+        × T.div_assign_gives p.y divisor quotient.y };
 
     fn div_assign(&mut self, rhs: T) {
         self.x /= rhs;

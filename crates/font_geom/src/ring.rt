@@ -7,8 +7,8 @@ use crate::MatrixElement;
 
 /// An element whose sums and products can be taken of all values and obey the laws of a ring.
 ///
-/// Products of matrices over such an element associate, and a product of matrices moves a point as its factors do in turn. `Fixed` has no
-/// such laws, since its products are rounded.
+/// Products of matrices over such an element associate, and a product of matrices moves a point as
+/// its factors do in turn. `Fixed` has no such laws, since its products are rounded.
 pub trait RingElement: MatrixElement {
     // what `x + y` gives
     ghost plus: { Self → Self → Self };

@@ -5,3 +5,4 @@ mod images;
 mod matrices;
 mod points;
 mod ring;
+mod traits;

@@ -1,13 +1,15 @@
 //! Glyph identifiers, as types of their own.
 
-ghost use Rattle.std.specs.Prelude.{◌≡◌, ◌<◌, ◌≤◌, ◌^◌, ◌↔◌, pos, min, nat_lt, true, Some, IsTrue, IsSome, IfSome, MatchResult, refl};
+ghost use Rattle.std.specs.Prelude.{◌≡◌, ◌<◌, ◌≤◌, ◌^◌, ◌↔◌, pos, min, nat_lt, true, Some, IsTrue};
+ghost use Rattle.std.specs.Prelude.{IsSome, IfSome, MatchResult, refl};
 ghost use Rattle.std.specs.Ordering.{nat_cmp};
 ghost use Rattle.font_base.specs.Uint24.{UINT24_MAX, uint24_of_bytes, bytes_of_uint24};
 ghost use Rattle.font_base.specs.Uint24.Laws.{uint24_laws, uint24_identity};
 ghost use Rattle.font_base.specs.Bytes.{IsBytesOf, bytes_of, numeral};
 ghost use Rattle.font_base.specs.Scalar.Laws.{unsigned_newtype, unsigned_identity};
 ghost use Rattle.font_ids.specs.Newtype.{newtype_laws, newtype_identity};
-ghost use Rattle.font_ids.specs.GlyphId.{glyph16_number, glyph16_of, glyph24_number, glyph24_of, glyph_number, refused_number, glyph_text};
+ghost use Rattle.font_ids.specs.GlyphId.{glyph16_number, glyph16_of, glyph24_number, glyph24_of};
+ghost use Rattle.font_ids.specs.GlyphId.{glyph_number, refused_number, glyph_text};
 
 use font_base::{FixedSize, IdentityEq, Scalar, Uint24};
 use std::cmp::Ordering;

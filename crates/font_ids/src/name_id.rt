@@ -1,18 +1,20 @@
 //! Identifiers of the texts in a naming table, as a type of their own.
 
-ghost use Rattle.std.specs.Prelude.{◌≡◌, ◌+◌, ◌≤◌, ◌^◌, ◌↔◌, pos, nat_lt, map, length, Some, IsTrue, IsSome, IfSome, refl};
+ghost use Rattle.std.specs.Prelude.{◌≡◌, ◌+◌, ◌≤◌, ◌^◌, ◌↔◌, pos, nat_lt, map, length, Some};
+ghost use Rattle.std.specs.Prelude.{IsTrue, IsSome, IfSome, refl};
 ghost use Rattle.std.specs.Iterator.{YieldsFirst, item_count};
 ghost use Rattle.font_base.specs.Bytes.{IsBytesOf, bytes_of, numeral};
 ghost use Rattle.font_base.specs.Scalar.Laws.{unsigned_newtype, unsigned_identity};
-ghost use Rattle.font_ids.specs.NameId.{name_number, name_id_of, name_text, predefined_numbers, predefined_left, last_reserved, last_allowed};
+ghost use Rattle.font_ids.specs.NameId.{name_number, name_id_of, name_text, predefined_numbers};
+ghost use Rattle.font_ids.specs.NameId.{predefined_left, last_reserved, last_allowed};
 
 use font_base::{FixedSize, IdentityEq, Scalar};
 use std::fmt;
 
 /// The number of a text that tells something of a font, as its family or its designer.
 ///
-/// Some numbers are predefined and have a constant here; up to 255 they are kept for standard names, and from 256 to 32767 they are
-/// the font's own.
+/// Some numbers are predefined and have a constant here; up to 255 they are kept for standard
+/// names, and from 256 to 32767 they are the font's own.
 #[derive(Clone, Copy, PartialEq, Eq, PartialOrd, Ord, Hash)]
 pub struct NameId(u16);
 
@@ -127,7 +129,8 @@ impl NameId {
         self <= Self::LAST_RESERVED_NAME_ID
     }
 
-    /// The id so many numbers on, or `None` where that is above the last one allowed, also with nothing added.
+    /// The id so many numbers on, or `None` where that is above the last one allowed, also with
+    /// nothing added.
     pub fn checked_add(self, rhs: u16) -> Option<Self>
         ensures variant { IsSome result ↔ (name_number self + rhs ≤ last_allowed) }
         ensures value { IfSome result (λ id. name_number id ≡ name_number self + rhs) }

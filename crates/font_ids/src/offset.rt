@@ -2,16 +2,19 @@
 
 ghost use Rattle.std.specs.Prelude.{◌≡◌, ◌^◌, ◌↔◌, ℕ, pos, nat_lt, true, IsTrue, refl};
 ghost use Rattle.std.proofs.Common.{lit<};
-ghost use Rattle.font_base.specs.Uint24.{uint24_number, uint24_of, uint24_of_bytes, bytes_of_uint24};
+ghost use Rattle.font_base.specs.Uint24.{uint24_number, uint24_of, uint24_of_bytes};
+ghost use Rattle.font_base.specs.Uint24.{bytes_of_uint24};
 ghost use Rattle.font_base.specs.Uint24.Laws.{uint24_laws, uint24_identity, uint24_number-of};
 ghost use Rattle.font_base.specs.Bytes.{bytes_of, numeral};
 ghost use Rattle.font_base.specs.Scalar.Laws.{unsigned_newtype, unsigned_identity};
 ghost use Rattle.font_ids.specs.Newtype.{newtype_laws, newtype_identity};
-ghost use Rattle.font_ids.specs.Offset.{offset16_number, offset16_of, offset24_number, offset24_of, offset32_number, offset32_of, nullable_offset, nullable_of};
+ghost use Rattle.font_ids.specs.Offset.{offset16_number, offset16_of, offset24_number, offset24_of};
+ghost use Rattle.font_ids.specs.Offset.{offset32_number, offset32_of, nullable_offset, nullable_of};
 
 use font_base::{FixedSize, IdentityEq, Scalar, Uint24};
 
-/// An offset of 16 bits to a table. Zero is null, and stands for no table where the field allows it.
+/// An offset of 16 bits to a table. Zero is null, and stands for no table where the field allows
+/// it.
 #[derive(Clone, Copy, Debug, PartialEq, Eq, PartialOrd, Ord)]
 pub struct Offset16(u16);
 
@@ -75,7 +78,8 @@ impl IdentityEq for Offset16 {
     ghost identity = { unsigned_identity offset16_number offset16_of (λ _. refl) };
 }
 
-/// An offset of 24 bits to a table. Zero is null, and stands for no table where the field allows it.
+/// An offset of 24 bits to a table. Zero is null, and stands for no table where the field allows
+/// it.
 #[derive(Clone, Copy, Debug, PartialEq, Eq, PartialOrd, Ord)]
 pub struct Offset24(Uint24);
 
@@ -124,7 +128,8 @@ impl Scalar for Offset24 {
 
     ghost raw_of = { λ offset. bytes_of_uint24 offset.0 };
 
-    ghost laws = { newtype_laws (λ offset. offset.0) offset24_of (λ _. refl) (λ _. refl) uint24_laws };
+    ghost laws = { newtype_laws (λ offset. offset.0) offset24_of (λ _. refl)
+        (λ _. refl) uint24_laws };
 
     fn from_raw(raw: [u8; 3]) -> Offset24 {
         Offset24(Uint24::from_raw(raw))
@@ -136,10 +141,12 @@ impl Scalar for Offset24 {
 }
 
 impl IdentityEq for Offset24 {
-    ghost identity = { newtype_identity (λ offset. offset.0) offset24_of (λ _. refl) uint24_identity };
+    ghost identity = { newtype_identity (λ offset. offset.0) offset24_of
+        (λ _. refl) uint24_identity };
 }
 
-/// An offset of 32 bits to a table. Zero is null, and stands for no table where the field allows it.
+/// An offset of 32 bits to a table. Zero is null, and stands for no table where the field allows
+/// it.
 #[derive(Clone, Copy, Debug, PartialEq, Eq, PartialOrd, Ord)]
 pub struct Offset32(u32);
 

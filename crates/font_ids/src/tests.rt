@@ -4,4 +4,5 @@ mod glyphs;
 mod headers;
 mod names;
 mod offsets;
+mod traits;
 mod words;

@@ -1,10 +1,12 @@
 //! Tags of four bytes.
 
-ghost use Rattle.std.specs.Prelude.{◌≡◌, ◌<◌, ◌++◌, ◌↔◌, pos, Some, IsTrue, IsOk, IfOk, MatchOption, length, replicate, refl};
+ghost use Rattle.std.specs.Prelude.{◌≡◌, ◌<◌, ◌++◌, ◌↔◌, pos, Some, IsTrue, IsOk, IfOk};
+ghost use Rattle.std.specs.Prelude.{MatchOption, length, refl};
 ghost use Rattle.std.specs.Fmt.{WritesOnOk};
 ghost use lib.Chars.{codes};
 ghost use Rattle.font_base.specs.Bytes.{IsBytesOf, are_bytes};
-ghost use Rattle.font_tags.specs.Tag.{tag_bytes, tag_of, four_spaces, IsGood, IsFault, IsAcceptable, IsChecked, IsValidated, byte_text, tag_text};
+ghost use Rattle.font_tags.specs.Tag.{tag_bytes, tag_of, four_spaces, IsGood, IsFault};
+ghost use Rattle.font_tags.specs.Tag.{IsAcceptable, IsChecked, IsValidated, byte_text, tag_text};
 
 use font_base::{BeByteArray, FixedSize, IdentityEq, Scalar};
 use std::fmt;
@@ -16,8 +18,9 @@ pub const TTC_HEADER_TAG: Tag = Tag([0x74, 0x74, 0x63, 0x66]);
 
 /// A name of four bytes, of a table, a script, a feature and the like.
 ///
-/// A good tag has one to four visible characters of ASCII, filled to four bytes with spaces. Fonts hold others too, so any four
-/// bytes are a `Tag`: [`Tag::new_checked`] takes good ones alone, and [`Tag::validate`] judges a tag.
+/// A good tag has one to four visible characters of ASCII, filled to four bytes with spaces. Fonts
+/// hold others too, so any four bytes are a `Tag`: [`Tag::new_checked`] takes good ones alone, and
+/// [`Tag::validate`] judges a tag.
 #[derive(Clone, Copy, PartialEq, Eq, PartialOrd, Ord, Hash)]
 pub struct Tag([u8; 4]);
 
@@ -31,7 +34,8 @@ impl Tag {
 
     /// The tag of one to four good bytes, filled with spaces.
     ///
-    /// `Tag::new_checked(b"cv1")` is `cv1` and a space. Every fault of the bytes is `InvalidByte`, also a visible byte after a space.
+    /// `Tag::new_checked(b"cv1")` is `cv1` and a space. Every fault of the bytes is `InvalidByte`,
+    /// also a visible byte after a space.
     #[tactic(auto, using(crate::proofs::Good::judged))]
     pub fn new_checked(src: &[u8]) -> Result<Self, InvalidTag>
         ensures judged { IsChecked src.now result }

@@ -1,15 +1,19 @@
 //! Version numbers of tables.
 
-ghost use Rattle.std.specs.Prelude.{◌≡◌, ◌≤◌, ◌^◌, ◌++◌, ◌&&◌, ◌↔◌, ℕ, pos, nat_lt, min, Some, IsTrue, take, drop, refl};
+ghost use Rattle.std.specs.Prelude.{◌≡◌, ◌≤◌, ◌^◌, ◌++◌, ◌&&◌, ◌↔◌, pos, nat_lt, min, Some, IsTrue};
+ghost use Rattle.std.specs.Prelude.{take, drop, refl};
 ghost use lib.Chars.{codes};
 ghost use Rattle.font_base.specs.Bytes.{IsBytesOf, bytes_of, numeral};
 ghost use Rattle.font_base.specs.Scalar.Laws.{unsigned_newtype, unsigned_identity};
-ghost use Rattle.font_tags.specs.Version.{version_bits, version_of, version_major, version_minor, packed_version, version_text, hex_text, major_minor_bytes, major_minor_of, IsCompatible};
+ghost use Rattle.font_tags.specs.Version.{version_bits, version_of, version_major, version_minor};
+ghost use Rattle.font_tags.specs.Version.{packed_version, version_text, hex_text};
+ghost use Rattle.font_tags.specs.Version.{major_minor_bytes, major_minor_of, IsCompatible};
 
 use font_base::{FixedSize, IdentityEq, Scalar};
 use std::fmt;
 
-/// A version of the older tables, packed into 32 bits: 16 of the major number, 4 of the minor number, and 12 without meaning.
+/// A version of the older tables, packed into 32 bits: 16 of the major number, 4 of the minor
+/// number, and 12 without meaning.
 ///
 /// Versions are equal where all 32 bits are.
 #[derive(Clone, Copy, Default, PartialEq, Eq, PartialOrd, Ord, Hash)]
@@ -41,7 +45,8 @@ impl Version16Dot16 {
         Self(u32::from(major) * 0x1_0000 + u32::from(minor.min(9)) * 0x1000)
     }
 
-    /// The major and the minor number. The minor number of other bits than those of `new` is up to 15.
+    /// The major and the minor number. The minor number of other bits than those of `new` is up to
+    /// 15.
     pub fn to_major_minor(self) -> (u16, u16)
         ensures major { result.0 ≡ version_major self }
         ensures minor { result.1 ≡ version_minor self }
@@ -61,7 +66,8 @@ impl Version16Dot16 {
 }
 
 impl fmt::Display for Version16Dot16 {
-    ghost output = { λ version. Some (version_text (version_major version) (version_minor version)) };
+    ghost output = { λ version.
+        Some (version_text (version_major version) (version_minor version)) };
 
     fn fmt<W: fmt::Write>(&self, f: &mut fmt::Formatter<W>) -> fmt::Result {
         let (major, minor) = self.to_major_minor();
@@ -70,7 +76,8 @@ impl fmt::Display for Version16Dot16 {
 }
 
 impl fmt::Debug for Version16Dot16 {
-    ghost debug_output = { λ version. Some (codes "Version16Dot16(" ++ hex_text (version_bits version) ++ codes ")") };
+    ghost debug_output = { λ version.
+        Some (codes "Version16Dot16(" ++ hex_text (version_bits version) ++ codes ")") };
 
     fn fmt<W: fmt::Write>(&self, f: &mut fmt::Formatter<W>) -> fmt::Result {
         write!(f, "Version16Dot16({:08x})", self.0)
@@ -203,13 +210,15 @@ pub trait Compatible<Rhs>: Sized {
     // that all fields which a reader of the other version wants are there
     ghost is_compatible: { Self → Rhs → Type 0 };
 
-    /// Whether this version has the other's major number, and a minor number that is not below the other's.
+    /// Whether this version has the other's major number, and a minor number that is not below the
+    /// other's.
     fn compatible(&self, other: Rhs) -> bool
         ensures { IsTrue result ↔ is_compatible self.now other };
 }
 
 impl Compatible<Version16Dot16> for Version16Dot16 {
-    ghost is_compatible = { λ version other. IsCompatible (version_major version) (version_minor version) (version_major other) (version_minor other) };
+    ghost is_compatible = { λ version other. IsCompatible (version_major version)
+        (version_minor version) (version_major other) (version_minor other) };
 
     fn compatible(&self, other: Version16Dot16) -> bool {
         let (major, minor) = self.to_major_minor();
@@ -220,7 +229,8 @@ impl Compatible<Version16Dot16> for Version16Dot16 {
 
 /// A minor number above 9 counts as 9.
 impl Compatible<(u16, u16)> for Version16Dot16 {
-    ghost is_compatible = { λ version other. IsCompatible (version_major version) (version_minor version) other.0 (min other.1 9) };
+    ghost is_compatible = { λ version other.
+        IsCompatible (version_major version) (version_minor version) other.0 (min other.1 9) };
 
     fn compatible(&self, other: (u16, u16)) -> bool {
         self.compatible(Version16Dot16::new(other.0, other.1))
@@ -228,7 +238,8 @@ impl Compatible<(u16, u16)> for Version16Dot16 {
 }
 
 impl Compatible<MajorMinor> for MajorMinor {
-    ghost is_compatible = { λ version other. IsCompatible version.major version.minor other.major other.minor };
+    ghost is_compatible = { λ version other.
+        IsCompatible version.major version.minor other.major other.minor };
 
     fn compatible(&self, other: MajorMinor) -> bool {
         self.major == other.major && self.minor >= other.minor
@@ -236,7 +247,8 @@ impl Compatible<MajorMinor> for MajorMinor {
 }
 
 impl Compatible<(u16, u16)> for MajorMinor {
-    ghost is_compatible = { λ version other. IsCompatible version.major version.minor other.0 other.1 };
+    ghost is_compatible = { λ version other.
+        IsCompatible version.major version.minor other.0 other.1 };
 
     fn compatible(&self, other: (u16, u16)) -> bool {
         self.compatible(MajorMinor::new(other.0, other.1))

@@ -1,3 +1,3 @@
 pub mod JsonLemmas
+pub mod SumCalls
 pub mod Callers
-mod DeltaLemmas

@@ -5,13 +5,17 @@ use Rattle.font_base.specs.Wrap.{fits_bits}
 use Rattle.font_fixed.specs.declared.fixed.Fixed.{Fixed}
 use Rattle.font_fixed.specs.Fixed.{fixed_bits}
 
+-- the exact sum of the numbers that the elements of a list have
+abbrev pub total : {T : Type 0} → (T → ℤ) → List T → ℤ
+total number_of xs = fold (λ sum x. sum +ℤ number_of x) (pos 0) xs
+
 -- the exact product of a term, in bits
 abbrev pub term_product : Fixed × ℤ → ℤ
 term_product term = fixed_bits term.0 *ℤ term.1
 
 -- the exact sum of the products, in bits
 abbrev pub exact_sum : List (Fixed × ℤ) → ℤ
-exact_sum terms = fold (λ sum term. sum +ℤ term_product term) (pos 0) terms
+exact_sum terms = total term_product terms
 
 -- that sum where it is a number of 64 bits
 abbrev pub sum_in_range : List (Fixed × ℤ) → Option ℤ

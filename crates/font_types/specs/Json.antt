@@ -1,20 +1,31 @@
 -- JSON forms of scalars. All of it is the project's own rule, but for what JSON itself has: texts, numbers and objects.
 pub mod Laws
-use Rattle.std.specs.Prelude.{◌≡◌, ℕ, ℤ, ◌&&◌, int_le, if◌then◌else◌, List, Option, Some, None, option_and_then, is_some, pos, IsUtf8, Result, Ok, Err}
+use Rattle.std.specs.Prelude.{◌≡◌, ℕ, ◌-◌, ◌^◌, ℤ, Bool, ◌&&◌, int_le, if◌then◌else◌, List, Option, Some, None, option_and_then, is_some, pos, IsUtf8, Result, Ok, Err}
+use Rattle.std.specs.Result.{result_map_both}
 use lib.Chars.{codes}
 use Rattle.serde_json.specs.Data.{Data, object, member, no_members, number, unsigned}
-use Rattle.serde_json.specs.Find.{as_number, as_integer, as_object, get}
+use Rattle.serde_json.specs.Find.{as_number, as_integer, as_object, get, of_integer}
 use Rattle.font_decimal.specs.Grammar.{IsNoDecimal}
-use Rattle.font_arithmetic.specs.Operations.{ReadsAs, IsTooFar}
+use Rattle.font_arithmetic.specs.Operations.{ReadsAs, IsTooFar, least, greatest}
 use Rattle.font_decimal.specs.declared.reader.DecimalFault.{DecimalFault}
 use Rattle.font_tags.specs.declared.tag.Tag.{Tag}
 use Rattle.font_tags.specs.Tag.{tag_bytes, IsGood, IsAcceptable, filled}
 use Rattle.font_types.specs.declared.json.JsonFault.{JsonFault}
 use Rattle.font_types.specs.declared.json.JsonFault.TheVariants.{Memory, WrongKind, OutOfRange, Syntax, NotUtf8, InvalidTag, MissingMember}
 
--- the number, where it lies from `min` to `max`
+-- ---- whole numbers
+
+-- the data is the number
+abbrev pub IsNumber : ℤ → Data → Type 0
+IsNumber z d = d ≡ number (of_integer z)
+
+-- the test that a number lies from `min` to `max`
+abbrev pub is_within : ℤ → ℤ → ℤ → Bool
+is_within min max z = int_le min z && int_le z max
+
+-- the number, where it lies in that range
 abbrev pub in_range : ℤ → ℤ → ℤ → Result ℤ JsonFault
-in_range min max z = if int_le min z && int_le z max then Ok z else Err OutOfRange
+in_range min max z = if is_within min max z then Ok z else Err OutOfRange
 
 -- the whole number that there is, in the range; none is the wrong kind
 abbrev pub number_or_fault : ℤ → ℤ → Option ℤ → Result ℤ JsonFault
@@ -24,6 +35,26 @@ number_or_fault min max (Some z) = in_range min max z
 -- the whole number from `min` to `max` that the data is: data that is no number is the wrong kind, and a number that holds a float is too
 abbrev pub whole_number : ℤ → ℤ → Data → Result ℤ JsonFault
 whole_number min max d = number_or_fault min max (option_and_then as_integer (as_number d))
+
+-- what data is read as by a type whose values are the numbers from `min` to `max`
+abbrev pub ReadsNumber : {T : Type 0} → ℤ → ℤ → (T → ℤ) → Data → Result T JsonFault → Type 0
+ReadsNumber min max number_of d result = result_map_both number_of (λ fault. fault) result ≡ whole_number min max d
+
+-- the test of w bits without a sign, and what data is read as by a type of all those numbers
+abbrev pub is_unsigned : ℕ → ℕ → Bool
+is_unsigned w n = is_within (pos 0) (pos (2 ^ w - 1)) (pos n)
+
+abbrev pub ReadsUnsigned : {T : Type 0} → ℕ → (T → ℕ) → Data → Result T JsonFault → Type 0
+ReadsUnsigned w number_of d result = ReadsNumber (pos 0) (pos (2 ^ w - 1)) (λ x. pos (number_of x)) d result
+
+-- the same of w bits in two's complement
+abbrev pub is_signed : ℕ → ℤ → Bool
+is_signed w z = is_within (least w) (greatest w) z
+
+abbrev pub ReadsSigned : {T : Type 0} → ℕ → (T → ℤ) → Data → Result T JsonFault → Type 0
+ReadsSigned w number_of d result = ReadsNumber (least w) (greatest w) number_of d result
+
+-- ---- decimal texts
 
 -- the same fault of a decimal text
 abbrev pub json_fault : DecimalFault → JsonFault

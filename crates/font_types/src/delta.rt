@@ -12,6 +12,7 @@ use font_ids::FWord;
 /// The sum of the products of scalars and deltas, exact where it fits 64 bits, whatever partial sums do.
 ///
 /// A sum out of range wraps. Each term is a scalar and a delta in font units; the empty list gives zero.
+#[tactic(auto, using(crate::proofs::SumCalls::sum_calls))]
 pub fn delta_sum(terms: &[(Fixed, i32)]) -> F48Dot16
     ensures { f48dot16_bits result ≡ wrap 64 (exact_sum terms.now) }
 {

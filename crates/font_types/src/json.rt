@@ -93,7 +93,8 @@ pub trait JsonScalar: Sized {
 
     /// The value whose form this is.
     fn from_json(value: &Value) -> Result<Self, JsonFault>
-        ensures { reads (view value.now) result };
+        ensures read { reads (view value.now) result }
+        ensures back { (v : Self) → IsTrue (is_value v) → shows v (view value.now) → comes_back v result };
 
     // What is shown is read back.
     ghost round_trip: { (v : Self) (d : Data) (result : Result Self JsonFault) → IsTrue (is_value v) → shows v d → reads d result → comes_back v result };

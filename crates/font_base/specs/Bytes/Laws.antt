@@ -9,8 +9,9 @@ use Rattle.std.specs.Cmp.Derive.{both_true}
 use Rattle.std.specs.List.{list_all}
 use Rattle.std.specs.Int.{bytes_high_first, byte_at}
 use lib.Arith.{digits_lt, digits_div, mod-mul}
+use Rattle.font_base.specs.Integers.{sum-times}
 use Rattle.font_base.specs.Wrap.{FitsBits, fits_bits, wrap}
-use Rattle.font_base.specs.Wrap.Laws.{fits_bits-true, FitsBits-fits_bits, remainder, same_rest, times_sum, wrap_is, wrap_same, wrap-fits}
+use Rattle.font_base.specs.Wrap.Laws.{fits_bits-true, FitsBits-fits_bits, remainder, same_rest, wrap_is, wrap_same, wrap-fits}
 use Rattle.font_base.specs.Bytes.{numeral, are_bytes, IsBytesOf, bytes_of, signed_numeral}
 
 -- the step of a numeral
@@ -87,11 +88,11 @@ bytes_high_first-above (suc k) a m =
     let others = bytes_high_first-above k (a * 256) m in
     rw whole (ap (λ b. b ∷ bytes_high_first k (a * 256 * 256 ^ k + m)) first ∙ ap (λ bs. byte_at k m ∷ bs) others)
 
-numeral_below : (bs : List ℕ) → list_all is_byte bs ≡ true → numeral bs < 256 ^ length bs
-numeral_below [] each = lit< tt
-numeral_below (b ∷ bs) each =
+numeral_of_bytes_below : (bs : List ℕ) → list_all is_byte bs ≡ true → numeral bs < 256 ^ length bs
+numeral_of_bytes_below [] each = lit< tt
+numeral_of_bytes_below (b ∷ bs) each =
     let byte = ltb-true b 256 (first_so (is_byte b) (list_all is_byte bs) each) in
-    let others = numeral_below bs (second_so (is_byte b) (list_all is_byte bs) each) in
+    let others = numeral_of_bytes_below bs (second_so (is_byte b) (list_all is_byte bs) each) in
     rw numeral-cons (omega (arith, digits_lt byte others, pow-suc 256 (length bs)))
 
 bytes_high_first-numeral : (bs : List ℕ) → list_all is_byte bs ≡ true → bytes_high_first (length bs) (numeral bs) ≡ bs
@@ -101,7 +102,7 @@ bytes_high_first-numeral (b ∷ bs) each =
     let later = second_so (is_byte b) (list_all is_byte bs) each in
     let first : byte_at (length bs) (b * 256 ^ length bs + numeral bs) ≡ b =
     byte_at_is (length bs) (b * 256 ^ length bs + numeral bs)
-    ∙ ap (λ q. q % 256) (digits_div b (numeral_below bs later))
+    ∙ ap (λ q. q % 256) (digits_div b (numeral_of_bytes_below bs later))
     ∙ mod-eq_of_lt byte in
     let others = bytes_high_first-above (length bs) b (numeral bs) ∙ bytes_high_first-numeral bs later in
     rw numeral-cons
@@ -124,16 +125,16 @@ bytes_of_is n v =
       differs = rw (numeral-bytes_high_first n parts.rest, mod-eq_of_lt parts.below) parts.parts;
     })
 
-pub numeral-below : (n : ℕ) (bytes : List ℕ) → IsTrue (are_bytes n bytes) → numeral bytes < 256 ^ n
-numeral-below n bytes are =
+pub numeral_below : (n : ℕ) (bytes : List ℕ) → IsTrue (are_bytes n bytes) → numeral bytes < 256 ^ n
+numeral_below n bytes are =
     let many = are_bytes-length n bytes are in
-    subst (λ (k : ℕ). numeral bytes < 256 ^ k) many (numeral_below bytes (are_bytes-each n bytes are))
+    subst (λ (k : ℕ). numeral bytes < 256 ^ k) many (numeral_of_bytes_below bytes (are_bytes-each n bytes are))
 
 -- a number has one list of n bytes
 pub bytes_unique : (n : ℕ) (v : ℤ) (xs ys : List ℕ) → IsBytesOf n v xs → IsBytesOf n v ys → xs ≡ ys
 bytes_unique n v xs ys p q =
-    let x_below = numeral-below n xs p.are in
-    let y_below = numeral-below n ys q.are in
+    let x_below = numeral_below n xs p.are in
+    let y_below = numeral_below n ys q.are in
     let same : pos (numeral xs) ≡ pos (numeral ys) =
     same_rest (256 ^ n) (pos (numeral xs)) (pos (numeral ys)) p.turns q.turns
     (omega (arith, ints, x_below)) (omega (arith, ints, y_below)) (sym p.differs ∙ q.differs) in
@@ -148,7 +149,7 @@ pub IsBytesOf-apart : (n : ℕ) (v u turns : ℤ) (bytes : List ℕ) → v ≡ (
 IsBytesOf-apart n v u turns bytes apart given = record {
   are = given.are;
   turns = given.turns +ℤ turns;
-  differs = omega (arith, ints, apart, given.differs, times_sum given.turns turns (256 ^ n));
+  differs = omega (arith, ints, apart, given.differs, sum-times given.turns turns (pos (256 ^ n)));
 }
 
 pub IsBytesOf-numeral : (n : ℕ) (bytes : List ℕ) → IsTrue (are_bytes n bytes) → IsBytesOf n (pos (numeral bytes)) bytes
@@ -165,6 +166,10 @@ IsBytesOf-high_first n m = record {
 -- what an answer gives is what `bytes_of` gives
 pub bytes_of_gives : (n : ℕ) (v : ℤ) (bytes : List ℕ) → IsBytesOf n v bytes → bytes ≡ bytes_of n v
 bytes_of_gives n v bytes given = bytes_unique n v bytes (bytes_of n v) given (bytes_of_is n v)
+
+-- and the other way
+pub bytes_of_are : (n : ℕ) (v : ℤ) (bytes : List ℕ) → bytes ≡ bytes_of n v → IsBytesOf n v bytes
+bytes_of_are n v bytes is = rw is (bytes_of_is n v)
 
 pub bytes_of-same : (n : ℕ) (v u turns : ℤ) → v ≡ (u +ℤ (turns *ℤ pos (256 ^ n))) → bytes_of n v ≡ bytes_of n u
 bytes_of-same n v u turns apart =
@@ -204,7 +209,7 @@ FitsBits-signed_numeral n bytes some = (wrap_is (8 * n) (pos (numeral bytes)) (o
 -- ---- the laws of a scalar that is a number
 
 pub unsigned_value : (n : ℕ) (bytes : List ℕ) → IsTrue (are_bytes n bytes) → IsTrue (nat_lt (numeral bytes) (256 ^ n))
-unsigned_value n bytes are = lt-ltb (numeral bytes) (256 ^ n) (numeral-below n bytes are)
+unsigned_value n bytes are = lt-ltb (numeral bytes) (256 ^ n) (numeral_below n bytes are)
 
 pub unsigned_back : (n v : ℕ) → IsTrue (nat_lt v (256 ^ n)) → numeral (bytes_of n (pos v)) ≡ v
 unsigned_back n v test = numeral-bytes_of n v (ltb-true v (256 ^ n) test)

@@ -7,7 +7,7 @@ use mathlib.Core.HLevel.{is_prop→PathP}
 use denote.Struct.Props.{props}
 use Rattle.font_base.specs.declared.uint24.Uint24.{Uint24}
 use Rattle.font_base.specs.Bytes.{are_bytes, numeral, bytes_of, IsBytesOf}
-use Rattle.font_base.specs.Bytes.Laws.{are_bytes-bytes_of, numeral-bytes_of, numeral-below, bytes_of-numeral, bytes_of_gives}
+use Rattle.font_base.specs.Bytes.Laws.{are_bytes-bytes_of, numeral-bytes_of, numeral_below, bytes_of-numeral, bytes_of_gives}
 use Rattle.font_base.specs.Scalar.{ScalarLaws}
 use Rattle.font_base.specs.Uint24.{uint24_number, uint24_of, uint24_of_bytes, bytes_of_uint24}
 
@@ -28,7 +28,7 @@ uint24_back n =
 
 uint24_forth : (bytes : List ℕ) → IsTrue (are_bytes 3 bytes) → bytes_of_uint24 (uint24_of_bytes bytes) ≡ bytes
 uint24_forth bytes are =
-    ap (λ n. bytes_of 3 (pos n)) (uint24_number-of (numeral bytes) (numeral-below 3 bytes are)) ∙ bytes_of-numeral 3 bytes are
+    ap (λ n. bytes_of 3 (pos n)) (uint24_number-of (numeral bytes) (numeral_below 3 bytes are)) ∙ bytes_of-numeral 3 bytes are
 
 -- a `Uint24` is a scalar
 pub uint24_laws : ScalarLaws (λ (n : Uint24). true) (are_bytes 3) uint24_of_bytes bytes_of_uint24 3 3

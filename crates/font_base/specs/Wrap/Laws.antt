@@ -1,12 +1,13 @@
--- That wrapping has one answer.
+-- That wrapping has one answer, and what wrapping does to sums, opposites and what is wrapped.
 use Rattle.std.proofs.Common.{◌≡◌, ◌∙◌, sym, ap, refl, ℕ, zero, suc, ◌+◌, ◌-◌, ◌*◌, ◌/◌, ◌%◌, ◌^◌, ◌<◌, ◌≤◌, ℤ, pos, negsuc, ◌+ℤ◌, ◌*ℤ◌, neg_ℤ, ◌≤ℤ◌, ◌<ℤ◌, true, int_le, int_lt, IsTrue, arith}
 use Rattle.std.proofs.lemmas.Int.{ints, by_lt_z}
 use Rattle.std.proofs.Math.Nat.{mul-le-mul_right, pow-suc, add-mul, mod-lt}
-use Rattle.std.proofs.lemmas.Nat.{pow_pos, div-add-mod'}
+use Rattle.std.proofs.lemmas.Nat.{pow_pos, pow-add, div-add-mod'}
 use Rattle.std.specs.Cmp.{first_so, second_so}
 use Rattle.std.specs.Cmp.Derive.{both_true}
 use Rattle.std.specs.Int.{int_rem_euclid}
-use borrow.Author.Differences.{up, down, sum_is_lem}
+use borrow.Author.Differences.{up, down}
+use Rattle.font_base.specs.Integers.{sum-times, product-times}
 use Rattle.font_base.specs.Wrap.{half_range, FitsBits, fits_bits, IsWrapped, wrap}
 
 -- w bits tell apart twice as many numbers as w - 1 bits
@@ -14,12 +15,6 @@ pub two_halves : (w : ℕ) → 0 < w → 2 ^ w ≡ half_range w + half_range w
 two_halves zero positive = absurd (omega arith)
 two_halves (suc w) positive =
     let less : suc w - 1 ≡ w = omega arith in rw less (omega (arith, pow-suc 2 w))
-
--- multiples add up
-pub times_sum : (a b : ℤ) (d : ℕ) → ((a +ℤ b) *ℤ pos d) ≡ ((a *ℤ pos d) +ℤ (b *ℤ pos d))
-times_sum a b d =
-    let scaled = ap (λ n. n * d) (sum_is_lem a b) in
-    omega (arith, ints, scaled, add-mul (up (a +ℤ b) + down a) (down b) d, add-mul (up (a +ℤ b)) (down a) d, add-mul (down (a +ℤ b) + up a) (up b) d, add-mul (down (a +ℤ b)) (up a) d)
 
 -- a whole number is its remainder and a multiple of the divisor
 pub record Remainder (z : ℤ) (d : ℕ) : Type 0 where
@@ -96,10 +91,37 @@ wrap_same w y z turns positive apart =
     sym (wrap_gives w y (wrap w z) positive (record {
       fits = given.fits;
       turns = given.turns +ℤ turns;
-      differs = omega (arith, ints, apart, given.differs, times_sum given.turns turns (2 ^ w));
+      differs = omega (arith, ints, apart, given.differs, sum-times given.turns turns (pos (2 ^ w)));
     }))
 
--- the test of a range and the range
+-- ---- a part of what is wrapped may be wrapped first
+
+pub wrap-add_left : (w : ℕ) (a b : ℤ) → 0 < w → wrap w (wrap w a +ℤ b) ≡ wrap w (a +ℤ b)
+wrap-add_left w a b some =
+    let given = wrap_is w a some in
+    sym (wrap_same w (a +ℤ b) (wrap w a +ℤ b) given.turns some (omega (arith, ints, given.differs)))
+
+pub wrap-add_right : (w : ℕ) (a b : ℤ) → 0 < w → wrap w (a +ℤ wrap w b) ≡ wrap w (a +ℤ b)
+wrap-add_right w a b some =
+    let given = wrap_is w b some in
+    sym (wrap_same w (a +ℤ b) (a +ℤ wrap w b) given.turns some (omega (arith, ints, given.differs)))
+
+pub wrap-neg : (w : ℕ) (z : ℤ) → 0 < w → wrap w (neg_ℤ (wrap w z)) ≡ wrap w (neg_ℤ z)
+wrap-neg w z some =
+    let given = wrap_is w z some in
+    wrap_same w (neg_ℤ (wrap w z)) (neg_ℤ z) given.turns some (omega (arith, ints, given.differs))
+
+-- of v bits that are kept, fewer are kept
+pub wrap-wrap : (u v : ℕ) (z : ℤ) → 0 < u → u ≤ v → wrap u (wrap v z) ≡ wrap u z
+wrap-wrap u v z some less =
+    let given = wrap_is v z (omega (arith, some, less)) in
+    let split : v ≡ v - u + u = omega (arith, less) in
+    let power : 2 ^ v ≡ 2 ^ (v - u) * 2 ^ u = ap (λ n. 2 ^ n) split ∙ pow-add 2 (v - u) u in
+    sym (wrap_same u z (wrap v z) (given.turns *ℤ pos (2 ^ (v - u))) some
+    (given.differs ∙ ap (λ y. wrap v z +ℤ y) (ap (λ n. given.turns *ℤ pos n) power ∙ sym (product-times given.turns (pos (2 ^ (v - u))) (pos (2 ^ u))))))
+
+-- ---- the test of a range and the range
+
 pub fits_bits-true : (w : ℕ) (z : ℤ) → IsTrue (fits_bits w z) → FitsBits w z
 fits_bits-true w z test =
     let low = first_so (int_le (neg_ℤ (pos (half_range w))) z) (int_lt z (pos (half_range w))) test in

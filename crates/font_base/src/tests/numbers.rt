@@ -18,6 +18,20 @@ fn signed_bytes_of_24_bits(rt: HostRuntime) {
     }
 }
 
+// Each pair of upper bytes, with a lower one that varies with both: 65,536 numbers of both signs.
+#[test]
+fn signed_bytes_of_many_numbers(rt: HostRuntime) {
+    for high in 0..=255u8 {
+        for middle in 0..=255u8 {
+            let bytes = [high, middle, high ^ middle];
+            let sign = if high < 0x80 { 0 } else { 0xFF };
+            let number = i32::from_be_bytes([sign, high, middle, high ^ middle]);
+            assert!(rt; Int24::new(number).to_be_bytes() == bytes);
+            assert_eq!(rt; Int24::from_be_bytes(bytes).to_i32(), number);
+        }
+    }
+}
+
 #[test]
 fn unsigned_bytes_of_24_bits(rt: HostRuntime) {
     for (number, bytes) in [
@@ -34,15 +48,27 @@ fn unsigned_bytes_of_24_bits(rt: HostRuntime) {
 fn ends_of_signed_24_bits(rt: HostRuntime) {
     assert!(rt; Int24::new(8388608) == Int24::MAX);
     assert!(rt; Int24::new(-8388609) == Int24::MIN);
-    assert!(rt; Int24::checked_new(8388608).is_none());
-    assert!(rt; Int24::checked_new(-8388608) == Some(Int24::MIN));
+    for (number, checked) in [
+        (8388608, None),
+        (8388607, Some(Int24::MAX)),
+        (-8388608, Some(Int24::MIN)),
+        (-8388609, None),
+    ] {
+        assert!(rt; Int24::checked_new(number) == checked);
+    }
+    assert_eq!(rt; Int24::default().to_i32(), 0);
 }
 
 #[test]
 fn ends_of_unsigned_24_bits(rt: HostRuntime) {
     assert!(rt; Uint24::new(16777216) == Uint24::MAX);
-    assert!(rt; Uint24::checked_new(16777216).is_none());
-    assert!(rt; Uint24::checked_new(16777215) == Some(Uint24::MAX));
+    for (number, checked) in [
+        (16777216, None),
+        (16777215, Some(Uint24::MAX)),
+        (0, Some(Uint24::MIN)),
+    ] {
+        assert!(rt; Uint24::checked_new(number) == checked);
+    }
     assert!(rt; Uint24::try_from(16777216usize).is_err());
 }
 

@@ -10,7 +10,7 @@ use std::test::Fail;
 
 /// How bold a font is, from 1 to 1000.
 #[derive(Clone, Copy, PartialEq, Eq, PartialOrd, Ord)]
-struct WeightClass(u16);
+pub(super) struct WeightClass(pub(super) u16);
 
 impl FixedSize for WeightClass {
     const RAW_BYTE_LEN: usize = 2;

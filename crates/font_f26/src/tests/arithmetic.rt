@@ -36,6 +36,7 @@ fn products(rt: HostRuntime) {
 fn quotients(rt: HostRuntime) {
     for (x, y, quotient) in [
         (32, -154, -13),
+        (64, 0, 0x7FFF_FFFF),
         (-64, 0, -0x7FFF_FFFF),
         (0, 0, 0x7FFF_FFFF),
         (i32::MIN, -64, i32::MIN),
@@ -94,4 +95,14 @@ fn operators(rt: HostRuntime) {
     assert_eq!(rt; number.to_bits(), -32);
     assert_eq!(rt; (-number).to_bits(), 32);
     assert!(rt; -F26Dot6::MIN == F26Dot6::MIN);
+}
+
+#[test]
+fn sums_at_the_least_value(rt: HostRuntime) {
+    let (min, step) = (F26Dot6::MIN, F26Dot6::EPSILON);
+    assert!(rt;
+        min.saturating_add(F26Dot6::NEG_ONE) == min && min.saturating_sub(F26Dot6::ONE) == min
+    );
+    assert!(rt; min.checked_add(F26Dot6::ZERO) == Some(min) && min.checked_add(-step).is_none());
+    assert!(rt; F26Dot6::NEG_ONE < F26Dot6::ZERO && F26Dot6::NEG_ONE != F26Dot6::ONE);
 }

@@ -57,3 +57,41 @@ fn padded(rt: HostRuntime) {
     assert!(rt; &out == b"+0.5  -");
     assert!(rt; F26Dot6::MIN.write_padded(&mut out, &pad).is_none());
 }
+
+// No flag of a format is heard: `write_padded` has a rule of its own.
+#[test]
+fn without_flags(rt: HostRuntime) -> Result<(), Fail> {
+    for (bits, text) in [(32, "0.5"), (-96, "-1.5")] {
+        let number = F26Dot6::from_bits(bits);
+        let flagged = format!(in rt.alloc(); "{number:8}|{number:.0}|{number:+}|{number:?}")?;
+        let plain = format!(in rt.alloc(); "{text}|{text}|{text}|{text}")?;
+        assert_eq!(rt; flagged.as_str(), plain.as_str());
+    }
+    Ok(())
+}
+
+// Texts of thousands of digits, at both signs and around both ends.
+#[test]
+fn read_of_many_digits(rt: HostRuntime) -> Result<(), Fail> {
+    for (head, digit, count, tail, read) in [
+        ("", '0', 5000, "12.5", Ok(800)),
+        ("0.", '0', 5000, "1", Ok(0)),
+        ("-0.", '0', 5000, "1", Ok(0)),
+        ("1", '0', 4999, "", Err(DecimalFault::OutOfRange)),
+        ("", '9', 4999, "x", Err(DecimalFault::Syntax)),
+        ("33554431.9921874", '9', 3000, "", Ok(i32::MAX)),
+        ("-33554432.0078124", '9', 3000, "", Ok(i32::MIN)),
+        ("0.0078124", '9', 3000, "", Ok(0)),
+    ] {
+        let mut text = String::from_str(rt.alloc(), head)?;
+        for _ in 0..count {
+            text.push(digit)?;
+        }
+        text.push_str(tail)?;
+        assert!(rt;
+            F26Dot6::from_decimal(text.as_str()).map(F26Dot6::to_bits) == read,
+            "{head}"
+        );
+    }
+    Ok(())
+}

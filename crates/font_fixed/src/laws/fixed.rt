@@ -1,7 +1,8 @@
 //! Laws of `Fixed`, as contracts of functions that make the calls.
 
 ghost use Rattle.font_fixed.specs.Fixed.{fixed_bits};
-ghost use Rattle.font_arithmetic.specs.NumberLaws.{OnFour, ProductLaws, ProductInOneStep, QuotientLaws, QuotientInOneStep};
+ghost use Rattle.font_arithmetic.specs.NumberLaws.{OnFour, ProductLaws, ProductInOneStep};
+ghost use Rattle.font_arithmetic.specs.NumberLaws.{QuotientLaws, QuotientInOneStep};
 
 use crate::Fixed;
 
@@ -10,21 +11,26 @@ use crate::Fixed;
 /// The first, the second and the last are equal, and the third is `x`.
 pub fn product_laws(x: Fixed, y: Fixed) -> [Fixed; 4]
     ensures laws { OnFour result (λ product flipped by_one in_one_step.
-        ProductLaws 32 16 (fixed_bits x) (fixed_bits y) (fixed_bits product) (fixed_bits flipped) (fixed_bits by_one)) }
+        ProductLaws 32 16 (fixed_bits x) (fixed_bits y)
+        (fixed_bits product) (fixed_bits flipped) (fixed_bits by_one)) }
     ensures in_one_step { OnFour result (λ product flipped by_one in_one_step.
-        ProductInOneStep 32 16 (fixed_bits x) (fixed_bits y) (fixed_bits product) (fixed_bits in_one_step)) }
+        ProductInOneStep 32 16 (fixed_bits x) (fixed_bits y)
+        (fixed_bits product) (fixed_bits in_one_step)) }
 {
     [x * y, y * x, x * Fixed::ONE, x.mul_div(y, Fixed::ONE)]
 }
 
 /// `x / y`, `x.mul_div(ONE, y)`, `x / ONE` and `x / x`.
 ///
-/// The first two are equal, also where `y` is zero; the third is `x`, and the last is `ONE` where `x` is not zero.
+/// The first two are equal, also where `y` is zero; the third is `x`, and the last is `ONE` where
+/// `x` is not zero.
 pub fn quotient_laws(x: Fixed, y: Fixed) -> [Fixed; 4]
     ensures laws { OnFour result (λ quotient in_one_step by_one by_itself.
-        QuotientLaws 32 16 (fixed_bits x) (fixed_bits y) (fixed_bits quotient) (fixed_bits by_one) (fixed_bits by_itself)) }
+        QuotientLaws 32 16 (fixed_bits x) (fixed_bits y)
+        (fixed_bits quotient) (fixed_bits by_one) (fixed_bits by_itself)) }
     ensures in_one_step { OnFour result (λ quotient in_one_step by_one by_itself.
-        QuotientInOneStep 32 16 (fixed_bits x) (fixed_bits y) (fixed_bits quotient) (fixed_bits in_one_step)) }
+        QuotientInOneStep 32 16 (fixed_bits x) (fixed_bits y)
+        (fixed_bits quotient) (fixed_bits in_one_step)) }
 {
     [x / y, x.mul_div(Fixed::ONE, y), x / Fixed::ONE, x / x]
 }

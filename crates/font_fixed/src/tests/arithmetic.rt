@@ -71,9 +71,13 @@ fn quotients(rt: HostRuntime) {
         (0, 0, 0x7FFF_FFFF),
         (-0x1_0000, 0, -0x7FFF_FFFF),
         (-0x8000_0000, -0x8000_0000, 0x1_0000),
+        (-0x8000_0000, 0x1_0000, -0x8000_0000),
+        (-0x8000_0000, -0x1_0000, -0x8000_0000),
+        (-6062080, 185, -0x8000_0000),
     ] {
         let answers = quotient_laws(Fixed::from_bits(x), Fixed::from_bits(y));
         assert_eq!(rt; answers[0].to_bits(), quotient);
+        assert_eq!(rt; answers[1].to_bits(), quotient);
     }
 }
 
@@ -102,7 +106,9 @@ fn whole_numbers(rt: HostRuntime) {
     ] {
         assert_eq!(rt; Fixed::from_bits(bits).round().to_bits(), rounded);
     }
-    assert_eq!(rt; Fixed::MAX.to_i32(), -32768);
+    for (bits, whole) in [(0x1_8000, 2), (-0x1_8000, -1), (0x7FFF_FFFF, -32768)] {
+        assert_eq!(rt; Fixed::from_bits(bits).to_i32(), whole);
+    }
     assert!(rt; Fixed::from_i32(-1) == Fixed::NEG_ONE);
     assert!(rt; Fixed::from(1) == Fixed::ONE);
 }
@@ -140,4 +146,12 @@ fn bytes(rt: HostRuntime) {
     assert!(rt; Fixed::from_bits(-0x1_8000).to_be_bytes() == [0xFF, 0xFE, 0x80, 0x00]);
     assert!(rt; Fixed::read(&[0x00, 0x01, 0x80, 0x00]) == Some(Fixed::from_bits(0x1_8000)));
     assert!(rt; BigEndian::from(Fixed::NEG_ONE) < BigEndian::from(Fixed::default()));
+}
+
+#[test]
+fn sums_at_the_least_value(rt: HostRuntime) {
+    let (min, step) = (Fixed::MIN, Fixed::EPSILON);
+    assert!(rt; min.saturating_add(Fixed::NEG_ONE) == min && min.saturating_sub(Fixed::ONE) == min);
+    assert!(rt; min.checked_add(Fixed::ZERO) == Some(min) && min.checked_add(-step).is_none());
+    assert!(rt; Fixed::NEG_ONE < Fixed::ZERO && Fixed::NEG_ONE != Fixed::ONE);
 }

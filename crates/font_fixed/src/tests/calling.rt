@@ -1,6 +1,6 @@
 //! Callers of numbers, with contracts of their own and no proof file.
 
-ghost use Rattle.std.specs.Prelude.{◌≡◌, ◌≤◌, ◌<◌, Ok, IfOk, length};
+ghost use Rattle.std.specs.Prelude.{◌≡◌, ◌≢◌, ◌≤◌, ◌<◌, pos, ◌≤ℤ◌, Ok, IfOk, IfSome, length};
 ghost use Rattle.font_fixed.specs.Fixed.{fixed_bits, fixed_text};
 ghost use Rattle.font_decimal.specs.Padding.{padded_text, FillsFront};
 
@@ -33,9 +33,43 @@ fn put_together(a: Fixed) -> Fixed
 /// The number `t` of the way from `a` to `b`.
 #[tactic(auto, using(crate::proofs::FixedCalls::fixed_calls))]
 fn lerp(a: Fixed, b: Fixed, t: Fixed) -> Fixed
-    ensures { t ≡ Fixed.ZERO → result ≡ a }
+    ensures start { t ≡ Fixed.ZERO → result ≡ a }
+    ensures end { t ≡ Fixed.ONE → result ≡ b }
+    ensures same { a ≡ b → result ≡ a }
 {
     a + (b - a) * t
+}
+
+#[tactic(auto, using(crate::proofs::FixedCalls::fixed_calls))]
+fn over_itself(a: Fixed) -> Option<Fixed>
+    ensures { IfSome result (λ one. one ≡ Fixed.ONE) }
+{
+    if a == Fixed::ZERO {
+        return None;
+    }
+    Some(a / a)
+}
+
+/// How much of a whole a part is, from 0 to 1.
+#[tactic(auto, using(crate::proofs::FixedCalls::fixed_calls))]
+fn share(part: Fixed, whole: Fixed) -> Fixed
+    requires part { (pos 0 ≤ℤ fixed_bits part) × (fixed_bits part ≤ℤ fixed_bits whole) }
+    requires whole { whole ≢ Fixed.ZERO }
+    ensures low { pos 0 ≤ℤ fixed_bits result }
+    ensures high { fixed_bits result ≤ℤ pos 65536 }
+{
+    part / whole
+}
+
+/// The same, or `None` where it is no part.
+fn share_if_part(part: Fixed, whole: Fixed) -> Option<Fixed>
+    ensures low { IfSome result (λ share. pos 0 ≤ℤ fixed_bits share) }
+    ensures high { IfSome result (λ share. fixed_bits share ≤ℤ pos 65536) }
+{
+    if part < Fixed::ZERO || part > whole || whole == Fixed::ZERO {
+        return None;
+    }
+    Some(share(part, whole))
 }
 
 fn printed_and_read(alloc: Global, x: Fixed) -> Result<Result<Fixed, DecimalFault>, AllocError>
@@ -61,7 +95,18 @@ fn callers(rt: HostRuntime) -> Result<(), Fail> {
     assert!(rt; by_one(half) == half);
     assert!(rt; put_together(half) == half);
     assert!(rt; lerp(half, two, half) == Fixed::from_bits(0x1_4000));
+    assert!(rt; lerp(half, two, Fixed::ONE) == two && lerp(two, two, half) == two);
     assert!(rt; printed_and_read(rt.alloc(), half)? == Ok(half));
     assert!(rt; &cell(half, 6)[..8] == b"   0.5  ".as_slice());
     Ok(())
+}
+
+#[test]
+fn ratios(rt: HostRuntime) {
+    let (half, two) = (Fixed::from_bits(0x8000), Fixed::from_i32(2));
+    assert!(rt; over_itself(half) == Some(Fixed::ONE));
+    assert!(rt; over_itself(Fixed::ZERO).is_none());
+    assert!(rt; share_if_part(half, two) == Some(Fixed::from_bits(0x4000)));
+    assert!(rt; share_if_part(two, half).is_none() && share_if_part(Fixed::NEG_ONE, two).is_none());
+    assert!(rt; share_if_part(Fixed::ZERO, Fixed::ZERO).is_none());
 }

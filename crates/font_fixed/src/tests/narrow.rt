@@ -112,7 +112,10 @@ fn padded_without_room(rt: HostRuntime) {
 
 #[test]
 fn parts(rt: HostRuntime) {
-    assert!(rt; F2Dot14::from_bits(0x7000).round() == F2Dot14::MIN);
+    for (bits, rounded) in [(0x7000, -0x8000), (0x1F00, 0), (0x2000, 0x4000)] {
+        assert_eq!(rt; F2Dot14::from_bits(bits).round().to_bits(), rounded);
+    }
+    assert!(rt; F2Dot14::MIN.abs() == F2Dot14::MIN);
     let number = F2Dot14::from_bits(-0x6000);
     assert_eq!(rt; number.round().to_bits(), -0x4000);
     assert_eq!(rt; number.floor().to_bits(), -0x8000);
@@ -141,4 +144,26 @@ fn operators(rt: HostRuntime) {
     assert!(rt; F2Dot14::from_bits(-10139).to_be_bytes() == [0xD8, 0x65]);
     assert!(rt; F2Dot14::read(&[0xD8, 0x65]) == Some(F2Dot14::from_bits(-10139)));
     assert!(rt; BigEndian::from(F2Dot14::NEG_ONE) < BigEndian::from(F2Dot14::ZERO));
+}
+
+#[test]
+fn sums_at_the_least_value(rt: HostRuntime) {
+    let (min, step) = (F2Dot14::MIN, F2Dot14::EPSILON);
+    assert!(rt;
+        min.saturating_add(F2Dot14::NEG_ONE) == min && min.saturating_sub(F2Dot14::ONE) == min
+    );
+    assert!(rt; min.checked_add(F2Dot14::ZERO) == Some(min) && min.checked_add(-step).is_none());
+    assert!(rt; F2Dot14::NEG_ONE < F2Dot14::ZERO && F2Dot14::NEG_ONE != F2Dot14::ONE);
+}
+
+// No flag of a format is heard: `write_padded` has a rule of its own.
+#[test]
+fn without_flags(rt: HostRuntime) -> Result<(), Fail> {
+    for (bits, text) in [(0x2000, "0.5"), (-0x6000, "-1.5")] {
+        let number = F2Dot14::from_bits(bits);
+        let flagged = format!(in rt.alloc(); "{number:8}|{number:.0}|{number:+}|{number:?}")?;
+        let plain = format!(in rt.alloc(); "{text}|{text}|{text}|{text}")?;
+        assert_eq!(rt; flagged.as_str(), plain.as_str());
+    }
+    Ok(())
 }

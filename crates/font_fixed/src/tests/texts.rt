@@ -27,6 +27,16 @@ fn read(rt: HostRuntime) {
         ("-0.00000762939453125", -1),
         ("00012.50", 819200),
         ("-0.000", 0),
+        ("28672.00001525879", 0x7000_0001),
+        ("-0.000015259", -1),
+        ("0.05", 3277),
+        ("-0.05", -3277),
+        ("0.2", 13107),
+        ("-0.2", -13107),
+        ("0.4", 26214),
+        ("-0.4", -26214),
+        ("0.67755", 44404),
+        ("-0.67755", -44404),
         ("32767.99999", 0x7FFF_FFFF),
         ("32767.99999237060546874", 0x7FFF_FFFF),
         ("-32768.00000762939453124", -0x8000_0000),
@@ -35,13 +45,29 @@ fn read(rt: HostRuntime) {
     }
 }
 
+// Texts of thousands of digits, at both signs and around both ends.
 #[test]
 fn read_of_many_digits(rt: HostRuntime) -> Result<(), Fail> {
-    let mut text = String::from_str(rt.alloc(), "0.00000762939453124")?;
-    for _ in 0..3000 {
-        text.push_str("9")?;
+    for (head, digit, count, tail, read) in [
+        ("", '0', 5000, "12.5", Ok(819200)),
+        ("0.", '0', 5000, "1", Ok(0)),
+        ("-0.", '0', 5000, "1", Ok(0)),
+        ("1", '0', 4999, "", Err(DecimalFault::OutOfRange)),
+        ("", '9', 4999, "x", Err(DecimalFault::Syntax)),
+        ("32767.99999237060546874", '9', 3000, "", Ok(i32::MAX)),
+        ("-32768.00000762939453124", '9', 3000, "", Ok(i32::MIN)),
+        ("0.00000762939453124", '9', 3000, "", Ok(0)),
+    ] {
+        let mut text = String::from_str(rt.alloc(), head)?;
+        for _ in 0..count {
+            text.push(digit)?;
+        }
+        text.push_str(tail)?;
+        assert!(rt;
+            Fixed::from_decimal(text.as_str()).map(Fixed::to_bits) == read,
+            "{head}"
+        );
     }
-    assert!(rt; Fixed::from_decimal(text.as_str()) == Ok(Fixed::ZERO));
     Ok(())
 }
 
@@ -77,4 +103,16 @@ fn padded(rt: HostRuntime) {
     assert!(rt; Fixed::from_bits(0x1_8000).write_padded(&mut out, &pad) == Some(9));
     assert!(rt; &out == b"**+1.5***-");
     assert!(rt; Fixed::ONE.write_padded(&mut out[..8], &pad).is_none());
+}
+
+// No flag of a format is heard: `write_padded` has a rule of its own.
+#[test]
+fn without_flags(rt: HostRuntime) -> Result<(), Fail> {
+    for (bits, text) in [(0x8000, "0.5"), (-0x1_8000, "-1.5")] {
+        let number = Fixed::from_bits(bits);
+        let flagged = format!(in rt.alloc(); "{number:8}|{number:.0}|{number:+}|{number:?}")?;
+        let plain = format!(in rt.alloc(); "{text}|{text}|{text}|{text}")?;
+        assert_eq!(rt; flagged.as_str(), plain.as_str());
+    }
+    Ok(())
 }

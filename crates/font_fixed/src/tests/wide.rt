@@ -26,6 +26,10 @@ fn printed(rt: HostRuntime) -> Result<(), Fail> {
         (i64::MAX, "140737488355327.99998"),
         (i64::MIN + 1, "-140737488355327.99998"),
         (1 << 56, "1099511627776"),
+        (0x100_0000_0000_8000, "1099511627776.5"),
+        (-0x100_0000_0000_8000, "-1099511627776.5"),
+        (0x100_0000_0000_4000, "1099511627776.25"),
+        (-1 << 62, "-70368744177664"),
     ] {
         let number = F48Dot16::from_bits(bits);
         let both = format!(in rt.alloc(); "{number} {number:?}")?;
@@ -73,6 +77,7 @@ fn whole_numbers(rt: HostRuntime) {
         (0x1_8000, 0x2_0000, 2, 2),
         (i64::MAX, i64::MIN, -140737488355328, 0),
         (0x8000_0000_0000, 0x8000_0000_0000, 2147483648, i32::MIN),
+        (0x100_0000_0000_4000, 1 << 56, 1 << 40, 0),
     ] {
         let number = F48Dot16::from_bits(bits);
         assert_eq!(rt; number.round().to_bits(), rounded);
@@ -117,4 +122,26 @@ fn operators(rt: HostRuntime) {
     assert_eq!(rt; (-number).to_bits(), -5);
     assert!(rt; -F48Dot16::MIN == F48Dot16::MIN);
     assert!(rt; F48Dot16::NEG_ONE < F48Dot16::ZERO);
+}
+
+#[test]
+fn sums_at_the_least_value(rt: HostRuntime) {
+    let (min, step) = (F48Dot16::MIN, F48Dot16::EPSILON);
+    assert!(rt;
+        min.saturating_add(F48Dot16::NEG_ONE) == min && min.saturating_sub(F48Dot16::ONE) == min
+    );
+    assert!(rt; min.checked_add(F48Dot16::ZERO) == Some(min) && min.checked_add(-step).is_none());
+    assert!(rt; F48Dot16::NEG_ONE < F48Dot16::ZERO && F48Dot16::NEG_ONE != F48Dot16::ONE);
+}
+
+// No flag of a format is heard: `write_padded` has a rule of its own.
+#[test]
+fn without_flags(rt: HostRuntime) -> Result<(), Fail> {
+    for (bits, text) in [(0x8000, "0.5"), (-0x1_8000, "-1.5")] {
+        let number = F48Dot16::from_bits(bits);
+        let flagged = format!(in rt.alloc(); "{number:8}|{number:.0}|{number:+}|{number:?}")?;
+        let plain = format!(in rt.alloc(); "{text}|{text}|{text}|{text}")?;
+        assert_eq!(rt; flagged.as_str(), plain.as_str());
+    }
+    Ok(())
 }

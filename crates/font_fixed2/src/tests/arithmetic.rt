@@ -150,3 +150,33 @@ fn bytes_of_2_30(rt: HostRuntime) {
     assert!(rt; F2Dot30::read(&[0x40, 0x00]).is_none());
     assert!(rt; BigEndian::from(F2Dot30::NEG_ONE) < BigEndian::from(F2Dot30::ZERO));
 }
+
+#[test]
+fn sums_of_4_12_at_the_least_value(rt: HostRuntime) {
+    let (min, step) = (F4Dot12::MIN, F4Dot12::EPSILON);
+    assert!(rt;
+        min.saturating_add(F4Dot12::NEG_ONE) == min && min.saturating_sub(F4Dot12::ONE) == min
+    );
+    assert!(rt; min.checked_add(F4Dot12::ZERO) == Some(min) && min.checked_add(-step).is_none());
+    assert!(rt; F4Dot12::NEG_ONE < F4Dot12::ZERO && F4Dot12::NEG_ONE != F4Dot12::ONE);
+}
+
+#[test]
+fn sums_of_6_10_at_the_least_value(rt: HostRuntime) {
+    let (min, step) = (F6Dot10::MIN, F6Dot10::EPSILON);
+    assert!(rt;
+        min.saturating_add(F6Dot10::NEG_ONE) == min && min.saturating_sub(F6Dot10::ONE) == min
+    );
+    assert!(rt; min.checked_add(F6Dot10::ZERO) == Some(min) && min.checked_add(-step).is_none());
+    assert!(rt; F6Dot10::NEG_ONE < F6Dot10::ZERO && F6Dot10::NEG_ONE != F6Dot10::ONE);
+}
+
+#[test]
+fn sums_of_2_30_at_the_least_value(rt: HostRuntime) {
+    let (min, step) = (F2Dot30::MIN, F2Dot30::EPSILON);
+    assert!(rt;
+        min.saturating_add(F2Dot30::NEG_ONE) == min && min.saturating_sub(F2Dot30::ONE) == min
+    );
+    assert!(rt; min.checked_add(F2Dot30::ZERO) == Some(min) && min.checked_add(-step).is_none());
+    assert!(rt; F2Dot30::NEG_ONE < F2Dot30::ZERO && F2Dot30::NEG_ONE != F2Dot30::ONE);
+}

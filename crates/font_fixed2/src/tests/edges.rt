@@ -1,5 +1,5 @@
-//! Values of 2.30 next to its ends, to powers of two, and to powers of ten and their halves: printed and read back, and
-//! the half steps above them read as they should be.
+//! Values of 2.30 next to its ends, to powers of two, and to powers of ten and their halves:
+//! printed and read back, and the half steps above them read as they should be.
 
 use crate::F2Dot30;
 use std::alloc::{AllocError, Global};

@@ -129,3 +129,39 @@ fn padded(rt: HostRuntime) {
     assert!(rt; F2Dot30::from_bits(-7).write_padded(&mut cell, &zeros) == Some(13));
     assert!(rt; cell.starts_with(b"-0.0000000065-"));
 }
+
+// No flag of a format is heard: `write_padded` has a rule of its own.
+#[test]
+fn of_4_12_without_flags(rt: HostRuntime) -> Result<(), Fail> {
+    for (bits, text) in [(0x800, "0.5"), (-0x1800, "-1.5")] {
+        let number = F4Dot12::from_bits(bits);
+        let flagged = format!(in rt.alloc(); "{number:8}|{number:.0}|{number:+}|{number:?}")?;
+        let plain = format!(in rt.alloc(); "{text}|{text}|{text}|{text}")?;
+        assert_eq!(rt; flagged.as_str(), plain.as_str());
+    }
+    Ok(())
+}
+
+// No flag of a format is heard: `write_padded` has a rule of its own.
+#[test]
+fn of_6_10_without_flags(rt: HostRuntime) -> Result<(), Fail> {
+    for (bits, text) in [(0x200, "0.5"), (-0x600, "-1.5")] {
+        let number = F6Dot10::from_bits(bits);
+        let flagged = format!(in rt.alloc(); "{number:8}|{number:.0}|{number:+}|{number:?}")?;
+        let plain = format!(in rt.alloc(); "{text}|{text}|{text}|{text}")?;
+        assert_eq!(rt; flagged.as_str(), plain.as_str());
+    }
+    Ok(())
+}
+
+// No flag of a format is heard: `write_padded` has a rule of its own.
+#[test]
+fn of_2_30_without_flags(rt: HostRuntime) -> Result<(), Fail> {
+    for (bits, text) in [(0x2000_0000, "0.5"), (-0x6000_0000, "-1.5")] {
+        let number = F2Dot30::from_bits(bits);
+        let flagged = format!(in rt.alloc(); "{number:8}|{number:.0}|{number:+}|{number:?}")?;
+        let plain = format!(in rt.alloc(); "{text}|{text}|{text}|{text}")?;
+        assert_eq!(rt; flagged.as_str(), plain.as_str());
+    }
+    Ok(())
+}

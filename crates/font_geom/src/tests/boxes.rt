@@ -1,7 +1,8 @@
 //! Boxes of whole numbers.
 
 ghost use Rattle.std.specs.Prelude.{◌≡◌, ◌&&◌, nat_le};
-ghost use Rattle.font_geom.specs.BoundingBox.Laws.{is_tied, order_of, equality_laws, order_laws, coordinates_chain};
+ghost use Rattle.font_geom.specs.BoundingBox.Laws.{is_tied, order_of, equality_laws, order_laws};
+ghost use Rattle.font_geom.specs.BoundingBox.Laws.{coordinates_chain};
 
 use crate::BoundingBox;
 use std::cmp::Ordering;
@@ -24,6 +25,32 @@ fn turned_round_by_a_negative_factor(rt: HostRuntime) {
     assert!(rt; turned == sides(-10, -10, -20, -20));
     assert!(rt; !turned.is_normalized());
     assert!(rt; turned.normalize() == sides(-20, -20, -10, -10));
+}
+
+#[test]
+fn each_side_scaled(rt: HostRuntime) {
+    assert!(rt; sides(1, 2, 3, 4).scale(5) == sides(5, 10, 15, 20));
+    for (x_min, y_min, x_max, y_max, normalized) in [
+        (1, 2, 3, 4, true),
+        (1, 4, 3, 2, false),
+        (3, 2, 1, 4, false),
+        (3, 4, 1, 2, false),
+    ] {
+        assert!(rt; sides(x_min, y_min, x_max, y_max).is_normalized() == normalized);
+    }
+}
+
+#[test]
+fn unequal_in_one_side(rt: HostRuntime) {
+    let one = sides(1, 2, 3, 4);
+    for other in [
+        sides(0, 2, 3, 4),
+        sides(1, 0, 3, 4),
+        sides(1, 2, 0, 4),
+        sides(1, 2, 3, 0),
+    ] {
+        assert!(rt; one != other);
+    }
 }
 
 #[test]
@@ -61,7 +88,8 @@ impl Corner {
 impl PartialEq for Corner {
     ghost eq = { is_tied (λ a b. nat_le a.x b.x && nat_le a.y b.y) };
 
-    ghost laws = { equality_laws (λ a b. nat_le a.x b.x && nat_le a.y b.y) (λ a b c. coordinates_chain a.x b.x c.x a.y b.y c.y) };
+    ghost laws = { equality_laws (λ a b. nat_le a.x b.x && nat_le a.y b.y)
+        (λ a b c. coordinates_chain a.x b.x c.x a.y b.y c.y) };
 
     fn eq(&self, other: &Corner) -> bool {
         self.is_within(other) && other.is_within(self)
@@ -71,7 +99,8 @@ impl PartialEq for Corner {
 impl PartialOrd for Corner {
     ghost partial_cmp = { order_of (λ a b. nat_le a.x b.x && nat_le a.y b.y) };
 
-    ghost laws = { order_laws (λ a b. nat_le a.x b.x && nat_le a.y b.y) (λ a b c. coordinates_chain a.x b.x c.x a.y b.y c.y) };
+    ghost laws = { order_laws (λ a b. nat_le a.x b.x && nat_le a.y b.y)
+        (λ a b c. coordinates_chain a.x b.x c.x a.y b.y c.y) };
 
     fn partial_cmp(&self, other: &Corner) -> Option<Ordering> {
         match (self.is_within(other), other.is_within(self)) {

@@ -53,7 +53,8 @@ fn bound_composed(p: Point<Fixed>) -> i128 {
     affine(1 << 16, magnitude(p.x), 1 << 16, magnitude(p.y), 1 << 33)
 }
 
-/// What a coordinate of `a * (b * p)` may be off, times `2^32`, for the linear entries of its row of `a`.
+/// What a coordinate of `a * (b * p)` may be off, times `2^32`, for the linear entries of its row
+/// of `a`.
 fn bound_in_turn(u: Fixed, v: Fixed) -> i128 {
     affine(1 << 16, magnitude(u), 1 << 16, magnitude(v), 1 << 32)
 }

@@ -43,6 +43,16 @@ fn each_entry_in_its_place(rt: HostRuntime) {
 }
 
 #[test]
+fn unequal_in_one_element(rt: HostRuntime) {
+    let one = whole([1, 2, 3, 4, 5, 6]);
+    for place in 0..6usize {
+        let mut elements = [1, 2, 3, 4, 5, 6];
+        elements[place] = 0;
+        assert!(rt; one != whole(elements));
+    }
+}
+
+#[test]
 fn assigning(rt: HostRuntime) {
     let mut m = Matrix::default();
     assert!(rt; m == Matrix::identity());

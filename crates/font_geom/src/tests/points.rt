@@ -15,6 +15,12 @@ fn sums_and_products(rt: HostRuntime) {
 }
 
 #[test]
+fn unequal_in_one_coordinate(rt: HostRuntime) {
+    let one = Point::new(1, 2);
+    assert!(rt; one != Point::new(0, 2) && one != Point::new(1, 0) && one == Point::new(1, 2));
+}
+
+#[test]
 fn by_one_value(rt: HostRuntime) {
     assert!(rt; Point::new(1, 2) * 8 == Point::new(8, 16));
     assert!(rt; Point::new(9, 16) / 8 == Point::new(1, 2));

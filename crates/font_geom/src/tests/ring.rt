@@ -51,17 +51,25 @@ impl MatrixElement for Turn {
 }
 
 impl RingElement for Turn {
-    ghost plus = { λ x y. record { number = (x.number + y.number) % 2 ^ 32; below = mod-lt (x.number + y.number) (lit< tt) } };
+    ghost plus = { λ x y. record {
+      number = (x.number + y.number) % 2 ^ 32;
+      below = mod-lt (x.number + y.number) (lit< tt);
+    } };
 
-    ghost times = { λ x y. record { number = (x.number * y.number) % 2 ^ 32; below = mod-lt (x.number * y.number) (lit< tt) } };
+    ghost times = { λ x y. record {
+      number = (x.number * y.number) % 2 ^ 32;
+      below = mod-lt (x.number * y.number) (lit< tt);
+    } };
 
     ghost can_add_all = { λ _ _. tt };
 
     ghost can_multiply_all = { λ _ _. tt };
 
-    ghost sum_is = { λ x y sum is. same_made (λ k p. record { number = k; below = p }) sum.below (mod-lt (x.number + y.number) (lit< tt)) is };
+    ghost sum_is = { λ x y sum is. same_made (λ k p. record { number = k; below = p }) sum.below
+        (mod-lt (x.number + y.number) (lit< tt)) is };
 
-    ghost product_is = { λ x y product is. same_made (λ k p. record { number = k; below = p }) product.below (mod-lt (x.number * y.number) (lit< tt)) is };
+    ghost product_is = { λ x y product is. same_made (λ k p. record { number = k; below = p })
+        product.below (mod-lt (x.number * y.number) (lit< tt)) is };
 
     ghost ring = { modular_ring (record {
       below = λ x. x.below;

@@ -41,6 +41,7 @@ fn converted(rt: HostRuntime) {
         usize::from(GlyphId16::new(7)) + usize::from(GlyphId24::new(7)),
         14
     );
+    assert_eq!(rt; usize::from(GlyphId24::new(70000)), 70000);
     assert_eq!(rt; u32::from(GlyphId::new(4294967295)), 4294967295);
     assert_eq!(rt; GlyphId16::new(7).to_u16(), 7);
     assert_eq!(rt; GlyphId16::new(7).to_u32(), GlyphId::new(7).to_u32());
@@ -63,7 +64,10 @@ fn too_large(rt: HostRuntime) -> Result<(), Fail> {
         );
     }
     assert!(rt; GlyphId16::try_from(GlyphId::new(65536)).is_err());
-    assert!(rt; GlyphId24::try_from(GlyphId::new(16777216)).is_err());
+    let error = GlyphId24::try_from(GlyphId::new(16777216))
+        .err()
+        .ok_or("refused")?;
+    assert_eq!(rt; error.value(), 16777216);
     Ok(())
 }
 

@@ -2,6 +2,7 @@
 
 use crate::{InvalidTag, TTC_HEADER_TAG, Tag};
 use font_base::{BigEndian, FixedSize, Scalar};
+use std::alloc::{AllocError, Global};
 use std::collections::HashSet;
 use std::str::FromStr;
 use std::test::Fail;
@@ -131,6 +132,39 @@ fn texts_of_faults(rt: HostRuntime) -> Result<(), Fail> {
     ] {
         assert_eq!(rt; format!(in rt.alloc(); "{fault} {fault:?}")?.as_str(), text);
         assert!(rt; fault.clone()? == fault);
+    }
+    Ok(())
+}
+
+// No flag of a format is heard.
+#[test]
+fn printed_without_flags(rt: HostRuntime) -> Result<(), Fail> {
+    let tag = Tag::new(b"cvt ");
+    let text = format!(in rt.alloc(); "{tag:8}|{tag:>10}|{tag:.0}|{tag:?}")?;
+    assert_eq!(rt; text.as_str(), "cvt |cvt |cvt |Tag(cvt )");
+    Ok(())
+}
+
+/// What a byte of a tag is printed as.
+fn text_of_byte(alloc: Global, byte: u8) -> Result<String, AllocError> {
+    match byte {
+        0x20..=0x7E => format!(in alloc; "{}", char::from(byte)),
+        _ => format!(in alloc; "{{0x{byte:02X}}}"),
+    }
+}
+
+#[test]
+fn every_byte_printed_at_each_place(rt: HostRuntime) -> Result<(), Fail> {
+    for byte in 0..=255u8 {
+        let shown = text_of_byte(rt.alloc(), byte)?;
+        for place in 0..4usize {
+            let mut bytes = *b"abcd";
+            bytes[place] = byte;
+            let (front, back) = ("abcd".split_at(place).0, "abcd".split_at(place + 1).1);
+            let text = format!(in rt.alloc(); "{front}{shown}{back}")?;
+            let tag = format!(in rt.alloc(); "{}", Tag::new(&bytes))?;
+            assert_eq!(rt; tag.as_str(), text.as_str());
+        }
     }
     Ok(())
 }

@@ -2,7 +2,15 @@
 
 use crate::{Compatible, LongDateTime, MajorMinor, Version16Dot16};
 use font_base::{FixedSize, Scalar};
+use std::collections::HashSet;
+use std::hash::{DefaultHasher, Hash, Hasher};
 use std::test::Fail;
+
+fn hash_of<T: Hash>(value: &T) -> u64 {
+    let mut state = DefaultHasher::new();
+    value.hash(&mut state);
+    state.finish()
+}
 
 #[test]
 fn packed(rt: HostRuntime) {
@@ -26,6 +34,7 @@ fn bytes_of_packed(rt: HostRuntime) {
     assert!(rt; Version16Dot16::VERSION_2_5.to_be_bytes() == [0x00, 0x02, 0x50, 0x00]);
     assert!(rt; Version16Dot16::from_raw([0, 1, 0xF0, 0]).to_major_minor() == (1, 15));
     assert!(rt; Version16Dot16::read(&[0, 1, 0, 1]) != Some(Version16Dot16::VERSION_1_0));
+    assert!(rt; Version16Dot16::default().to_be_bytes() == [0; 4]);
     assert!(rt; Version16Dot16::default() < Version16Dot16::VERSION_0_5);
     assert_eq!(rt; Version16Dot16::RAW_BYTE_LEN, 4);
 }
@@ -69,14 +78,60 @@ fn bytes_of_pairs(rt: HostRuntime) {
 }
 
 #[test]
-fn compatible(rt: HostRuntime) {
-    let version = Version16Dot16::new(1, 9);
-    assert!(rt; version.compatible((1, 12)) && !version.compatible((2, 0)));
-    assert!(rt; version.compatible(Version16Dot16::VERSION_1_1));
-    assert!(rt; !Version16Dot16::VERSION_2_0.compatible(Version16Dot16::VERSION_2_5));
-    assert!(rt; !MajorMinor::new(1, 9).compatible((1, 12)));
-    assert!(rt; MajorMinor::VERSION_1_3.compatible(MajorMinor::VERSION_1_3));
-    assert!(rt; 3u16.compatible(2u16) && !2u16.compatible(3u16));
+fn packed_versions_compatible(rt: HostRuntime) {
+    for (major, minor, other, compatible) in [
+        (1, 9, (1, 9), true),
+        (1, 9, (1, 1), true),
+        (1, 9, (1, 12), true),
+        (1, 8, (1, 9), false),
+        (1, 9, (2, 0), false),
+        (2, 0, (1, 0), false),
+        (3, 0, (2, 0), false),
+    ] {
+        let version = Version16Dot16::new(major, minor);
+        assert!(rt; version.compatible(other) == compatible);
+        let packed = Version16Dot16::new(other.0, other.1);
+        assert!(rt; version.compatible(packed) == compatible);
+    }
+}
+
+#[test]
+fn pairs_compatible(rt: HostRuntime) {
+    for (major, minor, other, compatible) in [
+        (1, 3, (1, 3), true),
+        (1, 3, (1, 2), true),
+        (10, 65535, (10, 12), true),
+        (1, 9, (1, 12), false),
+        (1, 9, (2, 0), false),
+        (2, 0, (1, 0), false),
+        (2, 3, (1, 3), false),
+    ] {
+        let version = MajorMinor::new(major, minor);
+        assert!(rt; version.compatible(other) == compatible);
+        assert!(rt; version.compatible(MajorMinor::new(other.0, other.1)) == compatible);
+    }
+}
+
+#[test]
+fn minor_numbers_compatible(rt: HostRuntime) {
+    for (number, other, compatible) in [(3, 2, true), (3, 3, true), (2, 3, false), (0, 0, true)] {
+        assert!(rt; Compatible::<u16>::compatible(&number, other) == compatible);
+    }
+}
+
+#[test]
+fn hashed(rt: HostRuntime) -> Result<(), Fail> {
+    let mut pairs = HashSet::new(rt.alloc());
+    pairs.insert(MajorMinor::VERSION_1_0)?;
+    assert!(rt;
+        pairs.contains(&MajorMinor::new(1, 0)) && !pairs.contains(&MajorMinor::VERSION_1_1)
+    );
+    let mut packed = HashSet::new(rt.alloc());
+    packed.insert(Version16Dot16::VERSION_1_0)?;
+    assert!(rt; packed.contains(&Version16Dot16::new(1, 0)));
+    assert!(rt; !packed.contains(&Version16Dot16::VERSION_1_1));
+    assert!(rt; hash_of(&MajorMinor::VERSION_1_0) != hash_of(&MajorMinor::VERSION_1_1));
+    Ok(())
 }
 
 #[test]

@@ -9,10 +9,10 @@ use Rattle.font_base.specs.Wrap.Laws.{fits_bits-true}
 use Rattle.font_decimal.specs.Shortest.{shortest_text}
 use Rattle.font_decimal.proofs.Readings.{rounds_unique}
 use Rattle.font_arithmetic.specs.Operations.{ReadsAs, least, greatest}
-use Rattle.font_arithmetic.proofs.Group.{printed_reads}
+use Rattle.font_arithmetic.proofs.Texts.{printed_reads}
 use Rattle.font_types.specs.declared.json.JsonFault.{JsonFault}
 use Rattle.font_types.specs.declared.json.JsonFault.TheVariants.{Memory, WrongKind, OutOfRange, Syntax, NotUtf8, InvalidTag, MissingMember}
-use Rattle.font_types.specs.Json.{IsTextRead, IsDecimalRead, whole_number, IsTagMade, IsTagRead, TagComesBack, version_form, version_read}
+use Rattle.font_types.specs.Json.{IsNumber, is_within, ReadsNumber, is_unsigned, ReadsUnsigned, is_signed, ReadsSigned, IsTextRead, IsDecimalRead, whole_number, IsTagMade, IsTagRead, TagComesBack, version_form, version_read}
 use Rattle.std.specs.Cmp.{first_so, second_so}
 use Rattle.std.specs.Cmp.Derive.{both_true}
 use Rattle.std.proofs.lemmas.Bool.{ltb-true}
@@ -53,14 +53,13 @@ fixed_round_trip w f bits_of of_bits back room x d result value shown read =
 -- ---- whole numbers
 
 -- a number in the range is read as itself
-number_reads_back : (min max z : ℤ) → IsTrue (int_le min z && int_le z max) → whole_number min max (number (of_integer z)) ≡ Ok z
+number_reads_back : (min max z : ℤ) → IsTrue (is_within min max z) → whole_number min max (number (of_integer z)) ≡ Ok z
 number_reads_back min max (pos n) within = rw within refl
 number_reads_back min max (negsuc n) within = rw within refl
 
 -- a value whose number determines it
-pub number_round_trip : {T : Type 0} (number_of : T → ℤ) → ((x y : T) → number_of x ≡ number_of y → x ≡ y) → (min max : ℤ) (x : T) (d : Data) (result : Result T JsonFault)
-    → IsTrue (int_le min (number_of x) && int_le (number_of x) max) → d ≡ number (of_integer (number_of x))
-    → result_map_both number_of (λ fault. fault) result ≡ whole_number min max d → result ≡ Ok x
+number_round_trip : {T : Type 0} (number_of : T → ℤ) → ((x y : T) → number_of x ≡ number_of y → x ≡ y) → (min max : ℤ) (x : T) (d : Data) (result : Result T JsonFault)
+    → IsTrue (is_within min max (number_of x)) → IsNumber (number_of x) d → ReadsNumber min max number_of d result → result ≡ Ok x
 number_round_trip number_of same min max x d (Ok y) within shown read =
     let equal : result_map_both number_of (λ fault. fault) (Ok y) ≡ Ok (number_of x) = read ∙ rw shown (number_reads_back min max (number_of x) within) in
     let numbers : number_of y ≡ number_of x = cc in
@@ -69,12 +68,14 @@ number_round_trip number_of same min max x d (Err fault) within shown read =
     let equal : result_map_both number_of (λ fault. fault) (Err fault) ≡ Ok (number_of x) = read ∙ rw shown (number_reads_back min max (number_of x) within) in
     absurd (cc)
 
--- the same of a number that is not signed
-pub natural_round_trip : {T : Type 0} (number_of : T → ℕ) → ((x y : T) → number_of x ≡ number_of y → x ≡ y) → (max : ℕ) (x : T) (d : Data) (result : Result T JsonFault)
-    → IsTrue (int_le (pos 0) (pos (number_of x)) && int_le (pos (number_of x)) (pos max)) → d ≡ number (of_integer (pos (number_of x)))
-    → result_map_both (λ y. pos (number_of y)) (λ fault. fault) result ≡ whole_number (pos 0) (pos max) d → result ≡ Ok x
-natural_round_trip number_of same max =
-    number_round_trip (λ y. pos (number_of y)) (λ x y equal. let numbers : number_of x ≡ number_of y = cc in same x y numbers) (pos 0) (pos max)
+pub signed_round_trip : {T : Type 0} (w : ℕ) (number_of : T → ℤ) → ((x y : T) → number_of x ≡ number_of y → x ≡ y) → (x : T) (d : Data) (result : Result T JsonFault)
+    → IsTrue (is_signed w (number_of x)) → IsNumber (number_of x) d → ReadsSigned w number_of d result → result ≡ Ok x
+signed_round_trip w number_of same = number_round_trip number_of same (least w) (greatest w)
+
+pub unsigned_round_trip : {T : Type 0} (w : ℕ) (number_of : T → ℕ) → ((x y : T) → number_of x ≡ number_of y → x ≡ y) → (x : T) (d : Data) (result : Result T JsonFault)
+    → IsTrue (is_unsigned w (number_of x)) → IsNumber (pos (number_of x)) d → ReadsUnsigned w number_of d result → result ≡ Ok x
+unsigned_round_trip w number_of same =
+    number_round_trip (λ y. pos (number_of y)) (λ x y equal. let numbers : number_of x ≡ number_of y = cc in same x y numbers) (pos 0) (pos (2 ^ w - 1))
 
 -- ---- tags
 

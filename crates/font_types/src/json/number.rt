@@ -1,10 +1,7 @@
 //! Whole numbers as numbers. None is ever refused.
 
-ghost use Rattle.std.specs.Prelude.{◌≡◌, ◌&&◌, pos, neg_ℤ, int_le, Ok};
+ghost use Rattle.std.specs.Prelude.{pos, Ok};
 ghost use Rattle.std.proofs.Common.{ap};
-ghost use Rattle.std.specs.Result.{result_map_both};
-ghost use Rattle.serde_json.specs.Data.{number};
-ghost use Rattle.serde_json.specs.Find.{of_integer};
 ghost use Rattle.font_base.specs.Uint24.{uint24_number};
 ghost use Rattle.font_base.specs.Uint24.Laws.{same_uint24};
 ghost use Rattle.font_base.specs.Int24.{int24_number};
@@ -15,8 +12,8 @@ ghost use Rattle.font_ids.specs.FWord.{fword_number, fword_of, ufword_number, uf
 ghost use Rattle.font_ids.specs.GlyphId.{glyph16_number, glyph16_of, glyph24_number, glyph24_of, glyph_number};
 ghost use Rattle.font_ids.specs.NameId.{name_number, name_id_of};
 ghost use Rattle.font_ids.specs.Offset.{offset16_number, offset16_of, offset24_number, offset24_of, offset32_number, offset32_of};
-ghost use Rattle.font_types.specs.Json.{whole_number};
-ghost use Rattle.font_types.specs.Json.Laws.{number_round_trip, natural_round_trip};
+ghost use Rattle.font_types.specs.Json.{IsNumber, is_unsigned, ReadsUnsigned, is_signed, ReadsSigned};
+ghost use Rattle.font_types.specs.Json.Laws.{unsigned_round_trip, signed_round_trip};
 
 use super::{JsonFault, JsonScalar, natural, whole_number};
 use font_base::{Int24, Scalar, Uint24};
@@ -28,15 +25,15 @@ use serde_json::Value;
 use std::alloc::Global;
 
 impl JsonScalar for Uint24 {
-    ghost is_value = { λ x. int_le (pos 0) (pos (uint24_number x)) && int_le (pos (uint24_number x)) (pos 16777215) };
+    ghost is_value = { λ x. is_unsigned 24 (uint24_number x) };
 
-    ghost shows = { λ x d. d ≡ number (of_integer (pos (uint24_number x))) };
+    ghost shows = { λ x d. IsNumber (pos (uint24_number x)) d };
 
     ghost refuses = { λ _ _. ⊥ };
 
-    ghost reads = { λ d result. result_map_both (λ x. pos (uint24_number x)) (λ fault. fault) result ≡ whole_number (pos 0) (pos 16777215) d };
+    ghost reads = { λ d result. ReadsUnsigned 24 uint24_number d result };
 
-    ghost round_trip = { natural_round_trip uint24_number same_uint24 16777215 };
+    ghost round_trip = { unsigned_round_trip 24 uint24_number same_uint24 };
 
     fn to_json(self, _alloc: Global) -> Result<Value, JsonFault> {
         Ok(Value::from(self.to_u32()))
@@ -48,15 +45,15 @@ impl JsonScalar for Uint24 {
 }
 
 impl JsonScalar for Int24 {
-    ghost is_value = { λ x. int_le (neg_ℤ (pos 8388608)) (int24_number x) && int_le (int24_number x) (pos 8388607) };
+    ghost is_value = { λ x. is_signed 24 (int24_number x) };
 
-    ghost shows = { λ x d. d ≡ number (of_integer (int24_number x)) };
+    ghost shows = { λ x d. IsNumber (int24_number x) d };
 
     ghost refuses = { λ _ _. ⊥ };
 
-    ghost reads = { λ d result. result_map_both int24_number (λ fault. fault) result ≡ whole_number (neg_ℤ (pos 8388608)) (pos 8388607) d };
+    ghost reads = { λ d result. ReadsSigned 24 int24_number d result };
 
-    ghost round_trip = { number_round_trip int24_number same_int24 (neg_ℤ (pos 8388608)) (pos 8388607) };
+    ghost round_trip = { signed_round_trip 24 int24_number same_int24 };
 
     fn to_json(self, _alloc: Global) -> Result<Value, JsonFault> {
         Ok(Value::from(self.to_i32()))
@@ -68,15 +65,15 @@ impl JsonScalar for Int24 {
 }
 
 impl JsonScalar for FWord {
-    ghost is_value = { λ x. int_le (neg_ℤ (pos 32768)) (fword_number x) && int_le (fword_number x) (pos 32767) };
+    ghost is_value = { λ x. is_signed 16 (fword_number x) };
 
-    ghost shows = { λ x d. d ≡ number (of_integer (fword_number x)) };
+    ghost shows = { λ x d. IsNumber (fword_number x) d };
 
     ghost refuses = { λ _ _. ⊥ };
 
-    ghost reads = { λ d result. result_map_both fword_number (λ fault. fault) result ≡ whole_number (neg_ℤ (pos 32768)) (pos 32767) d };
+    ghost reads = { λ d result. ReadsSigned 16 fword_number d result };
 
-    ghost round_trip = { number_round_trip fword_number (λ _ _ same. ap fword_of same) (neg_ℤ (pos 32768)) (pos 32767) };
+    ghost round_trip = { signed_round_trip 16 fword_number (λ _ _ same. ap fword_of same) };
 
     fn to_json(self, _alloc: Global) -> Result<Value, JsonFault> {
         Ok(Value::from(self.to_i16()))
@@ -88,15 +85,15 @@ impl JsonScalar for FWord {
 }
 
 impl JsonScalar for UfWord {
-    ghost is_value = { λ x. int_le (pos 0) (pos (ufword_number x)) && int_le (pos (ufword_number x)) (pos 65535) };
+    ghost is_value = { λ x. is_unsigned 16 (ufword_number x) };
 
-    ghost shows = { λ x d. d ≡ number (of_integer (pos (ufword_number x))) };
+    ghost shows = { λ x d. IsNumber (pos (ufword_number x)) d };
 
     ghost refuses = { λ _ _. ⊥ };
 
-    ghost reads = { λ d result. result_map_both (λ x. pos (ufword_number x)) (λ fault. fault) result ≡ whole_number (pos 0) (pos 65535) d };
+    ghost reads = { λ d result. ReadsUnsigned 16 ufword_number d result };
 
-    ghost round_trip = { natural_round_trip ufword_number (λ _ _ same. ap ufword_of same) 65535 };
+    ghost round_trip = { unsigned_round_trip 16 ufword_number (λ _ _ same. ap ufword_of same) };
 
     fn to_json(self, _alloc: Global) -> Result<Value, JsonFault> {
         Ok(Value::from(self.to_u16()))
@@ -108,15 +105,15 @@ impl JsonScalar for UfWord {
 }
 
 impl JsonScalar for GlyphId16 {
-    ghost is_value = { λ x. int_le (pos 0) (pos (glyph16_number x)) && int_le (pos (glyph16_number x)) (pos 65535) };
+    ghost is_value = { λ x. is_unsigned 16 (glyph16_number x) };
 
-    ghost shows = { λ x d. d ≡ number (of_integer (pos (glyph16_number x))) };
+    ghost shows = { λ x d. IsNumber (pos (glyph16_number x)) d };
 
     ghost refuses = { λ _ _. ⊥ };
 
-    ghost reads = { λ d result. result_map_both (λ x. pos (glyph16_number x)) (λ fault. fault) result ≡ whole_number (pos 0) (pos 65535) d };
+    ghost reads = { λ d result. ReadsUnsigned 16 glyph16_number d result };
 
-    ghost round_trip = { natural_round_trip glyph16_number (λ _ _ same. ap glyph16_of same) 65535 };
+    ghost round_trip = { unsigned_round_trip 16 glyph16_number (λ _ _ same. ap glyph16_of same) };
 
     fn to_json(self, _alloc: Global) -> Result<Value, JsonFault> {
         Ok(Value::from(self.to_u16()))
@@ -128,15 +125,15 @@ impl JsonScalar for GlyphId16 {
 }
 
 impl JsonScalar for GlyphId24 {
-    ghost is_value = { λ x. int_le (pos 0) (pos (glyph24_number x)) && int_le (pos (glyph24_number x)) (pos 16777215) };
+    ghost is_value = { λ x. is_unsigned 24 (glyph24_number x) };
 
-    ghost shows = { λ x d. d ≡ number (of_integer (pos (glyph24_number x))) };
+    ghost shows = { λ x d. IsNumber (pos (glyph24_number x)) d };
 
     ghost refuses = { λ _ _. ⊥ };
 
-    ghost reads = { λ d result. result_map_both (λ x. pos (glyph24_number x)) (λ fault. fault) result ≡ whole_number (pos 0) (pos 16777215) d };
+    ghost reads = { λ d result. ReadsUnsigned 24 glyph24_number d result };
 
-    ghost round_trip = { natural_round_trip glyph24_number (λ x y same. ap glyph24_of (same_uint24 x.0 y.0 same)) 16777215 };
+    ghost round_trip = { unsigned_round_trip 24 glyph24_number (λ x y same. ap glyph24_of (same_uint24 x.0 y.0 same)) };
 
     fn to_json(self, _alloc: Global) -> Result<Value, JsonFault> {
         Ok(Value::from(self.to_u32()))
@@ -148,15 +145,15 @@ impl JsonScalar for GlyphId24 {
 }
 
 impl JsonScalar for GlyphId {
-    ghost is_value = { λ x. int_le (pos 0) (pos (glyph_number x)) && int_le (pos (glyph_number x)) (pos 4294967295) };
+    ghost is_value = { λ x. is_unsigned 32 (glyph_number x) };
 
-    ghost shows = { λ x d. d ≡ number (of_integer (pos (glyph_number x))) };
+    ghost shows = { λ x d. IsNumber (pos (glyph_number x)) d };
 
     ghost refuses = { λ _ _. ⊥ };
 
-    ghost reads = { λ d result. result_map_both (λ x. pos (glyph_number x)) (λ fault. fault) result ≡ whole_number (pos 0) (pos 4294967295) d };
+    ghost reads = { λ d result. ReadsUnsigned 32 glyph_number d result };
 
-    ghost round_trip = { natural_round_trip glyph_number (λ _ _ same. ap (λ n. record { 0 = n }) same) 4294967295 };
+    ghost round_trip = { unsigned_round_trip 32 glyph_number (λ _ _ same. ap (λ n. record { 0 = n }) same) };
 
     fn to_json(self, _alloc: Global) -> Result<Value, JsonFault> {
         Ok(Value::from(self.to_u32()))
@@ -168,15 +165,15 @@ impl JsonScalar for GlyphId {
 }
 
 impl JsonScalar for LongDateTime {
-    ghost is_value = { λ x. int_le (neg_ℤ (pos 9223372036854775808)) (date_seconds x) && int_le (date_seconds x) (pos 9223372036854775807) };
+    ghost is_value = { λ x. is_signed 64 (date_seconds x) };
 
-    ghost shows = { λ x d. d ≡ number (of_integer (date_seconds x)) };
+    ghost shows = { λ x d. IsNumber (date_seconds x) d };
 
     ghost refuses = { λ _ _. ⊥ };
 
-    ghost reads = { λ d result. result_map_both date_seconds (λ fault. fault) result ≡ whole_number (neg_ℤ (pos 9223372036854775808)) (pos 9223372036854775807) d };
+    ghost reads = { λ d result. ReadsSigned 64 date_seconds d result };
 
-    ghost round_trip = { number_round_trip date_seconds (λ _ _ same. ap date_of same) (neg_ℤ (pos 9223372036854775808)) (pos 9223372036854775807) };
+    ghost round_trip = { signed_round_trip 64 date_seconds (λ _ _ same. ap date_of same) };
 
     fn to_json(self, _alloc: Global) -> Result<Value, JsonFault> {
         Ok(Value::from(self.as_secs()))
@@ -188,15 +185,15 @@ impl JsonScalar for LongDateTime {
 }
 
 impl JsonScalar for NameId {
-    ghost is_value = { λ x. int_le (pos 0) (pos (name_number x)) && int_le (pos (name_number x)) (pos 65535) };
+    ghost is_value = { λ x. is_unsigned 16 (name_number x) };
 
-    ghost shows = { λ x d. d ≡ number (of_integer (pos (name_number x))) };
+    ghost shows = { λ x d. IsNumber (pos (name_number x)) d };
 
     ghost refuses = { λ _ _. ⊥ };
 
-    ghost reads = { λ d result. result_map_both (λ x. pos (name_number x)) (λ fault. fault) result ≡ whole_number (pos 0) (pos 65535) d };
+    ghost reads = { λ d result. ReadsUnsigned 16 name_number d result };
 
-    ghost round_trip = { natural_round_trip name_number (λ _ _ same. ap name_id_of same) 65535 };
+    ghost round_trip = { unsigned_round_trip 16 name_number (λ _ _ same. ap name_id_of same) };
 
     fn to_json(self, _alloc: Global) -> Result<Value, JsonFault> {
         Ok(Value::from(self.to_u16()))
@@ -208,15 +205,15 @@ impl JsonScalar for NameId {
 }
 
 impl JsonScalar for Offset16 {
-    ghost is_value = { λ x. int_le (pos 0) (pos (offset16_number x)) && int_le (pos (offset16_number x)) (pos 65535) };
+    ghost is_value = { λ x. is_unsigned 16 (offset16_number x) };
 
-    ghost shows = { λ x d. d ≡ number (of_integer (pos (offset16_number x))) };
+    ghost shows = { λ x d. IsNumber (pos (offset16_number x)) d };
 
     ghost refuses = { λ _ _. ⊥ };
 
-    ghost reads = { λ d result. result_map_both (λ x. pos (offset16_number x)) (λ fault. fault) result ≡ whole_number (pos 0) (pos 65535) d };
+    ghost reads = { λ d result. ReadsUnsigned 16 offset16_number d result };
 
-    ghost round_trip = { natural_round_trip offset16_number (λ _ _ same. ap offset16_of same) 65535 };
+    ghost round_trip = { unsigned_round_trip 16 offset16_number (λ _ _ same. ap offset16_of same) };
 
     fn to_json(self, _alloc: Global) -> Result<Value, JsonFault> {
         Ok(Value::from(self.to_u32()))
@@ -228,15 +225,15 @@ impl JsonScalar for Offset16 {
 }
 
 impl JsonScalar for Offset24 {
-    ghost is_value = { λ x. int_le (pos 0) (pos (offset24_number x)) && int_le (pos (offset24_number x)) (pos 16777215) };
+    ghost is_value = { λ x. is_unsigned 24 (offset24_number x) };
 
-    ghost shows = { λ x d. d ≡ number (of_integer (pos (offset24_number x))) };
+    ghost shows = { λ x d. IsNumber (pos (offset24_number x)) d };
 
     ghost refuses = { λ _ _. ⊥ };
 
-    ghost reads = { λ d result. result_map_both (λ x. pos (offset24_number x)) (λ fault. fault) result ≡ whole_number (pos 0) (pos 16777215) d };
+    ghost reads = { λ d result. ReadsUnsigned 24 offset24_number d result };
 
-    ghost round_trip = { natural_round_trip offset24_number (λ x y same. ap offset24_of (same_uint24 x.0 y.0 same)) 16777215 };
+    ghost round_trip = { unsigned_round_trip 24 offset24_number (λ x y same. ap offset24_of (same_uint24 x.0 y.0 same)) };
 
     fn to_json(self, _alloc: Global) -> Result<Value, JsonFault> {
         Ok(Value::from(self.to_u32()))
@@ -248,15 +245,15 @@ impl JsonScalar for Offset24 {
 }
 
 impl JsonScalar for Offset32 {
-    ghost is_value = { λ x. int_le (pos 0) (pos (offset32_number x)) && int_le (pos (offset32_number x)) (pos 4294967295) };
+    ghost is_value = { λ x. is_unsigned 32 (offset32_number x) };
 
-    ghost shows = { λ x d. d ≡ number (of_integer (pos (offset32_number x))) };
+    ghost shows = { λ x d. IsNumber (pos (offset32_number x)) d };
 
     ghost refuses = { λ _ _. ⊥ };
 
-    ghost reads = { λ d result. result_map_both (λ x. pos (offset32_number x)) (λ fault. fault) result ≡ whole_number (pos 0) (pos 4294967295) d };
+    ghost reads = { λ d result. ReadsUnsigned 32 offset32_number d result };
 
-    ghost round_trip = { natural_round_trip offset32_number (λ _ _ same. ap offset32_of same) 4294967295 };
+    ghost round_trip = { unsigned_round_trip 32 offset32_number (λ _ _ same. ap offset32_of same) };
 
     fn to_json(self, _alloc: Global) -> Result<Value, JsonFault> {
         Ok(Value::from(self.to_u32()))
@@ -269,15 +266,15 @@ impl JsonScalar for Offset32 {
 
 #[tactic(auto, using(crate::proofs::JsonLemmas::four_bytes))]
 impl JsonScalar for Version16Dot16 {
-    ghost is_value = { λ x. int_le (pos 0) (pos (version_bits x)) && int_le (pos (version_bits x)) (pos 4294967295) };
+    ghost is_value = { λ x. is_unsigned 32 (version_bits x) };
 
-    ghost shows = { λ x d. d ≡ number (of_integer (pos (version_bits x))) };
+    ghost shows = { λ x d. IsNumber (pos (version_bits x)) d };
 
     ghost refuses = { λ _ _. ⊥ };
 
-    ghost reads = { λ d result. result_map_both (λ x. pos (version_bits x)) (λ fault. fault) result ≡ whole_number (pos 0) (pos 4294967295) d };
+    ghost reads = { λ d result. ReadsUnsigned 32 version_bits d result };
 
-    ghost round_trip = { natural_round_trip version_bits (λ _ _ same. ap version_of same) 4294967295 };
+    ghost round_trip = { unsigned_round_trip 32 version_bits (λ _ _ same. ap version_of same) };
 
     fn to_json(self, _alloc: Global) -> Result<Value, JsonFault> {
         Ok(Value::from(u32::from_raw(self.to_raw())))

@@ -3,7 +3,7 @@ use Rattle.std.specs.Int.{w32}
 use Rattle.font_base.specs.Wrap.{FitsBits}
 use Rattle.font_base.proofs.Widths.{signed_fits}
 use Rattle.font_geom.specs.FixedMatrix.{matrix_bits}
-use Rattle.font_geom.proofs.Identity.{FitsEach}
+use Rattle.font_geom.specs.Matrix.{FitsEach}
 use Rattle.font_geom.proofs.FixedCalls.{left_identity, right_identity}
 use Rattle.font_geom.proofs.laws.fixed_identity.Goals as goal
 

@@ -1,6 +1,6 @@
 use Rattle.std.proofs.Common.{◌≡◌, ℕ, ◌≤◌, ◌+◌, List, [], ◌++◌, length, arith, length-append, sym, ap, ◌∙◌, subst, w64, FitsSigned, to_z-of_z}
 use Rattle.font_decimal.specs.Shown.{shown}
-use Rattle.font_decimal.specs.Grammar.{point_text}
+use Rattle.font_decimal.specs.Grammar.{fraction_text}
 use Rattle.font_decimal.specs.Shortest.{IsShortest, shortest_text, last_digits}
 use Rattle.font_decimal.proofs.Written.{is_shortest, text_is, places_room, digits_room, point_length}
 use Rattle.font_decimal.proofs.shortest.Shortest.new.Goals as goal
@@ -12,9 +12,9 @@ push_fraction-requires c =
     c.unsigned_abs.ensures.value c.unsigned_abs.ensures.bound made.ensures.places made.ensures.numeral made.ensures.below in
     rw c.empty-text.ensures (omega arith)
 
-fraction_length : (p n : ℕ) (text old : List ℕ) → old ≡ [] → text ≡ point_text (last_digits p n) ++ old → length text ≤ p + 1
+fraction_length : (p n : ℕ) (text old : List ℕ) → old ≡ [] → text ≡ fraction_text (last_digits p n) ++ old → length text ≤ p + 1
 fraction_length p n text old empty e =
-    omega (arith, ap length e, length-append (point_text (last_digits p n)) old, ap length empty, point_length p n)
+    omega (arith, ap length e, length-append (fraction_text (last_digits p n)) old, ap length empty, point_length p n)
 
 pub push_whole-requires : goal.push_whole-requires
 push_whole-requires c =

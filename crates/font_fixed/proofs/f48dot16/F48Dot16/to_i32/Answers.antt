@@ -1,6 +1,6 @@
 use Rattle.std.proofs.Common.{rules, lit<, lit≤, refl}
 use Rattle.std.specs.Int.{w32, w64}
-use Rattle.font_arithmetic.proofs.Rounding.{narrowed_low_bits}
+use Rattle.font_arithmetic.proofs.Narrowing.{narrowed_low_bits}
 use Rattle.font_fixed.proofs.f48dot16.F48Dot16.to_i32.Goals as goal
 
 pub returns : goal.returns

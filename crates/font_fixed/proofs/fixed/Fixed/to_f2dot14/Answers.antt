@@ -1,6 +1,6 @@
 use Rattle.std.proofs.Common.{rules, lit<, lit≤}
 use Rattle.std.specs.Int.{w16, w32}
-use Rattle.font_arithmetic.proofs.Rounding.{narrowed_low_bits}
+use Rattle.font_arithmetic.proofs.Narrowing.{narrowed_low_bits}
 use Rattle.font_fixed.proofs.fixed.Fixed.to_f2dot14.Goals as goal
 
 pub returns : goal.returns

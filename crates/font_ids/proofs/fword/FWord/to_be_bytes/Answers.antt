@@ -1,5 +1,5 @@
 use Rattle.std.proofs.Common.{rules}
-use Rattle.font_tags.proofs.Written.{bytes_of_are}
+use Rattle.font_base.specs.Bytes.Laws.{bytes_of_are}
 use Rattle.font_ids.proofs.fword.FWord.to_be_bytes.Goals as goal
 
 pub returns : goal.returns

@@ -1,0 +1,42 @@
+//! Random numbers that depend on the seed and on the number of the input alone, so that every run
+//! of a seed is the same.
+
+/// The generator `splitmix64` (Steele, Lea and Flood, "Fast splittable pseudorandom number
+/// generators", 2014).
+pub struct Random {
+    state: u64,
+}
+
+impl Random {
+    pub fn of_input(seed: u64, index: u64) -> Self {
+        let mut random = Self { state: seed };
+        random.state = random.next() ^ index;
+        random.state = random.next();
+        random
+    }
+
+    pub fn next(&mut self) -> u64 {
+        self.state = self.state.wrapping_add(0x9E37_79B9_7F4A_7C15);
+        let mut z = self.state;
+        z = (z ^ (z >> 30)).wrapping_mul(0xBF58_476D_1CE4_E5B9);
+        z = (z ^ (z >> 27)).wrapping_mul(0x94D0_49BB_1331_11EB);
+        z ^ (z >> 31)
+    }
+
+    /// A number below `n`.
+    pub fn below(&mut self, n: u64) -> u64 {
+        self.next() % n
+    }
+
+    /// A number of up to 32 bits, of any length with the same chance.
+    pub fn bits_32(&mut self) -> i32 {
+        let shift = self.below(32) as u32;
+        (self.next() as i32) >> shift
+    }
+
+    /// The same of up to 64 bits.
+    pub fn bits_64(&mut self) -> i64 {
+        let shift = self.below(64) as u32;
+        (self.next() as i64) >> shift
+    }
+}

@@ -1,0 +1,92 @@
+//! Numbered inputs, shared out among threads.
+
+use crate::tally::Tally;
+use std::ops::Range;
+use std::sync::atomic::{AtomicU64, Ordering};
+use std::sync::mpsc::{self, RecvTimeoutError};
+use std::thread;
+use std::time::{Duration, Instant};
+
+const CHUNK: u64 = 1 << 18;
+const BETWEEN_LINES: Duration = Duration::from_secs(10);
+
+/// How the work is done.
+pub struct Work {
+    pub threads: usize,
+    pub seed: u64,
+    /// How many random inputs, where that was said.
+    pub random: Option<u64>,
+    /// How many comparisons differed.
+    pub different: u64,
+}
+
+impl Work {
+    /// Goes over the inputs 0 to `count - 1`, with a line on standard error every ten seconds, and
+    /// prints the counts.
+    pub fn go_over<const N: usize>(
+        &mut self,
+        title: &str,
+        names: [&'static str; N],
+        count: u64,
+        compare: impl Fn(u64, &mut Tally<N>) + Sync,
+    ) {
+        let start = Instant::now();
+        let chunks = Chunks::new(count);
+        let mut total = Tally::new(names);
+        thread::scope(|scope| {
+            let (sender, receiver) = mpsc::channel();
+            for _ in 0..self.threads {
+                let (sender, chunks, compare) = (sender.clone(), &chunks, &compare);
+                scope.spawn(move || {
+                    let mut tally = Tally::new(names);
+                    while let Some(chunk) = chunks.next() {
+                        chunk.for_each(|index| compare(index, &mut tally));
+                    }
+                    // The receiver is there until every sender is gone.
+                    let _ = sender.send(tally);
+                });
+            }
+            drop(sender);
+            loop {
+                match receiver.recv_timeout(BETWEEN_LINES) {
+                    Ok(tally) => total.add(tally),
+                    Err(RecvTimeoutError::Timeout) => {
+                        eprintln!("{title}: {} of {count}", chunks.handed_out());
+                    }
+                    Err(RecvTimeoutError::Disconnected) => break,
+                }
+            }
+        });
+        self.different += total.different();
+        println!("{title}: {count} inputs, {:.0?}", start.elapsed());
+        print!("{total}");
+    }
+
+    /// How many random inputs to take, where nothing else was said.
+    pub fn random_or(&self, usual: u64) -> u64 {
+        self.random.unwrap_or(usual)
+    }
+}
+
+struct Chunks {
+    next: AtomicU64,
+    count: u64,
+}
+
+impl Chunks {
+    fn new(count: u64) -> Self {
+        Self {
+            next: AtomicU64::new(0),
+            count,
+        }
+    }
+
+    fn next(&self) -> Option<Range<u64>> {
+        let start = self.next.fetch_add(CHUNK, Ordering::Relaxed);
+        (start < self.count).then(|| start..self.count.min(start + CHUNK))
+    }
+
+    fn handed_out(&self) -> u64 {
+        self.next.load(Ordering::Relaxed).min(self.count)
+    }
+}

@@ -1,0 +1,86 @@
+//! Products and quotients of fixed-point numbers of 32 bits, over their bits.
+#![tactic(auto, using(crate::proofs::Width32::code_32, crate::proofs::Quotients::signed_code))]
+
+ghost use Rattle.std.specs.Prelude.{◌≡◌, ◌-◌, ◌^◌, ◌<◌, ◌≤◌, unsigned_abs};
+ghost use Rattle.std.specs.Int.{is_negative};
+ghost use Rattle.font_base.specs.Wrap.{wrap};
+ghost use Rattle.font_decimal.specs.Near.{signed, near, near_magnitude};
+ghost use Rattle.font_arithmetic.specs.Operations.{differ_in_sign, IsProduct, IsMulDiv};
+
+/// The product of two numbers with `f` bits of fraction, rounded to the nearest step, ties away
+/// from zero, and wrapped.
+pub fn product(x: i32, y: i32, f: u32) -> i32
+    requires { (6 ≤ f) × (f ≤ 30) }
+    ensures { IsProduct 32 f x y result }
+{
+    low_bits(nearest_steps(i64::from(x) * i64::from(y), f))
+}
+
+/// `x * a / c`, rounded once to the nearest whole number, ties away from zero, and wrapped.
+///
+/// Where `c` is zero it is the greatest number of 32 bits, negated where just one of `x` and `a` is
+/// negative.
+pub fn mul_div(x: i32, a: i32, c: i32) -> i32
+    ensures { IsMulDiv 32 x a c result }
+{
+    let product = magnitude(x) * magnitude(a);
+    let negative = differs_in_sign(x, a) != c.is_negative();
+    with_sign(negative, rounded_quotient(product, magnitude(c)))
+}
+
+/// The last 32 bits of a number, as a signed one.
+pub fn low_bits(n: i64) -> i32
+    ensures { result ≡ wrap 32 n }
+{
+    (n.rem_euclid(1 << 32) as u32).cast_signed()
+}
+
+// `n / 2^f` rounded to the nearest whole number, ties away from zero.
+fn nearest_steps(n: i64, f: u32) -> i64
+    requires fraction { (6 ≤ f) × (f ≤ 30) }
+    requires room { unsigned_abs n ≤ 2 ^ 62 }
+    ensures { result ≡ near n (2 ^ f) }
+{
+    let half = 1 << (f - 1);
+    if n < 0 {
+        (n + (half - 1)) >> f
+    } else {
+        (n + half) >> f
+    }
+}
+
+// `n / d` rounded to the nearest whole number, ties away from zero; where `d` is zero, the greatest
+// of 32 bits.
+fn rounded_quotient(n: u64, d: u64) -> u64
+    requires { (n ≤ 2 ^ 62) × (d ≤ 2 ^ 31) }
+    ensures quotient { 0 < d → result ≡ near_magnitude n d }
+    ensures zero { d ≡ 0 → result ≡ 2 ^ 31 - 1 }
+{
+    if d == 0 { 0x7FFF_FFFF } else { (n + d / 2) / d }
+}
+
+// The number with this magnitude, negated where asked, and wrapped.
+fn with_sign(negative: bool, magnitude: u64) -> i32
+    ensures { result ≡ wrap 32 (signed negative magnitude) }
+{
+    let number = ((magnitude % (1 << 32)) as u32).cast_signed();
+    if negative {
+        number.wrapping_neg()
+    } else {
+        number
+    }
+}
+
+fn differs_in_sign(x: i32, y: i32) -> bool
+    ensures { result ≡ differ_in_sign x y }
+{
+    x.is_negative() != y.is_negative()
+}
+
+// The number without its sign.
+fn magnitude(x: i32) -> u64
+    ensures value { result ≡ unsigned_abs x }
+    ensures bound { result ≤ 2 ^ 31 }
+{
+    u64::from(x.unsigned_abs())
+}

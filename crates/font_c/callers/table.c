@@ -1,0 +1,293 @@
+/*
+ * Makes the calls of a table of values, and counts the answers that are those
+ * of the table. Its last line is "N passed, M failed". It is C and C++.
+ */
+#include "font_types.h"
+
+#include <inttypes.h>
+#include <stdio.h>
+#include <stdlib.h>
+#include <string.h>
+
+enum { MOST_WORDS = 32, LINE = 512, ROOM = 64 };
+
+/* The words of a line. */
+typedef struct words {
+    int count;
+    const char *word[MOST_WORDS];
+} words;
+
+static words split(char *text) {
+    words line = {0, {NULL}};
+    char *word = strtok(text, " \n");
+    while (word != NULL && line.count < MOST_WORDS) {
+        line.word[line.count++] = word;
+        word = strtok(NULL, " \n");
+    }
+    return line;
+}
+
+static int64_t number(const words *line, int at) {
+    return strtoll(line->word[at], NULL, 10);
+}
+
+/* ---- the seven types of numbers, as if all had 64 bits ---- */
+
+typedef struct number_type {
+    const char *name;
+    uint32_t (*from_decimal)(const char *text, size_t length, int64_t *bits);
+    size_t (*to_decimal)(int64_t bits, char *out, size_t room);
+    size_t (*write_padded)(int64_t bits, const font_pad *pad, char *out, size_t room);
+    int64_t (*round)(int64_t bits);
+    int64_t (*floor)(int64_t bits);
+} number_type;
+
+#define WIDENED(NAME, BITS)                                                                    \
+    static uint32_t NAME##_from_decimal(const char *text, size_t length, int64_t *bits) {      \
+        BITS place = (BITS)*bits;                                                              \
+        uint32_t status = font_##NAME##_from_decimal(text, length, &place);                    \
+        *bits = place;                                                                         \
+        return status;                                                                         \
+    }                                                                                          \
+    static size_t NAME##_to_decimal(int64_t bits, char *out, size_t room) {                    \
+        return font_##NAME##_to_decimal((BITS)bits, out, room);                                \
+    }                                                                                          \
+    static size_t NAME##_write_padded(int64_t bits, const font_pad *pad, char *out,            \
+                                      size_t room) {                                           \
+        return font_##NAME##_write_padded((BITS)bits, pad, out, room);                         \
+    }                                                                                          \
+    static int64_t NAME##_round(int64_t bits) { return font_##NAME##_round((BITS)bits); }      \
+    static int64_t NAME##_floor(int64_t bits) { return font_##NAME##_floor((BITS)bits); }
+
+#define CALLS_OF(NAME)                                                                         \
+    { #NAME, NAME##_from_decimal, NAME##_to_decimal, NAME##_write_padded, NAME##_round,        \
+      NAME##_floor }
+
+WIDENED(fixed, int32_t)
+WIDENED(f2dot14, int16_t)
+WIDENED(f4dot12, int16_t)
+WIDENED(f6dot10, int16_t)
+WIDENED(f26dot6, int32_t)
+WIDENED(f48dot16, int64_t)
+WIDENED(f2dot30, int32_t)
+
+static const number_type number_types[] = {
+    CALLS_OF(fixed),   CALLS_OF(f2dot14),  CALLS_OF(f4dot12), CALLS_OF(f6dot10),
+    CALLS_OF(f26dot6), CALLS_OF(f48dot16), CALLS_OF(f2dot30),
+};
+
+static const number_type *type_named(const char *name) {
+    for (size_t i = 0; i < sizeof number_types / sizeof number_types[0]; i++)
+        if (strcmp(number_types[i].name, name) == 0)
+            return &number_types[i];
+    fprintf(stderr, "no type %s\n", name);
+    exit(2);
+}
+
+/* ---- what each kind of line says ---- */
+
+/* read TYPE TEXT STATUS BITS, where the place has 7 before */
+static bool read_line(const words *line) {
+    const char *text = line->word[2];
+    int64_t bits = 7;
+    uint32_t status = type_named(line->word[1])->from_decimal(text, strlen(text), &bits);
+    return status == number(line, 3) && bits == number(line, 4);
+}
+
+/* Whether `length` bytes of `out`, which was full of `~`, are the text, and the rest is as it was. */
+static bool is_written(const char *out, size_t length, const char *text) {
+    if (length != strlen(text) || memcmp(out, text, length) != 0)
+        return false;
+    for (size_t i = length; i < ROOM; i++)
+        if (out[i] != '~')
+            return false;
+    return true;
+}
+
+/* write TYPE BITS TEXT, in a room that is just enough, and in one that is not */
+static bool write_line(const words *line) {
+    const number_type *type = type_named(line->word[1]);
+    const char *text = line->word[3];
+    char out[ROOM];
+    memset(out, '~', ROOM);
+    if (type->to_decimal(number(line, 2), out, strlen(text) - 1) != 0 || !is_written(out, 0, ""))
+        return false;
+    return is_written(out, type->to_decimal(number(line, 2), out, strlen(text)), text);
+}
+
+/* pad TYPE BITS WIDTH FILL ALIGN PLUS ZEROS TEXT, or `refused` in place of the text */
+static bool pad_line(const words *line) {
+    const number_type *type = type_named(line->word[1]);
+    font_pad pad;
+    pad.width = (size_t)number(line, 3);
+    pad.fill = (uint8_t)number(line, 4);
+    pad.align = (uint8_t)number(line, 5);
+    pad.plus = number(line, 6) != 0;
+    pad.zeros = number(line, 7) != 0;
+    const char *text = strcmp(line->word[8], "refused") == 0 ? "" : line->word[8];
+    char out[ROOM];
+    memset(out, '~', ROOM);
+    return is_written(out, type->write_padded(number(line, 2), &pad, out, ROOM), text);
+}
+
+/* whole TYPE BITS ROUND FLOOR */
+static bool whole_line(const words *line) {
+    const number_type *type = type_named(line->word[1]);
+    int64_t bits = number(line, 2);
+    return type->round(bits) == number(line, 3) && type->floor(bits) == number(line, 4);
+}
+
+/* product TYPE X Y PRODUCT QUOTIENT */
+static bool product_line(const words *line) {
+    bool fixed = strcmp(line->word[1], "fixed") == 0;
+    int32_t x = (int32_t)number(line, 2);
+    int32_t y = (int32_t)number(line, 3);
+    int32_t product = fixed ? font_fixed_mul(x, y) : font_f26dot6_mul(x, y);
+    int32_t quotient = fixed ? font_fixed_div(x, y) : font_f26dot6_div(x, y);
+    return product == number(line, 4) && quotient == number(line, 5);
+}
+
+/* mul_div X A C RESULT */
+static bool mul_div_line(const words *line) {
+    int32_t x = (int32_t)number(line, 1);
+    int32_t a = (int32_t)number(line, 2);
+    int32_t c = (int32_t)number(line, 3);
+    return font_fixed_mul_div(x, a, c) == number(line, 4);
+}
+
+/* narrow BITS WHOLE F26DOT6 F2DOT14 */
+static bool narrow_line(const words *line) {
+    int32_t bits = (int32_t)number(line, 1);
+    return font_fixed_to_i32(bits) == number(line, 2)
+           && font_fixed_to_f26dot6(bits) == number(line, 3)
+           && font_fixed_to_f2dot14(bits) == number(line, 4);
+}
+
+static font_matrix matrix(const words *line, int at) {
+    int32_t e[6];
+    for (int i = 0; i < 6; i++)
+        e[i] = (int32_t)number(line, at + i);
+    font_matrix matrix = {e[0], e[1], e[2], e[3], e[4], e[5]};
+    return matrix;
+}
+
+static font_point point(const words *line, int at) {
+    font_point point = {(int32_t)number(line, at), (int32_t)number(line, at + 1)};
+    return point;
+}
+
+static bool same_point(font_point p, font_point q) {
+    return p.x == q.x && p.y == q.y;
+}
+
+static bool same_matrix(font_matrix a, font_matrix b) {
+    return a.xx == b.xx && a.yx == b.yx && a.xy == b.xy && a.yy == b.yy && a.dx == b.dx
+           && a.dy == b.dy;
+}
+
+/* matrix A B P PRODUCT, and the points that A, the product, and A after B make of P */
+static bool matrix_line(const words *line) {
+    font_matrix a = matrix(line, 1);
+    font_matrix b = matrix(line, 7);
+    font_point p = point(line, 13);
+    return same_matrix(font_matrix_product(a, b), matrix(line, 15))
+           && same_point(font_matrix_image(a, p), point(line, 21))
+           && same_point(font_matrix_composed(a, b, p), point(line, 23))
+           && same_point(font_matrix_in_turn(a, b, p), point(line, 25));
+}
+
+/* The bytes of pairs of hexadecimal digits; returns how many. */
+static size_t bytes_of(const char *digits, uint8_t *bytes) {
+    size_t count = strlen(digits) / 2;
+    for (size_t i = 0; i < count; i++) {
+        char pair[3] = {digits[2 * i], digits[2 * i + 1], 0};
+        bytes[i] = (uint8_t)strtoul(pair, NULL, 16);
+    }
+    return count;
+}
+
+/* tag BYTES STATUS NUMBER STATUS POSITION TEXT, where places have 7 before */
+static bool tag_line(const words *line) {
+    uint8_t bytes[8];
+    size_t count = bytes_of(line->word[1], bytes);
+    uint32_t tag = 7;
+    uint32_t position = 7;
+    if (font_tag_new((const char *)bytes, count, &tag) != number(line, 2) || tag != number(line, 3))
+        return false;
+    if (font_tag_validate(bytes, count, &position) != number(line, 4)
+        || position != number(line, 5))
+        return false;
+    if (count != 4)
+        return true;
+    char text[ROOM];
+    snprintf(text, ROOM, "%s", line->word[6]);
+    for (char *space = text; (space = strchr(space, '_')) != NULL;)
+        *space = ' ';
+    char out[ROOM];
+    memset(out, '~', ROOM);
+    tag = (uint32_t)bytes[0] << 24 | (uint32_t)bytes[1] << 16 | (uint32_t)bytes[2] << 8 | bytes[3];
+    return is_written(out, font_tag_to_text(tag, out, 24), text);
+}
+
+/* sum STATUS SUM COUNT, and a scalar and a delta for each term, where the place has 7 before */
+static bool sum_line(const words *line) {
+    int32_t scalars[MOST_WORDS] = {0};
+    int32_t deltas[MOST_WORDS] = {0};
+    size_t count = (size_t)number(line, 3);
+    for (size_t i = 0; i < count; i++) {
+        scalars[i] = (int32_t)number(line, 4 + 2 * (int)i);
+        deltas[i] = (int32_t)number(line, 5 + 2 * (int)i);
+    }
+    int64_t sum = 7;
+    uint32_t status = font_delta_sum(scalars, count, deltas, count, &sum);
+    if (status != number(line, 1) || sum != number(line, 2))
+        return false;
+    sum = 7;
+    return font_delta_sum(scalars, count, deltas, count + 1, &sum) == FONT_OTHER_LENGTH && sum == 7;
+}
+
+typedef struct kind {
+    const char *name;
+    bool (*holds)(const words *line);
+} kind;
+
+static const kind kinds[] = {
+    {"read", read_line},       {"write", write_line},     {"pad", pad_line},
+    {"whole", whole_line},     {"product", product_line}, {"mul_div", mul_div_line},
+    {"narrow", narrow_line},   {"matrix", matrix_line},   {"tag", tag_line},
+    {"sum", sum_line},
+};
+
+static bool holds(const words *line) {
+    for (size_t i = 0; i < sizeof kinds / sizeof kinds[0]; i++)
+        if (strcmp(kinds[i].name, line->word[0]) == 0)
+            return kinds[i].holds(line);
+    return false;
+}
+
+int main(int argc, char **argv) {
+    FILE *table = argc == 2 ? fopen(argv[1], "r") : NULL;
+    if (table == NULL) {
+        fprintf(stderr, "usage: table FILE\n");
+        return 2;
+    }
+    unsigned passed = 0;
+    unsigned failed = 0;
+    char text[LINE];
+    while (fgets(text, LINE, table) != NULL) {
+        if (text[0] == '#')
+            continue;
+        char shown[LINE];
+        memcpy(shown, text, LINE);
+        words line = split(text);
+        if (holds(&line)) {
+            passed++;
+        } else {
+            failed++;
+            printf("failed: %s", shown);
+        }
+    }
+    fclose(table);
+    printf("%u passed, %u failed\n", passed, failed);
+    return failed == 0 ? 0 : 1;
+}

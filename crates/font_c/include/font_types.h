@@ -1,0 +1,345 @@
+/*
+ * Fixed-point numbers, matrices, tags and sums of deltas of fonts, by a library
+ * in which every function is proved to do exactly what is said of it here.
+ * For C99 and later, and for C++11 and later. Link with libfont_c.a.
+ *
+ * Numbers are handed over by their bits, which count steps of 1 / 2^f: of a
+ * 16.16 number, int32_t, f is 16, so that 98304 is 1.5.
+ *
+ * Pointers: each is valid for the length that goes with it (that of a single
+ * value is 1), is aligned for its type, and is not null, also where the length
+ * is 0. What a call writes overlaps nothing else that it is given. A text is
+ * `length` bytes, and no zero byte ends it.
+ *
+ * A call keeps nothing, allocates nothing, and may be made from any thread.
+ * Where it refuses, it leaves what is behind its pointers as it was.
+ */
+#ifndef FONT_TYPES_H
+#define FONT_TYPES_H
+
+#ifndef __cplusplus
+#include <stdbool.h>
+#endif
+#include <stddef.h>
+#include <stdint.h>
+
+#ifdef __cplusplus
+extern "C" {
+#endif
+
+/*
+ * What `font_*_from_decimal` answers.
+ *
+ * A decimal is an optional `-`, one or more digits, and optionally a point with
+ * one or more digits behind it, as many as you like; no `+`, no exponent, no
+ * space.
+ */
+enum {
+    FONT_READ = 0,         /* the bits of the nearest number were written */
+    FONT_NO_DECIMAL = 1,   /* the text is no decimal */
+    FONT_OUT_OF_RANGE = 2  /* the nearest number is out of range */
+};
+
+/* Where a text stands in a field that is wider. */
+enum {
+    FONT_LEFT = 0,   /* at the front */
+    FONT_CENTER = 1, /* in the middle; an odd byte of fill stands behind */
+    FONT_RIGHT = 2   /* at the back */
+};
+
+/* How a text is padded. It is refused where `fill` or `align` is none. */
+typedef struct font_pad {
+    size_t width;  /* the least number of bytes */
+    uint8_t fill;  /* the byte that fills, below 0x80 */
+    uint8_t align; /* FONT_LEFT, FONT_CENTER or FONT_RIGHT */
+    bool plus;     /* whether a text with no `-` gets a `+` */
+    bool zeros;    /* whether zeros behind the sign stand in place of the fill */
+} font_pad;
+
+/*
+ * The longest decimal has 22 bytes, so that `to_decimal` never refuses a room
+ * of 22. With a `+` it has 23.
+ */
+enum { FONT_DECIMAL_ROOM = 22 };
+
+/* ---- 16.16 numbers, int32_t ---- */
+
+/*
+ * Reads a decimal as the nearest number, ties away from zero: FONT_READ, and its
+ * bits are in *bits; FONT_NO_DECIMAL; or FONT_OUT_OF_RANGE.
+ */
+uint32_t font_fixed_from_decimal(const char *text, size_t length, int32_t *bits);
+
+/*
+ * Writes the shortest decimal that is read back as the number, and the nearest
+ * of these, to the front of `out`. Returns its length, or 0 where `room` is less.
+ */
+size_t font_fixed_to_decimal(int32_t bits, char *out, size_t room);
+
+/* The same, padded. 0 also where `pad` is none. */
+size_t font_fixed_write_padded(int32_t bits, const font_pad *pad, char *out, size_t room);
+
+/* The bits of the nearest whole number, ties upwards, wrapped. */
+int32_t font_fixed_round(int32_t bits);
+
+/* The bits of the greatest whole number that is not above the number. */
+int32_t font_fixed_floor(int32_t bits);
+
+/* The product, rounded to the nearest step, ties away from zero, and wrapped. */
+int32_t font_fixed_mul(int32_t x, int32_t y);
+
+/*
+ * The quotient, rounded in the same way. Where y is 0 it is INT32_MAX, negated
+ * where x is negative.
+ */
+int32_t font_fixed_div(int32_t x, int32_t y);
+
+/*
+ * x * a / c, rounded once to the nearest step, ties away from zero, and wrapped.
+ * Where c is 0 it is INT32_MAX, negated where just one of x and a is negative.
+ */
+int32_t font_fixed_mul_div(int32_t x, int32_t a, int32_t c);
+
+/* The nearest whole number, ties upwards, wrapped to 16 bits. */
+int32_t font_fixed_to_i32(int32_t bits);
+
+/* The bits of the nearest 26.6 number, ties upwards, wrapped to 22. */
+int32_t font_fixed_to_f26dot6(int32_t bits);
+
+/* The bits of the nearest 2.14 number, ties upwards, wrapped to 16. */
+int16_t font_fixed_to_f2dot14(int32_t bits);
+
+/* ---- 2.14 numbers, int16_t ---- */
+
+/*
+ * Reads a decimal as the nearest number, ties away from zero: FONT_READ, and its
+ * bits are in *bits; FONT_NO_DECIMAL; or FONT_OUT_OF_RANGE.
+ */
+uint32_t font_f2dot14_from_decimal(const char *text, size_t length, int16_t *bits);
+
+/*
+ * Writes the shortest decimal that is read back as the number, and the nearest
+ * of these, to the front of `out`. Returns its length, or 0 where `room` is less.
+ */
+size_t font_f2dot14_to_decimal(int16_t bits, char *out, size_t room);
+
+/* The same, padded. 0 also where `pad` is none. */
+size_t font_f2dot14_write_padded(int16_t bits, const font_pad *pad, char *out, size_t room);
+
+/* The bits of the nearest whole number, ties upwards, wrapped. */
+int16_t font_f2dot14_round(int16_t bits);
+
+/* The bits of the greatest whole number that is not above the number. */
+int16_t font_f2dot14_floor(int16_t bits);
+
+/* ---- 4.12 numbers, int16_t ---- */
+
+/*
+ * Reads a decimal as the nearest number, ties away from zero: FONT_READ, and its
+ * bits are in *bits; FONT_NO_DECIMAL; or FONT_OUT_OF_RANGE.
+ */
+uint32_t font_f4dot12_from_decimal(const char *text, size_t length, int16_t *bits);
+
+/*
+ * Writes the shortest decimal that is read back as the number, and the nearest
+ * of these, to the front of `out`. Returns its length, or 0 where `room` is less.
+ */
+size_t font_f4dot12_to_decimal(int16_t bits, char *out, size_t room);
+
+/* The same, padded. 0 also where `pad` is none. */
+size_t font_f4dot12_write_padded(int16_t bits, const font_pad *pad, char *out, size_t room);
+
+/* The bits of the nearest whole number, ties upwards, wrapped. */
+int16_t font_f4dot12_round(int16_t bits);
+
+/* The bits of the greatest whole number that is not above the number. */
+int16_t font_f4dot12_floor(int16_t bits);
+
+/* ---- 6.10 numbers, int16_t ---- */
+
+/*
+ * Reads a decimal as the nearest number, ties away from zero: FONT_READ, and its
+ * bits are in *bits; FONT_NO_DECIMAL; or FONT_OUT_OF_RANGE.
+ */
+uint32_t font_f6dot10_from_decimal(const char *text, size_t length, int16_t *bits);
+
+/*
+ * Writes the shortest decimal that is read back as the number, and the nearest
+ * of these, to the front of `out`. Returns its length, or 0 where `room` is less.
+ */
+size_t font_f6dot10_to_decimal(int16_t bits, char *out, size_t room);
+
+/* The same, padded. 0 also where `pad` is none. */
+size_t font_f6dot10_write_padded(int16_t bits, const font_pad *pad, char *out, size_t room);
+
+/* The bits of the nearest whole number, ties upwards, wrapped. */
+int16_t font_f6dot10_round(int16_t bits);
+
+/* The bits of the greatest whole number that is not above the number. */
+int16_t font_f6dot10_floor(int16_t bits);
+
+/* ---- 26.6 numbers, int32_t ---- */
+
+/*
+ * Reads a decimal as the nearest number, ties away from zero: FONT_READ, and its
+ * bits are in *bits; FONT_NO_DECIMAL; or FONT_OUT_OF_RANGE.
+ */
+uint32_t font_f26dot6_from_decimal(const char *text, size_t length, int32_t *bits);
+
+/*
+ * Writes the shortest decimal that is read back as the number, and the nearest
+ * of these, to the front of `out`. Returns its length, or 0 where `room` is less.
+ */
+size_t font_f26dot6_to_decimal(int32_t bits, char *out, size_t room);
+
+/* The same, padded. 0 also where `pad` is none. */
+size_t font_f26dot6_write_padded(int32_t bits, const font_pad *pad, char *out, size_t room);
+
+/* The bits of the nearest whole number, ties upwards, wrapped. */
+int32_t font_f26dot6_round(int32_t bits);
+
+/* The bits of the greatest whole number that is not above the number. */
+int32_t font_f26dot6_floor(int32_t bits);
+
+/* The product, rounded to the nearest step, ties away from zero, and wrapped. */
+int32_t font_f26dot6_mul(int32_t x, int32_t y);
+
+/*
+ * The quotient, rounded in the same way. Where y is 0 it is INT32_MAX, negated
+ * where x is negative.
+ */
+int32_t font_f26dot6_div(int32_t x, int32_t y);
+
+/* ---- 48.16 numbers, int64_t ---- */
+
+/*
+ * Reads a decimal as the nearest number, ties away from zero: FONT_READ, and its
+ * bits are in *bits; FONT_NO_DECIMAL; or FONT_OUT_OF_RANGE.
+ */
+uint32_t font_f48dot16_from_decimal(const char *text, size_t length, int64_t *bits);
+
+/*
+ * Writes the shortest decimal that is read back as the number, and the nearest
+ * of these, to the front of `out`. Returns its length, or 0 where `room` is less.
+ */
+size_t font_f48dot16_to_decimal(int64_t bits, char *out, size_t room);
+
+/* The same, padded. 0 also where `pad` is none. */
+size_t font_f48dot16_write_padded(int64_t bits, const font_pad *pad, char *out, size_t room);
+
+/* The bits of the nearest whole number, ties upwards, wrapped. */
+int64_t font_f48dot16_round(int64_t bits);
+
+/* The bits of the greatest whole number that is not above the number. */
+int64_t font_f48dot16_floor(int64_t bits);
+
+/* ---- 2.30 numbers, int32_t ---- */
+
+/*
+ * Reads a decimal as the nearest number, ties away from zero: FONT_READ, and its
+ * bits are in *bits; FONT_NO_DECIMAL; or FONT_OUT_OF_RANGE.
+ */
+uint32_t font_f2dot30_from_decimal(const char *text, size_t length, int32_t *bits);
+
+/*
+ * Writes the shortest decimal that is read back as the number, and the nearest
+ * of these, to the front of `out`. Returns its length, or 0 where `room` is less.
+ */
+size_t font_f2dot30_to_decimal(int32_t bits, char *out, size_t room);
+
+/* The same, padded. 0 also where `pad` is none. */
+size_t font_f2dot30_write_padded(int32_t bits, const font_pad *pad, char *out, size_t room);
+
+/* The bits of the nearest whole number, ties upwards, wrapped. */
+int32_t font_f2dot30_round(int32_t bits);
+
+/* The bits of the greatest whole number that is not above the number. */
+int32_t font_f2dot30_floor(int32_t bits);
+
+/* ---- matrices and points of 16.16 numbers ---- */
+
+/* It sends (x, y) to (xx * x + xy * y + dx, yx * x + yy * y + dy). */
+typedef struct font_matrix {
+    int32_t xx, yx, xy, yy, dx, dy;
+} font_matrix;
+
+typedef struct font_point {
+    int32_t x, y;
+} font_point;
+
+/*
+ * The matrix that applies b and then a. Each product of two elements is rounded
+ * as by font_fixed_mul, and each sum wraps, here and below.
+ */
+font_matrix font_matrix_product(font_matrix a, font_matrix b);
+
+/* Where m sends p. */
+font_point font_matrix_image(font_matrix m, font_point p);
+
+/*
+ * Where the product of a and b sends p. Where no element of that product and no
+ * coordinate of the answer leaves 32 bits, each coordinate is at most
+ * (|x| + |y|) / 65536 + 2 bits from the exact one, magnitudes in bits.
+ */
+font_point font_matrix_composed(font_matrix a, font_matrix b, font_point p);
+
+/*
+ * Where a sends what b sends p to. Where no coordinate of either leaves 32 bits,
+ * a coordinate is at most the magnitudes of the two linear elements of its row
+ * of a, in bits, over 65536, and 1 bit from the exact one.
+ */
+font_point font_matrix_in_turn(font_matrix a, font_matrix b, font_point p);
+
+/* ---- tags, as numbers whose bytes they are, highest first ---- */
+
+/* What is said of a tag. */
+enum {
+    FONT_TAG_GOOD = 0,       /* visible characters, and only spaces behind them */
+    FONT_TAG_LENGTH = 1,     /* another number of bytes, or spaces alone */
+    FONT_TAG_BYTE = 2,       /* a byte that cannot stand where it does */
+    FONT_TAG_AFTER_SPACE = 3 /* a visible byte behind a space */
+};
+
+/*
+ * Makes a tag of one to four bytes, filled with spaces: FONT_TAG_GOOD, and it is
+ * in *tag; FONT_TAG_LENGTH where there are not one to four bytes; FONT_TAG_BYTE
+ * for every other fault.
+ */
+uint32_t font_tag_new(const char *text, size_t length, uint32_t *tag);
+
+/*
+ * Judges the bytes of a tag: FONT_TAG_GOOD; FONT_TAG_LENGTH where there are not
+ * four or all are spaces; FONT_TAG_BYTE or FONT_TAG_AFTER_SPACE, and the index of
+ * the first fault is in *position: a byte that shows no character, or one that
+ * does and stands behind a space.
+ */
+uint32_t font_tag_validate(const uint8_t *bytes, size_t length, uint32_t *position);
+
+/*
+ * Writes a tag's text to the front of `out`: from 0x20 to 0x7E a byte as it is,
+ * any other as {0xNN}, so 24 bytes at most. Returns its length, or 0 where `room`
+ * is less.
+ */
+size_t font_tag_to_text(uint32_t tag, char *out, size_t room);
+
+/* ---- sums of deltas ---- */
+
+/* What font_delta_sum answers. */
+enum {
+    FONT_SUMMED = 0,          /* the sum was written */
+    FONT_OTHER_LENGTH = 1,    /* there are not as many scalars as deltas */
+    FONT_SUM_OUT_OF_RANGE = 2 /* 64 bits do not hold the sum */
+};
+
+/*
+ * The exact sum of the products of 16.16 scalars and deltas, item by item, as the
+ * bits of a 48.16 number, wherever partial sums lie.
+ */
+uint32_t font_delta_sum(const int32_t *scalars, size_t scalar_count,
+                        const int32_t *deltas, size_t delta_count, int64_t *sum);
+
+#ifdef __cplusplus
+}
+#endif
+
+#endif

@@ -1,0 +1,2 @@
+pub mod Nonempty
+mod SumLemmas

@@ -1,0 +1,37 @@
+-- How C says that a text is padded.
+use Rattle.std.specs.Prelude.{◌≡◌, ◌≢◌, ◌<◌, ◌≤◌, ℕ, zero, suc, ℤ, List, length, max}
+use Rattle.font_types.specs.Padding.{padded_text}
+use Rattle.font_types.specs.Shortest.{shortest_text}
+use Rattle.font_decimal.specs.declared.padding.Align.{Align}
+use Rattle.font_decimal.specs.declared.padding.Align.TheVariants.{Left, Center, Right}
+use Rattle.font_decimal.specs.declared.padding.Pad.{Pad}
+use Rattle.font_c.specs.declared.text.FontPad.{FontPad}
+use Rattle.font_c.specs.Texts.{WritesText}
+
+-- the alignment is one of three, and the fill is ASCII
+abbrev pub IsPad : FontPad → Type 0
+IsPad pad = (pad.align < 3) × (pad.fill < 128)
+
+-- 0 stands for the front, 1 for the middle, and 2 for the back
+abbrev pub align_of : ℕ → Align
+align_of zero = Left
+align_of (suc zero) = Center
+align_of (suc (suc n)) = Right
+
+-- the padding that it stands for
+abbrev pub pad_of : FontPad → Pad
+pad_of pad = record {
+  width = pad.width;
+  fill = pad.fill;
+  align = align_of pad.align;
+  plus = pad.plus;
+  zeros = pad.zeros;
+}
+
+-- the shortest decimal of b / 2^f is handed over padded, and a room of 23 bytes, or of the width
+-- where that is greater, is enough; where the padding is none, n is 0 and the bytes stay
+pub record WritesPadded (b : ℤ) (f : ℕ) (pad : FontPad) (n : ℕ) (old new : List ℕ) : Type 0 where
+  pub text : IsPad pad → WritesText (padded_text (shortest_text b f) (pad_of pad)) n old new
+  pub enough : IsPad pad → max 23 pad.width ≤ length old → n ≢ 0
+  pub refused : ¬ IsPad pad → n ≡ 0
+  pub kept : ¬ IsPad pad → new ≡ old

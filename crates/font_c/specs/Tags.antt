@@ -1,0 +1,31 @@
+-- How tags are handed to C: as the number of 32 bits whose bytes they are, highest first.
+use Rattle.std.specs.Prelude.{◌≡◌, ◌≢◌, ℕ, zero, suc, pos, ◌⊎◌, List, length, slice_index}
+use Rattle.font_types.specs.Bytes.{numeral, bytes_of}
+use Rattle.font_types.specs.Tag.{IsAcceptable, IsTagLength, IsGood, IsFault, IsVisible, filled, four_spaces}
+
+-- the four bytes of such a number
+abbrev pub number_bytes : ℕ → List ℕ
+number_bytes tag = bytes_of 4 (pos tag)
+
+-- the number of such bytes
+abbrev pub number_of : List ℕ → ℕ
+number_of bytes = numeral bytes
+
+-- what a status and a number say of making a tag of bytes: 0 that the number is the tag, 1 that
+-- there are not one to four bytes, and 2 that they are no good bytes
+abbrev pub IsMade : List ℕ → ℕ → ℕ → Type 0
+IsMade bytes zero tag = IsAcceptable bytes × (tag ≡ number_of (filled bytes))
+IsMade bytes (suc zero) tag = ¬ IsTagLength (length bytes)
+IsMade bytes (suc (suc n)) tag = IsTagLength (length bytes) × (¬ IsGood bytes)
+
+-- what a status and a position say of bytes: 0 a good tag, 1 not four bytes or four spaces, 2 that
+-- the first fault is a byte that is not visible, and 3 that it is a visible one, which stands
+-- behind a space
+abbrev pub IsJudged : List ℕ → ℕ → ℕ → Type 0
+IsJudged bytes zero position = (length bytes ≡ 4) × IsGood bytes
+IsJudged bytes (suc zero) position = (length bytes ≢ 4) ⊎ (bytes ≡ four_spaces)
+IsJudged bytes (suc (suc zero)) position =
+    (length bytes ≡ 4) × (bytes ≢ four_spaces) × IsFault bytes position
+    × (¬ IsVisible (slice_index bytes position))
+IsJudged bytes (suc (suc (suc n))) position =
+    (length bytes ≡ 4) × IsFault bytes position × IsVisible (slice_index bytes position)

@@ -1,0 +1,57 @@
+//! Numbers of 32 bits with 30 bits of fraction, by their bits.
+
+ghost use Rattle.font_types.specs.Operations.{IsFloor, IsNearestWhole};
+ghost use Rattle.font_c.specs.Texts.{WritesDecimal};
+ghost use Rattle.font_c.specs.Readings.{ReadsInto};
+ghost use Rattle.font_c.specs.Pads.{WritesPadded};
+
+use crate::text::{FontPad, put_decimal, put_padded, put_reading, text_of};
+use font_types::F2Dot30;
+
+/// Reads a decimal text as the nearest 2.30 number, ties away from zero: 0 where its bits are in
+/// `bits`, 1 where it is no decimal, 2 where it is out of range.
+#[unsafe(no_mangle)]
+pub extern "C" fn font_f2dot30_from_decimal(text: &[u8], bits: &mut i32) -> u32
+    ensures { ReadsInto 32 30 text.now result bits.old bits.new }
+{
+    let Some(text) = text_of(text) else {
+        return 1;
+    };
+    put_reading(
+        F2Dot30::from_decimal(text).map(|number| number.to_bits()),
+        bits,
+    )
+}
+
+/// Writes the shortest decimal that is read back as the number to the front of `out`, and answers
+/// its length, or 0 where `out` is too short.
+#[unsafe(no_mangle)]
+pub extern "C" fn font_f2dot30_to_decimal(bits: i32, out: &mut [u8]) -> usize
+    ensures { WritesDecimal bits 30 result out.old out.new }
+{
+    put_decimal(i64::from(bits), 30, out)
+}
+
+/// The same, padded; 0 also where `pad` is none.
+#[unsafe(no_mangle)]
+pub extern "C" fn font_f2dot30_write_padded(bits: i32, pad: &FontPad, out: &mut [u8]) -> usize
+    ensures { WritesPadded bits 30 pad.now result out.old out.new }
+{
+    put_padded(i64::from(bits), 30, pad, out)
+}
+
+/// The nearest whole number, ties upwards, wrapped.
+#[unsafe(no_mangle)]
+pub extern "C" fn font_f2dot30_round(bits: i32) -> i32
+    ensures { IsNearestWhole 32 30 bits result }
+{
+    F2Dot30::from_bits(bits).round().to_bits()
+}
+
+/// The greatest whole number that is not above the number.
+#[unsafe(no_mangle)]
+pub extern "C" fn font_f2dot30_floor(bits: i32) -> i32
+    ensures { IsFloor 30 bits result }
+{
+    F2Dot30::from_bits(bits).floor().to_bits()
+}

@@ -1,0 +1,57 @@
+//! Numbers of 16 bits with 10 bits of fraction, by their bits.
+
+ghost use Rattle.font_types.specs.Operations.{IsFloor, IsNearestWhole};
+ghost use Rattle.font_c.specs.Texts.{WritesDecimal};
+ghost use Rattle.font_c.specs.Readings.{ReadsInto};
+ghost use Rattle.font_c.specs.Pads.{WritesPadded};
+
+use crate::text::{FontPad, put_decimal, put_padded, put_reading, text_of};
+use font_types::F6Dot10;
+
+/// Reads a decimal text as the nearest 6.10 number, ties away from zero: 0 where its bits are in
+/// `bits`, 1 where it is no decimal, 2 where it is out of range.
+#[unsafe(no_mangle)]
+pub extern "C" fn font_f6dot10_from_decimal(text: &[u8], bits: &mut i16) -> u32
+    ensures { ReadsInto 16 10 text.now result bits.old bits.new }
+{
+    let Some(text) = text_of(text) else {
+        return 1;
+    };
+    put_reading(
+        F6Dot10::from_decimal(text).map(|number| number.to_bits()),
+        bits,
+    )
+}
+
+/// Writes the shortest decimal that is read back as the number to the front of `out`, and answers
+/// its length, or 0 where `out` is too short.
+#[unsafe(no_mangle)]
+pub extern "C" fn font_f6dot10_to_decimal(bits: i16, out: &mut [u8]) -> usize
+    ensures { WritesDecimal bits 10 result out.old out.new }
+{
+    put_decimal(i64::from(bits), 10, out)
+}
+
+/// The same, padded; 0 also where `pad` is none.
+#[unsafe(no_mangle)]
+pub extern "C" fn font_f6dot10_write_padded(bits: i16, pad: &FontPad, out: &mut [u8]) -> usize
+    ensures { WritesPadded bits 10 pad.now result out.old out.new }
+{
+    put_padded(i64::from(bits), 10, pad, out)
+}
+
+/// The nearest whole number, ties upwards, wrapped.
+#[unsafe(no_mangle)]
+pub extern "C" fn font_f6dot10_round(bits: i16) -> i16
+    ensures { IsNearestWhole 16 10 bits result }
+{
+    F6Dot10::from_bits(bits).round().to_bits()
+}
+
+/// The greatest whole number that is not above the number.
+#[unsafe(no_mangle)]
+pub extern "C" fn font_f6dot10_floor(bits: i16) -> i16
+    ensures { IsFloor 10 bits result }
+{
+    F6Dot10::from_bits(bits).floor().to_bits()
+}

@@ -1,0 +1,110 @@
+//! Numbers of 32 bits with 16 bits of fraction, by their bits.
+
+ghost use Rattle.std.specs.Prelude.{◌^◌};
+ghost use Rattle.font_types.specs.Operations.{IsFloor, IsMulDiv, IsNarrowed, IsNearestWhole, IsProduct, IsQuotient};
+ghost use Rattle.font_c.specs.Texts.{WritesDecimal};
+ghost use Rattle.font_c.specs.Readings.{ReadsInto};
+ghost use Rattle.font_c.specs.Pads.{WritesPadded};
+
+use crate::text::{FontPad, put_decimal, put_padded, put_reading, text_of};
+use font_types::Fixed;
+
+/// Reads a decimal text as the nearest 16.16 number, ties away from zero: 0 where its bits are in
+/// `bits`, 1 where it is no decimal, 2 where it is out of range.
+#[unsafe(no_mangle)]
+pub extern "C" fn font_fixed_from_decimal(text: &[u8], bits: &mut i32) -> u32
+    ensures { ReadsInto 32 16 text.now result bits.old bits.new }
+{
+    let Some(text) = text_of(text) else {
+        return 1;
+    };
+    put_reading(
+        Fixed::from_decimal(text).map(|number| number.to_bits()),
+        bits,
+    )
+}
+
+/// Writes the shortest decimal that is read back as the number to the front of `out`, and answers
+/// its length, or 0 where `out` is too short.
+#[unsafe(no_mangle)]
+pub extern "C" fn font_fixed_to_decimal(bits: i32, out: &mut [u8]) -> usize
+    ensures { WritesDecimal bits 16 result out.old out.new }
+{
+    put_decimal(i64::from(bits), 16, out)
+}
+
+/// The same, padded; 0 also where `pad` is none.
+#[unsafe(no_mangle)]
+pub extern "C" fn font_fixed_write_padded(bits: i32, pad: &FontPad, out: &mut [u8]) -> usize
+    ensures { WritesPadded bits 16 pad.now result out.old out.new }
+{
+    put_padded(i64::from(bits), 16, pad, out)
+}
+
+/// The nearest whole number, ties upwards, wrapped.
+#[unsafe(no_mangle)]
+pub extern "C" fn font_fixed_round(bits: i32) -> i32
+    ensures { IsNearestWhole 32 16 bits result }
+{
+    Fixed::from_bits(bits).round().to_bits()
+}
+
+/// The greatest whole number that is not above the number.
+#[unsafe(no_mangle)]
+pub extern "C" fn font_fixed_floor(bits: i32) -> i32
+    ensures { IsFloor 16 bits result }
+{
+    Fixed::from_bits(bits).floor().to_bits()
+}
+
+/// The product, rounded to the nearest step, ties away from zero, and wrapped.
+#[unsafe(no_mangle)]
+pub extern "C" fn font_fixed_mul(x: i32, y: i32) -> i32
+    ensures { IsProduct 32 16 x y result }
+{
+    (Fixed::from_bits(x) * Fixed::from_bits(y)).to_bits()
+}
+
+/// The quotient, rounded in the same way; by zero, the greatest number, negated where `x` is
+/// negative.
+#[unsafe(no_mangle)]
+pub extern "C" fn font_fixed_div(x: i32, y: i32) -> i32
+    ensures { IsQuotient 32 16 x y result }
+{
+    (Fixed::from_bits(x) / Fixed::from_bits(y)).to_bits()
+}
+
+/// `x * a / c`, rounded once; where `c` is zero, the greatest number, negated where just one of `x`
+/// and `a` is negative.
+#[unsafe(no_mangle)]
+pub extern "C" fn font_fixed_mul_div(x: i32, a: i32, c: i32) -> i32
+    ensures { IsMulDiv 32 x a c result }
+{
+    Fixed::from_bits(x)
+        .mul_div(Fixed::from_bits(a), Fixed::from_bits(c))
+        .to_bits()
+}
+
+/// The nearest whole number, ties upwards, wrapped to 16 bits.
+#[unsafe(no_mangle)]
+pub extern "C" fn font_fixed_to_i32(bits: i32) -> i32
+    ensures { IsNarrowed 16 bits (2 ^ 16) result }
+{
+    Fixed::from_bits(bits).to_i32()
+}
+
+/// The nearest 26.6 number, ties upwards, its bits wrapped to 22.
+#[unsafe(no_mangle)]
+pub extern "C" fn font_fixed_to_f26dot6(bits: i32) -> i32
+    ensures { IsNarrowed 22 bits (2 ^ 10) result }
+{
+    Fixed::from_bits(bits).to_f26dot6().to_bits()
+}
+
+/// The nearest 2.14 number, ties upwards, its bits wrapped to 16.
+#[unsafe(no_mangle)]
+pub extern "C" fn font_fixed_to_f2dot14(bits: i32) -> i16
+    ensures { IsNarrowed 16 bits 4 result }
+{
+    Fixed::from_bits(bits).to_f2dot14().to_bits()
+}

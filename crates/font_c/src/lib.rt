@@ -1,0 +1,27 @@
+//! The library for C, and for what calls C: numbers read, printed, rounded and multiplied,
+//! matrices, tags and sums of deltas.
+//!
+//! Each export makes one call of `font_types` and says the clauses of that call again, over
+//! numbers, bytes and plain structs. None asks anything of its arguments that a contract could:
+//! what it cannot take it refuses, and it then leaves every place as it was. It keeps nothing
+//! between calls, and allocates nothing. `include/font_types.h` declares it all.
+#![tactic(auto)]
+
+mod f26dot6;
+mod f2dot14;
+mod f2dot30;
+mod f48dot16;
+mod f4dot12;
+mod f6dot10;
+mod fixed;
+mod matrix;
+mod sum;
+mod tag;
+mod tag_text;
+mod text;
+
+pub use matrix::{FontMatrix, FontPoint};
+pub use text::FontPad;
+
+#[cfg(test)]
+mod tests;

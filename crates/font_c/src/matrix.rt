@@ -1,0 +1,121 @@
+//! Matrices and points of 16.16 numbers.
+
+ghost use Rattle.std.specs.Prelude.{◌≡◌};
+ghost use Rattle.font_types.specs.FixedMatrix.{matrix_bits, point_bits, FitsComposed, FitsInTurn, IsCloseComposed, IsCloseInTurn};
+ghost use Rattle.font_c.specs.Matrices.{elements, coordinates, product_of, moved_by};
+
+use font_types::{Fixed, Matrix, Point, laws};
+
+/// A matrix of 16.16 numbers, by their bits: it sends `(x, y)` to `(xx * x + xy * y + dx, yx * x +
+/// yy * y + dy)`.
+#[repr(C)]
+#[derive(Clone, Copy)]
+pub struct FontMatrix {
+    pub xx: i32,
+    pub yx: i32,
+    pub xy: i32,
+    pub yy: i32,
+    pub dx: i32,
+    pub dy: i32,
+}
+
+/// A point of 16.16 numbers, by their bits.
+#[repr(C)]
+#[derive(Clone, Copy)]
+pub struct FontPoint {
+    pub x: i32,
+    pub y: i32,
+}
+
+impl FontMatrix {
+    fn of(matrix: Matrix<Fixed>) -> Self
+        ensures { elements result ≡ matrix_bits matrix }
+    {
+        Self {
+            xx: matrix.xx.to_bits(),
+            yx: matrix.yx.to_bits(),
+            xy: matrix.xy.to_bits(),
+            yy: matrix.yy.to_bits(),
+            dx: matrix.dx.to_bits(),
+            dy: matrix.dy.to_bits(),
+        }
+    }
+
+    fn matrix(self) -> Matrix<Fixed>
+        ensures { matrix_bits result ≡ elements self }
+    {
+        Matrix {
+            xx: Fixed::from_bits(self.xx),
+            yx: Fixed::from_bits(self.yx),
+            xy: Fixed::from_bits(self.xy),
+            yy: Fixed::from_bits(self.yy),
+            dx: Fixed::from_bits(self.dx),
+            dy: Fixed::from_bits(self.dy),
+        }
+    }
+}
+
+impl FontPoint {
+    fn of(point: Point<Fixed>) -> Self
+        ensures { coordinates result ≡ point_bits point }
+    {
+        Self {
+            x: point.x.to_bits(),
+            y: point.y.to_bits(),
+        }
+    }
+
+    fn point(self) -> Point<Fixed>
+        ensures { point_bits result ≡ coordinates self }
+    {
+        Point::new(Fixed::from_bits(self.x), Fixed::from_bits(self.y))
+    }
+}
+
+/// The matrix that applies `b` and then `a`: products are rounded and sums wrap, as those of 16.16
+/// numbers do.
+#[unsafe(no_mangle)]
+#[tactic(auto, using(font_geom::proofs::FixedCalls::product_value))]
+pub extern "C" fn font_matrix_product(a: FontMatrix, b: FontMatrix) -> FontMatrix
+    ensures { elements result ≡ product_of (elements a) (elements b) }
+{
+    FontMatrix::of(a.matrix() * b.matrix())
+}
+
+/// Where the matrix sends a point.
+#[unsafe(no_mangle)]
+#[tactic(auto, using(font_geom::proofs::FixedCalls::image_value))]
+pub extern "C" fn font_matrix_image(m: FontMatrix, p: FontPoint) -> FontPoint
+    ensures { coordinates result ≡ moved_by (elements m) (coordinates p) }
+{
+    FontPoint::of(m.matrix() * p.point())
+}
+
+/// Where the product of `a` and `b` sends a point.
+///
+/// Where no element of the product and no coordinate of the answer leaves 32 bits, each coordinate
+/// is at most `(|x| + |y|) / 65536 + 2` bits from the exact one, magnitudes in bits.
+#[unsafe(no_mangle)]
+pub extern "C" fn font_matrix_composed(a: FontMatrix, b: FontMatrix, p: FontPoint) -> FontPoint
+    ensures value { coordinates result
+        ≡ moved_by (product_of (elements a) (elements b)) (coordinates p) }
+    ensures close { FitsComposed (elements a) (elements b) (coordinates p)
+        → IsCloseComposed (elements a) (elements b) (coordinates p) (coordinates result) }
+{
+    FontPoint::of(laws::composed(a.matrix(), b.matrix(), p.point()))
+}
+
+/// Where `a` sends what `b` sends a point to.
+///
+/// Where no coordinate on the way or of the answer leaves 32 bits, a coordinate is at most the
+/// magnitudes of the two linear elements of its row of `a`, in bits, over 65536, and 1 bit from the
+/// exact one.
+#[unsafe(no_mangle)]
+pub extern "C" fn font_matrix_in_turn(a: FontMatrix, b: FontMatrix, p: FontPoint) -> FontPoint
+    ensures value { coordinates result
+        ≡ moved_by (elements a) (moved_by (elements b) (coordinates p)) }
+    ensures close { FitsInTurn (elements a) (elements b) (coordinates p)
+        → IsCloseInTurn (elements a) (elements b) (coordinates p) (coordinates result) }
+{
+    FontPoint::of(laws::in_turn(a.matrix(), b.matrix(), p.point()))
+}

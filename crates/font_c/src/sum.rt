@@ -1,0 +1,43 @@
+//! Sums of deltas.
+
+ghost use Rattle.std.specs.Prelude.{◌≡◌, ◌≢◌, ◌<◌, ◌*ℤ◌, length};
+ghost use Rattle.font_c.specs.Sums.{IsSummed, sum_of_products};
+
+use font_types::Fixed;
+
+/// The exact sum of the products of 16.16 scalars and deltas, item by item, in units of `2^-16`: 0
+/// where it is in `sum`, 1 where the lists differ in length, 2 where 64 bits do not hold it.
+#[unsafe(no_mangle)]
+pub extern "C" fn font_delta_sum(scalars: &[i32], deltas: &[i32], sum: &mut i64) -> u32
+    ensures summed { IsSummed scalars.now deltas.now result sum.new }
+    ensures known { result < 3 }
+    ensures kept { result ≢ 0 → sum.new ≡ sum.old }
+{
+    if scalars.len() != deltas.len() {
+        return 1;
+    }
+    let Ok(units) = i64::try_from(exact_sum(scalars, deltas)) else {
+        return 2;
+    };
+    *sum = units;
+    0
+}
+
+// The exact sum of the products, item by item. 128 bits hold every partial sum of fewer than 2^64
+// products of 64 bits.
+fn exact_sum(scalars: &[i32], deltas: &[i32]) -> i128
+    requires { length scalars.now ≡ length deltas.now }
+    ensures { result ≡ sum_of_products scalars.now deltas.now }
+{
+    let mut sum = 0i128;
+    for i in 0..scalars.len() {
+        sum += i128::from(product(scalars[i], deltas[i]));
+    }
+    sum
+}
+
+fn product(scalar: i32, delta: i32) -> i64
+    ensures { result ≡ (scalar *ℤ delta) }
+{
+    Fixed::from_bits(scalar).mul_i32(delta).to_bits()
+}

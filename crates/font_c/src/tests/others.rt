@@ -1,0 +1,102 @@
+//! Matrices, tags and sums of deltas.
+
+use crate::matrix::*;
+use crate::sum::font_delta_sum;
+use crate::tag::*;
+use std::test::Fail;
+
+const ONE: i32 = 0x1_0000;
+
+// Turns by a right angle, and moves by (1, 2).
+const TURN: FontMatrix = FontMatrix {
+    xx: 0,
+    yx: ONE,
+    xy: -ONE,
+    yy: 0,
+    dx: ONE,
+    dy: 2 * ONE,
+};
+
+const POINT: FontPoint = FontPoint {
+    x: 3 * ONE,
+    y: ONE / 2,
+};
+
+#[test]
+fn a_turn_and_two(rt: HostRuntime) -> Result<(), Fail> {
+    let once = font_matrix_image(TURN, POINT);
+    assert_eq!(rt; (once.x, once.y), (ONE / 2, 5 * ONE));
+    let half_turn = font_matrix_product(TURN, TURN);
+    assert_eq!(rt;
+        (half_turn.xx, half_turn.dx, half_turn.dy),
+        (-ONE, -ONE, 3 * ONE)
+    );
+    for twice in [
+        font_matrix_composed(TURN, TURN, POINT),
+        font_matrix_in_turn(TURN, TURN, POINT),
+    ] {
+        assert_eq!(rt; (twice.x, twice.y), (-4 * ONE, 5 * ONE / 2));
+    }
+    Ok(())
+}
+
+#[test]
+fn tags_are_made(rt: HostRuntime) -> Result<(), Fail> {
+    let rows: [(&[u8], u32, u32); 4] = [
+        (b"cvt", 0, 0x6376_7420),
+        (b"", 1, 7),
+        (b"wghts", 1, 7),
+        (b"a b", 2, 7),
+    ];
+    for (text, status, tag) in rows {
+        let mut place = 7;
+        assert_eq!(rt; (font_tag_new(text, &mut place), place), (status, tag));
+    }
+    Ok(())
+}
+
+#[test]
+fn tags_are_judged(rt: HostRuntime) -> Result<(), Fail> {
+    let rows: [(&[u8], u32, u32); 5] = [
+        (b"cvt ", 0, 7),
+        (b"cvt", 1, 7),
+        (b"    ", 1, 7),
+        (b"cv\0t", 2, 2),
+        (b"c  t", 3, 3),
+    ];
+    for (bytes, status, position) in rows {
+        let mut place = 7;
+        assert_eq!(rt;
+            (font_tag_validate(bytes, &mut place), place),
+            (status, position)
+        );
+    }
+    Ok(())
+}
+
+#[test]
+fn tags_are_shown(rt: HostRuntime) -> Result<(), Fail> {
+    let mut out = *b".........";
+    assert_eq!(rt; font_tag_to_text(0x6376_0A20, &mut out), 9);
+    assert_eq!(rt; out, *b"cv{0x0A} ");
+    assert_eq!(rt; font_tag_to_text(0x6376_0A20, &mut out[..8]), 0);
+    Ok(())
+}
+
+#[test]
+fn deltas_are_added_up(rt: HostRuntime) -> Result<(), Fail> {
+    let rows: [(&[i32], &[i32], u32, i64); 4] = [
+        (&[], &[], 0, 0),
+        (&[0x8000, -0x1_0000], &[3, 2], 0, -32768),
+        (&[ONE], &[], 1, 7),
+        (&[i32::MIN, i32::MIN], &[i32::MIN, i32::MIN], 2, 7),
+    ];
+    for (scalars, deltas, status, sum) in rows {
+        let mut place = 7;
+        assert_eq!(rt;
+            (font_delta_sum(scalars, deltas, &mut place), place),
+            (status, sum)
+        );
+    }
+    Ok(())
+}

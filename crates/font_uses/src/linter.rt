@@ -1,0 +1,59 @@
+//! A linter: judges the tags of a font's tables.
+
+ghost use Rattle.std.specs.Prelude.{◌≡◌, ◌↔◌, All, IsTrue, MatchResult, MatchOption, length};
+ghost use Rattle.std.specs.List.{AllAdjacentBelow};
+ghost use Rattle.font_types.specs.Tag.{tag_bytes, IsGood};
+ghost use Rattle.font_uses.specs.Linter.{IsFirstBad, AreDifferent, IsFirstRepeated};
+
+use font_types::{InvalidTag, Tag};
+use std::cmp::Ordering;
+use thiserror::Error;
+
+/// The first tag of a list that is not good.
+#[derive(Clone, Debug, PartialEq, Eq, Drop, Error)]
+#[error("tag {place}: {fault}")]
+pub struct BadTag {
+    /// Where the tag stands; the first has 0.
+    pub place: usize,
+    /// Why it is not good.
+    pub fault: InvalidTag,
+}
+
+/// Judges each tag, and tells the first that is not good.
+pub fn judge(tags: &[Tag]) -> Result<(), BadTag>
+    ensures { MatchResult result (λ _. All (λ tag. IsGood (tag_bytes tag)) tags.now)
+        (λ bad. IsFirstBad tags.now bad) }
+{
+    for (place, tag) in tags.iter().enumerate() {
+        if let Err(fault) = tag.validate() {
+            return Err(BadTag { place, fault });
+        }
+    }
+    Ok(())
+}
+
+/// Whether each tag is greater than the one before it.
+pub fn is_in_order(tags: &[Tag]) -> bool
+    ensures { IsTrue result ↔ AllAdjacentBelow
+        (λ a b. ⟦<Tag as Ord>⟧.cmp a b ≡ Ordering.Less) tags.now (length tags.now) }
+{
+    for place in 1..tags.len() {
+        if tags[place - 1].cmp(&tags[place]).is_ge() {
+            return false;
+        }
+    }
+    true
+}
+
+/// The place of the first tag that stands before it too, or `None` where none stands twice.
+pub fn first_repeated(tags: &[Tag]) -> Option<usize>
+    ensures { MatchOption result (AreDifferent tags.now (length tags.now))
+        (λ place. IsFirstRepeated tags.now place) }
+{
+    for (place, tag) in tags.iter().enumerate() {
+        if tags[..place].contains(tag) {
+            return Some(place);
+        }
+    }
+    None
+}

@@ -1,0 +1,175 @@
+//! A reader of tables: values one after the other, the one at a place, a header, and a scalar of its own.
+
+ghost use Rattle.std.specs.Prelude.{◌≡◌, ◌↔◌, ◌≤◌, ◌<◌, ◌+◌, ◌*◌, ◌^◌, ℕ, pos, length, take, drop, nat_lt, refl, IsSome, IfSome, IfNone, IfOk, vec_len, slice_index_or};
+ghost use Rattle.font_types.specs.Bytes.{numeral, signed_numeral, bytes_of};
+ghost use Rattle.font_types.specs.Scalar.{IsValueOf};
+ghost use Rattle.font_types.specs.Scalar.Laws.{unsigned_newtype, unsigned_identity};
+ghost use Rattle.font_types.specs.BigEndian.{raw_value};
+ghost use Rattle.font_types.specs.Fixed.{fixed_bits};
+ghost use Rattle.font_types.specs.LongDateTime.{date_seconds};
+ghost use Rattle.font_types.specs.Tag.{tag_bytes};
+ghost use Rattle.font_types.specs.Uint24.{uint24_number};
+
+use font_types::{
+    BigEndian, FWord, Fixed, FixedSize, IdentityEq, LongDateTime, Scalar, TableDataRef,
+    TableHeader, Tag, Uint24,
+};
+use std::alloc::{AllocError, Global};
+
+// ---- values one after the other
+
+/// Goes over bytes, value by value.
+#[derive(Drop)]
+pub struct Cursor<'a> {
+    /// The bytes that are left.
+    pub rest: &'a [u8],
+}
+
+impl Cursor<'_> {
+    /// The next value, or `None` at the end, where the cursor stays.
+    pub fn read<T: Scalar>(&mut self) -> Option<T>
+        ensures end { IsSome result ↔ (T.RAW_BYTE_LEN ≤ length self.old.rest.now) }
+        ensures value { IfSome result (λ v.
+            IsValueOf T.Raw.bytes T.of_raw (take T.RAW_BYTE_LEN self.old.rest.now) v) }
+        ensures stored { IfSome result (λ v.
+            T.Raw.bytes (T.raw_of v) ≡ take T.RAW_BYTE_LEN self.old.rest.now) }
+        ensures moved { IsSome result →
+            self.new.rest.now ≡ drop T.RAW_BYTE_LEN self.old.rest.now }
+        ensures stays { IfNone result (self.new.rest.now ≡ self.old.rest.now) }
+    {
+        let (front, rest) = self.rest.split_at_checked(T::RAW_BYTE_LEN)?;
+        let value = T::read(front)?;
+        self.rest = rest;
+        Some(value)
+    }
+
+    /// The next values, so many of them, or `None` where there are fewer.
+    pub fn read_array<T: Scalar + Drop>(
+        &mut self,
+        count: usize,
+        alloc: Global,
+    ) -> Result<Option<Vec<T>>, AllocError>
+        ensures count { IfOk result (λ read. IfSome read (λ values. vec_len values ≡ count)) }
+        ensures moved { IfOk result (λ read. IsSome read →
+            self.new.rest.now ≡ drop (count * T.RAW_BYTE_LEN) self.old.rest.now) }
+    {
+        let mut values = Vec::new(alloc);
+        for _ in 0..count {
+            let Some(value) = self.read::<T>() else {
+                return Ok(None);
+            };
+            values.push(value)?;
+        }
+        Ok(Some(values))
+    }
+}
+
+/// What a reader's own table says of a strike of bitmaps.
+#[derive(Drop)]
+pub struct Strike {
+    /// Where its data stands.
+    pub table: Tag,
+    /// How large it is shown.
+    pub scale: Fixed,
+    /// How many bytes it has.
+    pub byte_len: Uint24,
+    /// How large it was drawn.
+    pub size: PixelsPerEm,
+    /// How many glyphs it has.
+    pub glyph_count: u16,
+}
+
+#[tactic(auto, using(font_types::proofs::Callers::scalar_calls))]
+/// The strike in front of the cursor, 15 bytes, or `None` where there are fewer.
+pub fn read_strike(cursor: &mut Cursor<'_>) -> Option<Strike>
+    ensures table { IfSome result (λ strike. tag_bytes strike.table ≡ take 4 cursor.old.rest.now) }
+    ensures scale { IfSome result (λ strike.
+        fixed_bits strike.scale ≡ signed_numeral 4 (take 4 (drop 4 cursor.old.rest.now))) }
+    ensures byte_len { IfSome result (λ strike.
+        uint24_number strike.byte_len ≡ numeral (take 3 (drop 8 cursor.old.rest.now))) }
+    ensures size { IfSome result (λ strike.
+        strike.size.0 ≡ numeral (take 2 (drop 11 cursor.old.rest.now))) }
+    ensures glyph_count { IfSome result (λ strike.
+        strike.glyph_count ≡ numeral (take 2 (drop 13 cursor.old.rest.now))) }
+{
+    Some(Strike {
+        table: cursor.read()?,
+        scale: cursor.read()?,
+        byte_len: cursor.read()?,
+        size: cursor.read()?,
+        glyph_count: cursor.read()?,
+    })
+}
+
+// ---- the value at a place
+
+/// The value that stands at an offset, or `None` behind the end.
+pub fn value_at<T: Scalar>(bytes: &[u8], offset: usize) -> Option<T>
+    ensures end { IsSome result ↔ (offset + T.RAW_BYTE_LEN ≤ length bytes.now) }
+    ensures value { IfSome result (λ v.
+        IsValueOf T.Raw.bytes T.of_raw (take T.RAW_BYTE_LEN (drop offset bytes.now)) v) }
+{
+    let (_, rest) = bytes.split_at_checked(offset)?;
+    let (front, _) = rest.split_at_checked(T::RAW_BYTE_LEN)?;
+    T::read(front)
+}
+
+/// The value of that index in an array of values, the first has 0.
+pub fn nth<T: Scalar>(bytes: &[u8], index: usize) -> Option<T>
+    ensures { IfSome result (λ v. IsValueOf T.Raw.bytes T.of_raw
+        (take T.RAW_BYTE_LEN (drop (index * T.RAW_BYTE_LEN) bytes.now)) v) }
+{
+    value_at(bytes, index.checked_mul(T::RAW_BYTE_LEN)?)
+}
+
+/// The numbers of an array, or `None` where there are fewer.
+pub fn numbers(bytes: &[u8], count: usize, alloc: Global) -> Result<Option<Vec<u16>>, AllocError>
+    ensures count { IfOk result (λ read. IfSome read (λ numbers. vec_len numbers ≡ count)) }
+    ensures each { IfOk result (λ read. IfSome read (λ numbers. (k : ℕ) → k < count →
+        slice_index_or numbers.items k 0 ≡ numeral (take 2 (drop (k * 2) bytes.now)))) }
+{
+    let mut numbers = Vec::new(alloc);
+    for index in 0..count {
+        let Some(number) = nth::<u16>(bytes, index) else {
+            return Ok(None);
+        };
+        numbers.push(number)?;
+    }
+    Ok(Some(numbers))
+}
+
+// ---- a scalar of one's own
+
+/// How many pixels an em takes.
+#[derive(Clone, Copy, PartialEq, Eq, PartialOrd, Ord)]
+pub struct PixelsPerEm(pub u16);
+
+impl FixedSize for PixelsPerEm {
+    const RAW_BYTE_LEN: usize = 2;
+
+    ghost RAW_BYTE_LEN = { 2 };
+}
+
+impl Scalar for PixelsPerEm {
+    type Raw = [u8; 2];
+
+    ghost is_scalar = { λ size. nat_lt size.0 (2 ^ 16) };
+
+    ghost of_raw = { λ raw. record { 0 = numeral raw } };
+
+    ghost raw_of = { λ size. bytes_of 2 (pos size.0) };
+
+    ghost laws = { unsigned_newtype 2 (λ size. size.0) (λ n. record { 0 = n }) (λ _. refl) (λ _. refl) };
+
+    fn from_raw(raw: [u8; 2]) -> PixelsPerEm {
+        PixelsPerEm(u16::from_raw(raw))
+    }
+
+    fn to_raw(self) -> [u8; 2] {
+        self.0.to_raw()
+    }
+}
+
+impl IdentityEq for PixelsPerEm {
+    ghost identity = { unsigned_identity (λ size. size.0) (λ n. record { 0 = n }) (λ _. refl) };
+}

@@ -1,0 +1,54 @@
+//! A scaler of outlines: points through matrices, and sizes on the grid of pixels.
+
+ghost use Rattle.std.specs.Prelude.{◌≡◌, IfOk, map};
+ghost use Rattle.font_types.specs.F26Dot6.{f26dot6_bits};
+ghost use Rattle.font_types.specs.FixedMatrix.{matrix_bits, point_bits, wrapped_sum, wrapped_product, FitsComposed, IsCloseComposed};
+ghost use Rattle.font_types.specs.Matrix.{image_of};
+ghost use Rattle.font_types.specs.Operations.{IsNearestWhole};
+
+use font_types::{F26Dot6, Fixed, Matrix, Point, laws};
+use std::alloc::{AllocError, Global};
+
+/// Where a matrix moves points, one after the other.
+
+pub fn moved(
+    matrix: Matrix<Fixed>,
+    points: &[Point<Fixed>],
+    alloc: Global,
+) -> Result<Vec<Point<Fixed>>, AllocError>
+    ensures { IfOk result (λ moved. map point_bits moved.items
+        ≡ map (λ p. image_of wrapped_sum wrapped_product (matrix_bits matrix) (point_bits p)) points.now) }
+{
+    let mut moved = Vec::new(alloc);
+    for point in points {
+        moved.push(matrix * *point)?;
+    }
+    Ok(moved)
+}
+
+/// A glyph that stands in another, moved and then scaled with it.
+#[derive(Clone, Copy, PartialEq, Debug)]
+pub struct Component {
+    /// The number of the glyph.
+    pub glyph: u16,
+    /// Where it stands in the other.
+    pub placed: Matrix<Fixed>,
+}
+
+/// Where a point of a component comes to stand, near its exact place.
+///
+/// Where no entry of `scale * placed` and no coordinate of the answer leaves 32 bits, each coordinate is at most
+/// `(|x| + |y|) / 65536 + 2` steps from the exact one.
+pub fn scaled(scale: Matrix<Fixed>, component: Component, point: Point<Fixed>) -> Point<Fixed>
+    ensures close { FitsComposed (matrix_bits scale) (matrix_bits component.placed) (point_bits point)
+        → IsCloseComposed (matrix_bits scale) (matrix_bits component.placed) (point_bits point) (point_bits result) }
+{
+    laws::composed(scale, component.placed, point)
+}
+
+/// A coordinate in pixels, rounded to the grid, ties upwards.
+pub fn on_grid(coordinate: F26Dot6) -> F26Dot6
+    ensures { IsNearestWhole 32 6 (f26dot6_bits coordinate) (f26dot6_bits result) }
+{
+    coordinate.round()
+}
