@@ -199,6 +199,7 @@ fn rows(rt: HostRuntime) -> Result<(), Fail> {
         ("vary 32768", "error 5\n"),
         ("sum x", "error 2\n"),
         ("vary 1 x", "error 2\n"),
+        ("vary x 1", "error 2\n"),
         ("vary x x 1", "error 6\n"),
         ("vary 0 -32768 -2147483648 -32768 -2147483648", "error 5\n"),
         ("uint8\x0cff", "error 1\n"),
