@@ -11,3 +11,6 @@ mod reading;
 
 pub use products::{low_bits, mul_div, product};
 pub use reading::{read_bits_16, read_bits_32, read_bits_64};
+
+#[cfg(test)]
+mod tests;

@@ -1,5 +1,5 @@
 -- What callers of scalars and fields cite: the number of a 24-bit integer whose stored bytes are known, and a search that found no place.
-use Rattle.std.proofs.Common.{◌≡◌, ◌≢◌, ◌∙◌, ap, sym, arith, ℕ, List, get_or, lit<, inl, inr, Err}
+use Rattle.std.proofs.Common.{◌≡◌, ◌≢◌, ◌∙◌, ap, sym, arith, ℕ, List, get_or, lit<, inl, inr, Result, Ok, Err, IfErr}
 use Rattle.std.proofs.lemmas.Bool.{cases_lt}
 use Rattle.std.proofs.lemmas.List.Sorted.{searchable_from_sorted}
 use Rattle.std.specs.Cmp.{nat_cmp_is, nat_cmp_total}
@@ -25,9 +25,10 @@ int24_of_stored n bytes stored =
 pub ruleset scalar_calls = (uint24_of_stored, int24_of_stored)
 
 -- where elements are in the order of their numbers, and a binary search answers no place, none has the number
-pub absent : {X : Type 0} (number_of : X → ℕ) (xs : List X) (n place : ℕ) → IsSortedByKey number_of nat_cmp xs → IsBinarySearchResult (λ x. nat_cmp (number_of x) n) xs (Err place)
-    → All (λ x. number_of x ≢ n) xs
-absent number_of xs n place sorted searched =
+pub absent : {X : Type 0} (number_of : X → ℕ) (xs : List X) (n : ℕ) (result : Result ℕ ℕ) → IsSortedByKey number_of nat_cmp xs
+    → IsBinarySearchResult (λ x. nat_cmp (number_of x) n) xs result → IfErr result (λ _. All (λ x. number_of x ≢ n) xs)
+absent number_of xs n (Ok place) sorted searched = tt
+absent number_of xs n (Err place) sorted searched =
     let sides = searched (searchable_from_sorted nat_cmp_total number_of xs n sorted) in
     λ k d within same.
     let equal : Equal ≡ nat_cmp (number_of (get_or xs k d)) n = nat_cmp_is (number_of (get_or xs k d)) n Equal same in

@@ -1,2 +1,3 @@
 pub mod Nonempty
+mod Readings
 mod SumLemmas

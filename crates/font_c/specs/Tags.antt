@@ -7,14 +7,10 @@ use Rattle.font_types.specs.Tag.{IsAcceptable, IsTagLength, IsGood, IsFault, IsV
 abbrev pub number_bytes : ℕ → List ℕ
 number_bytes tag = bytes_of 4 (pos tag)
 
--- the number of such bytes
-abbrev pub number_of : List ℕ → ℕ
-number_of bytes = numeral bytes
-
 -- what a status and a number say of making a tag of bytes: 0 that the number is the tag, 1 that
 -- there are not one to four bytes, and 2 that they are no good bytes
 abbrev pub IsMade : List ℕ → ℕ → ℕ → Type 0
-IsMade bytes zero tag = IsAcceptable bytes × (tag ≡ number_of (filled bytes))
+IsMade bytes zero tag = IsAcceptable bytes × (tag ≡ numeral (filled bytes))
 IsMade bytes (suc zero) tag = ¬ IsTagLength (length bytes)
 IsMade bytes (suc (suc n)) tag = IsTagLength (length bytes) × (¬ IsGood bytes)
 

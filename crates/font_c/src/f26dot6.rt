@@ -1,21 +1,22 @@
 //! Numbers of 32 bits with 6 bits of fraction, by their bits.
 
+ghost use Rattle.std.specs.Int.{w32};
 ghost use Rattle.font_types.specs.Operations.{IsFloor, IsNearestWhole, IsProduct, IsQuotient};
 ghost use Rattle.font_c.specs.Texts.{WritesDecimal};
 ghost use Rattle.font_c.specs.Readings.{ReadsInto};
 ghost use Rattle.font_c.specs.Pads.{WritesPadded};
 
-use crate::text::{FontPad, put_decimal, put_padded, put_reading, text_of};
+use crate::text::{FontPad, NO_DECIMAL, put_decimal, put_padded, put_reading, text_of};
 use font_types::F26Dot6;
 
 /// Reads a decimal text as the nearest 26.6 number, ties away from zero: 0 where its bits are in
 /// `bits`, 1 where it is no decimal, 2 where it is out of range.
 #[unsafe(no_mangle)]
 pub extern "C" fn font_f26dot6_from_decimal(text: &[u8], bits: &mut i32) -> u32
-    ensures { ReadsInto 32 6 text.now result bits.old bits.new }
+    ensures { ReadsInto w32 6 text.now result bits.old bits.new }
 {
     let Some(text) = text_of(text) else {
-        return 1;
+        return NO_DECIMAL;
     };
     put_reading(
         F26Dot6::from_decimal(text).map(|number| number.to_bits()),

@@ -1,21 +1,22 @@
 //! Numbers of 16 bits with 10 bits of fraction, by their bits.
 
+ghost use Rattle.std.specs.Int.{w16};
 ghost use Rattle.font_types.specs.Operations.{IsFloor, IsNearestWhole};
 ghost use Rattle.font_c.specs.Texts.{WritesDecimal};
 ghost use Rattle.font_c.specs.Readings.{ReadsInto};
 ghost use Rattle.font_c.specs.Pads.{WritesPadded};
 
-use crate::text::{FontPad, put_decimal, put_padded, put_reading, text_of};
+use crate::text::{FontPad, NO_DECIMAL, put_decimal, put_padded, put_reading, text_of};
 use font_types::F6Dot10;
 
 /// Reads a decimal text as the nearest 6.10 number, ties away from zero: 0 where its bits are in
 /// `bits`, 1 where it is no decimal, 2 where it is out of range.
 #[unsafe(no_mangle)]
 pub extern "C" fn font_f6dot10_from_decimal(text: &[u8], bits: &mut i16) -> u32
-    ensures { ReadsInto 16 10 text.now result bits.old bits.new }
+    ensures { ReadsInto w16 10 text.now result bits.old bits.new }
 {
     let Some(text) = text_of(text) else {
-        return 1;
+        return NO_DECIMAL;
     };
     put_reading(
         F6Dot10::from_decimal(text).map(|number| number.to_bits()),

@@ -2,9 +2,9 @@
 //! matrices, tags and sums of deltas.
 //!
 //! Each export makes one call of `font_types` and says the clauses of that call again, over
-//! numbers, bytes and plain structs. None asks anything of its arguments that a contract could:
-//! what it cannot take it refuses, and it then leaves every place as it was. It keeps nothing
-//! between calls, and allocates nothing. `include/font_types.h` declares it all.
+//! numbers, bytes and plain structs. None has a `requires`, which nobody outside would meet: what
+//! it cannot take it refuses, and it then leaves every place as it was. It keeps nothing between
+//! calls, and allocates nothing. `include/font_types.h` declares it all.
 #![tactic(auto)]
 
 mod f26dot6;

@@ -5,6 +5,15 @@ ghost use Rattle.font_c.specs.Sums.{IsSummed, sum_of_products};
 
 use font_types::Fixed;
 
+/// The sum is in its place.
+const SUMMED: u32 = 0;
+
+/// There are not as many scalars as deltas.
+const OTHER_LENGTH: u32 = 1;
+
+/// 64 bits do not hold the sum.
+const OUT_OF_RANGE: u32 = 2;
+
 /// The exact sum of the products of 16.16 scalars and deltas, item by item, in units of `2^-16`: 0
 /// where it is in `sum`, 1 where the lists differ in length, 2 where 64 bits do not hold it.
 #[unsafe(no_mangle)]
@@ -14,13 +23,13 @@ pub extern "C" fn font_delta_sum(scalars: &[i32], deltas: &[i32], sum: &mut i64)
     ensures kept { result ≢ 0 → sum.new ≡ sum.old }
 {
     if scalars.len() != deltas.len() {
-        return 1;
+        return OTHER_LENGTH;
     }
     let Ok(units) = i64::try_from(exact_sum(scalars, deltas)) else {
-        return 2;
+        return OUT_OF_RANGE;
     };
     *sum = units;
-    0
+    SUMMED
 }
 
 // The exact sum of the products, item by item. 128 bits hold every partial sum of fewer than 2^64

@@ -1,6 +1,6 @@
 //! Tags, as numbers of 32 bits whose bytes they are, highest first.
 
-ghost use Rattle.std.specs.Prelude.{◌≡◌, ◌≢◌, ◌+◌, ◌<◌, ◌≤◌, ◌++◌, [], length, true};
+ghost use Rattle.std.specs.Prelude.{◌≡◌, ◌≢◌, ◌<◌, ◌≤◌, length};
 ghost use Rattle.font_types.specs.Tag.{tag_text};
 ghost use Rattle.font_c.specs.Tags.{IsJudged, IsMade, number_bytes};
 ghost use Rattle.font_c.specs.Texts.{WritesText};
@@ -8,6 +8,18 @@ ghost use Rattle.font_c.specs.Texts.{WritesText};
 use crate::tag_text::TagText;
 use crate::text::put_text;
 use font_types::{InvalidTag, Scalar, Tag};
+
+/// Visible characters, and only spaces behind them.
+const GOOD: u32 = 0;
+
+/// Another number of bytes, or spaces alone.
+const BAD_LENGTH: u32 = 1;
+
+/// A byte that cannot stand where it does.
+const BAD_BYTE: u32 = 2;
+
+/// A visible byte behind a space.
+const AFTER_SPACE: u32 = 3;
 
 /// Makes a tag of one to four good bytes, filled with spaces: 0 where it is in `tag`, 1 where there
 /// are not one to four bytes, 2 where a byte cannot stand where it does.
@@ -20,10 +32,10 @@ pub extern "C" fn font_tag_new(text: &[u8], tag: &mut u32) -> u32
     match Tag::new_checked(text) {
         Ok(good) => {
             *tag = u32::from_raw(good.to_be_bytes());
-            0
+            GOOD
         }
-        Err(InvalidTag::InvalidLength(_)) => 1,
-        Err(_) => 2,
+        Err(InvalidTag::InvalidLength(_)) => BAD_LENGTH,
+        Err(_) => BAD_BYTE,
     }
 }
 
@@ -36,18 +48,18 @@ pub extern "C" fn font_tag_validate(bytes: &[u8], position: &mut u32) -> u32
     ensures kept { result < 2 → position.new ≡ position.old }
 {
     let Ok(bytes) = bytes.try_into() else {
-        return 1;
+        return BAD_LENGTH;
     };
     match Tag::new(bytes).validate() {
-        Ok(()) => 0,
-        Err(InvalidTag::InvalidLength(_)) => 1,
+        Ok(()) => GOOD,
+        Err(InvalidTag::InvalidLength(_)) => BAD_LENGTH,
         Err(InvalidTag::InvalidByte { pos, .. }) => {
             *position = pos as u32;
-            2
+            BAD_BYTE
         }
         Err(InvalidTag::ByteAfterSpace { pos }) => {
             *position = pos as u32;
-            3
+            AFTER_SPACE
         }
     }
 }

@@ -10,6 +10,15 @@ ghost use Rattle.font_c.specs.Pads.{IsPad, pad_of, WritesPadded};
 
 use font_types::{Align, DecimalFault, Pad, Shortest};
 
+/// A number was read, and put into its place.
+pub const READ: u32 = 0;
+
+/// A text is no decimal.
+pub const NO_DECIMAL: u32 = 1;
+
+/// The number nearest to a decimal is out of range.
+pub const OUT_OF_RANGE: u32 = 2;
+
 /// How a text is padded.
 #[repr(C)]
 #[derive(Clone, Copy)]
@@ -60,8 +69,7 @@ pub fn text_of(bytes: &[u8]) -> Option<&str>
     }
 }
 
-/// Puts a number that was read into its place, and answers the status: 0 read, 1 no decimal, 2 out
-/// of range.
+/// Puts a number that was read into its place, and answers the status.
 pub fn put_reading<T: Copy>(reading: Result<T, DecimalFault>, place: &mut T) -> u32
     ensures reading { reading_of result place.new ≡ reading }
     ensures known { result < 3 }
@@ -70,10 +78,10 @@ pub fn put_reading<T: Copy>(reading: Result<T, DecimalFault>, place: &mut T) -> 
     match reading {
         Ok(number) => {
             *place = number;
-            0
+            READ
         }
-        Err(DecimalFault::Syntax) => 1,
-        Err(DecimalFault::OutOfRange) => 2,
+        Err(DecimalFault::Syntax) => NO_DECIMAL,
+        Err(DecimalFault::OutOfRange) => OUT_OF_RANGE,
     }
 }
 

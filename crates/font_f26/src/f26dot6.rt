@@ -20,6 +20,7 @@ use font_base::Scalar;
 use font_decimal::{DecimalFault, Pad, Shortest};
 use std::fmt;
 use std::ops::{Add, AddAssign, Div, DivAssign, Mul, MulAssign, Neg, Sub, SubAssign};
+use std::str::FromStr;
 
 /// A fixed-point number of 32 bits, the last 6 of which are its fraction: the unit of scaled
 /// outlines.
@@ -269,6 +270,17 @@ impl DivAssign for F26Dot6 {
 
     fn div_assign(&mut self, other: F26Dot6) {
         *self = *self / other;
+    }
+}
+
+/// The text is read as by `from_decimal`: `"1.5".parse::<F26Dot6>()`.
+impl FromStr for F26Dot6 {
+    type Err = DecimalFault;
+
+    ghost from_str_gives = { λ text result. ReadsBy w32 6 f26dot6_bits text result };
+
+    fn from_str(text: &str) -> Result<Self, DecimalFault> {
+        Self::from_decimal(text)
     }
 }
 

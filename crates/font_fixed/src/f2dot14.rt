@@ -25,6 +25,7 @@ use font_base::{FixedSize, IdentityEq, Scalar};
 use font_decimal::{DecimalFault, Pad, Shortest};
 use std::fmt;
 use std::ops::{Add, AddAssign, Neg, Sub, SubAssign};
+use std::str::FromStr;
 
 /// A fixed-point number of 16 bits, the last 14 of which are its fraction: a coordinate in a
 /// normalized design space.
@@ -236,6 +237,17 @@ impl Neg for F2Dot14 {
 
     fn neg(self) -> F2Dot14 {
         Self(self.0.wrapping_neg())
+    }
+}
+
+/// The text is read as by `from_decimal`: `"1.5".parse::<F2Dot14>()`.
+impl FromStr for F2Dot14 {
+    type Err = DecimalFault;
+
+    ghost from_str_gives = { λ text result. ReadsBy w16 14 f2dot14_bits text result };
+
+    fn from_str(text: &str) -> Result<Self, DecimalFault> {
+        Self::from_decimal(text)
     }
 }
 

@@ -22,6 +22,7 @@ use font_base::Scalar;
 use font_decimal::{DecimalFault, Pad, Shortest};
 use std::fmt;
 use std::ops::{Add, AddAssign, Neg, Sub, SubAssign};
+use std::str::FromStr;
 
 /// A fixed-point number of 64 bits, the last 16 of which are its fraction: a sum of deltas.
 ///
@@ -252,6 +253,17 @@ impl Neg for F48Dot16 {
 
     fn neg(self) -> F48Dot16 {
         Self(self.0.wrapping_neg())
+    }
+}
+
+/// The text is read as by `from_decimal`: `"1.5".parse::<F48Dot16>()`.
+impl FromStr for F48Dot16 {
+    type Err = DecimalFault;
+
+    ghost from_str_gives = { λ text result. ReadsBy w64 16 f48dot16_bits text result };
+
+    fn from_str(text: &str) -> Result<Self, DecimalFault> {
+        Self::from_decimal(text)
     }
 }
 

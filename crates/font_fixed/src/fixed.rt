@@ -29,6 +29,7 @@ use font_decimal::{DecimalFault, Pad, Shortest};
 use font_f26::F26Dot6;
 use std::fmt;
 use std::ops::{Add, AddAssign, Div, DivAssign, Mul, MulAssign, Neg, Sub, SubAssign};
+use std::str::FromStr;
 
 /// A fixed-point number of 32 bits, the last 16 of which are its fraction.
 ///
@@ -346,6 +347,26 @@ impl From<i32> for Fixed {
 
     fn from(number: i32) -> Fixed {
         Fixed::from_i32(number)
+    }
+}
+
+/// The same number, as by `to_fixed`.
+impl From<F2Dot14> for Fixed {
+    ghost from_gives = { λ number fixed. fixed_bits fixed ≡ (f2dot14_bits number *ℤ pos 4) };
+
+    fn from(number: F2Dot14) -> Fixed {
+        number.to_fixed()
+    }
+}
+
+/// The text is read as by `from_decimal`: `"1.5".parse::<Fixed>()`.
+impl FromStr for Fixed {
+    type Err = DecimalFault;
+
+    ghost from_str_gives = { λ text result. ReadsBy w32 16 fixed_bits text result };
+
+    fn from_str(text: &str) -> Result<Self, DecimalFault> {
+        Self::from_decimal(text)
     }
 }
 

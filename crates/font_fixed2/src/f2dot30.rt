@@ -21,6 +21,7 @@ use font_base::{FixedSize, IdentityEq, Scalar};
 use font_decimal::{DecimalFault, Pad, Shortest};
 use std::fmt;
 use std::ops::{Add, AddAssign, Neg, Sub, SubAssign};
+use std::str::FromStr;
 
 /// A fixed-point number of 32 bits, the last 30 of which are its fraction.
 ///
@@ -214,6 +215,17 @@ impl Neg for F2Dot30 {
 
     fn neg(self) -> F2Dot30 {
         Self(self.0.wrapping_neg())
+    }
+}
+
+/// The text is read as by `from_decimal`: `"1.5".parse::<F2Dot30>()`.
+impl FromStr for F2Dot30 {
+    type Err = DecimalFault;
+
+    ghost from_str_gives = { λ text result. ReadsBy w32 30 f2dot30_bits text result };
+
+    fn from_str(text: &str) -> Result<Self, DecimalFault> {
+        Self::from_decimal(text)
     }
 }
 

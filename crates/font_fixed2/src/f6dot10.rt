@@ -21,6 +21,7 @@ use font_base::{FixedSize, IdentityEq, Scalar};
 use font_decimal::{DecimalFault, Pad, Shortest};
 use std::fmt;
 use std::ops::{Add, AddAssign, Neg, Sub, SubAssign};
+use std::str::FromStr;
 
 /// A fixed-point number of 16 bits, the last 10 of which are its fraction.
 ///
@@ -214,6 +215,17 @@ impl Neg for F6Dot10 {
 
     fn neg(self) -> F6Dot10 {
         Self(self.0.wrapping_neg())
+    }
+}
+
+/// The text is read as by `from_decimal`: `"1.5".parse::<F6Dot10>()`.
+impl FromStr for F6Dot10 {
+    type Err = DecimalFault;
+
+    ghost from_str_gives = { λ text result. ReadsBy w16 10 f6dot10_bits text result };
+
+    fn from_str(text: &str) -> Result<Self, DecimalFault> {
+        Self::from_decimal(text)
     }
 }
 

@@ -15,6 +15,7 @@ pub use Rattle.font_decimal.specs.Shown
 pub use Rattle.font_decimal.specs.Padding
 pub use Rattle.font_arithmetic.specs.Operations
 pub use Rattle.font_arithmetic.specs.NumberLaws
+pub use Rattle.font_arithmetic.specs.Reading as NumberReading
 pub use Rattle.font_f26.specs.F26Dot6
 pub use Rattle.font_fixed.specs.Fixed
 pub use Rattle.font_fixed.specs.F2Dot14

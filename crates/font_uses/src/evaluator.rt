@@ -1,17 +1,22 @@
-//! An evaluator of variations: numbers between others, sums, and quantities varied by terms that stand in bytes.
+//! An evaluator of variations: numbers between others, sums, and quantities varied by terms of bytes.
 #![tactic(auto, using(font_types::proofs::Callers::sum_calls))]
 
-ghost use Rattle.std.specs.Prelude.{◌≡◌, ◌≢◌, ◌≤ℤ◌, ◌+ℤ◌, pos, IfSome, IfOk};
+ghost use Rattle.std.specs.Prelude.{◌≡◌, ◌≢◌, ◌≤◌, ◌+◌, ◌≤ℤ◌, ◌+ℤ◌, pos, length, ◌↔◌, ℤ, [], ◌∷◌, ◌++◌, IsSome, IfSome, IfOk, OnOk};
 ghost use Rattle.font_types.specs.Wrap.{wrap};
 ghost use Rattle.font_types.specs.Fixed.{fixed_bits};
 ghost use Rattle.font_types.specs.F48Dot16.{f48dot16_bits};
-ghost use Rattle.font_types.specs.Delta.{total, exact_sum, term_product};
+ghost use Rattle.font_types.specs.Operations.{IsQuotient};
+ghost use Rattle.font_types.specs.Delta.{total, exact_sum, term_product, varied};
+ghost use Rattle.font_types.specs.FWord.{fword_number};
+ghost use Rattle.font_uses.specs.Evaluator.{mixed, term_at, terms_of};
 
-use font_types::{F48Dot16, Fixed, delta_sum};
-use std::alloc::AllocError;
+use crate::reader::value_at;
+use font_types::{F48Dot16, FWord, Fixed, delta_sum, vary};
+use std::alloc::{AllocError, Global};
 
 /// A number between two, `ratio` of the way from `a` to `b`.
 pub fn between(a: Fixed, b: Fixed, ratio: Fixed) -> Fixed
+    ensures value { fixed_bits result ≡ mixed (fixed_bits a) (fixed_bits b) (fixed_bits ratio) }
     ensures start { ratio ≡ Fixed.ZERO → result ≡ a }
     ensures end { ratio ≡ Fixed.ONE → result ≡ b }
     ensures same { a ≡ b → result ≡ a }
@@ -23,6 +28,7 @@ pub fn between(a: Fixed, b: Fixed, ratio: Fixed) -> Fixed
 pub fn ratio(part: Fixed, whole: Fixed) -> Fixed
     requires part { (pos 0 ≤ℤ fixed_bits part) × (fixed_bits part ≤ℤ fixed_bits whole) }
     requires whole { whole ≢ Fixed.ZERO }
+    ensures value { IsQuotient 32 16 (fixed_bits part) (fixed_bits whole) (fixed_bits result) }
     ensures low { pos 0 ≤ℤ fixed_bits result }
     ensures high { fixed_bits result ≤ℤ fixed_bits Fixed.ONE }
     ensures all { part ≡ whole → result ≡ Fixed.ONE }
@@ -30,8 +36,14 @@ pub fn ratio(part: Fixed, whole: Fixed) -> Fixed
     part / whole
 }
 
-/// The number that stands as far from `a` to `b` as `part` does from 0 to `whole`, or `None` where it does not lie there.
+/// The number that stands between `a` and `b` as `part` does between 0 and `whole`, or `None` where it does not
+/// lie there.
 pub fn carried_over(part: Fixed, whole: Fixed, a: Fixed, b: Fixed) -> Option<Fixed>
+    ensures there { IsSome result ↔ ((pos 0 ≤ℤ fixed_bits part)
+        × (fixed_bits part ≤ℤ fixed_bits whole) × (whole ≢ Fixed.ZERO)) }
+    ensures value { IfSome result (λ number. (share : ℤ)
+        × IsQuotient 32 16 (fixed_bits part) (fixed_bits whole) share
+        × (fixed_bits number ≡ mixed (fixed_bits a) (fixed_bits b) share)) }
     ensures end { part ≡ whole → IfSome result (λ number. number ≡ b) }
     ensures same { a ≡ b → IfSome result (λ number. number ≡ a) }
 {
@@ -54,9 +66,41 @@ pub fn sum(numbers: &[Fixed]) -> Fixed
 
 /// Puts a term behind the others, and gives the sum of all.
 pub fn sum_with(terms: &mut Vec<(Fixed, i32)>, term: (Fixed, i32)) -> Result<F48Dot16, AllocError>
-    ensures { IfOk result (λ sum.
+    ensures terms { OnOk result (terms.new.items ≡ terms.old.items ++ term ∷ []) }
+    ensures sum { IfOk result (λ sum.
         f48dot16_bits sum ≡ wrap 64 (exact_sum terms.old.items +ℤ term_product term)) }
 {
     terms.push(term)?;
     Ok(delta_sum(terms))
+}
+
+/// The terms that stand in bytes, a scalar and a delta in eight bytes each. What is behind the last whole term is
+/// left out.
+pub fn read_terms(bytes: &[u8], alloc: Global) -> Result<Vec<(Fixed, i32)>, AllocError>
+    ensures { IfOk result (λ terms. terms.items ≡ terms_of bytes.now) }
+{
+    let mut terms = Vec::new(alloc);
+    for index in 0..bytes.len() / 8 {
+        terms.push(term_at(bytes, index * 8))?;
+    }
+    Ok(terms)
+}
+
+// The term at an offset.
+fn term_at(bytes: &[u8], offset: usize) -> (Fixed, i32)
+    requires { offset + 8 ≤ length bytes.now }
+    ensures { result ≡ term_at bytes.now offset }
+{
+    let scalar = value_at(bytes, offset).unwrap();
+    let delta = value_at(bytes, offset + 4).unwrap();
+    (scalar, delta)
+}
+
+/// A quantity moved by the terms that stand in bytes, in units of `2^-16`, or `None` where 64 bits do not hold
+/// their exact sum.
+pub fn varied_by(base: FWord, bytes: &[u8], alloc: Global) -> Result<Option<i128>, AllocError>
+    ensures { IfOk result (λ units. units ≡ varied (fword_number base) (terms_of bytes.now)) }
+{
+    let terms = read_terms(bytes, alloc)?;
+    Ok(vary(base, &terms))
 }

@@ -1,19 +1,18 @@
-//! A reader of tables: values one after the other, the one at a place, a header, and a scalar of its own.
+//! A reader of tables: values one after the other, the one at a place, and a scalar of its own.
 
-ghost use Rattle.std.specs.Prelude.{◌≡◌, ◌↔◌, ◌≤◌, ◌<◌, ◌+◌, ◌*◌, ◌^◌, ℕ, pos, length, take, drop, nat_lt, refl, IsSome, IfSome, IfNone, IfOk, vec_len, slice_index_or};
+ghost use Rattle.std.specs.Prelude.{◌≡◌, ◌≢◌, ◌↔◌, ◌≤◌, ◌<◌, ◌+◌, ◌*◌, ◌^◌, ℕ, pos, nat_lt, refl};
+ghost use Rattle.std.specs.Prelude.{Some, IsSome, IfSome, IfNone, IfOk, option_map, vec_len};
+ghost use Rattle.std.specs.Prelude.{length, take, drop, slice_get, slice_index_or, All, IsSorted};
 ghost use Rattle.font_types.specs.Bytes.{numeral, signed_numeral, bytes_of};
 ghost use Rattle.font_types.specs.Scalar.{IsValueOf};
 ghost use Rattle.font_types.specs.Scalar.Laws.{unsigned_newtype, unsigned_identity};
 ghost use Rattle.font_types.specs.BigEndian.{raw_value};
 ghost use Rattle.font_types.specs.Fixed.{fixed_bits};
-ghost use Rattle.font_types.specs.LongDateTime.{date_seconds};
 ghost use Rattle.font_types.specs.Tag.{tag_bytes};
 ghost use Rattle.font_types.specs.Uint24.{uint24_number};
+ghost use Rattle.font_uses.specs.Reader.{AreValuesOf};
 
-use font_types::{
-    BigEndian, FWord, Fixed, FixedSize, IdentityEq, LongDateTime, Scalar, TableDataRef,
-    TableHeader, Tag, Uint24,
-};
+use font_types::{BigEndian, Fixed, FixedSize, IdentityEq, Scalar, Tag, Uint24};
 use std::alloc::{AllocError, Global};
 
 // ---- values one after the other
@@ -49,7 +48,11 @@ impl Cursor<'_> {
         count: usize,
         alloc: Global,
     ) -> Result<Option<Vec<T>>, AllocError>
+        ensures end { IfOk result (λ read.
+            IsSome read ↔ (count * T.RAW_BYTE_LEN ≤ length self.old.rest.now)) }
         ensures count { IfOk result (λ read. IfSome read (λ values. vec_len values ≡ count)) }
+        ensures each { IfOk result (λ read. IfSome read (λ values. AreValuesOf T.Raw.bytes T.of_raw
+            T.RAW_BYTE_LEN self.old.rest.now count values.items)) }
         ensures moved { IfOk result (λ read. IsSome read →
             self.new.rest.now ≡ drop (count * T.RAW_BYTE_LEN) self.old.rest.now) }
     {
@@ -82,7 +85,9 @@ pub struct Strike {
 #[tactic(auto, using(font_types::proofs::Callers::scalar_calls))]
 /// The strike in front of the cursor, 15 bytes, or `None` where there are fewer.
 pub fn read_strike(cursor: &mut Cursor<'_>) -> Option<Strike>
-    ensures table { IfSome result (λ strike. tag_bytes strike.table ≡ take 4 cursor.old.rest.now) }
+    ensures end { IsSome result ↔ (15 ≤ length cursor.old.rest.now) }
+    ensures table { IfSome result (λ strike.
+        tag_bytes strike.table ≡ take 4 cursor.old.rest.now) }
     ensures scale { IfSome result (λ strike.
         fixed_bits strike.scale ≡ signed_numeral 4 (take 4 (drop 4 cursor.old.rest.now))) }
     ensures byte_len { IfSome result (λ strike.
@@ -116,7 +121,9 @@ pub fn value_at<T: Scalar>(bytes: &[u8], offset: usize) -> Option<T>
 
 /// The value of that index in an array of values, the first has 0.
 pub fn nth<T: Scalar>(bytes: &[u8], index: usize) -> Option<T>
-    ensures { IfSome result (λ v. IsValueOf T.Raw.bytes T.of_raw
+    ensures end { IsSome result
+        ↔ (index * T.RAW_BYTE_LEN + T.RAW_BYTE_LEN ≤ length bytes.now) }
+    ensures value { IfSome result (λ v. IsValueOf T.Raw.bytes T.of_raw
         (take T.RAW_BYTE_LEN (drop (index * T.RAW_BYTE_LEN) bytes.now)) v) }
 {
     value_at(bytes, index.checked_mul(T::RAW_BYTE_LEN)?)
@@ -124,6 +131,7 @@ pub fn nth<T: Scalar>(bytes: &[u8], index: usize) -> Option<T>
 
 /// The numbers of an array, or `None` where there are fewer.
 pub fn numbers(bytes: &[u8], count: usize, alloc: Global) -> Result<Option<Vec<u16>>, AllocError>
+    ensures end { IfOk result (λ read. IsSome read ↔ (count * 2 ≤ length bytes.now)) }
     ensures count { IfOk result (λ read. IfSome read (λ numbers. vec_len numbers ≡ count)) }
     ensures each { IfOk result (λ read. IfSome read (λ numbers. (k : ℕ) → k < count →
         slice_index_or numbers.items k 0 ≡ numeral (take 2 (drop (k * 2) bytes.now)))) }
@@ -136,6 +144,17 @@ pub fn numbers(bytes: &[u8], count: usize, alloc: Global) -> Result<Option<Vec<u
         numbers.push(number)?;
     }
     Ok(Some(numbers))
+}
+
+/// Where a glyph stands in a list of glyphs in order, or `None` where it does not.
+pub fn position_of(glyphs: &[BigEndian<u16>], glyph: BigEndian<u16>) -> Option<usize>
+    requires { IsSorted ⟦<BigEndian<u16> as Ord>⟧.cmp glyphs.now }
+    ensures found { IfSome result (λ i. option_map (λ field. numeral (raw_value field))
+        (slice_get glyphs.now i) ≡ Some (numeral (raw_value glyph))) }
+    ensures absent { IfNone result
+        (All (λ field. numeral (raw_value field) ≢ numeral (raw_value glyph)) glyphs.now) }
+{
+    glyphs.binary_search(&glyph).ok()
 }
 
 // ---- a scalar of one's own

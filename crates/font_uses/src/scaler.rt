@@ -2,8 +2,9 @@
 
 ghost use Rattle.std.specs.Prelude.{◌≡◌, IfOk, map};
 ghost use Rattle.font_types.specs.F26Dot6.{f26dot6_bits};
-ghost use Rattle.font_types.specs.FixedMatrix.{matrix_bits, point_bits, wrapped_sum, wrapped_product, FitsComposed, IsCloseComposed};
-ghost use Rattle.font_types.specs.Matrix.{image_of};
+ghost use Rattle.font_types.specs.FixedMatrix.{matrix_bits, point_bits, wrapped_sum, wrapped_product};
+ghost use Rattle.font_types.specs.FixedMatrix.{FitsComposed, IsCloseComposed};
+ghost use Rattle.font_types.specs.Matrix.{image_of, matrix_product};
 ghost use Rattle.font_types.specs.Operations.{IsNearestWhole};
 
 use font_types::{F26Dot6, Fixed, Matrix, Point, laws};
@@ -16,8 +17,8 @@ pub fn moved(
     points: &[Point<Fixed>],
     alloc: Global,
 ) -> Result<Vec<Point<Fixed>>, AllocError>
-    ensures { IfOk result (λ moved. map point_bits moved.items
-        ≡ map (λ p. image_of wrapped_sum wrapped_product (matrix_bits matrix) (point_bits p)) points.now) }
+    ensures { IfOk result (λ moved. map point_bits moved.items ≡ map (λ point.
+        image_of wrapped_sum wrapped_product (matrix_bits matrix) (point_bits point)) points.now) }
 {
     let mut moved = Vec::new(alloc);
     for point in points {
@@ -40,8 +41,12 @@ pub struct Component {
 /// Where no entry of `scale * placed` and no coordinate of the answer leaves 32 bits, each coordinate is at most
 /// `(|x| + |y|) / 65536 + 2` steps from the exact one.
 pub fn scaled(scale: Matrix<Fixed>, component: Component, point: Point<Fixed>) -> Point<Fixed>
-    ensures close { FitsComposed (matrix_bits scale) (matrix_bits component.placed) (point_bits point)
-        → IsCloseComposed (matrix_bits scale) (matrix_bits component.placed) (point_bits point) (point_bits result) }
+    ensures value { let placed = matrix_bits component.placed in
+        let both = matrix_product wrapped_sum wrapped_product (matrix_bits scale) placed in
+        point_bits result ≡ image_of wrapped_sum wrapped_product both (point_bits point) }
+    ensures close { let placed = matrix_bits component.placed in
+        FitsComposed (matrix_bits scale) placed (point_bits point)
+        → IsCloseComposed (matrix_bits scale) placed (point_bits point) (point_bits result) }
 {
     laws::composed(scale, component.placed, point)
 }

@@ -1,10 +1,13 @@
 //! Callers of numbers, with contracts of their own and no proof file.
 
-ghost use Rattle.std.specs.Prelude.{◌≡◌, ◌≢◌, ◌≤◌, ◌<◌, pos, ◌≤ℤ◌, Ok, IfOk, IfSome, length};
+ghost use Rattle.std.specs.Prelude.{◌≡◌, ◌≢◌, ◌≤◌, ◌<◌, pos, ◌≤ℤ◌, ◌*ℤ◌, Ok, IfOk, IfSome, length};
+ghost use Rattle.std.specs.Int.{w32};
+ghost use Rattle.font_arithmetic.specs.Reading.{ReadsBy};
+ghost use Rattle.font_fixed.specs.F2Dot14.{f2dot14_bits};
 ghost use Rattle.font_fixed.specs.Fixed.{fixed_bits, fixed_text};
 ghost use Rattle.font_decimal.specs.Padding.{padded_text, FillsFront};
 
-use crate::Fixed;
+use crate::{F2Dot14, F48Dot16, Fixed};
 use font_decimal::{DecimalFault, Pad};
 use std::alloc::{AllocError, Global};
 use std::test::Fail;
@@ -109,4 +112,25 @@ fn ratios(rt: HostRuntime) {
     assert!(rt; share_if_part(half, two) == Some(Fixed::from_bits(0x4000)));
     assert!(rt; share_if_part(two, half).is_none() && share_if_part(Fixed::NEG_ONE, two).is_none());
     assert!(rt; share_if_part(Fixed::ZERO, Fixed::ZERO).is_none());
+}
+
+fn parsed(text: &str) -> Result<Fixed, DecimalFault>
+    ensures { ReadsBy w32 16 fixed_bits text.now result }
+{
+    text.parse()
+}
+
+fn widened(number: F2Dot14) -> Fixed
+    ensures { fixed_bits result ≡ (f2dot14_bits number *ℤ pos 4) }
+{
+    number.into()
+}
+
+#[test]
+fn parsed_and_widened(rt: HostRuntime) {
+    assert!(rt; parsed("1.5") == Ok(Fixed::from_bits(0x1_8000)));
+    assert!(rt; parsed("1.5x") == Err(DecimalFault::Syntax));
+    assert!(rt; "2".parse::<F2Dot14>() == Err(DecimalFault::OutOfRange));
+    assert!(rt; "-0.5".parse() == Ok(F48Dot16::from_bits(-0x8000)));
+    assert!(rt; widened(F2Dot14::from_bits(-0x4000)) == Fixed::NEG_ONE);
 }

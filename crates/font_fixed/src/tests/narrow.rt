@@ -88,6 +88,11 @@ fn padded_with_zeros(rt: HostRuntime) {
     assert!(rt; &out == b"000000.6*");
     assert!(rt; F2Dot14::from_bits(-24576).write_padded(&mut out, &zeros) == Some(8));
     assert!(rt; &out == b"-00001.5*");
+}
+
+#[test]
+fn padded_with_a_sign_and_zeros(rt: HostRuntime) {
+    let mut out = [b'*'; 9];
     let signed = pad(9, b' ', Align::Left, true, true);
     assert!(rt; F2Dot14::from_bits(-24576).write_padded(&mut out, &signed) == Some(9));
     assert!(rt; &out == b"-000001.5");

@@ -33,6 +33,10 @@ fn converted(rt: HostRuntime) {
     assert!(rt; GlyphId::from(7u16) == GlyphId::from(7u32));
     assert!(rt; GlyphId::from(GlyphId16::from(7)) == GlyphId::new(7));
     assert!(rt; GlyphId::from(GlyphId24::new(70000)) == GlyphId::new(70000));
+}
+
+#[test]
+fn converted_to_numbers(rt: HostRuntime) {
     assert_eq!(rt;
         u32::from(GlyphId16::new(7)) + u32::from(GlyphId24::new(7)),
         14
@@ -84,6 +88,10 @@ fn stored(rt: HostRuntime) {
     assert!(rt; GlyphId16::new(0x0102).to_be_bytes() == [1, 2]);
     assert!(rt; GlyphId24::new(0x01_0203).to_be_bytes() == [1, 2, 3]);
     assert!(rt; GlyphId24::from_be_bytes([1, 2, 3]) == GlyphId24::new(0x01_0203));
+}
+
+#[test]
+fn read(rt: HostRuntime) {
     assert!(rt; GlyphId16::read(&[1, 2]) == Some(GlyphId16::new(0x0102)));
     assert!(rt; GlyphId24::read(&[1, 2, 3]) == Some(GlyphId24::new(0x01_0203)));
     assert!(rt; BigEndian::from(GlyphId24::new(5)).be_bytes() == [0, 0, 5].as_slice());

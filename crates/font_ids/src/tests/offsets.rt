@@ -19,6 +19,10 @@ fn numbers(rt: HostRuntime) {
     assert_eq!(rt; Offset16::new(65535).to_u32(), 65535);
     assert_eq!(rt; Offset24::new(Uint24::MAX).to_u32(), 16777215);
     assert_eq!(rt; Offset32::new(4294967295).value_u32(), 4294967295);
+}
+
+#[test]
+fn compared_with_numbers(rt: HostRuntime) {
     for (number, equal) in [(7, true), (8, false), (65543, false), (16777223, false)] {
         assert!(rt; Offset16::new(7).eq_u32(&number) == equal);
         assert!(rt; Offset24::new(Uint24::new(7)).eq_u32(&number) == equal);
@@ -36,6 +40,10 @@ fn stored(rt: HostRuntime) {
     assert!(rt; Offset24::read(&[1, 2, 3]) == Some(Offset24::new(Uint24::new(0x01_0203))));
     assert!(rt; Offset32::read(&[1, 2, 3, 4]) == Some(Offset32::new(0x0102_0304)));
     assert!(rt; Offset24::read(&[1, 2, 3, 4]).is_none());
+}
+
+#[test]
+fn ordered_and_measured(rt: HostRuntime) {
     assert!(rt; BigEndian::from(Offset24::new(Uint24::new(5))).be_bytes() == [0, 0, 5].as_slice());
     assert!(rt; Offset16::new(1) < Offset16::new(2) && Offset32::new(1) < Offset32::new(2));
     assert_eq!(rt;
@@ -48,13 +56,18 @@ fn stored(rt: HostRuntime) {
 fn nullable(rt: HostRuntime) -> Result<(), Fail> {
     let null = Nullable::<Offset24>::read(&[0, 0, 0]).ok_or("three bytes")?;
     assert!(rt; null.is_null() && null == Nullable::default());
+    assert!(rt; Nullable::<Offset32>::read(&[0, 0, 0]).is_none());
+    assert!(rt; Nullable::<Offset32>::default().is_null());
+    assert_eq!(rt; Nullable::<Offset24>::RAW_BYTE_LEN, 3);
+    Ok(())
+}
+
+#[test]
+fn nullable_with_an_offset(rt: HostRuntime) -> Result<(), Fail> {
     let some = Nullable::<Offset16>::from_raw([1, 2]);
     assert!(rt; !some.is_null() && some.offset() == &Offset16::new(0x0102));
     assert!(rt; some.eq_u32(&0x0102) && !some.eq_u32(&2));
     assert!(rt; some.clone()? == some && some.to_raw() == [1, 2]);
-    assert!(rt; Nullable::<Offset32>::read(&[0, 0, 0]).is_none());
-    assert!(rt; Nullable::<Offset32>::default().is_null());
-    assert_eq!(rt; Nullable::<Offset24>::RAW_BYTE_LEN, 3);
     Ok(())
 }
 

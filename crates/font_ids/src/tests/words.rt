@@ -51,6 +51,10 @@ fn stored(rt: HostRuntime) {
     assert!(rt; UfWord::new(0xFFFE).to_be_bytes() == [0xFF, 0xFE]);
     assert!(rt; FWord::read(&[0xFF, 0xFE]) == Some(FWord::new(-2)));
     assert!(rt; UfWord::read(&[0xFF]).is_none());
+}
+
+#[test]
+fn ordered_by_value(rt: HostRuntime) {
     assert!(rt; BigEndian::from(FWord::new(-1)) < BigEndian::from(FWord::new(1)));
     assert!(rt; BigEndian::from(UfWord::new(0xFFFF)) > BigEndian::from(UfWord::new(1)));
     assert_eq!(rt; FWord::RAW_BYTE_LEN + UfWord::RAW_BYTE_LEN, 4);

@@ -38,6 +38,8 @@ fn refused_at_a_byte(rt: HostRuntime) {
 
 #[test]
 fn refused_at_a_length(rt: HostRuntime) {
+    let fault = InvalidTag::InvalidByte { pos: 2, byte: 0x63 };
+    assert!(rt; Tag::new_checked(b"b c") == Err(fault));
     assert!(rt; Tag::new_checked(b"") == Err(InvalidTag::InvalidLength(0)));
     assert!(rt; Tag::new_checked(b"abcde") == Err(InvalidTag::InvalidLength(5)));
 }

@@ -44,6 +44,8 @@ fn printed(rt: HostRuntime) -> Result<(), Fail> {
     let odd = Version16Dot16::from_raw([0, 1, 0xF0, 0xAB]);
     let text = format!(in rt.alloc(); "{odd} {odd:?}")?;
     assert_eq!(rt; text.as_str(), "1.15 Version16Dot16(0001f0ab)");
+    let high = Version16Dot16::from_raw([0, 1, 0xF0, 0]);
+    assert_eq!(rt; format!(in rt.alloc(); "{high}")?.as_str(), "1.15");
     let pair = MajorMinor::new(10, 65535);
     let text = format!(in rt.alloc(); "{pair} {pair:?}")?;
     assert_eq!(rt;

@@ -1,9 +1,58 @@
-//! A user of the library: a value of each family.
+//! A user of the library: a value of each family, and what its contracts say of numbers.
+
+ghost use Rattle.std.specs.Int.{w32};
+ghost use Rattle.std.specs.Prelude.{◌≡◌, IfSome};
+ghost use Rattle.font_types.specs.Fixed.{fixed_bits};
+ghost use Rattle.font_types.specs.NumberReading.{ReadsBy};
+ghost use Rattle.font_types.specs.Operations.{ReadsAs};
 
 use crate::{
-    BigEndian, FWord, Fixed, JsonScalar, MajorMinor, Matrix, Point, Scalar, Tag, Uint24, delta_sum,
+    BigEndian, DecimalFault, F2Dot14, F2Dot30, F4Dot12, F6Dot10, F26Dot6, F48Dot16, FWord, Fixed,
+    JsonScalar, MajorMinor, Matrix, Point, Scalar, Tag, Uint24, delta_sum,
 };
 use std::test::Fail;
+
+#[tactic(auto, using(crate::proofs::Callers::calls_16))]
+fn with_nothing_narrow(x: F2Dot14) -> F2Dot14
+    ensures { result ≡ x }
+{
+    x + F2Dot14::ZERO
+}
+
+#[tactic(auto, using(crate::proofs::Callers::calls_32))]
+fn with_nothing(x: F26Dot6) -> F26Dot6
+    ensures { result ≡ x }
+{
+    F26Dot6::ZERO + x
+}
+
+#[tactic(auto, using(crate::proofs::Callers::calls_64))]
+fn with_nothing_wide(x: F48Dot16) -> F48Dot16
+    ensures { result ≡ x }
+{
+    x - F48Dot16::ZERO
+}
+
+fn number_of(text: &str) -> Option<Fixed>
+    ensures { IfSome result (λ x. ReadsAs 32 16 text.now (fixed_bits x)) }
+{
+    text.parse().ok()
+}
+
+fn parsed(text: &str) -> Result<Fixed, DecimalFault>
+    ensures { ReadsBy w32 16 fixed_bits text.now result }
+{
+    text.parse()
+}
+
+#[test]
+fn numbers_unchanged(rt: HostRuntime) {
+    assert!(rt; with_nothing_narrow(F2Dot14::MIN) == F2Dot14::MIN);
+    assert!(rt; with_nothing(F26Dot6::MAX) == F26Dot6::MAX);
+    assert!(rt; with_nothing_wide(F48Dot16::MIN) == F48Dot16::MIN);
+    assert!(rt; number_of("-0.5") == Some(Fixed::from_bits(-32768)));
+    assert!(rt; number_of("32768").is_none() && parsed("-.5") == Err(DecimalFault::Syntax));
+}
 
 #[test]
 fn one_of_each_family(rt: HostRuntime) -> Result<(), Fail> {
@@ -27,4 +76,21 @@ fn one_of_each_family(rt: HostRuntime) -> Result<(), Fail> {
     assert_eq!(rt; text.as_str(), "1.2 256 2.25 120 40632320");
     assert!(rt; tag.as_str() == Some("cvt "));
     Ok(())
+}
+
+#[test]
+fn numbers_parsed(rt: HostRuntime) {
+    assert!(rt; "1.5".parse() == Ok(F26Dot6::from_bits(96)));
+    assert!(rt; "1.5".parse() == Ok(Fixed::from_bits(98304)));
+    assert!(rt; "1.5".parse() == Ok(F2Dot14::from_bits(24576)));
+    assert!(rt; "1.5".parse() == Ok(F48Dot16::from_bits(98304)));
+}
+
+#[test]
+fn narrow_numbers_parsed(rt: HostRuntime) {
+    assert!(rt; "1.5".parse() == Ok(F4Dot12::from_bits(6144)));
+    assert!(rt; "1.5".parse() == Ok(F6Dot10::from_bits(1536)));
+    assert!(rt; "1.5".parse() == Ok(F2Dot30::from_bits(1610612736)));
+    assert!(rt; "2".parse::<F2Dot30>() == Err(DecimalFault::OutOfRange));
+    assert!(rt; "+2".parse::<F4Dot12>() == Err(DecimalFault::Syntax));
 }

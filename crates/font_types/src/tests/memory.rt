@@ -2,7 +2,8 @@
 //! answer is the fault, and the next one is the usual form.
 
 use crate::{
-    F2Dot14, F4Dot12, F6Dot10, F26Dot6, F48Dot16, Fixed, JsonFault, JsonScalar, MajorMinor, Tag,
+    F2Dot14, F2Dot30, F4Dot12, F6Dot10, F26Dot6, F48Dot16, Fixed, JsonFault, JsonScalar,
+    MajorMinor, Tag,
 };
 use std::alloc::Global;
 
@@ -30,6 +31,7 @@ fn read_back(version: MajorMinor, alloc: Global) -> Result<MajorMinor, JsonFault
 fn wide_numbers(rt: HostRuntime) {
     let alloc = rt.alloc();
     assert!(rt; shows_at_last(Fixed::MAX, alloc, "32767.99998"));
+    assert!(rt; shows_at_last(F2Dot30::MAX, alloc, "1.999999999"));
     assert!(rt; shows_at_last(F26Dot6::MAX, alloc, "33554431.98"));
     assert!(rt; shows_at_last(F48Dot16::MAX, alloc, "140737488355327.99998"));
 }

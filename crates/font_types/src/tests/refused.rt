@@ -1,6 +1,8 @@
 //! The faults in words and numbers.
 
 use crate::JsonFault;
+use std::error::Error;
+use std::fmt;
 use std::test::Fail;
 
 #[test]
@@ -28,4 +30,18 @@ fn faults_in_numbers(rt: HostRuntime) {
     );
     assert!(rt; JsonFault::Syntax as u8 == 4 && JsonFault::NotUtf8 as u8 == 5);
     assert!(rt; JsonFault::InvalidTag as u8 == 6 && JsonFault::MissingMember as u8 == 7);
+}
+
+// A fault is copied by `clone`, compared, shown and told as an error, and has no order, hash or default.
+fn is_error<F: Clone + Eq + fmt::Debug + Error + Drop>(fault: F, other: F) -> bool {
+    match fault.clone() {
+        Ok(copy) => copy == fault && fault != other,
+        Err(_) => false,
+    }
+}
+
+#[test]
+fn faults_as_errors(rt: HostRuntime) {
+    assert!(rt; is_error(JsonFault::NotUtf8, JsonFault::InvalidTag));
+    assert!(rt; is_error(JsonFault::WrongKind, JsonFault::OutOfRange));
 }

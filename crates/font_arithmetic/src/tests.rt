@@ -1,0 +1,48 @@
+//! Products, quotients and readings, by values of the number types and of the original crate.
+
+use crate::{low_bits, mul_div, product, read_bits_16, read_bits_32, read_bits_64};
+use font_decimal::DecimalFault;
+
+#[test]
+fn products(rt: HostRuntime) {
+    for (x, y, f, rounded) in [
+        (-1, 0x8000, 16, -1),
+        (1, 0x8000, 16, 1),
+        (1, 0x7FFF, 16, 0),
+        (32, -154, 6, -77),
+        (i32::MIN, -0x1_0000, 16, i32::MIN),
+        (0x6000_0000, 0x6000_0000, 30, -0x7000_0000),
+    ] {
+        assert_eq!(rt; product(x, y, f), rounded);
+    }
+}
+
+#[test]
+fn quotients(rt: HostRuntime) {
+    for (x, a, c, rounded) in [
+        (32, 64, -154, -13),
+        (i32::MIN, 0x1_0000, -1, 0),
+        (0, 0, 0, i32::MAX),
+        (0, -1, 0, -i32::MAX),
+        (-1, -1, 0, i32::MAX),
+        (i32::MAX, i32::MAX, 1, 1),
+    ] {
+        assert_eq!(rt; mul_div(x, a, c), rounded);
+    }
+}
+
+#[test]
+fn last_bits(rt: HostRuntime) {
+    for (number, bits) in [(2147483648, i32::MIN), (-2147483649, i32::MAX), (-1, -1)] {
+        assert_eq!(rt; low_bits(number), bits);
+    }
+}
+
+#[test]
+fn readings(rt: HostRuntime) {
+    assert!(rt; read_bits_16("1.99996", 14) == Ok(32767));
+    assert!(rt; read_bits_16("1.99997", 14) == Err(DecimalFault::OutOfRange));
+    assert!(rt; read_bits_32("-32768.000007", 16) == Ok(i32::MIN));
+    assert!(rt; read_bits_64("140737488355327.99998", 16) == Ok(i64::MAX));
+    assert!(rt; read_bits_64("1.", 16) == Err(DecimalFault::Syntax));
+}

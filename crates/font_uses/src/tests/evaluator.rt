@@ -1,0 +1,42 @@
+//! An evaluator of variations.
+
+use crate::evaluator::{between, carried_over, ratio, read_terms, sum, sum_with, varied_by};
+use font_types::{FWord, Fixed};
+use std::test::Fail;
+
+#[test]
+fn numbers_between(rt: HostRuntime) {
+    let (one, three) = (Fixed::ONE, Fixed::from_i32(3));
+    let quarter = ratio(Fixed::from_bits(0x8000), Fixed::from_bits(0x2_0000));
+    assert!(rt; quarter == Fixed::from_bits(0x4000));
+    assert!(rt; between(one, three, quarter) == Fixed::from_bits(0x1_8000));
+    assert!(rt; carried_over(one, three, Fixed::ZERO, three) == Some(Fixed::from_bits(65535)));
+    assert!(rt; carried_over(three, three, one, Fixed::MIN) == Some(Fixed::MIN));
+    assert!(rt; carried_over(three, one, one, three).is_none());
+}
+
+#[test]
+fn sums(rt: HostRuntime) -> Result<(), Fail> {
+    let numbers = [Fixed::MAX, Fixed::MAX, Fixed::MIN, Fixed::EPSILON];
+    assert!(rt; sum(&numbers) == Fixed::from_bits(0x7FFF_FFFF));
+    let mut terms = [(Fixed::from_bits(0x8000), 3)].to_vec(rt.alloc())?;
+    assert!(rt; sum_with(&mut terms, (Fixed::ONE, -2))?.to_bits() == -32768);
+    assert!(rt; terms.len() == 2);
+    Ok(())
+}
+
+#[test]
+fn quantities_varied(rt: HostRuntime) -> Result<(), Fail> {
+    let alloc = rt.alloc();
+    let terms = [0x00, 0x00, 0x80, 0x00, 0x00, 0x00, 0x00, 0x03, 0xFF];
+    assert!(rt;
+        read_terms(&terms, alloc)?.as_slice() == [(Fixed::from_bits(0x8000), 3)].as_slice()
+    );
+    assert!(rt; varied_by(FWord::new(100), &terms, alloc)? == Some(6651904));
+    let greatest = [0x80, 0x00, 0x00, 0x00, 0x80, 0x00, 0x00, 0x00];
+    assert!(rt; varied_by(FWord::new(-1), &greatest, alloc)? == Some(4611686018427322368));
+    let mut twice = greatest.to_vec(alloc)?;
+    twice.extend_from_slice(&greatest)?;
+    assert!(rt; varied_by(FWord::new(-1), &twice, alloc)?.is_none());
+    Ok(())
+}

@@ -1,0 +1,34 @@
+//! A linter of tags.
+
+use crate::linter::{BadTag, first_repeated, is_in_order, judge};
+use font_types::{InvalidTag, Tag};
+use std::test::Fail;
+
+#[test]
+fn tags_judged(rt: HostRuntime) -> Result<(), Fail> {
+    let good = [Tag::new(b"glyf"), Tag::new(b"cvt "), Tag::new(b"OS/2")];
+    assert!(rt; judge(&good).is_ok());
+    let bad = [Tag::new(b"glyf"), Tag::new(b"c vt"), Tag::new(b"    ")];
+    let fault = BadTag {
+        place: 1,
+        fault: InvalidTag::ByteAfterSpace { pos: 2 },
+    };
+    let text = format!(in rt.alloc(); "{fault}")?;
+    assert!(rt; judge(&bad) == Err(fault));
+    assert_eq!(rt;
+        text.as_str(),
+        "tag 1: Non-space character after first space"
+    );
+    Ok(())
+}
+
+#[test]
+fn tags_in_order(rt: HostRuntime) {
+    let (cmap, os2) = (Tag::new(b"cmap"), Tag::new(b"OS/2"));
+    let tags = [os2, cmap, Tag::new(b"cvt "), Tag::new(b"glyf")];
+    assert!(rt; is_in_order(&tags) && is_in_order(&[]));
+    assert!(rt; first_repeated(&tags).is_none());
+    let others = [cmap, os2, cmap, os2];
+    assert!(rt; !is_in_order(&others) && !is_in_order(&others[..2]));
+    assert!(rt; first_repeated(&others) == Some(2));
+}

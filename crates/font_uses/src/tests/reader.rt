@@ -1,0 +1,58 @@
+//! A reader of tables.
+
+use crate::reader::{Cursor, PixelsPerEm, nth, numbers, position_of, read_strike, value_at};
+use font_types::{BigEndian, Fixed, Int24, Tag, Uint24};
+use std::test::Fail;
+
+#[test]
+fn strikes_in_turn(rt: HostRuntime) -> Result<(), Fail> {
+    let bytes = *b"EBDT\x00\x01\x80\x00\x01\x00\x02\x00\x0C\x01\x04\x07";
+    let mut cursor = Cursor { rest: &bytes };
+    let strike = read_strike(&mut cursor).ok_or("15 bytes")?;
+    assert!(rt; strike.table == Tag::new(b"EBDT") && strike.scale == Fixed::from_bits(98304));
+    assert!(rt; strike.byte_len.to_u32() == 65538 && strike.size == PixelsPerEm(12));
+    assert!(rt; strike.glyph_count == 260 && cursor.rest == [7].as_slice());
+    assert!(rt; read_strike(&mut cursor).is_none());
+    Ok(())
+}
+
+#[test]
+fn values_in_turn(rt: HostRuntime) -> Result<(), Fail> {
+    let mut cursor = Cursor {
+        rest: &[0xFF, 0xFE, 0x1D, 0xC0, 0x00, 0x05, 0x09],
+    };
+    let first = cursor
+        .read_array::<Int24>(1, rt.alloc())?
+        .ok_or("three bytes")?;
+    assert!(rt; first.len() == 1 && first[0].to_i32() == -483);
+    let rest = cursor
+        .read_array::<u16>(2, rt.alloc())?
+        .ok_or("four bytes")?;
+    assert!(rt; rest.as_slice() == [49152, 1289].as_slice() && cursor.rest.is_empty());
+    assert!(rt; cursor.read_array::<u16>(1, rt.alloc())?.is_none());
+    assert!(rt; cursor.read::<u8>().is_none());
+    Ok(())
+}
+
+#[test]
+fn values_at_places(rt: HostRuntime) -> Result<(), Fail> {
+    let bytes = [0x00, 0x01, 0x80, 0x00, 0xFF, 0xFF];
+    assert!(rt; value_at::<i16>(&bytes, 4) == Some(-1) && value_at::<i16>(&bytes, 5).is_none());
+    assert!(rt; nth::<Uint24>(&bytes, 1) == Some(Uint24::new(0xFFFF)));
+    assert!(rt; nth::<u16>(&bytes, 3).is_none());
+    let read = numbers(&bytes, 3, rt.alloc())?.ok_or("six bytes")?;
+    assert!(rt; read.as_slice() == [1, 32768, 65535].as_slice());
+    assert!(rt; numbers(&bytes, 4, rt.alloc())?.is_none());
+    Ok(())
+}
+
+#[test]
+fn glyphs_found(rt: HostRuntime) {
+    let glyphs = [
+        BigEndian::<u16>::from(3),
+        BigEndian::from(40),
+        BigEndian::from(0x1234),
+    ];
+    assert!(rt; position_of(&glyphs, BigEndian::from(40)) == Some(1));
+    assert!(rt; position_of(&glyphs, BigEndian::from(41)).is_none());
+}
