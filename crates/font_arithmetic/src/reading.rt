@@ -8,6 +8,7 @@ use font_decimal::{DecimalFault, read_decimal};
 
 /// The bits of the number nearest to a decimal text, ties away from zero, of 16 bits, `f` of which
 /// are its fraction.
+#[inline(always)]
 pub fn read_bits_16(text: &str, f: u32) -> Result<i16, DecimalFault>
     requires { (6 ≤ f) × (f ≤ 30) }
     ensures { ReadsBy w16 f (λ bits. bits) text.now result }
@@ -18,6 +19,7 @@ pub fn read_bits_16(text: &str, f: u32) -> Result<i16, DecimalFault>
 
 /// The bits of the number nearest to a decimal text, ties away from zero, of 32 bits, `f` of which
 /// are its fraction.
+#[inline(always)]
 pub fn read_bits_32(text: &str, f: u32) -> Result<i32, DecimalFault>
     requires { (6 ≤ f) × (f ≤ 30) }
     ensures { ReadsBy w32 f (λ bits. bits) text.now result }
@@ -28,6 +30,7 @@ pub fn read_bits_32(text: &str, f: u32) -> Result<i32, DecimalFault>
 
 /// The bits of the number nearest to a decimal text, ties away from zero, of 64 bits, `f` of which
 /// are its fraction.
+#[inline(always)]
 pub fn read_bits_64(text: &str, f: u32) -> Result<i64, DecimalFault>
     requires { (6 ≤ f) × (f ≤ 30) }
     ensures { ReadsBy w64 f (λ bits. bits) text.now result }

@@ -1,6 +1,6 @@
 //! The commands, and what they answer.
 
-ghost use Rattle.std.specs.Prelude.{◌≡◌, [], ◌∷◌, string_bytes};
+ghost use Rattle.std.specs.Prelude.{◌≡◌, string_bytes};
 ghost use Rattle.font_types.specs.Tag.{tag_bytes};
 ghost use Rattle.fontval.specs.Command.{AnswersWords, IsNamed, IsNamedType, JudgesTag};
 ghost use Rattle.fontval.specs.Command.{ShowsReading, fixed_point, integer};

@@ -1,6 +1,6 @@
 //! Where a point goes by two matrices.
 
-ghost use Rattle.std.specs.Prelude.{◌≡◌, [], ◌∷◌, ◌++◌, codes, Some};
+ghost use Rattle.std.specs.Prelude.{◌≡◌, [], ◌∷◌, ◌++◌, Some};
 ghost use Rattle.font_types.specs.Matrix.{elements_of};
 ghost use Rattle.font_types.specs.FixedMatrix.{matrix_bits, point_bits};
 ghost use Rattle.fontval.specs.Images.{images_text};

@@ -45,6 +45,7 @@ pub fn fixed_numbers<const N: usize>(mut words: Words<'_>) -> Result<[Fixed; N],
 }
 
 // The `Fixed` that a word is read as.
+#[inline(always)]
 #[tactic(auto, using(crate::proofs::NumbersLemmas::reads_no_number))]
 fn fixed_number(word: &[u8]) -> Result<Fixed, Refusal>
     ensures { ReadsFixed word.now result }
@@ -94,6 +95,7 @@ pub fn in_pairs(words: &Words<'_>) -> Result<(), Refusal>
 }
 
 // The term that two words are read as.
+#[inline(always)]
 fn term(scalar: &[u8], delta: &[u8]) -> Result<(Fixed, i32), Refusal>
     ensures { ReadsTerm (scalar.now, delta.now) result }
 {

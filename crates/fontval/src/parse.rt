@@ -7,7 +7,6 @@ ghost use Rattle.fontval.specs.Text.{words_of};
 
 use crate::refusal::Refusal;
 use crate::text::Words;
-use hex::FromHex;
 
 // The word of a command that takes one.
 fn only_word(mut words: Words<'_>) -> Result<&[u8], Refusal>
@@ -61,7 +60,9 @@ fn hexadecimal_word<const N: usize>(words: Words<'_>) -> Result<[u8; N], Refusal
 fn decoded<const N: usize>(text: &[u8]) -> Result<[u8; N], Refusal>
     ensures { result ≡ hexadecimal N text.now }
 {
-    <[u8; N]>::from_hex(text).map_err(|_| Refusal::NotHexadecimal)
+    let mut bytes = [0; N];
+    hex::decode_to_slice(text, &mut bytes).map_err(|_| Refusal::NotHexadecimal)?;
+    Ok(bytes)
 }
 
 /// A word as text. One that is not ASCII is no decimal.

@@ -1,6 +1,6 @@
 //! The work of the program: all input is read, all answers are made, and then they are written.
 
-ghost use Rattle.std.specs.Prelude.{◌≡◌, Ok, Err, true, false, string_bytes};
+ghost use Rattle.std.specs.Prelude.{◌≡◌, Ok, Err, true, false};
 ghost use Rattle.std.specs.Prelude.{IfOk, IfErr, OnOk, OnErr};
 ghost use Rattle.std.specs.Io.KnownBytes.{Appends, Keeps};
 ghost use Rattle.fontval.specs.Serve.{Serves, ServesInPart, ReadsAll, WritesInPart, ReadFails};
