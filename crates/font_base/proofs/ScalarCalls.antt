@@ -6,7 +6,6 @@ use Rattle.std.specs.Cmp.{nat_cmp_is, nat_cmp_total}
 use Rattle.std.specs.List.{All}
 use Rattle.std.specs.List.Sorted.{IsSortedByKey, IsBinarySearchResult}
 use Rattle.std.specs.Ordering.{nat_cmp}
-use Rattle.std.specs.declared.cmp.Ordering.{Ordering}
 use Rattle.std.specs.declared.cmp.Ordering.TheVariants.{Equal}
 use Rattle.font_base.specs.Bytes.{numeral, signed_numeral}
 use Rattle.font_base.specs.Bytes.Laws.{numeral-bytes_of, signed_numeral-bytes_of}

@@ -1,7 +1,8 @@
 -- What callers of this crate cite of all below it: rulesets that `using(..)` names, and lemmas for answers.
 pub use Rattle.font_base.proofs.ScalarCalls.{scalar_calls, absent}
 pub use Rattle.font_decimal.proofs.Readings.{reading_unique}
-pub use Rattle.font_decimal.proofs.Texts.{decimal_is_ascii, decimal_is_utf8}
+pub use Rattle.font_decimal.proofs.Texts.{decimal_is_ascii, decimal_is_utf8, decimal_unique}
+pub use Rattle.font_decimal.proofs.Order.{reads_in_order}
 pub use Rattle.font_arithmetic.proofs.Group
 pub use Rattle.font_arithmetic.proofs.Laws
 pub use Rattle.font_arithmetic.proofs.Width16.{calls_16}
@@ -9,6 +10,8 @@ pub use Rattle.font_arithmetic.proofs.Width32.{calls_32}
 pub use Rattle.font_arithmetic.proofs.Width64.{calls_64}
 pub use Rattle.font_fixed.proofs.FixedCalls.{fixed_calls}
 pub use Rattle.font_tags.proofs.TagLaws.{validated_good}
+pub use Rattle.font_tags.proofs.TagLaws
+pub use Rattle.font_tags.proofs.VersionLaws.{compatible_calls}
 pub use Rattle.font_geom.proofs.FixedCalls.{product_value, image_value}
 pub use Rattle.font_geom.proofs.RingCalls
 pub use Rattle.font_types.proofs.SumCalls.{sum_calls}

@@ -4,11 +4,12 @@ use Rattle.std.specs.Prelude.{◌≡◌, ℕ, ◌-◌, ◌^◌, ℤ, Bool, ◌&&
 use Rattle.std.specs.Result.{result_map_both}
 use lib.Chars.{codes}
 use Rattle.serde_json.specs.Data.{Data, object, member, no_members, number, unsigned}
-use Rattle.serde_json.specs.Find.{as_number, as_integer, as_object, get, of_integer}
+use Rattle.serde_json.specs.Find.{as_number, as_integer, as_object, as_str, get, of_integer}
 use Rattle.font_decimal.specs.Grammar.{IsNoDecimal}
 use Rattle.font_arithmetic.specs.Operations.{ReadsAs, IsTooFar, least, greatest}
 use Rattle.font_decimal.specs.declared.reader.DecimalFault.{DecimalFault}
 use Rattle.font_tags.specs.declared.tag.Tag.{Tag}
+use Rattle.font_tags.specs.declared.version.MajorMinor.{MajorMinor}
 use Rattle.font_tags.specs.Tag.{tag_bytes, IsGood, IsAcceptable, filled}
 use Rattle.font_types.specs.declared.json.JsonFault.{JsonFault}
 use Rattle.font_types.specs.declared.json.JsonFault.TheVariants.{Memory, WrongKind, OutOfRange, Syntax, NotUtf8, InvalidTag, MissingMember}
@@ -77,6 +78,10 @@ abbrev pub IsDecimalRead : ℕ → ℕ → Option (List ℕ) → Result ℤ Json
 IsDecimalRead w f None result = result ≡ Err WrongKind
 IsDecimalRead w f (Some text) result = IsTextRead w f text result
 
+-- what data is read as by a type of w bits with f bits of fraction
+abbrev pub ReadsDecimal : {T : Type 0} → ℕ → ℕ → (T → ℤ) → Data → Result T JsonFault → Type 0
+ReadsDecimal w f bits_of d result = IsDecimalRead w f (as_str d) (result_map_both bits_of (λ fault. fault) result)
+
 -- ---- tags
 
 -- how a tag is refused: where its bytes are no text, or where memory for the text is
@@ -133,3 +138,7 @@ both_numbers (Ok a) (Ok b) = Ok (a, b)
 -- the two numbers of an object, whose other members do not matter; any other data is the wrong kind
 abbrev pub version_read : Data → Result (ℤ × ℤ) JsonFault
 version_read d = if is_some (as_object d) then both_numbers (member_number (codes "major") d) (member_number (codes "minor") d) else Err WrongKind
+
+-- what data is read as by the type of two numbers
+abbrev pub ReadsVersion : Data → Result MajorMinor JsonFault → Type 0
+ReadsVersion d result = result_map_both {U = ℤ × ℤ} (λ version. (pos version.major, pos version.minor)) (λ fault. fault) result ≡ version_read d

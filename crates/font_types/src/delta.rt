@@ -9,9 +9,11 @@ ghost use Rattle.font_types.specs.Delta.{exact_sum, sum_in_range, term_product, 
 use font_fixed::{F48Dot16, Fixed};
 use font_ids::FWord;
 
-/// The sum of the products of scalars and deltas, exact where it fits 64 bits, whatever partial sums do.
+/// The sum of the products of scalars and deltas, exact where it fits 64 bits, whatever partial
+/// sums do.
 ///
-/// A sum out of range wraps. Each term is a scalar and a delta in font units; the empty list gives zero.
+/// A sum out of range wraps. Each term is a scalar and a delta in font units; the empty list gives
+/// zero.
 #[tactic(auto, using(crate::proofs::SumCalls::sum_calls))]
 pub fn delta_sum(terms: &[(Fixed, i32)]) -> F48Dot16
     ensures { f48dot16_bits result ≡ wrap 64 (exact_sum terms.now) }
@@ -25,9 +27,10 @@ pub fn delta_sum(terms: &[(Fixed, i32)]) -> F48Dot16
 
 /// The exact sum of the products of scalars and deltas, or `None` where it lies outside 64 bits.
 ///
-/// Partial sums may lie anywhere. Each term is a scalar and a delta in font units, and the bits of the answer count
-/// steps of `2^-16` font units, from `-2^63` to `2^63 - 1`; the empty list gives zero. Half of 3 font units is 1.5:
-/// `checked_delta_sum(&[(Fixed::from_bits(0x8000), 3)])` has bits 98304.
+/// Partial sums may lie anywhere. Each term is a scalar and a delta in font units, and the bits of
+/// the answer count steps of `2^-16` font units, from `-2^63` to `2^63 - 1`; the empty list gives
+/// zero. Half of 3 font units is 1.5: `checked_delta_sum(&[(Fixed::from_bits(0x8000), 3)])` has bits
+/// 98304.
 pub fn checked_delta_sum(terms: &[(Fixed, i32)]) -> Option<F48Dot16>
     ensures variant { IsSome result ↔ FitsBits 64 (exact_sum terms.now) }
     ensures value { IfSome result (λ sum. f48dot16_bits sum ≡ exact_sum terms.now) }
@@ -42,13 +45,15 @@ pub fn checked_delta_sum(terms: &[(Fixed, i32)]) -> Option<F48Dot16>
     Some(F48Dot16::from_bits(bits))
 }
 
-/// A quantity moved by the exact sum of deltas, in units of `2^-16`, or `None` where that sum lies outside 64 bits.
+/// A quantity moved by the exact sum of deltas, in units of `2^-16`, or `None` where that sum lies
+/// outside 64 bits.
 ///
-/// The answer is `base.apply_delta` of what `checked_delta_sum` gives: 100 font units and half of 3 are 101.5, and
-/// `vary(FWord::new(100), &[(Fixed::from_bits(0x8000), 3)])` is 6651904.
+/// The answer is `base.apply_delta` of what `checked_delta_sum` gives: 100 font units and half of 3
+/// are 101.5, and `vary(FWord::new(100), &[(Fixed::from_bits(0x8000), 3)])` is 6651904.
 pub fn vary(base: FWord, terms: &[(Fixed, i32)]) -> Option<i128>
     ensures variant { IsSome result ↔ FitsBits 64 (exact_sum terms.now) }
-    ensures value { IfSome result (λ units. units ≡ (fword_number base *ℤ pos 65536 +ℤ exact_sum terms.now)) }
+    ensures value { IfSome result (λ units.
+        units ≡ (fword_number base *ℤ pos 65536 +ℤ exact_sum terms.now)) }
     ensures gives { result ≡ varied (fword_number base) terms.now }
 {
     let sum = checked_delta_sum(terms)?;

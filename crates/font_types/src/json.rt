@@ -68,7 +68,8 @@ impl From<DecimalFault> for JsonFault {
 
 /// A type whose values have a JSON form.
 ///
-/// Fixed-point numbers and tags are texts, whole numbers are numbers, and a `MajorMinor` is an object.
+/// Fixed-point numbers and tags are texts, whole numbers are numbers, and a `MajorMinor` is an
+/// object.
 pub trait JsonScalar: Sized {
     // that this is a value of the type
     ghost is_value: { Self → Bool };
@@ -94,10 +95,12 @@ pub trait JsonScalar: Sized {
     /// The value whose form this is.
     fn from_json(value: &Value) -> Result<Self, JsonFault>
         ensures read { reads (view value.now) result }
-        ensures back { (v : Self) → IsTrue (is_value v) → shows v (view value.now) → comes_back v result };
+        ensures back { (v : Self) → IsTrue (is_value v) → shows v (view value.now)
+            → comes_back v result };
 
     // What is shown is read back.
-    ghost round_trip: { (v : Self) (d : Data) (result : Result Self JsonFault) → IsTrue (is_value v) → shows v d → reads d result → comes_back v result };
+    ghost round_trip: { (v : Self) (d : Data) (result : Result Self JsonFault) → IsTrue (is_value v)
+        → shows v d → reads d result → comes_back v result };
 }
 
 // The text that a value is, if it is one.
@@ -123,7 +126,8 @@ fn whole_number(value: &Value, min: i64, max: i64) -> Result<i64, JsonFault>
 
 // The same of a number that is not signed.
 fn natural(value: &Value, max: u32) -> Result<u32, JsonFault>
-    ensures number { result_map_both (λ n. pos n) (λ fault. fault) result ≡ whole_number (pos 0) (pos max) (view value.now) }
+    ensures number { result_map_both (λ n. pos n) (λ fault. fault) result
+        ≡ whole_number (pos 0) (pos max) (view value.now) }
     ensures within { IfOk result (λ n. n ≤ max) }
 {
     Ok(whole_number(value, 0, i64::from(max))? as u32)

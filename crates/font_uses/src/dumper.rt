@@ -1,6 +1,8 @@
 //! A dumper of font values: rows of columns, bits beside numbers, and JSON that comes back.
 
-ghost use Rattle.std.specs.Prelude.{◌≡◌, ◌≤◌, ◌<◌, ◌∷◌, ◌++◌, ℕ, List, IfOk, IfSome, IsSome, Some, None, Ok, Err, IfErr, MatchResult, length, max, string_bytes};
+ghost use Rattle.std.specs.Prelude.{◌≡◌, ◌≤◌, ◌<◌, ℕ, max, List, ◌∷◌, ◌++◌, length};
+ghost use Rattle.std.specs.Prelude.{Some, None, Ok, Err, IsSome, IfSome, IfOk, IfErr};
+ghost use Rattle.std.specs.Prelude.{MatchResult, string_bytes};
 ghost use Rattle.std.specs.List.{flat_map};
 ghost use lib.Chars.{codes};
 ghost use Rattle.serde_json.specs.Data.{object, member, no_members};
@@ -59,7 +61,8 @@ impl Cell for F26Dot6 {
     }
 }
 
-/// The numbers in columns of one width, each with spaces in front; one that is wider takes what it needs.
+/// The numbers in columns of one width, each with spaces in front; one that is wider takes what it
+/// needs.
 pub fn row<N: Cell>(numbers: &[N], width: usize, alloc: Global) -> Result<Vec<u8>, AllocError>
     requires { width ≤ 32 }
     ensures { IfOk result (λ row.

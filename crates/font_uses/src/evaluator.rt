@@ -1,7 +1,9 @@
-//! An evaluator of variations: numbers between others, sums, and quantities varied by terms of bytes.
+//! An evaluator of variations: numbers between others, sums, and quantities varied by terms that
+//! stand in bytes.
 #![tactic(auto, using(font_types::proofs::Callers::sum_calls))]
 
-ghost use Rattle.std.specs.Prelude.{◌≡◌, ◌≢◌, ◌≤◌, ◌+◌, ◌≤ℤ◌, ◌+ℤ◌, pos, length, ◌↔◌, ℤ, [], ◌∷◌, ◌++◌, IsSome, IfSome, IfOk, OnOk};
+ghost use Rattle.std.specs.Prelude.{◌≡◌, ◌≢◌, ◌↔◌, ◌⊎◌, ◌≤◌, ◌+◌, ℤ, pos, ◌≤ℤ◌, ◌+ℤ◌};
+ghost use Rattle.std.specs.Prelude.{[], ◌∷◌, ◌++◌, length, IsSome, IfSome, IfOk, OnOk};
 ghost use Rattle.font_types.specs.Wrap.{wrap};
 ghost use Rattle.font_types.specs.Fixed.{fixed_bits};
 ghost use Rattle.font_types.specs.F48Dot16.{f48dot16_bits};
@@ -24,6 +26,25 @@ pub fn between(a: Fixed, b: Fixed, ratio: Fixed) -> Fixed
     a + (b - a) * ratio
 }
 
+/// A coordinate of a design space, kept from -1 to 1.
+pub fn normalized(coordinate: Fixed) -> Fixed
+    ensures low { fixed_bits coordinate ≤ℤ fixed_bits Fixed.NEG_ONE → result ≡ Fixed.NEG_ONE }
+    ensures high { fixed_bits Fixed.ONE ≤ℤ fixed_bits coordinate → result ≡ Fixed.ONE }
+    ensures inside { fixed_bits Fixed.NEG_ONE ≤ℤ fixed_bits coordinate
+        → fixed_bits coordinate ≤ℤ fixed_bits Fixed.ONE → result ≡ coordinate }
+{
+    coordinate.clamp(Fixed::NEG_ONE, Fixed::ONE)
+}
+
+/// The lesser of two numbers.
+pub fn lesser(a: Fixed, b: Fixed) -> Fixed
+    ensures either { (result ≡ a) ⊎ (result ≡ b) }
+    ensures first { fixed_bits result ≤ℤ fixed_bits a }
+    ensures second { fixed_bits result ≤ℤ fixed_bits b }
+{
+    a.min(b)
+}
+
 /// How much of a whole a part is, from 0 to 1.
 pub fn ratio(part: Fixed, whole: Fixed) -> Fixed
     requires part { (pos 0 ≤ℤ fixed_bits part) × (fixed_bits part ≤ℤ fixed_bits whole) }
@@ -36,8 +57,8 @@ pub fn ratio(part: Fixed, whole: Fixed) -> Fixed
     part / whole
 }
 
-/// The number that stands between `a` and `b` as `part` does between 0 and `whole`, or `None` where it does not
-/// lie there.
+/// The number that stands between `a` and `b` as `part` does between 0 and `whole`, or `None` where
+/// it does not lie there.
 pub fn carried_over(part: Fixed, whole: Fixed, a: Fixed, b: Fixed) -> Option<Fixed>
     ensures there { IsSome result ↔ ((pos 0 ≤ℤ fixed_bits part)
         × (fixed_bits part ≤ℤ fixed_bits whole) × (whole ≢ Fixed.ZERO)) }
@@ -74,8 +95,8 @@ pub fn sum_with(terms: &mut Vec<(Fixed, i32)>, term: (Fixed, i32)) -> Result<F48
     Ok(delta_sum(terms))
 }
 
-/// The terms that stand in bytes, a scalar and a delta in eight bytes each. What is behind the last whole term is
-/// left out.
+/// The terms that stand in bytes, a scalar and a delta in eight bytes each. What is behind the last
+/// whole term is left out.
 pub fn read_terms(bytes: &[u8], alloc: Global) -> Result<Vec<(Fixed, i32)>, AllocError>
     ensures { IfOk result (λ terms. terms.items ≡ terms_of bytes.now) }
 {
@@ -96,8 +117,8 @@ fn term_at(bytes: &[u8], offset: usize) -> (Fixed, i32)
     (scalar, delta)
 }
 
-/// A quantity moved by the terms that stand in bytes, in units of `2^-16`, or `None` where 64 bits do not hold
-/// their exact sum.
+/// A quantity moved by the terms that stand in bytes, in units of `2^-16`, or `None` where 64 bits do
+/// not hold their exact sum.
 pub fn varied_by(base: FWord, bytes: &[u8], alloc: Global) -> Result<Option<i128>, AllocError>
     ensures { IfOk result (λ units. units ≡ varied (fword_number base) (terms_of bytes.now)) }
 {

@@ -1,4 +1,5 @@
-//! How the library is called: one file for each kind of user. Examples, each proved and run by a test.
+//! How the library is called: one file for each kind of user. Examples, each proved and run by a
+//! test.
 #![tactic(auto)]
 
 pub mod dumper;

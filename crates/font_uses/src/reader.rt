@@ -178,7 +178,8 @@ impl Scalar for PixelsPerEm {
 
     ghost raw_of = { λ size. bytes_of 2 (pos size.0) };
 
-    ghost laws = { unsigned_newtype 2 (λ size. size.0) (λ n. record { 0 = n }) (λ _. refl) (λ _. refl) };
+    ghost laws = { unsigned_newtype 2 (λ size. size.0) (λ n. record { 0 = n })
+        (λ _. refl) (λ _. refl) };
 
     fn from_raw(raw: [u8; 2]) -> PixelsPerEm {
         PixelsPerEm(u16::from_raw(raw))

@@ -2,8 +2,8 @@
 
 ghost use Rattle.std.specs.Prelude.{◌≡◌, IfOk, map};
 ghost use Rattle.font_types.specs.F26Dot6.{f26dot6_bits};
-ghost use Rattle.font_types.specs.FixedMatrix.{matrix_bits, point_bits, wrapped_sum, wrapped_product};
-ghost use Rattle.font_types.specs.FixedMatrix.{FitsComposed, IsCloseComposed};
+ghost use Rattle.font_types.specs.FixedMatrix.{matrix_bits, point_bits, wrapped_sum};
+ghost use Rattle.font_types.specs.FixedMatrix.{wrapped_product, FitsComposed, IsCloseComposed};
 ghost use Rattle.font_types.specs.Matrix.{image_of, matrix_product};
 ghost use Rattle.font_types.specs.Operations.{IsNearestWhole};
 
@@ -38,8 +38,8 @@ pub struct Component {
 
 /// Where a point of a component comes to stand, near its exact place.
 ///
-/// Where no entry of `scale * placed` and no coordinate of the answer leaves 32 bits, each coordinate is at most
-/// `(|x| + |y|) / 65536 + 2` steps from the exact one.
+/// Where no entry of `scale * placed` and no coordinate of the answer leaves 32 bits, each coordinate
+/// is at most `(|x| + |y|) / 65536 + 2` steps from the exact one.
 pub fn scaled(scale: Matrix<Fixed>, component: Component, point: Point<Fixed>) -> Point<Fixed>
     ensures value { let placed = matrix_bits component.placed in
         let both = matrix_product wrapped_sum wrapped_product (matrix_bits scale) placed in

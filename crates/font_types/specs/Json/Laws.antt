@@ -12,7 +12,7 @@ use Rattle.font_arithmetic.specs.Operations.{ReadsAs, least, greatest}
 use Rattle.font_arithmetic.proofs.Texts.{printed_reads}
 use Rattle.font_types.specs.declared.json.JsonFault.{JsonFault}
 use Rattle.font_types.specs.declared.json.JsonFault.TheVariants.{Memory, WrongKind, OutOfRange, Syntax, NotUtf8, InvalidTag, MissingMember}
-use Rattle.font_types.specs.Json.{IsNumber, is_within, ReadsNumber, is_unsigned, ReadsUnsigned, is_signed, ReadsSigned, IsTextRead, IsDecimalRead, whole_number, IsTagMade, IsTagRead, TagComesBack, version_form, version_read}
+use Rattle.font_types.specs.Json.{IsNumber, is_within, ReadsNumber, is_unsigned, ReadsUnsigned, is_signed, ReadsSigned, IsTextRead, ReadsDecimal, whole_number, IsTagMade, IsTagRead, TagComesBack, version_form, version_read, ReadsVersion}
 use Rattle.std.specs.Cmp.{first_so, second_so}
 use Rattle.std.specs.Cmp.Derive.{both_true}
 use Rattle.std.proofs.lemmas.Bool.{ltb-true}
@@ -44,7 +44,7 @@ same_read bits_of of_bits back x (Err fault) same = absurd (cc)
 -- a fixed-point number
 pub fixed_round_trip : {T : Type 0} (w f : ℕ) (bits_of : T → ℤ) (of_bits : ℤ → T) → ((x : T) → of_bits (bits_of x) ≡ x) → 2 ^ (w - 1) ≤ 2 ^ 63
     → (x : T) (d : Data) (result : Result T JsonFault) → IsTrue (fits_bits w (bits_of x)) → d ≡ string (shortest_text (bits_of x) f)
-    → IsDecimalRead w f (as_str d) (result_map_both bits_of (λ fault. fault) result) → result ≡ Ok x
+    → ReadsDecimal w f bits_of d result → result ≡ Ok x
 fixed_round_trip w f bits_of of_bits back room x d result value shown read =
     let text : IsTextRead w f (shortest_text (bits_of x) f) (result_map_both bits_of (λ fault. fault) result) = rw shown at read in
     same_read bits_of of_bits back x result
@@ -116,8 +116,7 @@ sixteen_bits n test =
     both_true (sym low) (sym high)
 
 pub version_round_trip : (version : MajorMinor) (d : Data) (result : Result MajorMinor JsonFault) → IsTrue (nat_lt version.major (2 ^ 16) && nat_lt version.minor (2 ^ 16))
-    → d ≡ version_form version.major version.minor
-    → result_map_both {U = ℤ × ℤ} (λ v. (pos v.major, pos v.minor)) (λ fault. fault) result ≡ version_read d → result ≡ Ok version
+    → d ≡ version_form version.major version.minor → ReadsVersion d result → result ≡ Ok version
 version_round_trip version d result value shown read =
     let first = sixteen_bits version.major (first_so (nat_lt version.major (2 ^ 16)) (nat_lt version.minor (2 ^ 16)) value) in
     let second = sixteen_bits version.minor (second_so (nat_lt version.major (2 ^ 16)) (nat_lt version.minor (2 ^ 16)) value) in

@@ -2,9 +2,7 @@
 
 ghost use Rattle.std.specs.Prelude.{◌≡◌, Ok, refl};
 ghost use Rattle.std.proofs.Common.{lit≤};
-ghost use Rattle.std.specs.Result.{result_map_both};
 ghost use Rattle.serde_json.specs.Data.{string};
-ghost use Rattle.serde_json.specs.Find.{as_str};
 ghost use Rattle.font_base.specs.Wrap.{fits_bits};
 ghost use Rattle.font_fixed.specs.Fixed.{fixed_bits, fixed_of, fixed_text};
 ghost use Rattle.font_fixed.specs.F2Dot14.{f2dot14_bits, f2dot14_of, f2dot14_text};
@@ -13,7 +11,7 @@ ghost use Rattle.font_fixed.specs.F48Dot16.{f48dot16_bits, f48dot16_of, f48dot16
 ghost use Rattle.font_fixed2.specs.F4Dot12.{f4dot12_bits, f4dot12_of, f4dot12_text};
 ghost use Rattle.font_fixed2.specs.F6Dot10.{f6dot10_bits, f6dot10_of, f6dot10_text};
 ghost use Rattle.font_fixed2.specs.F2Dot30.{f2dot30_bits, f2dot30_of, f2dot30_text};
-ghost use Rattle.font_types.specs.Json.{IsDecimalRead};
+ghost use Rattle.font_types.specs.Json.{ReadsDecimal};
 ghost use Rattle.font_types.specs.Json.Laws.{fixed_round_trip};
 ghost use Rattle.font_types.specs.declared.json.JsonFault.TheVariants.{Memory};
 
@@ -30,7 +28,7 @@ impl JsonScalar for F2Dot14 {
 
     ghost refuses = { λ _ fault. fault ≡ Memory };
 
-    ghost reads = { λ d result. IsDecimalRead 16 14 (as_str d) (result_map_both f2dot14_bits (λ fault. fault) result) };
+    ghost reads = { λ d result. ReadsDecimal 16 14 f2dot14_bits d result };
 
     ghost round_trip = { fixed_round_trip 16 14 f2dot14_bits f2dot14_of (λ _. refl) (lit≤ tt) };
 
@@ -50,7 +48,7 @@ impl JsonScalar for Fixed {
 
     ghost refuses = { λ _ fault. fault ≡ Memory };
 
-    ghost reads = { λ d result. IsDecimalRead 32 16 (as_str d) (result_map_both fixed_bits (λ fault. fault) result) };
+    ghost reads = { λ d result. ReadsDecimal 32 16 fixed_bits d result };
 
     ghost round_trip = { fixed_round_trip 32 16 fixed_bits fixed_of (λ _. refl) (lit≤ tt) };
 
@@ -70,7 +68,7 @@ impl JsonScalar for F26Dot6 {
 
     ghost refuses = { λ _ fault. fault ≡ Memory };
 
-    ghost reads = { λ d result. IsDecimalRead 32 6 (as_str d) (result_map_both f26dot6_bits (λ fault. fault) result) };
+    ghost reads = { λ d result. ReadsDecimal 32 6 f26dot6_bits d result };
 
     ghost round_trip = { fixed_round_trip 32 6 f26dot6_bits f26dot6_of (λ _. refl) (lit≤ tt) };
 
@@ -90,7 +88,7 @@ impl JsonScalar for F48Dot16 {
 
     ghost refuses = { λ _ fault. fault ≡ Memory };
 
-    ghost reads = { λ d result. IsDecimalRead 64 16 (as_str d) (result_map_both f48dot16_bits (λ fault. fault) result) };
+    ghost reads = { λ d result. ReadsDecimal 64 16 f48dot16_bits d result };
 
     ghost round_trip = { fixed_round_trip 64 16 f48dot16_bits f48dot16_of (λ _. refl) (lit≤ tt) };
 
@@ -110,7 +108,7 @@ impl JsonScalar for F4Dot12 {
 
     ghost refuses = { λ _ fault. fault ≡ Memory };
 
-    ghost reads = { λ d result. IsDecimalRead 16 12 (as_str d) (result_map_both f4dot12_bits (λ fault. fault) result) };
+    ghost reads = { λ d result. ReadsDecimal 16 12 f4dot12_bits d result };
 
     ghost round_trip = { fixed_round_trip 16 12 f4dot12_bits f4dot12_of (λ _. refl) (lit≤ tt) };
 
@@ -130,7 +128,7 @@ impl JsonScalar for F6Dot10 {
 
     ghost refuses = { λ _ fault. fault ≡ Memory };
 
-    ghost reads = { λ d result. IsDecimalRead 16 10 (as_str d) (result_map_both f6dot10_bits (λ fault. fault) result) };
+    ghost reads = { λ d result. ReadsDecimal 16 10 f6dot10_bits d result };
 
     ghost round_trip = { fixed_round_trip 16 10 f6dot10_bits f6dot10_of (λ _. refl) (lit≤ tt) };
 
@@ -150,7 +148,7 @@ impl JsonScalar for F2Dot30 {
 
     ghost refuses = { λ _ fault. fault ≡ Memory };
 
-    ghost reads = { λ d result. IsDecimalRead 32 30 (as_str d) (result_map_both f2dot30_bits (λ fault. fault) result) };
+    ghost reads = { λ d result. ReadsDecimal 32 30 f2dot30_bits d result };
 
     ghost round_trip = { fixed_round_trip 32 30 f2dot30_bits f2dot30_of (λ _. refl) (lit≤ tt) };
 

@@ -3,7 +3,7 @@
 ghost use Rattle.std.specs.Prelude.{◌≡◌, ◌^◌, ◌&&◌, nat_lt, pos};
 ghost use Rattle.std.specs.Result.{result_map_both};
 ghost use Rattle.serde_json.specs.View.{view};
-ghost use Rattle.font_types.specs.Json.{version_form, version_read, member_number};
+ghost use Rattle.font_types.specs.Json.{version_form, ReadsVersion, member_number};
 ghost use Rattle.font_types.specs.Json.Laws.{version_round_trip};
 ghost use Rattle.font_types.specs.declared.json.JsonFault.TheVariants.{Memory};
 
@@ -19,7 +19,7 @@ impl JsonScalar for MajorMinor {
 
     ghost refuses = { λ _ fault. fault ≡ Memory };
 
-    ghost reads = { λ d result. result_map_both (λ version. (pos version.major, pos version.minor)) (λ fault. fault) result ≡ version_read d };
+    ghost reads = { λ d result. ReadsVersion d result };
 
     ghost round_trip = { version_round_trip };
 
@@ -40,7 +40,8 @@ impl JsonScalar for MajorMinor {
 
 // The number of 16 bits that a member is.
 fn member(value: &Value, name: &str) -> Result<u16, JsonFault>
-    ensures { result_map_both (λ n. pos n) (λ fault. fault) result ≡ member_number name.now (view value.now) }
+    ensures { result_map_both (λ n. pos n) (λ fault. fault) result
+        ≡ member_number name.now (view value.now) }
 {
     let number = value.get(name).ok_or(JsonFault::MissingMember)?;
     Ok(natural(number, 0xFFFF)? as u16)

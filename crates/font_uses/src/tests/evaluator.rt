@@ -1,6 +1,8 @@
 //! An evaluator of variations.
 
-use crate::evaluator::{between, carried_over, ratio, read_terms, sum, sum_with, varied_by};
+use crate::evaluator::{
+    between, carried_over, lesser, normalized, ratio, read_terms, sum, sum_with, varied_by,
+};
 use font_types::{FWord, Fixed};
 use std::test::Fail;
 
@@ -13,6 +15,15 @@ fn numbers_between(rt: HostRuntime) {
     assert!(rt; carried_over(one, three, Fixed::ZERO, three) == Some(Fixed::from_bits(65535)));
     assert!(rt; carried_over(three, three, one, Fixed::MIN) == Some(Fixed::MIN));
     assert!(rt; carried_over(three, one, one, three).is_none());
+}
+
+#[test]
+fn numbers_in_order(rt: HostRuntime) {
+    let half = Fixed::from_bits(0x8000);
+    assert!(rt; normalized(half) == half && normalized(Fixed::ONE) == Fixed::ONE);
+    assert!(rt; normalized(Fixed::from_i32(-2)) == Fixed::NEG_ONE);
+    assert!(rt; normalized(Fixed::MAX) == Fixed::ONE);
+    assert!(rt; lesser(half, Fixed::ONE) == half && lesser(half, Fixed::MIN) == Fixed::MIN);
 }
 
 #[test]

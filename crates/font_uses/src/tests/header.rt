@@ -4,7 +4,8 @@ use crate::header::{FontHeader, font_revision, glyph_data_format, modified, unit
 use font_types::{Fixed, LongDateTime, TableDataRef};
 use std::test::Fail;
 
-// A header as a font has it: of version 1.0, made on 9 September 2001 and changed on 29 February 2024, and a byte behind it.
+// A header as a font has it, made on 9 September 2001 and changed on 29 February 2024, and a byte
+// behind it.
 const TABLE: [u8; 55] = [
     0x00, 0x01, 0x00, 0x00, 0x00, 0x01, 0x80, 0x00, 0xB1, 0xB0, 0xAF, 0xBA, 0x5F, 0x0F, 0x3C, 0xF5,
     0x00, 0x0B, 0x08, 0x00, 0x00, 0x00, 0x00, 0x00, 0xB7, 0xC0, 0x7A, 0x80, 0x00, 0x00, 0x00, 0x00,
