@@ -2,7 +2,8 @@
 
 ghost use Rattle.std.specs.Prelude.{◌^◌};
 ghost use Rattle.std.specs.Int.{w32};
-ghost use Rattle.font_types.specs.Operations.{IsFloor, IsMulDiv, IsNarrowed, IsNearestWhole, IsProduct, IsQuotient};
+ghost use Rattle.font_types.specs.Operations.{IsFloor, IsMulDiv, IsNarrowed, IsNearestWhole};
+ghost use Rattle.font_types.specs.Operations.{IsProduct, IsQuotient};
 ghost use Rattle.font_c.specs.Texts.{WritesDecimal};
 ghost use Rattle.font_c.specs.Readings.{ReadsInto};
 ghost use Rattle.font_c.specs.Pads.{WritesPadded};

@@ -1,7 +1,8 @@
 //! Matrices and points of 16.16 numbers.
 
 ghost use Rattle.std.specs.Prelude.{◌≡◌};
-ghost use Rattle.font_types.specs.FixedMatrix.{matrix_bits, point_bits, FitsComposed, FitsInTurn, IsCloseComposed, IsCloseInTurn};
+ghost use Rattle.font_types.specs.FixedMatrix.{matrix_bits, point_bits, FitsComposed, FitsInTurn};
+ghost use Rattle.font_types.specs.FixedMatrix.{IsCloseComposed, IsCloseInTurn};
 ghost use Rattle.font_c.specs.Matrices.{elements, coordinates, product_of, moved_by};
 
 use font_types::{Fixed, Matrix, Point, laws};

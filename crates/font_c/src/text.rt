@@ -1,6 +1,7 @@
 //! Texts that come from C and go to it.
 
-ghost use Rattle.std.specs.Prelude.{◌≡◌, ◌≢◌, ◌<◌, ◌≤◌, length, max, IfErr, MatchOption, SomeIff, true, false};
+ghost use Rattle.std.specs.Prelude.{◌≡◌, ◌≢◌, ◌<◌, ◌≤◌, length, max, IfErr, MatchOption, SomeIff};
+ghost use Rattle.std.specs.Prelude.{true, false};
 ghost use Rattle.font_types.specs.Grammar.{IsDecimal, IsNoDecimal};
 ghost use Rattle.font_types.specs.Shortest.{shortest_text};
 ghost use Rattle.font_types.specs.Padding.{padded_text};

@@ -1,7 +1,9 @@
 //! A decimal text in a field of some width.
-ghost use Rattle.std.specs.Prelude.{◌≡◌, ℕ, ◌+◌, ◌≤◌, ◌<◌, ◌↔◌, List, ◌++◌, length, take, drop, replicate, IfSome, IfNone, IsSome, false};
+ghost use Rattle.std.specs.Prelude.{◌≡◌, ℕ, ◌+◌, ◌≤◌, ◌<◌, ◌↔◌, List, ◌++◌, length, take, drop};
+ghost use Rattle.std.specs.Prelude.{replicate, IfSome, IfNone, IsSome, false};
 ghost use Rattle.font_decimal.specs.Grammar.{IsDecimal};
-ghost use Rattle.font_decimal.specs.Padding.{shown_sign, unsigned_body, laid_out, padded_text, FillsFront};
+ghost use Rattle.font_decimal.specs.Padding.{shown_sign, unsigned_body, laid_out, padded_text};
+ghost use Rattle.font_decimal.specs.Padding.{FillsFront};
 
 /// Where a text stands in a field that is wider.
 #[derive(Clone, Copy)]
@@ -34,7 +36,13 @@ impl Pad {
     ///
     /// The other fields are public: `Pad { plus: true, ..Pad::new(8) }` shows a plus sign too.
     pub fn new(width: usize) -> Self
-        ensures { result ≡ record { width = width; fill = 32; align = Align.Right; plus = false; zeros = false } }
+        ensures { result ≡ record {
+          width = width;
+          fill = 32;
+          align = Align.Right;
+          plus = false;
+          zeros = false;
+        } }
     {
         Self {
             width,
@@ -52,7 +60,8 @@ impl Pad {
 pub fn write_padded(text: &str, out: &mut [u8], pad: &Pad) -> Option<usize>
     requires decimal { IsDecimal text.now }
     requires ascii { pad.now.fill < 128 }
-    ensures written { IfSome result (λ n. FillsFront (padded_text text.now pad.now) n out.old out.new) }
+    ensures written { IfSome result
+        (λ n. FillsFront (padded_text text.now pad.now) n out.old out.new) }
     ensures room { IsSome result ↔ (length (padded_text text.now pad.now) ≤ length out.old) }
     ensures untouched { IfNone result (out.new ≡ out.old) }
 {
@@ -86,7 +95,8 @@ fn shown_parts(text: &str, plus: bool) -> (&'static str, &str)
 fn spread(spare: usize, pad: &Pad) -> (usize, usize, usize)
     ensures all { result.0 + result.1 + result.2 ≡ spare }
     ensures places { (sign body : List ℕ) → laid_out pad.now sign body spare
-        ≡ replicate result.0 pad.now.fill ++ (sign ++ (replicate result.1 48 ++ (body ++ replicate result.2 pad.now.fill))) }
+        ≡ replicate result.0 pad.now.fill
+        ++ (sign ++ (replicate result.1 48 ++ (body ++ replicate result.2 pad.now.fill))) }
 {
     if pad.zeros {
         return (0, spare, 0);
@@ -103,7 +113,8 @@ fn spread(spare: usize, pad: &Pad) -> (usize, usize, usize)
 fn put(out: &mut [u8], at: usize, bytes: &[u8]) -> usize
     requires { at + length bytes.now ≤ length out.old }
     ensures end { result ≡ at + length bytes.now }
-    ensures written { out.new ≡ take at out.old ++ (bytes.now ++ drop (at + length bytes.now) out.old) }
+    ensures written { out.new ≡ take at out.old
+        ++ (bytes.now ++ drop (at + length bytes.now) out.old) }
 {
     let end = at + bytes.len();
     out[at..end].copy_from_slice(bytes);
@@ -114,7 +125,8 @@ fn put(out: &mut [u8], at: usize, bytes: &[u8]) -> usize
 fn put_fill(out: &mut [u8], at: usize, byte: u8, count: usize) -> usize
     requires { at + count ≤ length out.old }
     ensures end { result ≡ at + count }
-    ensures written { out.new ≡ take at out.old ++ (replicate count byte ++ drop (at + count) out.old) }
+    ensures written { out.new ≡ take at out.old
+        ++ (replicate count byte ++ drop (at + count) out.old) }
 {
     let end = at + count;
     out[at..end].fill(byte);

@@ -1,6 +1,7 @@
 //! Callers of scalars and fields, with contracts of their own and no proof file.
 
-ghost use Rattle.std.specs.Prelude.{◌≡◌, ◌≤◌, length, take, drop, IsSome, IfSome, IfNone, ◌↔◌, OnOk, IsSorted};
+ghost use Rattle.std.specs.Prelude.{◌≡◌, ◌≤◌, length, take, drop, IsSome, IfSome, IfNone, ◌↔◌};
+ghost use Rattle.std.specs.Prelude.{OnOk, IsSorted};
 ghost use Rattle.font_base.specs.BigEndian.{raw_value};
 ghost use Rattle.font_base.specs.Bytes.{numeral, signed_numeral};
 ghost use Rattle.font_base.specs.Scalar.{IsValueOf};

@@ -27,7 +27,8 @@ impl Scalar for WeightClass {
 
     ghost raw_of = { λ weight. bytes_of 2 (pos weight.0) };
 
-    ghost laws = { unsigned_newtype 2 (λ weight. weight.0) (λ n. record { 0 = n }) (λ _. refl) (λ _. refl) };
+    ghost laws = { unsigned_newtype 2 (λ weight. weight.0) (λ n. record { 0 = n }) (λ _. refl)
+        (λ _. refl) };
 
     fn from_raw(raw: [u8; 2]) -> WeightClass {
         WeightClass(u16::from_raw(raw))
