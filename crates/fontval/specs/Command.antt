@@ -26,24 +26,24 @@ use Rattle.fontval.specs.declared.refusal.Refusal.TheVariants.{UnknownCommand, W
 -- ---- the commands
 
 -- whether a type's bytes are read as two's complement
-abbrev pub unsigned : Bool
-unsigned = false
+abbrev pub without_sign : Bool
+without_sign = false
 
-abbrev pub signed : Bool
-signed = true
+abbrev pub with_sign : Bool
+with_sign = true
 
 -- the integer types: the word that names each, how many bytes it has, and whether these have a sign
 -- (OpenType, data types: uint8 to int64)
 abbrev pub integer_row : IntegerType → List ℕ × ℕ × Bool
-integer_row Uint8 = (codes "uint8", 1, unsigned)
-integer_row Int8 = (codes "int8", 1, signed)
-integer_row Uint16 = (codes "uint16", 2, unsigned)
-integer_row Int16 = (codes "int16", 2, signed)
-integer_row Uint24 = (codes "uint24", 3, unsigned)
-integer_row Int24 = (codes "int24", 3, signed)
-integer_row Uint32 = (codes "uint32", 4, unsigned)
-integer_row Int32 = (codes "int32", 4, signed)
-integer_row Int64 = (codes "int64", 8, signed)
+integer_row Uint8 = (codes "uint8", 1, without_sign)
+integer_row Int8 = (codes "int8", 1, with_sign)
+integer_row Uint16 = (codes "uint16", 2, without_sign)
+integer_row Int16 = (codes "int16", 2, with_sign)
+integer_row Uint24 = (codes "uint24", 3, without_sign)
+integer_row Int24 = (codes "int24", 3, with_sign)
+integer_row Uint32 = (codes "uint32", 4, without_sign)
+integer_row Int32 = (codes "int32", 4, with_sign)
+integer_row Int64 = (codes "int64", 8, with_sign)
 
 -- the fixed-point types: the word that names each, how many bits it has, and how many of them
 -- stand behind the point

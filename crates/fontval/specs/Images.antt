@@ -9,8 +9,8 @@ use Rattle.font_types.specs.FixedMatrix.{matrix_bits, point_bits, wrapped_sum, w
 use Rattle.fontval.specs.Refusal.{Answer}
 
 -- the coordinates of a point, which are given in bits
-abbrev pub point_text : Point ℤ → List ℕ
-point_text p = shortest_text p.x 16 ++ codes " " ++ shortest_text p.y 16
+abbrev pub coordinates_text : Point ℤ → List ℕ
+coordinates_text p = shortest_text p.x 16 ++ codes " " ++ shortest_text p.y 16
 
 -- where the product of a and b sends the point, which applies b and then a: products are rounded,
 -- and sums wrap
@@ -26,7 +26,7 @@ image_in_turn a b p =
 -- both images, in this order
 abbrev pub images_text : Matrix ℤ → Matrix ℤ → Point ℤ → List ℕ
 images_text a b p =
-    point_text (composed_image a b p) ++ codes " " ++ point_text (image_in_turn a b p)
+    coordinates_text (composed_image a b p) ++ codes " " ++ coordinates_text (image_in_turn a b p)
 
 -- the numbers are the elements of two matrices and the coordinates of a point, and the answer is
 -- where these send it
