@@ -1,6 +1,6 @@
 /*
  * Fixed-point numbers, matrices, tags and sums of deltas of fonts, by a library
- * in which every function is proved to do exactly what is said of it here.
+ * in which the answer of every function is proved to be what is said of it here.
  * For C99 and later, and for C++11 and later. Link with libfont_c.a.
  *
  * Numbers are handed over by their bits, which count steps of 1 / 2^f: of a
@@ -12,7 +12,8 @@
  * `length` bytes, and no zero byte ends it.
  *
  * A call keeps nothing, allocates nothing, and may be made from any thread.
- * Where it refuses, it leaves what is behind its pointers as it was.
+ * Where it refuses, it leaves what is behind its pointers as it was; only
+ * font_tag_validate then writes the index of the fault.
  */
 #ifndef FONT_TYPES_H
 #define FONT_TYPES_H
@@ -47,7 +48,7 @@ enum {
     FONT_RIGHT = 2   /* at the back */
 };
 
-/* How a text is padded. It is refused where `fill` or `align` is none. */
+/* How a text is padded. It is refused where `fill` is 0x80 or more, or `align` is none of the three. */
 typedef struct font_pad {
     size_t width;  /* the least number of bytes */
     uint8_t fill;  /* the byte that fills, below 0x80 */
@@ -76,7 +77,7 @@ uint32_t font_fixed_from_decimal(const char *text, size_t length, int32_t *bits)
  */
 size_t font_fixed_to_decimal(int32_t bits, char *out, size_t room);
 
-/* The same, padded. 0 also where `pad` is none. */
+/* The same, padded. Also 0 where `pad` is refused. */
 size_t font_fixed_write_padded(int32_t bits, const font_pad *pad, char *out, size_t room);
 
 /* The bits of the nearest whole number, ties upwards, wrapped. */
@@ -103,7 +104,7 @@ int32_t font_fixed_mul_div(int32_t x, int32_t a, int32_t c);
 /* The nearest whole number, ties upwards, wrapped to 16 bits. */
 int32_t font_fixed_to_i32(int32_t bits);
 
-/* The bits of the nearest 26.6 number, ties upwards, wrapped to 22. */
+/* The bits of the nearest 26.6 number, ties upwards, wrapped to 22 bits. */
 int32_t font_fixed_to_f26dot6(int32_t bits);
 
 /* The bits of the nearest 2.14 number, ties upwards, wrapped to 16. */
@@ -123,7 +124,7 @@ uint32_t font_f2dot14_from_decimal(const char *text, size_t length, int16_t *bit
  */
 size_t font_f2dot14_to_decimal(int16_t bits, char *out, size_t room);
 
-/* The same, padded. 0 also where `pad` is none. */
+/* The same, padded. Also 0 where `pad` is refused. */
 size_t font_f2dot14_write_padded(int16_t bits, const font_pad *pad, char *out, size_t room);
 
 /* The bits of the nearest whole number, ties upwards, wrapped. */
@@ -146,7 +147,7 @@ uint32_t font_f4dot12_from_decimal(const char *text, size_t length, int16_t *bit
  */
 size_t font_f4dot12_to_decimal(int16_t bits, char *out, size_t room);
 
-/* The same, padded. 0 also where `pad` is none. */
+/* The same, padded. Also 0 where `pad` is refused. */
 size_t font_f4dot12_write_padded(int16_t bits, const font_pad *pad, char *out, size_t room);
 
 /* The bits of the nearest whole number, ties upwards, wrapped. */
@@ -169,7 +170,7 @@ uint32_t font_f6dot10_from_decimal(const char *text, size_t length, int16_t *bit
  */
 size_t font_f6dot10_to_decimal(int16_t bits, char *out, size_t room);
 
-/* The same, padded. 0 also where `pad` is none. */
+/* The same, padded. Also 0 where `pad` is refused. */
 size_t font_f6dot10_write_padded(int16_t bits, const font_pad *pad, char *out, size_t room);
 
 /* The bits of the nearest whole number, ties upwards, wrapped. */
@@ -192,7 +193,7 @@ uint32_t font_f26dot6_from_decimal(const char *text, size_t length, int32_t *bit
  */
 size_t font_f26dot6_to_decimal(int32_t bits, char *out, size_t room);
 
-/* The same, padded. 0 also where `pad` is none. */
+/* The same, padded. Also 0 where `pad` is refused. */
 size_t font_f26dot6_write_padded(int32_t bits, const font_pad *pad, char *out, size_t room);
 
 /* The bits of the nearest whole number, ties upwards, wrapped. */
@@ -224,7 +225,7 @@ uint32_t font_f48dot16_from_decimal(const char *text, size_t length, int64_t *bi
  */
 size_t font_f48dot16_to_decimal(int64_t bits, char *out, size_t room);
 
-/* The same, padded. 0 also where `pad` is none. */
+/* The same, padded. Also 0 where `pad` is refused. */
 size_t font_f48dot16_write_padded(int64_t bits, const font_pad *pad, char *out, size_t room);
 
 /* The bits of the nearest whole number, ties upwards, wrapped. */
@@ -247,7 +248,7 @@ uint32_t font_f2dot30_from_decimal(const char *text, size_t length, int32_t *bit
  */
 size_t font_f2dot30_to_decimal(int32_t bits, char *out, size_t room);
 
-/* The same, padded. 0 also where `pad` is none. */
+/* The same, padded. Also 0 where `pad` is refused. */
 size_t font_f2dot30_write_padded(int32_t bits, const font_pad *pad, char *out, size_t room);
 
 /* The bits of the nearest whole number, ties upwards, wrapped. */
@@ -284,7 +285,7 @@ font_point font_matrix_image(font_matrix m, font_point p);
 font_point font_matrix_composed(font_matrix a, font_matrix b, font_point p);
 
 /*
- * Where a sends what b sends p to. Where no coordinate of either leaves 32 bits,
+ * Where a sends the point to which b sends p. Where no coordinate of either leaves 32 bits,
  * a coordinate is at most the magnitudes of the two linear elements of its row
  * of a, in bits, over 65536, and 1 bit from the exact one.
  */
@@ -295,7 +296,7 @@ font_point font_matrix_in_turn(font_matrix a, font_matrix b, font_point p);
 /* What is said of a tag. */
 enum {
     FONT_TAG_GOOD = 0,       /* visible characters, and only spaces behind them */
-    FONT_TAG_LENGTH = 1,     /* another number of bytes, or spaces alone */
+    FONT_TAG_LENGTH = 1,     /* another number of bytes; of validate four spaces too */
     FONT_TAG_BYTE = 2,       /* a byte that cannot stand where it does */
     FONT_TAG_AFTER_SPACE = 3 /* a visible byte behind a space */
 };

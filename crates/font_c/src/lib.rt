@@ -1,10 +1,10 @@
 //! The library for C, and for what calls C: numbers read, printed, rounded and multiplied,
 //! matrices, tags and sums of deltas.
 //!
-//! Each export makes one call of `font_types` and says the clauses of that call again, over
-//! numbers, bytes and plain structs. None has a `requires`, which nobody outside would meet: what
-//! it cannot take it refuses, and it then leaves every place as it was. It keeps nothing between
-//! calls, and allocates nothing. `include/font_types.h` declares it all.
+//! Each export says what it answers in the words of the calls of `font_types`, over numbers, bytes
+//! and plain structs. None has a `requires`, which nobody outside would meet: what it cannot take
+//! it refuses, and then leaves every place as it was, but for the position of a tag's fault. It
+//! keeps nothing between calls, and allocates nothing. `include/font_types.h` declares it all.
 #![tactic(auto)]
 
 mod f26dot6;

@@ -1,6 +1,4 @@
 //! Reading a decimal text as the nearest fixed-point number.
-//!
-//! A caller reads by one fraction and one range: all is inlined, so that they are known there.
 
 ghost use Rattle.std.specs.Prelude.{◌≡◌, ◌+◌, ◌-◌, ◌*◌, ◌/◌, ◌^◌, ◌<◌, ◌≤◌, ◌≤ℤ◌, ◌⊎◌, ◌↔◌, ◌++◌};
 ghost use Rattle.std.specs.Prelude.{ℕ, ℤ, pos, Bool, false, List, length, min, slice_index, take};

@@ -3,7 +3,7 @@
 #![tactic(auto, using(font_types::proofs::Callers::sum_calls))]
 
 ghost use Rattle.std.specs.Prelude.{◌≡◌, ◌≢◌, ◌↔◌, ◌⊎◌, ◌≤◌, ◌+◌, ℤ, pos, ◌≤ℤ◌, ◌+ℤ◌};
-ghost use Rattle.std.specs.Prelude.{[], ◌∷◌, ◌++◌, length, IsSome, IfSome, IfOk, OnOk};
+ghost use Rattle.std.specs.Prelude.{[], ◌∷◌, ◌++◌, length, IsSome, IfSome, IfOk, OnOk, OnErr};
 ghost use Rattle.font_types.specs.Wrap.{wrap};
 ghost use Rattle.font_types.specs.Fixed.{fixed_bits};
 ghost use Rattle.font_types.specs.F48Dot16.{f48dot16_bits};
@@ -88,6 +88,7 @@ pub fn sum(numbers: &[Fixed]) -> Fixed
 /// Puts a term behind the others, and gives the sum of all.
 pub fn sum_with(terms: &mut Vec<(Fixed, i32)>, term: (Fixed, i32)) -> Result<F48Dot16, AllocError>
     ensures terms { OnOk result (terms.new.items ≡ terms.old.items ++ term ∷ []) }
+    ensures stays { OnErr result (terms.new.items ≡ terms.old.items) }
     ensures sum { IfOk result (λ sum.
         f48dot16_bits sum ≡ wrap 64 (exact_sum terms.old.items +ℤ term_product term)) }
 {
@@ -117,8 +118,8 @@ fn term_at(bytes: &[u8], offset: usize) -> (Fixed, i32)
     (scalar, delta)
 }
 
-/// A quantity moved by the terms that stand in bytes, in units of `2^-16`, or `None` where 64 bits do
-/// not hold their exact sum.
+/// A quantity moved by the terms that stand in bytes, in units of `2^-16`, or `None` where 64 bits
+/// do not hold their exact sum.
 pub fn varied_by(base: FWord, bytes: &[u8], alloc: Global) -> Result<Option<i128>, AllocError>
     ensures { IfOk result (λ units. units ≡ varied (fword_number base) (terms_of bytes.now)) }
 {

@@ -45,7 +45,7 @@ pub fn is_in_order(tags: &[Tag]) -> bool
     true
 }
 
-/// The place of the first tag that stands before it too, or `None` where none stands twice.
+/// The place of the first tag that equals one before it, or `None` where none stands twice.
 pub fn first_repeated(tags: &[Tag]) -> Option<usize>
     ensures { MatchOption result (AreDifferent tags.now (length tags.now))
         (λ place. IsFirstRepeated tags.now place) }

@@ -42,7 +42,8 @@ impl Cursor<'_> {
         Some(value)
     }
 
-    /// The next values, so many of them, or `None` where there are fewer.
+    /// The next `count` values, or `None` where there are fewer. The cursor has then moved over those
+    /// that there are.
     pub fn read_array<T: Scalar + Drop>(
         &mut self,
         count: usize,
@@ -82,8 +83,8 @@ pub struct Strike {
     pub glyph_count: u16,
 }
 
-#[tactic(auto, using(font_types::proofs::Callers::scalar_calls))]
 /// The strike in front of the cursor, 15 bytes, or `None` where there are fewer.
+#[tactic(auto, using(font_types::proofs::Callers::scalar_calls))]
 pub fn read_strike(cursor: &mut Cursor<'_>) -> Option<Strike>
     ensures end { IsSome result ↔ (15 ≤ length cursor.old.rest.now) }
     ensures table { IfSome result (λ strike.
@@ -96,6 +97,7 @@ pub fn read_strike(cursor: &mut Cursor<'_>) -> Option<Strike>
         strike.size.0 ≡ numeral (take 2 (drop 11 cursor.old.rest.now))) }
     ensures glyph_count { IfSome result (λ strike.
         strike.glyph_count ≡ numeral (take 2 (drop 13 cursor.old.rest.now))) }
+    ensures moved { IsSome result → cursor.new.rest.now ≡ drop 15 cursor.old.rest.now }
 {
     Some(Strike {
         table: cursor.read()?,

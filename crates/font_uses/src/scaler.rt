@@ -11,7 +11,6 @@ use font_types::{F26Dot6, Fixed, Matrix, Point, laws};
 use std::alloc::{AllocError, Global};
 
 /// Where a matrix moves points, one after the other.
-
 pub fn moved(
     matrix: Matrix<Fixed>,
     points: &[Point<Fixed>],
@@ -38,8 +37,8 @@ pub struct Component {
 
 /// Where a point of a component comes to stand, near its exact place.
 ///
-/// Where no entry of `scale * placed` and no coordinate of the answer leaves 32 bits, each coordinate
-/// is at most `(|x| + |y|) / 65536 + 2` steps from the exact one.
+/// Where no entry of `scale * placed` and no coordinate of the answer leaves 32 bits, each
+/// coordinate is at most `(|x| + |y|) / 65536 + 2` steps from the exact one.
 pub fn scaled(scale: Matrix<Fixed>, component: Component, point: Point<Fixed>) -> Point<Fixed>
     ensures value { let placed = matrix_bits component.placed in
         let both = matrix_product wrapped_sum wrapped_product (matrix_bits scale) placed in

@@ -26,7 +26,7 @@ pub fn answers<A: Allocator + Copy>(alloc: A, input: &[u8]) -> Result<String<A>,
     Ok(output)
 }
 
-// Appends the answer to a line. Every line comes here, so no call is spent on it.
+// Appends the answer to a line.
 #[inline(always)]
 fn append_answer<A: Allocator>(
     alloc: A,

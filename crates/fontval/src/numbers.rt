@@ -14,7 +14,7 @@ use crate::text::Words;
 use font_types::Fixed;
 use std::alloc::Allocator;
 
-// So many terms find room at once. Most lines have fewer.
+// How many terms the list has room for at first.
 const FEW_TERMS: usize = 16;
 
 /// The numbers that just N words are read as.

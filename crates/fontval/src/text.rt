@@ -147,7 +147,7 @@ fn split_word(text: &[u8]) -> (&[u8], &[u8])
     }
 }
 
-// Where the first blank stands. It is sought in blocks of eight bytes, since most words are short.
+// Where the first blank stands. It is sought in blocks of eight bytes, and then in what is left.
 #[tactic(auto, using(crate::proofs::SearchLemmas::search_steps))]
 fn blank_at(text: &[u8]) -> Option<usize>
     ensures { result ≡ position is_blank text.now }

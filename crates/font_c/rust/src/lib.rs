@@ -3,7 +3,8 @@
 //!
 //! Decimals are read as the nearest value and printed as the shortest text that is read back;
 //! products, quotients, roundings and narrowings are exact up to one stated rounding; matrices come
-//! with bounds; sums of deltas are exact or refused. Names and behaviour are those of `font-types`.
+//! with bounds; sums of deltas are exact or refused. What both have bears the names of
+//! `font-types`; docs/DIFFERENCES.md of the repository says what differs.
 //!
 //! Proved is what the library does: reading, printing, padding, `*`, `/`, `mul_div`, `round`,
 //! `floor`, narrowings, matrices, judging tags and sums of deltas. This crate hands values over and
