@@ -5,7 +5,11 @@ use Rattle.std.specs.List.{zip}
 use Rattle.std.proofs.lemmas.List.{take_all}
 use Rattle.std.proofs.lemmas.List.Sums.{fold_more}
 use Rattle.std.proofs.lemmas.Slice.Zip.{length-zip, get_or-zip}
-use Rattle.font_c.specs.Sums.{plus_product, sum_of_products}
+use Rattle.font_c.specs.Sums.{sum_of_products}
+
+-- a sum and one product more
+abbrev plus_product : ℤ → ℤ × ℤ → ℤ
+plus_product sum term = sum +ℤ (term.0 *ℤ term.1)
 
 -- the sum of the first n products
 abbrev pub sum_of_first : ℕ → List ℤ → List ℤ → ℤ

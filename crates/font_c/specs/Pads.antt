@@ -1,4 +1,4 @@
--- How C says that a text is padded.
+-- How C says that a text is padded. All of it is the project's own.
 use Rattle.std.specs.Prelude.{◌≡◌, ◌≢◌, ◌<◌, ◌≤◌, ℕ, zero, suc, ℤ, List, length, max}
 use Rattle.font_types.specs.Padding.{padded_text}
 use Rattle.font_types.specs.Shortest.{shortest_text}

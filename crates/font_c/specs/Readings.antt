@@ -1,4 +1,5 @@
--- How what a decimal text is read as is handed to C: a status, and a place for the bits.
+-- How what a decimal text is read as is handed to C: a status, and a place for the bits. All
+-- of it is the project's own.
 use Rattle.std.specs.Prelude.{◌≡◌, ◌≢◌, ◌<◌, ℕ, zero, suc, ℤ, List, Result, Ok, Err}
 use Rattle.std.specs.Int.{Width}
 use Rattle.font_types.specs.DecimalFault.{DecimalFault}

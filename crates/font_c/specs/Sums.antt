@@ -1,17 +1,14 @@
 -- Sums of deltas, over a list of scalars and one of deltas. The exact product of a 16.16 number and
 -- a whole number has the product of their bits as its bits, so the sum of these is the sum of
 -- deltas (OpenType, item variation stores), in units of 2^-16.
-use Rattle.std.specs.Prelude.{◌≡◌, ◌≢◌, ℕ, zero, suc, List, fold, length, ℤ, pos, ◌+ℤ◌, ◌*ℤ◌}
+use Rattle.std.specs.Prelude.{◌≡◌, ◌≢◌, ℕ, zero, suc, List, length, ℤ, ◌*ℤ◌}
 use Rattle.std.specs.List.{zip}
 use Rattle.font_types.specs.Wrap.{FitsBits}
-
--- a sum and one product more
-abbrev pub plus_product : ℤ → ℤ × ℤ → ℤ
-plus_product sum term = sum +ℤ (term.0 *ℤ term.1)
+use Rattle.font_types.specs.Delta.{total}
 
 -- the exact sum of the products, item by item
 abbrev pub sum_of_products : List ℤ → List ℤ → ℤ
-sum_of_products scalars deltas = fold plus_product (pos 0) (zip scalars deltas)
+sum_of_products scalars deltas = total (λ term. term.0 *ℤ term.1) (zip scalars deltas)
 
 -- what a status and a sum say: 0 the exact sum, 1 lists of different lengths, and 2 a sum that 64
 -- bits do not hold

@@ -1,4 +1,4 @@
--- The text of a tag while it is made.
+-- The text of a tag while it is made. The project's own.
 use Rattle.std.specs.Prelude.{ℕ, List, take}
 use Rattle.font_c.specs.declared.tag_text.TagText.{TagText}
 

@@ -1,4 +1,5 @@
 -- How tags are handed to C: as the number of 32 bits whose bytes they are, highest first.
+-- (OpenType, data types: a Tag is an array of four uint8s) The statuses are the project's own.
 use Rattle.std.specs.Prelude.{◌≡◌, ◌≢◌, ℕ, zero, suc, pos, ◌⊎◌, List, length, slice_index}
 use Rattle.font_types.specs.Bytes.{numeral, bytes_of}
 use Rattle.font_types.specs.Tag.{IsAcceptable, IsTagLength, IsGood, IsFault, IsVisible, filled, four_spaces}

@@ -1,4 +1,4 @@
--- How a text is handed to C.
+-- How a text is handed to C. All of it is the project's own.
 use Rattle.std.specs.Prelude.{◌≡◌, ◌≢◌, ◌<◌, ◌≤◌, ℕ, ℤ, List, length}
 use Rattle.font_types.specs.Padding.{FillsFront}
 use Rattle.font_types.specs.Shortest.{shortest_text}

@@ -1,4 +1,4 @@
--- What a dump shows.
+-- What a dump shows. All of it is this example's own.
 use Rattle.std.specs.Prelude.{ℕ, ◌-◌, ◌^◌, false, List, [], IsTrue}
 use Rattle.std.specs.Fmt.{digits, padded_integral, format_spec}
 use lib.Chars.{codes}

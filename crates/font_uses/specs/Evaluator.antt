@@ -1,4 +1,5 @@
--- What an evaluator of variations computes.
+-- What an evaluator of variations computes, by this example's own layout of terms.
+-- (OpenType, font variations: an interpolated value lies between two by a scalar)
 use Rattle.std.specs.Prelude.{ℕ, ◌+◌, ◌*◌, ◌/◌, ℤ, ◌-ℤ◌, List, length, map, take, drop}
 use Rattle.std.specs.List.{range_with_len}
 use Rattle.font_types.specs.Wrap.{wrap}

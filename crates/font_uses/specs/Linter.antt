@@ -1,4 +1,4 @@
--- What is wrong with a list of tags.
+-- What is wrong with a list of tags, by this example's own rules.
 use Rattle.std.specs.Prelude.{◌≡◌, ℕ, ◌<◌, Bool, true, false, nat_eq, List, length, Err, slice_index_or}
 use Rattle.std.specs.Cmp.Lexicographic.{pointwise}
 use Rattle.std.specs.List.{AllWithin, HoldsAt}

@@ -1,4 +1,4 @@
--- Values that stand one behind the other.
+-- Values that stand one behind the other (OpenType: arrays of records in tables).
 use Rattle.std.specs.Prelude.{ℕ, ◌*◌, ◌<◌, List, take, drop}
 use Rattle.std.specs.List.{HoldsAt}
 use Rattle.font_types.specs.Scalar.{IsValueOf}

@@ -5,7 +5,7 @@ ghost use Rattle.std.specs.Prelude.{Some, None, Ok, Err, IsSome, IfSome, IfOk, I
 ghost use Rattle.std.specs.Prelude.{MatchResult, string_bytes};
 ghost use Rattle.std.specs.List.{flat_map};
 ghost use lib.Chars.{codes};
-ghost use Rattle.serde_json.specs.Data.{object, member, no_members};
+ghost use Rattle.serde_json.specs.Data.{Data, object, member, no_members};
 ghost use Rattle.serde_json.specs.Find.{get};
 ghost use Rattle.serde_json.specs.View.{view};
 ghost use Rattle.font_types.specs.Bytes.{numeral, bytes_of};
@@ -120,6 +120,15 @@ impl Summary {
             → view value.now ≡ summary_form summary → result ≡ Ok summary }
         ensures missing { get (codes "revision") (view value.now) ≡ None
             → result ≡ Err JsonFault.MissingMember }
+        ensures revision { IfOk result (λ summary. (d : Data)
+            × (get (codes "revision") (view value.now) ≡ Some d)
+            × ⟦<Fixed as JsonScalar>⟧.reads d (Ok summary.revision)) }
+        ensures created { IfOk result (λ summary. (d : Data)
+            × (get (codes "created") (view value.now) ≡ Some d)
+            × ⟦<LongDateTime as JsonScalar>⟧.reads d (Ok summary.created)) }
+        ensures x_min { IfOk result (λ summary. (d : Data)
+            × (get (codes "x_min") (view value.now) ≡ Some d)
+            × ⟦<FWord as JsonScalar>⟧.reads d (Ok summary.x_min)) }
     {
         Ok(Summary {
             revision: Fixed::from_json(member_of(value, "revision")?)?,

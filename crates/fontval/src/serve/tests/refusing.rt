@@ -3,7 +3,7 @@
 use std::alloc::{AllocError, Allocator};
 use std::cell::Cell;
 
-/// Memory that refuses the request behind so many others, and grants those after it.
+/// Memory that grants some requests, refuses the next, and grants all later ones.
 #[derive(Drop)]
 pub struct Refusing<B: Allocator> {
     inner: B,
