@@ -42,8 +42,7 @@ impl Cursor<'_> {
         Some(value)
     }
 
-    /// The next `count` values, or `None` where there are fewer. The cursor has then moved over those
-    /// that there are.
+    /// The next `count` values, or `None` where there are fewer, and the cursor stays.
     pub fn read_array<T: Scalar + Drop>(
         &mut self,
         count: usize,
@@ -56,14 +55,18 @@ impl Cursor<'_> {
             T.RAW_BYTE_LEN self.old.rest.now count values.items)) }
         ensures moved { IfOk result (λ read. IsSome read →
             self.new.rest.now ≡ drop (count * T.RAW_BYTE_LEN) self.old.rest.now) }
+        ensures stays { IfOk result (λ read. IfNone read
+            (self.new.rest.now ≡ self.old.rest.now)) }
     {
+        let mut ahead = Cursor { rest: self.rest };
         let mut values = Vec::new(alloc);
         for _ in 0..count {
-            let Some(value) = self.read::<T>() else {
+            let Some(value) = ahead.read::<T>() else {
                 return Ok(None);
             };
             values.push(value)?;
         }
+        self.rest = ahead.rest;
         Ok(Some(values))
     }
 }

@@ -3,4 +3,9 @@ use Rattle.font_uses.specs.Reader.{AreValuesOf}
 use Rattle.font_uses.proofs.reader.Cursor.read_array.Given as goal
 
 abbrev pub invariant-loop : goal.invariant-loop
-invariant-loop g l = (vec_len l.values ≡ l.counter) × (l.counter * g.T.FixedSize.RAW_BYTE_LEN ≤ length l.initial.self.rest.now) × (l.self.rest.now ≡ drop (l.counter * g.T.FixedSize.RAW_BYTE_LEN) l.initial.self.rest.now) × AreValuesOf g.T.Raw.BeByteArray.bytes g.T.Scalar.of_raw g.T.FixedSize.RAW_BYTE_LEN l.initial.self.rest.now l.counter l.values.items
+invariant-loop g l =
+    (vec_len l.values ≡ l.counter)
+    × (l.counter * g.T.FixedSize.RAW_BYTE_LEN ≤ length l.initial.self.rest.now)
+    × (l.ahead.rest.now ≡ drop (l.counter * g.T.FixedSize.RAW_BYTE_LEN) l.initial.self.rest.now)
+    × AreValuesOf g.T.Raw.BeByteArray.bytes g.T.Scalar.of_raw g.T.FixedSize.RAW_BYTE_LEN
+    l.initial.self.rest.now l.counter l.values.items
