@@ -27,9 +27,9 @@ pub enum DecimalFault {
 /// Reads a decimal text as the nearest multiple of `1 / 2^f`, ties away from zero, and gives that
 /// multiple's number of steps of `1 / 2^f`.
 ///
-/// There are 6 to 30 bits of fraction. A text is an optional `-`, one or more digits, and optionally
-/// a point followed by one or more digits. It may have any length. The rounding comes first; a
-/// result below `min` or above `max` is refused.
+/// There are 6 to 30 bits of fraction. A text is an optional `-`, one or more digits, and
+/// optionally a point followed by one or more digits. It may have any length. The rounding comes
+/// first; a result below `min` or above `max` is refused.
 ///
 /// ```text
 /// read_decimal("-1.5", 16, i64::MIN, i64::MAX) == Ok(-98304)
@@ -93,9 +93,9 @@ fn whole_digits(text: &[u8], too_large: u64) -> (u64, usize)
     (whole, text.len())
 }
 
-// The number of whole half steps of `1 / 2^f` in a fraction. A half step has `f + 1` places, so that
-// later digits do not count; and where there are fewer digits, the fives of the missing zeros are
-// left out.
+// The number of whole half steps of `1 / 2^f` in a fraction. A half step has `f + 1` places, so
+// that later digits do not count; and where there are fewer digits, the fives of the missing zeros
+// are left out.
 #[inline(always)]
 fn half_steps(fraction: &[u8], f: u32) -> Option<u64>
     requires { f ≤ 30 }

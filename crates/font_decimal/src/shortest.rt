@@ -126,8 +126,8 @@ impl fmt::Display for Shortest {
     }
 }
 
-// The shortest decimal of `magnitude / 2^f`. Of the last place `rest / unit` is left, and half a step
-// is `margin / unit`.
+// The shortest decimal of `magnitude / 2^f`. Of the last place `rest / unit` is left, and half a
+// step is `margin / unit`.
 fn shortest_digits(magnitude: u64, f: u32) -> Digits
     requires { f ≤ 30 }
     ensures places { result.places ≡ fewest_places magnitude f }

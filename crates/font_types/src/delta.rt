@@ -29,8 +29,8 @@ pub fn delta_sum(terms: &[(Fixed, i32)]) -> F48Dot16
 ///
 /// Partial sums may lie anywhere. Each term is a scalar and a delta in font units, and the bits of
 /// the answer count steps of `2^-16` font units, from `-2^63` to `2^63 - 1`; the empty list gives
-/// zero. Half of 3 font units is 1.5: `checked_delta_sum(&[(Fixed::from_bits(0x8000), 3)])` has bits
-/// 98304.
+/// zero. Half of 3 font units is 1.5: `checked_delta_sum(&[(Fixed::from_bits(0x8000), 3)])` has
+/// bits 98304.
 pub fn checked_delta_sum(terms: &[(Fixed, i32)]) -> Option<F48Dot16>
     ensures variant { IsSome result ↔ FitsBits 64 (exact_sum terms.now) }
     ensures value { IfSome result (λ sum. f48dot16_bits sum ≡ exact_sum terms.now) }

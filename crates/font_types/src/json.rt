@@ -1,6 +1,7 @@
 //! Scalars as JSON values.
 
-ghost use Rattle.std.specs.Prelude.{◌≡◌, Ok, Bool, IsTrue, Some, IfOk, IfErr, Option, Result, MatchResult, pos, List, None, ◌≤◌, ◌≤ℤ◌, ◌^◌};
+ghost use Rattle.std.specs.Prelude.{◌≡◌, Ok, Bool, IsTrue, Some, IfOk, IfErr, Option, Result};
+ghost use Rattle.std.specs.Prelude.{MatchResult, pos, List, None, ◌≤◌, ◌≤ℤ◌, ◌^◌};
 ghost use Rattle.std.specs.Result.{result_map_both};
 ghost use Rattle.serde_json.specs.Data.{Data};
 ghost use Rattle.serde_json.specs.Find.{as_str};

@@ -8,7 +8,8 @@ pub use font_geom::laws::{
 };
 use std::alloc::Global;
 
-/// The JSON form of a value, read back: what comes back is the value, but for a tag that is not good, which is refused.
+/// The JSON form of a value, read back: what comes back is the value, but for a tag that is not
+/// good, which is refused.
 ///
 /// The outer result is that of `to_json`, the inner one that of `from_json`.
 pub fn round_trip<T: JsonScalar>(value: T, alloc: Global) -> Result<Result<T, JsonFault>, JsonFault>

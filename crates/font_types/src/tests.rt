@@ -1,4 +1,5 @@
-//! JSON forms, sums and what users name, by values from the definitions and from the original crate.
+//! JSON forms, sums and what users name, by values from the definitions and from the original
+//! crate.
 
 mod calling;
 mod deltas;

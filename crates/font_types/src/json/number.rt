@@ -9,10 +9,13 @@ ghost use Rattle.font_base.specs.Int24.Laws.{same_int24};
 ghost use Rattle.font_tags.specs.LongDateTime.{date_seconds, date_of};
 ghost use Rattle.font_tags.specs.Version.{version_bits, version_of};
 ghost use Rattle.font_ids.specs.FWord.{fword_number, fword_of, ufword_number, ufword_of};
-ghost use Rattle.font_ids.specs.GlyphId.{glyph16_number, glyph16_of, glyph24_number, glyph24_of, glyph_number};
+ghost use Rattle.font_ids.specs.GlyphId.{glyph16_number, glyph16_of, glyph24_number, glyph24_of};
+ghost use Rattle.font_ids.specs.GlyphId.{glyph_number};
 ghost use Rattle.font_ids.specs.NameId.{name_number, name_id_of};
-ghost use Rattle.font_ids.specs.Offset.{offset16_number, offset16_of, offset24_number, offset24_of, offset32_number, offset32_of};
-ghost use Rattle.font_types.specs.Json.{IsNumber, is_unsigned, ReadsUnsigned, is_signed, ReadsSigned};
+ghost use Rattle.font_ids.specs.Offset.{offset16_number, offset16_of, offset24_number, offset24_of};
+ghost use Rattle.font_ids.specs.Offset.{offset32_number, offset32_of};
+ghost use Rattle.font_types.specs.Json.{IsNumber, is_unsigned, ReadsUnsigned, is_signed};
+ghost use Rattle.font_types.specs.Json.{ReadsSigned};
 ghost use Rattle.font_types.specs.Json.Laws.{unsigned_round_trip, signed_round_trip};
 
 use super::{JsonFault, JsonScalar, natural, whole_number};
@@ -133,7 +136,8 @@ impl JsonScalar for GlyphId24 {
 
     ghost reads = { λ d result. ReadsUnsigned 24 glyph24_number d result };
 
-    ghost round_trip = { unsigned_round_trip 24 glyph24_number (λ x y same. ap glyph24_of (same_uint24 x.0 y.0 same)) };
+    ghost round_trip = { unsigned_round_trip 24 glyph24_number
+        (λ x y same. ap glyph24_of (same_uint24 x.0 y.0 same)) };
 
     fn to_json(self, _alloc: Global) -> Result<Value, JsonFault> {
         Ok(Value::from(self.to_u32()))
@@ -153,7 +157,8 @@ impl JsonScalar for GlyphId {
 
     ghost reads = { λ d result. ReadsUnsigned 32 glyph_number d result };
 
-    ghost round_trip = { unsigned_round_trip 32 glyph_number (λ _ _ same. ap (λ n. record { 0 = n }) same) };
+    ghost round_trip = { unsigned_round_trip 32 glyph_number
+        (λ _ _ same. ap (λ n. record { 0 = n }) same) };
 
     fn to_json(self, _alloc: Global) -> Result<Value, JsonFault> {
         Ok(Value::from(self.to_u32()))
@@ -233,7 +238,8 @@ impl JsonScalar for Offset24 {
 
     ghost reads = { λ d result. ReadsUnsigned 24 offset24_number d result };
 
-    ghost round_trip = { unsigned_round_trip 24 offset24_number (λ x y same. ap offset24_of (same_uint24 x.0 y.0 same)) };
+    ghost round_trip = { unsigned_round_trip 24 offset24_number
+        (λ x y same. ap offset24_of (same_uint24 x.0 y.0 same)) };
 
     fn to_json(self, _alloc: Global) -> Result<Value, JsonFault> {
         Ok(Value::from(self.to_u32()))

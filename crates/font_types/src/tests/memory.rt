@@ -1,5 +1,6 @@
-//! JSON forms where an allocation may be refused. These tests pass with ample memory, and whichever one allocation of a run is refused: that
-//! answer is the fault, and the next one is the usual form.
+//! JSON forms where an allocation may be refused. These tests pass with ample memory, and whichever
+//! one allocation of a run is refused: that answer is the fault, and the next one is the usual
+//! form.
 
 use crate::{
     F2Dot14, F2Dot30, F4Dot12, F6Dot10, F26Dot6, F48Dot16, Fixed, JsonFault, JsonScalar,

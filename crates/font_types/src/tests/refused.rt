@@ -32,7 +32,8 @@ fn faults_in_numbers(rt: HostRuntime) {
     assert!(rt; JsonFault::InvalidTag as u8 == 6 && JsonFault::MissingMember as u8 == 7);
 }
 
-// A fault is copied by `clone`, compared, shown and told as an error, and has no order, hash or default.
+// A fault is copied by `clone`, compared, shown and told as an error, and has no order, hash or
+// default.
 fn is_error<F: Clone + Eq + fmt::Debug + Error + Drop>(fault: F, other: F) -> bool {
     match fault.clone() {
         Ok(copy) => copy == fault && fault != other,
