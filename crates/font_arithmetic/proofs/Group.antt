@@ -29,8 +29,8 @@ no_rest p k d is = ap (λ y. p +ℤ y) (neg-times k d) ∙ cancels p (k *ℤ pos
     cancels : (p q : ℤ) → p ≡ q → (p +ℤ neg_ℤ q) ≡ pos 0
     cancels p q is = omega (arith, ints, is)
 
-one_floor : (f : ℕ) (b p q : ℤ) → IsFloor f b p → IsFloor f b q → p ≡ q
-one_floor f b p q x y =
+floor_unique : (f : ℕ) (b p q : ℤ) → IsFloor f b p → IsFloor f b q → p ≡ q
+floor_unique f b p q x y =
     same_rest (2 ^ f) p q (neg_ℤ x.whole) (neg_ℤ y.whole) (near b p q (2 ^ f) x.low y.high) (near b q p (2 ^ f) y.low x.high)
     (no_rest p x.whole (2 ^ f) x.bits ∙ sym (no_rest q y.whole (2 ^ f) y.bits))
   where
@@ -38,7 +38,7 @@ one_floor f b p q x y =
     near b p q d low high = omega (arith, ints, low, high)
 
 pub floor_and_fract : (f : ℕ) (b p r : ℤ) → IsFloor f b p → IsFract f b r → (p +ℤ r) ≡ b
-floor_and_fract f b p r floor fract = omega (arith, ints, one_floor f b p fract.floor floor fract.is_floor, fract.rest)
+floor_and_fract f b p r floor fract = omega (arith, ints, floor_unique f b p fract.floor floor fract.is_floor, fract.rest)
 
 pub fract_is_below_one : (f : ℕ) (b r : ℤ) → IsFract f b r → (pos 0 ≤ℤ r) × (r <ℤ pos (2 ^ f))
 fract_is_below_one f b r fract =

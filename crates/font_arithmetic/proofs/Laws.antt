@@ -12,8 +12,8 @@ use Rattle.font_arithmetic.specs.Operations.{IsWrappedNear, IsProduct, IsQuotien
 use Rattle.font_arithmetic.specs.NumberLaws.{ProductLaws, ProductInOneStep, QuotientLaws, QuotientInOneStep}
 
 -- a fraction has one answer
-rounded_unique : (w : ℕ) (n : ℤ) (d : ℕ) (q r : ℤ) → 0 < d → IsWrappedNear w n d q → IsWrappedNear w n d r → q ≡ r
-rounded_unique w n d q r some a b = a.wrapped ∙ ap (wrap w) (near_unique n d a.exact b.exact some a.nearest b.nearest) ∙ sym b.wrapped
+wrapped_near_unique : (w : ℕ) (n : ℤ) (d : ℕ) (q r : ℤ) → 0 < d → IsWrappedNear w n d q → IsWrappedNear w n d r → q ≡ r
+wrapped_near_unique w n d q r some a b = a.wrapped ∙ ap (wrap w) (near_unique n d a.exact b.exact some a.nearest b.nearest) ∙ sym b.wrapped
 
 no_distance : (z : ℤ) → unsigned_abs (z -ℤ z) ≡ 0
 no_distance z = omega (arith, ints)
@@ -30,8 +30,8 @@ rounded_exact w q d r wide some fits a =
 
 mul_div_unique : (w : ℕ) (x a c q r : ℤ) → IsMulDiv w x a c q → IsMulDiv w x a c r → q ≡ r
 mul_div_unique w x a (pos zero) q r p s = p ∙ sym s
-mul_div_unique w x a (pos (suc c)) q r p s = rounded_unique w (x *ℤ a) (suc c) q r (omega arith) p s
-mul_div_unique w x a (negsuc c) q r p s = rounded_unique w (neg_ℤ (x *ℤ a)) (suc c) q r (omega arith) p s
+mul_div_unique w x a (pos (suc c)) q r p s = wrapped_near_unique w (x *ℤ a) (suc c) q r (omega arith) p s
+mul_div_unique w x a (negsuc c) q r p s = wrapped_near_unique w (neg_ℤ (x *ℤ a)) (suc c) q r (omega arith) p s
 
 -- a positive divisor
 mul_div_rounded : (w : ℕ) (x a : ℤ) (d : ℕ) (r : ℤ) → 0 < d → IsMulDiv w x a (pos d) r → IsWrappedNear w (x *ℤ a) d r
@@ -44,14 +44,14 @@ product_laws_hold w f x y product flipped by_one wide fits p q r = record {
   is_product = p;
   is_flipped = q;
   is_by_one = r;
-  commutes = rounded_unique w (x *ℤ y) (2 ^ f) flipped product (pow_pos f) (subst (λ (n : ℤ). IsWrappedNear w n (2 ^ f) flipped) (*ℤ_comm y x) q) p;
+  commutes = wrapped_near_unique w (x *ℤ y) (2 ^ f) flipped product (pow_pos f) (subst (λ (n : ℤ). IsWrappedNear w n (2 ^ f) flipped) (*ℤ_comm y x) q) p;
   one_is_neutral = rounded_exact w x (2 ^ f) by_one wide (pow_pos f) fits r;
 }
 
 pub product_in_one_step : (w f : ℕ) (x y product in_one_step : ℤ) → IsProduct w f x y product → IsMulDiv w x y (pos (2 ^ f)) in_one_step → ProductInOneStep w f x y product in_one_step
 product_in_one_step w f x y product in_one_step p s = record {
   is_in_one_step = s;
-  steps_agree = rounded_unique w (x *ℤ y) (2 ^ f) in_one_step product (pow_pos f) (mul_div_rounded w x y (2 ^ f) in_one_step (pow_pos f) s) p;
+  steps_agree = wrapped_near_unique w (x *ℤ y) (2 ^ f) in_one_step product (pow_pos f) (mul_div_rounded w x y (2 ^ f) in_one_step (pow_pos f) s) p;
 }
 
 -- a number over itself is 1

@@ -68,17 +68,17 @@ fits_high d h s q high at_least = by_lt_z q (pos h) (λ less. less) (λ more.
     above_high s high p below over at_least = omega (arith, ints, below, over, at_least)
 
 -- numbers of w bits are v bits of whole numbers, each of d steps, and a half step above is `half` of these
-abbrev pub splits : ℕ → ℕ → ℕ → ℕ → Bool
-splits w v d half = nat_lt 0 v && ((d == half + half) && ((2 ^ w == 2 ^ v * d) && (half_range w == half_range v * d)))
+abbrev pub is_width_split : ℕ → ℕ → ℕ → ℕ → Bool
+is_width_split w v d half = nat_lt 0 v && ((d == half + half) && ((2 ^ w == 2 ^ v * d) && (half_range w == half_range v * d)))
 
-record Widths (w v d half : ℕ) : Type 0 where
+record WidthSplit (w v d half : ℕ) : Type 0 where
   some : 0 < v
   halves : d ≡ half + half
   whole : 2 ^ w ≡ 2 ^ v * d
   top : half_range w ≡ half_range v * d
 
-widths : (w v d half : ℕ) → IsTrue (splits w v d half) → Widths w v d half
-widths w v d half test =
+width_split : (w v d half : ℕ) → IsTrue (is_width_split w v d half) → WidthSplit w v d half
+width_split w v d half test =
     let some = first_so (nat_lt 0 v) ((d == half + half) && ((2 ^ w == 2 ^ v * d) && (half_range w == half_range v * d))) test in
     let rest = second_so (nat_lt 0 v) ((d == half + half) && ((2 ^ w == 2 ^ v * d) && (half_range w == half_range v * d))) test in
     let halves = first_so (d == half + half) ((2 ^ w == 2 ^ v * d) && (half_range w == half_range v * d)) rest in
@@ -95,7 +95,7 @@ narrowed_from : (v : ℕ) (x : ℤ) (d : ℕ) (exact r : ℤ) → 0 < d → Up x
 narrowed_from v x d exact r some nearest wrapped =
     record { exact = exact; nearest = nearest; wrapped = wrapped; is = wrapped ∙ ap (wrap v) (up_gives x d exact some nearest) }
 
-some_steps : (w v d half : ℕ) → Widths w v d half → 0 < d
+some_steps : (w v d half : ℕ) → WidthSplit w v d half → 0 < d
 some_steps w v d half it = elim (cases_lt 0 d) [
   | inl some ↦ some
   | inr none ↦ absurd (omega (arith, it.whole, pow_pos w, ap (λ n. 2 ^ v * n) (zero_is d none)))
@@ -105,7 +105,7 @@ some_steps w v d half it = elim (cases_lt 0 d) [
     zero_is d none = omega (arith, none)
 
 -- x and a half step, wrapped to w bits, and the greatest multiple of d not above: so x / d is rounded to v bits
-is_narrowed : (w v d half : ℕ) (x q : ℤ) → Widths w v d half → 0 < w → (q *ℤ pos d) ≤ℤ wrap w (x +ℤ pos half) → wrap w (x +ℤ pos half) <ℤ ((q *ℤ pos d) +ℤ pos d)
+is_narrowed : (w v d half : ℕ) (x q : ℤ) → WidthSplit w v d half → 0 < w → (q *ℤ pos d) ≤ℤ wrap w (x +ℤ pos half) → wrap w (x +ℤ pos half) <ℤ ((q *ℤ pos d) +ℤ pos d)
     → IsNarrowed v x d q
 is_narrowed w v d half x q it some low high =
     let given = wrap_is w (x +ℤ pos half) some in
@@ -125,10 +125,10 @@ is_narrowed w v d half x q it some low high =
     (wrap_gives v (q +ℤ (given.turns *ℤ pos (2 ^ v))) q it.some (record { fits = fits; turns = given.turns; differs = refl }))
 
 -- the same where the bits of the whole number are kept
-pub floor_is_nearest_whole : (w f half : ℕ) (x s r : ℤ) → 0 < w → IsTrue (splits w (w - f) (2 ^ f) half) → s ≡ wrap w (x +ℤ pos half) → IsFloor f s r → IsNearestWhole w f x r
+pub floor_is_nearest_whole : (w f half : ℕ) (x s r : ℤ) → 0 < w → IsTrue (is_width_split w (w - f) (2 ^ f) half) → s ≡ wrap w (x +ℤ pos half) → IsFloor f s r → IsNearestWhole w f x r
 floor_is_nearest_whole w f half x s r some test is floor =
     let v = w - f in
-    let it = widths w v (2 ^ f) half test in
+    let it = width_split w v (2 ^ f) half test in
     let given = wrap_is w (x +ℤ pos half) some in
     let q = floor.whole in
     let low : (q *ℤ pos (2 ^ f)) ≤ℤ s = subst (λ (y : ℤ). y ≤ℤ s) floor.bits floor.low in
@@ -166,10 +166,10 @@ floor_is_nearest_whole w f half x s r some test is floor =
     under r s top below high = omega (arith, ints, below, high)
 
 -- a half step is added, and the sum shifted to the right
-pub shr_is_narrowed : (w : Width) (v d half : ℕ) (x s : ℤ) → IsTrue (splits (bits w) v d half) → SFits w s → s ≡ wrap (bits w) (x +ℤ pos half)
+pub shr_is_narrowed : (w : Width) (v d half : ℕ) (x s : ℤ) → IsTrue (is_width_split (bits w) v d half) → SFits w s → s ≡ wrap (bits w) (x +ℤ pos half)
     → IsNarrowed v x d (to_z w (of_z w (shr_z (to_z w (of_z w s)) d)))
 shr_is_narrowed w v d half x s test fits is =
-    let it = widths (bits w) v d half test in
+    let it = width_split (bits w) v d half test in
     let some = some_steps (bits w) v d half it in
     rw (to_z-of_z w s fits, to_z-of_z w (shr_z s d) (shr_fits w s d fits))
     (is_narrowed (bits w) v d half x (shr_z s d) it (bits_positive w)

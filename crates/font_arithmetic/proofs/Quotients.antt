@@ -80,17 +80,17 @@ is_mul_div x a (negsuc c) r s m sign near by_zero is =
     subst (λ (n : ℤ). IsWrappedNear 32 n (suc c) r) (rw flag (sym (ap neg_ℤ (product_signed x a) ∙ signed_not (differ_in_sign x a) (unsigned_abs x * unsigned_abs a))))
     (signed_is_near 32 s (unsigned_abs x * unsigned_abs a) (suc c) m r (omega arith) (near (omega arith)) is)
 
-apart : (s t : Bool) → not (beq s t) ≡ differ s t
-apart true true = refl
-apart true false = refl
-apart false true = refl
-apart false false = refl
+differ_not_same : (s t : Bool) → not (beq s t) ≡ differ s t
+differ_not_same true true = refl
+differ_not_same true false = refl
+differ_not_same false true = refl
+differ_not_same false false = refl
 
 -- the same from the signs and magnitudes as the code has them
 pub signed_is_mul_div : (x a c r : ℤ) (s t : Bool) (m i j k : ℕ) → s ≡ differ_in_sign x a → t ≡ is_negative c → i ≡ unsigned_abs x → j ≡ unsigned_abs a → k ≡ unsigned_abs c
     → (0 < k → m ≡ near_magnitude (i * j) k) → (k ≡ 0 → m ≡ 2 ^ 31 - 1) → r ≡ wrap 32 (signed (not (beq s t)) m) → IsMulDiv 32 x a c r
 signed_is_mul_div x a c r s t m i j k both one first second third near by_zero is =
-    is_mul_div x a c r (not (beq s t)) m (apart s t ∙ rw (both, one) refl)
+    is_mul_div x a c r (not (beq s t)) m (differ_not_same s t ∙ rw (both, one) refl)
     (λ some. near (subst (λ (n : ℕ). 0 < n) (sym third) some) ∙ rw (first, second, third) refl) (λ none. by_zero (third ∙ none)) is
 
 -- ---- a magnitude of which 32 bits are kept, and its sign

@@ -13,7 +13,7 @@ use Rattle.font_arithmetic.proofs.Texts.{padded_has_room}
 use Rattle.font_arithmetic.specs.Operations.{IsFloor, IsFract, IsNearestWhole, IsNarrowed}
 use Rattle.font_arithmetic.proofs.Wrapped.{wrapping_add-wrap, wrapping_sub-wrap, wrapping_neg-wrap, wrapping_abs-wrap, rem_euclid_is_fract, wrapping_mul-wrap}
 use Rattle.font_arithmetic.proofs.Calls.{wrap-signed_fits, wrap-add_zero, wrap-zero_add, wrap-sub_zero}
-use Rattle.font_arithmetic.proofs.Narrowing.{splits, floor_is_nearest_whole, shr_is_narrowed}
+use Rattle.font_arithmetic.proofs.Narrowing.{is_width_split, floor_is_nearest_whole, shr_is_narrowed}
 
 pub sum_16 : (x y : ℤ) → SFits w16 x → SFits w16 y → to_z w16 ((of_z w16 x + of_z w16 y) % 65536) ≡ wrap 16 (x +ℤ y)
 sum_16 x y f g = wrapping_add-wrap w16 x y f g
@@ -30,10 +30,10 @@ abs_16 x r f is = wrapping_abs-wrap w16 x r f is
 pub fract_16 : (f d : ℕ) (x r : ℤ) → d ≡ 2 ^ f → 2 ^ f ≤ 2 ^ 15 → SFits w16 x → r ≡ int_rem_euclid (to_z w16 (of_z w16 x)) (pos d) → IsFract f x (to_z w16 (of_z w16 r))
 fract_16 f d x r step room fits is = rem_euclid_is_fract w16 f d x r step room fits is
 
-pub nearest_whole_16 : (f : ℕ) (x s r : ℤ) → s ≡ wrap 16 (x +ℤ pos (2 ^ f / 2)) → IsFloor f s r → IsTrue (splits 16 (16 - f) (2 ^ f) (2 ^ f / 2)) → IsNearestWhole 16 f x r
+pub nearest_whole_16 : (f : ℕ) (x s r : ℤ) → s ≡ wrap 16 (x +ℤ pos (2 ^ f / 2)) → IsFloor f s r → IsTrue (is_width_split 16 (16 - f) (2 ^ f) (2 ^ f / 2)) → IsNearestWhole 16 f x r
 nearest_whole_16 f x s r is floor test = floor_is_nearest_whole 16 f (2 ^ f / 2) x s r (lit< tt) test is floor
 
-pub narrowed_16 : (v d half : ℕ) (x s : ℤ) → SFits w16 s → s ≡ wrap 16 (x +ℤ pos half) → IsTrue (splits 16 v d half) → IsNarrowed v x d (to_z w16 (of_z w16 (shr_z (to_z w16 (of_z w16 s)) d)))
+pub narrowed_16 : (v d half : ℕ) (x s : ℤ) → SFits w16 s → s ≡ wrap 16 (x +ℤ pos half) → IsTrue (is_width_split 16 v d half) → IsNarrowed v x d (to_z w16 (of_z w16 (shr_z (to_z w16 (of_z w16 s)) d)))
 narrowed_16 v d half x s fits is test = shr_is_narrowed w16 v d half x s test fits is
 
 pub scaled_16 : (x : ℤ) (d : ℕ) → SFits w16 x → SFits w16 (pos d) → to_z w16 (of_z w16 x * d % 65536) ≡ wrap 16 (x *ℤ pos d)

@@ -16,7 +16,7 @@ use Rattle.font_arithmetic.proofs.Texts.{padded_has_room}
 use Rattle.font_arithmetic.specs.Operations.{IsFloor, IsFract, IsNearestWhole, IsNarrowed}
 use Rattle.font_arithmetic.proofs.Wrapped.{wrapping_add-wrap, wrapping_sub-wrap, wrapping_neg-wrap, wrapping_abs-wrap, rem_euclid_is_fract, wrapping_mul-wrap}
 use Rattle.font_arithmetic.proofs.Calls.{wrap-signed_fits, wrap-add_zero, wrap-zero_add, wrap-sub_zero}
-use Rattle.font_arithmetic.proofs.Narrowing.{splits, floor_is_nearest_whole, shr_is_narrowed}
+use Rattle.font_arithmetic.proofs.Narrowing.{is_width_split, floor_is_nearest_whole, shr_is_narrowed}
 
 pub sum_32 : (x y : ℤ) → SFits w32 x → SFits w32 y → to_z w32 ((of_z w32 x + of_z w32 y) % 4294967296) ≡ wrap 32 (x +ℤ y)
 sum_32 x y f g = wrapping_add-wrap w32 x y f g
@@ -33,10 +33,10 @@ abs_32 x r f is = wrapping_abs-wrap w32 x r f is
 pub fract_32 : (f d : ℕ) (x r : ℤ) → d ≡ 2 ^ f → 2 ^ f ≤ 2 ^ 31 → SFits w32 x → r ≡ int_rem_euclid (to_z w32 (of_z w32 x)) (pos d) → IsFract f x (to_z w32 (of_z w32 r))
 fract_32 f d x r step room fits is = rem_euclid_is_fract w32 f d x r step room fits is
 
-pub nearest_whole_32 : (f : ℕ) (x s r : ℤ) → s ≡ wrap 32 (x +ℤ pos (2 ^ f / 2)) → IsFloor f s r → IsTrue (splits 32 (32 - f) (2 ^ f) (2 ^ f / 2)) → IsNearestWhole 32 f x r
+pub nearest_whole_32 : (f : ℕ) (x s r : ℤ) → s ≡ wrap 32 (x +ℤ pos (2 ^ f / 2)) → IsFloor f s r → IsTrue (is_width_split 32 (32 - f) (2 ^ f) (2 ^ f / 2)) → IsNearestWhole 32 f x r
 nearest_whole_32 f x s r is floor test = floor_is_nearest_whole 32 f (2 ^ f / 2) x s r (lit< tt) test is floor
 
-pub narrowed_32 : (v d half : ℕ) (x s : ℤ) → SFits w32 s → s ≡ wrap 32 (x +ℤ pos half) → IsTrue (splits 32 v d half) → IsNarrowed v x d (to_z w32 (of_z w32 (shr_z (to_z w32 (of_z w32 s)) d)))
+pub narrowed_32 : (v d half : ℕ) (x s : ℤ) → SFits w32 s → s ≡ wrap 32 (x +ℤ pos half) → IsTrue (is_width_split 32 v d half) → IsNarrowed v x d (to_z w32 (of_z w32 (shr_z (to_z w32 (of_z w32 s)) d)))
 narrowed_32 v d half x s fits is test = shr_is_narrowed w32 v d half x s test fits is
 
 pub scaled_32 : (x : ℤ) (d : ℕ) → SFits w32 x → SFits w32 (pos d) → to_z w32 (of_z w32 x * d % 4294967296) ≡ wrap 32 (x *ℤ pos d)

@@ -16,7 +16,7 @@ use Rattle.font_arithmetic.proofs.Texts.{padded_has_room}
 use Rattle.font_arithmetic.specs.Operations.{IsFloor, IsFract, IsNearestWhole, IsNarrowed}
 use Rattle.font_arithmetic.proofs.Wrapped.{wrapping_add-wrap, wrapping_sub-wrap, wrapping_neg-wrap, wrapping_abs-wrap, rem_euclid_is_fract, wrapping_mul-wrap}
 use Rattle.font_arithmetic.proofs.Calls.{wrap-signed_fits, wrap-add_zero, wrap-zero_add, wrap-sub_zero}
-use Rattle.font_arithmetic.proofs.Narrowing.{splits, floor_is_nearest_whole, shr_is_narrowed}
+use Rattle.font_arithmetic.proofs.Narrowing.{is_width_split, floor_is_nearest_whole, shr_is_narrowed}
 
 pub sum_64 : (x y : ℤ) → SFits w64 x → SFits w64 y → to_z w64 ((of_z w64 x + of_z w64 y) % 18446744073709551616) ≡ wrap 64 (x +ℤ y)
 sum_64 x y f g = wrapping_add-wrap w64 x y f g
@@ -33,10 +33,10 @@ abs_64 x r f is = wrapping_abs-wrap w64 x r f is
 pub fract_64 : (f d : ℕ) (x r : ℤ) → d ≡ 2 ^ f → 2 ^ f ≤ 2 ^ 63 → SFits w64 x → r ≡ int_rem_euclid (to_z w64 (of_z w64 x)) (pos d) → IsFract f x (to_z w64 (of_z w64 r))
 fract_64 f d x r step room fits is = rem_euclid_is_fract w64 f d x r step room fits is
 
-pub nearest_whole_64 : (f : ℕ) (x s r : ℤ) → s ≡ wrap 64 (x +ℤ pos (2 ^ f / 2)) → IsFloor f s r → IsTrue (splits 64 (64 - f) (2 ^ f) (2 ^ f / 2)) → IsNearestWhole 64 f x r
+pub nearest_whole_64 : (f : ℕ) (x s r : ℤ) → s ≡ wrap 64 (x +ℤ pos (2 ^ f / 2)) → IsFloor f s r → IsTrue (is_width_split 64 (64 - f) (2 ^ f) (2 ^ f / 2)) → IsNearestWhole 64 f x r
 nearest_whole_64 f x s r is floor test = floor_is_nearest_whole 64 f (2 ^ f / 2) x s r (lit< tt) test is floor
 
-pub narrowed_64 : (v d half : ℕ) (x s : ℤ) → SFits w64 s → s ≡ wrap 64 (x +ℤ pos half) → IsTrue (splits 64 v d half) → IsNarrowed v x d (to_z w64 (of_z w64 (shr_z (to_z w64 (of_z w64 s)) d)))
+pub narrowed_64 : (v d half : ℕ) (x s : ℤ) → SFits w64 s → s ≡ wrap 64 (x +ℤ pos half) → IsTrue (is_width_split 64 v d half) → IsNarrowed v x d (to_z w64 (of_z w64 (shr_z (to_z w64 (of_z w64 s)) d)))
 narrowed_64 v d half x s fits is test = shr_is_narrowed w64 v d half x s test fits is
 
 pub scaled_64 : (x : ℤ) (d : ℕ) → SFits w64 x → SFits w64 (pos d) → to_z w64 (of_z w64 x * d % 18446744073709551616) ≡ wrap 64 (x *ℤ pos d)

@@ -13,7 +13,7 @@ pub fn product(x: i32, y: i32, f: u32) -> i32
     requires { (6 ≤ f) × (f ≤ 30) }
     ensures { IsProduct 32 f x y result }
 {
-    low_bits(nearest_steps(i64::from(x) * i64::from(y), f))
+    low_bits(rounded_shift(i64::from(x) * i64::from(y), f))
 }
 
 /// `x * a / c`, rounded once to the nearest whole number, ties away from zero, and wrapped.
@@ -36,7 +36,7 @@ pub fn low_bits(n: i64) -> i32
 }
 
 // `n / 2^f` rounded to the nearest whole number, ties away from zero.
-fn nearest_steps(n: i64, f: u32) -> i64
+fn rounded_shift(n: i64, f: u32) -> i64
     requires fraction { (6 ≤ f) × (f ≤ 30) }
     requires room { unsigned_abs n ≤ 2 ^ 62 }
     ensures { result ≡ near n (2 ^ f) }

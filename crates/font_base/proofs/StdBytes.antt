@@ -26,12 +26,12 @@ bits-byte_len w32 = refl
 bits-byte_len w64 = refl
 bits-byte_len w128 = refl
 
-halves : (w : Width) → 2 ^ hbits w ≤ 2 ^ bits w
-halves w8 = lit≤ tt
-halves w16 = lit≤ tt
-halves w32 = lit≤ tt
-halves w64 = lit≤ tt
-halves w128 = lit≤ tt
+half_range_below : (w : Width) → 2 ^ hbits w ≤ 2 ^ bits w
+half_range_below w8 = lit≤ tt
+half_range_below w16 = lit≤ tt
+half_range_below w32 = lit≤ tt
+half_range_below w64 = lit≤ tt
+half_range_below w128 = lit≤ tt
 
 pub to_be_bytes-bytes_of : (w : Width) (n : ℕ) → n < 2 ^ bits w → to_be_bytes w n ≡ bytes_of (byte_len w) (pos n)
 unfolding bytes_of
@@ -53,7 +53,7 @@ to_be_bytes-signed w z fits =
 
     turned : (w : Width) (z : ℤ) → SFits w z → pos (of_z w z) ≡ (z +ℤ (wrapped_turns z *ℤ pos (256 ^ byte_len w)))
     turned w (pos n) fits = omega (arith, ints)
-    turned w (negsuc n) fits = rw (byte_len-bits w) (complement (negsuc n) (2 ^ bits w) n refl (omega (arith, ints, fits, halves w)))
+    turned w (negsuc n) fits = rw (byte_len-bits w) (complement (negsuc n) (2 ^ bits w) n refl (omega (arith, ints, fits, half_range_below w)))
 
 -- the first n elements of a list, one by one
 items : ℕ → List ℕ → List ℕ

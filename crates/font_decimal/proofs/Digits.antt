@@ -154,19 +154,19 @@ kept_below p ds h =
 
 -- these are digits with their number, and five to the power of their count
 abbrev pub HasNumeral : List ℕ → ℕ → ℕ → Type 0
-HasNumeral ds numeral fives = AllDigits 10 ds × (numeral ≡ digits_value 10 ds) × (fives ≡ 5 ^ length ds)
+HasNumeral ds numeral power_of_five = AllDigits 10 ds × (numeral ≡ digits_value 10 ds) × (power_of_five ≡ 5 ^ length ds)
 
 -- the same of digits in two parts, by those of each, in 128 bits
-pub record IsJoined (ds : List ℕ) (back high low high_fives low_fives : ℕ) : Type 0 where
+pub record IsJoined (ds : List ℕ) (back high low high_power low_power : ℕ) : Type 0 where
   pub digits : AllDigits 10 ds
-  pub tens : low_fives * 2 ^ back % 2 ^ 128 ≡ 10 ^ back
+  pub tens : low_power * 2 ^ back % 2 ^ 128 ≡ 10 ^ back
   pub numeral : high * 10 ^ back + low ≡ digits_value 10 ds
   pub fits : digits_value 10 ds < 2 ^ 128
-  pub fives : high_fives * low_fives ≡ 5 ^ length ds
+  pub power_of_five : high_power * low_power ≡ 5 ^ length ds
 
-pub joined : (ds front back : List ℕ) (high low high_fives low_fives : ℕ) → length ds ≤ 31 → ds ≡ front ++ back → HasNumeral front high high_fives → HasNumeral back low low_fives
-    → IsJoined ds (length back) high low high_fives low_fives
-joined ds front back high low high_fives low_fives few parts first second =
+pub numeral_of_parts : (ds front back : List ℕ) (high low high_power low_power : ℕ) → length ds ≤ 31 → ds ≡ front ++ back → HasNumeral front high high_power → HasNumeral back low low_power
+    → IsJoined ds (length back) high low high_power low_power
+numeral_of_parts ds front back high low high_power low_power few parts first second =
     let b = length back in
     let count : length ds ≡ length front + b = ap length parts ∙ length-append front back in
     let ten : 5 ^ b * 2 ^ b ≡ 10 ^ b = sym (mul-pow 5 2 b) in
@@ -179,5 +179,5 @@ joined ds front back high low high_fives low_fives few parts first second =
       tens = rw second.2 (mod-eq_of_lt small ∙ ten);
       numeral = rw (first.1, second.1) (sym (ap (digits_value 10) parts ∙ digits_value-append front back));
       fits = omega (arith, digits_value-lt 10 ds digits);
-      fives = rw (first.2, second.2) (sym (ap (λ k. 5 ^ k) count ∙ pow-add 5 (length front) b));
+      power_of_five = rw (first.2, second.2) (sym (ap (λ k. 5 ^ k) count ∙ pow-add 5 (length front) b));
     }

@@ -150,8 +150,8 @@ fewest_unique m f p q x y =
     ]
 
 -- while all places so far fail, there is one more to try
-pub one_more : (m f p : ℕ) → p ≤ f → reads_back m f p ≡ false → p < f
-one_more m f p h fails = elim (cases_order p f) [
+pub place_left : (m f p : ℕ) → p ≤ f → reads_back m f p ≡ false → p < f
+place_left m f p h fails = elim (cases_order p f) [
   | inl same ↦ absurd (true≢false (sym (exact_reads_back m f) ∙ (rw same at fails)))
   | inr order ↦ elim order [ inl less ↦ less | inr more ↦ absurd (omega arith) ]
 ]

@@ -17,8 +17,8 @@ pub record IsNearMagnitude (n d q : ℕ) : Type 0 where
 pub next_product : (q r d : ℕ) → q < r → q * d + d ≤ r * d
 next_product q r d h = omega (arith, mul-le-mul_right {m = suc q} {n = r} d (omega arith), suc-mul q d)
 
-pub rounded_unique : (n d q r : ℕ) → IsNearMagnitude n d q → IsNearMagnitude n d r → q ≡ r
-rounded_unique n d q r x y =
+pub near_magnitude_unique : (n d q r : ℕ) → IsNearMagnitude n d q → IsNearMagnitude n d r → q ≡ r
+near_magnitude_unique n d q r x y =
     elim (cases_order q r) [
       | inl e ↦ e
       | inr order ↦ elim order [
@@ -57,9 +57,9 @@ near_opposite n d q h = record {
   away = rw (neg-times q d, negated_abs (q *ℤ pos d) n, same_abs n, same_abs q) h.away;
 }
 
-pub is_signed : (n : ℤ) → n ≡ signed (is_negative n) (unsigned_abs n)
-is_signed (pos n) = rw (le-ltb n 0 (omega arith))
-is_signed (negsuc n) = refl
+pub sign_and_magnitude : (n : ℤ) → n ≡ signed (is_negative n) (unsigned_abs n)
+sign_and_magnitude (pos n) = rw (le-ltb n 0 (omega arith))
+sign_and_magnitude (negsuc n) = refl
 
 near_positive : (n d q : ℕ) → 0 < d → IsNearMagnitude n d q → Near (pos n) d (pos q)
 near_positive n d q h r =
@@ -103,9 +103,9 @@ pub near_unique : (n : ℤ) (d : ℕ) (q r : ℤ) → 0 < d → Near n d q → N
 near_unique n d q r h x y =
     let s = is_negative n in
     let P : ℤ → ℤ → Type 0 = λ t u. Near t d u in
-    let first = near_to s (unsigned_abs n) d q h (subst (λ t. Near t d q) (is_signed n) x) in
-    let second = near_to s (unsigned_abs n) d r h (subst (λ t. Near t d r) (is_signed n) y) in
-    first.is ∙ ap (signed s) (rounded_unique (unsigned_abs n) d first.magnitude second.magnitude first.rounded second.rounded) ∙ sym second.is
+    let first = near_to s (unsigned_abs n) d q h (subst (λ t. Near t d q) (sign_and_magnitude n) x) in
+    let second = near_to s (unsigned_abs n) d r h (subst (λ t. Near t d r) (sign_and_magnitude n) y) in
+    first.is ∙ ap (signed s) (near_magnitude_unique (unsigned_abs n) d first.magnitude second.magnitude first.rounded second.rounded) ∙ sym second.is
 
 -- and `near` is that number
 pub near_is : (n : ℤ) (d : ℕ) → 0 < d → Near n d (near n d)

@@ -54,8 +54,8 @@ rounds_in_order s t f a b most x y =
     near_monotone (x.numeral *ℤ pos (2 ^ f)) (y.numeral *ℤ pos (2 ^ f)) (10 ^ x.places) (10 ^ y.places) a b (ten_pos x.places) (ten_pos y.places) x.nearest y.nearest
     (rw (swap_factors x.numeral (2 ^ f) (10 ^ y.places), swap_factors y.numeral (2 ^ f) (10 ^ x.places)) scaled)
 
-pub reads_in_order : (s t : List ℕ) (f : ℕ) (min max : ℤ) (q r : Result ℤ DecimalFault) → IsReading s f min max q → IsReading t f min max r
+pub order_of_readings : (s t : List ℕ) (f : ℕ) (min max : ℤ) (q r : Result ℤ DecimalFault) → IsReading s f min max q → IsReading t f min max r
     → (a b : ℤ) → q ≡ Ok a → r ≡ Ok b → IsAtMost s t → a ≤ℤ b
-reads_in_order s t f min max q r x y a b first second most =
+order_of_readings s t f min max q r x y a b first second most =
     let P : List ℕ → Result ℤ DecimalFault → Type 0 = λ text answer. IsReading text f min max answer in
     rounds_in_order s t f a b most (subst (P s) first x).rounds (subst (P t) second y).rounds

@@ -76,12 +76,12 @@ pieces text pad sign body shown_len a z b sign_is body_is shown_is laid =
     let there : laid_out pad sign body (shown_len - (length sign + length body)) ≡ padded_text text pad = rw (spare, sign_is, body_is) in
     nested ∙ sym laid ∙ there
 
-sign_length : (plus : Bool) (text : List ℕ) → length (shown_sign plus text) ≤ 1
-sign_length plus text = cond_both (get_or text 0 0 == 45) _ _ (λ xs. length xs ≤ 1) (λ _. omega arith) (λ _. cond_both plus _ _ (λ xs. length xs ≤ 1) (λ _. omega arith) (λ _. omega arith))
+shown_sign_length : (plus : Bool) (text : List ℕ) → length (shown_sign plus text) ≤ 1
+shown_sign_length plus text = cond_both (get_or text 0 0 == 45) _ _ (λ xs. length xs ≤ 1) (λ _. omega arith) (λ _. cond_both plus _ _ (λ xs. length xs ≤ 1) (λ _. omega arith) (λ _. omega arith))
 
 body_length : (text : List ℕ) → length (unsigned_body text) ≤ length text
 body_length text = cond_both (get_or text 0 0 == 45) _ _ (λ xs. length xs ≤ length text) (λ _. omega (arith, length-drop 1 text)) (λ _. omega arith)
 
 -- a text of at most 22 bytes fits, padded, a cell of 23 bytes that is as wide as is asked for
 pub padded_fits : (text : List ℕ) (pad : Pad) (n : ℕ) → length text ≤ 22 → max 23 pad.width ≤ n → length (padded_text text pad) ≤ n
-padded_fits text pad n short room = omega (arith, padded_length text pad, sign_length pad.plus text, body_length text)
+padded_fits text pad n short room = omega (arith, padded_length text pad, shown_sign_length pad.plus text, body_length text)

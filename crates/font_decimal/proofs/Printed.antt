@@ -103,9 +103,9 @@ zero_ends_no_fraction b f i front small e =
     let m = unsigned_abs b in
     ends_or_whole (is_negative b) m f (fewest_places m f) i front (fewest_is m f) (whole_fits m f (fewest_places m f) small) e
 
-sign_length : (s : Bool) → length (sign_text s) ≤ 1
-sign_length true = omega arith
-sign_length false = omega arith
+sign_text_length : (s : Bool) → length (sign_text s) ≤ 1
+sign_text_length true = omega arith
+sign_text_length false = omega arith
 
 -- and each printed text is at most 22 bytes long
 pub shortest_length : (b : ℤ) (f : ℕ) → unsigned_abs b ≤ 2 ^ 63 → f ≤ 30 → length (shortest_text b f) ≤ 22
@@ -118,4 +118,4 @@ shortest_length b f small few =
     let digits = digits_fit m f p small few (unit_below m f p (fewest_is m f).before) in
     let all : length (sign_text (is_negative b) ++ (whole ++ fraction_text (last_digits p n))) ≡ length (sign_text (is_negative b)) + (length whole + length (fraction_text (last_digits p n))) =
     length-append (sign_text (is_negative b)) _ ∙ ap (λ k. length (sign_text (is_negative b)) + k) (length-append whole _) in
-    omega (arith, all, point_length p n, sign_length (is_negative b))
+    omega (arith, all, point_length p n, sign_text_length (is_negative b))

@@ -16,7 +16,7 @@ use Rattle.font_decimal.specs.declared.reader.DecimalFault.TheVariants.{Syntax, 
 use Rattle.font_decimal.proofs.Near.{IsNearMagnitude, rounded_is, near_from, near_unique, signed_times}
 use Rattle.font_decimal.proofs.Texts.{decimal_of, decimal_unique}
 use Rattle.font_decimal.proofs.Digits.{digits_value-append, kept_numeral, is_cut}
-use Rattle.font_decimal.proofs.Rounding.{cut_rounds, whole_rounds, half_steps, half_steps_halved, steps_capped}
+use Rattle.font_decimal.proofs.Rounding.{cut_rounds, whole_rounds, power_in_half_steps, half_steps_halved, steps_capped}
 
 pub ten_pos : (k : ℕ) → 0 < 10 ^ k
 ten_pos k = one-le-pow k 10 (omega arith)
@@ -40,7 +40,7 @@ rounds_by p f text s w e h parts =
     let value = digits_value 10 e in
     let kept = kept_numeral p e in
     let cut = is_cut p e parts.fraction_digits in
-    let unit = half_steps f p h in
+    let unit = power_in_half_steps f p h in
     let u_pos : 0 < u = mul-pos (pow_pos (p - 1 - f)) (one-le-pow p 5 (omega arith)) in
     let near_kept = near_magnitude (kept * t) (10 ^ p) in
     let units = subst (λ d. IsNearMagnitude (kept * t) d near_kept) unit (rounded_is (kept * t) (10 ^ p) (ten_pos p)) in
@@ -93,9 +93,9 @@ pub answers_as : (text : List ℕ) (f : ℕ) (min max : ℤ) (q r : Result ℤ D
 answers_as text f min max q r x = (λ e. subst (λ t. IsReading text f min max t) e x, λ y. reading_unique text f min max q r x y)
 
 -- a text whose nearest number is judged by the range
-pub judged : (text : List ℕ) (f : ℕ) (min max b : ℤ) (r : Option ℤ) → Rounds text f b → SomeIff r ((min ≤ℤ b) × (b ≤ℤ max)) b → IsReading text f min max (ok_or r OutOfRange)
-judged text f min max b None rounds none = record { nearest = b; rounds = rounds; outside = by_lt_z b min inl (λ low. by_lt_z max b inr (λ high. absurd (none (low, high)))) }
-judged text f min max b (Some c) rounds some = subst (λ v. Reads text f min max v) (sym some.1) (record { rounds = rounds; low = some.0.0; high = some.0.1 })
+pub judged_by_range : (text : List ℕ) (f : ℕ) (min max b : ℤ) (r : Option ℤ) → Rounds text f b → SomeIff r ((min ≤ℤ b) × (b ≤ℤ max)) b → IsReading text f min max (ok_or r OutOfRange)
+judged_by_range text f min max b None rounds none = record { nearest = b; rounds = rounds; outside = by_lt_z b min inl (λ low. by_lt_z max b inr (λ high. absurd (none (low, high)))) }
+judged_by_range text f min max b (Some c) rounds some = subst (λ v. Reads text f min max v) (sym some.1) (record { rounds = rounds; low = some.0.0; high = some.0.1 })
 
 -- a number of steps that is judged by the range: it, or one that is above 2^63 just as it is
 pub judged_steps : (s : Bool) (n steps : ℕ) (min max : ℤ) (r : Option ℤ) → FitsSigned w64 min → FitsSigned w64 max

@@ -6,7 +6,7 @@ use Rattle.std.proofs.Math.Nat.{pow-suc, div-add-mod', div-lt_iff_lt-mul, mod-lt
 use Rattle.std.proofs.lemmas.Bool.{cases_lt}
 use Rattle.std.proofs.lemmas.Nat.{pow_pos}
 use Rattle.font_decimal.specs.Shortest.{nearest_numeral, reads_back, fewest_places}
-use Rattle.font_decimal.proofs.Near.{rounded_is, rounded_unique}
+use Rattle.font_decimal.proofs.Near.{rounded_is, near_magnitude_unique}
 use Rattle.font_decimal.proofs.Fewest.{IsFewest, fewest_is, fewest_unique, reads_within, fails_past, zero_drops, within_half}
 
 -- m / 2^f cut off after p places is the numeral q, and of the last place rest / 2^(f+1) is left
@@ -33,14 +33,14 @@ next_rest m f p q rest h =
 pub rounded_down : (m f p q rest : ℕ) → HasRest m f p q rest → rest < 2 ^ f → nearest_numeral m f p ≡ q
 rounded_down m f p q rest h low =
     let value = h.value in
-    rounded_unique (m * 10 ^ p) (2 ^ f) _ q (rounded_is (m * 10 ^ p) (2 ^ f) (pow_pos f)) (record { low = omega arith; high = omega arith })
+    near_magnitude_unique (m * 10 ^ p) (2 ^ f) _ q (rounded_is (m * 10 ^ p) (2 ^ f) (pow_pos f)) (record { low = omega arith; high = omega arith })
 
 -- one more where half of the last place or more is left
 pub rounded_up : (m f p q rest : ℕ) → HasRest m f p q rest → 2 ^ f ≤ rest → nearest_numeral m f p ≡ q + 1
 rounded_up m f p q rest h high =
     let value = h.value in
     let below = h.below in
-    rounded_unique (m * 10 ^ p) (2 ^ f) _ (q + 1) (rounded_is (m * 10 ^ p) (2 ^ f) (pow_pos f)) (record { low = omega arith; high = omega arith })
+    near_magnitude_unique (m * 10 ^ p) (2 ^ f) _ (q + 1) (rounded_is (m * 10 ^ p) (2 ^ f) (pow_pos f)) (record { low = omega arith; high = omega arith })
 
 -- the distance of the nearest numeral from the value, in the same parts of the last place
 pub distance : (m f p q rest : ℕ) → HasRest m f p q rest → 2 * abs_diff (nearest_numeral m f p * 2 ^ f) (m * 10 ^ p) ≡ min rest (2 * 2 ^ f - rest)

@@ -34,8 +34,8 @@ whole_rounds whole value k t r rounded =
     record { low = omega arith; high = omega arith }
 
 -- beyond f places a decimal unit is a whole number of half steps of 1 / 2^f
-pub half_steps : (f p : ℕ) → f < p → 10 ^ p ≡ 2 * (2 ^ f * (2 ^ (p - 1 - f) * 5 ^ p))
-half_steps f p h =
+pub power_in_half_steps : (f p : ℕ) → f < p → 10 ^ p ≡ 2 * (2 ^ f * (2 ^ (p - 1 - f) * 5 ^ p))
+power_in_half_steps f p h =
     let split : p ≡ 1 + f + (p - 1 - f) = omega arith in
     let powers : 2 ^ p ≡ 2 ^ 1 * 2 ^ f * 2 ^ (p - 1 - f) = ap (λ n. 2 ^ n) split ∙ rw (pow-add 2 (1 + f) (p - 1 - f), pow-add 2 1 f) in
     mul-pow 2 5 p ∙ rw powers (omega arith)
@@ -77,10 +77,10 @@ shifted_below p places e digits within few =
 abbrev pub HasHalfSteps : ℕ → List ℕ → ℕ → Type 0
 HasHalfSteps p e halves = AllDigits 10 e × (halves ≡ kept_numeral p e / 5 ^ p)
 
-pub half_steps_of_kept : (bits p places numeral fives : ℕ) (e kept late : List ℕ) → 10 ^ p ≤ 2 ^ bits → places ≡ min (length e) p
-    → e ≡ kept ++ late → kept ≡ take places e → HasNumeral kept numeral fives → AllDigits 10 late
-    → HasHalfSteps p e (numeral * 2 ^ (p - places) % 2 ^ bits / fives)
-half_steps_of_kept bits p places numeral fives e kept late room places_are joined front first second =
+pub half_steps_of_kept : (bits p places numeral power_of_five : ℕ) (e kept late : List ℕ) → 10 ^ p ≤ 2 ^ bits → places ≡ min (length e) p
+    → e ≡ kept ++ late → kept ≡ take places e → HasNumeral kept numeral power_of_five → AllDigits 10 late
+    → HasHalfSteps p e (numeral * 2 ^ (p - places) % 2 ^ bits / power_of_five)
+half_steps_of_kept bits p places numeral power_of_five e kept late room places_are joined front first second =
     let k = p - places in
     let digits : AllDigits 10 e = rw joined (digits-append kept late first.0 second) in
     let count : length kept ≡ places = ap length front ∙ length-take-le places e (omega arith) in
@@ -89,7 +89,7 @@ half_steps_of_kept bits p places numeral fives e kept late room places_are joine
     let filled : places + k ≡ p = omega arith in
     let below : numeral * 2 ^ k < 10 ^ p = rw (first.1, front) (shifted_below p places e digits (omega arith) (omega arith)) in
     let whole : numeral * 2 ^ k % 2 ^ bits ≡ numeral * 2 ^ k = mod-eq_of_lt (omega arith) in
-    let divisor : fives ≡ 5 ^ places = rw count at first.2 in
+    let divisor : power_of_five ≡ 5 ^ places = rw count at first.2 in
     (digits, rw (whole, divisor, fives_left_out numeral places k, filled, missing, sym taken, sym first.1) refl)
 
 -- Whole steps that are cut to one more than 2^(63-f) of them stand for any greater number: either way the number of steps is

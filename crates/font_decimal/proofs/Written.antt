@@ -16,7 +16,7 @@ use Rattle.std.proofs.lemmas.Fmt.{decimal_is_IsNumeral, decimal_digit, first_dec
 use Rattle.font_decimal.specs.Near.{signed, Near}
 use Rattle.font_decimal.specs.Grammar.{fraction_text, HasParts, Decimal}
 use Rattle.font_decimal.specs.Shortest.{IsShortest, nearest_numeral, fewest_places, last_digits, decimal_text, shortest_text}
-use Rattle.font_decimal.proofs.Near.{IsNearMagnitude, rounded_is, near_from, is_signed, signed_times}
+use Rattle.font_decimal.proofs.Near.{IsNearMagnitude, rounded_is, near_from, sign_and_magnitude, signed_times}
 use Rattle.font_decimal.proofs.Digits.{digits_value-append}
 use Rattle.font_decimal.proofs.Readings.{ten_pos}
 use Rattle.font_decimal.proofs.Fewest.{fewest_is, within_half, none_fewer, unit_below}
@@ -133,9 +133,9 @@ shortest_is b f small =
         numeral = signed s d;
         places = p;
         decimal = text;
-        nearest = subst Back (sym (is_signed b)) (rw (signed_times s d (2 ^ f)) (near_from s (d * 2 ^ f) (10 ^ p) m (ten_pos p) back));
+        nearest = subst Back (sym (sign_and_magnitude b)) (rw (signed_times s d (2 ^ f)) (near_from s (d * 2 ^ f) (10 ^ p) m (ten_pos p) back));
       };
-      nearest = subst There (sym (is_signed b)) (rw (signed_times s m (10 ^ p)) (near_from s (m * 10 ^ p) (2 ^ f) d (pow_pos f) nearest));
+      nearest = subst There (sym (sign_and_magnitude b)) (rw (signed_times s m (10 ^ p)) (near_from s (m * 10 ^ p) (2 ^ f) d (pow_pos f) nearest));
       fewest = λ j n h near. none_fewer f j p n b fewest h near;
     }
 
@@ -151,8 +151,8 @@ few_places f p few unit = elim (cases_lt p 11) [
 ]
 
 -- with the fewest places the numeral is at most ten times the magnitude
-numeral_below : (m t ten d : ℕ) → 0 < t → ten ≤ 10 * t → IsNearMagnitude (m * ten) t d → d ≤ 10 * m
-numeral_below m t ten d h unit r =
+numeral_at_most_ten : (m t ten d : ℕ) → 0 < t → ten ≤ 10 * t → IsNearMagnitude (m * ten) t d → d ≤ 10 * m
+numeral_at_most_ten m t ten d h unit r =
     let low = r.low in
     let units : m * ten ≤ m * (10 * t) = mul-le-mul_left m unit in
     let scaled : 2 * d * t ≤ (20 * m + 1) * t = omega arith in
@@ -165,7 +165,7 @@ digits_fit m f p small few unit =
     let d = nearest_numeral m f p in
     let w = d / 10 ^ p in
     let places = few_places f p few unit in
-    let most : d ≤ 10 * m = numeral_below m (2 ^ f) (10 ^ p) d (pow_pos f) unit (rounded_is (m * 10 ^ p) (2 ^ f) (pow_pos f)) in
+    let most : d ≤ 10 * m = numeral_at_most_ten m (2 ^ f) (10 ^ p) d (pow_pos f) unit (rounded_is (m * 10 ^ p) (2 ^ f) (pow_pos f)) in
     let low : w * 10 ^ p ≤ d = div-mul-le_self d (10 ^ p) in
     let split : 10 ^ 20 ≡ 10 ^ (20 - p) * 10 ^ p = ap (λ n. 10 ^ n) (let e : 20 ≡ 20 - p + p = omega arith in e) ∙ pow-add 10 (20 - p) p in
     let below : w * 10 ^ p < 10 ^ (20 - p) * 10 ^ p = omega arith in

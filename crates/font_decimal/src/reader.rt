@@ -111,45 +111,45 @@ fn half_steps(fraction: &[u8], f: u32) -> Option<u64>
     let missing = f as usize + 1 - places;
     // 19 digits fit 64 bits.
     if f <= 18 {
-        let (numeral, fives) = numeral_and_fives(kept)?;
-        Some((numeral << missing) / fives)
+        let (numeral, power_of_five) = numeral_and_power(kept)?;
+        Some((numeral << missing) / power_of_five)
     } else {
-        let (numeral, fives) = long_numeral_and_fives(kept)?;
-        Some(((numeral << missing) / fives) as u64)
+        let (numeral, power_of_five) = long_numeral_and_power(kept)?;
+        Some(((numeral << missing) / power_of_five) as u64)
     }
 }
 
 // The number that digits write, and five to the power of how many they are.
 #[inline(always)]
-fn numeral_and_fives(digits: &[u8]) -> Option<(u64, u64)>
+fn numeral_and_power(digits: &[u8]) -> Option<(u64, u64)>
     requires { length digits.now ≤ 19 }
     ensures { MatchOption result (¬ (AllDigits 10 digits.now)) (λ n. AllDigits 10 digits.now
         × (n.0 ≡ digits_value 10 digits.now) × (n.1 ≡ 5 ^ length digits.now)) }
 {
     let mut numeral = 0u64;
-    let mut fives = 1u64;
+    let mut power_of_five = 1u64;
     for digit in digits {
         if !digit.is_ascii_digit() {
             return None;
         }
         numeral = numeral * 10 + u64::from(*digit - b'0');
-        fives *= 5;
+        power_of_five *= 5;
     }
-    Some((numeral, fives))
+    Some((numeral, power_of_five))
 }
 
 // The same of up to 31 digits, by their two halves.
-fn long_numeral_and_fives(digits: &[u8]) -> Option<(u128, u128)>
+fn long_numeral_and_power(digits: &[u8]) -> Option<(u128, u128)>
     requires { length digits.now ≤ 31 }
     ensures { MatchOption result (¬ (AllDigits 10 digits.now)) (λ n. AllDigits 10 digits.now
         × (n.0 ≡ digits_value 10 digits.now) × (n.1 ≡ 5 ^ length digits.now)) }
 {
     let (front, back) = digits.split_at(digits.len() / 2);
-    let (high, high_fives) = numeral_and_fives(front)?;
-    let (low, low_fives) = numeral_and_fives(back)?;
-    let tens = u128::from(low_fives) << back.len();
+    let (high, high_power) = numeral_and_power(front)?;
+    let (low, low_power) = numeral_and_power(back)?;
+    let tens = u128::from(low_power) << back.len();
     let numeral = u128::from(high) * tens + u128::from(low);
-    Some((numeral, u128::from(high_fives) * u128::from(low_fives)))
+    Some((numeral, u128::from(high_power) * u128::from(low_power)))
 }
 
 // The signed number of steps, or `None` where it is out of the range.

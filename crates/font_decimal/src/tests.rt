@@ -15,7 +15,7 @@ fn fixed(text: &str) -> Result<i64, DecimalFault> {
     read_decimal(text, 16, LEAST, GREATEST)
 }
 
-fn text_of(
+fn text_of_parts(
     alloc: Global,
     head: &str,
     digit: char,
@@ -183,7 +183,7 @@ fn reads_texts_of_any_length(rt: HostRuntime) -> Result<(), Fail> {
         ("32767.99999237060546874", '9', 3000, "", 16, Ok(GREATEST)),
         ("-32768.00000762939453124", '9', 3000, "", 16, Ok(LEAST)),
     ] {
-        let text = text_of(rt.alloc(), head, digit, count, tail)?;
+        let text = text_of_parts(rt.alloc(), head, digit, count, tail)?;
         assert!(rt; f >= 6 && f <= 16);
         let read = read_decimal(text.as_str(), f, LEAST, GREATEST);
         assert_eq!(rt; read, want, "at {head}");

@@ -13,8 +13,8 @@ use Rattle.font_arithmetic.proofs.Calls.{near-times, near-times_left, near-times
 use Rattle.font_arithmetic.proofs.Laws.{itself}
 use Rattle.font_arithmetic.proofs.Width32.{fits_32, calls_32}
 
-pub by_one : (x : ℤ) → near (x *ℤ pos 65536) 65536 ≡ x
-by_one x = near-times x 65536 (lit< tt)
+pub mul_one : (x : ℤ) → near (x *ℤ pos 65536) 65536 ≡ x
+mul_one x = near-times x 65536 (lit< tt)
 
 pub one_by : (x : ℤ) → near (pos 65536 *ℤ x) 65536 ≡ x
 one_by x = near-times_left x 65536 (lit< tt)
@@ -22,8 +22,8 @@ one_by x = near-times_left x 65536 (lit< tt)
 pub by_zero : (x : ℤ) → near (x *ℤ pos 0) 65536 ≡ pos 0
 by_zero x = near-times_zero x 65536 (lit< tt)
 
-pub zero_by : (x : ℤ) → near (pos 0 *ℤ x) 65536 ≡ pos 0
-zero_by x = near-zero_times x 65536 (lit< tt)
+pub zero_mul : (x : ℤ) → near (pos 0 *ℤ x) 65536 ≡ pos 0
+zero_mul x = near-zero_times x 65536 (lit< tt)
 
 pub floor_plus_fract : (b : ℤ) → SFits w32 b → wrap 32 (floor_of 16 b +ℤ fract_of 16 b) ≡ b
 floor_plus_fract b fits = ap (wrap 32) (ends b (fract_of 16 b)) ∙ fits_32 b fits
@@ -34,15 +34,15 @@ floor_plus_fract b fits = ap (wrap 32) (ends b (fract_of 16 b)) ∙ fits_32 b fi
 -- ---- differences
 
 -- a difference that is added back: a + (b - a) is b
-pub there_and_back : (a b : ℤ) → SFits w32 b → wrap 32 (a +ℤ wrap 32 (b -ℤ a)) ≡ b
-there_and_back a b fits = wrap-add_right 32 a (b -ℤ a) (lit< tt) ∙ ap (wrap 32) (ends a b) ∙ fits_32 b fits
+pub add_sub_cancel : (a b : ℤ) → SFits w32 b → wrap 32 (a +ℤ wrap 32 (b -ℤ a)) ≡ b
+add_sub_cancel a b fits = wrap-add_right 32 a (b -ℤ a) (lit< tt) ∙ ap (wrap 32) (ends a b) ∙ fits_32 b fits
   where
     ends : (x y : ℤ) → (x +ℤ (y -ℤ x)) ≡ y
     ends x y = omega (arith, ints)
 
 -- a number less itself is 0
-pub less_itself : (a : ℤ) → wrap 32 (a -ℤ a) ≡ pos 0
-less_itself a = let none : (a -ℤ a) ≡ pos 0 = omega (arith, ints) in ap (wrap 32) none ∙ fits_32 (pos 0) (omega (arith, ints))
+pub sub_self : (a : ℤ) → wrap 32 (a -ℤ a) ≡ pos 0
+sub_self a = let none : (a -ℤ a) ≡ pos 0 = omega (arith, ints) in ap (wrap 32) none ∙ fits_32 (pos 0) (omega (arith, ints))
 
 -- ---- quotients
 
@@ -61,11 +61,11 @@ share_is_at_most_one x d m some within rounded =
     ]
 
 -- a part of a whole, over the whole
-share : (x y r : ℤ) → IsQuotient 32 16 x y r → pos 0 ≤ℤ x → x ≤ℤ y → y ≢ pos 0 → (pos 0 ≤ℤ r) × (r ≤ℤ pos 65536)
-share (negsuc x) y r quotient low high some = absurd (omega (arith, ints, low))
-share (pos x) (negsuc d) r quotient low high some = absurd (omega (arith, ints, high))
-share (pos x) (pos zero) r quotient low high some = absurd (some refl)
-share (pos x) (pos (suc d)) r quotient low high some =
+ratio_bounds : (x y r : ℤ) → IsQuotient 32 16 x y r → pos 0 ≤ℤ x → x ≤ℤ y → y ≢ pos 0 → (pos 0 ≤ℤ r) × (r ≤ℤ pos 65536)
+ratio_bounds (negsuc x) y r quotient low high some = absurd (omega (arith, ints, low))
+ratio_bounds (pos x) (negsuc d) r quotient low high some = absurd (omega (arith, ints, high))
+ratio_bounds (pos x) (pos zero) r quotient low high some = absurd (some refl)
+ratio_bounds (pos x) (pos (suc d)) r quotient low high some =
     let rounded = near_to false (x * 65536) (suc d) quotient.exact (omega arith) quotient.nearest in
     let bound = share_is_at_most_one x (suc d) rounded.magnitude (omega arith) (omega (arith, ints, high)) rounded.rounded in
     let same : r ≡ pos rounded.magnitude =
@@ -73,20 +73,20 @@ share (pos x) (pos (suc d)) r quotient low high some =
     (omega (arith, ints, same), omega (arith, ints, same, bound))
 
 pub part_is_not_negative : (x y r : ℤ) → IsQuotient 32 16 x y r → pos 0 ≤ℤ x → x ≤ℤ y → y ≢ pos 0 → pos 0 ≤ℤ r
-part_is_not_negative x y r quotient low high some = (share x y r quotient low high some).0
+part_is_not_negative x y r quotient low high some = (ratio_bounds x y r quotient low high some).0
 
 pub part_is_at_most_one : (x y r : ℤ) → IsQuotient 32 16 x y r → pos 0 ≤ℤ x → x ≤ℤ y → y ≢ pos 0 → r ≤ℤ pos 65536
-part_is_at_most_one x y r quotient low high some = (share x y r quotient low high some).1
+part_is_at_most_one x y r quotient low high some = (ratio_bounds x y r quotient low high some).1
 
 pub ruleset fixed_calls = (
   calls_32,
-  by_one,
+  mul_one,
   one_by,
   by_zero,
-  zero_by,
+  zero_mul,
   floor_plus_fract,
-  there_and_back,
-  less_itself,
+  add_sub_cancel,
+  sub_self,
   over_itself,
   part_is_not_negative,
   part_is_at_most_one,

@@ -22,18 +22,18 @@ Product x y r = IsProduct 32 16 (fixed_bits x) (fixed_bits y) (fixed_bits r)
 abbrev Sum : Fixed → Fixed → Fixed → Type 0
 Sum x y r = fixed_bits r ≡ wrap 32 (fixed_bits x +ℤ fixed_bits y)
 
-answers : HasOneAnswer Product Sum fixed_bits wrapped_sum wrapped_product
-answers = record {
+fixed_has_one_answer : HasOneAnswer Product Sum fixed_bits wrapped_sum wrapped_product
+fixed_has_one_answer = record {
   product_is = λ x y r given. given.is;
   sum_is = λ x y r given. given;
 }
 
 -- the bits of a product, and of a point that was moved
 pub product_value : {a b ab : Matrix Fixed} → IsProductOf Product Sum a b ab → matrix_bits ab ≡ matrix_product wrapped_sum wrapped_product (matrix_bits a) (matrix_bits b)
-product_value {a} {b} {ab} given = matrix_product_is answers a b ab given
+product_value {a} {b} {ab} given = matrix_product_is fixed_has_one_answer a b ab given
 
 pub image_value : {m : Matrix Fixed} {p r : Point Fixed} → IsTransformed Product Sum m p.x p.y r.x r.y → point_bits r ≡ image_of wrapped_sum wrapped_product (matrix_bits m) (point_bits p)
-image_value {m} {p} {r} given = image_is answers m p r given
+image_value {m} {p} {r} given = image_is fixed_has_one_answer m p r given
 
 -- ---- the identity
 

@@ -91,8 +91,8 @@ pub record ReadTo (bytes : List ℕ) (n m : ℕ) : Type 0 where
   pub spaces : (i : ℕ) → n ≤ i → i < m → get_or bytes i 0 ≡ 0x20
 
 -- a byte behind the run, by its place there
-behind : (bytes : List ℕ) (n i : ℕ) → n ≤ i → get_or (drop n bytes) (i - n) 0 ≡ 0x20 → get_or bytes i 0 ≡ 0x20
-behind bytes n i from space = ap (λ k. get_or bytes k 0) (omega arith) ∙ sym (get_or-drop n bytes (i - n) 0) ∙ space
+space_in_rest : (bytes : List ℕ) (n i : ℕ) → n ≤ i → get_or (drop n bytes) (i - n) 0 ≡ 0x20 → get_or bytes i 0 ≡ 0x20
+space_in_rest bytes n i from space = ap (λ k. get_or bytes k 0) (omega arith) ∙ sym (get_or-drop n bytes (i - n) 0) ∙ space
 
 -- no byte is left
 pub good_from_read : (bytes : List ℕ) (n : ℕ) → 0 < n → ReadTo bytes n (length bytes) → IsGood bytes
@@ -163,7 +163,7 @@ judged_from_read bytes n None some read all =
       within = omega arith;
       visible = read.visible;
       run_ends = read.run_ends;
-      spaces = λ i from below. behind bytes n i from (all (i - n) 0 (omega arith) (omega (arith, rest)));
+      spaces = λ i from below. space_in_rest bytes n i from (all (i - n) 0 (omega arith) (omega (arith, rest)));
     })
 judged_from_read bytes n (Some j) some read first =
     let rest = length-drop n bytes in
@@ -172,7 +172,7 @@ judged_from_read bytes n (Some j) some read first =
       within = omega (arith, rest, first.0);
       visible = read.visible;
       run_ends = read.run_ends;
-      spaces = λ i from below. behind bytes n i from (first.2 (i - n) 0 (omega arith) (omega arith));
+      spaces = λ i from below. space_in_rest bytes n i from (first.2 (i - n) 0 (omega arith) (omega arith));
     }) (omega (arith, rest, first.0)) (λ space. first.1 0 (get_or-drop n bytes j 0 ∙ space))
 
 -- an index behind the run, as an index of all the bytes
@@ -194,4 +194,4 @@ pub filled_valid : (bytes copied : List ℕ) → copied ≡ bytes → length byt
 filled_valid bytes copied same few good = rw (filled_is bytes copied same few) (filled_good bytes (4 - length bytes) good)
 
 -- what the judges of tags rest on
-pub ruleset judged = (fault_not_good, spaces_not_good, filled_is, filled_valid)
+pub ruleset tag_judgements = (fault_not_good, spaces_not_good, filled_is, filled_valid)

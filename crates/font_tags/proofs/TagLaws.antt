@@ -79,9 +79,9 @@ pub record TextBehind (bytes text : List ℕ) : Type 0 where
   pub shown : tag_text rest ≡ text
   pub fewer : length bytes ≡ suc (length rest)
 
-behind : (bytes : List ℕ) (c : ℕ) (text : List ℕ) → c ≢ 123 → tag_text bytes ≡ c ∷ text → TextBehind bytes text
-behind [] c text plain is = absurd (cc)
-behind (byte ∷ bytes) c text plain is = elim (shown_or_hidden byte) [
+text_behind : (bytes : List ℕ) (c : ℕ) (text : List ℕ) → c ≢ 123 → tag_text bytes ≡ c ∷ text → TextBehind bytes text
+text_behind [] c text plain is = absurd (cc)
+text_behind (byte ∷ bytes) c text plain is = elim (shown_or_hidden byte) [
   | inl shown ↦ let whole = rw (byte_text-shown byte shown) at is in record { rest = bytes; shown = cc; fewer = refl }
   | inr hidden ↦ let whole = rw (byte_text-hidden byte hidden) at is in absurd (plain (cc))
 ]
@@ -90,10 +90,10 @@ behind (byte ∷ bytes) c text plain is = elim (shown_or_hidden byte) [
 too_few : (bytes : List ℕ) (high low : ℕ) (text : List ℕ) → length bytes ≤ 3 → high < 16 → low < 16
     → tag_text bytes ≡ 48 ∷ 120 ∷ digit_glyph true high ∷ digit_glyph true low ∷ 125 ∷ text → ⊥
 too_few bytes high low text few small_high small_low is =
-    let one = behind bytes 48 _ (λ same. omega (arith, same)) is in
-    let two = behind one.rest 120 _ (λ same. omega (arith, same)) one.shown in
-    let three = behind two.rest (digit_glyph true high) _ (no_brace high small_high) two.shown in
-    let four = behind three.rest (digit_glyph true low) _ (no_brace low small_low) three.shown in
+    let one = text_behind bytes 48 _ (λ same. omega (arith, same)) is in
+    let two = text_behind one.rest 120 _ (λ same. omega (arith, same)) one.shown in
+    let three = text_behind two.rest (digit_glyph true high) _ (no_brace high small_high) two.shown in
+    let four = text_behind three.rest (digit_glyph true low) _ (no_brace low small_low) three.shown in
     omega (arith, few, one.fewer, two.fewer, three.fewer, four.fewer)
 
 -- a byte shown as it is, before so few bytes, is not what a hidden byte is shown as

@@ -36,7 +36,7 @@ impl Tag {
     ///
     /// `Tag::new_checked(b"cv1")` is `cv1` and a space. Every fault of the bytes is `InvalidByte`,
     /// also a visible byte after a space.
-    #[tactic(auto, using(crate::proofs::Good::judged))]
+    #[tactic(auto, using(crate::proofs::Good::tag_judgements))]
     pub fn new_checked(src: &[u8]) -> Result<Self, InvalidTag>
         ensures judged { IsChecked src.now result }
         ensures ok { IsOk result ↔ IsAcceptable src.now }
@@ -115,7 +115,7 @@ impl Tag {
     /// Whether the tag is good: visible characters, and only spaces behind them.
     ///
     /// Four spaces are refused as a tag of no bytes, `InvalidLength(0)`.
-    #[tactic(auto, using(crate::proofs::Good::judged))]
+    #[tactic(auto, using(crate::proofs::Good::tag_judgements))]
     pub fn validate(self) -> Result<(), InvalidTag>
         ensures judged { IsValidated (tag_bytes self) result }
         ensures ok { IsOk result ↔ IsGood (tag_bytes self) }

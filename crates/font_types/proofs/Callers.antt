@@ -2,7 +2,7 @@
 pub use Rattle.font_base.proofs.ScalarCalls.{scalar_calls, absent}
 pub use Rattle.font_decimal.proofs.Readings.{reading_unique}
 pub use Rattle.font_decimal.proofs.Texts.{decimal_is_ascii, decimal_is_utf8, decimal_unique}
-pub use Rattle.font_decimal.proofs.Order.{reads_in_order}
+pub use Rattle.font_decimal.proofs.Order.{order_of_readings}
 pub use Rattle.font_arithmetic.proofs.Group
 pub use Rattle.font_arithmetic.proofs.Laws
 pub use Rattle.font_arithmetic.proofs.Width16.{calls_16}

@@ -25,35 +25,35 @@ abbrev pub is_within : ℤ → ℤ → ℤ → Bool
 is_within min max z = int_le min z && int_le z max
 
 -- the number, where it lies in that range
-abbrev pub in_range : ℤ → ℤ → ℤ → Result ℤ JsonFault
-in_range min max z = if is_within min max z then Ok z else Err OutOfRange
+abbrev pub within_or_fault : ℤ → ℤ → ℤ → Result ℤ JsonFault
+within_or_fault min max z = if is_within min max z then Ok z else Err OutOfRange
 
 -- the whole number that there is, in the range; none is the wrong kind
 abbrev pub number_or_fault : ℤ → ℤ → Option ℤ → Result ℤ JsonFault
 number_or_fault min max None = Err WrongKind
-number_or_fault min max (Some z) = in_range min max z
+number_or_fault min max (Some z) = within_or_fault min max z
 
 -- the whole number from `min` to `max` that the data is: data that is no number is the wrong kind, and a number that holds a float is too
-abbrev pub whole_number : ℤ → ℤ → Data → Result ℤ JsonFault
-whole_number min max d = number_or_fault min max (option_and_then as_integer (as_number d))
+abbrev pub number_within : ℤ → ℤ → Data → Result ℤ JsonFault
+number_within min max d = number_or_fault min max (option_and_then as_integer (as_number d))
 
 -- what data is read as by a type whose values are the numbers from `min` to `max`
-abbrev pub ReadsNumber : {T : Type 0} → ℤ → ℤ → (T → ℤ) → Data → Result T JsonFault → Type 0
-ReadsNumber min max number_of d result = result_map_both number_of (λ fault. fault) result ≡ whole_number min max d
+abbrev pub ReadsWholeNumber : {T : Type 0} → ℤ → ℤ → (T → ℤ) → Data → Result T JsonFault → Type 0
+ReadsWholeNumber min max number_of d result = result_map_both number_of (λ fault. fault) result ≡ number_within min max d
 
 -- the test of w bits without a sign, and what data is read as by a type of all those numbers
 abbrev pub is_unsigned : ℕ → ℕ → Bool
 is_unsigned w n = is_within (pos 0) (pos (2 ^ w - 1)) (pos n)
 
 abbrev pub ReadsUnsigned : {T : Type 0} → ℕ → (T → ℕ) → Data → Result T JsonFault → Type 0
-ReadsUnsigned w number_of d result = ReadsNumber (pos 0) (pos (2 ^ w - 1)) (λ x. pos (number_of x)) d result
+ReadsUnsigned w number_of d result = ReadsWholeNumber (pos 0) (pos (2 ^ w - 1)) (λ x. pos (number_of x)) d result
 
 -- the same of w bits in two's complement
-abbrev pub is_signed : ℕ → ℤ → Bool
-is_signed w z = is_within (least w) (greatest w) z
+abbrev pub is_within_signed : ℕ → ℤ → Bool
+is_within_signed w z = is_within (least w) (greatest w) z
 
 abbrev pub ReadsSigned : {T : Type 0} → ℕ → (T → ℤ) → Data → Result T JsonFault → Type 0
-ReadsSigned w number_of d result = ReadsNumber (least w) (greatest w) number_of d result
+ReadsSigned w number_of d result = ReadsWholeNumber (least w) (greatest w) number_of d result
 
 -- ---- decimal texts
 
@@ -124,7 +124,7 @@ version_form major minor = object (member (codes "major") (number (unsigned majo
 -- the number of 16 bits that a member is
 abbrev pub member_or_fault : Option Data → Result ℤ JsonFault
 member_or_fault None = Err MissingMember
-member_or_fault (Some d) = whole_number (pos 0) (pos 65535) d
+member_or_fault (Some d) = number_within (pos 0) (pos 65535) d
 
 abbrev pub member_number : List ℕ → Data → Result ℤ JsonFault
 member_number name d = member_or_fault (get name d)

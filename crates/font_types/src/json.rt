@@ -6,7 +6,7 @@ ghost use Rattle.std.specs.Result.{result_map_both};
 ghost use Rattle.serde_json.specs.Data.{Data};
 ghost use Rattle.serde_json.specs.Find.{as_str};
 ghost use Rattle.serde_json.specs.View.{view};
-ghost use Rattle.font_types.specs.Json.{whole_number};
+ghost use Rattle.font_types.specs.Json.{number_within};
 ghost use Rattle.font_types.specs.declared.json.JsonFault.{JsonFault};
 ghost use Rattle.font_types.specs.declared.json.JsonFault.TheVariants.{Memory};
 
@@ -105,7 +105,7 @@ pub trait JsonScalar: Sized {
 }
 
 // The text that a value is, if it is one.
-fn text_of(value: &Value) -> Result<&str, JsonFault>
+fn text_or_fault(value: &Value) -> Result<&str, JsonFault>
     ensures { MatchResult result (λ text. as_str (view value.now) ≡ Some text.now)
         (λ fault. (as_str (view value.now) ≡ None) × (fault ≡ JsonFault.WrongKind)) }
 {
@@ -113,8 +113,8 @@ fn text_of(value: &Value) -> Result<&str, JsonFault>
 }
 
 // The whole number from `min` to `max` that a value is.
-fn whole_number(value: &Value, min: i64, max: i64) -> Result<i64, JsonFault>
-    ensures number { result ≡ whole_number min max (view value.now) }
+fn number_within(value: &Value, min: i64, max: i64) -> Result<i64, JsonFault>
+    ensures number { result ≡ number_within min max (view value.now) }
     ensures within { IfOk result (λ z. (min ≤ℤ z) × (z ≤ℤ max)) }
 {
     let number = value.as_number().ok_or(JsonFault::WrongKind)?;
@@ -128,8 +128,8 @@ fn whole_number(value: &Value, min: i64, max: i64) -> Result<i64, JsonFault>
 // The same of a number that is not signed.
 fn natural(value: &Value, max: u32) -> Result<u32, JsonFault>
     ensures number { result_map_both (λ n. pos n) (λ fault. fault) result
-        ≡ whole_number (pos 0) (pos max) (view value.now) }
+        ≡ number_within (pos 0) (pos max) (view value.now) }
     ensures within { IfOk result (λ n. n ≤ max) }
 {
-    Ok(whole_number(value, 0, i64::from(max))? as u32)
+    Ok(number_within(value, 0, i64::from(max))? as u32)
 }

@@ -7,7 +7,7 @@ use Rattle.serde_json.specs.Find.{of_integer}
 use Rattle.font_types.specs.declared.Pad.{Pad}
 use Rattle.font_types.specs.declared.Align.TheVariants.{Right}
 use Rattle.font_types.specs.Fixed.{fixed_bits, fixed_text}
-use Rattle.font_types.specs.Json.{is_signed}
+use Rattle.font_types.specs.Json.{is_within_signed}
 use Rattle.font_types.specs.Wrap.{fits_bits}
 use Rattle.font_types.specs.FWord.{fword_number}
 use Rattle.font_types.specs.LongDateTime.{date_seconds}
@@ -24,8 +24,8 @@ eight_digits n = padded_integral (format_spec 32 0 4 8 (2 ^ 64 - 1)) false [] (d
 -- each field is a value of its type
 pub record IsSummary (summary : Summary) : Type 0 where
   pub revision : IsTrue (fits_bits 32 (fixed_bits summary.revision))
-  pub created : IsTrue (is_signed 64 (date_seconds summary.created))
-  pub x_min : IsTrue (is_signed 16 (fword_number summary.x_min))
+  pub created : IsTrue (is_within_signed 64 (date_seconds summary.created))
+  pub x_min : IsTrue (is_within_signed 16 (fword_number summary.x_min))
 
 -- an object with a member for each field: the revision as a decimal text, and the others as numbers
 abbrev pub summary_form : Summary → Data

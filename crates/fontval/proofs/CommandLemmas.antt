@@ -12,7 +12,7 @@ use Rattle.font_types.specs.InvalidTag.{InvalidTag}
 use Rattle.fontval.specs.Command.{AnswersWords, JudgesTag, IsNamedType, verdict_text, ShowsReading, fixed_row, name_of, two_words}
 use Rattle.fontval.specs.Refusal.{GivesAnswer, refusal_of}
 use Rattle.fontval.specs.Numbers.{ReadsJust, ReadsTerms, ReadsWhole}
-use Rattle.fontval.specs.Deltas.{Varies, varied_by}
+use Rattle.fontval.specs.Deltas.{Varies, varied_answer}
 use Rattle.fontval.specs.Images.{images_text}
 use Rattle.font_types.specs.fixed.Fixed.{Fixed}
 use Rattle.font_types.specs.matrix.Matrix.{Matrix}
@@ -84,12 +84,12 @@ where_true Y false passed x = absurd (true≢false (sym passed))
 
 -- a number of units that terms which are read move
 pub given_moved : (words rest : List (List ℕ)) (base : List ℕ) (units : ℤ) (terms : List (Fixed × ℤ)) (old new : List ℕ) (outcome : Result (Unit {0}) Unanswered)
-    → GivesAnswer (λ answer. answer ≡ varied_by units terms) old new outcome → words ≡ base ∷ rest → ReadsWhole 16 base (Ok units) → ReadsTerms rest (Ok terms)
+    → GivesAnswer (λ answer. answer ≡ varied_answer units terms) old new outcome → words ≡ base ∷ rest → ReadsWhole 16 base (Ok units) → ReadsTerms rest (Ok terms)
     → GivesAnswer (AnswersWords words Vary) old new outcome
 given_moved words rest base units terms old new outcome given is whole read =
-    let right : Varies (base ∷ rest) (varied_by units terms) = where_true _ _ (terms_are_even rest terms read)
+    let right : Varies (base ∷ rest) (varied_answer units terms) = where_true _ _ (terms_are_even rest terms read)
     (record { first = Ok units; is_first = whole; goes_on = record { first = Ok terms; is_first = read; goes_on = refl } }) in
-    given_answer (AnswersWords words Vary) (varied_by units terms) old new outcome given (rw is right)
+    given_answer (AnswersWords words Vary) (varied_answer units terms) old new outcome given (rw is right)
 
 pub ruleset reading_given = (given_refusal, given_reading, reads_no_number)
 

@@ -4,8 +4,8 @@ use Rattle.std.specs.List.{position_or_len, before_first, after_first, onto_firs
 use Rattle.std.specs.Prelude.{not}
 use Rattle.fontval.specs.Text.{is_line_feed, lines_of}
 
-pub one_more : (n : ℕ) → 1 + n ≡ suc n
-one_more n = omega arith
+pub one-add : (n : ℕ) → 1 + n ≡ suc n
+one-add n = omega arith
 
 pub one_more_and_one : (n : ℕ) → suc n + 1 ≡ suc (n + 1)
 one_more_and_one n = omega arith
@@ -20,7 +20,7 @@ no_lines (byte ∷ rest) none = absurd (omega arith)
 longer_line : (byte n : ℕ) (rest : List ℕ)
     → (byte ∷ take n rest) ∷ lines_of (drop (n + 1) rest)
     ≡ take (1 + n) (byte ∷ rest) ∷ lines_of (drop (1 + n + 1) (byte ∷ rest))
-longer_line byte n rest = rw (one_more n, one_more_and_one n) refl
+longer_line byte n rest = rw (one-add n, one_more_and_one n) refl
 
 -- an input that is not empty has a first line, which ends before the first line feed
 pub first_line : (input : List ℕ) → 0 < length input

@@ -47,10 +47,10 @@ all_numbers n text left numbers at so_far none full =
     (all_read ReadsFixed _ _ _ so_far.read numbers none (rw whole (take-length numbers)))
 
 -- a word is refused, and with those behind it there are n
-pub refused_number : (n : ℕ) (text left left' word : List ℕ) (numbers : List Fixed) (at : ℕ) (refusal : Refusal)
+pub refused_after_numbers : (n : ℕ) (text left left' word : List ℕ) (numbers : List Fixed) (at : ℕ) (refusal : Refusal)
     → AreNumbersUpTo n text left numbers at → words_of left ≡ word ∷ words_of left' → at + 1 + length (words_of left') ≡ n → ReadsFixed word (Err refusal)
     → ReadsJust n (words_of text) (Err refusal)
-refused_number n text left left' word numbers at refusal so_far next just one =
+refused_after_numbers n text left left' word numbers at refusal so_far next just one =
     rw (eq-eqb (length (words_of text)) n (omega (arith, so_far.count, just, ap length next)))
     (one_refused ReadsFixed _ _ _ so_far.read _ word refusal next one)
 
@@ -60,4 +60,4 @@ pub other_count : (n : ℕ) (text left : List ℕ) (numbers : List Fixed) (at : 
 other_count n text left numbers at so_far other =
     rw (ne_eqb (length (words_of text)) n (λ same. other (so_far.count ∙ same))) refl
 
-pub ruleset number_steps = (no_number, one_more_number, all_numbers, refused_number, other_count)
+pub ruleset number_steps = (no_number, one_more_number, all_numbers, refused_after_numbers, other_count)

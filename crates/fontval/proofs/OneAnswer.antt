@@ -18,10 +18,10 @@ use Rattle.font_types.specs.fixed.Fixed.{Fixed}
 use Rattle.font_types.proofs.Callers.{reading_unique, validated_good}
 use Rattle.fontval.specs.Answers.{Answers, AnswersLine, AnswersLines}
 use Rattle.fontval.specs.Command.{AnswersWords, IsAnswer, IsNamed, IsNamedType, JudgesTag, fixed_point, fixed_row, integer, name_of, only_bytes, two_words, verdict_text}
-use Rattle.fontval.specs.Deltas.{Varies, sum_of, varied_by}
+use Rattle.fontval.specs.Deltas.{Varies, sum_of, varied_answer}
 use Rattle.fontval.specs.Images.{ShowsImages, images_text}
-use Rattle.fontval.specs.Numbers.{IsWhole, ReadsEach, ReadsFixed, ReadsJust, ReadsNumber, ReadsTerm, ReadsTerms, ReadsWhole, Then, pairs_of}
-use Rattle.fontval.specs.Refusal.{Answer, refusal_of, text_of}
+use Rattle.fontval.specs.Numbers.{IsWhole, ReadsEach, ReadsFixed, ReadsJust, ReadsNumber, ReadsTerm, ReadsTerms, ReadsWhole, AndThen, pairs_of}
+use Rattle.fontval.specs.Refusal.{Answer, refusal_of, answer_text}
 use Rattle.fontval.specs.Text.{lines_of, words_of}
 use Rattle.fontval.specs.declared.command.Command.{Command}
 use Rattle.fontval.specs.declared.command.Command.TheVariants.{Integer, FixedPoint, Read, Tag, Image, Sum, Vary}
@@ -48,7 +48,7 @@ module _ {A B : Type 0} (GoesOn : A → Result B Refusal → Type 0) (one : (val
   one_after (Ok value) = one value
   one_after (Err refusal) = one_value (Err refusal)
 
-  one_then : (IsFirst : Result A Refusal → Type 0) → IsOne IsFirst → IsOne (Then IsFirst GoesOn)
+  one_then : (IsFirst : Result A Refusal → Type 0) → IsOne IsFirst → IsOne (AndThen IsFirst GoesOn)
   one_then IsFirst one_first x y p q =
       let same = one_first p.first q.first p.is_first q.is_first in
       let behind = subst (λ first. MatchResult first (λ value. GoesOn value y) (λ refusal. y ≡ Err refusal)) (sym same) q.goes_on in
@@ -236,7 +236,7 @@ one_vary : (words : List (List ℕ)) → IsOne (Varies words)
 one_vary [] = one_value (Err WordCount)
 one_vary (base ∷ words) =
     one_either _ _ (length words % 2 == 0)
-    (one_then _ (λ units. one_then _ (λ terms. one_value (varied_by units terms)) (ReadsTerms words) (one_terms words)) (ReadsWhole 16 base) (one_whole 16 base))
+    (one_then _ (λ units. one_then _ (λ terms. one_value (varied_answer units terms)) (ReadsTerms words) (one_terms words)) (ReadsWhole 16 base) (one_whole 16 base))
     (one_value (Err WordCount))
 
 one_answer_of : (words : List (List ℕ)) (command : Command) → IsOne (AnswersWords words command)
@@ -254,7 +254,7 @@ one_answer [] = one_value (Err UnknownCommand)
 one_answer (name ∷ words) = one_then _ (one_answer_of words) (IsNamed name) (one_named name)
 
 one_text : (line : List ℕ) → IsOne (AnswersLine line)
-one_text line x y p q = p.shown ∙ ap text_of (one_answer (words_of line) p.answer q.answer p.meant q.meant) ∙ sym q.shown
+one_text line x y p q = p.shown ∙ ap answer_text (one_answer (words_of line) p.answer q.answer p.meant q.meant) ∙ sym q.shown
 
 one_output : (lines : List (List ℕ)) → IsOne (AnswersLines lines)
 one_output [] x y p q = p ∙ sym q

@@ -6,25 +6,25 @@ use Rattle.fontval.specs.Numbers.{ReadsEach}
 use Rattle.fontval.specs.declared.refusal.Refusal.{Refusal}
 
 -- the values, and those that are read behind them
-abbrev pub behind : {T : Type 0} → List T → Result (List T) Refusal → Result (List T) Refusal
-behind values rest = result_map_both (λ more. values ++ more) (λ refusal. refusal) rest
+abbrev pub prepended : {T : Type 0} → List T → Result (List T) Refusal → Result (List T) Refusal
+prepended values rest = result_map_both (λ more. values ++ more) (λ refusal. refusal) rest
 
 -- the words are read up to `left` as these values: what `left` is read as completes them
 pub record IsReadUpTo {W T : Type 0} (reads : W → Result T Refusal → Type 0) (words left : List W) (values : List T) : Type 0 where
-  pub completes : (rest : Result (List T) Refusal) → ReadsEach reads left rest → ReadsEach reads words (behind values rest)
+  pub completes : (rest : Result (List T) Refusal) → ReadsEach reads left rest → ReadsEach reads words (prepended values rest)
 
 module _ {W T : Type 0} (reads : W → Result T Refusal → Type 0) (words : List W) where
-  behind_nothing : (rest : Result (List T) Refusal) → behind [] rest ≡ rest
+  behind_nothing : (rest : Result (List T) Refusal) → prepended [] rest ≡ rest
   behind_nothing (Ok more) = refl
   behind_nothing (Err refusal) = refl
 
   behind_one_more : (values : List T) (value : T) (rest : Result (List T) Refusal)
-      → behind values (behind (value ∷ []) rest) ≡ behind (values ++ value ∷ []) rest
+      → prepended values (prepended (value ∷ []) rest) ≡ prepended (values ++ value ∷ []) rest
   behind_one_more values value (Ok more) = ap Ok (sym (append_assoc values (value ∷ []) more))
   behind_one_more values value (Err refusal) = refl
 
   one_behind : (value : T) (rest : Result (List T) Refusal)
-      → MatchResult rest (λ more. behind (value ∷ []) rest ≡ Ok (value ∷ more)) (λ refusal. behind (value ∷ []) rest ≡ Err refusal)
+      → MatchResult rest (λ more. prepended (value ∷ []) rest ≡ Ok (value ∷ more)) (λ refusal. prepended (value ∷ []) rest ≡ Err refusal)
   one_behind value (Ok more) = refl
   one_behind value (Err refusal) = refl
 
@@ -38,12 +38,12 @@ module _ {W T : Type 0} (reads : W → Result T Refusal → Type 0) (words : Lis
         → left ≡ word ∷ left' → reads word (Ok value) → values' ≡ values ++ value ∷ [] → IsReadUpTo reads words left' values'
     one_more_read left' word values' value next one grown = record {
       completes = λ rest read.
-          let all = so_far.completes (behind (value ∷ []) rest) (rw next (record {
+          let all = so_far.completes (prepended (value ∷ []) rest) (rw next (record {
             first = Ok value;
             is_first = one;
             goes_on = record { first = rest; is_first = read; goes_on = one_behind value rest };
           })) in
-          subst (λ r. ReadsEach reads words r) (behind_one_more values value rest ∙ ap (λ vs. behind vs rest) (sym grown)) all;
+          subst (λ r. ReadsEach reads words r) (behind_one_more values value rest ∙ ap (λ vs. prepended vs rest) (sym grown)) all;
     }
 
     -- it is refused, and so all are

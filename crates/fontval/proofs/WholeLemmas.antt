@@ -6,9 +6,9 @@ use Rattle.std.proofs.lemmas.Int.Digits.{digits_value_more}
 use Rattle.std.proofs.lemmas.Str.{digit_value_digit}
 
 -- one digit more, where a number above `most` is cut to it
-pub one_digit_more : (digits : List ℕ) (i n digit most : ℕ) → i < length digits → IsAsciiDigit (get_or digits i 0)
+pub bounded_digit_more : (digits : List ℕ) (i n digit most : ℕ) → i < length digits → IsAsciiDigit (get_or digits i 0)
     → n ≡ min (digits_value 10 (take i digits)) most → digit ≡ get_or digits i 0 - 48
     → min (n * 10 + digit) most ≡ min (digits_value 10 (take (i + 1) digits)) most
-one_digit_more digits i n digit most inside ascii so_far next =
+bounded_digit_more digits i n digit most inside ascii so_far next =
     let value = digit_value_digit (get_or digits i 0) ascii in
     omega (arith, digits_value_more 10 digits i inside)

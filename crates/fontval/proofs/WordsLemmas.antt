@@ -10,7 +10,7 @@ use Rattle.std.proofs.lemmas.Option.{cond_some}
 use Rattle.std.proofs.lemmas.List.Splits.{length-slice_split}
 use Rattle.std.proofs.lemmas.List.Sums.{length-filter, count_by-le-length}
 use Rattle.fontval.specs.Text.{is_blank, is_nonempty, from_first, words_of}
-use Rattle.fontval.proofs.LinesLemmas.{one_more, one_more_and_one}
+use Rattle.fontval.proofs.LinesLemmas.{one-add, one_more_and_one}
 
 -- a blank in front changes no word
 words_behind_blank : (byte : ℕ) (rest : List ℕ) → is_blank byte ≡ true → words_of (byte ∷ rest) ≡ words_of rest
@@ -24,7 +24,7 @@ words_behind_blanks (byte ∷ rest) =
     let skipped = position_or_len (λ byte. not (is_blank byte)) rest in
     elim (is_blank byte)
     as (λ b. is_blank byte ≡ b → words_of (byte ∷ rest) ≡ words_of (drop (cond (not (not b)) (1 + skipped) 0) (byte ∷ rest))) [
-      | true ↦ λ blank. words_behind_blank byte rest blank ∙ words_behind_blanks rest ∙ rw (one_more skipped) refl
+      | true ↦ λ blank. words_behind_blank byte rest blank ∙ words_behind_blanks rest ∙ rw (one-add skipped) refl
       | false ↦ λ word. refl
     ] refl
 
@@ -44,8 +44,8 @@ first_part-blank byte rest blank = record {
 first_part-longer : (byte : ℕ) (rest : List ℕ) → is_blank byte ≡ false → FirstPart rest → FirstPart (byte ∷ rest)
 first_part-longer byte rest word part = record {
   later = part.later;
-  parts = rw (word, one_more (position_or_len is_blank rest)) (ap (onto_first byte) part.parts);
-  behind = rw (word, one_more (position_or_len is_blank rest)) part.behind;
+  parts = rw (word, one-add (position_or_len is_blank rest)) (ap (onto_first byte) part.parts);
+  behind = rw (word, one-add (position_or_len is_blank rest)) part.behind;
 }
 
 first_part : (text : List ℕ) → FirstPart text
@@ -67,7 +67,7 @@ words_from_word text begins =
 -- a text whose first byte is not blank begins with a word
 begins_word : (byte : ℕ) (rest : List ℕ) → not (is_blank byte) ≡ true
     → is_nonempty (before_first is_blank (byte ∷ rest)) ≡ true
-begins_word byte rest word = rw (word, one_more (position_or_len is_blank rest)) refl
+begins_word byte rest word = rw (word, one-add (position_or_len is_blank rest)) refl
 
 -- the place where the first word begins is where the blanks in front of it end
 word_begins : (line : List ℕ) (start : ℕ) → position (λ byte. not (is_blank byte)) line ≡ Some start
@@ -82,7 +82,7 @@ words_behind_word (byte ∷ rest) =
     elim (is_blank byte)
     as (λ b. is_blank byte ≡ b → words_of (drop (cond (not b) (1 + inside) 0) (byte ∷ rest)) ≡ words_of (drop (cond (not b) (1 + inside) 0 + 1) (byte ∷ rest))) [
       | true ↦ λ blank. words_behind_blank byte rest blank
-      | false ↦ λ word. rw (one_more inside, one_more_and_one inside) (words_behind_word rest)
+      | false ↦ λ word. rw (one-add inside, one_more_and_one inside) (words_behind_word rest)
     ] refl
 
 -- the first word of a line that has one, and the words behind it

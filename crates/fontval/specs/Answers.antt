@@ -1,14 +1,14 @@
 -- The program's output for an input, by the program's own rule.
 use Rattle.std.specs.Prelude.{◌≡◌, ℕ, List, [], ◌∷◌, ◌++◌}
 use Rattle.fontval.specs.Command.{IsAnswer}
-use Rattle.fontval.specs.Refusal.{Answer, text_of}
+use Rattle.fontval.specs.Refusal.{Answer, answer_text}
 use Rattle.fontval.specs.Text.{lines_of, words_of}
 
 -- the text answers the line: it shows what is answered to the line's words
 pub record AnswersLine (line text : List ℕ) : Type 0 where
   pub answer : Answer
   pub meant : IsAnswer (words_of line) answer
-  pub shown : text ≡ text_of answer
+  pub shown : text ≡ answer_text answer
 
 -- the text grows by an answer to the line
 pub record AppendsAnswer (line old new : List ℕ) : Type 0 where

@@ -11,7 +11,7 @@ use Rattle.font_types.specs.Tag.{IsValidated, tag_text}
 use Rattle.font_types.specs.InvalidTag.{InvalidTag}
 use Rattle.font_types.specs.InvalidTag.TheVariants.{InvalidLength, InvalidByte, ByteAfterSpace}
 use Rattle.fontval.specs.Refusal.{Answer}
-use Rattle.fontval.specs.Numbers.{Then, ReadsJust, ReadsNumber, ReadsTerms}
+use Rattle.fontval.specs.Numbers.{AndThen, ReadsJust, ReadsNumber, ReadsTerms}
 use Rattle.fontval.specs.Deltas.{ShowsSum, Varies}
 use Rattle.fontval.specs.Images.{ShowsImages}
 use Rattle.fontval.specs.declared.command.Command.{Command}
@@ -26,24 +26,24 @@ use Rattle.fontval.specs.declared.refusal.Refusal.TheVariants.{UnknownCommand, W
 -- ---- the commands
 
 -- whether a type's bytes are read as two's complement
-abbrev pub without_sign : Bool
-without_sign = false
+abbrev pub unsigned_bytes : Bool
+unsigned_bytes = false
 
-abbrev pub with_sign : Bool
-with_sign = true
+abbrev pub signed_bytes : Bool
+signed_bytes = true
 
 -- the integer types: the word that names each, how many bytes it has, and whether these have a sign
 -- (OpenType, data types: uint8 to int64)
 abbrev pub integer_row : IntegerType → List ℕ × ℕ × Bool
-integer_row Uint8 = (codes "uint8", 1, without_sign)
-integer_row Int8 = (codes "int8", 1, with_sign)
-integer_row Uint16 = (codes "uint16", 2, without_sign)
-integer_row Int16 = (codes "int16", 2, with_sign)
-integer_row Uint24 = (codes "uint24", 3, without_sign)
-integer_row Int24 = (codes "int24", 3, with_sign)
-integer_row Uint32 = (codes "uint32", 4, without_sign)
-integer_row Int32 = (codes "int32", 4, with_sign)
-integer_row Int64 = (codes "int64", 8, with_sign)
+integer_row Uint8 = (codes "uint8", 1, unsigned_bytes)
+integer_row Int8 = (codes "int8", 1, signed_bytes)
+integer_row Uint16 = (codes "uint16", 2, unsigned_bytes)
+integer_row Int16 = (codes "int16", 2, signed_bytes)
+integer_row Uint24 = (codes "uint24", 3, unsigned_bytes)
+integer_row Int24 = (codes "int24", 3, signed_bytes)
+integer_row Uint32 = (codes "uint32", 4, unsigned_bytes)
+integer_row Int32 = (codes "int32", 4, signed_bytes)
+integer_row Int64 = (codes "int64", 8, signed_bytes)
 
 -- the fixed-point types: the word that names each, how many bits it has, and how many of them
 -- stand behind the point
@@ -147,17 +147,17 @@ AnswersWords words (Integer type) answer =
 AnswersWords words (FixedPoint type) answer = answer ≡ fixed_point type words
 AnswersWords words Read answer =
     MatchResult (two_words words)
-    (λ pair. Then (IsNamedType pair.0) (λ type. ShowsReading type pair.1) answer)
+    (λ pair. AndThen (IsNamedType pair.0) (λ type. ShowsReading type pair.1) answer)
     (λ refusal. answer ≡ Err refusal)
 AnswersWords words Tag answer =
     MatchResult (only_bytes 4 words)
     (λ bytes. JudgesTag bytes answer)
     (λ refusal. answer ≡ Err refusal)
-AnswersWords words Image answer = Then (ReadsJust 14 words) ShowsImages answer
-AnswersWords words Sum answer = Then (ReadsTerms words) ShowsSum answer
+AnswersWords words Image answer = AndThen (ReadsJust 14 words) ShowsImages answer
+AnswersWords words Sum answer = AndThen (ReadsTerms words) ShowsSum answer
 AnswersWords words Vary answer = Varies words answer
 
 -- what is answered to the words of a line: the first of them names the command
 abbrev pub IsAnswer : List (List ℕ) → Answer → Type 0
 IsAnswer [] answer = answer ≡ Err UnknownCommand
-IsAnswer (name ∷ words) answer = Then (IsNamed name) (AnswersWords words) answer
+IsAnswer (name ∷ words) answer = AndThen (IsNamed name) (AnswersWords words) answer

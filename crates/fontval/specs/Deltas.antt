@@ -6,7 +6,7 @@ use Rattle.std.specs.Option.{ok_or}
 use Rattle.font_types.specs.Delta.{sum_in_range, varied}
 use Rattle.font_types.specs.Shortest.{shortest_text}
 use Rattle.font_types.specs.fixed.Fixed.{Fixed}
-use Rattle.fontval.specs.Numbers.{Then, ReadsTerms, ReadsWhole}
+use Rattle.fontval.specs.Numbers.{AndThen, ReadsTerms, ReadsWhole}
 use Rattle.fontval.specs.Refusal.{Answer}
 use Rattle.fontval.specs.declared.refusal.Refusal.TheVariants.{WordCount, OutOfRange}
 
@@ -15,8 +15,8 @@ abbrev pub sum_of : List (Fixed × ℤ) → Answer
 sum_of terms = ok_or (option_map (λ bits. shortest_text bits 16) (sum_in_range terms)) OutOfRange
 
 -- so many font units moved by that sum, in units of 2^-16
-abbrev pub varied_by : ℤ → List (Fixed × ℤ) → Answer
-varied_by units terms = ok_or (option_map signed_decimal (varied units terms)) OutOfRange
+abbrev pub varied_answer : ℤ → List (Fixed × ℤ) → Answer
+varied_answer units terms = ok_or (option_map signed_decimal (varied units terms)) OutOfRange
 
 -- what is answered to terms
 abbrev pub ShowsSum : List (Fixed × ℤ) → Answer → Type 0
@@ -28,6 +28,6 @@ abbrev pub Varies : List (List ℕ) → Answer → Type 0
 Varies [] answer = answer ≡ Err WordCount
 Varies (base ∷ words) answer =
     MatchBool (length words % 2 == 0)
-    (Then (ReadsWhole 16 base)
-    (λ units. Then (ReadsTerms words) (λ terms shown. shown ≡ varied_by units terms)) answer)
+    (AndThen (ReadsWhole 16 base)
+    (λ units. AndThen (ReadsTerms words) (λ terms shown. shown ≡ varied_answer units terms)) answer)
     (answer ≡ Err WordCount)

@@ -15,7 +15,7 @@ use Rattle.fontval.specs.declared.refusal.Refusal.{Refusal}
 use Rattle.fontval.specs.declared.refusal.Refusal.TheVariants.{WordCount, NotWhole, OutOfRange}
 
 -- what is read first decides how it goes on; where it is refused, so is the whole
-pub record Then {A B : Type 0} (IsFirst : Result A Refusal → Type 0)
+pub record AndThen {A B : Type 0} (IsFirst : Result A Refusal → Type 0)
     (GoesOn : A → Result B Refusal → Type 0) (result : Result B Refusal) : Type 0 where
   pub first : Result A Refusal
   pub is_first : IsFirst first
@@ -26,8 +26,8 @@ abbrev pub ReadsEach : {W T : Type 0} → (W → Result T Refusal → Type 0) �
     → Result (List T) Refusal → Type 0
 ReadsEach reads [] result = result ≡ Ok []
 ReadsEach reads (word ∷ words) result =
-    Then (reads word)
-    (λ value. Then (ReadsEach reads words) (λ values all. all ≡ Ok (value ∷ values))) result
+    AndThen (reads word)
+    (λ value. AndThen (ReadsEach reads words) (λ values all. all ≡ Ok (value ∷ values))) result
 
 -- the text is read as a number of w bits with f bits of fraction, and gives what `value` makes of
 -- its bits
@@ -70,8 +70,8 @@ pairs_of (first ∷ second ∷ words) = (first, second) ∷ pairs_of words
 -- the term that two words are read as: a scalar, and a whole number of 32 bits
 abbrev pub ReadsTerm : List ℕ × List ℕ → Result (Fixed × ℤ) Refusal → Type 0
 ReadsTerm words result =
-    Then (ReadsFixed words.0)
-    (λ scalar. Then (ReadsWhole 32 words.1) (λ delta term. term ≡ Ok (scalar, delta))) result
+    AndThen (ReadsFixed words.0)
+    (λ scalar. AndThen (ReadsWhole 32 words.1) (λ delta term. term ≡ Ok (scalar, delta))) result
 
 -- the terms that words are read as: an odd count of words is refused before any of them
 abbrev pub ReadsTerms : List (List ℕ) → Result (List (Fixed × ℤ)) Refusal → Type 0

@@ -27,9 +27,9 @@ refusal_of Syntax = NotDecimal
 refusal_of TooFar = OutOfRange
 
 -- the text that an answer is shown by
-abbrev pub text_of : Answer → List ℕ
-text_of (Ok text) = text
-text_of (Err refusal) = codes "error " ++ decimal (refusal_number refusal)
+abbrev pub answer_text : Answer → List ℕ
+answer_text (Ok text) = text
+answer_text (Err refusal) = codes "error " ++ decimal (refusal_number refusal)
 
 -- the output has grown by the text of a right answer
 pub record Grows (IsRight : Answer → Type 0) (old new : List ℕ) : Type 0 where

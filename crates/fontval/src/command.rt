@@ -12,7 +12,7 @@ use crate::images::Move;
 use crate::judgement::Judgement;
 use crate::numbers::{fixed_numbers, in_pairs, short_number, terms};
 use crate::output::{append, append_read};
-use crate::parse::{decimal_text, hexadecimal, two_words};
+use crate::parse::{text_of_decimal, hexadecimal, two_words};
 use crate::refusal::{Refusal, Unanswered};
 use crate::text::Words;
 use font_types::{
@@ -220,7 +220,7 @@ fn read<A: Allocator>(words: Words<'_>, output: &mut String<A>) -> Result<(), Un
         (string_bytes output.old) (string_bytes output.new) result }
 {
     let (name, word) = two_words(words)?;
-    FixedType::named(name)?.read(decimal_text(word)?, output)
+    FixedType::named(name)?.read(text_of_decimal(word)?, output)
 }
 
 // Appends the text of a tag, and what is said of it.

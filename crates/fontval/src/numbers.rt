@@ -8,7 +8,7 @@ ghost use Rattle.fontval.specs.Numbers.{behind_minus};
 ghost use Rattle.fontval.specs.Refusal.{OnRefused};
 ghost use Rattle.fontval.specs.Text.{words_of};
 
-use crate::parse::decimal_text;
+use crate::parse::text_of_decimal;
 use crate::refusal::{Refusal, Unanswered};
 use crate::text::Words;
 use font_types::Fixed;
@@ -50,7 +50,7 @@ pub fn fixed_numbers<const N: usize>(mut words: Words<'_>) -> Result<[Fixed; N],
 fn fixed_number(word: &[u8]) -> Result<Fixed, Refusal>
     ensures { ReadsFixed word.now result }
 {
-    Ok(Fixed::from_decimal(decimal_text(word)?)?)
+    Ok(Fixed::from_decimal(text_of_decimal(word)?)?)
 }
 
 /// The terms that words are read as two by two: a scalar, and a whole number of font units.
@@ -107,8 +107,8 @@ pub fn whole_number(word: &[u8]) -> Result<i32, Refusal>
     ensures { ReadsWhole 32 word.now result }
 {
     let (negative, digits) = split_minus(word);
-    let magnitude = magnitude(digits).ok_or(Refusal::NotWhole)?;
-    let number = if negative { -magnitude } else { magnitude };
+    let magnitude_of_digits = magnitude_of_digits(digits).ok_or(Refusal::NotWhole)?;
+    let number = if negative { -magnitude_of_digits } else { magnitude_of_digits };
     i32::try_from(number).map_err(|_| Refusal::OutOfRange)
 }
 
@@ -131,7 +131,7 @@ fn split_minus(word: &[u8]) -> (bool, &[u8])
 }
 
 // The number that one or more digits write, or 2^40 where it is greater.
-fn magnitude(digits: &[u8]) -> Option<i64>
+fn magnitude_of_digits(digits: &[u8]) -> Option<i64>
     ensures { MatchOption result
         (¬ (IsNumeral 10 digits.now))
         (λ n. IsNumeral 10 digits.now × (n ≡ pos (min (digits_value 10 digits.now) (2 ^ 40)))) }

@@ -66,7 +66,7 @@ fn decoded<const N: usize>(text: &[u8]) -> Result<[u8; N], Refusal>
 }
 
 /// A word as text. One that is not ASCII is no decimal.
-pub fn decimal_text(word: &[u8]) -> Result<&str, Refusal>
+pub fn text_of_decimal(word: &[u8]) -> Result<&str, Refusal>
     ensures { MatchResult result
         (λ text. text.now ≡ word.now)
         (λ refusal. (refusal ≡ Refusal.NotDecimal) × IsNoDecimal word.now) }

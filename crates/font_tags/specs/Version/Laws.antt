@@ -16,16 +16,16 @@ abbrev is_byte : ℕ → Bool
 is_byte byte = nat_lt byte 256
 
 -- bytes behind bytes
-joined : (n m : ℕ) (xs ys : List ℕ) → IsTrue (are_bytes n xs) → IsTrue (are_bytes m ys) → IsTrue (are_bytes (n + m) (xs ++ ys))
-joined n m xs ys first second =
+are_bytes-append : (n m : ℕ) (xs ys : List ℕ) → IsTrue (are_bytes n xs) → IsTrue (are_bytes m ys) → IsTrue (are_bytes (n + m) (xs ++ ys))
+are_bytes-append n m xs ys first second =
     let many = length-append xs ys in
     and_from (length (xs ++ ys) == n + m) (list_all is_byte (xs ++ ys))
     (eq-eqb (length (xs ++ ys)) (n + m) (omega (arith, many, are_bytes-length n xs first, are_bytes-length m ys second)))
     (list_all-append is_byte xs ys ∙ and_from (list_all is_byte xs) (list_all is_byte ys) (and_parts (length xs == n) _ first).1 (and_parts (length ys == m) _ second).1)
 
 -- the halves of four bytes
-halves : (raw : List ℕ) → IsTrue (are_bytes 4 raw) → IsTrue (are_bytes 2 (take 2 raw)) × IsTrue (are_bytes 2 (drop 2 raw))
-halves raw are =
+halves_are_bytes : (raw : List ℕ) → IsTrue (are_bytes 4 raw) → IsTrue (are_bytes 2 (take 2 raw)) × IsTrue (are_bytes 2 (drop 2 raw))
+halves_are_bytes raw are =
     let many = are_bytes-length 4 raw are in
     let each : (list_all is_byte (take 2 raw) && list_all is_byte (drop 2 raw)) ≡ true =
     sym (list_all-append is_byte (take 2 raw) (drop 2 raw)) ∙ ap (λ bytes. list_all is_byte bytes) (take-append-drop 2 raw) ∙ (and_parts (length raw == 4) _ are).1 in
@@ -34,8 +34,8 @@ halves raw are =
 
 pub major_minor_laws : ScalarLaws (λ version. nat_lt version.major (2 ^ 16) && nat_lt version.minor (2 ^ 16)) (are_bytes 4) major_minor_of major_minor_bytes 4 4
 major_minor_laws = record {
-  of_raw_value = λ raw are. let half = halves raw are in and_from _ _ (unsigned_value 2 (take 2 raw) half.0) (unsigned_value 2 (drop 2 raw) half.1);
-  raw_of_value = λ version _. joined 2 2 (bytes_of 2 (pos version.major)) (bytes_of 2 (pos version.minor)) (are_bytes-bytes_of 2 (pos version.major)) (are_bytes-bytes_of 2 (pos version.minor));
+  of_raw_value = λ raw are. let half = halves_are_bytes raw are in and_from _ _ (unsigned_value 2 (take 2 raw) half.0) (unsigned_value 2 (drop 2 raw) half.1);
+  raw_of_value = λ version _. are_bytes-append 2 2 (bytes_of 2 (pos version.major)) (bytes_of 2 (pos version.minor)) (are_bytes-bytes_of 2 (pos version.major)) (are_bytes-bytes_of 2 (pos version.minor));
   back = λ version value.
       let small = and_parts _ _ value in
       let many : length (bytes_of 2 (pos version.major)) ≡ 2 = are_bytes-length 2 _ (are_bytes-bytes_of 2 (pos version.major)) in
@@ -43,7 +43,7 @@ major_minor_laws = record {
       let second : numeral (drop 2 (major_minor_bytes version)) ≡ version.minor = ap numeral (drop_at (bytes_of 2 (pos version.major)) _ 2 many) ∙ unsigned_back 2 version.minor small.1 in
       λ i. record { major = first i; minor = second i };
   forth = λ raw are.
-      let half = halves raw are in
+      let half = halves_are_bytes raw are in
       ap (λ front. front ++ bytes_of 2 (pos (numeral (drop 2 raw)))) (bytes_of-numeral 2 (take 2 raw) half.0)
       ∙ ap (λ rest. take 2 raw ++ rest) (bytes_of-numeral 2 (drop 2 raw) half.1) ∙ take-append-drop 2 raw;
   lengths_agree = refl;

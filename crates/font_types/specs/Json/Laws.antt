@@ -12,7 +12,7 @@ use Rattle.font_arithmetic.specs.Operations.{ReadsAs, least, greatest}
 use Rattle.font_arithmetic.proofs.Texts.{printed_reads}
 use Rattle.font_types.specs.declared.json.JsonFault.{JsonFault}
 use Rattle.font_types.specs.declared.json.JsonFault.TheVariants.{Memory, WrongKind, OutOfRange, Syntax, NotUtf8, InvalidTag, MissingMember}
-use Rattle.font_types.specs.Json.{IsNumber, is_within, ReadsNumber, is_unsigned, ReadsUnsigned, is_signed, ReadsSigned, IsTextRead, ReadsDecimal, whole_number, IsTagMade, IsTagRead, TagComesBack, version_form, version_read, ReadsVersion}
+use Rattle.font_types.specs.Json.{IsNumber, is_within, ReadsWholeNumber, is_unsigned, ReadsUnsigned, is_within_signed, ReadsSigned, IsTextRead, ReadsDecimal, number_within, IsTagMade, IsTagRead, TagComesBack, version_form, version_read, ReadsVersion}
 use Rattle.std.specs.Cmp.{first_so, second_so}
 use Rattle.std.specs.Cmp.Derive.{both_true}
 use Rattle.std.proofs.lemmas.Bool.{ltb-true}
@@ -53,13 +53,13 @@ fixed_round_trip w f bits_of of_bits back room x d result value shown read =
 -- ---- whole numbers
 
 -- a number in the range is read as itself
-number_reads_back : (min max z : ℤ) → IsTrue (is_within min max z) → whole_number min max (number (of_integer z)) ≡ Ok z
+number_reads_back : (min max z : ℤ) → IsTrue (is_within min max z) → number_within min max (number (of_integer z)) ≡ Ok z
 number_reads_back min max (pos n) within = rw within refl
 number_reads_back min max (negsuc n) within = rw within refl
 
 -- a value whose number determines it
 number_round_trip : {T : Type 0} (number_of : T → ℤ) → ((x y : T) → number_of x ≡ number_of y → x ≡ y) → (min max : ℤ) (x : T) (d : Data) (result : Result T JsonFault)
-    → IsTrue (is_within min max (number_of x)) → IsNumber (number_of x) d → ReadsNumber min max number_of d result → result ≡ Ok x
+    → IsTrue (is_within min max (number_of x)) → IsNumber (number_of x) d → ReadsWholeNumber min max number_of d result → result ≡ Ok x
 number_round_trip number_of same min max x d (Ok y) within shown read =
     let equal : result_map_both number_of (λ fault. fault) (Ok y) ≡ Ok (number_of x) = read ∙ rw shown (number_reads_back min max (number_of x) within) in
     let numbers : number_of y ≡ number_of x = cc in
@@ -69,7 +69,7 @@ number_round_trip number_of same min max x d (Err fault) within shown read =
     absurd (cc)
 
 pub signed_round_trip : {T : Type 0} (w : ℕ) (number_of : T → ℤ) → ((x y : T) → number_of x ≡ number_of y → x ≡ y) → (x : T) (d : Data) (result : Result T JsonFault)
-    → IsTrue (is_signed w (number_of x)) → IsNumber (number_of x) d → ReadsSigned w number_of d result → result ≡ Ok x
+    → IsTrue (is_within_signed w (number_of x)) → IsNumber (number_of x) d → ReadsSigned w number_of d result → result ≡ Ok x
 signed_round_trip w number_of same = number_round_trip number_of same (least w) (greatest w)
 
 pub unsigned_round_trip : {T : Type 0} (w : ℕ) (number_of : T → ℕ) → ((x y : T) → number_of x ≡ number_of y → x ≡ y) → (x : T) (d : Data) (result : Result T JsonFault)

@@ -15,7 +15,7 @@ ghost use Rattle.font_types.specs.Json.{ReadsDecimal};
 ghost use Rattle.font_types.specs.Json.Laws.{fixed_round_trip};
 ghost use Rattle.font_types.specs.declared.json.JsonFault.TheVariants.{Memory};
 
-use super::{JsonFault, JsonScalar, text_of};
+use super::{JsonFault, JsonScalar, text_or_fault};
 use font_fixed::{F2Dot14, F26Dot6, F48Dot16, Fixed};
 use font_fixed2::{F2Dot30, F4Dot12, F6Dot10};
 use serde_json::Value;
@@ -37,7 +37,7 @@ impl JsonScalar for F2Dot14 {
     }
 
     fn from_json(value: &Value) -> Result<F2Dot14, JsonFault> {
-        Ok(F2Dot14::from_decimal(text_of(value)?)?)
+        Ok(F2Dot14::from_decimal(text_or_fault(value)?)?)
     }
 }
 
@@ -57,7 +57,7 @@ impl JsonScalar for Fixed {
     }
 
     fn from_json(value: &Value) -> Result<Fixed, JsonFault> {
-        Ok(Fixed::from_decimal(text_of(value)?)?)
+        Ok(Fixed::from_decimal(text_or_fault(value)?)?)
     }
 }
 
@@ -77,7 +77,7 @@ impl JsonScalar for F26Dot6 {
     }
 
     fn from_json(value: &Value) -> Result<F26Dot6, JsonFault> {
-        Ok(F26Dot6::from_decimal(text_of(value)?)?)
+        Ok(F26Dot6::from_decimal(text_or_fault(value)?)?)
     }
 }
 
@@ -97,7 +97,7 @@ impl JsonScalar for F48Dot16 {
     }
 
     fn from_json(value: &Value) -> Result<F48Dot16, JsonFault> {
-        Ok(F48Dot16::from_decimal(text_of(value)?)?)
+        Ok(F48Dot16::from_decimal(text_or_fault(value)?)?)
     }
 }
 
@@ -117,7 +117,7 @@ impl JsonScalar for F4Dot12 {
     }
 
     fn from_json(value: &Value) -> Result<F4Dot12, JsonFault> {
-        Ok(F4Dot12::from_decimal(text_of(value)?)?)
+        Ok(F4Dot12::from_decimal(text_or_fault(value)?)?)
     }
 }
 
@@ -137,7 +137,7 @@ impl JsonScalar for F6Dot10 {
     }
 
     fn from_json(value: &Value) -> Result<F6Dot10, JsonFault> {
-        Ok(F6Dot10::from_decimal(text_of(value)?)?)
+        Ok(F6Dot10::from_decimal(text_or_fault(value)?)?)
     }
 }
 
@@ -157,6 +157,6 @@ impl JsonScalar for F2Dot30 {
     }
 
     fn from_json(value: &Value) -> Result<F2Dot30, JsonFault> {
-        Ok(F2Dot30::from_decimal(text_of(value)?)?)
+        Ok(F2Dot30::from_decimal(text_or_fault(value)?)?)
     }
 }

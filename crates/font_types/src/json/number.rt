@@ -14,11 +14,11 @@ ghost use Rattle.font_ids.specs.GlyphId.{glyph_number};
 ghost use Rattle.font_ids.specs.NameId.{name_number, name_id_of};
 ghost use Rattle.font_ids.specs.Offset.{offset16_number, offset16_of, offset24_number, offset24_of};
 ghost use Rattle.font_ids.specs.Offset.{offset32_number, offset32_of};
-ghost use Rattle.font_types.specs.Json.{IsNumber, is_unsigned, ReadsUnsigned, is_signed};
+ghost use Rattle.font_types.specs.Json.{IsNumber, is_unsigned, ReadsUnsigned, is_within_signed};
 ghost use Rattle.font_types.specs.Json.{ReadsSigned};
 ghost use Rattle.font_types.specs.Json.Laws.{unsigned_round_trip, signed_round_trip};
 
-use super::{JsonFault, JsonScalar, natural, whole_number};
+use super::{JsonFault, JsonScalar, natural, number_within};
 use font_base::{Int24, Scalar, Uint24};
 use font_ids::{
     FWord, GlyphId, GlyphId16, GlyphId24, LongDateTime, NameId, Offset16, Offset24, Offset32,
@@ -48,7 +48,7 @@ impl JsonScalar for Uint24 {
 }
 
 impl JsonScalar for Int24 {
-    ghost is_value = { λ x. is_signed 24 (int24_number x) };
+    ghost is_value = { λ x. is_within_signed 24 (int24_number x) };
 
     ghost shows = { λ x d. IsNumber (int24_number x) d };
 
@@ -63,12 +63,12 @@ impl JsonScalar for Int24 {
     }
 
     fn from_json(value: &Value) -> Result<Int24, JsonFault> {
-        Ok(Int24::new(whole_number(value, -0x80_0000, 0x7F_FFFF)? as i32))
+        Ok(Int24::new(number_within(value, -0x80_0000, 0x7F_FFFF)? as i32))
     }
 }
 
 impl JsonScalar for FWord {
-    ghost is_value = { λ x. is_signed 16 (fword_number x) };
+    ghost is_value = { λ x. is_within_signed 16 (fword_number x) };
 
     ghost shows = { λ x d. IsNumber (fword_number x) d };
 
@@ -83,7 +83,7 @@ impl JsonScalar for FWord {
     }
 
     fn from_json(value: &Value) -> Result<FWord, JsonFault> {
-        Ok(FWord::new(whole_number(value, -0x8000, 0x7FFF)? as i16))
+        Ok(FWord::new(number_within(value, -0x8000, 0x7FFF)? as i16))
     }
 }
 
@@ -170,7 +170,7 @@ impl JsonScalar for GlyphId {
 }
 
 impl JsonScalar for LongDateTime {
-    ghost is_value = { λ x. is_signed 64 (date_seconds x) };
+    ghost is_value = { λ x. is_within_signed 64 (date_seconds x) };
 
     ghost shows = { λ x d. IsNumber (date_seconds x) d };
 
@@ -185,7 +185,7 @@ impl JsonScalar for LongDateTime {
     }
 
     fn from_json(value: &Value) -> Result<LongDateTime, JsonFault> {
-        Ok(LongDateTime::new(whole_number(value, i64::MIN, i64::MAX)?))
+        Ok(LongDateTime::new(number_within(value, i64::MIN, i64::MAX)?))
     }
 }
 

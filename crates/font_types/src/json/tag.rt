@@ -8,7 +8,7 @@ ghost use Rattle.font_tags.specs.Tag.{tag_bytes};
 ghost use Rattle.font_types.specs.Json.{IsTagRefused, IsTagRead, TagComesBack};
 ghost use Rattle.font_types.specs.Json.Laws.{tag_round_trip};
 
-use super::{JsonFault, JsonScalar, text_of};
+use super::{JsonFault, JsonScalar, text_or_fault};
 use font_base::Scalar;
 use font_ids::Tag;
 use serde_json::Value;
@@ -36,7 +36,7 @@ impl JsonScalar for Tag {
     }
 
     fn from_json(value: &Value) -> Result<Tag, JsonFault> {
-        match Tag::new_checked(text_of(value)?.as_bytes()) {
+        match Tag::new_checked(text_or_fault(value)?.as_bytes()) {
             Ok(tag) => Ok(tag),
             Err(_) => Err(JsonFault::InvalidTag),
         }

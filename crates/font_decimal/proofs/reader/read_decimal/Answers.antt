@@ -4,7 +4,7 @@ use Rattle.font_decimal.specs.Reading.{Rounds, IsReading}
 use Rattle.font_decimal.specs.declared.reader.DecimalFault.TheVariants.{Syntax, OutOfRange}
 use Rattle.font_decimal.specs.Near.{signed}
 use Rattle.font_decimal.proofs.Parts.{no_decimal}
-use Rattle.font_decimal.proofs.Readings.{answers_as, judged, judged_steps}
+use Rattle.font_decimal.proofs.Readings.{answers_as, judged_by_range, judged_steps}
 use Rattle.font_decimal.proofs.reader.read_decimal.Goals as goal
 
 pub returns-in_default : goal.returns-in_default
@@ -28,7 +28,7 @@ returns c =
     let found = c.in-Some.ensures.some in
     let rounds = subst (λ t. Rounds t c.args.f (signed sign.result.0 found.0)) (sym sign.ensures.minus ∙ c.as_bytes.ensures.value) (found.2 sign.result.0) in
     let ranged = judged_steps sign.result.0 c.in-Some.steps found.0 c.args.min c.args.max c.in_range.result min_fits max_fits found.1 (simp to_z-of_z at c.in_range.ensures) in
-    let by_steps = judged text c.args.f c.args.min c.args.max (signed sign.result.0 found.0) c.in_range.result rounds ranged in
+    let by_steps = judged_by_range text c.args.f c.args.min c.args.max (signed sign.result.0 found.0) c.in_range.result rounds ranged in
     let P : Result ℤ _ → Type 0 = λ r. IsReading text c.args.f c.args.min c.args.max r in
     let reading = subst P (sym c.ok_or.ensures.value) by_steps in
     record {

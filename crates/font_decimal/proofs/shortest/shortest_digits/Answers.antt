@@ -2,7 +2,7 @@ use Rattle.std.proofs.Common.{◌≡◌, ℕ, ◌+◌, ◌*◌, ◌/◌, ◌%◌
 use Rattle.std.proofs.Math.Nat.{pow-suc}
 use Rattle.std.proofs.lemmas.Nat.{one_shl}
 use Rattle.font_decimal.specs.Shortest.{nearest_numeral, reads_back}
-use Rattle.font_decimal.proofs.Fewest.{IsFewest, one_more}
+use Rattle.font_decimal.proofs.Fewest.{IsFewest, place_left}
 use Rattle.font_decimal.proofs.Remainder.{stopped, places_are, fails_here, rounded_up, rounded_down, next_numeral, next_below, fraction_below, no_carry}
 use Rattle.font_decimal.proofs.shortest.shortest_digits.Goals as goal
 
@@ -19,13 +19,13 @@ fails c =
 
 pub loop-margin-smaller : goal.loop-margin-smaller
 loop-margin-smaller c =
-    let more = one_more c.args.magnitude c.args.f c.loop-margin.places c.loop-margin.invariant.within (fails c) in
+    let more = place_left c.args.magnitude c.args.f c.loop-margin.places c.loop-margin.invariant.within (fails c) in
     omega arith
 
 pub loop-margin-preserved : goal.loop-margin-preserved
 loop-margin-preserved c =
     let l = c.loop-margin in
-    let more = one_more c.args.magnitude c.args.f l.places l.invariant.within (fails c) in
+    let more = place_left c.args.magnitude c.args.f l.places l.invariant.within (fails c) in
     let unit = unit_is c.args.f c.requires in
     let below = l.invariant.rest.below in
     record {

@@ -70,20 +70,20 @@ module _ {M : Type 1} {𝓤 : Ura M} (𝓛 : Logic 𝓤) (at_mem : Memory → SP
 -- ---- the walk
 
 -- a body behind its first statement
-abbrev behind : Body → Body
-behind skip = skip
-behind (seq first rest) = rest
-behind (assign p r) = skip
-behind (block b) = skip
-behind (loop b) = skip
-behind (cond o a b) = skip
-behind (switch o rows) = skip
-behind (exit n) = skip
-behind return = skip
-behind (call p f args) = skip
-behind (call_v p f d args) = skip
-behind unreachable = skip
-behind (lend_static p s t) = skip
+abbrev after_first : Body → Body
+after_first skip = skip
+after_first (seq first rest) = rest
+after_first (assign p r) = skip
+after_first (block b) = skip
+after_first (loop b) = skip
+after_first (cond o a b) = skip
+after_first (switch o rows) = skip
+after_first (exit n) = skip
+after_first return = skip
+after_first (call p f args) = skip
+after_first (call_v p f d args) = skip
+after_first unreachable = skip
+after_first (lend_static p s t) = skip
 
 module _ (Z : Al) where
   abbrev args : Args
@@ -137,7 +137,7 @@ module _ (Z : Al) {M : Type 1} {𝓤 : Ura M} (𝓛 : Logic 𝓤) (at_mem : Memo
         suffices ! _ (ends_at 𝓛 (ended Z) (stayed Z) held bound (answer_val false 0 0) (Err (record {})) (tt, (tt, (tt, tt))) (tt, (tt, (tt, tt)))) $
         use0 𝓛 (‵ (Answer.own_val (Err (record {})) (answer_val false 0 0 ∷ []))) (Answer-err 𝓛) $ nothing ! $ nothing ! $ fjoin ! $ nothing ! $ fjoin ! $ nothing ! $ fjoin ! $ join ! $
         move ! (2 ∷ 3 ∷ []) $ join ! $ join ! $ done !)
-        (λ t. skips ! $ exec ! 𝓣.C 𝓣.Λ (env (here Z).locals l) (behind (behind (behind (here Z).body))) (at_ret (env (here Z).locals l) ((walk_of 𝓛 (ended Z) (stayed Z) held).post bound)) $ move ! (1 ∷ []) $
+        (λ t. skips ! $ exec ! 𝓣.C 𝓣.Λ (env (here Z).locals l) (after_first (after_first (after_first (here Z).body))) (at_ret (env (here Z).locals l) ((walk_of 𝓛 (ended Z) (stayed Z) held).post bound)) $ move ! (1 ∷ []) $
         sets ! (addr ! (through ! refl (fld ! refl (stop !)))) refl (tt, tt) $
         use2 𝓛 (raw ((Takes Z 𝓛 at_mem run).pre y)) (Takes-goes Z 𝓛 at_mem run κ₁ q₁ p h (⊑_trans κ₁ κ₂ Z.row.lives inn le) n a τ said.0 said.1 fn fa) $
         calls_at ! (fm_of 𝓤 H 𝓛.laws 𝓣) (Takes Z 𝓛 at_mem run) tk y (and_then ! (get ! refl) (and_then ! (get ! refl) (and_then ! (get ! refl) (no_more !)))) (λ v.

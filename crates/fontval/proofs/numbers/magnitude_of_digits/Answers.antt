@@ -1,8 +1,8 @@
 use Rattle.std.proofs.Common.{◌^◌, ◌∙◌, arith}
 use Rattle.std.proofs.lemmas.Int.Digits.{digits_more}
 use Rattle.std.proofs.lemmas.Str.Parse.{digit_at}
-use Rattle.fontval.proofs.WholeLemmas.{one_digit_more}
-use Rattle.fontval.proofs.numbers.magnitude.Goals as goal
+use Rattle.fontval.proofs.WholeLemmas.{bounded_digit_more}
+use Rattle.fontval.proofs.numbers.magnitude_of_digits.Goals as goal
 
 pub returns-then-not-is_ascii_digit : goal.returns-then-not-is_ascii_digit
 returns-then-not-is_ascii_digit c = λ whole.
@@ -11,7 +11,7 @@ returns-then-not-is_ascii_digit c = λ whole.
 
 pub loop-digit-preserved : goal.loop-digit-preserved
 loop-digit-preserved c = record {
-  number = c.min-number.ensures ∙ one_digit_more c.args.digits.now c.loop-digit.digit-index c.loop-digit.number c.from.result (2 ^ 40) c.loop-digit-test.true
+  number = c.min-number.ensures ∙ bounded_digit_more c.args.digits.now c.loop-digit.digit-index c.loop-digit.number c.from.result (2 ^ 40) c.loop-digit-test.true
       c.if-not-is_ascii_digit.ensures.cases c.loop-digit.invariant.number c.from.ensures;
   judged = digits_more 10 c.args.digits.now c.loop-digit.digit-index c.loop-digit-test.true c.loop-digit.invariant.judged c.if-not-is_ascii_digit.ensures.bound;
 }

@@ -2,7 +2,7 @@ use Rattle.std.proofs.Common.{rules, refl, arith}
 use Rattle.std.proofs.lemmas.Str.{IsUtf8-from_ascii}
 use Rattle.std.specs.Str.{IsAscii, IsNotAscii}
 use Rattle.font_types.proofs.Callers.{decimal_is_ascii}
-use Rattle.fontval.proofs.parse.decimal_text.Goals as goal
+use Rattle.fontval.proofs.parse.text_of_decimal.Goals as goal
 
 pub returns-then-not-is_ascii : goal.returns-then-not-is_ascii
 returns-then-not-is_ascii c =

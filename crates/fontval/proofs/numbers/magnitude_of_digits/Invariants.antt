@@ -1,6 +1,6 @@
 use Rattle.std.proofs.Common.{◌≡◌, ◌^◌, take, min}
 use Rattle.std.specs.Str.Parse.{digits_value, AllDigits}
-use Rattle.fontval.proofs.numbers.magnitude.Given as goal
+use Rattle.fontval.proofs.numbers.magnitude_of_digits.Given as goal
 
 abbrev pub invariant-loop-digit : goal.invariant-loop-digit
 invariant-loop-digit l = record {
