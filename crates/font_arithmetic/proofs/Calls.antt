@@ -16,13 +16,16 @@ pub wrap-signed_fits : (w : Width) (z : ℤ) → SFits w z → wrap (bits w) z �
 wrap-signed_fits w z fits = wrap-fits (bits w) z (bits_positive w) (signed_fits w z fits)
 
 pub wrap-add_zero : (w : Width) (z : ℤ) → SFits w z → wrap (bits w) (z +ℤ pos 0) ≡ z
-wrap-add_zero w z fits = let same : (z +ℤ pos 0) ≡ z = omega (arith, ints) in ap (wrap (bits w)) same ∙ wrap-signed_fits w z fits
+wrap-add_zero w z fits = let same : (z +ℤ pos 0) ≡ z = omega (arith, ints) in
+    ap (wrap (bits w)) same ∙ wrap-signed_fits w z fits
 
 pub wrap-zero_add : (w : Width) (z : ℤ) → SFits w z → wrap (bits w) (pos 0 +ℤ z) ≡ z
-wrap-zero_add w z fits = let same : (pos 0 +ℤ z) ≡ z = omega (arith, ints) in ap (wrap (bits w)) same ∙ wrap-signed_fits w z fits
+wrap-zero_add w z fits = let same : (pos 0 +ℤ z) ≡ z = omega (arith, ints) in
+    ap (wrap (bits w)) same ∙ wrap-signed_fits w z fits
 
 pub wrap-sub_zero : (w : Width) (z : ℤ) → SFits w z → wrap (bits w) (z -ℤ pos 0) ≡ z
-wrap-sub_zero w z fits = let same : (z -ℤ pos 0) ≡ z = omega (arith, ints) in ap (wrap (bits w)) same ∙ wrap-signed_fits w z fits
+wrap-sub_zero w z fits = let same : (z -ℤ pos 0) ≡ z = omega (arith, ints) in
+    ap (wrap (bits w)) same ∙ wrap-signed_fits w z fits
 
 -- a whole number of steps needs no rounding
 pub near-times : (q : ℤ) (d : ℕ) → 0 < d → near (q *ℤ pos d) d ≡ q
@@ -32,7 +35,8 @@ pub near-times_left : (q : ℤ) (d : ℕ) → 0 < d → near (pos d *ℤ q) d �
 near-times_left q d some = ap (λ n. near n d) (*ℤ_comm (pos d) q) ∙ near-times q d some
 
 pub near-times_zero : (q : ℤ) (d : ℕ) → 0 < d → near (q *ℤ pos 0) d ≡ pos 0
-near-times_zero q d some = let none : (q *ℤ pos 0) ≡ (pos 0 *ℤ pos d) = omega (arith, ints) in ap (λ n. near n d) none ∙ near-times (pos 0) d some
+near-times_zero q d some = let none : (q *ℤ pos 0) ≡ (pos 0 *ℤ pos d) = omega (arith, ints) in
+    ap (λ n. near n d) none ∙ near-times (pos 0) d some
 
 pub near-zero_times : (q : ℤ) (d : ℕ) → 0 < d → near (pos 0 *ℤ q) d ≡ pos 0
 near-zero_times q d some = ap (λ n. near n d) (*ℤ_comm (pos 0) q) ∙ near-times_zero q d some

@@ -16,7 +16,8 @@ wrap-add_assoc w a b c some =
     wrap-add_left w (a +ℤ b) c some ∙ ap (wrap w) (omega (arith, ints)) ∙ sym (wrap-add_right w a (b +ℤ c) some)
 
 pub zero_is_neutral : (w : ℕ) (a : ℤ) → 0 < w → FitsBits w a → wrap w (a +ℤ pos 0) ≡ a
-zero_is_neutral w a some fits = let same : (a +ℤ pos 0) ≡ a = omega (arith, ints) in ap (wrap w) same ∙ wrap-fits w a some fits
+zero_is_neutral w a some fits = let same : (a +ℤ pos 0) ≡ a = omega (arith, ints) in
+    ap (wrap w) same ∙ wrap-fits w a some fits
 
 pub opposite_is_inverse : (w : ℕ) (a : ℤ) → 0 < w → wrap w (a +ℤ wrap w (neg_ℤ a)) ≡ wrap w (pos 0)
 opposite_is_inverse w a some = wrap-add_right w a (neg_ℤ a) some ∙ ap (wrap w) (omega (arith, ints))
@@ -31,14 +32,16 @@ no_rest p k d is = ap (λ y. p +ℤ y) (neg-times k d) ∙ cancels p (k *ℤ pos
 
 floor_unique : (f : ℕ) (b p q : ℤ) → IsFloor f b p → IsFloor f b q → p ≡ q
 floor_unique f b p q x y =
-    same_rest (2 ^ f) p q (neg_ℤ x.whole) (neg_ℤ y.whole) (near b p q (2 ^ f) x.low y.high) (near b q p (2 ^ f) y.low x.high)
+    same_rest (2 ^ f) p q (neg_ℤ x.whole) (neg_ℤ y.whole) (near b p q (2 ^ f) x.low y.high)
+        (near b q p (2 ^ f) y.low x.high)
     (no_rest p x.whole (2 ^ f) x.bits ∙ sym (no_rest q y.whole (2 ^ f) y.bits))
   where
     near : (b p q : ℤ) (d : ℕ) → p ≤ℤ b → b <ℤ (q +ℤ pos d) → p <ℤ (q +ℤ pos d)
     near b p q d low high = omega (arith, ints, low, high)
 
 pub floor_and_fract : (f : ℕ) (b p r : ℤ) → IsFloor f b p → IsFract f b r → (p +ℤ r) ≡ b
-floor_and_fract f b p r floor fract = omega (arith, ints, floor_unique f b p fract.floor floor fract.is_floor, fract.rest)
+floor_and_fract f b p r floor fract = omega
+    (arith, ints, floor_unique f b p fract.floor floor fract.is_floor, fract.rest)
 
 pub fract_is_below_one : (f : ℕ) (b r : ℤ) → IsFract f b r → (pos 0 ≤ℤ r) × (r <ℤ pos (2 ^ f))
 fract_is_below_one f b r fract =

@@ -1,5 +1,6 @@
 -- Quotients rounded with ties away from zero, as code has it: on magnitudes, with the sign put back and 32 bits kept.
-use Rattle.std.proofs.Common.{◌≡◌, ◌∙◌, sym, ap, refl, subst, ℕ, zero, suc, ◌+◌, ◌-◌, ◌*◌, ◌/◌, ◌%◌, ◌^◌, ◌<◌, Bool, true, false, not, ℤ, pos, negsuc, neg_ℤ, ◌*ℤ◌, unsigned_abs, arith, lit<, if◌then◌else◌}
+use Rattle.std.proofs.Common.{◌≡◌, ◌∙◌, sym, ap, refl, subst, ℕ, zero, suc, ◌+◌, ◌-◌, ◌*◌, ◌/◌, ◌%◌, ◌^◌, ◌<◌, Bool,
+    true, false, not, ℤ, pos, negsuc, neg_ℤ, ◌*ℤ◌, unsigned_abs, arith, lit<, if◌then◌else◌}
 use Rattle.std.proofs.lemmas.Int.{ints, to_z-of_z}
 use Rattle.std.proofs.lemmas.Nat.{div-add-mod'}
 use Rattle.std.proofs.Math.Nat.{mod-lt}
@@ -21,7 +22,8 @@ near_magnitude_code n d some =
     let rest : d % 2 < 2 = mod-lt d (lit< tt) in
     let parts = div-add-mod' (n + d / 2) d in
     let below : (n + d / 2) % d < d = mod-lt (n + d / 2) some in
-    rounded_unique n d ((n + d / 2) / d) (near_magnitude n d) (record { low = omega arith; high = omega arith }) (rounded_is n d some)
+    rounded_unique n d ((n + d / 2) / d) (near_magnitude n d) (record { low = omega arith; high = omega arith })
+        (rounded_is n d some)
 
 not_negative : (m : ℕ) → is_negative (pos m) ≡ false
 not_negative m = sym (false_is_lt (pos m) (pos 0) (omega arith))
@@ -33,13 +35,17 @@ product_signed (pos m) (negsuc n) = rw (not_negative m) refl
 product_signed (negsuc m) (pos n) = rw (not_negative n) refl
 product_signed (negsuc m) (negsuc n) = refl
 
-pub wrapped_near_from : (w : ℕ) (n : ℤ) (d : ℕ) (exact r : ℤ) → 0 < d → Near n d exact → r ≡ wrap w exact → IsWrappedNear w n d r
+pub wrapped_near_from : (w : ℕ) (n : ℤ) (d : ℕ) (exact r : ℤ) → 0 < d → Near n d exact → r ≡ wrap w exact
+    → IsWrappedNear w n d r
 wrapped_near_from w n d exact r some nearest wrapped =
-    record { exact = exact; nearest = nearest; wrapped = wrapped; is = wrapped ∙ ap (wrap w) (near_gives n d exact some nearest) }
+    record { exact = exact; nearest = nearest; wrapped = wrapped;
+        is = wrapped ∙ ap (wrap w) (near_gives n d exact some nearest) }
 
 -- a magnitude that is rounded, with its sign, and wrapped
-signed_is_near : (w : ℕ) (s : Bool) (n d m : ℕ) (r : ℤ) → 0 < d → m ≡ near_magnitude n d → r ≡ wrap w (signed s m) → IsWrappedNear w (signed s n) d r
-signed_is_near w s n d m r some near is = wrapped_near_from w (signed s n) d (signed s m) r some (near_from s n d m some (rw near (rounded_is n d some))) is
+signed_is_near : (w : ℕ) (s : Bool) (n d m : ℕ) (r : ℤ) → 0 < d → m ≡ near_magnitude n d → r ≡ wrap w (signed s m)
+    → IsWrappedNear w (signed s n) d r
+signed_is_near w s n d m r some near is = wrapped_near_from w (signed s n) d (signed s m) r some
+    (near_from s n d m some (rw near (rounded_is n d some))) is
 
 signed_not : (s : Bool) (n : ℕ) → neg_ℤ (signed s n) ≡ signed (not s) n
 signed_not false n = refl
@@ -65,19 +71,24 @@ ends_fit true = record { low = omega (arith, ints); high = omega (arith, ints) }
 ends_fit false = record { low = omega (arith, ints); high = omega (arith, ints) }
 
 is_mul_div : (x a c r : ℤ) (s : Bool) (m : ℕ) → s ≡ differ (differ_in_sign x a) (is_negative c)
-    → (0 < unsigned_abs c → m ≡ near_magnitude (unsigned_abs x * unsigned_abs a) (unsigned_abs c)) → (unsigned_abs c ≡ 0 → m ≡ 2 ^ 31 - 1)
+    → (0 < unsigned_abs c → m ≡ near_magnitude (unsigned_abs x * unsigned_abs a) (unsigned_abs c))
+    → (unsigned_abs c ≡ 0 → m ≡ 2 ^ 31 - 1)
     → r ≡ wrap 32 (signed s m) → IsMulDiv 32 x a c r
 is_mul_div x a (pos zero) r s m sign near by_zero is =
     let flag : s ≡ differ_in_sign x a = sign ∙ differ_false (differ_in_sign x a) in
     let top : m ≡ 2 ^ 31 - 1 = by_zero refl in
-    is ∙ rw (flag, top) (wrap-fits 32 (signed (differ_in_sign x a) (2 ^ 31 - 1)) (lit< tt) (ends_fit (differ_in_sign x a)))
+    is ∙ rw (flag, top) (wrap-fits 32 (signed (differ_in_sign x a) (2 ^ 31 - 1)) (lit< tt)
+        (ends_fit (differ_in_sign x a)))
 is_mul_div x a (pos (suc c)) r s m sign near by_zero is =
-    let flag : s ≡ differ_in_sign x a = sign ∙ ap (differ (differ_in_sign x a)) (not_negative (suc c)) ∙ differ_false (differ_in_sign x a) in
+    let flag : s ≡ differ_in_sign x a = sign ∙ ap (differ (differ_in_sign x a)) (not_negative (suc c)) ∙ differ_false
+        (differ_in_sign x a) in
     subst (λ (n : ℤ). IsWrappedNear 32 n (suc c) r) (rw flag (sym (product_signed x a)))
     (signed_is_near 32 s (unsigned_abs x * unsigned_abs a) (suc c) m r (omega arith) (near (omega arith)) is)
 is_mul_div x a (negsuc c) r s m sign near by_zero is =
     let flag : s ≡ not (differ_in_sign x a) = sign ∙ differ_true (differ_in_sign x a) in
-    subst (λ (n : ℤ). IsWrappedNear 32 n (suc c) r) (rw flag (sym (ap neg_ℤ (product_signed x a) ∙ signed_not (differ_in_sign x a) (unsigned_abs x * unsigned_abs a))))
+    subst (λ (n : ℤ). IsWrappedNear 32 n (suc c) r)
+        (rw flag (sym (ap neg_ℤ (product_signed x a)
+            ∙ signed_not (differ_in_sign x a) (unsigned_abs x * unsigned_abs a))))
     (signed_is_near 32 s (unsigned_abs x * unsigned_abs a) (suc c) m r (omega arith) (near (omega arith)) is)
 
 differ_not_same : (s t : Bool) → not (beq s t) ≡ differ s t
@@ -87,19 +98,25 @@ differ_not_same false true = refl
 differ_not_same false false = refl
 
 -- the same from the signs and magnitudes as the code has them
-pub signed_is_mul_div : (x a c r : ℤ) (s t : Bool) (m i j k : ℕ) → s ≡ differ_in_sign x a → t ≡ is_negative c → i ≡ unsigned_abs x → j ≡ unsigned_abs a → k ≡ unsigned_abs c
-    → (0 < k → m ≡ near_magnitude (i * j) k) → (k ≡ 0 → m ≡ 2 ^ 31 - 1) → r ≡ wrap 32 (signed (not (beq s t)) m) → IsMulDiv 32 x a c r
+pub signed_is_mul_div : (x a c r : ℤ) (s t : Bool) (m i j k : ℕ) → s ≡ differ_in_sign x a → t ≡ is_negative c
+    → i ≡ unsigned_abs x → j ≡ unsigned_abs a → k ≡ unsigned_abs c
+    → (0 < k → m ≡ near_magnitude (i * j) k) → (k ≡ 0 → m ≡ 2 ^ 31 - 1) → r ≡ wrap 32 (signed (not (beq s t)) m)
+    → IsMulDiv 32 x a c r
 signed_is_mul_div x a c r s t m i j k both one first second third near by_zero is =
     is_mul_div x a c r (not (beq s t)) m (differ_not_same s t ∙ rw (both, one) refl)
-    (λ some. near (subst (λ (n : ℕ). 0 < n) (sym third) some) ∙ rw (first, second, third) refl) (λ none. by_zero (third ∙ none)) is
+    (λ some. near (subst (λ (n : ℕ). 0 < n) (sym third) some) ∙ rw (first, second, third) refl)
+        (λ none. by_zero (third ∙ none)) is
 
 -- ---- a magnitude of which 32 bits are kept, and its sign
 
-pub low_bits-signed : (s : Bool) (m : ℕ) (r : ℤ) → s ≡ false → SFits w32 r → r ≡ to_z w32 (m % 2 ^ 32) → to_z w32 (of_z w32 r) ≡ wrap 32 (signed s m)
+pub low_bits-signed : (s : Bool) (m : ℕ) (r : ℤ) → s ≡ false → SFits w32 r → r ≡ to_z w32 (m % 2 ^ 32)
+    → to_z w32 (of_z w32 r) ≡ wrap 32 (signed s m)
 low_bits-signed s m r plain fits is = to_z-of_z w32 r fits ∙ low_bits-wrap w32 m r is ∙ rw plain refl
 
-pub low_bits-negated : (s : Bool) (m : ℕ) (bits r : ℤ) → s ≡ true → SFits w32 bits → bits ≡ to_z w32 (m % 2 ^ 32) → r ≡ wrap 32 (neg_ℤ (to_z w32 (of_z w32 bits))) → r ≡ wrap 32 (signed s m)
+pub low_bits-negated : (s : Bool) (m : ℕ) (bits r : ℤ) → s ≡ true → SFits w32 bits → bits ≡ to_z w32 (m % 2 ^ 32)
+    → r ≡ wrap 32 (neg_ℤ (to_z w32 (of_z w32 bits))) → r ≡ wrap 32 (signed s m)
 low_bits-negated s m bits r minus fits is opposite =
-    opposite ∙ ap (λ y. wrap 32 (neg_ℤ y)) (to_z-of_z w32 bits fits ∙ low_bits-wrap w32 m bits is) ∙ wrap-neg 32 (pos m) (lit< tt) ∙ rw minus refl
+    opposite ∙ ap (λ y. wrap 32 (neg_ℤ y)) (to_z-of_z w32 bits fits ∙ low_bits-wrap w32 m bits is) ∙ wrap-neg 32 (pos m)
+        (lit< tt) ∙ rw minus refl
 
 pub ruleset signed_code = (low_bits-signed, low_bits-negated)

@@ -1,5 +1,7 @@
--- Products rounded with ties away from zero, as code has it: half a step is added, less one where the product is negative, and the sum is shifted.
-use Rattle.std.proofs.Common.{◌≡◌, ◌∙◌, sym, ap, refl, ℕ, suc, ◌+◌, ◌-◌, ◌*◌, ◌%◌, ◌^◌, ◌<◌, ◌≤◌, Bool, true, false, ℤ, pos, negsuc, neg_ℤ, ◌+ℤ◌, ◌-ℤ◌, ◌*ℤ◌, ◌≤ℤ◌, ◌<ℤ◌, unsigned_abs, arith, lit<}
+-- Products rounded with ties away from zero, as code has it: half a step is added, less one where the product is
+-- negative, and the sum is shifted.
+use Rattle.std.proofs.Common.{◌≡◌, ◌∙◌, sym, ap, refl, ℕ, suc, ◌+◌, ◌-◌, ◌*◌, ◌%◌, ◌^◌, ◌<◌, ◌≤◌, Bool, true, false, ℤ,
+    pos, negsuc, neg_ℤ, ◌+ℤ◌, ◌-ℤ◌, ◌*ℤ◌, ◌≤ℤ◌, ◌<ℤ◌, unsigned_abs, arith, lit<}
 use Rattle.std.proofs.lemmas.Int.{ints, to_z-of_z}
 use Rattle.std.proofs.lemmas.Nat.{pow_pos}
 use Rattle.std.proofs.Math.Nat.{mul-le-mul}
@@ -24,7 +26,8 @@ use Rattle.font_arithmetic.proofs.Quotients.{product_signed, wrapped_near_from}
 pub products_fit : (x y : ℤ) → SFits w32 x → SFits w32 y → SFits w64 (x *ℤ y)
 products_fit x y f g =
     let small : unsigned_abs x * unsigned_abs y ≤ 2 ^ 31 * 2 ^ 31 =
-    mul-le-mul {n₁ = unsigned_abs x} {m₁ = unsigned_abs y} {n₂ = 2 ^ 31} {m₂ = 2 ^ 31} (omega (arith, ints, f, abs_is x)) (omega (arith, ints, g, abs_is y)) in
+    mul-le-mul {n₁ = unsigned_abs x} {m₁ = unsigned_abs y} {n₂ = 2 ^ 31} {m₂ = 2 ^ 31}
+        (omega (arith, ints, f, abs_is x)) (omega (arith, ints, g, abs_is y)) in
     rw (product_signed x y) (either (differ_in_sign x y) (unsigned_abs x * unsigned_abs y) (omega (arith, small)))
   where
     either : (s : Bool) (n : ℕ) → n ≤ 2 ^ 62 → SFits w64 (signed s n)
@@ -40,44 +43,54 @@ abs_times (negsuc m) d = abs_neg (suc m * d)
     abs_neg : (n : ℕ) → unsigned_abs (neg_ℤ (pos n)) ≡ n
     abs_neg n = omega (arith, ints)
 
-near_from_above : (n p : ℤ) (k d half : ℕ) → d ≡ half + half → 0 < half → pos 0 ≤ℤ n → k ≡ unsigned_abs p → p ≤ℤ (n +ℤ pos half) → (n +ℤ pos half) <ℤ (p +ℤ pos d)
+near_from_above : (n p : ℤ) (k d half : ℕ) → d ≡ half + half → 0 < half → pos 0 ≤ℤ n → k ≡ unsigned_abs p
+    → p ≤ℤ (n +ℤ pos half) → (n +ℤ pos half) <ℤ (p +ℤ pos d)
     → (2 * unsigned_abs (p -ℤ n) ≤ d) × (2 * unsigned_abs (p -ℤ n) ≡ d → unsigned_abs n < k)
-near_from_above n p k d half halves some sign is low high = (omega (arith, ints, halves, low, high), λ tie. omega (arith, ints, halves, some, sign, is, low, high, tie))
+near_from_above n p k d half halves some sign is low high =
+    (omega (arith, ints, halves, low, high), λ tie. omega (arith, ints, halves, some, sign, is, low, high, tie))
 
-near_from_below : (n p : ℤ) (k d less : ℕ) → d ≡ (less + 1) + (less + 1) → n <ℤ pos 0 → k ≡ unsigned_abs p → p ≤ℤ (n +ℤ pos less) → (n +ℤ pos less) <ℤ (p +ℤ pos d)
+near_from_below : (n p : ℤ) (k d less : ℕ) → d ≡ (less + 1) + (less + 1) → n <ℤ pos 0 → k ≡ unsigned_abs p
+    → p ≤ℤ (n +ℤ pos less) → (n +ℤ pos less) <ℤ (p +ℤ pos d)
     → (2 * unsigned_abs (p -ℤ n) ≤ d) × (2 * unsigned_abs (p -ℤ n) ≡ d → unsigned_abs n < k)
-near_from_below n p k d less halves sign is low high = (omega (arith, ints, halves, sign, low, high), λ tie. omega (arith, ints, halves, sign, is, low, high, tie))
+near_from_below n p k d less halves sign is low high =
+    (omega (arith, ints, halves, sign, low, high), λ tie. omega (arith, ints, halves, sign, is, low, high, tie))
 
 -- the shift of a sum that fits
-module _ (n : ℤ) (more d : ℕ) (some : 0 < d) (fits : SFits w64 n) (small : unsigned_abs n ≤ 2 ^ 62) (step : more ≤ 2 ^ 32) where
+module _ (n : ℤ) (more d : ℕ) (some : 0 < d) (fits : SFits w64 n) (small : unsigned_abs n ≤ 2 ^ 62)
+    (step : more ≤ 2 ^ 32) where
   shifted : ℤ
   shifted = shr_z (n +ℤ pos more) d
 
   sum_fits : SFits w64 (n +ℤ pos more)
   sum_fits = omega (arith, ints, small, step, abs_is n)
 
-  unfolded : to_z w64 (of_z w64 (shr_z (to_z w64 (of_z w64 (to_z w64 (of_z w64 n) +ℤ pos more))) d)) ≡ shr_z (n +ℤ pos more) d
+  unfolded : to_z w64 (of_z w64 (shr_z (to_z w64 (of_z w64 (to_z w64 (of_z w64 n) +ℤ pos more))) d)) ≡ shr_z
+      (n +ℤ pos more) d
   unfolded =
       ap (λ y. to_z w64 (of_z w64 (shr_z (to_z w64 (of_z w64 (y +ℤ pos more))) d))) (to_z-of_z w64 n fits)
       ∙ ap (λ y. to_z w64 (of_z w64 (shr_z y d))) (to_z-of_z w64 (n +ℤ pos more) sum_fits)
       ∙ to_z-of_z w64 (shr_z (n +ℤ pos more) d) (shr_fits w64 (n +ℤ pos more) d sum_fits)
 
-pub shr_is_near_above : (n : ℤ) (half d : ℕ) → SFits w64 n → unsigned_abs n ≤ 2 ^ 62 → lt_z (to_z w64 (of_z w64 n)) (pos 0) ≡ false → half ≤ 2 ^ 32 → 0 < half → d ≡ half + half
+pub shr_is_near_above : (n : ℤ) (half d : ℕ) → SFits w64 n → unsigned_abs n ≤ 2 ^ 62 → lt_z (to_z w64 (of_z w64 n))
+    (pos 0) ≡ false → half ≤ 2 ^ 32 → 0 < half → d ≡ half + half
     → to_z w64 (of_z w64 (shr_z (to_z w64 (of_z w64 (to_z w64 (of_z w64 n) +ℤ pos half))) d)) ≡ near n d
 shr_is_near_above n half d fits small sign step some halves =
     let positive : 0 < d = omega (arith, some, halves) in
     let q = shr_z (n +ℤ pos half) d in
     let above : pos 0 ≤ℤ n = let same = to_z-of_z w64 n fits in omega (arith, ints, sign, same) in
-    let near = near_from_above n (q *ℤ pos d) (unsigned_abs q * d) d half halves some above (sym (abs_times q d)) (shr_low (n +ℤ pos half) d positive) (shr_high (n +ℤ pos half) d positive) in
+    let near = near_from_above n (q *ℤ pos d) (unsigned_abs q * d) d half halves some above (sym (abs_times q d))
+        (shr_low (n +ℤ pos half) d positive) (shr_high (n +ℤ pos half) d positive) in
     unfolded n half d positive fits small step ∙ near_gives n d q positive (record { close = near.0; away = near.1 })
 
-pub shr_is_near_below : (n : ℤ) (less d : ℕ) → SFits w64 n → unsigned_abs n ≤ 2 ^ 62 → lt_z (to_z w64 (of_z w64 n)) (pos 0) ≡ true → less ≤ 2 ^ 32 → d ≡ (less + 1) + (less + 1)
+pub shr_is_near_below : (n : ℤ) (less d : ℕ) → SFits w64 n → unsigned_abs n ≤ 2 ^ 62 → lt_z (to_z w64 (of_z w64 n))
+    (pos 0) ≡ true → less ≤ 2 ^ 32 → d ≡ (less + 1) + (less + 1)
     → to_z w64 (of_z w64 (shr_z (to_z w64 (of_z w64 (to_z w64 (of_z w64 n) +ℤ pos less))) d)) ≡ near n d
 shr_is_near_below n less d fits small sign step halves =
     let positive : 0 < d = omega (arith, halves) in
     let q = shr_z (n +ℤ pos less) d in
     let below : n <ℤ pos 0 = let same = to_z-of_z w64 n fits in omega (arith, ints, sign, same) in
-    let near = near_from_below n (q *ℤ pos d) (unsigned_abs q * d) d less halves below (sym (abs_times q d)) (shr_low (n +ℤ pos less) d positive) (shr_high (n +ℤ pos less) d positive) in
+    let near = near_from_below n (q *ℤ pos d) (unsigned_abs q * d) d less halves below (sym (abs_times q d))
+        (shr_low (n +ℤ pos less) d positive) (shr_high (n +ℤ pos less) d positive) in
     unfolded n less d positive fits small step ∙ near_gives n d q positive (record { close = near.0; away = near.1 })
 
 -- the wrapped answer is a rounded one
@@ -108,14 +121,21 @@ less_one h some small =
     let fits : SFits w64 (pos (h - 1)) = omega (arith, ints, small) in
     rw is (to_z-of_z w64 (pos (h - 1)) fits)
 
-pub shifted_above : (n : ℤ) (f : ℕ) → SFits w64 n → unsigned_abs n ≤ 2 ^ 62 → lt_z (to_z w64 (of_z w64 n)) (pos 0) ≡ false → 6 ≤ f → f ≤ 30
-    → to_z w64 (of_z w64 (shr_z (to_z w64 (of_z w64 (to_z w64 (of_z w64 n) +ℤ to_z w64 (1 * 2 ^ (f - 1) % 18446744073709551616)))) (2 ^ f))) ≡ near n (2 ^ f)
+pub shifted_above : (n : ℤ) (f : ℕ) → SFits w64 n → unsigned_abs n ≤ 2 ^ 62 → lt_z (to_z w64 (of_z w64 n)) (pos 0)
+    ≡ false → 6 ≤ f → f ≤ 30
+    → to_z w64 (of_z w64 (shr_z
+    (to_z w64 (of_z w64 (to_z w64 (of_z w64 n) +ℤ to_z w64 (1 * 2 ^ (f - 1) % 18446744073709551616)))) (2 ^ f)))
+        ≡ near n (2 ^ f)
 shifted_above n f fits small sign many few =
     let bound = half_small f few in
-    rw (half_is f few) (shr_is_near_above n (2 ^ (f - 1)) (2 ^ f) fits small sign (omega (arith, bound)) (pow_pos (f - 1)) (halves f many))
+    rw (half_is f few) (shr_is_near_above n (2 ^ (f - 1)) (2 ^ f) fits small sign (omega (arith, bound))
+        (pow_pos (f - 1)) (halves f many))
 
-pub shifted_below : (n : ℤ) (f : ℕ) → SFits w64 n → unsigned_abs n ≤ 2 ^ 62 → lt_z (to_z w64 (of_z w64 n)) (pos 0) ≡ true → 6 ≤ f → f ≤ 30
-    → to_z w64 (of_z w64 (shr_z (to_z w64 (of_z w64 (to_z w64 (of_z w64 n) +ℤ to_z w64 (of_z w64 (to_z w64 (1 * 2 ^ (f - 1) % 18446744073709551616) -ℤ pos 1))))) (2 ^ f))) ≡ near n (2 ^ f)
+pub shifted_below : (n : ℤ) (f : ℕ) → SFits w64 n → unsigned_abs n ≤ 2 ^ 62 → lt_z (to_z w64 (of_z w64 n)) (pos 0)
+    ≡ true → 6 ≤ f → f ≤ 30
+    → to_z w64 (of_z w64 (shr_z
+    (to_z w64 (of_z w64 (to_z w64 (of_z w64 n) +ℤ to_z w64
+        (of_z w64 (to_z w64 (1 * 2 ^ (f - 1) % 18446744073709551616) -ℤ pos 1))))) (2 ^ f))) ≡ near n (2 ^ f)
 shifted_below n f fits small sign many few =
     let bound = half_small f few in
     let some = pow_pos (f - 1) in
@@ -125,8 +145,10 @@ shifted_below n f fits small sign many few =
 
 -- ---- the product as code has it: rounded in 64 bits, of which 32 are kept
 
-pub product_32 : (x y a b m l : ℤ) (d : ℕ) → SFits w32 x → SFits w32 y → l ≡ wrap 32 (to_z w64 (of_z w64 m)) → m ≡ near (to_z w64 (of_z w64 (to_z w64 (of_z w64 a) *ℤ to_z w64 (of_z w64 b)))) d
-    → a ≡ to_z w32 (of_z w32 x) → b ≡ to_z w32 (of_z w32 y) → SFits w64 m → SFits w32 l → 0 < d → IsWrappedNear 32 (x *ℤ y) d (to_z w32 (of_z w32 l))
+pub product_32 : (x y a b m l : ℤ) (d : ℕ) → SFits w32 x → SFits w32 y → l ≡ wrap 32 (to_z w64 (of_z w64 m))
+    → m ≡ near (to_z w64 (of_z w64 (to_z w64 (of_z w64 a) *ℤ to_z w64 (of_z w64 b)))) d
+    → a ≡ to_z w32 (of_z w32 x) → b ≡ to_z w32 (of_z w32 y) → SFits w64 m → SFits w32 l → 0 < d
+    → IsWrappedNear 32 (x *ℤ y) d (to_z w32 (of_z w32 l))
 product_32 x y a b m l d f g is rounded first second wide narrow some =
     let first_is : a ≡ x = first ∙ to_z-of_z w32 x f in
     let second_is : b ≡ y = second ∙ to_z-of_z w32 y g in
@@ -134,5 +156,7 @@ product_32 x y a b m l d f g is rounded first second wide narrow some =
     let first_wide : SFits w64 x = omega (arith, ints, f) in
     let second_wide : SFits w64 y = omega (arith, ints, g) in
     let exact : m ≡ near (x *ℤ y) d =
-    rounded ∙ rw (first_is, second_is, to_z-of_z w64 x first_wide, to_z-of_z w64 y second_wide, to_z-of_z w64 (x *ℤ y) product) refl in
-    near_is_wrapped_near 32 (x *ℤ y) d _ some (to_z-of_z w32 l narrow ∙ is ∙ ap (wrap 32) (to_z-of_z w64 m wide ∙ exact))
+    rounded ∙ rw (first_is, second_is, to_z-of_z w64 x first_wide, to_z-of_z w64 y second_wide,
+        to_z-of_z w64 (x *ℤ y) product) refl in
+    near_is_wrapped_near 32 (x *ℤ y) d _ some
+        (to_z-of_z w32 l narrow ∙ is ∙ ap (wrap 32) (to_z-of_z w64 m wide ∙ exact))

@@ -1,5 +1,6 @@
 -- What a decimal text is read as, from the number that the reader gives.
-use Rattle.std.proofs.Common.{◌≡◌, ◌∙◌, sym, ap, subst, ℕ, ◌^◌, ◌≤◌, List, ℤ, ◌≤ℤ◌, ◌-◌, length, max, unsigned_abs, Option, IsSome, Result, Ok, Err, IfOk, ◌↔◌, arith}
+use Rattle.std.proofs.Common.{◌≡◌, ◌∙◌, sym, ap, subst, ℕ, ◌^◌, ◌≤◌, List, ℤ, ◌≤ℤ◌, ◌-◌, length, max, unsigned_abs,
+    Option, IsSome, Result, Ok, Err, IfOk, ◌↔◌, arith}
 use Rattle.std.proofs.lemmas.Int.{ints, to_z-of_z}
 use Rattle.std.proofs.lemmas.Nat.{pow_pos}
 use Rattle.std.specs.Int.{Width, w64}
@@ -21,7 +22,8 @@ use Rattle.font_arithmetic.specs.Operations.{least, greatest, ReadsAs, ReadingGi
 use Rattle.font_arithmetic.specs.Reading.{ReadsBy}
 
 -- the number is cast to the type of the bits
-pub cast_reads : (w : Width) (f : ℕ) (text : List ℕ) (b min max : ℤ) → 2 ^ hbits w ≤ 2 ^ 63 → min ≡ least (bits w) → max ≡ greatest (bits w) → Reads text f min max b
+pub cast_reads : (w : Width) (f : ℕ) (text : List ℕ) (b min max : ℤ) → 2 ^ hbits w ≤ 2 ^ 63 → min ≡ least (bits w)
+    → max ≡ greatest (bits w) → Reads text f min max b
     → ReadsAs (bits w) f text (to_z w (of_z w (to_z w64 (of_z w64 b))))
 cast_reads w f text b min max room low high reads =
     let half = half_range-bits w in
@@ -38,7 +40,8 @@ printed_reads w f b room fits =
     record { rounds = printed_rounds b f below; low = fits.low; high = omega (arith, ints, fits.high) }
 
 -- and in a type of its own
-pub printed_is_read_as : {T : Type 0} (bits_of : T → ℤ) (of_bits : ℤ → T) → ((x : T) → of_bits (bits_of x) ≡ x) → (w f : ℕ) (text : List ℕ) (result : Result T DecimalFault)
+pub printed_is_read_as : {T : Type 0} (bits_of : T → ℤ) (of_bits : ℤ → T) → ((x : T) → of_bits (bits_of x) ≡ x)
+    → (w f : ℕ) (text : List ℕ) (result : Result T DecimalFault)
     → 2 ^ (w - 1) ≤ 2 ^ 63 → ReadingGives w f text (result_map_both bits_of (λ fault. fault) result)
     → (x : T) → FitsBits w (bits_of x) → text ≡ shortest_text (bits_of x) f → result ≡ Ok x
 printed_is_read_as bits_of of_bits back w f text (Ok y) room gives x fits same =
@@ -46,13 +49,17 @@ printed_is_read_as bits_of of_bits back w f text (Ok y) room gives x fits same =
     let equal : bits_of y ≡ bits_of x = rounds_unique text f (bits_of y) (bits_of x) gives.rounds reads.rounds in
     ap Ok (sym (back y) ∙ ap of_bits equal ∙ back x)
 printed_is_read_as bits_of of_bits back w f text (Err fault) room gives x fits same =
-    let reading : IsReading text f (least w) (greatest w) (Ok (bits_of x)) = rw same (printed_reads w f (bits_of x) room fits) in
+    let reading : IsReading text f (least w) (greatest w) (Ok (bits_of x)) = rw same
+        (printed_reads w f (bits_of x) room fits) in
     let equal = reading_unique text f (least w) (greatest w) (Err fault) (Ok (bits_of x)) gives reading in
     absurd (cc)
 
--- the padded text of a number of at most 64 bits finds room in a cell of 23 bytes, or of the width where that is greater
-pub padded_has_room : (w : Width) (b : ℤ) (f : ℕ) (pad : Pad) (old : List ℕ) (result : Option ℕ) → 2 ^ hbits w ≤ 2 ^ 63 → SFits w b → f ≤ 30
-    → IsSome result ↔ (length (padded_text (shortest_text b f) pad) ≤ length old) → max 23 pad.width ≤ length old → IsSome result
+-- the padded text of a number of at most 64 bits finds room in a cell of 23 bytes, or of the width where that is
+-- greater
+pub padded_has_room : (w : Width) (b : ℤ) (f : ℕ) (pad : Pad) (old : List ℕ) (result : Option ℕ) → 2 ^ hbits w ≤ 2 ^ 63
+    → SFits w b → f ≤ 30
+    → IsSome result ↔ (length (padded_text (shortest_text b f) pad) ≤ length old) → max 23 pad.width ≤ length old
+    → IsSome result
 padded_has_room w b f pad old result small fits few room cell =
     let below : unsigned_abs b ≤ 2 ^ 63 = omega (arith, ints, fits, abs_is b, small) in
     room.1 (padded_fits (shortest_text b f) pad (length old) (shortest_length b f below few) cell)
@@ -62,31 +69,38 @@ padded_has_room w b f pad old result small fits few room cell =
 abbrev pub as_bits : {T : Type 0} → (T → ℤ) → Result T DecimalFault → Result ℤ DecimalFault
 as_bits bits_of result = result_map_both bits_of (λ fault. fault) result
 
-same_result : {T : Type 0} (bits_of : T → ℤ) (of_bits : ℤ → T) → ((x : T) → of_bits (bits_of x) ≡ x) → (q r : Result T DecimalFault)
+same_result : {T : Type 0} (bits_of : T → ℤ) (of_bits : ℤ → T) → ((x : T) → of_bits (bits_of x) ≡ x)
+    → (q r : Result T DecimalFault)
     → as_bits bits_of q ≡ as_bits bits_of r → q ≡ r
-same_result bits_of of_bits back (Ok x) (Ok y) same = let equal : bits_of x ≡ bits_of y = cc in ap Ok (sym (back x) ∙ ap of_bits equal ∙ back y)
+same_result bits_of of_bits back (Ok x) (Ok y) same = let equal : bits_of x ≡ bits_of y = cc in
+    ap Ok (sym (back x) ∙ ap of_bits equal ∙ back y)
 same_result bits_of of_bits back (Ok x) (Err d) same = absurd (cc)
 same_result bits_of of_bits back (Err c) (Ok y) same = absurd (cc)
 same_result bits_of of_bits back (Err c) (Err d) same = cc
 
-if_ok_reads : {T : Type 0} (w f : ℕ) (bits_of : T → ℤ) (text : List ℕ) (q : Result T DecimalFault) → ReadingGives w f text (as_bits bits_of q)
+if_ok_reads : {T : Type 0} (w f : ℕ) (bits_of : T → ℤ) (text : List ℕ) (q : Result T DecimalFault)
+    → ReadingGives w f text (as_bits bits_of q)
     → IfOk q (λ x. ReadsAs w f text (bits_of x))
 if_ok_reads w f bits_of text (Ok x) gives = gives
 if_ok_reads w f bits_of text (Err fault) gives = tt
 
 -- all that callers know of a reading, from what it comes to in bits
-pub reads_by : {T : Type 0} (w : Width) (f : ℕ) (bits_of : T → ℤ) (of_bits : ℤ → T) (text : List ℕ) (q : Result T DecimalFault)
-    → ((x : T) → of_bits (bits_of x) ≡ x) → 2 ^ hbits w ≤ 2 ^ 63 → ReadingGives (bits w) f text (as_bits bits_of q) → ReadsBy w f bits_of text q
+pub reads_by : {T : Type 0} (w : Width) (f : ℕ) (bits_of : T → ℤ) (of_bits : ℤ → T) (text : List ℕ)
+    (q : Result T DecimalFault)
+    → ((x : T) → of_bits (bits_of x) ≡ x) → 2 ^ hbits w ≤ 2 ^ 63 → ReadingGives (bits w) f text (as_bits bits_of q)
+    → ReadsBy w f bits_of text q
 reads_by {T} w f bits_of of_bits text q back room gives =
     let half : 2 ^ (bits w - 1) ≤ 2 ^ 63 = rw (half_range-bits w) room in
     let only : (r : Result T DecimalFault) → (q ≡ r) ↔ ReadingGives (bits w) f text (as_bits bits_of r)
-    = λ r. let answer = answers_as text f (least (bits w)) (greatest (bits w)) (as_bits bits_of q) (as_bits bits_of r) gives in
+    = λ r. let answer = answers_as text f (least (bits w)) (greatest (bits w)) (as_bits bits_of q)
+        (as_bits bits_of r) gives in
     (λ same. answer.0 (ap (as_bits bits_of) same), λ other. same_result bits_of of_bits back q r (answer.1 other)) in
     record {
       ok = λ x. only (Ok x);
       reads = if_ok_reads (bits w) f bits_of text q gives;
       gives = gives;
-      printed = λ x fits same. printed_is_read_as bits_of of_bits back (bits w) f text q half gives x (signed_fits w (bits_of x) fits) same;
+      printed = λ x fits same. printed_is_read_as bits_of of_bits back (bits w) f text q half gives x
+          (signed_fits w (bits_of x) fits) same;
       out_of_range = only (Err OutOfRange);
       syntax = only (Err Syntax);
     }

@@ -1,6 +1,7 @@
--- What the file of a type of 16 bits names once, so that its calls need no answers: what std's calls and steps of code on 16 bits give, in the form
--- that goals have, over every fraction.
-use Rattle.std.proofs.Common.{◌≡◌, ℕ, ◌+◌, ◌-◌, ◌*◌, ◌/◌, ◌%◌, ◌^◌, ◌≤◌, ℤ, pos, neg_ℤ, ◌+ℤ◌, ◌-ℤ◌, ◌*ℤ◌, unsigned_abs, IsTrue, lit<, lit≤, length, max, List, Option, IsSome, ◌↔◌}
+-- What the file of a type of 16 bits names once, so that its calls need no answers: what std's calls and steps of code
+-- on 16 bits give, in the form that goals have, over every fraction.
+use Rattle.std.proofs.Common.{◌≡◌, ℕ, ◌+◌, ◌-◌, ◌*◌, ◌/◌, ◌%◌, ◌^◌, ◌≤◌, ℤ, pos, neg_ℤ, ◌+ℤ◌, ◌-ℤ◌, ◌*ℤ◌, unsigned_abs,
+    IsTrue, lit<, lit≤, length, max, List, Option, IsSome, ◌↔◌}
 use Rattle.std.specs.Int.{w16, int_wrapping_neg, int_rem_euclid}
 use lib.Signed.{shr_z}
 use mir.Val.{SFits, to_z, of_z}
@@ -11,39 +12,49 @@ use Rattle.font_decimal.specs.Shortest.{shortest_text}
 use Rattle.font_decimal.specs.declared.padding.Pad.{Pad}
 use Rattle.font_arithmetic.proofs.Texts.{padded_has_room}
 use Rattle.font_arithmetic.specs.Operations.{IsFloor, IsFract, IsNearestWhole, IsNarrowed}
-use Rattle.font_arithmetic.proofs.Wrapped.{wrapping_add-wrap, wrapping_sub-wrap, wrapping_neg-wrap, wrapping_abs-wrap, rem_euclid_is_fract, wrapping_mul-wrap}
+use Rattle.font_arithmetic.proofs.Wrapped.{wrapping_add-wrap, wrapping_sub-wrap, wrapping_neg-wrap, wrapping_abs-wrap,
+    rem_euclid_is_fract, wrapping_mul-wrap}
 use Rattle.font_arithmetic.proofs.Calls.{wrap-signed_fits, wrap-add_zero, wrap-zero_add, wrap-sub_zero}
 use Rattle.font_arithmetic.proofs.Narrowing.{is_width_split, floor_is_nearest_whole, shr_is_narrowed}
 
 pub sum_16 : (x y : ℤ) → SFits w16 x → SFits w16 y → to_z w16 ((of_z w16 x + of_z w16 y) % 65536) ≡ wrap 16 (x +ℤ y)
 sum_16 x y f g = wrapping_add-wrap w16 x y f g
 
-pub difference_16 : (x y : ℤ) → SFits w16 x → SFits w16 y → to_z w16 ((of_z w16 x + (65536 - of_z w16 y)) % 65536) ≡ wrap 16 (x -ℤ y)
+pub difference_16 : (x y : ℤ) → SFits w16 x → SFits w16 y → to_z w16 ((of_z w16 x + (65536 - of_z w16 y)) % 65536)
+    ≡ wrap 16 (x -ℤ y)
 difference_16 x y f g = wrapping_sub-wrap w16 x y f g
 
-pub negated_16 : (x r : ℤ) → SFits w16 x → SFits w16 r → r ≡ int_wrapping_neg w16 (to_z w16 (of_z w16 x)) → to_z w16 (of_z w16 r) ≡ wrap 16 (neg_ℤ x)
+pub negated_16 : (x r : ℤ) → SFits w16 x → SFits w16 r → r ≡ int_wrapping_neg w16 (to_z w16 (of_z w16 x))
+    → to_z w16 (of_z w16 r) ≡ wrap 16 (neg_ℤ x)
 negated_16 x r f g is = wrapping_neg-wrap w16 x r f g is
 
-pub abs_16 : (x r : ℤ) → SFits w16 x → r ≡ to_z w16 (unsigned_abs (to_z w16 (of_z w16 x))) → to_z w16 (of_z w16 r) ≡ wrap 16 (pos (unsigned_abs x))
+pub abs_16 : (x r : ℤ) → SFits w16 x → r ≡ to_z w16 (unsigned_abs (to_z w16 (of_z w16 x)))
+    → to_z w16 (of_z w16 r) ≡ wrap 16 (pos (unsigned_abs x))
 abs_16 x r f is = wrapping_abs-wrap w16 x r f is
 
-pub fract_16 : (f d : ℕ) (x r : ℤ) → d ≡ 2 ^ f → 2 ^ f ≤ 2 ^ 15 → SFits w16 x → r ≡ int_rem_euclid (to_z w16 (of_z w16 x)) (pos d) → IsFract f x (to_z w16 (of_z w16 r))
+pub fract_16 : (f d : ℕ) (x r : ℤ) → d ≡ 2 ^ f → 2 ^ f ≤ 2 ^ 15 → SFits w16 x
+    → r ≡ int_rem_euclid (to_z w16 (of_z w16 x)) (pos d) → IsFract f x (to_z w16 (of_z w16 r))
 fract_16 f d x r step room fits is = rem_euclid_is_fract w16 f d x r step room fits is
 
-pub nearest_whole_16 : (f : ℕ) (x s r : ℤ) → s ≡ wrap 16 (x +ℤ pos (2 ^ f / 2)) → IsFloor f s r → IsTrue (is_width_split 16 (16 - f) (2 ^ f) (2 ^ f / 2)) → IsNearestWhole 16 f x r
+pub nearest_whole_16 : (f : ℕ) (x s r : ℤ) → s ≡ wrap 16 (x +ℤ pos (2 ^ f / 2)) → IsFloor f s r
+    → IsTrue (is_width_split 16 (16 - f) (2 ^ f) (2 ^ f / 2)) → IsNearestWhole 16 f x r
 nearest_whole_16 f x s r is floor test = floor_is_nearest_whole 16 f (2 ^ f / 2) x s r (lit< tt) test is floor
 
-pub narrowed_16 : (v d half : ℕ) (x s : ℤ) → SFits w16 s → s ≡ wrap 16 (x +ℤ pos half) → IsTrue (is_width_split 16 v d half) → IsNarrowed v x d (to_z w16 (of_z w16 (shr_z (to_z w16 (of_z w16 s)) d)))
+pub narrowed_16 : (v d half : ℕ) (x s : ℤ) → SFits w16 s → s ≡ wrap 16 (x +ℤ pos half)
+    → IsTrue (is_width_split 16 v d half) → IsNarrowed v x d (to_z w16 (of_z w16 (shr_z (to_z w16 (of_z w16 s)) d)))
 narrowed_16 v d half x s fits is test = shr_is_narrowed w16 v d half x s test fits is
 
-pub scaled_16 : (x : ℤ) (d : ℕ) → SFits w16 x → SFits w16 (pos d) → to_z w16 (of_z w16 x * d % 65536) ≡ wrap 16 (x *ℤ pos d)
+pub scaled_16 : (x : ℤ) (d : ℕ) → SFits w16 x → SFits w16 (pos d) → to_z w16 (of_z w16 x * d % 65536) ≡ wrap 16
+    (x *ℤ pos d)
 scaled_16 x d f g = wrapping_mul-wrap w16 x d f g
 
-pub cell_16 : (b : ℤ) (f : ℕ) (pad : Pad) (old : List ℕ) (result : Option ℕ) → IsSome result ↔ (length (padded_text (shortest_text b f) pad) ≤ length old) → SFits w16 b → f ≤ 30
+pub cell_16 : (b : ℤ) (f : ℕ) (pad : Pad) (old : List ℕ) (result : Option ℕ)
+    → IsSome result ↔ (length (padded_text (shortest_text b f) pad) ≤ length old) → SFits w16 b → f ≤ 30
     → max 23 pad.width ≤ length old → IsSome result
 cell_16 b f pad old result room fits few cell = padded_has_room w16 b f pad old result (lit≤ tt) fits few room cell
 
-pub ruleset code_16 = (sum_16, difference_16, negated_16, abs_16, fract_16, nearest_whole_16, narrowed_16, scaled_16, cell_16, shortest_is_decimal)
+pub ruleset code_16 = (sum_16, difference_16, negated_16, abs_16, fract_16, nearest_whole_16, narrowed_16, scaled_16,
+    cell_16, shortest_is_decimal)
 
 -- ---- for callers: a sum with zero, and wrapping of what fits
 

@@ -1,6 +1,7 @@
--- What the file of a type of 32 bits names once, so that its calls need no answers: what std's calls and steps of code on 32 bits give, in the form
--- that goals have, over every fraction.
-use Rattle.std.proofs.Common.{◌≡◌, ap, ◌∙◌, ℕ, ◌+◌, ◌-◌, ◌*◌, ◌/◌, ◌%◌, ◌^◌, ◌≤◌, ℤ, pos, neg_ℤ, ◌+ℤ◌, ◌-ℤ◌, ◌*ℤ◌, unsigned_abs, IsTrue, lit<, lit≤, length, max, List, Option, IsSome, ◌↔◌}
+-- What the file of a type of 32 bits names once, so that its calls need no answers: what std's calls and steps of code
+-- on 32 bits give, in the form that goals have, over every fraction.
+use Rattle.std.proofs.Common.{◌≡◌, ap, ◌∙◌, ℕ, ◌+◌, ◌-◌, ◌*◌, ◌/◌, ◌%◌, ◌^◌, ◌≤◌, ℤ, pos, neg_ℤ, ◌+ℤ◌, ◌-ℤ◌, ◌*ℤ◌,
+    unsigned_abs, IsTrue, lit<, lit≤, length, max, List, Option, IsSome, ◌↔◌}
 use Rattle.std.proofs.lemmas.Int.{to_z-of_z}
 use Rattle.std.specs.Int.{w32, int_wrapping_neg, int_rem_euclid}
 use lib.Signed.{shr_z}
@@ -14,35 +15,45 @@ use Rattle.font_decimal.specs.Shortest.{shortest_text}
 use Rattle.font_decimal.specs.declared.padding.Pad.{Pad}
 use Rattle.font_arithmetic.proofs.Texts.{padded_has_room}
 use Rattle.font_arithmetic.specs.Operations.{IsFloor, IsFract, IsNearestWhole, IsNarrowed}
-use Rattle.font_arithmetic.proofs.Wrapped.{wrapping_add-wrap, wrapping_sub-wrap, wrapping_neg-wrap, wrapping_abs-wrap, rem_euclid_is_fract, wrapping_mul-wrap}
+use Rattle.font_arithmetic.proofs.Wrapped.{wrapping_add-wrap, wrapping_sub-wrap, wrapping_neg-wrap, wrapping_abs-wrap,
+    rem_euclid_is_fract, wrapping_mul-wrap}
 use Rattle.font_arithmetic.proofs.Calls.{wrap-signed_fits, wrap-add_zero, wrap-zero_add, wrap-sub_zero}
 use Rattle.font_arithmetic.proofs.Narrowing.{is_width_split, floor_is_nearest_whole, shr_is_narrowed}
 
-pub sum_32 : (x y : ℤ) → SFits w32 x → SFits w32 y → to_z w32 ((of_z w32 x + of_z w32 y) % 4294967296) ≡ wrap 32 (x +ℤ y)
+pub sum_32 : (x y : ℤ) → SFits w32 x → SFits w32 y → to_z w32 ((of_z w32 x + of_z w32 y) % 4294967296) ≡ wrap 32
+    (x +ℤ y)
 sum_32 x y f g = wrapping_add-wrap w32 x y f g
 
-pub difference_32 : (x y : ℤ) → SFits w32 x → SFits w32 y → to_z w32 ((of_z w32 x + (4294967296 - of_z w32 y)) % 4294967296) ≡ wrap 32 (x -ℤ y)
+pub difference_32 : (x y : ℤ) → SFits w32 x → SFits w32 y
+    → to_z w32 ((of_z w32 x + (4294967296 - of_z w32 y)) % 4294967296) ≡ wrap 32 (x -ℤ y)
 difference_32 x y f g = wrapping_sub-wrap w32 x y f g
 
-pub negated_32 : (x r : ℤ) → SFits w32 x → SFits w32 r → r ≡ int_wrapping_neg w32 (to_z w32 (of_z w32 x)) → to_z w32 (of_z w32 r) ≡ wrap 32 (neg_ℤ x)
+pub negated_32 : (x r : ℤ) → SFits w32 x → SFits w32 r → r ≡ int_wrapping_neg w32 (to_z w32 (of_z w32 x))
+    → to_z w32 (of_z w32 r) ≡ wrap 32 (neg_ℤ x)
 negated_32 x r f g is = wrapping_neg-wrap w32 x r f g is
 
-pub abs_32 : (x r : ℤ) → SFits w32 x → r ≡ to_z w32 (unsigned_abs (to_z w32 (of_z w32 x))) → to_z w32 (of_z w32 r) ≡ wrap 32 (pos (unsigned_abs x))
+pub abs_32 : (x r : ℤ) → SFits w32 x → r ≡ to_z w32 (unsigned_abs (to_z w32 (of_z w32 x)))
+    → to_z w32 (of_z w32 r) ≡ wrap 32 (pos (unsigned_abs x))
 abs_32 x r f is = wrapping_abs-wrap w32 x r f is
 
-pub fract_32 : (f d : ℕ) (x r : ℤ) → d ≡ 2 ^ f → 2 ^ f ≤ 2 ^ 31 → SFits w32 x → r ≡ int_rem_euclid (to_z w32 (of_z w32 x)) (pos d) → IsFract f x (to_z w32 (of_z w32 r))
+pub fract_32 : (f d : ℕ) (x r : ℤ) → d ≡ 2 ^ f → 2 ^ f ≤ 2 ^ 31 → SFits w32 x
+    → r ≡ int_rem_euclid (to_z w32 (of_z w32 x)) (pos d) → IsFract f x (to_z w32 (of_z w32 r))
 fract_32 f d x r step room fits is = rem_euclid_is_fract w32 f d x r step room fits is
 
-pub nearest_whole_32 : (f : ℕ) (x s r : ℤ) → s ≡ wrap 32 (x +ℤ pos (2 ^ f / 2)) → IsFloor f s r → IsTrue (is_width_split 32 (32 - f) (2 ^ f) (2 ^ f / 2)) → IsNearestWhole 32 f x r
+pub nearest_whole_32 : (f : ℕ) (x s r : ℤ) → s ≡ wrap 32 (x +ℤ pos (2 ^ f / 2)) → IsFloor f s r
+    → IsTrue (is_width_split 32 (32 - f) (2 ^ f) (2 ^ f / 2)) → IsNearestWhole 32 f x r
 nearest_whole_32 f x s r is floor test = floor_is_nearest_whole 32 f (2 ^ f / 2) x s r (lit< tt) test is floor
 
-pub narrowed_32 : (v d half : ℕ) (x s : ℤ) → SFits w32 s → s ≡ wrap 32 (x +ℤ pos half) → IsTrue (is_width_split 32 v d half) → IsNarrowed v x d (to_z w32 (of_z w32 (shr_z (to_z w32 (of_z w32 s)) d)))
+pub narrowed_32 : (v d half : ℕ) (x s : ℤ) → SFits w32 s → s ≡ wrap 32 (x +ℤ pos half)
+    → IsTrue (is_width_split 32 v d half) → IsNarrowed v x d (to_z w32 (of_z w32 (shr_z (to_z w32 (of_z w32 s)) d)))
 narrowed_32 v d half x s fits is test = shr_is_narrowed w32 v d half x s test fits is
 
-pub scaled_32 : (x : ℤ) (d : ℕ) → SFits w32 x → SFits w32 (pos d) → to_z w32 (of_z w32 x * d % 4294967296) ≡ wrap 32 (x *ℤ pos d)
+pub scaled_32 : (x : ℤ) (d : ℕ) → SFits w32 x → SFits w32 (pos d) → to_z w32 (of_z w32 x * d % 4294967296) ≡ wrap 32
+    (x *ℤ pos d)
 scaled_32 x d f g = wrapping_mul-wrap w32 x d f g
 
-pub cell_32 : (b : ℤ) (f : ℕ) (pad : Pad) (old : List ℕ) (result : Option ℕ) → IsSome result ↔ (length (padded_text (shortest_text b f) pad) ≤ length old) → SFits w32 b → f ≤ 30
+pub cell_32 : (b : ℤ) (f : ℕ) (pad : Pad) (old : List ℕ) (result : Option ℕ)
+    → IsSome result ↔ (length (padded_text (shortest_text b f) pad) ≤ length old) → SFits w32 b → f ≤ 30
     → max 23 pad.width ≤ length old → IsSome result
 cell_32 b f pad old result room fits few cell = padded_has_room w32 b f pad old result (lit≤ tt) fits few room cell
 
@@ -50,7 +61,8 @@ cell_32 b f pad old result room fits few cell = padded_has_room w32 b f pad old 
 pub bytes_32 : (v : ℤ) (bytes : List ℕ) → SFits w32 v → bytes ≡ bytes_of 4 (to_z w32 (of_z w32 v)) → IsBytesOf 4 v bytes
 bytes_32 v bytes fits is = bytes_of_are 4 v bytes (is ∙ ap (bytes_of 4) (to_z-of_z w32 v fits))
 
-pub ruleset code_32 = (sum_32, difference_32, negated_32, abs_32, fract_32, nearest_whole_32, narrowed_32, scaled_32, cell_32, shortest_is_decimal)
+pub ruleset code_32 = (sum_32, difference_32, negated_32, abs_32, fract_32, nearest_whole_32, narrowed_32, scaled_32,
+    cell_32, shortest_is_decimal)
 
 -- ---- for callers: a sum with zero, and wrapping of what fits
 

@@ -1,5 +1,6 @@
 -- What std's calls on the bits of a number give, in the words of `wrap`.
-use Rattle.std.proofs.Common.{◌≡◌, ◌∙◌, sym, ap, refl, subst, ℕ, ◌*◌, ◌/◌, ◌%◌, ◌^◌, ◌<◌, ◌≤◌, ℤ, pos, neg_ℤ, ◌+ℤ◌, ◌-ℤ◌, ◌*ℤ◌, unsigned_abs, arith}
+use Rattle.std.proofs.Common.{◌≡◌, ◌∙◌, sym, ap, refl, subst, ℕ, ◌*◌, ◌/◌, ◌%◌, ◌^◌, ◌<◌, ◌≤◌, ℤ, pos, neg_ℤ, ◌+ℤ◌,
+    ◌-ℤ◌, ◌*ℤ◌, unsigned_abs, arith}
 use Rattle.std.proofs.lemmas.Int.{ints, to_z-of_z, wrapping_add_is, wrapping_sub_is, wrapping_mul_onto, wrapping_neg_is}
 use Rattle.std.proofs.lemmas.Nat.{pow_pos, div-add-mod'}
 use Rattle.std.proofs.Math.Nat.{mod-lt}
@@ -20,37 +21,45 @@ pub wrapping_sub-wrap : (w : Width) (x y : ℤ) → SFits w x → SFits w y → 
 wrapping_sub-wrap w x y f g = wrapping_sub_is w x y f g ∙ int_wrap-wrap w (x -ℤ y)
 
 -- a negated number that wraps
-pub wrapping_neg-wrap : (w : Width) (x r : ℤ) → SFits w x → SFits w r → r ≡ int_wrapping_neg w (to_z w (of_z w x)) → to_z w (of_z w r) ≡ wrap (bits w) (neg_ℤ x)
+pub wrapping_neg-wrap : (w : Width) (x r : ℤ) → SFits w x → SFits w r → r ≡ int_wrapping_neg w (to_z w (of_z w x))
+    → to_z w (of_z w r) ≡ wrap (bits w) (neg_ℤ x)
 wrapping_neg-wrap w x r f g is =
     to_z-of_z w r g ∙ is ∙ ap (int_wrapping_neg w) (to_z-of_z w x f) ∙ wrapping_neg_is w x f ∙ int_wrap-wrap w (neg_ℤ x)
 
 -- a magnitude that is read as a signed number
-pub wrapping_abs-wrap : (w : Width) (x r : ℤ) → SFits w x → r ≡ to_z w (unsigned_abs (to_z w (of_z w x))) → to_z w (of_z w r) ≡ wrap (bits w) (pos (unsigned_abs x))
+pub wrapping_abs-wrap : (w : Width) (x r : ℤ) → SFits w x → r ≡ to_z w (unsigned_abs (to_z w (of_z w x)))
+    → to_z w (of_z w r) ≡ wrap (bits w) (pos (unsigned_abs x))
 wrapping_abs-wrap w x r f is =
     let same : r ≡ to_z w (unsigned_abs x) = is ∙ ap (λ y. to_z w (unsigned_abs y)) (to_z-of_z w x f) in
     let half = half_range-bits w in
     let whole = two_halves (bits w) (bits_positive w) in
     let below : unsigned_abs x < 2 ^ bits w = omega (arith, ints, f, half, whole, abs_is x, pow_pos (hbits w)) in
-    to_z-of_z w r (subst (SFits w) (sym same) (sfits_to_z (Fits-of_lt below))) ∙ same ∙ to_z-wrap w (unsigned_abs x) below
+    to_z-of_z w r (subst (SFits w) (sym same) (sfits_to_z (Fits-of_lt below))) ∙ same ∙ to_z-wrap w
+        (unsigned_abs x) below
 
 -- a number times a constant
-pub wrapping_mul-wrap : (w : Width) (x : ℤ) (d : ℕ) → SFits w x → SFits w (pos d) → to_z w (of_z w x * d % 2 ^ bits w) ≡ wrap (bits w) (x *ℤ pos d)
+pub wrapping_mul-wrap : (w : Width) (x : ℤ) (d : ℕ) → SFits w x → SFits w (pos d) → to_z w (of_z w x * d % 2 ^ bits w)
+    ≡ wrap (bits w) (x *ℤ pos d)
 wrapping_mul-wrap w x d f g =
-    wrapping_mul_onto w (of_z w x) (pos d) (Fits-of_z f).fits g ∙ ap (λ y. int_wrap w (y *ℤ pos d)) (to_z-of_z w x f) ∙ int_wrap-wrap w (x *ℤ pos d)
+    wrapping_mul_onto w (of_z w x) (pos d) (Fits-of_z f).fits g ∙ ap (λ y. int_wrap w (y *ℤ pos d)) (to_z-of_z w x f)
+        ∙ int_wrap-wrap w (x *ℤ pos d)
 
 -- the low bits of a magnitude
 pub low_bits-wrap : (w : Width) (m : ℕ) (r : ℤ) → r ≡ to_z w (m % 2 ^ bits w) → r ≡ wrap (bits w) (pos m)
 low_bits-wrap w m r is =
     is ∙ to_z-wrap w (m % 2 ^ bits w) (mod-lt m (pow_pos (bits w)))
-    ∙ sym (wrap_same (bits w) (pos m) (pos (m % 2 ^ bits w)) (pos (m / 2 ^ bits w)) (bits_positive w) (omega (arith, ints, div-add-mod' m (2 ^ bits w))))
+    ∙ sym (wrap_same (bits w) (pos m) (pos (m % 2 ^ bits w)) (pos (m / 2 ^ bits w)) (bits_positive w)
+    (omega (arith, ints, div-add-mod' m (2 ^ bits w))))
 
 -- the rest behind the greatest multiple that is not above
-pub rem_euclid_is_fract : (w : Width) (f d : ℕ) (x r : ℤ) → d ≡ 2 ^ f → 2 ^ f ≤ 2 ^ hbits w → SFits w x → r ≡ int_rem_euclid (to_z w (of_z w x)) (pos d) → IsFract f x (to_z w (of_z w r))
+pub rem_euclid_is_fract : (w : Width) (f d : ℕ) (x r : ℤ) → d ≡ 2 ^ f → 2 ^ f ≤ 2 ^ hbits w → SFits w x
+    → r ≡ int_rem_euclid (to_z w (of_z w x)) (pos d) → IsFract f x (to_z w (of_z w r))
 unfolding fract_of
 rem_euclid_is_fract w f d x r step room fits is =
     let parts = remainder x (2 ^ f) (pow_pos f) in
     let below = parts.below in
-    let same : r ≡ pos parts.rest = is ∙ ap (λ n. int_rem_euclid (to_z w (of_z w x)) (pos n)) step ∙ ap (λ y. int_rem_euclid y (pos (2 ^ f))) (to_z-of_z w x fits) ∙ parts.is in
+    let same : r ≡ pos parts.rest = is ∙ ap (λ n. int_rem_euclid (to_z w (of_z w x)) (pos n)) step ∙ ap
+        (λ y. int_rem_euclid y (pos (2 ^ f))) (to_z-of_z w x fits) ∙ parts.is in
     let small : SFits w (pos parts.rest) = record { sfits = omega arith } in
     rw (same, to_z-of_z w (pos parts.rest) small) (record {
       floor = parts.turns *ℤ pos (2 ^ f);
@@ -66,13 +75,16 @@ rem_euclid_is_fract w f d x r step room fits is =
     })
 
 -- the last bits of a number, by the remainder
-pub rem_euclid-wrap : (v w : Width) (n e r : ℤ) → 2 ^ bits v ≤ 2 ^ hbits w → SFits w n → e ≡ int_rem_euclid (to_z w (of_z w n)) (pos (2 ^ bits v))
+pub rem_euclid-wrap : (v w : Width) (n e r : ℤ) → 2 ^ bits v ≤ 2 ^ hbits w → SFits w n
+    → e ≡ int_rem_euclid (to_z w (of_z w n)) (pos (2 ^ bits v))
     → r ≡ to_z v (unsigned_abs (to_z w (of_z w e))) → to_z v (of_z v r) ≡ wrap (bits v) n
 rem_euclid-wrap v w n e r room fits is cast =
     let parts = remainder n (2 ^ bits v) (pow_pos (bits v)) in
-    let rest : e ≡ pos parts.rest = is ∙ ap (λ y. int_rem_euclid y (pos (2 ^ bits v))) (to_z-of_z w n fits) ∙ parts.is in
+    let rest : e ≡ pos parts.rest = is ∙ ap (λ y. int_rem_euclid y (pos (2 ^ bits v))) (to_z-of_z w n fits)
+        ∙ parts.is in
     let below = parts.below in
     let small : SFits w (pos parts.rest) = record { sfits = omega arith } in
-    let kept : r ≡ to_z v parts.rest = cast ∙ ap (λ y. to_z v (unsigned_abs (to_z w (of_z w y)))) rest ∙ ap (λ y. to_z v (unsigned_abs y)) (to_z-of_z w (pos parts.rest) small) in
+    let kept : r ≡ to_z v parts.rest = cast ∙ ap (λ y. to_z v (unsigned_abs (to_z w (of_z w y)))) rest ∙ ap
+        (λ y. to_z v (unsigned_abs y)) (to_z-of_z w (pos parts.rest) small) in
     to_z-of_z v r (subst (SFits v) (sym kept) (sfits_to_z (Fits-of_lt below))) ∙ kept ∙ to_z-wrap v parts.rest below
     ∙ sym (wrap_same (bits v) n (pos parts.rest) parts.turns (bits_positive v) parts.parts)

@@ -1,4 +1,5 @@
--- Laws of products and quotients, over the bits of numbers with w bits and f bits of fraction: what calls give, and how their answers agree.
+-- Laws of products and quotients, over the bits of numbers with w bits and f bits of fraction: what calls give, and how
+-- their answers agree.
 use Rattle.std.specs.Prelude.{◌≡◌, ◌≢◌, ℕ, ◌^◌, List, [], ◌∷◌, ℤ, pos}
 use Rattle.font_arithmetic.specs.Operations.{IsProduct, IsQuotient, IsMulDiv}
 

@@ -1,6 +1,7 @@
--- What each operation on fixed-point numbers gives, over their bits. A number of w bits with f bits of fraction stands for its bits
--- over 2^f (OpenType, data types: Fixed is 16.16, F2DOT14 is 2.14).
-use Rattle.std.specs.Prelude.{◌≡◌, ℕ, zero, suc, ◌-◌, ◌^◌, Bool, not, List, ℤ, pos, negsuc, neg_ℤ, ◌+ℤ◌, ◌-ℤ◌, ◌*ℤ◌, ◌≤ℤ◌, ◌<ℤ◌, Result, if◌then◌else◌}
+-- What each operation on fixed-point numbers gives, over their bits. A number of w bits with f bits of fraction stands
+-- for its bits over 2^f (OpenType, data types: Fixed is 16.16, F2DOT14 is 2.14).
+use Rattle.std.specs.Prelude.{◌≡◌, ℕ, zero, suc, ◌-◌, ◌^◌, Bool, not, List, ℤ, pos, negsuc, neg_ℤ, ◌+ℤ◌, ◌-ℤ◌, ◌*ℤ◌,
+    ◌≤ℤ◌, ◌<ℤ◌, Result, if◌then◌else◌}
 use Rattle.std.specs.Int.{is_negative, int_rem_euclid, saturate_to_bits}
 use Rattle.font_base.specs.Wrap.{half_range, wrap}
 use Rattle.font_decimal.specs.Near.{signed, Near, near, Up, up}
@@ -97,7 +98,8 @@ product_of w f x y = wrapped_near w (x *ℤ y) (2 ^ f)
 abbrev pub IsProduct : ℕ → ℕ → ℤ → ℤ → ℤ → Type 0
 IsProduct w f x y r = IsWrappedNear w (x *ℤ y) (2 ^ f) r
 
--- x * a / c rounded and wrapped. A zero divisor gives the greatest number of w bits, negated where just one of x and a is negative.
+-- x * a / c rounded and wrapped. A zero divisor gives the greatest number of w bits, negated where just one of x and a
+-- is negative.
 abbrev pub mul_div_of : ℕ → ℤ → ℤ → ℤ → ℤ
 mul_div_of w x a (pos zero) = signed (differ_in_sign x a) (half_range w - 1)
 mul_div_of w x a (pos (suc c)) = wrapped_near w (x *ℤ a) (suc c)

@@ -1,4 +1,5 @@
--- What callers of scalars and fields cite: the number of a 24-bit integer whose stored bytes are known, and a search that found no place.
+-- What callers of scalars and fields cite: the number of a 24-bit integer whose stored bytes are known, and a search
+-- that found no place.
 use Rattle.std.proofs.Common.{◌≡◌, ◌≢◌, ◌∙◌, ap, sym, arith, ℕ, List, get_or, lit<, inl, inr, Result, Ok, Err, IfErr}
 use Rattle.std.proofs.lemmas.Bool.{cases_lt}
 use Rattle.std.proofs.lemmas.List.Sorted.{searchable_from_sorted}
@@ -19,12 +20,14 @@ uint24_of_stored n bytes stored = sym (numeral-bytes_of 3 (uint24_number n) n.in
 
 pub int24_of_stored : (n : Int24) (bytes : List ℕ) → bytes_of_int24 n ≡ bytes → int24_number n ≡ signed_numeral 3 bytes
 int24_of_stored n bytes stored =
-    sym (signed_numeral-bytes_of 3 (int24_number n) (lit< tt) (record { low = n.low; high = n.high })) ∙ ap (signed_numeral 3) stored
+    sym (signed_numeral-bytes_of 3 (int24_number n) (lit< tt) (record { low = n.low; high = n.high })) ∙ ap
+        (signed_numeral 3) stored
 
 pub ruleset scalar_calls = (uint24_of_stored, int24_of_stored)
 
 -- where elements are in the order of their numbers, and a binary search answers no place, none has the number
-pub absent : {X : Type 0} (number_of : X → ℕ) (xs : List X) (n : ℕ) (result : Result ℕ ℕ) → IsSortedByKey number_of nat_cmp xs
+pub absent : {X : Type 0} (number_of : X → ℕ) (xs : List X) (n : ℕ) (result : Result ℕ ℕ)
+    → IsSortedByKey number_of nat_cmp xs
     → IsBinarySearchResult (λ x. nat_cmp (number_of x) n) xs result → IfErr result (λ _. All (λ x. number_of x ≢ n) xs)
 absent number_of xs n (Ok place) sorted searched = tt
 absent number_of xs n (Err place) sorted searched =

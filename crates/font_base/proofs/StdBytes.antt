@@ -1,5 +1,6 @@
 -- The bytes that std reads and writes, in the words of numerals.
-use Rattle.std.proofs.Common.{◌≡◌, ◌∙◌, sym, ap, refl, ℕ, zero, suc, ◌-◌, ◌*◌, ◌^◌, ◌<◌, ◌≤◌, ℤ, pos, negsuc, ◌+ℤ◌, ◌*ℤ◌, List, [], ◌∷◌, length, get_or, drop, ◌≢◌, Option, Result, Ok, Err, MatchResult, IfSome, arith, IsTrue, lit≤}
+use Rattle.std.proofs.Common.{◌≡◌, ◌∙◌, sym, ap, refl, ℕ, zero, suc, ◌-◌, ◌*◌, ◌^◌, ◌<◌, ◌≤◌, ℤ, pos, negsuc, ◌+ℤ◌,
+    ◌*ℤ◌, List, [], ◌∷◌, length, get_or, drop, ◌≢◌, Option, Result, Ok, Err, MatchResult, IfSome, arith, IsTrue, lit≤}
 use Rattle.std.proofs.lemmas.Int.{ints, to_z-of_z}
 use Rattle.std.proofs.Math.Nat.{mod-eq_of_lt}
 use Rattle.std.proofs.Math.Facts.{Fits-of_z, Fits-of_lt, sfits_to_z}
@@ -45,7 +46,8 @@ complement z whole n is below = omega (arith, ints, is)
 
 pub to_be_bytes-signed : (w : Width) (z : ℤ) → SFits w z → to_be_bytes w (of_z w z) ≡ bytes_of (byte_len w) z
 to_be_bytes-signed w z fits =
-    to_be_bytes-bytes_of w (of_z w z) (Fits-of_z fits).fits ∙ bytes_of-same (byte_len w) (pos (of_z w z)) z (wrapped_turns z) (turned w z fits)
+    to_be_bytes-bytes_of w (of_z w z) (Fits-of_z fits).fits ∙ bytes_of-same (byte_len w) (pos (of_z w z)) z
+        (wrapped_turns z) (turned w z fits)
   where
     wrapped_turns : ℤ → ℤ
     wrapped_turns (pos n) = pos 0
@@ -53,7 +55,8 @@ to_be_bytes-signed w z fits =
 
     turned : (w : Width) (z : ℤ) → SFits w z → pos (of_z w z) ≡ (z +ℤ (wrapped_turns z *ℤ pos (256 ^ byte_len w)))
     turned w (pos n) fits = omega (arith, ints)
-    turned w (negsuc n) fits = rw (byte_len-bits w) (complement (negsuc n) (2 ^ bits w) n refl (omega (arith, ints, fits, half_range_below w)))
+    turned w (negsuc n) fits = rw (byte_len-bits w)
+        (complement (negsuc n) (2 ^ bits w) n refl (omega (arith, ints, fits, half_range_below w)))
 
 -- the first n elements of a list, one by one
 items : ℕ → List ℕ → List ℕ
@@ -96,7 +99,8 @@ from_be_bytes-numeral_8 bytes many =
     ap (from_be_bytes w64) e ∙ same ∙ sym (ap numeral e)
 
 -- a cast of the bytes' number to the signed type
-pub to_z-signed_numeral : (w : Width) (bytes : List ℕ) → numeral bytes < 2 ^ bits w → to_z w (numeral bytes) ≡ signed_numeral (byte_len w) bytes
+pub to_z-signed_numeral : (w : Width) (bytes : List ℕ) → numeral bytes < 2 ^ bits w
+    → to_z w (numeral bytes) ≡ signed_numeral (byte_len w) bytes
 unfolding signed_numeral
 to_z-signed_numeral w bytes below =
     to_z-wrap w (numeral bytes) below ∙ ap (λ k. wrap k (pos (numeral bytes))) (bits-byte_len w)
@@ -118,19 +122,24 @@ signed_read w bytes n z below same is cast =
     let fits : SFits w z = rw cast (sfits_to_z (Fits-of_lt below)) in
     to_z-of_z w z fits ∙ cast ∙ ap (to_z w) number ∙ to_z-signed_numeral w bytes (rw (← number) below)
 
-signed_written : (w : Width) (z : ℤ) (bytes : List ℕ) → SFits w z → bytes ≡ to_be_bytes w (of_z w (to_z w (of_z w z))) → bytes ≡ bytes_of (byte_len w) z
-signed_written w z bytes fits is = is ∙ ap (λ y. to_be_bytes w (of_z w y)) (to_z-of_z w z fits) ∙ to_be_bytes-signed w z fits
+signed_written : (w : Width) (z : ℤ) (bytes : List ℕ) → SFits w z → bytes ≡ to_be_bytes w (of_z w (to_z w (of_z w z)))
+    → bytes ≡ bytes_of (byte_len w) z
+signed_written w z bytes fits is = is ∙ ap (λ y. to_be_bytes w (of_z w y)) (to_z-of_z w z fits)
+    ∙ to_be_bytes-signed w z fits
 
 -- std writes one byte as it is
 pub u8_written : (n : ℕ) (bytes : List ℕ) → n < 256 → bytes ≡ n ∷ [] → bytes ≡ bytes_of 1 (pos n)
 u8_written n bytes below is = is ∙ ap (λ b. b ∷ []) (sym (mod-eq_of_lt below)) ∙ to_be_bytes-bytes_of w8 n below
 
-pub i8_written : (z : ℤ) (bytes : List ℕ) → SFits w8 z → bytes ≡ of_z w8 (to_z w8 (of_z w8 z)) ∷ [] → bytes ≡ bytes_of 1 z
+pub i8_written : (z : ℤ) (bytes : List ℕ) → SFits w8 z → bytes ≡ of_z w8 (to_z w8 (of_z w8 z)) ∷ []
+    → bytes ≡ bytes_of 1 z
 i8_written z bytes fits is =
     let below = (Fits-of_z fits).fits in
-    is ∙ ap (λ y. of_z w8 y ∷ []) (to_z-of_z w8 z fits) ∙ ap (λ b. b ∷ []) (sym (mod-eq_of_lt below)) ∙ to_be_bytes-signed w8 z fits
+    is ∙ ap (λ y. of_z w8 y ∷ []) (to_z-of_z w8 z fits) ∙ ap (λ b. b ∷ []) (sym (mod-eq_of_lt below))
+        ∙ to_be_bytes-signed w8 z fits
 
-pub i8_read : (bytes : List ℕ) (n : ℕ) (z : ℤ) → length bytes ≡ 1 → n < 2 ^ 8 → n ≡ from_be_bytes w8 bytes → z ≡ to_z w8 n → to_z w8 (of_z w8 z) ≡ signed_numeral 1 bytes
+pub i8_read : (bytes : List ℕ) (n : ℕ) (z : ℤ) → length bytes ≡ 1 → n < 2 ^ 8 → n ≡ from_be_bytes w8 bytes
+    → z ≡ to_z w8 n → to_z w8 (of_z w8 z) ≡ signed_numeral 1 bytes
 i8_read bytes n z many below is cast = signed_read w8 bytes n z below (from_be_bytes-numeral_1 bytes many) is cast
 
 pub u16_read : (bytes : List ℕ) (n : ℕ) → length bytes ≡ 2 → n ≡ from_be_bytes w16 bytes → n ≡ numeral bytes
@@ -139,10 +148,12 @@ u16_read bytes n many is = is ∙ from_be_bytes-numeral_2 bytes many
 pub u16_written : (n : ℕ) (bytes : List ℕ) → n < 2 ^ 16 → bytes ≡ to_be_bytes w16 n → bytes ≡ bytes_of 2 (pos n)
 u16_written n bytes below is = is ∙ to_be_bytes-bytes_of w16 n below
 
-pub i16_read : (bytes : List ℕ) (n : ℕ) (z : ℤ) → length bytes ≡ 2 → n < 2 ^ 16 → n ≡ from_be_bytes w16 bytes → z ≡ to_z w16 n → to_z w16 (of_z w16 z) ≡ signed_numeral 2 bytes
+pub i16_read : (bytes : List ℕ) (n : ℕ) (z : ℤ) → length bytes ≡ 2 → n < 2 ^ 16 → n ≡ from_be_bytes w16 bytes
+    → z ≡ to_z w16 n → to_z w16 (of_z w16 z) ≡ signed_numeral 2 bytes
 i16_read bytes n z many below is cast = signed_read w16 bytes n z below (from_be_bytes-numeral_2 bytes many) is cast
 
-pub i16_written : (z : ℤ) (bytes : List ℕ) → SFits w16 z → bytes ≡ to_be_bytes w16 (of_z w16 (to_z w16 (of_z w16 z))) → bytes ≡ bytes_of 2 z
+pub i16_written : (z : ℤ) (bytes : List ℕ) → SFits w16 z → bytes ≡ to_be_bytes w16 (of_z w16 (to_z w16 (of_z w16 z)))
+    → bytes ≡ bytes_of 2 z
 i16_written z bytes fits is = signed_written w16 z bytes fits is
 
 pub u32_read : (bytes : List ℕ) (n : ℕ) → length bytes ≡ 4 → n ≡ from_be_bytes w32 bytes → n ≡ numeral bytes
@@ -151,16 +162,22 @@ u32_read bytes n many is = is ∙ from_be_bytes-numeral_4 bytes many
 pub u32_written : (n : ℕ) (bytes : List ℕ) → n < 2 ^ 32 → bytes ≡ to_be_bytes w32 n → bytes ≡ bytes_of 4 (pos n)
 u32_written n bytes below is = is ∙ to_be_bytes-bytes_of w32 n below
 
-pub i32_read : (bytes : List ℕ) (n : ℕ) (z : ℤ) → length bytes ≡ 4 → n < 2 ^ 32 → n ≡ from_be_bytes w32 bytes → z ≡ to_z w32 n → to_z w32 (of_z w32 z) ≡ signed_numeral 4 bytes
+pub i32_read : (bytes : List ℕ) (n : ℕ) (z : ℤ) → length bytes ≡ 4 → n < 2 ^ 32 → n ≡ from_be_bytes w32 bytes
+    → z ≡ to_z w32 n → to_z w32 (of_z w32 z) ≡ signed_numeral 4 bytes
 i32_read bytes n z many below is cast = signed_read w32 bytes n z below (from_be_bytes-numeral_4 bytes many) is cast
 
-pub i32_written : (z : ℤ) (bytes : List ℕ) → SFits w32 z → bytes ≡ to_be_bytes w32 (of_z w32 (to_z w32 (of_z w32 z))) → bytes ≡ bytes_of 4 z
+pub i32_written : (z : ℤ) (bytes : List ℕ) → SFits w32 z → bytes ≡ to_be_bytes w32 (of_z w32 (to_z w32 (of_z w32 z)))
+    → bytes ≡ bytes_of 4 z
 i32_written z bytes fits is = signed_written w32 z bytes fits is
 
-pub i64_read : (bytes : List ℕ) (n : ℕ) (z : ℤ) → length bytes ≡ 8 → n < 2 ^ 64 → n ≡ from_be_bytes w64 bytes → z ≡ to_z w64 n → to_z w64 (of_z w64 z) ≡ signed_numeral 8 bytes
+pub i64_read : (bytes : List ℕ) (n : ℕ) (z : ℤ) → length bytes ≡ 8 → n < 2 ^ 64 → n ≡ from_be_bytes w64 bytes
+    → z ≡ to_z w64 n → to_z w64 (of_z w64 z) ≡ signed_numeral 8 bytes
 i64_read bytes n z many below is cast = signed_read w64 bytes n z below (from_be_bytes-numeral_8 bytes many) is cast
 
-pub i64_written : (z : ℤ) (bytes : List ℕ) → SFits w64 z → bytes ≡ to_be_bytes w64 (of_z w64 (to_z w64 (of_z w64 z))) → bytes ≡ bytes_of 8 z
+pub i64_written : (z : ℤ) (bytes : List ℕ) → SFits w64 z → bytes ≡ to_be_bytes w64 (of_z w64 (to_z w64 (of_z w64 z)))
+    → bytes ≡ bytes_of 8 z
 i64_written z bytes fits is = signed_written w64 z bytes fits is
 
-pub ruleset std_bytes = (u8_written, i8_written, i8_read, u16_read, u16_written, i16_read, i16_written, u32_read, u32_written, i32_read, i32_written, i64_read, i64_written)
+pub ruleset std_bytes =
+    (u8_written, i8_written, i8_read, u16_read, u16_written, i16_read, i16_written, u32_read, u32_written, i32_read,
+        i32_written, i64_read, i64_written)

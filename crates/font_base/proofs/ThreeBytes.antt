@@ -1,5 +1,6 @@
 -- The integers of 24 bits and the four bytes of std's integers of 32 bits.
-use Rattle.std.proofs.Common.{◌≡◌, ◌∙◌, sym, ap, refl, subst, ℕ, ◌+◌, ◌*◌, ◌^◌, ℤ, pos, negsuc, ◌+ℤ◌, ◌*ℤ◌, neg_ℤ, List, [], ◌∷◌, length, get_or, arith, IsTrue}
+use Rattle.std.proofs.Common.{◌≡◌, ◌∙◌, sym, ap, refl, subst, ℕ, ◌+◌, ◌*◌, ◌^◌, ℤ, pos, negsuc, ◌+ℤ◌, ◌*ℤ◌, neg_ℤ, List,
+    [], ◌∷◌, length, get_or, arith, IsTrue}
 use Rattle.std.proofs.lemmas.Int.{ints, to_z-of_z}
 use Rattle.std.specs.Int.{w32, to_be_bytes}
 use mir.Val.{SFits, to_z, of_z}
@@ -8,11 +9,14 @@ use Rattle.font_base.proofs.StdBytes.{complement}
 use Rattle.font_base.specs.Bytes.Laws.{are_bytes-length, IsBytesOf-numeral, IsBytesOf-high_first, IsBytesOf-apart}
 
 -- the last three of the four bytes of a number
-pub last_three : (m : ℕ) (bytes : List ℕ) → bytes ≡ to_be_bytes w32 m → IsBytesOf 3 (pos m) (get_or bytes 1 0 ∷ get_or bytes 2 0 ∷ get_or bytes 3 0 ∷ [])
+pub last_three : (m : ℕ) (bytes : List ℕ) → bytes ≡ to_be_bytes w32 m
+    → IsBytesOf 3 (pos m) (get_or bytes 1 0 ∷ get_or bytes 2 0 ∷ get_or bytes 3 0 ∷ [])
 last_three m bytes is = rw is (IsBytesOf-high_first 3 m)
 
 -- the same where the number is negative
-pub last_three_signed : (z : ℤ) (bytes : List ℕ) → SFits w32 z → bytes ≡ to_be_bytes w32 (of_z w32 (to_z w32 (of_z w32 z))) → IsBytesOf 3 z (get_or bytes 1 0 ∷ get_or bytes 2 0 ∷ get_or bytes 3 0 ∷ [])
+pub last_three_signed : (z : ℤ) (bytes : List ℕ) → SFits w32 z
+    → bytes ≡ to_be_bytes w32 (of_z w32 (to_z w32 (of_z w32 z)))
+    → IsBytesOf 3 z (get_or bytes 1 0 ∷ get_or bytes 2 0 ∷ get_or bytes 3 0 ∷ [])
 last_three_signed z bytes fits is =
     let bits : pos (of_z w32 z) ≡ (z +ℤ (turns_of z *ℤ pos (2 ^ 32))) = turned z fits in
     IsBytesOf-apart 3 z (pos (of_z w32 z)) (neg_ℤ (turns_of z *ℤ pos 256)) _ (omega (arith, ints, bits))
@@ -36,8 +40,10 @@ three (a ∷ b ∷ c ∷ d ∷ rest) many = absurd (omega arith)
 
 -- the number of three bytes, read from a slice of them
 pub from_three : (bytes slice : List ℕ) (a b c : ℕ) → IsTrue (are_bytes 3 bytes) → slice ≡ bytes
-    → a ≡ get_or slice 0 0 → b ≡ get_or slice 1 0 → c ≡ get_or slice 2 0 → IsBytesOf 3 (pos (a * 65536 + b * 256 + c)) bytes
+    → a ≡ get_or slice 0 0 → b ≡ get_or slice 1 0 → c ≡ get_or slice 2 0
+    → IsBytesOf 3 (pos (a * 65536 + b * 256 + c)) bytes
 from_three bytes slice a b c are same first second third =
-    let list : slice ≡ a ∷ b ∷ c ∷ [] = rw (first, second, third) (three slice (ap length same ∙ are_bytes-length 3 bytes are)) in
+    let list : slice ≡ a ∷ b ∷ c ∷ [] = rw (first, second, third)
+        (three slice (ap length same ∙ are_bytes-length 3 bytes are)) in
     let number : numeral bytes ≡ a * 65536 + b * 256 + c = ap numeral (sym same) ∙ rw list (omega arith) in
     subst (λ (n : ℕ). IsBytesOf 3 (pos n) bytes) number (IsBytesOf-numeral 3 bytes are)

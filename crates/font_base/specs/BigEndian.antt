@@ -6,5 +6,6 @@ use Rattle.font_base.specs.declared.raw.Scalar as Scalar
 use Rattle.font_base.specs.declared.big_endian.BigEndian.{BigEndian}
 
 -- the array of bytes that a field is
-abbrev pub raw_value : {T R X : Type 0} {scalar : Scalar.Ghosts T X} {size : FixedSize.Ghosts T} {x : BeByteArray.Ghosts X} {r : BeByteArray.Ghosts R} → BigEndian T R X scalar size x r → R
+abbrev pub raw_value : {T R X : Type 0} {scalar : Scalar.Ghosts T X} {size : FixedSize.Ghosts T}
+    {x : BeByteArray.Ghosts X} {r : BeByteArray.Ghosts R} → BigEndian T R X scalar size x r → R
 raw_value field = field.raw

@@ -2,9 +2,10 @@
 pub mod Laws
 use Rattle.std.specs.Prelude.{◌≡◌, ℕ, Bool, IsTrue, List}
 
--- Values and arrays determine each other: what an array gives is a value, what a value gives is an array, both ways undo each other, and an array
--- is as long as the type says. (own: that a scalar can be read and written without loss)
-pub record ScalarLaws {V R : Type 0} (is_scalar : V → Bool) (is_raw : R → Bool) (of_raw : R → V) (raw_of : V → R) (raw_len byte_len : ℕ) : Type 0 where
+-- Values and arrays determine each other: what an array gives is a value, what a value gives is an array, both ways
+-- undo each other, and an array is as long as the type says. (own: that a scalar can be read and written without loss)
+pub record ScalarLaws {V R : Type 0} (is_scalar : V → Bool) (is_raw : R → Bool) (of_raw : R → V) (raw_of : V → R)
+    (raw_len byte_len : ℕ) : Type 0 where
   pub of_raw_value : (r : R) → IsTrue (is_raw r) → IsTrue (is_scalar (of_raw r))
   pub raw_of_value : (v : V) → IsTrue (is_scalar v) → IsTrue (is_raw (raw_of v))
   pub back : (v : V) → IsTrue (is_scalar v) → of_raw (raw_of v) ≡ v

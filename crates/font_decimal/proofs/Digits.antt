@@ -1,5 +1,6 @@
 -- The number that digits write, where they are joined and cut.
-use Rattle.std.proofs.Common.{◌≡◌, ℕ, zero, suc, ◌+◌, ◌-◌, ◌*◌, ◌%◌, ◌^◌, ◌<◌, ◌≤◌, inl, inr, List, [], ◌∷◌, ◌++◌, length, take, drop, min, refl, sym, ap, ◌∙◌, arith, rules, true≢false, length-append, length-drop, get_or}
+use Rattle.std.proofs.Common.{◌≡◌, ℕ, zero, suc, ◌+◌, ◌-◌, ◌*◌, ◌%◌, ◌^◌, ◌<◌, ◌≤◌, inl, inr, List, [], ◌∷◌, ◌++◌,
+    length, take, drop, min, refl, sym, ap, ◌∙◌, arith, rules, true≢false, length-append, length-drop, get_or}
 use Rattle.std.specs.Str.Parse.{digits_value, digits_value_after, AllDigits}
 use Rattle.std.specs.Char.{digit_value, is_ascii_digit, IsAsciiDigit}
 use Rattle.std.specs.List.{list_all}
@@ -22,12 +23,14 @@ after_is n (c ∷ cs) =
     rw (here, first, power) (omega arith)
 
 -- digits are read in two goes as in one
-after-append : (n : ℕ) (xs ys : List ℕ) → digits_value_after 10 n (xs ++ ys) ≡ digits_value_after 10 (digits_value_after 10 n xs) ys
+after-append : (n : ℕ) (xs ys : List ℕ) → digits_value_after 10 n (xs ++ ys) ≡ digits_value_after 10
+    (digits_value_after 10 n xs) ys
 after-append n [] ys = refl
 after-append n (x ∷ xs) ys = after-append (n * 10 + digit_value x) xs ys
 
 -- the number of joined digits
-pub digits_value-append : (xs ys : List ℕ) → digits_value 10 (xs ++ ys) ≡ digits_value 10 xs * 10 ^ length ys + digits_value 10 ys
+pub digits_value-append : (xs ys : List ℕ) → digits_value 10 (xs ++ ys) ≡ digits_value 10 xs * 10 ^ length ys
+    + digits_value 10 ys
 digits_value-append xs ys = after-append 0 xs ys ∙ after_is (digits_value 10 xs) ys
 
 -- what is left of digits, from either end, is digits
@@ -59,24 +62,28 @@ pub digits_fail : (ds : List ℕ) → false ≡ list_all is_ascii_digit ds → A
 digits_fail ds t p = true≢false (sym (by_test.from ds p) ∙ sym t)
 
 -- one digit more
-pub one_digit_more : (xs : List ℕ) (i n digit : ℕ) → i < length xs → IsAsciiDigit (get_or xs i 0) → n ≡ digits_value 10 (take i xs) → digit ≡ get_or xs i 0 - 48
+pub one_digit_more : (xs : List ℕ) (i n digit : ℕ) → i < length xs → IsAsciiDigit (get_or xs i 0)
+    → n ≡ digits_value 10 (take i xs) → digit ≡ get_or xs i 0 - 48
     → n * 10 + digit ≡ digits_value 10 (take (i + 1) xs)
 one_digit_more xs i n digit low ascii so_far next =
     let value = digit_value_digit (get_or xs i 0) ascii in
     omega (arith, digits_value_more 10 xs i low)
 
 -- and the same where a greater number is cut to the greatest that counts
-pub one_digit_more_capped : (xs : List ℕ) (i n digit most : ℕ) → i < length xs → IsAsciiDigit (get_or xs i 0) → n ≡ min (digits_value 10 (take i xs)) most → digit ≡ get_or xs i 0 - 48
+pub one_digit_more_capped : (xs : List ℕ) (i n digit most : ℕ) → i < length xs → IsAsciiDigit (get_or xs i 0)
+    → n ≡ min (digits_value 10 (take i xs)) most → digit ≡ get_or xs i 0 - 48
     → min (n * 10 + digit) most ≡ min (digits_value 10 (take (i + 1) xs)) most
 one_digit_more_capped xs i n digit most low ascii so_far next =
     let more = one_digit_more xs i (digits_value 10 (take i xs)) digit low ascii refl next in
     omega arith
 
 -- at most 18 digits write a number below 10^18
-pub few_digits : (xs : List ℕ) (i : ℕ) → AllDigits 10 (take i xs) → i ≤ length xs → i ≤ 18 → digits_value 10 (take i xs) < 10 ^ 18
+pub few_digits : (xs : List ℕ) (i : ℕ) → AllDigits 10 (take i xs) → i ≤ length xs → i ≤ 18
+    → digits_value 10 (take i xs) < 10 ^ 18
 few_digits xs i h within few =
     let below = digits_value-lt 10 (take i xs) h in
-    let power : 10 ^ length (take i xs) ≤ 10 ^ 18 = pow-le-pow_right {n = 10} (omega arith) {i = length (take i xs)} {j = 18} (omega (arith, length-take-le i xs within)) in
+    let power : 10 ^ length (take i xs) ≤ 10 ^ 18 = pow-le-pow_right {n = 10} (omega arith) {i = length (take i xs)}
+        {j = 18} (omega (arith, length-take-le i xs within)) in
     omega arith
 
 -- no more digits are taken than there are
@@ -120,7 +127,8 @@ is_cut p ds h = elim (cases_lt p (length ds)) [
       let back = digits_value 10 (drop p ds) in
       let many : length (drop p ds) ≡ k - p = length-drop p ds in
       let joined : digits_value 10 ds ≡ front * 10 ^ (k - p) + back =
-      ap (digits_value 10) (sym (take-append-drop p ds)) ∙ digits_value-append (take p ds) (drop p ds) ∙ ap (λ n. front * 10 ^ n + back) many in
+      ap (digits_value 10) (sym (take-append-drop p ds)) ∙ digits_value-append (take p ds) (drop p ds) ∙ ap
+          (λ n. front * 10 ^ n + back) many in
       let none : 10 ^ (p - k) ≡ 1 = ap (λ n. 10 ^ n) (let e : p - k ≡ 0 = omega arith in e) in
       let power : 10 ^ k ≡ 10 ^ (k - p) * 10 ^ p = ten_to k (k - p) p (omega arith) in
       let small : back < 10 ^ (k - p) = rw many at (digits_value-lt 10 (drop p ds) (digits-drop p ds h)) in
@@ -140,9 +148,11 @@ is_cut p ds h = elim (cases_lt p (length ds)) [
 ]
 
 -- the numeral of digits, filled up with zeros to p places, has at most p digits
-pub filled_below : (p : ℕ) (ds : List ℕ) → AllDigits 10 ds → length ds ≤ p → digits_value 10 ds * 10 ^ (p - length ds) < 10 ^ p
+pub filled_below : (p : ℕ) (ds : List ℕ) → AllDigits 10 ds → length ds ≤ p
+    → digits_value 10 ds * 10 ^ (p - length ds) < 10 ^ p
 filled_below p ds h short =
-    rw (ten_to p (length ds) (p - length ds) (omega arith)) (mul-lt-mul_of_pos_right (digits_value-lt 10 ds h) (one-le-pow (p - length ds) 10 (omega arith)))
+    rw (ten_to p (length ds) (p - length ds) (omega arith))
+        (mul-lt-mul_of_pos_right (digits_value-lt 10 ds h) (one-le-pow (p - length ds) 10 (omega arith)))
 
 -- and so has the numeral that is kept
 pub kept_below : (p : ℕ) (ds : List ℕ) → AllDigits 10 ds → kept_numeral p ds < 10 ^ p
@@ -164,7 +174,8 @@ pub record IsJoined (ds : List ℕ) (back high low high_power low_power : ℕ) :
   pub fits : digits_value 10 ds < 2 ^ 128
   pub power_of_five : high_power * low_power ≡ 5 ^ length ds
 
-pub numeral_of_parts : (ds front back : List ℕ) (high low high_power low_power : ℕ) → length ds ≤ 31 → ds ≡ front ++ back → HasNumeral front high high_power → HasNumeral back low low_power
+pub numeral_of_parts : (ds front back : List ℕ) (high low high_power low_power : ℕ) → length ds ≤ 31
+    → ds ≡ front ++ back → HasNumeral front high high_power → HasNumeral back low low_power
     → IsJoined ds (length back) high low high_power low_power
 numeral_of_parts ds front back high low high_power low_power few parts first second =
     let b = length back in

@@ -1,5 +1,6 @@
 -- The fewest places at which a value m / 2^f has a decimal that reads back.
-use Rattle.std.proofs.Common.{◌≡◌, ◌≢◌, ℕ, zero, suc, ◌+◌, ◌-◌, ◌*◌, ◌/◌, ◌%◌, ◌^◌, ◌<◌, ◌≤◌, inl, inr, Bool, true, false, cond, true≢false, ℤ, pos, negsuc, refl, sym, ap, ◌∙◌, arith}
+use Rattle.std.proofs.Common.{◌≡◌, ◌≢◌, ℕ, zero, suc, ◌+◌, ◌-◌, ◌*◌, ◌/◌, ◌%◌, ◌^◌, ◌<◌, ◌≤◌, inl, inr, Bool, true,
+    false, cond, true≢false, ℤ, pos, negsuc, refl, sym, ap, ◌∙◌, arith}
 use Rattle.std.specs.Prelude.{◌*ℤ◌, unsigned_abs, nat_lt}
 use Rattle.std.specs.Int.{abs_diff}
 use Rattle.std.proofs.Math.Nat.{mul-sub, pow-suc, div-add-mod', eq_of_mul-eq-mul_left}
@@ -17,7 +18,8 @@ nearest_distance n d q m r =
     let high = r.high in
     elim (cases_order m q) [
       | inl e ↦ rw e (omega arith)
-      | inr order ↦ elim order [ inl less ↦ omega (arith, next_product m q d less) | inr more ↦ omega (arith, next_product q m d more) ]
+      | inr order ↦ elim order [ inl less ↦ omega (arith, next_product m q d less) | inr more ↦
+          omega (arith, next_product q m d more) ]
     ]
 
 half_distance : (n d q : ℕ) → IsNearMagnitude n d q → 2 * abs_diff (q * d) n ≤ d
@@ -41,17 +43,20 @@ half_units k d x five ten h e tie split =
 not_even : (j d : ℕ) → 2 * d ≢ 5 ^ j
 not_even j d e = let odd = five_odd j in omega (arith, odd.1)
 
--- no decimal of at most f places lies just half way between two multiples of 1 / 2^f: in units of 2^j its distance would make
--- an even number equal to 5^j
+-- no decimal of at most f places lies just half way between two multiples of 1 / 2^f: in units of 2^j its distance
+-- would make an even number equal to 5^j
 no_tie : (m f j n : ℕ) → j ≤ f → 2 * abs_diff (n * 2 ^ f) (m * 10 ^ j) ≢ 10 ^ j
 no_tie m f j n h tie =
-    let split : 2 ^ f ≡ 2 ^ j * 2 ^ (f - j) = ap (λ i. 2 ^ i) (let e : f ≡ j + (f - j) = omega arith in e) ∙ pow-add 2 j (f - j) in
+    let split : 2 ^ f ≡ 2 ^ j * 2 ^ (f - j) = ap (λ i. 2 ^ i) (let e : f ≡ j + (f - j) = omega arith in e) ∙ pow-add 2 j
+        (f - j) in
     let ten : 10 ^ j ≡ 2 ^ j * 5 ^ j = mul-pow 2 5 j in
     let left : n * 2 ^ f ≡ 2 ^ j * (n * 2 ^ (f - j)) = rw split (omega arith) in
     let right : m * 10 ^ j ≡ 2 ^ j * (m * 5 ^ j) = rw ten (omega arith) in
     let apart = abs_diff_times (2 ^ j) (n * 2 ^ (f - j)) (m * 5 ^ j) in
-    let same : abs_diff (n * 2 ^ f) (m * 10 ^ j) ≡ 2 ^ j * abs_diff (n * 2 ^ (f - j)) (m * 5 ^ j) = rw (left, right) apart in
-    not_even j (abs_diff (n * 2 ^ (f - j)) (m * 5 ^ j)) (half_units (2 ^ j) _ _ (5 ^ j) (10 ^ j) (pow_pos j) same tie ten)
+    let same : abs_diff (n * 2 ^ f) (m * 10 ^ j) ≡ 2 ^ j * abs_diff (n * 2 ^ (f - j)) (m * 5 ^ j) = rw
+        (left, right) apart in
+    not_even j (abs_diff (n * 2 ^ (f - j)) (m * 5 ^ j))
+        (half_units (2 ^ j) _ _ (5 ^ j) (10 ^ j) (pow_pos j) same tie ten)
 
 unfolded : (m f p : ℕ) → reads_back m f p ≡ nat_lt (2 * abs_diff (nearest_numeral m f p * 2 ^ f) (m * 10 ^ p)) (10 ^ p)
 unfolding reads_back
@@ -61,15 +66,18 @@ rounded_at : (m f p : ℕ) → IsNearMagnitude (m * 10 ^ p) (2 ^ f) (nearest_num
 rounded_at m f p = rounded_is (m * 10 ^ p) (2 ^ f) (pow_pos f)
 
 -- what it says of the nearest decimal that it reads back, or does not
-pub within_half : (m f p : ℕ) → reads_back m f p ≡ true → 2 * abs_diff (nearest_numeral m f p * 2 ^ f) (m * 10 ^ p) < 10 ^ p
+pub within_half : (m f p : ℕ) → reads_back m f p ≡ true → 2 * abs_diff (nearest_numeral m f p * 2 ^ f)
+    (m * 10 ^ p) < 10 ^ p
 within_half m f p e = ltb-true _ _ (sym (unfolded m f p) ∙ e)
 
 -- a decimal within half a step reads back
-pub reads_within : (m f p : ℕ) → 2 * abs_diff (nearest_numeral m f p * 2 ^ f) (m * 10 ^ p) < 10 ^ p → reads_back m f p ≡ true
+pub reads_within : (m f p : ℕ) → 2 * abs_diff (nearest_numeral m f p * 2 ^ f) (m * 10 ^ p) < 10 ^ p
+    → reads_back m f p ≡ true
 reads_within m f p h = unfolded m f p ∙ lt-ltb _ _ h
 
 -- and one that is half a step away or more does not
-pub fails_past : (m f p : ℕ) → 10 ^ p ≤ 2 * abs_diff (nearest_numeral m f p * 2 ^ f) (m * 10 ^ p) → reads_back m f p ≡ false
+pub fails_past : (m f p : ℕ) → 10 ^ p ≤ 2 * abs_diff (nearest_numeral m f p * 2 ^ f) (m * 10 ^ p)
+    → reads_back m f p ≡ false
 fails_past m f p h = unfolded m f p ∙ le-ltb _ _ h
 
 -- where it does not, a step is at least as wide as a unit of the last place
@@ -80,7 +88,8 @@ fails_wide m f p e =
     omega arith
 
 -- where any decimal of so many places is within half a step, the nearest one reads back
-pub nearest_reads_back : (m f p n : ℕ) → p ≤ f → 2 * abs_diff (n * 2 ^ f) (m * 10 ^ p) ≤ 10 ^ p → reads_back m f p ≡ true
+pub nearest_reads_back : (m f p n : ℕ) → p ≤ f → 2 * abs_diff (n * 2 ^ f) (m * 10 ^ p) ≤ 10 ^ p
+    → reads_back m f p ≡ true
 nearest_reads_back m f p n h close =
     let nearer = nearest_distance (m * 10 ^ p) (2 ^ f) (nearest_numeral m f p) n (rounded_at m f p) in
     let apart = no_tie m f p (nearest_numeral m f p) h in
@@ -100,8 +109,10 @@ record IsFirst (m f p left q : ℕ) : Type 0 where
   reads : q < p + left → reads_back m f q ≡ true
   before : (j : ℕ) → p ≤ j → j < q → reads_back m f j ≡ false
 
-more_places : (m f left p q : ℕ) (b : Bool) → reads_back m f p ≡ b → IsFirst m f (p + 1) left q → IsFirst m f p (suc left) (cond b p q)
-more_places m f left p q true e rest = record { from = omega arith; to = omega arith; reads = λ _. e; before = λ j low high. absurd (omega arith) }
+more_places : (m f left p q : ℕ) (b : Bool) → reads_back m f p ≡ b → IsFirst m f (p + 1) left q
+    → IsFirst m f p (suc left) (cond b p q)
+more_places m f left p q true e rest = record
+    { from = omega arith; to = omega arith; reads = λ _. e; before = λ j low high. absurd (omega arith) }
 more_places m f left p q false e rest =
     let from = rest.from in
     let to = rest.to in
@@ -116,8 +127,10 @@ more_places m f left p q false e rest =
     }
 
 first_from : (m f left p : ℕ) → IsFirst m f p left (places_from m f left p)
-first_from m f zero p = record { from = omega arith; to = omega arith; reads = λ less. absurd (omega arith); before = λ j low high. absurd (omega arith) }
-first_from m f (suc left) p = more_places m f left p (places_from m f left (p + 1)) (reads_back m f p) refl (first_from m f left (p + 1))
+first_from m f zero p = record { from = omega arith; to = omega arith; reads = λ less. absurd (omega arith);
+    before = λ j low high. absurd (omega arith) }
+first_from m f (suc left) p = more_places m f left p (places_from m f left (p + 1)) (reads_back m f p) refl
+    (first_from m f left (p + 1))
 
 -- p places read back, and no fewer do
 pub record IsFewest (m f p : ℕ) : Type 0 where
@@ -170,16 +183,19 @@ zero_drops m f p fewest e =
     let d = nearest_numeral m f (suc p) in
     let tens : d ≡ 10 * (d / 10) = omega (arith, div-add-mod' d 10) in
     let close = within_half m f (suc p) fewest.reads in
-    let left : d * 2 ^ f ≡ 10 * (d / 10 * 2 ^ f) = ap (λ n. n * 2 ^ f) tens ∙ (let regroup : 10 * (d / 10) * 2 ^ f ≡ 10 * (d / 10 * 2 ^ f) = omega arith in regroup) in
+    let left : d * 2 ^ f ≡ 10 * (d / 10 * 2 ^ f) = ap (λ n. n * 2 ^ f) tens
+        ∙ (let regroup : 10 * (d / 10) * 2 ^ f ≡ 10 * (d / 10 * 2 ^ f) = omega arith in regroup) in
     let right : m * 10 ^ suc p ≡ 10 * (m * 10 ^ p) = rw (pow-suc 10 p) (omega arith) in
     let apart : abs_diff (d * 2 ^ f) (m * 10 ^ suc p) ≡ 10 * abs_diff (d / 10 * 2 ^ f) (m * 10 ^ p) =
-    ap (λ x. abs_diff x (m * 10 ^ suc p)) left ∙ ap (λ y. abs_diff (10 * (d / 10 * 2 ^ f)) y) right ∙ abs_diff_times 10 (d / 10 * 2 ^ f) (m * 10 ^ p) in
+    ap (λ x. abs_diff x (m * 10 ^ suc p)) left ∙ ap (λ y. abs_diff (10 * (d / 10 * 2 ^ f)) y) right ∙ abs_diff_times 10
+        (d / 10 * 2 ^ f) (m * 10 ^ p) in
     let closer = tenth _ _ (10 ^ p) (10 ^ suc p) apart (pow-suc 10 p) close in
     let few = fewest.few in
     true≢false (sym (nearest_reads_back m f p (d / 10) (omega arith) closer) ∙ fewest.before p (omega arith))
 
 -- a decimal of any sign that rounds to a value of any sign
-pub magnitudes_close : (f j : ℕ) (n b : ℤ) → Near (n *ℤ pos (2 ^ f)) (10 ^ j) b → 2 * abs_diff (unsigned_abs n * 2 ^ f) (unsigned_abs b * 10 ^ j) ≤ 10 ^ j
+pub magnitudes_close : (f j : ℕ) (n b : ℤ) → Near (n *ℤ pos (2 ^ f)) (10 ^ j) b → 2 * abs_diff (unsigned_abs n * 2 ^ f)
+    (unsigned_abs b * 10 ^ j) ≤ 10 ^ j
 magnitudes_close f j (pos n) (pos b) near = let close = near.close in omega (arith, ints)
 magnitudes_close f j (pos n) (negsuc b) near = let close = near.close in omega (arith, ints)
 magnitudes_close f j (negsuc n) (pos b) near = let close = near.close in omega (arith, ints)
@@ -189,4 +205,5 @@ magnitudes_close f j (negsuc n) (negsuc b) near = let close = near.close in omeg
 pub none_fewer : (f j p : ℕ) (n b : ℤ) → IsFewest (unsigned_abs b) f p → j < p → Near (n *ℤ pos (2 ^ f)) (10 ^ j) b → ⊥
 none_fewer f j p n b fewest h near =
     let few = fewest.few in
-    true≢false (sym (nearest_reads_back (unsigned_abs b) f j (unsigned_abs n) (omega arith) (magnitudes_close f j n b near)) ∙ fewest.before j h)
+    true≢false (sym (nearest_reads_back (unsigned_abs b) f j (unsigned_abs n) (omega arith)
+        (magnitudes_close f j n b near)) ∙ fewest.before j h)

@@ -1,5 +1,6 @@
 -- Each fraction n / d with 0 < d has one nearest whole number, by either rule for ties.
-use Rattle.std.proofs.Common.{◌≡◌, ℕ, zero, suc, ◌+◌, ◌*◌, ◌/◌, ◌<◌, ◌≤◌, inl, inr, Bool, true, false, ℤ, pos, negsuc, refl, sym, ap, subst, ◌∙◌, arith}
+use Rattle.std.proofs.Common.{◌≡◌, ℕ, zero, suc, ◌+◌, ◌*◌, ◌/◌, ◌<◌, ◌≤◌, inl, inr, Bool, true, false, ℤ, pos, negsuc,
+    refl, sym, ap, subst, ◌∙◌, arith}
 use Rattle.std.specs.Prelude.{neg_ℤ, ◌+ℤ◌, ◌-ℤ◌, ◌*ℤ◌, ◌≤ℤ◌, ◌<ℤ◌, unsigned_abs}
 use Rattle.std.specs.Int.{is_negative}
 use Rattle.std.proofs.Math.IntN.{neg_ℤ-neg_ℤ, +ℤ_one, suc_ℤ-*ℤ}
@@ -105,7 +106,9 @@ near_unique n d q r h x y =
     let P : ℤ → ℤ → Type 0 = λ t u. Near t d u in
     let first = near_to s (unsigned_abs n) d q h (subst (λ t. Near t d q) (sign_and_magnitude n) x) in
     let second = near_to s (unsigned_abs n) d r h (subst (λ t. Near t d r) (sign_and_magnitude n) y) in
-    first.is ∙ ap (signed s) (near_magnitude_unique (unsigned_abs n) d first.magnitude second.magnitude first.rounded second.rounded) ∙ sym second.is
+    first.is ∙ ap (signed s)
+        (near_magnitude_unique (unsigned_abs n) d first.magnitude second.magnitude first.rounded second.rounded)
+            ∙ sym second.is
 
 -- and `near` is that number
 pub near_is : (n : ℤ) (d : ℕ) → 0 < d → Near n d (near n d)
@@ -123,7 +126,8 @@ pub times_monotone : (a b : ℤ) (d : ℕ) → a ≤ℤ b → (a *ℤ pos d) ≤
 times_monotone (pos a) (pos b) d h = omega (arith, ints, mul-le-mul_right {m = a} {n = b} d (omega (arith, ints)))
 times_monotone (pos a) (negsuc b) d h = absurd (omega (arith, ints))
 times_monotone (negsuc a) (pos b) d h = omega (arith, ints)
-times_monotone (negsuc a) (negsuc b) d h = omega (arith, ints, mul-le-mul_right {m = suc b} {n = suc a} d (omega (arith, ints)))
+times_monotone (negsuc a) (negsuc b) d h = omega
+    (arith, ints, mul-le-mul_right {m = suc b} {n = suc a} d (omega (arith, ints)))
 
 -- the same for the rule that rounds ties up
 pub up_unique : (n : ℤ) (d : ℕ) (q r : ℤ) → 0 < d → Up n d q → Up n d r → q ≡ r
@@ -134,7 +138,8 @@ up_unique n d q r h x y =
     let below = o.low in
     let none : ⊥ = omega (arith, ints) in
     none in
-    by_lt_z q r (λ less. absurd (apart q r less x y)) (λ not_less. by_lt_z r q (λ more. absurd (apart r q more y x)) (λ not_more. omega (arith, ints)))
+    by_lt_z q r (λ less. absurd (apart q r less x y))
+        (λ not_less. by_lt_z r q (λ more. absurd (apart r q more y x)) (λ not_more. omega (arith, ints)))
 
 pub up_is : (n : ℤ) (d : ℕ) → 0 < d → Up n d (up n d)
 unfolding up

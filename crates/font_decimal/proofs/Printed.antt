@@ -1,5 +1,6 @@
 -- What callers rely on of printed texts.
-use Rattle.std.proofs.Common.{◌≡◌, ◌≢◌, ℕ, zero, suc, ◌+◌, ◌/◌, ◌%◌, ◌^◌, ◌<◌, ◌≤◌, Bool, true, false, List, [], ◌∷◌, ◌++◌, length, get_or, ℤ, pos, refl, sym, ap, subst, ◌∙◌, arith, append_assoc, length-append}
+use Rattle.std.proofs.Common.{◌≡◌, ◌≢◌, ℕ, zero, suc, ◌+◌, ◌/◌, ◌%◌, ◌^◌, ◌<◌, ◌≤◌, Bool, true, false, List, [], ◌∷◌,
+    ◌++◌, length, get_or, ℤ, pos, refl, sym, ap, subst, ◌∙◌, arith, append_assoc, length-append}
 use Rattle.std.specs.Prelude.{◌≤ℤ◌, unsigned_abs, Result, Ok}
 use Rattle.std.specs.Int.{is_negative}
 use Rattle.std.specs.Fmt.{decimal, sign_text}
@@ -33,15 +34,19 @@ printed_rounds b f small = (shortest_is b f small).rounds
 pub printed_reads_once : (b c : ℤ) (f : ℕ) → unsigned_abs b ≤ 2 ^ 63 → Rounds (shortest_text b f) f c → c ≡ b
 printed_reads_once b c f small x = rounds_unique (shortest_text b f) f c b x (printed_rounds b f small)
 
-pub printed_is_read : (b : ℤ) (f : ℕ) (min max : ℤ) (r : Result ℤ DecimalFault) → unsigned_abs b ≤ 2 ^ 63 → min ≤ℤ b → b ≤ℤ max
+pub printed_is_read : (b : ℤ) (f : ℕ) (min max : ℤ) (r : Result ℤ DecimalFault) → unsigned_abs b ≤ 2 ^ 63 → min ≤ℤ b
+    → b ≤ℤ max
     → IsReading (shortest_text b f) f min max r → r ≡ Ok b
 printed_is_read b f min max r small low high x =
-    let own : Reads (shortest_text b f) f min max b = record { rounds = printed_rounds b f small; low = low; high = high } in
+    let own : Reads (shortest_text b f) f min max b = record
+        { rounds = printed_rounds b f small; low = low; high = high } in
     reading_unique (shortest_text b f) f min max r (Ok b) x own
 
 -- distinct values print distinct texts
-pub same_value : (b c : ℤ) (f : ℕ) → unsigned_abs b ≤ 2 ^ 63 → unsigned_abs c ≤ 2 ^ 63 → shortest_text b f ≡ shortest_text c f → b ≡ c
-same_value b c f small smaller e = printed_reads_once c b f smaller (subst (λ t. Rounds t f b) e (printed_rounds b f small))
+pub same_value : (b c : ℤ) (f : ℕ) → unsigned_abs b ≤ 2 ^ 63 → unsigned_abs c ≤ 2 ^ 63
+    → shortest_text b f ≡ shortest_text c f → b ≡ c
+same_value b c f small smaller e = printed_reads_once c b f smaller
+    (subst (λ t. Rounds t f b) e (printed_rounds b f small))
 
 -- no value prints `-0`
 minus_zero : HasParts (45 ∷ 48 ∷ []) true (48 ∷ []) []
@@ -57,13 +62,15 @@ plain_is_not_minus_zero text n k p e =
     omega (arith, ints)
 
 pub printed_is_not_minus_zero : (b : ℤ) (f : ℕ) → unsigned_abs b ≤ 2 ^ 63 → shortest_text b f ≢ 45 ∷ 48 ∷ []
-printed_is_not_minus_zero b f small = let s = shortest_is b f small in plain_is_not_minus_zero (shortest_text b f) s.numeral s.places s.plain
+printed_is_not_minus_zero b f small = let s = shortest_is b f small in
+    plain_is_not_minus_zero (shortest_text b f) s.numeral s.places s.plain
 
 -- ---- no printed text with a point ends in 0
 last_is : (p n : ℕ) → last_digits (suc p) n ≡ last_digits p (n / 10) ++ ((48 + n % 10) ∷ [])
 last_is zero n = rw div-one
 last_is (suc p) n =
-    let front : n / 10 ^ suc p ≡ n / 10 / 10 ^ p = ap (λ d. n / d) (pow-suc 10 p ∙ mul_comm (10 ^ p) 10) ∙ sym (div-div-eq-div-mul n 10 (10 ^ p)) in
+    let front : n / 10 ^ suc p ≡ n / 10 / 10 ^ p = ap (λ d. n / d) (pow-suc 10 p ∙ mul_comm (10 ^ p) 10) ∙ sym
+        (div-div-eq-div-mul n 10 (10 ^ p)) in
     rw front (ap (λ ds. (48 + n / 10 / 10 ^ p % 10) ∷ ds) (last_is p n))
 
 no_point_at : (ds : List ℕ) (i : ℕ) → AllDigits 10 ds → get_or ds i 0 ≢ 46
@@ -78,30 +85,37 @@ no_point_signed s ds i h = rw append-nil (by_sign s i) where
   by_sign true (suc j) e = no_point_at ds j h e
   by_sign false j e = no_point_at ds j h e
 
-last_byte : (s : Bool) (whole : List ℕ) (p n : ℕ) (front : List ℕ) → sign_text s ++ (whole ++ fraction_text (last_digits (suc p) n)) ≡ front ++ (48 ∷ []) → n % 10 ≡ 0
+last_byte : (s : Bool) (whole : List ℕ) (p n : ℕ) (front : List ℕ)
+    → sign_text s ++ (whole ++ fraction_text (last_digits (suc p) n)) ≡ front ++ (48 ∷ []) → n % 10 ≡ 0
 last_byte s whole p n front e =
     let before : List ℕ = 46 ∷ last_digits p (n / 10) in
     let last : List ℕ = (48 + n % 10) ∷ [] in
     let fraction : fraction_text (last_digits (suc p) n) ≡ before ++ last = ap (λ ds. 46 ∷ ds) (last_is p n) in
     let regroup : sign_text s ++ (whole ++ (before ++ last)) ≡ (sign_text s ++ (whole ++ before)) ++ last =
-    sym (append_assoc (sign_text s) (whole ++ before) last ∙ ap (λ xs. sign_text s ++ xs) (append_assoc whole before last)) in
-    let ends = same_from_push (sign_text s ++ (whole ++ before)) front (48 + n % 10) 48 (sym regroup ∙ sym (ap (λ xs. sign_text s ++ (whole ++ xs)) fraction) ∙ e) in
+    sym (append_assoc (sign_text s) (whole ++ before) last
+        ∙ ap (λ xs. sign_text s ++ xs) (append_assoc whole before last)) in
+    let ends = same_from_push (sign_text s ++ (whole ++ before)) front (48 + n % 10) 48
+        (sym regroup ∙ sym (ap (λ xs. sign_text s ++ (whole ++ xs)) fraction) ∙ e) in
     let same = ends.1 in
     omega arith
 
 ends_or_whole : (s : Bool) (m f p i : ℕ) (front : List ℕ) → IsFewest m f p → nearest_numeral m f p / 10 ^ p < 2 ^ 64
-    → sign_text s ++ (decimal (nearest_numeral m f p / 10 ^ p) ++ fraction_text (last_digits p (nearest_numeral m f p))) ≡ front ++ (48 ∷ [])
-    → get_or (sign_text s ++ (decimal (nearest_numeral m f p / 10 ^ p) ++ fraction_text (last_digits p (nearest_numeral m f p)))) i 0 ≢ 46
+    → sign_text s ++ (decimal (nearest_numeral m f p / 10 ^ p) ++ fraction_text (last_digits p (nearest_numeral m f p)))
+    ≡ front ++ (48 ∷ [])
+    → get_or (sign_text s
+    ++ (decimal (nearest_numeral m f p / 10 ^ p) ++ fraction_text (last_digits p (nearest_numeral m f p)))) i 0 ≢ 46
 ends_or_whole s m f zero i front fewest small e = no_point_signed s _ i (decimal_is_IsNumeral _ small).0.1
 ends_or_whole s m f (suc p) i front fewest small e = absurd (zero_drops m f p fewest last_zero) where
   last_zero : nearest_numeral m f (suc p) % 10 ≡ 0
   last_zero = last_byte s (decimal (nearest_numeral m f (suc p) / 10 ^ suc p)) p (nearest_numeral m f (suc p)) front e
 
-pub zero_ends_no_fraction : (b : ℤ) (f i : ℕ) (front : List ℕ) → unsigned_abs b ≤ 2 ^ 63 → shortest_text b f ≡ front ++ (48 ∷ []) → get_or (shortest_text b f) i 0 ≢ 46
+pub zero_ends_no_fraction : (b : ℤ) (f i : ℕ) (front : List ℕ) → unsigned_abs b ≤ 2 ^ 63
+    → shortest_text b f ≡ front ++ (48 ∷ []) → get_or (shortest_text b f) i 0 ≢ 46
 unfolding shortest_text
 zero_ends_no_fraction b f i front small e =
     let m = unsigned_abs b in
-    ends_or_whole (is_negative b) m f (fewest_places m f) i front (fewest_is m f) (whole_fits m f (fewest_places m f) small) e
+    ends_or_whole (is_negative b) m f (fewest_places m f) i front (fewest_is m f)
+        (whole_fits m f (fewest_places m f) small) e
 
 sign_text_length : (s : Bool) → length (sign_text s) ≤ 1
 sign_text_length true = omega arith
@@ -116,6 +130,8 @@ shortest_length b f small few =
     let n = nearest_numeral m f p in
     let whole : List ℕ = decimal (n / 10 ^ p) in
     let digits = digits_fit m f p small few (unit_below m f p (fewest_is m f).before) in
-    let all : length (sign_text (is_negative b) ++ (whole ++ fraction_text (last_digits p n))) ≡ length (sign_text (is_negative b)) + (length whole + length (fraction_text (last_digits p n))) =
-    length-append (sign_text (is_negative b)) _ ∙ ap (λ k. length (sign_text (is_negative b)) + k) (length-append whole _) in
+    let all : length (sign_text (is_negative b) ++ (whole ++ fraction_text (last_digits p n))) ≡ length
+        (sign_text (is_negative b)) + (length whole + length (fraction_text (last_digits p n))) =
+    length-append (sign_text (is_negative b)) _ ∙ ap (λ k. length (sign_text (is_negative b)) + k)
+        (length-append whole _) in
     omega (arith, all, point_length p n, sign_text_length (is_negative b))

@@ -1,5 +1,6 @@
 -- Each text has just one reading: a value, out of range, or no decimal.
-use Rattle.std.proofs.Common.{◌≡◌, ℕ, ◌+◌, ◌-◌, ◌*◌, ◌/◌, ◌^◌, ◌<◌, ◌≤◌, ◌↔◌, ◌⊎◌, inl, inr, Bool, true, false, List, ◌++◌, length, take, min, ℤ, pos, refl, sym, ap, subst, ◌∙◌, arith}
+use Rattle.std.proofs.Common.{◌≡◌, ℕ, ◌+◌, ◌-◌, ◌*◌, ◌/◌, ◌^◌, ◌<◌, ◌≤◌, ◌↔◌, ◌⊎◌, inl, inr, Bool, true, false, List,
+    ◌++◌, length, take, min, ℤ, pos, refl, sym, ap, subst, ◌∙◌, arith}
 use Rattle.std.specs.Prelude.{Option, Some, None, Result, Ok, Err, SomeIff, FitsSigned, ◌*ℤ◌, ◌≤ℤ◌}
 use Rattle.std.specs.Str.Parse.{digits_value}
 use Rattle.std.specs.Fmt.{sign_text}
@@ -32,7 +33,8 @@ rounds_unique text f b c x y =
 abbrev pub steps_by : ℕ → ℕ → List ℕ → List ℕ → ℕ
 steps_by p f w e = digits_value 10 w * 2 ^ f + near_magnitude (kept_numeral p e * 2 ^ f) (10 ^ p)
 
-pub rounds_by : (p f : ℕ) (text : List ℕ) (s : Bool) (w e : List ℕ) → f < p → HasParts text s w e → Rounds text f (signed s (steps_by p f w e))
+pub rounds_by : (p f : ℕ) (text : List ℕ) (s : Bool) (w e : List ℕ) → f < p → HasParts text s w e
+    → Rounds text f (signed s (steps_by p f w e))
 rounds_by p f text s w e h parts =
     let t = 2 ^ f in
     let k = length e in
@@ -56,9 +58,11 @@ rounds_by p f text s w e h parts =
 
 -- a number stands for the nearest number of steps to unsigned digits: it is that number, or both are above 2^63
 abbrev pub StandsForSteps : ℕ → List ℕ → ℕ → Type 0
-StandsForSteps f digits n = (steps : ℕ) × ((n ≡ steps) ⊎ ((2 ^ 63 < n) × (2 ^ 63 < steps))) × ((negative : Bool) → Rounds (sign_text negative ++ digits) f (signed negative steps))
+StandsForSteps f digits n = (steps : ℕ) × ((n ≡ steps) ⊎ ((2 ^ 63 < n) × (2 ^ 63 < steps)))
+    × ((negative : Bool) → Rounds (sign_text negative ++ digits) f (signed negative steps))
 
-pub steps_found : (f whole halves n : ℕ) (digits e : List ℕ) (len : ℕ) → f ≤ 30 → ((s : Bool) → HasParts (sign_text s ++ digits) s (take len digits) e)
+pub steps_found : (f whole halves n : ℕ) (digits e : List ℕ) (len : ℕ) → f ≤ 30
+    → ((s : Bool) → HasParts (sign_text s ++ digits) s (take len digits) e)
     → whole ≡ min (digits_value 10 (take len digits)) (2 ^ (63 - f) + 1) → halves ≡ kept_numeral (f + 1) e / 5 ^ (f + 1)
     → n ≡ whole * 2 ^ f + (halves + 1) / 2 → StandsForSteps f digits n
 steps_found f whole halves n digits e len few parts cut halves_are n_is =
@@ -66,7 +70,8 @@ steps_found f whole halves n digits e len few parts cut halves_are n_is =
     let rounded : (halves + 1) / 2 ≡ near_magnitude (kept_numeral (f + 1) e * 2 ^ f) (10 ^ (f + 1)) =
     ap (λ h. (h + 1) / 2) halves_are ∙ half_steps_halved f (kept_numeral (f + 1) e) in
     let capped = steps_capped f (digits_value 10 w) whole ((halves + 1) / 2) few cut in
-    (digits_value 10 w * 2 ^ f + (halves + 1) / 2, rw n_is capped, λ s. rw rounded (rounds_by (f + 1) f (sign_text s ++ digits) s w e (omega arith) (parts s)))
+    (digits_value 10 w * 2 ^ f + (halves + 1) / 2, rw n_is capped,
+        λ s. rw rounded (rounds_by (f + 1) f (sign_text s ++ digits) s w e (omega arith) (parts s)))
 
 -- what is read is in range, and no other number is read
 pub not_outside : (f : ℕ) (text : List ℕ) (min max b : ℤ) → Reads text f min max b → IsOutOfRange text f min max → ⊥
@@ -77,35 +82,46 @@ not_outside f text min max b x y =
     elim y.outside [ inl below ↦ omega (arith, ints) | inr above ↦ omega (arith, ints) ]
 
 -- a text has one reading
-pub reading_unique : (text : List ℕ) (f : ℕ) (min max : ℤ) (q r : Result ℤ DecimalFault) → IsReading text f min max q → IsReading text f min max r → q ≡ r
+pub reading_unique : (text : List ℕ) (f : ℕ) (min max : ℤ) (q r : Result ℤ DecimalFault) → IsReading text f min max q
+    → IsReading text f min max r → q ≡ r
 reading_unique text f min max (Ok b) (Ok c) x y = ap Ok (rounds_unique text f b c x.rounds y.rounds)
 reading_unique text f min max (Ok b) (Err Syntax) x y = absurd (y x.rounds.numeral x.rounds.places x.rounds.decimal)
 reading_unique text f min max (Ok b) (Err OutOfRange) x y = absurd (not_outside f text min max b x y)
 reading_unique text f min max (Err Syntax) (Ok c) x y = absurd (x y.rounds.numeral y.rounds.places y.rounds.decimal)
 reading_unique text f min max (Err Syntax) (Err Syntax) x y = refl
-reading_unique text f min max (Err Syntax) (Err OutOfRange) x y = absurd (x y.rounds.numeral y.rounds.places y.rounds.decimal)
+reading_unique text f min max (Err Syntax) (Err OutOfRange) x y = absurd
+    (x y.rounds.numeral y.rounds.places y.rounds.decimal)
 reading_unique text f min max (Err OutOfRange) (Ok c) x y = absurd (not_outside f text min max c y x)
-reading_unique text f min max (Err OutOfRange) (Err Syntax) x y = absurd (y x.rounds.numeral x.rounds.places x.rounds.decimal)
+reading_unique text f min max (Err OutOfRange) (Err Syntax) x y = absurd
+    (y x.rounds.numeral x.rounds.places x.rounds.decimal)
 reading_unique text f min max (Err OutOfRange) (Err OutOfRange) x y = refl
 
 -- and so the answer that is a reading tells which one it is
-pub answers_as : (text : List ℕ) (f : ℕ) (min max : ℤ) (q r : Result ℤ DecimalFault) → IsReading text f min max q → (q ≡ r) ↔ IsReading text f min max r
-answers_as text f min max q r x = (λ e. subst (λ t. IsReading text f min max t) e x, λ y. reading_unique text f min max q r x y)
+pub answers_as : (text : List ℕ) (f : ℕ) (min max : ℤ) (q r : Result ℤ DecimalFault) → IsReading text f min max q
+    → (q ≡ r) ↔ IsReading text f min max r
+answers_as text f min max q r x =
+    (λ e. subst (λ t. IsReading text f min max t) e x, λ y. reading_unique text f min max q r x y)
 
 -- a text whose nearest number is judged by the range
-pub judged_by_range : (text : List ℕ) (f : ℕ) (min max b : ℤ) (r : Option ℤ) → Rounds text f b → SomeIff r ((min ≤ℤ b) × (b ≤ℤ max)) b → IsReading text f min max (ok_or r OutOfRange)
-judged_by_range text f min max b None rounds none = record { nearest = b; rounds = rounds; outside = by_lt_z b min inl (λ low. by_lt_z max b inr (λ high. absurd (none (low, high)))) }
-judged_by_range text f min max b (Some c) rounds some = subst (λ v. Reads text f min max v) (sym some.1) (record { rounds = rounds; low = some.0.0; high = some.0.1 })
+pub judged_by_range : (text : List ℕ) (f : ℕ) (min max b : ℤ) (r : Option ℤ) → Rounds text f b
+    → SomeIff r ((min ≤ℤ b) × (b ≤ℤ max)) b → IsReading text f min max (ok_or r OutOfRange)
+judged_by_range text f min max b None rounds none = record
+    { nearest = b; rounds = rounds;
+        outside = by_lt_z b min inl (λ low. by_lt_z max b inr (λ high. absurd (none (low, high)))) }
+judged_by_range text f min max b (Some c) rounds some = subst (λ v. Reads text f min max v) (sym some.1)
+    (record { rounds = rounds; low = some.0.0; high = some.0.1 })
 
 -- a number of steps that is judged by the range: it, or one that is above 2^63 just as it is
 pub judged_steps : (s : Bool) (n steps : ℕ) (min max : ℤ) (r : Option ℤ) → FitsSigned w64 min → FitsSigned w64 max
     → (n ≡ steps) ⊎ ((2 ^ 63 < n) × (2 ^ 63 < steps))
-    → SomeIff r ((min ≤ℤ signed s n) × (signed s n ≤ℤ max)) (signed s n) → SomeIff r ((min ≤ℤ signed s steps) × (signed s steps ≤ℤ max)) (signed s steps)
+    → SomeIff r ((min ≤ℤ signed s n) × (signed s n ≤ℤ max)) (signed s n)
+    → SomeIff r ((min ≤ℤ signed s steps) × (signed s steps ≤ℤ max)) (signed s steps)
 judged_steps s n steps min max r low high same some = elim same [
   | inl e ↦ subst (λ m. SomeIff r ((min ≤ℤ signed s m) × (signed s m ≤ℤ max)) (signed s m)) e some
   | inr large ↦ beyond s r large some
 ] where
-  beyond : (s : Bool) (r : Option ℤ) → (2 ^ 63 < n) × (2 ^ 63 < steps) → SomeIff r ((min ≤ℤ signed s n) × (signed s n ≤ℤ max)) (signed s n)
+  beyond : (s : Bool) (r : Option ℤ) → (2 ^ 63 < n) × (2 ^ 63 < steps)
+      → SomeIff r ((min ≤ℤ signed s n) × (signed s n ≤ℤ max)) (signed s n)
       → SomeIff r ((min ≤ℤ signed s steps) × (signed s steps ≤ℤ max)) (signed s steps)
   beyond true None large none = λ within. omega (arith, ints, large, within)
   beyond false None large none = λ within. omega (arith, ints, large, within)

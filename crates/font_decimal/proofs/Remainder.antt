@@ -1,13 +1,16 @@
 -- What is left of a value m / 2^f behind its first p places.
-use Rattle.std.proofs.Common.{◌≡◌, ℕ, ◌+◌, ◌-◌, ◌*◌, ◌/◌, ◌%◌, ◌^◌, ◌<◌, ◌≤◌, inl, inr, false, ap, ◌∙◌, zero, suc, arith, add-one}
+use Rattle.std.proofs.Common.{◌≡◌, ℕ, ◌+◌, ◌-◌, ◌*◌, ◌/◌, ◌%◌, ◌^◌, ◌<◌, ◌≤◌, inl, inr, false, ap, ◌∙◌, zero, suc,
+    arith, add-one}
 use Rattle.std.specs.Prelude.{min}
 use Rattle.std.specs.Int.{abs_diff}
-use Rattle.std.proofs.Math.Nat.{pow-suc, div-add-mod', div-lt_iff_lt-mul, mod-lt, mul-le-mul_right, add-mul-mod_self_left}
+use Rattle.std.proofs.Math.Nat.{pow-suc, div-add-mod', div-lt_iff_lt-mul, mod-lt, mul-le-mul_right,
+    add-mul-mod_self_left}
 use Rattle.std.proofs.lemmas.Bool.{cases_lt}
 use Rattle.std.proofs.lemmas.Nat.{pow_pos}
 use Rattle.font_decimal.specs.Shortest.{nearest_numeral, reads_back, fewest_places}
 use Rattle.font_decimal.proofs.Near.{rounded_is, near_magnitude_unique}
-use Rattle.font_decimal.proofs.Fewest.{IsFewest, fewest_is, fewest_unique, reads_within, fails_past, zero_drops, within_half}
+use Rattle.font_decimal.proofs.Fewest.{IsFewest, fewest_is, fewest_unique, reads_within, fails_past, zero_drops,
+    within_half}
 
 -- m / 2^f cut off after p places is the numeral q, and of the last place rest / 2^(f+1) is left
 pub record HasRest (m f p q rest : ℕ) : Type 0 where
@@ -15,7 +18,8 @@ pub record HasRest (m f p q rest : ℕ) : Type 0 where
   pub below : rest < 2 * 2 ^ f
 
 -- the equation of the value, ten times as great
-tenfold_value : (m ten tenfold q t rest digit left : ℕ) → tenfold ≡ ten * 10 → 2 * (m * ten) ≡ 2 * (q * t) + rest → digit * (2 * t) + left ≡ 10 * rest
+tenfold_value : (m ten tenfold q t rest digit left : ℕ) → tenfold ≡ ten * 10 → 2 * (m * ten) ≡ 2 * (q * t) + rest
+    → digit * (2 * t) + left ≡ 10 * rest
     → 2 * (m * tenfold) ≡ 2 * ((10 * q + digit) * t) + left
 tenfold_value m ten tenfold q t rest digit left power value split = rw power (omega arith)
 
@@ -25,7 +29,8 @@ pub next_rest : (m f p q rest : ℕ) → HasRest m f p q rest
 next_rest m f p q rest h =
     let step = pow_pos f in
     record {
-      value = tenfold_value m (10 ^ p) (10 ^ (p + 1)) q (2 ^ f) rest _ _ (rw add-one (pow-suc 10 p)) h.value (div-add-mod' (10 * rest) (2 * 2 ^ f));
+      value = tenfold_value m (10 ^ p) (10 ^ (p + 1)) q (2 ^ f) rest _ _ (rw add-one (pow-suc 10 p)) h.value
+          (div-add-mod' (10 * rest) (2 * 2 ^ f));
       below = mod-lt (10 * rest) (omega arith);
     }
 
@@ -33,17 +38,20 @@ next_rest m f p q rest h =
 pub rounded_down : (m f p q rest : ℕ) → HasRest m f p q rest → rest < 2 ^ f → nearest_numeral m f p ≡ q
 rounded_down m f p q rest h low =
     let value = h.value in
-    near_magnitude_unique (m * 10 ^ p) (2 ^ f) _ q (rounded_is (m * 10 ^ p) (2 ^ f) (pow_pos f)) (record { low = omega arith; high = omega arith })
+    near_magnitude_unique (m * 10 ^ p) (2 ^ f) _ q (rounded_is (m * 10 ^ p) (2 ^ f) (pow_pos f))
+        (record { low = omega arith; high = omega arith })
 
 -- one more where half of the last place or more is left
 pub rounded_up : (m f p q rest : ℕ) → HasRest m f p q rest → 2 ^ f ≤ rest → nearest_numeral m f p ≡ q + 1
 rounded_up m f p q rest h high =
     let value = h.value in
     let below = h.below in
-    near_magnitude_unique (m * 10 ^ p) (2 ^ f) _ (q + 1) (rounded_is (m * 10 ^ p) (2 ^ f) (pow_pos f)) (record { low = omega arith; high = omega arith })
+    near_magnitude_unique (m * 10 ^ p) (2 ^ f) _ (q + 1) (rounded_is (m * 10 ^ p) (2 ^ f) (pow_pos f))
+        (record { low = omega arith; high = omega arith })
 
 -- the distance of the nearest numeral from the value, in the same parts of the last place
-pub distance : (m f p q rest : ℕ) → HasRest m f p q rest → 2 * abs_diff (nearest_numeral m f p * 2 ^ f) (m * 10 ^ p) ≡ min rest (2 * 2 ^ f - rest)
+pub distance : (m f p q rest : ℕ) → HasRest m f p q rest → 2 * abs_diff (nearest_numeral m f p * 2 ^ f) (m * 10 ^ p)
+    ≡ min rest (2 * 2 ^ f - rest)
 distance m f p q rest h =
     let value = h.value in
     let below = h.below in
@@ -53,15 +61,18 @@ distance m f p q rest h =
     ]
 
 -- half a step is 10^p such parts: the first places within it are the fewest
-pub stopped : (m f p q rest : ℕ) → HasRest m f p q rest → min rest (2 * 2 ^ f - rest) < 10 ^ p → p ≤ f → ((j : ℕ) → j < p → reads_back m f j ≡ false) → IsFewest m f p
-stopped m f p q rest h close few fails = record { few = few; reads = reads_within m f p (omega (arith, distance m f p q rest h)); before = fails }
+pub stopped : (m f p q rest : ℕ) → HasRest m f p q rest → min rest (2 * 2 ^ f - rest) < 10 ^ p → p ≤ f
+    → ((j : ℕ) → j < p → reads_back m f j ≡ false) → IsFewest m f p
+stopped m f p q rest h close few fails = record
+    { few = few; reads = reads_within m f p (omega (arith, distance m f p q rest h)); before = fails }
 
 -- and these are the places that the definition gives
 pub places_are : (m f p : ℕ) → IsFewest m f p → p ≡ fewest_places m f
 places_are m f p fewest = fewest_unique m f p (fewest_places m f) fewest (fewest_is m f)
 
 -- and past it the nearest decimal does not read back
-pub fails_here : (m f p q rest : ℕ) → HasRest m f p q rest → 10 ^ p ≤ min rest (2 * 2 ^ f - rest) → reads_back m f p ≡ false
+pub fails_here : (m f p q rest : ℕ) → HasRest m f p q rest → 10 ^ p ≤ min rest (2 * 2 ^ f - rest)
+    → reads_back m f p ≡ false
 fails_here m f p q rest h far = fails_past m f p (omega (arith, distance m f p q rest h))
 
 -- the numeral with one digit more behind the same whole digits
@@ -69,13 +80,15 @@ pub next_numeral : (m f p w n rest unit : ℕ) → HasRest m f p (w * 10 ^ p + n
     → HasRest m f (p + 1) (w * 10 ^ (p + 1) + (10 * n + 10 * rest / unit)) (10 * rest % unit)
 next_numeral m f p w n rest unit h is =
     let power : 10 ^ (p + 1) ≡ 10 ^ p * 10 = rw add-one (pow-suc 10 p) in
-    let regroup : w * 10 ^ (p + 1) + (10 * n + 10 * rest / unit) ≡ 10 * (w * 10 ^ p + n) + 10 * rest / unit = rw power (omega arith) in
+    let regroup : w * 10 ^ (p + 1) + (10 * n + 10 * rest / unit) ≡ 10 * (w * 10 ^ p + n) + 10 * rest / unit = rw power
+        (omega arith) in
     rw (regroup, is) (next_rest m f p (w * 10 ^ p + n) rest h)
 
 -- and its fraction has as many places as digits
 pub next_below : (n ten rest unit : ℕ) → n < ten → rest < unit → 10 * n + 10 * rest / unit < ten * 10
 next_below n ten rest unit low less =
-    let digit : 10 * rest / unit < 10 = (div-lt_iff_lt-mul {k = unit} {x = 10 * rest} {y = 10} (omega arith)).1 (omega arith) in
+    let digit : 10 * rest / unit < 10 = (div-lt_iff_lt-mul {k = unit} {x = 10 * rest} {y = 10} (omega arith)).1
+        (omega arith) in
     omega arith
 
 -- a numeral past the whole part above the value is half a step away or more
@@ -93,11 +106,13 @@ fraction_below m f p n fewest split =
     let below : m < (m / 2 ^ f + 1) * 2 ^ f = omega arith in
     elim (cases_lt n (10 ^ p)) [
       | inl low ↦ low
-      | inr high ↦ absurd (past_whole m (m / 2 ^ f) (2 ^ f) (10 ^ p) n below (rw split at (within_half m f p fewest.reads)) high)
+      | inr high ↦ absurd (past_whole m (m / 2 ^ f) (2 ^ f) (10 ^ p) n below
+          (rw split at (within_half m f p fewest.reads)) high)
     ]
 
 -- one above a numeral that ends in 9 is a multiple of ten
-nine_ends : (w ten tenfold n numeral : ℕ) → tenfold ≡ ten * 10 → numeral ≡ w * tenfold + n + 1 → 9 ≤ n % 10 → numeral % 10 ≡ 0
+nine_ends : (w ten tenfold n numeral : ℕ) → tenfold ≡ ten * 10 → numeral ≡ w * tenfold + n + 1 → 9 ≤ n % 10
+    → numeral % 10 ≡ 0
 nine_ends w ten tenfold n numeral power split nine =
     let digits : n / 10 * 10 + n % 10 ≡ n = div-add-mod' n 10 in
     let digit : n % 10 < 10 = mod-lt n (omega arith) in

@@ -26,7 +26,8 @@ no_point c w (d ∷ e) g small h =
     omega arith
 
 -- two texts that agree have the same digits on each side of the point
-same_split : (v w e g : List ℕ) → AllDigits 10 v → AllDigits 10 w → v ++ fraction_text e ≡ w ++ fraction_text g → (v ≡ w) × (e ≡ g)
+same_split : (v w e g : List ℕ) → AllDigits 10 v → AllDigits 10 w → v ++ fraction_text e ≡ w ++ fraction_text g
+    → (v ≡ w) × (e ≡ g)
 same_split [] [] e g p q h = (refl, same_point e g h)
 same_split [] (c ∷ w) e g p q h = absurd (no_point c w e g q.0 h)
 same_split (c ∷ v) [] e g p q h = absurd (no_point c v g e p.0 (sym h))
@@ -49,12 +50,15 @@ pub record SameParts (s t : Bool) (v w e g : List ℕ) : Type 0 where
   pub whole : v ≡ w
   pub fraction : e ≡ g
 
-pub same_parts : (s t : Bool) (v w e g text : List ℕ) → HasParts text s v e → HasParts text t w g → SameParts s t v w e g
+pub same_parts : (s t : Bool) (v w e g text : List ℕ) → HasParts text s v e → HasParts text t w g
+    → SameParts s t v w e g
 same_parts false false v w e g text x y =
     let same = same_split v w e g x.whole_digits.1 y.whole_digits.1 (sym x.written ∙ y.written) in
     record { negative = refl; whole = same.0; fraction = same.1 }
-same_parts false true v w e g text x y = absurd (no_minus v e (w ++ fraction_text g) x.whole_digits (sym x.written ∙ y.written))
-same_parts true false v w e g text x y = absurd (no_minus w g (v ++ fraction_text e) y.whole_digits (sym y.written ∙ x.written))
+same_parts false true v w e g text x y = absurd
+    (no_minus v e (w ++ fraction_text g) x.whole_digits (sym x.written ∙ y.written))
+same_parts true false v w e g text x y = absurd
+    (no_minus w g (v ++ fraction_text e) y.whole_digits (sym y.written ∙ x.written))
 same_parts true true v w e g text x y =
     let text_is = x.written in
     let text_is_too = y.written in
@@ -80,7 +84,8 @@ decimal_unique text n m j k x y =
     record { numeral = cc; places = cc }
 
 -- a text that has these parts stands for their number
-pub decimal_of : (text : List ℕ) (s : Bool) (w e : List ℕ) → HasParts text s w e → Decimal text (signed s (digits_value 10 (w ++ e))) (length e)
+pub decimal_of : (text : List ℕ) (s : Bool) (w e : List ℕ) → HasParts text s w e
+    → Decimal text (signed s (digits_value 10 (w ++ e))) (length e)
 decimal_of text s w e p = record { negative = s; whole = w; fraction = e; parts = p; numeral = refl; places = refl }
 
 ascii_point : (e : List ℕ) → AllDigits 10 e → IsAscii (fraction_text e)
@@ -95,7 +100,9 @@ ascii_sign false = IsAscii-nil
 pub decimal_is_ascii : (text : List ℕ) (n : ℤ) (k : ℕ) → Decimal text n k → IsAscii text
 decimal_is_ascii text n k d =
     let p = d.parts in
-    rw p.written (IsAscii-append (sign_text d.negative) _ (ascii_sign d.negative) (IsAscii-append d.whole _ (IsAscii-from_digits d.whole p.whole_digits.1) (ascii_point d.fraction p.fraction_digits)))
+    rw p.written (IsAscii-append (sign_text d.negative) _ (ascii_sign d.negative)
+        (IsAscii-append d.whole _ (IsAscii-from_digits d.whole p.whole_digits.1)
+            (ascii_point d.fraction p.fraction_digits)))
 
 pub decimal_is_utf8 : (text : List ℕ) (n : ℤ) (k : ℕ) → Decimal text n k → IsUtf8 text
 decimal_is_utf8 text n k d = IsUtf8-from_ascii text (decimal_is_ascii text n k d)

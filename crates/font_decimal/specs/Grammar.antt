@@ -1,5 +1,5 @@
--- Decimal texts: an optional `-`, one or more digits, and optionally a point with one or more digits behind it. No plus sign,
--- exponent or space. This is the project's own form of a fixed-point number in text.
+-- Decimal texts: an optional `-`, one or more digits, and optionally a point with one or more digits behind it. No plus
+-- sign, exponent or space. This is the project's own form of a fixed-point number in text.
 use Rattle.std.specs.Prelude.{◌≡◌, ℕ, ◌↔◌, Bool, IsTrue, List, [], ◌∷◌, ◌++◌, length, slice_index, ℤ, pos, ◌<ℤ◌}
 use Rattle.std.specs.Fmt.{sign_text}
 use Rattle.std.specs.Str.Parse.{digits_value, AllDigits, IsNumeral}
@@ -16,7 +16,8 @@ pub record HasParts (text : List ℕ) (negative : Bool) (whole fraction : List �
   pub whole_digits : IsNumeral 10 whole
   pub fraction_digits : AllDigits 10 fraction
 
--- the text is a decimal that stands for n / 10^k: n is the signed numeral of all its digits, k the number of those behind the point
+-- the text is a decimal that stands for n / 10^k: n is the signed numeral of all its digits, k the number of those
+-- behind the point
 pub record Decimal (text : List ℕ) (n : ℤ) (k : ℕ) : Type 0 where
   pub negative : Bool
   pub whole : List ℕ

@@ -1,13 +1,16 @@
--- Rounding a fraction to a whole number. A fixed-point number of f bits of fraction stands for its bits over 2^f (OpenType, data
--- types: Fixed, F2DOT14), so that reading, printing and arithmetic are all roundings of an exact fraction n / d with 0 < d.
-use Rattle.std.specs.Prelude.{◌≡◌, ℕ, suc, ◌+◌, ◌*◌, ◌/◌, ◌<◌, ◌≤◌, Bool, true, false, ℤ, pos, negsuc, neg_ℤ, ◌+ℤ◌, ◌-ℤ◌, ◌*ℤ◌, ◌≤ℤ◌, ◌<ℤ◌, unsigned_abs}
+-- Rounding a fraction to a whole number. A fixed-point number of f bits of fraction stands for its bits over 2^f
+-- (OpenType, data types: Fixed, F2DOT14), so that reading, printing and arithmetic are all roundings of an exact
+-- fraction n / d with 0 < d.
+use Rattle.std.specs.Prelude.{◌≡◌, ℕ, suc, ◌+◌, ◌*◌, ◌/◌, ◌<◌, ◌≤◌, Bool, true, false, ℤ, pos, negsuc, neg_ℤ, ◌+ℤ◌,
+    ◌-ℤ◌, ◌*ℤ◌, ◌≤ℤ◌, ◌<ℤ◌, unsigned_abs}
 
 -- the number of this magnitude, negated where `negative` says so
 abbrev pub signed : Bool → ℕ → ℤ
 signed false n = pos n
 signed true n = neg_ℤ (pos n)
 
--- q is a whole number nearest to n / d: at most a half away; and where it is just a half away, the one farther from zero
+-- q is a whole number nearest to n / d: at most a half away; and where it is just a half away, the one farther from
+-- zero
 pub record Near (n : ℤ) (d : ℕ) (q : ℤ) : Type 0 where
   pub close : 2 * unsigned_abs (q *ℤ pos d -ℤ n) ≤ d
   pub away : 2 * unsigned_abs (q *ℤ pos d -ℤ n) ≡ d → unsigned_abs n < unsigned_abs q * d

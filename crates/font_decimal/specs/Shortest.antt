@@ -1,13 +1,14 @@
 -- The shortest decimal of a value b / 2^f: of all that read back to it the nearest with the fewest fractional digits.
-use Rattle.std.specs.Prelude.{ℕ, zero, suc, ◌+◌, ◌*◌, ◌/◌, ◌%◌, ◌^◌, ◌<◌, Bool, List, [], ◌∷◌, ◌++◌, ℤ, pos, ◌*ℤ◌, unsigned_abs, nat_lt, if◌then◌else◌}
+use Rattle.std.specs.Prelude.{ℕ, zero, suc, ◌+◌, ◌*◌, ◌/◌, ◌%◌, ◌^◌, ◌<◌, Bool, List, [], ◌∷◌, ◌++◌, ℤ, pos, ◌*ℤ◌,
+    unsigned_abs, nat_lt, if◌then◌else◌}
 use Rattle.std.specs.Int.{is_negative, abs_diff}
 use Rattle.std.specs.Fmt.{decimal, sign_text}
 use Rattle.font_decimal.specs.Near.{Near, near_magnitude}
 use Rattle.font_decimal.specs.Grammar.{Plain, fraction_text}
 use Rattle.font_decimal.specs.Reading.{Rounds}
 
--- the text is plain and reads back as b; among the decimals of its number of places none is nearer to b / 2^f; and no number with
--- fewer places, however it is written, rounds to b
+-- the text is plain and reads back as b; among the decimals of its number of places none is nearer to b / 2^f; and no
+-- number with fewer places, however it is written, rounds to b
 pub record IsShortest (b : ℤ) (f : ℕ) (text : List ℕ) : Type 0 where
   pub numeral : ℤ
   pub places : ℕ

@@ -1,4 +1,5 @@
--- The fixed-point number of 32 bits with 6 bits of fraction (26.6, the unit of scaled outlines; it is stored in no table).
+-- The fixed-point number of 32 bits with 6 bits of fraction (26.6, the unit of scaled outlines; it is stored in no
+-- table).
 use Rattle.std.specs.Prelude.{ℕ, ℤ, List}
 use Rattle.font_decimal.specs.Shortest.{shortest_text}
 use Rattle.font_f26.specs.declared.f26dot6.F26Dot6.{F26Dot6}

@@ -1,6 +1,7 @@
--- What callers of `Fixed` name once: products and quotients by 0 and by 1, sums with 0, differences, a number over itself, a part of a whole, and
--- wrapping of what fits.
-use Rattle.std.proofs.Common.{◌≡◌, ◌≢◌, ◌∙◌, ap, refl, arith, lit<, ℕ, zero, suc, ◌*◌, ◌<◌, ◌≤◌, ℤ, pos, negsuc, ◌+ℤ◌, ◌-ℤ◌, ◌*ℤ◌, ◌≤ℤ◌, w32, false, inl, inr}
+-- What callers of `Fixed` name once: products and quotients by 0 and by 1, sums with 0, differences, a number over
+-- itself, a part of a whole, and wrapping of what fits.
+use Rattle.std.proofs.Common.{◌≡◌, ◌≢◌, ◌∙◌, ap, refl, arith, lit<, ℕ, zero, suc, ◌*◌, ◌<◌, ◌≤◌, ℤ, pos, negsuc, ◌+ℤ◌,
+    ◌-ℤ◌, ◌*ℤ◌, ◌≤ℤ◌, w32, false, inl, inr}
 use Rattle.std.proofs.lemmas.Bool.{cases_lt}
 use Rattle.std.proofs.lemmas.Int.{ints}
 use mir.Val.{SFits}
@@ -42,7 +43,8 @@ add_sub_cancel a b fits = wrap-add_right 32 a (b -ℤ a) (lit< tt) ∙ ap (wrap 
 
 -- a number less itself is 0
 pub sub_self : (a : ℤ) → wrap 32 (a -ℤ a) ≡ pos 0
-sub_self a = let none : (a -ℤ a) ≡ pos 0 = omega (arith, ints) in ap (wrap 32) none ∙ fits_32 (pos 0) (omega (arith, ints))
+sub_self a = let none : (a -ℤ a) ≡ pos 0 = omega (arith, ints) in ap (wrap 32) none ∙ fits_32 (pos 0)
+    (omega (arith, ints))
 
 -- ---- quotients
 
@@ -67,7 +69,8 @@ ratio_bounds (pos x) (negsuc d) r quotient low high some = absurd (omega (arith,
 ratio_bounds (pos x) (pos zero) r quotient low high some = absurd (some refl)
 ratio_bounds (pos x) (pos (suc d)) r quotient low high some =
     let rounded = near_to false (x * 65536) (suc d) quotient.exact (omega arith) quotient.nearest in
-    let bound = share_is_at_most_one x (suc d) rounded.magnitude (omega arith) (omega (arith, ints, high)) rounded.rounded in
+    let bound = share_is_at_most_one x (suc d) rounded.magnitude (omega arith)
+        (omega (arith, ints, high)) rounded.rounded in
     let same : r ≡ pos rounded.magnitude =
     quotient.wrapped ∙ ap (wrap 32) rounded.is ∙ fits_32 (pos rounded.magnitude) (omega (arith, ints, bound)) in
     (omega (arith, ints, same), omega (arith, ints, same, bound))

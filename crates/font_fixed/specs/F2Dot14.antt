@@ -1,4 +1,5 @@
--- The fixed-point number of 16 bits with 14 bits of fraction (OpenType, data types: F2DOT14, "16-bit signed fixed number with the low 14 bits of fraction (2.14)").
+-- The fixed-point number of 16 bits with 14 bits of fraction (OpenType, data types: F2DOT14, "16-bit signed fixed
+-- number with the low 14 bits of fraction (2.14)").
 use Rattle.std.specs.Prelude.{ℕ, ℤ, List}
 use Rattle.font_decimal.specs.Shortest.{shortest_text}
 use Rattle.font_fixed.specs.declared.f2dot14.F2Dot14.{F2Dot14}

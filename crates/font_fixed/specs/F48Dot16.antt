@@ -1,4 +1,5 @@
--- The fixed-point number of 64 bits with 16 bits of fraction (48.16, wide enough for sums of deltas; it is stored in no table).
+-- The fixed-point number of 64 bits with 16 bits of fraction (48.16, wide enough for sums of deltas; it is stored in no
+-- table).
 use Rattle.std.specs.Prelude.{ℕ, ℤ, List}
 use Rattle.font_decimal.specs.Shortest.{shortest_text}
 use Rattle.font_fixed.specs.declared.f48dot16.F48Dot16.{F48Dot16}

@@ -1,4 +1,5 @@
--- The fixed-point number of 32 bits with 16 bits of fraction (OpenType, data types: Fixed, "32-bit signed fixed-point number (16.16)").
+-- The fixed-point number of 32 bits with 16 bits of fraction (OpenType, data types: Fixed, "32-bit signed fixed-point
+-- number (16.16)").
 use Rattle.std.specs.Prelude.{ℕ, ℤ, List}
 use Rattle.font_decimal.specs.Shortest.{shortest_text}
 use Rattle.font_fixed.specs.declared.fixed.Fixed.{Fixed}

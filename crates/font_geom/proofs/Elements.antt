@@ -2,7 +2,8 @@
 use Rattle.std.proofs.Common.{◌≡◌, ◌∙◌, ap}
 use Rattle.font_geom.specs.declared.matrix.Matrix.{Matrix}
 use Rattle.font_geom.specs.declared.point.Point.{Point}
-use Rattle.font_geom.specs.Matrix.{IsLinearForm, IsAffineForm, IsTransformed, IsProductOf, linear_form, affine_form, image_of, matrix_product}
+use Rattle.font_geom.specs.Matrix.{IsLinearForm, IsAffineForm, IsTransformed, IsProductOf, linear_form, affine_form,
+    image_of, matrix_product}
 
 -- the matrix and the point of what a function gives at each element
 abbrev pub map_matrix : {T V : Type 0} → (T → V) → Matrix T → Matrix V
@@ -12,24 +13,32 @@ abbrev pub map_point : {T V : Type 0} → (T → V) → Point T → Point V
 map_point f p = record { x = f p.x; y = f p.y }
 
 -- the elements are seen by `shown`, and over what is shown products and sums are these functions
-pub record HasOneAnswer {T V : Type 0} (product sum : T → T → T → Type 0) (shown : T → V) (plus times : V → V → V) : Type 0 where
+pub record HasOneAnswer {T V : Type 0} (product sum : T → T → T → Type 0) (shown : T → V)
+    (plus times : V → V → V) : Type 0 where
   pub product_is : (x y r : T) → product x y r → shown r ≡ times (shown x) (shown y)
   pub sum_is : (x y r : T) → sum x y r → shown r ≡ plus (shown x) (shown y)
 
-module _ {T V : Type 0} {product sum : T → T → T → Type 0} {shown : T → V} {plus times : V → V → V} (one : HasOneAnswer product sum shown plus times) where
-  linear_is : (p x q y r : T) → IsLinearForm product sum p x q y r → shown r ≡ linear_form plus times (shown p) (shown x) (shown q) (shown y)
+module _ {T V : Type 0} {product sum : T → T → T → Type 0} {shown : T → V} {plus times : V → V → V}
+    (one : HasOneAnswer product sum shown plus times) where
+  linear_is : (p x q y r : T) → IsLinearForm product sum p x q y r → shown r ≡ linear_form plus times (shown p)
+      (shown x) (shown q) (shown y)
   linear_is p x q y r it =
       one.sum_is it.first it.second r it.is_sum
       ∙ ap (λ n. plus n (shown it.second)) (one.product_is p x it.first it.is_first)
       ∙ ap (plus (times (shown p) (shown x))) (one.product_is q y it.second it.is_second)
 
-  affine_is : (p x q y d r : T) → IsAffineForm product sum p x q y d r → shown r ≡ affine_form plus times (shown p) (shown x) (shown q) (shown y) (shown d)
-  affine_is p x q y d r it = one.sum_is it.linear d r it.is_sum ∙ ap (λ n. plus n (shown d)) (linear_is p x q y it.linear it.is_linear)
+  affine_is : (p x q y d r : T) → IsAffineForm product sum p x q y d r → shown r ≡ affine_form plus times (shown p)
+      (shown x) (shown q) (shown y) (shown d)
+  affine_is p x q y d r it = one.sum_is it.linear d r it.is_sum ∙ ap (λ n. plus n (shown d))
+      (linear_is p x q y it.linear it.is_linear)
 
-  pub image_is : (m : Matrix T) (p r : Point T) → IsTransformed product sum m p.x p.y r.x r.y → map_point shown r ≡ image_of plus times (map_matrix shown m) (map_point shown p)
-  image_is m p r it = λ i. record { x = affine_is m.xx p.x m.xy p.y m.dx r.x it.on_x i; y = affine_is m.yx p.x m.yy p.y m.dy r.y it.on_y i }
+  pub image_is : (m : Matrix T) (p r : Point T) → IsTransformed product sum m p.x p.y r.x r.y
+      → map_point shown r ≡ image_of plus times (map_matrix shown m) (map_point shown p)
+  image_is m p r it = λ i. record
+      { x = affine_is m.xx p.x m.xy p.y m.dx r.x it.on_x i; y = affine_is m.yx p.x m.yy p.y m.dy r.y it.on_y i }
 
-  pub matrix_product_is : (a b c : Matrix T) → IsProductOf product sum a b c → map_matrix shown c ≡ matrix_product plus times (map_matrix shown a) (map_matrix shown b)
+  pub matrix_product_is : (a b c : Matrix T) → IsProductOf product sum a b c
+      → map_matrix shown c ≡ matrix_product plus times (map_matrix shown a) (map_matrix shown b)
   matrix_product_is a b c it = λ i. record {
     xx = linear_is a.xx b.xx a.xy b.yx c.xx it.xx i;
     yx = linear_is a.yx b.xx a.yy b.yx c.yx it.yx i;

@@ -29,10 +29,12 @@ fixed_has_one_answer = record {
 }
 
 -- the bits of a product, and of a point that was moved
-pub product_value : {a b ab : Matrix Fixed} → IsProductOf Product Sum a b ab → matrix_bits ab ≡ matrix_product wrapped_sum wrapped_product (matrix_bits a) (matrix_bits b)
+pub product_value : {a b ab : Matrix Fixed} → IsProductOf Product Sum a b ab
+    → matrix_bits ab ≡ matrix_product wrapped_sum wrapped_product (matrix_bits a) (matrix_bits b)
 product_value {a} {b} {ab} given = matrix_product_is fixed_has_one_answer a b ab given
 
-pub image_value : {m : Matrix Fixed} {p r : Point Fixed} → IsTransformed Product Sum m p.x p.y r.x r.y → point_bits r ≡ image_of wrapped_sum wrapped_product (matrix_bits m) (point_bits p)
+pub image_value : {m : Matrix Fixed} {p r : Point Fixed} → IsTransformed Product Sum m p.x p.y r.x r.y
+    → point_bits r ≡ image_of wrapped_sum wrapped_product (matrix_bits m) (point_bits p)
 image_value {m} {p} {r} given = image_is fixed_has_one_answer m p r given
 
 -- ---- the identity
@@ -55,16 +57,24 @@ neutral = record {
 same_matrix : (a r : Matrix Fixed) → matrix_bits r ≡ matrix_bits a → r ≡ a
 same_matrix a r same = ap (map_matrix fixed_of) same
 
-pub left_identity : {a identity r : Matrix Fixed} → FitsEach (FitsBits 32) (matrix_bits a) → identity ≡ identity_matrix (fixed_of (pos 0)) (fixed_of (pos 65536))
-    → IsProductOf Product Sum identity a r → (matrix_bits r ≡ matrix_product wrapped_sum wrapped_product (identity_matrix (pos 0) (pos 65536)) (matrix_bits a)) × (r ≡ a)
+pub left_identity : {a identity r : Matrix Fixed} → FitsEach (FitsBits 32) (matrix_bits a)
+    → identity ≡ identity_matrix (fixed_of (pos 0)) (fixed_of (pos 65536))
+    → IsProductOf Product Sum identity a r
+    → (matrix_bits r ≡ matrix_product wrapped_sum wrapped_product (identity_matrix (pos 0) (pos 65536)) (matrix_bits a))
+    × (r ≡ a)
 left_identity {a} {identity} {r} fits is given =
-    let value : matrix_bits r ≡ matrix_product wrapped_sum wrapped_product (identity_matrix (pos 0) (pos 65536)) (matrix_bits a) =
+    let value : matrix_bits r ≡ matrix_product wrapped_sum wrapped_product (identity_matrix (pos 0) (pos 65536))
+        (matrix_bits a) =
     product_value given ∙ ap (λ m. matrix_product wrapped_sum wrapped_product (matrix_bits m) (matrix_bits a)) is in
     (value, same_matrix a r (value ∙ identity_times neutral (matrix_bits a) fits))
 
-pub right_identity : {a identity r : Matrix Fixed} → FitsEach (FitsBits 32) (matrix_bits a) → identity ≡ identity_matrix (fixed_of (pos 0)) (fixed_of (pos 65536))
-    → IsProductOf Product Sum a identity r → (matrix_bits r ≡ matrix_product wrapped_sum wrapped_product (matrix_bits a) (identity_matrix (pos 0) (pos 65536))) × (r ≡ a)
+pub right_identity : {a identity r : Matrix Fixed} → FitsEach (FitsBits 32) (matrix_bits a)
+    → identity ≡ identity_matrix (fixed_of (pos 0)) (fixed_of (pos 65536))
+    → IsProductOf Product Sum a identity r
+    → (matrix_bits r ≡ matrix_product wrapped_sum wrapped_product (matrix_bits a) (identity_matrix (pos 0) (pos 65536)))
+    × (r ≡ a)
 right_identity {a} {identity} {r} fits is given =
-    let value : matrix_bits r ≡ matrix_product wrapped_sum wrapped_product (matrix_bits a) (identity_matrix (pos 0) (pos 65536)) =
+    let value : matrix_bits r ≡ matrix_product wrapped_sum wrapped_product (matrix_bits a)
+        (identity_matrix (pos 0) (pos 65536)) =
     product_value given ∙ ap (λ m. matrix_product wrapped_sum wrapped_product (matrix_bits a) (matrix_bits m)) is in
     (value, same_matrix a r (value ∙ times_identity neutral (matrix_bits a) fits))

@@ -13,23 +13,29 @@ pub record NeutralLaws {T : Type 0} (fits : T → Type 0) (zero one : T) (plus t
   pub zero_plus : (x : T) → fits x → plus zero x ≡ x
   pub zero_fits : fits zero
 
-module _ {T : Type 0} {fits : T → Type 0} {zero one : T} {plus times : T → T → T} (laws : NeutralLaws fits zero one plus times) where
+module _ {T : Type 0} {fits : T → Type 0} {zero one : T} {plus times : T → T → T}
+    (laws : NeutralLaws fits zero one plus times) where
   -- one * x + zero * y, and the other three
   first_of : (x y : T) → fits x → fits y → linear_form plus times one x zero y ≡ x
-  first_of x y f g = ap (plus (times one x)) (laws.zero_times y g) ∙ ap (λ n. plus n zero) (laws.one_times x f) ∙ laws.plus_zero x f
+  first_of x y f g = ap (plus (times one x)) (laws.zero_times y g) ∙ ap (λ n. plus n zero) (laws.one_times x f)
+      ∙ laws.plus_zero x f
 
   second_of : (x y : T) → fits x → fits y → linear_form plus times zero x one y ≡ y
-  second_of x y f g = ap (λ n. plus n (times one y)) (laws.zero_times x f) ∙ ap (plus zero) (laws.one_times y g) ∙ laws.zero_plus y g
+  second_of x y f g = ap (λ n. plus n (times one y)) (laws.zero_times x f) ∙ ap (plus zero) (laws.one_times y g)
+      ∙ laws.zero_plus y g
 
   first_kept : (x y : T) → fits x → fits y → linear_form plus times x one y zero ≡ x
-  first_kept x y f g = ap (plus (times x one)) (laws.times_zero y g) ∙ ap (λ n. plus n zero) (laws.times_one x f) ∙ laws.plus_zero x f
+  first_kept x y f g = ap (plus (times x one)) (laws.times_zero y g) ∙ ap (λ n. plus n zero) (laws.times_one x f)
+      ∙ laws.plus_zero x f
 
   second_kept : (x y : T) → fits x → fits y → linear_form plus times x zero y one ≡ y
-  second_kept x y f g = ap (λ n. plus n (times y one)) (laws.times_zero x f) ∙ ap (plus zero) (laws.times_one y g) ∙ laws.zero_plus y g
+  second_kept x y f g = ap (λ n. plus n (times y one)) (laws.times_zero x f) ∙ ap (plus zero) (laws.times_one y g)
+      ∙ laws.zero_plus y g
 
   shift_kept : (x y d : T) → fits x → fits y → fits d → affine_form plus times x zero y zero d ≡ d
   shift_kept x y d f g h =
-      ap (λ n. plus n d) (ap (plus (times x zero)) (laws.times_zero y g) ∙ ap (λ n. plus n zero) (laws.times_zero x f) ∙ laws.plus_zero zero laws.zero_fits)
+      ap (λ n. plus n d) (ap (plus (times x zero)) (laws.times_zero y g) ∙ ap (λ n. plus n zero) (laws.times_zero x f)
+          ∙ laws.plus_zero zero laws.zero_fits)
       ∙ laws.zero_plus d h
 
   pub identity_times : (m : Matrix T) → FitsEach fits m → matrix_product plus times (identity_matrix zero one) m ≡ m

@@ -15,7 +15,8 @@ integers = record {
   products_associate = product-times;
   one_times = λ x. *ℤ_comm (pos 1) x ∙ *ℤ-one x;
   times_one = *ℤ-one;
-  times_sum = λ x y z. *ℤ_comm x (y +ℤ z) ∙ sum-times y z x ∙ ap (λ n. n +ℤ (z *ℤ x)) (*ℤ_comm y x) ∙ ap (λ n. (x *ℤ y) +ℤ n) (*ℤ_comm z x);
+  times_sum = λ x y z. *ℤ_comm x (y +ℤ z) ∙ sum-times y z x ∙ ap (λ n. n +ℤ (z *ℤ x)) (*ℤ_comm y x) ∙ ap
+      (λ n. (x *ℤ y) +ℤ n) (*ℤ_comm z x);
   sum_times = sum-times;
   zero_times = zero-*ℤ;
   times_zero = *ℤ-zero;

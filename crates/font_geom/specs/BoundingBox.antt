@@ -11,7 +11,8 @@ pub record CanScale {T : Type 0} (can_multiply : T → T → Type 0) (box : Boun
   pub y_max : can_multiply box.y_max factor
 
 -- each entry of `scaled` is what the product of the entry and the factor gives
-pub record IsScaled {T : Type 0} (product : T → T → T → Type 0) (box : BoundingBox T) (factor : T) (scaled : BoundingBox T) : Type 0 where
+pub record IsScaled {T : Type 0} (product : T → T → T → Type 0) (box : BoundingBox T) (factor : T)
+    (scaled : BoundingBox T) : Type 0 where
   pub x_min : product box.x_min factor scaled.x_min
   pub y_min : product box.y_min factor scaled.y_min
   pub x_max : product box.x_max factor scaled.x_max

@@ -1,4 +1,5 @@
--- Matrices of `Fixed`, over their bits (OpenType, data types: Fixed is 16.16), and how far from its exact image they move a point.
+-- Matrices of `Fixed`, over their bits (OpenType, data types: Fixed is 16.16), and how far from its exact image they
+-- move a point.
 use Rattle.std.specs.Prelude.{ℕ, ◌+◌, ◌*◌, ◌^◌, ◌≤◌, ℤ, pos, ◌+ℤ◌, ◌-ℤ◌, ◌*ℤ◌, unsigned_abs}
 use Rattle.font_base.specs.Wrap.{FitsBits, wrap}
 use Rattle.font_decimal.specs.Near.{near}
@@ -10,7 +11,8 @@ use Rattle.font_geom.specs.Matrix.{image_of, matrix_product, FitsEach}
 
 -- the bits of each element, and of each coordinate
 abbrev pub matrix_bits : Matrix Fixed → Matrix ℤ
-matrix_bits m = record { xx = fixed_bits m.xx; yx = fixed_bits m.yx; xy = fixed_bits m.xy; yy = fixed_bits m.yy; dx = fixed_bits m.dx; dy = fixed_bits m.dy }
+matrix_bits m = record { xx = fixed_bits m.xx; yx = fixed_bits m.yx; xy = fixed_bits m.xy; yy = fixed_bits m.yy;
+    dx = fixed_bits m.dx; dy = fixed_bits m.dy }
 
 abbrev pub point_bits : Point Fixed → Point ℤ
 point_bits p = record { x = fixed_bits p.x; y = fixed_bits p.y }
@@ -26,7 +28,8 @@ wrapped_product x y = wrap 32 (rounded_product x y)
 abbrev pub wrapped_sum : ℤ → ℤ → ℤ
 wrapped_sum x y = wrap 32 (x +ℤ y)
 
--- ---- where no entry and no coordinate leaves 32 bits. Each is an exact sum of rounded products: what happens on the way may wrap.
+-- ---- where no entry and no coordinate leaves 32 bits. Each is an exact sum of rounded products: what happens on the
+-- way may wrap.
 
 pub record FitsPoint (p : Point ℤ) : Type 0 where
   pub x : FitsBits 32 p.x

@@ -53,7 +53,8 @@ module _ {T : Type 0} (product sum : T → T → T → Type 0) where
 
 -- ---- where the operators may be called: `can_multiply p x` says it of `p * x`, and `can_add` the same of `+`
 
-module _ {T : Type 0} (can_multiply : T → T → Type 0) (product : T → T → T → Type 0) (can_add : T → T → Type 0) (sum : T → T → T → Type 0) where
+module _ {T : Type 0} (can_multiply : T → T → Type 0) (product : T → T → T → Type 0) (can_add : T → T → Type 0)
+    (sum : T → T → T → Type 0) where
   -- p * x + q * y may be taken
   pub record CanTakeLinearForm (p x q y : T) : Type 0 where
     pub first : can_multiply p x

@@ -1,5 +1,6 @@
 -- The predefined name ids, one by one.
-use Rattle.std.proofs.Common.{◌≡◌, ◌≢◌, ◌∙◌, sym, ap, refl, ℕ, ◌+◌, ◌≤◌, ◌⊎◌, inl, inr, Bool, true, ◌==◌, ◌||◌, nat_le, nat_eq, List, ◌∷◌, filter, arith}
+use Rattle.std.proofs.Common.{◌≡◌, ◌≢◌, ◌∙◌, sym, ap, refl, ℕ, ◌+◌, ◌≤◌, ◌⊎◌, inl, inr, Bool, true, ◌==◌, ◌||◌, nat_le,
+    nat_eq, List, ◌∷◌, filter, arith}
 use Rattle.std.proofs.lemmas.Bool.{agree_below_at, or_cases, eqb-true}
 use Rattle.std.specs.Cmp.Lexicographic.{pointwise, bytes_decides}
 use Rattle.font_ids.specs.NameId.{predefined_numbers}
@@ -19,6 +20,9 @@ left_from-step n small other = elim (or_cases _ _ (agree_below_at is_step (λ _.
 ]
 
 -- the number that comes next: the one that is reached, or the one behind the gap
-pub left_from-next : (n k : ℕ) → ((n ≡ 15) × (k ≡ 16)) ⊎ ((n ≢ 15) × (k ≡ n)) → k ≤ 25 → left_from n ≡ k ∷ left_from (k + 1)
-left_from-next n k (inl gap) small = ap left_from gap.0 ∙ left_from-step 16 (omega arith) (λ same. omega (arith, same)) ∙ sym (ap (λ m. m ∷ left_from (m + 1)) gap.1)
-left_from-next n k (inr plain) small = left_from-step n (omega (arith, plain.1)) plain.0 ∙ sym (ap (λ m. m ∷ left_from (m + 1)) plain.1)
+pub left_from-next : (n k : ℕ) → ((n ≡ 15) × (k ≡ 16)) ⊎ ((n ≢ 15) × (k ≡ n)) → k ≤ 25
+    → left_from n ≡ k ∷ left_from (k + 1)
+left_from-next n k (inl gap) small = ap left_from gap.0 ∙ left_from-step 16 (omega arith) (λ same. omega (arith, same))
+    ∙ sym (ap (λ m. m ∷ left_from (m + 1)) gap.1)
+left_from-next n k (inr plain) small = left_from-step n (omega (arith, plain.1)) plain.0 ∙ sym
+    (ap (λ m. m ∷ left_from (m + 1)) plain.1)

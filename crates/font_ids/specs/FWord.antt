@@ -3,7 +3,8 @@ use Rattle.std.specs.Prelude.{ℕ, ℤ}
 use Rattle.font_ids.specs.declared.fword.FWord.{FWord}
 use Rattle.font_ids.specs.declared.fword.UfWord.{UfWord}
 
--- the number that an `FWord` is (OpenType, data types: FWORD, "int16 that describes a quantity in font design units"), and the `FWord` of a number
+-- the number that an `FWord` is (OpenType, data types: FWORD, "int16 that describes a quantity in font design units"),
+-- and the `FWord` of a number
 abbrev pub fword_number : FWord → ℤ
 fword_number word = word.0
 

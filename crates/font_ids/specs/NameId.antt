@@ -1,5 +1,5 @@
--- Name identifiers.
--- (OpenType, name IDs: 0 to 25 without 15 are predefined, those up to 255 are reserved for standard names, and 256 to 32767 are for the font's own)
+-- Name identifiers. (OpenType, name IDs: 0 to 25 without 15 are predefined, those up to 255 are reserved for standard
+-- names, and 256 to 32767 are for the font's own)
 use Rattle.std.specs.Prelude.{ℕ, List, [], ◌∷◌, ◌++◌, ◌==◌, if◌then◌else◌, nat_le, map, filter}
 use Rattle.std.specs.Fmt.{decimal}
 use lib.Chars.{codes}
@@ -16,11 +16,16 @@ name_id_of number = record { 0 = number }
 -- the predefined numbers, each with its name, which is that of the constant
 abbrev pub names : List (ℕ × List ℕ)
 names =
-    (0, codes "COPYRIGHT_NOTICE") ∷ (1, codes "FAMILY_NAME") ∷ (2, codes "SUBFAMILY_NAME") ∷ (3, codes "UNIQUE_ID") ∷ (4, codes "FULL_NAME")
-    ∷ (5, codes "VERSION_STRING") ∷ (6, codes "POSTSCRIPT_NAME") ∷ (7, codes "TRADEMARK") ∷ (8, codes "MANUFACTURER") ∷ (9, codes "DESIGNER")
-    ∷ (10, codes "DESCRIPTION") ∷ (11, codes "VENDOR_URL") ∷ (12, codes "DESIGNER_URL") ∷ (13, codes "LICENSE_DESCRIPTION") ∷ (14, codes "LICENSE_URL")
-    ∷ (16, codes "TYPOGRAPHIC_FAMILY_NAME") ∷ (17, codes "TYPOGRAPHIC_SUBFAMILY_NAME") ∷ (18, codes "COMPATIBLE_FULL_NAME") ∷ (19, codes "SAMPLE_TEXT")
-    ∷ (20, codes "POSTSCRIPT_CID_NAME") ∷ (21, codes "WWS_FAMILY_NAME") ∷ (22, codes "WWS_SUBFAMILY_NAME") ∷ (23, codes "LIGHT_BACKGROUND_PALETTE")
+    (0, codes "COPYRIGHT_NOTICE") ∷ (1, codes "FAMILY_NAME") ∷ (2, codes "SUBFAMILY_NAME") ∷ (3, codes "UNIQUE_ID")
+        ∷ (4, codes "FULL_NAME")
+    ∷ (5, codes "VERSION_STRING") ∷ (6, codes "POSTSCRIPT_NAME") ∷ (7, codes "TRADEMARK") ∷ (8, codes "MANUFACTURER")
+    ∷ (9, codes "DESIGNER")
+    ∷ (10, codes "DESCRIPTION") ∷ (11, codes "VENDOR_URL") ∷ (12, codes "DESIGNER_URL")
+    ∷ (13, codes "LICENSE_DESCRIPTION") ∷ (14, codes "LICENSE_URL")
+    ∷ (16, codes "TYPOGRAPHIC_FAMILY_NAME") ∷ (17, codes "TYPOGRAPHIC_SUBFAMILY_NAME")
+    ∷ (18, codes "COMPATIBLE_FULL_NAME") ∷ (19, codes "SAMPLE_TEXT")
+    ∷ (20, codes "POSTSCRIPT_CID_NAME") ∷ (21, codes "WWS_FAMILY_NAME") ∷ (22, codes "WWS_SUBFAMILY_NAME")
+    ∷ (23, codes "LIGHT_BACKGROUND_PALETTE")
     ∷ (24, codes "DARK_BACKGROUND_PALETTE") ∷ (25, codes "VARIATIONS_POSTSCRIPT_NAME_PREFIX") ∷ []
 
 -- the name of a number in such a table, and for one that is not in it `NameId` and the number

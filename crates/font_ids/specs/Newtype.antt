@@ -4,7 +4,8 @@ use Rattle.std.specs.Bool.{Decides}
 use Rattle.font_base.specs.Scalar.{ScalarLaws}
 
 -- what holds of the value that is held holds of the one that holds it
-pub newtype_laws : {V T R : Type 0} {is_scalar : V → Bool} {is_raw : R → Bool} {of_raw : R → V} {raw_of : V → R} {raw_len byte_len : ℕ}
+pub newtype_laws : {V T R : Type 0} {is_scalar : V → Bool} {is_raw : R → Bool} {of_raw : R → V} {raw_of : V → R}
+    {raw_len byte_len : ℕ}
     (held : T → V) (holder : V → T) → ((v : V) → held (holder v) ≡ v) → ((x : T) → holder (held x) ≡ x)
     → ScalarLaws is_scalar is_raw of_raw raw_of raw_len byte_len
     → ScalarLaws (λ x. is_scalar (held x)) is_raw (λ r. holder (of_raw r)) (λ x. raw_of (held x)) raw_len byte_len
@@ -16,7 +17,8 @@ newtype_laws {of_raw = of_raw} {raw_of = raw_of} held holder there back laws = r
   lengths_agree = laws.lengths_agree;
 }
 
-pub newtype_identity : {V T : Type 0} {E : V → V → Bool} (held : T → V) (holder : V → T) → ((x : T) → holder (held x) ≡ x)
+pub newtype_identity : {V T : Type 0} {E : V → V → Bool} (held : T → V) (holder : V → T)
+    → ((x : T) → holder (held x) ≡ x)
     → ((v w : V) → Decides (E v w) (v ≡ w)) → (x y : T) → Decides (E (held x) (held y)) (x ≡ y)
 newtype_identity held holder back identity x y =
     let decides = identity (held x) (held y) in

@@ -1,4 +1,5 @@
--- Offsets to tables (OpenType, data types: Offset16, Offset24 and Offset32 are offsets to a table, same as uint16, uint24 and uint32, and zero is the NULL offset).
+-- Offsets to tables (OpenType, data types: Offset16, Offset24 and Offset32 are offsets to a table, same as uint16,
+-- uint24 and uint32, and zero is the NULL offset).
 use Rattle.std.specs.Prelude.{ℕ}
 use Rattle.font_base.specs.declared.uint24.Uint24.{Uint24}
 use Rattle.font_base.specs.Uint24.{uint24_number}

@@ -1,6 +1,8 @@
 -- Laws of tags: the two judges agree, and a printed text is that of one tag alone.
-use Rattle.std.proofs.Common.{◌≡◌, ◌≢◌, ◌∙◌, sym, ap, subst, refl, ℕ, suc, ◌+◌, ◌-◌, ◌/◌, ◌%◌, ◌<◌, ◌≤◌, ◌⊎◌, inl, inr, true, IsTrue, List, [], ◌∷◌, length, get_or, Result, Ok, Err, IsOk, ◌↔◌, nat_lt, ◌==◌, arith}
-use Rattle.std.proofs.lemmas.Bool.{cases_lt, le-leb, lt-ltb, le-ltb, cond-true, cond-false, and_from, false≢true, ltb-true, and_parts}
+use Rattle.std.proofs.Common.{◌≡◌, ◌≢◌, ◌∙◌, sym, ap, subst, refl, ℕ, suc, ◌+◌, ◌-◌, ◌/◌, ◌%◌, ◌<◌, ◌≤◌, ◌⊎◌, inl, inr,
+    true, IsTrue, List, [], ◌∷◌, length, get_or, Result, Ok, Err, IsOk, ◌↔◌, nat_lt, ◌==◌, arith}
+use Rattle.std.proofs.lemmas.Bool.{cases_lt, le-leb, lt-ltb, le-ltb, cond-true, cond-false, and_from, false≢true,
+    ltb-true, and_parts}
 use Rattle.std.proofs.lemmas.List.{get_or_past}
 use Rattle.std.proofs.lemmas.List.Sums.{AllPass-from_list_all}
 use Rattle.std.specs.Fmt.{digit_glyph}
@@ -16,21 +18,28 @@ use Rattle.font_tags.proofs.TagText.{IsHidden, byte_text-hidden}
 -- ---- the judges
 
 -- the judge of tags says yes exactly to good bytes
-pub validated_good : (bytes : List ℕ) (validated : Result (Unit {0}) InvalidTag) → IsValidated bytes validated → IsOk validated ↔ IsGood bytes
+pub validated_good : (bytes : List ℕ) (validated : Result (Unit {0}) InvalidTag) → IsValidated bytes validated
+    → IsOk validated ↔ IsGood bytes
 validated_good bytes (Ok u) judged = (λ _. judged, λ _. refl)
-validated_good bytes (Err (InvalidLength n)) judged = (λ ok. absurd (false≢true ok), λ good. absurd (spaces_not_good bytes judged.0 good))
-validated_good bytes (Err (InvalidByte index byte)) judged = (λ ok. absurd (false≢true ok), λ good. absurd (fault_not_good bytes index judged.1 good))
-validated_good bytes (Err (ByteAfterSpace index)) judged = (λ ok. absurd (false≢true ok), λ good. absurd (fault_not_good bytes index judged.0 good))
+validated_good bytes (Err (InvalidLength n)) judged =
+    (λ ok. absurd (false≢true ok), λ good. absurd (spaces_not_good bytes judged.0 good))
+validated_good bytes (Err (InvalidByte index byte)) judged =
+    (λ ok. absurd (false≢true ok), λ good. absurd (fault_not_good bytes index judged.1 good))
+validated_good bytes (Err (ByteAfterSpace index)) judged =
+    (λ ok. absurd (false≢true ok), λ good. absurd (fault_not_good bytes index judged.0 good))
 
 -- so does the other, of as many bytes as a tag may have
-pub checked_good : (bytes : List ℕ) (checked : Result Tag InvalidTag) → 0 < length bytes → length bytes ≤ 4 → IsChecked bytes checked → IsOk checked ↔ IsGood bytes
+pub checked_good : (bytes : List ℕ) (checked : Result Tag InvalidTag) → 0 < length bytes → length bytes ≤ 4
+    → IsChecked bytes checked → IsOk checked ↔ IsGood bytes
 checked_good bytes (Ok tag) some few judged = (λ _. judged.0.1, λ _. refl)
 checked_good bytes (Err (InvalidLength n)) some few judged = absurd (judged.0 (some, few))
-checked_good bytes (Err (InvalidByte index byte)) some few judged = (λ ok. absurd (false≢true ok), λ good. absurd (fault_not_good bytes index judged.1 good))
+checked_good bytes (Err (InvalidByte index byte)) some few judged =
+    (λ ok. absurd (false≢true ok), λ good. absurd (fault_not_good bytes index judged.1 good))
 checked_good bytes (Err (ByteAfterSpace index)) some few judged = absurd judged
 
 -- a tag validates exactly where its four bytes are accepted
-pub validates_where_checked : (tag : Tag) (checked : Result Tag InvalidTag) (validated : Result (Unit {0}) InvalidTag) → IsTrue (are_bytes 4 (tag_bytes tag))
+pub validates_where_checked : (tag : Tag) (checked : Result Tag InvalidTag) (validated : Result (Unit {0}) InvalidTag)
+    → IsTrue (are_bytes 4 (tag_bytes tag))
     → IsChecked (tag_bytes tag) checked → IsValidated (tag_bytes tag) validated → IsOk validated ↔ IsOk checked
 validates_where_checked tag checked validated are first second =
     let many = are_bytes-length 4 (tag_bytes tag) are in
@@ -39,9 +48,11 @@ validates_where_checked tag checked validated are first second =
     (λ ok. right.1 (left.0 ok), λ ok. left.1 (right.0 ok))
 
 -- a tag that was made of accepted bytes validates
-pub checked_validates : (bytes : List ℕ) (tag : Tag) (validated : Result (Unit {0}) InvalidTag) → IsChecked bytes (Ok tag) → IsValidated (tag_bytes tag) validated → IsOk validated
+pub checked_validates : (bytes : List ℕ) (tag : Tag) (validated : Result (Unit {0}) InvalidTag)
+    → IsChecked bytes (Ok tag) → IsValidated (tag_bytes tag) validated → IsOk validated
 checked_validates bytes tag validated checked judged =
-    (validated_good (tag_bytes tag) validated judged).1 (subst (λ (list : List ℕ). IsGood list) (sym checked.1) (filled_good bytes (4 - length bytes) checked.0.1))
+    (validated_good (tag_bytes tag) validated judged).1
+        (subst (λ (list : List ℕ). IsGood list) (sym checked.1) (filled_good bytes (4 - length bytes) checked.0.1))
 
 -- ---- the printed text
 
@@ -66,12 +77,15 @@ glyph_is d small = elim (cases_lt d 10) [
 
 same_glyph : (c d : ℕ) → c < 16 → d < 16 → digit_glyph true c ≡ digit_glyph true d → c ≡ d
 same_glyph c d small_c small_d same = elim (glyph_is c small_c) [
-  | inl is_c ↦ elim (glyph_is d small_d) [ inl is_d ↦ omega (arith, same, is_c.1, is_d.1) | inr is_d ↦ omega (arith, same, is_c, is_d) ]
-  | inr is_c ↦ elim (glyph_is d small_d) [ inl is_d ↦ omega (arith, same, is_c, is_d) | inr is_d ↦ omega (arith, same, is_c.1, is_d.1) ]
+  | inl is_c ↦ elim (glyph_is d small_d) [ inl is_d ↦ omega (arith, same, is_c.1, is_d.1) | inr is_d ↦
+      omega (arith, same, is_c, is_d) ]
+  | inr is_c ↦ elim (glyph_is d small_d) [ inl is_d ↦ omega (arith, same, is_c, is_d) | inr is_d ↦
+      omega (arith, same, is_c.1, is_d.1) ]
 ]
 
 no_brace : (d : ℕ) → d < 16 → digit_glyph true d ≢ 123
-no_brace d small same = elim (glyph_is d small) [ inl is ↦ omega (arith, same, is.0, is.1) | inr is ↦ omega (arith, same, is.1) ]
+no_brace d small same = elim
+    (glyph_is d small) [ inl is ↦ omega (arith, same, is.0, is.1) | inr is ↦ omega (arith, same, is.1) ]
 
 -- what is behind a character that is no brace is the text of the other bytes
 pub record TextBehind (bytes text : List ℕ) : Type 0 where
@@ -97,7 +111,8 @@ too_few bytes high low text few small_high small_low is =
     omega (arith, few, one.fewer, two.fewer, three.fewer, four.fewer)
 
 -- a byte shown as it is, before so few bytes, is not what a hidden byte is shown as
-shown_not_hidden : (x y : ℕ) (xs ys : List ℕ) → IsShown x → IsHidden y → y < 256 → length xs ≤ 3 → tag_text (x ∷ xs) ≡ tag_text (y ∷ ys) → ⊥
+shown_not_hidden : (x y : ℕ) (xs ys : List ℕ) → IsShown x → IsHidden y → y < 256 → length xs ≤ 3
+    → tag_text (x ∷ xs) ≡ tag_text (y ∷ ys) → ⊥
 shown_not_hidden x y xs ys shown hidden small few same =
     let whole = rw (byte_text-shown x shown, byte_text-hidden y hidden) at same in
     too_few xs (y / 16) (y % 16) (tag_text ys) few (omega arith) (omega arith) (cc)
@@ -109,7 +124,8 @@ same_bytes [] [] few_x few_y many bytes_x bytes_y same = refl
 same_bytes [] (y ∷ ys) few_x few_y many bytes_x bytes_y same = absurd (omega (arith, many))
 same_bytes (x ∷ xs) [] few_x few_y many bytes_x bytes_y same = absurd (omega (arith, many))
 same_bytes (x ∷ xs) (y ∷ ys) few_x few_y many bytes_x bytes_y same =
-    let rest : tag_text xs ≡ tag_text ys → xs ≡ ys = same_bytes xs ys (omega arith) (omega arith) (omega (arith, many)) (λ i. bytes_x (suc i)) (λ i. bytes_y (suc i)) in
+    let rest : tag_text xs ≡ tag_text ys → xs ≡ ys = same_bytes xs ys (omega arith) (omega arith) (omega (arith, many))
+        (λ i. bytes_x (suc i)) (λ i. bytes_y (suc i)) in
     elim (shown_or_hidden x) [
       | inl shown_x ↦ elim (shown_or_hidden y) [
         | inl shown_y ↦
@@ -135,13 +151,16 @@ same_bytes (x ∷ xs) (y ∷ ys) few_x few_y many bytes_x bytes_y same =
 
 each_byte : (n : ℕ) (bytes : List ℕ) → IsTrue (are_bytes n bytes) → (i : ℕ) → get_or bytes i 0 < 256
 each_byte n bytes are i = elim (cases_lt i (length bytes)) [
-  | inl within ↦ ltb-true _ 256 (AllPass-from_list_all (λ byte. nat_lt byte 256) bytes (and_parts (length bytes == n) _ are).1 i 0 within)
+  | inl within ↦ ltb-true _ 256
+      (AllPass-from_list_all (λ byte. nat_lt byte 256) bytes (and_parts (length bytes == n) _ are).1 i 0 within)
   | inr past ↦ rw (get_or_past bytes i 0 past) (omega arith)
 ]
 
 -- two tags with one printed text are one tag
-pub printed_once : (a b : Tag) → IsTrue (are_bytes 4 (tag_bytes a)) → IsTrue (are_bytes 4 (tag_bytes b)) → tag_text (tag_bytes a) ≡ tag_text (tag_bytes b) → a ≡ b
+pub printed_once : (a b : Tag) → IsTrue (are_bytes 4 (tag_bytes a)) → IsTrue (are_bytes 4 (tag_bytes b))
+    → tag_text (tag_bytes a) ≡ tag_text (tag_bytes b) → a ≡ b
 printed_once a b are_a are_b same =
     let many_a = are_bytes-length 4 (tag_bytes a) are_a in
     let many_b = are_bytes-length 4 (tag_bytes b) are_b in
-    ap tag_of (same_bytes (tag_bytes a) (tag_bytes b) (omega (arith, many_a)) (omega (arith, many_b)) (many_a ∙ sym many_b) (each_byte 4 (tag_bytes a) are_a) (each_byte 4 (tag_bytes b) are_b) same)
+    ap tag_of (same_bytes (tag_bytes a) (tag_bytes b) (omega (arith, many_a)) (omega (arith, many_b)) (many_a
+        ∙ sym many_b) (each_byte 4 (tag_bytes a) are_a) (each_byte 4 (tag_bytes b) are_b) same)

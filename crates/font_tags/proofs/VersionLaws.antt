@@ -1,11 +1,13 @@
--- Versions are compatible with themselves, and with those with which a compatible one is: over the two numbers that each `impl` of `Compatible` speaks of.
+-- Versions are compatible with themselves, and with those with which a compatible one is: over the two numbers that
+-- each `impl` of `Compatible` speaks of.
 use Rattle.std.proofs.Common.{◌∙◌, refl, ℕ, arith}
 use Rattle.font_tags.specs.Version.{IsCompatible}
 
 pub compatible_with_itself : (major minor : ℕ) → IsCompatible major minor major minor
 compatible_with_itself major minor = record { same_major = refl; minor_at_least = omega arith }
 
-pub compatible_in_turn : (major minor middle_major middle_minor last_major last_minor : ℕ) → IsCompatible major minor middle_major middle_minor
+pub compatible_in_turn : (major minor middle_major middle_minor last_major last_minor : ℕ)
+    → IsCompatible major minor middle_major middle_minor
     → IsCompatible middle_major middle_minor last_major last_minor → IsCompatible major minor last_major last_minor
 compatible_in_turn major minor middle_major middle_minor last_major last_minor first second = record {
   same_major = first.same_major ∙ second.same_major;

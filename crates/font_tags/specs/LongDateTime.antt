@@ -1,4 +1,5 @@
--- Dates and times (OpenType, data types: LONGDATETIME, "Date and time represented in number of seconds since 12:00 midnight, January 1, 1904, UTC").
+-- Dates and times (OpenType, data types: LONGDATETIME, "Date and time represented in number of seconds since 12:00
+-- midnight, January 1, 1904, UTC").
 use Rattle.std.specs.Prelude.{ℤ}
 use Rattle.font_tags.specs.declared.longdatetime.LongDateTime.{LongDateTime}
 

@@ -1,7 +1,8 @@
--- Tags of four bytes.
--- (OpenType, data types: Tag, "Array of four uint8s (length = 32 bits) used to identify a table, design-variation axis, script, language system, feature, or baseline")
+-- Tags of four bytes. (OpenType, data types: Tag, "Array of four uint8s (length = 32 bits) used to identify a table,
+-- design-variation axis, script, language system, feature, or baseline")
 pub mod Laws
-use Rattle.std.specs.Prelude.{◌≡◌, ◌≢◌, ℕ, ◌+◌, ◌-◌, ◌/◌, ◌%◌, ◌<◌, ◌≤◌, ◌⊎◌, List, [], ◌∷◌, ◌++◌, length, take, replicate, All, slice_index, nat_le, ◌&&◌, true, if◌then◌else◌, Result, Ok, Err}
+use Rattle.std.specs.Prelude.{◌≡◌, ◌≢◌, ℕ, ◌+◌, ◌-◌, ◌/◌, ◌%◌, ◌<◌, ◌≤◌, ◌⊎◌, List, [], ◌∷◌, ◌++◌, length, take,
+    replicate, All, slice_index, nat_le, ◌&&◌, true, if◌then◌else◌, Result, Ok, Err}
 use Rattle.std.specs.List.{flat_map}
 use Rattle.std.specs.Fmt.{digit_glyph}
 use lib.Chars.{codes}
@@ -35,7 +36,8 @@ pub record IsGood (bytes : List ℕ) : Type 0 where
   pub visible : All IsVisible run
   pub whole : bytes ≡ run ++ replicate spaces 0x20
 
--- where bytes that are not good go wrong: the least index whose byte, with those before it, makes bytes that are not good
+-- where bytes that are not good go wrong: the least index whose byte, with those before it, makes bytes that are not
+-- good
 pub record IsFault (bytes : List ℕ) (index : ℕ) : Type 0 where
   pub within : index < length bytes
   pub fails : ¬ IsGood (take (index + 1) bytes)
@@ -53,23 +55,28 @@ IsAcceptable bytes = IsTagLength (length bytes) × IsGood bytes
 abbrev pub filled : List ℕ → List ℕ
 filled bytes = bytes ++ replicate (4 - length bytes) 0x20
 
--- what making a tag of bytes answers: the length is judged first, and then the first fault is an invalid byte, whatever it is
+-- what making a tag of bytes answers: the length is judged first, and then the first fault is an invalid byte, whatever
+-- it is
 abbrev pub IsChecked : List ℕ → Result Tag InvalidTag → Type 0
 IsChecked bytes (Ok tag) = IsAcceptable bytes × (tag_bytes tag ≡ filled bytes)
 IsChecked bytes (Err (InvalidLength n)) = (¬ IsTagLength (length bytes)) × (n ≡ length bytes)
-IsChecked bytes (Err (InvalidByte index byte)) = IsTagLength (length bytes) × IsFault bytes index × (byte ≡ slice_index bytes index)
+IsChecked bytes (Err (InvalidByte index byte)) = IsTagLength (length bytes) × IsFault bytes index
+    × (byte ≡ slice_index bytes index)
 IsChecked bytes (Err (ByteAfterSpace index)) = ⊥
 
--- what judging the four bytes of a tag answers: four spaces count as a tag of no bytes, and where the first fault is a visible byte, it stands behind a space
+-- what judging the four bytes of a tag answers: four spaces count as a tag of no bytes, and where the first fault is a
+-- visible byte, it stands behind a space
 abbrev pub IsValidated : List ℕ → Result (Unit {0}) InvalidTag → Type 0
 IsValidated bytes (Ok _) = IsGood bytes
 IsValidated bytes (Err (InvalidLength n)) = (bytes ≡ four_spaces) × (n ≡ 0)
-IsValidated bytes (Err (InvalidByte index byte)) = (bytes ≢ four_spaces) × IsFault bytes index × (¬ IsVisible byte) × (byte ≡ slice_index bytes index)
+IsValidated bytes (Err (InvalidByte index byte)) = (bytes ≢ four_spaces) × IsFault bytes index × (¬ IsVisible byte)
+    × (byte ≡ slice_index bytes index)
 IsValidated bytes (Err (ByteAfterSpace index)) = IsFault bytes index × IsVisible (slice_index bytes index)
 
 -- how a byte is printed: from 0x20 to 0x7E as it is, any other as `{0xNN}` with two capital hexadecimal digits (own)
 abbrev pub byte_text : ℕ → List ℕ
-byte_text byte = if nat_le 0x20 byte && nat_le byte 0x7E then byte ∷ [] else codes "{0x" ++ digit_glyph true (byte / 16) ∷ digit_glyph true (byte % 16) ∷ codes "}"
+byte_text byte = if nat_le 0x20 byte && nat_le byte 0x7E then byte ∷ [] else codes "{0x" ++ digit_glyph true (byte / 16)
+    ∷ digit_glyph true (byte % 16) ∷ codes "}"
 
 -- how a tag is printed
 abbrev pub tag_text : List ℕ → List ℕ

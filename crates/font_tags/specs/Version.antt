@@ -1,22 +1,23 @@
 -- Version numbers of tables.
 pub mod Laws
-use Rattle.std.specs.Prelude.{◌≡◌, ℕ, ◌+◌, ◌-◌, ◌*◌, ◌/◌, ◌%◌, ◌≤◌, min, pos, false, List, ◌++◌, length, replicate, take, drop}
+use Rattle.std.specs.Prelude.{◌≡◌, ℕ, ◌+◌, ◌-◌, ◌*◌, ◌/◌, ◌%◌, ◌≤◌, min, pos, false, List, ◌++◌, length, replicate,
+    take, drop}
 use Rattle.std.specs.Fmt.{decimal, digits}
 use lib.Chars.{codes}
 use Rattle.font_base.specs.Bytes.{numeral, bytes_of}
 use Rattle.font_tags.specs.declared.version.Version16Dot16.{Version16Dot16}
 use Rattle.font_tags.specs.declared.version.MajorMinor.{MajorMinor}
 
--- the 32 bits of a version (OpenType, data types: Version16Dot16, "Packed 32-bit value with major and minor version numbers"),
--- and the version of these bits
+-- the 32 bits of a version (OpenType, data types: Version16Dot16, "Packed 32-bit value with major and minor version
+-- numbers"), and the version of these bits
 abbrev pub version_bits : Version16Dot16 → ℕ
 version_bits version = version.0
 
 abbrev pub version_of : ℕ → Version16Dot16
 version_of bits = record { 0 = bits }
 
--- the major number, which is the high half of the bits, and the minor number, which is the highest four bits of the low half
--- (OpenType, table version numbers: 0x00005000 is version 0.5, and 0x00011000 is version 1.1)
+-- the major number, which is the high half of the bits, and the minor number, which is the highest four bits of the low
+-- half (OpenType, table version numbers: 0x00005000 is version 0.5, and 0x00011000 is version 1.1)
 abbrev pub version_major : Version16Dot16 → ℕ
 version_major version = version_bits version / 65536
 
@@ -42,7 +43,8 @@ major_minor_bytes version = bytes_of 2 (pos version.major) ++ bytes_of 2 (pos ve
 abbrev pub major_minor_of : List ℕ → MajorMinor
 major_minor_of bytes = record { major = numeral (take 2 bytes); minor = numeral (drop 2 bytes) }
 
--- a table of one version has all fields that a reader of the other wants: the same major number, and a minor number that is not below the other's (own)
+-- a table of one version has all fields that a reader of the other wants: the same major number, and a minor number
+-- that is not below the other's (own)
 pub record IsCompatible (major minor other_major other_minor : ℕ) : Type 0 where
   pub same_major : major ≡ other_major
   pub minor_at_least : other_minor ≤ minor

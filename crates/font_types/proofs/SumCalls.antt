@@ -10,17 +10,20 @@ use Rattle.font_fixed.proofs.FixedCalls.{fixed_calls}
 use Rattle.font_types.specs.Delta.{total, term_product, exact_sum}
 
 total_one_more : {T : Type 0} (w : ℕ) (number_of : T → ℤ) (xs : List T) (i : ℕ) (d : T) → 0 < w → i < length xs
-    → wrap w (wrap w (total number_of (take i xs)) +ℤ number_of (get_or xs i d)) ≡ wrap w (total number_of (take (i + 1) xs))
+    → wrap w (wrap w (total number_of (take i xs)) +ℤ number_of (get_or xs i d)) ≡ wrap w
+    (total number_of (take (i + 1) xs))
 total_one_more w number_of xs i d some within =
     wrap-add_left w (total number_of (take i xs)) (number_of (get_or xs i d)) some
     ∙ ap (wrap w) (sym (fold_more (λ sum x. sum +ℤ number_of x) (pos 0) xs i d within))
 
 pub running_sum : (xs : List Fixed) (i : ℕ) (d : Fixed) → i < length xs
-    → wrap 32 (wrap 32 (total fixed_bits (take i xs)) +ℤ fixed_bits (get_or xs i d)) ≡ wrap 32 (total fixed_bits (take (i + 1) xs))
+    → wrap 32 (wrap 32 (total fixed_bits (take i xs)) +ℤ fixed_bits (get_or xs i d)) ≡ wrap 32
+    (total fixed_bits (take (i + 1) xs))
 running_sum xs i d within = total_one_more 32 fixed_bits xs i d (lit< tt) within
 
 pub running_delta_sum : (terms : List (Fixed × ℤ)) (i : ℕ) (d : Fixed × ℤ) → i < length terms
-    → wrap 64 (wrap 64 (exact_sum (take i terms)) +ℤ term_product (get_or terms i d)) ≡ wrap 64 (exact_sum (take (i + 1) terms))
+    → wrap 64 (wrap 64 (exact_sum (take i terms)) +ℤ term_product (get_or terms i d)) ≡ wrap 64
+    (exact_sum (take (i + 1) terms))
 running_delta_sum terms i d within = total_one_more 64 term_product terms i d (lit< tt) within
 
 pub ruleset sum_calls = (fixed_calls, fits_64, running_sum, running_delta_sum)

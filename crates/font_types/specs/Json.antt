@@ -1,6 +1,7 @@
 -- JSON forms of scalars. All of it is the project's own rule, but for what JSON itself has: texts, numbers and objects.
 pub mod Laws
-use Rattle.std.specs.Prelude.{◌≡◌, ℕ, ◌-◌, ◌^◌, ℤ, Bool, ◌&&◌, int_le, if◌then◌else◌, List, Option, Some, None, option_and_then, is_some, pos, IsUtf8, Result, Ok, Err}
+use Rattle.std.specs.Prelude.{◌≡◌, ℕ, ◌-◌, ◌^◌, ℤ, Bool, ◌&&◌, int_le, if◌then◌else◌, List, Option, Some, None,
+    option_and_then, is_some, pos, IsUtf8, Result, Ok, Err}
 use Rattle.std.specs.Result.{result_map_both}
 use lib.Chars.{codes}
 use Rattle.serde_json.specs.Data.{Data, object, member, no_members, number, unsigned}
@@ -12,7 +13,8 @@ use Rattle.font_tags.specs.declared.tag.Tag.{Tag}
 use Rattle.font_tags.specs.declared.version.MajorMinor.{MajorMinor}
 use Rattle.font_tags.specs.Tag.{tag_bytes, IsGood, IsAcceptable, filled}
 use Rattle.font_types.specs.declared.json.JsonFault.{JsonFault}
-use Rattle.font_types.specs.declared.json.JsonFault.TheVariants.{Memory, WrongKind, OutOfRange, Syntax, NotUtf8, InvalidTag, MissingMember}
+use Rattle.font_types.specs.declared.json.JsonFault.TheVariants.{Memory, WrongKind, OutOfRange, Syntax, NotUtf8,
+    InvalidTag, MissingMember}
 
 -- ---- whole numbers
 
@@ -33,13 +35,15 @@ abbrev pub number_or_fault : ℤ → ℤ → Option ℤ → Result ℤ JsonFault
 number_or_fault min max None = Err WrongKind
 number_or_fault min max (Some z) = within_or_fault min max z
 
--- the whole number from `min` to `max` that the data is: data that is no number is the wrong kind, and a number that holds a float is too
+-- the whole number from `min` to `max` that the data is: data that is no number is the wrong kind, and a number that
+-- holds a float is too
 abbrev pub number_within : ℤ → ℤ → Data → Result ℤ JsonFault
 number_within min max d = number_or_fault min max (option_and_then as_integer (as_number d))
 
 -- what data is read as by a type whose values are the numbers from `min` to `max`
 abbrev pub ReadsWholeNumber : {T : Type 0} → ℤ → ℤ → (T → ℤ) → Data → Result T JsonFault → Type 0
-ReadsWholeNumber min max number_of d result = result_map_both number_of (λ fault. fault) result ≡ number_within min max d
+ReadsWholeNumber min max number_of d result = result_map_both number_of (λ fault. fault) result
+    ≡ number_within min max d
 
 -- the test of w bits without a sign, and what data is read as by a type of all those numbers
 abbrev pub is_unsigned : ℕ → ℕ → Bool
@@ -119,7 +123,8 @@ pub record TagComesBack (tag : Tag) (result : Result Tag JsonFault) : Type 0 whe
 
 -- the form of two numbers: an object of two members
 abbrev pub version_form : ℕ → ℕ → Data
-version_form major minor = object (member (codes "major") (number (unsigned major)) (member (codes "minor") (number (unsigned minor)) no_members))
+version_form major minor = object
+    (member (codes "major") (number (unsigned major)) (member (codes "minor") (number (unsigned minor)) no_members))
 
 -- the number of 16 bits that a member is
 abbrev pub member_or_fault : Option Data → Result ℤ JsonFault
@@ -137,8 +142,10 @@ both_numbers (Ok a) (Ok b) = Ok (a, b)
 
 -- the two numbers of an object, whose other members do not matter; any other data is the wrong kind
 abbrev pub version_read : Data → Result (ℤ × ℤ) JsonFault
-version_read d = if is_some (as_object d) then both_numbers (member_number (codes "major") d) (member_number (codes "minor") d) else Err WrongKind
+version_read d = if is_some (as_object d) then both_numbers (member_number (codes "major") d)
+    (member_number (codes "minor") d) else Err WrongKind
 
 -- what data is read as by the type of two numbers
 abbrev pub ReadsVersion : Data → Result MajorMinor JsonFault → Type 0
-ReadsVersion d result = result_map_both {U = ℤ × ℤ} (λ version. (pos version.major, pos version.minor)) (λ fault. fault) result ≡ version_read d
+ReadsVersion d result = result_map_both {U = ℤ × ℤ} (λ version. (pos version.major, pos version.minor))
+    (λ fault. fault) result ≡ version_read d

@@ -14,7 +14,8 @@ mixed a b ratio = wrapped_sum a (wrapped_product (wrap 32 (b -ℤ a)) ratio)
 
 -- the term at an offset: a scalar of 16.16 and a delta of 32 bits
 abbrev pub term_at : List ℕ → ℕ → Fixed × ℤ
-term_at bytes offset = (fixed_of (signed_numeral 4 (take 4 (drop offset bytes))), signed_numeral 4 (take 4 (drop (offset + 4) bytes)))
+term_at bytes offset =
+    (fixed_of (signed_numeral 4 (take 4 (drop offset bytes))), signed_numeral 4 (take 4 (drop (offset + 4) bytes)))
 
 -- all of them, one behind the other
 abbrev pub terms_of : List ℕ → List (Fixed × ℤ)

@@ -18,10 +18,12 @@ pub record IsFirstBad (tags : List Tag) (bad : BadTag) : Type 0 where
 
 -- no two of the first n tags are equal
 abbrev pub AreDifferent : List Tag → ℕ → Type 0
-AreDifferent tags n = (i j : ℕ) (d : Tag) → i < j → j < n → tag_eq (slice_index_or tags i d) (slice_index_or tags j d) ≡ false
+AreDifferent tags n = (i j : ℕ) (d : Tag) → i < j → j < n → tag_eq (slice_index_or tags i d) (slice_index_or tags j d)
+    ≡ false
 
 -- the tags before that place are different from one another, and the one there is one of them
 pub record IsFirstRepeated (tags : List Tag) (place : ℕ) : Type 0 where
   pub within : place < length tags
   pub before : AreDifferent tags place
-  pub there : (d : Tag) → (k : ℕ) × (k < place) × (tag_eq (slice_index_or tags k d) (slice_index_or tags place d) ≡ true)
+  pub there : (d : Tag)
+      → (k : ℕ) × (k < place) × (tag_eq (slice_index_or tags k d) (slice_index_or tags place d) ≡ true)

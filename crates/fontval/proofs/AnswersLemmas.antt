@@ -31,7 +31,8 @@ answered_more input left left' line output output' so_far next one = record {
 }
 
 -- when no line is left, the whole input is answered
-pub answered_all : (input left output : List ℕ) → IsAnsweredUpTo input left output → lines_of left ≡ [] → Answers input output
+pub answered_all : (input left output : List ℕ) → IsAnsweredUpTo input left output → lines_of left ≡ []
+    → Answers input output
 answered_all input left output so_far none =
     let P : List ℕ → Type 0 = λ whole. Answers input whole in
     subst P (append-nil output) (so_far.completes [] (rw none refl))

@@ -1,5 +1,6 @@
 -- What is read of named words, said of tags, and where points go.
-use Rattle.std.proofs.Common.{◌≡◌, ◌≢◌, ℕ, List, [], ◌∷◌, ◌++◌, Bool, true, false, true≢false, Result, Ok, Err, refl, sym, ◌∙◌}
+use Rattle.std.proofs.Common.{◌≡◌, ◌≢◌, ℕ, List, [], ◌∷◌, ◌++◌, Bool, true, false, true≢false, Result, Ok, Err, refl,
+    sym, ◌∙◌}
 use Rattle.std.specs.Prelude.{ℤ, ◌/◌}
 use Rattle.std.specs.Bool.{MatchBool}
 use Rattle.std.specs.Result.{result_map_both}
@@ -9,7 +10,8 @@ use Rattle.font_types.specs.DecimalFault.{DecimalFault}
 use Rattle.font_types.specs.Operations.{ReadingGives}
 use Rattle.font_types.specs.Tag.{IsValidated, tag_text}
 use Rattle.font_types.specs.InvalidTag.{InvalidTag}
-use Rattle.fontval.specs.Command.{AnswersWords, JudgesTag, IsNamedType, verdict_text, ShowsReading, fixed_row, name_of, two_words}
+use Rattle.fontval.specs.Command.{AnswersWords, JudgesTag, IsNamedType, verdict_text, ShowsReading, fixed_row, name_of,
+    two_words}
 use Rattle.fontval.specs.Refusal.{GivesAnswer, refusal_of}
 use Rattle.fontval.specs.Numbers.{ReadsJust, ReadsTerms, ReadsWhole}
 use Rattle.fontval.specs.Deltas.{Varies, varied_answer}
@@ -32,46 +34,60 @@ use Rattle.fontval.specs.declared.refusal.Refusal.{Refusal}
 use Rattle.fontval.specs.declared.refusal.Refusal.TheVariants.{UnknownCommand}
 
 -- a word that names another command names no type
-pub names_no_type : (word : List ℕ) (command : Command) → name_of command ≡ word → ((type : FixedType) → command ≢ FixedPoint type)
+pub names_no_type : (word : List ℕ) (command : Command) → name_of command ≡ word
+    → ((type : FixedType) → command ≢ FixedPoint type)
     → IsNamedType word (Err UnknownCommand)
-names_no_type word command named other = (refl, λ type same. other type (commands_apart command (FixedPoint type) (named ∙ sym same)))
+names_no_type word command named other =
+    (refl, λ type same. other type (commands_apart command (FixedPoint type) (named ∙ sym same)))
 
 -- the bytes of what a text is read as
-pub given_number : (type : FixedType) (name : List ℕ) (n w f : ℕ) (bits : Result ℤ DecimalFault) (text old new : List ℕ) (outcome : Result (Unit {0}) Unanswered)
-    → GivesAnswer (λ answer. answer ≡ result_map_both (λ value. encode_lower (bytes_of n value)) refusal_of bits) old new outcome
+pub given_number : (type : FixedType) (name : List ℕ) (n w f : ℕ) (bits : Result ℤ DecimalFault) (text old new : List ℕ)
+    (outcome : Result (Unit {0}) Unanswered)
+    → GivesAnswer (λ answer. answer ≡ result_map_both (λ value. encode_lower (bytes_of n value)) refusal_of bits) old
+    new outcome
     → ReadingGives w f text bits → fixed_row type ≡ (name, w, f) → w / 8 ≡ n
     → GivesAnswer (ShowsReading type text) old new outcome
 given_number type name n w f bits text old new outcome given read row size =
-    given_answer (ShowsReading type text) (result_map_both (λ value. encode_lower (bytes_of n value)) refusal_of bits) old new outcome given
+    given_answer (ShowsReading type text)
+        (result_map_both (λ value. encode_lower (bytes_of n value)) refusal_of bits) old new outcome given
     (rw (row, size) (record { bits = bits; read = read; gives = refl }))
 
 -- what is read of two words, the first of which names a type
-pub given_reading : (words : List (List ℕ)) (name word : List ℕ) (type : FixedType) (old new : List ℕ) (outcome : Result (Unit {0}) Unanswered)
-    → GivesAnswer (ShowsReading type word) old new outcome → two_words words ≡ Ok (name, word) → (fixed_row type).0 ≡ name
+pub given_reading : (words : List (List ℕ)) (name word : List ℕ) (type : FixedType) (old new : List ℕ)
+    (outcome : Result (Unit {0}) Unanswered)
+    → GivesAnswer (ShowsReading type word) old new outcome → two_words words ≡ Ok (name, word)
+    → (fixed_row type).0 ≡ name
     → GivesAnswer (AnswersWords words Read) old new outcome
 given_reading words name word type old new outcome given two named =
     given_as (ShowsReading type word) (AnswersWords words Read) old new outcome
     (λ answer right. rw two (record { first = Ok type; is_first = named; goes_on = right })) given
 
 -- what is said of a tag that was judged
-pub judged_tag : (bytes : List ℕ) (verdict : Result (Unit {0}) InvalidTag) (old new : List ℕ) (outcome : Result (Unit {0}) Unanswered)
-    → GivesAnswer (λ answer. answer ≡ Ok (tag_text bytes ++ verdict_text verdict)) old new outcome → IsValidated bytes verdict → GivesAnswer (JudgesTag bytes) old new outcome
+pub judged_tag : (bytes : List ℕ) (verdict : Result (Unit {0}) InvalidTag) (old new : List ℕ)
+    (outcome : Result (Unit {0}) Unanswered)
+    → GivesAnswer (λ answer. answer ≡ Ok (tag_text bytes ++ verdict_text verdict)) old new outcome
+    → IsValidated bytes verdict → GivesAnswer (JudgesTag bytes) old new outcome
 judged_tag bytes verdict old new outcome given judged =
-    given_answer (JudgesTag bytes) (Ok (tag_text bytes ++ verdict_text verdict)) old new outcome given (record { verdict = verdict; judged = judged; shows = refl })
+    given_answer (JudgesTag bytes) (Ok (tag_text bytes ++ verdict_text verdict)) old new outcome given
+        (record { verdict = verdict; judged = judged; shows = refl })
 
 -- numbers that are not read
 pub refused_images : (words : List (List ℕ)) (refusal : Refusal) (old : List ℕ) (outcome : Result (Unit {0}) Unanswered)
-    → outcome ≡ Err (Refused refusal) → ReadsJust 14 words (Err refusal) → GivesAnswer (AnswersWords words Image) old old outcome
+    → outcome ≡ Err (Refused refusal) → ReadsJust 14 words (Err refusal)
+    → GivesAnswer (AnswersWords words Image) old old outcome
 refused_images words refusal old outcome is refused =
-    given_refusal (AnswersWords words Image) refusal old outcome is (record { first = Err refusal; is_first = refused; goes_on = refl })
+    given_refusal (AnswersWords words Image) refusal old outcome is
+        (record { first = Err refusal; is_first = refused; goes_on = refl })
 
 -- where numbers that are read send a point
-pub given_images : (words : List (List ℕ)) (numbers : List Fixed) (a b : Matrix Fixed) (p : Point Fixed) (old new : List ℕ) (outcome : Result (Unit {0}) Unanswered)
+pub given_images : (words : List (List ℕ)) (numbers : List Fixed) (a b : Matrix Fixed) (p : Point Fixed)
+    (old new : List ℕ) (outcome : Result (Unit {0}) Unanswered)
     → GivesAnswer (λ answer. answer ≡ Ok (images_text (matrix_bits a) (matrix_bits b) (point_bits p))) old new outcome
     → ReadsJust 14 words (Ok numbers) → numbers ≡ elements_of a ++ elements_of b ++ p.x ∷ p.y ∷ []
     → GivesAnswer (AnswersWords words Image) old new outcome
 given_images words numbers a b p old new outcome given read are =
-    given_answer (AnswersWords words Image) (Ok (images_text (matrix_bits a) (matrix_bits b) (point_bits p))) old new outcome given (record {
+    given_answer (AnswersWords words Image)
+        (Ok (images_text (matrix_bits a) (matrix_bits b) (point_bits p))) old new outcome given (record {
       first = Ok numbers;
       is_first = read;
       goes_on = record { a = a; b = b; p = p; are = are; shows = refl };
@@ -83,12 +99,15 @@ where_true Y true passed x = x
 where_true Y false passed x = absurd (true≢false (sym passed))
 
 -- a number of units that terms which are read move
-pub given_moved : (words rest : List (List ℕ)) (base : List ℕ) (units : ℤ) (terms : List (Fixed × ℤ)) (old new : List ℕ) (outcome : Result (Unit {0}) Unanswered)
-    → GivesAnswer (λ answer. answer ≡ varied_answer units terms) old new outcome → words ≡ base ∷ rest → ReadsWhole 16 base (Ok units) → ReadsTerms rest (Ok terms)
+pub given_moved : (words rest : List (List ℕ)) (base : List ℕ) (units : ℤ) (terms : List (Fixed × ℤ)) (old new : List ℕ)
+    (outcome : Result (Unit {0}) Unanswered)
+    → GivesAnswer (λ answer. answer ≡ varied_answer units terms) old new outcome → words ≡ base ∷ rest
+    → ReadsWhole 16 base (Ok units) → ReadsTerms rest (Ok terms)
     → GivesAnswer (AnswersWords words Vary) old new outcome
 given_moved words rest base units terms old new outcome given is whole read =
     let right : Varies (base ∷ rest) (varied_answer units terms) = where_true _ _ (terms_are_even rest terms read)
-    (record { first = Ok units; is_first = whole; goes_on = record { first = Ok terms; is_first = read; goes_on = refl } }) in
+    (record { first = Ok units; is_first = whole;
+        goes_on = record { first = Ok terms; is_first = read; goes_on = refl } }) in
     given_answer (AnswersWords words Vary) (varied_answer units terms) old new outcome given (rw is right)
 
 pub ruleset reading_given = (given_refusal, given_reading, reads_no_number)

@@ -6,23 +6,27 @@ use Rattle.fontval.specs.declared.refusal.Unanswered.{Unanswered}
 use Rattle.fontval.specs.declared.refusal.Unanswered.TheVariants.{Memory, Refused}
 
 -- a refusal that is right
-pub given_refusal : (IsRight : Answer → Type 0) (refusal : Refusal) (old : List ℕ) (outcome : Result (Unit {0}) Unanswered)
+pub given_refusal : (IsRight : Answer → Type 0) (refusal : Refusal) (old : List ℕ)
+    (outcome : Result (Unit {0}) Unanswered)
     → outcome ≡ Err (Refused refusal) → IsRight (Err refusal) → GivesAnswer IsRight old old outcome
 given_refusal IsRight refusal old outcome is right = record { is_given = rw is (right, refl) }
 
 -- an answer that is right by one rule is right by another
 pub given_as : (IsRight IsMeant : Answer → Type 0) (old new : List ℕ) (outcome : Result (Unit {0}) Unanswered)
-    → ((answer : Answer) → IsRight answer → IsMeant answer) → GivesAnswer IsRight old new outcome → GivesAnswer IsMeant old new outcome
+    → ((answer : Answer) → IsRight answer → IsMeant answer) → GivesAnswer IsRight old new outcome
+    → GivesAnswer IsMeant old new outcome
 given_as IsRight IsMeant old new (Ok done) means given =
     let shown = given.is_given in
-    record { is_given = record { text = shown.text; is_right = means (Ok shown.text) shown.is_right; grown = shown.grown } }
+    record { is_given = record { text = shown.text; is_right = means (Ok shown.text) shown.is_right;
+        grown = shown.grown } }
 given_as IsRight IsMeant old new (Err Memory) means given = record { is_given = tt }
 given_as IsRight IsMeant old new (Err (Refused refusal)) means given =
     let refused = given.is_given in
     record { is_given = (means (Err refusal) refused.0, refused.1) }
 
 -- an answer that is right
-pub given_answer : (IsRight : Answer → Type 0) (answer : Answer) (old new : List ℕ) (outcome : Result (Unit {0}) Unanswered)
+pub given_answer : (IsRight : Answer → Type 0) (answer : Answer) (old new : List ℕ)
+    (outcome : Result (Unit {0}) Unanswered)
     → GivesAnswer (λ other. other ≡ answer) old new outcome → IsRight answer → GivesAnswer IsRight old new outcome
 given_answer IsRight answer old new outcome given right =
     given_as (λ other. other ≡ answer) IsRight old new outcome (λ other same. subst IsRight (sym same) right) given

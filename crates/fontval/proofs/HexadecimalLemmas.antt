@@ -1,5 +1,6 @@
 -- Bytes in hexadecimal are text, and hold no blank.
-use Rattle.std.proofs.Common.{◌≡◌, ◌<◌, ◌∷◌, [], List, ℕ, zero, suc, get_or, Bool, true, nat_lt, Result, Ok, Err, IsOk, refl, sym, ap, ◌∙◌, lit<, length, arith, false, true≢false}
+use Rattle.std.proofs.Common.{◌≡◌, ◌<◌, ◌∷◌, [], List, ℕ, zero, suc, get_or, Bool, true, nat_lt, Result, Ok, Err, IsOk,
+    refl, sym, ap, ◌∙◌, lit<, length, arith, false, true≢false}
 use Rattle.std.proofs.lemmas.Bool.{ltb-true, ne_eqb}
 use Rattle.std.proofs.lemmas.Str.{IsUtf8-from_ascii}
 use Rattle.std.specs.List.{list_all}
@@ -26,7 +27,8 @@ each_is_ascii (b ∷ bytes) (suc i) test = each_is_ascii bytes i (second_so (bel
 
 pub hexadecimal_is_text : (bytes : List ℕ) → IsUtf8 (encode_lower bytes)
 hexadecimal_is_text bytes =
-    IsUtf8-from_ascii (encode_lower bytes) (IsAscii-encode_with lower_digits bytes (λ i. each_is_ascii lower_digits i refl))
+    IsUtf8-from_ascii (encode_lower bytes)
+        (IsAscii-encode_with lower_digits bytes (λ i. each_is_ascii lower_digits i refl))
 
 -- ---- digits are one word
 
@@ -34,7 +36,8 @@ other_byte : (byte blank : ℕ) → is_hex_digit blank ≡ false → is_hex_digi
 other_byte byte blank none digit = ne_eqb byte blank (λ same. true≢false (sym digit ∙ ap is_hex_digit same ∙ none))
 
 digit_is_not_blank : (byte : ℕ) → is_hex_digit byte ≡ true → is_blank byte ≡ false
-digit_is_not_blank byte digit = rw (other_byte byte 32 refl digit, other_byte byte 9 refl digit, other_byte byte 13 refl digit) refl
+digit_is_not_blank byte digit = rw
+    (other_byte byte 32 refl digit, other_byte byte 9 refl digit, other_byte byte 13 refl digit) refl
 
 one_part : (text : List ℕ) → AllPass is_hex_digit text → slice_split is_blank text ≡ text ∷ []
 one_part [] all = refl
@@ -48,9 +51,11 @@ digits_are_one_word [] some all = absurd (omega arith)
 digits_are_one_word (byte ∷ rest) some all = rw (one_part (byte ∷ rest) all) refl
 
 -- what is decoded is the only word
-pub decoded_alone : (n : ℕ) (text bytes : List ℕ) → 0 < n → Ok bytes ≡ hexadecimal n text → Ok bytes ≡ only_bytes n (words_of text)
+pub decoded_alone : (n : ℕ) (text bytes : List ℕ) → 0 < n → Ok bytes ≡ hexadecimal n text
+    → Ok bytes ≡ only_bytes n (words_of text)
 decoded_alone n text bytes some found = judged (decode_sized text n) refl found where
-  judged : (d : Result (List ℕ) FromHexError) → decode_sized text n ≡ d → Ok bytes ≡ result_map_both (λ b. b) (λ fault. NotHexadecimal) d → Ok bytes ≡ only_bytes n (words_of text)
+  judged : (d : Result (List ℕ) FromHexError) → decode_sized text n ≡ d → Ok bytes ≡ result_map_both (λ b. b)
+      (λ fault. NotHexadecimal) d → Ok bytes ≡ only_bytes n (words_of text)
   judged (Ok all) is same =
       let ok : IsOk (decode_sized text n) = rw is refl in
       let digits = (IsOk-decode_sized text n).0 ok in

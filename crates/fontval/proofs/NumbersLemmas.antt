@@ -1,5 +1,6 @@
 -- Reading just so many numbers, one word after another.
-use Rattle.std.proofs.Common.{◌≡◌, ◌≢◌, ℕ, ℤ, ◌+◌, ◌<◌, ◌≤◌, arith, length, take, set, List, [], ◌∷◌, Ok, Err, refl, ap, ◌∙◌}
+use Rattle.std.proofs.Common.{◌≡◌, ◌≢◌, ℕ, ℤ, ◌+◌, ◌<◌, ◌≤◌, arith, length, take, set, List, [], ◌∷◌, Ok, Err, refl, ap,
+    ◌∙◌}
 use Rattle.std.proofs.lemmas.List.{take_more_set, length-set}
 use Rattle.std.proofs.Math.Seq.{take-length}
 use Rattle.std.proofs.lemmas.Bool.{eq-eqb, ne_eqb}
@@ -13,27 +14,32 @@ use Rattle.fontval.specs.declared.refusal.Refusal.TheVariants.{NotDecimal, WordC
 use Rattle.fontval.proofs.ReadingLemmas.{IsReadUpTo, none_read, one_more_read, one_refused, all_read}
 
 -- a word that is no decimal is refused as such
-pub reads_no_number : {T : Type 0} (w f : ℕ) (value : ℤ → T) (word : List ℕ) → IsNoDecimal word → ReadsNumber w f value word (Err NotDecimal)
+pub reads_no_number : {T : Type 0} (w f : ℕ) (value : ℤ → T) (word : List ℕ) → IsNoDecimal word
+    → ReadsNumber w f value word (Err NotDecimal)
 reads_no_number w f value word none = record { bits = Err Syntax; read = none; gives = refl }
 
--- the words of a text are read as numbers up to those of another, and the numbers stand in the first places of a list of n
+-- the words of a text are read as numbers up to those of another, and the numbers stand in the first places of a list
+-- of n
 pub record AreNumbersUpTo (n : ℕ) (text left : List ℕ) (numbers : List Fixed) (at : ℕ) : Type 0 where
   pub read : IsReadUpTo ReadsFixed (words_of text) (words_of left) (take at numbers)
   pub count : at + length (words_of left) ≡ length (words_of text)
   pub within : at ≤ n
   pub whole : length numbers ≡ n
 
-pub no_number : (n : ℕ) (text : List ℕ) (numbers : List Fixed) → length numbers ≡ n → AreNumbersUpTo n text text numbers 0
+pub no_number : (n : ℕ) (text : List ℕ) (numbers : List Fixed) → length numbers ≡ n
+    → AreNumbersUpTo n text text numbers 0
 no_number n text numbers whole =
     record { read = none_read ReadsFixed (words_of text); count = omega arith; within = omega arith; whole = whole }
 
 pub one_more_number : (n : ℕ) (text left left' word : List ℕ) (numbers : List Fixed) (at : ℕ) (number : Fixed)
-    → AreNumbersUpTo n text left numbers at → at ≢ n → words_of left ≡ word ∷ words_of left' → ReadsFixed word (Ok number)
+    → AreNumbersUpTo n text left numbers at → at ≢ n → words_of left ≡ word ∷ words_of left'
+    → ReadsFixed word (Ok number)
     → AreNumbersUpTo n text left' (set numbers at number) (at + 1)
 one_more_number n text left left' word numbers at number so_far room next one =
     let inside : at < length numbers = omega (arith, so_far.within, so_far.whole, room) in
     record {
-      read = one_more_read ReadsFixed _ _ _ so_far.read _ word _ number next one (take_more_set numbers at number inside);
+      read = one_more_read ReadsFixed _ _ _ so_far.read _ word _ number next one
+          (take_more_set numbers at number inside);
       count = omega (arith, so_far.count, ap length next);
       within = omega (arith, so_far.within, room);
       whole = length-set numbers at number ∙ so_far.whole;
@@ -48,7 +54,8 @@ all_numbers n text left numbers at so_far none full =
 
 -- a word is refused, and with those behind it there are n
 pub refused_after_numbers : (n : ℕ) (text left left' word : List ℕ) (numbers : List Fixed) (at : ℕ) (refusal : Refusal)
-    → AreNumbersUpTo n text left numbers at → words_of left ≡ word ∷ words_of left' → at + 1 + length (words_of left') ≡ n → ReadsFixed word (Err refusal)
+    → AreNumbersUpTo n text left numbers at → words_of left ≡ word ∷ words_of left' → at + 1 + length (words_of left')
+    ≡ n → ReadsFixed word (Err refusal)
     → ReadsJust n (words_of text) (Err refusal)
 refused_after_numbers n text left left' word numbers at refusal so_far next just one =
     rw (eq-eqb (length (words_of text)) n (omega (arith, so_far.count, just, ap length next)))
@@ -56,7 +63,8 @@ refused_after_numbers n text left left' word numbers at refusal so_far next just
 
 -- there are not n words
 pub other_count : (n : ℕ) (text left : List ℕ) (numbers : List Fixed) (at : ℕ)
-    → AreNumbersUpTo n text left numbers at → at + length (words_of left) ≢ n → ReadsJust n (words_of text) (Err WordCount)
+    → AreNumbersUpTo n text left numbers at → at + length (words_of left) ≢ n
+    → ReadsJust n (words_of text) (Err WordCount)
 other_count n text left numbers at so_far other =
     rw (ne_eqb (length (words_of text)) n (λ same. other (so_far.count ∙ same))) refl
 

@@ -1,5 +1,6 @@
 -- Reading one thing after another.
-use Rattle.std.proofs.Common.{◌≡◌, List, [], ◌∷◌, ◌++◌, Result, Ok, Err, MatchResult, refl, sym, ap, ◌∙◌, subst, append_assoc}
+use Rattle.std.proofs.Common.{◌≡◌, List, [], ◌∷◌, ◌++◌, Result, Ok, Err, MatchResult, refl, sym, ap, ◌∙◌, subst,
+    append_assoc}
 use Rattle.std.specs.Result.{result_map_both}
 use Rattle.std.proofs.lemmas.List.{append-nil}
 use Rattle.fontval.specs.Numbers.{ReadsEach}
@@ -10,8 +11,10 @@ abbrev pub prepended : {T : Type 0} → List T → Result (List T) Refusal → R
 prepended values rest = result_map_both (λ more. values ++ more) (λ refusal. refusal) rest
 
 -- the words are read up to `left` as these values: what `left` is read as completes them
-pub record IsReadUpTo {W T : Type 0} (reads : W → Result T Refusal → Type 0) (words left : List W) (values : List T) : Type 0 where
-  pub completes : (rest : Result (List T) Refusal) → ReadsEach reads left rest → ReadsEach reads words (prepended values rest)
+pub record IsReadUpTo {W T : Type 0} (reads : W → Result T Refusal → Type 0) (words left : List W)
+    (values : List T) : Type 0 where
+  pub completes : (rest : Result (List T) Refusal) → ReadsEach reads left rest
+      → ReadsEach reads words (prepended values rest)
 
 module _ {W T : Type 0} (reads : W → Result T Refusal → Type 0) (words : List W) where
   behind_nothing : (rest : Result (List T) Refusal) → prepended [] rest ≡ rest
@@ -24,7 +27,8 @@ module _ {W T : Type 0} (reads : W → Result T Refusal → Type 0) (words : Lis
   behind_one_more values value (Err refusal) = refl
 
   one_behind : (value : T) (rest : Result (List T) Refusal)
-      → MatchResult rest (λ more. prepended (value ∷ []) rest ≡ Ok (value ∷ more)) (λ refusal. prepended (value ∷ []) rest ≡ Err refusal)
+      → MatchResult rest (λ more. prepended (value ∷ []) rest ≡ Ok (value ∷ more))
+      (λ refusal. prepended (value ∷ []) rest ≡ Err refusal)
   one_behind value (Ok more) = refl
   one_behind value (Err refusal) = refl
 
@@ -35,7 +39,8 @@ module _ {W T : Type 0} (reads : W → Result T Refusal → Type 0) (words : Lis
   module _ (left : List W) (values : List T) (so_far : IsReadUpTo reads words left values) where
     -- the first that is left is read
     pub one_more_read : (left' : List W) (word : W) (values' : List T) (value : T)
-        → left ≡ word ∷ left' → reads word (Ok value) → values' ≡ values ++ value ∷ [] → IsReadUpTo reads words left' values'
+        → left ≡ word ∷ left' → reads word (Ok value) → values' ≡ values ++ value ∷ []
+        → IsReadUpTo reads words left' values'
     one_more_read left' word values' value next one grown = record {
       completes = λ rest read.
           let all = so_far.completes (prepended (value ∷ []) rest) (rw next (record {
@@ -43,11 +48,13 @@ module _ {W T : Type 0} (reads : W → Result T Refusal → Type 0) (words : Lis
             is_first = one;
             goes_on = record { first = rest; is_first = read; goes_on = one_behind value rest };
           })) in
-          subst (λ r. ReadsEach reads words r) (behind_one_more values value rest ∙ ap (λ vs. prepended vs rest) (sym grown)) all;
+          subst (λ r. ReadsEach reads words r)
+              (behind_one_more values value rest ∙ ap (λ vs. prepended vs rest) (sym grown)) all;
     }
 
     -- it is refused, and so all are
-    pub one_refused : (left' : List W) (word : W) (refusal : Refusal) → left ≡ word ∷ left' → reads word (Err refusal) → ReadsEach reads words (Err refusal)
+    pub one_refused : (left' : List W) (word : W) (refusal : Refusal) → left ≡ word ∷ left' → reads word (Err refusal)
+        → ReadsEach reads words (Err refusal)
     one_refused left' word refusal next one =
         so_far.completes (Err refusal) (rw next (record { first = Err refusal; is_first = one; goes_on = refl }))
 

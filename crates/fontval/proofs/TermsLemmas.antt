@@ -1,5 +1,6 @@
 -- Reading terms, two words at a time.
-use Rattle.std.proofs.Common.{◌≡◌, ℕ, ℤ, ◌+◌, ◌%◌, Bool, true, false, arith, length, List, [], ◌∷◌, ◌++◌, Ok, Err, refl, ap, ◌∙◌}
+use Rattle.std.proofs.Common.{◌≡◌, ℕ, ℤ, ◌+◌, ◌%◌, Bool, true, false, arith, length, List, [], ◌∷◌, ◌++◌, Ok, Err, refl,
+    ap, ◌∙◌}
 use Rattle.std.specs.Prelude.{◌==◌}
 use Rattle.std.specs.Bool.{MatchBool}
 use Rattle.font_types.specs.fixed.Fixed.{Fixed}
@@ -24,7 +25,8 @@ pub record AreTermsUpTo (text left : List ℕ) (terms : List (Fixed × ℤ)) : T
 pub no_term : (text : List ℕ) → AreTermsUpTo text text []
 no_term text = record { read = none_read ReadsTerm (pairs_of (words_of text)); even = refl }
 
-module _ (text left middle left' scalar delta : List ℕ) (terms : List (Fixed × ℤ)) (so_far : AreTermsUpTo text left terms)
+module _ (text left middle left' scalar delta : List ℕ) (terms : List (Fixed × ℤ))
+    (so_far : AreTermsUpTo text left terms)
     (first : words_of left ≡ scalar ∷ words_of middle) (second : words_of middle ≡ delta ∷ words_of left') where
   two : words_of left ≡ scalar ∷ delta ∷ words_of left'
   two = first ∙ ap (λ words. scalar ∷ words) second
@@ -34,11 +36,14 @@ module _ (text left middle left' scalar delta : List ℕ) (terms : List (Fixed �
       let more : length (words_of left) ≡ length (words_of left') + 2 = omega (arith, ap length two) in
       so_far.even ∙ ap is_even more ∙ two_more (length (words_of left'))
 
-  pub one_more_term : (term : Fixed × ℤ) (terms' : List (Fixed × ℤ)) → ReadsTerm (scalar, delta) (Ok term) → terms' ≡ terms ++ term ∷ [] → AreTermsUpTo text left' terms'
+  pub one_more_term : (term : Fixed × ℤ) (terms' : List (Fixed × ℤ)) → ReadsTerm (scalar, delta) (Ok term)
+      → terms' ≡ terms ++ term ∷ [] → AreTermsUpTo text left' terms'
   one_more_term term terms' one grown =
-      record { read = one_more_read ReadsTerm _ _ _ so_far.read _ (scalar, delta) terms' term (ap pairs_of two) one grown; even = still_even }
+      record { read = one_more_read ReadsTerm _ _ _ so_far.read _ (scalar, delta) terms' term (ap pairs_of two) one
+          grown; even = still_even }
 
-  pub refused_term : (refusal : Refusal) → ReadsTerm (scalar, delta) (Err refusal) → is_even (length (words_of left')) ≡ true → ReadsTerms (words_of text) (Err refusal)
+  pub refused_term : (refusal : Refusal) → ReadsTerm (scalar, delta) (Err refusal) → is_even (length (words_of left'))
+      ≡ true → ReadsTerms (words_of text) (Err refusal)
   refused_term refusal one even =
       rw (still_even ∙ even) (one_refused ReadsTerm _ _ _ so_far.read _ (scalar, delta) refusal (ap pairs_of two) one)
 
@@ -49,19 +54,23 @@ module _ (text left middle left' scalar delta : List ℕ) (terms : List (Fixed �
 pub odd_word : (text left middle scalar : List ℕ) (terms : List (Fixed × ℤ)) → AreTermsUpTo text left terms
     → words_of left ≡ scalar ∷ words_of middle → words_of middle ≡ [] → ReadsTerms (words_of text) (Err WordCount)
 odd_word text left middle scalar terms so_far first none =
-    let odd : is_even (length (words_of left)) ≡ false = ap is_even (ap length (first ∙ ap (λ words. scalar ∷ words) none)) in
+    let odd : is_even (length (words_of left)) ≡ false = ap is_even
+        (ap length (first ∙ ap (λ words. scalar ∷ words) none)) in
     rw (so_far.even ∙ odd) refl
 
 -- no word is left, and all terms are read
-pub all_terms : (text left : List ℕ) (terms : List (Fixed × ℤ)) → AreTermsUpTo text left terms → words_of left ≡ [] → ReadsTerms (words_of text) (Ok terms)
+pub all_terms : (text left : List ℕ) (terms : List (Fixed × ℤ)) → AreTermsUpTo text left terms → words_of left ≡ []
+    → ReadsTerms (words_of text) (Ok terms)
 all_terms text left terms so_far none =
     let even : is_even (length (words_of left)) ≡ true = ap is_even (ap length none) in
     rw (so_far.even ∙ even) (all_read ReadsTerm _ _ _ so_far.read terms (ap pairs_of none) refl)
 
 -- words that are read as terms can be taken two by two
-pub terms_are_even : (words : List (List ℕ)) (terms : List (Fixed × ℤ)) → ReadsTerms words (Ok terms) → is_even (length words) ≡ true
+pub terms_are_even : (words : List (List ℕ)) (terms : List (Fixed × ℤ)) → ReadsTerms words (Ok terms)
+    → is_even (length words) ≡ true
 terms_are_even words terms read = judged (is_even (length words)) read where
-  judged : (b : Bool) → MatchBool b (ReadsEach ReadsTerm (pairs_of words) (Ok terms)) (Ok terms ≡ Err WordCount) → b ≡ true
+  judged : (b : Bool) → MatchBool b (ReadsEach ReadsTerm (pairs_of words) (Ok terms)) (Ok terms ≡ Err WordCount)
+      → b ≡ true
   judged true read = refl
   judged false none = absurd (let same = none in cc)
 

@@ -13,8 +13,10 @@ use Rattle.font_base.specs.declared.big_endian.BigEndian.{BigEndian}
 use Rattle.font_base.specs.BigEndian.{raw_value}
 use Rattle.std.specs.declared.cmp.Ordering.{Ordering}
 
--- an order of values that agrees with their equality, which joins no two, agrees with the equality of bytes that are those of the values
-pub same_answer : {V : Type 0} (R : V → V → Ordering) (E : V → V → Bool) → ((a b : V) → E a b ≡ is_eq (R a b)) → ((a b : V) → Decides (E a b) (a ≡ b))
+-- an order of values that agrees with their equality, which joins no two, agrees with the equality of bytes that are
+-- those of the values
+pub same_answer : {V : Type 0} (R : V → V → Ordering) (E : V → V → Bool) → ((a b : V) → E a b ≡ is_eq (R a b))
+    → ((a b : V) → Decides (E a b) (a ≡ b))
     → (a b : V) (xs ys : List ℕ) → (xs ≡ ys → a ≡ b) → (a ≡ b → xs ≡ ys) → pointwise nat_eq xs ys ≡ is_eq (R a b)
 same_answer R E agrees identity a b xs ys to from =
     both_ways (pointwise nat_eq xs ys) (is_eq (R a b))
@@ -22,7 +24,8 @@ same_answer R E agrees identity a b xs ys to from =
     (λ tied. (bytes_decides xs ys).1 (from ((identity a b).0 (agrees a b ∙ tied))))
 
 -- fields of one array are the same
-pub same_field : {T R X : Type 0} {scalar : Scalar.Ghosts T X} {size : FixedSize.Ghosts T} {x : BeByteArray.Ghosts X} {r : BeByteArray.Ghosts R}
+pub same_field : {T R X : Type 0} {scalar : Scalar.Ghosts T X} {size : FixedSize.Ghosts T} {x : BeByteArray.Ghosts X}
+    {r : BeByteArray.Ghosts R}
     → (a b : BigEndian T R X scalar size x r) → raw_value a ≡ raw_value b → a ≡ b
 same_field {R = R} {r = r} a b same =
     let prop : (raw : R) → IsProp (IsTrue (r.is_value raw)) = λ raw. hlevel props in

@@ -1,9 +1,11 @@
 -- That a number and its bytes determine each other.
-use Rattle.std.proofs.Common.{◌≡◌, ◌∙◌, sym, ap, subst, refl, ℕ, zero, suc, ◌+◌, ◌*◌, ◌/◌, ◌%◌, ◌^◌, ◌<◌, Bool, true, ℤ, pos, ◌+ℤ◌, ◌*ℤ◌, List, [], ◌∷◌, length, get_or, fold, arith, IsTrue, nat_lt, ◌==◌, lit<}
+use Rattle.std.proofs.Common.{◌≡◌, ◌∙◌, sym, ap, subst, refl, ℕ, zero, suc, ◌+◌, ◌*◌, ◌/◌, ◌%◌, ◌^◌, ◌<◌, Bool, true, ℤ,
+    pos, ◌+ℤ◌, ◌*ℤ◌, List, [], ◌∷◌, length, get_or, fold, arith, IsTrue, nat_lt, ◌==◌, lit<}
 use Rattle.std.proofs.lemmas.Int.{ints}
 use Rattle.std.proofs.lemmas.Nat.{pow-add, div-add-mod'}
 use Rattle.std.proofs.lemmas.Bool.{eq-eqb, eqb-true, lt-ltb, ltb-true}
-use Rattle.std.proofs.Math.Nat.{pow-suc, add-mul, mul_assoc, add_comm, mod-lt, mod-eq_of_lt, one-le-pow, add-mul-div_right, add-mul-mod_self_right}
+use Rattle.std.proofs.Math.Nat.{pow-suc, add-mul, mul_assoc, add_comm, mod-lt, mod-eq_of_lt, one-le-pow,
+    add-mul-div_right, add-mul-mod_self_right}
 use Rattle.std.specs.Cmp.{first_so, second_so}
 use Rattle.std.specs.Cmp.Derive.{both_true}
 use Rattle.std.specs.List.{list_all}
@@ -11,7 +13,8 @@ use Rattle.std.specs.Int.{bytes_high_first, byte_at}
 use lib.Arith.{digits_lt, digits_div, mod-mul}
 use Rattle.font_base.specs.Integers.{sum-times}
 use Rattle.font_base.specs.Wrap.{FitsBits, fits_bits, wrap}
-use Rattle.font_base.specs.Wrap.Laws.{fits_bits-true, FitsBits-fits_bits, remainder, same_rest, wrap_is, wrap_same, wrap-fits}
+use Rattle.font_base.specs.Wrap.Laws.{fits_bits-true, FitsBits-fits_bits, remainder, same_rest, wrap_is, wrap_same,
+    wrap-fits}
 use Rattle.font_base.specs.Bytes.{numeral, are_bytes, IsBytesOf, bytes_of, signed_numeral}
 
 -- the step of a numeral
@@ -22,7 +25,8 @@ fold-numeral : (a : ℕ) (bytes : List ℕ) → fold push_byte a bytes ≡ a * 2
 fold-numeral a [] = omega arith
 fold-numeral a (b ∷ bs) =
     rw (fold-numeral (a * 256 + b) bs, fold-numeral (0 * 256 + b) bs)
-    (omega (arith, add-mul (a * 256) b (256 ^ length bs), mul_assoc a 256 (256 ^ length bs), ap (λ p. a * p) (pow-suc 256 (length bs))))
+    (omega (arith, add-mul (a * 256) b (256 ^ length bs), mul_assoc a 256 (256 ^ length bs),
+        ap (λ p. a * p) (pow-suc 256 (length bs))))
 
 -- the first byte counts most
 pub numeral-cons : (b : ℕ) (bs : List ℕ) → numeral (b ∷ bs) ≡ b * 256 ^ length bs + numeral bs
@@ -59,7 +63,8 @@ byte_at_is (suc k) n = refl
 each_high_first : (k n : ℕ) → list_all is_byte (bytes_high_first k n) ≡ true
 each_high_first zero n = refl
 each_high_first (suc k) n =
-    both_true (rw (byte_at_is k n) (lt-ltb (n / 256 ^ k % 256) 256 (mod-lt (n / 256 ^ k) (lit< tt)))) (each_high_first k n)
+    both_true (rw (byte_at_is k n) (lt-ltb (n / 256 ^ k % 256) 256 (mod-lt (n / 256 ^ k) (lit< tt))))
+        (each_high_first k n)
 
 are_bytes-high_first : (k n : ℕ) → IsTrue (are_bytes k (bytes_high_first k n))
 are_bytes-high_first k n =
@@ -83,7 +88,8 @@ bytes_high_first-above (suc k) a m =
     omega (arith, ap (λ p. a * p) (pow-suc 256 k), mul_assoc a 256 (256 ^ k)) in
     let first : byte_at k (a * 256 * 256 ^ k + m) ≡ byte_at k m =
     rw (byte_at_is k m, byte_at_is k (a * 256 * 256 ^ k + m))
-    (ap (λ q. q % 256) (ap (λ n. n / 256 ^ k) (add_comm (a * 256 * 256 ^ k) m) ∙ add-mul-div_right m (a * 256) (some_power k))
+    (ap (λ q. q % 256) (ap (λ n. n / 256 ^ k) (add_comm (a * 256 * 256 ^ k) m)
+        ∙ add-mul-div_right m (a * 256) (some_power k))
     ∙ add-mul-mod_self_right (m / 256 ^ k) a 256) in
     let others = bytes_high_first-above k (a * 256) m in
     rw whole (ap (λ b. b ∷ bytes_high_first k (a * 256 * 256 ^ k + m)) first ∙ ap (λ bs. byte_at k m ∷ bs) others)
@@ -145,7 +151,8 @@ bytes_unique n v xs ys p q =
     ∙ bytes_high_first-numeral ys (are_bytes-each n ys q.are)
 
 -- numbers a multiple of 256^n apart have the same n bytes
-pub IsBytesOf-apart : (n : ℕ) (v u turns : ℤ) (bytes : List ℕ) → v ≡ (u +ℤ (turns *ℤ pos (256 ^ n))) → IsBytesOf n u bytes → IsBytesOf n v bytes
+pub IsBytesOf-apart : (n : ℕ) (v u turns : ℤ) (bytes : List ℕ) → v ≡ (u +ℤ (turns *ℤ pos (256 ^ n)))
+    → IsBytesOf n u bytes → IsBytesOf n v bytes
 IsBytesOf-apart n v u turns bytes apart given = record {
   are = given.are;
   turns = given.turns +ℤ turns;
@@ -188,7 +195,8 @@ unfolding bytes_of
 numeral-bytes_of n v below =
     numeral-bytes_high_first n (v % 256 ^ n) ∙ mod-eq_of_lt (mod-lt v (some_power n)) ∙ mod-eq_of_lt below
 
-pub bytes_of-signed_numeral : (n : ℕ) (bytes : List ℕ) → 0 < n → IsTrue (are_bytes n bytes) → bytes_of n (signed_numeral n bytes) ≡ bytes
+pub bytes_of-signed_numeral : (n : ℕ) (bytes : List ℕ) → 0 < n → IsTrue (are_bytes n bytes)
+    → bytes_of n (signed_numeral n bytes) ≡ bytes
 unfolding signed_numeral
 bytes_of-signed_numeral n bytes some are =
     let given = wrap_is (8 * n) (pos (numeral bytes)) (omega arith) in
@@ -214,8 +222,10 @@ unsigned_value n bytes are = lt-ltb (numeral bytes) (256 ^ n) (numeral_below n b
 pub unsigned_back : (n v : ℕ) → IsTrue (nat_lt v (256 ^ n)) → numeral (bytes_of n (pos v)) ≡ v
 unsigned_back n v test = numeral-bytes_of n v (ltb-true v (256 ^ n) test)
 
-pub signed_value : (n : ℕ) → 0 < n → (bytes : List ℕ) → IsTrue (are_bytes n bytes) → IsTrue (fits_bits (8 * n) (signed_numeral n bytes))
-signed_value n some bytes are = FitsBits-fits_bits (8 * n) (signed_numeral n bytes) (FitsBits-signed_numeral n bytes some)
+pub signed_value : (n : ℕ) → 0 < n → (bytes : List ℕ) → IsTrue (are_bytes n bytes)
+    → IsTrue (fits_bits (8 * n) (signed_numeral n bytes))
+signed_value n some bytes are = FitsBits-fits_bits (8 * n) (signed_numeral n bytes)
+    (FitsBits-signed_numeral n bytes some)
 
 pub signed_back : (n : ℕ) → 0 < n → (v : ℤ) → IsTrue (fits_bits (8 * n) v) → signed_numeral n (bytes_of n v) ≡ v
 signed_back n some v test = signed_numeral-bytes_of n v some (fits_bits-true (8 * n) v test)

@@ -1,16 +1,20 @@
--- The laws of a scalar that is a number, or a newtype round one: for a type of `n` bytes, with the number of a value and the value of a number.
+-- The laws of a scalar that is a number, or a newtype round one: for a type of `n` bytes, with the number of a value
+-- and the value of a number.
 use Rattle.std.proofs.Common.{◌≡◌, ◌∙◌, sym, ap, refl, ℕ, ◌^◌, ◌*◌, ◌<◌, ℤ, pos, nat_eq, nat_lt}
 use Rattle.std.specs.Bool.{Decides}
 use Rattle.std.specs.Cmp.{signed_Decides, unsigned_Decides}
 use Rattle.std.specs.Ordering.{int_eq}
 use Rattle.font_base.specs.Wrap.{fits_bits}
 use Rattle.font_base.specs.Bytes.{numeral, are_bytes, bytes_of, signed_numeral}
-use Rattle.font_base.specs.Bytes.Laws.{are_bytes-bytes_of, bytes_of-numeral, bytes_of-signed_numeral, unsigned_value, unsigned_back, signed_value, signed_back}
+use Rattle.font_base.specs.Bytes.Laws.{are_bytes-bytes_of, bytes_of-numeral, bytes_of-signed_numeral, unsigned_value,
+    unsigned_back, signed_value, signed_back}
 use Rattle.font_base.specs.Scalar.{ScalarLaws}
 
 -- a newtype round an unsigned number
-pub unsigned_newtype : {T : Type 0} (n : ℕ) (number_of : T → ℕ) (of_number : ℕ → T) → ((m : ℕ) → number_of (of_number m) ≡ m) → ((x : T) → of_number (number_of x) ≡ x)
-    → ScalarLaws (λ x. nat_lt (number_of x) (256 ^ n)) (are_bytes n) (λ bytes. of_number (numeral bytes)) (λ x. bytes_of n (pos (number_of x))) n n
+pub unsigned_newtype : {T : Type 0} (n : ℕ) (number_of : T → ℕ) (of_number : ℕ → T)
+    → ((m : ℕ) → number_of (of_number m) ≡ m) → ((x : T) → of_number (number_of x) ≡ x)
+    → ScalarLaws (λ x. nat_lt (number_of x) (256 ^ n)) (are_bytes n) (λ bytes. of_number (numeral bytes))
+    (λ x. bytes_of n (pos (number_of x))) n n
 unsigned_newtype n number_of of_number there back = record {
   of_raw_value = λ bytes are. rw (there (numeral bytes)) (unsigned_value n bytes are);
   raw_of_value = λ x _. are_bytes-bytes_of n (pos (number_of x));
@@ -20,30 +24,36 @@ unsigned_newtype n number_of of_number there back = record {
 }
 
 -- a newtype round a signed number
-pub signed_newtype : {T : Type 0} (n : ℕ) → 0 < n → (number_of : T → ℤ) (of_number : ℤ → T) → ((z : ℤ) → number_of (of_number z) ≡ z) → ((x : T) → of_number (number_of x) ≡ x)
-    → ScalarLaws (λ x. fits_bits (8 * n) (number_of x)) (are_bytes n) (λ bytes. of_number (signed_numeral n bytes)) (λ x. bytes_of n (number_of x)) n n
+pub signed_newtype : {T : Type 0} (n : ℕ) → 0 < n → (number_of : T → ℤ) (of_number : ℤ → T)
+    → ((z : ℤ) → number_of (of_number z) ≡ z) → ((x : T) → of_number (number_of x) ≡ x)
+    → ScalarLaws (λ x. fits_bits (8 * n) (number_of x)) (are_bytes n) (λ bytes. of_number (signed_numeral n bytes))
+    (λ x. bytes_of n (number_of x)) n n
 signed_newtype n some number_of of_number there back = record {
   of_raw_value = λ bytes are. rw (there (signed_numeral n bytes)) (signed_value n some bytes are);
   raw_of_value = λ x _. are_bytes-bytes_of n (number_of x);
   back = λ x value. ap of_number (signed_back n some (number_of x) value) ∙ back x;
-  forth = λ bytes are. ap (λ z. bytes_of n z) (there (signed_numeral n bytes)) ∙ bytes_of-signed_numeral n bytes some are;
+  forth = λ bytes are. ap (λ z. bytes_of n z) (there (signed_numeral n bytes))
+      ∙ bytes_of-signed_numeral n bytes some are;
   lengths_agree = refl;
 }
 
 -- the number itself
-pub unsigned_laws : (n : ℕ) → ScalarLaws (λ (m : ℕ). nat_lt m (256 ^ n)) (are_bytes n) numeral (λ m. bytes_of n (pos m)) n n
+pub unsigned_laws : (n : ℕ) → ScalarLaws (λ (m : ℕ). nat_lt m (256 ^ n)) (are_bytes n) numeral
+    (λ m. bytes_of n (pos m)) n n
 unsigned_laws n = unsigned_newtype n (λ m. m) (λ m. m) (λ _. refl) (λ _. refl)
 
 pub signed_laws : (n : ℕ) → 0 < n → ScalarLaws (fits_bits (8 * n)) (are_bytes n) (signed_numeral n) (bytes_of n) n n
 signed_laws n some = signed_newtype n some (λ z. z) (λ z. z) (λ _. refl) (λ _. refl)
 
 -- where a value is determined by its number, the equality of numbers joins no two values
-pub unsigned_identity : {T : Type 0} (number_of : T → ℕ) (of_number : ℕ → T) → ((x : T) → of_number (number_of x) ≡ x) → (x y : T) → Decides (nat_eq (number_of x) (number_of y)) (x ≡ y)
+pub unsigned_identity : {T : Type 0} (number_of : T → ℕ) (of_number : ℕ → T) → ((x : T) → of_number (number_of x) ≡ x)
+    → (x y : T) → Decides (nat_eq (number_of x) (number_of y)) (x ≡ y)
 unsigned_identity number_of of_number back x y =
     let decides = unsigned_Decides (number_of x) (number_of y) in
     (λ same. sym (back x) ∙ ap of_number (decides.0 same) ∙ back y, λ same. decides.1 (ap number_of same))
 
-pub signed_identity : {T : Type 0} (number_of : T → ℤ) (of_number : ℤ → T) → ((x : T) → of_number (number_of x) ≡ x) → (x y : T) → Decides (int_eq (number_of x) (number_of y)) (x ≡ y)
+pub signed_identity : {T : Type 0} (number_of : T → ℤ) (of_number : ℤ → T) → ((x : T) → of_number (number_of x) ≡ x)
+    → (x y : T) → Decides (int_eq (number_of x) (number_of y)) (x ≡ y)
 signed_identity number_of of_number back x y =
     let decides = signed_Decides (number_of x) (number_of y) in
     (λ same. sym (back x) ∙ ap of_number (decides.0 same) ∙ back y, λ same. decides.1 (ap number_of same))

@@ -1,4 +1,5 @@
--- The laws of an order that is given by a test `le` alone, in which not all values need to compare: what an element of a box has to show.
+-- The laws of an order that is given by a test `le` alone, in which not all values need to compare: what an element of
+-- a box has to show.
 use Rattle.std.proofs.Common.{◌≡◌, ◌∙◌, ap, refl, ℕ, nat_le, arith, Bool, true, false, ◌&&◌, Option, Some, None}
 use Rattle.std.proofs.lemmas.Bool.Decides.{nat_tests}
 use Rattle.std.specs.Bool.{Decides}
@@ -49,7 +50,8 @@ nat_le_chains : (a b c : ℕ) → nat_le a b ≡ true → nat_le b c ≡ true �
 nat_le_chains a b c p q = grind (arith, nat_tests)
 
 -- pairs of numbers, coordinate by coordinate
-pub coordinates_chain : (a b c d e f : ℕ) → (nat_le a b && nat_le d e) ≡ true → (nat_le b c && nat_le e f) ≡ true → (nat_le a c && nat_le d f) ≡ true
+pub coordinates_chain : (a b c d e f : ℕ) → (nat_le a b && nat_le d e) ≡ true → (nat_le b c && nat_le e f) ≡ true
+    → (nat_le a c && nat_le d f) ≡ true
 coordinates_chain a b c d e f p q = both_true
     (nat_le_chains a b c (first_so (nat_le a b) (nat_le d e) p) (first_so (nat_le b c) (nat_le e f) q))
     (nat_le_chains d e f (second_so (nat_le a b) (nat_le d e) p) (second_so (nat_le b c) (nat_le e f) q))

@@ -7,7 +7,8 @@ use denote.Struct.Props.{props}
 use Rattle.font_geom.specs.Ring.{RingLaws}
 
 -- values that are made of a number below n, and of nothing else, are the same where their numbers are
-pub same_made : {T : Type 0} {n : ℕ} (make : (k : ℕ) → k < n → T) {j k : ℕ} (p : j < n) (q : k < n) → j ≡ k → make j p ≡ make k q
+pub same_made : {T : Type 0} {n : ℕ} (make : (k : ℕ) → k < n → T) {j k : ℕ} (p : j < n) (q : k < n) → j ≡ k
+    → make j p ≡ make k q
 same_made {n = n} make p q same =
     let prop : (k : ℕ) → IsProp (k < n) = λ k. hlevel props in
     λ i. make (same i) (is_prop→PathP (λ j. same j < n) (λ j. prop (same j)) p q i)
@@ -21,31 +22,41 @@ pub record IsModular {T : Type 0} (n : ℕ) (number : T → ℕ) (zero one : T) 
   pub number-plus : (x y : T) → number (plus x y) ≡ (number x + number y) % n
   pub number-times : (x y : T) → number (times x y) ≡ (number x * number y) % n
 
-module _ {T : Type 0} {n : ℕ} {number : T → ℕ} {zero one : T} {plus times : T → T → T} (it : IsModular n number zero one plus times) where
+module _ {T : Type 0} {n : ℕ} {number : T → ℕ} {zero one : T} {plus times : T → T → T}
+    (it : IsModular n number zero one plus times) where
   -- of a sum or a product, another one
   plus_sum : (x y z : T) → number (plus (plus x y) z) ≡ (number x + number y + number z) % n
-  plus_sum x y z = it.number-plus (plus x y) z ∙ ap (λ k. (k + number z) % n) (it.number-plus x y) ∙ mod-add-mod (number x + number y) n (number z)
+  plus_sum x y z = it.number-plus (plus x y) z ∙ ap (λ k. (k + number z) % n) (it.number-plus x y) ∙ mod-add-mod
+      (number x + number y) n (number z)
 
   sum_plus : (x y z : T) → number (plus x (plus y z)) ≡ (number x + (number y + number z)) % n
-  sum_plus x y z = it.number-plus x (plus y z) ∙ ap (λ k. (number x + k) % n) (it.number-plus y z) ∙ add-mod-mod (number x) (number y + number z) n
+  sum_plus x y z = it.number-plus x (plus y z) ∙ ap (λ k. (number x + k) % n) (it.number-plus y z) ∙ add-mod-mod
+      (number x) (number y + number z) n
 
   times_product : (x y z : T) → number (times (times x y) z) ≡ (number x * number y * number z) % n
-  times_product x y z = it.number-times (times x y) z ∙ ap (λ k. (k * number z) % n) (it.number-times x y) ∙ mul-mod_first (number x * number y) (number z) n
+  times_product x y z = it.number-times (times x y) z ∙ ap (λ k. (k * number z) % n) (it.number-times x y)
+      ∙ mul-mod_first (number x * number y) (number z) n
 
   product_times : (x y z : T) → number (times x (times y z)) ≡ (number x * (number y * number z)) % n
-  product_times x y z = it.number-times x (times y z) ∙ ap (λ k. (number x * k) % n) (it.number-times y z) ∙ mul-mod_second (number x) (number y * number z) n
+  product_times x y z = it.number-times x (times y z) ∙ ap (λ k. (number x * k) % n) (it.number-times y z)
+      ∙ mul-mod_second (number x) (number y * number z) n
 
   times_plus : (x y z : T) → number (times x (plus y z)) ≡ (number x * (number y + number z)) % n
-  times_plus x y z = it.number-times x (plus y z) ∙ ap (λ k. (number x * k) % n) (it.number-plus y z) ∙ mul-mod_second (number x) (number y + number z) n
+  times_plus x y z = it.number-times x (plus y z) ∙ ap (λ k. (number x * k) % n) (it.number-plus y z) ∙ mul-mod_second
+      (number x) (number y + number z) n
 
   plus_times : (x y z : T) → number (times (plus x y) z) ≡ ((number x + number y) * number z) % n
-  plus_times x y z = it.number-times (plus x y) z ∙ ap (λ k. (k * number z) % n) (it.number-plus x y) ∙ mul-mod_first (number x + number y) (number z) n
+  plus_times x y z = it.number-times (plus x y) z ∙ ap (λ k. (k * number z) % n) (it.number-plus x y) ∙ mul-mod_first
+      (number x + number y) (number z) n
 
-  both_products : (j k a b : T) → number (plus (times j k) (times a b)) ≡ (number j * number k + number a * number b) % n
+  both_products : (j k a b : T) → number (plus (times j k) (times a b))
+      ≡ (number j * number k + number a * number b) % n
   both_products j k a b =
       it.number-plus (times j k) (times a b)
-      ∙ ap (λ m. (m + number (times a b)) % n) (it.number-times j k) ∙ mod-add-mod (number j * number k) n (number (times a b))
-      ∙ ap (λ m. (number j * number k + m) % n) (it.number-times a b) ∙ add-mod-mod (number j * number k) (number a * number b) n
+      ∙ ap (λ m. (m + number (times a b)) % n) (it.number-times j k) ∙ mod-add-mod (number j * number k) n
+      (number (times a b))
+      ∙ ap (λ m. (number j * number k + m) % n) (it.number-times a b) ∙ add-mod-mod (number j * number k)
+      (number a * number b) n
 
   -- what is left of a number that is below n
   kept : (x : T) (k : ℕ) → k ≡ number x → k % n ≡ number x
@@ -56,11 +67,21 @@ module _ {T : Type 0} {n : ℕ} {number : T → ℕ} {zero one : T} {plus times 
     sums_associate = λ x y z. it.same _ _ (plus_sum x y z ∙ ap (λ k. k % n) (omega arith) ∙ sym (sum_plus x y z));
     sums_commute = λ x y. it.same _ _ (it.number-plus x y ∙ ap (λ k. k % n) (omega arith) ∙ sym (it.number-plus y x));
     plus_zero = λ x. it.same _ _ (it.number-plus x zero ∙ kept x _ (omega (arith, it.number-zero)));
-    products_associate = λ x y z. it.same _ _ (times_product x y z ∙ ap (λ k. k % n) (mul_assoc (number x) (number y) (number z)) ∙ sym (product_times x y z));
-    one_times = λ x. it.same _ _ (it.number-times one x ∙ ap (λ k. (k * number x) % n) it.number-one ∙ kept x _ (omega arith));
-    times_one = λ x. it.same _ _ (it.number-times x one ∙ ap (λ k. (number x * k) % n) it.number-one ∙ kept x _ (omega arith));
-    times_sum = λ x y z. it.same _ _ (times_plus x y z ∙ ap (λ k. k % n) (mul-add (number x) (number y) (number z)) ∙ sym (both_products x y x z));
-    sum_times = λ x y z. it.same _ _ (plus_times x y z ∙ ap (λ k. k % n) (add-mul (number x) (number y) (number z)) ∙ sym (both_products x z y z));
-    zero_times = λ x. it.same _ _ (it.number-times zero x ∙ ap (λ k. (k * number x) % n) it.number-zero ∙ kept zero _ (omega (arith, it.number-zero)));
-    times_zero = λ x. it.same _ _ (it.number-times x zero ∙ ap (λ k. (number x * k) % n) it.number-zero ∙ kept zero _ (omega (arith, it.number-zero)));
+    products_associate = λ x y z. it.same _ _
+        (times_product x y z ∙ ap (λ k. k % n) (mul_assoc (number x) (number y) (number z))
+            ∙ sym (product_times x y z));
+    one_times = λ x. it.same _ _
+        (it.number-times one x ∙ ap (λ k. (k * number x) % n) it.number-one ∙ kept x _ (omega arith));
+    times_one = λ x. it.same _ _
+        (it.number-times x one ∙ ap (λ k. (number x * k) % n) it.number-one ∙ kept x _ (omega arith));
+    times_sum = λ x y z. it.same _ _
+        (times_plus x y z ∙ ap (λ k. k % n) (mul-add (number x) (number y) (number z)) ∙ sym (both_products x y x z));
+    sum_times = λ x y z. it.same _ _
+        (plus_times x y z ∙ ap (λ k. k % n) (add-mul (number x) (number y) (number z)) ∙ sym (both_products x z y z));
+    zero_times = λ x. it.same _ _
+        (it.number-times zero x ∙ ap (λ k. (k * number x) % n) it.number-zero
+            ∙ kept zero _ (omega (arith, it.number-zero)));
+    times_zero = λ x. it.same _ _
+        (it.number-times x zero ∙ ap (λ k. (number x * k) % n) it.number-zero
+            ∙ kept zero _ (omega (arith, it.number-zero)));
   }

@@ -1,5 +1,6 @@
 -- That what is shown as JSON is read back.
-use Rattle.std.proofs.Common.{◌≡◌, ◌∙◌, sym, ap, refl, negsuc, ℕ, ◌-◌, ◌^◌, ◌≤◌, ℤ, pos, List, ◌++◌, length, replicate, true, nat_lt, IsUtf8, IsTrue, Result, Ok, Err, ◌&&◌, int_le, arith}
+use Rattle.std.proofs.Common.{◌≡◌, ◌∙◌, sym, ap, refl, negsuc, ℕ, ◌-◌, ◌^◌, ◌≤◌, ℤ, pos, List, ◌++◌, length, replicate,
+    true, nat_lt, IsUtf8, IsTrue, Result, Ok, Err, ◌&&◌, int_le, arith}
 use Rattle.std.proofs.lemmas.Int.{ints}
 use Rattle.std.specs.Result.{result_map_both}
 use Rattle.serde_json.specs.Data.{Data, string, number}
@@ -11,8 +12,11 @@ use Rattle.font_decimal.proofs.Readings.{rounds_unique}
 use Rattle.font_arithmetic.specs.Operations.{ReadsAs, least, greatest}
 use Rattle.font_arithmetic.proofs.Texts.{printed_reads}
 use Rattle.font_types.specs.declared.json.JsonFault.{JsonFault}
-use Rattle.font_types.specs.declared.json.JsonFault.TheVariants.{Memory, WrongKind, OutOfRange, Syntax, NotUtf8, InvalidTag, MissingMember}
-use Rattle.font_types.specs.Json.{IsNumber, is_within, ReadsWholeNumber, is_unsigned, ReadsUnsigned, is_within_signed, ReadsSigned, IsTextRead, ReadsDecimal, number_within, IsTagMade, IsTagRead, TagComesBack, version_form, version_read, ReadsVersion}
+use Rattle.font_types.specs.declared.json.JsonFault.TheVariants.{Memory, WrongKind, OutOfRange, Syntax, NotUtf8,
+    InvalidTag, MissingMember}
+use Rattle.font_types.specs.Json.{IsNumber, is_within, ReadsWholeNumber, is_unsigned, ReadsUnsigned, is_within_signed,
+    ReadsSigned, IsTextRead, ReadsDecimal, number_within, IsTagMade, IsTagRead, TagComesBack, version_form,
+    version_read, ReadsVersion}
 use Rattle.std.specs.Cmp.{first_so, second_so}
 use Rattle.std.specs.Cmp.Derive.{both_true}
 use Rattle.std.proofs.lemmas.Bool.{ltb-true}
@@ -25,9 +29,11 @@ use Rattle.font_tags.specs.Tag.{tag_bytes, tag_of, filled}
 use Rattle.font_decimal.proofs.Readings.{not_outside}
 
 -- a printed number is read as itself
-text_reads_back : (w f : ℕ) (text : List ℕ) (b : ℤ) (result : Result ℤ JsonFault) → ReadsAs w f text b → IsTextRead w f text result → result ≡ Ok b
+text_reads_back : (w f : ℕ) (text : List ℕ) (b : ℤ) (result : Result ℤ JsonFault) → ReadsAs w f text b
+    → IsTextRead w f text result → result ≡ Ok b
 text_reads_back w f text b (Ok c) reads read = ap Ok (rounds_unique text f c b read.rounds reads.rounds)
-text_reads_back w f text b (Err Syntax) reads read = absurd (read reads.rounds.numeral reads.rounds.places reads.rounds.decimal)
+text_reads_back w f text b (Err Syntax) reads read = absurd
+    (read reads.rounds.numeral reads.rounds.places reads.rounds.decimal)
 text_reads_back w f text b (Err OutOfRange) reads read = absurd (not_outside f text (least w) (greatest w) b reads read)
 text_reads_back w f text b (Err Memory) reads read = absurd read
 text_reads_back w f text b (Err WrongKind) reads read = absurd read
@@ -36,61 +42,80 @@ text_reads_back w f text b (Err InvalidTag) reads read = absurd read
 text_reads_back w f text b (Err MissingMember) reads read = absurd read
 
 -- a value whose bits are read is read
-same_read : {T : Type 0} (bits_of : T → ℤ) (of_bits : ℤ → T) → ((x : T) → of_bits (bits_of x) ≡ x) → (x : T) (result : Result T JsonFault)
+same_read : {T : Type 0} (bits_of : T → ℤ) (of_bits : ℤ → T) → ((x : T) → of_bits (bits_of x) ≡ x)
+    → (x : T) (result : Result T JsonFault)
     → result_map_both bits_of (λ fault. fault) result ≡ Ok (bits_of x) → result ≡ Ok x
-same_read bits_of of_bits back x (Ok y) same = let equal : bits_of y ≡ bits_of x = cc in ap Ok (sym (back y) ∙ ap of_bits equal ∙ back x)
+same_read bits_of of_bits back x (Ok y) same = let equal : bits_of y ≡ bits_of x = cc in
+    ap Ok (sym (back y) ∙ ap of_bits equal ∙ back x)
 same_read bits_of of_bits back x (Err fault) same = absurd (cc)
 
 -- a fixed-point number
-pub fixed_round_trip : {T : Type 0} (w f : ℕ) (bits_of : T → ℤ) (of_bits : ℤ → T) → ((x : T) → of_bits (bits_of x) ≡ x) → 2 ^ (w - 1) ≤ 2 ^ 63
-    → (x : T) (d : Data) (result : Result T JsonFault) → IsTrue (fits_bits w (bits_of x)) → d ≡ string (shortest_text (bits_of x) f)
+pub fixed_round_trip : {T : Type 0} (w f : ℕ) (bits_of : T → ℤ) (of_bits : ℤ → T) → ((x : T) → of_bits (bits_of x) ≡ x)
+    → 2 ^ (w - 1) ≤ 2 ^ 63
+    → (x : T) (d : Data) (result : Result T JsonFault) → IsTrue (fits_bits w (bits_of x))
+    → d ≡ string (shortest_text (bits_of x) f)
     → ReadsDecimal w f bits_of d result → result ≡ Ok x
 fixed_round_trip w f bits_of of_bits back room x d result value shown read =
-    let text : IsTextRead w f (shortest_text (bits_of x) f) (result_map_both bits_of (λ fault. fault) result) = rw shown at read in
+    let text : IsTextRead w f (shortest_text (bits_of x) f) (result_map_both bits_of (λ fault. fault) result) =
+        rw shown at read in
     same_read bits_of of_bits back x result
-    (text_reads_back w f (shortest_text (bits_of x) f) (bits_of x) _ (printed_reads w f (bits_of x) room (fits_bits-true w (bits_of x) value)) text)
+    (text_reads_back w f (shortest_text (bits_of x) f) (bits_of x) _
+        (printed_reads w f (bits_of x) room (fits_bits-true w (bits_of x) value)) text)
 
 -- ---- whole numbers
 
 -- a number in the range is read as itself
-number_reads_back : (min max z : ℤ) → IsTrue (is_within min max z) → number_within min max (number (of_integer z)) ≡ Ok z
+number_reads_back : (min max z : ℤ) → IsTrue (is_within min max z) → number_within min max (number (of_integer z))
+    ≡ Ok z
 number_reads_back min max (pos n) within = rw within refl
 number_reads_back min max (negsuc n) within = rw within refl
 
 -- a value whose number determines it
-number_round_trip : {T : Type 0} (number_of : T → ℤ) → ((x y : T) → number_of x ≡ number_of y → x ≡ y) → (min max : ℤ) (x : T) (d : Data) (result : Result T JsonFault)
-    → IsTrue (is_within min max (number_of x)) → IsNumber (number_of x) d → ReadsWholeNumber min max number_of d result → result ≡ Ok x
+number_round_trip : {T : Type 0} (number_of : T → ℤ) → ((x y : T) → number_of x ≡ number_of y → x ≡ y)
+    → (min max : ℤ) (x : T) (d : Data) (result : Result T JsonFault)
+    → IsTrue (is_within min max (number_of x)) → IsNumber (number_of x) d → ReadsWholeNumber min max number_of d result
+    → result ≡ Ok x
 number_round_trip number_of same min max x d (Ok y) within shown read =
-    let equal : result_map_both number_of (λ fault. fault) (Ok y) ≡ Ok (number_of x) = read ∙ rw shown (number_reads_back min max (number_of x) within) in
+    let equal : result_map_both number_of (λ fault. fault) (Ok y) ≡ Ok (number_of x) = read ∙ rw shown
+        (number_reads_back min max (number_of x) within) in
     let numbers : number_of y ≡ number_of x = cc in
     ap Ok (same y x numbers)
 number_round_trip number_of same min max x d (Err fault) within shown read =
-    let equal : result_map_both number_of (λ fault. fault) (Err fault) ≡ Ok (number_of x) = read ∙ rw shown (number_reads_back min max (number_of x) within) in
+    let equal : result_map_both number_of (λ fault. fault) (Err fault) ≡ Ok (number_of x) = read ∙ rw shown
+        (number_reads_back min max (number_of x) within) in
     absurd (cc)
 
-pub signed_round_trip : {T : Type 0} (w : ℕ) (number_of : T → ℤ) → ((x y : T) → number_of x ≡ number_of y → x ≡ y) → (x : T) (d : Data) (result : Result T JsonFault)
-    → IsTrue (is_within_signed w (number_of x)) → IsNumber (number_of x) d → ReadsSigned w number_of d result → result ≡ Ok x
+pub signed_round_trip : {T : Type 0} (w : ℕ) (number_of : T → ℤ) → ((x y : T) → number_of x ≡ number_of y → x ≡ y)
+    → (x : T) (d : Data) (result : Result T JsonFault)
+    → IsTrue (is_within_signed w (number_of x)) → IsNumber (number_of x) d → ReadsSigned w number_of d result
+    → result ≡ Ok x
 signed_round_trip w number_of same = number_round_trip number_of same (least w) (greatest w)
 
-pub unsigned_round_trip : {T : Type 0} (w : ℕ) (number_of : T → ℕ) → ((x y : T) → number_of x ≡ number_of y → x ≡ y) → (x : T) (d : Data) (result : Result T JsonFault)
-    → IsTrue (is_unsigned w (number_of x)) → IsNumber (pos (number_of x)) d → ReadsUnsigned w number_of d result → result ≡ Ok x
+pub unsigned_round_trip : {T : Type 0} (w : ℕ) (number_of : T → ℕ) → ((x y : T) → number_of x ≡ number_of y → x ≡ y)
+    → (x : T) (d : Data) (result : Result T JsonFault)
+    → IsTrue (is_unsigned w (number_of x)) → IsNumber (pos (number_of x)) d → ReadsUnsigned w number_of d result
+    → result ≡ Ok x
 unsigned_round_trip w number_of same =
-    number_round_trip (λ y. pos (number_of y)) (λ x y equal. let numbers : number_of x ≡ number_of y = cc in same x y numbers) (pos 0) (pos (2 ^ w - 1))
+    number_round_trip (λ y. pos (number_of y)) (λ x y equal. let numbers : number_of x ≡ number_of y = cc in
+        same x y numbers) (pos 0) (pos (2 ^ w - 1))
 
 -- ---- tags
 
 -- four bytes need no filling
 unfilled : (bytes : List ℕ) → length bytes ≡ 4 → filled bytes ≡ bytes
-unfilled bytes many = let none : 4 - length bytes ≡ 0 = omega (arith, many) in ap (λ n. bytes ++ replicate n 0x20) none ∙ append-nil bytes
+unfilled bytes many = let none : 4 - length bytes ≡ 0 = omega (arith, many) in ap (λ n. bytes ++ replicate n 0x20) none
+    ∙ append-nil bytes
 
-pub tag_round_trip : (tag : Tag) (d : Data) (result : Result Tag JsonFault) → IsTrue (are_bytes 4 (tag_bytes tag)) → (IsUtf8 (tag_bytes tag) × (d ≡ string (tag_bytes tag)))
+pub tag_round_trip : (tag : Tag) (d : Data) (result : Result Tag JsonFault) → IsTrue (are_bytes 4 (tag_bytes tag))
+    → (IsUtf8 (tag_bytes tag) × (d ≡ string (tag_bytes tag)))
     → IsTagRead (as_str d) result → TagComesBack tag result
 tag_round_trip tag d result value shown read =
     let many = are_bytes-length 4 (tag_bytes tag) value in
     let text : IsTagMade (tag_bytes tag) result = rw shown.1 at read in
     came_back tag result many text
   where
-    came_back : (tag : Tag) (result : Result Tag JsonFault) → length (tag_bytes tag) ≡ 4 → IsTagMade (tag_bytes tag) result → TagComesBack tag result
+    came_back : (tag : Tag) (result : Result Tag JsonFault) → length (tag_bytes tag) ≡ 4
+        → IsTagMade (tag_bytes tag) result → TagComesBack tag result
     came_back tag (Ok other) many made = record {
       good = λ _. ap Ok (ap tag_of (made.1 ∙ unfilled (tag_bytes tag) many));
       other = λ bad. absurd (bad made.0.1);
@@ -115,17 +140,21 @@ sixteen_bits n test =
     let high : true ≡ int_le (pos n) (pos 65535) = omega (arith, ints, below) in
     both_true (sym low) (sym high)
 
-pub version_round_trip : (version : MajorMinor) (d : Data) (result : Result MajorMinor JsonFault) → IsTrue (nat_lt version.major (2 ^ 16) && nat_lt version.minor (2 ^ 16))
+pub version_round_trip : (version : MajorMinor) (d : Data) (result : Result MajorMinor JsonFault)
+    → IsTrue (nat_lt version.major (2 ^ 16) && nat_lt version.minor (2 ^ 16))
     → d ≡ version_form version.major version.minor → ReadsVersion d result → result ≡ Ok version
 version_round_trip version d result value shown read =
-    let first = sixteen_bits version.major (first_so (nat_lt version.major (2 ^ 16)) (nat_lt version.minor (2 ^ 16)) value) in
-    let second = sixteen_bits version.minor (second_so (nat_lt version.major (2 ^ 16)) (nat_lt version.minor (2 ^ 16)) value) in
+    let first = sixteen_bits version.major
+        (first_so (nat_lt version.major (2 ^ 16)) (nat_lt version.minor (2 ^ 16)) value) in
+    let second = sixteen_bits version.minor
+        (second_so (nat_lt version.major (2 ^ 16)) (nat_lt version.minor (2 ^ 16)) value) in
     let numbers : Result (ℤ × ℤ) JsonFault = Ok (pos version.major, pos version.minor) in
     let form : version_read (version_form version.major version.minor) ≡ numbers = rw (first, second) refl in
     came_back version result (read ∙ ap version_read shown ∙ form)
   where
     came_back : (version : MajorMinor) (result : Result MajorMinor JsonFault)
-        → result_map_both {U = ℤ × ℤ} (λ v. (pos v.major, pos v.minor)) (λ fault. fault) result ≡ Ok (pos version.major, pos version.minor) → result ≡ Ok version
+        → result_map_both {U = ℤ × ℤ} (λ v. (pos v.major, pos v.minor)) (λ fault. fault) result ≡ Ok
+        (pos version.major, pos version.minor) → result ≡ Ok version
     came_back version (Ok other) same =
         let read : ℤ × ℤ = (pos other.major, pos other.minor) in
         let shown : ℤ × ℤ = (pos version.major, pos version.minor) in

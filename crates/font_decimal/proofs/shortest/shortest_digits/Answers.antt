@@ -3,7 +3,8 @@ use Rattle.std.proofs.Math.Nat.{pow-suc}
 use Rattle.std.proofs.lemmas.Nat.{one_shl}
 use Rattle.font_decimal.specs.Shortest.{nearest_numeral, reads_back}
 use Rattle.font_decimal.proofs.Fewest.{IsFewest, place_left}
-use Rattle.font_decimal.proofs.Remainder.{stopped, places_are, fails_here, rounded_up, rounded_down, next_numeral, next_below, fraction_below, no_carry}
+use Rattle.font_decimal.proofs.Remainder.{stopped, places_are, fails_here, rounded_up, rounded_down, next_numeral,
+    next_below, fraction_below, no_carry}
 use Rattle.font_decimal.proofs.shortest.shortest_digits.Goals as goal
 
 step_is : (f : ℕ) → f ≤ 30 → 1 * 2 ^ f % 18446744073709551616 ≡ 2 ^ f
@@ -15,7 +16,8 @@ unit_is f h = one_shl (f + 1) 64 (omega arith) ∙ rw add-one (omega (arith, pow
 fails : (c : goal.In-loop-margin) → reads_back c.args.magnitude c.args.f c.loop-margin.places ≡ false
 fails c =
     let l = c.loop-margin in
-    fails_here c.args.magnitude c.args.f l.places _ l.rest l.invariant.rest (omega (arith, c.min.ensures, unit_is c.args.f c.requires))
+    fails_here c.args.magnitude c.args.f l.places _ l.rest l.invariant.rest
+        (omega (arith, c.min.ensures, unit_is c.args.f c.requires))
 
 pub loop-margin-smaller : goal.loop-margin-smaller
 loop-margin-smaller c =
@@ -41,17 +43,20 @@ pub raise_last_digit-fraction-requires : goal.raise_last_digit-fraction-requires
 raise_last_digit-fraction-requires c =
     let l = c.loop-margin in
     let small = unit_is c.args.f c.requires in
-    let fewest = stopped c.args.magnitude c.args.f l.places _ l.rest l.invariant.rest (omega (arith, c.min.ensures, small)) l.invariant.within l.invariant.fail in
+    let fewest = stopped c.args.magnitude c.args.f l.places _ l.rest l.invariant.rest
+        (omega (arith, c.min.ensures, small)) l.invariant.within l.invariant.fail in
     let numeral = rounded_up c.args.magnitude c.args.f l.places _ l.rest l.invariant.rest (omega (arith, small)) in
     (no_carry c.args.magnitude c.args.f l.places _ l.fraction fewest (omega arith) numeral, omega arith)
 
 fewest : (c : goal.After-raise_last_digit-fraction) → IsFewest c.args.magnitude c.args.f c.loop-margin.places
 fewest c =
     let l = c.loop-margin in
-    stopped c.args.magnitude c.args.f l.places _ l.rest l.invariant.rest (omega (arith, c.min.ensures, unit_is c.args.f c.requires)) l.invariant.within l.invariant.fail
+    stopped c.args.magnitude c.args.f l.places _ l.rest l.invariant.rest
+        (omega (arith, c.min.ensures, unit_is c.args.f c.requires)) l.invariant.within l.invariant.fail
 
 raised : (c : goal.After-raise_last_digit-fraction) → nearest_numeral c.args.magnitude c.args.f c.loop-margin.places
-    ≡ c.args.magnitude / (1 * 2 ^ c.args.f % 18446744073709551616) * 10 ^ c.loop-margin.places + c.loop-margin.fraction + 1
+    ≡ c.args.magnitude / (1 * 2 ^ c.args.f % 18446744073709551616) * 10 ^ c.loop-margin.places + c.loop-margin.fraction
+    + 1
 raised c =
     let l = c.loop-margin in
     rounded_up c.args.magnitude c.args.f l.places _ l.rest l.invariant.rest (omega (arith, unit_is c.args.f c.requires))
@@ -66,17 +71,20 @@ pub returns-then-rest-unit-clause-below : goal.returns-then-rest-unit-clause-bel
 returns-then-rest-unit-clause-below c =
     let l = c.loop-margin in
     let split = raised c ∙ rw (step_is c.args.f c.requires) (omega arith) in
-    rw c.raise_last_digit-fraction.ensures (fraction_below c.args.magnitude c.args.f l.places (l.fraction + 1) (fewest c) split)
+    rw c.raise_last_digit-fraction.ensures
+        (fraction_below c.args.magnitude c.args.f l.places (l.fraction + 1) (fewest c) split)
 
 -- where it is not
 pub returns-else-rest-unit-clause-places : goal.returns-else-rest-unit-clause-places
 returns-else-rest-unit-clause-places c =
     let l = c.loop-margin in
-    let fewest = stopped c.args.magnitude c.args.f l.places _ l.rest l.invariant.rest (omega (arith, c.min.ensures, unit_is c.args.f c.requires))
+    let fewest = stopped c.args.magnitude c.args.f l.places _ l.rest l.invariant.rest
+        (omega (arith, c.min.ensures, unit_is c.args.f c.requires))
     l.invariant.within l.invariant.fail in
     places_are c.args.magnitude c.args.f l.places fewest
 
 pub returns-else-rest-unit-clause-numeral : goal.returns-else-rest-unit-clause-numeral
 returns-else-rest-unit-clause-numeral c =
     let l = c.loop-margin in
-    sym (rounded_down c.args.magnitude c.args.f l.places _ l.rest l.invariant.rest (omega (arith, unit_is c.args.f c.requires)))
+    sym (rounded_down c.args.magnitude c.args.f l.places _ l.rest l.invariant.rest
+        (omega (arith, unit_is c.args.f c.requires)))

@@ -10,4 +10,5 @@ returns-then-not-is_ascii c =
     (refl, λ n k decimal. omega (arith, decimal_is_ascii c.args.word.now n k decimal other.0, other.1))
 
 pub from_utf8_unchecked-requires : goal.from_utf8_unchecked-requires
-from_utf8_unchecked-requires c = let ascii : IsAscii c.args.word.now = search rules in IsUtf8-from_ascii c.args.word.now ascii
+from_utf8_unchecked-requires c = let ascii : IsAscii c.args.word.now = search rules in
+    IsUtf8-from_ascii c.args.word.now ascii

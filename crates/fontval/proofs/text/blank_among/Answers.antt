@@ -12,4 +12,5 @@ pub returns-else-blanks-eq0 : goal.returns-else-blanks-eq0
 returns-else-blanks-eq0 c =
     let blanks = blanks_marked c.args.block.now c.told-block in
     ap (λ mask. Some (count_trailing_zeros 64 mask)) blanks
-    ∙ first_marked is_blank c.args.block.now (omega (arith, c.told-block)) (omega (arith, blanks, c.if-blanks-eq0.false))
+    ∙ first_marked is_blank c.args.block.now (omega (arith, c.told-block))
+    (omega (arith, blanks, c.if-blanks-eq0.false))

@@ -1,11 +1,13 @@
-use Rattle.std.proofs.Common.{rules, ◌≡◌, ◌∙◌, List, [], ◌∷◌, ◌++◌, take, drop, length, arith, sym, ap, refl, slice_index_or, pos}
+use Rattle.std.proofs.Common.{rules, ◌≡◌, ◌∙◌, List, [], ◌∷◌, ◌++◌, take, drop, length, arith, sym, ap, refl,
+    slice_index_or, pos}
 use Rattle.std.proofs.lemmas.List.{take-append-drop}
 use Rattle.font_types.specs.Matrix.{elements_of}
 use Rattle.font_types.specs.Fixed.{fixed_of}
 use Rattle.fontval.proofs.images.Move.of.Goals as goal
 
 -- a list of two is its first and its second
-just_two : {T : Type 0} (values : List T) (default : T) → length values ≡ 2 → values ≡ slice_index_or values 0 default ∷ slice_index_or values 1 default ∷ []
+just_two : {T : Type 0} (values : List T) (default : T) → length values ≡ 2 → values ≡ slice_index_or values 0 default
+    ∷ slice_index_or values 1 default ∷ []
 just_two [] default two = absurd (omega (arith, two))
 just_two (x ∷ []) default two = absurd (omega (arith, two))
 just_two (x ∷ y ∷ []) default two = refl
@@ -21,4 +23,5 @@ returns c =
     let end : drop 6 rest ≡ last = search rules in
     let two : length last ≡ 2 = search rules in
     let p : last ≡ c.new.result.x ∷ c.new.result.y ∷ [] = just_two last (fixed_of (pos 0)) two ∙ search rules in
-    sym (take-append-drop 6 c.args.numbers) ∙ rw (a, behind) (ap (λ more. elements_of c.from_elements.result ++ more) (sym (take-append-drop 6 rest) ∙ rw (b, end, p) refl))
+    sym (take-append-drop 6 c.args.numbers) ∙ rw (a, behind)
+        (ap (λ more. elements_of c.from_elements.result ++ more) (sym (take-append-drop 6 rest) ∙ rw (b, end, p) refl))
