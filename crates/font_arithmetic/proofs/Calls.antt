@@ -15,17 +15,15 @@ use Rattle.font_arithmetic.proofs.Laws.{near_exact}
 pub wrap-signed_fits : (w : Width) (z : ℤ) → SFits w z → wrap (bits w) z ≡ z
 wrap-signed_fits w z fits = wrap-fits (bits w) z (bits_positive w) (signed_fits w z fits)
 
-pub wrap-add_zero : (w : Width) (z : ℤ) → SFits w z → wrap (bits w) (z +ℤ pos 0) ≡ z
-wrap-add_zero w z fits = let same : (z +ℤ pos 0) ≡ z = omega (arith, ints) in
-    ap (wrap (bits w)) same ∙ wrap-signed_fits w z fits
+-- a sum with 0, and a difference
+pub add_zero : (z : ℤ) → (z +ℤ pos 0) ≡ z
+add_zero z = omega (arith, ints)
 
-pub wrap-zero_add : (w : Width) (z : ℤ) → SFits w z → wrap (bits w) (pos 0 +ℤ z) ≡ z
-wrap-zero_add w z fits = let same : (pos 0 +ℤ z) ≡ z = omega (arith, ints) in
-    ap (wrap (bits w)) same ∙ wrap-signed_fits w z fits
+pub zero_add : (z : ℤ) → (pos 0 +ℤ z) ≡ z
+zero_add z = omega (arith, ints)
 
-pub wrap-sub_zero : (w : Width) (z : ℤ) → SFits w z → wrap (bits w) (z -ℤ pos 0) ≡ z
-wrap-sub_zero w z fits = let same : (z -ℤ pos 0) ≡ z = omega (arith, ints) in
-    ap (wrap (bits w)) same ∙ wrap-signed_fits w z fits
+pub sub_zero : (z : ℤ) → (z -ℤ pos 0) ≡ z
+sub_zero z = omega (arith, ints)
 
 -- a whole number of steps needs no rounding
 pub near-times : (q : ℤ) (d : ℕ) → 0 < d → near (q *ℤ pos d) d ≡ q

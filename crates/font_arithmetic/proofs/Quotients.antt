@@ -1,29 +1,17 @@
 -- Quotients rounded with ties away from zero, as code has it: on magnitudes, with the sign put back and 32 bits kept.
-use Rattle.std.proofs.Common.{◌≡◌, ◌∙◌, sym, ap, refl, subst, ℕ, zero, suc, ◌+◌, ◌-◌, ◌*◌, ◌/◌, ◌%◌, ◌^◌, ◌<◌, Bool,
-    true, false, not, ℤ, pos, negsuc, neg_ℤ, ◌*ℤ◌, unsigned_abs, arith, lit<, if◌then◌else◌}
+use Rattle.std.proofs.Common.{◌≡◌, ◌∙◌, sym, ap, refl, subst, ℕ, zero, suc, ◌-◌, ◌*◌, ◌%◌, ◌^◌, ◌<◌, Bool, true, false,
+    not, ℤ, pos, negsuc, neg_ℤ, ◌*ℤ◌, unsigned_abs, arith, lit<, if◌then◌else◌}
 use Rattle.std.proofs.lemmas.Int.{ints, to_z-of_z}
-use Rattle.std.proofs.lemmas.Nat.{div-add-mod'}
-use Rattle.std.proofs.Math.Nat.{mod-lt}
 use Rattle.std.specs.Int.{w32, is_negative}
 use borrow.Author.Differences.{false_is_lt}
 use mir.Val.{SFits, to_z, of_z, bits}
 use Rattle.font_base.specs.Wrap.{wrap, FitsBits}
 use Rattle.font_base.specs.Wrap.Laws.{wrap-fits, wrap-neg}
 use Rattle.font_decimal.specs.Near.{signed, Near, near, near_magnitude}
-use Rattle.font_decimal.proofs.Near.{rounded_unique, rounded_is, near_from, near_gives}
+use Rattle.font_decimal.proofs.Near.{rounded_is, near_from, near_gives}
 use mathlib.Core.Bool.{beq}
 use Rattle.font_arithmetic.proofs.Wrapped.{low_bits-wrap}
 use Rattle.font_arithmetic.specs.Operations.{IsWrappedNear, differ_in_sign, IsMulDiv}
-
--- n / d rounded, from a sum and a division
-pub near_magnitude_code : (n d : ℕ) → 0 < d → (n + d / 2) / d ≡ near_magnitude n d
-near_magnitude_code n d some =
-    let halves = div-add-mod' d 2 in
-    let rest : d % 2 < 2 = mod-lt d (lit< tt) in
-    let parts = div-add-mod' (n + d / 2) d in
-    let below : (n + d / 2) % d < d = mod-lt (n + d / 2) some in
-    rounded_unique n d ((n + d / 2) / d) (near_magnitude n d) (record { low = omega arith; high = omega arith })
-        (rounded_is n d some)
 
 not_negative : (m : ℕ) → is_negative (pos m) ≡ false
 not_negative m = sym (false_is_lt (pos m) (pos 0) (omega arith))

@@ -2,23 +2,17 @@
 -- negative, and the sum is shifted.
 use Rattle.std.proofs.Common.{◌≡◌, ◌∙◌, sym, ap, refl, ℕ, suc, ◌+◌, ◌-◌, ◌*◌, ◌%◌, ◌^◌, ◌<◌, ◌≤◌, Bool, true, false, ℤ,
     pos, negsuc, neg_ℤ, ◌+ℤ◌, ◌-ℤ◌, ◌*ℤ◌, ◌≤ℤ◌, ◌<ℤ◌, unsigned_abs, arith, lit<}
-use Rattle.std.proofs.lemmas.Int.{ints, to_z-of_z}
 use Rattle.std.proofs.lemmas.Nat.{pow_pos}
-use Rattle.std.proofs.Math.Nat.{mul-le-mul}
 use Rattle.std.specs.Int.{w32, w64}
 use borrow.Author.Differences.{abs_is}
-use mir.Val.{SFits, to_z, of_z}
+use mir.Val.{SFits, to_z, of_z, bool_byte}
 use lib.Signed.{shr_z, lt_z}
 use Rattle.font_base.specs.Wrap.{wrap}
 use Rattle.font_decimal.specs.Near.{signed, near}
 use Rattle.font_decimal.proofs.Near.{near_is, near_gives}
 use Rattle.font_arithmetic.specs.Operations.{IsWrappedNear, differ_in_sign}
 use Rattle.std.proofs.lemmas.Int.{ints, to_z-of_z, to_z_pos}
-use Rattle.std.proofs.lemmas.Nat.{pow_pos}
-use Rattle.std.proofs.Math.Nat.{pow-le-pow_right, two-pow-succ}
-use Rattle.std.specs.Int.{w64}
-use mir.Val.{SFits, to_z, of_z}
-use Rattle.font_decimal.specs.Near.{near}
+use Rattle.std.proofs.Math.Nat.{mul-le-mul, pow-le-pow_right, two-pow-succ}
 use Rattle.font_arithmetic.proofs.Shifts.{shr_low, shr_high, shr_fits}
 use Rattle.font_arithmetic.proofs.Quotients.{product_signed, wrapped_near_from}
 
@@ -43,55 +37,17 @@ abs_times (negsuc m) d = abs_neg (suc m * d)
     abs_neg : (n : ℕ) → unsigned_abs (neg_ℤ (pos n)) ≡ n
     abs_neg n = omega (arith, ints)
 
-near_from_above : (n p : ℤ) (k d half : ℕ) → d ≡ half + half → 0 < half → pos 0 ≤ℤ n → k ≡ unsigned_abs p
-    → p ≤ℤ (n +ℤ pos half) → (n +ℤ pos half) <ℤ (p +ℤ pos d)
-    → (2 * unsigned_abs (p -ℤ n) ≤ d) × (2 * unsigned_abs (p -ℤ n) ≡ d → unsigned_abs n < k)
-near_from_above n p k d half halves some sign is low high =
-    (omega (arith, ints, halves, low, high), λ tie. omega (arith, ints, halves, some, sign, is, low, high, tie))
-
-near_from_below : (n p : ℤ) (k d less : ℕ) → d ≡ (less + 1) + (less + 1) → n <ℤ pos 0 → k ≡ unsigned_abs p
-    → p ≤ℤ (n +ℤ pos less) → (n +ℤ pos less) <ℤ (p +ℤ pos d)
-    → (2 * unsigned_abs (p -ℤ n) ≤ d) × (2 * unsigned_abs (p -ℤ n) ≡ d → unsigned_abs n < k)
-near_from_below n p k d less halves sign is low high =
-    (omega (arith, ints, halves, sign, low, high), λ tie. omega (arith, ints, halves, sign, is, low, high, tie))
-
--- the shift of a sum that fits
-module _ (n : ℤ) (more d : ℕ) (some : 0 < d) (fits : SFits w64 n) (small : unsigned_abs n ≤ 2 ^ 62)
-    (step : more ≤ 2 ^ 32) where
-  shifted : ℤ
-  shifted = shr_z (n +ℤ pos more) d
-
-  sum_fits : SFits w64 (n +ℤ pos more)
-  sum_fits = omega (arith, ints, small, step, abs_is n)
-
-  unfolded : to_z w64 (of_z w64 (shr_z (to_z w64 (of_z w64 (to_z w64 (of_z w64 n) +ℤ pos more))) d)) ≡ shr_z
-      (n +ℤ pos more) d
-  unfolded =
-      ap (λ y. to_z w64 (of_z w64 (shr_z (to_z w64 (of_z w64 (y +ℤ pos more))) d))) (to_z-of_z w64 n fits)
-      ∙ ap (λ y. to_z w64 (of_z w64 (shr_z y d))) (to_z-of_z w64 (n +ℤ pos more) sum_fits)
-      ∙ to_z-of_z w64 (shr_z (n +ℤ pos more) d) (shr_fits w64 (n +ℤ pos more) d sum_fits)
-
-pub shr_is_near_above : (n : ℤ) (half d : ℕ) → SFits w64 n → unsigned_abs n ≤ 2 ^ 62 → lt_z (to_z w64 (of_z w64 n))
-    (pos 0) ≡ false → half ≤ 2 ^ 32 → 0 < half → d ≡ half + half
-    → to_z w64 (of_z w64 (shr_z (to_z w64 (of_z w64 (to_z w64 (of_z w64 n) +ℤ pos half))) d)) ≡ near n d
-shr_is_near_above n half d fits small sign step some halves =
-    let positive : 0 < d = omega (arith, some, halves) in
-    let q = shr_z (n +ℤ pos half) d in
-    let above : pos 0 ≤ℤ n = let same = to_z-of_z w64 n fits in omega (arith, ints, sign, same) in
-    let near = near_from_above n (q *ℤ pos d) (unsigned_abs q * d) d half halves some above (sym (abs_times q d))
-        (shr_low (n +ℤ pos half) d positive) (shr_high (n +ℤ pos half) d positive) in
-    unfolded n half d positive fits small step ∙ near_gives n d q positive (record { close = near.0; away = near.1 })
-
-pub shr_is_near_below : (n : ℤ) (less d : ℕ) → SFits w64 n → unsigned_abs n ≤ 2 ^ 62 → lt_z (to_z w64 (of_z w64 n))
-    (pos 0) ≡ true → less ≤ 2 ^ 32 → d ≡ (less + 1) + (less + 1)
-    → to_z w64 (of_z w64 (shr_z (to_z w64 (of_z w64 (to_z w64 (of_z w64 n) +ℤ pos less))) d)) ≡ near n d
-shr_is_near_below n less d fits small sign step halves =
-    let positive : 0 < d = omega (arith, halves) in
-    let q = shr_z (n +ℤ pos less) d in
-    let below : n <ℤ pos 0 = let same = to_z-of_z w64 n fits in omega (arith, ints, sign, same) in
-    let near = near_from_below n (q *ℤ pos d) (unsigned_abs q * d) d less halves below (sym (abs_times q d))
-        (shr_low (n +ℤ pos less) d positive) (shr_high (n +ℤ pos less) d positive) in
-    unfolded n less d positive fits small step ∙ near_gives n d q positive (record { close = near.0; away = near.1 })
+-- p is the greatest multiple of d that is not above n and half a step, less one where n is negative
+near_of_sum : (s : Bool) (n e p : ℤ) (k d half : ℕ) → d ≡ half + half → 0 < half → lt_z n (pos 0) ≡ s
+    → e ≡ pos (bool_byte s) → k ≡ unsigned_abs p
+    → p ≤ℤ ((n +ℤ pos half) -ℤ e) → ((n +ℤ pos half) -ℤ e) <ℤ (p +ℤ pos d) → (2 * unsigned_abs (p -ℤ n) ≤ d)
+    × (2 * unsigned_abs (p -ℤ n) ≡ d → unsigned_abs n < k)
+near_of_sum true n e p k d half halves some sign less is low high =
+    (omega (arith, ints, halves, sign, less, low, high),
+        λ tie. omega (arith, ints, halves, sign, less, is, low, high, tie))
+near_of_sum false n e p k d half halves some sign less is low high =
+    (omega (arith, ints, halves, less, low, high),
+        λ tie. omega (arith, ints, halves, some, sign, less, is, low, high, tie))
 
 -- the wrapped answer is a rounded one
 pub near_is_wrapped_near : (w : ℕ) (n : ℤ) (d : ℕ) (r : ℤ) → 0 < d → r ≡ wrap w (near n d) → IsWrappedNear w n d r
@@ -115,33 +71,39 @@ half_is f few =
 halves : (f : ℕ) → 6 ≤ f → 2 ^ f ≡ 2 ^ (f - 1) + 2 ^ (f - 1)
 halves f many = let is : f ≡ suc (f - 1) = omega (arith, many) in ap (λ n. 2 ^ n) is ∙ two-pow-succ (f - 1)
 
-less_one : (h : ℕ) → 0 < h → h ≤ 2 ^ 30 → to_z w64 (of_z w64 (pos h -ℤ pos 1)) ≡ pos (h - 1)
-less_one h some small =
-    let is : (pos h -ℤ pos 1) ≡ pos (h - 1) = omega (arith, ints, some) in
-    let fits : SFits w64 (pos (h - 1)) = omega (arith, ints, small) in
-    rw is (to_z-of_z w64 (pos (h - 1)) fits)
+at_most_one : (s : Bool) (e : ℤ) → e ≡ pos (bool_byte s) → (pos 0 ≤ℤ e) × (e ≤ℤ pos 1)
+at_most_one true e is = (omega (arith, ints, is), omega (arith, ints, is))
+at_most_one false e is = (omega (arith, ints, is), omega (arith, ints, is))
 
-pub shifted_above : (n : ℤ) (f : ℕ) → SFits w64 n → unsigned_abs n ≤ 2 ^ 62 → lt_z (to_z w64 (of_z w64 n)) (pos 0)
-    ≡ false → 6 ≤ f → f ≤ 30
+-- e is 1 where n is negative, else 0
+pub shifted_is_near : (n e : ℤ) (f : ℕ) → SFits w64 n → unsigned_abs n ≤ 2 ^ 62 → 6 ≤ f → f ≤ 30
+    → e ≡ pos (bool_byte (lt_z (to_z w64 (of_z w64 n)) (pos 0)))
     → to_z w64 (of_z w64 (shr_z
-    (to_z w64 (of_z w64 (to_z w64 (of_z w64 n) +ℤ to_z w64 (1 * 2 ^ (f - 1) % 18446744073709551616)))) (2 ^ f)))
-        ≡ near n (2 ^ f)
-shifted_above n f fits small sign many few =
-    let bound = half_small f few in
-    rw (half_is f few) (shr_is_near_above n (2 ^ (f - 1)) (2 ^ f) fits small sign (omega (arith, bound))
-        (pow_pos (f - 1)) (halves f many))
-
-pub shifted_below : (n : ℤ) (f : ℕ) → SFits w64 n → unsigned_abs n ≤ 2 ^ 62 → lt_z (to_z w64 (of_z w64 n)) (pos 0)
-    ≡ true → 6 ≤ f → f ≤ 30
-    → to_z w64 (of_z w64 (shr_z
-    (to_z w64 (of_z w64 (to_z w64 (of_z w64 n) +ℤ to_z w64
-        (of_z w64 (to_z w64 (1 * 2 ^ (f - 1) % 18446744073709551616) -ℤ pos 1))))) (2 ^ f))) ≡ near n (2 ^ f)
-shifted_below n f fits small sign many few =
-    let bound = half_small f few in
-    let some = pow_pos (f - 1) in
-    let two = halves f many in
-    rw (half_is f few, less_one (2 ^ (f - 1)) some bound)
-    (shr_is_near_below n (2 ^ (f - 1) - 1) (2 ^ f) fits small sign (omega (arith, bound)) (omega (arith, two, some)))
+    (to_z w64 (of_z w64 (to_z w64
+        (of_z w64 (to_z w64 (of_z w64 n) +ℤ to_z w64 (1 * 2 ^ (f - 1) % 18446744073709551616))) -ℤ to_z w64
+            (of_z w64 e)))) (2 ^ f)))
+    ≡ near n (2 ^ f)
+shifted_is_near n e f fits small many few is =
+    let half : ℕ = 2 ^ (f - 1) in
+    let bound : half ≤ 2 ^ 30 = half_small f few in
+    let less : e ≡ pos (bool_byte (lt_z n (pos 0))) = is ∙ ap (λ y. pos (bool_byte (lt_z y (pos 0))))
+        (to_z-of_z w64 n fits) in
+    let unit = at_most_one (lt_z n (pos 0)) e less in
+    let above : SFits w64 (n +ℤ pos half) = omega (arith, ints, small, bound, abs_is n) in
+    let sum : SFits w64 ((n +ℤ pos half) -ℤ e) = omega (arith, ints, small, bound, unit, abs_is n) in
+    let q : ℤ = shr_z ((n +ℤ pos half) -ℤ e) (2 ^ f) in
+    let near = near_of_sum (lt_z n (pos 0)) n e (q *ℤ pos (2 ^ f)) (unsigned_abs q * 2 ^ f) (2 ^ f) half (halves f many)
+        (pow_pos (f - 1)) refl less (sym (abs_times q (2 ^ f)))
+    (shr_low _ (2 ^ f) (pow_pos f)) (shr_high _ (2 ^ f) (pow_pos f)) in
+    rw (
+      half_is f few,
+      to_z-of_z w64 n fits,
+      to_z-of_z w64 (n +ℤ pos half) above,
+      to_z-of_z w64 e (omega (arith, ints, unit)),
+      to_z-of_z w64 ((n +ℤ pos half) -ℤ e) sum,
+      to_z-of_z w64 q (shr_fits w64 _ (2 ^ f) sum),
+    )
+    (near_gives n (2 ^ f) q (pow_pos f) (record { close = near.0; away = near.1 }))
 
 -- ---- the product as code has it: rounded in 64 bits, of which 32 are kept
 

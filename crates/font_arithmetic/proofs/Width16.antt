@@ -14,7 +14,7 @@ use Rattle.font_arithmetic.proofs.Texts.{padded_has_room}
 use Rattle.font_arithmetic.specs.Operations.{IsFloor, IsFract, IsNearestWhole, IsNarrowed}
 use Rattle.font_arithmetic.proofs.Wrapped.{wrapping_add-wrap, wrapping_sub-wrap, wrapping_neg-wrap, wrapping_abs-wrap,
     rem_euclid_is_fract, wrapping_mul-wrap}
-use Rattle.font_arithmetic.proofs.Calls.{wrap-signed_fits, wrap-add_zero, wrap-zero_add, wrap-sub_zero}
+use Rattle.font_arithmetic.proofs.Calls.{wrap-signed_fits, add_zero, zero_add, sub_zero}
 use Rattle.font_arithmetic.proofs.Narrowing.{is_width_split, floor_is_nearest_whole, shr_is_narrowed}
 
 pub sum_16 : (x y : ℤ) → SFits w16 x → SFits w16 y → to_z w16 ((of_z w16 x + of_z w16 y) % 65536) ≡ wrap 16 (x +ℤ y)
@@ -61,13 +61,4 @@ pub ruleset code_16 = (sum_16, difference_16, negated_16, abs_16, fract_16, near
 pub fits_16 : (z : ℤ) → SFits w16 z → wrap 16 z ≡ z
 fits_16 z fits = wrap-signed_fits w16 z fits
 
-pub add_zero_16 : (z : ℤ) → SFits w16 z → wrap 16 (z +ℤ pos 0) ≡ z
-add_zero_16 z fits = wrap-add_zero w16 z fits
-
-pub zero_add_16 : (z : ℤ) → SFits w16 z → wrap 16 (pos 0 +ℤ z) ≡ z
-zero_add_16 z fits = wrap-zero_add w16 z fits
-
-pub sub_zero_16 : (z : ℤ) → SFits w16 z → wrap 16 (z -ℤ pos 0) ≡ z
-sub_zero_16 z fits = wrap-sub_zero w16 z fits
-
-pub ruleset calls_16 = (fits_16, add_zero_16, zero_add_16, sub_zero_16)
+pub ruleset calls_16 = (fits_16, add_zero, zero_add, sub_zero)

@@ -1,14 +1,11 @@
 -- What the file of a type of 32 bits names once, so that its calls need no answers: what std's calls and steps of code
 -- on 32 bits give, in the form that goals have, over every fraction.
-use Rattle.std.proofs.Common.{◌≡◌, ap, ◌∙◌, ℕ, ◌+◌, ◌-◌, ◌*◌, ◌/◌, ◌%◌, ◌^◌, ◌≤◌, ℤ, pos, neg_ℤ, ◌+ℤ◌, ◌-ℤ◌, ◌*ℤ◌,
-    unsigned_abs, IsTrue, lit<, lit≤, length, max, List, Option, IsSome, ◌↔◌}
-use Rattle.std.proofs.lemmas.Int.{to_z-of_z}
+use Rattle.std.proofs.Common.{◌≡◌, ℕ, ◌+◌, ◌-◌, ◌*◌, ◌/◌, ◌%◌, ◌^◌, ◌≤◌, ℤ, pos, neg_ℤ, ◌+ℤ◌, ◌-ℤ◌, ◌*ℤ◌, unsigned_abs,
+    IsTrue, lit<, lit≤, length, max, List, Option, IsSome, ◌↔◌}
 use Rattle.std.specs.Int.{w32, int_wrapping_neg, int_rem_euclid}
 use lib.Signed.{shr_z}
 use mir.Val.{SFits, to_z, of_z}
 use Rattle.font_base.specs.Wrap.{wrap}
-use Rattle.font_base.specs.Bytes.{IsBytesOf, bytes_of}
-use Rattle.font_base.specs.Bytes.Laws.{bytes_of_are}
 pub use Rattle.font_decimal.proofs.Printed.{shortest_is_decimal}
 use Rattle.font_decimal.specs.Padding.{padded_text}
 use Rattle.font_decimal.specs.Shortest.{shortest_text}
@@ -17,7 +14,7 @@ use Rattle.font_arithmetic.proofs.Texts.{padded_has_room}
 use Rattle.font_arithmetic.specs.Operations.{IsFloor, IsFract, IsNearestWhole, IsNarrowed}
 use Rattle.font_arithmetic.proofs.Wrapped.{wrapping_add-wrap, wrapping_sub-wrap, wrapping_neg-wrap, wrapping_abs-wrap,
     rem_euclid_is_fract, wrapping_mul-wrap}
-use Rattle.font_arithmetic.proofs.Calls.{wrap-signed_fits, wrap-add_zero, wrap-zero_add, wrap-sub_zero}
+use Rattle.font_arithmetic.proofs.Calls.{wrap-signed_fits, add_zero, zero_add, sub_zero}
 use Rattle.font_arithmetic.proofs.Narrowing.{is_width_split, floor_is_nearest_whole, shr_is_narrowed}
 
 pub sum_32 : (x y : ℤ) → SFits w32 x → SFits w32 y → to_z w32 ((of_z w32 x + of_z w32 y) % 4294967296) ≡ wrap 32
@@ -57,10 +54,6 @@ pub cell_32 : (b : ℤ) (f : ℕ) (pad : Pad) (old : List ℕ) (result : Option 
     → max 23 pad.width ≤ length old → IsSome result
 cell_32 b f pad old result room fits few cell = padded_has_room w32 b f pad old result (lit≤ tt) fits few room cell
 
--- the bytes of the raw number are those of the bits
-pub bytes_32 : (v : ℤ) (bytes : List ℕ) → SFits w32 v → bytes ≡ bytes_of 4 (to_z w32 (of_z w32 v)) → IsBytesOf 4 v bytes
-bytes_32 v bytes fits is = bytes_of_are 4 v bytes (is ∙ ap (bytes_of 4) (to_z-of_z w32 v fits))
-
 pub ruleset code_32 = (sum_32, difference_32, negated_32, abs_32, fract_32, nearest_whole_32, narrowed_32, scaled_32,
     cell_32, shortest_is_decimal)
 
@@ -69,13 +62,4 @@ pub ruleset code_32 = (sum_32, difference_32, negated_32, abs_32, fract_32, near
 pub fits_32 : (z : ℤ) → SFits w32 z → wrap 32 z ≡ z
 fits_32 z fits = wrap-signed_fits w32 z fits
 
-pub add_zero_32 : (z : ℤ) → SFits w32 z → wrap 32 (z +ℤ pos 0) ≡ z
-add_zero_32 z fits = wrap-add_zero w32 z fits
-
-pub zero_add_32 : (z : ℤ) → SFits w32 z → wrap 32 (pos 0 +ℤ z) ≡ z
-zero_add_32 z fits = wrap-zero_add w32 z fits
-
-pub sub_zero_32 : (z : ℤ) → SFits w32 z → wrap 32 (z -ℤ pos 0) ≡ z
-sub_zero_32 z fits = wrap-sub_zero w32 z fits
-
-pub ruleset calls_32 = (fits_32, add_zero_32, zero_add_32, sub_zero_32)
+pub ruleset calls_32 = (fits_32, add_zero, zero_add, sub_zero)

@@ -1,14 +1,11 @@
 -- What the file of a type of 64 bits names once, so that its calls need no answers: what std's calls and steps of code
 -- on 64 bits give, in the form that goals have, over every fraction.
-use Rattle.std.proofs.Common.{◌≡◌, ap, ◌∙◌, ℕ, ◌+◌, ◌-◌, ◌*◌, ◌/◌, ◌%◌, ◌^◌, ◌≤◌, ℤ, pos, neg_ℤ, ◌+ℤ◌, ◌-ℤ◌, ◌*ℤ◌,
-    unsigned_abs, IsTrue, lit<, lit≤, length, max, List, Option, IsSome, ◌↔◌}
-use Rattle.std.proofs.lemmas.Int.{to_z-of_z}
+use Rattle.std.proofs.Common.{◌≡◌, ℕ, ◌+◌, ◌-◌, ◌*◌, ◌/◌, ◌%◌, ◌^◌, ◌≤◌, ℤ, pos, neg_ℤ, ◌+ℤ◌, ◌-ℤ◌, ◌*ℤ◌, unsigned_abs,
+    IsTrue, lit<, lit≤, length, max, List, Option, IsSome, ◌↔◌}
 use Rattle.std.specs.Int.{w64, int_wrapping_neg, int_rem_euclid}
 use lib.Signed.{shr_z}
 use mir.Val.{SFits, to_z, of_z}
 use Rattle.font_base.specs.Wrap.{wrap}
-use Rattle.font_base.specs.Bytes.{IsBytesOf, bytes_of}
-use Rattle.font_base.specs.Bytes.Laws.{bytes_of_are}
 pub use Rattle.font_decimal.proofs.Printed.{shortest_is_decimal}
 use Rattle.font_decimal.specs.Padding.{padded_text}
 use Rattle.font_decimal.specs.Shortest.{shortest_text}
@@ -17,7 +14,7 @@ use Rattle.font_arithmetic.proofs.Texts.{padded_has_room}
 use Rattle.font_arithmetic.specs.Operations.{IsFloor, IsFract, IsNearestWhole, IsNarrowed}
 use Rattle.font_arithmetic.proofs.Wrapped.{wrapping_add-wrap, wrapping_sub-wrap, wrapping_neg-wrap, wrapping_abs-wrap,
     rem_euclid_is_fract, wrapping_mul-wrap}
-use Rattle.font_arithmetic.proofs.Calls.{wrap-signed_fits, wrap-add_zero, wrap-zero_add, wrap-sub_zero}
+use Rattle.font_arithmetic.proofs.Calls.{wrap-signed_fits, add_zero, zero_add, sub_zero}
 use Rattle.font_arithmetic.proofs.Narrowing.{is_width_split, floor_is_nearest_whole, shr_is_narrowed}
 
 pub sum_64 : (x y : ℤ) → SFits w64 x → SFits w64 y → to_z w64 ((of_z w64 x + of_z w64 y) % 18446744073709551616)
@@ -57,10 +54,6 @@ pub cell_64 : (b : ℤ) (f : ℕ) (pad : Pad) (old : List ℕ) (result : Option 
     → max 23 pad.width ≤ length old → IsSome result
 cell_64 b f pad old result room fits few cell = padded_has_room w64 b f pad old result (lit≤ tt) fits few room cell
 
--- the bytes of the raw number are those of the bits
-pub bytes_64 : (v : ℤ) (bytes : List ℕ) → SFits w64 v → bytes ≡ bytes_of 8 (to_z w64 (of_z w64 v)) → IsBytesOf 8 v bytes
-bytes_64 v bytes fits is = bytes_of_are 8 v bytes (is ∙ ap (bytes_of 8) (to_z-of_z w64 v fits))
-
 pub ruleset code_64 = (sum_64, difference_64, negated_64, abs_64, fract_64, nearest_whole_64, narrowed_64, scaled_64,
     cell_64, shortest_is_decimal)
 
@@ -69,13 +62,4 @@ pub ruleset code_64 = (sum_64, difference_64, negated_64, abs_64, fract_64, near
 pub fits_64 : (z : ℤ) → SFits w64 z → wrap 64 z ≡ z
 fits_64 z fits = wrap-signed_fits w64 z fits
 
-pub add_zero_64 : (z : ℤ) → SFits w64 z → wrap 64 (z +ℤ pos 0) ≡ z
-add_zero_64 z fits = wrap-add_zero w64 z fits
-
-pub zero_add_64 : (z : ℤ) → SFits w64 z → wrap 64 (pos 0 +ℤ z) ≡ z
-zero_add_64 z fits = wrap-zero_add w64 z fits
-
-pub sub_zero_64 : (z : ℤ) → SFits w64 z → wrap 64 (z -ℤ pos 0) ≡ z
-sub_zero_64 z fits = wrap-sub_zero w64 z fits
-
-pub ruleset calls_64 = (fits_64, add_zero_64, zero_add_64, sub_zero_64)
+pub ruleset calls_64 = (fits_64, add_zero, zero_add, sub_zero)

@@ -5,20 +5,13 @@ use Rattle.font_arithmetic.specs.Operations.{IsProduct, IsQuotient, IsMulDiv}
 
 -- the list has four elements, of which this holds
 abbrev pub OnFour : {T : Type 0} → List T → (T → T → T → T → Type 0) → Type 0
-OnFour [] P = ⊥
-OnFour (a ∷ []) P = ⊥
-OnFour (a ∷ b ∷ []) P = ⊥
-OnFour (a ∷ b ∷ c ∷ []) P = ⊥
 OnFour (a ∷ b ∷ c ∷ d ∷ []) P = P a b c d
-OnFour (a ∷ b ∷ c ∷ d ∷ e ∷ rest) P = ⊥
+OnFour _ P = ⊥
 
 -- the list has three elements, of which this holds
 abbrev pub OnThree : {T : Type 0} → List T → (T → T → T → Type 0) → Type 0
-OnThree [] P = ⊥
-OnThree (a ∷ []) P = ⊥
-OnThree (a ∷ b ∷ []) P = ⊥
 OnThree (a ∷ b ∷ c ∷ []) P = P a b c
-OnThree (a ∷ b ∷ c ∷ d ∷ rest) P = ⊥
+OnThree _ P = ⊥
 
 -- x * y, y * x and x * 1: the order of factors does not matter, and 1 is neutral
 pub record ProductLaws (w f : ℕ) (x y product flipped by_one : ℤ) : Type 0 where

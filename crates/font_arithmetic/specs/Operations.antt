@@ -98,23 +98,13 @@ product_of w f x y = wrapped_near w (x *ℤ y) (2 ^ f)
 abbrev pub IsProduct : ℕ → ℕ → ℤ → ℤ → ℤ → Type 0
 IsProduct w f x y r = IsWrappedNear w (x *ℤ y) (2 ^ f) r
 
--- x * a / c rounded and wrapped. A zero divisor gives the greatest number of w bits, negated where just one of x and a
--- is negative.
-abbrev pub mul_div_of : ℕ → ℤ → ℤ → ℤ → ℤ
-mul_div_of w x a (pos zero) = signed (differ_in_sign x a) (half_range w - 1)
-mul_div_of w x a (pos (suc c)) = wrapped_near w (x *ℤ a) (suc c)
-mul_div_of w x a (negsuc c) = wrapped_near w (neg_ℤ (x *ℤ a)) (suc c)
-
--- r is that number
+-- r is x * a / c rounded and wrapped. A zero divisor gives the greatest number of w bits, negated where just one of x
+-- and a is negative.
 abbrev pub IsMulDiv : ℕ → ℤ → ℤ → ℤ → ℤ → Type 0
 IsMulDiv w x a (pos zero) r = r ≡ signed (differ_in_sign x a) (half_range w - 1)
 IsMulDiv w x a (pos (suc c)) r = IsWrappedNear w (x *ℤ a) (suc c) r
 IsMulDiv w x a (negsuc c) r = IsWrappedNear w (neg_ℤ (x *ℤ a)) (suc c) r
 
--- the quotient of the numbers with bits x and y: x * 2^f / y, rounded and wrapped
-abbrev pub quotient_of : ℕ → ℕ → ℤ → ℤ → ℤ
-quotient_of w f x y = mul_div_of w x (pos (2 ^ f)) y
-
--- r is that quotient
+-- r is the quotient of the numbers with bits x and y: x * 2^f / y, rounded and wrapped
 abbrev pub IsQuotient : ℕ → ℕ → ℤ → ℤ → ℤ → Type 0
 IsQuotient w f x y r = IsMulDiv w x (pos (2 ^ f)) y r

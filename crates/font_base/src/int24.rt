@@ -20,7 +20,7 @@ pub struct Int24 {
 
 impl Int24 {
     ghost use Rattle.font_base.specs.Int24.{INT24_MIN, INT24_MAX, int24_number};
-    ghost use Rattle.font_base.specs.Bytes.{IsBytesOf, signed_numeral};
+    ghost use Rattle.font_base.specs.Bytes.{signed_numeral, bytes_of};
 
     /// The least value, -8388608.
     pub const MIN: Self = Int24 { value: -0x80_0000 };
@@ -58,7 +58,7 @@ impl Int24 {
 
     /// The three bytes in two's complement, highest first.
     pub fn to_be_bytes(self) -> [u8; 3]
-        ensures { IsBytesOf 3 (int24_number self) result }
+        ensures { result ≡ bytes_of 3 (int24_number self) }
     {
         let [_, high, middle, low] = self.value.to_be_bytes();
         [high, middle, low]
@@ -66,7 +66,7 @@ impl Int24 {
 
     /// The number of three bytes in two's complement, highest first.
     pub fn from_be_bytes(bytes: [u8; 3]) -> Int24
-        ensures bytes { IsBytesOf 3 (int24_number result) bytes }
+        ensures bytes { bytes ≡ bytes_of 3 (int24_number result) }
         ensures number { int24_number result ≡ signed_numeral 3 bytes }
     {
         let unsigned = Uint24::from_be_bytes(bytes).to_u32() as i32;

@@ -19,7 +19,7 @@ pub struct Uint24 {
 
 impl Uint24 {
     ghost use Rattle.font_base.specs.Uint24.{UINT24_MAX, uint24_number};
-    ghost use Rattle.font_base.specs.Bytes.{IsBytesOf, numeral};
+    ghost use Rattle.font_base.specs.Bytes.{numeral, bytes_of};
 
     /// The least value, 0.
     pub const MIN: Self = Uint24 { value: 0 };
@@ -57,7 +57,7 @@ impl Uint24 {
 
     /// The three bytes, highest first.
     pub fn to_be_bytes(self) -> [u8; 3]
-        ensures { IsBytesOf 3 (pos (uint24_number self)) result }
+        ensures { result ≡ bytes_of 3 (pos (uint24_number self)) }
     {
         let [_, high, middle, low] = self.value.to_be_bytes();
         [high, middle, low]
@@ -65,7 +65,7 @@ impl Uint24 {
 
     /// The number of three bytes, highest first.
     pub fn from_be_bytes(bytes: [u8; 3]) -> Uint24
-        ensures bytes { IsBytesOf 3 (pos (uint24_number result)) bytes }
+        ensures bytes { bytes ≡ bytes_of 3 (pos (uint24_number result)) }
         ensures number { uint24_number result ≡ numeral bytes }
     {
         let bytes = BeByteArray::as_slice(&bytes);

@@ -4,7 +4,6 @@ use Rattle.std.proofs.Common.{◌≡◌, ◌≢◌, ℕ, zero, suc, ◌+◌, ◌
 use Rattle.std.specs.Prelude.{◌≤ℤ◌, unsigned_abs, Result, Ok}
 use Rattle.std.specs.Int.{is_negative}
 use Rattle.std.specs.Fmt.{decimal, sign_text}
-use Rattle.std.specs.Str.{IsAscii}
 use Rattle.std.specs.Str.Parse.{AllDigits}
 use Rattle.std.proofs.Math.Nat.{pow-suc, mul_comm, div-div-eq-div-mul, div-one}
 use Rattle.std.proofs.lemmas.Int.{ints}
@@ -15,7 +14,7 @@ use Rattle.font_decimal.specs.Grammar.{HasParts, IsDecimal, Plain, fraction_text
 use Rattle.font_decimal.specs.Reading.{Rounds, Reads, IsReading}
 use Rattle.font_decimal.specs.Shortest.{IsShortest, nearest_numeral, fewest_places, last_digits, shortest_text}
 use Rattle.font_decimal.specs.declared.reader.DecimalFault.{DecimalFault}
-use Rattle.font_decimal.proofs.Texts.{same_parts, decimal_unique, decimal_of, decimal_is_ascii}
+use Rattle.font_decimal.proofs.Texts.{same_parts, decimal_unique, decimal_of}
 use Rattle.font_decimal.proofs.Readings.{rounds_unique, reading_unique}
 use Rattle.font_decimal.proofs.Fewest.{IsFewest, fewest_is, zero_drops, unit_below}
 use Rattle.font_decimal.proofs.Written.{shortest_is, whole_fits, digits_fit, point_length}
@@ -23,9 +22,6 @@ use Rattle.font_decimal.proofs.Written.{shortest_is, whole_fits, digits_fit, poi
 -- a shortest text is in the grammar
 pub shortest_is_decimal : (b : ℤ) (f : ℕ) (text : List ℕ) → IsShortest b f text → IsDecimal text
 shortest_is_decimal b f text s = record { numeral = s.numeral; places = s.places; decimal = s.plain.decimal }
-
-pub shortest_is_ascii : (b : ℤ) (f : ℕ) (text : List ℕ) → IsShortest b f text → IsAscii text
-shortest_is_ascii b f text s = decimal_is_ascii text s.numeral s.places s.plain.decimal
 
 -- a printed text is read as its value and as no other
 pub printed_rounds : (b : ℤ) (f : ℕ) → unsigned_abs b ≤ 2 ^ 63 → Rounds (shortest_text b f) f b

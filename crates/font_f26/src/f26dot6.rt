@@ -5,7 +5,7 @@ ghost use Rattle.std.specs.Prelude.{◌≡◌, ◌-◌, ◌^◌, ◌<◌, ◌≤
 ghost use Rattle.std.specs.Prelude.{Some, IsSome, IfSome, IfNone, length, max, unsigned_abs};
 ghost use Rattle.std.specs.Int.{w32};
 ghost use Rattle.font_base.specs.Wrap.{FitsBits, wrap};
-ghost use Rattle.font_base.specs.Bytes.{IsBytesOf};
+ghost use Rattle.font_base.specs.Bytes.{bytes_of};
 ghost use Rattle.font_decimal.specs.Padding.{padded_text, FillsFront};
 ghost use Rattle.font_decimal.specs.Shortest.{IsShortest};
 ghost use Rattle.font_decimal.specs.Shown.{shown};
@@ -132,7 +132,7 @@ impl F26Dot6 {
 
     /// The four bytes of the bits, highest first.
     pub fn to_be_bytes(self) -> [u8; 4]
-        ensures { IsBytesOf 4 (f26dot6_bits self) result }
+        ensures { result ≡ bytes_of 4 (f26dot6_bits self) }
     {
         self.0.to_raw()
     }

@@ -5,7 +5,7 @@ ghost use Rattle.std.specs.Prelude.{◌≡◌, ◌^◌, ◌<◌, ◌≤◌, ◌�
 ghost use Rattle.std.specs.Prelude.{IsSome, IfSome, IfNone, length, max, unsigned_abs};
 ghost use Rattle.std.specs.Int.{w64};
 ghost use Rattle.font_base.specs.Wrap.{FitsBits, wrap};
-ghost use Rattle.font_base.specs.Bytes.{IsBytesOf};
+ghost use Rattle.font_base.specs.Bytes.{bytes_of};
 ghost use Rattle.font_decimal.specs.Padding.{padded_text, FillsFront};
 ghost use Rattle.font_decimal.specs.Shortest.{IsShortest};
 ghost use Rattle.font_decimal.specs.Shown.{shown};
@@ -134,7 +134,7 @@ impl F48Dot16 {
 
     /// The eight bytes of the bits, highest first.
     pub fn to_be_bytes(self) -> [u8; 8]
-        ensures { IsBytesOf 8 (f48dot16_bits self) result }
+        ensures { result ≡ bytes_of 8 (f48dot16_bits self) }
     {
         self.0.to_raw()
     }

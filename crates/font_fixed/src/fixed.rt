@@ -7,7 +7,7 @@ ghost use Rattle.std.specs.Prelude.{unsigned_abs};
 ghost use Rattle.std.proofs.Common.{lit<};
 ghost use Rattle.std.specs.Int.{w32};
 ghost use Rattle.font_base.specs.Wrap.{FitsBits, fits_bits, wrap};
-ghost use Rattle.font_base.specs.Bytes.{IsBytesOf, bytes_of, signed_numeral};
+ghost use Rattle.font_base.specs.Bytes.{bytes_of, signed_numeral};
 ghost use Rattle.font_decimal.specs.Padding.{padded_text, FillsFront};
 ghost use Rattle.font_decimal.specs.Shortest.{IsShortest};
 ghost use Rattle.font_decimal.specs.Shown.{shown};
@@ -140,7 +140,7 @@ impl Fixed {
 
     /// The four bytes of the bits, highest first.
     pub fn to_be_bytes(self) -> [u8; 4]
-        ensures { IsBytesOf 4 (fixed_bits self) result }
+        ensures { result ≡ bytes_of 4 (fixed_bits self) }
     {
         self.to_raw()
     }

@@ -6,7 +6,7 @@ ghost use Rattle.std.specs.Prelude.{IfSome, IfNone, refl, length, max, unsigned_
 ghost use Rattle.std.proofs.Common.{lit<};
 ghost use Rattle.std.specs.Int.{w16};
 ghost use Rattle.font_base.specs.Wrap.{FitsBits, fits_bits, wrap};
-ghost use Rattle.font_base.specs.Bytes.{IsBytesOf, bytes_of, signed_numeral};
+ghost use Rattle.font_base.specs.Bytes.{bytes_of, signed_numeral};
 ghost use Rattle.font_base.specs.Scalar.Laws.{signed_newtype, signed_identity};
 ghost use Rattle.font_decimal.specs.Padding.{padded_text, FillsFront};
 ghost use Rattle.font_decimal.specs.Shortest.{IsShortest};
@@ -132,7 +132,7 @@ impl F6Dot10 {
 
     /// The two bytes of the bits, highest first.
     pub fn to_be_bytes(self) -> [u8; 2]
-        ensures { IsBytesOf 2 (f6dot10_bits self) result }
+        ensures { result ≡ bytes_of 2 (f6dot10_bits self) }
     {
         self.to_raw()
     }

@@ -4,7 +4,7 @@ ghost use Rattle.std.specs.Prelude.{◌≡◌, ◌^◌, ◌+ℤ◌, ◌*ℤ◌, 
 ghost use Rattle.std.proofs.Common.{lit<};
 ghost use Rattle.std.specs.Fmt.{decimal, signed_decimal};
 ghost use Rattle.font_base.specs.Wrap.{fits_bits, wrap};
-ghost use Rattle.font_base.specs.Bytes.{IsBytesOf, bytes_of, numeral, signed_numeral};
+ghost use Rattle.font_base.specs.Bytes.{bytes_of, numeral, signed_numeral};
 ghost use Rattle.font_base.specs.Scalar.Laws.{unsigned_newtype, unsigned_identity, signed_newtype};
 ghost use Rattle.font_base.specs.Scalar.Laws.{signed_identity};
 ghost use Rattle.font_fixed.specs.F48Dot16.{f48dot16_bits};
@@ -50,7 +50,7 @@ impl FWord {
 
     /// The two bytes in two's complement, highest first.
     pub fn to_be_bytes(self) -> [u8; 2]
-        ensures { IsBytesOf 2 (fword_number self) result }
+        ensures { result ≡ bytes_of 2 (fword_number self) }
     {
         FWord::to_raw(self)
     }
@@ -145,7 +145,7 @@ impl UfWord {
 
     /// The two bytes, highest first.
     pub fn to_be_bytes(self) -> [u8; 2]
-        ensures { IsBytesOf 2 (pos (ufword_number self)) result }
+        ensures { result ≡ bytes_of 2 (pos (ufword_number self)) }
     {
         UfWord::to_raw(self)
     }

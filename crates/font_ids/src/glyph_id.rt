@@ -5,7 +5,7 @@ ghost use Rattle.std.specs.Prelude.{IsSome, IfSome, MatchResult, refl};
 ghost use Rattle.std.specs.Ordering.{nat_cmp};
 ghost use Rattle.font_base.specs.Uint24.{UINT24_MAX, uint24_of_bytes, bytes_of_uint24};
 ghost use Rattle.font_base.specs.Uint24.Laws.{uint24_laws, uint24_identity};
-ghost use Rattle.font_base.specs.Bytes.{IsBytesOf, bytes_of, numeral};
+ghost use Rattle.font_base.specs.Bytes.{bytes_of, numeral};
 ghost use Rattle.font_base.specs.Scalar.Laws.{unsigned_newtype, unsigned_identity};
 ghost use Rattle.font_ids.specs.Newtype.{newtype_laws, newtype_identity};
 ghost use Rattle.font_ids.specs.GlyphId.{glyph16_number, glyph16_of, glyph24_number, glyph24_of};
@@ -47,7 +47,7 @@ impl GlyphId16 {
 
     /// The two bytes of the number, highest first.
     pub fn to_be_bytes(self) -> [u8; 2]
-        ensures { IsBytesOf 2 (pos (glyph16_number self)) result }
+        ensures { result ≡ bytes_of 2 (pos (glyph16_number self)) }
     {
         self.to_raw()
     }
@@ -176,14 +176,14 @@ impl GlyphId24 {
 
     /// The three bytes of the number, highest first.
     pub fn to_be_bytes(self) -> [u8; 3]
-        ensures { IsBytesOf 3 (pos (glyph24_number self)) result }
+        ensures { result ≡ bytes_of 3 (pos (glyph24_number self)) }
     {
         self.0.to_be_bytes()
     }
 
     /// The id of three bytes, highest first.
     pub fn from_be_bytes(bytes: [u8; 3]) -> Self
-        ensures { IsBytesOf 3 (pos (glyph24_number result)) bytes }
+        ensures { bytes ≡ bytes_of 3 (pos (glyph24_number result)) }
     {
         Self(Uint24::from_be_bytes(bytes))
     }

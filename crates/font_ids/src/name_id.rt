@@ -3,7 +3,7 @@
 ghost use Rattle.std.specs.Prelude.{◌≡◌, ◌+◌, ◌≤◌, ◌^◌, ◌↔◌, pos, nat_lt, map, length, Some};
 ghost use Rattle.std.specs.Prelude.{IsTrue, IsSome, IfSome, refl};
 ghost use Rattle.std.specs.Iterator.{YieldsFirst, item_count};
-ghost use Rattle.font_base.specs.Bytes.{IsBytesOf, bytes_of, numeral};
+ghost use Rattle.font_base.specs.Bytes.{bytes_of, numeral};
 ghost use Rattle.font_base.specs.Scalar.Laws.{unsigned_newtype, unsigned_identity};
 ghost use Rattle.font_ids.specs.NameId.{name_number, name_id_of, name_text, predefined_numbers};
 ghost use Rattle.font_ids.specs.NameId.{predefined_left, last_reserved, last_allowed};
@@ -145,7 +145,7 @@ impl NameId {
 
     /// The two bytes of the number, highest first.
     pub fn to_be_bytes(self) -> [u8; 2]
-        ensures { IsBytesOf 2 (pos (name_number self)) result }
+        ensures { result ≡ bytes_of 2 (pos (name_number self)) }
     {
         self.to_raw()
     }

@@ -144,16 +144,6 @@ fault_from_read bytes n m some read below other = record {
       });
 }
 
--- the first byte is not visible
-pub fault_at_once : (bytes : List ℕ) → 0 < length bytes → ¬ IsVisible (get_or bytes 0 0) → IsFault bytes 0
-fault_at_once bytes some hidden = record {
-  within = some;
-  fails = λ good. hidden
-      (subst (λ (byte : ℕ). IsVisible byte) (get_or-take 1 bytes 0 0 (omega arith))
-          (first_visible (take 1 bytes) good));
-  least = λ i before. absurd (omega arith);
-}
-
 -- what a search for the first byte that is not visible tells
 pub read_run : (bytes : List ℕ) (r : Option ℕ) (n : ℕ)
     → MatchOption r (AllWithin IsVisible bytes 0 (length bytes))

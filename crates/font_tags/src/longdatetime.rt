@@ -3,7 +3,7 @@
 ghost use Rattle.std.specs.Prelude.{◌≡◌, refl};
 ghost use Rattle.std.proofs.Common.{lit<};
 ghost use Rattle.font_base.specs.Wrap.{fits_bits};
-ghost use Rattle.font_base.specs.Bytes.{IsBytesOf, bytes_of, signed_numeral};
+ghost use Rattle.font_base.specs.Bytes.{bytes_of, signed_numeral};
 ghost use Rattle.font_base.specs.Scalar.Laws.{signed_newtype, signed_identity};
 ghost use Rattle.font_tags.specs.LongDateTime.{date_seconds, date_of};
 
@@ -30,7 +30,7 @@ impl LongDateTime {
 
     /// The eight bytes of the seconds, highest first.
     pub fn to_be_bytes(self) -> [u8; 8]
-        ensures { IsBytesOf 8 (date_seconds self) result }
+        ensures { result ≡ bytes_of 8 (date_seconds self) }
     {
         self.to_raw()
     }

@@ -4,7 +4,7 @@ ghost use Rattle.std.specs.Prelude.{◌≡◌, ◌<◌, ◌++◌, ◌↔◌, pos
 ghost use Rattle.std.specs.Prelude.{MatchOption, length, refl};
 ghost use Rattle.std.specs.Fmt.{WritesOnOk};
 ghost use lib.Chars.{codes};
-ghost use Rattle.font_base.specs.Bytes.{IsBytesOf, are_bytes};
+ghost use Rattle.font_base.specs.Bytes.{are_bytes, bytes_of};
 ghost use Rattle.font_tags.specs.Tag.{tag_bytes, tag_of, four_spaces, IsGood, IsFault};
 ghost use Rattle.font_tags.specs.Tag.{IsAcceptable, IsChecked, IsValidated, byte_text, tag_text};
 
@@ -58,7 +58,7 @@ impl Tag {
 
     /// The tag of a number's four bytes, highest first.
     pub fn from_u32(src: u32) -> Self
-        ensures { IsBytesOf 4 (pos src) (tag_bytes result) }
+        ensures { tag_bytes result ≡ bytes_of 4 (pos src) }
     {
         Self(src.to_raw())
     }

@@ -1,9 +1,9 @@
 //! Version numbers of tables.
 
 ghost use Rattle.std.specs.Prelude.{◌≡◌, ◌≤◌, ◌^◌, ◌++◌, ◌&&◌, ◌↔◌, pos, nat_lt, min, Some, IsTrue};
-ghost use Rattle.std.specs.Prelude.{take, drop, refl};
+ghost use Rattle.std.specs.Prelude.{◌++◌, refl};
 ghost use lib.Chars.{codes};
-ghost use Rattle.font_base.specs.Bytes.{IsBytesOf, bytes_of, numeral};
+ghost use Rattle.font_base.specs.Bytes.{bytes_of, numeral};
 ghost use Rattle.font_base.specs.Scalar.Laws.{unsigned_newtype, unsigned_identity};
 ghost use Rattle.font_tags.specs.Version.{version_bits, version_of, version_major, version_minor};
 ghost use Rattle.font_tags.specs.Version.{packed_version, version_text, hex_text};
@@ -59,7 +59,7 @@ impl Version16Dot16 {
 
     /// The four bytes of the bits, highest first.
     pub fn to_be_bytes(self) -> [u8; 4]
-        ensures { IsBytesOf 4 (pos (version_bits self)) result }
+        ensures { result ≡ bytes_of 4 (pos (version_bits self)) }
     {
         self.to_raw()
     }
@@ -149,8 +149,7 @@ impl MajorMinor {
 
     /// Two bytes of the major number and then two of the minor number, highest first.
     pub fn to_be_bytes(self) -> [u8; 4]
-        ensures major { IsBytesOf 2 (pos self.major) (take 2 result) }
-        ensures minor { IsBytesOf 2 (pos self.minor) (drop 2 result) }
+        ensures { result ≡ bytes_of 2 (pos self.major) ++ bytes_of 2 (pos self.minor) }
     {
         self.to_raw()
     }

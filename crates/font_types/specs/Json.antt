@@ -1,6 +1,6 @@
 -- JSON forms of scalars. All of it is the project's own rule, but for what JSON itself has: texts, numbers and objects.
 pub mod Laws
-use Rattle.std.specs.Prelude.{◌≡◌, ℕ, ◌-◌, ◌^◌, ℤ, Bool, ◌&&◌, int_le, if◌then◌else◌, List, Option, Some, None,
+use Rattle.std.specs.Prelude.{◌≡◌, ℕ, ◌-◌, ◌^◌, ℤ, Bool, IsTrue, ◌&&◌, int_le, if◌then◌else◌, List, Option, Some, None,
     option_and_then, is_some, pos, IsUtf8, Result, Ok, Err}
 use Rattle.std.specs.Result.{result_map_both}
 use lib.Chars.{codes}
@@ -15,6 +15,21 @@ use Rattle.font_tags.specs.Tag.{tag_bytes, IsGood, IsAcceptable, filled}
 use Rattle.font_types.specs.declared.json.JsonFault.{JsonFault}
 use Rattle.font_types.specs.declared.json.JsonFault.TheVariants.{Memory, WrongKind, OutOfRange, Syntax, NotUtf8,
     InvalidTag, MissingMember}
+
+-- a JSON form of the values of a type: what is shown of a value is read back
+pub record JsonForm (T : Type 0) : Type 1 where
+  -- that this is a value of the type
+  pub is_value : T → Bool
+  -- that the data is the form of the value
+  pub shows : T → Data → Type 0
+  -- that the value may be refused so
+  pub refuses : T → JsonFault → Type 0
+  -- what the data is read as
+  pub reads : Data → Result T JsonFault → Type 0
+  -- what the form of a value is read as: the value, but for a tag that is not good
+  pub comes_back : T → Result T JsonFault → Type 0
+  pub round_trip : (v : T) (d : Data) (result : Result T JsonFault) → IsTrue (is_value v) → shows v d → reads d result
+      → comes_back v result
 
 -- ---- whole numbers
 
@@ -45,19 +60,9 @@ abbrev pub ReadsWholeNumber : {T : Type 0} → ℤ → ℤ → (T → ℤ) → D
 ReadsWholeNumber min max number_of d result = result_map_both number_of (λ fault. fault) result
     ≡ number_within min max d
 
--- the test of w bits without a sign, and what data is read as by a type of all those numbers
-abbrev pub is_unsigned : ℕ → ℕ → Bool
-is_unsigned w n = is_within (pos 0) (pos (2 ^ w - 1)) (pos n)
-
-abbrev pub ReadsUnsigned : {T : Type 0} → ℕ → (T → ℕ) → Data → Result T JsonFault → Type 0
-ReadsUnsigned w number_of d result = ReadsWholeNumber (pos 0) (pos (2 ^ w - 1)) (λ x. pos (number_of x)) d result
-
--- the same of w bits in two's complement
+-- the test of w bits in two's complement
 abbrev pub is_within_signed : ℕ → ℤ → Bool
 is_within_signed w z = is_within (least w) (greatest w) z
-
-abbrev pub ReadsSigned : {T : Type 0} → ℕ → (T → ℤ) → Data → Result T JsonFault → Type 0
-ReadsSigned w number_of d result = ReadsWholeNumber (least w) (greatest w) number_of d result
 
 -- ---- decimal texts
 
@@ -71,11 +76,7 @@ abbrev pub IsTextRead : ℕ → ℕ → List ℕ → Result ℤ JsonFault → Ty
 IsTextRead w f text (Ok b) = ReadsAs w f text b
 IsTextRead w f text (Err Syntax) = IsNoDecimal text
 IsTextRead w f text (Err OutOfRange) = IsTooFar w f text
-IsTextRead w f text (Err Memory) = ⊥
-IsTextRead w f text (Err WrongKind) = ⊥
-IsTextRead w f text (Err NotUtf8) = ⊥
-IsTextRead w f text (Err InvalidTag) = ⊥
-IsTextRead w f text (Err MissingMember) = ⊥
+IsTextRead w f text (Err _) = ⊥
 
 -- the same of data that may be a text: any other is the wrong kind
 abbrev pub IsDecimalRead : ℕ → ℕ → Option (List ℕ) → Result ℤ JsonFault → Type 0
@@ -92,22 +93,13 @@ ReadsDecimal w f bits_of d result = IsDecimalRead w f (as_str d) (result_map_bot
 abbrev pub IsTagRefused : List ℕ → JsonFault → Type 0
 IsTagRefused bytes Memory = IsUtf8 bytes
 IsTagRefused bytes NotUtf8 = ¬ IsUtf8 bytes
-IsTagRefused bytes WrongKind = ⊥
-IsTagRefused bytes OutOfRange = ⊥
-IsTagRefused bytes Syntax = ⊥
-IsTagRefused bytes InvalidTag = ⊥
-IsTagRefused bytes MissingMember = ⊥
+IsTagRefused bytes _ = ⊥
 
 -- what a text is read as: a tag where a tag can be made of its bytes
 abbrev pub IsTagMade : List ℕ → Result Tag JsonFault → Type 0
 IsTagMade text (Ok tag) = IsAcceptable text × (tag_bytes tag ≡ filled text)
 IsTagMade text (Err InvalidTag) = ¬ IsAcceptable text
-IsTagMade text (Err Memory) = ⊥
-IsTagMade text (Err WrongKind) = ⊥
-IsTagMade text (Err OutOfRange) = ⊥
-IsTagMade text (Err Syntax) = ⊥
-IsTagMade text (Err NotUtf8) = ⊥
-IsTagMade text (Err MissingMember) = ⊥
+IsTagMade text (Err _) = ⊥
 
 -- the same of data that may be a text
 abbrev pub IsTagRead : Option (List ℕ) → Result Tag JsonFault → Type 0

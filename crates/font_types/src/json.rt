@@ -6,7 +6,7 @@ ghost use Rattle.std.specs.Result.{result_map_both};
 ghost use Rattle.serde_json.specs.Data.{Data};
 ghost use Rattle.serde_json.specs.Find.{as_str};
 ghost use Rattle.serde_json.specs.View.{view};
-ghost use Rattle.font_types.specs.Json.{number_within};
+ghost use Rattle.font_types.specs.Json.{JsonForm, number_within};
 ghost use Rattle.font_types.specs.declared.json.JsonFault.{JsonFault};
 ghost use Rattle.font_types.specs.declared.json.JsonFault.TheVariants.{Memory};
 
@@ -72,36 +72,20 @@ impl From<DecimalFault> for JsonFault {
 /// Fixed-point numbers and tags are texts, whole numbers are numbers, and a `MajorMinor` is an
 /// object.
 pub trait JsonScalar: Sized {
-    // that this is a value of the type
-    ghost is_value: { Self → Bool };
-
-    // that the data is the form of the value
-    ghost shows: { Self → Data → Type 0 };
-
-    // that the value may be refused so
-    ghost refuses: { Self → JsonFault → Type 0 };
-
-    // what the data is read as
-    ghost reads: { Data → Result Self JsonFault → Type 0 };
-
-    // what the form of a value is read as: the value, but for a tag that is not good
-    ghost comes_back: { Self → Result Self JsonFault → Type 0 } = { λ v result. result ≡ Ok v };
+    // which data shows a value, and what data is read as
+    ghost form: { JsonForm Self };
 
     /// The JSON form of the value.
     fn to_json(self, alloc: Global) -> Result<Value, JsonFault>
-        ensures shown { IfOk result (λ value. shows self (view value)) }
-        ensures refused { IfErr result (λ fault. refuses self fault) }
-        ensures value { IsTrue (is_value self) };
+        ensures shown { IfOk result (λ value. form.shows self (view value)) }
+        ensures refused { IfErr result (λ fault. form.refuses self fault) }
+        ensures value { IsTrue (form.is_value self) };
 
     /// The value whose form this is.
     fn from_json(value: &Value) -> Result<Self, JsonFault>
-        ensures read { reads (view value.now) result }
-        ensures back { (v : Self) → IsTrue (is_value v) → shows v (view value.now)
-            → comes_back v result };
-
-    // What is shown is read back.
-    ghost round_trip: { (v : Self) (d : Data) (result : Result Self JsonFault) → IsTrue (is_value v)
-        → shows v d → reads d result → comes_back v result };
+        ensures read { form.reads (view value.now) result }
+        ensures back { (v : Self) → IsTrue (form.is_value v) → form.shows v (view value.now)
+            → form.comes_back v result };
 }
 
 // The text that a value is, if it is one.

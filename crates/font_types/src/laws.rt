@@ -13,8 +13,8 @@ use std::alloc::Global;
 ///
 /// The outer result is that of `to_json`, the inner one that of `from_json`.
 pub fn round_trip<T: JsonScalar>(value: T, alloc: Global) -> Result<Result<T, JsonFault>, JsonFault>
-    ensures back { IfOk result (λ read. T.comes_back value read) }
-    ensures refused { IfErr result (λ fault. T.refuses value fault) }
+    ensures back { IfOk result (λ read. T.form.comes_back value read) }
+    ensures refused { IfErr result (λ fault. T.form.refuses value fault) }
 {
     let shown = value.to_json(alloc)?;
     Ok(T::from_json(&shown))

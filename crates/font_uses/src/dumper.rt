@@ -122,13 +122,13 @@ impl Summary {
             → result ≡ Err JsonFault.MissingMember }
         ensures revision { IfOk result (λ summary. (d : Data)
             × (get (codes "revision") (view value.now) ≡ Some d)
-            × ⟦<Fixed as JsonScalar>⟧.reads d (Ok summary.revision)) }
+            × ⟦<Fixed as JsonScalar>⟧.form.reads d (Ok summary.revision)) }
         ensures created { IfOk result (λ summary. (d : Data)
             × (get (codes "created") (view value.now) ≡ Some d)
-            × ⟦<LongDateTime as JsonScalar>⟧.reads d (Ok summary.created)) }
+            × ⟦<LongDateTime as JsonScalar>⟧.form.reads d (Ok summary.created)) }
         ensures x_min { IfOk result (λ summary. (d : Data)
             × (get (codes "x_min") (view value.now) ≡ Some d)
-            × ⟦<FWord as JsonScalar>⟧.reads d (Ok summary.x_min)) }
+            × ⟦<FWord as JsonScalar>⟧.form.reads d (Ok summary.x_min)) }
     {
         Ok(Summary {
             revision: Fixed::from_json(member_of(value, "revision")?)?,

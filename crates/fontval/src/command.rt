@@ -12,7 +12,7 @@ use crate::images::Move;
 use crate::judgement::Judgement;
 use crate::numbers::{fixed_numbers, in_pairs, short_number, terms};
 use crate::output::{append, append_read};
-use crate::parse::{text_of_decimal, hexadecimal, two_words};
+use crate::parse::{hexadecimal, text_of_decimal, two_words};
 use crate::refusal::{Refusal, Unanswered};
 use crate::text::Words;
 use font_types::{

@@ -8,9 +8,9 @@ use denote.Struct.Props.{props}
 use Rattle.font_base.specs.declared.int24.Int24.{Int24}
 use Rattle.font_base.specs.Wrap.{FitsBits}
 use Rattle.font_base.specs.Wrap.Laws.{wrap-fits}
-use Rattle.font_base.specs.Bytes.{are_bytes, bytes_of, signed_numeral, IsBytesOf}
+use Rattle.font_base.specs.Bytes.{are_bytes, bytes_of, signed_numeral}
 use Rattle.font_base.specs.Bytes.Laws.{are_bytes-bytes_of, signed_numeral-bytes_of, FitsBits-signed_numeral,
-    bytes_of-signed_numeral, bytes_of_gives}
+    bytes_of-signed_numeral}
 use Rattle.font_base.specs.Scalar.{ScalarLaws}
 use Rattle.font_base.specs.Int24.{int24_number, int24_of, int24_of_bytes, bytes_of_int24}
 
@@ -53,8 +53,8 @@ int24_laws = record {
 }
 
 -- the value whose bytes these are
-pub int24_read : (n : Int24) (bytes : List ℕ) → IsBytesOf 3 (int24_number n) bytes → n ≡ int24_of_bytes bytes
-int24_read n bytes given = sym (int24_back n) ∙ ap int24_of_bytes (sym (bytes_of_gives 3 (int24_number n) bytes given))
+pub int24_read : (n : Int24) (bytes : List ℕ) → bytes ≡ bytes_of 3 (int24_number n) → n ≡ int24_of_bytes bytes
+int24_read n bytes given = sym (int24_back n) ∙ ap int24_of_bytes (sym given)
 
 -- `==` of the numbers joins no two values
 pub int24_identity : (m n : Int24) → Decides (int_eq (int24_number m) (int24_number n)) (m ≡ n)

@@ -6,9 +6,8 @@ use Rattle.std.specs.Bool.{Decides}
 use mathlib.Core.HLevel.{is_prop→PathP}
 use denote.Struct.Props.{props}
 use Rattle.font_base.specs.declared.uint24.Uint24.{Uint24}
-use Rattle.font_base.specs.Bytes.{are_bytes, numeral, bytes_of, IsBytesOf}
-use Rattle.font_base.specs.Bytes.Laws.{are_bytes-bytes_of, numeral-bytes_of, numeral_below, bytes_of-numeral,
-    bytes_of_gives}
+use Rattle.font_base.specs.Bytes.{are_bytes, numeral, bytes_of}
+use Rattle.font_base.specs.Bytes.Laws.{are_bytes-bytes_of, numeral-bytes_of, numeral_below, bytes_of-numeral}
 use Rattle.font_base.specs.Scalar.{ScalarLaws}
 use Rattle.font_base.specs.Uint24.{uint24_number, uint24_of, uint24_of_bytes, bytes_of_uint24}
 
@@ -44,9 +43,8 @@ uint24_laws = record {
 }
 
 -- the value whose bytes these are
-pub uint24_read : (n : Uint24) (bytes : List ℕ) → IsBytesOf 3 (pos (uint24_number n)) bytes → n ≡ uint24_of_bytes bytes
-uint24_read n bytes given = sym (uint24_back n) ∙ ap uint24_of_bytes
-    (sym (bytes_of_gives 3 (pos (uint24_number n)) bytes given))
+pub uint24_read : (n : Uint24) (bytes : List ℕ) → bytes ≡ bytes_of 3 (pos (uint24_number n)) → n ≡ uint24_of_bytes bytes
+uint24_read n bytes given = sym (uint24_back n) ∙ ap uint24_of_bytes (sym given)
 
 -- `==` of the numbers joins no two values
 pub uint24_identity : (m n : Uint24) → Decides (nat_eq (uint24_number m) (uint24_number n)) (m ≡ n)

@@ -14,9 +14,8 @@ use Rattle.font_arithmetic.proofs.Texts.{printed_reads}
 use Rattle.font_types.specs.declared.json.JsonFault.{JsonFault}
 use Rattle.font_types.specs.declared.json.JsonFault.TheVariants.{Memory, WrongKind, OutOfRange, Syntax, NotUtf8,
     InvalidTag, MissingMember}
-use Rattle.font_types.specs.Json.{IsNumber, is_within, ReadsWholeNumber, is_unsigned, ReadsUnsigned, is_within_signed,
-    ReadsSigned, IsTextRead, ReadsDecimal, number_within, IsTagMade, IsTagRead, TagComesBack, version_form,
-    version_read, ReadsVersion}
+use Rattle.font_types.specs.Json.{JsonForm, IsTagRefused, IsNumber, is_within, ReadsWholeNumber, IsTextRead,
+    ReadsDecimal, number_within, IsTagMade, IsTagRead, TagComesBack, version_form, version_read, ReadsVersion}
 use Rattle.std.specs.Cmp.{first_so, second_so}
 use Rattle.std.specs.Cmp.Derive.{both_true}
 use Rattle.std.proofs.lemmas.Bool.{ltb-true}
@@ -62,6 +61,18 @@ fixed_round_trip w f bits_of of_bits back room x d result value shown read =
     (text_reads_back w f (shortest_text (bits_of x) f) (bits_of x) _
         (printed_reads w f (bits_of x) room (fits_bits-true w (bits_of x) value)) text)
 
+-- its shortest decimal
+abbrev pub fixed_form : {T : Type 0} (w f : ℕ) (bits_of : T → ℤ) (of_bits : ℤ → T) → ((x : T) → of_bits (bits_of x) ≡ x)
+    → 2 ^ (w - 1) ≤ 2 ^ 63 → JsonForm T
+fixed_form w f bits_of of_bits back room = record {
+  is_value = λ x. fits_bits w (bits_of x);
+  shows = λ x d. d ≡ string (shortest_text (bits_of x) f);
+  refuses = λ _ fault. fault ≡ Memory;
+  reads = λ d result. ReadsDecimal w f bits_of d result;
+  comes_back = λ x result. result ≡ Ok x;
+  round_trip = fixed_round_trip w f bits_of of_bits back room;
+}
+
 -- ---- whole numbers
 
 -- a number in the range is read as itself
@@ -71,7 +82,7 @@ number_reads_back min max (pos n) within = rw within refl
 number_reads_back min max (negsuc n) within = rw within refl
 
 -- a value whose number determines it
-number_round_trip : {T : Type 0} (number_of : T → ℤ) → ((x y : T) → number_of x ≡ number_of y → x ≡ y)
+pub number_round_trip : {T : Type 0} (number_of : T → ℤ) → ((x y : T) → number_of x ≡ number_of y → x ≡ y)
     → (min max : ℤ) (x : T) (d : Data) (result : Result T JsonFault)
     → IsTrue (is_within min max (number_of x)) → IsNumber (number_of x) d → ReadsWholeNumber min max number_of d result
     → result ≡ Ok x
@@ -85,19 +96,30 @@ number_round_trip number_of same min max x d (Err fault) within shown read =
         (number_reads_back min max (number_of x) within) in
     absurd (cc)
 
-pub signed_round_trip : {T : Type 0} (w : ℕ) (number_of : T → ℤ) → ((x y : T) → number_of x ≡ number_of y → x ≡ y)
-    → (x : T) (d : Data) (result : Result T JsonFault)
-    → IsTrue (is_within_signed w (number_of x)) → IsNumber (number_of x) d → ReadsSigned w number_of d result
-    → result ≡ Ok x
-signed_round_trip w number_of same = number_round_trip number_of same (least w) (greatest w)
+abbrev pub number_form : {T : Type 0} (min max : ℤ) (number_of : T → ℤ)
+    → ((x y : T) → number_of x ≡ number_of y → x ≡ y) → JsonForm T
+number_form min max number_of same = record {
+  is_value = λ x. is_within min max (number_of x);
+  shows = λ x d. IsNumber (number_of x) d;
+  refuses = λ _ _. ⊥;
+  reads = λ d result. ReadsWholeNumber min max number_of d result;
+  comes_back = λ x result. result ≡ Ok x;
+  round_trip = number_round_trip number_of same min max;
+}
 
-pub unsigned_round_trip : {T : Type 0} (w : ℕ) (number_of : T → ℕ) → ((x y : T) → number_of x ≡ number_of y → x ≡ y)
-    → (x : T) (d : Data) (result : Result T JsonFault)
-    → IsTrue (is_unsigned w (number_of x)) → IsNumber (pos (number_of x)) d → ReadsUnsigned w number_of d result
-    → result ≡ Ok x
-unsigned_round_trip w number_of same =
-    number_round_trip (λ y. pos (number_of y)) (λ x y equal. let numbers : number_of x ≡ number_of y = cc in
-        same x y numbers) (pos 0) (pos (2 ^ w - 1))
+-- that of a type of all numbers of w bits in two's complement, and of all of w bits without a sign
+abbrev pub signed_form : {T : Type 0} (w : ℕ) (number_of : T → ℤ) → ((x y : T) → number_of x ≡ number_of y → x ≡ y)
+    → JsonForm T
+signed_form w = number_form (least w) (greatest w)
+
+pub same_natural : {T : Type 0} (number_of : T → ℕ) → ((x y : T) → number_of x ≡ number_of y → x ≡ y) → (x y : T)
+    → pos (number_of x) ≡ pos (number_of y) → x ≡ y
+same_natural number_of same x y equal = let numbers : number_of x ≡ number_of y = cc in same x y numbers
+
+abbrev pub unsigned_form : {T : Type 0} (w : ℕ) (number_of : T → ℕ) → ((x y : T) → number_of x ≡ number_of y → x ≡ y)
+    → JsonForm T
+unsigned_form w number_of same = number_form (pos 0) (pos (2 ^ w - 1)) (λ x. pos (number_of x))
+    (same_natural number_of same)
 
 -- ---- tags
 
@@ -130,6 +152,16 @@ tag_round_trip tag d result value shown read =
     came_back tag (Err Syntax) many made = absurd made
     came_back tag (Err NotUtf8) many made = absurd made
     came_back tag (Err MissingMember) many made = absurd made
+
+abbrev pub tag_form : JsonForm Tag
+tag_form = record {
+  is_value = λ tag. are_bytes 4 (tag_bytes tag);
+  shows = λ tag d. IsUtf8 (tag_bytes tag) × (d ≡ string (tag_bytes tag));
+  refuses = λ tag fault. IsTagRefused (tag_bytes tag) fault;
+  reads = λ d result. IsTagRead (as_str d) result;
+  comes_back = TagComesBack;
+  round_trip = tag_round_trip;
+}
 
 -- ---- versions of two numbers
 
@@ -165,3 +197,13 @@ version_round_trip version d result value shown read =
         let minor : other.minor ≡ version.minor = cc in
         ap Ok (λ i. record { major = major i; minor = minor i })
     came_back version (Err fault) same = absurd (cc)
+
+abbrev pub version_form_of : JsonForm MajorMinor
+version_form_of = record {
+  is_value = λ version. nat_lt version.major (2 ^ 16) && nat_lt version.minor (2 ^ 16);
+  shows = λ version d. d ≡ version_form version.major version.minor;
+  refuses = λ _ fault. fault ≡ Memory;
+  reads = λ d result. ReadsVersion d result;
+  comes_back = λ x result. result ≡ Ok x;
+  round_trip = version_round_trip;
+}

@@ -1,19 +1,15 @@
 //! Fixed-point numbers as texts, the shortest decimals of their values.
 
-ghost use Rattle.std.specs.Prelude.{◌≡◌, Ok, refl};
+ghost use Rattle.std.specs.Prelude.{Ok, refl};
 ghost use Rattle.std.proofs.Common.{lit≤};
-ghost use Rattle.serde_json.specs.Data.{string};
-ghost use Rattle.font_base.specs.Wrap.{fits_bits};
-ghost use Rattle.font_fixed.specs.Fixed.{fixed_bits, fixed_of, fixed_text};
-ghost use Rattle.font_fixed.specs.F2Dot14.{f2dot14_bits, f2dot14_of, f2dot14_text};
-ghost use Rattle.font_f26.specs.F26Dot6.{f26dot6_bits, f26dot6_of, f26dot6_text};
-ghost use Rattle.font_fixed.specs.F48Dot16.{f48dot16_bits, f48dot16_of, f48dot16_text};
-ghost use Rattle.font_fixed2.specs.F4Dot12.{f4dot12_bits, f4dot12_of, f4dot12_text};
-ghost use Rattle.font_fixed2.specs.F6Dot10.{f6dot10_bits, f6dot10_of, f6dot10_text};
-ghost use Rattle.font_fixed2.specs.F2Dot30.{f2dot30_bits, f2dot30_of, f2dot30_text};
-ghost use Rattle.font_types.specs.Json.{ReadsDecimal};
-ghost use Rattle.font_types.specs.Json.Laws.{fixed_round_trip};
-ghost use Rattle.font_types.specs.declared.json.JsonFault.TheVariants.{Memory};
+ghost use Rattle.font_fixed.specs.Fixed.{fixed_bits, fixed_of};
+ghost use Rattle.font_fixed.specs.F2Dot14.{f2dot14_bits, f2dot14_of};
+ghost use Rattle.font_f26.specs.F26Dot6.{f26dot6_bits, f26dot6_of};
+ghost use Rattle.font_fixed.specs.F48Dot16.{f48dot16_bits, f48dot16_of};
+ghost use Rattle.font_fixed2.specs.F4Dot12.{f4dot12_bits, f4dot12_of};
+ghost use Rattle.font_fixed2.specs.F6Dot10.{f6dot10_bits, f6dot10_of};
+ghost use Rattle.font_fixed2.specs.F2Dot30.{f2dot30_bits, f2dot30_of};
+ghost use Rattle.font_types.specs.Json.Laws.{fixed_form};
 
 use super::{JsonFault, JsonScalar, text_or_fault};
 use font_fixed::{F2Dot14, F26Dot6, F48Dot16, Fixed};
@@ -22,15 +18,7 @@ use serde_json::Value;
 use std::alloc::Global;
 
 impl JsonScalar for F2Dot14 {
-    ghost is_value = { λ x. fits_bits 16 (f2dot14_bits x) };
-
-    ghost shows = { λ x d. d ≡ string (f2dot14_text x) };
-
-    ghost refuses = { λ _ fault. fault ≡ Memory };
-
-    ghost reads = { λ d result. ReadsDecimal 16 14 f2dot14_bits d result };
-
-    ghost round_trip = { fixed_round_trip 16 14 f2dot14_bits f2dot14_of (λ _. refl) (lit≤ tt) };
+    ghost form = { fixed_form 16 14 f2dot14_bits f2dot14_of (λ _. refl) (lit≤ tt) };
 
     fn to_json(self, alloc: Global) -> Result<Value, JsonFault> {
         Ok(Value::String(format!(in alloc; "{self}")?))
@@ -42,15 +30,7 @@ impl JsonScalar for F2Dot14 {
 }
 
 impl JsonScalar for Fixed {
-    ghost is_value = { λ x. fits_bits 32 (fixed_bits x) };
-
-    ghost shows = { λ x d. d ≡ string (fixed_text x) };
-
-    ghost refuses = { λ _ fault. fault ≡ Memory };
-
-    ghost reads = { λ d result. ReadsDecimal 32 16 fixed_bits d result };
-
-    ghost round_trip = { fixed_round_trip 32 16 fixed_bits fixed_of (λ _. refl) (lit≤ tt) };
+    ghost form = { fixed_form 32 16 fixed_bits fixed_of (λ _. refl) (lit≤ tt) };
 
     fn to_json(self, alloc: Global) -> Result<Value, JsonFault> {
         Ok(Value::String(format!(in alloc; "{self}")?))
@@ -62,15 +42,7 @@ impl JsonScalar for Fixed {
 }
 
 impl JsonScalar for F26Dot6 {
-    ghost is_value = { λ x. fits_bits 32 (f26dot6_bits x) };
-
-    ghost shows = { λ x d. d ≡ string (f26dot6_text x) };
-
-    ghost refuses = { λ _ fault. fault ≡ Memory };
-
-    ghost reads = { λ d result. ReadsDecimal 32 6 f26dot6_bits d result };
-
-    ghost round_trip = { fixed_round_trip 32 6 f26dot6_bits f26dot6_of (λ _. refl) (lit≤ tt) };
+    ghost form = { fixed_form 32 6 f26dot6_bits f26dot6_of (λ _. refl) (lit≤ tt) };
 
     fn to_json(self, alloc: Global) -> Result<Value, JsonFault> {
         Ok(Value::String(format!(in alloc; "{self}")?))
@@ -82,15 +54,7 @@ impl JsonScalar for F26Dot6 {
 }
 
 impl JsonScalar for F48Dot16 {
-    ghost is_value = { λ x. fits_bits 64 (f48dot16_bits x) };
-
-    ghost shows = { λ x d. d ≡ string (f48dot16_text x) };
-
-    ghost refuses = { λ _ fault. fault ≡ Memory };
-
-    ghost reads = { λ d result. ReadsDecimal 64 16 f48dot16_bits d result };
-
-    ghost round_trip = { fixed_round_trip 64 16 f48dot16_bits f48dot16_of (λ _. refl) (lit≤ tt) };
+    ghost form = { fixed_form 64 16 f48dot16_bits f48dot16_of (λ _. refl) (lit≤ tt) };
 
     fn to_json(self, alloc: Global) -> Result<Value, JsonFault> {
         Ok(Value::String(format!(in alloc; "{self}")?))
@@ -102,15 +66,7 @@ impl JsonScalar for F48Dot16 {
 }
 
 impl JsonScalar for F4Dot12 {
-    ghost is_value = { λ x. fits_bits 16 (f4dot12_bits x) };
-
-    ghost shows = { λ x d. d ≡ string (f4dot12_text x) };
-
-    ghost refuses = { λ _ fault. fault ≡ Memory };
-
-    ghost reads = { λ d result. ReadsDecimal 16 12 f4dot12_bits d result };
-
-    ghost round_trip = { fixed_round_trip 16 12 f4dot12_bits f4dot12_of (λ _. refl) (lit≤ tt) };
+    ghost form = { fixed_form 16 12 f4dot12_bits f4dot12_of (λ _. refl) (lit≤ tt) };
 
     fn to_json(self, alloc: Global) -> Result<Value, JsonFault> {
         Ok(Value::String(format!(in alloc; "{self}")?))
@@ -122,15 +78,7 @@ impl JsonScalar for F4Dot12 {
 }
 
 impl JsonScalar for F6Dot10 {
-    ghost is_value = { λ x. fits_bits 16 (f6dot10_bits x) };
-
-    ghost shows = { λ x d. d ≡ string (f6dot10_text x) };
-
-    ghost refuses = { λ _ fault. fault ≡ Memory };
-
-    ghost reads = { λ d result. ReadsDecimal 16 10 f6dot10_bits d result };
-
-    ghost round_trip = { fixed_round_trip 16 10 f6dot10_bits f6dot10_of (λ _. refl) (lit≤ tt) };
+    ghost form = { fixed_form 16 10 f6dot10_bits f6dot10_of (λ _. refl) (lit≤ tt) };
 
     fn to_json(self, alloc: Global) -> Result<Value, JsonFault> {
         Ok(Value::String(format!(in alloc; "{self}")?))
@@ -142,15 +90,7 @@ impl JsonScalar for F6Dot10 {
 }
 
 impl JsonScalar for F2Dot30 {
-    ghost is_value = { λ x. fits_bits 32 (f2dot30_bits x) };
-
-    ghost shows = { λ x d. d ≡ string (f2dot30_text x) };
-
-    ghost refuses = { λ _ fault. fault ≡ Memory };
-
-    ghost reads = { λ d result. ReadsDecimal 32 30 f2dot30_bits d result };
-
-    ghost round_trip = { fixed_round_trip 32 30 f2dot30_bits f2dot30_of (λ _. refl) (lit≤ tt) };
+    ghost form = { fixed_form 32 30 f2dot30_bits f2dot30_of (λ _. refl) (lit≤ tt) };
 
     fn to_json(self, alloc: Global) -> Result<Value, JsonFault> {
         Ok(Value::String(format!(in alloc; "{self}")?))

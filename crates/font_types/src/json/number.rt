@@ -1,6 +1,6 @@
 //! Whole numbers as numbers. None is ever refused.
 
-ghost use Rattle.std.specs.Prelude.{pos, Ok};
+ghost use Rattle.std.specs.Prelude.{Ok};
 ghost use Rattle.std.proofs.Common.{ap};
 ghost use Rattle.font_base.specs.Uint24.{uint24_number};
 ghost use Rattle.font_base.specs.Uint24.Laws.{same_uint24};
@@ -14,9 +14,7 @@ ghost use Rattle.font_ids.specs.GlyphId.{glyph_number};
 ghost use Rattle.font_ids.specs.NameId.{name_number, name_id_of};
 ghost use Rattle.font_ids.specs.Offset.{offset16_number, offset16_of, offset24_number, offset24_of};
 ghost use Rattle.font_ids.specs.Offset.{offset32_number, offset32_of};
-ghost use Rattle.font_types.specs.Json.{IsNumber, is_unsigned, ReadsUnsigned, is_within_signed};
-ghost use Rattle.font_types.specs.Json.{ReadsSigned};
-ghost use Rattle.font_types.specs.Json.Laws.{unsigned_round_trip, signed_round_trip};
+ghost use Rattle.font_types.specs.Json.Laws.{unsigned_form, signed_form};
 
 use super::{JsonFault, JsonScalar, natural, number_within};
 use font_base::{Int24, Scalar, Uint24};
@@ -28,15 +26,7 @@ use serde_json::Value;
 use std::alloc::Global;
 
 impl JsonScalar for Uint24 {
-    ghost is_value = { λ x. is_unsigned 24 (uint24_number x) };
-
-    ghost shows = { λ x d. IsNumber (pos (uint24_number x)) d };
-
-    ghost refuses = { λ _ _. ⊥ };
-
-    ghost reads = { λ d result. ReadsUnsigned 24 uint24_number d result };
-
-    ghost round_trip = { unsigned_round_trip 24 uint24_number same_uint24 };
+    ghost form = { unsigned_form 24 uint24_number same_uint24 };
 
     fn to_json(self, _alloc: Global) -> Result<Value, JsonFault> {
         Ok(Value::from(self.to_u32()))
@@ -48,15 +38,7 @@ impl JsonScalar for Uint24 {
 }
 
 impl JsonScalar for Int24 {
-    ghost is_value = { λ x. is_within_signed 24 (int24_number x) };
-
-    ghost shows = { λ x d. IsNumber (int24_number x) d };
-
-    ghost refuses = { λ _ _. ⊥ };
-
-    ghost reads = { λ d result. ReadsSigned 24 int24_number d result };
-
-    ghost round_trip = { signed_round_trip 24 int24_number same_int24 };
+    ghost form = { signed_form 24 int24_number same_int24 };
 
     fn to_json(self, _alloc: Global) -> Result<Value, JsonFault> {
         Ok(Value::from(self.to_i32()))
@@ -68,15 +50,7 @@ impl JsonScalar for Int24 {
 }
 
 impl JsonScalar for FWord {
-    ghost is_value = { λ x. is_within_signed 16 (fword_number x) };
-
-    ghost shows = { λ x d. IsNumber (fword_number x) d };
-
-    ghost refuses = { λ _ _. ⊥ };
-
-    ghost reads = { λ d result. ReadsSigned 16 fword_number d result };
-
-    ghost round_trip = { signed_round_trip 16 fword_number (λ _ _ same. ap fword_of same) };
+    ghost form = { signed_form 16 fword_number (λ _ _ same. ap fword_of same) };
 
     fn to_json(self, _alloc: Global) -> Result<Value, JsonFault> {
         Ok(Value::from(self.to_i16()))
@@ -88,15 +62,7 @@ impl JsonScalar for FWord {
 }
 
 impl JsonScalar for UfWord {
-    ghost is_value = { λ x. is_unsigned 16 (ufword_number x) };
-
-    ghost shows = { λ x d. IsNumber (pos (ufword_number x)) d };
-
-    ghost refuses = { λ _ _. ⊥ };
-
-    ghost reads = { λ d result. ReadsUnsigned 16 ufword_number d result };
-
-    ghost round_trip = { unsigned_round_trip 16 ufword_number (λ _ _ same. ap ufword_of same) };
+    ghost form = { unsigned_form 16 ufword_number (λ _ _ same. ap ufword_of same) };
 
     fn to_json(self, _alloc: Global) -> Result<Value, JsonFault> {
         Ok(Value::from(self.to_u16()))
@@ -108,15 +74,7 @@ impl JsonScalar for UfWord {
 }
 
 impl JsonScalar for GlyphId16 {
-    ghost is_value = { λ x. is_unsigned 16 (glyph16_number x) };
-
-    ghost shows = { λ x d. IsNumber (pos (glyph16_number x)) d };
-
-    ghost refuses = { λ _ _. ⊥ };
-
-    ghost reads = { λ d result. ReadsUnsigned 16 glyph16_number d result };
-
-    ghost round_trip = { unsigned_round_trip 16 glyph16_number (λ _ _ same. ap glyph16_of same) };
+    ghost form = { unsigned_form 16 glyph16_number (λ _ _ same. ap glyph16_of same) };
 
     fn to_json(self, _alloc: Global) -> Result<Value, JsonFault> {
         Ok(Value::from(self.to_u16()))
@@ -128,16 +86,7 @@ impl JsonScalar for GlyphId16 {
 }
 
 impl JsonScalar for GlyphId24 {
-    ghost is_value = { λ x. is_unsigned 24 (glyph24_number x) };
-
-    ghost shows = { λ x d. IsNumber (pos (glyph24_number x)) d };
-
-    ghost refuses = { λ _ _. ⊥ };
-
-    ghost reads = { λ d result. ReadsUnsigned 24 glyph24_number d result };
-
-    ghost round_trip = { unsigned_round_trip 24 glyph24_number
-        (λ x y same. ap glyph24_of (same_uint24 x.0 y.0 same)) };
+    ghost form = { unsigned_form 24 glyph24_number (λ x y same. ap glyph24_of (same_uint24 x.0 y.0 same)) };
 
     fn to_json(self, _alloc: Global) -> Result<Value, JsonFault> {
         Ok(Value::from(self.to_u32()))
@@ -149,16 +98,7 @@ impl JsonScalar for GlyphId24 {
 }
 
 impl JsonScalar for GlyphId {
-    ghost is_value = { λ x. is_unsigned 32 (glyph_number x) };
-
-    ghost shows = { λ x d. IsNumber (pos (glyph_number x)) d };
-
-    ghost refuses = { λ _ _. ⊥ };
-
-    ghost reads = { λ d result. ReadsUnsigned 32 glyph_number d result };
-
-    ghost round_trip = { unsigned_round_trip 32 glyph_number
-        (λ _ _ same. ap (λ n. record { 0 = n }) same) };
+    ghost form = { unsigned_form 32 glyph_number (λ _ _ same. ap (λ n. record { 0 = n }) same) };
 
     fn to_json(self, _alloc: Global) -> Result<Value, JsonFault> {
         Ok(Value::from(self.to_u32()))
@@ -170,15 +110,7 @@ impl JsonScalar for GlyphId {
 }
 
 impl JsonScalar for LongDateTime {
-    ghost is_value = { λ x. is_within_signed 64 (date_seconds x) };
-
-    ghost shows = { λ x d. IsNumber (date_seconds x) d };
-
-    ghost refuses = { λ _ _. ⊥ };
-
-    ghost reads = { λ d result. ReadsSigned 64 date_seconds d result };
-
-    ghost round_trip = { signed_round_trip 64 date_seconds (λ _ _ same. ap date_of same) };
+    ghost form = { signed_form 64 date_seconds (λ _ _ same. ap date_of same) };
 
     fn to_json(self, _alloc: Global) -> Result<Value, JsonFault> {
         Ok(Value::from(self.as_secs()))
@@ -190,15 +122,7 @@ impl JsonScalar for LongDateTime {
 }
 
 impl JsonScalar for NameId {
-    ghost is_value = { λ x. is_unsigned 16 (name_number x) };
-
-    ghost shows = { λ x d. IsNumber (pos (name_number x)) d };
-
-    ghost refuses = { λ _ _. ⊥ };
-
-    ghost reads = { λ d result. ReadsUnsigned 16 name_number d result };
-
-    ghost round_trip = { unsigned_round_trip 16 name_number (λ _ _ same. ap name_id_of same) };
+    ghost form = { unsigned_form 16 name_number (λ _ _ same. ap name_id_of same) };
 
     fn to_json(self, _alloc: Global) -> Result<Value, JsonFault> {
         Ok(Value::from(self.to_u16()))
@@ -210,15 +134,7 @@ impl JsonScalar for NameId {
 }
 
 impl JsonScalar for Offset16 {
-    ghost is_value = { λ x. is_unsigned 16 (offset16_number x) };
-
-    ghost shows = { λ x d. IsNumber (pos (offset16_number x)) d };
-
-    ghost refuses = { λ _ _. ⊥ };
-
-    ghost reads = { λ d result. ReadsUnsigned 16 offset16_number d result };
-
-    ghost round_trip = { unsigned_round_trip 16 offset16_number (λ _ _ same. ap offset16_of same) };
+    ghost form = { unsigned_form 16 offset16_number (λ _ _ same. ap offset16_of same) };
 
     fn to_json(self, _alloc: Global) -> Result<Value, JsonFault> {
         Ok(Value::from(self.to_u32()))
@@ -230,16 +146,7 @@ impl JsonScalar for Offset16 {
 }
 
 impl JsonScalar for Offset24 {
-    ghost is_value = { λ x. is_unsigned 24 (offset24_number x) };
-
-    ghost shows = { λ x d. IsNumber (pos (offset24_number x)) d };
-
-    ghost refuses = { λ _ _. ⊥ };
-
-    ghost reads = { λ d result. ReadsUnsigned 24 offset24_number d result };
-
-    ghost round_trip = { unsigned_round_trip 24 offset24_number
-        (λ x y same. ap offset24_of (same_uint24 x.0 y.0 same)) };
+    ghost form = { unsigned_form 24 offset24_number (λ x y same. ap offset24_of (same_uint24 x.0 y.0 same)) };
 
     fn to_json(self, _alloc: Global) -> Result<Value, JsonFault> {
         Ok(Value::from(self.to_u32()))
@@ -251,15 +158,7 @@ impl JsonScalar for Offset24 {
 }
 
 impl JsonScalar for Offset32 {
-    ghost is_value = { λ x. is_unsigned 32 (offset32_number x) };
-
-    ghost shows = { λ x d. IsNumber (pos (offset32_number x)) d };
-
-    ghost refuses = { λ _ _. ⊥ };
-
-    ghost reads = { λ d result. ReadsUnsigned 32 offset32_number d result };
-
-    ghost round_trip = { unsigned_round_trip 32 offset32_number (λ _ _ same. ap offset32_of same) };
+    ghost form = { unsigned_form 32 offset32_number (λ _ _ same. ap offset32_of same) };
 
     fn to_json(self, _alloc: Global) -> Result<Value, JsonFault> {
         Ok(Value::from(self.to_u32()))
@@ -272,15 +171,7 @@ impl JsonScalar for Offset32 {
 
 #[tactic(auto, using(crate::proofs::JsonLemmas::four_bytes))]
 impl JsonScalar for Version16Dot16 {
-    ghost is_value = { λ x. is_unsigned 32 (version_bits x) };
-
-    ghost shows = { λ x d. IsNumber (pos (version_bits x)) d };
-
-    ghost refuses = { λ _ _. ⊥ };
-
-    ghost reads = { λ d result. ReadsUnsigned 32 version_bits d result };
-
-    ghost round_trip = { unsigned_round_trip 32 version_bits (λ _ _ same. ap version_of same) };
+    ghost form = { unsigned_form 32 version_bits (λ _ _ same. ap version_of same) };
 
     fn to_json(self, _alloc: Global) -> Result<Value, JsonFault> {
         Ok(Value::from(u32::from_raw(self.to_raw())))

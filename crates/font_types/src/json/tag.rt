@@ -6,7 +6,7 @@ ghost use Rattle.serde_json.specs.Find.{as_str};
 ghost use Rattle.font_base.specs.Bytes.{are_bytes};
 ghost use Rattle.font_tags.specs.Tag.{tag_bytes};
 ghost use Rattle.font_types.specs.Json.{IsTagRefused, IsTagRead, TagComesBack};
-ghost use Rattle.font_types.specs.Json.Laws.{tag_round_trip};
+ghost use Rattle.font_types.specs.Json.Laws.{tag_form};
 
 use super::{JsonFault, JsonScalar, text_or_fault};
 use font_base::Scalar;
@@ -15,17 +15,7 @@ use serde_json::Value;
 use std::alloc::Global;
 
 impl JsonScalar for Tag {
-    ghost is_value = { λ tag. are_bytes 4 (tag_bytes tag) };
-
-    ghost shows = { λ tag d. IsUtf8 (tag_bytes tag) × (d ≡ string (tag_bytes tag)) };
-
-    ghost refuses = { λ tag fault. IsTagRefused (tag_bytes tag) fault };
-
-    ghost reads = { λ d result. IsTagRead (as_str d) result };
-
-    ghost comes_back = { TagComesBack };
-
-    ghost round_trip = { tag_round_trip };
+    ghost form = { tag_form };
 
     fn to_json(self, alloc: Global) -> Result<Value, JsonFault> {
         let bytes = self.to_raw();

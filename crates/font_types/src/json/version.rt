@@ -4,7 +4,7 @@ ghost use Rattle.std.specs.Prelude.{◌≡◌, ◌^◌, ◌&&◌, nat_lt, pos};
 ghost use Rattle.std.specs.Result.{result_map_both};
 ghost use Rattle.serde_json.specs.View.{view};
 ghost use Rattle.font_types.specs.Json.{version_form, ReadsVersion, member_number};
-ghost use Rattle.font_types.specs.Json.Laws.{version_round_trip};
+ghost use Rattle.font_types.specs.Json.Laws.{version_form_of};
 ghost use Rattle.font_types.specs.declared.json.JsonFault.TheVariants.{Memory};
 
 use super::{JsonFault, JsonScalar, natural};
@@ -13,15 +13,7 @@ use serde_json::{Value, json};
 use std::alloc::Global;
 
 impl JsonScalar for MajorMinor {
-    ghost is_value = { λ version. nat_lt version.major (2 ^ 16) && nat_lt version.minor (2 ^ 16) };
-
-    ghost shows = { λ version d. d ≡ version_form version.major version.minor };
-
-    ghost refuses = { λ _ fault. fault ≡ Memory };
-
-    ghost reads = { λ d result. ReadsVersion d result };
-
-    ghost round_trip = { version_round_trip };
+    ghost form = { version_form_of };
 
     fn to_json(self, alloc: Global) -> Result<Value, JsonFault> {
         let MajorMinor { major, minor } = self;

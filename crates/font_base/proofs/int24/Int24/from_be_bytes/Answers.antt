@@ -1,6 +1,6 @@
-use Rattle.std.proofs.Common.{arith, pos, negsuc}
+use Rattle.std.proofs.Common.{◌∙◌, sym, arith, pos, negsuc}
 use Rattle.std.proofs.lemmas.Int.{ints}
-use Rattle.font_base.specs.Bytes.Laws.{IsBytesOf-apart}
+use Rattle.font_base.specs.Bytes.Laws.{bytes_of-same}
 use Rattle.font_base.specs.Wrap.{FitsBits}
 use Rattle.font_base.proofs.TwentyFourBits.{int24_numeral}
 use Rattle.font_base.proofs.int24.Int24.from_be_bytes.Goals as goal
@@ -8,8 +8,8 @@ use Rattle.font_base.proofs.int24.Int24.from_be_bytes.Goals.{then-unsigned, else
 
 pub returns-clause-bytes : goal.returns-clause-bytes
 returns-clause-bytes c = elim c.if-unsigned.branch [
-  | then-unsigned w ↦ IsBytesOf-apart 3 _ _ (negsuc 0) c.args.bytes (omega (arith, ints)) c.from_be_bytes.ensures.bytes
-  | else-unsigned w ↦ IsBytesOf-apart 3 _ _ (pos 0) c.args.bytes (omega (arith, ints)) c.from_be_bytes.ensures.bytes
+  | then-unsigned w ↦ c.from_be_bytes.ensures.bytes ∙ sym (bytes_of-same 3 _ _ (negsuc 0) (omega (arith, ints)))
+  | else-unsigned w ↦ c.from_be_bytes.ensures.bytes ∙ sym (bytes_of-same 3 _ _ (pos 0) (omega (arith, ints)))
 ]
 
 pub returns-clause-number : goal.returns-clause-number

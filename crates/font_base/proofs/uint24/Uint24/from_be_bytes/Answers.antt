@@ -1,4 +1,5 @@
 use Rattle.std.proofs.Common.{rules}
+use Rattle.font_base.specs.Bytes.Laws.{bytes_of_gives}
 use Rattle.font_base.proofs.ThreeBytes.{from_three}
 use Rattle.font_base.proofs.TwentyFourBits.{uint24_numeral}
 use Rattle.font_base.proofs.uint24.Uint24.from_be_bytes.Goals as goal
@@ -6,8 +7,9 @@ use Rattle.font_base.proofs.uint24.Uint24.from_be_bytes.Goals as goal
 pub returns-clause-bytes : goal.returns-clause-bytes
 returns-clause-bytes c =
     let slice = c.as_slice-bytes.ensures in
-    from_three c.args.bytes _ c.from.result c.from-2.result c.from-3.result slice.value slice.bytes c.from.ensures
-        c.from-2.ensures c.from-3.ensures
+    bytes_of_gives 3 _ c.args.bytes
+    (from_three c.args.bytes _ c.from.result c.from-2.result c.from-3.result slice.value slice.bytes c.from.ensures
+        c.from-2.ensures c.from-3.ensures)
 
 pub returns-clause-number : goal.returns-clause-number
 returns-clause-number c = uint24_numeral _ c.args.bytes (search rules) (returns-clause-bytes c)

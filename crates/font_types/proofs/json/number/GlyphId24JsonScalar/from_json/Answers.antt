@@ -3,13 +3,11 @@ use Rattle.std.proofs.lemmas.Grind.{common_steps}
 use Rattle.serde_json.specs.View.{view}
 use Rattle.font_base.specs.Uint24.Laws.{same_uint24}
 use Rattle.font_ids.specs.GlyphId.{glyph24_number, glyph24_of}
-use Rattle.font_types.specs.Json.{ReadsUnsigned}
-use Rattle.font_types.specs.Json.Laws.{unsigned_round_trip}
+use Rattle.font_types.specs.Json.Laws.{unsigned_form}
 use Rattle.font_types.proofs.json.number.GlyphId24JsonScalar.from_json.Goals as goal
 
 pub returns-clause-back : goal.returns-clause-back
 returns-clause-back c = λ v value shown.
-    let read : ReadsUnsigned 24 glyph24_number (view c.args.value.now) (Ok c.new.result) = grind
-        (arith, common_steps) in
-    unsigned_round_trip 24 glyph24_number (λ x y same. ap glyph24_of (same_uint24 x.0 y.0 same)) v _
-        (Ok c.new.result) value shown read
+    let form = unsigned_form 24 glyph24_number (λ x y same. ap glyph24_of (same_uint24 x.0 y.0 same)) in
+    let read : form.reads (view c.args.value.now) (Ok c.new.result) = grind (arith, common_steps) in
+    form.round_trip v _ (Ok c.new.result) value shown read

@@ -3,11 +3,11 @@ use Rattle.std.proofs.lemmas.Grind.{common_steps}
 use Rattle.serde_json.specs.View.{view}
 use Rattle.font_base.specs.Int24.{int24_number}
 use Rattle.font_base.specs.Int24.Laws.{same_int24}
-use Rattle.font_types.specs.Json.{ReadsSigned}
-use Rattle.font_types.specs.Json.Laws.{signed_round_trip}
+use Rattle.font_types.specs.Json.Laws.{signed_form}
 use Rattle.font_types.proofs.json.number.Int24JsonScalar.from_json.Goals as goal
 
 pub returns-clause-back : goal.returns-clause-back
 returns-clause-back c = λ v value shown.
-    let read : ReadsSigned 24 int24_number (view c.args.value.now) (Ok c.new.result) = grind (arith, common_steps) in
-    signed_round_trip 24 int24_number same_int24 v _ (Ok c.new.result) value shown read
+    let form = signed_form 24 int24_number same_int24 in
+    let read : form.reads (view c.args.value.now) (Ok c.new.result) = grind (arith, common_steps) in
+    form.round_trip v _ (Ok c.new.result) value shown read
