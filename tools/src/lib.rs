@@ -1,0 +1,9 @@
+//! What the programs of this folder share: exact answers, by whole numbers and with no use of the
+//! library, and the files of the repository.
+
+pub mod exact;
+pub mod lists;
+pub mod pages;
+pub mod program;
+pub mod repository;
+pub mod table;

@@ -1,0 +1,168 @@
+//! What pages say that a program can check.
+
+use crate::repository::{self, files, text};
+
+/// Something on a page that is not so.
+pub struct Slip {
+    pub page: String,
+    pub what: String,
+}
+
+/// All pages.
+pub fn pages() -> Vec<String> {
+    files("", ".md")
+}
+
+/// All slips of all pages.
+pub fn slips() -> Vec<Slip> {
+    let counts = counts();
+    let sources = sources();
+    let mut slips = Vec::new();
+    for page in pages() {
+        let body = text(&page);
+        let found = counted(&body, &counts)
+            .into_iter()
+            .chain(dead_links(&page, &body))
+            .chain(dead_paths(&body))
+            .chain(strange_code(&body, &sources))
+            .chain(wide_lines(&body));
+        slips.extend(found.map(|what| Slip {
+            page: page.clone(),
+            what,
+        }));
+    }
+    slips
+}
+
+// What is counted, and how many there are.
+fn counts() -> Vec<(&'static str, usize)> {
+    let edits = files("crates", ".edit").len();
+    let all = |folder: &str, word: &str| -> usize {
+        let sources = files(folder, ".rt");
+        sources
+            .iter()
+            .map(|path| text(path).matches(word).count())
+            .sum()
+    };
+    let exports = all("crates/font_c/src", "extern \"C\" fn");
+    let forms = all("crates/font_types/src/json", "JsonScalar for");
+    let lines = text("crates/fontval/stdout").lines().count();
+    vec![
+        ("wrong bodies", edits),
+        ("exports", exports),
+        ("JSON forms", forms),
+        ("stored lines", lines),
+    ]
+}
+
+// The counts of a page that are wrong.
+fn counted(body: &str, counts: &[(&str, usize)]) -> Vec<String> {
+    let words: Vec<&str> = body.split_whitespace().collect();
+    let mut wrong = Vec::new();
+    for (name, count) in counts {
+        let parts: Vec<&str> = name.split(' ').collect();
+        for run in words.windows(parts.len() + 1) {
+            let named = run[1..]
+                .iter()
+                .zip(&parts)
+                .all(|(word, part)| word.starts_with(part));
+            let number: Option<usize> = run[0].replace(',', "").parse().ok();
+            if let (true, Some(number)) = (named, number.filter(|number| number != count)) {
+                wrong.push(format!("{number} {name}, where there are {count}"));
+            }
+        }
+    }
+    wrong
+}
+
+// The links that lead nowhere.
+fn dead_links(page: &str, body: &str) -> Vec<String> {
+    let folder = repository::root().join(page);
+    let folder = folder.parent().unwrap();
+    let targets = body
+        .split("](")
+        .skip(1)
+        .filter_map(|rest| rest.split(')').next());
+    let local = targets.filter(|target| !target.contains("://") && !target.starts_with('#'));
+    local
+        .filter(|target| !folder.join(target.split('#').next().unwrap()).exists())
+        .map(|target| format!("no {target} is there"))
+        .collect()
+}
+
+// The paths from the root that lead nowhere.
+fn dead_paths(body: &str) -> Vec<String> {
+    let quoted = prose(body)
+        .split('`')
+        .skip(1)
+        .step_by(2)
+        .map(String::from)
+        .collect::<Vec<_>>();
+    let roots = ["crates/", "docs/", "rust/", "compare/", "tools/", ".ci/"];
+    let is_path = |word: &&String| {
+        roots.iter().any(|root| word.starts_with(root))
+            && !word.contains([' ', '*', '<', '{'])
+            && !word.contains("NAME")
+            && !word.contains("TYPE")
+    };
+    quoted
+        .iter()
+        .filter(is_path)
+        .filter(|path| !repository::root().join(path).exists())
+        .map(|path| format!("no {path} is there"))
+        .collect()
+}
+
+// The page without its blocks of code.
+fn prose(body: &str) -> String {
+    body.split("```").step_by(2).collect()
+}
+
+// The files that a check compiles, proves or runs.
+fn sources() -> Vec<String> {
+    let endings = [".rt", ".antt", ".rs", ".c", ".cpp", ".h"];
+    let paths = endings.iter().flat_map(|ending| files("", ending));
+    paths.map(|path| squeezed(&text(&path))).collect()
+}
+
+// The lines with no indentation, comments of a line of their own or empty lines.
+fn squeezed(code: &str) -> String {
+    let lines = code
+        .lines()
+        .map(str::trim)
+        .filter(|line| !line.is_empty() && !line.starts_with("-- ") && !line.starts_with("// "));
+    lines.collect::<Vec<_>>().join("\n") + "\n"
+}
+
+// The paragraphs of code that stand in no file as they are.
+fn strange_code(body: &str, sources: &[String]) -> Vec<String> {
+    let blocks = body.split("```").skip(1).step_by(2);
+    let checked = blocks.filter_map(|block| {
+        let (language, code) = block.split_once('\n')?;
+        ["rust", "c", "cpp", "antt"]
+            .contains(&language)
+            .then_some(code)
+    });
+    let paragraphs = checked.flat_map(|code| code.split("\n\n")).map(squeezed);
+    paragraphs
+        .filter(|code| {
+            !code.trim().is_empty() && !code.starts_with("ghost use") && !code.starts_with("use ")
+        })
+        .filter(|code| !sources.iter().any(|source| source.contains(code.as_str())))
+        .map(|code| {
+            format!(
+                "code that stands in no file: {}",
+                code.lines().next().unwrap()
+            )
+        })
+        .collect()
+}
+
+// The lines of more than 120 columns, but for tables and links.
+fn wide_lines(body: &str) -> Vec<String> {
+    let wide = body
+        .lines()
+        .filter(|line| line.chars().count() > 120 && !line.starts_with('|'));
+    wide.map(|line| format!("a wide line: {}", line.chars().take(40).collect::<String>()))
+        .collect()
+}

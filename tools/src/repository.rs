@@ -1,0 +1,55 @@
+//! The files of the repository.
+
+use std::fs;
+use std::path::{Path, PathBuf};
+
+/// The folder above this one.
+pub fn root() -> PathBuf {
+    Path::new(env!("CARGO_MANIFEST_DIR")).join("..")
+}
+
+/// What stands in a file, by its path from the root.
+pub fn text(path: &str) -> String {
+    let path = root().join(path);
+    fs::read_to_string(&path).unwrap_or_else(|error| panic!("{}: {error}", path.display()))
+}
+
+/// The files with this ending in a folder and below it, by their paths from the root, in order.
+pub fn files(folder: &str, ending: &str) -> Vec<String> {
+    let mut found = Vec::new();
+    let Ok(entries) = fs::read_dir(root().join(folder)) else {
+        return found;
+    };
+    for entry in entries.flatten() {
+        let name = entry.file_name().into_string().unwrap();
+        let path = if folder.is_empty() {
+            name.clone()
+        } else {
+            format!("{folder}/{name}")
+        };
+        match entry.file_type() {
+            Ok(kind) if kind.is_dir() && !["out", "target", ".git"].contains(&name.as_str()) => {
+                found.extend(files(&path, ending));
+            }
+            Ok(kind) if kind.is_file() && name.ends_with(ending) => found.push(path),
+            _ => {}
+        }
+    }
+    found.sort();
+    found
+}
+
+/// Writes a file where `write` is set, or compares it; whether it is as it should be then.
+pub fn keep(path: &str, right: &[u8], write: bool) -> bool {
+    let file = root().join(path);
+    if fs::read(&file).is_ok_and(|bytes| bytes == right) {
+        return true;
+    }
+    if write {
+        fs::write(&file, right).unwrap();
+        println!("written: {path}");
+    } else {
+        println!("stale: {path}");
+    }
+    write
+}

@@ -1,0 +1,144 @@
+//! What the rows of the table for callers in C answer.
+
+use crate::exact::{self, Fault, TagFault, Type};
+
+// What stands in a place that a refused call leaves as it was.
+const KEPT: i128 = 7;
+
+/// A row with its answers worked out anew. A comment stays as it is.
+pub fn row(line: &str) -> String {
+    let words: Vec<&str> = line.split(' ').collect();
+    let answer = match words[0] {
+        "read" => read(words[1], words[2]),
+        "write" => exact::shortest(integer(words[2]), kind(words[1]).fraction),
+        "pad" => pad(&words),
+        "whole" => whole(kind(words[1]), integer(words[2])),
+        "product" => product(kind(words[1]), integer(words[2]), integer(words[3])),
+        "mul_div" => {
+            exact::mul_div(32, integer(words[1]), integer(words[2]), integer(words[3])).to_string()
+        }
+        "narrow" => narrow(integer(words[1])),
+        "matrix" => matrix(&words[1..15]),
+        "tag" => tag(words[1]),
+        "sum" => return sum(&words),
+        _ => return line.into(),
+    };
+    let questions = match words[0] {
+        "narrow" | "tag" => 2,
+        "read" | "write" | "whole" => 3,
+        "product" | "mul_div" => 4,
+        "pad" => 8,
+        _ => 15,
+    };
+    format!("{} {answer}", words[..questions].join(" "))
+}
+
+fn integer(word: &str) -> i128 {
+    word.parse().unwrap()
+}
+
+fn kind(name: &str) -> Type {
+    Type::named(name.as_bytes()).unwrap()
+}
+
+fn spaced(numbers: &[i128]) -> String {
+    numbers
+        .iter()
+        .map(i128::to_string)
+        .collect::<Vec<_>>()
+        .join(" ")
+}
+
+fn read(name: &str, text: &str) -> String {
+    match exact::read(text.as_bytes(), kind(name)) {
+        Ok(bits) => format!("0 {bits}"),
+        Err(Fault::Syntax) => format!("1 {KEPT}"),
+        Err(Fault::OutOfRange) => format!("2 {KEPT}"),
+    }
+}
+
+fn pad(words: &[&str]) -> String {
+    let text = exact::shortest(integer(words[2]), kind(words[1]).fraction);
+    let [width, fill, align, plus, zeros] = [3, 4, 5, 6, 7].map(|at| integer(words[at]) as usize);
+    if fill >= 0x80 || align > 2 {
+        return "refused".into();
+    }
+    exact::padded(
+        &text,
+        width,
+        char::from(fill as u8),
+        align as u32,
+        plus != 0,
+        zeros != 0,
+    )
+}
+
+fn whole(kind: Type, bits: i128) -> String {
+    let one = 1i128 << kind.fraction;
+    let round = exact::wrap(kind.width, one * exact::up(bits, one));
+    spaced(&[round, one * bits.div_euclid(one)])
+}
+
+fn product(kind: Type, x: i128, y: i128) -> String {
+    let one = 1i128 << kind.fraction;
+    let product = exact::wrap(32, exact::near(x * y, one));
+    spaced(&[product, exact::mul_div(32, x, one, y)])
+}
+
+fn narrow(bits: i128) -> String {
+    spaced(
+        &[(16, 16), (22, 10), (16, 2)]
+            .map(|(width, places)| exact::wrap(width, exact::up(bits, 1 << places))),
+    )
+}
+
+fn matrix(words: &[&str]) -> String {
+    let numbers: Vec<i128> = words.iter().map(|word| integer(word)).collect();
+    let matrix = |at: usize| exact::Matrix::try_from(&numbers[at..at + 6]).unwrap();
+    let (a, b, p) = (matrix(0), matrix(6), [numbers[12], numbers[13]]);
+    let composed = exact::composed(a, b);
+    let images = [
+        exact::image(a, p),
+        exact::image(composed, p),
+        exact::image(a, exact::image(b, p)),
+    ];
+    spaced(&[&composed[..], &images.concat()].concat())
+}
+
+fn tag(digits: &str) -> String {
+    let byte = |at: usize| u8::from_str_radix(&digits[at..at + 2], 16).unwrap();
+    let bytes: Vec<u8> = (0..digits.len()).step_by(2).map(byte).collect();
+    let fault = exact::judge(&bytes);
+    let made = match fault {
+        _ if bytes.is_empty() || bytes.len() > 4 => (1, KEPT),
+        Err(_) => (2, KEPT),
+        Ok(()) => (
+            0,
+            (0..4).fold(0, |n, at| {
+                256 * n + i128::from(*bytes.get(at).unwrap_or(&b' '))
+            }),
+        ),
+    };
+    let judged = match fault {
+        _ if bytes.len() != 4 || bytes == [b' '; 4] => (1, KEPT),
+        Ok(()) => (0, KEPT),
+        Err(TagFault::Byte(at)) => (2, at as i128),
+        Err(TagFault::AfterSpace(at)) => (3, at as i128),
+    };
+    let text = match bytes.len() {
+        4 => exact::tag_text(&bytes).replace(' ', "_"),
+        _ => "none".into(),
+    };
+    format!("{} {} {} {} {text}", made.0, made.1, judged.0, judged.1)
+}
+
+fn sum(words: &[&str]) -> String {
+    let terms: Vec<i128> = words[4..].iter().map(|word| integer(word)).collect();
+    let sum: i128 = terms.chunks(2).map(|term| term[0] * term[1]).sum();
+    let (status, sum) = if exact::fits(64, sum) {
+        (0, sum)
+    } else {
+        (2, KEPT)
+    };
+    format!("sum {status} {sum} {}", words[3..].join(" "))
+}
