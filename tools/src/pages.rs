@@ -1,6 +1,7 @@
 //! What pages say that a program can check.
 
 use crate::repository::{self, files, text};
+use std::collections::HashSet;
 
 /// Something on a page that is not so.
 pub struct Slip {
@@ -17,6 +18,7 @@ pub fn pages() -> Vec<String> {
 pub fn slips() -> Vec<Slip> {
     let counts = counts();
     let sources = sources();
+    let words = words();
     let mut slips = Vec::new();
     for page in pages() {
         let body = text(&page);
@@ -25,6 +27,7 @@ pub fn slips() -> Vec<Slip> {
             .chain(dead_links(&page, &body))
             .chain(dead_paths(&body))
             .chain(strange_code(&body, &sources))
+            .chain(unknown_words(&body, &words))
             .chain(wide_lines(&body));
         slips.extend(found.map(|what| Slip {
             page: page.clone(),
@@ -164,5 +167,45 @@ fn wide_lines(body: &str) -> Vec<String> {
         .lines()
         .filter(|line| line.chars().count() > 120 && !line.starts_with('|'));
     wide.map(|line| format!("a wide line: {}", line.chars().take(40).collect::<String>()))
+        .collect()
+}
+
+// The words of all sources, the names of files, and those that pages may name besides.
+fn words() -> HashSet<String> {
+    let endings = [
+        ".rt", ".antt", ".rs", ".c", ".cpp", ".h", ".edit", ".toml", ".txt", ".sh",
+    ];
+    let paths: Vec<String> = endings
+        .iter()
+        .flat_map(|ending| files("", ending))
+        .collect();
+    let texts = paths
+        .iter()
+        .map(|path| text(path))
+        .chain(paths.iter().cloned());
+    let others = text("tools/words.txt");
+    texts
+        .chain([others])
+        .flat_map(|text| identifiers(&text))
+        .collect()
+}
+
+fn identifiers(text: &str) -> Vec<String> {
+    let is_letter = |letter: char| letter.is_alphanumeric() || letter == '_' || letter == '-';
+    let words = text.split(|letter| !is_letter(letter));
+    words
+        .flat_map(|word| word.split('-').chain([word]))
+        .map(String::from)
+        .collect()
+}
+
+// The words of code on a page that stand in no source.
+fn unknown_words(body: &str, words: &HashSet<String>) -> Vec<String> {
+    let body = prose(body);
+    let quoted = body.split('`').skip(1).step_by(2);
+    let alone = quoted.filter(|word| word.chars().all(|c| c.is_ascii_alphanumeric() || c == '_'));
+    let unknown = alone.filter(|word| word.len() > 3 && !words.contains(*word));
+    unknown
+        .map(|word| format!("no source has the word {word}"))
         .collect()
 }
