@@ -3,7 +3,7 @@ use Rattle.std.proofs.Common.{◌≡◌, ◌∙◌, sym, ap, ℕ, ◌^◌, ◌<�
 use Rattle.std.proofs.lemmas.Int.{ints}
 use Rattle.font_base.specs.Wrap.{wrap, FitsBits}
 use Rattle.font_base.specs.Wrap.Laws.{wrap-fits, wrap-add_left, wrap-add_right, same_rest}
-use Rattle.font_decimal.proofs.Near.{neg-times}
+use Rattle.font_decimal.proofs.Integers.{neg-times}
 use Rattle.font_arithmetic.specs.Operations.{IsFloor, IsFract}
 
 -- ---- sums are a commutative group modulo 2^w

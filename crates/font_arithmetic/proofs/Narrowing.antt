@@ -14,7 +14,8 @@ use Rattle.font_base.specs.Wrap.{half_range, wrap, FitsBits}
 use Rattle.font_base.specs.Wrap.Laws.{wrap_is, wrap_gives, wrap-wrap}
 use Rattle.font_base.proofs.Widths.{bits_positive}
 use Rattle.font_decimal.specs.Near.{Up}
-use Rattle.font_decimal.proofs.Near.{up_gives, neg-times, times_monotone}
+use Rattle.font_decimal.proofs.Integers.{neg-times, times_monotone}
+use Rattle.font_decimal.proofs.Near.{up_gives}
 use Rattle.font_arithmetic.specs.Operations.{IsNarrowed, IsNearestWhole, IsFloor}
 use Rattle.font_arithmetic.proofs.Shifts.{shr_low, shr_high, shr_fits}
 

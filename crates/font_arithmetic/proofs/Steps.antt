@@ -1,7 +1,7 @@
 -- Products rounded with ties away from zero, as code has it: half a step is added, less one where the product is
 -- negative, and the sum is shifted.
 use Rattle.std.proofs.Common.{◌≡◌, ◌∙◌, sym, ap, refl, ℕ, suc, ◌+◌, ◌-◌, ◌*◌, ◌%◌, ◌^◌, ◌<◌, ◌≤◌, Bool, true, false, ℤ,
-    pos, negsuc, neg_ℤ, ◌+ℤ◌, ◌-ℤ◌, ◌*ℤ◌, ◌≤ℤ◌, ◌<ℤ◌, unsigned_abs, arith, lit<}
+    pos, ◌+ℤ◌, ◌-ℤ◌, ◌*ℤ◌, ◌≤ℤ◌, ◌<ℤ◌, unsigned_abs, arith, lit<}
 use Rattle.std.proofs.lemmas.Nat.{pow_pos}
 use Rattle.std.specs.Int.{w32, w64}
 use borrow.Author.Differences.{abs_is}
@@ -11,7 +11,7 @@ use Rattle.font_base.specs.Wrap.{wrap}
 use Rattle.font_decimal.specs.Near.{signed, near}
 use Rattle.font_decimal.proofs.Near.{near_is, near_gives}
 use Rattle.font_arithmetic.specs.Operations.{IsWrappedNear, differ_in_sign}
-use Rattle.std.proofs.lemmas.Int.{ints, to_z-of_z, to_z_pos}
+use Rattle.std.proofs.lemmas.Int.{ints, to_z-of_z, to_z_pos, unsigned_abs-mul}
 use Rattle.std.proofs.Math.Nat.{mul-le-mul, pow-le-pow_right, two-pow-succ}
 use Rattle.font_arithmetic.proofs.Shifts.{shr_low, shr_high, shr_fits}
 use Rattle.font_arithmetic.proofs.Quotients.{product_signed, wrapped_near_from}
@@ -27,15 +27,6 @@ products_fit x y f g =
     either : (s : Bool) (n : ℕ) → n ≤ 2 ^ 62 → SFits w64 (signed s n)
     either true n small = omega (arith, ints, small)
     either false n small = omega (arith, ints, small)
-
--- ---- the shift of a sum that fits
-
-abs_times : (q : ℤ) (d : ℕ) → unsigned_abs (q *ℤ pos d) ≡ unsigned_abs q * d
-abs_times (pos m) d = refl
-abs_times (negsuc m) d = abs_neg (suc m * d)
-  where
-    abs_neg : (n : ℕ) → unsigned_abs (neg_ℤ (pos n)) ≡ n
-    abs_neg n = omega (arith, ints)
 
 -- p is the greatest multiple of d that is not above n and half a step, less one where n is negative
 near_of_sum : (s : Bool) (n e p : ℤ) (k d half : ℕ) → d ≡ half + half → 0 < half → lt_z n (pos 0) ≡ s
@@ -93,7 +84,7 @@ shifted_is_near n e f fits small many few is =
     let sum : SFits w64 ((n +ℤ pos half) -ℤ e) = omega (arith, ints, small, bound, unit, abs_is n) in
     let q : ℤ = shr_z ((n +ℤ pos half) -ℤ e) (2 ^ f) in
     let near = near_of_sum (lt_z n (pos 0)) n e (q *ℤ pos (2 ^ f)) (unsigned_abs q * 2 ^ f) (2 ^ f) half (halves f many)
-        (pow_pos (f - 1)) refl less (sym (abs_times q (2 ^ f)))
+        (pow_pos (f - 1)) refl less (sym (unsigned_abs-mul q (pos (2 ^ f))))
     (shr_low _ (2 ^ f) (pow_pos f)) (shr_high _ (2 ^ f) (pow_pos f)) in
     rw (
       half_is f few,

@@ -70,33 +70,19 @@ items_are zero (b ∷ bs) many = absurd (omega arith)
 items_are (suc n) [] many = absurd (omega arith)
 items_are (suc n) (b ∷ bs) many = ap (λ xs. b ∷ xs) (items_are n bs (omega arith))
 
-pub from_be_bytes-numeral_1 : (bytes : List ℕ) → length bytes ≡ 1 → from_be_bytes w8 bytes ≡ numeral bytes
+pub from_be_bytes-numeral : (w : Width) (bytes : List ℕ) → length bytes ≡ byte_len w
+    → from_be_bytes w bytes ≡ numeral bytes
 unfolding items
-from_be_bytes-numeral_1 bytes many =
-    let e = items_are 1 bytes many in
-    let same : from_be_bytes w8 (items 1 bytes) ≡ numeral (items 1 bytes) = omega arith in
-    ap (from_be_bytes w8) e ∙ same ∙ sym (ap numeral e)
-
-pub from_be_bytes-numeral_2 : (bytes : List ℕ) → length bytes ≡ 2 → from_be_bytes w16 bytes ≡ numeral bytes
-unfolding items
-from_be_bytes-numeral_2 bytes many =
-    let e = items_are 2 bytes many in
-    let same : from_be_bytes w16 (items 2 bytes) ≡ numeral (items 2 bytes) = omega arith in
-    ap (from_be_bytes w16) e ∙ same ∙ sym (ap numeral e)
-
-pub from_be_bytes-numeral_4 : (bytes : List ℕ) → length bytes ≡ 4 → from_be_bytes w32 bytes ≡ numeral bytes
-unfolding items
-from_be_bytes-numeral_4 bytes many =
-    let e = items_are 4 bytes many in
-    let same : from_be_bytes w32 (items 4 bytes) ≡ numeral (items 4 bytes) = omega arith in
-    ap (from_be_bytes w32) e ∙ same ∙ sym (ap numeral e)
-
-pub from_be_bytes-numeral_8 : (bytes : List ℕ) → length bytes ≡ 8 → from_be_bytes w64 bytes ≡ numeral bytes
-unfolding items
-from_be_bytes-numeral_8 bytes many =
-    let e = items_are 8 bytes many in
-    let same : from_be_bytes w64 (items 8 bytes) ≡ numeral (items 8 bytes) = omega arith in
-    ap (from_be_bytes w64) e ∙ same ∙ sym (ap numeral e)
+from_be_bytes-numeral w bytes many =
+    let e = items_are (byte_len w) bytes many in
+    ap (from_be_bytes w) e ∙ same w ∙ sym (ap numeral e)
+  where
+    same : (w : Width) → from_be_bytes w (items (byte_len w) bytes) ≡ numeral (items (byte_len w) bytes)
+    same w8 = omega arith
+    same w16 = omega arith
+    same w32 = omega arith
+    same w64 = omega arith
+    same w128 = omega arith
 
 -- a cast of the bytes' number to the signed type
 pub to_z-signed_numeral : (w : Width) (bytes : List ℕ) → numeral bytes < 2 ^ bits w
@@ -140,31 +126,31 @@ i8_written z bytes fits is =
 
 pub i8_read : (bytes : List ℕ) (n : ℕ) (z : ℤ) → length bytes ≡ 1 → n < 2 ^ 8 → n ≡ from_be_bytes w8 bytes
     → z ≡ to_z w8 n → to_z w8 (of_z w8 z) ≡ signed_numeral 1 bytes
-i8_read bytes n z many below is cast = signed_read w8 bytes n z below (from_be_bytes-numeral_1 bytes many) is cast
+i8_read bytes n z many below is cast = signed_read w8 bytes n z below (from_be_bytes-numeral w8 bytes many) is cast
 
 pub u16_read : (bytes : List ℕ) (n : ℕ) → length bytes ≡ 2 → n ≡ from_be_bytes w16 bytes → n ≡ numeral bytes
-u16_read bytes n many is = is ∙ from_be_bytes-numeral_2 bytes many
+u16_read bytes n many is = is ∙ from_be_bytes-numeral w16 bytes many
 
 pub u16_written : (n : ℕ) (bytes : List ℕ) → n < 2 ^ 16 → bytes ≡ to_be_bytes w16 n → bytes ≡ bytes_of 2 (pos n)
 u16_written n bytes below is = is ∙ to_be_bytes-bytes_of w16 n below
 
 pub i16_read : (bytes : List ℕ) (n : ℕ) (z : ℤ) → length bytes ≡ 2 → n < 2 ^ 16 → n ≡ from_be_bytes w16 bytes
     → z ≡ to_z w16 n → to_z w16 (of_z w16 z) ≡ signed_numeral 2 bytes
-i16_read bytes n z many below is cast = signed_read w16 bytes n z below (from_be_bytes-numeral_2 bytes many) is cast
+i16_read bytes n z many below is cast = signed_read w16 bytes n z below (from_be_bytes-numeral w16 bytes many) is cast
 
 pub i16_written : (z : ℤ) (bytes : List ℕ) → SFits w16 z → bytes ≡ to_be_bytes w16 (of_z w16 (to_z w16 (of_z w16 z)))
     → bytes ≡ bytes_of 2 z
 i16_written z bytes fits is = signed_written w16 z bytes fits is
 
 pub u32_read : (bytes : List ℕ) (n : ℕ) → length bytes ≡ 4 → n ≡ from_be_bytes w32 bytes → n ≡ numeral bytes
-u32_read bytes n many is = is ∙ from_be_bytes-numeral_4 bytes many
+u32_read bytes n many is = is ∙ from_be_bytes-numeral w32 bytes many
 
 pub u32_written : (n : ℕ) (bytes : List ℕ) → n < 2 ^ 32 → bytes ≡ to_be_bytes w32 n → bytes ≡ bytes_of 4 (pos n)
 u32_written n bytes below is = is ∙ to_be_bytes-bytes_of w32 n below
 
 pub i32_read : (bytes : List ℕ) (n : ℕ) (z : ℤ) → length bytes ≡ 4 → n < 2 ^ 32 → n ≡ from_be_bytes w32 bytes
     → z ≡ to_z w32 n → to_z w32 (of_z w32 z) ≡ signed_numeral 4 bytes
-i32_read bytes n z many below is cast = signed_read w32 bytes n z below (from_be_bytes-numeral_4 bytes many) is cast
+i32_read bytes n z many below is cast = signed_read w32 bytes n z below (from_be_bytes-numeral w32 bytes many) is cast
 
 pub i32_written : (z : ℤ) (bytes : List ℕ) → SFits w32 z → bytes ≡ to_be_bytes w32 (of_z w32 (to_z w32 (of_z w32 z)))
     → bytes ≡ bytes_of 4 z
@@ -172,7 +158,7 @@ i32_written z bytes fits is = signed_written w32 z bytes fits is
 
 pub i64_read : (bytes : List ℕ) (n : ℕ) (z : ℤ) → length bytes ≡ 8 → n < 2 ^ 64 → n ≡ from_be_bytes w64 bytes
     → z ≡ to_z w64 n → to_z w64 (of_z w64 z) ≡ signed_numeral 8 bytes
-i64_read bytes n z many below is cast = signed_read w64 bytes n z below (from_be_bytes-numeral_8 bytes many) is cast
+i64_read bytes n z many below is cast = signed_read w64 bytes n z below (from_be_bytes-numeral w64 bytes many) is cast
 
 pub i64_written : (z : ℤ) (bytes : List ℕ) → SFits w64 z → bytes ≡ to_be_bytes w64 (of_z w64 (to_z w64 (of_z w64 z)))
     → bytes ≡ bytes_of 8 z

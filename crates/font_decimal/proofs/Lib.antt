@@ -1,3 +1,4 @@
+pub mod Integers
 pub mod Near
 pub mod Texts
 pub mod Readings

@@ -1,13 +1,13 @@
 -- Each fraction n / d with 0 < d has one nearest whole number, by either rule for ties.
-use Rattle.std.proofs.Common.{◌≡◌, ℕ, zero, suc, ◌+◌, ◌*◌, ◌/◌, ◌<◌, ◌≤◌, inl, inr, Bool, true, false, ℤ, pos, negsuc,
-    refl, sym, ap, subst, ◌∙◌, arith}
+use Rattle.std.proofs.Common.{◌≡◌, ℕ, suc, ◌+◌, ◌*◌, ◌/◌, ◌<◌, ◌≤◌, inl, inr, Bool, true, false, ℤ, pos, negsuc, refl, sym, ap, subst, ◌∙◌, arith}
 use Rattle.std.specs.Prelude.{neg_ℤ, ◌+ℤ◌, ◌-ℤ◌, ◌*ℤ◌, ◌≤ℤ◌, ◌<ℤ◌, unsigned_abs}
 use Rattle.std.specs.Int.{is_negative}
-use Rattle.std.proofs.Math.IntN.{neg_ℤ-neg_ℤ, +ℤ_one, suc_ℤ-*ℤ}
-use Rattle.std.proofs.Math.Nat.{mul-le-mul_right, div-mul-le_self, lt-div-mul-add, zero-mul, suc-mul}
+use Rattle.std.proofs.Math.IntN.{neg_ℤ-neg_ℤ}
+use Rattle.std.proofs.Math.Nat.{mul-le-mul_right, div-mul-le_self, lt-div-mul-add, suc-mul}
 use Rattle.std.proofs.lemmas.Bool.{cases_lt, cases_order, le-ltb}
 use Rattle.std.proofs.lemmas.Int.{ints, by_lt_z}
 use Rattle.font_decimal.specs.Near.{signed, Near, near, near_magnitude, Up, up}
+use Rattle.font_decimal.proofs.Integers.{neg-times, times-next, times_monotone}
 
 -- q is n / d and a half, rounded down
 pub record IsNearMagnitude (n d q : ℕ) : Type 0 where
@@ -34,11 +34,6 @@ rounded_is n d h =
     let below : (2 * n + d) / (2 * d) * (2 * d) ≤ 2 * n + d = div-mul-le_self (2 * n + d) (2 * d) in
     let above : 2 * n + d < (2 * n + d) / (2 * d) * (2 * d) + 2 * d = lt-div-mul-add positive in
     record { low = omega arith; high = omega arith }
-
-pub neg-times : (q : ℤ) (d : ℕ) → neg_ℤ q *ℤ pos d ≡ neg_ℤ (q *ℤ pos d)
-neg-times (pos zero) d = rw zero-mul
-neg-times (pos (suc n)) d = refl
-neg-times (negsuc n) d = sym (neg_ℤ-neg_ℤ (pos (suc n * d)))
 
 -- a sign stays outside of a product
 pub signed_times : (s : Bool) (n d : ℕ) → signed s n *ℤ pos d ≡ signed s (n * d)
@@ -118,16 +113,6 @@ near_is (negsuc n) d h = near_from true (suc n) d (near_magnitude (suc n) d) h (
 
 pub near_gives : (n : ℤ) (d : ℕ) (q : ℤ) → 0 < d → Near n d q → q ≡ near n d
 near_gives n d q h x = near_unique n d q (near n d) h x (near_is n d h)
-
-times-next : (q : ℤ) (d : ℕ) → (q +ℤ pos 1) *ℤ pos d ≡ q *ℤ pos d +ℤ pos d
-times-next q d = rw +ℤ_one (suc_ℤ-*ℤ q (pos d))
-
-pub times_monotone : (a b : ℤ) (d : ℕ) → a ≤ℤ b → (a *ℤ pos d) ≤ℤ (b *ℤ pos d)
-times_monotone (pos a) (pos b) d h = omega (arith, ints, mul-le-mul_right {m = a} {n = b} d (omega (arith, ints)))
-times_monotone (pos a) (negsuc b) d h = absurd (omega (arith, ints))
-times_monotone (negsuc a) (pos b) d h = omega (arith, ints)
-times_monotone (negsuc a) (negsuc b) d h = omega
-    (arith, ints, mul-le-mul_right {m = suc b} {n = suc a} d (omega (arith, ints)))
 
 -- the same for the rule that rounds ties up
 pub up_unique : (n : ℤ) (d : ℕ) (q r : ℤ) → 0 < d → Up n d q → Up n d r → q ≡ r

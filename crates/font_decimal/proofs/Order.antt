@@ -1,14 +1,14 @@
 -- Rounding keeps the order, and so does reading.
-use Rattle.std.proofs.Common.{◌≡◌, ℕ, suc, ◌+◌, ◌*◌, ◌^◌, ◌<◌, ◌≤◌, inl, inr, true, false, List, ℤ, pos, negsuc, sym,
-    ap, subst, ◌∙◌, arith}
-use Rattle.std.specs.Prelude.{◌*ℤ◌, ◌≤ℤ◌, neg_ℤ, Result, Ok}
+use Rattle.std.proofs.Common.{◌≡◌, ℕ, suc, ◌+◌, ◌*◌, ◌^◌, ◌<◌, ◌≤◌, inl, inr, true, false, List, ℤ, pos, negsuc, subst, arith}
+use Rattle.std.specs.Prelude.{◌*ℤ◌, ◌≤ℤ◌, Result, Ok}
 use Rattle.std.proofs.Math.Nat.{mul-le-mul_right, mul-lt-mul_of_pos_right, suc-mul}
 use Rattle.std.proofs.lemmas.Bool.{cases_lt}
 use Rattle.std.proofs.lemmas.Int.{ints}
 use Rattle.font_decimal.specs.Near.{Near}
 use Rattle.font_decimal.specs.Reading.{Rounds, IsReading, IsAtMost}
 use Rattle.font_decimal.specs.declared.reader.DecimalFault.{DecimalFault}
-use Rattle.font_decimal.proofs.Near.{IsNearMagnitude, near_to, neg-times, times_monotone}
+use Rattle.font_decimal.proofs.Integers.{swap_factors, times_monotone}
+use Rattle.font_decimal.proofs.Near.{IsNearMagnitude, near_to}
 use Rattle.font_decimal.proofs.Texts.{decimal_unique}
 use Rattle.font_decimal.proofs.Readings.{ten_pos}
 
@@ -42,12 +42,6 @@ near_monotone (negsuc n) (negsuc m) d e q r h k x y order =
     let less = rounded_monotone (suc m) e second.magnitude (suc n) d first.magnitude k second.rounded first.rounded
         (omega (arith, ints)) in
     rw (first.is, second.is) (omega (arith, ints))
-
-swap_factors : (n : ℤ) (t k : ℕ) → n *ℤ pos t *ℤ pos k ≡ n *ℤ pos k *ℤ pos t
-swap_factors (pos n) t k = ap pos (omega arith)
-swap_factors (negsuc n) t k =
-    neg-times (pos (suc n * t)) k ∙ ap (λ p. neg_ℤ (pos p)) (let e : suc n * t * k ≡ suc n * k * t = omega arith in e)
-        ∙ sym (neg-times (pos (suc n * k)) t)
 
 -- and of two texts the one of greater decimal value is never read as the lesser number
 pub rounds_in_order : (s t : List ℕ) (f : ℕ) (a b : ℤ) → IsAtMost s t → Rounds s f a → Rounds t f b → a ≤ℤ b

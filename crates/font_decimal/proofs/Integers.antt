@@ -1,0 +1,27 @@
+-- Products of whole numbers, which std lacks: with an opposite, with the next number, in order, and by two factors.
+use Rattle.std.proofs.Common.{◌≡◌, ℕ, zero, suc, ◌*◌, ℤ, pos, negsuc, refl, sym, ap, ◌∙◌, arith}
+use Rattle.std.specs.Prelude.{neg_ℤ, ◌+ℤ◌, ◌*ℤ◌, ◌≤ℤ◌}
+use Rattle.std.proofs.Math.IntN.{neg_ℤ-neg_ℤ, +ℤ_one, suc_ℤ-*ℤ}
+use Rattle.std.proofs.Math.Nat.{mul-le-mul_right, zero-mul}
+use Rattle.std.proofs.lemmas.Int.{ints}
+
+pub neg-times : (q : ℤ) (d : ℕ) → neg_ℤ q *ℤ pos d ≡ neg_ℤ (q *ℤ pos d)
+neg-times (pos zero) d = rw zero-mul
+neg-times (pos (suc n)) d = refl
+neg-times (negsuc n) d = sym (neg_ℤ-neg_ℤ (pos (suc n * d)))
+
+pub times-next : (q : ℤ) (d : ℕ) → (q +ℤ pos 1) *ℤ pos d ≡ q *ℤ pos d +ℤ pos d
+times-next q d = rw +ℤ_one (suc_ℤ-*ℤ q (pos d))
+
+pub times_monotone : (a b : ℤ) (d : ℕ) → a ≤ℤ b → (a *ℤ pos d) ≤ℤ (b *ℤ pos d)
+times_monotone (pos a) (pos b) d h = omega (arith, ints, mul-le-mul_right {m = a} {n = b} d (omega (arith, ints)))
+times_monotone (pos a) (negsuc b) d h = absurd (omega (arith, ints))
+times_monotone (negsuc a) (pos b) d h = omega (arith, ints)
+times_monotone (negsuc a) (negsuc b) d h = omega
+    (arith, ints, mul-le-mul_right {m = suc b} {n = suc a} d (omega (arith, ints)))
+
+pub swap_factors : (n : ℤ) (t k : ℕ) → n *ℤ pos t *ℤ pos k ≡ n *ℤ pos k *ℤ pos t
+swap_factors (pos n) t k = ap pos (omega arith)
+swap_factors (negsuc n) t k =
+    neg-times (pos (suc n * t)) k ∙ ap (λ p. neg_ℤ (pos p)) (let e : suc n * t * k ≡ suc n * k * t = omega arith in e)
+        ∙ sym (neg-times (pos (suc n * k)) t)
