@@ -10,7 +10,7 @@ pub use Rattle.font_decimal.proofs.Printed.{shortest_is_decimal}
 use Rattle.font_decimal.specs.Padding.{padded_text}
 use Rattle.font_decimal.specs.Shortest.{shortest_text}
 use Rattle.font_decimal.specs.declared.padding.Pad.{Pad}
-use Rattle.font_arithmetic.proofs.Texts.{padded_has_room}
+use Rattle.font_arithmetic.proofs.Texts.{is_room, padded_has_room}
 use Rattle.font_arithmetic.specs.Operations.{IsFloor, IsFract, IsNearestWhole, IsNarrowed}
 use Rattle.font_arithmetic.proofs.Wrapped.{wrapping_add-wrap, wrapping_sub-wrap, wrapping_neg-wrap, wrapping_abs-wrap,
     rem_euclid_is_fract, wrapping_mul-wrap}
@@ -49,10 +49,11 @@ pub scaled_64 : (x : ℤ) (d : ℕ) → SFits w64 x → SFits w64 (pos d) → to
     ≡ wrap 64 (x *ℤ pos d)
 scaled_64 x d f g = wrapping_mul-wrap w64 x d f g
 
-pub cell_64 : (b : ℤ) (f : ℕ) (pad : Pad) (old : List ℕ) (result : Option ℕ)
-    → IsSome result ↔ (length (padded_text (shortest_text b f) pad) ≤ length old) → SFits w64 b → f ≤ 30
-    → max 23 pad.width ≤ length old → IsSome result
-cell_64 b f pad old result room fits few cell = padded_has_room w64 b f pad old result (lit≤ tt) fits few room cell
+pub cell_64 : (b : ℤ) (f room : ℕ) (pad : Pad) (old : List ℕ) (result : Option ℕ)
+    → IsSome result ↔ (length (padded_text (shortest_text b f) pad) ≤ length old) → SFits w64 b
+    → max room pad.width ≤ length old → IsTrue (is_room 63 f room) → IsSome result
+cell_64 b f room pad old result long fits enough test = padded_has_room w64 b f room pad old result
+    (lit≤ tt) fits long enough test
 
 pub ruleset code_64 = (sum_64, difference_64, negated_64, abs_64, fract_64, nearest_whole_64, narrowed_64, scaled_64,
     cell_64, shortest_is_decimal)
