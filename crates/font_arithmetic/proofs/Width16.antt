@@ -10,7 +10,7 @@ pub use Rattle.font_decimal.proofs.Printed.{shortest_is_decimal}
 use Rattle.font_decimal.specs.Padding.{padded_text}
 use Rattle.font_decimal.specs.Shortest.{shortest_text}
 use Rattle.font_decimal.specs.declared.padding.Pad.{Pad}
-use Rattle.font_arithmetic.proofs.Texts.{padded_has_room}
+use Rattle.font_arithmetic.proofs.Texts.{is_room, padded_has_room}
 use Rattle.font_arithmetic.specs.Operations.{IsFloor, IsFract, IsNearestWhole, IsNarrowed}
 use Rattle.font_arithmetic.proofs.Wrapped.{wrapping_add-wrap, wrapping_sub-wrap, wrapping_neg-wrap, wrapping_abs-wrap,
     rem_euclid_is_fract, wrapping_mul-wrap}
@@ -48,10 +48,11 @@ pub scaled_16 : (x : ℤ) (d : ℕ) → SFits w16 x → SFits w16 (pos d) → to
     (x *ℤ pos d)
 scaled_16 x d f g = wrapping_mul-wrap w16 x d f g
 
-pub cell_16 : (b : ℤ) (f : ℕ) (pad : Pad) (old : List ℕ) (result : Option ℕ)
-    → IsSome result ↔ (length (padded_text (shortest_text b f) pad) ≤ length old) → SFits w16 b → f ≤ 30
-    → max 23 pad.width ≤ length old → IsSome result
-cell_16 b f pad old result room fits few cell = padded_has_room w16 b f pad old result (lit≤ tt) fits few room cell
+pub cell_16 : (b : ℤ) (f room : ℕ) (pad : Pad) (old : List ℕ) (result : Option ℕ)
+    → IsSome result ↔ (length (padded_text (shortest_text b f) pad) ≤ length old) → SFits w16 b
+    → max room pad.width ≤ length old → IsTrue (is_room 15 f room) → IsSome result
+cell_16 b f room pad old result long fits enough test = padded_has_room w16 b f room pad old result
+    (lit≤ tt) fits long enough test
 
 pub ruleset code_16 = (sum_16, difference_16, negated_16, abs_16, fract_16, nearest_whole_16, narrowed_16, scaled_16,
     cell_16, shortest_is_decimal)

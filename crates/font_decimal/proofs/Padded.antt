@@ -1,9 +1,9 @@
 -- A padded text, piece by piece.
-use Rattle.std.proofs.Common.{◌≡◌, ◌≢◌, ℕ, ◌+◌, ◌-◌, ◌≤◌, Bool, true, false, List, [], ◌∷◌, ◌++◌, length, get_or, take,
-    drop, refl, sym, ap, ◌∙◌, arith, append_assoc, length-append, length-drop, max, ◌==◌}
+use Rattle.std.proofs.Common.{◌≡◌, ◌≢◌, ℕ, ◌+◌, ◌-◌, ◌<◌, ◌≤◌, Bool, true, false, List, [], ◌∷◌, ◌++◌, length, get_or,
+    take, drop, refl, sym, ap, ◌∙◌, arith, append_assoc, length-append, length-drop, max, ◌==◌}
 use Rattle.std.specs.Prelude.{replicate}
 use Rattle.std.proofs.lemmas.Bool.{cond_both, ne_eqb}
-use Rattle.std.proofs.lemmas.List.{take_at, drop_at, drop-drop, length-replicate}
+use Rattle.std.proofs.lemmas.List.{append-nil, take_at, drop_at, drop_all, drop-drop, length-replicate}
 use Rattle.std.proofs.Math.Dec.{eqb}
 use Rattle.font_decimal.specs.Padding.{shown_sign, unsigned_body, spare_in_front, laid_out, padded_text, FillsFront}
 use Rattle.font_decimal.specs.declared.padding.Align.{Align}
@@ -95,12 +95,21 @@ shown_sign_length : (plus : Bool) (text : List ℕ) → length (shown_sign plus 
 shown_sign_length plus text = cond_both (get_or text 0 0 == 45) _ _ (λ xs. length xs ≤ 1) (λ _. omega arith)
     (λ _. cond_both plus _ _ (λ xs. length xs ≤ 1) (λ _. omega arith) (λ _. omega arith))
 
-body_length : (text : List ℕ) → length (unsigned_body text) ≤ length text
-body_length text = cond_both (get_or text 0 0 == 45) _ _ (λ xs. length xs ≤ length text)
-    (λ _. omega (arith, length-drop 1 text)) (λ _. omega arith)
+pub length-unsigned_body-le : (text : List ℕ) → length (unsigned_body text) ≤ length text
+length-unsigned_body-le text =
+    cond_both (get_or text 0 0 == 45) _ _ (λ xs. length xs ≤ length text) (λ _. omega (arith, length-drop 1 text))
+        (λ _. omega arith)
 
--- a text of at most 22 bytes fits, padded, a cell of 23 bytes that is as wide as is asked for
-pub padded_fits : (text : List ℕ) (pad : Pad) (n : ℕ) → length text ≤ 22 → max 23 pad.width ≤ n
+-- a text whose body is shorter than a cell fits it, padded, where the cell is as wide as is asked for: no sign has more
+-- than a byte
+pub padded_fits : (text : List ℕ) (pad : Pad) (room n : ℕ) → length (unsigned_body text) < room → max room pad.width ≤ n
     → length (padded_text text pad) ≤ n
-padded_fits text pad n short room = omega
-    (arith, padded_length text pad, shown_sign_length pad.plus text, body_length text)
+padded_fits text pad room n short enough = omega (arith, padded_length text pad, shown_sign_length pad.plus text)
+
+-- a list no longer than the width that is filled by a padded text is that text
+pub fills_all : (text : List ℕ) (pad : Pad) (n : ℕ) (old new : List ℕ) → FillsFront (padded_text text pad) n old new
+    → length old ≤ pad.width
+    → new ≡ padded_text text pad
+fills_all text pad n old new front narrow =
+    let rest : drop n old ≡ [] = drop_all n old (omega (arith, padded_length text pad, front.count)) in
+    front.bytes ∙ ap (λ xs. padded_text text pad ++ xs) rest ∙ append-nil (padded_text text pad)

@@ -1,7 +1,7 @@
 -- The text of the shortest decimal is what it says: plain, nearest, read back, with the fewest places, and at most 22
 -- bytes long.
 use Rattle.std.proofs.Common.{◌≡◌, ℕ, zero, suc, ◌+◌, ◌-◌, ◌*◌, ◌/◌, ◌%◌, ◌^◌, ◌<◌, ◌≤◌, inl, inr, Bool, true≢false, [],
-    ◌∷◌, ◌++◌, length, get_or, ℤ, pos, negsuc, refl, sym, ap, subst, ◌∙◌, arith, add-one}
+    ◌∷◌, ◌++◌, length, get_or, ℤ, pos, negsuc, refl, sym, ap, subst, ◌∙◌, arith, add-one, length-append}
 use Rattle.std.specs.Prelude.{◌*ℤ◌, ◌<ℤ◌, ◌↔◌, IsTrue, unsigned_abs, FitsSigned}
 use Rattle.std.specs.Int.{is_negative, abs_diff, w64}
 use mir.Val.{to_z, of_z}
@@ -9,8 +9,8 @@ use Rattle.std.specs.Fmt.{decimal, sign_text}
 use Rattle.std.specs.Str.Parse.{digits_value, AllDigits}
 use Rattle.std.specs.Char.{digit_value}
 use Rattle.std.proofs.Math.Nat.{suc-mul, mul-le-mul_right, le_of_mul-le-mul_right, pow-suc, div-div-eq-div-mul,
-    div-mul-le_self, div-add-mod', mod-lt, div-one, le_trans, le-mul_of_pos_right, mul-le-mul_left, pow-le-pow_right,
-    lt_of_mul-lt-mul_right, add-mul-div_left, add-mul-mod_self_right}
+    div-mul-le_self, div-add-mod', mod-lt, div-one, le_trans, lt_of_le_of_lt, le-mul_of_pos_right, mul-le-mul_left,
+    pow-le-pow_right, lt_of_mul-lt-mul_right, add-mul-div_left, add-mul-mod_self_right}
 use Rattle.std.proofs.lemmas.Bool.{cases_lt, le-ltb}
 use Rattle.std.proofs.lemmas.Int.{ints, to_z-of_z}
 use Rattle.std.proofs.lemmas.Nat.{pow_pos, pow-add, div-mul-add}
@@ -158,6 +158,10 @@ shortest_is b f small =
     }
 
 -- ---- how long the text is
+pub point_length : (p n : ℕ) → length (fraction_text (last_digits p n)) ≤ p + 1
+point_length zero n = omega arith
+point_length (suc p) n = omega (arith, last_length p n)
+
 -- 10 ^ 11 steps of any width that is allowed are more than ten
 pub few_places : (f p : ℕ) → f ≤ 30 → 10 ^ p ≤ 10 * 2 ^ f → p ≤ 10
 few_places f p few unit = elim (cases_lt p 11) [
@@ -192,6 +196,37 @@ digits_fit m f p small few unit =
     let below : w * 10 ^ p < 10 ^ (20 - p) * 10 ^ p = omega arith in
     let bound : w < 10 ^ (20 - p) = lt_of_mul-lt-mul_right (10 ^ p) below in
     omega (arith, length-decimal-le (20 - p) w (omega arith) bound (whole_fits m f p small))
+
+-- the whole part that is shown is at most the value's own
+whole_within : (m t ten d w : ℕ) → 2 * abs_diff (d * t) (m * ten) < ten → w * ten ≤ d → w * t ≤ m
+whole_within m t ten d w close low =
+    let scaled : w * ten * t ≤ d * t = mul-le-mul_right t low in
+    let below : 2 * (w * t) * ten < (2 * m + 1) * ten = omega arith in
+    let less : 2 * (w * t) < 2 * m + 1 = lt_of_mul-lt-mul_right ten below in
+    omega arith
+
+-- a number whose whole part is below `10 ^ digits`, with steps wider than `1 / 10 ^ places`: its digits, a point, and
+-- its places
+pub length-decimal_text-le : (m f digits places : ℕ) → m ≤ 2 ^ 63 → 0 < digits → m < 10 ^ digits * 2 ^ f
+    → 2 ^ f < 10 ^ places
+    → length (decimal_text (nearest_numeral m f (fewest_places m f)) (fewest_places m f)) ≤ digits + places + 1
+length-decimal_text-le m f digits places small some within steps =
+    let p = fewest_places m f in
+    let d = nearest_numeral m f p in
+    let w = d / 10 ^ p in
+    let fewest = fewest_is m f in
+    let own : w * 2 ^ f ≤ m = whole_within m (2 ^ f) (10 ^ p) d w (within_half m f p fewest.reads)
+        (div-mul-le_self d (10 ^ p)) in
+    let below : w < 10 ^ digits = lt_of_mul-lt-mul_right (2 ^ f) (lt_of_le_of_lt own within) in
+    let whole = length-decimal-le digits w some below (whole_fits m f p small) in
+    let unit : 10 ^ p ≤ 10 * 2 ^ f = unit_below m f p fewest.before in
+    let few : p ≤ places = elim (cases_lt places p) [
+      | inl more ↦ let wide : 10 ^ suc places ≤ 10 ^ p = pow-le-pow_right {n = 10} (omega arith) {i = suc places}
+          {j = p} (omega arith) in
+          absurd (omega (arith, pow-suc 10 places))
+      | inr less ↦ less
+    ] in
+    omega (arith, length-append (decimal w) (fraction_text (last_digits p d)), point_length p d)
 
 -- ---- the digits are written from the last one on
 pub last_more : (left n p : ℕ) → left ≡ n / 10 ^ p → (48 + left % 10) ∷ last_digits p n ≡ last_digits (p + 1) n
@@ -242,7 +277,3 @@ module _ (b : ℤ) (f magnitude whole fraction places : ℕ) (fits : FitsSigned 
 
   pub is_shortest : IsShortest b f (shortest_text b f)
   is_shortest = shortest_is b f (omega (arith, size, small))
-
-pub point_length : (p n : ℕ) → length (fraction_text (last_digits p n)) ≤ p + 1
-point_length zero n = omega arith
-point_length (suc p) n = omega (arith, last_length p n)

@@ -1,7 +1,7 @@
 use Rattle.std.proofs.Common.{◌≡◌, ℕ, List, [], ◌++◌, length, arith, refl, sym, ◌∙◌, subst}
 use Rattle.std.specs.Prelude.{replicate}
 use Rattle.font_decimal.specs.Padding.{padded_text, FillsFront}
-use Rattle.font_decimal.proofs.Padded.{padded_length, put_behind, nothing_yet, pieces, copies}
+use Rattle.font_decimal.proofs.Padded.{padded_length, put_behind, nothing_yet, pieces, copies, fills_all}
 use Rattle.font_decimal.proofs.padding.write_padded.Goals as goal
 
 pub returns-then-out-shown_len-clause-room : goal.returns-then-out-shown_len-clause-room
@@ -46,6 +46,10 @@ returns-clause-written c =
         (sign_is ∙ c.shown_parts.ensures.sign) (body_is ∙ c.shown_parts.ensures.body) shown_is laid in
     let P : List ℕ → Type 0 = λ text. FillsFront text c.put_fill.result old c.put_fill.new.out in
     subst P whole fifth
+
+pub returns-clause-fills : goal.returns-clause-fills
+returns-clause-fills c narrow = fills_all c.args.text.now c.args.pad.now _ c.args.out.now _
+    (returns-clause-written c) narrow
 
 pub returns-clause-room : goal.returns-clause-room
 returns-clause-room c =
