@@ -1,5 +1,6 @@
 -- Rounding keeps the order, and so does reading.
-use Rattle.std.proofs.Common.{◌≡◌, ℕ, suc, ◌+◌, ◌*◌, ◌^◌, ◌<◌, ◌≤◌, inl, inr, true, false, List, ℤ, pos, negsuc, subst, arith}
+use Rattle.std.proofs.Common.{◌≡◌, ℕ, suc, ◌+◌, ◌*◌, ◌^◌, ◌<◌, ◌≤◌, inl, inr, true, false, List, ℤ, pos, negsuc, subst,
+    arith}
 use Rattle.std.specs.Prelude.{◌*ℤ◌, ◌≤ℤ◌, Result, Ok}
 use Rattle.std.proofs.Math.Nat.{mul-le-mul_right, mul-lt-mul_of_pos_right, suc-mul}
 use Rattle.std.proofs.lemmas.Bool.{cases_lt}
