@@ -5,6 +5,9 @@ use crate::exact::{self, Fault, TagFault, Type};
 // What stands in a place that a refused call leaves as it was.
 const KEPT: i128 = 7;
 
+// How many bytes the buffer for a padded text has.
+const BUFFER: usize = 64;
+
 /// A row with its answers worked out anew. A comment stays as it is.
 pub fn row(line: &str) -> String {
     let words: Vec<&str> = line.split(' ').collect();
@@ -63,14 +66,19 @@ fn pad(words: &[&str]) -> String {
     if fill >= 0x80 || align > 2 {
         return "refused".into();
     }
-    exact::padded(
+    let text = exact::padded(
         &text,
         width,
         char::from(fill as u8),
         align as u32,
         plus != 0,
         zeros != 0,
-    )
+    );
+    if text.len() > BUFFER {
+        "refused".into()
+    } else {
+        text
+    }
 }
 
 fn whole(kind: Type, bits: i128) -> String {

@@ -8,8 +8,8 @@ use Rattle.font_c.specs.declared.matrix.FontMatrix.{FontMatrix}
 use Rattle.font_c.specs.declared.matrix.FontPoint.{FontPoint}
 
 -- the same elements
-abbrev pub elements : FontMatrix → Matrix ℤ
-elements m = record { xx = m.xx; yx = m.yx; xy = m.xy; yy = m.yy; dx = m.dx; dy = m.dy }
+abbrev pub entries : FontMatrix → Matrix ℤ
+entries m = record { xx = m.xx; yx = m.yx; xy = m.xy; yy = m.yy; dx = m.dx; dy = m.dy }
 
 -- the same coordinates
 abbrev pub coordinates : FontPoint → Point ℤ

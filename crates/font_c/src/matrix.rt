@@ -3,7 +3,7 @@
 ghost use Rattle.std.specs.Prelude.{◌≡◌};
 ghost use Rattle.font_types.specs.FixedMatrix.{matrix_bits, point_bits, FitsComposed, FitsInTurn};
 ghost use Rattle.font_types.specs.FixedMatrix.{IsCloseComposed, IsCloseInTurn};
-ghost use Rattle.font_c.specs.Matrices.{elements, coordinates, fixed_matrix_product, fixed_image};
+ghost use Rattle.font_c.specs.Matrices.{entries, coordinates, fixed_matrix_product, fixed_image};
 
 use font_types::{Fixed, Matrix, Point, laws};
 
@@ -29,7 +29,7 @@ pub struct FontPoint {
 }
 
 impl From<Matrix<Fixed>> for FontMatrix {
-    ghost from_gives = { λ matrix given. elements given ≡ matrix_bits matrix };
+    ghost from_gives = { λ matrix given. entries given ≡ matrix_bits matrix };
 
     fn from(matrix: Matrix<Fixed>) -> Self {
         Self {
@@ -44,7 +44,7 @@ impl From<Matrix<Fixed>> for FontMatrix {
 }
 
 impl From<FontMatrix> for Matrix<Fixed> {
-    ghost from_gives = { λ given matrix. matrix_bits matrix ≡ elements given };
+    ghost from_gives = { λ given matrix. matrix_bits matrix ≡ entries given };
 
     fn from(given: FontMatrix) -> Self {
         Self {
@@ -82,7 +82,7 @@ impl From<FontPoint> for Point<Fixed> {
 #[unsafe(no_mangle)]
 #[tactic(auto, using(font_geom::proofs::FixedCalls::product_value))]
 pub extern "C" fn font_matrix_product(a: FontMatrix, b: FontMatrix) -> FontMatrix
-    ensures { elements result ≡ fixed_matrix_product (elements a) (elements b) }
+    ensures { entries result ≡ fixed_matrix_product (entries a) (entries b) }
 {
     (Matrix::from(a) * Matrix::from(b)).into()
 }
@@ -91,7 +91,7 @@ pub extern "C" fn font_matrix_product(a: FontMatrix, b: FontMatrix) -> FontMatri
 #[unsafe(no_mangle)]
 #[tactic(auto, using(font_geom::proofs::FixedCalls::image_value))]
 pub extern "C" fn font_matrix_image(m: FontMatrix, p: FontPoint) -> FontPoint
-    ensures { coordinates result ≡ fixed_image (elements m) (coordinates p) }
+    ensures { coordinates result ≡ fixed_image (entries m) (coordinates p) }
 {
     (Matrix::from(m) * Point::from(p)).into()
 }
@@ -103,9 +103,9 @@ pub extern "C" fn font_matrix_image(m: FontMatrix, p: FontPoint) -> FontPoint
 #[unsafe(no_mangle)]
 pub extern "C" fn font_matrix_composed(a: FontMatrix, b: FontMatrix, p: FontPoint) -> FontPoint
     ensures value { coordinates result
-        ≡ fixed_image (fixed_matrix_product (elements a) (elements b)) (coordinates p) }
-    ensures close { FitsComposed (elements a) (elements b) (coordinates p)
-        → IsCloseComposed (elements a) (elements b) (coordinates p) (coordinates result) }
+        ≡ fixed_image (fixed_matrix_product (entries a) (entries b)) (coordinates p) }
+    ensures close { FitsComposed (entries a) (entries b) (coordinates p)
+        → IsCloseComposed (entries a) (entries b) (coordinates p) (coordinates result) }
 {
     laws::composed(a.into(), b.into(), p.into()).into()
 }
@@ -118,9 +118,9 @@ pub extern "C" fn font_matrix_composed(a: FontMatrix, b: FontMatrix, p: FontPoin
 #[unsafe(no_mangle)]
 pub extern "C" fn font_matrix_in_turn(a: FontMatrix, b: FontMatrix, p: FontPoint) -> FontPoint
     ensures value { coordinates result
-        ≡ fixed_image (elements a) (fixed_image (elements b) (coordinates p)) }
-    ensures close { FitsInTurn (elements a) (elements b) (coordinates p)
-        → IsCloseInTurn (elements a) (elements b) (coordinates p) (coordinates result) }
+        ≡ fixed_image (entries a) (fixed_image (entries b) (coordinates p)) }
+    ensures close { FitsInTurn (entries a) (entries b) (coordinates p)
+        → IsCloseInTurn (entries a) (entries b) (coordinates p) (coordinates result) }
 {
     laws::in_turn(a.into(), b.into(), p.into()).into()
 }

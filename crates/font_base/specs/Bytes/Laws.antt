@@ -34,7 +34,7 @@ numeral-cons b bs = fold-numeral (0 * 256 + b) bs ∙ ap (λ n. n * 256 ^ length
 
 -- ---- what the test of bytes says
 
-abbrev is_byte : ℕ → Bool
+abbrev pub is_byte : ℕ → Bool
 is_byte byte = nat_lt byte 256
 
 all_bytes : (bs : List ℕ) → ((i : ℕ) → get_or bs i 0 < 256) → list_all is_byte bs ≡ true

@@ -8,14 +8,11 @@ use Rattle.std.proofs.lemmas.Bool.{and_parts, and_from, eq-eqb}
 use Rattle.std.proofs.lemmas.List.{length-append, length-take-le, length-drop, take-append-drop, take_at, drop_at}
 use Rattle.std.proofs.lemmas.List.Folds.{list_all-append}
 use Rattle.font_base.specs.Bytes.{numeral, are_bytes, bytes_of}
-use Rattle.font_base.specs.Bytes.Laws.{are_bytes-length, are_bytes-bytes_of, bytes_of-numeral, unsigned_value,
+use Rattle.font_base.specs.Bytes.Laws.{is_byte, are_bytes-length, are_bytes-bytes_of, bytes_of-numeral, unsigned_value,
     unsigned_back}
 use Rattle.font_base.specs.Scalar.{ScalarLaws}
 use Rattle.font_tags.specs.declared.version.MajorMinor.{MajorMinor}
 use Rattle.font_tags.specs.Version.{major_minor_bytes, major_minor_of}
-
-abbrev is_byte : ℕ → Bool
-is_byte byte = nat_lt byte 256
 
 -- bytes behind bytes
 are_bytes-append : (n m : ℕ) (xs ys : List ℕ) → IsTrue (are_bytes n xs) → IsTrue (are_bytes m ys)
