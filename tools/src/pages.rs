@@ -3,6 +3,9 @@
 use crate::repository::{self, files, text};
 use std::collections::HashSet;
 
+// The page whose code cargo's tests run as it is.
+const TESTED: &str = "rust/README.md";
+
 /// Something on a page that is not so.
 pub struct Slip {
     pub page: String,
@@ -26,7 +29,11 @@ pub fn slips() -> Vec<Slip> {
             .into_iter()
             .chain(dead_links(&page, &body))
             .chain(dead_paths(&body))
-            .chain(strange_code(&body, &sources))
+            .chain(if page == TESTED {
+                vec![]
+            } else {
+                strange_code(&body, &sources)
+            })
             .chain(unknown_words(&body, &words))
             .chain(wide_lines(&body));
         slips.extend(found.map(|what| Slip {
@@ -128,13 +135,17 @@ fn sources() -> Vec<String> {
     paths.map(|path| squeezed(&text(&path))).collect()
 }
 
-// The lines with no indentation, comments of a line of their own or empty lines.
+// The code with no blanks, no lines of comments, and no comma before a closing bracket.
 fn squeezed(code: &str) -> String {
-    let lines = code
-        .lines()
-        .map(str::trim)
-        .filter(|line| !line.is_empty() && !line.starts_with("-- ") && !line.starts_with("// "));
-    lines.collect::<Vec<_>>().join("\n") + "\n"
+    let is_comment = |line: &&str| line.starts_with("-- ") || line.starts_with("// ");
+    let lines = code.lines().map(str::trim).filter(|line| !is_comment(line));
+    let text: String = lines
+        .flat_map(str::chars)
+        .filter(|letter| !letter.is_whitespace())
+        .collect();
+    [")", "]", "}"]
+        .iter()
+        .fold(text, |text, end| text.replace(&format!(",{end}"), end))
 }
 
 // The paragraphs of code that stand in no file as they are.
@@ -146,12 +157,15 @@ fn strange_code(body: &str, sources: &[String]) -> Vec<String> {
             .contains(&language)
             .then_some(code)
     });
-    let paragraphs = checked.flat_map(|code| code.split("\n\n")).map(squeezed);
+    let paragraphs = checked.flat_map(|code| code.split("\n\n"));
+    let is_import = |code: &&str| code.starts_with("ghost use") || code.starts_with("use ");
     paragraphs
+        .filter(|code| !is_import(code))
         .filter(|code| {
-            !code.trim().is_empty() && !code.starts_with("ghost use") && !code.starts_with("use ")
+            !sources
+                .iter()
+                .any(|source| source.contains(&squeezed(code)))
         })
-        .filter(|code| !sources.iter().any(|source| source.contains(code.as_str())))
         .map(|code| {
             format!(
                 "code that stands in no file: {}",

@@ -60,7 +60,7 @@ fn one_of_each_family(rt: HostRuntime) -> Result<(), Fail> {
     let version = MajorMinor::read(&[0x00, 0x01, 0x00, 0x02]).ok_or("four bytes")?;
     let length = BigEndian::<Uint24>::new([0x00, 0x01, 0x00]).get();
     let width = Fixed::from_decimal("1.5")?;
-    let half = Matrix::from_elements([
+    let scale = Matrix::from_elements([
         width,
         Fixed::ZERO,
         Fixed::ZERO,
@@ -68,7 +68,7 @@ fn one_of_each_family(rt: HostRuntime) -> Result<(), Fail> {
         Fixed::ZERO,
         Fixed::ZERO,
     ]);
-    let moved = half * Point::broadcast(width);
+    let moved = scale * Point::broadcast(width);
     let sum = delta_sum(&[(width, 100), (Fixed::NEG_ONE, 30)]);
     let advance = FWord::new(500).apply_delta(sum);
     let tag = Tag::new_checked(b"cvt")?.to_json(alloc)?;

@@ -1,0 +1,25 @@
+//! The example of README.md, run.
+
+use font_types_proved as font_types;
+use font_types::{BigEndian, FWord, Fixed, MajorMinor, Matrix, Point, Scalar, Uint24, delta_sum};
+
+#[test]
+fn example() -> Result<(), Box<dyn std::error::Error>> {
+    let version = MajorMinor::read(&[0x00, 0x01, 0x00, 0x02]).ok_or("four bytes")?;
+    let length = BigEndian::<Uint24>::new([0x00, 0x01, 0x00]).get();
+    let width = Fixed::from_decimal("1.5")?;
+    let scale = Matrix::from_elements([
+        width,
+        Fixed::ZERO,
+        Fixed::ZERO,
+        width,
+        Fixed::ZERO,
+        Fixed::ZERO,
+    ]);
+    let moved = scale * Point::broadcast(width);
+    let sum = delta_sum(&[(width, 100), (Fixed::NEG_ONE, 30)]);
+    let advance = FWord::new(500).apply_delta(sum);
+    let text = format!("{version} {length} {} {sum} {advance}", moved.x);
+    assert_eq!(text, "1.2 256 2.25 120 40632320");
+    Ok(())
+}
