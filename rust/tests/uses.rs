@@ -17,19 +17,3 @@ fn each_use() {
     println!("{count} of {} uses", count + left_out);
     assert!(count >= 337 && left_out <= 35);
 }
-
-/// The lines of Rust in README.md are those of the crate's page, where they are run.
-#[test]
-fn readme() {
-    let (_, block) = include_str!("../README.md")
-        .split_once("```rust\n")
-        .unwrap();
-    let (block, _) = block.split_once("```").unwrap();
-    let shown: Vec<_> = block
-        .lines()
-        .skip(1)
-        .filter(|line| !line.starts_with("# "))
-        .collect();
-    let shown = shown.join("\n");
-    assert!(include_str!("../../README.md").contains(&shown), "{shown}");
-}
