@@ -1,7 +1,7 @@
 -- Products rounded with ties away from zero, as code has it: half a step is added, less one where the product is
 -- negative, and the sum is shifted.
-use Rattle.std.proofs.Common.{◌≡◌, ◌∙◌, sym, ap, refl, ℕ, suc, ◌+◌, ◌-◌, ◌*◌, ◌%◌, ◌^◌, ◌<◌, ◌≤◌, Bool, true, false, ℤ,
-    pos, ◌+ℤ◌, ◌-ℤ◌, ◌*ℤ◌, ◌≤ℤ◌, ◌<ℤ◌, unsigned_abs, arith, lit<}
+use Rattle.std.proofs.Common.{◌≡◌, ◌∙◌, sym, ap, refl, ℕ, suc, ◌+◌, ◌-◌, ◌*◌, ◌%◌, ◌^◌, ◌<◌, ◌≤◌, Bool, true, false, ℤ}
+use Rattle.std.proofs.Common.{pos, ◌+ℤ◌, ◌-ℤ◌, ◌*ℤ◌, ◌≤ℤ◌, ◌<ℤ◌, unsigned_abs, arith, lit<}
 use Rattle.std.proofs.lemmas.Nat.{pow_pos}
 use Rattle.std.specs.Int.{w32, w64}
 use borrow.Author.Differences.{abs_is}
@@ -21,7 +21,7 @@ pub products_fit : (x y : ℤ) → SFits w32 x → SFits w32 y → SFits w64 (x 
 products_fit x y f g =
     let small : unsigned_abs x * unsigned_abs y ≤ 2 ^ 31 * 2 ^ 31 =
     mul-le-mul {n₁ = unsigned_abs x} {m₁ = unsigned_abs y} {n₂ = 2 ^ 31} {m₂ = 2 ^ 31}
-        (omega (arith, ints, f, abs_is x)) (omega (arith, ints, g, abs_is y)) in
+    (omega (arith, ints, f, abs_is x)) (omega (arith, ints, g, abs_is y)) in
     rw (product_signed x y) (either (differ_in_sign x y) (unsigned_abs x * unsigned_abs y) (omega (arith, small)))
   where
     either : (s : Bool) (n : ℕ) → n ≤ 2 ^ 62 → SFits w64 (signed s n)
@@ -33,12 +33,14 @@ near_of_sum : (s : Bool) (n e p : ℤ) (k d half : ℕ) → d ≡ half + half �
     → e ≡ pos (bool_byte s) → k ≡ unsigned_abs p
     → p ≤ℤ ((n +ℤ pos half) -ℤ e) → ((n +ℤ pos half) -ℤ e) <ℤ (p +ℤ pos d) → (2 * unsigned_abs (p -ℤ n) ≤ d)
     × (2 * unsigned_abs (p -ℤ n) ≡ d → unsigned_abs n < k)
-near_of_sum true n e p k d half halves some sign less is low high =
-    (omega (arith, ints, halves, sign, less, low, high),
-        λ tie. omega (arith, ints, halves, sign, less, is, low, high, tie))
-near_of_sum false n e p k d half halves some sign less is low high =
-    (omega (arith, ints, halves, less, low, high),
-        λ tie. omega (arith, ints, halves, some, sign, less, is, low, high, tie))
+near_of_sum true n e p k d half halves some sign less is low high = (
+  omega (arith, ints, halves, sign, less, low, high),
+  λ tie. omega (arith, ints, halves, sign, less, is, low, high, tie),
+)
+near_of_sum false n e p k d half halves some sign less is low high = (
+  omega (arith, ints, halves, less, low, high),
+  λ tie. omega (arith, ints, halves, some, sign, less, is, low, high, tie),
+)
 
 -- the wrapped answer is a rounded one
 pub near_is_wrapped_near : (w : ℕ) (n : ℤ) (d : ℕ) (r : ℤ) → 0 < d → r ≡ wrap w (near n d) → IsWrappedNear w n d r
@@ -71,20 +73,20 @@ pub shifted_is_near : (n e : ℤ) (f : ℕ) → SFits w64 n → unsigned_abs n �
     → e ≡ pos (bool_byte (lt_z (to_z w64 (of_z w64 n)) (pos 0)))
     → to_z w64 (of_z w64 (shr_z
     (to_z w64 (of_z w64 (to_z w64
-        (of_z w64 (to_z w64 (of_z w64 n) +ℤ to_z w64 (1 * 2 ^ (f - 1) % 18446744073709551616))) -ℤ to_z w64
-            (of_z w64 e)))) (2 ^ f)))
+    (of_z w64 (to_z w64 (of_z w64 n) +ℤ to_z w64 (1 * 2 ^ (f - 1) % 18446744073709551616))) -ℤ to_z w64
+    (of_z w64 e)))) (2 ^ f)))
     ≡ near n (2 ^ f)
 shifted_is_near n e f fits small many few is =
     let half : ℕ = 2 ^ (f - 1) in
     let bound : half ≤ 2 ^ 30 = half_small f few in
     let less : e ≡ pos (bool_byte (lt_z n (pos 0))) = is ∙ ap (λ y. pos (bool_byte (lt_z y (pos 0))))
-        (to_z-of_z w64 n fits) in
+    (to_z-of_z w64 n fits) in
     let unit = at_most_one (lt_z n (pos 0)) e less in
     let above : SFits w64 (n +ℤ pos half) = omega (arith, ints, small, bound, abs_is n) in
     let sum : SFits w64 ((n +ℤ pos half) -ℤ e) = omega (arith, ints, small, bound, unit, abs_is n) in
     let q : ℤ = shr_z ((n +ℤ pos half) -ℤ e) (2 ^ f) in
     let near = near_of_sum (lt_z n (pos 0)) n e (q *ℤ pos (2 ^ f)) (unsigned_abs q * 2 ^ f) (2 ^ f) half (halves f many)
-        (pow_pos (f - 1)) refl less (sym (unsigned_abs-mul q (pos (2 ^ f))))
+    (pow_pos (f - 1)) refl less (sym (unsigned_abs-mul q (pos (2 ^ f))))
     (shr_low _ (2 ^ f) (pow_pos f)) (shr_high _ (2 ^ f) (pow_pos f)) in
     rw (
       half_is f few,
@@ -109,7 +111,12 @@ product_32 x y a b m l d f g is rounded first second wide narrow some =
     let first_wide : SFits w64 x = omega (arith, ints, f) in
     let second_wide : SFits w64 y = omega (arith, ints, g) in
     let exact : m ≡ near (x *ℤ y) d =
-    rounded ∙ rw (first_is, second_is, to_z-of_z w64 x first_wide, to_z-of_z w64 y second_wide,
-        to_z-of_z w64 (x *ℤ y) product) refl in
+    rounded ∙ rw (
+      first_is,
+      second_is,
+      to_z-of_z w64 x first_wide,
+      to_z-of_z w64 y second_wide,
+      to_z-of_z w64 (x *ℤ y) product,
+    ) refl in
     near_is_wrapped_near 32 (x *ℤ y) d _ some
-        (to_z-of_z w32 l narrow ∙ is ∙ ap (wrap 32) (to_z-of_z w64 m wide ∙ exact))
+    (to_z-of_z w32 l narrow ∙ is ∙ ap (wrap 32) (to_z-of_z w64 m wide ∙ exact))

@@ -1,6 +1,7 @@
 -- What a decimal text is read as, from the number that the reader gives.
-use Rattle.std.proofs.Common.{◌≡◌, ◌∙◌, sym, ap, subst, ℕ, ◌+◌, ◌*◌, ◌/◌, ◌^◌, ◌<◌, ◌≤◌, List, ℤ, ◌≤ℤ◌, ◌-◌, length,
-    max, unsigned_abs, Option, IsSome, Result, Ok, Err, IfOk, ◌↔◌, arith, Bool, IsTrue, nat_lt, ◌&&◌}
+use Rattle.std.proofs.Common.{◌≡◌, ◌∙◌, sym, ap, subst, ℕ, ◌+◌, ◌*◌, ◌/◌, ◌^◌, ◌<◌, ◌≤◌, List, ℤ, ◌≤ℤ◌, ◌-◌, length}
+use Rattle.std.proofs.Common.{max, unsigned_abs, Option, IsSome, Result, Ok, Err, IfOk, ◌↔◌, arith, Bool, IsTrue}
+use Rattle.std.proofs.Common.{nat_lt, ◌&&◌}
 use Rattle.std.proofs.lemmas.Int.{ints, to_z-of_z}
 use Rattle.std.proofs.lemmas.Nat.{pow_pos}
 use Rattle.std.proofs.lemmas.Bool.{ltb-true}
@@ -52,7 +53,7 @@ printed_is_read_as bits_of of_bits back w f text (Ok y) room gives x fits same =
     ap Ok (sym (back y) ∙ ap of_bits equal ∙ back x)
 printed_is_read_as bits_of of_bits back w f text (Err fault) room gives x fits same =
     let reading : IsReading text f (least w) (greatest w) (Ok (bits_of x)) = rw same
-        (printed_reads w f (bits_of x) room fits) in
+    (printed_reads w f (bits_of x) room fits) in
     let equal = reading_unique text f (least w) (greatest w) (Err fault) (Ok (bits_of x)) gives reading in
     absurd (cc)
 
@@ -83,7 +84,7 @@ padded_has_room w b f room pad old result small fits long enough test =
     let some : p + 2 < room = ltb-true _ _ (second_so low more both) in
     let magnitude : unsigned_abs b ≤ 2 ^ hbits w = omega (arith, ints, fits, abs_is b) in
     let body = length-shortest_body-le b f digits p (omega (arith, magnitude, small)) (omega (arith, some))
-        (omega (arith, magnitude, whole)) steps in
+    (omega (arith, magnitude, whole)) steps in
     long.1 (padded_fits (shortest_text b f) pad room (length old) (omega (arith, body, some)) enough)
 
 -- ---- in the words of a type of its own: a result with the bits of its number in place of the number
@@ -115,7 +116,7 @@ reads_by {T} w f bits_of of_bits text q back room gives =
     let half : 2 ^ (bits w - 1) ≤ 2 ^ 63 = rw (half_range-bits w) room in
     let only : (r : Result T DecimalFault) → (q ≡ r) ↔ ReadingGives (bits w) f text (as_bits bits_of r)
     = λ r. let answer = answers_as text f (least (bits w)) (greatest (bits w)) (as_bits bits_of q)
-        (as_bits bits_of r) gives in
+    (as_bits bits_of r) gives in
     (λ same. answer.0 (ap (as_bits bits_of) same), λ other. same_result bits_of of_bits back q r (answer.1 other)) in
     record {
       ok = λ x. only (Ok x);

@@ -1,7 +1,7 @@
 -- What the file of a type of 64 bits names once, so that its calls need no answers: what std's calls and steps of code
 -- on 64 bits give, in the form that goals have, over every fraction.
-use Rattle.std.proofs.Common.{◌≡◌, ℕ, ◌+◌, ◌-◌, ◌*◌, ◌/◌, ◌%◌, ◌^◌, ◌≤◌, ℤ, pos, neg_ℤ, ◌+ℤ◌, ◌-ℤ◌, ◌*ℤ◌, unsigned_abs,
-    IsTrue, lit<, lit≤, length, max, List, Option, IsSome, ◌↔◌}
+use Rattle.std.proofs.Common.{◌≡◌, ℕ, ◌+◌, ◌-◌, ◌*◌, ◌/◌, ◌%◌, ◌^◌, ◌≤◌, ℤ, pos, neg_ℤ, ◌+ℤ◌, ◌-ℤ◌, ◌*ℤ◌, unsigned_abs}
+use Rattle.std.proofs.Common.{IsTrue, lit<, lit≤, length, max, List, Option, IsSome, ◌↔◌}
 use Rattle.std.specs.Int.{w64, int_wrapping_neg, int_rem_euclid}
 use lib.Signed.{shr_z}
 use mir.Val.{SFits, to_z, of_z}
@@ -12,8 +12,8 @@ use Rattle.font_decimal.specs.Shortest.{shortest_text}
 use Rattle.font_decimal.specs.declared.padding.Pad.{Pad}
 use Rattle.font_arithmetic.proofs.Texts.{is_room, padded_has_room}
 use Rattle.font_arithmetic.specs.Operations.{IsFloor, IsFract, IsNearestWhole, IsNarrowed}
-use Rattle.font_arithmetic.proofs.Wrapped.{wrapping_add-wrap, wrapping_sub-wrap, wrapping_neg-wrap, wrapping_abs-wrap,
-    rem_euclid_is_fract, wrapping_mul-wrap}
+use Rattle.font_arithmetic.proofs.Wrapped.{wrapping_add-wrap, wrapping_sub-wrap, wrapping_neg-wrap, wrapping_abs-wrap}
+use Rattle.font_arithmetic.proofs.Wrapped.{rem_euclid_is_fract, wrapping_mul-wrap}
 use Rattle.font_arithmetic.proofs.Calls.{wrap-signed_fits, add_zero, zero_add, sub_zero}
 use Rattle.font_arithmetic.proofs.Narrowing.{is_width_split, floor_is_nearest_whole, shr_is_narrowed}
 
@@ -55,8 +55,18 @@ pub cell_64 : (b : ℤ) (f room : ℕ) (pad : Pad) (old : List ℕ) (result : Op
 cell_64 b f room pad old result long fits enough test = padded_has_room w64 b f room pad old result
     (lit≤ tt) fits long enough test
 
-pub ruleset code_64 = (sum_64, difference_64, negated_64, abs_64, fract_64, nearest_whole_64, narrowed_64, scaled_64,
-    cell_64, shortest_is_decimal)
+pub ruleset code_64 = (
+  sum_64,
+  difference_64,
+  negated_64,
+  abs_64,
+  fract_64,
+  nearest_whole_64,
+  narrowed_64,
+  scaled_64,
+  cell_64,
+  shortest_is_decimal,
+)
 
 -- ---- for callers: a sum with zero, and wrapping of what fits
 

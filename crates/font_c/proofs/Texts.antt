@@ -1,6 +1,6 @@
 -- No decimal is empty, and none that is padded; and what room is enough.
-use Rattle.std.proofs.Common.{ℕ, ◌+◌, ◌^◌, ◌<◌, ◌≤◌, ℤ, max, unsigned_abs, Bool, true, false, List, [], ◌∷◌, ◌++◌,
-    length, drop, ap, arith, length-append, ◌==◌, if◌then◌else◌}
+use Rattle.std.proofs.Common.{ℕ, ◌+◌, ◌^◌, ◌<◌, ◌≤◌, ℤ, max, unsigned_abs, Bool, true, false, List, [], ◌∷◌, ◌++◌}
+use Rattle.std.proofs.Common.{length, drop, ap, arith, length-append, ◌==◌, if◌then◌else◌}
 use Rattle.std.specs.Prelude.{slice_index}
 use Rattle.std.specs.Fmt.{sign_text}
 use Rattle.font_decimal.specs.Grammar.{IsDecimal, fraction_text}

@@ -24,4 +24,4 @@ pub swap_factors : (n : ℤ) (t k : ℕ) → n *ℤ pos t *ℤ pos k ≡ n *ℤ 
 swap_factors (pos n) t k = ap pos (omega arith)
 swap_factors (negsuc n) t k =
     neg-times (pos (suc n * t)) k ∙ ap (λ p. neg_ℤ (pos p)) (let e : suc n * t * k ≡ suc n * k * t = omega arith in e)
-        ∙ sym (neg-times (pos (suc n * k)) t)
+    ∙ sym (neg-times (pos (suc n * k)) t)

@@ -1,6 +1,6 @@
 -- Rounding keeps the order, and so does reading.
-use Rattle.std.proofs.Common.{◌≡◌, ℕ, suc, ◌+◌, ◌*◌, ◌^◌, ◌<◌, ◌≤◌, inl, inr, true, false, List, ℤ, pos, negsuc, subst,
-    arith}
+use Rattle.std.proofs.Common.{◌≡◌, ℕ, suc, ◌+◌, ◌*◌, ◌^◌, ◌<◌, ◌≤◌, inl, inr, true, false, List, ℤ, pos, negsuc, subst}
+use Rattle.std.proofs.Common.{arith}
 use Rattle.std.specs.Prelude.{◌*ℤ◌, ◌≤ℤ◌, Result, Ok}
 use Rattle.std.proofs.Math.Nat.{mul-le-mul_right, mul-lt-mul_of_pos_right, suc-mul}
 use Rattle.std.proofs.lemmas.Bool.{cases_lt}
@@ -30,7 +30,7 @@ near_monotone (pos n) (pos m) d e q r h k x y order =
     let first = near_to false n d q h x in
     let second = near_to false m e r k y in
     let less = rounded_monotone n d first.magnitude m e second.magnitude h first.rounded second.rounded
-        (omega (arith, ints)) in
+    (omega (arith, ints)) in
     rw (first.is, second.is) (omega (arith, ints))
 near_monotone (pos n) (negsuc m) d e q r h k x y order = absurd (omega (arith, ints, suc-mul m d))
 near_monotone (negsuc n) (pos m) d e q r h k x y order =
@@ -41,7 +41,7 @@ near_monotone (negsuc n) (negsuc m) d e q r h k x y order =
     let first = near_to true (suc n) d q h x in
     let second = near_to true (suc m) e r k y in
     let less = rounded_monotone (suc m) e second.magnitude (suc n) d first.magnitude k second.rounded first.rounded
-        (omega (arith, ints)) in
+    (omega (arith, ints)) in
     rw (first.is, second.is) (omega (arith, ints))
 
 -- and of two texts the one of greater decimal value is never read as the lesser number
@@ -52,7 +52,7 @@ rounds_in_order s t f a b most x y =
     let order = rw (first.numeral, first.places, second.numeral, second.places) at most.ordered in
     let scaled = times_monotone (x.numeral *ℤ pos (10 ^ y.places)) (y.numeral *ℤ pos (10 ^ x.places)) (2 ^ f) order in
     near_monotone (x.numeral *ℤ pos (2 ^ f)) (y.numeral *ℤ pos (2 ^ f)) (10 ^ x.places) (10 ^ y.places) a b
-        (ten_pos x.places) (ten_pos y.places) x.nearest y.nearest
+    (ten_pos x.places) (ten_pos y.places) x.nearest y.nearest
     (rw (swap_factors x.numeral (2 ^ f) (10 ^ y.places), swap_factors y.numeral (2 ^ f) (10 ^ x.places)) scaled)
 
 pub order_of_readings : (s t : List ℕ) (f : ℕ) (min max : ℤ) (q r : Result ℤ DecimalFault) → IsReading s f min max q

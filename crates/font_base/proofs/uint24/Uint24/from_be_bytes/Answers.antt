@@ -9,7 +9,7 @@ returns-clause-bytes c =
     let slice = c.as_slice-bytes.ensures in
     bytes_of_gives 3 _ c.args.bytes
     (from_three c.args.bytes _ c.from.result c.from-2.result c.from-3.result slice.value slice.bytes c.from.ensures
-        c.from-2.ensures c.from-3.ensures)
+    c.from-2.ensures c.from-3.ensures)
 
 pub returns-clause-number : goal.returns-clause-number
 returns-clause-number c = uint24_numeral _ c.args.bytes (search rules) (returns-clause-bytes c)
