@@ -2,28 +2,40 @@
 
 use crate::{F2Dot14, F2Dot30, F4Dot12, F6Dot10, F26Dot6, F48Dot16, Fixed, JsonFault, JsonScalar};
 use serde_json::{Value, json};
+use std::alloc::Global;
 use std::test::Fail;
 
-#[test]
-fn fixed(rt: HostRuntime) -> Result<(), Fail> {
-    for (bits, text) in [
-        (34177024, "521.5"),
-        (i32::MAX, "32767.99998"),
-        (i32::MIN, "-32768"),
-        (0, "0"),
-        (1, "0.00002"),
-    ] {
-        let number = Fixed::from_bits(bits);
-        let value = number.to_json(rt.alloc())?;
-        assert!(rt; value.as_str() == Some(text), "{text}");
-        assert!(rt; Fixed::from_json(&value) == Ok(number), "{text}");
+// The first text that is not the form of its number, or from which its number is not read back.
+fn misread<T: JsonScalar + Copy + PartialEq>(
+    alloc: Global,
+    rows: &[(T, &'static str)],
+) -> Result<Option<&'static str>, JsonFault> {
+    for row in rows {
+        let (number, text) = *row;
+        let shown = number.to_json(alloc)?;
+        if shown.as_str() != Some(text) || T::from_json(&shown)? != number {
+            return Ok(Some(text));
+        }
     }
+    Ok(None)
+}
+
+#[test]
+fn texts_of_16_16(rt: HostRuntime) -> Result<(), Fail> {
+    let rows = [
+        (Fixed::from_bits(34177024), "521.5"),
+        (Fixed::MAX, "32767.99998"),
+        (Fixed::MIN, "-32768"),
+        (Fixed::ZERO, "0"),
+        (Fixed::EPSILON, "0.00002"),
+    ];
+    assert!(rt; misread(rt.alloc(), &rows)? == None);
     Ok(())
 }
 
 #[test]
-fn f26dot6(rt: HostRuntime) -> Result<(), Fail> {
-    for (bits, text) in [
+fn texts_of_26_6(rt: HostRuntime) -> Result<(), Fail> {
+    let rows = [
         (-64070, "-1001.1"),
         (1, "0.02"),
         (-3, "-0.05"),
@@ -33,18 +45,15 @@ fn f26dot6(rt: HostRuntime) -> Result<(), Fail> {
         (6416, "100.25"),
         (i32::MIN, "-33554432"),
         (i32::MAX, "33554431.98"),
-    ] {
-        let number = F26Dot6::from_bits(bits);
-        let value = number.to_json(rt.alloc())?;
-        assert!(rt; value.as_str() == Some(text), "{text}");
-        assert!(rt; F26Dot6::from_json(&value) == Ok(number), "{text}");
-    }
+    ];
+    let rows = rows.map(|row| (F26Dot6::from_bits(row.0), row.1));
+    assert!(rt; misread(rt.alloc(), &rows)? == None);
     Ok(())
 }
 
 #[test]
-fn f2dot14(rt: HostRuntime) -> Result<(), Fail> {
-    for (bits, text) in [
+fn texts_of_2_14(rt: HostRuntime) -> Result<(), Fail> {
+    let rows = [
         (19661, "1.2"),
         (9830, "0.6"),
         (-10139, "-0.61884"),
@@ -52,66 +61,37 @@ fn f2dot14(rt: HostRuntime) -> Result<(), Fail> {
         (-1, "-0.00006"),
         (i16::MIN, "-2"),
         (i16::MAX, "1.99994"),
-    ] {
-        let number = F2Dot14::from_bits(bits);
-        let value = number.to_json(rt.alloc())?;
-        assert!(rt; value.as_str() == Some(text), "{text}");
-        assert!(rt; F2Dot14::from_json(&value) == Ok(number), "{text}");
-    }
+    ];
+    let rows = rows.map(|row| (F2Dot14::from_bits(row.0), row.1));
+    assert!(rt; misread(rt.alloc(), &rows)? == None);
     Ok(())
 }
 
 #[test]
-fn f48dot16(rt: HostRuntime) -> Result<(), Fail> {
-    for (bits, text) in [
-        (72057594037927936, "1099511627776"),
-        (i64::MIN, "-140737488355328"),
-        (i64::MAX, "140737488355327.99998"),
-    ] {
-        let number = F48Dot16::from_bits(bits);
-        let value = number.to_json(rt.alloc())?;
-        assert!(rt; value.as_str() == Some(text), "{text}");
-        assert!(rt; F48Dot16::from_json(&value) == Ok(number), "{text}");
-    }
+fn texts_of_the_ends(rt: HostRuntime) -> Result<(), Fail> {
+    let wide = [
+        (F48Dot16::from_bits(72057594037927936), "1099511627776"),
+        (F48Dot16::MIN, "-140737488355328"),
+        (F48Dot16::MAX, "140737488355327.99998"),
+    ];
+    let narrow = [(F4Dot12::MIN, "-8"), (F4Dot12::MAX, "7.9998")];
+    let narrower = [(F6Dot10::MIN, "-32"), (F6Dot10::MAX, "31.999")];
+    assert!(rt; misread(rt.alloc(), &wide)? == None);
+    assert!(rt; misread(rt.alloc(), &narrow)? == None);
+    assert!(rt; misread(rt.alloc(), &narrower)? == None);
     Ok(())
 }
 
 #[test]
-fn f4dot12(rt: HostRuntime) -> Result<(), Fail> {
-    for (bits, text) in [(i16::MIN, "-8"), (i16::MAX, "7.9998")] {
-        let number = F4Dot12::from_bits(bits);
-        let value = number.to_json(rt.alloc())?;
-        assert!(rt; value.as_str() == Some(text), "{text}");
-        assert!(rt; F4Dot12::from_json(&value) == Ok(number), "{text}");
-    }
-    Ok(())
-}
-
-#[test]
-fn f6dot10(rt: HostRuntime) -> Result<(), Fail> {
-    for (bits, text) in [(i16::MIN, "-32"), (i16::MAX, "31.999")] {
-        let number = F6Dot10::from_bits(bits);
-        let value = number.to_json(rt.alloc())?;
-        assert!(rt; value.as_str() == Some(text), "{text}");
-        assert!(rt; F6Dot10::from_json(&value) == Ok(number), "{text}");
-    }
-    Ok(())
-}
-
-#[test]
-fn f2dot30(rt: HostRuntime) -> Result<(), Fail> {
-    for (bits, text) in [
-        (i32::MIN, "-2"),
-        (i32::MAX, "1.999999999"),
-        (1, "0.000000001"),
-        (7, "0.0000000065"),
-        (0x2666_6666, "0.6"),
-    ] {
-        let number = F2Dot30::from_bits(bits);
-        let value = number.to_json(rt.alloc())?;
-        assert!(rt; value.as_str() == Some(text), "{text}");
-        assert!(rt; F2Dot30::from_json(&value) == Ok(number), "{text}");
-    }
+fn texts_of_2_30(rt: HostRuntime) -> Result<(), Fail> {
+    let rows = [
+        (F2Dot30::MIN, "-2"),
+        (F2Dot30::MAX, "1.999999999"),
+        (F2Dot30::from_bits(1), "0.000000001"),
+        (F2Dot30::from_bits(7), "0.0000000065"),
+        (F2Dot30::from_bits(0x2666_6666), "0.6"),
+    ];
+    assert!(rt; misread(rt.alloc(), &rows)? == None);
     Ok(())
 }
 

@@ -5,246 +5,114 @@ use crate::{
     Offset16, Offset24, Offset32, UfWord, Uint24, Version16Dot16,
 };
 use serde_json::{Value, json};
+use std::alloc::Global;
 use std::test::Fail;
 
-#[test]
-fn uint24(rt: HostRuntime) -> Result<(), Fail> {
-    let alloc = rt.alloc();
-    for (value, number) in [(Uint24::new(0), 0i64), (Uint24::MAX, 16777215i64)] {
+// The first number that is not the form of its value, or from which its value is not read back.
+fn misread<T: JsonScalar + Copy + PartialEq>(
+    alloc: Global,
+    rows: &[(T, i64)],
+) -> Result<Option<i64>, JsonFault> {
+    for row in rows {
+        let (value, number) = *row;
         let shown = value.to_json(alloc)?;
-        assert!(rt; shown.as_i64() == Some(number), "{number}");
-        assert!(rt; Uint24::from_json(&shown) == Ok(value), "{number}");
+        if shown.as_i64() != Some(number) || T::from_json(&shown)? != value {
+            return Ok(Some(number));
+        }
     }
-    for number in [-1i64, 16777216i64] {
-        assert!(rt;
-            Uint24::from_json(&Value::from(number)) == Err(JsonFault::OutOfRange),
-            "{number}"
-        );
+    Ok(None)
+}
+
+// The first of the numbers that is not out of range.
+fn accepted<T: JsonScalar + Copy>(numbers: &[i64]) -> Option<i64> {
+    for number in numbers {
+        match T::from_json(&Value::from(*number)) {
+            Err(JsonFault::OutOfRange) => {}
+            _ => return Some(*number),
+        }
     }
+    None
+}
+
+#[test]
+fn ends_of_24_bits(rt: HostRuntime) -> Result<(), Fail> {
+    let unsigned = [(Uint24::new(0), 0), (Uint24::MAX, 16777215)];
+    let signed = [(Int24::MIN, -8388608), (Int24::MAX, 8388607)];
+    assert!(rt; misread(rt.alloc(), &unsigned)? == None);
+    assert!(rt; accepted::<Uint24>(&[-1, 16777216]) == None);
+    assert!(rt; misread(rt.alloc(), &signed)? == None);
+    assert!(rt; accepted::<Int24>(&[-8388609, 8388608]) == None);
     Ok(())
 }
 
 #[test]
-fn int24(rt: HostRuntime) -> Result<(), Fail> {
-    let alloc = rt.alloc();
-    for (value, number) in [(Int24::MIN, -8388608i64), (Int24::MAX, 8388607i64)] {
-        let shown = value.to_json(alloc)?;
-        assert!(rt; shown.as_i64() == Some(number), "{number}");
-        assert!(rt; Int24::from_json(&shown) == Ok(value), "{number}");
-    }
-    for number in [-8388609i64, 8388608i64] {
-        assert!(rt;
-            Int24::from_json(&Value::from(number)) == Err(JsonFault::OutOfRange),
-            "{number}"
-        );
-    }
+fn ends_of_font_units(rt: HostRuntime) -> Result<(), Fail> {
+    let signed = [(FWord::new(-32768), -32768), (FWord::new(32767), 32767)];
+    let unsigned = [(UfWord::new(0), 0), (UfWord::new(65535), 65535)];
+    assert!(rt; misread(rt.alloc(), &signed)? == None);
+    assert!(rt; accepted::<FWord>(&[-32769, 32768]) == None);
+    assert!(rt; misread(rt.alloc(), &unsigned)? == None);
+    assert!(rt; accepted::<UfWord>(&[-1, 65536]) == None);
     Ok(())
 }
 
 #[test]
-fn fword(rt: HostRuntime) -> Result<(), Fail> {
-    let alloc = rt.alloc();
-    for (value, number) in [
-        (FWord::new(-32768), -32768i64),
-        (FWord::new(32767), 32767i64),
-    ] {
-        let shown = value.to_json(alloc)?;
-        assert!(rt; shown.as_i64() == Some(number), "{number}");
-        assert!(rt; FWord::from_json(&shown) == Ok(value), "{number}");
-    }
-    for number in [-32769i64, 32768i64] {
-        assert!(rt;
-            FWord::from_json(&Value::from(number)) == Err(JsonFault::OutOfRange),
-            "{number}"
-        );
-    }
+fn ends_of_glyph_ids(rt: HostRuntime) -> Result<(), Fail> {
+    let short = [(GlyphId16::NOTDEF, 0), (GlyphId16::new(65535), 65535)];
+    let middle = [(GlyphId24::NOTDEF, 0), (GlyphId24::new(16777215), 16777215)];
+    let long = [(GlyphId::NOTDEF, 0), (GlyphId::new(4294967295), 4294967295)];
+    assert!(rt; misread(rt.alloc(), &short)? == None);
+    assert!(rt; accepted::<GlyphId16>(&[-1, 65536]) == None);
+    assert!(rt; misread(rt.alloc(), &middle)? == None);
+    assert!(rt; accepted::<GlyphId24>(&[-1, 16777216]) == None);
+    assert!(rt; misread(rt.alloc(), &long)? == None);
+    assert!(rt; accepted::<GlyphId>(&[-1, 4294967296]) == None);
     Ok(())
 }
 
 #[test]
-fn ufword(rt: HostRuntime) -> Result<(), Fail> {
-    let alloc = rt.alloc();
-    for (value, number) in [(UfWord::new(0), 0i64), (UfWord::new(65535), 65535i64)] {
-        let shown = value.to_json(alloc)?;
-        assert!(rt; shown.as_i64() == Some(number), "{number}");
-        assert!(rt; UfWord::from_json(&shown) == Ok(value), "{number}");
-    }
-    for number in [-1i64, 65536i64] {
-        assert!(rt;
-            UfWord::from_json(&Value::from(number)) == Err(JsonFault::OutOfRange),
-            "{number}"
-        );
-    }
+fn ends_of_offsets(rt: HostRuntime) -> Result<(), Fail> {
+    let short = [(Offset16::new(0), 0), (Offset16::new(65535), 65535)];
+    let greatest = Offset24::new(Uint24::MAX);
+    let middle = [(Offset24::new(Uint24::MIN), 0), (greatest, 16777215)];
+    let long = [
+        (Offset32::new(0), 0),
+        (Offset32::new(4294967295), 4294967295),
+    ];
+    assert!(rt; misread(rt.alloc(), &short)? == None);
+    assert!(rt; accepted::<Offset16>(&[-1, 65536]) == None);
+    assert!(rt; misread(rt.alloc(), &middle)? == None);
+    assert!(rt; accepted::<Offset24>(&[-1, 16777216]) == None);
+    assert!(rt; misread(rt.alloc(), &long)? == None);
+    assert!(rt; accepted::<Offset32>(&[-1, 4294967296]) == None);
     Ok(())
 }
 
 #[test]
-fn glyphid16(rt: HostRuntime) -> Result<(), Fail> {
-    let alloc = rt.alloc();
-    for (value, number) in [(GlyphId16::NOTDEF, 0i64), (GlyphId16::new(65535), 65535i64)] {
-        let shown = value.to_json(alloc)?;
-        assert!(rt; shown.as_i64() == Some(number), "{number}");
-        assert!(rt; GlyphId16::from_json(&shown) == Ok(value), "{number}");
-    }
-    for number in [-1i64, 65536i64] {
-        assert!(rt;
-            GlyphId16::from_json(&Value::from(number)) == Err(JsonFault::OutOfRange),
-            "{number}"
-        );
-    }
+fn ends_of_names_and_versions(rt: HostRuntime) -> Result<(), Fail> {
+    let names = [(NameId::COPYRIGHT_NOTICE, 0), (NameId::new(65535), 65535)];
+    let greatest = Version16Dot16::new(65535, 9);
+    let versions = [
+        (Version16Dot16::VERSION_2_5, 151552),
+        (greatest, 4294938624),
+    ];
+    assert!(rt; misread(rt.alloc(), &names)? == None);
+    assert!(rt; accepted::<NameId>(&[-1, 65536]) == None);
+    assert!(rt; misread(rt.alloc(), &versions)? == None);
+    assert!(rt; accepted::<Version16Dot16>(&[-1, 4294967296]) == None);
     Ok(())
 }
 
 #[test]
-fn glyphid24(rt: HostRuntime) -> Result<(), Fail> {
-    let alloc = rt.alloc();
-    for (value, number) in [
-        (GlyphId24::NOTDEF, 0i64),
-        (GlyphId24::new(16777215), 16777215i64),
-    ] {
-        let shown = value.to_json(alloc)?;
-        assert!(rt; shown.as_i64() == Some(number), "{number}");
-        assert!(rt; GlyphId24::from_json(&shown) == Ok(value), "{number}");
-    }
-    for number in [-1i64, 16777216i64] {
-        assert!(rt;
-            GlyphId24::from_json(&Value::from(number)) == Err(JsonFault::OutOfRange),
-            "{number}"
-        );
-    }
-    Ok(())
-}
-
-#[test]
-fn glyphid(rt: HostRuntime) -> Result<(), Fail> {
-    let alloc = rt.alloc();
-    for (value, number) in [
-        (GlyphId::NOTDEF, 0i64),
-        (GlyphId::new(4294967295), 4294967295i64),
-    ] {
-        let shown = value.to_json(alloc)?;
-        assert!(rt; shown.as_i64() == Some(number), "{number}");
-        assert!(rt; GlyphId::from_json(&shown) == Ok(value), "{number}");
-    }
-    for number in [-1i64, 4294967296i64] {
-        assert!(rt;
-            GlyphId::from_json(&Value::from(number)) == Err(JsonFault::OutOfRange),
-            "{number}"
-        );
-    }
-    Ok(())
-}
-
-#[test]
-fn longdatetime(rt: HostRuntime) -> Result<(), Fail> {
-    let alloc = rt.alloc();
-    for (value, number) in [
-        (LongDateTime::new(1234569101), 1234569101i64),
-        (LongDateTime::new(i64::MIN), i64::MIN),
-    ] {
-        let shown = value.to_json(alloc)?;
-        assert!(rt; shown.as_i64() == Some(number), "{number}");
-        assert!(rt; LongDateTime::from_json(&shown) == Ok(value), "{number}");
-    }
+fn ends_of_dates(rt: HostRuntime) -> Result<(), Fail> {
+    let least = LongDateTime::new(i64::MIN);
+    let dates = [
+        (LongDateTime::new(1234569101), 1234569101),
+        (least, i64::MIN),
+    ];
     let above = Value::from(9223372036854775808u64);
+    assert!(rt; misread(rt.alloc(), &dates)? == None);
     assert!(rt; LongDateTime::from_json(&above) == Err(JsonFault::OutOfRange));
-    Ok(())
-}
-
-#[test]
-fn nameid(rt: HostRuntime) -> Result<(), Fail> {
-    let alloc = rt.alloc();
-    for (value, number) in [
-        (NameId::COPYRIGHT_NOTICE, 0i64),
-        (NameId::new(65535), 65535i64),
-    ] {
-        let shown = value.to_json(alloc)?;
-        assert!(rt; shown.as_i64() == Some(number), "{number}");
-        assert!(rt; NameId::from_json(&shown) == Ok(value), "{number}");
-    }
-    for number in [-1i64, 65536i64] {
-        assert!(rt;
-            NameId::from_json(&Value::from(number)) == Err(JsonFault::OutOfRange),
-            "{number}"
-        );
-    }
-    Ok(())
-}
-
-#[test]
-fn offset16(rt: HostRuntime) -> Result<(), Fail> {
-    let alloc = rt.alloc();
-    for (value, number) in [(Offset16::new(0), 0i64), (Offset16::new(65535), 65535i64)] {
-        let shown = value.to_json(alloc)?;
-        assert!(rt; shown.as_i64() == Some(number), "{number}");
-        assert!(rt; Offset16::from_json(&shown) == Ok(value), "{number}");
-    }
-    for number in [-1i64, 65536i64] {
-        assert!(rt;
-            Offset16::from_json(&Value::from(number)) == Err(JsonFault::OutOfRange),
-            "{number}"
-        );
-    }
-    Ok(())
-}
-
-#[test]
-fn offset24(rt: HostRuntime) -> Result<(), Fail> {
-    let alloc = rt.alloc();
-    for (value, number) in [
-        (Offset24::new(Uint24::MIN), 0i64),
-        (Offset24::new(Uint24::MAX), 16777215i64),
-    ] {
-        let shown = value.to_json(alloc)?;
-        assert!(rt; shown.as_i64() == Some(number), "{number}");
-        assert!(rt; Offset24::from_json(&shown) == Ok(value), "{number}");
-    }
-    for number in [-1i64, 16777216i64] {
-        assert!(rt;
-            Offset24::from_json(&Value::from(number)) == Err(JsonFault::OutOfRange),
-            "{number}"
-        );
-    }
-    Ok(())
-}
-
-#[test]
-fn offset32(rt: HostRuntime) -> Result<(), Fail> {
-    let alloc = rt.alloc();
-    for (value, number) in [
-        (Offset32::new(0), 0i64),
-        (Offset32::new(4294967295), 4294967295i64),
-    ] {
-        let shown = value.to_json(alloc)?;
-        assert!(rt; shown.as_i64() == Some(number), "{number}");
-        assert!(rt; Offset32::from_json(&shown) == Ok(value), "{number}");
-    }
-    for number in [-1i64, 4294967296i64] {
-        assert!(rt;
-            Offset32::from_json(&Value::from(number)) == Err(JsonFault::OutOfRange),
-            "{number}"
-        );
-    }
-    Ok(())
-}
-
-#[test]
-fn version16dot16(rt: HostRuntime) -> Result<(), Fail> {
-    let alloc = rt.alloc();
-    for (value, number) in [
-        (Version16Dot16::VERSION_2_5, 151552i64),
-        (Version16Dot16::new(65535, 9), 4294938624i64),
-    ] {
-        let shown = value.to_json(alloc)?;
-        assert!(rt; shown.as_i64() == Some(number), "{number}");
-        assert!(rt; Version16Dot16::from_json(&shown) == Ok(value), "{number}");
-    }
-    for number in [-1i64, 4294967296i64] {
-        assert!(rt;
-            Version16Dot16::from_json(&Value::from(number)) == Err(JsonFault::OutOfRange),
-            "{number}"
-        );
-    }
     Ok(())
 }
 
