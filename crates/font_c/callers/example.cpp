@@ -33,15 +33,28 @@ private:
     std::int32_t bits_;
 };
 
+// The library takes no null pointer, which an empty vector may have.
+static const std::int32_t *data_of(const std::vector<std::int32_t> &numbers) {
+    static const std::int32_t none = 0;
+    return numbers.empty() ? &none : numbers.data();
+}
+
+// The exact sum of the products, as the bits of a 48.16 number.
+static std::int64_t delta_sum(const std::vector<std::int32_t> &scalars,
+                              const std::vector<std::int32_t> &deltas) {
+    std::int64_t sum = 0;
+    const std::uint32_t status = font_checked_delta_sum(
+        data_of(scalars), scalars.size(), data_of(deltas), deltas.size(), &sum);
+    if (status != FONT_SUMMED)
+        throw std::invalid_argument("deltas");
+    return sum;
+}
+
 int main() {
     const Fixed width = Fixed::parse("1.5");
-    const std::vector<std::int32_t> scalars = {width.bits(), -65536};
-    const std::vector<std::int32_t> deltas = {100, 30};
-    std::int64_t sum = 0;
-    const std::uint32_t status = font_delta_sum(
-        scalars.data(), scalars.size(), deltas.data(), deltas.size(), &sum);
     std::cout << (width * width).text() << ' ' << (width / Fixed::parse("-4")).text() << ' '
-              << status << ' ' << sum / 65536 << '\n';
+              << delta_sum({}, {}) << ' '
+              << delta_sum({width.bits(), -65536}, {100, 30}) / 65536 << '\n';
     try {
         Fixed::parse("1e3");
     } catch (const std::invalid_argument &fault) {

@@ -1,15 +1,36 @@
 /*
  * Makes the calls of a table of values, and counts the answers that are those
- * of the table. Its last line is "N passed, M failed". It is C and C++.
+ * of the table. Its last line is "N passed, M failed"; it fails too where there
+ * are fewer lines of a kind than it knows of, or more. It is C and C++.
  */
 #include "font_types.h"
 
 #include <inttypes.h>
+#include <stdbool.h>
 #include <stdio.h>
 #include <stdlib.h>
 #include <string.h>
 
-enum { MOST_WORDS = 32, LINE = 512, ROOM = 64 };
+enum { MOST_WORDS = 32, LINE = 512, ROOM = 64, TYPES = 7 };
+
+/* What the library answers by these names, and the table has as numbers. */
+#define IS(NAME, NUMBER) typedef char NAME##_is_##NUMBER[(NAME) == (NUMBER) ? 1 : -1]
+
+IS(FONT_READ, 0);
+IS(FONT_NO_DECIMAL, 1);
+IS(FONT_OUT_OF_RANGE, 2);
+IS(FONT_LEFT, 0);
+IS(FONT_CENTER, 1);
+IS(FONT_RIGHT, 2);
+IS(FONT_DECIMAL_ROOM, 24);
+IS(FONT_TAG_GOOD, 0);
+IS(FONT_TAG_LENGTH, 1);
+IS(FONT_TAG_BYTE, 2);
+IS(FONT_TAG_AFTER_SPACE, 3);
+IS(FONT_TAG_ROOM, 25);
+IS(FONT_SUMMED, 0);
+IS(FONT_OTHER_LENGTH, 1);
+IS(FONT_SUM_OUT_OF_RANGE, 2);
 
 /* The words of a line. */
 typedef struct words {
@@ -71,15 +92,23 @@ WIDENED(f26dot6, int32_t)
 WIDENED(f48dot16, int64_t)
 WIDENED(f2dot30, int32_t)
 
-static const number_type number_types[] = {
+static const number_type number_types[TYPES] = {
     CALLS_OF(fixed),   CALLS_OF(f2dot14),  CALLS_OF(f4dot12), CALLS_OF(f6dot10),
     CALLS_OF(f26dot6), CALLS_OF(f48dot16), CALLS_OF(f2dot30),
 };
 
+/* The place of a type among them, or TYPES. */
+static size_t place_of(const char *name) {
+    size_t place = 0;
+    while (place < TYPES && strcmp(number_types[place].name, name) != 0)
+        place++;
+    return place;
+}
+
 static const number_type *type_named(const char *name) {
-    for (size_t i = 0; i < sizeof number_types / sizeof number_types[0]; i++)
-        if (strcmp(number_types[i].name, name) == 0)
-            return &number_types[i];
+    size_t place = place_of(name);
+    if (place < TYPES)
+        return &number_types[place];
     fprintf(stderr, "no type %s\n", name);
     exit(2);
 }
@@ -104,7 +133,8 @@ static bool is_written(const char *out, size_t length, const char *text) {
     return true;
 }
 
-/* write TYPE BITS TEXT, in a room that is just enough, and in one that is not */
+/* write TYPE BITS TEXT, in a room that is just enough, in one that is not, and in the one for every
+   decimal, with a zero byte behind it */
 static bool write_line(const words *line) {
     const number_type *type = type_named(line->word[1]);
     const char *text = line->word[3];
@@ -112,22 +142,33 @@ static bool write_line(const words *line) {
     memset(out, '~', ROOM);
     if (type->to_decimal(number(line, 2), out, strlen(text) - 1) != 0 || !is_written(out, 0, ""))
         return false;
-    return is_written(out, type->to_decimal(number(line, 2), out, strlen(text)), text);
+    if (!is_written(out, type->to_decimal(number(line, 2), out, strlen(text)), text))
+        return false;
+    char decimal[FONT_DECIMAL_ROOM];
+    decimal[type->to_decimal(number(line, 2), decimal, sizeof decimal)] = 0;
+    return strcmp(decimal, text) == 0;
 }
 
-/* pad TYPE BITS WIDTH FILL ALIGN PLUS ZEROS TEXT, or `refused` in place of the text */
+/* pad TYPE BITS WIDTH FILL ALIGN PLUS ZEROS TEXT, or `refused` in place of the text; in a wide room
+   and, where the width leaves that, in the one for every decimal */
 static bool pad_line(const words *line) {
     const number_type *type = type_named(line->word[1]);
     font_pad pad;
     pad.width = (size_t)number(line, 3);
     pad.fill = (uint8_t)number(line, 4);
     pad.align = (uint8_t)number(line, 5);
-    pad.plus = number(line, 6) != 0;
-    pad.zeros = number(line, 7) != 0;
+    pad.plus = (uint8_t)number(line, 6);
+    pad.zeros = (uint8_t)number(line, 7);
     const char *text = strcmp(line->word[8], "refused") == 0 ? "" : line->word[8];
     char out[ROOM];
     memset(out, '~', ROOM);
-    return is_written(out, type->write_padded(number(line, 2), &pad, out, ROOM), text);
+    if (!is_written(out, type->write_padded(number(line, 2), &pad, out, ROOM), text))
+        return false;
+    if (pad.width > FONT_DECIMAL_ROOM)
+        return true;
+    char cell[FONT_DECIMAL_ROOM];
+    return type->write_padded(number(line, 2), &pad, cell, sizeof cell) == strlen(text)
+           && memcmp(cell, text, strlen(text)) == 0;
 }
 
 /* whole TYPE BITS ROUND FLOOR */
@@ -167,12 +208,20 @@ static font_matrix matrix(const words *line, int at) {
     int32_t e[6];
     for (int i = 0; i < 6; i++)
         e[i] = (int32_t)number(line, at + i);
-    font_matrix matrix = {e[0], e[1], e[2], e[3], e[4], e[5]};
+    font_matrix matrix;
+    matrix.xx = e[0];
+    matrix.yx = e[1];
+    matrix.xy = e[2];
+    matrix.yy = e[3];
+    matrix.dx = e[4];
+    matrix.dy = e[5];
     return matrix;
 }
 
 static font_point point(const words *line, int at) {
-    font_point point = {(int32_t)number(line, at), (int32_t)number(line, at + 1)};
+    font_point point;
+    point.x = (int32_t)number(line, at);
+    point.y = (int32_t)number(line, at + 1);
     return point;
 }
 
@@ -226,7 +275,11 @@ static bool tag_line(const words *line) {
     char out[ROOM];
     memset(out, '~', ROOM);
     tag = (uint32_t)bytes[0] << 24 | (uint32_t)bytes[1] << 16 | (uint32_t)bytes[2] << 8 | bytes[3];
-    return is_written(out, font_tag_to_text(tag, out, 24), text);
+    if (!is_written(out, font_tag_to_text(tag, out, 24), text))
+        return false;
+    char shown[FONT_TAG_ROOM];
+    shown[font_tag_to_text(tag, shown, sizeof shown)] = 0;
+    return strcmp(shown, text) == 0;
 }
 
 /* sum STATUS SUM COUNT, and a scalar and a delta for each term, where the place has 7 before */
@@ -239,30 +292,64 @@ static bool sum_line(const words *line) {
         deltas[i] = (int32_t)number(line, 5 + 2 * (int)i);
     }
     int64_t sum = 7;
-    uint32_t status = font_delta_sum(scalars, count, deltas, count, &sum);
+    uint32_t status = font_checked_delta_sum(scalars, count, deltas, count, &sum);
     if (status != number(line, 1) || sum != number(line, 2))
         return false;
     sum = 7;
-    return font_delta_sum(scalars, count, deltas, count + 1, &sum) == FONT_OTHER_LENGTH && sum == 7;
+    return font_checked_delta_sum(scalars, count, deltas, count + 1, &sum) == FONT_OTHER_LENGTH
+           && font_checked_delta_sum(scalars, count + 1, deltas, count, &sum) == FONT_OTHER_LENGTH
+           && sum == 7;
 }
+
+/* ---- all lines ---- */
 
 typedef struct kind {
     const char *name;
     bool (*holds)(const words *line);
+    bool of_types;   /* whether a type stands behind the name */
+    unsigned wanted; /* how many lines there are, of each type that has any */
 } kind;
 
-static const kind kinds[] = {
-    {"read", read_line},       {"write", write_line},     {"pad", pad_line},
-    {"whole", whole_line},     {"product", product_line}, {"mul_div", mul_div_line},
-    {"narrow", narrow_line},   {"matrix", matrix_line},   {"tag", tag_line},
-    {"sum", sum_line},
+enum { KINDS = 10 };
+
+static const kind kinds[KINDS] = {
+    {"read", read_line, true, 35},        {"write", write_line, true, 20},
+    {"pad", pad_line, true, 32},          {"whole", whole_line, true, 20},
+    {"product", product_line, true, 33},  {"mul_div", mul_div_line, false, 24},
+    {"narrow", narrow_line, false, 25},   {"matrix", matrix_line, false, 16},
+    {"tag", tag_line, false, 20},         {"sum", sum_line, false, 9},
 };
 
+/* How many lines of a kind there were, of each type, or at 0. */
+static unsigned lines_of[KINDS][TYPES];
+
 static bool holds(const words *line) {
-    for (size_t i = 0; i < sizeof kinds / sizeof kinds[0]; i++)
-        if (strcmp(kinds[i].name, line->word[0]) == 0)
+    for (size_t i = 0; line->count > 1 && i < KINDS; i++)
+        if (strcmp(kinds[i].name, line->word[0]) == 0) {
+            size_t type = kinds[i].of_types ? place_of(line->word[1]) : 0;
+            if (type == TYPES)
+                return false;
+            lines_of[i][type]++;
             return kinds[i].holds(line);
+        }
     return false;
+}
+
+/* Whether products are those of 16.16 and 26.6 numbers, and all other kinds stand for each type. */
+static bool is_complete(void) {
+    bool complete = true;
+    for (size_t i = 0; i < KINDS; i++)
+        for (size_t type = 0; type < (kinds[i].of_types ? (size_t)TYPES : 1); type++) {
+            bool product = kinds[i].holds == product_line;
+            bool has = !product || type == place_of("fixed") || type == place_of("f26dot6");
+            unsigned wanted = has ? kinds[i].wanted : 0;
+            if (lines_of[i][type] != wanted) {
+                printf("%u lines %s %s, and not %u\n", lines_of[i][type], kinds[i].name,
+                       kinds[i].of_types ? number_types[type].name : "", wanted);
+                complete = false;
+            }
+        }
+    return complete;
 }
 
 int main(int argc, char **argv) {
@@ -288,6 +375,7 @@ int main(int argc, char **argv) {
         }
     }
     fclose(table);
+    bool complete = is_complete();
     printf("%u passed, %u failed\n", passed, failed);
-    return failed == 0 ? 0 : 1;
+    return complete && failed == 0 ? 0 : 1;
 }

@@ -6,10 +6,14 @@
  * Numbers are handed over by their bits, which count steps of 1 / 2^f: of a
  * 16.16 number, int32_t, f is 16, so that 98304 is 1.5.
  *
+ * A status is 0 where the call did what was asked. A length is 0 where it did
+ * not: no text that is written is empty.
+ *
  * Pointers: each is valid for the length that goes with it (that of a single
  * value is 1), is aligned for its type, and is not null, also where the length
- * is 0. What a call writes overlaps nothing else that it is given. A text is
- * `length` bytes, and no zero byte ends it.
+ * is 0 (an empty std::vector may give null) and where the call refuses and
+ * writes nothing. What a call writes overlaps nothing else that it is given. A
+ * text is `length` bytes; no zero byte ends it, and none is written behind it.
  *
  * A call keeps nothing, allocates nothing, and may be made from any thread.
  * Where it refuses, it leaves what is behind its pointers as it was; only
@@ -18,11 +22,10 @@
 #ifndef FONT_TYPES_H
 #define FONT_TYPES_H
 
-#ifndef __cplusplus
-#include <stdbool.h>
-#endif
 #include <stddef.h>
 #include <stdint.h>
+
+#define FONT_TYPES_VERSION "0.2.0"
 
 #ifdef __cplusplus
 extern "C" {
@@ -48,20 +51,24 @@ enum {
     FONT_RIGHT = 2   /* at the back */
 };
 
-/* How a text is padded. It is refused where `fill` is 0x80 or more, or `align` is none of the three. */
+/*
+ * How a text is padded. It is none where `fill` is 0x80 or more, or `align` is
+ * none of the three.
+ */
 typedef struct font_pad {
     size_t width;  /* the least number of bytes */
     uint8_t fill;  /* the byte that fills, below 0x80 */
     uint8_t align; /* FONT_LEFT, FONT_CENTER or FONT_RIGHT */
-    bool plus;     /* whether a text with no `-` gets a `+` */
-    bool zeros;    /* whether zeros behind the sign stand in place of the fill */
+    uint8_t plus;  /* not 0: a text with no `-` gets a `+` */
+    uint8_t zeros; /* not 0: zeros behind the sign in place of the fill, whatever `align` is */
 } font_pad;
 
 /*
- * The longest decimal has 22 bytes, so that `to_decimal` never refuses a room
- * of 22. With a `+` it has 23.
+ * A decimal has at most 22 bytes, with a `+` or without, so that `to_decimal`
+ * never refuses a room of this size, nor `write_padded` one of this size and of
+ * `width` bytes at least. Of a decimal there is room for a zero byte behind it.
  */
-enum { FONT_DECIMAL_ROOM = 22 };
+enum { FONT_DECIMAL_ROOM = 24 };
 
 /* ---- 16.16 numbers, int32_t ---- */
 
@@ -72,12 +79,13 @@ enum { FONT_DECIMAL_ROOM = 22 };
 uint32_t font_fixed_from_decimal(const char *text, size_t length, int32_t *bits);
 
 /*
- * Writes the shortest decimal that is read back as the number, and the nearest
- * of these, to the front of `out`. Returns its length, or 0 where `room` is less.
+ * Writes the shortest decimal that is read back as the number, of these the
+ * nearest, and of two as near the one farther from 0, to the front of `out`.
+ * Returns its length, or 0 where `room` is less.
  */
 size_t font_fixed_to_decimal(int32_t bits, char *out, size_t room);
 
-/* The same, padded. Also 0 where `pad` is refused. */
+/* The same, padded; 0 where `pad` is none, and where `room` is less. */
 size_t font_fixed_write_padded(int32_t bits, const font_pad *pad, char *out, size_t room);
 
 /* The bits of the nearest whole number, ties upwards, wrapped. */
@@ -119,12 +127,13 @@ int16_t font_fixed_to_f2dot14(int32_t bits);
 uint32_t font_f2dot14_from_decimal(const char *text, size_t length, int16_t *bits);
 
 /*
- * Writes the shortest decimal that is read back as the number, and the nearest
- * of these, to the front of `out`. Returns its length, or 0 where `room` is less.
+ * Writes the shortest decimal that is read back as the number, of these the
+ * nearest, and of two as near the one farther from 0, to the front of `out`.
+ * Returns its length, or 0 where `room` is less.
  */
 size_t font_f2dot14_to_decimal(int16_t bits, char *out, size_t room);
 
-/* The same, padded. Also 0 where `pad` is refused. */
+/* The same, padded; 0 where `pad` is none, and where `room` is less. */
 size_t font_f2dot14_write_padded(int16_t bits, const font_pad *pad, char *out, size_t room);
 
 /* The bits of the nearest whole number, ties upwards, wrapped. */
@@ -142,12 +151,13 @@ int16_t font_f2dot14_floor(int16_t bits);
 uint32_t font_f4dot12_from_decimal(const char *text, size_t length, int16_t *bits);
 
 /*
- * Writes the shortest decimal that is read back as the number, and the nearest
- * of these, to the front of `out`. Returns its length, or 0 where `room` is less.
+ * Writes the shortest decimal that is read back as the number, of these the
+ * nearest, and of two as near the one farther from 0, to the front of `out`.
+ * Returns its length, or 0 where `room` is less.
  */
 size_t font_f4dot12_to_decimal(int16_t bits, char *out, size_t room);
 
-/* The same, padded. Also 0 where `pad` is refused. */
+/* The same, padded; 0 where `pad` is none, and where `room` is less. */
 size_t font_f4dot12_write_padded(int16_t bits, const font_pad *pad, char *out, size_t room);
 
 /* The bits of the nearest whole number, ties upwards, wrapped. */
@@ -165,12 +175,13 @@ int16_t font_f4dot12_floor(int16_t bits);
 uint32_t font_f6dot10_from_decimal(const char *text, size_t length, int16_t *bits);
 
 /*
- * Writes the shortest decimal that is read back as the number, and the nearest
- * of these, to the front of `out`. Returns its length, or 0 where `room` is less.
+ * Writes the shortest decimal that is read back as the number, of these the
+ * nearest, and of two as near the one farther from 0, to the front of `out`.
+ * Returns its length, or 0 where `room` is less.
  */
 size_t font_f6dot10_to_decimal(int16_t bits, char *out, size_t room);
 
-/* The same, padded. Also 0 where `pad` is refused. */
+/* The same, padded; 0 where `pad` is none, and where `room` is less. */
 size_t font_f6dot10_write_padded(int16_t bits, const font_pad *pad, char *out, size_t room);
 
 /* The bits of the nearest whole number, ties upwards, wrapped. */
@@ -188,12 +199,13 @@ int16_t font_f6dot10_floor(int16_t bits);
 uint32_t font_f26dot6_from_decimal(const char *text, size_t length, int32_t *bits);
 
 /*
- * Writes the shortest decimal that is read back as the number, and the nearest
- * of these, to the front of `out`. Returns its length, or 0 where `room` is less.
+ * Writes the shortest decimal that is read back as the number, of these the
+ * nearest, and of two as near the one farther from 0, to the front of `out`.
+ * Returns its length, or 0 where `room` is less.
  */
 size_t font_f26dot6_to_decimal(int32_t bits, char *out, size_t room);
 
-/* The same, padded. Also 0 where `pad` is refused. */
+/* The same, padded; 0 where `pad` is none, and where `room` is less. */
 size_t font_f26dot6_write_padded(int32_t bits, const font_pad *pad, char *out, size_t room);
 
 /* The bits of the nearest whole number, ties upwards, wrapped. */
@@ -220,12 +232,13 @@ int32_t font_f26dot6_div(int32_t x, int32_t y);
 uint32_t font_f48dot16_from_decimal(const char *text, size_t length, int64_t *bits);
 
 /*
- * Writes the shortest decimal that is read back as the number, and the nearest
- * of these, to the front of `out`. Returns its length, or 0 where `room` is less.
+ * Writes the shortest decimal that is read back as the number, of these the
+ * nearest, and of two as near the one farther from 0, to the front of `out`.
+ * Returns its length, or 0 where `room` is less.
  */
 size_t font_f48dot16_to_decimal(int64_t bits, char *out, size_t room);
 
-/* The same, padded. Also 0 where `pad` is refused. */
+/* The same, padded; 0 where `pad` is none, and where `room` is less. */
 size_t font_f48dot16_write_padded(int64_t bits, const font_pad *pad, char *out, size_t room);
 
 /* The bits of the nearest whole number, ties upwards, wrapped. */
@@ -243,12 +256,13 @@ int64_t font_f48dot16_floor(int64_t bits);
 uint32_t font_f2dot30_from_decimal(const char *text, size_t length, int32_t *bits);
 
 /*
- * Writes the shortest decimal that is read back as the number, and the nearest
- * of these, to the front of `out`. Returns its length, or 0 where `room` is less.
+ * Writes the shortest decimal that is read back as the number, of these the
+ * nearest, and of two as near the one farther from 0, to the front of `out`.
+ * Returns its length, or 0 where `room` is less.
  */
 size_t font_f2dot30_to_decimal(int32_t bits, char *out, size_t room);
 
-/* The same, padded. Also 0 where `pad` is refused. */
+/* The same, padded; 0 where `pad` is none, and where `room` is less. */
 size_t font_f2dot30_write_padded(int32_t bits, const font_pad *pad, char *out, size_t room);
 
 /* The bits of the nearest whole number, ties upwards, wrapped. */
@@ -259,7 +273,10 @@ int32_t font_f2dot30_floor(int32_t bits);
 
 /* ---- matrices and points of 16.16 numbers ---- */
 
-/* It sends (x, y) to (xx * x + xy * y + dx, yx * x + yy * y + dy). */
+/*
+ * It sends (x, y) to (xx * x + xy * y + dx, yx * x + yy * y + dy). The members
+ * stand by columns, xx, yx, xy, yy: FT_Matrix of FreeType has xx, xy, yx, yy.
+ */
 typedef struct font_matrix {
     int32_t xx, yx, xy, yy, dx, dy;
 } font_matrix;
@@ -295,37 +312,40 @@ font_point font_matrix_in_turn(font_matrix a, font_matrix b, font_point p);
 
 /* What is said of a tag. */
 enum {
-    FONT_TAG_GOOD = 0,       /* visible characters, and only spaces behind them */
+    FONT_TAG_GOOD = 0,       /* bytes from 0x21 to 0x7E, and only spaces behind them */
     FONT_TAG_LENGTH = 1,     /* another number of bytes; of validate four spaces too */
-    FONT_TAG_BYTE = 2,       /* a byte that cannot stand where it does */
-    FONT_TAG_AFTER_SPACE = 3 /* a visible byte behind a space */
+    FONT_TAG_BYTE = 2,       /* of validate: a byte outside 0x20 to 0x7E, or a space in front */
+    FONT_TAG_AFTER_SPACE = 3 /* of validate alone: a visible byte behind a space */
 };
+
+/* A tag's text has at most 24 bytes, and with a zero byte behind it 25. */
+enum { FONT_TAG_ROOM = 25 };
 
 /*
  * Makes a tag of one to four bytes, filled with spaces: FONT_TAG_GOOD, and it is
  * in *tag; FONT_TAG_LENGTH where there are not one to four bytes; FONT_TAG_BYTE
- * for every other fault.
+ * for every other fault: a byte outside 0x20 to 0x7E, a space in front, or a
+ * visible byte behind a space.
  */
 uint32_t font_tag_new(const char *text, size_t length, uint32_t *tag);
 
 /*
  * Judges the bytes of a tag: FONT_TAG_GOOD; FONT_TAG_LENGTH where there are not
  * four or all are spaces; FONT_TAG_BYTE or FONT_TAG_AFTER_SPACE, and the index of
- * the first fault is in *position: a byte that shows no character, or one that
- * does and stands behind a space.
+ * the first fault is in *position: a byte outside 0x20 to 0x7E, a space in front,
+ * or a visible byte behind a space.
  */
 uint32_t font_tag_validate(const uint8_t *bytes, size_t length, uint32_t *position);
 
 /*
  * Writes a tag's text to the front of `out`: from 0x20 to 0x7E a byte as it is,
- * any other as {0xNN}, so 24 bytes at most. Returns its length, or 0 where `room`
- * is less.
+ * any other as {0xNN}. Returns its length, or 0 where `room` is less.
  */
 size_t font_tag_to_text(uint32_t tag, char *out, size_t room);
 
 /* ---- sums of deltas ---- */
 
-/* What font_delta_sum answers. */
+/* What font_checked_delta_sum answers. */
 enum {
     FONT_SUMMED = 0,          /* the sum was written */
     FONT_OTHER_LENGTH = 1,    /* there are not as many scalars as deltas */
@@ -336,8 +356,8 @@ enum {
  * The exact sum of the products of 16.16 scalars and deltas, item by item, as the
  * bits of a 48.16 number, wherever partial sums lie.
  */
-uint32_t font_delta_sum(const int32_t *scalars, size_t scalar_count,
-                        const int32_t *deltas, size_t delta_count, int64_t *sum);
+uint32_t font_checked_delta_sum(const int32_t *scalars, size_t scalar_count,
+                                const int32_t *deltas, size_t delta_count, int64_t *sum);
 
 #ifdef __cplusplus
 }

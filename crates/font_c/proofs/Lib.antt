@@ -1,3 +1,3 @@
-pub mod Nonempty
+pub mod Texts
 mod Readings
 mod SumLemmas

@@ -17,9 +17,9 @@ coordinates p = record { x = p.x; y = p.y }
 
 -- the product of two such matrices, which applies b and then a: products of elements are rounded
 -- and wrapped, and sums wrapped
-abbrev pub product_of : Matrix ℤ → Matrix ℤ → Matrix ℤ
-product_of a b = matrix_product wrapped_sum wrapped_product a b
+abbrev pub fixed_matrix_product : Matrix ℤ → Matrix ℤ → Matrix ℤ
+fixed_matrix_product a b = matrix_product wrapped_sum wrapped_product a b
 
 -- where such a matrix sends a point, in the same way
-abbrev pub moved_by : Matrix ℤ → Point ℤ → Point ℤ
-moved_by m p = image_of wrapped_sum wrapped_product m p
+abbrev pub fixed_image : Matrix ℤ → Point ℤ → Point ℤ
+fixed_image m p = image_of wrapped_sum wrapped_product m p

@@ -1,5 +1,5 @@
 -- How C says that a text is padded. All of it is the project's own.
-use Rattle.std.specs.Prelude.{◌≡◌, ◌≢◌, ◌<◌, ◌≤◌, ℕ, zero, suc, ℤ, List, length, max}
+use Rattle.std.specs.Prelude.{◌≡◌, ◌≢◌, ◌<◌, ◌≤◌, ℕ, zero, suc, ℤ, List, length, max, Bool, true, false}
 use Rattle.font_types.specs.Padding.{padded_text}
 use Rattle.font_types.specs.Shortest.{shortest_text}
 use Rattle.font_decimal.specs.declared.padding.Align.{Align}
@@ -18,20 +18,25 @@ align_of zero = Left
 align_of (suc zero) = Center
 align_of (suc (suc n)) = Right
 
+-- any byte but 0 says yes
+abbrev pub flag_of : ℕ → Bool
+flag_of zero = false
+flag_of (suc n) = true
+
 -- the padding that it stands for
 abbrev pub pad_of : FontPad → Pad
 pad_of pad = record {
   width = pad.width;
   fill = pad.fill;
   align = align_of pad.align;
-  plus = pad.plus;
-  zeros = pad.zeros;
+  plus = flag_of pad.plus;
+  zeros = flag_of pad.zeros;
 }
 
--- the shortest decimal of b / 2^f is handed over padded, and a room of 23 bytes, or of the width
+-- the shortest decimal of b / 2^f is handed over padded, and a room of 22 bytes, or of the width
 -- where that is greater, is enough; where the padding is none, n is 0 and the bytes stay
 pub record WritesPadded (b : ℤ) (f : ℕ) (pad : FontPad) (n : ℕ) (old new : List ℕ) : Type 0 where
   pub text : IsPad pad → WritesText (padded_text (shortest_text b f) (pad_of pad)) n old new
-  pub enough : IsPad pad → max 23 pad.width ≤ length old → n ≢ 0
+  pub enough : IsPad pad → max 22 pad.width ≤ length old → n ≢ 0
   pub refused : ¬ IsPad pad → n ≡ 0
   pub kept : ¬ IsPad pad → new ≡ old

@@ -6,7 +6,8 @@ ghost use Rattle.font_c.specs.Texts.{WritesDecimal};
 ghost use Rattle.font_c.specs.Readings.{ReadsInto};
 ghost use Rattle.font_c.specs.Pads.{WritesPadded};
 
-use crate::text::{FontPad, NO_DECIMAL, put_decimal, put_padded, put_reading, text_of};
+use crate::reading::read_into_64;
+use crate::text::{FontPad, put_decimal, put_padded};
 use font_types::F48Dot16;
 
 /// Reads a decimal text as the nearest 48.16 number, ties away from zero: 0 where its bits are in
@@ -15,13 +16,7 @@ use font_types::F48Dot16;
 pub extern "C" fn font_f48dot16_from_decimal(text: &[u8], bits: &mut i64) -> u32
     ensures { ReadsInto w64 16 text.now result bits.old bits.new }
 {
-    let Some(text) = text_of(text) else {
-        return NO_DECIMAL;
-    };
-    put_reading(
-        F48Dot16::from_decimal(text).map(|number| number.to_bits()),
-        bits,
-    )
+    read_into_64(text, 16, bits)
 }
 
 /// Writes the shortest decimal that is read back as the number to the front of `out`, and answers

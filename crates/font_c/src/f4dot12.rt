@@ -6,7 +6,8 @@ ghost use Rattle.font_c.specs.Texts.{WritesDecimal};
 ghost use Rattle.font_c.specs.Readings.{ReadsInto};
 ghost use Rattle.font_c.specs.Pads.{WritesPadded};
 
-use crate::text::{FontPad, NO_DECIMAL, put_decimal, put_padded, put_reading, text_of};
+use crate::reading::read_into_16;
+use crate::text::{FontPad, put_decimal, put_padded};
 use font_types::F4Dot12;
 
 /// Reads a decimal text as the nearest 4.12 number, ties away from zero: 0 where its bits are in
@@ -15,13 +16,7 @@ use font_types::F4Dot12;
 pub extern "C" fn font_f4dot12_from_decimal(text: &[u8], bits: &mut i16) -> u32
     ensures { ReadsInto w16 12 text.now result bits.old bits.new }
 {
-    let Some(text) = text_of(text) else {
-        return NO_DECIMAL;
-    };
-    put_reading(
-        F4Dot12::from_decimal(text).map(|number| number.to_bits()),
-        bits,
-    )
+    read_into_16(text, 12, bits)
 }
 
 /// Writes the shortest decimal that is read back as the number to the front of `out`, and answers

@@ -15,6 +15,7 @@ mod f4dot12;
 mod f6dot10;
 mod fixed;
 mod matrix;
+mod reading;
 mod sum;
 mod tag;
 mod tag_text;

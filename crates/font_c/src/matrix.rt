@@ -3,7 +3,7 @@
 ghost use Rattle.std.specs.Prelude.{◌≡◌};
 ghost use Rattle.font_types.specs.FixedMatrix.{matrix_bits, point_bits, FitsComposed, FitsInTurn};
 ghost use Rattle.font_types.specs.FixedMatrix.{IsCloseComposed, IsCloseInTurn};
-ghost use Rattle.font_c.specs.Matrices.{elements, coordinates, product_of, moved_by};
+ghost use Rattle.font_c.specs.Matrices.{elements, coordinates, fixed_matrix_product, fixed_image};
 
 use font_types::{Fixed, Matrix, Point, laws};
 
@@ -28,10 +28,10 @@ pub struct FontPoint {
     pub y: i32,
 }
 
-impl FontMatrix {
-    fn of(matrix: Matrix<Fixed>) -> Self
-        ensures { elements result ≡ matrix_bits matrix }
-    {
+impl From<Matrix<Fixed>> for FontMatrix {
+    ghost from_gives = { λ matrix given. elements given ≡ matrix_bits matrix };
+
+    fn from(matrix: Matrix<Fixed>) -> Self {
         Self {
             xx: matrix.xx.to_bits(),
             yx: matrix.yx.to_bits(),
@@ -41,35 +41,39 @@ impl FontMatrix {
             dy: matrix.dy.to_bits(),
         }
     }
+}
 
-    fn matrix(self) -> Matrix<Fixed>
-        ensures { matrix_bits result ≡ elements self }
-    {
-        Matrix {
-            xx: Fixed::from_bits(self.xx),
-            yx: Fixed::from_bits(self.yx),
-            xy: Fixed::from_bits(self.xy),
-            yy: Fixed::from_bits(self.yy),
-            dx: Fixed::from_bits(self.dx),
-            dy: Fixed::from_bits(self.dy),
+impl From<FontMatrix> for Matrix<Fixed> {
+    ghost from_gives = { λ given matrix. matrix_bits matrix ≡ elements given };
+
+    fn from(given: FontMatrix) -> Self {
+        Self {
+            xx: Fixed::from_bits(given.xx),
+            yx: Fixed::from_bits(given.yx),
+            xy: Fixed::from_bits(given.xy),
+            yy: Fixed::from_bits(given.yy),
+            dx: Fixed::from_bits(given.dx),
+            dy: Fixed::from_bits(given.dy),
         }
     }
 }
 
-impl FontPoint {
-    fn of(point: Point<Fixed>) -> Self
-        ensures { coordinates result ≡ point_bits point }
-    {
+impl From<Point<Fixed>> for FontPoint {
+    ghost from_gives = { λ point given. coordinates given ≡ point_bits point };
+
+    fn from(point: Point<Fixed>) -> Self {
         Self {
             x: point.x.to_bits(),
             y: point.y.to_bits(),
         }
     }
+}
 
-    fn point(self) -> Point<Fixed>
-        ensures { point_bits result ≡ coordinates self }
-    {
-        Point::new(Fixed::from_bits(self.x), Fixed::from_bits(self.y))
+impl From<FontPoint> for Point<Fixed> {
+    ghost from_gives = { λ given point. point_bits point ≡ coordinates given };
+
+    fn from(given: FontPoint) -> Self {
+        Self::new(Fixed::from_bits(given.x), Fixed::from_bits(given.y))
     }
 }
 
@@ -78,18 +82,18 @@ impl FontPoint {
 #[unsafe(no_mangle)]
 #[tactic(auto, using(font_geom::proofs::FixedCalls::product_value))]
 pub extern "C" fn font_matrix_product(a: FontMatrix, b: FontMatrix) -> FontMatrix
-    ensures { elements result ≡ product_of (elements a) (elements b) }
+    ensures { elements result ≡ fixed_matrix_product (elements a) (elements b) }
 {
-    FontMatrix::of(a.matrix() * b.matrix())
+    (Matrix::from(a) * Matrix::from(b)).into()
 }
 
 /// Where the matrix sends a point.
 #[unsafe(no_mangle)]
 #[tactic(auto, using(font_geom::proofs::FixedCalls::image_value))]
 pub extern "C" fn font_matrix_image(m: FontMatrix, p: FontPoint) -> FontPoint
-    ensures { coordinates result ≡ moved_by (elements m) (coordinates p) }
+    ensures { coordinates result ≡ fixed_image (elements m) (coordinates p) }
 {
-    FontPoint::of(m.matrix() * p.point())
+    (Matrix::from(m) * Point::from(p)).into()
 }
 
 /// Where the product of `a` and `b` sends a point.
@@ -99,11 +103,11 @@ pub extern "C" fn font_matrix_image(m: FontMatrix, p: FontPoint) -> FontPoint
 #[unsafe(no_mangle)]
 pub extern "C" fn font_matrix_composed(a: FontMatrix, b: FontMatrix, p: FontPoint) -> FontPoint
     ensures value { coordinates result
-        ≡ moved_by (product_of (elements a) (elements b)) (coordinates p) }
+        ≡ fixed_image (fixed_matrix_product (elements a) (elements b)) (coordinates p) }
     ensures close { FitsComposed (elements a) (elements b) (coordinates p)
         → IsCloseComposed (elements a) (elements b) (coordinates p) (coordinates result) }
 {
-    FontPoint::of(laws::composed(a.matrix(), b.matrix(), p.point()))
+    laws::composed(a.into(), b.into(), p.into()).into()
 }
 
 /// Where `a` sends what `b` sends a point to.
@@ -114,9 +118,9 @@ pub extern "C" fn font_matrix_composed(a: FontMatrix, b: FontMatrix, p: FontPoin
 #[unsafe(no_mangle)]
 pub extern "C" fn font_matrix_in_turn(a: FontMatrix, b: FontMatrix, p: FontPoint) -> FontPoint
     ensures value { coordinates result
-        ≡ moved_by (elements a) (moved_by (elements b) (coordinates p)) }
+        ≡ fixed_image (elements a) (fixed_image (elements b) (coordinates p)) }
     ensures close { FitsInTurn (elements a) (elements b) (coordinates p)
         → IsCloseInTurn (elements a) (elements b) (coordinates p) (coordinates result) }
 {
-    FontPoint::of(laws::in_turn(a.matrix(), b.matrix(), p.point()))
+    laws::in_turn(a.into(), b.into(), p.into()).into()
 }

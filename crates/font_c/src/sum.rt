@@ -12,12 +12,12 @@ const SUMMED: u32 = 0;
 const OTHER_LENGTH: u32 = 1;
 
 /// 64 bits do not hold the sum.
-const OUT_OF_RANGE: u32 = 2;
+const SUM_OUT_OF_RANGE: u32 = 2;
 
 /// The exact sum of the products of 16.16 scalars and deltas, item by item, in units of `2^-16`: 0
 /// where it is in `sum`, 1 where the lists differ in length, 2 where 64 bits do not hold it.
 #[unsafe(no_mangle)]
-pub extern "C" fn font_delta_sum(scalars: &[i32], deltas: &[i32], sum: &mut i64) -> u32
+pub extern "C" fn font_checked_delta_sum(scalars: &[i32], deltas: &[i32], sum: &mut i64) -> u32
     ensures summed { IsSummed scalars.now deltas.now result sum.new }
     ensures known { result < 3 }
     ensures kept { result ≢ 0 → sum.new ≡ sum.old }
@@ -25,8 +25,8 @@ pub extern "C" fn font_delta_sum(scalars: &[i32], deltas: &[i32], sum: &mut i64)
     if scalars.len() != deltas.len() {
         return OTHER_LENGTH;
     }
-    let Ok(units) = i64::try_from(exact_sum(scalars, deltas)) else {
-        return OUT_OF_RANGE;
+    let Ok(units) = i64::try_from(summed_products(scalars, deltas)) else {
+        return SUM_OUT_OF_RANGE;
     };
     *sum = units;
     SUMMED
@@ -34,18 +34,18 @@ pub extern "C" fn font_delta_sum(scalars: &[i32], deltas: &[i32], sum: &mut i64)
 
 // The exact sum of the products, item by item. 128 bits hold every partial sum of fewer than 2^64
 // products of 64 bits.
-fn exact_sum(scalars: &[i32], deltas: &[i32]) -> i128
+fn summed_products(scalars: &[i32], deltas: &[i32]) -> i128
     requires { length scalars.now ≡ length deltas.now }
     ensures { result ≡ sum_of_products scalars.now deltas.now }
 {
     let mut sum = 0i128;
     for i in 0..scalars.len() {
-        sum += i128::from(product(scalars[i], deltas[i]));
+        sum += i128::from(exact_product(scalars[i], deltas[i]));
     }
     sum
 }
 
-fn product(scalar: i32, delta: i32) -> i64
+fn exact_product(scalar: i32, delta: i32) -> i64
     ensures { result ≡ (scalar *ℤ delta) }
 {
     Fixed::from_bits(scalar).mul_i32(delta).to_bits()

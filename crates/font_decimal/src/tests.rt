@@ -4,6 +4,7 @@ ghost use Rattle.std.specs.Prelude.{◌≡◌, ◌≤◌};
 use crate::laws::reads_in_order;
 use crate::{Align, DecimalFault, Pad, Shortest, read_decimal, write_padded};
 use std::alloc::{AllocError, Global};
+use std::fmt::{Debug, Display};
 use std::test::Fail;
 
 const LEAST: i64 = -0x8000_0000;
@@ -344,6 +345,13 @@ fn pads_to_a_width(rt: HostRuntime) {
         ),
         (9830, 14, pad(8, b' ', Align::Left, false, true), "000000.6"),
         (9830, 14, pad(0, b' ', Align::Left, true, false), "+0.6"),
+        (0, 14, pad(0, b' ', Align::Left, true, false), "+0"),
+        (
+            9830,
+            14,
+            pad(8, b'*', Align::Center, false, true),
+            "000000.6",
+        ),
         (
             -24576,
             14,
@@ -400,6 +408,18 @@ fn texts_and_numbers_of_faults(rt: HostRuntime) -> Result<(), Fail> {
     assert_eq!(rt; DecimalFault::OutOfRange as u8, 2);
     assert_eq!(rt; DecimalFault::Syntax.clone()?, DecimalFault::Syntax);
     Ok(())
+}
+
+fn is_fault<T: Clone + Eq + Debug + Display>() {}
+
+fn is_copied<T: Copy>() {}
+
+#[test]
+fn traits(_rt: HostRuntime) {
+    is_fault::<DecimalFault>();
+    is_copied::<Shortest>();
+    is_copied::<Pad>();
+    is_copied::<Align>();
 }
 
 #[test]

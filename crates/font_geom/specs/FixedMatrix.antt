@@ -1,18 +1,25 @@
 -- Matrices of `Fixed`, over their bits (OpenType, data types: Fixed is 16.16), and how far from its exact image they
 -- move a point.
-use Rattle.std.specs.Prelude.{ℕ, ◌+◌, ◌*◌, ◌^◌, ◌≤◌, ℤ, pos, ◌+ℤ◌, ◌-ℤ◌, ◌*ℤ◌, unsigned_abs}
+pub mod Laws
+use Rattle.std.specs.Prelude.{◌≡◌, ℕ, ◌+◌, ◌*◌, ◌^◌, ◌≤◌, ℤ, pos, ◌+ℤ◌, ◌-ℤ◌, ◌*ℤ◌, unsigned_abs}
 use Rattle.font_base.specs.Wrap.{FitsBits, wrap}
 use Rattle.font_decimal.specs.Near.{near}
 use Rattle.font_fixed.specs.declared.fixed.Fixed.{Fixed}
-use Rattle.font_fixed.specs.Fixed.{fixed_bits}
+use Rattle.font_fixed.specs.Fixed.{fixed_bits, fixed_of}
 use Rattle.font_geom.specs.declared.matrix.Matrix.{Matrix}
 use Rattle.font_geom.specs.declared.point.Point.{Point}
 use Rattle.font_geom.specs.Matrix.{image_of, matrix_product, FitsEach}
 
 -- the bits of each element, and of each coordinate
 abbrev pub matrix_bits : Matrix Fixed → Matrix ℤ
-matrix_bits m = record { xx = fixed_bits m.xx; yx = fixed_bits m.yx; xy = fixed_bits m.xy; yy = fixed_bits m.yy;
-    dx = fixed_bits m.dx; dy = fixed_bits m.dy }
+matrix_bits m = record {
+  xx = fixed_bits m.xx;
+  yx = fixed_bits m.yx;
+  xy = fixed_bits m.xy;
+  yy = fixed_bits m.yy;
+  dx = fixed_bits m.dx;
+  dy = fixed_bits m.dy;
+}
 
 abbrev pub point_bits : Point Fixed → Point ℤ
 point_bits p = record { x = fixed_bits p.x; y = fixed_bits p.y }
@@ -27,6 +34,14 @@ wrapped_product x y = wrap 32 (rounded_product x y)
 
 abbrev pub wrapped_sum : ℤ → ℤ → ℤ
 wrapped_sum x y = wrap 32 (x +ℤ y)
+
+-- what `*` gives, as a number
+abbrev pub fixed_product : Fixed → Fixed → Fixed
+fixed_product x y = fixed_of (wrapped_product (fixed_bits x) (fixed_bits y))
+
+-- that products associate, as in a ring. Those of `Fixed` do not.
+abbrev pub ProductsAssociate : Type 0
+ProductsAssociate = (x y z : Fixed) → fixed_product (fixed_product x y) z ≡ fixed_product x (fixed_product y z)
 
 -- ---- where no entry and no coordinate leaves 32 bits. Each is an exact sum of rounded products: what happens on the
 -- way may wrap.

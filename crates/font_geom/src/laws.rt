@@ -5,7 +5,8 @@ ghost use Rattle.std.specs.Prelude.{◌≡◌, pos};
 ghost use Rattle.font_geom.specs.Matrix.{identity_matrix, image_of, matrix_product};
 ghost use Rattle.font_geom.specs.FixedMatrix.{matrix_bits, point_bits, wrapped_sum};
 ghost use Rattle.font_geom.specs.FixedMatrix.{wrapped_product, FitsComposed, FitsInTurn};
-ghost use Rattle.font_geom.specs.FixedMatrix.{IsCloseComposed, IsCloseInTurn};
+ghost use Rattle.font_geom.specs.FixedMatrix.{IsCloseComposed, IsCloseInTurn, ProductsAssociate};
+ghost use Rattle.font_fixed.specs.Fixed.{fixed_bits};
 
 use crate::{Matrix, Point, RingElement};
 use font_fixed::Fixed;
@@ -55,6 +56,18 @@ pub fn fixed_identity(a: Matrix<Fixed>) -> (Matrix<Fixed>, Matrix<Fixed>)
 {
     let identity = Matrix::identity();
     (identity * a, a * identity)
+}
+
+/// `(x * y) * z` and `x * (y * z)` of one step and two halves: one step, and zero.
+///
+/// So products of `Fixed`, which are rounded, do not associate, and `Fixed` is no `RingElement`.
+pub fn step_and_halves() -> (Fixed, Fixed)
+    ensures first { fixed_bits result.0 ≡ pos 1 }
+    ensures second { fixed_bits result.1 ≡ pos 0 }
+    ensures apart { ¬ ProductsAssociate }
+{
+    let (step, half) = (Fixed::EPSILON, Fixed::from_bits(0x8000));
+    (step * half * half, step * (half * half))
 }
 
 /// `(a * b) * p`, which is near the exact image of `p` where no entry of the product and no

@@ -1,11 +1,11 @@
 //! A dumper of font values: rows of columns, bits beside numbers, and JSON that comes back.
 
 ghost use Rattle.std.specs.Prelude.{◌≡◌, ◌≤◌, ◌<◌, ℕ, max, List, ◌∷◌, ◌++◌, length};
-ghost use Rattle.std.specs.Prelude.{Some, None, Ok, Err, IsSome, IfSome, IfOk, IfErr};
+ghost use Rattle.std.specs.Prelude.{Some, None, Ok, IsSome, IfSome, IfNone, IfOk, IfErr};
 ghost use Rattle.std.specs.Prelude.{MatchResult, string_bytes};
 ghost use Rattle.std.specs.List.{flat_map};
 ghost use lib.Chars.{codes};
-ghost use Rattle.serde_json.specs.Data.{Data, object, member, no_members};
+ghost use Rattle.serde_json.specs.Data.{object, member, no_members};
 ghost use Rattle.serde_json.specs.Find.{get};
 ghost use Rattle.serde_json.specs.View.{view};
 ghost use Rattle.font_types.specs.Bytes.{numeral, bytes_of};
@@ -15,6 +15,7 @@ ghost use Rattle.font_types.specs.F26Dot6.{f26dot6_text};
 ghost use Rattle.font_types.specs.Padding.{padded_text, FillsFront};
 ghost use Rattle.font_uses.specs.declared.dumper.Summary.{Summary};
 ghost use Rattle.font_uses.specs.Dumper.{column, eight_digits, IsSummary, summary_form};
+ghost use Rattle.font_uses.specs.Dumper.{IsMemberRead, IsSummaryRead};
 
 use font_types::{
     F2Dot14, F26Dot6, FWord, Fixed, JsonFault, JsonScalar, LongDateTime, Pad, Scalar,
@@ -34,7 +35,8 @@ pub trait Cell: Copy {
         requires { pad.now.fill < 128 }
         ensures written { IfSome result (λ n.
             FillsFront (padded_text (text self) pad.now) n out.old out.new) }
-        ensures room { max 23 pad.now.width ≤ length out.old → IsSome result };
+        ensures room { max 22 pad.now.width ≤ length out.old → IsSome result }
+        ensures stays { IfNone result (out.new ≡ out.old) };
 }
 
 impl Cell for Fixed {
@@ -114,21 +116,15 @@ impl Summary {
         Ok(object_of(&revision, &created, &x_min, alloc)?)
     }
 
-    /// The summary whose members an object has.
+    /// The summary whose members an object has. Of several faults the first counts, in the order of
+    /// the fields; further members do not matter.
     pub fn from_json(value: &Value) -> Result<Summary, JsonFault>
         ensures back { (summary : Summary) → IsSummary summary
             → view value.now ≡ summary_form summary → result ≡ Ok summary }
-        ensures missing { get (codes "revision") (view value.now) ≡ None
-            → result ≡ Err JsonFault.MissingMember }
-        ensures revision { IfOk result (λ summary. (d : Data)
-            × (get (codes "revision") (view value.now) ≡ Some d)
-            × ⟦<Fixed as JsonScalar>⟧.reads d (Ok summary.revision)) }
-        ensures created { IfOk result (λ summary. (d : Data)
-            × (get (codes "created") (view value.now) ≡ Some d)
-            × ⟦<LongDateTime as JsonScalar>⟧.reads d (Ok summary.created)) }
-        ensures x_min { IfOk result (λ summary. (d : Data)
-            × (get (codes "x_min") (view value.now) ≡ Some d)
-            × ⟦<FWord as JsonScalar>⟧.reads d (Ok summary.x_min)) }
+        ensures read { IsSummaryRead
+            (IsMemberRead ⟦<Fixed as JsonScalar>⟧.reads (codes "revision") (view value.now))
+            (IsMemberRead ⟦<LongDateTime as JsonScalar>⟧.reads (codes "created") (view value.now))
+            (IsMemberRead ⟦<FWord as JsonScalar>⟧.reads (codes "x_min") (view value.now)) result }
     {
         Ok(Summary {
             revision: Fixed::from_json(member_of(value, "revision")?)?,

@@ -52,6 +52,7 @@ pub fn ratio(part: Fixed, whole: Fixed) -> Fixed
     ensures value { IsQuotient 32 16 (fixed_bits part) (fixed_bits whole) (fixed_bits result) }
     ensures low { pos 0 ≤ℤ fixed_bits result }
     ensures high { fixed_bits result ≤ℤ fixed_bits Fixed.ONE }
+    ensures none { part ≡ Fixed.ZERO → result ≡ Fixed.ZERO }
     ensures all { part ≡ whole → result ≡ Fixed.ONE }
 {
     part / whole
@@ -65,6 +66,7 @@ pub fn carried_over(part: Fixed, whole: Fixed, a: Fixed, b: Fixed) -> Option<Fix
     ensures value { IfSome result (λ number. (share : ℤ)
         × IsQuotient 32 16 (fixed_bits part) (fixed_bits whole) share
         × (fixed_bits number ≡ mixed (fixed_bits a) (fixed_bits b) share)) }
+    ensures start { part ≡ Fixed.ZERO → IfSome result (λ number. number ≡ a) }
     ensures end { part ≡ whole → IfSome result (λ number. number ≡ b) }
     ensures same { a ≡ b → IfSome result (λ number. number ≡ a) }
 {

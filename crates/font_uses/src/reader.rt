@@ -1,7 +1,7 @@
 //! A reader of tables: values one after the other, the one at a place, and a scalar of its own.
 
 ghost use Rattle.std.specs.Prelude.{◌≡◌, ◌≢◌, ◌↔◌, ◌≤◌, ◌<◌, ◌+◌, ◌*◌, ◌^◌, ℕ, pos, nat_lt, refl};
-ghost use Rattle.std.specs.Prelude.{Some, IsSome, IfSome, IfNone, IfOk, option_map, vec_len};
+ghost use Rattle.std.specs.Prelude.{Some, IsSome, IfSome, IfNone, IfOk, IfErr, option_map, vec_len};
 ghost use Rattle.std.specs.Prelude.{length, take, drop, slice_get, slice_index_or, All, IsSorted};
 ghost use Rattle.font_types.specs.Bytes.{numeral, signed_numeral, bytes_of};
 ghost use Rattle.font_types.specs.Scalar.{IsValueOf};
@@ -42,7 +42,8 @@ impl Cursor<'_> {
         Some(value)
     }
 
-    /// The next `count` values, or `None` where there are fewer, and the cursor stays.
+    /// The next `count` values, or `None` where there are fewer. Then the cursor stays, and where
+    /// memory for them is refused.
     pub fn read_array<T: Scalar + Drop>(
         &mut self,
         count: usize,
@@ -57,6 +58,7 @@ impl Cursor<'_> {
             self.new.rest.now ≡ drop (count * T.RAW_BYTE_LEN) self.old.rest.now) }
         ensures stays { IfOk result (λ read. IfNone read
             (self.new.rest.now ≡ self.old.rest.now)) }
+        ensures refused { IfErr result (λ _. self.new.rest.now ≡ self.old.rest.now) }
     {
         let mut ahead = Cursor { rest: self.rest };
         let mut values = Vec::new(alloc);
@@ -86,7 +88,8 @@ pub struct Strike {
     pub glyph_count: u16,
 }
 
-/// The strike in front of the cursor, 15 bytes, or `None` where there are fewer.
+/// The strike in front of the cursor, 15 bytes, or `None` where there are fewer, and the cursor
+/// stays.
 #[tactic(auto, using(font_types::proofs::Callers::scalar_calls))]
 pub fn read_strike(cursor: &mut Cursor<'_>) -> Option<Strike>
     ensures end { IsSome result ↔ (15 ≤ length cursor.old.rest.now) }
@@ -101,14 +104,18 @@ pub fn read_strike(cursor: &mut Cursor<'_>) -> Option<Strike>
     ensures glyph_count { IfSome result (λ strike.
         strike.glyph_count ≡ numeral (take 2 (drop 13 cursor.old.rest.now))) }
     ensures moved { IsSome result → cursor.new.rest.now ≡ drop 15 cursor.old.rest.now }
+    ensures stays { IfNone result (cursor.new.rest.now ≡ cursor.old.rest.now) }
 {
-    Some(Strike {
-        table: cursor.read()?,
-        scale: cursor.read()?,
-        byte_len: cursor.read()?,
-        size: cursor.read()?,
-        glyph_count: cursor.read()?,
-    })
+    let mut ahead = Cursor { rest: cursor.rest };
+    let strike = Strike {
+        table: ahead.read()?,
+        scale: ahead.read()?,
+        byte_len: ahead.read()?,
+        size: ahead.read()?,
+        glyph_count: ahead.read()?,
+    };
+    cursor.rest = ahead.rest;
+    Some(strike)
 }
 
 // ---- the value at a place

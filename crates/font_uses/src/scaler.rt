@@ -50,7 +50,8 @@ pub fn scaled(scale: Matrix<Fixed>, component: Component, point: Point<Fixed>) -
     laws::composed(scale, component.placed, point)
 }
 
-/// A coordinate in pixels, rounded to the grid, ties upwards.
+/// A coordinate in pixels, rounded to the grid, ties upwards, and wrapped: above the greatest whole
+/// pixel it comes to stand at the least.
 pub fn on_grid(coordinate: F26Dot6) -> F26Dot6
     ensures { IsNearestWhole 32 6 (f26dot6_bits coordinate) (f26dot6_bits result) }
 {

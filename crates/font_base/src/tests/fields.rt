@@ -2,6 +2,7 @@
 
 use crate::{BigEndian, FixedSize, Int24, SampleHeader, TableDataRef, Uint24};
 use std::collections::HashSet;
+use std::hash::{DefaultHasher, Hash, Hasher};
 use std::test::Fail;
 
 #[test]
@@ -49,6 +50,22 @@ fn hashed_by_bytes(rt: HostRuntime) -> Result<(), Fail> {
     assert!(rt; set.contains(&BigEndian::new([0, 0, 0, 4])));
     assert!(rt; !set.contains(&BigEndian::new([4, 0, 0, 0])));
     Ok(())
+}
+
+/// The number that a field is hashed to.
+fn hashed(bytes: [u8; 4]) -> u64 {
+    let mut state = DefaultHasher::new();
+    BigEndian::<u32>::new(bytes).hash(&mut state);
+    state.finish()
+}
+
+#[test]
+fn hashed_by_each_byte(rt: HostRuntime) {
+    let number = hashed([1, 2, 3, 4]);
+    assert_eq!(rt; hashed([1, 2, 3, 4]), number);
+    for other in [[0, 2, 3, 4], [1, 0, 3, 4], [1, 2, 0, 4], [1, 2, 3, 0]] {
+        assert!(rt; hashed(other) != number);
+    }
 }
 
 #[test]

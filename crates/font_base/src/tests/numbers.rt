@@ -75,6 +75,7 @@ fn ends_of_unsigned_24_bits(rt: HostRuntime) {
 #[test]
 fn conversions_of_24_bits(rt: HostRuntime) {
     assert_eq!(rt; i32::from(Int24::MIN), -8388608);
+    assert_eq!(rt; i32::from(Int24::MAX), 8388607);
     assert_eq!(rt; u32::from(Uint24::MAX), 16777215);
     assert_eq!(rt; usize::from(Uint24::default()), 0);
     assert!(rt; Int24::MIN < Int24::default());

@@ -14,8 +14,8 @@ const STARS: FontPad = FontPad {
     width: 6,
     fill: b'*',
     align: 2,
-    plus: false,
-    zeros: false,
+    plus: 0,
+    zeros: 0,
 };
 
 #[test]
@@ -125,10 +125,11 @@ fn f2dot30_there_and_back(rt: HostRuntime) -> Result<(), Fail> {
 
 #[test]
 fn refusals_leave_the_place(rt: HostRuntime) -> Result<(), Fail> {
-    let rows: [(&[u8], u32); 5] = [
+    let rows: [(&[u8], u32); 6] = [
         (b"", 1),
         (b"1e3", 1),
         (b"\xFF", 1),
+        (b"1.5\xFF", 1),
         (b"32768", 2),
         (b"-32769", 2),
     ];
@@ -139,12 +140,47 @@ fn refusals_leave_the_place(rt: HostRuntime) -> Result<(), Fail> {
     }
     let mut out = *b"..";
     assert_eq!(rt; font_fixed_to_decimal(0x1_8000, &mut out), 0);
-    let no_pad = FontPad {
-        fill: 0x80,
-        ..STARS
-    };
-    assert_eq!(rt; font_fixed_write_padded(0, &no_pad, &mut out), 0);
     assert_eq!(rt; out, *b"..");
+    Ok(())
+}
+
+#[test]
+fn paddings_refused(rt: HostRuntime) -> Result<(), Fail> {
+    // the fill, the alignment, and the length of the answer in eight bytes and in five
+    let rows = [(0x7F, 2, 6), (0x80, 2, 0), (b'*', 3, 0), (b'*', 255, 0)];
+    for (fill, align, length) in rows {
+        let pad = FontPad {
+            fill,
+            align,
+            ..STARS
+        };
+        let mut out = *b"........";
+        assert_eq!(rt; font_fixed_write_padded(-0x1_8000, &pad, &mut out[..5]), 0);
+        assert_eq!(rt; out, *b"........");
+        assert_eq!(rt; font_fixed_write_padded(-0x1_8000, &pad, &mut out), length);
+    }
+    Ok(())
+}
+
+#[test]
+fn flags_of_any_byte(rt: HostRuntime) -> Result<(), Fail> {
+    let rows = [
+        (0, 0, *b"***1.5.."),
+        (1, 0, *b"**+1.5.."),
+        (0, 1, *b"0001.5.."),
+        (40, 0, *b"**+1.5.."),
+        (128, 255, *b"+001.5.."),
+    ];
+    for (plus, zeros, text) in rows {
+        let pad = FontPad {
+            plus,
+            zeros,
+            ..STARS
+        };
+        let mut out = *b"........";
+        assert_eq!(rt; font_fixed_write_padded(0x1_8000, &pad, &mut out), 6);
+        assert_eq!(rt; out, text, "{plus} {zeros}");
+    }
     Ok(())
 }
 

@@ -1,7 +1,7 @@
 //! Matrices, tags and sums of deltas.
 
 use crate::matrix::*;
-use crate::sum::font_delta_sum;
+use crate::sum::font_checked_delta_sum;
 use crate::tag::*;
 use std::test::Fail;
 
@@ -36,6 +36,33 @@ fn a_turn_and_two(rt: HostRuntime) -> Result<(), Fail> {
         font_matrix_in_turn(TURN, TURN, POINT),
     ] {
         assert_eq!(rt; (twice.x, twice.y), (-4 * ONE, 5 * ONE / 2));
+    }
+    Ok(())
+}
+
+#[test]
+fn a_turn_behind_a_stretch(rt: HostRuntime) -> Result<(), Fail> {
+    // the point is (3, 1/2): stretched (7, 1/2), and then turned (1/2, 9); turned (1/2, 5), and then
+    // stretched (2, 5)
+    let stretch = FontMatrix {
+        xx: 2 * ONE,
+        yx: 0,
+        xy: 0,
+        yy: ONE,
+        dx: ONE,
+        dy: 0,
+    };
+    let rows = [
+        (TURN, stretch, (ONE / 2, 9 * ONE)),
+        (stretch, TURN, (2 * ONE, 5 * ONE)),
+    ];
+    for (a, b, image) in rows {
+        let product = font_matrix_image(font_matrix_product(a, b), POINT);
+        assert_eq!(rt; (product.x, product.y), image);
+        let composed = font_matrix_composed(a, b, POINT);
+        assert_eq!(rt; (composed.x, composed.y), image);
+        let in_turn = font_matrix_in_turn(a, b, POINT);
+        assert_eq!(rt; (in_turn.x, in_turn.y), image);
     }
     Ok(())
 }
@@ -80,21 +107,24 @@ fn tags_are_shown(rt: HostRuntime) -> Result<(), Fail> {
     assert_eq!(rt; font_tag_to_text(0x6376_0A20, &mut out), 9);
     assert_eq!(rt; out, *b"cv{0x0A} ");
     assert_eq!(rt; font_tag_to_text(0x6376_0A20, &mut out[..8]), 0);
+    assert_eq!(rt; font_tag_to_text(0xF941_2020, &mut out), 9);
+    assert_eq!(rt; out, *b"{0xF9}A  ");
     Ok(())
 }
 
 #[test]
 fn deltas_are_added_up(rt: HostRuntime) -> Result<(), Fail> {
-    let rows: [(&[i32], &[i32], u32, i64); 4] = [
+    let rows: [(&[i32], &[i32], u32, i64); 5] = [
         (&[], &[], 0, 0),
         (&[0x8000, -0x1_0000], &[3, 2], 0, -32768),
         (&[ONE], &[], 1, 7),
+        (&[], &[1], 1, 7),
         (&[i32::MIN, i32::MIN], &[i32::MIN, i32::MIN], 2, 7),
     ];
     for (scalars, deltas, status, sum) in rows {
         let mut place = 7;
         assert_eq!(rt;
-            (font_delta_sum(scalars, deltas, &mut place), place),
+            (font_checked_delta_sum(scalars, deltas, &mut place), place),
             (status, sum)
         );
     }

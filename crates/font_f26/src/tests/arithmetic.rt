@@ -54,6 +54,8 @@ fn whole_numbers(rt: HostRuntime) {
         (96, 128, 2),
         (-96, -64, -1),
         (95, 64, 1),
+        (31, 0, 0),
+        (-97, -128, -2),
         (i32::MAX, i32::MIN, -33554432),
     ] {
         let number = F26Dot6::from_bits(bits);
@@ -105,4 +107,20 @@ fn sums_at_the_least_value(rt: HostRuntime) {
     );
     assert!(rt; min.checked_add(F26Dot6::ZERO) == Some(min) && min.checked_add(-step).is_none());
     assert!(rt; F26Dot6::NEG_ONE < F26Dot6::ZERO && F26Dot6::NEG_ONE != F26Dot6::ONE);
+}
+
+#[test]
+fn sums_next_to_the_ends(rt: HostRuntime) {
+    let (min, max, step) = (F26Dot6::MIN, F26Dot6::MAX, F26Dot6::EPSILON);
+    for (number, bits) in [
+        (max.saturating_sub(F26Dot6::NEG_ONE), 2147483647),
+        (min.wrapping_add(F26Dot6::NEG_ONE), 2147483584),
+        (max.wrapping_sub(F26Dot6::NEG_ONE), -2147483585),
+        (max + step, -2147483648),
+        (min - step, 2147483647),
+        (F26Dot6::NEG_ONE.abs(), 64),
+    ] {
+        assert_eq!(rt; number.to_bits(), bits);
+    }
+    assert!(rt; max.checked_add(F26Dot6::ZERO) == Some(max));
 }

@@ -103,10 +103,17 @@ fn whole_numbers(rt: HostRuntime) {
         (0x1_8000, 0x2_0000),
         (0x7FFF_FFFF, -0x8000_0000),
         (-0x1_8000, -0x1_0000),
+        (-0x1_8001, -0x2_0000),
     ] {
         assert_eq!(rt; Fixed::from_bits(bits).round().to_bits(), rounded);
     }
-    for (bits, whole) in [(0x1_8000, 2), (-0x1_8000, -1), (0x7FFF_FFFF, -32768)] {
+    for (bits, whole) in [
+        (0x1_8000, 2),
+        (0x7FFF, 0),
+        (-0x1_8000, -1),
+        (-0x8001, -1),
+        (0x7FFF_FFFF, -32768),
+    ] {
         assert_eq!(rt; Fixed::from_bits(bits).to_i32(), whole);
     }
     assert!(rt; Fixed::from_i32(-1) == Fixed::NEG_ONE);
@@ -154,4 +161,20 @@ fn sums_at_the_least_value(rt: HostRuntime) {
     assert!(rt; min.saturating_add(Fixed::NEG_ONE) == min && min.saturating_sub(Fixed::ONE) == min);
     assert!(rt; min.checked_add(Fixed::ZERO) == Some(min) && min.checked_add(-step).is_none());
     assert!(rt; Fixed::NEG_ONE < Fixed::ZERO && Fixed::NEG_ONE != Fixed::ONE);
+}
+
+#[test]
+fn sums_next_to_the_ends(rt: HostRuntime) {
+    let (min, max, step) = (Fixed::MIN, Fixed::MAX, Fixed::EPSILON);
+    for (number, bits) in [
+        (max.saturating_sub(Fixed::NEG_ONE), 2147483647),
+        (min.wrapping_add(Fixed::NEG_ONE), 2147418112),
+        (max.wrapping_sub(Fixed::NEG_ONE), -2147418113),
+        (max + step, -2147483648),
+        (min - step, 2147483647),
+        (Fixed::NEG_ONE.abs(), 65536),
+    ] {
+        assert_eq!(rt; number.to_bits(), bits);
+    }
+    assert!(rt; max.checked_add(Fixed::ZERO) == Some(max));
 }

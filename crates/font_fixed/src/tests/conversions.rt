@@ -10,9 +10,13 @@ fn narrowed(rt: HostRuntime) {
         (0x1_8000, 96, 0x6000),
         (-0x1_8000, -96, -0x6000),
         (0x200, 1, 128),
+        (0x1FF, 0, 128),
         (-0x200, 0, -128),
+        (-0x201, -1, -128),
         (2, 0, 1),
+        (1, 0, 0),
         (-2, 0, 0),
+        (-3, 0, -1),
     ] {
         let number = Fixed::from_bits(bits);
         assert_eq!(rt; number.to_f26dot6().to_bits(), f26dot6);

@@ -101,6 +101,16 @@ fn padded_with_a_sign_and_zeros(rt: HostRuntime) {
 }
 
 #[test]
+fn padded_at_its_longest(rt: HostRuntime) {
+    let mut out = [b'*'; 8];
+    let signed = pad(0, b' ', Align::Left, true, false);
+    assert!(rt; F2Dot14::from_bits(-32767).write_padded(&mut out, &signed) == Some(8));
+    assert!(rt; &out == b"-1.99994");
+    assert!(rt; F2Dot14::MAX.write_padded(&mut out, &signed) == Some(8));
+    assert!(rt; &out == b"+1.99994");
+}
+
+#[test]
 fn padded_without_room(rt: HostRuntime) {
     let mut out = [b'*'; 7];
     let zeros = pad(8, b' ', Align::Left, false, true);
@@ -117,7 +127,13 @@ fn padded_without_room(rt: HostRuntime) {
 
 #[test]
 fn parts(rt: HostRuntime) {
-    for (bits, rounded) in [(0x7000, -0x8000), (0x1F00, 0), (0x2000, 0x4000)] {
+    for (bits, rounded) in [
+        (0x7000, -0x8000),
+        (0x1FFF, 0),
+        (0x2000, 0x4000),
+        (-0x2000, 0),
+        (-0x2001, -0x4000),
+    ] {
         assert_eq!(rt; F2Dot14::from_bits(bits).round().to_bits(), rounded);
     }
     assert!(rt; F2Dot14::MIN.abs() == F2Dot14::MIN);
@@ -171,4 +187,20 @@ fn without_flags(rt: HostRuntime) -> Result<(), Fail> {
         assert_eq!(rt; flagged.as_str(), plain.as_str());
     }
     Ok(())
+}
+
+#[test]
+fn sums_next_to_the_ends(rt: HostRuntime) {
+    let (min, max, step) = (F2Dot14::MIN, F2Dot14::MAX, F2Dot14::EPSILON);
+    for (number, bits) in [
+        (max.saturating_sub(F2Dot14::NEG_ONE), 32767),
+        (min.wrapping_add(F2Dot14::NEG_ONE), 16384),
+        (max.wrapping_sub(F2Dot14::NEG_ONE), -16385),
+        (max + step, -32768),
+        (min - step, 32767),
+        (F2Dot14::NEG_ONE.abs(), 16384),
+    ] {
+        assert_eq!(rt; number.to_bits(), bits);
+    }
+    assert!(rt; max.checked_add(F2Dot14::ZERO) == Some(max));
 }

@@ -68,13 +68,27 @@ fn padded(rt: HostRuntime) {
     assert!(rt; longest.write_padded(&mut out, &pad) == Some(23));
     assert!(rt; &out == b" -140737488355327.99998*");
     assert!(rt; longest.write_padded(&mut out[..22], &pad).is_none());
+    let plus = Pad {
+        width: 22,
+        plus: true,
+        ..pad
+    };
+    for (number, text) in [
+        (longest, b"-140737488355327.99998"),
+        (F48Dot16::MAX, b"+140737488355327.99998"),
+    ] {
+        assert!(rt; number.write_padded(&mut out[..22], &plus) == Some(22));
+        assert!(rt; out.starts_with(text));
+    }
 }
 
 #[test]
 fn whole_numbers(rt: HostRuntime) {
     for (bits, rounded, whole, narrow) in [
         (-0x1_8000, -0x1_0000, -1, -1),
+        (-0x1_8001, -0x2_0000, -2, -2),
         (0x1_8000, 0x2_0000, 2, 2),
+        (0x7FFF, 0, 0, 0),
         (i64::MAX, i64::MIN, -140737488355328, 0),
         (0x8000_0000_0000, 0x8000_0000_0000, 2147483648, i32::MIN),
         (0x100_0000_0000_4000, 1 << 56, 1 << 40, 0),
@@ -144,4 +158,20 @@ fn without_flags(rt: HostRuntime) -> Result<(), Fail> {
         assert_eq!(rt; flagged.as_str(), plain.as_str());
     }
     Ok(())
+}
+
+#[test]
+fn sums_next_to_the_ends(rt: HostRuntime) {
+    let (min, max, step) = (F48Dot16::MIN, F48Dot16::MAX, F48Dot16::EPSILON);
+    for (number, bits) in [
+        (max.saturating_sub(F48Dot16::NEG_ONE), 9223372036854775807),
+        (min.wrapping_add(F48Dot16::NEG_ONE), 9223372036854710272),
+        (max.wrapping_sub(F48Dot16::NEG_ONE), -9223372036854710273),
+        (max + step, -9223372036854775808),
+        (min - step, 9223372036854775807),
+        (F48Dot16::NEG_ONE.abs(), 65536),
+    ] {
+        assert_eq!(rt; number.to_bits(), bits);
+    }
+    assert!(rt; max.checked_add(F48Dot16::ZERO) == Some(max));
 }

@@ -41,6 +41,8 @@ fn constants(rt: HostRuntime) {
 fn roundings(rt: HostRuntime) {
     for (bits, rounded, floor, fract) in [
         (0x1800, 0x2000, 0x1000, 0x800),
+        (0x17FF, 0x1000, 0x1000, 0x7FF),
+        (-0x1801, -0x2000, -0x2000, 0x7FF),
         (-0x1800, -0x1000, -0x2000, 0x800),
         (0x7FFF, -0x8000, 0x7000, 0xFFF),
     ] {
@@ -51,6 +53,8 @@ fn roundings(rt: HostRuntime) {
     }
     for (bits, rounded, floor, fract) in [
         (0x600, 0x800, 0x400, 0x200),
+        (0x5FF, 0x400, 0x400, 0x1FF),
+        (-0x601, -0x800, -0x800, 0x1FF),
         (-0x600, -0x400, -0x800, 0x200),
         (0x7FFF, -0x8000, 0x7C00, 0x3FF),
     ] {
@@ -67,6 +71,7 @@ fn roundings_of_2_30(rt: HostRuntime) {
         (0x6000_0000, -0x8000_0000, 0x4000_0000, 0x2000_0000),
         (0x5FFF_FFFF, 0x4000_0000, 0x4000_0000, 0x1FFF_FFFF),
         (-0x6000_0000, -0x4000_0000, -0x8000_0000, 0x2000_0000),
+        (-0x6000_0001, -0x8000_0000, -0x8000_0000, 0x1FFF_FFFF),
         (-1, 0, -0x4000_0000, 0x3FFF_FFFF),
     ] {
         let number = F2Dot30::from_bits(bits);
@@ -113,12 +118,12 @@ fn operators(rt: HostRuntime) {
     let mut number = F4Dot12::ONE;
     number += F4Dot12::ONE;
     number -= F4Dot12::from_bits(0x800);
-    assert_eq!(rt; (-number).abs().to_bits(), 0x1800);
+    assert_eq!(rt; (-number).to_bits(), -0x1800);
     assert!(rt; -F4Dot12::MIN == F4Dot12::MIN.abs());
     let mut other = F6Dot10::ONE;
     other += F6Dot10::ONE;
     other -= F6Dot10::from_bits(0x200);
-    assert_eq!(rt; (-other).abs().to_bits(), 0x600);
+    assert_eq!(rt; (-other).to_bits(), -0x600);
     assert!(rt; -F6Dot10::MIN == F6Dot10::MIN.abs());
 }
 
@@ -128,6 +133,7 @@ fn operators_of_2_30(rt: HostRuntime) {
     number += F2Dot30::ONE;
     assert!(rt; number == F2Dot30::MIN);
     number -= F2Dot30::from_bits(0x2000_0000);
+    assert_eq!(rt; number.to_bits(), 0x6000_0000);
     assert_eq!(rt; (-number).abs().to_bits(), 0x6000_0000);
     assert!(rt; -F2Dot30::MIN == F2Dot30::MIN.abs());
 }
@@ -179,4 +185,52 @@ fn sums_of_2_30_at_the_least_value(rt: HostRuntime) {
     );
     assert!(rt; min.checked_add(F2Dot30::ZERO) == Some(min) && min.checked_add(-step).is_none());
     assert!(rt; F2Dot30::NEG_ONE < F2Dot30::ZERO && F2Dot30::NEG_ONE != F2Dot30::ONE);
+}
+
+#[test]
+fn sums_of_4_12_next_to_the_ends(rt: HostRuntime) {
+    let (min, max, step) = (F4Dot12::MIN, F4Dot12::MAX, F4Dot12::EPSILON);
+    for (number, bits) in [
+        (max.saturating_sub(F4Dot12::NEG_ONE), 32767),
+        (min.wrapping_add(F4Dot12::NEG_ONE), 28672),
+        (max.wrapping_sub(F4Dot12::NEG_ONE), -28673),
+        (max + step, -32768),
+        (min - step, 32767),
+        (F4Dot12::NEG_ONE.abs(), 4096),
+    ] {
+        assert_eq!(rt; number.to_bits(), bits);
+    }
+    assert!(rt; max.checked_add(F4Dot12::ZERO) == Some(max));
+}
+
+#[test]
+fn sums_of_6_10_next_to_the_ends(rt: HostRuntime) {
+    let (min, max, step) = (F6Dot10::MIN, F6Dot10::MAX, F6Dot10::EPSILON);
+    for (number, bits) in [
+        (max.saturating_sub(F6Dot10::NEG_ONE), 32767),
+        (min.wrapping_add(F6Dot10::NEG_ONE), 31744),
+        (max.wrapping_sub(F6Dot10::NEG_ONE), -31745),
+        (max + step, -32768),
+        (min - step, 32767),
+        (F6Dot10::NEG_ONE.abs(), 1024),
+    ] {
+        assert_eq!(rt; number.to_bits(), bits);
+    }
+    assert!(rt; max.checked_add(F6Dot10::ZERO) == Some(max));
+}
+
+#[test]
+fn sums_of_2_30_next_to_the_ends(rt: HostRuntime) {
+    let (min, max, step) = (F2Dot30::MIN, F2Dot30::MAX, F2Dot30::EPSILON);
+    for (number, bits) in [
+        (max.saturating_sub(F2Dot30::NEG_ONE), 2147483647),
+        (min.wrapping_add(F2Dot30::NEG_ONE), 1073741824),
+        (max.wrapping_sub(F2Dot30::NEG_ONE), -1073741825),
+        (max + step, -2147483648),
+        (min - step, 2147483647),
+        (F2Dot30::NEG_ONE.abs(), 1073741824),
+    ] {
+        assert_eq!(rt; number.to_bits(), bits);
+    }
+    assert!(rt; max.checked_add(F2Dot30::ZERO) == Some(max));
 }

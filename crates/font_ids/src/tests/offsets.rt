@@ -58,6 +58,7 @@ fn nullable(rt: HostRuntime) -> Result<(), Fail> {
     assert!(rt; null.is_null() && null == Nullable::default());
     assert!(rt; Nullable::<Offset32>::read(&[0, 0, 0]).is_none());
     assert!(rt; Nullable::<Offset32>::default().is_null());
+    assert!(rt; !Nullable::<Offset32>::from_raw([0, 1, 0, 0]).is_null());
     assert_eq!(rt; Nullable::<Offset24>::RAW_BYTE_LEN, 3);
     Ok(())
 }
@@ -66,7 +67,7 @@ fn nullable(rt: HostRuntime) -> Result<(), Fail> {
 fn nullable_with_an_offset(rt: HostRuntime) -> Result<(), Fail> {
     let some = Nullable::<Offset16>::from_raw([1, 2]);
     assert!(rt; !some.is_null() && some.offset() == &Offset16::new(0x0102));
-    assert!(rt; some.eq_u32(&0x0102) && !some.eq_u32(&2));
+    assert!(rt; some.eq_u32(&0x0102) && !some.eq_u32(&2) && !some.eq_u32(&0x1_0102));
     assert!(rt; some.clone()? == some && some.to_raw() == [1, 2]);
     Ok(())
 }

@@ -42,6 +42,8 @@ fn refused_at_a_length(rt: HostRuntime) {
     assert!(rt; Tag::new_checked(b"b c") == Err(fault));
     assert!(rt; Tag::new_checked(b"") == Err(InvalidTag::InvalidLength(0)));
     assert!(rt; Tag::new_checked(b"abcde") == Err(InvalidTag::InvalidLength(5)));
+    assert!(rt; Tag::new_checked(b"a\0cde") == Err(InvalidTag::InvalidLength(5)));
+    assert!(rt; Tag::from_str("abc\u{e9}") == Err(InvalidTag::InvalidLength(5)));
 }
 
 #[test]

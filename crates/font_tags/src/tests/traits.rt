@@ -1,6 +1,6 @@
 //! The traits of each type, by functions with bounds.
 
-use crate::{Compatible, LongDateTime, MajorMinor, Tag, Version16Dot16};
+use crate::{Compatible, InvalidTag, LongDateTime, MajorMinor, Tag, Version16Dot16};
 use font_base::{IdentityEq, Scalar};
 use std::collections::HashSet;
 use std::fmt::{Debug, Display};
@@ -16,6 +16,8 @@ fn is_version<T: Display + Compatible<T> + Compatible<(u16, u16)>>() {}
 
 fn is_read<T: FromStr>() {}
 
+fn is_told<T: Clone + Eq + Debug + Display>() {}
+
 #[test]
 fn traits(rt: HostRuntime) -> Result<(), Fail> {
     is_scalar::<Tag>();
@@ -24,6 +26,7 @@ fn traits(rt: HostRuntime) -> Result<(), Fail> {
     is_scalar::<MajorMinor>();
     is_shown::<Tag>();
     is_read::<Tag>();
+    is_told::<InvalidTag>();
     is_version::<Version16Dot16>();
     is_version::<MajorMinor>();
     let mut dates = HashSet::new(rt.alloc());

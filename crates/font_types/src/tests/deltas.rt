@@ -58,6 +58,14 @@ fn least_sum(rt: HostRuntime) {
 }
 
 #[test]
+fn greatest_sum(rt: HostRuntime) {
+    let (half, step) = ((Fixed::MIN, i32::MIN), (Fixed::EPSILON, 1));
+    let back = (Fixed::EPSILON, -1);
+    assert!(rt; checked_delta_sum(&[half, half, back]) == Some(F48Dot16::MAX));
+    assert!(rt; checked_delta_sum(&[half, half, back, step]).is_none());
+}
+
+#[test]
 fn quantities_moved(rt: HostRuntime) {
     let terms = [
         (Fixed::ONE, 100),

@@ -21,7 +21,7 @@ fn tags(rt: HostRuntime) -> Result<(), Fail> {
 #[test]
 fn texts_that_are_no_tag(rt: HostRuntime) -> Result<(), Fail> {
     let alloc = rt.alloc();
-    for text in ["", "abcde", "b cc", "\u{7F}abc"] {
+    for text in ["", "abcde", "abcd ", "b cc", "\u{7F}abc"] {
         let value = Value::String(String::from_str(alloc, text)?);
         assert!(rt;
             Tag::from_json(&value) == Err(JsonFault::InvalidTag),
@@ -65,6 +65,7 @@ fn objects_that_are_no_version(rt: HostRuntime) -> Result<(), Fail> {
         ("{\"minor\":5}", JsonFault::MissingMember),
         ("{\"minor\":70000,\"major\":\"x\"}", JsonFault::WrongKind),
         ("{\"minor\":70000,\"major\":1}", JsonFault::OutOfRange),
+        ("{\"major\":70000}", JsonFault::OutOfRange),
     ] {
         let value = Value::from_str(alloc, text)?;
         assert!(rt; MajorMinor::from_json(&value) == Err(fault), "{text}");

@@ -38,7 +38,30 @@ fn summaries_come_back(rt: HostRuntime) -> Result<(), Fail> {
         "{\"created\":3082844800,\"revision\":\"1.5\",\"x_min\":-512}"
     );
     assert!(rt; through_json(summary, rt.alloc()) == Ok(summary));
-    let other = Value::from_str(rt.alloc(), "{\"revision\":\"1.5\",\"created\":0}")?;
-    assert!(rt; Summary::from_json(&other) == Err(JsonFault::MissingMember));
+    Ok(())
+}
+
+// The first fault counts, in the order of the fields.
+#[test]
+fn summaries_refused(rt: HostRuntime) -> Result<(), Fail> {
+    for (text, fault) in [
+        (
+            "{\"revision\":\"1.5\",\"created\":0}",
+            JsonFault::MissingMember,
+        ),
+        ("{\"revision\":\"x\",\"created\":\"x\"}", JsonFault::Syntax),
+        (
+            "{\"x_min\":40000,\"created\":\"x\",\"revision\":\"1\"}",
+            JsonFault::WrongKind,
+        ),
+        (
+            "{\"x_min\":40000,\"created\":0,\"revision\":\"1\"}",
+            JsonFault::OutOfRange,
+        ),
+        ("[]", JsonFault::MissingMember),
+    ] {
+        let value = Value::from_str(rt.alloc(), text)?;
+        assert!(rt; Summary::from_json(&value) == Err(fault), "{text}");
+    }
     Ok(())
 }

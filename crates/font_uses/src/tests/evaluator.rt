@@ -14,6 +14,7 @@ fn numbers_between(rt: HostRuntime) {
     assert!(rt; between(one, three, quarter) == Fixed::from_bits(0x1_8000));
     assert!(rt; carried_over(one, three, Fixed::ZERO, three) == Some(Fixed::from_bits(65535)));
     assert!(rt; carried_over(three, three, one, Fixed::MIN) == Some(Fixed::MIN));
+    assert!(rt; carried_over(Fixed::ZERO, three, one, three) == Some(one));
     assert!(rt; carried_over(three, one, one, three).is_none());
 }
 

@@ -4,10 +4,10 @@ use crate::header::{FontHeader, font_revision, glyph_data_format, modified, unit
 use font_types::{Fixed, LongDateTime, TableDataRef};
 use std::test::Fail;
 
-// A header as a font has it, made on 9 September 2001 and changed on 29 February 2024, and a byte
-// behind it.
+// A header as a font has it, but for its minor version, made on 9 September 2001 and changed on 29
+// February 2024, and a byte behind it.
 const TABLE: [u8; 55] = [
-    0x00, 0x01, 0x00, 0x00, 0x00, 0x01, 0x80, 0x00, 0xB1, 0xB0, 0xAF, 0xBA, 0x5F, 0x0F, 0x3C, 0xF5,
+    0x00, 0x01, 0x00, 0x02, 0x00, 0x01, 0x80, 0x00, 0xB1, 0xB0, 0xAF, 0xBA, 0x5F, 0x0F, 0x3C, 0xF5,
     0x00, 0x0B, 0x08, 0x00, 0x00, 0x00, 0x00, 0x00, 0xB7, 0xC0, 0x7A, 0x80, 0x00, 0x00, 0x00, 0x00,
     0xE2, 0x06, 0x22, 0x40, 0xFE, 0x00, 0xFE, 0x51, 0x09, 0x92, 0x07, 0x6C, 0x00, 0x03, 0x00, 0x08,
     0x00, 0x02, 0x00, 0x01, 0xFF, 0xFE, 0x07,
@@ -27,7 +27,7 @@ fn first_fields(rt: HostRuntime) -> Result<(), Fail> {
     let header = TableDataRef::<FontHeader>::new(&TABLE)
         .ok_or("54 bytes")?
         .header();
-    assert!(rt; header.major_version.get() == 1 && header.minor_version.get() == 0);
+    assert!(rt; header.major_version.get() == 1 && header.minor_version.get() == 2);
     assert!(rt; header.checksum_adjustment.get() == 2981146554);
     assert!(rt; header.magic_number.get() == 1594834165);
     assert!(rt; header.flags.get() == 11);

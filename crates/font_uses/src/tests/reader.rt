@@ -12,7 +12,7 @@ fn strikes_in_turn(rt: HostRuntime) -> Result<(), Fail> {
     assert!(rt; strike.table == Tag::new(b"EBDT") && strike.scale == Fixed::from_bits(98304));
     assert!(rt; strike.byte_len.to_u32() == 65538 && strike.size == PixelsPerEm(12));
     assert!(rt; strike.glyph_count == 260 && cursor.rest == [7].as_slice());
-    assert!(rt; read_strike(&mut cursor).is_none());
+    assert!(rt; read_strike(&mut cursor).is_none() && cursor.rest == [7].as_slice());
     Ok(())
 }
 

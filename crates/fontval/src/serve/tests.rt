@@ -149,7 +149,7 @@ fn lines_a_thousand_times(rt: HostRuntime) -> Result<(), Fail> {
     Ok(())
 }
 
-// Many blocks of input and more than a megabyte of each, so that no limit on either goes unseen.
+// Many blocks of input and more than a megabyte of each, so that no limit below that goes unseen.
 #[test]
 fn long_input_is_answered(rt: HostRuntime) -> Result<(), Fail> {
     let times = 60_000;
@@ -211,6 +211,7 @@ fn rows(rt: HostRuntime) -> Result<(), Fail> {
         ("int24 7fffff", "8388607\n"),
         ("int24 800000", "-8388608\n"),
         ("\t uint8  \r ff\t\r\n", "255\n"),
+        ("uint8\u{a0}ff", "error 1\n"),
         ("\n\n", "error 1\nerror 1\n"),
     ] {
         let output = served(rt.alloc(), line.as_bytes())?;
@@ -259,11 +260,11 @@ fn a_failed_write_keeps_what_passed(rt: HostRuntime) {
 // Each request for memory is refused in turn, until the input is answered.
 #[test]
 fn each_growth_refused(rt: HostRuntime) -> Result<(), Fail> {
-    for (input, answers, fewest) in [
-        (LINES, ANSWERS, 3),
-        (SUM, b"15.5\n".as_slice(), 4),
-        (VARY, b"5521408\n".as_slice(), 3),
-        (IMAGE, b"30 -6 30 -6\n".as_slice(), 2),
+    for (input, answers, growths) in [
+        (LINES, ANSWERS, 8),
+        (SUM, b"15.5\n".as_slice(), 8),
+        (VARY, b"5521408\n".as_slice(), 5),
+        (IMAGE, b"30 -6 30 -6\n".as_slice(), 6),
     ] {
         let mut refused = 0usize;
         for before in 0..100usize {
@@ -278,7 +279,7 @@ fn each_growth_refused(rt: HostRuntime) -> Result<(), Fail> {
             assert_eq!(rt; sink.calls, 0, "{before}");
             refused = before + 1;
         }
-        assert!(rt; refused >= fewest && refused < 100, "{refused}");
+        assert_eq!(rt; refused, growths);
     }
     Ok(())
 }

@@ -1,6 +1,6 @@
 use Rattle.std.proofs.Common.{◌≡◌, ◌≤◌, ◌*◌, ◌^◌, unsigned_abs}
 use Rattle.font_c.proofs.SumLemmas.{sum_of_first}
-use Rattle.font_c.proofs.sum.exact_sum.Given as goal
+use Rattle.font_c.proofs.sum.summed_products.Given as goal
 
 -- each product has a magnitude below 2^63
 abbrev pub invariant-loop-i : goal.invariant-loop-i

@@ -1,0 +1,78 @@
+//! Decimal texts that come from C.
+
+ghost use Rattle.std.specs.Prelude.{◌≡◌, ◌≢◌, ◌<◌, ◌≤◌, MatchOption};
+ghost use Rattle.std.specs.Int.{w16, w32, w64};
+ghost use Rattle.font_types.specs.Grammar.{IsNoDecimal};
+ghost use Rattle.font_c.specs.Readings.{reading_of, ReadsInto};
+
+use font_arithmetic::{read_bits_16, read_bits_32, read_bits_64};
+use font_types::DecimalFault;
+
+// A number was read, and put into its place.
+const READ: u32 = 0;
+
+// A text is no decimal.
+const NO_DECIMAL: u32 = 1;
+
+// The number nearest to a decimal is out of range.
+const OUT_OF_RANGE: u32 = 2;
+
+/// Reads a decimal text as the nearest number of 16 bits, `f` of which are its fraction, ties away
+/// from zero, and answers the status.
+pub fn read_into_16(text: &[u8], f: u32, bits: &mut i16) -> u32
+    requires { (6 ≤ f) × (f ≤ 30) }
+    ensures { ReadsInto w16 f text.now result bits.old bits.new }
+{
+    let Some(text) = ascii_text(text) else {
+        return NO_DECIMAL;
+    };
+    store_reading(read_bits_16(text, f), bits)
+}
+
+/// The same of 32 bits.
+pub fn read_into_32(text: &[u8], f: u32, bits: &mut i32) -> u32
+    requires { (6 ≤ f) × (f ≤ 30) }
+    ensures { ReadsInto w32 f text.now result bits.old bits.new }
+{
+    let Some(text) = ascii_text(text) else {
+        return NO_DECIMAL;
+    };
+    store_reading(read_bits_32(text, f), bits)
+}
+
+/// The same of 64 bits.
+pub fn read_into_64(text: &[u8], f: u32, bits: &mut i64) -> u32
+    requires { (6 ≤ f) × (f ≤ 30) }
+    ensures { ReadsInto w64 f text.now result bits.old bits.new }
+{
+    let Some(text) = ascii_text(text) else {
+        return NO_DECIMAL;
+    };
+    store_reading(read_bits_64(text, f), bits)
+}
+
+// The bytes as a text, or `None` where they are not ASCII, as every decimal is.
+fn ascii_text(bytes: &[u8]) -> Option<&str>
+    ensures { MatchOption result (IsNoDecimal bytes.now) (λ text. text.now ≡ bytes.now) }
+{
+    if !bytes.is_ascii() {
+        return None;
+    }
+    Some(unsafe { str::from_utf8_unchecked(bytes) })
+}
+
+// Stores a number that was read in its place, and answers the status.
+fn store_reading<T: Copy>(reading: Result<T, DecimalFault>, place: &mut T) -> u32
+    ensures reading { reading_of result place.new ≡ reading }
+    ensures known { result < 3 }
+    ensures kept { result ≢ 0 → place.new ≡ place.old }
+{
+    match reading {
+        Ok(number) => {
+            *place = number;
+            READ
+        }
+        Err(DecimalFault::Syntax) => NO_DECIMAL,
+        Err(DecimalFault::OutOfRange) => OUT_OF_RANGE,
+    }
+}
