@@ -1,10 +1,14 @@
 -- No decimal is empty, and none that is padded; and what room is enough.
-use Rattle.std.proofs.Common.{ℕ, ◌+◌, ◌^◌, ◌<◌, ◌≤◌, ℤ, max, unsigned_abs, Bool, true, false, List, [], ◌∷◌, ◌++◌}
-use Rattle.std.proofs.Common.{length, drop, ap, arith, length-append, ◌==◌, if◌then◌else◌}
+use Rattle.std.proofs.Common.{ℕ, ◌+◌, ◌<◌, ◌≤◌, ℤ, max, Bool, true, false, List, [], ◌∷◌, ◌++◌, length, drop, ap, arith}
+use Rattle.std.proofs.Common.{length-append, ◌==◌, if◌then◌else◌}
+use Rattle.std.proofs.lemmas.Int.{ints}
 use Rattle.std.specs.Prelude.{slice_index}
+use Rattle.std.specs.Int.{w64}
+use borrow.Author.Differences.{abs_is}
+use mir.Val.{SFits}
 use Rattle.std.specs.Fmt.{sign_text}
 use Rattle.font_decimal.specs.Grammar.{IsDecimal, fraction_text}
-use Rattle.font_decimal.specs.Padding.{padded_text}
+use Rattle.font_decimal.specs.Padding.{padded_text, unsigned_body}
 use Rattle.font_decimal.specs.declared.padding.Pad.{Pad}
 use Rattle.font_decimal.specs.Shortest.{shortest_text}
 use Rattle.font_decimal.proofs.Padded.{padded_length, padded_fits}
@@ -37,8 +41,11 @@ padded_not_empty {text} pad given =
           (decimal_not_empty given),
     )
 
--- a decimal of at most 64 bits fits a room of 22 bytes, padded, where no width asks for more
-pub shortest_fits : (b : ℤ) (f : ℕ) (pad : Pad) (n : ℕ) → unsigned_abs b ≤ 2 ^ 63 → f ≤ 30
-    → max 22 pad.width ≤ n → length (padded_text (shortest_text b f) pad) ≤ n
-shortest_fits b f pad n small few enough =
-    padded_fits (shortest_text b f) pad 22 n (length-shortest_body-lt b f small few) enough
+-- what is printed of 64 bits has less than 22 bytes beside its `-`
+pub printed_is_short : (b : ℤ) (f : ℕ) → SFits w64 b → f ≤ 30 → length (unsigned_body (shortest_text b f)) < 22
+printed_is_short b f fits few = length-shortest_body-lt b f (omega (arith, ints, fits, abs_is b)) few
+
+-- such a text fits a room of 22 bytes, padded, where no width asks for more
+pub short_text_fits : (text : List ℕ) (pad : Pad) (n : ℕ) → length (unsigned_body text) < 22
+    → max 22 pad.width ≤ n → length (padded_text text pad) ≤ n
+short_text_fits text pad n short enough = padded_fits text pad 22 n short enough

@@ -3,7 +3,7 @@
 ghost use Rattle.std.specs.Prelude.{◌≡◌, ◌≢◌, ◌<◌, ◌≤◌, length, max, MatchResult};
 ghost use Rattle.font_types.specs.Grammar.{IsDecimal};
 ghost use Rattle.font_types.specs.Shortest.{shortest_text};
-ghost use Rattle.font_types.specs.Padding.{padded_text};
+ghost use Rattle.font_types.specs.Padding.{padded_text, unsigned_body};
 ghost use Rattle.font_c.specs.Texts.{WritesDecimal, WritesText};
 ghost use Rattle.font_c.specs.Pads.{IsPad, pad_of, WritesPadded};
 
@@ -78,7 +78,6 @@ pub fn put_decimal(bits: i64, f: u32, out: &mut [u8]) -> usize
 }
 
 /// The same, padded; 0 also where `pad` is none.
-#[tactic(auto, using(crate::proofs::Texts::shortest_fits))]
 pub fn put_padded(bits: i64, f: u32, pad: &FontPad, out: &mut [u8]) -> usize
     requires { (6 ≤ f) × (f ≤ 30) }
     ensures { WritesPadded bits f pad.now result out.old out.new }
@@ -91,11 +90,13 @@ pub fn put_padded(bits: i64, f: u32, pad: &FontPad, out: &mut [u8]) -> usize
 
 // Writes a decimal to the front of `out`, padded, and answers the number of bytes, or 0 where `out`
 // is too short.
-#[tactic(auto, using(crate::proofs::Texts::padded_not_empty))]
+#[tactic(auto, using(crate::proofs::Texts::short_text_fits, crate::proofs::Texts::padded_not_empty))]
 fn put_padded_text(text: &str, pad: &Pad, out: &mut [u8]) -> usize
     requires decimal { IsDecimal text.now }
     requires ascii { pad.now.fill < 128 }
-    ensures { WritesText (padded_text text.now pad.now) result out.old out.new }
+    ensures text { WritesText (padded_text text.now pad.now) result out.old out.new }
+    ensures enough { length (unsigned_body text.now) < 22 → max 22 pad.now.width ≤ length out.old
+        → result ≢ 0 }
 {
     match font_types::write_padded(text, out, pad) {
         Some(len) => len,

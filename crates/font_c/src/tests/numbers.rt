@@ -163,23 +163,25 @@ fn paddings_refused(rt: HostRuntime) -> Result<(), Fail> {
 }
 
 #[test]
-fn flags_of_any_byte(rt: HostRuntime) -> Result<(), Fail> {
+fn alignments_and_flags(rt: HostRuntime) -> Result<(), Fail> {
     let rows = [
-        (0, 0, *b"***1.5.."),
-        (1, 0, *b"**+1.5.."),
-        (0, 1, *b"0001.5.."),
-        (40, 0, *b"**+1.5.."),
-        (128, 255, *b"+001.5.."),
+        (0, 0, 0, *b"1.5***.."),
+        (1, 0, 0, *b"*1.5**.."),
+        (2, 1, 0, *b"**+1.5.."),
+        (0, 0, 1, *b"0001.5.."),
+        (2, 40, 0, *b"**+1.5.."),
+        (1, 128, 255, *b"+001.5.."),
     ];
-    for (plus, zeros, text) in rows {
+    for (align, plus, zeros, text) in rows {
         let pad = FontPad {
+            align,
             plus,
             zeros,
             ..STARS
         };
         let mut out = *b"........";
         assert_eq!(rt; font_fixed_write_padded(0x1_8000, &pad, &mut out), 6);
-        assert_eq!(rt; out, text, "{plus} {zeros}");
+        assert_eq!(rt; out, text);
     }
     Ok(())
 }
