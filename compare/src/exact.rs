@@ -1,4 +1,8 @@
-//! Decimals as whole numbers of 128 bits.
+//! Decimals and fixed-point numbers by whole numbers of 128 bits: what is exact, and the type
+//! `F2Dot30`, which `font-types` has not.
+
+use std::fmt;
+use std::ops::{Add, Neg, Sub};
 
 /// The decimal `numeral / 10^places`.
 #[derive(Clone, Copy, PartialEq, Eq)]
@@ -8,42 +12,38 @@ pub struct Exact {
 }
 
 impl Exact {
-    /// The decimal that a text is.
-    pub fn of(text: &str) -> Option<Self> {
-        let (whole, fraction) = text.split_once('.').unwrap_or((text, ""));
-        Some(Self {
-            numeral: format!("{whole}{fraction}").parse().ok()?,
-            places: fraction.len() as u32,
-        })
-    }
-
     /// The decimal of so many places that is nearest to `bits / 2^f`.
     pub fn nearest(bits: i64, f: u32, places: u32) -> Self {
-        Self {
-            numeral: rounded(i128::from(bits) * 10i128.pow(places), 1 << f),
-            places,
-        }
+        let numeral = rounded(i128::from(bits) * 10i128.pow(places), 1 << f);
+        Self { numeral, places }
     }
 
-    /// The nearest number of steps of `1 / 2^f`.
+    /// The decimal of `bits / 2^f` with the fewest places that is read back, the nearest of these.
+    pub fn shortest(bits: i64, f: u32) -> Self {
+        let mut decimals = (0..).map(|places| Self::nearest(bits, f, places));
+        let read_back = decimals.find(|decimal| decimal.steps(f) == i128::from(bits));
+        read_back.expect("a decimal of `f` places is the number itself")
+    }
+
+    /// The nearest number of steps of `1 / 2^f`, ties away from zero.
     pub fn steps(self, f: u32) -> i128 {
-        rounded(self.numeral << f, 10i128.pow(self.places))
-    }
-
-    /// The text, with every place.
-    pub fn text(self) -> String {
-        let sign = if self.numeral < 0 { "-" } else { "" };
-        let one = 10u128.pow(self.places);
-        let magnitude = self.numeral.unsigned_abs();
-        let whole = magnitude / one;
-        match self.places {
-            0 => format!("{sign}{whole}"),
-            places => format!(
-                "{sign}{whole}.{:0width$}",
-                magnitude % one,
-                width = places as usize
-            ),
+        let fives = 5i128.pow(self.places);
+        match f.checked_sub(self.places) {
+            Some(shift) => rounded(self.numeral << shift, fives),
+            None => rounded(self.numeral, fives << (self.places - f)),
         }
+    }
+}
+
+/// The text, with every place.
+impl fmt::Display for Exact {
+    fn fmt(&self, f: &mut fmt::Formatter<'_>) -> fmt::Result {
+        let digits = self.numeral.unsigned_abs().to_string();
+        let places = self.places as usize;
+        let digits = format!("{digits:0>width$}", width = places + 1);
+        let (whole, fraction) = digits.split_at(digits.len() - places);
+        let point = if places > 0 { "." } else { "" };
+        f.pad_integral(self.numeral >= 0, "", &format!("{whole}{point}{fraction}"))
     }
 }
 
@@ -51,4 +51,105 @@ impl Exact {
 fn rounded(n: i128, d: i128) -> i128 {
     let magnitude = (2 * n.abs() + d) / (2 * d);
     if n < 0 { -magnitude } else { magnitude }
+}
+
+/// A number of 32 bits with 30 bits of fraction.
+#[derive(Clone, Copy, PartialEq, Eq)]
+pub struct F2Dot30(i32);
+
+const ONE: i128 = 1 << 30;
+
+impl F2Dot30 {
+    pub fn from_bits(bits: i32) -> Self {
+        Self(bits)
+    }
+
+    pub fn to_bits(self) -> i32 {
+        self.0
+    }
+
+    fn exact(self) -> i128 {
+        i128::from(self.0)
+    }
+
+    // The number with these bits, wrapped to 32.
+    fn wrapped(bits: i128) -> Self {
+        Self(((bits + (1 << 31)).rem_euclid(1 << 32) - (1 << 31)) as i32)
+    }
+
+    // The same, or the nearest end.
+    fn clamped(bits: i128) -> Self {
+        Self(bits.clamp(i32::MIN.into(), i32::MAX.into()) as i32)
+    }
+
+    pub fn round(self) -> Self {
+        Self::wrapped((self.exact() + ONE / 2).div_euclid(ONE) * ONE)
+    }
+
+    pub fn floor(self) -> Self {
+        Self::wrapped(self.exact().div_euclid(ONE) * ONE)
+    }
+
+    pub fn fract(self) -> Self {
+        Self::wrapped(self.exact().rem_euclid(ONE))
+    }
+
+    pub fn abs(self) -> Self {
+        Self::wrapped(self.exact().abs())
+    }
+
+    pub fn wrapping_add(self, other: Self) -> Self {
+        Self::wrapped(self.exact() + other.exact())
+    }
+
+    pub fn wrapping_sub(self, other: Self) -> Self {
+        Self::wrapped(self.exact() - other.exact())
+    }
+
+    pub fn saturating_add(self, other: Self) -> Self {
+        Self::clamped(self.exact() + other.exact())
+    }
+
+    pub fn saturating_sub(self, other: Self) -> Self {
+        Self::clamped(self.exact() - other.exact())
+    }
+
+    pub fn checked_add(self, other: Self) -> Option<Self> {
+        i32::try_from(self.exact() + other.exact()).ok().map(Self)
+    }
+
+    /// The four bytes of the number modulo `2^32`, highest first.
+    pub fn to_be_bytes(self) -> [u8; 4] {
+        [24, 16, 8, 0].map(|shift| (self.exact().div_euclid(1 << shift)).rem_euclid(256) as u8)
+    }
+}
+
+impl Add for F2Dot30 {
+    type Output = Self;
+
+    fn add(self, other: Self) -> Self {
+        self.wrapping_add(other)
+    }
+}
+
+impl Sub for F2Dot30 {
+    type Output = Self;
+
+    fn sub(self, other: Self) -> Self {
+        self.wrapping_sub(other)
+    }
+}
+
+impl Neg for F2Dot30 {
+    type Output = Self;
+
+    fn neg(self) -> Self {
+        Self::wrapped(-self.exact())
+    }
+}
+
+impl fmt::Display for F2Dot30 {
+    fn fmt(&self, f: &mut fmt::Formatter<'_>) -> fmt::Result {
+        Exact::shortest(self.0.into(), 30).fmt(f)
+    }
 }

@@ -1,48 +1,141 @@
-//! Random matrices of `Fixed`.
+//! Random matrices, points and boxes of `Fixed`, and sums of deltas.
 
+use crate::both::there;
 use crate::random::Random;
+use crate::tally::Tally;
 use crate::work::Work;
-use font_types as there;
-use font_types_proved as here;
+use font_types_proved::laws::{composed, in_turn};
+use font_types_proved::{self as here, checked_delta_sum, delta_sum, vary};
 
+/// The calls of a side, from bits to bits.
+macro_rules! side {
+    ($name:ident $side:ident) => {
+        mod $name {
+            use super::$side::{BoundingBox, Fixed, Matrix, Point};
+
+            pub fn matrix(bits: &[i32]) -> Matrix<Fixed> {
+                Matrix::from_elements(std::array::from_fn(|n| Fixed::from_bits(bits[n])))
+            }
+
+            pub fn point(bits: &[i32]) -> Point<Fixed> {
+                Point::new(Fixed::from_bits(bits[0]), Fixed::from_bits(bits[1]))
+            }
+
+            pub fn elements(m: Matrix<Fixed>) -> [i32; 6] {
+                m.elements().map(Fixed::to_bits)
+            }
+
+            pub fn coordinates(p: Point<Fixed>) -> [i32; 2] {
+                [p.x, p.y].map(Fixed::to_bits)
+            }
+
+            pub fn points(bits: &[i32]) -> [[i32; 2]; 7] {
+                let (p, q, n) = (point(bits), point(&bits[2..]), Fixed::from_bits(bits[4]));
+                [p + q, p - q, p * q, p / q, -p, p * n, p / n].map(coordinates)
+            }
+
+            pub fn boxes(bits: &[i32]) -> ([[i32; 4]; 3], bool) {
+                let side = |n: usize| Fixed::from_bits(bits[n]);
+                let of = BoundingBox {
+                    x_min: side(0),
+                    y_min: side(1),
+                    x_max: side(2),
+                    y_max: side(3),
+                };
+                let scaled = of.scale(side(4));
+                let boxes = [of.normalize(), scaled, scaled.normalize()];
+                let sides = boxes.map(|b| [b.x_min, b.y_min, b.x_max, b.y_max].map(Fixed::to_bits));
+                (sides, of.is_normalized())
+            }
+        }
+    };
+}
+
+side!(ours here);
+side!(theirs there);
+
+/// Matrices, points and boxes.
 pub fn compare(work: &mut Work) {
-    let names = ["matrix * matrix", "matrix * point", "composed", "in turn"];
-    let (seed, count) = (work.seed, work.random_or(100_000_000));
-    work.go_over("Matrices, random", names, count, |index, tally| {
-        let mut random = Random::of_input(seed, index);
+    let names = [
+        "matrix * matrix",
+        "matrix * point",
+        "composed",
+        "in turn",
+        "points",
+        "boxes",
+    ];
+    work.go_over_random("Matrices, random", &names, 50_000_000, |random, tally| {
         let bits: [i32; 14] = std::array::from_fn(|_| random.bits_32());
+        let (a, b, p) = (
+            ours::matrix(&bits),
+            ours::matrix(&bits[6..]),
+            ours::point(&bits[12..]),
+        );
+        let (c, d) = (theirs::matrix(&bits), theirs::matrix(&bits[6..]));
+        let q = theirs::point(&bits[12..]);
         let example = || format!("bits {bits:?}");
-        let (a, b, p) = matrices_here(bits);
-        let (c, d, q) = matrices_there(bits);
-        let same = |x: here::Point, y: there::Point<there::Fixed>| {
-            [x.x, x.y].map(here::Fixed::to_bits) == [y.x, y.y].map(there::Fixed::to_bits)
-        };
-        let (product_here, product_there) = (a * b, c * d);
-        let elements_here = product_here.elements().map(here::Fixed::to_bits);
-        let elements_there = product_there.elements().map(there::Fixed::to_bits);
-        tally.judge(0, elements_here == elements_there, example);
-        tally.judge(1, same(a * p, c * q), example);
-        tally.judge(2, same(a.composed(b, p), product_there * q), example);
-        tally.judge(3, same(a.in_turn(b, p), c * (d * q)), example);
+        tally.judge(0, ours::elements(a * b) == theirs::elements(c * d), example);
+        let images = [
+            [ours::coordinates(a * p), theirs::coordinates(c * q)],
+            [
+                ours::coordinates(composed(a, b, p)),
+                theirs::coordinates((c * d) * q),
+            ],
+            [
+                ours::coordinates(in_turn(a, b, p)),
+                theirs::coordinates(c * (d * q)),
+            ],
+        ];
+        tally.judge_each(1, images, example);
+        tally.judge(4, ours::points(&bits) == theirs::points(&bits), example);
+        tally.judge(5, ours::boxes(&bits) == theirs::boxes(&bits), example);
     });
 }
 
-fn matrices_here(bits: [i32; 14]) -> (here::Matrix, here::Matrix, here::Point) {
-    let [a, b, c, d, e, f, g, h, i, j, k, l, x, y] = bits.map(here::Fixed::from_bits);
-    (
-        here::Matrix::from_elements([a, b, c, d, e, f]),
-        here::Matrix::from_elements([g, h, i, j, k, l]),
-        here::Point::new(x, y),
-    )
+/// Sums of deltas, there added up with `mul_i32` and a wrapping `+`.
+pub fn sums(work: &mut Work) {
+    let names = [
+        "delta_sum",
+        "checked_delta_sum, by whole numbers",
+        "refused by whole numbers",
+        "vary, by whole numbers",
+    ];
+    work.go_over_random("Sums of up to 16 deltas", &names, 20_000_000, sum);
 }
 
-type MatrixThere = there::Matrix<there::Fixed>;
+fn sum(random: &mut Random, tally: &mut Tally) {
+    let length = random.below(17) as usize;
+    let bits: [[i32; 2]; 16] = std::array::from_fn(|_| [some_number(random), some_number(random)]);
+    let (bits, base) = (&bits[..length], random.next() as i16);
+    let example = || format!("bits {bits:?}");
+    let terms = bits
+        .iter()
+        .map(|[x, delta]| (here::Fixed::from_bits(*x), *delta));
+    let terms: Vec<_> = terms.collect();
+    let of_term = |[x, delta]: &[i32; 2]| i128::from(*x) * i128::from(*delta);
+    let exact: i128 = bits.iter().map(of_term).sum();
+    let mut wrapping = there::F48Dot16::ZERO;
+    for [x, delta] in bits {
+        wrapping += there::Fixed::from_bits(*x).mul_i32(*delta);
+    }
+    tally.judge(
+        0,
+        delta_sum(&terms).to_bits() == wrapping.to_bits(),
+        example,
+    );
+    let checked = checked_delta_sum(&terms).map(|sum| i128::from(sum.to_bits()));
+    let in_range = Some(exact).filter(|sum| i64::try_from(*sum).is_ok());
+    let row = if in_range.is_some() { 1 } else { 2 };
+    tally.judge(row, checked == in_range, example);
+    let varied = in_range.map(|sum| i128::from(base) * 65536 + sum);
+    tally.judge(3, vary(here::FWord::new(base), &terms) == varied, example);
+}
 
-fn matrices_there(bits: [i32; 14]) -> (MatrixThere, MatrixThere, there::Point<there::Fixed>) {
-    let [a, b, c, d, e, f, g, h, i, j, k, l, x, y] = bits.map(there::Fixed::from_bits);
-    (
-        MatrixThere::from_elements([a, b, c, d, e, f]),
-        MatrixThere::from_elements([g, h, i, j, k, l]),
-        there::Point::new(x, y),
-    )
+// Every other number is an end, so that many sums leave 64 bits.
+fn some_number(random: &mut Random) -> i32 {
+    match random.below(4) {
+        0 => i32::MIN,
+        1 => i32::MAX,
+        _ => random.bits_32(),
+    }
 }

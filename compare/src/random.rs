@@ -28,15 +28,17 @@ impl Random {
         self.next() % n
     }
 
-    /// A number of up to 32 bits, of any length with the same chance.
+    /// A number of up to 32 bits, of any length with the same chance, one in eight an end.
     pub fn bits_32(&mut self) -> i32 {
-        let shift = self.below(32) as u32;
-        (self.next() as i32) >> shift
+        match self.below(16) {
+            0 => i32::MIN,
+            1 => i32::MAX,
+            _ => (self.next() as i32) >> self.below(32),
+        }
     }
 
     /// The same of up to 64 bits.
     pub fn bits_64(&mut self) -> i64 {
-        let shift = self.below(64) as u32;
-        (self.next() as i64) >> shift
+        (self.next() as i64) >> self.below(64)
     }
 }

@@ -1,74 +1,188 @@
-//! Decimals read by both crates: here as they are, there through f64.
-//!
-//! The decimals are such that an f64 does not come to lie on the other side of a half step: with at
-//! most five places and nine digits or so, or half steps themselves, which are numbers of f64.
+//! Decimals that are read: judged by whole numbers, refusals and ends included, and beside what
+//! `font-types` makes of the text by way of f64, where that lies on the same side of a half step.
 
+use crate::both::{Both, F2Dot14, F2Dot30, F4Dot12, F6Dot10, F26Dot6, F48Dot16, Fixed};
 use crate::exact::Exact;
 use crate::random::Random;
-use crate::shared::Shared;
 use crate::tally::Tally;
 use crate::work::Work;
-use font_types_proved::{DecimalFault, Format, Number};
+use font_types_proved::DecimalFault;
+use std::str::FromStr;
 
-const ROWS: [&str; 3] = [
-    "read as the same number",
-    "refused just where f64 saturates",
-    "taken as a decimal",
+const ROWS: [&str; 2] = [
+    "read or refused by whole numbers",
+    "read as there, through f64",
 ];
 
-/// Random decimals of at most five places.
-pub fn short_decimals<S: Shared>(work: &mut Work) {
-    let (seed, count) = (work.seed, work.random_or(20_000_000));
-    let title = format!("{}, decimals of at most five places", S::NAME);
-    work.go_over(&title, ROWS, count, |index, tally| {
-        let mut random = Random::of_input(seed, index);
-        let decimal = Exact {
-            numeral: random.bits_32().into(),
-            places: random.below(6) as u32,
-        };
-        read::<S>(decimal, tally);
-    });
+/// Every type.
+pub fn compare(work: &mut Work) {
+    of_type::<F2Dot14>(work);
+    of_type::<F4Dot12>(work);
+    of_type::<F6Dot10>(work);
+    of_type::<Fixed>(work);
+    of_type::<F26Dot6>(work);
+    of_type::<F48Dot16>(work);
+    of_type::<F2Dot30>(work);
 }
 
-/// The half step above every value, or above random ones where they are too many.
-pub fn half_steps<S: Shared>(work: &mut Work) {
-    let title = format!("{}, half steps", S::NAME);
-    let seed = work.seed;
-    match S::VALUES {
-        Some(count @ 65_536) => work.go_over(&title, ROWS, count, |index, tally| {
-            half_step::<S>(S::here(index), tally)
-        }),
-        _ => work.go_over(&title, ROWS, work.random_or(20_000_000), |index, tally| {
-            let bits = Random::of_input(seed, index).bits_64() >> 13;
-            half_step::<S>(S::here(bits as u64), tally);
-        }),
+fn of_type<B: Both>(work: &mut Work) {
+    let name = B::NAME;
+    let rows = if B::FROM_F64.is_some() {
+        &ROWS[..]
+    } else {
+        &ROWS[..1]
+    };
+    let title = format!("{name}, decimals of at most five places");
+    work.go_over_random(&title, rows, 20_000_000, |random, tally| {
+        let (numeral, places) = (random.bits_32().into(), random.below(6) as u32);
+        let decimal = Exact { numeral, places };
+        read::<B>(
+            &decimal.to_string(),
+            decimal.steps(B::FRACTION_BITS),
+            true,
+            tally,
+        );
+    });
+    let title = format!("{name}, decimals of up to 30 places");
+    work.go_over_random(&title, &ROWS[..1], 20_000_000, |random, tally| {
+        let numeral = i128::from(random.bits_64()) << 30 ^ i128::from(random.bits_32());
+        let places = random.below(31) as u32;
+        let decimal = Exact { numeral, places };
+        read::<B>(
+            &decimal.to_string(),
+            decimal.steps(B::FRACTION_BITS),
+            false,
+            tally,
+        );
+    });
+    let title = format!("{name}, half steps");
+    if B::WIDTH == 16 {
+        // One more on each side, beyond the ends.
+        work.go_over(&title, rows, (1 << 16) + 2, |index, tally| {
+            half_step::<B>(index as i64 - (1 << 15) - 1, tally);
+        });
+    } else {
+        work.go_over_random(&title, rows, 20_000_000, |random, tally| {
+            half_step::<B>(some_bits::<B>(random), tally);
+        });
+    }
+    let title = format!("{name}, texts of up to 5,000 digits at half steps");
+    work.go_over_random(&title, &ROWS[..1], 2_000_000, long_text::<B>);
+    let title = format!("{name}, texts of other forms");
+    let names = ["refused as no decimal", "taken as a decimal"];
+    work.go_over_random(&title, &names, 5_000_000, other_form::<B>);
+}
+
+// The bits of some number, one in eight an end or the number beside it.
+fn some_bits<B: Both>(random: &mut Random) -> i64 {
+    let end = i64::MAX >> (64 - B::WIDTH);
+    match random.below(32) {
+        0 => end,
+        1 => !end,
+        2 => end - 1,
+        3 => !end - i64::from(B::WIDTH < 64),
+        _ => B::bits(B::here(random.bits_64())),
     }
 }
 
-fn half_step<S: Shared>(below: Number<S::Format>, tally: &mut Tally<3>) {
-    let places = S::Format::FRACTION_BITS + 1;
-    let half_steps = 2 * i128::from(S::bits(below)) + 1;
-    let decimal = Exact {
-        numeral: half_steps * 5i128.pow(places),
-        places,
-    };
-    read::<S>(decimal, tally);
+// The decimal half a step above a number.
+fn half_step_above<B: Both>(bits: i64) -> Exact {
+    let places = B::FRACTION_BITS + 1;
+    let numeral = (2 * i128::from(bits) + 1) * 5i128.pow(places);
+    Exact { numeral, places }
 }
 
-fn read<S: Shared>(decimal: Exact, tally: &mut Tally<3>) {
-    let text = decimal.text();
-    let example = || text.clone();
-    let Ok(x) = text.parse() else {
-        tally.judge(2, false, example);
-        return;
+fn half_step<B: Both>(below: i64, tally: &mut Tally) {
+    let decimal = half_step_above::<B>(below);
+    // An f64 holds a half step of up to 52 bits.
+    let is_f64 = below.unsigned_abs() < 1 << 51;
+    read::<B>(
+        &decimal.to_string(),
+        decimal.steps(B::FRACTION_BITS),
+        is_f64,
+        tally,
+    );
+}
+
+// A half step with digits behind it, or with those of a number just below it, and zeros in front.
+fn long_text<B: Both>(random: &mut Random, tally: &mut Tally) {
+    let tie = half_step_above::<B>(some_bits::<B>(random));
+    let away = tie.steps(B::FRACTION_BITS);
+    let (zeros, digits) = (
+        random.below(100) as usize,
+        random.below(5000 - 150) as usize,
+    );
+    let toward = Exact {
+        numeral: tie.numeral - tie.numeral.signum(),
+        ..tie
     };
-    let there = S::from_f64(x);
-    match Number::from_decimal(&text) {
-        Ok(here) => tally.judge(0, S::same(here, there), example),
-        Err(DecimalFault::OutOfRange) => {
-            let end = if x < 0.0 { Number::MIN } else { Number::MAX };
-            tally.judge(1, S::same(end, there), example);
+    let (text, steps) = match random.below(3) {
+        0 => (format!("{tie}{:0<digits$}", ""), away),
+        1 => (format!("{tie}{:0<digits$}1", ""), away),
+        _ => (
+            format!("{toward}9{:9<digits$}", ""),
+            away - tie.numeral.signum(),
+        ),
+    };
+    let (sign, magnitude) = match text.strip_prefix('-') {
+        Some(magnitude) => ("-", magnitude),
+        // Where one is taken from the numeral 1, what is left is 0, whose sign is gone.
+        None if tie.numeral < 0 => ("-", text.as_str()),
+        None => ("", text.as_str()),
+    };
+    read::<B>(
+        &format!("{sign}{:0<zeros$}{magnitude}", ""),
+        steps,
+        false,
+        tally,
+    );
+}
+
+// Reads a text whose nearest number has so many steps.
+fn read<B: Both>(text: &str, steps: i128, is_safe_in_f64: bool, tally: &mut Tally) {
+    let example = || text.to_string();
+    let end = i128::from(i64::MAX >> (64 - B::WIDTH));
+    let is_in_range = (!end..=end).contains(&steps);
+    let wanted = if is_in_range {
+        Ok(steps as i64)
+    } else {
+        Err(DecimalFault::OutOfRange)
+    };
+    let here = B::Here::from_str(text).map(B::bits);
+    tally.judge(0, here == wanted, example);
+    if let Some(from_f64) = B::FROM_F64.filter(|_| is_safe_in_f64 && is_in_range) {
+        let there = text.parse().map(from_f64);
+        tally.judge(1, there.ok() == here.ok(), example);
+    }
+}
+
+// A decimal with characters put in, left out or in another's place.
+fn other_form<B: Both>(random: &mut Random, tally: &mut Tally) {
+    let places = random.below(4) as u32;
+    let numeral = i128::from(random.bits_32() >> 16);
+    let mut text = Exact { numeral, places }.to_string();
+    for _ in 0..1 + random.below(3) {
+        let at = random.below(text.len() as u64 + 1) as usize;
+        let piece =
+            ["", ".", "-", "+", "e", " ", "0", "7", "_", "\u{660}"][random.below(10) as usize];
+        let is_boundary =
+            text.is_char_boundary(at) && text.is_char_boundary((at + 1).min(text.len()));
+        if is_boundary {
+            text.replace_range(at..(at + random.below(2) as usize).min(text.len()), piece);
         }
-        Err(DecimalFault::Syntax) => tally.judge(2, false, example),
+    }
+    let is_syntax = |text: &str| B::Here::from_str(text).err() == Some(DecimalFault::Syntax);
+    let row = usize::from(is_decimal(&text));
+    tally.judge(row, is_syntax(&text) == (row == 0), || format!("{text:?}"));
+}
+
+// An optional `-`, digits, and then nothing, or a point and digits.
+fn is_decimal(text: &str) -> bool {
+    let text = text.strip_prefix('-').unwrap_or(text);
+    let are_digits =
+        |text: &str| !text.is_empty() && text.bytes().all(|byte| byte.is_ascii_digit());
+    match text.split_once('.') {
+        Some((whole, fraction)) => are_digits(whole) && are_digits(fraction),
+        None => are_digits(text),
     }
 }

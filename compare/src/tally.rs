@@ -3,10 +3,11 @@
 use std::fmt;
 
 /// A row for each thing that is compared.
-pub struct Tally<const N: usize> {
-    rows: [Row; N],
+pub struct Tally {
+    rows: Vec<Row>,
 }
 
+#[derive(Default)]
 struct Row {
     name: &'static str,
     same: u64,
@@ -15,15 +16,14 @@ struct Row {
     example: Option<String>,
 }
 
-impl<const N: usize> Tally<N> {
-    pub fn new(names: [&'static str; N]) -> Self {
+impl Tally {
+    pub fn new(names: &[&'static str]) -> Self {
+        let row = |name: &&'static str| Row {
+            name,
+            ..Row::default()
+        };
         Self {
-            rows: names.map(|name| Row {
-                name,
-                same: 0,
-                different: 0,
-                example: None,
-            }),
+            rows: names.iter().map(row).collect(),
         }
     }
 
@@ -38,6 +38,18 @@ impl<const N: usize> Tally<N> {
         }
     }
 
+    /// Counts a comparison for each of the rows from this one on.
+    pub fn judge_each<T: PartialEq>(
+        &mut self,
+        first: usize,
+        answers: impl IntoIterator<Item = [T; 2]>,
+        example: impl Fn() -> String,
+    ) {
+        for (row, [here, there]) in (first..).zip(answers) {
+            self.judge(row, here == there, &example);
+        }
+    }
+
     pub fn add(&mut self, other: Self) {
         for (row, more) in self.rows.iter_mut().zip(other.rows) {
             row.same += more.same;
@@ -46,22 +58,26 @@ impl<const N: usize> Tally<N> {
         }
     }
 
-    /// How many comparisons differed.
+    /// How many comparisons differed. A row in which nothing was compared counts as one.
     pub fn different(&self) -> u64 {
-        self.rows.iter().map(|row| row.different).sum()
+        let of_row = |row: &Row| row.different + u64::from(row.same + row.different == 0);
+        self.rows.iter().map(of_row).sum()
     }
 }
 
-impl<const N: usize> fmt::Display for Tally<N> {
+impl fmt::Display for Tally {
     fn fmt(&self, f: &mut fmt::Formatter<'_>) -> fmt::Result {
-        for row in &self.rows {
-            write!(
-                f,
-                "  {:<44}{:>14} same {:>10} different",
-                row.name, row.same, row.different
-            )?;
-            match &row.example {
+        for Row {
+            name,
+            same,
+            different,
+            example,
+        } in &self.rows
+        {
+            write!(f, "  {name:<44}{same:>14} same {different:>10} different")?;
+            match example {
                 Some(example) => writeln!(f, ", as {example}")?,
+                None if *same == 0 => writeln!(f, ": NOTHING WAS COMPARED")?,
                 None => writeln!(f)?,
             }
         }

@@ -1,5 +1,6 @@
 //! Numbered inputs, shared out among threads.
 
+use crate::random::Random;
 use crate::tally::Tally;
 use std::ops::Range;
 use std::sync::atomic::{AtomicU64, Ordering};
@@ -7,7 +8,7 @@ use std::sync::mpsc::{self, RecvTimeoutError};
 use std::thread;
 use std::time::{Duration, Instant};
 
-const CHUNK: u64 = 1 << 18;
+const CHUNK: u64 = 1 << 14;
 const BETWEEN_LINES: Duration = Duration::from_secs(10);
 
 /// How the work is done.
@@ -16,6 +17,8 @@ pub struct Work {
     pub seed: u64,
     /// How many random inputs, where that was said.
     pub random: Option<u64>,
+    /// Whether a part is enough.
+    pub is_small: bool,
     /// How many comparisons differed.
     pub different: u64,
 }
@@ -23,12 +26,12 @@ pub struct Work {
 impl Work {
     /// Goes over the inputs 0 to `count - 1`, with a line on standard error every ten seconds, and
     /// prints the counts.
-    pub fn go_over<const N: usize>(
+    pub fn go_over(
         &mut self,
         title: &str,
-        names: [&'static str; N],
+        names: &[&'static str],
         count: u64,
-        compare: impl Fn(u64, &mut Tally<N>) + Sync,
+        compare: impl Fn(u64, &mut Tally) + Sync,
     ) {
         let start = Instant::now();
         let chunks = Chunks::new(count);
@@ -62,9 +65,35 @@ impl Work {
         print!("{total}");
     }
 
-    /// How many random inputs to take, where nothing else was said.
-    pub fn random_or(&self, usual: u64) -> u64 {
-        self.random.unwrap_or(usual)
+    /// Goes over every value of so many bits, of which `small` takes each 4,099th.
+    pub fn go_over_all(
+        &mut self,
+        title: &str,
+        names: &[&'static str],
+        bits: u32,
+        compare: impl Fn(u64, &mut Tally) + Sync,
+    ) {
+        let step = if self.is_small && bits > 16 { 4099 } else { 1 };
+        let count = (1u64 << bits).div_ceil(step);
+        self.go_over(title, names, count, |index, tally| {
+            compare(index * step, tally)
+        });
+    }
+
+    /// Goes over random inputs, so many where nothing else was said, and in `small` one of a
+    /// hundred of them.
+    pub fn go_over_random(
+        &mut self,
+        title: &str,
+        names: &[&'static str],
+        usual: u64,
+        compare: impl Fn(&mut Random, &mut Tally) + Sync,
+    ) {
+        let usual = if self.is_small { usual / 100 } else { usual };
+        let (count, seed) = (self.random.unwrap_or(usual), self.seed);
+        self.go_over(title, names, count, |index, tally| {
+            compare(&mut Random::of_input(seed, index), tally);
+        });
     }
 }
 

@@ -1,6 +1,6 @@
 -- What a decimal text is read as, from the number that the reader gives.
-use Rattle.std.proofs.Common.{◌≡◌, ◌∙◌, sym, ap, subst, ℕ, ◌^◌, ◌≤◌, List, ℤ, ◌≤ℤ◌, ◌-◌, length, max, unsigned_abs,
-    Option, IsSome, Result, Ok, Err, IfOk, ◌↔◌, arith}
+use Rattle.std.proofs.Common.{◌≡◌, ◌∙◌, sym, ap, subst, ℕ, ◌^◌, ◌≤◌, List, ℤ, ◌≤ℤ◌, ◌-◌, length, max, unsigned_abs}
+use Rattle.std.proofs.Common.{Option, IsSome, Result, Ok, Err, IfOk, ◌↔◌, arith}
 use Rattle.std.proofs.lemmas.Int.{ints, to_z-of_z}
 use Rattle.std.proofs.lemmas.Nat.{pow_pos}
 use Rattle.std.specs.Int.{Width, w64}
@@ -50,7 +50,7 @@ printed_is_read_as bits_of of_bits back w f text (Ok y) room gives x fits same =
     ap Ok (sym (back y) ∙ ap of_bits equal ∙ back x)
 printed_is_read_as bits_of of_bits back w f text (Err fault) room gives x fits same =
     let reading : IsReading text f (least w) (greatest w) (Ok (bits_of x)) = rw same
-        (printed_reads w f (bits_of x) room fits) in
+    (printed_reads w f (bits_of x) room fits) in
     let equal = reading_unique text f (least w) (greatest w) (Err fault) (Ok (bits_of x)) gives reading in
     absurd (cc)
 
@@ -93,7 +93,7 @@ reads_by {T} w f bits_of of_bits text q back room gives =
     let half : 2 ^ (bits w - 1) ≤ 2 ^ 63 = rw (half_range-bits w) room in
     let only : (r : Result T DecimalFault) → (q ≡ r) ↔ ReadingGives (bits w) f text (as_bits bits_of r)
     = λ r. let answer = answers_as text f (least (bits w)) (greatest (bits w)) (as_bits bits_of q)
-        (as_bits bits_of r) gives in
+    (as_bits bits_of r) gives in
     (λ same. answer.0 (ap (as_bits bits_of) same), λ other. same_result bits_of of_bits back q r (answer.1 other)) in
     record {
       ok = λ x. only (Ok x);

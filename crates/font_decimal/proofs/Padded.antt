@@ -1,6 +1,6 @@
 -- A padded text, piece by piece.
-use Rattle.std.proofs.Common.{◌≡◌, ◌≢◌, ℕ, ◌+◌, ◌-◌, ◌≤◌, Bool, true, false, List, [], ◌∷◌, ◌++◌, length, get_or, take,
-    drop, refl, sym, ap, ◌∙◌, arith, append_assoc, length-append, length-drop, max, ◌==◌}
+use Rattle.std.proofs.Common.{◌≡◌, ◌≢◌, ℕ, ◌+◌, ◌-◌, ◌≤◌, Bool, true, false, List, [], ◌∷◌, ◌++◌, length, get_or, take}
+use Rattle.std.proofs.Common.{drop, refl, sym, ap, ◌∙◌, arith, append_assoc, length-append, length-drop, max, ◌==◌}
 use Rattle.std.specs.Prelude.{replicate}
 use Rattle.std.proofs.lemmas.Bool.{cond_both, ne_eqb}
 use Rattle.std.proofs.lemmas.List.{take_at, drop_at, drop-drop, length-replicate}
@@ -45,9 +45,9 @@ laid_length pad sign body spare =
     let within = front_within pad.align spare in
     cond_both pad.zeros _ _ (λ xs. length xs ≡ length sign + length body + spare)
     (λ _. length-append sign _ ∙ ap (λ n. length sign + n) (length-append (replicate spare 48) body)
-        ∙ rw (copies spare 48) (omega arith))
+    ∙ rw (copies spare 48) (omega arith))
     (λ _. sum_length (replicate front pad.fill) sign body (replicate (spare - front) pad.fill)
-        ∙ rw (copies front pad.fill, copies (spare - front) pad.fill) (omega arith))
+    ∙ rw (copies front pad.fill, copies (spare - front) pad.fill) (omega arith))
 
 -- a padded text has the width that is asked for, or the text's own length where that is greater
 pub padded_length : (text : List ℕ) (pad : Pad) → length (padded_text text pad) ≡ max
@@ -67,9 +67,11 @@ put_behind done bytes old out new at n end front long last e =
     let taken : take at out ≡ done = ap (take at) front.bytes ∙ take_at done (drop at old) at (sym count) in
     let behind : drop at out ≡ drop at old = ap (drop at) front.bytes ∙ drop_at done (drop at old) at (sym count) in
     let rest : drop (at + n) out ≡ drop (at + n) old = sym (drop-drop n at out) ∙ ap (drop n) behind
-        ∙ drop-drop n at old in
-    record { count = omega (arith, length-append done bytes);
-        bytes = e ∙ rw (taken, rest, last) (sym (append_assoc done bytes (drop (at + n) old))) }
+    ∙ drop-drop n at old in
+    record {
+      count = omega (arith, length-append done bytes);
+      bytes = e ∙ rw (taken, rest, last) (sym (append_assoc done bytes (drop (at + n) old)));
+    }
 
 pub nothing_yet : (old : List ℕ) → FillsFront [] 0 old old
 nothing_yet old = record { count = refl; bytes = refl }
@@ -88,7 +90,7 @@ pieces text pad sign body shown_len a z b sign_is body_is shown_is laid =
     let nested : (((([] ++ replicate a pad.fill) ++ sign) ++ replicate z 48) ++ body) ++ replicate b pad.fill
     ≡ replicate a pad.fill ++ (sign ++ (replicate z 48 ++ (body ++ replicate b pad.fill))) = simp append_assoc in
     let there : laid_out pad sign body (shown_len - (length sign + length body)) ≡ padded_text text pad = rw
-        (spare, sign_is, body_is) in
+    (spare, sign_is, body_is) in
     nested ∙ sym laid ∙ there
 
 shown_sign_length : (plus : Bool) (text : List ℕ) → length (shown_sign plus text) ≤ 1

@@ -1,6 +1,7 @@
 -- What callers rely on of printed texts.
-use Rattle.std.proofs.Common.{◌≡◌, ◌≢◌, ℕ, zero, suc, ◌+◌, ◌/◌, ◌%◌, ◌^◌, ◌<◌, ◌≤◌, Bool, true, false, List, [], ◌∷◌,
-    ◌++◌, length, get_or, ℤ, pos, refl, sym, ap, subst, ◌∙◌, arith, append_assoc, length-append}
+use Rattle.std.proofs.Common.{◌≡◌, ◌≢◌, ℕ, zero, suc, ◌+◌, ◌/◌, ◌%◌, ◌^◌, ◌<◌, ◌≤◌, Bool, true, false, List, [], ◌∷◌}
+use Rattle.std.proofs.Common.{◌++◌, length, get_or, ℤ, pos, refl, sym, ap, subst, ◌∙◌, arith, append_assoc}
+use Rattle.std.proofs.Common.{length-append}
 use Rattle.std.specs.Prelude.{◌≤ℤ◌, unsigned_abs, Result, Ok}
 use Rattle.std.specs.Int.{is_negative}
 use Rattle.std.specs.Fmt.{decimal, sign_text}
@@ -39,7 +40,7 @@ pub printed_is_read : (b : ℤ) (f : ℕ) (min max : ℤ) (r : Result ℤ Decima
     → IsReading (shortest_text b f) f min max r → r ≡ Ok b
 printed_is_read b f min max r small low high x =
     let own : Reads (shortest_text b f) f min max b = record
-        { rounds = printed_rounds b f small; low = low; high = high } in
+    { rounds = printed_rounds b f small; low = low; high = high } in
     reading_unique (shortest_text b f) f min max r (Ok b) x own
 
 -- distinct values print distinct texts
@@ -70,7 +71,7 @@ last_is : (p n : ℕ) → last_digits (suc p) n ≡ last_digits p (n / 10) ++ ((
 last_is zero n = rw div-one
 last_is (suc p) n =
     let front : n / 10 ^ suc p ≡ n / 10 / 10 ^ p = ap (λ d. n / d) (pow-suc 10 p ∙ mul_comm (10 ^ p) 10) ∙ sym
-        (div-div-eq-div-mul n 10 (10 ^ p)) in
+    (div-div-eq-div-mul n 10 (10 ^ p)) in
     rw front (ap (λ ds. (48 + n / 10 / 10 ^ p % 10) ∷ ds) (last_is p n))
 
 no_point_at : (ds : List ℕ) (i : ℕ) → AllDigits 10 ds → get_or ds i 0 ≢ 46
@@ -93,9 +94,9 @@ last_byte s whole p n front e =
     let fraction : fraction_text (last_digits (suc p) n) ≡ before ++ last = ap (λ ds. 46 ∷ ds) (last_is p n) in
     let regroup : sign_text s ++ (whole ++ (before ++ last)) ≡ (sign_text s ++ (whole ++ before)) ++ last =
     sym (append_assoc (sign_text s) (whole ++ before) last
-        ∙ ap (λ xs. sign_text s ++ xs) (append_assoc whole before last)) in
+    ∙ ap (λ xs. sign_text s ++ xs) (append_assoc whole before last)) in
     let ends = same_from_push (sign_text s ++ (whole ++ before)) front (48 + n % 10) 48
-        (sym regroup ∙ sym (ap (λ xs. sign_text s ++ (whole ++ xs)) fraction) ∙ e) in
+    (sym regroup ∙ sym (ap (λ xs. sign_text s ++ (whole ++ xs)) fraction) ∙ e) in
     let same = ends.1 in
     omega arith
 
@@ -115,7 +116,7 @@ unfolding shortest_text
 zero_ends_no_fraction b f i front small e =
     let m = unsigned_abs b in
     ends_or_whole (is_negative b) m f (fewest_places m f) i front (fewest_is m f)
-        (whole_fits m f (fewest_places m f) small) e
+    (whole_fits m f (fewest_places m f) small) e
 
 sign_text_length : (s : Bool) → length (sign_text s) ≤ 1
 sign_text_length true = omega arith
@@ -131,7 +132,7 @@ shortest_length b f small few =
     let whole : List ℕ = decimal (n / 10 ^ p) in
     let digits = digits_fit m f p small few (unit_below m f p (fewest_is m f).before) in
     let all : length (sign_text (is_negative b) ++ (whole ++ fraction_text (last_digits p n))) ≡ length
-        (sign_text (is_negative b)) + (length whole + length (fraction_text (last_digits p n))) =
+    (sign_text (is_negative b)) + (length whole + length (fraction_text (last_digits p n))) =
     length-append (sign_text (is_negative b)) _ ∙ ap (λ k. length (sign_text (is_negative b)) + k)
-        (length-append whole _) in
+    (length-append whole _) in
     omega (arith, all, point_length p n, sign_text_length (is_negative b))

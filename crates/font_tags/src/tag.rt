@@ -158,10 +158,18 @@ pub enum InvalidTag {
     InvalidLength(usize),
     /// The byte at `pos` cannot stand there.
     #[error("Invalid byte 0x{byte:X} at index {pos}")]
-    InvalidByte { pos: usize, byte: u8 },
+    InvalidByte {
+        /// The index of the byte.
+        pos: usize,
+        /// The byte.
+        byte: u8,
+    },
     /// The byte at `pos` is visible, and stands after a space.
     #[error("Non-space character after first space")]
-    ByteAfterSpace { pos: usize },
+    ByteAfterSpace {
+        /// The index of the byte.
+        pos: usize,
+    },
 }
 
 impl FromStr for Tag {

@@ -1,0 +1,248 @@
+//! Integers of 24 bits, font units, ids, versions, dates and offsets, and fields over their bytes.
+
+use crate::both::there;
+use crate::work::Work;
+use font_types_proved as here;
+
+/// The same calls of both sides, as one answer that can be compared and shown.
+macro_rules! alike {
+    ($tally:ident, $row:expr, $example:expr, $side:ident => $call:expr) => {{
+        let ours = {
+            use here as $side;
+            $call
+        };
+        let theirs = {
+            use there as $side;
+            $call
+        };
+        $tally.judge($row, ours == theirs, $example);
+    }};
+}
+
+/// All of it.
+pub fn compare(work: &mut Work) {
+    integers(work);
+    ids(work);
+    versions(work);
+    scalars(work);
+}
+
+fn integers(work: &mut Work) {
+    let names = [
+        "Uint24::new",
+        "Uint24::checked_new",
+        "Uint24::try_from",
+        "Uint24: bytes",
+        "Int24::new",
+        "Int24::checked_new",
+        "Int24: bytes",
+        "GlyphId24",
+        "Offset24",
+        "texts, of some",
+    ];
+    work.go_over_all("Integers of 24 bits, of every 32", &names, 32, |index, tally| {
+        let (n, i) = (index as u32, index as i32);
+        let example = || format!("{n:#x}");
+        let [a, b, c, d] = n.to_be_bytes();
+        alike!(tally, 0, example, s => s::Uint24::new(n).to_u32());
+        alike!(tally, 1, example, s => s::Uint24::checked_new(n).map(u32::from));
+        alike!(tally, 2, example, s => s::Uint24::try_from(n as usize).ok().map(usize::from));
+        alike!(tally, 3, example, s => {
+            let x = s::Uint24::from_be_bytes([b, c, d]);
+            (x.to_u32(), x.to_be_bytes(), s::Uint24::new(n).to_be_bytes())
+        });
+        alike!(tally, 4, example, s => s::Int24::new(i).to_i32());
+        alike!(tally, 5, example, s => s::Int24::checked_new(i).map(i32::from));
+        alike!(tally, 6, example, s => {
+            let x = s::Int24::from_be_bytes([b, c, d]);
+            (x.to_i32(), x.to_be_bytes(), s::Int24::new(i).to_be_bytes())
+        });
+        alike!(tally, 7, example, s => {
+            let checked = s::GlyphId24::checked_new(n).map(|id| id.to_u32());
+            let narrowed = s::GlyphId24::try_from(s::GlyphId::new(n)).ok().map(u32::from);
+            (s::GlyphId24::new(n).to_u32(), checked, narrowed, s::GlyphId24::new(n).to_be_bytes())
+        });
+        alike!(tally, 8, example, s => {
+            let offset = s::Offset24::new(s::Uint24::new(n));
+            (offset.to_u32(), offset.is_null(), offset == n)
+        });
+        if a == d || n % 1021 == 0 {
+            alike!(tally, 9, example, s => {
+                let texts = (s::Uint24::new(n).to_string(), s::Int24::new(i).to_string());
+                (texts, format!("{:?}", s::Uint24::new(n)), format!("{:>12}", s::Int24::new(i)))
+            });
+        }
+    });
+}
+
+fn ids(work: &mut Work) {
+    let names = [
+        "FWord",
+        "UfWord",
+        "GlyphId16",
+        "NameId",
+        "Offset16",
+        "texts",
+    ];
+    work.go_over_all("Ids and units of 16 bits", &names, 16, |index, tally| {
+        let (n, i) = (index as u16, index as i16);
+        let example = || format!("{n}");
+        alike!(tally, 0, example, s => {
+            let word = s::FWord::new(i);
+            (word.to_i16(), i16::from(word), word.to_fixed().to_bits(), word.to_be_bytes())
+        });
+        alike!(tally, 1, example, s => {
+            let word = s::UfWord::new(n);
+            (word.to_u16(), u16::from(word), word.to_fixed().to_bits(), word.to_be_bytes())
+        });
+        alike!(tally, 2, example, s => {
+            let id = s::GlyphId16::new(n);
+            (id.to_u16(), id.to_u32(), usize::from(id), s::GlyphId::from(id) == id, id.to_be_bytes())
+        });
+        alike!(tally, 3, example, s => {
+            let id = s::NameId::new(n);
+            let sums = [0, 1, n, 32767 - n % 32768, u16::MAX];
+            let sums = sums.map(|more| id.checked_add(more).map(s::NameId::to_u16));
+            let place = s::NameId::predefined().position(|other| other == id);
+            (id.to_u16(), id.is_reserved(), sums, id.to_be_bytes(), place)
+        });
+        alike!(tally, 4, example, s => {
+            let offset = s::Offset16::new(n);
+            (offset.to_u32(), offset.is_null(), offset == 7, offset < s::Offset16::new(300))
+        });
+        alike!(tally, 5, example, s => {
+            let name = s::NameId::new(n);
+            let words = format!("{} {:+} {:>7}", s::FWord::new(i), s::FWord::new(i), s::UfWord::new(n));
+            (name.to_string(), format!("{name:?}"), s::GlyphId16::new(n).to_string(), words)
+        });
+    });
+}
+
+fn versions(work: &mut Work) {
+    let names = [
+        "Version16Dot16",
+        "Version16Dot16, compatible",
+        "MajorMinor",
+        "GlyphId and GlyphId16",
+        "Offset32",
+        "LongDateTime",
+        "texts",
+    ];
+    work.go_over_random("Versions, ids, dates, random", &names, 20_000_000, |random, tally| {
+        let numbers = [random.next(), random.next()].map(|n| (n as u32) >> (n >> 59));
+        let [[a, b], [c, d]] = numbers.map(|n| [(n >> 16) as u16, n as u16]);
+        let small = [a % 3, b % 12, c % 3, d % 12];
+        let secs = random.bits_64();
+        let example = || format!("{numbers:?}, {secs}");
+        alike!(tally, 0, example, s => {
+            let of = |n: u32| <s::Version16Dot16 as s::Scalar>::from_raw(n.to_be_bytes());
+            let [x, y] = numbers.map(of);
+            let new = s::Version16Dot16::new(a, b);
+            (x.to_major_minor(), x.to_be_bytes(), x == y, x.cmp(&y), new.to_be_bytes())
+        });
+        alike!(tally, 1, example, s => {
+            use s::Compatible;
+            let [a, b, c, d] = small;
+            let (x, y) = (s::Version16Dot16::new(a, b), s::Version16Dot16::new(c, d));
+            let (v, w) = (s::MajorMinor::new(a, b), s::MajorMinor::new(c, d));
+            let packed = (x.compatible(y), x.compatible((c, d)));
+            (packed, v.compatible(w), v.compatible((c, d)), a.compatible(c))
+        });
+        alike!(tally, 2, example, s => {
+            let (v, w) = (s::MajorMinor::new(a, b), s::MajorMinor::new(c, d));
+            (v.major, v.minor, v.to_be_bytes(), v == w, v.cmp(&w))
+        });
+        alike!(tally, 3, example, s => {
+            let (wide, narrow) = (s::GlyphId::new(numbers[0]), s::GlyphId16::new(d));
+            let narrowed = s::GlyphId16::try_from(wide).map_err(|fault| fault.to_string());
+            let order = (wide.partial_cmp(&narrow), narrow.partial_cmp(&wide), wide == narrow);
+            (narrowed.map(|id| id.to_u16()), order, u32::from(wide))
+        });
+        alike!(tally, 4, example, s => {
+            let [x, y] = numbers.map(s::Offset32::new);
+            let null = <s::Nullable<s::Offset32> as s::Scalar>::from_raw([0, 0, 0, (a % 2) as u8]);
+            (x.to_u32(), x.is_null(), x == numbers[1], x.cmp(&y), null.is_null(), null == 1)
+        });
+        alike!(tally, 5, example, s => {
+            let date = s::LongDateTime::new(secs);
+            (date.as_secs(), date.to_be_bytes(), date.cmp(&s::LongDateTime::new(0)))
+        });
+        alike!(tally, 6, example, s => {
+            let (x, v) = (s::Version16Dot16::new(a, b), s::MajorMinor::new(c, d));
+            let ids = (s::GlyphId::new(numbers[0]).to_string(), s::GlyphId24::new(numbers[1]).to_string());
+            (x.to_string(), format!("{x:?}"), v.to_string(), ids)
+        });
+    });
+}
+
+/// A scalar of both sides, read from bytes, written, and compared as a field.
+macro_rules! scalars {
+    ($tally:ident, $bytes:expr, $example:expr; $($row:literal $($Type:ident)::+ $len:literal;)*) => {$({
+        let [first, second]: [[u8; $len]; 2] = $bytes.map(|bytes: [u8; 8]| {
+            std::array::from_fn(|n| bytes[n])
+        });
+        alike!($tally, $row, $example, s => {
+            type Value = $($Type)::+;
+            let read = <Value as s::Scalar>::read(&first).map(s::Scalar::to_raw);
+            let short = <Value as s::Scalar>::read(&first[1..]).is_none();
+            let (x, y) = (s::BigEndian::<Value>::new(first), s::BigEndian::<Value>::new(second));
+            let mut set = x;
+            set.set(y.get());
+            let from = s::BigEndian::<Value>::from_slice(&first).map(|field| field.get() == x.get());
+            let bytes = (set.be_bytes().to_vec(), s::BigEndian::from(x.get()).be_bytes().to_vec());
+            (read, short, x == y, x == x.get(), bytes, from, <Value as s::FixedSize>::RAW_BYTE_LEN)
+        });
+    })*};
+}
+
+fn scalars(work: &mut Work) {
+    let names = [
+        "u8",
+        "i8",
+        "u16",
+        "i16",
+        "u32",
+        "i32",
+        "i64",
+        "Uint24",
+        "Int24",
+        "Fixed",
+        "F2Dot14",
+        "F4Dot12",
+        "F6Dot10",
+        "FWord",
+        "UfWord",
+        "GlyphId16",
+        "GlyphId24",
+        "NameId",
+        "Offset16",
+        "Offset24",
+        "Offset32",
+        "LongDateTime",
+        "Version16Dot16",
+        "MajorMinor",
+        "Tag",
+    ];
+    work.go_over_random(
+        "Scalars and fields, random",
+        &names,
+        5_000_000,
+        |random, tally| {
+            let bytes = [random.next().to_le_bytes(), random.next().to_le_bytes()];
+            // One pair in four is equal.
+            let bytes = if random.below(4) == 0 {
+                [bytes[0]; 2]
+            } else {
+                bytes
+            };
+            let example = || format!("{bytes:?}");
+            scalars! { tally, bytes, example;
+                0 u8 1; 1 i8 1; 2 u16 2; 3 i16 2; 4 u32 4; 5 i32 4; 6 i64 8; 7 s::Uint24 3;
+                8 s::Int24 3; 9 s::Fixed 4; 10 s::F2Dot14 2; 11 s::F4Dot12 2; 12 s::F6Dot10 2;
+                13 s::FWord 2; 14 s::UfWord 2; 15 s::GlyphId16 2; 16 s::GlyphId24 3; 17 s::NameId 2;
+                18 s::Offset16 2; 19 s::Offset24 3; 20 s::Offset32 4; 21 s::LongDateTime 8;
+                22 s::Version16Dot16 4; 23 s::MajorMinor 4; 24 s::Tag 4;
+            }
+        },
+    );
+}

@@ -1,0 +1,178 @@
+//! `agree [COUNT [SEED]]`: the static library and the Rust crate, called side by side. Both are made
+//! of one proved text, by two toolchains, and a difference is a fault of one of them.
+//!
+//! Each of the library's 51 functions is called at edges, and COUNT times at random. The last line
+//! says how many calls agreed; the first that does not ends the program.
+
+mod exports;
+mod numbers;
+mod random;
+
+use exports::*;
+use font_types_proved::laws::{composed, in_turn};
+use font_types_proved::{F26Dot6, Fixed, InvalidTag, Matrix, Point, Tag, checked_delta_sum};
+use random::Random;
+
+/// What no call writes.
+const KEPT: i64 = 7;
+
+/// How many functions the library has; each round below calls every one of them.
+const EXPORTS: u64 = 51;
+
+fn main() {
+    let mut words = std::env::args()
+        .skip(1)
+        .map(|word| word.parse().expect("a number"));
+    let count: u64 = words.next().unwrap_or(200_000);
+    let mut random = Random(words.next().unwrap_or(1));
+    let edges = edges();
+    let triples = edges.len() * edges.len() * edges.len();
+    for n in 0..triples {
+        let edge = |place: u32| edges[n / edges.len().pow(place) % edges.len()];
+        round([edge(0), edge(1), edge(2)], &mut random);
+    }
+    for _ in 0..count {
+        let three = [random.signed(), random.signed(), random.signed()];
+        round(three, &mut random);
+    }
+    println!("{} calls agree", (triples as u64 + count) * EXPORTS);
+}
+
+/// The ends of each width, whole and half numbers of each fraction, and the numbers beside them.
+fn edges() -> Vec<i64> {
+    let powers = [0, 1, 5, 6, 9, 10, 14, 15, 16, 29, 30, 31, 47, 62, 63];
+    let beside = |power: i32| [-1, 0, 1].map(|near| (1i64 << power).wrapping_add(near));
+    let mut edges: Vec<i64> = powers.into_iter().flat_map(beside).collect();
+    edges.extend(edges.clone().iter().map(|edge| edge.wrapping_neg()));
+    edges.sort_unstable();
+    edges.dedup();
+    edges
+}
+
+/// Calls each function once, over these numbers where it takes numbers.
+fn round([x, y, z]: [i64; 3], random: &mut Random) {
+    numbers::fixed::agree(x, random);
+    numbers::f2dot14::agree(x, random);
+    numbers::f4dot12::agree(x, random);
+    numbers::f6dot10::agree(x, random);
+    numbers::f26dot6::agree(x, random);
+    numbers::f48dot16::agree(x, random);
+    numbers::f2dot30::agree(x, random);
+    arithmetic([x, y, z].map(|n| n as i32));
+    matrices(random);
+    tags(&random.tag_bytes());
+    text_of_tag(Tag::from_u32(random.next() as u32), random.below(30));
+    sums(random);
+}
+
+fn arithmetic([x, y, z]: [i32; 3]) {
+    let [a, b, c] = [x, y, z].map(Fixed::from_bits);
+    assert_eq!(font_fixed_mul(x, y), (a * b).to_bits(), "{x} {y}");
+    assert_eq!(font_fixed_div(x, y), (a / b).to_bits(), "{x} {y}");
+    assert_eq!(
+        font_fixed_mul_div(x, y, z),
+        a.mul_div(b, c).to_bits(),
+        "{x} {y} {z}"
+    );
+    assert_eq!(font_fixed_to_i32(x), a.to_i32(), "{x}");
+    assert_eq!(font_fixed_to_f26dot6(x), a.to_f26dot6().to_bits(), "{x}");
+    assert_eq!(font_fixed_to_f2dot14(x), a.to_f2dot14().to_bits(), "{x}");
+    let [a, b] = [x, y].map(F26Dot6::from_bits);
+    assert_eq!(font_f26dot6_mul(x, y), (a * b).to_bits(), "{x} {y}");
+    assert_eq!(font_f26dot6_div(x, y), (a / b).to_bits(), "{x} {y}");
+}
+
+fn matrices(random: &mut Random) {
+    let [a, b] = [random.ints(), random.ints()].map(|bits| bits.map(Fixed::from_bits));
+    let [a, b] = [a, b].map(Matrix::from_elements);
+    let [x, y] = random.ints().map(Fixed::from_bits);
+    let p = Point::new(x, y);
+    let c_matrix = |m: Matrix<Fixed>| {
+        let [xx, yx, xy, yy, dx, dy] = m.elements().map(Fixed::to_bits);
+        FontMatrix {
+            xx,
+            yx,
+            xy,
+            yy,
+            dx,
+            dy,
+        }
+    };
+    let c_point = |p: Point<Fixed>| FontPoint {
+        x: p.x.to_bits(),
+        y: p.y.to_bits(),
+    };
+    let (m, n, q) = (c_matrix(a), c_matrix(b), c_point(p));
+    assert_eq!(font_matrix_product(m, n), c_matrix(a * b));
+    assert_eq!(font_matrix_image(m, q), c_point(a * p));
+    assert_eq!(font_matrix_composed(m, n, q), c_point(composed(a, b, p)));
+    assert_eq!(font_matrix_in_turn(m, n, q), c_point(in_turn(a, b, p)));
+}
+
+/// The status of a tag's fault, and where it is.
+fn told(fault: &InvalidTag) -> (u32, i64) {
+    match fault {
+        InvalidTag::InvalidLength(_) => (1, KEPT),
+        InvalidTag::InvalidByte { pos, .. } => (2, *pos as i64),
+        InvalidTag::ByteAfterSpace { pos } => (3, *pos as i64),
+    }
+}
+
+fn tags(bytes: &[u8]) {
+    let mut tag = KEPT as u32;
+    let status = unsafe { font_tag_new(bytes.as_ptr(), bytes.len(), &mut tag) };
+    match Tag::new_checked(bytes) {
+        Ok(made) => assert_eq!((status, tag.to_be_bytes()), (0, made.to_be_bytes())),
+        Err(fault) => assert_eq!(
+            (status, i64::from(tag)),
+            (told(&fault).0, KEPT),
+            "{bytes:?}"
+        ),
+    }
+    let mut position = KEPT as u32;
+    let status = unsafe { font_tag_validate(bytes.as_ptr(), bytes.len(), &mut position) };
+    let judged = match <[u8; 4]>::try_from(bytes) {
+        Ok(four) => Tag::new(&four)
+            .validate()
+            .map_or_else(|fault| told(&fault), |()| (0, KEPT)),
+        Err(_) => (1, KEPT),
+    };
+    assert_eq!((status, i64::from(position)), judged, "{bytes:?}");
+}
+
+fn text_of_tag(tag: Tag, room: usize) {
+    let text = tag.to_string();
+    let text = if text.len() <= room {
+        text.as_bytes()
+    } else {
+        b""
+    };
+    let mut out = [KEPT as u8; 40];
+    let number = u32::from_be_bytes(tag.to_be_bytes());
+    let written = unsafe { font_tag_to_text(number, out.as_mut_ptr(), room) };
+    assert_eq!(&out[..written], text, "{tag:?}, room {room}");
+    assert!(out[written..].iter().all(|byte| *byte == KEPT as u8));
+}
+
+fn sums(random: &mut Random) {
+    let scalars: Vec<i32> = (0..random.below(6)).map(|_| random.int()).collect();
+    let count = if random.below(20) == 0 {
+        random.below(6)
+    } else {
+        scalars.len()
+    };
+    let deltas: Vec<i32> = (0..count).map(|_| random.int()).collect();
+    let mut sum = KEPT;
+    let (x, d) = (scalars.as_ptr(), deltas.as_ptr());
+    let status = unsafe { font_checked_delta_sum(x, scalars.len(), d, deltas.len(), &mut sum) };
+    let terms = scalars
+        .iter()
+        .map(|x| Fixed::from_bits(*x))
+        .zip(deltas.iter().copied());
+    let wanted = match checked_delta_sum(&terms.collect::<Vec<_>>()) {
+        _ if scalars.len() != deltas.len() => (1, KEPT),
+        Some(made) => (0, made.to_bits()),
+        None => (2, KEPT),
+    };
+    assert_eq!((status, sum), wanted, "{scalars:?} {deltas:?}");
+}

@@ -1,0 +1,385 @@
+//! Plain Rust from a Rattle source file.
+//!
+//! Rattle is Rust with contracts. These are left out, and their line breaks stay, so that a line of
+//! what is written is the same line of the `.rt` file:
+//!
+//! - clauses: `requires`, `ensures` and `ghost` before a function's body;
+//! - ghost items: `ghost use ..;`, and `ghost NAME`, what it is, and its `,` or `;`;
+//! - `#[tactic(..)]`, `#[error(..)]`, and `#[cfg(test)] mod tests;`;
+//! - `Drop` and `Error` in a `derive(..)`: the text of an `#[error(..)]` has to stand in `errors.rs`;
+//! - `use thiserror::Error;` and `use std::alloc::AllocError;`;
+//! - the modules that the caller names, and what is brought in from them.
+//!
+//! These are changed, and nothing else:
+//!
+//! - a path from `crate` or from the name of a crate, since the crates become modules of one;
+//! - `fmt<W: fmt::Write>` over a `Formatter<W>`, which in Rust has no such parameter;
+//! - `clone(&self) -> Result<T, AllocError>` of a `Copy` type, whose answer is the value of its `Ok`;
+//! - a function with a body is `#[inline]`, if it says nothing of that itself, so that callers in
+//!   other crates have it as callers in its own; and `const` where the list says so.
+//!
+//! What this file does not know is a [`Fault`].
+
+use crate::tokens::{Fault, Kind, Token, tokens};
+use std::ops::Range;
+
+/// What the files of a crate are to become.
+pub struct Crate<'a> {
+    /// The crate's name.
+    pub name: &'a str,
+    /// The names of all crates.
+    pub all: &'a [&'a str],
+    /// The crate's modules that are left out, with what is brought in from them.
+    pub left_out: &'a [&'a str],
+    /// The source in which the texts of errors have to stand.
+    pub errors: &'a str,
+    /// The functions that are `const`: the type or else the crate that they belong to, and a name.
+    pub constant: &'a [(&'a str, &'a str)],
+}
+
+/// The Rust of a file, and those of its functions that were made `const`.
+pub struct Erased<'a> {
+    pub rust: String,
+    pub constant: Vec<(&'a str, &'a str)>,
+}
+
+/// Erases a file of the crate.
+pub fn erase<'a>(source: &'a str, of: &'a Crate) -> Result<Erased<'a>, Fault> {
+    let tokens = tokens(source)?;
+    let is_code = |at: &usize| tokens[*at].kind == Kind::Code;
+    let places: Vec<usize> = (0..tokens.len()).filter(is_code).collect();
+    let mut eraser = Eraser {
+        words: places.iter().map(|at| tokens[*at].text).collect(),
+        kept: vec![true; tokens.len()],
+        put: vec![String::new(); tokens.len()],
+        tokens,
+        places,
+        of,
+        owner: of.name,
+        depth: 0,
+        is_hinted: false,
+        constant: Vec::new(),
+    };
+    let mut at = 0;
+    while at < eraser.words.len() {
+        at = eraser.step(at)?;
+    }
+    Ok(Erased {
+        rust: eraser.written(),
+        constant: eraser.constant,
+    })
+}
+
+// A file's words are its tokens of code. Places in it are counted in words.
+struct Eraser<'a> {
+    tokens: Vec<Token<'a>>,
+    // The words, and of each the index of its token.
+    words: Vec<&'a str>,
+    places: Vec<usize>,
+    // Of each token whether it is written, and what is written in front of it.
+    kept: Vec<bool>,
+    put: Vec<String>,
+    of: &'a Crate<'a>,
+    // Whose functions stand here: a type's, no one's ("") in an `impl` of a trait, or the crate's.
+    owner: &'a str,
+    // How many braces are open.
+    depth: usize,
+    // Whether the next function says itself how it is inlined.
+    is_hinted: bool,
+    constant: Vec<(&'a str, &'a str)>,
+}
+
+impl<'a> Eraser<'a> {
+    // ---- what stands here
+
+    // Decides on the words that stand here, and returns where the next ones stand.
+    fn step(&mut self, at: usize) -> Result<usize, Fault> {
+        match self.words[at..] {
+            ["ghost", "use", ..] => self.leave_out_item(at..self.item_end(at)?),
+            ["ghost", ..] => self.leave_out_item(at..self.ghost_end(at)?),
+            ["pub", "ghost", ..] => self.leave_out_item(at..self.ghost_end(at + 1)?),
+            ["requires" | "ensures", ..] => Ok(self.leave_out(at..self.clause_end(at)?)),
+            ["#", "!", ..] => self.attribute(at, at + 2),
+            ["#", ..] => self.attribute(at, at + 1),
+            ["impl", ..] if self.depth == 0 => self.impl_of(at),
+            ["fn", name, ..] if name != "(" => self.function(at),
+            ["mod" | "use", ..] if self.is_left_out(at) => {
+                self.leave_out_item(at..self.item_end(at)?)
+            }
+            ["pub", "mod" | "use", ..] if self.is_left_out(at + 1) => {
+                self.leave_out_item(at..self.item_end(at)?)
+            }
+            ["Formatter", "<", "W", ">", ..] => Ok(self.replace(at + 2, "'_")),
+            ["crate", "::", ..] => Ok(self.put(at + 2, format!("{}::", self.of.name))),
+            [name, "::", ..] if self.of.all.contains(&name) && self.begins_path(at) => {
+                self.put(at, "crate::");
+                Ok(at + 1)
+            }
+            ["prove", "!", ..] => self.fault(at, "`prove!`"),
+            ["{", ..] => self.brace(at, self.depth.checked_add(1)),
+            ["}", ..] => self.brace(at, self.depth.checked_sub(1)),
+            _ => Ok(at + 1),
+        }
+    }
+
+    // A brace behind which so many are open.
+    fn brace(&mut self, at: usize, open: Option<usize>) -> Result<usize, Fault> {
+        let Some(depth) = open else {
+            return self.fault(at, "a brace too many");
+        };
+        self.depth = depth;
+        if depth == 0 {
+            self.owner = self.of.name;
+        }
+        Ok(at + 1)
+    }
+
+    // Whether the name of a crate that stands here begins a path.
+    fn begins_path(&self, at: usize) -> bool {
+        at == 0 || !matches!(self.words[at - 1], "::" | ".")
+    }
+
+    // Notes whose functions an `impl` has.
+    fn impl_of(&mut self, at: usize) -> Result<usize, Fault> {
+        let mut name = at + 1;
+        let mut open = 0;
+        while open > 0 || self.words.get(name) == Some(&"<") {
+            match self.words.get(name) {
+                Some(&"<") => open += 1,
+                Some(&">") => open -= 1,
+                Some(_) => {}
+                None => return self.fault(at, "an `impl` of another form"),
+            }
+            name += 1;
+        }
+        let header = self.words[at..].split(|word| *word == "{");
+        let of_trait = header.take(1).any(|words| words.contains(&"for"));
+        self.owner = if of_trait { "" } else { self.words[name] };
+        Ok(name)
+    }
+
+    // A module that is left out, what is brought in from one, and names that Rust has not.
+    fn is_left_out(&self, at: usize) -> bool {
+        match self.words[at..] {
+            ["use", "thiserror", "::", "Error", ";", ..] => true,
+            ["use", "std", "::", "alloc", "::", "AllocError", ";", ..] => true,
+            ["use", "crate", "::", name, ..] | ["use" | "mod", name, ..] => {
+                self.of.left_out.contains(&name)
+            }
+            _ => false,
+        }
+    }
+
+    // An attribute, whose bracket opens at the second place.
+    fn attribute(&mut self, at: usize, open: usize) -> Result<usize, Fault> {
+        let end = self.group_end(open)?;
+        match self.words[open + 1..end] {
+            ["tactic", ..] => Ok(self.leave_out(at..end)),
+            ["error", "(", text, ")", "]"] if self.of.errors.contains(text) => {
+                Ok(self.leave_out(at..end))
+            }
+            ["error", ..] => self.fault(at, "the text of an error that rust/errors.rs has not"),
+            ["derive", "(", ..] => Ok(self.derive(at, end)),
+            ["cfg", "(", "test", ")", "]"] => match self.words[end..] {
+                ["mod", "tests", ";", ..] => Ok(self.leave_out(at..end + 3)),
+                _ => self.fault(at, "tests in another place than `mod tests;`"),
+            },
+            ["inline", ..] => {
+                self.is_hinted = true;
+                Ok(end)
+            }
+            _ => self.fault(at, "an attribute that is not known"),
+        }
+    }
+
+    // `#[derive(..)]` without `Drop` and `Error`, each with the comma behind it.
+    fn derive(&mut self, at: usize, end: usize) -> usize {
+        let is_gone = |word: &str| matches!(word, "Drop" | "Error");
+        let names = at + 4..end - 2;
+        if self.words[names.clone()]
+            .iter()
+            .all(|word| is_gone(word) || *word == ",")
+        {
+            return self.leave_out(at..end);
+        }
+        for name in names {
+            if is_gone(self.words[name]) {
+                let comma = usize::from(self.words[name + 1] == ",");
+                self.leave_out(name..name + 1 + comma);
+            }
+        }
+        end
+    }
+
+    // `fn` and a name.
+    fn function(&mut self, at: usize) -> Result<usize, Fault> {
+        let name = self.words[at + 1];
+        let front = match self.words[..at] {
+            [.., "pub"] => at - 1,
+            [.., "{" | "}" | ";" | "]"] | [] => at,
+            _ => return self.fault(at, "a function of another form"),
+        };
+        if self.has_body(at)? && !std::mem::take(&mut self.is_hinted) {
+            self.put(front, "#[inline] ");
+        }
+        if self.of.constant.contains(&(self.owner, name)) {
+            self.constant.push((self.owner, name));
+            self.put(at, "const ");
+        }
+        match self.words[at + 2..] {
+            ["<", "W", ":", "fmt", "::", "Write", ">", ..] => Ok(self.leave_out(at + 2..at + 9)),
+            ["(", "&", "self", ")", "-", ">", "Result", "<", ..] if name == "clone" => {
+                self.clone_of_copy(at)
+            }
+            _ => Ok(at + 2),
+        }
+    }
+
+    // `fn clone(&self) -> Result<T, AllocError> { Ok(x) }` becomes `fn clone(&self) -> T { x }`.
+    fn clone_of_copy(&mut self, at: usize) -> Result<usize, Fault> {
+        let of = |words: &[&str]| words == [",", "AllocError", ">", "{", "Ok", "("];
+        let Some(len) = self.words[at..].windows(6).position(of) else {
+            return self.fault(at, "a `clone` of another form");
+        };
+        let comma = at + len;
+        let close = self.group_end(comma + 5)? - 1;
+        if self.words[close + 1] != "}" {
+            return self.fault(at, "a `clone` of another body than `Ok(..)`");
+        }
+        self.leave_out(at + 8..at + 10);
+        self.leave_out(comma..comma + 3);
+        self.leave_out(comma + 4..comma + 6);
+        self.leave_out(close..close + 1);
+        Ok(at + 10)
+    }
+
+    // ---- where it ends
+
+    // Where the bracket ends that opens here; a word by itself ends behind it.
+    fn group_end(&self, at: usize) -> Result<usize, Fault> {
+        let mut open = Vec::new();
+        for (n, word) in self.words.iter().enumerate().skip(at) {
+            match *word {
+                "(" => open.push(")"),
+                "[" => open.push("]"),
+                "{" => open.push("}"),
+                ")" | "]" | "}" if open.pop() != Some(*word) => {
+                    return self.fault(n, format!("`{word}` closes another bracket"));
+                }
+                _ => {}
+            }
+            if open.is_empty() {
+                return Ok(n + 1);
+            }
+        }
+        self.fault(at, "a bracket is not closed")
+    }
+
+    // Behind the next `;` outside of brackets.
+    fn item_end(&self, at: usize) -> Result<usize, Fault> {
+        let mut end = at;
+        while self.words.get(end) != Some(&";") {
+            end = self.group_end(end)?;
+        }
+        Ok(end + 1)
+    }
+
+    // The end of a group of logic. A comment of the logic is not known here.
+    fn logic_end(&self, at: usize) -> Result<usize, Fault> {
+        if self.words.get(at) != Some(&"{") {
+            return self.fault(at, "a clause or a ghost item of another form");
+        }
+        let end = self.group_end(at)?;
+        let mut pairs = self.words[at..end].windows(2);
+        let mut inside = self.tokens[self.places[at]..self.places[end - 1]].iter();
+        if pairs.any(|pair| matches!(pair, ["-" | "{", "-"]))
+            || inside.any(|token| matches!(token.kind, Kind::Comment | Kind::Doc))
+        {
+            return self.fault(at, "a comment in a clause or a ghost item");
+        }
+        Ok(end)
+    }
+
+    // `requires` or `ensures`, a name or none, and what it says.
+    fn clause_end(&self, at: usize) -> Result<usize, Fault> {
+        let has_name = self.words.get(at + 1) != Some(&"{");
+        self.logic_end(at + 1 + usize::from(has_name))
+    }
+
+    // `ghost`, a name, and behind `:` or `=` what it is; then a `,` or a `;` where there is one.
+    fn ghost_end(&self, at: usize) -> Result<usize, Fault> {
+        let mut end = self.logic_end(at + 3)?;
+        while let [":" | "=", "{", ..] = self.words[end..] {
+            end = self.logic_end(end + 1)?;
+        }
+        Ok(end + usize::from(matches!(self.words[end..], ["," | ";", ..])))
+    }
+
+    // Whether the function that stands here has a body.
+    fn has_body(&self, at: usize) -> Result<bool, Fault> {
+        let mut at = at;
+        loop {
+            at = match self.words[at..] {
+                ["{", ..] => return Ok(true),
+                [";", ..] => return Ok(false),
+                ["requires" | "ensures", ..] => self.clause_end(at)?,
+                ["ghost", ..] => self.ghost_end(at)?,
+                _ => self.group_end(at)?,
+            };
+        }
+    }
+
+    // ---- what is written
+
+    // What is kept, and the line breaks of what is not.
+    fn written(&self) -> String {
+        let mut rust = String::new();
+        for (at, token) in self.tokens.iter().enumerate() {
+            rust.push_str(&self.put[at]);
+            match self.kept[at] {
+                true => rust.push_str(token.text),
+                false => rust.extend(token.text.matches('\n')),
+            }
+        }
+        rust
+    }
+
+    // Leaves out words and what stands between them, and returns where they end.
+    fn leave_out(&mut self, words: Range<usize>) -> usize {
+        let (first, last) = (self.places[words.start], self.places[words.end - 1]);
+        self.kept[first..=last].fill(false);
+        words.end
+    }
+
+    // The same of an item, which has no documentation: that would go to the next item.
+    fn leave_out_item(&mut self, words: Range<usize>) -> Result<usize, Fault> {
+        let at = self.places[words.start];
+        let before = self.tokens[..at].iter().rev();
+        let mut before = before.take_while(|token| token.kind != Kind::Code);
+        if before.any(|token| token.text.starts_with("///")) {
+            return self.fault(words.start, "documentation of what is left out");
+        }
+        Ok(self.leave_out(words))
+    }
+
+    // Writes a text in front of a word, and returns where that stands.
+    fn put(&mut self, at: usize, text: impl AsRef<str>) -> usize {
+        self.put[self.places[at]].push_str(text.as_ref());
+        at
+    }
+
+    // Writes a text in place of a word, and returns where that ends.
+    fn replace(&mut self, at: usize, text: &str) -> usize {
+        self.put(at, text);
+        self.leave_out(at..at + 1)
+    }
+
+    fn fault<T>(&self, at: usize, what: impl Into<String>) -> Result<T, Fault> {
+        let token = self.places.get(at).map(|at| self.tokens[*at]);
+        let line = token
+            .or(self.tokens.last().copied())
+            .map_or(1, |token| token.line);
+        let what = what.into();
+        Err(Fault { line, what })
+    }
+}

@@ -1,0 +1,127 @@
+//! Writes the Rust of the proved crates to `OUT_DIR`: of each file `crates/NAME/src/FILE.rt` what
+//! Rust has too, as `NAME/FILE.rs`, and `crates.rs`, which declares a module for each crate.
+//!
+//! What is left out and what is changed stands in the head of `erase.rs`. `constant.txt` names the
+//! functions that become `const`.
+
+mod erase;
+mod tokens;
+
+use erase::Crate;
+use std::path::{Path, PathBuf};
+use std::{env, fs};
+use tokens::Fault;
+
+/// The crates, lowest first, and of each the modules that stay with Rattle.
+const CRATES: [(&str, &[&str]); 10] = [
+    ("font_decimal", &[]),
+    ("font_base", &[]),
+    ("font_arithmetic", &[]),
+    ("font_f26", &[]),
+    ("font_fixed", &[]),
+    ("font_fixed2", &[]),
+    ("font_tags", &[]),
+    ("font_ids", &[]),
+    ("font_geom", &[]),
+    ("font_types", &["json", "laws"]),
+];
+
+/// The functions that become `const`: a type or a crate on a line, and its functions below it,
+/// indented.
+const CONSTANT: &str = include_str!("constant.txt");
+
+/// The texts of errors.
+const ERRORS: &str = include_str!("../errors.rs");
+
+fn main() {
+    let folder = |name| PathBuf::from(env::var_os(name).expect("Cargo names its folders"));
+    let (root, out) = (folder("CARGO_MANIFEST_DIR"), folder("OUT_DIR"));
+    println!("cargo::rerun-if-changed=rust");
+    if let Err(what) = write_crates(&root.join("crates"), &out) {
+        println!("cargo::error={what}");
+    }
+}
+
+/// The lines of `constant.txt`: the number of the line, the type or the crate, and the function.
+fn constant_functions() -> Vec<(usize, (&'static str, &'static str))> {
+    let mut functions = Vec::new();
+    let mut owner = "";
+    for (line, text) in CONSTANT.lines().enumerate() {
+        match text.strip_prefix(' ') {
+            Some(name) => functions.push((line + 1, (owner, name.trim()))),
+            None => owner = text,
+        }
+    }
+    functions
+}
+
+fn write_crates(from: &Path, to: &Path) -> Result<(), String> {
+    let all = CRATES.map(|(name, _)| name);
+    let mut wanted = constant_functions();
+    let constant: Vec<_> = wanted.iter().map(|(_, function)| *function).collect();
+    let mut modules = String::new();
+    for (name, left_out) in CRATES {
+        let source = from.join(name).join("src");
+        println!("cargo::rerun-if-changed={}", source.display());
+        let of = Crate {
+            name,
+            all: &all,
+            left_out,
+            errors: ERRORS,
+            constant: &constant,
+        };
+        write_folder(&of, &source, &to.join(name), &mut |found| {
+            wanted.retain(|(_, function)| *function != found);
+        })?;
+        modules.push_str(&format!("mod {name};\n"));
+    }
+    if let Some((line, (owner, name))) = wanted.first() {
+        return Err(format!(
+            "rust/build/constant.txt:{line}: no `{name}` of `{owner}`"
+        ));
+    }
+    write(&to.join("crates.rs"), &modules)
+}
+
+/// Writes the files of a folder, and tells of each function that was made `const`. The root of a
+/// crate becomes the `mod.rs` of its module.
+fn write_folder(
+    of: &Crate,
+    from: &Path,
+    to: &Path,
+    found: &mut impl FnMut((&str, &str)),
+) -> Result<(), String> {
+    make_folder(to)?;
+    for entry in fs::read_dir(from).map_err(|error| at(from, error))? {
+        let path = entry.map_err(|error| at(from, error))?.path();
+        let stem = path.file_stem().and_then(|stem| stem.to_str());
+        let stem = stem.unwrap_or_default();
+        if stem == "tests" || of.left_out.contains(&stem) {
+            continue;
+        }
+        if path.is_dir() {
+            write_folder(of, &path, &to.join(stem), found)?;
+            continue;
+        }
+        let source = fs::read_to_string(&path).map_err(|error| at(&path, error))?;
+        let erased = erase::erase(&source, of).map_err(|Fault { line, what }| {
+            format!("{}:{line}: {what}: see rust/build/erase.rs", path.display())
+        })?;
+        erased.constant.into_iter().for_each(&mut *found);
+        let file = if stem == "lib" { "mod" } else { stem };
+        write(&to.join(format!("{file}.rs")), &erased.rust)?;
+    }
+    Ok(())
+}
+
+fn make_folder(path: &Path) -> Result<(), String> {
+    fs::create_dir_all(path).map_err(|error| at(path, error))
+}
+
+fn write(path: &Path, text: &str) -> Result<(), String> {
+    fs::write(path, text).map_err(|error| at(path, error))
+}
+
+fn at(path: &Path, error: std::io::Error) -> String {
+    format!("{}: {error}", path.display())
+}
