@@ -1,0 +1,210 @@
+//! `cargo run --release --bin speed`: what a call of `font-types-proved` costs, as a part of what
+//! the same call of `font-types` costs. A ratio below 1.00 is cheaper. Only ratios are told, since
+//! times are of the machine.
+//!
+//! Operands are not known to the compiler, both sides go over the same numbers to the same end, and
+//! each loop is a function of its own, which is run in turn with the other side's; of each the
+//! quickest of many rounds counts. `speed count CALL SIDE` runs one loop alone a hundred times, for
+//! tools that count instructions.
+
+use std::fmt::{self, Display, Write};
+use std::hint::black_box;
+use std::time::{Duration, Instant};
+
+const INPUTS: usize = 1024;
+const ROUNDS: usize = 300;
+
+/// What the loops go over: numbers of any magnitude, decimals of them, and four bytes.
+struct Inputs {
+    bits: [[i32; 14]; INPUTS],
+    texts: Vec<String>,
+    tags: [[u8; 4]; INPUTS],
+}
+
+fn inputs() -> Inputs {
+    let mut state = 1u64;
+    let mut next = || {
+        state = state
+            .wrapping_mul(0x5851_F42D_4C95_7F2D)
+            .wrapping_add(0x1405_7B7E_F767_814F);
+        (state >> 32) as u32
+    };
+    let bits = std::array::from_fn(|_| std::array::from_fn(|_| next() as i32 >> (next() % 20)));
+    let texts = (0..INPUTS).map(|_| format!("{:.5}", f64::from(next() as i32) / 65536.0));
+    let texts = texts.collect();
+    let tags =
+        std::array::from_fn(|_| *[b"wght", b"cvt ", b"kern", b"a\x07bc"][next() as usize % 4]);
+    Inputs { bits, texts, tags }
+}
+
+/// The first numbers of an input, which the compiler does not know.
+#[inline(always)]
+fn few<const N: usize>(inputs: &Inputs, n: usize) -> [i32; N] {
+    black_box(std::array::from_fn(|place| inputs.bits[n][place]))
+}
+
+/// A text that is printed to no allocation.
+struct Text {
+    bytes: [u8; 64],
+    length: usize,
+}
+
+impl Write for Text {
+    fn write_str(&mut self, piece: &str) -> fmt::Result {
+        let end = self.length + piece.len();
+        self.bytes[self.length..end].copy_from_slice(piece.as_bytes());
+        self.length = end;
+        Ok(())
+    }
+}
+
+fn printed(value: impl Display) -> usize {
+    let mut text = Text {
+        bytes: [0; 64],
+        length: 0,
+    };
+    write!(text, "{value}").expect("64 bytes are room enough");
+    black_box(text.bytes);
+    text.length
+}
+
+/// The loops of a side; each is a function that is not inlined.
+macro_rules! side {
+    ($side:ident $($read:ident)?; $($name:ident($inputs:ident, $n:ident) $call:expr;)*) => {
+        mod $side {
+            use super::*;
+            use crate::sides::$side::*;
+
+            $(#[inline(never)]
+            pub fn $name($inputs: &Inputs) {
+                for $n in 0..INPUTS {
+                    let _ = black_box($call);
+                }
+            })*
+        }
+    };
+}
+
+macro_rules! sides {
+    ($($name:ident($inputs:ident, $n:ident) $text:literal $call:expr;)*) => {
+        side! { ours; $($name($inputs, $n) $call;)* }
+        side! { theirs; $($name($inputs, $n) $call;)* }
+
+        const CALLS: &[(&str, fn(&Inputs), fn(&Inputs))] = &[
+            $(($text, ours::$name, theirs::$name),)*
+        ];
+    };
+}
+
+/// The crates, each with a reader of decimals.
+mod sides {
+    pub mod ours {
+        pub use font_types_proved::*;
+
+        pub fn read(text: &str) -> i32 {
+            Fixed::from_decimal(text).map_or(0, Fixed::to_bits)
+        }
+    }
+
+    pub mod theirs {
+        pub use font_types::*;
+
+        pub fn read(text: &str) -> i32 {
+            text.parse().map_or(0, |x| Fixed::from_f64(x).to_bits())
+        }
+    }
+}
+
+sides! {
+    mul(i, n) "Fixed * Fixed" {
+        let [x, y] = few(i, n).map(Fixed::from_bits);
+        x * y
+    };
+    div(i, n) "Fixed / Fixed" {
+        let [x, y] = few(i, n).map(Fixed::from_bits);
+        x / y
+    };
+    mul_div(i, n) "Fixed::mul_div" {
+        let [x, y, z] = few(i, n).map(Fixed::from_bits);
+        x.mul_div(y, z)
+    };
+    mul26(i, n) "F26Dot6 * F26Dot6" {
+        let [x, y] = few(i, n).map(F26Dot6::from_bits);
+        x * y
+    };
+    div26(i, n) "F26Dot6 / F26Dot6" {
+        let [x, y] = few(i, n).map(F26Dot6::from_bits);
+        x / y
+    };
+    round(i, n) "Fixed::round" Fixed::from_bits(few::<1>(i, n)[0]).round();
+    floor(i, n) "Fixed::floor" Fixed::from_bits(few::<1>(i, n)[0]).floor();
+    fract(i, n) "Fixed::fract" Fixed::from_bits(few::<1>(i, n)[0]).fract();
+    to_i32(i, n) "Fixed::to_i32" Fixed::from_bits(few::<1>(i, n)[0]).to_i32();
+    to_26(i, n) "Fixed::to_f26dot6" Fixed::from_bits(few::<1>(i, n)[0]).to_f26dot6();
+    to_14(i, n) "Fixed::to_f2dot14" Fixed::from_bits(few::<1>(i, n)[0]).to_f2dot14();
+    show(i, n) "Fixed, printed" printed(Fixed::from_bits(few::<1>(i, n)[0]));
+    show26(i, n) "F26Dot6, printed" printed(F26Dot6::from_bits(few::<1>(i, n)[0]));
+    show14(i, n) "F2Dot14, printed" printed(F2Dot14::from_bits(few::<1>(i, n)[0] as i16));
+    from_decimal(i, n) "a decimal read (there by f64)" read(black_box(&i.texts[n]));
+    tag(i, n) "Tag::new_checked" Tag::new_checked(black_box(&i.tags[n][..]));
+    show_tag(i, n) "Tag, printed" printed(Tag::new(black_box(&i.tags[n])));
+    field(i, n) "BigEndian::<u32>::get" {
+        BigEndian::<u32>::new(black_box(i.tags[n])).get()
+    };
+    field24(i, n) "BigEndian::<Uint24>::get" {
+        let [a, b, c, _] = black_box(i.tags[n]);
+        BigEndian::<Uint24>::new([a, b, c]).get()
+    };
+    image(i, n) "matrix * point" {
+        let [a, b, c, d, e, f, x, y] = few(i, n).map(Fixed::from_bits);
+        Matrix::from_elements([a, b, c, d, e, f]) * Point::new(x, y)
+    };
+    product(i, n) "matrix * matrix" {
+        let [a, b, c, d, e, f, g, h, j, k, l, m] = few(i, n).map(Fixed::from_bits);
+        let right = Matrix::from_elements([g, h, j, k, l, m]);
+        Matrix::from_elements([a, b, c, d, e, f]) * right
+    };
+    sum(i, n) "sum of seven deltas" {
+        let bits = few::<14>(i, n);
+        let mut sum = F48Dot16::ZERO;
+        for pair in bits.chunks_exact(2) {
+            sum += Fixed::from_bits(pair[0]).mul_i32(pair[1]);
+        }
+        sum
+    };
+}
+
+fn main() {
+    let words: Vec<String> = std::env::args().skip(1).collect();
+    let inputs = inputs();
+    if let [word, call, side] = &words[..] {
+        assert_eq!(word, "count", "speed, or speed count CALL SIDE");
+        let call = CALLS
+            .iter()
+            .find(|known| known.0 == call)
+            .expect("a call of the list");
+        let run = if side == "ours" { call.1 } else { call.2 };
+        for _ in 0..100 {
+            run(&inputs);
+        }
+        return;
+    }
+    println!("{:<32}{:>6}", "call", "ratio");
+    for (name, ours, theirs) in CALLS {
+        let (mut here, mut there) = (Duration::MAX, Duration::MAX);
+        for _ in 0..ROUNDS {
+            here = here.min(timed(*ours, &inputs));
+            there = there.min(timed(*theirs, &inputs));
+        }
+        println!(
+            "{name:<32}{:>6.2}",
+            here.as_secs_f64() / there.as_secs_f64()
+        );
+    }
+}
+
+fn timed(run: fn(&Inputs), inputs: &Inputs) -> Duration {
+    let start = Instant::now();
+    run(inputs);
+    start.elapsed()
+}
