@@ -2,7 +2,7 @@
 #![no_std]
 #![warn(missing_docs)]
 // The text is laid out for its proofs: what is left out leaves its empty lines, a law divides a
-// number by itself, `Clone` is written as its contract wants it, and the arithmetic as it is proved.
+// number by itself, `Clone` is written as its contract wants it, and arithmetic as it is proved.
 #![allow(
     clippy::empty_line_after_doc_comments,
     clippy::eq_op,

@@ -24,7 +24,7 @@ const ROWS: [&str; 10] = [
 /// Every value of a type.
 pub fn all<B: Both>(work: &mut Work) {
     work.go_over_all(B::NAME, &ROWS, B::WIDTH, |index, tally| {
-        value::<B>(index as i64, index % 1024 == 0, tally);
+        value::<B>(index as i64, B::WIDTH == 16 || index % 1024 == 0, tally);
     });
 }
 

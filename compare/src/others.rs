@@ -97,7 +97,8 @@ fn ids(work: &mut Work) {
         });
         alike!(tally, 2, example, s => {
             let id = s::GlyphId16::new(n);
-            (id.to_u16(), id.to_u32(), usize::from(id), s::GlyphId::from(id) == id, id.to_be_bytes())
+            let wide = (id.to_u32(), usize::from(id), s::GlyphId::from(id) == id);
+            (id.to_u16(), wide, id.to_be_bytes())
         });
         alike!(tally, 3, example, s => {
             let id = s::NameId::new(n);
@@ -112,7 +113,8 @@ fn ids(work: &mut Work) {
         });
         alike!(tally, 5, example, s => {
             let name = s::NameId::new(n);
-            let words = format!("{} {:+} {:>7}", s::FWord::new(i), s::FWord::new(i), s::UfWord::new(n));
+            let (word, other) = (s::FWord::new(i), s::UfWord::new(n));
+            let words = format!("{word} {word:+} {other:>7}");
             (name.to_string(), format!("{name:?}"), s::GlyphId16::new(n).to_string(), words)
         });
     });
@@ -169,15 +171,16 @@ fn versions(work: &mut Work) {
         });
         alike!(tally, 6, example, s => {
             let (x, v) = (s::Version16Dot16::new(a, b), s::MajorMinor::new(c, d));
-            let ids = (s::GlyphId::new(numbers[0]).to_string(), s::GlyphId24::new(numbers[1]).to_string());
-            (x.to_string(), format!("{x:?}"), v.to_string(), ids)
+            let ids = (s::GlyphId::new(numbers[0]), s::GlyphId24::new(numbers[1]));
+            (format!("{x} {x:?} {v} {v:?}"), format!("{} {:?}", ids.0, ids.1))
         });
     });
 }
 
 /// A scalar of both sides, read from bytes, written, and compared as a field.
 macro_rules! scalars {
-    ($tally:ident, $bytes:expr, $example:expr; $($row:literal $($Type:ident)::+ $len:literal;)*) => {$({
+    ($tally:ident, $bytes:expr, $example:expr;
+     $($row:literal $($Type:ident)::+ $len:literal;)*) => {$({
         let [first, second]: [[u8; $len]; 2] = $bytes.map(|bytes: [u8; 8]| {
             std::array::from_fn(|n| bytes[n])
         });
@@ -188,7 +191,8 @@ macro_rules! scalars {
             let (x, y) = (s::BigEndian::<Value>::new(first), s::BigEndian::<Value>::new(second));
             let mut set = x;
             set.set(y.get());
-            let from = s::BigEndian::<Value>::from_slice(&first).map(|field| field.get() == x.get());
+            let from = s::BigEndian::<Value>::from_slice(&first);
+            let from = from.map(|field| field.get() == x.get());
             let bytes = (set.be_bytes().to_vec(), s::BigEndian::from(x.get()).be_bytes().to_vec());
             (read, short, x == y, x == x.get(), bytes, from, <Value as s::FixedSize>::RAW_BYTE_LEN)
         });

@@ -6,7 +6,7 @@
 //! - clauses: `requires`, `ensures` and `ghost` before a function's body;
 //! - ghost items: `ghost use ..;`, and `ghost NAME`, what it is, and its `,` or `;`;
 //! - `#[tactic(..)]`, `#[error(..)]`, and `#[cfg(test)] mod tests;`;
-//! - `Drop` and `Error` in a `derive(..)`: the text of an `#[error(..)]` has to stand in `errors.rs`;
+//! - `Drop` and `Error` in a `derive(..)`: the texts of errors have to stand in `errors.rs`;
 //! - `use thiserror::Error;` and `use std::alloc::AllocError;`;
 //! - the modules that the caller names, and what is brought in from them.
 //!
@@ -14,7 +14,7 @@
 //!
 //! - a path from `crate` or from the name of a crate, since the crates become modules of one;
 //! - `fmt<W: fmt::Write>` over a `Formatter<W>`, which in Rust has no such parameter;
-//! - `clone(&self) -> Result<T, AllocError>` of a `Copy` type, whose answer is the value of its `Ok`;
+//! - `clone(&self) -> Result<T, AllocError>` of a `Copy` type, which returns the value of its `Ok`;
 //! - a function with a body is `#[inline]`, if it says nothing of that itself, so that callers in
 //!   other crates have it as callers in its own; and `const` where the list says so.
 //!

@@ -70,6 +70,8 @@ fn write_crates(from: &Path, to: &Path) -> Result<(), String> {
             errors: ERRORS,
             constant: &constant,
         };
+        // What an earlier build left of a file that is gone would pass for it.
+        let _ = fs::remove_dir_all(to.join(name));
         write_folder(&of, &source, &to.join(name), &mut |found| {
             wanted.retain(|(_, function)| *function != found);
         })?;

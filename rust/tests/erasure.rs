@@ -256,3 +256,43 @@ fn nothing_is_forgotten() {
         }
     }
 }
+
+/// Whether the function whose parameters begin here asks something of its caller.
+fn asks(mut header: &[&str]) -> bool {
+    loop {
+        header = match header[0] {
+            "requires" => return true,
+            "{" | ";" => return false,
+            _ => &header[left_out(header).max(group(header))..],
+        };
+    }
+}
+
+/// Each public function that asks something of its caller is named on the crate's page.
+#[test]
+fn what_is_asked_is_said() {
+    let mut count = 0;
+    for name in CRATES
+        .split_whitespace()
+        .filter(|name| *name != "font_arithmetic")
+    {
+        let source = Path::new(env!("CARGO_MANIFEST_DIR"))
+            .join("crates")
+            .join(name)
+            .join("src");
+        let mut there = Vec::new();
+        files(&source, &mut there);
+        for path in there {
+            let text = fs::read_to_string(&path).unwrap();
+            let tokens = tokens(&text);
+            let public = (3..tokens.len()).filter(|at| tokens[at - 3..at - 1] == ["pub", "fn"]);
+            for at in public.filter(|at| asks(&tokens[*at..])) {
+                let name = tokens[at - 1];
+                let is_said = |line: &str| line.contains(&format!("{name}`"));
+                assert!(include_str!("../README.md").lines().any(is_said), "{name}");
+                count += 1;
+            }
+        }
+    }
+    assert!(count > 9, "{count}");
+}

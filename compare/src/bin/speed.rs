@@ -1,6 +1,6 @@
-//! `cargo run --release --bin speed`: what a call of `font-types-proved` costs, as a part of what the
-//! same call of `font-types` costs. A ratio below 1.00 is cheaper. Only ratios are told, since times
-//! are of the machine.
+//! `cargo run --release --bin speed`: what a call of `font-types-proved` costs, as a part of what
+//! the same call of `font-types` costs. A ratio below 1.00 is cheaper. Only ratios are told, since
+//! times are of the machine.
 //!
 //! Operands are not known to the compiler, both sides go over the same numbers to the same end, and
 //! each loop is a function of its own, which is run in turn with the other side's; of each the

@@ -1,4 +1,4 @@
-//! What `font_types.h` declares, but for the calls of the number types, which stand in `numbers.rs`.
+//! What `font_types.h` declares, but for the calls of number types, which stand in `numbers.rs`.
 
 /// How a number is padded. A flag is set where it is not 0.
 #[repr(C)]

@@ -1,5 +1,5 @@
-//! `agree [COUNT [SEED]]`: the static library and the Rust crate, called side by side. Both are made
-//! of one proved text, by two toolchains, and a difference is a fault of one of them.
+//! `agree [COUNT [SEED]]`: the static library and the Rust package, called side by side. Both are
+//! made of one proved text, by two toolchains, and a difference is a fault of one of them.
 //!
 //! Each of the library's 51 functions is called at edges, and COUNT times at random. The last line
 //! says how many calls agreed; the first that does not ends the program.
