@@ -33,7 +33,7 @@ no_rest p k d is = ap (λ y. p +ℤ y) (neg-times k d) ∙ cancels p (k *ℤ pos
 floor_unique : (f : ℕ) (b p q : ℤ) → IsFloor f b p → IsFloor f b q → p ≡ q
 floor_unique f b p q x y =
     same_rest (2 ^ f) p q (neg_ℤ x.whole) (neg_ℤ y.whole) (near b p q (2 ^ f) x.low y.high)
-        (near b q p (2 ^ f) y.low x.high)
+    (near b q p (2 ^ f) y.low x.high)
     (no_rest p x.whole (2 ^ f) x.bits ∙ sym (no_rest q y.whole (2 ^ f) y.bits))
   where
     near : (b p q : ℤ) (d : ℕ) → p ≤ℤ b → b <ℤ (q +ℤ pos d) → p <ℤ (q +ℤ pos d)

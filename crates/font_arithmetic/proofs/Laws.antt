@@ -1,6 +1,6 @@
 -- The laws of products and quotients, from what the calls give.
-use Rattle.std.proofs.Common.{◌≡◌, ◌≢◌, ◌∙◌, sym, ap, refl, subst, ℕ, zero, suc, ◌*◌, ◌^◌, ◌<◌, ℤ, pos, negsuc, neg_ℤ,
-    ◌-ℤ◌, ◌*ℤ◌, unsigned_abs, arith}
+use Rattle.std.proofs.Common.{◌≡◌, ◌≢◌, ◌∙◌, sym, ap, refl, subst, ℕ, zero, suc, ◌*◌, ◌^◌, ◌<◌, ℤ, pos, negsuc, neg_ℤ}
+use Rattle.std.proofs.Common.{◌-ℤ◌, ◌*ℤ◌, unsigned_abs, arith}
 use Rattle.std.proofs.lemmas.Int.{ints}
 use Rattle.std.proofs.lemmas.Nat.{pow_pos}
 use Rattle.std.proofs.Math.IntN.{*ℤ_comm}
@@ -30,7 +30,7 @@ pub rounded_exact : (w : ℕ) (q : ℤ) (d : ℕ) (r : ℤ) → 0 < w → 0 < d 
     → r ≡ q
 rounded_exact w q d r wide some fits a =
     a.wrapped ∙ ap (wrap w) (near_unique (q *ℤ pos d) d a.exact q some a.nearest (near_exact q d some))
-        ∙ wrap-fits w q wide fits
+    ∙ wrap-fits w q wide fits
 
 mul_div_unique : (w : ℕ) (x a c q r : ℤ) → IsMulDiv w x a c q → IsMulDiv w x a c r → q ≡ r
 mul_div_unique w x a (pos zero) q r p s = p ∙ sym s

@@ -1,7 +1,7 @@
 -- Numbers rounded with ties upwards, as code has it: half a step is added, and what lies above the greatest multiple of
 -- a step is dropped.
-use Rattle.std.proofs.Common.{◌≡◌, ◌∙◌, ap, refl, subst, ℕ, ◌+◌, ◌-◌, ◌*◌, ◌^◌, ◌<◌, ◌≤◌, Bool, ℤ, pos, neg_ℤ, ◌+ℤ◌,
-    ◌*ℤ◌, ◌≤ℤ◌, ◌<ℤ◌, arith, IsTrue, nat_lt, ◌&&◌, ◌==◌, inl, inr}
+use Rattle.std.proofs.Common.{◌≡◌, ◌∙◌, ap, refl, subst, ℕ, ◌+◌, ◌-◌, ◌*◌, ◌^◌, ◌<◌, ◌≤◌, Bool, ℤ, pos, neg_ℤ, ◌+ℤ◌}
+use Rattle.std.proofs.Common.{◌*ℤ◌, ◌≤ℤ◌, ◌<ℤ◌, arith, IsTrue, nat_lt, ◌&&◌, ◌==◌, inl, inr}
 use Rattle.std.proofs.lemmas.Int.{ints, by_lt_z, to_z-of_z}
 use Rattle.std.proofs.lemmas.Nat.{pow_pos}
 use Rattle.std.proofs.lemmas.Bool.{cases_lt, eqb-true, ltb-true}
@@ -47,7 +47,7 @@ up_from d v x s q it =
     let apart = product-times it.turns (pos v) (pos d) in
     let spread = sum-times q (it.turns *ℤ pos v) (pos d) in
     let next = sum-times (q +ℤ (it.turns *ℤ pos v)) (pos 1) (pos d) ∙ ap (λ y. (q +ℤ (it.turns *ℤ pos v)) *ℤ pos d +ℤ y)
-        (one_times d) in
+    (one_times d) in
     record {
       low = low_end x s _ _ _ _ d it.half it.halves it.turned apart spread it.low;
       high = high_end x s _ _ _ _ _ d it.half it.halves it.turned apart spread next it.high;
@@ -60,11 +60,11 @@ below_low p s next low d more under at_least below = omega (arith, ints, more, u
 fits_low : (d h : ℕ) (s q : ℤ) → neg_ℤ (pos (h * d)) ≤ℤ s → s <ℤ ((q *ℤ pos d) +ℤ pos d) → neg_ℤ (pos h) ≤ℤ q
 fits_low d h s q low below = by_lt_z q (neg_ℤ (pos h)) (λ less.
     let next : ((q +ℤ pos 1) *ℤ pos d) ≡ ((q *ℤ pos d) +ℤ pos d) = sum-times q (pos 1) (pos d) ∙ ap
-        (λ y. (q *ℤ pos d) +ℤ y) (one_times d) in
+    (λ y. (q *ℤ pos d) +ℤ y) (one_times d) in
     let under : (q +ℤ pos 1) ≤ℤ neg_ℤ (pos h) = omega (arith, ints, less) in
     let scaled : ((q +ℤ pos 1) *ℤ pos d) ≤ℤ neg_ℤ (pos (h * d)) =
     subst (λ (y : ℤ). ((q +ℤ pos 1) *ℤ pos d) ≤ℤ y) (neg-times (pos h) d)
-        (times_monotone (q +ℤ pos 1) (neg_ℤ (pos h)) d under) in
+    (times_monotone (q +ℤ pos 1) (neg_ℤ (pos h)) d under) in
     absurd (below_low (q *ℤ pos d) s _ _ d next scaled low below)) (λ more. more)
 
 fits_high : (d h : ℕ) (s q : ℤ) → s <ℤ pos (h * d) → (q *ℤ pos d) ≤ℤ s → q <ℤ pos h
@@ -89,9 +89,9 @@ record WidthSplit (w v d half : ℕ) : Type 0 where
 width_split : (w v d half : ℕ) → IsTrue (is_width_split w v d half) → WidthSplit w v d half
 width_split w v d half test =
     let some = first_so (nat_lt 0 v)
-        ((d == half + half) && ((2 ^ w == 2 ^ v * d) && (half_range w == half_range v * d))) test in
+    ((d == half + half) && ((2 ^ w == 2 ^ v * d) && (half_range w == half_range v * d))) test in
     let rest = second_so (nat_lt 0 v)
-        ((d == half + half) && ((2 ^ w == 2 ^ v * d) && (half_range w == half_range v * d))) test in
+    ((d == half + half) && ((2 ^ w == 2 ^ v * d) && (half_range w == half_range v * d))) test in
     let halves = first_so (d == half + half) ((2 ^ w == 2 ^ v * d) && (half_range w == half_range v * d)) rest in
     let tops = second_so (d == half + half) ((2 ^ w == 2 ^ v * d) && (half_range w == half_range v * d)) rest in
     record {
@@ -105,8 +105,12 @@ width_split w v d half test =
 -- a record of each relation from its exact number
 narrowed_from : (v : ℕ) (x : ℤ) (d : ℕ) (exact r : ℤ) → 0 < d → Up x d exact → r ≡ wrap v exact → IsNarrowed v x d r
 narrowed_from v x d exact r some nearest wrapped =
-    record { exact = exact; nearest = nearest; wrapped = wrapped;
-        is = wrapped ∙ ap (wrap v) (up_gives x d exact some nearest) }
+    record {
+      exact = exact;
+      nearest = nearest;
+      wrapped = wrapped;
+      is = wrapped ∙ ap (wrap v) (up_gives x d exact some nearest);
+    }
 
 some_steps : (w v d half : ℕ) → WidthSplit w v d half → 0 < d
 some_steps w v d half it = elim (cases_lt 0 d) [
@@ -138,9 +142,9 @@ is_narrowed w v d half x q it some low high =
           (subst (λ (n : ℕ). wrap w (x +ℤ pos half) <ℤ pos n) it.top given.fits.high) low;
     } in
     narrowed_from v x d (q +ℤ (given.turns *ℤ pos (2 ^ v))) q (some_steps w v d half it)
-        (up_from d (2 ^ v) x (wrap w (x +ℤ pos half)) q above)
+    (up_from d (2 ^ v) x (wrap w (x +ℤ pos half)) q above)
     (wrap_gives v (q +ℤ (given.turns *ℤ pos (2 ^ v))) q it.some
-        (record { fits = fits; turns = given.turns; differs = refl }))
+    (record { fits = fits; turns = given.turns; differs = refl }))
 
 -- the same where the bits of the whole number are kept
 pub floor_is_nearest_whole : (w f half : ℕ) (x s r : ℤ) → 0 < w → IsTrue (is_width_split w (w - f) (2 ^ f) half)
@@ -152,7 +156,7 @@ floor_is_nearest_whole w f half x s r some test is floor =
     let q = floor.whole in
     let low : (q *ℤ pos (2 ^ f)) ≤ℤ s = subst (λ (y : ℤ). y ≤ℤ s) floor.bits floor.low in
     let high : s <ℤ ((q *ℤ pos (2 ^ f)) +ℤ pos (2 ^ f)) = subst
-        (λ (y : ℤ). s <ℤ (y +ℤ pos (2 ^ f))) floor.bits floor.high in
+    (λ (y : ℤ). s <ℤ (y +ℤ pos (2 ^ f))) floor.bits floor.high in
     let above : HalfAbove (2 ^ f) (2 ^ v) x s q = record {
       half = half;
       halves = it.halves;
@@ -165,12 +169,12 @@ floor_is_nearest_whole w f half x s r some test is floor =
     let q_low = fits_low (2 ^ f) (half_range v) s q s_low high in
     let r_low : neg_ℤ (pos (half_range v * 2 ^ f)) ≤ℤ (q *ℤ pos (2 ^ f)) =
     subst (λ (y : ℤ). y ≤ℤ (q *ℤ pos (2 ^ f))) (neg-times (pos (half_range v)) (2 ^ f))
-        (times_monotone (neg_ℤ (pos (half_range v))) q (2 ^ f) q_low) in
+    (times_monotone (neg_ℤ (pos (half_range v))) q (2 ^ f) q_low) in
     let s_high : s <ℤ pos (half_range w) = rw is given.fits.high in
     let whole = q +ℤ (given.turns *ℤ pos (2 ^ v)) in
     let spread : (whole *ℤ pos (2 ^ f)) ≡ (r +ℤ (given.turns *ℤ pos (2 ^ w))) =
     sum-times q (given.turns *ℤ pos (2 ^ v)) (pos (2 ^ f)) ∙ rw (floor.bits, it.whole)
-        (ap (λ y. (q *ℤ pos (2 ^ f)) +ℤ y) (product-times given.turns (pos (2 ^ v)) (pos (2 ^ f)))) in
+    (ap (λ y. (q *ℤ pos (2 ^ f)) +ℤ y) (product-times given.turns (pos (2 ^ v)) (pos (2 ^ f)))) in
     let nearest = up_from (2 ^ f) (2 ^ v) x s q above in
     let wrapped = wrap_gives w (whole *ℤ pos (2 ^ f)) r some (record {
       fits = record { low = rw (floor.bits, it.top) r_low; high = under r s (pos (half_range w)) floor.low s_high };
@@ -205,7 +209,7 @@ pub narrowed_again : (v u : ℕ) (x : ℤ) (d : ℕ) (q r : ℤ) → 0 < d → 0
     → IsNarrowed u x d r
 narrowed_again v u x d q r some one less given is =
     narrowed_from u x d given.exact r some given.nearest
-        (is ∙ ap (wrap u) given.wrapped ∙ wrap-wrap u v given.exact one less)
+    (is ∙ ap (wrap u) given.wrapped ∙ wrap-wrap u v given.exact one less)
 
 -- the same as code has it: the last bits of the narrowed number
 pub narrowed_low_bits : (w u : Width) (v : ℕ) (x : ℤ) (d : ℕ) (q l r : ℤ) → 0 < d → bits u ≤ v → IsNarrowed v x d q
@@ -213,4 +217,4 @@ pub narrowed_low_bits : (w u : Width) (v : ℕ) (x : ℤ) (d : ℕ) (q l r : ℤ
     → r ≡ to_z u (of_z u l) → IsNarrowed (bits u) x d r
 narrowed_low_bits w u v x d q l r some less given fits is narrow same =
     narrowed_again v (bits u) x d q r some (bits_positive u) less given
-        (same ∙ to_z-of_z u l narrow ∙ is ∙ ap (wrap (bits u)) (to_z-of_z w q fits))
+    (same ∙ to_z-of_z u l narrow ∙ is ∙ ap (wrap (bits u)) (to_z-of_z w q fits))

@@ -1,6 +1,6 @@
 -- Quotients rounded with ties away from zero, as code has it: on magnitudes, with the sign put back and 32 bits kept.
-use Rattle.std.proofs.Common.{◌≡◌, ◌∙◌, sym, ap, refl, subst, ℕ, zero, suc, ◌+◌, ◌-◌, ◌*◌, ◌/◌, ◌%◌, ◌^◌, ◌<◌, Bool,
-    true, false, not, ℤ, pos, negsuc, neg_ℤ, ◌*ℤ◌, unsigned_abs, arith, lit<, if◌then◌else◌}
+use Rattle.std.proofs.Common.{◌≡◌, ◌∙◌, sym, ap, refl, subst, ℕ, zero, suc, ◌+◌, ◌-◌, ◌*◌, ◌/◌, ◌%◌, ◌^◌, ◌<◌, Bool}
+use Rattle.std.proofs.Common.{true, false, not, ℤ, pos, negsuc, neg_ℤ, ◌*ℤ◌, unsigned_abs, arith, lit<, if◌then◌else◌}
 use Rattle.std.proofs.lemmas.Int.{ints, to_z-of_z}
 use Rattle.std.proofs.lemmas.Nat.{div-add-mod'}
 use Rattle.std.proofs.Math.Nat.{mod-lt}
@@ -23,7 +23,7 @@ near_magnitude_code n d some =
     let parts = div-add-mod' (n + d / 2) d in
     let below : (n + d / 2) % d < d = mod-lt (n + d / 2) some in
     rounded_unique n d ((n + d / 2) / d) (near_magnitude n d) (record { low = omega arith; high = omega arith })
-        (rounded_is n d some)
+    (rounded_is n d some)
 
 not_negative : (m : ℕ) → is_negative (pos m) ≡ false
 not_negative m = sym (false_is_lt (pos m) (pos 0) (omega arith))
@@ -38,8 +38,12 @@ product_signed (negsuc m) (negsuc n) = refl
 pub wrapped_near_from : (w : ℕ) (n : ℤ) (d : ℕ) (exact r : ℤ) → 0 < d → Near n d exact → r ≡ wrap w exact
     → IsWrappedNear w n d r
 wrapped_near_from w n d exact r some nearest wrapped =
-    record { exact = exact; nearest = nearest; wrapped = wrapped;
-        is = wrapped ∙ ap (wrap w) (near_gives n d exact some nearest) }
+    record {
+      exact = exact;
+      nearest = nearest;
+      wrapped = wrapped;
+      is = wrapped ∙ ap (wrap w) (near_gives n d exact some nearest);
+    }
 
 -- a magnitude that is rounded, with its sign, and wrapped
 signed_is_near : (w : ℕ) (s : Bool) (n d m : ℕ) (r : ℤ) → 0 < d → m ≡ near_magnitude n d → r ≡ wrap w (signed s m)
@@ -78,17 +82,17 @@ is_mul_div x a (pos zero) r s m sign near by_zero is =
     let flag : s ≡ differ_in_sign x a = sign ∙ differ_false (differ_in_sign x a) in
     let top : m ≡ 2 ^ 31 - 1 = by_zero refl in
     is ∙ rw (flag, top) (wrap-fits 32 (signed (differ_in_sign x a) (2 ^ 31 - 1)) (lit< tt)
-        (ends_fit (differ_in_sign x a)))
+    (ends_fit (differ_in_sign x a)))
 is_mul_div x a (pos (suc c)) r s m sign near by_zero is =
     let flag : s ≡ differ_in_sign x a = sign ∙ ap (differ (differ_in_sign x a)) (not_negative (suc c)) ∙ differ_false
-        (differ_in_sign x a) in
+    (differ_in_sign x a) in
     subst (λ (n : ℤ). IsWrappedNear 32 n (suc c) r) (rw flag (sym (product_signed x a)))
     (signed_is_near 32 s (unsigned_abs x * unsigned_abs a) (suc c) m r (omega arith) (near (omega arith)) is)
 is_mul_div x a (negsuc c) r s m sign near by_zero is =
     let flag : s ≡ not (differ_in_sign x a) = sign ∙ differ_true (differ_in_sign x a) in
     subst (λ (n : ℤ). IsWrappedNear 32 n (suc c) r)
-        (rw flag (sym (ap neg_ℤ (product_signed x a)
-            ∙ signed_not (differ_in_sign x a) (unsigned_abs x * unsigned_abs a))))
+    (rw flag (sym (ap neg_ℤ (product_signed x a)
+    ∙ signed_not (differ_in_sign x a) (unsigned_abs x * unsigned_abs a))))
     (signed_is_near 32 s (unsigned_abs x * unsigned_abs a) (suc c) m r (omega arith) (near (omega arith)) is)
 
 differ_not_same : (s t : Bool) → not (beq s t) ≡ differ s t
@@ -105,7 +109,7 @@ pub signed_is_mul_div : (x a c r : ℤ) (s t : Bool) (m i j k : ℕ) → s ≡ d
 signed_is_mul_div x a c r s t m i j k both one first second third near by_zero is =
     is_mul_div x a c r (not (beq s t)) m (differ_not_same s t ∙ rw (both, one) refl)
     (λ some. near (subst (λ (n : ℕ). 0 < n) (sym third) some) ∙ rw (first, second, third) refl)
-        (λ none. by_zero (third ∙ none)) is
+    (λ none. by_zero (third ∙ none)) is
 
 -- ---- a magnitude of which 32 bits are kept, and its sign
 
@@ -117,6 +121,6 @@ pub low_bits-negated : (s : Bool) (m : ℕ) (bits r : ℤ) → s ≡ true → SF
     → r ≡ wrap 32 (neg_ℤ (to_z w32 (of_z w32 bits))) → r ≡ wrap 32 (signed s m)
 low_bits-negated s m bits r minus fits is opposite =
     opposite ∙ ap (λ y. wrap 32 (neg_ℤ y)) (to_z-of_z w32 bits fits ∙ low_bits-wrap w32 m bits is) ∙ wrap-neg 32 (pos m)
-        (lit< tt) ∙ rw minus refl
+    (lit< tt) ∙ rw minus refl
 
 pub ruleset signed_code = (low_bits-signed, low_bits-negated)

@@ -1,7 +1,7 @@
 -- Products rounded with ties away from zero, as code has it: half a step is added, less one where the product is
 -- negative, and the sum is shifted.
-use Rattle.std.proofs.Common.{◌≡◌, ◌∙◌, sym, ap, refl, ℕ, suc, ◌+◌, ◌-◌, ◌*◌, ◌%◌, ◌^◌, ◌<◌, ◌≤◌, Bool, true, false, ℤ,
-    pos, negsuc, neg_ℤ, ◌+ℤ◌, ◌-ℤ◌, ◌*ℤ◌, ◌≤ℤ◌, ◌<ℤ◌, unsigned_abs, arith, lit<}
+use Rattle.std.proofs.Common.{◌≡◌, ◌∙◌, sym, ap, refl, ℕ, suc, ◌+◌, ◌-◌, ◌*◌, ◌%◌, ◌^◌, ◌<◌, ◌≤◌, Bool, true, false, ℤ}
+use Rattle.std.proofs.Common.{pos, negsuc, neg_ℤ, ◌+ℤ◌, ◌-ℤ◌, ◌*ℤ◌, ◌≤ℤ◌, ◌<ℤ◌, unsigned_abs, arith, lit<}
 use Rattle.std.proofs.lemmas.Int.{ints, to_z-of_z}
 use Rattle.std.proofs.lemmas.Nat.{pow_pos}
 use Rattle.std.proofs.Math.Nat.{mul-le-mul}
@@ -27,7 +27,7 @@ pub products_fit : (x y : ℤ) → SFits w32 x → SFits w32 y → SFits w64 (x 
 products_fit x y f g =
     let small : unsigned_abs x * unsigned_abs y ≤ 2 ^ 31 * 2 ^ 31 =
     mul-le-mul {n₁ = unsigned_abs x} {m₁ = unsigned_abs y} {n₂ = 2 ^ 31} {m₂ = 2 ^ 31}
-        (omega (arith, ints, f, abs_is x)) (omega (arith, ints, g, abs_is y)) in
+    (omega (arith, ints, f, abs_is x)) (omega (arith, ints, g, abs_is y)) in
     rw (product_signed x y) (either (differ_in_sign x y) (unsigned_abs x * unsigned_abs y) (omega (arith, small)))
   where
     either : (s : Bool) (n : ℕ) → n ≤ 2 ^ 62 → SFits w64 (signed s n)
@@ -79,7 +79,7 @@ shr_is_near_above n half d fits small sign step some halves =
     let q = shr_z (n +ℤ pos half) d in
     let above : pos 0 ≤ℤ n = let same = to_z-of_z w64 n fits in omega (arith, ints, sign, same) in
     let near = near_from_above n (q *ℤ pos d) (unsigned_abs q * d) d half halves some above (sym (abs_times q d))
-        (shr_low (n +ℤ pos half) d positive) (shr_high (n +ℤ pos half) d positive) in
+    (shr_low (n +ℤ pos half) d positive) (shr_high (n +ℤ pos half) d positive) in
     unfolded n half d positive fits small step ∙ near_gives n d q positive (record { close = near.0; away = near.1 })
 
 pub shr_is_near_below : (n : ℤ) (less d : ℕ) → SFits w64 n → unsigned_abs n ≤ 2 ^ 62 → lt_z (to_z w64 (of_z w64 n))
@@ -90,7 +90,7 @@ shr_is_near_below n less d fits small sign step halves =
     let q = shr_z (n +ℤ pos less) d in
     let below : n <ℤ pos 0 = let same = to_z-of_z w64 n fits in omega (arith, ints, sign, same) in
     let near = near_from_below n (q *ℤ pos d) (unsigned_abs q * d) d less halves below (sym (abs_times q d))
-        (shr_low (n +ℤ pos less) d positive) (shr_high (n +ℤ pos less) d positive) in
+    (shr_low (n +ℤ pos less) d positive) (shr_high (n +ℤ pos less) d positive) in
     unfolded n less d positive fits small step ∙ near_gives n d q positive (record { close = near.0; away = near.1 })
 
 -- the wrapped answer is a rounded one
@@ -125,17 +125,17 @@ pub shifted_above : (n : ℤ) (f : ℕ) → SFits w64 n → unsigned_abs n ≤ 2
     ≡ false → 6 ≤ f → f ≤ 30
     → to_z w64 (of_z w64 (shr_z
     (to_z w64 (of_z w64 (to_z w64 (of_z w64 n) +ℤ to_z w64 (1 * 2 ^ (f - 1) % 18446744073709551616)))) (2 ^ f)))
-        ≡ near n (2 ^ f)
+    ≡ near n (2 ^ f)
 shifted_above n f fits small sign many few =
     let bound = half_small f few in
     rw (half_is f few) (shr_is_near_above n (2 ^ (f - 1)) (2 ^ f) fits small sign (omega (arith, bound))
-        (pow_pos (f - 1)) (halves f many))
+    (pow_pos (f - 1)) (halves f many))
 
 pub shifted_below : (n : ℤ) (f : ℕ) → SFits w64 n → unsigned_abs n ≤ 2 ^ 62 → lt_z (to_z w64 (of_z w64 n)) (pos 0)
     ≡ true → 6 ≤ f → f ≤ 30
     → to_z w64 (of_z w64 (shr_z
     (to_z w64 (of_z w64 (to_z w64 (of_z w64 n) +ℤ to_z w64
-        (of_z w64 (to_z w64 (1 * 2 ^ (f - 1) % 18446744073709551616) -ℤ pos 1))))) (2 ^ f))) ≡ near n (2 ^ f)
+    (of_z w64 (to_z w64 (1 * 2 ^ (f - 1) % 18446744073709551616) -ℤ pos 1))))) (2 ^ f))) ≡ near n (2 ^ f)
 shifted_below n f fits small sign many few =
     let bound = half_small f few in
     let some = pow_pos (f - 1) in
@@ -156,7 +156,12 @@ product_32 x y a b m l d f g is rounded first second wide narrow some =
     let first_wide : SFits w64 x = omega (arith, ints, f) in
     let second_wide : SFits w64 y = omega (arith, ints, g) in
     let exact : m ≡ near (x *ℤ y) d =
-    rounded ∙ rw (first_is, second_is, to_z-of_z w64 x first_wide, to_z-of_z w64 y second_wide,
-        to_z-of_z w64 (x *ℤ y) product) refl in
+    rounded ∙ rw (
+      first_is,
+      second_is,
+      to_z-of_z w64 x first_wide,
+      to_z-of_z w64 y second_wide,
+      to_z-of_z w64 (x *ℤ y) product,
+    ) refl in
     near_is_wrapped_near 32 (x *ℤ y) d _ some
-        (to_z-of_z w32 l narrow ∙ is ∙ ap (wrap 32) (to_z-of_z w64 m wide ∙ exact))
+    (to_z-of_z w32 l narrow ∙ is ∙ ap (wrap 32) (to_z-of_z w64 m wide ∙ exact))

@@ -1,8 +1,11 @@
 -- What a decimal text is read as, from the number that the reader gives.
-use Rattle.std.proofs.Common.{◌≡◌, ◌∙◌, sym, ap, subst, ℕ, ◌^◌, ◌≤◌, List, ℤ, ◌≤ℤ◌, ◌-◌, length, max, unsigned_abs,
-    Option, IsSome, Result, Ok, Err, IfOk, ◌↔◌, arith}
+use Rattle.std.proofs.Common.{◌≡◌, ◌∙◌, sym, ap, subst, ℕ, ◌+◌, ◌*◌, ◌/◌, ◌^◌, ◌<◌, ◌≤◌, List, ℤ, ◌≤ℤ◌, ◌-◌, length}
+use Rattle.std.proofs.Common.{max, unsigned_abs, Option, IsSome, Result, Ok, Err, IfOk, ◌↔◌, arith, Bool, IsTrue}
+use Rattle.std.proofs.Common.{nat_lt, ◌&&◌}
 use Rattle.std.proofs.lemmas.Int.{ints, to_z-of_z}
 use Rattle.std.proofs.lemmas.Nat.{pow_pos}
+use Rattle.std.proofs.lemmas.Bool.{ltb-true}
+use Rattle.std.specs.Cmp.{first_so, second_so}
 use Rattle.std.specs.Int.{Width, w64}
 use borrow.Author.Differences.{abs_is}
 use mir.Val.{SFits, to_z, of_z, bits, hbits}
@@ -16,7 +19,7 @@ use Rattle.font_decimal.specs.declared.reader.DecimalFault.TheVariants.{Syntax, 
 use Rattle.font_decimal.specs.Padding.{padded_text}
 use Rattle.font_decimal.specs.declared.padding.Pad.{Pad}
 use Rattle.font_decimal.proofs.Padded.{padded_fits}
-use Rattle.font_decimal.proofs.Printed.{shortest_length, printed_rounds}
+use Rattle.font_decimal.proofs.Printed.{length-shortest_body-le, printed_rounds}
 use Rattle.font_decimal.proofs.Readings.{rounds_unique, reading_unique, answers_as}
 use Rattle.font_arithmetic.specs.Operations.{least, greatest, ReadsAs, ReadingGives}
 use Rattle.font_arithmetic.specs.Reading.{ReadsBy}
@@ -50,19 +53,39 @@ printed_is_read_as bits_of of_bits back w f text (Ok y) room gives x fits same =
     ap Ok (sym (back y) ∙ ap of_bits equal ∙ back x)
 printed_is_read_as bits_of of_bits back w f text (Err fault) room gives x fits same =
     let reading : IsReading text f (least w) (greatest w) (Ok (bits_of x)) = rw same
-        (printed_reads w f (bits_of x) room fits) in
+    (printed_reads w f (bits_of x) room fits) in
     let equal = reading_unique text f (least w) (greatest w) (Err fault) (Ok (bits_of x)) gives reading in
     absurd (cc)
 
--- the padded text of a number of at most 64 bits finds room in a cell of 23 bytes, or of the width where that is
--- greater
-pub padded_has_room : (w : Width) (b : ℤ) (f : ℕ) (pad : Pad) (old : List ℕ) (result : Option ℕ) → 2 ^ hbits w ≤ 2 ^ 63
-    → SFits w b → f ≤ 30
-    → IsSome result ↔ (length (padded_text (shortest_text b f) pad) ≤ length old) → max 23 pad.width ≤ length old
+-- three places for ten bits of fraction, and one more: as many as any number shows
+abbrev pub most_places : ℕ → ℕ
+most_places f = f * 3 / 10 + 1
+
+-- so many bytes are room for each number of h bits beside its sign, f of them fraction, where no width asks for more:
+-- beside a sign, a point and the places there are enough for the digits of the whole part
+abbrev pub is_room : ℕ → ℕ → ℕ → Bool
+is_room h f room = nat_lt (2 ^ f) (10 ^ most_places f) &&
+    (nat_lt (2 ^ h) (10 ^ (room - (most_places f + 2)) * 2 ^ f) && nat_lt (most_places f + 2) room)
+
+pub padded_has_room : (w : Width) (b : ℤ) (f room : ℕ) (pad : Pad) (old : List ℕ) (result : Option ℕ)
+    → 2 ^ hbits w ≤ 2 ^ 63 → SFits w b
+    → IsSome result ↔ (length (padded_text (shortest_text b f) pad) ≤ length old) → max room pad.width ≤ length old
+    → IsTrue (is_room (hbits w) f room)
     → IsSome result
-padded_has_room w b f pad old result small fits few room cell =
-    let below : unsigned_abs b ≤ 2 ^ 63 = omega (arith, ints, fits, abs_is b, small) in
-    room.1 (padded_fits (shortest_text b f) pad (length old) (shortest_length b f below few) cell)
+padded_has_room w b f room pad old result small fits long enough test =
+    let p : ℕ = most_places f in
+    let digits : ℕ = room - (p + 2) in
+    let narrow : Bool = nat_lt (2 ^ f) (10 ^ p) in
+    let low : Bool = nat_lt (2 ^ hbits w) (10 ^ digits * 2 ^ f) in
+    let more : Bool = nat_lt (p + 2) room in
+    let both : IsTrue (low && more) = second_so narrow (low && more) test in
+    let steps : 2 ^ f < 10 ^ p = ltb-true _ _ (first_so narrow (low && more) test) in
+    let whole : 2 ^ hbits w < 10 ^ digits * 2 ^ f = ltb-true _ _ (first_so low more both) in
+    let some : p + 2 < room = ltb-true _ _ (second_so low more both) in
+    let magnitude : unsigned_abs b ≤ 2 ^ hbits w = omega (arith, ints, fits, abs_is b) in
+    let body = length-shortest_body-le b f digits p (omega (arith, magnitude, small)) (omega (arith, some))
+    (omega (arith, magnitude, whole)) steps in
+    long.1 (padded_fits (shortest_text b f) pad room (length old) (omega (arith, body, some)) enough)
 
 -- ---- in the words of a type of its own: a result with the bits of its number in place of the number
 
@@ -93,7 +116,7 @@ reads_by {T} w f bits_of of_bits text q back room gives =
     let half : 2 ^ (bits w - 1) ≤ 2 ^ 63 = rw (half_range-bits w) room in
     let only : (r : Result T DecimalFault) → (q ≡ r) ↔ ReadingGives (bits w) f text (as_bits bits_of r)
     = λ r. let answer = answers_as text f (least (bits w)) (greatest (bits w)) (as_bits bits_of q)
-        (as_bits bits_of r) gives in
+    (as_bits bits_of r) gives in
     (λ same. answer.0 (ap (as_bits bits_of) same), λ other. same_result bits_of of_bits back q r (answer.1 other)) in
     record {
       ok = λ x. only (Ok x);

@@ -1,7 +1,7 @@
 -- What the file of a type of 16 bits names once, so that its calls need no answers: what std's calls and steps of code
 -- on 16 bits give, in the form that goals have, over every fraction.
-use Rattle.std.proofs.Common.{◌≡◌, ℕ, ◌+◌, ◌-◌, ◌*◌, ◌/◌, ◌%◌, ◌^◌, ◌≤◌, ℤ, pos, neg_ℤ, ◌+ℤ◌, ◌-ℤ◌, ◌*ℤ◌, unsigned_abs,
-    IsTrue, lit<, lit≤, length, max, List, Option, IsSome, ◌↔◌}
+use Rattle.std.proofs.Common.{◌≡◌, ℕ, ◌+◌, ◌-◌, ◌*◌, ◌/◌, ◌%◌, ◌^◌, ◌≤◌, ℤ, pos, neg_ℤ, ◌+ℤ◌, ◌-ℤ◌, ◌*ℤ◌, unsigned_abs}
+use Rattle.std.proofs.Common.{IsTrue, lit<, lit≤, length, max, List, Option, IsSome, ◌↔◌}
 use Rattle.std.specs.Int.{w16, int_wrapping_neg, int_rem_euclid}
 use lib.Signed.{shr_z}
 use mir.Val.{SFits, to_z, of_z}
@@ -10,10 +10,10 @@ pub use Rattle.font_decimal.proofs.Printed.{shortest_is_decimal}
 use Rattle.font_decimal.specs.Padding.{padded_text}
 use Rattle.font_decimal.specs.Shortest.{shortest_text}
 use Rattle.font_decimal.specs.declared.padding.Pad.{Pad}
-use Rattle.font_arithmetic.proofs.Texts.{padded_has_room}
+use Rattle.font_arithmetic.proofs.Texts.{is_room, padded_has_room}
 use Rattle.font_arithmetic.specs.Operations.{IsFloor, IsFract, IsNearestWhole, IsNarrowed}
-use Rattle.font_arithmetic.proofs.Wrapped.{wrapping_add-wrap, wrapping_sub-wrap, wrapping_neg-wrap, wrapping_abs-wrap,
-    rem_euclid_is_fract, wrapping_mul-wrap}
+use Rattle.font_arithmetic.proofs.Wrapped.{wrapping_add-wrap, wrapping_sub-wrap, wrapping_neg-wrap, wrapping_abs-wrap}
+use Rattle.font_arithmetic.proofs.Wrapped.{rem_euclid_is_fract, wrapping_mul-wrap}
 use Rattle.font_arithmetic.proofs.Calls.{wrap-signed_fits, wrap-add_zero, wrap-zero_add, wrap-sub_zero}
 use Rattle.font_arithmetic.proofs.Narrowing.{is_width_split, floor_is_nearest_whole, shr_is_narrowed}
 
@@ -48,13 +48,24 @@ pub scaled_16 : (x : ℤ) (d : ℕ) → SFits w16 x → SFits w16 (pos d) → to
     (x *ℤ pos d)
 scaled_16 x d f g = wrapping_mul-wrap w16 x d f g
 
-pub cell_16 : (b : ℤ) (f : ℕ) (pad : Pad) (old : List ℕ) (result : Option ℕ)
-    → IsSome result ↔ (length (padded_text (shortest_text b f) pad) ≤ length old) → SFits w16 b → f ≤ 30
-    → max 23 pad.width ≤ length old → IsSome result
-cell_16 b f pad old result room fits few cell = padded_has_room w16 b f pad old result (lit≤ tt) fits few room cell
+pub cell_16 : (b : ℤ) (f room : ℕ) (pad : Pad) (old : List ℕ) (result : Option ℕ)
+    → IsSome result ↔ (length (padded_text (shortest_text b f) pad) ≤ length old) → SFits w16 b
+    → max room pad.width ≤ length old → IsTrue (is_room 15 f room) → IsSome result
+cell_16 b f room pad old result long fits enough test = padded_has_room w16 b f room pad old result
+    (lit≤ tt) fits long enough test
 
-pub ruleset code_16 = (sum_16, difference_16, negated_16, abs_16, fract_16, nearest_whole_16, narrowed_16, scaled_16,
-    cell_16, shortest_is_decimal)
+pub ruleset code_16 = (
+  sum_16,
+  difference_16,
+  negated_16,
+  abs_16,
+  fract_16,
+  nearest_whole_16,
+  narrowed_16,
+  scaled_16,
+  cell_16,
+  shortest_is_decimal,
+)
 
 -- ---- for callers: a sum with zero, and wrapping of what fits
 

@@ -1,7 +1,7 @@
 -- What the file of a type of 64 bits names once, so that its calls need no answers: what std's calls and steps of code
 -- on 64 bits give, in the form that goals have, over every fraction.
-use Rattle.std.proofs.Common.{◌≡◌, ap, ◌∙◌, ℕ, ◌+◌, ◌-◌, ◌*◌, ◌/◌, ◌%◌, ◌^◌, ◌≤◌, ℤ, pos, neg_ℤ, ◌+ℤ◌, ◌-ℤ◌, ◌*ℤ◌,
-    unsigned_abs, IsTrue, lit<, lit≤, length, max, List, Option, IsSome, ◌↔◌}
+use Rattle.std.proofs.Common.{◌≡◌, ap, ◌∙◌, ℕ, ◌+◌, ◌-◌, ◌*◌, ◌/◌, ◌%◌, ◌^◌, ◌≤◌, ℤ, pos, neg_ℤ, ◌+ℤ◌, ◌-ℤ◌, ◌*ℤ◌}
+use Rattle.std.proofs.Common.{unsigned_abs, IsTrue, lit<, lit≤, length, max, List, Option, IsSome, ◌↔◌}
 use Rattle.std.proofs.lemmas.Int.{to_z-of_z}
 use Rattle.std.specs.Int.{w64, int_wrapping_neg, int_rem_euclid}
 use lib.Signed.{shr_z}
@@ -13,10 +13,10 @@ pub use Rattle.font_decimal.proofs.Printed.{shortest_is_decimal}
 use Rattle.font_decimal.specs.Padding.{padded_text}
 use Rattle.font_decimal.specs.Shortest.{shortest_text}
 use Rattle.font_decimal.specs.declared.padding.Pad.{Pad}
-use Rattle.font_arithmetic.proofs.Texts.{padded_has_room}
+use Rattle.font_arithmetic.proofs.Texts.{is_room, padded_has_room}
 use Rattle.font_arithmetic.specs.Operations.{IsFloor, IsFract, IsNearestWhole, IsNarrowed}
-use Rattle.font_arithmetic.proofs.Wrapped.{wrapping_add-wrap, wrapping_sub-wrap, wrapping_neg-wrap, wrapping_abs-wrap,
-    rem_euclid_is_fract, wrapping_mul-wrap}
+use Rattle.font_arithmetic.proofs.Wrapped.{wrapping_add-wrap, wrapping_sub-wrap, wrapping_neg-wrap, wrapping_abs-wrap}
+use Rattle.font_arithmetic.proofs.Wrapped.{rem_euclid_is_fract, wrapping_mul-wrap}
 use Rattle.font_arithmetic.proofs.Calls.{wrap-signed_fits, wrap-add_zero, wrap-zero_add, wrap-sub_zero}
 use Rattle.font_arithmetic.proofs.Narrowing.{is_width_split, floor_is_nearest_whole, shr_is_narrowed}
 
@@ -52,17 +52,28 @@ pub scaled_64 : (x : ℤ) (d : ℕ) → SFits w64 x → SFits w64 (pos d) → to
     ≡ wrap 64 (x *ℤ pos d)
 scaled_64 x d f g = wrapping_mul-wrap w64 x d f g
 
-pub cell_64 : (b : ℤ) (f : ℕ) (pad : Pad) (old : List ℕ) (result : Option ℕ)
-    → IsSome result ↔ (length (padded_text (shortest_text b f) pad) ≤ length old) → SFits w64 b → f ≤ 30
-    → max 23 pad.width ≤ length old → IsSome result
-cell_64 b f pad old result room fits few cell = padded_has_room w64 b f pad old result (lit≤ tt) fits few room cell
+pub cell_64 : (b : ℤ) (f room : ℕ) (pad : Pad) (old : List ℕ) (result : Option ℕ)
+    → IsSome result ↔ (length (padded_text (shortest_text b f) pad) ≤ length old) → SFits w64 b
+    → max room pad.width ≤ length old → IsTrue (is_room 63 f room) → IsSome result
+cell_64 b f room pad old result long fits enough test = padded_has_room w64 b f room pad old result
+    (lit≤ tt) fits long enough test
 
 -- the bytes of the raw number are those of the bits
 pub bytes_64 : (v : ℤ) (bytes : List ℕ) → SFits w64 v → bytes ≡ bytes_of 8 (to_z w64 (of_z w64 v)) → IsBytesOf 8 v bytes
 bytes_64 v bytes fits is = bytes_of_are 8 v bytes (is ∙ ap (bytes_of 8) (to_z-of_z w64 v fits))
 
-pub ruleset code_64 = (sum_64, difference_64, negated_64, abs_64, fract_64, nearest_whole_64, narrowed_64, scaled_64,
-    cell_64, shortest_is_decimal)
+pub ruleset code_64 = (
+  sum_64,
+  difference_64,
+  negated_64,
+  abs_64,
+  fract_64,
+  nearest_whole_64,
+  narrowed_64,
+  scaled_64,
+  cell_64,
+  shortest_is_decimal,
+)
 
 -- ---- for callers: a sum with zero, and wrapping of what fits
 

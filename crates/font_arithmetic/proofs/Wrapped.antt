@@ -1,6 +1,6 @@
 -- What std's calls on the bits of a number give, in the words of `wrap`.
-use Rattle.std.proofs.Common.{◌≡◌, ◌∙◌, sym, ap, refl, subst, ℕ, ◌*◌, ◌/◌, ◌%◌, ◌^◌, ◌<◌, ◌≤◌, ℤ, pos, neg_ℤ, ◌+ℤ◌,
-    ◌-ℤ◌, ◌*ℤ◌, unsigned_abs, arith}
+use Rattle.std.proofs.Common.{◌≡◌, ◌∙◌, sym, ap, refl, subst, ℕ, ◌*◌, ◌/◌, ◌%◌, ◌^◌, ◌<◌, ◌≤◌, ℤ, pos, neg_ℤ, ◌+ℤ◌}
+use Rattle.std.proofs.Common.{◌-ℤ◌, ◌*ℤ◌, unsigned_abs, arith}
 use Rattle.std.proofs.lemmas.Int.{ints, to_z-of_z, wrapping_add_is, wrapping_sub_is, wrapping_mul_onto, wrapping_neg_is}
 use Rattle.std.proofs.lemmas.Nat.{pow_pos, div-add-mod'}
 use Rattle.std.proofs.Math.Nat.{mod-lt}
@@ -35,14 +35,14 @@ wrapping_abs-wrap w x r f is =
     let whole = two_halves (bits w) (bits_positive w) in
     let below : unsigned_abs x < 2 ^ bits w = omega (arith, ints, f, half, whole, abs_is x, pow_pos (hbits w)) in
     to_z-of_z w r (subst (SFits w) (sym same) (sfits_to_z (Fits-of_lt below))) ∙ same ∙ to_z-wrap w
-        (unsigned_abs x) below
+    (unsigned_abs x) below
 
 -- a number times a constant
 pub wrapping_mul-wrap : (w : Width) (x : ℤ) (d : ℕ) → SFits w x → SFits w (pos d) → to_z w (of_z w x * d % 2 ^ bits w)
     ≡ wrap (bits w) (x *ℤ pos d)
 wrapping_mul-wrap w x d f g =
     wrapping_mul_onto w (of_z w x) (pos d) (Fits-of_z f).fits g ∙ ap (λ y. int_wrap w (y *ℤ pos d)) (to_z-of_z w x f)
-        ∙ int_wrap-wrap w (x *ℤ pos d)
+    ∙ int_wrap-wrap w (x *ℤ pos d)
 
 -- the low bits of a magnitude
 pub low_bits-wrap : (w : Width) (m : ℕ) (r : ℤ) → r ≡ to_z w (m % 2 ^ bits w) → r ≡ wrap (bits w) (pos m)
@@ -59,7 +59,7 @@ rem_euclid_is_fract w f d x r step room fits is =
     let parts = remainder x (2 ^ f) (pow_pos f) in
     let below = parts.below in
     let same : r ≡ pos parts.rest = is ∙ ap (λ n. int_rem_euclid (to_z w (of_z w x)) (pos n)) step ∙ ap
-        (λ y. int_rem_euclid y (pos (2 ^ f))) (to_z-of_z w x fits) ∙ parts.is in
+    (λ y. int_rem_euclid y (pos (2 ^ f))) (to_z-of_z w x fits) ∙ parts.is in
     let small : SFits w (pos parts.rest) = record { sfits = omega arith } in
     rw (same, to_z-of_z w (pos parts.rest) small) (record {
       floor = parts.turns *ℤ pos (2 ^ f);
@@ -81,10 +81,10 @@ pub rem_euclid-wrap : (v w : Width) (n e r : ℤ) → 2 ^ bits v ≤ 2 ^ hbits w
 rem_euclid-wrap v w n e r room fits is cast =
     let parts = remainder n (2 ^ bits v) (pow_pos (bits v)) in
     let rest : e ≡ pos parts.rest = is ∙ ap (λ y. int_rem_euclid y (pos (2 ^ bits v))) (to_z-of_z w n fits)
-        ∙ parts.is in
+    ∙ parts.is in
     let below = parts.below in
     let small : SFits w (pos parts.rest) = record { sfits = omega arith } in
     let kept : r ≡ to_z v parts.rest = cast ∙ ap (λ y. to_z v (unsigned_abs (to_z w (of_z w y)))) rest ∙ ap
-        (λ y. to_z v (unsigned_abs y)) (to_z-of_z w (pos parts.rest) small) in
+    (λ y. to_z v (unsigned_abs y)) (to_z-of_z w (pos parts.rest) small) in
     to_z-of_z v r (subst (SFits v) (sym kept) (sfits_to_z (Fits-of_lt below))) ∙ kept ∙ to_z-wrap v parts.rest below
     ∙ sym (wrap_same (bits v) n (pos parts.rest) parts.turns (bits_positive v) parts.parts)

@@ -1,7 +1,7 @@
 -- What each operation on fixed-point numbers gives, over their bits. A number of w bits with f bits of fraction stands
 -- for its bits over 2^f (OpenType, data types: Fixed is 16.16, F2DOT14 is 2.14).
-use Rattle.std.specs.Prelude.{◌≡◌, ℕ, zero, suc, ◌-◌, ◌^◌, Bool, not, List, ℤ, pos, negsuc, neg_ℤ, ◌+ℤ◌, ◌-ℤ◌, ◌*ℤ◌,
-    ◌≤ℤ◌, ◌<ℤ◌, Result, if◌then◌else◌}
+use Rattle.std.specs.Prelude.{◌≡◌, ℕ, zero, suc, ◌-◌, ◌^◌, Bool, not, List, ℤ, pos, negsuc, neg_ℤ, ◌+ℤ◌, ◌-ℤ◌, ◌*ℤ◌}
+use Rattle.std.specs.Prelude.{◌≤ℤ◌, ◌<ℤ◌, Result, if◌then◌else◌}
 use Rattle.std.specs.Int.{is_negative, int_rem_euclid, saturate_to_bits}
 use Rattle.font_base.specs.Wrap.{half_range, wrap}
 use Rattle.font_decimal.specs.Near.{signed, Near, near, Up, up}

@@ -21,7 +21,7 @@ uint24_of_stored n bytes stored = sym (numeral-bytes_of 3 (uint24_number n) n.in
 pub int24_of_stored : (n : Int24) (bytes : List ℕ) → bytes_of_int24 n ≡ bytes → int24_number n ≡ signed_numeral 3 bytes
 int24_of_stored n bytes stored =
     sym (signed_numeral-bytes_of 3 (int24_number n) (lit< tt) (record { low = n.low; high = n.high })) ∙ ap
-        (signed_numeral 3) stored
+    (signed_numeral 3) stored
 
 pub ruleset scalar_calls = (uint24_of_stored, int24_of_stored)
 

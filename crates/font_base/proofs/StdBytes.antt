@@ -1,6 +1,7 @@
 -- The bytes that std reads and writes, in the words of numerals.
-use Rattle.std.proofs.Common.{◌≡◌, ◌∙◌, sym, ap, refl, ℕ, zero, suc, ◌-◌, ◌*◌, ◌^◌, ◌<◌, ◌≤◌, ℤ, pos, negsuc, ◌+ℤ◌,
-    ◌*ℤ◌, List, [], ◌∷◌, length, get_or, drop, ◌≢◌, Option, Result, Ok, Err, MatchResult, IfSome, arith, IsTrue, lit≤}
+use Rattle.std.proofs.Common.{◌≡◌, ◌∙◌, sym, ap, refl, ℕ, zero, suc, ◌-◌, ◌*◌, ◌^◌, ◌<◌, ◌≤◌, ℤ, pos, negsuc, ◌+ℤ◌}
+use Rattle.std.proofs.Common.{◌*ℤ◌, List, [], ◌∷◌, length, get_or, drop, ◌≢◌, Option, Result, Ok, Err, MatchResult}
+use Rattle.std.proofs.Common.{IfSome, arith, IsTrue, lit≤}
 use Rattle.std.proofs.lemmas.Int.{ints, to_z-of_z}
 use Rattle.std.proofs.Math.Nat.{mod-eq_of_lt}
 use Rattle.std.proofs.Math.Facts.{Fits-of_z, Fits-of_lt, sfits_to_z}
@@ -47,7 +48,7 @@ complement z whole n is below = omega (arith, ints, is)
 pub to_be_bytes-signed : (w : Width) (z : ℤ) → SFits w z → to_be_bytes w (of_z w z) ≡ bytes_of (byte_len w) z
 to_be_bytes-signed w z fits =
     to_be_bytes-bytes_of w (of_z w z) (Fits-of_z fits).fits ∙ bytes_of-same (byte_len w) (pos (of_z w z)) z
-        (wrapped_turns z) (turned w z fits)
+    (wrapped_turns z) (turned w z fits)
   where
     wrapped_turns : ℤ → ℤ
     wrapped_turns (pos n) = pos 0
@@ -136,7 +137,7 @@ pub i8_written : (z : ℤ) (bytes : List ℕ) → SFits w8 z → bytes ≡ of_z 
 i8_written z bytes fits is =
     let below = (Fits-of_z fits).fits in
     is ∙ ap (λ y. of_z w8 y ∷ []) (to_z-of_z w8 z fits) ∙ ap (λ b. b ∷ []) (sym (mod-eq_of_lt below))
-        ∙ to_be_bytes-signed w8 z fits
+    ∙ to_be_bytes-signed w8 z fits
 
 pub i8_read : (bytes : List ℕ) (n : ℕ) (z : ℤ) → length bytes ≡ 1 → n < 2 ^ 8 → n ≡ from_be_bytes w8 bytes
     → z ≡ to_z w8 n → to_z w8 (of_z w8 z) ≡ signed_numeral 1 bytes
@@ -178,6 +179,18 @@ pub i64_written : (z : ℤ) (bytes : List ℕ) → SFits w64 z → bytes ≡ to_
     → bytes ≡ bytes_of 8 z
 i64_written z bytes fits is = signed_written w64 z bytes fits is
 
-pub ruleset std_bytes =
-    (u8_written, i8_written, i8_read, u16_read, u16_written, i16_read, i16_written, u32_read, u32_written, i32_read,
-        i32_written, i64_read, i64_written)
+pub ruleset std_bytes = (
+  u8_written,
+  i8_written,
+  i8_read,
+  u16_read,
+  u16_written,
+  i16_read,
+  i16_written,
+  u32_read,
+  u32_written,
+  i32_read,
+  i32_written,
+  i64_read,
+  i64_written,
+)

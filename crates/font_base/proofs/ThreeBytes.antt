@@ -1,6 +1,6 @@
 -- The integers of 24 bits and the four bytes of std's integers of 32 bits.
-use Rattle.std.proofs.Common.{◌≡◌, ◌∙◌, sym, ap, refl, subst, ℕ, ◌+◌, ◌*◌, ◌^◌, ℤ, pos, negsuc, ◌+ℤ◌, ◌*ℤ◌, neg_ℤ, List,
-    [], ◌∷◌, length, get_or, arith, IsTrue}
+use Rattle.std.proofs.Common.{◌≡◌, ◌∙◌, sym, ap, refl, subst, ℕ, ◌+◌, ◌*◌, ◌^◌, ℤ, pos, negsuc, ◌+ℤ◌, ◌*ℤ◌, neg_ℤ, List}
+use Rattle.std.proofs.Common.{[], ◌∷◌, length, get_or, arith, IsTrue}
 use Rattle.std.proofs.lemmas.Int.{ints, to_z-of_z}
 use Rattle.std.specs.Int.{w32, to_be_bytes}
 use mir.Val.{SFits, to_z, of_z}
@@ -44,6 +44,6 @@ pub from_three : (bytes slice : List ℕ) (a b c : ℕ) → IsTrue (are_bytes 3 
     → IsBytesOf 3 (pos (a * 65536 + b * 256 + c)) bytes
 from_three bytes slice a b c are same first second third =
     let list : slice ≡ a ∷ b ∷ c ∷ [] = rw (first, second, third)
-        (three slice (ap length same ∙ are_bytes-length 3 bytes are)) in
+    (three slice (ap length same ∙ are_bytes-length 3 bytes are)) in
     let number : numeral bytes ≡ a * 65536 + b * 256 + c = ap numeral (sym same) ∙ rw list (omega arith) in
     subst (λ (n : ℕ). IsBytesOf 3 (pos n) bytes) number (IsBytesOf-numeral 3 bytes are)

@@ -1,8 +1,8 @@
 -- Big-endian bytes: all numbers of a font file are stored with their highest byte first.
 -- (OpenType, data types: "All OpenType fonts use Motorola-style byte ordering (Big Endian)")
 pub mod Laws
-use Rattle.std.specs.Prelude.{◌≡◌, ℕ, ◌+◌, ◌*◌, ◌^◌, ◌<◌, Bool, List, length, fold, ◌&&◌, ◌==◌, IsTrue, nat_lt,
-    unsigned_abs, ℤ, pos, ◌+ℤ◌, ◌*ℤ◌}
+use Rattle.std.specs.Prelude.{◌≡◌, ℕ, ◌+◌, ◌*◌, ◌^◌, ◌<◌, Bool, List, length, fold, ◌&&◌, ◌==◌, IsTrue, nat_lt}
+use Rattle.std.specs.Prelude.{unsigned_abs, ℤ, pos, ◌+ℤ◌, ◌*ℤ◌}
 use Rattle.std.specs.List.{list_all}
 use Rattle.std.specs.Int.{bytes_high_first, int_rem_euclid}
 use Rattle.font_base.specs.Wrap.{wrap}

@@ -26,7 +26,7 @@ parts_times s t a b c d m n same =
 pub sum-times : (x y z : ℤ) → ((x +ℤ y) *ℤ z) ≡ ((x *ℤ z) +ℤ (y *ℤ z))
 sum-times x y z =
     let parts = parts_times (up (x +ℤ y)) (down (x +ℤ y)) (up x) (down x) (up y) (down y) (up z) (down z)
-        (sum_is_lem x y) in
+    (sum_is_lem x y) in
     same_in ((x +ℤ y) *ℤ z) ((x *ℤ z) +ℤ (y *ℤ z))
     (omega (arith, parts, product_is (x +ℤ y) z, product_is x z, product_is y z, sum_is_lem (x *ℤ z) (y *ℤ z)))
 

@@ -1,7 +1,7 @@
 -- Wrapping: what is left of a whole number where only so many bits are kept, as two's complement.
 pub mod Laws
-use Rattle.std.specs.Prelude.{◌≡◌, ℕ, ◌-◌, ◌*◌, ◌^◌, ℤ, pos, ◌+ℤ◌, ◌-ℤ◌, ◌*ℤ◌, neg_ℤ, ◌≤ℤ◌, ◌<ℤ◌, Bool, ◌&&◌, int_le,
-    int_lt}
+use Rattle.std.specs.Prelude.{◌≡◌, ℕ, ◌-◌, ◌*◌, ◌^◌, ℤ, pos, ◌+ℤ◌, ◌-ℤ◌, ◌*ℤ◌, neg_ℤ, ◌≤ℤ◌, ◌<ℤ◌, Bool, ◌&&◌, int_le}
+use Rattle.std.specs.Prelude.{int_lt}
 use Rattle.std.specs.Int.{int_rem_euclid}
 
 -- half the count of numbers that `w` bits can tell apart

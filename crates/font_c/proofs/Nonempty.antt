@@ -1,6 +1,6 @@
 -- No decimal is empty, and none that is padded.
-use Rattle.std.proofs.Common.{ℕ, ◌+◌, ◌<◌, Bool, true, false, List, [], ◌∷◌, ◌++◌, length, drop, ap, arith,
-    length-append, ◌==◌, if◌then◌else◌}
+use Rattle.std.proofs.Common.{ℕ, ◌+◌, ◌<◌, Bool, true, false, List, [], ◌∷◌, ◌++◌, length, drop, ap, arith}
+use Rattle.std.proofs.Common.{length-append, ◌==◌, if◌then◌else◌}
 use Rattle.std.specs.Prelude.{slice_index}
 use Rattle.std.specs.Fmt.{sign_text}
 use Rattle.font_decimal.specs.Grammar.{IsDecimal, fraction_text}

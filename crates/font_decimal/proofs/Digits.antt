@@ -1,6 +1,7 @@
 -- The number that digits write, where they are joined and cut.
-use Rattle.std.proofs.Common.{◌≡◌, ℕ, zero, suc, ◌+◌, ◌-◌, ◌*◌, ◌%◌, ◌^◌, ◌<◌, ◌≤◌, inl, inr, List, [], ◌∷◌, ◌++◌,
-    length, take, drop, min, refl, sym, ap, ◌∙◌, arith, rules, true≢false, length-append, length-drop, get_or}
+use Rattle.std.proofs.Common.{◌≡◌, ℕ, zero, suc, ◌+◌, ◌-◌, ◌*◌, ◌%◌, ◌^◌, ◌<◌, ◌≤◌, inl, inr, List, [], ◌∷◌, ◌++◌}
+use Rattle.std.proofs.Common.{length, take, drop, min, refl, sym, ap, ◌∙◌, arith, rules, true≢false, length-append}
+use Rattle.std.proofs.Common.{length-drop, get_or}
 use Rattle.std.specs.Str.Parse.{digits_value, digits_value_after, AllDigits}
 use Rattle.std.specs.Char.{digit_value, is_ascii_digit, IsAsciiDigit}
 use Rattle.std.specs.List.{list_all}
@@ -83,7 +84,7 @@ pub few_digits : (xs : List ℕ) (i : ℕ) → AllDigits 10 (take i xs) → i �
 few_digits xs i h within few =
     let below = digits_value-lt 10 (take i xs) h in
     let power : 10 ^ length (take i xs) ≤ 10 ^ 18 = pow-le-pow_right {n = 10} (omega arith) {i = length (take i xs)}
-        {j = 18} (omega (arith, length-take-le i xs within)) in
+    {j = 18} (omega (arith, length-take-le i xs within)) in
     omega arith
 
 -- no more digits are taken than there are
@@ -128,7 +129,7 @@ is_cut p ds h = elim (cases_lt p (length ds)) [
       let many : length (drop p ds) ≡ k - p = length-drop p ds in
       let joined : digits_value 10 ds ≡ front * 10 ^ (k - p) + back =
       ap (digits_value 10) (sym (take-append-drop p ds)) ∙ digits_value-append (take p ds) (drop p ds) ∙ ap
-          (λ n. front * 10 ^ n + back) many in
+      (λ n. front * 10 ^ n + back) many in
       let none : 10 ^ (p - k) ≡ 1 = ap (λ n. 10 ^ n) (let e : p - k ≡ 0 = omega arith in e) in
       let power : 10 ^ k ≡ 10 ^ (k - p) * 10 ^ p = ten_to k (k - p) p (omega arith) in
       let small : back < 10 ^ (k - p) = rw many at (digits_value-lt 10 (drop p ds) (digits-drop p ds h)) in
@@ -152,7 +153,7 @@ pub filled_below : (p : ℕ) (ds : List ℕ) → AllDigits 10 ds → length ds �
     → digits_value 10 ds * 10 ^ (p - length ds) < 10 ^ p
 filled_below p ds h short =
     rw (ten_to p (length ds) (p - length ds) (omega arith))
-        (mul-lt-mul_of_pos_right (digits_value-lt 10 ds h) (one-le-pow (p - length ds) 10 (omega arith)))
+    (mul-lt-mul_of_pos_right (digits_value-lt 10 ds h) (one-le-pow (p - length ds) 10 (omega arith)))
 
 -- and so has the numeral that is kept
 pub kept_below : (p : ℕ) (ds : List ℕ) → AllDigits 10 ds → kept_numeral p ds < 10 ^ p

@@ -1,6 +1,6 @@
 -- The fewest places at which a value m / 2^f has a decimal that reads back.
-use Rattle.std.proofs.Common.{◌≡◌, ◌≢◌, ℕ, zero, suc, ◌+◌, ◌-◌, ◌*◌, ◌/◌, ◌%◌, ◌^◌, ◌<◌, ◌≤◌, inl, inr, Bool, true,
-    false, cond, true≢false, ℤ, pos, negsuc, refl, sym, ap, ◌∙◌, arith}
+use Rattle.std.proofs.Common.{◌≡◌, ◌≢◌, ℕ, zero, suc, ◌+◌, ◌-◌, ◌*◌, ◌/◌, ◌%◌, ◌^◌, ◌<◌, ◌≤◌, inl, inr, Bool, true}
+use Rattle.std.proofs.Common.{false, cond, true≢false, ℤ, pos, negsuc, refl, sym, ap, ◌∙◌, arith}
 use Rattle.std.specs.Prelude.{◌*ℤ◌, unsigned_abs, nat_lt}
 use Rattle.std.specs.Int.{abs_diff}
 use Rattle.std.proofs.Math.Nat.{mul-sub, pow-suc, div-add-mod', eq_of_mul-eq-mul_left}
@@ -18,8 +18,11 @@ nearest_distance n d q m r =
     let high = r.high in
     elim (cases_order m q) [
       | inl e ↦ rw e (omega arith)
-      | inr order ↦ elim order [ inl less ↦ omega (arith, next_product m q d less) | inr more ↦
-          omega (arith, next_product q m d more) ]
+      | inr order ↦ elim order [
+        | inl less ↦ omega (arith, next_product m q d less)
+        | inr more ↦
+            omega (arith, next_product q m d more)
+      ]
     ]
 
 half_distance : (n d q : ℕ) → IsNearMagnitude n d q → 2 * abs_diff (q * d) n ≤ d
@@ -48,15 +51,15 @@ not_even j d e = let odd = five_odd j in omega (arith, odd.1)
 no_tie : (m f j n : ℕ) → j ≤ f → 2 * abs_diff (n * 2 ^ f) (m * 10 ^ j) ≢ 10 ^ j
 no_tie m f j n h tie =
     let split : 2 ^ f ≡ 2 ^ j * 2 ^ (f - j) = ap (λ i. 2 ^ i) (let e : f ≡ j + (f - j) = omega arith in e) ∙ pow-add 2 j
-        (f - j) in
+    (f - j) in
     let ten : 10 ^ j ≡ 2 ^ j * 5 ^ j = mul-pow 2 5 j in
     let left : n * 2 ^ f ≡ 2 ^ j * (n * 2 ^ (f - j)) = rw split (omega arith) in
     let right : m * 10 ^ j ≡ 2 ^ j * (m * 5 ^ j) = rw ten (omega arith) in
     let apart = abs_diff_times (2 ^ j) (n * 2 ^ (f - j)) (m * 5 ^ j) in
     let same : abs_diff (n * 2 ^ f) (m * 10 ^ j) ≡ 2 ^ j * abs_diff (n * 2 ^ (f - j)) (m * 5 ^ j) = rw
-        (left, right) apart in
+    (left, right) apart in
     not_even j (abs_diff (n * 2 ^ (f - j)) (m * 5 ^ j))
-        (half_units (2 ^ j) _ _ (5 ^ j) (10 ^ j) (pow_pos j) same tie ten)
+    (half_units (2 ^ j) _ _ (5 ^ j) (10 ^ j) (pow_pos j) same tie ten)
 
 unfolded : (m f p : ℕ) → reads_back m f p ≡ nat_lt (2 * abs_diff (nearest_numeral m f p * 2 ^ f) (m * 10 ^ p)) (10 ^ p)
 unfolding reads_back
@@ -127,8 +130,12 @@ more_places m f left p q false e rest =
     }
 
 first_from : (m f left p : ℕ) → IsFirst m f p left (places_from m f left p)
-first_from m f zero p = record { from = omega arith; to = omega arith; reads = λ less. absurd (omega arith);
-    before = λ j low high. absurd (omega arith) }
+first_from m f zero p = record {
+  from = omega arith;
+  to = omega arith;
+  reads = λ less. absurd (omega arith);
+  before = λ j low high. absurd (omega arith);
+}
 first_from m f (suc left) p = more_places m f left p (places_from m f left (p + 1)) (reads_back m f p) refl
     (first_from m f left (p + 1))
 
@@ -184,11 +191,11 @@ zero_drops m f p fewest e =
     let tens : d ≡ 10 * (d / 10) = omega (arith, div-add-mod' d 10) in
     let close = within_half m f (suc p) fewest.reads in
     let left : d * 2 ^ f ≡ 10 * (d / 10 * 2 ^ f) = ap (λ n. n * 2 ^ f) tens
-        ∙ (let regroup : 10 * (d / 10) * 2 ^ f ≡ 10 * (d / 10 * 2 ^ f) = omega arith in regroup) in
+    ∙ (let regroup : 10 * (d / 10) * 2 ^ f ≡ 10 * (d / 10 * 2 ^ f) = omega arith in regroup) in
     let right : m * 10 ^ suc p ≡ 10 * (m * 10 ^ p) = rw (pow-suc 10 p) (omega arith) in
     let apart : abs_diff (d * 2 ^ f) (m * 10 ^ suc p) ≡ 10 * abs_diff (d / 10 * 2 ^ f) (m * 10 ^ p) =
     ap (λ x. abs_diff x (m * 10 ^ suc p)) left ∙ ap (λ y. abs_diff (10 * (d / 10 * 2 ^ f)) y) right ∙ abs_diff_times 10
-        (d / 10 * 2 ^ f) (m * 10 ^ p) in
+    (d / 10 * 2 ^ f) (m * 10 ^ p) in
     let closer = tenth _ _ (10 ^ p) (10 ^ suc p) apart (pow-suc 10 p) close in
     let few = fewest.few in
     true≢false (sym (nearest_reads_back m f p (d / 10) (omega arith) closer) ∙ fewest.before p (omega arith))
@@ -206,4 +213,4 @@ pub none_fewer : (f j p : ℕ) (n b : ℤ) → IsFewest (unsigned_abs b) f p →
 none_fewer f j p n b fewest h near =
     let few = fewest.few in
     true≢false (sym (nearest_reads_back (unsigned_abs b) f j (unsigned_abs n) (omega arith)
-        (magnitudes_close f j n b near)) ∙ fewest.before j h)
+    (magnitudes_close f j n b near)) ∙ fewest.before j h)

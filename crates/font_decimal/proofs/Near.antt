@@ -1,6 +1,6 @@
 -- Each fraction n / d with 0 < d has one nearest whole number, by either rule for ties.
-use Rattle.std.proofs.Common.{◌≡◌, ℕ, zero, suc, ◌+◌, ◌*◌, ◌/◌, ◌<◌, ◌≤◌, inl, inr, Bool, true, false, ℤ, pos, negsuc,
-    refl, sym, ap, subst, ◌∙◌, arith}
+use Rattle.std.proofs.Common.{◌≡◌, ℕ, zero, suc, ◌+◌, ◌*◌, ◌/◌, ◌<◌, ◌≤◌, inl, inr, Bool, true, false, ℤ, pos, negsuc}
+use Rattle.std.proofs.Common.{refl, sym, ap, subst, ◌∙◌, arith}
 use Rattle.std.specs.Prelude.{neg_ℤ, ◌+ℤ◌, ◌-ℤ◌, ◌*ℤ◌, ◌≤ℤ◌, ◌<ℤ◌, unsigned_abs}
 use Rattle.std.specs.Int.{is_negative}
 use Rattle.std.proofs.Math.IntN.{neg_ℤ-neg_ℤ, +ℤ_one, suc_ℤ-*ℤ}
@@ -107,8 +107,8 @@ near_unique n d q r h x y =
     let first = near_to s (unsigned_abs n) d q h (subst (λ t. Near t d q) (sign_and_magnitude n) x) in
     let second = near_to s (unsigned_abs n) d r h (subst (λ t. Near t d r) (sign_and_magnitude n) y) in
     first.is ∙ ap (signed s)
-        (near_magnitude_unique (unsigned_abs n) d first.magnitude second.magnitude first.rounded second.rounded)
-            ∙ sym second.is
+    (near_magnitude_unique (unsigned_abs n) d first.magnitude second.magnitude first.rounded second.rounded)
+    ∙ sym second.is
 
 -- and `near` is that number
 pub near_is : (n : ℤ) (d : ℕ) → 0 < d → Near n d (near n d)
@@ -139,7 +139,7 @@ up_unique n d q r h x y =
     let none : ⊥ = omega (arith, ints) in
     none in
     by_lt_z q r (λ less. absurd (apart q r less x y))
-        (λ not_less. by_lt_z r q (λ more. absurd (apart r q more y x)) (λ not_more. omega (arith, ints)))
+    (λ not_less. by_lt_z r q (λ more. absurd (apart r q more y x)) (λ not_more. omega (arith, ints)))
 
 pub up_is : (n : ℤ) (d : ℕ) → 0 < d → Up n d (up n d)
 unfolding up

@@ -1,9 +1,10 @@
 -- A padded text, piece by piece.
-use Rattle.std.proofs.Common.{◌≡◌, ◌≢◌, ℕ, ◌+◌, ◌-◌, ◌≤◌, Bool, true, false, List, [], ◌∷◌, ◌++◌, length, get_or, take,
-    drop, refl, sym, ap, ◌∙◌, arith, append_assoc, length-append, length-drop, max, ◌==◌}
+use Rattle.std.proofs.Common.{◌≡◌, ◌≢◌, ℕ, ◌+◌, ◌-◌, ◌<◌, ◌≤◌, Bool, true, false, List, [], ◌∷◌, ◌++◌, length, get_or}
+use Rattle.std.proofs.Common.{take, drop, refl, sym, ap, ◌∙◌, arith, append_assoc, length-append, length-drop, max}
+use Rattle.std.proofs.Common.{◌==◌}
 use Rattle.std.specs.Prelude.{replicate}
 use Rattle.std.proofs.lemmas.Bool.{cond_both, ne_eqb}
-use Rattle.std.proofs.lemmas.List.{take_at, drop_at, drop-drop, length-replicate}
+use Rattle.std.proofs.lemmas.List.{append-nil, take_at, drop_at, drop_all, drop-drop, length-replicate}
 use Rattle.std.proofs.Math.Dec.{eqb}
 use Rattle.font_decimal.specs.Padding.{shown_sign, unsigned_body, spare_in_front, laid_out, padded_text, FillsFront}
 use Rattle.font_decimal.specs.declared.padding.Align.{Align}
@@ -45,9 +46,9 @@ laid_length pad sign body spare =
     let within = front_within pad.align spare in
     cond_both pad.zeros _ _ (λ xs. length xs ≡ length sign + length body + spare)
     (λ _. length-append sign _ ∙ ap (λ n. length sign + n) (length-append (replicate spare 48) body)
-        ∙ rw (copies spare 48) (omega arith))
+    ∙ rw (copies spare 48) (omega arith))
     (λ _. sum_length (replicate front pad.fill) sign body (replicate (spare - front) pad.fill)
-        ∙ rw (copies front pad.fill, copies (spare - front) pad.fill) (omega arith))
+    ∙ rw (copies front pad.fill, copies (spare - front) pad.fill) (omega arith))
 
 -- a padded text has the width that is asked for, or the text's own length where that is greater
 pub padded_length : (text : List ℕ) (pad : Pad) → length (padded_text text pad) ≡ max
@@ -67,9 +68,11 @@ put_behind done bytes old out new at n end front long last e =
     let taken : take at out ≡ done = ap (take at) front.bytes ∙ take_at done (drop at old) at (sym count) in
     let behind : drop at out ≡ drop at old = ap (drop at) front.bytes ∙ drop_at done (drop at old) at (sym count) in
     let rest : drop (at + n) out ≡ drop (at + n) old = sym (drop-drop n at out) ∙ ap (drop n) behind
-        ∙ drop-drop n at old in
-    record { count = omega (arith, length-append done bytes);
-        bytes = e ∙ rw (taken, rest, last) (sym (append_assoc done bytes (drop (at + n) old))) }
+    ∙ drop-drop n at old in
+    record {
+      count = omega (arith, length-append done bytes);
+      bytes = e ∙ rw (taken, rest, last) (sym (append_assoc done bytes (drop (at + n) old)));
+    }
 
 pub nothing_yet : (old : List ℕ) → FillsFront [] 0 old old
 nothing_yet old = record { count = refl; bytes = refl }
@@ -88,19 +91,28 @@ pieces text pad sign body shown_len a z b sign_is body_is shown_is laid =
     let nested : (((([] ++ replicate a pad.fill) ++ sign) ++ replicate z 48) ++ body) ++ replicate b pad.fill
     ≡ replicate a pad.fill ++ (sign ++ (replicate z 48 ++ (body ++ replicate b pad.fill))) = simp append_assoc in
     let there : laid_out pad sign body (shown_len - (length sign + length body)) ≡ padded_text text pad = rw
-        (spare, sign_is, body_is) in
+    (spare, sign_is, body_is) in
     nested ∙ sym laid ∙ there
 
 shown_sign_length : (plus : Bool) (text : List ℕ) → length (shown_sign plus text) ≤ 1
 shown_sign_length plus text = cond_both (get_or text 0 0 == 45) _ _ (λ xs. length xs ≤ 1) (λ _. omega arith)
     (λ _. cond_both plus _ _ (λ xs. length xs ≤ 1) (λ _. omega arith) (λ _. omega arith))
 
-body_length : (text : List ℕ) → length (unsigned_body text) ≤ length text
-body_length text = cond_both (get_or text 0 0 == 45) _ _ (λ xs. length xs ≤ length text)
-    (λ _. omega (arith, length-drop 1 text)) (λ _. omega arith)
+pub length-unsigned_body-le : (text : List ℕ) → length (unsigned_body text) ≤ length text
+length-unsigned_body-le text =
+    cond_both (get_or text 0 0 == 45) _ _ (λ xs. length xs ≤ length text) (λ _. omega (arith, length-drop 1 text))
+    (λ _. omega arith)
 
--- a text of at most 22 bytes fits, padded, a cell of 23 bytes that is as wide as is asked for
-pub padded_fits : (text : List ℕ) (pad : Pad) (n : ℕ) → length text ≤ 22 → max 23 pad.width ≤ n
+-- a text whose body is shorter than a cell fits it, padded, where the cell is as wide as is asked for: no sign has more
+-- than a byte
+pub padded_fits : (text : List ℕ) (pad : Pad) (room n : ℕ) → length (unsigned_body text) < room → max room pad.width ≤ n
     → length (padded_text text pad) ≤ n
-padded_fits text pad n short room = omega
-    (arith, padded_length text pad, shown_sign_length pad.plus text, body_length text)
+padded_fits text pad room n short enough = omega (arith, padded_length text pad, shown_sign_length pad.plus text)
+
+-- a list no longer than the width that is filled by a padded text is that text
+pub fills_all : (text : List ℕ) (pad : Pad) (n : ℕ) (old new : List ℕ) → FillsFront (padded_text text pad) n old new
+    → length old ≤ pad.width
+    → new ≡ padded_text text pad
+fills_all text pad n old new front narrow =
+    let rest : drop n old ≡ [] = drop_all n old (omega (arith, padded_length text pad, front.count)) in
+    front.bytes ∙ ap (λ xs. padded_text text pad ++ xs) rest ∙ append-nil (padded_text text pad)

@@ -1,6 +1,6 @@
 -- The parts of a text, as they are found from its front.
-use Rattle.std.proofs.Common.{◌≡◌, ◌≢◌, ℕ, zero, suc, ◌<◌, ◌≤◌, Bool, true, false, List, [], ◌∷◌, ◌++◌, length, get_or,
-    take, drop, refl, sym, ap, ◌∙◌, arith}
+use Rattle.std.proofs.Common.{◌≡◌, ◌≢◌, ℕ, zero, suc, ◌<◌, ◌≤◌, Bool, true, false, List, [], ◌∷◌, ◌++◌, length, get_or}
+use Rattle.std.proofs.Common.{take, drop, refl, sym, ap, ◌∙◌, arith}
 use Rattle.std.proofs.Math.Seq.{take-append_seam, drop-append_seam}
 use Rattle.std.proofs.lemmas.List.{take-append-drop, length-take-le}
 use Rattle.std.specs.Str.Parse.{AllDigits}
@@ -39,7 +39,7 @@ split_parts text w e len parts digits within end =
     let is : text ≡ all = parts.written in
     let ending = rw is at end in
     let count = digits_end w (fraction_text e) len parts.whole_digits.1 (no_digit e) (rw is at digits)
-        (rw is at within) ending in
+    (rw is at within) ending in
     record {
       front = rw (is, count) (take-append_seam w (fraction_text e));
       back = rw (is, count) (drop-append_seam w (fraction_text e));

@@ -1,24 +1,28 @@
 -- What callers rely on of printed texts.
-use Rattle.std.proofs.Common.{◌≡◌, ◌≢◌, ℕ, zero, suc, ◌+◌, ◌/◌, ◌%◌, ◌^◌, ◌<◌, ◌≤◌, Bool, true, false, List, [], ◌∷◌,
-    ◌++◌, length, get_or, ℤ, pos, refl, sym, ap, subst, ◌∙◌, arith, append_assoc, length-append}
+use Rattle.std.proofs.Common.{◌≡◌, ◌≢◌, ℕ, zero, suc, ◌+◌, ◌*◌, ◌/◌, ◌%◌, ◌^◌, ◌<◌, ◌≤◌, Bool, true, false, List, []}
+use Rattle.std.proofs.Common.{◌∷◌, ◌++◌, length, get_or, ℤ, pos, refl, sym, ap, subst, ◌∙◌, arith, append_assoc}
+use Rattle.std.proofs.Common.{length-append}
 use Rattle.std.specs.Prelude.{◌≤ℤ◌, unsigned_abs, Result, Ok}
 use Rattle.std.specs.Int.{is_negative}
 use Rattle.std.specs.Fmt.{decimal, sign_text}
 use Rattle.std.specs.Str.{IsAscii}
 use Rattle.std.specs.Str.Parse.{AllDigits}
-use Rattle.std.proofs.Math.Nat.{pow-suc, mul_comm, div-div-eq-div-mul, div-one}
+use Rattle.std.proofs.Math.Nat.{pow-suc, mul_comm, div-div-eq-div-mul, div-one, le_trans}
 use Rattle.std.proofs.lemmas.Int.{ints}
 use Rattle.std.proofs.lemmas.List.{append-nil, same_from_push}
 use Rattle.std.proofs.lemmas.Fmt.{decimal_is_IsNumeral}
 use Rattle.std.proofs.lemmas.Str.Parse.{digit_from_value}
 use Rattle.font_decimal.specs.Grammar.{HasParts, IsDecimal, Plain, fraction_text}
 use Rattle.font_decimal.specs.Reading.{Rounds, Reads, IsReading}
-use Rattle.font_decimal.specs.Shortest.{IsShortest, nearest_numeral, fewest_places, last_digits, shortest_text}
+use Rattle.font_decimal.specs.Padding.{unsigned_body}
+use Rattle.font_decimal.specs.Shortest.{IsShortest, nearest_numeral, fewest_places, last_digits, decimal_text}
+use Rattle.font_decimal.specs.Shortest.{shortest_text}
 use Rattle.font_decimal.specs.declared.reader.DecimalFault.{DecimalFault}
 use Rattle.font_decimal.proofs.Texts.{same_parts, decimal_unique, decimal_of, decimal_is_ascii}
 use Rattle.font_decimal.proofs.Readings.{rounds_unique, reading_unique}
 use Rattle.font_decimal.proofs.Fewest.{IsFewest, fewest_is, zero_drops, unit_below}
-use Rattle.font_decimal.proofs.Written.{shortest_is, whole_fits, digits_fit, point_length}
+use Rattle.font_decimal.proofs.Written.{shortest_is, whole_fits, digits_fit, point_length, length-decimal_text-le}
+use Rattle.font_decimal.proofs.Padded.{length-unsigned_body-le}
 
 -- a shortest text is in the grammar
 pub shortest_is_decimal : (b : ℤ) (f : ℕ) (text : List ℕ) → IsShortest b f text → IsDecimal text
@@ -39,7 +43,7 @@ pub printed_is_read : (b : ℤ) (f : ℕ) (min max : ℤ) (r : Result ℤ Decima
     → IsReading (shortest_text b f) f min max r → r ≡ Ok b
 printed_is_read b f min max r small low high x =
     let own : Reads (shortest_text b f) f min max b = record
-        { rounds = printed_rounds b f small; low = low; high = high } in
+    { rounds = printed_rounds b f small; low = low; high = high } in
     reading_unique (shortest_text b f) f min max r (Ok b) x own
 
 -- distinct values print distinct texts
@@ -70,7 +74,7 @@ last_is : (p n : ℕ) → last_digits (suc p) n ≡ last_digits p (n / 10) ++ ((
 last_is zero n = rw div-one
 last_is (suc p) n =
     let front : n / 10 ^ suc p ≡ n / 10 / 10 ^ p = ap (λ d. n / d) (pow-suc 10 p ∙ mul_comm (10 ^ p) 10) ∙ sym
-        (div-div-eq-div-mul n 10 (10 ^ p)) in
+    (div-div-eq-div-mul n 10 (10 ^ p)) in
     rw front (ap (λ ds. (48 + n / 10 / 10 ^ p % 10) ∷ ds) (last_is p n))
 
 no_point_at : (ds : List ℕ) (i : ℕ) → AllDigits 10 ds → get_or ds i 0 ≢ 46
@@ -93,9 +97,9 @@ last_byte s whole p n front e =
     let fraction : fraction_text (last_digits (suc p) n) ≡ before ++ last = ap (λ ds. 46 ∷ ds) (last_is p n) in
     let regroup : sign_text s ++ (whole ++ (before ++ last)) ≡ (sign_text s ++ (whole ++ before)) ++ last =
     sym (append_assoc (sign_text s) (whole ++ before) last
-        ∙ ap (λ xs. sign_text s ++ xs) (append_assoc whole before last)) in
+    ∙ ap (λ xs. sign_text s ++ xs) (append_assoc whole before last)) in
     let ends = same_from_push (sign_text s ++ (whole ++ before)) front (48 + n % 10) 48
-        (sym regroup ∙ sym (ap (λ xs. sign_text s ++ (whole ++ xs)) fraction) ∙ e) in
+    (sym regroup ∙ sym (ap (λ xs. sign_text s ++ (whole ++ xs)) fraction) ∙ e) in
     let same = ends.1 in
     omega arith
 
@@ -115,23 +119,39 @@ unfolding shortest_text
 zero_ends_no_fraction b f i front small e =
     let m = unsigned_abs b in
     ends_or_whole (is_negative b) m f (fewest_places m f) i front (fewest_is m f)
-        (whole_fits m f (fewest_places m f) small) e
+    (whole_fits m f (fewest_places m f) small) e
 
-sign_text_length : (s : Bool) → length (sign_text s) ≤ 1
-sign_text_length true = omega arith
-sign_text_length false = omega arith
+-- ---- how long a printed text is without its `-`
 
--- and each printed text is at most 22 bytes long
-pub shortest_length : (b : ℤ) (f : ℕ) → unsigned_abs b ≤ 2 ^ 63 → f ≤ 30 → length (shortest_text b f) ≤ 22
+length-signed_body-le : (s : Bool) (body : List ℕ) → length (unsigned_body (sign_text s ++ body)) ≤ length body
+length-signed_body-le true body = omega arith
+length-signed_body-le false body = length-unsigned_body-le body
+
+-- at most 21 bytes, whatever the fraction
+pub length-shortest_body-lt : (b : ℤ) (f : ℕ) → unsigned_abs b ≤ 2 ^ 63 → f ≤ 30
+    → length (unsigned_body (shortest_text b f)) < 22
 unfolding shortest_text
-shortest_length b f small few =
+length-shortest_body-lt b f small few =
     let m = unsigned_abs b in
     let p = fewest_places m f in
     let n = nearest_numeral m f p in
     let whole : List ℕ = decimal (n / 10 ^ p) in
     let digits = digits_fit m f p small few (unit_below m f p (fewest_is m f).before) in
-    let all : length (sign_text (is_negative b) ++ (whole ++ fraction_text (last_digits p n))) ≡ length
-        (sign_text (is_negative b)) + (length whole + length (fraction_text (last_digits p n))) =
-    length-append (sign_text (is_negative b)) _ ∙ ap (λ k. length (sign_text (is_negative b)) + k)
-        (length-append whole _) in
-    omega (arith, all, point_length p n, sign_text_length (is_negative b))
+    let all = length-append whole (fraction_text (last_digits p n)) in
+    omega (
+      arith,
+      all,
+      point_length p n,
+      length-signed_body-le (is_negative b) (whole ++ fraction_text (last_digits p n)),
+    )
+
+-- the digits of the whole part, a point, and the places
+pub length-shortest_body-le : (b : ℤ) (f digits places : ℕ) → unsigned_abs b ≤ 2 ^ 63 → 0 < digits
+    → unsigned_abs b < 10 ^ digits * 2 ^ f → 2 ^ f < 10 ^ places
+    → length (unsigned_body (shortest_text b f)) ≤ digits + places + 1
+unfolding shortest_text
+length-shortest_body-le b f digits places small some within steps =
+    let m = unsigned_abs b in
+    let p = fewest_places m f in
+    le_trans (length-signed_body-le (is_negative b) (decimal_text (nearest_numeral m f p) p))
+    (length-decimal_text-le m f digits places small some within steps)

@@ -1,6 +1,6 @@
 -- Each text has just one reading: a value, out of range, or no decimal.
-use Rattle.std.proofs.Common.{◌≡◌, ℕ, ◌+◌, ◌-◌, ◌*◌, ◌/◌, ◌^◌, ◌<◌, ◌≤◌, ◌↔◌, ◌⊎◌, inl, inr, Bool, true, false, List,
-    ◌++◌, length, take, min, ℤ, pos, refl, sym, ap, subst, ◌∙◌, arith}
+use Rattle.std.proofs.Common.{◌≡◌, ℕ, ◌+◌, ◌-◌, ◌*◌, ◌/◌, ◌^◌, ◌<◌, ◌≤◌, ◌↔◌, ◌⊎◌, inl, inr, Bool, true, false, List}
+use Rattle.std.proofs.Common.{◌++◌, length, take, min, ℤ, pos, refl, sym, ap, subst, ◌∙◌, arith}
 use Rattle.std.specs.Prelude.{Option, Some, None, Result, Ok, Err, SomeIff, FitsSigned, ◌*ℤ◌, ◌≤ℤ◌}
 use Rattle.std.specs.Str.Parse.{digits_value}
 use Rattle.std.specs.Fmt.{sign_text}
@@ -69,9 +69,11 @@ steps_found f whole halves n digits e len few parts cut halves_are n_is =
     let w = take len digits in
     let rounded : (halves + 1) / 2 ≡ near_magnitude (kept_numeral (f + 1) e * 2 ^ f) (10 ^ (f + 1)) =
     ap (λ h. (h + 1) / 2) halves_are ∙ half_steps_halved f (kept_numeral (f + 1) e) in
-    let capped = steps_capped f (digits_value 10 w) whole ((halves + 1) / 2) few cut in
-    (digits_value 10 w * 2 ^ f + (halves + 1) / 2, rw n_is capped,
-        λ s. rw rounded (rounds_by (f + 1) f (sign_text s ++ digits) s w e (omega arith) (parts s)))
+    let capped = steps_capped f (digits_value 10 w) whole ((halves + 1) / 2) few cut in (
+      digits_value 10 w * 2 ^ f + (halves + 1) / 2,
+      rw n_is capped,
+      λ s. rw rounded (rounds_by (f + 1) f (sign_text s ++ digits) s w e (omega arith) (parts s)),
+    )
 
 -- what is read is in range, and no other number is read
 pub not_outside : (f : ℕ) (text : List ℕ) (min max b : ℤ) → Reads text f min max b → IsOutOfRange text f min max → ⊥
@@ -105,9 +107,11 @@ answers_as text f min max q r x =
 -- a text whose nearest number is judged by the range
 pub judged_by_range : (text : List ℕ) (f : ℕ) (min max b : ℤ) (r : Option ℤ) → Rounds text f b
     → SomeIff r ((min ≤ℤ b) × (b ≤ℤ max)) b → IsReading text f min max (ok_or r OutOfRange)
-judged_by_range text f min max b None rounds none = record
-    { nearest = b; rounds = rounds;
-        outside = by_lt_z b min inl (λ low. by_lt_z max b inr (λ high. absurd (none (low, high)))) }
+judged_by_range text f min max b None rounds none = record {
+  nearest = b;
+  rounds = rounds;
+  outside = by_lt_z b min inl (λ low. by_lt_z max b inr (λ high. absurd (none (low, high))));
+}
 judged_by_range text f min max b (Some c) rounds some = subst (λ v. Reads text f min max v) (sym some.1)
     (record { rounds = rounds; low = some.0.0; high = some.0.1 })
 

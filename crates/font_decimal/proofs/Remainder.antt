@@ -1,16 +1,16 @@
 -- What is left of a value m / 2^f behind its first p places.
-use Rattle.std.proofs.Common.{◌≡◌, ℕ, ◌+◌, ◌-◌, ◌*◌, ◌/◌, ◌%◌, ◌^◌, ◌<◌, ◌≤◌, inl, inr, false, ap, ◌∙◌, zero, suc,
-    arith, add-one}
+use Rattle.std.proofs.Common.{◌≡◌, ℕ, ◌+◌, ◌-◌, ◌*◌, ◌/◌, ◌%◌, ◌^◌, ◌<◌, ◌≤◌, inl, inr, false, ap, ◌∙◌, zero, suc}
+use Rattle.std.proofs.Common.{arith, add-one}
 use Rattle.std.specs.Prelude.{min}
 use Rattle.std.specs.Int.{abs_diff}
-use Rattle.std.proofs.Math.Nat.{pow-suc, div-add-mod', div-lt_iff_lt-mul, mod-lt, mul-le-mul_right,
-    add-mul-mod_self_left}
+use Rattle.std.proofs.Math.Nat.{pow-suc, div-add-mod', div-lt_iff_lt-mul, mod-lt, mul-le-mul_right}
+use Rattle.std.proofs.Math.Nat.{add-mul-mod_self_left}
 use Rattle.std.proofs.lemmas.Bool.{cases_lt}
 use Rattle.std.proofs.lemmas.Nat.{pow_pos}
 use Rattle.font_decimal.specs.Shortest.{nearest_numeral, reads_back, fewest_places}
 use Rattle.font_decimal.proofs.Near.{rounded_is, near_magnitude_unique}
-use Rattle.font_decimal.proofs.Fewest.{IsFewest, fewest_is, fewest_unique, reads_within, fails_past, zero_drops,
-    within_half}
+use Rattle.font_decimal.proofs.Fewest.{IsFewest, fewest_is, fewest_unique, reads_within, fails_past, zero_drops}
+use Rattle.font_decimal.proofs.Fewest.{within_half}
 
 -- m / 2^f cut off after p places is the numeral q, and of the last place rest / 2^(f+1) is left
 pub record HasRest (m f p q rest : ℕ) : Type 0 where
@@ -39,7 +39,7 @@ pub rounded_down : (m f p q rest : ℕ) → HasRest m f p q rest → rest < 2 ^ 
 rounded_down m f p q rest h low =
     let value = h.value in
     near_magnitude_unique (m * 10 ^ p) (2 ^ f) _ q (rounded_is (m * 10 ^ p) (2 ^ f) (pow_pos f))
-        (record { low = omega arith; high = omega arith })
+    (record { low = omega arith; high = omega arith })
 
 -- one more where half of the last place or more is left
 pub rounded_up : (m f p q rest : ℕ) → HasRest m f p q rest → 2 ^ f ≤ rest → nearest_numeral m f p ≡ q + 1
@@ -47,7 +47,7 @@ rounded_up m f p q rest h high =
     let value = h.value in
     let below = h.below in
     near_magnitude_unique (m * 10 ^ p) (2 ^ f) _ (q + 1) (rounded_is (m * 10 ^ p) (2 ^ f) (pow_pos f))
-        (record { low = omega arith; high = omega arith })
+    (record { low = omega arith; high = omega arith })
 
 -- the distance of the nearest numeral from the value, in the same parts of the last place
 pub distance : (m f p q rest : ℕ) → HasRest m f p q rest → 2 * abs_diff (nearest_numeral m f p * 2 ^ f) (m * 10 ^ p)
@@ -81,14 +81,14 @@ pub next_numeral : (m f p w n rest unit : ℕ) → HasRest m f p (w * 10 ^ p + n
 next_numeral m f p w n rest unit h is =
     let power : 10 ^ (p + 1) ≡ 10 ^ p * 10 = rw add-one (pow-suc 10 p) in
     let regroup : w * 10 ^ (p + 1) + (10 * n + 10 * rest / unit) ≡ 10 * (w * 10 ^ p + n) + 10 * rest / unit = rw power
-        (omega arith) in
+    (omega arith) in
     rw (regroup, is) (next_rest m f p (w * 10 ^ p + n) rest h)
 
 -- and its fraction has as many places as digits
 pub next_below : (n ten rest unit : ℕ) → n < ten → rest < unit → 10 * n + 10 * rest / unit < ten * 10
 next_below n ten rest unit low less =
     let digit : 10 * rest / unit < 10 = (div-lt_iff_lt-mul {k = unit} {x = 10 * rest} {y = 10} (omega arith)).1
-        (omega arith) in
+    (omega arith) in
     omega arith
 
 -- a numeral past the whole part above the value is half a step away or more

@@ -1,9 +1,9 @@
 -- The first digits of a fraction decide how it is rounded.
-use Rattle.std.proofs.Common.{◌≡◌, ℕ, ◌+◌, ◌-◌, ◌*◌, ◌/◌, ◌%◌, ◌^◌, ◌<◌, ◌≤◌, ◌⊎◌, inl, inr, List, ◌++◌, length, take,
-    min, refl, sym, ap, ◌∙◌, arith}
-use Rattle.std.proofs.Math.Nat.{mul-le-mul_left, mul-le-mul_right, le_of_mul-le-mul_left, lt_of_mul-lt-mul_left,
-    mul-div-mul_left, mul-div-mul_right, div-div-eq-div-mul, div-lt_iff_lt-mul, add-div_right, one-le-pow,
-    pow-le-pow_left, pow-le-pow_right, mod-eq_of_lt}
+use Rattle.std.proofs.Common.{◌≡◌, ℕ, ◌+◌, ◌-◌, ◌*◌, ◌/◌, ◌%◌, ◌^◌, ◌<◌, ◌≤◌, ◌⊎◌, inl, inr, List, ◌++◌, length, take}
+use Rattle.std.proofs.Common.{min, refl, sym, ap, ◌∙◌, arith}
+use Rattle.std.proofs.Math.Nat.{mul-le-mul_left, mul-le-mul_right, le_of_mul-le-mul_left, lt_of_mul-lt-mul_left}
+use Rattle.std.proofs.Math.Nat.{mul-div-mul_left, mul-div-mul_right, div-div-eq-div-mul, div-lt_iff_lt-mul}
+use Rattle.std.proofs.Math.Nat.{add-div_right, one-le-pow, pow-le-pow_left, pow-le-pow_right, mod-eq_of_lt}
 use Rattle.std.specs.Str.Parse.{digits_value, AllDigits}
 use Rattle.std.proofs.lemmas.List.{length-take-le}
 use Rattle.std.proofs.lemmas.Nat.{pow-add, mul-pow, pow_pos}
@@ -42,7 +42,7 @@ pub power_in_half_steps : (f p : ℕ) → f < p → 10 ^ p ≡ 2 * (2 ^ f * (2 ^
 power_in_half_steps f p h =
     let split : p ≡ 1 + f + (p - 1 - f) = omega arith in
     let powers : 2 ^ p ≡ 2 ^ 1 * 2 ^ f * 2 ^ (p - 1 - f) = ap (λ n. 2 ^ n) split ∙ rw
-        (pow-add 2 (1 + f) (p - 1 - f), pow-add 2 1 f) in
+    (pow-add 2 (1 + f) (p - 1 - f), pow-add 2 1 f) in
     mul-pow 2 5 p ∙ rw powers (omega arith)
 
 -- the half steps of a fraction, rounded down, decide the nearest number of whole steps
@@ -54,11 +54,11 @@ half_steps_halved f n =
     let unit : 10 ^ (f + 1) ≡ 2 * t * q = mul-pow 2 5 (f + 1) ∙ rw (pow-add 2 f 1) (omega arith) in
     let one_more : n / q + 1 ≡ (n + q) / q = sym (add-div_right n q_pos) in
     let scaled : 2 * t * (n + q) / (2 * t * (2 * q)) ≡ (n + q) / (2 * q) = mul-div-mul_left {m = 2 * t} (n + q) (2 * q)
-        (omega (arith, pow_pos f)) in
+    (omega (arith, pow_pos f)) in
     let above : 2 * (n * t) + 2 * t * q ≡ 2 * t * (n + q) = omega arith in
     let below : 2 * (2 * t * q) ≡ 2 * t * (2 * q) = omega arith in
     let halved : (n + q) / q / 2 ≡ (n + q) / (2 * q) = div-div-eq-div-mul (n + q) q 2 ∙ ap (λ m. (n + q) / m)
-        (let e : q * 2 ≡ 2 * q = omega arith in e) in
+    (let e : q * 2 ≡ 2 * q = omega arith in e) in
     rw (unit, above, below, scaled, one_more) halved
 
 -- a fraction below 1 has fewer half steps than there are in 1
@@ -97,7 +97,7 @@ half_steps_of_kept bits p places numeral power_of_five e kept late room places_a
     let missing : p - length e ≡ k = omega arith in
     let filled : places + k ≡ p = omega arith in
     let below : numeral * 2 ^ k < 10 ^ p = rw (first.1, front)
-        (shifted_below p places e digits (omega arith) (omega arith)) in
+    (shifted_below p places e digits (omega arith) (omega arith)) in
     let whole : numeral * 2 ^ k % 2 ^ bits ≡ numeral * 2 ^ k = mod-eq_of_lt (omega arith) in
     let divisor : power_of_five ≡ 5 ^ places = rw count at first.2 in
     (digits, rw (whole, divisor, fives_left_out numeral places k, filled, missing, sym taken, sym first.1) refl)
@@ -109,7 +109,7 @@ pub steps_capped : (f v whole r : ℕ) → f ≤ 30 → whole ≡ min v (2 ^ (63
 steps_capped f v whole r few cut =
     let t = 2 ^ f in
     let power : 2 ^ (63 - f) * t ≡ 2 ^ 63 = sym (pow-add 2 (63 - f) f) ∙ ap (λ n. 2 ^ n)
-        (let e : 63 - f + f ≡ 63 = omega arith in e) in
+    (let e : 63 - f + f ≡ 63 = omega arith in e) in
     elim (cases_lt (2 ^ (63 - f)) v) [
       | inl large ↦
           let marked : whole ≡ 2 ^ (63 - f) + 1 = omega arith in
@@ -130,7 +130,7 @@ pub steps_fit : (f whole halves v : ℕ) → f ≤ 30 → whole ≡ min v (2 ^ (
 steps_fit f whole halves v few cut below =
     let t = 2 ^ f in
     let power : 2 ^ (63 - f) * t ≡ 2 ^ 63 = sym (pow-add 2 (63 - f) f) ∙ ap (λ n. 2 ^ n)
-        (let e : 63 - f + f ≡ 63 = omega arith in e) in
+    (let e : 63 - f + f ≡ 63 = omega arith in e) in
     let small : t ≤ 2 ^ 30 = pow-le-pow_right {n = 2} (omega arith) {i = f} {j = 30} few in
     let twice : 2 ^ (f + 1) ≡ t * 2 = pow-add 2 f 1 in
     let most : whole * t ≤ (2 ^ (63 - f) + 1) * t = mul-le-mul_right t (omega arith) in

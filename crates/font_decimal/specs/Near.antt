@@ -1,8 +1,8 @@
 -- Rounding a fraction to a whole number. A fixed-point number of f bits of fraction stands for its bits over 2^f
 -- (OpenType, data types: Fixed, F2DOT14), so that reading, printing and arithmetic are all roundings of an exact
 -- fraction n / d with 0 < d.
-use Rattle.std.specs.Prelude.{◌≡◌, ℕ, suc, ◌+◌, ◌*◌, ◌/◌, ◌<◌, ◌≤◌, Bool, true, false, ℤ, pos, negsuc, neg_ℤ, ◌+ℤ◌,
-    ◌-ℤ◌, ◌*ℤ◌, ◌≤ℤ◌, ◌<ℤ◌, unsigned_abs}
+use Rattle.std.specs.Prelude.{◌≡◌, ℕ, suc, ◌+◌, ◌*◌, ◌/◌, ◌<◌, ◌≤◌, Bool, true, false, ℤ, pos, negsuc, neg_ℤ, ◌+ℤ◌}
+use Rattle.std.specs.Prelude.{◌-ℤ◌, ◌*ℤ◌, ◌≤ℤ◌, ◌<ℤ◌, unsigned_abs}
 
 -- the number of this magnitude, negated where `negative` says so
 abbrev pub signed : Bool → ℕ → ℤ

@@ -1,6 +1,6 @@
 -- A decimal text in a field of some width. These rules are the project's own.
-use Rattle.std.specs.Prelude.{◌≡◌, ℕ, ◌+◌, ◌-◌, ◌/◌, Bool, List, [], ◌∷◌, ◌++◌, length, drop, replicate, slice_index,
-    ◌==◌, if◌then◌else◌}
+use Rattle.std.specs.Prelude.{◌≡◌, ℕ, ◌+◌, ◌-◌, ◌/◌, Bool, List, [], ◌∷◌, ◌++◌, length, drop, replicate, slice_index}
+use Rattle.std.specs.Prelude.{◌==◌, if◌then◌else◌}
 use Rattle.font_decimal.specs.declared.padding.Align.{Align}
 use Rattle.font_decimal.specs.declared.padding.Align.TheVariants.{Left, Right, Center}
 use Rattle.font_decimal.specs.declared.padding.Pad.{Pad}

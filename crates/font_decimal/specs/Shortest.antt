@@ -1,6 +1,6 @@
 -- The shortest decimal of a value b / 2^f: of all that read back to it the nearest with the fewest fractional digits.
-use Rattle.std.specs.Prelude.{ℕ, zero, suc, ◌+◌, ◌*◌, ◌/◌, ◌%◌, ◌^◌, ◌<◌, Bool, List, [], ◌∷◌, ◌++◌, ℤ, pos, ◌*ℤ◌,
-    unsigned_abs, nat_lt, if◌then◌else◌}
+use Rattle.std.specs.Prelude.{ℕ, zero, suc, ◌+◌, ◌*◌, ◌/◌, ◌%◌, ◌^◌, ◌<◌, Bool, List, [], ◌∷◌, ◌++◌, ℤ, pos, ◌*ℤ◌}
+use Rattle.std.specs.Prelude.{unsigned_abs, nat_lt, if◌then◌else◌}
 use Rattle.std.specs.Int.{is_negative, abs_diff}
 use Rattle.std.specs.Fmt.{decimal, sign_text}
 use Rattle.font_decimal.specs.Near.{Near, near_magnitude}

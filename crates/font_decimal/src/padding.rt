@@ -63,6 +63,8 @@ pub fn write_padded(text: &str, out: &mut [u8], pad: &Pad) -> Option<usize>
     ensures written { IfSome result
         (λ n. FillsFront (padded_text text.now pad.now) n out.old out.new) }
     ensures room { IsSome result ↔ (length (padded_text text.now pad.now) ≤ length out.old) }
+    ensures fills { length out.old ≤ pad.now.width
+        → IfSome result (λ _. out.new ≡ padded_text text.now pad.now) }
     ensures untouched { IfNone result (out.new ≡ out.old) }
 {
     let (sign, body) = shown_parts(text, pad.plus);

@@ -1,7 +1,7 @@
 -- What callers of `Fixed` name once: products and quotients by 0 and by 1, sums with 0, differences, a number over
 -- itself, a part of a whole, and wrapping of what fits.
-use Rattle.std.proofs.Common.{◌≡◌, ◌≢◌, ◌∙◌, ap, refl, arith, lit<, ℕ, zero, suc, ◌*◌, ◌<◌, ◌≤◌, ℤ, pos, negsuc, ◌+ℤ◌,
-    ◌-ℤ◌, ◌*ℤ◌, ◌≤ℤ◌, w32, false, inl, inr}
+use Rattle.std.proofs.Common.{◌≡◌, ◌≢◌, ◌∙◌, ap, refl, arith, lit<, ℕ, zero, suc, ◌*◌, ◌<◌, ◌≤◌, ℤ, pos, negsuc, ◌+ℤ◌}
+use Rattle.std.proofs.Common.{◌-ℤ◌, ◌*ℤ◌, ◌≤ℤ◌, w32, false, inl, inr}
 use Rattle.std.proofs.lemmas.Bool.{cases_lt}
 use Rattle.std.proofs.lemmas.Int.{ints}
 use mir.Val.{SFits}
@@ -70,7 +70,7 @@ ratio_bounds (pos x) (pos zero) r quotient low high some = absurd (some refl)
 ratio_bounds (pos x) (pos (suc d)) r quotient low high some =
     let rounded = near_to false (x * 65536) (suc d) quotient.exact (omega arith) quotient.nearest in
     let bound = share_is_at_most_one x (suc d) rounded.magnitude (omega arith)
-        (omega (arith, ints, high)) rounded.rounded in
+    (omega (arith, ints, high)) rounded.rounded in
     let same : r ≡ pos rounded.magnitude =
     quotient.wrapped ∙ ap (wrap 32) rounded.is ∙ fits_32 (pos rounded.magnitude) (omega (arith, ints, bound)) in
     (omega (arith, ints, same), omega (arith, ints, same, bound))

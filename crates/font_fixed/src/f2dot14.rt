@@ -177,7 +177,9 @@ impl F2Dot14 {
             (λ n. FillsFront (padded_text (f2dot14_text self) pad.now) n out.old out.new) }
         ensures room { IsSome result
             ↔ (length (padded_text (f2dot14_text self) pad.now) ≤ length out.old) }
-        ensures cell { max 23 pad.now.width ≤ length out.old → IsSome result }
+        ensures cell { max 8 pad.now.width ≤ length out.old → IsSome result }
+        ensures fills { length out.old ≤ pad.now.width
+            → IfSome result (λ _. out.new ≡ padded_text (f2dot14_text self) pad.now) }
         ensures untouched { IfNone result (out.new ≡ out.old) }
     {
         font_decimal::write_padded(self.shortest().as_str(), out, pad)

@@ -1,6 +1,6 @@
 -- How far rounding moves a point from its exact image, over exact sums of rounded products.
-use Rattle.std.proofs.Common.{◌≡◌, ◌∙◌, sym, ap, refl, ℕ, ◌+◌, ◌*◌, ◌^◌, ◌≤◌, ℤ, pos, ◌+ℤ◌, ◌-ℤ◌, ◌*ℤ◌, unsigned_abs,
-    lit<, arith}
+use Rattle.std.proofs.Common.{◌≡◌, ◌∙◌, sym, ap, refl, ℕ, ◌+◌, ◌*◌, ◌^◌, ◌≤◌, ℤ, pos, ◌+ℤ◌, ◌-ℤ◌, ◌*ℤ◌, unsigned_abs}
+use Rattle.std.proofs.Common.{lit<, arith}
 use Rattle.std.proofs.Math.IntN.{*ℤ_comm}
 use Rattle.font_decimal.specs.Near.{near}
 use Rattle.font_decimal.proofs.Near.{near_is}
@@ -63,7 +63,7 @@ flipped_close : (e : ℕ) (u exact x : ℤ) → Close e (finer u) exact → Clos
     (finer (finer (rounded_product x u))) (x *ℤ exact)
 flipped_close e u exact x close =
     Close-along (32768 * 65536 + e * unsigned_abs x) (ap (λ n. finer (finer (near n 65536))) (*ℤ_comm u x))
-        (*ℤ_comm exact x) (product_close e u exact x close)
+    (*ℤ_comm exact x) (product_close e u exact x close)
 
 -- the second level over three parts that are near
 sum_close : (a b c : ℕ) (u v w exact_u exact_v exact_w : ℤ) → Close a (finer (finer u)) exact_u
@@ -71,7 +71,7 @@ sum_close : (a b c : ℕ) (u v w exact_u exact_v exact_w : ℤ) → Close a (fin
     → Close (a + b + c) (pos (2 ^ 32) *ℤ (u +ℤ v +ℤ w)) (exact_u +ℤ exact_v +ℤ exact_w)
 sum_close a b c u v w exact_u exact_v exact_w p q r =
     Close-along (a + b + c) (sym (finest-sum u v w) ∙ finest_is (u +ℤ v +ℤ w)) refl
-        (Close-add (a + b) c _ _ _ _ (Close-add a b _ _ _ _ p q) r)
+    (Close-add (a + b) c _ _ _ _ (Close-add a b _ _ _ _ p q) r)
 
 -- a distance, and a bound that it does not pass
 within : (d e : ℕ) {a b : ℤ} → d ≤ e → Close d a b → unsigned_abs (a -ℤ b) ≤ e
@@ -87,7 +87,7 @@ shift_finer p q d e f =
     finer-sum (linear_form ◌+ℤ◌ ◌*ℤ◌ p e q f) (pos 65536 *ℤ d)
     ∙ ap (λ n. n +ℤ finer (pos 65536 *ℤ d))
     (finer-sum (p *ℤ e) (q *ℤ f) ∙ ap (λ n. n +ℤ finer (q *ℤ f)) (into p e)
-        ∙ ap (λ n. (p *ℤ (pos 65536 *ℤ e)) +ℤ n) (into q f))
+    ∙ ap (λ n. (p *ℤ (pos 65536 *ℤ e)) +ℤ n) (into q f))
     ∙ ap (λ n. linear +ℤ n) (ap finer (*ℤ_comm (pos 65536) d) ∙ finest_is d)
   where
     into : (a b : ℤ) → finer (a *ℤ b) ≡ (a *ℤ (pos 65536 *ℤ b))
@@ -96,7 +96,7 @@ shift_finer p q d e f =
 pub composed_close : (p q d : ℤ) (b : Matrix ℤ) (at : Point ℤ) →
     IsWithin (65536 * (unsigned_abs at.x + unsigned_abs at.y + 2 * 65536)) (exact_coordinate p q d b at)
     (affine_form ◌+ℤ◌ rounded_product (linear_form ◌+ℤ◌ rounded_product p b.xx q b.yx) at.x
-        (linear_form ◌+ℤ◌ rounded_product p b.xy q b.yy) at.y
+    (linear_form ◌+ℤ◌ rounded_product p b.xy q b.yy) at.y
     (affine_form ◌+ℤ◌ rounded_product p b.dx q b.dy d))
 composed_close p q d b at =
     let u = linear_form ◌+ℤ◌ rounded_product p b.xx q b.yx in
@@ -109,7 +109,7 @@ composed_close p q d b at =
     let second = product_close 65536 v exact_v at.y (linear_close p b.xy q b.yy) in
     let third = Close-times 65536 (finer w) exact_w (pos 65536) (affine_close p b.dx q b.dy d) in
     let all = sum_close _ _ _ (rounded_product u at.x) (rounded_product v at.y) w (exact_u *ℤ at.x) (exact_v *ℤ at.y)
-        (finer exact_w) first second third in
+    (finer exact_w) first second third in
     let same : ((exact_u *ℤ at.x) +ℤ (exact_v *ℤ at.y) +ℤ finer exact_w) ≡ exact_coordinate p q d b at =
     ap (λ n. (exact_u *ℤ at.x) +ℤ (exact_v *ℤ at.y) +ℤ n) (shift_finer p q d b.dx b.dy)
     ∙ affine_form-affine_form integers p q (pos (2 ^ 32) *ℤ d) b.xx b.yx b.xy b.yy (pos 65536 *ℤ b.dx)
@@ -119,7 +119,7 @@ composed_close p q d b at =
 pub in_turn_close : (p q d : ℤ) (b : Matrix ℤ) (at : Point ℤ) →
     IsWithin (65536 * (unsigned_abs p + unsigned_abs q + 65536)) (exact_coordinate p q d b at)
     (affine_form ◌+ℤ◌ rounded_product p (image_of ◌+ℤ◌ rounded_product b at).x q (image_of ◌+ℤ◌ rounded_product b at).y
-        d)
+    d)
 in_turn_close p q d b at =
     let u = affine_form ◌+ℤ◌ rounded_product b.xx at.x b.xy at.y b.dx in
     let v = affine_form ◌+ℤ◌ rounded_product b.yx at.x b.yy at.y b.dy in
@@ -129,5 +129,5 @@ in_turn_close p q d b at =
     let second = flipped_close 65536 v exact_v q (affine_close b.yx at.x b.yy at.y b.dy) in
     let third = Close-along 0 refl (finest_is d) (Close-same (finer (finer d))) in
     within _ _ (omega arith)
-        (sum_close _ _ 0 (rounded_product p u) (rounded_product q v) d (p *ℤ exact_u) (q *ℤ exact_v) (pos (2 ^ 32) *ℤ d)
-            first second third)
+    (sum_close _ _ 0 (rounded_product p u) (rounded_product q v) d (p *ℤ exact_u) (q *ℤ exact_v) (pos (2 ^ 32) *ℤ d)
+    first second third)

@@ -17,7 +17,7 @@ wrapped-affine_form : (p x q y d : ℤ) → affine_form wrapped_sum wrapped_prod
     (affine_form ◌+ℤ◌ rounded_product p x q y d)
 wrapped-affine_form p x q y d =
     ap (λ n. wrapped_sum n d) (wrapped-linear_form p x q y) ∙ wrap-add_left 32
-        (linear_form ◌+ℤ◌ rounded_product p x q y) d (lit< tt)
+    (linear_form ◌+ℤ◌ rounded_product p x q y) d (lit< tt)
 
 linear_fits : (p x q y : ℤ) → FitsBits 32 (linear_form ◌+ℤ◌ rounded_product p x q y)
     → linear_form wrapped_sum wrapped_product p x q y ≡ linear_form ◌+ℤ◌ rounded_product p x q y

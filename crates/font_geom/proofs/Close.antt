@@ -31,13 +31,13 @@ times_apart : (a b x : ℤ) → ((a *ℤ x) -ℤ (b *ℤ x)) ≡ ((a -ℤ b) *�
 times_apart a b x =
     let split : ((a -ℤ b) +ℤ b) ≡ a = omega (arith, sums) in
     let spread : (a *ℤ x) ≡ (((a -ℤ b) *ℤ x) +ℤ (b *ℤ x)) = ap (λ n. n *ℤ x) (sym split) ∙ integers.sum_times
-        (a -ℤ b) b x in
+    (a -ℤ b) b x in
     omega (arith, sums, spread)
 
 pub Close-times : (e : ℕ) (a b x : ℤ) → Close e a b → Close (e * unsigned_abs x) (a *ℤ x) (b *ℤ x)
 Close-times e a b x p =
     let size : unsigned_abs ((a *ℤ x) -ℤ (b *ℤ x)) ≡ unsigned_abs (a -ℤ b) * unsigned_abs x = ap unsigned_abs
-        (times_apart a b x) ∙ unsigned_abs-mul (a -ℤ b) x in
+    (times_apart a b x) ∙ unsigned_abs-mul (a -ℤ b) x in
     let scaled : unsigned_abs (a -ℤ b) * unsigned_abs x ≤ e * unsigned_abs x = mul-le-mul_right
-        (unsigned_abs x) p.distance in
+    (unsigned_abs x) p.distance in
     record { distance = omega (arith, size, scaled) }

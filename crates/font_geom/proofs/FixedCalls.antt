@@ -64,7 +64,7 @@ pub left_identity : {a identity r : Matrix Fixed} → FitsEach (FitsBits 32) (ma
     × (r ≡ a)
 left_identity {a} {identity} {r} fits is given =
     let value : matrix_bits r ≡ matrix_product wrapped_sum wrapped_product (identity_matrix (pos 0) (pos 65536))
-        (matrix_bits a) =
+    (matrix_bits a) =
     product_value given ∙ ap (λ m. matrix_product wrapped_sum wrapped_product (matrix_bits m) (matrix_bits a)) is in
     (value, same_matrix a r (value ∙ identity_times neutral (matrix_bits a) fits))
 
@@ -75,6 +75,6 @@ pub right_identity : {a identity r : Matrix Fixed} → FitsEach (FitsBits 32) (m
     × (r ≡ a)
 right_identity {a} {identity} {r} fits is given =
     let value : matrix_bits r ≡ matrix_product wrapped_sum wrapped_product (matrix_bits a)
-        (identity_matrix (pos 0) (pos 65536)) =
+    (identity_matrix (pos 0) (pos 65536)) =
     product_value given ∙ ap (λ m. matrix_product wrapped_sum wrapped_product (matrix_bits a) (matrix_bits m)) is in
     (value, same_matrix a r (value ∙ times_identity neutral (matrix_bits a) fits))

@@ -35,7 +35,7 @@ module _ {T : Type 0} {fits : T → Type 0} {zero one : T} {plus times : T → T
   shift_kept : (x y d : T) → fits x → fits y → fits d → affine_form plus times x zero y zero d ≡ d
   shift_kept x y d f g h =
       ap (λ n. plus n d) (ap (plus (times x zero)) (laws.times_zero y g) ∙ ap (λ n. plus n zero) (laws.times_zero x f)
-          ∙ laws.plus_zero zero laws.zero_fits)
+      ∙ laws.plus_zero zero laws.zero_fits)
       ∙ laws.zero_plus d h
 
   pub identity_times : (m : Matrix T) → FitsEach fits m → matrix_product plus times (identity_matrix zero one) m ≡ m

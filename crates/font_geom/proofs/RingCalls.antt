@@ -49,7 +49,7 @@ module _ {T : Type 0} {product sum : T → T → T → Type 0} {zero one : T} {p
       → (r ≡ matrix_product plus times (identity_matrix zero one) a) × (r ≡ a)
   left_identity {a} {identity} {r} is given =
       let value : r ≡ matrix_product plus times (identity_matrix zero one) a =
-          matrix_product_is answers identity a r given ∙ ap (λ m. matrix_product plus times m a) is in
+      matrix_product_is answers identity a r given ∙ ap (λ m. matrix_product plus times m a) is in
       (value, value ∙ identity_times neutral a (all_fit a))
 
   pub right_identity : {a identity r : Matrix T} → identity ≡ identity_matrix zero one
@@ -57,5 +57,5 @@ module _ {T : Type 0} {product sum : T → T → T → Type 0} {zero one : T} {p
       → (r ≡ matrix_product plus times a (identity_matrix zero one)) × (r ≡ a)
   right_identity {a} {identity} {r} is given =
       let value : r ≡ matrix_product plus times a (identity_matrix zero one) =
-          matrix_product_is answers a identity r given ∙ ap (matrix_product plus times a) is in
+      matrix_product_is answers a identity r given ∙ ap (matrix_product plus times a) is in
       (value, value ∙ times_identity neutral a (all_fit a))

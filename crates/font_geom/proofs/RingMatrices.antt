@@ -26,7 +26,7 @@ module _ {T : Type 0} {zero one : T} {plus times : T → T → T} (ring : RingLa
   -- of a row (p, q) and two columns, each times a number
   pub linear_form-linear_form : (p q r s t w u v : T) →
       linear_form plus times (linear_form plus times p r q s) u (linear_form plus times p t q w) v
-          ≡ linear_form plus times p (linear_form plus times r u t v) q (linear_form plus times s u w v)
+      ≡ linear_form plus times p (linear_form plus times r u t v) q (linear_form plus times s u w v)
   linear_form-linear_form p q r s t w u v =
       ap (λ x. plus x (times (linear_form plus times p t q w) v)) (scaled p r q s u)
       ∙ ap (plus (linear_form plus times p (times r u) q (times s u))) (scaled p t q w v)
@@ -37,7 +37,7 @@ module _ {T : Type 0} {zero one : T} {plus times : T → T → T} (ring : RingLa
   -- and with shifts
   pub affine_form-affine_form : (p q d r s t w e f u v : T) →
       affine_form plus times (linear_form plus times p r q s) u (linear_form plus times p t q w) v
-          (affine_form plus times p e q f d)
+      (affine_form plus times p e q f d)
       ≡ affine_form plus times p (affine_form plus times r u t v e) q (affine_form plus times s u w v f) d
   affine_form-affine_form p q d r s t w e f u v =
       let first = linear_form plus times r u t v in

@@ -11,8 +11,14 @@ use Rattle.font_geom.specs.Matrix.{image_of, matrix_product, FitsEach}
 
 -- the bits of each element, and of each coordinate
 abbrev pub matrix_bits : Matrix Fixed → Matrix ℤ
-matrix_bits m = record { xx = fixed_bits m.xx; yx = fixed_bits m.yx; xy = fixed_bits m.xy; yy = fixed_bits m.yy;
-    dx = fixed_bits m.dx; dy = fixed_bits m.dy }
+matrix_bits m = record {
+  xx = fixed_bits m.xx;
+  yx = fixed_bits m.yx;
+  xy = fixed_bits m.xy;
+  yy = fixed_bits m.yy;
+  dx = fixed_bits m.dx;
+  dy = fixed_bits m.dy;
+}
 
 abbrev pub point_bits : Point Fixed → Point ℤ
 point_bits p = record { x = fixed_bits p.x; y = fixed_bits p.y }

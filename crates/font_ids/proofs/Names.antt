@@ -1,6 +1,6 @@
 -- The predefined name ids, one by one.
-use Rattle.std.proofs.Common.{◌≡◌, ◌≢◌, ◌∙◌, sym, ap, refl, ℕ, ◌+◌, ◌≤◌, ◌⊎◌, inl, inr, Bool, true, ◌==◌, ◌||◌, nat_le,
-    nat_eq, List, ◌∷◌, filter, arith}
+use Rattle.std.proofs.Common.{◌≡◌, ◌≢◌, ◌∙◌, sym, ap, refl, ℕ, ◌+◌, ◌≤◌, ◌⊎◌, inl, inr, Bool, true, ◌==◌, ◌||◌, nat_le}
+use Rattle.std.proofs.Common.{nat_eq, List, ◌∷◌, filter, arith}
 use Rattle.std.proofs.lemmas.Bool.{agree_below_at, or_cases, eqb-true}
 use Rattle.std.specs.Cmp.Lexicographic.{pointwise, bytes_decides}
 use Rattle.font_ids.specs.NameId.{predefined_numbers}

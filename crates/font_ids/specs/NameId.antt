@@ -17,7 +17,7 @@ name_id_of number = record { 0 = number }
 abbrev pub names : List (ℕ × List ℕ)
 names =
     (0, codes "COPYRIGHT_NOTICE") ∷ (1, codes "FAMILY_NAME") ∷ (2, codes "SUBFAMILY_NAME") ∷ (3, codes "UNIQUE_ID")
-        ∷ (4, codes "FULL_NAME")
+    ∷ (4, codes "FULL_NAME")
     ∷ (5, codes "VERSION_STRING") ∷ (6, codes "POSTSCRIPT_NAME") ∷ (7, codes "TRADEMARK") ∷ (8, codes "MANUFACTURER")
     ∷ (9, codes "DESIGNER")
     ∷ (10, codes "DESCRIPTION") ∷ (11, codes "VENDOR_URL") ∷ (12, codes "DESIGNER_URL")

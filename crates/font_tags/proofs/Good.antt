@@ -1,11 +1,12 @@
 -- Good bytes, index by index, and where others go wrong.
-use Rattle.std.proofs.Common.{◌≡◌, ◌≢◌, ◌∙◌, sym, ap, subst, ℕ, ◌+◌, ◌-◌, ◌<◌, ◌≤◌, inl, inr, List, ◌++◌, length, take,
-    replicate, get_or, arith, min, refl, drop, Option, None, Some, unwrap_or, MatchOption, IsSomeAnd}
+use Rattle.std.proofs.Common.{◌≡◌, ◌≢◌, ◌∙◌, sym, ap, subst, ℕ, ◌+◌, ◌-◌, ◌<◌, ◌≤◌, inl, inr, List, ◌++◌, length, take}
+use Rattle.std.proofs.Common.{replicate, get_or, arith, min, refl, drop, Option, None, Some, unwrap_or, MatchOption}
+use Rattle.std.proofs.Common.{IsSomeAnd}
 use Rattle.std.specs.List.{AllWithin, HoldsAt}
 use Rattle.std.proofs.lemmas.Bool.{cases_lt}
-use Rattle.std.proofs.lemmas.List.{ext_get_or, length-take-le, length-append, length-replicate, get_or-take,
-    get_or_append_left, get_or-append_right, get_or-replicate, get_or-drop, length-drop, drop-replicate, append_assoc,
-    replicate-append-replicate}
+use Rattle.std.proofs.lemmas.List.{ext_get_or, length-take-le, length-append, length-replicate, get_or-take}
+use Rattle.std.proofs.lemmas.List.{get_or_append_left, get_or-append_right, get_or-replicate, get_or-drop, length-drop}
+use Rattle.std.proofs.lemmas.List.{drop-replicate, append_assoc, replicate-append-replicate}
 use Rattle.std.proofs.lemmas.List.Elements.{All-from_get_or, All-get_or}
 use Rattle.font_tags.specs.Tag.{IsVisible, IsGood, IsFault, four_spaces, filled}
 
@@ -42,11 +43,12 @@ good_at bytes n at =
           (λ i below. rw (get_or-take n bytes i 0 (omega arith)) (at.visible i (omega arith)));
       whole = ext_get_or 0 bytes (take n bytes ++ spaces) (omega (arith, at.within, total, behind))
           (λ i below. elim (cases_lt i n) [
-        | inl in_run ↦ sym (get_or_append_left (take n bytes) spaces 0 i (omega arith) ∙ get_or-take n bytes i 0 in_run)
-        | inr later ↦ at.spaces i later below ∙ sym
-            (get_or-append_right (take n bytes) spaces n i 0 many later
+            | inl in_run ↦ sym (get_or_append_left (take n bytes) spaces 0 i (omega arith)
+                ∙ get_or-take n bytes i 0 in_run)
+            | inr later ↦ at.spaces i later below ∙ sym
+                (get_or-append_right (take n bytes) spaces n i 0 many later
                 ∙ get_or-replicate (length bytes - n) (i - n) 0x20 0 (omega arith))
-      ]);
+          ]);
     }
 
 pub at_good : (bytes : List ℕ) (good : IsGood bytes) → GoodAt bytes (length good.run)
@@ -129,7 +131,7 @@ fault_from_read bytes n m some read below other = record {
       elim (cases_lt m run) [
         | inl in_run ↦ read.run_ends (omega (arith, read.run_within))
             (rw (sym (get_or-take (m + 1) bytes n 0 (omega (arith, read.run_within))))
-                (at.visible n (omega (arith, read.run_within))))
+            (at.visible n (omega (arith, read.run_within))))
         | inr behind ↦ other (sym (get_or-take (m + 1) bytes m 0 (omega arith))
             ∙ at.spaces m behind (omega (arith, many)))
       ];
@@ -150,7 +152,7 @@ fault_at_once bytes some hidden = record {
   within = some;
   fails = λ good. hidden
       (subst (λ (byte : ℕ). IsVisible byte) (get_or-take 1 bytes 0 0 (omega arith))
-          (first_visible (take 1 bytes) good));
+      (first_visible (take 1 bytes) good));
   least = λ i before. absurd (omega arith);
 }
 
@@ -178,7 +180,7 @@ read_run bytes (Some i) n first is = record {
 pub judged_from_read : (bytes : List ℕ) (n : ℕ) (r : Option ℕ) → 0 < n → ReadTo bytes n n
     → MatchOption r (AllWithin (λ byte. byte ≡ 0x20) (drop n bytes) 0 (length (drop n bytes)))
     (λ j. (j < length (drop n bytes)) × HoldsAt (λ byte. byte ≢ 0x20) (drop n bytes) j
-        × AllWithin (λ byte. byte ≡ 0x20) (drop n bytes) 0 j)
+    × AllWithin (λ byte. byte ≡ 0x20) (drop n bytes) 0 j)
     → MatchOption r (IsGood bytes) (λ j. IsFault bytes (n + j))
 judged_from_read bytes n None some read all =
     let rest = length-drop n bytes in

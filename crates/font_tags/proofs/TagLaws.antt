@@ -1,8 +1,9 @@
 -- Laws of tags: the two judges agree, and a printed text is that of one tag alone.
-use Rattle.std.proofs.Common.{◌≡◌, ◌≢◌, ◌∙◌, sym, ap, subst, refl, ℕ, suc, ◌+◌, ◌-◌, ◌/◌, ◌%◌, ◌<◌, ◌≤◌, ◌⊎◌, inl, inr,
-    true, IsTrue, List, [], ◌∷◌, length, get_or, Result, Ok, Err, IsOk, ◌↔◌, nat_lt, ◌==◌, arith}
-use Rattle.std.proofs.lemmas.Bool.{cases_lt, le-leb, lt-ltb, le-ltb, cond-true, cond-false, and_from, false≢true,
-    ltb-true, and_parts}
+use Rattle.std.proofs.Common.{◌≡◌, ◌≢◌, ◌∙◌, sym, ap, subst, refl, ℕ, suc, ◌+◌, ◌-◌, ◌/◌, ◌%◌, ◌<◌, ◌≤◌, ◌⊎◌, inl, inr}
+use Rattle.std.proofs.Common.{true, IsTrue, List, [], ◌∷◌, length, get_or, Result, Ok, Err, IsOk, ◌↔◌, nat_lt, ◌==◌}
+use Rattle.std.proofs.Common.{arith}
+use Rattle.std.proofs.lemmas.Bool.{cases_lt, le-leb, lt-ltb, le-ltb, cond-true, cond-false, and_from, false≢true}
+use Rattle.std.proofs.lemmas.Bool.{ltb-true, and_parts}
 use Rattle.std.proofs.lemmas.List.{get_or_past}
 use Rattle.std.proofs.lemmas.List.Sums.{AllPass-from_list_all}
 use Rattle.std.specs.Fmt.{digit_glyph}
@@ -52,7 +53,7 @@ pub checked_validates : (bytes : List ℕ) (tag : Tag) (validated : Result (Unit
     → IsChecked bytes (Ok tag) → IsValidated (tag_bytes tag) validated → IsOk validated
 checked_validates bytes tag validated checked judged =
     (validated_good (tag_bytes tag) validated judged).1
-        (subst (λ (list : List ℕ). IsGood list) (sym checked.1) (filled_good bytes (4 - length bytes) checked.0.1))
+    (subst (λ (list : List ℕ). IsGood list) (sym checked.1) (filled_good bytes (4 - length bytes) checked.0.1))
 
 -- ---- the printed text
 
@@ -77,10 +78,16 @@ glyph_is d small = elim (cases_lt d 10) [
 
 same_glyph : (c d : ℕ) → c < 16 → d < 16 → digit_glyph true c ≡ digit_glyph true d → c ≡ d
 same_glyph c d small_c small_d same = elim (glyph_is c small_c) [
-  | inl is_c ↦ elim (glyph_is d small_d) [ inl is_d ↦ omega (arith, same, is_c.1, is_d.1) | inr is_d ↦
-      omega (arith, same, is_c, is_d) ]
-  | inr is_c ↦ elim (glyph_is d small_d) [ inl is_d ↦ omega (arith, same, is_c, is_d) | inr is_d ↦
-      omega (arith, same, is_c.1, is_d.1) ]
+  | inl is_c ↦ elim (glyph_is d small_d) [
+    | inl is_d ↦ omega (arith, same, is_c.1, is_d.1)
+    | inr is_d ↦
+        omega (arith, same, is_c, is_d)
+  ]
+  | inr is_c ↦ elim (glyph_is d small_d) [
+    | inl is_d ↦ omega (arith, same, is_c, is_d)
+    | inr is_d ↦
+        omega (arith, same, is_c.1, is_d.1)
+  ]
 ]
 
 no_brace : (d : ℕ) → d < 16 → digit_glyph true d ≢ 123
@@ -125,7 +132,7 @@ same_bytes [] (y ∷ ys) few_x few_y many bytes_x bytes_y same = absurd (omega (
 same_bytes (x ∷ xs) [] few_x few_y many bytes_x bytes_y same = absurd (omega (arith, many))
 same_bytes (x ∷ xs) (y ∷ ys) few_x few_y many bytes_x bytes_y same =
     let rest : tag_text xs ≡ tag_text ys → xs ≡ ys = same_bytes xs ys (omega arith) (omega arith) (omega (arith, many))
-        (λ i. bytes_x (suc i)) (λ i. bytes_y (suc i)) in
+    (λ i. bytes_x (suc i)) (λ i. bytes_y (suc i)) in
     elim (shown_or_hidden x) [
       | inl shown_x ↦ elim (shown_or_hidden y) [
         | inl shown_y ↦
@@ -163,4 +170,4 @@ printed_once a b are_a are_b same =
     let many_a = are_bytes-length 4 (tag_bytes a) are_a in
     let many_b = are_bytes-length 4 (tag_bytes b) are_b in
     ap tag_of (same_bytes (tag_bytes a) (tag_bytes b) (omega (arith, many_a)) (omega (arith, many_b)) (many_a
-        ∙ sym many_b) (each_byte 4 (tag_bytes a) are_a) (each_byte 4 (tag_bytes b) are_b) same)
+    ∙ sym many_b) (each_byte 4 (tag_bytes a) are_a) (each_byte 4 (tag_bytes b) are_b) same)

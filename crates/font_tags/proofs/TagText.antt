@@ -2,8 +2,8 @@
 use Rattle.std.proofs.Common.{◌≡◌, ap, ℕ, ◌/◌, ◌%◌, ◌<◌, ◌⊎◌, inl, inr, true, Some, List, [], ◌∷◌}
 use Rattle.std.proofs.lemmas.Fmt.{hex_byte}
 use Rattle.std.proofs.lemmas.Bool.{lt-leb, cond-false, and_left, and_right}
-use Rattle.std.specs.Fmt.{digits, digit_glyph, format_spec, styled_digits_output, digits_output, DisplaysOnOk,
-    WritesOnOk, ◌++?◌}
+use Rattle.std.specs.Fmt.{digits, digit_glyph, format_spec, styled_digits_output, digits_output, DisplaysOnOk}
+use Rattle.std.specs.Fmt.{WritesOnOk, ◌++?◌}
 use Rattle.font_tags.specs.Tag.{byte_text}
 
 -- a byte outside 0x20 to 0x7E

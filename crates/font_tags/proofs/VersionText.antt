@@ -1,8 +1,8 @@
 -- How the bits of a version are printed.
 use Rattle.std.proofs.Common.{◌≡◌, ◌∙◌, ap, ℕ, ◌-◌, false, Some, List, [], ◌++◌, length, replicate, arith}
 use Rattle.std.proofs.lemmas.List.{append-nil}
-use Rattle.std.specs.Fmt.{digits, digits_output, styled_digits_output, format_spec, padded_integral, char_count,
-    WritesOnOk, DisplaysOnOk, ◌++?◌}
+use Rattle.std.specs.Fmt.{digits, digits_output, styled_digits_output, format_spec, padded_integral, char_count}
+use Rattle.std.specs.Fmt.{WritesOnOk, DisplaysOnOk, ◌++?◌}
 use Rattle.font_tags.specs.Version.{hex_text}
 
 -- a numeral in a width of eight, with zeros in front
@@ -20,5 +20,5 @@ pub bits_written : {W : Type 0} (took : W → List ℕ → W → Type 0) (f : _)
     → WritesOnOk took f r (front ++ (hex_text bits ++ back)) g
 bits_written took f r g d s bits front back output spec written =
     let shown : styled_digits_output d s ≡ Some (hex_text bits) = rw (spec, output)
-        (ap Some (padded_integral-eight (digits 16 false bits))) in
+    (ap Some (padded_integral-eight (digits 16 false bits))) in
     rw shown at written

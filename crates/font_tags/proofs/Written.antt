@@ -9,10 +9,10 @@ pub front_are : (n m : ℕ) (v u : ℤ) (bytes : List ℕ) → bytes ≡ bytes_o
     → IsBytesOf n v (take n bytes)
 front_are n m v u bytes is = rw
     (is, take_at (bytes_of n v) (bytes_of m u) n (are_bytes-length n (bytes_of n v) (are_bytes-bytes_of n v)))
-        (bytes_of_is n v)
+    (bytes_of_is n v)
 
 pub back_are : (n m : ℕ) (v u : ℤ) (bytes : List ℕ) → bytes ≡ bytes_of n v ++ bytes_of m u
     → IsBytesOf m u (drop n bytes)
 back_are n m v u bytes is = rw
     (is, drop_at (bytes_of n v) (bytes_of m u) n (are_bytes-length n (bytes_of n v) (are_bytes-bytes_of n v)))
-        (bytes_of_is m u)
+    (bytes_of_is m u)

@@ -1,8 +1,8 @@
 -- Tags of four bytes. (OpenType, data types: Tag, "Array of four uint8s (length = 32 bits) used to identify a table,
 -- design-variation axis, script, language system, feature, or baseline")
 pub mod Laws
-use Rattle.std.specs.Prelude.{◌≡◌, ◌≢◌, ℕ, ◌+◌, ◌-◌, ◌/◌, ◌%◌, ◌<◌, ◌≤◌, ◌⊎◌, List, [], ◌∷◌, ◌++◌, length, take,
-    replicate, All, slice_index, nat_le, ◌&&◌, true, if◌then◌else◌, Result, Ok, Err}
+use Rattle.std.specs.Prelude.{◌≡◌, ◌≢◌, ℕ, ◌+◌, ◌-◌, ◌/◌, ◌%◌, ◌<◌, ◌≤◌, ◌⊎◌, List, [], ◌∷◌, ◌++◌, length, take}
+use Rattle.std.specs.Prelude.{replicate, All, slice_index, nat_le, ◌&&◌, true, if◌then◌else◌, Result, Ok, Err}
 use Rattle.std.specs.List.{flat_map}
 use Rattle.std.specs.Fmt.{digit_glyph}
 use lib.Chars.{codes}

@@ -1,7 +1,7 @@
 -- Version numbers of tables.
 pub mod Laws
-use Rattle.std.specs.Prelude.{◌≡◌, ℕ, ◌+◌, ◌-◌, ◌*◌, ◌/◌, ◌%◌, ◌≤◌, min, pos, false, List, ◌++◌, length, replicate,
-    take, drop}
+use Rattle.std.specs.Prelude.{◌≡◌, ℕ, ◌+◌, ◌-◌, ◌*◌, ◌/◌, ◌%◌, ◌≤◌, min, pos, false, List, ◌++◌, length, replicate}
+use Rattle.std.specs.Prelude.{take, drop}
 use Rattle.std.specs.Fmt.{decimal, digits}
 use lib.Chars.{codes}
 use Rattle.font_base.specs.Bytes.{numeral, bytes_of}

@@ -15,5 +15,5 @@ pub use Rattle.font_tags.proofs.VersionLaws.{compatible_calls}
 pub use Rattle.font_geom.proofs.FixedCalls.{product_value, image_value}
 pub use Rattle.font_geom.proofs.RingCalls
 pub use Rattle.font_types.proofs.SumCalls.{sum_calls}
-pub use Rattle.font_types.specs.Json.Laws.{fixed_round_trip, signed_round_trip, unsigned_round_trip, tag_round_trip,
-    version_round_trip}
+pub use Rattle.font_types.specs.Json.Laws.{fixed_round_trip, signed_round_trip, unsigned_round_trip, tag_round_trip}
+pub use Rattle.font_types.specs.Json.Laws.{version_round_trip}

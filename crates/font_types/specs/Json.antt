@@ -1,7 +1,7 @@
 -- JSON forms of scalars. All of it is the project's own rule, but for what JSON itself has: texts, numbers and objects.
 pub mod Laws
-use Rattle.std.specs.Prelude.{◌≡◌, ℕ, ◌-◌, ◌^◌, ℤ, Bool, ◌&&◌, int_le, if◌then◌else◌, List, Option, Some, None,
-    option_and_then, is_some, pos, IsUtf8, Result, Ok, Err}
+use Rattle.std.specs.Prelude.{◌≡◌, ℕ, ◌-◌, ◌^◌, ℤ, Bool, ◌&&◌, int_le, if◌then◌else◌, List, Option, Some, None}
+use Rattle.std.specs.Prelude.{option_and_then, is_some, pos, IsUtf8, Result, Ok, Err}
 use Rattle.std.specs.Result.{result_map_both}
 use lib.Chars.{codes}
 use Rattle.serde_json.specs.Data.{Data, object, member, no_members, number, unsigned}
@@ -13,8 +13,8 @@ use Rattle.font_tags.specs.declared.tag.Tag.{Tag}
 use Rattle.font_tags.specs.declared.version.MajorMinor.{MajorMinor}
 use Rattle.font_tags.specs.Tag.{tag_bytes, IsGood, IsAcceptable, filled}
 use Rattle.font_types.specs.declared.json.JsonFault.{JsonFault}
-use Rattle.font_types.specs.declared.json.JsonFault.TheVariants.{Memory, WrongKind, OutOfRange, Syntax, NotUtf8,
-    InvalidTag, MissingMember}
+use Rattle.font_types.specs.declared.json.JsonFault.TheVariants.{Memory, WrongKind, OutOfRange, Syntax, NotUtf8}
+use Rattle.font_types.specs.declared.json.JsonFault.TheVariants.{InvalidTag, MissingMember}
 
 -- ---- whole numbers
 

@@ -34,7 +34,7 @@ pub trait Cell: Copy {
         requires { pad.now.fill < 128 }
         ensures written { IfSome result (λ n.
             FillsFront (padded_text (text self) pad.now) n out.old out.new) }
-        ensures room { max 23 pad.now.width ≤ length out.old → IsSome result };
+        ensures room { max 22 pad.now.width ≤ length out.old → IsSome result };
 }
 
 impl Cell for Fixed {

@@ -1,6 +1,6 @@
 -- What is read of named words, said of tags, and where points go.
-use Rattle.std.proofs.Common.{◌≡◌, ◌≢◌, ℕ, List, [], ◌∷◌, ◌++◌, Bool, true, false, true≢false, Result, Ok, Err, refl,
-    sym, ◌∙◌}
+use Rattle.std.proofs.Common.{◌≡◌, ◌≢◌, ℕ, List, [], ◌∷◌, ◌++◌, Bool, true, false, true≢false, Result, Ok, Err, refl}
+use Rattle.std.proofs.Common.{sym, ◌∙◌}
 use Rattle.std.specs.Prelude.{ℤ, ◌/◌}
 use Rattle.std.specs.Bool.{MatchBool}
 use Rattle.std.specs.Result.{result_map_both}
@@ -10,8 +10,8 @@ use Rattle.font_types.specs.DecimalFault.{DecimalFault}
 use Rattle.font_types.specs.Operations.{ReadingGives}
 use Rattle.font_types.specs.Tag.{IsValidated, tag_text}
 use Rattle.font_types.specs.InvalidTag.{InvalidTag}
-use Rattle.fontval.specs.Command.{AnswersWords, JudgesTag, IsNamedType, verdict_text, ShowsReading, fixed_row, name_of,
-    two_words}
+use Rattle.fontval.specs.Command.{AnswersWords, JudgesTag, IsNamedType, verdict_text, ShowsReading, fixed_row, name_of}
+use Rattle.fontval.specs.Command.{two_words}
 use Rattle.fontval.specs.Refusal.{GivesAnswer, refusal_of}
 use Rattle.fontval.specs.Numbers.{ReadsJust, ReadsTerms, ReadsWhole}
 use Rattle.fontval.specs.Deltas.{Varies, varied_answer}
@@ -49,7 +49,7 @@ pub given_number : (type : FixedType) (name : List ℕ) (n w f : ℕ) (bits : Re
     → GivesAnswer (ShowsReading type text) old new outcome
 given_number type name n w f bits text old new outcome given read row size =
     given_answer (ShowsReading type text)
-        (result_map_both (λ value. encode_lower (bytes_of n value)) refusal_of bits) old new outcome given
+    (result_map_both (λ value. encode_lower (bytes_of n value)) refusal_of bits) old new outcome given
     (rw (row, size) (record { bits = bits; read = read; gives = refl }))
 
 -- what is read of two words, the first of which names a type
@@ -69,7 +69,7 @@ pub judged_tag : (bytes : List ℕ) (verdict : Result (Unit {0}) InvalidTag) (ol
     → IsValidated bytes verdict → GivesAnswer (JudgesTag bytes) old new outcome
 judged_tag bytes verdict old new outcome given judged =
     given_answer (JudgesTag bytes) (Ok (tag_text bytes ++ verdict_text verdict)) old new outcome given
-        (record { verdict = verdict; judged = judged; shows = refl })
+    (record { verdict = verdict; judged = judged; shows = refl })
 
 -- numbers that are not read
 pub refused_images : (words : List (List ℕ)) (refusal : Refusal) (old : List ℕ) (outcome : Result (Unit {0}) Unanswered)
@@ -77,7 +77,7 @@ pub refused_images : (words : List (List ℕ)) (refusal : Refusal) (old : List �
     → GivesAnswer (AnswersWords words Image) old old outcome
 refused_images words refusal old outcome is refused =
     given_refusal (AnswersWords words Image) refusal old outcome is
-        (record { first = Err refusal; is_first = refused; goes_on = refl })
+    (record { first = Err refusal; is_first = refused; goes_on = refl })
 
 -- where numbers that are read send a point
 pub given_images : (words : List (List ℕ)) (numbers : List Fixed) (a b : Matrix Fixed) (p : Point Fixed)
@@ -87,7 +87,7 @@ pub given_images : (words : List (List ℕ)) (numbers : List Fixed) (a b : Matri
     → GivesAnswer (AnswersWords words Image) old new outcome
 given_images words numbers a b p old new outcome given read are =
     given_answer (AnswersWords words Image)
-        (Ok (images_text (matrix_bits a) (matrix_bits b) (point_bits p))) old new outcome given (record {
+    (Ok (images_text (matrix_bits a) (matrix_bits b) (point_bits p))) old new outcome given (record {
       first = Ok numbers;
       is_first = read;
       goes_on = record { a = a; b = b; p = p; are = are; shows = refl };
@@ -106,8 +106,11 @@ pub given_moved : (words rest : List (List ℕ)) (base : List ℕ) (units : ℤ)
     → GivesAnswer (AnswersWords words Vary) old new outcome
 given_moved words rest base units terms old new outcome given is whole read =
     let right : Varies (base ∷ rest) (varied_answer units terms) = where_true _ _ (terms_are_even rest terms read)
-    (record { first = Ok units; is_first = whole;
-        goes_on = record { first = Ok terms; is_first = read; goes_on = refl } }) in
+    (record {
+      first = Ok units;
+      is_first = whole;
+      goes_on = record { first = Ok terms; is_first = read; goes_on = refl };
+    }) in
     given_answer (AnswersWords words Vary) (varied_answer units terms) old new outcome given (rw is right)
 
 pub ruleset reading_given = (given_refusal, given_reading, reads_no_number)

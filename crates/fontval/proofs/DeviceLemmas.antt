@@ -1,6 +1,6 @@
 -- Reading and writing in parts.
-use Rattle.std.proofs.Common.{◌≡◌, ℕ, List, [], ◌++◌, refl, sym, ap, ◌∙◌, subst, append_assoc, Option, Some, None, take,
-    drop, length, ◌<◌, arith, ◌-◌}
+use Rattle.std.proofs.Common.{◌≡◌, ℕ, List, [], ◌++◌, refl, sym, ap, ◌∙◌, subst, append_assoc, Option, Some, None, take}
+use Rattle.std.proofs.Common.{drop, length, ◌<◌, arith, ◌-◌}
 use Rattle.std.proofs.lemmas.List.{append-nil, nil_from_length, take-append-drop}
 use Rattle.std.proofs.lemmas.Slice.{between_to_end}
 use Rattle.std.specs.Io.KnownBytes.{Appends, Keeps}
@@ -37,11 +37,11 @@ pub written_more : (taken taken' taken'' : Option (List ℕ)) (bytes rest : List
     → IsWrittenUpTo taken taken'' bytes (take (length rest - n) (drop n rest))
 written_more taken taken' taken'' bytes rest n so_far one = rw (between_to_end rest n (length rest) (omega arith))
     (record {
-  output = so_far.output ++ take n rest;
-  parts = so_far.parts ∙ ap (λ z. so_far.output ++ z) (sym (take-append-drop n rest)) ∙ sym
-      (append_assoc so_far.output (take n rest) (drop n rest));
-  written = appends_more taken taken' taken'' so_far.output (take n rest) so_far.written one;
-})
+      output = so_far.output ++ take n rest;
+      parts = so_far.parts ∙ ap (λ z. so_far.output ++ z) (sym (take-append-drop n rest)) ∙ sym
+          (append_assoc so_far.output (take n rest) (drop n rest));
+      written = appends_more taken taken' taken'' so_far.output (take n rest) so_far.written one;
+    })
 
 -- where no byte is left, all were written
 pub written_all : (taken taken' : Option (List ℕ)) (bytes rest : List ℕ)
@@ -49,7 +49,7 @@ pub written_all : (taken taken' : Option (List ℕ)) (bytes rest : List ℕ)
 written_all taken taken' bytes rest so_far none =
     let P : List ℕ → Type 0 = λ z. Appends taken taken' z in
     subst P (sym (so_far.parts ∙ ap (λ z. so_far.output ++ z) (nil_from_length rest none) ∙ append-nil so_far.output))
-        so_far.written
+    so_far.written
 
 -- where a write fails and bytes are left, some of the bytes were written, and not all
 pub written_in_part : (taken taken' taken'' : Option (List ℕ)) (bytes rest : List ℕ)

@@ -17,8 +17,13 @@ pub given_as : (IsRight IsMeant : Answer → Type 0) (old new : List ℕ) (outco
     → GivesAnswer IsMeant old new outcome
 given_as IsRight IsMeant old new (Ok done) means given =
     let shown = given.is_given in
-    record { is_given = record { text = shown.text; is_right = means (Ok shown.text) shown.is_right;
-        grown = shown.grown } }
+    record {
+      is_given = record {
+        text = shown.text;
+        is_right = means (Ok shown.text) shown.is_right;
+        grown = shown.grown;
+      };
+    }
 given_as IsRight IsMeant old new (Err Memory) means given = record { is_given = tt }
 given_as IsRight IsMeant old new (Err (Refused refusal)) means given =
     let refused = given.is_given in

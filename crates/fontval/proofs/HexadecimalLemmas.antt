@@ -1,6 +1,6 @@
 -- Bytes in hexadecimal are text, and hold no blank.
-use Rattle.std.proofs.Common.{◌≡◌, ◌<◌, ◌∷◌, [], List, ℕ, zero, suc, get_or, Bool, true, nat_lt, Result, Ok, Err, IsOk,
-    refl, sym, ap, ◌∙◌, lit<, length, arith, false, true≢false}
+use Rattle.std.proofs.Common.{◌≡◌, ◌<◌, ◌∷◌, [], List, ℕ, zero, suc, get_or, Bool, true, nat_lt, Result, Ok, Err, IsOk}
+use Rattle.std.proofs.Common.{refl, sym, ap, ◌∙◌, lit<, length, arith, false, true≢false}
 use Rattle.std.proofs.lemmas.Bool.{ltb-true, ne_eqb}
 use Rattle.std.proofs.lemmas.Str.{IsUtf8-from_ascii}
 use Rattle.std.specs.List.{list_all}
@@ -28,7 +28,7 @@ each_is_ascii (b ∷ bytes) (suc i) test = each_is_ascii bytes i (second_so (bel
 pub hexadecimal_is_text : (bytes : List ℕ) → IsUtf8 (encode_lower bytes)
 hexadecimal_is_text bytes =
     IsUtf8-from_ascii (encode_lower bytes)
-        (IsAscii-encode_with lower_digits bytes (λ i. each_is_ascii lower_digits i refl))
+    (IsAscii-encode_with lower_digits bytes (λ i. each_is_ascii lower_digits i refl))
 
 -- ---- digits are one word
 

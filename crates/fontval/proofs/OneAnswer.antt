@@ -1,6 +1,7 @@
 -- An input has one answer: each definition on the way from a line to its text has one result.
-use Rattle.std.proofs.Common.{◌≡◌, ℕ, ℤ, zero, suc, Bool, true, false, List, [], ◌∷◌, ◌++◌, ◌⊎◌, inl, inr, length,
-    Option, Some, None, Result, Ok, Err, MatchResult, refl, sym, ap, ◌∙◌, subst, arith, get_or, unwrap_or, pos}
+use Rattle.std.proofs.Common.{◌≡◌, ℕ, ℤ, zero, suc, Bool, true, false, List, [], ◌∷◌, ◌++◌, ◌⊎◌, inl, inr, length}
+use Rattle.std.proofs.Common.{Option, Some, None, Result, Ok, Err, MatchResult, refl, sym, ap, ◌∙◌, subst, arith}
+use Rattle.std.proofs.Common.{get_or, unwrap_or, pos}
 use Rattle.std.specs.Prelude.{◌%◌, ◌==◌, if◌then◌else◌}
 use Rattle.std.specs.Bool.{MatchBool}
 use Rattle.std.specs.Result.{result_map_both}
@@ -18,24 +19,24 @@ use Rattle.font_types.specs.FixedMatrix.{matrix_bits, point_bits}
 use Rattle.font_types.specs.fixed.Fixed.{Fixed}
 use Rattle.font_types.proofs.Callers.{reading_unique, validated_good}
 use Rattle.fontval.specs.Answers.{Answers, AnswersLine, AnswersLines}
-use Rattle.fontval.specs.Command.{AnswersWords, IsAnswer, IsNamed, IsNamedType, JudgesTag, fixed_point, fixed_row,
-    integer, name_of, only_bytes, two_words, verdict_text}
+use Rattle.fontval.specs.Command.{AnswersWords, IsAnswer, IsNamed, IsNamedType, JudgesTag, fixed_point, fixed_row}
+use Rattle.fontval.specs.Command.{integer, name_of, only_bytes, two_words, verdict_text}
 use Rattle.fontval.specs.Deltas.{Varies, sum_of, varied_answer}
 use Rattle.fontval.specs.Images.{ShowsImages, images_text}
-use Rattle.fontval.specs.Numbers.{IsWhole, ReadsEach, ReadsFixed, ReadsJust, ReadsNumber, ReadsTerm, ReadsTerms,
-    ReadsWhole, AndThen, pairs_of}
+use Rattle.fontval.specs.Numbers.{IsWhole, ReadsEach, ReadsFixed, ReadsJust, ReadsNumber, ReadsTerm, ReadsTerms}
+use Rattle.fontval.specs.Numbers.{ReadsWhole, AndThen, pairs_of}
 use Rattle.fontval.specs.Refusal.{Answer, refusal_of, answer_text}
 use Rattle.fontval.specs.Text.{lines_of, words_of}
 use Rattle.fontval.specs.declared.command.Command.{Command}
 use Rattle.fontval.specs.declared.command.Command.TheVariants.{Integer, FixedPoint, Read, Tag, Image, Sum, Vary}
 use Rattle.fontval.specs.declared.command.FixedType.{FixedType}
-use Rattle.fontval.specs.declared.command.FixedType.TheVariants.{F2Dot14, F4Dot12, F6Dot10, Fixed as Fixed16, F26Dot6,
-    F48Dot16, F2Dot30}
-use Rattle.fontval.specs.declared.command.IntegerType.TheVariants.{Uint8, Int8, Uint16, Int16, Uint24, Int24, Uint32,
-    Int32, Int64}
+use Rattle.fontval.specs.declared.command.FixedType.TheVariants.{F2Dot14, F4Dot12, F6Dot10, Fixed as Fixed16, F26Dot6}
+use Rattle.fontval.specs.declared.command.FixedType.TheVariants.{F48Dot16, F2Dot30}
+use Rattle.fontval.specs.declared.command.IntegerType.TheVariants.{Uint8, Int8, Uint16, Int16, Uint24, Int24, Uint32}
+use Rattle.fontval.specs.declared.command.IntegerType.TheVariants.{Int32, Int64}
 use Rattle.fontval.specs.declared.refusal.Refusal.{Refusal}
-use Rattle.fontval.specs.declared.refusal.Refusal.TheVariants.{UnknownCommand, WordCount, NotHexadecimal, NotDecimal,
-    OutOfRange, NotWhole}
+use Rattle.fontval.specs.declared.refusal.Refusal.TheVariants.{UnknownCommand, WordCount, NotHexadecimal, NotDecimal}
+use Rattle.fontval.specs.declared.refusal.Refusal.TheVariants.{OutOfRange, NotWhole}
 
 -- not two different things are so
 abbrev pub IsOne : {T : Type 0} → (T → Type 0) → Type 0
@@ -59,7 +60,7 @@ module _ {A B : Type 0} (GoesOn : A → Result B Refusal → Type 0) (one : (val
   one_then IsFirst one_first x y p q =
       let same = one_first p.first q.first p.is_first q.is_first in
       let behind = subst (λ first. MatchResult first (λ value. GoesOn value y) (λ refusal. y ≡ Err refusal))
-          (sym same) q.goes_on in
+      (sym same) q.goes_on in
       one_after p.first x y p.goes_on behind
 
 -- ---- numbers
@@ -67,7 +68,7 @@ module _ {A B : Type 0} (GoesOn : A → Result B Refusal → Type 0) (one : (val
 one_number : {T : Type 0} (w f : ℕ) (value : ℤ → T) (text : List ℕ) → IsOne (ReadsNumber w f value text)
 one_number w f value text x y p q =
     p.gives ∙ ap (result_map_both value refusal_of) (reading_unique text f _ _ p.bits q.bits p.read q.read)
-        ∙ sym q.gives
+    ∙ sym q.gives
 
 -- what a word that is read as no whole number of w bits is refused as
 abbrev IsNoWhole : ℕ → List ℕ → Refusal → Type 0
@@ -96,23 +97,23 @@ one_whole w word (Ok n) (Err refusal) p q = absurd (whole_or_not w word n refusa
 one_whole w word (Err refusal) (Ok n) p q = absurd (whole_or_not w word n refusal q p)
 one_whole w word (Err refusal) (Err other) p q = ap Err
     (same (no_whole w word refusal p) (no_whole w word other q)) where
-  same : IsNoWhole w word refusal → IsNoWhole w word other → refusal ≡ other
-  same (inl a) (inl b) = a.0 ∙ sym b.0
-  same (inl a) (inr b) = absurd (a.1 b.1.0)
-  same (inr a) (inl b) = absurd (b.1 a.1.0)
-  same (inr a) (inr b) = a.0 ∙ sym b.0
+      same : IsNoWhole w word refusal → IsNoWhole w word other → refusal ≡ other
+      same (inl a) (inl b) = a.0 ∙ sym b.0
+      same (inl a) (inr b) = absurd (a.1 b.1.0)
+      same (inr a) (inl b) = absurd (b.1 a.1.0)
+      same (inr a) (inr b) = a.0 ∙ sym b.0
 
 one_each : {W T : Type 0} (reads : W → Result T Refusal → Type 0) → ((word : W) → IsOne (reads word)) → (words : List W)
     → IsOne (ReadsEach reads words)
 one_each reads one [] = one_value (Ok [])
 one_each reads one (word ∷ words) =
     one_then _ (λ value. one_then _ (λ values. one_value (Ok (value ∷ values))) (ReadsEach reads words)
-        (one_each reads one words)) (reads word) (one word)
+    (one_each reads one words)) (reads word) (one word)
 
 one_term : (words : List ℕ × List ℕ) → IsOne (ReadsTerm words)
 one_term words =
     one_then _ (λ scalar. one_then _ (λ delta. one_value (Ok (scalar, delta))) (ReadsWhole 32 words.1)
-        (one_whole 32 words.1)) (ReadsFixed words.0) (one_number 32 16 fixed_of words.0)
+    (one_whole 32 words.1)) (ReadsFixed words.0) (one_number 32 16 fixed_of words.0)
 
 one_terms : (words : List (List ℕ)) → IsOne (ReadsTerms words)
 one_terms words = one_either _ _ (length words % 2 == 0) (one_each ReadsTerm one_term (pairs_of words))
@@ -132,7 +133,7 @@ sought word (command ∷ commands) = if bytes_eq (name_of command) word then Som
 abbrev commands : List Command
 commands =
     Integer Uint8 ∷ Integer Int8 ∷ Integer Uint16 ∷ Integer Int16 ∷ Integer Uint24 ∷ Integer Int24 ∷ Integer Uint32
-        ∷ Integer Int32 ∷ Integer Int64
+    ∷ Integer Int32 ∷ Integer Int64
     ∷ FixedPoint F2Dot14 ∷ FixedPoint F4Dot12 ∷ FixedPoint F6Dot10 ∷ FixedPoint Fixed16 ∷ FixedPoint F26Dot6
     ∷ FixedPoint F48Dot16 ∷ FixedPoint F2Dot30
     ∷ Read ∷ Tag ∷ Image ∷ Sum ∷ Vary ∷ []
@@ -233,7 +234,7 @@ module _ (bytes : List ℕ) where
   one_judgement : IsOne (JudgesTag bytes)
   one_judgement x y p q =
       p.shows ∙ ap (λ verdict. Ok (Rattle.font_types.specs.Tag.tag_text bytes ++ verdict_text verdict))
-          (one_verdict p.verdict q.verdict p.judged q.judged) ∙ sym q.shows
+      (one_verdict p.verdict q.verdict p.judged q.judged) ∙ sym q.shows
 
 -- ---- images
 
@@ -256,7 +257,7 @@ one_vary [] = one_value (Err WordCount)
 one_vary (base ∷ words) =
     one_either _ _ (length words % 2 == 0)
     (one_then _ (λ units. one_then _ (λ terms. one_value (varied_answer units terms)) (ReadsTerms words)
-        (one_terms words)) (ReadsWhole 16 base) (one_whole 16 base))
+    (one_terms words)) (ReadsWhole 16 base) (one_whole 16 base))
     (one_value (Err WordCount))
 
 one_answer_of : (words : List (List ℕ)) (command : Command) → IsOne (AnswersWords words command)
@@ -265,7 +266,7 @@ one_answer_of words (Integer type) = one_value
 one_answer_of words (FixedPoint type) = one_value (fixed_point type words)
 one_answer_of words Read =
     one_after _ (λ pair. one_then _ (λ type. one_number _ _ _ pair.1) (IsNamedType pair.0) (one_named_type pair.0))
-        (two_words words)
+    (two_words words)
 one_answer_of words Tag = one_after _ one_judgement (only_bytes 4 words)
 one_answer_of words Image = one_then _ one_images (ReadsJust 14 words) (one_just 14 words)
 one_answer_of words Sum = one_then _ (λ terms. one_value (sum_of terms)) (ReadsTerms words) (one_terms words)

@@ -1,6 +1,6 @@
 -- Reading one thing after another.
-use Rattle.std.proofs.Common.{◌≡◌, List, [], ◌∷◌, ◌++◌, Result, Ok, Err, MatchResult, refl, sym, ap, ◌∙◌, subst,
-    append_assoc}
+use Rattle.std.proofs.Common.{◌≡◌, List, [], ◌∷◌, ◌++◌, Result, Ok, Err, MatchResult, refl, sym, ap, ◌∙◌, subst}
+use Rattle.std.proofs.Common.{append_assoc}
 use Rattle.std.specs.Result.{result_map_both}
 use Rattle.std.proofs.lemmas.List.{append-nil}
 use Rattle.fontval.specs.Numbers.{ReadsEach}
@@ -49,7 +49,7 @@ module _ {W T : Type 0} (reads : W → Result T Refusal → Type 0) (words : Lis
             goes_on = record { first = rest; is_first = read; goes_on = one_behind value rest };
           })) in
           subst (λ r. ReadsEach reads words r)
-              (behind_one_more values value rest ∙ ap (λ vs. prepended vs rest) (sym grown)) all;
+          (behind_one_more values value rest ∙ ap (λ vs. prepended vs rest) (sym grown)) all;
     }
 
     -- it is refused, and so all are

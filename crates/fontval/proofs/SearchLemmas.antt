@@ -1,6 +1,6 @@
 -- The first byte that passes a test, sought in blocks.
-use Rattle.std.proofs.Common.{◌≡◌, ℕ, zero, suc, ◌+◌, ◌%◌, ◌^◌, ◌<◌, ◌≤◌, eqb, Bool, true, false, cond, List, [], ◌∷◌,
-    length, map, replicate, take, drop, refl, ap, ◌∙◌, arith, Some, None}
+use Rattle.std.proofs.Common.{◌≡◌, ℕ, zero, suc, ◌+◌, ◌%◌, ◌^◌, ◌<◌, ◌≤◌, eqb, Bool, true, false, cond, List, [], ◌∷◌}
+use Rattle.std.proofs.Common.{length, map, replicate, take, drop, refl, ap, ◌∙◌, arith, Some, None}
 use Rattle.std.specs.List.{position_or_len}
 use Rattle.std.specs.Prelude.{◌||◌, not, position, nat_lt}
 use Rattle.std.proofs.lemmas.Bool.{le-ltb, lt-ltb, ltb-false, ltb-true}
@@ -33,7 +33,7 @@ module _ (test : ℕ → Bool) where
   first_behind (suc n) (byte ∷ bytes) within none =
       elim (test byte)
       as (λ b. suc n ≤ cond (not b) (1 + before (take n bytes)) 0 → cond (not b) (1 + before bytes) 0 ≡ suc n
-          + before (drop n bytes)) [
+      + before (drop n bytes)) [
         | true ↦ λ absent. absurd (omega arith)
         | false ↦ λ later. let behind = first_behind n bytes (omega arith) (omega arith) in omega arith
       ] none
@@ -46,7 +46,7 @@ module _ (test : ℕ → Bool) where
   first_in_front (suc n) (byte ∷ bytes) there =
       elim (test byte)
       as (λ b. cond (not b) (1 + before (take n bytes)) 0 < suc (length (take n bytes))
-          → cond (not b) (1 + before bytes) 0 ≡ cond (not b) (1 + before (take n bytes)) 0) [
+      → cond (not b) (1 + before bytes) 0 ≡ cond (not b) (1 + before (take n bytes)) 0) [
         | true ↦ λ here. refl
         | false ↦ λ later. ap (λ k. 1 + k) (first_in_front n bytes (omega arith))
       ] there
@@ -55,7 +55,7 @@ module _ (test : ℕ → Bool) where
   none_found : (bytes : List ℕ) → position test bytes ≡ None → length bytes ≤ before bytes
   none_found bytes none =
       elim (nat_lt (before bytes) (length bytes)) as
-          (λ b. nat_lt (before bytes) (length bytes) ≡ b → length bytes ≤ before bytes) [
+      (λ b. nat_lt (before bytes) (length bytes) ≡ b → length bytes ≤ before bytes) [
         | true ↦ λ e. absurd (let s = rw e at none in cc)
         | false ↦ λ e. ltb-false _ _ e
       ] refl
@@ -79,7 +79,7 @@ module _ (test : ℕ → Bool) where
       let first = first_in_front n rest parts.0 in
       let here : before input ≡ passed + at = omega (arith, so_far.first, first, parts.1) in
       let within : before input < length input = omega
-          (arith, here, so_far.long, parts.0, parts.1, length-take n rest) in
+      (arith, here, so_far.long, parts.0, parts.1, length-take n rest) in
       rw (lt-ltb _ _ within, here) refl
 
   pub none_behind : (input rest : List ℕ) (passed : ℕ) → IsPassed test input rest passed → position test rest ≡ None
@@ -104,7 +104,7 @@ module _ (test : ℕ → Bool) where
   some_marked [] some = absurd (omega arith)
   some_marked (byte ∷ bytes) some =
       elim (test byte) as (λ b. 0 < mask_l (b ∷ map test bytes)
-          → cond (not b) (1 + before bytes) 0 < suc (length bytes)) [
+      → cond (not b) (1 + before bytes) 0 < suc (length bytes)) [
         | true ↦ λ here. omega arith
         | false ↦ λ later. let within = some_marked bytes (omega arith) in omega arith
       ] some
@@ -138,11 +138,11 @@ tops_are_blank (byte ∷ bytes) = λ i. top_of_three (eqb byte 32) (eqb byte 9) 
 pub blanks_marked : (bytes : List ℕ) → length bytes ≡ 8
     → mask_l (map (top 7)
     (zip2 bit_or (zip2 bit_or (zip2 lane bytes (replicate 8 32)) (zip2 lane bytes (replicate 8 9)))
-        (zip2 lane bytes (replicate 8 13)))) % 2 ^ 64 ≡ marks is_blank bytes
+    (zip2 lane bytes (replicate 8 13)))) % 2 ^ 64 ≡ marks is_blank bytes
 blanks_marked bytes eight =
     let lanes = zip2_of_maps bit_or _ _ bytes
-        (zip2_of_maps bit_or _ _ bytes (zip2_splat lane bytes 8 32 eight) (zip2_splat lane bytes 8 9 eight))
-            (zip2_splat lane bytes 8 13 eight) in
+    (zip2_of_maps bit_or _ _ bytes (zip2_splat lane bytes 8 32 eight) (zip2_splat lane bytes 8 9 eight))
+    (zip2_splat lane bytes 8 13 eight) in
     ap (λ l. mask_l l % 2 ^ 64) (ap (map (top 7)) lanes ∙ tops_are_blank bytes)
     ∙ mask_l-mod (map is_blank bytes) 64 (omega (arith, eight, length-map bytes is_blank))
 

@@ -1,6 +1,6 @@
 -- Reading terms, two words at a time.
-use Rattle.std.proofs.Common.{◌≡◌, ℕ, ℤ, ◌+◌, ◌%◌, Bool, true, false, arith, length, List, [], ◌∷◌, ◌++◌, Ok, Err, refl,
-    ap, ◌∙◌}
+use Rattle.std.proofs.Common.{◌≡◌, ℕ, ℤ, ◌+◌, ◌%◌, Bool, true, false, arith, length, List, [], ◌∷◌, ◌++◌, Ok, Err, refl}
+use Rattle.std.proofs.Common.{ap, ◌∙◌}
 use Rattle.std.specs.Prelude.{◌==◌}
 use Rattle.std.specs.Bool.{MatchBool}
 use Rattle.font_types.specs.fixed.Fixed.{Fixed}
@@ -39,8 +39,11 @@ module _ (text left middle left' scalar delta : List ℕ) (terms : List (Fixed �
   pub one_more_term : (term : Fixed × ℤ) (terms' : List (Fixed × ℤ)) → ReadsTerm (scalar, delta) (Ok term)
       → terms' ≡ terms ++ term ∷ [] → AreTermsUpTo text left' terms'
   one_more_term term terms' one grown =
-      record { read = one_more_read ReadsTerm _ _ _ so_far.read _ (scalar, delta) terms' term (ap pairs_of two) one
-          grown; even = still_even }
+      record {
+        read = one_more_read ReadsTerm _ _ _ so_far.read _ (scalar, delta) terms' term (ap pairs_of two) one
+            grown;
+        even = still_even;
+      }
 
   pub refused_term : (refusal : Refusal) → ReadsTerm (scalar, delta) (Err refusal) → is_even (length (words_of left'))
       ≡ true → ReadsTerms (words_of text) (Err refusal)
@@ -55,7 +58,7 @@ pub odd_word : (text left middle scalar : List ℕ) (terms : List (Fixed × ℤ)
     → words_of left ≡ scalar ∷ words_of middle → words_of middle ≡ [] → ReadsTerms (words_of text) (Err WordCount)
 odd_word text left middle scalar terms so_far first none =
     let odd : is_even (length (words_of left)) ≡ false = ap is_even
-        (ap length (first ∙ ap (λ words. scalar ∷ words) none)) in
+    (ap length (first ∙ ap (λ words. scalar ∷ words) none)) in
     rw (so_far.even ∙ odd) refl
 
 -- no word is left, and all terms are read

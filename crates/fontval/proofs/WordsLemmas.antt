@@ -1,6 +1,6 @@
 -- The first word of a line.
-use Rattle.std.proofs.Common.{◌≡◌, ℕ, suc, ◌+◌, ◌≤◌, Bool, true, false, cond, List, [], ◌∷◌, length, drop, refl, ap,
-    ◌∙◌, arith, Some, None}
+use Rattle.std.proofs.Common.{◌≡◌, ℕ, suc, ◌+◌, ◌≤◌, Bool, true, false, cond, List, [], ◌∷◌, length, drop, refl, ap}
+use Rattle.std.proofs.Common.{◌∙◌, arith, Some, None}
 use Rattle.std.specs.List.{position_or_len, before_first, after_first, onto_first, slice_split}
 use Rattle.std.specs.Prelude.{not, position, nat_lt}
 use Rattle.std.proofs.Common.{get_or, drop-cons}
@@ -25,7 +25,7 @@ words_behind_blanks (byte ∷ rest) =
     let skipped = position_or_len (λ byte. not (is_blank byte)) rest in
     elim (is_blank byte)
     as (λ b. is_blank byte ≡ b
-        → words_of (byte ∷ rest) ≡ words_of (drop (cond (not (not b)) (1 + skipped) 0) (byte ∷ rest))) [
+    → words_of (byte ∷ rest) ≡ words_of (drop (cond (not (not b)) (1 + skipped) 0) (byte ∷ rest))) [
       | true ↦ λ blank. words_behind_blank byte rest blank ∙ words_behind_blanks rest ∙ rw (one-add skipped) refl
       | false ↦ λ word. refl
     ] refl
@@ -83,7 +83,7 @@ words_behind_word (byte ∷ rest) =
     let inside = position_or_len is_blank rest in
     elim (is_blank byte)
     as (λ b. is_blank byte ≡ b → words_of (drop (cond (not b) (1 + inside) 0) (byte ∷ rest))
-        ≡ words_of (drop (cond (not b) (1 + inside) 0 + 1) (byte ∷ rest))) [
+    ≡ words_of (drop (cond (not b) (1 + inside) 0 + 1) (byte ∷ rest))) [
       | true ↦ λ blank. words_behind_blank byte rest blank
       | false ↦ λ word. rw (one-add inside, one_more_and_one inside) (words_behind_word rest)
     ] refl
@@ -104,7 +104,7 @@ pub no_words : (line : List ℕ) → position (λ byte. not (is_blank byte)) lin
 unfolding words_of
 no_words line absent =
     let P : Bool → Type 0 = λ b. nat_lt (position_or_len (λ byte. not (is_blank byte)) line) (length line) ≡ b
-        → words_of line ≡ [] in
+    → words_of line ≡ [] in
     elim (nat_lt (position_or_len (λ byte. not (is_blank byte)) line) (length line)) as P [
       | true ↦ λ e. absurd (let s = rw e at absent in cc)
       | false ↦ λ e. words_behind_blanks line ∙ ap words_of (drop_all _ line (ltb-false _ _ e))
@@ -113,9 +113,12 @@ no_words line absent =
 -- there is at most one word more than bytes
 pub words_fit : (line : List ℕ) → length (words_of line) ≤ length line + 1
 unfolding words_of
-words_fit line = omega
-    (arith, length-filter is_nonempty (slice_split is_blank line),
-        count_by-le-length is_nonempty (slice_split is_blank line), length-slice_split is_blank line,
-            count_by-le-length is_blank line)
+words_fit line = omega (
+  arith,
+  length-filter is_nonempty (slice_split is_blank line),
+  count_by-le-length is_nonempty (slice_split is_blank line),
+  length-slice_split is_blank line,
+  count_by-le-length is_blank line,
+)
 
 pub ruleset word_steps = (first_word, no_words)

@@ -1,8 +1,8 @@
 -- The commands of the program: the word that names each, and what it answers to the words behind
 -- it.
 -- All of it is the program's own rule, but for what the bytes of a type stand for.
-use Rattle.std.specs.Prelude.{◌≡◌, ◌≢◌, ℕ, ℤ, pos, ◌/◌, Bool, true, false, if◌then◌else◌, List, [], ◌∷◌, ◌++◌, codes,
-    decimal, Result, Ok, Err, MatchResult}
+use Rattle.std.specs.Prelude.{◌≡◌, ◌≢◌, ℕ, ℤ, pos, ◌/◌, Bool, true, false, if◌then◌else◌, List, [], ◌∷◌, ◌++◌, codes}
+use Rattle.std.specs.Prelude.{decimal, Result, Ok, Err, MatchResult}
 use Rattle.std.specs.Fmt.{signed_decimal}
 use Rattle.std.specs.Result.{result_flatten, result_map_both}
 use Rattle.hex.specs.Hex.{decode_sized, encode_lower}
@@ -18,11 +18,11 @@ use Rattle.fontval.specs.Images.{ShowsImages}
 use Rattle.fontval.specs.declared.command.Command.{Command}
 use Rattle.fontval.specs.declared.command.Command.TheVariants.{Integer, FixedPoint, Read, Tag, Image, Sum, Vary}
 use Rattle.fontval.specs.declared.command.FixedType.{FixedType}
-use Rattle.fontval.specs.declared.command.FixedType.TheVariants.{F2Dot14, F4Dot12, F6Dot10, Fixed, F26Dot6, F48Dot16,
-    F2Dot30}
+use Rattle.fontval.specs.declared.command.FixedType.TheVariants.{F2Dot14, F4Dot12, F6Dot10, Fixed, F26Dot6, F48Dot16}
+use Rattle.fontval.specs.declared.command.FixedType.TheVariants.{F2Dot30}
 use Rattle.fontval.specs.declared.command.IntegerType.{IntegerType}
-use Rattle.fontval.specs.declared.command.IntegerType.TheVariants.{Uint8, Int8, Uint16, Int16, Uint24, Int24, Uint32,
-    Int32, Int64}
+use Rattle.fontval.specs.declared.command.IntegerType.TheVariants.{Uint8, Int8, Uint16, Int16, Uint24, Int24, Uint32}
+use Rattle.fontval.specs.declared.command.IntegerType.TheVariants.{Int32, Int64}
 use Rattle.fontval.specs.declared.refusal.Refusal.{Refusal}
 use Rattle.fontval.specs.declared.refusal.Refusal.TheVariants.{UnknownCommand, WordCount, NotHexadecimal}
 

@@ -1,8 +1,8 @@
 -- The numbers that the words of a line are read as, one after another: the first word that is
 -- refused decides.
 -- All of it is the program's own rule, but for what a decimal text is read as.
-use Rattle.std.specs.Prelude.{◌≡◌, ℕ, ◌%◌, ◌==◌, if◌then◌else◌, List, [], ◌∷◌, length, drop, ℤ, Result, Ok, Err,
-    MatchResult}
+use Rattle.std.specs.Prelude.{◌≡◌, ℕ, ◌%◌, ◌==◌, if◌then◌else◌, List, [], ◌∷◌, length, drop, ℤ, Result, Ok, Err}
+use Rattle.std.specs.Prelude.{MatchResult}
 use Rattle.std.specs.Bool.{MatchBool}
 use Rattle.std.specs.Result.{result_map_both}
 use Rattle.std.specs.Str.Parse.{IsNumeral, starts_with_minus, signed_digits_value}

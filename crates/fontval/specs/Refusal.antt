@@ -4,8 +4,8 @@ use Rattle.std.specs.Prelude.{◌≡◌, ℕ, List, ◌++◌, codes, decimal, Re
 use Rattle.font_types.specs.DecimalFault.{DecimalFault}
 use Rattle.font_types.specs.DecimalFault.TheVariants.{Syntax, OutOfRange as TooFar}
 use Rattle.fontval.specs.declared.refusal.Refusal.{Refusal}
-use Rattle.fontval.specs.declared.refusal.Refusal.TheVariants.{UnknownCommand, WordCount, NotHexadecimal, NotDecimal,
-    OutOfRange, NotWhole}
+use Rattle.fontval.specs.declared.refusal.Refusal.TheVariants.{UnknownCommand, WordCount, NotHexadecimal, NotDecimal}
+use Rattle.fontval.specs.declared.refusal.Refusal.TheVariants.{OutOfRange, NotWhole}
 use Rattle.fontval.specs.declared.refusal.Unanswered.{Unanswered}
 use Rattle.fontval.specs.declared.refusal.Unanswered.TheVariants.{Memory, Refused}
 

@@ -4,7 +4,7 @@ ghost use Rattle.std.specs.Prelude.{◌≡◌, string_bytes};
 ghost use Rattle.font_types.specs.Tag.{tag_bytes};
 ghost use Rattle.fontval.specs.Command.{AnswersWords, IsNamed, IsNamedType, JudgesTag};
 ghost use Rattle.fontval.specs.Command.{ShowsReading, fixed_point, integer};
-ghost use Rattle.fontval.specs.Deltas.{sum_of, varied_by};
+ghost use Rattle.fontval.specs.Deltas.{sum_of, varied_answer};
 ghost use Rattle.fontval.specs.Refusal.{GivesAnswer};
 ghost use Rattle.fontval.specs.Text.{words_of};
 
@@ -12,7 +12,7 @@ use crate::images::Move;
 use crate::judgement::Judgement;
 use crate::numbers::{fixed_numbers, in_pairs, short_number, terms};
 use crate::output::{append, append_read};
-use crate::parse::{text_of_decimal, hexadecimal, two_words};
+use crate::parse::{hexadecimal, text_of_decimal, two_words};
 use crate::refusal::{Refusal, Unanswered};
 use crate::text::Words;
 use font_types::{
@@ -293,7 +293,7 @@ fn append_moved<A: Allocator>(
     terms: &[(Fixed, i32)],
     output: &mut String<A>,
 ) -> Result<(), Unanswered>
-    ensures { GivesAnswer (λ answer. answer ≡ varied_by units terms.now)
+    ensures { GivesAnswer (λ answer. answer ≡ varied_answer units terms.now)
         (string_bytes output.old) (string_bytes output.new) result }
 {
     append(

@@ -108,7 +108,11 @@ pub fn whole_number(word: &[u8]) -> Result<i32, Refusal>
 {
     let (negative, digits) = split_minus(word);
     let magnitude_of_digits = magnitude_of_digits(digits).ok_or(Refusal::NotWhole)?;
-    let number = if negative { -magnitude_of_digits } else { magnitude_of_digits };
+    let number = if negative {
+        -magnitude_of_digits
+    } else {
+        magnitude_of_digits
+    };
     i32::try_from(number).map_err(|_| Refusal::OutOfRange)
 }
 

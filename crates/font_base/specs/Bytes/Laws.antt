@@ -1,11 +1,11 @@
 -- That a number and its bytes determine each other.
-use Rattle.std.proofs.Common.{◌≡◌, ◌∙◌, sym, ap, subst, refl, ℕ, zero, suc, ◌+◌, ◌*◌, ◌/◌, ◌%◌, ◌^◌, ◌<◌, Bool, true, ℤ,
-    pos, ◌+ℤ◌, ◌*ℤ◌, List, [], ◌∷◌, length, get_or, fold, arith, IsTrue, nat_lt, ◌==◌, lit<}
+use Rattle.std.proofs.Common.{◌≡◌, ◌∙◌, sym, ap, subst, refl, ℕ, zero, suc, ◌+◌, ◌*◌, ◌/◌, ◌%◌, ◌^◌, ◌<◌, Bool, true, ℤ}
+use Rattle.std.proofs.Common.{pos, ◌+ℤ◌, ◌*ℤ◌, List, [], ◌∷◌, length, get_or, fold, arith, IsTrue, nat_lt, ◌==◌, lit<}
 use Rattle.std.proofs.lemmas.Int.{ints}
 use Rattle.std.proofs.lemmas.Nat.{pow-add, div-add-mod'}
 use Rattle.std.proofs.lemmas.Bool.{eq-eqb, eqb-true, lt-ltb, ltb-true}
-use Rattle.std.proofs.Math.Nat.{pow-suc, add-mul, mul_assoc, add_comm, mod-lt, mod-eq_of_lt, one-le-pow,
-    add-mul-div_right, add-mul-mod_self_right}
+use Rattle.std.proofs.Math.Nat.{pow-suc, add-mul, mul_assoc, add_comm, mod-lt, mod-eq_of_lt, one-le-pow}
+use Rattle.std.proofs.Math.Nat.{add-mul-div_right, add-mul-mod_self_right}
 use Rattle.std.specs.Cmp.{first_so, second_so}
 use Rattle.std.specs.Cmp.Derive.{both_true}
 use Rattle.std.specs.List.{list_all}
@@ -13,8 +13,8 @@ use Rattle.std.specs.Int.{bytes_high_first, byte_at}
 use lib.Arith.{digits_lt, digits_div, mod-mul}
 use Rattle.font_base.specs.Integers.{sum-times}
 use Rattle.font_base.specs.Wrap.{FitsBits, fits_bits, wrap}
-use Rattle.font_base.specs.Wrap.Laws.{fits_bits-true, FitsBits-fits_bits, remainder, same_rest, wrap_is, wrap_same,
-    wrap-fits}
+use Rattle.font_base.specs.Wrap.Laws.{fits_bits-true, FitsBits-fits_bits, remainder, same_rest, wrap_is, wrap_same}
+use Rattle.font_base.specs.Wrap.Laws.{wrap-fits}
 use Rattle.font_base.specs.Bytes.{numeral, are_bytes, IsBytesOf, bytes_of, signed_numeral}
 
 -- the step of a numeral
@@ -25,8 +25,12 @@ fold-numeral : (a : ℕ) (bytes : List ℕ) → fold push_byte a bytes ≡ a * 2
 fold-numeral a [] = omega arith
 fold-numeral a (b ∷ bs) =
     rw (fold-numeral (a * 256 + b) bs, fold-numeral (0 * 256 + b) bs)
-    (omega (arith, add-mul (a * 256) b (256 ^ length bs), mul_assoc a 256 (256 ^ length bs),
-        ap (λ p. a * p) (pow-suc 256 (length bs))))
+    (omega (
+      arith,
+      add-mul (a * 256) b (256 ^ length bs),
+      mul_assoc a 256 (256 ^ length bs),
+      ap (λ p. a * p) (pow-suc 256 (length bs)),
+    ))
 
 -- the first byte counts most
 pub numeral-cons : (b : ℕ) (bs : List ℕ) → numeral (b ∷ bs) ≡ b * 256 ^ length bs + numeral bs
@@ -64,7 +68,7 @@ each_high_first : (k n : ℕ) → list_all is_byte (bytes_high_first k n) ≡ tr
 each_high_first zero n = refl
 each_high_first (suc k) n =
     both_true (rw (byte_at_is k n) (lt-ltb (n / 256 ^ k % 256) 256 (mod-lt (n / 256 ^ k) (lit< tt))))
-        (each_high_first k n)
+    (each_high_first k n)
 
 are_bytes-high_first : (k n : ℕ) → IsTrue (are_bytes k (bytes_high_first k n))
 are_bytes-high_first k n =
@@ -89,7 +93,7 @@ bytes_high_first-above (suc k) a m =
     let first : byte_at k (a * 256 * 256 ^ k + m) ≡ byte_at k m =
     rw (byte_at_is k m, byte_at_is k (a * 256 * 256 ^ k + m))
     (ap (λ q. q % 256) (ap (λ n. n / 256 ^ k) (add_comm (a * 256 * 256 ^ k) m)
-        ∙ add-mul-div_right m (a * 256) (some_power k))
+    ∙ add-mul-div_right m (a * 256) (some_power k))
     ∙ add-mul-mod_self_right (m / 256 ^ k) a 256) in
     let others = bytes_high_first-above k (a * 256) m in
     rw whole (ap (λ b. b ∷ bytes_high_first k (a * 256 * 256 ^ k + m)) first ∙ ap (λ bs. byte_at k m ∷ bs) others)

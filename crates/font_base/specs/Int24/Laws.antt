@@ -9,8 +9,8 @@ use Rattle.font_base.specs.declared.int24.Int24.{Int24}
 use Rattle.font_base.specs.Wrap.{FitsBits}
 use Rattle.font_base.specs.Wrap.Laws.{wrap-fits}
 use Rattle.font_base.specs.Bytes.{are_bytes, bytes_of, signed_numeral, IsBytesOf}
-use Rattle.font_base.specs.Bytes.Laws.{are_bytes-bytes_of, signed_numeral-bytes_of, FitsBits-signed_numeral,
-    bytes_of-signed_numeral, bytes_of_gives}
+use Rattle.font_base.specs.Bytes.Laws.{are_bytes-bytes_of, signed_numeral-bytes_of, FitsBits-signed_numeral}
+use Rattle.font_base.specs.Bytes.Laws.{bytes_of-signed_numeral, bytes_of_gives}
 use Rattle.font_base.specs.Scalar.{ScalarLaws}
 use Rattle.font_base.specs.Int24.{int24_number, int24_of, int24_of_bytes, bytes_of_int24}
 

@@ -6,8 +6,8 @@ use Rattle.std.specs.Cmp.{signed_Decides, unsigned_Decides}
 use Rattle.std.specs.Ordering.{int_eq}
 use Rattle.font_base.specs.Wrap.{fits_bits}
 use Rattle.font_base.specs.Bytes.{numeral, are_bytes, bytes_of, signed_numeral}
-use Rattle.font_base.specs.Bytes.Laws.{are_bytes-bytes_of, bytes_of-numeral, bytes_of-signed_numeral, unsigned_value,
-    unsigned_back, signed_value, signed_back}
+use Rattle.font_base.specs.Bytes.Laws.{are_bytes-bytes_of, bytes_of-numeral, bytes_of-signed_numeral, unsigned_value}
+use Rattle.font_base.specs.Bytes.Laws.{unsigned_back, signed_value, signed_back}
 use Rattle.font_base.specs.Scalar.{ScalarLaws}
 
 -- a newtype round an unsigned number

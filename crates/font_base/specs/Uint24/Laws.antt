@@ -7,8 +7,8 @@ use mathlib.Core.HLevel.{is_prop→PathP}
 use denote.Struct.Props.{props}
 use Rattle.font_base.specs.declared.uint24.Uint24.{Uint24}
 use Rattle.font_base.specs.Bytes.{are_bytes, numeral, bytes_of, IsBytesOf}
-use Rattle.font_base.specs.Bytes.Laws.{are_bytes-bytes_of, numeral-bytes_of, numeral_below, bytes_of-numeral,
-    bytes_of_gives}
+use Rattle.font_base.specs.Bytes.Laws.{are_bytes-bytes_of, numeral-bytes_of, numeral_below, bytes_of-numeral}
+use Rattle.font_base.specs.Bytes.Laws.{bytes_of_gives}
 use Rattle.font_base.specs.Scalar.{ScalarLaws}
 use Rattle.font_base.specs.Uint24.{uint24_number, uint24_of, uint24_of_bytes, bytes_of_uint24}
 
@@ -16,8 +16,10 @@ use Rattle.font_base.specs.Uint24.{uint24_number, uint24_of, uint24_of_bytes, by
 pub same_uint24 : (m n : Uint24) → uint24_number m ≡ uint24_number n → m ≡ n
 same_uint24 m n same =
     let prop : (k : ℕ) → IsProp (k < 2 ^ 24) = λ k. hlevel props in
-    λ i. record { value = same i;
-        in_range = is_prop→PathP (λ j. same j < 2 ^ 24) (λ j. prop (same j)) m.in_range n.in_range i }
+    λ i. record {
+      value = same i;
+      in_range = is_prop→PathP (λ j. same j < 2 ^ 24) (λ j. prop (same j)) m.in_range n.in_range i;
+    }
 
 pub uint24_number-of : (n : ℕ) → n < 2 ^ 24 → uint24_number (uint24_of n) ≡ n
 unfolding uint24_of
@@ -31,7 +33,7 @@ uint24_back n =
 uint24_forth : (bytes : List ℕ) → IsTrue (are_bytes 3 bytes) → bytes_of_uint24 (uint24_of_bytes bytes) ≡ bytes
 uint24_forth bytes are =
     ap (λ n. bytes_of 3 (pos n)) (uint24_number-of (numeral bytes) (numeral_below 3 bytes are))
-        ∙ bytes_of-numeral 3 bytes are
+    ∙ bytes_of-numeral 3 bytes are
 
 -- a `Uint24` is a scalar
 pub uint24_laws : ScalarLaws (λ (n : Uint24). true) (are_bytes 3) uint24_of_bytes bytes_of_uint24 3 3

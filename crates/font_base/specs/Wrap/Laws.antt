@@ -1,6 +1,6 @@
 -- That wrapping has one answer, and what wrapping does to sums, opposites and what is wrapped.
-use Rattle.std.proofs.Common.{◌≡◌, ◌∙◌, sym, ap, refl, ℕ, zero, suc, ◌+◌, ◌-◌, ◌*◌, ◌/◌, ◌%◌, ◌^◌, ◌<◌, ◌≤◌, ℤ, pos,
-    negsuc, ◌+ℤ◌, ◌*ℤ◌, neg_ℤ, ◌≤ℤ◌, ◌<ℤ◌, true, int_le, int_lt, IsTrue, arith}
+use Rattle.std.proofs.Common.{◌≡◌, ◌∙◌, sym, ap, refl, ℕ, zero, suc, ◌+◌, ◌-◌, ◌*◌, ◌/◌, ◌%◌, ◌^◌, ◌<◌, ◌≤◌, ℤ, pos}
+use Rattle.std.proofs.Common.{negsuc, ◌+ℤ◌, ◌*ℤ◌, neg_ℤ, ◌≤ℤ◌, ◌<ℤ◌, true, int_le, int_lt, IsTrue, arith}
 use Rattle.std.proofs.lemmas.Int.{ints, by_lt_z}
 use Rattle.std.proofs.Math.Nat.{mul-le-mul_right, pow-suc, add-mul, mod-lt}
 use Rattle.std.proofs.lemmas.Nat.{pow_pos, pow-add, div-add-mod'}
@@ -70,14 +70,14 @@ same_rest d m n t u near far same =
     (λ more. by_lt_z u t
     (λ less. let above = turn_above d u t n m less (sym same) in absurd (omega (arith, ints, above, far)))
     (λ fewer. let equal : t ≡ u = omega (arith, ints, more, fewer) in
-        omega (arith, ints, same, ap (λ k. k *ℤ pos d) equal)))
+    omega (arith, ints, same, ap (λ k. k *ℤ pos d) equal)))
 
 -- no two numbers of w bits differ by a multiple of 2^w
 pub wrap_unique : (w : ℕ) (z r s : ℤ) → 0 < w → IsWrapped w z r → IsWrapped w z s → r ≡ s
 wrap_unique w z r s positive p q =
     let whole = two_halves w positive in
     same_rest (2 ^ w) r s p.turns q.turns (omega (arith, ints, whole)) (omega (arith, ints, whole))
-        (sym p.differs ∙ q.differs)
+    (sym p.differs ∙ q.differs)
 
 -- what an answer gives is what `wrap` gives
 pub wrap_gives : (w : ℕ) (z r : ℤ) → 0 < w → IsWrapped w z r → r ≡ wrap w z
@@ -123,7 +123,7 @@ wrap-wrap u v z some less =
     let power : 2 ^ v ≡ 2 ^ (v - u) * 2 ^ u = ap (λ n. 2 ^ n) split ∙ pow-add 2 (v - u) u in
     sym (wrap_same u z (wrap v z) (given.turns *ℤ pos (2 ^ (v - u))) some
     (given.differs ∙ ap (λ y. wrap v z +ℤ y) (ap (λ n. given.turns *ℤ pos n) power
-        ∙ sym (product-times given.turns (pos (2 ^ (v - u))) (pos (2 ^ u))))))
+    ∙ sym (product-times given.turns (pos (2 ^ (v - u))) (pos (2 ^ u))))))
 
 -- ---- the test of a range and the range
 

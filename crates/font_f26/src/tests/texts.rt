@@ -56,6 +56,9 @@ fn padded(rt: HostRuntime) {
     assert!(rt; F26Dot6::from_bits(32).write_padded(&mut out, &pad) == Some(6));
     assert!(rt; &out == b"+0.5  -");
     assert!(rt; F26Dot6::MIN.write_padded(&mut out, &pad).is_none());
+    let mut cell = [b'-'; 12];
+    assert!(rt; F26Dot6::MAX.write_padded(&mut cell, &pad) == Some(12));
+    assert!(rt; &cell == b"+33554431.98");
 }
 
 // No flag of a format is heard: `write_padded` has a rule of its own.

@@ -82,12 +82,13 @@ fn printed_and_read(alloc: Global, x: Fixed) -> Result<Result<Fixed, DecimalFaul
     Ok(Fixed::from_decimal(text.as_str()))
 }
 
-/// A cell of a table, padded to `width`.
-fn cell(x: Fixed, width: usize) -> [u8; 24]
-    requires { width ≤ 24 }
+/// A cell of a table, which no number is too wide for.
+fn cell(x: Fixed, pad: &Pad) -> [u8; 12]
+    requires { (pad.now.fill < 128) × (pad.now.width ≡ 12) }
+    ensures { result ≡ padded_text (fixed_text x) pad.now }
 {
-    let mut out = [b' '; 24];
-    let _written = x.write_padded(&mut out, &Pad::new(width)).unwrap();
+    let mut out = [b'-'; 12];
+    let _written = x.write_padded(&mut out, pad).unwrap();
     out
 }
 
@@ -100,7 +101,7 @@ fn callers(rt: HostRuntime) -> Result<(), Fail> {
     assert!(rt; lerp(half, two, half) == Fixed::from_bits(0x1_4000));
     assert!(rt; lerp(half, two, Fixed::ONE) == two && lerp(two, two, half) == two);
     assert!(rt; printed_and_read(rt.alloc(), half)? == Ok(half));
-    assert!(rt; &cell(half, 6)[..8] == b"   0.5  ".as_slice());
+    assert!(rt; &cell(half, &Pad::new(12)) == b"         0.5");
     Ok(())
 }
 

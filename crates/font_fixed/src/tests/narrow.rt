@@ -101,6 +101,16 @@ fn padded_with_a_sign_and_zeros(rt: HostRuntime) {
 }
 
 #[test]
+fn padded_at_its_longest(rt: HostRuntime) {
+    let mut out = [b'*'; 8];
+    let signed = pad(0, b' ', Align::Left, true, false);
+    assert!(rt; F2Dot14::from_bits(-32767).write_padded(&mut out, &signed) == Some(8));
+    assert!(rt; &out == b"-1.99994");
+    assert!(rt; F2Dot14::MAX.write_padded(&mut out, &signed) == Some(8));
+    assert!(rt; &out == b"+1.99994");
+}
+
+#[test]
 fn padded_without_room(rt: HostRuntime) {
     let mut out = [b'*'; 7];
     let zeros = pad(8, b' ', Align::Left, false, true);

@@ -105,6 +105,20 @@ fn padded(rt: HostRuntime) {
     assert!(rt; Fixed::ONE.write_padded(&mut out[..8], &pad).is_none());
 }
 
+#[test]
+fn padded_at_its_longest(rt: HostRuntime) {
+    let plus = Pad {
+        plus: true,
+        ..Pad::new(0)
+    };
+    let mut out = [b' '; 12];
+    assert!(rt; Fixed::from_bits(i32::MIN + 1).write_padded(&mut out, &plus) == Some(12));
+    assert!(rt; &out == b"-32767.99998");
+    assert!(rt; Fixed::MAX.write_padded(&mut out, &plus) == Some(12));
+    assert!(rt; &out == b"+32767.99998");
+    assert!(rt; Fixed::MAX.write_padded(&mut out[..11], &plus).is_none());
+}
+
 // No flag of a format is heard: `write_padded` has a rule of its own.
 #[test]
 fn without_flags(rt: HostRuntime) -> Result<(), Fail> {

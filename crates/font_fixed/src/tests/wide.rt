@@ -68,6 +68,18 @@ fn padded(rt: HostRuntime) {
     assert!(rt; longest.write_padded(&mut out, &pad) == Some(23));
     assert!(rt; &out == b" -140737488355327.99998*");
     assert!(rt; longest.write_padded(&mut out[..22], &pad).is_none());
+    let plus = Pad {
+        width: 22,
+        plus: true,
+        ..pad
+    };
+    for (number, text) in [
+        (longest, b"-140737488355327.99998"),
+        (F48Dot16::MAX, b"+140737488355327.99998"),
+    ] {
+        assert!(rt; number.write_padded(&mut out[..22], &plus) == Some(22));
+        assert!(rt; out.starts_with(text));
+    }
 }
 
 #[test]

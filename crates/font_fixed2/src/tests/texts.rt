@@ -120,7 +120,7 @@ fn padded(rt: HostRuntime) {
     assert!(rt; F6Dot10::from_bits(-614).write_padded(&mut out, &pad) == Some(4));
     assert!(rt; &out == b"-0.6--");
     assert!(rt; F4Dot12::MIN.write_padded(&mut out[..1], &pad).is_none());
-    let mut cell = [b'-'; 23];
+    let mut cell = [b'-'; 14];
     let zeros = Pad {
         width: 12,
         zeros: true,
@@ -128,6 +128,21 @@ fn padded(rt: HostRuntime) {
     };
     assert!(rt; F2Dot30::from_bits(-7).write_padded(&mut cell, &zeros) == Some(13));
     assert!(rt; cell.starts_with(b"-0.0000000065-"));
+}
+
+#[test]
+fn padded_at_its_longest(rt: HostRuntime) {
+    let plus = Pad {
+        plus: true,
+        ..Pad::new(0)
+    };
+    let mut out = [b' '; 13];
+    assert!(rt; F4Dot12::MAX.write_padded(&mut out[..7], &plus) == Some(7));
+    assert!(rt; out.starts_with(b"+7.9998 "));
+    assert!(rt; F6Dot10::from_bits(31 * 1024 + 64).write_padded(&mut out[..8], &plus) == Some(8));
+    assert!(rt; out.starts_with(b"+31.0625 "));
+    assert!(rt; F2Dot30::from_bits(0x4010_0000).write_padded(&mut out, &plus) == Some(13));
+    assert!(rt; &out == b"+1.0009765625");
 }
 
 // No flag of a format is heard: `write_padded` has a rule of its own.

@@ -69,7 +69,7 @@ module _ {T : Type 0} {n : ℕ} {number : T → ℕ} {zero one : T} {plus times 
     plus_zero = λ x. it.same _ _ (it.number-plus x zero ∙ kept x _ (omega (arith, it.number-zero)));
     products_associate = λ x y z. it.same _ _
         (times_product x y z ∙ ap (λ k. k % n) (mul_assoc (number x) (number y) (number z))
-            ∙ sym (product_times x y z));
+        ∙ sym (product_times x y z));
     one_times = λ x. it.same _ _
         (it.number-times one x ∙ ap (λ k. (k * number x) % n) it.number-one ∙ kept x _ (omega arith));
     times_one = λ x. it.same _ _
@@ -80,8 +80,8 @@ module _ {T : Type 0} {n : ℕ} {number : T → ℕ} {zero one : T} {plus times 
         (plus_times x y z ∙ ap (λ k. k % n) (add-mul (number x) (number y) (number z)) ∙ sym (both_products x z y z));
     zero_times = λ x. it.same _ _
         (it.number-times zero x ∙ ap (λ k. (k * number x) % n) it.number-zero
-            ∙ kept zero _ (omega (arith, it.number-zero)));
+        ∙ kept zero _ (omega (arith, it.number-zero)));
     times_zero = λ x. it.same _ _
         (it.number-times x zero ∙ ap (λ k. (number x * k) % n) it.number-zero
-            ∙ kept zero _ (omega (arith, it.number-zero)));
+        ∙ kept zero _ (omega (arith, it.number-zero)));
   }

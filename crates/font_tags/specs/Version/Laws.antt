@@ -1,6 +1,6 @@
 -- That a pair of numbers and its four bytes determine each other, and that equality joins no two pairs.
-use Rattle.std.proofs.Common.{◌≡◌, ◌∙◌, sym, ap, refl, ℕ, ◌^◌, ◌+◌, Bool, true, ◌&&◌, ◌==◌, nat_eq, nat_lt, pos, List,
-    ◌++◌, IsTrue, take, drop, length, arith}
+use Rattle.std.proofs.Common.{◌≡◌, ◌∙◌, sym, ap, refl, ℕ, ◌^◌, ◌+◌, Bool, true, ◌&&◌, ◌==◌, nat_eq, nat_lt, pos, List}
+use Rattle.std.proofs.Common.{◌++◌, IsTrue, take, drop, length, arith}
 use Rattle.std.specs.Bool.{Decides}
 use Rattle.std.specs.Cmp.{unsigned_Decides}
 use Rattle.std.specs.List.{list_all}
@@ -8,8 +8,8 @@ use Rattle.std.proofs.lemmas.Bool.{and_parts, and_from, eq-eqb}
 use Rattle.std.proofs.lemmas.List.{length-append, length-take-le, length-drop, take-append-drop, take_at, drop_at}
 use Rattle.std.proofs.lemmas.List.Folds.{list_all-append}
 use Rattle.font_base.specs.Bytes.{numeral, are_bytes, bytes_of}
-use Rattle.font_base.specs.Bytes.Laws.{are_bytes-length, are_bytes-bytes_of, bytes_of-numeral, unsigned_value,
-    unsigned_back}
+use Rattle.font_base.specs.Bytes.Laws.{are_bytes-length, are_bytes-bytes_of, bytes_of-numeral, unsigned_value}
+use Rattle.font_base.specs.Bytes.Laws.{unsigned_back}
 use Rattle.font_base.specs.Scalar.{ScalarLaws}
 use Rattle.font_tags.specs.declared.version.MajorMinor.{MajorMinor}
 use Rattle.font_tags.specs.Version.{major_minor_bytes, major_minor_of}
@@ -24,10 +24,10 @@ are_bytes-append n m xs ys first second =
     let many = length-append xs ys in
     and_from (length (xs ++ ys) == n + m) (list_all is_byte (xs ++ ys))
     (eq-eqb (length (xs ++ ys)) (n + m)
-        (omega (arith, many, are_bytes-length n xs first, are_bytes-length m ys second)))
+    (omega (arith, many, are_bytes-length n xs first, are_bytes-length m ys second)))
     (list_all-append is_byte xs ys
-        ∙ and_from (list_all is_byte xs) (list_all is_byte ys) (and_parts (length xs == n) _ first).1
-        (and_parts (length ys == m) _ second).1)
+    ∙ and_from (list_all is_byte xs) (list_all is_byte ys) (and_parts (length xs == n) _ first).1
+    (and_parts (length ys == m) _ second).1)
 
 -- the halves of four bytes
 halves_are_bytes : (raw : List ℕ) → IsTrue (are_bytes 4 raw) → IsTrue (are_bytes 2 (take 2 raw)) × IsTrue
@@ -36,10 +36,11 @@ halves_are_bytes raw are =
     let many = are_bytes-length 4 raw are in
     let each : (list_all is_byte (take 2 raw) && list_all is_byte (drop 2 raw)) ≡ true =
     sym (list_all-append is_byte (take 2 raw) (drop 2 raw)) ∙ ap (λ bytes. list_all is_byte bytes)
-        (take-append-drop 2 raw) ∙ (and_parts (length raw == 4) _ are).1 in
-    let parts = and_parts _ _ each in
-    (and_from _ _ (eq-eqb _ 2 (length-take-le 2 raw (omega arith))) parts.0,
-        and_from _ _ (eq-eqb _ 2 (length-drop 2 raw ∙ omega arith)) parts.1)
+    (take-append-drop 2 raw) ∙ (and_parts (length raw == 4) _ are).1 in
+    let parts = and_parts _ _ each in (
+      and_from _ _ (eq-eqb _ 2 (length-take-le 2 raw (omega arith))) parts.0,
+      and_from _ _ (eq-eqb _ 2 (length-drop 2 raw ∙ omega arith)) parts.1,
+    )
 
 pub major_minor_laws : ScalarLaws (λ version. nat_lt version.major (2 ^ 16) && nat_lt version.minor (2 ^ 16))
     (are_bytes 4) major_minor_of major_minor_bytes 4 4
@@ -51,11 +52,11 @@ major_minor_laws = record {
   back = λ version value.
       let small = and_parts _ _ value in
       let many : length (bytes_of 2 (pos version.major)) ≡ 2 = are_bytes-length 2 _
-          (are_bytes-bytes_of 2 (pos version.major)) in
+      (are_bytes-bytes_of 2 (pos version.major)) in
       let first : numeral (take 2 (major_minor_bytes version)) ≡ version.major = ap numeral
-          (take_at (bytes_of 2 (pos version.major)) _ 2 many) ∙ unsigned_back 2 version.major small.0 in
+      (take_at (bytes_of 2 (pos version.major)) _ 2 many) ∙ unsigned_back 2 version.major small.0 in
       let second : numeral (drop 2 (major_minor_bytes version)) ≡ version.minor = ap numeral
-          (drop_at (bytes_of 2 (pos version.major)) _ 2 many) ∙ unsigned_back 2 version.minor small.1 in
+      (drop_at (bytes_of 2 (pos version.major)) _ 2 many) ∙ unsigned_back 2 version.minor small.1 in
       λ i. record { major = first i; minor = second i };
   forth = λ raw are.
       let half = halves_are_bytes raw are in

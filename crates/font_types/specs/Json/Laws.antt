@@ -1,6 +1,6 @@
 -- That what is shown as JSON is read back.
-use Rattle.std.proofs.Common.{◌≡◌, ◌∙◌, sym, ap, refl, negsuc, ℕ, ◌-◌, ◌^◌, ◌≤◌, ℤ, pos, List, ◌++◌, length, replicate,
-    true, nat_lt, IsUtf8, IsTrue, Result, Ok, Err, ◌&&◌, int_le, arith}
+use Rattle.std.proofs.Common.{◌≡◌, ◌∙◌, sym, ap, refl, negsuc, ℕ, ◌-◌, ◌^◌, ◌≤◌, ℤ, pos, List, ◌++◌, length, replicate}
+use Rattle.std.proofs.Common.{true, nat_lt, IsUtf8, IsTrue, Result, Ok, Err, ◌&&◌, int_le, arith}
 use Rattle.std.proofs.lemmas.Int.{ints}
 use Rattle.std.specs.Result.{result_map_both}
 use Rattle.serde_json.specs.Data.{Data, string, number}
@@ -12,11 +12,11 @@ use Rattle.font_decimal.proofs.Readings.{rounds_unique}
 use Rattle.font_arithmetic.specs.Operations.{ReadsAs, least, greatest}
 use Rattle.font_arithmetic.proofs.Texts.{printed_reads}
 use Rattle.font_types.specs.declared.json.JsonFault.{JsonFault}
-use Rattle.font_types.specs.declared.json.JsonFault.TheVariants.{Memory, WrongKind, OutOfRange, Syntax, NotUtf8,
-    InvalidTag, MissingMember}
-use Rattle.font_types.specs.Json.{IsNumber, is_within, ReadsWholeNumber, is_unsigned, ReadsUnsigned, is_within_signed,
-    ReadsSigned, IsTextRead, ReadsDecimal, number_within, IsTagMade, IsTagRead, TagComesBack, version_form,
-    version_read, ReadsVersion}
+use Rattle.font_types.specs.declared.json.JsonFault.TheVariants.{Memory, WrongKind, OutOfRange, Syntax, NotUtf8}
+use Rattle.font_types.specs.declared.json.JsonFault.TheVariants.{InvalidTag, MissingMember}
+use Rattle.font_types.specs.Json.{IsNumber, is_within, ReadsWholeNumber, is_unsigned, ReadsUnsigned, is_within_signed}
+use Rattle.font_types.specs.Json.{ReadsSigned, IsTextRead, ReadsDecimal, number_within, IsTagMade, IsTagRead}
+use Rattle.font_types.specs.Json.{TagComesBack, version_form, version_read, ReadsVersion}
 use Rattle.std.specs.Cmp.{first_so, second_so}
 use Rattle.std.specs.Cmp.Derive.{both_true}
 use Rattle.std.proofs.lemmas.Bool.{ltb-true}
@@ -57,10 +57,10 @@ pub fixed_round_trip : {T : Type 0} (w f : ℕ) (bits_of : T → ℤ) (of_bits :
     → ReadsDecimal w f bits_of d result → result ≡ Ok x
 fixed_round_trip w f bits_of of_bits back room x d result value shown read =
     let text : IsTextRead w f (shortest_text (bits_of x) f) (result_map_both bits_of (λ fault. fault) result) =
-        rw shown at read in
+    rw shown at read in
     same_read bits_of of_bits back x result
     (text_reads_back w f (shortest_text (bits_of x) f) (bits_of x) _
-        (printed_reads w f (bits_of x) room (fits_bits-true w (bits_of x) value)) text)
+    (printed_reads w f (bits_of x) room (fits_bits-true w (bits_of x) value)) text)
 
 -- ---- whole numbers
 
@@ -77,12 +77,12 @@ number_round_trip : {T : Type 0} (number_of : T → ℤ) → ((x y : T) → numb
     → result ≡ Ok x
 number_round_trip number_of same min max x d (Ok y) within shown read =
     let equal : result_map_both number_of (λ fault. fault) (Ok y) ≡ Ok (number_of x) = read ∙ rw shown
-        (number_reads_back min max (number_of x) within) in
+    (number_reads_back min max (number_of x) within) in
     let numbers : number_of y ≡ number_of x = cc in
     ap Ok (same y x numbers)
 number_round_trip number_of same min max x d (Err fault) within shown read =
     let equal : result_map_both number_of (λ fault. fault) (Err fault) ≡ Ok (number_of x) = read ∙ rw shown
-        (number_reads_back min max (number_of x) within) in
+    (number_reads_back min max (number_of x) within) in
     absurd (cc)
 
 pub signed_round_trip : {T : Type 0} (w : ℕ) (number_of : T → ℤ) → ((x y : T) → number_of x ≡ number_of y → x ≡ y)
@@ -97,7 +97,7 @@ pub unsigned_round_trip : {T : Type 0} (w : ℕ) (number_of : T → ℕ) → ((x
     → result ≡ Ok x
 unsigned_round_trip w number_of same =
     number_round_trip (λ y. pos (number_of y)) (λ x y equal. let numbers : number_of x ≡ number_of y = cc in
-        same x y numbers) (pos 0) (pos (2 ^ w - 1))
+    same x y numbers) (pos 0) (pos (2 ^ w - 1))
 
 -- ---- tags
 
@@ -145,9 +145,9 @@ pub version_round_trip : (version : MajorMinor) (d : Data) (result : Result Majo
     → d ≡ version_form version.major version.minor → ReadsVersion d result → result ≡ Ok version
 version_round_trip version d result value shown read =
     let first = sixteen_bits version.major
-        (first_so (nat_lt version.major (2 ^ 16)) (nat_lt version.minor (2 ^ 16)) value) in
+    (first_so (nat_lt version.major (2 ^ 16)) (nat_lt version.minor (2 ^ 16)) value) in
     let second = sixteen_bits version.minor
-        (second_so (nat_lt version.major (2 ^ 16)) (nat_lt version.minor (2 ^ 16)) value) in
+    (second_so (nat_lt version.major (2 ^ 16)) (nat_lt version.minor (2 ^ 16)) value) in
     let numbers : Result (ℤ × ℤ) JsonFault = Ok (pos version.major, pos version.minor) in
     let form : version_read (version_form version.major version.minor) ≡ numbers = rw (first, second) refl in
     came_back version result (read ∙ ap version_read shown ∙ form)

@@ -12,4 +12,4 @@ returns c =
     reads_by w16 c.args.f (λ b. b) (λ b. b) c.args.text.now _ (λ _. refl) (lit≤ tt)
     (cast_reads w16 c.args.f c.args.text.now c.in_ok-bits.bits _ _ (lit≤ tt)
     (ap (λ y. to_z w64 (of_z w64 y)) c.from.ensures)
-        (ap (λ y. to_z w64 (of_z w64 y)) c.from-2.ensures) c.in_ok-bits.ensures.reading)
+    (ap (λ y. to_z w64 (of_z w64 y)) c.from-2.ensures) c.in_ok-bits.ensures.reading)

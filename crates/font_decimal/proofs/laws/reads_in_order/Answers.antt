@@ -7,5 +7,5 @@ returns-clause-in_order c =
     let min_fits : FitsSigned w64 c.args.min = c.ranges.min in
     let max_fits : FitsSigned w64 c.args.max = c.ranges.max in
     order_of_readings c.args.s.now c.args.t.now c.args.f c.args.min c.args.max c.read_decimal.result
-        c.read_decimal-2.result
+    c.read_decimal-2.result
     (simp to_z-of_z at c.read_decimal.ensures.reading) (simp to_z-of_z at c.read_decimal-2.ensures.reading)

@@ -7,7 +7,7 @@ use Rattle.font_decimal.proofs.padding.shown_parts.Goals as goal
 pub returns-in-None-clause-sign : goal.returns-in-None-clause-sign
 returns-in-None-clause-sign c =
     plus_sign c.args.plus c.args.text.now
-        (strip_prefix_char 45 c.args.text.now None c.in-None.ensures.cases (omega arith)) c.if-plus.true
+    (strip_prefix_char 45 c.args.text.now None c.in-None.ensures.cases (omega arith)) c.if-plus.true
 
 pub returns-in-None-clause-body : goal.returns-in-None-clause-body
 returns-in-None-clause-body c = plain_body c.args.text.now
@@ -16,7 +16,7 @@ returns-in-None-clause-body c = plain_body c.args.text.now
 pub returns-in-None-2-clause-sign : goal.returns-in-None-2-clause-sign
 returns-in-None-2-clause-sign c =
     no_sign c.args.plus c.args.text.now
-        (strip_prefix_char 45 c.args.text.now None c.in-None.ensures.cases (omega arith)) c.if-plus.false
+    (strip_prefix_char 45 c.args.text.now None c.in-None.ensures.cases (omega arith)) c.if-plus.false
 
 pub returns-in-None-2-clause-body : goal.returns-in-None-2-clause-body
 returns-in-None-2-clause-body c = plain_body c.args.text.now

@@ -12,7 +12,7 @@ use Rattle.font_decimal.proofs.reader.nearest_steps.Goals as goal
 pub whole_digits-whole-requires : goal.whole_digits-whole-requires
 whole_digits-whole-requires c =
     let most : 2 ^ (63 - c.args.f) ≤ 2 ^ 57 = pow-le-pow_right {n = 2} (omega arith) {i = 63 - c.args.f} {j = 57}
-        (omega (arith, c.requires)) in
+    (omega (arith, c.requires)) in
     rw (one_shl (63 - c.args.f) 64 (omega arith)) (omega arith)
 
 pub returns-in_err-behind_point-clause-none : goal.returns-in_err-behind_point-clause-none
@@ -21,7 +21,7 @@ returns-in_err-behind_point-clause-none c =
     rw c.from_residual.ensures
     (λ w e parts.
     let split = split_parts c.args.digits.now w e whole.result.1 parts whole.ensures.digits whole.ensures.within
-        whole.ensures.end in
+    whole.ensures.end in
     c.in_err-behind_point.ensures e (take_rest whole.result.1 c.args.digits.now ∙ split.back))
 
 pub returns-in_err-half_steps-clause-none : goal.returns-in_err-half_steps-clause-none
@@ -30,7 +30,7 @@ returns-in_err-half_steps-clause-none c =
     let rest = sym (take_rest whole.result.1 c.args.digits.now) ∙ c.in_ok-behind_point.ensures in
     rw c.from_residual-in_err-half_steps.ensures (λ w e parts.
     let split = split_parts c.args.digits.now w e whole.result.1 parts whole.ensures.digits whole.ensures.within
-        whole.ensures.end in
+    whole.ensures.end in
     let same = same_point e c.in_ok-behind_point.field-0.now (sym split.back ∙ rest) in
     c.in_err-half_steps.ensures (subst (λ ds. AllDigits 10 ds) same parts.fraction_digits))
 
@@ -39,10 +39,10 @@ fit c =
     let fraction = c.in_ok-behind_point.field-0.now in
     let halves = c.in_ok-half_steps.ensures in
     let below = half_steps_below (c.args.f + 1) (kept_numeral (c.args.f + 1) fraction)
-        (kept_below (c.args.f + 1) fraction halves.0) in
+    (kept_below (c.args.f + 1) fraction halves.0) in
     let cap = rw (one_shl (63 - c.args.f) 64 (omega arith)) at c.whole_digits-whole.ensures.number in
     steps_fit c.args.f c.whole_digits-whole.result.0 c.in_ok-half_steps.half_steps
-        (digits_value 10 (take c.whole_digits-whole.result.1 c.args.digits.now))
+    (digits_value 10 (take c.whole_digits-whole.result.1 c.args.digits.now))
     (omega (arith, c.requires)) cap (rw halves.1 below)
 
 pub overflow_add-result : goal.overflow_add-result
@@ -61,7 +61,7 @@ returns-clause-some c =
     let cap = rw (one_shl (63 - c.args.f) 64 (omega arith)) at whole.ensures.number in
     rw (fit c).shifted
     (steps_found c.args.f whole.result.0 c.in_ok-half_steps.half_steps _ digits fraction whole.result.1
-        (omega (arith, c.requires))
+    (omega (arith, c.requires))
     (λ s. parts_found digits fraction whole.result.1 s whole.ensures.digits (omega (arith, c.if-len-eq0.false))
-        whole.ensures.within rest halves.0)
+    whole.ensures.within rest halves.0)
     cap halves.1 refl)

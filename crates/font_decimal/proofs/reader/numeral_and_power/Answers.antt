@@ -13,19 +13,19 @@ returns-then-not-is_ascii_digit c = λ all.
 pub overflow_mul-numeral : goal.overflow_mul-numeral
 overflow_mul-numeral c =
     let small = few_digits c.args.digits.now c.loop-digit.digit-index c.loop-digit.invariant.judged (omega arith)
-        (omega arith) in
+    (omega arith) in
     omega (arith, c.loop-digit.invariant.numeral)
 
 pub overflow_add-numeral : goal.overflow_add-numeral
 overflow_add-numeral c =
     let small = few_digits c.args.digits.now c.loop-digit.digit-index c.loop-digit.invariant.judged (omega arith)
-        (omega arith) in
+    (omega arith) in
     omega (arith, c.loop-digit.invariant.numeral, c.if-not-is_ascii_digit.ensures.cases, c.from.ensures)
 
 pub overflow_mul-power_of_five : goal.overflow_mul-power_of_five
 overflow_mul-power_of_five c =
     let power : 5 ^ c.loop-digit.digit-index ≤ 5 ^ 18 = pow-le-pow_right {n = 5} (omega arith)
-        {i = c.loop-digit.digit-index} {j = 18} (omega arith) in
+    {i = c.loop-digit.digit-index} {j = 18} (omega arith) in
     omega (arith, c.loop-digit.invariant.power_of_five)
 
 pub loop-digit-preserved : goal.loop-digit-preserved
@@ -33,9 +33,12 @@ loop-digit-preserved c = record {
   numeral = one_digit_more c.args.digits.now c.loop-digit.digit-index c.loop-digit.numeral c.from.result
       c.loop-digit-test.true c.if-not-is_ascii_digit.ensures.cases
       c.loop-digit.invariant.numeral c.from.ensures;
-  power_of_five = omega
-      (arith, c.loop-digit.invariant.power_of_five, pow-suc 5 c.loop-digit.digit-index,
-          ap (λ n. 5 ^ n) (add-one c.loop-digit.digit-index));
+  power_of_five = omega (
+    arith,
+    c.loop-digit.invariant.power_of_five,
+    pow-suc 5 c.loop-digit.digit-index,
+    ap (λ n. 5 ^ n) (add-one c.loop-digit.digit-index),
+  );
   judged = digits_more 10 c.args.digits.now c.loop-digit.digit-index c.loop-digit-test.true
       c.loop-digit.invariant.judged c.if-not-is_ascii_digit.ensures.bound;
 }

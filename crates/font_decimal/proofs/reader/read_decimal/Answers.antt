@@ -12,7 +12,7 @@ returns-in_default c =
     let sign = c.split_sign-negative in
     let text = c.args.text.now in
     let reading = no_decimal text sign.result.1.now sign.result.0 (sym c.as_bytes.ensures.value ∙ sign.ensures.minus)
-        (rw c.as_bytes.ensures.value at sign.ensures.plain) c.in_default.ensures.none in
+    (rw c.as_bytes.ensures.value at sign.ensures.plain) c.in_default.ensures.none in
     record {
       ok = λ b. answers_as text c.args.f c.args.min c.args.max (Err Syntax) (Ok b) reading;
       reading = reading;
@@ -28,11 +28,11 @@ returns c =
     let max_fits : FitsSigned w64 c.args.max = c.ranges.max in
     let found = c.in-Some.ensures.some in
     let rounds = subst (λ t. Rounds t c.args.f (signed sign.result.0 found.0))
-        (sym sign.ensures.minus ∙ c.as_bytes.ensures.value) (found.2 sign.result.0) in
+    (sym sign.ensures.minus ∙ c.as_bytes.ensures.value) (found.2 sign.result.0) in
     let ranged = judged_steps sign.result.0 c.in-Some.steps found.0 c.args.min c.args.max c.in_range.result min_fits
-        max_fits found.1 (simp to_z-of_z at c.in_range.ensures) in
+    max_fits found.1 (simp to_z-of_z at c.in_range.ensures) in
     let by_steps = judged_by_range text c.args.f c.args.min c.args.max
-        (signed sign.result.0 found.0) c.in_range.result rounds ranged in
+    (signed sign.result.0 found.0) c.in_range.result rounds ranged in
     let P : Result ℤ _ → Type 0 = λ r. IsReading text c.args.f c.args.min c.args.max r in
     let reading = subst P (sym c.ok_or.ensures.value) by_steps in
     record {

@@ -3,8 +3,8 @@ use Rattle.std.proofs.Math.Nat.{pow-suc}
 use Rattle.std.proofs.lemmas.Nat.{one_shl}
 use Rattle.font_decimal.specs.Shortest.{nearest_numeral, reads_back}
 use Rattle.font_decimal.proofs.Fewest.{IsFewest, place_left}
-use Rattle.font_decimal.proofs.Remainder.{stopped, places_are, fails_here, rounded_up, rounded_down, next_numeral,
-    next_below, fraction_below, no_carry}
+use Rattle.font_decimal.proofs.Remainder.{stopped, places_are, fails_here, rounded_up, rounded_down, next_numeral}
+use Rattle.font_decimal.proofs.Remainder.{next_below, fraction_below, no_carry}
 use Rattle.font_decimal.proofs.shortest.shortest_digits.Goals as goal
 
 step_is : (f : ℕ) → f ≤ 30 → 1 * 2 ^ f % 18446744073709551616 ≡ 2 ^ f
@@ -17,7 +17,7 @@ fails : (c : goal.In-loop-margin) → reads_back c.args.magnitude c.args.f c.loo
 fails c =
     let l = c.loop-margin in
     fails_here c.args.magnitude c.args.f l.places _ l.rest l.invariant.rest
-        (omega (arith, c.min.ensures, unit_is c.args.f c.requires))
+    (omega (arith, c.min.ensures, unit_is c.args.f c.requires))
 
 pub loop-margin-smaller : goal.loop-margin-smaller
 loop-margin-smaller c =
@@ -44,7 +44,7 @@ raise_last_digit-fraction-requires c =
     let l = c.loop-margin in
     let small = unit_is c.args.f c.requires in
     let fewest = stopped c.args.magnitude c.args.f l.places _ l.rest l.invariant.rest
-        (omega (arith, c.min.ensures, small)) l.invariant.within l.invariant.fail in
+    (omega (arith, c.min.ensures, small)) l.invariant.within l.invariant.fail in
     let numeral = rounded_up c.args.magnitude c.args.f l.places _ l.rest l.invariant.rest (omega (arith, small)) in
     (no_carry c.args.magnitude c.args.f l.places _ l.fraction fewest (omega arith) numeral, omega arith)
 
@@ -52,7 +52,7 @@ fewest : (c : goal.After-raise_last_digit-fraction) → IsFewest c.args.magnitud
 fewest c =
     let l = c.loop-margin in
     stopped c.args.magnitude c.args.f l.places _ l.rest l.invariant.rest
-        (omega (arith, c.min.ensures, unit_is c.args.f c.requires)) l.invariant.within l.invariant.fail
+    (omega (arith, c.min.ensures, unit_is c.args.f c.requires)) l.invariant.within l.invariant.fail
 
 raised : (c : goal.After-raise_last_digit-fraction) → nearest_numeral c.args.magnitude c.args.f c.loop-margin.places
     ≡ c.args.magnitude / (1 * 2 ^ c.args.f % 18446744073709551616) * 10 ^ c.loop-margin.places + c.loop-margin.fraction
@@ -72,14 +72,14 @@ returns-then-rest-unit-clause-below c =
     let l = c.loop-margin in
     let split = raised c ∙ rw (step_is c.args.f c.requires) (omega arith) in
     rw c.raise_last_digit-fraction.ensures
-        (fraction_below c.args.magnitude c.args.f l.places (l.fraction + 1) (fewest c) split)
+    (fraction_below c.args.magnitude c.args.f l.places (l.fraction + 1) (fewest c) split)
 
 -- where it is not
 pub returns-else-rest-unit-clause-places : goal.returns-else-rest-unit-clause-places
 returns-else-rest-unit-clause-places c =
     let l = c.loop-margin in
     let fewest = stopped c.args.magnitude c.args.f l.places _ l.rest l.invariant.rest
-        (omega (arith, c.min.ensures, unit_is c.args.f c.requires))
+    (omega (arith, c.min.ensures, unit_is c.args.f c.requires))
     l.invariant.within l.invariant.fail in
     places_are c.args.magnitude c.args.f l.places fewest
 
@@ -87,4 +87,4 @@ pub returns-else-rest-unit-clause-numeral : goal.returns-else-rest-unit-clause-n
 returns-else-rest-unit-clause-numeral c =
     let l = c.loop-margin in
     sym (rounded_down c.args.magnitude c.args.f l.places _ l.rest l.invariant.rest
-        (omega (arith, unit_is c.args.f c.requires)))
+    (omega (arith, unit_is c.args.f c.requires)))

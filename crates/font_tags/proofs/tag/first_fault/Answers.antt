@@ -10,12 +10,12 @@ returns c =
     let bytes = c.args.bytes.now in
     let run = c.unwrap_or-run.result in
     let first = IsFirst-from_position _ _ c.position.result (λ (byte : ℕ). ¬ IsVisible byte)
-        (λ (byte : ℕ). IsVisible byte) c.position.ensures.ran (YieldsList-from_slice bytes c.iter.ensures.rest)
+    (λ (byte : ℕ). IsVisible byte) c.position.ensures.ran (YieldsList-from_slice bytes c.iter.ensures.rest)
     (λ x q k. search (rules, tests)) (λ x q k. search (rules, tests)) in
     let read = read_run bytes c.position.result run first (search rules) in
     let next = IsFirst-from_position _ _ c.position-behind.result (λ (byte : ℕ). byte ≢ 0x20)
-        (λ (byte : ℕ). byte ≡ 0x20) c.position-behind.ensures.ran
+    (λ (byte : ℕ). byte ≡ 0x20) c.position-behind.ensures.ran
     (YieldsList-from_slice _ (c.iter-2.ensures.rest ∙ take_rest bytes run)) (λ x q k. search (rules, tests))
-        (λ x q k. search (rules, tests)) in
+    (λ x q k. search (rules, tests)) in
     counted_from run c.position-behind.result c.map.result _ _ _ (λ j i p. search (rules, p)) c.map.ensures.cases
     (judged_from_read bytes run c.position-behind.result (omega arith) read next)

@@ -5,6 +5,8 @@ use Rattle.font_types.proofs.Callers.{absent}
 use Rattle.font_uses.proofs.reader.position_of.Goals as goal
 
 pub returns-clause-absent : goal.returns-clause-absent
-returns-clause-absent c = search
-    (rules, absent (λ field. numeral (raw_value field)) c.args.glyphs.now _ _ c.requires
-        c.binary_search.ensures.position)
+returns-clause-absent c = search (
+  rules,
+  absent (λ field. numeral (raw_value field)) c.args.glyphs.now _ _ c.requires
+      c.binary_search.ensures.position,
+)

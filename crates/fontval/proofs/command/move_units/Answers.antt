@@ -10,9 +10,9 @@ pub returns : goal.returns
 returns g c =
     let terms = c.deref.result.now in
     let first : words_of c.args.words.rest.now ≡ c.in_ok-base.base.now ∷ words_of c.next.new.self.rest.now =
-        search rules in
+    search rules in
     let whole : ReadsWhole 16 c.in_ok-base.base.now (Ok c.in-Ok.units) = search rules in
     let read : ReadsTerms (words_of c.next.new.self.rest.now) (Ok terms) = search rules in
     let given : GivesAnswer (λ answer. answer ≡ varied_answer c.in-Ok.units terms) (string_bytes c.args.output.now)
-        (string_bytes c.append_moved.new.output) c.append_moved.result = search rules in
+    (string_bytes c.append_moved.new.output) c.append_moved.result = search rules in
     given_moved _ _ _ c.in-Ok.units terms _ _ _ given first whole read

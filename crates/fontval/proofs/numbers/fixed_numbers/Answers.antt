@@ -7,6 +7,6 @@ use Rattle.fontval.proofs.numbers.fixed_numbers.Goals as goal
 pub loop-word-preserved : goal.loop-word-preserved
 loop-word-preserved g c =
     let next : words_of c.loop-word.words.rest.now ≡ c.in-Some.word.now ∷ words_of c.next.new.self.rest.now =
-        search rules in
+    search rules in
     let one : ReadsFixed c.in-Some.word.now (Ok c.in-Ok.number) = search rules in
     (tt, tt, one_more_number g.row.N _ _ _ _ _ _ _ c.loop-word.invariant.2 c.if-at.false next one)

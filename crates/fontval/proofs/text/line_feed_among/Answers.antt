@@ -14,4 +14,4 @@ pub returns-else-feeds-eq0 : goal.returns-else-feeds-eq0
 returns-else-feeds-eq0 c =
     let feeds = bitmask_splat w8 eqb c.args.block.now 16 10 c.told-block (omega arith) in
     ap (λ mask. Some (count_trailing_zeros 64 mask)) feeds ∙ first_marked is_line_feed c.args.block.now
-        (omega (arith, c.told-block)) (omega (arith, feeds, c.if-feeds-eq0.false))
+    (omega (arith, c.told-block)) (omega (arith, feeds, c.if-feeds-eq0.false))

@@ -7,7 +7,7 @@ pub returns-clause-bytes : goal.returns-clause-bytes
 returns-clause-bytes c =
     let slice = c.as_slice-bytes.ensures in
     from_three c.args.bytes _ c.from.result c.from-2.result c.from-3.result slice.value slice.bytes c.from.ensures
-        c.from-2.ensures c.from-3.ensures
+    c.from-2.ensures c.from-3.ensures
 
 pub returns-clause-number : goal.returns-clause-number
 returns-clause-number c = uint24_numeral _ c.args.bytes (search rules) (returns-clause-bytes c)

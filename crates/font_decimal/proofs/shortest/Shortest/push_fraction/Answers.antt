@@ -11,7 +11,7 @@ fraction_length p n text old e = ap length e ∙ length-append (last_digits p n)
 pub push-requires : goal.push-requires
 push-requires c =
     let long = fraction_length c.loop-place._place c.args.fraction (shown c.loop-place.self)
-        (shown c.args.self.now) c.loop-place.invariant.digits in
+    (shown c.args.self.now) c.loop-place.invariant.digits in
     (omega arith, omega (arith, c.requires))
 
 pub loop-place-preserved : goal.loop-place-preserved
@@ -26,5 +26,5 @@ loop-place-preserved c =
 pub push-requires-then-places-gt0 : goal.push-requires-then-places-gt0
 push-requires-then-places-gt0 c =
     let long = fraction_length c.loop-place._place c.args.fraction (shown c.loop-place.self)
-        (shown c.args.self.now) c.loop-place.invariant.digits in
+    (shown c.args.self.now) c.loop-place.invariant.digits in
     (omega arith, omega (arith, c.requires))

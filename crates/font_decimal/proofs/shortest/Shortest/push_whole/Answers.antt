@@ -1,5 +1,5 @@
-use Rattle.std.proofs.Common.{◌≡◌, ℕ, ◌<◌, ◌≤◌, ◌+◌, ◌^◌, ◌/◌, ◌%◌, List, [], ◌++◌, ◌∷◌, length, arith, length-append,
-    append_assoc, sym, ap, ◌∙◌}
+use Rattle.std.proofs.Common.{◌≡◌, ℕ, ◌<◌, ◌≤◌, ◌+◌, ◌^◌, ◌/◌, ◌%◌, List, [], ◌++◌, ◌∷◌, length, arith, length-append}
+use Rattle.std.proofs.Common.{append_assoc, sym, ap, ◌∙◌}
 use Rattle.std.specs.Fmt.{decimal}
 use Rattle.std.proofs.lemmas.Fmt.{decimal_step, decimal_digit, decimal_nonempty}
 use Rattle.font_decimal.specs.Shown.{shown}
@@ -19,26 +19,30 @@ digit_pushed left text next all low high e whole =
     let front = decimal (left / 10) in
     let last : List ℕ = (48 + left % 10) ∷ [] in
     ap (λ xs. front ++ xs) e ∙ sym (append_assoc front last text) ∙ ap (λ xs. xs ++ text)
-        (sym (decimal_step left low high)) ∙ whole
+    (sym (decimal_step left low high)) ∙ whole
 
 pub push-requires : goal.push-requires
 push-requires c =
-    let l = c.loop-left in
-    (omega arith, digits_fit_buffer l.left c.args.whole (shown l.self) (shown c.args.self.now) l.auto.left-fits.fits
-        l.invariant c.requires)
+    let l = c.loop-left in (
+      omega arith,
+      digits_fit_buffer l.left c.args.whole (shown l.self) (shown c.args.self.now) l.auto.left-fits.fits
+          l.invariant c.requires,
+    )
 
 pub loop-left-preserved : goal.loop-left-preserved
 loop-left-preserved c =
     let l = c.loop-left in
     digit_pushed l.left (shown l.self) (shown c.push.new.self)
-        (decimal c.args.whole ++ shown c.args.self.now) c.loop-left-test.true l.auto.left-fits.fits c.push.ensures
-            l.invariant
+    (decimal c.args.whole ++ shown c.args.self.now) c.loop-left-test.true l.auto.left-fits.fits c.push.ensures
+    l.invariant
 
 pub push-requires-2 : goal.push-requires-2
 push-requires-2 c =
-    let l = c.loop-left in
-    (omega arith, digits_fit_buffer l.left c.args.whole (shown l.self) (shown c.args.self.now) l.auto.left-fits.fits
-        l.invariant c.requires)
+    let l = c.loop-left in (
+      omega arith,
+      digits_fit_buffer l.left c.args.whole (shown l.self) (shown c.args.self.now) l.auto.left-fits.fits
+          l.invariant c.requires,
+    )
 
 pub returns : goal.returns
 returns c =

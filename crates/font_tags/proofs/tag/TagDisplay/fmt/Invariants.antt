@@ -6,4 +6,4 @@ use Rattle.font_tags.proofs.tag.TagDisplay.fmt.Given as goal
 abbrev pub invariant-loop-byte : goal.invariant-loop-byte
 invariant-loop-byte g l =
     IsPlainFormatter l.initial.f → HasWritten g.W.Write.write_str_gives l.initial.f
-        (tag_text (take l.byte-index l.byte-items)) l.f
+    (tag_text (take l.byte-index l.byte-items)) l.f

@@ -1,5 +1,5 @@
-use Rattle.std.proofs.Common.{rules, ◌≡◌, ◌∙◌, List, [], ◌∷◌, ◌++◌, take, drop, length, arith, sym, ap, refl,
-    slice_index_or, pos}
+use Rattle.std.proofs.Common.{rules, ◌≡◌, ◌∙◌, List, [], ◌∷◌, ◌++◌, take, drop, length, arith, sym, ap, refl}
+use Rattle.std.proofs.Common.{slice_index_or, pos}
 use Rattle.std.proofs.lemmas.List.{take-append-drop}
 use Rattle.font_types.specs.Matrix.{elements_of}
 use Rattle.font_types.specs.Fixed.{fixed_of}
@@ -24,4 +24,4 @@ returns c =
     let two : length last ≡ 2 = search rules in
     let p : last ≡ c.new.result.x ∷ c.new.result.y ∷ [] = just_two last (fixed_of (pos 0)) two ∙ search rules in
     sym (take-append-drop 6 c.args.numbers) ∙ rw (a, behind)
-        (ap (λ more. elements_of c.from_elements.result ++ more) (sym (take-append-drop 6 rest) ∙ rw (b, end, p) refl))
+    (ap (λ more. elements_of c.from_elements.result ++ more) (sym (take-append-drop 6 rest) ∙ rw (b, end, p) refl))

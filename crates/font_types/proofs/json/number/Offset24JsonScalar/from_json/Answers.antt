@@ -10,6 +10,6 @@ use Rattle.font_types.proofs.json.number.Offset24JsonScalar.from_json.Goals as g
 pub returns-clause-back : goal.returns-clause-back
 returns-clause-back c = λ v value shown.
     let read : ReadsUnsigned 24 offset24_number (view c.args.value.now) (Ok c.new-2.result) = grind
-        (arith, common_steps) in
+    (arith, common_steps) in
     unsigned_round_trip 24 offset24_number (λ x y same. ap offset24_of (same_uint24 x.0 y.0 same)) v _
-        (Ok c.new-2.result) value shown read
+    (Ok c.new-2.result) value shown read
