@@ -18,6 +18,7 @@ use Rattle.font_arithmetic.specs.Operations.{IsFloor, IsFract, IsNearestWhole, I
 use Rattle.font_arithmetic.proofs.Wrapped.{wrapping_add-wrap, wrapping_sub-wrap, wrapping_neg-wrap, wrapping_abs-wrap}
 use Rattle.font_arithmetic.proofs.Wrapped.{rem_euclid_is_fract, wrapping_mul-wrap}
 use Rattle.font_arithmetic.proofs.Calls.{wrap-signed_fits, wrap-add_zero, wrap-zero_add, wrap-sub_zero}
+use Rattle.font_arithmetic.proofs.Calls.{wrap-add_sub_cancel, wrap-sub_add_cancel}
 use Rattle.font_arithmetic.proofs.Narrowing.{is_width_split, floor_is_nearest_whole, shr_is_narrowed}
 
 pub sum_32 : (x y : ℤ) → SFits w32 x → SFits w32 y → to_z w32 ((of_z w32 x + of_z w32 y) % 4294967296) ≡ wrap 32
@@ -55,8 +56,8 @@ scaled_32 x d f g = wrapping_mul-wrap w32 x d f g
 pub cell_32 : (b : ℤ) (f room : ℕ) (pad : Pad) (old : List ℕ) (result : Option ℕ)
     → IsSome result ↔ (length (padded_text (shortest_text b f) pad) ≤ length old) → SFits w32 b
     → max room pad.width ≤ length old → IsTrue (is_room 31 f room) → IsSome result
-cell_32 b f room pad old result long fits enough test = padded_has_room w32 b f room pad old result
-    (lit≤ tt) fits long enough test
+cell_32 b f room pad old result long fits enough test =
+    padded_has_room w32 b f room pad old result (lit≤ tt) fits long enough test
 
 -- the bytes of the raw number are those of the bits
 pub bytes_32 : (v : ℤ) (bytes : List ℕ) → SFits w32 v → bytes ≡ bytes_of 4 (to_z w32 (of_z w32 v)) → IsBytesOf 4 v bytes
@@ -75,7 +76,7 @@ pub ruleset code_32 = (
   shortest_is_decimal,
 )
 
--- ---- for callers: a sum with zero, and wrapping of what fits
+-- ---- for callers: a sum with zero, what is added and taken away, and wrapping of what fits
 
 pub fits_32 : (z : ℤ) → SFits w32 z → wrap 32 z ≡ z
 fits_32 z fits = wrap-signed_fits w32 z fits
@@ -89,4 +90,10 @@ zero_add_32 z fits = wrap-zero_add w32 z fits
 pub sub_zero_32 : (z : ℤ) → SFits w32 z → wrap 32 (z -ℤ pos 0) ≡ z
 sub_zero_32 z fits = wrap-sub_zero w32 z fits
 
-pub ruleset calls_32 = (fits_32, add_zero_32, zero_add_32, sub_zero_32)
+pub add_sub_cancel_32 : (a b : ℤ) → SFits w32 a → wrap 32 (wrap 32 (a +ℤ b) -ℤ b) ≡ a
+add_sub_cancel_32 a b fits = wrap-add_sub_cancel w32 a b fits
+
+pub sub_add_cancel_32 : (a b : ℤ) → SFits w32 a → wrap 32 (wrap 32 (a -ℤ b) +ℤ b) ≡ a
+sub_add_cancel_32 a b fits = wrap-sub_add_cancel w32 a b fits
+
+pub ruleset calls_32 = (fits_32, add_zero_32, zero_add_32, sub_zero_32, add_sub_cancel_32, sub_add_cancel_32)
