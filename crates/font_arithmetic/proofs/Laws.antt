@@ -1,14 +1,15 @@
 -- The laws of products and quotients, from what the calls give.
-use Rattle.std.proofs.Common.{◌≡◌, ◌≢◌, ◌∙◌, sym, ap, refl, subst, ℕ, zero, suc, ◌*◌, ◌^◌, ◌<◌, ℤ, pos, negsuc, neg_ℤ}
-use Rattle.std.proofs.Common.{◌-ℤ◌, ◌*ℤ◌, unsigned_abs, arith}
+use Rattle.std.proofs.Common.{◌≡◌, ◌≢◌, ◌∙◌, sym, ap, refl, subst, ℕ, zero, suc, ◌*◌, ◌^◌, ◌<◌, ◌≤◌, ℤ, pos, negsuc}
+use Rattle.std.proofs.Common.{neg_ℤ, ◌-ℤ◌, ◌*ℤ◌, ◌≤ℤ◌, unsigned_abs, false, inl, inr, arith}
+use Rattle.std.proofs.lemmas.Bool.{cases_lt}
 use Rattle.std.proofs.lemmas.Int.{ints}
 use Rattle.std.proofs.lemmas.Nat.{pow_pos}
 use Rattle.std.proofs.Math.IntN.{*ℤ_comm}
-use Rattle.std.proofs.Math.Nat.{mul_comm}
+use Rattle.std.proofs.Math.Nat.{mul-le-mul_left}
 use Rattle.font_base.specs.Wrap.{wrap, FitsBits}
 use Rattle.font_base.specs.Wrap.Laws.{wrap-fits}
 use Rattle.font_decimal.specs.Near.{Near}
-use Rattle.font_decimal.proofs.Near.{near_unique}
+use Rattle.font_decimal.proofs.Near.{IsNearMagnitude, near_to, near_unique, neg-times, next_product}
 use Rattle.font_arithmetic.specs.Operations.{IsWrappedNear, IsProduct, IsQuotient, IsMulDiv}
 use Rattle.font_arithmetic.specs.NumberLaws.{ProductLaws, ProductInOneStep, QuotientLaws, QuotientInOneStep}
 
@@ -62,18 +63,70 @@ product_in_one_step w f x y product in_one_step p s = record {
       (mul_div_rounded w x y (2 ^ f) in_one_step (pow_pos f) s) p;
 }
 
+-- where x * a is q times the divisor, the answer is q
+pub mul_div_exact : (w : ℕ) (q x a c r : ℤ) → 0 < w → FitsBits w q → (x *ℤ a) ≡ (q *ℤ c) → IsMulDiv w x a c r
+    → c ≢ pos 0 → r ≡ q
+mul_div_exact w q x a (pos zero) r wide fits same given other = absurd (other refl)
+mul_div_exact w q x a (pos (suc n)) r wide fits same given other =
+    rounded_exact w q (suc n) r wide (omega arith) fits (subst (λ (m : ℤ). IsWrappedNear w m (suc n) r) same given)
+mul_div_exact w q x a (negsuc n) r wide fits same given other =
+    rounded_exact w q (suc n) r wide (omega arith) fits (subst (λ (m : ℤ). IsWrappedNear w m (suc n) r) turned given)
+  where
+    turned : neg_ℤ (x *ℤ a) ≡ (q *ℤ pos (suc n))
+    turned = ap neg_ℤ same ∙ ap neg_ℤ (*ℤ_comm q (negsuc n)) ∙ omega (
+      arith,
+      ints,
+      neg-times (pos
+          (suc n)) 1,
+      *ℤ_comm q (pos (suc n)),
+    )
+
+mul_div_comm : (w : ℕ) (x a c r : ℤ) → c ≢ pos 0 → IsMulDiv w x a c r → IsMulDiv w a x c r
+mul_div_comm w x a (pos zero) r other given = absurd (other refl)
+mul_div_comm w x a (pos (suc n)) r other given = subst (λ (m : ℤ). IsWrappedNear w m (suc n) r) (*ℤ_comm x a) given
+mul_div_comm w x a (negsuc n) r other given = subst (λ (m : ℤ). IsWrappedNear w (neg_ℤ m) (suc n) r) (*ℤ_comm x a) given
+
 -- a number over itself is 1
 pub itself : (w f : ℕ) (x r : ℤ) → 0 < w → FitsBits w (pos (2 ^ f)) → IsQuotient w f x x r → x ≢ pos 0 → r ≡ pos (2 ^ f)
-itself w f (pos zero) r wide fits p other = absurd (other refl)
-itself w f (pos (suc n)) r wide fits p other =
-    rounded_exact w (pos (2 ^ f)) (suc n) r wide (omega arith) fits
-    (subst (λ (m : ℤ). IsWrappedNear w m (suc n) r) (*ℤ_comm (pos (suc n)) (pos (2 ^ f))) p)
-itself w f (negsuc n) r wide fits p other =
-    rounded_exact w (pos (2 ^ f)) (suc n) r wide (omega arith) fits
-    (subst (λ (m : ℤ). IsWrappedNear w m (suc n) r) (turned (2 ^ f) (suc n)) p)
-  where
-    turned : (a b : ℕ) → neg_ℤ (neg_ℤ (pos (b * a))) ≡ (pos a *ℤ pos b)
-    turned a b = omega (arith, ints, mul_comm a b)
+itself w f x r wide fits p other =
+    mul_div_exact w (pos (2 ^ f)) x (pos (2 ^ f)) x r wide fits (*ℤ_comm x (pos (2 ^ f))) p other
+
+-- the share of x that a is in d is at most x
+share_at_most : (x a d m : ℕ) → a ≤ d → IsNearMagnitude (x * a) d m → m ≤ x
+share_at_most x a d m within rounded =
+    let scaled : x * a ≤ x * d = mul-le-mul_left x within in
+    elim (cases_lt x m) [
+      | inl more ↦ absurd (omega (arith, rounded.low, next_product x m d more, scaled))
+      | inr less ↦ less
+    ]
+
+-- and not negative: for a from 0 to c, x * a / c lies between 0 and x
+pub mul_div_between : (w : ℕ) (x a c r : ℤ) → 0 < w → FitsBits w x → IsMulDiv w x a c r → pos 0 ≤ℤ x → pos 0 ≤ℤ a
+    → a ≤ℤ c → c ≢ pos 0
+    → (pos 0 ≤ℤ r) × (r ≤ℤ x)
+mul_div_between w (negsuc x) a c r wide fits given low from to other = absurd (omega (arith, ints, low))
+mul_div_between w (pos x) (negsuc a) c r wide fits given low from to other = absurd (omega (arith, ints, from))
+mul_div_between w (pos x) (pos a) (negsuc c) r wide fits given low from to other = absurd (omega (arith, ints, to))
+mul_div_between w (pos x) (pos a) (pos zero) r wide fits given low from to other = absurd (other refl)
+mul_div_between w (pos x) (pos a) (pos (suc d)) r wide fits given low from to other =
+    let rounded = near_to false (x * a) (suc d) given.exact (omega arith) given.nearest in
+    let bound = share_at_most x a (suc d) rounded.magnitude (omega (arith, ints, to)) rounded.rounded in
+    let inside : FitsBits w (pos rounded.magnitude) = record {
+      low = omega (arith, ints);
+      high =
+          omega (arith, ints, bound, fits.high);
+    } in
+    let same : r ≡ pos rounded.magnitude =
+    given.wrapped ∙ ap (wrap w) rounded.is ∙ wrap-fits w (pos rounded.magnitude) wide inside in
+    (omega (arith, ints, same), omega (arith, ints, same, bound))
+
+-- and a part of a whole, over the whole, between 0 and 1
+pub quotient_between : (w f : ℕ) (x y r : ℤ) → 0 < w → FitsBits w (pos (2 ^ f)) → IsQuotient w f x y r → pos 0 ≤ℤ x
+    → x ≤ℤ y → y ≢ pos 0
+    → (pos 0 ≤ℤ r) × (r ≤ℤ pos (2 ^ f))
+quotient_between w f x y r wide fits given low high other =
+    mul_div_between w (pos (2 ^ f)) x y r wide fits (mul_div_comm w x (pos (2 ^ f)) y r other given) (omega
+    (arith, ints)) low high other
 
 pub quotient_laws_hold : (w f : ℕ) (x y quotient by_one by_itself : ℤ) → 0 < w → FitsBits w x → FitsBits w (pos (2 ^ f))
     → IsQuotient w f x y quotient

@@ -62,10 +62,12 @@ abbrev pub most_places : ℕ → ℕ
 most_places f = f * 3 / 10 + 1
 
 -- so many bytes are room for each number of h bits beside its sign, f of them fraction, where no width asks for more:
--- beside a sign, a point and the places there are enough for the digits of the whole part
+-- beside a sign, a point
+-- and the places there are enough for the digits of the whole part
 abbrev pub is_room : ℕ → ℕ → ℕ → Bool
-is_room h f room = nat_lt (2 ^ f) (10 ^ most_places f) &&
-    (nat_lt (2 ^ h) (10 ^ (room - (most_places f + 2)) * 2 ^ f) && nat_lt (most_places f + 2) room)
+is_room h f room =
+    nat_lt (2 ^ f) (10 ^ most_places f) && (nat_lt (2 ^ h) (10 ^ (room - (most_places f + 2)) * 2 ^ f)
+    && nat_lt (most_places f + 2) room)
 
 pub padded_has_room : (w : Width) (b : ℤ) (f room : ℕ) (pad : Pad) (old : List ℕ) (result : Option ℕ)
     → 2 ^ hbits w ≤ 2 ^ 63 → SFits w b
@@ -83,8 +85,9 @@ padded_has_room w b f room pad old result small fits long enough test =
     let whole : 2 ^ hbits w < 10 ^ digits * 2 ^ f = ltb-true _ _ (first_so low more both) in
     let some : p + 2 < room = ltb-true _ _ (second_so low more both) in
     let magnitude : unsigned_abs b ≤ 2 ^ hbits w = omega (arith, ints, fits, abs_is b) in
-    let body = length-shortest_body-le b f digits p (omega (arith, magnitude, small)) (omega (arith, some))
-    (omega (arith, magnitude, whole)) steps in
+    let body =
+    length-shortest_body-le b f digits p (omega (arith, magnitude, small)) (omega (arith, some)) (omega
+    (arith, magnitude, whole)) steps in
     long.1 (padded_fits (shortest_text b f) pad room (length old) (omega (arith, body, some)) enough)
 
 -- ---- in the words of a type of its own: a result with the bits of its number in place of the number

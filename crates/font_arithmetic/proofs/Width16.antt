@@ -14,7 +14,8 @@ use Rattle.font_arithmetic.proofs.Texts.{is_room, padded_has_room}
 use Rattle.font_arithmetic.specs.Operations.{IsFloor, IsFract, IsNearestWhole, IsNarrowed}
 use Rattle.font_arithmetic.proofs.Wrapped.{wrapping_add-wrap, wrapping_sub-wrap, wrapping_neg-wrap, wrapping_abs-wrap}
 use Rattle.font_arithmetic.proofs.Wrapped.{rem_euclid_is_fract, wrapping_mul-wrap}
-use Rattle.font_arithmetic.proofs.Calls.{wrap-signed_fits, add_zero, zero_add, sub_zero}
+use Rattle.font_arithmetic.proofs.Calls.{wrap-signed_fits, add_zero, zero_add, sub_zero, wrap-add_sub_cancel}
+use Rattle.font_arithmetic.proofs.Calls.{wrap-sub_add_cancel}
 use Rattle.font_arithmetic.proofs.Narrowing.{is_width_split, floor_is_nearest_whole, shr_is_narrowed}
 
 pub sum_16 : (x y : ℤ) → SFits w16 x → SFits w16 y → to_z w16 ((of_z w16 x + of_z w16 y) % 65536) ≡ wrap 16 (x +ℤ y)
@@ -51,8 +52,8 @@ scaled_16 x d f g = wrapping_mul-wrap w16 x d f g
 pub cell_16 : (b : ℤ) (f room : ℕ) (pad : Pad) (old : List ℕ) (result : Option ℕ)
     → IsSome result ↔ (length (padded_text (shortest_text b f) pad) ≤ length old) → SFits w16 b
     → max room pad.width ≤ length old → IsTrue (is_room 15 f room) → IsSome result
-cell_16 b f room pad old result long fits enough test = padded_has_room w16 b f room pad old result
-    (lit≤ tt) fits long enough test
+cell_16 b f room pad old result long fits enough test =
+    padded_has_room w16 b f room pad old result (lit≤ tt) fits long enough test
 
 pub ruleset code_16 = (
   sum_16,
@@ -67,9 +68,15 @@ pub ruleset code_16 = (
   shortest_is_decimal,
 )
 
--- ---- for callers: a sum with zero, and wrapping of what fits
+-- ---- for callers: a sum with zero, what is added and taken away, and wrapping of what fits
 
 pub fits_16 : (z : ℤ) → SFits w16 z → wrap 16 z ≡ z
 fits_16 z fits = wrap-signed_fits w16 z fits
 
-pub ruleset calls_16 = (fits_16, add_zero, zero_add, sub_zero)
+pub add_sub_cancel_16 : (a b : ℤ) → SFits w16 a → wrap 16 (wrap 16 (a +ℤ b) -ℤ b) ≡ a
+add_sub_cancel_16 a b fits = wrap-add_sub_cancel w16 a b fits
+
+pub sub_add_cancel_16 : (a b : ℤ) → SFits w16 a → wrap 16 (wrap 16 (a -ℤ b) +ℤ b) ≡ a
+sub_add_cancel_16 a b fits = wrap-sub_add_cancel w16 a b fits
+
+pub ruleset calls_16 = (fits_16, add_zero, zero_add, sub_zero, add_sub_cancel_16, sub_add_cancel_16)

@@ -14,7 +14,8 @@ use Rattle.font_arithmetic.proofs.Texts.{is_room, padded_has_room}
 use Rattle.font_arithmetic.specs.Operations.{IsFloor, IsFract, IsNearestWhole, IsNarrowed}
 use Rattle.font_arithmetic.proofs.Wrapped.{wrapping_add-wrap, wrapping_sub-wrap, wrapping_neg-wrap, wrapping_abs-wrap}
 use Rattle.font_arithmetic.proofs.Wrapped.{rem_euclid_is_fract, wrapping_mul-wrap}
-use Rattle.font_arithmetic.proofs.Calls.{wrap-signed_fits, add_zero, zero_add, sub_zero}
+use Rattle.font_arithmetic.proofs.Calls.{wrap-signed_fits, add_zero, zero_add, sub_zero, wrap-add_sub_cancel}
+use Rattle.font_arithmetic.proofs.Calls.{wrap-sub_add_cancel}
 use Rattle.font_arithmetic.proofs.Narrowing.{is_width_split, floor_is_nearest_whole, shr_is_narrowed}
 
 pub sum_32 : (x y : ℤ) → SFits w32 x → SFits w32 y → to_z w32 ((of_z w32 x + of_z w32 y) % 4294967296) ≡ wrap 32
@@ -52,8 +53,8 @@ scaled_32 x d f g = wrapping_mul-wrap w32 x d f g
 pub cell_32 : (b : ℤ) (f room : ℕ) (pad : Pad) (old : List ℕ) (result : Option ℕ)
     → IsSome result ↔ (length (padded_text (shortest_text b f) pad) ≤ length old) → SFits w32 b
     → max room pad.width ≤ length old → IsTrue (is_room 31 f room) → IsSome result
-cell_32 b f room pad old result long fits enough test = padded_has_room w32 b f room pad old result
-    (lit≤ tt) fits long enough test
+cell_32 b f room pad old result long fits enough test =
+    padded_has_room w32 b f room pad old result (lit≤ tt) fits long enough test
 
 pub ruleset code_32 = (
   sum_32,
@@ -68,9 +69,15 @@ pub ruleset code_32 = (
   shortest_is_decimal,
 )
 
--- ---- for callers: a sum with zero, and wrapping of what fits
+-- ---- for callers: a sum with zero, what is added and taken away, and wrapping of what fits
 
 pub fits_32 : (z : ℤ) → SFits w32 z → wrap 32 z ≡ z
 fits_32 z fits = wrap-signed_fits w32 z fits
 
-pub ruleset calls_32 = (fits_32, add_zero, zero_add, sub_zero)
+pub add_sub_cancel_32 : (a b : ℤ) → SFits w32 a → wrap 32 (wrap 32 (a +ℤ b) -ℤ b) ≡ a
+add_sub_cancel_32 a b fits = wrap-add_sub_cancel w32 a b fits
+
+pub sub_add_cancel_32 : (a b : ℤ) → SFits w32 a → wrap 32 (wrap 32 (a -ℤ b) +ℤ b) ≡ a
+sub_add_cancel_32 a b fits = wrap-sub_add_cancel w32 a b fits
+
+pub ruleset calls_32 = (fits_32, add_zero, zero_add, sub_zero, add_sub_cancel_32, sub_add_cancel_32)

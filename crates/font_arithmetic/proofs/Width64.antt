@@ -14,7 +14,8 @@ use Rattle.font_arithmetic.proofs.Texts.{is_room, padded_has_room}
 use Rattle.font_arithmetic.specs.Operations.{IsFloor, IsFract, IsNearestWhole, IsNarrowed}
 use Rattle.font_arithmetic.proofs.Wrapped.{wrapping_add-wrap, wrapping_sub-wrap, wrapping_neg-wrap, wrapping_abs-wrap}
 use Rattle.font_arithmetic.proofs.Wrapped.{rem_euclid_is_fract, wrapping_mul-wrap}
-use Rattle.font_arithmetic.proofs.Calls.{wrap-signed_fits, add_zero, zero_add, sub_zero}
+use Rattle.font_arithmetic.proofs.Calls.{wrap-signed_fits, add_zero, zero_add, sub_zero, wrap-add_sub_cancel}
+use Rattle.font_arithmetic.proofs.Calls.{wrap-sub_add_cancel}
 use Rattle.font_arithmetic.proofs.Narrowing.{is_width_split, floor_is_nearest_whole, shr_is_narrowed}
 
 pub sum_64 : (x y : ℤ) → SFits w64 x → SFits w64 y → to_z w64 ((of_z w64 x + of_z w64 y) % 18446744073709551616)
@@ -52,8 +53,8 @@ scaled_64 x d f g = wrapping_mul-wrap w64 x d f g
 pub cell_64 : (b : ℤ) (f room : ℕ) (pad : Pad) (old : List ℕ) (result : Option ℕ)
     → IsSome result ↔ (length (padded_text (shortest_text b f) pad) ≤ length old) → SFits w64 b
     → max room pad.width ≤ length old → IsTrue (is_room 63 f room) → IsSome result
-cell_64 b f room pad old result long fits enough test = padded_has_room w64 b f room pad old result
-    (lit≤ tt) fits long enough test
+cell_64 b f room pad old result long fits enough test =
+    padded_has_room w64 b f room pad old result (lit≤ tt) fits long enough test
 
 pub ruleset code_64 = (
   sum_64,
@@ -68,9 +69,15 @@ pub ruleset code_64 = (
   shortest_is_decimal,
 )
 
--- ---- for callers: a sum with zero, and wrapping of what fits
+-- ---- for callers: a sum with zero, what is added and taken away, and wrapping of what fits
 
 pub fits_64 : (z : ℤ) → SFits w64 z → wrap 64 z ≡ z
 fits_64 z fits = wrap-signed_fits w64 z fits
 
-pub ruleset calls_64 = (fits_64, add_zero, zero_add, sub_zero)
+pub add_sub_cancel_64 : (a b : ℤ) → SFits w64 a → wrap 64 (wrap 64 (a +ℤ b) -ℤ b) ≡ a
+add_sub_cancel_64 a b fits = wrap-add_sub_cancel w64 a b fits
+
+pub sub_add_cancel_64 : (a b : ℤ) → SFits w64 a → wrap 64 (wrap 64 (a -ℤ b) +ℤ b) ≡ a
+sub_add_cancel_64 a b fits = wrap-sub_add_cancel w64 a b fits
+
+pub ruleset calls_64 = (fits_64, add_zero, zero_add, sub_zero, add_sub_cancel_64, sub_add_cancel_64)

@@ -134,12 +134,8 @@ length-shortest_body-lt b f small few =
     let whole : List ℕ = decimal (n / 10 ^ p) in
     let digits = digits_fit m f p small few (unit_below m f p (fewest_is m f).before) in
     let all = length-append whole (fraction_text (last_digits p n)) in
-    omega (
-      arith,
-      all,
-      point_length p n,
-      length-signed_body-le (is_negative b) (whole ++ fraction_text (last_digits p n)),
-    )
+    let body = length-signed_body-le (is_negative b) (whole ++ fraction_text (last_digits p n)) in
+    omega (arith, all, point_length p n, body)
 
 -- the digits of the whole part, a point, and the places
 pub length-shortest_body-le : (b : ℤ) (f digits places : ℕ) → unsigned_abs b ≤ 2 ^ 63 → 0 < digits

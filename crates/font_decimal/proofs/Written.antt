@@ -223,14 +223,15 @@ length-decimal_text-le m f digits places small some within steps =
     let d = nearest_numeral m f p in
     let w = d / 10 ^ p in
     let fewest = fewest_is m f in
-    let own : w * 2 ^ f ≤ m = whole_within m (2 ^ f) (10 ^ p) d w (within_half m f p fewest.reads)
-    (div-mul-le_self d (10 ^ p)) in
+    let own : w * 2 ^ f ≤ m =
+    whole_within m (2 ^ f) (10 ^ p) d w (within_half m f p fewest.reads) (div-mul-le_self d (10 ^ p)) in
     let below : w < 10 ^ digits = lt_of_mul-lt-mul_right (2 ^ f) (lt_of_le_of_lt own within) in
     let whole = length-decimal-le digits w some below (whole_fits m f p small) in
     let unit : 10 ^ p ≤ 10 * 2 ^ f = unit_below m f p fewest.before in
     let few : p ≤ places = elim (cases_lt places p) [
-      | inl more ↦ let wide : 10 ^ suc places ≤ 10 ^ p = pow-le-pow_right {n = 10} (omega arith) {i = suc places}
-          {j = p} (omega arith) in
+      | inl more ↦
+          let wide : 10 ^ suc places ≤ 10 ^ p =
+          pow-le-pow_right {n = 10} (omega arith) {i = suc places} {j = p} (omega arith) in
           absurd (omega (arith, pow-suc 10 places))
       | inr less ↦ less
     ] in

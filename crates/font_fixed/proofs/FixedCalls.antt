@@ -1,18 +1,18 @@
 -- What callers of `Fixed` name once: products and quotients by 0 and by 1, sums with 0, differences, a number over
--- itself, a part of a whole, and wrapping of what fits.
-use Rattle.std.proofs.Common.{◌≡◌, ◌≢◌, ◌∙◌, ap, refl, arith, lit<, ℕ, zero, suc, ◌*◌, ◌<◌, ◌≤◌, ℤ, pos, negsuc, ◌+ℤ◌}
-use Rattle.std.proofs.Common.{◌-ℤ◌, ◌*ℤ◌, ◌≤ℤ◌, w32, false, inl, inr}
-use Rattle.std.proofs.lemmas.Bool.{cases_lt}
+-- itself, a part of a whole,
+-- one number times another over a third, and wrapping of what fits.
+use Rattle.std.proofs.Common.{◌≡◌, ◌≢◌, ◌∙◌, sym, ap, refl, arith, lit<, ℤ, pos, ◌+ℤ◌, ◌-ℤ◌, ◌*ℤ◌, ◌≤ℤ◌, w32}
 use Rattle.std.proofs.lemmas.Int.{ints}
+use Rattle.std.proofs.Math.IntN.{*ℤ_comm}
 use mir.Val.{SFits}
+use Rattle.font_base.proofs.Widths.{signed_fits}
 use Rattle.font_base.specs.Wrap.{wrap, FitsBits}
 use Rattle.font_base.specs.Wrap.Laws.{wrap-add_right}
 use Rattle.font_decimal.specs.Near.{near}
-use Rattle.font_decimal.proofs.Near.{IsNearMagnitude, near_to, next_product}
-use Rattle.font_arithmetic.specs.Operations.{IsQuotient, floor_of, fract_of}
+use Rattle.font_arithmetic.specs.Operations.{IsQuotient, IsMulDiv, floor_of, fract_of}
 use Rattle.font_arithmetic.proofs.Calls.{near-times, near-times_left, near-times_zero, near-zero_times}
-use Rattle.font_arithmetic.proofs.Laws.{itself}
-use Rattle.font_arithmetic.proofs.Width32.{fits_32, calls_32}
+use Rattle.font_arithmetic.proofs.Laws.{itself, mul_div_exact, mul_div_between, quotient_between}
+use Rattle.font_arithmetic.proofs.Width32.{fits_32, add_zero_32, calls_32}
 
 pub mul_one : (x : ℤ) → near (x *ℤ pos 65536) 65536 ≡ x
 mul_one x = near-times x 65536 (lit< tt)
@@ -46,6 +46,11 @@ pub sub_self : (a : ℤ) → wrap 32 (a -ℤ a) ≡ pos 0
 sub_self a = let none : (a -ℤ a) ≡ pos 0 = omega (arith, ints) in ap (wrap 32) none ∙ fits_32 (pos 0)
     (omega (arith, ints))
 
+-- numbers that differ have a difference that is not 0
+pub difference_is_not_zero : (a b : ℤ) → SFits w32 a → SFits w32 b → a ≢ b → wrap 32 (b -ℤ a) ≢ pos 0
+difference_is_not_zero a b fits_a fits_b other none =
+    other (sym (add_zero_32 a fits_a) ∙ ap (λ n. wrap 32 (a +ℤ n)) (sym none) ∙ add_sub_cancel a b fits_b)
+
 -- ---- quotients
 
 one_fits : FitsBits 32 (pos 65536)
@@ -54,32 +59,44 @@ one_fits = record { low = omega (arith, ints); high = omega (arith, ints) }
 pub over_itself : (x r : ℤ) → IsQuotient 32 16 x x r → x ≢ pos 0 → r ≡ pos 65536
 over_itself x r quotient other = itself 32 16 x r (lit< tt) one_fits quotient other
 
--- in steps of 1 / 65536, the share of x in d is at most 65536
-share_is_at_most_one : (x d m : ℕ) → 0 < d → x ≤ d → IsNearMagnitude (x * 65536) d m → m ≤ 65536
-share_is_at_most_one x d m some within rounded =
-    elim (cases_lt 65536 m) [
-      | inl more ↦ absurd (omega (arith, rounded.low, next_product 65536 m d more))
-      | inr less ↦ less
-    ]
-
 -- a part of a whole, over the whole
-ratio_bounds : (x y r : ℤ) → IsQuotient 32 16 x y r → pos 0 ≤ℤ x → x ≤ℤ y → y ≢ pos 0 → (pos 0 ≤ℤ r) × (r ≤ℤ pos 65536)
-ratio_bounds (negsuc x) y r quotient low high some = absurd (omega (arith, ints, low))
-ratio_bounds (pos x) (negsuc d) r quotient low high some = absurd (omega (arith, ints, high))
-ratio_bounds (pos x) (pos zero) r quotient low high some = absurd (some refl)
-ratio_bounds (pos x) (pos (suc d)) r quotient low high some =
-    let rounded = near_to false (x * 65536) (suc d) quotient.exact (omega arith) quotient.nearest in
-    let bound = share_is_at_most_one x (suc d) rounded.magnitude (omega arith)
-    (omega (arith, ints, high)) rounded.rounded in
-    let same : r ≡ pos rounded.magnitude =
-    quotient.wrapped ∙ ap (wrap 32) rounded.is ∙ fits_32 (pos rounded.magnitude) (omega (arith, ints, bound)) in
-    (omega (arith, ints, same), omega (arith, ints, same, bound))
-
 pub part_is_not_negative : (x y r : ℤ) → IsQuotient 32 16 x y r → pos 0 ≤ℤ x → x ≤ℤ y → y ≢ pos 0 → pos 0 ≤ℤ r
-part_is_not_negative x y r quotient low high some = (ratio_bounds x y r quotient low high some).0
+part_is_not_negative x y r quotient low high some =
+    (quotient_between 32 16 x y r (lit< tt) one_fits quotient low high some).0
 
 pub part_is_at_most_one : (x y r : ℤ) → IsQuotient 32 16 x y r → pos 0 ≤ℤ x → x ≤ℤ y → y ≢ pos 0 → r ≤ℤ pos 65536
-part_is_at_most_one x y r quotient low high some = (ratio_bounds x y r quotient low high some).1
+part_is_at_most_one x y r quotient low high some =
+    (quotient_between 32 16 x y r (lit< tt) one_fits quotient low high some).1
+
+-- ---- one number times another over a third
+
+zero_fits : FitsBits 32 (pos 0)
+zero_fits = signed_fits w32 (pos 0) (omega (arith, ints))
+
+pub mul_div_zero : (x c r : ℤ) → IsMulDiv 32 x (pos 0) c r → c ≢ pos 0 → r ≡ pos 0
+mul_div_zero x c r given some =
+    mul_div_exact 32 (pos 0) x (pos 0) c r (lit< tt) zero_fits (*ℤ_comm x (pos 0) ∙ omega (arith, ints)) given some
+
+pub zero_mul_div : (a c r : ℤ) → IsMulDiv 32 (pos 0) a c r → c ≢ pos 0 → r ≡ pos 0
+zero_mul_div a c r given some =
+    mul_div_exact 32 (pos 0) (pos 0) a c r (lit< tt) zero_fits (omega (arith, ints)) given some
+
+pub mul_div_self : (x c r : ℤ) → IsMulDiv 32 x c c r → SFits w32 x → c ≢ pos 0 → r ≡ x
+mul_div_self x c r given fits some = mul_div_exact 32 x x c c r (lit< tt) (signed_fits w32 x fits) refl given some
+
+pub self_mul_div : (a c r : ℤ) → IsMulDiv 32 c a c r → SFits w32 a → c ≢ pos 0 → r ≡ a
+self_mul_div a c r given fits some =
+    mul_div_exact 32 a c a c r (lit< tt) (signed_fits w32 a fits) (*ℤ_comm c a) given some
+
+pub mul_div_is_not_negative : (x a c r : ℤ) → IsMulDiv 32 x a c r → SFits w32 x → pos 0 ≤ℤ x → pos 0 ≤ℤ a → a ≤ℤ c
+    → c ≢ pos 0 → pos 0 ≤ℤ r
+mul_div_is_not_negative x a c r given fits low from to some =
+    (mul_div_between 32 x a c r (lit< tt) (signed_fits w32 x fits) given low from to some).0
+
+pub mul_div_is_at_most : (x a c r : ℤ) → IsMulDiv 32 x a c r → SFits w32 x → pos 0 ≤ℤ x → pos 0 ≤ℤ a → a ≤ℤ c
+    → c ≢ pos 0 → r ≤ℤ x
+mul_div_is_at_most x a c r given fits low from to some =
+    (mul_div_between 32 x a c r (lit< tt) (signed_fits w32 x fits) given low from to some).1
 
 pub ruleset fixed_calls = (
   calls_32,
@@ -93,4 +110,11 @@ pub ruleset fixed_calls = (
   over_itself,
   part_is_not_negative,
   part_is_at_most_one,
+  difference_is_not_zero,
+  mul_div_zero,
+  zero_mul_div,
+  mul_div_self,
+  self_mul_div,
+  mul_div_is_not_negative,
+  mul_div_is_at_most,
 )

@@ -8,3 +8,4 @@ mod Bounds
 pub mod RingCalls
 pub mod Images
 pub mod FixedCalls
+pub mod BoundCalls

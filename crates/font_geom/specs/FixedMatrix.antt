@@ -1,7 +1,7 @@
 -- Matrices of `Fixed`, over their bits (OpenType, data types: Fixed is 16.16), and how far from its exact image they
 -- move a point.
 pub mod Laws
-use Rattle.std.specs.Prelude.{◌≡◌, ℕ, ◌+◌, ◌*◌, ◌^◌, ◌≤◌, ℤ, pos, ◌+ℤ◌, ◌-ℤ◌, ◌*ℤ◌, unsigned_abs}
+use Rattle.std.specs.Prelude.{◌≡◌, ℕ, ◌+◌, ◌*◌, ◌/◌, ◌^◌, ◌≤◌, Bool, ◌&&◌, nat_lt, ℤ, pos, ◌+ℤ◌, ◌-ℤ◌, ◌*ℤ◌, unsigned_abs}
 use Rattle.font_base.specs.Wrap.{FitsBits, wrap}
 use Rattle.font_decimal.specs.Near.{near}
 use Rattle.font_fixed.specs.declared.fixed.Fixed.{Fixed}
@@ -59,6 +59,37 @@ pub record FitsComposed (a b : Matrix ℤ) (p : Point ℤ) : Type 0 where
 pub record FitsInTurn (a b : Matrix ℤ) (p : Point ℤ) : Type 0 where
   pub first : FitsPoint (image_of ◌+ℤ◌ rounded_product b p)
   pub image : FitsPoint (image_of ◌+ℤ◌ rounded_product a (image_of ◌+ℤ◌ rounded_product b p))
+
+-- ---- numbers that are not too large, from which the two follow
+
+-- each linear entry is at most m from zero, and each shift at most d
+pub record IsBounded (m d : ℕ) (a : Matrix ℤ) : Type 0 where
+  pub xx : unsigned_abs a.xx ≤ m
+  pub yx : unsigned_abs a.yx ≤ m
+  pub xy : unsigned_abs a.xy ≤ m
+  pub yy : unsigned_abs a.yy ≤ m
+  pub dx : unsigned_abs a.dx ≤ d
+  pub dy : unsigned_abs a.dy ≤ d
+
+-- each coordinate is at most n from zero
+pub record IsBoundedPoint (n : ℕ) (p : Point ℤ) : Type 0 where
+  pub x : unsigned_abs p.x ≤ n
+  pub y : unsigned_abs p.y ≤ n
+
+-- as much as the rounded products of two pairs of numbers come to, of which the first are at most u from zero and the
+-- others at most v
+abbrev pub form_bound : ℕ → ℕ → ℕ
+form_bound u v = 2 * (u * v / 65536 + 1)
+
+-- 32 bits have room for what a * b, by bounds of both, makes of a point with coordinates at most n from zero
+abbrev pub has_room_composed : ℕ → ℕ → ℕ → ℕ → ℕ → Bool
+has_room_composed m d m' d' n =
+    nat_lt (form_bound m m') (2 ^ 31) && nat_lt (form_bound (form_bound m m') n + (form_bound m d' + d)) (2 ^ 31)
+
+-- and for what a makes of the point that b moved
+abbrev pub has_room_in_turn : ℕ → ℕ → ℕ → ℕ → ℕ → Bool
+has_room_in_turn m d m' d' n =
+    nat_lt (form_bound m' n + d') (2 ^ 31) && nat_lt (form_bound m (form_bound m' n + d') + d) (2 ^ 31)
 
 -- ---- the exact image
 

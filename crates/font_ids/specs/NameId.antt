@@ -42,7 +42,7 @@ abbrev pub predefined_numbers : List ℕ
 predefined_numbers = map (λ row. row.0) names
 
 -- the ids that are still to come: those whose number is not below the next one
-abbrev pub predefined_left : Predefined → List NameId
+unfoldable pub predefined_left : Predefined → List NameId
 predefined_left ids = map name_id_of (filter (λ number. nat_le ids.next number) predefined_numbers)
 
 -- the last number that is reserved for standard names, and the last that a name may have

@@ -34,9 +34,10 @@ impl FWord {
         self.0
     }
 
-    /// The number as a 16.16 number.
+    /// The number as a 16.16 number, which never wraps.
+    #[tactic(auto, using(font_fixed::proofs::FixedCalls::fixed_calls))]
     pub fn to_fixed(self) -> Fixed
-        ensures { fixed_bits result ≡ wrap 32 (fword_number self *ℤ pos (2 ^ 16)) }
+        ensures { fixed_bits result ≡ (fword_number self *ℤ pos (2 ^ 16)) }
     {
         Fixed::from_i32(i32::from(self.to_i16()))
     }

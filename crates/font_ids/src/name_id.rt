@@ -108,6 +108,7 @@ impl NameId {
     }
 
     /// The predefined ids from the least on: 0 to 14 and 16 to 25.
+    #[tactic(auto, unfolding(crate::specs::NameId::predefined_left))]
     pub fn predefined() -> Predefined
         ensures ids { predefined_left result ≡ map name_id_of predefined_numbers }
         ensures count { length (predefined_left result) ≡ 25 }
@@ -257,6 +258,7 @@ impl Iterator for Predefined {
 
     ghost remaining = { item_count predefined_left };
 
+    #[tactic(auto, unfolding(crate::specs::NameId::predefined_left))]
     fn next(&mut self) -> Option<NameId> {
         if self.next == 15 {
             self.next = 16;

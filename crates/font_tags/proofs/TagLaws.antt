@@ -1,11 +1,14 @@
 -- Laws of tags: the two judges agree, and a printed text is that of one tag alone.
 use Rattle.std.proofs.Common.{◌≡◌, ◌≢◌, ◌∙◌, sym, ap, subst, refl, ℕ, suc, ◌+◌, ◌-◌, ◌/◌, ◌%◌, ◌<◌, ◌≤◌, ◌⊎◌, inl, inr}
 use Rattle.std.proofs.Common.{true, IsTrue, List, [], ◌∷◌, length, get_or, Result, Ok, Err, IsOk, ◌↔◌, nat_lt, ◌==◌}
-use Rattle.std.proofs.Common.{arith}
+use Rattle.std.proofs.Common.{◌++◌, replicate, IsUtf8, lit<, arith}
 use Rattle.std.proofs.lemmas.Bool.{cases_lt, le-leb, lt-ltb, le-ltb, cond-true, cond-false, and_from, false≢true}
 use Rattle.std.proofs.lemmas.Bool.{ltb-true, and_parts}
 use Rattle.std.proofs.lemmas.List.{get_or_past}
+use Rattle.std.proofs.lemmas.List.Elements.{All-append, All-replicate}
 use Rattle.std.proofs.lemmas.List.Sums.{AllPass-from_list_all}
+use Rattle.std.proofs.lemmas.Str.{IsUtf8-from_ascii}
+use Rattle.std.specs.List.{All}
 use Rattle.std.specs.Fmt.{digit_glyph}
 use Rattle.font_base.specs.Bytes.{are_bytes}
 use Rattle.font_base.specs.Bytes.Laws.{are_bytes-length}
@@ -54,6 +57,24 @@ pub checked_validates : (bytes : List ℕ) (tag : Tag) (validated : Result (Unit
 checked_validates bytes tag validated checked judged =
     (validated_good (tag_bytes tag) validated judged).1
     (subst (λ (list : List ℕ). IsGood list) (sym checked.1) (filled_good bytes (4 - length bytes) checked.0.1))
+
+-- ---- good bytes are text: each is below 0x80
+
+good_below : (bytes : List ℕ) → IsGood bytes → All (λ byte. byte < 128) bytes
+good_below bytes good =
+    let run : All (λ byte. byte < 128) good.run =
+    λ k d within. let visible = good.visible k d within in omega (arith, visible.1) in
+    let spaces = All-replicate (λ byte. byte < 128) good.spaces 0x20 (lit< tt) in
+    subst (λ (list : List ℕ). All (λ byte. byte < 128) list) (sym good.whole)
+    (All-append (λ byte. byte < 128) good.run (replicate good.spaces 0x20) run spaces)
+
+pub good_is_utf8 : (bytes : List ℕ) → IsGood bytes → IsUtf8 bytes
+good_is_utf8 bytes good = IsUtf8-from_ascii bytes (λ i. elim (cases_lt i (length bytes)) [
+  | inl within ↦ good_below bytes good i 0 within
+  | inr past ↦ rw (get_or_past bytes i 0 past) (lit< tt)
+])
+
+pub ruleset tag_calls = (good_is_utf8)
 
 -- ---- the printed text
 

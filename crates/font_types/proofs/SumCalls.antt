@@ -1,29 +1,56 @@
 -- What callers name once of sums that wrap at each step: each is the exact sum, wrapped.
-use Rattle.std.proofs.Common.{◌≡◌, ◌∙◌, sym, ap, ℕ, ◌+◌, ◌<◌, List, length, take, get_or, ℤ, pos, ◌+ℤ◌, lit<}
+use Rattle.std.proofs.Common.{◌≡◌, ◌∙◌, sym, ap, ℕ, ◌+◌, ◌<◌, List, length, take, get_or, ℤ, pos, ◌+ℤ◌, lit<, arith}
+use Rattle.std.proofs.lemmas.Int.{ints}
 use Rattle.std.proofs.lemmas.List.Sums.{fold_more}
 use Rattle.font_base.specs.Wrap.{wrap}
 use Rattle.font_base.specs.Wrap.Laws.{wrap-add_left}
+use Rattle.font_arithmetic.proofs.Width16.{fits_16, sum_16}
 use Rattle.font_arithmetic.proofs.Width64.{fits_64}
 use Rattle.font_fixed.specs.declared.fixed.Fixed.{Fixed}
 use Rattle.font_fixed.specs.Fixed.{fixed_bits}
 use Rattle.font_fixed.proofs.FixedCalls.{fixed_calls}
+use Rattle.font_geom.specs.declared.point.Point.{Point}
 use Rattle.font_types.specs.Delta.{total, term_product, exact_sum}
 
-total_one_more : {T : Type 0} (w : ℕ) (number_of : T → ℤ) (xs : List T) (i : ℕ) (d : T) → 0 < w → i < length xs
+-- one term more, of a list of anything
+pub running_total : {T : Type 0} (w : ℕ) (number_of : T → ℤ) (xs : List T) (i : ℕ) (d : T) → 0 < w → i < length xs
     → wrap w (wrap w (total number_of (take i xs)) +ℤ number_of (get_or xs i d)) ≡ wrap w
     (total number_of (take (i + 1) xs))
-total_one_more w number_of xs i d some within =
+running_total w number_of xs i d some within =
     wrap-add_left w (total number_of (take i xs)) (number_of (get_or xs i d)) some
     ∙ ap (wrap w) (sym (fold_more (λ sum x. sum +ℤ number_of x) (pos 0) xs i d within))
 
 pub running_sum : (xs : List Fixed) (i : ℕ) (d : Fixed) → i < length xs
     → wrap 32 (wrap 32 (total fixed_bits (take i xs)) +ℤ fixed_bits (get_or xs i d)) ≡ wrap 32
     (total fixed_bits (take (i + 1) xs))
-running_sum xs i d within = total_one_more 32 fixed_bits xs i d (lit< tt) within
+running_sum xs i d within = running_total 32 fixed_bits xs i d (lit< tt) within
 
 pub running_delta_sum : (terms : List (Fixed × ℤ)) (i : ℕ) (d : Fixed × ℤ) → i < length terms
     → wrap 64 (wrap 64 (exact_sum (take i terms)) +ℤ term_product (get_or terms i d)) ≡ wrap 64
     (exact_sum (take (i + 1) terms))
-running_delta_sum terms i d within = total_one_more 64 term_product terms i d (lit< tt) within
+running_delta_sum terms i d within = running_total 64 term_product terms i d (lit< tt) within
 
-pub ruleset sum_calls = (fixed_calls, fits_64, running_sum, running_delta_sum)
+-- points, coordinate by coordinate
+pub running_x : (points : List (Point Fixed)) (i : ℕ) (d : Point Fixed) → i < length points
+    → wrap 32 (wrap 32 (total (λ p. fixed_bits p.x) (take i points)) +ℤ fixed_bits (get_or points i d).x)
+    ≡ wrap 32 (total (λ p. fixed_bits p.x) (take (i + 1) points))
+running_x points i d within = running_total 32 (λ p. fixed_bits p.x) points i d (lit< tt) within
+
+pub running_y : (points : List (Point Fixed)) (i : ℕ) (d : Point Fixed) → i < length points
+    → wrap 32 (wrap 32 (total (λ p. fixed_bits p.y) (take i points)) +ℤ fixed_bits (get_or points i d).y)
+    ≡ wrap 32 (total (λ p. fixed_bits p.y) (take (i + 1) points))
+running_y points i d within = running_total 32 (λ p. fixed_bits p.y) points i d (lit< tt) within
+
+pub ruleset sum_calls = (fixed_calls, fits_64, running_sum, running_delta_sum, running_x, running_y)
+
+-- ---- plain numbers of 16 bits
+
+pub running_sum_16 : (numbers : List ℤ) (i : ℕ) (d : ℤ) → i < length numbers
+    → wrap 16 (wrap 16 (total (λ n. n) (take i numbers)) +ℤ get_or numbers i d) ≡ wrap 16 (total (λ n. n) (take
+    (i + 1) numbers))
+running_sum_16 numbers i d within = running_total 16 (λ n. n) numbers i d (lit< tt) within
+
+pub none_16 : wrap 16 (pos 0) ≡ pos 0
+none_16 = fits_16 (pos 0) (omega (arith, ints))
+
+pub ruleset sum_calls_16 = (sum_16, running_sum_16, none_16)

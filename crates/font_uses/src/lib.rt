@@ -2,11 +2,17 @@
 //! test.
 #![tactic(auto)]
 
+pub mod axis;
+pub mod component;
 pub mod dumper;
 pub mod evaluator;
 pub mod header;
 pub mod linter;
+pub mod metrics;
+pub mod names;
+pub mod outline;
 pub mod reader;
+pub mod report;
 pub mod scaler;
 #[cfg(test)]
 mod tests;

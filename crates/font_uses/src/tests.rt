@@ -1,8 +1,14 @@
 //! Each user at work, by values from the definitions and by arithmetic by hand.
 
+mod axis;
+mod component;
 mod dumper;
 mod evaluator;
 mod header;
 mod linter;
+mod metrics;
+mod names;
+mod outline;
 mod reader;
+mod report;
 mod scaler;

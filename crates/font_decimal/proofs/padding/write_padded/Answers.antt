@@ -48,8 +48,8 @@ returns-clause-written c =
     subst P whole fifth
 
 pub returns-clause-fills : goal.returns-clause-fills
-returns-clause-fills c narrow = fills_all c.args.text.now c.args.pad.now _ c.args.out.now _
-    (returns-clause-written c) narrow
+returns-clause-fills c narrow =
+    fills_all c.args.text.now c.args.pad.now _ c.args.out.now _ (returns-clause-written c) narrow
 
 pub returns-clause-room : goal.returns-clause-room
 returns-clause-room c =

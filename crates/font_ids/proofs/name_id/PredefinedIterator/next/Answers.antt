@@ -1,10 +1,11 @@
 use Rattle.std.proofs.Common.{◌≡◌, ◌≢◌, ◌⊎◌, inl, inr, ap, map, length, rules}
-use Rattle.font_ids.specs.NameId.{name_id_of}
+use Rattle.font_ids.specs.NameId.{name_id_of, predefined_left}
 use Rattle.font_ids.proofs.Names.{left_from-next}
 use Rattle.font_ids.proofs.name_id.PredefinedIterator.next.Goals as goal
 use Rattle.font_ids.proofs.name_id.PredefinedIterator.next.Goals.{then-self-eq15, else-self-eq15}
 
 pub returns-clause-steps : goal.returns-clause-steps
+unfolding predefined_left
 returns-clause-steps c =
     let n = c.args.self.now.next in
     let k = c.if-self-eq15.self.next in
@@ -15,4 +16,5 @@ returns-clause-steps c =
     ap (λ numbers. map name_id_of numbers) (left_from-next n k reached c.if-self-gt25.false)
 
 pub returns-clause-goes : goal.returns-clause-goes
+unfolding predefined_left
 returns-clause-goes c = let shorter = ap length (returns-clause-steps c) in search rules

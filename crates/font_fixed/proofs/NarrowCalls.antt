@@ -1,0 +1,106 @@
+-- What callers name once of narrowings: what lies from -1 to 1 stays there, and a whole number, or a widened one, comes
+-- back.
+use Rattle.std.proofs.Common.{◌≡◌, ◌∙◌, ap, refl, lit<, ℤ, pos, neg_ℤ, ◌+ℤ◌, ◌*ℤ◌, ◌≤ℤ◌, ◌<ℤ◌, arith, w16, w32}
+use Rattle.std.proofs.lemmas.Int.{ints}
+use mir.Val.{SFits}
+use Rattle.font_base.specs.Wrap.{wrap}
+use Rattle.font_base.specs.Wrap.Laws.{wrap-fits}
+use Rattle.font_decimal.specs.Near.{up}
+use Rattle.font_arithmetic.proofs.Calls.{narrowed_near, narrowed-wrap_times, up-times}
+use Rattle.font_arithmetic.proofs.Width16.{fits_16}
+use Rattle.font_arithmetic.proofs.Width32.{fits_32}
+use Rattle.font_fixed.proofs.FixedCalls.{fixed_calls}
+
+-- ---- 16.16 to 2.14
+
+quarter_low : (b : ℤ) → neg_ℤ (pos 131072) ≤ℤ b → b ≤ℤ pos 131068 → (pos 4 *ℤ wrap 16 (up b 4)) ≤ℤ (b +ℤ pos 2)
+quarter_low b low high =
+    let nearest = narrowed_near 16 4 b (lit< tt) (lit< tt) low high in let least =
+    nearest.low in omega (arith, ints, least)
+
+quarter_high : (b : ℤ) → neg_ℤ (pos 131072) ≤ℤ b → b ≤ℤ pos 131068 → b <ℤ (pos 4 *ℤ wrap 16 (up b 4) +ℤ pos 2)
+quarter_high b low high =
+    let nearest = narrowed_near 16 4 b (lit< tt) (lit< tt) low high in let most =
+    nearest.high in omega (arith, ints, most)
+
+-- what lies from -1 to 1 stays there, and what is not negative
+pub quarter_at_least : (b : ℤ) → neg_ℤ (pos 65536) ≤ℤ b → b ≤ℤ pos 65536 → neg_ℤ (pos 16384) ≤ℤ wrap 16 (up b 4)
+quarter_at_least b low high =
+    let most = quarter_high b (omega (arith, ints, low)) (omega (arith, ints, high)) in omega (arith, ints, most, low)
+
+pub quarter_at_most : (b : ℤ) → neg_ℤ (pos 65536) ≤ℤ b → b ≤ℤ pos 65536 → wrap 16 (up b 4) ≤ℤ pos 16384
+quarter_at_most b low high =
+    let least = quarter_low b (omega (arith, ints, low)) (omega (arith, ints, high)) in omega (arith, ints, least, high)
+
+pub quarter_not_negative : (b : ℤ) → pos 0 ≤ℤ b → b ≤ℤ pos 65536 → pos 0 ≤ℤ wrap 16 (up b 4)
+quarter_not_negative b low high =
+    let most = quarter_high b (omega (arith, ints, low)) (omega (arith, ints, high)) in omega (arith, ints, most, low)
+
+pub quarter_zero : wrap 16 (up (pos 0) 4) ≡ pos 0
+quarter_zero = ap (wrap 16) (up-times (pos 0) 4 (lit< tt)) ∙ fits_16 (pos 0) (omega (arith, ints))
+
+pub quarter_one : wrap 16 (up (pos 65536) 4) ≡ pos 16384
+quarter_one = ap (wrap 16) (up-times (pos 16384) 4 (lit< tt)) ∙ fits_16 (pos 16384) (omega (arith, ints))
+
+pub quarter_back : (z : ℤ) → SFits w16 z → wrap 16 (up (z *ℤ pos 4) 4) ≡ z
+quarter_back z fits = ap (wrap 16) (up-times z 4 (lit< tt)) ∙ fits_16 z fits
+
+-- ---- whole numbers
+
+-- of 16 bits, in 16.16
+pub whole_back : (z : ℤ) → SFits w16 z → wrap 16 (up (z *ℤ pos 65536) 65536) ≡ z
+whole_back z fits = ap (wrap 16) (up-times z 65536 (lit< tt)) ∙ fits_16 z fits
+
+pub whole_back_wrapped : (z : ℤ) → SFits w16 z → wrap 16 (up (wrap 32 (z *ℤ pos 65536)) 65536) ≡ z
+whole_back_wrapped z fits = narrowed-wrap_times 32 16 65536 z (lit< tt) (lit< tt) refl (lit< tt) ∙ fits_16 z fits
+
+-- and from there as 26.6
+pub whole_as_26_6 : (z : ℤ) → SFits w16 z → wrap 22 (up (wrap 32 (z *ℤ pos 65536)) 1024) ≡ (z *ℤ pos 64)
+whole_as_26_6 z fits =
+    let split : (z *ℤ pos 65536) ≡ ((z *ℤ pos 64) *ℤ pos 1024) = omega (arith, ints) in
+    ap (λ n. wrap 22 (up (wrap 32 n) 1024)) split ∙ narrowed-wrap_times 32 22 1024 (z *ℤ pos 64) (lit< tt)
+    (lit< tt) refl (lit< tt)
+    ∙ wrap-fits 22 (z *ℤ pos 64) (lit< tt) (record {
+      low = omega (arith, ints, fits);
+      high =
+          omega (arith, ints, fits);
+    })
+
+-- of 26 bits, in 26.6
+pub whole_back_26_6 : (z : ℤ) → neg_ℤ (pos 33554432) ≤ℤ z → z <ℤ pos 33554432
+    → wrap 26 (up (wrap 32 (z *ℤ pos 64)) 64) ≡ z
+whole_back_26_6 z low high =
+    narrowed-wrap_times 32 26 64 z (lit< tt) (lit< tt) refl (lit< tt) ∙ wrap-fits 26 z (lit< tt) (record {
+      low =
+          low;
+      high = high;
+    })
+
+-- of 32 and of 48 bits, in 48.16
+pub whole_back_32 : (z : ℤ) → SFits w32 z → wrap 32 (up (z *ℤ pos 65536) 65536) ≡ z
+whole_back_32 z fits = ap (wrap 32) (up-times z 65536 (lit< tt)) ∙ fits_32 z fits
+
+pub whole_back_48 : (z : ℤ) → neg_ℤ (pos 140737488355328) ≤ℤ z → z <ℤ pos 140737488355328
+    → wrap 48 (up (wrap 64 (z *ℤ pos 65536)) 65536) ≡ z
+whole_back_48 z low high =
+    narrowed-wrap_times 64 48 65536 z (lit< tt) (lit< tt) refl (lit< tt) ∙ wrap-fits 48 z (lit< tt) (record {
+      low =
+          low;
+      high = high;
+    })
+
+pub ruleset narrow_calls = (
+  fixed_calls,
+  quarter_at_least,
+  quarter_at_most,
+  quarter_not_negative,
+  quarter_zero,
+  quarter_one,
+  quarter_back,
+  whole_back,
+  whole_back_wrapped,
+  whole_as_26_6,
+  whole_back_26_6,
+  whole_back_32,
+  whole_back_48,
+)

@@ -1,0 +1,103 @@
+//! An axis of a design space: coordinates between -1 and 1, narrowed for storing, and mapped along a
+//! segment.
+#![tactic(auto, using(font_types::proofs::Callers::fixed_calls))]
+
+ghost use Rattle.std.specs.Prelude.{◌≡◌, ◌≢◌, pos, ◌≤ℤ◌, ◌+ℤ◌, ◌-ℤ◌};
+ghost use Rattle.font_types.specs.Wrap.{FitsBits};
+ghost use Rattle.font_types.specs.Fixed.{fixed_bits};
+ghost use Rattle.font_types.specs.F2Dot14.{f2dot14_bits};
+
+use font_types::{F2Dot14, Fixed};
+
+/// A coordinate as it is stored, kept from -1 to 1.
+#[tactic(auto, using(font_types::proofs::Callers::narrow_calls))]
+pub fn stored(coordinate: Fixed) -> F2Dot14
+    ensures low { f2dot14_bits F2Dot14.NEG_ONE ≤ℤ f2dot14_bits result }
+    ensures high { f2dot14_bits result ≤ℤ f2dot14_bits F2Dot14.ONE }
+    ensures middle { coordinate ≡ Fixed.ZERO → result ≡ F2Dot14.ZERO }
+    ensures end { coordinate ≡ Fixed.ONE → result ≡ F2Dot14.ONE }
+{
+    coordinate.clamp(Fixed::NEG_ONE, Fixed::ONE).to_f2dot14()
+}
+
+/// A value kept within the range of its axis.
+#[tactic(auto)]
+pub fn kept(value: Fixed, least: Fixed, greatest: Fixed) -> Fixed
+    requires { fixed_bits least ≤ℤ fixed_bits greatest }
+    ensures low { fixed_bits least ≤ℤ fixed_bits result }
+    ensures high { fixed_bits result ≤ℤ fixed_bits greatest }
+    ensures inside { fixed_bits least ≤ℤ fixed_bits value
+        → fixed_bits value ≤ℤ fixed_bits greatest → result ≡ value }
+{
+    value.clamp(least, greatest)
+}
+
+/// How far `b` is above `a`, exactly.
+pub fn distance(a: Fixed, b: Fixed) -> Fixed
+    requires { FitsBits 32 (fixed_bits b -ℤ fixed_bits a) }
+    ensures { fixed_bits result ≡ (fixed_bits b -ℤ fixed_bits a) }
+{
+    b - a
+}
+
+/// The share of a height that `part` has in `whole`.
+pub fn share(height: Fixed, part: Fixed, whole: Fixed) -> Fixed
+    requires height { pos 0 ≤ℤ fixed_bits height }
+    requires part { (pos 0 ≤ℤ fixed_bits part) × (fixed_bits part ≤ℤ fixed_bits whole) }
+    requires whole { whole ≢ Fixed.ZERO }
+    ensures low { pos 0 ≤ℤ fixed_bits result }
+    ensures high { fixed_bits result ≤ℤ fixed_bits height }
+    ensures start { part ≡ Fixed.ZERO → result ≡ Fixed.ZERO }
+    ensures end { part ≡ whole → result ≡ height }
+{
+    height.mul_div(part, whole)
+}
+
+/// A coordinate, and the one that stands for it.
+#[derive(Clone, Copy, PartialEq, Debug)]
+pub struct Mapping {
+    /// The coordinate that is given.
+    pub from: Fixed,
+    /// The coordinate that stands for it.
+    pub to: Fixed,
+}
+
+/// Where a coordinate comes to stand by two mappings: it meets both.
+pub fn along(coordinate: Fixed, start: Mapping, end: Mapping) -> Fixed
+    requires { start.from ≢ end.from }
+    ensures start { coordinate ≡ start.from → result ≡ start.to }
+    ensures end { coordinate ≡ end.from → result ≡ end.to }
+{
+    start.to + (end.to - start.to).mul_div(coordinate - start.from, end.from - start.from)
+}
+
+/// The same between two mappings: it also stays between them.
+pub fn on_segment(coordinate: Fixed, start: Mapping, end: Mapping) -> Fixed
+    requires apart { start.from ≢ end.from }
+    requires within { (fixed_bits start.from ≤ℤ fixed_bits coordinate)
+        × (fixed_bits coordinate ≤ℤ fixed_bits end.from) }
+    requires order { fixed_bits start.to ≤ℤ fixed_bits end.to }
+    requires width { FitsBits 32 (fixed_bits end.from -ℤ fixed_bits start.from) }
+    requires height { FitsBits 32 (fixed_bits end.to -ℤ fixed_bits start.to) }
+    ensures start { coordinate ≡ start.from → result ≡ start.to }
+    ensures end { coordinate ≡ end.from → result ≡ end.to }
+    ensures low { fixed_bits start.to ≤ℤ fixed_bits result }
+    ensures high { fixed_bits result ≤ℤ fixed_bits end.to }
+{
+    let height = distance(start.to, end.to);
+    let part = distance(start.from, coordinate);
+    raised(
+        start.to,
+        share(height, part, distance(start.from, end.from)),
+        end.to,
+    )
+}
+
+// A number raised by no more than it is below the top.
+fn raised(bottom: Fixed, part: Fixed, top: Fixed) -> Fixed
+    requires { (pos 0 ≤ℤ fixed_bits part)
+        × (fixed_bits part ≤ℤ (fixed_bits top -ℤ fixed_bits bottom)) }
+    ensures { fixed_bits result ≡ (fixed_bits bottom +ℤ fixed_bits part) }
+{
+    bottom + part
+}

@@ -1,0 +1,69 @@
+//! A walk over an outline whose points stand as deltas.
+#![tactic(auto, using(font_types::proofs::Callers::sum_calls))]
+
+ghost use Rattle.std.specs.Prelude.{◌≡◌, ◌+ℤ◌};
+ghost use Rattle.font_types.specs.Wrap.{wrap};
+ghost use Rattle.font_types.specs.Fixed.{fixed_bits};
+ghost use Rattle.font_types.specs.Delta.{total};
+
+use font_types::{Fixed, Point};
+
+/// Where the pen stands when it has gone all steps from the origin.
+pub fn pen(steps: &[Point<Fixed>]) -> Point<Fixed>
+    ensures x { fixed_bits result.x ≡ wrap 32 (total (λ step. fixed_bits step.x) steps.now) }
+    ensures y { fixed_bits result.y ≡ wrap 32 (total (λ step. fixed_bits step.y) steps.now) }
+{
+    let mut pen = Point::broadcast(Fixed::ZERO);
+    for step in steps {
+        pen += *step;
+    }
+    pen
+}
+
+/// A step there and the same step back.
+pub fn there_and_back(at: Fixed, step: Fixed) -> Fixed
+    ensures { result ≡ at }
+{
+    at + step - step
+}
+
+/// A glyph of a line of text.
+#[derive(Clone, Copy)]
+pub struct Placed {
+    /// The number of the glyph.
+    pub glyph: u16,
+    /// How far it moves the pen.
+    pub advance: Fixed,
+}
+
+/// How wide a line is.
+#[tactic(auto, using(crate::proofs::Widths::width_calls))]
+pub fn width(line: &[Placed]) -> Fixed
+    ensures { fixed_bits result ≡ wrap 32 (total (λ glyph. fixed_bits glyph.advance) line.now) }
+{
+    let mut width = Fixed::ZERO;
+    for glyph in line {
+        width += glyph.advance;
+    }
+    width
+}
+
+/// The sum of steps in design units.
+#[tactic(auto, using(font_types::proofs::Callers::sum_calls_16))]
+pub fn height(steps: &[i16]) -> i16
+    ensures { result ≡ wrap 16 (total (λ step. step) steps.now) }
+{
+    let mut height = 0i16;
+    for step in steps {
+        height = raised(height, *step);
+    }
+    height
+}
+
+// A height and one more step.
+#[tactic(auto, using(font_types::proofs::Callers::sum_calls_16))]
+fn raised(height: i16, step: i16) -> i16
+    ensures { result ≡ wrap 16 (height +ℤ step) }
+{
+    height.wrapping_add(step)
+}

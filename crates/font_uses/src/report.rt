@@ -1,0 +1,48 @@
+//! A report in columns of one width, which no number is too wide for.
+
+ghost use Rattle.std.specs.Prelude.{◌≡◌, ◌<◌, ◌++◌, IfOk, IfErr};
+ghost use Rattle.font_types.specs.Tag.{tag_bytes, IsGood};
+ghost use Rattle.font_types.specs.Fixed.{fixed_text};
+ghost use Rattle.font_types.specs.Padding.{padded_text};
+
+use font_types::{Fixed, JsonFault, JsonScalar, Pad, Tag};
+use serde_json::Value;
+use std::alloc::{AllocError, Global};
+
+/// A column of twelve bytes, as many as the longest `Fixed` has.
+pub fn column(number: Fixed, pad: &Pad) -> [u8; 12]
+    requires { (pad.now.fill < 128) × (pad.now.width ≡ 12) }
+    ensures { result ≡ padded_text (fixed_text number) pad.now }
+{
+    let mut out = [b' '; 12];
+    let _written = number.write_padded(&mut out, pad).unwrap();
+    out
+}
+
+/// A line of a report: the tag of an axis, its least value and its greatest.
+pub fn line(
+    axis: Tag,
+    least: Fixed,
+    greatest: Fixed,
+    pad: &Pad,
+    alloc: Global,
+) -> Result<Vec<u8>, AllocError>
+    requires { (pad.now.fill < 128) × (pad.now.width ≡ 12) }
+    ensures { IfOk result (λ line. line.items ≡ tag_bytes axis
+        ++ (padded_text (fixed_text least) pad.now ++ padded_text (fixed_text greatest) pad.now)) }
+{
+    let mut line = Vec::new(alloc);
+    line.extend_from_slice(axis.as_bytes())?;
+    line.extend_from_slice(&column(least, pad))?;
+    line.extend_from_slice(&column(greatest, pad))?;
+    Ok(line)
+}
+
+/// The tag of an axis as JSON, which nothing refuses but a failed allocation.
+#[tactic(auto, using(font_types::proofs::Callers::tag_calls))]
+pub fn axis_value(axis: Tag, alloc: Global) -> Result<Value, JsonFault>
+    requires { IsGood (tag_bytes axis) }
+    ensures { IfErr result (λ fault. fault ≡ JsonFault.Memory) }
+{
+    axis.to_json(alloc)
+}

@@ -1,0 +1,43 @@
+//! An axis.
+
+use crate::axis::{Mapping, along, kept, on_segment, stored};
+use font_types::{F2Dot14, Fixed};
+
+#[test]
+fn stored_within_one(rt: HostRuntime) {
+    for (bits, narrow) in [
+        (0x2_0000, 0x4000),
+        (-0x1_0001, -0x4000),
+        (0x8002, 0x2001),
+        (0x8001, 0x2000),
+        (0, 0),
+    ] {
+        assert_eq!(rt;
+            stored(Fixed::from_bits(bits)),
+            F2Dot14::from_bits(narrow),
+            "{bits}"
+        );
+    }
+}
+
+#[test]
+fn mapped_along_a_segment(rt: HostRuntime) {
+    let start = Mapping {
+        from: Fixed::ZERO,
+        to: Fixed::from_bits(0x4000),
+    };
+    let end = Mapping {
+        from: Fixed::ONE,
+        to: Fixed::ONE,
+    };
+    assert_eq!(rt; on_segment(start.from, start, end), start.to);
+    assert_eq!(rt;
+        on_segment(Fixed::from_bits(0x8000), start, end),
+        Fixed::from_bits(0xA000)
+    );
+    assert_eq!(rt; on_segment(end.from, start, end), end.to);
+    assert_eq!(rt;
+        along(kept(Fixed::MAX, start.from, end.from), start, end),
+        end.to
+    );
+}

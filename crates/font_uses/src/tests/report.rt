@@ -1,0 +1,20 @@
+//! A report in columns.
+
+use crate::report::{axis_value, line};
+use font_types::{Fixed, Pad, Tag};
+use std::test::Fail;
+
+#[test]
+fn in_columns(rt: HostRuntime) -> Result<(), Fail> {
+    let (least, greatest) = (Fixed::from_bits(i32::MIN + 1), Fixed::from_bits(0x1_8000));
+    let line = line(
+        Tag::new(b"slnt"),
+        least,
+        greatest,
+        &Pad::new(12),
+        rt.alloc(),
+    )?;
+    assert!(rt; line.as_slice() == b"slnt-32767.99998         1.5".as_slice());
+    assert!(rt; axis_value(Tag::new(b"slnt"), rt.alloc()).is_ok());
+    Ok(())
+}
