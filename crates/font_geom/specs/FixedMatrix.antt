@@ -1,7 +1,8 @@
 -- Matrices of `Fixed`, over their bits (OpenType, data types: Fixed is 16.16), and how far from its exact image they
 -- move a point.
 pub mod Laws
-use Rattle.std.specs.Prelude.{◌≡◌, ℕ, ◌+◌, ◌*◌, ◌/◌, ◌^◌, ◌≤◌, Bool, ◌&&◌, nat_lt, ℤ, pos, ◌+ℤ◌, ◌-ℤ◌, ◌*ℤ◌, unsigned_abs}
+use Rattle.std.specs.Prelude.{◌≡◌, ℕ, ◌+◌, ◌*◌, ◌/◌, ◌^◌, ◌≤◌, Bool, ◌&&◌, nat_lt, ℤ, pos, ◌+ℤ◌, ◌-ℤ◌, ◌*ℤ◌}
+use Rattle.std.specs.Prelude.{unsigned_abs}
 use Rattle.font_base.specs.Wrap.{FitsBits, wrap}
 use Rattle.font_decimal.specs.Near.{near}
 use Rattle.font_fixed.specs.declared.fixed.Fixed.{Fixed}
