@@ -9,7 +9,8 @@ use Rattle.std.proofs.Math.Nat.{mul-le-mul_left}
 use Rattle.font_base.specs.Wrap.{wrap, FitsBits}
 use Rattle.font_base.specs.Wrap.Laws.{wrap-fits}
 use Rattle.font_decimal.specs.Near.{Near}
-use Rattle.font_decimal.proofs.Near.{IsNearMagnitude, near_to, near_unique, neg-times, next_product}
+use Rattle.font_decimal.proofs.Integers.{neg-times}
+use Rattle.font_decimal.proofs.Near.{IsNearMagnitude, near_to, near_unique, next_product}
 use Rattle.font_arithmetic.specs.Operations.{IsWrappedNear, IsProduct, IsQuotient, IsMulDiv}
 use Rattle.font_arithmetic.specs.NumberLaws.{ProductLaws, ProductInOneStep, QuotientLaws, QuotientInOneStep}
 
