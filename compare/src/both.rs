@@ -2,8 +2,7 @@
 //! `font-types` has not, stands beside one of whole numbers of 128 bits.
 
 use font_types_proved::{self as here, DecimalFault, Pad};
-use std::fmt::Display;
-use std::str::FromStr;
+use std::fmt::{self, Write};
 
 /// The other side.
 pub mod there {
@@ -14,60 +13,42 @@ pub mod there {
 /// What both sides give, as bits: here, and there.
 pub type Answers = [Option<i64>; 2];
 
-/// A number type of both crates. A number is told by its low bits.
-pub trait Both {
-    const NAME: &'static str;
-    const WIDTH: u32;
-    const FRACTION_BITS: u32;
-
+/// The calls of a number type of both crates. A number is told by its low bits.
+pub struct Both {
+    pub name: &'static str,
+    pub width: u32,
+    pub fraction_bits: u32,
     /// The bits of what `font-types` makes of an f64.
-    const FROM_F64: Option<fn(f64) -> i64>;
-
-    type Here: Copy + Display + FromStr<Err = DecimalFault>;
-    type There: Copy + Display;
-
-    fn here(bits: i64) -> Self::Here;
-
-    fn there(bits: i64) -> Self::There;
-
-    fn bits(here: Self::Here) -> i64;
-
+    pub from_f64: Option<fn(f64) -> i64>,
+    /// The number's bits.
+    pub bits: fn(i64) -> i64,
+    /// Writes the number by `{}`, here and there.
+    pub write: fn(i64, &mut Text) -> fmt::Result,
+    pub write_there: fn(i64, &mut Text) -> fmt::Result,
+    pub read: fn(&str) -> Result<i64, DecimalFault>,
     /// `round`, `floor`, `fract`, `abs`, `-`, and the bytes as a number.
-    fn unary(bits: i64) -> [Answers; 6];
-
+    pub unary: fn(i64) -> [Answers; 6],
     /// `+`, `-`, `wrapping_add`, `wrapping_sub`, `saturating_add`, `saturating_sub`, `checked_add`.
-    fn sums(x: i64, y: i64) -> [Answers; 7];
-
-    fn write_padded(here: Self::Here, out: &mut [u8], pad: &Pad) -> Option<usize>;
+    pub sums: fn(i64, i64) -> [Answers; 7],
+    pub write_padded: fn(i64, &mut [u8], &Pad) -> Option<usize>,
+    /// The number there, with width, fill, alignment, sign and zeros.
+    pub padded_there: fn(i64) -> [String; 6],
 }
 
 macro_rules! both {
-    ($($Type:ident $bits:ident $f:literal;)*) => {$(
-        pub struct $Type;
-
-        impl Both for $Type {
-            const NAME: &'static str = stringify!($Type);
-            const WIDTH: u32 = <$bits>::BITS;
-            const FRACTION_BITS: u32 = $f;
-            const FROM_F64: Option<fn(f64) -> i64> = both!(@from_f64 $Type);
-
-            type Here = here::$Type;
-            type There = there::$Type;
-
-            fn here(bits: i64) -> here::$Type {
-                here::$Type::from_bits(bits as $bits)
-            }
-
-            fn there(bits: i64) -> there::$Type {
-                there::$Type::from_bits(bits as $bits)
-            }
-
-            fn bits(here: here::$Type) -> i64 {
-                here.to_bits().into()
-            }
-
-            fn unary(bits: i64) -> [Answers; 6] {
-                let (x, y) = (Self::here(bits), Self::there(bits));
+    ($Type:ident $bits:ident $f:literal) => {
+        Both {
+            name: stringify!($Type),
+            width: <$bits>::BITS,
+            fraction_bits: $f,
+            from_f64: both!(@from_f64 $Type),
+            bits: |bits| (bits as $bits).into(),
+            write: |bits, text| write!(text, "{}", here::$Type::from_bits(bits as $bits)),
+            write_there: |bits, text| write!(text, "{}", there::$Type::from_bits(bits as $bits)),
+            read: |text| here::$Type::from_decimal(text).map(|x| x.to_bits().into()),
+            unary: |bits| {
+                let x = here::$Type::from_bits(bits as $bits);
+                let y = there::$Type::from_bits(bits as $bits);
                 let bytes = |bytes| Some($bits::from_be_bytes(bytes).into());
                 [
                     both!(@bits x.round(), y.round()),
@@ -77,11 +58,10 @@ macro_rules! both {
                     both!(@bits -x, -y),
                     [bytes(x.to_be_bytes()), bytes(y.to_be_bytes())],
                 ]
-            }
-
-            fn sums(x: i64, y: i64) -> [Answers; 7] {
-                let (v, w) = (Self::there(x), Self::there(y));
-                let (x, y) = (Self::here(x), Self::here(y));
+            },
+            sums: |a, b| {
+                let [x, y] = [a, b].map(|bits| here::$Type::from_bits(bits as $bits));
+                let [v, w] = [a, b].map(|bits| there::$Type::from_bits(bits as $bits));
                 [
                     both!(@bits x + y, v + w),
                     both!(@bits x - y, v - w),
@@ -94,13 +74,23 @@ macro_rules! both {
                         v.checked_add(w).map(|sum| sum.to_bits().into()),
                     ],
                 ]
-            }
-
-            fn write_padded(here: here::$Type, out: &mut [u8], pad: &Pad) -> Option<usize> {
-                here.write_padded(out, pad)
-            }
+            },
+            write_padded: |bits, out, pad| {
+                here::$Type::from_bits(bits as $bits).write_padded(out, pad)
+            },
+            padded_there: |bits| {
+                let x = there::$Type::from_bits(bits as $bits);
+                [
+                    format!("{x:>12}"),
+                    format!("{x:*<9}"),
+                    format!("{x:_^13}"),
+                    format!("{x:+}"),
+                    format!("{x:08}"),
+                    format!("{x:+012}"),
+                ]
+            },
         }
-    )*};
+    };
     (@bits $here:expr, $there:expr) => {
         [Some($here.to_bits().into()), Some($there.to_bits().into())]
     };
@@ -112,12 +102,45 @@ macro_rules! both {
     };
 }
 
-both! {
-    F2Dot14 i16 14;
-    F4Dot12 i16 12;
-    F6Dot10 i16 10;
-    Fixed i32 16;
-    F26Dot6 i32 6;
-    F48Dot16 i64 16;
-    F2Dot30 i32 30;
+pub const F2DOT14: Both = both!(F2Dot14 i16 14);
+pub const F4DOT12: Both = both!(F4Dot12 i16 12);
+pub const F6DOT10: Both = both!(F6Dot10 i16 10);
+pub const FIXED: Both = both!(Fixed i32 16);
+pub const F26DOT6: Both = both!(F26Dot6 i32 6);
+pub const F48DOT16: Both = both!(F48Dot16 i64 16);
+pub const F2DOT30: Both = both!(F2Dot30 i32 30);
+
+/// Every type.
+pub const ALL: [Both; 7] = [F2DOT14, F4DOT12, F6DOT10, FIXED, F26DOT6, F48DOT16, F2DOT30];
+
+/// A text of up to 64 bytes that `write!` writes.
+pub struct Text {
+    bytes: [u8; 64],
+    length: usize,
+}
+
+impl Text {
+    /// What the function writes.
+    pub fn of(bits: i64, write: fn(i64, &mut Text) -> fmt::Result) -> Self {
+        let mut text = Self {
+            bytes: [0; 64],
+            length: 0,
+        };
+        write(bits, &mut text).expect("64 bytes are room enough");
+        text
+    }
+
+    pub fn as_str(&self) -> &str {
+        str::from_utf8(&self.bytes[..self.length]).expect("texts were written")
+    }
+}
+
+impl Write for Text {
+    fn write_str(&mut self, piece: &str) -> fmt::Result {
+        let end = self.length + piece.len();
+        let place = self.bytes.get_mut(self.length..end).ok_or(fmt::Error)?;
+        place.copy_from_slice(piece.as_bytes());
+        self.length = end;
+        Ok(())
+    }
 }

@@ -26,7 +26,6 @@ mod tags;
 mod tally;
 mod work;
 
-use both::{F2Dot30, F26Dot6, F48Dot16, Fixed};
 use std::process::ExitCode;
 use std::thread;
 use work::Work;
@@ -35,10 +34,10 @@ type Part = (&'static str, fn(&mut Work));
 
 const PARTS: [Part; 13] = [
     ("f2dot14", numbers::small_types),
-    ("fixed", numbers::all::<Fixed>),
-    ("f26dot6", numbers::all::<F26Dot6>),
-    ("f48dot16", numbers::random::<F48Dot16>),
-    ("f2dot30", numbers::random::<F2Dot30>),
+    ("fixed", |work| numbers::all(work, &both::FIXED)),
+    ("f26dot6", |work| numbers::all(work, &both::F26DOT6)),
+    ("f48dot16", |work| numbers::random(work, &both::F48DOT16)),
+    ("f2dot30", |work| numbers::random(work, &both::F2DOT30)),
     ("sums", numbers::all_sums),
     ("products", numbers::products),
     ("conversions", numbers::conversions),

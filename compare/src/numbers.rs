@@ -1,12 +1,11 @@
 //! Numbers one by one and in pairs: texts, padding, rounding, sums, products and conversions.
 
-use crate::both::{Both, F26Dot6, Fixed, there};
+use crate::both::{ALL, Both, F2DOT14, F4DOT12, F6DOT10, Text, there};
 use crate::exact::Exact;
 use crate::random::Random;
 use crate::tally::Tally;
 use crate::work::Work;
 use font_types_proved::{self as here, Align, Pad};
-use std::fmt::{self, Display, Write};
 
 const ROWS: [&str; 10] = [
     "text",
@@ -22,39 +21,45 @@ const ROWS: [&str; 10] = [
 ];
 
 /// Every value of a type.
-pub fn all<B: Both>(work: &mut Work) {
-    work.go_over_all(B::NAME, &ROWS, B::WIDTH, |index, tally| {
-        value::<B>(index as i64, B::WIDTH == 16 || index % 1024 == 0, tally);
+pub fn all(work: &mut Work, of: &Both) {
+    work.go_over_all(of.name, &ROWS, of.width, |index, tally| {
+        let is_chosen = of.width == 16 || index % 1024 == 0;
+        value(of, (of.bits)(index as i64), is_chosen, tally);
     });
 }
 
+/// Every value of the three types of 16 bits.
+pub fn small_types(work: &mut Work) {
+    [F2DOT14, F4DOT12, F6DOT10]
+        .iter()
+        .for_each(|of| all(work, of));
+}
+
 /// Random values of a type.
-pub fn random<B: Both>(work: &mut Work) {
-    let title = format!("{}, random", B::NAME);
+pub fn random(work: &mut Work, of: &Both) {
+    let title = format!("{}, random", of.name);
     work.go_over_random(&title, &ROWS, 50_000_000, |random, tally| {
-        value::<B>(random.bits_64(), random.below(64) == 0, tally);
+        let bits = (of.bits)(random.bits_64());
+        value(of, bits, random.below(64) == 0, tally);
     });
 }
 
 // One value, printed by `{}` with neither a width nor a precision.
-fn value<B: Both>(bits: i64, is_chosen: bool, tally: &mut Tally) {
-    let (here, there) = (B::here(bits), B::there(bits));
-    let bits = B::bits(here);
+fn value(of: &Both, bits: i64, is_chosen: bool, tally: &mut Tally) {
     let example = || format!("bits {bits}");
-    let (text, other) = (Text::of(here), Text::of(there));
+    let (text, other) = (Text::of(bits, of.write), Text::of(bits, of.write_there));
     tally.judge(0, text.as_str() == other.as_str(), example);
-    let back = text.as_str().parse().map(B::bits);
-    tally.judge(2, back == Ok(bits), example);
-    tally.judge_each(4, B::unary(bits), example);
+    tally.judge(2, (of.read)(text.as_str()) == Ok(bits), example);
+    tally.judge_each(4, (of.unary)(bits), example);
     if is_chosen {
-        let shortest = Exact::shortest(bits, B::FRACTION_BITS).to_string();
+        let shortest = Exact::shortest(bits, of.fraction_bits).to_string();
         tally.judge(1, text.as_str() == shortest, example);
-        tally.judge(3, padded_alike::<B>(here, there), example);
+        tally.judge(3, padded_alike(of, bits), example);
     }
 }
 
 // The flags that both have: width, fill, alignment, sign and zeros.
-fn padded_alike<B: Both>(here: B::Here, there: B::There) -> bool {
+fn padded_alike(of: &Both, bits: i64) -> bool {
     let pad = |width, fill, align| Pad {
         fill,
         align,
@@ -62,19 +67,20 @@ fn padded_alike<B: Both>(here: B::Here, there: B::There) -> bool {
     };
     let signed = |pad| Pad { plus: true, ..pad };
     let filled = |pad| Pad { zeros: true, ..pad };
-    let cases = [
-        (Pad::new(12), format!("{there:>12}")),
-        (pad(9, b'*', Align::Left), format!("{there:*<9}")),
-        (pad(13, b'_', Align::Center), format!("{there:_^13}")),
-        (signed(Pad::new(0)), format!("{there:+}")),
-        (filled(pad(8, b'*', Align::Left)), format!("{there:08}")),
-        (filled(signed(Pad::new(12))), format!("{there:+012}")),
+    let pads = [
+        Pad::new(12),
+        pad(9, b'*', Align::Left),
+        pad(13, b'_', Align::Center),
+        signed(Pad::new(0)),
+        filled(pad(8, b'*', Align::Left)),
+        filled(signed(Pad::new(12))),
     ];
-    cases.iter().all(|(pad, text)| {
+    let texts = (of.padded_there)(bits);
+    pads.iter().zip(&texts).all(|(pad, text)| {
         let mut out = [b'~'; 32];
-        let length = B::write_padded(here, &mut out[..text.len()], pad);
+        let length = (of.write_padded)(bits, &mut out[..text.len()], pad);
         let mut short = [b'~'; 32];
-        let refused = B::write_padded(here, &mut short[..text.len() - 1], pad);
+        let refused = (of.write_padded)(bits, &mut short[..text.len() - 1], pad);
         let is_written = length == Some(text.len()) && out[..text.len()] == *text.as_bytes();
         is_written && out[text.len()] == b'~' && refused.is_none() && short == [b'~'; 32]
     })
@@ -100,24 +106,28 @@ const SUMS: [&str; 7] = [
     "checked_add",
 ];
 
-/// Sums of pairs of edges, and of random pairs.
-pub fn sums<B: Both>(work: &mut Work) {
-    let edges = edges(B::WIDTH);
+/// Sums of pairs of edges, and of random pairs, of each type.
+pub fn all_sums(work: &mut Work) {
+    ALL.iter().for_each(|of| sums(work, of));
+}
+
+fn sums(work: &mut Work, of: &Both) {
+    let edges = edges(of.width);
     let n = edges.len() as u64;
-    let sums = |x: i64, y: i64, tally: &mut Tally| {
-        tally.judge_each(0, B::sums(x, y), || format!("bits {x} and {y}"));
+    let judge = |x: i64, y: i64, tally: &mut Tally| {
+        tally.judge_each(0, (of.sums)(x, y), || format!("bits {x} and {y}"));
     };
-    let title = format!("{}, sums of edges", B::NAME);
+    let title = format!("{}, sums of edges", of.name);
     work.go_over(&title, &SUMS, n * n, |index, tally| {
-        sums(
+        judge(
             edges[(index / n) as usize],
             edges[(index % n) as usize],
             tally,
         );
     });
-    let title = format!("{}, sums of random pairs", B::NAME);
+    let title = format!("{}, sums of random pairs", of.name);
     work.go_over_random(&title, &SUMS, 10_000_000, |random, tally| {
-        sums(random.bits_64(), random.bits_64(), tally);
+        judge(random.bits_64(), random.bits_64(), tally);
     });
 }
 
@@ -248,55 +258,4 @@ fn of_48_dot_16(random: &mut Random, tally: &mut Tally) {
         && here::FWord::new(half).apply_delta(x) == moved(half.into())
         && here::UfWord::new(half as u16).apply_delta(x) == moved((half as u16).into());
     tally.judge(5, is_exact, example);
-}
-
-/// A text of up to 64 bytes that `write!` writes.
-struct Text {
-    bytes: [u8; 64],
-    length: usize,
-}
-
-impl Text {
-    fn of(number: impl Display) -> Self {
-        let mut text = Self {
-            bytes: [0; 64],
-            length: 0,
-        };
-        write!(text, "{number}").expect("64 bytes are room enough");
-        text
-    }
-
-    fn as_str(&self) -> &str {
-        str::from_utf8(&self.bytes[..self.length]).expect("texts were written")
-    }
-}
-
-impl Write for Text {
-    fn write_str(&mut self, piece: &str) -> fmt::Result {
-        let end = self.length + piece.len();
-        let place = self.bytes.get_mut(self.length..end).ok_or(fmt::Error)?;
-        place.copy_from_slice(piece.as_bytes());
-        self.length = end;
-        Ok(())
-    }
-}
-
-/// Each type's part of the comparison.
-pub fn small_types(work: &mut Work) {
-    use crate::both::{F2Dot14, F4Dot12, F6Dot10};
-    all::<F2Dot14>(work);
-    all::<F4Dot12>(work);
-    all::<F6Dot10>(work);
-}
-
-/// Sums of each type.
-pub fn all_sums(work: &mut Work) {
-    use crate::both::{F2Dot14, F2Dot30, F4Dot12, F6Dot10, F48Dot16};
-    sums::<F2Dot14>(work);
-    sums::<F4Dot12>(work);
-    sums::<F6Dot10>(work);
-    sums::<Fixed>(work);
-    sums::<F26Dot6>(work);
-    sums::<F48Dot16>(work);
-    sums::<F2Dot30>(work);
 }

@@ -1,13 +1,12 @@
 //! Decimals that are read: judged by whole numbers, refusals and ends included, and beside what
 //! `font-types` makes of the text by way of f64, where that lies on the same side of a half step.
 
-use crate::both::{Both, F2Dot14, F2Dot30, F4Dot12, F6Dot10, F26Dot6, F48Dot16, Fixed};
+use crate::both::{ALL, Both};
 use crate::exact::Exact;
 use crate::random::Random;
 use crate::tally::Tally;
 use crate::work::Work;
 use font_types_proved::DecimalFault;
-use std::str::FromStr;
 
 const ROWS: [&str; 2] = [
     "read or refused by whole numbers",
@@ -16,18 +15,12 @@ const ROWS: [&str; 2] = [
 
 /// Every type.
 pub fn compare(work: &mut Work) {
-    of_type::<F2Dot14>(work);
-    of_type::<F4Dot12>(work);
-    of_type::<F6Dot10>(work);
-    of_type::<Fixed>(work);
-    of_type::<F26Dot6>(work);
-    of_type::<F48Dot16>(work);
-    of_type::<F2Dot30>(work);
+    ALL.iter().for_each(|of| of_type(work, of));
 }
 
-fn of_type<B: Both>(work: &mut Work) {
-    let name = B::NAME;
-    let rows = if B::FROM_F64.is_some() {
+fn of_type(work: &mut Work, of: &Both) {
+    let name = of.name;
+    let rows = if of.from_f64.is_some() {
         &ROWS[..]
     } else {
         &ROWS[..1]
@@ -36,9 +29,10 @@ fn of_type<B: Both>(work: &mut Work) {
     work.go_over_random(&title, rows, 20_000_000, |random, tally| {
         let (numeral, places) = (random.bits_32().into(), random.below(6) as u32);
         let decimal = Exact { numeral, places };
-        read::<B>(
+        read(
+            of,
             &decimal.to_string(),
-            decimal.steps(B::FRACTION_BITS),
+            decimal.steps(of.fraction_bits),
             true,
             tally,
         );
@@ -48,66 +42,72 @@ fn of_type<B: Both>(work: &mut Work) {
         let numeral = i128::from(random.bits_64()) << 30 ^ i128::from(random.bits_32());
         let places = random.below(31) as u32;
         let decimal = Exact { numeral, places };
-        read::<B>(
+        read(
+            of,
             &decimal.to_string(),
-            decimal.steps(B::FRACTION_BITS),
+            decimal.steps(of.fraction_bits),
             false,
             tally,
         );
     });
     let title = format!("{name}, half steps");
-    if B::WIDTH == 16 {
+    if of.width == 16 {
         // One more on each side, beyond the ends.
         work.go_over(&title, rows, (1 << 16) + 2, |index, tally| {
-            half_step::<B>(index as i64 - (1 << 15) - 1, tally);
+            half_step(of, index as i64 - (1 << 15) - 1, tally);
         });
     } else {
         work.go_over_random(&title, rows, 20_000_000, |random, tally| {
-            half_step::<B>(some_bits::<B>(random), tally);
+            half_step(of, some_bits(of, random), tally);
         });
     }
     let title = format!("{name}, texts of up to 5,000 digits at half steps");
-    work.go_over_random(&title, &ROWS[..1], 2_000_000, long_text::<B>);
+    work.go_over_random(&title, &ROWS[..1], 2_000_000, |random, tally| {
+        long_text(of, random, tally);
+    });
     let title = format!("{name}, texts of other forms");
     let names = ["refused as no decimal", "taken as a decimal"];
-    work.go_over_random(&title, &names, 5_000_000, other_form::<B>);
+    work.go_over_random(&title, &names, 5_000_000, |random, tally| {
+        other_form(of, random, tally);
+    });
 }
 
 // The bits of some number, one in eight an end or the number beside it.
-fn some_bits<B: Both>(random: &mut Random) -> i64 {
-    let end = i64::MAX >> (64 - B::WIDTH);
+fn some_bits(of: &Both, random: &mut Random) -> i64 {
+    let end = i64::MAX >> (64 - of.width);
     match random.below(32) {
         0 => end,
         1 => !end,
         2 => end - 1,
-        3 => !end - i64::from(B::WIDTH < 64),
-        _ => B::bits(B::here(random.bits_64())),
+        3 => !end - i64::from(of.width < 64),
+        _ => (of.bits)(random.bits_64()),
     }
 }
 
 // The decimal half a step above a number.
-fn half_step_above<B: Both>(bits: i64) -> Exact {
-    let places = B::FRACTION_BITS + 1;
+fn half_step_above(of: &Both, bits: i64) -> Exact {
+    let places = of.fraction_bits + 1;
     let numeral = (2 * i128::from(bits) + 1) * 5i128.pow(places);
     Exact { numeral, places }
 }
 
-fn half_step<B: Both>(below: i64, tally: &mut Tally) {
-    let decimal = half_step_above::<B>(below);
+fn half_step(of: &Both, below: i64, tally: &mut Tally) {
+    let decimal = half_step_above(of, below);
     // An f64 holds a half step of up to 52 bits.
     let is_f64 = below.unsigned_abs() < 1 << 51;
-    read::<B>(
+    read(
+        of,
         &decimal.to_string(),
-        decimal.steps(B::FRACTION_BITS),
+        decimal.steps(of.fraction_bits),
         is_f64,
         tally,
     );
 }
 
 // A half step with digits behind it, or with those of a number just below it, and zeros in front.
-fn long_text<B: Both>(random: &mut Random, tally: &mut Tally) {
-    let tie = half_step_above::<B>(some_bits::<B>(random));
-    let away = tie.steps(B::FRACTION_BITS);
+fn long_text(of: &Both, random: &mut Random, tally: &mut Tally) {
+    let tie = half_step_above(of, some_bits(of, random));
+    let away = tie.steps(of.fraction_bits);
     let (zeros, digits) = (
         random.below(100) as usize,
         random.below(5000 - 150) as usize,
@@ -130,7 +130,8 @@ fn long_text<B: Both>(random: &mut Random, tally: &mut Tally) {
         None if tie.numeral < 0 => ("-", text.as_str()),
         None => ("", text.as_str()),
     };
-    read::<B>(
+    read(
+        of,
         &format!("{sign}{:0<zeros$}{magnitude}", ""),
         steps,
         false,
@@ -139,25 +140,25 @@ fn long_text<B: Both>(random: &mut Random, tally: &mut Tally) {
 }
 
 // Reads a text whose nearest number has so many steps.
-fn read<B: Both>(text: &str, steps: i128, is_safe_in_f64: bool, tally: &mut Tally) {
+fn read(of: &Both, text: &str, steps: i128, is_safe_in_f64: bool, tally: &mut Tally) {
     let example = || text.to_string();
-    let end = i128::from(i64::MAX >> (64 - B::WIDTH));
+    let end = i128::from(i64::MAX >> (64 - of.width));
     let is_in_range = (!end..=end).contains(&steps);
     let wanted = if is_in_range {
         Ok(steps as i64)
     } else {
         Err(DecimalFault::OutOfRange)
     };
-    let here = B::Here::from_str(text).map(B::bits);
+    let here = (of.read)(text);
     tally.judge(0, here == wanted, example);
-    if let Some(from_f64) = B::FROM_F64.filter(|_| is_safe_in_f64 && is_in_range) {
+    if let Some(from_f64) = of.from_f64.filter(|_| is_safe_in_f64 && is_in_range) {
         let there = text.parse().map(from_f64);
         tally.judge(1, there.ok() == here.ok(), example);
     }
 }
 
 // A decimal with characters put in, left out or in another's place.
-fn other_form<B: Both>(random: &mut Random, tally: &mut Tally) {
+fn other_form(of: &Both, random: &mut Random, tally: &mut Tally) {
     let places = random.below(4) as u32;
     let numeral = i128::from(random.bits_32() >> 16);
     let mut text = Exact { numeral, places }.to_string();
@@ -171,7 +172,7 @@ fn other_form<B: Both>(random: &mut Random, tally: &mut Tally) {
             text.replace_range(at..(at + random.below(2) as usize).min(text.len()), piece);
         }
     }
-    let is_syntax = |text: &str| B::Here::from_str(text).err() == Some(DecimalFault::Syntax);
+    let is_syntax = |text: &str| (of.read)(text).err() == Some(DecimalFault::Syntax);
     let row = usize::from(is_decimal(&text));
     tally.judge(row, is_syntax(&text) == (row == 0), || format!("{text:?}"));
 }
