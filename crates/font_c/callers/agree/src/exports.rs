@@ -12,7 +12,7 @@ pub struct FontPad {
 }
 
 /// The values of a flag that are tried.
-pub const FLAGS: [u8; 2] = [0, 1];
+pub const FLAGS: [u8; 4] = [0, 1, 2, 0xFF];
 
 #[repr(C)]
 #[derive(Clone, Copy, PartialEq, Debug)]
