@@ -1,2 +1,1 @@
-mod Repeats
 pub mod Widths

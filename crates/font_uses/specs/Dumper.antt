@@ -1,7 +1,6 @@
 -- What a dump shows. All of it is this example's own.
-use Rattle.std.specs.Prelude.{◌≡◌, ◌⊎◌, ℕ, ◌-◌, false, List, ◌++◌, length, replicate, IsTrue, Option, Some, None}
-use Rattle.std.specs.Prelude.{Result, Ok, Err}
-use Rattle.std.specs.Fmt.{digits}
+use Rattle.std.specs.Prelude.{◌≡◌, ◌⊎◌, ℕ, ◌-◌, ◌^◌, false, List, [], IsTrue, Option, Some, None, Result, Ok, Err}
+use Rattle.std.specs.Fmt.{digits, padded_integral, format_spec}
 use lib.Chars.{codes}
 use Rattle.serde_json.specs.Data.{Data, object, member, no_members, string, number}
 use Rattle.serde_json.specs.Find.{of_integer, get}
@@ -25,7 +24,7 @@ column width = record { width = width; fill = 32; align = Right; plus = false; z
 
 -- a number in at least eight lower-case hexadecimal digits, with zeros in front
 abbrev pub eight_digits : ℕ → List ℕ
-eight_digits n = let shown = digits 16 false n in replicate (8 - length shown) 48 ++ shown
+eight_digits n = padded_integral (format_spec 32 0 4 8 (2 ^ 64 - 1)) false [] (digits 16 false n)
 
 -- each field is a value of its type
 pub record IsSummary (summary : Summary) : Type 0 where

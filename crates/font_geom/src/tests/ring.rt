@@ -5,8 +5,9 @@ ghost use Rattle.std.proofs.Common.{lit<};
 ghost use Rattle.std.proofs.Math.Nat.{mod-lt};
 ghost use Rattle.font_geom.specs.Ring.Laws.{same_made, modular_ring};
 
-use crate::laws::{action, associative, identity_neutral};
+use crate::laws::{action, associative, identity_neutral, step_and_halves};
 use crate::{Matrix, MatrixElement, Point, RingElement};
+use font_fixed::Fixed;
 use std::ops::{Add, Mul};
 
 /// A number of 32 bits whose sums and products wrap.
@@ -109,4 +110,9 @@ fn points_move_alike(rt: HostRuntime) {
 fn identity_is_neutral(rt: HostRuntime) {
     let a = turns([2, 3, 5, 7, 11, 0xFFFF_FFFF]);
     assert!(rt; identity_neutral(a) == (a, a));
+}
+
+#[test]
+fn products_that_do_not_associate(rt: HostRuntime) {
+    assert!(rt; step_and_halves() == (Fixed::EPSILON, Fixed::ZERO));
 }

@@ -1,5 +1,5 @@
-use Rattle.font_uses.proofs.Repeats.{NoneEqual}
+use Rattle.font_uses.specs.Linter.{AreDifferent}
 use Rattle.font_uses.proofs.linter.first_repeated.Given as goal
 
 abbrev pub invariant-loop-place : goal.invariant-loop-place
-invariant-loop-place l = NoneEqual l.tags l.place
+invariant-loop-place l = AreDifferent l.tags l.place
