@@ -10,9 +10,9 @@ use Rattle.font_base.specs.Wrap.{wrap, FitsBits}
 use Rattle.font_base.specs.Wrap.Laws.{wrap-add_right}
 use Rattle.font_decimal.specs.Near.{near}
 use Rattle.font_arithmetic.specs.Operations.{IsQuotient, IsMulDiv, floor_of, fract_of}
-use Rattle.font_arithmetic.proofs.Calls.{near-times, near-times_left, near-times_zero, near-zero_times}
+use Rattle.font_arithmetic.proofs.Calls.{near-times, near-times_left, near-times_zero, near-zero_times, add_zero}
 use Rattle.font_arithmetic.proofs.Laws.{itself, mul_div_exact, mul_div_between, quotient_between}
-use Rattle.font_arithmetic.proofs.Width32.{fits_32, add_zero_32, calls_32}
+use Rattle.font_arithmetic.proofs.Width32.{fits_32, calls_32}
 
 pub mul_one : (x : ℤ) → near (x *ℤ pos 65536) 65536 ≡ x
 mul_one x = near-times x 65536 (lit< tt)
@@ -49,7 +49,8 @@ sub_self a = let none : (a -ℤ a) ≡ pos 0 = omega (arith, ints) in ap (wrap 3
 -- numbers that differ have a difference that is not 0
 pub difference_is_not_zero : (a b : ℤ) → SFits w32 a → SFits w32 b → a ≢ b → wrap 32 (b -ℤ a) ≢ pos 0
 difference_is_not_zero a b fits_a fits_b other none =
-    other (sym (add_zero_32 a fits_a) ∙ ap (λ n. wrap 32 (a +ℤ n)) (sym none) ∙ add_sub_cancel a b fits_b)
+    other (sym (ap (wrap 32) (add_zero a) ∙ fits_32 a fits_a) ∙ ap (λ n. wrap 32 (a +ℤ n)) (sym none)
+    ∙ add_sub_cancel a b fits_b)
 
 -- ---- quotients
 
