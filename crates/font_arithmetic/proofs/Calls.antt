@@ -70,14 +70,14 @@ up-times q d some = sym (up_gives (q *ℤ pos d) d q some (record {
 }))
 
 -- what lies between two whole numbers of steps is rounded to what lies between them
-up_from : (n a : ℤ) (d : ℕ) (q : ℤ) → 0 < d → Up n d q → (a *ℤ pos d) ≤ℤ n → a ≤ℤ q
-up_from n a d q some nearest low = by_lt_z q a (λ less.
+up_at_least : (n a : ℤ) (d : ℕ) (q : ℤ) → 0 < d → Up n d q → (a *ℤ pos d) ≤ℤ n → a ≤ℤ q
+up_at_least n a d q some nearest low = by_lt_z q a (λ less.
     let step : ((q +ℤ pos 1) *ℤ pos d) ≤ℤ (a *ℤ pos d) = times_monotone (q +ℤ pos 1) a d (omega (arith, ints, less)) in
     let above = nearest.high in
     absurd (omega (arith, ints, some, low, step, above))) (λ from. from)
 
-up_to : (n c : ℤ) (d : ℕ) (q : ℤ) → 0 < d → Up n d q → n ≤ℤ (c *ℤ pos d) → q ≤ℤ c
-up_to n c d q some nearest high = by_lt_z c q (λ more.
+up_at_most : (n c : ℤ) (d : ℕ) (q : ℤ) → 0 < d → Up n d q → n ≤ℤ (c *ℤ pos d) → q ≤ℤ c
+up_at_most n c d q some nearest high = by_lt_z c q (λ more.
     let step : ((c +ℤ pos 1) *ℤ pos d) ≤ℤ (q *ℤ pos d) = times_monotone (c +ℤ pos 1) q d (omega (arith, ints, more)) in
     let below = nearest.low in
     absurd (omega (arith, ints, some, high, step, below, sum-times c (pos 1) (pos d)))) (λ to. to)
@@ -87,8 +87,8 @@ pub narrowed_near : (v d : ℕ) (n : ℤ) → 0 < v → 0 < d → (least v *ℤ 
     → Up n d (narrowed v n d)
 narrowed_near v d n wide some low high =
     let nearest = up_is n d some in
-    let from = up_from n (least v) d (up n d) some nearest low in
-    let to = up_to n (greatest v) d (up n d) some nearest high in
+    let from = up_at_least n (least v) d (up n d) some nearest low in
+    let to = up_at_most n (greatest v) d (up n d) some nearest high in
     let positive = pow_pos (v - 1) in
     let fits : FitsBits v (up n d) = record { low = from; high = omega (arith, ints, to, positive) } in
     rw (wrap-fits v (up n d) wide fits) nearest

@@ -70,16 +70,16 @@ part_is_at_most_one x y r quotient low high some =
 
 -- ---- one number times another over a third
 
-zero_fits : FitsBits 32 (pos 0)
-zero_fits = signed_fits w32 (pos 0) (omega (arith, ints))
+zero_in_range : FitsBits 32 (pos 0)
+zero_in_range = signed_fits w32 (pos 0) (omega (arith, ints))
 
 pub mul_div_zero : (x c r : ℤ) → IsMulDiv 32 x (pos 0) c r → c ≢ pos 0 → r ≡ pos 0
 mul_div_zero x c r given some =
-    mul_div_exact 32 (pos 0) x (pos 0) c r (lit< tt) zero_fits (*ℤ_comm x (pos 0) ∙ omega (arith, ints)) given some
+    mul_div_exact 32 (pos 0) x (pos 0) c r (lit< tt) zero_in_range (*ℤ_comm x (pos 0) ∙ omega (arith, ints)) given some
 
 pub zero_mul_div : (a c r : ℤ) → IsMulDiv 32 (pos 0) a c r → c ≢ pos 0 → r ≡ pos 0
 zero_mul_div a c r given some =
-    mul_div_exact 32 (pos 0) (pos 0) a c r (lit< tt) zero_fits (omega (arith, ints)) given some
+    mul_div_exact 32 (pos 0) (pos 0) a c r (lit< tt) zero_in_range (omega (arith, ints)) given some
 
 pub mul_div_self : (x c r : ℤ) → IsMulDiv 32 x c c r → SFits w32 x → c ≢ pos 0 → r ≡ x
 mul_div_self x c r given fits some = mul_div_exact 32 x x c c r (lit< tt) (signed_fits w32 x fits) refl given some

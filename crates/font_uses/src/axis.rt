@@ -33,7 +33,7 @@ pub fn kept(value: Fixed, least: Fixed, greatest: Fixed) -> Fixed
 }
 
 /// How far `b` is above `a`, exactly.
-pub fn distance(a: Fixed, b: Fixed) -> Fixed
+pub fn span_between(a: Fixed, b: Fixed) -> Fixed
     requires { FitsBits 32 (fixed_bits b -ℤ fixed_bits a) }
     ensures { fixed_bits result ≡ (fixed_bits b -ℤ fixed_bits a) }
 {
@@ -84,11 +84,11 @@ pub fn on_segment(coordinate: Fixed, start: Mapping, end: Mapping) -> Fixed
     ensures low { fixed_bits start.to ≤ℤ fixed_bits result }
     ensures high { fixed_bits result ≤ℤ fixed_bits end.to }
 {
-    let height = distance(start.to, end.to);
-    let part = distance(start.from, coordinate);
+    let height = span_between(start.to, end.to);
+    let part = span_between(start.from, coordinate);
     raised(
         start.to,
-        share(height, part, distance(start.from, end.from)),
+        share(height, part, span_between(start.from, end.from)),
         end.to,
     )
 }

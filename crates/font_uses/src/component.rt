@@ -21,11 +21,11 @@ pub fn placed(scale: Matrix<Fixed>, place: Matrix<Fixed>, point: Point<Fixed>) -
         (exact_image (matrix_bits scale) (matrix_bits place) (point_bits point)).y
         (point_bits result).y }
 {
-    near(scale, place, point)
+    image_nearby(scale, place, point)
 }
 
 /// The same where nothing leaves 32 bits, as near as its coordinates say.
-pub fn near(scale: Matrix<Fixed>, place: Matrix<Fixed>, point: Point<Fixed>) -> Point<Fixed>
+pub fn image_nearby(scale: Matrix<Fixed>, place: Matrix<Fixed>, point: Point<Fixed>) -> Point<Fixed>
     requires { FitsComposed (matrix_bits scale) (matrix_bits place) (point_bits point) }
     ensures { IsCloseComposed (matrix_bits scale) (matrix_bits place) (point_bits point)
         (point_bits result) }

@@ -10,7 +10,7 @@ use serde_json::Value;
 use std::alloc::{AllocError, Global};
 
 /// A column of twelve bytes, as many as the longest `Fixed` has.
-pub fn column(number: Fixed, pad: &Pad) -> [u8; 12]
+pub fn filled_column(number: Fixed, pad: &Pad) -> [u8; 12]
     requires { (pad.now.fill < 128) × (pad.now.width ≡ 12) }
     ensures { result ≡ padded_text (fixed_text number) pad.now }
 {
@@ -33,8 +33,8 @@ pub fn line(
 {
     let mut line = Vec::new(alloc);
     line.extend_from_slice(axis.as_bytes())?;
-    line.extend_from_slice(&column(least, pad))?;
-    line.extend_from_slice(&column(greatest, pad))?;
+    line.extend_from_slice(&filled_column(least, pad))?;
+    line.extend_from_slice(&filled_column(greatest, pad))?;
     Ok(line)
 }
 
