@@ -10,6 +10,8 @@ use Rattle.font_fixed.specs.declared.fixed.Fixed.{Fixed}
 use Rattle.font_fixed.specs.Fixed.{fixed_bits}
 use Rattle.font_fixed.proofs.FixedCalls.{fixed_calls}
 use Rattle.font_geom.specs.declared.point.Point.{Point}
+use Rattle.font_ids.specs.declared.fword.FWord.{FWord}
+use Rattle.font_ids.specs.FWord.{fword_number}
 use Rattle.font_types.specs.Delta.{total, term_product, exact_sum}
 
 -- one term more, of a list of anything
@@ -43,14 +45,14 @@ running_y points i d within = running_total 32 (λ p. fixed_bits p.y) points i d
 
 pub ruleset sum_calls = (fixed_calls, fits_64, running_sum, running_delta_sum, running_x, running_y)
 
--- ---- plain numbers of 16 bits
+-- ---- quantities in design units, of 16 bits
 
-pub running_sum_16 : (numbers : List ℤ) (i : ℕ) (d : ℤ) → i < length numbers
-    → wrap 16 (wrap 16 (total (λ n. n) (take i numbers)) +ℤ get_or numbers i d) ≡ wrap 16 (total (λ n. n) (take
-    (i + 1) numbers))
-running_sum_16 numbers i d within = running_total 16 (λ n. n) numbers i d (lit< tt) within
+pub running_words : (words : List FWord) (i : ℕ) (d : FWord) → i < length words
+    → wrap 16 (wrap 16 (total fword_number (take i words)) +ℤ fword_number (get_or words i d))
+    ≡ wrap 16 (total fword_number (take (i + 1) words))
+running_words words i d within = running_total 16 fword_number words i d (lit< tt) within
 
 pub none_16 : wrap 16 (pos 0) ≡ pos 0
 none_16 = fits_16 (pos 0) (omega (arith, ints))
 
-pub ruleset sum_calls_16 = (sum_16, running_sum_16, none_16)
+pub ruleset sum_calls_16 = (sum_16, running_words, none_16)

@@ -1,7 +1,8 @@
 //! A linter of names, over the ids that OpenType defines.
 
-ghost use Rattle.std.specs.Prelude.{◌≡◌, ◌≢◌, ◌≤◌, ◌↔◌, IsTrue, IfOk, map};
-ghost use Rattle.font_types.specs.NameId.{name_number, name_id_of, predefined_numbers};
+ghost use Rattle.std.specs.Prelude.{◌≡◌, ◌↔◌, IsTrue, IfOk, map};
+ghost use Rattle.font_types.specs.NameId.{name_id_of, predefined_numbers};
+ghost use Rattle.font_uses.specs.Names.{is_among};
 
 use font_types::NameId;
 use std::alloc::{AllocError, Global};
@@ -13,11 +14,17 @@ pub fn predefined_count() -> usize
     NameId::predefined().count()
 }
 
-/// Whether an id is one of them: 0 to 25, but 15.
+/// Whether an id is one of them.
+#[tactic(auto, unfolding(crate::specs::Names::is_among))]
 pub fn is_predefined(id: NameId) -> bool
-    ensures { IsTrue result ↔ ((name_number id ≤ 25) × (name_number id ≢ 15)) }
+    ensures { IsTrue result ↔ IsTrue (is_among id (map name_id_of predefined_numbers)) }
 {
-    NameId::predefined().any(|other| other == id)
+    for other in NameId::predefined() {
+        if other == id {
+            return true;
+        }
+    }
+    false
 }
 
 /// All of them, from the least.

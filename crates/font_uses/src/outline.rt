@@ -48,21 +48,9 @@ pub fn width(line: &[Placed]) -> Fixed
     width
 }
 
-/// The sum of steps in design units.
+/// A height in design units and one more step.
 #[tactic(auto, using(font_types::proofs::Callers::sum_calls_16))]
-pub fn height(steps: &[i16]) -> i16
-    ensures { result ≡ wrap 16 (total (λ step. step) steps.now) }
-{
-    let mut height = 0i16;
-    for step in steps {
-        height = raised(height, *step);
-    }
-    height
-}
-
-// A height and one more step.
-#[tactic(auto, using(font_types::proofs::Callers::sum_calls_16))]
-fn raised(height: i16, step: i16) -> i16
+pub fn raised(height: i16, step: i16) -> i16
     ensures { result ≡ wrap 16 (height +ℤ step) }
 {
     height.wrapping_add(step)

@@ -1,6 +1,6 @@
 //! A walk over an outline.
 
-use crate::outline::{Placed, height, pen, there_and_back, width};
+use crate::outline::{Placed, pen, raised, there_and_back, width};
 use font_types::{Fixed, Point};
 
 #[test]
@@ -13,5 +13,5 @@ fn walked(rt: HostRuntime) {
         advance,
     });
     assert!(rt; width(&[first, last]) == Fixed::from_bits(0x1_0001) && last.glyph == 8);
-    assert!(rt; height(&[i16::MAX, 2, -1]) == i16::MIN);
+    assert!(rt; raised(i16::MAX, 1) == i16::MIN);
 }
