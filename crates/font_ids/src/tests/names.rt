@@ -91,6 +91,7 @@ fn predefined(rt: HostRuntime) -> Result<(), Fail> {
 }
 
 #[test]
+#[tactic(auto, unfolding(crate::specs::NameId::predefined_left))]
 fn predefined_again(rt: HostRuntime) -> Result<(), Fail> {
     let mut ids = NameId::predefined();
     for _ in 0..15 {
