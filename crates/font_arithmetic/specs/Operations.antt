@@ -90,11 +90,7 @@ clamp w z = saturate_to_bits (w - 1) z
 abbrev pub differ_in_sign : ℤ → ℤ → Bool
 differ_in_sign x y = if is_negative x then not (is_negative y) else is_negative y
 
--- the product of the numbers with bits x and y: their exact product, rounded and wrapped
-abbrev pub product_of : ℕ → ℕ → ℤ → ℤ → ℤ
-product_of w f x y = wrapped_near w (x *ℤ y) (2 ^ f)
-
--- r is that product
+-- r is the product of the numbers with bits x and y: their exact product, rounded and wrapped
 abbrev pub IsProduct : ℕ → ℕ → ℤ → ℤ → ℤ → Type 0
 IsProduct w f x y r = IsWrappedNear w (x *ℤ y) (2 ^ f) r
 
