@@ -137,7 +137,11 @@ fn sources() -> Vec<String> {
 
 // The code with no blanks, no lines of comments, and no comma before a closing bracket.
 fn squeezed(code: &str) -> String {
-    let is_comment = |line: &&str| line.starts_with("-- ") || line.starts_with("// ");
+    let is_comment = |line: &&str| {
+        ["-- ", "// ", "///"]
+            .iter()
+            .any(|mark| line.starts_with(mark))
+    };
     let lines = code.lines().map(str::trim).filter(|line| !is_comment(line));
     let text: String = lines
         .flat_map(str::chars)
@@ -164,7 +168,7 @@ fn strange_code(body: &str, sources: &[String]) -> Vec<String> {
         .filter(|code| {
             !sources
                 .iter()
-                .any(|source| source.contains(&squeezed(code)))
+                .any(|source| source.contains(squeezed(code).trim_end_matches('}')))
         })
         .map(|code| {
             format!(
