@@ -18,7 +18,7 @@ pub fn definitions() -> String {
     let mut page = String::from(
         "# Definitions\n\nThe words of the contracts, by crate and file. The text is the comment above each word in \
          `specs/`. What has a\nsource in the OpenType specification names its section; all else is this project's \
-         own.\n\nThis page is made by `tools` (`cargo run --bin documents -- write`). A check says when it is stale.\n",
+         own.\nThe files `Laws.antt`, whose words and lemmas an `impl` cites, are left out.\n\nThis page is made by `tools` (`cargo run --bin documents -- write`). A check says when it is stale.\n",
     );
     for name in crates() {
         let folder = format!("crates/{name}/specs");
@@ -105,13 +105,13 @@ fn read(path: &str) -> Definitions {
         head: String::new(),
         entries: Vec::new(),
     };
-    if path.contains("Laws") {
+    if path.ends_with("/Laws.antt") {
         return found;
     }
     let mut comment = String::new();
     let mut is_head = true;
     for line in text.lines() {
-        if let Some(more) = line.strip_prefix("-- ") {
+        if let Some(more) = line.trim_start().strip_prefix("-- ") {
             if !more.starts_with("----") {
                 comment += if comment.is_empty() { "" } else { " " };
                 comment += more;
@@ -141,12 +141,15 @@ fn read(path: &str) -> Definitions {
     found
 }
 
-// The word that a line defines for other files.
+// The word that a line defines for other files. Fields of a record are indented too, as definitions
+// of a module are, and have `pub` alone.
 fn defined(line: &str) -> Option<String> {
+    let code = line.trim_start();
     let is_keyword = |word: &&str| ["unfoldable", "abbrev", "pub", "record"].contains(word);
-    let keywords = line.split(' ').take_while(is_keyword).count();
-    let word = line.split([' ', '(', '{', ':']).nth(keywords)?;
-    let is_public = line.split(' ').take(keywords).any(|word| word == "pub");
+    let keywords: Vec<&str> = code.split(' ').take_while(is_keyword).collect();
+    let is_field = code.len() < line.len() && keywords == ["pub"];
+    let word = code.split([' ', '(', '{', ':']).nth(keywords.len())?;
+    let is_public = keywords.contains(&"pub") && !is_field;
     (is_public && !["use", "mod", ""].contains(&word)).then(|| word.to_string())
 }
 

@@ -23,6 +23,7 @@ parts_times s t a b c d m n same =
       add-mul t a n,
     )
 
+-- (x + y) * z is x * z + y * z
 pub sum-times : (x y z : ℤ) → ((x +ℤ y) *ℤ z) ≡ ((x *ℤ z) +ℤ (y *ℤ z))
 sum-times x y z =
     let parts = parts_times (up (x +ℤ y)) (down (x +ℤ y)) (up x) (down x) (up y) (down y) (up z) (down z)
@@ -46,6 +47,7 @@ parts_product a b c d m n =
       mul-add b (c * n) (d * m),
     )
 
+-- (x * y) * z is x * (y * z)
 pub product-times : (x y z : ℤ) → ((x *ℤ y) *ℤ z) ≡ (x *ℤ (y *ℤ z))
 product-times x y z =
     let first = product_is x y in

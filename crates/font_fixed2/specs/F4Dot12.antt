@@ -1,4 +1,4 @@
--- The fixed-point number of 16 bits with 12 bits of fraction (4.12, as variable composites store scales and angles).
+-- The fixed-point number of 16 bits with 12 bits of fraction (4.12, as variable composites store angles).
 use Rattle.std.specs.Prelude.{ℕ, ℤ, List}
 use Rattle.font_decimal.specs.Shortest.{shortest_text}
 use Rattle.font_fixed2.specs.declared.f4dot12.F4Dot12.{F4Dot12}

@@ -36,7 +36,7 @@ wrapped_product x y = wrap 32 (rounded_product x y)
 abbrev pub wrapped_sum : ℤ → ℤ → ℤ
 wrapped_sum x y = wrap 32 (x +ℤ y)
 
--- what `*` gives, as a number
+-- what `*` gives, as a `Fixed`
 abbrev pub fixed_product : Fixed → Fixed → Fixed
 fixed_product x y = fixed_of (wrapped_product (fixed_bits x) (fixed_bits y))
 
@@ -47,16 +47,17 @@ ProductsAssociate = (x y z : Fixed) → fixed_product (fixed_product x y) z ≡ 
 -- ---- where no entry and no coordinate leaves 32 bits. Each is an exact sum of rounded products: what happens on the
 -- way may wrap.
 
+-- both coordinates fit 32 bits
 pub record FitsPoint (p : Point ℤ) : Type 0 where
   pub x : FitsBits 32 p.x
   pub y : FitsBits 32 p.y
 
--- no entry of a * b and no coordinate of (a * b) * p
+-- no entry of a * b and no coordinate of (a * b) * p leaves 32 bits, each as the exact sum of rounded products
 pub record FitsComposed (a b : Matrix ℤ) (p : Point ℤ) : Type 0 where
   pub product : FitsEach (FitsBits 32) (matrix_product ◌+ℤ◌ rounded_product a b)
   pub image : FitsPoint (image_of ◌+ℤ◌ rounded_product (matrix_product ◌+ℤ◌ rounded_product a b) p)
 
--- no coordinate of b * p and none of a * (b * p)
+-- no coordinate of b * p and none of a * (b * p) leaves 32 bits, each as the exact sum of rounded products
 pub record FitsInTurn (a b : Matrix ℤ) (p : Point ℤ) : Type 0 where
   pub first : FitsPoint (image_of ◌+ℤ◌ rounded_product b p)
   pub image : FitsPoint (image_of ◌+ℤ◌ rounded_product a (image_of ◌+ℤ◌ rounded_product b p))

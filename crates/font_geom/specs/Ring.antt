@@ -2,6 +2,8 @@
 pub mod Laws
 use Rattle.std.specs.Prelude.{◌≡◌}
 
+-- Sums associate and commute, and `zero` is neutral. Products associate, `one` is neutral on both sides, and `zero`
+-- times anything, on either side, is `zero`. Products spread over sums on both sides.
 pub record RingLaws {T : Type 0} (zero one : T) (plus times : T → T → T) : Type 0 where
   pub sums_associate : (x y z : T) → plus (plus x y) z ≡ plus x (plus y z)
   pub sums_commute : (x y : T) → plus x y ≡ plus y x

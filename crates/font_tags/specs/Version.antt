@@ -24,7 +24,7 @@ version_major version = version_bits version / 65536
 abbrev pub version_minor : Version16Dot16 → ℕ
 version_minor version = version_bits version % 65536 / 4096
 
--- the bits of two numbers, of which the minor one is 9 at most
+-- the bits of a version with these two numbers, where a minor number above 9 counts as 9
 abbrev pub packed_version : ℕ → ℕ → ℕ
 packed_version major minor = major * 65536 + min minor 9 * 4096
 

@@ -44,6 +44,7 @@ abbrev IsRead : {T : Type 0} → (Data → Result T JsonFault → Type 0) → Op
 IsRead reads None result = result ≡ Err MissingMember
 IsRead reads (Some d) result = reads d result
 
+-- what the member of that name in the data is read as
 abbrev pub IsMemberRead : {T : Type 0} → (Data → Result T JsonFault → Type 0) → List ℕ → Data → Result T JsonFault
     → Type 0
 IsMemberRead reads name d result = IsRead reads (get name d) result
