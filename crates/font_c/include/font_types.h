@@ -1,6 +1,6 @@
 /*
- * Fixed-point numbers, matrices, tags and sums of deltas of fonts, by a library
- * in which the answer of every function is proved to be what is said of it here.
+ * Fixed-point numbers, matrices, tags and sums of deltas of fonts. Every function
+ * has a contract that is proved; the comments here say in words what it states.
  * For C99 and later, and for C++11 and later. Link with libfont_c.a.
  *
  * Numbers are handed over by their bits, which count steps of 1 / 2^f: of a
@@ -10,13 +10,14 @@
  * not: no text that is written is empty.
  *
  * Pointers: each is valid for the length that goes with it (that of a single
- * value is 1), is aligned for its type, and is not null, also where the length
- * is 0 (an empty std::vector may give null) and where the call refuses and
- * writes nothing. What a call writes overlaps nothing else that it is given. A
- * text is `length` bytes; no zero byte ends it, and none is written behind it.
+ * value is 1), is aligned for its type, and is not null. That holds also where
+ * the length is 0 (an empty std::vector may give null), and where the call
+ * refuses and writes nothing. What a call writes overlaps nothing else that it
+ * is given. A text is `length` bytes; no zero byte ends it, and none is written
+ * behind it.
  *
  * A call keeps nothing, allocates nothing, and may be made from any thread.
- * Where it refuses, it leaves what is behind its pointers as it was; only
+ * Where it refuses, what its pointers point to is as it was; only
  * font_tag_validate then writes the index of the fault.
  */
 #ifndef FONT_TYPES_H
@@ -32,7 +33,7 @@ extern "C" {
 #endif
 
 /*
- * What `font_*_from_decimal` answers.
+ * What `font_*_from_decimal` returns.
  *
  * A decimal is an optional `-`, one or more digits, and optionally a point with
  * one or more digits behind it, as many as you like; no `+`, no exponent, no
@@ -65,8 +66,8 @@ typedef struct font_pad {
 
 /*
  * A decimal has at most 22 bytes, with a `+` or without, so that `to_decimal`
- * never refuses a room of this size, nor `write_padded` one of this size and of
- * `width` bytes at least. Of a decimal there is room for a zero byte behind it.
+ * never refuses a buffer of this size, nor `write_padded` one of this size and of
+ * `width` bytes at least. A zero byte behind a decimal fits too.
  */
 enum { FONT_DECIMAL_ROOM = 24 };
 
@@ -345,7 +346,7 @@ size_t font_tag_to_text(uint32_t tag, char *out, size_t room);
 
 /* ---- sums of deltas ---- */
 
-/* What font_checked_delta_sum answers. */
+/* What font_checked_delta_sum returns. */
 enum {
     FONT_SUMMED = 0,          /* the sum was written */
     FONT_OTHER_LENGTH = 1,    /* there are not as many scalars as deltas */
