@@ -180,14 +180,14 @@ fn exact_sum(words: &[&[u8]]) -> Result<i128, u8> {
 }
 
 fn sum(words: &[&[u8]]) -> Answer {
-    if words.len() % 2 != 0 {
+    if !words.len().is_multiple_of(2) {
         return Err(COUNT);
     }
     Ok(exact::shortest(exact_sum(words)?, 16))
 }
 
 fn vary(words: &[&[u8]]) -> Answer {
-    if words.len() % 2 != 1 {
+    if words.len().is_multiple_of(2) {
         return Err(COUNT);
     }
     let base = whole(words[0], 16)?;
