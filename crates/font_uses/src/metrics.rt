@@ -1,6 +1,6 @@
 //! A reader of metrics: rows of an advance and a bearing, and behind them a tail of bearings alone.
 
-ghost use Rattle.std.specs.Prelude.{◌≡◌, ◌<◌, IfSome, take, drop};
+ghost use Rattle.std.specs.Prelude.{◌≡◌, ◌<◌, ◌≤◌, ◌+◌, ◌↔◌, IsSome, IfSome, length, take, drop};
 ghost use Rattle.font_types.specs.Bytes.{numeral, signed_numeral};
 ghost use Rattle.font_types.specs.FWord.{fword_number, ufword_number};
 ghost use Rattle.font_types.specs.GlyphId.{glyph16_number};
@@ -12,7 +12,9 @@ use font_types::{FWord, GlyphId16, UfWord};
 /// The advance of a glyph, in a table of so many rows. Glyphs of the tail have that of the last row.
 pub fn advance(table: &[u8], rows: u16, glyph: GlyphId16) -> Option<UfWord>
     requires { 0 < rows }
-    ensures { IfSome result (λ advance. ufword_number advance
+    ensures end { IsSome result
+        ↔ (advance_place rows (glyph16_number glyph) + 2 ≤ length table.now) }
+    ensures value { IfSome result (λ advance. ufword_number advance
         ≡ numeral (take 2 (drop (advance_place rows (glyph16_number glyph)) table.now))) }
 {
     let last = usize::from(rows) - 1;
@@ -21,7 +23,9 @@ pub fn advance(table: &[u8], rows: u16, glyph: GlyphId16) -> Option<UfWord>
 
 /// The bearing of a glyph, from its row or from the tail.
 pub fn bearing(table: &[u8], rows: u16, glyph: GlyphId16) -> Option<FWord>
-    ensures { IfSome result (λ bearing. fword_number bearing
+    ensures end { IsSome result
+        ↔ (bearing_place rows (glyph16_number glyph) + 2 ≤ length table.now) }
+    ensures value { IfSome result (λ bearing. fword_number bearing
         ≡ signed_numeral 2 (take 2 (drop (bearing_place rows (glyph16_number glyph)) table.now))) }
 {
     let (rows, index) = (usize::from(rows), usize::from(glyph.to_u16()));

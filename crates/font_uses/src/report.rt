@@ -1,6 +1,7 @@
 //! A report in columns of one width, which no number is too wide for.
 
 ghost use Rattle.std.specs.Prelude.{◌≡◌, ◌<◌, ◌++◌, IfOk, IfErr};
+ghost use Rattle.serde_json.specs.View.{view};
 ghost use Rattle.font_types.specs.Tag.{tag_bytes, IsGood};
 ghost use Rattle.font_types.specs.Fixed.{fixed_text};
 ghost use Rattle.font_types.specs.Padding.{padded_text};
@@ -42,7 +43,8 @@ pub fn line(
 #[tactic(auto, using(font_types::proofs::Callers::tag_calls))]
 pub fn axis_value(axis: Tag, alloc: Global) -> Result<Value, JsonFault>
     requires { IsGood (tag_bytes axis) }
-    ensures { IfErr result (λ fault. fault ≡ JsonFault.Memory) }
+    ensures shown { IfOk result (λ value. ⟦<Tag as JsonScalar>⟧.form.shows axis (view value)) }
+    ensures refused { IfErr result (λ fault. fault ≡ JsonFault.Memory) }
 {
     axis.to_json(alloc)
 }
