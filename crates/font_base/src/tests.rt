@@ -3,5 +3,4 @@
 mod calling;
 mod fields;
 mod numbers;
-mod reader;
 mod traits;

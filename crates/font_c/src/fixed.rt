@@ -21,7 +21,7 @@ pub extern "C" fn font_fixed_from_decimal(text: &[u8], bits: &mut i32) -> u32
     read_into_32(text, 16, bits)
 }
 
-/// Writes the shortest decimal that is read back as the number to the front of `out`, and answers
+/// Writes the shortest decimal that is read back as the number to the front of `out`, and returns
 /// its length, or 0 where `out` is too short.
 #[unsafe(no_mangle)]
 pub extern "C" fn font_fixed_to_decimal(bits: i32, out: &mut [u8]) -> usize

@@ -1,9 +1,9 @@
 //! The library for C, and for what calls C: numbers read, printed, rounded and multiplied,
 //! matrices, tags and sums of deltas.
 //!
-//! Each export says what it answers in the words of the calls of `font_types`, over numbers, bytes
+//! Each export says what it returns in the words of the calls of `font_types`, over numbers, bytes
 //! and plain structs. None has a `requires`, which nobody outside would meet: what it cannot take
-//! it refuses, and then leaves every place as it was, but for the position of a tag's fault. It
+//! it refuses, and then leaves all memory as it was, but for the position of a tag's fault. It
 //! keeps nothing between calls, and allocates nothing. `include/font_types.h` declares it all.
 #![tactic(auto)]
 

@@ -98,7 +98,7 @@ pub extern "C" fn font_matrix_image(m: FontMatrix, p: FontPoint) -> FontPoint
 
 /// Where the product of `a` and `b` sends a point.
 ///
-/// Where no element of the product and no coordinate of the answer leaves 32 bits, each coordinate
+/// Where no element of the product and no coordinate of the result leaves 32 bits, each coordinate
 /// is at most `(|x| + |y|) / 65536 + 2` bits from the exact one, magnitudes in bits.
 #[unsafe(no_mangle)]
 pub extern "C" fn font_matrix_composed(a: FontMatrix, b: FontMatrix, p: FontPoint) -> FontPoint
@@ -112,7 +112,7 @@ pub extern "C" fn font_matrix_composed(a: FontMatrix, b: FontMatrix, p: FontPoin
 
 /// Where `a` sends what `b` sends a point to.
 ///
-/// Where no coordinate on the way or of the answer leaves 32 bits, a coordinate is at most the
+/// Where no coordinate on the way or of the result leaves 32 bits, a coordinate is at most the
 /// magnitudes of the two linear elements of its row of `a`, in bits, over 65536, and 1 bit from the
 /// exact one.
 #[unsafe(no_mangle)]

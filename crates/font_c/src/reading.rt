@@ -8,7 +8,7 @@ ghost use Rattle.font_c.specs.Readings.{reading_of, ReadsInto};
 use font_arithmetic::{read_bits_16, read_bits_32, read_bits_64};
 use font_types::DecimalFault;
 
-// A number was read, and put into its place.
+// A number was read, and stored.
 const READ: u32 = 0;
 
 // A text is no decimal.
@@ -18,7 +18,7 @@ const NO_DECIMAL: u32 = 1;
 const OUT_OF_RANGE: u32 = 2;
 
 /// Reads a decimal text as the nearest number of 16 bits, `f` of which are its fraction, ties away
-/// from zero, and answers the status.
+/// from zero, and returns the status.
 pub fn read_into_16(text: &[u8], f: u32, bits: &mut i16) -> u32
     requires { (6 ≤ f) × (f ≤ 30) }
     ensures { ReadsInto w16 f text.now result bits.old bits.new }
@@ -61,7 +61,7 @@ fn ascii_text(bytes: &[u8]) -> Option<&str>
     Some(unsafe { str::from_utf8_unchecked(bytes) })
 }
 
-// Stores a number that was read in its place, and answers the status.
+// Stores a number that was read, and returns the status.
 fn store_reading<T: Copy>(reading: Result<T, DecimalFault>, place: &mut T) -> u32
     ensures reading { reading_of result place.new ≡ reading }
     ensures known { result < 3 }

@@ -5,7 +5,7 @@ ghost use Rattle.font_c.specs.Sums.{IsSummed, sum_of_products};
 
 use font_types::Fixed;
 
-/// The sum is in its place.
+/// The sum is stored.
 const SUMMED: u32 = 0;
 
 /// There are not as many scalars as deltas.

@@ -64,7 +64,7 @@ pub extern "C" fn font_tag_validate(bytes: &[u8], position: &mut u32) -> u32
     }
 }
 
-/// Writes the text of a tag to the front of `out`, and answers its length, or 0 where `out` is too
+/// Writes the text of a tag to the front of `out`, and returns its length, or 0 where `out` is too
 /// short. From 0x20 to 0x7E a byte is shown as it is, any other as `{0xNN}`.
 #[unsafe(no_mangle)]
 pub extern "C" fn font_tag_to_text(tag: u32, out: &mut [u8]) -> usize

@@ -55,7 +55,7 @@ impl TryFrom<FontPad> for Pad {
     }
 }
 
-/// Writes a text of at least one byte to the front of `out`, and answers its length, or 0 where
+/// Writes a text of at least one byte to the front of `out`, and returns its length, or 0 where
 /// `out` is too short.
 pub fn put_text(text: &[u8], out: &mut [u8]) -> usize
     requires { 0 < length text.now }
@@ -88,7 +88,7 @@ pub fn put_padded(bits: i64, f: u32, pad: &FontPad, out: &mut [u8]) -> usize
     }
 }
 
-// Writes a decimal to the front of `out`, padded, and answers the number of bytes, or 0 where `out`
+// Writes a decimal to the front of `out`, padded, and returns the number of bytes, or 0 where `out`
 // is too short.
 #[tactic(auto, using(crate::proofs::Texts::short_text_fits, crate::proofs::Texts::padded_not_empty))]
 fn put_padded_text(text: &str, pad: &Pad, out: &mut [u8]) -> usize

@@ -33,7 +33,7 @@ fn text_of_parts(
 
 #[test]
 fn reads_the_nearest_value(rt: HostRuntime) {
-    for (text, bits) in [
+    for &(text, bits) in &[
         ("1.5", 98304),
         ("-1.5", -98304),
         ("0.6", 0x999A),
@@ -49,7 +49,7 @@ fn reads_the_nearest_value(rt: HostRuntime) {
     ] {
         assert_eq!(rt; fixed(text), Ok(bits), "at {text}");
     }
-    for (text, f, bits) in [
+    for &(text, f, bits) in &[
         ("0.12", 6, 8),
         ("0.13", 6, 8),
         ("0.0078125", 6, 1),
@@ -69,12 +69,12 @@ fn reads_the_nearest_value(rt: HostRuntime) {
 
 #[test]
 fn refuses_by_grammar_then_by_range(rt: HostRuntime) {
-    for text in [
+    for &text in &[
         "", "-", ".5", "5.", "+1", "1e3", "1.2.3", " 1", "1 ", "--1", "-.5", "1_0",
     ] {
         assert_eq!(rt; fixed(text), Err(DecimalFault::Syntax), "at {text}");
     }
-    for text in [
+    for &text in &[
         "32768",
         "32767.999993",
         "32767.99999237060546875",
@@ -85,23 +85,20 @@ fn refuses_by_grammar_then_by_range(rt: HostRuntime) {
     ] {
         assert_eq!(rt; fixed(text), Err(DecimalFault::OutOfRange), "at {text}");
     }
-    assert_eq!(rt;
-        read_decimal("1.99997", 14, -32768, 32767),
-        Err(DecimalFault::OutOfRange)
-    );
-    assert_eq!(rt;
-        read_decimal("-2.00004", 14, -32768, 32767),
-        Err(DecimalFault::OutOfRange)
-    );
-    assert_eq!(rt;
-        read_decimal("33554431.9921875", 6, LEAST, GREATEST),
-        Err(DecimalFault::OutOfRange)
-    );
+    for &(text, f, least, greatest) in &[
+        ("1.99997", 14, -32768, 32767),
+        ("-2.00004", 14, -32768, 32767),
+        ("33554431.9921875", 6, LEAST, GREATEST),
+    ] {
+        assert!(rt; f >= 6 && f <= 16 && least <= 0 && greatest >= 0);
+        let read = read_decimal(text, f, least, greatest);
+        assert_eq!(rt; read, Err(DecimalFault::OutOfRange), "at {text}");
+    }
 }
 
 #[test]
 fn reads_to_the_ends_of_64_bits(rt: HostRuntime) {
-    for (text, want) in [
+    for &(text, ref want) in &[
         ("140737488355327.99998", Ok(i64::MAX)),
         (
             "140737488355327.99999237060546875",
@@ -119,7 +116,7 @@ fn reads_to_the_ends_of_64_bits(rt: HostRuntime) {
         ("-18446744073709551616", Err(DecimalFault::OutOfRange)),
     ] {
         let read = read_decimal(text, 16, i64::MIN, i64::MAX);
-        assert_eq!(rt; read, want, "at {text}");
+        assert_eq!(rt; &read, want, "at {text}");
     }
 }
 
@@ -127,7 +124,7 @@ fn reads_to_the_ends_of_64_bits(rt: HostRuntime) {
 // do not fit 64 bits.
 #[test]
 fn reads_long_fractions(rt: HostRuntime) {
-    for (text, f, want) in [
+    for &(text, f, ref want) in &[
         ("0.0000000004656612873077392578125", 30, Ok(1)),
         ("0.00000000046566128730773925781249999", 30, Ok(0)),
         ("-0.0000000004656612873077392578125", 30, Ok(-1)),
@@ -151,13 +148,13 @@ fn reads_long_fractions(rt: HostRuntime) {
     ] {
         assert!(rt; f >= 6 && f <= 30);
         let read = read_decimal(text, f, LEAST, GREATEST);
-        assert_eq!(rt; read, want, "at {text}");
+        assert_eq!(rt; &read, want, "at {text}");
     }
 }
 
 #[test]
 fn reads_values_of_16_bits(rt: HostRuntime) {
-    for (text, f, want) in [
+    for &(text, f, ref want) in &[
         ("0.0001220703125", 12, Ok(1)),
         ("-0.00048828125", 10, Ok(-1)),
         ("-0.00048828124", 10, Ok(0)),
@@ -166,13 +163,13 @@ fn reads_values_of_16_bits(rt: HostRuntime) {
     ] {
         assert!(rt; f >= 6 && f <= 16);
         let read = read_decimal(text, f, -32768, 32767);
-        assert_eq!(rt; read, want, "at {text}");
+        assert_eq!(rt; &read, want, "at {text}");
     }
 }
 
 #[test]
 fn reads_texts_of_any_length(rt: HostRuntime) -> Result<(), Fail> {
-    for (head, digit, count, tail, f, want) in [
+    for &(head, digit, count, tail, f, ref want) in &[
         ("0.00000762939453124", '9', 3000, "", 16, Ok(0)),
         ("0.0078124", '9', 3000, "", 6, Ok(0)),
         ("", '0', 5000, "12.5", 16, Ok(819200)),
@@ -187,14 +184,14 @@ fn reads_texts_of_any_length(rt: HostRuntime) -> Result<(), Fail> {
         let text = text_of_parts(rt.alloc(), head, digit, count, tail)?;
         assert!(rt; f >= 6 && f <= 16);
         let read = read_decimal(text.as_str(), f, LEAST, GREATEST);
-        assert_eq!(rt; read, want, "at {head}");
+        assert_eq!(rt; &read, want, "at {head}");
     }
     Ok(())
 }
 
 #[test]
 fn prints_the_shortest_decimal(rt: HostRuntime) {
-    for (bits, f, text) in [
+    for &(bits, f, text) in &[
         (GREATEST, 16, "32767.99998"),
         (LEAST, 16, "-32768"),
         (1, 16, "0.00002"),
@@ -234,7 +231,7 @@ fn prints_the_shortest_decimal(rt: HostRuntime) {
 
 #[test]
 fn prints_up_to_ten_places(rt: HostRuntime) {
-    for (bits, f, text) in [
+    for &(bits, f, text) in &[
         (1, 30, "0.000000001"),
         (7, 30, "0.0000000065"),
         (22, 30, "0.0000000205"),
@@ -318,67 +315,26 @@ fn pad(width: usize, fill: u8, align: Align, plus: bool, zeros: bool) -> Pad
 
 #[test]
 fn pads_to_a_width(rt: HostRuntime) {
-    for (bits, f, pad, want) in [
-        (
-            9830,
-            14,
-            pad(9, b'*', Align::Center, false, false),
-            "***0.6***",
-        ),
-        (
-            9830,
-            14,
-            pad(8, b'*', Align::Center, false, false),
-            "**0.6***",
-        ),
-        (
-            9830,
-            14,
-            pad(8, b' ', Align::Left, false, false),
-            "0.6     ",
-        ),
-        (
-            9830,
-            14,
-            pad(8, b' ', Align::Right, false, false),
-            "     0.6",
-        ),
-        (9830, 14, pad(8, b' ', Align::Left, false, true), "000000.6"),
-        (9830, 14, pad(0, b' ', Align::Left, true, false), "+0.6"),
-        (0, 14, pad(0, b' ', Align::Left, true, false), "+0"),
-        (
-            9830,
-            14,
-            pad(8, b'*', Align::Center, false, true),
-            "000000.6",
-        ),
-        (
-            -24576,
-            14,
-            pad(8, b' ', Align::Left, false, true),
-            "-00001.5",
-        ),
-        (
-            -24576,
-            14,
-            pad(9, b' ', Align::Left, true, true),
-            "-000001.5",
-        ),
-        (
-            16384,
-            14,
-            pad(9, b' ', Align::Left, true, true),
-            "+00000001",
-        ),
-        (-614, 10, pad(0, b' ', Align::Left, false, false), "-0.6"),
+    for &(bits, f, width, fill, align, plus, zeros, want) in &[
+        (9830, 14, 9, b'*', Align::Center, false, false, "***0.6***"),
+        (9830, 14, 8, b'*', Align::Center, false, false, "**0.6***"),
+        (9830, 14, 8, b' ', Align::Left, false, false, "0.6     "),
+        (9830, 14, 8, b' ', Align::Right, false, false, "     0.6"),
+        (9830, 14, 8, b' ', Align::Left, false, true, "000000.6"),
+        (9830, 14, 0, b' ', Align::Left, true, false, "+0.6"),
+        (0, 14, 0, b' ', Align::Left, true, false, "+0"),
+        (9830, 14, 8, b'*', Align::Center, false, true, "000000.6"),
+        (-24576, 14, 8, b' ', Align::Left, false, true, "-00001.5"),
+        (-24576, 14, 9, b' ', Align::Left, true, true, "-000001.5"),
+        (16384, 14, 9, b' ', Align::Left, true, true, "+00000001"),
+        (-614, 10, 0, b' ', Align::Left, false, false, "-0.6"),
     ] {
-        assert!(rt; pad.fill < 128);
         let mut out = [b'#'; 12];
         let shown = Shortest::new(bits, f);
-        assert_eq!(rt;
-            write_padded(shown.as_str(), &mut out, &pad),
-            Some(want.len())
-        );
+        let pad = pad(width, fill, align, plus, zeros);
+        assert!(rt; fill < 128);
+        let written = write_padded(shown.as_str(), &mut out, &pad);
+        assert_eq!(rt; written, Some(want.len()), "at {want}");
         assert!(rt; out.starts_with(want.as_bytes()), "at {want}");
         assert!(rt; out.ends_with(b"###"), "at {want}");
     }
@@ -395,18 +351,14 @@ fn refuses_to_pad_into_too_little_room(rt: HostRuntime) {
 
 #[test]
 fn texts_and_numbers_of_faults(rt: HostRuntime) -> Result<(), Fail> {
-    let alloc = rt.alloc();
-    let syntax = format!(in alloc; "{} {:?}", DecimalFault::Syntax, DecimalFault::Syntax)?;
-    assert_eq!(rt; syntax.as_str(), "not a decimal number Syntax");
-    let range = format!(in alloc;
-        "{} {:?}",
-        DecimalFault::OutOfRange,
-        DecimalFault::OutOfRange
-    )?;
-    assert_eq!(rt; range.as_str(), "number out of range OutOfRange");
-    assert_eq!(rt; DecimalFault::Syntax as u8, 1);
-    assert_eq!(rt; DecimalFault::OutOfRange as u8, 2);
-    assert_eq!(rt; DecimalFault::Syntax.clone()?, DecimalFault::Syntax);
+    let (syntax, range) = (DecimalFault::Syntax, DecimalFault::OutOfRange);
+    let text = format!(in rt.alloc(); "{syntax} {syntax:?}, {range} {range:?}")?;
+    assert_eq!(rt;
+        text.as_str(),
+        "not a decimal number Syntax, number out of range OutOfRange"
+    );
+    assert!(rt; syntax.clone()? == syntax);
+    assert!(rt; DecimalFault::Syntax as u8 == 1 && DecimalFault::OutOfRange as u8 == 2);
     Ok(())
 }
 
@@ -433,7 +385,7 @@ fn shown_and_read_in_order(rt: HostRuntime) -> Result<(), Fail> {
 // No flag of a format is heard.
 #[test]
 fn prints_without_flags(rt: HostRuntime) -> Result<(), Fail> {
-    for (bits, f, text) in [(9830, 14, "0.6"), (-98304, 16, "-1.5")] {
+    for &(bits, f, text) in &[(9830, 14, "0.6"), (-98304, 16, "-1.5")] {
         let number = Shortest::new(bits, f);
         let flagged = format!(in rt.alloc(); "{number:8}|{number:.0}|{number:+}")?;
         let plain = format!(in rt.alloc(); "{text}|{text}|{text}")?;

@@ -1,5 +1,5 @@
 //! Functions whose contracts are laws of matrices: they make the calls that a law speaks of, and
-//! answer what those give.
+//! return what those give.
 
 ghost use Rattle.std.specs.Prelude.{◌≡◌, pos};
 ghost use Rattle.font_geom.specs.Matrix.{identity_matrix, image_of, matrix_product};
@@ -71,7 +71,7 @@ pub fn step_and_halves() -> (Fixed, Fixed)
 }
 
 /// `(a * b) * p`, which is near the exact image of `p` where no entry of the product and no
-/// coordinate of the answer leaves 32 bits.
+/// coordinate of the result leaves 32 bits.
 ///
 /// Each coordinate is then at most `(|x| + |y|) / 65536 + 2` bits from the exact one, magnitudes in
 /// bits. What happens on the way may wrap.
@@ -86,7 +86,7 @@ pub fn composed(a: Matrix<Fixed>, b: Matrix<Fixed>, p: Point<Fixed>) -> Point<Fi
 }
 
 /// `a * (b * p)`, which is near the exact image of `p` where no coordinate of `b * p` and none of
-/// the answer leaves 32 bits.
+/// the result leaves 32 bits.
 ///
 /// A coordinate is then at most the magnitudes of the two linear entries of its row of `a`, in
 /// bits, over 65536, and 1 bit from the exact one. What happens on the way may wrap.

@@ -130,7 +130,7 @@ impl UfWord {
         self.0
     }
 
-    /// The number as a 16.16 number. It wraps: from 32768 on the answer is negative.
+    /// The number as a 16.16 number. It wraps: from 32768 on the result is negative.
     pub fn to_fixed(self) -> Fixed
         ensures { fixed_bits result ≡ wrap 32 (pos (ufword_number self) *ℤ pos (2 ^ 16)) }
     {

@@ -28,7 +28,7 @@ pub fn delta_sum(terms: &[(Fixed, i32)]) -> F48Dot16
 /// The exact sum of the products of scalars and deltas, or `None` where it lies outside 64 bits.
 ///
 /// Partial sums may lie anywhere. Each term is a scalar and a delta in font units, and the bits of
-/// the answer count steps of `2^-16` font units, from `-2^63` to `2^63 - 1`; the empty list gives
+/// the result count steps of `2^-16` font units, from `-2^63` to `2^63 - 1`; the empty list gives
 /// zero. Half of 3 font units is 1.5: `checked_delta_sum(&[(Fixed::from_bits(0x8000), 3)])` has
 /// bits 98304.
 pub fn checked_delta_sum(terms: &[(Fixed, i32)]) -> Option<F48Dot16>
@@ -48,7 +48,7 @@ pub fn checked_delta_sum(terms: &[(Fixed, i32)]) -> Option<F48Dot16>
 /// A quantity moved by the exact sum of deltas, in units of `2^-16`, or `None` where that sum lies
 /// outside 64 bits.
 ///
-/// The answer is `base.apply_delta` of what `checked_delta_sum` gives: 100 font units and half of 3
+/// The result is `base.apply_delta` of what `checked_delta_sum` gives: 100 font units and half of 3
 /// are 101.5, and `vary(FWord::new(100), &[(Fixed::from_bits(0x8000), 3)])` is 6651904.
 pub fn vary(base: FWord, terms: &[(Fixed, i32)]) -> Option<i128>
     ensures variant { IsSome result ↔ FitsBits 64 (exact_sum terms.now) }

@@ -1,5 +1,5 @@
 //! The scalar types of OpenType, under one name: what readers of font tables, evaluators of deltas,
-//! scalers of outlines and dumpers of font values stand on.
+//! scalers of outlines and dumpers of font values are built with.
 //!
 //! ```text
 //! let version = MajorMinor::read(&bytes[..4]);          // Some, as there are four bytes

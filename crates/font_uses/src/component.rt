@@ -8,8 +8,8 @@ ghost use Rattle.font_types.specs.FixedMatrix.{FitsComposed, IsCloseComposed};
 
 use font_types::{Fixed, Matrix, Point, laws};
 
-/// Where a point of a component comes to stand, within 1/15 of a unit of its exact place: of scales
-/// at most 1, shifts at most 4096 units, and coordinates at most 2048.
+/// Where a point of a component comes to lie: within 1/15 of a unit of its exact image, for scales
+/// of at most 1, shifts of at most 4096 units and coordinates of at most 2048.
 pub fn placed(scale: Matrix<Fixed>, place: Matrix<Fixed>, point: Point<Fixed>) -> Point<Fixed>
     requires scale { IsBounded (2 ^ 16) (2 ^ 28) (matrix_bits scale) }
     requires place { IsBounded (2 ^ 16) (2 ^ 28) (matrix_bits place) }

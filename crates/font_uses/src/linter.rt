@@ -45,7 +45,7 @@ pub fn is_in_order(tags: &[Tag]) -> bool
     true
 }
 
-/// The place of the first tag that equals one before it, or `None` where none stands twice.
+/// The index of the first tag that equals an earlier one, or `None` where all differ.
 pub fn first_repeated(tags: &[Tag]) -> Option<usize>
     ensures { MatchOption result (AreDifferent tags.now (length tags.now))
         (λ place. IsFirstRepeated tags.now place) }

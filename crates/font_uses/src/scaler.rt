@@ -35,9 +35,9 @@ pub struct Component {
     pub placed: Matrix<Fixed>,
 }
 
-/// Where a point of a component comes to stand, near its exact place.
+/// Where a point of a component comes to lie, near its exact image.
 ///
-/// Where no entry of `scale * placed` and no coordinate of the answer leaves 32 bits, each
+/// Where no entry of `scale * placed` and no coordinate of the result leaves 32 bits, each
 /// coordinate is at most `(|x| + |y|) / 65536 + 2` steps from the exact one.
 pub fn scaled(scale: Matrix<Fixed>, component: Component, point: Point<Fixed>) -> Point<Fixed>
     ensures value { let placed = matrix_bits component.placed in

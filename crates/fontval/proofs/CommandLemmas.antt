@@ -41,16 +41,19 @@ names_no_type word command named other =
     (refl, λ type same. other type (commands_apart command (FixedPoint type) (named ∙ sym same)))
 
 -- the bytes of what a text is read as
-pub given_number : (type : FixedType) (name : List ℕ) (n w f : ℕ) (bits : Result ℤ DecimalFault) (text old new : List ℕ)
-    (outcome : Result (Unit {0}) Unanswered)
-    → GivesAnswer (λ answer. answer ≡ result_map_both (λ value. encode_lower (bytes_of n value)) refusal_of bits) old
-    new outcome
-    → ReadingGives w f text bits → fixed_row type ≡ (name, w, f) → w / 8 ≡ n
+pub given_number : {T : Type 0} (bits_of : T → ℤ) (type : FixedType) (name : List ℕ) (n w f : ℕ)
+    (number : Result T DecimalFault) (text old new : List ℕ) (outcome : Result (Unit {0}) Unanswered)
+    → GivesAnswer (λ answer. answer
+    ≡ result_map_both (λ value. encode_lower (bytes_of n (bits_of value))) refusal_of number) old new outcome
+    → ReadingGives w f text (result_map_both bits_of (λ fault. fault) number)
+    → fixed_row type ≡ (name, w, f) → w / 8 ≡ n
     → GivesAnswer (ShowsReading type text) old new outcome
-given_number type name n w f bits text old new outcome given read row size =
-    given_answer (ShowsReading type text)
-    (result_map_both (λ value. encode_lower (bytes_of n value)) refusal_of bits) old new outcome given
-    (rw (row, size) (record { bits = bits; read = read; gives = refl }))
+given_number bits_of type name n w f (Ok value) text old new outcome given read row size =
+    given_answer (ShowsReading type text) (Ok (encode_lower (bytes_of n (bits_of value)))) old new outcome given
+    (rw (row, size) (record { bits = Ok (bits_of value); read = read; gives = refl }))
+given_number bits_of type name n w f (Err fault) text old new outcome given read row size =
+    given_answer (ShowsReading type text) (Err (refusal_of fault)) old new outcome given
+    (rw (row, size) (record { bits = Err fault; read = read; gives = refl }))
 
 -- what is read of two words, the first of which names a type
 pub given_reading : (words : List (List ℕ)) (name word : List ℕ) (type : FixedType) (old new : List ℕ)

@@ -182,19 +182,10 @@ impl FixedType {
             (string_bytes output.old) (string_bytes output.new) result }
     {
         match self {
-            FixedType::F2Dot14 => append_read(
-                F2Dot14::from_decimal(text).map(F2Dot14::to_bits),
-                output,
-            ),
-            FixedType::F4Dot12 => append_read(
-                F4Dot12::from_decimal(text).map(F4Dot12::to_bits),
-                output,
-            ),
-            FixedType::F6Dot10 => append_read(
-                F6Dot10::from_decimal(text).map(F6Dot10::to_bits),
-                output,
-            ),
-            FixedType::Fixed => append_read(Fixed::from_decimal(text).map(Fixed::to_bits), output),
+            FixedType::F2Dot14 => append_read(F2Dot14::from_decimal(text), output),
+            FixedType::F4Dot12 => append_read(F4Dot12::from_decimal(text), output),
+            FixedType::F6Dot10 => append_read(F6Dot10::from_decimal(text), output),
+            FixedType::Fixed => append_read(Fixed::from_decimal(text), output),
             FixedType::F26Dot6 => append_read(
                 F26Dot6::from_decimal(text).map(F26Dot6::to_bits),
                 output,
@@ -203,10 +194,7 @@ impl FixedType {
                 F48Dot16::from_decimal(text).map(F48Dot16::to_bits),
                 output,
             ),
-            FixedType::F2Dot30 => append_read(
-                F2Dot30::from_decimal(text).map(F2Dot30::to_bits),
-                output,
-            ),
+            FixedType::F2Dot30 => append_read(F2Dot30::from_decimal(text), output),
         }
     }
 }
@@ -241,7 +229,7 @@ fn image<A: Allocator>(words: Words<'_>, output: &mut String<A>) -> Result<(), U
     ensures { GivesAnswer (AnswersWords (words_of words.entry.rest.now) Command.Image)
         (string_bytes output.old) (string_bytes output.new) result }
 {
-    append(Move::of(fixed_numbers(words)?), output)
+    append(Move::from(fixed_numbers(words)?), output)
 }
 
 // Appends the sum of terms.

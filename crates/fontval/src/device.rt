@@ -24,7 +24,7 @@ pub trait Source {
     // Whether a read has failed.
     ghost failed: { Self → Bool };
 
-    /// Puts the next bytes of what is left at the front of `buf`, and answers how many. It answers
+    /// Puts the next bytes of what is left at the front of `buf`, and returns how many. It returns
     /// 0 for a nonempty `buf` only at the end.
     fn read(&mut self, buf: &mut [u8]) -> Result<usize, Failed>
         ensures within { IfOk result (λ n. n ≤ length buf.new) }
@@ -44,7 +44,7 @@ pub trait Sink {
     // Whether a write has failed.
     ghost failed: { Self → Bool };
 
-    /// Appends some bytes of the front of `buf`, and answers how many. It answers 0 only for an
+    /// Appends some bytes of the front of `buf`, and returns how many. It returns 0 only for an
     /// empty `buf`, and appends nothing where it fails.
     fn write(&mut self, buf: &[u8]) -> Result<usize, Failed>
         ensures within { IfOk result (λ n. n ≤ length buf.now) }

@@ -19,12 +19,12 @@ pub struct Move {
     pub p: Point<Fixed>,
 }
 
-impl Move {
-    /// The move of these numbers: the elements of both matrices, and the coordinates of the point.
-    pub fn of(numbers: [Fixed; 14]) -> Self
-        ensures { numbers
-            ≡ elements_of result.a ++ elements_of result.b ++ result.p.x ∷ result.p.y ∷ [] }
-    {
+// The numbers are the elements of both matrices, and the coordinates of the point.
+impl From<[Fixed; 14]> for Move {
+    ghost from_gives = { λ numbers move.
+        numbers ≡ elements_of move.a ++ elements_of move.b ++ move.p.x ∷ move.p.y ∷ [] };
+
+    fn from(numbers: [Fixed; 14]) -> Self {
         let (a, rest) = numbers.split_first_chunk::<6>().unwrap();
         let (b, rest) = rest.split_first_chunk::<6>().unwrap();
         Self {

@@ -1,6 +1,8 @@
 //! Fields laid over bytes, and headers made of them.
 
-use crate::{BigEndian, FixedSize, Int24, SampleHeader, TableDataRef, Uint24};
+ghost use Rattle.std.specs.Prelude.{◌≡◌, length};
+
+use crate::{BigEndian, FixedSize, Int24, SampleHeader, TableDataRef, TableHeader, Uint24};
 use std::collections::HashSet;
 use std::hash::{DefaultHasher, Hash, Hasher};
 use std::test::Fail;
@@ -9,26 +11,14 @@ use std::test::Fail;
 fn ordered_by_value(rt: HostRuntime) {
     let below = BigEndian::<i16>::new([0xFF, 0xFF]);
     let above = BigEndian::<i16>::new([0x00, 0x01]);
-    assert!(rt; below < above);
-    assert_eq!(rt; below.get(), -1);
-    assert!(rt; below.eq_value(&-1));
+    assert!(rt; below < above && below.get() == -1 && below.eq_value(&-1));
 }
 
 #[test]
 fn sorted_by_value(rt: HostRuntime) -> Result<(), Fail> {
-    let fields = [
-        BigEndian::<i16>::from(7),
-        BigEndian::from(-8),
-        BigEndian::from(1),
-    ];
-    let mut fields = fields.to_vec(rt.alloc())?;
+    let mut fields = [7, -8, 1].map(BigEndian::<i16>::from).to_vec(rt.alloc())?;
     fields.sort()?;
-    let sorted = [
-        BigEndian::<i16>::from(-8),
-        BigEndian::from(1),
-        BigEndian::from(7),
-    ];
-    assert!(rt; fields.as_slice() == sorted.as_slice());
+    assert!(rt; fields.as_slice() == [-8, 1, 7].map(BigEndian::from).as_slice());
     Ok(())
 }
 
@@ -39,7 +29,7 @@ fn equal_by_bytes(rt: HostRuntime) -> Result<(), Fail> {
     assert!(rt; field.be_bytes() == [1, 2, 3, 4].as_slice());
     assert!(rt; BigEndian::from_slice(&[1, 2, 3, 4]) == Some(field.clone()?));
     assert!(rt; BigEndian::<u32>::from_slice(&[1, 2, 3]).is_none());
-    assert_eq!(rt; BigEndian::<Uint24>::RAW_BYTE_LEN, 3);
+    assert!(rt; BigEndian::<Uint24>::RAW_BYTE_LEN == 3);
     Ok(())
 }
 
@@ -62,8 +52,8 @@ fn hashed(bytes: [u8; 4]) -> u64 {
 #[test]
 fn hashed_by_each_byte(rt: HostRuntime) {
     let number = hashed([1, 2, 3, 4]);
-    assert_eq!(rt; hashed([1, 2, 3, 4]), number);
-    for other in [[0, 2, 3, 4], [1, 0, 3, 4], [1, 2, 0, 4], [1, 2, 3, 0]] {
+    assert!(rt; hashed([1, 2, 3, 4]) == number);
+    for &other in &[[0, 2, 3, 4], [1, 0, 3, 4], [1, 2, 0, 4], [1, 2, 3, 0]] {
         assert!(rt; hashed(other) != number);
     }
 }
@@ -73,7 +63,7 @@ fn printed_by_value(rt: HostRuntime) -> Result<(), Fail> {
     let field = BigEndian::<Int24>::new([0xFF, 0xFF, 0xFB]);
     let text = format!(in rt.alloc(); "{field} {field:?}")?;
     assert_eq!(rt; text.as_str(), "-5 Int24(-5)");
-    for (first, text) in [(0x00, "2"), (0x01, "258"), (0x7F, "32514"), (0x80, "32770")] {
+    for &(first, text) in &[(0x00, "2"), (0x01, "258"), (0x7F, "32514"), (0x80, "32770")] {
         let field = BigEndian::<u16>::new([first, 2]);
         assert_eq!(rt; format!(in rt.alloc(); "{field:?}")?.as_str(), text);
     }
@@ -85,9 +75,7 @@ fn header_in_front_of_a_table(rt: HostRuntime) -> Result<(), Fail> {
     let bytes = [0x00, 0x01, 0x00, 0x00, 0x00, 0x02, 0xFF];
     let table = TableDataRef::<SampleHeader>::new(&bytes).ok_or("long enough")?;
     let header = table.clone()?.header();
-    assert_eq!(rt; header.a.get(), 1);
-    assert_eq!(rt; header.b.get(), 2);
-    assert_eq!(rt; table.data().len(), 7);
+    assert!(rt; header.a.get() == 1 && header.b.get() == 2 && table.data().len() == 7);
     Ok(())
 }
 
@@ -97,8 +85,7 @@ fn header_behind_a_cut(rt: HostRuntime) -> Result<(), Fail> {
     let header = TableDataRef::<SampleHeader>::new(&bytes[1..])
         .ok_or("long enough")?
         .header();
-    assert_eq!(rt; header.a.get(), 3);
-    assert_eq!(rt; header.b.get(), 4);
+    assert!(rt; header.a.get() == 3 && header.b.get() == 4);
     Ok(())
 }
 
@@ -107,4 +94,29 @@ fn header_wants_its_length(rt: HostRuntime) {
     let bytes = [0x00, 0x01, 0x00, 0x00, 0x00, 0x02];
     assert!(rt; TableDataRef::<SampleHeader>::new(&bytes[..5]).is_none());
     assert!(rt; TableDataRef::<SampleHeader>::new(&bytes).is_some());
+}
+
+/// A header of no fields, which stands in no bytes.
+#[derive(Drop)]
+struct EmptyHeader;
+
+impl TableHeader for EmptyHeader {
+    const BYTE_LEN: usize = 0;
+
+    ghost BYTE_LEN = { 0 };
+
+    ghost decodes = { λ bytes _. length bytes ≡ 0 };
+
+    fn decode(_bytes: &[u8]) -> EmptyHeader {
+        EmptyHeader
+    }
+}
+
+#[test]
+fn reads_a_header_of_no_bytes(rt: HostRuntime) -> Result<(), Fail> {
+    let table = TableDataRef::<EmptyHeader>::new(&[]).ok_or("long enough")?;
+    let EmptyHeader = table.header();
+    let longer = TableDataRef::<EmptyHeader>::new(&[7]).ok_or("long enough")?;
+    assert!(rt; table.data().is_empty() && longer.data() == [7].as_slice());
+    Ok(())
 }

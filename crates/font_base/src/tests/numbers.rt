@@ -6,7 +6,7 @@ use std::test::Fail;
 
 #[test]
 fn signed_bytes_of_24_bits(rt: HostRuntime) {
-    for (number, bytes) in [
+    for &(number, bytes) in &[
         (0, [0x00, 0x00, 0x00]),
         (123456, [0x01, 0xE2, 0x40]),
         (-123456, [0xFE, 0x1D, 0xC0]),
@@ -34,7 +34,7 @@ fn signed_bytes_of_many_numbers(rt: HostRuntime) {
 
 #[test]
 fn unsigned_bytes_of_24_bits(rt: HostRuntime) {
-    for (number, bytes) in [
+    for &(number, bytes) in &[
         (16755404, [0xFF, 0xAA, 0xCC]),
         (16777215, [0xFF, 0xFF, 0xFF]),
         (0, [0x00, 0x00, 0x00]),
@@ -46,71 +46,45 @@ fn unsigned_bytes_of_24_bits(rt: HostRuntime) {
 
 #[test]
 fn ends_of_signed_24_bits(rt: HostRuntime) {
-    assert!(rt; Int24::new(8388608) == Int24::MAX);
-    assert!(rt; Int24::new(-8388609) == Int24::MIN);
-    for (number, checked) in [
-        (8388608, None),
-        (8388607, Some(Int24::MAX)),
-        (-8388608, Some(Int24::MIN)),
-        (-8388609, None),
-    ] {
-        assert!(rt; Int24::checked_new(number) == checked);
-    }
-    assert_eq!(rt; Int24::default().to_i32(), 0);
+    let ends = [8388608, 8388607, -8388608, -8388609];
+    let (least, greatest) = (Some(Int24::MIN), Some(Int24::MAX));
+    assert!(rt; ends.map(Int24::checked_new) == [None, greatest, least, None]);
+    assert!(rt; Int24::new(8388608) == Int24::MAX && Int24::new(-8388609) == Int24::MIN);
+    assert!(rt; Int24::default().to_i32() == 0 && Int24::MIN < Int24::default());
 }
 
 #[test]
 fn ends_of_unsigned_24_bits(rt: HostRuntime) {
-    assert!(rt; Uint24::new(16777216) == Uint24::MAX);
-    for (number, checked) in [
-        (16777216, None),
-        (16777215, Some(Uint24::MAX)),
-        (0, Some(Uint24::MIN)),
-    ] {
-        assert!(rt; Uint24::checked_new(number) == checked);
-    }
-    assert!(rt; Uint24::try_from(16777216usize).is_err());
+    let ends = [16777216, 16777215, 0];
+    assert!(rt; ends.map(Uint24::checked_new) == [None, Some(Uint24::MAX), Some(Uint24::MIN)]);
+    assert!(rt; Uint24::new(16777216) == Uint24::MAX && Uint24::try_from(16777216usize).is_err());
 }
 
 #[test]
-fn conversions_of_24_bits(rt: HostRuntime) {
-    assert_eq!(rt; i32::from(Int24::MIN), -8388608);
-    assert_eq!(rt; i32::from(Int24::MAX), 8388607);
-    assert_eq!(rt; u32::from(Uint24::MAX), 16777215);
-    assert_eq!(rt; usize::from(Uint24::default()), 0);
-    assert!(rt; Int24::MIN < Int24::default());
-}
-
-#[test]
-fn text_of_unsigned_24_bits(rt: HostRuntime) -> Result<(), Fail> {
-    for (number, text) in [
-        (0, "0 Uint24(0)"),
-        (5, "5 Uint24(5)"),
-        (65536, "65536 Uint24(65536)"),
-        (16777215, "16777215 Uint24(16777215)"),
-    ] {
-        let number = Uint24::new(number);
-        assert_eq!(rt;
-            format!(in rt.alloc(); "{number} {number:?}")?.as_str(),
-            text
-        );
-    }
+fn conversions_of_24_bits(rt: HostRuntime) -> Result<(), Fail> {
+    assert!(rt; i32::from(Int24::MIN) == -8388608 && i32::from(Int24::MAX) == 8388607);
+    assert!(rt; u32::from(Uint24::MAX) == 16777215 && usize::from(Uint24::default()) == 0);
+    let number = Uint24::try_from(16777215usize)?;
+    assert!(rt; number == Uint24::MAX && usize::from(number) == 16777215);
     Ok(())
 }
 
 #[test]
-fn text_of_signed_24_bits(rt: HostRuntime) -> Result<(), Fail> {
-    for (number, text) in [
-        (-5, "-5 Int24(-5)"),
-        (65536, "65536 Int24(65536)"),
-        (8388607, "8388607 Int24(8388607)"),
-        (-8388608, "-8388608 Int24(-8388608)"),
+fn text_of_24_bits(rt: HostRuntime) -> Result<(), Fail> {
+    for &(number, unsigned, text) in &[
+        (0, 0, "0 Uint24(0), 0 Int24(0)"),
+        (-5, 5, "5 Uint24(5), -5 Int24(-5)"),
+        (65536, 65536, "65536 Uint24(65536), 65536 Int24(65536)"),
+        (
+            8388607,
+            16777215,
+            "16777215 Uint24(16777215), 8388607 Int24(8388607)",
+        ),
+        (-8388608, 0, "0 Uint24(0), -8388608 Int24(-8388608)"),
     ] {
-        let number = Int24::new(number);
-        assert_eq!(rt;
-            format!(in rt.alloc(); "{number} {number:?}")?.as_str(),
-            text
-        );
+        let (unsigned, signed) = (Uint24::new(unsigned), Int24::new(number));
+        let shown = format!(in rt.alloc(); "{unsigned} {unsigned:?}, {signed} {signed:?}")?;
+        assert_eq!(rt; shown.as_str(), text);
     }
     Ok(())
 }
@@ -132,14 +106,6 @@ fn compared_and_hashed(rt: HostRuntime) -> Result<(), Fail> {
     set.insert(Int24::new(-1))?;
     assert!(rt; set.contains(&Int24::from_be_bytes([0xFF, 0xFF, 0xFF])));
     assert!(rt; !set.contains(&Int24::MAX));
-    Ok(())
-}
-
-#[test]
-fn converted_from_a_size(rt: HostRuntime) -> Result<(), Fail> {
-    let number = Uint24::try_from(16777215usize)?;
-    assert!(rt; number == Uint24::MAX);
-    assert_eq!(rt; usize::from(number), 16777215);
     Ok(())
 }
 
@@ -190,26 +156,19 @@ fn text_of_a_number_too_large(rt: HostRuntime) -> Result<(), Fail> {
 const BYTES: [u8; 9] = [0xFF, 0xFE, 0xFD, 0xFC, 0xFB, 0xFA, 0xF9, 0xF8, 0xF7];
 
 #[test]
-fn reads_unsigned_numbers(rt: HostRuntime) {
-    assert!(rt; u8::read(&BYTES[..1]) == Some(255));
-    assert!(rt; u16::read(&BYTES[..2]) == Some(65534));
+fn reads_numbers(rt: HostRuntime) {
+    assert!(rt; u8::read(&BYTES[..1]) == Some(255) && i8::read(&BYTES[..1]) == Some(-1));
+    assert!(rt; u16::read(&BYTES[..2]) == Some(65534) && i16::read(&BYTES[..2]) == Some(-2));
     assert!(rt; Uint24::read(&BYTES[..3]) == Some(Uint24::new(16776957)));
-    assert!(rt; u32::read(&BYTES[..4]) == Some(4294901244));
-}
-
-#[test]
-fn reads_signed_numbers(rt: HostRuntime) {
-    assert!(rt; i8::read(&BYTES[..1]) == Some(-1));
-    assert!(rt; i16::read(&BYTES[..2]) == Some(-2));
     assert!(rt; Int24::read(&BYTES[..3]) == Some(Int24::new(-259)));
+    assert!(rt; u32::read(&BYTES[..4]) == Some(4294901244));
     assert!(rt; i32::read(&BYTES[..4]) == Some(-66052));
     assert!(rt; i64::read(&BYTES[..8]) == Some(-283686952306184));
 }
 
 #[test]
 fn reads_exactly_its_length(rt: HostRuntime) {
-    assert!(rt; u16::read(&BYTES[..1]).is_none());
-    assert!(rt; u16::read(&BYTES[..3]).is_none());
+    assert!(rt; u16::read(&BYTES[..1]).is_none() && u16::read(&BYTES[..3]).is_none());
     assert!(rt; <[u8; 4]>::from_slice(&BYTES).is_none());
     assert!(rt; BeByteArray::as_slice(&(-283686952306184i64).to_raw()) == &BYTES[..8]);
 }
