@@ -1,5 +1,5 @@
 //! Worked values, and what no clause says: texts of faults, and that long texts are read.
-ghost use Rattle.std.specs.Prelude.{◌≡◌, ◌≤◌};
+ghost use Rattle.std.specs.Prelude.{◌≡◌, ◌≤◌, ◌≤ℤ◌, pos};
 
 use crate::laws::reads_in_order;
 use crate::{Align, DecimalFault, Pad, Shortest, read_decimal, write_padded};
@@ -14,6 +14,37 @@ const GREATEST: i64 = 0x7FFF_FFFF;
 // A reading as a 32-bit number with 16 bits of fraction.
 fn fixed(text: &str) -> Result<i64, DecimalFault> {
     read_decimal(text, 16, LEAST, GREATEST)
+}
+
+/// A text, the bits of fraction, and what it is to be read as.
+type Reading = (&'static str, u32, Result<i64, DecimalFault>);
+
+const TOO_FAR: Result<i64, DecimalFault> = Err(DecimalFault::OutOfRange);
+
+// The first text that is read as something else.
+fn misread(least: i64, greatest: i64, readings: &[Reading]) -> Option<&'static str>
+    requires { (least ≤ℤ pos 0) × (pos 0 ≤ℤ greatest) }
+{
+    for (text, f, want) in readings {
+        if *f < 6 || *f > 30 || read_decimal(text, *f, least, greatest) != *want {
+            return Some(text);
+        }
+    }
+    None
+}
+
+// The first text that is not what its number is printed as, or not read as it again.
+fn misprinted(numbers: &[(i64, u32, &'static str)]) -> Option<&'static str> {
+    for (bits, f, text) in numbers {
+        let is_known = *f >= 6 && *f <= 30;
+        if !is_known || Shortest::new(*bits, *f).as_str() != *text {
+            return Some(text);
+        }
+        if read_decimal(text, *f, i64::MIN, i64::MAX) != Ok(*bits) {
+            return Some(text);
+        }
+    }
+    None
 }
 
 fn text_of_parts(
@@ -33,38 +64,33 @@ fn text_of_parts(
 
 #[test]
 fn reads_the_nearest_value(rt: HostRuntime) {
-    for &(text, bits) in &[
-        ("1.5", 98304),
-        ("-1.5", -98304),
-        ("0.6", 0x999A),
-        ("00012.50", 819200),
-        ("-0.000", 0),
-        ("0.00000762939453125", 1),
-        ("-0.00000762939453125", -1),
-        ("0.00000762939453124", 0),
-        ("32767.99998", GREATEST),
-        ("32767.99999", GREATEST),
-        ("-32768", LEAST),
-        ("-32768.000007", LEAST),
-    ] {
-        assert_eq!(rt; fixed(text), Ok(bits), "at {text}");
-    }
-    for &(text, f, bits) in &[
-        ("0.12", 6, 8),
-        ("0.13", 6, 8),
-        ("0.0078125", 6, 1),
-        ("-0.61884", 14, -10139),
-        ("0.0001220703125", 12, 1),
-        ("-0.00048828125", 10, -1),
-        ("1.99996", 14, 32767),
-        ("-2.00003", 14, -32768),
-    ] {
-        assert_eq!(rt;
-            read_decimal(text, f, LEAST, GREATEST),
-            Ok(bits),
-            "at {text}"
-        );
-    }
+    let wrong = misread(
+        LEAST,
+        GREATEST,
+        &[
+            ("1.5", 16, Ok(98304)),
+            ("-1.5", 16, Ok(-98304)),
+            ("0.6", 16, Ok(0x999A)),
+            ("00012.50", 16, Ok(819200)),
+            ("-0.000", 16, Ok(0)),
+            ("0.00000762939453125", 16, Ok(1)),
+            ("-0.00000762939453125", 16, Ok(-1)),
+            ("0.00000762939453124", 16, Ok(0)),
+            ("32767.99998", 16, Ok(GREATEST)),
+            ("32767.99999", 16, Ok(GREATEST)),
+            ("-32768", 16, Ok(LEAST)),
+            ("-32768.000007", 16, Ok(LEAST)),
+            ("0.12", 6, Ok(8)),
+            ("0.13", 6, Ok(8)),
+            ("0.0078125", 6, Ok(1)),
+            ("-0.61884", 14, Ok(-10139)),
+            ("0.0001220703125", 12, Ok(1)),
+            ("-0.00048828125", 10, Ok(-1)),
+            ("1.99996", 14, Ok(32767)),
+            ("-2.00003", 14, Ok(-32768)),
+        ],
+    );
+    assert_eq!(rt; wrong, None);
 }
 
 #[test]
@@ -72,99 +98,93 @@ fn refuses_by_grammar_then_by_range(rt: HostRuntime) {
     for &text in &[
         "", "-", ".5", "5.", "+1", "1e3", "1.2.3", " 1", "1 ", "--1", "-.5", "1_0",
     ] {
-        assert_eq!(rt; fixed(text), Err(DecimalFault::Syntax), "at {text}");
+        assert!(rt;
+            fixed(text) == Err(DecimalFault::Syntax),
+            "a text outside the grammar"
+        );
     }
-    for &text in &[
-        "32768",
-        "32767.999993",
-        "32767.99999237060546875",
-        "-32768.00000762939453125",
-        "4294967296",
-        "18446744073709551616",
-        "-18446744073709551616.5",
-    ] {
-        assert_eq!(rt; fixed(text), Err(DecimalFault::OutOfRange), "at {text}");
-    }
-    for &(text, f, least, greatest) in &[
-        ("1.99997", 14, -32768, 32767),
-        ("-2.00004", 14, -32768, 32767),
-        ("33554431.9921875", 6, LEAST, GREATEST),
-    ] {
-        assert!(rt; f >= 6 && f <= 16 && least <= 0 && greatest >= 0);
-        let read = read_decimal(text, f, least, greatest);
-        assert_eq!(rt; read, Err(DecimalFault::OutOfRange), "at {text}");
-    }
+    let wrong = misread(
+        LEAST,
+        GREATEST,
+        &[
+            ("32768", 16, TOO_FAR),
+            ("32767.999993", 16, TOO_FAR),
+            ("32767.99999237060546875", 16, TOO_FAR),
+            ("-32768.00000762939453125", 16, TOO_FAR),
+            ("4294967296", 16, TOO_FAR),
+            ("18446744073709551616", 16, TOO_FAR),
+            ("-18446744073709551616.5", 16, TOO_FAR),
+            ("33554431.9921875", 6, TOO_FAR),
+        ],
+    );
+    assert_eq!(rt; wrong, None);
 }
 
 #[test]
 fn reads_to_the_ends_of_64_bits(rt: HostRuntime) {
-    for &(text, ref want) in &[
-        ("140737488355327.99998", Ok(i64::MAX)),
-        (
-            "140737488355327.99999237060546875",
-            Err(DecimalFault::OutOfRange),
-        ),
-        ("140737488355328", Err(DecimalFault::OutOfRange)),
-        ("-140737488355328", Ok(i64::MIN)),
-        ("-140737488355328.00000762939453124", Ok(i64::MIN)),
-        (
-            "-140737488355328.00000762939453125",
-            Err(DecimalFault::OutOfRange),
-        ),
-        ("-140737488355329", Err(DecimalFault::OutOfRange)),
-        ("18446744073709551616", Err(DecimalFault::OutOfRange)),
-        ("-18446744073709551616", Err(DecimalFault::OutOfRange)),
-    ] {
-        let read = read_decimal(text, 16, i64::MIN, i64::MAX);
-        assert_eq!(rt; &read, want, "at {text}");
-    }
+    let wrong = misread(
+        i64::MIN,
+        i64::MAX,
+        &[
+            ("140737488355327.99998", 16, Ok(i64::MAX)),
+            ("140737488355327.99999237060546875", 16, TOO_FAR),
+            ("140737488355328", 16, TOO_FAR),
+            ("-140737488355328", 16, Ok(i64::MIN)),
+            ("-140737488355328.00000762939453124", 16, Ok(i64::MIN)),
+            ("-140737488355328.00000762939453125", 16, TOO_FAR),
+            ("-140737488355329", 16, TOO_FAR),
+            ("18446744073709551616", 16, TOO_FAR),
+            ("-18446744073709551616", 16, TOO_FAR),
+        ],
+    );
+    assert_eq!(rt; wrong, None);
 }
 
 // Half a step of 1 / 2^30 has 31 digits, and half a step of 1 / 2^19 is the first whose 20 digits
 // do not fit 64 bits.
 #[test]
 fn reads_long_fractions(rt: HostRuntime) {
-    for &(text, f, ref want) in &[
-        ("0.0000000004656612873077392578125", 30, Ok(1)),
-        ("0.00000000046566128730773925781249999", 30, Ok(0)),
-        ("-0.0000000004656612873077392578125", 30, Ok(-1)),
-        ("-0.0000000004656612873077392578124", 30, Ok(0)),
-        ("1.5", 30, Ok(0x6000_0000)),
-        ("-2", 30, Ok(LEAST)),
-        ("1.999999999", 30, Ok(GREATEST)),
-        (
-            "1.9999999995343387126922607421875",
-            30,
-            Err(DecimalFault::OutOfRange),
-        ),
-        ("1.9999999995343387126922607421874", 30, Ok(GREATEST)),
-        ("0.00000095367431640625", 19, Ok(1)),
-        ("0.00000095367431640624", 19, Ok(0)),
-        ("0.0000019073486328125", 18, Ok(1)),
-        ("0.0000019073486328124", 18, Ok(0)),
-        ("0.9999999999999999999", 18, Ok(1 << 18)),
-        ("0.99999999999999999999", 19, Ok(1 << 19)),
-        ("0.9999999999999999999999999999999", 30, Ok(1 << 30)),
-    ] {
-        assert!(rt; f >= 6 && f <= 30);
-        let read = read_decimal(text, f, LEAST, GREATEST);
-        assert_eq!(rt; &read, want, "at {text}");
-    }
+    let wrong = misread(
+        LEAST,
+        GREATEST,
+        &[
+            ("0.0000000004656612873077392578125", 30, Ok(1)),
+            ("0.00000000046566128730773925781249999", 30, Ok(0)),
+            ("-0.0000000004656612873077392578125", 30, Ok(-1)),
+            ("-0.0000000004656612873077392578124", 30, Ok(0)),
+            ("1.5", 30, Ok(0x6000_0000)),
+            ("-2", 30, Ok(LEAST)),
+            ("1.999999999", 30, Ok(GREATEST)),
+            ("1.9999999995343387126922607421875", 30, TOO_FAR),
+            ("1.9999999995343387126922607421874", 30, Ok(GREATEST)),
+            ("0.00000095367431640625", 19, Ok(1)),
+            ("0.00000095367431640624", 19, Ok(0)),
+            ("0.0000019073486328125", 18, Ok(1)),
+            ("0.0000019073486328124", 18, Ok(0)),
+            ("0.9999999999999999999", 18, Ok(1 << 18)),
+            ("0.99999999999999999999", 19, Ok(1 << 19)),
+            ("0.9999999999999999999999999999999", 30, Ok(1 << 30)),
+        ],
+    );
+    assert_eq!(rt; wrong, None);
 }
 
 #[test]
 fn reads_values_of_16_bits(rt: HostRuntime) {
-    for &(text, f, ref want) in &[
-        ("0.0001220703125", 12, Ok(1)),
-        ("-0.00048828125", 10, Ok(-1)),
-        ("-0.00048828124", 10, Ok(0)),
-        ("7.9999", 12, Err(DecimalFault::OutOfRange)),
-        ("-8.0001", 12, Ok(-32768)),
-    ] {
-        assert!(rt; f >= 6 && f <= 16);
-        let read = read_decimal(text, f, -32768, 32767);
-        assert_eq!(rt; &read, want, "at {text}");
-    }
+    let wrong = misread(
+        -32768,
+        32767,
+        &[
+            ("0.0001220703125", 12, Ok(1)),
+            ("-0.00048828125", 10, Ok(-1)),
+            ("-0.00048828124", 10, Ok(0)),
+            ("7.9999", 12, TOO_FAR),
+            ("-8.0001", 12, Ok(-32768)),
+            ("1.99997", 14, TOO_FAR),
+            ("-2.00004", 14, TOO_FAR),
+        ],
+    );
+    assert_eq!(rt; wrong, None);
 }
 
 #[test]
@@ -182,16 +202,15 @@ fn reads_texts_of_any_length(rt: HostRuntime) -> Result<(), Fail> {
         ("-32768.00000762939453124", '9', 3000, "", 16, Ok(LEAST)),
     ] {
         let text = text_of_parts(rt.alloc(), head, digit, count, tail)?;
-        assert!(rt; f >= 6 && f <= 16);
-        let read = read_decimal(text.as_str(), f, LEAST, GREATEST);
-        assert_eq!(rt; &read, want, "at {head}");
+        assert!(rt; f == 6 || f == 16);
+        assert!(rt; read_decimal(text.as_str(), f, LEAST, GREATEST) == *want);
     }
     Ok(())
 }
 
 #[test]
 fn prints_the_shortest_decimal(rt: HostRuntime) {
-    for &(bits, f, text) in &[
+    let wrong = misprinted(&[
         (GREATEST, 16, "32767.99998"),
         (LEAST, 16, "-32768"),
         (1, 16, "0.00002"),
@@ -220,18 +239,13 @@ fn prints_the_shortest_decimal(rt: HostRuntime) {
         (i64::MAX, 16, "140737488355327.99998"),
         (i64::MIN + 1, 16, "-140737488355327.99998"),
         (1 << 56, 16, "1099511627776"),
-    ] {
-        assert!(rt; f >= 6 && f <= 16);
-        let shown = Shortest::new(bits, f);
-        assert_eq!(rt; shown.as_str(), text);
-        let read = read_decimal(shown.as_str(), f, i64::MIN, i64::MAX);
-        assert_eq!(rt; read, Ok(bits), "at {bits} over 2^{f}");
-    }
+    ]);
+    assert_eq!(rt; wrong, None);
 }
 
 #[test]
 fn prints_up_to_ten_places(rt: HostRuntime) {
-    for &(bits, f, text) in &[
+    let wrong = misprinted(&[
         (1, 30, "0.000000001"),
         (7, 30, "0.0000000065"),
         (22, 30, "0.0000000205"),
@@ -242,10 +256,8 @@ fn prints_up_to_ten_places(rt: HostRuntime) {
         (i64::MIN + 7, 30, "-8589934591.9999999935"),
         (i64::MAX, 24, "549755813887.99999994"),
         (1, 20, "0.000001"),
-    ] {
-        assert!(rt; f >= 20 && f <= 30);
-        assert_eq!(rt; Shortest::new(bits, f).as_str(), text);
-    }
+    ]);
+    assert_eq!(rt; wrong, None);
 }
 
 // A plain reader of four fractional digits.
@@ -256,7 +268,7 @@ fn reads_as_a_slow_reader_does(rt: HostRuntime) -> Result<(), Fail> {
         let text = format!(in rt.alloc(); "{whole}.{fraction:04}")?;
         let numeral = whole * 10_000 + fraction;
         let bits = (2 * numeral * 65536 + 10_000) / 20_000;
-        assert_eq!(rt; fixed(text.as_str()), Ok(bits as i64), "at {text}");
+        assert!(rt; fixed(text.as_str()) == Ok(bits as i64));
     }
     Ok(())
 }
@@ -293,10 +305,8 @@ fn prints_as_few_places_as_a_slow_writer(rt: HostRuntime) {
                 None => 0,
             };
             assert_eq!(rt; places, slow_places(bits, f), "at {bits}, {f}");
-            assert_eq!(rt;
-                read_decimal(shown.as_str(), f, i64::MIN, i64::MAX),
-                Ok(bits as i64)
-            );
+            let read = read_decimal(shown.as_str(), f, i64::MIN, i64::MAX);
+            assert!(rt; read == Ok(bits as i64));
         }
     }
 }
@@ -335,8 +345,7 @@ fn pads_to_a_width(rt: HostRuntime) {
         assert!(rt; fill < 128);
         let written = write_padded(shown.as_str(), &mut out, &pad);
         assert_eq!(rt; written, Some(want.len()), "at {want}");
-        assert!(rt; out.starts_with(want.as_bytes()), "at {want}");
-        assert!(rt; out.ends_with(b"###"), "at {want}");
+        assert!(rt; out.starts_with(want.as_bytes()) && out.ends_with(b"###"));
     }
 }
 
@@ -345,8 +354,7 @@ fn refuses_to_pad_into_too_little_room(rt: HostRuntime) {
     let mut short = [b'#'; 7];
     let shown = Shortest::new(-24576, 14);
     let zeros = pad(8, b' ', Align::Left, false, true);
-    assert_eq!(rt; write_padded(shown.as_str(), &mut short, &zeros), None);
-    assert_eq!(rt; short, *b"#######");
+    assert!(rt; write_padded(shown.as_str(), &mut short, &zeros).is_none() && short == *b"#######");
 }
 
 #[test]
