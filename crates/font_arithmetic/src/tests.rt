@@ -5,7 +5,7 @@ use font_decimal::DecimalFault;
 
 #[test]
 fn products(rt: HostRuntime) {
-    for (x, y, f, rounded) in [
+    for &(x, y, f, rounded) in &[
         (-1, 0x8000, 16, -1),
         (1, 0x8000, 16, 1),
         (1, 0x7FFF, 16, 0),
@@ -20,7 +20,7 @@ fn products(rt: HostRuntime) {
 
 #[test]
 fn quotients(rt: HostRuntime) {
-    for (x, a, c, rounded) in [
+    for &(x, a, c, rounded) in &[
         (32, 64, -154, -13),
         (i32::MIN, 0x1_0000, -1, 0),
         (0, 0, 0, i32::MAX),
@@ -34,9 +34,10 @@ fn quotients(rt: HostRuntime) {
 
 #[test]
 fn last_bits(rt: HostRuntime) {
-    for (number, bits) in [(2147483648, i32::MIN), (-2147483649, i32::MAX), (-1, -1)] {
-        assert_eq!(rt; low_bits(number), bits);
-    }
+    assert_eq!(rt;
+        [2147483648, -2147483649, -1].map(low_bits),
+        [i32::MIN, i32::MAX, -1]
+    );
 }
 
 #[test]
