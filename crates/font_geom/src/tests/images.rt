@@ -1,20 +1,9 @@
 //! Images of points under two matrices, and how far they are from the exact ones.
 
+use super::matrices::{at, whole};
 use crate::laws::{composed, fixed_identity, in_turn};
 use crate::{Matrix, Point};
 use font_fixed::Fixed;
-
-fn number(text: &str) -> Fixed {
-    Fixed::from_decimal(text).unwrap_or(Fixed::MAX)
-}
-
-fn matrix(elements: [&'static str; 6]) -> Matrix<Fixed> {
-    Matrix::from_elements(elements).map(|text| number(text))
-}
-
-fn point(x: &str, y: &str) -> Point<Fixed> {
-    Point::new(number(x), number(y))
-}
 
 fn magnitude(number: Fixed) -> i128 {
     i128::from(number.to_bits().unsigned_abs())
@@ -72,52 +61,43 @@ fn is_close_in_turn(a: Matrix<Fixed>, b: Matrix<Fixed>, p: Point<Fixed>) -> bool
 
 #[test]
 fn exact_where_nothing_is_rounded(rt: HostRuntime) {
-    let a = matrix(["2", "0", "0", "3", "0", "0"]);
-    let b = matrix(["1", "0", "0", "1", "10", "20"]);
-    let p = point("5", "-22");
-    assert!(rt; composed(a, b, p) == point("30", "-6"));
-    assert!(rt; in_turn(a, b, p) == point("30", "-6"));
+    let (a, b) = (whole([2, 0, 0, 3, 0, 0]), whole([1, 0, 0, 1, 10, 20]));
+    let p = at(5, -22);
+    assert!(rt; composed(a, b, p) == at(30, -6) && in_turn(a, b, p) == at(30, -6));
     assert!(rt; is_close_composed(a, b, p) && is_close_in_turn(a, b, p));
 }
 
 #[test]
 fn apart_where_a_product_is_rounded(rt: HostRuntime) {
-    let a = matrix(["0.5", "0", "0", "1", "0", "0"]);
-    let b = matrix(["0.00002", "0", "0", "1", "0", "0"]);
-    let p = point("100", "0");
+    let (mut a, mut b, p) = (Matrix::identity(), Matrix::identity(), at(100, 0));
+    (a.xx, b.xx) = (Fixed::from_bits(0x8000), Fixed::EPSILON);
     assert!(rt; composed(a, b, p) == Point::new(Fixed::from_bits(100), Fixed::ZERO));
     assert!(rt; in_turn(a, b, p) == Point::new(Fixed::from_bits(50), Fixed::ZERO));
-    assert_eq!(rt; exact_image(a, b, p).x, 50 << 32);
-    assert_eq!(rt; bound_composed(p), 102 << 32);
-    assert_eq!(rt; bound_in_turn(a.xx, a.xy), 3 << 31);
+    assert!(rt; exact_image(a, b, p).x == 50 << 32 && bound_composed(p) == 102 << 32);
+    assert!(rt; bound_in_turn(a.xx, a.xy) == 3 << 31);
     assert!(rt; is_close_composed(a, b, p) && is_close_in_turn(a, b, p));
 }
 
 #[test]
 fn a_sum_on_the_way_leaves_the_range(rt: HostRuntime) {
-    let a = matrix(["1", "0", "1", "1", "-30000", "0"]);
-    let b = Matrix::identity();
-    let p = point("20000", "20000");
-    assert!(rt; composed(a, b, p) == point("10000", "20000"));
-    assert!(rt; in_turn(a, b, p) == point("10000", "20000"));
+    let (a, b) = (whole([1, 0, 1, 1, -30000, 0]), Matrix::identity());
+    let p = at(20000, 20000);
+    assert!(rt; composed(a, b, p) == at(10000, 20000) && in_turn(a, b, p) == at(10000, 20000));
     assert!(rt; is_close_composed(a, b, p) && is_close_in_turn(a, b, p));
 }
 
 #[test]
 fn far_where_an_entry_leaves_the_range(rt: HostRuntime) {
-    let a = matrix(["32767", "0", "0", "1", "0", "0"]);
-    let b = matrix(["2", "0", "0", "1", "0", "0"]);
-    let p = point("1", "0");
-    assert!(rt; composed(a, b, p) == point("-2", "0"));
-    assert!(rt; in_turn(a, b, p) == point("-2", "0"));
+    let (a, b) = (whole([32767, 0, 0, 1, 0, 0]), whole([2, 0, 0, 1, 0, 0]));
+    let p = at(1, 0);
+    assert!(rt; composed(a, b, p) == at(-2, 0) && in_turn(a, b, p) == at(-2, 0));
     assert!(rt; !is_close_composed(a, b, p) && !is_close_in_turn(a, b, p));
 }
 
 #[test]
 fn identity_of_the_ends(rt: HostRuntime) {
-    let ends = [Fixed::MIN, Fixed::MAX, Fixed::EPSILON];
-    for end in &ends {
-        let m = Matrix::from_elements([*end; 6]);
+    for &end in &[Fixed::MIN, Fixed::MAX, Fixed::EPSILON] {
+        let m = Matrix::from_elements([end; 6]);
         assert!(rt; fixed_identity(m) == (m, m));
     }
 }

@@ -2,16 +2,18 @@
 
 use crate::Point;
 use font_fixed::Fixed;
-use std::test::Fail;
 
 #[test]
-fn sums_and_products(rt: HostRuntime) {
-    let p = Point::new(10, 16);
-    assert!(rt; p + Point::new(1, 2) == Point::new(11, 18));
-    assert!(rt; p - Point::new(1, 2) == Point::new(9, 14));
-    assert!(rt; p * Point::new(2, 3) == Point::new(20, 48));
-    assert!(rt; p / Point::new(2, 3) == Point::new(5, 5));
+fn sums(rt: HostRuntime) {
+    let (p, q) = (Point::new(10, 16), Point::new(1, 2));
+    assert!(rt; p + q == Point::new(11, 18) && p - q == Point::new(9, 14));
     assert!(rt; -p == Point::new(-10, -16));
+}
+
+#[test]
+fn products(rt: HostRuntime) {
+    let (p, q) = (Point::new(10, 16), Point::new(2, 3));
+    assert!(rt; p * q == Point::new(20, 48) && p / q == Point::new(5, 5));
 }
 
 #[test]
@@ -30,19 +32,22 @@ fn by_one_value(rt: HostRuntime) {
 
 #[test]
 fn assigning(rt: HostRuntime) {
-    let mut p = Point::new(10, 16);
-    p += Point::new(2, 4);
-    assert!(rt; p == Point::new(12, 20));
-    p -= Point::new(6, 8);
-    assert!(rt; p == Point::new(6, 12));
-    p *= Point::new(2, 3);
-    assert!(rt; p == Point::new(12, 36));
-    p /= Point::new(4, 6);
-    assert!(rt; p == Point::new(3, 6));
-    p *= 4;
-    assert!(rt; p == Point::new(12, 24));
-    p /= 3;
-    assert!(rt; p == Point::new(4, 8));
+    let (mut sum, mut difference) = (Point::new(10, 16), Point::new(12, 20));
+    sum += Point::new(2, 4);
+    difference -= Point::new(6, 8);
+    assert!(rt; sum == Point::new(12, 20) && difference == Point::new(6, 12));
+    let (mut product, mut quotient) = (Point::new(6, 12), Point::new(12, 36));
+    product *= Point::new(2, 3);
+    quotient /= Point::new(4, 6);
+    assert!(rt; product == Point::new(12, 36) && quotient == Point::new(3, 6));
+}
+
+#[test]
+fn assigning_by_one_value(rt: HostRuntime) {
+    let (mut product, mut quotient) = (Point::new(3, 6), Point::new(12, 24));
+    product *= 4;
+    quotient /= 3;
+    assert!(rt; product == Point::new(12, 24) && quotient == Point::new(4, 8));
 }
 
 #[test]
@@ -66,15 +71,4 @@ fn wrapping_of_fixed(rt: HostRuntime) {
     let mut p = Point::new(Fixed::MAX, Fixed::MIN);
     p += Point::broadcast(Fixed::EPSILON);
     assert!(rt; p == Point::new(Fixed::MIN, Fixed::from_bits(-0x7FFF_FFFF)));
-}
-
-#[test]
-fn shown_and_cloned(rt: HostRuntime) -> Result<(), Fail> {
-    let p = Point::new(1, -2);
-    assert_eq!(rt;
-        format!(in rt.alloc(); "{p:?}")?.as_str(),
-        "Point { x: 1, y: -2 }"
-    );
-    assert!(rt; p.clone()? == p);
-    Ok(())
 }

@@ -92,18 +92,16 @@ fn products_associate(rt: HostRuntime) {
     let b = turns([0x8000_0000, 1, 0xFFFF_FFFF, 4, 5, 6]);
     let c = turns([17, 0xFFFF_FFF0, 19, 23, 29, 31]);
     let (first, second) = associative(a, b, c);
-    assert!(rt; first == second);
-    assert!(rt; first == a * b * c);
+    assert!(rt; first == second && first == a * b * c);
 }
 
 #[test]
 fn points_move_alike(rt: HostRuntime) {
     let a = turns([2, 3, 5, 7, 11, 13]);
     let b = turns([0x8000_0000, 1, 0xFFFF_FFFF, 4, 5, 6]);
-    let p = Point::new(1, 0xFFFF_FFFF).map(|number| Turn { number });
-    let (first, second) = action(a, b, p);
-    assert!(rt; first == second);
-    assert!(rt; first == Point::new(38, 0x8000_0034).map(|number| Turn { number }));
+    let (p, image) = (Point::new(1, 0xFFFF_FFFF), Point::new(38, 0x8000_0034));
+    let (first, second) = action(a, b, p.map(|number| Turn { number }));
+    assert!(rt; first == second && first == image.map(|number| Turn { number }));
 }
 
 #[test]

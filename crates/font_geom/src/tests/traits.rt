@@ -1,8 +1,11 @@
 //! The traits of each type, by functions with bounds.
 
+use super::boxes::sides;
 use crate::{BoundingBox, Matrix, MatrixElement, Point};
 use font_fixed::Fixed;
+use std::alloc::{AllocError, Global};
 use std::fmt::Debug;
+use std::test::Fail;
 
 fn is_shape<T: Copy + Eq + Default + Debug>() {}
 
@@ -14,4 +17,19 @@ fn traits(_rt: HostRuntime) {
     is_shape::<BoundingBox<i32>>();
     is_shape::<Matrix<Fixed>>();
     is_element::<Fixed>();
+}
+
+// Whether a shape is shown by this text, and is equal to its clone.
+fn is_shown<T: Copy + Eq + Debug>(alloc: Global, shape: T, text: &str) -> Result<bool, AllocError> {
+    Ok(format!(in alloc; "{shape:?}")?.as_str() == text && shape.clone()? == shape)
+}
+
+#[test]
+fn shown_and_cloned(rt: HostRuntime) -> Result<(), Fail> {
+    let text = "BoundingBox { x_min: 0, y_min: 1, x_max: 2, y_max: 3 }";
+    assert!(rt; is_shown(rt.alloc(), sides(0, 1, 2, 3), text)?);
+    let text = "Matrix { xx: 1, yx: 0, xy: 0, yy: 1, dx: 0, dy: 0 }";
+    assert!(rt; is_shown(rt.alloc(), Matrix::<Fixed>::identity(), text)?);
+    assert!(rt; is_shown(rt.alloc(), Point::new(1, -2), "Point { x: 1, y: -2 }")?);
+    Ok(())
 }

@@ -7,23 +7,22 @@ use std::test::Fail;
 
 #[test]
 fn compared_across_widths(rt: HostRuntime) {
-    for (wide, narrow, order) in [
+    for &(wide, narrow, order) in &[
         (65536, 65535, Ordering::Greater),
         (65535, 65535, Ordering::Equal),
         (65536, 0, Ordering::Greater),
         (3, 4, Ordering::Less),
     ] {
         let (id, id16) = (GlyphId::new(wide), GlyphId16::new(narrow));
-        assert!(rt; id.cmp_gid16(&id16) == order);
-        assert!(rt; id16.cmp_gid(&id) == order.reverse());
-        assert!(rt; id.eq_gid16(&id16) == (order == Ordering::Equal));
-        assert!(rt; id16.eq_gid(&id) == (order == Ordering::Equal));
+        let equal = order == Ordering::Equal;
+        assert!(rt; id.cmp_gid16(&id16) == order && id16.cmp_gid(&id) == order.reverse());
+        assert!(rt; id.eq_gid16(&id16) == equal && id16.eq_gid(&id) == equal);
     }
 }
 
 #[test]
 fn ends_of_24_bits(rt: HostRuntime) {
-    assert_eq!(rt; GlyphId24::new(16777216).to_u32(), 16777215);
+    assert!(rt; GlyphId24::new(16777216).to_u32() == 16777215);
     assert!(rt; GlyphId24::checked_new(16777216).is_none());
     assert!(rt; GlyphId24::checked_new(16777215) == Some(GlyphId24::new(16777215)));
 }
@@ -37,18 +36,12 @@ fn converted(rt: HostRuntime) {
 
 #[test]
 fn converted_to_numbers(rt: HostRuntime) {
-    assert_eq!(rt;
-        u32::from(GlyphId16::new(7)) + u32::from(GlyphId24::new(7)),
-        14
-    );
-    assert_eq!(rt;
-        usize::from(GlyphId16::new(7)) + usize::from(GlyphId24::new(7)),
-        14
-    );
-    assert_eq!(rt; usize::from(GlyphId24::new(70000)), 70000);
-    assert_eq!(rt; u32::from(GlyphId::new(4294967295)), 4294967295);
-    assert_eq!(rt; GlyphId16::new(7).to_u16(), 7);
-    assert_eq!(rt; GlyphId16::new(7).to_u32(), GlyphId::new(7).to_u32());
+    let (narrow, middle) = (GlyphId16::new(7), GlyphId24::new(7));
+    assert!(rt; u32::from(narrow) == 7 && u32::from(middle) == 7);
+    assert!(rt; usize::from(narrow) == 7 && usize::from(middle) == 7);
+    assert!(rt; usize::from(GlyphId24::new(70000)) == 70000 && narrow.to_u16() == 7);
+    assert!(rt; u32::from(GlyphId::new(4294967295)) == 4294967295);
+    assert!(rt; narrow.to_u32() == GlyphId::new(7).to_u32());
 }
 
 #[test]
@@ -59,19 +52,13 @@ fn narrowed(rt: HostRuntime) {
 
 #[test]
 fn too_large(rt: HostRuntime) -> Result<(), Fail> {
-    if let Err(error) = GlyphId16::try_from(GlyphId::new(65536)) {
-        assert_eq!(rt; error.value(), 65536);
-        let text = format!(in rt.alloc(); "{error}; {error:?}")?;
-        assert_eq!(rt;
-            text.as_str(),
-            "glyph identifier 65536 too large for conversion; TryFromGlyphIdError(65536)"
-        );
-    }
-    assert!(rt; GlyphId16::try_from(GlyphId::new(65536)).is_err());
-    let error = GlyphId24::try_from(GlyphId::new(16777216))
-        .err()
-        .ok_or("refused")?;
-    assert_eq!(rt; error.value(), 16777216);
+    let (wide, wider) = (GlyphId::new(65536), GlyphId::new(16777216));
+    let error = GlyphId16::try_from(wide).err().ok_or("refused")?;
+    let text = format!(in rt.alloc(); "{error}; {error:?}")?;
+    let told = "glyph identifier 65536 too large for conversion; TryFromGlyphIdError(65536)";
+    assert!(rt; error.value() == 65536 && text.as_str() == told);
+    let error = GlyphId24::try_from(wider).err().ok_or("refused")?;
+    assert!(rt; error.value() == 16777216);
     Ok(())
 }
 
@@ -85,28 +72,19 @@ fn not_defined(rt: HostRuntime) {
 
 #[test]
 fn stored(rt: HostRuntime) {
-    assert!(rt; GlyphId16::new(0x0102).to_be_bytes() == [1, 2]);
-    assert!(rt; GlyphId24::new(0x01_0203).to_be_bytes() == [1, 2, 3]);
-    assert!(rt; GlyphId24::from_be_bytes([1, 2, 3]) == GlyphId24::new(0x01_0203));
-}
-
-#[test]
-fn read(rt: HostRuntime) {
-    assert!(rt; GlyphId16::read(&[1, 2]) == Some(GlyphId16::new(0x0102)));
-    assert!(rt; GlyphId24::read(&[1, 2, 3]) == Some(GlyphId24::new(0x01_0203)));
+    let (narrow, middle) = (GlyphId16::new(0x0102), GlyphId24::new(0x01_0203));
+    assert!(rt; narrow.to_be_bytes() == [1, 2] && GlyphId16::read(&[1, 2]) == Some(narrow));
+    assert!(rt; middle.to_be_bytes() == [1, 2, 3] && GlyphId24::read(&[1, 2, 3]) == Some(middle));
+    assert!(rt; GlyphId24::from_be_bytes([1, 2, 3]) == middle);
     assert!(rt; BigEndian::from(GlyphId24::new(5)).be_bytes() == [0, 0, 5].as_slice());
-    assert_eq!(rt; GlyphId16::RAW_BYTE_LEN + GlyphId24::RAW_BYTE_LEN, 5);
+    assert!(rt; GlyphId16::RAW_BYTE_LEN + GlyphId24::RAW_BYTE_LEN == 5);
 }
 
 #[test]
 fn printed(rt: HostRuntime) -> Result<(), Fail> {
     let (narrow, middle, wide) = (GlyphId16::new(5), GlyphId24::new(5), GlyphId::new(5));
-    let text = format!(in rt.alloc(); "{narrow} {middle} {wide}")?;
-    assert_eq!(rt; text.as_str(), "GID_5 GID_5 GID_5");
-    let text = format!(in rt.alloc(); "{narrow:?} {middle:?} {wide:?}")?;
-    assert_eq!(rt;
-        text.as_str(),
-        "GlyphId16(5) GlyphId24(Uint24(5)) GlyphId(5)"
-    );
+    let text = format!(in rt.alloc(); "{narrow} {middle} {wide} {narrow:?} {middle:?} {wide:?}")?;
+    let printed = "GID_5 GID_5 GID_5 GlyphId16(5) GlyphId24(Uint24(5)) GlyphId(5)";
+    assert!(rt; text.as_str() == printed);
     Ok(())
 }

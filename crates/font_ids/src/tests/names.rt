@@ -2,90 +2,77 @@
 
 use crate::NameId;
 use font_base::{FixedSize, Scalar};
+use std::alloc::{AllocError, Global};
 use std::test::Fail;
 
-const NAMED: [(NameId, u16, &str); 27] = [
-    (NameId::COPYRIGHT_NOTICE, 0, "COPYRIGHT_NOTICE"),
-    (NameId::FAMILY_NAME, 1, "FAMILY_NAME"),
-    (NameId::SUBFAMILY_NAME, 2, "SUBFAMILY_NAME"),
-    (NameId::UNIQUE_ID, 3, "UNIQUE_ID"),
-    (NameId::FULL_NAME, 4, "FULL_NAME"),
-    (NameId::VERSION_STRING, 5, "VERSION_STRING"),
-    (NameId::POSTSCRIPT_NAME, 6, "POSTSCRIPT_NAME"),
-    (NameId::TRADEMARK, 7, "TRADEMARK"),
-    (NameId::MANUFACTURER, 8, "MANUFACTURER"),
-    (NameId::DESIGNER, 9, "DESIGNER"),
-    (NameId::DESCRIPTION, 10, "DESCRIPTION"),
-    (NameId::VENDOR_URL, 11, "VENDOR_URL"),
-    (NameId::DESIGNER_URL, 12, "DESIGNER_URL"),
-    (NameId::LICENSE_DESCRIPTION, 13, "LICENSE_DESCRIPTION"),
-    (NameId::LICENSE_URL, 14, "LICENSE_URL"),
-    (
-        NameId::TYPOGRAPHIC_FAMILY_NAME,
-        16,
-        "TYPOGRAPHIC_FAMILY_NAME",
-    ),
-    (
-        NameId::TYPOGRAPHIC_SUBFAMILY_NAME,
-        17,
-        "TYPOGRAPHIC_SUBFAMILY_NAME",
-    ),
-    (NameId::COMPATIBLE_FULL_NAME, 18, "COMPATIBLE_FULL_NAME"),
-    (NameId::SAMPLE_TEXT, 19, "SAMPLE_TEXT"),
-    (NameId::POSTSCRIPT_CID_NAME, 20, "POSTSCRIPT_CID_NAME"),
-    (NameId::WWS_FAMILY_NAME, 21, "WWS_FAMILY_NAME"),
-    (NameId::WWS_SUBFAMILY_NAME, 22, "WWS_SUBFAMILY_NAME"),
-    (
-        NameId::LIGHT_BACKGROUND_PALETTE,
-        23,
-        "LIGHT_BACKGROUND_PALETTE",
-    ),
-    (
-        NameId::DARK_BACKGROUND_PALETTE,
-        24,
-        "DARK_BACKGROUND_PALETTE",
-    ),
-    (
-        NameId::VARIATIONS_POSTSCRIPT_NAME_PREFIX,
-        25,
-        "VARIATIONS_POSTSCRIPT_NAME_PREFIX",
-    ),
+// The constants, each with its number, and the text that both forms show.
+macro_rules! named {
+    ($($name:ident $number:literal)*) => {
+        [$((NameId::$name, $number, stringify!($name)),)*]
+    };
+}
+
+const NAMED: [(NameId, u16, &str); 25] = named! {
+    COPYRIGHT_NOTICE 0
+    FAMILY_NAME 1
+    SUBFAMILY_NAME 2
+    UNIQUE_ID 3
+    FULL_NAME 4
+    VERSION_STRING 5
+    POSTSCRIPT_NAME 6
+    TRADEMARK 7
+    MANUFACTURER 8
+    DESIGNER 9
+    DESCRIPTION 10
+    VENDOR_URL 11
+    DESIGNER_URL 12
+    LICENSE_DESCRIPTION 13
+    LICENSE_URL 14
+    TYPOGRAPHIC_FAMILY_NAME 16
+    TYPOGRAPHIC_SUBFAMILY_NAME 17
+    COMPATIBLE_FULL_NAME 18
+    SAMPLE_TEXT 19
+    POSTSCRIPT_CID_NAME 20
+    WWS_FAMILY_NAME 21
+    WWS_SUBFAMILY_NAME 22
+    LIGHT_BACKGROUND_PALETTE 23
+    DARK_BACKGROUND_PALETTE 24
+    VARIATIONS_POSTSCRIPT_NAME_PREFIX 25
+};
+
+const UNNAMED: [(NameId, u16, &str); 2] = [
     (NameId::LAST_RESERVED_NAME_ID, 255, "NameId 255"),
     (NameId::LAST_ALLOWED_NAME_ID, 32767, "NameId 32767"),
 ];
 
+fn is_shown(alloc: Global, id: NameId, text: &str) -> Result<bool, AllocError> {
+    let (shown, debug) = (format!(in alloc; "{id}")?, format!(in alloc; "{id:?}")?);
+    Ok(shown.as_str() == text && debug.as_str() == text)
+}
+
 #[test]
 fn named(rt: HostRuntime) -> Result<(), Fail> {
-    for (id, number, name) in NAMED {
-        assert_eq!(rt; id.to_u16(), number);
-        assert_eq!(rt; format!(in rt.alloc(); "{id}")?.as_str(), name);
-        assert_eq!(rt; format!(in rt.alloc(); "{id:?}")?.as_str(), name);
+    for &(id, number, name) in NAMED.iter().chain(&UNNAMED) {
+        let is = id.to_u16() == number && is_shown(rt.alloc(), id, name)?;
+        assert!(rt; is, "{name}");
     }
     Ok(())
 }
 
 #[test]
 fn unnamed(rt: HostRuntime) -> Result<(), Fail> {
-    for (id, name) in [
-        (NameId::new(15), "NameId 15"),
-        (NameId::new(26), "NameId 26"),
-        (NameId::default(), "NameId 65535"),
-    ] {
-        assert_eq!(rt;
-            format!(in rt.alloc(); "{id} {id:?}")?.as_str(),
-            format!(in rt.alloc(); "{name} {name}")?.as_str()
-        );
-    }
+    assert!(rt; is_shown(rt.alloc(), NameId::new(15), "NameId 15")?);
+    assert!(rt; is_shown(rt.alloc(), NameId::new(26), "NameId 26")?);
+    assert!(rt; is_shown(rt.alloc(), NameId::default(), "NameId 65535")?);
     Ok(())
 }
 
 #[test]
 fn predefined(rt: HostRuntime) -> Result<(), Fail> {
-    assert_eq!(rt; NameId::predefined().count(), 25);
     let ids = NameId::predefined().collect::<Vec<NameId>>(rt.alloc())?;
-    assert_eq!(rt; ids.len(), 25);
-    for (i, id) in ids.iter().enumerate() {
-        assert!(rt; i < 25 && *id == NAMED[i].0);
+    assert!(rt; ids.len() == 25 && NameId::predefined().count() == 25);
+    for (id, row) in ids.iter().zip(&NAMED) {
+        assert!(rt; *id == row.0);
     }
     Ok(())
 }
@@ -98,22 +85,20 @@ fn predefined_again(rt: HostRuntime) -> Result<(), Fail> {
         let _ = ids.next();
     }
     let mut copy = ids.clone()?;
-    assert!(rt; ids.next() == Some(NameId::TYPOGRAPHIC_FAMILY_NAME));
-    assert!(rt; copy.next() == Some(NameId::TYPOGRAPHIC_FAMILY_NAME));
-    assert_eq!(rt; copy.count(), 9);
+    let family = Some(NameId::TYPOGRAPHIC_FAMILY_NAME);
+    assert!(rt; ids.next() == family && copy.next() == family && copy.count() == 9);
     Ok(())
 }
 
 #[test]
 fn reserved(rt: HostRuntime) {
-    for (number, reserved) in [(0, true), (255, true), (256, false), (65535, false)] {
-        assert!(rt; NameId::new(number).is_reserved() == reserved);
-    }
+    let reserved = [0, 255, 256, 65535].map(|number| NameId::new(number).is_reserved());
+    assert_eq!(rt; reserved, [true, true, false, false]);
 }
 
 #[test]
 fn added(rt: HostRuntime) {
-    for (number, more, sum) in [
+    for &(number, more, sum) in &[
         (40000, 0, None),
         (32766, 1, Some(32767)),
         (32767, 1, None),
@@ -126,8 +111,7 @@ fn added(rt: HostRuntime) {
 
 #[test]
 fn stored(rt: HostRuntime) {
-    assert!(rt; NameId::from(0x0102).to_be_bytes() == [1, 2]);
+    assert!(rt; NameId::from(0x0102).to_be_bytes() == [1, 2] && NameId::RAW_BYTE_LEN == 2);
     assert!(rt; NameId::read(&[0xFF, 0xFF]) == Some(NameId::default()));
     assert!(rt; NameId::FAMILY_NAME < NameId::SUBFAMILY_NAME);
-    assert_eq!(rt; NameId::RAW_BYTE_LEN, 2);
 }

@@ -1,37 +1,34 @@
-//! Offsets, null or not.
+//! Offsets, null or not; and fields of offsets, tags and versions.
 
-use crate::{Nullable, Offset16, Offset24, Offset32, OffsetValue};
+use crate::{Nullable, Offset16, Offset24, Offset32, OffsetValue, Tag, Version16Dot16};
 use font_base::{BigEndian, FixedSize, Scalar, Uint24};
 use std::test::Fail;
 
 #[test]
 fn null(rt: HostRuntime) {
+    let middle = Offset24::new(Uint24::new(65536));
     assert!(rt; Offset16::new(0).is_null() && !Offset16::new(256).is_null());
-    assert!(rt;
-        Offset24::new(Uint24::MIN).is_null() && !Offset24::new(Uint24::new(65536)).is_null()
-    );
+    assert!(rt; Offset24::new(Uint24::MIN).is_null() && !middle.is_null());
     assert!(rt; Offset32::new(0).is_null() && !Offset32::new(65536).is_null());
     assert!(rt; Offset16::NULL.is_null() && Offset24::NULL.is_null() && Offset32::NULL.is_null());
 }
 
 #[test]
 fn numbers(rt: HostRuntime) {
-    assert_eq!(rt; Offset16::new(65535).to_u32(), 65535);
-    assert_eq!(rt; Offset24::new(Uint24::MAX).to_u32(), 16777215);
-    assert_eq!(rt; Offset32::new(4294967295).value_u32(), 4294967295);
+    let greatest = Offset24::new(Uint24::MAX);
+    assert!(rt; Offset16::new(65535).to_u32() == 65535 && greatest.to_u32() == 16777215);
+    assert!(rt; Offset32::new(4294967295).value_u32() == 4294967295);
+    assert!(rt; Offset16::new(7).value_u32() == 7);
+    assert!(rt; Offset24::new(Uint24::new(7)).value_u32() == 7);
 }
 
 #[test]
 fn compared_with_numbers(rt: HostRuntime) {
-    for (number, equal) in [(7, true), (8, false), (65543, false), (16777223, false)] {
-        assert!(rt; Offset16::new(7).eq_u32(&number) == equal);
-        assert!(rt; Offset24::new(Uint24::new(7)).eq_u32(&number) == equal);
+    let middle = Offset24::new(Uint24::new(7));
+    for &(number, equal) in &[(7, true), (8, false), (65543, false), (16777223, false)] {
+        assert!(rt; Offset16::new(7).eq_u32(&number) == equal && middle.eq_u32(&number) == equal);
         assert!(rt; Offset32::new(7).eq_u32(&number) == equal);
     }
-    assert_eq!(rt;
-        Offset16::new(7).value_u32() + Offset24::new(Uint24::new(7)).value_u32(),
-        14
-    );
 }
 
 #[test]
@@ -46,10 +43,21 @@ fn stored(rt: HostRuntime) {
 fn ordered_and_measured(rt: HostRuntime) {
     assert!(rt; BigEndian::from(Offset24::new(Uint24::new(5))).be_bytes() == [0, 0, 5].as_slice());
     assert!(rt; Offset16::new(1) < Offset16::new(2) && Offset32::new(1) < Offset32::new(2));
-    assert_eq!(rt;
-        Offset16::RAW_BYTE_LEN + Offset24::RAW_BYTE_LEN + Offset32::RAW_BYTE_LEN,
-        9
+    assert!(rt; Offset16::RAW_BYTE_LEN + Offset24::RAW_BYTE_LEN + Offset32::RAW_BYTE_LEN == 9);
+}
+
+#[test]
+fn fields_of_a_record(rt: HostRuntime) {
+    let tag = BigEndian::<Tag>::new(*b"head").get();
+    assert!(rt; tag.eq_bytes(b"head"));
+    assert!(rt;
+        BigEndian::<Offset32>::new([0x00, 0x00, 0x00, 0x2C])
+            .get()
+            .to_u32()
+            == 44
     );
+    let version = BigEndian::<Version16Dot16>::new([0x00, 0x02, 0x50, 0x00]);
+    assert!(rt; version.eq_value(&Version16Dot16::VERSION_2_5));
 }
 
 #[test]
@@ -59,7 +67,7 @@ fn nullable(rt: HostRuntime) -> Result<(), Fail> {
     assert!(rt; Nullable::<Offset32>::read(&[0, 0, 0]).is_none());
     assert!(rt; Nullable::<Offset32>::default().is_null());
     assert!(rt; !Nullable::<Offset32>::from_raw([0, 1, 0, 0]).is_null());
-    assert_eq!(rt; Nullable::<Offset24>::RAW_BYTE_LEN, 3);
+    assert!(rt; Nullable::<Offset24>::RAW_BYTE_LEN == 3);
     Ok(())
 }
 
@@ -77,9 +85,7 @@ fn printed(rt: HostRuntime) -> Result<(), Fail> {
     let (short, middle) = (Offset16::new(5), Offset24::new(Uint24::new(5)));
     let null = Nullable::<Offset16>::default();
     let text = format!(in rt.alloc(); "{short:?} {middle:?} {:?} {null:?}", Offset32::new(5))?;
-    assert_eq!(rt;
-        text.as_str(),
-        "Offset16(5) Offset24(Uint24(5)) Offset32(5) Nullable(Offset16(0))"
-    );
+    let printed = "Offset16(5) Offset24(Uint24(5)) Offset32(5) Nullable(Offset16(0))";
+    assert!(rt; text.as_str() == printed);
     Ok(())
 }

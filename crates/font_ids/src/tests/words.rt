@@ -7,7 +7,7 @@ use std::test::Fail;
 
 #[test]
 fn as_fixed(rt: HostRuntime) {
-    for (number, bits) in [
+    for &(number, bits) in &[
         (0, 0),
         (1, 65536),
         (32767, 2147418112),
@@ -15,33 +15,31 @@ fn as_fixed(rt: HostRuntime) {
         (40000, -1673527296),
         (65535, -65536),
     ] {
-        assert_eq!(rt; UfWord::new(number).to_fixed().to_bits(), bits);
+        assert!(rt; UfWord::new(number).to_fixed().to_bits() == bits);
     }
-    for (number, bits) in [(-32768, -2147483648), (-1, -65536), (100, 6553600)] {
-        assert_eq!(rt; FWord::new(number).to_fixed().to_bits(), bits);
+    for &(number, bits) in &[(-32768, -2147483648), (-1, -65536), (100, 6553600)] {
+        assert!(rt; FWord::new(number).to_fixed().to_bits() == bits);
     }
 }
 
 #[test]
 fn moved_by_deltas(rt: HostRuntime) {
-    for (number, bits, moved) in [
+    for &(number, bits, moved) in &[
         (100, 163840, 6717440),
         (-100, -16384, -6569984),
         (32767, i64::MAX, 9223372039002193919),
     ] {
         assert!(rt; FWord::new(number).apply_delta(F48Dot16::from_bits(bits)) == moved);
     }
-    for (number, bits, moved) in [(1000, -98304, 65437696), (0, 0, 0), (65535, 0, 4294901760)] {
+    for &(number, bits, moved) in &[(1000, -98304, 65437696), (0, 0, 0), (65535, 0, 4294901760)] {
         assert!(rt; UfWord::new(number).apply_delta(F48Dot16::from_bits(bits)) == moved);
     }
 }
 
 #[test]
 fn converted(rt: HostRuntime) {
-    assert_eq!(rt; i16::from(FWord::from(-7i16)), -7);
-    assert_eq!(rt; u16::from(UfWord::from(7u16)), 7);
-    assert_eq!(rt; FWord::new(-7).to_i16(), -7);
-    assert_eq!(rt; UfWord::new(7).to_u16(), 7);
+    assert!(rt; i16::from(FWord::from(-7)) == -7 && u16::from(UfWord::from(7)) == 7);
+    assert!(rt; FWord::new(-7).to_i16() == -7 && UfWord::new(7).to_u16() == 7);
     assert!(rt; FWord::default() == FWord::new(0) && UfWord::default() == UfWord::new(0));
 }
 
@@ -50,20 +48,19 @@ fn stored(rt: HostRuntime) {
     assert!(rt; FWord::new(-2).to_be_bytes() == [0xFF, 0xFE]);
     assert!(rt; UfWord::new(0xFFFE).to_be_bytes() == [0xFF, 0xFE]);
     assert!(rt; FWord::read(&[0xFF, 0xFE]) == Some(FWord::new(-2)));
-    assert!(rt; UfWord::read(&[0xFF]).is_none());
+    assert!(rt; UfWord::read(&[0xFF]).is_none() && FWord::RAW_BYTE_LEN + UfWord::RAW_BYTE_LEN == 4);
 }
 
 #[test]
 fn ordered_by_value(rt: HostRuntime) {
     assert!(rt; BigEndian::from(FWord::new(-1)) < BigEndian::from(FWord::new(1)));
     assert!(rt; BigEndian::from(UfWord::new(0xFFFF)) > BigEndian::from(UfWord::new(1)));
-    assert_eq!(rt; FWord::RAW_BYTE_LEN + UfWord::RAW_BYTE_LEN, 4);
 }
 
 #[test]
 fn printed(rt: HostRuntime) -> Result<(), Fail> {
     let (signed, unsigned) = (FWord::new(-32768), UfWord::new(65535));
     let text = format!(in rt.alloc(); "{signed} {signed:?} {unsigned} {unsigned:?}")?;
-    assert_eq!(rt; text.as_str(), "-32768 FWord(-32768) 65535 UfWord(65535)");
+    assert!(rt; text.as_str() == "-32768 FWord(-32768) 65535 UfWord(65535)");
     Ok(())
 }

@@ -56,25 +56,16 @@ fn numbers_unchanged(rt: HostRuntime) {
 
 #[test]
 fn one_of_each_family(rt: HostRuntime) -> Result<(), Fail> {
-    let alloc = rt.alloc();
     let version = MajorMinor::read(&[0x00, 0x01, 0x00, 0x02]).ok_or("four bytes")?;
     let length = BigEndian::<Uint24>::new([0x00, 0x01, 0x00]).get();
-    let width = Fixed::from_decimal("1.5")?;
-    let scale = Matrix::from_elements([
-        width,
-        Fixed::ZERO,
-        Fixed::ZERO,
-        width,
-        Fixed::ZERO,
-        Fixed::ZERO,
-    ]);
+    let (width, zero) = (Fixed::from_decimal("1.5")?, Fixed::ZERO);
+    let scale = Matrix::from_elements([width, zero, zero, width, zero, zero]);
     let moved = scale * Point::broadcast(width);
     let sum = delta_sum(&[(width, 100), (Fixed::NEG_ONE, 30)]);
     let advance = FWord::new(500).apply_delta(sum);
-    let tag = Tag::new_checked(b"cvt")?.to_json(alloc)?;
-    let text = format!(in alloc; "{version} {length} {} {sum} {advance}", moved.x)?;
-    assert_eq!(rt; text.as_str(), "1.2 256 2.25 120 40632320");
-    assert!(rt; tag.as_str() == Some("cvt "));
+    let text = format!(in rt.alloc(); "{version} {length} {} {sum} {advance}", moved.x)?;
+    let tag = Tag::new_checked(b"cvt")?.to_json(rt.alloc())?;
+    assert!(rt; text.as_str() == "1.2 256 2.25 120 40632320" && tag.as_str() == Some("cvt "));
     Ok(())
 }
 

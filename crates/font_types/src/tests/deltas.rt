@@ -6,83 +6,65 @@ use crate::{
 };
 use std::test::Fail;
 
+/// The greatest product of a scalar and a delta.
+const GREATEST: (Fixed, i32) = (Fixed::MIN, i32::MIN);
+
+/// A product that brings the sum of two of the greatest back into the range.
+const BACK: (Fixed, i32) = (Fixed::MIN, i32::MAX);
+
+fn quarters() -> [(Fixed, i32); 3] {
+    [(0x1_0000, 100), (0x8000, -250), (0x4000, 37)].map(|term| (Fixed::from_bits(term.0), term.1))
+}
+
 #[test]
 fn summed(rt: HostRuntime) -> Result<(), Fail> {
-    let terms = [
-        (Fixed::ONE, 100),
-        (Fixed::from_bits(0x8000), -250),
-        (Fixed::from_bits(0x4000), 37),
-    ];
-    assert_eq!(rt;
-        format!(in rt.alloc(); "{}", delta_sum(&terms))?.as_str(),
-        "-15.75"
-    );
-    assert!(rt; delta_sum(&[]) == F48Dot16::ZERO);
+    let text = format!(in rt.alloc(); "{}", delta_sum(&quarters()))?;
+    assert!(rt; text.as_str() == "-15.75" && delta_sum(&[]) == F48Dot16::ZERO);
     Ok(())
 }
 
 #[test]
 fn partial_sums_out_of_range(rt: HostRuntime) {
-    let greatest = (Fixed::MIN, i32::MIN);
-    assert_eq!(rt;
-        delta_sum(&[greatest, greatest, greatest]).to_bits(),
-        -0x4000_0000_0000_0000
-    );
-    let back = (Fixed::MIN, i32::MAX);
-    assert_eq!(rt;
-        delta_sum(&[greatest, greatest, back]).to_bits(),
-        4611686020574871552
-    );
+    assert!(rt; delta_sum(&[GREATEST; 3]).to_bits() == -0x4000_0000_0000_0000);
+    assert!(rt; delta_sum(&[GREATEST, GREATEST, BACK]).to_bits() == 4611686020574871552);
 }
 
 #[test]
 fn refused_out_of_range(rt: HostRuntime) {
-    let greatest = (Fixed::MIN, i32::MIN);
-    assert!(rt; checked_delta_sum(&[greatest, greatest, greatest]).is_none());
-    assert!(rt; checked_delta_sum(&[greatest, greatest]).is_none());
-    let back = (Fixed::MIN, i32::MAX);
-    assert!(rt;
-        checked_delta_sum(&[greatest, greatest, back])
-            == Some(F48Dot16::from_bits(4611686020574871552))
-    );
+    assert!(rt; checked_delta_sum(&[GREATEST; 3]).is_none());
+    assert!(rt; checked_delta_sum(&[GREATEST; 2]).is_none());
+    let sum = checked_delta_sum(&[GREATEST, GREATEST, BACK]);
+    assert!(rt; sum == Some(F48Dot16::from_bits(4611686020574871552)));
     assert!(rt; checked_delta_sum(&[]) == Some(F48Dot16::ZERO));
 }
 
 #[test]
 fn least_sum(rt: HostRuntime) {
     let (half, rest) = ((Fixed::MAX, i32::MIN), (Fixed::MIN, 2));
-    assert!(rt; checked_delta_sum(&[half, half, rest]) == Some(F48Dot16::MIN));
     let step = (Fixed::EPSILON, -1);
+    assert!(rt; checked_delta_sum(&[half, half, rest]) == Some(F48Dot16::MIN));
     assert!(rt; checked_delta_sum(&[half, half, rest, step]).is_none());
     assert!(rt; delta_sum(&[half, half, rest, step]) == F48Dot16::MAX);
 }
 
 #[test]
 fn greatest_sum(rt: HostRuntime) {
-    let (half, step) = ((Fixed::MIN, i32::MIN), (Fixed::EPSILON, 1));
-    let back = (Fixed::EPSILON, -1);
-    assert!(rt; checked_delta_sum(&[half, half, back]) == Some(F48Dot16::MAX));
-    assert!(rt; checked_delta_sum(&[half, half, back, step]).is_none());
+    let (step, back) = ((Fixed::EPSILON, 1), (Fixed::EPSILON, -1));
+    assert!(rt; checked_delta_sum(&[GREATEST, GREATEST, back]) == Some(F48Dot16::MAX));
+    assert!(rt; checked_delta_sum(&[GREATEST, GREATEST, back, step]).is_none());
 }
 
 #[test]
 fn quantities_moved(rt: HostRuntime) {
-    let terms = [
-        (Fixed::ONE, 100),
-        (Fixed::from_bits(0x8000), -250),
-        (Fixed::from_bits(0x4000), 37),
-    ];
-    assert!(rt; vary(FWord::new(100), &terms) == Some(5521408));
-    assert!(rt; vary(FWord::new(100), &[]) == Some(6553600));
-    let greatest = (Fixed::MIN, i32::MIN);
-    assert!(rt; vary(FWord::new(-32768), &[greatest, greatest]).is_none());
-    let once = vary(FWord::new(-32768), &[greatest]);
-    assert!(rt; once == Some(4611686016279904256));
+    let (quantity, least) = (FWord::new(100), FWord::new(-32768));
+    assert!(rt; vary(quantity, &quarters()) == Some(5521408));
+    assert!(rt; vary(quantity, &[]) == Some(6553600));
+    assert!(rt; vary(least, &[GREATEST; 2]).is_none());
+    assert!(rt; vary(least, &[GREATEST]) == Some(4611686016279904256));
 }
 
 #[test]
 fn sfnt_versions(rt: HostRuntime) {
-    assert_eq!(rt; TT_SFNT_VERSION, 65536);
-    assert_eq!(rt; TRUE_SFNT_VERSION, u32::from_be_bytes(*b"true"));
-    assert_eq!(rt; CFF_SFNT_VERSION, u32::from_be_bytes(*b"OTTO"));
+    assert!(rt; TT_SFNT_VERSION == 65536 && TRUE_SFNT_VERSION == u32::from_be_bytes(*b"true"));
+    assert!(rt; CFF_SFNT_VERSION == u32::from_be_bytes(*b"OTTO"));
 }

@@ -10,8 +10,7 @@ fn misread<T: JsonScalar + Copy + PartialEq>(
     alloc: Global,
     rows: &[(T, &'static str)],
 ) -> Result<Option<&'static str>, JsonFault> {
-    for row in rows {
-        let (number, text) = *row;
+    for &(number, text) in rows {
         let shown = number.to_json(alloc)?;
         if shown.as_str() != Some(text) || T::from_json(&shown)? != number {
             return Ok(Some(text));
@@ -45,8 +44,8 @@ fn texts_of_26_6(rt: HostRuntime) -> Result<(), Fail> {
         (6416, "100.25"),
         (i32::MIN, "-33554432"),
         (i32::MAX, "33554431.98"),
-    ];
-    let rows = rows.map(|row| (F26Dot6::from_bits(row.0), row.1));
+    ]
+    .map(|row| (F26Dot6::from_bits(row.0), row.1));
     assert!(rt; misread(rt.alloc(), &rows)? == None);
     Ok(())
 }
@@ -61,8 +60,8 @@ fn texts_of_2_14(rt: HostRuntime) -> Result<(), Fail> {
         (-1, "-0.00006"),
         (i16::MIN, "-2"),
         (i16::MAX, "1.99994"),
-    ];
-    let rows = rows.map(|row| (F2Dot14::from_bits(row.0), row.1));
+    ]
+    .map(|row| (F2Dot14::from_bits(row.0), row.1));
     assert!(rt; misread(rt.alloc(), &rows)? == None);
     Ok(())
 }
@@ -97,24 +96,23 @@ fn texts_of_2_30(rt: HostRuntime) -> Result<(), Fail> {
 
 #[test]
 fn refused(rt: HostRuntime) -> Result<(), Fail> {
-    let alloc = rt.alloc();
-    for (text, fault) in [
+    for &(text, ref fault) in &[
         ("1e3", JsonFault::Syntax),
         ("", JsonFault::Syntax),
         ("32768", JsonFault::OutOfRange),
         ("-32768.00001", JsonFault::OutOfRange),
     ] {
-        let value = Value::String(String::from_str(alloc, text)?);
-        assert!(rt; Fixed::from_json(&value) == Err(fault), "{text}");
+        let read = Fixed::from_json(&Value::String(String::from_str(rt.alloc(), text)?));
+        assert!(rt; read.err().as_ref() == Some(fault), "{text}");
     }
     Ok(())
 }
 
 #[test]
 fn wrong_kinds(rt: HostRuntime) -> Result<(), Fail> {
-    let alloc = rt.alloc();
+    let (number, array) = (json!(in rt.alloc(); 1)?, json!(in rt.alloc(); ["1"])?);
     assert!(rt; Fixed::from_json(&Value::Null) == Err(JsonFault::WrongKind));
-    assert!(rt; Fixed::from_json(&json!(in alloc; 1)?) == Err(JsonFault::WrongKind));
-    assert!(rt; F2Dot14::from_json(&json!(in alloc; ["1"])?) == Err(JsonFault::WrongKind));
+    assert!(rt; Fixed::from_json(&number) == Err(JsonFault::WrongKind));
+    assert!(rt; F2Dot14::from_json(&array) == Err(JsonFault::WrongKind));
     Ok(())
 }

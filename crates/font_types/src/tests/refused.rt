@@ -7,7 +7,7 @@ use std::test::Fail;
 
 #[test]
 fn faults_in_words(rt: HostRuntime) -> Result<(), Fail> {
-    for (fault, text) in [
+    for (fault, text) in &[
         (JsonFault::Memory, "out of memory Memory"),
         (JsonFault::WrongKind, "wrong kind of value WrongKind"),
         (JsonFault::OutOfRange, "number out of range OutOfRange"),
@@ -16,20 +16,17 @@ fn faults_in_words(rt: HostRuntime) -> Result<(), Fail> {
         (JsonFault::InvalidTag, "invalid tag InvalidTag"),
         (JsonFault::MissingMember, "missing member MissingMember"),
     ] {
-        assert_eq!(rt; format!(in rt.alloc(); "{fault} {fault:?}")?.as_str(), text);
+        assert!(rt; format!(in rt.alloc(); "{fault} {fault:?}")?.as_str() == *text);
     }
     Ok(())
 }
 
 #[test]
 fn faults_in_numbers(rt: HostRuntime) {
-    assert!(rt;
-        JsonFault::Memory as u8 == 1
-            && JsonFault::WrongKind as u8 == 2
-            && JsonFault::OutOfRange as u8 == 3
-    );
-    assert!(rt; JsonFault::Syntax as u8 == 4 && JsonFault::NotUtf8 as u8 == 5);
-    assert!(rt; JsonFault::InvalidTag as u8 == 6 && JsonFault::MissingMember as u8 == 7);
+    assert!(rt; JsonFault::Memory as u8 == 1 && JsonFault::WrongKind as u8 == 2);
+    assert!(rt; JsonFault::OutOfRange as u8 == 3 && JsonFault::Syntax as u8 == 4);
+    assert!(rt; JsonFault::NotUtf8 as u8 == 5 && JsonFault::InvalidTag as u8 == 6);
+    assert!(rt; JsonFault::MissingMember as u8 == 7);
 }
 
 // A fault is copied by `clone`, compared, shown and told as an error, and has no order, hash or

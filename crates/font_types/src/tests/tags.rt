@@ -8,11 +8,10 @@ use std::test::Fail;
 #[test]
 fn tags(rt: HostRuntime) -> Result<(), Fail> {
     let alloc = rt.alloc();
-    for (bytes, text) in [(b"head", "head"), (b"cvt ", "cvt ")] {
+    for &(bytes, text) in &[(b"head", "head"), (b"cvt ", "cvt ")] {
         let tag = Tag::new(bytes);
         let value = tag.to_json(alloc)?;
-        assert!(rt; value.as_str() == Some(text));
-        assert!(rt; Tag::from_json(&value) == Ok(tag));
+        assert!(rt; value.as_str() == Some(text) && Tag::from_json(&value) == Ok(tag));
     }
     assert!(rt; Tag::from_json(&json!(in alloc; "ab")?) == Ok(Tag::new(b"ab  ")));
     Ok(())
@@ -21,12 +20,9 @@ fn tags(rt: HostRuntime) -> Result<(), Fail> {
 #[test]
 fn texts_that_are_no_tag(rt: HostRuntime) -> Result<(), Fail> {
     let alloc = rt.alloc();
-    for text in ["", "abcde", "abcd ", "b cc", "\u{7F}abc"] {
-        let value = Value::String(String::from_str(alloc, text)?);
-        assert!(rt;
-            Tag::from_json(&value) == Err(JsonFault::InvalidTag),
-            "{text}"
-        );
+    for &text in &["", "abcde", "abcd ", "b cc", "\u{7F}abc"] {
+        let read = Tag::from_json(&Value::String(String::from_str(alloc, text)?));
+        assert!(rt; read == Err(JsonFault::InvalidTag), "{text}");
     }
     assert!(rt; Tag::from_json(&json!(in alloc; 1)?) == Err(JsonFault::WrongKind));
     Ok(())
@@ -45,13 +41,10 @@ fn tags_that_are_no_text_and_no_tag(rt: HostRuntime) -> Result<(), Fail> {
 
 #[test]
 fn versions(rt: HostRuntime) -> Result<(), Fail> {
-    let alloc = rt.alloc();
     let version = MajorMinor::new(10, 5);
-    let value = version.to_json(alloc)?;
-    assert_eq!(rt;
-        value.to_string(alloc)?.as_str(),
-        "{\"major\":10,\"minor\":5}"
-    );
+    let value = version.to_json(rt.alloc())?;
+    let text = value.to_string(rt.alloc())?;
+    assert!(rt; text.as_str() == r#"{"major":10,"minor":5}"#);
     assert!(rt; MajorMinor::from_json(&value) == Ok(version));
     Ok(())
 }
@@ -59,18 +52,18 @@ fn versions(rt: HostRuntime) -> Result<(), Fail> {
 #[test]
 fn objects_that_are_no_version(rt: HostRuntime) -> Result<(), Fail> {
     let alloc = rt.alloc();
-    for (text, fault) in [
+    for &(text, ref fault) in &[
         ("[1,0]", JsonFault::WrongKind),
-        ("{\"major\":10}", JsonFault::MissingMember),
-        ("{\"minor\":5}", JsonFault::MissingMember),
-        ("{\"minor\":70000,\"major\":\"x\"}", JsonFault::WrongKind),
-        ("{\"minor\":70000,\"major\":1}", JsonFault::OutOfRange),
-        ("{\"major\":70000}", JsonFault::OutOfRange),
+        (r#"{"major":10}"#, JsonFault::MissingMember),
+        (r#"{"minor":5}"#, JsonFault::MissingMember),
+        (r#"{"minor":70000,"major":"x"}"#, JsonFault::WrongKind),
+        (r#"{"minor":70000,"major":1}"#, JsonFault::OutOfRange),
+        (r#"{"major":70000}"#, JsonFault::OutOfRange),
     ] {
-        let value = Value::from_str(alloc, text)?;
-        assert!(rt; MajorMinor::from_json(&value) == Err(fault), "{text}");
+        let read = MajorMinor::from_json(&Value::from_str(alloc, text)?);
+        assert!(rt; read.err().as_ref() == Some(fault), "{text}");
     }
-    let more = Value::from_str(alloc, "{\"name\":null,\"minor\":2,\"major\":1}")?;
+    let more = Value::from_str(alloc, r#"{"name":null,"minor":2,"major":1}"#)?;
     assert!(rt; MajorMinor::from_json(&more) == Ok(MajorMinor::VERSION_1_2));
     Ok(())
 }

@@ -5,18 +5,14 @@ use font_types::{F2Dot14, Fixed};
 
 #[test]
 fn stored_within_one(rt: HostRuntime) {
-    for (bits, narrow) in [
+    for &(bits, narrow) in &[
         (0x2_0000, 0x4000),
         (-0x1_0001, -0x4000),
         (0x8002, 0x2001),
         (0x8001, 0x2000),
         (0, 0),
     ] {
-        assert_eq!(rt;
-            stored(Fixed::from_bits(bits)),
-            F2Dot14::from_bits(narrow),
-            "{bits}"
-        );
+        assert!(rt; stored(Fixed::from_bits(bits)) == F2Dot14::from_bits(narrow));
     }
 }
 
@@ -30,14 +26,8 @@ fn mapped_along_a_segment(rt: HostRuntime) {
         from: Fixed::ONE,
         to: Fixed::ONE,
     };
-    assert_eq!(rt; on_segment(start.from, start, end), start.to);
-    assert_eq!(rt;
-        on_segment(Fixed::from_bits(0x8000), start, end),
-        Fixed::from_bits(0xA000)
-    );
-    assert_eq!(rt; on_segment(end.from, start, end), end.to);
-    assert_eq!(rt;
-        along(kept(Fixed::MAX, start.from, end.from), start, end),
-        end.to
-    );
+    assert!(rt; on_segment(start.from, start, end) == start.to);
+    assert!(rt; on_segment(Fixed::from_bits(0x8000), start, end) == Fixed::from_bits(0xA000));
+    assert!(rt; on_segment(end.from, start, end) == end.to);
+    assert!(rt; along(kept(Fixed::MAX, start.from, end.from), start, end) == end.to);
 }

@@ -32,8 +32,7 @@ fn sums(rt: HostRuntime) -> Result<(), Fail> {
     let numbers = [Fixed::MAX, Fixed::MAX, Fixed::MIN, Fixed::EPSILON];
     assert!(rt; sum(&numbers) == Fixed::from_bits(0x7FFF_FFFF));
     let mut terms = [(Fixed::from_bits(0x8000), 3)].to_vec(rt.alloc())?;
-    assert!(rt; sum_with(&mut terms, (Fixed::ONE, -2))?.to_bits() == -32768);
-    assert!(rt; terms.len() == 2);
+    assert!(rt; sum_with(&mut terms, (Fixed::ONE, -2))?.to_bits() == -32768 && terms.len() == 2);
     Ok(())
 }
 
@@ -41,9 +40,8 @@ fn sums(rt: HostRuntime) -> Result<(), Fail> {
 fn quantities_varied(rt: HostRuntime) -> Result<(), Fail> {
     let alloc = rt.alloc();
     let terms = [0x00, 0x00, 0x80, 0x00, 0x00, 0x00, 0x00, 0x03, 0xFF];
-    assert!(rt;
-        read_terms(&terms, alloc)?.as_slice() == [(Fixed::from_bits(0x8000), 3)].as_slice()
-    );
+    let half = (Fixed::from_bits(0x8000), 3);
+    assert!(rt; read_terms(&terms, alloc)?.as_slice() == [half].as_slice());
     assert!(rt; varied_by(FWord::new(100), &terms, alloc)? == Some(6651904));
     let greatest = [0x80, 0x00, 0x00, 0x00, 0x80, 0x00, 0x00, 0x00];
     assert!(rt; varied_by(FWord::new(-1), &greatest, alloc)? == Some(4611686018427322368));

@@ -24,25 +24,21 @@ fn fields_by_name(rt: HostRuntime) {
 
 #[test]
 fn first_fields(rt: HostRuntime) -> Result<(), Fail> {
-    let header = TableDataRef::<FontHeader>::new(&TABLE)
-        .ok_or("54 bytes")?
-        .header();
+    let table = TableDataRef::<FontHeader>::new(&TABLE).ok_or("54 bytes")?;
+    let header = table.header();
     assert!(rt; header.major_version.get() == 1 && header.minor_version.get() == 2);
     assert!(rt; header.checksum_adjustment.get() == 2981146554);
-    assert!(rt; header.magic_number.get() == 1594834165);
-    assert!(rt; header.flags.get() == 11);
+    assert!(rt; header.magic_number.get() == 1594834165 && header.flags.get() == 11);
     assert!(rt; header.created.get() == LongDateTime::new(3082844800));
     Ok(())
 }
 
 #[test]
 fn last_fields(rt: HostRuntime) -> Result<(), Fail> {
-    let header = TableDataRef::<FontHeader>::new(&TABLE)
-        .ok_or("54 bytes")?
-        .header();
-    let (least, greatest) = ((header.x_min, header.y_min), (header.x_max, header.y_max));
-    assert!(rt; least.0.get().to_i16() == -512 && least.1.get().to_i16() == -431);
-    assert!(rt; greatest.0.get().to_i16() == 2450 && greatest.1.get().to_i16() == 1900);
+    let table = TableDataRef::<FontHeader>::new(&TABLE).ok_or("54 bytes")?;
+    let header = table.header();
+    assert!(rt; header.x_min.get().to_i16() == -512 && header.y_min.get().to_i16() == -431);
+    assert!(rt; header.x_max.get().to_i16() == 2450 && header.y_max.get().to_i16() == 1900);
     assert!(rt; header.mac_style.get() == 3 && header.lowest_rec_ppem.get() == 8);
     assert!(rt; header.font_direction_hint.get() == 2 && header.index_to_loc_format.get() == 1);
     Ok(())

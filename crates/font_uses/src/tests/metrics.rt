@@ -6,7 +6,7 @@ use font_types::{FWord, GlyphId16, UfWord};
 #[test]
 fn of_rows_and_tail(rt: HostRuntime) {
     let table = [2, 0, 0, 10, 1, 0, 0xFF, 0xFF, 0, 7];
-    for (glyph, width, side) in [(0, 512, 10), (1, 256, -1), (2, 256, 7)] {
+    for &(glyph, width, side) in &[(0, 512, 10), (1, 256, -1), (2, 256, 7)] {
         let glyph = GlyphId16::new(glyph);
         assert!(rt; advance(&table, 2, glyph) == Some(UfWord::new(width)));
         assert!(rt; bearing(&table, 2, glyph) == Some(FWord::new(side)));

@@ -6,17 +6,9 @@ use std::test::Fail;
 
 #[test]
 fn predefined(rt: HostRuntime) -> Result<(), Fail> {
-    assert_eq!(rt; predefined_count(), 25);
+    assert!(rt; predefined_count() == 25);
     assert!(rt; all_predefined(rt.alloc())?.last() == Some(&NameId::new(25)));
-    for (number, is) in [
-        (0, true),
-        (14, true),
-        (15, false),
-        (16, true),
-        (25, true),
-        (26, false),
-    ] {
-        assert_eq!(rt; is_predefined(NameId::new(number)), is, "{number}");
-    }
+    let are = [0, 14, 15, 16, 25, 26].map(|number| is_predefined(NameId::new(number)));
+    assert!(rt; are == [true, true, false, true, true, false]);
     Ok(())
 }

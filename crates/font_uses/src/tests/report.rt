@@ -7,13 +7,8 @@ use std::test::Fail;
 #[test]
 fn in_columns(rt: HostRuntime) -> Result<(), Fail> {
     let (least, greatest) = (Fixed::from_bits(i32::MIN + 1), Fixed::from_bits(0x1_8000));
-    let line = line(
-        Tag::new(b"slnt"),
-        least,
-        greatest,
-        &Pad::new(12),
-        rt.alloc(),
-    )?;
+    let (slant, pad) = (Tag::new(b"slnt"), Pad::new(12));
+    let line = line(slant, least, greatest, &pad, rt.alloc())?;
     assert!(rt; line.as_slice() == b"slnt-32767.99998         1.5".as_slice());
     assert!(rt; axis_value(Tag::new(b"slnt"), rt.alloc()).is_ok());
     Ok(())

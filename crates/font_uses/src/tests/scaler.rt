@@ -6,14 +6,7 @@ use std::test::Fail;
 
 // A matrix of whole numbers and halves, given twice as large.
 fn matrix_of_halves(twice: [i32; 6]) -> Matrix<Fixed> {
-    Matrix::from_elements([
-        Fixed::from_bits(twice[0].wrapping_mul(0x8000)),
-        Fixed::from_bits(twice[1].wrapping_mul(0x8000)),
-        Fixed::from_bits(twice[2].wrapping_mul(0x8000)),
-        Fixed::from_bits(twice[3].wrapping_mul(0x8000)),
-        Fixed::from_bits(twice[4].wrapping_mul(0x8000)),
-        Fixed::from_bits(twice[5].wrapping_mul(0x8000)),
-    ])
+    Matrix::from_elements(twice).map(|number| Fixed::from_bits(number.wrapping_mul(0x8000)))
 }
 
 fn point(x: i32, y: i32) -> Point<Fixed> {
@@ -35,13 +28,12 @@ fn components_scaled(rt: HostRuntime) {
         placed: matrix_of_halves([2, 0, 0, 2, 10, -6]),
     };
     let half = matrix_of_halves([1, 0, 0, 1, 0, 0]);
-    assert!(rt; scaled(half, component, point(7, 9)) == point(6, 3));
-    assert!(rt; component.glyph == 36);
+    assert!(rt; scaled(half, component, point(7, 9)) == point(6, 3) && component.glyph == 36);
 }
 
 #[test]
 fn rounded_to_the_grid(rt: HostRuntime) {
-    for (bits, rounded) in [(31, 0), (32, 64), (-32, 0), (-33, -64), (100, 128)] {
+    for &(bits, rounded) in &[(31, 0), (32, 64), (-32, 0), (-33, -64), (100, 128)] {
         let number = on_grid(F26Dot6::from_bits(bits));
         assert!(rt; number == F26Dot6::from_bits(rounded), "{bits}");
     }
