@@ -3,9 +3,9 @@
 mod arithmetic;
 mod calling;
 mod conversions;
+mod ends;
 mod every_value;
-mod narrow;
+mod padded;
 mod sampled;
 mod texts;
 mod traits;
-mod wide;

@@ -2,6 +2,7 @@
 
 mod arithmetic;
 mod edges;
+mod ends;
 mod every_value;
 mod texts;
 mod traits;

@@ -92,29 +92,6 @@ fn cell(x: Fixed, pad: &Pad) -> [u8; 12]
     out
 }
 
-#[test]
-fn callers(rt: HostRuntime) -> Result<(), Fail> {
-    let (half, two) = (Fixed::from_bits(0x8000), Fixed::from_i32(2));
-    assert!(rt; unchanged(half) == half);
-    assert!(rt; by_one(half) == half);
-    assert!(rt; put_together(half) == half);
-    assert!(rt; lerp(half, two, half) == Fixed::from_bits(0x1_4000));
-    assert!(rt; lerp(half, two, Fixed::ONE) == two && lerp(two, two, half) == two);
-    assert!(rt; printed_and_read(rt.alloc(), half)? == Ok(half));
-    assert!(rt; &cell(half, &Pad::new(12)) == b"         0.5");
-    Ok(())
-}
-
-#[test]
-fn ratios(rt: HostRuntime) {
-    let (half, two) = (Fixed::from_bits(0x8000), Fixed::from_i32(2));
-    assert!(rt; over_itself(half) == Some(Fixed::ONE));
-    assert!(rt; over_itself(Fixed::ZERO).is_none());
-    assert!(rt; share_if_part(half, two) == Some(Fixed::from_bits(0x4000)));
-    assert!(rt; share_if_part(two, half).is_none() && share_if_part(Fixed::NEG_ONE, two).is_none());
-    assert!(rt; share_if_part(Fixed::ZERO, Fixed::ZERO).is_none());
-}
-
 fn parsed(text: &str) -> Result<Fixed, DecimalFault>
     ensures { ReadsBy w32 16 fixed_bits text.now result }
 {
@@ -128,9 +105,40 @@ fn widened(number: F2Dot14) -> Fixed
 }
 
 #[test]
+fn callers(rt: HostRuntime) -> Result<(), Fail> {
+    let (half, two) = (Fixed::from_bits(0x8000), Fixed::from_i32(2));
+    assert_eq!(rt;
+        [unchanged(half), by_one(half), put_together(half)],
+        [half; 3]
+    );
+    let moved = [
+        lerp(half, two, half),
+        lerp(half, two, Fixed::ONE),
+        lerp(two, two, half),
+    ];
+    assert_eq!(rt; moved, [Fixed::from_bits(0x1_4000), two, two]);
+    assert!(rt; printed_and_read(rt.alloc(), half)? == Ok(half));
+    assert!(rt; &cell(half, &Pad::new(12)) == b"         0.5");
+    Ok(())
+}
+
+#[test]
+fn ratios(rt: HostRuntime) {
+    let (half, two, zero) = (Fixed::from_bits(0x8000), Fixed::from_i32(2), Fixed::ZERO);
+    assert!(rt; over_itself(half) == Some(Fixed::ONE) && over_itself(zero).is_none());
+    assert!(rt; share_if_part(half, two) == Some(Fixed::from_bits(0x4000)));
+    let none = [
+        share_if_part(two, half),
+        share_if_part(Fixed::NEG_ONE, two),
+        share_if_part(zero, zero),
+    ];
+    assert!(rt; none == [None; 3]);
+}
+
+#[test]
 fn parsed_and_widened(rt: HostRuntime) {
-    assert!(rt; parsed("1.5") == Ok(Fixed::from_bits(0x1_8000)));
-    assert!(rt; parsed("1.5x") == Err(DecimalFault::Syntax));
+    let read = [Ok(Fixed::from_bits(0x1_8000)), Err(DecimalFault::Syntax)];
+    assert!(rt; ["1.5", "1.5x"].map(parsed) == read);
     assert!(rt; "2".parse::<F2Dot14>() == Err(DecimalFault::OutOfRange));
     assert!(rt; "-0.5".parse() == Ok(F48Dot16::from_bits(-0x8000)));
     assert!(rt; widened(F2Dot14::from_bits(-0x4000)) == Fixed::NEG_ONE);

@@ -4,7 +4,7 @@ use crate::{F2Dot14, F26Dot6, F48Dot16, Fixed};
 
 #[test]
 fn narrowed(rt: HostRuntime) {
-    for (bits, f26dot6, f2dot14) in [
+    for &(bits, f26dot6, f2dot14) in &[
         (0x7FFF_FFFF, -2097152, 0),
         (262144, 256, 0),
         (0x1_8000, 96, 0x6000),
@@ -19,39 +19,36 @@ fn narrowed(rt: HostRuntime) {
         (-3, 0, -1),
     ] {
         let number = Fixed::from_bits(bits);
-        assert_eq!(rt; number.to_f26dot6().to_bits(), f26dot6);
-        assert_eq!(rt; number.to_f2dot14().to_bits(), f2dot14);
+        let narrowed = (number.to_f26dot6().to_bits(), number.to_f2dot14().to_bits());
+        assert!(rt; narrowed.0 == f26dot6 && narrowed.1 == f2dot14);
     }
 }
 
 #[test]
 fn widened(rt: HostRuntime) {
     assert!(rt; F2Dot14::from_bits(-0x6000).to_fixed() == Fixed::from_bits(-0x1_8000));
-    assert!(rt; Fixed::MIN.to_f48dot16() == F48Dot16::from_bits(-0x8000_0000));
-    assert!(rt; Fixed::MIN.mul_i32(i32::MIN) == F48Dot16::from_bits(1 << 62));
-    assert!(rt; Fixed::from_bits(-3).mul_i32(5) == F48Dot16::from_bits(-15));
     assert!(rt; F26Dot6::ONE.to_i32() == 1);
+    let wide = [
+        Fixed::MIN.to_f48dot16(),
+        Fixed::MIN.mul_i32(i32::MIN),
+        Fixed::from_bits(-3).mul_i32(5),
+    ];
+    assert_eq!(rt; wide.map(F48Dot16::to_bits), [-0x8000_0000, 1 << 62, -15]);
 }
 
 #[test]
 fn wrapped_to_32_bits(rt: HostRuntime) {
-    for (wide, narrow) in [
-        (2147483648, Fixed::MIN),
-        (-2147483649, Fixed::MAX),
-        (0x1_8000, Fixed::from_bits(0x1_8000)),
-    ] {
-        assert!(rt; F48Dot16::from_bits(wide).to_fixed() == narrow);
-    }
+    let wide = [2147483648, -2147483649, 0x1_8000].map(F48Dot16::from_bits);
+    let narrow = [Fixed::MIN, Fixed::MAX, Fixed::from_bits(0x1_8000)];
+    assert_eq!(rt; wide.map(F48Dot16::to_fixed), narrow);
 }
 
 #[test]
 fn deltas(rt: HostRuntime) {
-    let number = Fixed::from_bits(0x1_8000);
-    assert_eq!(rt; number.apply_delta(F48Dot16::from_bits(65536)), 6442516480);
-    let coordinate = F2Dot14::from_bits(0x2000);
-    assert_eq!(rt;
-        coordinate.apply_delta(F48Dot16::from_bits(-32768)),
-        536838144
-    );
-    assert_eq!(rt; Fixed::MIN.apply_delta(F48Dot16::MIN), -9223512774343131136);
+    let moved = [
+        Fixed::from_bits(0x1_8000).apply_delta(F48Dot16::from_bits(65536)),
+        F2Dot14::from_bits(0x2000).apply_delta(F48Dot16::from_bits(-32768)),
+        Fixed::MIN.apply_delta(F48Dot16::MIN),
+    ];
+    assert_eq!(rt; moved, [6442516480, 536838144, -9223512774343131136]);
 }

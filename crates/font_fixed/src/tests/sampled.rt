@@ -1,59 +1,43 @@
 //! Values of 16.16 and 26.6 throughout their range: printed with the fewest places, and read back.
 
 use crate::{F26Dot6, Fixed};
+use font_decimal::DecimalFault;
 use std::alloc::{AllocError, Global};
+use std::fmt::Display;
+use std::str::FromStr;
 use std::test::Fail;
 
-/// The two decimals with a place fewer next to a decimal with a point: cut, and with the last digit
-/// then raised, where it is no 9.
-fn with_a_place_fewer(alloc: Global, text: &str) -> Result<(String, String), AllocError> {
-    let mut cut = String::from_str(alloc, text)?;
-    cut.pop();
-    if cut.as_str().ends_with('.') {
-        cut.pop();
-    }
-    let mut raised = cut.clone()?;
-    if let Some(digit @ '0'..='8') = raised.pop() {
-        raised.push(char::from(digit as u8 + 1))?;
-    }
-    Ok((cut, raised))
-}
-
-#[test]
-fn fixed(rt: HostRuntime) -> Result<(), Fail> {
-    for step in 0..4096i32 {
-        let number = Fixed::from_bits(step.wrapping_mul(1_048_573));
-        let text = format!(in rt.alloc(); "{number}")?;
-        assert!(rt; Fixed::from_decimal(text.as_str()) == Ok(number), "{text}");
-        if text.as_str().contains('.') {
-            let (cut, raised) = with_a_place_fewer(rt.alloc(), text.as_str())?;
-            assert!(rt; Fixed::from_decimal(cut.as_str()) != Ok(number), "{text}");
-            assert!(rt;
-                Fixed::from_decimal(raised.as_str()) != Ok(number),
-                "{text}"
-            );
+/// Whether a number is read from what it is printed as, and from no text of a place fewer that
+/// differs only in its last digit from what is left of it.
+fn is_shortest<T>(alloc: Global, number: T) -> Result<bool, AllocError>
+where
+    T: Copy + PartialEq + Display + FromStr<Err = DecimalFault>,
+{
+    let mut text = format!(in alloc; "{number}")?;
+    let mut shortest = text.as_str().parse() == Ok(number);
+    if text.as_str().contains('.') {
+        text.pop();
+        if text.as_str().ends_with('.') {
+            text.pop();
+        }
+        text.pop();
+        for digit in 0..10u8 {
+            let fewer = format!(in alloc; "{text}{digit}")?;
+            shortest &= fewer.as_str().parse() != Ok(number);
         }
     }
-    Ok(())
+    Ok(shortest)
 }
 
 #[test]
-fn f26dot6(rt: HostRuntime) -> Result<(), Fail> {
+fn printed_with_the_fewest_places(rt: HostRuntime) -> Result<(), Fail> {
     for step in 0..4096i32 {
-        let number = F26Dot6::from_bits(step.wrapping_mul(1_048_573));
-        let text = format!(in rt.alloc(); "{number}")?;
+        let bits = step.wrapping_mul(1_048_573);
+        assert!(rt; is_shortest(rt.alloc(), Fixed::from_bits(bits))?, "{bits}");
         assert!(rt;
-            F26Dot6::from_decimal(text.as_str()) == Ok(number),
-            "{text}"
+            is_shortest(rt.alloc(), F26Dot6::from_bits(bits))?,
+            "{bits}"
         );
-        if text.as_str().contains('.') {
-            let (cut, raised) = with_a_place_fewer(rt.alloc(), text.as_str())?;
-            assert!(rt; F26Dot6::from_decimal(cut.as_str()) != Ok(number), "{text}");
-            assert!(rt;
-                F26Dot6::from_decimal(raised.as_str()) != Ok(number),
-                "{text}"
-            );
-        }
     }
     Ok(())
 }

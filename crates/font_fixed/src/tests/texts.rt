@@ -1,32 +1,54 @@
 //! Printed and read texts.
 
-use crate::Fixed;
-use font_decimal::{Align, DecimalFault, Pad};
+use crate::{F2Dot14, F48Dot16, Fixed};
+use font_decimal::DecimalFault;
+use std::alloc::{AllocError, Global};
+use std::fmt::{Debug, Display};
 use std::test::Fail;
+
+/// Whether a number is printed as a text, also with flags: `write_padded` has a rule of its own.
+fn is_printed<T>(alloc: Global, number: T, text: &str) -> Result<bool, AllocError>
+where
+    T: Copy + Display + Debug,
+{
+    let forms = format!(in alloc; "{number}|{number:8}|{number:.0}|{number:+}|{number:?}")?;
+    Ok(forms.as_str().split('|').all(|form| form == text))
+}
 
 #[test]
 fn printed(rt: HostRuntime) -> Result<(), Fail> {
-    for (number, text) in [
-        (Fixed::MAX, "32767.99998"),
-        (Fixed::MIN, "-32768"),
-        (Fixed::EPSILON, "0.00002"),
-        (Fixed::from_bits(-1), "-0.00002"),
-        (Fixed::ONE, "1"),
-    ] {
-        assert_eq!(rt; format!(in rt.alloc(); "{number}")?.as_str(), text);
+    let alloc = rt.alloc();
+    for &(bits, narrow, text) in &[(0x8000, 0x2000, "0.5"), (-0x1_8000, -0x6000, "-1.5")] {
+        assert!(rt; is_printed(alloc, Fixed::from_bits(bits), text)?);
+        assert!(rt; is_printed(alloc, F2Dot14::from_bits(narrow), text)?);
+        assert!(rt; is_printed(alloc, F48Dot16::from_bits(i64::from(bits)), text)?);
     }
-    let half = Fixed::from_bits(0x8000);
-    assert_eq!(rt; format!(in rt.alloc(); "{half:?}")?.as_str(), "0.5");
+    Ok(())
+}
+
+#[test]
+fn wide_printed_and_read_back(rt: HostRuntime) -> Result<(), Fail> {
+    for &(bits, text) in &[
+        (i64::MIN, "-140737488355328"),
+        (i64::MAX, "140737488355327.99998"),
+        (i64::MIN + 1, "-140737488355327.99998"),
+        (1 << 56, "1099511627776"),
+        (0x100_0000_0000_8000, "1099511627776.5"),
+        (-0x100_0000_0000_8000, "-1099511627776.5"),
+        (0x100_0000_0000_4000, "1099511627776.25"),
+        (-1 << 62, "-70368744177664"),
+    ] {
+        let number = F48Dot16::from_bits(bits);
+        assert!(rt; is_printed(rt.alloc(), number, text)?);
+        assert!(rt; F48Dot16::from_decimal(text) == Ok(number));
+    }
     Ok(())
 }
 
 #[test]
 fn read(rt: HostRuntime) {
-    for (text, bits) in [
+    for &(text, bits) in &[
         ("0.00000762939453125", 1),
-        ("-0.00000762939453125", -1),
-        ("00012.50", 819200),
-        ("-0.000", 0),
         ("28672.00001525879", 0x7000_0001),
         ("-0.000015259", -1),
         ("0.05", 3277),
@@ -43,28 +65,27 @@ fn read(rt: HostRuntime) {
     ] {
         assert!(rt; Fixed::from_decimal(text) == Ok(Fixed::from_bits(bits)));
     }
+    let narrow = ["1.99996", "-2.00003", "1.2"].map(F2Dot14::from_decimal);
+    assert!(rt; narrow == [F2Dot14::MAX, F2Dot14::MIN, F2Dot14::from_bits(19661)].map(Ok));
 }
 
 // Texts of thousands of digits, at both signs and around both ends.
 #[test]
 fn read_of_many_digits(rt: HostRuntime) -> Result<(), Fail> {
-    for (head, digit, count, tail, read) in [
-        ("", '0', 5000, "12.5", Ok(819200)),
-        ("0.", '0', 5000, "1", Ok(0)),
-        ("-0.", '0', 5000, "1", Ok(0)),
-        ("1", '0', 4999, "", Err(DecimalFault::OutOfRange)),
-        ("", '9', 4999, "x", Err(DecimalFault::Syntax)),
-        ("32767.99999237060546874", '9', 3000, "", Ok(i32::MAX)),
-        ("-32768.00000762939453124", '9', 3000, "", Ok(i32::MIN)),
-        ("0.00000762939453124", '9', 3000, "", Ok(0)),
+    for &(head, digit, count, tail, ref read) in &[
+        ("", "0", 5000, "12.5", Ok(819200)),
+        ("0.", "0", 5000, "1", Ok(0)),
+        ("-0.", "0", 5000, "1", Ok(0)),
+        ("1", "0", 4999, "", Err(DecimalFault::OutOfRange)),
+        ("", "9", 4999, "x", Err(DecimalFault::Syntax)),
+        ("32767.99999237060546874", "9", 3000, "", Ok(i32::MAX)),
+        ("-32768.00000762939453124", "9", 3000, "", Ok(i32::MIN)),
+        ("0.00000762939453124", "9", 3000, "", Ok(0)),
     ] {
-        let mut text = String::from_str(rt.alloc(), head)?;
-        for _ in 0..count {
-            text.push(digit)?;
-        }
-        text.push_str(tail)?;
+        let digits = digit.repeat(rt.alloc(), count)?;
+        let text = format!(in rt.alloc(); "{head}{digits}{tail}")?;
         assert!(rt;
-            Fixed::from_decimal(text.as_str()).map(Fixed::to_bits) == read,
+            Fixed::from_decimal(text.as_str()).map(Fixed::to_bits) == *read,
             "{head}"
         );
     }
@@ -73,60 +94,27 @@ fn read_of_many_digits(rt: HostRuntime) -> Result<(), Fail> {
 
 #[test]
 fn not_decimal(rt: HostRuntime) {
-    for text in ["", "-", ".5", "5.", "+1", "1e3", "1.2.3", " 1"] {
+    for &text in &["", "-", ".5", "5.", "+1", "1e3", "1.2.3", " 1"] {
         assert!(rt; Fixed::from_decimal(text) == Err(DecimalFault::Syntax));
     }
+    assert!(rt; F2Dot14::from_decimal("+1") == Err(DecimalFault::Syntax));
+    assert!(rt; F48Dot16::from_decimal("-") == Err(DecimalFault::Syntax));
 }
 
 #[test]
 fn out_of_range(rt: HostRuntime) {
-    for text in [
-        "4294967296",
-        "32767.999993",
-        "32767.99999237060546875",
-        "-32768.00000762939453125",
+    for &(text, narrow) in &[
+        ("32767.999993", "1.99997"),
+        ("32767.99999237060546875", "-2.00004"),
+        ("-32768.00000762939453125", "2"),
     ] {
         assert!(rt; Fixed::from_decimal(text) == Err(DecimalFault::OutOfRange));
+        assert!(rt; F2Dot14::from_decimal(narrow) == Err(DecimalFault::OutOfRange));
     }
-}
-
-#[test]
-fn padded(rt: HostRuntime) {
-    let pad = Pad {
-        width: 9,
-        fill: b'*',
-        align: Align::Center,
-        plus: true,
-        zeros: false,
-    };
-    let mut out = [b'-'; 10];
-    assert!(rt; Fixed::from_bits(0x1_8000).write_padded(&mut out, &pad) == Some(9));
-    assert!(rt; &out == b"**+1.5***-");
-    assert!(rt; Fixed::ONE.write_padded(&mut out[..8], &pad).is_none());
-}
-
-#[test]
-fn padded_at_its_longest(rt: HostRuntime) {
-    let plus = Pad {
-        plus: true,
-        ..Pad::new(0)
-    };
-    let mut out = [b' '; 12];
-    assert!(rt; Fixed::from_bits(i32::MIN + 1).write_padded(&mut out, &plus) == Some(12));
-    assert!(rt; &out == b"-32767.99998");
-    assert!(rt; Fixed::MAX.write_padded(&mut out, &plus) == Some(12));
-    assert!(rt; &out == b"+32767.99998");
-    assert!(rt; Fixed::MAX.write_padded(&mut out[..11], &plus).is_none());
-}
-
-// No flag of a format is heard: `write_padded` has a rule of its own.
-#[test]
-fn without_flags(rt: HostRuntime) -> Result<(), Fail> {
-    for (bits, text) in [(0x8000, "0.5"), (-0x1_8000, "-1.5")] {
-        let number = Fixed::from_bits(bits);
-        let flagged = format!(in rt.alloc(); "{number:8}|{number:.0}|{number:+}|{number:?}")?;
-        let plain = format!(in rt.alloc(); "{text}|{text}|{text}|{text}")?;
-        assert_eq!(rt; flagged.as_str(), plain.as_str());
+    for &text in &[
+        "140737488355327.99999237060546875",
+        "-140737488355328.00001",
+    ] {
+        assert!(rt; F48Dot16::from_decimal(text) == Err(DecimalFault::OutOfRange));
     }
-    Ok(())
 }
