@@ -48,17 +48,17 @@ fn converted_to_numbers(rt: HostRuntime) {
 fn narrowed(rt: HostRuntime) {
     assert!(rt; GlyphId16::try_from(GlyphId::new(65535)).ok() == Some(GlyphId16::new(65535)));
     assert!(rt; GlyphId24::try_from(GlyphId::new(16777215)).ok() == Some(GlyphId24::new(16777215)));
+    let refused = GlyphId24::try_from(GlyphId::new(16777216));
+    assert!(rt; refused.is_err_and(|error| error.value() == 16777216));
 }
 
 #[test]
 fn too_large(rt: HostRuntime) -> Result<(), Fail> {
-    let (wide, wider) = (GlyphId::new(65536), GlyphId::new(16777216));
+    let wide = GlyphId::new(65536);
     let error = GlyphId16::try_from(wide).err().ok_or("refused")?;
     let text = format!(in rt.alloc(); "{error}; {error:?}")?;
     let told = "glyph identifier 65536 too large for conversion; TryFromGlyphIdError(65536)";
     assert!(rt; error.value() == 65536 && text.as_str() == told);
-    let error = GlyphId24::try_from(wider).err().ok_or("refused")?;
-    assert!(rt; error.value() == 16777216);
     Ok(())
 }
 
@@ -72,12 +72,17 @@ fn not_defined(rt: HostRuntime) {
 
 #[test]
 fn stored(rt: HostRuntime) {
-    let (narrow, middle) = (GlyphId16::new(0x0102), GlyphId24::new(0x01_0203));
-    assert!(rt; narrow.to_be_bytes() == [1, 2] && GlyphId16::read(&[1, 2]) == Some(narrow));
-    assert!(rt; middle.to_be_bytes() == [1, 2, 3] && GlyphId24::read(&[1, 2, 3]) == Some(middle));
-    assert!(rt; GlyphId24::from_be_bytes([1, 2, 3]) == middle);
+    assert!(rt; GlyphId16::new(0x0102).to_be_bytes() == [1, 2]);
+    assert!(rt; GlyphId24::new(0x01_0203).to_be_bytes() == [1, 2, 3]);
     assert!(rt; BigEndian::from(GlyphId24::new(5)).be_bytes() == [0, 0, 5].as_slice());
     assert!(rt; GlyphId16::RAW_BYTE_LEN + GlyphId24::RAW_BYTE_LEN == 5);
+}
+
+#[test]
+fn read(rt: HostRuntime) {
+    assert!(rt; GlyphId16::read(&[1, 2]) == Some(GlyphId16::new(0x0102)));
+    assert!(rt; GlyphId24::read(&[1, 2, 3]) == Some(GlyphId24::new(0x01_0203)));
+    assert!(rt; GlyphId24::from_be_bytes([1, 2, 3]) == GlyphId24::new(0x01_0203));
 }
 
 #[test]

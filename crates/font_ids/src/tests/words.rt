@@ -38,8 +38,9 @@ fn moved_by_deltas(rt: HostRuntime) {
 
 #[test]
 fn converted(rt: HostRuntime) {
-    assert!(rt; i16::from(FWord::from(-7)) == -7 && u16::from(UfWord::from(7)) == 7);
-    assert!(rt; FWord::new(-7).to_i16() == -7 && UfWord::new(7).to_u16() == 7);
+    let (signed, unsigned) = (FWord::from(-7), UfWord::from(7));
+    assert!(rt; i16::from(signed) == -7 && u16::from(unsigned) == 7);
+    assert!(rt; signed.to_i16() == -7 && unsigned.to_u16() == 7);
     assert!(rt; FWord::default() == FWord::new(0) && UfWord::default() == UfWord::new(0));
 }
 

@@ -61,14 +61,8 @@ fn compatible_with_themselves(rt: HostRuntime) {
 
 #[test]
 fn compatible_in_turn(rt: HostRuntime) {
-    let packed = |minor| Version16Dot16::new(1, minor);
-    assert!(rt; packed_in_turn(packed(9), packed(5), packed(1)));
-    assert!(rt;
-        pairs_in_turn(
-            MajorMinor::VERSION_1_3,
-            MajorMinor::VERSION_1_2,
-            MajorMinor::VERSION_1_1
-        )
-    );
-    assert!(rt; numbers_in_turn(3, 2, 1));
+    let [packed, lower, lowest] = [9, 5, 1].map(|minor| Version16Dot16::new(1, minor));
+    assert!(rt; packed_in_turn(packed, lower, lowest) && numbers_in_turn(3, 2, 1));
+    let [pair, lower, lowest] = [3, 2, 1].map(|minor| MajorMinor::new(1, minor));
+    assert!(rt; pairs_in_turn(pair, lower, lowest));
 }

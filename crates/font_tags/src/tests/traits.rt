@@ -2,13 +2,22 @@
 
 use crate::{Compatible, InvalidTag, LongDateTime, MajorMinor, Tag, Version16Dot16};
 use font_base::{IdentityEq, Scalar};
+use std::alloc::{AllocError, Global};
 use std::collections::HashSet;
 use std::fmt::{Debug, Display};
 use std::hash::Hash;
 use std::str::FromStr;
 use std::test::Fail;
 
-fn is_scalar<T: Copy + Ord + Hash + Default + Debug + Scalar + IdentityEq>() {}
+/// Whether a set that a value is put into has its equal, and not another.
+fn is_scalar<T>(alloc: Global, value: T, equal: T, other: T) -> Result<bool, AllocError>
+where
+    T: Copy + Ord + Hash + Default + Debug + Scalar + IdentityEq,
+{
+    let mut set = HashSet::new(alloc);
+    set.insert(value)?;
+    Ok(set.contains(&equal) && !set.contains(&other))
+}
 
 fn is_shown<T: Display>() {}
 
@@ -20,17 +29,25 @@ fn is_told<T: Clone + Eq + Debug + Display>() {}
 
 #[test]
 fn traits(rt: HostRuntime) -> Result<(), Fail> {
-    is_scalar::<Tag>();
-    is_scalar::<LongDateTime>();
-    is_scalar::<Version16Dot16>();
-    is_scalar::<MajorMinor>();
     is_shown::<Tag>();
     is_read::<Tag>();
     is_told::<InvalidTag>();
     is_version::<Version16Dot16>();
     is_version::<MajorMinor>();
-    let mut dates = HashSet::new(rt.alloc());
-    dates.insert(LongDateTime::new(-1))?;
-    assert!(rt; dates.contains(&LongDateTime::new(-1)) && !dates.contains(&LongDateTime::new(1)));
+    let alloc = rt.alloc();
+    assert!(rt;
+        is_scalar(
+            alloc,
+            Tag::new(b"head"),
+            Tag::from_u32(0x6865_6164),
+            Tag::default()
+        )?
+    );
+    let [date, same, other] = [-1, -1, 1].map(LongDateTime::new);
+    assert!(rt; is_scalar(alloc, date, same, other)?);
+    let (packed, other) = (Version16Dot16::VERSION_1_0, Version16Dot16::VERSION_1_1);
+    assert!(rt; is_scalar(alloc, packed, Version16Dot16::new(1, 0), other)?);
+    let (pair, other) = (MajorMinor::VERSION_1_0, MajorMinor::VERSION_1_1);
+    assert!(rt; is_scalar(alloc, pair, MajorMinor::new(1, 0), other)?);
     Ok(())
 }

@@ -58,14 +58,21 @@ fn numbers_unchanged(rt: HostRuntime) {
 fn one_of_each_family(rt: HostRuntime) -> Result<(), Fail> {
     let version = MajorMinor::read(&[0x00, 0x01, 0x00, 0x02]).ok_or("four bytes")?;
     let length = BigEndian::<Uint24>::new([0x00, 0x01, 0x00]).get();
+    let text = format!(in rt.alloc(); "{version} {length}")?;
+    let tag = Tag::new_checked(b"cvt")?.to_json(rt.alloc())?;
+    assert!(rt; text.as_str() == "1.2 256" && tag.as_str() == Some("cvt "));
+    Ok(())
+}
+
+#[test]
+fn numbers_of_each_family(rt: HostRuntime) -> Result<(), Fail> {
     let (width, zero) = (Fixed::from_decimal("1.5")?, Fixed::ZERO);
     let scale = Matrix::from_elements([width, zero, zero, width, zero, zero]);
     let moved = scale * Point::broadcast(width);
     let sum = delta_sum(&[(width, 100), (Fixed::NEG_ONE, 30)]);
     let advance = FWord::new(500).apply_delta(sum);
-    let text = format!(in rt.alloc(); "{version} {length} {} {sum} {advance}", moved.x)?;
-    let tag = Tag::new_checked(b"cvt")?.to_json(rt.alloc())?;
-    assert!(rt; text.as_str() == "1.2 256 2.25 120 40632320" && tag.as_str() == Some("cvt "));
+    let text = format!(in rt.alloc(); "{} {sum} {advance}", moved.x)?;
+    assert!(rt; text.as_str() == "2.25 120 40632320");
     Ok(())
 }
 

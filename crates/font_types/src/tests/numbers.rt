@@ -60,7 +60,7 @@ fn ends_of_glyph_ids(rt: HostRuntime) -> Result<(), Fail> {
 
 #[test]
 fn ends_of_offsets(rt: HostRuntime) -> Result<(), Fail> {
-    let [least, greatest] = [Uint24::MIN, Uint24::MAX].map(|number| Offset24::new(number));
+    let (least, greatest) = (Offset24::new(Uint24::MIN), Offset24::new(Uint24::MAX));
     let short = [(Offset16::new(0), 0), (Offset16::new(65535), 65535)];
     let middle = [(least, 0), (greatest, 16777215)];
     let long = [(Offset32::new(0), 0), (Offset32::new(u32::MAX), 4294967295)];
@@ -82,7 +82,7 @@ fn ends_of_names_and_versions(rt: HostRuntime) -> Result<(), Fail> {
 
 #[test]
 fn ends_of_dates(rt: HostRuntime) -> Result<(), Fail> {
-    let [date, least] = [1234569101, i64::MIN].map(|seconds| LongDateTime::new(seconds));
+    let (date, least) = (LongDateTime::new(1234569101), LongDateTime::new(i64::MIN));
     let above = Value::from(9223372036854775808u64);
     assert!(rt; misread(rt.alloc(), &[(date, 1234569101), (least, i64::MIN)], &[])? == None);
     assert!(rt; LongDateTime::from_json(&above) == Err(JsonFault::OutOfRange));

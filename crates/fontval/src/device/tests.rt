@@ -43,13 +43,10 @@ impl Write for InterruptedOnce {
 
 #[test]
 fn reads_to_the_end(rt: HostRuntime) {
-    let bytes: &[u8] = b"abc";
-    let mut source = FromRead::new(bytes);
+    let mut source = FromRead::new(b"abc".as_slice());
     let mut buf = [0; 2];
-    assert!(rt; matches!(source.read(&mut buf), Ok(2)));
-    assert_eq!(rt; &buf, b"ab");
-    assert!(rt; matches!(source.read(&mut buf), Ok(1)));
-    assert!(rt; matches!(source.read(&mut buf), Ok(0)));
+    assert!(rt; matches!(source.read(&mut buf), Ok(2)) && buf == *b"ab");
+    assert!(rt; matches!(source.read(&mut buf), Ok(1)) && matches!(source.read(&mut buf), Ok(0)));
     assert!(rt; !source.has_failed());
 }
 
@@ -57,19 +54,15 @@ fn reads_to_the_end(rt: HostRuntime) {
 #[test]
 fn an_interrupted_read_fails(rt: HostRuntime) {
     let mut source = FromRead::new(InterruptedOnce { calls: 0 });
-    assert!(rt; source.read(&mut [0; 2]).is_err());
-    assert!(rt; source.has_failed());
-    assert!(rt; matches!(source.read(&mut [0; 2]), Ok(2)));
-    assert!(rt; source.has_failed());
+    assert!(rt; source.read(&mut [0; 2]).is_err() && source.has_failed());
+    assert!(rt; matches!(source.read(&mut [0; 2]), Ok(2)) && source.has_failed());
 }
 
 #[test]
 fn an_interrupted_write_fails(rt: HostRuntime) {
     let mut sink = FromWrite::new(InterruptedOnce { calls: 0 });
-    assert!(rt; sink.write(b"ab").is_err());
-    assert!(rt; sink.has_failed());
-    assert!(rt; matches!(sink.write(b"ab"), Ok(2)));
-    assert!(rt; sink.has_failed());
+    assert!(rt; sink.write(b"ab").is_err() && sink.has_failed());
+    assert!(rt; matches!(sink.write(b"ab"), Ok(2)) && sink.has_failed());
 }
 
 // A write of no byte fails where there was one to take.
@@ -77,13 +70,13 @@ fn an_interrupted_write_fails(rt: HostRuntime) {
 fn a_write_of_no_byte_fails(rt: HostRuntime) {
     let mut room = [0; 2];
     let mut sink = FromWrite::new(room.as_mut_slice());
-    for (bytes, taken, failed) in [
-        (b"abc".as_slice(), Some(2), false),
+    let rows: &[(&[u8], Option<usize>, bool)] = &[
+        (b"abc", Some(2), false),
         (b"", Some(0), false),
         (b"c", None, true),
         (b"", Some(0), true),
-    ] {
-        assert_eq!(rt; sink.write(bytes).ok(), taken);
-        assert_eq!(rt; sink.has_failed(), failed);
+    ];
+    for &(bytes, taken, failed) in rows {
+        assert!(rt; sink.write(bytes).ok() == taken && sink.has_failed() == failed);
     }
 }

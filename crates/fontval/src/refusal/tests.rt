@@ -5,7 +5,7 @@ use std::test::Fail;
 
 #[test]
 fn refusals_in_words(rt: HostRuntime) -> Result<(), Fail> {
-    for (refusal, number, text) in [
+    for &(refusal, number, text) in &[
         (Refusal::UnknownCommand, 1, "unknown command"),
         (Refusal::WordCount, 2, "wrong number of words"),
         (
@@ -17,14 +17,10 @@ fn refusals_in_words(rt: HostRuntime) -> Result<(), Fail> {
         (Refusal::OutOfRange, 5, "number out of range"),
         (Refusal::NotWhole, 6, "not a whole number"),
     ] {
-        assert_eq!(rt; refusal as u8, number);
-        assert_eq!(rt; refusal.to_string(rt.alloc())?.as_str(), text);
         let told = Unanswered::Refused(refusal).to_string(rt.alloc())?;
-        assert_eq!(rt; told.as_str().strip_prefix("refused: "), Some(text));
+        assert!(rt; told.as_str().strip_prefix("refused: ") == Some(text));
+        assert!(rt; refusal as u8 == number && refusal.to_string(rt.alloc())?.as_str() == text);
     }
-    assert_eq!(rt;
-        Unanswered::Memory.to_string(rt.alloc())?.as_str(),
-        "memory"
-    );
+    assert!(rt; Unanswered::Memory.to_string(rt.alloc())?.as_str() == "memory");
     Ok(())
 }

@@ -130,12 +130,7 @@ fn served(alloc: Global, input: &[u8]) -> Result<Vec<u8>, Fail> {
 
 #[test]
 fn answers_each_line(rt: HostRuntime) -> Result<(), Fail> {
-    assert_eq!(rt; served(rt.alloc(), LINES)?.as_slice(), ANSWERS);
-    Ok(())
-}
-
-#[test]
-fn empty_input_writes_nothing(rt: HostRuntime) -> Result<(), Fail> {
+    assert!(rt; served(rt.alloc(), LINES)?.as_slice() == ANSWERS);
     assert!(rt; served(rt.alloc(), b"")?.is_empty());
     Ok(())
 }
@@ -144,8 +139,7 @@ fn empty_input_writes_nothing(rt: HostRuntime) -> Result<(), Fail> {
 fn lines_a_thousand_times(rt: HostRuntime) -> Result<(), Fail> {
     let input = "int24 fe1dc0\nint24 fe1d\n\nbogus 1\nuint8\n".repeat(rt.alloc(), 1000)?;
     let answers = "-123456\nerror 3\nerror 1\nerror 1\nerror 2\n".repeat(rt.alloc(), 1000)?;
-    let output = served(rt.alloc(), input.as_bytes())?;
-    assert!(rt; output.as_slice() == answers.as_bytes());
+    assert!(rt; served(rt.alloc(), input.as_bytes())?.as_slice() == answers.as_bytes());
     Ok(())
 }
 
@@ -156,66 +150,21 @@ fn long_input_is_answered(rt: HostRuntime) -> Result<(), Fail> {
     let input = "read fixed 0.60\nuint24 x\n".repeat(rt.alloc(), times)?;
     let answers = "0000999a\nerror 3\n".repeat(rt.alloc(), times)?;
     let output = served(rt.alloc(), input.as_bytes())?;
-    assert!(rt; output.len() > 1_000_000);
-    assert!(rt; output.as_slice() == answers.as_bytes());
+    assert!(rt; output.len() > 1_000_000 && output.as_slice() == answers.as_bytes());
     Ok(())
 }
 
+// All other rows are lines of the program's `stdin`.
 #[test]
-fn rows(rt: HostRuntime) -> Result<(), Fail> {
-    for (line, answer) in [
-        ("int24 fe1dc0", "-123456\n"),
-        ("uint24 FFAACC", "16755404\n"),
-        ("int8 80", "-128\n"),
-        ("int64 8000000000000000", "-9223372036854775808\n"),
-        ("uint16 0", "error 3\n"),
-        ("uint16 00 01", "error 2\n"),
-        ("fixed 00010000", "1\n"),
-        ("fixed 80000000", "-32768\n"),
-        ("read fixed 0.6", "0000999a\n"),
-        ("read fixed 1e3", "error 4\n"),
-        ("read fixed 32768", "error 5\n"),
-        ("read tag 1", "error 1\n"),
-        ("read fixed", "error 2\n"),
-        ("read f2dot14 -0.61884", "d865\n"),
-        ("read f2dot14 2", "error 5\n"),
-        ("f26dot6 00000008", "0.13\n"),
-        ("f48dot16 8000000000000001", "-140737488355327.99998\n"),
-        ("tag 197a407f", "{0x19}z@{0x7F} byte 0\n"),
-        ("tag 68656164", "head valid\n"),
-        ("tag 62206363", "b cc space 2\n"),
-        ("tag 616263", "error 3\n"),
-        ("image 2 0 0 3 0 0 1 0 0 1 10 20 5 -22", "30 -6 30 -6\n"),
-        ("image 1 0 0 1 0 0 1 0 0 1 0 0 32768 x", "error 5\n"),
-        ("image 1", "error 2\n"),
-        ("sum 1 100 0.5 -250 0.25 37", "-15.75\n"),
-        ("sum", "0\n"),
-        ("sum 1", "error 2\n"),
-        ("sum 1 +5", "error 6\n"),
-        ("sum 1 2147483648", "error 5\n"),
-        ("sum 1 99999999999x", "error 6\n"),
-        ("vary 100 1 100 0.5 -250 0.25 37", "5521408\n"),
-        ("vary 100 1", "error 2\n"),
-        ("vary 32768", "error 5\n"),
-        ("sum x", "error 2\n"),
-        ("vary 1 x", "error 2\n"),
-        ("vary x 1", "error 2\n"),
-        ("vary x x 1", "error 6\n"),
-        ("vary 0 -32768 -2147483648 -32768 -2147483648", "error 5\n"),
-        ("uint8\x0cff", "error 1\n"),
-        ("uint8\0ff", "error 1\n"),
-        ("f2dot30 00000007", "0.0000000065\n"),
-        ("read f2dot30 0.6", "26666666\n"),
-        ("int24 000000", "0\n"),
-        ("int24 01E240", "123456\n"),
+fn blanks_and_line_feeds(rt: HostRuntime) -> Result<(), Fail> {
+    for &(line, answer) in &[
         ("int24 7fffff", "8388607\n"),
-        ("int24 800000", "-8388608\n"),
         ("\t uint8  \r ff\t\r\n", "255\n"),
         ("uint8\u{a0}ff", "error 1\n"),
         ("\n\n", "error 1\nerror 1\n"),
     ] {
         let output = served(rt.alloc(), line.as_bytes())?;
-        assert_eq!(rt; output.as_slice(), answer.as_bytes(), "{line}");
+        assert!(rt; output.as_slice() == answer.as_bytes(), "{line}");
     }
     Ok(())
 }
@@ -227,9 +176,8 @@ fn one_byte_a_call(rt: HostRuntime) -> Result<(), Fail> {
     let mut source = Drip::new(LINES, usize::MAX);
     let mut sink = Trickle::new(rt.alloc(), usize::MAX);
     serve(rt.alloc(), &mut source, &mut sink)?;
-    assert_eq!(rt; sink.taken.as_slice(), ANSWERS);
-    assert_eq!(rt; source.calls, LINES.len() + 1);
-    assert_eq!(rt; sink.calls, ANSWERS.len());
+    assert!(rt; sink.taken.as_slice() == ANSWERS);
+    assert!(rt; source.calls == LINES.len() + 1 && sink.calls == ANSWERS.len());
     Ok(())
 }
 
@@ -239,9 +187,8 @@ fn a_failed_read_writes_nothing(rt: HostRuntime) {
         let mut source = Drip::new(LINES, passes);
         let mut sink = Trickle::new(rt.alloc(), usize::MAX);
         let result = serve(rt.alloc(), &mut source, &mut sink);
-        assert!(rt; matches!(result, Err(ServeFault::Read)), "{passes}");
-        assert_eq!(rt; source.calls, passes + 1, "{passes}");
-        assert_eq!(rt; sink.calls, 0, "{passes}");
+        assert!(rt; matches!(result, Err(ServeFault::Read)));
+        assert!(rt; source.calls == passes + 1 && sink.calls == 0, "{passes}");
     }
 }
 
@@ -251,49 +198,49 @@ fn a_failed_write_keeps_what_passed(rt: HostRuntime) {
         let mut source = Drip::new(LINES, usize::MAX);
         let mut sink = Trickle::new(rt.alloc(), passes);
         let result = serve(rt.alloc(), &mut source, &mut sink);
-        assert!(rt; matches!(result, Err(ServeFault::Write)), "{passes}");
-        assert_eq!(rt; sink.calls, passes + 1, "{passes}");
-        assert_eq!(rt; sink.taken.as_slice(), &ANSWERS[..passes], "{passes}");
+        assert!(rt; matches!(result, Err(ServeFault::Write)) && sink.calls == passes + 1);
+        assert!(rt; sink.taken.as_slice() == &ANSWERS[..passes], "{passes}");
     }
 }
 
 // Each request for memory is refused in turn, until the input is answered.
 #[test]
 fn each_growth_refused(rt: HostRuntime) -> Result<(), Fail> {
-    for (input, answers, growths) in [
+    let rows: &[(&[u8], &[u8], usize)] = &[
         (LINES, ANSWERS, 8),
-        (SUM, b"15.5\n".as_slice(), 8),
-        (VARY, b"5521408\n".as_slice(), 5),
-        (IMAGE, b"30 -6 30 -6\n".as_slice(), 6),
-    ] {
+        (SUM, b"15.5\n", 8),
+        (VARY, b"5521408\n", 5),
+        (IMAGE, b"30 -6 30 -6\n", 6),
+    ];
+    for &(input, answers, growths) in rows {
         let mut refused = 0usize;
         for before in 0..100usize {
             let memory = Refusing::after(before, rt.alloc());
             let mut source = Drip::new(input, usize::MAX);
             let mut sink = Trickle::new(rt.alloc(), usize::MAX);
             let Err(fault) = serve(&memory, &mut source, &mut sink) else {
-                assert_eq!(rt; sink.taken.as_slice(), answers);
+                assert!(rt; sink.taken.as_slice() == answers);
                 break;
             };
-            assert!(rt; matches!(fault, ServeFault::Memory), "{before}");
-            assert_eq!(rt; sink.calls, 0, "{before}");
+            assert!(rt; matches!(fault, ServeFault::Memory));
+            assert!(rt; sink.calls == 0, "{before}");
             refused = before + 1;
         }
-        assert_eq!(rt; refused, growths);
+        assert!(rt; refused == growths);
     }
     Ok(())
 }
 
 #[test]
 fn faults_in_words(rt: HostRuntime) -> Result<(), Fail> {
-    for (fault, number, text, shown) in [
-        (ServeFault::Memory, 1, "memory", "Memory"),
-        (ServeFault::Read, 2, "read", "Read"),
-        (ServeFault::Write, 3, "write", "Write"),
+    for (fault, text) in &[
+        (ServeFault::Memory, "memory Memory"),
+        (ServeFault::Read, "read Read"),
+        (ServeFault::Write, "write Write"),
     ] {
-        assert_eq!(rt; fault.to_string(rt.alloc())?.as_str(), text);
-        assert_eq!(rt; format!(in rt.alloc(); "{fault:?}")?.as_str(), shown);
-        assert_eq!(rt; fault as u8, number);
+        assert!(rt; format!(in rt.alloc(); "{fault} {fault:?}")?.as_str() == *text);
     }
+    let (memory, read) = (ServeFault::Memory as u8, ServeFault::Read as u8);
+    assert!(rt; memory == 1 && read == 2 && ServeFault::Write as u8 == 3);
     Ok(())
 }
