@@ -1,7 +1,8 @@
 //! A linter of names, over the ids that OpenType defines.
 
-ghost use Rattle.std.specs.Prelude.{◌≡◌, ◌↔◌, IsTrue, IfOk, map};
-ghost use Rattle.font_types.specs.NameId.{name_id_of, predefined_numbers};
+ghost use Rattle.std.specs.Prelude.{◌≡◌, ◌↔◌, ◌==◌, IsTrue, IfOk, map};
+ghost use Rattle.std.specs.List.{list_any};
+ghost use Rattle.font_types.specs.NameId.{name_number, name_id_of, predefined_numbers};
 ghost use Rattle.font_uses.specs.Names.{is_among};
 
 use font_types::NameId;
@@ -25,6 +26,14 @@ pub fn is_predefined(id: NameId) -> bool
         }
     }
     false
+}
+
+/// The same by a closure.
+pub fn is_listed(id: NameId) -> bool
+    ensures { result ≡ list_any (λ other. name_number other == name_number id)
+        (map name_id_of predefined_numbers) }
+{
+    NameId::predefined().any(|other| other == id)
 }
 
 /// All of them, from the least.

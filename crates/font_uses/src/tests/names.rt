@@ -1,6 +1,6 @@
 //! A linter of names.
 
-use crate::names::{all_predefined, is_predefined, predefined_count};
+use crate::names::{all_predefined, is_listed, is_predefined, predefined_count};
 use font_types::NameId;
 use std::test::Fail;
 
@@ -17,6 +17,7 @@ fn predefined(rt: HostRuntime) -> Result<(), Fail> {
         (26, false),
     ] {
         assert_eq!(rt; is_predefined(NameId::new(number)), is, "{number}");
+        assert_eq!(rt; is_listed(NameId::new(number)), is, "{number}");
     }
     Ok(())
 }
