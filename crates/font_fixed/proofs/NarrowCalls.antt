@@ -1,10 +1,11 @@
 -- What callers name once of narrowings: what lies from -1 to 1 stays there, and a whole number, or a widened one, comes
--- back.
-use Rattle.std.proofs.Common.{◌≡◌, ◌∙◌, ap, refl, lit<, ℤ, pos, neg_ℤ, ◌+ℤ◌, ◌*ℤ◌, ◌≤ℤ◌, ◌<ℤ◌, arith, w16, w32}
-use Rattle.std.proofs.lemmas.Int.{ints}
-use mir.Val.{SFits}
+-- back. Widened numbers of 16 bits have exact differences.
+use Rattle.std.proofs.Common.{◌≡◌, ◌∙◌, ap, refl, lit<, ℤ, pos, neg_ℤ, ◌+ℤ◌, ◌*ℤ◌, ◌-ℤ◌, ◌≤ℤ◌, ◌<ℤ◌, arith, w16, w32}
+use Rattle.std.proofs.Common.{w64}
+use Rattle.std.proofs.lemmas.Int.{ints, to_z-of_z}
+use mir.Val.{SFits, to_z, of_z}
 use Rattle.font_base.specs.Wrap.{wrap}
-use Rattle.font_base.specs.Wrap.Laws.{wrap-fits}
+use Rattle.font_base.specs.Wrap.Laws.{wrap-fits, wrap_same}
 use Rattle.font_decimal.specs.Near.{up}
 use Rattle.font_arithmetic.proofs.Calls.{narrowed_near, narrowed-wrap_times, up-times}
 use Rattle.font_arithmetic.proofs.Width16.{fits_16}
@@ -45,6 +46,13 @@ quarter_one = ap (wrap 16) (up-times (pos 16384) 4 (lit< tt)) ∙ fits_16 (pos 1
 pub quarter_back : (z : ℤ) → SFits w16 z → wrap 16 (up (z *ℤ pos 4) 4) ≡ z
 quarter_back z fits = ap (wrap 16) (up-times z 4 (lit< tt)) ∙ fits_16 z fits
 
+-- the difference of two widened numbers is exact
+pub quarter_difference : (a b : ℤ) → SFits w16 a → SFits w16 b
+    → wrap 32 ((b *ℤ pos 4) -ℤ (a *ℤ pos 4)) ≡ ((b -ℤ a) *ℤ pos 4)
+quarter_difference a b fits_a fits_b =
+    let spread : ((b *ℤ pos 4) -ℤ (a *ℤ pos 4)) ≡ ((b -ℤ a) *ℤ pos 4) = omega (arith, ints) in
+    ap (wrap 32) spread ∙ fits_32 ((b -ℤ a) *ℤ pos 4) (omega (arith, ints, fits_a, fits_b))
+
 -- ---- whole numbers
 
 -- of 16 bits, in 16.16
@@ -66,7 +74,22 @@ whole_as_26_6 z fits =
           omega (arith, ints, fits);
     })
 
+-- the same where 16.16 was exact
+pub units_as_26_6 : (z : ℤ) → SFits w16 z → wrap 22 (up (z *ℤ pos 65536) 1024) ≡ (z *ℤ pos 64)
+units_as_26_6 z fits =
+    let split : (z *ℤ pos 65536) ≡ ((z *ℤ pos 64) *ℤ pos 1024) = omega (arith, ints) in
+    ap (λ n. wrap 22 (up n 1024)) split ∙ ap (wrap 22) (up-times (z *ℤ pos 64) 1024 (lit< tt))
+    ∙ wrap-fits 22 (z *ℤ pos 64) (lit< tt) (record {
+      low = omega (arith, ints, fits);
+      high =
+          omega (arith, ints, fits);
+    })
+
 -- of 26 bits, in 26.6
+pub whole_again_26_6 : (z : ℤ) → neg_ℤ (pos 33554432) ≤ℤ z → z <ℤ pos 33554432 → wrap 26 (up (z *ℤ pos 64) 64) ≡ z
+whole_again_26_6 z low high =
+    ap (wrap 26) (up-times z 64 (lit< tt)) ∙ wrap-fits 26 z (lit< tt) (record { low = low; high = high })
+
 pub whole_back_26_6 : (z : ℤ) → neg_ℤ (pos 33554432) ≤ℤ z → z <ℤ pos 33554432
     → wrap 26 (up (wrap 32 (z *ℤ pos 64)) 64) ≡ z
 whole_back_26_6 z low high =
@@ -80,6 +103,17 @@ whole_back_26_6 z low high =
 pub whole_back_32 : (z : ℤ) → SFits w32 z → wrap 32 (up (z *ℤ pos 65536) 65536) ≡ z
 whole_back_32 z fits = ap (wrap 32) (up-times z 65536 (lit< tt)) ∙ fits_32 z fits
 
+pub whole_again_48 : (z : ℤ) → SFits w32 z → wrap 48 (up (z *ℤ pos 65536) 65536) ≡ z
+whole_again_48 z fits =
+    ap (wrap 48) (up-times z 65536 (lit< tt)) ∙ wrap-fits 48 z (lit< tt) (record {
+      low = omega (arith, ints, fits);
+      high = omega (arith, ints, fits);
+    })
+
+-- a number of 32 bits as one of 64
+pub as_64 : (z : ℤ) → SFits w32 z → to_z w64 (of_z w64 z) ≡ z
+as_64 z fits = to_z-of_z w64 z (omega (arith, ints, fits))
+
 pub whole_back_48 : (z : ℤ) → neg_ℤ (pos 140737488355328) ≤ℤ z → z <ℤ pos 140737488355328
     → wrap 48 (up (wrap 64 (z *ℤ pos 65536)) 65536) ≡ z
 whole_back_48 z low high =
@@ -88,6 +122,14 @@ whole_back_48 z low high =
           low;
       high = high;
     })
+
+-- ---- font units without a sign, from 32768 on, in 16.16
+
+pub wrapped_once_32 : (z : ℤ) → pos 2147483648 ≤ℤ z → z <ℤ pos 6442450944 → wrap 32 z ≡ (z -ℤ pos 4294967296)
+wrapped_once_32 z low high =
+    let turn : z ≡ ((z -ℤ pos 4294967296) +ℤ (pos 1 *ℤ pos 4294967296)) = omega (arith, ints) in
+    wrap_same 32 z (z -ℤ pos 4294967296) (pos 1) (lit< tt) turn
+    ∙ fits_32 (z -ℤ pos 4294967296) (omega (arith, ints, low, high))
 
 pub ruleset narrow_calls = (
   fixed_calls,
@@ -103,4 +145,10 @@ pub ruleset narrow_calls = (
   whole_back_26_6,
   whole_back_32,
   whole_back_48,
+  quarter_difference,
+  units_as_26_6,
+  whole_again_26_6,
+  whole_again_48,
+  as_64,
+  wrapped_once_32,
 )

@@ -20,5 +20,6 @@ pub use Rattle.font_geom.proofs.FixedCalls.{product_value, image_value}
 pub use Rattle.font_geom.proofs.BoundCalls.{bound_calls, fits_composed, fits_in_turn}
 pub use Rattle.font_geom.proofs.RingCalls
 pub use Rattle.font_geom.proofs.RingMatrices
-pub use Rattle.font_types.proofs.SumCalls.{sum_calls, sum_calls_16, running_total}
+pub use Rattle.font_types.proofs.SumCalls.{sum_calls, sum_calls_from, sum_calls_16, running_total}
+pub use Rattle.font_types.proofs.SumCalls.{running_total_from}
 pub use Rattle.font_types.specs.Json.Laws.{fixed_form, signed_form, unsigned_form, tag_form, version_form_of}

@@ -2,7 +2,7 @@
 //! segment.
 #![tactic(auto, using(font_types::proofs::Callers::fixed_calls))]
 
-ghost use Rattle.std.specs.Prelude.{◌≡◌, ◌≢◌, pos, ◌≤ℤ◌, ◌+ℤ◌, ◌-ℤ◌};
+ghost use Rattle.std.specs.Prelude.{◌≡◌, ◌≢◌, pos, ◌≤ℤ◌, ◌+ℤ◌, ◌-ℤ◌, ◌*ℤ◌};
 ghost use Rattle.font_types.specs.Wrap.{FitsBits};
 ghost use Rattle.font_types.specs.Fixed.{fixed_bits};
 ghost use Rattle.font_types.specs.F2Dot14.{f2dot14_bits};
@@ -30,6 +30,14 @@ pub fn kept(value: Fixed, least: Fixed, greatest: Fixed) -> Fixed
         → fixed_bits value ≤ℤ fixed_bits greatest → result ≡ value }
 {
     value.clamp(least, greatest)
+}
+
+/// How far the stored coordinate `b` is above `a`, exactly.
+#[tactic(auto, using(font_types::proofs::Callers::narrow_calls))]
+pub fn apart(a: F2Dot14, b: F2Dot14) -> Fixed
+    ensures { fixed_bits result ≡ ((f2dot14_bits b -ℤ f2dot14_bits a) *ℤ pos 4) }
+{
+    b.to_fixed() - a.to_fixed()
 }
 
 /// How far `b` is above `a`, exactly.

@@ -20,6 +20,21 @@ pub fn pen(steps: &[Point<Fixed>]) -> Point<Fixed>
     pen
 }
 
+/// Where a pen stands that starts somewhere.
+#[tactic(auto, using(font_types::proofs::Callers::sum_calls_from))]
+pub fn pen_from(start: Point<Fixed>, steps: &[Point<Fixed>]) -> Point<Fixed>
+    ensures x { fixed_bits result.x
+        ≡ wrap 32 (fixed_bits start.x +ℤ total (λ step. fixed_bits step.x) steps.now) }
+    ensures y { fixed_bits result.y
+        ≡ wrap 32 (fixed_bits start.y +ℤ total (λ step. fixed_bits step.y) steps.now) }
+{
+    let mut pen = start;
+    for step in steps {
+        pen += *step;
+    }
+    pen
+}
+
 /// A step there and the same step back.
 pub fn there_and_back(at: Fixed, step: Fixed) -> Fixed
     ensures { result ≡ at }
@@ -54,4 +69,16 @@ pub fn raised(height: i16, step: i16) -> i16
     ensures { result ≡ wrap 16 (height +ℤ step) }
 {
     height.wrapping_add(step)
+}
+
+/// The sum of steps in design units, wrapped once, whatever partial sums do.
+#[tactic(auto, using(font_types::proofs::Callers::sum_calls_16))]
+pub fn rise(steps: &[i16]) -> i16
+    ensures { result ≡ wrap 16 (total (λ step. step) steps.now) }
+{
+    let mut rise = 0i16;
+    for step in steps {
+        rise = rise.wrapping_add(*step);
+    }
+    rise
 }

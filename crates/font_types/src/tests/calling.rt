@@ -1,14 +1,16 @@
 //! A user of the library: a value of each family, and what its contracts say of numbers.
 
 ghost use Rattle.std.specs.Int.{w32};
-ghost use Rattle.std.specs.Prelude.{◌≡◌, IfSome};
+ghost use Rattle.std.specs.List.{list_any};
+ghost use Rattle.std.specs.Prelude.{◌≡◌, ◌==◌, IfSome, map};
 ghost use Rattle.font_types.specs.Fixed.{fixed_bits};
+ghost use Rattle.font_types.specs.NameId.{name_number, name_id_of, predefined_numbers};
 ghost use Rattle.font_types.specs.NumberReading.{ReadsBy};
 ghost use Rattle.font_types.specs.Operations.{ReadsAs};
 
 use crate::{
     BigEndian, DecimalFault, F2Dot14, F2Dot30, F4Dot12, F6Dot10, F26Dot6, F48Dot16, FWord, Fixed,
-    JsonScalar, MajorMinor, Matrix, Point, Scalar, Tag, Uint24, delta_sum,
+    JsonScalar, MajorMinor, Matrix, NameId, Point, Scalar, Tag, Uint24, delta_sum,
 };
 use std::test::Fail;
 
@@ -31,6 +33,14 @@ fn with_nothing_wide(x: F48Dot16) -> F48Dot16
     ensures { result ≡ x }
 {
     x - F48Dot16::ZERO
+}
+
+// Whether OpenType defines a name, by a closure.
+fn is_listed(id: NameId) -> bool
+    ensures { result ≡ list_any (λ other. name_number other == name_number id)
+        (map name_id_of predefined_numbers) }
+{
+    NameId::predefined().any(|other| other == id)
 }
 
 fn number_of(text: &str) -> Option<Fixed>
@@ -91,4 +101,10 @@ fn narrow_numbers_parsed(rt: HostRuntime) {
     assert!(rt; "1.5".parse() == Ok(F2Dot30::from_bits(1610612736)));
     assert!(rt; "2".parse::<F2Dot30>() == Err(DecimalFault::OutOfRange));
     assert!(rt; "+2".parse::<F4Dot12>() == Err(DecimalFault::Syntax));
+}
+
+#[test]
+fn listed(rt: HostRuntime) {
+    let are = [14, 15, 25, 26].map(|number| is_listed(NameId::new(number)));
+    assert!(rt; are == [true, false, true, false]);
 }

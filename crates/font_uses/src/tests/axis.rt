@@ -1,6 +1,6 @@
 //! An axis.
 
-use crate::axis::{Mapping, along, kept, on_segment, stored};
+use crate::axis::{Mapping, along, apart, kept, on_segment, stored};
 use font_types::{F2Dot14, Fixed};
 
 #[test]
@@ -30,4 +30,13 @@ fn mapped_along_a_segment(rt: HostRuntime) {
     assert!(rt; on_segment(Fixed::from_bits(0x8000), start, end) == Fixed::from_bits(0xA000));
     assert!(rt; on_segment(end.from, start, end) == end.to);
     assert!(rt; along(kept(Fixed::MAX, start.from, end.from), start, end) == end.to);
+}
+
+#[test]
+fn apart_by_four(rt: HostRuntime) {
+    assert_eq!(rt; apart(F2Dot14::NEG_ONE, F2Dot14::ONE), Fixed::from_i32(2));
+    assert_eq!(rt;
+        apart(F2Dot14::MAX, F2Dot14::MIN),
+        Fixed::from_bits(-0x3_FFFC)
+    );
 }

@@ -1,7 +1,7 @@
 //! Metrics with a tail.
 
-use crate::metrics::{advance, bearing, whole_again};
-use font_types::{FWord, GlyphId16, UfWord};
+use crate::metrics::{advance, bearing, in_16_16, whole_again, wide_again};
+use font_types::{FWord, Fixed, GlyphId16, UfWord};
 
 #[test]
 fn of_rows_and_tail(rt: HostRuntime) {
@@ -13,4 +13,11 @@ fn of_rows_and_tail(rt: HostRuntime) {
     }
     assert!(rt; bearing(&table, 2, GlyphId16::new(3)).is_none());
     assert!(rt; whole_again(FWord::new(-7)) == -7);
+}
+
+#[test]
+fn widened(rt: HostRuntime) {
+    assert!(rt; wide_again(i32::MIN) == -0x8000_0000);
+    assert!(rt; in_16_16(UfWord::new(32767)) == Fixed::from_i32(32767));
+    assert!(rt; in_16_16(UfWord::new(32769)) == Fixed::from_i32(-32767));
 }

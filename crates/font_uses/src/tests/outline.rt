@@ -1,6 +1,6 @@
 //! A walk over an outline.
 
-use crate::outline::{Placed, pen, raised, there_and_back, width};
+use crate::outline::{Placed, pen, pen_from, raised, rise, there_and_back, width};
 use font_types::{Fixed, Point};
 
 #[test]
@@ -14,4 +14,12 @@ fn walked(rt: HostRuntime) {
     });
     assert!(rt; width(&[first, last]) == Fixed::from_bits(0x1_0001) && last.glyph == 8);
     assert!(rt; raised(i16::MAX, 1) == i16::MIN);
+}
+
+#[test]
+fn summed(rt: HostRuntime) {
+    let at = |x, y| Point::new(Fixed::from_bits(x), Fixed::from_bits(y));
+    assert!(rt; pen_from(at(i32::MAX, 3), &[at(1, -4), at(0, 1)]) == at(i32::MIN, 0));
+    assert!(rt; rise(&[i16::MAX, 1, -1, 5, -32767]) == 5);
+    assert!(rt; rise(&[i16::MAX, 2]) == -32767);
 }
