@@ -9,29 +9,29 @@ use Rattle.fontval.proofs.CommandLemmas.{given_number}
 use Rattle.fontval.proofs.command.FixedType.read.Goals as goal
 
 pub returns-in-F2Dot14 : goal.returns-in-F2Dot14
-returns-in-F2Dot14 g c = given_number f2dot14_bits _ _ 2 16 14 c.from_decimal.result _ _ _ _ c.append_read.ensures
+returns-in-F2Dot14 g c = given_number f2dot14_bits _ _ 2 16 14 _ _ _ _ _ c.append_read.ensures
     (search rules) (ap fixed_row c.in-F2Dot14.is) refl
 
 pub returns-in-F4Dot12 : goal.returns-in-F4Dot12
-returns-in-F4Dot12 g c = given_number f4dot12_bits _ _ 2 16 12 c.from_decimal-in-F4Dot12.result _ _ _ _ c.append_read-in-F4Dot12.ensures
+returns-in-F4Dot12 g c = given_number f4dot12_bits _ _ 2 16 12 _ _ _ _ _ c.append_read-in-F4Dot12.ensures
     (search rules) (ap fixed_row c.in-F4Dot12.is) refl
 
 pub returns-in-F6Dot10 : goal.returns-in-F6Dot10
-returns-in-F6Dot10 g c = given_number f6dot10_bits _ _ 2 16 10 c.from_decimal-in-F6Dot10.result _ _ _ _ c.append_read-in-F6Dot10.ensures
+returns-in-F6Dot10 g c = given_number f6dot10_bits _ _ 2 16 10 _ _ _ _ _ c.append_read-in-F6Dot10.ensures
     (search rules) (ap fixed_row c.in-F6Dot10.is) refl
 
 pub returns-in-Fixed : goal.returns-in-Fixed
-returns-in-Fixed g c = given_number fixed_bits _ _ 4 32 16 c.from_decimal-in-Fixed.result _ _ _ _ c.append_read-in-Fixed.ensures
+returns-in-Fixed g c = given_number fixed_bits _ _ 4 32 16 _ _ _ _ _ c.append_read-in-Fixed.ensures
     (search rules) (ap fixed_row c.in-Fixed.is) refl
 
 pub returns-in-F26Dot6 : goal.returns-in-F26Dot6
-returns-in-F26Dot6 g c = given_number (λ bits. bits) _ _ 4 32 6 c.map.result _ _ _ _ c.append_read-in-F26Dot6.ensures
+returns-in-F26Dot6 g c = given_number (λ bits. bits) _ _ 4 32 6 _ _ _ _ _ c.append_read-in-F26Dot6.ensures
     (search rules) (ap fixed_row c.in-F26Dot6.is) refl
 
 pub returns-in-F48Dot16 : goal.returns-in-F48Dot16
-returns-in-F48Dot16 g c = given_number (λ bits. bits) _ _ 8 64 16 c.map-in-F48Dot16.result _ _ _ _ c.append_read-in-F48Dot16.ensures
+returns-in-F48Dot16 g c = given_number (λ bits. bits) _ _ 8 64 16 _ _ _ _ _ c.append_read-in-F48Dot16.ensures
     (search rules) (ap fixed_row c.in-F48Dot16.is) refl
 
 pub returns-in-F2Dot30 : goal.returns-in-F2Dot30
-returns-in-F2Dot30 g c = given_number f2dot30_bits _ _ 4 32 30 c.from_decimal-in-F2Dot30.result _ _ _ _ c.append_read-in-F2Dot30.ensures
+returns-in-F2Dot30 g c = given_number f2dot30_bits _ _ 4 32 30 _ _ _ _ _ c.append_read-in-F2Dot30.ensures
     (search rules) (ap fixed_row c.in-F2Dot30.is) refl
