@@ -6,7 +6,5 @@ pub mod Steps
 pub mod Texts
 pub mod Laws
 pub mod Group
-pub mod Width16
-pub mod Width32
-pub mod Width64
 pub mod Calls
+pub mod Rules

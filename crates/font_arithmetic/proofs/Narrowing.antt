@@ -1,22 +1,22 @@
 -- Numbers rounded with ties upwards, as code has it: half a step is added, and what lies above the greatest multiple of
 -- a step is dropped.
-use Rattle.std.proofs.Common.{◌≡◌, ◌∙◌, ap, refl, subst, ℕ, ◌+◌, ◌-◌, ◌*◌, ◌^◌, ◌<◌, ◌≤◌, Bool, ℤ, pos, neg_ℤ, ◌+ℤ◌}
-use Rattle.std.proofs.Common.{◌*ℤ◌, ◌≤ℤ◌, ◌<ℤ◌, arith, IsTrue, nat_lt, ◌&&◌, ◌==◌, inl, inr}
+use Rattle.std.proofs.Common.{◌≡◌, ◌∙◌, ap, refl, subst, ℕ, ◌+◌, ◌-◌, ◌*◌, ◌/◌, ◌^◌, ◌<◌, ◌≤◌, Bool, ℤ, pos, neg_ℤ}
+use Rattle.std.proofs.Common.{◌+ℤ◌, ◌*ℤ◌, ◌-ℤ◌, ◌≤ℤ◌, ◌<ℤ◌, arith, IsTrue, nat_lt, ◌&&◌, ◌==◌, inl, inr}
 use Rattle.std.proofs.lemmas.Int.{ints, by_lt_z, to_z-of_z}
 use Rattle.std.proofs.lemmas.Nat.{pow_pos}
 use Rattle.std.proofs.lemmas.Bool.{cases_lt, eqb-true, ltb-true}
 use Rattle.std.specs.Cmp.{first_so, second_so}
 use Rattle.std.specs.Int.{Width}
-use mir.Val.{SFits, to_z, of_z, bits}
+use mir.Val.{SFits, to_z, of_z, bits, hbits}
 use lib.Signed.{shr_z}
 use Rattle.font_base.specs.Integers.{sum-times, product-times}
 use Rattle.font_base.specs.Wrap.{half_range, wrap, FitsBits}
 use Rattle.font_base.specs.Wrap.Laws.{wrap_is, wrap_gives, wrap-wrap}
-use Rattle.font_base.proofs.Widths.{bits_positive}
+use Rattle.font_base.proofs.Widths.{bits_positive, half_range-bits}
 use Rattle.font_decimal.specs.Near.{Up}
 use Rattle.font_decimal.proofs.Integers.{neg-times, times_monotone}
 use Rattle.font_decimal.proofs.Near.{up_gives}
-use Rattle.font_arithmetic.specs.Operations.{IsNarrowed, IsNearestWhole, IsFloor}
+use Rattle.font_arithmetic.specs.Operations.{IsNarrowed, IsNearestWhole, IsFloor, IsFract}
 use Rattle.font_arithmetic.proofs.Shifts.{shr_low, shr_high, shr_fits}
 
 -- s is x and a half step, some turns of v * d away, and q * d is the greatest multiple of d that is not above s
@@ -75,6 +75,14 @@ fits_high d h s q high at_least = by_lt_z q (pos h) (λ less. less) (λ more.
   where
     above_high : (s high p : ℤ) → s <ℤ high → high ≤ℤ p → p ≤ℤ s → ⊥
     above_high s high p below over at_least = omega (arith, ints, below, over, at_least)
+
+-- a floor is at least a whole number that the number is at least
+floor_at_least : (f h : ℕ) (x r : ℤ) → neg_ℤ (pos (h * 2 ^ f)) ≤ℤ x → IsFloor f x r → neg_ℤ (pos (h * 2 ^ f)) ≤ℤ r
+floor_at_least f h x r low floor =
+    let high : x <ℤ ((floor.whole *ℤ pos (2 ^ f)) +ℤ pos (2 ^ f)) =
+    subst (λ (y : ℤ). x <ℤ (y +ℤ pos (2 ^ f))) floor.bits floor.high in
+    rw floor.bits (subst (λ (y : ℤ). y ≤ℤ (floor.whole *ℤ pos (2 ^ f))) (neg-times (pos h) (2 ^ f))
+    (times_monotone (neg_ℤ (pos h)) floor.whole (2 ^ f) (fits_low (2 ^ f) h x floor.whole low high)))
 
 -- numbers of w bits are v bits of whole numbers, each of d steps, and a half step above is `half` of these
 abbrev pub is_width_split : ℕ → ℕ → ℕ → ℕ → Bool
@@ -148,9 +156,10 @@ is_narrowed w v d half x q it some low high =
     (record { fits = fits; turns = given.turns; differs = refl }))
 
 -- the same where the bits of the whole number are kept
-pub floor_is_nearest_whole : (w f half : ℕ) (x s r : ℤ) → 0 < w → IsTrue (is_width_split w (w - f) (2 ^ f) half)
-    → s ≡ wrap w (x +ℤ pos half) → IsFloor f s r → IsNearestWhole w f x r
-floor_is_nearest_whole w f half x s r some test is floor =
+pub floor_is_nearest_whole : (w f : ℕ) (x s r : ℤ) → s ≡ wrap w (x +ℤ pos (2 ^ f / 2)) → IsFloor f s r
+    → IsTrue (is_width_split w (w - f) (2 ^ f) (2 ^ f / 2)) → 0 < w → IsNearestWhole w f x r
+floor_is_nearest_whole w f x s r is floor test some =
+    let half = 2 ^ f / 2 in
     let v = w - f in
     let it = width_split w v (2 ^ f) half test in
     let given = wrap_is w (x +ℤ pos half) some in
@@ -167,10 +176,6 @@ floor_is_nearest_whole w f half x s r some test is floor =
       high = high;
     } in
     let s_low : neg_ℤ (pos (half_range v * 2 ^ f)) ≤ℤ s = rw (is, ← it.top) given.fits.low in
-    let q_low = fits_low (2 ^ f) (half_range v) s q s_low high in
-    let r_low : neg_ℤ (pos (half_range v * 2 ^ f)) ≤ℤ (q *ℤ pos (2 ^ f)) =
-    subst (λ (y : ℤ). y ≤ℤ (q *ℤ pos (2 ^ f))) (neg-times (pos (half_range v)) (2 ^ f))
-    (times_monotone (neg_ℤ (pos (half_range v))) q (2 ^ f) q_low) in
     let s_high : s <ℤ pos (half_range w) = rw is given.fits.high in
     let whole = q +ℤ (given.turns *ℤ pos (2 ^ v)) in
     let spread : (whole *ℤ pos (2 ^ f)) ≡ (r +ℤ (given.turns *ℤ pos (2 ^ w))) =
@@ -178,7 +183,10 @@ floor_is_nearest_whole w f half x s r some test is floor =
     (ap (λ y. (q *ℤ pos (2 ^ f)) +ℤ y) (product-times given.turns (pos (2 ^ v)) (pos (2 ^ f)))) in
     let nearest = up_from (2 ^ f) (2 ^ v) x s q above in
     let wrapped = wrap_gives w (whole *ℤ pos (2 ^ f)) r some (record {
-      fits = record { low = rw (floor.bits, it.top) r_low; high = under r s (pos (half_range w)) floor.low s_high };
+      fits = record {
+        low = rw it.top (floor_at_least f (half_range v) s r s_low floor);
+        high = under r s (pos (half_range w)) floor.low s_high;
+      };
       turns = given.turns;
       differs = spread;
     }) in
@@ -192,11 +200,32 @@ floor_is_nearest_whole w f half x s r some test is floor =
     under : (r s top : ℤ) → r ≤ℤ s → s <ℤ top → r <ℤ top
     under r s top below high = omega (arith, ints, below, high)
 
+-- a number without what it has above its floor
+pub sub_fract_fits : (w : Width) (f : ℕ) (x m : ℤ) → IsFract f x m → SFits w x → SFits w m
+    → IsTrue (is_width_split (bits w) (bits w - f) (2 ^ f) (2 ^ f / 2))
+    → SFits w (to_z w (of_z w x) -ℤ to_z w (of_z w m))
+sub_fract_fits w f x m fract fits small test =
+    let it = width_split (bits w) (bits w - f) (2 ^ f) (2 ^ f / 2) test in
+    let half = half_range-bits w in
+    let low : neg_ℤ (pos (half_range (bits w - f) * 2 ^ f)) ≤ℤ x =
+    rw (← it.top) (omega (arith, ints, fits, half, pow_pos (hbits w))) in
+    let least = floor_at_least f (half_range (bits w - f)) x fract.floor low fract.is_floor in
+    let most = fract.is_floor.low in
+    rw (to_z-of_z w x fits, to_z-of_z w m small)
+    (omega (arith, ints, fits, half, it.top, fract.rest, least, most))
+
+pub sub_fract_is_floor : (w : Width) (f : ℕ) (x m : ℤ) → IsFract f x m → SFits w x → SFits w m
+    → IsTrue (is_width_split (bits w) (bits w - f) (2 ^ f) (2 ^ f / 2))
+    → IsFloor f x (to_z w (of_z w (to_z w (of_z w x) -ℤ to_z w (of_z w m))))
+sub_fract_is_floor w f x m fract fits small test =
+    let same : fract.floor ≡ (x -ℤ m) = omega (arith, ints, fract.rest) in
+    rw (to_z-of_z w _ (sub_fract_fits w f x m fract fits small test), to_z-of_z w x fits, to_z-of_z w m small)
+    (subst (IsFloor f x) same fract.is_floor)
+
 -- a half step is added, and the sum shifted to the right
-pub shr_is_narrowed : (w : Width) (v d half : ℕ) (x s : ℤ) → IsTrue (is_width_split (bits w) v d half) → SFits w s
-    → s ≡ wrap (bits w) (x +ℤ pos half)
-    → IsNarrowed v x d (to_z w (of_z w (shr_z (to_z w (of_z w s)) d)))
-shr_is_narrowed w v d half x s test fits is =
+pub shr_is_narrowed : (w : Width) (v d half : ℕ) (x s : ℤ) → SFits w s → s ≡ wrap (bits w) (x +ℤ pos half)
+    → IsTrue (is_width_split (bits w) v d half) → IsNarrowed v x d (to_z w (of_z w (shr_z (to_z w (of_z w s)) d)))
+shr_is_narrowed w v d half x s fits is test =
     let it = width_split (bits w) v d half test in
     let some = some_steps (bits w) v d half it in
     rw (to_z-of_z w s fits, to_z-of_z w (shr_z s d) (shr_fits w s d fits))

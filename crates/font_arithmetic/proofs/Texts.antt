@@ -62,19 +62,20 @@ abbrev pub most_places : ℕ → ℕ
 most_places f = f * 3 / 10 + 1
 
 -- so many bytes are room for each number of h bits beside its sign, f of them fraction, where no width asks for more:
--- beside a sign, a point
--- and the places there are enough for the digits of the whole part
+-- beside a sign, a point and the places there are enough for the digits of the whole part
 abbrev pub is_room : ℕ → ℕ → ℕ → Bool
 is_room h f room =
     nat_lt (2 ^ f) (10 ^ most_places f) && (nat_lt (2 ^ h) (10 ^ (room - (most_places f + 2)) * 2 ^ f)
     && nat_lt (most_places f + 2) room)
 
-pub padded_has_room : (w : Width) (b : ℤ) (f room : ℕ) (pad : Pad) (old : List ℕ) (result : Option ℕ)
-    → 2 ^ hbits w ≤ 2 ^ 63 → SFits w b
-    → IsSome result ↔ (length (padded_text (shortest_text b f) pad) ≤ length old) → max room pad.width ≤ length old
-    → IsTrue (is_room (hbits w) f room)
-    → IsSome result
-padded_has_room w b f room pad old result small fits long enough test =
+-- so a column of so many bytes, or of the width that is asked for, is not refused
+abbrev pub HasRoom : Width → Type 0
+HasRoom w = (b : ℤ) (f room : ℕ) (pad : Pad) (old : List ℕ) (result : Option ℕ)
+    → IsSome result ↔ (length (padded_text (shortest_text b f) pad) ≤ length old) → SFits w b
+    → max room pad.width ≤ length old → IsTrue (is_room (hbits w) f room) → 2 ^ hbits w ≤ 2 ^ 63 → IsSome result
+
+pub padded_has_room : (w : Width) → HasRoom w
+padded_has_room w b f room pad old result long fits enough test small =
     let p : ℕ = most_places f in
     let digits : ℕ = room - (p + 2) in
     let narrow : Bool = nat_lt (2 ^ f) (10 ^ p) in

@@ -1,11 +1,12 @@
--- What std's calls on the bits of a number give, in the words of `wrap`.
-use Rattle.std.proofs.Common.{◌≡◌, ◌∙◌, sym, ap, refl, subst, ℕ, ◌*◌, ◌/◌, ◌%◌, ◌^◌, ◌<◌, ◌≤◌, ℤ, pos, neg_ℤ, ◌+ℤ◌}
-use Rattle.std.proofs.Common.{◌-ℤ◌, ◌*ℤ◌, unsigned_abs, arith}
+-- What std's calls on the bits of a number give, in the words of `wrap`. Goals have the bits n of a width, and m = 2^n,
+-- as literals.
+use Rattle.std.proofs.Common.{◌≡◌, ◌∙◌, sym, ap, refl, subst, ℕ, ◌+◌, ◌-◌, ◌*◌, ◌/◌, ◌%◌, ◌^◌, ◌<◌, ◌≤◌, ℤ, pos}
+use Rattle.std.proofs.Common.{neg_ℤ, ◌+ℤ◌, ◌-ℤ◌, ◌*ℤ◌, unsigned_abs, arith}
 use Rattle.std.proofs.lemmas.Int.{ints, to_z-of_z, wrapping_add_is, wrapping_sub_is, wrapping_mul_onto, wrapping_neg_is}
 use Rattle.std.proofs.lemmas.Nat.{pow_pos, div-add-mod'}
 use Rattle.std.proofs.Math.Nat.{mod-lt}
 use Rattle.std.proofs.Math.Facts.{Fits-of_z, Fits-of_lt, sfits_to_z}
-use Rattle.std.specs.Int.{Width, int_wrapping_add, int_wrapping_sub, int_wrapping_neg, int_wrap, int_rem_euclid}
+use Rattle.std.specs.Int.{Width, int_wrapping_neg, int_wrap, int_rem_euclid}
 use borrow.Author.Differences.{abs_is}
 use mir.Val.{SFits, to_z, of_z, bits, hbits}
 use Rattle.font_base.specs.Wrap.{wrap}
@@ -14,35 +15,38 @@ use Rattle.font_base.proofs.Widths.{half_range-bits, int_wrap-wrap, to_z-wrap, b
 use Rattle.font_arithmetic.specs.Operations.{IsFract, fract_of}
 
 -- a sum that wraps
-pub wrapping_add-wrap : (w : Width) (x y : ℤ) → SFits w x → SFits w y → int_wrapping_add w x y ≡ wrap (bits w) (x +ℤ y)
-wrapping_add-wrap w x y f g = wrapping_add_is w x y f g ∙ int_wrap-wrap w (x +ℤ y)
+pub wrapping_add-wrap : (w : Width) (n m : ℕ) (x y : ℤ) → n ≡ bits w → m ≡ 2 ^ n → SFits w x → SFits w y
+    → to_z w ((of_z w x + of_z w y) % m) ≡ wrap n (x +ℤ y)
+wrapping_add-wrap w n m x y is all f g = rw (all, is) (wrapping_add_is w x y f g ∙ int_wrap-wrap w (x +ℤ y))
 
-pub wrapping_sub-wrap : (w : Width) (x y : ℤ) → SFits w x → SFits w y → int_wrapping_sub w x y ≡ wrap (bits w) (x -ℤ y)
-wrapping_sub-wrap w x y f g = wrapping_sub_is w x y f g ∙ int_wrap-wrap w (x -ℤ y)
+pub wrapping_sub-wrap : (w : Width) (n m : ℕ) (x y : ℤ) → n ≡ bits w → m ≡ 2 ^ n → SFits w x → SFits w y
+    → to_z w ((of_z w x + (m - of_z w y)) % m) ≡ wrap n (x -ℤ y)
+wrapping_sub-wrap w n m x y is all f g = rw (all, is) (wrapping_sub_is w x y f g ∙ int_wrap-wrap w (x -ℤ y))
 
 -- a negated number that wraps
-pub wrapping_neg-wrap : (w : Width) (x r : ℤ) → SFits w x → SFits w r → r ≡ int_wrapping_neg w (to_z w (of_z w x))
-    → to_z w (of_z w r) ≡ wrap (bits w) (neg_ℤ x)
-wrapping_neg-wrap w x r f g is =
-    to_z-of_z w r g ∙ is ∙ ap (int_wrapping_neg w) (to_z-of_z w x f) ∙ wrapping_neg_is w x f ∙ int_wrap-wrap w (neg_ℤ x)
+pub wrapping_neg-wrap : (w : Width) (n : ℕ) (x r : ℤ) → n ≡ bits w → SFits w x → SFits w r
+    → r ≡ int_wrapping_neg w (to_z w (of_z w x)) → to_z w (of_z w r) ≡ wrap n (neg_ℤ x)
+wrapping_neg-wrap w n x r all f g is =
+    rw all (to_z-of_z w r g ∙ is ∙ ap (int_wrapping_neg w) (to_z-of_z w x f) ∙ wrapping_neg_is w x f
+    ∙ int_wrap-wrap w (neg_ℤ x))
 
 -- a magnitude that is read as a signed number
-pub wrapping_abs-wrap : (w : Width) (x r : ℤ) → SFits w x → r ≡ to_z w (unsigned_abs (to_z w (of_z w x)))
-    → to_z w (of_z w r) ≡ wrap (bits w) (pos (unsigned_abs x))
-wrapping_abs-wrap w x r f is =
+pub wrapping_abs-wrap : (w : Width) (n : ℕ) (x r : ℤ) → n ≡ bits w → SFits w x
+    → r ≡ to_z w (unsigned_abs (to_z w (of_z w x))) → to_z w (of_z w r) ≡ wrap n (pos (unsigned_abs x))
+wrapping_abs-wrap w n x r all f is =
     let same : r ≡ to_z w (unsigned_abs x) = is ∙ ap (λ y. to_z w (unsigned_abs y)) (to_z-of_z w x f) in
     let half = half_range-bits w in
     let whole = two_halves (bits w) (bits_positive w) in
     let below : unsigned_abs x < 2 ^ bits w = omega (arith, ints, f, half, whole, abs_is x, pow_pos (hbits w)) in
-    to_z-of_z w r (subst (SFits w) (sym same) (sfits_to_z (Fits-of_lt below))) ∙ same ∙ to_z-wrap w
-    (unsigned_abs x) below
+    rw all (to_z-of_z w r (subst (SFits w) (sym same) (sfits_to_z (Fits-of_lt below))) ∙ same
+    ∙ to_z-wrap w (unsigned_abs x) below)
 
 -- a number times a constant
-pub wrapping_mul-wrap : (w : Width) (x : ℤ) (d : ℕ) → SFits w x → SFits w (pos d) → to_z w (of_z w x * d % 2 ^ bits w)
-    ≡ wrap (bits w) (x *ℤ pos d)
-wrapping_mul-wrap w x d f g =
-    wrapping_mul_onto w (of_z w x) (pos d) (Fits-of_z f).fits g ∙ ap (λ y. int_wrap w (y *ℤ pos d)) (to_z-of_z w x f)
-    ∙ int_wrap-wrap w (x *ℤ pos d)
+pub wrapping_mul-wrap : (w : Width) (n m : ℕ) (x : ℤ) (d : ℕ) → n ≡ bits w → m ≡ 2 ^ n → SFits w x → SFits w (pos d)
+    → to_z w (of_z w x * d % m) ≡ wrap n (x *ℤ pos d)
+wrapping_mul-wrap w n m x d is all f g =
+    rw (all, is) (wrapping_mul_onto w (of_z w x) (pos d) (Fits-of_z f).fits g
+    ∙ ap (λ y. int_wrap w (y *ℤ pos d)) (to_z-of_z w x f) ∙ int_wrap-wrap w (x *ℤ pos d))
 
 -- the low bits of a magnitude
 pub low_bits-wrap : (w : Width) (m : ℕ) (r : ℤ) → r ≡ to_z w (m % 2 ^ bits w) → r ≡ wrap (bits w) (pos m)

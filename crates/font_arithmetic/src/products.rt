@@ -1,5 +1,5 @@
 //! Products and quotients of fixed-point numbers of 32 bits, over their bits.
-#![tactic(auto, using(crate::proofs::Width32::code_32, crate::proofs::Quotients::signed_code))]
+#![tactic(auto, using(crate::proofs::Rules::number_code, crate::proofs::Quotients::signed_code))]
 
 ghost use Rattle.std.specs.Prelude.{◌≡◌, ◌-◌, ◌^◌, ◌<◌, ◌≤◌, unsigned_abs};
 ghost use Rattle.std.specs.Int.{is_negative};

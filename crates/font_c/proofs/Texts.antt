@@ -12,7 +12,7 @@ use Rattle.font_decimal.specs.Padding.{padded_text, unsigned_body}
 use Rattle.font_decimal.specs.declared.padding.Pad.{Pad}
 use Rattle.font_decimal.specs.Shortest.{shortest_text}
 use Rattle.font_decimal.proofs.Padded.{padded_length, padded_fits}
-use Rattle.font_decimal.proofs.Printed.{length-shortest_body-lt}
+use Rattle.font_decimal.proofs.Printed.{length-shortest_body-lt, shortest_is_decimal}
 
 pub decimal_not_empty : {text : List ℕ} → IsDecimal text → 0 < length text
 decimal_not_empty given =
@@ -49,3 +49,5 @@ printed_is_short b f fits few = length-shortest_body-lt b f (omega (arith, ints,
 pub short_text_fits : (text : List ℕ) (pad : Pad) (n : ℕ) → length (unsigned_body text) < 22
     → max 22 pad.width ≤ n → length (padded_text text pad) ≤ n
 short_text_fits text pad n short enough = padded_fits text pad 22 n short enough
+
+pub ruleset text_calls = (shortest_is_decimal, decimal_not_empty, padded_not_empty, short_text_fits)

@@ -69,7 +69,7 @@ pub fn put_text(text: &[u8], out: &mut [u8]) -> usize
 }
 
 /// The same with the shortest decimal of `bits / 2^f`.
-#[tactic(auto, using(font_decimal::proofs::Printed::shortest_is_decimal, crate::proofs::Texts::decimal_not_empty))]
+#[tactic(auto, using(crate::proofs::Texts::text_calls))]
 pub fn put_decimal(bits: i64, f: u32, out: &mut [u8]) -> usize
     requires { (6 ≤ f) × (f ≤ 30) }
     ensures { WritesDecimal bits f result out.old out.new }
@@ -90,7 +90,7 @@ pub fn put_padded(bits: i64, f: u32, pad: &FontPad, out: &mut [u8]) -> usize
 
 // Writes a decimal to the front of `out`, padded, and returns the number of bytes, or 0 where `out`
 // is too short.
-#[tactic(auto, using(crate::proofs::Texts::short_text_fits, crate::proofs::Texts::padded_not_empty))]
+#[tactic(auto, using(crate::proofs::Texts::text_calls))]
 fn put_padded_text(text: &str, pad: &Pad, out: &mut [u8]) -> usize
     requires decimal { IsDecimal text.now }
     requires ascii { pad.now.fill < 128 }

@@ -1,2 +1,1 @@
 pub mod FixedCalls
-pub mod NarrowCalls

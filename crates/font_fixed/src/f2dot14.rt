@@ -1,5 +1,5 @@
 //! The fixed-point number of 16 bits with 14 bits of fraction.
-#![tactic(auto, using(font_arithmetic::proofs::Width16::code_16))]
+#![tactic(auto, using(font_arithmetic::proofs::Rules::number_code))]
 
 ghost use Rattle.std.specs.Prelude.{◌≡◌, ◌<◌, ◌≤◌, ◌↔◌, ℤ, pos, neg_ℤ, ◌+ℤ◌, ◌-ℤ◌, ◌*ℤ◌, Some};
 ghost use Rattle.std.specs.Prelude.{IsSome, IfSome, IfNone, refl, length, max, unsigned_abs};

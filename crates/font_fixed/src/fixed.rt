@@ -1,5 +1,5 @@
 //! The fixed-point number of 32 bits with 16 bits of fraction.
-#![tactic(auto, using(font_arithmetic::proofs::Width32::code_32))]
+#![tactic(auto, using(font_arithmetic::proofs::Rules::number_code))]
 
 ghost use Rattle.std.specs.Prelude.{◌≡◌, ◌+◌, ◌-◌, ◌^◌, ◌<◌, ◌≤◌, ◌↔◌, ℤ, pos, neg_ℤ, ◌+ℤ◌, ◌-ℤ◌};
 ghost use Rattle.std.specs.Prelude.{◌*ℤ◌, Some, IsSome, IfSome, IfNone, refl, length, max};

@@ -1,5 +1,5 @@
 //! The fixed-point number of 32 bits with 30 bits of fraction.
-#![tactic(auto, using(font_arithmetic::proofs::Width32::code_32))]
+#![tactic(auto, using(font_arithmetic::proofs::Rules::number_code))]
 
 ghost use Rattle.std.specs.Prelude.{◌≡◌, ◌<◌, ◌≤◌, ◌↔◌, ℤ, pos, neg_ℤ, ◌+ℤ◌, ◌-ℤ◌, Some, IsSome};
 ghost use Rattle.std.specs.Prelude.{IfSome, IfNone, refl, length, max, unsigned_abs};

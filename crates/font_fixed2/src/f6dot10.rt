@@ -1,5 +1,5 @@
 //! The fixed-point number of 16 bits with 10 bits of fraction.
-#![tactic(auto, using(font_arithmetic::proofs::Width16::code_16))]
+#![tactic(auto, using(font_arithmetic::proofs::Rules::number_code))]
 
 ghost use Rattle.std.specs.Prelude.{◌≡◌, ◌<◌, ◌≤◌, ◌↔◌, ℤ, pos, neg_ℤ, ◌+ℤ◌, ◌-ℤ◌, Some, IsSome};
 ghost use Rattle.std.specs.Prelude.{IfSome, IfNone, refl, length, max, unsigned_abs};

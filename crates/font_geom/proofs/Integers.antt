@@ -1,5 +1,5 @@
 -- The whole numbers obey the laws of a ring.
-use Rattle.std.proofs.Common.{◌≡◌, ◌∙◌, ap, pos, ◌+ℤ◌, ◌*ℤ◌, arith}
+use Rattle.std.proofs.Common.{◌∙◌, ap, pos, ◌+ℤ◌, ◌*ℤ◌, arith}
 use Rattle.std.proofs.lemmas.Int.{ints}
 use Rattle.std.proofs.Math.IntN.{*ℤ_comm, *ℤ-one, *ℤ-zero, zero-*ℤ}
 use lib.IntN.{one}

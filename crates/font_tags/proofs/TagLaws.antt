@@ -1,7 +1,7 @@
 -- Laws of tags: the two judges agree, and a printed text is that of one tag alone.
 use Rattle.std.proofs.Common.{◌≡◌, ◌≢◌, ◌∙◌, sym, ap, subst, refl, ℕ, suc, ◌+◌, ◌-◌, ◌/◌, ◌%◌, ◌<◌, ◌≤◌, ◌⊎◌, inl, inr}
 use Rattle.std.proofs.Common.{true, IsTrue, List, [], ◌∷◌, length, get_or, Result, Ok, Err, IsOk, ◌↔◌, nat_lt, ◌==◌}
-use Rattle.std.proofs.Common.{◌++◌, replicate, IsUtf8, lit<, arith}
+use Rattle.std.proofs.Common.{replicate, IsUtf8, lit<, arith}
 use Rattle.std.proofs.lemmas.Bool.{cases_lt, le-leb, lt-ltb, le-ltb, cond-true, cond-false, and_from, false≢true}
 use Rattle.std.proofs.lemmas.Bool.{ltb-true, and_parts}
 use Rattle.std.proofs.lemmas.List.{get_or_past}

@@ -8,11 +8,9 @@ pub use Rattle.font_decimal.proofs.Printed.{printed_is_read, printed_reads_once,
 pub use Rattle.font_decimal.proofs.Printed.{zero_ends_no_fraction}
 pub use Rattle.font_arithmetic.proofs.Group
 pub use Rattle.font_arithmetic.proofs.Laws
-pub use Rattle.font_arithmetic.proofs.Width16.{calls_16}
-pub use Rattle.font_arithmetic.proofs.Width32.{calls_32}
-pub use Rattle.font_arithmetic.proofs.Width64.{calls_64}
+pub use Rattle.font_arithmetic.proofs.Calls.{calls_16, calls_32, calls_64}
 pub use Rattle.font_fixed.proofs.FixedCalls.{fixed_calls}
-pub use Rattle.font_fixed.proofs.NarrowCalls.{narrow_calls}
+pub use Rattle.font_types.proofs.NarrowCalls.{narrow_calls}
 pub use Rattle.font_tags.proofs.TagLaws.{validated_good, good_is_utf8, tag_calls}
 pub use Rattle.font_tags.proofs.TagLaws
 pub use Rattle.font_tags.proofs.VersionLaws.{compatible_calls}

@@ -7,8 +7,8 @@ use mir.Val.{SFits, to_z, of_z}
 use Rattle.font_base.proofs.Widths.{int_wrap-wrap}
 use Rattle.font_base.specs.Wrap.{wrap}
 use Rattle.font_base.specs.Wrap.Laws.{wrap-add_left, wrap-add_right}
-use Rattle.font_arithmetic.proofs.Width16.{fits_16, sum_16}
-use Rattle.font_arithmetic.proofs.Width64.{fits_64}
+use Rattle.font_arithmetic.proofs.Calls.{fits_16, fits_64}
+use Rattle.font_arithmetic.proofs.Wrapped.{wrapping_add-wrap}
 use Rattle.font_fixed.specs.declared.fixed.Fixed.{Fixed}
 use Rattle.font_fixed.specs.Fixed.{fixed_bits}
 use Rattle.font_fixed.proofs.FixedCalls.{fixed_calls}
@@ -97,4 +97,4 @@ pub sum_onto_16 : (m : ℕ) (y : ℤ) → m < 65536 → SFits w16 y
     → to_z w16 ((m + of_z w16 y) % 65536) ≡ wrap 16 (to_z w16 m +ℤ y)
 sum_onto_16 m y below fits = wrapping_add_onto w16 m y below fits ∙ int_wrap-wrap w16 (to_z w16 m +ℤ y)
 
-pub ruleset sum_calls_16 = (sum_16, running_words, none_16, running_16, sum_onto_16)
+pub ruleset sum_calls_16 = (wrapping_add-wrap, running_words, none_16, running_16, sum_onto_16)

@@ -1,5 +1,5 @@
-//! An axis of a design space: coordinates between -1 and 1, narrowed for storing, and mapped along a
-//! segment.
+//! An axis of a design space: coordinates between -1 and 1, narrowed for storing, and mapped along
+//! a segment.
 #![tactic(auto, using(font_types::proofs::Callers::fixed_calls))]
 
 ghost use Rattle.std.specs.Prelude.{◌≡◌, ◌≢◌, pos, ◌≤ℤ◌, ◌+ℤ◌, ◌-ℤ◌, ◌*ℤ◌};

@@ -123,8 +123,10 @@ impl Summary {
             → view value.now ≡ summary_form summary → result ≡ Ok summary }
         ensures read { IsSummaryRead
             (IsMemberRead ⟦<Fixed as JsonScalar>⟧.form.reads (codes "revision") (view value.now))
-            (IsMemberRead ⟦<LongDateTime as JsonScalar>⟧.form.reads (codes "created") (view value.now))
-            (IsMemberRead ⟦<FWord as JsonScalar>⟧.form.reads (codes "x_min") (view value.now)) result }
+            (IsMemberRead ⟦<LongDateTime as JsonScalar>⟧.form.reads (codes "created")
+            (view value.now))
+            (IsMemberRead ⟦<FWord as JsonScalar>⟧.form.reads (codes "x_min") (view value.now))
+            result }
     {
         Ok(Summary {
             revision: Fixed::from_json(member_of(value, "revision")?)?,

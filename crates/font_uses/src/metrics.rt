@@ -11,7 +11,7 @@ ghost use Rattle.font_uses.specs.Metrics.{advance_place, bearing_place};
 use crate::reader::value_at;
 use font_types::{F48Dot16, FWord, Fixed, GlyphId16, UfWord};
 
-/// The advance of a glyph, in a table of so many rows. Glyphs of the tail have that of the last row.
+/// The advance of a glyph, in a table of so many rows. Glyphs of the tail have the last row's.
 pub fn advance(table: &[u8], rows: u16, glyph: GlyphId16) -> Option<UfWord>
     requires { 0 < rows }
     ensures end { IsSome result

@@ -38,8 +38,8 @@ fn a_turn_and_two(rt: HostRuntime) {
 
 #[test]
 fn a_turn_behind_a_stretch(rt: HostRuntime) {
-    // the point is (3, 1/2): stretched (7, 1/2), and then turned (1/2, 9); turned (1/2, 5), and then
-    // stretched (2, 5)
+    // the point is (3, 1/2): stretched (7, 1/2), and then turned (1/2, 9); turned (1/2, 5), and
+    // then stretched (2, 5)
     let stretch = FontMatrix {
         xx: 2 * ONE,
         yx: 0,

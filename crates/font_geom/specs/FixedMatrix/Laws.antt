@@ -2,7 +2,6 @@
 use Rattle.std.proofs.Common.{◌≡◌, ◌∙◌, sym, ap, pos, refl}
 use Rattle.font_base.specs.Wrap.{wrap}
 use Rattle.font_decimal.specs.Near.{near}
-use Rattle.font_fixed.specs.declared.fixed.Fixed.{Fixed}
 use Rattle.font_fixed.specs.Fixed.{fixed_bits, fixed_of}
 use Rattle.font_geom.specs.FixedMatrix.{wrapped_product, ProductsAssociate}
 

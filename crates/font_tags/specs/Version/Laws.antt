@@ -1,5 +1,5 @@
 -- That a pair of numbers and its four bytes determine each other, and that equality joins no two pairs.
-use Rattle.std.proofs.Common.{◌≡◌, ◌∙◌, sym, ap, refl, ℕ, ◌^◌, ◌+◌, Bool, true, ◌&&◌, ◌==◌, nat_eq, nat_lt, pos, List}
+use Rattle.std.proofs.Common.{◌≡◌, ◌∙◌, sym, ap, refl, ℕ, ◌^◌, ◌+◌, true, ◌&&◌, ◌==◌, nat_eq, nat_lt, pos, List}
 use Rattle.std.proofs.Common.{◌++◌, IsTrue, take, drop, length, arith}
 use Rattle.std.specs.Bool.{Decides}
 use Rattle.std.specs.Cmp.{unsigned_Decides}

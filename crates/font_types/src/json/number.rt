@@ -86,7 +86,8 @@ impl JsonScalar for GlyphId16 {
 }
 
 impl JsonScalar for GlyphId24 {
-    ghost form = { unsigned_form 24 glyph24_number (λ x y same. ap glyph24_of (same_uint24 x.0 y.0 same)) };
+    ghost form = { unsigned_form 24 glyph24_number
+        (λ x y same. ap glyph24_of (same_uint24 x.0 y.0 same)) };
 
     fn to_json(self, _alloc: Global) -> Result<Value, JsonFault> {
         Ok(Value::from(self.to_u32()))
@@ -146,7 +147,8 @@ impl JsonScalar for Offset16 {
 }
 
 impl JsonScalar for Offset24 {
-    ghost form = { unsigned_form 24 offset24_number (λ x y same. ap offset24_of (same_uint24 x.0 y.0 same)) };
+    ghost form = { unsigned_form 24 offset24_number
+        (λ x y same. ap offset24_of (same_uint24 x.0 y.0 same)) };
 
     fn to_json(self, _alloc: Global) -> Result<Value, JsonFault> {
         Ok(Value::from(self.to_u32()))

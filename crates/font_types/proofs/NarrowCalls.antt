@@ -1,16 +1,65 @@
 -- What callers name once of narrowings: what lies from -1 to 1 stays there, and a whole number, or a widened one, comes
 -- back. Widened numbers of 16 bits have exact differences.
-use Rattle.std.proofs.Common.{◌≡◌, ◌∙◌, ap, refl, lit<, ℤ, pos, neg_ℤ, ◌+ℤ◌, ◌*ℤ◌, ◌-ℤ◌, ◌≤ℤ◌, ◌<ℤ◌, arith, w16, w32}
-use Rattle.std.proofs.Common.{w64}
-use Rattle.std.proofs.lemmas.Int.{ints, to_z-of_z}
+use Rattle.std.proofs.Common.{◌≡◌, ◌∙◌, sym, ap, refl, lit<, ℕ, ◌-◌, ◌*◌, ◌^◌, ◌<◌, ℤ, pos, neg_ℤ, ◌+ℤ◌, ◌*ℤ◌, ◌-ℤ◌}
+use Rattle.std.proofs.Common.{◌≤ℤ◌, ◌<ℤ◌, arith, w16, w32, w64}
+use Rattle.std.proofs.lemmas.Int.{ints, by_lt_z, to_z-of_z}
+use Rattle.std.proofs.lemmas.Nat.{pow_pos}
 use mir.Val.{SFits, to_z, of_z}
-use Rattle.font_base.specs.Wrap.{wrap}
-use Rattle.font_base.specs.Wrap.Laws.{wrap-fits, wrap_same}
-use Rattle.font_decimal.specs.Near.{up}
-use Rattle.font_arithmetic.proofs.Calls.{narrowed_near, narrowed-wrap_times, up-times}
-use Rattle.font_arithmetic.proofs.Width16.{fits_16}
-use Rattle.font_arithmetic.proofs.Width32.{fits_32}
+use Rattle.font_base.specs.Integers.{sum-times, product-times}
+use Rattle.font_base.specs.Wrap.{wrap, FitsBits}
+use Rattle.font_base.specs.Wrap.Laws.{wrap-fits, wrap_is, wrap_same}
+use Rattle.font_decimal.specs.Near.{Up, up}
+use Rattle.font_decimal.proofs.Integers.{neg-times, times_monotone}
+use Rattle.font_decimal.proofs.Near.{up_is, up_gives}
+use Rattle.font_arithmetic.specs.Operations.{least, greatest, narrowed}
+use Rattle.font_arithmetic.proofs.Calls.{fits_16, fits_32}
 use Rattle.font_fixed.proofs.FixedCalls.{fixed_calls}
+
+-- ---- of any width
+
+pub up-times : (q : ℤ) (d : ℕ) → 0 < d → up (q *ℤ pos d) d ≡ q
+up-times q d some = sym (up_gives (q *ℤ pos d) d q some (record {
+  low = omega (arith, ints);
+  high = omega (arith, ints, sum-times q (pos 1) (pos d), some);
+}))
+
+-- what lies between two whole numbers of steps is rounded to what lies between them
+up_at_least : (n a : ℤ) (d : ℕ) (q : ℤ) → 0 < d → Up n d q → (a *ℤ pos d) ≤ℤ n → a ≤ℤ q
+up_at_least n a d q some nearest low = by_lt_z q a (λ less.
+    let step : ((q +ℤ pos 1) *ℤ pos d) ≤ℤ (a *ℤ pos d) = times_monotone (q +ℤ pos 1) a d (omega (arith, ints, less)) in
+    let above = nearest.high in
+    absurd (omega (arith, ints, some, low, step, above))) (λ from. from)
+
+up_at_most : (n c : ℤ) (d : ℕ) (q : ℤ) → 0 < d → Up n d q → n ≤ℤ (c *ℤ pos d) → q ≤ℤ c
+up_at_most n c d q some nearest high = by_lt_z c q (λ more.
+    let step : ((c +ℤ pos 1) *ℤ pos d) ≤ℤ (q *ℤ pos d) = times_monotone (c +ℤ pos 1) q d (omega (arith, ints, more)) in
+    let below = nearest.low in
+    absurd (omega (arith, ints, some, high, step, below, sum-times c (pos 1) (pos d)))) (λ to. to)
+
+-- so from the least number of v bits to the greatest nothing is wrapped
+pub narrowed_near : (v d : ℕ) (n : ℤ) → 0 < v → 0 < d → (least v *ℤ pos d) ≤ℤ n → n ≤ℤ (greatest v *ℤ pos d)
+    → Up n d (narrowed v n d)
+narrowed_near v d n wide some low high =
+    let nearest = up_is n d some in
+    let from = up_at_least n (least v) d (up n d) some nearest low in
+    let to = up_at_most n (greatest v) d (up n d) some nearest high in
+    let positive = pow_pos (v - 1) in
+    let fits : FitsBits v (up n d) = record { low = from; high = omega (arith, ints, to, positive) } in
+    rw (wrap-fits v (up n d) wide fits) nearest
+
+-- a whole number of steps, wrapped to the bits of both, comes back as it would be wrapped alone
+pub narrowed-wrap_times : (u v d : ℕ) (q : ℤ) → 0 < u → 0 < v → 2 ^ u ≡ 2 ^ v * d → 0 < d
+    → narrowed v (wrap u (q *ℤ pos d)) d ≡ wrap v q
+narrowed-wrap_times u v d q long wide split some =
+    let whole = wrap_is u (q *ℤ pos d) long in
+    let turns : ℤ = neg_ℤ whole.turns *ℤ pos (2 ^ v) in
+    let unwound : (turns *ℤ pos d) ≡ neg_ℤ (whole.turns *ℤ pos (2 ^ u)) =
+    product-times (neg_ℤ whole.turns) (pos (2 ^ v)) (pos d) ∙ ap (λ n. neg_ℤ whole.turns *ℤ pos n) (sym split)
+    ∙ neg-times whole.turns (2 ^ u) in
+    let back : wrap u (q *ℤ pos d) ≡ ((q +ℤ turns) *ℤ pos d) =
+    omega (arith, ints, whole.differs, unwound, sum-times q turns (pos d)) in
+    ap (λ n. narrowed v n d) back ∙ ap (wrap v) (up-times (q +ℤ turns) d some)
+    ∙ wrap_same v (q +ℤ turns) q (neg_ℤ whole.turns) wide refl
 
 -- ---- 16.16 to 2.14
 
