@@ -36,7 +36,6 @@ pub fn low_bits(n: i64) -> i32
 }
 
 // `n / 2^f` rounded to the nearest whole number, ties away from zero.
-#[tactic(auto, using(crate::proofs::Steps::shifted_is_near))]
 fn rounded_shift(n: i64, f: u32) -> i64
     requires fraction { (6 ≤ f) × (f ≤ 30) }
     requires room { unsigned_abs n ≤ 2 ^ 62 }
