@@ -207,7 +207,7 @@ fn write_byte<W: fmt::Write>(f: &mut fmt::Formatter<W>, byte: u8) -> fmt::Result
     ensures { WritesOnOk W.write_str_gives f.old result (byte_text byte) f.new }
 {
     match byte {
-        0x20..=0x7E => write!(f, "{}", char::from(byte)),
+        0x20..=0x7E => f.write_str(char::from(byte).encode_utf8(&mut [0; 4])),
         _ => write!(f, "{{0x{byte:02X}}}"),
     }
 }

@@ -11,4 +11,4 @@ returns-in_default g c =
       | in_default-via-else-byte-lt32+else-byte-lt127 w ↦ inr (omega arith)
     ] in
     hidden_written _ _ _ _ c.in_radix.result c.laid_out.result c.args.byte c.ranges.byte.fits hidden c.in_radix.ensures
-    c.laid_out.ensures c.write-in_default.ensures.writes
+    c.laid_out.ensures c.write.ensures.writes
