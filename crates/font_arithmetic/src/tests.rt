@@ -14,7 +14,7 @@ fn products(rt: HostRuntime) {
         (i32::MIN, -0x1_0000, 16, i32::MIN),
         (0x6000_0000, 0x6000_0000, 30, -0x7000_0000),
     ] {
-        assert_eq!(rt; product(x, y, f), rounded);
+        assert!(rt; product(x, y, f) == rounded);
     }
 }
 
@@ -28,16 +28,13 @@ fn quotients(rt: HostRuntime) {
         (-1, -1, 0, i32::MAX),
         (i32::MAX, i32::MAX, 1, 1),
     ] {
-        assert_eq!(rt; mul_div(x, a, c), rounded);
+        assert!(rt; mul_div(x, a, c) == rounded);
     }
 }
 
 #[test]
 fn last_bits(rt: HostRuntime) {
-    assert_eq!(rt;
-        [2147483648, -2147483649, -1].map(low_bits),
-        [i32::MIN, i32::MAX, -1]
-    );
+    assert!(rt; [2147483648, -2147483649, -1].map(low_bits) == [i32::MIN, i32::MAX, -1]);
 }
 
 #[test]

@@ -62,10 +62,10 @@ fn hashed_by_each_byte(rt: HostRuntime) {
 fn printed_by_value(rt: HostRuntime) -> Result<(), Fail> {
     let field = BigEndian::<Int24>::new([0xFF, 0xFF, 0xFB]);
     let text = format!(in rt.alloc(); "{field} {field:?}")?;
-    assert_eq!(rt; text.as_str(), "-5 Int24(-5)");
+    assert!(rt; text.as_str() == "-5 Int24(-5)");
     for &(first, text) in &[(0x00, "2"), (0x01, "258"), (0x7F, "32514"), (0x80, "32770")] {
         let field = BigEndian::<u16>::new([first, 2]);
-        assert_eq!(rt; format!(in rt.alloc(); "{field:?}")?.as_str(), text);
+        assert!(rt; format!(in rt.alloc(); "{field:?}")?.as_str() == text);
     }
     Ok(())
 }

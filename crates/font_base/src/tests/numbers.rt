@@ -14,7 +14,7 @@ fn signed_bytes_of_24_bits(rt: HostRuntime) {
         (-8388608, [0x80, 0x00, 0x00]),
     ] {
         assert!(rt; Int24::new(number).to_be_bytes() == bytes);
-        assert_eq!(rt; Int24::from_be_bytes(bytes).to_i32(), number);
+        assert!(rt; Int24::from_be_bytes(bytes).to_i32() == number);
     }
 }
 
@@ -27,7 +27,7 @@ fn signed_bytes_of_many_numbers(rt: HostRuntime) {
             let sign = if high < 0x80 { 0 } else { 0xFF };
             let number = i32::from_be_bytes([sign, high, middle, high ^ middle]);
             assert!(rt; Int24::new(number).to_be_bytes() == bytes);
-            assert_eq!(rt; Int24::from_be_bytes(bytes).to_i32(), number);
+            assert!(rt; Int24::from_be_bytes(bytes).to_i32() == number);
         }
     }
 }
@@ -40,7 +40,7 @@ fn unsigned_bytes_of_24_bits(rt: HostRuntime) {
         (0, [0x00, 0x00, 0x00]),
     ] {
         assert!(rt; Uint24::new(number).to_be_bytes() == bytes);
-        assert_eq!(rt; Uint24::from_be_bytes(bytes).to_u32(), number);
+        assert!(rt; Uint24::from_be_bytes(bytes).to_u32() == number);
     }
 }
 
@@ -84,7 +84,7 @@ fn text_of_24_bits(rt: HostRuntime) -> Result<(), Fail> {
     ] {
         let (unsigned, signed) = (Uint24::new(unsigned), Int24::new(number));
         let shown = format!(in rt.alloc(); "{unsigned} {unsigned:?}, {signed} {signed:?}")?;
-        assert_eq!(rt; shown.as_str(), text);
+        assert!(rt; shown.as_str() == text);
     }
     Ok(())
 }
@@ -94,7 +94,7 @@ fn text_of_24_bits(rt: HostRuntime) -> Result<(), Fail> {
 fn text_with_flags(rt: HostRuntime) -> Result<(), Fail> {
     let (number, negative) = (Uint24::new(5), Int24::new(-5));
     let text = format!(in rt.alloc(); "{number:4}|{number:<3}|{negative:04}")?;
-    assert_eq!(rt; text.as_str(), "   5|5  |-005");
+    assert!(rt; text.as_str() == "   5|5  |-005");
     Ok(())
 }
 
@@ -136,7 +136,7 @@ fn raw_bytes_of_wide_numbers(rt: HostRuntime) {
 #[test]
 fn lengths(rt: HostRuntime) {
     assert!(rt; <[u8; 4]>::from_slice(&BYTES[..4]) == Some([0xFF, 0xFE, 0xFD, 0xFC]));
-    assert_eq!(rt; <[u8; 4] as BeByteArray>::LEN, 4);
+    assert!(rt; <[u8; 4] as BeByteArray>::LEN == 4);
     assert!(rt; u8::RAW_BYTE_LEN == 1 && i8::RAW_BYTE_LEN == 1 && u16::RAW_BYTE_LEN == 2);
     assert!(rt; i16::RAW_BYTE_LEN == 2 && Uint24::RAW_BYTE_LEN == 3 && Int24::RAW_BYTE_LEN == 3);
     assert!(rt; u32::RAW_BYTE_LEN == 4 && i32::RAW_BYTE_LEN == 4 && i64::RAW_BYTE_LEN == 8);
@@ -146,10 +146,7 @@ fn lengths(rt: HostRuntime) {
 fn text_of_a_number_too_large(rt: HostRuntime) -> Result<(), Fail> {
     let fault = Uint24::try_from(16777216usize).err().ok_or("refused")?;
     let text = format!(in rt.alloc(); "{fault} {fault:?}")?;
-    assert_eq!(rt;
-        text.as_str(),
-        "failed to convert usize value into Uint24. TryFromUint24Error"
-    );
+    assert!(rt; text.as_str() == "failed to convert usize value into Uint24. TryFromUint24Error");
     Ok(())
 }
 

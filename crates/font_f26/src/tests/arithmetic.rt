@@ -6,14 +6,14 @@ use crate::laws::f26dot6::{product_laws, quotient_laws};
 #[test]
 fn constants(rt: HostRuntime) {
     let ends = [F26Dot6::MIN, F26Dot6::MAX, F26Dot6::EPSILON];
-    assert_eq!(rt; ends.map(F26Dot6::to_bits), [i32::MIN, i32::MAX, 1]);
+    assert!(rt; ends.map(F26Dot6::to_bits) == [i32::MIN, i32::MAX, 1]);
     let units = [
         F26Dot6::ZERO,
         F26Dot6::default(),
         F26Dot6::ONE,
         F26Dot6::NEG_ONE,
     ];
-    assert_eq!(rt; units.map(F26Dot6::to_bits), [0, 0, 64, -64]);
+    assert!(rt; units.map(F26Dot6::to_bits) == [0, 0, 64, -64]);
 }
 
 #[test]
@@ -25,10 +25,7 @@ fn products(rt: HostRuntime) {
         (i32::MIN, -64, i32::MIN),
     ] {
         let answers = product_laws(F26Dot6::from_bits(x), F26Dot6::from_bits(y));
-        assert_eq!(rt;
-            [answers[0], answers[1]].map(F26Dot6::to_bits),
-            [product; 2]
-        );
+        assert!(rt; [answers[0], answers[1]].map(F26Dot6::to_bits) == [product; 2]);
     }
 }
 
@@ -43,10 +40,7 @@ fn quotients(rt: HostRuntime) {
         (i32::MIN, -1, 0),
     ] {
         let answers = quotient_laws(F26Dot6::from_bits(x), F26Dot6::from_bits(y));
-        assert_eq!(rt;
-            [answers[0], answers[1]].map(F26Dot6::to_bits),
-            [quotient, x]
-        );
+        assert!(rt; [answers[0], answers[1]].map(F26Dot6::to_bits) == [quotient, x]);
     }
 }
 
@@ -61,20 +55,17 @@ fn whole_numbers(rt: HostRuntime) {
         (i32::MAX, i32::MIN, -33554432),
     ] {
         let number = F26Dot6::from_bits(bits);
-        assert_eq!(rt;
-            [number.round().to_bits(), number.to_i32()],
-            [rounded, whole]
-        );
+        assert!(rt; [number.round().to_bits(), number.to_i32()] == [rounded, whole]);
     }
     let numbers = [-3, 0x200_0000].map(F26Dot6::from_i32);
-    assert_eq!(rt; numbers.map(F26Dot6::to_bits), [-192, i32::MIN]);
+    assert!(rt; numbers.map(F26Dot6::to_bits) == [-192, i32::MIN]);
 }
 
 #[test]
 fn parts(rt: HostRuntime) {
     let number = F26Dot6::from_bits(-97);
     let parts = [number.floor(), number.fract(), number.abs()];
-    assert_eq!(rt; parts.map(F26Dot6::to_bits), [-128, 31, 97]);
+    assert!(rt; parts.map(F26Dot6::to_bits) == [-128, 31, 97]);
     assert!(rt; number.to_be_bytes() == [0xFF, 0xFF, 0xFF, 0x9F]);
 }
 
@@ -85,7 +76,7 @@ fn assigning(rt: HostRuntime) {
     number *= F26Dot6::from_i32(2);
     number /= F26Dot6::from_i32(8);
     number -= F26Dot6::ONE;
-    assert_eq!(rt; number.to_bits(), -32);
+    assert!(rt; number.to_bits() == -32);
 }
 
 #[test]
@@ -101,9 +92,9 @@ fn sums_and_differences(rt: HostRuntime) {
     ] {
         let [x, y] = [x, y].map(F26Dot6::from_bits);
         let sums = [x + y, x.wrapping_add(y), x.saturating_add(y)].map(F26Dot6::to_bits);
-        assert_eq!(rt; sums, [wrapped, wrapped, nearest]);
+        assert!(rt; sums == [wrapped, wrapped, nearest]);
         let rests = [x - -y, x.wrapping_sub(-y), x.saturating_sub(-y)].map(F26Dot6::to_bits);
-        assert_eq!(rt; rests, [wrapped, wrapped, nearest]);
+        assert!(rt; rests == [wrapped, wrapped, nearest]);
         let checked = if wrapped == nearest {
             Some(wrapped)
         } else {

@@ -8,10 +8,7 @@ use std::test::Fail;
 #[test]
 fn sums(rt: HostRuntime) -> Result<(), Fail> {
     let (half, step) = (Fixed::from_bits(0x8000), Fixed::EPSILON);
-    assert_eq!(rt;
-        [half + step, step - half].map(Fixed::to_bits),
-        [0x8001, -0x7FFF]
-    );
+    assert!(rt; [half + step, step - half].map(Fixed::to_bits) == [0x8001, -0x7FFF]);
     assert!(rt; half.checked_add(half) == Some(Fixed::ONE));
     assert!(rt; Fixed::ONE.max(Fixed::NEG_ONE) == Fixed::ONE.clone()?);
     Ok(())
@@ -28,7 +25,7 @@ fn products(rt: HostRuntime) {
         (-0x8000_0000, -0x8000_0000, 0),
     ] {
         let answers = product_laws(Fixed::from_bits(x), Fixed::from_bits(y));
-        assert_eq!(rt; [answers[0], answers[3]].map(Fixed::to_bits), [product; 2]);
+        assert!(rt; [answers[0], answers[3]].map(Fixed::to_bits) == [product; 2]);
     }
 }
 
@@ -50,7 +47,7 @@ fn quotients(rt: HostRuntime) {
         (-6062080, 185, -0x8000_0000),
     ] {
         let answers = quotient_laws(Fixed::from_bits(x), Fixed::from_bits(y));
-        assert_eq!(rt; [answers[0], answers[1]].map(Fixed::to_bits), [quotient; 2]);
+        assert!(rt; [answers[0], answers[1]].map(Fixed::to_bits) == [quotient; 2]);
     }
 }
 
@@ -59,10 +56,7 @@ fn products_and_quotients_in_one_step(rt: HostRuntime) {
     let by_zero = Fixed::ZERO.mul_div(Fixed::NEG_ONE, Fixed::ZERO);
     let of_max = Fixed::MAX.mul_div(Fixed::MAX, Fixed::EPSILON);
     let of_min = Fixed::MIN.mul_div(Fixed::MIN, Fixed::from_bits(-1));
-    assert_eq!(rt;
-        [by_zero, of_max, of_min].map(Fixed::to_bits),
-        [-0x7FFF_FFFF, 1, 0]
-    );
+    assert!(rt; [by_zero, of_max, of_min].map(Fixed::to_bits) == [-0x7FFF_FFFF, 1, 0]);
 }
 
 #[test]
@@ -74,19 +68,19 @@ fn rounded(rt: HostRuntime) {
         (-0x1_8000, -0x1_0000),
         (-0x1_8001, -0x2_0000),
     ] {
-        assert_eq!(rt; Fixed::from_bits(bits).round().to_bits(), rounded);
+        assert!(rt; Fixed::from_bits(bits).round().to_bits() == rounded);
     }
     let narrow = [0x7000, 0x1FFF, 0x2000, -0x2000, -0x2001, -0x6000].map(F2Dot14::from_bits);
-    assert_eq!(rt;
-        narrow.map(F2Dot14::round).map(F2Dot14::to_bits),
-        [-0x8000, 0, 0x4000, 0, -0x4000, -0x4000]
+    assert!(rt;
+        narrow.map(F2Dot14::round).map(F2Dot14::to_bits)
+            == [-0x8000, 0, 0x4000, 0, -0x4000, -0x4000]
     );
 }
 
 #[test]
 fn whole_numbers(rt: HostRuntime) {
     let numbers = [0x1_8000, 0x7FFF, -0x1_8000, -0x8001, 0x7FFF_FFFF].map(Fixed::from_bits);
-    assert_eq!(rt; numbers.map(Fixed::to_i32), [2, 0, -1, -1, -32768]);
+    assert!(rt; numbers.map(Fixed::to_i32) == [2, 0, -1, -1, -32768]);
     assert!(rt; Fixed::from_i32(-1) == Fixed::NEG_ONE && Fixed::from(1) == Fixed::ONE);
 }
 
@@ -102,19 +96,15 @@ fn wide_whole_numbers(rt: HostRuntime) {
         (0x100_0000_0000_4000, 1 << 56, 1 << 40, 0),
     ] {
         let number = F48Dot16::from_bits(bits);
-        assert_eq!(rt;
-            [number.round().to_bits(), number.to_i64()],
-            [rounded, whole]
-        );
-        assert_eq!(rt; number.to_i32(), narrow);
+        assert!(rt; [number.round().to_bits(), number.to_i64()] == [rounded, whole]);
+        assert!(rt; number.to_i32() == narrow);
     }
-    assert_eq!(rt;
+    assert!(rt;
         [
             F48Dot16::from_i64(1 << 40),
             F48Dot16::from_i64(1 << 47),
             F48Dot16::from_i32(i32::MIN)
-        ],
-        [
+        ] == [
             F48Dot16::from_bits(1 << 56),
             F48Dot16::MIN,
             F48Dot16::from_bits(-0x8000_0000_0000)
@@ -125,16 +115,13 @@ fn wide_whole_numbers(rt: HostRuntime) {
 #[test]
 fn parts(rt: HostRuntime) {
     let number = Fixed::from_bits(-0x1_8000);
-    assert_eq!(rt;
-        [number.floor(), number.fract()].map(Fixed::to_bits),
-        [-0x2_0000, 0x8000]
-    );
+    assert!(rt; [number.floor(), number.fract()].map(Fixed::to_bits) == [-0x2_0000, 0x8000]);
     let narrow = F2Dot14::from_bits(-0x6000);
     let parts = [narrow.floor(), narrow.fract(), narrow.abs()];
-    assert_eq!(rt; parts.map(F2Dot14::to_bits), [-0x8000, 0x2000, 0x6000]);
+    assert!(rt; parts.map(F2Dot14::to_bits) == [-0x8000, 0x2000, 0x6000]);
     let wide = F48Dot16::from_bits(-0x1_8001);
     let parts = [wide.floor(), wide.fract(), wide.abs()];
-    assert_eq!(rt; parts.map(F48Dot16::to_bits), [-0x2_0000, 0x7FFF, 0x1_8001]);
+    assert!(rt; parts.map(F48Dot16::to_bits) == [-0x2_0000, 0x7FFF, 0x1_8001]);
 }
 
 #[test]

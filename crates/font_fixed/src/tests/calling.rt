@@ -107,16 +107,13 @@ fn widened(number: F2Dot14) -> Fixed
 #[test]
 fn callers(rt: HostRuntime) -> Result<(), Fail> {
     let (half, two) = (Fixed::from_bits(0x8000), Fixed::from_i32(2));
-    assert_eq!(rt;
-        [unchanged(half), by_one(half), put_together(half)],
-        [half; 3]
-    );
+    assert!(rt; [unchanged(half), by_one(half), put_together(half)] == [half; 3]);
     let moved = [
         lerp(half, two, half),
         lerp(half, two, Fixed::ONE),
         lerp(two, two, half),
     ];
-    assert_eq!(rt; moved, [Fixed::from_bits(0x1_4000), two, two]);
+    assert!(rt; moved == [Fixed::from_bits(0x1_4000), two, two]);
     assert!(rt; printed_and_read(rt.alloc(), half)? == Ok(half));
     assert!(rt; &cell(half, &Pad::new(12)) == b"         0.5");
     Ok(())

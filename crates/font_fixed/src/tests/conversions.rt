@@ -33,14 +33,14 @@ fn widened(rt: HostRuntime) {
         Fixed::MIN.mul_i32(i32::MIN),
         Fixed::from_bits(-3).mul_i32(5),
     ];
-    assert_eq!(rt; wide.map(F48Dot16::to_bits), [-0x8000_0000, 1 << 62, -15]);
+    assert!(rt; wide.map(F48Dot16::to_bits) == [-0x8000_0000, 1 << 62, -15]);
 }
 
 #[test]
 fn wrapped_to_32_bits(rt: HostRuntime) {
     let wide = [2147483648, -2147483649, 0x1_8000].map(F48Dot16::from_bits);
     let narrow = [Fixed::MIN, Fixed::MAX, Fixed::from_bits(0x1_8000)];
-    assert_eq!(rt; wide.map(F48Dot16::to_fixed), narrow);
+    assert!(rt; wide.map(F48Dot16::to_fixed) == narrow);
 }
 
 #[test]
@@ -50,5 +50,5 @@ fn deltas(rt: HostRuntime) {
         F2Dot14::from_bits(0x2000).apply_delta(F48Dot16::from_bits(-32768)),
         Fixed::MIN.apply_delta(F48Dot16::MIN),
     ];
-    assert_eq!(rt; moved, [6442516480, 536838144, -9223512774343131136]);
+    assert!(rt; moved == [6442516480, 536838144, -9223512774343131136]);
 }

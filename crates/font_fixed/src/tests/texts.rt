@@ -12,7 +12,8 @@ where
     T: Copy + Display + Debug,
 {
     let forms = format!(in alloc; "{number}|{number:8}|{number:.0}|{number:+}|{number:?}")?;
-    Ok(forms.as_str().split('|').all(|form| form == text))
+    let texts = format!(in alloc; "{text}|{text}|{text}|{text}|{text}")?;
+    Ok(forms == texts)
 }
 
 #[test]
@@ -69,25 +70,30 @@ fn read(rt: HostRuntime) {
     assert!(rt; narrow == [F2Dot14::MAX, F2Dot14::MIN, F2Dot14::from_bits(19661)].map(Ok));
 }
 
+/// What a text is read as that has a digit over and over between its head and its tail.
+fn read_long(
+    alloc: Global,
+    (head, digit, count, tail): (&str, &str, usize, &str),
+) -> Result<Result<i32, DecimalFault>, AllocError> {
+    let digits = digit.repeat(alloc, count)?;
+    let text = format!(in alloc; "{head}{digits}{tail}")?;
+    Ok(Fixed::from_decimal(text.as_str()).map(Fixed::to_bits))
+}
+
 // Texts of thousands of digits, at both signs and around both ends.
 #[test]
 fn read_of_many_digits(rt: HostRuntime) -> Result<(), Fail> {
-    for &(head, digit, count, tail, ref read) in &[
-        ("", "0", 5000, "12.5", Ok(819200)),
-        ("0.", "0", 5000, "1", Ok(0)),
-        ("-0.", "0", 5000, "1", Ok(0)),
-        ("1", "0", 4999, "", Err(DecimalFault::OutOfRange)),
-        ("", "9", 4999, "x", Err(DecimalFault::Syntax)),
-        ("32767.99999237060546874", "9", 3000, "", Ok(i32::MAX)),
-        ("-32768.00000762939453124", "9", 3000, "", Ok(i32::MIN)),
-        ("0.00000762939453124", "9", 3000, "", Ok(0)),
+    for &(text, ref read) in &[
+        (("", "0", 5000, "12.5"), Ok(819200)),
+        (("0.", "0", 5000, "1"), Ok(0)),
+        (("-0.", "0", 5000, "1"), Ok(0)),
+        (("1", "0", 4999, ""), Err(DecimalFault::OutOfRange)),
+        (("", "9", 4999, "x"), Err(DecimalFault::Syntax)),
+        (("32767.99999237060546874", "9", 3000, ""), Ok(i32::MAX)),
+        (("-32768.00000762939453124", "9", 3000, ""), Ok(i32::MIN)),
+        (("0.00000762939453124", "9", 3000, ""), Ok(0)),
     ] {
-        let digits = digit.repeat(rt.alloc(), count)?;
-        let text = format!(in rt.alloc(); "{head}{digits}{tail}")?;
-        assert!(rt;
-            Fixed::from_decimal(text.as_str()).map(Fixed::to_bits) == *read,
-            "{head}"
-        );
+        assert!(rt; read_long(rt.alloc(), text)? == *read, "{}", text.0);
     }
     Ok(())
 }

@@ -20,7 +20,7 @@ fn roundings_of_4_12(rt: HostRuntime) {
         (-0x1800, -0x1000, -0x2000, 0x800),
         (0x7FFF, -0x8000, 0x7000, 0xFFF),
     ] {
-        assert_eq!(rt; roundings!(F4Dot12, bits), [rounded, floor, fract]);
+        assert!(rt; roundings!(F4Dot12, bits) == [rounded, floor, fract]);
     }
 }
 
@@ -33,7 +33,7 @@ fn roundings_of_6_10(rt: HostRuntime) {
         (-0x600, -0x400, -0x800, 0x200),
         (0x7FFF, -0x8000, 0x7C00, 0x3FF),
     ] {
-        assert_eq!(rt; roundings!(F6Dot10, bits), [rounded, floor, fract]);
+        assert!(rt; roundings!(F6Dot10, bits) == [rounded, floor, fract]);
     }
 }
 
@@ -46,7 +46,7 @@ fn roundings_of_2_30(rt: HostRuntime) {
         (-0x6000_0001, -0x8000_0000, -0x8000_0000, 0x1FFF_FFFF),
         (-1, 0, -0x4000_0000, 0x3FFF_FFFF),
     ] {
-        assert_eq!(rt; roundings!(F2Dot30, bits), [rounded, floor, fract]);
+        assert!(rt; roundings!(F2Dot30, bits) == [rounded, floor, fract]);
     }
 }
 

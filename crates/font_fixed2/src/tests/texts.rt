@@ -13,7 +13,7 @@ where
 {
     let forms = format!(in alloc; "{number}|{number:8}|{number:.0}|{number:+}|{number:?}")?;
     let texts = format!(in alloc; "{text}|{text}|{text}|{text}|{text}")?;
-    Ok(forms.as_str() == texts.as_str())
+    Ok(forms == texts)
 }
 
 #[test]

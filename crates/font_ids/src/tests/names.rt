@@ -93,7 +93,7 @@ fn predefined_again(rt: HostRuntime) -> Result<(), Fail> {
 #[test]
 fn reserved(rt: HostRuntime) {
     let reserved = [0, 255, 256, 65535].map(|number| NameId::new(number).is_reserved());
-    assert_eq!(rt; reserved, [true, true, false, false]);
+    assert!(rt; reserved == [true, true, false, false]);
 }
 
 #[test]

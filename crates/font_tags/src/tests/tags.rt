@@ -58,7 +58,13 @@ fn invalid(rt: HostRuntime) {
     }
 }
 
-// No flag of a format is heard.
+/// Whether a tag shows the text under any flags, which it does not hear.
+fn is_printed(alloc: Global, tag: Tag, text: &str) -> Result<bool, AllocError> {
+    let forms = format!(in alloc; "{tag}|{tag:8}|{tag:>10}|{tag:.0}|{tag:?}")?;
+    let texts = format!(in alloc; "{text}|{text}|{text}|{text}|Tag({text})")?;
+    Ok(forms == texts)
+}
+
 #[test]
 fn printed(rt: HostRuntime) -> Result<(), Fail> {
     for &(tag, text) in &[
@@ -68,12 +74,7 @@ fn printed(rt: HostRuntime) -> Result<(), Fail> {
         (0x00AB_FF7E, "{0x00}{0xAB}{0xFF}~"),
         (0x0000_0001, "{0x00}{0x00}{0x00}{0x01}"),
     ] {
-        let tag = Tag::from_u32(tag);
-        let forms = format!(in rt.alloc(); "{tag}|{tag:8}|{tag:>10}|{tag:.0}")?;
-        assert!(rt; forms.as_str().split('|').all(|form| form == text));
-        let shown = format!(in rt.alloc(); "{tag:?}")?;
-        let named = format!(in rt.alloc(); "Tag({text})")?;
-        assert!(rt; shown == named);
+        assert!(rt; is_printed(rt.alloc(), Tag::from_u32(tag), text)?);
     }
     Ok(())
 }
@@ -119,7 +120,7 @@ fn texts_of_faults(rt: HostRuntime) -> Result<(), Fail> {
             "Non-space character after first space ByteAfterSpace { pos: 3 }",
         ),
     ] {
-        assert_eq!(rt; format!(in rt.alloc(); "{fault} {fault:?}")?.as_str(), text);
+        assert!(rt; format!(in rt.alloc(); "{fault} {fault:?}")?.as_str() == text);
         assert!(rt; &fault.clone()? == fault);
     }
     Ok(())
@@ -143,7 +144,7 @@ fn every_byte_printed_at_each_place(rt: HostRuntime) -> Result<(), Fail> {
             let (front, back) = ("abcd".split_at(place).0, "abcd".split_at(place + 1).1);
             let text = format!(in rt.alloc(); "{front}{shown}{back}")?;
             let tag = format!(in rt.alloc(); "{}", Tag::new(&bytes))?;
-            assert_eq!(rt; tag.as_str(), text.as_str());
+            assert!(rt; tag.as_str() == text.as_str());
         }
     }
     Ok(())

@@ -34,9 +34,6 @@ fn mapped_along_a_segment(rt: HostRuntime) {
 
 #[test]
 fn apart_by_four(rt: HostRuntime) {
-    assert_eq!(rt; apart(F2Dot14::NEG_ONE, F2Dot14::ONE), Fixed::from_i32(2));
-    assert_eq!(rt;
-        apart(F2Dot14::MAX, F2Dot14::MIN),
-        Fixed::from_bits(-0x3_FFFC)
-    );
+    assert!(rt; apart(F2Dot14::NEG_ONE, F2Dot14::ONE) == Fixed::from_i32(2));
+    assert!(rt; apart(F2Dot14::MAX, F2Dot14::MIN) == Fixed::from_bits(-0x3_FFFC));
 }
