@@ -50,16 +50,12 @@ fn misprinted(numbers: &[(i64, u32, &'static str)]) -> Option<&'static str> {
 fn text_of_parts(
     alloc: Global,
     head: &str,
-    digit: char,
+    digit: &str,
     count: usize,
     tail: &str,
 ) -> Result<String, AllocError> {
-    let mut text = String::from_str(alloc, head)?;
-    for _ in 0..count {
-        text.push(digit)?;
-    }
-    text.push_str(tail)?;
-    Ok(text)
+    let digits = digit.repeat(alloc, count)?;
+    format!(in alloc; "{head}{digits}{tail}")
 }
 
 #[test]
@@ -190,16 +186,16 @@ fn reads_values_of_16_bits(rt: HostRuntime) {
 #[test]
 fn reads_texts_of_any_length(rt: HostRuntime) -> Result<(), Fail> {
     for &(head, digit, count, tail, f, ref want) in &[
-        ("0.00000762939453124", '9', 3000, "", 16, Ok(0)),
-        ("0.0078124", '9', 3000, "", 6, Ok(0)),
-        ("", '0', 5000, "12.5", 16, Ok(819200)),
-        ("0.", '0', 5000, "1", 16, Ok(0)),
-        ("-0.", '0', 5000, "1", 16, Ok(0)),
-        ("1", '0', 4999, "", 16, Err(DecimalFault::OutOfRange)),
-        ("", '9', 4999, "x", 16, Err(DecimalFault::Syntax)),
-        ("0.5", '0', 4999, "x", 16, Err(DecimalFault::Syntax)),
-        ("32767.99999237060546874", '9', 3000, "", 16, Ok(GREATEST)),
-        ("-32768.00000762939453124", '9', 3000, "", 16, Ok(LEAST)),
+        ("0.00000762939453124", "9", 3000, "", 16, Ok(0)),
+        ("0.0078124", "9", 3000, "", 6, Ok(0)),
+        ("", "0", 5000, "12.5", 16, Ok(819200)),
+        ("0.", "0", 5000, "1", 16, Ok(0)),
+        ("-0.", "0", 5000, "1", 16, Ok(0)),
+        ("1", "0", 4999, "", 16, Err(DecimalFault::OutOfRange)),
+        ("", "9", 4999, "x", 16, Err(DecimalFault::Syntax)),
+        ("0.5", "0", 4999, "x", 16, Err(DecimalFault::Syntax)),
+        ("32767.99999237060546874", "9", 3000, "", 16, Ok(GREATEST)),
+        ("-32768.00000762939453124", "9", 3000, "", 16, Ok(LEAST)),
     ] {
         let text = text_of_parts(rt.alloc(), head, digit, count, tail)?;
         assert!(rt; f == 6 || f == 16);
@@ -387,14 +383,16 @@ fn shown_and_read_in_order(rt: HostRuntime) -> Result<(), Fail> {
     Ok(())
 }
 
-// No flag of a format is heard.
+// Whether a number is printed as a text under any flags, which it does not hear.
+fn is_printed(alloc: Global, number: Shortest, text: &str) -> Result<bool, AllocError> {
+    let forms = format!(in alloc; "{number:8}|{number:.0}|{number:+}")?;
+    let texts = format!(in alloc; "{text}|{text}|{text}")?;
+    Ok(forms == texts)
+}
+
 #[test]
 fn prints_without_flags(rt: HostRuntime) -> Result<(), Fail> {
-    for &(bits, f, text) in &[(9830, 14, "0.6"), (-98304, 16, "-1.5")] {
-        let number = Shortest::new(bits, f);
-        let flagged = format!(in rt.alloc(); "{number:8}|{number:.0}|{number:+}")?;
-        let plain = format!(in rt.alloc(); "{text}|{text}|{text}")?;
-        assert!(rt; flagged.as_str() == plain.as_str());
-    }
+    assert!(rt; is_printed(rt.alloc(), Shortest::new(9830, 14), "0.6")?);
+    assert!(rt; is_printed(rt.alloc(), Shortest::new(-98304, 16), "-1.5")?);
     Ok(())
 }
