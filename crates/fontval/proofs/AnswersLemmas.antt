@@ -20,21 +20,13 @@ pub answered_more : (input left left' line output output' : List ℕ)
     → AppendsAnswer line output output'
     → IsAnsweredUpTo input left' (output' ++ 10 ∷ [])
 answered_more input left left' line output output' so_far next one = record {
-  completes = λ rest others.
-      let answer = one.text in
-      let all = so_far.completes (answer ++ 10 ∷ rest)
-      (rw next (record { text = answer; rest = rest; answers = one.answers; others = others; joined = refl })) in
-      let regrouped : (output' ++ 10 ∷ []) ++ rest ≡ output ++ (answer ++ 10 ∷ rest) =
-      rw one.appended (append_assoc (output ++ answer) (10 ∷ []) rest ∙ append_assoc output answer (10 ∷ rest)) in
-      let P : List ℕ → Type 0 = λ whole. Answers input whole in
-      subst P (sym regrouped) all;
+  completes = λ rest others. simp (one.appended, append_assoc) (so_far.completes (one.text ++ 10 ∷ rest)
+      (rw next (record { text = one.text; rest = rest; answers = one.answers; others = others; joined = refl })));
 }
 
 -- when no line is left, the whole input is answered
 pub answered_all : (input left output : List ℕ) → IsAnsweredUpTo input left output → lines_of left ≡ []
     → Answers input output
-answered_all input left output so_far none =
-    let P : List ℕ → Type 0 = λ whole. Answers input whole in
-    subst P (append-nil output) (so_far.completes [] (rw none refl))
+answered_all input left output so_far none = rw append-nil at (so_far.completes [] (rw none refl))
 
 pub ruleset answer_steps = (answered_none, answered_more, answered_all, only_answer)

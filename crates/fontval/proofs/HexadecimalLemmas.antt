@@ -8,7 +8,7 @@ use Rattle.std.specs.Str.{IsUtf8}
 use Rattle.std.specs.Prelude.{◌==◌}
 use Rattle.std.specs.List.{AllPass, onto_first, slice_split}
 use Rattle.std.specs.Result.{result_map_both}
-use Rattle.std.proofs.lemmas.List.Elements.{All-head, All-tail}
+use Rattle.std.proofs.lemmas.List.Splits.{slice_split_none}
 use Rattle.hex.specs.Hex.{decode_sized, encode_lower, is_hex_digit, lower_digits}
 use Rattle.hex.specs.declared.error.FromHexError.{FromHexError}
 use Rattle.hex.proofs.HexLemmas.{IsAscii-encode_with, IsOk-decode_sized}
@@ -39,25 +39,16 @@ digit_is_not_blank : (byte : ℕ) → is_hex_digit byte ≡ true → is_blank by
 digit_is_not_blank byte digit = rw
     (other_byte byte 32 refl digit, other_byte byte 9 refl digit, other_byte byte 13 refl digit) refl
 
-one_part : (text : List ℕ) → AllPass is_hex_digit text → slice_split is_blank text ≡ text ∷ []
-one_part [] all = refl
-one_part (byte ∷ rest) all =
-    rw (digit_is_not_blank byte (All-head (λ c. is_hex_digit c ≡ true) byte rest all))
-    (ap (onto_first byte) (one_part rest (All-tail (λ c. is_hex_digit c ≡ true) byte rest all)))
-
 digits_are_one_word : (text : List ℕ) → 0 < length text → AllPass is_hex_digit text → words_of text ≡ text ∷ []
 unfolding words_of
 digits_are_one_word [] some all = absurd (omega arith)
-digits_are_one_word (byte ∷ rest) some all = rw (one_part (byte ∷ rest) all) refl
+digits_are_one_word (byte ∷ rest) some all =
+    rw (slice_split_none is_blank (byte ∷ rest) (λ i d within. digit_is_not_blank (get_or (byte ∷ rest) i d) (all i d within))) refl
 
 -- what is decoded is the only word
 pub decoded_alone : (n : ℕ) (text bytes : List ℕ) → 0 < n → Ok bytes ≡ hexadecimal n text
     → Ok bytes ≡ only_bytes n (words_of text)
-decoded_alone n text bytes some found = judged (decode_sized text n) refl found where
-  judged : (d : Result (List ℕ) FromHexError) → decode_sized text n ≡ d → Ok bytes ≡ result_map_both (λ b. b)
-      (λ fault. NotHexadecimal) d → Ok bytes ≡ only_bytes n (words_of text)
-  judged (Ok all) is same =
-      let ok : IsOk (decode_sized text n) = rw is refl in
-      let digits = (IsOk-decode_sized text n).0 ok in
-      rw (digits_are_one_word text (omega (arith, digits.0)) digits.1, is) same
-  judged (Err fault) is same = absurd (let e = same in cc)
+decoded_alone n text bytes some found =
+    let decoded : IsOk (decode_sized text n) = grind arith in
+    let digits = (IsOk-decode_sized text n).0 decoded in
+    rw (digits_are_one_word text (omega (arith, digits.0)) digits.1) found

@@ -1,11 +1,13 @@
 -- The first byte that passes a test, sought in blocks.
-use Rattle.std.proofs.Common.{◌≡◌, ℕ, zero, suc, ◌+◌, ◌%◌, ◌^◌, ◌<◌, ◌≤◌, eqb, Bool, true, false, cond, List, [], ◌∷◌}
-use Rattle.std.proofs.Common.{length, map, replicate, take, drop, refl, ap, ◌∙◌, arith, Some, None}
+use Rattle.std.proofs.Common.{◌≡◌, ℕ, suc, ◌+◌, ◌*◌, ◌%◌, ◌^◌, ◌<◌, ◌≤◌, eqb, Bool, true, false, cond, List, [], ◌∷◌}
+use Rattle.std.proofs.Common.{length, map, replicate, take, drop, refl, sym, ap, ◌∙◌, arith, Some, None}
 use Rattle.std.specs.List.{position_or_len}
-use Rattle.std.specs.Prelude.{◌||◌, not, position, nat_lt}
-use Rattle.std.proofs.lemmas.Bool.{le-ltb, lt-ltb, ltb-false, ltb-true}
-use Rattle.std.proofs.lemmas.List.{length-map, length-take, length-take-le}
-use Rattle.std.proofs.lemmas.Option.{cond_some}
+use Rattle.std.specs.Prelude.{◌||◌, not, position}
+use Rattle.std.proofs.lemmas.Bool.{lt-ltb}
+use Rattle.std.proofs.lemmas.Grind.{common_steps}
+use Rattle.std.proofs.lemmas.List.{length-map, take-append-drop}
+use Rattle.std.proofs.lemmas.List.Folds.{prefix_len-append}
+use Rattle.std.proofs.lemmas.List.Sums.{prefix_len-le-length}
 use Rattle.std.proofs.lemmas.Simd.{leading_from_mask_l, trailing_mask_l, mask_l-mod, zip2_of_maps, zip2_splat}
 use lib.Lanes.{mask_l, top, zip2}
 use lib.Bits.{bit_or}
@@ -25,69 +27,31 @@ module _ (test : ℕ → Bool) where
   abbrev before : List ℕ → ℕ
   before bytes = position_or_len test bytes
 
-  -- a front in which none passes is passed over
-  first_behind : (n : ℕ) (bytes : List ℕ) → n ≤ length bytes → n ≤ before (take n bytes)
-      → before bytes ≡ n + before (drop n bytes)
-  first_behind zero bytes within none = omega arith
-  first_behind (suc n) [] within none = absurd (omega arith)
-  first_behind (suc n) (byte ∷ bytes) within none =
-      elim (test byte)
-      as (λ b. suc n ≤ cond (not b) (1 + before (take n bytes)) 0 → cond (not b) (1 + before bytes) 0 ≡ suc n
-      + before (drop n bytes)) [
-        | true ↦ λ absent. absurd (omega arith)
-        | false ↦ λ later. let behind = first_behind n bytes (omega arith) (omega arith) in omega arith
-      ] none
-
-  -- one that passes in a front is the first of all
-  first_in_front : (n : ℕ) (bytes : List ℕ) → before (take n bytes) < length (take n bytes)
-      → before bytes ≡ before (take n bytes)
-  first_in_front zero bytes there = absurd (omega arith)
-  first_in_front (suc n) [] there = absurd (omega arith)
-  first_in_front (suc n) (byte ∷ bytes) there =
-      elim (test byte)
-      as (λ b. cond (not b) (1 + before (take n bytes)) 0 < suc (length (take n bytes))
-      → cond (not b) (1 + before bytes) 0 ≡ cond (not b) (1 + before (take n bytes)) 0) [
-        | true ↦ λ here. refl
-        | false ↦ λ later. ap (λ k. 1 + k) (first_in_front n bytes (omega arith))
-      ] there
-
-  -- what `position` tells
-  none_found : (bytes : List ℕ) → position test bytes ≡ None → length bytes ≤ before bytes
-  none_found bytes none =
-      elim (nat_lt (before bytes) (length bytes)) as
-      (λ b. nat_lt (before bytes) (length bytes) ≡ b → length bytes ≤ before bytes) [
-        | true ↦ λ e. absurd (let s = rw e at none in cc)
-        | false ↦ λ e. ltb-false _ _ e
-      ] refl
-
-  some_found : (bytes : List ℕ) (at : ℕ) → position test bytes ≡ Some at → (before bytes < length bytes)
-      × (before bytes ≡ at)
-  some_found bytes at found = let parts = cond_some _ _ _ found in (ltb-true _ _ parts.0, parts.1)
+  -- one that passes in a front is the first of all, and a front in which none passes is passed over
+  in_front : (n : ℕ) (bytes : List ℕ)
+      → before bytes ≡ cond (eqb (before (take n bytes)) (length (take n bytes)))
+      (length (take n bytes) + before (drop n bytes)) (before (take n bytes))
+  in_front n bytes =
+      ap before (sym (take-append-drop n bytes))
+      ∙ prefix_len-append (λ byte. not (test byte)) (take n bytes) (drop n bytes)
 
   pub more_passed : (n : ℕ) (input rest behind : List ℕ) (passed : ℕ) → IsPassed test input rest passed
       → position test (take n rest) ≡ None
       → length behind + n ≡ length rest → behind ≡ drop n rest → IsPassed test input behind (passed + n)
-  more_passed n input rest behind passed so_far none long is =
-      let long_enough : length (take n rest) ≡ n = length-take-le n rest (omega arith) in
-      let later = first_behind n rest (omega arith) (omega (arith, long_enough, none_found (take n rest) none)) in
-      record { long = omega (arith, so_far.long, long); first = rw is (omega (arith, so_far.first, later)) }
+  more_passed n input rest behind passed so_far none long is = record {
+    long = omega (arith, so_far.long);
+    first = grind
+        (arith, common_steps, in_front n rest, prefix_len-le-length (λ byte. not (test byte)) (take n rest), so_far.first);
+  }
 
   pub found_behind : (n : ℕ) (input rest : List ℕ) (passed at : ℕ) → IsPassed test input rest passed
       → position test (take n rest) ≡ Some at → Some (passed + at) ≡ position test input
   found_behind n input rest passed at so_far found =
-      let parts = some_found (take n rest) at found in
-      let first = first_in_front n rest parts.0 in
-      let here : before input ≡ passed + at = omega (arith, so_far.first, first, parts.1) in
-      let within : before input < length input = omega
-      (arith, here, so_far.long, parts.0, parts.1, length-take n rest) in
-      rw (lt-ltb _ _ within, here) refl
+      grind (arith, common_steps, in_front n rest, so_far.first, so_far.long)
 
   pub none_behind : (input rest : List ℕ) (passed : ℕ) → IsPassed test input rest passed → position test rest ≡ None
       → None ≡ position test input
-  none_behind input rest passed so_far none =
-      let absent = none_found rest none in
-      let past : length input ≤ before input = omega (arith, so_far.first, so_far.long, absent) in
-      rw (le-ltb _ _ past) refl
+  none_behind input rest passed so_far none = grind (arith, common_steps, so_far.first, so_far.long)
 
   -- a bit for each byte: whether it passes
   abbrev marks : List ℕ → ℕ
@@ -95,19 +59,14 @@ module _ (test : ℕ → Bool) where
 
   -- where no bit is set, none passes
   pub none_marked : (bytes : List ℕ) → marks bytes ≡ 0 → None ≡ position test bytes
-  none_marked bytes none =
-      let all : length bytes ≤ before bytes = omega (arith, leading_from_mask_l test bytes none) in
-      rw (le-ltb _ _ all) refl
+  none_marked bytes none = grind (arith, common_steps, leading_from_mask_l test bytes none)
 
   -- where a bit is set, one passes
   some_marked : (bytes : List ℕ) → 0 < marks bytes → before bytes < length bytes
   some_marked [] some = absurd (omega arith)
-  some_marked (byte ∷ bytes) some =
-      elim (test byte) as (λ b. 0 < mask_l (b ∷ map test bytes)
-      → cond (not b) (1 + before bytes) 0 < suc (length bytes)) [
-        | true ↦ λ here. omega arith
-        | false ↦ λ later. let within = some_marked bytes (omega arith) in omega arith
-      ] some
+  some_marked (byte ∷ bytes) some = step (test byte) _ _ _ (some_marked bytes) some where
+    step : (b : Bool) (m k n : ℕ) → (0 < m → k < n) → 0 < cond b 1 0 + 2 * m → cond (not b) (1 + k) 0 < suc n
+    step b m k n within some = grind arith
 
   -- the lowest bit that is set is the first one's that passes
   pub first_marked : (bytes : List ℕ) → length bytes ≤ 64 → 0 < marks bytes
