@@ -47,9 +47,7 @@ written_more taken taken' taken'' bytes rest n so_far one = rw (between_to_end r
 pub written_all : (taken taken' : Option (List ℕ)) (bytes rest : List ℕ)
     → IsWrittenUpTo taken taken' bytes rest → length rest ≡ 0 → Appends taken taken' bytes
 written_all taken taken' bytes rest so_far none =
-    let P : List ℕ → Type 0 = λ z. Appends taken taken' z in
-    subst P (sym (so_far.parts ∙ ap (λ z. so_far.output ++ z) (nil_from_length rest none) ∙ append-nil so_far.output))
-    so_far.written
+    rw (so_far.parts, nil_from_length rest none, append-nil so_far.output) so_far.written
 
 -- where a write fails and bytes are left, some of the bytes were written, and not all
 pub written_in_part : (taken taken' taken'' : Option (List ℕ)) (bytes rest : List ℕ)

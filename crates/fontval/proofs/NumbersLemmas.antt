@@ -31,41 +31,36 @@ pub no_number : (n : ℕ) (text : List ℕ) (numbers : List Fixed) → length nu
 no_number n text numbers whole =
     record { read = none_read ReadsFixed (words_of text); count = omega arith; within = omega arith; whole = whole }
 
-pub one_more_number : (n : ℕ) (text left left' word : List ℕ) (numbers : List Fixed) (at : ℕ) (number : Fixed)
-    → AreNumbersUpTo n text left numbers at → at ≢ n → words_of left ≡ word ∷ words_of left'
-    → ReadsFixed word (Ok number)
-    → AreNumbersUpTo n text left' (set numbers at number) (at + 1)
-one_more_number n text left left' word numbers at number so_far room next one =
-    let inside : at < length numbers = omega (arith, so_far.within, so_far.whole, room) in
-    record {
-      read = one_more_read ReadsFixed _ _ _ so_far.read _ word _ number next one
-          (take_more_set numbers at number inside);
-      count = omega (arith, so_far.count, ap length next);
-      within = omega (arith, so_far.within, room);
-      whole = length-set numbers at number ∙ so_far.whole;
-    }
+module _ (n : ℕ) (text left : List ℕ) (numbers : List Fixed) (at : ℕ)
+    (so_far : AreNumbersUpTo n text left numbers at) where
+  module _ (left' word : List ℕ) (next : words_of left ≡ word ∷ words_of left') where
+    pub one_more_number : (number : Fixed) → at ≢ n → ReadsFixed word (Ok number)
+        → AreNumbersUpTo n text left' (set numbers at number) (at + 1)
+    one_more_number number room one =
+        let inside : at < length numbers = omega (arith, so_far.within, so_far.whole) in
+        record {
+          read = one_more_read ReadsFixed _ _ _ so_far.read _ word _ number next one
+              (take_more_set numbers at number inside);
+          count = omega (arith, so_far.count, ap length next);
+          within = omega (arith, so_far.within);
+          whole = length-set numbers at number ∙ so_far.whole;
+        }
 
-pub all_numbers : (n : ℕ) (text left : List ℕ) (numbers : List Fixed) (at : ℕ)
-    → AreNumbersUpTo n text left numbers at → words_of left ≡ [] → n ≤ at → ReadsJust n (words_of text) (Ok numbers)
-all_numbers n text left numbers at so_far none full =
-    let whole : at ≡ length numbers = omega (arith, so_far.within, so_far.whole) in
-    rw (eq-eqb (length (words_of text)) n (omega (arith, so_far.count, so_far.within, ap length none)))
-    (all_read ReadsFixed _ _ _ so_far.read numbers none (rw whole (take-length numbers)))
+    -- a word is refused, and with those behind it there are n
+    pub refused_after_numbers : (refusal : Refusal) → at + 1 + length (words_of left') ≡ n
+        → ReadsFixed word (Err refusal) → ReadsJust n (words_of text) (Err refusal)
+    refused_after_numbers refusal just one =
+        rw (eq-eqb (length (words_of text)) n (omega (arith, so_far.count, ap length next)))
+        (one_refused ReadsFixed _ _ _ so_far.read _ word refusal next one)
 
--- a word is refused, and with those behind it there are n
-pub refused_after_numbers : (n : ℕ) (text left left' word : List ℕ) (numbers : List Fixed) (at : ℕ) (refusal : Refusal)
-    → AreNumbersUpTo n text left numbers at → words_of left ≡ word ∷ words_of left' → at + 1 + length (words_of left')
-    ≡ n → ReadsFixed word (Err refusal)
-    → ReadsJust n (words_of text) (Err refusal)
-refused_after_numbers n text left left' word numbers at refusal so_far next just one =
-    rw (eq-eqb (length (words_of text)) n (omega (arith, so_far.count, just, ap length next)))
-    (one_refused ReadsFixed _ _ _ so_far.read _ word refusal next one)
+  pub all_numbers : words_of left ≡ [] → n ≤ at → ReadsJust n (words_of text) (Ok numbers)
+  all_numbers none full =
+      let whole : at ≡ length numbers = omega (arith, so_far.within, so_far.whole) in
+      rw (eq-eqb (length (words_of text)) n (omega (arith, so_far.count, so_far.within, ap length none)))
+      (all_read ReadsFixed _ _ _ so_far.read numbers none (rw whole (take-length numbers)))
 
--- there are not n words
-pub other_count : (n : ℕ) (text left : List ℕ) (numbers : List Fixed) (at : ℕ)
-    → AreNumbersUpTo n text left numbers at → at + length (words_of left) ≢ n
-    → ReadsJust n (words_of text) (Err WordCount)
-other_count n text left numbers at so_far other =
-    rw (ne_eqb (length (words_of text)) n (λ same. other (so_far.count ∙ same))) refl
+  -- there are not n words
+  pub other_count : at + length (words_of left) ≢ n → ReadsJust n (words_of text) (Err WordCount)
+  other_count other = rw (ne_eqb (length (words_of text)) n (λ same. other (so_far.count ∙ same))) refl
 
 pub ruleset number_steps = (no_number, one_more_number, all_numbers, refused_after_numbers, other_count)

@@ -14,9 +14,6 @@ use Rattle.fontval.proofs.ReadingLemmas.{IsReadUpTo, none_read, one_more_read, o
 abbrev pub is_even : ℕ → Bool
 is_even n = n % 2 == 0
 
-two_more : (n : ℕ) → is_even (n + 2) ≡ is_even n
-two_more n = ap (λ m. m == 0) (let same : (n + 2) % 2 ≡ n % 2 = omega arith in same)
-
 -- the words of a text are read as terms, two by two, up to those of another
 pub record AreTermsUpTo (text left : List ℕ) (terms : List (Fixed × ℤ)) : Type 0 where
   pub read : IsReadUpTo ReadsTerm (pairs_of (words_of text)) (pairs_of (words_of left)) terms
@@ -33,8 +30,8 @@ module _ (text left middle left' scalar delta : List ℕ) (terms : List (Fixed �
 
   still_even : is_even (length (words_of text)) ≡ is_even (length (words_of left'))
   still_even =
-      let more : length (words_of left) ≡ length (words_of left') + 2 = omega (arith, ap length two) in
-      so_far.even ∙ ap is_even more ∙ two_more (length (words_of left'))
+      let same : length (words_of left) % 2 ≡ length (words_of left') % 2 = omega (arith, ap length two) in
+      so_far.even ∙ ap (λ rest. rest == 0) same
 
   pub one_more_term : (term : Fixed × ℤ) (terms' : List (Fixed × ℤ)) → ReadsTerm (scalar, delta) (Ok term)
       → terms' ≡ terms ++ term ∷ [] → AreTermsUpTo text left' terms'
@@ -56,25 +53,17 @@ module _ (text left middle left' scalar delta : List ℕ) (terms : List (Fixed �
 -- one word is left
 pub odd_word : (text left middle scalar : List ℕ) (terms : List (Fixed × ℤ)) → AreTermsUpTo text left terms
     → words_of left ≡ scalar ∷ words_of middle → words_of middle ≡ [] → ReadsTerms (words_of text) (Err WordCount)
-odd_word text left middle scalar terms so_far first none =
-    let odd : is_even (length (words_of left)) ≡ false = ap is_even
-    (ap length (first ∙ ap (λ words. scalar ∷ words) none)) in
-    rw (so_far.even ∙ odd) refl
+odd_word text left middle scalar terms so_far first none = rw (so_far.even, first, none) refl
 
 -- no word is left, and all terms are read
 pub all_terms : (text left : List ℕ) (terms : List (Fixed × ℤ)) → AreTermsUpTo text left terms → words_of left ≡ []
     → ReadsTerms (words_of text) (Ok terms)
 all_terms text left terms so_far none =
-    let even : is_even (length (words_of left)) ≡ true = ap is_even (ap length none) in
-    rw (so_far.even ∙ even) (all_read ReadsTerm _ _ _ so_far.read terms (ap pairs_of none) refl)
+    rw (so_far.even, none) (all_read ReadsTerm _ _ _ so_far.read terms (ap pairs_of none) refl)
 
 -- words that are read as terms can be taken two by two
 pub terms_are_even : (words : List (List ℕ)) (terms : List (Fixed × ℤ)) → ReadsTerms words (Ok terms)
     → is_even (length words) ≡ true
-terms_are_even words terms read = judged (is_even (length words)) read where
-  judged : (b : Bool) → MatchBool b (ReadsEach ReadsTerm (pairs_of words) (Ok terms)) (Ok terms ≡ Err WordCount)
-      → b ≡ true
-  judged true read = refl
-  judged false none = absurd (let same = none in cc)
+terms_are_even words terms read = grind (arith, read)
 
 pub ruleset term_steps = (no_term, one_more_term, refused_term, odd_words, odd_word, all_terms)

@@ -9,4 +9,4 @@ loop-word-preserved g c =
     let next : words_of c.loop-word.words.rest.now ≡ c.in-Some.word.now ∷ words_of c.next.new.self.rest.now =
     search rules in
     let one : ReadsFixed c.in-Some.word.now (Ok c.in-Ok.number) = search rules in
-    (tt, tt, one_more_number g.row.N _ _ _ _ _ _ _ c.loop-word.invariant.2 c.if-at.false next one)
+    (tt, tt, one_more_number g.row.N _ _ _ _ c.loop-word.invariant.2 _ _ next _ c.if-at.false one)
