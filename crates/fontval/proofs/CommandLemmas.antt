@@ -41,38 +41,61 @@ names_no_type word command named other =
     (refl, λ type same. other type (commands_apart command (FixedPoint type) (named ∙ sym same)))
 
 -- the bytes of what a text is read as
-pub given_number : {T : Type 0} (bits_of : T → ℤ) (type : FixedType) (name : List ℕ) (n w f : ℕ)
-    (number : Result T DecimalFault) (text old new : List ℕ) (outcome : Result (Unit {0}) Unanswered)
+pub given_number : {T : Type 0} {type this : FixedType} {name text old new : List ℕ} {n w f : ℕ}
+    {outcome : Result (Unit {0}) Unanswered} (bits_of : T → ℤ) (number : Result T DecimalFault)
     → GivesAnswer (λ answer. answer
     ≡ result_map_both (λ value. encode_lower (bytes_of n (bits_of value))) refusal_of number) old new outcome
     → ReadingGives w f text (result_map_both bits_of (λ fault. fault) number)
-    → fixed_row type ≡ (name, w, f) → w / 8 ≡ n
+    → type ≡ this → fixed_row this ≡ (name, w, f) → w / 8 ≡ n
     → GivesAnswer (ShowsReading type text) old new outcome
-given_number bits_of type name n w f (Ok value) text old new outcome given read row size =
-    given_answer (ShowsReading type text) (Ok (encode_lower (bytes_of n (bits_of value)))) old new outcome given
-    (rw (row, size) (record { bits = Ok (bits_of value); read = read; gives = refl }))
-given_number bits_of type name n w f (Err fault) text old new outcome given read row size =
-    given_answer (ShowsReading type text) (Err (refusal_of fault)) old new outcome given
-    (rw (row, size) (record { bits = Err fault; read = read; gives = refl }))
+given_number {type = type} {text = text} bits_of (Ok value) given read is row size =
+    given_answer (ShowsReading type text) _ _ _ _ given
+    (rw (is, row, size) (record { bits = Ok (bits_of value); read = read; gives = refl }))
+given_number {type = type} {text = text} bits_of (Err fault) given read is row size =
+    given_answer (ShowsReading type text) _ _ _ _ given
+    (rw (is, row, size) (record { bits = Err fault; read = read; gives = refl }))
 
--- what is read of two words, the first of which names a type
-pub given_reading : (words : List (List ℕ)) (name word : List ℕ) (type : FixedType) (old new : List ℕ)
-    (outcome : Result (Unit {0}) Unanswered)
-    → GivesAnswer (ShowsReading type word) old new outcome → two_words words ≡ Ok (name, word)
-    → (fixed_row type).0 ≡ name
-    → GivesAnswer (AnswersWords words Read) old new outcome
-given_reading words name word type old new outcome given two named =
-    given_as (ShowsReading type word) (AnswersWords words Read) old new outcome
-    (λ answer right. rw two (record { first = Ok type; is_first = named; goes_on = right })) given
+module _ (old new : List ℕ) (outcome : Result (Unit {0}) Unanswered) where
+  -- what is read of two words, the first of which names a type
+  pub given_reading : (words : List (List ℕ)) (name word : List ℕ) (type : FixedType)
+      → GivesAnswer (ShowsReading type word) old new outcome → two_words words ≡ Ok (name, word)
+      → (fixed_row type).0 ≡ name
+      → GivesAnswer (AnswersWords words Read) old new outcome
+  given_reading words name word type given two named =
+      given_as (ShowsReading type word) (AnswersWords words Read) old new outcome
+      (λ answer right. rw two (record { first = Ok type; is_first = named; goes_on = right })) given
 
--- what is said of a tag that was judged
-pub judged_tag : (bytes : List ℕ) (verdict : Result (Unit {0}) InvalidTag) (old new : List ℕ)
-    (outcome : Result (Unit {0}) Unanswered)
-    → GivesAnswer (λ answer. answer ≡ Ok (tag_text bytes ++ verdict_text verdict)) old new outcome
-    → IsValidated bytes verdict → GivesAnswer (JudgesTag bytes) old new outcome
-judged_tag bytes verdict old new outcome given judged =
-    given_answer (JudgesTag bytes) (Ok (tag_text bytes ++ verdict_text verdict)) old new outcome given
-    (record { verdict = verdict; judged = judged; shows = refl })
+  -- what is said of a tag that was judged
+  pub judged_tag : (bytes : List ℕ) (verdict : Result (Unit {0}) InvalidTag)
+      → GivesAnswer (λ answer. answer ≡ Ok (tag_text bytes ++ verdict_text verdict)) old new outcome
+      → IsValidated bytes verdict → GivesAnswer (JudgesTag bytes) old new outcome
+  judged_tag bytes verdict given judged =
+      given_answer (JudgesTag bytes) _ old new outcome given
+      (record { verdict = verdict; judged = judged; shows = refl })
+
+  -- where numbers that are read send a point
+  pub given_images : (words : List (List ℕ)) (numbers : List Fixed) (a b : Matrix Fixed) (p : Point Fixed)
+      → GivesAnswer (λ answer. answer ≡ Ok (images_text (matrix_bits a) (matrix_bits b) (point_bits p))) old new outcome
+      → ReadsJust 14 words (Ok numbers) → numbers ≡ elements_of a ++ elements_of b ++ p.x ∷ p.y ∷ []
+      → GivesAnswer (AnswersWords words Image) old new outcome
+  given_images words numbers a b p given read are =
+      given_answer (AnswersWords words Image) _ old new outcome given (record {
+        first = Ok numbers;
+        is_first = read;
+        goes_on = record { a = a; b = b; p = p; are = are; shows = refl };
+      })
+
+  -- a number of units that terms which are read move
+  pub given_moved : (words rest : List (List ℕ)) (base : List ℕ) (units : ℤ) (terms : List (Fixed × ℤ))
+      → GivesAnswer (λ answer. answer ≡ varied_answer units terms) old new outcome → words ≡ base ∷ rest
+      → ReadsWhole 16 base (Ok units) → ReadsTerms rest (Ok terms)
+      → GivesAnswer (AnswersWords words Vary) old new outcome
+  given_moved words rest base units terms given is whole read =
+      given_answer (AnswersWords words Vary) _ old new outcome given (rw (is, terms_are_even rest terms read) (record {
+        first = Ok units;
+        is_first = whole;
+        goes_on = record { first = Ok terms; is_first = read; goes_on = refl };
+      }))
 
 -- numbers that are not read
 pub refused_images : (words : List (List ℕ)) (refusal : Refusal) (old : List ℕ) (outcome : Result (Unit {0}) Unanswered)
@@ -81,40 +104,6 @@ pub refused_images : (words : List (List ℕ)) (refusal : Refusal) (old : List �
 refused_images words refusal old outcome is refused =
     given_refusal (AnswersWords words Image) refusal old outcome is
     (record { first = Err refusal; is_first = refused; goes_on = refl })
-
--- where numbers that are read send a point
-pub given_images : (words : List (List ℕ)) (numbers : List Fixed) (a b : Matrix Fixed) (p : Point Fixed)
-    (old new : List ℕ) (outcome : Result (Unit {0}) Unanswered)
-    → GivesAnswer (λ answer. answer ≡ Ok (images_text (matrix_bits a) (matrix_bits b) (point_bits p))) old new outcome
-    → ReadsJust 14 words (Ok numbers) → numbers ≡ elements_of a ++ elements_of b ++ p.x ∷ p.y ∷ []
-    → GivesAnswer (AnswersWords words Image) old new outcome
-given_images words numbers a b p old new outcome given read are =
-    given_answer (AnswersWords words Image)
-    (Ok (images_text (matrix_bits a) (matrix_bits b) (point_bits p))) old new outcome given (record {
-      first = Ok numbers;
-      is_first = read;
-      goes_on = record { a = a; b = b; p = p; are = are; shows = refl };
-    })
-
--- a fact where a test is passed
-where_true : {X : Type 0} (Y : Type 0) (b : Bool) → b ≡ true → X → MatchBool b X Y
-where_true Y true passed x = x
-where_true Y false passed x = absurd (true≢false (sym passed))
-
--- a number of units that terms which are read move
-pub given_moved : (words rest : List (List ℕ)) (base : List ℕ) (units : ℤ) (terms : List (Fixed × ℤ)) (old new : List ℕ)
-    (outcome : Result (Unit {0}) Unanswered)
-    → GivesAnswer (λ answer. answer ≡ varied_answer units terms) old new outcome → words ≡ base ∷ rest
-    → ReadsWhole 16 base (Ok units) → ReadsTerms rest (Ok terms)
-    → GivesAnswer (AnswersWords words Vary) old new outcome
-given_moved words rest base units terms old new outcome given is whole read =
-    let right : Varies (base ∷ rest) (varied_answer units terms) = where_true _ _ (terms_are_even rest terms read)
-    (record {
-      first = Ok units;
-      is_first = whole;
-      goes_on = record { first = Ok terms; is_first = read; goes_on = refl };
-    }) in
-    given_answer (AnswersWords words Vary) (varied_answer units terms) old new outcome given (rw is right)
 
 pub ruleset reading_given = (given_refusal, given_reading, reads_no_number)
 

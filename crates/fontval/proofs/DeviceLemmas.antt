@@ -4,6 +4,7 @@ use Rattle.std.proofs.Common.{drop, length, ◌<◌, arith, ◌-◌}
 use Rattle.std.proofs.lemmas.List.{append-nil, nil_from_length, take-append-drop}
 use Rattle.std.proofs.lemmas.Slice.{between_to_end}
 use Rattle.std.specs.Io.KnownBytes.{Appends, Keeps}
+use Rattle.std.proofs.KnownBytes.{Appends-kept, Appends-nil, Appends-trans}
 use Rattle.fontval.specs.Serve.{WritesInPart}
 
 -- what stands before `rest` in the bytes was written
@@ -14,22 +15,7 @@ pub record IsWrittenUpTo (taken taken' : Option (List ℕ)) (bytes rest : List �
 
 -- at the start nothing is written
 pub written_none : (taken : Option (List ℕ)) (bytes : List ℕ) → IsWrittenUpTo taken taken bytes bytes
-written_none None bytes = record { output = []; parts = refl; written = tt }
-written_none (Some xs) bytes = record { output = []; parts = refl; written = sym (append-nil xs) }
-
--- one write after others
-appends_more : (a b c : Option (List ℕ)) (xs ys : List ℕ) → Appends a b xs → Appends b c ys → Appends a c (xs ++ ys)
-appends_more None b c xs ys first second = tt
-appends_more (Some p) None c xs ys first second = absurd first
-appends_more (Some p) (Some q) None xs ys first second = absurd second
-appends_more (Some p) (Some q) (Some r) xs ys first second = second ∙ ap (λ z. z ++ ys) first ∙ append_assoc p xs ys
-
--- a failed write changes nothing
-appends_kept : (a b c : Option (List ℕ)) (xs : List ℕ) → Appends a b xs → Keeps b c → Appends a c xs
-appends_kept None b c xs first second = tt
-appends_kept (Some p) None c xs first second = absurd first
-appends_kept (Some p) (Some q) None xs first second = absurd second
-appends_kept (Some p) (Some q) (Some r) xs first second = second ∙ first
+written_none taken bytes = record { output = []; parts = refl; written = Appends-nil taken }
 
 -- one write more, of the first n bytes
 pub written_more : (taken taken' taken'' : Option (List ℕ)) (bytes rest : List ℕ) (n : ℕ)
@@ -40,7 +26,7 @@ written_more taken taken' taken'' bytes rest n so_far one = rw (between_to_end r
       output = so_far.output ++ take n rest;
       parts = so_far.parts ∙ ap (λ z. so_far.output ++ z) (sym (take-append-drop n rest)) ∙ sym
           (append_assoc so_far.output (take n rest) (drop n rest));
-      written = appends_more taken taken' taken'' so_far.output (take n rest) so_far.written one;
+      written = Appends-trans taken taken' taken'' so_far.output (take n rest) so_far.written one;
     })
 
 -- where no byte is left, all were written
@@ -57,7 +43,7 @@ written_in_part taken taken' taken'' bytes rest so_far some kept = record {
   unwritten = rest;
   parts = so_far.parts;
   partial = λ none. absurd (let e = ap length none in omega arith);
-  written = appends_kept taken taken' taken'' so_far.output so_far.written kept;
+  written = Appends-kept taken taken' taken'' so_far.output so_far.written kept;
 }
 
 pub ruleset write_steps = (written_none, written_more, written_all, written_in_part)

@@ -1,7 +1,7 @@
 -- An input has one answer: each definition on the way from a line to its text has one result.
 use Rattle.std.proofs.Common.{◌≡◌, ℕ, ℤ, zero, suc, Bool, true, false, List, [], ◌∷◌, ◌++◌, ◌⊎◌, inl, inr, length}
 use Rattle.std.proofs.Common.{Option, Some, None, Result, Ok, Err, MatchResult, refl, sym, ap, ◌∙◌, subst, arith}
-use Rattle.std.proofs.Common.{get_or, unwrap_or, pos}
+use Rattle.std.proofs.Common.{get_or, unwrap_or, pos, rules}
 use Rattle.std.specs.Prelude.{◌%◌, ◌==◌, if◌then◌else◌}
 use Rattle.std.specs.Bool.{MatchBool}
 use Rattle.std.specs.Result.{result_map_both}
@@ -9,6 +9,7 @@ use Rattle.std.specs.Str.{bytes_eq}
 use Rattle.std.specs.Str.Parse.{signed_digits_value}
 use Rattle.std.specs.Fmt.{signed_decimal}
 use Rattle.std.proofs.lemmas.Bool.{cases_lt, false≢true}
+use Rattle.std.proofs.lemmas.List.{get_or-replicate, get_or_past}
 use Rattle.font_types.specs.DecimalFault.{DecimalFault}
 use Rattle.font_types.specs.Wrap.{FitsBits}
 use Rattle.font_types.specs.Tag.{IsFault, IsValidated, IsVisible, four_spaces}
@@ -70,38 +71,25 @@ one_number w f value text x y p q =
     p.gives ∙ ap (result_map_both value refusal_of) (reading_unique text f _ _ p.bits q.bits p.read q.read)
     ∙ sym q.gives
 
--- what a word that is read as no whole number of w bits is refused as
-abbrev IsNoWhole : ℕ → List ℕ → Refusal → Type 0
-IsNoWhole w word refusal =
-    ((refusal ≡ NotWhole) × (¬ (IsWhole word)))
-    ⊎ ((refusal ≡ OutOfRange) × (IsWhole word × (¬ (FitsBits w (signed_digits_value 10 word)))))
+-- why a word is read as this
+abbrev Why : ℕ → List ℕ → Result ℤ Refusal → Type 0
+Why w word result =
+    let n = signed_digits_value 10 word in
+    ((result ≡ Ok n) × IsWhole word × FitsBits w n)
+    ⊎ ((result ≡ Err NotWhole) × (¬ (IsWhole word)))
+    ⊎ ((result ≡ Err OutOfRange) × IsWhole word × (¬ (FitsBits w n)))
 
-no_whole : (w : ℕ) (word : List ℕ) (refusal : Refusal) → ReadsWhole w word (Err refusal) → IsNoWhole w word refusal
-no_whole w word NotWhole read = inl (refl, read)
-no_whole w word OutOfRange read = inr (refl, read)
-no_whole w word UnknownCommand read = absurd read
-no_whole w word WordCount read = absurd read
-no_whole w word NotHexadecimal read = absurd read
-no_whole w word NotDecimal read = absurd read
-
-whole_or_not : (w : ℕ) (word : List ℕ) (n : ℤ) (refusal : Refusal) → ReadsWhole w word (Ok n)
-    → ¬ (ReadsWhole w word (Err refusal))
-whole_or_not w word n refusal read none = elim (no_whole w word refusal none) [
-  | inl other ↦ other.1 read.0
-  | inr far ↦ far.1.1 (subst (FitsBits w) read.1 read.2)
-]
+why : (w : ℕ) (word : List ℕ) (result : Result ℤ Refusal) → ReadsWhole w word result → Why w word result
+why w word (Ok n) read = inl (ap Ok read.1, read.0, subst (FitsBits w) read.1 read.2)
+why w word (Err NotWhole) read = inr (inl (refl, read))
+why w word (Err OutOfRange) read = inr (inr (refl, read.0, read.1))
+why w word (Err UnknownCommand) read = absurd read
+why w word (Err WordCount) read = absurd read
+why w word (Err NotHexadecimal) read = absurd read
+why w word (Err NotDecimal) read = absurd read
 
 one_whole : (w : ℕ) (word : List ℕ) → IsOne (ReadsWhole w word)
-one_whole w word (Ok n) (Ok m) p q = ap Ok (p.1 ∙ sym q.1)
-one_whole w word (Ok n) (Err refusal) p q = absurd (whole_or_not w word n refusal p q)
-one_whole w word (Err refusal) (Ok n) p q = absurd (whole_or_not w word n refusal q p)
-one_whole w word (Err refusal) (Err other) p q = ap Err
-    (same (no_whole w word refusal p) (no_whole w word other q)) where
-      same : IsNoWhole w word refusal → IsNoWhole w word other → refusal ≡ other
-      same (inl a) (inl b) = a.0 ∙ sym b.0
-      same (inl a) (inr b) = absurd (a.1 b.1.0)
-      same (inr a) (inl b) = absurd (b.1 a.1.0)
-      same (inr a) (inr b) = a.0 ∙ sym b.0
+one_whole w word x y p q = let a = why w word x p in let b = why w word y q in grind arith
 
 one_each : {W T : Type 0} (reads : W → Result T Refusal → Type 0) → ((word : W) → IsOne (reads word)) → (words : List W)
     → IsOne (ReadsEach reads words)
@@ -140,27 +128,7 @@ commands =
 
 -- each command is found by its name
 found : (command : Command) → sought (name_of command) commands ≡ Some command
-found (Integer Uint8) = refl
-found (Integer Int8) = refl
-found (Integer Uint16) = refl
-found (Integer Int16) = refl
-found (Integer Uint24) = refl
-found (Integer Int24) = refl
-found (Integer Uint32) = refl
-found (Integer Int32) = refl
-found (Integer Int64) = refl
-found (FixedPoint F2Dot14) = refl
-found (FixedPoint F4Dot12) = refl
-found (FixedPoint F6Dot10) = refl
-found (FixedPoint Fixed16) = refl
-found (FixedPoint F26Dot6) = refl
-found (FixedPoint F48Dot16) = refl
-found (FixedPoint F2Dot30) = refl
-found Read = refl
-found Tag = refl
-found Image = refl
-found Sum = refl
-found Vary = refl
+found command = search rules
 
 pub commands_apart : (a b : Command) → name_of a ≡ name_of b → a ≡ b
 commands_apart a b same =
@@ -197,11 +165,10 @@ one_fault bytes i j p q = elim (cases_lt i j) [
 ]
 
 spaces_hidden : (i : ℕ) → ¬ (IsVisible (get_or four_spaces i 0))
-spaces_hidden zero visible = absurd (omega (arith, visible.0))
-spaces_hidden (suc zero) visible = absurd (omega (arith, visible.0))
-spaces_hidden (suc (suc zero)) visible = absurd (omega (arith, visible.0))
-spaces_hidden (suc (suc (suc zero))) visible = absurd (omega (arith, visible.0))
-spaces_hidden (suc (suc (suc (suc i)))) visible = absurd (omega (arith, visible.0))
+spaces_hidden i visible = elim (cases_lt i 4) [
+  | inl inside ↦ omega (arith, get_or-replicate {A = ℕ} 4 i 32 0 inside, visible.0)
+  | inr past ↦ omega (arith, get_or_past four_spaces i 0 past, visible.0)
+]
 
 module _ (bytes : List ℕ) where
   apart : (i j byte : ℕ) → IsValidated bytes (Err (InvalidByte i byte)) → ¬ (IsValidated bytes (Err (ByteAfterSpace j)))
@@ -238,17 +205,8 @@ module _ (bytes : List ℕ) where
 
 -- ---- images
 
--- where numbers send a point, by their places
-abbrev images_at : List Fixed → Answer
-images_at numbers =
-    let at : ℕ → Fixed = λ i. get_or numbers i (fixed_of (pos 0)) in
-    Ok (images_text
-    (matrix_bits (record { xx = at 0; yx = at 1; xy = at 2; yy = at 3; dx = at 4; dy = at 5 }))
-    (matrix_bits (record { xx = at 6; yx = at 7; xy = at 8; yy = at 9; dx = at 10; dy = at 11 }))
-    (point_bits (record { x = at 12; y = at 13 })))
-
 one_images : (numbers : List Fixed) → IsOne (ShowsImages numbers)
-one_images numbers x y p q = (p.shows ∙ ap images_at (sym p.are)) ∙ sym (q.shows ∙ ap images_at (sym q.are))
+one_images numbers x y p q = let same = sym p.are ∙ q.are in cc
 
 -- ---- lines
 

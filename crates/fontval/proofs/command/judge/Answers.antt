@@ -3,5 +3,4 @@ use Rattle.fontval.proofs.CommandLemmas.{judged_tag}
 use Rattle.fontval.proofs.command.judge.Goals as goal
 
 pub returns : goal.returns
-returns g c = judged_tag
-    (tag_bytes c.args.tag) c.validate-verdict.result _ _ _ c.append.ensures c.validate-verdict.ensures.judged
+returns g c = judged_tag _ _ _ (tag_bytes c.args.tag) _ c.append.ensures c.validate-verdict.ensures.judged

@@ -15,4 +15,4 @@ returns g c =
     let read : ReadsTerms (words_of c.next.new.self.rest.now) (Ok terms) = search rules in
     let given : GivesAnswer (λ answer. answer ≡ varied_answer c.in-Ok.units terms) (string_bytes c.args.output.now)
     (string_bytes c.append_moved.new.output) c.append_moved.result = search rules in
-    given_moved _ _ _ c.in-Ok.units terms _ _ _ given first whole read
+    given_moved _ _ _ _ _ _ c.in-Ok.units terms given first whole read
