@@ -1,6 +1,6 @@
 -- What is read of named words, said of tags, and where points go.
 use Rattle.std.proofs.Common.{◌≡◌, ◌≢◌, ℕ, List, [], ◌∷◌, ◌++◌, Bool, true, false, true≢false, Result, Ok, Err, refl}
-use Rattle.std.proofs.Common.{sym, ◌∙◌}
+use Rattle.std.proofs.Common.{sym, ◌∙◌, rules}
 use Rattle.std.specs.Prelude.{ℤ, ◌/◌}
 use Rattle.std.specs.Bool.{MatchBool}
 use Rattle.std.specs.Result.{result_map_both}
@@ -48,12 +48,9 @@ pub given_number : {T : Type 0} {type this : FixedType} {name text old new : Lis
     → ReadingGives w f text (result_map_both bits_of (λ fault. fault) number)
     → type ≡ this → fixed_row this ≡ (name, w, f) → w / 8 ≡ n
     → GivesAnswer (ShowsReading type text) old new outcome
-given_number {type = type} {text = text} bits_of (Ok value) given read is row size =
+given_number {type = type} {text = text} bits_of number given read is row size =
     given_answer (ShowsReading type text) _ _ _ _ given
-    (rw (is, row, size) (record { bits = Ok (bits_of value); read = read; gives = refl }))
-given_number {type = type} {text = text} bits_of (Err fault) given read is row size =
-    given_answer (ShowsReading type text) _ _ _ _ given
-    (rw (is, row, size) (record { bits = Err fault; read = read; gives = refl }))
+    (rw (is, row, size) (record { bits = result_map_both bits_of (λ fault. fault) number; read = read; gives = search rules }))
 
 module _ (old new : List ℕ) (outcome : Result (Unit {0}) Unanswered) where
   -- what is read of two words, the first of which names a type

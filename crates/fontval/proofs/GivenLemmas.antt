@@ -1,5 +1,5 @@
 -- What is given for an answer.
-use Rattle.std.proofs.Common.{◌≡◌, ℕ, List, refl, sym, subst, Result, Ok, Err}
+use Rattle.std.proofs.Common.{◌≡◌, ℕ, List, refl, sym, subst, Result, Ok, Err, rules}
 use Rattle.fontval.specs.Refusal.{Answer, GivesAnswer}
 use Rattle.fontval.specs.declared.refusal.Refusal.{Refusal}
 use Rattle.fontval.specs.declared.refusal.Unanswered.{Unanswered}
@@ -15,19 +15,7 @@ given_refusal IsRight refusal old outcome is right = record { is_given = rw is (
 pub given_as : (IsRight IsMeant : Answer → Type 0) (old new : List ℕ) (outcome : Result (Unit {0}) Unanswered)
     → ((answer : Answer) → IsRight answer → IsMeant answer) → GivesAnswer IsRight old new outcome
     → GivesAnswer IsMeant old new outcome
-given_as IsRight IsMeant old new (Ok done) means given =
-    let shown = given.is_given in
-    record {
-      is_given = record {
-        text = shown.text;
-        is_right = means (Ok shown.text) shown.is_right;
-        grown = shown.grown;
-      };
-    }
-given_as IsRight IsMeant old new (Err Memory) means given = record { is_given = tt }
-given_as IsRight IsMeant old new (Err (Refused refusal)) means given =
-    let refused = given.is_given in
-    record { is_given = (means (Err refusal) refused.0, refused.1) }
+given_as IsRight IsMeant old new outcome means given = record { is_given = search rules }
 
 -- an answer that is right
 pub given_answer : (IsRight : Answer → Type 0) (answer : Answer) (old new : List ℕ)

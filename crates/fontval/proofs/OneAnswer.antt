@@ -48,48 +48,25 @@ one_value value x y p q = p ∙ sym q
 
 module _ {T : Type 0} (P Q : T → Type 0) where
   one_either : (b : Bool) → IsOne P → IsOne Q → IsOne (λ x. MatchBool b (P x) (Q x))
-  one_either true p q = p
-  one_either false p q = q
+  one_either b p q x y = search rules
 
 module _ {A B : Type 0} (GoesOn : A → Result B Refusal → Type 0) (one : (value : A) → IsOne (GoesOn value)) where
   one_after : (first : Result A Refusal)
       → IsOne (λ r. MatchResult first (λ value. GoesOn value r) (λ refusal. r ≡ Err refusal))
-  one_after (Ok value) = one value
-  one_after (Err refusal) = one_value (Err refusal)
+  one_after first x y p q = search rules
 
   one_then : (IsFirst : Result A Refusal → Type 0) → IsOne IsFirst → IsOne (AndThen IsFirst GoesOn)
   one_then IsFirst one_first x y p q =
-      let same = one_first p.first q.first p.is_first q.is_first in
-      let behind = subst (λ first. MatchResult first (λ value. GoesOn value y) (λ refusal. y ≡ Err refusal))
-      (sym same) q.goes_on in
-      one_after p.first x y p.goes_on behind
+      let same = one_first p.first q.first p.is_first q.is_first in grind arith
 
 -- ---- numbers
 
 one_number : {T : Type 0} (w f : ℕ) (value : ℤ → T) (text : List ℕ) → IsOne (ReadsNumber w f value text)
 one_number w f value text x y p q =
-    p.gives ∙ ap (result_map_both value refusal_of) (reading_unique text f _ _ p.bits q.bits p.read q.read)
-    ∙ sym q.gives
-
--- why a word is read as this
-abbrev Why : ℕ → List ℕ → Result ℤ Refusal → Type 0
-Why w word result =
-    let n = signed_digits_value 10 word in
-    ((result ≡ Ok n) × IsWhole word × FitsBits w n)
-    ⊎ ((result ≡ Err NotWhole) × (¬ (IsWhole word)))
-    ⊎ ((result ≡ Err OutOfRange) × IsWhole word × (¬ (FitsBits w n)))
-
-why : (w : ℕ) (word : List ℕ) (result : Result ℤ Refusal) → ReadsWhole w word result → Why w word result
-why w word (Ok n) read = inl (ap Ok read.1, read.0, subst (FitsBits w) read.1 read.2)
-why w word (Err NotWhole) read = inr (inl (refl, read))
-why w word (Err OutOfRange) read = inr (inr (refl, read.0, read.1))
-why w word (Err UnknownCommand) read = absurd read
-why w word (Err WordCount) read = absurd read
-why w word (Err NotHexadecimal) read = absurd read
-why w word (Err NotDecimal) read = absurd read
+    let same = reading_unique text f _ _ p.bits q.bits p.read q.read in cc
 
 one_whole : (w : ℕ) (word : List ℕ) → IsOne (ReadsWhole w word)
-one_whole w word x y p q = let a = why w word x p in let b = why w word y q in grind arith
+one_whole w word x y p q = grind arith
 
 one_each : {W T : Type 0} (reads : W → Result T Refusal → Type 0) → ((word : W) → IsOne (reads word)) → (words : List W)
     → IsOne (ReadsEach reads words)
@@ -131,77 +108,32 @@ found : (command : Command) → sought (name_of command) commands ≡ Some comma
 found command = search rules
 
 pub commands_apart : (a b : Command) → name_of a ≡ name_of b → a ≡ b
-commands_apart a b same =
-    ap (λ (o : Option Command). unwrap_or o a) (sym (found a) ∙ ap (λ word. sought word commands) same ∙ found b)
-
-abbrev type_of : Command → FixedType
-type_of (FixedPoint type) = type
-type_of _ = Fixed16
+commands_apart a b same = let one = found a in let other = found b in cc
 
 types_apart : (a b : FixedType) → (fixed_row a).0 ≡ (fixed_row b).0 → a ≡ b
-types_apart a b same = ap type_of (commands_apart (FixedPoint a) (FixedPoint b) same)
+types_apart a b same = let one = found (FixedPoint a) in let other = found (FixedPoint b) in cc
 
 one_named : (word : List ℕ) → IsOne (IsNamed word)
-one_named word (Ok a) (Ok b) p q = ap Ok (commands_apart a b (p ∙ sym q))
-one_named word (Ok a) (Err refusal) p q = absurd (q.1 a p)
-one_named word (Err refusal) (Ok b) p q = absurd (p.1 b q)
-one_named word (Err refusal) (Err other) p q = ap Err (p.0 ∙ sym q.0)
+one_named word x y p q = grind (arith, commands_apart)
 
 one_named_type : (word : List ℕ) → IsOne (IsNamedType word)
-one_named_type word (Ok a) (Ok b) p q = ap Ok (types_apart a b (p ∙ sym q))
-one_named_type word (Ok a) (Err refusal) p q = absurd (q.1 a p)
-one_named_type word (Err refusal) (Ok b) p q = absurd (p.1 b q)
-one_named_type word (Err refusal) (Err other) p q = ap Err (p.0 ∙ sym q.0)
+one_named_type word x y p q = grind (arith, types_apart)
 
 -- ---- tags
 
 one_fault : (bytes : List ℕ) → IsOne (IsFault bytes)
-one_fault bytes i j p q = elim (cases_lt i j) [
-  | inl before ↦ absurd (p.fails (q.least i before))
-  | inr behind ↦ elim (cases_lt j i) [
-    | inl before ↦ absurd (q.fails (p.least j before))
-    | inr same ↦ omega (arith, behind, same)
-  ]
-]
+one_fault bytes i j p q = grind (arith, p.least j, q.least i)
 
 spaces_hidden : (i : ℕ) → ¬ (IsVisible (get_or four_spaces i 0))
-spaces_hidden i visible = elim (cases_lt i 4) [
-  | inl inside ↦ omega (arith, get_or-replicate {A = ℕ} 4 i 32 0 inside, visible.0)
-  | inr past ↦ omega (arith, get_or_past four_spaces i 0 past, visible.0)
-]
+spaces_hidden i visible = grind arith
 
 module _ (bytes : List ℕ) where
-  apart : (i j byte : ℕ) → IsValidated bytes (Err (InvalidByte i byte)) → ¬ (IsValidated bytes (Err (ByteAfterSpace j)))
-  apart i j byte p q =
-      let same = one_fault bytes i j p.1 q.0 in
-      p.2 (subst IsVisible (ap (λ k. get_or bytes k 0) (sym same) ∙ sym p.3) q.1)
-
-  spaces : (n j : ℕ) → IsValidated bytes (Err (InvalidLength n)) → ¬ (IsValidated bytes (Err (ByteAfterSpace j)))
-  spaces n j p q = spaces_hidden j (subst (λ list. IsVisible (get_or list j 0)) p.0 q.1)
-
-  one_invalid : IsOne (λ e. IsValidated bytes (Err e))
-  one_invalid (InvalidLength n) (InvalidLength m) p q = ap InvalidLength (p.1 ∙ sym q.1)
-  one_invalid (InvalidLength n) (InvalidByte j byte) p q = absurd (q.0 p.0)
-  one_invalid (InvalidLength n) (ByteAfterSpace j) p q = absurd (spaces n j p q)
-  one_invalid (InvalidByte i byte) (InvalidLength m) p q = absurd (p.0 q.0)
-  one_invalid (InvalidByte i byte) (InvalidByte j other) p q =
-      let same = one_fault bytes i j p.1 q.1 in
-      ap (λ k. InvalidByte k byte) same ∙ ap (InvalidByte j) (p.3 ∙ ap (λ k. get_or bytes k 0) same ∙ sym q.3)
-  one_invalid (InvalidByte i byte) (ByteAfterSpace j) p q = absurd (apart i j byte p q)
-  one_invalid (ByteAfterSpace i) (InvalidLength m) p q = absurd (spaces m i q p)
-  one_invalid (ByteAfterSpace i) (InvalidByte j byte) p q = absurd (apart j i byte q p)
-  one_invalid (ByteAfterSpace i) (ByteAfterSpace j) p q = ap ByteAfterSpace (one_fault bytes i j p.0 q.0)
-
   one_verdict : IsOne (IsValidated bytes)
-  one_verdict (Ok a) (Ok b) p q = refl
-  one_verdict (Ok a) (Err e) p q = absurd (false≢true ((validated_good bytes (Err e) q).1 p))
-  one_verdict (Err e) (Ok b) p q = absurd (false≢true ((validated_good bytes (Err e) p).1 q))
-  one_verdict (Err e) (Err d) p q = ap Err (one_invalid e d p q)
+  one_verdict x y p q =
+      grind (arith, one_fault bytes, spaces_hidden, validated_good bytes x p, validated_good bytes y q)
 
   one_judgement : IsOne (JudgesTag bytes)
-  one_judgement x y p q =
-      p.shows ∙ ap (λ verdict. Ok (Rattle.font_types.specs.Tag.tag_text bytes ++ verdict_text verdict))
-      (one_verdict p.verdict q.verdict p.judged q.judged) ∙ sym q.shows
+  one_judgement x y p q = let same = one_verdict p.verdict q.verdict p.judged q.judged in cc
 
 -- ---- images
 
@@ -235,15 +167,14 @@ one_answer [] = one_value (Err UnknownCommand)
 one_answer (name ∷ words) = one_then _ (one_answer_of words) (IsNamed name) (one_named name)
 
 one_text : (line : List ℕ) → IsOne (AnswersLine line)
-one_text line x y p q = p.shown ∙ ap answer_text (one_answer (words_of line) p.answer q.answer p.meant q.meant)
-    ∙ sym q.shown
+one_text line x y p q = let same = one_answer (words_of line) p.answer q.answer p.meant q.meant in cc
 
 one_output : (lines : List (List ℕ)) → IsOne (AnswersLines lines)
 one_output [] x y p q = p ∙ sym q
 one_output (line ∷ lines) x y p q =
     let text = one_text line p.text q.text p.answers q.answers in
     let rest = one_output lines p.rest q.rest p.others q.others in
-    p.joined ∙ ap (λ t. t ++ 10 ∷ p.rest) text ∙ ap (λ r. q.text ++ 10 ∷ r) rest ∙ sym q.joined
+    cc
 
 -- what answers an input is its one answer
 pub only_answer : (input output : List ℕ) → Answers input output → (other : List ℕ) → Answers input other

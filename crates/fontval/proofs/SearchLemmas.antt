@@ -1,6 +1,6 @@
 -- The first byte that passes a test, sought in blocks.
 use Rattle.std.proofs.Common.{◌≡◌, ℕ, suc, ◌+◌, ◌*◌, ◌%◌, ◌^◌, ◌<◌, ◌≤◌, eqb, Bool, true, false, cond, List, [], ◌∷◌}
-use Rattle.std.proofs.Common.{length, map, replicate, take, drop, refl, sym, ap, ◌∙◌, arith, Some, None}
+use Rattle.std.proofs.Common.{length, map, replicate, take, drop, refl, sym, ap, ◌∙◌, arith, Some, None, rules}
 use Rattle.std.specs.List.{position_or_len}
 use Rattle.std.specs.Prelude.{◌||◌, not, position}
 use Rattle.std.proofs.lemmas.Bool.{lt-ltb}
@@ -79,14 +79,7 @@ lane a b = cond (eqb a b) 255 0
 
 -- the top bit of three such lanes, joined
 top_of_three : (a b c : Bool) → top 7 (bit_or (bit_or (cond a 255 0) (cond b 255 0)) (cond c 255 0)) ≡ (a || b || c)
-top_of_three true true true = refl
-top_of_three true true false = refl
-top_of_three true false true = refl
-top_of_three true false false = refl
-top_of_three false true true = refl
-top_of_three false true false = refl
-top_of_three false false true = refl
-top_of_three false false false = refl
+top_of_three a b c = search rules
 
 tops_are_blank : (bytes : List ℕ) → map (top 7) (map (λ x. bit_or (bit_or (lane x 32) (lane x 9)) (lane x 13)) bytes)
     ≡ map is_blank bytes
