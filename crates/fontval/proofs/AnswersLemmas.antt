@@ -1,5 +1,5 @@
 -- Answering line after line.
-use Rattle.std.proofs.Common.{◌≡◌, ℕ, List, [], ◌∷◌, ◌++◌, refl, sym, ◌∙◌, subst, append_assoc}
+use Rattle.std.proofs.Common.{◌≡◌, ℕ, List, [], ◌∷◌, ◌++◌, refl, append_assoc}
 use Rattle.std.proofs.lemmas.List.{append-nil}
 use Rattle.fontval.specs.Answers.{Answers, AnswersLines, AppendsAnswer}
 use Rattle.fontval.specs.Text.{lines_of}

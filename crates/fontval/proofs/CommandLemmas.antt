@@ -1,8 +1,7 @@
 -- What is read of named words, said of tags, and where points go.
-use Rattle.std.proofs.Common.{◌≡◌, ◌≢◌, ℕ, List, [], ◌∷◌, ◌++◌, Bool, true, false, true≢false, Result, Ok, Err, refl}
+use Rattle.std.proofs.Common.{◌≡◌, ◌≢◌, ℕ, List, [], ◌∷◌, ◌++◌, Result, Ok, Err, refl}
 use Rattle.std.proofs.Common.{sym, ◌∙◌, rules}
 use Rattle.std.specs.Prelude.{ℤ, ◌/◌}
-use Rattle.std.specs.Bool.{MatchBool}
 use Rattle.std.specs.Result.{result_map_both}
 use Rattle.hex.specs.Hex.{encode_lower}
 use Rattle.font_types.specs.Bytes.{bytes_of}
@@ -14,7 +13,7 @@ use Rattle.fontval.specs.Command.{AnswersWords, JudgesTag, IsNamedType, verdict_
 use Rattle.fontval.specs.Command.{two_words}
 use Rattle.fontval.specs.Refusal.{GivesAnswer, refusal_of}
 use Rattle.fontval.specs.Numbers.{ReadsJust, ReadsTerms, ReadsWhole}
-use Rattle.fontval.specs.Deltas.{Varies, varied_answer}
+use Rattle.fontval.specs.Deltas.{varied_answer}
 use Rattle.fontval.specs.Images.{images_text}
 use Rattle.font_types.specs.fixed.Fixed.{Fixed}
 use Rattle.font_types.specs.matrix.Matrix.{Matrix}
@@ -50,7 +49,8 @@ pub given_number : {T : Type 0} {type this : FixedType} {name text old new : Lis
     → GivesAnswer (ShowsReading type text) old new outcome
 given_number {type = type} {text = text} bits_of number given read is row size =
     given_answer (ShowsReading type text) _ _ _ _ given
-    (rw (is, row, size) (record { bits = result_map_both bits_of (λ fault. fault) number; read = read; gives = search rules }))
+    (rw (is, row, size)
+    (record { bits = result_map_both bits_of (λ fault. fault) number; read = read; gives = search rules }))
 
 module _ (old new : List ℕ) (outcome : Result (Unit {0}) Unanswered) where
   -- what is read of two words, the first of which names a type

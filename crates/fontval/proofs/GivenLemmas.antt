@@ -1,9 +1,9 @@
 -- What is given for an answer.
-use Rattle.std.proofs.Common.{◌≡◌, ℕ, List, refl, sym, subst, Result, Ok, Err, rules}
+use Rattle.std.proofs.Common.{◌≡◌, ℕ, List, refl, sym, subst, Result, Err, rules}
 use Rattle.fontval.specs.Refusal.{Answer, GivesAnswer}
 use Rattle.fontval.specs.declared.refusal.Refusal.{Refusal}
 use Rattle.fontval.specs.declared.refusal.Unanswered.{Unanswered}
-use Rattle.fontval.specs.declared.refusal.Unanswered.TheVariants.{Memory, Refused}
+use Rattle.fontval.specs.declared.refusal.Unanswered.TheVariants.{Refused}
 
 -- a refusal that is right
 pub given_refusal : (IsRight : Answer → Type 0) (refusal : Refusal) (old : List ℕ)

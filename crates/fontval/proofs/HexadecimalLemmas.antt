@@ -1,24 +1,18 @@
 -- Bytes in hexadecimal are text, and hold no blank.
-use Rattle.std.proofs.Common.{◌≡◌, ◌<◌, ◌∷◌, [], List, ℕ, zero, suc, get_or, Bool, true, nat_lt, Result, Ok, Err, IsOk}
-use Rattle.std.proofs.Common.{refl, sym, ap, ◌∙◌, lit<, length, arith, false, true≢false}
+use Rattle.std.proofs.Common.{◌≡◌, ◌<◌, ◌∷◌, [], List, ℕ, get_or, true, nat_lt, Ok, IsOk}
+use Rattle.std.proofs.Common.{refl, length, arith, false}
 use Rattle.std.proofs.lemmas.Bool.{ltb-true}
 use Rattle.std.proofs.lemmas.Bool.Decides.{nat_tests}
 use Rattle.std.proofs.lemmas.List.Sums.{AllPass-from_list_all}
 use Rattle.std.proofs.lemmas.Str.Ascii.{IsAscii-from_all}
 use Rattle.std.proofs.lemmas.Str.{IsUtf8-from_ascii}
-use Rattle.std.specs.List.{list_all}
 use Rattle.std.specs.Str.{IsUtf8}
-use Rattle.std.specs.Prelude.{◌==◌}
-use Rattle.std.specs.List.{AllPass, onto_first, slice_split}
-use Rattle.std.specs.Result.{result_map_both}
+use Rattle.std.specs.List.{AllPass}
 use Rattle.std.proofs.lemmas.List.Splits.{slice_split_none}
 use Rattle.hex.specs.Hex.{decode_sized, encode_lower, is_hex_digit, lower_digits}
-use Rattle.hex.specs.declared.error.FromHexError.{FromHexError}
 use Rattle.hex.proofs.HexLemmas.{IsAscii-encode_with, IsOk-decode_sized}
 use Rattle.fontval.specs.Command.{hexadecimal, only_bytes}
 use Rattle.fontval.specs.Text.{is_blank, words_of}
-use Rattle.fontval.specs.declared.refusal.Refusal.TheVariants.{NotHexadecimal}
-use Rattle.std.specs.Cmp.{first_so, second_so}
 
 pub hexadecimal_is_text : (bytes : List ℕ) → IsUtf8 (encode_lower bytes)
 hexadecimal_is_text bytes =
@@ -35,7 +29,8 @@ digits_are_one_word : (text : List ℕ) → 0 < length text → AllPass is_hex_d
 unfolding words_of
 digits_are_one_word [] some all = absurd (omega arith)
 digits_are_one_word (byte ∷ rest) some all =
-    rw (slice_split_none is_blank (byte ∷ rest) (λ i d within. digit_is_not_blank (get_or (byte ∷ rest) i d) (all i d within))) refl
+    rw (slice_split_none is_blank (byte ∷ rest)
+    (λ i d within. digit_is_not_blank (get_or (byte ∷ rest) i d) (all i d within))) refl
 
 -- what is decoded is the only word
 pub decoded_alone : (n : ℕ) (text bytes : List ℕ) → 0 < n → Ok bytes ≡ hexadecimal n text

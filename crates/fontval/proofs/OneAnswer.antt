@@ -1,32 +1,23 @@
 -- An input has one answer: each definition on the way from a line to its text has one result.
-use Rattle.std.proofs.Common.{◌≡◌, ℕ, ℤ, zero, suc, Bool, true, false, List, [], ◌∷◌, ◌++◌, ◌⊎◌, inl, inr, length}
-use Rattle.std.proofs.Common.{Option, Some, None, Result, Ok, Err, MatchResult, refl, sym, ap, ◌∙◌, subst, arith}
-use Rattle.std.proofs.Common.{get_or, unwrap_or, pos, rules}
+use Rattle.std.proofs.Common.{◌≡◌, ℕ, ℤ, Bool, List, [], ◌∷◌, length}
+use Rattle.std.proofs.Common.{Option, Some, None, Result, Ok, Err, MatchResult, sym, ◌∙◌, arith}
+use Rattle.std.proofs.Common.{get_or, rules}
 use Rattle.std.specs.Prelude.{◌%◌, ◌==◌, if◌then◌else◌}
 use Rattle.std.specs.Bool.{MatchBool}
 use Rattle.std.specs.Result.{result_map_both}
 use Rattle.std.specs.Str.{bytes_eq}
-use Rattle.std.specs.Str.Parse.{signed_digits_value}
 use Rattle.std.specs.Fmt.{signed_decimal}
-use Rattle.std.proofs.lemmas.Bool.{cases_lt, false≢true}
-use Rattle.std.proofs.lemmas.List.{get_or-replicate, get_or_past}
-use Rattle.font_types.specs.DecimalFault.{DecimalFault}
-use Rattle.font_types.specs.Wrap.{FitsBits}
 use Rattle.font_types.specs.Tag.{IsFault, IsValidated, IsVisible, four_spaces}
-use Rattle.font_types.specs.InvalidTag.{InvalidTag}
-use Rattle.font_types.specs.InvalidTag.TheVariants.{InvalidLength, InvalidByte, ByteAfterSpace}
 use Rattle.font_types.specs.Fixed.{fixed_of}
-use Rattle.font_types.specs.FixedMatrix.{matrix_bits, point_bits}
 use Rattle.font_types.specs.fixed.Fixed.{Fixed}
 use Rattle.font_types.proofs.Callers.{reading_unique, validated_good}
 use Rattle.fontval.specs.Answers.{Answers, AnswersLine, AnswersLines}
 use Rattle.fontval.specs.Command.{AnswersWords, IsAnswer, IsNamed, IsNamedType, JudgesTag, fixed_point, fixed_row}
-use Rattle.fontval.specs.Command.{integer, name_of, only_bytes, two_words, verdict_text}
+use Rattle.fontval.specs.Command.{integer, name_of, only_bytes, two_words}
 use Rattle.fontval.specs.Deltas.{Varies, sum_of, varied_answer}
-use Rattle.fontval.specs.Images.{ShowsImages, images_text}
-use Rattle.fontval.specs.Numbers.{IsWhole, ReadsEach, ReadsFixed, ReadsJust, ReadsNumber, ReadsTerm, ReadsTerms}
+use Rattle.fontval.specs.Images.{ShowsImages}
+use Rattle.fontval.specs.Numbers.{ReadsEach, ReadsFixed, ReadsJust, ReadsNumber, ReadsTerm, ReadsTerms}
 use Rattle.fontval.specs.Numbers.{ReadsWhole, AndThen, pairs_of}
-use Rattle.fontval.specs.Refusal.{Answer, refusal_of, answer_text}
 use Rattle.fontval.specs.Text.{lines_of, words_of}
 use Rattle.fontval.specs.declared.command.Command.{Command}
 use Rattle.fontval.specs.declared.command.Command.TheVariants.{Integer, FixedPoint, Read, Tag, Image, Sum, Vary}
@@ -36,8 +27,7 @@ use Rattle.fontval.specs.declared.command.FixedType.TheVariants.{F48Dot16, F2Dot
 use Rattle.fontval.specs.declared.command.IntegerType.TheVariants.{Uint8, Int8, Uint16, Int16, Uint24, Int24, Uint32}
 use Rattle.fontval.specs.declared.command.IntegerType.TheVariants.{Int32, Int64}
 use Rattle.fontval.specs.declared.refusal.Refusal.{Refusal}
-use Rattle.fontval.specs.declared.refusal.Refusal.TheVariants.{UnknownCommand, WordCount, NotHexadecimal, NotDecimal}
-use Rattle.fontval.specs.declared.refusal.Refusal.TheVariants.{OutOfRange, NotWhole}
+use Rattle.fontval.specs.declared.refusal.Refusal.TheVariants.{UnknownCommand, WordCount}
 
 -- not two different things are so
 abbrev pub IsOne : {T : Type 0} → (T → Type 0) → Type 0

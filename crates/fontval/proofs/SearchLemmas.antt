@@ -1,5 +1,5 @@
 -- The first byte that passes a test, sought in blocks.
-use Rattle.std.proofs.Common.{◌≡◌, ℕ, suc, ◌+◌, ◌*◌, ◌%◌, ◌^◌, ◌<◌, ◌≤◌, eqb, Bool, true, false, cond, List, [], ◌∷◌}
+use Rattle.std.proofs.Common.{◌≡◌, ℕ, suc, ◌+◌, ◌*◌, ◌%◌, ◌^◌, ◌<◌, ◌≤◌, eqb, Bool, cond, List, [], ◌∷◌}
 use Rattle.std.proofs.Common.{length, map, replicate, take, drop, refl, sym, ap, ◌∙◌, arith, Some, None, rules}
 use Rattle.std.specs.List.{position_or_len}
 use Rattle.std.specs.Prelude.{◌||◌, not, position}
@@ -40,8 +40,13 @@ module _ (test : ℕ → Bool) where
       → length behind + n ≡ length rest → behind ≡ drop n rest → IsPassed test input behind (passed + n)
   more_passed n input rest behind passed so_far none long is = record {
     long = omega (arith, so_far.long);
-    first = grind
-        (arith, common_steps, in_front n rest, prefix_len-le-length (λ byte. not (test byte)) (take n rest), so_far.first);
+    first = grind (
+      arith,
+      common_steps,
+      in_front n rest,
+      prefix_len-le-length (λ byte. not (test byte)) (take n rest),
+      so_far.first,
+    );
   }
 
   pub found_behind : (n : ℕ) (input rest : List ℕ) (passed at : ℕ) → IsPassed test input rest passed

@@ -1,10 +1,9 @@
 -- Reading terms, two words at a time.
-use Rattle.std.proofs.Common.{◌≡◌, ℕ, ℤ, ◌+◌, ◌%◌, Bool, true, false, arith, length, List, [], ◌∷◌, ◌++◌, Ok, Err, refl}
+use Rattle.std.proofs.Common.{◌≡◌, ℕ, ℤ, ◌%◌, Bool, true, false, arith, length, List, [], ◌∷◌, ◌++◌, Ok, Err, refl}
 use Rattle.std.proofs.Common.{ap, ◌∙◌}
 use Rattle.std.specs.Prelude.{◌==◌}
-use Rattle.std.specs.Bool.{MatchBool}
 use Rattle.font_types.specs.fixed.Fixed.{Fixed}
-use Rattle.fontval.specs.Numbers.{ReadsEach, ReadsTerm, ReadsTerms, pairs_of}
+use Rattle.fontval.specs.Numbers.{ReadsTerm, ReadsTerms, pairs_of}
 use Rattle.fontval.specs.Text.{words_of}
 use Rattle.fontval.specs.declared.refusal.Refusal.{Refusal}
 use Rattle.fontval.specs.declared.refusal.Refusal.TheVariants.{WordCount}

@@ -3,7 +3,7 @@ use Rattle.std.proofs.Common.{◌≡◌, ◌+◌, List, [], ◌∷◌, ◌++◌,
 use mir.Syntax.{a_type, dnil, dcons}
 use mir.Val.{Val, vint, vptr, vunit}
 use mir.MapTy.{inst_fn}
-use base.Logic.{id⊢, fst∗, never}
+use base.Logic.{fst∗, never}
 use base.Fml.{ftrue, fsep, flft}
 use prog.Memory.{size, align, capped, up}
 use prog.Wp.{WpFn}
@@ -13,8 +13,8 @@ use contract.Running.{tables}
 use types.Logic.{sem}
 use types.Run.{stop, fld, addr, no_more, and_then, of_opd, unit_lit, returns, enter}
 use types.ByLocal.{alloc_all, pass_all, free_all, look_at, get, through, sets, lands_as}
-use types.Kit.{‵, raw, ◌⊛◌, later, given, prop, learn, regoal, feq_i, ◌$◌, ◌∵◌, !, qed, by, move, keep, use1, split, split3}
-use types.Kit.{join, fsplit, fjoin, group, await}
+use types.Kit.{‵, raw, ◌⊛◌, later, given, prop, learn, regoal, feq_i, ◌$◌, ◌∵◌, !, qed, by}
+use types.Kit.{move, keep, use1, split, split3, join, fsplit, fjoin, group, await}
 use denote.Exit.{yes}
 use denote.RattleType.{owns}
 use denote.RawPtr.{Ptr, block_ptr, null_ptr, room_for, in_a_block, rawptr_vals, rawptr_Tells}
@@ -37,25 +37,44 @@ pub deallocate_spec : {M : Type 1} → statement M
 deallocate_spec 𝓤 𝓛 𝓜 𝓡 wired Y L g d d' met _ =
     let Z : Al = record { row = Y; laws = L; g = g; d = d; drops = d' } in
     let E = f.ended Y g d d' in
-    let stays : Stays E.signature.params E.kept = (stay_dropped _ yes, (stay_dropped _ yes, (stay_dropped _ yes, (stay_dropped _ yes, tt)))) in
+    let stays : Stays E.signature.params E.kept =
+    (stay_dropped _ yes, (stay_dropped _ yes, (stay_dropped _ yes, (stay_dropped _ yes, tt)))) in
     let c = f.clauses Y g d d' 𝓛 𝓜.mem 𝓡.returns in
     let W = walk_of 𝓛 E stays c in
     let 𝓣 = tables 𝓤 𝓛.H 𝓜 𝓡 𝓡.env in
     let args = bounded (a_type ∷ []) (Y, tt) (dcons d (dcons d' dnil)) in
     let here = inst_fn args code.function in
-    proved 𝓛 E stays c 𝓜 𝓡 (λ κs x w vs ok. 𝓛.laws.⇛_intro _, (λ κs x w vs ok. 𝓛.laws.⇛_intro _, (λ κs x w vs ok. 𝓛.laws.⇛_intro _, (λ κs x w vs ok. 𝓛.laws.⇛_intro _, tt))))
+    proved 𝓛 E stays c 𝓜 𝓡 (
+      λ _ _ _ _ _. 𝓛.laws.⇛_intro _,
+      (
+        λ _ _ _ _ _. 𝓛.laws.⇛_intro _,
+        (
+          λ _ _ _ _ _. 𝓛.laws.⇛_intro _,
+          (λ _ _ _ _ _. 𝓛.laws.⇛_intro _, tt),
+        ),
+      ),
+    )
     (f.Key.name args) here (code.unfolded 𝓤 𝓛.H 𝓜 𝓡 wired (Y, tt) d d')
     (λ κs. (shr_vals, (rawptr_vals, (uint_vals w64, (uint_vals w64, tt)))))
     (λ κs. ((λ r vs s. s.0), (rawptr_Tells, (uint_Tells w64, (uint_Tells w64, tt))))) (λ κs qs bounds a τ are.
     let κ = κs.0 in let q = qs.0 in let x = a.1.0 in let n = a.1.1.0 in let al = a.1.1.1.0 in
     let h = a.0.now.inner in let b = a.0.ref_ptr.0 in let o = a.0.ref_ptr.1 + up (align (α Z)) 0 in
-    let y : Ptr → W.Ghost = λ u.
-    ((κs, qs, bounds, (a.0, (u, a.1.1)), (shr_vals a.0, (rawptr_vals u, (uint_vals w64 n, (uint_vals w64 al, tt))))), τ) in
+    let y : Ptr → W.Ghost = λ u. (
+      (
+        κs,
+        qs,
+        bounds,
+        (a.0, (u, a.1.1)),
+        (shr_vals a.0, (rawptr_vals u, (uint_vals w64 n, (uint_vals w64 al, tt)))),
+      ),
+      τ,
+    ) in
     qed 𝓛 (((‵ (flft κ q) ⊛ ‵ (flft κs.1.0 qs.1.0) ⊛ ‵ ftrue) ⊛ ‵ (owns (types_at E.signature.params κs) a (y x).0.4))
     ∷ (raw (fact 𝓤 (κs.1.0 ⊑ Y.lives)) ⊛ raw (fact 𝓤 ((capped (size τ) ≡ n) × (capped (align τ) ≡ al)))
     ⊛ ‵ (fsep (room_for τ x) (token Z h τ x))) ∷ []) ∵
     move ! (1 ∷ []) $ split3 ! $ heard ! _ (λ le. heard ! _ (λ said.
-    in_a_block ! x (λ u. fsep (room_for τ u) (token Z h τ u)) (fst∗ 𝓤 (never 𝓤) (sem 𝓛 (token Z h τ null_ptr))) (λ at from is.
+    in_a_block ! x (λ u. fsep (room_for τ u) (token Z h τ u)) (fst∗ 𝓤 (never 𝓤) (sem 𝓛 (token Z h τ null_ptr)))
+    (λ at from is.
     regoal ! (λ u. prop (WpFn 𝓤 𝓛.H 𝓣.C 𝓣.Λ here (vptr b a.0.ref_ptr.1 ∷ rawptr_vals u ++ vint w64 n ∷ vint w64 al ∷ [])
     (W.post (y u)))) is refl $ fsplit ! $ move ! (2 ∷ []) $ split ! $ split ! $ move ! (2 ∷ []) $ fsplit ! $
     fsplit ! $ move ! (1 ∷ []) $ unhide ! $ fsplit ! $ fsplit ! $ keep ! (7 ∷ 8 ∷ 0 ∷ 5 ∷ 6 ∷ []) $
@@ -73,4 +92,5 @@ deallocate_spec 𝓤 𝓛 𝓜 𝓡 wired Y L g d d' met _ =
     free_all ! refl $ join ! $
     nothing ! $ feq_i ! (List Val) (vunit ∷ []) _ refl $ nothing ! $ nothing ! $ fjoin ! $ nothing ! $ fjoin ! $
     nothing ! $ fjoin ! $ nothing ! $ fjoin ! $ move ! (3 ∷ 0 ∷ 1 ∷ 2 ∷ []) $
-    by ! (leaves 𝓛 E stays c (y (block_ptr at from)) vunit tt (tt, (tt, (tt, (tt, tt)))) (tt, (tt, (tt, (tt, tt))))))))))))
+    by ! (leaves 𝓛 E stays c (y (block_ptr at from)) vunit tt (tt, (tt, (tt, (tt, tt))))
+    (tt, (tt, (tt, (tt, tt))))))))))))
