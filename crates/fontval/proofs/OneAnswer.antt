@@ -13,7 +13,7 @@ use Rattle.font_types.specs.fixed.Fixed.{Fixed}
 use Rattle.font_types.proofs.Callers.{reading_unique, validated_good}
 use Rattle.fontval.specs.Answers.{Answers, AnswersLine, AnswersLines}
 use Rattle.fontval.specs.Command.{AnswersWords, IsAnswer, IsNamed, IsNamedType, JudgesTag, fixed_point, fixed_row}
-use Rattle.fontval.specs.Command.{integer, name_of, only_bytes, two_words}
+use Rattle.fontval.specs.Command.{integer, name_of, only_bytes}
 use Rattle.fontval.specs.Deltas.{Varies, sum_of, varied_answer}
 use Rattle.fontval.specs.Images.{ShowsImages}
 use Rattle.fontval.specs.Numbers.{ReadsEach, ReadsFixed, ReadsJust, ReadsNumber, ReadsTerm, ReadsTerms}
@@ -61,14 +61,10 @@ one_whole w word x y p q = grind arith
 one_each : {W T : Type 0} (reads : W → Result T Refusal → Type 0) → ((word : W) → IsOne (reads word)) → (words : List W)
     → IsOne (ReadsEach reads words)
 one_each reads one [] = one_value (Ok [])
-one_each reads one (word ∷ words) =
-    one_then _ (λ value. one_then _ (λ values. one_value (Ok (value ∷ values))) (ReadsEach reads words)
-    (one_each reads one words)) (reads word) (one word)
+one_each reads one (word ∷ words) = search (rules, one_then, one_value, one_each reads one words)
 
 one_term : (words : List ℕ × List ℕ) → IsOne (ReadsTerm words)
-one_term words =
-    one_then _ (λ scalar. one_then _ (λ delta. one_value (Ok (scalar, delta))) (ReadsWhole 32 words.1)
-    (one_whole 32 words.1)) (ReadsFixed words.0) (one_number 32 16 fixed_of words.0)
+one_term words = search (rules, one_then, one_value, one_number, one_whole)
 
 one_terms : (words : List (List ℕ)) → IsOne (ReadsTerms words)
 one_terms words = one_either _ _ (length words % 2 == 0) (one_each ReadsTerm one_term (pairs_of words))
@@ -144,9 +140,7 @@ one_answer_of : (words : List (List ℕ)) (command : Command) → IsOne (Answers
 one_answer_of words (Integer type) = one_value
     (result_map_both signed_decimal (λ refusal. refusal) (integer type words))
 one_answer_of words (FixedPoint type) = one_value (fixed_point type words)
-one_answer_of words Read =
-    one_after _ (λ pair. one_then _ (λ type. one_number _ _ _ pair.1) (IsNamedType pair.0) (one_named_type pair.0))
-    (two_words words)
+one_answer_of words Read = search (rules, one_after, one_then, one_number, one_named_type)
 one_answer_of words Tag = one_after _ one_judgement (only_bytes 4 words)
 one_answer_of words Image = one_then _ one_images (ReadsJust 14 words) (one_just 14 words)
 one_answer_of words Sum = one_then _ (λ terms. one_value (sum_of terms)) (ReadsTerms words) (one_terms words)
@@ -154,7 +148,7 @@ one_answer_of words Vary = one_vary words
 
 one_answer : (words : List (List ℕ)) → IsOne (IsAnswer words)
 one_answer [] = one_value (Err UnknownCommand)
-one_answer (name ∷ words) = one_then _ (one_answer_of words) (IsNamed name) (one_named name)
+one_answer (name ∷ words) = search (rules, one_then, one_answer_of, one_named)
 
 one_text : (line : List ℕ) → IsOne (AnswersLine line)
 one_text line x y p q = let same = one_answer (words_of line) p.answer q.answer p.meant q.meant in cc
