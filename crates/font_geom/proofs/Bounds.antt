@@ -1,133 +1,165 @@
--- How far rounding moves a point from its exact image, over exact sums of rounded products.
-use Rattle.std.proofs.Common.{◌≡◌, ◌∙◌, sym, ap, refl, ℕ, ◌+◌, ◌*◌, ◌^◌, ◌≤◌, ℤ, pos, ◌+ℤ◌, ◌-ℤ◌, ◌*ℤ◌, unsigned_abs}
-use Rattle.std.proofs.Common.{lit<, arith}
-use Rattle.std.proofs.Math.IntN.{*ℤ_comm}
-use Rattle.font_decimal.specs.Near.{near}
+-- How far rounding moves a point from its exact image, where no entry and no coordinate leaves 32 bits.
+use Rattle.std.proofs.Common.{◌≡◌, ◌∙◌, ap, ℕ, ◌+◌, ◌*◌, ◌^◌, ◌<◌, ◌≤◌, ℤ, pos, ◌+ℤ◌, ◌-ℤ◌, ◌*ℤ◌, ◌≤ℤ◌}
+use Rattle.std.proofs.Common.{unsigned_abs, lit<, arith}
+use Rattle.std.proofs.lemmas.Int.{unsigned_abs-mul}
+use Rattle.std.proofs.Math.IntN.{*ℤ_comm, +ℤ_comm, +ℤ_assoc}
+use Rattle.std.proofs.Math.Nat.{mul-le-mul_right}
+use borrow.Author.Differences.{up, down, same_in, same_out, at_most_in, le_out, sum_is_lem, neg_is, abs_is, product_is}
+use Rattle.font_base.specs.Integers.{sum-times, product-times}
+use Rattle.font_base.specs.Wrap.Laws.{wrap-fits, wrap-add_left, wrap-add_right}
 use Rattle.font_decimal.proofs.Near.{near_is}
 use Rattle.font_geom.specs.declared.matrix.Matrix.{Matrix}
 use Rattle.font_geom.specs.declared.point.Point.{Point}
-use Rattle.font_geom.specs.Matrix.{linear_form, affine_form, image_of}
-use Rattle.font_geom.specs.FixedMatrix.{rounded_product, exact_coordinate, IsWithin}
-use Rattle.font_geom.proofs.RingMatrices.{affine_form-affine_form}
-use Rattle.font_geom.proofs.Integers.{integers}
-use Rattle.font_geom.proofs.Close.{Close, Close-add, Close-trans, Close-times, Close-same, Close-along}
+use Rattle.font_geom.specs.Matrix.{linear_form, affine_form, image_of, matrix_product}
+use Rattle.font_geom.specs.FixedMatrix.{rounded_product, wrapped_product, wrapped_sum, exact_coordinate, IsWithin}
+use Rattle.font_geom.specs.FixedMatrix.{FitsComposed, FitsInTurn, IsCloseComposed, IsCloseInTurn}
 
--- a number of steps, in units of 1 / 65536 of a step, and those in turn
-abbrev finer : ℤ → ℤ
-finer z = z *ℤ pos 65536
+pub times_literal : (z : ℤ) (d : ℕ) → (up (z *ℤ pos d) ≡ up z * d) × (down (z *ℤ pos d) ≡ down z * d)
+times_literal z d = omega (arith, product_is z (pos d))
 
-finer-sum : (a b : ℤ) → finer (a +ℤ b) ≡ (finer a +ℤ finer b)
-finer-sum a b = integers.sum_times a b (pos 65536)
+pub literal_times : (d : ℕ) (z : ℤ) → (up (pos d *ℤ z) ≡ d * up z) × (down (pos d *ℤ z) ≡ d * down z)
+literal_times d z = omega (arith, product_is (pos d) z)
 
-finest-sum : (a b c : ℤ) → finer (finer (a +ℤ b +ℤ c)) ≡ (finer (finer a) +ℤ finer (finer b) +ℤ finer (finer c))
-finest-sum a b c =
-    ap finer (finer-sum (a +ℤ b) c ∙ ap (λ n. n +ℤ finer c) (finer-sum a b))
-    ∙ finer-sum (finer a +ℤ finer b) (finer c) ∙ ap (λ n. n +ℤ finer (finer c)) (finer-sum (finer a) (finer b))
+-- for `omega`, to which products of two variables are unknowns
+pub ruleset sums = (
+  same_in,
+  same_out,
+  at_most_in,
+  le_out,
+  sum_is_lem,
+  neg_is,
+  abs_is,
+  times_literal,
+  literal_times,
+)
 
-finest_is : (z : ℤ) → finer (finer z) ≡ (pos (2 ^ 32) *ℤ z)
-finest_is z = integers.products_associate z (pos 65536) (pos 65536) ∙ *ℤ_comm z (pos (2 ^ 32))
+-- a and b are at most e apart
+record Close (e : ℕ) (a b : ℤ) : Type 0 where
+  low : a ≤ℤ (b +ℤ pos e)
+  high : b ≤ℤ (a +ℤ pos e)
 
--- a product of a finer number
-finer-product : (a b : ℤ) → finer (a *ℤ b) ≡ (finer a *ℤ b)
-finer-product a b = integers.products_associate a b (pos 65536) ∙ ap (λ n. a *ℤ n) (*ℤ_comm b (pos 65536)) ∙ sym
-    (integers.products_associate a (pos 65536) b)
+Close-times : (e : ℕ) (a b x : ℤ) → Close e a b → Close (e * unsigned_abs x) (a *ℤ x) (b *ℤ x)
+Close-times e a b x p =
+    let split : a ≡ ((a -ℤ b) +ℤ b) = omega (arith, sums) in
+    let spread = ap (λ n. n *ℤ x) split ∙ sum-times (a -ℤ b) b x in
+    let apart : unsigned_abs (a -ℤ b) ≤ e = omega (arith, sums, p) in
+    omega (arith, sums, spread, unsigned_abs-mul (a -ℤ b) x, mul-le-mul_right (unsigned_abs x) apart)
 
--- ---- one level: a rounded product is half a step off
+-- a rounded product is half a step off
+rounded_close : (x y : ℤ) → Close 32768 (rounded_product x y *ℤ pos 65536) (x *ℤ y)
+rounded_close x y = let nearest = near_is (x *ℤ y) 65536 (lit< tt) in omega (arith, sums, nearest.close)
 
-rounded_close : (x y : ℤ) → Close 32768 (finer (rounded_product x y)) (x *ℤ y)
-rounded_close x y = let nearest = near_is (x *ℤ y) 65536 (lit< tt) in let half = nearest.close in
-    record { distance = omega arith }
-
-linear_close : (p x q y : ℤ) → Close 65536 (finer (linear_form ◌+ℤ◌ rounded_product p x q y))
+linear_close : (p x q y : ℤ) → Close 65536 (linear_form ◌+ℤ◌ rounded_product p x q y *ℤ pos 65536)
     (linear_form ◌+ℤ◌ ◌*ℤ◌ p x q y)
-linear_close p x q y =
-    Close-along 65536 (sym (finer-sum (rounded_product p x) (rounded_product q y))) refl
-    (Close-add 32768 32768 _ _ _ _ (rounded_close p x) (rounded_close q y))
+linear_close p x q y = omega (arith, sums, rounded_close p x, rounded_close q y)
 
-affine_close : (p x q y d : ℤ) → Close 65536 (finer (affine_form ◌+ℤ◌ rounded_product p x q y d))
+affine_close : (p x q y d : ℤ) → Close 65536 (affine_form ◌+ℤ◌ rounded_product p x q y d *ℤ pos 65536)
     (affine_form ◌+ℤ◌ ◌*ℤ◌ p x q y (pos 65536 *ℤ d))
-affine_close p x q y d =
-    let linear = linear_form ◌+ℤ◌ rounded_product p x q y in
-    Close-along 65536 (ap (λ n. finer linear +ℤ n) (*ℤ_comm (pos 65536) d) ∙ sym (finer-sum linear d)) refl
-    (Close-add 65536 0 _ _ _ _ (linear_close p x q y) (Close-same (pos 65536 *ℤ d)))
+affine_close p x q y d = omega (arith, sums, rounded_close p x, rounded_close q y)
 
--- ---- two levels: a rounded product with a number u that is itself near a finer one
-
-product_close : (e : ℕ) (u exact x : ℤ) → Close e (finer u) exact → Close (32768 * 65536 + e * unsigned_abs x)
-    (finer (finer (rounded_product u x))) (exact *ℤ x)
-product_close e u exact x close =
-    Close-trans (32768 * 65536) (e * unsigned_abs x) _ _ _ (Close-times 32768 _ _ (pos 65536) (rounded_close u x))
-    (Close-along (e * unsigned_abs x) (sym (finer-product u x)) refl (Close-times e (finer u) exact x close))
-
-flipped_close : (e : ℕ) (u exact x : ℤ) → Close e (finer u) exact → Close (32768 * 65536 + e * unsigned_abs x)
-    (finer (finer (rounded_product x u))) (x *ℤ exact)
-flipped_close e u exact x close =
-    Close-along (32768 * 65536 + e * unsigned_abs x) (ap (λ n. finer (finer (near n 65536))) (*ℤ_comm u x))
-    (*ℤ_comm exact x) (product_close e u exact x close)
-
--- the second level over three parts that are near
-sum_close : (a b c : ℕ) (u v w exact_u exact_v exact_w : ℤ) → Close a (finer (finer u)) exact_u
-    → Close b (finer (finer v)) exact_v → Close c (finer (finer w)) exact_w
-    → Close (a + b + c) (pos (2 ^ 32) *ℤ (u +ℤ v +ℤ w)) (exact_u +ℤ exact_v +ℤ exact_w)
-sum_close a b c u v w exact_u exact_v exact_w p q r =
-    Close-along (a + b + c) (sym (finest-sum u v w) ∙ finest_is (u +ℤ v +ℤ w)) refl
-    (Close-add (a + b) c _ _ _ _ (Close-add a b _ _ _ _ p q) r)
-
--- a distance, and a bound that it does not pass
-within : (d e : ℕ) {a b : ℤ} → d ≤ e → Close d a b → unsigned_abs (a -ℤ b) ≤ e
-within d e less close = let apart = close.distance in omega arith
-
--- ---- composed, over the row (p, q, d) of the first matrix
-
--- a shift of the product, in the finest units
-shift_finer : (p q d e f : ℤ) → finer (affine_form ◌+ℤ◌ ◌*ℤ◌ p e q f (pos 65536 *ℤ d)) ≡ affine_form ◌+ℤ◌ ◌*ℤ◌ p
-    (pos 65536 *ℤ e) q (pos 65536 *ℤ f) (pos (2 ^ 32) *ℤ d)
-shift_finer p q d e f =
-    let linear = linear_form ◌+ℤ◌ ◌*ℤ◌ p (pos 65536 *ℤ e) q (pos 65536 *ℤ f) in
-    finer-sum (linear_form ◌+ℤ◌ ◌*ℤ◌ p e q f) (pos 65536 *ℤ d)
-    ∙ ap (λ n. n +ℤ finer (pos 65536 *ℤ d))
-    (finer-sum (p *ℤ e) (q *ℤ f) ∙ ap (λ n. n +ℤ finer (q *ℤ f)) (into p e)
-    ∙ ap (λ n. (p *ℤ (pos 65536 *ℤ e)) +ℤ n) (into q f))
-    ∙ ap (λ n. linear +ℤ n) (ap finer (*ℤ_comm (pos 65536) d) ∙ finest_is d)
+-- a second rounding, of numbers u, v and w that are near to finer ones
+row_close : (e f : ℕ) (u v w x y fine_u fine_v fine_w : ℤ) → Close e (u *ℤ pos 65536) fine_u
+    → Close e (v *ℤ pos 65536) fine_v → Close f (w *ℤ pos 65536) fine_w
+    → Close (65536 * (65536 + f) + e * (unsigned_abs x + unsigned_abs y))
+    (pos (2 ^ 32) *ℤ affine_form ◌+ℤ◌ rounded_product u x v y w)
+    ((fine_u *ℤ x) +ℤ (fine_v *ℤ y) +ℤ (pos 65536 *ℤ fine_w))
+row_close e f u v w x y fine_u fine_v fine_w p q r =
+    omega (
+      arith,
+      sums,
+      r,
+      rounded_close u x,
+      rounded_close v y,
+      exchanged u x,
+      exchanged v y,
+      Close-times e (u *ℤ pos 65536) fine_u x p,
+      Close-times e (v *ℤ pos 65536) fine_v y q,
+    )
   where
-    into : (a b : ℤ) → finer (a *ℤ b) ≡ (a *ℤ (pos 65536 *ℤ b))
-    into a b = integers.products_associate a b (pos 65536) ∙ ap (λ n. a *ℤ n) (*ℤ_comm b (pos 65536))
+    exchanged : (a b : ℤ) → ((a *ℤ pos 65536) *ℤ b) ≡ ((a *ℤ b) *ℤ pos 65536)
+    exchanged a b = cc (product-times a (pos 65536) b, product-times a b (pos 65536), *ℤ_comm (pos 65536) b)
 
-pub composed_close : (p q d : ℤ) (b : Matrix ℤ) (at : Point ℤ) →
+-- ---- exact sums of exact products
+
+times-sum : (x y z : ℤ) → (x *ℤ (y +ℤ z)) ≡ ((x *ℤ y) +ℤ (x *ℤ z))
+times-sum x y z = cc (*ℤ_comm x (y +ℤ z), sum-times y z x, *ℤ_comm x y, *ℤ_comm x z)
+
+literal_out : (a b : ℤ) → (a *ℤ (pos 65536 *ℤ b)) ≡ (pos 65536 *ℤ (a *ℤ b))
+literal_out a b = cc (*ℤ_comm a (pos 65536 *ℤ b), product-times (pos 65536) b a, *ℤ_comm b a)
+
+literals : (a : ℤ) → (pos 65536 *ℤ (pos 65536 *ℤ a)) ≡ (pos (2 ^ 32) *ℤ a)
+literals a = omega (arith, sums)
+
+sum_exchange : (a b c : ℤ) → (a +ℤ (b +ℤ c)) ≡ (b +ℤ (a +ℤ c))
+sum_exchange a b c = omega (arith, sums)
+
+by_columns : (p q d : ℤ) (b : Matrix ℤ) (at : Point ℤ) →
+    affine_form ◌+ℤ◌ ◌*ℤ◌ (linear_form ◌+ℤ◌ ◌*ℤ◌ p b.xx q b.yx) at.x (linear_form ◌+ℤ◌ ◌*ℤ◌ p b.xy q b.yy) at.y
+    (pos 65536 *ℤ affine_form ◌+ℤ◌ ◌*ℤ◌ p b.dx q b.dy (pos 65536 *ℤ d))
+    ≡ exact_coordinate p q d b at
+by_columns p q d b at = simp
+    (sum-times, times-sum, product-times, literals, literal_out, +ℤ_assoc, +ℤ_comm, sum_exchange)
+
+composed_close : (p q d : ℤ) (b : Matrix ℤ) (at : Point ℤ) →
     IsWithin (65536 * (unsigned_abs at.x + unsigned_abs at.y + 2 * 65536)) (exact_coordinate p q d b at)
     (affine_form ◌+ℤ◌ rounded_product (linear_form ◌+ℤ◌ rounded_product p b.xx q b.yx) at.x
     (linear_form ◌+ℤ◌ rounded_product p b.xy q b.yy) at.y
     (affine_form ◌+ℤ◌ rounded_product p b.dx q b.dy d))
 composed_close p q d b at =
-    let u = linear_form ◌+ℤ◌ rounded_product p b.xx q b.yx in
-    let v = linear_form ◌+ℤ◌ rounded_product p b.xy q b.yy in
-    let w = affine_form ◌+ℤ◌ rounded_product p b.dx q b.dy d in
-    let exact_u = linear_form ◌+ℤ◌ ◌*ℤ◌ p b.xx q b.yx in
-    let exact_v = linear_form ◌+ℤ◌ ◌*ℤ◌ p b.xy q b.yy in
-    let exact_w = affine_form ◌+ℤ◌ ◌*ℤ◌ p b.dx q b.dy (pos 65536 *ℤ d) in
-    let first = product_close 65536 u exact_u at.x (linear_close p b.xx q b.yx) in
-    let second = product_close 65536 v exact_v at.y (linear_close p b.xy q b.yy) in
-    let third = Close-times 65536 (finer w) exact_w (pos 65536) (affine_close p b.dx q b.dy d) in
-    let all = sum_close _ _ _ (rounded_product u at.x) (rounded_product v at.y) w (exact_u *ℤ at.x) (exact_v *ℤ at.y)
-    (finer exact_w) first second third in
-    let same : ((exact_u *ℤ at.x) +ℤ (exact_v *ℤ at.y) +ℤ finer exact_w) ≡ exact_coordinate p q d b at =
-    ap (λ n. (exact_u *ℤ at.x) +ℤ (exact_v *ℤ at.y) +ℤ n) (shift_finer p q d b.dx b.dy)
-    ∙ affine_form-affine_form integers p q (pos (2 ^ 32) *ℤ d) b.xx b.yx b.xy b.yy (pos 65536 *ℤ b.dx)
-    (pos 65536 *ℤ b.dy) at.x at.y in
-    within _ _ (omega arith) (Close-along _ refl same all)
+    let near = linear_form ◌+ℤ◌ rounded_product in
+    let fine = linear_form ◌+ℤ◌ ◌*ℤ◌ in
+    let close = row_close 65536 65536 (near p b.xx q b.yx) (near p b.xy q b.yy) (near p b.dx q b.dy +ℤ d) at.x at.y (fine p b.xx q b.yx) (fine p b.xy q b.yy)
+    (fine p b.dx q b.dy +ℤ (pos 65536 *ℤ d)) (linear_close p b.xx q b.yx) (linear_close p b.xy q b.yy)
+    (affine_close p b.dx q b.dy d) in
+    rw (← by_columns p q d b at) (omega (arith, sums, close))
 
-pub in_turn_close : (p q d : ℤ) (b : Matrix ℤ) (at : Point ℤ) →
+in_turn_close : (p q d : ℤ) (b : Matrix ℤ) (at : Point ℤ) →
     IsWithin (65536 * (unsigned_abs p + unsigned_abs q + 65536)) (exact_coordinate p q d b at)
     (affine_form ◌+ℤ◌ rounded_product p (image_of ◌+ℤ◌ rounded_product b at).x q (image_of ◌+ℤ◌ rounded_product b at).y
     d)
 in_turn_close p q d b at =
     let u = affine_form ◌+ℤ◌ rounded_product b.xx at.x b.xy at.y b.dx in
     let v = affine_form ◌+ℤ◌ rounded_product b.yx at.x b.yy at.y b.dy in
-    let exact_u = affine_form ◌+ℤ◌ ◌*ℤ◌ b.xx at.x b.xy at.y (pos 65536 *ℤ b.dx) in
-    let exact_v = affine_form ◌+ℤ◌ ◌*ℤ◌ b.yx at.x b.yy at.y (pos 65536 *ℤ b.dy) in
-    let first = flipped_close 65536 u exact_u p (affine_close b.xx at.x b.xy at.y b.dx) in
-    let second = flipped_close 65536 v exact_v q (affine_close b.yx at.x b.yy at.y b.dy) in
-    let third = Close-along 0 refl (finest_is d) (Close-same (finer (finer d))) in
-    within _ _ (omega arith)
-    (sum_close _ _ 0 (rounded_product p u) (rounded_product q v) d (p *ℤ exact_u) (q *ℤ exact_v) (pos (2 ^ 32) *ℤ d)
-    first second third)
+    let fine_u = affine_form ◌+ℤ◌ ◌*ℤ◌ b.xx at.x b.xy at.y (pos 65536 *ℤ b.dx) in
+    let fine_v = affine_form ◌+ℤ◌ ◌*ℤ◌ b.yx at.x b.yy at.y (pos 65536 *ℤ b.dy) in
+    let none : Close 0 (d *ℤ pos 65536) (d *ℤ pos 65536) = omega (arith, sums) in
+    let close = row_close 65536 0 u v d p q fine_u fine_v _ (affine_close b.xx at.x b.xy at.y b.dx)
+    (affine_close b.yx at.x b.yy at.y b.dy) none in
+    rw (*ℤ_comm p u, *ℤ_comm q v, *ℤ_comm p fine_u, *ℤ_comm q fine_v) (omega (arith, sums, close))
+
+-- ---- what the calls give: wrapping on the way changes nothing where the exact sums fit 32 bits
+
+some : 0 < 32
+some = lit< tt
+
+pub composed_is_close : (a b : Matrix ℤ) (p moved : Point ℤ) → moved ≡ image_of wrapped_sum wrapped_product
+    (matrix_product wrapped_sum wrapped_product a b) p
+    → FitsComposed a b p → IsCloseComposed a b p moved
+composed_is_close a b p moved value fits =
+    let first = fits.product in
+    let last = fits.image in
+    let exact : moved ≡ image_of ◌+ℤ◌ rounded_product (matrix_product ◌+ℤ◌ rounded_product a b) p = value ∙ simp (
+      wrap-add_left,
+      wrap-add_right,
+      wrap-fits,
+      some,
+      first.xx,
+      first.yx,
+      first.xy,
+      first.yy,
+      first.dx,
+      first.dy,
+      last.x,
+      last.y,
+    ) in
+    rw exact (record { x = composed_close a.xx a.xy a.dx b p; y = composed_close a.yx a.yy a.dy b p })
+
+pub in_turn_is_close : (a b : Matrix ℤ) (p moved : Point ℤ) → moved ≡ image_of wrapped_sum wrapped_product a
+    (image_of wrapped_sum wrapped_product b p)
+    → FitsInTurn a b p → IsCloseInTurn a b p moved
+in_turn_is_close a b p moved value fits =
+    let first = fits.first in
+    let last = fits.image in
+    let exact : moved ≡ image_of ◌+ℤ◌ rounded_product a (image_of ◌+ℤ◌ rounded_product b p) = value ∙ simp
+    (wrap-add_left, wrap-add_right, wrap-fits, some, first.x, first.y, last.x, last.y) in
+    rw exact (record { x = in_turn_close a.xx a.xy a.dx b p; y = in_turn_close a.yx a.yy a.dy b p })

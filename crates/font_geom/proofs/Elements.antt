@@ -1,5 +1,5 @@
 -- Where sums and products of elements have one answer, so have images and products of matrices.
-use Rattle.std.proofs.Common.{◌≡◌, ◌∙◌, ap}
+use Rattle.std.proofs.Common.{◌≡◌}
 use Rattle.font_geom.specs.declared.matrix.Matrix.{Matrix}
 use Rattle.font_geom.specs.declared.point.Point.{Point}
 use Rattle.font_geom.specs.Matrix.{IsLinearForm, IsAffineForm, IsTransformed, IsProductOf, linear_form, affine_form}
@@ -20,30 +20,26 @@ pub record HasOneAnswer {T V : Type 0} (product sum : T → T → T → Type 0) 
 
 module _ {T V : Type 0} {product sum : T → T → T → Type 0} {shown : T → V} {plus times : V → V → V}
     (one : HasOneAnswer product sum shown plus times) where
-  linear_is : (p x q y r : T) → IsLinearForm product sum p x q y r → shown r ≡ linear_form plus times (shown p)
+  linear_is : {p x q y r : T} → IsLinearForm product sum p x q y r → shown r ≡ linear_form plus times (shown p)
       (shown x) (shown q) (shown y)
-  linear_is p x q y r it =
-      one.sum_is it.first it.second r it.is_sum
-      ∙ ap (λ n. plus n (shown it.second)) (one.product_is p x it.first it.is_first)
-      ∙ ap (plus (times (shown p) (shown x))) (one.product_is q y it.second it.is_second)
+  linear_is it = cc
+      (one.sum_is _ _ _ it.is_sum, one.product_is _ _ _ it.is_first, one.product_is _ _ _ it.is_second)
 
-  affine_is : (p x q y d r : T) → IsAffineForm product sum p x q y d r → shown r ≡ affine_form plus times (shown p)
+  affine_is : {p x q y d r : T} → IsAffineForm product sum p x q y d r → shown r ≡ affine_form plus times (shown p)
       (shown x) (shown q) (shown y) (shown d)
-  affine_is p x q y d r it = one.sum_is it.linear d r it.is_sum ∙ ap (λ n. plus n (shown d))
-      (linear_is p x q y it.linear it.is_linear)
+  affine_is it = cc (one.sum_is _ _ _ it.is_sum, linear_is it.is_linear)
 
-  pub image_is : (m : Matrix T) (p r : Point T) → IsTransformed product sum m p.x p.y r.x r.y
+  pub image_is : {m : Matrix T} {p r : Point T} → IsTransformed product sum m p.x p.y r.x r.y
       → map_point shown r ≡ image_of plus times (map_matrix shown m) (map_point shown p)
-  image_is m p r it = λ i. record
-      { x = affine_is m.xx p.x m.xy p.y m.dx r.x it.on_x i; y = affine_is m.yx p.x m.yy p.y m.dy r.y it.on_y i }
+  image_is it = λ i. record { x = affine_is it.on_x i; y = affine_is it.on_y i }
 
-  pub matrix_product_is : (a b c : Matrix T) → IsProductOf product sum a b c
+  pub matrix_product_is : {a b c : Matrix T} → IsProductOf product sum a b c
       → map_matrix shown c ≡ matrix_product plus times (map_matrix shown a) (map_matrix shown b)
-  matrix_product_is a b c it = λ i. record {
-    xx = linear_is a.xx b.xx a.xy b.yx c.xx it.xx i;
-    yx = linear_is a.yx b.xx a.yy b.yx c.yx it.yx i;
-    xy = linear_is a.xx b.xy a.xy b.yy c.xy it.xy i;
-    yy = linear_is a.yx b.xy a.yy b.yy c.yy it.yy i;
-    dx = affine_is a.xx b.dx a.xy b.dy a.dx c.dx it.dx i;
-    dy = affine_is a.yx b.dx a.yy b.dy a.dy c.dy it.dy i;
+  matrix_product_is it = λ i. record {
+    xx = linear_is it.xx i;
+    yx = linear_is it.yx i;
+    xy = linear_is it.xy i;
+    yy = linear_is it.yy i;
+    dx = affine_is it.dx i;
+    dy = affine_is it.dy i;
   }

@@ -46,6 +46,7 @@ pub fn identity_neutral<T: RingElement>(a: Matrix<T>) -> (Matrix<T>, Matrix<T>)
 
 /// The identity times `a`, and `a` times the identity: both are `a`, also where products are
 /// rounded and sums wrap.
+#[tactic(auto, using(font_fixed::proofs::FixedCalls::fixed_calls))]
 pub fn fixed_identity(a: Matrix<Fixed>) -> (Matrix<Fixed>, Matrix<Fixed>)
     ensures first { matrix_bits result.0 ≡ matrix_product wrapped_sum wrapped_product
         (identity_matrix (pos 0) (pos 65536)) (matrix_bits a) }

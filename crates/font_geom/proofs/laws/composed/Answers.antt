@@ -1,4 +1,4 @@
-use Rattle.font_geom.proofs.Images.{composed_is_close}
+use Rattle.font_geom.proofs.Bounds.{composed_is_close}
 use Rattle.font_geom.proofs.laws.composed.Goals as goal
 
 pub returns-clause-close : goal.returns-clause-close

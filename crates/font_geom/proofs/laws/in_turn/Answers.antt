@@ -1,4 +1,4 @@
-use Rattle.font_geom.proofs.Images.{in_turn_is_close}
+use Rattle.font_geom.proofs.Bounds.{in_turn_is_close}
 use Rattle.font_geom.proofs.laws.in_turn.Goals as goal
 
 pub returns-clause-close : goal.returns-clause-close
