@@ -1,7 +1,7 @@
 -- How tags are printed.
-use Rattle.std.proofs.Common.{◌≡◌, ap, ℕ, ◌/◌, ◌%◌, ◌<◌, ◌⊎◌, inl, inr, true, Some, List, [], ◌∷◌}
+use Rattle.std.proofs.Common.{◌≡◌, ℕ, ◌/◌, ◌%◌, ◌<◌, ◌⊎◌, true, arith, Some, List, [], ◌∷◌}
 use Rattle.std.proofs.lemmas.Fmt.{hex_byte}
-use Rattle.std.proofs.lemmas.Bool.{lt-leb, cond-false, and_left, and_right}
+use Rattle.std.proofs.lemmas.Bool.Decides.{nat_tests}
 use Rattle.std.specs.Fmt.{digits, digit_glyph, format_spec, styled_digits_output, digits_output, DisplaysOnOk}
 use Rattle.std.specs.Fmt.{WritesOnOk, ◌++?◌}
 use Rattle.font_tags.specs.Tag.{byte_text}
@@ -12,19 +12,13 @@ IsHidden byte = (byte < 0x20) ⊎ (0x7E < byte)
 
 pub byte_text-hidden : (byte : ℕ) → IsHidden byte → byte_text byte ≡ 123 ∷ 48 ∷ 120 ∷ digit_glyph true (byte / 16)
     ∷ digit_glyph true (byte % 16) ∷ 125 ∷ []
-byte_text-hidden byte (inl below) = cond-false _ _ _ (and_left _ _ (lt-leb 0x20 byte below))
-byte_text-hidden byte (inr above) = cond-false _ _ _ (and_right _ _ (lt-leb byte 0x7E above))
+byte_text-hidden byte hidden = grind (arith, nat_tests)
 
 -- `{:02X}` of a byte
-styled_digits_output-byte : (d : _) (s : _) (byte : ℕ) → byte < 256 → digits_output d ≡ Some (digits 16 true byte)
-    → s ≡ format_spec 32 0 4 2 18446744073709551615
-    → styled_digits_output d s ≡ Some (digit_glyph true (byte / 16) ∷ digit_glyph true (byte % 16) ∷ [])
-styled_digits_output-byte d s byte small output spec = rw (spec, output) (ap Some (hex_byte true byte small))
-
 pub hidden_written : {W : Type 0} (took : W → List ℕ → W → Type 0) (f : _) (r : _) (g : _) (d : _) (s : _) (byte : ℕ)
     → byte < 256 → IsHidden byte → digits_output d ≡ Some (digits 16 true byte)
     → s ≡ format_spec 32 0 4 2 18446744073709551615
     → DisplaysOnOk took f r (Some (123 ∷ 48 ∷ 120 ∷ []) ++? styled_digits_output d s ++? Some (125 ∷ [])) g
     → WritesOnOk took f r (byte_text byte) g
-hidden_written took f r g d s byte small hidden output spec written = rw (byte_text-hidden byte hidden)
-    (rw (styled_digits_output-byte d s byte small output spec) at written)
+hidden_written took f r g d s byte small hidden output spec written =
+    rw (byte_text-hidden byte hidden) (rw (spec, output, hex_byte true byte small) at written)

@@ -1,5 +1,5 @@
 -- How the bits of a version are printed.
-use Rattle.std.proofs.Common.{◌≡◌, ◌∙◌, ap, ℕ, ◌-◌, false, Some, List, [], ◌++◌, length, replicate, arith}
+use Rattle.std.proofs.Common.{◌≡◌, ap, ℕ, ◌-◌, false, Some, List, [], ◌++◌, length, replicate, arith}
 use Rattle.std.proofs.lemmas.List.{append-nil}
 use Rattle.std.specs.Fmt.{digits, digits_output, styled_digits_output, format_spec, padded_integral, char_count}
 use Rattle.std.specs.Fmt.{WritesOnOk, DisplaysOnOk, ◌++?◌}
@@ -9,8 +9,7 @@ use Rattle.font_tags.specs.Version.{hex_text}
 padded_integral-eight : (shown : List ℕ) → padded_integral (format_spec 32 0 4 8 18446744073709551615) false [] shown
     ≡ replicate (8 - length shown) 48 ++ shown
 unfolding padded_integral char_count
-padded_integral-eight shown = ap (λ rest. replicate (8 - length shown - 0 - 0) 48 ++ rest) (append-nil shown) ∙ ap
-    (λ zeros. replicate zeros 48 ++ shown) (omega arith)
+padded_integral-eight shown = rw append-nil (ap (λ zeros. replicate zeros 48 ++ shown) (omega arith))
 
 -- `{:08x}`
 pub bits_written : {W : Type 0} (took : W → List ℕ → W → Type 0) (f : _) (r : _) (g : _) (d : _) (s : _) (bits : ℕ)
@@ -19,6 +18,4 @@ pub bits_written : {W : Type 0} (took : W → List ℕ → W → Type 0) (f : _)
     → DisplaysOnOk took f r (Some front ++? styled_digits_output d s ++? Some back) g
     → WritesOnOk took f r (front ++ (hex_text bits ++ back)) g
 bits_written took f r g d s bits front back output spec written =
-    let shown : styled_digits_output d s ≡ Some (hex_text bits) = rw (spec, output)
-    (ap Some (padded_integral-eight (digits 16 false bits))) in
-    rw shown at written
+    rw (spec, output, padded_integral-eight (digits 16 false bits)) at written
