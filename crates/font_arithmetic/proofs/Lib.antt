@@ -1,4 +1,5 @@
 pub mod Wrapped
+pub mod Sums
 pub mod Shifts
 pub mod Narrowing
 pub mod Quotients
