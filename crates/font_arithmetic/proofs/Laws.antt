@@ -1,43 +1,31 @@
 -- The laws of products and quotients, from what the calls give.
-use Rattle.std.proofs.Common.{◌≡◌, ◌≢◌, ◌∙◌, sym, ap, refl, subst, ℕ, zero, suc, ◌*◌, ◌^◌, ◌<◌, ◌≤◌, ℤ, pos, negsuc}
-use Rattle.std.proofs.Common.{neg_ℤ, ◌-ℤ◌, ◌*ℤ◌, ◌≤ℤ◌, unsigned_abs, false, inl, inr, arith}
+use Rattle.std.proofs.Common.{◌≡◌, ◌≢◌, ◌∙◌, sym, ap, refl, ℕ, zero, suc, ◌*◌, ◌^◌, ◌<◌, ◌≤◌, ℤ, pos, negsuc}
+use Rattle.std.proofs.Common.{◌*ℤ◌, ◌≤ℤ◌, false, inl, inr, arith}
 use Rattle.std.proofs.lemmas.Bool.{cases_lt}
 use Rattle.std.proofs.lemmas.Int.{ints}
 use Rattle.std.proofs.lemmas.Nat.{pow_pos}
-use Rattle.std.proofs.Math.IntN.{*ℤ_comm}
+use Rattle.std.proofs.Math.IntN.{*ℤ_comm, *ℤ-negsuc, neg_ℤ-neg_ℤ}
 use Rattle.std.proofs.Math.Nat.{mul-le-mul_left}
 use Rattle.font_base.specs.Wrap.{wrap, FitsBits}
 use Rattle.font_base.specs.Wrap.Laws.{wrap-fits}
 use Rattle.font_decimal.specs.Near.{Near}
-use Rattle.font_decimal.proofs.Integers.{neg-times}
-use Rattle.font_decimal.proofs.Near.{IsNearMagnitude, near_to, near_unique, next_product}
-use Rattle.font_arithmetic.specs.Operations.{IsWrappedNear, IsProduct, IsQuotient, IsMulDiv}
+use Rattle.font_decimal.proofs.Near.{IsNearMagnitude, near_to, near_gives, next_product}
+use Rattle.font_arithmetic.specs.Operations.{IsWrappedNear, wrapped_near, IsProduct, IsQuotient, IsMulDiv}
 use Rattle.font_arithmetic.specs.NumberLaws.{ProductLaws, ProductInOneStep, QuotientLaws, QuotientInOneStep}
-
--- a fraction has one answer
-wrapped_near_unique : (w : ℕ) (n : ℤ) (d : ℕ) (q r : ℤ) → 0 < d → IsWrappedNear w n d q → IsWrappedNear w n d r → q ≡ r
-wrapped_near_unique w n d q r some a b = a.wrapped ∙ ap (wrap w)
-    (near_unique n d a.exact b.exact some a.nearest b.nearest) ∙ sym b.wrapped
-
-no_distance : (z : ℤ) → unsigned_abs (z -ℤ z) ≡ 0
-no_distance z = omega (arith, ints)
 
 -- a whole number needs no rounding
 pub near_exact : (q : ℤ) (d : ℕ) → 0 < d → Near (q *ℤ pos d) d q
-near_exact q d some =
-    let none = no_distance (q *ℤ pos d) in
-    record { close = omega (arith, none); away = λ same. absurd (omega (arith, none, same, some)) }
+near_exact q d some = omega (arith, ints)
 
 pub rounded_exact : (w : ℕ) (q : ℤ) (d : ℕ) (r : ℤ) → 0 < w → 0 < d → FitsBits w q → IsWrappedNear w (q *ℤ pos d) d r
     → r ≡ q
 rounded_exact w q d r wide some fits a =
-    a.wrapped ∙ ap (wrap w) (near_unique (q *ℤ pos d) d a.exact q some a.nearest (near_exact q d some))
-    ∙ wrap-fits w q wide fits
+    a.is ∙ ap (wrap w) (sym (near_gives (q *ℤ pos d) d q some (near_exact q d some))) ∙ wrap-fits w q wide fits
 
 mul_div_unique : (w : ℕ) (x a c q r : ℤ) → IsMulDiv w x a c q → IsMulDiv w x a c r → q ≡ r
 mul_div_unique w x a (pos zero) q r p s = p ∙ sym s
-mul_div_unique w x a (pos (suc c)) q r p s = wrapped_near_unique w (x *ℤ a) (suc c) q r (omega arith) p s
-mul_div_unique w x a (negsuc c) q r p s = wrapped_near_unique w (neg_ℤ (x *ℤ a)) (suc c) q r (omega arith) p s
+mul_div_unique w x a (pos (suc c)) q r p s = p.is ∙ sym s.is
+mul_div_unique w x a (negsuc c) q r p s = p.is ∙ sym s.is
 
 -- a positive divisor
 mul_div_rounded : (w : ℕ) (x a : ℤ) (d : ℕ) (r : ℤ) → 0 < d → IsMulDiv w x a (pos d) r → IsWrappedNear w (x *ℤ a) d r
@@ -51,8 +39,7 @@ product_laws_hold w f x y product flipped by_one wide fits p q r = record {
   is_product = p;
   is_flipped = q;
   is_by_one = r;
-  commutes = wrapped_near_unique w (x *ℤ y) (2 ^ f) flipped product (pow_pos f)
-      (subst (λ (n : ℤ). IsWrappedNear w n (2 ^ f) flipped) (*ℤ_comm y x) q) p;
+  commutes = q.is ∙ ap (λ n. wrapped_near w n (2 ^ f)) (*ℤ_comm y x) ∙ sym p.is;
   one_is_neutral = rounded_exact w x (2 ^ f) by_one wide (pow_pos f) fits r;
 }
 
@@ -60,8 +47,7 @@ pub product_in_one_step : (w f : ℕ) (x y product in_one_step : ℤ) → IsProd
     → IsMulDiv w x y (pos (2 ^ f)) in_one_step → ProductInOneStep w f x y product in_one_step
 product_in_one_step w f x y product in_one_step p s = record {
   is_in_one_step = s;
-  steps_agree = wrapped_near_unique w (x *ℤ y) (2 ^ f) in_one_step product (pow_pos f)
-      (mul_div_rounded w x y (2 ^ f) in_one_step (pow_pos f) s) p;
+  steps_agree = (mul_div_rounded w x y (2 ^ f) in_one_step (pow_pos f) s).is ∙ sym p.is;
 }
 
 -- where x * a is q times the divisor, the answer is q
@@ -69,23 +55,14 @@ pub mul_div_exact : (w : ℕ) (q x a c r : ℤ) → 0 < w → FitsBits w q → (
     → c ≢ pos 0 → r ≡ q
 mul_div_exact w q x a (pos zero) r wide fits same given other = absurd (other refl)
 mul_div_exact w q x a (pos (suc n)) r wide fits same given other =
-    rounded_exact w q (suc n) r wide (omega arith) fits (subst (λ (m : ℤ). IsWrappedNear w m (suc n) r) same given)
+    rounded_exact w q (suc n) r wide (omega arith) fits (rw same at given)
 mul_div_exact w q x a (negsuc n) r wide fits same given other =
-    rounded_exact w q (suc n) r wide (omega arith) fits (subst (λ (m : ℤ). IsWrappedNear w m (suc n) r) turned given)
-  where
-    turned : neg_ℤ (x *ℤ a) ≡ (q *ℤ pos (suc n))
-    turned = ap neg_ℤ same ∙ ap neg_ℤ (*ℤ_comm q (negsuc n)) ∙ omega (
-      arith,
-      ints,
-      neg-times (pos
-          (suc n)) 1,
-      *ℤ_comm q (pos (suc n)),
-    )
+    rounded_exact w q (suc n) r wide (omega arith) fits (rw (same, *ℤ-negsuc q n, neg_ℤ-neg_ℤ) at given)
 
 mul_div_comm : (w : ℕ) (x a c r : ℤ) → c ≢ pos 0 → IsMulDiv w x a c r → IsMulDiv w a x c r
 mul_div_comm w x a (pos zero) r other given = absurd (other refl)
-mul_div_comm w x a (pos (suc n)) r other given = subst (λ (m : ℤ). IsWrappedNear w m (suc n) r) (*ℤ_comm x a) given
-mul_div_comm w x a (negsuc n) r other given = subst (λ (m : ℤ). IsWrappedNear w (neg_ℤ m) (suc n) r) (*ℤ_comm x a) given
+mul_div_comm w x a (pos (suc n)) r other given = rw (*ℤ_comm x a) at given
+mul_div_comm w x a (negsuc n) r other given = rw (*ℤ_comm x a) at given
 
 -- a number over itself is 1
 pub itself : (w f : ℕ) (x r : ℤ) → 0 < w → FitsBits w (pos (2 ^ f)) → IsQuotient w f x x r → x ≢ pos 0 → r ≡ pos (2 ^ f)
@@ -94,32 +71,25 @@ itself w f x r wide fits p other =
 
 -- the share of x that a is in d is at most x
 share_at_most : (x a d m : ℕ) → a ≤ d → IsNearMagnitude (x * a) d m → m ≤ x
-share_at_most x a d m within rounded =
-    let scaled : x * a ≤ x * d = mul-le-mul_left x within in
-    elim (cases_lt x m) [
-      | inl more ↦ absurd (omega (arith, rounded.low, next_product x m d more, scaled))
-      | inr less ↦ less
-    ]
+share_at_most x a d m within rounded = elim (cases_lt x m) [
+  | inl more ↦ absurd (omega (arith, rounded, next_product x m d more, mul-le-mul_left x within))
+  | inr less ↦ less
+]
 
 -- and not negative: for a from 0 to c, x * a / c lies between 0 and x
 pub mul_div_between : (w : ℕ) (x a c r : ℤ) → 0 < w → FitsBits w x → IsMulDiv w x a c r → pos 0 ≤ℤ x → pos 0 ≤ℤ a
     → a ≤ℤ c → c ≢ pos 0
     → (pos 0 ≤ℤ r) × (r ≤ℤ x)
-mul_div_between w (negsuc x) a c r wide fits given low from to other = absurd (omega (arith, ints, low))
-mul_div_between w (pos x) (negsuc a) c r wide fits given low from to other = absurd (omega (arith, ints, from))
-mul_div_between w (pos x) (pos a) (negsuc c) r wide fits given low from to other = absurd (omega (arith, ints, to))
-mul_div_between w (pos x) (pos a) (pos zero) r wide fits given low from to other = absurd (other refl)
+mul_div_between w (negsuc x) a c r wide fits given low from to other = absurd (omega (arith, ints))
+mul_div_between w x (negsuc a) c r wide fits given low from to other = absurd (omega (arith, ints))
+mul_div_between w x (pos a) (negsuc c) r wide fits given low from to other = absurd (omega (arith, ints))
+mul_div_between w x a (pos zero) r wide fits given low from to other = absurd (other refl)
 mul_div_between w (pos x) (pos a) (pos (suc d)) r wide fits given low from to other =
     let rounded = near_to false (x * a) (suc d) given.exact (omega arith) given.nearest in
-    let bound = share_at_most x a (suc d) rounded.magnitude (omega (arith, ints, to)) rounded.rounded in
-    let inside : FitsBits w (pos rounded.magnitude) = record {
-      low = omega (arith, ints);
-      high =
-          omega (arith, ints, bound, fits.high);
-    } in
-    let same : r ≡ pos rounded.magnitude =
-    given.wrapped ∙ ap (wrap w) rounded.is ∙ wrap-fits w (pos rounded.magnitude) wide inside in
-    (omega (arith, ints, same), omega (arith, ints, same, bound))
+    let bound = share_at_most x a (suc d) rounded.magnitude (omega (arith, ints)) rounded.rounded in
+    let inside : FitsBits w (pos rounded.magnitude) = omega (arith, ints, bound, fits.high) in
+    let same = given.wrapped ∙ ap (wrap w) rounded.is ∙ wrap-fits w (pos rounded.magnitude) wide inside in
+    omega (arith, ints, same, bound)
 
 -- and a part of a whole, over the whole, between 0 and 1
 pub quotient_between : (w f : ℕ) (x y r : ℤ) → 0 < w → FitsBits w (pos (2 ^ f)) → IsQuotient w f x y r → pos 0 ≤ℤ x

@@ -65,20 +65,9 @@ is_narrowed w v d half x s q it wide is low high =
     let turns : ℤ = given.turns *ℤ pos (2 ^ v) in
     let apart : (turns *ℤ pos d) ≡ (given.turns *ℤ pos (2 ^ w)) = rw it.whole
     (product-times given.turns (pos (2 ^ v)) (pos d)) in
+    let next = times-next (q +ℤ turns) d in
     let nearest : Up x d (q +ℤ turns) =
-    omega (
-      arith,
-      sums,
-      it.halves,
-      is,
-      low,
-      high,
-      apart,
-      given.differs,
-      sum-times q turns (pos d),
-      times-next (q +ℤ turns)
-          d,
-    ) in
+    omega (arith, sums, it.halves, is, low, high, apart, given.differs, sum-times q turns (pos d), next) in
     let fits : FitsBits v q = record {
       low = fits_low d (half_range v) s q (rw (is, ← it.top) given.fits.low) high;
       high = fits_high d (half_range v) s q (rw (is, ← it.top) given.fits.high) low;
