@@ -1,6 +1,7 @@
 -- Quotients rounded with ties away from zero, as code has it: on magnitudes, with the sign put back and 32 bits kept.
-use Rattle.std.proofs.Common.{◌≡◌, ◌∙◌, sym, ap, refl, subst, ℕ, zero, suc, ◌-◌, ◌*◌, ◌%◌, ◌^◌, ◌<◌, Bool, true, false}
-use Rattle.std.proofs.Common.{not, ℤ, pos, negsuc, neg_ℤ, ◌*ℤ◌, unsigned_abs, arith, lit<, if◌then◌else◌}
+use Rattle.std.proofs.Common.{◌≡◌, ◌∙◌, sym, ap, refl, ℕ, zero, suc, ◌-◌, ◌*◌, ◌%◌, ◌^◌, ◌<◌, Bool, true, false}
+use Rattle.std.proofs.Common.{not, ℤ, pos, negsuc, neg_ℤ, ◌*ℤ◌, unsigned_abs, arith, lit<}
+use Rattle.std.proofs.Math.IntN.{neg_ℤ-neg_ℤ}
 use Rattle.std.proofs.lemmas.Int.{ints, to_z-of_z}
 use Rattle.std.specs.Int.{w32, is_negative}
 use borrow.Author.Differences.{false_is_lt}
@@ -41,63 +42,36 @@ signed_is_near w s n d m r some near is = wrapped_near_from w (signed s n) d (si
 
 signed_not : (s : Bool) (n : ℕ) → neg_ℤ (signed s n) ≡ signed (not s) n
 signed_not false n = refl
-signed_not true n = twice (pos n)
-  where
-    twice : (z : ℤ) → neg_ℤ (neg_ℤ z) ≡ z
-    twice z = omega (arith, ints)
+signed_not true n = neg_ℤ-neg_ℤ (pos n)
 
--- just one of two flags is set
-abbrev pub differ : Bool → Bool → Bool
-differ s t = if s then not t else t
+ends_fit : (t : Bool) → FitsBits 32 (signed t (2 ^ 31 - 1))
+ends_fit true = omega (arith, ints)
+ends_fit false = omega (arith, ints)
 
-differ_false : (t : Bool) → differ t false ≡ t
+-- two flags differ
+differ_false : (t : Bool) → not (beq t false) ≡ t
 differ_false true = refl
 differ_false false = refl
 
-differ_true : (t : Bool) → differ t true ≡ not t
+differ_true : (t : Bool) → not (beq t true) ≡ not t
 differ_true true = refl
 differ_true false = refl
 
-ends_fit : (t : Bool) → FitsBits 32 (signed t (2 ^ 31 - 1))
-ends_fit true = record { low = omega (arith, ints); high = omega (arith, ints) }
-ends_fit false = record { low = omega (arith, ints); high = omega (arith, ints) }
-
-is_mul_div : (x a c r : ℤ) (s : Bool) (m : ℕ) → s ≡ differ (differ_in_sign x a) (is_negative c)
-    → (0 < unsigned_abs c → m ≡ near_magnitude (unsigned_abs x * unsigned_abs a) (unsigned_abs c))
-    → (unsigned_abs c ≡ 0 → m ≡ 2 ^ 31 - 1)
-    → r ≡ wrap 32 (signed s m) → IsMulDiv 32 x a c r
-is_mul_div x a (pos zero) r s m sign near by_zero is =
-    let flag : s ≡ differ_in_sign x a = sign ∙ differ_false (differ_in_sign x a) in
-    let top : m ≡ 2 ^ 31 - 1 = by_zero refl in
-    is ∙ rw (flag, top) (wrap-fits 32 (signed (differ_in_sign x a) (2 ^ 31 - 1)) (lit< tt)
-    (ends_fit (differ_in_sign x a)))
-is_mul_div x a (pos (suc c)) r s m sign near by_zero is =
-    let flag : s ≡ differ_in_sign x a = sign ∙ ap (differ (differ_in_sign x a)) (not_negative (suc c)) ∙ differ_false
-    (differ_in_sign x a) in
-    subst (λ (n : ℤ). IsWrappedNear 32 n (suc c) r) (rw flag (sym (product_signed x a)))
-    (signed_is_near 32 s (unsigned_abs x * unsigned_abs a) (suc c) m r (omega arith) (near (omega arith)) is)
-is_mul_div x a (negsuc c) r s m sign near by_zero is =
-    let flag : s ≡ not (differ_in_sign x a) = sign ∙ differ_true (differ_in_sign x a) in
-    subst (λ (n : ℤ). IsWrappedNear 32 n (suc c) r)
-    (rw flag (sym (ap neg_ℤ (product_signed x a)
-    ∙ signed_not (differ_in_sign x a) (unsigned_abs x * unsigned_abs a))))
-    (signed_is_near 32 s (unsigned_abs x * unsigned_abs a) (suc c) m r (omega arith) (near (omega arith)) is)
-
-differ_not_same : (s t : Bool) → not (beq s t) ≡ differ s t
-differ_not_same true true = refl
-differ_not_same true false = refl
-differ_not_same false true = refl
-differ_not_same false false = refl
-
--- the same from the signs and magnitudes as the code has them
+-- from the signs and magnitudes as the code has them
 pub signed_is_mul_div : (x a c r : ℤ) (s t : Bool) (m i j k : ℕ) → s ≡ differ_in_sign x a → t ≡ is_negative c
     → i ≡ unsigned_abs x → j ≡ unsigned_abs a → k ≡ unsigned_abs c
     → (0 < k → m ≡ near_magnitude (i * j) k) → (k ≡ 0 → m ≡ 2 ^ 31 - 1) → r ≡ wrap 32 (signed (not (beq s t)) m)
     → IsMulDiv 32 x a c r
-signed_is_mul_div x a c r s t m i j k both one first second third near by_zero is =
-    is_mul_div x a c r (not (beq s t)) m (differ_not_same s t ∙ rw (both, one) refl)
-    (λ some. near (subst (λ (n : ℕ). 0 < n) (sym third) some) ∙ rw (first, second, third) refl)
-    (λ none. by_zero (third ∙ none)) is
+signed_is_mul_div x a (pos zero) r s t m i j k both one first second third near by_zero is =
+    is ∙ rw (one, differ_false s, by_zero third, both) (wrap-fits 32 (signed (differ_in_sign x a) (2 ^ 31 - 1)) (lit< tt)
+    (ends_fit (differ_in_sign x a)))
+signed_is_mul_div x a (pos (suc c)) r s t m i j k both one first second third near by_zero is =
+    rw (product_signed x a) (signed_is_near 32 (differ_in_sign x a) (unsigned_abs x * unsigned_abs a) (suc c) m r
+    (omega arith) (near (omega (arith, third)) ∙ rw (first, second, third)) (cc (not_negative (suc c), differ_false s)))
+signed_is_mul_div x a (negsuc c) r s t m i j k both one first second third near by_zero is =
+    rw (product_signed x a, signed_not (differ_in_sign x a) (unsigned_abs x * unsigned_abs a))
+    (signed_is_near 32 (not (differ_in_sign x a)) (unsigned_abs x * unsigned_abs a) (suc c) m r (omega arith)
+    (near (omega (arith, third)) ∙ rw (first, second, third)) (cc (differ_true s)))
 
 -- ---- a magnitude of which 32 bits are kept, and its sign
 
