@@ -1,46 +1,38 @@
 -- Products rounded with ties away from zero, as code has it: half a step is added, less one where the product is
 -- negative, and the sum is shifted.
-use Rattle.std.proofs.Common.{◌≡◌, ◌∙◌, sym, ap, refl, ℕ, suc, ◌+◌, ◌-◌, ◌*◌, ◌%◌, ◌^◌, ◌<◌, ◌≤◌, Bool, true, false, ℤ}
-use Rattle.std.proofs.Common.{pos, ◌+ℤ◌, ◌-ℤ◌, ◌*ℤ◌, ◌≤ℤ◌, ◌<ℤ◌, unsigned_abs, arith, lit<}
+use Rattle.std.proofs.Common.{◌≡◌, ◌∙◌, ap, refl, ℕ, suc, ◌+◌, ◌-◌, ◌*◌, ◌%◌, ◌^◌, ◌<◌, ◌≤◌, ℤ}
+use Rattle.std.proofs.Common.{pos, ◌+ℤ◌, ◌-ℤ◌, ◌*ℤ◌, ◌≤ℤ◌, ◌<ℤ◌, unsigned_abs, arith, lit<, ◌⊎◌}
 use Rattle.std.proofs.lemmas.Nat.{pow_pos}
 use Rattle.std.specs.Int.{w32, w64}
-use borrow.Author.Differences.{abs_is}
 use mir.Val.{SFits, to_z, of_z, bool_byte}
 use lib.Signed.{shr_z, lt_z}
 use Rattle.font_base.specs.Wrap.{wrap}
-use Rattle.font_decimal.specs.Near.{signed, near}
+use Rattle.font_decimal.specs.Near.{Near, near}
 use Rattle.font_decimal.proofs.Near.{near_is, near_gives}
-use Rattle.font_arithmetic.specs.Operations.{IsWrappedNear, differ_in_sign}
-use Rattle.std.proofs.lemmas.Int.{ints, to_z-of_z, to_z_pos, unsigned_abs-mul}
+use Rattle.font_arithmetic.specs.Operations.{IsWrappedNear}
+use Rattle.std.proofs.lemmas.Int.{ints, to_z-of_z, unsigned_abs-mul}
 use Rattle.std.proofs.Math.Nat.{mul-le-mul, pow-le-pow_right, two-pow-succ}
 use Rattle.font_arithmetic.proofs.Shifts.{shr_low, shr_high, shr_fits}
-use Rattle.font_arithmetic.proofs.Quotients.{product_signed, wrapped_near_from}
+use Rattle.font_arithmetic.proofs.Quotients.{wrapped_near_from}
 
 -- the product of two numbers of 32 bits
 pub products_fit : (x y : ℤ) → SFits w32 x → SFits w32 y → SFits w64 (x *ℤ y)
 products_fit x y f g =
     let small : unsigned_abs x * unsigned_abs y ≤ 2 ^ 31 * 2 ^ 31 =
     mul-le-mul {n₁ = unsigned_abs x} {m₁ = unsigned_abs y} {n₂ = 2 ^ 31} {m₂ = 2 ^ 31}
-    (omega (arith, ints, f, abs_is x)) (omega (arith, ints, g, abs_is y)) in
-    rw (product_signed x y) (either (differ_in_sign x y) (unsigned_abs x * unsigned_abs y) (omega (arith, small)))
-  where
-    either : (s : Bool) (n : ℕ) → n ≤ 2 ^ 62 → SFits w64 (signed s n)
-    either true n small = omega (arith, ints, small)
-    either false n small = omega (arith, ints, small)
+    (omega (arith, ints)) (omega (arith, ints)) in
+    omega (arith, ints, unsigned_abs-mul x y, small)
 
--- p is the greatest multiple of d that is not above n and half a step, less one where n is negative
-near_of_sum : (s : Bool) (n e p : ℤ) (k d half : ℕ) → d ≡ half + half → 0 < half → lt_z n (pos 0) ≡ s
-    → e ≡ pos (bool_byte s) → k ≡ unsigned_abs p
-    → p ≤ℤ ((n +ℤ pos half) -ℤ e) → ((n +ℤ pos half) -ℤ e) <ℤ (p +ℤ pos d) → (2 * unsigned_abs (p -ℤ n) ≤ d)
-    × (2 * unsigned_abs (p -ℤ n) ≡ d → unsigned_abs n < k)
-near_of_sum true n e p k d half halves some sign less is low high = (
-  omega (arith, ints, halves, sign, less, low, high),
-  λ tie. omega (arith, ints, halves, sign, less, is, low, high, tie),
-)
-near_of_sum false n e p k d half halves some sign less is low high = (
-  omega (arith, ints, halves, less, low, high),
-  λ tie. omega (arith, ints, halves, some, sign, less, is, low, high, tie),
-)
+-- 1 where n is negative, else 0, as code has it
+sign_step : (n e : ℤ) → e ≡ pos (bool_byte (lt_z n (pos 0)))
+    → ((e ≡ pos 1) × (n <ℤ pos 0)) ⊎ ((e ≡ pos 0) × (pos 0 ≤ℤ n))
+sign_step n e is = grind (arith, ints)
+
+-- q * d is the greatest multiple of d that is not above n and half a step, less one where n is negative
+near_of_sum : (n e q : ℤ) (d half : ℕ) → d ≡ half + half → 0 < half
+    → ((e ≡ pos 1) × (n <ℤ pos 0)) ⊎ ((e ≡ pos 0) × (pos 0 ≤ℤ n)) → (q *ℤ pos d) ≤ℤ ((n +ℤ pos half) -ℤ e)
+    → ((n +ℤ pos half) -ℤ e) <ℤ ((q *ℤ pos d) +ℤ pos d) → Near n d q
+near_of_sum n e q d half halves some step low high = omega (arith, ints, unsigned_abs-mul q (pos d))
 
 -- the wrapped answer is a rounded one
 pub near_is_wrapped_near : (w : ℕ) (n : ℤ) (d : ℕ) (r : ℤ) → 0 < d → r ≡ wrap w (near n d) → IsWrappedNear w n d r
@@ -56,17 +48,10 @@ half_small : (f : ℕ) → f ≤ 30 → 2 ^ (f - 1) ≤ 2 ^ 30
 half_small f few = pow-le-pow_right {n = 2} (lit< tt) {i = f - 1} {j = 30} (omega (arith, few))
 
 half_is : (f : ℕ) → f ≤ 30 → to_z w64 (half_code f) ≡ pos (2 ^ (f - 1))
-half_is f few =
-    let bound = half_small f few in
-    let same : half_code f ≡ 2 ^ (f - 1) = omega (arith, bound) in
-    rw same (to_z_pos w64 (2 ^ (f - 1)) (omega (arith, bound)))
+half_is f few = omega (arith, ints, half_small f few)
 
 halves : (f : ℕ) → 6 ≤ f → 2 ^ f ≡ 2 ^ (f - 1) + 2 ^ (f - 1)
 halves f many = let is : f ≡ suc (f - 1) = omega (arith, many) in ap (λ n. 2 ^ n) is ∙ two-pow-succ (f - 1)
-
-at_most_one : (s : Bool) (e : ℤ) → e ≡ pos (bool_byte s) → (pos 0 ≤ℤ e) × (e ≤ℤ pos 1)
-at_most_one true e is = (omega (arith, ints, is), omega (arith, ints, is))
-at_most_one false e is = (omega (arith, ints, is), omega (arith, ints, is))
 
 -- e is 1 where n is negative, else 0
 pub shifted_is_near : (n e : ℤ) (f : ℕ) → SFits w64 n → unsigned_abs n ≤ 2 ^ 62 → 6 ≤ f → f ≤ 30
@@ -79,24 +64,19 @@ pub shifted_is_near : (n e : ℤ) (f : ℕ) → SFits w64 n → unsigned_abs n �
 shifted_is_near n e f fits small many few is =
     let half : ℕ = 2 ^ (f - 1) in
     let bound : half ≤ 2 ^ 30 = half_small f few in
-    let less : e ≡ pos (bool_byte (lt_z n (pos 0))) = is ∙ ap (λ y. pos (bool_byte (lt_z y (pos 0))))
-    (to_z-of_z w64 n fits) in
-    let unit = at_most_one (lt_z n (pos 0)) e less in
-    let above : SFits w64 (n +ℤ pos half) = omega (arith, ints, small, bound, abs_is n) in
-    let sum : SFits w64 ((n +ℤ pos half) -ℤ e) = omega (arith, ints, small, bound, unit, abs_is n) in
+    let step = sign_step n e (rw (to_z-of_z w64 n fits) at is) in
+    let sum : SFits w64 ((n +ℤ pos half) -ℤ e) = omega (arith, ints) in
     let q : ℤ = shr_z ((n +ℤ pos half) -ℤ e) (2 ^ f) in
-    let near = near_of_sum (lt_z n (pos 0)) n e (q *ℤ pos (2 ^ f)) (unsigned_abs q * 2 ^ f) (2 ^ f) half (halves f many)
-    (pow_pos (f - 1)) refl less (sym (unsigned_abs-mul q (pos (2 ^ f))))
-    (shr_low _ (2 ^ f) (pow_pos f)) (shr_high _ (2 ^ f) (pow_pos f)) in
     rw (
       half_is f few,
       to_z-of_z w64 n fits,
-      to_z-of_z w64 (n +ℤ pos half) above,
-      to_z-of_z w64 e (omega (arith, ints, unit)),
+      to_z-of_z w64 (n +ℤ pos half) (omega (arith, ints)),
+      to_z-of_z w64 e (omega (arith, ints)),
       to_z-of_z w64 ((n +ℤ pos half) -ℤ e) sum,
       to_z-of_z w64 q (shr_fits w64 _ (2 ^ f) sum),
     )
-    (near_gives n (2 ^ f) q (pow_pos f) (record { close = near.0; away = near.1 }))
+    (near_gives n (2 ^ f) q (pow_pos f) (near_of_sum n e q (2 ^ f) half (halves f many) (pow_pos (f - 1)) step
+    (shr_low _ (2 ^ f) (pow_pos f)) (shr_high _ (2 ^ f) (pow_pos f))))
 
 -- ---- the product as code has it: rounded in 64 bits, of which 32 are kept
 
