@@ -1,6 +1,6 @@
 -- Products rounded with ties away from zero, as code has it: half a step is added, less one where the product is
 -- negative, and the sum is shifted.
-use Rattle.std.proofs.Common.{◌≡◌, ◌∙◌, ap, refl, ℕ, suc, ◌+◌, ◌-◌, ◌*◌, ◌%◌, ◌^◌, ◌<◌, ◌≤◌, ℤ}
+use Rattle.std.proofs.Common.{◌≡◌, ◌∙◌, ap, ℕ, suc, ◌+◌, ◌-◌, ◌*◌, ◌%◌, ◌^◌, ◌<◌, ◌≤◌, ℤ}
 use Rattle.std.proofs.Common.{pos, ◌+ℤ◌, ◌-ℤ◌, ◌*ℤ◌, ◌≤ℤ◌, ◌<ℤ◌, unsigned_abs, arith, lit<, ◌⊎◌}
 use Rattle.std.proofs.lemmas.Nat.{pow_pos}
 use Rattle.std.specs.Int.{w32, w64}
@@ -22,6 +22,10 @@ products_fit x y f g =
     mul-le-mul {n₁ = unsigned_abs x} {m₁ = unsigned_abs y} {n₂ = 2 ^ 31} {m₂ = 2 ^ 31}
     (omega (arith, ints)) (omega (arith, ints)) in
     omega (arith, ints, unsigned_abs-mul x y, small)
+
+-- a number of 32 bits that code has widened to 64
+widened : (x a : ℤ) → SFits w32 x → a ≡ to_z w32 (of_z w32 x) → to_z w64 (of_z w64 a) ≡ x
+widened x a fits is = omega (arith, ints)
 
 -- 1 where n is negative, else 0, as code has it
 sign_step : (n e : ℤ) → e ≡ pos (bool_byte (lt_z n (pos 0)))
@@ -85,18 +89,6 @@ pub product_32 : (x y a b m l : ℤ) (d : ℕ) → SFits w32 x → SFits w32 y �
     → a ≡ to_z w32 (of_z w32 x) → b ≡ to_z w32 (of_z w32 y) → SFits w64 m → SFits w32 l → 0 < d
     → IsWrappedNear 32 (x *ℤ y) d (to_z w32 (of_z w32 l))
 product_32 x y a b m l d f g is rounded first second wide narrow some =
-    let first_is : a ≡ x = first ∙ to_z-of_z w32 x f in
-    let second_is : b ≡ y = second ∙ to_z-of_z w32 y g in
-    let product : SFits w64 (x *ℤ y) = products_fit x y f g in
-    let first_wide : SFits w64 x = omega (arith, ints, f) in
-    let second_wide : SFits w64 y = omega (arith, ints, g) in
-    let exact : m ≡ near (x *ℤ y) d =
-    rounded ∙ rw (
-      first_is,
-      second_is,
-      to_z-of_z w64 x first_wide,
-      to_z-of_z w64 y second_wide,
-      to_z-of_z w64 (x *ℤ y) product,
-    ) refl in
-    near_is_wrapped_near 32 (x *ℤ y) d _ some
-    (to_z-of_z w32 l narrow ∙ is ∙ ap (wrap 32) (to_z-of_z w64 m wide ∙ exact))
+    let product = to_z-of_z w64 (x *ℤ y) (products_fit x y f g) in
+    near_is_wrapped_near 32 (x *ℤ y) d _ some (to_z-of_z w32 l narrow ∙ is
+    ∙ ap (wrap 32) (to_z-of_z w64 m wide ∙ rounded ∙ rw (widened x a f first, widened y b g second, product)))
