@@ -1,18 +1,16 @@
 -- What a decimal text is read as, from the number that the reader gives.
-use Rattle.std.proofs.Common.{◌≡◌, ◌∙◌, sym, ap, subst, ℕ, ◌+◌, ◌*◌, ◌/◌, ◌^◌, ◌<◌, ◌≤◌, List, ℤ, ◌≤ℤ◌, ◌-◌, length}
+use Rattle.std.proofs.Common.{◌≡◌, ◌∙◌, sym, ap, ℕ, ◌+◌, ◌*◌, ◌/◌, ◌^◌, ◌<◌, ◌≤◌, List, ℤ, ◌-◌, length}
 use Rattle.std.proofs.Common.{max, unsigned_abs, Option, IsSome, Result, Ok, Err, IfOk, ◌↔◌, arith, Bool, IsTrue}
 use Rattle.std.proofs.Common.{nat_lt, ◌&&◌}
 use Rattle.std.proofs.lemmas.Int.{ints, to_z-of_z}
 use Rattle.std.proofs.lemmas.Nat.{pow_pos}
-use Rattle.std.proofs.lemmas.Bool.{ltb-true}
-use Rattle.std.specs.Cmp.{first_so, second_so}
+use Rattle.std.proofs.lemmas.Bool.Decides.{nat_tests}
 use Rattle.std.specs.Int.{Width, w64}
-use borrow.Author.Differences.{abs_is}
 use mir.Val.{SFits, to_z, of_z, bits, hbits}
 use Rattle.font_base.proofs.Widths.{half_range-bits, signed_fits}
 use Rattle.font_base.specs.Wrap.{FitsBits}
 use Rattle.std.specs.Result.{result_map_both}
-use Rattle.font_decimal.specs.Reading.{Reads, IsReading}
+use Rattle.font_decimal.specs.Reading.{Reads}
 use Rattle.font_decimal.specs.Shortest.{shortest_text}
 use Rattle.font_decimal.specs.declared.reader.DecimalFault.{DecimalFault}
 use Rattle.font_decimal.specs.declared.reader.DecimalFault.TheVariants.{Syntax, OutOfRange}
@@ -20,7 +18,7 @@ use Rattle.font_decimal.specs.Padding.{padded_text}
 use Rattle.font_decimal.specs.declared.padding.Pad.{Pad}
 use Rattle.font_decimal.proofs.Padded.{padded_fits}
 use Rattle.font_decimal.proofs.Printed.{length-shortest_body-le, printed_rounds}
-use Rattle.font_decimal.proofs.Readings.{rounds_unique, reading_unique, answers_as}
+use Rattle.font_decimal.proofs.Readings.{answers_as}
 use Rattle.font_arithmetic.specs.Operations.{least, greatest, ReadsAs, ReadingGives}
 use Rattle.font_arithmetic.specs.Reading.{ReadsBy}
 
@@ -29,33 +27,17 @@ pub cast_reads : (w : Width) (f : ℕ) (text : List ℕ) (b min max : ℤ) → 2
     → max ≡ greatest (bits w) → Reads text f min max b
     → ReadsAs (bits w) f text (to_z w (of_z w (to_z w64 (of_z w64 b))))
 cast_reads w f text b min max room low high reads =
-    let half = half_range-bits w in
-    let above : least (bits w) ≤ℤ b = subst (λ (y : ℤ). y ≤ℤ b) low reads.low in
-    let below : b ≤ℤ greatest (bits w) = subst (λ (y : ℤ). b ≤ℤ y) high reads.high in
-    let narrow : SFits w b = omega (arith, ints, above, below, half, pow_pos (hbits w)) in
+    let above = rw low at reads.low in
+    let below = rw high at reads.high in
+    let narrow : SFits w b = omega (arith, ints, above, below, half_range-bits w, pow_pos (hbits w)) in
     let wide : SFits w64 b = omega (arith, ints, narrow, room) in
     rw (to_z-of_z w64 b wide, to_z-of_z w b narrow) (record { rounds = reads.rounds; low = above; high = below })
 
 -- the printed text of a number is read as that number
 pub printed_reads : (w f : ℕ) (b : ℤ) → 2 ^ (w - 1) ≤ 2 ^ 63 → FitsBits w b → ReadsAs w f (shortest_text b f) b
 printed_reads w f b room fits =
-    let below : unsigned_abs b ≤ 2 ^ 63 = omega (arith, ints, fits.low, fits.high, abs_is b, room) in
+    let below : unsigned_abs b ≤ 2 ^ 63 = omega (arith, ints) in
     record { rounds = printed_rounds b f below; low = fits.low; high = omega (arith, ints, fits.high) }
-
--- and in a type of its own
-pub printed_is_read_as : {T : Type 0} (bits_of : T → ℤ) (of_bits : ℤ → T) → ((x : T) → of_bits (bits_of x) ≡ x)
-    → (w f : ℕ) (text : List ℕ) (result : Result T DecimalFault)
-    → 2 ^ (w - 1) ≤ 2 ^ 63 → ReadingGives w f text (result_map_both bits_of (λ fault. fault) result)
-    → (x : T) → FitsBits w (bits_of x) → text ≡ shortest_text (bits_of x) f → result ≡ Ok x
-printed_is_read_as bits_of of_bits back w f text (Ok y) room gives x fits same =
-    let reads : ReadsAs w f text (bits_of x) = rw same (printed_reads w f (bits_of x) room fits) in
-    let equal : bits_of y ≡ bits_of x = rounds_unique text f (bits_of y) (bits_of x) gives.rounds reads.rounds in
-    ap Ok (sym (back y) ∙ ap of_bits equal ∙ back x)
-printed_is_read_as bits_of of_bits back w f text (Err fault) room gives x fits same =
-    let reading : IsReading text f (least w) (greatest w) (Ok (bits_of x)) = rw same
-    (printed_reads w f (bits_of x) room fits) in
-    let equal = reading_unique text f (least w) (greatest w) (Err fault) (Ok (bits_of x)) gives reading in
-    absurd (cc)
 
 -- three places for ten bits of fraction, and one more: as many as any number shows
 abbrev pub most_places : ℕ → ℕ
@@ -68,6 +50,11 @@ is_room h f room =
     nat_lt (2 ^ f) (10 ^ most_places f) && (nat_lt (2 ^ h) (10 ^ (room - (most_places f + 2)) * 2 ^ f)
     && nat_lt (most_places f + 2) room)
 
+room_parts : (h f room : ℕ) → IsTrue (is_room h f room) → (2 ^ f < 10 ^ most_places f)
+    × (2 ^ h < 10 ^ (room - (most_places f + 2)) * 2 ^ f)
+    × (most_places f + 2 < room)
+room_parts h f room test = grind (arith, nat_tests)
+
 -- so a column of so many bytes, or of the width that is asked for, is not refused
 abbrev pub HasRoom : Width → Type 0
 HasRoom w = (b : ℤ) (f room : ℕ) (pad : Pad) (old : List ℕ) (result : Option ℕ)
@@ -77,19 +64,11 @@ HasRoom w = (b : ℤ) (f room : ℕ) (pad : Pad) (old : List ℕ) (result : Opti
 pub padded_has_room : (w : Width) → HasRoom w
 padded_has_room w b f room pad old result long fits enough test small =
     let p : ℕ = most_places f in
-    let digits : ℕ = room - (p + 2) in
-    let narrow : Bool = nat_lt (2 ^ f) (10 ^ p) in
-    let low : Bool = nat_lt (2 ^ hbits w) (10 ^ digits * 2 ^ f) in
-    let more : Bool = nat_lt (p + 2) room in
-    let both : IsTrue (low && more) = second_so narrow (low && more) test in
-    let steps : 2 ^ f < 10 ^ p = ltb-true _ _ (first_so narrow (low && more) test) in
-    let whole : 2 ^ hbits w < 10 ^ digits * 2 ^ f = ltb-true _ _ (first_so low more both) in
-    let some : p + 2 < room = ltb-true _ _ (second_so low more both) in
-    let magnitude : unsigned_abs b ≤ 2 ^ hbits w = omega (arith, ints, fits, abs_is b) in
-    let body =
-    length-shortest_body-le b f digits p (omega (arith, magnitude, small)) (omega (arith, some)) (omega
-    (arith, magnitude, whole)) steps in
-    long.1 (padded_fits (shortest_text b f) pad room (length old) (omega (arith, body, some)) enough)
+    let parts = room_parts (hbits w) f room test in
+    let magnitude : unsigned_abs b ≤ 2 ^ hbits w = omega (arith, ints, fits) in
+    let body = length-shortest_body-le b f (room - (p + 2)) p (omega (arith, magnitude, small)) (omega (arith, parts))
+    (omega (arith, magnitude, parts)) parts.0 in
+    long.1 (padded_fits (shortest_text b f) pad room (length old) (omega (arith, body, parts)) enough)
 
 -- ---- in the words of a type of its own: a result with the bits of its number in place of the number
 
@@ -99,10 +78,9 @@ as_bits bits_of result = result_map_both bits_of (λ fault. fault) result
 same_result : {T : Type 0} (bits_of : T → ℤ) (of_bits : ℤ → T) → ((x : T) → of_bits (bits_of x) ≡ x)
     → (q r : Result T DecimalFault)
     → as_bits bits_of q ≡ as_bits bits_of r → q ≡ r
-same_result bits_of of_bits back (Ok x) (Ok y) same = let equal : bits_of x ≡ bits_of y = cc in
-    ap Ok (sym (back x) ∙ ap of_bits equal ∙ back y)
-same_result bits_of of_bits back (Ok x) (Err d) same = absurd (cc)
-same_result bits_of of_bits back (Err c) (Ok y) same = absurd (cc)
+same_result bits_of of_bits back (Ok x) (Ok y) same = ap Ok (sym (back x) ∙ ap of_bits (cc) ∙ back y)
+same_result bits_of of_bits back (Ok x) (Err d) same = cc
+same_result bits_of of_bits back (Err c) (Ok y) same = cc
 same_result bits_of of_bits back (Err c) (Err d) same = cc
 
 if_ok_reads : {T : Type 0} (w f : ℕ) (bits_of : T → ℤ) (text : List ℕ) (q : Result T DecimalFault)
@@ -126,8 +104,8 @@ reads_by {T} w f bits_of of_bits text q back room gives =
       ok = λ x. only (Ok x);
       reads = if_ok_reads (bits w) f bits_of text q gives;
       gives = gives;
-      printed = λ x fits same. printed_is_read_as bits_of of_bits back (bits w) f text q half gives x
-          (signed_fits w (bits_of x) fits) same;
+      printed = λ x fits same. (only (Ok x)).1
+          (rw same (printed_reads (bits w) f (bits_of x) half (signed_fits w (bits_of x) fits)));
       out_of_range = only (Err OutOfRange);
       syntax = only (Err Syntax);
     }
