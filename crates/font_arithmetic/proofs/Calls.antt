@@ -1,7 +1,7 @@
 -- What callers know of sums and products with 0 and with 1, as equations of the words `wrap` and `near`.
-use Rattle.std.proofs.Common.{◌≡◌, ◌∙◌, sym, ap, ℕ, ◌<◌, ℤ, pos, neg_ℤ, ◌+ℤ◌, ◌-ℤ◌, ◌*ℤ◌, arith, w16, w32, w64}
+use Rattle.std.proofs.Common.{◌≡◌, sym, ℕ, ◌<◌, ℤ, pos, neg_ℤ, ◌+ℤ◌, ◌-ℤ◌, ◌*ℤ◌, arith, w16, w32, w64}
 use Rattle.std.proofs.lemmas.Int.{ints}
-use Rattle.std.proofs.Math.IntN.{*ℤ_comm}
+use Rattle.std.proofs.Math.IntN.{*ℤ_comm, +ℤ-neg_ℤ_cancel, -ℤ-+ℤ_cancel}
 use Rattle.std.specs.Int.{Width}
 use mir.Val.{SFits, bits}
 use Rattle.font_base.specs.Wrap.{wrap}
@@ -28,18 +28,11 @@ sub_zero z = omega (arith, ints)
 -- what is added and taken away again, and the other way round
 pub wrap-add_sub_cancel : (w : Width) (a b : ℤ) → SFits w a → wrap (bits w) (wrap (bits w) (a +ℤ b) -ℤ b) ≡ a
 wrap-add_sub_cancel w a b fits =
-    wrap-add_left (bits w) (a +ℤ b) (neg_ℤ b) (bits_positive w) ∙ ap (wrap (bits w)) (ends a b)
-    ∙ wrap-signed_fits w a fits
-  where
-    ends : (x y : ℤ) → ((x +ℤ y) +ℤ neg_ℤ y) ≡ x
-    ends x y = omega (arith, ints)
+    rw (wrap-add_left (bits w) (a +ℤ b) (neg_ℤ b) (bits_positive w), +ℤ-neg_ℤ_cancel) (wrap-signed_fits w a fits)
 
 pub wrap-sub_add_cancel : (w : Width) (a b : ℤ) → SFits w a → wrap (bits w) (wrap (bits w) (a -ℤ b) +ℤ b) ≡ a
 wrap-sub_add_cancel w a b fits =
-    wrap-add_left (bits w) (a -ℤ b) b (bits_positive w) ∙ ap (wrap (bits w)) (ends a b) ∙ wrap-signed_fits w a fits
-  where
-    ends : (x y : ℤ) → ((x -ℤ y) +ℤ y) ≡ x
-    ends x y = omega (arith, ints)
+    rw (wrap-add_left (bits w) (a -ℤ b) b (bits_positive w), -ℤ-+ℤ_cancel) (wrap-signed_fits w a fits)
 
 -- at each width, for callers to name once: a sum with zero, what is added and taken away, and wrapping of what fits
 pub fits_16 : (z : ℤ) → SFits w16 z → wrap 16 z ≡ z
@@ -80,11 +73,11 @@ pub near-times : (q : ℤ) (d : ℕ) → 0 < d → near (q *ℤ pos d) d ≡ q
 near-times q d some = sym (near_gives (q *ℤ pos d) d q some (near_exact q d some))
 
 pub near-times_left : (q : ℤ) (d : ℕ) → 0 < d → near (pos d *ℤ q) d ≡ q
-near-times_left q d some = ap (λ n. near n d) (*ℤ_comm (pos d) q) ∙ near-times q d some
+near-times_left q d some = rw (*ℤ_comm (pos d) q) (near-times q d some)
 
 pub near-times_zero : (q : ℤ) (d : ℕ) → 0 < d → near (q *ℤ pos 0) d ≡ pos 0
 near-times_zero q d some = let none : (q *ℤ pos 0) ≡ (pos 0 *ℤ pos d) = omega (arith, ints) in
-    ap (λ n. near n d) none ∙ near-times (pos 0) d some
+    rw none (near-times (pos 0) d some)
 
 pub near-zero_times : (q : ℤ) (d : ℕ) → 0 < d → near (pos 0 *ℤ q) d ≡ pos 0
-near-zero_times q d some = ap (λ n. near n d) (*ℤ_comm (pos 0) q) ∙ near-times_zero q d some
+near-zero_times q d some = rw (*ℤ_comm (pos 0) q) (near-times_zero q d some)
