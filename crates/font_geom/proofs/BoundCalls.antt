@@ -6,12 +6,12 @@ use Rattle.std.proofs.lemmas.Bool.Decides.{nat_tests}
 use Rattle.std.proofs.Math.Nat.{mul-le-mul, le_trans}
 use Rattle.font_base.specs.Wrap.{FitsBits}
 use Rattle.font_decimal.proofs.Near.{near_is}
+use Rattle.font_arithmetic.proofs.Sums.{sums}
 use Rattle.font_geom.specs.declared.matrix.Matrix.{Matrix}
 use Rattle.font_geom.specs.declared.point.Point.{Point}
 use Rattle.font_geom.specs.Matrix.{linear_form, affine_form, image_of, matrix_product, FitsEach}
 use Rattle.font_geom.specs.FixedMatrix.{rounded_product, FitsPoint, FitsComposed, FitsInTurn, IsBounded, IsBoundedPoint}
 use Rattle.font_geom.specs.FixedMatrix.{IsWithin, form_bound, has_room_composed, has_room_in_turn}
-use Rattle.font_geom.proofs.Bounds.{sums}
 
 product_bound : (u v : ℕ) (x y : ℤ) → unsigned_abs x ≤ u → unsigned_abs y ≤ v
     → unsigned_abs (rounded_product x y) ≤ u * v / 65536 + 1

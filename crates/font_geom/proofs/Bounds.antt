@@ -4,34 +4,15 @@ use Rattle.std.proofs.Common.{unsigned_abs, lit<, arith}
 use Rattle.std.proofs.lemmas.Int.{unsigned_abs-mul}
 use Rattle.std.proofs.Math.IntN.{*ℤ_comm, +ℤ_comm, +ℤ_assoc}
 use Rattle.std.proofs.Math.Nat.{mul-le-mul_right}
-use borrow.Author.Differences.{up, down, same_in, same_out, at_most_in, le_out, sum_is_lem, neg_is, abs_is, product_is}
 use Rattle.font_base.specs.Integers.{sum-times, product-times}
 use Rattle.font_base.specs.Wrap.Laws.{wrap-fits, wrap-add_left, wrap-add_right}
 use Rattle.font_decimal.proofs.Near.{near_is}
+use Rattle.font_arithmetic.proofs.Sums.{sums}
 use Rattle.font_geom.specs.declared.matrix.Matrix.{Matrix}
 use Rattle.font_geom.specs.declared.point.Point.{Point}
 use Rattle.font_geom.specs.Matrix.{linear_form, affine_form, image_of, matrix_product}
 use Rattle.font_geom.specs.FixedMatrix.{rounded_product, wrapped_product, wrapped_sum, exact_coordinate, IsWithin}
 use Rattle.font_geom.specs.FixedMatrix.{FitsComposed, FitsInTurn, IsCloseComposed, IsCloseInTurn}
-
-pub times_literal : (z : ℤ) (d : ℕ) → (up (z *ℤ pos d) ≡ up z * d) × (down (z *ℤ pos d) ≡ down z * d)
-times_literal z d = omega (arith, product_is z (pos d))
-
-pub literal_times : (d : ℕ) (z : ℤ) → (up (pos d *ℤ z) ≡ d * up z) × (down (pos d *ℤ z) ≡ d * down z)
-literal_times d z = omega (arith, product_is (pos d) z)
-
--- for `omega`, to which products of two variables are unknowns
-pub ruleset sums = (
-  same_in,
-  same_out,
-  at_most_in,
-  le_out,
-  sum_is_lem,
-  neg_is,
-  abs_is,
-  times_literal,
-  literal_times,
-)
 
 -- a and b are at most e apart
 record Close (e : ℕ) (a b : ℤ) : Type 0 where
