@@ -9,32 +9,28 @@ use Rattle.font_base.specs.Integers.{sum-times, product-times}
 use Rattle.font_base.specs.Wrap.{wrap, FitsBits}
 use Rattle.font_base.specs.Wrap.Laws.{wrap-fits, wrap_is, wrap_same}
 use Rattle.font_decimal.specs.Near.{Up, up}
-use Rattle.font_decimal.proofs.Integers.{neg-times, times_monotone}
+use Rattle.font_decimal.proofs.Integers.{neg-times, times-next, times_monotone}
 use Rattle.font_decimal.proofs.Near.{up_is, up_gives}
 use Rattle.font_arithmetic.specs.Operations.{least, greatest, narrowed}
-use Rattle.font_arithmetic.proofs.Calls.{fits_16, fits_32}
+use Rattle.font_arithmetic.proofs.Calls.{fits_32}
+use Rattle.font_arithmetic.proofs.Sums.{sums}
 use Rattle.font_fixed.proofs.FixedCalls.{fixed_calls}
 
 -- ---- of any width
 
 pub up-times : (q : ℤ) (d : ℕ) → 0 < d → up (q *ℤ pos d) d ≡ q
-up-times q d some = sym (up_gives (q *ℤ pos d) d q some (record {
-  low = omega (arith, ints);
-  high = omega (arith, ints, sum-times q (pos 1) (pos d), some);
-}))
+up-times q d some = sym (up_gives (q *ℤ pos d) d q some (omega (arith, sums, times-next q d)))
 
 -- what lies between two whole numbers of steps is rounded to what lies between them
 up_at_least : (n a : ℤ) (d : ℕ) (q : ℤ) → 0 < d → Up n d q → (a *ℤ pos d) ≤ℤ n → a ≤ℤ q
 up_at_least n a d q some nearest low = by_lt_z q a (λ less.
-    let step : ((q +ℤ pos 1) *ℤ pos d) ≤ℤ (a *ℤ pos d) = times_monotone (q +ℤ pos 1) a d (omega (arith, ints, less)) in
-    let above = nearest.high in
-    absurd (omega (arith, ints, some, low, step, above))) (λ from. from)
+    let step = times_monotone (q +ℤ pos 1) a d (omega (arith, sums, less)) in
+    absurd (omega (arith, sums, some, low, step, nearest.high))) (λ from. from)
 
 up_at_most : (n c : ℤ) (d : ℕ) (q : ℤ) → 0 < d → Up n d q → n ≤ℤ (c *ℤ pos d) → q ≤ℤ c
 up_at_most n c d q some nearest high = by_lt_z c q (λ more.
-    let step : ((c +ℤ pos 1) *ℤ pos d) ≤ℤ (q *ℤ pos d) = times_monotone (c +ℤ pos 1) q d (omega (arith, ints, more)) in
-    let below = nearest.low in
-    absurd (omega (arith, ints, some, high, step, below, sum-times c (pos 1) (pos d)))) (λ to. to)
+    let step = times_monotone (c +ℤ pos 1) q d (omega (arith, sums, more)) in
+    absurd (omega (arith, sums, some, high, step, nearest.low, times-next c d))) (λ to. to)
 
 -- so from the least number of v bits to the greatest nothing is wrapped
 pub narrowed_near : (v d : ℕ) (n : ℤ) → 0 < v → 0 < d → (least v *ℤ pos d) ≤ℤ n → n ≤ℤ (greatest v *ℤ pos d)
@@ -43,142 +39,112 @@ narrowed_near v d n wide some low high =
     let nearest = up_is n d some in
     let from = up_at_least n (least v) d (up n d) some nearest low in
     let to = up_at_most n (greatest v) d (up n d) some nearest high in
-    let positive = pow_pos (v - 1) in
-    let fits : FitsBits v (up n d) = record { low = from; high = omega (arith, ints, to, positive) } in
+    let fits : FitsBits v (up n d) = omega (arith, ints, from, to, pow_pos (v - 1)) in
     rw (wrap-fits v (up n d) wide fits) nearest
 
--- a whole number of steps, wrapped to the bits of both, comes back as it would be wrapped alone
+-- a whole number of steps comes back
+back : (v d : ℕ) (z : ℤ) → 0 < v → 0 < d → FitsBits v z → wrap v (up (z *ℤ pos d) d) ≡ z
+back v d z wide some fits = rw (up-times z d some) (wrap-fits v z wide fits)
+
+-- wrapped to the bits of both, it comes back as it would be wrapped alone
 pub narrowed-wrap_times : (u v d : ℕ) (q : ℤ) → 0 < u → 0 < v → 2 ^ u ≡ 2 ^ v * d → 0 < d
     → narrowed v (wrap u (q *ℤ pos d)) d ≡ wrap v q
 narrowed-wrap_times u v d q long wide split some =
     let whole = wrap_is u (q *ℤ pos d) long in
     let turns : ℤ = neg_ℤ whole.turns *ℤ pos (2 ^ v) in
     let unwound : (turns *ℤ pos d) ≡ neg_ℤ (whole.turns *ℤ pos (2 ^ u)) =
-    product-times (neg_ℤ whole.turns) (pos (2 ^ v)) (pos d) ∙ ap (λ n. neg_ℤ whole.turns *ℤ pos n) (sym split)
-    ∙ neg-times whole.turns (2 ^ u) in
-    let back : wrap u (q *ℤ pos d) ≡ ((q +ℤ turns) *ℤ pos d) =
-    omega (arith, ints, whole.differs, unwound, sum-times q turns (pos d)) in
-    ap (λ n. narrowed v n d) back ∙ ap (wrap v) (up-times (q +ℤ turns) d some)
-    ∙ wrap_same v (q +ℤ turns) q (neg_ℤ whole.turns) wide refl
+    rw split (product-times (neg_ℤ whole.turns) (pos (2 ^ v)) (pos d) ∙ neg-times whole.turns (2 ^ v * d)) in
+    let unwrapped : wrap u (q *ℤ pos d) ≡ ((q +ℤ turns) *ℤ pos d) =
+    omega (arith, sums, whole.differs, unwound, sum-times q turns (pos d)) in
+    rw (unwrapped, up-times (q +ℤ turns) d some) (wrap_same v (q +ℤ turns) q (neg_ℤ whole.turns) wide refl)
+
+back_wrapped : (u v d : ℕ) (z : ℤ) → 0 < u → 0 < v → 2 ^ u ≡ 2 ^ v * d → 0 < d → FitsBits v z
+    → wrap v (up (wrap u (z *ℤ pos d)) d) ≡ z
+back_wrapped u v d z long wide split some fits = narrowed-wrap_times u v d z long wide split some ∙ wrap-fits v z wide fits
 
 -- ---- 16.16 to 2.14
 
-quarter_low : (b : ℤ) → neg_ℤ (pos 131072) ≤ℤ b → b ≤ℤ pos 131068 → (pos 4 *ℤ wrap 16 (up b 4)) ≤ℤ (b +ℤ pos 2)
-quarter_low b low high =
-    let nearest = narrowed_near 16 4 b (lit< tt) (lit< tt) low high in let least =
-    nearest.low in omega (arith, ints, least)
-
-quarter_high : (b : ℤ) → neg_ℤ (pos 131072) ≤ℤ b → b ≤ℤ pos 131068 → b <ℤ (pos 4 *ℤ wrap 16 (up b 4) +ℤ pos 2)
-quarter_high b low high =
-    let nearest = narrowed_near 16 4 b (lit< tt) (lit< tt) low high in let most =
-    nearest.high in omega (arith, ints, most)
+quarter : (b : ℤ) → neg_ℤ (pos 131072) ≤ℤ b → b ≤ℤ pos 131068 → Up b 4 (wrap 16 (up b 4))
+quarter b low high = narrowed_near 16 4 b (lit< tt) (lit< tt) low high
 
 -- what lies from -1 to 1 stays there, and what is not negative
 pub quarter_at_least : (b : ℤ) → neg_ℤ (pos 65536) ≤ℤ b → b ≤ℤ pos 65536 → neg_ℤ (pos 16384) ≤ℤ wrap 16 (up b 4)
-quarter_at_least b low high =
-    let most = quarter_high b (omega (arith, ints, low)) (omega (arith, ints, high)) in omega (arith, ints, most, low)
+quarter_at_least b low high = omega (arith, ints, quarter b (omega (arith, ints)) (omega (arith, ints)))
 
 pub quarter_at_most : (b : ℤ) → neg_ℤ (pos 65536) ≤ℤ b → b ≤ℤ pos 65536 → wrap 16 (up b 4) ≤ℤ pos 16384
-quarter_at_most b low high =
-    let least = quarter_low b (omega (arith, ints, low)) (omega (arith, ints, high)) in omega (arith, ints, least, high)
+quarter_at_most b low high = omega (arith, ints, quarter b (omega (arith, ints)) (omega (arith, ints)))
 
 pub quarter_not_negative : (b : ℤ) → pos 0 ≤ℤ b → b ≤ℤ pos 65536 → pos 0 ≤ℤ wrap 16 (up b 4)
-quarter_not_negative b low high =
-    let most = quarter_high b (omega (arith, ints, low)) (omega (arith, ints, high)) in omega (arith, ints, most, low)
+quarter_not_negative b low high = omega (arith, ints, quarter b (omega (arith, ints)) (omega (arith, ints)))
 
 pub quarter_zero : wrap 16 (up (pos 0) 4) ≡ pos 0
-quarter_zero = ap (wrap 16) (up-times (pos 0) 4 (lit< tt)) ∙ fits_16 (pos 0) (omega (arith, ints))
+quarter_zero = back 16 4 (pos 0) (lit< tt) (lit< tt) (omega (arith, ints))
 
 pub quarter_one : wrap 16 (up (pos 65536) 4) ≡ pos 16384
-quarter_one = ap (wrap 16) (up-times (pos 16384) 4 (lit< tt)) ∙ fits_16 (pos 16384) (omega (arith, ints))
+quarter_one = back 16 4 (pos 16384) (lit< tt) (lit< tt) (omega (arith, ints))
 
 pub quarter_back : (z : ℤ) → SFits w16 z → wrap 16 (up (z *ℤ pos 4) 4) ≡ z
-quarter_back z fits = ap (wrap 16) (up-times z 4 (lit< tt)) ∙ fits_16 z fits
+quarter_back z fits = back 16 4 z (lit< tt) (lit< tt) (omega (arith, ints))
 
 -- the difference of two widened numbers is exact
 pub quarter_difference : (a b : ℤ) → SFits w16 a → SFits w16 b
     → wrap 32 ((b *ℤ pos 4) -ℤ (a *ℤ pos 4)) ≡ ((b -ℤ a) *ℤ pos 4)
 quarter_difference a b fits_a fits_b =
     let spread : ((b *ℤ pos 4) -ℤ (a *ℤ pos 4)) ≡ ((b -ℤ a) *ℤ pos 4) = omega (arith, ints) in
-    ap (wrap 32) spread ∙ fits_32 ((b -ℤ a) *ℤ pos 4) (omega (arith, ints, fits_a, fits_b))
+    ap (wrap 32) spread ∙ fits_32 ((b -ℤ a) *ℤ pos 4) (omega (arith, ints))
 
 -- ---- whole numbers
 
 -- of 16 bits, in 16.16
 pub whole_back : (z : ℤ) → SFits w16 z → wrap 16 (up (z *ℤ pos 65536) 65536) ≡ z
-whole_back z fits = ap (wrap 16) (up-times z 65536 (lit< tt)) ∙ fits_16 z fits
+whole_back z fits = back 16 65536 z (lit< tt) (lit< tt) (omega (arith, ints))
 
 pub whole_back_wrapped : (z : ℤ) → SFits w16 z → wrap 16 (up (wrap 32 (z *ℤ pos 65536)) 65536) ≡ z
-whole_back_wrapped z fits = narrowed-wrap_times 32 16 65536 z (lit< tt) (lit< tt) refl (lit< tt) ∙ fits_16 z fits
+whole_back_wrapped z fits = back_wrapped 32 16 65536 z (lit< tt) (lit< tt) refl (lit< tt) (omega (arith, ints))
 
 -- and from there as 26.6
+steps_of_64 : (z : ℤ) → (z *ℤ pos 65536) ≡ ((z *ℤ pos 64) *ℤ pos 1024)
+steps_of_64 z = omega (arith, ints)
+
 pub whole_as_26_6 : (z : ℤ) → SFits w16 z → wrap 22 (up (wrap 32 (z *ℤ pos 65536)) 1024) ≡ (z *ℤ pos 64)
-whole_as_26_6 z fits =
-    let split : (z *ℤ pos 65536) ≡ ((z *ℤ pos 64) *ℤ pos 1024) = omega (arith, ints) in
-    ap (λ n. wrap 22 (up (wrap 32 n) 1024)) split ∙ narrowed-wrap_times 32 22 1024 (z *ℤ pos 64) (lit< tt)
-    (lit< tt) refl (lit< tt)
-    ∙ wrap-fits 22 (z *ℤ pos 64) (lit< tt) (record {
-      low = omega (arith, ints, fits);
-      high =
-          omega (arith, ints, fits);
-    })
+whole_as_26_6 z fits = rw (steps_of_64 z)
+    (back_wrapped 32 22 1024 (z *ℤ pos 64) (lit< tt) (lit< tt) refl (lit< tt) (omega (arith, ints)))
 
 -- the same where 16.16 was exact
 pub units_as_26_6 : (z : ℤ) → SFits w16 z → wrap 22 (up (z *ℤ pos 65536) 1024) ≡ (z *ℤ pos 64)
-units_as_26_6 z fits =
-    let split : (z *ℤ pos 65536) ≡ ((z *ℤ pos 64) *ℤ pos 1024) = omega (arith, ints) in
-    ap (λ n. wrap 22 (up n 1024)) split ∙ ap (wrap 22) (up-times (z *ℤ pos 64) 1024 (lit< tt))
-    ∙ wrap-fits 22 (z *ℤ pos 64) (lit< tt) (record {
-      low = omega (arith, ints, fits);
-      high =
-          omega (arith, ints, fits);
-    })
+units_as_26_6 z fits = rw (steps_of_64 z) (back 22 1024 (z *ℤ pos 64) (lit< tt) (lit< tt) (omega (arith, ints)))
 
 -- of 26 bits, in 26.6
 pub whole_again_26_6 : (z : ℤ) → neg_ℤ (pos 33554432) ≤ℤ z → z <ℤ pos 33554432 → wrap 26 (up (z *ℤ pos 64) 64) ≡ z
-whole_again_26_6 z low high =
-    ap (wrap 26) (up-times z 64 (lit< tt)) ∙ wrap-fits 26 z (lit< tt) (record { low = low; high = high })
+whole_again_26_6 z low high = back 26 64 z (lit< tt) (lit< tt) (record { low = low; high = high })
 
 pub whole_back_26_6 : (z : ℤ) → neg_ℤ (pos 33554432) ≤ℤ z → z <ℤ pos 33554432
     → wrap 26 (up (wrap 32 (z *ℤ pos 64)) 64) ≡ z
 whole_back_26_6 z low high =
-    narrowed-wrap_times 32 26 64 z (lit< tt) (lit< tt) refl (lit< tt) ∙ wrap-fits 26 z (lit< tt) (record {
-      low =
-          low;
-      high = high;
-    })
+    back_wrapped 32 26 64 z (lit< tt) (lit< tt) refl (lit< tt) (record { low = low; high = high })
 
 -- of 32 and of 48 bits, in 48.16
 pub whole_back_32 : (z : ℤ) → SFits w32 z → wrap 32 (up (z *ℤ pos 65536) 65536) ≡ z
-whole_back_32 z fits = ap (wrap 32) (up-times z 65536 (lit< tt)) ∙ fits_32 z fits
+whole_back_32 z fits = back 32 65536 z (lit< tt) (lit< tt) (omega (arith, ints))
 
 pub whole_again_48 : (z : ℤ) → SFits w32 z → wrap 48 (up (z *ℤ pos 65536) 65536) ≡ z
-whole_again_48 z fits =
-    ap (wrap 48) (up-times z 65536 (lit< tt)) ∙ wrap-fits 48 z (lit< tt) (record {
-      low = omega (arith, ints, fits);
-      high = omega (arith, ints, fits);
-    })
+whole_again_48 z fits = back 48 65536 z (lit< tt) (lit< tt) (omega (arith, ints))
 
 -- a number of 32 bits as one of 64
 pub as_64 : (z : ℤ) → SFits w32 z → to_z w64 (of_z w64 z) ≡ z
-as_64 z fits = to_z-of_z w64 z (omega (arith, ints, fits))
+as_64 z fits = to_z-of_z w64 z (omega (arith, ints))
 
 pub whole_back_48 : (z : ℤ) → neg_ℤ (pos 140737488355328) ≤ℤ z → z <ℤ pos 140737488355328
     → wrap 48 (up (wrap 64 (z *ℤ pos 65536)) 65536) ≡ z
 whole_back_48 z low high =
-    narrowed-wrap_times 64 48 65536 z (lit< tt) (lit< tt) refl (lit< tt) ∙ wrap-fits 48 z (lit< tt) (record {
-      low =
-          low;
-      high = high;
-    })
+    back_wrapped 64 48 65536 z (lit< tt) (lit< tt) refl (lit< tt) (record { low = low; high = high })
 
 -- ---- font units without a sign, from 32768 on, in 16.16
 
 pub wrapped_once_32 : (z : ℤ) → pos 2147483648 ≤ℤ z → z <ℤ pos 6442450944 → wrap 32 z ≡ (z -ℤ pos 4294967296)
 wrapped_once_32 z low high =
-    let turn : z ≡ ((z -ℤ pos 4294967296) +ℤ (pos 1 *ℤ pos 4294967296)) = omega (arith, ints) in
-    wrap_same 32 z (z -ℤ pos 4294967296) (pos 1) (lit< tt) turn
-    ∙ fits_32 (z -ℤ pos 4294967296) (omega (arith, ints, low, high))
+    wrap_same 32 z (z -ℤ pos 4294967296) (pos 1) (lit< tt) (omega (arith, ints))
+    ∙ fits_32 (z -ℤ pos 4294967296) (omega (arith, ints))
 
 pub ruleset narrow_calls = (
   fixed_calls,
