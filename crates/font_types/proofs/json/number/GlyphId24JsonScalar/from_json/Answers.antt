@@ -9,5 +9,4 @@ use Rattle.font_types.proofs.json.number.GlyphId24JsonScalar.from_json.Goals as 
 pub returns-clause-back : goal.returns-clause-back
 returns-clause-back c = λ v value shown.
     let form = unsigned_form 24 glyph24_number (λ x y same. ap glyph24_of (same_uint24 x.0 y.0 same)) in
-    let read : form.reads (view c.args.value.now) (Ok c.new.result) = grind (arith, common_steps) in
-    form.round_trip v _ (Ok c.new.result) value shown read
+    form.round_trip v (view c.args.value.now) (Ok c.new.result) value shown (grind (arith, common_steps))

@@ -9,5 +9,4 @@ use Rattle.font_types.proofs.json.number.Int24JsonScalar.from_json.Goals as goal
 pub returns-clause-back : goal.returns-clause-back
 returns-clause-back c = λ v value shown.
     let form = signed_form 24 int24_number same_int24 in
-    let read : form.reads (view c.args.value.now) (Ok c.new.result) = grind (arith, common_steps) in
-    form.round_trip v _ (Ok c.new.result) value shown read
+    form.round_trip v (view c.args.value.now) (Ok c.new.result) value shown (grind (arith, common_steps))
