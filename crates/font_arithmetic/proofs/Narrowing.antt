@@ -86,9 +86,10 @@ wrap-times w v d half z it wide =
     let given = wrap_is v z it.some in
     let low = times_monotone (neg_ℤ (pos (half_range v))) (wrap v z) d given.fits.low in
     let high = times_monotone (wrap v z +ℤ pos 1) (pos (half_range v)) d (omega (arith, sums, given.fits.high)) in
+    let next = times-next (wrap v z) d in
     let apart = product-times given.turns (pos (2 ^ v)) (pos d) in
     wrap_gives w (z *ℤ pos d) (wrap v z *ℤ pos d) wide (record {
-      fits = omega (arith, sums, it.top, it.steps, low, high, neg-times (pos (half_range v)) d, times-next (wrap v z) d);
+      fits = omega (arith, sums, it.top, it.steps, low, high, neg-times (pos (half_range v)) d, next);
       turns = given.turns;
       differs = ap (λ n. n *ℤ pos d) given.differs ∙ sum-times (wrap v z) (given.turns *ℤ pos (2 ^ v)) (pos d)
           ∙ rw it.whole (ap (λ n. (wrap v z *ℤ pos d) +ℤ n) apart);

@@ -63,8 +63,8 @@ pub signed_is_mul_div : (x a c r : ℤ) (s t : Bool) (m i j k : ℕ) → s ≡ d
     → (0 < k → m ≡ near_magnitude (i * j) k) → (k ≡ 0 → m ≡ 2 ^ 31 - 1) → r ≡ wrap 32 (signed (not (beq s t)) m)
     → IsMulDiv 32 x a c r
 signed_is_mul_div x a (pos zero) r s t m i j k both one first second third near by_zero is =
-    is ∙ rw (one, differ_false s, by_zero third, both) (wrap-fits 32 (signed (differ_in_sign x a) (2 ^ 31 - 1)) (lit< tt)
-    (ends_fit (differ_in_sign x a)))
+    is ∙ rw (one, differ_false s, by_zero third, both)
+    (wrap-fits 32 (signed (differ_in_sign x a) (2 ^ 31 - 1)) (lit< tt) (ends_fit (differ_in_sign x a)))
 signed_is_mul_div x a (pos (suc c)) r s t m i j k both one first second third near by_zero is =
     rw (product_signed x a) (signed_is_near 32 (differ_in_sign x a) (unsigned_abs x * unsigned_abs a) (suc c) m r
     (omega arith) (near (omega (arith, third)) ∙ rw (first, second, third)) (cc (not_negative (suc c), differ_false s)))

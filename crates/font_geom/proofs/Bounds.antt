@@ -51,14 +51,14 @@ row_close e f u v w x y fine_u fine_v fine_w p q r =
       r,
       rounded_close u x,
       rounded_close v y,
-      exchanged u x,
-      exchanged v y,
+      factor_out u x,
+      factor_out v y,
       Close-times e (u *ℤ pos 65536) fine_u x p,
       Close-times e (v *ℤ pos 65536) fine_v y q,
     )
   where
-    exchanged : (a b : ℤ) → ((a *ℤ pos 65536) *ℤ b) ≡ ((a *ℤ b) *ℤ pos 65536)
-    exchanged a b = cc (product-times a (pos 65536) b, product-times a b (pos 65536), *ℤ_comm (pos 65536) b)
+    factor_out : (a b : ℤ) → ((a *ℤ pos 65536) *ℤ b) ≡ ((a *ℤ b) *ℤ pos 65536)
+    factor_out a b = cc (product-times a (pos 65536) b, product-times a b (pos 65536), *ℤ_comm (pos 65536) b)
 
 -- ---- exact sums of exact products
 
@@ -87,11 +87,9 @@ composed_close : (p q d : ℤ) (b : Matrix ℤ) (at : Point ℤ) →
     (linear_form ◌+ℤ◌ rounded_product p b.xy q b.yy) at.y
     (affine_form ◌+ℤ◌ rounded_product p b.dx q b.dy d))
 composed_close p q d b at =
-    let near = linear_form ◌+ℤ◌ rounded_product in
-    let fine = linear_form ◌+ℤ◌ ◌*ℤ◌ in
-    let close = row_close 65536 65536 (near p b.xx q b.yx) (near p b.xy q b.yy) (near p b.dx q b.dy +ℤ d) at.x at.y (fine p b.xx q b.yx) (fine p b.xy q b.yy)
-    (fine p b.dx q b.dy +ℤ (pos 65536 *ℤ d)) (linear_close p b.xx q b.yx) (linear_close p b.xy q b.yy)
-    (affine_close p b.dx q b.dy d) in
+    let once = linear_form ◌+ℤ◌ rounded_product in
+    let close = row_close 65536 65536 (once p b.xx q b.yx) (once p b.xy q b.yy) (once p b.dx q b.dy +ℤ d) at.x at.y _ _ _
+    (linear_close p b.xx q b.yx) (linear_close p b.xy q b.yy) (affine_close p b.dx q b.dy d) in
     rw (← by_columns p q d b at) (omega (arith, sums, close))
 
 in_turn_close : (p q d : ℤ) (b : Matrix ℤ) (at : Point ℤ) →
@@ -110,8 +108,8 @@ in_turn_close p q d b at =
 
 -- ---- what the calls give: wrapping on the way changes nothing where the exact sums fit 32 bits
 
-some : 0 < 32
-some = lit< tt
+some_bits : 0 < 32
+some_bits = lit< tt
 
 pub composed_is_close : (a b : Matrix ℤ) (p moved : Point ℤ) → moved ≡ image_of wrapped_sum wrapped_product
     (matrix_product wrapped_sum wrapped_product a b) p
@@ -123,7 +121,7 @@ composed_is_close a b p moved value fits =
       wrap-add_left,
       wrap-add_right,
       wrap-fits,
-      some,
+      some_bits,
       first.xx,
       first.yx,
       first.xy,
@@ -142,5 +140,5 @@ in_turn_is_close a b p moved value fits =
     let first = fits.first in
     let last = fits.image in
     let exact : moved ≡ image_of ◌+ℤ◌ rounded_product a (image_of ◌+ℤ◌ rounded_product b p) = value ∙ simp
-    (wrap-add_left, wrap-add_right, wrap-fits, some, first.x, first.y, last.x, last.y) in
+    (wrap-add_left, wrap-add_right, wrap-fits, some_bits, first.x, first.y, last.x, last.y) in
     rw exact (record { x = in_turn_close a.xx a.xy a.dx b p; y = in_turn_close a.yx a.yy a.dy b p })

@@ -43,8 +43,8 @@ narrowed_near v d n wide some low high =
     rw (wrap-fits v (up n d) wide fits) nearest
 
 -- a whole number of steps comes back
-back : (v d : ℕ) (z : ℤ) → 0 < v → 0 < d → FitsBits v z → wrap v (up (z *ℤ pos d) d) ≡ z
-back v d z wide some fits = rw (up-times z d some) (wrap-fits v z wide fits)
+narrowed-times : (v d : ℕ) (z : ℤ) → 0 < v → 0 < d → FitsBits v z → wrap v (up (z *ℤ pos d) d) ≡ z
+narrowed-times v d z wide some fits = rw (up-times z d some) (wrap-fits v z wide fits)
 
 -- wrapped to the bits of both, it comes back as it would be wrapped alone
 pub narrowed-wrap_times : (u v d : ℕ) (q : ℤ) → 0 < u → 0 < v → 2 ^ u ≡ 2 ^ v * d → 0 < d
@@ -58,9 +58,10 @@ narrowed-wrap_times u v d q long wide split some =
     omega (arith, sums, whole.differs, unwound, sum-times q turns (pos d)) in
     rw (unwrapped, up-times (q +ℤ turns) d some) (wrap_same v (q +ℤ turns) q (neg_ℤ whole.turns) wide refl)
 
-back_wrapped : (u v d : ℕ) (z : ℤ) → 0 < u → 0 < v → 2 ^ u ≡ 2 ^ v * d → 0 < d → FitsBits v z
+narrowed-wrapped_times : (u v d : ℕ) (z : ℤ) → 0 < u → 0 < v → 2 ^ u ≡ 2 ^ v * d → 0 < d → FitsBits v z
     → wrap v (up (wrap u (z *ℤ pos d)) d) ≡ z
-back_wrapped u v d z long wide split some fits = narrowed-wrap_times u v d z long wide split some ∙ wrap-fits v z wide fits
+narrowed-wrapped_times u v d z long wide split some fits =
+    narrowed-wrap_times u v d z long wide split some ∙ wrap-fits v z wide fits
 
 -- ---- 16.16 to 2.14
 
@@ -78,13 +79,13 @@ pub quarter_not_negative : (b : ℤ) → pos 0 ≤ℤ b → b ≤ℤ pos 65536 �
 quarter_not_negative b low high = omega (arith, ints, quarter b (omega (arith, ints)) (omega (arith, ints)))
 
 pub quarter_zero : wrap 16 (up (pos 0) 4) ≡ pos 0
-quarter_zero = back 16 4 (pos 0) (lit< tt) (lit< tt) (omega (arith, ints))
+quarter_zero = narrowed-times 16 4 (pos 0) (lit< tt) (lit< tt) (omega (arith, ints))
 
 pub quarter_one : wrap 16 (up (pos 65536) 4) ≡ pos 16384
-quarter_one = back 16 4 (pos 16384) (lit< tt) (lit< tt) (omega (arith, ints))
+quarter_one = narrowed-times 16 4 (pos 16384) (lit< tt) (lit< tt) (omega (arith, ints))
 
 pub quarter_back : (z : ℤ) → SFits w16 z → wrap 16 (up (z *ℤ pos 4) 4) ≡ z
-quarter_back z fits = back 16 4 z (lit< tt) (lit< tt) (omega (arith, ints))
+quarter_back z fits = narrowed-times 16 4 z (lit< tt) (lit< tt) (omega (arith, ints))
 
 -- the difference of two widened numbers is exact
 pub quarter_difference : (a b : ℤ) → SFits w16 a → SFits w16 b
@@ -97,10 +98,11 @@ quarter_difference a b fits_a fits_b =
 
 -- of 16 bits, in 16.16
 pub whole_back : (z : ℤ) → SFits w16 z → wrap 16 (up (z *ℤ pos 65536) 65536) ≡ z
-whole_back z fits = back 16 65536 z (lit< tt) (lit< tt) (omega (arith, ints))
+whole_back z fits = narrowed-times 16 65536 z (lit< tt) (lit< tt) (omega (arith, ints))
 
 pub whole_back_wrapped : (z : ℤ) → SFits w16 z → wrap 16 (up (wrap 32 (z *ℤ pos 65536)) 65536) ≡ z
-whole_back_wrapped z fits = back_wrapped 32 16 65536 z (lit< tt) (lit< tt) refl (lit< tt) (omega (arith, ints))
+whole_back_wrapped z fits =
+    narrowed-wrapped_times 32 16 65536 z (lit< tt) (lit< tt) refl (lit< tt) (omega (arith, ints))
 
 -- and from there as 26.6
 steps_of_64 : (z : ℤ) → (z *ℤ pos 65536) ≡ ((z *ℤ pos 64) *ℤ pos 1024)
@@ -108,27 +110,28 @@ steps_of_64 z = omega (arith, ints)
 
 pub whole_as_26_6 : (z : ℤ) → SFits w16 z → wrap 22 (up (wrap 32 (z *ℤ pos 65536)) 1024) ≡ (z *ℤ pos 64)
 whole_as_26_6 z fits = rw (steps_of_64 z)
-    (back_wrapped 32 22 1024 (z *ℤ pos 64) (lit< tt) (lit< tt) refl (lit< tt) (omega (arith, ints)))
+    (narrowed-wrapped_times 32 22 1024 (z *ℤ pos 64) (lit< tt) (lit< tt) refl (lit< tt) (omega (arith, ints)))
 
 -- the same where 16.16 was exact
 pub units_as_26_6 : (z : ℤ) → SFits w16 z → wrap 22 (up (z *ℤ pos 65536) 1024) ≡ (z *ℤ pos 64)
-units_as_26_6 z fits = rw (steps_of_64 z) (back 22 1024 (z *ℤ pos 64) (lit< tt) (lit< tt) (omega (arith, ints)))
+units_as_26_6 z fits =
+    rw (steps_of_64 z) (narrowed-times 22 1024 (z *ℤ pos 64) (lit< tt) (lit< tt) (omega (arith, ints)))
 
 -- of 26 bits, in 26.6
 pub whole_again_26_6 : (z : ℤ) → neg_ℤ (pos 33554432) ≤ℤ z → z <ℤ pos 33554432 → wrap 26 (up (z *ℤ pos 64) 64) ≡ z
-whole_again_26_6 z low high = back 26 64 z (lit< tt) (lit< tt) (record { low = low; high = high })
+whole_again_26_6 z low high = narrowed-times 26 64 z (lit< tt) (lit< tt) (record { low = low; high = high })
 
 pub whole_back_26_6 : (z : ℤ) → neg_ℤ (pos 33554432) ≤ℤ z → z <ℤ pos 33554432
     → wrap 26 (up (wrap 32 (z *ℤ pos 64)) 64) ≡ z
 whole_back_26_6 z low high =
-    back_wrapped 32 26 64 z (lit< tt) (lit< tt) refl (lit< tt) (record { low = low; high = high })
+    narrowed-wrapped_times 32 26 64 z (lit< tt) (lit< tt) refl (lit< tt) (record { low = low; high = high })
 
 -- of 32 and of 48 bits, in 48.16
 pub whole_back_32 : (z : ℤ) → SFits w32 z → wrap 32 (up (z *ℤ pos 65536) 65536) ≡ z
-whole_back_32 z fits = back 32 65536 z (lit< tt) (lit< tt) (omega (arith, ints))
+whole_back_32 z fits = narrowed-times 32 65536 z (lit< tt) (lit< tt) (omega (arith, ints))
 
 pub whole_again_48 : (z : ℤ) → SFits w32 z → wrap 48 (up (z *ℤ pos 65536) 65536) ≡ z
-whole_again_48 z fits = back 48 65536 z (lit< tt) (lit< tt) (omega (arith, ints))
+whole_again_48 z fits = narrowed-times 48 65536 z (lit< tt) (lit< tt) (omega (arith, ints))
 
 -- a number of 32 bits as one of 64
 pub as_64 : (z : ℤ) → SFits w32 z → to_z w64 (of_z w64 z) ≡ z
@@ -137,7 +140,7 @@ as_64 z fits = to_z-of_z w64 z (omega (arith, ints))
 pub whole_back_48 : (z : ℤ) → neg_ℤ (pos 140737488355328) ≤ℤ z → z <ℤ pos 140737488355328
     → wrap 48 (up (wrap 64 (z *ℤ pos 65536)) 65536) ≡ z
 whole_back_48 z low high =
-    back_wrapped 64 48 65536 z (lit< tt) (lit< tt) refl (lit< tt) (record { low = low; high = high })
+    narrowed-wrapped_times 64 48 65536 z (lit< tt) (lit< tt) refl (lit< tt) (record { low = low; high = high })
 
 -- ---- font units without a sign, from 32768 on, in 16.16
 
