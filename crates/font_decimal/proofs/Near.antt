@@ -1,11 +1,11 @@
 -- Each fraction n / d with 0 < d has one nearest whole number, by either rule for ties.
-use Rattle.std.proofs.Common.{◌≡◌, ℕ, suc, ◌+◌, ◌*◌, ◌/◌, ◌<◌, ◌≤◌, inl, inr, Bool, true, false, ℤ, pos, negsuc, refl}
-use Rattle.std.proofs.Common.{sym, ap, subst, ◌∙◌, arith}
-use Rattle.std.specs.Prelude.{neg_ℤ, ◌+ℤ◌, ◌-ℤ◌, ◌*ℤ◌, ◌≤ℤ◌, ◌<ℤ◌, unsigned_abs}
+use Rattle.std.proofs.Common.{◌≡◌, ℕ, suc, ◌+◌, ◌*◌, ◌/◌, ◌<◌, ◌≤◌, Bool, true, false, ℤ, pos, negsuc, refl}
+use Rattle.std.proofs.Common.{sym, ap, ◌∙◌, arith}
+use Rattle.std.specs.Prelude.{neg_ℤ, ◌+ℤ◌, ◌*ℤ◌, ◌≤ℤ◌, unsigned_abs}
 use Rattle.std.specs.Int.{is_negative}
 use Rattle.std.proofs.Math.IntN.{neg_ℤ-neg_ℤ}
-use Rattle.std.proofs.Math.Nat.{mul-le-mul_right, div-mul-le_self, lt-div-mul-add, suc-mul}
-use Rattle.std.proofs.lemmas.Bool.{cases_lt, cases_order, le-ltb}
+use Rattle.std.proofs.Math.Nat.{mul-le-mul_right, mul-lt-mul_of_pos_right, suc-mul}
+use Rattle.std.proofs.lemmas.Bool.{le-ltb}
 use Rattle.std.proofs.lemmas.Int.{ints, by_lt_z}
 use Rattle.font_decimal.specs.Near.{signed, Near, near, near_magnitude, Up, up}
 use Rattle.font_decimal.proofs.Integers.{neg-times, times-next, times_monotone}
@@ -17,32 +17,23 @@ pub record IsNearMagnitude (n d q : ℕ) : Type 0 where
 
 -- the products of two whole numbers stand apart by at least the factor
 pub next_product : (q r d : ℕ) → q < r → q * d + d ≤ r * d
-next_product q r d h = omega (arith, mul-le-mul_right {m = suc q} {n = r} d (omega arith), suc-mul q d)
+next_product q r d h = grind arith
 
-pub near_magnitude_unique : (n d q r : ℕ) → IsNearMagnitude n d q → IsNearMagnitude n d r → q ≡ r
-near_magnitude_unique n d q r x y =
-    elim (cases_order q r) [
-      | inl e ↦ e
-      | inr order ↦ elim order [
-        | inl less ↦ absurd (omega (arith, next_product q r d less))
-        | inr more ↦ absurd (omega (arith, next_product r q d more))
-      ]
-    ]
+rounded_monotone : {n d q m e r : ℕ} → 0 < d → IsNearMagnitude n d q → IsNearMagnitude m e r → n * e ≤ m * d → q ≤ r
+rounded_monotone {d = d} {q = q} {e = e} {r = r} h x y order =
+    grind (arith, next_product r q (d * e), mul-le-mul_right e x.low, mul-lt-mul_of_pos_right y.high h)
+
+pub near_magnitude_unique : {n d q r : ℕ} → 0 < d → IsNearMagnitude n d q → IsNearMagnitude n d r → q ≡ r
+near_magnitude_unique h x y =
+    omega (arith, rounded_monotone h x y (omega arith), rounded_monotone h y x (omega arith))
 
 pub rounded_is : (n d : ℕ) → 0 < d → IsNearMagnitude n d (near_magnitude n d)
-rounded_is n d h =
-    let positive : 0 < 2 * d = omega arith in
-    let below : (2 * n + d) / (2 * d) * (2 * d) ≤ 2 * n + d = div-mul-le_self (2 * n + d) (2 * d) in
-    let above : 2 * n + d < (2 * n + d) / (2 * d) * (2 * d) + 2 * d = lt-div-mul-add positive in
-    record { low = omega arith; high = omega arith }
+rounded_is n d h = omega arith
 
 -- a sign stays outside of a product
 pub signed_times : (s : Bool) (n d : ℕ) → signed s n *ℤ pos d ≡ signed s (n * d)
 signed_times false n d = refl
 signed_times true n d = neg-times (pos n) d
-
-negated_abs : (x y : ℤ) → unsigned_abs (neg_ℤ x -ℤ neg_ℤ y) ≡ unsigned_abs (x -ℤ y)
-negated_abs x y = omega (arith, ints)
 
 same_abs : (x : ℤ) → unsigned_abs (neg_ℤ x) ≡ unsigned_abs x
 same_abs x = omega (arith, ints)
@@ -50,24 +41,21 @@ same_abs x = omega (arith, ints)
 -- rounding is the same on both sides of zero
 pub near_opposite : (n : ℤ) (d : ℕ) (q : ℤ) → Near n d q → Near (neg_ℤ n) d (neg_ℤ q)
 near_opposite n d q h = record {
-  close = rw (neg-times q d, negated_abs (q *ℤ pos d) n) h.close;
-  away = rw (neg-times q d, negated_abs (q *ℤ pos d) n, same_abs n, same_abs q) h.away;
+  close = rw (neg-times q d) (omega (arith, ints));
+  away = rw (neg-times q d, same_abs n, same_abs q) (omega (arith, ints));
 }
 
 pub sign_and_magnitude : (n : ℤ) → n ≡ signed (is_negative n) (unsigned_abs n)
 sign_and_magnitude (pos n) = rw (le-ltb n 0 (omega arith))
 sign_and_magnitude (negsuc n) = refl
 
-near_positive : (n d q : ℕ) → 0 < d → IsNearMagnitude n d q → Near (pos n) d (pos q)
-near_positive n d q h r =
-    let low = r.low in
-    let high = r.high in
-    record { close = omega (arith, ints); away = λ tie. omega (arith, ints, tie) }
+near_positive : {n d q : ℕ} → IsNearMagnitude n d q → Near (pos n) d (pos q)
+near_positive r = omega (arith, ints)
 
 -- a magnitude that is rounded, with its sign
 pub near_from : (s : Bool) (n d q : ℕ) → 0 < d → IsNearMagnitude n d q → Near (signed s n) d (signed s q)
-near_from false n d q h r = near_positive n d q h r
-near_from true n d q h r = near_opposite (pos n) d (pos q) (near_positive n d q h r)
+near_from false n d q h r = near_positive r
+near_from true n d q h r = near_opposite (pos n) d (pos q) (near_positive r)
 
 -- q has the sign s, and its magnitude is that of n / d, rounded
 pub record HasMagnitude (s : Bool) (n d : ℕ) (q : ℤ) : Type 0 where
@@ -76,17 +64,8 @@ pub record HasMagnitude (s : Bool) (n d : ℕ) (q : ℤ) : Type 0 where
   pub rounded : IsNearMagnitude n d magnitude
 
 magnitude_positive : (n d : ℕ) (q : ℤ) → 0 < d → Near (pos n) d q → HasMagnitude false n d q
-magnitude_positive n d (pos q) h r =
-    let close = r.close in
-    let below : 2 * n + d < 2 * (q * d) + 2 * d =
-    elim (cases_lt (2 * n + d) (2 * (q * d) + 2 * d)) [
-      | inl less ↦ less
-      | inr more ↦ absurd (omega (arith, r.away (omega (arith, ints))))
-    ] in
-    record { magnitude = q; is = refl; rounded = record { low = omega (arith, ints); high = below } }
-magnitude_positive n d (negsuc q) h r =
-    let close = r.close in
-    absurd (omega (arith, ints, suc-mul q d))
+magnitude_positive n d (pos q) h r = record { magnitude = q; is = refl; rounded = grind (arith, ints) }
+magnitude_positive n d (negsuc q) h r = absurd (omega (arith, ints, suc-mul q d))
 
 pub near_to : (s : Bool) (n d : ℕ) (q : ℤ) → 0 < d → Near (signed s n) d q → HasMagnitude s n d q
 near_to false n d q h r = magnitude_positive n d q h r
@@ -95,54 +74,53 @@ near_to true n d q h r =
     let m = magnitude_positive n d (neg_ℤ q) h turned in
     record { magnitude = m.magnitude; is = sym (neg_ℤ-neg_ℤ q) ∙ ap neg_ℤ m.is; rounded = m.rounded }
 
+-- of two fractions the greater one is never rounded to the lesser number
+pub near_monotone : {n m : ℤ} {d e : ℕ} {q r : ℤ} → 0 < d → 0 < e → Near n d q → Near m e r
+    → (n *ℤ pos e) ≤ℤ (m *ℤ pos d) → q ≤ℤ r
+near_monotone {n = pos n} {m = pos m} {d = d} {e = e} {q = q} {r = r} h k x y order =
+    let first = near_to false n d q h x in
+    let second = near_to false m e r k y in
+    let less = rounded_monotone h first.rounded second.rounded (omega (arith, ints)) in
+    rw (first.is, second.is) (omega (arith, ints))
+near_monotone {n = pos n} {m = negsuc m} {d = d} h k x y order = absurd (omega (arith, ints, suc-mul m d))
+near_monotone {n = negsuc n} {m = pos m} {d = d} {e = e} {q = q} {r = r} h k x y order =
+    let first = near_to true (suc n) d q h x in
+    let second = near_to false m e r k y in
+    rw (first.is, second.is) (omega (arith, ints))
+near_monotone {n = negsuc n} {m = negsuc m} {d = d} {e = e} {q = q} {r = r} h k x y order =
+    let first = near_to true (suc n) d q h x in
+    let second = near_to true (suc m) e r k y in
+    let less = rounded_monotone k second.rounded first.rounded (omega (arith, ints)) in
+    rw (first.is, second.is) (omega (arith, ints))
+
 -- each fraction has just one nearest whole number
 pub near_unique : (n : ℤ) (d : ℕ) (q r : ℤ) → 0 < d → Near n d q → Near n d r → q ≡ r
 near_unique n d q r h x y =
-    let s = is_negative n in
-    let P : ℤ → ℤ → Type 0 = λ t u. Near t d u in
-    let first = near_to s (unsigned_abs n) d q h (subst (λ t. Near t d q) (sign_and_magnitude n) x) in
-    let second = near_to s (unsigned_abs n) d r h (subst (λ t. Near t d r) (sign_and_magnitude n) y) in
-    first.is ∙ ap (signed s)
-    (near_magnitude_unique (unsigned_abs n) d first.magnitude second.magnitude first.rounded second.rounded)
-    ∙ sym second.is
+    omega (arith, ints, near_monotone h h x y (omega (arith, ints)), near_monotone h h y x (omega (arith, ints)))
 
 -- and `near` is that number
 pub near_is : (n : ℤ) (d : ℕ) → 0 < d → Near n d (near n d)
 unfolding near
-near_is (pos n) d h = near_from false n d (near_magnitude n d) h (rounded_is n d h)
-near_is (negsuc n) d h = near_from true (suc n) d (near_magnitude (suc n) d) h (rounded_is (suc n) d h)
+near_is (pos n) d h = near_from false n d _ h (rounded_is n d h)
+near_is (negsuc n) d h = near_from true (suc n) d _ h (rounded_is (suc n) d h)
 
 pub near_gives : (n : ℤ) (d : ℕ) (q : ℤ) → 0 < d → Near n d q → q ≡ near n d
 near_gives n d q h x = near_unique n d q (near n d) h x (near_is n d h)
 
 -- the same for the rule that rounds ties up
-pub up_unique : (n : ℤ) (d : ℕ) (q r : ℤ) → 0 < d → Up n d q → Up n d r → q ≡ r
-up_unique n d q r h x y =
-    let apart = λ (a b : ℤ) (less : a <ℤ b) (p : Up n d a) (o : Up n d b).
-    let step : ((a +ℤ pos 1) *ℤ pos d) ≤ℤ (b *ℤ pos d) = times_monotone (a +ℤ pos 1) b d (omega (arith, ints)) in
-    let above = p.high in
-    let below = o.low in
-    let none : ⊥ = omega (arith, ints) in
-    none in
-    by_lt_z q r (λ less. absurd (apart q r less x y))
-    (λ not_less. by_lt_z r q (λ more. absurd (apart r q more y x)) (λ not_more. omega (arith, ints)))
+up_at_most : {n : ℤ} {d : ℕ} {q r : ℤ} → Up n d q → Up n d r → q ≤ℤ r
+up_at_most {d = d} {q = q} {r = r} x y = by_lt_z r q (λ more. absurd (omega (arith, ints, times_monotone (r +ℤ pos 1) q d (omega (arith, ints)))))
+    (λ less. less)
 
 pub up_is : (n : ℤ) (d : ℕ) → 0 < d → Up n d (up n d)
 unfolding up
-up_is (pos n) d h =
-    let r = rounded_is n d h in
-    let low = r.low in
-    let high = r.high in
-    record { low = omega (arith, ints); high = omega (arith, ints) }
+up_is (pos n) d h = omega (arith, ints)
 up_is (negsuc n) d h =
     let c = (2 * n + 1 + d) / (2 * d) in
-    let positive : 0 < 2 * d = omega arith in
-    let below : c * (2 * d) ≤ 2 * n + 1 + d = div-mul-le_self (2 * n + 1 + d) (2 * d) in
-    let above : 2 * n + 1 + d < c * (2 * d) + 2 * d = lt-div-mul-add positive in
     record {
       low = rw (neg-times (pos c) d) (omega (arith, ints));
       high = rw (times-next (neg_ℤ (pos c)) d, neg-times (pos c) d) (omega (arith, ints));
     }
 
 pub up_gives : (n : ℤ) (d : ℕ) (q : ℤ) → 0 < d → Up n d q → q ≡ up n d
-up_gives n d q h x = up_unique n d q (up n d) h x (up_is n d h)
+up_gives n d q h x = omega (arith, ints, up_at_most x (up_is n d h), up_at_most (up_is n d h) x)

@@ -1,7 +1,6 @@
 -- The parts of a text, as they are found from its front.
 use Rattle.std.proofs.Common.{◌≡◌, ◌≢◌, ℕ, zero, suc, ◌<◌, ◌≤◌, Bool, true, false, List, [], ◌∷◌, ◌++◌, length, get_or}
 use Rattle.std.proofs.Common.{take, drop, refl, sym, ap, ◌∙◌, arith}
-use Rattle.std.proofs.Math.Seq.{take-append_seam, drop-append_seam}
 use Rattle.std.proofs.lemmas.List.{take-append-drop, length-take-le}
 use Rattle.std.specs.Str.Parse.{AllDigits}
 use Rattle.std.specs.Char.{digit_value}
@@ -9,41 +8,28 @@ use Rattle.std.specs.Fmt.{sign_text}
 use Rattle.font_decimal.specs.Grammar.{fraction_text, HasParts, IsNoDecimal}
 use Rattle.font_decimal.proofs.Texts.{no_minus}
 
--- as many digits as there are before the first other byte
-digits_end : (w rest : List ℕ) (len : ℕ) → AllDigits 10 w → 10 ≤ digit_value (get_or rest 0 0)
+-- what follows the digits that a text begins with, as far as they are found
+rest_found : (w rest : List ℕ) (len : ℕ) → AllDigits 10 w → 10 ≤ digit_value (get_or rest 0 0)
     → AllDigits 10 (take len (w ++ rest)) → len ≤ length (w ++ rest)
-    → 10 ≤ digit_value (get_or (w ++ rest) len 0) → len ≡ length w
-digits_end [] rest zero p q digits within end = refl
-digits_end [] [] (suc len) p q digits within end = absurd (omega arith)
-digits_end [] (c ∷ rest) (suc len) p q digits within end = absurd (omega (arith, digits.0))
-digits_end (c ∷ w) rest zero p q digits within end = absurd (omega (arith, p.0))
-digits_end (c ∷ w) rest (suc len) p q digits within end = ap suc
-    (digits_end w rest len p.1 q digits.1 (omega arith) end)
+    → 10 ≤ digit_value (get_or (w ++ rest) len 0) → drop len (w ++ rest) ≡ rest
+rest_found [] rest zero p q digits within end = refl
+rest_found [] [] (suc len) p q digits within end = refl
+rest_found [] (c ∷ rest) (suc len) p q digits within end = absurd (omega (arith, digits.0))
+rest_found (c ∷ w) rest zero p q digits within end = absurd (omega (arith, p.0))
+rest_found (c ∷ w) rest (suc len) p q digits within end = rest_found w rest len p.1 q digits.1 (omega arith) end
 
 -- what follows the whole digits does not begin with one
 no_digit : (e : List ℕ) → 10 ≤ digit_value (get_or (fraction_text e) 0 0)
 no_digit [] = omega arith
 no_digit (d ∷ e) = omega arith
 
--- the digits that a text begins with are its whole digits, and the rest its fraction
-pub record IsSplit (text w e : List ℕ) (len : ℕ) : Type 0 where
-  pub front : take len text ≡ w
-  pub back : drop len text ≡ fraction_text e
-
--- so that a text with such parts is split where its first digits end
-pub split_parts : (text w e : List ℕ) (len : ℕ) → HasParts text false w e → AllDigits 10 (take len text)
-    → len ≤ length text
-    → 10 ≤ digit_value (get_or text len 0) → IsSplit text w e len
-split_parts text w e len parts digits within end =
-    let all = w ++ fraction_text e in
-    let is : text ≡ all = parts.written in
-    let ending = rw is at end in
-    let count = digits_end w (fraction_text e) len parts.whole_digits.1 (no_digit e) (rw is at digits)
-    (rw is at within) ending in
-    record {
-      front = rw (is, count) (take-append_seam w (fraction_text e));
-      back = rw (is, count) (drop-append_seam w (fraction_text e));
-    }
+-- so a text with such parts has its fraction where its first digits end
+pub fraction_found : {text w e : List ℕ} (len : ℕ) → HasParts text false w e → AllDigits 10 (take len text)
+    → len ≤ length text → 10 ≤ digit_value (get_or text len 0) → drop len text ≡ fraction_text e
+fraction_found {text = text} {w = w} {e = e} len parts digits within end =
+    let is : text ≡ w ++ fraction_text e = parts.written in
+    rw is (rest_found w (fraction_text e) len parts.whole_digits.1 (no_digit e) (rw is at digits) (rw is at within)
+    (rw is at end))
 
 -- what is found from the front are parts of the text
 pub parts_found : (text e : List ℕ) (len : ℕ) (s : Bool) → AllDigits 10 (take len text) → 0 < len → len ≤ length text
@@ -59,17 +45,14 @@ parts_found text e len s digits some within rest fraction = record {
 pub no_decimal : (text digits : List ℕ) (s : Bool) → text ≡ sign_text s ++ digits
     → (s ≡ false → (rest : List ℕ) → text ≢ 45 ∷ rest)
     → ((w e : List ℕ) → ¬ (HasParts digits false w e)) → IsNoDecimal text
-no_decimal text digits s signed plain none n k d = differ s d.negative d.parts signed plain where
+no_decimal text digits s is plain none n k d = differ s d.negative d.parts is plain where
   found : digits ≡ d.whole ++ fraction_text d.fraction → ⊥
   found e = none d.whole d.fraction
       (record { written = e; whole_digits = d.parts.whole_digits; fraction_digits = d.parts.fraction_digits })
 
   differ : (s t : Bool) → HasParts text t d.whole d.fraction → text ≡ sign_text s ++ digits
       → (s ≡ false → (rest : List ℕ) → text ≢ 45 ∷ rest) → ⊥
-  differ true true p e h =
-      let text_is = p.written in
-      let rest : digits ≡ d.whole ++ fraction_text d.fraction = cc in
-      found rest
-  differ true false p e h = no_minus d.whole d.fraction digits p.whole_digits (sym p.written ∙ e)
+  differ true true p e h = found cc
+  differ true false p e h = no_minus p e
   differ false true p e h = h refl (d.whole ++ fraction_text d.fraction) p.written
-  differ false false p e h = found (sym e ∙ p.written)
+  differ false false p e h = found cc

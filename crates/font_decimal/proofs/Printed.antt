@@ -1,6 +1,6 @@
 -- What callers rely on of printed texts.
 use Rattle.std.proofs.Common.{◌≡◌, ◌≢◌, ℕ, zero, suc, ◌+◌, ◌*◌, ◌/◌, ◌%◌, ◌^◌, ◌<◌, ◌≤◌, Bool, true, false, List, []}
-use Rattle.std.proofs.Common.{◌∷◌, ◌++◌, length, get_or, ℤ, pos, refl, sym, ap, subst, ◌∙◌, arith, append_assoc}
+use Rattle.std.proofs.Common.{◌∷◌, ◌++◌, length, get_or, ℤ, refl, sym, ap, ◌∙◌, arith, append_assoc}
 use Rattle.std.proofs.Common.{length-append}
 use Rattle.std.specs.Prelude.{◌≤ℤ◌, unsigned_abs, Result, Ok}
 use Rattle.std.specs.Int.{is_negative}
@@ -11,15 +11,15 @@ use Rattle.std.proofs.lemmas.Int.{ints}
 use Rattle.std.proofs.lemmas.List.{append-nil, same_from_push}
 use Rattle.std.proofs.lemmas.Fmt.{decimal_is_IsNumeral}
 use Rattle.std.proofs.lemmas.Str.Parse.{digit_from_value}
-use Rattle.font_decimal.specs.Grammar.{HasParts, IsDecimal, Plain, fraction_text}
-use Rattle.font_decimal.specs.Reading.{Rounds, Reads, IsReading}
+use Rattle.font_decimal.specs.Grammar.{HasParts, IsDecimal, fraction_text}
+use Rattle.font_decimal.specs.Reading.{Rounds, IsReading}
 use Rattle.font_decimal.specs.Padding.{unsigned_body}
-use Rattle.font_decimal.specs.Shortest.{IsShortest, nearest_numeral, fewest_places, last_digits, decimal_text}
+use Rattle.font_decimal.specs.Shortest.{IsShortest, nearest_numeral, fewest_places, last_digits}
 use Rattle.font_decimal.specs.Shortest.{shortest_text}
 use Rattle.font_decimal.specs.declared.reader.DecimalFault.{DecimalFault}
 use Rattle.font_decimal.proofs.Texts.{same_parts, decimal_unique, decimal_of}
 use Rattle.font_decimal.proofs.Readings.{rounds_unique, reading_unique}
-use Rattle.font_decimal.proofs.Fewest.{IsFewest, fewest_is, zero_drops, unit_below}
+use Rattle.font_decimal.proofs.Fewest.{IsFewest, fewest_is, zero_drops}
 use Rattle.font_decimal.proofs.Written.{shortest_is, whole_fits, digits_fit, point_length, length-decimal_text-le}
 use Rattle.font_decimal.proofs.Padded.{length-unsigned_body-le}
 
@@ -37,33 +37,25 @@ printed_reads_once b c f small x = rounds_unique (shortest_text b f) f c b x (pr
 pub printed_is_read : (b : ℤ) (f : ℕ) (min max : ℤ) (r : Result ℤ DecimalFault) → unsigned_abs b ≤ 2 ^ 63 → min ≤ℤ b
     → b ≤ℤ max
     → IsReading (shortest_text b f) f min max r → r ≡ Ok b
-printed_is_read b f min max r small low high x =
-    let own : Reads (shortest_text b f) f min max b = record
-    { rounds = printed_rounds b f small; low = low; high = high } in
-    reading_unique (shortest_text b f) f min max r (Ok b) x own
+printed_is_read b f min max r small low high x = reading_unique (shortest_text b f) f min max r (Ok b) x
+    (record { rounds = printed_rounds b f small; low = low; high = high })
 
 -- distinct values print distinct texts
 pub same_value : (b c : ℤ) (f : ℕ) → unsigned_abs b ≤ 2 ^ 63 → unsigned_abs c ≤ 2 ^ 63
     → shortest_text b f ≡ shortest_text c f → b ≡ c
-same_value b c f small smaller e = printed_reads_once c b f smaller
-    (subst (λ t. Rounds t f b) e (printed_rounds b f small))
+same_value b c f small smaller e = printed_reads_once c b f smaller (rw e at (printed_rounds b f small))
 
 -- no value prints `-0`
 minus_zero : HasParts (45 ∷ 48 ∷ []) true (48 ∷ []) []
 minus_zero = record { written = refl; whole_digits = (omega arith, (omega arith, tt)); fraction_digits = tt }
 
-pub plain_is_not_minus_zero : (text : List ℕ) (n : ℤ) (k : ℕ) → Plain text n k → text ≢ 45 ∷ 48 ∷ []
-plain_is_not_minus_zero text n k p e =
-    let d = p.decimal in
-    let zero_parts = subst (λ t. HasParts t true (48 ∷ []) []) (sym e) minus_zero in
-    let same = same_parts d.negative true d.whole (48 ∷ []) d.fraction [] text d.parts zero_parts in
-    let below = p.minus.0 same.negative in
-    let none = (decimal_unique text n (pos 0) k 0 d (decimal_of text true (48 ∷ []) [] zero_parts)).numeral in
-    omega (arith, ints)
-
 pub printed_is_not_minus_zero : (b : ℤ) (f : ℕ) → unsigned_abs b ≤ 2 ^ 63 → shortest_text b f ≢ 45 ∷ 48 ∷ []
-printed_is_not_minus_zero b f small = let s = shortest_is b f small in
-    plain_is_not_minus_zero (shortest_text b f) s.numeral s.places s.plain
+printed_is_not_minus_zero b f small e =
+    let p = (shortest_is b f small).plain in
+    let d = rw e at p.decimal in
+    let below = p.minus.0 (same_parts d.parts minus_zero).negative in
+    let none = (decimal_unique _ _ _ _ _ d (decimal_of minus_zero)).numeral in
+    omega (arith, ints)
 
 -- ---- no printed text with a point ends in 0
 last_is : (p n : ℕ) → last_digits (suc p) n ≡ last_digits p (n / 10) ++ ((48 + n % 10) ∷ [])
@@ -105,7 +97,7 @@ ends_or_whole : (s : Bool) (m f p i : ℕ) (front : List ℕ) → IsFewest m f p
     → get_or (sign_text s
     ++ (decimal (nearest_numeral m f p / 10 ^ p) ++ fraction_text (last_digits p (nearest_numeral m f p)))) i 0 ≢ 46
 ends_or_whole s m f zero i front fewest small e = no_point_signed s _ i (decimal_is_IsNumeral _ small).0.1
-ends_or_whole s m f (suc p) i front fewest small e = absurd (zero_drops m f p fewest last_zero) where
+ends_or_whole s m f (suc p) i front fewest small e = absurd (zero_drops fewest last_zero) where
   last_zero : nearest_numeral m f (suc p) % 10 ≡ 0
   last_zero = last_byte s (decimal (nearest_numeral m f (suc p) / 10 ^ suc p)) p (nearest_numeral m f (suc p)) front e
 
@@ -114,11 +106,9 @@ pub zero_ends_no_fraction : (b : ℤ) (f i : ℕ) (front : List ℕ) → unsigne
 unfolding shortest_text
 zero_ends_no_fraction b f i front small e =
     let m = unsigned_abs b in
-    ends_or_whole (is_negative b) m f (fewest_places m f) i front (fewest_is m f)
-    (whole_fits m f (fewest_places m f) small) e
+    ends_or_whole (is_negative b) m f (fewest_places m f) i front (fewest_is m f) (whole_fits m f small) e
 
 -- ---- how long a printed text is without its `-`
-
 length-signed_body-le : (s : Bool) (body : List ℕ) → length (unsigned_body (sign_text s ++ body)) ≤ length body
 length-signed_body-le true body = omega arith
 length-signed_body-le false body = length-unsigned_body-le body
@@ -129,13 +119,13 @@ pub length-shortest_body-lt : (b : ℤ) (f : ℕ) → unsigned_abs b ≤ 2 ^ 63 
 unfolding shortest_text
 length-shortest_body-lt b f small few =
     let m = unsigned_abs b in
-    let p = fewest_places m f in
-    let n = nearest_numeral m f p in
-    let whole : List ℕ = decimal (n / 10 ^ p) in
-    let digits = digits_fit m f p small few (unit_below m f p (fewest_is m f).before) in
-    let all = length-append whole (fraction_text (last_digits p n)) in
-    let body = length-signed_body-le (is_negative b) (whole ++ fraction_text (last_digits p n)) in
-    omega (arith, all, point_length p n, body)
+    omega (
+      arith,
+      digits_fit m f small few,
+      point_length (fewest_places m f) (nearest_numeral m f (fewest_places m f)),
+      length-signed_body-le (is_negative b),
+      length-append {A = ℕ},
+    )
 
 -- the digits of the whole part, a point, and the places
 pub length-shortest_body-le : (b : ℤ) (f digits places : ℕ) → unsigned_abs b ≤ 2 ^ 63 → 0 < digits
@@ -143,7 +133,5 @@ pub length-shortest_body-le : (b : ℤ) (f digits places : ℕ) → unsigned_abs
     → length (unsigned_body (shortest_text b f)) ≤ digits + places + 1
 unfolding shortest_text
 length-shortest_body-le b f digits places small some within steps =
-    let m = unsigned_abs b in
-    let p = fewest_places m f in
-    le_trans (length-signed_body-le (is_negative b) (decimal_text (nearest_numeral m f p) p))
-    (length-decimal_text-le m f digits places small some within steps)
+    le_trans (length-signed_body-le (is_negative b) _)
+    (length-decimal_text-le (unsigned_abs b) f digits places small some within steps)

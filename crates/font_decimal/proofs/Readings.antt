@@ -52,7 +52,7 @@ rounds_by p f text s w e h parts =
     record {
       numeral = signed s (digits_value 10 (w ++ e));
       places = k;
-      decimal = decimal_of text s w e parts;
+      decimal = decimal_of parts;
       nearest = rw (digits_value-append w e, signed_times s _ t) (near_from s _ (10 ^ k) _ (ten_pos k) all);
     }
 

@@ -1,12 +1,11 @@
 -- A decimal text has its parts in one way only, and so stands for one number.
-use Rattle.std.proofs.Common.{◌≡◌, ℕ, ◌<◌, Bool, true, false, List, [], ◌∷◌, ◌++◌, length, ℤ, refl, sym, ◌∙◌, arith}
+use Rattle.std.proofs.Common.{◌≡◌, ℕ, ◌<◌, Bool, true, false, List, [], ◌∷◌, ◌++◌, length, ℤ, refl, sym, ap, arith}
 use Rattle.std.specs.Fmt.{sign_text}
 use Rattle.std.specs.Str.{IsAscii, IsUtf8}
-use Rattle.std.specs.Str.Parse.{digits_value, AllDigits, IsNumeral}
+use Rattle.std.specs.Str.Parse.{digits_value, AllDigits}
 use Rattle.std.specs.Char.{digit_value}
 use Rattle.std.proofs.lemmas.Str.{IsAscii-append, IsUtf8-from_ascii}
 use Rattle.std.proofs.lemmas.Str.Ascii.{IsAscii-cons, IsAscii-nil}
-use Rattle.std.proofs.lemmas.Str.Parse.{digit_from_value}
 use Rattle.std.proofs.lemmas.Fmt.{IsAscii-from_digits}
 use Rattle.font_decimal.specs.Near.{signed}
 use Rattle.font_decimal.specs.Grammar.{fraction_text, HasParts, Decimal}
@@ -20,51 +19,33 @@ same_point (c ∷ e) (d ∷ g) h = cc
 
 no_point : (c : ℕ) (w e g : List ℕ) → digit_value c < 10 → fraction_text e ≡ c ∷ (w ++ fraction_text g) → ⊥
 no_point c w [] g small h = cc
-no_point c w (d ∷ e) g small h =
-    let digit = digit_from_value c small in
-    let point : 46 ≡ c = cc in
-    omega arith
-
--- two texts that agree have the same digits on each side of the point
-same_split : (v w e g : List ℕ) → AllDigits 10 v → AllDigits 10 w → v ++ fraction_text e ≡ w ++ fraction_text g
-    → (v ≡ w) × (e ≡ g)
-same_split [] [] e g p q h = (refl, same_point e g h)
-same_split [] (c ∷ w) e g p q h = absurd (no_point c w e g q.0 h)
-same_split (c ∷ v) [] e g p q h = absurd (no_point c v g e p.0 (sym h))
-same_split (c ∷ v) (d ∷ w) e g p q h =
-    let rest : v ++ fraction_text e ≡ w ++ fraction_text g = cc in
-    let first : c ≡ d = cc in
-    let same = same_split v w e g p.1 q.1 rest in
-    let whole = same.0 in
-    (cc, same.1)
-
-pub no_minus : (w e : List ℕ) (rest : List ℕ) → IsNumeral 10 w → w ++ fraction_text e ≡ 45 ∷ rest → ⊥
-no_minus [] e rest n h = omega (arith, n.0)
-no_minus (c ∷ w) e rest n h =
-    let digit = digit_from_value c n.1.0 in
-    let minus : c ≡ 45 = cc in
-    omega arith
+no_point c w (d ∷ e) g small h = let point : 46 ≡ c = cc in omega (arith, ap digit_value point)
 
 pub record SameParts (s t : Bool) (v w e g : List ℕ) : Type 0 where
   pub negative : s ≡ t
   pub whole : v ≡ w
   pub fraction : e ≡ g
 
-pub same_parts : (s t : Bool) (v w e g text : List ℕ) → HasParts text s v e → HasParts text t w g
+-- two texts that agree have the same digits on each side of the point
+same_split : (s : Bool) (v w e g : List ℕ) → AllDigits 10 v → AllDigits 10 w → v ++ fraction_text e ≡ w ++ fraction_text g
+    → SameParts s s v w e g
+same_split s [] [] e g p q h = record { negative = refl; whole = refl; fraction = same_point e g h }
+same_split s [] (c ∷ w) e g p q h = absurd (no_point c w e g q.0 h)
+same_split s (c ∷ v) [] e g p q h = absurd (no_point c v g e p.0 (sym h))
+same_split s (c ∷ v) (d ∷ w) e g p q h =
+    let same = same_split s v w e g p.1 q.1 cc in
+    record { negative = refl; whole = cc; fraction = same.fraction }
+
+pub no_minus : {text w e rest : List ℕ} → HasParts text false w e → text ≡ 45 ∷ rest → ⊥
+no_minus {w = []} p h = omega (arith, p.whole_digits.0)
+no_minus {w = c ∷ w} p h = let minus : c ≡ 45 = cc in omega (arith, ap digit_value minus, p.whole_digits.1.0)
+
+pub same_parts : {s t : Bool} {v w e g text : List ℕ} → HasParts text s v e → HasParts text t w g
     → SameParts s t v w e g
-same_parts false false v w e g text x y =
-    let same = same_split v w e g x.whole_digits.1 y.whole_digits.1 (sym x.written ∙ y.written) in
-    record { negative = refl; whole = same.0; fraction = same.1 }
-same_parts false true v w e g text x y = absurd
-    (no_minus v e (w ++ fraction_text g) x.whole_digits (sym x.written ∙ y.written))
-same_parts true false v w e g text x y = absurd
-    (no_minus w g (v ++ fraction_text e) y.whole_digits (sym y.written ∙ x.written))
-same_parts true true v w e g text x y =
-    let text_is = x.written in
-    let text_is_too = y.written in
-    let rest : v ++ fraction_text e ≡ w ++ fraction_text g = cc in
-    let same = same_split v w e g x.whole_digits.1 y.whole_digits.1 rest in
-    record { negative = refl; whole = same.0; fraction = same.1 }
+same_parts {s = false} {t = false} x y = same_split false _ _ _ _ x.whole_digits.1 y.whole_digits.1 cc
+same_parts {s = false} {t = true} x y = absurd (no_minus x y.written)
+same_parts {s = true} {t = false} x y = absurd (no_minus y x.written)
+same_parts {s = true} {t = true} x y = same_split true _ _ _ _ x.whole_digits.1 y.whole_digits.1 cc
 
 -- a text stands for one number with one number of places
 pub record SameDecimal (n m : ℤ) (j k : ℕ) : Type 0 where
@@ -72,21 +53,12 @@ pub record SameDecimal (n m : ℤ) (j k : ℕ) : Type 0 where
   pub places : j ≡ k
 
 pub decimal_unique : (text : List ℕ) (n m : ℤ) (j k : ℕ) → Decimal text n j → Decimal text m k → SameDecimal n m j k
-decimal_unique text n m j k x y =
-    let same = same_parts x.negative y.negative x.whole y.whole x.fraction y.fraction text x.parts y.parts in
-    let negative = same.negative in
-    let whole = same.whole in
-    let fraction = same.fraction in
-    let first = x.numeral in
-    let second = y.numeral in
-    let places = x.places in
-    let places_too = y.places in
-    record { numeral = cc; places = cc }
+decimal_unique text n m j k x y = let same = same_parts x.parts y.parts in record { numeral = cc; places = cc }
 
 -- a text that has these parts stands for their number
-pub decimal_of : (text : List ℕ) (s : Bool) (w e : List ℕ) → HasParts text s w e
+pub decimal_of : {text : List ℕ} {s : Bool} {w e : List ℕ} → HasParts text s w e
     → Decimal text (signed s (digits_value 10 (w ++ e))) (length e)
-decimal_of text s w e p = record { negative = s; whole = w; fraction = e; parts = p; numeral = refl; places = refl }
+decimal_of p = record { negative = _; whole = _; fraction = _; parts = p; numeral = refl; places = refl }
 
 ascii_point : (e : List ℕ) → AllDigits 10 e → IsAscii (fraction_text e)
 ascii_point [] p = IsAscii-nil

@@ -1,10 +1,11 @@
-use Rattle.std.proofs.Common.{◌+◌, ◌-◌, ◌^◌, ◌≤◌, arith, refl, sym, subst, ◌∙◌, take}
-use Rattle.std.specs.Str.Parse.{digits_value, AllDigits}
+use Rattle.std.proofs.Common.{◌+◌, ◌-◌, ◌^◌, ◌≤◌, arith, refl, sym, ◌∙◌, take}
+use Rattle.std.specs.Str.Parse.{digits_value}
 use Rattle.std.proofs.Math.Nat.{pow-le-pow_right}
+use Rattle.std.proofs.lemmas.List.{take_rest}
 use Rattle.std.proofs.lemmas.Nat.{one_shl}
-use Rattle.font_decimal.proofs.Digits.{take_rest, kept_below, kept_numeral}
+use Rattle.font_decimal.proofs.Digits.{kept_below, kept_numeral}
 use Rattle.font_decimal.proofs.Texts.{same_point}
-use Rattle.font_decimal.proofs.Parts.{split_parts, parts_found}
+use Rattle.font_decimal.proofs.Parts.{fraction_found, parts_found}
 use Rattle.font_decimal.proofs.Rounding.{half_steps_below, steps_fit, StepsFit}
 use Rattle.font_decimal.proofs.Readings.{steps_found}
 use Rattle.font_decimal.proofs.reader.nearest_steps.Goals as goal
@@ -19,20 +20,17 @@ pub returns-in_err-behind_point-clause-none : goal.returns-in_err-behind_point-c
 returns-in_err-behind_point-clause-none c =
     let whole = c.whole_digits-whole in
     rw c.from_residual.ensures
-    (λ w e parts.
-    let split = split_parts c.args.digits.now w e whole.result.1 parts whole.ensures.digits whole.ensures.within
-    whole.ensures.end in
-    c.in_err-behind_point.ensures e (take_rest whole.result.1 c.args.digits.now ∙ split.back))
+    (λ w e parts. c.in_err-behind_point.ensures e (take_rest c.args.digits.now whole.result.1
+    ∙ fraction_found whole.result.1 parts whole.ensures.digits whole.ensures.within whole.ensures.end))
 
 pub returns-in_err-half_steps-clause-none : goal.returns-in_err-half_steps-clause-none
 returns-in_err-half_steps-clause-none c =
     let whole = c.whole_digits-whole in
-    let rest = sym (take_rest whole.result.1 c.args.digits.now) ∙ c.in_ok-behind_point.ensures in
     rw c.from_residual-in_err-half_steps.ensures (λ w e parts.
-    let split = split_parts c.args.digits.now w e whole.result.1 parts whole.ensures.digits whole.ensures.within
-    whole.ensures.end in
-    let same = same_point e c.in_ok-behind_point.field-0.now (sym split.back ∙ rest) in
-    c.in_err-half_steps.ensures (subst (λ ds. AllDigits 10 ds) same parts.fraction_digits))
+    let same = same_point e c.in_ok-behind_point.field-0.now
+    (sym (fraction_found whole.result.1 parts whole.ensures.digits whole.ensures.within whole.ensures.end)
+    ∙ sym (take_rest c.args.digits.now whole.result.1) ∙ c.in_ok-behind_point.ensures) in
+    c.in_err-half_steps.ensures (rw same at parts.fraction_digits))
 
 fit : (c : goal.In_ok-half_steps) → StepsFit c.args.f c.whole_digits-whole.result.0 c.in_ok-half_steps.half_steps
 fit c =
@@ -57,7 +55,7 @@ returns-clause-some c =
     let digits = c.args.digits.now in
     let fraction = c.in_ok-behind_point.field-0.now in
     let halves = c.in_ok-half_steps.ensures in
-    let rest = sym (take_rest whole.result.1 digits) ∙ c.in_ok-behind_point.ensures in
+    let rest = sym (take_rest digits whole.result.1) ∙ c.in_ok-behind_point.ensures in
     let cap = rw (one_shl (63 - c.args.f) 64 (omega arith)) at whole.ensures.number in
     rw (fit c).shifted
     (steps_found c.args.f whole.result.0 c.in_ok-half_steps.half_steps _ digits fraction whole.result.1

@@ -2,89 +2,69 @@ use Rattle.std.proofs.Common.{◌≡◌, ℕ, ◌+◌, ◌*◌, ◌/◌, ◌%◌
 use Rattle.std.proofs.Math.Nat.{pow-suc}
 use Rattle.std.proofs.lemmas.Nat.{one_shl}
 use Rattle.font_decimal.specs.Shortest.{nearest_numeral, reads_back}
-use Rattle.font_decimal.proofs.Fewest.{IsFewest, place_left}
-use Rattle.font_decimal.proofs.Remainder.{stopped, places_are, fails_here, rounded_up, rounded_down, next_numeral}
+use Rattle.font_decimal.proofs.Fewest.{IsFewest, place_left, places_are}
+use Rattle.font_decimal.proofs.Remainder.{stopped, fails_here, rounded_up, rounded_down, next_numeral}
 use Rattle.font_decimal.proofs.Remainder.{next_below, fraction_below, no_carry}
 use Rattle.font_decimal.proofs.shortest.shortest_digits.Goals as goal
-
-step_is : (f : ℕ) → f ≤ 30 → 1 * 2 ^ f % 18446744073709551616 ≡ 2 ^ f
-step_is f h = one_shl f 64 (omega arith)
 
 unit_is : (f : ℕ) → f ≤ 30 → 1 * 2 ^ (f + 1) % 18446744073709551616 ≡ 2 * 2 ^ f
 unit_is f h = one_shl (f + 1) 64 (omega arith) ∙ rw add-one (omega (arith, pow-suc 2 f))
 
 fails : (c : goal.In-loop-margin) → reads_back c.args.magnitude c.args.f c.loop-margin.places ≡ false
-fails c =
-    let l = c.loop-margin in
-    fails_here c.args.magnitude c.args.f l.places _ l.rest l.invariant.rest
-    (omega (arith, c.min.ensures, unit_is c.args.f c.requires))
+fails c = fails_here c.loop-margin.invariant.rest (omega (arith, c.min.ensures, unit_is c.args.f c.requires))
 
 pub loop-margin-smaller : goal.loop-margin-smaller
 loop-margin-smaller c =
-    let more = place_left c.args.magnitude c.args.f c.loop-margin.places c.loop-margin.invariant.within (fails c) in
-    omega arith
+    omega (arith, place_left c.args.magnitude c.args.f c.loop-margin.places c.loop-margin.invariant.within (fails c))
 
 pub loop-margin-preserved : goal.loop-margin-preserved
 loop-margin-preserved c =
     let l = c.loop-margin in
     let more = place_left c.args.magnitude c.args.f l.places l.invariant.within (fails c) in
     let unit = unit_is c.args.f c.requires in
-    let below = l.invariant.rest.below in
     record {
       margin = rw (l.invariant.margin, add-one) (sym (pow-suc 10 l.places));
-      fraction = next_below l.fraction l.margin l.rest _ l.invariant.fraction (omega arith);
-      rest = next_numeral c.args.magnitude c.args.f l.places _ l.fraction l.rest _ l.invariant.rest unit;
+      fraction = next_below l.fraction l.margin l.rest _ l.invariant.fraction (omega (arith, l.invariant.rest.below));
+      rest = next_numeral _ l.fraction l.invariant.rest unit;
       within = omega arith;
-      fail = below_more (λ j. reads_back c.args.magnitude c.args.f j ≡ false) l.places l.invariant.fail (fails c);
+      fail = below_more _ l.places l.invariant.fail (fails c);
     }
 
 -- where the last digit is raised
 pub raise_last_digit-fraction-requires : goal.raise_last_digit-fraction-requires
 raise_last_digit-fraction-requires c =
-    let l = c.loop-margin in
+    let l = c.loop-margin.invariant in
     let small = unit_is c.args.f c.requires in
-    let fewest = stopped c.args.magnitude c.args.f l.places _ l.rest l.invariant.rest
-    (omega (arith, c.min.ensures, small)) l.invariant.within l.invariant.fail in
-    let numeral = rounded_up c.args.magnitude c.args.f l.places _ l.rest l.invariant.rest (omega (arith, small)) in
-    (no_carry c.args.magnitude c.args.f l.places _ l.fraction fewest (omega arith) numeral, omega arith)
+    let fewest = stopped l.rest (omega (arith, c.min.ensures, small)) l.within l.fail in
+    (no_carry _ c.loop-margin.fraction fewest (omega arith) (rounded_up l.rest (omega (arith, small))), omega arith)
 
 fewest : (c : goal.After-raise_last_digit-fraction) → IsFewest c.args.magnitude c.args.f c.loop-margin.places
 fewest c =
-    let l = c.loop-margin in
-    stopped c.args.magnitude c.args.f l.places _ l.rest l.invariant.rest
-    (omega (arith, c.min.ensures, unit_is c.args.f c.requires)) l.invariant.within l.invariant.fail
+    let l = c.loop-margin.invariant in
+    stopped l.rest (omega (arith, c.min.ensures, unit_is c.args.f c.requires)) l.within l.fail
 
 raised : (c : goal.After-raise_last_digit-fraction) → nearest_numeral c.args.magnitude c.args.f c.loop-margin.places
     ≡ c.args.magnitude / (1 * 2 ^ c.args.f % 18446744073709551616) * 10 ^ c.loop-margin.places + c.loop-margin.fraction
     + 1
-raised c =
-    let l = c.loop-margin in
-    rounded_up c.args.magnitude c.args.f l.places _ l.rest l.invariant.rest (omega (arith, unit_is c.args.f c.requires))
+raised c = rounded_up c.loop-margin.invariant.rest (omega (arith, unit_is c.args.f c.requires))
 
 pub returns-then-rest-unit-clause-places : goal.returns-then-rest-unit-clause-places
-returns-then-rest-unit-clause-places c = places_are c.args.magnitude c.args.f c.loop-margin.places (fewest c)
+returns-then-rest-unit-clause-places c = places_are (fewest c)
 
 pub returns-then-rest-unit-clause-numeral : goal.returns-then-rest-unit-clause-numeral
 returns-then-rest-unit-clause-numeral c = rw c.raise_last_digit-fraction.ensures (omega (arith, raised c))
 
 pub returns-then-rest-unit-clause-below : goal.returns-then-rest-unit-clause-below
 returns-then-rest-unit-clause-below c =
-    let l = c.loop-margin in
-    let split = raised c ∙ rw (step_is c.args.f c.requires) (omega arith) in
-    rw c.raise_last_digit-fraction.ensures
-    (fraction_below c.args.magnitude c.args.f l.places (l.fraction + 1) (fewest c) split)
+    let split = raised c ∙ rw (one_shl c.args.f 64 (omega arith)) (omega arith) in
+    rw c.raise_last_digit-fraction.ensures (fraction_below (c.loop-margin.fraction + 1) (fewest c) split)
 
 -- where it is not
 pub returns-else-rest-unit-clause-places : goal.returns-else-rest-unit-clause-places
 returns-else-rest-unit-clause-places c =
-    let l = c.loop-margin in
-    let fewest = stopped c.args.magnitude c.args.f l.places _ l.rest l.invariant.rest
-    (omega (arith, c.min.ensures, unit_is c.args.f c.requires))
-    l.invariant.within l.invariant.fail in
-    places_are c.args.magnitude c.args.f l.places fewest
+    let l = c.loop-margin.invariant in
+    places_are (stopped l.rest (omega (arith, c.min.ensures, unit_is c.args.f c.requires)) l.within l.fail)
 
 pub returns-else-rest-unit-clause-numeral : goal.returns-else-rest-unit-clause-numeral
 returns-else-rest-unit-clause-numeral c =
-    let l = c.loop-margin in
-    sym (rounded_down c.args.magnitude c.args.f l.places _ l.rest l.invariant.rest
-    (omega (arith, unit_is c.args.f c.requires)))
+    sym (rounded_down c.loop-margin.invariant.rest (omega (arith, unit_is c.args.f c.requires)))
