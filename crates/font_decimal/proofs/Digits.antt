@@ -9,10 +9,10 @@ use Rattle.std.specs.Prelude.{true, false}
 use Rattle.std.proofs.Math.Nat.{pow-suc, mul-lt-mul_of_pos_right, one-le-pow, pow-le-pow_right, mod-eq_of_lt}
 use Rattle.std.proofs.lemmas.Bool.{cases_lt}
 use Rattle.std.proofs.lemmas.Nat.{pow-add, mul-pow}
-use Rattle.std.proofs.lemmas.List.{take-append-drop, length-take, length-take-le}
+use Rattle.std.proofs.lemmas.List.{take-append-drop, length-take}
 use Rattle.std.proofs.lemmas.Int.Digits.{digits_value-lt, digits_value_more}
 use Rattle.std.proofs.lemmas.Str.{digit_value_digit}
-use Rattle.std.proofs.lemmas.Str.Parse.{IsNumeralModel, numerals_by_value}
+use Rattle.std.proofs.lemmas.Str.Parse.{IsNumeralModel, numerals_by_value, tells_digits, digits_value_short}
 
 -- digits that follow a number move it up by their count
 pub after_is : (n : ℕ) (cs : List ℕ) → digits_value_after 10 n cs ≡ n * 10 ^ length cs + digits_value 10 cs
@@ -79,39 +79,13 @@ one_digit_more_capped xs i n digit most low ascii so_far next =
     omega arith
 
 -- at most 18 digits write a number below 10^18
-pub few_digits : (xs : List ℕ) (i : ℕ) → AllDigits 10 (take i xs) → i ≤ length xs → i ≤ 18
-    → digits_value 10 (take i xs) < 10 ^ 18
-few_digits xs i h within few =
-    let below = digits_value-lt 10 (take i xs) h in
-    let power : 10 ^ length (take i xs) ≤ 10 ^ 18 = pow-le-pow_right {n = 10} (omega arith) {i = length (take i xs)}
-    {j = 18} (omega (arith, length-take-le i xs within)) in
-    omega arith
-
--- no more digits are taken than there are
-pub take_all : (n : ℕ) (xs : List ℕ) → length xs ≤ n → take n xs ≡ xs
-take_all zero [] h = refl
-take_all zero (x ∷ xs) h = absurd (omega arith)
-take_all (suc n) [] h = refl
-take_all (suc n) (x ∷ xs) h = ap (λ ys. x ∷ ys) (take_all n xs (omega arith))
-
--- what stands from a place on is all that follows it
-pub take_rest : (n : ℕ) (xs : List ℕ) → take (length xs - n) (drop n xs) ≡ drop n xs
-take_rest n xs = take_all (length xs - n) (drop n xs) (omega (arith, length-drop n xs))
-
--- to take p digits, or all of them where there are fewer, is to take p digits
-pub take_min : (n p : ℕ) (xs : List ℕ) → n ≡ min (length xs) p → take n xs ≡ take p xs
-take_min n p xs e = elim (cases_lt p (length xs)) [
-  | inl long ↦ ap (λ k. take k xs) (omega arith)
-  | inr short ↦ take_all n xs (omega arith) ∙ sym (take_all p xs short)
-]
+pub few_digits : (xs : List ℕ) (i : ℕ) → AllDigits 10 (take i xs) → i ≤ 18 → digits_value 10 (take i xs) < 10 ^ 18
+few_digits xs i h few =
+    digits_value_short (numerals_by_value _ tells_digits) (take i xs) 18 h (omega (arith, length-take i xs))
 
 -- the numeral of the first p digits, with zeros for those that are missing
 abbrev pub kept_numeral : ℕ → List ℕ → ℕ
 kept_numeral p ds = digits_value 10 (take p ds) * 10 ^ (p - length ds)
-
--- a power of ten in two factors
-ten_to : (n a b : ℕ) → n ≡ a + b → 10 ^ n ≡ 10 ^ a * 10 ^ b
-ten_to n a b e = ap (λ k. 10 ^ k) e ∙ pow-add 10 a b
 
 -- a fraction is its first p digits, and a rest below their last place
 pub record IsCut (p : ℕ) (ds : List ℕ) : Type 0 where
@@ -121,47 +95,42 @@ pub record IsCut (p : ℕ) (ds : List ℕ) : Type 0 where
 
 -- each fraction is so cut
 pub is_cut : (p : ℕ) (ds : List ℕ) → AllDigits 10 ds → IsCut p ds
-is_cut p ds h = elim (cases_lt p (length ds)) [
-  | inl long ↦
-      let k = length ds in
-      let front = digits_value 10 (take p ds) in
-      let back = digits_value 10 (drop p ds) in
-      let many : length (drop p ds) ≡ k - p = length-drop p ds in
-      let joined : digits_value 10 ds ≡ front * 10 ^ (k - p) + back =
-      ap (digits_value 10) (sym (take-append-drop p ds)) ∙ digits_value-append (take p ds) (drop p ds) ∙ ap
-      (λ n. front * 10 ^ n + back) many in
-      let none : 10 ^ (p - k) ≡ 1 = ap (λ n. 10 ^ n) (let e : p - k ≡ 0 = omega arith in e) in
-      let power : 10 ^ k ≡ 10 ^ (k - p) * 10 ^ p = ten_to k (k - p) p (omega arith) in
-      let small : back < 10 ^ (k - p) = rw many at (digits_value-lt 10 (drop p ds) (digits-drop p ds h)) in
-      record {
-        rest = back * 10 ^ p;
-        is = rw (joined, none, power) (omega arith);
-        below = rw power (mul-lt-mul_of_pos_right small (one-le-pow p 10 (omega arith)));
-      }
-  | inr short ↦
-      let k = length ds in
-      let power : 10 ^ p ≡ 10 ^ (p - k) * 10 ^ k = ten_to p (p - k) k (omega arith) in
-      record {
-        rest = 0;
-        is = rw (take_all p ds short, power) (omega arith);
-        below = one-le-pow k 10 (omega arith);
-      }
-]
+is_cut p ds h =
+    let k = length ds in
+    let front = digits_value 10 (take p ds) in
+    let back = digits_value 10 (drop p ds) in
+    let joined : digits_value 10 ds ≡ front * 10 ^ (k - p) + back = ap (digits_value 10) (sym (take-append-drop p ds))
+    ∙ digits_value-append (take p ds) (drop p ds) ∙ ap (λ n. front * 10 ^ n + back) (length-drop p ds) in
+    let same : k - p + p ≡ p - k + k = omega arith in
+    let powers : 10 ^ (k - p) * 10 ^ p ≡ 10 ^ (p - k) * 10 ^ k = rw (← pow-add 10 (k - p) p, same) (pow-add 10 (p - k) k) in
+    let small : back < 10 ^ (k - p) = rw (length-drop p ds) at (digits_value-lt 10 (drop p ds) (digits-drop p ds h)) in
+    record {
+      rest = back * 10 ^ p;
+      is = rw joined (omega (arith, ap (λ n. front * n) powers));
+      below = elim (cases_lt p k) [
+        | inl long ↦
+            let none : p - k ≡ 0 = omega arith in
+            omega (arith, rw none at powers, mul-lt-mul_of_pos_right small (one-le-pow p 10 (omega arith)))
+        | inr short ↦
+            let none : k - p ≡ 0 = omega arith in
+            let empty : back ≡ 0 = omega (arith, rw none at small) in
+            rw empty (omega (arith, one-le-pow k 10 (omega arith)))
+      ];
+    }
 
 -- the numeral of digits, filled up with zeros to p places, has at most p digits
 pub filled_below : (p : ℕ) (ds : List ℕ) → AllDigits 10 ds → length ds ≤ p
     → digits_value 10 ds * 10 ^ (p - length ds) < 10 ^ p
 filled_below p ds h short =
-    rw (ten_to p (length ds) (p - length ds) (omega arith))
+    let split : p ≡ length ds + (p - length ds) = omega arith in
+    rw (ap (λ n. 10 ^ n) split ∙ pow-add 10 (length ds) (p - length ds))
     (mul-lt-mul_of_pos_right (digits_value-lt 10 ds h) (one-le-pow (p - length ds) 10 (omega arith)))
 
 -- and so has the numeral that is kept
 pub kept_below : (p : ℕ) (ds : List ℕ) → AllDigits 10 ds → kept_numeral p ds < 10 ^ p
 kept_below p ds h =
-    let few : length (take p ds) ≡ min p (length ds) = length-take p ds in
-    let filled = filled_below p (take p ds) (digits-take p ds h) (omega arith) in
-    let same : p - length (take p ds) ≡ p - length ds = omega arith in
-    rw same at filled
+    let same : p - length (take p ds) ≡ p - length ds = omega (arith, length-take p ds) in
+    rw same at (filled_below p (take p ds) (digits-take p ds h) (omega (arith, length-take p ds)))
 
 -- these are digits with their number, and five to the power of their count
 abbrev pub HasNumeral : List ℕ → ℕ → ℕ → Type 0

@@ -1,23 +1,22 @@
 -- Each text has just one reading: a value, out of range, or no decimal.
-use Rattle.std.proofs.Common.{◌≡◌, ℕ, ◌+◌, ◌-◌, ◌*◌, ◌/◌, ◌^◌, ◌<◌, ◌≤◌, ◌↔◌, ◌⊎◌, inl, inr, Bool, true, false, List}
-use Rattle.std.proofs.Common.{◌++◌, length, take, min, ℤ, pos, refl, sym, ap, subst, ◌∙◌, arith}
+use Rattle.std.proofs.Common.{◌≡◌, ℕ, ◌+◌, ◌*◌, ◌/◌, ◌^◌, ◌<◌, ◌↔◌, ◌⊎◌, inl, inr, Bool, true, false, List}
+use Rattle.std.proofs.Common.{◌++◌, length, min, ℤ, pos, refl, sym, ap, subst, ◌∙◌, arith}
 use Rattle.std.specs.Prelude.{Option, Some, None, Result, Ok, Err, SomeIff, FitsSigned, ◌*ℤ◌, ◌≤ℤ◌}
 use Rattle.std.specs.Str.Parse.{digits_value}
-use Rattle.std.specs.Fmt.{sign_text}
 use Rattle.std.specs.Option.{ok_or}
 use Rattle.std.specs.Int.{w64}
-use Rattle.std.proofs.Math.Nat.{one-le-pow, mul-pos}
+use Rattle.std.proofs.Math.Nat.{one-le-pow}
 use Rattle.std.proofs.lemmas.Int.{ints, by_lt_z}
-use Rattle.std.proofs.lemmas.Nat.{pow_pos}
-use Rattle.font_decimal.specs.Near.{signed, near_magnitude}
+use Rattle.std.proofs.lemmas.Nat.{pow-add, mul-pow}
+use Rattle.font_decimal.specs.Near.{signed}
 use Rattle.font_decimal.specs.Grammar.{HasParts}
 use Rattle.font_decimal.specs.Reading.{Rounds, Reads, IsOutOfRange, IsReading}
 use Rattle.font_decimal.specs.declared.reader.DecimalFault.{DecimalFault}
 use Rattle.font_decimal.specs.declared.reader.DecimalFault.TheVariants.{Syntax, OutOfRange}
-use Rattle.font_decimal.proofs.Near.{IsNearMagnitude, rounded_is, near_from, near_unique, signed_times}
+use Rattle.font_decimal.proofs.Near.{near_from, near_unique, signed_times}
 use Rattle.font_decimal.proofs.Texts.{decimal_of, decimal_unique}
 use Rattle.font_decimal.proofs.Digits.{digits_value-append, kept_numeral, is_cut}
-use Rattle.font_decimal.proofs.Rounding.{cut_rounds, whole_rounds, power_in_half_steps, half_steps_halved, steps_capped}
+use Rattle.font_decimal.proofs.Rounding.{half_steps_halved}
 
 pub ten_pos : (k : ℕ) → 0 < 10 ^ k
 ten_pos k = one-le-pow k 10 (omega arith)
@@ -29,51 +28,25 @@ rounds_unique text f b c x y =
     let nearest = rw (sym same.numeral, sym same.places) at y.nearest in
     near_unique (x.numeral *ℤ pos (2 ^ f)) (10 ^ x.places) b c (ten_pos x.places) x.nearest nearest
 
--- the nearest number of steps, by the first p digits of the fraction
-abbrev pub steps_by : ℕ → ℕ → List ℕ → List ℕ → ℕ
-steps_by p f w e = digits_value 10 w * 2 ^ f + near_magnitude (kept_numeral p e * 2 ^ f) (10 ^ p)
+-- the nearest number of steps, by the first f + 1 digits of the fraction
+abbrev pub steps_by : ℕ → List ℕ → List ℕ → ℕ
+steps_by f w e = digits_value 10 w * 2 ^ f + (kept_numeral (f + 1) e / 5 ^ (f + 1) + 1) / 2
 
-pub rounds_by : (p f : ℕ) (text : List ℕ) (s : Bool) (w e : List ℕ) → f < p → HasParts text s w e
-    → Rounds text f (signed s (steps_by p f w e))
-rounds_by p f text s w e h parts =
+pub rounds_by : {text : List ℕ} {s : Bool} {w e : List ℕ} (f : ℕ) → HasParts text s w e
+    → Rounds text f (signed s (steps_by f w e))
+rounds_by {s = s} {w = w} {e = e} f parts =
     let t = 2 ^ f in
     let k = length e in
-    let u = 2 ^ (p - 1 - f) * 5 ^ p in
-    let value = digits_value 10 e in
-    let kept = kept_numeral p e in
-    let cut = is_cut p e parts.fraction_digits in
-    let unit = power_in_half_steps f p h in
-    let u_pos : 0 < u = mul-pos (pow_pos (p - 1 - f)) (one-le-pow p 5 (omega arith)) in
-    let near_kept = near_magnitude (kept * t) (10 ^ p) in
-    let units = subst (λ d. IsNearMagnitude (kept * t) d near_kept) unit (rounded_is (kept * t) (10 ^ p) (ten_pos p)) in
-    let cut_units = subst (λ d. value * d ≡ kept * 10 ^ k + cut.rest) unit cut.is in
-    let fraction = cut_rounds value kept cut.rest (10 ^ k) t u near_kept (pow_pos f) u_pos cut_units cut.below units in
-    let all = whole_rounds (digits_value 10 w) value (10 ^ k) t near_kept fraction in
+    let cut = is_cut (f + 1) e parts.fraction_digits in
+    let unit : 10 ^ (f + 1) ≡ 2 * t * 5 ^ (f + 1) = mul-pow 2 5 (f + 1) ∙ rw (pow-add 2 f 1) (omega arith) in
+    let fraction = half_steps_halved (digits_value 10 e) (kept_numeral (f + 1) e) cut.rest (10 ^ k) t (5 ^ (f + 1))
+    (one-le-pow (f + 1) 5 (omega arith)) (rw unit at cut.is) cut.below in
     record {
       numeral = signed s (digits_value 10 (w ++ e));
       places = k;
       decimal = decimal_of parts;
-      nearest = rw (digits_value-append w e, signed_times s _ t) (near_from s _ (10 ^ k) _ (ten_pos k) all);
+      nearest = rw (digits_value-append w e, signed_times s _ t) (near_from s _ (10 ^ k) _ (ten_pos k) (omega arith));
     }
-
--- a number stands for the nearest number of steps to unsigned digits: it is that number, or both are above 2^63
-abbrev pub StandsForSteps : ℕ → List ℕ → ℕ → Type 0
-StandsForSteps f digits n = (steps : ℕ) × ((n ≡ steps) ⊎ ((2 ^ 63 < n) × (2 ^ 63 < steps)))
-    × ((negative : Bool) → Rounds (sign_text negative ++ digits) f (signed negative steps))
-
-pub steps_found : (f whole halves n : ℕ) (digits e : List ℕ) (len : ℕ) → f ≤ 30
-    → ((s : Bool) → HasParts (sign_text s ++ digits) s (take len digits) e)
-    → whole ≡ min (digits_value 10 (take len digits)) (2 ^ (63 - f) + 1) → halves ≡ kept_numeral (f + 1) e / 5 ^ (f + 1)
-    → n ≡ whole * 2 ^ f + (halves + 1) / 2 → StandsForSteps f digits n
-steps_found f whole halves n digits e len few parts cut halves_are n_is =
-    let w = take len digits in
-    let rounded : (halves + 1) / 2 ≡ near_magnitude (kept_numeral (f + 1) e * 2 ^ f) (10 ^ (f + 1)) =
-    ap (λ h. (h + 1) / 2) halves_are ∙ half_steps_halved f (kept_numeral (f + 1) e) in
-    let capped = steps_capped f (digits_value 10 w) whole ((halves + 1) / 2) few cut in (
-      digits_value 10 w * 2 ^ f + (halves + 1) / 2,
-      rw n_is capped,
-      λ s. rw rounded (rounds_by (f + 1) f (sign_text s ++ digits) s w e (omega arith) (parts s)),
-    )
 
 -- what is read is in range, and no other number is read
 pub not_outside : (f : ℕ) (text : List ℕ) (min max b : ℤ) → Reads text f min max b → IsOutOfRange text f min max → ⊥

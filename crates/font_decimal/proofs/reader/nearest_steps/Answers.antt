@@ -1,4 +1,4 @@
-use Rattle.std.proofs.Common.{◌+◌, ◌-◌, ◌^◌, ◌≤◌, arith, refl, sym, ◌∙◌, take}
+use Rattle.std.proofs.Common.{◌+◌, ◌-◌, ◌/◌, ◌^◌, ◌≤◌, arith, sym, ◌∙◌, take}
 use Rattle.std.specs.Str.Parse.{digits_value}
 use Rattle.std.proofs.Math.Nat.{pow-le-pow_right}
 use Rattle.std.proofs.lemmas.List.{take_rest}
@@ -6,8 +6,8 @@ use Rattle.std.proofs.lemmas.Nat.{one_shl}
 use Rattle.font_decimal.proofs.Digits.{kept_below, kept_numeral}
 use Rattle.font_decimal.proofs.Texts.{same_point}
 use Rattle.font_decimal.proofs.Parts.{fraction_found, parts_found}
-use Rattle.font_decimal.proofs.Rounding.{half_steps_below, steps_fit, StepsFit}
-use Rattle.font_decimal.proofs.Readings.{steps_found}
+use Rattle.font_decimal.proofs.Rounding.{half_steps_below, steps_fit, StepsFit, steps_capped}
+use Rattle.font_decimal.proofs.Readings.{rounds_by}
 use Rattle.font_decimal.proofs.reader.nearest_steps.Goals as goal
 
 pub whole_digits-whole-requires : goal.whole_digits-whole-requires
@@ -53,13 +53,13 @@ pub returns-clause-some : goal.returns-clause-some
 returns-clause-some c =
     let whole = c.whole_digits-whole in
     let digits = c.args.digits.now in
-    let fraction = c.in_ok-behind_point.field-0.now in
     let halves = c.in_ok-half_steps.ensures in
     let rest = sym (take_rest digits whole.result.1) ∙ c.in_ok-behind_point.ensures in
     let cap = rw (one_shl (63 - c.args.f) 64 (omega arith)) at whole.ensures.number in
-    rw (fit c).shifted
-    (steps_found c.args.f whole.result.0 c.in_ok-half_steps.half_steps _ digits fraction whole.result.1
-    (omega (arith, c.requires))
-    (λ s. parts_found digits fraction whole.result.1 s whole.ensures.digits (omega (arith, c.if-len-eq0.false))
-    whole.ensures.within rest halves.0)
-    cap halves.1 refl)
+    rw (fit c).shifted (
+      _,
+      steps_capped c.args.f (digits_value 10 (take whole.result.1 digits)) whole.result.0
+          ((c.in_ok-half_steps.half_steps + 1) / 2) (omega (arith, c.requires)) cap,
+      λ s. rw halves.1 (rounds_by c.args.f (parts_found digits c.in_ok-behind_point.field-0.now whole.result.1 s
+          whole.ensures.digits (omega (arith, c.if-len-eq0.false)) whole.ensures.within rest halves.0)),
+    )

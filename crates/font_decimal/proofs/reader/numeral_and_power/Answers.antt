@@ -12,14 +12,12 @@ returns-then-not-is_ascii_digit c = λ all.
 
 pub overflow_mul-numeral : goal.overflow_mul-numeral
 overflow_mul-numeral c =
-    let small = few_digits c.args.digits.now c.loop-digit.digit-index c.loop-digit.invariant.judged (omega arith)
-    (omega arith) in
+    let small = few_digits c.args.digits.now c.loop-digit.digit-index c.loop-digit.invariant.judged (omega arith) in
     omega (arith, c.loop-digit.invariant.numeral)
 
 pub overflow_add-numeral : goal.overflow_add-numeral
 overflow_add-numeral c =
-    let small = few_digits c.args.digits.now c.loop-digit.digit-index c.loop-digit.invariant.judged (omega arith)
-    (omega arith) in
+    let small = few_digits c.args.digits.now c.loop-digit.digit-index c.loop-digit.invariant.judged (omega arith) in
     omega (arith, c.loop-digit.invariant.numeral, c.if-not-is_ascii_digit.ensures.cases, c.from.ensures)
 
 pub overflow_mul-power_of_five : goal.overflow_mul-power_of_five
