@@ -18,10 +18,7 @@ use Rattle.std.proofs.lemmas.Str.Parse.{IsNumeralModel, numerals_by_value, tells
 pub after_is : (n : ℕ) (cs : List ℕ) → digits_value_after 10 n cs ≡ n * 10 ^ length cs + digits_value 10 cs
 after_is n [] = omega arith
 after_is n (c ∷ cs) =
-    let here = after_is (n * 10 + digit_value c) cs in
-    let first = after_is (0 * 10 + digit_value c) cs in
-    let power : 10 ^ suc (length cs) ≡ 10 ^ length cs * 10 = pow-suc 10 (length cs) in
-    rw (here, first, power) (omega arith)
+    rw (after_is (n * 10 + digit_value c) cs, after_is (0 * 10 + digit_value c) cs, pow-suc 10 (length cs)) (omega arith)
 
 -- digits are read in two goes as in one
 after-append : (n : ℕ) (xs ys : List ℕ) → digits_value_after 10 n (xs ++ ys) ≡ digits_value_after 10
@@ -35,15 +32,10 @@ pub digits_value-append : (xs ys : List ℕ) → digits_value 10 (xs ++ ys) ≡ 
 digits_value-append xs ys = after-append 0 xs ys ∙ after_is (digits_value 10 xs) ys
 
 -- what is left of digits, from either end, is digits
-pub digits-drop : (n : ℕ) (xs : List ℕ) → AllDigits 10 xs → AllDigits 10 (drop n xs)
-digits-drop zero xs p = p
-digits-drop (suc n) [] p = p
-digits-drop (suc n) (x ∷ xs) p = digits-drop n xs p.1
-
-pub digits-take : (n : ℕ) (xs : List ℕ) → AllDigits 10 xs → AllDigits 10 (take n xs)
-digits-take zero xs p = tt
-digits-take (suc n) [] p = tt
-digits-take (suc n) (x ∷ xs) p = (p.0, digits-take n xs p.1)
+pub digits_parts : (n : ℕ) (xs : List ℕ) → AllDigits 10 xs → AllDigits 10 (take n xs) × AllDigits 10 (drop n xs)
+digits_parts zero xs p = (tt, p)
+digits_parts (suc n) [] p = (tt, tt)
+digits_parts (suc n) (x ∷ xs) p = let rest = digits_parts n xs p.1 in ((p.0, rest.0), rest.1)
 
 -- and digits behind digits are digits
 pub digits-append : (xs ys : List ℕ) → AllDigits 10 xs → AllDigits 10 ys → AllDigits 10 (xs ++ ys)
@@ -51,32 +43,13 @@ digits-append [] ys p q = q
 digits-append (x ∷ xs) ys p q = (p.0, digits-append xs ys p.1 q)
 
 -- a test of each byte tells digits
-by_test : IsNumeralModel (λ ds. list_all is_ascii_digit ds ≡ true) (digits_value 10)
+pub by_test : IsNumeralModel (λ ds. list_all is_ascii_digit ds ≡ true) (digits_value 10)
 by_test = numerals_by_value _ (search rules)
 
--- where it passes, there are digits
-pub digits_pass : (ds : List ℕ) → true ≡ list_all is_ascii_digit ds → AllDigits 10 ds
-digits_pass ds t = by_test.to ds (sym t)
-
--- and where it fails, there are none
-pub digits_fail : (ds : List ℕ) → false ≡ list_all is_ascii_digit ds → AllDigits 10 ds → ⊥
-digits_fail ds t p = true≢false (sym (by_test.from ds p) ∙ sym t)
-
 -- one digit more
-pub one_digit_more : (xs : List ℕ) (i n digit : ℕ) → i < length xs → IsAsciiDigit (get_or xs i 0)
-    → n ≡ digits_value 10 (take i xs) → digit ≡ get_or xs i 0 - 48
-    → n * 10 + digit ≡ digits_value 10 (take (i + 1) xs)
-one_digit_more xs i n digit low ascii so_far next =
-    let value = digit_value_digit (get_or xs i 0) ascii in
-    omega (arith, digits_value_more 10 xs i low)
-
--- and the same where a greater number is cut to the greatest that counts
-pub one_digit_more_capped : (xs : List ℕ) (i n digit most : ℕ) → i < length xs → IsAsciiDigit (get_or xs i 0)
-    → n ≡ min (digits_value 10 (take i xs)) most → digit ≡ get_or xs i 0 - 48
-    → min (n * 10 + digit) most ≡ min (digits_value 10 (take (i + 1) xs)) most
-one_digit_more_capped xs i n digit most low ascii so_far next =
-    let more = one_digit_more xs i (digits_value 10 (take i xs)) digit low ascii refl next in
-    omega arith
+pub one_digit_more : (xs : List ℕ) (i : ℕ) → i < length xs → IsAsciiDigit (get_or xs i 0)
+    → digits_value 10 (take (i + 1) xs) ≡ digits_value 10 (take i xs) * 10 + (get_or xs i 0 - 48)
+one_digit_more xs i low ascii = omega (arith, digits_value_more 10 xs i low, digit_value_digit (get_or xs i 0) ascii)
 
 -- at most 18 digits write a number below 10^18
 pub few_digits : (xs : List ℕ) (i : ℕ) → AllDigits 10 (take i xs) → i ≤ 18 → digits_value 10 (take i xs) < 10 ^ 18
@@ -103,7 +76,7 @@ is_cut p ds h =
     ∙ digits_value-append (take p ds) (drop p ds) ∙ ap (λ n. front * 10 ^ n + back) (length-drop p ds) in
     let same : k - p + p ≡ p - k + k = omega arith in
     let powers : 10 ^ (k - p) * 10 ^ p ≡ 10 ^ (p - k) * 10 ^ k = rw (← pow-add 10 (k - p) p, same) (pow-add 10 (p - k) k) in
-    let small : back < 10 ^ (k - p) = rw (length-drop p ds) at (digits_value-lt 10 (drop p ds) (digits-drop p ds h)) in
+    let small : back < 10 ^ (k - p) = rw (length-drop p ds) at (digits_value-lt 10 (drop p ds) (digits_parts p ds h).1) in
     record {
       rest = back * 10 ^ p;
       is = rw joined (omega (arith, ap (λ n. front * n) powers));
@@ -130,7 +103,7 @@ filled_below p ds h short =
 pub kept_below : (p : ℕ) (ds : List ℕ) → AllDigits 10 ds → kept_numeral p ds < 10 ^ p
 kept_below p ds h =
     let same : p - length (take p ds) ≡ p - length ds = omega (arith, length-take p ds) in
-    rw same at (filled_below p (take p ds) (digits-take p ds h) (omega (arith, length-take p ds)))
+    rw same at (filled_below p (take p ds) (digits_parts p ds h).0 (omega (arith, length-take p ds)))
 
 -- these are digits with their number, and five to the power of their count
 abbrev pub HasNumeral : List ℕ → ℕ → ℕ → Type 0
@@ -144,21 +117,20 @@ pub record IsJoined (ds : List ℕ) (back high low high_power low_power : ℕ) :
   pub fits : digits_value 10 ds < 2 ^ 128
   pub power_of_five : high_power * low_power ≡ 5 ^ length ds
 
-pub numeral_of_parts : (ds front back : List ℕ) (high low high_power low_power : ℕ) → length ds ≤ 31
+pub numeral_of_parts : {ds : List ℕ} {high low high_power low_power : ℕ} (front back : List ℕ) → length ds ≤ 31
     → ds ≡ front ++ back → HasNumeral front high high_power → HasNumeral back low low_power
     → IsJoined ds (length back) high low high_power low_power
-numeral_of_parts ds front back high low high_power low_power few parts first second =
+numeral_of_parts {ds = ds} front back few parts first second =
     let b = length back in
     let count : length ds ≡ length front + b = ap length parts ∙ length-append front back in
-    let ten : 5 ^ b * 2 ^ b ≡ 10 ^ b = sym (mul-pow 5 2 b) in
-    let most : 10 ^ b ≤ 10 ^ 31 = pow-le-pow_right {n = 10} (omega arith) {i = b} {j = 31} (omega arith) in
-    let all : 10 ^ length ds ≤ 10 ^ 31 = pow-le-pow_right {n = 10} (omega arith) {i = length ds} {j = 31} few in
-    let small : 5 ^ b * 2 ^ b < 2 ^ 128 = rw ten (omega arith) in
+    let ten : 10 ^ b ≡ 5 ^ b * 2 ^ b = mul-pow 5 2 b in
+    let small : 5 ^ b * 2 ^ b < 2 ^ 128 =
+    omega (arith, pow-le-pow_right {n = 10} (omega arith) {i = b} {j = 31} (omega arith)) in
     let digits : AllDigits 10 ds = rw parts (digits-append front back first.0 second.0) in
     record {
       digits = digits;
-      tens = rw second.2 (mod-eq_of_lt small ∙ ten);
-      numeral = rw (first.1, second.1) (sym (ap (digits_value 10) parts ∙ digits_value-append front back));
-      fits = omega (arith, digits_value-lt 10 ds digits);
-      power_of_five = rw (first.2, second.2) (sym (ap (λ k. 5 ^ k) count ∙ pow-add 5 (length front) b));
+      tens = rw second.2 (mod-eq_of_lt small ∙ sym ten);
+      numeral = rw (first.1, second.1, parts) (sym (digits_value-append front back));
+      fits = omega (arith, digits_value-lt 10 ds digits, pow-le-pow_right {n = 10} (omega arith) few);
+      power_of_five = rw (first.2, second.2, count) (sym (pow-add 5 (length front) b));
     }

@@ -9,7 +9,7 @@ use Rattle.std.proofs.lemmas.List.{length-take-le, take_min}
 use Rattle.std.proofs.lemmas.Nat.{pow-add, mul-pow, pow_pos}
 use Rattle.std.proofs.lemmas.Bool.{cases_lt}
 use Rattle.font_decimal.proofs.Near.{IsNearMagnitude}
-use Rattle.font_decimal.proofs.Digits.{digits-take, digits-append, filled_below, kept_numeral, HasNumeral}
+use Rattle.font_decimal.proofs.Digits.{digits_parts, digits-append, filled_below, kept_numeral, HasNumeral}
 
 -- Half of a fraction's half steps of 1 / (2 t), rounded up, is the nearest number of steps: what is kept of it is in
 -- units of 1 / (2 t five), and the rest is below one unit.
@@ -41,18 +41,18 @@ shifted_below : (p places : ℕ) (e : List ℕ) → AllDigits 10 e → places �
     → digits_value 10 (take places e) * 2 ^ (p - places) < 10 ^ p
 shifted_below p places e digits within few =
     let filled = rw (length-take-le places e within) at
-    (filled_below p (take places e) (digits-take places e digits) (omega (arith, length-take-le places e within))) in
+    (filled_below p (take places e) (digits_parts places e digits).0 (omega (arith, length-take-le places e within))) in
     grind (arith, filled, pow-le-pow_left {n = 2} {m = 10} (omega arith) (p - places))
 
 -- the half steps of digits, as the code finds them from the first p of these and with the late ones judged
 abbrev pub HasHalfSteps : ℕ → List ℕ → ℕ → Type 0
 HasHalfSteps p e halves = AllDigits 10 e × (halves ≡ kept_numeral p e / 5 ^ p)
 
-pub half_steps_of_kept : (bits p places numeral power_of_five : ℕ) (e kept late : List ℕ) → 10 ^ p ≤ 2 ^ bits
+pub half_steps_of_kept : {places numeral power_of_five : ℕ} {e kept : List ℕ} (bits p : ℕ) (late : List ℕ) → 10 ^ p ≤ 2 ^ bits
     → places ≡ min (length e) p
     → e ≡ kept ++ late → kept ≡ take places e → HasNumeral kept numeral power_of_five → AllDigits 10 late
     → HasHalfSteps p e (numeral * 2 ^ (p - places) % 2 ^ bits / power_of_five)
-half_steps_of_kept bits p places numeral power_of_five e kept late room places_are joined front first second =
+half_steps_of_kept {places = places} {numeral = numeral} {power_of_five = power_of_five} {e = e} {kept = kept} bits p late room places_are joined front first second =
     let k = p - places in
     let digits : AllDigits 10 e = rw joined (digits-append kept late first.0 second) in
     let count : length kept ≡ places = ap length front ∙ length-take-le places e (omega arith) in

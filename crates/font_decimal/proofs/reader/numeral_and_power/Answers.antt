@@ -21,22 +21,20 @@ overflow_add-numeral c =
     omega (arith, c.loop-digit.invariant.numeral, c.if-not-is_ascii_digit.ensures.cases, c.from.ensures)
 
 pub overflow_mul-power_of_five : goal.overflow_mul-power_of_five
-overflow_mul-power_of_five c =
-    let power : 5 ^ c.loop-digit.digit-index ≤ 5 ^ 18 = pow-le-pow_right {n = 5} (omega arith)
-    {i = c.loop-digit.digit-index} {j = 18} (omega arith) in
-    omega (arith, c.loop-digit.invariant.power_of_five)
+overflow_mul-power_of_five c = omega (
+  arith,
+  c.loop-digit.invariant.power_of_five,
+  pow-le-pow_right {n = 5} (omega arith) {i = c.loop-digit.digit-index} {j = 18} (omega arith),
+)
 
 pub loop-digit-preserved : goal.loop-digit-preserved
-loop-digit-preserved c = record {
-  numeral = one_digit_more c.args.digits.now c.loop-digit.digit-index c.loop-digit.numeral c.from.result
-      c.loop-digit-test.true c.if-not-is_ascii_digit.ensures.cases
-      c.loop-digit.invariant.numeral c.from.ensures;
-  power_of_five = omega (
-    arith,
-    c.loop-digit.invariant.power_of_five,
-    pow-suc 5 c.loop-digit.digit-index,
-    ap (λ n. 5 ^ n) (add-one c.loop-digit.digit-index),
-  );
-  judged = digits_more 10 c.args.digits.now c.loop-digit.digit-index c.loop-digit-test.true
-      c.loop-digit.invariant.judged c.if-not-is_ascii_digit.ensures.bound;
-}
+loop-digit-preserved c =
+    let l = c.loop-digit in
+    let more = one_digit_more c.args.digits.now l.digit-index c.loop-digit-test.true
+    c.if-not-is_ascii_digit.ensures.cases in
+    record {
+      numeral = omega (arith, more, l.invariant.numeral, c.from.ensures);
+      power_of_five = rw add-one (omega (arith, l.invariant.power_of_five, pow-suc 5 l.digit-index));
+      judged = digits_more 10 c.args.digits.now l.digit-index c.loop-digit-test.true l.invariant.judged
+          c.if-not-is_ascii_digit.ensures.bound;
+    }
