@@ -70,28 +70,25 @@ magnitude_positive n d (negsuc q) h r = absurd (omega (arith, ints, suc-mul q d)
 pub near_to : (s : Bool) (n d : ℕ) (q : ℤ) → 0 < d → Near (signed s n) d q → HasMagnitude s n d q
 near_to false n d q h r = magnitude_positive n d q h r
 near_to true n d q h r =
-    let turned : Near (pos n) d (neg_ℤ q) = rw neg_ℤ-neg_ℤ at (near_opposite (neg_ℤ (pos n)) d q r) in
-    let m = magnitude_positive n d (neg_ℤ q) h turned in
+    let m = magnitude_positive n d (neg_ℤ q) h (rw neg_ℤ-neg_ℤ at (near_opposite (neg_ℤ (pos n)) d q r)) in
     record { magnitude = m.magnitude; is = sym (neg_ℤ-neg_ℤ q) ∙ ap neg_ℤ m.is; rounded = m.rounded }
 
 -- of two fractions the greater one is never rounded to the lesser number
 pub near_monotone : {n m : ℤ} {d e : ℕ} {q r : ℤ} → 0 < d → 0 < e → Near n d q → Near m e r
     → (n *ℤ pos e) ≤ℤ (m *ℤ pos d) → q ≤ℤ r
-near_monotone {n = pos n} {m = pos m} {d = d} {e = e} {q = q} {r = r} h k x y order =
-    let first = near_to false n d q h x in
-    let second = near_to false m e r k y in
-    let less = rounded_monotone h first.rounded second.rounded (omega (arith, ints)) in
-    rw (first.is, second.is) (omega (arith, ints))
+near_monotone {n = pos n} {m = pos m} h k x y order =
+    let first = near_to false n _ _ h x in
+    let second = near_to false m _ _ k y in
+    omega (arith, ints, rounded_monotone h first.rounded second.rounded (omega (arith, ints)))
 near_monotone {n = pos n} {m = negsuc m} {d = d} h k x y order = absurd (omega (arith, ints, suc-mul m d))
-near_monotone {n = negsuc n} {m = pos m} {d = d} {e = e} {q = q} {r = r} h k x y order =
-    let first = near_to true (suc n) d q h x in
-    let second = near_to false m e r k y in
-    rw (first.is, second.is) (omega (arith, ints))
-near_monotone {n = negsuc n} {m = negsuc m} {d = d} {e = e} {q = q} {r = r} h k x y order =
-    let first = near_to true (suc n) d q h x in
-    let second = near_to true (suc m) e r k y in
-    let less = rounded_monotone k second.rounded first.rounded (omega (arith, ints)) in
-    rw (first.is, second.is) (omega (arith, ints))
+near_monotone {n = negsuc n} {m = pos m} h k x y order =
+    let first = near_to true (suc n) _ _ h x in
+    let second = near_to false m _ _ k y in
+    omega (arith, ints)
+near_monotone {n = negsuc n} {m = negsuc m} h k x y order =
+    let first = near_to true (suc n) _ _ h x in
+    let second = near_to true (suc m) _ _ k y in
+    omega (arith, ints, rounded_monotone k second.rounded first.rounded (omega (arith, ints)))
 
 -- each fraction has just one nearest whole number
 pub near_unique : (n : ℤ) (d : ℕ) (q r : ℤ) → 0 < d → Near n d q → Near n d r → q ≡ r

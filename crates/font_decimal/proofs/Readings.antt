@@ -24,9 +24,8 @@ ten_pos k = one-le-pow k 10 (omega arith)
 -- a text rounds to one number
 pub rounds_unique : (text : List ℕ) (f : ℕ) (b c : ℤ) → Rounds text f b → Rounds text f c → b ≡ c
 rounds_unique text f b c x y =
-    let same = decimal_unique text x.numeral y.numeral x.places y.places x.decimal y.decimal in
-    let nearest = rw (sym same.numeral, sym same.places) at y.nearest in
-    near_unique (x.numeral *ℤ pos (2 ^ f)) (10 ^ x.places) b c (ten_pos x.places) x.nearest nearest
+    let same = decimal_unique text _ _ _ _ x.decimal y.decimal in
+    near_unique _ _ b c (ten_pos x.places) x.nearest (rw (← same.numeral, ← same.places) at y.nearest)
 
 -- the nearest number of steps, by the first f + 1 digits of the fraction
 abbrev pub steps_by : ℕ → List ℕ → List ℕ → ℕ
@@ -52,23 +51,19 @@ rounds_by {s = s} {w = w} {e = e} f parts =
 pub not_outside : (f : ℕ) (text : List ℕ) (min max b : ℤ) → Reads text f min max b → IsOutOfRange text f min max → ⊥
 not_outside f text min max b x y =
     let same = rounds_unique text f b y.nearest x.rounds y.rounds in
-    let low = x.low in
-    let high = x.high in
     elim y.outside [ inl below ↦ omega (arith, ints) | inr above ↦ omega (arith, ints) ]
 
 -- a text has one reading
 pub reading_unique : (text : List ℕ) (f : ℕ) (min max : ℤ) (q r : Result ℤ DecimalFault) → IsReading text f min max q
     → IsReading text f min max r → q ≡ r
 reading_unique text f min max (Ok b) (Ok c) x y = ap Ok (rounds_unique text f b c x.rounds y.rounds)
-reading_unique text f min max (Ok b) (Err Syntax) x y = absurd (y x.rounds.numeral x.rounds.places x.rounds.decimal)
+reading_unique text f min max (Ok b) (Err Syntax) x y = absurd (y _ _ x.rounds.decimal)
 reading_unique text f min max (Ok b) (Err OutOfRange) x y = absurd (not_outside f text min max b x y)
-reading_unique text f min max (Err Syntax) (Ok c) x y = absurd (x y.rounds.numeral y.rounds.places y.rounds.decimal)
+reading_unique text f min max (Err Syntax) (Ok c) x y = absurd (x _ _ y.rounds.decimal)
 reading_unique text f min max (Err Syntax) (Err Syntax) x y = refl
-reading_unique text f min max (Err Syntax) (Err OutOfRange) x y = absurd
-    (x y.rounds.numeral y.rounds.places y.rounds.decimal)
+reading_unique text f min max (Err Syntax) (Err OutOfRange) x y = absurd (x _ _ y.rounds.decimal)
 reading_unique text f min max (Err OutOfRange) (Ok c) x y = absurd (not_outside f text min max c y x)
-reading_unique text f min max (Err OutOfRange) (Err Syntax) x y = absurd
-    (y x.rounds.numeral x.rounds.places x.rounds.decimal)
+reading_unique text f min max (Err OutOfRange) (Err Syntax) x y = absurd (y _ _ x.rounds.decimal)
 reading_unique text f min max (Err OutOfRange) (Err OutOfRange) x y = refl
 
 -- and so the answer that is a reading tells which one it is
@@ -77,30 +72,23 @@ pub answers_as : (text : List ℕ) (f : ℕ) (min max : ℤ) (q r : Result ℤ D
 answers_as text f min max q r x =
     (λ e. subst (λ t. IsReading text f min max t) e x, λ y. reading_unique text f min max q r x y)
 
--- a text whose nearest number is judged by the range
-pub judged_by_range : (text : List ℕ) (f : ℕ) (min max b : ℤ) (r : Option ℤ) → Rounds text f b
-    → SomeIff r ((min ≤ℤ b) × (b ≤ℤ max)) b → IsReading text f min max (ok_or r OutOfRange)
-judged_by_range text f min max b None rounds none = record {
-  nearest = b;
-  rounds = rounds;
-  outside = by_lt_z b min inl (λ low. by_lt_z max b inr (λ high. absurd (none (low, high))));
-}
-judged_by_range text f min max b (Some c) rounds some = subst (λ v. Reads text f min max v) (sym some.1)
-    (record { rounds = rounds; low = some.0.0; high = some.0.1 })
+-- two numbers of steps, which are equal or both above 2^63, are equal where one of them is in the range
+same_steps : (s : Bool) (n steps k : ℕ) (min max : ℤ) → FitsSigned w64 min → FitsSigned w64 max
+    → (n ≡ steps) ⊎ ((2 ^ 63 < n) × (2 ^ 63 < steps)) → (k ≡ n) ⊎ (k ≡ steps) → min ≤ℤ signed s k → signed s k ≤ℤ max
+    → n ≡ steps
+same_steps true n steps k min max least most same is low high = omega (arith, ints, same, is)
+same_steps false n steps k min max least most same is low high = omega (arith, ints, same, is)
 
--- a number of steps that is judged by the range: it, or one that is above 2^63 just as it is
-pub judged_steps : (s : Bool) (n steps : ℕ) (min max : ℤ) (r : Option ℤ) → FitsSigned w64 min → FitsSigned w64 max
-    → (n ≡ steps) ⊎ ((2 ^ 63 < n) × (2 ^ 63 < steps))
-    → SomeIff r ((min ≤ℤ signed s n) × (signed s n ≤ℤ max)) (signed s n)
-    → SomeIff r ((min ≤ℤ signed s steps) × (signed s steps ≤ℤ max)) (signed s steps)
-judged_steps s n steps min max r low high same some = elim same [
-  | inl e ↦ subst (λ m. SomeIff r ((min ≤ℤ signed s m) × (signed s m ≤ℤ max)) (signed s m)) e some
-  | inr large ↦ beyond s r large some
-] where
-  beyond : (s : Bool) (r : Option ℤ) → (2 ^ 63 < n) × (2 ^ 63 < steps)
-      → SomeIff r ((min ≤ℤ signed s n) × (signed s n ≤ℤ max)) (signed s n)
-      → SomeIff r ((min ≤ℤ signed s steps) × (signed s steps ≤ℤ max)) (signed s steps)
-  beyond true None large none = λ within. omega (arith, ints, large, within)
-  beyond false None large none = λ within. omega (arith, ints, large, within)
-  beyond true (Some c) large some = absurd (omega (arith, ints, large.0, some.0))
-  beyond false (Some c) large some = absurd (omega (arith, ints, large.0, some.0))
+-- and so the range may judge either of them
+pub judged_by_range : {text : List ℕ} {f : ℕ} (s : Bool) (n steps : ℕ) (min max : ℤ) (r : Option ℤ) → FitsSigned w64 min
+    → FitsSigned w64 max → (n ≡ steps) ⊎ ((2 ^ 63 < n) × (2 ^ 63 < steps)) → Rounds text f (signed s steps)
+    → SomeIff r ((min ≤ℤ signed s n) × (signed s n ≤ℤ max)) (signed s n) → IsReading text f min max (ok_or r OutOfRange)
+judged_by_range s n steps min max None least most same rounds none = record {
+  nearest = signed s steps;
+  rounds = rounds;
+  outside = by_lt_z (signed s steps) min inl (λ low. by_lt_z max (signed s steps) inr (λ high. absurd
+      (none (rw (same_steps s n steps steps min max least most same (inr refl) low high) (low, high)))));
+}
+judged_by_range s n steps min max (Some c) least most same rounds some =
+    let e = same_steps s n steps n min max least most same (inl refl) some.0.0 some.0.1 in
+    rw (some.1, e) (record { rounds = rounds; low = rw e at some.0.0; high = rw e at some.0.1 })

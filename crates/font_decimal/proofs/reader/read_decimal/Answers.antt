@@ -1,10 +1,11 @@
-use Rattle.std.proofs.Common.{ℤ, subst, sym, w64, FitsSigned, to_z-of_z, ◌∙◌}
+use Rattle.std.proofs.Common.{ℤ, sym, w64, FitsSigned, to_z-of_z, ◌∙◌}
 use Rattle.std.specs.Prelude.{Ok, Err, Result}
-use Rattle.font_decimal.specs.Reading.{Rounds, IsReading}
+use Rattle.font_decimal.specs.Reading.{IsReading}
+use Rattle.font_decimal.specs.declared.reader.DecimalFault.{DecimalFault}
 use Rattle.font_decimal.specs.declared.reader.DecimalFault.TheVariants.{Syntax, OutOfRange}
 use Rattle.font_decimal.specs.Near.{signed}
 use Rattle.font_decimal.proofs.Parts.{no_decimal}
-use Rattle.font_decimal.proofs.Readings.{answers_as, judged_by_range, judged_steps}
+use Rattle.font_decimal.proofs.Readings.{answers_as, judged_by_range}
 use Rattle.font_decimal.proofs.reader.read_decimal.Goals as goal
 
 pub returns-in_default : goal.returns-in_default
@@ -13,12 +14,8 @@ returns-in_default c =
     let text = c.args.text.now in
     let reading = no_decimal text sign.result.1.now sign.result.0 (sym c.as_bytes.ensures.value ∙ sign.ensures.minus)
     (rw c.as_bytes.ensures.value at sign.ensures.plain) c.in_default.ensures.none in
-    record {
-      ok = λ b. answers_as text c.args.f c.args.min c.args.max (Err Syntax) (Ok b) reading;
-      reading = reading;
-      out_of_range = answers_as text c.args.f c.args.min c.args.max (Err Syntax) (Err OutOfRange) reading;
-      syntax = answers_as text c.args.f c.args.min c.args.max (Err Syntax) (Err Syntax) reading;
-    }
+    let tells = λ (r : Result ℤ DecimalFault). answers_as text c.args.f c.args.min c.args.max (Err Syntax) r reading in
+    record { ok = λ b. tells (Ok b); reading = reading; out_of_range = tells (Err OutOfRange); syntax = tells (Err Syntax) }
 
 pub returns : goal.returns
 returns c =
@@ -27,17 +24,9 @@ returns c =
     let min_fits : FitsSigned w64 c.args.min = c.ranges.min in
     let max_fits : FitsSigned w64 c.args.max = c.ranges.max in
     let found = c.in-Some.ensures.some in
-    let rounds = subst (λ t. Rounds t c.args.f (signed sign.result.0 found.0))
-    (sym sign.ensures.minus ∙ c.as_bytes.ensures.value) (found.2 sign.result.0) in
-    let ranged = judged_steps sign.result.0 c.in-Some.steps found.0 c.args.min c.args.max c.in_range.result min_fits
-    max_fits found.1 (simp to_z-of_z at c.in_range.ensures) in
-    let by_steps = judged_by_range text c.args.f c.args.min c.args.max
-    (signed sign.result.0 found.0) c.in_range.result rounds ranged in
-    let P : Result ℤ _ → Type 0 = λ r. IsReading text c.args.f c.args.min c.args.max r in
-    let reading = subst P (sym c.ok_or.ensures.value) by_steps in
-    record {
-      ok = λ b. answers_as text c.args.f c.args.min c.args.max c.ok_or.result (Ok b) reading;
-      reading = reading;
-      out_of_range = answers_as text c.args.f c.args.min c.args.max c.ok_or.result (Err OutOfRange) reading;
-      syntax = answers_as text c.args.f c.args.min c.args.max c.ok_or.result (Err Syntax) reading;
-    }
+    let rounds = rw (← sign.ensures.minus, c.as_bytes.ensures.value) at (found.2 sign.result.0) in
+    let reading : IsReading text c.args.f c.args.min c.args.max c.ok_or.result = rw c.ok_or.ensures.value
+    (judged_by_range sign.result.0 c.in-Some.steps found.0 c.args.min c.args.max c.in_range.result min_fits max_fits
+    found.1 rounds (simp to_z-of_z at c.in_range.ensures)) in
+    let tells = λ (r : Result ℤ DecimalFault). answers_as text c.args.f c.args.min c.args.max c.ok_or.result r reading in
+    record { ok = λ b. tells (Ok b); reading = reading; out_of_range = tells (Err OutOfRange); syntax = tells (Err Syntax) }
