@@ -1,12 +1,12 @@
 -- What callers rely on of printed texts.
 use Rattle.std.proofs.Common.{◌≡◌, ◌≢◌, ℕ, zero, suc, ◌+◌, ◌*◌, ◌/◌, ◌%◌, ◌^◌, ◌<◌, ◌≤◌, Bool, true, false, List, []}
-use Rattle.std.proofs.Common.{◌∷◌, ◌++◌, length, get_or, ℤ, refl, sym, ap, ◌∙◌, arith, append_assoc}
+use Rattle.std.proofs.Common.{◌∷◌, ◌++◌, length, get_or, ℤ, refl, arith, append_assoc}
 use Rattle.std.proofs.Common.{length-append}
 use Rattle.std.specs.Prelude.{◌≤ℤ◌, unsigned_abs, Result, Ok}
 use Rattle.std.specs.Int.{is_negative}
-use Rattle.std.specs.Fmt.{decimal, sign_text}
+use Rattle.std.specs.Fmt.{sign_text}
 use Rattle.std.specs.Str.Parse.{AllDigits}
-use Rattle.std.proofs.Math.Nat.{pow-suc, mul_comm, div-div-eq-div-mul, div-one, le_trans}
+use Rattle.std.proofs.Math.Nat.{pow-suc, div-div-eq-div-mul, div-one, le_trans}
 use Rattle.std.proofs.lemmas.Int.{ints}
 use Rattle.std.proofs.lemmas.List.{append-nil, same_from_push}
 use Rattle.std.proofs.lemmas.Fmt.{decimal_is_IsNumeral}
@@ -14,7 +14,7 @@ use Rattle.std.proofs.lemmas.Str.Parse.{digit_from_value}
 use Rattle.font_decimal.specs.Grammar.{HasParts, IsDecimal, fraction_text}
 use Rattle.font_decimal.specs.Reading.{Rounds, IsReading}
 use Rattle.font_decimal.specs.Padding.{unsigned_body}
-use Rattle.font_decimal.specs.Shortest.{IsShortest, nearest_numeral, fewest_places, last_digits}
+use Rattle.font_decimal.specs.Shortest.{IsShortest, nearest_numeral, fewest_places, last_digits, decimal_text}
 use Rattle.font_decimal.specs.Shortest.{shortest_text}
 use Rattle.font_decimal.specs.declared.reader.DecimalFault.{DecimalFault}
 use Rattle.font_decimal.proofs.Texts.{same_parts, decimal_unique, decimal_of}
@@ -61,45 +61,31 @@ printed_is_not_minus_zero b f small e =
 last_is : (p n : ℕ) → last_digits (suc p) n ≡ last_digits p (n / 10) ++ ((48 + n % 10) ∷ [])
 last_is zero n = rw div-one
 last_is (suc p) n =
-    let front : n / 10 ^ suc p ≡ n / 10 / 10 ^ p = ap (λ d. n / d) (pow-suc 10 p ∙ mul_comm (10 ^ p) 10) ∙ sym
-    (div-div-eq-div-mul n 10 (10 ^ p)) in
-    rw front (ap (λ ds. (48 + n / 10 / 10 ^ p % 10) ∷ ds) (last_is p n))
+    let power : 10 ^ suc p ≡ 10 * 10 ^ p = omega (arith, pow-suc 10 p) in
+    rw (power, ← div-div-eq-div-mul n 10 (10 ^ p), last_is p n)
 
 no_point_at : (ds : List ℕ) (i : ℕ) → AllDigits 10 ds → get_or ds i 0 ≢ 46
 no_point_at [] i h e = omega arith
-no_point_at (c ∷ cs) zero h e = let digit = digit_from_value c h.0 in omega arith
+no_point_at (c ∷ cs) zero h e = omega (arith, digit_from_value c h.0)
 no_point_at (c ∷ cs) (suc i) h e = no_point_at cs i h.1 e
 
 no_point_signed : (s : Bool) (ds : List ℕ) (i : ℕ) → AllDigits 10 ds → get_or (sign_text s ++ (ds ++ [])) i 0 ≢ 46
-no_point_signed s ds i h = rw append-nil (by_sign s i) where
-  by_sign : (t : Bool) (j : ℕ) → get_or (sign_text t ++ ds) j 0 ≢ 46
-  by_sign true zero e = omega arith
-  by_sign true (suc j) e = no_point_at ds j h e
-  by_sign false j e = no_point_at ds j h e
+no_point_signed true ds zero h e = omega arith
+no_point_signed true ds (suc i) h e = no_point_at ds i h (rw append-nil at e)
+no_point_signed false ds i h e = no_point_at ds i h (rw append-nil at e)
 
 last_byte : (s : Bool) (whole : List ℕ) (p n : ℕ) (front : List ℕ)
     → sign_text s ++ (whole ++ fraction_text (last_digits (suc p) n)) ≡ front ++ (48 ∷ []) → n % 10 ≡ 0
 last_byte s whole p n front e =
-    let before : List ℕ = 46 ∷ last_digits p (n / 10) in
-    let last : List ℕ = (48 + n % 10) ∷ [] in
-    let fraction : fraction_text (last_digits (suc p) n) ≡ before ++ last = ap (λ ds. 46 ∷ ds) (last_is p n) in
-    let regroup : sign_text s ++ (whole ++ (before ++ last)) ≡ (sign_text s ++ (whole ++ before)) ++ last =
-    sym (append_assoc (sign_text s) (whole ++ before) last
-    ∙ ap (λ xs. sign_text s ++ xs) (append_assoc whole before last)) in
-    let ends = same_from_push (sign_text s ++ (whole ++ before)) front (48 + n % 10) 48
-    (sym regroup ∙ sym (ap (λ xs. sign_text s ++ (whole ++ xs)) fraction) ∙ e) in
-    let same = ends.1 in
-    omega arith
+    let ends = same_from_push (sign_text s ++ (whole ++ (46 ∷ last_digits p (n / 10)))) front (48 + n % 10) 48
+    (simp append_assoc (rw (← last_is p n) e)) in
+    omega (arith, ends.1)
 
 ends_or_whole : (s : Bool) (m f p i : ℕ) (front : List ℕ) → IsFewest m f p → nearest_numeral m f p / 10 ^ p < 2 ^ 64
-    → sign_text s ++ (decimal (nearest_numeral m f p / 10 ^ p) ++ fraction_text (last_digits p (nearest_numeral m f p)))
-    ≡ front ++ (48 ∷ [])
-    → get_or (sign_text s
-    ++ (decimal (nearest_numeral m f p / 10 ^ p) ++ fraction_text (last_digits p (nearest_numeral m f p)))) i 0 ≢ 46
+    → sign_text s ++ decimal_text (nearest_numeral m f p) p ≡ front ++ (48 ∷ [])
+    → get_or (sign_text s ++ decimal_text (nearest_numeral m f p) p) i 0 ≢ 46
 ends_or_whole s m f zero i front fewest small e = no_point_signed s _ i (decimal_is_IsNumeral _ small).0.1
-ends_or_whole s m f (suc p) i front fewest small e = absurd (zero_drops fewest last_zero) where
-  last_zero : nearest_numeral m f (suc p) % 10 ≡ 0
-  last_zero = last_byte s (decimal (nearest_numeral m f (suc p) / 10 ^ suc p)) p (nearest_numeral m f (suc p)) front e
+ends_or_whole s m f (suc p) i front fewest small e = absurd (zero_drops fewest (last_byte s _ p _ front e))
 
 pub zero_ends_no_fraction : (b : ℤ) (f i : ℕ) (front : List ℕ) → unsigned_abs b ≤ 2 ^ 63
     → shortest_text b f ≡ front ++ (48 ∷ []) → get_or (shortest_text b f) i 0 ≢ 46

@@ -1,4 +1,4 @@
-use Rattle.std.proofs.Common.{◌≡◌, ◌+◌, ◌++◌, length, arith, refl, sym, ◌∙◌, append_assoc}
+use Rattle.std.proofs.Common.{◌≡◌, length, arith, refl, sym, ◌∙◌, append_assoc}
 use Rattle.std.specs.Prelude.{replicate}
 use Rattle.std.proofs.lemmas.List.{length-replicate}
 use Rattle.font_decimal.specs.Padding.{padded_text}
@@ -24,9 +24,12 @@ returns-clause-written c =
     let fourth = put_behind c.as_bytes-2.result.now third refl c.put-at-2.ensures.end c.put-at-2.ensures.written in
     let fifth = put_behind (replicate spread.2 fill) fourth (length-replicate spread.2 fill)
     c.put_fill.ensures.end c.put_fill.ensures.written in
-    rw (pieces c.args.text.now c.args.pad.now c.shown_parts.ensures.sign c.shown_parts.ensures.body c.max-shown_len.ensures,
-    c.spread-front.ensures.places c.shown_parts.result.0.now c.shown_parts.result.1.now,
-    ← c.as_bytes.ensures.value, ← c.as_bytes-2.ensures.value) (simp append_assoc at fifth)
+    rw (
+      pieces c.args.text.now c.args.pad.now c.shown_parts.ensures.sign c.shown_parts.ensures.body c.max-shown_len.ensures,
+      c.spread-front.ensures.places c.shown_parts.result.0.now c.shown_parts.result.1.now,
+      ← c.as_bytes.ensures.value,
+      ← c.as_bytes-2.ensures.value,
+    ) (simp append_assoc at fifth)
 
 pub returns-clause-fills : goal.returns-clause-fills
 returns-clause-fills c narrow = fills_all _ _ (returns-clause-written c) narrow

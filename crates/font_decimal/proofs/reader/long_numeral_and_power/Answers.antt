@@ -1,4 +1,4 @@
-use Rattle.std.proofs.Common.{◌/◌, length, arith}
+use Rattle.std.proofs.Common.{arith}
 use Rattle.font_decimal.proofs.Digits.{digits_parts, numeral_of_parts}
 use Rattle.font_decimal.proofs.reader.long_numeral_and_power.Goals as goal
 

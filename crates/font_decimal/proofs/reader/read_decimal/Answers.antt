@@ -3,7 +3,6 @@ use Rattle.std.specs.Prelude.{Ok, Err, Result}
 use Rattle.font_decimal.specs.Reading.{IsReading}
 use Rattle.font_decimal.specs.declared.reader.DecimalFault.{DecimalFault}
 use Rattle.font_decimal.specs.declared.reader.DecimalFault.TheVariants.{Syntax, OutOfRange}
-use Rattle.font_decimal.specs.Near.{signed}
 use Rattle.font_decimal.proofs.Parts.{no_decimal}
 use Rattle.font_decimal.proofs.Readings.{answers_as, judged_by_range}
 use Rattle.font_decimal.proofs.reader.read_decimal.Goals as goal

@@ -1,7 +1,7 @@
-use Rattle.std.proofs.Common.{◌≡◌, ℕ, ◌+◌, ◌*◌, ◌/◌, ◌%◌, ◌^◌, ◌≤◌, false, arith, sym, ◌∙◌, add-one, below_more}
+use Rattle.std.proofs.Common.{◌≡◌, ℕ, ◌+◌, ◌*◌, ◌%◌, ◌^◌, ◌≤◌, false, arith, sym, ◌∙◌, add-one, below_more}
 use Rattle.std.proofs.Math.Nat.{pow-suc}
 use Rattle.std.proofs.lemmas.Nat.{one_shl}
-use Rattle.font_decimal.specs.Shortest.{nearest_numeral, reads_back}
+use Rattle.font_decimal.specs.Shortest.{reads_back}
 use Rattle.font_decimal.proofs.Fewest.{IsFewest, place_left, places_are}
 use Rattle.font_decimal.proofs.Remainder.{stopped, fails_here, rounded_up, rounded_down, next_numeral}
 use Rattle.font_decimal.proofs.Remainder.{next_below, fraction_below, no_carry}
@@ -43,20 +43,17 @@ fewest c =
     let l = c.loop-margin.invariant in
     stopped l.rest (omega (arith, c.min.ensures, unit_is c.args.f c.requires)) l.within l.fail
 
-raised : (c : goal.After-raise_last_digit-fraction) → nearest_numeral c.args.magnitude c.args.f c.loop-margin.places
-    ≡ c.args.magnitude / (1 * 2 ^ c.args.f % 18446744073709551616) * 10 ^ c.loop-margin.places + c.loop-margin.fraction
-    + 1
-raised c = rounded_up c.loop-margin.invariant.rest (omega (arith, unit_is c.args.f c.requires))
-
 pub returns-then-rest-unit-clause-places : goal.returns-then-rest-unit-clause-places
 returns-then-rest-unit-clause-places c = places_are (fewest c)
 
 pub returns-then-rest-unit-clause-numeral : goal.returns-then-rest-unit-clause-numeral
-returns-then-rest-unit-clause-numeral c = rw c.raise_last_digit-fraction.ensures (omega (arith, raised c))
+returns-then-rest-unit-clause-numeral c = rw c.raise_last_digit-fraction.ensures
+    (omega (arith, rounded_up c.loop-margin.invariant.rest (omega (arith, unit_is c.args.f c.requires))))
 
 pub returns-then-rest-unit-clause-below : goal.returns-then-rest-unit-clause-below
 returns-then-rest-unit-clause-below c =
-    let split = raised c ∙ rw (one_shl c.args.f 64 (omega arith)) (omega arith) in
+    let split = rounded_up c.loop-margin.invariant.rest (omega (arith, unit_is c.args.f c.requires))
+    ∙ rw (one_shl c.args.f 64 (omega arith)) (omega arith) in
     rw c.raise_last_digit-fraction.ensures (fraction_below (c.loop-margin.fraction + 1) (fewest c) split)
 
 -- where it is not

@@ -1,48 +1,32 @@
-use Rattle.std.proofs.Common.{◌≡◌, ℕ, ◌<◌, ◌≤◌, ◌+◌, ◌^◌, ◌/◌, ◌%◌, List, [], ◌++◌, ◌∷◌, length, arith, length-append}
-use Rattle.std.proofs.Common.{append_assoc, sym, ap, ◌∙◌}
+use Rattle.std.proofs.Common.{◌≡◌, ℕ, ◌<◌, ◌≤◌, ◌+◌, ◌^◌, ◌/◌, ◌%◌, List, ◌++◌, ◌∷◌, length, arith, length-append}
+use Rattle.std.proofs.Common.{append_assoc, ap, ◌∙◌}
 use Rattle.std.specs.Fmt.{decimal}
 use Rattle.std.proofs.lemmas.Fmt.{decimal_step, decimal_digit, decimal_nonempty}
-use Rattle.font_decimal.specs.Shown.{shown}
 use Rattle.font_decimal.proofs.shortest.Shortest.push_whole.Goals as goal
 
 digits_fit_buffer : (left whole : ℕ) (text old : List ℕ) → left < 2 ^ 64 → decimal left ++ text ≡ decimal whole ++ old
     → length (decimal whole) + length old ≤ 22 → length text < 22
 digits_fit_buffer left whole text old small e fits =
-    let long : length (decimal left) + length text ≡ length (decimal whole) + length old =
-    sym (length-append (decimal left) text) ∙ ap length e ∙ length-append (decimal whole) old in
-    let some = decimal_nonempty left small in
-    omega arith
+    omega (arith, ap length e, length-append {A = ℕ}, decimal_nonempty left small)
 
 digit_pushed : (left : ℕ) (text next all : List ℕ) → 10 ≤ left → left < 2 ^ 64 → next ≡ (48 + left % 10) ∷ text
     → decimal left ++ text ≡ all → decimal (left / 10) ++ next ≡ all
-digit_pushed left text next all low high e whole =
-    let front = decimal (left / 10) in
-    let last : List ℕ = (48 + left % 10) ∷ [] in
-    ap (λ xs. front ++ xs) e ∙ sym (append_assoc front last text) ∙ ap (λ xs. xs ++ text)
-    (sym (decimal_step left low high)) ∙ whole
+digit_pushed left text next all low high e whole = rw (decimal_step left low high, append_assoc, ← e) at whole
 
 pub push-requires : goal.push-requires
 push-requires c =
-    let l = c.loop-left in (
-      omega arith,
-      digits_fit_buffer l.left c.args.whole (shown l.self) (shown c.args.self.now) l.auto.left-fits.fits
-          l.invariant c.requires,
-    )
+    let l = c.loop-left in
+    (omega arith, digits_fit_buffer _ _ _ _ l.auto.left-fits.fits l.invariant c.requires)
 
 pub loop-left-preserved : goal.loop-left-preserved
 loop-left-preserved c =
     let l = c.loop-left in
-    digit_pushed l.left (shown l.self) (shown c.push.new.self)
-    (decimal c.args.whole ++ shown c.args.self.now) c.loop-left-test.true l.auto.left-fits.fits c.push.ensures
-    l.invariant
+    digit_pushed _ _ _ _ c.loop-left-test.true l.auto.left-fits.fits c.push.ensures l.invariant
 
 pub push-requires-2 : goal.push-requires-2
 push-requires-2 c =
-    let l = c.loop-left in (
-      omega arith,
-      digits_fit_buffer l.left c.args.whole (shown l.self) (shown c.args.self.now) l.auto.left-fits.fits
-          l.invariant c.requires,
-    )
+    let l = c.loop-left in
+    (omega arith, digits_fit_buffer _ _ _ _ l.auto.left-fits.fits l.invariant c.requires)
 
 pub returns : goal.returns
 returns c =
