@@ -102,10 +102,10 @@ chunk_is_bytes n slice (Err e) found chunk is each = rw is tt
 
 -- ---- what std's calls read and write, in the form that the goals of `from_raw` and `to_raw` have
 
-signed_read : (w : Width) (bytes : List ℕ) (n : ℕ) (z : ℤ) → n < 2 ^ bits w → from_be_bytes w bytes ≡ numeral bytes
+pub signed_read : (w : Width) (bytes : List ℕ) (n : ℕ) (z : ℤ) → length bytes ≡ byte_len w → n < 2 ^ bits w
     → n ≡ from_be_bytes w bytes → z ≡ to_z w n → to_z w (of_z w z) ≡ signed_numeral (byte_len w) bytes
-signed_read w bytes n z below same is cast =
-    let number : n ≡ numeral bytes = is ∙ same in
+signed_read w bytes n z many below is cast =
+    let number : n ≡ numeral bytes = is ∙ from_be_bytes-numeral w bytes many in
     let fits : SFits w z = rw cast (sfits_to_z (Fits-of_lt below)) in
     to_z-of_z w z fits ∙ cast ∙ ap (to_z w) number ∙ to_z-signed_numeral w bytes (rw (← number) below)
 
@@ -113,6 +113,10 @@ signed_written : (w : Width) (z : ℤ) (bytes : List ℕ) → SFits w z → byte
     → bytes ≡ bytes_of (byte_len w) z
 signed_written w z bytes fits is = is ∙ ap (λ y. to_be_bytes w (of_z w y)) (to_z-of_z w z fits)
     ∙ to_be_bytes-signed w z fits
+
+pub unsigned_read : (w : Width) (bytes : List ℕ) (n : ℕ) → length bytes ≡ byte_len w → n ≡ from_be_bytes w bytes
+    → n ≡ numeral bytes
+unsigned_read w bytes n many is = is ∙ from_be_bytes-numeral w bytes many
 
 -- std writes one byte as it is
 pub u8_written : (n : ℕ) (bytes : List ℕ) → n < 256 → bytes ≡ n ∷ [] → bytes ≡ bytes_of 1 (pos n)
@@ -125,41 +129,19 @@ i8_written z bytes fits is =
     is ∙ ap (λ y. of_z w8 y ∷ []) (to_z-of_z w8 z fits) ∙ ap (λ b. b ∷ []) (sym (mod-eq_of_lt below))
     ∙ to_be_bytes-signed w8 z fits
 
-pub i8_read : (bytes : List ℕ) (n : ℕ) (z : ℤ) → length bytes ≡ 1 → n < 2 ^ 8 → n ≡ from_be_bytes w8 bytes
-    → z ≡ to_z w8 n → to_z w8 (of_z w8 z) ≡ signed_numeral 1 bytes
-i8_read bytes n z many below is cast = signed_read w8 bytes n z below (from_be_bytes-numeral w8 bytes many) is cast
-
-pub u16_read : (bytes : List ℕ) (n : ℕ) → length bytes ≡ 2 → n ≡ from_be_bytes w16 bytes → n ≡ numeral bytes
-u16_read bytes n many is = is ∙ from_be_bytes-numeral w16 bytes many
-
 pub u16_written : (n : ℕ) (bytes : List ℕ) → n < 2 ^ 16 → bytes ≡ to_be_bytes w16 n → bytes ≡ bytes_of 2 (pos n)
 u16_written n bytes below is = is ∙ to_be_bytes-bytes_of w16 n below
-
-pub i16_read : (bytes : List ℕ) (n : ℕ) (z : ℤ) → length bytes ≡ 2 → n < 2 ^ 16 → n ≡ from_be_bytes w16 bytes
-    → z ≡ to_z w16 n → to_z w16 (of_z w16 z) ≡ signed_numeral 2 bytes
-i16_read bytes n z many below is cast = signed_read w16 bytes n z below (from_be_bytes-numeral w16 bytes many) is cast
 
 pub i16_written : (z : ℤ) (bytes : List ℕ) → SFits w16 z → bytes ≡ to_be_bytes w16 (of_z w16 (to_z w16 (of_z w16 z)))
     → bytes ≡ bytes_of 2 z
 i16_written z bytes fits is = signed_written w16 z bytes fits is
 
-pub u32_read : (bytes : List ℕ) (n : ℕ) → length bytes ≡ 4 → n ≡ from_be_bytes w32 bytes → n ≡ numeral bytes
-u32_read bytes n many is = is ∙ from_be_bytes-numeral w32 bytes many
-
 pub u32_written : (n : ℕ) (bytes : List ℕ) → n < 2 ^ 32 → bytes ≡ to_be_bytes w32 n → bytes ≡ bytes_of 4 (pos n)
 u32_written n bytes below is = is ∙ to_be_bytes-bytes_of w32 n below
-
-pub i32_read : (bytes : List ℕ) (n : ℕ) (z : ℤ) → length bytes ≡ 4 → n < 2 ^ 32 → n ≡ from_be_bytes w32 bytes
-    → z ≡ to_z w32 n → to_z w32 (of_z w32 z) ≡ signed_numeral 4 bytes
-i32_read bytes n z many below is cast = signed_read w32 bytes n z below (from_be_bytes-numeral w32 bytes many) is cast
 
 pub i32_written : (z : ℤ) (bytes : List ℕ) → SFits w32 z → bytes ≡ to_be_bytes w32 (of_z w32 (to_z w32 (of_z w32 z)))
     → bytes ≡ bytes_of 4 z
 i32_written z bytes fits is = signed_written w32 z bytes fits is
-
-pub i64_read : (bytes : List ℕ) (n : ℕ) (z : ℤ) → length bytes ≡ 8 → n < 2 ^ 64 → n ≡ from_be_bytes w64 bytes
-    → z ≡ to_z w64 n → to_z w64 (of_z w64 z) ≡ signed_numeral 8 bytes
-i64_read bytes n z many below is cast = signed_read w64 bytes n z below (from_be_bytes-numeral w64 bytes many) is cast
 
 pub i64_written : (z : ℤ) (bytes : List ℕ) → SFits w64 z → bytes ≡ to_be_bytes w64 (of_z w64 (to_z w64 (of_z w64 z)))
     → bytes ≡ bytes_of 8 z
@@ -168,15 +150,11 @@ i64_written z bytes fits is = signed_written w64 z bytes fits is
 pub ruleset std_bytes = (
   u8_written,
   i8_written,
-  i8_read,
-  u16_read,
+  signed_read,
+  unsigned_read,
   u16_written,
-  i16_read,
   i16_written,
-  u32_read,
   u32_written,
-  i32_read,
   i32_written,
-  i64_read,
   i64_written,
 )
