@@ -14,50 +14,34 @@ use Rattle.font_base.specs.Bytes.{numeral, are_bytes, bytes_of, signed_numeral}
 use Rattle.font_base.specs.Bytes.Laws.{are_bytes_in, bytes_of-same}
 use Rattle.font_base.proofs.Widths.{to_z-wrap}
 
-byte_len-bits : (w : Width) → 256 ^ byte_len w ≡ 2 ^ bits w
-byte_len-bits w8 = refl
-byte_len-bits w16 = refl
-byte_len-bits w32 = refl
-byte_len-bits w64 = refl
-byte_len-bits w128 = refl
-
-bits-byte_len : (w : Width) → bits w ≡ 8 * byte_len w
-bits-byte_len w8 = refl
-bits-byte_len w16 = refl
-bits-byte_len w32 = refl
-bits-byte_len w64 = refl
-bits-byte_len w128 = refl
-
-half_range_below : (w : Width) → 2 ^ hbits w ≤ 2 ^ bits w
-half_range_below w8 = lit≤ tt
-half_range_below w16 = lit≤ tt
-half_range_below w32 = lit≤ tt
-half_range_below w64 = lit≤ tt
-half_range_below w128 = lit≤ tt
+-- the bits of a width, its bytes and its half range
+width_facts : (w : Width)
+    → (256 ^ byte_len w ≡ 2 ^ bits w) × (bits w ≡ 8 * byte_len w) × (2 ^ hbits w ≤ 2 ^ bits w)
+width_facts w8 = (refl, refl, lit≤ tt)
+width_facts w16 = (refl, refl, lit≤ tt)
+width_facts w32 = (refl, refl, lit≤ tt)
+width_facts w64 = (refl, refl, lit≤ tt)
+width_facts w128 = (refl, refl, lit≤ tt)
 
 pub to_be_bytes-bytes_of : (w : Width) (n : ℕ) → n < 2 ^ bits w → to_be_bytes w n ≡ bytes_of (byte_len w) (pos n)
 unfolding bytes_of
 to_be_bytes-bytes_of w n below =
-    let small : n < 256 ^ byte_len w = rw (byte_len-bits w) below in
+    let small : n < 256 ^ byte_len w = rw (width_facts w).0 below in
     ap (λ m. bytes_high_first (byte_len w) m) (sym (mod-eq_of_lt small))
 
--- a negative number and its two's complement
-pub complement : (z : ℤ) (whole n : ℕ) → z ≡ negsuc n → n < whole → pos (whole - suc n) ≡ (z +ℤ (pos 1 *ℤ pos whole))
-complement z whole n is below = omega (arith, ints, is)
+-- a number and its two's complement are some turns of the width apart
+abbrev pub turns_of : ℤ → ℤ
+turns_of (pos n) = pos 0
+turns_of (negsuc n) = pos 1
+
+pub of_z-turned : (w : Width) (z : ℤ) → SFits w z → pos (of_z w z) ≡ (z +ℤ (turns_of z *ℤ pos (2 ^ bits w)))
+of_z-turned w (pos n) fits = omega (arith, ints)
+of_z-turned w (negsuc n) fits = omega (arith, ints, fits, (width_facts w).2)
 
 pub to_be_bytes-signed : (w : Width) (z : ℤ) → SFits w z → to_be_bytes w (of_z w z) ≡ bytes_of (byte_len w) z
 to_be_bytes-signed w z fits =
     to_be_bytes-bytes_of w (of_z w z) (Fits-of_z fits).fits ∙ bytes_of-same (byte_len w) (pos (of_z w z)) z
-    (wrapped_turns z) (turned w z fits)
-  where
-    wrapped_turns : ℤ → ℤ
-    wrapped_turns (pos n) = pos 0
-    wrapped_turns (negsuc n) = pos 1
-
-    turned : (w : Width) (z : ℤ) → SFits w z → pos (of_z w z) ≡ (z +ℤ (wrapped_turns z *ℤ pos (256 ^ byte_len w)))
-    turned w (pos n) fits = omega (arith, ints)
-    turned w (negsuc n) fits = rw (byte_len-bits w)
-        (complement (negsuc n) (2 ^ bits w) n refl (omega (arith, ints, fits, half_range_below w)))
+    (turns_of z) (rw (width_facts w).0 (of_z-turned w z fits))
 
 -- the first n elements of a list, one by one
 items : ℕ → List ℕ → List ℕ
@@ -90,7 +74,7 @@ pub to_z-signed_numeral : (w : Width) (bytes : List ℕ) → numeral bytes < 2 ^
     → to_z w (numeral bytes) ≡ signed_numeral (byte_len w) bytes
 unfolding signed_numeral
 to_z-signed_numeral w bytes below =
-    to_z-wrap w (numeral bytes) below ∙ ap (λ k. wrap k (pos (numeral bytes))) (bits-byte_len w)
+    to_z-wrap w (numeral bytes) below ∙ ap (λ k. wrap k (pos (numeral bytes))) (width_facts w).1
 
 -- what a slice of the right length is converted to
 pub chunk_is_bytes : {E : Type 0} (n : ℕ) (slice : List ℕ) (array : Result (List ℕ) E) (found : Option (List ℕ))

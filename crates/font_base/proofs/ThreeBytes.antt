@@ -5,7 +5,7 @@ use Rattle.std.proofs.lemmas.Int.{ints, to_z-of_z}
 use Rattle.std.specs.Int.{w32, to_be_bytes}
 use mir.Val.{SFits, to_z, of_z}
 use Rattle.font_base.specs.Bytes.{numeral, are_bytes, IsBytesOf}
-use Rattle.font_base.proofs.StdBytes.{complement}
+use Rattle.font_base.proofs.StdBytes.{turns_of, of_z-turned}
 use Rattle.font_base.specs.Bytes.Laws.{are_bytes-length, IsBytesOf-numeral, IsBytesOf-high_first, IsBytesOf-apart}
 
 -- the last three of the four bytes of a number
@@ -18,17 +18,9 @@ pub last_three_signed : (z : ℤ) (bytes : List ℕ) → SFits w32 z
     → bytes ≡ to_be_bytes w32 (of_z w32 (to_z w32 (of_z w32 z)))
     → IsBytesOf 3 z (get_or bytes 1 0 ∷ get_or bytes 2 0 ∷ get_or bytes 3 0 ∷ [])
 last_three_signed z bytes fits is =
-    let bits : pos (of_z w32 z) ≡ (z +ℤ (turns_of z *ℤ pos (2 ^ 32))) = turned z fits in
-    IsBytesOf-apart 3 z (pos (of_z w32 z)) (neg_ℤ (turns_of z *ℤ pos 256)) _ (omega (arith, ints, bits))
+    IsBytesOf-apart 3 z (pos (of_z w32 z)) (neg_ℤ (turns_of z *ℤ pos 256)) _
+    (omega (arith, ints, of_z-turned w32 z fits))
     (last_three (of_z w32 z) bytes (is ∙ ap (λ y. to_be_bytes w32 (of_z w32 y)) (to_z-of_z w32 z fits)))
-  where
-    turns_of : ℤ → ℤ
-    turns_of (pos n) = pos 0
-    turns_of (negsuc n) = pos 1
-
-    turned : (z : ℤ) → SFits w32 z → pos (of_z w32 z) ≡ (z +ℤ (turns_of z *ℤ pos (2 ^ 32)))
-    turned (pos n) fits = omega (arith, ints)
-    turned (negsuc n) fits = complement (negsuc n) (2 ^ 32) n refl (omega (arith, ints, fits))
 
 -- a list of three is its elements
 three : (bytes : List ℕ) → length bytes ≡ 3 → bytes ≡ get_or bytes 0 0 ∷ get_or bytes 1 0 ∷ get_or bytes 2 0 ∷ []
