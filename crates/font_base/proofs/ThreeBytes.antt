@@ -1,5 +1,5 @@
 -- The integers of 24 bits and the four bytes of std's integers of 32 bits.
-use Rattle.std.proofs.Common.{◌≡◌, ◌∙◌, sym, ap, refl, subst, ℕ, ◌+◌, ◌*◌, ◌^◌, ℤ, pos, negsuc, ◌+ℤ◌, ◌*ℤ◌, neg_ℤ, List}
+use Rattle.std.proofs.Common.{◌≡◌, ◌∙◌, sym, ap, refl, subst, ℕ, ◌+◌, ◌*◌, ℤ, pos, ◌*ℤ◌, neg_ℤ, List}
 use Rattle.std.proofs.Common.{[], ◌∷◌, length, get_or, arith, IsTrue}
 use Rattle.std.proofs.lemmas.Int.{ints, to_z-of_z}
 use Rattle.std.specs.Int.{w32, to_be_bytes}

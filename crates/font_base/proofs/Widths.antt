@@ -25,9 +25,7 @@ bits_positive w128 = lit< tt
 
 -- a value of a signed type fits its bits, and the other way
 pub signed_fits : (w : Width) (z : ℤ) → SFits w z → FitsBits (bits w) z
-signed_fits w z fits =
-    let half = half_range-bits w in
-    record { low = omega (arith, ints, fits, half); high = omega (arith, ints, fits, half) }
+signed_fits w z fits = omega (arith, ints, fits, half_range-bits w)
 
 -- a cast to the signed type keeps the bits
 pub to_z-wrap : (w : Width) (n : ℕ) → n < 2 ^ bits w → to_z w n ≡ wrap (bits w) (pos n)
@@ -36,7 +34,7 @@ to_z-wrap w n below =
     let whole = two_halves (bits w) (bits_positive w) in
     wrap_gives (bits w) (pos n) (to_z w n) (bits_positive w) (elim (cases_lt n (2 ^ hbits w)) [
       | inl low ↦ rw (to_z_pos w n low) (record {
-        fits = record { low = omega (arith, ints); high = omega (arith, ints, half, low) };
+        fits = omega (arith, ints);
         turns = pos 0;
         differs = omega (arith, ints);
       })
@@ -46,9 +44,9 @@ to_z-wrap w n below =
           let split : n ≡ 2 ^ bits w - suc k = omega arith in
           let is : to_z w n ≡ negsuc k = ap (to_z w) split ∙ to_z-neg w k small in
           rw is (record {
-            fits = record { low = omega (arith, ints, half, small); high = omega (arith, ints) };
+            fits = omega (arith, ints);
             turns = pos 1;
-            differs = omega (arith, ints, split, below);
+            differs = omega (arith, ints);
           })
     ])
 

@@ -17,7 +17,7 @@ returns-clause-number c =
     let unsigned = c.from_be_bytes.result.in_range in
     let is = c.to_u32-unsigned.ensures in
     let fits : FitsBits 24 _ = elim c.if-unsigned.branch [
-      | then-unsigned w ↦ record { low = omega (arith, ints, unsigned, is); high = omega (arith, ints, unsigned, is) }
-      | else-unsigned w ↦ record { low = omega (arith, ints, unsigned, is); high = omega (arith, ints, unsigned, is) }
+      | then-unsigned w ↦ omega (arith, ints, unsigned, is)
+      | else-unsigned w ↦ omega (arith, ints, unsigned, is)
     ] in
     int24_numeral _ c.args.bytes fits (returns-clause-bytes c)
