@@ -40,34 +40,12 @@ no_tie m f j n h tie =
 pub rounded_at : (m f p : ℕ) → IsNearMagnitude (m * 10 ^ p) (2 ^ f) (nearest_numeral m f p)
 rounded_at m f p = rounded_is (m * 10 ^ p) (2 ^ f) (pow_pos f)
 
--- what it says of the nearest decimal that it reads back, or does not
-pub within_half : (m f p : ℕ) → reads_back m f p ≡ true → 2 * abs_diff (nearest_numeral m f p * 2 ^ f)
-    (m * 10 ^ p) < 10 ^ p
-unfolding reads_back
-within_half m f p e = ltb-true _ _ e
-
--- a decimal within half a step reads back
-pub reads_within : (m f p : ℕ) → 2 * abs_diff (nearest_numeral m f p * 2 ^ f) (m * 10 ^ p) < 10 ^ p
-    → reads_back m f p ≡ true
-unfolding reads_back
-reads_within m f p h = lt-ltb _ _ h
-
--- and one that is half a step away or more does not
-pub fails_past : (m f p : ℕ) → 10 ^ p ≤ 2 * abs_diff (nearest_numeral m f p * 2 ^ f) (m * 10 ^ p)
-    → reads_back m f p ≡ false
-unfolding reads_back
-fails_past m f p h = le-ltb _ _ h
-
--- where it does not, a step is at least as wide as a unit of the last place
-pub fails_wide : (m f p : ℕ) → reads_back m f p ≡ false → 10 ^ p ≤ 2 ^ f
-unfolding reads_back
-fails_wide m f p e = omega (arith, ltb-false _ _ e, rounded_at m f p)
-
 -- where any decimal of so many places is within half a step, the nearest one reads back
 pub nearest_reads_back : (m f p n : ℕ) → p ≤ f → 2 * abs_diff (n * 2 ^ f) (m * 10 ^ p) ≤ 10 ^ p
     → reads_back m f p ≡ true
-nearest_reads_back m f p n h close = reads_within m f p
-    (omega (arith, nearest_distance n (rounded_at m f p), no_tie m f p (nearest_numeral m f p) h))
+unfolding reads_back
+nearest_reads_back m f p n h close =
+    lt-ltb _ _ (omega (arith, nearest_distance n (rounded_at m f p), no_tie m f p (nearest_numeral m f p) h))
 
 -- with f places a value has a decimal of its own
 pub exact_reads_back : (m f : ℕ) → reads_back m f f ≡ true
@@ -80,6 +58,11 @@ pub record IsFewest (m f p : ℕ) : Type 0 where
   pub few : p ≤ f
   pub reads : reads_back m f p ≡ true
   pub before : (j : ℕ) → j < p → reads_back m f j ≡ false
+
+-- so its nearest decimal is less than half a step away
+pub within_half : {m f p : ℕ} → IsFewest m f p → 2 * abs_diff (nearest_numeral m f p * 2 ^ f) (m * 10 ^ p) < 10 ^ p
+unfolding reads_back
+within_half fewest = ltb-true _ _ fewest.reads
 
 fewest_from : (m f left p : ℕ) → p + left ≡ f → ((j : ℕ) → j < p → reads_back m f j ≡ false)
     → IsFewest m f (places_from m f left p)
@@ -95,10 +78,7 @@ unfolding fewest_places
 fewest_is m f = fewest_from m f f 0 (omega arith) (λ j h. absurd (omega arith))
 
 not_above : {m f p q : ℕ} → IsFewest m f p → IsFewest m f q → p ≤ q
-not_above {p = p} {q = q} x y = elim (cases_lt q p) [
-  | inl less ↦ absurd (true≢false (sym y.reads ∙ x.before q less))
-  | inr more ↦ more
-]
+not_above {p = p} {q = q} x y = elim (cases_lt q p) [ inl less ↦ cc (y.reads, x.before q less) | inr more ↦ more ]
 
 -- and these are the places that the definition gives
 pub places_are : {m f p : ℕ} → IsFewest m f p → p ≡ fewest_places m f
@@ -110,6 +90,11 @@ place_left m f p h fails =
     let exact = exact_reads_back m f in
     let other : p ≢ f = λ same. cc in
     omega arith
+
+-- and a unit of the last place that fails is at most a step
+fails_wide : (m f p : ℕ) → reads_back m f p ≡ false → 10 ^ p ≤ 2 ^ f
+unfolding reads_back
+fails_wide m f p e = omega (arith, ltb-false _ _ e, rounded_at m f p)
 
 unit_below : (m f p : ℕ) → ((j : ℕ) → j < p → reads_back m f j ≡ false) → 10 ^ p ≤ 10 * 2 ^ f
 unit_below m f zero fails = omega (arith, pow_pos f)
@@ -128,8 +113,8 @@ tenth d t m ten tenfold e power close =
 -- a numeral that ends in 0 would read back with one place fewer
 pub zero_drops : {m f p : ℕ} → IsFewest m f (suc p) → nearest_numeral m f (suc p) % 10 ≢ 0
 zero_drops {m = m} {f = f} {p = p} fewest e =
-    let closer = tenth _ (2 ^ f) m (10 ^ p) _ e (pow-suc 10 p) (within_half m f (suc p) fewest.reads) in
-    true≢false (sym (nearest_reads_back m f p _ (omega (arith, fewest.few)) closer) ∙ fewest.before p (omega arith))
+    let closer = tenth _ (2 ^ f) m (10 ^ p) _ e (pow-suc 10 p) (within_half fewest) in
+    cc (nearest_reads_back m f p _ (omega (arith, fewest.few)) closer, fewest.before p (omega arith))
 
 -- a decimal of any sign that rounds to a value of any sign
 pub magnitudes_close : (f j : ℕ) (n b : ℤ) → Near (n *ℤ pos (2 ^ f)) (10 ^ j) b → 2 * abs_diff (unsigned_abs n * 2 ^ f)
@@ -142,5 +127,5 @@ magnitudes_close f j (negsuc n) (negsuc b) near = omega (arith, ints)
 -- no number with fewer places rounds to the value
 pub none_fewer : {f p : ℕ} {b : ℤ} (j : ℕ) (n : ℤ) → IsFewest (unsigned_abs b) f p → j < p
     → Near (n *ℤ pos (2 ^ f)) (10 ^ j) b → ⊥
-none_fewer {f = f} {b = b} j n fewest h near = true≢false (sym (nearest_reads_back (unsigned_abs b) f j (unsigned_abs n)
-    (omega (arith, fewest.few)) (magnitudes_close f j n b near)) ∙ fewest.before j h)
+none_fewer {f = f} {b = b} j n fewest h near = cc (nearest_reads_back (unsigned_abs b) f j (unsigned_abs n)
+    (omega (arith, fewest.few)) (magnitudes_close f j n b near), fewest.before j h)

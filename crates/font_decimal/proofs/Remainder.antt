@@ -4,11 +4,11 @@ use Rattle.std.proofs.Common.{arith, add-one}
 use Rattle.std.specs.Prelude.{min}
 use Rattle.std.specs.Int.{abs_diff}
 use Rattle.std.proofs.Math.Nat.{pow-suc, div-add-mod', mul-le-mul_right}
-use Rattle.std.proofs.lemmas.Bool.{cases_lt}
+use Rattle.std.proofs.lemmas.Bool.{cases_lt, lt-ltb, le-ltb}
 use Rattle.std.proofs.lemmas.Nat.{pow_pos, div_below}
 use Rattle.font_decimal.specs.Shortest.{nearest_numeral, reads_back}
 use Rattle.font_decimal.proofs.Near.{near_magnitude_unique}
-use Rattle.font_decimal.proofs.Fewest.{IsFewest, reads_within, fails_past, zero_drops, within_half, rounded_at}
+use Rattle.font_decimal.proofs.Fewest.{IsFewest, zero_drops, within_half, rounded_at}
 
 -- m / 2^f cut off after p places is the numeral q, and of the last place rest / 2^(f+1) is left
 pub record HasRest (m f p q rest : ℕ) : Type 0 where
@@ -34,13 +34,15 @@ distance {f = f} {rest = rest} h = elim (cases_lt rest (2 ^ f)) [
 -- half a step is 10^p such parts: the first places within it are the fewest
 pub stopped : {m f p q rest : ℕ} → HasRest m f p q rest → min rest (2 * 2 ^ f - rest) < 10 ^ p → p ≤ f
     → ((j : ℕ) → j < p → reads_back m f j ≡ false) → IsFewest m f p
-stopped {m = m} {f = f} {p = p} h close few fails =
-    record { few = few; reads = reads_within m f p (omega (arith, distance h)); before = fails }
+unfolding reads_back
+stopped h close few fails =
+    record { few = few; reads = lt-ltb _ _ (omega (arith, distance h)); before = fails }
 
 -- and past it the nearest decimal does not read back
 pub fails_here : {m f p q rest : ℕ} → HasRest m f p q rest → 10 ^ p ≤ min rest (2 * 2 ^ f - rest)
     → reads_back m f p ≡ false
-fails_here {m = m} {f = f} {p = p} h far = fails_past m f p (omega (arith, distance h))
+unfolding reads_back
+fails_here h far = le-ltb _ _ (omega (arith, distance h))
 
 -- the numeral with one digit more behind the same whole digits
 pub next_numeral : {m f p rest unit : ℕ} (w n : ℕ) → HasRest m f p (w * 10 ^ p + n) rest → unit ≡ 2 * 2 ^ f
@@ -63,7 +65,7 @@ below_whole m w t ten n below close = grind (arith, mul-le-mul_right ten below, 
 -- where the nearest decimal reads back, its fraction is below one: raising the last digit carries into no whole digit
 pub fraction_below : {m f p : ℕ} (n : ℕ) → IsFewest m f p → nearest_numeral m f p ≡ m / 2 ^ f * 10 ^ p + n → n < 10 ^ p
 fraction_below {m = m} {f = f} {p = p} n fewest split = below_whole m (m / 2 ^ f) (2 ^ f) (10 ^ p) n
-    (omega (arith, pow_pos f)) (rw split at (within_half m f p fewest.reads))
+    (omega (arith, pow_pos f)) (rw split at (within_half fewest))
 
 -- one above a numeral that ends in 9 is a multiple of ten
 nine_ends : (w ten tenfold n numeral : ℕ) → tenfold ≡ ten * 10 → numeral ≡ w * tenfold + n + 1 → numeral % 10 ≢ 0

@@ -98,7 +98,7 @@ shown_whole m f = shown_numeral m f / 10 ^ fewest_places m f
 
 whole_is_within : (m f : ℕ) → shown_whole m f * 2 ^ f ≤ m
 whole_is_within m f = whole_within m (2 ^ f) (10 ^ fewest_places m f) (shown_numeral m f) (shown_whole m f)
-    (within_half m f (fewest_places m f) (fewest_is m f).reads) (div-mul-le_self (shown_numeral m f) _)
+    (within_half (fewest_is m f)) (div-mul-le_self (shown_numeral m f) _)
 
 pub whole_fits : (m f : ℕ) → m ≤ 2 ^ 63 → shown_whole m f < 2 ^ 64
 whole_fits m f small = omega (arith, whole_is_within m f, le-mul_of_pos_right (shown_whole m f) (pow_pos f))
@@ -113,7 +113,7 @@ shortest_is b f small =
     let d = shown_numeral m f in
     let fewest = fewest_is m f in
     let whole = whole_fits m f small in
-    let close = within_half m f p fewest.reads in
+    let close = within_half fewest in
     let text = written_decimal s p d whole in
     record {
       numeral = signed s d;
