@@ -91,19 +91,13 @@ is_cut p ds h =
       ];
     }
 
--- the numeral of digits, filled up with zeros to p places, has at most p digits
-pub filled_below : (p : ℕ) (ds : List ℕ) → AllDigits 10 ds → length ds ≤ p
-    → digits_value 10 ds * 10 ^ (p - length ds) < 10 ^ p
-filled_below p ds h short =
-    let split : p ≡ length ds + (p - length ds) = omega arith in
-    rw (ap (λ n. 10 ^ n) split ∙ pow-add 10 (length ds) (p - length ds))
-    (mul-lt-mul_of_pos_right (digits_value-lt 10 ds h) (one-le-pow (p - length ds) 10 (omega arith)))
-
--- and so has the numeral that is kept
+-- and the numeral that is kept has at most p digits
 pub kept_below : (p : ℕ) (ds : List ℕ) → AllDigits 10 ds → kept_numeral p ds < 10 ^ p
 kept_below p ds h =
-    let same : p - length (take p ds) ≡ p - length ds = omega (arith, length-take p ds) in
-    rw same at (filled_below p (take p ds) (digits_parts p ds h).0 (omega (arith, length-take p ds)))
+    let kept = take p ds in
+    let split : p ≡ length kept + (p - length ds) = omega (arith, length-take p ds) in
+    rw (ap (λ n. 10 ^ n) split ∙ pow-add 10 (length kept) (p - length ds))
+    (mul-lt-mul_of_pos_right (digits_value-lt 10 kept (digits_parts p ds h).0) (one-le-pow (p - length ds) 10 (omega arith)))
 
 -- these are digits with their number, and five to the power of their count
 abbrev pub HasNumeral : List ℕ → ℕ → ℕ → Type 0

@@ -1,7 +1,7 @@
 -- The first digits of a fraction decide how it is rounded.
 use Rattle.std.proofs.Common.{◌≡◌, ℕ, ◌+◌, ◌-◌, ◌*◌, ◌/◌, ◌%◌, ◌^◌, ◌<◌, ◌≤◌, ◌⊎◌, inl, inr, List, ◌++◌, length, take}
 use Rattle.std.proofs.Common.{min, refl, sym, ap, ◌∙◌, arith}
-use Rattle.std.proofs.Math.Nat.{mul-le-mul_right, min_comm, le_of_mul-le-mul_left, lt_of_mul-lt-mul_left}
+use Rattle.std.proofs.Math.Nat.{mul-le-mul_left, mul-le-mul_right, min_comm, le_of_mul-le-mul_left, lt_of_mul-lt-mul_left}
 use Rattle.std.proofs.Math.Nat.{mul-div-mul_right, div-lt_iff_lt-mul}
 use Rattle.std.proofs.Math.Nat.{one-le-pow, pow-le-pow_left, pow-le-pow_right, mod-eq_of_lt}
 use Rattle.std.specs.Str.Parse.{digits_value, AllDigits}
@@ -9,7 +9,7 @@ use Rattle.std.proofs.lemmas.List.{length-take-le, take_min}
 use Rattle.std.proofs.lemmas.Nat.{pow-add, mul-pow, pow_pos}
 use Rattle.std.proofs.lemmas.Bool.{cases_lt}
 use Rattle.font_decimal.proofs.Near.{IsNearMagnitude}
-use Rattle.font_decimal.proofs.Digits.{digits_parts, digits-append, filled_below, kept_numeral, HasNumeral}
+use Rattle.font_decimal.proofs.Digits.{digits-append, kept_below, kept_numeral, HasNumeral}
 
 -- Half of a fraction's half steps of 1 / (2 t), rounded up, is the nearest number of steps: what is kept of it is in
 -- units of 1 / (2 t five), and the rest is below one unit.
@@ -26,44 +26,37 @@ half_steps_halved value kept rest k t five some is below =
     let high : five * (2 * (value * t) + k) < five * (2 * (q * k) + 2 * k) = omega (arith, mul-le-mul_right k to) in
     record { low = le_of_mul-le-mul_left low some; high = lt_of_mul-lt-mul_left five high }
 
--- a fraction below 1 has fewer half steps than there are in 1
-pub half_steps_below : (p n : ℕ) → n < 10 ^ p → n / 5 ^ p < 2 ^ p
-half_steps_below p n h = (div-lt_iff_lt-mul (one-le-pow p 5 (omega arith))).1 (rw (sym (mul-pow 2 5 p)) h)
-
 -- where zeros are missing, their fives are left out on both sides of the division
 fives_left_out : (numeral places k : ℕ) → numeral * 2 ^ k / 5 ^ places ≡ numeral * 10 ^ k / 5 ^ (places + k)
 fives_left_out numeral places k =
     let above : numeral * 10 ^ k ≡ numeral * 2 ^ k * 5 ^ k = rw (mul-pow 2 5 k) (omega arith) in
     rw (above, pow-add 5 places k, mul-div-mul_right (numeral * 2 ^ k) (5 ^ places) (one-le-pow k 5 (omega arith)))
 
--- what is divided is no greater than with the zeros filled in
-shifted_below : (p places : ℕ) (e : List ℕ) → AllDigits 10 e → places ≤ length e → places ≤ p
-    → digits_value 10 (take places e) * 2 ^ (p - places) < 10 ^ p
-shifted_below p places e digits within few =
-    let filled = rw (length-take-le places e within) at
-    (filled_below p (take places e) (digits_parts places e digits).0 (omega (arith, length-take-le places e within))) in
-    grind (arith, filled, pow-le-pow_left {n = 2} {m = 10} (omega arith) (p - places))
-
 -- the half steps of digits, as the code finds them from the first p of these and with the late ones judged
 abbrev pub HasHalfSteps : ℕ → List ℕ → ℕ → Type 0
 HasHalfSteps p e halves = AllDigits 10 e × (halves ≡ kept_numeral p e / 5 ^ p)
 
-pub half_steps_of_kept : {places numeral power_of_five : ℕ} {e kept : List ℕ} (bits p : ℕ) (late : List ℕ) → 10 ^ p ≤ 2 ^ bits
-    → places ≡ min (length e) p
+-- a fraction below 1 has fewer half steps than there are in 1
+pub half_steps_below : {halves : ℕ} (p : ℕ) (e : List ℕ) → HasHalfSteps p e halves → halves < 2 ^ p
+half_steps_below p e found = rw found.1
+    ((div-lt_iff_lt-mul (one-le-pow p 5 (omega arith))).1 (rw (← mul-pow 2 5 p) (kept_below p e found.0)))
+
+pub half_steps_of_kept : {places numeral power_of_five : ℕ} {e kept : List ℕ} (bits p : ℕ) (late : List ℕ)
+    → 10 ^ p ≤ 2 ^ bits → places ≡ min (length e) p
     → e ≡ kept ++ late → kept ≡ take places e → HasNumeral kept numeral power_of_five → AllDigits 10 late
     → HasHalfSteps p e (numeral * 2 ^ (p - places) % 2 ^ bits / power_of_five)
-half_steps_of_kept {places = places} {numeral = numeral} {power_of_five = power_of_five} {e = e} {kept = kept} bits p late room places_are joined front first second =
+half_steps_of_kept {places = places} {numeral = numeral} {e = e} {kept = kept} bits p late room places_are joined front
+    first second =
     let k = p - places in
     let digits : AllDigits 10 e = rw joined (digits-append kept late first.0 second) in
     let count : length kept ≡ places = ap length front ∙ length-take-le places e (omega arith) in
     let taken : kept ≡ take p e = front ∙ rw (places_are, min_comm (length e) p) (take_min p e) in
     let missing : p - length e ≡ k = omega arith in
     let filled : places + k ≡ p = omega arith in
-    let below : numeral * 2 ^ k < 10 ^ p = rw (first.1, front)
-    (shifted_below p places e digits (omega arith) (omega arith)) in
-    let whole : numeral * 2 ^ k % 2 ^ bits ≡ numeral * 2 ^ k = mod-eq_of_lt (omega arith) in
-    let divisor : power_of_five ≡ 5 ^ places = rw count at first.2 in
-    (digits, rw (whole, divisor, fives_left_out numeral places k, filled, missing, sym taken, sym first.1) refl)
+    let below = rw (missing, ← taken, ← first.1) at (kept_below p e digits) in
+    let whole : numeral * 2 ^ k % 2 ^ bits ≡ numeral * 2 ^ k =
+    mod-eq_of_lt (omega (arith, below, mul-le-mul_left numeral (pow-le-pow_left {n = 2} {m = 10} (omega arith) k))) in
+    (digits, rw (whole, first.2, count, fives_left_out numeral places k, filled, missing, ← taken, ← first.1) refl)
 
 -- 2^(63-f) whole steps are 2^63 steps
 full_steps : (f : ℕ) → f ≤ 30 → 2 ^ (63 - f) * 2 ^ f ≡ 2 ^ 63

@@ -1,6 +1,6 @@
 use Rattle.std.proofs.Common.{◌*◌, ◌/◌, ◌%◌, ◌+◌, ◌-◌, ◌^◌, ◌≤◌, ℕ, arith, sym, ◌∙◌, true≢false}
 use Rattle.std.proofs.Math.Nat.{one-le-pow, pow-le-pow_right}
-use Rattle.font_decimal.proofs.Digits.{digits_parts, by_test, kept_numeral, kept_below}
+use Rattle.font_decimal.proofs.Digits.{digits_parts, by_test}
 use Rattle.font_decimal.proofs.Rounding.{HasHalfSteps, half_steps_of_kept, half_steps_below}
 use Rattle.font_decimal.proofs.reader.half_steps.Goals as goal
 
@@ -42,11 +42,11 @@ found_half_steps c =
     c.split_at.ensures.front c.in_ok-numeral-2.ensures (by_test.to _ (sym c.if-not-are_digits.ensures))
 
 pub overflow_cast-result-else-f-le18 : goal.overflow_cast-result-else-f-le18
-overflow_cast-result-else-f-le18 c =
-    let p = c.args.f + 1 in
-    let found = found_half_steps c in
-    let below = half_steps_below p (kept_numeral p c.args.fraction.now) (kept_below p c.args.fraction.now found.0) in
-    rw found.1 (omega (arith, pow-le-pow_right {n = 2} (omega arith) {i = p} {j = 31} (omega (arith, c.requires))))
+overflow_cast-result-else-f-le18 c = omega (
+  arith,
+  half_steps_below (c.args.f + 1) c.args.fraction.now (found_half_steps c),
+  pow-le-pow_right {n = 2} (omega arith) {i = c.args.f + 1} {j = 31} (omega (arith, c.requires)),
+)
 
 pub returns-in_ok-numeral-2 : goal.returns-in_ok-numeral-2
 returns-in_ok-numeral-2 c = found_half_steps c

@@ -3,7 +3,6 @@ use Rattle.std.specs.Str.Parse.{digits_value}
 use Rattle.std.proofs.Math.Nat.{pow-le-pow_right}
 use Rattle.std.proofs.lemmas.List.{take_rest}
 use Rattle.std.proofs.lemmas.Nat.{one_shl}
-use Rattle.font_decimal.proofs.Digits.{kept_below, kept_numeral}
 use Rattle.font_decimal.proofs.Texts.{same_point}
 use Rattle.font_decimal.proofs.Parts.{fraction_found, parts_found}
 use Rattle.font_decimal.proofs.Rounding.{half_steps_below, steps_fit, StepsFit, steps_capped}
@@ -33,15 +32,9 @@ returns-in_err-half_steps-clause-none c =
     c.in_err-half_steps.ensures (rw same at parts.fraction_digits))
 
 fit : (c : goal.In_ok-half_steps) → StepsFit c.args.f c.whole_digits-whole.result.0 c.in_ok-half_steps.half_steps
-fit c =
-    let fraction = c.in_ok-behind_point.field-0.now in
-    let halves = c.in_ok-half_steps.ensures in
-    let below = half_steps_below (c.args.f + 1) (kept_numeral (c.args.f + 1) fraction)
-    (kept_below (c.args.f + 1) fraction halves.0) in
-    let cap = rw (one_shl (63 - c.args.f) 64 (omega arith)) at c.whole_digits-whole.ensures.number in
-    steps_fit c.args.f c.whole_digits-whole.result.0 c.in_ok-half_steps.half_steps
-    (digits_value 10 (take c.whole_digits-whole.result.1 c.args.digits.now))
-    (omega (arith, c.requires)) cap (rw halves.1 below)
+fit c = steps_fit c.args.f _ _ (digits_value 10 (take c.whole_digits-whole.result.1 c.args.digits.now))
+    (omega (arith, c.requires)) (rw (one_shl (63 - c.args.f) 64 (omega arith)) at c.whole_digits-whole.ensures.number)
+    (half_steps_below (c.args.f + 1) c.in_ok-behind_point.field-0.now c.in_ok-half_steps.ensures)
 
 pub overflow_add-result : goal.overflow_add-result
 overflow_add-result c = omega (arith, (fit c).one_more)
