@@ -87,4 +87,4 @@ padded_fits text pad room n short enough = omega (arith, padded_length text pad,
 pub fills_all : {n : ℕ} {old new : List ℕ} (text : List ℕ) (pad : Pad) → FillsFront (padded_text text pad) n old new
     → length old ≤ pad.width → new ≡ padded_text text pad
 fills_all {n = n} {old = old} text pad front narrow =
-    front.bytes ∙ rw (drop_all n old (omega (arith, padded_length text pad, front.count)), append-nil) refl
+    front.bytes ∙ rw (drop_all n old (omega (arith, padded_length text pad, front.count)), append-nil)

@@ -56,15 +56,15 @@ not_outside f text min max b x y =
 -- a text has one reading
 pub reading_unique : (text : List ℕ) (f : ℕ) (min max : ℤ) (q r : Result ℤ DecimalFault) → IsReading text f min max q
     → IsReading text f min max r → q ≡ r
-reading_unique text f min max (Ok b) (Ok c) x y = ap Ok (rounds_unique text f b c x.rounds y.rounds)
-reading_unique text f min max (Ok b) (Err Syntax) x y = absurd (y _ _ x.rounds.decimal)
-reading_unique text f min max (Ok b) (Err OutOfRange) x y = absurd (not_outside f text min max b x y)
-reading_unique text f min max (Err Syntax) (Ok c) x y = absurd (x _ _ y.rounds.decimal)
-reading_unique text f min max (Err Syntax) (Err Syntax) x y = refl
-reading_unique text f min max (Err Syntax) (Err OutOfRange) x y = absurd (x _ _ y.rounds.decimal)
-reading_unique text f min max (Err OutOfRange) (Ok c) x y = absurd (not_outside f text min max c y x)
-reading_unique text f min max (Err OutOfRange) (Err Syntax) x y = absurd (y _ _ x.rounds.decimal)
-reading_unique text f min max (Err OutOfRange) (Err OutOfRange) x y = refl
+reading_unique text f _ _ (Ok b) (Ok c) x y = ap Ok (rounds_unique text f b c x.rounds y.rounds)
+reading_unique _ _ _ _ (Ok b) (Err Syntax) x y = absurd (y _ _ x.rounds.decimal)
+reading_unique _ _ _ _ (Ok b) (Err OutOfRange) x y = absurd (not_outside _ _ _ _ _ x y)
+reading_unique _ _ _ _ (Err Syntax) (Ok c) x y = absurd (x _ _ y.rounds.decimal)
+reading_unique _ _ _ _ (Err Syntax) (Err Syntax) x y = refl
+reading_unique _ _ _ _ (Err Syntax) (Err OutOfRange) x y = absurd (x _ _ y.rounds.decimal)
+reading_unique _ _ _ _ (Err OutOfRange) (Ok c) x y = absurd (not_outside _ _ _ _ _ y x)
+reading_unique _ _ _ _ (Err OutOfRange) (Err Syntax) x y = absurd (y _ _ x.rounds.decimal)
+reading_unique _ _ _ _ (Err OutOfRange) (Err OutOfRange) x y = refl
 
 -- and so the answer that is a reading tells which one it is
 pub answers_as : (text : List ℕ) (f : ℕ) (min max : ℤ) (q r : Result ℤ DecimalFault) → IsReading text f min max q

@@ -56,11 +56,11 @@ half_steps_of_kept {places = places} {numeral = numeral} {e = e} {kept = kept} b
     let below = rw (missing, ← taken, ← first.1) at (kept_below p e digits) in
     let whole : numeral * 2 ^ k % 2 ^ bits ≡ numeral * 2 ^ k =
     mod-eq_of_lt (omega (arith, below, mul-le-mul_left numeral (pow-le-pow_left {n = 2} {m = 10} (omega arith) k))) in
-    (digits, rw (whole, first.2, count, fives_left_out numeral places k, filled, missing, ← taken, ← first.1) refl)
+    (digits, rw (whole, first.2, count, fives_left_out numeral places k, filled, missing, ← taken, ← first.1))
 
 -- 2^(63-f) whole steps are 2^63 steps
 full_steps : (f : ℕ) → f ≤ 30 → 2 ^ (63 - f) * 2 ^ f ≡ 2 ^ 63
-full_steps f few = let e : 63 - f + f ≡ 63 = omega arith in rw (← pow-add 2 (63 - f) f, e) refl
+full_steps f few = let e : 63 - f + f ≡ 63 = omega arith in rw (← pow-add 2 (63 - f) f, e)
 
 -- Whole steps that are cut to one more than 2^(63-f) of them stand for any greater number: either way the number of
 -- steps is above 2^63.

@@ -211,4 +211,4 @@ module _ (m f whole fraction places : ℕ) (few : places ≡ fewest_places m f)
       → sign_text (is_negative b) ++ (decimal whole ++ (fraction_text (last_digits places fraction) ++ []))
       ≡ shortest_text b f
   unfolding shortest_text
-  text_is b size = rw (fraction_is, whole_is, append-nil, few, size) refl
+  text_is b size = rw (fraction_is, whole_is, append-nil, few, size)

@@ -14,16 +14,12 @@ returns-then-out-shown_len-clause-room c =
 
 pub returns-clause-written : goal.returns-clause-written
 returns-clause-written c =
-    let spread = c.spread-front.result in
-    let fill = c.args.pad.now.fill in
-    let first = put_behind (replicate spread.0 fill) (nothing_yet c.args.out.now) (length-replicate spread.0 fill)
-    c.put_fill-at.ensures.end c.put_fill-at.ensures.written in
-    let second = put_behind c.as_bytes.result.now first refl c.put-at.ensures.end c.put-at.ensures.written in
-    let third = put_behind (replicate spread.1 48) second (length-replicate spread.1 48)
-    c.put_fill-at-2.ensures.end c.put_fill-at-2.ensures.written in
-    let fourth = put_behind c.as_bytes-2.result.now third refl c.put-at-2.ensures.end c.put-at-2.ensures.written in
-    let fifth = put_behind (replicate spread.2 fill) fourth (length-replicate spread.2 fill)
-    c.put_fill.ensures.end c.put_fill.ensures.written in
+    let first = put_behind _ (nothing_yet c.args.out.now) (length-replicate _ _) c.put_fill-at.ensures.end
+    c.put_fill-at.ensures.written in
+    let second = put_behind _ first refl c.put-at.ensures.end c.put-at.ensures.written in
+    let third = put_behind _ second (length-replicate _ _) c.put_fill-at-2.ensures.end c.put_fill-at-2.ensures.written in
+    let fourth = put_behind _ third refl c.put-at-2.ensures.end c.put-at-2.ensures.written in
+    let fifth = put_behind _ fourth (length-replicate _ _) c.put_fill.ensures.end c.put_fill.ensures.written in
     rw (
       pieces c.args.text.now c.args.pad.now c.shown_parts.ensures.sign c.shown_parts.ensures.body c.max-shown_len.ensures,
       c.spread-front.ensures.places c.shown_parts.result.0.now c.shown_parts.result.1.now,

@@ -33,10 +33,8 @@ returns-in_err-numeral-2 c = rw c.from_residual-in_err-numeral-2.ensures
 pub nonzero_div-result-else-f-le18 : goal.nonzero_div-result-else-f-le18
 nonzero_div-result-else-f-le18 c = rw c.in_ok-numeral-2.ensures.2 (one-le-pow _ 5 (omega arith))
 
-found_half_steps : (c : goal.In_ok-numeral-2)
-    → HasHalfSteps (c.args.f + 1) c.args.fraction.now
-    (c.in_ok-numeral-2.numeral * 2 ^ (c.args.f + 1 - c.min-places.result) % 2 ^ 128 / c.in_ok-numeral-2.power_of_five)
-found_half_steps c =
+pub returns-in_ok-numeral-2 : goal.returns-in_ok-numeral-2
+returns-in_ok-numeral-2 c =
     half_steps_of_kept 128 (c.args.f + 1) c.split_at.result.1.now
     (power_of_ten_fits c.args.f 30 128 c.requires (omega arith)) c.min-places.ensures c.split_at.ensures.by_index.0
     c.split_at.ensures.front c.in_ok-numeral-2.ensures (by_test.to _ (sym c.if-not-are_digits.ensures))
@@ -44,9 +42,6 @@ found_half_steps c =
 pub overflow_cast-result-else-f-le18 : goal.overflow_cast-result-else-f-le18
 overflow_cast-result-else-f-le18 c = omega (
   arith,
-  half_steps_below (c.args.f + 1) c.args.fraction.now (found_half_steps c),
+  half_steps_below (c.args.f + 1) c.args.fraction.now (returns-in_ok-numeral-2 c),
   pow-le-pow_right {n = 2} (omega arith) {i = c.args.f + 1} {j = 31} (omega (arith, c.requires)),
 )
-
-pub returns-in_ok-numeral-2 : goal.returns-in_ok-numeral-2
-returns-in_ok-numeral-2 c = found_half_steps c

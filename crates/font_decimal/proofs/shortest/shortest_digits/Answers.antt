@@ -15,12 +15,12 @@ fails c = fails_here c.loop-margin.invariant.rest (omega (arith, c.min.ensures, 
 
 pub loop-margin-smaller : goal.loop-margin-smaller
 loop-margin-smaller c =
-    omega (arith, place_left c.args.magnitude c.args.f c.loop-margin.places c.loop-margin.invariant.within (fails c))
+    omega (arith, place_left _ _ _ c.loop-margin.invariant.within (fails c))
 
 pub loop-margin-preserved : goal.loop-margin-preserved
 loop-margin-preserved c =
     let l = c.loop-margin in
-    let more = place_left c.args.magnitude c.args.f l.places l.invariant.within (fails c) in
+    let more = place_left _ _ _ l.invariant.within (fails c) in
     let unit = unit_is c.args.f c.requires in
     record {
       margin = rw (l.invariant.margin, add-one) (sym (pow-suc 10 l.places));

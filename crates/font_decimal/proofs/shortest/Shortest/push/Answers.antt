@@ -5,17 +5,12 @@ use Rattle.font_decimal.proofs.shortest.Shortest.push.Goals as goal
 
 pub overflow_sub-self : goal.overflow_sub-self
 unfolding shown
-overflow_sub-self c =
-    let bytes = c.args.self.now.bytes in
-    let long : length bytes ≡ 22 = omega arith in
-    let s = length-drop c.args.self.now.start bytes in
-    omega (arith, c.requires.1)
+overflow_sub-self c = omega (arith, c.requires.1, length-drop c.args.self.now.start c.args.self.now.bytes)
 
 pub returns : goal.returns
 unfolding shown
 returns c =
-    let bytes = c.args.self.now.bytes in
-    let long : length bytes ≡ 22 = omega arith in
-    let s = length-drop c.args.self.now.start bytes in
-    let e : c.args.self.now.start - 1 + 1 ≡ c.args.self.now.start = omega (arith, c.requires.1) in
-    rw (drop-set bytes (c.args.self.now.start - 1) c.args.byte (omega arith), e)
+    let s = c.args.self.now in
+    let small = length-drop s.start s.bytes in
+    let e : s.start - 1 + 1 ≡ s.start = omega (arith, c.requires.1) in
+    rw (drop-set s.bytes (s.start - 1) c.args.byte (omega arith), e)
