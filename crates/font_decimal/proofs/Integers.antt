@@ -15,13 +15,11 @@ times-next q d = rw +ℤ_one (suc_ℤ-*ℤ q (pos d))
 
 pub times_monotone : (a b : ℤ) (d : ℕ) → a ≤ℤ b → (a *ℤ pos d) ≤ℤ (b *ℤ pos d)
 times_monotone (pos a) (pos b) d h = omega (arith, ints, mul-le-mul_right {m = a} {n = b} d (omega (arith, ints)))
-times_monotone (pos a) (negsuc b) d h = absurd (omega (arith, ints))
+times_monotone (pos a) (negsuc b) d h = omega (arith, ints)
 times_monotone (negsuc a) (pos b) d h = omega (arith, ints)
 times_monotone (negsuc a) (negsuc b) d h = omega
     (arith, ints, mul-le-mul_right {m = suc b} {n = suc a} d (omega (arith, ints)))
 
 pub swap_factors : (n : ℤ) (t k : ℕ) → n *ℤ pos t *ℤ pos k ≡ n *ℤ pos k *ℤ pos t
-swap_factors (pos n) t k = ap pos (omega arith)
-swap_factors (negsuc n) t k =
-    neg-times (pos (suc n * t)) k ∙ ap (λ p. neg_ℤ (pos p)) (let e : suc n * t * k ≡ suc n * k * t = omega arith in e)
-    ∙ sym (neg-times (pos (suc n * k)) t)
+swap_factors (pos n) t k = omega (arith, ints)
+swap_factors (negsuc n) t k = rw (neg-times (pos (suc n * t)) k, neg-times (pos (suc n * k)) t) (omega (arith, ints))

@@ -28,11 +28,8 @@ rounds_unique text f b c x y =
     near_unique _ _ b c (ten_pos x.places) x.nearest (rw (← same.numeral, ← same.places) at y.nearest)
 
 -- the nearest number of steps, by the first f + 1 digits of the fraction
-abbrev pub steps_by : ℕ → List ℕ → List ℕ → ℕ
-steps_by f w e = digits_value 10 w * 2 ^ f + (kept_numeral (f + 1) e / 5 ^ (f + 1) + 1) / 2
-
 pub rounds_by : {text : List ℕ} {s : Bool} {w e : List ℕ} (f : ℕ) → HasParts text s w e
-    → Rounds text f (signed s (steps_by f w e))
+    → Rounds text f (signed s (digits_value 10 w * 2 ^ f + (kept_numeral (f + 1) e / 5 ^ (f + 1) + 1) / 2))
 rounds_by {s = s} {w = w} {e = e} f parts =
     let t = 2 ^ f in
     let k = length e in

@@ -6,6 +6,5 @@ pub returns-clause-in_order : goal.returns-clause-in_order
 returns-clause-in_order c =
     let min_fits : FitsSigned w64 c.args.min = c.ranges.min in
     let max_fits : FitsSigned w64 c.args.max = c.ranges.max in
-    order_of_readings c.args.s.now c.args.t.now c.args.f c.args.min c.args.max c.read_decimal.result
-    c.read_decimal-2.result
+    order_of_readings _ _ c.args.f c.args.min c.args.max _ _
     (simp to_z-of_z at c.read_decimal.ensures.reading) (simp to_z-of_z at c.read_decimal-2.ensures.reading)

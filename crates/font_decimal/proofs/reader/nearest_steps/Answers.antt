@@ -26,15 +26,15 @@ pub returns-in_err-half_steps-clause-none : goal.returns-in_err-half_steps-claus
 returns-in_err-half_steps-clause-none c =
     let whole = c.whole_digits-whole in
     rw c.from_residual-in_err-half_steps.ensures (λ w e parts.
-    let same = same_point e c.in_ok-behind_point.field-0.now
+    let same = same_point _ _
     (sym (fraction_found whole.result.1 parts whole.ensures.digits whole.ensures.within whole.ensures.end)
     ∙ sym (take_rest c.args.digits.now whole.result.1) ∙ c.in_ok-behind_point.ensures) in
     c.in_err-half_steps.ensures (rw same at parts.fraction_digits))
 
 fit : (c : goal.In_ok-half_steps) → StepsFit c.args.f c.whole_digits-whole.result.0 c.in_ok-half_steps.half_steps
-fit c = steps_fit c.args.f _ _ (digits_value 10 (take c.whole_digits-whole.result.1 c.args.digits.now))
+fit c = steps_fit c.args.f _ _ _
     (omega (arith, c.requires)) (rw (one_shl (63 - c.args.f) 64 (omega arith)) at c.whole_digits-whole.ensures.number)
-    (half_steps_below (c.args.f + 1) c.in_ok-behind_point.field-0.now c.in_ok-half_steps.ensures)
+    (half_steps_below (c.args.f + 1) _ c.in_ok-half_steps.ensures)
 
 pub overflow_add-result : goal.overflow_add-result
 overflow_add-result c = omega (arith, (fit c).one_more)
@@ -51,8 +51,7 @@ returns-clause-some c =
     let cap = rw (one_shl (63 - c.args.f) 64 (omega arith)) at whole.ensures.number in
     rw (fit c).shifted (
       _,
-      steps_capped c.args.f (digits_value 10 (take whole.result.1 digits)) whole.result.0
-          ((c.in_ok-half_steps.half_steps + 1) / 2) (omega (arith, c.requires)) cap,
-      λ s. rw halves.1 (rounds_by c.args.f (parts_found digits c.in_ok-behind_point.field-0.now whole.result.1 s
+      steps_capped c.args.f _ _ _ (omega (arith, c.requires)) cap,
+      λ s. rw halves.1 (rounds_by c.args.f (parts_found _ _ _ s
           whole.ensures.digits (omega (arith, c.if-len-eq0.false)) whole.ensures.within rest halves.0)),
     )

@@ -7,17 +7,15 @@ use Rattle.font_decimal.proofs.reader.numeral_and_power.Goals as goal
 
 pub returns-then-not-is_ascii_digit : goal.returns-then-not-is_ascii_digit
 returns-then-not-is_ascii_digit c = λ all.
-    let digit = digit_at c.args.digits.now c.loop-digit.digit-index all c.loop-digit-test.true in
-    omega (arith, c.if-not-is_ascii_digit.ensures.cases)
+    omega (arith, c.if-not-is_ascii_digit.ensures.cases, digit_at _ _ all c.loop-digit-test.true)
 
 pub overflow_mul-numeral : goal.overflow_mul-numeral
 overflow_mul-numeral c =
-    let small = few_digits c.args.digits.now c.loop-digit.digit-index c.loop-digit.invariant.judged (omega arith) in
-    omega (arith, c.loop-digit.invariant.numeral)
+    omega (arith, c.loop-digit.invariant.numeral, few_digits _ _ c.loop-digit.invariant.judged (omega arith))
 
 pub overflow_add-numeral : goal.overflow_add-numeral
 overflow_add-numeral c =
-    let small = few_digits c.args.digits.now c.loop-digit.digit-index c.loop-digit.invariant.judged (omega arith) in
+    let small = few_digits _ _ c.loop-digit.invariant.judged (omega arith) in
     omega (arith, c.loop-digit.invariant.numeral, c.if-not-is_ascii_digit.ensures.cases, c.from.ensures)
 
 pub overflow_mul-power_of_five : goal.overflow_mul-power_of_five

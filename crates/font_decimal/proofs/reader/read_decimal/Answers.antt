@@ -11,7 +11,7 @@ pub returns-in_default : goal.returns-in_default
 returns-in_default c =
     let sign = c.split_sign-negative in
     let text = c.args.text.now in
-    let reading = no_decimal text sign.result.1.now sign.result.0 (sym c.as_bytes.ensures.value ∙ sign.ensures.minus)
+    let reading = no_decimal _ _ _ (sym c.as_bytes.ensures.value ∙ sign.ensures.minus)
     (rw c.as_bytes.ensures.value at sign.ensures.plain) c.in_default.ensures.none in
     let tells = λ (r : Result ℤ DecimalFault). answers_as text c.args.f c.args.min c.args.max (Err Syntax) r reading in
     record { ok = λ b. tells (Ok b); reading = reading; out_of_range = tells (Err OutOfRange); syntax = tells (Err Syntax) }
@@ -25,7 +25,6 @@ returns c =
     let found = c.in-Some.ensures.some in
     let rounds = rw (← sign.ensures.minus, c.as_bytes.ensures.value) at (found.2 sign.result.0) in
     let reading : IsReading text c.args.f c.args.min c.args.max c.ok_or.result = rw c.ok_or.ensures.value
-    (judged_by_range sign.result.0 c.in-Some.steps found.0 c.args.min c.args.max c.in_range.result min_fits max_fits
-    found.1 rounds (simp to_z-of_z at c.in_range.ensures)) in
+    (judged_by_range _ _ _ _ _ _ min_fits max_fits found.1 rounds (simp to_z-of_z at c.in_range.ensures)) in
     let tells = λ (r : Result ℤ DecimalFault). answers_as text c.args.f c.args.min c.args.max c.ok_or.result r reading in
     record { ok = λ b. tells (Ok b); reading = reading; out_of_range = tells (Err OutOfRange); syntax = tells (Err Syntax) }

@@ -24,8 +24,8 @@ loop-margin-preserved c =
     let unit = unit_is c.args.f c.requires in
     record {
       margin = rw (l.invariant.margin, add-one) (sym (pow-suc 10 l.places));
-      fraction = next_below l.fraction l.margin l.rest _ l.invariant.fraction (omega (arith, l.invariant.rest.below));
-      rest = next_numeral _ l.fraction l.invariant.rest unit;
+      fraction = next_below _ _ _ _ l.invariant.fraction (omega (arith, l.invariant.rest.below));
+      rest = next_numeral _ _ l.invariant.rest unit;
       within = omega arith;
       fail = below_more _ l.places l.invariant.fail (fails c);
     }
@@ -36,7 +36,7 @@ raise_last_digit-fraction-requires c =
     let l = c.loop-margin.invariant in
     let small = unit_is c.args.f c.requires in
     let fewest = stopped l.rest (omega (arith, c.min.ensures, small)) l.within l.fail in
-    (no_carry _ c.loop-margin.fraction fewest (omega arith) (rounded_up l.rest (omega (arith, small))), omega arith)
+    (no_carry _ _ fewest (omega arith) (rounded_up l.rest (omega (arith, small))), omega arith)
 
 fewest : (c : goal.After-raise_last_digit-fraction) → IsFewest c.args.magnitude c.args.f c.loop-margin.places
 fewest c =
@@ -54,7 +54,7 @@ pub returns-then-rest-unit-clause-below : goal.returns-then-rest-unit-clause-bel
 returns-then-rest-unit-clause-below c =
     let split = rounded_up c.loop-margin.invariant.rest (omega (arith, unit_is c.args.f c.requires))
     ∙ rw (one_shl c.args.f 64 (omega arith)) (omega arith) in
-    rw c.raise_last_digit-fraction.ensures (fraction_below (c.loop-margin.fraction + 1) (fewest c) split)
+    rw c.raise_last_digit-fraction.ensures (fraction_below _ (fewest c) split)
 
 -- where it is not
 pub returns-else-rest-unit-clause-places : goal.returns-else-rest-unit-clause-places
