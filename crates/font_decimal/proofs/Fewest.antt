@@ -35,7 +35,7 @@ no_tie m f j n h tie =
     let d = abs_diff (n * 2 ^ (f - j)) (m * 5 ^ j) in
     let units : 2 ^ j * (2 * d) ≡ 2 ^ j * 5 ^ j =
     omega (arith, rw (power, ten) at tie, abs_diff_times (2 ^ j) (n * 2 ^ (f - j)) (m * 5 ^ j)) in
-    omega (arith, (five_odd j).1, eq_of_mul-eq-mul_left (2 ^ j) (pow_pos j) (2 * d) (5 ^ j) units)
+    omega (arith, (five_odd j).1, eq_of_mul-eq-mul_left _ (pow_pos j) _ _ units)
 
 pub rounded_at : (m f p : ℕ) → IsNearMagnitude (m * 10 ^ p) (2 ^ f) (nearest_numeral m f p)
 rounded_at m f p = rounded_is (m * 10 ^ p) (2 ^ f) (pow_pos f)
@@ -113,7 +113,7 @@ tenth d t m ten tenfold e power close =
 -- a numeral that ends in 0 would read back with one place fewer
 pub zero_drops : {m f p : ℕ} → IsFewest m f (suc p) → nearest_numeral m f (suc p) % 10 ≢ 0
 zero_drops {m = m} {f = f} {p = p} fewest e =
-    let closer = tenth _ (2 ^ f) m (10 ^ p) _ e (pow-suc 10 p) (within_half fewest) in
+    let closer = tenth _ _ _ _ _ e (pow-suc 10 p) (within_half fewest) in
     cc (nearest_reads_back m f p _ (omega (arith, fewest.few)) closer, fewest.before p (omega arith))
 
 -- a decimal of any sign that rounds to a value of any sign

@@ -32,12 +32,12 @@ pub printed_rounds : (b : ℤ) (f : ℕ) → unsigned_abs b ≤ 2 ^ 63 → Round
 printed_rounds b f small = (shortest_is b f small).rounds
 
 pub printed_reads_once : (b c : ℤ) (f : ℕ) → unsigned_abs b ≤ 2 ^ 63 → Rounds (shortest_text b f) f c → c ≡ b
-printed_reads_once b c f small x = rounds_unique (shortest_text b f) f c b x (printed_rounds b f small)
+printed_reads_once b c f small x = rounds_unique _ _ c b x (printed_rounds b f small)
 
 pub printed_is_read : (b : ℤ) (f : ℕ) (min max : ℤ) (r : Result ℤ DecimalFault) → unsigned_abs b ≤ 2 ^ 63 → min ≤ℤ b
     → b ≤ℤ max
     → IsReading (shortest_text b f) f min max r → r ≡ Ok b
-printed_is_read b f min max r small low high x = reading_unique (shortest_text b f) f min max r (Ok b) x
+printed_is_read b f min max r small low high x = reading_unique _ f min max r (Ok b) x
     (record { rounds = printed_rounds b f small; low = low; high = high })
 
 -- distinct values print distinct texts
@@ -91,8 +91,7 @@ pub zero_ends_no_fraction : (b : ℤ) (f i : ℕ) (front : List ℕ) → unsigne
     → shortest_text b f ≡ front ++ (48 ∷ []) → get_or (shortest_text b f) i 0 ≢ 46
 unfolding shortest_text
 zero_ends_no_fraction b f i front small e =
-    let m = unsigned_abs b in
-    ends_or_whole (is_negative b) m f (fewest_places m f) i front (fewest_is m f) (whole_fits m f small) e
+    ends_or_whole (is_negative b) _ _ _ i front (fewest_is _ f) (whole_fits _ f small) e
 
 -- ---- how long a printed text is without its `-`
 length-signed_body-le : (s : Bool) (body : List ℕ) → length (unsigned_body (sign_text s ++ body)) ≤ length body

@@ -35,13 +35,12 @@ rounds_by {s = s} {w = w} {e = e} f parts =
     let k = length e in
     let cut = is_cut (f + 1) e parts.fraction_digits in
     let unit : 10 ^ (f + 1) ≡ 2 * t * 5 ^ (f + 1) = mul-pow 2 5 (f + 1) ∙ rw (pow-add 2 f 1) (omega arith) in
-    let fraction = half_steps_halved (digits_value 10 e) (kept_numeral (f + 1) e) cut.rest (10 ^ k) t (5 ^ (f + 1))
-    (one-le-pow (f + 1) 5 (omega arith)) (rw unit at cut.is) cut.below in
+    let fraction = half_steps_halved _ _ _ _ t _ (one-le-pow (f + 1) 5 (omega arith)) (rw unit at cut.is) cut.below in
     record {
       numeral = signed s (digits_value 10 (w ++ e));
       places = k;
       decimal = decimal_of parts;
-      nearest = rw (digits_value-append w e, signed_times s _ t) (near_from s _ (10 ^ k) _ (ten_pos k) (omega arith));
+      nearest = rw (digits_value-append w e, signed_times) (near_from s _ _ _ (ten_pos k) (omega arith));
     }
 
 -- what is read is in range, and no other number is read

@@ -64,7 +64,7 @@ below_whole m w t ten n below close = grind (arith, mul-le-mul_right ten below, 
 
 -- where the nearest decimal reads back, its fraction is below one: raising the last digit carries into no whole digit
 pub fraction_below : {m f p : ℕ} (n : ℕ) → IsFewest m f p → nearest_numeral m f p ≡ m / 2 ^ f * 10 ^ p + n → n < 10 ^ p
-fraction_below {m = m} {f = f} {p = p} n fewest split = below_whole m (m / 2 ^ f) (2 ^ f) (10 ^ p) n
+fraction_below {m = m} {f = f} {p = p} n fewest split = below_whole m _ _ _ n
     (omega (arith, pow_pos f)) (rw split at (within_half fewest))
 
 -- one above a numeral that ends in 9 is a multiple of ten
@@ -76,4 +76,4 @@ nine_ends w ten tenfold n numeral power split other = omega (arith, ap (λ k. w 
 pub no_carry : {m f p : ℕ} (w n : ℕ) → IsFewest m f p → n < 10 ^ p → nearest_numeral m f p ≡ w * 10 ^ p + n + 1
     → n % 10 < 9
 no_carry {p = zero} w n fewest low split = omega arith
-no_carry {p = suc p} w n fewest low split = nine_ends w (10 ^ p) _ n _ (pow-suc 10 p) split (zero_drops fewest)
+no_carry {p = suc p} w n fewest low split = nine_ends _ _ _ _ _ (pow-suc 10 p) split (zero_drops fewest)

@@ -97,8 +97,7 @@ abbrev shown_whole : ℕ → ℕ → ℕ
 shown_whole m f = shown_numeral m f / 10 ^ fewest_places m f
 
 whole_is_within : (m f : ℕ) → shown_whole m f * 2 ^ f ≤ m
-whole_is_within m f = whole_within m (2 ^ f) (10 ^ fewest_places m f) (shown_numeral m f) (shown_whole m f)
-    (within_half (fewest_is m f)) (div-mul-le_self (shown_numeral m f) _)
+whole_is_within m f = whole_within _ _ _ _ _ (within_half (fewest_is m f)) (div-mul-le_self (shown_numeral m f) _)
 
 pub whole_fits : (m f : ℕ) → m ≤ 2 ^ 63 → shown_whole m f < 2 ^ 64
 whole_fits m f small = omega (arith, whole_is_within m f, le-mul_of_pos_right (shown_whole m f) (pow_pos f))
@@ -120,18 +119,18 @@ shortest_is b f small =
       places = p;
       plain = record {
         decimal = text;
-        no_needless_zero = no_zero_in_front (d / 10 ^ p) whole;
-        minus = minus_shown b d (not_zero m d (2 ^ f) (10 ^ p) close);
+        no_needless_zero = no_zero_in_front _ whole;
+        minus = minus_shown b d (not_zero _ _ _ _ (within_half fewest));
       };
       rounds = record {
         numeral = signed s d;
         places = p;
         decimal = text;
         nearest = subst (λ v. Near (signed s d *ℤ pos (2 ^ f)) (10 ^ p) v) (sym (sign_and_magnitude b))
-            (rw (signed_times s d (2 ^ f)) (near_from s (d * 2 ^ f) (10 ^ p) m (ten_pos p) (omega arith)));
+            (rw signed_times (near_from s _ _ m (ten_pos p) (omega arith)));
       };
       nearest = subst (λ v. Near (v *ℤ pos (10 ^ p)) (2 ^ f) (signed s d)) (sym (sign_and_magnitude b))
-          (rw (signed_times s m (10 ^ p)) (near_from s (m * 10 ^ p) (2 ^ f) d (pow_pos f) (rounded_at m f p)));
+          (rw signed_times (near_from s _ _ d (pow_pos f) (rounded_at m f p)));
       fewest = λ j n. none_fewer j n fewest;
     }
 

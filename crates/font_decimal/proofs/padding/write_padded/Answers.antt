@@ -8,7 +8,7 @@ use Rattle.font_decimal.proofs.padding.write_padded.Goals as goal
 pub returns-then-out-shown_len-clause-room : goal.returns-then-out-shown_len-clause-room
 returns-then-out-shown_len-clause-room c =
     let long : length (padded_text c.args.text.now c.args.pad.now) ≡ c.max-shown_len.result =
-    padded_length c.args.text.now c.args.pad.now ∙ rw (sym c.shown_parts.ensures.sign, sym c.shown_parts.ensures.body)
+    padded_length _ _ ∙ rw (sym c.shown_parts.ensures.sign, sym c.shown_parts.ensures.body)
     (sym c.max-shown_len.ensures) in
     (λ never. cc, λ fits. absurd (omega arith))
 
@@ -22,7 +22,7 @@ returns-clause-written c =
     let fifth = put_behind _ fourth (length-replicate _ _) c.put_fill.ensures.end c.put_fill.ensures.written in
     rw (
       pieces c.args.text.now c.args.pad.now c.shown_parts.ensures.sign c.shown_parts.ensures.body c.max-shown_len.ensures,
-      c.spread-front.ensures.places c.shown_parts.result.0.now c.shown_parts.result.1.now,
+      c.spread-front.ensures.places,
       ← c.as_bytes.ensures.value,
       ← c.as_bytes-2.ensures.value,
     ) (simp append_assoc at fifth)
@@ -33,6 +33,6 @@ returns-clause-fills c narrow = fills_all _ _ (returns-clause-written c) narrow
 pub returns-clause-room : goal.returns-clause-room
 returns-clause-room c =
     let long : length (padded_text c.args.text.now c.args.pad.now) ≡ c.max-shown_len.result =
-    padded_length c.args.text.now c.args.pad.now ∙ rw (sym c.shown_parts.ensures.sign, sym c.shown_parts.ensures.body)
+    padded_length _ _ ∙ rw (sym c.shown_parts.ensures.sign, sym c.shown_parts.ensures.body)
     (sym c.max-shown_len.ensures) in
     (λ _. omega arith, λ _. refl)

@@ -22,7 +22,7 @@ power_of_ten_fits f g bits few most = omega
 
 pub returns-in_ok-numeral : goal.returns-in_ok-numeral
 returns-in_ok-numeral c =
-    half_steps_of_kept 64 (c.args.f + 1) c.split_at.result.1.now
+    half_steps_of_kept 64 _ _
     (power_of_ten_fits c.args.f 18 64 c.if-f-le18.true (omega arith)) c.min-places.ensures c.split_at.ensures.by_index.0
     c.split_at.ensures.front c.in_ok-numeral.ensures (by_test.to _ (sym c.if-not-are_digits.ensures))
 
@@ -35,13 +35,13 @@ nonzero_div-result-else-f-le18 c = rw c.in_ok-numeral-2.ensures.2 (one-le-pow _ 
 
 pub returns-in_ok-numeral-2 : goal.returns-in_ok-numeral-2
 returns-in_ok-numeral-2 c =
-    half_steps_of_kept 128 (c.args.f + 1) c.split_at.result.1.now
+    half_steps_of_kept 128 _ _
     (power_of_ten_fits c.args.f 30 128 c.requires (omega arith)) c.min-places.ensures c.split_at.ensures.by_index.0
     c.split_at.ensures.front c.in_ok-numeral-2.ensures (by_test.to _ (sym c.if-not-are_digits.ensures))
 
 pub overflow_cast-result-else-f-le18 : goal.overflow_cast-result-else-f-le18
 overflow_cast-result-else-f-le18 c = omega (
   arith,
-  half_steps_below (c.args.f + 1) c.args.fraction.now (returns-in_ok-numeral-2 c),
+  half_steps_below (c.args.f + 1) _ (returns-in_ok-numeral-2 c),
   pow-le-pow_right {n = 2} (omega arith) {i = c.args.f + 1} {j = 31} (omega (arith, c.requires)),
 )

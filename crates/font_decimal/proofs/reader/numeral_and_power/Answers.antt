@@ -28,11 +28,11 @@ overflow_mul-power_of_five c = omega (
 pub loop-digit-preserved : goal.loop-digit-preserved
 loop-digit-preserved c =
     let l = c.loop-digit in
-    let more = one_digit_more c.args.digits.now l.digit-index c.loop-digit-test.true
+    let more = one_digit_more _ _ c.loop-digit-test.true
     c.if-not-is_ascii_digit.ensures.cases in
     record {
       numeral = omega (arith, more, l.invariant.numeral, c.from.ensures);
       power_of_five = rw add-one (omega (arith, l.invariant.power_of_five, pow-suc 5 l.digit-index));
-      judged = digits_more 10 c.args.digits.now l.digit-index c.loop-digit-test.true l.invariant.judged
+      judged = digits_more 10 _ _ c.loop-digit-test.true l.invariant.judged
           c.if-not-is_ascii_digit.ensures.bound;
     }

@@ -6,9 +6,9 @@ use Rattle.font_decimal.proofs.reader.whole_digits.Goals as goal
 pub loop-place-preserved : goal.loop-place-preserved
 loop-place-preserved c =
     let l = c.loop-place in
-    let more = one_digit_more c.args.text.now l.place c.loop-place-test.true c.if-not-is_ascii_digit.ensures.cases in
+    let more = one_digit_more _ _ c.loop-place-test.true c.if-not-is_ascii_digit.ensures.cases in
     record {
       number = omega (arith, c.min-whole.ensures, more, l.invariant.number, c.from.ensures);
-      judged = digits_more 10 c.args.text.now l.place c.loop-place-test.true l.invariant.judged
+      judged = digits_more 10 _ _ c.loop-place-test.true l.invariant.judged
           c.if-not-is_ascii_digit.ensures.bound;
     }

@@ -14,8 +14,8 @@ pub loop-place-preserved : goal.loop-place-preserved
 loop-place-preserved c =
     let rest = c.loop-place.invariant.rest in
     record {
-      digits = c.push.ensures ∙ rw (c.loop-place.invariant.digits, sym (last_more _ c.args.fraction _ rest));
-      rest = left_more _ c.args.fraction _ rest;
+      digits = c.push.ensures ∙ rw (c.loop-place.invariant.digits, sym (last_more _ _ _ rest));
+      rest = left_more _ _ _ rest;
     }
 
 pub push-requires-then-places-gt0 : goal.push-requires-then-places-gt0
