@@ -72,11 +72,11 @@ is_cut p ds h =
     let k = length ds in
     let front = digits_value 10 (take p ds) in
     let back = digits_value 10 (drop p ds) in
-    let joined : digits_value 10 ds ≡ front * 10 ^ (k - p) + back = ap (digits_value 10) (sym (take-append-drop p ds))
-    ∙ digits_value-append (take p ds) (drop p ds) ∙ ap (λ n. front * 10 ^ n + back) (length-drop p ds) in
+    let joined : digits_value 10 ds ≡ front * 10 ^ (k - p) + back =
+    rw (← length-drop p ds, ← digits_value-append (take p ds) (drop p ds), take-append-drop) in
     let same : k - p + p ≡ p - k + k = omega arith in
     let powers : 10 ^ (k - p) * 10 ^ p ≡ 10 ^ (p - k) * 10 ^ k = rw (← pow-add 10 (k - p) p, same) (pow-add 10 (p - k) k) in
-    let small : back < 10 ^ (k - p) = rw (length-drop p ds) at (digits_value-lt 10 (drop p ds) (digits_parts p ds h).1) in
+    let small : back < 10 ^ (k - p) = rw (length-drop p ds) at (digits_value-lt 10 _ (digits_parts p ds h).1) in
     record {
       rest = back * 10 ^ p;
       is = rw joined (omega (arith, ap (λ n. front * n) powers));
@@ -97,7 +97,7 @@ kept_below p ds h =
     let kept = take p ds in
     let split : p ≡ length kept + (p - length ds) = omega (arith, length-take p ds) in
     rw (ap (λ n. 10 ^ n) split ∙ pow-add 10 (length kept) (p - length ds))
-    (mul-lt-mul_of_pos_right (digits_value-lt 10 kept (digits_parts p ds h).0) (one-le-pow (p - length ds) 10 (omega arith)))
+    (mul-lt-mul_of_pos_right (digits_value-lt 10 _ (digits_parts p ds h).0) (one-le-pow (p - length ds) 10 (omega arith)))
 
 -- these are digits with their number, and five to the power of their count
 abbrev pub HasNumeral : List ℕ → ℕ → ℕ → Type 0
@@ -116,15 +116,15 @@ pub numeral_of_parts : {ds : List ℕ} {high low high_power low_power : ℕ} (fr
     → IsJoined ds (length back) high low high_power low_power
 numeral_of_parts {ds = ds} front back few parts first second =
     let b = length back in
-    let count : length ds ≡ length front + b = ap length parts ∙ length-append front back in
+    let count : length ds ≡ length front + b = ap length parts ∙ length-append _ _ in
     let ten : 10 ^ b ≡ 5 ^ b * 2 ^ b = mul-pow 5 2 b in
     let small : 5 ^ b * 2 ^ b < 2 ^ 128 =
     omega (arith, pow-le-pow_right {n = 10} (omega arith) {i = b} {j = 31} (omega arith)) in
-    let digits : AllDigits 10 ds = rw parts (digits-append front back first.0 second.0) in
+    let digits : AllDigits 10 ds = rw parts (digits-append _ _ first.0 second.0) in
     record {
       digits = digits;
       tens = rw second.2 (mod-eq_of_lt small ∙ sym ten);
-      numeral = rw (first.1, second.1, parts) (sym (digits_value-append front back));
-      fits = omega (arith, digits_value-lt 10 ds digits, pow-le-pow_right {n = 10} (omega arith) few);
+      numeral = rw (first.1, second.1, parts, digits_value-append);
+      fits = omega (arith, digits_value-lt 10 _ digits, pow-le-pow_right {n = 10} (omega arith) few);
       power_of_five = rw (first.2, second.2, count) (sym (pow-add 5 (length front) b));
     }

@@ -1,10 +1,10 @@
 -- The fewest places at which a value m / 2^f has a decimal that reads back.
 use Rattle.std.proofs.Common.{◌≡◌, ◌≢◌, ℕ, zero, suc, ◌+◌, ◌-◌, ◌*◌, ◌/◌, ◌%◌, ◌^◌, ◌<◌, ◌≤◌, inl, inr, true}
-use Rattle.std.proofs.Common.{false, true≢false, ℤ, pos, negsuc, refl, sym, ap, ◌∙◌, arith, below_more}
+use Rattle.std.proofs.Common.{false, ℤ, pos, negsuc, refl, sym, ap, ◌∙◌, arith, below_more}
 use Rattle.std.specs.Prelude.{◌*ℤ◌, unsigned_abs}
 use Rattle.std.specs.Int.{abs_diff}
 use Rattle.std.proofs.Math.Nat.{mul-sub, pow-suc, eq_of_mul-eq-mul_left}
-use Rattle.std.proofs.lemmas.Bool.{cases_lt, cases_order, cond_both, lt-ltb, le-ltb, ltb-true, ltb-false}
+use Rattle.std.proofs.lemmas.Bool.{cases_lt, cases_order, cond_both, lt-ltb, ltb-true, ltb-false}
 use Rattle.std.proofs.lemmas.Int.{ints}
 use Rattle.std.proofs.lemmas.Nat.{pow_pos, pow-add, mul-pow}
 use Rattle.font_decimal.specs.Near.{Near}
@@ -127,5 +127,8 @@ magnitudes_close f j (negsuc n) (negsuc b) near = omega (arith, ints)
 -- no number with fewer places rounds to the value
 pub none_fewer : {f p : ℕ} {b : ℤ} (j : ℕ) (n : ℤ) → IsFewest (unsigned_abs b) f p → j < p
     → Near (n *ℤ pos (2 ^ f)) (10 ^ j) b → ⊥
-none_fewer {f = f} {b = b} j n fewest h near = cc (nearest_reads_back (unsigned_abs b) f j (unsigned_abs n)
-    (omega (arith, fewest.few)) (magnitudes_close f j n b near), fewest.before j h)
+none_fewer {f = f} {b = b} j n fewest h near = cc (
+  nearest_reads_back (unsigned_abs b) f j (unsigned_abs n)
+      (omega (arith, fewest.few)) (magnitudes_close f j n b near),
+  fewest.before j h,
+)

@@ -49,8 +49,8 @@ pub put_behind : {done old out new : List ℕ} {at n end : ℕ} (bytes : List �
     → new ≡ take at out ++ (bytes ++ drop (at + n) out) → FillsFront (done ++ bytes) end old new
 put_behind {done = done} {old = old} {out = out} {at = at} {n = n} bytes front long last e =
     let count = front.count in
-    let taken : take at out ≡ done = ap (take at) front.bytes ∙ take_at done (drop at old) at (sym count) in
-    let behind : drop at out ≡ drop at old = ap (drop at) front.bytes ∙ drop_at done (drop at old) at (sym count) in
+    let taken : take at out ≡ done = rw front.bytes (take_at _ _ _ (sym count)) in
+    let behind : drop at out ≡ drop at old = rw front.bytes (drop_at _ _ _ (sym count)) in
     record {
       count = omega (arith, length-append done bytes);
       bytes = e ∙ rw (taken, ← drop-drop n at out, behind, drop-drop n at old, last, append_assoc done bytes);

@@ -1,6 +1,6 @@
 -- The parts of a text, as they are found from its front.
 use Rattle.std.proofs.Common.{◌≡◌, ◌≢◌, ℕ, zero, suc, ◌<◌, ◌≤◌, Bool, true, false, List, [], ◌∷◌, ◌++◌, length, get_or}
-use Rattle.std.proofs.Common.{take, drop, refl, sym, ap, ◌∙◌, arith}
+use Rattle.std.proofs.Common.{take, drop, refl, arith}
 use Rattle.std.proofs.lemmas.List.{take-append-drop, length-take-le}
 use Rattle.std.specs.Str.Parse.{AllDigits}
 use Rattle.std.specs.Char.{digit_value}
@@ -28,7 +28,7 @@ pub fraction_found : {text w e : List ℕ} (len : ℕ) → HasParts text false w
     → len ≤ length text → 10 ≤ digit_value (get_or text len 0) → drop len text ≡ fraction_text e
 fraction_found {text = text} {w = w} {e = e} len parts digits within end =
     let is : text ≡ w ++ fraction_text e = parts.written in
-    rw is (rest_found w (fraction_text e) len parts.whole_digits.1 (no_digit e) (rw is at digits) (rw is at within)
+    rw is (rest_found _ _ len parts.whole_digits.1 (no_digit e) (rw is at digits) (rw is at within)
     (rw is at end))
 
 -- what is found from the front are parts of the text
@@ -36,7 +36,7 @@ pub parts_found : (text e : List ℕ) (len : ℕ) (s : Bool) → AllDigits 10 (t
     → drop len text ≡ fraction_text e → AllDigits 10 e
     → HasParts (sign_text s ++ text) s (take len text) e
 parts_found text e len s digits some within rest fraction = record {
-  written = ap (λ t. sign_text s ++ t) (sym (take-append-drop len text) ∙ ap (λ t. take len text ++ t) rest);
+  written = rw (← rest, take-append-drop len text);
   whole_digits = (rw (length-take-le len text within) some, digits);
   fraction_digits = fraction;
 }

@@ -1,10 +1,10 @@
 -- The first digits of a fraction decide how it is rounded.
 use Rattle.std.proofs.Common.{◌≡◌, ℕ, ◌+◌, ◌-◌, ◌*◌, ◌/◌, ◌%◌, ◌^◌, ◌<◌, ◌≤◌, ◌⊎◌, inl, inr, List, ◌++◌, length, take}
-use Rattle.std.proofs.Common.{min, refl, sym, ap, ◌∙◌, arith}
+use Rattle.std.proofs.Common.{min, ap, ◌∙◌, arith}
 use Rattle.std.proofs.Math.Nat.{mul-le-mul_left, mul-le-mul_right, min_comm, le_of_mul-le-mul_left, lt_of_mul-lt-mul_left}
 use Rattle.std.proofs.Math.Nat.{mul-div-mul_right, div-lt_iff_lt-mul}
 use Rattle.std.proofs.Math.Nat.{one-le-pow, pow-le-pow_left, pow-le-pow_right, mod-eq_of_lt}
-use Rattle.std.specs.Str.Parse.{digits_value, AllDigits}
+use Rattle.std.specs.Str.Parse.{AllDigits}
 use Rattle.std.proofs.lemmas.List.{length-take-le, take_min}
 use Rattle.std.proofs.lemmas.Nat.{pow-add, mul-pow, pow_pos}
 use Rattle.std.proofs.lemmas.Bool.{cases_lt}
@@ -48,7 +48,7 @@ pub half_steps_of_kept : {places numeral power_of_five : ℕ} {e kept : List ℕ
 half_steps_of_kept {places = places} {numeral = numeral} {e = e} {kept = kept} bits p late room places_are joined front
     first second =
     let k = p - places in
-    let digits : AllDigits 10 e = rw joined (digits-append kept late first.0 second) in
+    let digits : AllDigits 10 e = rw joined (digits-append _ _ first.0 second) in
     let count : length kept ≡ places = ap length front ∙ length-take-le places e (omega arith) in
     let taken : kept ≡ take p e = front ∙ rw (places_are, min_comm (length e) p) (take_min p e) in
     let missing : p - length e ≡ k = omega arith in

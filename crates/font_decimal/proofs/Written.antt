@@ -48,8 +48,7 @@ last_value (suc p) n =
 -- the digits in front of the point and behind it write the numeral
 numeral_value : (p n : ℕ) → n / 10 ^ p < 2 ^ 64 → digits_value 10 (decimal (n / 10 ^ p) ++ last_digits p n) ≡ n
 numeral_value p n small =
-    digits_value-append (decimal (n / 10 ^ p)) (last_digits p n)
-    ∙ rw ((decimal_is_IsNumeral (n / 10 ^ p) small).1, last_length p n) (last_value p n)
+    rw (digits_value-append, (decimal_is_IsNumeral (n / 10 ^ p) small).1, last_length p n) (last_value p n)
 
 written_decimal : (s : Bool) (p n : ℕ) → n / 10 ^ p < 2 ^ 64 → Decimal (sign_text s ++ decimal_text n p) (signed s n) p
 written_decimal s p n small = record {
@@ -58,7 +57,7 @@ written_decimal s p n small = record {
   fraction = last_digits p n;
   parts = record {
     written = refl;
-    whole_digits = (decimal_is_IsNumeral (n / 10 ^ p) small).0;
+    whole_digits = (decimal_is_IsNumeral _ small).0;
     fraction_digits = last_all_digits p n;
   };
   numeral = ap (signed s) (sym (numeral_value p n small));
@@ -120,7 +119,7 @@ shortest_is b f small =
       plain = record {
         decimal = text;
         no_needless_zero = no_zero_in_front _ whole;
-        minus = minus_shown b d (not_zero _ _ _ _ (within_half fewest));
+        minus = minus_shown b d (not_zero _ _ _ _ close);
       };
       rounds = record {
         numeral = signed s d;
@@ -176,7 +175,7 @@ length-decimal_text-le m f digits places small some within steps =
     let below = lt_of_mul-lt-mul_right (2 ^ f) (lt_of_le_of_lt (whole_is_within m f) within) in
     let whole = length-decimal-le digits (d / 10 ^ p) some below (whole_fits m f small) in
     let few = few_places m f places steps in
-    omega (arith, length-append (decimal (d / 10 ^ p)) (fraction_text (last_digits p d)), point_length p d)
+    omega (arith, length-append {A = ℕ}, point_length p d)
 
 -- ---- the digits are written from the last one on
 pub last_more : (left n p : ℕ) → left ≡ n / 10 ^ p → (48 + left % 10) ∷ last_digits p n ≡ last_digits (p + 1) n

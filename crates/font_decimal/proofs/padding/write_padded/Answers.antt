@@ -1,5 +1,4 @@
 use Rattle.std.proofs.Common.{◌≡◌, length, arith, refl, sym, ◌∙◌, append_assoc}
-use Rattle.std.specs.Prelude.{replicate}
 use Rattle.std.proofs.lemmas.List.{length-replicate}
 use Rattle.font_decimal.specs.Padding.{padded_text}
 use Rattle.font_decimal.proofs.Padded.{padded_length, put_behind, nothing_yet, pieces, fills_all}

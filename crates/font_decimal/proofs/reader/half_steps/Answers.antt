@@ -1,7 +1,7 @@
-use Rattle.std.proofs.Common.{◌*◌, ◌/◌, ◌%◌, ◌+◌, ◌-◌, ◌^◌, ◌≤◌, ℕ, arith, sym, ◌∙◌, true≢false}
+use Rattle.std.proofs.Common.{◌+◌, ◌^◌, ◌≤◌, ℕ, arith, sym, ◌∙◌, true≢false}
 use Rattle.std.proofs.Math.Nat.{one-le-pow, pow-le-pow_right}
 use Rattle.font_decimal.proofs.Digits.{digits_parts, by_test}
-use Rattle.font_decimal.proofs.Rounding.{HasHalfSteps, half_steps_of_kept, half_steps_below}
+use Rattle.font_decimal.proofs.Rounding.{half_steps_of_kept, half_steps_below}
 use Rattle.font_decimal.proofs.reader.half_steps.Goals as goal
 
 pub returns-then-not-are_digits : goal.returns-then-not-are_digits

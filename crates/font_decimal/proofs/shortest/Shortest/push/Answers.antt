@@ -1,4 +1,4 @@
-use Rattle.std.proofs.Common.{◌≡◌, ◌-◌, ◌+◌, length, arith, length-drop}
+use Rattle.std.proofs.Common.{◌≡◌, ◌-◌, ◌+◌, arith, length-drop}
 use Rattle.std.proofs.lemmas.List.{drop-set}
 use Rattle.font_decimal.specs.Shown.{shown}
 use Rattle.font_decimal.proofs.shortest.Shortest.push.Goals as goal
