@@ -22,5 +22,4 @@ pub order_of_readings : (s t : List ℕ) (f : ℕ) (min max : ℤ) (q r : Result
     → IsReading t f min max r
     → (a b : ℤ) → q ≡ Ok a → r ≡ Ok b → IsAtMost s t → a ≤ℤ b
 order_of_readings s t f min max q r x y a b first second most =
-    let P : List ℕ → Result ℤ DecimalFault → Type 0 = λ text answer. IsReading text f min max answer in
-    rounds_in_order most (subst (P s) first x).rounds (subst (P t) second y).rounds
+    rounds_in_order most (rw first at x).rounds (rw second at y).rounds

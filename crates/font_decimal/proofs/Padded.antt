@@ -59,15 +59,6 @@ put_behind {done = done} {old = old} {out = out} {at = at} {n = n} bytes front l
 pub nothing_yet : (old : List ℕ) → FillsFront [] 0 old old
 nothing_yet old = record { count = refl; bytes = refl }
 
--- the pieces in their order make the padded text
-pub pieces : {sign body : List ℕ} {shown_len : ℕ} (text : List ℕ) (pad : Pad) → sign ≡ shown_sign pad.plus text
-    → body ≡ unsigned_body text → shown_len ≡ max (length sign + length body) pad.width
-    → padded_text text pad ≡ laid_out pad sign body (shown_len - (length sign + length body))
-unfolding padded_text
-pieces {sign = sign} {body = body} {shown_len = shown_len} text pad sign_is body_is shown_is =
-    let spare : shown_len - (length sign + length body) ≡ pad.width - (length sign + length body) = omega arith in
-    rw (spare, sign_is, body_is)
-
 shown_sign_length : (plus : Bool) (text : List ℕ) → length (shown_sign plus text) ≤ 1
 shown_sign_length plus text = cond_both (get_or text 0 0 == 45) _ _ (λ xs. length xs ≤ 1) (λ _. omega arith)
     (λ _. cond_both plus _ _ (λ xs. length xs ≤ 1) (λ _. omega arith) (λ _. omega arith))

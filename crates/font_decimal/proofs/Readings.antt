@@ -66,7 +66,7 @@ reading_unique _ _ _ _ (Err OutOfRange) (Err OutOfRange) x y = refl
 pub answers_as : (text : List ℕ) (f : ℕ) (min max : ℤ) (q r : Result ℤ DecimalFault) → IsReading text f min max q
     → (q ≡ r) ↔ IsReading text f min max r
 answers_as text f min max q r x =
-    (λ e. subst (λ t. IsReading text f min max t) e x, λ y. reading_unique text f min max q r x y)
+    (λ e. rw e at x, λ y. reading_unique text f min max q r x y)
 
 -- two numbers of steps, which are equal or both above 2^63, are equal where one of them is in the range
 same_steps : (s : Bool) (n steps k : ℕ) (min max : ℤ) → FitsSigned w64 min → FitsSigned w64 max

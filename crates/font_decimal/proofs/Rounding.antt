@@ -18,10 +18,8 @@ pub half_steps_halved : (value kept rest k t five : ℕ) → 0 < five → value 
 half_steps_halved value kept rest k t five some is below =
     let h = kept / five in
     let q = (h + 1) / 2 in
-    let few : 2 * q * five ≤ (h + 1) * five = mul-le-mul_right five (omega arith) in
-    let many : h * five ≤ 2 * q * five = mul-le-mul_right five (omega arith) in
-    let from : 2 * q * five ≤ kept + five = omega arith in
-    let to : kept + 1 ≤ 2 * q * five + five = omega arith in
+    let from : 2 * q * five ≤ kept + five = omega (arith, mul-le-mul_right {m = 2 * q} {n = h + 1} five (omega arith)) in
+    let to : kept + 1 ≤ 2 * q * five + five = omega (arith, mul-le-mul_right {m = h} {n = 2 * q} five (omega arith)) in
     let low : five * (2 * (q * k)) ≤ five * (2 * (value * t) + k) = omega (arith, mul-le-mul_right k from) in
     let high : five * (2 * (value * t) + k) < five * (2 * (q * k) + 2 * k) = omega (arith, mul-le-mul_right k to) in
     record { low = le_of_mul-le-mul_left low some; high = lt_of_mul-lt-mul_left five high }

@@ -72,8 +72,8 @@ ascii_sign false = IsAscii-nil
 pub decimal_is_ascii : (text : List ℕ) (n : ℤ) (k : ℕ) → Decimal text n k → IsAscii text
 decimal_is_ascii text n k d =
     let p = d.parts in
-    rw p.written (IsAscii-append (sign_text d.negative) _ (ascii_sign d.negative)
-    (IsAscii-append d.whole _ (IsAscii-from_digits d.whole p.whole_digits.1)
+    rw p.written (IsAscii-append _ _ (ascii_sign d.negative)
+    (IsAscii-append _ _ (IsAscii-from_digits d.whole p.whole_digits.1)
     (ascii_point d.fraction p.fraction_digits)))
 
 pub decimal_is_utf8 : (text : List ℕ) (n : ℤ) (k : ℕ) → Decimal text n k → IsUtf8 text

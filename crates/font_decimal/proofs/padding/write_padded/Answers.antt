@@ -1,7 +1,7 @@
-use Rattle.std.proofs.Common.{◌≡◌, length, arith, refl, sym, ◌∙◌, append_assoc}
+use Rattle.std.proofs.Common.{◌≡◌, ◌+◌, ◌-◌, length, arith, refl, sym, ◌∙◌, append_assoc}
 use Rattle.std.proofs.lemmas.List.{length-replicate}
 use Rattle.font_decimal.specs.Padding.{padded_text}
-use Rattle.font_decimal.proofs.Padded.{padded_length, put_behind, nothing_yet, pieces, fills_all}
+use Rattle.font_decimal.proofs.Padded.{padded_length, put_behind, nothing_yet, fills_all}
 use Rattle.font_decimal.proofs.padding.write_padded.Goals as goal
 
 pub returns-then-out-shown_len-clause-room : goal.returns-then-out-shown_len-clause-room
@@ -12,6 +12,7 @@ returns-then-out-shown_len-clause-room c =
     (λ never. cc, λ fits. absurd (omega arith))
 
 pub returns-clause-written : goal.returns-clause-written
+unfolding padded_text
 returns-clause-written c =
     let first = put_behind _ (nothing_yet c.args.out.now) (length-replicate _ _) c.put_fill-at.ensures.end
     c.put_fill-at.ensures.written in
@@ -19,12 +20,10 @@ returns-clause-written c =
     let third = put_behind _ second (length-replicate _ _) c.put_fill-at-2.ensures.end c.put_fill-at-2.ensures.written in
     let fourth = put_behind _ third refl c.put-at-2.ensures.end c.put-at-2.ensures.written in
     let fifth = put_behind _ fourth (length-replicate _ _) c.put_fill.ensures.end c.put_fill.ensures.written in
-    rw (
-      pieces c.args.text.now c.args.pad.now c.shown_parts.ensures.sign c.shown_parts.ensures.body c.max-shown_len.ensures,
-      c.spread-front.ensures.places,
-      ← c.as_bytes.ensures.value,
-      ← c.as_bytes-2.ensures.value,
-    ) (simp append_assoc at fifth)
+    let len = length c.shown_parts.result.0.now + length c.shown_parts.result.1.now in
+    let spare : c.args.pad.now.width - len ≡ c.max-shown_len.result - len = omega (arith, c.max-shown_len.ensures) in
+    rw (← c.shown_parts.ensures.sign, ← c.shown_parts.ensures.body, spare, c.spread-front.ensures.places,
+    ← c.as_bytes.ensures.value, ← c.as_bytes-2.ensures.value) (simp append_assoc at fifth)
 
 pub returns-clause-fills : goal.returns-clause-fills
 returns-clause-fills c narrow = fills_all _ _ (returns-clause-written c) narrow
