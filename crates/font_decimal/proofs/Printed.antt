@@ -6,10 +6,10 @@ use Rattle.std.specs.Prelude.{◌≤ℤ◌, unsigned_abs, Result, Ok}
 use Rattle.std.specs.Int.{is_negative}
 use Rattle.std.specs.Fmt.{sign_text}
 use Rattle.std.specs.Str.Parse.{AllDigits}
-use Rattle.std.proofs.Math.Nat.{pow-suc, div-div-eq-div-mul, div-one, le_trans}
+use Rattle.std.proofs.Math.Nat.{pow-suc, div-div-eq-div-mul, div-one, lt_of_mul-lt-mul_right, lt_of_le_of_lt}
 use Rattle.std.proofs.lemmas.Int.{ints}
 use Rattle.std.proofs.lemmas.List.{append-nil, same_from_push}
-use Rattle.std.proofs.lemmas.Fmt.{decimal_is_IsNumeral}
+use Rattle.std.proofs.lemmas.Fmt.{decimal_is_IsNumeral, length-decimal-le}
 use Rattle.std.proofs.lemmas.Str.Parse.{digit_from_value}
 use Rattle.font_decimal.specs.Grammar.{HasParts, IsDecimal, fraction_text}
 use Rattle.font_decimal.specs.Reading.{Rounds, IsReading}
@@ -20,7 +20,8 @@ use Rattle.font_decimal.specs.declared.reader.DecimalFault.{DecimalFault}
 use Rattle.font_decimal.proofs.Texts.{same_parts, decimal_unique, decimal_of}
 use Rattle.font_decimal.proofs.Readings.{rounds_unique, reading_unique}
 use Rattle.font_decimal.proofs.Fewest.{IsFewest, fewest_is, zero_drops}
-use Rattle.font_decimal.proofs.Written.{shortest_is, whole_fits, digits_fit, point_length, length-decimal_text-le}
+use Rattle.font_decimal.proofs.Written.{shortest_is, whole_fits, digits_fit, point_length, shown_numeral, shown_whole}
+use Rattle.font_decimal.proofs.Written.{whole_is_within, few_places}
 use Rattle.font_decimal.proofs.Padded.{length-unsigned_body-le}
 
 -- a shortest text is in the grammar
@@ -104,19 +105,17 @@ pub length-shortest_body-lt : (b : ℤ) (f : ℕ) → unsigned_abs b ≤ 2 ^ 63 
 unfolding shortest_text
 length-shortest_body-lt b f small few =
     let m = unsigned_abs b in
-    omega (
-      arith,
-      digits_fit m f small few,
-      point_length (fewest_places m f) (nearest_numeral m f (fewest_places m f)),
-      length-signed_body-le (is_negative b),
-      length-append {A = ℕ},
-    )
+    omega (arith, digits_fit m f small few, point_length (fewest_places m f) (shown_numeral m f),
+    length-signed_body-le (is_negative b), length-append {A = ℕ})
 
--- the digits of the whole part, a point, and the places
+-- where the whole part is below `10 ^ digits` and a step is wider than `1 / 10 ^ places`: the digits, a point, and the
+-- places
 pub length-shortest_body-le : (b : ℤ) (f digits places : ℕ) → unsigned_abs b ≤ 2 ^ 63 → 0 < digits
     → unsigned_abs b < 10 ^ digits * 2 ^ f → 2 ^ f < 10 ^ places
     → length (unsigned_body (shortest_text b f)) ≤ digits + places + 1
 unfolding shortest_text
 length-shortest_body-le b f digits places small some within steps =
-    le_trans (length-signed_body-le (is_negative b) _)
-    (length-decimal_text-le (unsigned_abs b) f digits places small some within steps)
+    let m = unsigned_abs b in
+    let below = lt_of_mul-lt-mul_right (2 ^ f) (lt_of_le_of_lt (whole_is_within m f) within) in
+    omega (arith, length-decimal-le digits (shown_whole m f) some below (whole_fits m f small), few_places m f places steps,
+    point_length (fewest_places m f) (shown_numeral m f), length-signed_body-le (is_negative b), length-append {A = ℕ})

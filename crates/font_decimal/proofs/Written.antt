@@ -89,13 +89,13 @@ whole_within m t ten d w close low =
     omega (arith, lt_of_mul-lt-mul_right ten below)
 
 -- the numeral of the shortest decimal, and its whole part
-abbrev shown_numeral : ℕ → ℕ → ℕ
+abbrev pub shown_numeral : ℕ → ℕ → ℕ
 shown_numeral m f = nearest_numeral m f (fewest_places m f)
 
-abbrev shown_whole : ℕ → ℕ → ℕ
+abbrev pub shown_whole : ℕ → ℕ → ℕ
 shown_whole m f = shown_numeral m f / 10 ^ fewest_places m f
 
-whole_is_within : (m f : ℕ) → shown_whole m f * 2 ^ f ≤ m
+pub whole_is_within : (m f : ℕ) → shown_whole m f * 2 ^ f ≤ m
 whole_is_within m f = whole_within _ _ _ _ _ (within_half (fewest_is m f)) (div-mul-le_self (shown_numeral m f) _)
 
 pub whole_fits : (m f : ℕ) → m ≤ 2 ^ 63 → shown_whole m f < 2 ^ 64
@@ -139,7 +139,7 @@ point_length zero n = omega arith
 point_length (suc p) n = omega (arith, last_length p n)
 
 -- with steps wider than `1 / 10 ^ places`
-few_places : (m f places : ℕ) → 2 ^ f < 10 ^ places → fewest_places m f ≤ places
+pub few_places : (m f places : ℕ) → 2 ^ f < 10 ^ places → fewest_places m f ≤ places
 few_places m f places steps = elim (cases_lt places (fewest_places m f)) [
   | inl more ↦ absurd (omega (arith, pow-suc 10 places, unit_is_below m f, pow-le-pow_right {n = 10} (omega arith) more))
   | inr less ↦ less
@@ -163,19 +163,6 @@ digits_fit m f small few =
       length-decimal-le (20 - p) w (omega arith) (lt_of_mul-lt-mul_right (10 ^ p) below)
           (whole_fits m f small),
     )
-
--- a number whose whole part is below `10 ^ digits`, with steps wider than `1 / 10 ^ places`: its digits, a point, and
--- its places
-pub length-decimal_text-le : (m f digits places : ℕ) → m ≤ 2 ^ 63 → 0 < digits → m < 10 ^ digits * 2 ^ f
-    → 2 ^ f < 10 ^ places
-    → length (decimal_text (shown_numeral m f) (fewest_places m f)) ≤ digits + places + 1
-length-decimal_text-le m f digits places small some within steps =
-    let p = fewest_places m f in
-    let d = shown_numeral m f in
-    let below = lt_of_mul-lt-mul_right (2 ^ f) (lt_of_le_of_lt (whole_is_within m f) within) in
-    let whole = length-decimal-le digits (d / 10 ^ p) some below (whole_fits m f small) in
-    let few = few_places m f places steps in
-    omega (arith, length-append {A = ℕ}, point_length p d)
 
 -- ---- the digits are written from the last one on
 pub last_more : (left n p : ℕ) → left ≡ n / 10 ^ p → (48 + left % 10) ∷ last_digits p n ≡ last_digits (p + 1) n
