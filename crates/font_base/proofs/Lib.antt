@@ -2,5 +2,4 @@ pub mod Widths
 pub mod StdBytes
 pub mod ScalarCalls
 mod ThreeBytes
-mod TwentyFourBits
 mod Rows

@@ -13,7 +13,7 @@ use Rattle.font_base.specs.declared.uint24.Uint24.{Uint24}
 use Rattle.font_base.specs.Uint24.{uint24_number, bytes_of_uint24}
 use Rattle.font_base.specs.declared.int24.Int24.{Int24}
 use Rattle.font_base.specs.Int24.{int24_number, bytes_of_int24}
-use Rattle.font_base.proofs.TwentyFourBits.{uint24_numeral, int24_numeral}
+use Rattle.font_base.proofs.ThreeBytes.{uint24_numeral, int24_numeral}
 
 pub uint24_of_stored : (n : Uint24) (bytes : List ℕ) → bytes_of_uint24 n ≡ bytes → uint24_number n ≡ numeral bytes
 uint24_of_stored n bytes stored = uint24_numeral (uint24_number n) bytes n.in_range (sym stored)

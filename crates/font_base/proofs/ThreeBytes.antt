@@ -1,12 +1,14 @@
 -- The integers of 24 bits and the four bytes of std's integers of 32 bits.
 use Rattle.std.proofs.Common.{◌≡◌, ◌∙◌, sym, ap, refl, subst, ℕ, ◌+◌, ◌*◌, ℤ, pos, ◌*ℤ◌, neg_ℤ, List}
-use Rattle.std.proofs.Common.{[], ◌∷◌, length, get_or, arith, IsTrue}
+use Rattle.std.proofs.Common.{◌^◌, ◌<◌, lit<, [], ◌∷◌, length, get_or, arith, IsTrue}
 use Rattle.std.proofs.lemmas.Int.{ints, to_z-of_z}
 use Rattle.std.specs.Int.{w32, to_be_bytes}
 use mir.Val.{SFits, to_z, of_z}
-use Rattle.font_base.specs.Bytes.{numeral, are_bytes, IsBytesOf}
+use Rattle.font_base.specs.Bytes.{numeral, signed_numeral, are_bytes, bytes_of, IsBytesOf}
+use Rattle.font_base.specs.Wrap.{FitsBits}
 use Rattle.font_base.proofs.StdBytes.{turns_of, of_z-turned}
 use Rattle.font_base.specs.Bytes.Laws.{are_bytes-length, IsBytesOf-numeral, IsBytesOf-high_first, IsBytesOf-apart}
+use Rattle.font_base.specs.Bytes.Laws.{numeral-bytes_of, signed_numeral-bytes_of}
 
 -- the last three of the four bytes of a number
 pub last_three : (m : ℕ) (bytes : List ℕ) → bytes ≡ to_be_bytes w32 m
@@ -39,3 +41,11 @@ from_three bytes slice a b c are same first second third =
     (three slice (ap length same ∙ are_bytes-length 3 bytes are)) in
     let number : numeral bytes ≡ a * 65536 + b * 256 + c = ap numeral (sym same) ∙ rw list (omega arith) in
     subst (λ (n : ℕ). IsBytesOf 3 (pos n) bytes) number (IsBytesOf-numeral 3 bytes are)
+
+-- an unsigned number of three bytes is their numeral
+pub uint24_numeral : (n : ℕ) (bytes : List ℕ) → n < 2 ^ 24 → bytes ≡ bytes_of 3 (pos n) → n ≡ numeral bytes
+uint24_numeral n bytes below given = sym (ap numeral given ∙ numeral-bytes_of 3 n below)
+
+-- a signed number of three bytes is what they say in two's complement
+pub int24_numeral : (z : ℤ) (bytes : List ℕ) → FitsBits 24 z → bytes ≡ bytes_of 3 z → z ≡ signed_numeral 3 bytes
+int24_numeral z bytes fits given = sym (ap (signed_numeral 3) given ∙ signed_numeral-bytes_of 3 z (lit< tt) fits)

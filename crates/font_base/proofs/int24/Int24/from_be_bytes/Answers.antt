@@ -2,7 +2,7 @@ use Rattle.std.proofs.Common.{◌∙◌, sym, arith, pos, negsuc}
 use Rattle.std.proofs.lemmas.Int.{ints}
 use Rattle.font_base.specs.Bytes.Laws.{bytes_of-same}
 use Rattle.font_base.specs.Wrap.{FitsBits}
-use Rattle.font_base.proofs.TwentyFourBits.{int24_numeral}
+use Rattle.font_base.proofs.ThreeBytes.{int24_numeral}
 use Rattle.font_base.proofs.int24.Int24.from_be_bytes.Goals as goal
 use Rattle.font_base.proofs.int24.Int24.from_be_bytes.Goals.{then-unsigned, else-unsigned}
 
