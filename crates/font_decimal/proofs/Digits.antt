@@ -18,7 +18,8 @@ use Rattle.std.proofs.lemmas.Str.Parse.{IsNumeralModel, numerals_by_value, tells
 pub after_is : (n : ℕ) (cs : List ℕ) → digits_value_after 10 n cs ≡ n * 10 ^ length cs + digits_value 10 cs
 after_is n [] = omega arith
 after_is n (c ∷ cs) =
-    rw (after_is (n * 10 + digit_value c) cs, after_is (0 * 10 + digit_value c) cs, pow-suc 10 (length cs)) (omega arith)
+    rw (after_is (n * 10 + digit_value c) cs, after_is (0 * 10 + digit_value c) cs, pow-suc 10 (length cs))
+    (omega arith)
 
 -- digits are read in two goes as in one
 after-append : (n : ℕ) (xs ys : List ℕ) → digits_value_after 10 n (xs ++ ys) ≡ digits_value_after 10
@@ -75,7 +76,8 @@ is_cut p ds h =
     let joined : digits_value 10 ds ≡ front * 10 ^ (k - p) + back =
     rw (← length-drop p ds, ← digits_value-append (take p ds) (drop p ds), take-append-drop) in
     let same : k - p + p ≡ p - k + k = omega arith in
-    let powers : 10 ^ (k - p) * 10 ^ p ≡ 10 ^ (p - k) * 10 ^ k = rw (← pow-add 10 (k - p) p, same) (pow-add 10 (p - k) k) in
+    let powers : 10 ^ (k - p) * 10 ^ p ≡ 10 ^ (p - k) * 10 ^ k =
+    rw (← pow-add 10 (k - p) p, same) (pow-add 10 (p - k) k) in
     let small : back < 10 ^ (k - p) = rw (length-drop p ds) at (digits_value-lt 10 _ (digits_parts p ds h).1) in
     record {
       rest = back * 10 ^ p;
@@ -97,7 +99,8 @@ kept_below p ds h =
     let kept = take p ds in
     let split : p ≡ length kept + (p - length ds) = omega (arith, length-take p ds) in
     rw (ap (λ n. 10 ^ n) split ∙ pow-add 10 (length kept) (p - length ds))
-    (mul-lt-mul_of_pos_right (digits_value-lt 10 _ (digits_parts p ds h).0) (one-le-pow (p - length ds) 10 (omega arith)))
+    (mul-lt-mul_of_pos_right (digits_value-lt 10 _ (digits_parts p ds h).0)
+    (one-le-pow (p - length ds) 10 (omega arith)))
 
 -- these are digits with their number, and five to the power of their count
 abbrev pub HasNumeral : List ℕ → ℕ → ℕ → Type 0

@@ -106,7 +106,8 @@ near_gives n d q h x = near_unique n d q (near n d) h x (near_is n d h)
 
 -- the same for the rule that rounds ties up
 up_at_most : {n : ℤ} {d : ℕ} {q r : ℤ} → Up n d q → Up n d r → q ≤ℤ r
-up_at_most {d = d} {q = q} {r = r} x y = by_lt_z r q (λ more. absurd (omega (arith, ints, times_monotone (r +ℤ pos 1) q d (omega (arith, ints)))))
+up_at_most {d = d} {q = q} {r = r} x y = by_lt_z r q
+    (λ more. absurd (omega (arith, ints, times_monotone (r +ℤ pos 1) q d (omega (arith, ints)))))
     (λ less. less)
 
 pub up_is : (n : ℤ) (d : ℕ) → 0 < d → Up n d (up n d)

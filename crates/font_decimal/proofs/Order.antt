@@ -1,5 +1,5 @@
 -- Reading keeps the order.
-use Rattle.std.proofs.Common.{◌≡◌, ℕ, ◌^◌, List, ℤ, subst}
+use Rattle.std.proofs.Common.{◌≡◌, ℕ, ◌^◌, List, ℤ}
 use Rattle.std.specs.Prelude.{◌≤ℤ◌, Result, Ok}
 use Rattle.font_decimal.specs.Reading.{Rounds, IsReading, IsAtMost}
 use Rattle.font_decimal.specs.declared.reader.DecimalFault.{DecimalFault}

@@ -105,8 +105,13 @@ pub length-shortest_body-lt : (b : ℤ) (f : ℕ) → unsigned_abs b ≤ 2 ^ 63 
 unfolding shortest_text
 length-shortest_body-lt b f small few =
     let m = unsigned_abs b in
-    omega (arith, digits_fit m f small few, point_length (fewest_places m f) (shown_numeral m f),
-    length-signed_body-le (is_negative b), length-append {A = ℕ})
+    omega (
+      arith,
+      digits_fit m f small few,
+      point_length (fewest_places m f) (shown_numeral m f),
+      length-signed_body-le (is_negative b),
+      length-append {A = ℕ},
+    )
 
 -- where the whole part is below `10 ^ digits` and a step is wider than `1 / 10 ^ places`: the digits, a point, and the
 -- places
@@ -117,5 +122,11 @@ unfolding shortest_text
 length-shortest_body-le b f digits places small some within steps =
     let m = unsigned_abs b in
     let below = lt_of_mul-lt-mul_right (2 ^ f) (lt_of_le_of_lt (whole_is_within m f) within) in
-    omega (arith, length-decimal-le digits (shown_whole m f) some below (whole_fits m f small), few_places m f places steps,
-    point_length (fewest_places m f) (shown_numeral m f), length-signed_body-le (is_negative b), length-append {A = ℕ})
+    omega (
+      arith,
+      length-decimal-le digits (shown_whole m f) some below (whole_fits m f small),
+      few_places m f places steps,
+      point_length (fewest_places m f) (shown_numeral m f),
+      length-signed_body-le (is_negative b),
+      length-append {A = ℕ},
+    )

@@ -1,6 +1,6 @@
 -- Each text has just one reading: a value, out of range, or no decimal.
 use Rattle.std.proofs.Common.{◌≡◌, ℕ, ◌+◌, ◌*◌, ◌/◌, ◌^◌, ◌<◌, ◌↔◌, ◌⊎◌, inl, inr, Bool, true, false, List}
-use Rattle.std.proofs.Common.{◌++◌, length, min, ℤ, refl, ap, subst, ◌∙◌, arith}
+use Rattle.std.proofs.Common.{◌++◌, length, min, ℤ, refl, ap, ◌∙◌, arith}
 use Rattle.std.specs.Prelude.{Option, Some, None, Result, Ok, Err, SomeIff, FitsSigned, ◌≤ℤ◌}
 use Rattle.std.specs.Str.Parse.{digits_value}
 use Rattle.std.specs.Option.{ok_or}

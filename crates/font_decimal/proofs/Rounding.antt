@@ -1,12 +1,13 @@
 -- The first digits of a fraction decide how it is rounded.
 use Rattle.std.proofs.Common.{◌≡◌, ℕ, ◌+◌, ◌-◌, ◌*◌, ◌/◌, ◌%◌, ◌^◌, ◌<◌, ◌≤◌, ◌⊎◌, inl, inr, List, ◌++◌, length, take}
 use Rattle.std.proofs.Common.{min, ap, ◌∙◌, arith}
-use Rattle.std.proofs.Math.Nat.{mul-le-mul_left, mul-le-mul_right, min_comm, le_of_mul-le-mul_left, lt_of_mul-lt-mul_left}
-use Rattle.std.proofs.Math.Nat.{mul-div-mul_right, div-lt_iff_lt-mul}
+use Rattle.std.proofs.Math.Nat.{mul-le-mul_left, mul-le-mul_right, min_comm, le_of_mul-le-mul_left}
+use Rattle.std.proofs.Math.Nat.{lt_of_mul-lt-mul_left}
+use Rattle.std.proofs.Math.Nat.{mul-div-mul_right}
 use Rattle.std.proofs.Math.Nat.{one-le-pow, pow-le-pow_left, pow-le-pow_right, mod-eq_of_lt}
 use Rattle.std.specs.Str.Parse.{AllDigits}
 use Rattle.std.proofs.lemmas.List.{length-take-le, take_min}
-use Rattle.std.proofs.lemmas.Nat.{pow-add, mul-pow, pow_pos}
+use Rattle.std.proofs.lemmas.Nat.{pow-add, mul-pow, pow_pos, div_below}
 use Rattle.std.proofs.lemmas.Bool.{cases_lt}
 use Rattle.font_decimal.proofs.Near.{IsNearMagnitude}
 use Rattle.font_decimal.proofs.Digits.{digits-append, kept_below, kept_numeral, HasNumeral}
@@ -18,8 +19,10 @@ pub half_steps_halved : (value kept rest k t five : ℕ) → 0 < five → value 
 half_steps_halved value kept rest k t five some is below =
     let h = kept / five in
     let q = (h + 1) / 2 in
-    let from : 2 * q * five ≤ kept + five = omega (arith, mul-le-mul_right {m = 2 * q} {n = h + 1} five (omega arith)) in
-    let to : kept + 1 ≤ 2 * q * five + five = omega (arith, mul-le-mul_right {m = h} {n = 2 * q} five (omega arith)) in
+    let from : 2 * q * five ≤ kept + five =
+    omega (arith, mul-le-mul_right {m = 2 * q} {n = h + 1} five (omega arith)) in
+    let to : kept + 1 ≤ 2 * q * five + five =
+    omega (arith, mul-le-mul_right {m = h} {n = 2 * q} five (omega arith)) in
     let low : five * (2 * (q * k)) ≤ five * (2 * (value * t) + k) = omega (arith, mul-le-mul_right k from) in
     let high : five * (2 * (value * t) + k) < five * (2 * (q * k) + 2 * k) = omega (arith, mul-le-mul_right k to) in
     record { low = le_of_mul-le-mul_left low some; high = lt_of_mul-lt-mul_left five high }
@@ -37,7 +40,7 @@ HasHalfSteps p e halves = AllDigits 10 e × (halves ≡ kept_numeral p e / 5 ^ p
 -- a fraction below 1 has fewer half steps than there are in 1
 pub half_steps_below : {halves : ℕ} (p : ℕ) (e : List ℕ) → HasHalfSteps p e halves → halves < 2 ^ p
 half_steps_below p e found = rw found.1
-    ((div-lt_iff_lt-mul (one-le-pow p 5 (omega arith))).1 (rw (← mul-pow 2 5 p) (kept_below p e found.0)))
+    (div_below _ _ _ (one-le-pow p 5 (omega arith)) (rw (← mul-pow 2 5 p) (kept_below p e found.0)))
 
 pub half_steps_of_kept : {places numeral power_of_five : ℕ} {e kept : List ℕ} (bits p : ℕ) (late : List ℕ)
     → 10 ^ p ≤ 2 ^ bits → places ≡ min (length e) p
@@ -68,7 +71,7 @@ steps_capped f v whole r few cut = elim (cases_lt (2 ^ (63 - f)) v) [
   | inl large ↦
       let above : (2 ^ (63 - f) + 1) * 2 ^ f ≤ v * 2 ^ f = mul-le-mul_right (2 ^ f) (omega arith) in
       let marked : whole ≡ 2 ^ (63 - f) + 1 = omega arith in
-      inr (rw marked (omega (arith, full_steps f few, pow_pos f)), omega (arith, full_steps f few, pow_pos f))
+      inr (rw marked (omega (arith, full_steps f few, pow_pos f)))
   | inr small ↦ inl (ap (λ n. n * 2 ^ f + r) (omega arith))
 ]
 

@@ -27,8 +27,8 @@ pub record SameParts (s t : Bool) (v w e g : List ℕ) : Type 0 where
   pub fraction : e ≡ g
 
 -- two texts that agree have the same digits on each side of the point
-same_split : (s : Bool) (v w e g : List ℕ) → AllDigits 10 v → AllDigits 10 w → v ++ fraction_text e ≡ w ++ fraction_text g
-    → SameParts s s v w e g
+same_split : (s : Bool) (v w e g : List ℕ) → AllDigits 10 v → AllDigits 10 w
+    → v ++ fraction_text e ≡ w ++ fraction_text g → SameParts s s v w e g
 same_split s [] [] e g p q h = record { negative = refl; whole = refl; fraction = same_point e g h }
 same_split s [] (c ∷ w) e g p q h = absurd (no_point c w e g q.0 h)
 same_split s (c ∷ v) [] e g p q h = absurd (no_point c v g e p.0 (sym h))

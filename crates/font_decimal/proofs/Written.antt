@@ -2,14 +2,13 @@
 -- bytes long.
 use Rattle.std.proofs.Common.{◌≡◌, ℕ, zero, suc, ◌+◌, ◌-◌, ◌*◌, ◌/◌, ◌%◌, ◌^◌, ◌<◌, ◌≤◌, inl, inr, Bool, true≢false, []}
 use Rattle.std.proofs.Common.{◌∷◌, ◌++◌, length, get_or, ℤ, pos, negsuc, refl, sym, ap, subst, ◌∙◌, arith, add-one}
-use Rattle.std.proofs.Common.{length-append}
 use Rattle.std.specs.Prelude.{◌*ℤ◌, ◌<ℤ◌, ◌↔◌, IsTrue, unsigned_abs}
 use Rattle.std.specs.Int.{is_negative, abs_diff}
 use Rattle.std.specs.Fmt.{decimal, sign_text}
 use Rattle.std.specs.Str.Parse.{digits_value, AllDigits}
 use Rattle.std.specs.Char.{digit_value}
 use Rattle.std.proofs.Math.Nat.{mul-le-mul_right, pow-suc, div-div-eq-div-mul, div-mul-le_self, div-add-mod'}
-use Rattle.std.proofs.Math.Nat.{lt_of_le_of_lt, le-mul_of_pos_right, mul-le-mul_left, pow-le-pow_right}
+use Rattle.std.proofs.Math.Nat.{le-mul_of_pos_right, mul-le-mul_left, pow-le-pow_right}
 use Rattle.std.proofs.Math.Nat.{lt_of_mul-lt-mul_right, add-mul-div_left, add-mul-mod_self_right}
 use Rattle.std.proofs.lemmas.Bool.{cases_lt, le-ltb}
 use Rattle.std.proofs.lemmas.Int.{ints}
@@ -141,7 +140,8 @@ point_length (suc p) n = omega (arith, last_length p n)
 -- with steps wider than `1 / 10 ^ places`
 pub few_places : (m f places : ℕ) → 2 ^ f < 10 ^ places → fewest_places m f ≤ places
 few_places m f places steps = elim (cases_lt places (fewest_places m f)) [
-  | inl more ↦ absurd (omega (arith, pow-suc 10 places, unit_is_below m f, pow-le-pow_right {n = 10} (omega arith) more))
+  | inl more ↦ absurd
+      (omega (arith, pow-suc 10 places, unit_is_below m f, pow-le-pow_right {n = 10} (omega arith) more))
   | inr less ↦ less
 ]
 
@@ -176,7 +176,12 @@ last_behind : (p w n : ℕ) → last_digits p (n + 10 ^ p * w) ≡ last_digits p
 last_behind zero w n = refl
 last_behind (suc p) w n =
     let split : n + 10 ^ suc p * w ≡ n + 10 ^ p * (w * 10) = rw (pow-suc 10 p) (omega arith) in
-    rw (split, add-mul-div_left n (w * 10) (ten_pos p), add-mul-mod_self_right (n / 10 ^ p) w 10, last_behind p (w * 10) n)
+    rw (
+      split,
+      add-mul-div_left n (w * 10) (ten_pos p),
+      add-mul-mod_self_right (n / 10 ^ p) w 10,
+      last_behind p (w * 10) n,
+    )
 
 -- ---- what the writer makes of a magnitude, and that there is room for it
 module _ (m f whole fraction places : ℕ) (few : places ≡ fewest_places m f)

@@ -7,7 +7,7 @@ use Rattle.font_decimal.proofs.padding.write_padded.Goals as goal
 pub returns-then-out-shown_len-clause-room : goal.returns-then-out-shown_len-clause-room
 returns-then-out-shown_len-clause-room c =
     let long : length (padded_text c.args.text.now c.args.pad.now) ≡ c.max-shown_len.result =
-    padded_length _ _ ∙ rw (sym c.shown_parts.ensures.sign, sym c.shown_parts.ensures.body)
+    padded_length _ _ ∙ rw (← c.shown_parts.ensures.sign, ← c.shown_parts.ensures.body)
     (sym c.max-shown_len.ensures) in
     (λ never. cc, λ fits. absurd (omega arith))
 
@@ -17,13 +17,20 @@ returns-clause-written c =
     let first = put_behind _ (nothing_yet c.args.out.now) (length-replicate _ _) c.put_fill-at.ensures.end
     c.put_fill-at.ensures.written in
     let second = put_behind _ first refl c.put-at.ensures.end c.put-at.ensures.written in
-    let third = put_behind _ second (length-replicate _ _) c.put_fill-at-2.ensures.end c.put_fill-at-2.ensures.written in
+    let third = put_behind _ second (length-replicate _ _) c.put_fill-at-2.ensures.end
+    c.put_fill-at-2.ensures.written in
     let fourth = put_behind _ third refl c.put-at-2.ensures.end c.put-at-2.ensures.written in
     let fifth = put_behind _ fourth (length-replicate _ _) c.put_fill.ensures.end c.put_fill.ensures.written in
     let len = length c.shown_parts.result.0.now + length c.shown_parts.result.1.now in
     let spare : c.args.pad.now.width - len ≡ c.max-shown_len.result - len = omega (arith, c.max-shown_len.ensures) in
-    rw (← c.shown_parts.ensures.sign, ← c.shown_parts.ensures.body, spare, c.spread-front.ensures.places,
-    ← c.as_bytes.ensures.value, ← c.as_bytes-2.ensures.value) (simp append_assoc at fifth)
+    rw (
+      ← c.shown_parts.ensures.sign,
+      ← c.shown_parts.ensures.body,
+      spare,
+      c.spread-front.ensures.places,
+      ← c.as_bytes.ensures.value,
+      ← c.as_bytes-2.ensures.value,
+    ) (simp append_assoc at fifth)
 
 pub returns-clause-fills : goal.returns-clause-fills
 returns-clause-fills c narrow = fills_all _ _ (returns-clause-written c) narrow
@@ -31,6 +38,6 @@ returns-clause-fills c narrow = fills_all _ _ (returns-clause-written c) narrow
 pub returns-clause-room : goal.returns-clause-room
 returns-clause-room c =
     let long : length (padded_text c.args.text.now c.args.pad.now) ≡ c.max-shown_len.result =
-    padded_length _ _ ∙ rw (sym c.shown_parts.ensures.sign, sym c.shown_parts.ensures.body)
+    padded_length _ _ ∙ rw (← c.shown_parts.ensures.sign, ← c.shown_parts.ensures.body)
     (sym c.max-shown_len.ensures) in
     (λ _. omega arith, λ _. refl)

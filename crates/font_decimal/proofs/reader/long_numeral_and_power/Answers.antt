@@ -12,17 +12,20 @@ returns-in_err-low c = rw c.from_residual-in_err-low.ensures
 
 pub overflow_mul-numeral : goal.overflow_mul-numeral
 overflow_mul-numeral c =
-    let whole = numeral_of_parts _ _ c.requires c.split_at.ensures.by_index.0 c.in_ok-high.ensures c.in_ok-low.ensures in
+    let whole = numeral_of_parts _ _ c.requires c.split_at.ensures.by_index.0 c.in_ok-high.ensures
+    c.in_ok-low.ensures in
     rw (c.from.ensures, c.from-2.ensures, whole.tens) (omega (arith, whole.numeral, whole.fits))
 
 pub overflow_add-numeral : goal.overflow_add-numeral
 overflow_add-numeral c =
-    let whole = numeral_of_parts _ _ c.requires c.split_at.ensures.by_index.0 c.in_ok-high.ensures c.in_ok-low.ensures in
+    let whole = numeral_of_parts _ _ c.requires c.split_at.ensures.by_index.0 c.in_ok-high.ensures
+    c.in_ok-low.ensures in
     rw (c.from.ensures, c.from-2.ensures, c.from-3.ensures, whole.tens) (omega (arith, whole.numeral, whole.fits))
 
 pub returns : goal.returns
 returns c =
-    let whole = numeral_of_parts _ _ c.requires c.split_at.ensures.by_index.0 c.in_ok-high.ensures c.in_ok-low.ensures in (
+    let whole = numeral_of_parts _ _ c.requires c.split_at.ensures.by_index.0 c.in_ok-high.ensures
+    c.in_ok-low.ensures in (
       whole.digits,
       rw (c.from.ensures, c.from-2.ensures, c.from-3.ensures, whole.tens) whole.numeral,
       rw (c.from-4.ensures, c.from-5.ensures) whole.power_of_five,

@@ -14,7 +14,12 @@ returns-in_default c =
     let reading = no_decimal _ _ _ (sym c.as_bytes.ensures.value ∙ sign.ensures.minus)
     (rw c.as_bytes.ensures.value at sign.ensures.plain) c.in_default.ensures.none in
     let tells = λ (r : Result ℤ DecimalFault). answers_as text c.args.f c.args.min c.args.max (Err Syntax) r reading in
-    record { ok = λ b. tells (Ok b); reading = reading; out_of_range = tells (Err OutOfRange); syntax = tells (Err Syntax) }
+    record {
+      ok = λ b. tells (Ok b);
+      reading = reading;
+      out_of_range = tells (Err OutOfRange);
+      syntax = tells (Err Syntax);
+    }
 
 pub returns : goal.returns
 returns c =
@@ -26,5 +31,11 @@ returns c =
     let rounds = rw (← sign.ensures.minus, c.as_bytes.ensures.value) at (found.2 sign.result.0) in
     let reading : IsReading text c.args.f c.args.min c.args.max c.ok_or.result = rw c.ok_or.ensures.value
     (judged_by_range _ _ _ _ _ _ min_fits max_fits found.1 rounds (simp to_z-of_z at c.in_range.ensures)) in
-    let tells = λ (r : Result ℤ DecimalFault). answers_as text c.args.f c.args.min c.args.max c.ok_or.result r reading in
-    record { ok = λ b. tells (Ok b); reading = reading; out_of_range = tells (Err OutOfRange); syntax = tells (Err Syntax) }
+    let tells = λ (r : Result ℤ DecimalFault).
+    answers_as text c.args.f c.args.min c.args.max c.ok_or.result r reading in
+    record {
+      ok = λ b. tells (Ok b);
+      reading = reading;
+      out_of_range = tells (Err OutOfRange);
+      syntax = tells (Err Syntax);
+    }

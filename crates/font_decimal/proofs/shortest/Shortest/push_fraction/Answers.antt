@@ -8,7 +8,9 @@ fraction_length : (p n : ℕ) (text old : List ℕ) → text ≡ last_digits p n
 fraction_length p n text old e = rw (e, length-append, last_length p n)
 
 pub push-requires : goal.push-requires
-push-requires c = (omega arith, omega (arith, c.requires, fraction_length _ _ _ (shown c.args.self.now) c.loop-place.invariant.digits))
+push-requires c =
+    let long = fraction_length _ _ _ (shown c.args.self.now) c.loop-place.invariant.digits in
+    (omega arith, omega (arith, c.requires))
 
 pub loop-place-preserved : goal.loop-place-preserved
 loop-place-preserved c =
@@ -20,4 +22,5 @@ loop-place-preserved c =
 
 pub push-requires-then-places-gt0 : goal.push-requires-then-places-gt0
 push-requires-then-places-gt0 c =
-    (omega arith, omega (arith, c.requires, fraction_length _ _ _ (shown c.args.self.now) c.loop-place.invariant.digits))
+    let long = fraction_length _ _ _ (shown c.args.self.now) c.loop-place.invariant.digits in
+    (omega arith, omega (arith, c.requires))
