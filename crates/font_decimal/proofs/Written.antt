@@ -45,10 +45,6 @@ last_value (suc p) n =
     (omega (arith, last_value p n, ap (λ k. k * 10 ^ p) (div-add-mod' m 10)))
 
 -- the digits in front of the point and behind it write the numeral
-numeral_value : (p n : ℕ) → n / 10 ^ p < 2 ^ 64 → digits_value 10 (decimal (n / 10 ^ p) ++ last_digits p n) ≡ n
-numeral_value p n small =
-    rw (digits_value-append, (decimal_is_IsNumeral (n / 10 ^ p) small).1, last_length p n) (last_value p n)
-
 written_decimal : (s : Bool) (p n : ℕ) → n / 10 ^ p < 2 ^ 64 → Decimal (sign_text s ++ decimal_text n p) (signed s n) p
 written_decimal s p n small = record {
   negative = s;
@@ -59,7 +55,7 @@ written_decimal s p n small = record {
     whole_digits = (decimal_is_IsNumeral _ small).0;
     fraction_digits = last_all_digits p n;
   };
-  numeral = ap (signed s) (sym (numeral_value p n small));
+  numeral = rw (digits_value-append, (decimal_is_IsNumeral (n / 10 ^ p) small).1, last_length p n, last_value p n);
   places = sym (last_length p n);
 }
 
@@ -145,15 +141,12 @@ few_places m f places steps = elim (cases_lt places (fewest_places m f)) [
   | inr less ↦ less
 ]
 
-step_below : (f : ℕ) → f ≤ 30 → 2 ^ f < 10 ^ 10
-step_below f few = omega (arith, pow-le-pow_right {n = 2} (omega arith) few)
-
 -- room for at most 20 digits in all
 pub digits_fit : (m f : ℕ) → m ≤ 2 ^ 63 → f ≤ 30 → length (decimal (shown_whole m f)) + fewest_places m f ≤ 20
 digits_fit m f small few =
     let p = fewest_places m f in
     let w = shown_whole m f in
-    let places : p ≤ 10 = few_places m f 10 (step_below f few) in
+    let places : p ≤ 10 = few_places m f 10 (omega (arith, pow-le-pow_right {n = 2} (omega arith) few)) in
     let split : 10 ^ 20 ≡ 10 ^ (20 - p) * 10 ^ p = ap (λ n. 10 ^ n) (let e : 20 ≡ 20 - p + p = omega arith in e)
     ∙ pow-add 10 (20 - p) p in
     let below : w * 10 ^ p < 10 ^ (20 - p) * 10 ^ p =
