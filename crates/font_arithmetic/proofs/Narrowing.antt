@@ -1,12 +1,11 @@
 -- Numbers rounded with ties upwards, as code has it: half a step is added, and what lies above the greatest multiple of
 -- a step is dropped.
-use Rattle.std.proofs.Common.{◌≡◌, ◌∙◌, ap, refl, ℕ, ◌+◌, ◌-◌, ◌*◌, ◌/◌, ◌^◌, ◌<◌, ◌≤◌, Bool, ℤ, pos, neg_ℤ}
-use Rattle.std.proofs.Common.{◌+ℤ◌, ◌*ℤ◌, ◌-ℤ◌, ◌≤ℤ◌, ◌<ℤ◌, arith, IsTrue, nat_lt, ◌&&◌, ◌==◌}
+use Rattle.std.proofs.Common.{◌≡◌, ◌∙◌, ap, refl, ℕ, ◌+◌, ◌-◌, ◌*◌, ◌/◌, ◌^◌, ◌<◌, ◌≤◌, Bool, ℤ, pos, neg_ℤ, ◌+ℤ◌, ◌*ℤ◌}
+use Rattle.std.proofs.Common.{◌-ℤ◌, ◌≤ℤ◌, ◌<ℤ◌, arith, IsTrue, nat_lt, ◌&&◌, ◌==◌, pow_pos, SFits, to_z, of_z}
 use Rattle.std.proofs.lemmas.Int.{ints, by_lt_z, to_z-of_z}
-use Rattle.std.proofs.lemmas.Nat.{pow_pos}
 use Rattle.std.proofs.lemmas.Bool.Decides.{nat_tests}
 use Rattle.std.specs.Int.{Width}
-use mir.Val.{SFits, to_z, of_z, bits, hbits}
+use mir.Val.{bits, hbits}
 use lib.Signed.{shr_z}
 use Rattle.font_base.specs.Integers.{sum-times, product-times}
 use Rattle.font_base.specs.Wrap.{half_range, wrap, FitsBits}

@@ -1,12 +1,11 @@
 -- What a decimal text is read as, from the number that the reader gives.
-use Rattle.std.proofs.Common.{◌≡◌, ◌∙◌, sym, ap, ℕ, ◌+◌, ◌*◌, ◌/◌, ◌^◌, ◌<◌, ◌≤◌, List, ℤ, ◌-◌, length}
-use Rattle.std.proofs.Common.{max, unsigned_abs, Option, IsSome, Result, Ok, Err, IfOk, ◌↔◌, arith, Bool, IsTrue}
-use Rattle.std.proofs.Common.{nat_lt, ◌&&◌}
+use Rattle.std.proofs.Common.{◌≡◌, ◌∙◌, sym, ap, ℕ, ◌+◌, ◌*◌, ◌/◌, ◌^◌, ◌<◌, ◌≤◌, List, ℤ, ◌-◌, length, max}
+use Rattle.std.proofs.Common.{unsigned_abs, Option, IsSome, Result, Ok, Err, IfOk, ◌↔◌, arith, Bool, IsTrue, nat_lt}
+use Rattle.std.proofs.Common.{◌&&◌, pow_pos, SFits, to_z, of_z}
 use Rattle.std.proofs.lemmas.Int.{ints, to_z-of_z}
-use Rattle.std.proofs.lemmas.Nat.{pow_pos}
 use Rattle.std.proofs.lemmas.Bool.Decides.{nat_tests}
 use Rattle.std.specs.Int.{Width, w64}
-use mir.Val.{SFits, to_z, of_z, bits, hbits}
+use mir.Val.{bits, hbits}
 use Rattle.font_base.proofs.Widths.{half_range-bits, signed_fits}
 use Rattle.font_base.specs.Wrap.{FitsBits}
 use Rattle.std.specs.Result.{result_map_both}

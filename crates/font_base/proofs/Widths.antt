@@ -1,11 +1,11 @@
 -- Wrapping at the widths of std's number types, in the words of std.
 use Rattle.std.proofs.Common.{◌≡◌, ◌∙◌, sym, ap, refl, ℕ, suc, ◌-◌, ◌^◌, ◌<◌, ℤ, pos, negsuc, lit<, inl, inr, arith}
+use Rattle.std.proofs.Common.{pow_pos, SFits, to_z}
 use Rattle.std.proofs.lemmas.Int.{ints, to_z_pos}
-use Rattle.std.proofs.lemmas.Nat.{pow_pos}
 use Rattle.std.proofs.lemmas.Bool.{cases_lt}
 use Rattle.std.proofs.Math.Facts.{to_z-neg}
 use Rattle.std.specs.Int.{int_wrap, Width, w8, w16, w32, w64, w128}
-use mir.Val.{SFits, to_z, bits, hbits}
+use mir.Val.{bits, hbits}
 use Rattle.font_base.specs.Wrap.{half_range, FitsBits, wrap}
 use Rattle.font_base.specs.Wrap.Laws.{two_halves, remainder, wrap_gives, wrap_same}
 

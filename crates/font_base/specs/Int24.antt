@@ -1,7 +1,6 @@
 -- The signed integer of 24 bits (OpenType, data types: int24).
 pub mod Laws
-use Rattle.std.specs.Prelude.{ℕ, ℤ, pos, neg_ℤ, List}
-use Rattle.std.proofs.Common.{lit<}
+use Rattle.std.proofs.Common.{ℕ, ℤ, pos, neg_ℤ, List, lit<}
 use Rattle.font_base.specs.Wrap.{wrap}
 use Rattle.font_base.specs.Wrap.Laws.{wrap_is}
 use Rattle.font_base.specs.Bytes.{bytes_of, signed_numeral}

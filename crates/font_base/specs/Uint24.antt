@@ -1,8 +1,7 @@
 -- The unsigned integer of 24 bits (OpenType, data types: uint24).
 pub mod Laws
-use Rattle.std.specs.Prelude.{ℕ, ◌%◌, ◌^◌, ◌<◌, Bool, List, pos}
 use Rattle.std.proofs.Math.Nat.{mod-lt}
-use Rattle.std.proofs.Common.{lit<}
+use Rattle.std.proofs.Common.{ℕ, ◌%◌, ◌^◌, ◌<◌, Bool, List, pos, lit<}
 use Rattle.font_base.specs.Bytes.{numeral, bytes_of}
 use Rattle.font_base.specs.declared.uint24.Uint24.{Uint24}
 

@@ -1,8 +1,7 @@
 -- A sum of products over two lists of one length, item by item.
 use Rattle.std.proofs.Common.{◌≡◌, ◌∙◌, ap, ℕ, ◌+◌, ◌<◌, ◌≤◌, List, length, take, get_or, ℤ, pos, ◌+ℤ◌, ◌*ℤ◌, arith}
-use Rattle.std.specs.Prelude.{fold}
+use Rattle.std.proofs.Common.{fold, take_all}
 use Rattle.std.specs.List.{zip}
-use Rattle.std.proofs.lemmas.List.{take_all}
 use Rattle.std.proofs.lemmas.List.Sums.{fold_more}
 use Rattle.std.proofs.lemmas.Slice.Zip.{length-zip, get_or-zip}
 use Rattle.font_c.specs.Sums.{sum_of_products}

@@ -1,11 +1,8 @@
 -- No decimal is empty, and none that is padded; and what room is enough.
 use Rattle.std.proofs.Common.{ℕ, ◌+◌, ◌<◌, ◌≤◌, ℤ, max, Bool, true, false, List, [], ◌∷◌, ◌++◌, length, drop, ap, arith}
-use Rattle.std.proofs.Common.{length-append, ◌==◌, if◌then◌else◌}
-use Rattle.std.proofs.lemmas.Int.{ints}
-use Rattle.std.specs.Prelude.{slice_index}
+use Rattle.std.proofs.Common.{length-append, ◌==◌, if◌then◌else◌, slice_index, SFits}
 use Rattle.std.specs.Int.{w64}
-use borrow.Author.Differences.{abs_is}
-use mir.Val.{SFits}
+use borrow.Author.Differences.{ints, abs_is}
 use Rattle.std.specs.Fmt.{sign_text}
 use Rattle.font_decimal.specs.Grammar.{IsDecimal, fraction_text}
 use Rattle.font_decimal.specs.Padding.{padded_text, unsigned_body}

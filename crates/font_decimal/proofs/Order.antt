@@ -1,6 +1,5 @@
 -- Reading keeps the order.
-use Rattle.std.proofs.Common.{◌≡◌, ℕ, ◌^◌, List, ℤ}
-use Rattle.std.specs.Prelude.{◌≤ℤ◌, Result, Ok}
+use Rattle.std.proofs.Common.{◌≡◌, ℕ, ◌^◌, List, ℤ, ◌≤ℤ◌, Result, Ok}
 use Rattle.font_decimal.specs.Reading.{Rounds, IsReading, IsAtMost}
 use Rattle.font_decimal.specs.declared.reader.DecimalFault.{DecimalFault}
 use Rattle.font_decimal.proofs.Integers.{swap_factors, times_monotone}

@@ -1,14 +1,13 @@
 -- What callers rely on of printed texts.
 use Rattle.std.proofs.Common.{◌≡◌, ◌≢◌, ℕ, zero, suc, ◌+◌, ◌*◌, ◌/◌, ◌%◌, ◌^◌, ◌<◌, ◌≤◌, Bool, true, false, List, []}
-use Rattle.std.proofs.Common.{◌∷◌, ◌++◌, length, get_or, ℤ, refl, arith, append_assoc}
-use Rattle.std.proofs.Common.{length-append}
-use Rattle.std.specs.Prelude.{◌≤ℤ◌, unsigned_abs, Result, Ok}
+use Rattle.std.proofs.Common.{◌∷◌, ◌++◌, length, get_or, ℤ, refl, arith, append_assoc, length-append, ◌≤ℤ◌}
+use Rattle.std.proofs.Common.{unsigned_abs, Result, Ok, append-nil}
 use Rattle.std.specs.Int.{is_negative}
 use Rattle.std.specs.Fmt.{sign_text}
 use Rattle.std.specs.Str.Parse.{AllDigits}
 use Rattle.std.proofs.Math.Nat.{pow-suc, div-div-eq-div-mul, div-one, lt_of_mul-lt-mul_right, lt_of_le_of_lt}
 use Rattle.std.proofs.lemmas.Int.{ints}
-use Rattle.std.proofs.lemmas.List.{append-nil, same_from_push}
+use Rattle.std.proofs.lemmas.List.{same_from_push}
 use Rattle.std.proofs.lemmas.Fmt.{decimal_is_IsNumeral, length-decimal-le}
 use Rattle.std.proofs.lemmas.Str.Parse.{digit_from_value}
 use Rattle.font_decimal.specs.Grammar.{HasParts, IsDecimal, fraction_text}

@@ -1,11 +1,10 @@
 -- What is left of a value m / 2^f behind its first p places.
 use Rattle.std.proofs.Common.{◌≡◌, ◌≢◌, ℕ, ◌+◌, ◌-◌, ◌*◌, ◌/◌, ◌%◌, ◌^◌, ◌<◌, ◌≤◌, inl, inr, false, ap, zero, suc}
-use Rattle.std.proofs.Common.{arith, add-one}
-use Rattle.std.specs.Prelude.{min}
+use Rattle.std.proofs.Common.{arith, add-one, min, lt-ltb, le-ltb, pow_pos}
 use Rattle.std.specs.Int.{abs_diff}
 use Rattle.std.proofs.Math.Nat.{pow-suc, div-add-mod', mul-le-mul_right}
-use Rattle.std.proofs.lemmas.Bool.{cases_lt, lt-ltb, le-ltb}
-use Rattle.std.proofs.lemmas.Nat.{pow_pos, div_below}
+use Rattle.std.proofs.lemmas.Bool.{cases_lt}
+use Rattle.std.proofs.lemmas.Nat.{div_below}
 use Rattle.font_decimal.specs.Shortest.{nearest_numeral, reads_back}
 use Rattle.font_decimal.proofs.Near.{near_magnitude_unique}
 use Rattle.font_decimal.proofs.Fewest.{IsFewest, zero_drops, within_half, rounded_at}

@@ -88,8 +88,8 @@ composed_close : (p q d : ℤ) (b : Matrix ℤ) (at : Point ℤ) →
     (affine_form ◌+ℤ◌ rounded_product p b.dx q b.dy d))
 composed_close p q d b at =
     let once = linear_form ◌+ℤ◌ rounded_product in
-    let close = row_close 65536 65536 (once p b.xx q b.yx) (once p b.xy q b.yy) (once p b.dx q b.dy +ℤ d) at.x at.y _ _ _
-    (linear_close p b.xx q b.yx) (linear_close p b.xy q b.yy) (affine_close p b.dx q b.dy d) in
+    let close = row_close 65536 65536 (once p b.xx q b.yx) (once p b.xy q b.yy) (once p b.dx q b.dy +ℤ d) at.x at.y
+    _ _ _ (linear_close p b.xx q b.yx) (linear_close p b.xy q b.yy) (affine_close p b.dx q b.dy d) in
     rw (← by_columns p q d b at) (omega (arith, sums, close))
 
 in_turn_close : (p q d : ℤ) (b : Matrix ℤ) (at : Point ℤ) →

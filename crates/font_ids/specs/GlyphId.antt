@@ -1,7 +1,6 @@
 -- Glyph identifiers (OpenType: glyphs of a font are numbered from 0; data types uint16 and uint24 hold the numbers).
-use Rattle.std.specs.Prelude.{ℕ, List, ◌++◌}
+use Rattle.std.specs.Prelude.{ℕ, List, ◌++◌, codes}
 use Rattle.std.specs.Fmt.{decimal}
-use lib.Chars.{codes}
 use Rattle.font_base.specs.declared.uint24.Uint24.{Uint24}
 use Rattle.font_base.specs.Uint24.{uint24_number}
 use Rattle.font_ids.specs.declared.glyph_id.GlyphId16.{GlyphId16}

@@ -1,8 +1,7 @@
 -- Name identifiers. (OpenType, name IDs: 0 to 25 without 15 are predefined, those up to 255 are reserved for standard
 -- names, and 256 to 32767 are for the font's own)
-use Rattle.std.specs.Prelude.{ℕ, List, [], ◌∷◌, ◌++◌, ◌==◌, if◌then◌else◌, nat_le, map, filter}
+use Rattle.std.specs.Prelude.{ℕ, List, [], ◌∷◌, ◌++◌, ◌==◌, if◌then◌else◌, nat_le, map, filter, codes}
 use Rattle.std.specs.Fmt.{decimal}
-use lib.Chars.{codes}
 use Rattle.font_ids.specs.declared.name_id.NameId.{NameId}
 use Rattle.font_ids.specs.declared.name_id.Predefined.{Predefined}
 

@@ -1,11 +1,11 @@
 -- Good bytes, index by index, and where others go wrong.
-use Rattle.std.proofs.Common.{◌≡◌, ◌≢◌, ap, ℕ, ◌+◌, ◌-◌, ◌<◌, ◌≤◌, List, ◌++◌, length, take}
-use Rattle.std.proofs.Common.{replicate, get_or, arith, min, drop, Option, None, Some, unwrap_or, MatchOption, rules}
+use Rattle.std.proofs.Common.{◌≡◌, ◌≢◌, ap, ℕ, ◌+◌, ◌-◌, ◌<◌, ◌≤◌, List, ◌++◌, length, take, replicate, get_or, arith}
+use Rattle.std.proofs.Common.{min, drop, Option, None, Some, unwrap_or, MatchOption, rules, take_all, length-drop}
+use Rattle.std.proofs.Common.{append_assoc}
 use Rattle.std.specs.List.{AllWithin, HoldsAt}
 use Rattle.std.specs.Option.{option_map}
 use Rattle.std.proofs.lemmas.Grind.{elements}
-use Rattle.std.proofs.lemmas.List.{take_all, length-drop, places}
-use Rattle.std.proofs.lemmas.List.{drop-replicate, append_assoc, replicate-append-replicate}
+use Rattle.std.proofs.lemmas.List.{places, drop-replicate, replicate-append-replicate}
 use Rattle.std.proofs.lemmas.List.Elements.{All-from_get_or}
 use Rattle.font_tags.specs.Tag.{IsVisible, IsGood, IsFault, four_spaces, filled}
 

@@ -1,6 +1,5 @@
 -- How the bits of a version are printed.
-use Rattle.std.proofs.Common.{◌≡◌, ap, ℕ, ◌-◌, false, Some, List, [], ◌++◌, length, replicate, arith}
-use Rattle.std.proofs.lemmas.List.{append-nil}
+use Rattle.std.proofs.Common.{◌≡◌, ap, ℕ, ◌-◌, false, Some, List, [], ◌++◌, length, replicate, arith, append-nil}
 use Rattle.std.specs.Fmt.{digits, digits_output, styled_digits_output, format_spec, padded_integral, char_count}
 use Rattle.std.specs.Fmt.{WritesOnOk, DisplaysOnOk, ◌++?◌}
 use Rattle.font_tags.specs.Version.{hex_text}

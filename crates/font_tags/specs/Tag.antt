@@ -2,10 +2,9 @@
 -- design-variation axis, script, language system, feature, or baseline")
 pub mod Laws
 use Rattle.std.specs.Prelude.{◌≡◌, ◌≢◌, ℕ, ◌+◌, ◌-◌, ◌/◌, ◌%◌, ◌<◌, ◌≤◌, ◌⊎◌, List, [], ◌∷◌, ◌++◌, length, take}
-use Rattle.std.specs.Prelude.{replicate, All, slice_index, nat_le, ◌&&◌, true, if◌then◌else◌, Result, Ok, Err}
+use Rattle.std.specs.Prelude.{replicate, All, slice_index, nat_le, ◌&&◌, true, if◌then◌else◌, Result, Ok, Err, codes}
 use Rattle.std.specs.List.{flat_map}
 use Rattle.std.specs.Fmt.{digit_glyph}
-use lib.Chars.{codes}
 use Rattle.font_tags.specs.declared.tag.Tag.{Tag}
 use Rattle.font_tags.specs.declared.tag.InvalidTag.{InvalidTag}
 use Rattle.font_tags.specs.declared.tag.InvalidTag.TheVariants.{InvalidLength, InvalidByte, ByteAfterSpace}

@@ -1,9 +1,8 @@
 -- Version numbers of tables.
 pub mod Laws
 use Rattle.std.specs.Prelude.{◌≡◌, ℕ, ◌+◌, ◌-◌, ◌*◌, ◌/◌, ◌%◌, ◌≤◌, min, pos, false, List, ◌++◌, length, replicate}
-use Rattle.std.specs.Prelude.{take, drop}
+use Rattle.std.specs.Prelude.{take, drop, codes}
 use Rattle.std.specs.Fmt.{decimal, digits}
-use lib.Chars.{codes}
 use Rattle.font_base.specs.Bytes.{numeral, bytes_of}
 use Rattle.font_tags.specs.declared.version.Version16Dot16.{Version16Dot16}
 use Rattle.font_tags.specs.declared.version.MajorMinor.{MajorMinor}

@@ -1,10 +1,8 @@
 -- What callers name once of narrowings: what lies from -1 to 1 stays there, and a whole number, or a widened one, comes
 -- back. Widened numbers of 16 bits have exact differences.
 use Rattle.std.proofs.Common.{◌≡◌, ◌∙◌, sym, ap, refl, lit<, ℕ, ◌-◌, ◌*◌, ◌^◌, ◌<◌, ℤ, pos, neg_ℤ, ◌+ℤ◌, ◌*ℤ◌, ◌-ℤ◌}
-use Rattle.std.proofs.Common.{◌≤ℤ◌, ◌<ℤ◌, arith, w16, w32, w64}
+use Rattle.std.proofs.Common.{◌≤ℤ◌, ◌<ℤ◌, arith, w16, w32, w64, pow_pos, SFits, to_z, of_z}
 use Rattle.std.proofs.lemmas.Int.{ints, by_lt_z, to_z-of_z}
-use Rattle.std.proofs.lemmas.Nat.{pow_pos}
-use mir.Val.{SFits, to_z, of_z}
 use Rattle.font_base.specs.Integers.{sum-times, product-times}
 use Rattle.font_base.specs.Wrap.{wrap, FitsBits}
 use Rattle.font_base.specs.Wrap.Laws.{wrap-fits, wrap_is, wrap_same}

@@ -1,10 +1,9 @@
 -- What callers name once of sums that wrap at each step: each is the exact sum, wrapped.
 use Rattle.std.proofs.Common.{◌≡◌, ◌∙◌, sym, ap, ℕ, ◌+◌, ◌<◌, List, length, take, get_or, ℤ, pos, ◌+ℤ◌, lit<, arith}
-use Rattle.std.proofs.Common.{◌%◌, w16}
+use Rattle.std.proofs.Common.{◌%◌, w16, SFits, to_z, of_z}
 use Rattle.std.proofs.Math.IntN.{+ℤ_assoc}
 use Rattle.std.proofs.lemmas.Int.{ints, wrapping_add_onto}
 use Rattle.std.proofs.lemmas.List.Sums.{fold_more}
-use mir.Val.{SFits, to_z, of_z}
 use Rattle.font_base.proofs.Widths.{int_wrap-wrap}
 use Rattle.font_base.specs.Wrap.{wrap}
 use Rattle.font_base.specs.Wrap.Laws.{wrap-add_left, wrap-add_right}

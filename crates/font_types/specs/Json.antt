@@ -1,9 +1,8 @@
 -- JSON forms of scalars. All of it is the project's own rule, but for what JSON itself has: texts, numbers and objects.
 pub mod Laws
 use Rattle.std.specs.Prelude.{◌≡◌, ℕ, ◌-◌, ◌^◌, ℤ, Bool, IsTrue, ◌&&◌, int_le, if◌then◌else◌, List, Option, Some, None}
-use Rattle.std.specs.Prelude.{option_and_then, is_some, pos, IsUtf8, Result, Ok, Err}
+use Rattle.std.specs.Prelude.{option_and_then, is_some, pos, IsUtf8, Result, Ok, Err, codes}
 use Rattle.std.specs.Result.{result_map_both}
-use lib.Chars.{codes}
 use Rattle.serde_json.specs.Data.{Data, object, member, no_members, number, unsigned}
 use Rattle.serde_json.specs.Find.{as_number, as_integer, as_object, as_str, get, of_integer}
 use Rattle.font_decimal.specs.Grammar.{IsNoDecimal}

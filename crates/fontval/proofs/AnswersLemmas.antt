@@ -1,6 +1,5 @@
 -- Answering line after line.
-use Rattle.std.proofs.Common.{◌≡◌, ℕ, List, [], ◌∷◌, ◌++◌, refl, append_assoc}
-use Rattle.std.proofs.lemmas.List.{append-nil}
+use Rattle.std.proofs.Common.{◌≡◌, ℕ, List, [], ◌∷◌, ◌++◌, refl, append_assoc, append-nil}
 use Rattle.fontval.specs.Answers.{Answers, AnswersLines, AppendsAnswer}
 use Rattle.fontval.specs.Text.{lines_of}
 use Rattle.fontval.proofs.OneAnswer.{only_answer}

@@ -1,7 +1,5 @@
 -- What is read of named words, said of tags, and where points go.
-use Rattle.std.proofs.Common.{◌≡◌, ◌≢◌, ℕ, List, [], ◌∷◌, ◌++◌, Result, Ok, Err, refl}
-use Rattle.std.proofs.Common.{sym, ◌∙◌, rules}
-use Rattle.std.specs.Prelude.{ℤ, ◌/◌}
+use Rattle.std.proofs.Common.{◌≡◌, ◌≢◌, ℕ, List, [], ◌∷◌, ◌++◌, Result, Ok, Err, refl, sym, ◌∙◌, rules, ℤ, ◌/◌}
 use Rattle.std.specs.Result.{result_map_both}
 use Rattle.hex.specs.Hex.{encode_lower}
 use Rattle.font_types.specs.Bytes.{bytes_of}

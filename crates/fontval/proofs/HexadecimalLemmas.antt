@@ -1,7 +1,6 @@
 -- Bytes in hexadecimal are text, and hold no blank.
-use Rattle.std.proofs.Common.{◌≡◌, ◌<◌, ◌∷◌, [], List, ℕ, get_or, true, nat_lt, Ok, IsOk}
-use Rattle.std.proofs.Common.{refl, length, arith, false}
-use Rattle.std.proofs.lemmas.Bool.{ltb-true}
+use Rattle.std.proofs.Common.{◌≡◌, ◌<◌, ◌∷◌, [], List, ℕ, get_or, true, nat_lt, Ok, IsOk, refl, length, arith, false}
+use Rattle.std.proofs.Common.{ltb-true}
 use Rattle.std.proofs.lemmas.Bool.Decides.{nat_tests}
 use Rattle.std.proofs.lemmas.List.Sums.{AllPass-from_list_all}
 use Rattle.std.proofs.lemmas.Str.Ascii.{IsAscii-from_all}

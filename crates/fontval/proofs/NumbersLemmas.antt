@@ -1,9 +1,8 @@
 -- Reading just so many numbers, one word after another.
 use Rattle.std.proofs.Common.{◌≡◌, ◌≢◌, ℕ, ℤ, ◌+◌, ◌<◌, ◌≤◌, arith, length, take, set, List, [], ◌∷◌, Ok, Err, refl, ap}
-use Rattle.std.proofs.Common.{◌∙◌}
-use Rattle.std.proofs.lemmas.List.{take_more_set, length-set}
+use Rattle.std.proofs.Common.{◌∙◌, length-set, eq-eqb, ne_eqb}
+use Rattle.std.proofs.lemmas.List.{take_more_set}
 use Rattle.std.proofs.Math.Seq.{take-length}
-use Rattle.std.proofs.lemmas.Bool.{eq-eqb, ne_eqb}
 use Rattle.font_types.specs.DecimalFault.TheVariants.{Syntax}
 use Rattle.font_types.specs.Grammar.{IsNoDecimal}
 use Rattle.font_types.specs.fixed.Fixed.{Fixed}

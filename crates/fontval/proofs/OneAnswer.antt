@@ -1,8 +1,6 @@
 -- An input has one answer: each definition on the way from a line to its text has one result.
-use Rattle.std.proofs.Common.{◌≡◌, ℕ, ℤ, Bool, List, [], ◌∷◌, length}
-use Rattle.std.proofs.Common.{Option, Some, None, Result, Ok, Err, MatchResult, sym, ◌∙◌, arith}
-use Rattle.std.proofs.Common.{get_or, rules}
-use Rattle.std.specs.Prelude.{◌%◌, ◌==◌, if◌then◌else◌}
+use Rattle.std.proofs.Common.{◌≡◌, ℕ, ℤ, Bool, List, [], ◌∷◌, length, Option, Some, None, Result, Ok, Err, MatchResult}
+use Rattle.std.proofs.Common.{sym, ◌∙◌, arith, get_or, rules, ◌%◌, ◌==◌, if◌then◌else◌}
 use Rattle.std.specs.Bool.{MatchBool}
 use Rattle.std.specs.Result.{result_map_both}
 use Rattle.std.specs.Str.{bytes_eq}
@@ -16,8 +14,8 @@ use Rattle.fontval.specs.Command.{AnswersWords, IsAnswer, IsNamed, IsNamedType, 
 use Rattle.fontval.specs.Command.{integer, name_of, only_bytes}
 use Rattle.fontval.specs.Deltas.{Varies, sum_of, varied_answer}
 use Rattle.fontval.specs.Images.{ShowsImages}
-use Rattle.fontval.specs.Numbers.{ReadsEach, ReadsFixed, ReadsJust, ReadsNumber, ReadsTerm, ReadsTerms}
-use Rattle.fontval.specs.Numbers.{ReadsWhole, AndThen, pairs_of}
+use Rattle.fontval.specs.Numbers.{ReadsEach, ReadsFixed, ReadsJust, ReadsNumber, ReadsTerm, ReadsTerms, ReadsWhole}
+use Rattle.fontval.specs.Numbers.{AndThen, pairs_of}
 use Rattle.fontval.specs.Text.{lines_of, words_of}
 use Rattle.fontval.specs.declared.command.Command.{Command}
 use Rattle.fontval.specs.declared.command.Command.TheVariants.{Integer, FixedPoint, Read, Tag, Image, Sum, Vary}

@@ -1,6 +1,5 @@
 -- Reading one thing after another.
-use Rattle.std.proofs.Common.{◌≡◌, List, [], ◌∷◌, ◌++◌, Result, Ok, Err, refl, ◌∙◌, append_assoc}
-use Rattle.std.proofs.lemmas.List.{append-nil}
+use Rattle.std.proofs.Common.{◌≡◌, List, [], ◌∷◌, ◌++◌, Result, Ok, Err, refl, ◌∙◌, append_assoc, append-nil}
 use Rattle.fontval.specs.Numbers.{ReadsEach}
 use Rattle.fontval.specs.declared.refusal.Refusal.{Refusal}
 

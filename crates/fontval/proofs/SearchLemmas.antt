@@ -1,16 +1,14 @@
 -- The first byte that passes a test, sought in blocks.
-use Rattle.std.proofs.Common.{◌≡◌, ℕ, suc, ◌+◌, ◌*◌, ◌%◌, ◌^◌, ◌<◌, ◌≤◌, eqb, Bool, cond, List, [], ◌∷◌}
-use Rattle.std.proofs.Common.{length, map, replicate, take, drop, refl, sym, ap, ◌∙◌, arith, Some, None, rules}
+use Rattle.std.proofs.Common.{◌≡◌, ℕ, suc, ◌+◌, ◌*◌, ◌%◌, ◌^◌, ◌<◌, ◌≤◌, eqb, Bool, cond, List, [], ◌∷◌, length, map}
+use Rattle.std.proofs.Common.{replicate, take, drop, refl, sym, ap, ◌∙◌, arith, Some, None, rules, ◌||◌, not, position}
+use Rattle.std.proofs.Common.{lt-ltb, take-append-drop, bit_or}
 use Rattle.std.specs.List.{position_or_len}
-use Rattle.std.specs.Prelude.{◌||◌, not, position}
-use Rattle.std.proofs.lemmas.Bool.{lt-ltb}
 use Rattle.std.proofs.lemmas.Grind.{common_steps}
-use Rattle.std.proofs.lemmas.List.{length-map, take-append-drop}
+use Rattle.std.proofs.lemmas.List.{length-map}
 use Rattle.std.proofs.lemmas.List.Folds.{prefix_len-append}
 use Rattle.std.proofs.lemmas.List.Sums.{prefix_len-le-length}
 use Rattle.std.proofs.lemmas.Simd.{leading_from_mask_l, trailing_mask_l, mask_l-mod, zip2_of_maps, zip2_splat}
 use lib.Lanes.{mask_l, top, zip2}
-use lib.Bits.{bit_or}
 use lib.Count.{count_trailing_zeros}
 use Rattle.fontval.specs.Text.{is_blank}
 

@@ -1,7 +1,6 @@
 -- Reading terms, two words at a time.
-use Rattle.std.proofs.Common.{◌≡◌, ℕ, ℤ, ◌%◌, Bool, true, false, arith, length, List, [], ◌∷◌, ◌++◌, Ok, Err, refl}
-use Rattle.std.proofs.Common.{ap, ◌∙◌}
-use Rattle.std.specs.Prelude.{◌==◌}
+use Rattle.std.proofs.Common.{◌≡◌, ℕ, ℤ, ◌%◌, Bool, true, false, arith, length, List, [], ◌∷◌, ◌++◌, Ok, Err, refl, ap}
+use Rattle.std.proofs.Common.{◌∙◌, ◌==◌}
 use Rattle.font_types.specs.fixed.Fixed.{Fixed}
 use Rattle.fontval.specs.Numbers.{ReadsTerm, ReadsTerms, pairs_of}
 use Rattle.fontval.specs.Text.{words_of}

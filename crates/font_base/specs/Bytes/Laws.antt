@@ -1,9 +1,8 @@
 -- That a number and its bytes determine each other.
 use Rattle.std.proofs.Common.{◌≡◌, ◌∙◌, sym, ap, subst, refl, ℕ, zero, suc, ◌+◌, ◌*◌, ◌/◌, ◌%◌, ◌^◌, ◌<◌, Bool, true, ℤ}
 use Rattle.std.proofs.Common.{pos, ◌+ℤ◌, ◌*ℤ◌, List, [], ◌∷◌, length, get_or, fold, arith, IsTrue, nat_lt, ◌==◌, lit<}
+use Rattle.std.proofs.Common.{pow-add, div-add-mod', eq-eqb, eqb-true, lt-ltb, ltb-true}
 use Rattle.std.proofs.lemmas.Int.{ints}
-use Rattle.std.proofs.lemmas.Nat.{pow-add, div-add-mod'}
-use Rattle.std.proofs.lemmas.Bool.{eq-eqb, eqb-true, lt-ltb, ltb-true}
 use Rattle.std.proofs.Math.Nat.{pow-suc, add-mul, mul_assoc, add_comm, mod-lt, mod-eq_of_lt, one-le-pow}
 use Rattle.std.proofs.Math.Nat.{add-mul-div_right, add-mul-mod_self_right}
 use Rattle.std.specs.Cmp.{first_so, second_so}

@@ -1,13 +1,13 @@
 -- That wrapping has one answer, and what wrapping does to sums, opposites and what is wrapped.
 use Rattle.std.proofs.Common.{◌≡◌, ◌∙◌, sym, ap, refl, ℕ, zero, suc, ◌+◌, ◌-◌, ◌*◌, ◌/◌, ◌%◌, ◌^◌, ◌<◌, ◌≤◌, ℤ, pos}
-use Rattle.std.proofs.Common.{negsuc, ◌+ℤ◌, ◌*ℤ◌, neg_ℤ, ◌≤ℤ◌, ◌<ℤ◌, true, int_le, int_lt, IsTrue, arith}
-use Rattle.std.proofs.lemmas.Int.{ints, by_lt_z}
+use Rattle.std.proofs.Common.{negsuc, ◌+ℤ◌, ◌*ℤ◌, neg_ℤ, ◌≤ℤ◌, ◌<ℤ◌, true, int_le, int_lt, IsTrue, arith, pow_pos}
+use Rattle.std.proofs.Common.{pow-add, div-add-mod'}
+use Rattle.std.proofs.lemmas.Int.{by_lt_z}
 use Rattle.std.proofs.Math.Nat.{mul-le-mul_right, pow-suc, add-mul, mod-lt}
-use Rattle.std.proofs.lemmas.Nat.{pow_pos, pow-add, div-add-mod'}
 use Rattle.std.specs.Cmp.{first_so, second_so}
 use Rattle.std.specs.Cmp.Derive.{both_true}
 use Rattle.std.specs.Int.{int_rem_euclid}
-use borrow.Author.Differences.{up, down}
+use borrow.Author.Differences.{ints, up, down}
 use Rattle.font_base.specs.Integers.{sum-times, product-times}
 use Rattle.font_base.specs.Wrap.{half_range, FitsBits, fits_bits, IsWrapped, wrap}
 

@@ -1,11 +1,11 @@
 -- That a pair of numbers and its four bytes determine each other, and that equality joins no two pairs.
-use Rattle.std.proofs.Common.{◌≡◌, ◌∙◌, sym, ap, refl, ℕ, ◌^◌, ◌+◌, true, ◌&&◌, ◌==◌, nat_eq, nat_lt, pos, List}
-use Rattle.std.proofs.Common.{◌++◌, IsTrue, take, drop, length, arith}
+use Rattle.std.proofs.Common.{◌≡◌, ◌∙◌, sym, ap, refl, ℕ, ◌^◌, ◌+◌, true, ◌&&◌, ◌==◌, nat_eq, nat_lt, pos, List, ◌++◌}
+use Rattle.std.proofs.Common.{IsTrue, take, drop, length, arith, eq-eqb, length-append, length-take-le, length-drop}
+use Rattle.std.proofs.Common.{take-append-drop, take_at, drop_at}
 use Rattle.std.specs.Bool.{Decides}
 use Rattle.std.specs.Cmp.{unsigned_Decides}
 use Rattle.std.specs.List.{list_all}
-use Rattle.std.proofs.lemmas.Bool.{and_parts, and_from, eq-eqb}
-use Rattle.std.proofs.lemmas.List.{length-append, length-take-le, length-drop, take-append-drop, take_at, drop_at}
+use Rattle.std.proofs.lemmas.Bool.{and_parts, and_from}
 use Rattle.std.proofs.lemmas.List.Folds.{list_all-append}
 use Rattle.font_base.specs.Bytes.{numeral, are_bytes, bytes_of}
 use Rattle.font_base.specs.Bytes.Laws.{is_byte, are_bytes-length, are_bytes-bytes_of, bytes_of-numeral, unsigned_value}

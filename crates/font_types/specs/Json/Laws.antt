@@ -1,6 +1,6 @@
 -- That what is shown as JSON is read back.
 use Rattle.std.proofs.Common.{◌≡◌, ◌∙◌, sym, ap, refl, negsuc, ℕ, ◌-◌, ◌^◌, ◌≤◌, ℤ, pos, List, ◌++◌, length, replicate}
-use Rattle.std.proofs.Common.{true, nat_lt, IsUtf8, IsTrue, Result, Ok, Err, ◌&&◌, int_le, arith}
+use Rattle.std.proofs.Common.{true, nat_lt, IsUtf8, IsTrue, Result, Ok, Err, ◌&&◌, int_le, arith, ltb-true, append-nil}
 use Rattle.std.proofs.lemmas.Int.{ints}
 use Rattle.std.specs.Result.{result_map_both}
 use Rattle.serde_json.specs.Data.{Data, string, number}
@@ -8,7 +8,7 @@ use Rattle.serde_json.specs.Find.{as_str, of_integer}
 use Rattle.font_base.specs.Wrap.{fits_bits}
 use Rattle.font_base.specs.Wrap.Laws.{fits_bits-true}
 use Rattle.font_decimal.specs.Shortest.{shortest_text}
-use Rattle.font_decimal.proofs.Readings.{rounds_unique}
+use Rattle.font_decimal.proofs.Readings.{rounds_unique, not_outside}
 use Rattle.font_arithmetic.specs.Operations.{ReadsAs, least, greatest}
 use Rattle.font_arithmetic.proofs.Texts.{printed_reads}
 use Rattle.font_types.specs.declared.json.JsonFault.{JsonFault}
@@ -19,14 +19,11 @@ use Rattle.font_types.specs.Json.{ReadsDecimal, number_within, IsTagMade, IsTagR
 use Rattle.font_types.specs.Json.{version_read, ReadsVersion}
 use Rattle.std.specs.Cmp.{first_so, second_so}
 use Rattle.std.specs.Cmp.Derive.{both_true}
-use Rattle.std.proofs.lemmas.Bool.{ltb-true}
-use Rattle.std.proofs.lemmas.List.{append-nil}
 use Rattle.font_base.specs.Bytes.{are_bytes}
 use Rattle.font_base.specs.Bytes.Laws.{are_bytes-length}
 use Rattle.font_tags.specs.declared.tag.Tag.{Tag}
 use Rattle.font_tags.specs.declared.version.MajorMinor.{MajorMinor}
 use Rattle.font_tags.specs.Tag.{tag_bytes, tag_of, filled}
-use Rattle.font_decimal.proofs.Readings.{not_outside}
 
 -- a printed number is read as itself
 text_reads_back : (w f : ℕ) (text : List ℕ) (b : ℤ) (result : Result ℤ JsonFault) → ReadsAs w f text b

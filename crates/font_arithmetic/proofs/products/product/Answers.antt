@@ -1,5 +1,4 @@
-use Rattle.std.proofs.Common.{rules}
-use Rattle.std.proofs.lemmas.Nat.{pow_pos}
+use Rattle.std.proofs.Common.{rules, pow_pos}
 use Rattle.font_arithmetic.proofs.Steps.{product_32}
 use Rattle.font_arithmetic.proofs.products.product.Goals as goal
 

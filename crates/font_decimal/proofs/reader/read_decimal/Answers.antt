@@ -1,5 +1,4 @@
-use Rattle.std.proofs.Common.{ℤ, sym, w64, FitsSigned, to_z-of_z, ◌∙◌}
-use Rattle.std.specs.Prelude.{Ok, Err, Result}
+use Rattle.std.proofs.Common.{ℤ, sym, w64, FitsSigned, to_z-of_z, ◌∙◌, Ok, Err, Result}
 use Rattle.font_decimal.specs.Reading.{IsReading}
 use Rattle.font_decimal.specs.declared.reader.DecimalFault.{DecimalFault}
 use Rattle.font_decimal.specs.declared.reader.DecimalFault.TheVariants.{Syntax, OutOfRange}

@@ -1,7 +1,6 @@
 use Rattle.std.proofs.Common.{rules}
 use Rattle.font_base.specs.Bytes.Laws.{bytes_of_gives}
-use Rattle.font_base.proofs.ThreeBytes.{from_three}
-use Rattle.font_base.proofs.ThreeBytes.{uint24_numeral}
+use Rattle.font_base.proofs.ThreeBytes.{from_three, uint24_numeral}
 use Rattle.font_base.proofs.uint24.Uint24.from_be_bytes.Goals as goal
 
 pub returns-clause-bytes : goal.returns-clause-bytes

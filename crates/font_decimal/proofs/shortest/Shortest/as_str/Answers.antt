@@ -1,5 +1,4 @@
-use Rattle.std.proofs.Common.{◌-◌, ◌≤◌, length, drop, arith, length-drop, ◌∙◌}
-use Rattle.std.proofs.lemmas.List.{take_all}
+use Rattle.std.proofs.Common.{◌-◌, ◌≤◌, length, drop, arith, length-drop, ◌∙◌, take_all}
 use Rattle.std.proofs.lemmas.Str.{IsUtf8-from_ascii, IsAscii-drop}
 use Rattle.font_decimal.specs.Shown.{shown}
 use Rattle.font_decimal.proofs.shortest.Shortest.as_str.Goals as goal

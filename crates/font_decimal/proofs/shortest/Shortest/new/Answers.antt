@@ -1,6 +1,4 @@
-use Rattle.std.proofs.Common.{◌≡◌, arith, length-append, ◌∙◌, w64, FitsSigned, to_z-of_z}
-use Rattle.std.specs.Prelude.{unsigned_abs}
-use Rattle.std.proofs.lemmas.List.{append-nil}
+use Rattle.std.proofs.Common.{◌≡◌, arith, length-append, ◌∙◌, w64, FitsSigned, to_z-of_z, unsigned_abs, append-nil}
 use Rattle.font_decimal.specs.Shown.{shown}
 use Rattle.font_decimal.specs.Shortest.{shortest_text}
 use Rattle.font_decimal.proofs.Written.{shortest_is, text_is, digits_room, point_length}

@@ -1,6 +1,5 @@
 use Rattle.std.proofs.Common.{rules, ◌≡◌, ◌∙◌, List, [], ◌∷◌, ◌++◌, take, drop, length, arith, sym, ap, refl}
-use Rattle.std.proofs.Common.{slice_index_or, pos}
-use Rattle.std.proofs.lemmas.List.{take-append-drop}
+use Rattle.std.proofs.Common.{slice_index_or, pos, take-append-drop}
 use Rattle.font_types.specs.Matrix.{elements_of}
 use Rattle.font_types.specs.Fixed.{fixed_of}
 use Rattle.fontval.proofs.images.MoveFromArrayFixed14.from.Goals as goal
