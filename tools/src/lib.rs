@@ -2,6 +2,7 @@
 //! library, and the files of the repository.
 
 pub mod exact;
+pub mod header;
 pub mod lists;
 pub mod pages;
 pub mod program;
