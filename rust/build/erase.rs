@@ -15,6 +15,7 @@
 //! - a path from `crate` or from the name of a crate, since the crates become modules of one;
 //! - `fmt<W: fmt::Write>` over a `Formatter<W>`, which in Rust has no such parameter;
 //! - `clone(&self) -> Result<T, AllocError>` of a `Copy` type, which returns the value of its `Ok`;
+//! - a slice that an `extern "C"` function takes, which becomes a pointer and a length;
 //! - a function with a body is `#[inline]`, if it says nothing of that itself, so that callers in
 //!   other crates have it as callers in its own; and `const` where the list says so.
 //!
@@ -35,6 +36,9 @@ pub struct Crate<'a> {
     pub errors: &'a str,
     /// The functions that are `const`: the type or else the crate that they belong to, and a name.
     pub constant: &'a [(&'a str, &'a str)],
+    /// What stands in front of the items of a file of the program or of the exports, which brings
+    /// in the names that Rattle's std has.
+    pub prelude: &'a str,
 }
 
 /// The Rust of a file, and those of its functions that were made `const`.
@@ -60,7 +64,7 @@ pub fn erase<'a>(source: &'a str, of: &'a Crate) -> Result<Erased<'a>, Fault> {
         is_hinted: false,
         constant: Vec::new(),
     };
-    let mut at = 0;
+    let mut at = eraser.head()?;
     while at < eraser.words.len() {
         at = eraser.step(at)?;
     }
@@ -91,6 +95,19 @@ struct Eraser<'a> {
 
 impl<'a> Eraser<'a> {
     // ---- what stands here
+
+    // The attributes of the file itself, and then what its items begin with.
+    fn head(&mut self) -> Result<usize, Fault> {
+        let mut at = 0;
+        while self.words[at..].starts_with(&["#", "!"]) {
+            at = self.attribute(at, at + 2)?;
+        }
+        let items = self.places.get(at).copied().unwrap_or_default();
+        let is_docs = |token: &Token| token.kind == Kind::Doc && token.text.starts_with("///");
+        let docs = self.tokens[..items].iter().position(is_docs);
+        self.put[docs.unwrap_or(items)].push_str(self.of.prelude);
+        Ok(at)
+    }
 
     // Decides on the words that stand here, and returns where the next ones stand.
     fn step(&mut self, at: usize) -> Result<usize, Fault> {
@@ -162,7 +179,9 @@ impl<'a> Eraser<'a> {
     fn is_left_out(&self, at: usize) -> bool {
         match self.words[at..] {
             ["use", "thiserror", "::", "Error", ";", ..] => true,
-            ["use", "std", "::", "alloc", "::", "AllocError", ";", ..] => true,
+            ["use", "std", "::", "alloc", "::", "AllocError", ";", ..] => {
+                self.of.prelude.is_empty()
+            }
             ["use", "crate", "::", name, ..] | ["use" | "mod", name, ..] => {
                 self.of.left_out.contains(&name)
             }
@@ -175,7 +194,9 @@ impl<'a> Eraser<'a> {
         let end = self.group_end(open)?;
         match self.words[open + 1..end] {
             ["tactic", ..] => Ok(self.leave_out(at..end)),
-            ["error", "(", text, ")", "]"] if self.of.errors.contains(text) => {
+            ["error", "(", text, ")", "]"]
+                if !self.of.prelude.is_empty() || self.of.errors.contains(text) =>
+            {
                 Ok(self.leave_out(at..end))
             }
             ["error", ..] => self.fault(at, "the text of an error that rust/errors.rs has not"),
@@ -188,6 +209,7 @@ impl<'a> Eraser<'a> {
                 self.is_hinted = true;
                 Ok(end)
             }
+            ["cold" | "repr" | "unsafe", ..] => Ok(end),
             _ => self.fault(at, "an attribute that is not known"),
         }
     }
@@ -217,10 +239,14 @@ impl<'a> Eraser<'a> {
         let front = match self.words[..at] {
             [.., "pub"] => at - 1,
             [.., "{" | "}" | ";" | "]"] | [] => at,
+            [.., "pub", "extern", "\"C\""] => return self.export(at),
             _ => return self.fault(at, "a function of another form"),
         };
-        if self.has_body(at)? && !std::mem::take(&mut self.is_hinted) {
+        if self.body(at)?.is_some() && !std::mem::take(&mut self.is_hinted) {
             self.put(front, "#[inline] ");
+        }
+        if name == "main" && front == at {
+            self.put(at, "pub ");
         }
         if self.of.constant.contains(&(self.owner, name)) {
             self.constant.push((self.owner, name));
@@ -233,6 +259,35 @@ impl<'a> Eraser<'a> {
             }
             _ => Ok(at + 2),
         }
+    }
+
+    // `extern "C" fn f(x: &[T]) { .. }` becomes `extern "C" fn f(x: *const T, x_len: usize) { let x
+    // = unsafe { slice(x, x_len) }; .. }`, and is unsafe.
+    fn export(&mut self, at: usize) -> Result<usize, Fault> {
+        let end = self.group_end(at + 2)?;
+        let Some(body) = self.body(end)? else {
+            return self.fault(at, "an export with no body");
+        };
+        let mut slices = String::new();
+        for name in at + 3..end {
+            let (item, pointer, slice) = match self.words[name..end] {
+                [_, ":", "&", "[", _, "]", ..] => (name + 4, "*const ", "slice"),
+                [_, ":", "&", "mut", "[", _, "]", ..] => (name + 5, "*mut ", "slice_mut"),
+                _ => continue,
+            };
+            let word = self.words[name];
+            self.leave_out(name + 2..item);
+            self.put(item, pointer);
+            self.replace(item + 1, &format!(", {word}_len: usize"));
+            slices.push_str(&format!(
+                " let {word} = unsafe {{ {slice}({word}, {word}_len) }};"
+            ));
+        }
+        if self.words[at..end].contains(&"&") {
+            self.put(at - 2, "unsafe ");
+        }
+        self.put[self.places[body] + 1].push_str(&slices);
+        Ok(end)
     }
 
     // `fn clone(&self) -> Result<T, AllocError> { Ok(x) }` becomes `fn clone(&self) -> T { x }`.
@@ -315,13 +370,13 @@ impl<'a> Eraser<'a> {
         Ok(end + usize::from(matches!(self.words[end..], ["," | ";", ..])))
     }
 
-    // Whether the function that stands here has a body.
-    fn has_body(&self, at: usize) -> Result<bool, Fault> {
+    // Where the body begins of the function that stands here, if it has one.
+    fn body(&self, at: usize) -> Result<Option<usize>, Fault> {
         let mut at = at;
         loop {
             at = match self.words[at..] {
-                ["{", ..] => return Ok(true),
-                [";", ..] => return Ok(false),
+                ["{", ..] => return Ok(Some(at)),
+                [";", ..] => return Ok(None),
                 ["requires" | "ensures", ..] => self.clause_end(at)?,
                 ["ghost", ..] => self.ghost_end(at)?,
                 _ => self.group_end(at)?,

@@ -26,6 +26,16 @@ const CRATES: [(&str, &[&str]); 10] = [
     ("font_types", &["json", "laws"]),
 ];
 
+/// What stands over these crates: the package that compiles it, its crate, and the file that
+/// declares it.
+const OVER: [(&str, &str, &str); 2] = [
+    ("font-types-proved", "fontval", "program.rs"),
+    ("font-types-c", "font_c", "exports.rs"),
+];
+
+/// What each of its files begins with.
+const PRELUDE: &str = "#[allow(unused_imports)] use crate::prelude::*; ";
+
 /// The functions that become `const`: a type or a crate on a line, and its functions below it,
 /// indented.
 const CONSTANT: &str = include_str!("constant.txt");
@@ -35,11 +45,43 @@ const ERRORS: &str = include_str!("../errors.rs");
 
 fn main() {
     let folder = |name| PathBuf::from(env::var_os(name).expect("Cargo names its folders"));
-    let (root, out) = (folder("CARGO_MANIFEST_DIR"), folder("OUT_DIR"));
+    let (package, out) = (folder("CARGO_MANIFEST_DIR"), folder("OUT_DIR"));
     println!("cargo::rerun-if-changed=rust");
-    if let Err(what) = write_crates(&root.join("crates"), &out) {
+    let mut places = package.ancestors().map(|folder| folder.join("crates"));
+    let crates = places.find(|folder| folder.is_dir());
+    let crates = crates.expect("a folder `crates` beside `rust`");
+    if let Err(what) = write_crates(&crates, &out) {
         println!("cargo::error={what}");
     }
+    let package = env::var("CARGO_PKG_NAME").unwrap_or_default();
+    for (_, name, file) in OVER.iter().filter(|over| over.0 == package) {
+        // A fault there is one of the program alone, and not of the library.
+        let declared = match write_over(name, &crates, &out) {
+            Ok(()) => format!("mod {name};\n"),
+            Err(what) => format!("compile_error!({what:?});\n"),
+        };
+        if let Err(what) = write(&out.join(file), &declared) {
+            println!("cargo::error={what}");
+        }
+    }
+}
+
+/// Writes the program or the exports.
+fn write_over(name: &str, from: &Path, to: &Path) -> Result<(), String> {
+    let source = from.join(name).join("src");
+    println!("cargo::rerun-if-changed={}", source.display());
+    // The exports stand in one crate with those below, whose root is `font_types` to them.
+    let below = CRATES.map(|(name, _)| name);
+    let of = Crate {
+        name,
+        all: &below[..below.len() - 1],
+        left_out: &[],
+        errors: "",
+        constant: &[],
+        prelude: PRELUDE,
+    };
+    let _ = fs::remove_dir_all(to.join(name));
+    write_folder(&of, &source, &to.join(name), &mut |_| {})
 }
 
 /// The lines of `constant.txt`: the number of the line, the type or the crate, and the function.
@@ -69,6 +111,7 @@ fn write_crates(from: &Path, to: &Path) -> Result<(), String> {
             left_out,
             errors: ERRORS,
             constant: &constant,
+            prelude: "",
         };
         // What an earlier build left of a file that is gone would pass for it.
         let _ = fs::remove_dir_all(to.join(name));
@@ -110,7 +153,8 @@ fn write_folder(
             format!("{}:{line}: {what}: see rust/build/erase.rs", path.display())
         })?;
         erased.constant.into_iter().for_each(&mut *found);
-        let file = if stem == "lib" { "mod" } else { stem };
+        let is_root = stem == "lib" || stem == "main";
+        let file = if is_root { "mod" } else { stem };
         write(&to.join(format!("{file}.rs")), &erased.rust)?;
     }
     Ok(())

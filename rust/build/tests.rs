@@ -12,6 +12,7 @@ const HIGH: Crate = Crate {
     left_out: &["json"],
     errors: "\"a\"",
     constant: &[("S", "c"), ("high", "d")],
+    prelude: "",
 };
 
 // What is left, white space aside, stands on the lines on which it stood.

@@ -7,7 +7,7 @@ use std::fs;
 use std::path::{Path, PathBuf};
 
 /// Lines that are left out whole.
-const LINES: [&str; 9] = [
+const LINES: [&str; 10] = [
     "# [ cfg ( test ) ] mod tests ;",
     "use thiserror :: Error ;",
     "use std :: alloc :: AllocError ;",
@@ -18,10 +18,11 @@ const LINES: [&str; 9] = [
     "Drop , Error",
     "Drop ,",
     "Drop",
+    "Error",
 ];
 
 /// What is changed: in the source, and in Rust.
-const CHANGES: [(&str, &str); 10] = [
+const CHANGES: [(&str, &str); 12] = [
     ("< W : fmt :: Write >", ""),
     // Of a `Formatter<W>`.
     ("W >", "'_ >"),
@@ -34,10 +35,16 @@ const CHANGES: [(&str, &str); 10] = [
     (", AllocError >", ""),
     ("Ok (", ""),
     (")", ""),
+    // Of the program.
+    (
+        "",
+        "# [ allow ( unused_imports ) ] use crate :: prelude :: * ;",
+    ),
+    ("fn main", "pub fn main"),
 ];
 
 const CRATES: &str = "font_decimal font_base font_arithmetic font_f26 font_fixed font_fixed2 \
-    font_tags font_ids font_geom font_types";
+    font_tags font_ids font_geom font_types fontval";
 
 /// The tokens of a text; a comment is one, without the white space around it.
 fn tokens(text: &str) -> Vec<&str> {
@@ -203,10 +210,10 @@ fn what_is_left_is_the_source() {
         let name = name.to_str().unwrap();
         let source = root.join("crates").join(name).join("src");
         let file = inner.strip_prefix(name).unwrap().with_extension("rt");
-        let file = if file == Path::new("mod.rt") {
-            "lib.rt".into()
-        } else {
-            file
+        let file = match (file == Path::new("mod.rt"), name) {
+            (true, "fontval") => "main.rt".into(),
+            (true, _) => "lib.rt".into(),
+            _ => file,
         };
         let source = source.join(file);
         let (rt, rs) = (
@@ -243,11 +250,8 @@ fn nothing_is_forgotten() {
             if inner.iter().any(|part| part == "tests") || stays {
                 continue;
             }
-            let inner = if inner == Path::new("lib") {
-                Path::new("mod")
-            } else {
-                &inner
-            };
+            let is_root = inner == Path::new("lib") || inner == Path::new("main");
+            let inner = if is_root { Path::new("mod") } else { &inner };
             let made = Path::new(env!("OUT_DIR"))
                 .join(name)
                 .join(inner)
@@ -274,7 +278,7 @@ fn what_is_asked_is_said() {
     let mut count = 0;
     for name in CRATES
         .split_whitespace()
-        .filter(|name| *name != "font_arithmetic")
+        .filter(|name| !matches!(*name, "font_arithmetic" | "fontval"))
     {
         let source = Path::new(env!("CARGO_MANIFEST_DIR"))
             .join("crates")

@@ -1,7 +1,7 @@
 //! The example of README.md, run.
 
-use font_types_proved as font_types;
 use font_types::{BigEndian, FWord, Fixed, MajorMinor, Matrix, Point, Scalar, Uint24, delta_sum};
+use font_types_proved as font_types;
 
 #[test]
 fn example() -> Result<(), Box<dyn std::error::Error>> {

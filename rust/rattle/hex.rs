@@ -1,0 +1,40 @@
+//! Bytes and their hexadecimal digits.
+
+/// A text that is not of hexadecimal digits, or not of as many as there are for the bytes.
+#[derive(Debug)]
+pub struct FromHexError;
+
+const DIGITS: &[u8; 16] = b"0123456789abcdef";
+
+/// Writes two digits for each byte, in lower case, where there is just the room for them.
+pub fn encode_to_slice(bytes: &[u8], digits: &mut [u8]) -> Result<(), FromHexError> {
+    if digits.len() != 2 * bytes.len() {
+        return Err(FromHexError);
+    }
+    for (pair, byte) in digits.chunks_exact_mut(2).zip(bytes) {
+        pair[0] = DIGITS[usize::from(byte >> 4)];
+        pair[1] = DIGITS[usize::from(byte & 15)];
+    }
+    Ok(())
+}
+
+/// Reads each byte from two digits of either case, where there are just the digits for the bytes.
+#[inline]
+pub fn decode_to_slice(digits: &[u8], bytes: &mut [u8]) -> Result<(), FromHexError> {
+    if digits.len() != 2 * bytes.len() {
+        return Err(FromHexError);
+    }
+    for (byte, pair) in bytes.iter_mut().zip(digits.chunks_exact(2)) {
+        *byte = 16 * value(pair[0])? + value(pair[1])?;
+    }
+    Ok(())
+}
+
+fn value(digit: u8) -> Result<u8, FromHexError> {
+    match digit {
+        b'0'..=b'9' => Ok(digit - b'0'),
+        b'a'..=b'f' => Ok(digit - b'a' + 10),
+        b'A'..=b'F' => Ok(digit - b'A' + 10),
+        _ => Err(FromHexError),
+    }
+}
