@@ -57,3 +57,13 @@ mod prelude {
 fn panic(_: &core::panic::PanicInfo<'_>) -> ! {
     loop {}
 }
+
+// Objects of the compiler's own library name this function of Rust's unwinding. A program that
+// divides numbers of 128 bits takes one of them out of the archive. Nothing here unwinds, so that
+// nothing calls it; no other library and no user of the shared one sees it.
+#[cfg(all(target_os = "linux", panic = "abort"))]
+core::arch::global_asm!(
+    ".weak rust_eh_personality",
+    ".hidden rust_eh_personality",
+    "rust_eh_personality:",
+);
