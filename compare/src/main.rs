@@ -9,8 +9,8 @@
 //! any it is all of them, which takes some processor hours. `small` takes a part of every part, in
 //! less than a minute. `--random` says how many random inputs each part takes that cannot go over
 //! all. A part prints how many comparisons agreed, and of those that did not the number and an
-//! example; the last line counts the differences, and the status is 1 where there is one. A row in
-//! which nothing was compared is a difference.
+//! example; the last line counts all comparisons and all differences, and the status is 1 where
+//! there is a difference, or no comparison. A row in which nothing was compared is a difference.
 //!
 //! README.md says what is compared with what.
 #![forbid(unsafe_code)]
@@ -53,8 +53,11 @@ fn main() -> ExitCode {
     match parse(&arguments) {
         Ok((mut work, parts)) => {
             parts.iter().for_each(|(_, part)| part(&mut work));
-            println!("{} different", work.different);
-            ExitCode::from(u8::from(work.different > 0))
+            println!(
+                "{} comparisons, {} different",
+                work.compared, work.different
+            );
+            ExitCode::from(u8::from(work.different > 0 || work.compared == 0))
         }
         Err(fault) => {
             eprintln!("{fault}");
@@ -69,6 +72,7 @@ fn parse(arguments: &[String]) -> Result<(Work, Vec<Part>), String> {
         seed: 1,
         random: None,
         is_small: false,
+        compared: 0,
         different: 0,
     };
     let mut parts = Vec::new();

@@ -58,6 +58,11 @@ impl Tally {
         }
     }
 
+    /// How many comparisons were made.
+    pub fn compared(&self) -> u64 {
+        self.rows.iter().map(|row| row.same + row.different).sum()
+    }
+
     /// How many comparisons differed. A row in which nothing was compared counts as one.
     pub fn different(&self) -> u64 {
         let of_row = |row: &Row| row.different + u64::from(row.same + row.different == 0);

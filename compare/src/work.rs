@@ -19,7 +19,8 @@ pub struct Work {
     pub random: Option<u64>,
     /// Whether a part is enough.
     pub is_small: bool,
-    /// How many comparisons differed.
+    /// How many comparisons were made, and how many differed.
+    pub compared: u64,
     pub different: u64,
 }
 
@@ -60,6 +61,7 @@ impl Work {
                 }
             }
         });
+        self.compared += total.compared();
         self.different += total.different();
         println!("{title}: {count} inputs, {:.0?}", start.elapsed());
         print!("{total}");
@@ -117,5 +119,39 @@ impl Chunks {
 
     fn handed_out(&self) -> u64 {
         self.next.load(Ordering::Relaxed).min(self.count)
+    }
+}
+
+#[cfg(test)]
+mod tests {
+    use super::*;
+
+    // How many comparisons are made, and how many differ, where those of this input do.
+    fn counted(inputs: u64, wrong: u64) -> (u64, u64) {
+        let mut work = Work {
+            threads: 3,
+            seed: 1,
+            random: None,
+            is_small: false,
+            compared: 0,
+            different: 0,
+        };
+        work.go_over("a part", &["one", "two"], inputs, |index, tally| {
+            tally.judge(0, true, String::new);
+            tally.judge(1, index != wrong, || format!("{index}"));
+        });
+        (work.compared, work.different)
+    }
+
+    #[test]
+    fn a_difference_is_counted() {
+        assert_eq!(counted(100_000, 100_000), (200_000, 0));
+        assert_eq!(counted(100_000, 99_999), (200_000, 1));
+        assert_eq!(counted(1, 0), (2, 1));
+    }
+
+    #[test]
+    fn a_row_in_which_nothing_was_compared_is_a_difference() {
+        assert_eq!(counted(0, 0), (0, 2));
     }
 }

@@ -7,6 +7,7 @@ use font_types_proved::{
     GlyphId16, InvalidTag, Matrix, Pad, Point, Shortest, Tag, Uint24, checked_delta_sum,
     read_decimal,
 };
+use std::collections::BTreeSet;
 use std::panic::catch_unwind;
 
 const TABLE: &str = include_str!("../../crates/font_c/callers/values.txt");
@@ -41,9 +42,17 @@ fn pad(words: &[&str]) -> Option<Pad> {
     })
 }
 
-/// The lines of a type of numbers.
+/// The lines of a type of numbers, and that each type of the table has its own.
 macro_rules! of_type {
-    ($($test:ident $Type:ident;)*) => {$(
+    ($($test:ident $Type:ident;)*) => {
+        #[test]
+        fn each_type_of_the_table() {
+            for kind in ["read", "write", "whole", "pad"] {
+                let types: BTreeSet<&str> = lines(kind).iter().map(|words| words[0]).collect();
+                assert_eq!(types, BTreeSet::from([$(stringify!($test)),*]), "{kind}");
+            }
+        }
+    $(
         #[test]
         fn $test() {
             let number = |word: &str| $Type::from_bits(word.parse().unwrap());
@@ -181,10 +190,15 @@ fn sums() {
 #[test]
 fn texts_of_errors() {
     let too_large = GlyphId16::try_from(GlyphId::new(65536)).unwrap_err();
-    let faults: [(Box<dyn std::error::Error>, &str); 7] = [
+    let faults: [(Box<dyn std::error::Error>, &str); 9] = [
         (DecimalFault::Syntax.into(), "not a decimal number"),
         (DecimalFault::OutOfRange.into(), "number out of range"),
         (InvalidTag::InvalidLength(5).into(), "Invalid length (5)"),
+        (InvalidTag::InvalidLength(0).into(), "Invalid length (0)"),
+        (
+            InvalidTag::InvalidByte { pos: 3, byte: 7 }.into(),
+            "Invalid byte 0x7 at index 3",
+        ),
         (
             InvalidTag::InvalidByte { pos: 1, byte: 0x1F }.into(),
             "Invalid byte 0x1F at index 1",

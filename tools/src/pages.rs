@@ -1,5 +1,8 @@
 //! What pages say that a program can check.
 
+use crate::exact;
+use crate::header;
+use crate::quoted::strange_contracts;
 use crate::repository::{self, files, text};
 use std::collections::HashSet;
 
@@ -22,6 +25,7 @@ pub fn slips() -> Vec<Slip> {
     let counts = counts();
     let sources = sources();
     let words = words();
+    let fixed = text("crates/font_fixed/src/fixed.rt");
     let mut slips = Vec::new();
     for page in pages() {
         let body = text(&page);
@@ -35,13 +39,46 @@ pub fn slips() -> Vec<Slip> {
                 strange_code(&body, &sources)
             })
             .chain(unknown_words(&body, &words))
+            .chain(strange_contracts(&body, &fixed))
             .chain(wide_lines(&body));
         slips.extend(found.map(|what| Slip {
             page: page.clone(),
             what,
         }));
     }
+    slips.extend(other_versions(&versions()).map(|what| Slip {
+        page: "CHANGELOG.md".into(),
+        what,
+    }));
     slips
+}
+
+// The version that each file states: the changelog at its front, manifests, and the header for C.
+fn versions() -> Vec<(String, String)> {
+    let between = |text: &str, front: &str, end: &str| -> String {
+        let rest = text.split(front).nth(1).unwrap_or("");
+        rest.split(end).next().unwrap().to_string()
+    };
+    let mut found = vec![
+        ("CHANGELOG.md", "\n## ", "\n"),
+        (header::PATH, header::VERSION, "\""),
+    ]
+    .into_iter()
+    .map(|(path, front, end)| (path.to_string(), between(&text(path), front, end)))
+    .collect::<Vec<_>>();
+    let manifests = files("", "Cargo.toml").into_iter();
+    found.extend(manifests.map(|path| {
+        let version = between(&text(&path), "\nversion = \"", "\"");
+        (path, version)
+    }));
+    found
+}
+
+// The files that state another version than the changelog, which is the first.
+fn other_versions(versions: &[(String, String)]) -> impl Iterator<Item = String> {
+    let wanted = &versions[0].1;
+    let others = versions.iter().filter(move |version| version.1 != *wanted);
+    others.map(move |(path, version)| format!("{wanted}, where {path} has version {version}"))
 }
 
 // What is counted, and how many there are.
@@ -62,6 +99,10 @@ fn counts() -> Vec<(&'static str, usize)> {
         ("exports", exports),
         ("JSON forms", forms),
         ("stored lines", lines),
+        (
+            "bytes hold every number",
+            exact::shortest(1 - (1 << 63), 16).len(),
+        ),
     ]
 }
 
@@ -226,4 +267,41 @@ fn unknown_words(body: &str, words: &HashSet<String>) -> Vec<String> {
     unknown
         .map(|word| format!("no source has the word {word}"))
         .collect()
+}
+
+#[cfg(test)]
+mod tests {
+    use super::*;
+
+    #[test]
+    fn slips_are_seen() {
+        let counts = [("wrong bodies", 3)];
+        assert_eq!(counted("There are 3 wrong bodies.", &counts).len(), 0);
+        assert_eq!(counted("It refuses\n1,234 wrong bodies.", &counts).len(), 1);
+        assert_eq!(
+            dead_links("docs/X.md", "[a](../README.md) [b](NO.md)"),
+            ["no NO.md is there"]
+        );
+        assert_eq!(
+            dead_paths("`docs/NO.md`, `docs/DESIGN.md`"),
+            ["no docs/NO.md is there"]
+        );
+        let sources = [squeezed("fn a() { b(); }")];
+        assert_eq!(
+            strange_code("```rust\nfn a() {\n  b();\n}\n```", &sources).len(),
+            0
+        );
+        assert_eq!(
+            strange_code("```rust\nfn a() {\n  c();\n}\n```", &sources).len(),
+            1
+        );
+        let words = HashSet::from(["known".to_string()]);
+        assert_eq!(unknown_words("`known` and `strange`", &words).len(), 1);
+        assert_eq!(wide_lines(&format!("| {0}\n{0}", "x".repeat(121))).len(), 1);
+        let of = |path: &str, version: &str| (path.to_string(), version.to_string());
+        assert_eq!(
+            other_versions(&[of("a", "1"), of("b", "1"), of("c", "2")]).count(),
+            1
+        );
+    }
 }

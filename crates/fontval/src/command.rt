@@ -54,7 +54,7 @@ pub enum IntegerType {
     Int64,
 }
 
-/// The fixed-point types of OpenType, by how their bits are read.
+/// The seven fixed-point types, by how their bits are read.
 #[derive(Clone, Copy)]
 pub enum FixedType {
     F2Dot14,

@@ -14,7 +14,9 @@ fn main() -> ExitCode {
     let header = of("include", ".h");
     let declared = header::declared(&header);
     let calls = of("callers/agree/src", ".rs");
-    let calls: HashSet<&str> = calls.split(|c: char| !c.is_alphanumeric() && c != '_').collect();
+    let calls: HashSet<&str> = calls
+        .split(|c: char| !c.is_alphanumeric() && c != '_')
+        .collect();
     let is_called = |line: &&String| {
         let name = line.split('(').next().unwrap().rsplit(' ').next().unwrap();
         !line.contains('(') || calls.contains(name)
