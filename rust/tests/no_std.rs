@@ -54,3 +54,12 @@ fn tables() {
     assert!(offset == 256 && !offset.is_null() && glyph == GlyphId::new(7));
     assert_eq!(record(&[0; 7]), None);
 }
+
+/// This file links whatever the library links; that it links no `std` stands at its head.
+#[test]
+fn the_library_has_no_std() {
+    for root in [include_str!("../lib.rs"), include_str!("../c/lib.rs")] {
+        assert!(root.lines().any(|line| line == "#![no_std]"));
+        assert!(!root.contains("extern crate std") && !root.contains("extern crate alloc"));
+    }
+}

@@ -153,7 +153,9 @@ fn dead_paths(body: &str) -> Vec<String> {
     let is_path = |word: &&String| {
         roots.iter().any(|root| word.starts_with(root))
             && !word.contains([' ', '*', '<', '{'])
-            && !word.contains("NAME")
+            && !["NAME", "my_reader"]
+                .iter()
+                .any(|other| word.contains(other))
             && !word.contains("TYPE")
     };
     quoted

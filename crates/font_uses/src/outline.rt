@@ -36,6 +36,7 @@ pub fn pen_from(start: Point<Fixed>, steps: &[Point<Fixed>]) -> Point<Fixed>
 }
 
 /// A step there and the same step back.
+#[tactic(auto, using(font_types::proofs::Callers::fixed_calls))]
 pub fn there_and_back(at: Fixed, step: Fixed) -> Fixed
     ensures { result ≡ at }
 {
