@@ -23,7 +23,6 @@ extern crate core as std;
 include!(concat!(env!("OUT_DIR"), "/crates.rs"));
 
 mod compared;
-mod errors;
 
 pub use font_types::*;
 

@@ -5,10 +5,12 @@
 //!
 //! - clauses: `requires`, `ensures` and `ghost` before a function's body;
 //! - ghost items: `ghost use ..;`, and `ghost NAME`, what it is, and its `,` or `;`;
-//! - `#[tactic(..)]`, `#[error(..)]`, and `#[cfg(test)] mod tests;`;
-//! - `Drop` and `Error` in a `derive(..)`: the texts of errors have to stand in `errors.rs`;
+//! - `#[tactic(..)]`, and `#[cfg(test)] mod tests;`;
+//! - `Drop` and `Error` in a `derive(..)`, and `#[error(..)]`: what `derive(Error)` makes of that is
+//!   written behind the last line;
 //! - `use thiserror::Error;` and `use std::alloc::AllocError;`;
-//! - the modules that the caller names, and what is brought in from them.
+//! - the modules that the caller names, and what is brought in from them;
+//! - the comments in front of a clause or of an item that is left out, and spaces at a line's end.
 //!
 //! These are changed, and nothing else:
 //!
@@ -21,6 +23,7 @@
 //!
 //! What this file does not know is a [`Fault`].
 
+use crate::texts;
 use crate::tokens::{Fault, Kind, Token, tokens};
 use std::ops::Range;
 
@@ -32,8 +35,6 @@ pub struct Crate<'a> {
     pub all: &'a [&'a str],
     /// The crate's modules that are left out, with what is brought in from them.
     pub left_out: &'a [&'a str],
-    /// The source in which the texts of errors have to stand.
-    pub errors: &'a str,
     /// The functions that are `const`: the type or else the crate that they belong to, and a name.
     pub constant: &'a [(&'a str, &'a str)],
     /// What stands in front of the items of a file of the program or of the exports, which brings
@@ -41,14 +42,30 @@ pub struct Crate<'a> {
     pub prelude: &'a str,
 }
 
-/// The Rust of a file, and those of its functions that were made `const`.
+/// Attributes that stay. Of `unsafe` that is `unsafe(no_mangle)`.
+const KEPT: [&str; 8] = [
+    "allow",
+    "cold",
+    "deprecated",
+    "doc",
+    "must_use",
+    "non_exhaustive",
+    "repr",
+    "unsafe",
+];
+
+/// What is made of a file.
 pub struct Erased<'a> {
+    /// Its Rust.
     pub rust: String,
+    /// Those of its functions that were made `const`.
     pub constant: Vec<(&'a str, &'a str)>,
+    /// The modules that it declares, and on which lines.
+    pub modules: Vec<(usize, &'a str)>,
 }
 
-/// Erases a file of the crate.
-pub fn erase<'a>(source: &'a str, of: &'a Crate) -> Result<Erased<'a>, Fault> {
+/// Erases a file of the crate, which is its root or is not.
+pub fn erase<'a>(source: &'a str, of: &'a Crate, is_root: bool) -> Result<Erased<'a>, Fault> {
     let tokens = tokens(source)?;
     let is_code = |at: &usize| tokens[*at].kind == Kind::Code;
     let places: Vec<usize> = (0..tokens.len()).filter(is_code).collect();
@@ -59,10 +76,15 @@ pub fn erase<'a>(source: &'a str, of: &'a Crate) -> Result<Erased<'a>, Fault> {
         tokens,
         places,
         of,
+        is_root,
         owner: of.name,
         depth: 0,
         is_hinted: false,
+        kept_end: 0,
+        error_end: 0,
+        errors: String::new(),
         constant: Vec::new(),
+        modules: Vec::new(),
     };
     let mut at = eraser.head()?;
     while at < eraser.words.len() {
@@ -71,6 +93,7 @@ pub fn erase<'a>(source: &'a str, of: &'a Crate) -> Result<Erased<'a>, Fault> {
     Ok(Erased {
         rust: eraser.written(),
         constant: eraser.constant,
+        modules: eraser.modules,
     })
 }
 
@@ -84,13 +107,20 @@ struct Eraser<'a> {
     kept: Vec<bool>,
     put: Vec<String>,
     of: &'a Crate<'a>,
+    is_root: bool,
     // Whose functions stand here: a type's, no one's ("") in an `impl` of a trait, or the crate's.
     owner: &'a str,
     // How many braces are open.
     depth: usize,
     // Whether the next function says itself how it is inlined.
     is_hinted: bool,
+    // Where the last attribute ends that stays.
+    kept_end: usize,
+    // Where the last type ends of which `Error` is derived, and what is made of all of them.
+    error_end: usize,
+    errors: String,
     constant: Vec<(&'a str, &'a str)>,
+    modules: Vec<(usize, &'a str)>,
 }
 
 impl<'a> Eraser<'a> {
@@ -102,30 +132,23 @@ impl<'a> Eraser<'a> {
         while self.words[at..].starts_with(&["#", "!"]) {
             at = self.attribute(at, at + 2)?;
         }
-        let items = self.places.get(at).copied().unwrap_or_default();
-        let is_docs = |token: &Token| token.kind == Kind::Doc && token.text.starts_with("///");
-        let docs = self.tokens[..items].iter().position(is_docs);
-        self.put[docs.unwrap_or(items)].push_str(self.of.prelude);
+        if let Some(item) = self.places.get(at) {
+            let mut front = self.tokens[..*item].iter();
+            let docs = front.position(|token| token.kind == Kind::Doc);
+            self.put[docs.unwrap_or(*item)].push_str(self.of.prelude);
+        }
         Ok(at)
     }
 
     // Decides on the words that stand here, and returns where the next ones stand.
     fn step(&mut self, at: usize) -> Result<usize, Fault> {
         match self.words[at..] {
-            ["ghost", "use", ..] => self.leave_out_item(at..self.item_end(at)?),
-            ["ghost", ..] => self.leave_out_item(at..self.ghost_end(at)?),
-            ["pub", "ghost", ..] => self.leave_out_item(at..self.ghost_end(at + 1)?),
-            ["requires" | "ensures", ..] => Ok(self.leave_out(at..self.clause_end(at)?)),
+            ["requires" | "ensures", ..] => Ok(self.leave_out_told(at..self.clause_end(at)?)),
             ["#", "!", ..] => self.attribute(at, at + 2),
             ["#", ..] => self.attribute(at, at + 1),
+            ["pub" | "ghost" | "mod" | "use", ..] => self.item(at),
             ["impl", ..] if self.depth == 0 => self.impl_of(at),
             ["fn", name, ..] if name != "(" => self.function(at),
-            ["mod" | "use", ..] if self.is_left_out(at) => {
-                self.leave_out_item(at..self.item_end(at)?)
-            }
-            ["pub", "mod" | "use", ..] if self.is_left_out(at + 1) => {
-                self.leave_out_item(at..self.item_end(at)?)
-            }
             ["Formatter", "<", "W", ">", ..] => Ok(self.replace(at + 2, "'_")),
             ["crate", "::", ..] => Ok(self.put(at + 2, format!("{}::", self.of.name))),
             [name, "::", ..] if self.of.all.contains(&name) && self.begins_path(at) => {
@@ -137,6 +160,29 @@ impl<'a> Eraser<'a> {
             ["}", ..] => self.brace(at, self.depth.checked_sub(1)),
             _ => Ok(at + 1),
         }
+    }
+
+    // An item that may be left out, with what says who sees it.
+    fn item(&mut self, at: usize) -> Result<usize, Fault> {
+        let item = match self.words[at..] {
+            ["pub", "(", ..] => self.group_end(at + 1)?,
+            ["pub", ..] => at + 1,
+            _ => at,
+        };
+        let end = match self.words[item..] {
+            ["ghost", "use", ..] => self.item_end(item)?,
+            ["ghost", ..] => self.ghost_end(item)?,
+            ["mod" | "use", ..] if self.is_left_out(item) => self.item_end(item)?,
+            ["mod", name, ";", ..] if item == at && self.depth == 0 => {
+                self.modules.push((self.line(at), name));
+                return Ok(at + 2);
+            }
+            _ => return Ok(at + 1),
+        };
+        if at > 0 && self.kept_end == at {
+            return self.fault(at, "an attribute of what is left out");
+        }
+        Ok(self.leave_out_told(at..end))
     }
 
     // A brace behind which so many are open.
@@ -175,16 +221,16 @@ impl<'a> Eraser<'a> {
         Ok(name)
     }
 
-    // A module that is left out, what is brought in from one, and names that Rust has not.
+    // A module of the root that is left out, what is brought in from one, and names that Rust has
+    // not.
     fn is_left_out(&self, at: usize) -> bool {
         match self.words[at..] {
             ["use", "thiserror", "::", "Error", ";", ..] => true,
             ["use", "std", "::", "alloc", "::", "AllocError", ";", ..] => {
                 self.of.prelude.is_empty()
             }
-            ["use", "crate", "::", name, ..] | ["use" | "mod", name, ..] => {
-                self.of.left_out.contains(&name)
-            }
+            ["use", "crate", "::", name, ..] => self.of.left_out.contains(&name),
+            ["use" | "mod", name, ..] => self.is_root && self.of.left_out.contains(&name),
             _ => false,
         }
     }
@@ -194,63 +240,76 @@ impl<'a> Eraser<'a> {
         let end = self.group_end(open)?;
         match self.words[open + 1..end] {
             ["tactic", ..] => Ok(self.leave_out(at..end)),
-            ["error", "(", text, ")", "]"]
-                if !self.of.prelude.is_empty() || self.of.errors.contains(text) =>
-            {
-                Ok(self.leave_out(at..end))
-            }
-            ["error", ..] => self.fault(at, "the text of an error that rust/errors.rs has not"),
-            ["derive", "(", ..] => Ok(self.derive(at, end)),
+            ["error", ..] if at < self.error_end => Ok(self.leave_out(at..end)),
+            ["error", ..] => self.fault(at, "the text of an error that is not derived"),
+            ["derive", "(", ..] => self.derive(at, end),
             ["cfg", "(", "test", ")", "]"] => match self.words[end..] {
-                ["mod", "tests", ";", ..] => Ok(self.leave_out(at..end + 3)),
+                ["mod", "tests", ";", ..] => Ok(self.leave_out_told(at..end + 3)),
                 _ => self.fault(at, "tests in another place than `mod tests;`"),
             },
-            ["inline", ..] => {
-                self.is_hinted = true;
+            [name, ..] if name == "inline" || KEPT.contains(&name) => {
+                self.is_hinted |= name == "inline";
+                self.kept_end = if open == at + 1 { end } else { 0 };
                 Ok(end)
             }
-            ["cold" | "repr" | "unsafe", ..] => Ok(end),
             _ => self.fault(at, "an attribute that is not known"),
         }
     }
 
-    // `#[derive(..)]` without `Drop` and `Error`, each with the comma behind it.
-    fn derive(&mut self, at: usize, end: usize) -> usize {
-        let is_gone = |word: &str| matches!(word, "Drop" | "Error");
-        let names = at + 4..end - 2;
-        if self.words[names.clone()]
-            .iter()
-            .all(|word| is_gone(word) || *word == ",")
-        {
-            return self.leave_out(at..end);
+    // `#[derive(..)]` without `Drop` and `Error`.
+    fn derive(&mut self, at: usize, end: usize) -> Result<usize, Fault> {
+        let names = self.words[at + 4..end - 2].split(|word| *word == ",");
+        let names: Vec<String> = names.map(|name| name.concat()).collect();
+        let is_kept = |name: &&String| !matches!(name.as_str(), "Drop" | "Error" | "");
+        let kept: Vec<&str> = names.iter().filter(is_kept).map(|name| &**name).collect();
+        if names.iter().any(|name| name == "Error") {
+            self.error(end)?;
         }
-        for name in names {
-            if is_gone(self.words[name]) {
-                let comma = usize::from(self.words[name + 1] == ",");
-                self.leave_out(name..name + 1 + comma);
-            }
+        if kept.is_empty() {
+            self.leave_out(at..end);
+        } else if kept.len() < names.len() {
+            self.put(at + 4, kept.join(", "));
+            self.leave_out(at + 4..end - 2);
         }
-        end
+        Ok(end)
+    }
+
+    // The type that stands here, of which `Error` is derived.
+    fn error(&mut self, at: usize) -> Result<(), Fault> {
+        let mut end = at;
+        while !matches!(self.words.get(end), Some(&("{" | ";"))) {
+            end = self.group_end(end)?;
+        }
+        self.error_end = self.group_end(end)?;
+        match texts::impls(&self.words[at..self.error_end]) {
+            Ok(impls) => self.errors.push_str(&impls),
+            Err(what) => return self.fault(at, what),
+        }
+        Ok(())
     }
 
     // `fn` and a name.
     fn function(&mut self, at: usize) -> Result<usize, Fault> {
         let name = self.words[at + 1];
-        let front = match self.words[..at] {
-            [.., "pub"] => at - 1,
-            [.., "{" | "}" | ";" | "]"] | [] => at,
-            [.., "pub", "extern", "\"C\""] => return self.export(at),
-            _ => return self.fault(at, "a function of another form"),
-        };
-        if self.body(at)?.is_some() && !std::mem::take(&mut self.is_hinted) {
+        let front = self.front(at);
+        if !matches!(self.words[..front], [.., "{" | "}" | ";" | "]"] | []) {
+            return self.fault(at, "a function of another form");
+        }
+        if self.words[front..at].contains(&"extern") {
+            return self.export(at);
+        }
+        let is_hinted = std::mem::take(&mut self.is_hinted);
+        if self.body(at)?.is_some() && !is_hinted {
             self.put(front, "#[inline] ");
         }
-        if name == "main" && front == at {
+        if self.is_root && name == "main" && front == at {
             self.put(at, "pub ");
         }
         if self.of.constant.contains(&(self.owner, name)) {
             self.constant.push((self.owner, name));
-            self.put(at, "const ");
+            if self.words[front..at].last() != Some(&"const") {
+                self.put(at, "const ");
+            }
         }
         match self.words[at + 2..] {
             ["<", "W", ":", "fmt", "::", "Write", ">", ..] => Ok(self.leave_out(at + 2..at + 9)),
@@ -258,6 +317,21 @@ impl<'a> Eraser<'a> {
                 self.clone_of_copy(at)
             }
             _ => Ok(at + 2),
+        }
+    }
+
+    // Where a function begins whose `fn` stands here: in front of what says how it is called, and
+    // who sees it.
+    fn front(&self, at: usize) -> usize {
+        let front = match self.words[..at] {
+            [.., "extern", "\"C\""] => at - 2,
+            [.., "const"] => at - 1,
+            _ => at,
+        };
+        match self.words[..front] {
+            [.., "pub", "(", _, ")"] => front - 4,
+            [.., "pub"] => front - 1,
+            _ => front,
         }
     }
 
@@ -348,7 +422,7 @@ impl<'a> Eraser<'a> {
         let mut pairs = self.words[at..end].windows(2);
         let mut inside = self.tokens[self.places[at]..self.places[end - 1]].iter();
         if pairs.any(|pair| matches!(pair, ["-" | "{", "-"]))
-            || inside.any(|token| matches!(token.kind, Kind::Comment | Kind::Doc))
+            || inside.any(|token| matches!(token.kind, Kind::Comment | Kind::Head | Kind::Doc))
         {
             return self.fault(at, "a comment in a clause or a ghost item");
         }
@@ -386,17 +460,25 @@ impl<'a> Eraser<'a> {
 
     // ---- what is written
 
-    // What is kept, and the line breaks of what is not.
+    // What is kept, and the line breaks of what is not, with no space in front of one.
     fn written(&self) -> String {
         let mut rust = String::new();
         for (at, token) in self.tokens.iter().enumerate() {
             rust.push_str(&self.put[at]);
-            match self.kept[at] {
-                true => rust.push_str(token.text),
-                false => rust.extend(token.text.matches('\n')),
+            if self.kept[at] && token.kind != Kind::Space {
+                rust.push_str(token.text);
+                continue;
+            }
+            for break_or_space in token.text.chars() {
+                match break_or_space {
+                    '\n' => rust.truncate(rust.trim_end_matches(' ').len()),
+                    _ if !self.kept[at] => continue,
+                    _ => {}
+                }
+                rust.push(break_or_space);
             }
         }
-        rust
+        rust + &self.errors
     }
 
     // Leaves out words and what stands between them, and returns where they end.
@@ -406,15 +488,20 @@ impl<'a> Eraser<'a> {
         words.end
     }
 
-    // The same of an item, which has no documentation: that would go to the next item.
-    fn leave_out_item(&mut self, words: Range<usize>) -> Result<usize, Fault> {
-        let at = self.places[words.start];
-        let before = self.tokens[..at].iter().rev();
-        let mut before = before.take_while(|token| token.kind != Kind::Code);
-        if before.any(|token| token.text.starts_with("///")) {
-            return self.fault(words.start, "documentation of what is left out");
+    // The same with the comments and the documentation in front, each on lines of its own.
+    fn leave_out_told(&mut self, words: Range<usize>) -> usize {
+        let breaks = |token: &Token| token.text.matches('\n').count();
+        let mut first = self.places[words.start];
+        while let [before @ .., comment, space] = &self.tokens[..first] {
+            let is_told = matches!(comment.kind, Kind::Comment | Kind::Doc);
+            let is_own = before.last().is_none_or(|space| breaks(space) > 0);
+            if !is_told || !is_own || breaks(space) > 1 {
+                break;
+            }
+            first -= 2;
         }
-        Ok(self.leave_out(words))
+        self.kept[first..self.places[words.start]].fill(false);
+        self.leave_out(words)
     }
 
     // Writes a text in front of a word, and returns where that stands.
@@ -429,12 +516,15 @@ impl<'a> Eraser<'a> {
         self.leave_out(at..at + 1)
     }
 
-    fn fault<T>(&self, at: usize, what: impl Into<String>) -> Result<T, Fault> {
+    // The line of a word, or the last.
+    fn line(&self, at: usize) -> usize {
         let token = self.places.get(at).map(|at| self.tokens[*at]);
-        let line = token
-            .or(self.tokens.last().copied())
-            .map_or(1, |token| token.line);
-        let what = what.into();
+        let token = token.or(self.tokens.last().copied());
+        token.map_or(1, |token| token.line)
+    }
+
+    fn fault<T>(&self, at: usize, what: impl Into<String>) -> Result<T, Fault> {
+        let (line, what) = (self.line(at), what.into());
         Err(Fault { line, what })
     }
 }

@@ -1,7 +1,7 @@
 //! The tokens of a Rattle source file: those of Rust, and the symbols of clauses.
 //!
-//! What it does not know is a [`Fault`]: comments in `/* */`, raw texts and names, and texts that
-//! go over more than a line.
+//! What it does not know is a [`Fault`]: raw names, texts of another kind, and a text or a comment
+//! that does not end.
 
 /// Something in a source file that is not known here.
 #[derive(Debug)]
@@ -19,7 +19,9 @@ pub enum Kind {
     Space,
     /// A comment that is no documentation.
     Comment,
-    /// A line of documentation.
+    /// Documentation of what it stands in.
+    Head,
+    /// Documentation of what stands behind it.
     Doc,
     /// A name, a keyword, a number, a text, a lifetime, or any other character by itself.
     Code,
@@ -57,52 +59,95 @@ fn first_token(rest: &str, first: char) -> Result<(Kind, usize), String> {
     if first.is_whitespace() {
         return Ok((Kind::Space, run(char::is_whitespace)));
     }
-    if rest.starts_with("/*") {
-        return Err("a comment in /* */".into());
-    }
     if rest.starts_with("//") {
-        let is_outer = rest.starts_with("///") && !rest.starts_with("////");
-        let is_doc = is_outer || rest.starts_with("//!");
-        let kind = if is_doc { Kind::Doc } else { Kind::Comment };
-        return Ok((kind, run(|c| c != '\n')));
+        return Ok((comment(rest), run(|c| c != '\n')));
+    }
+    if rest.starts_with("/*") {
+        return Ok((comment(rest), closed_comment(rest)?));
     }
     let len = match first {
         '"' => quoted(rest, '"')?,
         '\'' => lifetime_or_character(rest)?,
         _ if rest.starts_with("::") => 2,
-        c if is_of_name(c) => word_or_bytes(rest, run(is_of_name))?,
+        c if is_of_name(c) => word_or_text(rest, run(is_of_name))?,
         c => c.len_utf8(),
     };
     Ok((Kind::Code, len))
+}
+
+// What a comment is: `////` and `/***` are no documentation, nor is `/**/`.
+fn comment(rest: &str) -> Kind {
+    let begins = |with: &str| rest.starts_with(with);
+    if begins("//!") || begins("/*!") {
+        Kind::Head
+    } else if begins("///") && !begins("////")
+        || begins("/**") && !begins("/***") && !begins("/**/")
+    {
+        Kind::Doc
+    } else {
+        Kind::Comment
+    }
+}
+
+// The length of a comment in `/* */`, which may have others in it.
+fn closed_comment(rest: &str) -> Result<usize, String> {
+    let mut open = 0;
+    let mut at = 0;
+    loop {
+        let bracket = match &rest.as_bytes()[at..] {
+            [b'/', b'*', ..] => 1,
+            [b'*', b'/', ..] => -1,
+            [] => return Err("a comment that does not end".into()),
+            _ => 0,
+        };
+        open += bracket;
+        at += if bracket == 0 { 1 } else { 2 };
+        if open == 0 {
+            return Ok(at);
+        }
+    }
 }
 
 fn is_of_name(c: char) -> bool {
     c == '_' || c.is_alphanumeric()
 }
 
-// The length of a word of `len` bytes, or of the text that it begins, as in `b"abc"`.
-fn word_or_bytes(rest: &str, len: usize) -> Result<usize, String> {
+// The length of a word of `len` bytes, or of the text that it begins, as in `b"abc"` and `r#"a"#`.
+fn word_or_text(rest: &str, len: usize) -> Result<usize, String> {
     let (word, behind) = rest.split_at(len);
     match (word, behind.chars().next()) {
         ("b", Some(quote @ ('"' | '\''))) => Ok(len + quoted(behind, quote)?),
+        ("r" | "br", Some('"' | '#')) => Ok(len + raw(behind)?),
         (_, Some('"' | '\'' | '#')) => Err(format!("`{word}` before a quote or a `#`")),
         _ => Ok(len),
     }
 }
 
-// The length of a quoted text, with its quotes. It ends on its line.
+// The length of a quoted text, with its quotes.
 fn quoted(rest: &str, quote: char) -> Result<usize, String> {
     let mut escaped = false;
     for (at, c) in rest.char_indices().skip(1) {
         match c {
-            '\n' => break,
+            '\n' if quote == '\'' => break,
             _ if escaped => escaped = false,
             '\\' => escaped = true,
             _ if c == quote => return Ok(at + c.len_utf8()),
             _ => {}
         }
     }
-    Err("a text that does not end on its line".into())
+    Err("a text that does not end".into())
+}
+
+// The length of a text that begins with as many `#` as stand behind it.
+fn raw(rest: &str) -> Result<usize, String> {
+    let marks = rest.len() - rest.trim_start_matches('#').len();
+    if !rest[marks..].starts_with('"') {
+        return Err("a raw name".into());
+    }
+    let end = format!("\"{}", "#".repeat(marks));
+    let text = rest[marks + 1..].find(&end);
+    text.map(|at| marks + 1 + at + end.len())
+        .ok_or("a text that does not end".into())
 }
 
 fn lifetime_or_character(rest: &str) -> Result<usize, String> {

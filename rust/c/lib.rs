@@ -11,9 +11,6 @@ extern crate core as std;
 include!(concat!(env!("OUT_DIR"), "/crates.rs"));
 include!(concat!(env!("OUT_DIR"), "/exports.rs"));
 
-#[path = "../errors.rs"]
-mod errors;
-
 pub use font_types::*;
 
 /// Functions whose contracts are laws.

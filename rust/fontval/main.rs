@@ -44,7 +44,7 @@ mod prelude {
 
     impl HostRuntime {
         pub fn stdin(&self) -> crate::io::Stream {
-            crate::io::Stream::input()
+            crate::io::reader(self)
         }
 
         pub fn alloc(&self) -> crate::alloc::Global {

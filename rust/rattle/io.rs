@@ -10,30 +10,23 @@ use crate::rust_std::io::{self, ErrorKind};
 use core::fmt;
 
 #[cfg(not(windows))]
-use crate::rust_std::os::fd::AsFd;
+use crate::rust_std::os::fd::AsFd as AsOwned;
 #[cfg(windows)]
-use crate::rust_std::os::windows::io::AsHandle;
+use crate::rust_std::os::windows::io::AsHandle as AsOwned;
 
 pub use crate::rust_std::io::{Read, Result, Write};
 
-/// A standard stream, if the program has it.
+/// A stream, if the program has it.
 pub struct Stream(Option<File>);
 
-/// A file over the descriptor of a stream.
-macro_rules! file_over {
-    ($stream:expr) => {{
-        #[cfg(not(windows))]
-        let copy = $stream.as_fd().try_clone_to_owned();
-        #[cfg(windows)]
-        let copy = $stream.as_handle().try_clone_to_owned();
-        Stream(copy.ok().map(File::from))
-    }};
-}
-
 impl Stream {
-    /// Standard input.
-    pub fn input() -> Self {
-        file_over!(io::stdin())
+    /// A file over the same descriptor.
+    pub fn over(stream: impl AsOwned) -> Self {
+        #[cfg(not(windows))]
+        let copy = stream.as_fd().try_clone_to_owned();
+        #[cfg(windows)]
+        let copy = stream.as_handle().try_clone_to_owned();
+        Self(copy.ok().map(File::from))
     }
 
     fn file(&mut self) -> Result<&mut File> {
@@ -57,12 +50,17 @@ impl Write for Stream {
     }
 }
 
+/// Standard input.
+pub fn reader(_rt: &HostRuntime) -> Stream {
+    Stream::over(io::stdin())
+}
+
 /// Standard output.
 pub fn writer(_rt: &HostRuntime) -> Stream {
-    file_over!(io::stdout())
+    Stream::over(io::stdout())
 }
 
 /// Writes to standard error.
 pub fn complain(_rt: &HostRuntime, text: fmt::Arguments<'_>) -> Result<()> {
-    file_over!(io::stderr()).write_fmt(text)
+    Stream::over(io::stderr()).write_fmt(text)
 }

@@ -1,13 +1,27 @@
 //! A second reader of the proved text, which shares nothing with the build script: it goes over
 //! each `.rt` file and over what the script made of it, token by token and comment by comment. What
-//! is left has to be the source, but for what the lists below say.
+//! is left has to be the source, but for what the lists below say, and on the lines of the source.
+//!
+//! The exports for C are no part of this package. For them the script is run here.
+#![allow(dead_code)]
+
+#[path = "../build/crates.rs"]
+mod crates;
+#[path = "../build/erase.rs"]
+mod erase;
+#[path = "../build/files.rs"]
+mod files;
+#[path = "../build/texts.rs"]
+mod texts;
+#[path = "../build/tokens.rs"]
+mod tokens;
 
 use std::collections::BTreeMap;
 use std::fs;
 use std::path::{Path, PathBuf};
 
 /// Lines that are left out whole.
-const LINES: [&str; 10] = [
+const LINES: [&str; 9] = [
     "# [ cfg ( test ) ] mod tests ;",
     "use thiserror :: Error ;",
     "use std :: alloc :: AllocError ;",
@@ -15,14 +29,13 @@ const LINES: [&str; 10] = [
     "mod json ;",
     "pub mod laws ;",
     "pub use json :: { JsonFault , JsonScalar } ;",
-    "Drop , Error",
-    "Drop ,",
-    "Drop",
-    "Error",
+    ", Drop , Error",
+    ", Drop",
+    ", Error",
 ];
 
 /// What is changed: in the source, and in Rust.
-const CHANGES: [(&str, &str); 12] = [
+const CHANGES: [(&str, &str); 13] = [
     ("< W : fmt :: Write >", ""),
     // Of a `Formatter<W>`.
     ("W >", "'_ >"),
@@ -35,27 +48,45 @@ const CHANGES: [(&str, &str); 12] = [
     (", AllocError >", ""),
     ("Ok (", ""),
     (")", ""),
-    // Of the program.
-    (
-        "",
-        "# [ allow ( unused_imports ) ] use crate :: prelude :: * ;",
-    ),
+    // Of the program and of the exports.
+    ("", PRELUDE),
     ("fn main", "pub fn main"),
+    ("extern", "unsafe extern"),
 ];
 
-const CRATES: &str = "font_decimal font_base font_arithmetic font_f26 font_fixed font_fixed2 \
-    font_tags font_ids font_geom font_types fontval";
+const PRELUDE: &str = "# [ allow ( unused_imports ) ] use crate :: prelude :: * ;";
 
-/// The tokens of a text; a comment is one, without the white space around it.
-fn tokens(text: &str) -> Vec<&str> {
-    let mut tokens = Vec::new();
-    let mut rest = text.trim_start();
-    while !rest.is_empty() {
-        let (token, behind) = rest.split_at(token_length(rest.as_bytes(), rest));
+const CRATES: [&str; 12] = [
+    "font_decimal",
+    "font_base",
+    "font_arithmetic",
+    "font_f26",
+    "font_fixed",
+    "font_fixed2",
+    "font_tags",
+    "font_ids",
+    "font_geom",
+    "font_types",
+    "fontval",
+    "font_c",
+];
+
+/// The tokens of a text, and of each its line; a comment is one, without the white space around it.
+fn tokens(text: &str) -> (Vec<&str>, Vec<usize>) {
+    let (mut tokens, mut lines) = (Vec::new(), Vec::new());
+    let (mut rest, mut line) = (text, 1);
+    loop {
+        let token = rest.trim_start();
+        line += rest[..rest.len() - token.len()].matches('\n').count();
+        if token.is_empty() {
+            return (tokens, lines);
+        }
+        let (token, behind) = token.split_at(token_length(token.as_bytes(), token));
         tokens.push(token.trim_end());
-        rest = behind.trim_start();
+        lines.push(line);
+        line += token.matches('\n').count();
+        rest = behind;
     }
-    tokens
 }
 
 fn token_length(bytes: &[u8], rest: &str) -> usize {
@@ -72,6 +103,8 @@ fn token_length(bytes: &[u8], rest: &str) -> usize {
     };
     match bytes {
         [b'/', b'/', ..] => rest.find('\n').unwrap_or(rest.len()),
+        [b'/', b'*', ..] => rest.find("*/").unwrap() + 2,
+        [b'r', b'"', ..] => rest[2..].find('"').unwrap() + 3,
         [b':', b':', ..] => 2,
         [b'"', ..] => quoted(0),
         [b'b', b'"' | b'\'', ..] => quoted(1),
@@ -107,7 +140,11 @@ fn group(tokens: &[&str]) -> usize {
 
 /// The number of tokens in front that are left out: a clause, a ghost item, an attribute, a line.
 fn left_out(source: &[&str]) -> usize {
-    let skip = usize::from(begins(source, "pub ghost"));
+    let skip = match source {
+        ["pub", "ghost", ..] => 1,
+        ["pub", "(", _, ")", "ghost", ..] => 4,
+        _ => 0,
+    };
     match source[skip..] {
         ["requires" | "ensures", "{", ..] => 1 + group(&source[1..]),
         ["requires" | "ensures", _, "{", ..] => 2 + group(&source[2..]),
@@ -132,52 +169,177 @@ fn left_out(source: &[&str]) -> usize {
 /// How often each change was made.
 type Counts = BTreeMap<&'static str, usize>;
 
-/// Goes over a file of the crate; what differs from the source is one of the changes.
-fn compare(name: &str, path: &Path, source: &[&str], rust: &[&str], counts: &mut Counts) {
-    let (mut at, mut to) = (0, 0);
-    while at < source.len() {
-        let gone = left_out(&source[at..]);
-        if gone > 0 && !rust[to..].starts_with(&source[at..at + gone]) {
-            at += gone;
-            continue;
+/// A file of a crate, and what was made of it.
+struct Pair<'a> {
+    name: &'static str,
+    source: (Vec<&'a str>, Vec<usize>),
+    rust: (Vec<&'a str>, Vec<usize>),
+    // How far both are read.
+    at: usize,
+    to: usize,
+    // The slices that the body of an export has to begin with.
+    slices: String,
+}
+
+impl Pair<'_> {
+    /// Goes over both; what differs from the source is one of the changes.
+    fn compare(&mut self, counts: &mut Counts) {
+        while self.at < self.source.0.len() {
+            let (source, rust) = (&self.source.0[self.at..], &self.rust.0[self.to..]);
+            let gone = gone(source);
+            if gone > 0 && !rust.starts_with(&source[..gone]) {
+                self.at += gone;
+            } else if let Some((pair, slice)) = slice_of_export(source, rust) {
+                self.slices += &slice;
+                self.at += pair;
+                self.to += 9;
+            } else if source[0] == "{" && !self.slices.is_empty() {
+                let made = format!("{{ {}", std::mem::take(&mut self.slices));
+                assert!(begins(rust, &made), "{}", self.place());
+                self.at += 1;
+                self.to += made.split_whitespace().count();
+            } else if rust.first() == source.first() && !is_path(self.name, source, rust) {
+                let (from, into) = (self.source.1[self.at], self.rust.1[self.to]);
+                // A message of the compiler names the line of the source.
+                assert_eq!(from, into, "{}", self.place());
+                self.at += 1;
+                self.to += 1;
+            } else {
+                self.change(counts);
+            }
         }
-        if rust.get(to) == Some(&source[at]) && !is_path(name, &source[at..], &rust[to..]) {
-            at += 1;
-            to += 1;
-            continue;
-        }
+        let errors = errors(&self.source.0);
+        let made = self.rust.0[self.to..].concat();
+        let close = |text: &str| text.replace(' ', "");
+        assert_eq!(close(&made), close(&errors), "{}", self.place());
+        *counts.entry("error").or_default() += errors.matches("=>").count();
+    }
+
+    /// A place at which something is changed.
+    fn change(&mut self, counts: &mut Counts) {
+        let (source, rust) = (&self.source.0[self.at..], &self.rust.0[self.to..]);
         let mut changes = CHANGES.iter().flat_map(|change| {
-            let crates = CRATES.split_whitespace();
-            let crates = crates.filter(|other| change.0 != "crate ::" || *other == name);
+            let crates = CRATES.into_iter();
+            let crates = crates.filter(|other| change.0 != "crate ::" || *other == self.name);
             crates.map(move |of| (change, of))
         });
         let change = changes.find(|((from, into), of)| {
-            begins(&source[at..], &from.replace("CRATE", of))
-                && begins(&rust[to..], &into.replace("CRATE", of))
+            begins(source, &from.replace("CRATE", of)) && begins(rust, &into.replace("CRATE", of))
         });
-        let place = || {
-            format!(
-                "{}: {:?} is {:?}",
-                path.display(),
-                &source[at..],
-                &rust[to..]
-            )
-        };
         let Some(((from, into), _)) = change else {
-            panic!("{:.400}", place());
+            panic!("{}", self.place());
         };
         match *into {
-            "const" => assert_eq!(rust[to + 1], "fn", "{:.400}", place()),
-            "# [ inline ]" => assert!(matches!(rust[to + 4], "pub" | "const" | "fn"), "{path:?}"),
+            "const" => assert_eq!(rust[1], "fn", "{}", self.place()),
+            "# [ inline ]" => {
+                assert!(
+                    matches!(rust[4], "pub" | "const" | "fn"),
+                    "{}",
+                    self.place()
+                );
+            }
+            PRELUDE => assert!(matches!(self.name, "fontval" | "font_c")),
             _ => {}
         }
         *counts
             .entry(if from.is_empty() { into } else { from })
             .or_default() += 1;
-        at += from.split_whitespace().count();
-        to += into.split_whitespace().count();
+        self.at += from.split_whitespace().count();
+        self.to += into.split_whitespace().count();
     }
-    assert_eq!(rust.len(), to, "{}: {:?}", path.display(), &rust[to..]);
+
+    fn place(&self) -> String {
+        let (source, rust) = (&self.source.0[self.at..], &self.rust.0[self.to..]);
+        let line = self.source.1.get(self.at);
+        format!("{} {line:?}: {:.200?} is {:.200?}", self.name, source, rust)
+    }
+}
+
+/// The number of tokens in front that are left out, or that are told of what is left out.
+fn gone(source: &[&str]) -> usize {
+    let is_told = |token: &&&str| token.starts_with("//") || token.starts_with("/*");
+    let told = source.iter().take_while(is_told).count();
+    match left_out(&source[told..]) {
+        0 => 0,
+        _ if told > 0 => 1,
+        len => len,
+    }
+}
+
+/// A slice that an export takes, written as a pointer and a length: the number of its tokens, and
+/// the statement that the body has to begin with.
+fn slice_of_export(source: &[&str], rust: &[&str]) -> Option<(usize, String)> {
+    let (len, item, pointer, call) = match source {
+        [_, ":", "&", "[", item, "]", ..] => (6, item, "const", "slice"),
+        [_, ":", "&", "mut", "[", item, "]", ..] => (7, item, "mut", "slice_mut"),
+        _ => return None,
+    };
+    let name = source[0];
+    let pair = format!("{name} : * {pointer} {item} , {name}_len : usize");
+    let slice = format!("let {name} = unsafe {{ {call} ( {name} , {name}_len ) }} ; ");
+    begins(rust, &pair).then_some((len, slice))
+}
+
+/// What is made of the texts of errors in a file: of each variant its own.
+fn errors(source: &[&str]) -> String {
+    let mut made = Vec::new();
+    let mut of = "";
+    let mut arms = String::new();
+    for at in 0..source.len() {
+        match source[at..] {
+            ["enum" | "struct", name, ..] => of = name,
+            ["#", "[", "error", "(", text, ")", "]", ref behind @ ..] => {
+                let mut behind = behind.iter().filter(|token| !token.starts_with("//"));
+                let variant = match behind.next() {
+                    Some(&"pub" | &"struct") => {
+                        behind.find(|token| **token == "struct");
+                        of = behind.next().unwrap();
+                        "Self".to_string()
+                    }
+                    variant => format!("Self :: {}", variant.unwrap()),
+                };
+                arms += &format!("{variant} {{ {} }} => ", fields(text));
+                let text = text.replace("{0", "{field_0");
+                arms += &format!("write ! ( f , {text} ) , ");
+            }
+            ["}" | ";", ..] if !arms.is_empty() && group_is_type(source, at, of) => {
+                made.push(format!(
+                    "impl core :: error :: Error for {of} {{ }} \
+                     impl core :: fmt :: Display for {of} {{ fn fmt ( & self , f : & mut core :: \
+                     fmt :: Formatter < '_ > ) -> core :: fmt :: Result {{ match self {{ {arms}}} \
+                     }} }}"
+                ));
+                arms.clear();
+            }
+            _ => {}
+        }
+    }
+    made.join(" ")
+}
+
+/// Whether the type of this name ends here.
+fn group_is_type(source: &[&str], end: usize, name: &str) -> bool {
+    let at = source
+        .windows(2)
+        .position(|pair| pair == ["enum", name] || pair == ["struct", name]);
+    let at = at.unwrap() + 2;
+    match source[at] {
+        "{" => at + group(&source[at..]) == end + 1,
+        _ => source[at..].iter().position(|token| *token == ";") == Some(end - at),
+    }
+}
+
+/// The fields that a text shows.
+fn fields(text: &str) -> String {
+    let names = text
+        .split('{')
+        .skip(1)
+        .map(|piece| piece.split([':', '}']).next().unwrap());
+    let fields = names.map(|name| match name {
+        "0" => "0 : field_0 , ".to_string(),
+        name => format!("{name} , "),
+    });
+    fields.collect::<String>() + ". ."
 }
 
 /// Whether `crate ::` stands in both, and the name of the crate behind it in Rust alone.
@@ -195,34 +357,76 @@ fn files(folder: &Path, found: &mut Vec<PathBuf>) {
     }
 }
 
+/// The source of each file of a crate, tests and what stays with Rattle aside, and what is made of
+/// it.
+fn sources(name: &str, out: &Path) -> Vec<(PathBuf, PathBuf)> {
+    let source = Path::new(env!("CARGO_MANIFEST_DIR"))
+        .join("crates")
+        .join(name)
+        .join("src");
+    let mut there = Vec::new();
+    files(&source, &mut there);
+    let mut pairs = Vec::new();
+    for path in there {
+        let inner = path.strip_prefix(&source).unwrap().with_extension("");
+        let first = inner.iter().next().unwrap();
+        let stays = name == "font_types" && (first == "json" || first == "laws");
+        if inner.iter().any(|part| part == "tests") || stays {
+            continue;
+        }
+        let is_root = inner == Path::new("lib") || inner == Path::new("main");
+        let inner = if is_root { Path::new("mod") } else { &inner };
+        pairs.push((path, out.join(name).join(inner).with_extension("rs")));
+    }
+    pairs
+}
+
+/// A folder with what is made of each crate.
+fn out(name: &str) -> PathBuf {
+    if name != "font_c" {
+        return env!("OUT_DIR").into();
+    }
+    let out = std::env::temp_dir().join(format!("erasure-{}", std::process::id()));
+    let crates = Path::new(env!("CARGO_MANIFEST_DIR")).join("crates");
+    crates::write_over(&mut files::Files::default(), name, &crates, &out).unwrap();
+    out
+}
+
+/// Every file of a crate is there, and says what its source says.
 #[test]
 fn what_is_left_is_the_source() {
-    let root = Path::new(env!("CARGO_MANIFEST_DIR"));
-    let out = Path::new(env!("OUT_DIR"));
     let mut counts = Counts::new();
-    let mut made = Vec::new();
-    files(out, &mut made);
-    for path in &made {
-        let inner = path.strip_prefix(out).unwrap();
-        let Some(name) = inner.parent().and_then(|folder| folder.iter().next()) else {
-            continue;
-        };
-        let name = name.to_str().unwrap();
-        let source = root.join("crates").join(name).join("src");
-        let file = inner.strip_prefix(name).unwrap().with_extension("rt");
-        let file = match (file == Path::new("mod.rt"), name) {
-            (true, "fontval") => "main.rt".into(),
-            (true, _) => "lib.rt".into(),
-            _ => file,
-        };
-        let source = source.join(file);
-        let (rt, rs) = (
-            fs::read_to_string(&source).unwrap(),
-            fs::read_to_string(path).unwrap(),
-        );
-        compare(name, &source, &tokens(&rt), &tokens(&rs), &mut counts);
-        // A message of the compiler names the line of the source.
-        assert_eq!(rt.lines().count(), rs.lines().count(), "{}", path.display());
+    let (mut functions, mut slices) = (0, 0);
+    for name in CRATES {
+        let out = out(name);
+        let mut made = Vec::new();
+        files(&out.join(name), &mut made);
+        let pairs = sources(name, &out);
+        assert_eq!(made.len(), pairs.len(), "{name}");
+        for (source, made) in pairs {
+            let (rt, rs) = [&source, &made]
+                .map(|path| fs::read_to_string(path).unwrap())
+                .into();
+            let mut pair = Pair {
+                name,
+                source: tokens(&rt),
+                rust: tokens(&rs),
+                at: 0,
+                to: 0,
+                slices: String::new(),
+            };
+            pair.compare(&mut counts);
+            functions += inlined(&pair.rust.0, made.to_str().unwrap());
+            slices += rs.matches("_len: usize").count();
+            assert!(
+                rs.lines().all(|line| !line.ends_with(' ')),
+                "{}",
+                made.display()
+            );
+        }
+        if name == "font_c" {
+            fs::remove_dir_all(out).unwrap();
+        }
     }
     let constant = include_str!("../build/constant.txt").lines();
     assert_eq!(
@@ -232,33 +436,56 @@ fn what_is_left_is_the_source() {
     for of_clone in ["Result <", ", AllocError >", "Ok (", ")"] {
         assert_eq!(counts[of_clone], 2, "{of_clone}");
     }
-    assert!(counts.len() == CHANGES.len(), "{counts:?}");
+    assert_eq!(counts.len(), CHANGES.len() + 1, "{counts:?}");
+    assert_eq!((counts["error"], slices), (18, 26));
+    assert!(functions > 500, "{functions}");
 }
 
-/// Every file of a crate is there, but for the tests and what stays with Rattle.
-#[test]
-fn nothing_is_forgotten() {
-    let root = Path::new(env!("CARGO_MANIFEST_DIR"));
-    for name in CRATES.split_whitespace() {
-        let source = root.join("crates").join(name).join("src");
-        let mut there = Vec::new();
-        files(&source, &mut there);
-        for path in there {
-            let inner = path.strip_prefix(&source).unwrap().with_extension("");
-            let first = inner.iter().next().unwrap();
-            let stays = name == "font_types" && (first == "json" || first == "laws");
-            if inner.iter().any(|part| part == "tests") || stays {
-                continue;
-            }
-            let is_root = inner == Path::new("lib") || inner == Path::new("main");
-            let inner = if is_root { Path::new("mod") } else { &inner };
-            let made = Path::new(env!("OUT_DIR"))
-                .join(name)
-                .join(inner)
-                .with_extension("rs");
-            assert!(made.exists(), "{}", made.display());
+/// Each function with a body says how it is inlined, but for exports and for texts of errors; how
+/// many do.
+fn inlined(rust: &[&str], path: &str) -> usize {
+    let mut count = 0;
+    for at in (0..rust.len()).filter(|at| rust[*at] == "fn" && rust[at + 1] != "(") {
+        let mut end = at;
+        while !matches!(rust[end], "{" | ";") {
+            end += group(&rust[end..]);
         }
+        let front = rust[..at]
+            .iter()
+            .rposition(|token| matches!(*token, "{" | "}" | ";"));
+        let front = &rust[front.map_or(0, |front| front + 1)..at];
+        let says = front.contains(&"inline") || front.contains(&"extern");
+        let is_of_error = rust[..at].ends_with(&["Display", "for", rust[at - 2], "{"])
+            && begins(&rust[at..], "fn fmt ( & self , f : & mut core ::");
+        assert!(
+            says || rust[end] == ";" || is_of_error,
+            "{path}: {:?}",
+            &rust[at..at + 2]
+        );
+        count += usize::from(says);
     }
+    count
+}
+
+/// What Cargo was told when this package was built: to build anew where a file of the proved text
+/// has changed, and for no test.
+#[test]
+fn what_cargo_was_told() {
+    let output = Path::new(env!("OUT_DIR")).parent().unwrap().join("output");
+    let output = fs::read_to_string(output).unwrap();
+    let mut told: Vec<_> = output.lines().map(PathBuf::from).collect();
+    let mut read = Vec::new();
+    for name in CRATES.into_iter().filter(|name| *name != "font_c") {
+        let sources = sources(name, Path::new("")).into_iter();
+        read.extend(
+            sources.map(|(path, _)| {
+                PathBuf::from(format!("cargo::rerun-if-changed={}", path.display()))
+            }),
+        );
+    }
+    told.sort();
+    read.sort();
+    assert_eq!(told, read);
 }
 
 /// Whether the function whose parameters begin here asks something of its caller.
@@ -276,19 +503,11 @@ fn asks(mut header: &[&str]) -> bool {
 #[test]
 fn what_is_asked_is_said() {
     let mut count = 0;
-    for name in CRATES
-        .split_whitespace()
-        .filter(|name| !matches!(*name, "font_arithmetic" | "fontval"))
-    {
-        let source = Path::new(env!("CARGO_MANIFEST_DIR"))
-            .join("crates")
-            .join(name)
-            .join("src");
-        let mut there = Vec::new();
-        files(&source, &mut there);
-        for path in there {
+    let is_library = |name: &&str| !matches!(*name, "font_arithmetic" | "fontval" | "font_c");
+    for name in CRATES.into_iter().filter(is_library) {
+        for (path, _) in sources(name, Path::new("")) {
             let text = fs::read_to_string(&path).unwrap();
-            let tokens = tokens(&text);
+            let (tokens, _) = tokens(&text);
             let public = (3..tokens.len()).filter(|at| tokens[at - 3..at - 1] == ["pub", "fn"]);
             for at in public.filter(|at| asks(&tokens[*at..])) {
                 let name = tokens[at - 1];

@@ -1,0 +1,124 @@
+//! The program as Cargo builds it: the stored lines, and reads, writes and memory that are refused.
+
+use std::fs::{self, File};
+use std::path::Path;
+use std::process::{Command, Output, Stdio};
+
+const LINES: &str = concat!(env!("CARGO_MANIFEST_DIR"), "/crates/fontval/stdin");
+const ANSWERS: &str = concat!(env!("CARGO_MANIFEST_DIR"), "/crates/fontval/stdout");
+
+/// What runs a program of another machine, where Cargo was told of it.
+fn runner() -> Option<String> {
+    let machine = format!("CARGO_TARGET_{}_", std::env::consts::ARCH.to_uppercase());
+    let is_runner = |name: &str| name.starts_with(&machine) && name.ends_with("_RUNNER");
+    std::env::vars().find_map(|(name, runner)| is_runner(&name).then_some(runner))
+}
+
+/// The program over these streams.
+fn fontval(input: impl Into<Stdio>, output: impl Into<Stdio>) -> Output {
+    let program = env!("CARGO_BIN_EXE_fontval");
+    let mut command = Command::new(runner().as_deref().unwrap_or(program));
+    command.args(runner().map(|_| program));
+    let running = command.stdin(input).stdout(output).stderr(Stdio::piped());
+    running.spawn().unwrap().wait_with_output().unwrap()
+}
+
+#[track_caller]
+fn refuses(run: &Output, complaint: &str) {
+    assert_eq!(String::from_utf8_lossy(&run.stderr), complaint);
+    assert_eq!(run.status.code(), Some(1));
+}
+
+#[test]
+fn stored_lines() {
+    let run = fontval(File::open(LINES).unwrap(), Stdio::piped());
+    assert!(run.status.success() && run.stderr.is_empty(), "{run:?}");
+    let answers = fs::read(ANSWERS).unwrap();
+    let lines = |bytes: &[u8]| bytes.split(|byte| *byte == b'\n').count();
+    assert!(lines(&answers) > 4400);
+    for (made, stored) in run
+        .stdout
+        .split(|b| *b == b'\n')
+        .zip(answers.split(|b| *b == b'\n'))
+    {
+        assert_eq!(
+            String::from_utf8_lossy(made),
+            String::from_utf8_lossy(stored)
+        );
+    }
+    assert_eq!(run.stdout.len(), answers.len());
+}
+
+#[test]
+fn no_lines() {
+    let run = fontval(Stdio::null(), Stdio::piped());
+    assert!(run.status.success() && run.stdout.is_empty() && run.stderr.is_empty());
+}
+
+#[test]
+#[cfg(unix)]
+fn refused_reads() {
+    let folder = File::open(env!("CARGO_MANIFEST_DIR")).unwrap();
+    let only_written = File::create("/dev/null").unwrap();
+    for input in [folder, only_written] {
+        let run = fontval(input, Stdio::piped());
+        refuses(&run, "fontval: read\n");
+        assert!(run.stdout.is_empty());
+    }
+}
+
+#[test]
+#[cfg(unix)]
+fn refused_writes() {
+    let lines = || File::open(LINES).unwrap();
+    let only_read = File::open("/dev/null").unwrap();
+    refuses(&fontval(lines(), only_read), "fontval: write\n");
+    // Its reader has gone away.
+    let (here, there) = std::os::unix::net::UnixStream::pair().unwrap();
+    drop(there);
+    let gone: std::os::fd::OwnedFd = here.into();
+    refuses(&fontval(lines(), gone), "fontval: write\n");
+    if Path::new("/dev/full").exists() {
+        let full = File::create("/dev/full").unwrap();
+        refuses(&fontval(lines(), full), "fontval: write\n");
+    }
+}
+
+/// The program below a shell that has set a limit, which one of another machine does not bear.
+#[cfg(unix)]
+fn limited(script: &str) -> Option<Output> {
+    let mut shell = Command::new("sh");
+    let words = ["-c", script, env!("CARGO_BIN_EXE_fontval"), LINES];
+    runner()
+        .is_none()
+        .then(|| shell.args(words).output().unwrap())
+}
+
+// A file takes all of the answers but the last bytes, fewer than 512.
+#[test]
+#[cfg(target_os = "linux")]
+fn file_with_a_limit() {
+    let answers = fs::read(ANSWERS).unwrap();
+    let blocks = (answers.len() - 1) / 512;
+    let file = std::env::temp_dir().join(format!("fontval-{}", std::process::id()));
+    let file_name = file.display();
+    let script = format!("trap '' XFSZ; ulimit -f {blocks}; \"$0\" <\"$1\" >'{file_name}'");
+    if let Some(run) = limited(&script) {
+        refuses(&run, "fontval: write\n");
+        assert_eq!(fs::read(&file).unwrap(), answers[..512 * blocks]);
+        fs::remove_file(file).unwrap();
+    }
+}
+
+// There is no room for the input, or for the answers, which are eight times as long.
+#[test]
+#[cfg(target_os = "linux")]
+fn refused_memory() {
+    for input in ["head -c 20000000 /dev/zero", "yes '' | head -c 1200000"] {
+        let script = format!("ulimit -v 16000; {input} | \"$0\"");
+        if let Some(run) = limited(&script) {
+            refuses(&run, "fontval: memory\n");
+            assert!(run.stdout.is_empty());
+        }
+    }
+}
