@@ -345,6 +345,74 @@ fn pads_to_a_width(rt: HostRuntime) {
     }
 }
 
+// The length of a text padded into a room of `#`, which then begins with this; `None` where the text
+// is no decimal or the room is too short.
+fn is_padded(text: &str, pad: &Pad, room: &mut [u8], front: &[u8]) -> Option<usize>
+    requires { pad.now.fill < 128 }
+{
+    if read_decimal(text, 6, LEAST, GREATEST).is_err() {
+        return None;
+    }
+    let written = write_padded(text, room, pad)?;
+    if room.starts_with(front) {
+        Some(written)
+    } else {
+        None
+    }
+}
+
+// A leading `-` is the sign, also of zero.
+#[test]
+fn pads_any_decimal(rt: HostRuntime) {
+    for &(text, width, plus, zeros, want) in &[
+        ("-0", 0, true, false, "-0##"),
+        ("-0", 4, true, false, "-0**"),
+        ("-0", 4, true, true, "-000"),
+        ("0", 3, true, true, "+00#"),
+        ("-00.50", 0, true, false, "-00.50##"),
+        ("007", 5, true, true, "+0007###"),
+    ] {
+        let mut room = [b'#'; 8];
+        let pad = pad(width, b'*', Align::Left, plus, zeros);
+        let len = want.trim_end_matches('#').len();
+        assert!(rt;
+            is_padded(text, &pad, &mut room, want.as_bytes()) == Some(len),
+            "at {want}"
+        );
+    }
+}
+
+#[test]
+fn pads_to_a_great_width(rt: HostRuntime) -> Result<(), Fail> {
+    for &(align, zeros, front, behind) in &[
+        (Align::Right, false, "", "1.5"),
+        (Align::Right, true, "", "1.5"),
+        (Align::Left, false, "1.5", ""),
+    ] {
+        let mut room = [b'#'; 5000];
+        let fill = if zeros { "0" } else { "*" }.repeat(rt.alloc(), 4197)?;
+        let want = format!(in rt.alloc(); "{front}{fill}{behind}#")?;
+        let pad = pad(4200, b'*', align, false, zeros);
+        assert!(rt;
+            is_padded("1.5", &pad, &mut room, want.as_bytes()) == Some(4200),
+            "{front}"
+        );
+        assert!(rt; room.ends_with(&[b'#'; 800]), "behind {front}");
+    }
+    Ok(())
+}
+
+#[test]
+fn pads_a_long_text(rt: HostRuntime) -> Result<(), Fail> {
+    let text = text_of_parts(rt.alloc(), "1.", "0", 70_000, "5")?;
+    let want = format!(in rt.alloc(); "+{text}##")?;
+    let mut room = "#".repeat(rt.alloc(), 70_006)?.into_bytes();
+    let plus = pad(0, b'*', Align::Left, true, false);
+    let written = is_padded(text.as_str(), &plus, &mut room, want.as_bytes());
+    assert!(rt; written == Some(70_004), "a text of 70,003 bytes");
+    Ok(())
+}
+
 #[test]
 fn refuses_to_pad_into_too_little_room(rt: HostRuntime) {
     let mut short = [b'#'; 7];

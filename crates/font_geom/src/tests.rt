@@ -3,6 +3,7 @@
 mod boxes;
 mod images;
 mod matrices;
+mod ordered;
 mod points;
 mod ring;
 mod traits;

@@ -98,6 +98,43 @@ fn refusals_leave_the_place(rt: HostRuntime) {
     assert!(rt; font_fixed_to_decimal(0x1_8000, &mut out) == 0 && out == *b"..");
 }
 
+// Bytes that are not ASCII, in UTF-8 or not, at each width.
+#[test]
+fn texts_that_are_not_ascii(rt: HostRuntime) {
+    let rows: &[&[u8]] = &[b"1\xFF", b"\x80", b"\xC3\xA9", b"1.5\xC2\xA0", b"\xD9\xA1"];
+    for &text in rows {
+        let (mut narrow, mut bits, mut wide) = (7, 7, 7);
+        assert!(rt;
+            font_f2dot14_from_decimal(text, &mut narrow) == 1 && narrow == 7,
+            "2.14"
+        );
+        assert!(rt;
+            font_f4dot12_from_decimal(text, &mut narrow) == 1 && narrow == 7,
+            "4.12"
+        );
+        assert!(rt;
+            font_f6dot10_from_decimal(text, &mut narrow) == 1 && narrow == 7,
+            "6.10"
+        );
+        assert!(rt;
+            font_fixed_from_decimal(text, &mut bits) == 1 && bits == 7,
+            "16.16"
+        );
+        assert!(rt;
+            font_f26dot6_from_decimal(text, &mut bits) == 1 && bits == 7,
+            "26.6"
+        );
+        assert!(rt;
+            font_f2dot30_from_decimal(text, &mut bits) == 1 && bits == 7,
+            "2.30"
+        );
+        assert!(rt;
+            font_f48dot16_from_decimal(text, &mut wide) == 1 && wide == 7,
+            "48.16"
+        );
+    }
+}
+
 #[test]
 fn paddings_refused(rt: HostRuntime) {
     // the fill, the alignment, and the length of the answer in eight bytes and in five

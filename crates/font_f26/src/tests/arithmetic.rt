@@ -71,12 +71,24 @@ fn parts(rt: HostRuntime) {
 
 #[test]
 fn assigning(rt: HostRuntime) {
-    let mut number = F26Dot6::ONE;
-    number += F26Dot6::ONE;
-    number *= F26Dot6::from_i32(2);
-    number /= F26Dot6::from_i32(8);
-    number -= F26Dot6::ONE;
-    assert!(rt; number.to_bits() == -32);
+    for &(x, y, sum, rest, product, quotient) in &[
+        (192, 128, 320, 64, 384, 96),
+        (-96, 32, -64, -128, -48, -192),
+        (i32::MAX, 1, i32::MIN, i32::MAX - 1, 0x200_0000, -64),
+        (i32::MIN, 1, i32::MIN + 1, i32::MAX, -0x200_0000, 0),
+    ] {
+        let [x, y] = [x, y].map(F26Dot6::from_bits);
+        let mut numbers = [x; 4];
+        numbers[0] += y;
+        numbers[1] -= y;
+        numbers[2] *= y;
+        numbers[3] /= y;
+        let wanted = [sum, rest, product, quotient];
+        assert!(rt;
+            numbers.map(F26Dot6::to_bits) == wanted,
+            "assigned {y} to {x}"
+        );
+    }
 }
 
 #[test]

@@ -38,7 +38,20 @@ fn read(rt: HostRuntime) {
         assert!(rt; F26Dot6::from_decimal(text) == Ok(F26Dot6::from_bits(bits)));
     }
     assert!(rt; F26Dot6::from_decimal("33554431.9921875") == Err(DecimalFault::OutOfRange));
-    assert!(rt; F26Dot6::from_decimal("1.") == Err(DecimalFault::Syntax));
+}
+
+#[test]
+fn not_decimal(rt: HostRuntime) {
+    for &text in &["1.", " 1", "1 "] {
+        assert!(rt;
+            F26Dot6::from_decimal(text) == Err(DecimalFault::Syntax),
+            "{text}"
+        );
+        assert!(rt;
+            text.parse::<F26Dot6>() == Err(DecimalFault::Syntax),
+            "parsed {text}"
+        );
+    }
 }
 
 #[test]

@@ -124,21 +124,24 @@ fn parts(rt: HostRuntime) {
     assert!(rt; parts.map(F48Dot16::to_bits) == [-0x2_0000, 0x7FFF, 0x1_8001]);
 }
 
+// The sums and differences that are assigned stand in `ends.rt`.
 #[test]
 fn assigning(rt: HostRuntime) {
-    let mut number = Fixed::ONE;
-    number += Fixed::ONE;
-    number *= Fixed::from_i32(2);
-    number /= Fixed::from_i32(8);
-    number -= Fixed::ONE;
-    let mut narrow = F2Dot14::ONE;
-    narrow += F2Dot14::from_bits(0x2000);
-    narrow -= F2Dot14::ONE;
-    let mut wide = F48Dot16::ONE;
-    wide += F48Dot16::from_bits(5);
-    wide -= F48Dot16::ONE;
-    assert!(rt; number.to_bits() == -0x8000);
-    assert!(rt; (-narrow).to_bits() == -0x2000 && (-wide).to_bits() == -5);
+    for &(x, y, product, quotient) in &[
+        (0x3_0000, 0x2_0000, 0x6_0000, 0x1_8000),
+        (-0x1_8000, 0x8000, -0xC000, -0x3_0000),
+        (i32::MIN, -0x1_0000, i32::MIN, i32::MIN),
+        (i32::MAX, 1, 0x8000, -0x1_0000),
+    ] {
+        let [x, y] = [x, y].map(Fixed::from_bits);
+        let mut numbers = [x; 2];
+        numbers[0] *= y;
+        numbers[1] /= y;
+        assert!(rt;
+            numbers.map(Fixed::to_bits) == [product, quotient],
+            "assigned {y} to {x}"
+        );
+    }
 }
 
 #[test]

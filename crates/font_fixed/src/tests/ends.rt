@@ -38,6 +38,10 @@ macro_rules! check_sums {
             let checked = x.checked_add(y).map($Number::to_bits);
             let exact = if wrapped == nearest { Some(wrapped) } else { None };
             assert!($rt; sums == [wrapped, wrapped, nearest] && rests == sums && checked == exact);
+            let (mut sum, mut rest) = (x, x);
+            sum += y;
+            rest -= -y;
+            assert!($rt; [sum, rest].map($Number::to_bits) == [wrapped; 2], "assigned {y} to {x}");
         }
     };
 }
@@ -84,4 +88,5 @@ fn sums_of_48_16(rt: HostRuntime) {
 fn signs(rt: HostRuntime) {
     check_signs!(rt, F2Dot14);
     check_signs!(rt, Fixed);
+    check_signs!(rt, F48Dot16);
 }

@@ -4,6 +4,7 @@ use crate::{F2Dot14, F48Dot16, Fixed};
 use font_decimal::DecimalFault;
 use std::alloc::{AllocError, Global};
 use std::fmt::{Debug, Display};
+use std::str::FromStr;
 use std::test::Fail;
 
 /// Whether a number is printed as a text, also with flags: `write_padded` has a rule of its own.
@@ -98,13 +99,28 @@ fn read_of_many_digits(rt: HostRuntime) -> Result<(), Fail> {
     Ok(())
 }
 
+/// Whether a text is read as no decimal, and parsed as none too.
+fn is_no_decimal<T>(read: Result<T, DecimalFault>, text: &str) -> bool
+where
+    T: FromStr<Err = DecimalFault> + Drop,
+{
+    let (read, parsed) = (read.err(), text.parse::<T>().err());
+    read == Some(DecimalFault::Syntax) && parsed == Some(DecimalFault::Syntax)
+}
+
 #[test]
 fn not_decimal(rt: HostRuntime) {
-    for &text in &["", "-", ".5", "5.", "+1", "1e3", "1.2.3", " 1"] {
-        assert!(rt; Fixed::from_decimal(text) == Err(DecimalFault::Syntax));
+    for &text in &["", "-", ".5", "5.", "+1", "1e3", "1.2.3", " 1", "1 "] {
+        assert!(rt; is_no_decimal(Fixed::from_decimal(text), text), "{text}");
+        assert!(rt;
+            is_no_decimal(F2Dot14::from_decimal(text), text),
+            "2.14: {text}"
+        );
+        assert!(rt;
+            is_no_decimal(F48Dot16::from_decimal(text), text),
+            "48.16: {text}"
+        );
     }
-    assert!(rt; F2Dot14::from_decimal("+1") == Err(DecimalFault::Syntax));
-    assert!(rt; F48Dot16::from_decimal("-") == Err(DecimalFault::Syntax));
 }
 
 #[test]

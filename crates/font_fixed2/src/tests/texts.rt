@@ -4,6 +4,7 @@ use crate::{F2Dot30, F4Dot12, F6Dot10};
 use font_decimal::{DecimalFault, Pad};
 use std::alloc::{AllocError, Global};
 use std::fmt::{Debug, Display};
+use std::str::FromStr;
 use std::test::Fail;
 
 /// Whether a number is printed as a text, also with flags: `write_padded` has a rule of its own.
@@ -72,6 +73,33 @@ fn refused(rt: HostRuntime) {
     assert!(rt; ["-32.0005", ""].map(F6Dot10::from_decimal) == faults);
     let faults = [Err(DecimalFault::OutOfRange), Err(DecimalFault::Syntax)];
     assert!(rt; ["1.9999999996", "1."].map(F2Dot30::from_decimal) == faults);
+}
+
+/// Whether a text is read as no decimal, and parsed as none too.
+fn is_no_decimal<T>(read: Result<T, DecimalFault>, text: &str) -> bool
+where
+    T: FromStr<Err = DecimalFault> + Drop,
+{
+    let (read, parsed) = (read.err(), text.parse::<T>().err());
+    read == Some(DecimalFault::Syntax) && parsed == Some(DecimalFault::Syntax)
+}
+
+#[test]
+fn not_decimal(rt: HostRuntime) {
+    for &text in &[" 1", "1 "] {
+        assert!(rt;
+            is_no_decimal(F4Dot12::from_decimal(text), text),
+            "4.12: {text}"
+        );
+        assert!(rt;
+            is_no_decimal(F6Dot10::from_decimal(text), text),
+            "6.10: {text}"
+        );
+        assert!(rt;
+            is_no_decimal(F2Dot30::from_decimal(text), text),
+            "2.30: {text}"
+        );
+    }
 }
 
 #[test]

@@ -32,6 +32,9 @@ fn converted(rt: HostRuntime) {
     assert!(rt; GlyphId::from(7u16) == GlyphId::from(7u32));
     assert!(rt; GlyphId::from(GlyphId16::from(7)) == GlyphId::new(7));
     assert!(rt; GlyphId::from(GlyphId24::new(70000)) == GlyphId::new(70000));
+    for &number in &[65543, 0x100_0007, 0x8000_0000, u32::MAX] {
+        assert!(rt; GlyphId::from(number).to_u32() == number, "from {number}");
+    }
 }
 
 #[test]

@@ -20,6 +20,13 @@ fn numbers(rt: HostRuntime) {
     assert!(rt; Offset32::new(4294967295).value_u32() == 4294967295);
     assert!(rt; Offset16::new(7).value_u32() == 7);
     assert!(rt; Offset24::new(Uint24::new(7)).value_u32() == 7);
+    for &number in &[65535, 65536, 65543, 16777215] {
+        let middle = Offset24::new(Uint24::new(number));
+        assert!(rt;
+            [middle.to_u32(), middle.value_u32()] == [number; 2],
+            "{number}"
+        );
+    }
 }
 
 #[test]
@@ -29,6 +36,15 @@ fn compared_with_numbers(rt: HostRuntime) {
         assert!(rt; Offset16::new(7).eq_u32(&number) == equal && middle.eq_u32(&number) == equal);
         assert!(rt; Offset32::new(7).eq_u32(&number) == equal);
     }
+    let (middle, long) = (Offset24::new(Uint24::new(65543)), Offset32::new(16777223));
+    for &(number, of_middle, of_long) in &[
+        (7, false, false),
+        (65543, true, false),
+        (16777223, false, true),
+    ] {
+        assert!(rt; middle.eq_u32(&number) == of_middle, "24 bits: {number}");
+        assert!(rt; long.eq_u32(&number) == of_long, "32 bits: {number}");
+    }
 }
 
 #[test]
@@ -37,6 +53,9 @@ fn stored(rt: HostRuntime) {
     assert!(rt; Offset24::read(&[1, 2, 3]) == Some(Offset24::new(Uint24::new(0x01_0203))));
     assert!(rt; Offset32::read(&[1, 2, 3, 4]) == Some(Offset32::new(0x0102_0304)));
     assert!(rt; Offset24::read(&[1, 2, 3, 4]).is_none());
+    assert!(rt; Offset16::new(0x0102).to_raw() == [1, 2]);
+    assert!(rt; Offset24::new(Uint24::new(0x01_0203)).to_raw() == [1, 2, 3]);
+    assert!(rt; Offset32::new(0x0102_0304).to_raw() == [1, 2, 3, 4]);
 }
 
 #[test]
@@ -78,6 +97,18 @@ fn nullable_with_an_offset(rt: HostRuntime) -> Result<(), Fail> {
     assert!(rt; some.eq_u32(&0x0102) && !some.eq_u32(&2) && !some.eq_u32(&0x1_0102));
     assert!(rt; some.clone()? == some && some.to_raw() == [1, 2]);
     Ok(())
+}
+
+#[test]
+fn nullable_at_the_greatest(rt: HostRuntime) {
+    let short = Nullable::<Offset16>::from_raw([0xFF, 0xFF]);
+    let middle = Nullable::<Offset24>::from_raw([0x00, 0xFF, 0xFF]);
+    let long = Nullable::<Offset32>::from_raw([0xFF; 4]);
+    assert!(rt; ![short.is_null(), middle.is_null(), long.is_null()].contains(&true));
+    assert!(rt; short.offset().to_u32() == 65535 && short.eq_u32(&65535) && !short.eq_u32(&0));
+    assert!(rt; middle.offset().to_u32() == 65535 && middle.eq_u32(&65535) && !middle.eq_u32(&0));
+    assert!(rt; long.eq_u32(&u32::MAX) && !long.eq_u32(&0) && !long.eq_u32(&65535));
+    assert!(rt; short.to_raw() == [0xFF; 2] && long.to_raw() == [0xFF; 4]);
 }
 
 #[test]

@@ -86,6 +86,19 @@ fn compared_with_bytes(rt: HostRuntime) {
     assert!(rt; tag.eq_str("ttcf") && !tag.eq_str("ttc"));
     assert!(rt; tag.eq_slice(b"ttcf") && !tag.eq_slice(b"ttcf "));
     assert!(rt; tag.as_bytes() == &[0x74, 0x74, 0x63, 0x66]);
+    let filled = Tag::new(b"cvt ");
+    for &(text, equal) in &[
+        ("cvt ", true),
+        ("cvt", false),
+        ("cvt  ", false),
+        ("cvt\0", false),
+    ] {
+        assert!(rt; filled.eq_str(text) == equal, "{text}");
+        assert!(rt;
+            filled.eq_slice(text.as_bytes()) == equal,
+            "bytes of {text}"
+        );
+    }
 }
 
 #[test]

@@ -110,9 +110,22 @@ fn pairs_compatible(rt: HostRuntime) {
 
 #[test]
 fn minor_numbers_compatible(rt: HostRuntime) {
-    let numbers = [(3, 2), (3, 3), (2, 3), (0, 0)];
-    let compatible = numbers.map(|(number, other)| Compatible::<u16>::compatible(&number, other));
-    assert!(rt; compatible == [true, true, false, true]);
+    for &(number, other, compatible) in &[
+        (3, 2, true),
+        (3, 3, true),
+        (2, 3, false),
+        (0, 0, true),
+        (100, 100, true),
+        (100, 99, true),
+        (99, 100, false),
+        (0x7FFF, 0x8000, false),
+        (0x8000, 0x7FFF, true),
+        (0xFFFF, 0x8000, true),
+        (0x8000, 0xFFFF, false),
+    ] {
+        let is = Compatible::<u16>::compatible(&number, other);
+        assert!(rt; is == compatible, "{number} for {other}");
+    }
 }
 
 #[test]

@@ -63,6 +63,32 @@ fn quantities_moved(rt: HostRuntime) {
     assert!(rt; vary(least, &[GREATEST]) == Some(4611686016279904256));
 }
 
+// The sum is the greatest or the least of 64 bits, and what is moved by it lies outside of them.
+#[test]
+fn quantities_moved_beyond_64_bits(rt: HostRuntime) {
+    let greatest = [GREATEST, GREATEST, (Fixed::EPSILON, -1)];
+    let least = [
+        (Fixed::MAX, i32::MIN),
+        (Fixed::MAX, i32::MIN),
+        (Fixed::MIN, 2),
+    ];
+    for &(base, above, below) in &[
+        (0, 9223372036854775807, -9223372036854775808),
+        (1, 9223372036854841343, -9223372036854710272),
+        (-1, 9223372036854710271, -9223372036854841344),
+        (32767, 9223372039002193919, -9223372034707357696),
+    ] {
+        assert!(rt;
+            vary(FWord::new(base), &greatest) == Some(above),
+            "above {base}"
+        );
+        assert!(rt;
+            vary(FWord::new(base), &least) == Some(below),
+            "below {base}"
+        );
+    }
+}
+
 #[test]
 fn sfnt_versions(rt: HostRuntime) {
     assert!(rt; TT_SFNT_VERSION == 65536 && TRUE_SFNT_VERSION == u32::from_be_bytes(*b"true"));

@@ -91,6 +91,30 @@ fn texts_of_2_30(rt: HostRuntime) {
     assert!(rt; misread(rt.alloc(), &rows) == None);
 }
 
+// Whether a number is read from none of the texts of 1 with a blank.
+fn refuses_blanks<T: JsonScalar + Drop>(alloc: Global) -> Result<bool, Fail> {
+    for &text in &[" 1", "1 "] {
+        let read = T::from_json(&Value::String(String::from_str(alloc, text)?));
+        if read.err() != Some(JsonFault::Syntax) {
+            return Ok(false);
+        }
+    }
+    Ok(true)
+}
+
+#[test]
+fn texts_with_blanks(rt: HostRuntime) -> Result<(), Fail> {
+    let alloc = rt.alloc();
+    assert!(rt; refuses_blanks::<F2Dot14>(alloc)?, "2.14");
+    assert!(rt; refuses_blanks::<F4Dot12>(alloc)?, "4.12");
+    assert!(rt; refuses_blanks::<F6Dot10>(alloc)?, "6.10");
+    assert!(rt; refuses_blanks::<Fixed>(alloc)?, "16.16");
+    assert!(rt; refuses_blanks::<F26Dot6>(alloc)?, "26.6");
+    assert!(rt; refuses_blanks::<F48Dot16>(alloc)?, "48.16");
+    assert!(rt; refuses_blanks::<F2Dot30>(alloc)?, "2.30");
+    Ok(())
+}
+
 #[test]
 fn refused(rt: HostRuntime) -> Result<(), Fail> {
     for &(text, ref fault) in &[

@@ -20,7 +20,7 @@ fn tags(rt: HostRuntime) -> Result<(), Fail> {
 #[test]
 fn texts_that_are_no_tag(rt: HostRuntime) -> Result<(), Fail> {
     let alloc = rt.alloc();
-    for &text in &["", "abcde", "abcd ", "b cc", "\u{7F}abc"] {
+    for &text in &["", "abcde", "abcd ", " abc", "b cc", "\u{7F}abc"] {
         let read = Tag::from_json(&Value::String(String::from_str(alloc, text)?));
         assert!(rt; read == Err(JsonFault::InvalidTag), "{text}");
     }
@@ -59,6 +59,10 @@ fn objects_that_are_no_version(rt: HostRuntime) -> Result<(), Fail> {
         (r#"{"minor":70000,"major":"x"}"#, JsonFault::WrongKind),
         (r#"{"minor":70000,"major":1}"#, JsonFault::OutOfRange),
         (r#"{"major":70000}"#, JsonFault::OutOfRange),
+        (r#"{"major":null,"minor":5}"#, JsonFault::WrongKind),
+        (r#"{"major":10,"minor":null}"#, JsonFault::WrongKind),
+        (r#"{"major":null}"#, JsonFault::WrongKind),
+        ("null", JsonFault::WrongKind),
     ] {
         let read = MajorMinor::from_json(&Value::from_str(alloc, text)?);
         assert!(rt; read.err().as_ref() == Some(fault), "{text}");
