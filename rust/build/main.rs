@@ -20,21 +20,20 @@ fn main() {
     for line in crates::build(&name, &package, &out) {
         println!("cargo::{line}");
     }
-    if package == "font-types-c" {
-        name_shared_library();
-    }
+    name_shared_library();
 }
 
 /// Gives the shared library the name that programs look for. Below 1.0 a minor version may change
 /// what is called, so that it has a name of its own.
 fn name_shared_library() {
     let variable = |name| env::var(name).unwrap_or_default();
+    let is_ours = variable("CARGO_PKG_NAME") == "font-types-c";
     let is_elf = variable("CARGO_CFG_TARGET_OS") == "linux";
     let (major, minor) = (
         variable("CARGO_PKG_VERSION_MAJOR"),
         variable("CARGO_PKG_VERSION_MINOR"),
     );
-    if is_elf {
+    if is_ours && is_elf {
         println!("cargo::rustc-cdylib-link-arg=-Wl,-soname,libfont_c.so.{major}.{minor}");
     }
 }
