@@ -1,6 +1,7 @@
 //! The number types of both crates, by one set of calls. The type of 30 bits of fraction, which
 //! `font-types` has not, stands beside one of whole numbers of 128 bits.
 
+use crate::text::Text;
 use font_types_proved::{self as here, DecimalFault, Pad};
 use std::fmt::{self, Write};
 
@@ -112,35 +113,3 @@ pub const F2DOT30: Both = both!(F2Dot30 i32 30);
 
 /// Every type.
 pub const ALL: [Both; 7] = [F2DOT14, F4DOT12, F6DOT10, FIXED, F26DOT6, F48DOT16, F2DOT30];
-
-/// A text of up to 64 bytes that `write!` writes.
-pub struct Text {
-    bytes: [u8; 64],
-    length: usize,
-}
-
-impl Text {
-    /// What the function writes.
-    pub fn of(bits: i64, write: fn(i64, &mut Text) -> fmt::Result) -> Self {
-        let mut text = Self {
-            bytes: [0; 64],
-            length: 0,
-        };
-        write(bits, &mut text).expect("64 bytes are room enough");
-        text
-    }
-
-    pub fn as_str(&self) -> &str {
-        str::from_utf8(&self.bytes[..self.length]).expect("texts were written")
-    }
-}
-
-impl Write for Text {
-    fn write_str(&mut self, piece: &str) -> fmt::Result {
-        let end = self.length + piece.len();
-        let place = self.bytes.get_mut(self.length..end).ok_or(fmt::Error)?;
-        place.copy_from_slice(piece.as_bytes());
-        self.length = end;
-        Ok(())
-    }
-}

@@ -1,6 +1,7 @@
 //! Decimals and fixed-point numbers by whole numbers of 128 bits: what is exact, and the type
 //! `F2Dot30`, which `font-types` has not.
 
+use font_types_tools::exact::{near, shortest, up, wrap};
 use std::fmt;
 use std::ops::{Add, Neg, Sub};
 
@@ -12,25 +13,12 @@ pub struct Exact {
 }
 
 impl Exact {
-    /// The decimal of so many places that is nearest to `bits / 2^f`.
-    pub fn nearest(bits: i64, f: u32, places: u32) -> Self {
-        let numeral = rounded(i128::from(bits) * 10i128.pow(places), 1 << f);
-        Self { numeral, places }
-    }
-
-    /// The decimal of `bits / 2^f` with the fewest places that is read back, the nearest of these.
-    pub fn shortest(bits: i64, f: u32) -> Self {
-        let mut decimals = (0..).map(|places| Self::nearest(bits, f, places));
-        let read_back = decimals.find(|decimal| decimal.steps(f) == i128::from(bits));
-        read_back.expect("a decimal of `f` places is the number itself")
-    }
-
     /// The nearest number of steps of `1 / 2^f`, ties away from zero.
     pub fn steps(self, f: u32) -> i128 {
         let fives = 5i128.pow(self.places);
         match f.checked_sub(self.places) {
-            Some(shift) => rounded(self.numeral << shift, fives),
-            None => rounded(self.numeral, fives << (self.places - f)),
+            Some(shift) => near(self.numeral << shift, fives),
+            None => near(self.numeral, fives << (self.places - f)),
         }
     }
 }
@@ -45,12 +33,6 @@ impl fmt::Display for Exact {
         let point = if places > 0 { "." } else { "" };
         f.pad_integral(self.numeral >= 0, "", &format!("{whole}{point}{fraction}"))
     }
-}
-
-// `n / d` rounded to the nearest whole number, ties away from zero.
-fn rounded(n: i128, d: i128) -> i128 {
-    let magnitude = (2 * n.abs() + d) / (2 * d);
-    if n < 0 { -magnitude } else { magnitude }
 }
 
 /// A number of 32 bits with 30 bits of fraction.
@@ -74,7 +56,7 @@ impl F2Dot30 {
 
     // The number with these bits, wrapped to 32.
     fn wrapped(bits: i128) -> Self {
-        Self(((bits + (1 << 31)).rem_euclid(1 << 32) - (1 << 31)) as i32)
+        Self(wrap(32, bits) as i32)
     }
 
     // The same, or the nearest end.
@@ -83,7 +65,7 @@ impl F2Dot30 {
     }
 
     pub fn round(self) -> Self {
-        Self::wrapped((self.exact() + ONE / 2).div_euclid(ONE) * ONE)
+        Self::wrapped(up(self.exact(), ONE) * ONE)
     }
 
     pub fn floor(self) -> Self {
@@ -150,6 +132,7 @@ impl Neg for F2Dot30 {
 
 impl fmt::Display for F2Dot30 {
     fn fmt(&self, f: &mut fmt::Formatter<'_>) -> fmt::Result {
-        Exact::shortest(self.0.into(), 30).fmt(f)
+        let text = shortest(self.exact(), 30);
+        f.pad_integral(self.0 >= 0, "", text.trim_start_matches('-'))
     }
 }

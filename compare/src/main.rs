@@ -24,6 +24,7 @@ mod random;
 mod reading;
 mod tags;
 mod tally;
+mod text;
 mod work;
 
 use std::process::ExitCode;

@@ -1,11 +1,12 @@
 //! Numbers one by one and in pairs: texts, padding, rounding, sums, products and conversions.
 
-use crate::both::{ALL, Both, F2DOT14, F4DOT12, F6DOT10, Text, there};
-use crate::exact::Exact;
+use crate::both::{ALL, Both, F2DOT14, F4DOT12, F6DOT10, there};
 use crate::random::Random;
 use crate::tally::Tally;
+use crate::text::Text;
 use crate::work::Work;
 use font_types_proved::{self as here, Align, Pad};
+use font_types_tools::exact;
 
 const ROWS: [&str; 10] = [
     "text",
@@ -47,12 +48,12 @@ pub fn random(work: &mut Work, of: &Both) {
 // One value, printed by `{}` with neither a width nor a precision.
 fn value(of: &Both, bits: i64, is_chosen: bool, tally: &mut Tally) {
     let example = || format!("bits {bits}");
-    let (text, other) = (Text::of(bits, of.write), Text::of(bits, of.write_there));
+    let [text, other] = [of.write, of.write_there].map(|write| Text::of(|text| write(bits, text)));
     tally.judge(0, text.as_str() == other.as_str(), example);
     tally.judge(2, (of.read)(text.as_str()) == Ok(bits), example);
     tally.judge_each(4, (of.unary)(bits), example);
     if is_chosen {
-        let shortest = Exact::shortest(bits, of.fraction_bits).to_string();
+        let shortest = exact::shortest(bits.into(), of.fraction_bits);
         tally.judge(1, text.as_str() == shortest, example);
         tally.judge(3, padded_alike(of, bits), example);
     }

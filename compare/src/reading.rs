@@ -29,26 +29,14 @@ fn of_type(work: &mut Work, of: &Both) {
     work.go_over_random(&title, rows, 20_000_000, |random, tally| {
         let (numeral, places) = (random.bits_32().into(), random.below(6) as u32);
         let decimal = Exact { numeral, places };
-        read(
-            of,
-            &decimal.to_string(),
-            decimal.steps(of.fraction_bits),
-            true,
-            tally,
-        );
+        read_exact(of, decimal, true, tally);
     });
     let title = format!("{name}, decimals of up to 30 places");
     work.go_over_random(&title, &ROWS[..1], 20_000_000, |random, tally| {
         let numeral = i128::from(random.bits_64()) << 30 ^ i128::from(random.bits_32());
         let places = random.below(31) as u32;
         let decimal = Exact { numeral, places };
-        read(
-            of,
-            &decimal.to_string(),
-            decimal.steps(of.fraction_bits),
-            false,
-            tally,
-        );
+        read_exact(of, decimal, false, tally);
     });
     let title = format!("{name}, half steps");
     if of.width == 16 {
@@ -95,13 +83,7 @@ fn half_step(of: &Both, below: i64, tally: &mut Tally) {
     let decimal = half_step_above(of, below);
     // An f64 holds a half step of up to 52 bits.
     let is_f64 = below.unsigned_abs() < 1 << 51;
-    read(
-        of,
-        &decimal.to_string(),
-        decimal.steps(of.fraction_bits),
-        is_f64,
-        tally,
-    );
+    read_exact(of, decimal, is_f64, tally);
 }
 
 // A half step with digits behind it, or with those of a number just below it, and zeros in front.
@@ -137,6 +119,12 @@ fn long_text(of: &Both, random: &mut Random, tally: &mut Tally) {
         false,
         tally,
     );
+}
+
+// Reads a decimal.
+fn read_exact(of: &Both, decimal: Exact, is_safe_in_f64: bool, tally: &mut Tally) {
+    let steps = decimal.steps(of.fraction_bits);
+    read(of, &decimal.to_string(), steps, is_safe_in_f64, tally);
 }
 
 // Reads a text whose nearest number has so many steps.

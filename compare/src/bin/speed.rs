@@ -7,9 +7,13 @@
 //! quickest of many rounds counts. `speed count CALL SIDE` runs one loop alone a hundred times, for
 //! tools that count instructions.
 
-use std::fmt::{self, Display, Write};
+#[path = "../text.rs"]
+mod text;
+
+use std::fmt::{Display, Write};
 use std::hint::black_box;
 use std::time::{Duration, Instant};
+use text::Text;
 
 const INPUTS: usize = 1024;
 const ROUNDS: usize = 300;
@@ -43,29 +47,10 @@ fn few<const N: usize>(inputs: &Inputs, n: usize) -> [i32; N] {
     black_box(std::array::from_fn(|place| inputs.bits[n][place]))
 }
 
-/// A text that is printed to no allocation.
-struct Text {
-    bytes: [u8; 64],
-    length: usize,
-}
-
-impl Write for Text {
-    fn write_str(&mut self, piece: &str) -> fmt::Result {
-        let end = self.length + piece.len();
-        self.bytes[self.length..end].copy_from_slice(piece.as_bytes());
-        self.length = end;
-        Ok(())
-    }
-}
-
 fn printed(value: impl Display) -> usize {
-    let mut text = Text {
-        bytes: [0; 64],
-        length: 0,
-    };
-    write!(text, "{value}").expect("64 bytes are room enough");
-    black_box(text.bytes);
-    text.length
+    black_box(Text::of(|text| write!(text, "{value}")))
+        .as_str()
+        .len()
 }
 
 /// The loops of a side; each is a function that is not inlined.
