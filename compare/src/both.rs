@@ -103,13 +103,17 @@ macro_rules! both {
     };
 }
 
-pub const F2DOT14: Both = both!(F2Dot14 i16 14);
-pub const F4DOT12: Both = both!(F4Dot12 i16 12);
-pub const F6DOT10: Both = both!(F6Dot10 i16 10);
-pub const FIXED: Both = both!(Fixed i32 16);
-pub const F26DOT6: Both = both!(F26Dot6 i32 6);
-pub const F48DOT16: Both = both!(F48Dot16 i64 16);
-pub const F2DOT30: Both = both!(F2Dot30 i32 30);
+macro_rules! of_fixed_point_types {
+    ($($name:ident $Type:ident $bits:ident $f:literal;)*) => {
+        /// Every type.
+        pub static ALL: &[Both] = &[$(both!($Type $bits $f)),*];
+    };
+}
 
-/// Every type.
-pub const ALL: [Both; 7] = [F2DOT14, F4DOT12, F6DOT10, FIXED, F26DOT6, F48DOT16, F2DOT30];
+include!("../../rust/types.in");
+
+/// The type of this name.
+pub fn named(name: &str) -> &'static Both {
+    let found = ALL.iter().find(|both| both.name == name);
+    found.expect("the name of a type")
+}

@@ -35,10 +35,14 @@ type Part = (&'static str, fn(&mut Work));
 
 const PARTS: [Part; 13] = [
     ("f2dot14", numbers::small_types),
-    ("fixed", |work| numbers::all(work, &both::FIXED)),
-    ("f26dot6", |work| numbers::all(work, &both::F26DOT6)),
-    ("f48dot16", |work| numbers::random(work, &both::F48DOT16)),
-    ("f2dot30", |work| numbers::random(work, &both::F2DOT30)),
+    ("fixed", |work| numbers::all(work, both::named("Fixed"))),
+    ("f26dot6", |work| numbers::all(work, both::named("F26Dot6"))),
+    ("f48dot16", |work| {
+        numbers::random(work, both::named("F48Dot16"))
+    }),
+    ("f2dot30", |work| {
+        numbers::random(work, both::named("F2Dot30"))
+    }),
     ("sums", numbers::all_sums),
     ("products", numbers::products),
     ("conversions", numbers::conversions),

@@ -1,6 +1,6 @@
 //! Numbers one by one and in pairs: texts, padding, rounding, sums, products and conversions.
 
-use crate::both::{ALL, Both, F2DOT14, F4DOT12, F6DOT10, there};
+use crate::both::{ALL, Both, there};
 use crate::random::Random;
 use crate::tally::Tally;
 use crate::text::Text;
@@ -31,9 +31,8 @@ pub fn all(work: &mut Work, of: &Both) {
 
 /// Every value of the three types of 16 bits.
 pub fn small_types(work: &mut Work) {
-    [F2DOT14, F4DOT12, F6DOT10]
-        .iter()
-        .for_each(|of| all(work, of));
+    let small = ALL.iter().filter(|of| of.width == 16);
+    small.for_each(|of| all(work, of));
 }
 
 /// Random values of a type.

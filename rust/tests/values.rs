@@ -43,8 +43,8 @@ fn pad(words: &[&str]) -> Option<Pad> {
 }
 
 /// The lines of a type of numbers, and that each type of the table has its own.
-macro_rules! of_type {
-    ($($test:ident $Type:ident;)*) => {
+macro_rules! of_fixed_point_types {
+    ($($test:ident $Type:ident $bits:ident $f:literal;)*) => {
         #[test]
         fn each_type_of_the_table() {
             for kind in ["read", "write", "whole", "pad"] {
@@ -85,15 +85,7 @@ macro_rules! of_type {
     )*};
 }
 
-of_type! {
-    fixed Fixed;
-    f2dot14 F2Dot14;
-    f4dot12 F4Dot12;
-    f6dot10 F6Dot10;
-    f26dot6 F26Dot6;
-    f48dot16 F48Dot16;
-    f2dot30 F2Dot30;
-}
+include!("../types.in");
 
 #[test]
 fn products() {

@@ -8,28 +8,25 @@ pub struct Type {
     pub fraction: u32,
 }
 
-/// The seven fixed-point types.
-pub const TYPES: [Type; 7] = [
-    Type::new("f2dot14", 16, 14),
-    Type::new("f4dot12", 16, 12),
-    Type::new("f6dot10", 16, 10),
-    Type::new("fixed", 32, 16),
-    Type::new("f26dot6", 32, 6),
-    Type::new("f48dot16", 64, 16),
-    Type::new("f2dot30", 32, 30),
-];
+macro_rules! of_fixed_point_types {
+    ($($name:ident $Type:ident $bits:ident $f:literal;)*) => {
+        /// The fixed-point types.
+        pub const TYPES: &[Type] = &[$(Type {
+            name: stringify!($name),
+            width: $bits::BITS,
+            fraction: $f,
+        }),*];
+    };
+}
+
+include!("../../rust/types.in");
 
 impl Type {
-    const fn new(name: &'static str, width: u32, fraction: u32) -> Self {
-        Self {
-            name,
-            width,
-            fraction,
-        }
-    }
-
     pub fn named(name: &[u8]) -> Option<Self> {
-        TYPES.into_iter().find(|kind| kind.name.as_bytes() == name)
+        TYPES
+            .iter()
+            .copied()
+            .find(|kind| kind.name.as_bytes() == name)
     }
 }
 
