@@ -114,7 +114,7 @@ fn file_with_a_limit() {
 #[test]
 #[cfg(target_os = "linux")]
 fn refused_descriptors() {
-    if let Some(run) = limited("ulimit -n 4; \"$0\" <\"$1\"") {
+    if let Some(run) = limited("exec <\"$1\" 3<&-; ulimit -n 4; exec \"$0\"") {
         refuses(&run, "fontval: write\n");
         assert!(run.stdout.is_empty());
     }
