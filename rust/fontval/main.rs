@@ -33,6 +33,8 @@ mod process {
 mod prelude {
     pub use crate::alloc::{String, Vec};
     pub(crate) use crate::hex;
+    // Before 1.87 the type has no `str::from_utf8_unchecked`, but the module has.
+    pub use core::str;
 
     /// What may be dropped: everything, in Rust.
     pub trait Drop {}

@@ -1,4 +1,4 @@
-//! Standard input, output and error, which tell of each refusal.
+//! Standard input and output, which tell of each refusal, and standard error.
 //!
 //! Those of Rust do not: a descriptor that is not open for its use passes for an empty input or for
 //! an output that took all, and an output keeps bytes back. A file over the same descriptor hands
@@ -60,7 +60,7 @@ pub fn writer(_rt: &HostRuntime) -> Stream {
     Stream::over(io::stdout())
 }
 
-/// Writes to standard error.
+/// Writes to standard error. That of Rust serves: the program does not ask what became of it.
 pub fn complain(_rt: &HostRuntime, text: fmt::Arguments<'_>) -> Result<()> {
-    Stream::over(io::stderr()).write_fmt(text)
+    io::stderr().write_fmt(text)
 }

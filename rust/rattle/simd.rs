@@ -1,69 +1,68 @@
 //! Vectors of bytes that are compared at once, by words of 64 bits.
 
+use core::array::from_fn;
+
 /// The names that the text brings in.
 #[allow(non_camel_case_types)]
 pub mod prelude {
-    pub type u8x8 = super::Bytes<8>;
-    pub type u8x16 = super::Bytes<16>;
+    pub type u8x8 = super::Bytes<1>;
+    pub type u8x16 = super::Bytes<2>;
 }
 
-/// So many bytes, eight to a word.
+/// Eight bytes to a word, the first of them lowest.
 #[derive(Clone, Copy)]
-pub struct Bytes<const N: usize>([u8; N]);
+pub struct Bytes<const WORDS: usize>([u64; WORDS]);
 
-/// Which of so many bytes are meant: bit `i` is that of byte `i`.
+/// Which of so many bytes are meant: those whose highest bit is 0.
 #[derive(Clone, Copy)]
-pub struct Mask<const N: usize>(u64);
+pub struct Mask<const WORDS: usize>([u64; WORDS]);
 
-impl<const N: usize> Bytes<N> {
+impl<const WORDS: usize> Bytes<WORDS> {
     #[inline(always)]
-    pub fn from_array(bytes: [u8; N]) -> Self {
-        Self(bytes)
+    pub fn from_array<const N: usize>(bytes: [u8; N]) -> Self {
+        const { assert!(N == 8 * WORDS) }
+        Self(from_fn(|word| {
+            u64::from_le_bytes(from_fn(|byte| bytes[8 * word + byte]))
+        }))
     }
 
     #[inline(always)]
     pub fn splat(byte: u8) -> Self {
-        Self([byte; N])
+        Self([u64::from_le_bytes([byte; 8]); WORDS])
     }
 
-    /// Which bytes are equal.
+    /// The bytes that are equal. In a sum of seven bits each, the eighth is 0 where all are.
     #[inline(always)]
-    pub fn simd_eq(self, other: Self) -> Mask<N> {
-        const { assert!(N.is_multiple_of(8) && N <= 64) }
-        let mut mask = 0;
-        for at in 0..N / 8 {
-            mask |= zero_bytes(self.word(at) ^ other.word(at)) << (8 * at);
-        }
-        Mask(mask)
-    }
-
-    #[inline(always)]
-    fn word(self, at: usize) -> u64 {
-        u64::from_le_bytes(core::array::from_fn(|i| self.0[8 * at + i]))
+    pub fn simd_eq(self, other: Self) -> Mask<WORDS> {
+        const LOW_BITS: u64 = 0x7F7F_7F7F_7F7F_7F7F;
+        Mask(from_fn(|at| {
+            let word = self.0[at] ^ other.0[at];
+            ((word & LOW_BITS) + LOW_BITS) | word
+        }))
     }
 }
 
-/// Which bytes of a word are zero, lowest first, in eight bits. No sum carries into the next byte,
-/// and the product gathers the bytes' highest bits, each of which it moves to a place of its own.
-#[inline(always)]
-fn zero_bytes(word: u64) -> u64 {
-    const LOW_BITS: u64 = 0x7F7F_7F7F_7F7F_7F7F;
-    let high_bits = !(((word & LOW_BITS) + LOW_BITS) | word | LOW_BITS);
-    (high_bits >> 7).wrapping_mul(0x0102_0408_1020_4080) >> 56
-}
-
-impl<const N: usize> core::ops::BitOr for Mask<N> {
+impl<const WORDS: usize> core::ops::BitOr for Mask<WORDS> {
     type Output = Self;
 
     #[inline(always)]
     fn bitor(self, other: Self) -> Self {
-        Self(self.0 | other.0)
+        Self(from_fn(|at| self.0[at] & other.0[at]))
     }
 }
 
-impl<const N: usize> Mask<N> {
+impl<const WORDS: usize> Mask<WORDS> {
+    /// A bit for each byte, the first lowest.
     #[inline(always)]
     pub fn to_bitmask(self) -> u64 {
-        self.0
+        let bits = self.0.map(|word| gathered(!word));
+        (0..WORDS).fold(0, |mask, at| mask | bits[at] << (8 * at))
     }
+}
+
+/// The highest bits of the bytes: a product puts each to a place of its own above the others.
+#[inline(always)]
+fn gathered(word: u64) -> u64 {
+    let highest = (word >> 7) & 0x0101_0101_0101_0101;
+    highest.wrapping_mul(0x0102_0408_1020_4080) >> 56
 }

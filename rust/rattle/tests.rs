@@ -150,6 +150,7 @@ mod interrupted {
     use super::io::{Read, Stream, Write};
     use std::ffi::{c_int, c_ulong};
     use std::io::ErrorKind;
+    use std::net::Shutdown;
     use std::os::unix::net::UnixStream;
     use std::sync::atomic::{AtomicBool, Ordering};
     use std::thread;
@@ -177,11 +178,11 @@ mod interrupted {
         };
         thread::scope(|scope| {
             scope.spawn(|| {
-                let (start, mut other) = (Instant::now(), Some(other));
+                let start = Instant::now();
                 while !done.load(Ordering::SeqCst) {
                     thread::sleep(Duration::from_millis(20));
                     if start.elapsed() > Duration::from_secs(2) {
-                        other.take();
+                        let _ = other.shutdown(Shutdown::Both);
                     }
                     unsafe { pthread_kill(here, SIGUSR1) };
                 }

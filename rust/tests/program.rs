@@ -110,6 +110,16 @@ fn file_with_a_limit() {
     }
 }
 
+// There is no descriptor left for a file over standard output.
+#[test]
+#[cfg(target_os = "linux")]
+fn refused_descriptors() {
+    if let Some(run) = limited("exec <\"$1\" 3<&-; ulimit -n 4; exec \"$0\"") {
+        refuses(&run, "fontval: write\n");
+        assert!(run.stdout.is_empty());
+    }
+}
+
 // There is no room for the input, or for the answers, which are eight times as long.
 #[test]
 #[cfg(target_os = "linux")]
