@@ -1,6 +1,7 @@
 //! What the programs of this folder share: exact answers, by whole numbers and with no use of the
 //! library, and the files of the repository.
 
+pub mod alike;
 pub mod assertions;
 pub mod exact;
 pub mod header;

@@ -26,6 +26,9 @@ pub fn slips() -> Vec<Slip> {
     let sources = sources();
     let words = words();
     let fixed = text("crates/font_fixed/src/fixed.rt");
+    let fixed = fixed
+        .replace("bits_of", "fixed_bits")
+        .replace("text_of", "fixed_text");
     let mut slips = Vec::new();
     for page in pages() {
         let body = text(&page);

@@ -13,7 +13,7 @@ ghost use Rattle.font_arithmetic.specs.Operations.{IsNarrowed, IsNearestWhole, I
 ghost use Rattle.font_arithmetic.specs.Operations.{clamp, IsProduct, IsQuotient};
 ghost use Rattle.font_arithmetic.specs.Reading.{ReadsBy};
 ghost use Rattle.font_f26.specs.declared.f26dot6.F26Dot6.{F26Dot6};
-ghost use Rattle.font_f26.specs.F26Dot6.{f26dot6_bits, f26dot6_text};
+ghost use Rattle.font_f26.specs.F26Dot6.{f26dot6_bits as bits_of, f26dot6_text as text_of};
 
 use font_arithmetic::{mul_div, product, read_bits_32};
 use font_base::Scalar;
@@ -53,100 +53,99 @@ impl F26Dot6 {
 
     /// The number with these bits.
     pub fn from_bits(bits: i32) -> Self
-        ensures { f26dot6_bits result ≡ bits }
+        ensures { bits_of result ≡ bits }
     {
         Self(bits)
     }
 
     /// The bits.
     pub fn to_bits(self) -> i32
-        ensures { result ≡ f26dot6_bits self }
+        ensures { result ≡ bits_of self }
     {
         self.0
     }
 
     /// The nearest whole number, ties upwards. It wraps: `F26Dot6::MAX.round()` is `F26Dot6::MIN`.
     pub fn round(self) -> Self
-        ensures { IsNearestWhole 32 6 (f26dot6_bits self) (f26dot6_bits result) }
+        ensures { IsNearestWhole 32 6 (bits_of self) (bits_of result) }
     {
         self.wrapping_add(Self(32)).floor()
     }
 
     /// The greatest whole number that is not above the number.
     pub fn floor(self) -> Self
-        ensures { IsFloor 6 (f26dot6_bits self) (f26dot6_bits result) }
+        ensures { IsFloor 6 (bits_of self) (bits_of result) }
     {
         Self(self.0 - self.fract().0)
     }
 
     /// What the number has above its floor, from 0 to a step below 1.
     pub fn fract(self) -> Self
-        ensures { IsFract 6 (f26dot6_bits self) (f26dot6_bits result) }
+        ensures { IsFract 6 (bits_of self) (bits_of result) }
     {
         Self(self.0.rem_euclid(64))
     }
 
     /// The number without its sign. It wraps: `F26Dot6::MIN.abs()` is `F26Dot6::MIN`.
     pub fn abs(self) -> Self
-        ensures { f26dot6_bits result ≡ wrap 32 (pos (unsigned_abs (f26dot6_bits self))) }
+        ensures { bits_of result ≡ wrap 32 (pos (unsigned_abs (bits_of self))) }
     {
         Self(self.0.wrapping_abs())
     }
 
     /// The sum, wrapped.
     pub fn wrapping_add(self, other: Self) -> Self
-        ensures { f26dot6_bits result ≡ wrap 32 (f26dot6_bits self +ℤ f26dot6_bits other) }
+        ensures { bits_of result ≡ wrap 32 (bits_of self +ℤ bits_of other) }
     {
         Self(self.0.wrapping_add(other.0))
     }
 
     /// The difference, wrapped.
     pub fn wrapping_sub(self, other: Self) -> Self
-        ensures { f26dot6_bits result ≡ wrap 32 (f26dot6_bits self -ℤ f26dot6_bits other) }
+        ensures { bits_of result ≡ wrap 32 (bits_of self -ℤ bits_of other) }
     {
         Self(self.0.wrapping_sub(other.0))
     }
 
     /// The sum, or the nearest end of the range where it is out of it.
     pub fn saturating_add(self, other: Self) -> Self
-        ensures { f26dot6_bits result ≡ clamp 32 (f26dot6_bits self +ℤ f26dot6_bits other) }
+        ensures { bits_of result ≡ clamp 32 (bits_of self +ℤ bits_of other) }
     {
         Self(self.0.saturating_add(other.0))
     }
 
     /// The difference, or the nearest end of the range where it is out of it.
     pub fn saturating_sub(self, other: Self) -> Self
-        ensures { f26dot6_bits result ≡ clamp 32 (f26dot6_bits self -ℤ f26dot6_bits other) }
+        ensures { bits_of result ≡ clamp 32 (bits_of self -ℤ bits_of other) }
     {
         Self(self.0.saturating_sub(other.0))
     }
 
     /// The sum, or `None` where it is out of range.
     pub fn checked_add(self, other: Self) -> Option<Self>
-        ensures variant { IsSome result ↔ FitsBits 32 (f26dot6_bits self +ℤ f26dot6_bits other) }
-        ensures value { IfSome result
-            (λ sum. f26dot6_bits sum ≡ (f26dot6_bits self +ℤ f26dot6_bits other)) }
+        ensures variant { IsSome result ↔ FitsBits 32 (bits_of self +ℤ bits_of other) }
+        ensures value { IfSome result (λ sum. bits_of sum ≡ (bits_of self +ℤ bits_of other)) }
     {
         Some(Self(self.0.checked_add(other.0)?))
     }
 
     /// The four bytes of the bits, highest first.
     pub fn to_be_bytes(self) -> [u8; 4]
-        ensures { result ≡ bytes_of 4 (f26dot6_bits self) }
+        ensures { result ≡ bytes_of 4 (bits_of self) }
     {
         self.0.to_raw()
     }
 
     /// A whole number, wrapped.
     pub fn from_i32(number: i32) -> Self
-        ensures { f26dot6_bits result ≡ wrap 32 (number *ℤ pos (2 ^ 6)) }
+        ensures { bits_of result ≡ wrap 32 (number *ℤ pos (2 ^ 6)) }
     {
         Self(number.wrapping_mul(64))
     }
 
     /// The nearest whole number, ties upwards, wrapped to 26 bits.
     pub fn to_i32(self) -> i32
-        ensures { IsNarrowed 26 (f26dot6_bits self) (2 ^ 6) result }
+        ensures { IsNarrowed 26 (bits_of self) (2 ^ 6) result }
     {
         self.wrapping_add(Self(32)).0 >> 6
     }
@@ -156,7 +155,7 @@ impl F26Dot6 {
     /// A text outside the grammar is refused as `Syntax`, one whose nearest number is out of range
     /// as `OutOfRange`.
     pub fn from_decimal(text: &str) -> Result<Self, DecimalFault>
-        ensures { ReadsBy w32 6 f26dot6_bits text.now result }
+        ensures { ReadsBy w32 6 bits_of text.now result }
     {
         read_bits_32(text, Self::FRACTION_BITS).map(Self)
     }
@@ -166,20 +165,20 @@ impl F26Dot6 {
     pub fn write_padded(self, out: &mut [u8], pad: &Pad) -> Option<usize>
         requires { pad.now.fill < 128 }
         ensures written { IfSome result
-            (λ n. FillsFront (padded_text (f26dot6_text self) pad.now) n out.old out.new) }
+            (λ n. FillsFront (padded_text (text_of self) pad.now) n out.old out.new) }
         ensures room { IsSome result
-            ↔ (length (padded_text (f26dot6_text self) pad.now) ≤ length out.old) }
+            ↔ (length (padded_text (text_of self) pad.now) ≤ length out.old) }
         ensures cell { max 12 pad.now.width ≤ length out.old → IsSome result }
         ensures fills { length out.old ≤ pad.now.width
-            → IfSome result (λ _. out.new ≡ padded_text (f26dot6_text self) pad.now) }
+            → IfSome result (λ _. out.new ≡ padded_text (text_of self) pad.now) }
         ensures untouched { IfNone result (out.new ≡ out.old) }
     {
         font_decimal::write_padded(self.shortest().as_str(), out, pad)
     }
 
     fn shortest(self) -> Shortest
-        ensures shortest { IsShortest (f26dot6_bits self) 6 (shown result) }
-        ensures text { shown result ≡ f26dot6_text self }
+        ensures shortest { IsShortest (bits_of self) 6 (shown result) }
+        ensures text { shown result ≡ text_of self }
     {
         Shortest::new(i64::from(self.0), Self::FRACTION_BITS)
     }
@@ -188,7 +187,7 @@ impl F26Dot6 {
 impl Add for F26Dot6 {
     type Output = F26Dot6;
 
-    ghost add_gives = { λ x y sum. f26dot6_bits sum ≡ wrap 32 (f26dot6_bits x +ℤ f26dot6_bits y) };
+    ghost add_gives = { λ x y sum. bits_of sum ≡ wrap 32 (bits_of x +ℤ bits_of y) };
 
     fn add(self, other: F26Dot6) -> F26Dot6 {
         self.wrapping_add(other)
@@ -196,8 +195,7 @@ impl Add for F26Dot6 {
 }
 
 impl AddAssign for F26Dot6 {
-    ghost add_assign_gives = { λ x y sum. f26dot6_bits sum
-        ≡ wrap 32 (f26dot6_bits x +ℤ f26dot6_bits y) };
+    ghost add_assign_gives = { λ x y sum. bits_of sum ≡ wrap 32 (bits_of x +ℤ bits_of y) };
 
     fn add_assign(&mut self, other: F26Dot6) {
         *self = *self + other;
@@ -207,8 +205,7 @@ impl AddAssign for F26Dot6 {
 impl Sub for F26Dot6 {
     type Output = F26Dot6;
 
-    ghost sub_gives = { λ x y rest. f26dot6_bits rest
-        ≡ wrap 32 (f26dot6_bits x -ℤ f26dot6_bits y) };
+    ghost sub_gives = { λ x y rest. bits_of rest ≡ wrap 32 (bits_of x -ℤ bits_of y) };
 
     fn sub(self, other: F26Dot6) -> F26Dot6 {
         self.wrapping_sub(other)
@@ -216,8 +213,7 @@ impl Sub for F26Dot6 {
 }
 
 impl SubAssign for F26Dot6 {
-    ghost sub_assign_gives = { λ x y rest. f26dot6_bits rest
-        ≡ wrap 32 (f26dot6_bits x -ℤ f26dot6_bits y) };
+    ghost sub_assign_gives = { λ x y rest. bits_of rest ≡ wrap 32 (bits_of x -ℤ bits_of y) };
 
     fn sub_assign(&mut self, other: F26Dot6) {
         *self = *self - other;
@@ -227,7 +223,7 @@ impl SubAssign for F26Dot6 {
 impl Neg for F26Dot6 {
     type Output = F26Dot6;
 
-    ghost neg_gives = { λ x opposite. f26dot6_bits opposite ≡ wrap 32 (neg_ℤ (f26dot6_bits x)) };
+    ghost neg_gives = { λ x opposite. bits_of opposite ≡ wrap 32 (neg_ℤ (bits_of x)) };
 
     fn neg(self) -> F26Dot6 {
         Self(self.0.wrapping_neg())
@@ -238,7 +234,7 @@ impl Mul for F26Dot6 {
     type Output = F26Dot6;
 
     ghost mul_gives = { λ x y product.
-        IsProduct 32 6 (f26dot6_bits x) (f26dot6_bits y) (f26dot6_bits product) };
+        IsProduct 32 6 (bits_of x) (bits_of y) (bits_of product) };
 
     fn mul(self, other: F26Dot6) -> F26Dot6 {
         Self(product(self.0, other.0, Self::FRACTION_BITS))
@@ -247,7 +243,7 @@ impl Mul for F26Dot6 {
 
 impl MulAssign for F26Dot6 {
     ghost mul_assign_gives = { λ x y product.
-        IsProduct 32 6 (f26dot6_bits x) (f26dot6_bits y) (f26dot6_bits product) };
+        IsProduct 32 6 (bits_of x) (bits_of y) (bits_of product) };
 
     fn mul_assign(&mut self, other: F26Dot6) {
         *self = *self * other;
@@ -259,7 +255,7 @@ impl Div for F26Dot6 {
     type Output = F26Dot6;
 
     ghost div_gives = { λ x y quotient.
-        IsQuotient 32 6 (f26dot6_bits x) (f26dot6_bits y) (f26dot6_bits quotient) };
+        IsQuotient 32 6 (bits_of x) (bits_of y) (bits_of quotient) };
 
     fn div(self, other: F26Dot6) -> F26Dot6 {
         Self(mul_div(self.0, Self::ONE.0, other.0))
@@ -268,7 +264,7 @@ impl Div for F26Dot6 {
 
 impl DivAssign for F26Dot6 {
     ghost div_assign_gives = { λ x y quotient.
-        IsQuotient 32 6 (f26dot6_bits x) (f26dot6_bits y) (f26dot6_bits quotient) };
+        IsQuotient 32 6 (bits_of x) (bits_of y) (bits_of quotient) };
 
     fn div_assign(&mut self, other: F26Dot6) {
         *self = *self / other;
@@ -279,7 +275,7 @@ impl DivAssign for F26Dot6 {
 impl FromStr for F26Dot6 {
     type Err = DecimalFault;
 
-    ghost from_str_gives = { λ text result. ReadsBy w32 6 f26dot6_bits text result };
+    ghost from_str_gives = { λ text result. ReadsBy w32 6 bits_of text result };
 
     fn from_str(text: &str) -> Result<Self, DecimalFault> {
         Self::from_decimal(text)
@@ -287,7 +283,7 @@ impl FromStr for F26Dot6 {
 }
 
 impl fmt::Display for F26Dot6 {
-    ghost output = { λ x. Some (f26dot6_text x) };
+    ghost output = { λ x. Some (text_of x) };
 
     fn fmt<W: fmt::Write>(&self, f: &mut fmt::Formatter<W>) -> fmt::Result {
         fmt::Display::fmt(&self.shortest(), f)
@@ -295,7 +291,7 @@ impl fmt::Display for F26Dot6 {
 }
 
 impl fmt::Debug for F26Dot6 {
-    ghost debug_output = { λ x. Some (f26dot6_text x) };
+    ghost debug_output = { λ x. Some (text_of x) };
 
     fn fmt<W: fmt::Write>(&self, f: &mut fmt::Formatter<W>) -> fmt::Result {
         fmt::Display::fmt(&self.shortest(), f)

@@ -14,7 +14,8 @@ ghost use Rattle.font_decimal.specs.Shown.{shown};
 ghost use Rattle.font_arithmetic.specs.Operations.{IsNearestWhole, IsFloor, IsFract, clamp};
 ghost use Rattle.font_arithmetic.specs.Reading.{ReadsBy};
 ghost use Rattle.font_fixed.specs.declared.f2dot14.F2Dot14.{F2Dot14};
-ghost use Rattle.font_fixed.specs.F2Dot14.{f2dot14_bits, f2dot14_of, f2dot14_text};
+ghost use Rattle.font_fixed.specs.F2Dot14.{f2dot14_bits as bits_of, f2dot14_of as of_bits};
+ghost use Rattle.font_fixed.specs.F2Dot14.{f2dot14_text as text_of};
 ghost use Rattle.font_fixed.specs.Fixed.{fixed_bits};
 ghost use Rattle.font_fixed.specs.F48Dot16.{f48dot16_bits};
 
@@ -58,93 +59,92 @@ impl F2Dot14 {
 
     /// The number with these bits.
     pub fn from_bits(bits: i16) -> Self
-        ensures { f2dot14_bits result ≡ bits }
+        ensures { bits_of result ≡ bits }
     {
         Self(bits)
     }
 
     /// The bits.
     pub fn to_bits(self) -> i16
-        ensures { result ≡ f2dot14_bits self }
+        ensures { result ≡ bits_of self }
     {
         self.0
     }
 
     /// The nearest whole number, ties upwards. It wraps: `F2Dot14::MAX.round()` is `F2Dot14::MIN`.
     pub fn round(self) -> Self
-        ensures { IsNearestWhole 16 14 (f2dot14_bits self) (f2dot14_bits result) }
+        ensures { IsNearestWhole 16 14 (bits_of self) (bits_of result) }
     {
         self.wrapping_add(Self(0x2000)).floor()
     }
 
     /// The greatest whole number that is not above the number.
     pub fn floor(self) -> Self
-        ensures { IsFloor 14 (f2dot14_bits self) (f2dot14_bits result) }
+        ensures { IsFloor 14 (bits_of self) (bits_of result) }
     {
         Self(self.0 - self.fract().0)
     }
 
     /// What the number has above its floor, from 0 to a step below 1.
     pub fn fract(self) -> Self
-        ensures { IsFract 14 (f2dot14_bits self) (f2dot14_bits result) }
+        ensures { IsFract 14 (bits_of self) (bits_of result) }
     {
         Self(self.0.rem_euclid(0x4000))
     }
 
     /// The number without its sign. It wraps: `F2Dot14::MIN.abs()` is `F2Dot14::MIN`.
     pub fn abs(self) -> Self
-        ensures { f2dot14_bits result ≡ wrap 16 (pos (unsigned_abs (f2dot14_bits self))) }
+        ensures { bits_of result ≡ wrap 16 (pos (unsigned_abs (bits_of self))) }
     {
         Self(self.0.wrapping_abs())
     }
 
     /// The sum, wrapped.
     pub fn wrapping_add(self, other: Self) -> Self
-        ensures { f2dot14_bits result ≡ wrap 16 (f2dot14_bits self +ℤ f2dot14_bits other) }
+        ensures { bits_of result ≡ wrap 16 (bits_of self +ℤ bits_of other) }
     {
         Self(self.0.wrapping_add(other.0))
     }
 
     /// The difference, wrapped.
     pub fn wrapping_sub(self, other: Self) -> Self
-        ensures { f2dot14_bits result ≡ wrap 16 (f2dot14_bits self -ℤ f2dot14_bits other) }
+        ensures { bits_of result ≡ wrap 16 (bits_of self -ℤ bits_of other) }
     {
         Self(self.0.wrapping_sub(other.0))
     }
 
     /// The sum, or the nearest end of the range where it is out of it.
     pub fn saturating_add(self, other: Self) -> Self
-        ensures { f2dot14_bits result ≡ clamp 16 (f2dot14_bits self +ℤ f2dot14_bits other) }
+        ensures { bits_of result ≡ clamp 16 (bits_of self +ℤ bits_of other) }
     {
         Self(self.0.saturating_add(other.0))
     }
 
     /// The difference, or the nearest end of the range where it is out of it.
     pub fn saturating_sub(self, other: Self) -> Self
-        ensures { f2dot14_bits result ≡ clamp 16 (f2dot14_bits self -ℤ f2dot14_bits other) }
+        ensures { bits_of result ≡ clamp 16 (bits_of self -ℤ bits_of other) }
     {
         Self(self.0.saturating_sub(other.0))
     }
 
     /// The sum, or `None` where it is out of range.
     pub fn checked_add(self, other: Self) -> Option<Self>
-        ensures variant { IsSome result ↔ FitsBits 16 (f2dot14_bits self +ℤ f2dot14_bits other) }
-        ensures value { IfSome result
-            (λ sum. f2dot14_bits sum ≡ (f2dot14_bits self +ℤ f2dot14_bits other)) }
+        ensures variant { IsSome result ↔ FitsBits 16 (bits_of self +ℤ bits_of other) }
+        ensures value { IfSome result (λ sum. bits_of sum ≡ (bits_of self +ℤ bits_of other)) }
     {
         Some(Self(self.0.checked_add(other.0)?))
     }
 
     /// The two bytes of the bits, highest first.
     pub fn to_be_bytes(self) -> [u8; 2]
-        ensures { result ≡ bytes_of 2 (f2dot14_bits self) }
+        ensures { result ≡ bytes_of 2 (bits_of self) }
     {
         self.to_raw()
     }
 
     /// The same number as a `Fixed`.
     pub fn to_fixed(self) -> Fixed
-        ensures { fixed_bits result ≡ (f2dot14_bits self *ℤ pos 4) }
+        ensures { fixed_bits result ≡ (bits_of self *ℤ pos 4) }
     {
         Fixed::from_bits(i32::from(self.0) * 4)
     }
@@ -154,7 +154,7 @@ impl F2Dot14 {
     /// A delta counts in units of `1 / 16384`, the last bit of this type, with 16 bits of fraction
     /// behind it.
     pub fn apply_delta(self, delta: F48Dot16) -> i128
-        ensures { result ≡ (f2dot14_bits self *ℤ pos 65536 +ℤ f48dot16_bits delta) }
+        ensures { result ≡ (bits_of self *ℤ pos 65536 +ℤ f48dot16_bits delta) }
     {
         i128::from(self.0) * 0x1_0000 + i128::from(delta.to_bits())
     }
@@ -164,7 +164,7 @@ impl F2Dot14 {
     /// A text outside the grammar is refused as `Syntax`, one whose nearest number is out of range
     /// as `OutOfRange`.
     pub fn from_decimal(text: &str) -> Result<Self, DecimalFault>
-        ensures { ReadsBy w16 14 f2dot14_bits text.now result }
+        ensures { ReadsBy w16 14 bits_of text.now result }
     {
         read_bits_16(text, Self::FRACTION_BITS).map(Self)
     }
@@ -174,20 +174,20 @@ impl F2Dot14 {
     pub fn write_padded(self, out: &mut [u8], pad: &Pad) -> Option<usize>
         requires { pad.now.fill < 128 }
         ensures written { IfSome result
-            (λ n. FillsFront (padded_text (f2dot14_text self) pad.now) n out.old out.new) }
+            (λ n. FillsFront (padded_text (text_of self) pad.now) n out.old out.new) }
         ensures room { IsSome result
-            ↔ (length (padded_text (f2dot14_text self) pad.now) ≤ length out.old) }
+            ↔ (length (padded_text (text_of self) pad.now) ≤ length out.old) }
         ensures cell { max 8 pad.now.width ≤ length out.old → IsSome result }
         ensures fills { length out.old ≤ pad.now.width
-            → IfSome result (λ _. out.new ≡ padded_text (f2dot14_text self) pad.now) }
+            → IfSome result (λ _. out.new ≡ padded_text (text_of self) pad.now) }
         ensures untouched { IfNone result (out.new ≡ out.old) }
     {
         font_decimal::write_padded(self.shortest().as_str(), out, pad)
     }
 
     fn shortest(self) -> Shortest
-        ensures shortest { IsShortest (f2dot14_bits self) 14 (shown result) }
-        ensures text { shown result ≡ f2dot14_text self }
+        ensures shortest { IsShortest (bits_of self) 14 (shown result) }
+        ensures text { shown result ≡ text_of self }
     {
         Shortest::new(i64::from(self.0), Self::FRACTION_BITS)
     }
@@ -196,7 +196,7 @@ impl F2Dot14 {
 impl Add for F2Dot14 {
     type Output = F2Dot14;
 
-    ghost add_gives = { λ x y sum. f2dot14_bits sum ≡ wrap 16 (f2dot14_bits x +ℤ f2dot14_bits y) };
+    ghost add_gives = { λ x y sum. bits_of sum ≡ wrap 16 (bits_of x +ℤ bits_of y) };
 
     fn add(self, other: F2Dot14) -> F2Dot14 {
         self.wrapping_add(other)
@@ -204,8 +204,7 @@ impl Add for F2Dot14 {
 }
 
 impl AddAssign for F2Dot14 {
-    ghost add_assign_gives = { λ x y sum. f2dot14_bits sum
-        ≡ wrap 16 (f2dot14_bits x +ℤ f2dot14_bits y) };
+    ghost add_assign_gives = { λ x y sum. bits_of sum ≡ wrap 16 (bits_of x +ℤ bits_of y) };
 
     fn add_assign(&mut self, other: F2Dot14) {
         *self = *self + other;
@@ -215,8 +214,7 @@ impl AddAssign for F2Dot14 {
 impl Sub for F2Dot14 {
     type Output = F2Dot14;
 
-    ghost sub_gives = { λ x y rest. f2dot14_bits rest
-        ≡ wrap 16 (f2dot14_bits x -ℤ f2dot14_bits y) };
+    ghost sub_gives = { λ x y rest. bits_of rest ≡ wrap 16 (bits_of x -ℤ bits_of y) };
 
     fn sub(self, other: F2Dot14) -> F2Dot14 {
         self.wrapping_sub(other)
@@ -224,8 +222,7 @@ impl Sub for F2Dot14 {
 }
 
 impl SubAssign for F2Dot14 {
-    ghost sub_assign_gives = { λ x y rest. f2dot14_bits rest
-        ≡ wrap 16 (f2dot14_bits x -ℤ f2dot14_bits y) };
+    ghost sub_assign_gives = { λ x y rest. bits_of rest ≡ wrap 16 (bits_of x -ℤ bits_of y) };
 
     fn sub_assign(&mut self, other: F2Dot14) {
         *self = *self - other;
@@ -235,7 +232,7 @@ impl SubAssign for F2Dot14 {
 impl Neg for F2Dot14 {
     type Output = F2Dot14;
 
-    ghost neg_gives = { λ x opposite. f2dot14_bits opposite ≡ wrap 16 (neg_ℤ (f2dot14_bits x)) };
+    ghost neg_gives = { λ x opposite. bits_of opposite ≡ wrap 16 (neg_ℤ (bits_of x)) };
 
     fn neg(self) -> F2Dot14 {
         Self(self.0.wrapping_neg())
@@ -246,7 +243,7 @@ impl Neg for F2Dot14 {
 impl FromStr for F2Dot14 {
     type Err = DecimalFault;
 
-    ghost from_str_gives = { λ text result. ReadsBy w16 14 f2dot14_bits text result };
+    ghost from_str_gives = { λ text result. ReadsBy w16 14 bits_of text result };
 
     fn from_str(text: &str) -> Result<Self, DecimalFault> {
         Self::from_decimal(text)
@@ -254,7 +251,7 @@ impl FromStr for F2Dot14 {
 }
 
 impl fmt::Display for F2Dot14 {
-    ghost output = { λ x. Some (f2dot14_text x) };
+    ghost output = { λ x. Some (text_of x) };
 
     fn fmt<W: fmt::Write>(&self, f: &mut fmt::Formatter<W>) -> fmt::Result {
         fmt::Display::fmt(&self.shortest(), f)
@@ -262,7 +259,7 @@ impl fmt::Display for F2Dot14 {
 }
 
 impl fmt::Debug for F2Dot14 {
-    ghost debug_output = { λ x. Some (f2dot14_text x) };
+    ghost debug_output = { λ x. Some (text_of x) };
 
     fn fmt<W: fmt::Write>(&self, f: &mut fmt::Formatter<W>) -> fmt::Result {
         fmt::Display::fmt(&self.shortest(), f)
@@ -278,13 +275,13 @@ impl FixedSize for F2Dot14 {
 impl Scalar for F2Dot14 {
     type Raw = [u8; 2];
 
-    ghost is_scalar = { λ x. fits_bits 16 (f2dot14_bits x) };
+    ghost is_scalar = { λ x. fits_bits 16 (bits_of x) };
 
-    ghost of_raw = { λ bytes. f2dot14_of (signed_numeral 2 bytes) };
+    ghost of_raw = { λ bytes. of_bits (signed_numeral 2 bytes) };
 
-    ghost raw_of = { λ x. bytes_of 2 (f2dot14_bits x) };
+    ghost raw_of = { λ x. bytes_of 2 (bits_of x) };
 
-    ghost laws = { signed_newtype 2 (lit< tt) f2dot14_bits f2dot14_of (λ _. refl) (λ _. refl) };
+    ghost laws = { signed_newtype 2 (lit< tt) bits_of of_bits (λ _. refl) (λ _. refl) };
 
     fn from_raw(raw: [u8; 2]) -> F2Dot14 {
         Self(i16::from_raw(raw))
@@ -296,5 +293,5 @@ impl Scalar for F2Dot14 {
 }
 
 impl IdentityEq for F2Dot14 {
-    ghost identity = { signed_identity f2dot14_bits f2dot14_of (λ _. refl) };
+    ghost identity = { signed_identity bits_of of_bits (λ _. refl) };
 }

@@ -13,7 +13,7 @@ ghost use Rattle.font_arithmetic.specs.Operations.{IsNarrowed, IsNearestWhole, I
 ghost use Rattle.font_arithmetic.specs.Operations.{clamp};
 ghost use Rattle.font_arithmetic.specs.Reading.{ReadsBy};
 ghost use Rattle.font_fixed.specs.declared.f48dot16.F48Dot16.{F48Dot16};
-ghost use Rattle.font_fixed.specs.F48Dot16.{f48dot16_bits, f48dot16_text};
+ghost use Rattle.font_fixed.specs.F48Dot16.{f48dot16_bits as bits_of, f48dot16_text as text_of};
 ghost use Rattle.font_fixed.specs.Fixed.{fixed_bits};
 
 use crate::fixed::Fixed;
@@ -54,14 +54,14 @@ impl F48Dot16 {
 
     /// The number with these bits.
     pub fn from_bits(bits: i64) -> Self
-        ensures { f48dot16_bits result ≡ bits }
+        ensures { bits_of result ≡ bits }
     {
         Self(bits)
     }
 
     /// The bits.
     pub fn to_bits(self) -> i64
-        ensures { result ≡ f48dot16_bits self }
+        ensures { result ≡ bits_of self }
     {
         self.0
     }
@@ -69,107 +69,106 @@ impl F48Dot16 {
     /// The nearest whole number, ties upwards. It wraps: `F48Dot16::MAX.round()` is
     /// `F48Dot16::MIN`.
     pub fn round(self) -> Self
-        ensures { IsNearestWhole 64 16 (f48dot16_bits self) (f48dot16_bits result) }
+        ensures { IsNearestWhole 64 16 (bits_of self) (bits_of result) }
     {
         self.wrapping_add(Self(0x8000)).floor()
     }
 
     /// The greatest whole number that is not above the number.
     pub fn floor(self) -> Self
-        ensures { IsFloor 16 (f48dot16_bits self) (f48dot16_bits result) }
+        ensures { IsFloor 16 (bits_of self) (bits_of result) }
     {
         Self(self.0 - self.fract().0)
     }
 
     /// What the number has above its floor, from 0 to a step below 1.
     pub fn fract(self) -> Self
-        ensures { IsFract 16 (f48dot16_bits self) (f48dot16_bits result) }
+        ensures { IsFract 16 (bits_of self) (bits_of result) }
     {
         Self(self.0.rem_euclid(0x1_0000))
     }
 
     /// The number without its sign. It wraps: `F48Dot16::MIN.abs()` is `F48Dot16::MIN`.
     pub fn abs(self) -> Self
-        ensures { f48dot16_bits result ≡ wrap 64 (pos (unsigned_abs (f48dot16_bits self))) }
+        ensures { bits_of result ≡ wrap 64 (pos (unsigned_abs (bits_of self))) }
     {
         Self(self.0.wrapping_abs())
     }
 
     /// The sum, wrapped.
     pub fn wrapping_add(self, other: Self) -> Self
-        ensures { f48dot16_bits result ≡ wrap 64 (f48dot16_bits self +ℤ f48dot16_bits other) }
+        ensures { bits_of result ≡ wrap 64 (bits_of self +ℤ bits_of other) }
     {
         Self(self.0.wrapping_add(other.0))
     }
 
     /// The difference, wrapped.
     pub fn wrapping_sub(self, other: Self) -> Self
-        ensures { f48dot16_bits result ≡ wrap 64 (f48dot16_bits self -ℤ f48dot16_bits other) }
+        ensures { bits_of result ≡ wrap 64 (bits_of self -ℤ bits_of other) }
     {
         Self(self.0.wrapping_sub(other.0))
     }
 
     /// The sum, or the nearest end of the range where it is out of it.
     pub fn saturating_add(self, other: Self) -> Self
-        ensures { f48dot16_bits result ≡ clamp 64 (f48dot16_bits self +ℤ f48dot16_bits other) }
+        ensures { bits_of result ≡ clamp 64 (bits_of self +ℤ bits_of other) }
     {
         Self(self.0.saturating_add(other.0))
     }
 
     /// The difference, or the nearest end of the range where it is out of it.
     pub fn saturating_sub(self, other: Self) -> Self
-        ensures { f48dot16_bits result ≡ clamp 64 (f48dot16_bits self -ℤ f48dot16_bits other) }
+        ensures { bits_of result ≡ clamp 64 (bits_of self -ℤ bits_of other) }
     {
         Self(self.0.saturating_sub(other.0))
     }
 
     /// The sum, or `None` where it is out of range.
     pub fn checked_add(self, other: Self) -> Option<Self>
-        ensures variant { IsSome result ↔ FitsBits 64 (f48dot16_bits self +ℤ f48dot16_bits other) }
-        ensures value { IfSome result
-            (λ sum. f48dot16_bits sum ≡ (f48dot16_bits self +ℤ f48dot16_bits other)) }
+        ensures variant { IsSome result ↔ FitsBits 64 (bits_of self +ℤ bits_of other) }
+        ensures value { IfSome result (λ sum. bits_of sum ≡ (bits_of self +ℤ bits_of other)) }
     {
         Some(Self(self.0.checked_add(other.0)?))
     }
 
     /// The eight bytes of the bits, highest first.
     pub fn to_be_bytes(self) -> [u8; 8]
-        ensures { result ≡ bytes_of 8 (f48dot16_bits self) }
+        ensures { result ≡ bytes_of 8 (bits_of self) }
     {
         self.0.to_raw()
     }
 
     /// A whole number, wrapped.
     pub fn from_i64(number: i64) -> Self
-        ensures { f48dot16_bits result ≡ wrap 64 (number *ℤ pos (2 ^ 16)) }
+        ensures { bits_of result ≡ wrap 64 (number *ℤ pos (2 ^ 16)) }
     {
         Self(number.wrapping_mul(0x1_0000))
     }
 
     /// A whole number, which always fits.
     pub fn from_i32(number: i32) -> Self
-        ensures { f48dot16_bits result ≡ (number *ℤ pos (2 ^ 16)) }
+        ensures { bits_of result ≡ (number *ℤ pos (2 ^ 16)) }
     {
         Self(i64::from(number) * 0x1_0000)
     }
 
     /// The nearest whole number, ties upwards, wrapped to 48 bits.
     pub fn to_i64(self) -> i64
-        ensures { IsNarrowed 48 (f48dot16_bits self) (2 ^ 16) result }
+        ensures { IsNarrowed 48 (bits_of self) (2 ^ 16) result }
     {
         self.wrapping_add(Self(0x8000)).0 >> 16
     }
 
     /// The nearest whole number, ties upwards, wrapped to 32 bits.
     pub fn to_i32(self) -> i32
-        ensures { IsNarrowed 32 (f48dot16_bits self) (2 ^ 16) result }
+        ensures { IsNarrowed 32 (bits_of self) (2 ^ 16) result }
     {
         low_bits(self.to_i64())
     }
 
     /// The same number as a `Fixed`, its bits wrapped to 32.
     pub fn to_fixed(self) -> Fixed
-        ensures { fixed_bits result ≡ wrap 32 (f48dot16_bits self) }
+        ensures { fixed_bits result ≡ wrap 32 (bits_of self) }
     {
         Fixed::from_bits(low_bits(self.0))
     }
@@ -179,7 +178,7 @@ impl F48Dot16 {
     /// A text outside the grammar is refused as `Syntax`, one whose nearest number is out of range
     /// as `OutOfRange`.
     pub fn from_decimal(text: &str) -> Result<Self, DecimalFault>
-        ensures { ReadsBy w64 16 f48dot16_bits text.now result }
+        ensures { ReadsBy w64 16 bits_of text.now result }
     {
         read_bits_64(text, Self::FRACTION_BITS).map(Self)
     }
@@ -189,20 +188,20 @@ impl F48Dot16 {
     pub fn write_padded(self, out: &mut [u8], pad: &Pad) -> Option<usize>
         requires { pad.now.fill < 128 }
         ensures written { IfSome result
-            (λ n. FillsFront (padded_text (f48dot16_text self) pad.now) n out.old out.new) }
+            (λ n. FillsFront (padded_text (text_of self) pad.now) n out.old out.new) }
         ensures room { IsSome result
-            ↔ (length (padded_text (f48dot16_text self) pad.now) ≤ length out.old) }
+            ↔ (length (padded_text (text_of self) pad.now) ≤ length out.old) }
         ensures cell { max 22 pad.now.width ≤ length out.old → IsSome result }
         ensures fills { length out.old ≤ pad.now.width
-            → IfSome result (λ _. out.new ≡ padded_text (f48dot16_text self) pad.now) }
+            → IfSome result (λ _. out.new ≡ padded_text (text_of self) pad.now) }
         ensures untouched { IfNone result (out.new ≡ out.old) }
     {
         font_decimal::write_padded(self.shortest().as_str(), out, pad)
     }
 
     fn shortest(self) -> Shortest
-        ensures shortest { IsShortest (f48dot16_bits self) 16 (shown result) }
-        ensures text { shown result ≡ f48dot16_text self }
+        ensures shortest { IsShortest (bits_of self) 16 (shown result) }
+        ensures text { shown result ≡ text_of self }
     {
         Shortest::new(self.0, Self::FRACTION_BITS)
     }
@@ -211,8 +210,7 @@ impl F48Dot16 {
 impl Add for F48Dot16 {
     type Output = F48Dot16;
 
-    ghost add_gives = { λ x y sum. f48dot16_bits sum
-        ≡ wrap 64 (f48dot16_bits x +ℤ f48dot16_bits y) };
+    ghost add_gives = { λ x y sum. bits_of sum ≡ wrap 64 (bits_of x +ℤ bits_of y) };
 
     fn add(self, other: F48Dot16) -> F48Dot16 {
         self.wrapping_add(other)
@@ -220,8 +218,7 @@ impl Add for F48Dot16 {
 }
 
 impl AddAssign for F48Dot16 {
-    ghost add_assign_gives = { λ x y sum. f48dot16_bits sum
-        ≡ wrap 64 (f48dot16_bits x +ℤ f48dot16_bits y) };
+    ghost add_assign_gives = { λ x y sum. bits_of sum ≡ wrap 64 (bits_of x +ℤ bits_of y) };
 
     fn add_assign(&mut self, other: F48Dot16) {
         *self = *self + other;
@@ -231,8 +228,7 @@ impl AddAssign for F48Dot16 {
 impl Sub for F48Dot16 {
     type Output = F48Dot16;
 
-    ghost sub_gives = { λ x y rest. f48dot16_bits rest
-        ≡ wrap 64 (f48dot16_bits x -ℤ f48dot16_bits y) };
+    ghost sub_gives = { λ x y rest. bits_of rest ≡ wrap 64 (bits_of x -ℤ bits_of y) };
 
     fn sub(self, other: F48Dot16) -> F48Dot16 {
         self.wrapping_sub(other)
@@ -240,8 +236,7 @@ impl Sub for F48Dot16 {
 }
 
 impl SubAssign for F48Dot16 {
-    ghost sub_assign_gives = { λ x y rest. f48dot16_bits rest
-        ≡ wrap 64 (f48dot16_bits x -ℤ f48dot16_bits y) };
+    ghost sub_assign_gives = { λ x y rest. bits_of rest ≡ wrap 64 (bits_of x -ℤ bits_of y) };
 
     fn sub_assign(&mut self, other: F48Dot16) {
         *self = *self - other;
@@ -251,7 +246,7 @@ impl SubAssign for F48Dot16 {
 impl Neg for F48Dot16 {
     type Output = F48Dot16;
 
-    ghost neg_gives = { λ x opposite. f48dot16_bits opposite ≡ wrap 64 (neg_ℤ (f48dot16_bits x)) };
+    ghost neg_gives = { λ x opposite. bits_of opposite ≡ wrap 64 (neg_ℤ (bits_of x)) };
 
     fn neg(self) -> F48Dot16 {
         Self(self.0.wrapping_neg())
@@ -262,7 +257,7 @@ impl Neg for F48Dot16 {
 impl FromStr for F48Dot16 {
     type Err = DecimalFault;
 
-    ghost from_str_gives = { λ text result. ReadsBy w64 16 f48dot16_bits text result };
+    ghost from_str_gives = { λ text result. ReadsBy w64 16 bits_of text result };
 
     fn from_str(text: &str) -> Result<Self, DecimalFault> {
         Self::from_decimal(text)
@@ -270,7 +265,7 @@ impl FromStr for F48Dot16 {
 }
 
 impl fmt::Display for F48Dot16 {
-    ghost output = { λ x. Some (f48dot16_text x) };
+    ghost output = { λ x. Some (text_of x) };
 
     fn fmt<W: fmt::Write>(&self, f: &mut fmt::Formatter<W>) -> fmt::Result {
         fmt::Display::fmt(&self.shortest(), f)
@@ -278,7 +273,7 @@ impl fmt::Display for F48Dot16 {
 }
 
 impl fmt::Debug for F48Dot16 {
-    ghost debug_output = { λ x. Some (f48dot16_text x) };
+    ghost debug_output = { λ x. Some (text_of x) };
 
     fn fmt<W: fmt::Write>(&self, f: &mut fmt::Formatter<W>) -> fmt::Result {
         fmt::Display::fmt(&self.shortest(), f)

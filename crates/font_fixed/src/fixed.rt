@@ -12,7 +12,8 @@ ghost use Rattle.font_decimal.specs.Padding.{padded_text, FillsFront};
 ghost use Rattle.font_decimal.specs.Shortest.{IsShortest};
 ghost use Rattle.font_decimal.specs.Shown.{shown};
 ghost use Rattle.font_fixed.specs.declared.fixed.Fixed.{Fixed};
-ghost use Rattle.font_fixed.specs.Fixed.{fixed_bits, fixed_of, fixed_text};
+ghost use Rattle.font_fixed.specs.Fixed.{fixed_bits as bits_of, fixed_of as of_bits};
+ghost use Rattle.font_fixed.specs.Fixed.{fixed_text as text_of};
 ghost use Rattle.font_fixed.specs.F2Dot14.{f2dot14_bits};
 ghost use Rattle.font_fixed.specs.F48Dot16.{f48dot16_bits};
 ghost use Rattle.font_f26.specs.F26Dot6.{f26dot6_bits};
@@ -61,86 +62,85 @@ impl Fixed {
 
     /// The number with these bits.
     pub fn from_bits(bits: i32) -> Self
-        ensures { fixed_bits result ≡ bits }
+        ensures { bits_of result ≡ bits }
     {
         Self(bits)
     }
 
     /// The bits.
     pub fn to_bits(self) -> i32
-        ensures { result ≡ fixed_bits self }
+        ensures { result ≡ bits_of self }
     {
         self.0
     }
 
     /// The nearest whole number, ties upwards. It wraps: `Fixed::MAX.round()` is `Fixed::MIN`.
     pub fn round(self) -> Self
-        ensures { IsNearestWhole 32 16 (fixed_bits self) (fixed_bits result) }
+        ensures { IsNearestWhole 32 16 (bits_of self) (bits_of result) }
     {
         self.wrapping_add(Self(0x8000)).floor()
     }
 
     /// The greatest whole number that is not above the number.
     pub fn floor(self) -> Self
-        ensures { IsFloor 16 (fixed_bits self) (fixed_bits result) }
+        ensures { IsFloor 16 (bits_of self) (bits_of result) }
     {
         Self(self.0 - self.fract().0)
     }
 
     /// What the number has above its floor, from 0 to a step below 1.
     pub fn fract(self) -> Self
-        ensures { IsFract 16 (fixed_bits self) (fixed_bits result) }
+        ensures { IsFract 16 (bits_of self) (bits_of result) }
     {
         Self(self.0.rem_euclid(0x1_0000))
     }
 
     /// The number without its sign. It wraps: `Fixed::MIN.abs()` is `Fixed::MIN`.
     pub fn abs(self) -> Self
-        ensures { fixed_bits result ≡ wrap 32 (pos (unsigned_abs (fixed_bits self))) }
+        ensures { bits_of result ≡ wrap 32 (pos (unsigned_abs (bits_of self))) }
     {
         Self(self.0.wrapping_abs())
     }
 
     /// The sum, wrapped.
     pub fn wrapping_add(self, other: Self) -> Self
-        ensures { fixed_bits result ≡ wrap 32 (fixed_bits self +ℤ fixed_bits other) }
+        ensures { bits_of result ≡ wrap 32 (bits_of self +ℤ bits_of other) }
     {
         Self(self.0.wrapping_add(other.0))
     }
 
     /// The difference, wrapped.
     pub fn wrapping_sub(self, other: Self) -> Self
-        ensures { fixed_bits result ≡ wrap 32 (fixed_bits self -ℤ fixed_bits other) }
+        ensures { bits_of result ≡ wrap 32 (bits_of self -ℤ bits_of other) }
     {
         Self(self.0.wrapping_sub(other.0))
     }
 
     /// The sum, or the nearest end of the range where it is out of it.
     pub fn saturating_add(self, other: Self) -> Self
-        ensures { fixed_bits result ≡ clamp 32 (fixed_bits self +ℤ fixed_bits other) }
+        ensures { bits_of result ≡ clamp 32 (bits_of self +ℤ bits_of other) }
     {
         Self(self.0.saturating_add(other.0))
     }
 
     /// The difference, or the nearest end of the range where it is out of it.
     pub fn saturating_sub(self, other: Self) -> Self
-        ensures { fixed_bits result ≡ clamp 32 (fixed_bits self -ℤ fixed_bits other) }
+        ensures { bits_of result ≡ clamp 32 (bits_of self -ℤ bits_of other) }
     {
         Self(self.0.saturating_sub(other.0))
     }
 
     /// The sum, or `None` where it is out of range.
     pub fn checked_add(self, other: Self) -> Option<Self>
-        ensures variant { IsSome result ↔ FitsBits 32 (fixed_bits self +ℤ fixed_bits other) }
-        ensures value { IfSome result
-            (λ sum. fixed_bits sum ≡ (fixed_bits self +ℤ fixed_bits other)) }
+        ensures variant { IsSome result ↔ FitsBits 32 (bits_of self +ℤ bits_of other) }
+        ensures value { IfSome result (λ sum. bits_of sum ≡ (bits_of self +ℤ bits_of other)) }
     {
         Some(Self(self.0.checked_add(other.0)?))
     }
 
     /// The four bytes of the bits, highest first.
     pub fn to_be_bytes(self) -> [u8; 4]
-        ensures { result ≡ bytes_of 4 (fixed_bits self) }
+        ensures { result ≡ bytes_of 4 (bits_of self) }
     {
         self.to_raw()
     }
@@ -150,50 +150,50 @@ impl Fixed {
     /// Where `c` is zero it is the greatest number, negated where just one of `self` and `a` is
     /// negative.
     pub fn mul_div(&self, a: Self, c: Self) -> Self
-        ensures { IsMulDiv 32 (fixed_bits self.now) (fixed_bits a) (fixed_bits c)
-            (fixed_bits result) }
+        ensures { IsMulDiv 32 (bits_of self.now) (bits_of a) (bits_of c)
+            (bits_of result) }
     {
         Self(mul_div(self.0, a.0, c.0))
     }
 
     /// A whole number, wrapped.
     pub fn from_i32(number: i32) -> Self
-        ensures { fixed_bits result ≡ wrap 32 (number *ℤ pos (2 ^ 16)) }
+        ensures { bits_of result ≡ wrap 32 (number *ℤ pos (2 ^ 16)) }
     {
         Self(number.wrapping_mul(0x1_0000))
     }
 
     /// The nearest whole number, ties upwards, wrapped to 16 bits.
     pub fn to_i32(self) -> i32
-        ensures { IsNarrowed 16 (fixed_bits self) (2 ^ 16) result }
+        ensures { IsNarrowed 16 (bits_of self) (2 ^ 16) result }
     {
         self.wrapping_add(Self(0x8000)).0 >> 16
     }
 
     /// The nearest `F26Dot6`, ties upwards, its bits wrapped to 22.
     pub fn to_f26dot6(self) -> F26Dot6
-        ensures { IsNarrowed 22 (fixed_bits self) (2 ^ 10) (f26dot6_bits result) }
+        ensures { IsNarrowed 22 (bits_of self) (2 ^ 10) (f26dot6_bits result) }
     {
         F26Dot6::from_bits(self.wrapping_add(Self(0x200)).0 >> 10)
     }
 
     /// The nearest `F2Dot14`, ties upwards, its bits wrapped to 16.
     pub fn to_f2dot14(self) -> F2Dot14
-        ensures { IsNarrowed 16 (fixed_bits self) 4 (f2dot14_bits result) }
+        ensures { IsNarrowed 16 (bits_of self) 4 (f2dot14_bits result) }
     {
         F2Dot14::from_bits(low_half(self.quarter()))
     }
 
     /// The same number as an `F48Dot16`.
     pub fn to_f48dot16(self) -> F48Dot16
-        ensures { f48dot16_bits result ≡ fixed_bits self }
+        ensures { f48dot16_bits result ≡ bits_of self }
     {
         F48Dot16::from_bits(i64::from(self.0))
     }
 
     /// The exact product with a whole number.
     pub fn mul_i32(self, number: i32) -> F48Dot16
-        ensures { f48dot16_bits result ≡ (fixed_bits self *ℤ number) }
+        ensures { f48dot16_bits result ≡ (bits_of self *ℤ number) }
     {
         F48Dot16::from_bits(i64::from(self.0) * i64::from(number))
     }
@@ -203,7 +203,7 @@ impl Fixed {
     /// A delta counts in units of `1 / 65536`, the last bit of this type, with 16 bits of fraction
     /// behind it.
     pub fn apply_delta(self, delta: F48Dot16) -> i128
-        ensures { result ≡ (fixed_bits self *ℤ pos 65536 +ℤ f48dot16_bits delta) }
+        ensures { result ≡ (bits_of self *ℤ pos 65536 +ℤ f48dot16_bits delta) }
     {
         i128::from(self.0) * 0x1_0000 + i128::from(delta.to_bits())
     }
@@ -213,7 +213,7 @@ impl Fixed {
     /// `Fixed::from_decimal("1.5")` has bits 98304. A text outside the grammar is refused as
     /// `Syntax`, one whose nearest number is out of range as `OutOfRange`.
     pub fn from_decimal(text: &str) -> Result<Self, DecimalFault>
-        ensures { ReadsBy w32 16 fixed_bits text.now result }
+        ensures { ReadsBy w32 16 bits_of text.now result }
     {
         read_bits_32(text, Self::FRACTION_BITS).map(Self)
     }
@@ -223,27 +223,27 @@ impl Fixed {
     pub fn write_padded(self, out: &mut [u8], pad: &Pad) -> Option<usize>
         requires { pad.now.fill < 128 }
         ensures written { IfSome result
-            (λ n. FillsFront (padded_text (fixed_text self) pad.now) n out.old out.new) }
+            (λ n. FillsFront (padded_text (text_of self) pad.now) n out.old out.new) }
         ensures room { IsSome result
-            ↔ (length (padded_text (fixed_text self) pad.now) ≤ length out.old) }
+            ↔ (length (padded_text (text_of self) pad.now) ≤ length out.old) }
         ensures cell { max 12 pad.now.width ≤ length out.old → IsSome result }
         ensures fills { length out.old ≤ pad.now.width
-            → IfSome result (λ _. out.new ≡ padded_text (fixed_text self) pad.now) }
+            → IfSome result (λ _. out.new ≡ padded_text (text_of self) pad.now) }
         ensures untouched { IfNone result (out.new ≡ out.old) }
     {
         font_decimal::write_padded(self.shortest().as_str(), out, pad)
     }
 
     fn shortest(self) -> Shortest
-        ensures shortest { IsShortest (fixed_bits self) 16 (shown result) }
-        ensures text { shown result ≡ fixed_text self }
+        ensures shortest { IsShortest (bits_of self) 16 (shown result) }
+        ensures text { shown result ≡ text_of self }
     {
         Shortest::new(i64::from(self.0), Self::FRACTION_BITS)
     }
 
     // The nearest number of four steps, ties upwards, wrapped to 30 bits.
     fn quarter(self) -> i32
-        ensures { IsNarrowed 30 (fixed_bits self) 4 result }
+        ensures { IsNarrowed 30 (bits_of self) 4 result }
     {
         self.wrapping_add(Self(2)).0 >> 2
     }
@@ -259,7 +259,7 @@ fn low_half(n: i32) -> i16
 impl Add for Fixed {
     type Output = Fixed;
 
-    ghost add_gives = { λ x y sum. fixed_bits sum ≡ wrap 32 (fixed_bits x +ℤ fixed_bits y) };
+    ghost add_gives = { λ x y sum. bits_of sum ≡ wrap 32 (bits_of x +ℤ bits_of y) };
 
     fn add(self, other: Fixed) -> Fixed {
         self.wrapping_add(other)
@@ -267,7 +267,7 @@ impl Add for Fixed {
 }
 
 impl AddAssign for Fixed {
-    ghost add_assign_gives = { λ x y sum. fixed_bits sum ≡ wrap 32 (fixed_bits x +ℤ fixed_bits y) };
+    ghost add_assign_gives = { λ x y sum. bits_of sum ≡ wrap 32 (bits_of x +ℤ bits_of y) };
 
     fn add_assign(&mut self, other: Fixed) {
         *self = *self + other;
@@ -277,7 +277,7 @@ impl AddAssign for Fixed {
 impl Sub for Fixed {
     type Output = Fixed;
 
-    ghost sub_gives = { λ x y rest. fixed_bits rest ≡ wrap 32 (fixed_bits x -ℤ fixed_bits y) };
+    ghost sub_gives = { λ x y rest. bits_of rest ≡ wrap 32 (bits_of x -ℤ bits_of y) };
 
     fn sub(self, other: Fixed) -> Fixed {
         self.wrapping_sub(other)
@@ -285,8 +285,7 @@ impl Sub for Fixed {
 }
 
 impl SubAssign for Fixed {
-    ghost sub_assign_gives = { λ x y rest. fixed_bits rest
-        ≡ wrap 32 (fixed_bits x -ℤ fixed_bits y) };
+    ghost sub_assign_gives = { λ x y rest. bits_of rest ≡ wrap 32 (bits_of x -ℤ bits_of y) };
 
     fn sub_assign(&mut self, other: Fixed) {
         *self = *self - other;
@@ -296,7 +295,7 @@ impl SubAssign for Fixed {
 impl Neg for Fixed {
     type Output = Fixed;
 
-    ghost neg_gives = { λ x opposite. fixed_bits opposite ≡ wrap 32 (neg_ℤ (fixed_bits x)) };
+    ghost neg_gives = { λ x opposite. bits_of opposite ≡ wrap 32 (neg_ℤ (bits_of x)) };
 
     fn neg(self) -> Fixed {
         Self(self.0.wrapping_neg())
@@ -307,7 +306,7 @@ impl Mul for Fixed {
     type Output = Fixed;
 
     ghost mul_gives = { λ x y product.
-        IsProduct 32 16 (fixed_bits x) (fixed_bits y) (fixed_bits product) };
+        IsProduct 32 16 (bits_of x) (bits_of y) (bits_of product) };
 
     fn mul(self, other: Fixed) -> Fixed {
         Self(product(self.0, other.0, Self::FRACTION_BITS))
@@ -316,7 +315,7 @@ impl Mul for Fixed {
 
 impl MulAssign for Fixed {
     ghost mul_assign_gives = { λ x y product.
-        IsProduct 32 16 (fixed_bits x) (fixed_bits y) (fixed_bits product) };
+        IsProduct 32 16 (bits_of x) (bits_of y) (bits_of product) };
 
     fn mul_assign(&mut self, other: Fixed) {
         *self = *self * other;
@@ -328,7 +327,7 @@ impl Div for Fixed {
     type Output = Fixed;
 
     ghost div_gives = { λ x y quotient.
-        IsQuotient 32 16 (fixed_bits x) (fixed_bits y) (fixed_bits quotient) };
+        IsQuotient 32 16 (bits_of x) (bits_of y) (bits_of quotient) };
 
     fn div(self, other: Fixed) -> Fixed {
         self.mul_div(Self::ONE, other)
@@ -337,7 +336,7 @@ impl Div for Fixed {
 
 impl DivAssign for Fixed {
     ghost div_assign_gives = { λ x y quotient.
-        IsQuotient 32 16 (fixed_bits x) (fixed_bits y) (fixed_bits quotient) };
+        IsQuotient 32 16 (bits_of x) (bits_of y) (bits_of quotient) };
 
     fn div_assign(&mut self, other: Fixed) {
         *self = *self / other;
@@ -345,7 +344,7 @@ impl DivAssign for Fixed {
 }
 
 impl From<i32> for Fixed {
-    ghost from_gives = { λ number fixed. fixed_bits fixed ≡ wrap 32 (number *ℤ pos (2 ^ 16)) };
+    ghost from_gives = { λ number fixed. bits_of fixed ≡ wrap 32 (number *ℤ pos (2 ^ 16)) };
 
     fn from(number: i32) -> Fixed {
         Fixed::from_i32(number)
@@ -354,7 +353,7 @@ impl From<i32> for Fixed {
 
 /// The same number, as by `to_fixed`.
 impl From<F2Dot14> for Fixed {
-    ghost from_gives = { λ number fixed. fixed_bits fixed ≡ (f2dot14_bits number *ℤ pos 4) };
+    ghost from_gives = { λ number fixed. bits_of fixed ≡ (f2dot14_bits number *ℤ pos 4) };
 
     fn from(number: F2Dot14) -> Fixed {
         number.to_fixed()
@@ -365,7 +364,7 @@ impl From<F2Dot14> for Fixed {
 impl FromStr for Fixed {
     type Err = DecimalFault;
 
-    ghost from_str_gives = { λ text result. ReadsBy w32 16 fixed_bits text result };
+    ghost from_str_gives = { λ text result. ReadsBy w32 16 bits_of text result };
 
     fn from_str(text: &str) -> Result<Self, DecimalFault> {
         Self::from_decimal(text)
@@ -373,7 +372,7 @@ impl FromStr for Fixed {
 }
 
 impl fmt::Display for Fixed {
-    ghost output = { λ x. Some (fixed_text x) };
+    ghost output = { λ x. Some (text_of x) };
 
     fn fmt<W: fmt::Write>(&self, f: &mut fmt::Formatter<W>) -> fmt::Result {
         fmt::Display::fmt(&self.shortest(), f)
@@ -381,7 +380,7 @@ impl fmt::Display for Fixed {
 }
 
 impl fmt::Debug for Fixed {
-    ghost debug_output = { λ x. Some (fixed_text x) };
+    ghost debug_output = { λ x. Some (text_of x) };
 
     fn fmt<W: fmt::Write>(&self, f: &mut fmt::Formatter<W>) -> fmt::Result {
         fmt::Display::fmt(&self.shortest(), f)
@@ -397,13 +396,13 @@ impl FixedSize for Fixed {
 impl Scalar for Fixed {
     type Raw = [u8; 4];
 
-    ghost is_scalar = { λ x. fits_bits 32 (fixed_bits x) };
+    ghost is_scalar = { λ x. fits_bits 32 (bits_of x) };
 
-    ghost of_raw = { λ bytes. fixed_of (signed_numeral 4 bytes) };
+    ghost of_raw = { λ bytes. of_bits (signed_numeral 4 bytes) };
 
-    ghost raw_of = { λ x. bytes_of 4 (fixed_bits x) };
+    ghost raw_of = { λ x. bytes_of 4 (bits_of x) };
 
-    ghost laws = { signed_newtype 4 (lit< tt) fixed_bits fixed_of (λ _. refl) (λ _. refl) };
+    ghost laws = { signed_newtype 4 (lit< tt) bits_of of_bits (λ _. refl) (λ _. refl) };
 
     fn from_raw(raw: [u8; 4]) -> Fixed {
         Self(i32::from_raw(raw))
@@ -415,5 +414,5 @@ impl Scalar for Fixed {
 }
 
 impl IdentityEq for Fixed {
-    ghost identity = { signed_identity fixed_bits fixed_of (λ _. refl) };
+    ghost identity = { signed_identity bits_of of_bits (λ _. refl) };
 }

@@ -14,7 +14,8 @@ ghost use Rattle.font_decimal.specs.Shown.{shown};
 ghost use Rattle.font_arithmetic.specs.Operations.{IsNearestWhole, IsFloor, IsFract, clamp};
 ghost use Rattle.font_arithmetic.specs.Reading.{ReadsBy};
 ghost use Rattle.font_fixed2.specs.declared.f6dot10.F6Dot10.{F6Dot10};
-ghost use Rattle.font_fixed2.specs.F6Dot10.{f6dot10_bits, f6dot10_of, f6dot10_text};
+ghost use Rattle.font_fixed2.specs.F6Dot10.{f6dot10_bits as bits_of, f6dot10_of as of_bits};
+ghost use Rattle.font_fixed2.specs.F6Dot10.{f6dot10_text as text_of};
 
 use font_arithmetic::read_bits_16;
 use font_base::{FixedSize, IdentityEq, Scalar};
@@ -53,86 +54,85 @@ impl F6Dot10 {
 
     /// The number with these bits.
     pub fn from_bits(bits: i16) -> Self
-        ensures { f6dot10_bits result ≡ bits }
+        ensures { bits_of result ≡ bits }
     {
         Self(bits)
     }
 
     /// The bits.
     pub fn to_bits(self) -> i16
-        ensures { result ≡ f6dot10_bits self }
+        ensures { result ≡ bits_of self }
     {
         self.0
     }
 
     /// The nearest whole number, ties upwards. It wraps: `F6Dot10::MAX.round()` is `F6Dot10::MIN`.
     pub fn round(self) -> Self
-        ensures { IsNearestWhole 16 10 (f6dot10_bits self) (f6dot10_bits result) }
+        ensures { IsNearestWhole 16 10 (bits_of self) (bits_of result) }
     {
         self.wrapping_add(Self(0x200)).floor()
     }
 
     /// The greatest whole number that is not above the number.
     pub fn floor(self) -> Self
-        ensures { IsFloor 10 (f6dot10_bits self) (f6dot10_bits result) }
+        ensures { IsFloor 10 (bits_of self) (bits_of result) }
     {
         Self(self.0 - self.fract().0)
     }
 
     /// What the number has above its floor, from 0 to a step below 1.
     pub fn fract(self) -> Self
-        ensures { IsFract 10 (f6dot10_bits self) (f6dot10_bits result) }
+        ensures { IsFract 10 (bits_of self) (bits_of result) }
     {
         Self(self.0.rem_euclid(0x400))
     }
 
     /// The number without its sign. It wraps: `F6Dot10::MIN.abs()` is `F6Dot10::MIN`.
     pub fn abs(self) -> Self
-        ensures { f6dot10_bits result ≡ wrap 16 (pos (unsigned_abs (f6dot10_bits self))) }
+        ensures { bits_of result ≡ wrap 16 (pos (unsigned_abs (bits_of self))) }
     {
         Self(self.0.wrapping_abs())
     }
 
     /// The sum, wrapped.
     pub fn wrapping_add(self, other: Self) -> Self
-        ensures { f6dot10_bits result ≡ wrap 16 (f6dot10_bits self +ℤ f6dot10_bits other) }
+        ensures { bits_of result ≡ wrap 16 (bits_of self +ℤ bits_of other) }
     {
         Self(self.0.wrapping_add(other.0))
     }
 
     /// The difference, wrapped.
     pub fn wrapping_sub(self, other: Self) -> Self
-        ensures { f6dot10_bits result ≡ wrap 16 (f6dot10_bits self -ℤ f6dot10_bits other) }
+        ensures { bits_of result ≡ wrap 16 (bits_of self -ℤ bits_of other) }
     {
         Self(self.0.wrapping_sub(other.0))
     }
 
     /// The sum, or the nearest end of the range where it is out of it.
     pub fn saturating_add(self, other: Self) -> Self
-        ensures { f6dot10_bits result ≡ clamp 16 (f6dot10_bits self +ℤ f6dot10_bits other) }
+        ensures { bits_of result ≡ clamp 16 (bits_of self +ℤ bits_of other) }
     {
         Self(self.0.saturating_add(other.0))
     }
 
     /// The difference, or the nearest end of the range where it is out of it.
     pub fn saturating_sub(self, other: Self) -> Self
-        ensures { f6dot10_bits result ≡ clamp 16 (f6dot10_bits self -ℤ f6dot10_bits other) }
+        ensures { bits_of result ≡ clamp 16 (bits_of self -ℤ bits_of other) }
     {
         Self(self.0.saturating_sub(other.0))
     }
 
     /// The sum, or `None` where it is out of range.
     pub fn checked_add(self, other: Self) -> Option<Self>
-        ensures variant { IsSome result ↔ FitsBits 16 (f6dot10_bits self +ℤ f6dot10_bits other) }
-        ensures value { IfSome result
-            (λ sum. f6dot10_bits sum ≡ (f6dot10_bits self +ℤ f6dot10_bits other)) }
+        ensures variant { IsSome result ↔ FitsBits 16 (bits_of self +ℤ bits_of other) }
+        ensures value { IfSome result (λ sum. bits_of sum ≡ (bits_of self +ℤ bits_of other)) }
     {
         Some(Self(self.0.checked_add(other.0)?))
     }
 
     /// The two bytes of the bits, highest first.
     pub fn to_be_bytes(self) -> [u8; 2]
-        ensures { result ≡ bytes_of 2 (f6dot10_bits self) }
+        ensures { result ≡ bytes_of 2 (bits_of self) }
     {
         self.to_raw()
     }
@@ -142,7 +142,7 @@ impl F6Dot10 {
     /// A text outside the grammar is refused as `Syntax`, one whose nearest number is out of range
     /// as `OutOfRange`.
     pub fn from_decimal(text: &str) -> Result<Self, DecimalFault>
-        ensures { ReadsBy w16 10 f6dot10_bits text.now result }
+        ensures { ReadsBy w16 10 bits_of text.now result }
     {
         read_bits_16(text, Self::FRACTION_BITS).map(Self)
     }
@@ -152,20 +152,20 @@ impl F6Dot10 {
     pub fn write_padded(self, out: &mut [u8], pad: &Pad) -> Option<usize>
         requires { pad.now.fill < 128 }
         ensures written { IfSome result
-            (λ n. FillsFront (padded_text (f6dot10_text self) pad.now) n out.old out.new) }
+            (λ n. FillsFront (padded_text (text_of self) pad.now) n out.old out.new) }
         ensures room { IsSome result
-            ↔ (length (padded_text (f6dot10_text self) pad.now) ≤ length out.old) }
+            ↔ (length (padded_text (text_of self) pad.now) ≤ length out.old) }
         ensures cell { max 8 pad.now.width ≤ length out.old → IsSome result }
         ensures fills { length out.old ≤ pad.now.width
-            → IfSome result (λ _. out.new ≡ padded_text (f6dot10_text self) pad.now) }
+            → IfSome result (λ _. out.new ≡ padded_text (text_of self) pad.now) }
         ensures untouched { IfNone result (out.new ≡ out.old) }
     {
         font_decimal::write_padded(self.shortest().as_str(), out, pad)
     }
 
     fn shortest(self) -> Shortest
-        ensures shortest { IsShortest (f6dot10_bits self) 10 (shown result) }
-        ensures text { shown result ≡ f6dot10_text self }
+        ensures shortest { IsShortest (bits_of self) 10 (shown result) }
+        ensures text { shown result ≡ text_of self }
     {
         Shortest::new(i64::from(self.0), Self::FRACTION_BITS)
     }
@@ -174,7 +174,7 @@ impl F6Dot10 {
 impl Add for F6Dot10 {
     type Output = F6Dot10;
 
-    ghost add_gives = { λ x y sum. f6dot10_bits sum ≡ wrap 16 (f6dot10_bits x +ℤ f6dot10_bits y) };
+    ghost add_gives = { λ x y sum. bits_of sum ≡ wrap 16 (bits_of x +ℤ bits_of y) };
 
     fn add(self, other: F6Dot10) -> F6Dot10 {
         self.wrapping_add(other)
@@ -182,8 +182,7 @@ impl Add for F6Dot10 {
 }
 
 impl AddAssign for F6Dot10 {
-    ghost add_assign_gives = { λ x y sum. f6dot10_bits sum
-        ≡ wrap 16 (f6dot10_bits x +ℤ f6dot10_bits y) };
+    ghost add_assign_gives = { λ x y sum. bits_of sum ≡ wrap 16 (bits_of x +ℤ bits_of y) };
 
     fn add_assign(&mut self, other: F6Dot10) {
         *self = *self + other;
@@ -193,8 +192,7 @@ impl AddAssign for F6Dot10 {
 impl Sub for F6Dot10 {
     type Output = F6Dot10;
 
-    ghost sub_gives = { λ x y rest. f6dot10_bits rest
-        ≡ wrap 16 (f6dot10_bits x -ℤ f6dot10_bits y) };
+    ghost sub_gives = { λ x y rest. bits_of rest ≡ wrap 16 (bits_of x -ℤ bits_of y) };
 
     fn sub(self, other: F6Dot10) -> F6Dot10 {
         self.wrapping_sub(other)
@@ -202,8 +200,7 @@ impl Sub for F6Dot10 {
 }
 
 impl SubAssign for F6Dot10 {
-    ghost sub_assign_gives = { λ x y rest. f6dot10_bits rest
-        ≡ wrap 16 (f6dot10_bits x -ℤ f6dot10_bits y) };
+    ghost sub_assign_gives = { λ x y rest. bits_of rest ≡ wrap 16 (bits_of x -ℤ bits_of y) };
 
     fn sub_assign(&mut self, other: F6Dot10) {
         *self = *self - other;
@@ -213,7 +210,7 @@ impl SubAssign for F6Dot10 {
 impl Neg for F6Dot10 {
     type Output = F6Dot10;
 
-    ghost neg_gives = { λ x opposite. f6dot10_bits opposite ≡ wrap 16 (neg_ℤ (f6dot10_bits x)) };
+    ghost neg_gives = { λ x opposite. bits_of opposite ≡ wrap 16 (neg_ℤ (bits_of x)) };
 
     fn neg(self) -> F6Dot10 {
         Self(self.0.wrapping_neg())
@@ -224,7 +221,7 @@ impl Neg for F6Dot10 {
 impl FromStr for F6Dot10 {
     type Err = DecimalFault;
 
-    ghost from_str_gives = { λ text result. ReadsBy w16 10 f6dot10_bits text result };
+    ghost from_str_gives = { λ text result. ReadsBy w16 10 bits_of text result };
 
     fn from_str(text: &str) -> Result<Self, DecimalFault> {
         Self::from_decimal(text)
@@ -232,7 +229,7 @@ impl FromStr for F6Dot10 {
 }
 
 impl fmt::Display for F6Dot10 {
-    ghost output = { λ x. Some (f6dot10_text x) };
+    ghost output = { λ x. Some (text_of x) };
 
     fn fmt<W: fmt::Write>(&self, f: &mut fmt::Formatter<W>) -> fmt::Result {
         fmt::Display::fmt(&self.shortest(), f)
@@ -240,7 +237,7 @@ impl fmt::Display for F6Dot10 {
 }
 
 impl fmt::Debug for F6Dot10 {
-    ghost debug_output = { λ x. Some (f6dot10_text x) };
+    ghost debug_output = { λ x. Some (text_of x) };
 
     fn fmt<W: fmt::Write>(&self, f: &mut fmt::Formatter<W>) -> fmt::Result {
         fmt::Display::fmt(&self.shortest(), f)
@@ -256,13 +253,13 @@ impl FixedSize for F6Dot10 {
 impl Scalar for F6Dot10 {
     type Raw = [u8; 2];
 
-    ghost is_scalar = { λ x. fits_bits 16 (f6dot10_bits x) };
+    ghost is_scalar = { λ x. fits_bits 16 (bits_of x) };
 
-    ghost of_raw = { λ bytes. f6dot10_of (signed_numeral 2 bytes) };
+    ghost of_raw = { λ bytes. of_bits (signed_numeral 2 bytes) };
 
-    ghost raw_of = { λ x. bytes_of 2 (f6dot10_bits x) };
+    ghost raw_of = { λ x. bytes_of 2 (bits_of x) };
 
-    ghost laws = { signed_newtype 2 (lit< tt) f6dot10_bits f6dot10_of (λ _. refl) (λ _. refl) };
+    ghost laws = { signed_newtype 2 (lit< tt) bits_of of_bits (λ _. refl) (λ _. refl) };
 
     fn from_raw(raw: [u8; 2]) -> F6Dot10 {
         Self(i16::from_raw(raw))
@@ -274,5 +271,5 @@ impl Scalar for F6Dot10 {
 }
 
 impl IdentityEq for F6Dot10 {
-    ghost identity = { signed_identity f6dot10_bits f6dot10_of (λ _. refl) };
+    ghost identity = { signed_identity bits_of of_bits (λ _. refl) };
 }
