@@ -15,7 +15,7 @@
 )]
 
 #[cfg(target_pointer_width = "16")]
-compile_error!("the text is proved for a `usize` that holds every `u32`");
+compile_error!("the text is proved for a `usize` of 64 bits, and counts on one of 32 or more");
 
 // The proved text says `std` of what stands in `core`.
 extern crate core as std;

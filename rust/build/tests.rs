@@ -451,3 +451,14 @@ fn what_cargo_is_told() {
     assert!(fault.starts_with("error=") && fault.ends_with("lib.rt:1: there is no file a.rt"));
     assert!(program(&out.0).starts_with("compile_error!("));
 }
+
+// A function of `constant.txt` that is nowhere is told, with its line there.
+#[test]
+fn a_constant_function_that_is_not_there() {
+    let roots = crates::LIBRARY.map(|(name, _)| format!("crates/{name}/src/lib.rt"));
+    let roots = roots.each_ref().map(|root| (root.as_str(), ""));
+    let out = Sources::new("constant", &roots);
+    let told = crates::build("font-types-proved", &out.0.join("src"), &out.0);
+    let fault = "error=rust/build/constant.txt:2: no `checked_new` of `Uint24`";
+    assert_eq!(told.last().unwrap(), fault);
+}

@@ -143,6 +143,22 @@ fn refused_strings() {
     assert_eq!(text.len(), 2 * written);
 }
 
+// ---- streams
+
+// Where no file can be had, each call is refused.
+#[test]
+#[cfg(unix)]
+fn missing_streams() {
+    use io::{Read, Write};
+    use std::os::fd::BorrowedFd;
+    // SAFETY: nothing is asked of it but a copy, which is refused.
+    let missing = unsafe { BorrowedFd::borrow_raw(1 << 20) };
+    let mut stream = io::Stream::over(missing);
+    assert!(stream.read(&mut [0; 9]).is_err());
+    assert!(stream.write(b"a").is_err());
+    assert!(stream.flush().is_err());
+}
+
 // ---- interrupted calls
 
 #[cfg(target_os = "linux")]

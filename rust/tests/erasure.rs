@@ -347,11 +347,11 @@ fn is_path(name: &str, source: &[&str], rust: &[&str]) -> bool {
     begins(source, "crate ::") && begins(rust, &format!("crate :: {name} ::"))
 }
 
-fn files(folder: &Path, found: &mut Vec<PathBuf>) {
+fn files_below(folder: &Path, found: &mut Vec<PathBuf>) {
     for entry in fs::read_dir(folder).unwrap() {
         let path = entry.unwrap().path();
         match path.is_dir() {
-            true => files(&path, found),
+            true => files_below(&path, found),
             false => found.push(path),
         }
     }
@@ -365,10 +365,17 @@ fn sources(name: &str, out: &Path) -> Vec<(PathBuf, PathBuf)> {
         .join(name)
         .join("src");
     let mut there = Vec::new();
-    files(&source, &mut there);
+    files_below(&source, &mut there);
     let mut pairs = Vec::new();
     for path in there {
         let inner = path.strip_prefix(&source).unwrap().with_extension("");
+        // An editor's files are none of the text.
+        let is_hidden = inner
+            .file_name()
+            .is_some_and(|name| name.as_encoded_bytes()[0] == b'.');
+        if is_hidden || path.extension().is_none_or(|end| end != "rt") {
+            continue;
+        }
         let first = inner.iter().next().unwrap();
         let stays = name == "font_types" && (first == "json" || first == "laws");
         if inner.iter().any(|part| part == "tests") || stays {
@@ -400,7 +407,7 @@ fn what_is_left_is_the_source() {
     for name in CRATES {
         let out = out(name);
         let mut made = Vec::new();
-        files(&out.join(name), &mut made);
+        files_below(&out.join(name), &mut made);
         let pairs = sources(name, &out);
         assert_eq!(made.len(), pairs.len(), "{name}");
         for (source, made) in pairs {
