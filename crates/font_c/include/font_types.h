@@ -32,7 +32,7 @@
 
 #define FONT_TYPES_VERSION "0.2.0"
 
-/* The same as a number: the major, the minor and the last number, 8 bits each. */
+/* The same as a number, major << 16 | minor << 8 | patch: a later version has a greater one. */
 #define FONT_TYPES_VERSION_NUMBER 0x000200
 
 /* In front of a function whose status must not be dropped: compilers that can, warn. */
@@ -63,7 +63,7 @@ enum {
 enum {
     FONT_SUMMED = 0,          /* the sum was written */
     FONT_OTHER_LENGTH = 1,    /* there are not as many scalars as deltas */
-    FONT_SUM_OUT_OF_RANGE = 2 /* the sum is out of range */
+    FONT_SUM_OUT_OF_RANGE = 2 /* the sum, or what is moved by it, is out of range */
 };
 
 /* Where a text stands in a field that is wider. */
@@ -352,10 +352,10 @@ font_point font_matrix_image(font_matrix m, font_point p);
 font_point font_matrix_composed(font_matrix a, font_matrix b, font_point p);
 
 /*
- * Where a sends the point to which b sends p. Where no coordinate of either point
- * leaves 32 bits, x is at most (|a.xx| + |a.xy|) / 65536 + 1 steps of 2^-16 from
- * the exact one, and y at most (|a.yx| + |a.yy|) / 65536 + 1. |a.xx| is the
- * magnitude of its bits.
+ * Where a sends the point to which b sends p. Where no coordinate of that point
+ * and none of the answer leaves 32 bits, x is at most
+ * (|a.xx| + |a.xy|) / 65536 + 1 steps of 2^-16 from the exact one, and y at most
+ * (|a.yx| + |a.yy|) / 65536 + 1. |a.xx| is the magnitude of its bits.
  */
 font_point font_matrix_in_turn(font_matrix a, font_matrix b, font_point p);
 
