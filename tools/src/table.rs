@@ -8,7 +8,7 @@ const KEPT: i128 = 7;
 // How many bytes the buffer for a padded text has.
 const BUFFER: usize = 64;
 
-/// A row with its answers worked out anew. A comment stays as it is.
+/// A row with its answers worked out anew. A comment and a row of null pointers stay as they are.
 pub fn row(line: &str) -> String {
     let words: Vec<&str> = line.split(' ').collect();
     let answer = match words[0] {
@@ -16,6 +16,10 @@ pub fn row(line: &str) -> String {
         "write" => exact::shortest(integer(words[2]), kind(words[1]).fraction),
         "pad" => pad(&words),
         "whole" => whole(kind(words[1]), integer(words[2])),
+        "add" => add(integer(words[1]), integer(words[2])),
+        "neg" => exact::wrap(32, -integer(words[1])).to_string(),
+        "from_i32" => exact::wrap(32, integer(words[1]) << 16).to_string(),
+        "to_fixed" => (4 * integer(words[1])).to_string(),
         "product" => product(kind(words[1]), integer(words[2]), integer(words[3])),
         "mul_div" => {
             exact::mul_div(32, integer(words[1]), integer(words[2]), integer(words[3])).to_string()
@@ -24,11 +28,12 @@ pub fn row(line: &str) -> String {
         "matrix" => matrix(&words[1..15]),
         "tag" => tag(words[1]),
         "sum" => return sum(&words),
+        "vary" => return vary(&words),
         _ => return line.into(),
     };
     let questions = match words[0] {
-        "narrow" | "tag" => 2,
-        "read" | "write" | "whole" => 3,
+        "narrow" | "tag" | "neg" | "from_i32" | "to_fixed" => 2,
+        "read" | "write" | "whole" | "add" => 3,
         "product" | "mul_div" => 4,
         "pad" => 8,
         _ => 15,
@@ -87,6 +92,19 @@ fn whole(kind: Type, bits: i128) -> String {
     spaced(&[round, one * bits.div_euclid(one)])
 }
 
+fn add(x: i128, y: i128) -> String {
+    let nearest = |number: i128| number.clamp(-1 << 31, (1 << 31) - 1);
+    let (status, place) = stored(exact::fits(32, x + y), x + y);
+    spaced(&[
+        exact::wrap(32, x + y),
+        exact::wrap(32, x - y),
+        status,
+        place,
+        nearest(x + y),
+        nearest(x - y),
+    ])
+}
+
 fn product(kind: Type, x: i128, y: i128) -> String {
     let one = 1i128 << kind.fraction;
     let product = exact::wrap(32, exact::near(x * y, one));
@@ -140,13 +158,29 @@ fn tag(digits: &str) -> String {
     format!("{} {} {} {} {text}", made.0, made.1, judged.0, judged.1)
 }
 
+// The status of a number that is stored where it fits, and what then stands in the place.
+fn stored(fits: bool, number: i128) -> (i128, i128) {
+    if fits { (0, number) } else { (2, KEPT) }
+}
+
+fn sum_of(terms: &[&str]) -> i128 {
+    let numbers: Vec<i128> = terms.iter().map(|word| integer(word)).collect();
+    numbers.chunks(2).map(|term| term[0] * term[1]).sum()
+}
+
 fn sum(words: &[&str]) -> String {
-    let terms: Vec<i128> = words[4..].iter().map(|word| integer(word)).collect();
-    let sum: i128 = terms.chunks(2).map(|term| term[0] * term[1]).sum();
-    let (status, sum) = if exact::fits(64, sum) {
-        (0, sum)
-    } else {
-        (2, KEPT)
-    };
+    let sum = sum_of(&words[4..]);
+    let (status, sum) = stored(exact::fits(64, sum), sum);
     format!("sum {status} {sum} {}", words[3..].join(" "))
+}
+
+fn vary(words: &[&str]) -> String {
+    let sum = sum_of(&words[5..]);
+    let moved = 65536 * integer(words[1]) + sum;
+    let (status, moved) = stored(exact::fits(64, sum) && exact::fits(64, moved), moved);
+    format!(
+        "vary {} {status} {moved} {}",
+        words[1],
+        words[4..].join(" ")
+    )
 }

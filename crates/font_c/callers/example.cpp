@@ -33,18 +33,12 @@ private:
     std::int32_t bits_;
 };
 
-// The library takes no null pointer, which an empty vector may have.
-static const std::int32_t *data_of(const std::vector<std::int32_t> &numbers) {
-    static const std::int32_t none = 0;
-    return numbers.empty() ? &none : numbers.data();
-}
-
-// The exact sum of the products, as the bits of a 48.16 number.
+// The exact sum of the products, as the bits of a 48.16 number. An empty vector may give null.
 static std::int64_t delta_sum(const std::vector<std::int32_t> &scalars,
                               const std::vector<std::int32_t> &deltas) {
     std::int64_t sum = 0;
     const std::uint32_t status = font_checked_delta_sum(
-        data_of(scalars), scalars.size(), data_of(deltas), deltas.size(), &sum);
+        scalars.data(), scalars.size(), deltas.data(), deltas.size(), &sum);
     if (status != FONT_SUMMED)
         throw std::invalid_argument("deltas");
     return sum;

@@ -32,6 +32,14 @@ IS(FONT_SUMMED, 0);
 IS(FONT_OTHER_LENGTH, 1);
 IS(FONT_SUM_OUT_OF_RANGE, 2);
 
+/* Whether the number of the version is that of its text. */
+static bool is_version_number(void) {
+    char text[16];
+    snprintf(text, sizeof text, "%d.%d.%d", FONT_TYPES_VERSION_NUMBER >> 16,
+             FONT_TYPES_VERSION_NUMBER >> 8 & 0xFF, FONT_TYPES_VERSION_NUMBER & 0xFF);
+    return strcmp(text, FONT_TYPES_VERSION) == 0;
+}
+
 /* The words of a line. */
 typedef struct words {
     int count;
@@ -178,6 +186,17 @@ static bool whole_line(const words *line) {
     return type->round(bits) == number(line, 3) && type->floor(bits) == number(line, 4);
 }
 
+/* null TYPE BITS STATUS: null pointers with the length 0, where the place has 7 before */
+static bool null_line(const words *line) {
+    const number_type *type = type_named(line->word[1]);
+    int64_t bits = number(line, 2);
+    font_pad pad = {0, ' ', 0, 0, 0};
+    int64_t place = 7;
+    return type->from_decimal(NULL, 0, &place) == number(line, 3) && place == 7
+           && type->to_decimal(bits, NULL, 0) == 0
+           && type->write_padded(bits, &pad, NULL, 0) == 0;
+}
+
 /* product TYPE X Y PRODUCT QUOTIENT */
 static bool product_line(const words *line) {
     bool fixed = strcmp(line->word[1], "fixed") == 0;
@@ -186,6 +205,33 @@ static bool product_line(const words *line) {
     int32_t product = fixed ? font_fixed_mul(x, y) : font_f26dot6_mul(x, y);
     int32_t quotient = fixed ? font_fixed_div(x, y) : font_f26dot6_div(x, y);
     return product == number(line, 4) && quotient == number(line, 5);
+}
+
+/* add X Y SUM DIFFERENCE STATUS CHECKED NEAREST_SUM NEAREST_DIFFERENCE, where the place of the
+   checked sum has 7 before */
+static bool add_line(const words *line) {
+    int32_t x = (int32_t)number(line, 1);
+    int32_t y = (int32_t)number(line, 2);
+    int32_t sum = 7;
+    return font_fixed_add(x, y) == number(line, 3) && font_fixed_sub(x, y) == number(line, 4)
+           && font_fixed_checked_add(x, y, &sum) == number(line, 5) && sum == number(line, 6)
+           && font_fixed_saturating_add(x, y) == number(line, 7)
+           && font_fixed_saturating_sub(x, y) == number(line, 8);
+}
+
+/* neg X OPPOSITE */
+static bool neg_line(const words *line) {
+    return font_fixed_neg((int32_t)number(line, 1)) == number(line, 2);
+}
+
+/* from_i32 NUMBER BITS */
+static bool from_i32_line(const words *line) {
+    return font_fixed_from_i32((int32_t)number(line, 1)) == number(line, 2);
+}
+
+/* to_fixed BITS BITS, of a 2.14 number and of the 16.16 number */
+static bool to_fixed_line(const words *line) {
+    return font_f2dot14_to_fixed((int16_t)number(line, 1)) == number(line, 2);
 }
 
 /* mul_div X A C RESULT */
@@ -282,15 +328,21 @@ static bool tag_line(const words *line) {
     return strcmp(shown, text) == 0;
 }
 
+/* The terms of a line: how many, at a place, and behind it a scalar and a delta of each. */
+static size_t terms(const words *line, int at, int32_t *scalars, int32_t *deltas) {
+    size_t count = (size_t)number(line, at);
+    for (size_t i = 0; i < count; i++) {
+        scalars[i] = (int32_t)number(line, at + 1 + 2 * (int)i);
+        deltas[i] = (int32_t)number(line, at + 2 + 2 * (int)i);
+    }
+    return count;
+}
+
 /* sum STATUS SUM COUNT, and a scalar and a delta for each term, where the place has 7 before */
 static bool sum_line(const words *line) {
     int32_t scalars[MOST_WORDS] = {0};
     int32_t deltas[MOST_WORDS] = {0};
-    size_t count = (size_t)number(line, 3);
-    for (size_t i = 0; i < count; i++) {
-        scalars[i] = (int32_t)number(line, 4 + 2 * (int)i);
-        deltas[i] = (int32_t)number(line, 5 + 2 * (int)i);
-    }
+    size_t count = terms(line, 3, scalars, deltas);
     int64_t sum = 7;
     uint32_t status = font_checked_delta_sum(scalars, count, deltas, count, &sum);
     if (status != number(line, 1) || sum != number(line, 2))
@@ -299,6 +351,43 @@ static bool sum_line(const words *line) {
     return font_checked_delta_sum(scalars, count, deltas, count + 1, &sum) == FONT_OTHER_LENGTH
            && font_checked_delta_sum(scalars, count + 1, deltas, count, &sum) == FONT_OTHER_LENGTH
            && sum == 7;
+}
+
+/* vary BASE STATUS NUMBER COUNT, and the same for each term, where the place has 7 before */
+static bool vary_line(const words *line) {
+    int32_t scalars[MOST_WORDS] = {0};
+    int32_t deltas[MOST_WORDS] = {0};
+    int16_t base = (int16_t)number(line, 1);
+    size_t count = terms(line, 4, scalars, deltas);
+    int64_t moved = 7;
+    uint32_t status = font_vary(base, scalars, count, deltas, count, &moved);
+    if (status != number(line, 2) || moved != number(line, 3))
+        return false;
+    moved = 7;
+    return font_vary(base, scalars, count, deltas, count + 1, &moved) == FONT_OTHER_LENGTH
+           && font_vary(base, scalars, count + 1, deltas, count, &moved) == FONT_OTHER_LENGTH
+           && moved == 7;
+}
+
+/* nulls STATUS STATUS STATUS SUM BASE MOVED: null pointers with the length 0. The statuses are those
+   of making a tag, of judging one and of the empty sum, and the places have 7 before. */
+static bool nulls_line(const words *line) {
+    uint32_t tag = 7;
+    uint32_t position = 7;
+    int64_t sum = 7;
+    int64_t moved = 7;
+    int32_t one = 1;
+    if (font_tag_new(NULL, 0, &tag) != number(line, 1) || tag != 7
+        || font_tag_validate(NULL, 0, &position) != number(line, 2) || position != 7
+        || font_tag_to_text(0x63767420, NULL, 0) != 0)
+        return false;
+    if (font_checked_delta_sum(NULL, 0, &one, 1, &sum) != FONT_OTHER_LENGTH
+        || font_vary(1, &one, 1, NULL, 0, &moved) != FONT_OTHER_LENGTH || sum != 7 || moved != 7)
+        return false;
+    return font_checked_delta_sum(NULL, 0, NULL, 0, &sum) == number(line, 3)
+           && sum == number(line, 4)
+           && font_vary((int16_t)number(line, 5), NULL, 0, NULL, 0, &moved) == FONT_SUMMED
+           && moved == number(line, 6);
 }
 
 /* ---- all lines ---- */
@@ -310,7 +399,7 @@ typedef struct kind {
     unsigned wanted; /* how many lines there are, of each type that has any */
 } kind;
 
-enum { KINDS = 10 };
+enum { KINDS = 17 };
 
 static const kind kinds[KINDS] = {
     {"read", read_line, true, 35},        {"write", write_line, true, 20},
@@ -318,6 +407,10 @@ static const kind kinds[KINDS] = {
     {"product", product_line, true, 33},  {"mul_div", mul_div_line, false, 24},
     {"narrow", narrow_line, false, 25},   {"matrix", matrix_line, false, 16},
     {"tag", tag_line, false, 20},         {"sum", sum_line, false, 9},
+    {"vary", vary_line, false, 23},       {"add", add_line, false, 32},
+    {"neg", neg_line, false, 13},         {"from_i32", from_i32_line, false, 16},
+    {"to_fixed", to_fixed_line, false, 12}, {"null", null_line, true, 1},
+    {"nulls", nulls_line, false, 1},
 };
 
 /* How many lines of a kind there were, of each type, or at 0. */
@@ -353,6 +446,10 @@ static bool is_complete(void) {
 }
 
 int main(int argc, char **argv) {
+    if (!is_version_number()) {
+        printf("the number of the version is not %s\n", FONT_TYPES_VERSION);
+        return 1;
+    }
     FILE *table = argc == 2 ? fopen(argv[1], "r") : NULL;
     if (table == NULL) {
         fprintf(stderr, "usage: table FILE\n");

@@ -34,7 +34,7 @@ pad_of pad = record {
 }
 
 -- the shortest decimal of b / 2^f is handed over padded, and a room of 22 bytes, or of the width
--- where that is greater, is enough; where the padding is none, n is 0 and the bytes stay
+-- where that is greater, is enough; where the padding is invalid, n is 0 and the bytes stay
 pub record WritesPadded (b : ℤ) (f : ℕ) (pad : FontPad) (n : ℕ) (old new : List ℕ) : Type 0 where
   pub text : IsPad pad → WritesText (padded_text (shortest_text b f) (pad_of pad)) n old new
   pub enough : IsPad pad → max 22 pad.width ≤ length old → n ≢ 0

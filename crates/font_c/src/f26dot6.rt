@@ -28,7 +28,7 @@ pub extern "C" fn font_f26dot6_to_decimal(bits: i32, out: &mut [u8]) -> usize
     put_decimal(i64::from(bits), 6, out)
 }
 
-/// The same, padded; 0 also where `pad` is none.
+/// The same, padded; 0 also where `pad` is invalid.
 #[unsafe(no_mangle)]
 pub extern "C" fn font_f26dot6_write_padded(bits: i32, pad: &FontPad, out: &mut [u8]) -> usize
     ensures { WritesPadded bits 6 pad.now result out.old out.new }

@@ -1,5 +1,6 @@
 //! Numbers of 16 bits with 14 bits of fraction, by their bits.
 
+ghost use Rattle.std.specs.Prelude.{◌≡◌, pos, ◌*ℤ◌};
 ghost use Rattle.std.specs.Int.{w16};
 ghost use Rattle.font_types.specs.Operations.{IsFloor, IsNearestWhole};
 ghost use Rattle.font_c.specs.Texts.{WritesDecimal};
@@ -28,7 +29,7 @@ pub extern "C" fn font_f2dot14_to_decimal(bits: i16, out: &mut [u8]) -> usize
     put_decimal(i64::from(bits), 14, out)
 }
 
-/// The same, padded; 0 also where `pad` is none.
+/// The same, padded; 0 also where `pad` is invalid.
 #[unsafe(no_mangle)]
 pub extern "C" fn font_f2dot14_write_padded(bits: i16, pad: &FontPad, out: &mut [u8]) -> usize
     ensures { WritesPadded bits 14 pad.now result out.old out.new }
@@ -50,4 +51,12 @@ pub extern "C" fn font_f2dot14_floor(bits: i16) -> i16
     ensures { IsFloor 14 bits result }
 {
     F2Dot14::from_bits(bits).floor().to_bits()
+}
+
+/// The same number in 16.16, exactly.
+#[unsafe(no_mangle)]
+pub extern "C" fn font_f2dot14_to_fixed(bits: i16) -> i32
+    ensures { result ≡ (bits *ℤ pos 4) }
+{
+    F2Dot14::from_bits(bits).to_fixed().to_bits()
 }

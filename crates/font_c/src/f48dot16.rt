@@ -28,7 +28,7 @@ pub extern "C" fn font_f48dot16_to_decimal(bits: i64, out: &mut [u8]) -> usize
     put_decimal(bits, 16, out)
 }
 
-/// The same, padded; 0 also where `pad` is none.
+/// The same, padded; 0 also where `pad` is invalid.
 #[unsafe(no_mangle)]
 pub extern "C" fn font_f48dot16_write_padded(bits: i64, pad: &FontPad, out: &mut [u8]) -> usize
     ensures { WritesPadded bits 16 pad.now result out.old out.new }

@@ -28,7 +28,7 @@ pub extern "C" fn font_f4dot12_to_decimal(bits: i16, out: &mut [u8]) -> usize
     put_decimal(i64::from(bits), 12, out)
 }
 
-/// The same, padded; 0 also where `pad` is none.
+/// The same, padded; 0 also where `pad` is invalid.
 #[unsafe(no_mangle)]
 pub extern "C" fn font_f4dot12_write_padded(bits: i16, pad: &FontPad, out: &mut [u8]) -> usize
     ensures { WritesPadded bits 12 pad.now result out.old out.new }

@@ -1,14 +1,16 @@
 //! Numbers of 32 bits with 16 bits of fraction, by their bits.
 
-ghost use Rattle.std.specs.Prelude.{◌^◌};
+ghost use Rattle.std.specs.Prelude.{◌≡◌, ◌≢◌, ◌↔◌, ◌^◌, pos, neg_ℤ, ◌+ℤ◌, ◌-ℤ◌, ◌*ℤ◌};
 ghost use Rattle.std.specs.Int.{w32};
 ghost use Rattle.font_types.specs.Operations.{IsFloor, IsMulDiv, IsNarrowed, IsNearestWhole};
-ghost use Rattle.font_types.specs.Operations.{IsProduct, IsQuotient};
+ghost use Rattle.font_types.specs.Operations.{IsProduct, IsQuotient, clamp};
+ghost use Rattle.font_types.specs.Wrap.{FitsBits, wrap};
 ghost use Rattle.font_c.specs.Texts.{WritesDecimal};
 ghost use Rattle.font_c.specs.Readings.{ReadsInto};
 ghost use Rattle.font_c.specs.Pads.{WritesPadded};
 
 use crate::reading::read_into_32;
+use crate::sum::{SUM_OUT_OF_RANGE, SUMMED};
 use crate::text::{FontPad, put_decimal, put_padded};
 use font_types::Fixed;
 
@@ -30,7 +32,7 @@ pub extern "C" fn font_fixed_to_decimal(bits: i32, out: &mut [u8]) -> usize
     put_decimal(i64::from(bits), 16, out)
 }
 
-/// The same, padded; 0 also where `pad` is none.
+/// The same, padded; 0 also where `pad` is invalid.
 #[unsafe(no_mangle)]
 pub extern "C" fn font_fixed_write_padded(bits: i32, pad: &FontPad, out: &mut [u8]) -> usize
     ensures { WritesPadded bits 16 pad.now result out.old out.new }
@@ -52,6 +54,65 @@ pub extern "C" fn font_fixed_floor(bits: i32) -> i32
     ensures { IsFloor 16 bits result }
 {
     Fixed::from_bits(bits).floor().to_bits()
+}
+
+/// The sum, wrapped.
+#[unsafe(no_mangle)]
+pub extern "C" fn font_fixed_add(x: i32, y: i32) -> i32
+    ensures { result ≡ wrap 32 (x +ℤ y) }
+{
+    (Fixed::from_bits(x) + Fixed::from_bits(y)).to_bits()
+}
+
+/// The difference, wrapped.
+#[unsafe(no_mangle)]
+pub extern "C" fn font_fixed_sub(x: i32, y: i32) -> i32
+    ensures { result ≡ wrap 32 (x -ℤ y) }
+{
+    (Fixed::from_bits(x) - Fixed::from_bits(y)).to_bits()
+}
+
+/// The opposite, wrapped.
+#[unsafe(no_mangle)]
+pub extern "C" fn font_fixed_neg(bits: i32) -> i32
+    ensures { result ≡ wrap 32 (neg_ℤ bits) }
+{
+    (-Fixed::from_bits(bits)).to_bits()
+}
+
+/// The exact sum: 0 where its bits are in `sum`, 2 where 32 bits do not hold it.
+#[unsafe(no_mangle)]
+pub extern "C" fn font_fixed_checked_add(x: i32, y: i32, sum: &mut i32) -> u32
+    ensures fits { (result ≡ 0) ↔ FitsBits 32 (x +ℤ y) }
+    ensures summed { result ≡ 0 → sum.new ≡ (x +ℤ y) }
+    ensures known { result ≢ 0 → result ≡ 2 }
+    ensures kept { result ≢ 0 → sum.new ≡ sum.old }
+{
+    let Some(exact) = Fixed::from_bits(x).checked_add(Fixed::from_bits(y)) else {
+        return SUM_OUT_OF_RANGE;
+    };
+    *sum = exact.to_bits();
+    SUMMED
+}
+
+/// The sum, or the nearest end of the range where it is out of it.
+#[unsafe(no_mangle)]
+pub extern "C" fn font_fixed_saturating_add(x: i32, y: i32) -> i32
+    ensures { result ≡ clamp 32 (x +ℤ y) }
+{
+    Fixed::from_bits(x)
+        .saturating_add(Fixed::from_bits(y))
+        .to_bits()
+}
+
+/// The difference, or the nearest end of the range where it is out of it.
+#[unsafe(no_mangle)]
+pub extern "C" fn font_fixed_saturating_sub(x: i32, y: i32) -> i32
+    ensures { result ≡ clamp 32 (x -ℤ y) }
+{
+    Fixed::from_bits(x)
+        .saturating_sub(Fixed::from_bits(y))
+        .to_bits()
 }
 
 /// The product, rounded to the nearest step, ties away from zero, and wrapped.
@@ -80,6 +141,14 @@ pub extern "C" fn font_fixed_mul_div(x: i32, a: i32, c: i32) -> i32
     Fixed::from_bits(x)
         .mul_div(Fixed::from_bits(a), Fixed::from_bits(c))
         .to_bits()
+}
+
+/// A whole number, wrapped.
+#[unsafe(no_mangle)]
+pub extern "C" fn font_fixed_from_i32(number: i32) -> i32
+    ensures { result ≡ wrap 32 (number *ℤ pos (2 ^ 16)) }
+{
+    Fixed::from_i32(number).to_bits()
 }
 
 /// The nearest whole number, ties upwards, wrapped to 16 bits.

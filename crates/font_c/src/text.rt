@@ -25,7 +25,7 @@ pub struct FontPad {
     pub zeros: u8,
 }
 
-/// What C handed over stands for no padding.
+/// What C handed over stands for no padding: it is invalid.
 #[derive(Clone, Copy)]
 pub struct NoPad;
 
@@ -77,7 +77,7 @@ pub fn put_decimal(bits: i64, f: u32, out: &mut [u8]) -> usize
     put_text(Shortest::new(bits, f).as_str().as_bytes(), out)
 }
 
-/// The same, padded; 0 also where `pad` is none.
+/// The same, padded; 0 also where `pad` is invalid.
 pub fn put_padded(bits: i64, f: u32, pad: &FontPad, out: &mut [u8]) -> usize
     requires { (6 ≤ f) × (f ≤ 30) }
     ensures { WritesPadded bits f pad.now result out.old out.new }

@@ -180,3 +180,75 @@ fn products_and_narrowings(rt: HostRuntime) {
     assert!(rt; font_f26dot6_div(144, 96) == 96 && font_fixed_to_i32(0x1_8000) == 2);
     assert!(rt; font_fixed_to_f26dot6(0x1_8000) == 96 && font_fixed_to_f2dot14(0x1_8000) == 0x6000);
 }
+
+#[test]
+fn sums_and_opposites(rt: HostRuntime) {
+    // the sum, the difference, the opposite of the first, and both at the nearest end
+    for &(x, y, wrapped, nearest) in &[
+        (
+            0x1_8000,
+            -0x8000,
+            [0x1_0000, 0x2_0000, -0x1_8000],
+            [0x1_0000, 0x2_0000],
+        ),
+        (
+            i32::MAX,
+            1,
+            [i32::MIN, i32::MAX - 1, -i32::MAX],
+            [i32::MAX, i32::MAX - 1],
+        ),
+        (
+            i32::MIN,
+            1,
+            [-i32::MAX, i32::MAX, i32::MIN],
+            [-i32::MAX, i32::MIN],
+        ),
+        (0, i32::MIN, [i32::MIN, i32::MIN, 0], [i32::MIN, i32::MAX]),
+        (i32::MIN, i32::MIN, [0, 0, i32::MIN], [i32::MIN, 0]),
+    ] {
+        let sums = [
+            font_fixed_add(x, y),
+            font_fixed_sub(x, y),
+            font_fixed_neg(x),
+        ];
+        assert!(rt; sums == wrapped, "wrapped: {x} and {y}");
+        let ends = [
+            font_fixed_saturating_add(x, y),
+            font_fixed_saturating_sub(x, y),
+        ];
+        assert!(rt; ends == nearest, "at the nearest end: {x} and {y}");
+    }
+}
+
+#[test]
+fn checked_sums(rt: HostRuntime) {
+    for &(x, y, status, place) in &[
+        (0x1_8000, -0x8000, 0, 0x1_0000),
+        (i32::MAX, i32::MIN, 0, -1),
+        (i32::MAX, 0, 0, i32::MAX),
+        (i32::MAX, 1, 2, 7),
+        (i32::MIN, -1, 2, 7),
+    ] {
+        let mut sum = 7;
+        assert!(rt;
+            font_fixed_checked_add(x, y, &mut sum) == status,
+            "status of {x} and {y}"
+        );
+        assert!(rt; sum == place, "place of {x} and {y}");
+    }
+}
+
+#[test]
+fn widened(rt: HostRuntime) {
+    for &(number, bits) in &[(0, 0), (-3, -196608), (32768, i32::MIN), (65537, 65536)] {
+        assert!(rt; font_fixed_from_i32(number) == bits, "{number} as 16.16");
+    }
+    for &(narrow, bits) in &[
+        (16384, 65536),
+        (-1, -4),
+        (i16::MIN, -131072),
+        (i16::MAX, 131068),
+    ] {
+        assert!(rt; font_f2dot14_to_fixed(narrow) == bits, "2.14 of {narrow}");
+    }
+}

@@ -1,7 +1,7 @@
 //! Matrices, tags and sums of deltas.
 
 use crate::matrix::*;
-use crate::sum::font_checked_delta_sum;
+use crate::sum::{font_checked_delta_sum, font_vary};
 use crate::tag::*;
 
 const ONE: i32 = 0x1_0000;
@@ -107,5 +107,35 @@ fn deltas_are_added_up(rt: HostRuntime) {
     for &(scalars, deltas, status, sum) in rows {
         let mut place = 7;
         assert!(rt; font_checked_delta_sum(scalars, deltas, &mut place) == status && place == sum);
+    }
+}
+
+#[test]
+fn units_are_varied(rt: HostRuntime) {
+    const LEAST: i32 = i32::MIN;
+    let rows: &[(i16, &[i32], &[i32], u32, i64)] = &[
+        (100, &[], &[], 0, 6553600),
+        (100, &[0x8000], &[3], 0, 6651904),
+        (-32768, &[ONE, -ONE], &[2, 3], 0, -2147549184),
+        (100, &[ONE], &[], 1, 7),
+        (100, &[], &[1], 1, 7),
+        (0, &[LEAST, LEAST], &[LEAST, LEAST], 2, 7),
+        (-1, &[LEAST, LEAST], &[LEAST, LEAST], 2, 7),
+        (0, &[LEAST, LEAST, 1], &[LEAST, LEAST, -1], 0, i64::MAX),
+        (1, &[LEAST, LEAST, 1], &[LEAST, LEAST, -1], 2, 7),
+        (
+            -1,
+            &[LEAST, LEAST, 1],
+            &[LEAST, LEAST, -1],
+            0,
+            9223372036854710271,
+        ),
+        (1, &[LEAST, LEAST, 1], &[LEAST, LEAST, -65537], 0, i64::MAX),
+        (1, &[LEAST, LEAST, 1], &[LEAST, LEAST, -65536], 2, 7),
+    ];
+    for &(base, scalars, deltas, status, moved) in rows {
+        let mut place = 7;
+        let told = font_vary(base, scalars, deltas, &mut place);
+        assert!(rt; told == status && place == moved, "{base} to {moved}");
     }
 }

@@ -33,12 +33,20 @@ pub struct FontMatrix {
 }
 
 unsafe extern "C" {
+    pub safe fn font_fixed_add(x: i32, y: i32) -> i32;
+    pub safe fn font_fixed_sub(x: i32, y: i32) -> i32;
+    pub safe fn font_fixed_neg(bits: i32) -> i32;
+    pub safe fn font_fixed_checked_add(x: i32, y: i32, sum: &mut i32) -> u32;
+    pub safe fn font_fixed_saturating_add(x: i32, y: i32) -> i32;
+    pub safe fn font_fixed_saturating_sub(x: i32, y: i32) -> i32;
     pub safe fn font_fixed_mul(x: i32, y: i32) -> i32;
     pub safe fn font_fixed_div(x: i32, y: i32) -> i32;
     pub safe fn font_fixed_mul_div(x: i32, a: i32, c: i32) -> i32;
+    pub safe fn font_fixed_from_i32(number: i32) -> i32;
     pub safe fn font_fixed_to_i32(bits: i32) -> i32;
     pub safe fn font_fixed_to_f26dot6(bits: i32) -> i32;
     pub safe fn font_fixed_to_f2dot14(bits: i32) -> i16;
+    pub safe fn font_f2dot14_to_fixed(bits: i16) -> i32;
     pub safe fn font_f26dot6_mul(x: i32, y: i32) -> i32;
     pub safe fn font_f26dot6_div(x: i32, y: i32) -> i32;
     pub safe fn font_matrix_product(a: FontMatrix, b: FontMatrix) -> FontMatrix;
@@ -54,5 +62,13 @@ unsafe extern "C" {
         deltas: *const i32,
         delta_count: usize,
         sum: &mut i64,
+    ) -> u32;
+    pub fn font_vary(
+        base: i16,
+        scalars: *const i32,
+        scalar_count: usize,
+        deltas: *const i32,
+        delta_count: usize,
+        moved: &mut i64,
     ) -> u32;
 }

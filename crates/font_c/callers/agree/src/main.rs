@@ -1,7 +1,7 @@
 //! `agree [COUNT [SEED]]`: the static library and the Rust package, called side by side. Both are
 //! made of one proved text, by two toolchains, and a difference is a fault of one of them.
 //!
-//! Each of the library's 51 functions is called at edges, and COUNT times at random. The last line
+//! Each of the library's 60 functions is called at edges, and COUNT times at random. The last line
 //! says how many calls agreed; the first that does not ends the program.
 
 mod exports;
@@ -10,14 +10,16 @@ mod random;
 
 use exports::*;
 use font_types_proved::laws::{composed, in_turn};
-use font_types_proved::{F26Dot6, Fixed, InvalidTag, Matrix, Point, Tag, checked_delta_sum};
+use font_types_proved::{
+    F2Dot14, F26Dot6, FWord, Fixed, InvalidTag, Matrix, Point, Tag, checked_delta_sum, vary,
+};
 use random::Random;
 
 /// What no call writes.
 const KEPT: i64 = 7;
 
 /// How many functions the library has; each round below calls every one of them.
-const EXPORTS: u64 = 51;
+const EXPORTS: u64 = 60;
 
 fn main() {
     let mut words = std::env::args()
@@ -58,11 +60,28 @@ fn round([x, y, z]: [i64; 3], random: &mut Random) {
     numbers::f26dot6::agree(x, random);
     numbers::f48dot16::agree(x, random);
     numbers::f2dot30::agree(x, random);
+    sums_of_two([x, y].map(|n| n as i32));
     arithmetic([x, y, z].map(|n| n as i32));
     matrices(random);
     tags(&random.tag_bytes());
     text_of_tag(Tag::from_u32(random.next() as u32), random.below(30));
     sums(random);
+}
+
+fn sums_of_two([x, y]: [i32; 2]) {
+    let [a, b] = [x, y].map(Fixed::from_bits);
+    assert_eq!(font_fixed_add(x, y), (a + b).to_bits(), "{x} {y}");
+    assert_eq!(font_fixed_sub(x, y), (a - b).to_bits(), "{x} {y}");
+    assert_eq!(font_fixed_neg(x), (-a).to_bits(), "{x}");
+    let (sum, rest) = (a.saturating_add(b), a.saturating_sub(b));
+    assert_eq!(font_fixed_saturating_add(x, y), sum.to_bits(), "{x} {y}");
+    assert_eq!(font_fixed_saturating_sub(x, y), rest.to_bits(), "{x} {y}");
+    let mut sum = KEPT as i32;
+    let status = font_fixed_checked_add(x, y, &mut sum);
+    let wanted = a
+        .checked_add(b)
+        .map_or((2, KEPT as i32), |sum| (0, sum.to_bits()));
+    assert_eq!((status, sum), wanted, "{x} {y}");
 }
 
 fn arithmetic([x, y, z]: [i32; 3]) {
@@ -74,6 +93,10 @@ fn arithmetic([x, y, z]: [i32; 3]) {
         a.mul_div(b, c).to_bits(),
         "{x} {y} {z}"
     );
+    assert_eq!(font_fixed_from_i32(x), Fixed::from_i32(x).to_bits(), "{x}");
+    let narrow = x as i16;
+    let wide = F2Dot14::from_bits(narrow).to_fixed().to_bits();
+    assert_eq!(font_f2dot14_to_fixed(narrow), wide, "{narrow}");
     assert_eq!(font_fixed_to_i32(x), a.to_i32(), "{x}");
     assert_eq!(font_fixed_to_f26dot6(x), a.to_f26dot6().to_bits(), "{x}");
     assert_eq!(font_fixed_to_f2dot14(x), a.to_f2dot14().to_bits(), "{x}");
@@ -162,17 +185,32 @@ fn sums(random: &mut Random) {
         scalars.len()
     };
     let deltas: Vec<i32> = (0..count).map(|_| random.int()).collect();
-    let mut sum = KEPT;
-    let (x, d) = (scalars.as_ptr(), deltas.as_ptr());
-    let status = unsafe { font_checked_delta_sum(x, scalars.len(), d, deltas.len(), &mut sum) };
+    let base = random.int() as i16;
+    let (mut sum, mut moved) = (KEPT, KEPT);
+    let (x, n, d, m) = (
+        scalars.as_ptr(),
+        scalars.len(),
+        deltas.as_ptr(),
+        deltas.len(),
+    );
+    let status = unsafe { font_checked_delta_sum(x, n, d, m, &mut sum) };
+    let varied = unsafe { font_vary(base, x, n, d, m, &mut moved) };
     let terms = scalars
         .iter()
         .map(|x| Fixed::from_bits(*x))
         .zip(deltas.iter().copied());
-    let wanted = match checked_delta_sum(&terms.collect::<Vec<_>>()) {
-        _ if scalars.len() != deltas.len() => (1, KEPT),
-        Some(made) => (0, made.to_bits()),
+    let terms = terms.collect::<Vec<_>>();
+    let told = |number: Option<i64>| match number {
+        _ if n != m => (1, KEPT),
+        Some(number) => (0, number),
         None => (2, KEPT),
     };
+    let wanted = told(checked_delta_sum(&terms).map(|sum| sum.to_bits()));
     assert_eq!((status, sum), wanted, "{scalars:?} {deltas:?}");
+    let units = vary(FWord::new(base), &terms).and_then(|units| i64::try_from(units).ok());
+    assert_eq!(
+        (varied, moved),
+        told(units),
+        "{base} {scalars:?} {deltas:?}"
+    );
 }
