@@ -4,6 +4,21 @@
 //! Each of the library's 60 functions is called at edges, and COUNT times at random. The last line
 //! says how many calls agreed; the first that does not ends the program.
 
+#![deny(dead_code)]
+
+use std::sync::atomic::{AtomicU64, Ordering};
+
+/// How many calls have agreed.
+static AGREED: AtomicU64 = AtomicU64::new(0);
+
+/// Counts a call that gives on both sides the same, and ends the program at one that does not.
+macro_rules! agree {
+    ($($given:tt)*) => {{
+        assert_eq!($($given)*);
+        crate::AGREED.fetch_add(1, crate::Ordering::Relaxed);
+    }};
+}
+
 mod exports;
 mod numbers;
 mod random;
@@ -37,7 +52,13 @@ fn main() {
         let three = [random.signed(), random.signed(), random.signed()];
         round(three, &mut random);
     }
-    println!("{} calls agree", (triples as u64 + count) * EXPORTS);
+    let agreed = AGREED.load(Ordering::Relaxed);
+    assert_eq!(
+        agreed,
+        (triples as u64 + count) * EXPORTS,
+        "each once in each round"
+    );
+    println!("{agreed} calls agree");
 }
 
 /// The ends of each width, whole and half numbers of each fraction, and the numbers beside them.
@@ -70,39 +91,39 @@ fn round([x, y, z]: [i64; 3], random: &mut Random) {
 
 fn sums_of_two([x, y]: [i32; 2]) {
     let [a, b] = [x, y].map(Fixed::from_bits);
-    assert_eq!(font_fixed_add(x, y), (a + b).to_bits(), "{x} {y}");
-    assert_eq!(font_fixed_sub(x, y), (a - b).to_bits(), "{x} {y}");
-    assert_eq!(font_fixed_neg(x), (-a).to_bits(), "{x}");
+    agree!(font_fixed_add(x, y), (a + b).to_bits(), "{x} {y}");
+    agree!(font_fixed_sub(x, y), (a - b).to_bits(), "{x} {y}");
+    agree!(font_fixed_neg(x), (-a).to_bits(), "{x}");
     let (sum, rest) = (a.saturating_add(b), a.saturating_sub(b));
-    assert_eq!(font_fixed_saturating_add(x, y), sum.to_bits(), "{x} {y}");
-    assert_eq!(font_fixed_saturating_sub(x, y), rest.to_bits(), "{x} {y}");
+    agree!(font_fixed_saturating_add(x, y), sum.to_bits(), "{x} {y}");
+    agree!(font_fixed_saturating_sub(x, y), rest.to_bits(), "{x} {y}");
     let mut sum = KEPT as i32;
     let status = font_fixed_checked_add(x, y, &mut sum);
     let wanted = a
         .checked_add(b)
         .map_or((2, KEPT as i32), |sum| (0, sum.to_bits()));
-    assert_eq!((status, sum), wanted, "{x} {y}");
+    agree!((status, sum), wanted, "{x} {y}");
 }
 
 fn arithmetic([x, y, z]: [i32; 3]) {
     let [a, b, c] = [x, y, z].map(Fixed::from_bits);
-    assert_eq!(font_fixed_mul(x, y), (a * b).to_bits(), "{x} {y}");
-    assert_eq!(font_fixed_div(x, y), (a / b).to_bits(), "{x} {y}");
-    assert_eq!(
+    agree!(font_fixed_mul(x, y), (a * b).to_bits(), "{x} {y}");
+    agree!(font_fixed_div(x, y), (a / b).to_bits(), "{x} {y}");
+    agree!(
         font_fixed_mul_div(x, y, z),
         a.mul_div(b, c).to_bits(),
         "{x} {y} {z}"
     );
-    assert_eq!(font_fixed_from_i32(x), Fixed::from_i32(x).to_bits(), "{x}");
+    agree!(font_fixed_from_i32(x), Fixed::from_i32(x).to_bits(), "{x}");
     let narrow = x as i16;
     let wide = F2Dot14::from_bits(narrow).to_fixed().to_bits();
-    assert_eq!(font_f2dot14_to_fixed(narrow), wide, "{narrow}");
-    assert_eq!(font_fixed_to_i32(x), a.to_i32(), "{x}");
-    assert_eq!(font_fixed_to_f26dot6(x), a.to_f26dot6().to_bits(), "{x}");
-    assert_eq!(font_fixed_to_f2dot14(x), a.to_f2dot14().to_bits(), "{x}");
+    agree!(font_f2dot14_to_fixed(narrow), wide, "{narrow}");
+    agree!(font_fixed_to_i32(x), a.to_i32(), "{x}");
+    agree!(font_fixed_to_f26dot6(x), a.to_f26dot6().to_bits(), "{x}");
+    agree!(font_fixed_to_f2dot14(x), a.to_f2dot14().to_bits(), "{x}");
     let [a, b] = [x, y].map(F26Dot6::from_bits);
-    assert_eq!(font_f26dot6_mul(x, y), (a * b).to_bits(), "{x} {y}");
-    assert_eq!(font_f26dot6_div(x, y), (a / b).to_bits(), "{x} {y}");
+    agree!(font_f26dot6_mul(x, y), (a * b).to_bits(), "{x} {y}");
+    agree!(font_f26dot6_div(x, y), (a / b).to_bits(), "{x} {y}");
 }
 
 fn matrices(random: &mut Random) {
@@ -126,10 +147,10 @@ fn matrices(random: &mut Random) {
         y: p.y.to_bits(),
     };
     let (m, n, q) = (c_matrix(a), c_matrix(b), c_point(p));
-    assert_eq!(font_matrix_product(m, n), c_matrix(a * b));
-    assert_eq!(font_matrix_image(m, q), c_point(a * p));
-    assert_eq!(font_matrix_composed(m, n, q), c_point(composed(a, b, p)));
-    assert_eq!(font_matrix_in_turn(m, n, q), c_point(in_turn(a, b, p)));
+    agree!(font_matrix_product(m, n), c_matrix(a * b));
+    agree!(font_matrix_image(m, q), c_point(a * p));
+    agree!(font_matrix_composed(m, n, q), c_point(composed(a, b, p)));
+    agree!(font_matrix_in_turn(m, n, q), c_point(in_turn(a, b, p)));
 }
 
 /// The status of a tag's fault, and where it is.
@@ -145,8 +166,8 @@ fn tags(bytes: &[u8]) {
     let mut tag = KEPT as u32;
     let status = unsafe { font_tag_new(bytes.as_ptr(), bytes.len(), &mut tag) };
     match Tag::new_checked(bytes) {
-        Ok(made) => assert_eq!((status, tag.to_be_bytes()), (0, made.to_be_bytes())),
-        Err(fault) => assert_eq!(
+        Ok(made) => agree!((status, tag.to_be_bytes()), (0, made.to_be_bytes())),
+        Err(fault) => agree!(
             (status, i64::from(tag)),
             (told(&fault).0, KEPT),
             "{bytes:?}"
@@ -160,7 +181,7 @@ fn tags(bytes: &[u8]) {
             .map_or_else(|fault| told(&fault), |()| (0, KEPT)),
         Err(_) => (1, KEPT),
     };
-    assert_eq!((status, i64::from(position)), judged, "{bytes:?}");
+    agree!((status, i64::from(position)), judged, "{bytes:?}");
 }
 
 fn text_of_tag(tag: Tag, room: usize) {
@@ -173,7 +194,7 @@ fn text_of_tag(tag: Tag, room: usize) {
     let mut out = [KEPT as u8; 40];
     let number = u32::from_be_bytes(tag.to_be_bytes());
     let written = unsafe { font_tag_to_text(number, out.as_mut_ptr(), room) };
-    assert_eq!(&out[..written], text, "{tag:?}, room {room}");
+    agree!(&out[..written], text, "{tag:?}, room {room}");
     assert!(out[written..].iter().all(|byte| *byte == KEPT as u8));
 }
 
@@ -206,9 +227,9 @@ fn sums(random: &mut Random) {
         None => (2, KEPT),
     };
     let wanted = told(checked_delta_sum(&terms).map(|sum| sum.to_bits()));
-    assert_eq!((status, sum), wanted, "{scalars:?} {deltas:?}");
+    agree!((status, sum), wanted, "{scalars:?} {deltas:?}");
     let units = vary(FWord::new(base), &terms).and_then(|units| i64::try_from(units).ok());
-    assert_eq!(
+    agree!(
         (varied, moved),
         told(units),
         "{base} {scalars:?} {deltas:?}"

@@ -47,8 +47,8 @@ macro_rules! numbers {
             pub fn agree(bits: i64, random: &mut Random) {
                 let bits = bits as $bits;
                 let number = $Type::from_bits(bits);
-                assert_eq!($round(bits), number.round().to_bits(), "{bits}");
-                assert_eq!($floor(bits), number.floor().to_bits(), "{bits}");
+                agree!($round(bits), number.round().to_bits(), "{bits}");
+                agree!($floor(bits), number.floor().to_bits(), "{bits}");
                 shown(bits, number, random.below(28));
                 read(&random.near_text(&number.to_string()));
                 padded(bits, number, &random.pad(), random.below(50));
@@ -59,7 +59,7 @@ macro_rules! numbers {
                 let text = if text.len() <= room { text.as_bytes() } else { b"" };
                 let mut out = [KEPT; 40];
                 let written = unsafe { $show(bits, out.as_mut_ptr(), room) };
-                assert_eq!(&out[..written], text, "{bits}, room {room}");
+                agree!(&out[..written], text, "{bits}, room {room}");
                 assert!(out[written..].iter().all(|byte| *byte == KEPT));
             }
 
@@ -69,14 +69,14 @@ macro_rules! numbers {
                 let text = str::from_utf8(text).unwrap_or("no decimal");
                 let (wanted, number) = told($Type::from_decimal(text), |x| x.to_bits().into());
                 let kept = number.unwrap_or(KEPT.into());
-                assert_eq!((status, i64::from(bits)), (wanted, kept), "{text}");
+                agree!((status, i64::from(bits)), (wanted, kept), "{text}");
             }
 
             fn padded(bits: $bits, number: $Type, of: &FontPad, room: usize) {
                 let (mut out, mut wanted) = ([KEPT; 64], [KEPT; 64]);
                 let written = unsafe { $pad(bits, of, out.as_mut_ptr(), room) };
                 let length = pad(of).and_then(|pad| number.write_padded(&mut wanted[..room], &pad));
-                assert_eq!((written, out), (length.unwrap_or(0), wanted), "{bits}, {of:?}");
+                agree!((written, out), (length.unwrap_or(0), wanted), "{bits}, {of:?}");
             }
         }
     )*};
