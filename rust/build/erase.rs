@@ -18,6 +18,7 @@
 //! - `fmt<W: fmt::Write>` over a `Formatter<W>`, which in Rust has no such parameter;
 //! - `clone(&self) -> Result<T, AllocError>` of a `Copy` type, which returns the value of its `Ok`;
 //! - a slice that an `extern "C"` function takes, which becomes a pointer and a length;
+//! - what the caller wants in front of the first item, and `fn main`, which is `pub`;
 //! - a function with a body is `#[inline]`, if it says nothing of that itself, so that callers in
 //!   other crates have it as callers in its own; and `const` where the list says so.
 //!
@@ -80,7 +81,7 @@ pub fn erase<'a>(source: &'a str, of: &'a Crate, is_root: bool) -> Result<Erased
         owner: of.name,
         depth: 0,
         is_hinted: false,
-        kept_end: 0,
+        kept_end: usize::MAX,
         error_end: 0,
         errors: String::new(),
         constant: Vec::new(),
@@ -114,7 +115,7 @@ struct Eraser<'a> {
     depth: usize,
     // Whether the next function says itself how it is inlined.
     is_hinted: bool,
-    // Where the last attribute ends that stays.
+    // Where the last attributes end of which one stays.
     kept_end: usize,
     // Where the last type ends of which `Error` is derived, and what is made of all of them.
     error_end: usize,
@@ -179,10 +180,7 @@ impl<'a> Eraser<'a> {
             }
             _ => return Ok(at + 1),
         };
-        if at > 0 && self.kept_end == at {
-            return self.fault(at, "an attribute of what is left out");
-        }
-        Ok(self.leave_out_told(at..end))
+        self.leave_out_item(at..end)
     }
 
     // A brace behind which so many are open.
@@ -217,7 +215,10 @@ impl<'a> Eraser<'a> {
         }
         let header = self.words[at..].split(|word| *word == "{");
         let of_trait = header.take(1).any(|words| words.contains(&"for"));
-        self.owner = if of_trait { "" } else { self.words[name] };
+        self.owner = match self.words.get(name) {
+            Some(owner) if !of_trait => owner,
+            _ => "",
+        };
         Ok(name)
     }
 
@@ -238,18 +239,22 @@ impl<'a> Eraser<'a> {
     // An attribute, whose bracket opens at the second place.
     fn attribute(&mut self, at: usize, open: usize) -> Result<usize, Fault> {
         let end = self.group_end(open)?;
+        let name = self.words[open + 1];
+        let is_kept = name == "inline" || KEPT.contains(&name);
+        if open == at + 1 && (is_kept || name != "cfg" && self.kept_end == at) {
+            self.kept_end = end;
+        }
         match self.words[open + 1..end] {
             ["tactic", ..] => Ok(self.leave_out(at..end)),
             ["error", ..] if at < self.error_end => Ok(self.leave_out(at..end)),
             ["error", ..] => self.fault(at, "the text of an error that is not derived"),
             ["derive", "(", ..] => self.derive(at, end),
             ["cfg", "(", "test", ")", "]"] => match self.words[end..] {
-                ["mod", "tests", ";", ..] => Ok(self.leave_out_told(at..end + 3)),
+                ["mod", "tests", ";", ..] => self.leave_out_item(at..end + 3),
                 _ => self.fault(at, "tests in another place than `mod tests;`"),
             },
-            [name, ..] if name == "inline" || KEPT.contains(&name) => {
+            _ if is_kept => {
                 self.is_hinted |= name == "inline";
-                self.kept_end = if open == at + 1 { end } else { 0 };
                 Ok(end)
             }
             _ => self.fault(at, "an attribute that is not known"),
@@ -486,6 +491,14 @@ impl<'a> Eraser<'a> {
         let (first, last) = (self.places[words.start], self.places[words.end - 1]);
         self.kept[first..=last].fill(false);
         words.end
+    }
+
+    // The same of an item, which has no attribute that would go to the next.
+    fn leave_out_item(&mut self, words: Range<usize>) -> Result<usize, Fault> {
+        if self.kept_end == words.start {
+            return self.fault(words.start, "an attribute of what is left out");
+        }
+        Ok(self.leave_out_told(words))
     }
 
     // The same with the comments and the documentation in front, each on lines of its own.

@@ -105,6 +105,10 @@ fn comments() {
 #[test]
 fn attributes() {
     leaves("#![tactic(auto)]\nmod c;", "mod c;");
+    leaves(
+        "#[tactic(auto)]\nghost use A;\n#![allow(dead_code)]\nghost use B;",
+        "#![allow(dead_code)]",
+    );
     for (derived, left) in [
         ("Clone, Drop", "#[derive(Clone)]"),
         ("Debug, Drop, Eq,", "#[derive(Debug, Eq)]"),
@@ -264,6 +268,16 @@ fn what_is_not_known() {
         ("ghost a;", 1, "of another form"),
         (
             "#[cold]\nghost a = { b };",
+            2,
+            "an attribute of what is left out",
+        ),
+        (
+            "#[cold]\n#[tactic(a)]\nmod json;",
+            3,
+            "an attribute of what is left out",
+        ),
+        (
+            "#[doc(hidden)]\n#[cfg(test)]\nmod tests;",
             2,
             "an attribute of what is left out",
         ),
