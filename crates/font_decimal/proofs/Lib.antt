@@ -10,5 +10,5 @@ mod Rounding
 mod Parts
 mod Fewest
 mod Remainder
-mod Written
+pub mod Written
 mod Rows

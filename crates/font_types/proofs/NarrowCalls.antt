@@ -79,6 +79,9 @@ quarter_not_negative b low high = omega (arith, ints, quarter b (omega (arith, i
 pub quarter_zero : wrap 16 (up (pos 0) 4) ≡ pos 0
 quarter_zero = narrowed-times 16 4 (pos 0) (lit< tt) (lit< tt) (omega (arith, ints))
 
+pub quarter_neg_one : wrap 16 (up (neg_ℤ (pos 65536)) 4) ≡ neg_ℤ (pos 16384)
+quarter_neg_one = narrowed-times 16 4 (neg_ℤ (pos 16384)) (lit< tt) (lit< tt) (omega (arith, ints))
+
 pub quarter_one : wrap 16 (up (pos 65536) 4) ≡ pos 16384
 quarter_one = narrowed-times 16 4 (pos 16384) (lit< tt) (lit< tt) (omega (arith, ints))
 

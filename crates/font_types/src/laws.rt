@@ -4,7 +4,7 @@ ghost use Rattle.std.specs.Prelude.{◌≡◌, IfOk, IfErr};
 
 use crate::json::{JsonFault, JsonScalar};
 pub use font_geom::laws::{
-    action, associative, composed, fixed_identity, identity_neutral, in_turn,
+    action, associative, composed, fixed_identity, identity_neutral, in_turn, step_and_halves,
 };
 use std::alloc::Global;
 

@@ -4,14 +4,21 @@
 
 ghost use Rattle.std.specs.Prelude.{◌≡◌, ◌≢◌, pos, ◌≤ℤ◌, ◌+ℤ◌, ◌-ℤ◌, ◌*ℤ◌};
 ghost use Rattle.font_types.specs.Wrap.{FitsBits};
+ghost use Rattle.font_types.specs.Operations.{IsMulDiv, IsNarrowed};
 ghost use Rattle.font_types.specs.Fixed.{fixed_bits};
 ghost use Rattle.font_types.specs.F2Dot14.{f2dot14_bits};
+ghost use Rattle.font_uses.specs.Axis.{IsAlong};
 
 use font_types::{F2Dot14, Fixed};
 
-/// A coordinate as it is stored, kept from -1 to 1.
+/// A coordinate as it is stored, kept from -1 to 1 and rounded, ties upwards.
 #[tactic(auto, using(font_types::proofs::Callers::narrow_calls))]
 pub fn stored(coordinate: Fixed) -> F2Dot14
+    ensures narrowed { fixed_bits Fixed.NEG_ONE ≤ℤ fixed_bits coordinate
+        → fixed_bits coordinate ≤ℤ fixed_bits Fixed.ONE
+        → IsNarrowed 16 (fixed_bits coordinate) 4 (f2dot14_bits result) }
+    ensures below { fixed_bits coordinate ≤ℤ fixed_bits Fixed.NEG_ONE → result ≡ F2Dot14.NEG_ONE }
+    ensures above { fixed_bits Fixed.ONE ≤ℤ fixed_bits coordinate → result ≡ F2Dot14.ONE }
     ensures low { f2dot14_bits F2Dot14.NEG_ONE ≤ℤ f2dot14_bits result }
     ensures high { f2dot14_bits result ≤ℤ f2dot14_bits F2Dot14.ONE }
     ensures middle { coordinate ≡ Fixed.ZERO → result ≡ F2Dot14.ZERO }
@@ -28,6 +35,8 @@ pub fn kept(value: Fixed, least: Fixed, greatest: Fixed) -> Fixed
     ensures high { fixed_bits result ≤ℤ fixed_bits greatest }
     ensures inside { fixed_bits least ≤ℤ fixed_bits value
         → fixed_bits value ≤ℤ fixed_bits greatest → result ≡ value }
+    ensures below { fixed_bits value ≤ℤ fixed_bits least → result ≡ least }
+    ensures above { fixed_bits greatest ≤ℤ fixed_bits value → result ≡ greatest }
 {
     value.clamp(least, greatest)
 }
@@ -53,6 +62,8 @@ pub fn share(height: Fixed, part: Fixed, whole: Fixed) -> Fixed
     requires height { pos 0 ≤ℤ fixed_bits height }
     requires part { (pos 0 ≤ℤ fixed_bits part) × (fixed_bits part ≤ℤ fixed_bits whole) }
     requires whole { whole ≢ Fixed.ZERO }
+    ensures value { IsMulDiv 32 (fixed_bits height) (fixed_bits part) (fixed_bits whole)
+        (fixed_bits result) }
     ensures low { pos 0 ≤ℤ fixed_bits result }
     ensures high { fixed_bits result ≤ℤ fixed_bits height }
     ensures start { part ≡ Fixed.ZERO → result ≡ Fixed.ZERO }
@@ -70,9 +81,10 @@ pub struct Mapping {
     pub to: Fixed,
 }
 
-/// Where a coordinate comes to stand by two mappings: it meets both.
+/// Where a coordinate comes to stand on the line by two mappings, which meets both.
 pub fn along(coordinate: Fixed, start: Mapping, end: Mapping) -> Fixed
     requires { start.from ≢ end.from }
+    ensures value { IsAlong coordinate start end result }
     ensures start { coordinate ≡ start.from → result ≡ start.to }
     ensures end { coordinate ≡ end.from → result ≡ end.to }
 {
@@ -87,6 +99,10 @@ pub fn on_segment(coordinate: Fixed, start: Mapping, end: Mapping) -> Fixed
     requires order { fixed_bits start.to ≤ℤ fixed_bits end.to }
     requires width { FitsBits 32 (fixed_bits end.from -ℤ fixed_bits start.from) }
     requires height { FitsBits 32 (fixed_bits end.to -ℤ fixed_bits start.to) }
+    ensures value { IsMulDiv 32 (fixed_bits end.to -ℤ fixed_bits start.to)
+        (fixed_bits coordinate -ℤ fixed_bits start.from)
+        (fixed_bits end.from -ℤ fixed_bits start.from)
+        (fixed_bits result -ℤ fixed_bits start.to) }
     ensures start { coordinate ≡ start.from → result ≡ start.to }
     ensures end { coordinate ≡ end.from → result ≡ end.to }
     ensures low { fixed_bits start.to ≤ℤ fixed_bits result }

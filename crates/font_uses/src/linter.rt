@@ -1,11 +1,14 @@
-//! A linter: judges the tags of a font's tables.
+//! A linter: judges the tags of a font's tables, the bytes of a number and a stored sum.
 
-ghost use Rattle.std.specs.Prelude.{◌≡◌, ◌↔◌, All, IsTrue, MatchResult, MatchOption, length};
+ghost use Rattle.std.specs.Prelude.{◌≡◌, ◌↔◌, ◌+ℤ◌, All, IsTrue, MatchResult, MatchOption, length};
 ghost use Rattle.std.specs.List.{AllAdjacentBelow};
+ghost use Rattle.font_types.specs.Bytes.{IsBytesOf};
+ghost use Rattle.font_types.specs.Wrap.{IsWrapped};
+ghost use Rattle.font_types.specs.Fixed.{fixed_bits};
 ghost use Rattle.font_types.specs.Tag.{tag_bytes, IsGood};
 ghost use Rattle.font_uses.specs.Linter.{IsFirstBad, AreDifferent, IsFirstRepeated};
 
-use font_types::{InvalidTag, Tag};
+use font_types::{Fixed, InvalidTag, Tag};
 use std::cmp::Ordering;
 use thiserror::Error;
 
@@ -56,4 +59,19 @@ pub fn first_repeated(tags: &[Tag]) -> Option<usize>
         }
     }
     None
+}
+
+/// Whether these bytes are those of the number.
+pub fn is_stored_as(number: Fixed, bytes: [u8; 4]) -> bool
+    ensures { IsTrue result ↔ IsBytesOf 4 (fixed_bits number) bytes }
+{
+    number.to_be_bytes() == bytes
+}
+
+/// Whether a number is the sum of two others, wrapped to 32 bits.
+pub fn is_sum(sum: Fixed, a: Fixed, b: Fixed) -> bool
+    ensures { IsTrue result
+        ↔ IsWrapped 32 (fixed_bits a +ℤ fixed_bits b) (fixed_bits sum) }
+{
+    a + b == sum
 }

@@ -1,14 +1,24 @@
 //! A report in columns of one width, which no number is too wide for.
 
-ghost use Rattle.std.specs.Prelude.{◌≡◌, ◌<◌, ◌++◌, IfOk, IfErr};
+ghost use Rattle.std.specs.Prelude.{◌≡◌, ◌<◌, ◌++◌, IfOk, IfErr, string_bytes};
 ghost use Rattle.serde_json.specs.View.{view};
 ghost use Rattle.font_types.specs.Tag.{tag_bytes, IsGood};
-ghost use Rattle.font_types.specs.Fixed.{fixed_text};
+ghost use Rattle.font_types.specs.Fixed.{fixed_bits, fixed_text};
 ghost use Rattle.font_types.specs.Padding.{padded_text};
+ghost use Rattle.font_types.specs.Shortest.{IsShortest};
 
 use font_types::{Fixed, JsonFault, JsonScalar, Pad, Tag};
 use serde_json::Value;
 use std::alloc::{AllocError, Global};
+
+/// A number as it is printed: of all decimals that are read back as it the nearest with the fewest
+/// fractional digits.
+#[tactic(auto, using(font_types::proofs::Callers::shortest_is))]
+pub fn printed(number: Fixed, alloc: Global) -> Result<String, AllocError>
+    ensures { IfOk result (λ text. IsShortest (fixed_bits number) 16 (string_bytes text)) }
+{
+    format!(in alloc; "{number}")
+}
 
 /// A column of twelve bytes, as many as the longest `Fixed` has.
 pub fn filled_column(number: Fixed, pad: &Pad) -> [u8; 12]

@@ -8,11 +8,31 @@ fn stored_within_one(rt: HostRuntime) {
     for &(bits, narrow) in &[
         (0x2_0000, 0x4000),
         (-0x1_0001, -0x4000),
+        (-0x8000, -0x2000),
+        (-0x8002, -0x2000),
+        (-0x8003, -0x2001),
         (0x8002, 0x2001),
         (0x8001, 0x2000),
         (0, 0),
     ] {
         assert!(rt; stored(Fixed::from_bits(bits)) == F2Dot14::from_bits(narrow));
+    }
+}
+
+#[test]
+fn kept_within_its_ends(rt: HostRuntime) {
+    for &(bits, within) in &[
+        (-0x2_0000, -0x1_0000),
+        (-0x8000, -0x8000),
+        (0x8000, 0x8000),
+        (0x1_8001, 0x1_8000),
+    ] {
+        let value = kept(
+            Fixed::from_bits(bits),
+            Fixed::NEG_ONE,
+            Fixed::from_bits(0x1_8000),
+        );
+        assert!(rt; value == Fixed::from_bits(within));
     }
 }
 
@@ -30,6 +50,9 @@ fn mapped_along_a_segment(rt: HostRuntime) {
     assert!(rt; on_segment(Fixed::from_bits(0x8000), start, end) == Fixed::from_bits(0xA000));
     assert!(rt; on_segment(end.from, start, end) == end.to);
     assert!(rt; along(kept(Fixed::MAX, start.from, end.from), start, end) == end.to);
+    for &(bits, place) in &[(0x8000, 0xA000), (-0x8000, -0x2000), (0x2_0000, 0x1_C000)] {
+        assert!(rt; along(Fixed::from_bits(bits), start, end) == Fixed::from_bits(place));
+    }
 }
 
 #[test]

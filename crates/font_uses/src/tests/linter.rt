@@ -1,7 +1,7 @@
-//! A linter of tags.
+//! A linter of tags and of stored numbers.
 
-use crate::linter::{BadTag, first_repeated, is_in_order, judge};
-use font_types::{InvalidTag, Tag};
+use crate::linter::{BadTag, first_repeated, is_in_order, is_stored_as, is_sum, judge};
+use font_types::{Fixed, InvalidTag, Tag};
 use std::test::Fail;
 
 #[test]
@@ -28,4 +28,12 @@ fn tags_in_order(rt: HostRuntime) {
     let others = [cmap, os2, cmap, os2];
     assert!(rt; !is_in_order(&others) && !is_in_order(&others[..2]));
     assert!(rt; first_repeated(&others) == Some(2));
+}
+
+#[test]
+fn stored_numbers(rt: HostRuntime) {
+    let (step, less) = (Fixed::EPSILON, Fixed::from_bits(-2));
+    assert!(rt; is_stored_as(less, [0xFF, 0xFF, 0xFF, 0xFE]));
+    assert!(rt; !is_stored_as(less, [0xFE, 0xFF, 0xFF, 0xFF]));
+    assert!(rt; is_sum(Fixed::MIN, Fixed::MAX, step) && !is_sum(Fixed::MAX, Fixed::MAX, step));
 }

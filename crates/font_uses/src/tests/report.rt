@@ -1,6 +1,6 @@
 //! A report in columns.
 
-use crate::report::{axis_value, line};
+use crate::report::{axis_value, line, printed};
 use font_types::{Fixed, Pad, Tag};
 use std::test::Fail;
 
@@ -11,5 +11,13 @@ fn in_columns(rt: HostRuntime) -> Result<(), Fail> {
     let line = line(slant, least, greatest, &pad, rt.alloc())?;
     assert!(rt; line.as_slice() == b"slnt-32767.99998         1.5".as_slice());
     assert!(rt; axis_value(Tag::new(b"slnt"), rt.alloc()).is_ok());
+    Ok(())
+}
+
+#[test]
+fn printed_shortest(rt: HostRuntime) -> Result<(), Fail> {
+    for &(bits, text) in &[(0x1_999A, "1.6"), (-1, "-0.00002"), (i32::MIN, "-32768")] {
+        assert!(rt; printed(Fixed::from_bits(bits), rt.alloc())?.as_str() == text);
+    }
     Ok(())
 }
