@@ -410,11 +410,31 @@ fn out(name: &str) -> PathBuf {
     out
 }
 
+/// Goes over a file; how many functions say how they are inlined, and how many slices exports take.
+fn goes_over(name: &'static str, source: &Path, made: &Path, counts: &mut Counts) -> [usize; 2] {
+    let [rt, rs] = [source, made].map(|path| fs::read_to_string(path).unwrap());
+    let mut pair = Pair {
+        name,
+        source: tokens(&rt),
+        rust: tokens(&rs),
+        at: 0,
+        to: 0,
+        slices: String::new(),
+    };
+    pair.compare(counts);
+    let place = made.to_str().unwrap();
+    assert!(!rs.lines().any(|line| line.ends_with(' ')), "{place}");
+    let slices = slices_of_exports(&pair.source.0);
+    let lengths = |text: &str| text.matches("_len: usize").count();
+    assert_eq!(lengths(&rs), lengths(&rt) + slices, "{place}");
+    [inlined(&pair.rust.0, place), slices]
+}
+
 /// Every file of a crate is there, and says what its source says.
 #[test]
 fn what_is_left_is_the_source() {
     let mut counts = Counts::new();
-    let (mut functions, mut slices) = (0, 0);
+    let [mut functions, mut slices] = [0, 0];
     for name in CRATES {
         let out = out(name);
         let mut made = Vec::new();
@@ -422,38 +442,17 @@ fn what_is_left_is_the_source() {
         let pairs = sources(name, &out);
         assert_eq!(made.len(), pairs.len(), "{name}");
         for (source, made) in pairs {
-            let (rt, rs) = [&source, &made]
-                .map(|path| fs::read_to_string(path).unwrap())
-                .into();
-            let mut pair = Pair {
-                name,
-                source: tokens(&rt),
-                rust: tokens(&rs),
-                at: 0,
-                to: 0,
-                slices: String::new(),
-            };
-            pair.compare(&mut counts);
-            functions += inlined(&pair.rust.0, made.to_str().unwrap());
-            let taken = slices_of_exports(&pair.source.0);
-            let lengths = |text: &str| text.matches("_len: usize").count();
-            assert_eq!(lengths(&rs), lengths(&rt) + taken, "{}", source.display());
+            let [of_file, taken] = goes_over(name, &source, &made, &mut counts);
+            functions += of_file;
             slices += taken;
-            assert!(
-                rs.lines().all(|line| !line.ends_with(' ')),
-                "{}",
-                made.display()
-            );
         }
         if name == "font_c" {
             fs::remove_dir_all(out).unwrap();
         }
     }
     let constant = include_str!("../build/constant.txt").lines();
-    assert_eq!(
-        counts["const"],
-        constant.filter(|line| line.starts_with(' ')).count()
-    );
+    let constant = constant.filter(|line| line.starts_with(' ')).count();
+    assert_eq!(counts["const"], constant);
     for of_clone in ["Result <", ", AllocError >", "Ok (", ")"] {
         assert_eq!(counts[of_clone], 2, "{of_clone}");
     }

@@ -48,27 +48,16 @@ fn main() -> ExitCode {
 }
 
 fn write_package(to: &Path) -> Result<(), String> {
-    let from = repository::root().join("crates");
-    let program = to.join("rust/fontval");
-    fs::create_dir_all(&program).map_err(|error| format!("{}: {error}", to.display()))?;
-    let mut library = String::new();
-    for (name, _) in crates::LIBRARY {
-        library += &format!("mod {name};\n");
-    }
-    crates::write_library(&mut Files::default(), &from, &to.join("rust"))?;
-    crates::write_over(&mut Files::default(), "fontval", &from, &program)?;
-    for (name, _) in crates::LIBRARY {
-        lay_out(&from.join(name).join("src"), &to.join("rust").join(name))?;
-    }
-    lay_out(&from.join("fontval/src"), &program.join("fontval"))?;
-    fs::remove_file(to.join("rust/crates.rs")).map_err(|error| error.to_string())?;
+    write_crates(to)?;
     for file in COPIED {
         write(&to.join(file), &repository::text(file))?;
     }
-    for (file, modules) in [
-        ("rust/lib.rs", &*library),
-        ("rust/fontval/main.rs", "mod fontval;\n"),
-    ] {
+    let library = crates::LIBRARY.map(|(name, _)| format!("mod {name};\n"));
+    let roots = [
+        ("rust/lib.rs", library.concat()),
+        ("rust/fontval/main.rs", "mod fontval;\n".into()),
+    ];
+    for (file, modules) in &roots {
         write(
             &to.join(file),
             &with_modules(&repository::text(file), modules),
@@ -78,7 +67,7 @@ fn write_package(to: &Path) -> Result<(), String> {
         &to.join("Cargo.toml"),
         &manifest(&repository::text("Cargo.toml")),
     )?;
-    let files = ["rust/lib.rs", "rust/fontval/main.rs"].map(|file| to.join(file));
+    let files = roots.map(|(file, _)| to.join(file));
     let rustfmt = Command::new("rustfmt")
         .arg("--edition=2024")
         .args(files)
@@ -87,6 +76,20 @@ fn write_package(to: &Path) -> Result<(), String> {
         println!("only empty lines were left out: rustfmt is not there");
     }
     Ok(())
+}
+
+/// The crates of the library below `rust`, and the program's below `rust/fontval`.
+fn write_crates(to: &Path) -> Result<(), String> {
+    let from = repository::root().join("crates");
+    let (library, program) = (to.join("rust"), to.join("rust/fontval"));
+    fs::create_dir_all(&program).map_err(|error| format!("{}: {error}", to.display()))?;
+    crates::write_library(&mut Files::default(), &from, &library)?;
+    crates::write_over(&mut Files::default(), "fontval", &from, &program)?;
+    for (name, _) in crates::LIBRARY {
+        lay_out(&from.join(name).join("src"), &library.join(name))?;
+    }
+    lay_out(&from.join("fontval/src"), &program.join("fontval"))?;
+    fs::remove_file(library.join("crates.rs")).map_err(|error| error.to_string())
 }
 
 /// The line that includes what the build script writes becomes the modules that it declares.
