@@ -200,15 +200,15 @@ fn errors() {
     assert_eq!(
         arms(of_two),
         [
-            "Self::A { 0: field_0, .. } => write!(f, \"a {field_0}, {field_0:X} {{\"),",
+            "Self::A(field_0, ..) => write!(f, \"a {field_0}, {field_0:X} {{\"),",
             "Self::B { len, n, .. } => write!(f, \"b {len}{n}\"),",
-            "Self::C { .. } => write!(f, \"c\"),"
+            "Self::C => write!(f, \"c\"),"
         ]
     );
     let of_one = "#[derive(Error)]\n#[error(\"no {1}\")]\nstruct E(u8, u8);";
     assert_eq!(
         arms(of_one),
-        ["Self { 1: field_1, .. } => write!(f, \"no {field_1}\"),"]
+        ["Self(_, field_1, ..) => write!(f, \"no {field_1}\"),"]
     );
 }
 
@@ -304,6 +304,16 @@ fn what_is_not_known() {
             "#[derive(Error)]\n#[error(\"b\")]\nenum S { A }",
             2,
             "in another place",
+        ),
+        (
+            "#[derive(Error)]\n#[error(\"{a}\")]\nstruct S(u8);",
+            2,
+            "that names a field of a number",
+        ),
+        (
+            "#[derive(Error)]\n#[error(\"{a}\")]\nstruct S;",
+            2,
+            "a field that is not there",
         ),
         ("pub(in a::b) fn f() {}", 1, "a function of another form"),
         ("fn f() {}}", 1, "a brace too many"),

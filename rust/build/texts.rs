@@ -13,17 +13,18 @@ pub fn impls(words: &[&str]) -> Result<String, &'static str> {
     let mut arms = String::new();
     for at in 0..words.len() {
         let (text, behind) = match words[at..] {
-            ["#", "[", "error", "(", text, ")", "]", behind, ..] => (text, behind),
+            ["#", "[", "error", "(", text, ")", "]", ref behind @ ..] => (text, behind),
             ["#", "[", "error", ..] => return Err("an error's text of another form"),
             _ => continue,
         };
-        let variant = match words[kind] {
-            "enum" if at > kind => format!("Self::{behind}"),
-            "struct" if at < kind => "Self".into(),
+        let (variant, shape) = match (words[kind], behind) {
+            ("enum", [name, shape, ..]) if at > kind => (format!("Self::{name}"), *shape),
+            ("struct", _) if at < kind => ("Self".into(), words[kind + 2]),
             _ => return Err("an error's text in another place"),
         };
         let (fields, text) = fields(text)?;
-        arms += &format!("            {variant} {{ {fields}.. }} => write!(f, {text}),\n");
+        let pattern = pattern(shape, &fields)?;
+        arms += &format!("            {variant}{pattern} => write!(f, {text}),\n");
     }
     if arms.is_empty() {
         return Err("an error with no text");
@@ -43,7 +44,7 @@ impl core::fmt::Display for {name} {{
 }
 
 // The fields that a text shows, and the text, in which a field of a number has a name.
-fn fields(text: &str) -> Result<(String, String), &'static str> {
+fn fields(text: &str) -> Result<(Vec<&str>, String), &'static str> {
     let (mut fields, mut shown) = (Vec::new(), String::new());
     let mut rest = text;
     while let Some(open) = rest.find('{') {
@@ -56,19 +57,44 @@ fn fields(text: &str) -> Result<(String, String), &'static str> {
         }
         let end = behind.find([':', '}']).unwrap_or_default();
         let (name, behind) = behind.split_at(end);
-        let field = match name.chars().next() {
-            Some('0'..='9') => format!("{name}: field_{name}, "),
-            Some('a'..='z') => format!("{name}, "),
+        match name.chars().next() {
+            Some('0'..='9') => shown += "field_",
+            Some('a'..='z') => {}
             _ => return Err("an error's text that shows something else than a field"),
-        };
-        if field.contains(": ") {
-            shown += "field_";
         }
         shown += name;
-        if !fields.contains(&field) {
-            fields.push(field);
-        }
+        fields.push(name);
         rest = behind;
     }
-    Ok((fields.concat(), shown + rest))
+    Ok((fields, shown + rest))
+}
+
+// What names these fields, where this word stands behind the name of what has them.
+fn pattern(shape: &str, fields: &[&str]) -> Result<String, &'static str> {
+    let mut names: Vec<String> = Vec::new();
+    match shape {
+        "{" => {
+            names.extend(fields.iter().map(|name| name.to_string()));
+            names.sort();
+            names.dedup();
+            names.push("..".into());
+            Ok(format!(" {{ {} }}", names.join(", ")))
+        }
+        "(" => {
+            let numbers: Result<Vec<usize>, _> = fields.iter().map(|name| name.parse()).collect();
+            let numbers = numbers.map_err(|_| "an error's text that names a field of a number")?;
+            for number in 0..numbers.iter().max().map_or(0, |last| last + 1) {
+                let is_shown = numbers.contains(&number);
+                names.push(if is_shown {
+                    format!("field_{number}")
+                } else {
+                    "_".into()
+                });
+            }
+            names.push("..".into());
+            Ok(format!("({})", names.join(", ")))
+        }
+        _ if fields.is_empty() => Ok(String::new()),
+        _ => Err("an error's text that shows a field that is not there"),
+    }
 }

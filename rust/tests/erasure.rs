@@ -309,7 +309,8 @@ fn errors(source: &[&str]) -> String {
                     }
                     variant => format!("Self :: {}", variant.unwrap()),
                 };
-                arms += &format!("{variant} {{ {} }} => ", fields(text));
+                let fields = fields(behind.next().unwrap(), text);
+                arms += &format!("{variant} {fields} => ");
                 let text = text.replace("{0", "{field_0");
                 arms += &format!("write ! ( f , {text} ) , ");
             }
@@ -340,17 +341,18 @@ fn group_is_type(source: &[&str], end: usize, name: &str) -> bool {
     }
 }
 
-/// The fields that a text shows.
-fn fields(text: &str) -> String {
-    let names = text
-        .split('{')
-        .skip(1)
-        .map(|piece| piece.split([':', '}']).next().unwrap());
-    let fields = names.map(|name| match name {
-        "0" => "0 : field_0 , ".to_string(),
-        name => format!("{name} , "),
-    });
-    fields.collect::<String>() + ". ."
+/// The fields that a text shows, of which none is shown twice, and one of a number is the first.
+fn fields(shape: &str, text: &str) -> String {
+    let names = text.split('{').skip(1);
+    let names = names.map(|piece| piece.split([':', '}']).next().unwrap());
+    let mut names: Vec<_> = names.map(|name| format!("{name} , ")).collect();
+    names.sort();
+    let names = names.concat().replace("0 ,", "field_0 ,");
+    match shape {
+        "{" => format!("{{ {names} . . }}"),
+        "(" => format!("( {names} . . )"),
+        _ => names,
+    }
 }
 
 /// Whether `crate ::` stands in both, and the name of the crate behind it in Rust alone.
