@@ -1,6 +1,6 @@
 #![doc = include_str!("README.md")]
 #![no_std]
-#![warn(missing_docs)]
+#![warn(missing_docs, missing_debug_implementations)]
 // The text is laid out for its proofs: what is left out leaves its empty lines, a law divides a
 // number by itself, `Clone` is written as its contract wants it, and arithmetic as it is proved.
 #![allow(
@@ -23,6 +23,7 @@ extern crate core as std;
 include!(concat!(env!("OUT_DIR"), "/crates.rs"));
 
 mod compared;
+mod traits;
 
 pub use font_types::*;
 

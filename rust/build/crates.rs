@@ -95,14 +95,14 @@ pub fn write_over(files: &mut Files, name: &str, from: &Path, to: &Path) -> Resu
     files.write(&of, &from.join(name).join("src"), &to.join(name))
 }
 
-/// The lines of `constant.txt`: the number of the line, the type or the crate, and the function.
+/// What `constant.txt` says: the number of the line, the type or the crate, and the function. A
+/// line has types, a colon, and functions that each of them has.
 fn constant_functions() -> Vec<(usize, (&'static str, &'static str))> {
     let mut functions = Vec::new();
-    let mut owner = "";
-    for (line, text) in CONSTANT.lines().enumerate() {
-        match text.strip_prefix(' ') {
-            Some(name) => functions.push((line + 1, (owner, name.trim()))),
-            None => owner = text,
+    for (line, text) in (1..).zip(CONSTANT.lines()) {
+        let (owners, names) = text.split_once(": ").unwrap_or((text, ""));
+        for owner in owners.split(' ') {
+            functions.extend(names.split(' ').map(|name| (line, (owner, name))));
         }
     }
     functions

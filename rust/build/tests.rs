@@ -483,6 +483,6 @@ fn a_constant_function_that_is_not_there() {
     let roots = roots.each_ref().map(|root| (root.as_str(), ""));
     let out = Sources::new("constant", &roots);
     let told = crates::build("font-types-proved", &out.0.join("src"), &out.0);
-    let fault = "error=rust/build/constant.txt:2: no `checked_new` of `Uint24`";
+    let fault = "error=rust/build/constant.txt:1: no `each_is_byte` of `font_base`";
     assert_eq!(told.last().unwrap(), fault);
 }

@@ -66,11 +66,9 @@ fn items(source: &str, kind: Type) -> Vec<String> {
             .any(|front| code.starts_with(front))
     };
     let lines: Vec<&str> = source.lines().filter(is_code).collect();
-    // Bits of 64 are widened by nothing, and a type that no field holds tells its bytes by std's.
+    // Bits of 64 are widened by nothing.
     let code = lines.join("\n").replace("i64::from(self.0)", "self.0");
-    let code = code
-        .replace("i64::from(bits)", "bits")
-        .replace("self.0.to_raw()", "self.to_raw()");
+    let code = code.replace("i64::from(bits)", "bits");
     let items = code.split("\n\n").map(|item| {
         let mut front = ["", ""];
         let mut found = String::new();

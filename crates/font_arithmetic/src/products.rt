@@ -78,5 +78,5 @@ fn magnitude(x: i32) -> u64
     ensures value { result ≡ unsigned_abs x }
     ensures bound { result ≤ 2 ^ 31 }
 {
-    u64::from(x.unsigned_abs())
+    x.unsigned_abs() as u64
 }

@@ -32,8 +32,12 @@ impl Int24 {
     pub fn new(raw: i32) -> Int24
         ensures { int24_number result ≡ int_max INT24_MIN (int_min raw INT24_MAX) }
     {
-        Int24 {
-            value: raw.clamp(Self::MIN.value, Self::MAX.value),
+        if raw < Self::MIN.value {
+            Self::MIN
+        } else if raw > Self::MAX.value {
+            Self::MAX
+        } else {
+            Int24 { value: raw }
         }
     }
 

@@ -45,7 +45,7 @@ pub trait BeByteArray: Copy {
 }
 
 // The same slice, with the fact that its elements are bytes.
-fn each_is_byte(slice: &[u8]) -> &[u8]
+pub(crate) fn each_is_byte(slice: &[u8]) -> &[u8]
     ensures same { result.now ≡ slice.now }
     ensures bytes { IsTrue (are_bytes (length slice.now) slice.now) }
 {

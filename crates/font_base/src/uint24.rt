@@ -4,7 +4,7 @@ ghost use Rattle.std.specs.Prelude.{◌≡◌, ◌≤◌, ◌<◌, ◌^◌, ◌�
 ghost use Rattle.std.specs.Prelude.{MatchResult};
 ghost use Rattle.std.specs.Fmt.{decimal};
 
-use crate::raw::{BeByteArray, FixedSize, IdentityEq, Scalar};
+use crate::raw::{FixedSize, IdentityEq, Scalar, each_is_byte};
 use std::fmt;
 use thiserror::Error;
 
@@ -31,8 +31,10 @@ impl Uint24 {
     pub fn new(raw: u32) -> Uint24
         ensures { uint24_number result ≡ min raw UINT24_MAX }
     {
-        Uint24 {
-            value: raw.min(Self::MAX.value),
+        if raw > Self::MAX.value {
+            Self::MAX
+        } else {
+            Uint24 { value: raw }
         }
     }
 
@@ -68,10 +70,8 @@ impl Uint24 {
         ensures bytes { bytes ≡ bytes_of 3 (pos (uint24_number result)) }
         ensures number { uint24_number result ≡ numeral bytes }
     {
-        let bytes = BeByteArray::as_slice(&bytes);
-        let value = u32::from(bytes[0]) * 0x1_0000
-            + u32::from(bytes[1]) * 0x100
-            + u32::from(bytes[2]);
+        let bytes = each_is_byte(&bytes);
+        let value = bytes[0] as u32 * 0x1_0000 + bytes[1] as u32 * 0x100 + bytes[2] as u32;
         Uint24 { value }
     }
 }

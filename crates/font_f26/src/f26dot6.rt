@@ -16,7 +16,6 @@ ghost use Rattle.font_f26.specs.declared.f26dot6.F26Dot6.{F26Dot6};
 ghost use Rattle.font_f26.specs.F26Dot6.{f26dot6_bits as bits_of, f26dot6_text as text_of};
 
 use font_arithmetic::{mul_div, product, read_bits_32};
-use font_base::Scalar;
 use font_decimal::{DecimalFault, Pad, Shortest};
 use std::fmt;
 use std::ops::{Add, AddAssign, Div, DivAssign, Mul, MulAssign, Neg, Sub, SubAssign};
@@ -130,10 +129,11 @@ impl F26Dot6 {
     }
 
     /// The four bytes of the bits, highest first.
+    #[tactic(auto, using(font_base::proofs::StdBytes::std_bytes))]
     pub fn to_be_bytes(self) -> [u8; 4]
         ensures { result ≡ bytes_of 4 (bits_of self) }
     {
-        self.0.to_raw()
+        self.0.to_be_bytes()
     }
 
     /// A whole number, wrapped.

@@ -136,17 +136,18 @@ impl F2Dot14 {
     }
 
     /// The two bytes of the bits, highest first.
+    #[tactic(auto, using(font_base::proofs::StdBytes::std_bytes))]
     pub fn to_be_bytes(self) -> [u8; 2]
         ensures { result ≡ bytes_of 2 (bits_of self) }
     {
-        self.to_raw()
+        self.0.to_be_bytes()
     }
 
     /// The same number as a `Fixed`.
     pub fn to_fixed(self) -> Fixed
         ensures { fixed_bits result ≡ (bits_of self *ℤ pos 4) }
     {
-        Fixed::from_bits(i32::from(self.0) * 4)
+        Fixed::from_bits(self.0 as i32 * 4)
     }
 
     /// The number moved by a sum of deltas, exactly, in units of `2^-30`.

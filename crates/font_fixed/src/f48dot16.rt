@@ -18,7 +18,6 @@ ghost use Rattle.font_fixed.specs.Fixed.{fixed_bits};
 
 use crate::fixed::Fixed;
 use font_arithmetic::{low_bits, read_bits_64};
-use font_base::Scalar;
 use font_decimal::{DecimalFault, Pad, Shortest};
 use std::fmt;
 use std::ops::{Add, AddAssign, Neg, Sub, SubAssign};
@@ -132,10 +131,11 @@ impl F48Dot16 {
     }
 
     /// The eight bytes of the bits, highest first.
+    #[tactic(auto, using(font_base::proofs::StdBytes::std_bytes))]
     pub fn to_be_bytes(self) -> [u8; 8]
         ensures { result ≡ bytes_of 8 (bits_of self) }
     {
-        self.0.to_raw()
+        self.0.to_be_bytes()
     }
 
     /// A whole number, wrapped.
@@ -149,7 +149,7 @@ impl F48Dot16 {
     pub fn from_i32(number: i32) -> Self
         ensures { bits_of result ≡ (number *ℤ pos (2 ^ 16)) }
     {
-        Self(i64::from(number) * 0x1_0000)
+        Self(number as i64 * 0x1_0000)
     }
 
     /// The nearest whole number, ties upwards, wrapped to 48 bits.

@@ -139,10 +139,11 @@ impl Fixed {
     }
 
     /// The four bytes of the bits, highest first.
+    #[tactic(auto, using(font_base::proofs::StdBytes::std_bytes))]
     pub fn to_be_bytes(self) -> [u8; 4]
         ensures { result ≡ bytes_of 4 (bits_of self) }
     {
-        self.to_raw()
+        self.0.to_be_bytes()
     }
 
     /// `self * a / c`, rounded once to the nearest step, ties away from zero, and wrapped.
@@ -188,14 +189,14 @@ impl Fixed {
     pub fn to_f48dot16(self) -> F48Dot16
         ensures { f48dot16_bits result ≡ bits_of self }
     {
-        F48Dot16::from_bits(i64::from(self.0))
+        F48Dot16::from_bits(self.0 as i64)
     }
 
     /// The exact product with a whole number.
     pub fn mul_i32(self, number: i32) -> F48Dot16
         ensures { f48dot16_bits result ≡ (bits_of self *ℤ number) }
     {
-        F48Dot16::from_bits(i64::from(self.0) * i64::from(number))
+        F48Dot16::from_bits(self.0 as i64 * number as i64)
     }
 
     /// The number moved by a sum of deltas, exactly, in units of `2^-32`.

@@ -131,10 +131,11 @@ impl F2Dot30 {
     }
 
     /// The four bytes of the bits, highest first.
+    #[tactic(auto, using(font_base::proofs::StdBytes::std_bytes))]
     pub fn to_be_bytes(self) -> [u8; 4]
         ensures { result ≡ bytes_of 4 (bits_of self) }
     {
-        self.to_raw()
+        self.0.to_be_bytes()
     }
 
     /// The number nearest to a decimal text, ties away from zero.

@@ -39,7 +39,7 @@ impl FWord {
     pub fn to_fixed(self) -> Fixed
         ensures { fixed_bits result ≡ (fword_number self *ℤ pos (2 ^ 16)) }
     {
-        Fixed::from_i32(i32::from(self.to_i16()))
+        Fixed::from_i32(self.to_i16() as i32)
     }
 
     /// The number moved by a sum of deltas, exactly, in units of `2^-16`.
@@ -50,10 +50,11 @@ impl FWord {
     }
 
     /// The two bytes in two's complement, highest first.
+    #[tactic(auto, using(font_base::proofs::StdBytes::std_bytes))]
     pub fn to_be_bytes(self) -> [u8; 2]
         ensures { result ≡ bytes_of 2 (fword_number self) }
     {
-        FWord::to_raw(self)
+        self.0.to_be_bytes()
     }
 }
 
@@ -134,7 +135,7 @@ impl UfWord {
     pub fn to_fixed(self) -> Fixed
         ensures { fixed_bits result ≡ wrap 32 (pos (ufword_number self) *ℤ pos (2 ^ 16)) }
     {
-        Fixed::from_i32(i32::from(self.to_u16()))
+        Fixed::from_i32(self.to_u16() as i32)
     }
 
     /// The number moved by a sum of deltas, exactly, in units of `2^-16`.
@@ -145,10 +146,11 @@ impl UfWord {
     }
 
     /// The two bytes, highest first.
+    #[tactic(auto, using(font_base::proofs::StdBytes::std_bytes))]
     pub fn to_be_bytes(self) -> [u8; 2]
         ensures { result ≡ bytes_of 2 (pos (ufword_number self)) }
     {
-        UfWord::to_raw(self)
+        self.0.to_be_bytes()
     }
 }
 

@@ -42,14 +42,15 @@ impl GlyphId16 {
     pub fn to_u32(self) -> u32
         ensures { result ≡ glyph16_number self }
     {
-        u32::from(self.0)
+        self.0 as u32
     }
 
     /// The two bytes of the number, highest first.
+    #[tactic(auto, using(font_base::proofs::StdBytes::std_bytes))]
     pub fn to_be_bytes(self) -> [u8; 2]
         ensures { result ≡ bytes_of 2 (pos (glyph16_number self)) }
     {
-        self.to_raw()
+        self.0.to_be_bytes()
     }
 
     /// Whether both are the id of one glyph.
@@ -164,7 +165,10 @@ impl GlyphId24 {
         ensures variant { IsSome result ↔ (raw ≤ UINT24_MAX) }
         ensures value { IfSome result (λ id. glyph24_number id ≡ raw) }
     {
-        Some(Self(Uint24::checked_new(raw)?))
+        match Uint24::checked_new(raw) {
+            Some(number) => Some(Self(number)),
+            None => None,
+        }
     }
 
     /// The number.

@@ -127,7 +127,7 @@ impl NameId {
     pub fn is_reserved(self) -> bool
         ensures { IsTrue result ↔ (name_number self ≤ last_reserved) }
     {
-        self <= Self::LAST_RESERVED_NAME_ID
+        self.0 <= Self::LAST_RESERVED_NAME_ID.0
     }
 
     /// The id so many numbers on, or `None` where that is above the last one allowed, also with
@@ -137,7 +137,7 @@ impl NameId {
         ensures value { IfSome result (λ id. name_number id ≡ name_number self + rhs) }
     {
         let sum = Self(self.0.saturating_add(rhs));
-        if sum > Self::LAST_ALLOWED_NAME_ID {
+        if sum.0 > Self::LAST_ALLOWED_NAME_ID.0 {
             None
         } else {
             Some(sum)
@@ -145,10 +145,11 @@ impl NameId {
     }
 
     /// The two bytes of the number, highest first.
+    #[tactic(auto, using(font_base::proofs::StdBytes::std_bytes))]
     pub fn to_be_bytes(self) -> [u8; 2]
         ensures { result ≡ bytes_of 2 (pos (name_number self)) }
     {
-        self.to_raw()
+        self.0.to_be_bytes()
     }
 }
 
@@ -269,5 +270,15 @@ impl Iterator for Predefined {
         let id = NameId(self.next);
         self.next += 1;
         Some(id)
+    }
+
+    #[tactic(auto, unfolding(crate::specs::NameId::predefined_left))]
+    fn size_hint(&self) -> (usize, Option<usize>) {
+        let left = match self.next {
+            0..=15 => 25 - self.next,
+            16..=25 => 26 - self.next,
+            _ => 0,
+        };
+        (left as usize, Some(left as usize))
     }
 }

@@ -29,10 +29,11 @@ impl LongDateTime {
     }
 
     /// The eight bytes of the seconds, highest first.
+    #[tactic(auto, using(font_base::proofs::StdBytes::std_bytes))]
     pub fn to_be_bytes(self) -> [u8; 8]
         ensures { result ≡ bytes_of 8 (date_seconds self) }
     {
-        self.to_raw()
+        self.0.to_be_bytes()
     }
 }
 

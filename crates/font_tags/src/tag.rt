@@ -57,10 +57,11 @@ impl Tag {
     }
 
     /// The tag of a number's four bytes, highest first.
+    #[tactic(auto, using(font_base::proofs::StdBytes::std_bytes))]
     pub fn from_u32(src: u32) -> Self
         ensures { tag_bytes result ≡ bytes_of 4 (pos src) }
     {
-        Self(src.to_raw())
+        Self(src.to_be_bytes())
     }
 
     /// The tag of four bytes, whatever they are.

@@ -42,7 +42,8 @@ impl Version16Dot16 {
     pub fn new(major: u16, minor: u16) -> Self
         ensures { version_bits result ≡ packed_version major minor }
     {
-        Self(u32::from(major) * 0x1_0000 + u32::from(minor.min(9)) * 0x1000)
+        let minor = if minor > 9 { 9 } else { minor };
+        Self(major as u32 * 0x1_0000 + minor as u32 * 0x1000)
     }
 
     /// The major and the minor number. The minor number of other bits than those of `new` is up to
@@ -58,10 +59,11 @@ impl Version16Dot16 {
     }
 
     /// The four bytes of the bits, highest first.
+    #[tactic(auto, using(font_base::proofs::StdBytes::std_bytes))]
     pub fn to_be_bytes(self) -> [u8; 4]
         ensures { result ≡ bytes_of 4 (pos (version_bits self)) }
     {
-        self.to_raw()
+        self.0.to_be_bytes()
     }
 }
 
@@ -148,10 +150,13 @@ impl MajorMinor {
     }
 
     /// Two bytes of the major number and then two of the minor number, highest first.
+    #[tactic(auto, using(font_base::proofs::StdBytes::std_bytes))]
     pub fn to_be_bytes(self) -> [u8; 4]
         ensures { result ≡ bytes_of 2 (pos self.major) ++ bytes_of 2 (pos self.minor) }
     {
-        self.to_raw()
+        let [a, b] = self.major.to_be_bytes();
+        let [c, d] = self.minor.to_be_bytes();
+        [a, b, c, d]
     }
 }
 

@@ -71,6 +71,16 @@ fn unnamed(rt: HostRuntime) -> Result<(), Fail> {
 fn predefined(rt: HostRuntime) -> Result<(), Fail> {
     let ids = NameId::predefined().collect::<Vec<NameId>>(rt.alloc())?;
     assert!(rt; ids.len() == 25 && NameId::predefined().count() == 25);
+    let mut left = NameId::predefined();
+    for count in [25, 24, 23] {
+        assert!(rt;
+            left.size_hint() == (count, Some(count)),
+            "{count} are left"
+        );
+        left.next();
+    }
+    assert!(rt; left.nth(11) == Some(NameId::LICENSE_URL) && left.size_hint() == (10, Some(10)));
+    assert!(rt; left.nth(9).is_some() && left.size_hint() == (0, Some(0)));
     for (id, row) in ids.iter().zip(&NAMED) {
         assert!(rt; *id == row.0);
     }
