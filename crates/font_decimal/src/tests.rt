@@ -1,5 +1,5 @@
 //! Worked values, and what no clause says: texts of faults, and that long texts are read.
-ghost use Rattle.std.specs.Prelude.{◌≡◌, ◌≤◌, ◌≤ℤ◌, pos};
+ghost use Rattle.std.specs.Prelude.{◌≡◌, ◌<◌, ◌≤◌, ◌≤ℤ◌, pos};
 
 use crate::laws::reads_in_order;
 use crate::{Align, DecimalFault, Pad, Shortest, read_decimal, write_padded};

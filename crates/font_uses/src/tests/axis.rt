@@ -50,8 +50,17 @@ fn mapped_along_a_segment(rt: HostRuntime) {
     assert!(rt; on_segment(Fixed::from_bits(0x8000), start, end) == Fixed::from_bits(0xA000));
     assert!(rt; on_segment(end.from, start, end) == end.to);
     assert!(rt; along(kept(Fixed::MAX, start.from, end.from), start, end) == end.to);
-    for &(bits, place) in &[(0x8000, 0xA000), (-0x8000, -0x2000), (0x2_0000, 0x1_C000)] {
-        assert!(rt; along(Fixed::from_bits(bits), start, end) == Fixed::from_bits(place));
+    for &(bits, mapped) in &[
+        (0x8000, 0xA000),
+        (0x4000, 0x7000),
+        (-0x8000, -0x2000),
+        (0x2_0000, 0x1_C000),
+    ] {
+        let there = along(Fixed::from_bits(bits), start, end);
+        assert!(rt;
+            there == Fixed::from_bits(mapped),
+            "{bits} along the segment"
+        );
     }
 }
 

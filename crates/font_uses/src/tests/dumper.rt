@@ -46,6 +46,9 @@ fn summaries_refused(rt: HostRuntime) -> Result<(), Fail> {
         (Syntax, r#"{"revision":"x","created":"x"}"#),
         (WrongKind, r#"{"x_min":40000,"created":"x","revision":"1"}"#),
         (OutOfRange, r#"{"x_min":40000,"created":0,"revision":"1"}"#),
+        (WrongKind, r#"{"x_min":null,"created":0,"revision":"1"}"#),
+        (WrongKind, r#"{"x_min":0,"created":null,"revision":"1"}"#),
+        (WrongKind, r#"{"x_min":0,"created":0,"revision":null}"#),
         (MissingMember, "[]"),
     ] {
         let read = Summary::from_json(&Value::from_str(rt.alloc(), text)?);

@@ -28,6 +28,12 @@ fn tags_in_order(rt: HostRuntime) {
     let others = [cmap, os2, cmap, os2];
     assert!(rt; !is_in_order(&others) && !is_in_order(&others[..2]));
     assert!(rt; first_repeated(&others) == Some(2));
+    let equal = [os2, cmap, cmap];
+    assert!(rt;
+        !is_in_order(&equal) && !is_in_order(&equal[1..]),
+        "equal tags"
+    );
+    assert!(rt; first_repeated(&equal) == Some(2) && first_repeated(&equal[1..]) == Some(1));
 }
 
 #[test]

@@ -5,13 +5,19 @@ use font_types::{FWord, Fixed, GlyphId16, UfWord};
 
 #[test]
 fn of_rows_and_tail(rt: HostRuntime) {
-    let table = [2, 0, 0, 10, 1, 0, 0xFF, 0xFF, 0, 7];
-    for &(glyph, width, side) in &[(0, 512, 10), (1, 256, -1), (2, 256, 7)] {
-        let glyph = GlyphId16::new(glyph);
-        assert!(rt; advance(&table, 2, glyph) == Some(UfWord::new(width)));
-        assert!(rt; bearing(&table, 2, glyph) == Some(FWord::new(side)));
+    let table = [2, 0, 0, 10, 1, 0, 0xFF, 0xFF, 0, 7, 0, 9];
+    for &(glyph, width, side) in &[(0, 512, 10), (1, 256, -1), (2, 256, 7), (3, 256, 9)] {
+        let id = GlyphId16::new(glyph);
+        assert!(rt;
+            advance(&table, 2, id) == Some(UfWord::new(width)),
+            "advance of {glyph}"
+        );
+        assert!(rt;
+            bearing(&table, 2, id) == Some(FWord::new(side)),
+            "bearing of {glyph}"
+        );
     }
-    assert!(rt; bearing(&table, 2, GlyphId16::new(3)).is_none());
+    assert!(rt; bearing(&table, 2, GlyphId16::new(4)).is_none());
     assert!(rt; whole_again(FWord::new(-7)) == -7);
 }
 

@@ -7,7 +7,12 @@ use std::test::Fail;
 #[test]
 fn predefined(rt: HostRuntime) -> Result<(), Fail> {
     assert!(rt; predefined_count() == 25);
-    assert!(rt; all_predefined(rt.alloc())?.last() == Some(&NameId::new(25)));
+    let all = all_predefined(rt.alloc())?;
+    assert!(rt; all.first() == Some(&NameId::COPYRIGHT_NOTICE), "the first");
+    assert!(rt;
+        all.last() == Some(&NameId::new(25)) && all.len() == 25,
+        "the last"
+    );
     let are = [0, 14, 15, 16, 25, 26].map(|number| is_predefined(NameId::new(number)));
     assert!(rt; are == [true, true, false, true, true, false]);
     Ok(())

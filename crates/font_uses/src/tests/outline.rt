@@ -13,6 +13,16 @@ fn walked(rt: HostRuntime) {
         advance,
     });
     assert!(rt; width(&[first, last]) == Fixed::from_bits(0x1_0001) && last.glyph == 8);
+    for &(advance, wrapped) in &[(i32::MAX, i32::MIN), (i32::MAX - 1, i32::MAX)] {
+        let wide = Placed {
+            glyph: 9,
+            advance: Fixed::from_bits(advance),
+        };
+        assert!(rt;
+            width(&[wide, last]) == Fixed::from_bits(wrapped),
+            "{advance} and a step"
+        );
+    }
     assert!(rt; raised(i16::MAX, 1) == i16::MIN);
 }
 

@@ -46,6 +46,23 @@ fn values_at_places(rt: HostRuntime) -> Result<(), Fail> {
     Ok(())
 }
 
+// A scalar of one's own is written as its number is, and its fields compare by their values.
+#[test]
+fn sizes_in_fields(rt: HostRuntime) {
+    for &(size, other) in &[(0x0102, 0x0103), (255, 256), (0x7FFF, 0x8000)] {
+        let (small, large) = (PixelsPerEm(size), PixelsPerEm(other));
+        assert!(rt; BigEndian::from(small).be_bytes() == size.to_be_bytes().as_slice());
+        assert!(rt;
+            small < large && small.max(large) == large,
+            "{size} and {other}"
+        );
+        assert!(rt;
+            BigEndian::from(small) < BigEndian::from(large),
+            "fields of {size}"
+        );
+    }
+}
+
 #[test]
 fn glyphs_found(rt: HostRuntime) {
     let glyphs = [

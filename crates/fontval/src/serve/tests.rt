@@ -162,6 +162,9 @@ fn blanks_and_line_feeds(rt: HostRuntime) -> Result<(), Fail> {
         ("\t uint8  \r ff\t\r\n", "255\n"),
         ("uint8\u{a0}ff", "error 1\n"),
         ("\n\n", "error 1\nerror 1\n"),
+        ("uint8 ff\n\r", "255\nerror 1\n"),
+        ("uint8 ff\r\n\r\n", "255\nerror 1\n"),
+        ("\r", "error 1\n"),
     ] {
         let output = served(rt.alloc(), line.as_bytes())?;
         assert!(rt; output.as_slice() == answer.as_bytes(), "{line}");
