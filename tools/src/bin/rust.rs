@@ -21,12 +21,13 @@ use std::path::Path;
 use std::process::{Command, ExitCode};
 
 /// What stands in the package as it stands in the repository.
-const COPIED: [&str; 9] = [
+const COPIED: [&str; 10] = [
     "LICENSE-APACHE",
     "LICENSE-MIT",
     "docs/DIFFERENCES.md",
     "rust/README.md",
     "rust/compared.rs",
+    "rust/traits.rs",
     "rust/rattle/alloc.rs",
     "rust/rattle/hex.rs",
     "rust/rattle/io.rs",
