@@ -8,4 +8,5 @@ pub mod Texts
 pub mod Laws
 pub mod Group
 pub mod Calls
+pub mod Small
 pub mod Rules

@@ -38,7 +38,7 @@ printed_reads w f b room fits =
     let below : unsigned_abs b ≤ 2 ^ 63 = omega (arith, ints) in
     record { rounds = printed_rounds b f below; low = fits.low; high = omega (arith, ints, fits.high) }
 
--- three places for ten bits of fraction, and one more: as many as any number shows
+-- no number shows more places: three for each ten bits of fraction, and one
 abbrev pub most_places : ℕ → ℕ
 most_places f = f * 3 / 10 + 1
 

@@ -14,7 +14,7 @@ fn products(rt: HostRuntime) {
         (i32::MIN, -0x1_0000, 16, i32::MIN),
         (0x6000_0000, 0x6000_0000, 30, -0x7000_0000),
     ] {
-        assert!(rt; product(x, y, f) == rounded);
+        assert!(rt; product(x, y, f) == rounded, "{x} * {y}");
     }
 }
 
@@ -28,7 +28,7 @@ fn quotients(rt: HostRuntime) {
         (-1, -1, 0, i32::MAX),
         (i32::MAX, i32::MAX, 1, 1),
     ] {
-        assert!(rt; mul_div(x, a, c) == rounded);
+        assert!(rt; mul_div(x, a, c) == rounded, "{x} * {a} / {c}");
     }
 }
 
@@ -39,9 +39,9 @@ fn last_bits(rt: HostRuntime) {
 
 #[test]
 fn readings(rt: HostRuntime) {
-    assert!(rt; read_bits_16("1.99996", 14) == Ok(32767));
-    assert!(rt; read_bits_16("1.99997", 14) == Err(DecimalFault::OutOfRange));
-    assert!(rt; read_bits_32("-32768.000007", 16) == Ok(i32::MIN));
-    assert!(rt; read_bits_64("140737488355327.99998", 16) == Ok(i64::MAX));
-    assert!(rt; read_bits_64("1.", 16) == Err(DecimalFault::Syntax));
+    assert!(rt; read_bits_16(b"1.99996", 14) == Ok(32767));
+    assert!(rt; read_bits_16(b"1.99997", 14) == Err(DecimalFault::OutOfRange));
+    assert!(rt; read_bits_32(b"-32768.000007", 16) == Ok(i32::MIN));
+    assert!(rt; read_bits_64(b"140737488355327.99998", 16) == Ok(i64::MAX));
+    assert!(rt; read_bits_64(b"1.", 16) == Err(DecimalFault::Syntax));
 }

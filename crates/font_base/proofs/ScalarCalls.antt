@@ -1,14 +1,18 @@
 -- What callers of scalars and fields cite: the number of a 24-bit integer whose stored bytes are known, and a search
 -- that found no place.
-use Rattle.std.proofs.Common.{◌≡◌, ◌≢◌, sym, arith, ℕ, List, get_or, inl, inr, Result, Ok, Err, IfErr}
+use Rattle.std.proofs.Common.{◌≡◌, ◌≢◌, ◌∙◌, sym, ap, refl, arith, rules, ℕ, ◌^◌, ◌<◌, ◌≤◌, Bool, List, get_or}
+use Rattle.std.proofs.Common.{inl, inr, pos, nat_lt, Result, Ok, Err, IfOk, IfErr, MatchResult}
 use Rattle.std.proofs.lemmas.Bool.{cases_lt}
 use Rattle.std.proofs.lemmas.List.Sorted.{searchable_from_sorted}
-use Rattle.std.specs.Cmp.{nat_cmp_is, nat_cmp_total}
+use Rattle.std.specs.Cmp.{nat_cmp_is, nat_cmp_total, ranks, ranked}
 use Rattle.std.specs.List.{All}
 use Rattle.std.specs.List.Sorted.{IsSortedByKey, IsBinarySearchResult}
-use Rattle.std.specs.Ordering.{nat_cmp}
-use Rattle.std.specs.declared.cmp.Ordering.TheVariants.{Equal}
-use Rattle.font_base.specs.Bytes.{numeral, signed_numeral}
+use Rattle.std.specs.Ordering.{nat_cmp, ordering_index, MatchOrdering}
+use Rattle.std.specs.declared.cmp.Ordering.{Ordering}
+use Rattle.std.specs.declared.cmp.Ordering.TheVariants.{Less, Equal, Greater}
+use Rattle.font_base.specs.Bytes.{numeral, signed_numeral, bytes_of}
+use Rattle.font_base.specs.Bytes.Laws.{unsigned_back}
+use Rattle.font_base.specs.Elements.{element, IsStored, StoresOne, Rises, Splits}
 use Rattle.font_base.specs.declared.uint24.Uint24.{Uint24}
 use Rattle.font_base.specs.Uint24.{uint24_number, bytes_of_uint24}
 use Rattle.font_base.specs.declared.int24.Int24.{Int24}
@@ -24,6 +28,22 @@ int24_of_stored n bytes stored =
 
 pub ruleset scalar_calls = (uint24_of_stored, int24_of_stored)
 
+-- a greater number is not answered less
+nat_cmp_rises : (x y key : ℕ) → x ≤ y → ordering_index (nat_cmp x key) ≤ ordering_index (nat_cmp y key)
+nat_cmp_rises x y key less = rise _ _ (ranks x key) (ranks y key)
+  where
+    rise : (r s : Ordering) → MatchOrdering r (x < key) (x ≡ key) (key < x)
+        → MatchOrdering s (y < key) (y ≡ key) (key < y) → ordering_index r ≤ ordering_index s
+    rise Less Less p q = omega arith
+    rise Less Equal p q = omega arith
+    rise Less Greater p q = omega arith
+    rise Equal Less p q = absurd (omega (arith, less, p, q))
+    rise Equal Equal p q = omega arith
+    rise Equal Greater p q = omega arith
+    rise Greater Less p q = absurd (omega (arith, less, p, q))
+    rise Greater Equal p q = absurd (omega (arith, less, p, q))
+    rise Greater Greater p q = omega arith
+
 -- where elements are in the order of their numbers, and a binary search answers no place, none has the number
 pub absent : {X : Type 0} (number_of : X → ℕ) (xs : List X) (n : ℕ) (result : Result ℕ ℕ)
     → IsSortedByKey number_of nat_cmp xs
@@ -37,3 +57,82 @@ absent number_of xs n (Err place) sorted searched =
       | inl before ↦ let less = sides.0 k d (omega arith) before in cc
       | inr behind ↦ let greater = sides.1 k d behind within in cc
     ]
+
+-- ---- searches in arrays
+
+module _ {V : Type 0} (is_scalar : V → Bool) (stored : V → List ℕ) (answer : V → Ordering) (at : ℕ → List ℕ)
+    (n : ℕ) where
+  -- what a search does not find is nowhere, where the answers do not fall along the array
+  pub nowhere : (i k : ℕ) (v : V) → Rises is_scalar stored answer at n → (Rises is_scalar stored answer at n
+      → Splits is_scalar stored answer at n i i) → k < n → IsStored is_scalar stored (at k) v → answer v ≢ Equal
+  nowhere i k v rises splits within is same = elim (cases_lt k i) [
+    | inl before ↦ let less = (splits rises).less k v before is in cc
+    | inr behind ↦ let greater = (splits rises).greater k v behind within is in cc
+  ]
+
+  -- the answers do not fall where numbers are compared that do not
+  pub rises_by : (number_of : V → ℕ) (key : ℕ) → ((v : V) → answer v ≡ nat_cmp (number_of v) key)
+      → ((i j : ℕ) (v w : V) → i ≤ j → j < n → IsStored is_scalar stored (at i) v → IsStored is_scalar stored (at j) w
+      → number_of v ≤ number_of w) → Rises is_scalar stored answer at n
+  rises_by number_of key compares sorted = record {
+    keeps = λ i j v w from within is_v is_w. rw (compares v, compares w)
+        (nat_cmp_rises (number_of v) (number_of w) key (sorted i j v w from within is_v is_w));
+  }
+
+-- the same of unsigned numbers of so many bytes, by their numerals
+module _ (size n key : ℕ) (at : ℕ → List ℕ) where
+  abbrev is_number : ℕ → Bool
+  is_number m = nat_lt m (256 ^ size)
+
+  abbrev number_bytes : ℕ → List ℕ
+  number_bytes m = bytes_of size (pos m)
+
+  numeral_stored : (i m : ℕ) → IsStored is_number number_bytes (at i) m → m ≡ numeral (at i)
+  numeral_stored i m is = sym (unsigned_back size m is.is_value) ∙ ap numeral is.bytes_are
+
+  pub numerals_rise : ((i j : ℕ) → i ≤ j → j < n → numeral (at i) ≤ numeral (at j))
+      → Rises is_number number_bytes (λ m. nat_cmp m key) at n
+  numerals_rise sorted = rises_by is_number number_bytes (λ m. nat_cmp m key) at n (λ m. m) key (λ m. refl)
+      (λ i j v w from within is_v is_w.
+      let less = sorted i j from within in
+      omega (arith, less, numeral_stored i v is_v, numeral_stored j w is_w))
+
+  pub number_found : (result : Result ℕ ℕ) → MatchResult result
+      (λ i. (i < n) × StoresOne is_number number_bytes (at i) (λ m. nat_cmp m key ≡ Equal))
+      (λ i. (i ≤ n) × (Rises is_number number_bytes (λ m. nat_cmp m key) at n
+      → Splits is_number number_bytes (λ m. nat_cmp m key) at n i i))
+      → IfOk result (λ i. (i < n) × (at i ≡ bytes_of size (pos key)))
+  number_found (Ok i) found =
+      (found.0, sym found.1.is_stored.bytes_are ∙ ap number_bytes (ranked found.1.value key Equal (sym found.1.holds)))
+  number_found (Err i) found = tt
+
+  pub number_absent : (result : Result ℕ ℕ) → key < 256 ^ size
+      → ((i j : ℕ) → i ≤ j → j < n → numeral (at i) ≤ numeral (at j)) → MatchResult result
+      (λ i. (i < n) × StoresOne is_number number_bytes (at i) (λ m. nat_cmp m key ≡ Equal))
+      (λ i. (i ≤ n) × (Rises is_number number_bytes (λ m. nat_cmp m key) at n
+      → Splits is_number number_bytes (λ m. nat_cmp m key) at n i i))
+      → IfErr result (λ _. (k : ℕ) → k < n → at k ≢ bytes_of size (pos key))
+  number_absent (Ok i) below sorted found = tt
+  number_absent (Err i) below sorted found = λ k within same.
+      nowhere is_number number_bytes (λ m. nat_cmp m key) at n i k key (numerals_rise sorted) found.1 within
+      (record { bytes_are = sym same; is_value = search (rules, below) }) (sym (nat_cmp_is key key Equal refl))
+
+-- a search in an array of 16-bit numbers, seen in the form that the goals of its callers have
+module _ (bytes : List ℕ) (n key : ℕ) (result : Result ℕ ℕ) where
+  abbrev IsSearchedWord : Type 0
+  IsSearchedWord = MatchResult result
+      (λ i. (i < n) × StoresOne (λ (m : ℕ). nat_lt m (2 ^ 16)) (λ m. bytes_of 2 (pos m)) (element 2 bytes i)
+      (λ m. nat_cmp m key ≡ Equal))
+      (λ i. (i ≤ n)
+      × (Rises (λ (m : ℕ). nat_lt m (2 ^ 16)) (λ m. bytes_of 2 (pos m)) (λ m. nat_cmp m key) (element 2 bytes) n
+      → Splits (λ (m : ℕ). nat_lt m (2 ^ 16)) (λ m. bytes_of 2 (pos m)) (λ m. nat_cmp m key) (element 2 bytes) n i i))
+
+  pub word_found : IsSearchedWord → IfOk result (λ i. (i < n) × (element 2 bytes i ≡ bytes_of 2 (pos key)))
+  word_found = number_found 2 n key (element 2 bytes) result
+
+  pub word_absent : key < 65536
+      → ((i j : ℕ) → i ≤ j → j < n → numeral (element 2 bytes i) ≤ numeral (element 2 bytes j))
+      → IsSearchedWord → IfErr result (λ _. (k : ℕ) → k < n → element 2 bytes k ≢ bytes_of 2 (pos key))
+  word_absent = number_absent 2 n key (element 2 bytes) result
+
+pub ruleset array_calls = (word_found, word_absent)

@@ -6,3 +6,6 @@ pub mod Scalar
 pub mod Uint24
 pub mod Int24
 pub mod TableData
+pub mod Elements
+pub mod Array
+pub mod Records

@@ -22,6 +22,12 @@ use std::marker::PhantomData;
 /// Fields are equal where their bytes are, and ordered as their values are.
 /// The second parameter is the array of bytes, and is never written:
 /// `BigEndian<u16>` holds `[u8; 2]`.
+///
+/// ```
+/// use font_types::{BigEndian, FWord};
+/// let field = BigEndian::<FWord>::from_slice(&[0xFF, 0xFE]).unwrap();
+/// assert_eq!(field.get(), FWord::new(-2));
+/// ```
 pub struct BigEndian<T: Scalar, R: BeByteArray = <T as Scalar>::Raw> {
     raw: R,
     scalar: PhantomData<T>,

@@ -10,7 +10,11 @@ use std::fmt;
 
 /// A signed integer of 24 bits, from -8388608 to 8388607.
 ///
-/// `Int24::new(-2).to_be_bytes()` is `[0xFF, 0xFF, 0xFE]`.
+/// ```
+/// use font_types::Int24;
+/// assert_eq!(Int24::new(-2).to_be_bytes(), [0xFF, 0xFF, 0xFE]);
+/// assert_eq!(Int24::checked_new(8388608), None);
+/// ```
 #[derive(Clone, Copy, PartialEq, Eq, PartialOrd, Ord, Hash)]
 pub struct Int24 {
     value: i32,

@@ -7,12 +7,14 @@
 //! ```
 #![tactic(auto)]
 
+mod array;
 mod big_endian;
 mod int24;
 mod raw;
 mod table_data;
 mod uint24;
 
+pub use array::{ScalarArray, ScalarArrayIter};
 pub use big_endian::BigEndian;
 pub use int24::Int24;
 pub use raw::{BeByteArray, FixedSize, IdentityEq, Scalar};

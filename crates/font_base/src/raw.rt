@@ -75,6 +75,11 @@ impl<const N: usize> BeByteArray for [u8; N] {
 }
 
 /// A type whose stored size is known.
+///
+/// ```
+/// use font_types::{FixedSize, Offset24};
+/// assert_eq!(Offset24::RAW_BYTE_LEN, 3);
+/// ```
 pub trait FixedSize: Sized {
     /// How many bytes a value takes in a font file.
     const RAW_BYTE_LEN: usize;
@@ -84,9 +89,14 @@ pub trait FixedSize: Sized {
 
 /// A value that is stored as a fixed number of big-endian bytes.
 ///
-/// An `impl` says which bytes a value has, and proves that the two determine each other. That is
-/// all that fields, headers and their laws ask of a type: `u16::read(&[0x01, 0x00])` is
-/// `Some(256)`.
+/// An `impl` says which bytes a value has. A value and its bytes determine each other: fields,
+/// headers and their laws ask nothing more of a type.
+///
+/// ```
+/// use font_types::Scalar;
+/// assert_eq!(u16::read(&[0x01, 0x00]), Some(256));
+/// assert_eq!(u16::read(&[0x01]), None);
+/// ```
 pub trait Scalar: FixedSize {
     /// The array of bytes.
     type Raw: BeByteArray;

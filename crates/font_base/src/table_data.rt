@@ -1,6 +1,6 @@
 //! Table data with a header of a fixed size at its start.
 
-ghost use Rattle.std.specs.Prelude.{◌≡◌, ⊤, ℕ, List, IsSome, IfSome, ◌↔◌, ◌≤◌, length, take};
+ghost use Rattle.std.specs.Prelude.{◌≡◌, ⊤, ℕ, List, IsSome, IfSome, ◌↔◌, ◌≤◌, length, take, drop};
 
 use crate::big_endian::BigEndian;
 use std::alloc::AllocError;
@@ -16,7 +16,7 @@ pub trait TableHeader: Sized {
     // that these bytes are the header's
     ghost decodes: { List ℕ → Self → Type 0 };
 
-    /// The header that stands in exactly `BYTE_LEN` bytes.
+    /// The header that stands in exactly `BYTE_LEN` bytes. With others it may panic.
     fn decode(bytes: &[u8]) -> Self
         requires { length bytes.now ≡ BYTE_LEN }
         ensures { decodes bytes.now result };
@@ -25,6 +25,12 @@ pub trait TableHeader: Sized {
 /// The bytes of a table whose start holds a header of type `H`.
 ///
 /// The length is checked once, where the reference is made.
+///
+/// ```
+/// use font_types::{SampleHeader, TableDataRef};
+/// let table = TableDataRef::<SampleHeader>::new(&[0, 1, 0, 0, 0, 2, 9]).unwrap();
+/// assert_eq!(table.header().b.get(), 2);
+/// ```
 pub struct TableDataRef<'a, H: TableHeader> {
     data: &'a [u8],
     header: PhantomData<H>,
@@ -60,6 +66,21 @@ impl<'a, H: TableHeader> TableDataRef<'a, H> {
         ensures { result.now ≡ table_bytes self.now }
     {
         self.data
+    }
+
+    /// The bytes behind the header.
+    pub fn rest(&self) -> &'a [u8]
+        ensures { result.now ≡ drop H.BYTE_LEN (table_bytes self.now) }
+    {
+        &self.data[H::BYTE_LEN..]
+    }
+
+    /// The header, and the bytes behind it.
+    pub fn split(&self) -> (H, &'a [u8])
+        ensures header { H.decodes (take H.BYTE_LEN (table_bytes self.now)) result.0 }
+        ensures rest { result.1.now ≡ drop H.BYTE_LEN (table_bytes self.now) }
+    {
+        (self.header(), self.rest())
     }
 }
 

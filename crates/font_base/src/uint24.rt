@@ -10,7 +10,11 @@ use thiserror::Error;
 
 /// An unsigned integer of 24 bits, from 0 to 16777215.
 ///
-/// `Uint24::new(5).to_be_bytes()` is `[0, 0, 5]`.
+/// ```
+/// use font_types::Uint24;
+/// assert_eq!(Uint24::new(5).to_be_bytes(), [0, 0, 5]);
+/// assert!(Uint24::try_from(16777216_usize).is_err());
+/// ```
 #[derive(Clone, Copy, PartialEq, Eq, PartialOrd, Ord, Hash)]
 pub struct Uint24 {
     value: u32,

@@ -54,7 +54,7 @@ fn hashed_by_each_byte(rt: HostRuntime) {
     let number = hashed([1, 2, 3, 4]);
     assert!(rt; hashed([1, 2, 3, 4]) == number);
     for &other in &[[0, 2, 3, 4], [1, 0, 3, 4], [1, 2, 0, 4], [1, 2, 3, 0]] {
-        assert!(rt; hashed(other) != number);
+        assert!(rt; hashed(other) != number, "{other:?}");
     }
 }
 
@@ -65,7 +65,10 @@ fn printed_by_value(rt: HostRuntime) -> Result<(), Fail> {
     assert!(rt; text.as_str() == "-5 Int24(-5)");
     for &(first, text) in &[(0x00, "2"), (0x01, "258"), (0x7F, "32514"), (0x80, "32770")] {
         let field = BigEndian::<u16>::new([first, 2]);
-        assert!(rt; format!(in rt.alloc(); "{field:?}")?.as_str() == text);
+        assert!(rt;
+            format!(in rt.alloc(); "{field:?}")?.as_str() == text,
+            "{text}"
+        );
     }
     Ok(())
 }
@@ -76,6 +79,21 @@ fn header_in_front_of_a_table(rt: HostRuntime) -> Result<(), Fail> {
     let table = TableDataRef::<SampleHeader>::new(&bytes).ok_or("long enough")?;
     let header = table.clone()?.header();
     assert!(rt; header.a.get() == 1 && header.b.get() == 2 && table.data().len() == 7);
+    Ok(())
+}
+
+#[test]
+fn table_split_behind_its_header(rt: HostRuntime) -> Result<(), Fail> {
+    let bytes = [0x00, 0x01, 0x00, 0x00, 0x00, 0x02, 0xFF, 0xFE];
+    for len in 6..9 {
+        let table = TableDataRef::<SampleHeader>::new(&bytes[..len]).ok_or("long enough")?;
+        let (header, rest) = table.split();
+        assert!(rt;
+            rest == &bytes[6..len] && rest == table.rest(),
+            "{len} bytes"
+        );
+        assert!(rt; header.a.get() == 1 && header.b.get() == 2, "{len} bytes");
+    }
     Ok(())
 }
 

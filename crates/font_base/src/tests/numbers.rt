@@ -13,8 +13,11 @@ fn signed_bytes_of_24_bits(rt: HostRuntime) {
         (8388607, [0x7F, 0xFF, 0xFF]),
         (-8388608, [0x80, 0x00, 0x00]),
     ] {
-        assert!(rt; Int24::new(number).to_be_bytes() == bytes);
-        assert!(rt; Int24::from_be_bytes(bytes).to_i32() == number);
+        let read = Int24::from_be_bytes(bytes).to_i32();
+        assert!(rt;
+            Int24::new(number).to_be_bytes() == bytes && read == number,
+            "{number}"
+        );
     }
 }
 
@@ -26,8 +29,11 @@ fn signed_bytes_of_many_numbers(rt: HostRuntime) {
             let bytes = [high, middle, high ^ middle];
             let sign = if high < 0x80 { 0 } else { 0xFF };
             let number = i32::from_be_bytes([sign, high, middle, high ^ middle]);
-            assert!(rt; Int24::new(number).to_be_bytes() == bytes);
-            assert!(rt; Int24::from_be_bytes(bytes).to_i32() == number);
+            let read = Int24::from_be_bytes(bytes).to_i32();
+            assert!(rt;
+                Int24::new(number).to_be_bytes() == bytes && read == number,
+                "{number}"
+            );
         }
     }
 }
@@ -39,8 +45,11 @@ fn unsigned_bytes_of_24_bits(rt: HostRuntime) {
         (16777215, [0xFF, 0xFF, 0xFF]),
         (0, [0x00, 0x00, 0x00]),
     ] {
-        assert!(rt; Uint24::new(number).to_be_bytes() == bytes);
-        assert!(rt; Uint24::from_be_bytes(bytes).to_u32() == number);
+        let read = Uint24::from_be_bytes(bytes).to_u32();
+        assert!(rt;
+            Uint24::new(number).to_be_bytes() == bytes && read == number,
+            "{number}"
+        );
     }
 }
 
@@ -84,7 +93,7 @@ fn text_of_24_bits(rt: HostRuntime) -> Result<(), Fail> {
     ] {
         let (unsigned, signed) = (Uint24::new(unsigned), Int24::new(number));
         let shown = format!(in rt.alloc(); "{unsigned} {unsigned:?}, {signed} {signed:?}")?;
-        assert!(rt; shown.as_str() == text);
+        assert!(rt; shown.as_str() == text, "{text}");
     }
     Ok(())
 }

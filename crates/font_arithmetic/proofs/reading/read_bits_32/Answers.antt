@@ -10,4 +10,4 @@ pub returns : goal.returns
 returns c =
     reads_by w32 c.args.f (λ b. b) (λ b. b) c.args.text.now _ (λ _. refl) (lit≤ tt)
     (cast_reads w32 _ _ c.in_ok-bits.bits _ _ (lit≤ tt) (rw c.from.ensures) (rw c.from-2.ensures)
-    c.in_ok-bits.ensures.reading)
+    c.in_ok-bits.ensures)

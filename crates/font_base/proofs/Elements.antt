@@ -1,0 +1,159 @@
+-- What an array of elements is made of, and where a search in it ends.
+use Rattle.std.proofs.Common.{◌≡◌, ◌∙◌, sym, ap, refl, subst, ℕ, zero, suc, ◌+◌, ◌-◌, ◌*◌, ◌/◌, ◌%◌, ◌<◌, ◌≤◌, Bool}
+use Rattle.std.proofs.Common.{List, [], ◌∷◌, ◌++◌, length, take, drop, arith, inl, inr}
+use Rattle.std.proofs.Math.Nat.{div-zero, div-eq-sub-div, div-eq_of_lt, div-mul-le_self, mul-div_cancel, mul-mod_left}
+use Rattle.std.proofs.Math.Nat.{mod-eq-sub-div-mul, add-mul}
+use Rattle.std.proofs.lemmas.Bool.{cases_lt}
+use Rattle.std.proofs.lemmas.List.{length-drop, length-take-le, drop-drop, drop-take, take-take, take_all}
+use Rattle.std.specs.Ordering.{ordering_index}
+use Rattle.std.specs.declared.cmp.Ordering.{Ordering}
+use Rattle.std.specs.declared.cmp.Ordering.TheVariants.{Less, Equal, Greater}
+use Rattle.font_base.specs.Elements.{element, elements, IsStored, Rises, Splits}
+
+pub length-elements : (size n : ℕ) (bytes : List ℕ) → length (elements size n bytes) ≡ n
+length-elements size zero bytes = refl
+length-elements size (suc n) bytes = ap suc (length-elements size n (drop size bytes))
+
+-- where there is an element, its size is not 0, and the bytes are as many at least
+sized : (size len : ℕ) → 0 < len / size → 0 < size
+sized zero len some = let none = div-zero len in omega arith
+sized (suc size) len some = omega arith
+
+pub one_fits : (size len : ℕ) → 0 < len / size → size ≤ len
+one_fits size len some = elim (cases_lt len size) [
+  | inl short ↦ let none : len / size ≡ 0 = div-eq_of_lt short in omega arith
+  | inr long ↦ omega arith
+]
+
+-- one element fewer behind the first
+pub one_less : (size len : ℕ) → 0 < len / size → len / size ≡ (len - size) / size + 1
+one_less size len some = div-eq-sub-div (sized size len some) (one_fits size len some)
+
+one_more : (size n : ℕ) (bytes : List ℕ)
+    → elements size (n + 1) bytes ≡ take size bytes ∷ elements size n (drop size bytes)
+one_more size n bytes = let next : n + 1 ≡ suc n = omega arith in ap (λ m. elements size m bytes) next
+
+pub first_and_others : (size : ℕ) (bytes : List ℕ) → 0 < length bytes / size
+    → elements size (length bytes / size) bytes
+    ≡ take size bytes ∷ elements size (length (drop size bytes) / size) (drop size bytes)
+first_and_others size bytes some =
+    ap (λ n. elements size n bytes) (one_less size (length bytes) some)
+    ∙ one_more size ((length bytes - size) / size) bytes
+    ∙ ap (λ n. take size bytes ∷ elements size (n / size) (drop size bytes)) (sym (length-drop size bytes))
+
+-- no element: no bytes are left to show
+pub none_left : (size : ℕ) (bytes : List ℕ) → length bytes / size ≡ 0 → elements size (length bytes / size) bytes ≡ []
+none_left size bytes none = rw none refl
+
+-- ---- from the back
+
+next_times : (n size : ℕ) → size + n * size ≡ suc n * size
+next_times n size =
+    let next : suc n ≡ n + 1 = omega arith in omega (arith, ap (λ k. k * size) next, add-mul n 1 size)
+
+-- the last element behind the others
+others_and_last : (size n : ℕ) (bytes : List ℕ)
+    → elements size (suc n) bytes ≡ elements size n bytes ++ element size bytes n ∷ []
+others_and_last size zero bytes =
+    let none : 0 ≡ 0 * size = omega arith in ap (λ k. take size (drop k bytes) ∷ []) none
+others_and_last size (suc n) bytes =
+    ap (λ xs. take size bytes ∷ xs) (others_and_last size n (drop size bytes)
+    ∙ ap (λ rest. elements size n (drop size bytes) ++ take size rest ∷ []) (drop-drop (n * size) size bytes
+    ∙ ap (λ k. drop k bytes) (next_times n size)))
+
+-- the bytes behind so many elements do not count
+elements-take : (size n : ℕ) (bytes : List ℕ) → elements size n (take (n * size) bytes) ≡ elements size n bytes
+elements-take size zero bytes = refl
+elements-take size (suc n) bytes =
+    ap (λ k. elements size (suc n) (take k bytes)) (sym (next_times n size))
+    ∙ ap (λ xs. xs ∷ elements size n (drop size (take (size + n * size) bytes)))
+    (take-take size (size + n * size) bytes (omega arith))
+    ∙ ap (λ xs. take size bytes ∷ xs) (ap (elements size n) (drop-take size (n * size) bytes)
+    ∙ elements-take size n (drop size bytes))
+
+-- what is an array of n + 1 elements has their bytes, and no others
+whole_bytes : (size m : ℕ) (bytes : List ℕ) → length bytes % size ≡ 0 → length bytes / size ≡ m + 1
+    → length bytes ≡ m * size + size
+whole_bytes size m bytes whole many =
+    let rest = mod-eq-sub-div-mul (length bytes) size in
+    let less = div-mul-le_self (length bytes) size in
+    let product = ap (λ n. n * size) many in
+    omega (arith, rest, less, product, add-mul m 1 size)
+
+-- its front part is an array of n
+pub front_length : (size m : ℕ) (bytes : List ℕ) → length bytes % size ≡ 0 → length bytes / size ≡ m + 1
+    → length (take (m * size) bytes) ≡ m * size
+front_length size m bytes whole many = let all = whole_bytes size m bytes whole many in
+    length-take-le (m * size) bytes (omega arith)
+
+pub front_whole : (size m : ℕ) (bytes : List ℕ) → length bytes % size ≡ 0 → length bytes / size ≡ m + 1
+    → length (take (m * size) bytes) % size ≡ 0
+front_whole size m bytes whole many = rw (front_length size m bytes whole many) (mul-mod_left m size)
+
+pub front_many : (size m : ℕ) (bytes : List ℕ) → length bytes % size ≡ 0 → length bytes / size ≡ m + 1
+    → length (take (m * size) bytes) / size ≡ m
+front_many size m bytes whole many = rw (front_length size m bytes whole many)
+    (mul-div_cancel m (sized size (length bytes) (omega arith)))
+
+-- and behind it the last element is left
+pub last_length : (size m : ℕ) (bytes : List ℕ) → length bytes % size ≡ 0 → length bytes / size ≡ m + 1
+    → length (drop (m * size) bytes) ≡ size
+last_length size m bytes whole many = let all = whole_bytes size m bytes whole many in
+    length-drop (m * size) bytes ∙ omega arith
+
+pub last_and_others : (size m : ℕ) (bytes : List ℕ) → length bytes % size ≡ 0 → length bytes / size ≡ m + 1
+    → elements size (length bytes / size) bytes
+    ≡ elements size (length (take (m * size) bytes) / size) (take (m * size) bytes) ++ drop (m * size) bytes ∷ []
+last_and_others size m bytes whole many =
+    let next : m + 1 ≡ suc m = omega arith in
+    let last = take_all size (drop (m * size) bytes) (omega (arith, last_length size m bytes whole many)) in
+    ap (λ n. elements size n bytes) (many ∙ next) ∙ others_and_last size m bytes
+    ∙ rw (last, front_many size m bytes whole many, elements-take size m bytes) refl
+
+pub ruleset element_rules = (length-elements, one_fits, one_less, first_and_others, none_left)
+
+pub ruleset back_rules = (length-elements, front_whole, front_many, last_length, last_and_others, none_left)
+
+-- ---- searches
+
+low_less : (o : Ordering) → ordering_index o ≤ ordering_index Less → o ≡ Less
+low_less Less low = refl
+low_less Equal low = absurd (omega arith)
+low_less Greater low = absurd (omega arith)
+
+high_greater : (o : Ordering) → ordering_index Greater ≤ ordering_index o → o ≡ Greater
+high_greater Less high = absurd (omega arith)
+high_greater Equal high = absurd (omega arith)
+high_greater Greater high = refl
+
+module _ {V : Type 0} (is_scalar : V → Bool) (stored : V → List ℕ) (answer : V → Ordering) (at : ℕ → List ℕ)
+    (n : ℕ) where
+  -- at first nothing is known
+  pub splits_nowhere : Splits is_scalar stored answer at n 0 n
+  splits_nowhere = record {
+    less = λ k v before _. absurd (omega arith);
+    greater = λ k v from within _. absurd (omega arith);
+  }
+
+  -- an element that is less has all in front of it less
+  pub splits_behind : (low high middle : ℕ) (w : V) → middle < n → IsStored is_scalar stored (at middle) w
+      → answer w ≡ Less → Rises is_scalar stored answer at n → Splits is_scalar stored answer at n low high
+      → Splits is_scalar stored answer at n (middle + 1) high
+  splits_behind low high middle w within is less rises place = record {
+    less = λ k v before stored_v. low_less (answer v) (subst (λ o. ordering_index (answer v) ≤ ordering_index o) less
+        (rises.keeps k middle v w (omega arith) within stored_v is));
+    greater = place.greater;
+  }
+
+  -- and one that is greater has all behind it greater
+  pub splits_before : (low high middle : ℕ) (w : V) → middle < n → IsStored is_scalar stored (at middle) w
+      → answer w ≡ Greater → Rises is_scalar stored answer at n → Splits is_scalar stored answer at n low high
+      → Splits is_scalar stored answer at n low middle
+  splits_before low high middle w within is greater rises place = record {
+    less = place.less;
+    greater = λ k v from inside stored_v. high_greater (answer v)
+        (subst (λ o. ordering_index o ≤ ordering_index (answer v)) greater
+        (rises.keeps middle k w v from inside is stored_v));
+  }
+
+pub ruleset search_rules = (splits_nowhere, splits_behind, splits_before)

@@ -1,0 +1,255 @@
+//! Arrays of scalars over the bytes of a table.
+
+ghost use Rattle.std.specs.Prelude.{◌≡◌, ⊤, ◌↔◌, ◌*◌, ◌%◌, ◌<◌, IsTrue, IsSome, IfSome, length};
+ghost use Rattle.std.specs.Iterator.{YieldsFirstBy, YieldsLastBy, item_count};
+ghost use Rattle.font_base.specs.Scalar.{IsValueOf};
+
+use crate::raw::Scalar;
+use std::alloc::AllocError;
+use std::cmp::Ordering;
+use std::iter::FusedIterator;
+use std::marker::PhantomData;
+
+/// An array of scalars over its bytes, one element behind the other.
+///
+/// The length is checked once, where the view is made; an element is decoded where it is asked for.
+/// A record of one's own that is a [`Scalar`] can be an element too.
+///
+/// ```
+/// use font_types::ScalarArray;
+/// let ends = ScalarArray::<u16>::new(&[0x00, 0x5A, 0x00, 0x7A, 0xFF, 0xFF]).unwrap();
+/// assert_eq!((ends.len(), ends.get(1)), (3, Some(0x7A)));
+/// assert_eq!(ends.binary_search(&0x60), Err(1));
+/// assert_eq!(ends.iter().next_back(), Some(0xFFFF));
+/// assert!(ScalarArray::<u16>::new(&[0x00]).is_none());
+/// ```
+pub struct ScalarArray<'a, T: Scalar> {
+    data: &'a [u8],
+    scalar: PhantomData<T>,
+    ghost whole: { length «data».now % T.RAW_BYTE_LEN ≡ 0 },
+}
+
+impl<'a, T: Scalar> ScalarArray<'a, T> {
+    ghost use Rattle.font_base.specs.Array.{array_bytes, array_len, element_bytes};
+    ghost use Rattle.font_base.specs.Array.{array_elements, elements_left, IsSearched};
+
+    /// The array in these bytes, or `None` where their number is no multiple of `RAW_BYTE_LEN`.
+    ///
+    /// Where `RAW_BYTE_LEN` is 0, only the empty bytes are an array, and it is empty.
+    pub fn new(data: &'a [u8]) -> Option<ScalarArray<'a, T>>
+        ensures whole { IsSome result ↔ (length «data».now % T.RAW_BYTE_LEN ≡ 0) }
+        ensures bytes { IfSome result (λ array. array_bytes array ≡ «data».now) }
+    {
+        // A remainder by 0 is the number itself.
+        let left = data
+            .len()
+            .checked_rem(T::RAW_BYTE_LEN)
+            .unwrap_or(data.len());
+        if left != 0 {
+            return None;
+        }
+        Some(ScalarArray {
+            data,
+            scalar: PhantomData,
+        })
+    }
+
+    /// How many elements there are.
+    pub fn len(&self) -> usize
+        ensures value { result ≡ array_len self.now }
+        ensures bytes { result * T.RAW_BYTE_LEN ≡ length (array_bytes self.now) }
+    {
+        self.data.len().checked_div(T::RAW_BYTE_LEN).unwrap_or(0)
+    }
+
+    /// Whether there is no element.
+    pub fn is_empty(&self) -> bool
+        ensures { IsTrue result ↔ (array_len self.now ≡ 0) }
+    {
+        self.len() == 0
+    }
+
+    /// All the bytes.
+    pub fn as_bytes(&self) -> &'a [u8]
+        ensures { result.now ≡ array_bytes self.now }
+    {
+        self.data
+    }
+
+    /// The element of that index, the first has 0, or `None` behind the end.
+    pub fn get(&self, index: usize) -> Option<T>
+        ensures end { IsSome result ↔ (index < array_len self.now) }
+        ensures stored { IfSome result (λ v.
+            T.Raw.bytes (T.raw_of v) ≡ element_bytes self.now index) }
+        ensures reads { IfSome result (λ v.
+            IsValueOf T.Raw.bytes T.of_raw (element_bytes self.now index) v) }
+        ensures value { IfSome result (λ v. IsTrue (T.is_scalar v)) }
+    {
+        if index >= self.len() {
+            return None;
+        }
+        let start = index * T::RAW_BYTE_LEN;
+        T::read(&self.data[start..start + T::RAW_BYTE_LEN])
+    }
+
+    /// The elements, first to last, and from the back.
+    pub fn iter(&self) -> ScalarArrayIter<'a, T>
+        ensures { elements_left result ≡ array_elements self.now }
+    {
+        ScalarArrayIter { rest: *self }
+    }
+}
+
+impl<'a, T: Scalar> Clone for ScalarArray<'a, T> {
+    ghost use Rattle.font_base.specs.Array.{array_bytes};
+
+    ghost is_clone = { λ array copy. array_bytes copy ≡ array_bytes array };
+
+    ghost is_infallible = { λ _. ⊤ };
+
+    fn clone(&self) -> Result<ScalarArray<'a, T>, AllocError> {
+        Ok(ScalarArray {
+            data: self.data,
+            scalar: PhantomData,
+        })
+    }
+}
+
+impl<'a, T: Scalar> Copy for ScalarArray<'a, T> {}
+
+impl<'a, T: Scalar> ScalarArray<'a, T> {
+    ghost use Rattle.font_base.specs.Array.{IsSearched};
+
+    /// Where an element of that key stands, in an array that is sorted by it; where there are
+    /// several, any of them.
+    ///
+    /// # Errors
+    ///
+    /// The index at which one could be put in, where there is none.
+    #[tactic(auto, using(crate::proofs::Elements::search_rules))]
+    pub fn binary_search_by_key<K: Ord + Copy, F: Fn(T) -> K>(
+        &self,
+        key: &K,
+        key_of: F,
+    ) -> Result<usize, usize>
+        requires { F.IsAlwaysCallable key_of }
+        ensures { (of : T → K) → ((v : T) (k : K) → F.post key_of v k → k ≡ of v)
+            → IsSearched self.now (λ v. K.cmp (of v) key.now) result }
+    {
+        let mut low = 0;
+        let mut high = self.len();
+        while low < high {
+            let middle = low + (high - low) / 2;
+            let Some(value) = self.get(middle) else {
+                return Err(low);
+            };
+            match key_of(value).cmp(key) {
+                Ordering::Less => low = middle + 1,
+                Ordering::Greater => high = middle,
+                Ordering::Equal => return Ok(middle),
+            }
+        }
+        Err(low)
+    }
+
+    /// Where an element equal to the key stands, in an array that is sorted; where there are
+    /// several, any of them.
+    ///
+    /// # Errors
+    ///
+    /// The index at which the key could be put in, where there is none.
+    pub fn binary_search(&self, key: &T) -> Result<usize, usize>
+    where
+        T: Ord + Copy,
+        ensures { IsSearched self.now (λ v. T.cmp v key.now) result }
+    {
+        self.binary_search_by_key(key, |value| value)
+    }
+}
+
+/// Goes over the elements of an array, first to last or from the back.
+#[derive(Drop)]
+pub struct ScalarArrayIter<'a, T: Scalar> {
+    rest: ScalarArray<'a, T>,
+}
+
+impl<'a, T: Scalar> Iterator for ScalarArrayIter<'a, T> {
+    ghost use Rattle.font_base.specs.Array.{elements_left};
+
+    type Item = T;
+
+    ghost next_gives = { YieldsFirstBy (λ v. T.Raw.bytes (T.raw_of v)) elements_left };
+
+    ghost remaining = { item_count elements_left };
+
+    #[tactic(auto, using(crate::proofs::Elements::element_rules))]
+    fn next(&mut self) -> Option<T> {
+        if self.rest.is_empty() {
+            return None;
+        }
+        let (first, others) = self.rest.data.split_at(T::RAW_BYTE_LEN);
+        self.rest = ScalarArray {
+            data: others,
+            scalar: PhantomData,
+        };
+        T::read(first)
+    }
+
+    #[tactic(auto, using(crate::proofs::Elements::element_rules))]
+    fn size_hint(&self) -> (usize, Option<usize>) {
+        let left = self.rest.len();
+        (left, Some(left))
+    }
+}
+
+impl<'a, T: Scalar> DoubleEndedIterator for ScalarArrayIter<'a, T> {
+    ghost use Rattle.font_base.specs.Array.{elements_left};
+
+    ghost next_back_gives = { YieldsLastBy (λ v. T.Raw.bytes (T.raw_of v)) elements_left };
+
+    #[tactic(auto, using(crate::proofs::Elements::back_rules))]
+    fn next_back(&mut self) -> Option<T> {
+        let front = self.rest.len().checked_sub(1)?;
+        let (others, last) = self.rest.data.split_at(front * T::RAW_BYTE_LEN);
+        self.rest = ScalarArray {
+            data: others,
+            scalar: PhantomData,
+        };
+        T::read(last)
+    }
+}
+
+impl<'a, T: Scalar> ExactSizeIterator for ScalarArrayIter<'a, T> {
+    #[tactic(auto, using(crate::proofs::Elements::element_rules))]
+    fn len(&self) -> usize {
+        self.rest.len()
+    }
+}
+
+impl<'a, T: Scalar> FusedIterator for ScalarArrayIter<'a, T> {}
+
+impl<'a, T: Scalar> Clone for ScalarArrayIter<'a, T> {
+    ghost use Rattle.font_base.specs.Array.{elements_left};
+
+    ghost is_clone = { λ iter copy. elements_left copy ≡ elements_left iter };
+
+    ghost is_infallible = { λ _. ⊤ };
+
+    fn clone(&self) -> Result<ScalarArrayIter<'a, T>, AllocError> {
+        Ok(ScalarArrayIter { rest: self.rest })
+    }
+}
+
+impl<'a, T: Scalar> IntoIterator for ScalarArray<'a, T> {
+    ghost use Rattle.font_base.specs.Array.{array_elements, elements_left};
+
+    type Item = T;
+
+    type IntoIter = ScalarArrayIter<'a, T>;
+
+    ghost into_iter_gives = { λ array iter. elements_left iter ≡ array_elements array };
+
+    fn into_iter(self) -> ScalarArrayIter<'a, T> {
+        self.iter()
+    }
+}

@@ -1,0 +1,92 @@
+//! Arrays of scalars over bytes.
+
+use crate::{Int24, ScalarArray};
+use std::test::Fail;
+
+#[test]
+fn wants_a_multiple_of_the_size(rt: HostRuntime) {
+    let bytes = [0; 7];
+    for &(len, count) in &[
+        (0, Some(0)),
+        (2, None),
+        (3, Some(1)),
+        (4, None),
+        (6, Some(2)),
+        (7, None),
+    ] {
+        let array = ScalarArray::<Int24>::new(&bytes[..len]);
+        let found = array.map(|array| array.len());
+        assert!(rt; found == count, "{len} bytes");
+    }
+}
+
+#[test]
+fn empty_without_elements(rt: HostRuntime) -> Result<(), Fail> {
+    let none = ScalarArray::<u16>::new(&[]).ok_or("no bytes")?;
+    let one = ScalarArray::<u16>::new(&[0, 7]).ok_or("two bytes")?;
+    assert!(rt; none.is_empty() && !one.is_empty() && one.as_bytes() == [0, 7].as_slice());
+    Ok(())
+}
+
+#[test]
+fn element_of_an_index(rt: HostRuntime) -> Result<(), Fail> {
+    let array = ScalarArray::<i16>::new(&[0, 1, 0xFF, 0xFE, 0x80, 0]).ok_or("six bytes")?;
+    for &(index, value) in &[
+        (0, Some(1)),
+        (1, Some(-2)),
+        (2, Some(-32768)),
+        (3, None),
+        (usize::MAX, None),
+    ] {
+        assert!(rt; array.get(index) == value, "{index}");
+    }
+    Ok(())
+}
+
+#[test]
+fn walks_both_ways(rt: HostRuntime) -> Result<(), Fail> {
+    let array = ScalarArray::<u16>::new(&[0, 1, 0, 2, 0, 3]).ok_or("six bytes")?;
+    let mut iter = array.iter();
+    assert!(rt; iter.len() == 3 && iter.size_hint() == (3, Some(3)));
+    assert!(rt; [iter.next_back(), iter.next(), iter.next_back()] == [Some(3), Some(1), Some(2)]);
+    assert!(rt; iter.len() == 0 && iter.next().is_none() && iter.next_back().is_none());
+    let mut sum = 0u32;
+    for number in array {
+        sum = sum.wrapping_mul(10).wrapping_add(u32::from(number));
+    }
+    assert!(rt; sum == 123);
+    Ok(())
+}
+
+#[test]
+fn finds_by_binary_search(rt: HostRuntime) -> Result<(), Fail> {
+    let array = ScalarArray::<u16>::new(&[0, 12, 0, 25, 0, 31, 1, 0]).ok_or("eight bytes")?;
+    let found = [(12, 0), (25, 1), (31, 2), (256, 3)];
+    for &(key, place) in &found {
+        assert!(rt; array.binary_search(&key) == Ok(place), "{key}");
+    }
+    let absent = [(11, 0), (13, 1), (26, 2), (32, 3), (257, 4)];
+    for &(key, place) in &absent {
+        assert!(rt; array.binary_search(&key) == Err(place), "{key}");
+    }
+    Ok(())
+}
+
+#[test]
+fn finds_by_a_key(rt: HostRuntime) -> Result<(), Fail> {
+    let array = ScalarArray::<u16>::new(&[0, 12, 0, 25, 0, 31, 1, 0]).ok_or("eight bytes")?;
+    let rows = [
+        (1, Ok(0)),
+        (2, Ok(1)),
+        (3, Ok(2)),
+        (25, Ok(3)),
+        (0, Err(0)),
+        (4, Err(3)),
+        (26, Err(4)),
+    ];
+    for &(key, place) in &rows {
+        let found = array.binary_search_by_key(&key, |number| number / 10);
+        assert!(rt; found == place, "{key} tens");
+    }
+    Ok(())
+}
