@@ -10,5 +10,4 @@ mod Rounding
 mod Parts
 mod Fewest
 mod Remainder
-pub mod Written
 mod Rows

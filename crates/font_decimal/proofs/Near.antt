@@ -103,8 +103,8 @@ pub near_gives : (n : ℤ) (d : ℕ) (q : ℤ) → 0 < d → Near n d q → q �
 near_gives n d q h x = near_unique n d q (near n d) h x (near_is n d h)
 
 -- the same for the rule that rounds ties up
-up_at_most : {n : ℤ} {d : ℕ} {q r : ℤ} → Up n d q → Up n d r → q ≤ℤ r
-up_at_most {d = d} {q = q} {r = r} x y = by_lt_z r q
+pub up_monotone : {n m : ℤ} {d : ℕ} {q r : ℤ} → Up n d q → Up m d r → n ≤ℤ m → q ≤ℤ r
+up_monotone {d = d} {q = q} {r = r} x y order = by_lt_z r q
     (λ more. absurd (omega (arith, ints, times_monotone (r +ℤ pos 1) q d (omega (arith, ints)))))
     (λ less. less)
 
@@ -119,4 +119,13 @@ up_is (negsuc n) d h =
     }
 
 pub up_gives : (n : ℤ) (d : ℕ) (q : ℤ) → 0 < d → Up n d q → q ≡ up n d
-up_gives n d q h x = omega (arith, ints, up_at_most x (up_is n d h), up_at_most (up_is n d h) x)
+up_gives n d q h x =
+    let same : n ≤ℤ n = omega (arith, ints) in
+    omega (arith, ints, up_monotone x (up_is n d h) same, up_monotone (up_is n d h) x same)
+
+-- a whole number is its own
+pub up_whole : (z : ℤ) (d : ℕ) → 0 < d → Up (z *ℤ pos d) d z
+up_whole z d h = record { low = omega (arith, ints); high = rw (times-next z d) (omega (arith, ints)) }
+
+pub up-times : (z : ℤ) (d : ℕ) → 0 < d → up (z *ℤ pos d) d ≡ z
+up-times z d h = sym (up_gives (z *ℤ pos d) d z h (up_whole z d h))

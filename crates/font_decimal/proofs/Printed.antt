@@ -1,28 +1,210 @@
--- What callers rely on of printed texts.
-use Rattle.std.proofs.Common.{◌≡◌, ◌≢◌, ℕ, zero, suc, ◌+◌, ◌*◌, ◌/◌, ◌%◌, ◌^◌, ◌<◌, ◌≤◌, Bool, true, false, List, []}
-use Rattle.std.proofs.Common.{◌∷◌, ◌++◌, length, get_or, ℤ, refl, arith, append_assoc, length-append, ◌≤ℤ◌}
-use Rattle.std.proofs.Common.{unsigned_abs, Result, Ok, append-nil}
-use Rattle.std.specs.Int.{is_negative}
-use Rattle.std.specs.Fmt.{sign_text}
-use Rattle.std.specs.Str.Parse.{AllDigits}
-use Rattle.std.proofs.Math.Nat.{pow-suc, div-div-eq-div-mul, div-one, lt_of_mul-lt-mul_right, lt_of_le_of_lt}
+-- The text of the shortest decimal is what it says: plain, nearest, read back, with the fewest places, and at most 22
+-- bytes long. And what callers rely on of printed texts.
+use Rattle.std.proofs.Common.{◌≡◌, ℕ, zero, suc, ◌+◌, ◌-◌, ◌*◌, ◌/◌, ◌%◌, ◌^◌, ◌<◌, ◌≤◌, inl, inr, Bool, true≢false, []}
+use Rattle.std.proofs.Common.{◌∷◌, ◌++◌, length, get_or, ℤ, pos, negsuc, refl, sym, ap, subst, ◌∙◌, arith, add-one}
+use Rattle.std.proofs.Common.{◌*ℤ◌, ◌<ℤ◌, ◌↔◌, IsTrue, unsigned_abs, le-ltb, pow_pos, pow-add, append-nil, ◌≢◌, true}
+use Rattle.std.proofs.Common.{false, List, append_assoc, length-append, ◌≤ℤ◌, Result, Ok}
+use Rattle.std.specs.Int.{is_negative, abs_diff}
+use Rattle.std.specs.Fmt.{decimal, sign_text}
+use Rattle.std.specs.Str.Parse.{digits_value, AllDigits}
+use Rattle.std.specs.Char.{digit_value}
+use Rattle.std.proofs.Math.Nat.{mul-le-mul_right, pow-suc, div-div-eq-div-mul, div-mul-le_self, div-add-mod'}
+use Rattle.std.proofs.Math.Nat.{le-mul_of_pos_right, mul-le-mul_left, pow-le-pow_right, lt_of_mul-lt-mul_right}
+use Rattle.std.proofs.Math.Nat.{add-mul-div_left, add-mul-mod_self_right, div-one, lt_of_le_of_lt}
+use Rattle.std.proofs.lemmas.Bool.{cases_lt}
 use Rattle.std.proofs.lemmas.Int.{ints}
-use Rattle.std.proofs.lemmas.List.{same_from_push}
-use Rattle.std.proofs.lemmas.Fmt.{decimal_is_IsNumeral, length-decimal-le}
-use Rattle.std.proofs.lemmas.Str.Parse.{digit_from_value}
-use Rattle.font_decimal.specs.Grammar.{HasParts, IsDecimal, fraction_text}
-use Rattle.font_decimal.specs.Reading.{Rounds, IsReading}
-use Rattle.font_decimal.specs.Padding.{unsigned_body}
+use Rattle.std.proofs.lemmas.Nat.{div-mul-add}
+use Rattle.std.proofs.lemmas.Str.{digit_value_digit}
+use Rattle.std.proofs.lemmas.Fmt.{decimal_is_IsNumeral, decimal_digit, first_decimal, length-decimal-le}
+use Rattle.font_decimal.specs.Near.{signed, Near}
+use Rattle.font_decimal.specs.Grammar.{fraction_text, Decimal, HasParts, IsDecimal}
 use Rattle.font_decimal.specs.Shortest.{IsShortest, nearest_numeral, fewest_places, last_digits, decimal_text}
 use Rattle.font_decimal.specs.Shortest.{shortest_text}
+use Rattle.font_decimal.proofs.Near.{near_from, sign_and_magnitude, signed_times}
+use Rattle.font_decimal.proofs.Digits.{after_is, digits_value-append}
+use Rattle.font_decimal.proofs.Readings.{ten_pos, rounds_unique, reading_unique}
+use Rattle.font_decimal.proofs.Fewest.{fewest_is, within_half, none_fewer, unit_is_below, rounded_at, IsFewest}
+use Rattle.font_decimal.proofs.Fewest.{zero_drops}
+use Rattle.std.proofs.lemmas.List.{same_from_push}
+use Rattle.std.proofs.lemmas.Str.Parse.{digit_from_value}
+use Rattle.font_decimal.specs.Reading.{Rounds, IsReading}
+use Rattle.font_decimal.specs.Padding.{unsigned_body}
 use Rattle.font_decimal.specs.declared.reader.DecimalFault.{DecimalFault}
 use Rattle.font_decimal.proofs.Texts.{same_parts, decimal_unique, decimal_of}
-use Rattle.font_decimal.proofs.Readings.{rounds_unique, reading_unique}
-use Rattle.font_decimal.proofs.Fewest.{IsFewest, fewest_is, zero_drops}
-use Rattle.font_decimal.proofs.Written.{shortest_is, whole_fits, digits_fit, point_length, shown_numeral, shown_whole}
-use Rattle.font_decimal.proofs.Written.{whole_is_within, few_places}
 use Rattle.font_decimal.proofs.Padded.{length-unsigned_body-le}
 
+pub last_length : (p n : ℕ) → length (last_digits p n) ≡ p
+last_length zero n = refl
+last_length (suc p) n = ap suc (last_length p n)
+
+glyph_value : (d : ℕ) → d < 10 → digit_value (48 + d) ≡ d
+glyph_value d h = omega (arith, digit_value_digit (48 + d) (omega arith, omega arith))
+
+pub last_all_digits : (p n : ℕ) → AllDigits 10 (last_digits p n)
+last_all_digits zero n = tt
+last_all_digits (suc p) n = (omega (arith, glyph_value (n / 10 ^ p % 10) (omega arith)), last_all_digits p n)
+
+last_value : (p n : ℕ) → n / 10 ^ p * 10 ^ p + digits_value 10 (last_digits p n) ≡ n
+last_value zero n = omega arith
+last_value (suc p) n =
+    let m = n / 10 ^ p in
+    let digits = after_is (0 * 10 + digit_value (48 + m % 10)) (last_digits p n) in
+    rw (digits, last_length p n, glyph_value (m % 10) (omega arith), pow-suc 10 p, ← div-div-eq-div-mul n (10 ^ p) 10)
+    (omega (arith, last_value p n, ap (λ k. k * 10 ^ p) (div-add-mod' m 10)))
+
+-- the digits in front of the point and behind it write the numeral
+written_decimal : (s : Bool) (p n : ℕ) → n / 10 ^ p < 2 ^ 64 → Decimal (sign_text s ++ decimal_text n p) (signed s n) p
+written_decimal s p n small = record {
+  negative = s;
+  whole = decimal (n / 10 ^ p);
+  fraction = last_digits p n;
+  parts = record {
+    written = refl;
+    whole_digits = (decimal_is_IsNumeral _ small).0;
+    fraction_digits = last_all_digits p n;
+  };
+  numeral = rw (digits_value-append, (decimal_is_IsNumeral (n / 10 ^ p) small).1, last_length p n, last_value p n);
+  places = sym (last_length p n);
+}
+
+no_zero_in_front : (n : ℕ) → n < 2 ^ 64 → get_or (decimal n) 0 0 ≡ 48 → length (decimal n) ≡ 1
+no_zero_in_front n small e = elim (cases_lt 0 n) [
+  | inl some ↦ absurd (omega (arith, first_decimal n some small))
+  | inr none ↦ ap length (decimal_digit n (omega arith))
+]
+
+-- the numeral that is shown is zero only where the value is
+not_zero : (m d t ten : ℕ) → 2 * abs_diff (d * t) (m * ten) < ten → d ≡ 0 → m ≡ 0
+not_zero m d t ten close e = grind (arith, ap (λ k. k * t) e, mul-le-mul_right {m = 1} {n = m} ten)
+
+minus_shown : (b : ℤ) (d : ℕ) → (d ≡ 0 → unsigned_abs b ≡ 0)
+    → IsTrue (is_negative b) ↔ (signed (is_negative b) d <ℤ pos 0)
+minus_shown (pos n) d h = rw (le-ltb n 0 (omega arith))
+    (λ t. absurd (true≢false (sym t)), λ less. absurd (omega (arith, ints)))
+minus_shown (negsuc n) zero h = absurd (omega (arith, h refl))
+minus_shown (negsuc n) (suc d) h = (λ _. omega (arith, ints), λ _. refl)
+
+-- the whole part that is shown is at most the value's own
+whole_within : (m t ten d w : ℕ) → 2 * abs_diff (d * t) (m * ten) < ten → w * ten ≤ d → w * t ≤ m
+whole_within m t ten d w close low =
+    let scaled : w * ten * t ≤ d * t = mul-le-mul_right t low in
+    let below : 2 * (w * t) * ten < (2 * m + 1) * ten = omega arith in
+    omega (arith, lt_of_mul-lt-mul_right ten below)
+
+-- the numeral of the shortest decimal, and its whole part
+abbrev pub shown_numeral : ℕ → ℕ → ℕ
+shown_numeral m f = nearest_numeral m f (fewest_places m f)
+
+abbrev pub shown_whole : ℕ → ℕ → ℕ
+shown_whole m f = shown_numeral m f / 10 ^ fewest_places m f
+
+pub whole_is_within : (m f : ℕ) → shown_whole m f * 2 ^ f ≤ m
+whole_is_within m f = whole_within _ _ _ _ _ (within_half (fewest_is m f)) (div-mul-le_self (shown_numeral m f) _)
+
+pub whole_fits : (m f : ℕ) → m ≤ 2 ^ 63 → shown_whole m f < 2 ^ 64
+whole_fits m f small = omega (arith, whole_is_within m f, le-mul_of_pos_right (shown_whole m f) (pow_pos f))
+
+-- the text of the fewest places is the shortest
+pub shortest_is : (b : ℤ) (f : ℕ) → unsigned_abs b ≤ 2 ^ 63 → IsShortest b f (shortest_text b f)
+unfolding shortest_text written_decimal
+shortest_is b f small =
+    let s = is_negative b in
+    let m = unsigned_abs b in
+    let p = fewest_places m f in
+    let d = shown_numeral m f in
+    let fewest = fewest_is m f in
+    let whole = whole_fits m f small in
+    let close = within_half fewest in
+    let text = written_decimal s p d whole in
+    record {
+      numeral = signed s d;
+      places = p;
+      plain = record {
+        decimal = text;
+        no_needless_zero = no_zero_in_front _ whole;
+        minus = minus_shown b d (not_zero _ _ _ _ close);
+      };
+      rounds = record {
+        numeral = signed s d;
+        places = p;
+        decimal = text;
+        nearest = subst (λ v. Near (signed s d *ℤ pos (2 ^ f)) (10 ^ p) v) (sym (sign_and_magnitude b))
+            (rw signed_times (near_from s _ _ m (ten_pos p) (omega arith)));
+      };
+      nearest = subst (λ v. Near (v *ℤ pos (10 ^ p)) (2 ^ f) (signed s d)) (sym (sign_and_magnitude b))
+          (rw signed_times (near_from s _ _ d (pow_pos f) (rounded_at m f p)));
+      fewest = λ j n. none_fewer j n fewest;
+    }
+
+-- ---- how long the text is
+pub point_length : (p n : ℕ) → length (fraction_text (last_digits p n)) ≤ p + 1
+point_length zero n = omega arith
+point_length (suc p) n = omega (arith, last_length p n)
+
+-- with steps wider than `1 / 10 ^ places`
+pub few_places : (m f places : ℕ) → 2 ^ f < 10 ^ places → fewest_places m f ≤ places
+few_places m f places steps = elim (cases_lt places (fewest_places m f)) [
+  | inl more ↦ absurd
+      (omega (arith, pow-suc 10 places, unit_is_below m f, pow-le-pow_right {n = 10} (omega arith) more))
+  | inr less ↦ less
+]
+
+-- room for at most 20 digits in all
+pub digits_fit : (m f : ℕ) → m ≤ 2 ^ 63 → f ≤ 30 → length (decimal (shown_whole m f)) + fewest_places m f ≤ 20
+digits_fit m f small few =
+    let p = fewest_places m f in
+    let w = shown_whole m f in
+    let places : p ≤ 10 = few_places m f 10 (omega (arith, pow-le-pow_right {n = 2} (omega arith) few)) in
+    let split : 10 ^ 20 ≡ 10 ^ (20 - p) * 10 ^ p = ap (λ n. 10 ^ n) (let e : 20 ≡ 20 - p + p = omega arith in e)
+    ∙ pow-add 10 (20 - p) p in
+    let below : w * 10 ^ p < 10 ^ (20 - p) * 10 ^ p =
+    omega (arith, whole_is_within m f, mul-le-mul_left w (unit_is_below m f)) in
+    omega (
+      arith,
+      length-decimal-le (20 - p) w (omega arith) (lt_of_mul-lt-mul_right (10 ^ p) below)
+          (whole_fits m f small),
+    )
+
+-- ---- the digits are written from the last one on
+pub last_more : (left n p : ℕ) → left ≡ n / 10 ^ p → (48 + left % 10) ∷ last_digits p n ≡ last_digits (p + 1) n
+last_more left n p e = rw (e, add-one)
+
+pub left_more : (left n p : ℕ) → left ≡ n / 10 ^ p → left / 10 ≡ n / 10 ^ (p + 1)
+left_more left n p e = rw (e, add-one, pow-suc 10 p) (div-div-eq-div-mul n (10 ^ p) 10)
+
+-- digits further in front change nothing
+last_behind : (p w n : ℕ) → last_digits p (n + 10 ^ p * w) ≡ last_digits p n
+last_behind zero w n = refl
+last_behind (suc p) w n =
+    let split : n + 10 ^ suc p * w ≡ n + 10 ^ p * (w * 10) = rw (pow-suc 10 p) (omega arith) in
+    rw (
+      split,
+      add-mul-div_left n (w * 10) (ten_pos p),
+      add-mul-mod_self_right (n / 10 ^ p) w 10,
+      last_behind p (w * 10) n,
+    )
+
+-- ---- what the writer makes of a magnitude, and that there is room for it
+module _ (m f whole fraction places : ℕ) (few : places ≡ fewest_places m f)
+    (nearest : whole * 10 ^ places + fraction ≡ nearest_numeral m f places) (below : fraction < 10 ^ places) where
+  whole_is : whole ≡ nearest_numeral m f places / 10 ^ places
+  whole_is = rw (← nearest) (sym (div-mul-add whole (10 ^ places) fraction below))
+
+  pub digits_room : m ≤ 2 ^ 63 → f ≤ 30 → length (decimal whole) + places ≤ 20
+  digits_room small high = rw (whole_is, few) (digits_fit m f small high)
+
+  fraction_is : last_digits places fraction ≡ last_digits places (nearest_numeral m f places)
+  fraction_is =
+      let turned : whole * 10 ^ places + fraction ≡ fraction + 10 ^ places * whole = omega arith in
+      rw (← nearest, turned) (sym (last_behind places whole fraction))
+
+  pub text_is : (b : ℤ) → m ≡ unsigned_abs b
+      → sign_text (is_negative b) ++ (decimal whole ++ (fraction_text (last_digits places fraction) ++ []))
+      ≡ shortest_text b f
+  unfolding shortest_text
+  text_is b size = rw (fraction_is, whole_is, append-nil, few, size)
+
+-- ---- what callers rely on
 -- a shortest text is in the grammar
 pub shortest_is_decimal : (b : ℤ) (f : ℕ) (text : List ℕ) → IsShortest b f text → IsDecimal text
 shortest_is_decimal b f text s = record { numeral = s.numeral; places = s.places; decimal = s.plain.decimal }

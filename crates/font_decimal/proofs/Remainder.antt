@@ -1,5 +1,5 @@
 -- What is left of a value m / 2^f behind its first p places.
-use Rattle.std.proofs.Common.{◌≡◌, ◌≢◌, ℕ, ◌+◌, ◌-◌, ◌*◌, ◌/◌, ◌%◌, ◌^◌, ◌<◌, ◌≤◌, inl, inr, false, ap, zero, suc}
+use Rattle.std.proofs.Common.{◌≡◌, ℕ, ◌+◌, ◌-◌, ◌*◌, ◌/◌, ◌%◌, ◌^◌, ◌<◌, ◌≤◌, inl, inr, false}
 use Rattle.std.proofs.Common.{arith, add-one, min, lt-ltb, le-ltb, pow_pos}
 use Rattle.std.specs.Int.{abs_diff}
 use Rattle.std.proofs.Math.Nat.{pow-suc, div-add-mod', mul-le-mul_right}
@@ -7,7 +7,7 @@ use Rattle.std.proofs.lemmas.Bool.{cases_lt}
 use Rattle.std.proofs.lemmas.Nat.{div_below}
 use Rattle.font_decimal.specs.Shortest.{nearest_numeral, reads_back}
 use Rattle.font_decimal.proofs.Near.{near_magnitude_unique}
-use Rattle.font_decimal.proofs.Fewest.{IsFewest, zero_drops, within_half, rounded_at}
+use Rattle.font_decimal.proofs.Fewest.{IsFewest, within_half, rounded_at}
 
 -- m / 2^f cut off after p places is the numeral q, and of the last place rest / 2^(f+1) is left
 pub record HasRest (m f p q rest : ℕ) : Type 0 where
@@ -65,14 +65,3 @@ below_whole m w t ten n below close = grind (arith, mul-le-mul_right ten below, 
 pub fraction_below : {m f p : ℕ} (n : ℕ) → IsFewest m f p → nearest_numeral m f p ≡ m / 2 ^ f * 10 ^ p + n → n < 10 ^ p
 fraction_below {m = m} {f = f} {p = p} n fewest split = below_whole m _ _ _ n
     (omega (arith, pow_pos f)) (rw split at (within_half fewest))
-
--- one above a numeral that ends in 9 is a multiple of ten
-nine_ends : (w ten tenfold n numeral : ℕ) → tenfold ≡ ten * 10 → numeral ≡ w * tenfold + n + 1 → numeral % 10 ≢ 0
-    → n % 10 < 9
-nine_ends w ten tenfold n numeral power split other = omega (arith, ap (λ k. w * k) power)
-
--- a last digit that is raised is no 9: the decimal would end in 0, and so would have been found with one place fewer
-pub no_carry : {m f p : ℕ} (w n : ℕ) → IsFewest m f p → n < 10 ^ p → nearest_numeral m f p ≡ w * 10 ^ p + n + 1
-    → n % 10 < 9
-no_carry {p = zero} w n fewest low split = omega arith
-no_carry {p = suc p} w n fewest low split = nine_ends _ _ _ _ _ (pow-suc 10 p) split (zero_drops fewest)

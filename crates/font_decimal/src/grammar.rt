@@ -29,8 +29,13 @@ pub fn behind_point(text: &[u8]) -> Option<&[u8]>
     }
 }
 
+// It looks at every byte, so that many at a time are judged.
 pub fn are_digits(text: &[u8]) -> bool
     ensures { result ≡ list_all is_ascii_digit text.now }
 {
-    text.iter().all(|byte| byte.is_ascii_digit())
+    let mut all = true;
+    for byte in text {
+        all &= byte.is_ascii_digit();
+    }
+    all
 }

@@ -18,5 +18,5 @@ mod shortest;
 mod tests;
 
 pub use padding::{Align, Pad, write_padded};
-pub use reader::{DecimalFault, read_decimal};
+pub use reader::{DecimalFault, read_decimal, read_decimal_bytes};
 pub use shortest::Shortest;

@@ -17,6 +17,16 @@ pub enum Align {
 }
 
 /// How a text is padded.
+///
+/// ```
+/// use font_types::{Align, Fixed, Pad};
+/// let mut pad = Pad::new(6);
+/// pad.align = Align::Left;
+/// pad.fill = b'.';
+/// let mut out = [0; 6];
+/// assert_eq!(Fixed::ONE.write_padded(&mut out, &pad), Some(6));
+/// assert_eq!(&out, b"1.....");
+/// ```
 #[derive(Clone, Copy)]
 pub struct Pad {
     /// The least number of bytes; 0 asks for none.
@@ -56,7 +66,8 @@ impl Pad {
 
 /// Writes a decimal text to the front of `out`, padded, and returns the number of bytes.
 ///
-/// `None` where `out` is too short, which then stays as it was.
+/// `None` where `out` is too short, which then stays as it was. The caller gives a text that
+/// `read_decimal` accepts but for its range, and a fill below 0x80.
 pub fn write_padded(text: &str, out: &mut [u8], pad: &Pad) -> Option<usize>
     requires decimal { IsDecimal text.now }
     requires ascii { pad.now.fill < 128 }

@@ -14,6 +14,12 @@ use crate::grammar::{are_digits, behind_point, split_sign};
 use thiserror::Error;
 
 /// Why a text is not read.
+///
+/// ```
+/// use font_types::{DecimalFault, Fixed};
+/// assert_eq!(Fixed::from_decimal("1e5"), Err(DecimalFault::Syntax));
+/// assert_eq!(Fixed::from_decimal("100000"), Err(DecimalFault::OutOfRange));
+/// ```
 #[derive(Clone, PartialEq, Eq, Debug, Drop, Error)]
 pub enum DecimalFault {
     /// The text is not in the grammar of decimal texts.
@@ -27,12 +33,20 @@ pub enum DecimalFault {
 /// Reads a decimal text as the nearest multiple of `1 / 2^f`, ties away from zero, and gives that
 /// multiple's number of steps of `1 / 2^f`.
 ///
-/// There are 6 to 30 bits of fraction. A text is an optional `-`, one or more digits, and
-/// optionally a point followed by one or more digits. It may have any length. The rounding comes
-/// first; a result below `min` or above `max` is refused.
+/// A text is an optional `-`, one or more digits, and optionally a point followed by one or more
+/// digits. It may have any length. The caller gives 6 to 30 bits of fraction, and a range that holds
+/// zero.
 ///
-/// ```text
-/// read_decimal("-1.5", 16, i64::MIN, i64::MAX) == Ok(-98304)
+/// # Errors
+///
+/// Another text is refused as `Syntax`. The rounding comes first; a result below `min` or above
+/// `max` is refused as `OutOfRange`.
+///
+/// # Examples
+///
+/// ```
+/// use font_types::read_decimal;
+/// assert_eq!(read_decimal("-1.5", 16, i64::MIN, i64::MAX), Ok(-98304));
 /// ```
 #[inline(always)]
 pub fn read_decimal(text: &str, f: u32, min: i64, max: i64) -> Result<i64, DecimalFault>
@@ -44,7 +58,21 @@ pub fn read_decimal(text: &str, f: u32, min: i64, max: i64) -> Result<i64, Decim
         ↔ IsOutOfRange text.now f min max }
     ensures syntax { (result ≡ Err DecimalFault.Syntax) ↔ IsNoDecimal text.now }
 {
-    let (negative, digits) = split_sign(text.as_bytes());
+    read_decimal_bytes(text.as_bytes(), f, min, max)
+}
+
+/// The same of bytes, which need not be a text.
+///
+/// # Errors
+///
+/// Those of `read_decimal`; bytes that are no text are `Syntax`.
+#[inline(always)]
+pub fn read_decimal_bytes(text: &[u8], f: u32, min: i64, max: i64) -> Result<i64, DecimalFault>
+    requires bits_of_fraction { (6 ≤ f) × (f ≤ 30) }
+    requires around_zero { (min ≤ℤ pos 0) × (pos 0 ≤ℤ max) }
+    ensures { IsReading text.now f min max result }
+{
+    let (negative, digits) = split_sign(text);
     let Some(steps) = nearest_steps(digits, f) else {
         return Err(DecimalFault::Syntax);
     };

@@ -20,8 +20,9 @@ struct Digits {
 
 /// The shortest decimal text of a fixed-point number, at most 22 bytes long.
 ///
-/// ```text
-/// Shortest::new(9830, 14).as_str() == "0.6"
+/// ```
+/// use font_types::Shortest;
+/// assert_eq!(Shortest::new(9830, 14).as_str(), "0.6");
 /// ```
 #[derive(Clone, Copy)]
 pub struct Shortest {
@@ -37,7 +38,7 @@ impl Shortest {
     ghost use Rattle.font_decimal.specs.Shown.{shown};
 
     /// The shortest decimal of `bits / 2^f`: of all that read back as `bits` the nearest with the
-    /// fewest fractional digits.
+    /// fewest fractional digits. The caller gives an `f` of 6 to 30.
     pub fn new(bits: i64, f: u32) -> Self
         requires { (6 ≤ f) × (f ≤ 30) }
         ensures shortest { IsShortest bits f (shown result) }
@@ -56,6 +57,7 @@ impl Shortest {
         ensures text { result.now ≡ shown self.now }
         ensures short { length result.now ≤ 22 }
     {
+        // SAFETY: every byte of the text is ASCII, which the field `ascii` says, so it is UTF-8.
         unsafe { std::str::from_utf8_unchecked(&self.bytes[self.start..]) }
     }
 
@@ -150,19 +152,12 @@ fn shortest_digits(magnitude: u64, f: u32) -> Digits
         places += 1;
     }
     if 2 * rest >= unit {
-        fraction = raise_last_digit(fraction);
+        // Nothing is carried into the whole digits.
+        fraction += 1;
     }
     Digits {
         whole,
         fraction,
         places,
     }
-}
-
-// The numeral with its last digit raised, which is no 9: nothing is carried.
-fn raise_last_digit(numeral: u64) -> u64
-    requires { (numeral % 10 < 9) × (numeral + 1 < 2 ^ 64) }
-    ensures { result ≡ numeral + 1 }
-{
-    numeral + 1
 }

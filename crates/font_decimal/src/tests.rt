@@ -2,7 +2,7 @@
 ghost use Rattle.std.specs.Prelude.{◌≡◌, ◌<◌, ◌≤◌, ◌≤ℤ◌, pos};
 
 use crate::laws::reads_in_order;
-use crate::{Align, DecimalFault, Pad, Shortest, read_decimal, write_padded};
+use crate::{Align, DecimalFault, Pad, Shortest, read_decimal, read_decimal_bytes, write_padded};
 use std::alloc::{AllocError, Global};
 use std::fmt::{Debug, Display};
 use std::test::Fail;
@@ -59,6 +59,18 @@ fn text_of_parts(
 }
 
 #[test]
+fn reads_bytes_as_it_reads_texts(rt: HostRuntime) {
+    for (bytes, want) in &[
+        (b"-1.5", Ok(-98304)),
+        (b"1.5\xFF", Err(DecimalFault::Syntax)),
+        (b"\xC3\xA9.5", Err(DecimalFault::Syntax)),
+    ] {
+        let read = read_decimal_bytes(*bytes, 16, LEAST, GREATEST);
+        assert!(rt; read == *want, "{bytes:?}");
+    }
+}
+
+#[test]
 fn reads_the_nearest_value(rt: HostRuntime) {
     let wrong = misread(
         LEAST,
@@ -94,10 +106,7 @@ fn refuses_by_grammar_then_by_range(rt: HostRuntime) {
     for &text in &[
         "", "-", ".5", "5.", "+1", "1e3", "1.2.3", " 1", "1 ", "--1", "-.5", "1_0",
     ] {
-        assert!(rt;
-            fixed(text) == Err(DecimalFault::Syntax),
-            "a text outside the grammar"
-        );
+        assert!(rt; fixed(text) == Err(DecimalFault::Syntax), "'{text}'");
     }
     let wrong = misread(
         LEAST,
@@ -198,8 +207,11 @@ fn reads_texts_of_any_length(rt: HostRuntime) -> Result<(), Fail> {
         ("-32768.00000762939453124", "9", 3000, "", 16, Ok(LEAST)),
     ] {
         let text = text_of_parts(rt.alloc(), head, digit, count, tail)?;
-        assert!(rt; f == 6 || f == 16);
-        assert!(rt; read_decimal(text.as_str(), f, LEAST, GREATEST) == *want);
+        let is_known = f == 6 || f == 16;
+        assert!(rt;
+            is_known && read_decimal(text.as_str(), f, LEAST, GREATEST) == *want,
+            "{head}{digit}..{tail}"
+        );
     }
     Ok(())
 }
@@ -264,7 +276,7 @@ fn reads_as_a_slow_reader_does(rt: HostRuntime) -> Result<(), Fail> {
         let text = format!(in rt.alloc(); "{whole}.{fraction:04}")?;
         let numeral = whole * 10_000 + fraction;
         let bits = (2 * numeral * 65536 + 10_000) / 20_000;
-        assert!(rt; fixed(text.as_str()) == Ok(bits as i64));
+        assert!(rt; fixed(text.as_str()) == Ok(bits as i64), "{text}");
     }
     Ok(())
 }
@@ -302,7 +314,7 @@ fn prints_as_few_places_as_a_slow_writer(rt: HostRuntime) {
             };
             assert!(rt; places == slow_places(bits, f), "at {bits}, {f}");
             let read = read_decimal(shown.as_str(), f, i64::MIN, i64::MAX);
-            assert!(rt; read == Ok(bits as i64));
+            assert!(rt; read == Ok(bits as i64), "read back at {bits}, {f}");
         }
     }
 }
@@ -338,10 +350,10 @@ fn pads_to_a_width(rt: HostRuntime) {
         let mut out = [b'#'; 12];
         let shown = Shortest::new(bits, f);
         let pad = pad(width, fill, align, plus, zeros);
-        assert!(rt; fill < 128);
+        assert!(rt; fill < 128, "fill at {want}");
         let written = write_padded(shown.as_str(), &mut out, &pad);
-        assert!(rt; written == Some(want.len()), "at {want}");
-        assert!(rt; out.starts_with(want.as_bytes()) && out.ends_with(b"###"));
+        let holds = out.starts_with(want.as_bytes()) && out.ends_with(b"###");
+        assert!(rt; written == Some(want.len()) && holds, "at {want}");
     }
 }
 
@@ -393,11 +405,11 @@ fn pads_to_a_great_width(rt: HostRuntime) -> Result<(), Fail> {
         let fill = if zeros { "0" } else { "*" }.repeat(rt.alloc(), 4197)?;
         let want = format!(in rt.alloc(); "{front}{fill}{behind}#")?;
         let pad = pad(4200, b'*', align, false, zeros);
+        let written = is_padded("1.5", &pad, &mut room, want.as_bytes());
         assert!(rt;
-            is_padded("1.5", &pad, &mut room, want.as_bytes()) == Some(4200),
-            "{front}"
+            written == Some(4200) && room.ends_with(&[b'#'; 800]),
+            "'{front}', zeros {zeros}"
         );
-        assert!(rt; room.ends_with(&[b'#'; 800]), "behind {front}");
     }
     Ok(())
 }

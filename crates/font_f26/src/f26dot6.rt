@@ -24,8 +24,15 @@ use std::str::FromStr;
 /// A fixed-point number of 32 bits, the last 6 of which are its fraction: the unit of scaled
 /// outlines.
 ///
-/// Its bits are counted in steps of `1 / 64`: `F26Dot6::from_bits(96)` is 1.5. Sums, products and
-/// quotients that leave the range wrap.
+/// Its bits are counted in steps of `1 / 64`. Sums, products and quotients that leave the range
+/// wrap.
+///
+/// ```
+/// use font_types::F26Dot6;
+/// let number = F26Dot6::from_bits(96);
+/// assert_eq!(number.to_string(), "1.5");
+/// assert_eq!("1.5".parse(), Ok(number));
+/// ```
 #[derive(Clone, Copy, PartialEq, Eq, PartialOrd, Ord, Hash, Default)]
 pub struct F26Dot6(i32);
 
@@ -152,16 +159,30 @@ impl F26Dot6 {
 
     /// The number nearest to a decimal text, ties away from zero.
     ///
+    /// # Errors
+    ///
     /// A text outside the grammar is refused as `Syntax`, one whose nearest number is out of range
     /// as `OutOfRange`.
     pub fn from_decimal(text: &str) -> Result<Self, DecimalFault>
+        ensures { ReadsBy w32 6 bits_of text.now result }
+    {
+        Self::from_decimal_bytes(text.as_bytes())
+    }
+
+    /// The same of bytes, which need not be a text.
+    ///
+    /// # Errors
+    ///
+    /// Those of `from_decimal`; bytes that are no text are `Syntax`.
+    pub fn from_decimal_bytes(text: &[u8]) -> Result<Self, DecimalFault>
         ensures { ReadsBy w32 6 bits_of text.now result }
     {
         read_bits_32(text, Self::FRACTION_BITS).map(Self)
     }
 
     /// Writes the printed text to the front of `out`, padded, and returns the number of bytes;
-    /// `None` where `out` is too short, which then stays as it was.
+    /// `None` where `out` is too short, which then stays as it was. 12 bytes, or the width where
+    /// that is more, are always enough. The fill is below 0x80.
     pub fn write_padded(self, out: &mut [u8], pad: &Pad) -> Option<usize>
         requires { pad.now.fill < 128 }
         ensures written { IfSome result

@@ -2,4 +2,3 @@
 
 mod arithmetic;
 mod texts;
-mod traits;

@@ -1,1 +1,2 @@
 pub mod FixedCalls
+pub mod NarrowCalls

@@ -25,8 +25,14 @@ use std::str::FromStr;
 
 /// A fixed-point number of 64 bits, the last 16 of which are its fraction: a sum of deltas.
 ///
-/// Its bits are counted in steps of `1 / 65536`: `F48Dot16::from_bits(0x18000)` is 1.5. Sums that
-/// leave the range wrap.
+/// Its bits are counted in steps of `1 / 65536`. Sums that leave the range wrap.
+///
+/// ```
+/// use font_types::F48Dot16;
+/// let number = F48Dot16::from_bits(0x18000);
+/// assert_eq!(number.to_string(), "1.5");
+/// assert_eq!("1.5".parse(), Ok(number));
+/// ```
 #[derive(Clone, Copy, PartialEq, Eq, PartialOrd, Ord, Hash, Default)]
 pub struct F48Dot16(i64);
 
@@ -175,16 +181,30 @@ impl F48Dot16 {
 
     /// The number nearest to a decimal text, ties away from zero.
     ///
+    /// # Errors
+    ///
     /// A text outside the grammar is refused as `Syntax`, one whose nearest number is out of range
     /// as `OutOfRange`.
     pub fn from_decimal(text: &str) -> Result<Self, DecimalFault>
+        ensures { ReadsBy w64 16 bits_of text.now result }
+    {
+        Self::from_decimal_bytes(text.as_bytes())
+    }
+
+    /// The same of bytes, which need not be a text.
+    ///
+    /// # Errors
+    ///
+    /// Those of `from_decimal`; bytes that are no text are `Syntax`.
+    pub fn from_decimal_bytes(text: &[u8]) -> Result<Self, DecimalFault>
         ensures { ReadsBy w64 16 bits_of text.now result }
     {
         read_bits_64(text, Self::FRACTION_BITS).map(Self)
     }
 
     /// Writes the printed text to the front of `out`, padded, and returns the number of bytes;
-    /// `None` where `out` is too short, which then stays as it was.
+    /// `None` where `out` is too short, which then stays as it was. 22 bytes, or the width where
+    /// that is more, are always enough. The fill is below 0x80.
     pub fn write_padded(self, out: &mut [u8], pad: &Pad) -> Option<usize>
         requires { pad.now.fill < 128 }
         ensures written { IfSome result

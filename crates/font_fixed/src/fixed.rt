@@ -34,8 +34,15 @@ use std::str::FromStr;
 
 /// A fixed-point number of 32 bits, the last 16 of which are its fraction.
 ///
-/// Its bits are counted in steps of `1 / 65536`: `Fixed::from_bits(0x18000)` is 1.5. Sums, products
-/// and quotients that leave the range wrap.
+/// Its bits are counted in steps of `1 / 65536`. Sums, products and quotients that leave the range
+/// wrap.
+///
+/// ```
+/// use font_types::Fixed;
+/// let number = Fixed::from_bits(0x18000);
+/// assert_eq!(number.to_string(), "1.5");
+/// assert_eq!("1.5".parse(), Ok(number));
+/// ```
 #[derive(Clone, Copy, PartialEq, Eq, PartialOrd, Ord, Hash, Default)]
 pub struct Fixed(i32);
 
@@ -199,6 +206,16 @@ impl Fixed {
         F48Dot16::from_bits(self.0 as i64 * number as i64)
     }
 
+    /// The number with so many steps of `2^-16`, or `None` where 32 bits do not hold it.
+    ///
+    /// `apply_delta` of a font unit gives its result in such steps.
+    pub fn from_steps(steps: i128) -> Option<Fixed>
+        ensures variant { IsSome result ↔ FitsBits 32 steps }
+        ensures value { IfSome result (λ number. bits_of number ≡ steps) }
+    {
+        Some(Self(i32::try_from(steps).ok()?))
+    }
+
     /// The number moved by a sum of deltas, exactly, in units of `2^-32`.
     ///
     /// A delta counts in units of `1 / 65536`, the last bit of this type, with 16 bits of fraction
@@ -211,16 +228,30 @@ impl Fixed {
 
     /// The number nearest to a decimal text, ties away from zero.
     ///
-    /// `Fixed::from_decimal("1.5")` has bits 98304. A text outside the grammar is refused as
-    /// `Syntax`, one whose nearest number is out of range as `OutOfRange`.
+    /// # Errors
+    ///
+    /// A text outside the grammar is refused as `Syntax`, one whose nearest number is out of range
+    /// as `OutOfRange`.
     pub fn from_decimal(text: &str) -> Result<Self, DecimalFault>
+        ensures { ReadsBy w32 16 bits_of text.now result }
+    {
+        Self::from_decimal_bytes(text.as_bytes())
+    }
+
+    /// The same of bytes, which need not be a text.
+    ///
+    /// # Errors
+    ///
+    /// Those of `from_decimal`; bytes that are no text are `Syntax`.
+    pub fn from_decimal_bytes(text: &[u8]) -> Result<Self, DecimalFault>
         ensures { ReadsBy w32 16 bits_of text.now result }
     {
         read_bits_32(text, Self::FRACTION_BITS).map(Self)
     }
 
     /// Writes the printed text to the front of `out`, padded, and returns the number of bytes;
-    /// `None` where `out` is too short, which then stays as it was.
+    /// `None` where `out` is too short, which then stays as it was. 12 bytes, or the width where
+    /// that is more, are always enough. The fill is below 0x80.
     pub fn write_padded(self, out: &mut [u8], pad: &Pad) -> Option<usize>
         requires { pad.now.fill < 128 }
         ensures written { IfSome result

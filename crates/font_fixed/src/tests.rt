@@ -3,9 +3,6 @@
 mod arithmetic;
 mod calling;
 mod conversions;
-mod ends;
-mod every_value;
 mod padded;
 mod sampled;
 mod texts;
-mod traits;

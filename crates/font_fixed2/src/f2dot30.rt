@@ -1,18 +1,22 @@
 //! The fixed-point number of 32 bits with 30 bits of fraction.
 #![tactic(auto, using(font_arithmetic::proofs::Rules::number_code))]
 
-ghost use Rattle.std.specs.Prelude.{◌≡◌, ◌<◌, ◌≤◌, ◌↔◌, ℤ, pos, neg_ℤ, ◌+ℤ◌, ◌-ℤ◌, Some, IsSome};
-ghost use Rattle.std.specs.Prelude.{IfSome, IfNone, refl, length, max, unsigned_abs};
+ghost use Rattle.std.specs.Prelude.{◌≡◌, ◌^◌, ◌<◌, ◌≤◌, ◌↔◌, ℤ, pos, neg_ℤ, ◌+ℤ◌, ◌-ℤ◌, ◌*ℤ◌};
+ghost use Rattle.std.specs.Prelude.{Some, IsSome, IfSome, IfNone, refl, length, max, unsigned_abs};
 ghost use Rattle.std.proofs.Common.{lit<};
 ghost use Rattle.std.specs.Int.{w32};
 ghost use Rattle.font_base.specs.Wrap.{FitsBits, fits_bits, wrap};
 ghost use Rattle.font_base.specs.Bytes.{bytes_of, signed_numeral};
 ghost use Rattle.font_base.specs.Scalar.Laws.{signed_newtype, signed_identity};
+ghost use Rattle.font_decimal.specs.Near.{up};
 ghost use Rattle.font_decimal.specs.Padding.{padded_text, FillsFront};
 ghost use Rattle.font_decimal.specs.Shortest.{IsShortest};
 ghost use Rattle.font_decimal.specs.Shown.{shown};
-ghost use Rattle.font_arithmetic.specs.Operations.{IsNearestWhole, IsFloor, IsFract, clamp};
+ghost use Rattle.font_arithmetic.specs.Operations.{IsNarrowed, IsNearestWhole, IsFloor, IsFract};
+ghost use Rattle.font_arithmetic.specs.Operations.{clamp};
 ghost use Rattle.font_arithmetic.specs.Reading.{ReadsBy};
+ghost use Rattle.font_fixed.specs.F2Dot14.{f2dot14_bits};
+ghost use Rattle.font_fixed.specs.Fixed.{fixed_bits};
 ghost use Rattle.font_fixed2.specs.declared.f2dot30.F2Dot30.{F2Dot30};
 ghost use Rattle.font_fixed2.specs.F2Dot30.{f2dot30_bits as bits_of, f2dot30_of as of_bits};
 ghost use Rattle.font_fixed2.specs.F2Dot30.{f2dot30_text as text_of};
@@ -20,14 +24,21 @@ ghost use Rattle.font_fixed2.specs.F2Dot30.{f2dot30_text as text_of};
 use font_arithmetic::read_bits_32;
 use font_base::{FixedSize, IdentityEq, Scalar};
 use font_decimal::{DecimalFault, Pad, Shortest};
+use font_fixed::{F2Dot14, Fixed};
 use std::fmt;
 use std::ops::{Add, AddAssign, Neg, Sub, SubAssign};
 use std::str::FromStr;
 
 /// A fixed-point number of 32 bits, the last 30 of which are its fraction.
 ///
-/// Its bits are counted in steps of `1 / 2^30`: `F2Dot30::from_bits(0x6000_0000)` is 1.5. Sums that
-/// leave the range wrap.
+/// Its bits are counted in steps of `1 / 2^30`. Sums that leave the range wrap.
+///
+/// ```
+/// use font_types::F2Dot30;
+/// let number = F2Dot30::from_bits(0x6000_0000);
+/// assert_eq!(number.to_string(), "1.5");
+/// assert_eq!("1.5".parse(), Ok(number));
+/// ```
 #[derive(Clone, Copy, PartialEq, Eq, PartialOrd, Ord, Hash, Default)]
 pub struct F2Dot30(i32);
 
@@ -138,18 +149,61 @@ impl F2Dot30 {
         self.0.to_be_bytes()
     }
 
+    /// The number of a `Fixed`, its bits wrapped to 32: the same number where that is from -2 to
+    /// below 2.
+    pub fn from_fixed(number: Fixed) -> Self
+        ensures { bits_of result ≡ wrap 32 (fixed_bits number *ℤ pos (2 ^ 14)) }
+    {
+        Self(number.to_bits().wrapping_mul(0x4000))
+    }
+
+    /// The number of an `F2Dot14`.
+    pub fn from_f2dot14(number: F2Dot14) -> Self
+        ensures { bits_of result ≡ (f2dot14_bits number *ℤ pos (2 ^ 16)) }
+    {
+        Self(number.to_bits() as i32 * 0x1_0000)
+    }
+
+    /// The nearest `Fixed`, ties upwards.
+    pub fn to_fixed(self) -> Fixed
+        ensures { fixed_bits result ≡ up (bits_of self) (2 ^ 14) }
+    {
+        Fixed::from_bits(((self.0 >> 13) + 1) >> 1)
+    }
+
+    /// The nearest `F2Dot14`, ties upwards, its bits wrapped to 16.
+    pub fn to_f2dot14(self) -> F2Dot14
+        ensures { IsNarrowed 16 (bits_of self) (2 ^ 16) (f2dot14_bits result) }
+    {
+        F2Dot14::from_bits((self.wrapping_add(Self(0x8000)).0 >> 16) as i16)
+    }
+
     /// The number nearest to a decimal text, ties away from zero.
+    ///
+    /// # Errors
     ///
     /// A text outside the grammar is refused as `Syntax`, one whose nearest number is out of range
     /// as `OutOfRange`.
     pub fn from_decimal(text: &str) -> Result<Self, DecimalFault>
         ensures { ReadsBy w32 30 bits_of text.now result }
     {
+        Self::from_decimal_bytes(text.as_bytes())
+    }
+
+    /// The same of bytes, which need not be a text.
+    ///
+    /// # Errors
+    ///
+    /// Those of `from_decimal`; bytes that are no text are `Syntax`.
+    pub fn from_decimal_bytes(text: &[u8]) -> Result<Self, DecimalFault>
+        ensures { ReadsBy w32 30 bits_of text.now result }
+    {
         read_bits_32(text, Self::FRACTION_BITS).map(Self)
     }
 
     /// Writes the printed text to the front of `out`, padded, and returns the number of bytes;
-    /// `None` where `out` is too short, which then stays as it was.
+    /// `None` where `out` is too short, which then stays as it was. 13 bytes, or the width where
+    /// that is more, are always enough. The fill is below 0x80.
     pub fn write_padded(self, out: &mut [u8], pad: &Pad) -> Option<usize>
         requires { pad.now.fill < 128 }
         ensures written { IfSome result
@@ -215,6 +269,15 @@ impl Neg for F2Dot30 {
 
     fn neg(self) -> F2Dot30 {
         Self(self.0.wrapping_neg())
+    }
+}
+
+/// The same number, as by `from_f2dot14`.
+impl From<F2Dot14> for F2Dot30 {
+    ghost from_gives = { λ number long. bits_of long ≡ (f2dot14_bits number *ℤ pos (2 ^ 16)) };
+
+    fn from(number: F2Dot14) -> F2Dot30 {
+        F2Dot30::from_f2dot14(number)
     }
 }
 

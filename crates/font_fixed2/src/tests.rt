@@ -1,8 +1,4 @@
 //! Values from the definitions of 4.12, 6.10 and 2.30 numbers and from the original crate.
 
 mod arithmetic;
-mod edges;
-mod ends;
-mod every_value;
 mod texts;
-mod traits;

@@ -20,8 +20,11 @@ fn printed_and_read_back(rt: HostRuntime) -> Result<(), Fail> {
         let forms = format!(in rt.alloc();
             "{number}|{number:8}|{number:.0}|{number:+}|{number:?}"
         )?;
-        assert!(rt; forms.as_str().split('|').all(|form| form == text));
-        assert!(rt; F26Dot6::from_decimal(text) == Ok(number));
+        assert!(rt;
+            forms.as_str().split('|').all(|form| form == text),
+            "{text}"
+        );
+        assert!(rt; F26Dot6::from_decimal(text) == Ok(number), "read {text}");
     }
     Ok(())
 }
@@ -35,7 +38,10 @@ fn read(rt: HostRuntime) {
         ("-0.0", 0),
         ("33554431.98", i32::MAX),
     ] {
-        assert!(rt; F26Dot6::from_decimal(text) == Ok(F26Dot6::from_bits(bits)));
+        assert!(rt;
+            F26Dot6::from_decimal(text) == Ok(F26Dot6::from_bits(bits)),
+            "{text}"
+        );
     }
     assert!(rt; F26Dot6::from_decimal("33554431.9921875") == Err(DecimalFault::OutOfRange));
 }
@@ -82,7 +88,16 @@ fn read_of_many_digits(rt: HostRuntime) -> Result<(), Fail> {
     ] {
         let digits = digit.repeat(rt.alloc(), count)?;
         let text = format!(in rt.alloc(); "{head}{digits}{tail}")?;
-        assert!(rt; F26Dot6::from_decimal(text.as_str()).map(F26Dot6::to_bits) == *read);
+        assert!(rt;
+            F26Dot6::from_decimal(text.as_str()).map(F26Dot6::to_bits) == *read,
+            "{head}{digit}..{tail}"
+        );
     }
     Ok(())
+}
+
+#[test]
+fn read_of_bytes(rt: HostRuntime) {
+    assert!(rt; F26Dot6::from_decimal_bytes(b"-1.5") == Ok(F26Dot6::from_bits(-96)));
+    assert!(rt; F26Dot6::from_decimal_bytes(b"1.5\xFF") == Err(DecimalFault::Syntax));
 }

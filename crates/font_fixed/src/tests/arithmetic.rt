@@ -25,7 +25,10 @@ fn products(rt: HostRuntime) {
         (-0x8000_0000, -0x8000_0000, 0),
     ] {
         let answers = product_laws(Fixed::from_bits(x), Fixed::from_bits(y));
-        assert!(rt; [answers[0], answers[3]].map(Fixed::to_bits) == [product; 2]);
+        assert!(rt;
+            [answers[0], answers[3]].map(Fixed::to_bits) == [product; 2],
+            "{x} * {y}"
+        );
     }
 }
 
@@ -47,7 +50,10 @@ fn quotients(rt: HostRuntime) {
         (-6062080, 185, -0x8000_0000),
     ] {
         let answers = quotient_laws(Fixed::from_bits(x), Fixed::from_bits(y));
-        assert!(rt; [answers[0], answers[1]].map(Fixed::to_bits) == [quotient; 2]);
+        assert!(rt;
+            [answers[0], answers[1]].map(Fixed::to_bits) == [quotient; 2],
+            "{x} / {y}"
+        );
     }
 }
 
@@ -68,7 +74,10 @@ fn rounded(rt: HostRuntime) {
         (-0x1_8000, -0x1_0000),
         (-0x1_8001, -0x2_0000),
     ] {
-        assert!(rt; Fixed::from_bits(bits).round().to_bits() == rounded);
+        assert!(rt;
+            Fixed::from_bits(bits).round().to_bits() == rounded,
+            "{bits}"
+        );
     }
     let narrow = [0x7000, 0x1FFF, 0x2000, -0x2000, -0x2001, -0x6000].map(F2Dot14::from_bits);
     assert!(rt;
@@ -96,8 +105,11 @@ fn wide_whole_numbers(rt: HostRuntime) {
         (0x100_0000_0000_4000, 1 << 56, 1 << 40, 0),
     ] {
         let number = F48Dot16::from_bits(bits);
-        assert!(rt; [number.round().to_bits(), number.to_i64()] == [rounded, whole]);
-        assert!(rt; number.to_i32() == narrow);
+        assert!(rt;
+            [number.round().to_bits(), number.to_i64()] == [rounded, whole],
+            "{bits}"
+        );
+        assert!(rt; number.to_i32() == narrow, "to_i32 of {bits}");
     }
     assert!(rt;
         [

@@ -20,7 +20,7 @@ fn narrowed(rt: HostRuntime) {
     ] {
         let number = Fixed::from_bits(bits);
         let narrowed = (number.to_f26dot6().to_bits(), number.to_f2dot14().to_bits());
-        assert!(rt; narrowed.0 == f26dot6 && narrowed.1 == f2dot14);
+        assert!(rt; narrowed.0 == f26dot6 && narrowed.1 == f2dot14, "{bits}");
     }
 }
 
@@ -41,6 +41,23 @@ fn wrapped_to_32_bits(rt: HostRuntime) {
     let wide = [2147483648, -2147483649, 0x1_8000].map(F48Dot16::from_bits);
     let narrow = [Fixed::MIN, Fixed::MAX, Fixed::from_bits(0x1_8000)];
     assert!(rt; wide.map(F48Dot16::to_fixed) == narrow);
+}
+
+#[test]
+fn from_steps(rt: HostRuntime) {
+    for &(steps, bits) in &[
+        (0, Some(0)),
+        (2147483647, Some(i32::MAX)),
+        (2147483648, None),
+        (-2147483648, Some(i32::MIN)),
+        (-2147483649, None),
+        (18446744073709551616, None),
+    ] {
+        assert!(rt;
+            Fixed::from_steps(steps) == bits.map(Fixed::from_bits),
+            "{steps} steps"
+        );
+    }
 }
 
 #[test]

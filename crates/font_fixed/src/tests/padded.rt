@@ -10,11 +10,11 @@ macro_rules! check_padded {
     ($rt:ident, $Number:ident, $rows:expr) => {
         for &(bits, width, fill, align, plus, zeros, len, text) in $rows {
             let mut out = [b'~'; 13];
-            assert!($rt; fill < 128 && text.len() <= 13);
+            assert!($rt; fill < 128 && text.len() <= 13, "row of {text}");
             let pad = Pad { width, fill, align, plus, zeros };
             let written = $Number::from_bits(bits).write_padded(&mut out[..text.len()], &pad);
-            assert!($rt; written == if len == 0 { None } else { Some(len) });
-            assert!($rt; out.starts_with(text.as_bytes()));
+            assert!($rt; written == if len == 0 { None } else { Some(len) }, "length of {text}");
+            assert!($rt; out.starts_with(text.as_bytes()), "{text}");
         }
     };
 }
@@ -67,7 +67,10 @@ fn of_48_16_with_a_plus(rt: HostRuntime) {
         let mut pad = Pad::new(22);
         pad.plus = true;
         let mut out = [b'*'; 22];
-        assert!(rt; F48Dot16::from_bits(bits).write_padded(&mut out, &pad) == Some(22));
-        assert!(rt; &out == text);
+        assert!(rt;
+            F48Dot16::from_bits(bits).write_padded(&mut out, &pad) == Some(22),
+            "length of {bits}"
+        );
+        assert!(rt; &out == text, "{bits}");
     }
 }

@@ -21,9 +21,18 @@ where
 fn printed(rt: HostRuntime) -> Result<(), Fail> {
     let alloc = rt.alloc();
     for &(bits, narrow, text) in &[(0x8000, 0x2000, "0.5"), (-0x1_8000, -0x6000, "-1.5")] {
-        assert!(rt; is_printed(alloc, Fixed::from_bits(bits), text)?);
-        assert!(rt; is_printed(alloc, F2Dot14::from_bits(narrow), text)?);
-        assert!(rt; is_printed(alloc, F48Dot16::from_bits(i64::from(bits)), text)?);
+        assert!(rt;
+            is_printed(alloc, Fixed::from_bits(bits), text)?,
+            "16.16: {text}"
+        );
+        assert!(rt;
+            is_printed(alloc, F2Dot14::from_bits(narrow), text)?,
+            "2.14: {text}"
+        );
+        assert!(rt;
+            is_printed(alloc, F48Dot16::from_bits(i64::from(bits)), text)?,
+            "48.16: {text}"
+        );
     }
     Ok(())
 }
@@ -41,8 +50,8 @@ fn wide_printed_and_read_back(rt: HostRuntime) -> Result<(), Fail> {
         (-1 << 62, "-70368744177664"),
     ] {
         let number = F48Dot16::from_bits(bits);
-        assert!(rt; is_printed(rt.alloc(), number, text)?);
-        assert!(rt; F48Dot16::from_decimal(text) == Ok(number));
+        assert!(rt; is_printed(rt.alloc(), number, text)?, "{text}");
+        assert!(rt; F48Dot16::from_decimal(text) == Ok(number), "read {text}");
     }
     Ok(())
 }
@@ -65,7 +74,10 @@ fn read(rt: HostRuntime) {
         ("32767.99999237060546874", 0x7FFF_FFFF),
         ("-32768.00000762939453124", -0x8000_0000),
     ] {
-        assert!(rt; Fixed::from_decimal(text) == Ok(Fixed::from_bits(bits)));
+        assert!(rt;
+            Fixed::from_decimal(text) == Ok(Fixed::from_bits(bits)),
+            "{text}"
+        );
     }
     let narrow = ["1.99996", "-2.00003", "1.2"].map(F2Dot14::from_decimal);
     assert!(rt; narrow == [F2Dot14::MAX, F2Dot14::MIN, F2Dot14::from_bits(19661)].map(Ok));
@@ -94,7 +106,13 @@ fn read_of_many_digits(rt: HostRuntime) -> Result<(), Fail> {
         (("-32768.00000762939453124", "9", 3000, ""), Ok(i32::MIN)),
         (("0.00000762939453124", "9", 3000, ""), Ok(0)),
     ] {
-        assert!(rt; read_long(rt.alloc(), text)? == *read, "{}", text.0);
+        assert!(rt;
+            read_long(rt.alloc(), text)? == *read,
+            "{}{}..{}",
+            text.0,
+            text.1,
+            text.3
+        );
     }
     Ok(())
 }
@@ -130,13 +148,29 @@ fn out_of_range(rt: HostRuntime) {
         ("32767.99999237060546875", "-2.00004"),
         ("-32768.00000762939453125", "2"),
     ] {
-        assert!(rt; Fixed::from_decimal(text) == Err(DecimalFault::OutOfRange));
-        assert!(rt; F2Dot14::from_decimal(narrow) == Err(DecimalFault::OutOfRange));
+        assert!(rt;
+            Fixed::from_decimal(text) == Err(DecimalFault::OutOfRange),
+            "{text}"
+        );
+        assert!(rt;
+            F2Dot14::from_decimal(narrow) == Err(DecimalFault::OutOfRange),
+            "{narrow}"
+        );
     }
     for &text in &[
         "140737488355327.99999237060546875",
         "-140737488355328.00001",
     ] {
-        assert!(rt; F48Dot16::from_decimal(text) == Err(DecimalFault::OutOfRange));
+        assert!(rt;
+            F48Dot16::from_decimal(text) == Err(DecimalFault::OutOfRange),
+            "{text}"
+        );
     }
+}
+
+#[test]
+fn read_of_bytes(rt: HostRuntime) {
+    assert!(rt; Fixed::from_decimal_bytes(b"-1.5") == Ok(Fixed::from_bits(-0x18000)));
+    assert!(rt; F2Dot14::from_decimal_bytes(b"-1.5") == Ok(F2Dot14::from_bits(-0x6000)));
+    assert!(rt; F48Dot16::from_decimal_bytes(b"1.5\xFF") == Err(DecimalFault::Syntax));
 }

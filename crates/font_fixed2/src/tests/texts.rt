@@ -26,7 +26,10 @@ fn printed(rt: HostRuntime) -> Result<(), Fail> {
         (0x800, "0.5"),
         (-0x1800, "-1.5"),
     ] {
-        assert!(rt; is_printed(alloc, F4Dot12::from_bits(bits), text)?);
+        assert!(rt;
+            is_printed(alloc, F4Dot12::from_bits(bits), text)?,
+            "4.12: {text}"
+        );
     }
     for &(bits, text) in &[
         (0x7FFF, "31.999"),
@@ -34,14 +37,20 @@ fn printed(rt: HostRuntime) -> Result<(), Fail> {
         (0x200, "0.5"),
         (-0x600, "-1.5"),
     ] {
-        assert!(rt; is_printed(alloc, F6Dot10::from_bits(bits), text)?);
+        assert!(rt;
+            is_printed(alloc, F6Dot10::from_bits(bits), text)?,
+            "6.10: {text}"
+        );
     }
     for &(bits, text) in &[
         (7, "0.0000000065"),
         (0x2000_0000, "0.5"),
         (-0x6000_0000, "-1.5"),
     ] {
-        assert!(rt; is_printed(alloc, F2Dot30::from_bits(bits), text)?);
+        assert!(rt;
+            is_printed(alloc, F2Dot30::from_bits(bits), text)?,
+            "2.30: {text}"
+        );
     }
     Ok(())
 }
@@ -124,4 +133,11 @@ fn padded_at_its_longest(rt: HostRuntime) {
     assert!(rt; F6Dot10::from_bits(31 * 1024 + 64).write_padded(&mut out[..8], &pad) == Some(8));
     assert!(rt; F2Dot30::from_bits(0x4010_0000).write_padded(&mut long, &pad) == Some(13));
     assert!(rt; &short == b"+7.9998" && &out == b"+31.0625 " && &long == b"+1.0009765625");
+}
+
+#[test]
+fn read_of_bytes(rt: HostRuntime) {
+    assert!(rt; F4Dot12::from_decimal_bytes(b"-1.5") == Ok(F4Dot12::from_bits(-0x1800)));
+    assert!(rt; F6Dot10::from_decimal_bytes(b"-1.5") == Ok(F6Dot10::from_bits(-0x600)));
+    assert!(rt; F2Dot30::from_decimal_bytes(b"1.5\xFF") == Err(DecimalFault::Syntax));
 }

@@ -4,8 +4,9 @@ use Rattle.std.proofs.lemmas.Nat.{one_shl}
 use Rattle.font_decimal.specs.Shortest.{reads_back}
 use Rattle.font_decimal.proofs.Fewest.{IsFewest, place_left, places_are}
 use Rattle.font_decimal.proofs.Remainder.{stopped, fails_here, rounded_up, rounded_down, next_numeral}
-use Rattle.font_decimal.proofs.Remainder.{next_below, fraction_below, no_carry}
+use Rattle.font_decimal.proofs.Remainder.{next_below, fraction_below}
 use Rattle.font_decimal.proofs.shortest.shortest_digits.Goals as goal
+use Rattle.font_decimal.proofs.shortest.shortest_digits.Goals.{After-loop-margin}
 
 unit_is : (f : ℕ) → f ≤ 30 → 1 * 2 ^ (f + 1) % 18446744073709551616 ≡ 2 * 2 ^ f
 unit_is f h = one_shl (f + 1) 64 (omega arith) ∙ rw add-one (omega (arith, pow-suc 2 f))
@@ -30,37 +31,28 @@ loop-margin-preserved c =
       fail = below_more _ l.places l.invariant.fail (fails c);
     }
 
--- where the last digit is raised
-pub raise_last_digit-fraction-requires : goal.raise_last_digit-fraction-requires
-raise_last_digit-fraction-requires c =
-    let l = c.loop-margin.invariant in
-    let small = unit_is c.args.f c.requires in
-    let fewest = stopped l.rest (omega (arith, c.min.ensures, small)) l.within l.fail in
-    (no_carry _ _ fewest (omega arith) (rounded_up l.rest (omega (arith, small))), omega arith)
-
-fewest : (c : goal.After-raise_last_digit-fraction) → IsFewest c.args.magnitude c.args.f c.loop-margin.places
+fewest : (c : After-loop-margin) → IsFewest c.args.magnitude c.args.f c.loop-margin.places
 fewest c =
     let l = c.loop-margin.invariant in
     stopped l.rest (omega (arith, c.min.ensures, unit_is c.args.f c.requires)) l.within l.fail
 
+-- where the last digit is raised
 pub returns-then-rest-unit-clause-places : goal.returns-then-rest-unit-clause-places
-returns-then-rest-unit-clause-places c = places_are (fewest c)
+returns-then-rest-unit-clause-places c = places_are (fewest c.before)
 
 pub returns-then-rest-unit-clause-numeral : goal.returns-then-rest-unit-clause-numeral
-returns-then-rest-unit-clause-numeral c = rw c.raise_last_digit-fraction.ensures
-    (omega (arith, rounded_up c.loop-margin.invariant.rest (omega (arith, unit_is c.args.f c.requires))))
+returns-then-rest-unit-clause-numeral c =
+    omega (arith, rounded_up c.loop-margin.invariant.rest (omega (arith, unit_is c.args.f c.requires)))
 
 pub returns-then-rest-unit-clause-below : goal.returns-then-rest-unit-clause-below
 returns-then-rest-unit-clause-below c =
     let split = rounded_up c.loop-margin.invariant.rest (omega (arith, unit_is c.args.f c.requires))
     ∙ rw (one_shl c.args.f 64 (omega arith)) (omega arith) in
-    rw c.raise_last_digit-fraction.ensures (fraction_below _ (fewest c) split)
+    fraction_below _ (fewest c.before) split
 
 -- where it is not
 pub returns-else-rest-unit-clause-places : goal.returns-else-rest-unit-clause-places
-returns-else-rest-unit-clause-places c =
-    let l = c.loop-margin.invariant in
-    places_are (stopped l.rest (omega (arith, c.min.ensures, unit_is c.args.f c.requires)) l.within l.fail)
+returns-else-rest-unit-clause-places c = places_are (fewest c.before)
 
 pub returns-else-rest-unit-clause-numeral : goal.returns-else-rest-unit-clause-numeral
 returns-else-rest-unit-clause-numeral c =

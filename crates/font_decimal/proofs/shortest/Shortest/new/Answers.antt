@@ -1,7 +1,7 @@
 use Rattle.std.proofs.Common.{◌≡◌, arith, length-append, ◌∙◌, w64, FitsSigned, to_z-of_z, unsigned_abs, append-nil}
 use Rattle.font_decimal.specs.Shown.{shown}
 use Rattle.font_decimal.specs.Shortest.{shortest_text}
-use Rattle.font_decimal.proofs.Written.{shortest_is, text_is, digits_room, point_length}
+use Rattle.font_decimal.proofs.Printed.{shortest_is, text_is, digits_room, point_length}
 use Rattle.font_decimal.proofs.shortest.Shortest.new.Goals as goal
 
 pub push_fraction-requires : goal.push_fraction-requires

@@ -1,7 +1,7 @@
 use Rattle.std.proofs.Common.{◌≡◌, ℕ, ◌+◌, List, ◌++◌, length, arith, length-append, sym, ◌∙◌}
 use Rattle.font_decimal.specs.Shortest.{last_digits}
 use Rattle.font_decimal.specs.Shown.{shown}
-use Rattle.font_decimal.proofs.Written.{last_length, last_more, left_more}
+use Rattle.font_decimal.proofs.Printed.{last_length, last_more, left_more}
 use Rattle.font_decimal.proofs.shortest.Shortest.push_fraction.Goals as goal
 
 fraction_length : (p n : ℕ) (text old : List ℕ) → text ≡ last_digits p n ++ old → length text ≡ p + length old
