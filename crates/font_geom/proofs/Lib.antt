@@ -3,4 +3,3 @@ pub mod Elements
 pub mod Bounds
 pub mod RingCalls
 pub mod FixedCalls
-pub mod BoundCalls

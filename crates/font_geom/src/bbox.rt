@@ -8,6 +8,13 @@ ghost use Rattle.font_geom.specs.BoundingBox.{Compares, HasSamePairs};
 use std::ops::Mul;
 
 /// The least and greatest coordinates of a region.
+///
+/// ```
+/// use font_types::BoundingBox;
+/// let region = BoundingBox { x_min: 3, y_min: 0, x_max: 1, y_max: 2 };
+/// assert_eq!(region.normalize(), BoundingBox { x_min: 1, y_min: 0, x_max: 3, y_max: 2 });
+/// assert_eq!(region.scale(2).y_max, 4);
+/// ```
 #[derive(Clone, Copy, PartialEq, Eq, Default, Debug)]
 pub struct BoundingBox<T> {
     /// The least x, the left side.

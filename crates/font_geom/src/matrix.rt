@@ -19,6 +19,13 @@ use std::ops::{Add, Mul, MulAssign};
 ///
 /// It sends `(x, y)` to `(xx * x + xy * y + dx, yx * x + yy * y + dy)`. The product `a * b` applies
 /// `b` and then `a`.
+///
+/// ```
+/// use font_types::{Fixed, Matrix, Point};
+/// let half = Fixed::from_bits(0x8000);
+/// let shrink = Matrix { xx: half, yy: half, ..Matrix::identity() };
+/// assert_eq!(shrink * Point::new(Fixed::ONE, half), Point::new(half, half * half));
+/// ```
 #[derive(Clone, Copy, PartialEq, Eq, Debug)]
 pub struct Matrix<T> {
     /// What x adds to x.

@@ -6,6 +6,11 @@ ghost use Rattle.font_geom.specs.Calls.{CanCallEach, CallsEach};
 use std::ops::{Add, AddAssign, Div, DivAssign, Mul, MulAssign, Neg, Sub, SubAssign};
 
 /// A point of the plane.
+///
+/// ```
+/// use font_types::Point;
+/// assert_eq!(Point::new(3, 4) - Point::broadcast(1), Point::new(2, 3));
+/// ```
 #[derive(Clone, Copy, PartialEq, Eq, Default, Debug)]
 pub struct Point<T> {
     /// The x coordinate.

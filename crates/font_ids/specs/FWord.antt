@@ -1,5 +1,6 @@
 -- Quantities in font design units.
 use Rattle.std.specs.Prelude.{ℕ, ℤ}
+use Rattle.font_decimal.specs.Near.{up}
 use Rattle.font_ids.specs.declared.fword.FWord.{FWord}
 use Rattle.font_ids.specs.declared.fword.UfWord.{UfWord}
 
@@ -17,3 +18,7 @@ ufword_number word = word.0
 
 abbrev pub ufword_of : ℕ → UfWord
 ufword_of number = record { 0 = number }
+
+-- the whole number nearest to a quantity in steps of 2^-16, and of two that are equally near the greater one
+abbrev pub nearest_unit : ℤ → ℤ
+nearest_unit steps = up steps 65536

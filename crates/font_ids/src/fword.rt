@@ -1,21 +1,37 @@
 //! Quantities in font design units, of 16 bits.
 
-ghost use Rattle.std.specs.Prelude.{◌≡◌, ◌^◌, ◌+ℤ◌, ◌*ℤ◌, pos, nat_lt, Some, refl};
+ghost use Rattle.std.specs.Prelude.{◌≡◌, ◌↔◌, ◌^◌, ◌+ℤ◌, ◌*ℤ◌, ◌≤ℤ◌, ◌<ℤ◌, pos, nat_lt, Some};
+ghost use Rattle.std.specs.Prelude.{IsSome, IfSome, refl};
 ghost use Rattle.std.proofs.Common.{lit<};
 ghost use Rattle.std.specs.Fmt.{decimal, signed_decimal};
-ghost use Rattle.font_base.specs.Wrap.{fits_bits, wrap};
+ghost use Rattle.font_base.specs.Wrap.{FitsBits, fits_bits, wrap};
 ghost use Rattle.font_base.specs.Bytes.{bytes_of, numeral, signed_numeral};
 ghost use Rattle.font_base.specs.Scalar.Laws.{unsigned_newtype, unsigned_identity, signed_newtype};
 ghost use Rattle.font_base.specs.Scalar.Laws.{signed_identity};
 ghost use Rattle.font_fixed.specs.F48Dot16.{f48dot16_bits};
 ghost use Rattle.font_fixed.specs.Fixed.{fixed_bits};
 ghost use Rattle.font_ids.specs.FWord.{fword_number, fword_of, ufword_number, ufword_of};
+ghost use Rattle.font_ids.specs.FWord.{nearest_unit};
 
 use font_base::{FixedSize, IdentityEq, Scalar};
 use font_fixed::{F48Dot16, Fixed};
 use std::fmt;
 
+// The whole number nearest to a quantity in steps of `2^-16`, ties upwards.
+#[tactic(auto, using(font_arithmetic::proofs::Shifts::halves_up_128))]
+fn nearest_whole(steps: i128) -> i128
+    ensures { result ≡ nearest_unit steps }
+{
+    ((steps >> 15) + 1) >> 1
+}
+
 /// A signed quantity in font design units.
+///
+/// ```
+/// use font_types::{FWord, Fixed, Scalar};
+/// let ascender = FWord::read(&[0xFF, 0xFE]).unwrap();
+/// assert_eq!(ascender.to_fixed(), Fixed::from_i32(-2));
+/// ```
 #[derive(Clone, Copy, Debug, Default, PartialEq, Eq, PartialOrd, Ord, Hash)]
 pub struct FWord(i16);
 
@@ -47,6 +63,21 @@ impl FWord {
         ensures { result ≡ (fword_number self *ℤ pos 65536 +ℤ f48dot16_bits delta) }
     {
         i128::from(self.to_i16()) * 0x1_0000 + i128::from(delta.to_bits())
+    }
+
+    /// The number nearest to a quantity in steps of `2^-16`, as `apply_delta` gives it, ties
+    /// upwards, or `None` where that is out of range.
+    ///
+    /// ```
+    /// use font_types::{FWord, Fixed, vary};
+    /// let moved = vary(FWord::new(100), &[(Fixed::from_bits(0x8000), 3)]).unwrap();
+    /// assert_eq!(FWord::round_steps(moved), Some(FWord::new(102)));
+    /// ```
+    pub fn round_steps(steps: i128) -> Option<FWord>
+        ensures variant { IsSome result ↔ FitsBits 16 (nearest_unit steps) }
+        ensures value { IfSome result (λ word. fword_number word ≡ nearest_unit steps) }
+    {
+        Some(FWord::new(i16::try_from(nearest_whole(steps)).ok()?))
     }
 
     /// The two bytes in two's complement, highest first.
@@ -113,6 +144,11 @@ impl IdentityEq for FWord {
 }
 
 /// An unsigned quantity in font design units.
+///
+/// ```
+/// use font_types::{Scalar, UfWord};
+/// assert_eq!(UfWord::read(&[0xFF, 0xFE]), Some(UfWord::new(65534)));
+/// ```
 #[derive(Clone, Copy, Debug, Default, PartialEq, Eq, PartialOrd, Ord, Hash)]
 pub struct UfWord(u16);
 
@@ -143,6 +179,16 @@ impl UfWord {
         ensures { result ≡ (pos (ufword_number self) *ℤ pos 65536 +ℤ f48dot16_bits delta) }
     {
         i128::from(self.to_u16()) * 0x1_0000 + i128::from(delta.to_bits())
+    }
+
+    /// The number nearest to a quantity in steps of `2^-16`, as `apply_delta` gives it, ties
+    /// upwards, or `None` where that is out of range.
+    pub fn round_steps(steps: i128) -> Option<UfWord>
+        ensures variant { IsSome result
+            ↔ ((pos 0 ≤ℤ nearest_unit steps) × (nearest_unit steps <ℤ pos 65536)) }
+        ensures value { IfSome result (λ word. pos (ufword_number word) ≡ nearest_unit steps) }
+    {
+        Some(UfWord::new(u16::try_from(nearest_whole(steps)).ok()?))
     }
 
     /// The two bytes, highest first.

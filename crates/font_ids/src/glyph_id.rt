@@ -17,6 +17,11 @@ use std::fmt;
 use thiserror::Error;
 
 /// A glyph identifier of 16 bits.
+///
+/// ```
+/// use font_types::{GlyphId, GlyphId16};
+/// assert_eq!(GlyphId16::try_from(GlyphId::new(7)).unwrap(), GlyphId16::new(7));
+/// ```
 #[derive(Clone, Copy, Debug, Default, PartialEq, Eq, PartialOrd, Ord, Hash)]
 pub struct GlyphId16(u16);
 
@@ -146,6 +151,11 @@ impl IdentityEq for GlyphId16 {
 }
 
 /// A glyph identifier of 24 bits.
+///
+/// ```
+/// use font_types::GlyphId24;
+/// assert_eq!(GlyphId24::checked_new(0x01_0000).unwrap().to_be_bytes(), [1, 0, 0]);
+/// ```
 #[derive(Clone, Copy, Debug, Default, PartialEq, Eq, PartialOrd, Ord, Hash)]
 pub struct GlyphId24(Uint24);
 
@@ -263,6 +273,11 @@ impl IdentityEq for GlyphId24 {
 }
 
 /// A glyph identifier of 32 bits, into which those of 16 and 24 bits convert.
+///
+/// ```
+/// use font_types::{GlyphId, GlyphId16};
+/// assert_eq!(GlyphId::from(GlyphId16::new(7)).to_u32(), 7);
+/// ```
 #[derive(Clone, Copy, Debug, Default, PartialEq, Eq, PartialOrd, Ord, Hash)]
 pub struct GlyphId(u32);
 
@@ -348,6 +363,12 @@ impl From<GlyphId> for u32 {
 }
 
 /// A glyph identifier that is too large for the type it was to be converted to.
+///
+/// ```
+/// use font_types::{GlyphId, GlyphId16};
+/// let error = GlyphId16::try_from(GlyphId::new(65536)).unwrap_err();
+/// assert_eq!(error.value(), 65536);
+/// ```
 #[derive(Debug, Drop, Error)]
 #[error("glyph identifier {0} too large for conversion")]
 pub struct TryFromGlyphIdError(u32);

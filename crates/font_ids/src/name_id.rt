@@ -15,6 +15,12 @@ use std::fmt;
 ///
 /// Some numbers are predefined and have a constant here; up to 255 they are kept for standard
 /// names, and from 256 to 32767 they are the font's own.
+///
+/// ```
+/// use font_types::NameId;
+/// assert_eq!(NameId::new(1), NameId::FAMILY_NAME);
+/// assert!(NameId::FAMILY_NAME.is_reserved());
+/// ```
 #[derive(Clone, Copy, PartialEq, Eq, PartialOrd, Ord, Hash)]
 pub struct NameId(u16);
 
@@ -247,6 +253,11 @@ impl IdentityEq for NameId {
 }
 
 /// The predefined ids, one by one from the least on.
+///
+/// ```
+/// use font_types::NameId;
+/// assert_eq!(NameId::predefined().nth(1), Some(NameId::FAMILY_NAME));
+/// ```
 #[derive(Clone, Drop)]
 pub struct Predefined {
     next: u16,
@@ -261,15 +272,12 @@ impl Iterator for Predefined {
 
     #[tactic(auto, unfolding(crate::specs::NameId::predefined_left))]
     fn next(&mut self) -> Option<NameId> {
-        if self.next == 15 {
-            self.next = 16;
-        }
-        if self.next > 25 {
+        let number = if self.next == 15 { 16 } else { self.next };
+        if number > 25 {
             return None;
         }
-        let id = NameId(self.next);
-        self.next += 1;
-        Some(id)
+        self.next = number + 1;
+        Some(NameId(number))
     }
 
     #[tactic(auto, unfolding(crate::specs::NameId::predefined_left))]

@@ -15,6 +15,12 @@ use font_base::{FixedSize, IdentityEq, Scalar, Uint24};
 
 /// An offset of 16 bits to a table. Zero is null, and stands for no table where the field allows
 /// it.
+///
+/// ```
+/// use font_types::Offset16;
+/// let offset = Offset16::new(7);
+/// assert!(!offset.is_null() && offset.to_u32() == 7);
+/// ```
 #[derive(Clone, Copy, Debug, PartialEq, Eq, PartialOrd, Ord)]
 pub struct Offset16(u16);
 
@@ -80,6 +86,12 @@ impl IdentityEq for Offset16 {
 
 /// An offset of 24 bits to a table. Zero is null, and stands for no table where the field allows
 /// it.
+///
+/// ```
+/// use font_types::{Offset24, Uint24};
+/// let offset = Offset24::new(Uint24::new(7));
+/// assert!(!offset.is_null() && offset.to_u32() == 7);
+/// ```
 #[derive(Clone, Copy, Debug, PartialEq, Eq, PartialOrd, Ord)]
 pub struct Offset24(Uint24);
 
@@ -147,6 +159,12 @@ impl IdentityEq for Offset24 {
 
 /// An offset of 32 bits to a table. Zero is null, and stands for no table where the field allows
 /// it.
+///
+/// ```
+/// use font_types::Offset32;
+/// let offset = Offset32::new(7);
+/// assert!(!offset.is_null() && offset.to_u32() == 7);
+/// ```
 #[derive(Clone, Copy, Debug, PartialEq, Eq, PartialOrd, Ord)]
 pub struct Offset32(u32);
 
@@ -272,7 +290,10 @@ impl OffsetValue for Offset32 {
 
 /// An offset in a field that allows null, which then stands for no table.
 ///
-/// `Nullable::<Offset16>::read(&[0, 0])` is null.
+/// ```
+/// use font_types::{Nullable, Offset16, Scalar};
+/// assert!(Nullable::<Offset16>::read(&[0, 0]).unwrap().is_null());
+/// ```
 #[derive(Clone, Copy, Debug, PartialEq, Eq)]
 pub struct Nullable<T>(T);
 

@@ -1,9 +1,7 @@
 -- Good bytes, index by index, and where others go wrong.
 use Rattle.std.proofs.Common.{◌≡◌, ◌≢◌, ap, ℕ, ◌+◌, ◌-◌, ◌<◌, ◌≤◌, List, ◌++◌, length, take, replicate, get_or, arith}
-use Rattle.std.proofs.Common.{min, drop, Option, None, Some, unwrap_or, MatchOption, rules, take_all, length-drop}
+use Rattle.std.proofs.Common.{min, drop, rules, take_all}
 use Rattle.std.proofs.Common.{append_assoc}
-use Rattle.std.specs.List.{AllWithin, HoldsAt}
-use Rattle.std.specs.Option.{option_map}
 use Rattle.std.proofs.lemmas.Grind.{elements}
 use Rattle.std.proofs.lemmas.List.{places, drop-replicate, replicate-append-replicate}
 use Rattle.std.proofs.lemmas.List.Elements.{All-from_get_or}
@@ -43,52 +41,31 @@ pub fault_not_good : (bytes : List ℕ) (index : ℕ) → IsFault bytes index �
 fault_not_good bytes index fault good = let to = to_good bytes good in
     fault.fails (good_to bytes _ _ (shorter bytes _ _ (index + 1) to (omega arith) (omega (arith, fault.within))))
 
--- a run of visible bytes at the front, as long as there is one
-pub record Run (bytes : List ℕ) (n : ℕ) : Type 0 where
-  within : n ≤ length bytes
-  visible : (i : ℕ) → i < n → IsVisible (get_or bytes i 0)
-  ends : n < length bytes → ¬ IsVisible (get_or bytes n 0)
+-- ---- a run of visible bytes that ends at n, and spaces behind it that end at m
 
--- what a search for the first byte that is not visible tells
-pub run_is : (bytes : List ℕ) (r : Option ℕ) (n : ℕ) → n ≡ unwrap_or r (length bytes)
-    → MatchOption r (AllWithin IsVisible bytes 0 (length bytes))
-    (λ i. (i < length bytes) × HoldsAt (λ byte. ¬ IsVisible byte) bytes i × AllWithin IsVisible bytes 0 i)
-    → Run bytes n
-run_is bytes None n is all = record {
-  within = omega arith;
-  visible = λ i below. all i 0 (omega arith) (omega arith);
-  ends = λ below. absurd (omega arith);
-}
-run_is bytes (Some i) n is first = rw is (record {
-  within = omega (arith, first.0);
-  visible = λ k below. first.2 k 0 (omega arith) below;
-  ends = λ below. first.1 0;
-})
-
-to_space : (bytes : List ℕ) (n m : ℕ) → 0 < n → Run bytes n → m ≤ length (drop n bytes)
-    → AllWithin (λ byte. byte ≡ 0x20) (drop n bytes) 0 m → GoodTo bytes n (n + m)
-to_space bytes n m some run room all = record {
-  nonempty = some;
-  run_within = omega arith;
-  within = omega (arith, length-drop n bytes, run);
-  visible = run.visible;
-  spaces = λ i from below. let space = all (i - n) 0 (omega arith) (omega arith) in grind (arith, elements);
+run_to : (bytes : List ℕ) (n m : ℕ) → n ≢ 0 → ((i : ℕ) → i < n → IsVisible (get_or bytes i 0)) → n ≤ m
+    → m ≤ length bytes → ((i : ℕ) → n ≤ i → i < m → get_or bytes i 0 ≡ 0x20) → GoodTo bytes n m
+run_to bytes n m some visible from room spaces = record {
+  nonempty = omega (arith, some);
+  run_within = from;
+  within = room;
+  visible = visible;
+  spaces = spaces;
 }
 
--- and one behind the run, for the first byte that is no space
-pub judged_behind : (bytes : List ℕ) (n : ℕ) (r : Option ℕ) → 0 < n → Run bytes n
-    → MatchOption r (AllWithin (λ byte. byte ≡ 0x20) (drop n bytes) 0 (length (drop n bytes)))
-    (λ j. (j < length (drop n bytes)) × HoldsAt (λ byte. byte ≢ 0x20) (drop n bytes) j
-    × AllWithin (λ byte. byte ≡ 0x20) (drop n bytes) 0 j)
-    → MatchOption (option_map (λ j. n + j) r) (IsGood bytes) (IsFault bytes)
-judged_behind bytes n None some run all =
-    rw (take_all (n + length (drop n bytes)) bytes (omega (arith, length-drop n bytes))) at
-    (good_to bytes n _ (to_space bytes n _ some run (omega arith) all))
-judged_behind bytes n (Some j) some run first =
-    let to = to_space bytes n j some run (omega (arith, first.0)) first.2 in
+pub run_good : (bytes : List ℕ) (n m : ℕ) → n ≢ 0 → ((i : ℕ) → i < n → IsVisible (get_or bytes i 0)) → n ≤ m
+    → m ≤ length bytes → ((i : ℕ) → n ≤ i → i < m → get_or bytes i 0 ≡ 0x20) → length bytes ≤ m → IsGood bytes
+run_good bytes n m some visible from room spaces whole =
+    rw (take_all m bytes whole) at (good_to bytes n m (run_to bytes n m some visible from room spaces))
+
+pub run_fault : (bytes : List ℕ) (n m : ℕ) → n ≢ 0 → ((i : ℕ) → i < n → IsVisible (get_or bytes i 0))
+    → (n < length bytes → ¬ IsVisible (get_or bytes n 0)) → n ≤ m → m < length bytes
+    → ((i : ℕ) → n ≤ i → i < m → get_or bytes i 0 ≡ 0x20) → get_or bytes m 0 ≢ 0x20 → IsFault bytes m
+run_fault bytes n m some visible end from below spaces other =
+    let to = run_to bytes n m some visible from (omega arith) spaces in
     record {
-      within = omega (arith, length-drop n bytes, first.0);
-      fails = λ good. let other = to_good _ good in grind (arith, elements, other, run, first.1 0);
+      within = below;
+      fails = λ good. let whole = to_good _ good in grind (arith, elements, whole, to, end (omega arith), other);
       least = λ i before. good_to bytes _ _ (shorter bytes _ _ (i + 1) to (omega arith) (omega arith));
     }
 

@@ -10,6 +10,12 @@ ghost use Rattle.font_tags.specs.LongDateTime.{date_seconds, date_of};
 use font_base::{FixedSize, IdentityEq, Scalar};
 
 /// A date and time: seconds since midnight of January 1, 1904, UTC, and negative before.
+///
+/// ```
+/// use font_types::{LongDateTime, Scalar};
+/// let epoch_of_unix = LongDateTime::read(&[0, 0, 0, 0, 0x7C, 0x25, 0xB0, 0x80]).unwrap();
+/// assert_eq!(epoch_of_unix.as_secs(), 2_082_844_800);
+/// ```
 #[derive(Clone, Copy, Debug, Default, PartialEq, Eq, PartialOrd, Ord, Hash)]
 pub struct LongDateTime(i64);
 

@@ -1,14 +1,19 @@
 //! Tags of four bytes.
 
-ghost use Rattle.std.specs.Prelude.{◌≡◌, ◌<◌, ◌++◌, ◌↔◌, pos, Some, IsTrue, IsOk, IfOk};
-ghost use Rattle.std.specs.Prelude.{MatchOption, length, refl};
+ghost use Rattle.std.specs.Prelude.{◌≡◌, ◌≢◌, ◌<◌, ◌≤◌, ◌++◌, ◌↔◌, ℕ, pos, Some, IsTrue};
+ghost use Rattle.std.specs.Prelude.{IsOk, IfOk, MatchOption, slice_index, length, refl};
+ghost use Rattle.std.specs.Cmp.{on_po};
+ghost use Rattle.std.specs.Cmp.Lexicographic.{slice_cmp, texts_po, on_texts, texts_ties};
+ghost use Rattle.std.specs.Ordering.{on, nat_cmp};
 ghost use Rattle.std.specs.Fmt.{WritesOnOk};
 ghost use lib.Chars.{codes};
 ghost use Rattle.font_base.specs.Bytes.{are_bytes, bytes_of};
-ghost use Rattle.font_tags.specs.Tag.{tag_bytes, tag_of, four_spaces, IsGood, IsFault};
-ghost use Rattle.font_tags.specs.Tag.{IsAcceptable, IsChecked, IsValidated, byte_text, tag_text};
+ghost use Rattle.font_tags.specs.Tag.{tag_bytes, tag_of, four_spaces, IsVisible};
+ghost use Rattle.font_tags.specs.Tag.{IsGood, IsFault, IsAcceptable, IsChecked, IsValidated};
+ghost use Rattle.font_tags.specs.Tag.{byte_text, tag_text};
 
 use font_base::{BeByteArray, FixedSize, IdentityEq, Scalar};
+use std::cmp::Ordering;
 use std::fmt;
 use std::str::FromStr;
 use thiserror::Error;
@@ -21,7 +26,13 @@ pub const TTC_HEADER_TAG: Tag = Tag([0x74, 0x74, 0x63, 0x66]);
 /// A good tag has one to four visible characters of ASCII, filled to four bytes with spaces. Fonts
 /// hold others too, so any four bytes are a `Tag`: [`Tag::new_checked`] takes good ones alone, and
 /// [`Tag::validate`] judges a tag.
-#[derive(Clone, Copy, PartialEq, Eq, PartialOrd, Ord, Hash)]
+///
+/// ```
+/// use font_types::{InvalidTag, Tag};
+/// assert_eq!(Tag::new_checked(b"cvt").unwrap(), Tag::new(b"cvt "));
+/// assert_eq!(Tag::new_checked(b"glyph"), Err(InvalidTag::InvalidLength(5)));
+/// ```
+#[derive(Clone, Copy, PartialEq, Eq, Hash)]
 pub struct Tag([u8; 4]);
 
 impl Tag {
@@ -34,7 +45,11 @@ impl Tag {
 
     /// The tag of one to four good bytes, filled with spaces.
     ///
-    /// `Tag::new_checked(b"cv1")` is `cv1` and a space. Every fault of the bytes is `InvalidByte`,
+    /// `Tag::new_checked(b"cv1")` is `cv1` and a space.
+    ///
+    /// # Errors
+    ///
+    /// No bytes and more than four are `InvalidLength`. Every fault of the bytes is `InvalidByte`,
     /// also a visible byte after a space.
     #[tactic(auto, using(crate::proofs::Good::tag_judgements))]
     pub fn new_checked(src: &[u8]) -> Result<Self, InvalidTag>
@@ -52,7 +67,7 @@ impl Tag {
             });
         }
         let mut bytes = [b' '; 4];
-        bytes[..src.len()].copy_from_slice(src);
+        bytes.split_at_mut(src.len()).0.copy_from_slice(src);
         Ok(Self(bytes))
     }
 
@@ -115,7 +130,10 @@ impl Tag {
 
     /// Whether the tag is good: visible characters, and only spaces behind them.
     ///
-    /// Four spaces are refused as a tag of no bytes, `InvalidLength(0)`.
+    /// # Errors
+    ///
+    /// Four spaces are refused as a tag of no bytes, `InvalidLength(0)`, a visible byte after a
+    /// space as `ByteAfterSpace`, and any other fault as `InvalidByte`.
     #[tactic(auto, using(crate::proofs::Good::tag_judgements))]
     pub fn validate(self) -> Result<(), InvalidTag>
         ensures judged { IsValidated (tag_bytes self) result }
@@ -140,15 +158,39 @@ fn first_fault(bytes: &[u8]) -> Option<usize>
     requires { 0 < length bytes.now }
     ensures { MatchOption result (IsGood bytes.now) (λ index. IsFault bytes.now index) }
 {
-    let run = bytes
-        .iter()
-        .position(|byte| !byte.is_ascii_graphic())
-        .unwrap_or(bytes.len());
+    let run = visible_run(bytes);
     if run == 0 {
         return Some(0);
     }
-    let behind = bytes[run..].iter().position(|byte| *byte != b' ');
-    behind.map(|index| run + index)
+    let pos = behind_spaces(bytes, run);
+    if pos < bytes.len() { Some(pos) } else { None }
+}
+
+// How many bytes in front are visible.
+fn visible_run(bytes: &[u8]) -> usize
+    ensures within { result ≤ length bytes.now }
+    ensures visible { (i : ℕ) → i < result → IsVisible (slice_index bytes.now i) }
+    ensures end { result < length bytes.now → ¬ IsVisible (slice_index bytes.now result) }
+{
+    let mut run = 0;
+    while run < bytes.len() && bytes[run].is_ascii_graphic() {
+        run += 1;
+    }
+    run
+}
+
+// Where the spaces end that stand from this index on.
+fn behind_spaces(bytes: &[u8], from: usize) -> usize
+    requires { from ≤ length bytes.now }
+    ensures within { (from ≤ result) × (result ≤ length bytes.now) }
+    ensures spaces { (i : ℕ) → from ≤ i → i < result → slice_index bytes.now i ≡ 32 }
+    ensures end { result < length bytes.now → slice_index bytes.now result ≢ 32 }
+{
+    let mut pos = from;
+    while pos < bytes.len() && bytes[pos] == b' ' {
+        pos += 1;
+    }
+    pos
 }
 
 /// Why bytes are no good tag.
@@ -171,6 +213,30 @@ pub enum InvalidTag {
         /// The index of the byte.
         pos: usize,
     },
+}
+
+impl PartialOrd for Tag {
+    ghost partial_cmp = { λ a b. Some (slice_cmp nat_cmp (tag_bytes a) (tag_bytes b)) };
+
+    ghost laws = { on_po tag_bytes texts_po };
+
+    fn partial_cmp(&self, other: &Tag) -> Option<Ordering> {
+        Some(self.cmp(other))
+    }
+}
+
+impl Ord for Tag {
+    ghost cmp = { on tag_bytes (slice_cmp nat_cmp) };
+
+    ghost total = { on_texts tag_bytes };
+
+    ghost matches_partial_cmp = { λ a b. refl };
+
+    ghost matches_eq = { λ a b. texts_ties (tag_bytes a) (tag_bytes b) };
+
+    fn cmp(&self, other: &Tag) -> Ordering {
+        self.0.cmp(&other.0)
+    }
 }
 
 impl FromStr for Tag {

@@ -16,6 +16,13 @@ use std::fmt;
 /// number, and 12 without meaning.
 ///
 /// Versions are equal where all 32 bits are.
+///
+/// ```
+/// use font_types::{Compatible, Version16Dot16};
+/// let version = Version16Dot16::new(0, 5);
+/// assert_eq!(version.to_be_bytes(), [0, 0, 0x50, 0]);
+/// assert!(version.compatible((0, 5)));
+/// ```
 #[derive(Clone, Copy, Default, PartialEq, Eq, PartialOrd, Ord, Hash)]
 pub struct Version16Dot16(u32);
 
@@ -117,6 +124,12 @@ impl IdentityEq for Version16Dot16 {
 }
 
 /// A version of the newer tables: a major and a minor number of 16 bits each.
+///
+/// ```
+/// use font_types::{Compatible, MajorMinor};
+/// let version = MajorMinor::new(1, 2);
+/// assert!(version.compatible((1, 0)) && !version.compatible((1, 3)));
+/// ```
 #[derive(Clone, Copy, Debug, Default, PartialEq, Eq, PartialOrd, Ord, Hash)]
 pub struct MajorMinor {
     /// The major number.

@@ -98,6 +98,6 @@ fn far_where_an_entry_leaves_the_range(rt: HostRuntime) {
 fn identity_of_the_ends(rt: HostRuntime) {
     for &end in &[Fixed::MIN, Fixed::MAX, Fixed::EPSILON] {
         let m = Matrix::from_elements([end; 6]);
-        assert!(rt; fixed_identity(m) == (m, m));
+        assert!(rt; fixed_identity(m) == (m, m), "{end}");
     }
 }

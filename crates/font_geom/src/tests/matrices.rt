@@ -42,7 +42,7 @@ fn unequal_in_one_element(rt: HostRuntime) {
     for place in 0..6usize {
         let mut elements = [1, 2, 3, 4, 5, 6];
         elements[place] = 0;
-        assert!(rt; whole([1, 2, 3, 4, 5, 6]) != whole(elements));
+        assert!(rt; whole([1, 2, 3, 4, 5, 6]) != whole(elements), "{place}");
     }
 }
 

@@ -15,8 +15,14 @@ fn compared_across_widths(rt: HostRuntime) {
     ] {
         let (id, id16) = (GlyphId::new(wide), GlyphId16::new(narrow));
         let equal = order == Ordering::Equal;
-        assert!(rt; id.cmp_gid16(&id16) == order && id16.cmp_gid(&id) == order.reverse());
-        assert!(rt; id.eq_gid16(&id16) == equal && id16.eq_gid(&id) == equal);
+        assert!(rt;
+            id.cmp_gid16(&id16) == order && id16.cmp_gid(&id) == order.reverse(),
+            "order of {wide} and {narrow}"
+        );
+        assert!(rt;
+            id.eq_gid16(&id16) == equal && id16.eq_gid(&id) == equal,
+            "{wide} and {narrow}"
+        );
     }
 }
 

@@ -82,7 +82,7 @@ fn predefined(rt: HostRuntime) -> Result<(), Fail> {
     assert!(rt; left.nth(11) == Some(NameId::LICENSE_URL) && left.size_hint() == (10, Some(10)));
     assert!(rt; left.nth(9).is_some() && left.size_hint() == (0, Some(0)));
     for (id, row) in ids.iter().zip(&NAMED) {
-        assert!(rt; *id == row.0);
+        assert!(rt; *id == row.0, "{}", row.2);
     }
     Ok(())
 }
@@ -115,7 +115,10 @@ fn added(rt: HostRuntime) {
         (1, 65535, None),
         (0, 0, Some(0)),
     ] {
-        assert!(rt; NameId::new(number).checked_add(more) == sum.map(NameId::new));
+        assert!(rt;
+            NameId::new(number).checked_add(more) == sum.map(NameId::new),
+            "{number} + {more}"
+        );
     }
 }
 

@@ -33,8 +33,13 @@ fn numbers(rt: HostRuntime) {
 fn compared_with_numbers(rt: HostRuntime) {
     let middle = Offset24::new(Uint24::new(7));
     for &(number, equal) in &[(7, true), (8, false), (65543, false), (16777223, false)] {
-        assert!(rt; Offset16::new(7).eq_u32(&number) == equal && middle.eq_u32(&number) == equal);
-        assert!(rt; Offset32::new(7).eq_u32(&number) == equal);
+        let short = Offset16::new(7).eq_u32(&number);
+        let all = [
+            short,
+            middle.eq_u32(&number),
+            Offset32::new(7).eq_u32(&number),
+        ];
+        assert!(rt; all == [equal; 3], "{number}");
     }
     let (middle, long) = (Offset24::new(Uint24::new(65543)), Offset32::new(16777223));
     for &(number, of_middle, of_long) in &[
@@ -42,8 +47,8 @@ fn compared_with_numbers(rt: HostRuntime) {
         (65543, true, false),
         (16777223, false, true),
     ] {
-        assert!(rt; middle.eq_u32(&number) == of_middle, "24 bits: {number}");
-        assert!(rt; long.eq_u32(&number) == of_long, "32 bits: {number}");
+        let equal = [middle.eq_u32(&number), long.eq_u32(&number)];
+        assert!(rt; equal == [of_middle, of_long], "{number}");
     }
 }
 

@@ -15,10 +15,13 @@ fn as_fixed(rt: HostRuntime) {
         (40000, -1673527296),
         (65535, -65536),
     ] {
-        assert!(rt; UfWord::new(number).to_fixed().to_bits() == bits);
+        assert!(rt;
+            UfWord::new(number).to_fixed().to_bits() == bits,
+            "{number}"
+        );
     }
     for &(number, bits) in &[(-32768, -2147483648), (-1, -65536), (100, 6553600)] {
-        assert!(rt; FWord::new(number).to_fixed().to_bits() == bits);
+        assert!(rt; FWord::new(number).to_fixed().to_bits() == bits, "{number}");
     }
 }
 
@@ -29,10 +32,46 @@ fn moved_by_deltas(rt: HostRuntime) {
         (-100, -16384, -6569984),
         (32767, i64::MAX, 9223372039002193919),
     ] {
-        assert!(rt; FWord::new(number).apply_delta(F48Dot16::from_bits(bits)) == moved);
+        assert!(rt;
+            FWord::new(number).apply_delta(F48Dot16::from_bits(bits)) == moved,
+            "{number} by {bits}"
+        );
     }
     for &(number, bits, moved) in &[(1000, -98304, 65437696), (0, 0, 0), (65535, 0, 4294901760)] {
-        assert!(rt; UfWord::new(number).apply_delta(F48Dot16::from_bits(bits)) == moved);
+        assert!(rt;
+            UfWord::new(number).apply_delta(F48Dot16::from_bits(bits)) == moved,
+            "{number} by {bits}"
+        );
+    }
+}
+
+#[test]
+fn rounded_from_steps(rt: HostRuntime) {
+    let rows = [
+        (0, Some(0), Some(0)),
+        (32767, Some(0), Some(0)),
+        (32768, Some(1), Some(1)),
+        (-32768, Some(0), Some(0)),
+        (-32769, Some(-1), None),
+        (-98304, Some(-1), None),
+        (2147450879, Some(32767), Some(32767)),
+        (2147450880, None, Some(32768)),
+        (4294934527, None, Some(65535)),
+        (4294934528, None, None),
+        (-2147516416, Some(-32768), None),
+        (-2147516417, None, None),
+        (i128::MAX, None, None),
+        (i128::MIN, None, None),
+    ];
+    for &(steps, signed, unsigned) in &rows {
+        assert!(rt;
+            FWord::round_steps(steps) == signed.map(FWord::new),
+            "{steps} steps"
+        );
+        assert!(rt;
+            UfWord::round_steps(steps) == unsigned.map(UfWord::new),
+            "{steps} steps"
+        );
     }
 }
 

@@ -25,7 +25,10 @@ fn refused_at_a_byte(rt: HostRuntime) {
         ("é", 0, 0xC3),
     ] {
         let fault = Err(InvalidTag::InvalidByte { pos, byte });
-        assert!(rt; Tag::from_str(text) == fault && Tag::new_checked(text.as_bytes()) == fault);
+        assert!(rt;
+            Tag::from_str(text) == fault && Tag::new_checked(text.as_bytes()) == fault,
+            "'{text}'"
+        );
     }
 }
 
@@ -33,14 +36,17 @@ fn refused_at_a_byte(rt: HostRuntime) {
 fn refused_at_a_length(rt: HostRuntime) {
     for &(text, len) in &[("", 0), ("abcde", 5), ("a\0cde", 5), ("abc\u{e9}", 5)] {
         let fault = Err(InvalidTag::InvalidLength(len));
-        assert!(rt; Tag::from_str(text) == fault && Tag::new_checked(text.as_bytes()) == fault);
+        assert!(rt;
+            Tag::from_str(text) == fault && Tag::new_checked(text.as_bytes()) == fault,
+            "'{text}'"
+        );
     }
 }
 
 #[test]
 fn valid(rt: HostRuntime) {
     for tag in &[b"head", b"a   ", b"ab  ", b"abc ", b"!333", b"~333"] {
-        assert!(rt; Tag::new(tag).validate().is_ok());
+        assert!(rt; Tag::new(tag).validate().is_ok(), "{}", Tag::new(tag));
     }
 }
 
@@ -54,7 +60,11 @@ fn invalid(rt: HostRuntime) {
         (b"\x7FABC", InvalidTag::InvalidByte { pos: 0, byte: 0x7F }),
         (b"a \x80b", InvalidTag::InvalidByte { pos: 2, byte: 0x80 }),
     ] {
-        assert!(rt; Tag::new(tag).validate().as_ref() == Err(fault));
+        assert!(rt;
+            Tag::new(tag).validate().as_ref() == Err(fault),
+            "{}",
+            Tag::new(tag)
+        );
     }
 }
 
@@ -74,7 +84,7 @@ fn printed(rt: HostRuntime) -> Result<(), Fail> {
         (0x00AB_FF7E, "{0x00}{0xAB}{0xFF}~"),
         (0x0000_0001, "{0x00}{0x00}{0x00}{0x01}"),
     ] {
-        assert!(rt; is_printed(rt.alloc(), Tag::from_u32(tag), text)?);
+        assert!(rt; is_printed(rt.alloc(), Tag::from_u32(tag), text)?, "{text}");
     }
     Ok(())
 }
@@ -133,8 +143,11 @@ fn texts_of_faults(rt: HostRuntime) -> Result<(), Fail> {
             "Non-space character after first space ByteAfterSpace { pos: 3 }",
         ),
     ] {
-        assert!(rt; format!(in rt.alloc(); "{fault} {fault:?}")?.as_str() == text);
-        assert!(rt; &fault.clone()? == fault);
+        assert!(rt;
+            format!(in rt.alloc(); "{fault} {fault:?}")?.as_str() == text,
+            "{text}"
+        );
+        assert!(rt; &fault.clone()? == fault, "copy: {text}");
     }
     Ok(())
 }
@@ -157,7 +170,7 @@ fn every_byte_printed_at_each_place(rt: HostRuntime) -> Result<(), Fail> {
             let (front, back) = ("abcd".split_at(place).0, "abcd".split_at(place + 1).1);
             let text = format!(in rt.alloc(); "{front}{shown}{back}")?;
             let tag = format!(in rt.alloc(); "{}", Tag::new(&bytes))?;
-            assert!(rt; tag.as_str() == text.as_str());
+            assert!(rt; tag.as_str() == text.as_str(), "{byte} at {place}");
         }
     }
     Ok(())

@@ -21,8 +21,11 @@ fn packed(rt: HostRuntime) {
         (2, 5, Version16Dot16::VERSION_2_5),
         (3, 0, Version16Dot16::VERSION_3_0),
     ] {
-        assert!(rt; Version16Dot16::new(major, minor) == version);
-        assert!(rt; version.to_major_minor() == (major, minor));
+        let numbers = version.to_major_minor();
+        assert!(rt;
+            Version16Dot16::new(major, minor) == version && numbers == (major, minor),
+            "{version}"
+        );
     }
     let [low, nine, ten] = [65535, 9, 10].map(|minor| Version16Dot16::new(1, minor));
     assert!(rt; low.to_major_minor() == (1, 9) && ten == nine);
@@ -58,7 +61,7 @@ fn pairs(rt: HostRuntime) {
         (1, 3, MajorMinor::VERSION_1_3),
         (2, 0, MajorMinor::VERSION_2_0),
     ] {
-        assert!(rt; MajorMinor::new(major, minor) == version);
+        assert!(rt; MajorMinor::new(major, minor) == version, "{version}");
     }
     let default = MajorMinor::default();
     assert!(rt;
@@ -86,8 +89,11 @@ fn packed_versions_compatible(rt: HostRuntime) {
         (3, 0, (2, 0), false),
     ] {
         let version = Version16Dot16::new(major, minor);
-        assert!(rt; version.compatible(other) == compatible);
-        assert!(rt; version.compatible(Version16Dot16::new(other.0, other.1)) == compatible);
+        let packed = version.compatible(Version16Dot16::new(other.0, other.1));
+        assert!(rt;
+            version.compatible(other) == compatible && packed == compatible,
+            "{version} for {other:?}"
+        );
     }
 }
 
@@ -103,8 +109,11 @@ fn pairs_compatible(rt: HostRuntime) {
         (2, 3, (1, 3), false),
     ] {
         let version = MajorMinor::new(major, minor);
-        assert!(rt; version.compatible(other) == compatible);
-        assert!(rt; version.compatible(MajorMinor::new(other.0, other.1)) == compatible);
+        let pair = version.compatible(MajorMinor::new(other.0, other.1));
+        assert!(rt;
+            version.compatible(other) == compatible && pair == compatible,
+            "{version} for {other:?}"
+        );
     }
 }
 
