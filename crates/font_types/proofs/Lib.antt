@@ -1,4 +1,3 @@
 pub mod JsonLemmas
 pub mod SumCalls
-pub mod NarrowCalls
 pub mod Callers

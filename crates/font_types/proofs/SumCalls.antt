@@ -1,19 +1,22 @@
 -- What callers name once of sums that wrap at each step: each is the exact sum, wrapped.
 use Rattle.std.proofs.Common.{◌≡◌, ◌∙◌, sym, ap, ℕ, ◌+◌, ◌<◌, List, length, take, get_or, ℤ, pos, ◌+ℤ◌, lit<, arith}
-use Rattle.std.proofs.Common.{◌%◌, w16, SFits, to_z, of_z}
+use Rattle.std.proofs.Common.{◌≤◌, ◌*ℤ◌, ◌%◌, ◌^◌, w16, w32, SFits, to_z, of_z, refl, lit≤, unsigned_abs}
+use Rattle.std.specs.Int.{w128}
 use Rattle.std.proofs.Math.IntN.{+ℤ_assoc}
-use Rattle.std.proofs.lemmas.Int.{ints, wrapping_add_onto}
+use Rattle.std.proofs.lemmas.Int.{ints, unsigned_abs-mul, wrapping_add_onto}
+use Rattle.std.proofs.Math.Nat.{mul-le-mul}
+use Rattle.std.proofs.lemmas.List.{take_all}
 use Rattle.std.proofs.lemmas.List.Sums.{fold_more}
+use Rattle.font_base.proofs.Moved.{bytes_moved}
 use Rattle.font_base.proofs.Widths.{int_wrap-wrap}
-use Rattle.font_base.specs.Wrap.{wrap}
-use Rattle.font_base.specs.Wrap.Laws.{wrap-add_left, wrap-add_right}
+use Rattle.font_base.specs.Wrap.{wrap, FitsBits}
+use Rattle.font_base.specs.Wrap.Laws.{wrap-add_left, wrap-add_right, wrap-fits, wrap-wrap}
 use Rattle.font_arithmetic.proofs.Calls.{fits_16, fits_64}
 use Rattle.font_arithmetic.proofs.Wrapped.{wrapping_add-wrap}
 use Rattle.font_fixed.specs.declared.fixed.Fixed.{Fixed}
 use Rattle.font_fixed.specs.Fixed.{fixed_bits}
 use Rattle.font_fixed.proofs.FixedCalls.{fixed_calls}
 use Rattle.font_geom.specs.declared.point.Point.{Point}
-use Rattle.font_ids.specs.declared.fword.FWord.{FWord}
 use Rattle.font_ids.specs.FWord.{fword_number}
 use Rattle.font_types.specs.Delta.{total, term_product, exact_sum}
 
@@ -93,4 +96,68 @@ pub sum_onto_16 : (m : ℕ) (y : ℤ) → m < 65536 → SFits w16 y
     → to_z w16 ((m + of_z w16 y) % 65536) ≡ wrap 16 (to_z w16 m +ℤ y)
 sum_onto_16 m y below fits = wrapping_add_onto w16 m y below fits ∙ int_wrap-wrap w16 (to_z w16 m +ℤ y)
 
-pub ruleset sum_calls_16 = (wrapping_add-wrap, running_words, none_16, running_16, sum_onto_16)
+-- ---- 128 bits, which 64 are cut from
+
+pub added_128 : (x y : ℤ) → SFits w128 x → SFits w128 y
+    → to_z w128 ((of_z w128 x + of_z w128 y) % 2 ^ 128) ≡ wrap 128 (x +ℤ y)
+added_128 x y f g = wrapping_add-wrap w128 128 (2 ^ 128) x y refl refl f g
+
+pub fits_128 : (z : ℤ) → FitsBits 128 z → wrap 128 z ≡ z
+fits_128 z fits = wrap-fits 128 z (lit< tt) fits
+
+pub cut_to_64 : (z : ℤ) → wrap 64 (wrap 128 z) ≡ wrap 64 z
+cut_to_64 z = wrap-wrap 64 128 z (lit< tt) (lit≤ tt)
+
+pub added_64 : (a b : ℤ) → wrap 64 (wrap 64 a +ℤ b) ≡ wrap 64 (a +ℤ b)
+added_64 a b = wrap-add_left 64 a b (lit< tt)
+
+pub none_64 : wrap 64 (pos 0) ≡ pos 0
+none_64 = fits_64 (pos 0) (omega (arith, ints))
+
+-- a product of 32 bits each
+pub term_bound : (x y : ℤ) → SFits w32 x → SFits w32 y → unsigned_abs (x *ℤ y) ≤ 2 ^ 62
+term_bound x y fits_x fits_y =
+    let low : unsigned_abs x ≤ 2 ^ 31 = omega (arith, ints, fits_x) in
+    let high : unsigned_abs y ≤ 2 ^ 31 = omega (arith, ints, fits_y) in
+    omega (
+      arith,
+      unsigned_abs-mul x y,
+      mul-le-mul {n₁ = unsigned_abs x} {m₁ = unsigned_abs y} {n₂ = 2 ^ 31}
+          {m₂ = 2 ^ 31} low high,
+    )
+
+-- a term more, where the sum is far from the ends of 128 bits
+pub exact_term : (sum term next : ℤ) → unsigned_abs sum ≤ 2 ^ 126 → unsigned_abs term ≤ 2 ^ 62
+    → (FitsBits 128 (sum +ℤ term) → next ≡ (sum +ℤ term)) → next ≡ (sum +ℤ term)
+exact_term sum term next far small exact =
+    exact (record { low = omega (arith, ints, far, small); high = omega (arith, ints, far, small) })
+
+-- a sum that wraps at 128 bits, one term more, and at its end
+pub sum_starts : pos 0 ≡ wrap 128 (pos 0)
+sum_starts = sym (fits_128 (pos 0) (record { low = omega (arith, ints); high = omega (arith, ints) }))
+
+pub sum_goes_on : (xs : List (Fixed × ℤ)) (i : ℕ) (d : Fixed × ℤ) (sum next : ℤ) → i < length xs
+    → sum ≡ wrap 128 (exact_sum (take i xs)) → next ≡ wrap 128 (sum +ℤ term_product (get_or xs i d))
+    → next ≡ wrap 128 (exact_sum (take (i + 1) xs))
+sum_goes_on xs i d sum next within so_far is = is ∙ ap (λ z. wrap 128 (z +ℤ term_product (get_or xs i d))) so_far
+    ∙ running_total 128 term_product xs i d (lit< tt) within
+
+pub sum_ends : (xs : List (Fixed × ℤ)) (i : ℕ) (sum : ℤ) → length xs ≤ i → sum ≡ wrap 128 (exact_sum (take i xs))
+    → wrap 64 sum ≡ wrap 64 (exact_sum xs)
+sum_ends xs i sum all so_far = ap (wrap 64) so_far ∙ cut_to_64 _ ∙ ap (λ ys. wrap 64 (exact_sum ys)) (take_all i xs all)
+
+pub ruleset delta_sum_calls = (
+  fixed_calls,
+  added_128,
+  fits_128,
+  cut_to_64,
+  added_64,
+  none_64,
+  term_bound,
+  exact_term,
+  sum_starts,
+  sum_goes_on,
+  sum_ends,
+)
+
+pub ruleset sum_calls_16 = (wrapping_add-wrap, bytes_moved, running_words, none_16, running_16, sum_onto_16)

@@ -63,6 +63,10 @@ ReadsWholeNumber min max number_of d result = result_map_both number_of (λ faul
 abbrev pub is_within_signed : ℕ → ℤ → Bool
 is_within_signed w z = is_within (least w) (greatest w) z
 
+-- the test of w bits without a sign
+abbrev pub is_unsigned : ℕ → ℕ → Bool
+is_unsigned w n = is_within (pos 0) (pos (2 ^ w - 1)) (pos n)
+
 -- ---- decimal texts
 
 -- the same fault of a decimal text

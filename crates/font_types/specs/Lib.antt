@@ -1,5 +1,6 @@
 pub mod Json
 pub mod Delta
+pub mod DeltaSum
 pub use Rattle.font_base.specs.Wrap
 pub use Rattle.font_base.specs.Bytes
 pub use Rattle.font_base.specs.Scalar
@@ -7,6 +8,9 @@ pub use Rattle.font_base.specs.BigEndian
 pub use Rattle.font_base.specs.Uint24
 pub use Rattle.font_base.specs.Int24
 pub use Rattle.font_base.specs.TableData
+pub use Rattle.font_base.specs.Elements
+pub use Rattle.font_base.specs.Array
+pub use Rattle.font_base.specs.Records
 pub use Rattle.font_decimal.specs.Near
 pub use Rattle.font_decimal.specs.Grammar
 pub use Rattle.font_decimal.specs.Reading

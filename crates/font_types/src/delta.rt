@@ -1,7 +1,9 @@
 //! Sums of deltas.
 
-ghost use Rattle.std.specs.Prelude.{◌≡◌, ◌↔◌, ◌+ℤ◌, ◌*ℤ◌, pos, IsSome, IfSome, option_map};
+ghost use Rattle.std.specs.Prelude.{◌≡◌, ◌↔◌, ◌≤◌, ◌^◌, ◌+ℤ◌, ◌*ℤ◌, pos, unsigned_abs};
+ghost use Rattle.std.specs.Prelude.{IsSome, IfSome, option_map};
 ghost use Rattle.font_base.specs.Wrap.{wrap, FitsBits};
+ghost use Rattle.font_fixed.specs.Fixed.{fixed_bits};
 ghost use Rattle.font_fixed.specs.F48Dot16.{f48dot16_bits};
 ghost use Rattle.font_ids.specs.FWord.{fword_number};
 ghost use Rattle.font_types.specs.Delta.{exact_sum, sum_in_range, term_product, varied};
@@ -9,47 +11,151 @@ ghost use Rattle.font_types.specs.Delta.{exact_sum, sum_in_range, term_product, 
 use font_fixed::{F48Dot16, Fixed};
 use font_ids::FWord;
 
+/// A sum of products of scalars and deltas that grows term by term, where no list holds the terms.
+///
+/// It counts steps of `2^-16` font units in 128 bits, which hold every sum of fewer than `2^65`
+/// terms, whatever their order and signs; a sum that they do not hold wraps.
+///
+/// ```
+/// use font_types::{DeltaSum, Fixed};
+/// let mut sum = DeltaSum::new();
+/// sum.add(Fixed::from_bits(0x8000), 3);
+/// sum.add(Fixed::NEG_ONE, 2);
+/// assert_eq!(sum.finish().to_string(), "-0.5");
+/// ```
+#[derive(Clone, Copy, Debug, Drop)]
+pub struct DeltaSum {
+    steps: i128,
+    // The low 64 of these bits.
+    low: F48Dot16,
+    ghost agree: { f48dot16_bits low ≡ wrap 64 steps },
+}
+
+impl DeltaSum {
+    ghost use Rattle.font_types.specs.DeltaSum.{steps_of};
+
+    /// The sum of no terms.
+    #[tactic(auto, using(crate::proofs::SumCalls::delta_sum_calls))]
+    pub fn new() -> DeltaSum
+        ensures { steps_of result ≡ pos 0 }
+    {
+        DeltaSum {
+            steps: 0,
+            low: F48Dot16::ZERO,
+        }
+    }
+
+    /// Adds the product of a scalar and a delta in font units, which is at most `2^62` steps.
+    #[tactic(auto, using(crate::proofs::SumCalls::delta_sum_calls))]
+    pub fn add(&mut self, scalar: Fixed, delta: i32)
+        ensures wrapped { steps_of self.new
+            ≡ wrap 128 (steps_of self.old +ℤ fixed_bits scalar *ℤ delta) }
+        ensures exact { FitsBits 128 (steps_of self.old +ℤ fixed_bits scalar *ℤ delta)
+            → steps_of self.new ≡ (steps_of self.old +ℤ fixed_bits scalar *ℤ delta) }
+        ensures bound { unsigned_abs (fixed_bits scalar *ℤ delta) ≤ 2 ^ 62 }
+    {
+        let product = scalar.mul_i32(delta);
+        *self = DeltaSum {
+            steps: self.steps.wrapping_add(i128::from(product.to_bits())),
+            low: self.low + product,
+        };
+    }
+
+    // Adds the product of a term.
+    fn add_term(&mut self, term: &(Fixed, i32))
+        ensures wrapped { steps_of self.new
+            ≡ wrap 128 (steps_of self.old +ℤ term_product term.now) }
+        ensures exact { FitsBits 128 (steps_of self.old +ℤ term_product term.now)
+            → steps_of self.new ≡ (steps_of self.old +ℤ term_product term.now) }
+        ensures bound { unsigned_abs (term_product term.now) ≤ 2 ^ 62 }
+    {
+        let (scalar, delta) = *term;
+        self.add(scalar, delta);
+    }
+
+    /// The sum, wrapped to 64 bits.
+    pub fn finish(self) -> F48Dot16
+        ensures { f48dot16_bits result ≡ wrap 64 (steps_of self) }
+    {
+        self.low
+    }
+
+    /// The sum, or `None` where it lies outside 64 bits.
+    pub fn checked_finish(self) -> Option<F48Dot16>
+        ensures variant { IsSome result ↔ FitsBits 64 (steps_of self) }
+        ensures value { IfSome result (λ sum. f48dot16_bits sum ≡ steps_of self) }
+    {
+        let bits = i64::try_from(self.steps).ok()?;
+        Some(F48Dot16::from_bits(bits))
+    }
+}
+
+impl Default for DeltaSum {
+    ghost use Rattle.font_types.specs.DeltaSum.{steps_of};
+
+    ghost is_default = { λ sum. steps_of sum ≡ pos 0 };
+
+    fn default() -> DeltaSum {
+        DeltaSum::new()
+    }
+}
+
 /// The sum of the products of scalars and deltas, exact where it fits 64 bits, whatever partial
 /// sums do.
 ///
 /// A sum out of range wraps. Each term is a scalar and a delta in font units; the empty list gives
 /// zero.
-#[tactic(auto, using(crate::proofs::SumCalls::sum_calls))]
+///
+/// ```
+/// use font_types::{Fixed, delta_sum};
+/// let half = Fixed::from_bits(0x8000);
+/// assert_eq!(delta_sum(&[(half, 3), (Fixed::NEG_ONE, 2)]).to_string(), "-0.5");
+/// ```
+#[tactic(auto, using(crate::proofs::SumCalls::delta_sum_calls))]
 pub fn delta_sum(terms: &[(Fixed, i32)]) -> F48Dot16
     ensures { f48dot16_bits result ≡ wrap 64 (exact_sum terms.now) }
 {
-    let mut sum = F48Dot16::ZERO;
+    let mut sum = DeltaSum::new();
     for term in terms {
-        sum += term_product(term);
+        sum.add_term(term);
     }
-    sum
+    sum.finish()
 }
 
 /// The exact sum of the products of scalars and deltas, or `None` where it lies outside 64 bits.
 ///
 /// Partial sums may lie anywhere. Each term is a scalar and a delta in font units, and the bits of
 /// the result count steps of `2^-16` font units, from `-2^63` to `2^63 - 1`; the empty list gives
-/// zero. Half of 3 font units is 1.5: `checked_delta_sum(&[(Fixed::from_bits(0x8000), 3)])` has
-/// bits 98304.
+/// zero. Half of 3 font units is 1.5:
+///
+/// ```
+/// use font_types::{Fixed, checked_delta_sum};
+/// let sum = checked_delta_sum(&[(Fixed::from_bits(0x8000), 3)]).unwrap();
+/// assert_eq!(sum.to_bits(), 98304);
+/// ```
 pub fn checked_delta_sum(terms: &[(Fixed, i32)]) -> Option<F48Dot16>
     ensures variant { IsSome result ↔ FitsBits 64 (exact_sum terms.now) }
     ensures value { IfSome result (λ sum. f48dot16_bits sum ≡ exact_sum terms.now) }
     ensures gives { option_map f48dot16_bits result ≡ sum_in_range terms.now }
 {
-    // A list has fewer than 2^64 terms, each of 64 bits, so that 128 bits hold every partial sum.
-    let mut sum = 0i128;
+    // A list has fewer than 2^64 terms, so that 128 bits hold every partial sum.
+    let mut exact = DeltaSum::new();
     for term in terms {
-        sum += i128::from(term_product(term).to_bits());
+        exact.add_term(term);
     }
-    let bits = i64::try_from(sum).ok()?;
-    Some(F48Dot16::from_bits(bits))
+    exact.checked_finish()
 }
 
 /// A quantity moved by the exact sum of deltas, in units of `2^-16`, or `None` where that sum lies
 /// outside 64 bits.
 ///
 /// The result is `base.apply_delta` of what `checked_delta_sum` gives: 100 font units and half of 3
-/// are 101.5, and `vary(FWord::new(100), &[(Fixed::from_bits(0x8000), 3)])` is 6651904.
+/// are 101.5.
+///
+/// ```
+/// use font_types::{FWord, Fixed, vary};
+/// assert_eq!(vary(FWord::new(100), &[(Fixed::from_bits(0x8000), 3)]), Some(6651904));
+/// ```
 pub fn vary(base: FWord, terms: &[(Fixed, i32)]) -> Option<i128>
     ensures variant { IsSome result ↔ FitsBits 64 (exact_sum terms.now) }
     ensures value { IfSome result (λ units.
@@ -58,12 +164,4 @@ pub fn vary(base: FWord, terms: &[(Fixed, i32)]) -> Option<i128>
 {
     let sum = checked_delta_sum(terms)?;
     Some(base.apply_delta(sum))
-}
-
-// The exact product of a term.
-fn term_product(term: &(Fixed, i32)) -> F48Dot16
-    ensures { f48dot16_bits result ≡ term_product term.now }
-{
-    let (scalar, delta) = *term;
-    scalar.mul_i32(delta)
 }

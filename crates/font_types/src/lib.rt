@@ -13,12 +13,14 @@ mod delta;
 mod json;
 pub mod laws;
 
-pub use delta::{checked_delta_sum, delta_sum, vary};
+pub use delta::{DeltaSum, checked_delta_sum, delta_sum, vary};
 pub use font_base::{
-    BeByteArray, BigEndian, FixedSize, IdentityEq, Int24, SampleHeader, Scalar, TableDataRef,
-    TableHeader, TryFromUint24Error, Uint24,
+    BeByteArray, BigEndian, FixedSize, IdentityEq, Int24, SampleHeader, Scalar, ScalarArray,
+    ScalarArrayIter, TableDataRef, TableHeader, TryFromUint24Error, Uint24,
 };
-pub use font_decimal::{Align, DecimalFault, Pad, Shortest, read_decimal, write_padded};
+pub use font_decimal::{
+    Align, DecimalFault, Pad, Shortest, read_decimal, read_decimal_bytes, write_padded,
+};
 pub use font_fixed::{F2Dot14, F26Dot6, F48Dot16, Fixed};
 pub use font_fixed2::{F2Dot30, F4Dot12, F6Dot10};
 pub use font_geom::{BoundingBox, Matrix, MatrixElement, Point, RingElement};

@@ -110,15 +110,15 @@ pub fn on_segment(coordinate: Fixed, start: Mapping, end: Mapping) -> Fixed
 {
     let height = span_between(start.to, end.to);
     let part = span_between(start.from, coordinate);
-    raised(
+    lifted(
         start.to,
         share(height, part, span_between(start.from, end.from)),
         end.to,
     )
 }
 
-// A number raised by no more than it is below the top.
-fn raised(bottom: Fixed, part: Fixed, top: Fixed) -> Fixed
+// A number lifted by no more than it is below the top.
+fn lifted(bottom: Fixed, part: Fixed, top: Fixed) -> Fixed
     requires { (pos 0 ≤ℤ fixed_bits part)
         × (fixed_bits part ≤ℤ (fixed_bits top -ℤ fixed_bits bottom)) }
     ensures { fixed_bits result ≡ (fixed_bits bottom +ℤ fixed_bits part) }

@@ -2,18 +2,20 @@
 //! stand in bytes.
 #![tactic(auto, using(font_types::proofs::Callers::sum_calls))]
 
-ghost use Rattle.std.specs.Prelude.{◌≡◌, ◌≢◌, ◌↔◌, ◌⊎◌, ◌≤◌, ◌+◌, ℤ, pos, ◌≤ℤ◌, ◌+ℤ◌};
-ghost use Rattle.std.specs.Prelude.{[], ◌∷◌, ◌++◌, length, IsSome, IfSome, IfOk, OnOk, OnErr};
-ghost use Rattle.font_types.specs.Wrap.{wrap};
+ghost use Rattle.std.specs.Prelude.{◌≡◌, ◌≢◌, ◌↔◌, ◌⊎◌, ◌≤◌, ◌+◌, ◌^◌, ℤ, pos, ◌≤ℤ◌, ◌+ℤ◌, ◌*ℤ◌};
+ghost use Rattle.std.specs.Prelude.{unsigned_abs, [], ◌∷◌, ◌++◌, length, IsSome, IfSome};
+ghost use Rattle.std.specs.Prelude.{IfOk, OnOk, OnErr};
+ghost use Rattle.font_types.specs.Wrap.{wrap, FitsBits};
 ghost use Rattle.font_types.specs.Fixed.{fixed_bits};
 ghost use Rattle.font_types.specs.F48Dot16.{f48dot16_bits};
 ghost use Rattle.font_types.specs.Operations.{IsQuotient};
 ghost use Rattle.font_types.specs.Delta.{total, exact_sum, term_product, varied};
-ghost use Rattle.font_types.specs.FWord.{fword_number};
+ghost use Rattle.font_types.specs.DeltaSum.{steps_of};
+ghost use Rattle.font_types.specs.FWord.{fword_number, nearest_unit};
 ghost use Rattle.font_uses.specs.Evaluator.{mixed, term_at, terms_of};
 
 use crate::reader::value_at;
-use font_types::{F48Dot16, FWord, Fixed, delta_sum, vary};
+use font_types::{DeltaSum, F48Dot16, FWord, Fixed, delta_sum, vary};
 use std::alloc::{AllocError, Global};
 
 /// A number between two, `ratio` of the way from `a` to `b`.
@@ -96,6 +98,58 @@ pub fn sum_with(terms: &mut Vec<(Fixed, i32)>, term: (Fixed, i32)) -> Result<F48
 {
     terms.push(term)?;
     Ok(delta_sum(terms))
+}
+
+/// A number of font units moved by a sum of deltas, or `None` where it does not fit 16.16.
+#[tactic(auto)]
+pub fn moved(base: FWord, delta: F48Dot16) -> Option<Fixed>
+    ensures there { IsSome result
+        ↔ FitsBits 32 (fword_number base *ℤ pos 65536 +ℤ f48dot16_bits delta) }
+    ensures value { IfSome result (λ number.
+        fixed_bits number ≡ (fword_number base *ℤ pos 65536 +ℤ f48dot16_bits delta)) }
+{
+    Fixed::from_steps(base.apply_delta(delta))
+}
+
+/// A number of font units moved by a sum of deltas and rounded, or `None` where it is out of range.
+#[tactic(auto)]
+pub fn moved_and_rounded(base: FWord, delta: F48Dot16) -> Option<FWord>
+    ensures there { IsSome result ↔ FitsBits 16 (nearest_unit
+        (fword_number base *ℤ pos 65536 +ℤ f48dot16_bits delta)) }
+    ensures value { IfSome result (λ word. fword_number word
+        ≡ nearest_unit (fword_number base *ℤ pos 65536 +ℤ f48dot16_bits delta)) }
+{
+    FWord::round_steps(base.apply_delta(delta))
+}
+
+/// The sum of two terms that no list holds, or `None` where it lies outside 64 bits.
+pub fn sum_of_two(first: (Fixed, i32), second: (Fixed, i32)) -> Option<F48Dot16>
+    ensures there { IsSome result ↔ FitsBits 64 (term_product first +ℤ term_product second) }
+    ensures value { IfSome result (λ sum.
+        f48dot16_bits sum ≡ (term_product first +ℤ term_product second)) }
+{
+    steps_of_two(first, second).checked_finish()
+}
+
+// The steps of both.
+#[tactic(auto, using(font_types::proofs::Callers::delta_sum_calls))]
+fn steps_of_two(first: (Fixed, i32), second: (Fixed, i32)) -> DeltaSum
+    ensures { steps_of result ≡ (term_product first +ℤ term_product second) }
+{
+    let mut sum = steps_of_one(first);
+    sum.add(second.0, second.1);
+    sum
+}
+
+// The steps of one term.
+#[tactic(auto, using(font_types::proofs::Callers::delta_sum_calls))]
+fn steps_of_one(term: (Fixed, i32)) -> DeltaSum
+    ensures value { steps_of result ≡ term_product term }
+    ensures bound { unsigned_abs (steps_of result) ≤ 2 ^ 126 }
+{
+    let mut sum = DeltaSum::new();
+    sum.add(term.0, term.1);
+    sum
 }
 
 /// The terms that stand in bytes, a scalar and a delta in eight bytes each. What is behind the last

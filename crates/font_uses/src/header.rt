@@ -73,6 +73,14 @@ impl TableHeader for FontHeader {
     }
 }
 
+/// What stands behind the header, or `None` of fewer than 54 bytes.
+pub fn behind_the_header(table: &[u8]) -> Option<&[u8]>
+    ensures there { IsSome result ↔ (54 ≤ length table.now) }
+    ensures value { IfSome result (λ rest. rest.now ≡ drop 54 table.now) }
+{
+    Some(TableDataRef::<FontHeader>::new(table)?.rest())
+}
+
 /// How many font units an em has, or `None` of fewer than 54 bytes.
 pub fn units_per_em(table: &[u8]) -> Option<u16>
     ensures there { IsSome result ↔ (54 ≤ length table.now) }

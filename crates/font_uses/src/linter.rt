@@ -1,5 +1,6 @@
 //! A linter: judges the tags of a font's tables, the bytes of a number and a stored sum.
 
+ghost use Rattle.std.specs.List.Sorted.{IsPermutation, IsSortedByKey};
 ghost use Rattle.std.specs.Prelude.{◌≡◌, ◌↔◌, ◌+ℤ◌, All, IsTrue, MatchResult, MatchOption, length};
 ghost use Rattle.std.specs.List.{AllAdjacentBelow};
 ghost use Rattle.font_types.specs.Bytes.{IsBytesOf};
@@ -8,7 +9,7 @@ ghost use Rattle.font_types.specs.Fixed.{fixed_bits};
 ghost use Rattle.font_types.specs.Tag.{tag_bytes, IsGood};
 ghost use Rattle.font_uses.specs.Linter.{IsFirstBad, AreDifferent, IsFirstRepeated};
 
-use font_types::{Fixed, InvalidTag, Tag};
+use font_types::{Fixed, InvalidTag, Offset32, Tag};
 use std::cmp::Ordering;
 use thiserror::Error;
 
@@ -41,7 +42,7 @@ pub fn is_in_order(tags: &[Tag]) -> bool
         (λ a b. ⟦<Tag as Ord>⟧.cmp a b ≡ Ordering.Less) tags.now (length tags.now) }
 {
     for place in 1..tags.len() {
-        if tags[place - 1].cmp(&tags[place]).is_ge() {
+        if tags[place - 1] >= tags[place] {
             return false;
         }
     }
@@ -74,4 +75,21 @@ pub fn is_sum(sum: Fixed, a: Fixed, b: Fixed) -> bool
         ↔ IsWrapped 32 (fixed_bits a +ℤ fixed_bits b) (fixed_bits sum) }
 {
     a + b == sum
+}
+
+/// An entry of a table directory.
+#[derive(Clone, Copy, PartialEq, Eq)]
+pub struct Entry {
+    /// What the table is called.
+    pub tag: Tag,
+    /// Where it begins.
+    pub offset: Offset32,
+}
+
+/// Puts the entries of a directory in the order of their tags.
+pub fn sort_by_tag(entries: &mut [Entry])
+    ensures same { IsPermutation entries.old entries.new }
+    ensures sorted { IsSortedByKey (λ entry. entry.tag) ⟦<Tag as Ord>⟧.cmp entries.new }
+{
+    entries.sort_unstable_by_key(|entry| entry.tag);
 }

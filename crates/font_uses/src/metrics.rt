@@ -1,15 +1,19 @@
 //! A reader of metrics: rows of an advance and a bearing, and behind them a tail of bearings alone.
 
-ghost use Rattle.std.specs.Prelude.{◌≡◌, ◌<◌, ◌≤◌, ◌+◌, ◌*◌, ◌^◌, ◌↔◌, pos, ◌-ℤ◌};
-ghost use Rattle.std.specs.Prelude.{IsSome, IfSome, length, take, drop};
-ghost use Rattle.font_types.specs.Bytes.{numeral, signed_numeral};
+ghost use Rattle.std.specs.Prelude.{◌≡◌, ◌<◌, ◌≤◌, ◌+◌, ◌*◌, ◌/◌, ◌%◌, ◌^◌, ◌↔◌, pos, ◌-ℤ◌};
+ghost use Rattle.std.specs.Prelude.{nat_lt, ◌&&◌, ◌++◌, IsSome, IfSome, length, take, drop, refl};
+ghost use Rattle.std.proofs.Common.{lit<};
+ghost use Rattle.font_types.specs.Bytes.{numeral, signed_numeral, bytes_of};
+ghost use Rattle.font_types.specs.Records.{record_laws};
+ghost use Rattle.font_types.specs.Scalar.Laws.{unsigned_newtype, signed_newtype};
+ghost use Rattle.font_types.specs.Wrap.{fits_bits};
 ghost use Rattle.font_types.specs.Fixed.{fixed_bits};
-ghost use Rattle.font_types.specs.FWord.{fword_number, ufword_number};
+ghost use Rattle.font_types.specs.FWord.{fword_number, fword_of, ufword_number, ufword_of};
 ghost use Rattle.font_types.specs.GlyphId.{glyph16_number};
 ghost use Rattle.font_uses.specs.Metrics.{advance_place, bearing_place};
 
 use crate::reader::value_at;
-use font_types::{F48Dot16, FWord, Fixed, GlyphId16, UfWord};
+use font_types::{F48Dot16, FWord, Fixed, FixedSize, GlyphId16, Scalar, ScalarArray, UfWord};
 
 /// The advance of a glyph, in a table of so many rows. Glyphs of the tail have the last row's.
 pub fn advance(table: &[u8], rows: u16, glyph: GlyphId16) -> Option<UfWord>
@@ -63,4 +67,65 @@ pub fn in_16_16(advance: UfWord) -> Fixed
         → fixed_bits result ≡ (pos (ufword_number advance * 65536) -ℤ pos (2 ^ 32)) }
 {
     advance.to_fixed()
+}
+
+// ---- rows as records
+
+/// An advance and a bearing, as they stand in a row.
+#[derive(Clone, Copy)]
+pub struct LongMetric {
+    pub advance: UfWord,
+    pub bearing: FWord,
+}
+
+impl FixedSize for LongMetric {
+    const RAW_BYTE_LEN: usize = 4;
+
+    ghost RAW_BYTE_LEN = { 4 };
+}
+
+impl Scalar for LongMetric {
+    type Raw = [u8; 4];
+
+    ghost is_scalar = { λ row. nat_lt (ufword_number row.advance) (2 ^ 16)
+        && fits_bits 16 (fword_number row.bearing) };
+
+    ghost of_raw = { λ raw. record {
+      advance = ufword_of (numeral (take 2 raw));
+      bearing = fword_of (signed_numeral 2 (drop 2 raw));
+    } };
+
+    ghost raw_of = { λ row. bytes_of 2 (pos (ufword_number row.advance))
+        ++ bytes_of 2 (fword_number row.bearing) };
+
+    ghost laws = { record_laws 2 2 (λ row. row.advance) (λ row. row.bearing)
+        (λ advance bearing. record { advance = advance; bearing = bearing })
+        (λ _ _. refl) (λ _ _. refl) (λ _. refl)
+        (unsigned_newtype 2 ufword_number ufword_of (λ _. refl) (λ _. refl))
+        (signed_newtype 2 (lit< tt) fword_number fword_of (λ _. refl) (λ _. refl)) };
+
+    fn from_raw(raw: [u8; 4]) -> LongMetric {
+        LongMetric {
+            advance: UfWord::read(&raw[..2]).unwrap(),
+            bearing: FWord::read(&raw[2..]).unwrap(),
+        }
+    }
+
+    fn to_raw(self) -> [u8; 4] {
+        let [a, b] = self.advance.to_be_bytes();
+        let [c, d] = self.bearing.to_be_bytes();
+        [a, b, c, d]
+    }
+}
+
+/// The row of a glyph in a table of rows alone.
+pub fn row(rows: &[u8], glyph: GlyphId16) -> Option<LongMetric>
+    ensures advance { IfSome result (λ row. ufword_number row.advance
+        ≡ numeral (take 2 (take 4 (drop (glyph16_number glyph * 4) rows.now)))) }
+    ensures bearing { IfSome result (λ row. fword_number row.bearing
+        ≡ signed_numeral 2 (drop 2 (take 4 (drop (glyph16_number glyph * 4) rows.now)))) }
+    ensures end { IsSome result ↔ ((length rows.now % 4 ≡ 0)
+        × (glyph16_number glyph < length rows.now / 4)) }
+{
+    ScalarArray::<LongMetric>::new(rows)?.get(usize::from(glyph.to_u16()))
 }

@@ -1,12 +1,13 @@
 //! A walk over an outline whose points stand as deltas.
 #![tactic(auto, using(font_types::proofs::Callers::sum_calls))]
 
-ghost use Rattle.std.specs.Prelude.{◌≡◌, ◌+ℤ◌};
+ghost use Rattle.std.specs.Prelude.{◌≡◌, ◌+ℤ◌, fold};
+ghost use Rattle.std.specs.Int.{int_min, int_max};
 ghost use Rattle.font_types.specs.Wrap.{wrap};
 ghost use Rattle.font_types.specs.Fixed.{fixed_bits};
 ghost use Rattle.font_types.specs.Delta.{total};
 
-use font_types::{Fixed, Point};
+use font_types::{BoundingBox, Fixed, Point};
 
 /// Where the pen stands when it has gone all steps from the origin.
 pub fn pen(steps: &[Point<Fixed>]) -> Point<Fixed>
@@ -82,4 +83,68 @@ pub fn rise(steps: &[i16]) -> i16
         rise = rise.wrapping_add(*step);
     }
     rise
+}
+
+/// The least box that holds a point and all others.
+#[tactic(auto)]
+pub fn bounds_of(first: Point<i16>, others: &[Point<i16>]) -> BoundingBox<i16>
+    ensures left { result.x_min ≡ fold (λ least p. int_min least p.x) first.x others.now }
+    ensures bottom { result.y_min ≡ fold (λ least p. int_min least p.y) first.y others.now }
+    ensures right { result.x_max ≡ fold (λ greatest p. int_max greatest p.x) first.x others.now }
+    ensures top { result.y_max ≡ fold (λ greatest p. int_max greatest p.y) first.y others.now }
+{
+    BoundingBox {
+        x_min: left(first.x, others),
+        y_min: bottom(first.y, others),
+        x_max: right(first.x, others),
+        y_max: top(first.y, others),
+    }
+}
+
+// The least x of all.
+#[tactic(auto, using(std::proofs::lemmas::List::Sums::fold_more))]
+fn left(first: i16, others: &[Point<i16>]) -> i16
+    ensures { result ≡ fold (λ least p. int_min least p.x) first others.now }
+{
+    let mut least = first;
+    for point in others {
+        least = least.min(point.x);
+    }
+    least
+}
+
+// The least y of all.
+#[tactic(auto, using(std::proofs::lemmas::List::Sums::fold_more))]
+fn bottom(first: i16, others: &[Point<i16>]) -> i16
+    ensures { result ≡ fold (λ least p. int_min least p.y) first others.now }
+{
+    let mut least = first;
+    for point in others {
+        least = least.min(point.y);
+    }
+    least
+}
+
+// The greatest x of all.
+#[tactic(auto, using(std::proofs::lemmas::List::Sums::fold_more))]
+fn right(first: i16, others: &[Point<i16>]) -> i16
+    ensures { result ≡ fold (λ greatest p. int_max greatest p.x) first others.now }
+{
+    let mut greatest = first;
+    for point in others {
+        greatest = greatest.max(point.x);
+    }
+    greatest
+}
+
+// The greatest y of all.
+#[tactic(auto, using(std::proofs::lemmas::List::Sums::fold_more))]
+fn top(first: i16, others: &[Point<i16>]) -> i16
+    ensures { result ≡ fold (λ greatest p. int_max greatest p.y) first others.now }
+{
+    let mut greatest = first;
+    for point in others {
+        greatest = greatest.max(point.y);
+    }
+    greatest
 }

@@ -1,18 +1,19 @@
 //! A reader of tables: values one after the other, the one at a place, and a scalar of its own.
 
-ghost use Rattle.std.specs.Prelude.{◌≡◌, ◌≢◌, ◌↔◌, ◌≤◌, ◌<◌, ◌+◌, ◌*◌, ◌^◌, ℕ, pos, nat_lt, refl};
+ghost use Rattle.std.specs.Prelude.{◌≡◌, ◌≢◌, ◌↔◌, ◌≤◌, ◌<◌, ◌+◌, ◌*◌, ◌/◌, ◌%◌, ◌^◌, ℕ, pos, nat_lt, refl};
 ghost use Rattle.std.specs.Prelude.{Some, IsSome, IfSome, IfNone, IfOk, IfErr, option_map, vec_len};
 ghost use Rattle.std.specs.Prelude.{length, take, drop, slice_get, slice_index_or, All, IsSorted};
 ghost use Rattle.font_types.specs.Bytes.{numeral, signed_numeral, bytes_of};
 ghost use Rattle.font_types.specs.Scalar.{IsValueOf};
 ghost use Rattle.font_types.specs.Scalar.Laws.{unsigned_newtype, unsigned_identity};
+ghost use Rattle.font_types.specs.Array.{array_len, element_bytes};
 ghost use Rattle.font_types.specs.BigEndian.{raw_value};
 ghost use Rattle.font_types.specs.Fixed.{fixed_bits};
 ghost use Rattle.font_types.specs.Tag.{tag_bytes};
 ghost use Rattle.font_types.specs.Uint24.{uint24_number};
 ghost use Rattle.font_uses.specs.Reader.{AreValuesOf};
 
-use font_types::{BigEndian, Fixed, FixedSize, IdentityEq, Scalar, Tag, Uint24};
+use font_types::{BigEndian, Fixed, FixedSize, IdentityEq, Scalar, ScalarArray, Tag, Uint24};
 use std::alloc::{AllocError, Global};
 
 // ---- values one after the other
@@ -167,6 +168,31 @@ pub fn position_of(glyphs: &[BigEndian<u16>], glyph: BigEndian<u16>) -> Option<u
         (All (λ field. numeral (raw_value field) ≢ numeral (raw_value glyph)) glyphs.now) }
 {
     glyphs.binary_search(&glyph).ok()
+}
+
+// ---- arrays that stand in bytes
+
+/// The number of that index in an array of numbers, the first has 0, or `None` where the bytes are
+/// no such array or it ends in front of it.
+pub fn number_at(bytes: &[u8], index: usize) -> Option<u16>
+    ensures end { IsSome result
+        ↔ ((length bytes.now % 2 ≡ 0) × (index < length bytes.now / 2)) }
+    ensures value { IfSome result (λ n. n ≡ numeral (take 2 (drop (index * 2) bytes.now))) }
+{
+    ScalarArray::<u16>::new(bytes)?.get(index)
+}
+
+/// Where a glyph stands in an array of glyphs: where they are in order, exactly if it does.
+#[tactic(auto, using(font_types::proofs::Callers::array_calls))]
+pub fn place_of(glyphs: &ScalarArray<'_, u16>, glyph: u16) -> Result<usize, usize>
+    ensures found { IfOk result (λ i. (i < array_len glyphs.now)
+        × (element_bytes glyphs.now i ≡ bytes_of 2 (pos glyph))) }
+    ensures absent { ((i j : ℕ) → i ≤ j → j < array_len glyphs.now
+        → numeral (element_bytes glyphs.now i) ≤ numeral (element_bytes glyphs.now j))
+        → IfErr result (λ _. (k : ℕ) → k < array_len glyphs.now
+        → element_bytes glyphs.now k ≢ bytes_of 2 (pos glyph)) }
+{
+    glyphs.binary_search(&glyph)
 }
 
 // ---- a scalar of one's own

@@ -2,7 +2,10 @@
 
 ghost use Rattle.std.specs.Int.{w32};
 ghost use Rattle.std.specs.List.{list_any};
-ghost use Rattle.std.specs.Prelude.{◌≡◌, ◌==◌, IfSome, map};
+ghost use Rattle.std.specs.Prelude.{◌≡◌, ◌==◌, ◌≤◌, ◌^◌, ◌+ℤ◌, ◌*ℤ◌, pos, unsigned_abs, IfSome, map};
+ghost use Rattle.font_types.specs.Bytes.{bytes_of};
+ghost use Rattle.font_types.specs.GlyphId.{glyph16_number};
+ghost use Rattle.font_types.specs.Near.{near};
 ghost use Rattle.font_types.specs.Fixed.{fixed_bits};
 ghost use Rattle.font_types.specs.NameId.{name_number, name_id_of, predefined_numbers};
 ghost use Rattle.font_types.specs.NumberReading.{ReadsBy};
@@ -10,7 +13,7 @@ ghost use Rattle.font_types.specs.Operations.{ReadsAs};
 
 use crate::{
     BigEndian, DecimalFault, F2Dot14, F2Dot30, F4Dot12, F6Dot10, F26Dot6, F48Dot16, FWord, Fixed,
-    JsonScalar, MajorMinor, Matrix, NameId, Point, Scalar, Tag, Uint24, delta_sum,
+    GlyphId16, JsonScalar, MajorMinor, Matrix, NameId, Point, Scalar, Tag, Uint24, delta_sum,
 };
 use std::test::Fail;
 
@@ -72,6 +75,31 @@ fn one_of_each_family(rt: HostRuntime) -> Result<(), Fail> {
     let tag = Tag::new_checked(b"cvt")?.to_json(rt.alloc())?;
     assert!(rt; text.as_str() == "1.2 256" && tag.as_str() == Some("cvt "));
     Ok(())
+}
+
+/// A distance at a scale of at most 1, where the distance is at most 16384: nothing wraps.
+fn scaled(distance: Fixed, scale: Fixed) -> Fixed
+    requires distance { unsigned_abs (fixed_bits distance) ≤ 2 ^ 30 }
+    requires scale { unsigned_abs (fixed_bits scale) ≤ 2 ^ 16 }
+    ensures { fixed_bits result ≡ near (fixed_bits distance *ℤ fixed_bits scale) (2 ^ 16) }
+{
+    distance * scale
+}
+
+/// The glyph of a character, by its distance from there, of 16 bits.
+#[tactic(auto, using(crate::proofs::Callers::sum_calls_16))]
+fn glyph_at(character: u16, distance: i16) -> GlyphId16
+    ensures { bytes_of 2 (pos (glyph16_number result)) ≡ bytes_of 2 (pos character +ℤ distance) }
+{
+    GlyphId16::new(character.wrapping_add_signed(distance))
+}
+
+#[test]
+fn small_and_moved(rt: HostRuntime) {
+    let half = Fixed::from_bits(0x8000);
+    assert!(rt; scaled(Fixed::from_bits(3), half) == Fixed::from_bits(2));
+    assert!(rt; scaled(Fixed::from_bits(-3), half) == Fixed::from_bits(-2));
+    assert!(rt; glyph_at(20, -9) == GlyphId16::new(11) && glyph_at(0, -1) == GlyphId16::new(65535));
 }
 
 #[test]

@@ -1,7 +1,7 @@
 //! Sums of deltas.
 
 use crate::{
-    CFF_SFNT_VERSION, F48Dot16, FWord, Fixed, TRUE_SFNT_VERSION, TT_SFNT_VERSION,
+    CFF_SFNT_VERSION, DeltaSum, F48Dot16, FWord, Fixed, TRUE_SFNT_VERSION, TT_SFNT_VERSION,
     checked_delta_sum, delta_sum, vary,
 };
 use std::test::Fail;
@@ -52,6 +52,51 @@ fn greatest_sum(rt: HostRuntime) {
     let (step, back) = ((Fixed::EPSILON, 1), (Fixed::EPSILON, -1));
     assert!(rt; checked_delta_sum(&[GREATEST, GREATEST, back]) == Some(F48Dot16::MAX));
     assert!(rt; checked_delta_sum(&[GREATEST, GREATEST, back, step]).is_none());
+}
+
+/// The sums of the first two of these terms and of all three, wrapped and checked.
+const TERM_ROWS: [([(Fixed, i32); 3], i64, Option<i64>, i64, Option<i64>); 3] = [
+    (
+        [GREATEST, GREATEST, BACK],
+        i64::MIN,
+        None,
+        4611686020574871552,
+        Some(4611686020574871552),
+    ),
+    (
+        [
+            (Fixed::ONE, 100),
+            (Fixed::EPSILON, -1),
+            (Fixed::NEG_ONE, 100),
+        ],
+        6553599,
+        Some(6553599),
+        -1,
+        Some(-1),
+    ),
+    (
+        [GREATEST, (Fixed::MAX, i32::MAX), (Fixed::EPSILON, 1)],
+        9223372032559808513,
+        Some(9223372032559808513),
+        9223372032559808514,
+        Some(9223372032559808514),
+    ),
+];
+
+#[test]
+fn summed_term_by_term(rt: HostRuntime) {
+    for &(terms, two, checked_two, three, checked_three) in &TERM_ROWS {
+        let mut sum = DeltaSum::default();
+        sum.add(terms[0].0, terms[0].1);
+        sum.add(terms[1].0, terms[1].1);
+        assert!(rt; sum.finish().to_bits() == two, "two: {two}");
+        let checked = sum.checked_finish().map(|sum| sum.to_bits());
+        assert!(rt; checked == checked_two, "two: {two}");
+        sum.add(terms[2].0, terms[2].1);
+        assert!(rt; sum.finish().to_bits() == three, "three: {three}");
+        let checked = sum.checked_finish().map(|sum| sum.to_bits());
+        assert!(rt; checked == checked_three, "three: {three}");
+    }
 }
 
 #[test]

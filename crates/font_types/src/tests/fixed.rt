@@ -30,7 +30,7 @@ fn texts_of_16_16(rt: HostRuntime) {
         (Fixed::ZERO, "0"),
         (Fixed::EPSILON, "0.00002"),
     ];
-    assert!(rt; misread(rt.alloc(), &rows) == None);
+    assert_eq!(rt; misread(rt.alloc(), &rows), None);
 }
 
 #[test]
@@ -47,7 +47,7 @@ fn texts_of_26_6(rt: HostRuntime) {
         (i32::MAX, "33554431.98"),
     ]
     .map(|row| (F26Dot6::from_bits(row.0), row.1));
-    assert!(rt; misread(rt.alloc(), &rows) == None);
+    assert_eq!(rt; misread(rt.alloc(), &rows), None);
 }
 
 #[test]
@@ -62,7 +62,7 @@ fn texts_of_2_14(rt: HostRuntime) {
         (i16::MAX, "1.99994"),
     ]
     .map(|row| (F2Dot14::from_bits(row.0), row.1));
-    assert!(rt; misread(rt.alloc(), &rows) == None);
+    assert_eq!(rt; misread(rt.alloc(), &rows), None);
 }
 
 #[test]
@@ -74,9 +74,9 @@ fn texts_of_the_ends(rt: HostRuntime) {
     ];
     let narrow = [(F4Dot12::MIN, "-8"), (F4Dot12::MAX, "7.9998")];
     let narrower = [(F6Dot10::MIN, "-32"), (F6Dot10::MAX, "31.999")];
-    assert!(rt; misread(rt.alloc(), &wide) == None);
-    assert!(rt; misread(rt.alloc(), &narrow) == None);
-    assert!(rt; misread(rt.alloc(), &narrower) == None);
+    assert_eq!(rt; misread(rt.alloc(), &wide), None);
+    assert_eq!(rt; misread(rt.alloc(), &narrow), None);
+    assert_eq!(rt; misread(rt.alloc(), &narrower), None);
 }
 
 #[test]
@@ -88,7 +88,7 @@ fn texts_of_2_30(rt: HostRuntime) {
         (F2Dot30::from_bits(7), "0.0000000065"),
         (F2Dot30::from_bits(0x2666_6666), "0.6"),
     ];
-    assert!(rt; misread(rt.alloc(), &rows) == None);
+    assert_eq!(rt; misread(rt.alloc(), &rows), None);
 }
 
 // Whether a number is read from none of the texts of 1 with a blank.

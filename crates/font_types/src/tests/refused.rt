@@ -16,7 +16,10 @@ fn faults_in_words(rt: HostRuntime) -> Result<(), Fail> {
         (JsonFault::InvalidTag, "invalid tag InvalidTag"),
         (JsonFault::MissingMember, "missing member MissingMember"),
     ] {
-        assert!(rt; format!(in rt.alloc(); "{fault} {fault:?}")?.as_str() == *text);
+        assert!(rt;
+            format!(in rt.alloc(); "{fault} {fault:?}")?.as_str() == *text,
+            "{text}"
+        );
     }
     Ok(())
 }

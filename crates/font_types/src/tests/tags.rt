@@ -11,7 +11,10 @@ fn tags(rt: HostRuntime) -> Result<(), Fail> {
     for &(bytes, text) in &[(b"head", "head"), (b"cvt ", "cvt ")] {
         let tag = Tag::new(bytes);
         let value = tag.to_json(alloc)?;
-        assert!(rt; value.as_str() == Some(text) && Tag::from_json(&value) == Ok(tag));
+        assert!(rt;
+            value.as_str() == Some(text) && Tag::from_json(&value) == Ok(tag),
+            "{text}"
+        );
     }
     assert!(rt; Tag::from_json(&json!(in alloc; "ab")?) == Ok(Tag::new(b"ab  ")));
     Ok(())

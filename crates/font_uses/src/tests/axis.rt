@@ -15,7 +15,10 @@ fn stored_within_one(rt: HostRuntime) {
         (0x8001, 0x2000),
         (0, 0),
     ] {
-        assert!(rt; stored(Fixed::from_bits(bits)) == F2Dot14::from_bits(narrow));
+        assert!(rt;
+            stored(Fixed::from_bits(bits)) == F2Dot14::from_bits(narrow),
+            "{bits}"
+        );
     }
 }
 
@@ -32,7 +35,7 @@ fn kept_within_its_ends(rt: HostRuntime) {
             Fixed::NEG_ONE,
             Fixed::from_bits(0x1_8000),
         );
-        assert!(rt; value == Fixed::from_bits(within));
+        assert!(rt; value == Fixed::from_bits(within), "{bits}");
     }
 }
 

@@ -1,9 +1,10 @@
 //! An evaluator of variations.
 
 use crate::evaluator::{
-    between, carried_over, lesser, normalized, ratio, read_terms, sum, sum_with, varied_by,
+    between, carried_over, lesser, moved, moved_and_rounded, normalized, ratio, read_terms, sum,
+    sum_of_two, sum_with, varied_by,
 };
-use font_types::{FWord, Fixed};
+use font_types::{F48Dot16, FWord, Fixed};
 use std::test::Fail;
 
 #[test]
@@ -16,6 +17,24 @@ fn numbers_between(rt: HostRuntime) {
     assert!(rt; carried_over(three, three, one, Fixed::MIN) == Some(Fixed::MIN));
     assert!(rt; carried_over(Fixed::ZERO, three, one, three) == Some(one));
     assert!(rt; carried_over(three, one, one, three).is_none());
+}
+
+#[test]
+fn moved_and_back(rt: HostRuntime) {
+    let base = FWord::new(100);
+    for &(bits, number) in &[(98304, Some(102)), (-98304, Some(99)), (2147483648, None)] {
+        let rounded = moved_and_rounded(base, F48Dot16::from_bits(bits));
+        assert!(rt; rounded == number.map(FWord::new), "{bits}");
+    }
+    assert!(rt; moved(base, F48Dot16::EPSILON) == Some(Fixed::from_bits(6553601)));
+    assert!(rt; moved(base, F48Dot16::MAX).is_none());
+}
+
+#[test]
+fn terms_in_no_list(rt: HostRuntime) {
+    let (half, least) = (Fixed::from_bits(0x8000), (Fixed::MIN, i32::MIN));
+    assert!(rt; sum_of_two((half, 3), (half, -4)) == Some(F48Dot16::from_bits(-32768)));
+    assert!(rt; sum_of_two(least, least).is_none());
 }
 
 #[test]

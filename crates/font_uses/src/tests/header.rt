@@ -1,6 +1,8 @@
 //! A header of 54 bytes.
 
-use crate::header::{FontHeader, font_revision, glyph_data_format, modified, units_per_em};
+use crate::header::{
+    FontHeader, behind_the_header, font_revision, glyph_data_format, modified, units_per_em,
+};
 use font_types::{Fixed, LongDateTime, TableDataRef};
 use std::test::Fail;
 
@@ -20,6 +22,7 @@ fn fields_by_name(rt: HostRuntime) {
     assert!(rt; modified(&TABLE[..54]) == Some(LongDateTime::new(3792052800)));
     assert!(rt; glyph_data_format(&TABLE) == Some(-2));
     assert!(rt; glyph_data_format(&TABLE[..53]).is_none() && units_per_em(&[]).is_none());
+    assert!(rt; behind_the_header(&TABLE) == Some([7].as_slice()));
 }
 
 #[test]

@@ -1,7 +1,9 @@
 //! A linter of tags and of stored numbers.
 
-use crate::linter::{BadTag, first_repeated, is_in_order, is_stored_as, is_sum, judge};
-use font_types::{Fixed, InvalidTag, Tag};
+use crate::linter::{
+    BadTag, Entry, first_repeated, is_in_order, is_stored_as, is_sum, judge, sort_by_tag,
+};
+use font_types::{Fixed, InvalidTag, Offset32, Tag};
 use std::test::Fail;
 
 #[test]
@@ -34,6 +36,25 @@ fn tags_in_order(rt: HostRuntime) {
         "equal tags"
     );
     assert!(rt; first_repeated(&equal) == Some(2) && first_repeated(&equal[1..]) == Some(1));
+}
+
+#[test]
+fn entries_in_order(rt: HostRuntime) {
+    let cmap = Entry {
+        tag: Tag::new(b"cmap"),
+        offset: Offset32::new(64),
+    };
+    let os2 = Entry {
+        tag: Tag::new(b"OS/2"),
+        offset: Offset32::new(96),
+    };
+    let glyf = Entry {
+        tag: Tag::new(b"glyf"),
+        offset: Offset32::new(28),
+    };
+    let mut entries = [glyf, cmap, os2];
+    sort_by_tag(&mut entries);
+    assert!(rt; entries == [os2, cmap, glyf]);
 }
 
 #[test]

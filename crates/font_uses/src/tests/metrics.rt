@@ -1,7 +1,7 @@
 //! Metrics with a tail.
 
-use crate::metrics::{advance, bearing, in_16_16, whole_again, wide_again};
-use font_types::{FWord, Fixed, GlyphId16, UfWord};
+use crate::metrics::{advance, bearing, in_16_16, row, whole_again, wide_again};
+use font_types::{FWord, Fixed, GlyphId16, Scalar, UfWord};
 
 #[test]
 fn of_rows_and_tail(rt: HostRuntime) {
@@ -19,6 +19,24 @@ fn of_rows_and_tail(rt: HostRuntime) {
     }
     assert!(rt; bearing(&table, 2, GlyphId16::new(4)).is_none());
     assert!(rt; whole_again(FWord::new(-7)) == -7);
+}
+
+#[test]
+fn rows_as_records(rt: HostRuntime) {
+    let rows = [2, 0, 0, 10, 1, 0, 0xFF, 0xFF];
+    for &(glyph, width, side) in &[(0, 512, 10), (1, 256, -1)] {
+        let found = row(&rows, GlyphId16::new(glyph));
+        let bytes = found.map(|row| row.to_raw());
+        let fields = found.map(|row| (row.advance.to_u16(), row.bearing.to_i16()));
+        assert!(rt; fields == Some((width, side)), "{glyph}");
+        assert!(rt;
+            bytes.as_ref().map(|b| b.as_slice()) == rows.chunks(4).nth(usize::from(glyph)),
+            "{glyph}"
+        );
+    }
+    assert!(rt;
+        row(&rows, GlyphId16::new(2)).is_none() && row(&rows[1..], GlyphId16::new(0)).is_none()
+    );
 }
 
 #[test]

@@ -1,7 +1,7 @@
 //! A walk over an outline.
 
-use crate::outline::{Placed, pen, pen_from, raised, rise, there_and_back, width};
-use font_types::{Fixed, Point};
+use crate::outline::{Placed, bounds_of, pen, pen_from, raised, rise, there_and_back, width};
+use font_types::{BoundingBox, Fixed, Point};
 
 #[test]
 fn walked(rt: HostRuntime) {
@@ -32,4 +32,22 @@ fn summed(rt: HostRuntime) {
     assert!(rt; pen_from(at(i32::MAX, 3), &[at(1, -4), at(0, 1)]) == at(i32::MIN, 0));
     assert!(rt; rise(&[i16::MAX, 1, -1, 5, -32767]) == 5);
     assert!(rt; rise(&[i16::MAX, 2]) == -32767);
+}
+
+#[test]
+fn bounded(rt: HostRuntime) {
+    let bounds = |x_min, y_min, x_max, y_max| BoundingBox {
+        x_min,
+        y_min,
+        x_max,
+        y_max,
+    };
+    let first = Point::new(5i16, -5);
+    assert!(rt; bounds_of(first, &[]) == bounds(5, -5, 5, -5));
+    let others = [
+        Point::new(-7, 0),
+        Point::new(9, -6),
+        Point::new(0, i16::MAX),
+    ];
+    assert!(rt; bounds_of(first, &others) == bounds(-7, -6, 9, i16::MAX));
 }

@@ -1,7 +1,9 @@
 //! A reader of tables.
 
-use crate::reader::{Cursor, PixelsPerEm, nth, numbers, position_of, read_strike, value_at};
-use font_types::{BigEndian, Fixed, Int24, Tag, Uint24};
+use crate::reader::{
+    Cursor, PixelsPerEm, nth, number_at, numbers, place_of, position_of, read_strike, value_at,
+};
+use font_types::{BigEndian, Fixed, Int24, ScalarArray, Tag, Uint24};
 use std::test::Fail;
 
 #[test]
@@ -13,6 +15,26 @@ fn strikes_in_turn(rt: HostRuntime) -> Result<(), Fail> {
     assert!(rt; strike.byte_len.to_u32() == 65538 && strike.size == PixelsPerEm(12));
     assert!(rt; strike.glyph_count == 260 && cursor.rest == [7].as_slice());
     assert!(rt; read_strike(&mut cursor).is_none() && cursor.rest == [7].as_slice());
+    Ok(())
+}
+
+#[test]
+fn numbers_of_an_array(rt: HostRuntime) -> Result<(), Fail> {
+    let bytes = [0, 3, 0, 7, 1, 0];
+    for &(index, number) in &[(0, Some(3)), (2, Some(256)), (3, None)] {
+        assert!(rt; number_at(&bytes, index) == number, "{index}");
+    }
+    assert!(rt; number_at(&bytes[1..], 0).is_none());
+    let glyphs = ScalarArray::new(&bytes).ok_or("six bytes")?;
+    for &(glyph, place) in &[
+        (3, Ok(0)),
+        (7, Ok(1)),
+        (256, Ok(2)),
+        (8, Err(2)),
+        (0, Err(0)),
+    ] {
+        assert!(rt; place_of(&glyphs, glyph) == place, "{glyph}");
+    }
     Ok(())
 }
 
@@ -51,7 +73,10 @@ fn values_at_places(rt: HostRuntime) -> Result<(), Fail> {
 fn sizes_in_fields(rt: HostRuntime) {
     for &(size, other) in &[(0x0102, 0x0103), (255, 256), (0x7FFF, 0x8000)] {
         let (small, large) = (PixelsPerEm(size), PixelsPerEm(other));
-        assert!(rt; BigEndian::from(small).be_bytes() == size.to_be_bytes().as_slice());
+        assert!(rt;
+            BigEndian::from(small).be_bytes() == size.to_be_bytes().as_slice(),
+            "bytes of {size}"
+        );
         assert!(rt;
             small < large && small.max(large) == large,
             "{size} and {other}"

@@ -17,7 +17,10 @@ fn in_columns(rt: HostRuntime) -> Result<(), Fail> {
 #[test]
 fn printed_shortest(rt: HostRuntime) -> Result<(), Fail> {
     for &(bits, text) in &[(0x1_999A, "1.6"), (-1, "-0.00002"), (i32::MIN, "-32768")] {
-        assert!(rt; printed(Fixed::from_bits(bits), rt.alloc())?.as_str() == text);
+        assert!(rt;
+            printed(Fixed::from_bits(bits), rt.alloc())?.as_str() == text,
+            "{text}"
+        );
     }
     Ok(())
 }
