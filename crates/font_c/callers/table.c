@@ -11,7 +11,7 @@
 #include <stdlib.h>
 #include <string.h>
 
-enum { MOST_WORDS = 32, LINE = 512, ROOM = 64, TYPES = 7 };
+enum { MOST_WORDS = 32, LINE = 512, ROOM = 64 };
 
 /* What the library answers by these names, and the table has as numbers. */
 #define IS(NAME, NUMBER) typedef char NAME##_is_##NUMBER[(NAME) == (NUMBER) ? 1 : -1]
@@ -60,7 +60,12 @@ static int64_t number(const words *line, int at) {
     return strtoll(line->word[at], NULL, 10);
 }
 
-/* ---- the seven types of numbers, as if all had 64 bits ---- */
+/* ---- the types of numbers, as if all had 64 bits ---- */
+
+/* Each type, and that of its bits. */
+#define NUMBER_TYPES(OF)                                                                       \
+    OF(fixed, int32_t) OF(f2dot14, int16_t) OF(f4dot12, int16_t) OF(f6dot10, int16_t)          \
+    OF(f26dot6, int32_t) OF(f48dot16, int64_t) OF(f2dot30, int32_t)
 
 typedef struct number_type {
     const char *name;
@@ -88,22 +93,15 @@ typedef struct number_type {
     static int64_t NAME##_round(int64_t bits) { return font_##NAME##_round((BITS)bits); }      \
     static int64_t NAME##_floor(int64_t bits) { return font_##NAME##_floor((BITS)bits); }
 
-#define CALLS_OF(NAME)                                                                         \
+#define CALLS_OF(NAME, BITS)                                                                   \
     { #NAME, NAME##_from_decimal, NAME##_to_decimal, NAME##_write_padded, NAME##_round,        \
-      NAME##_floor }
+      NAME##_floor },
 
-WIDENED(fixed, int32_t)
-WIDENED(f2dot14, int16_t)
-WIDENED(f4dot12, int16_t)
-WIDENED(f6dot10, int16_t)
-WIDENED(f26dot6, int32_t)
-WIDENED(f48dot16, int64_t)
-WIDENED(f2dot30, int32_t)
+NUMBER_TYPES(WIDENED)
 
-static const number_type number_types[TYPES] = {
-    CALLS_OF(fixed),   CALLS_OF(f2dot14),  CALLS_OF(f4dot12), CALLS_OF(f6dot10),
-    CALLS_OF(f26dot6), CALLS_OF(f48dot16), CALLS_OF(f2dot30),
-};
+static const number_type number_types[] = {NUMBER_TYPES(CALLS_OF)};
+
+enum { TYPES = sizeof number_types / sizeof *number_types };
 
 /* The place of a type among them, or TYPES. */
 static size_t place_of(const char *name) {

@@ -1,7 +1,7 @@
 /*
  * Fixed-point numbers, matrices, tags and sums of deltas of fonts. Every function
  * has a contract that is proved; the comments here say in words what it states.
- * For C99 and later, and for C++11 and later. Link with libfont_c.a.
+ * For C99 and later, and for C++11 and later. Link with libfont_c.
  *
  * Numbers are handed over by their bits, which count steps of 1 / 2^f: of a
  * 16.16 number, int32_t, f is 16, so that 98304 is 1.5.

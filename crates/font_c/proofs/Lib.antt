@@ -1,3 +1,3 @@
 pub mod Texts
 mod Readings
-mod SumLemmas
+mod Sums

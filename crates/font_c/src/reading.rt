@@ -1,8 +1,7 @@
 //! Decimal texts that come from C.
 
-ghost use Rattle.std.specs.Prelude.{◌≡◌, ◌≢◌, ◌<◌, ◌≤◌, MatchOption};
+ghost use Rattle.std.specs.Prelude.{◌≡◌, ◌≢◌, ◌<◌, ◌≤◌};
 ghost use Rattle.std.specs.Int.{w16, w32, w64};
-ghost use Rattle.font_types.specs.Grammar.{IsNoDecimal};
 ghost use Rattle.font_c.specs.Readings.{reading_of, ReadsInto};
 
 use font_arithmetic::{read_bits_16, read_bits_32, read_bits_64};
@@ -23,9 +22,6 @@ pub fn read_into_16(text: &[u8], f: u32, bits: &mut i16) -> u32
     requires { (6 ≤ f) × (f ≤ 30) }
     ensures { ReadsInto w16 f text.now result bits.old bits.new }
 {
-    let Some(text) = ascii_text(text) else {
-        return NO_DECIMAL;
-    };
     store_reading(read_bits_16(text, f), bits)
 }
 
@@ -34,9 +30,6 @@ pub fn read_into_32(text: &[u8], f: u32, bits: &mut i32) -> u32
     requires { (6 ≤ f) × (f ≤ 30) }
     ensures { ReadsInto w32 f text.now result bits.old bits.new }
 {
-    let Some(text) = ascii_text(text) else {
-        return NO_DECIMAL;
-    };
     store_reading(read_bits_32(text, f), bits)
 }
 
@@ -45,20 +38,7 @@ pub fn read_into_64(text: &[u8], f: u32, bits: &mut i64) -> u32
     requires { (6 ≤ f) × (f ≤ 30) }
     ensures { ReadsInto w64 f text.now result bits.old bits.new }
 {
-    let Some(text) = ascii_text(text) else {
-        return NO_DECIMAL;
-    };
     store_reading(read_bits_64(text, f), bits)
-}
-
-// The bytes as a text, or `None` where they are not ASCII, as every decimal is.
-fn ascii_text(bytes: &[u8]) -> Option<&str>
-    ensures { MatchOption result (IsNoDecimal bytes.now) (λ text. text.now ≡ bytes.now) }
-{
-    if !bytes.is_ascii() {
-        return None;
-    }
-    Some(unsafe { str::from_utf8_unchecked(bytes) })
 }
 
 // Stores a number that was read, and returns the status.

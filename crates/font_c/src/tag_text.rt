@@ -6,7 +6,7 @@ ghost use Rattle.font_types.specs.Tag.{byte_text, tag_bytes, tag_text};
 
 use font_types::Tag;
 
-// Of a byte that is not shown as it is the text has six.
+// A byte that is not shown as it is takes six: `{0xFF}`.
 const LEN: usize = 24;
 
 /// The text of a tag, as far as it is made.

@@ -1,13 +1,6 @@
-pub mod AnswersLemmas
-pub mod OneAnswer
-pub mod ReadingLemmas
-pub mod NumbersLemmas
-pub mod TermsLemmas
-mod WholeLemmas
-pub mod CommandLemmas
-pub mod DeviceLemmas
-pub mod GivenLemmas
-pub mod SearchLemmas
-pub mod LinesLemmas
-pub mod WordsLemmas
-pub mod HexadecimalLemmas
+pub mod Readings
+pub mod Commands
+pub mod Writes
+pub mod Search
+pub mod Lines
+pub mod Hexadecimal

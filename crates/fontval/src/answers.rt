@@ -12,7 +12,7 @@ use crate::text::{Lines, Words};
 use std::alloc::{AllocError, Allocator};
 
 /// The answers to the lines of an input, each followed by a line feed.
-#[tactic(auto, using(crate::proofs::AnswersLemmas::answer_steps))]
+#[tactic(auto, using(crate::proofs::Commands::answer_steps))]
 pub fn answers<A: Allocator + Copy>(alloc: A, input: &[u8]) -> Result<String<A>, AllocError>
     ensures answers { IfOk result (λ output. Answers input.now (string_bytes output)) }
     ensures only { IfOk result (λ output. (other : List ℕ)
@@ -45,7 +45,7 @@ fn append_answer<A: Allocator>(
 
 // Appends the answer to a line that is not refused.
 #[inline(always)]
-#[tactic(auto, using(crate::proofs::GivenLemmas::given_refusal))]
+#[tactic(auto, using(crate::proofs::Commands::given_refusal))]
 fn append_text<A: Allocator>(
     alloc: A,
     line: &[u8],

@@ -8,11 +8,11 @@ ghost use Rattle.fontval.specs.Deltas.{sum_of, varied_answer};
 ghost use Rattle.fontval.specs.Refusal.{GivesAnswer};
 ghost use Rattle.fontval.specs.Text.{words_of};
 
-use crate::images::Move;
+use crate::images::Images;
 use crate::judgement::Judgement;
-use crate::numbers::{fixed_numbers, in_pairs, short_number, terms};
+use crate::numbers::{fixed_numbers, in_pairs, terms, whole_number_16};
 use crate::output::{append, append_read};
-use crate::parse::{hexadecimal, text_of_decimal, two_words};
+use crate::parse::{hexadecimal, two_words};
 use crate::refusal::{Refusal, Unanswered};
 use crate::text::Words;
 use font_types::{
@@ -99,7 +99,7 @@ impl Command {
 
     /// Appends what the command answers to the words behind it.
     #[inline(always)]
-    #[tactic(auto, using(crate::proofs::GivenLemmas::given))]
+    #[tactic(auto, using(crate::proofs::Commands::given))]
     pub fn answer<A: Allocator>(
         self,
         alloc: A,
@@ -113,10 +113,10 @@ impl Command {
             Command::Integer(kind) => append(kind.number(words)?, output),
             Command::FixedPoint(kind) => kind.show(words, output),
             Command::Read => read(words, output),
-            Command::Tag => judge(Tag::from_be_bytes(hexadecimal(words)?), output),
+            Command::Tag => append_judgement(Tag::from_be_bytes(hexadecimal(words)?), output),
             Command::Image => image(words, output),
             Command::Sum => sum(alloc, words, output),
-            Command::Vary => move_units(alloc, words, output),
+            Command::Vary => append_varied(alloc, words, output),
         }
     }
 }
@@ -142,18 +142,23 @@ impl IntegerType {
 
 impl FixedType {
     /// The fixed-point type that a word names.
-    #[tactic(auto, using(crate::proofs::CommandLemmas::names_no_type))]
     pub fn named(word: &[u8]) -> Result<FixedType, Refusal>
         ensures { IsNamedType word.now result }
     {
-        match Command::named(word)? {
-            Command::FixedPoint(kind) => Ok(kind),
-            _ => Err(Refusal::UnknownCommand),
-        }
+        Ok(match word {
+            b"f2dot14" => FixedType::F2Dot14,
+            b"f4dot12" => FixedType::F4Dot12,
+            b"f6dot10" => FixedType::F6Dot10,
+            b"fixed" => FixedType::Fixed,
+            b"f26dot6" => FixedType::F26Dot6,
+            b"f48dot16" => FixedType::F48Dot16,
+            b"f2dot30" => FixedType::F2Dot30,
+            _ => return Err(Refusal::UnknownCommand),
+        })
     }
 
     // Appends the number whose bits the bytes of the only word are.
-    #[tactic(auto, using(crate::proofs::GivenLemmas::given))]
+    #[tactic(auto, using(crate::proofs::Commands::given))]
     fn show<A: Allocator>(self, words: Words<'_>, output: &mut String<A>) -> Result<(), Unanswered>
         ensures { GivesAnswer (λ answer. answer ≡ fixed_point self (words_of words.entry.rest.now))
             (string_bytes output.old) (string_bytes output.new) result }
@@ -175,26 +180,26 @@ impl FixedType {
         }
     }
 
-    // Appends the bytes of the number that a text is read as.
-    #[tactic(auto, using(crate::proofs::CommandLemmas::given_number))]
-    fn read<A: Allocator>(self, text: &str, output: &mut String<A>) -> Result<(), Unanswered>
-        ensures { GivesAnswer (ShowsReading self text.now)
+    // Appends the bytes of the number that a word is read as.
+    #[tactic(auto, using(crate::proofs::Commands::given_number))]
+    fn read<A: Allocator>(self, word: &[u8], output: &mut String<A>) -> Result<(), Unanswered>
+        ensures { GivesAnswer (ShowsReading self word.now)
             (string_bytes output.old) (string_bytes output.new) result }
     {
         match self {
-            FixedType::F2Dot14 => append_read(F2Dot14::from_decimal(text), output),
-            FixedType::F4Dot12 => append_read(F4Dot12::from_decimal(text), output),
-            FixedType::F6Dot10 => append_read(F6Dot10::from_decimal(text), output),
-            FixedType::Fixed => append_read(Fixed::from_decimal(text), output),
+            FixedType::F2Dot14 => append_read(F2Dot14::from_decimal_bytes(word), output),
+            FixedType::F4Dot12 => append_read(F4Dot12::from_decimal_bytes(word), output),
+            FixedType::F6Dot10 => append_read(F6Dot10::from_decimal_bytes(word), output),
+            FixedType::Fixed => append_read(Fixed::from_decimal_bytes(word), output),
             FixedType::F26Dot6 => append_read(
-                F26Dot6::from_decimal(text).map(F26Dot6::to_bits),
+                F26Dot6::from_decimal_bytes(word).map(F26Dot6::to_bits),
                 output,
             ),
             FixedType::F48Dot16 => append_read(
-                F48Dot16::from_decimal(text).map(F48Dot16::to_bits),
+                F48Dot16::from_decimal_bytes(word).map(F48Dot16::to_bits),
                 output,
             ),
-            FixedType::F2Dot30 => append_read(F2Dot30::from_decimal(text), output),
+            FixedType::F2Dot30 => append_read(F2Dot30::from_decimal_bytes(word), output),
         }
     }
 }
@@ -202,19 +207,19 @@ impl FixedType {
 // Appends the bytes of the number that the second word is read as, of the type that the first
 // names.
 #[inline(never)]
-#[tactic(auto, using(crate::proofs::CommandLemmas::reading_given))]
+#[tactic(auto, using(crate::proofs::Commands::reading_given))]
 fn read<A: Allocator>(words: Words<'_>, output: &mut String<A>) -> Result<(), Unanswered>
     ensures { GivesAnswer (AnswersWords (words_of words.entry.rest.now) Command.Read)
         (string_bytes output.old) (string_bytes output.new) result }
 {
     let (name, word) = two_words(words)?;
-    FixedType::named(name)?.read(text_of_decimal(word)?, output)
+    FixedType::named(name)?.read(word, output)
 }
 
 // Appends the text of a tag, and what is said of it.
 #[inline(never)]
-#[tactic(auto, using(crate::proofs::CommandLemmas::judged_tag))]
-fn judge<A: Allocator>(tag: Tag, output: &mut String<A>) -> Result<(), Unanswered>
+#[tactic(auto, using(crate::proofs::Commands::judged_tag))]
+fn append_judgement<A: Allocator>(tag: Tag, output: &mut String<A>) -> Result<(), Unanswered>
     ensures { GivesAnswer (JudgesTag (tag_bytes tag))
         (string_bytes output.old) (string_bytes output.new) result }
 {
@@ -224,12 +229,12 @@ fn judge<A: Allocator>(tag: Tag, output: &mut String<A>) -> Result<(), Unanswere
 
 // Appends where a point goes by two matrices.
 #[inline(never)]
-#[tactic(auto, using(crate::proofs::CommandLemmas::images_given))]
+#[tactic(auto, using(crate::proofs::Commands::images_given))]
 fn image<A: Allocator>(words: Words<'_>, output: &mut String<A>) -> Result<(), Unanswered>
     ensures { GivesAnswer (AnswersWords (words_of words.entry.rest.now) Command.Image)
         (string_bytes output.old) (string_bytes output.new) result }
 {
-    append(Move::from(fixed_numbers(words)?), output)
+    append(Images::from(fixed_numbers(words)?), output)
 }
 
 // Appends the sum of terms.
@@ -255,7 +260,7 @@ fn append_sum<A: Allocator>(
 
 // Appends a whole number of font units moved by the sum of terms.
 #[inline(never)]
-fn move_units<A: Allocator>(
+fn append_varied<A: Allocator>(
     alloc: A,
     mut words: Words<'_>,
     output: &mut String<A>,
@@ -264,7 +269,7 @@ fn move_units<A: Allocator>(
         (string_bytes output.old) (string_bytes output.new) result }
 {
     let base = words.next().ok_or(Refusal::WordCount)?;
-    let units = match short_number(base) {
+    let units = match whole_number_16(base) {
         Ok(units) => units,
         Err(refusal) => {
             in_pairs(&words)?;
@@ -272,11 +277,11 @@ fn move_units<A: Allocator>(
         }
     };
     let terms = terms(alloc, words)?;
-    append_moved(units, &terms, output)
+    append_units(units, &terms, output)
 }
 
 // Appends so many font units moved by the sum of these terms.
-fn append_moved<A: Allocator>(
+fn append_units<A: Allocator>(
     units: i16,
     terms: &[(Fixed, i32)],
     output: &mut String<A>,

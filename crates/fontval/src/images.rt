@@ -8,9 +8,9 @@ ghost use Rattle.fontval.specs.Images.{images_text};
 use font_types::{Fixed, Matrix, Point, laws};
 use std::fmt;
 
-/// Two matrices and a point.
+/// The images of a point by two matrices.
 #[derive(Clone, Copy)]
-pub struct Move {
+pub struct Images {
     /// The matrix that is applied last.
     pub a: Matrix<Fixed>,
     /// The matrix that is applied first.
@@ -20,9 +20,9 @@ pub struct Move {
 }
 
 // The numbers are the elements of both matrices, and the coordinates of the point.
-impl From<[Fixed; 14]> for Move {
-    ghost from_gives = { λ numbers move.
-        numbers ≡ elements_of move.a ++ elements_of move.b ++ move.p.x ∷ move.p.y ∷ [] };
+impl From<[Fixed; 14]> for Images {
+    ghost from_gives = { λ numbers m.
+        numbers ≡ elements_of m.a ++ elements_of m.b ++ m.p.x ∷ m.p.y ∷ [] };
 
     fn from(numbers: [Fixed; 14]) -> Self {
         let (a, rest) = numbers.split_first_chunk::<6>().unwrap();
@@ -35,8 +35,8 @@ impl From<[Fixed; 14]> for Move {
     }
 }
 
-// Shown by the images of the point: by the product of the matrices, and by one after the other.
-impl fmt::Display for Move {
+// By the product of the matrices, and by one after the other.
+impl fmt::Display for Images {
     ghost output = { λ m. Some (images_text (matrix_bits m.a) (matrix_bits m.b) (point_bits m.p)) };
 
     fn fmt<W: fmt::Write>(&self, f: &mut fmt::Formatter<W>) -> fmt::Result {

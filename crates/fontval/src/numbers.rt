@@ -8,7 +8,6 @@ ghost use Rattle.fontval.specs.Numbers.{behind_minus};
 ghost use Rattle.fontval.specs.Refusal.{OnRefused};
 ghost use Rattle.fontval.specs.Text.{words_of};
 
-use crate::parse::text_of_decimal;
 use crate::refusal::{Refusal, Unanswered};
 use crate::text::Words;
 use font_types::Fixed;
@@ -21,7 +20,7 @@ const FEW_TERMS: usize = 16;
 ///
 /// The words are read as they come, and counted only where one of them is refused: their number is
 /// judged before any of them.
-#[tactic(auto, using(crate::proofs::NumbersLemmas::number_steps))]
+#[tactic(auto, using(crate::proofs::Readings::number_steps))]
 pub fn fixed_numbers<const N: usize>(mut words: Words<'_>) -> Result<[Fixed; N], Refusal>
     ensures { ReadsJust N (words_of words.entry.rest.now) result }
 {
@@ -46,17 +45,16 @@ pub fn fixed_numbers<const N: usize>(mut words: Words<'_>) -> Result<[Fixed; N],
 
 // The `Fixed` that a word is read as.
 #[inline(always)]
-#[tactic(auto, using(crate::proofs::NumbersLemmas::reads_no_number))]
 fn fixed_number(word: &[u8]) -> Result<Fixed, Refusal>
     ensures { ReadsFixed word.now result }
 {
-    Ok(Fixed::from_decimal(text_of_decimal(word)?)?)
+    Ok(Fixed::from_decimal_bytes(word)?)
 }
 
 /// The terms that words are read as two by two: a scalar, and a whole number of font units.
 ///
 /// The words are counted only where one of them is refused, as those of `fixed_numbers`.
-#[tactic(auto, using(crate::proofs::TermsLemmas::term_steps))]
+#[tactic(auto, using(crate::proofs::Readings::term_steps))]
 pub fn terms<A: Allocator>(
     alloc: A,
     mut words: Words<'_>,
@@ -107,17 +105,13 @@ pub fn whole_number(word: &[u8]) -> Result<i32, Refusal>
     ensures { ReadsWhole 32 word.now result }
 {
     let (negative, digits) = split_minus(word);
-    let magnitude_of_digits = magnitude_of_digits(digits).ok_or(Refusal::NotWhole)?;
-    let number = if negative {
-        -magnitude_of_digits
-    } else {
-        magnitude_of_digits
-    };
+    let magnitude = magnitude_of_digits(digits).ok_or(Refusal::NotWhole)?;
+    let number = if negative { -magnitude } else { magnitude };
     i32::try_from(number).map_err(|_| Refusal::OutOfRange)
 }
 
 /// The whole number of 16 bits that a word is read as.
-pub fn short_number(word: &[u8]) -> Result<i16, Refusal>
+pub fn whole_number_16(word: &[u8]) -> Result<i16, Refusal>
     ensures { ReadsWhole 16 word.now result }
 {
     i16::try_from(whole_number(word)?).map_err(|_| Refusal::OutOfRange)

@@ -1,7 +1,6 @@
 //! What a command makes of its words.
 
 ghost use Rattle.std.specs.Prelude.{◌≡◌, ◌<◌, Ok, Err, MatchResult};
-ghost use Rattle.font_types.specs.Grammar.{IsNoDecimal};
 ghost use Rattle.fontval.specs.Command.{hexadecimal, only_bytes, only_word, two_words};
 ghost use Rattle.fontval.specs.Text.{words_of};
 
@@ -35,7 +34,7 @@ pub fn two_words(mut words: Words<'_>) -> Result<(&[u8], &[u8]), Refusal>
 /// The bytes of the only word, of hexadecimal digits of either case.
 ///
 /// Where all that is left are such digits, they are one word, and no other is sought.
-#[tactic(auto, using(crate::proofs::HexadecimalLemmas::decoded_alone))]
+#[tactic(auto, using(crate::proofs::Hexadecimal::decoded_alone))]
 pub fn hexadecimal<const N: usize>(words: Words<'_>) -> Result<[u8; N], Refusal>
     requires some { 0 < N }
     ensures { result ≡ only_bytes N (words_of words.entry.rest.now) }
@@ -63,16 +62,4 @@ fn decoded<const N: usize>(text: &[u8]) -> Result<[u8; N], Refusal>
     let mut bytes = [0; N];
     hex::decode_to_slice(text, &mut bytes).map_err(|_| Refusal::NotHexadecimal)?;
     Ok(bytes)
-}
-
-/// A word as text. One that is not ASCII is no decimal.
-pub fn text_of_decimal(word: &[u8]) -> Result<&str, Refusal>
-    ensures { MatchResult result
-        (λ text. text.now ≡ word.now)
-        (λ refusal. (refusal ≡ Refusal.NotDecimal) × IsNoDecimal word.now) }
-{
-    if !word.is_ascii() {
-        return Err(Refusal::NotDecimal);
-    }
-    Ok(unsafe { str::from_utf8_unchecked(word) })
 }

@@ -30,7 +30,7 @@ impl<'a> Iterator for Lines<'a> {
 
     ghost remaining = { item_count (λ lines. lines_of lines.rest.now) };
 
-    #[tactic(auto, using(crate::proofs::LinesLemmas::line_steps))]
+    #[tactic(auto, using(crate::proofs::Lines::line_steps))]
     fn next(&mut self) -> Option<&'a [u8]> {
         if self.rest.is_empty() {
             return None;
@@ -54,7 +54,7 @@ fn split_line(input: &[u8]) -> (&[u8], &[u8])
 
 // Where the first line feed stands. It is sought in blocks of sixteen bytes, and then in what is
 // left.
-#[tactic(auto, using(crate::proofs::SearchLemmas::search_steps))]
+#[tactic(auto, using(crate::proofs::Search::search_steps))]
 fn line_feed_at(input: &[u8]) -> Option<usize>
     ensures { result ≡ position is_line_feed input.now }
 {
@@ -106,7 +106,7 @@ impl<'a> Words<'a> {
     }
 
     /// How many words are left.
-    #[tactic(auto, using(crate::proofs::WordsLemmas::words_fit))]
+    #[tactic(auto, using(crate::proofs::Lines::words_fit))]
     pub fn left(&self) -> usize
         ensures { result ≡ length (words_of self.now.rest.now) }
     {
@@ -121,7 +121,7 @@ impl<'a> Iterator for Words<'a> {
 
     ghost remaining = { item_count (λ words. words_of words.rest.now) };
 
-    #[tactic(auto, using(crate::proofs::WordsLemmas::word_steps))]
+    #[tactic(auto, using(crate::proofs::Lines::word_steps))]
     fn next(&mut self) -> Option<&'a [u8]> {
         let (_, text) = self.rest.split_at(word_at(self.rest)?);
         let (word, rest) = split_word(text);
@@ -148,7 +148,7 @@ fn split_word(text: &[u8]) -> (&[u8], &[u8])
 }
 
 // Where the first blank stands. It is sought in blocks of eight bytes, and then in what is left.
-#[tactic(auto, using(crate::proofs::SearchLemmas::search_steps))]
+#[tactic(auto, using(crate::proofs::Search::search_steps))]
 fn blank_at(text: &[u8]) -> Option<usize>
     ensures { result ≡ position is_blank text.now }
 {

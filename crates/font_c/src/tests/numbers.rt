@@ -92,7 +92,10 @@ fn refusals_leave_the_place(rt: HostRuntime) {
     ];
     for &(text, status) in rows {
         let mut bits = 7;
-        assert!(rt; font_fixed_from_decimal(text, &mut bits) == status && bits == 7);
+        assert!(rt;
+            font_fixed_from_decimal(text, &mut bits) == status && bits == 7,
+            "{text:?}"
+        );
     }
     let mut out = *b"..";
     assert!(rt; font_fixed_to_decimal(0x1_8000, &mut out) == 0 && out == *b"..");
@@ -106,31 +109,31 @@ fn texts_that_are_not_ascii(rt: HostRuntime) {
         let (mut narrow, mut bits, mut wide) = (7, 7, 7);
         assert!(rt;
             font_f2dot14_from_decimal(text, &mut narrow) == 1 && narrow == 7,
-            "2.14"
+            "2.14: {text:?}"
         );
         assert!(rt;
             font_f4dot12_from_decimal(text, &mut narrow) == 1 && narrow == 7,
-            "4.12"
+            "4.12: {text:?}"
         );
         assert!(rt;
             font_f6dot10_from_decimal(text, &mut narrow) == 1 && narrow == 7,
-            "6.10"
+            "6.10: {text:?}"
         );
         assert!(rt;
             font_fixed_from_decimal(text, &mut bits) == 1 && bits == 7,
-            "16.16"
+            "16.16: {text:?}"
         );
         assert!(rt;
             font_f26dot6_from_decimal(text, &mut bits) == 1 && bits == 7,
-            "26.6"
+            "26.6: {text:?}"
         );
         assert!(rt;
             font_f2dot30_from_decimal(text, &mut bits) == 1 && bits == 7,
-            "2.30"
+            "2.30: {text:?}"
         );
         assert!(rt;
             font_f48dot16_from_decimal(text, &mut wide) == 1 && wide == 7,
-            "48.16"
+            "48.16: {text:?}"
         );
     }
 }
@@ -145,9 +148,15 @@ fn paddings_refused(rt: HostRuntime) {
             ..STARS
         };
         let mut out = *b"........";
-        assert!(rt; font_fixed_write_padded(-0x1_8000, &pad, &mut out[..5]) == 0);
-        assert!(rt; out == *b"........");
-        assert!(rt; font_fixed_write_padded(-0x1_8000, &pad, &mut out) == length);
+        assert!(rt;
+            font_fixed_write_padded(-0x1_8000, &pad, &mut out[..5]) == 0,
+            "five bytes: {fill}, {align}"
+        );
+        assert!(rt; out == *b"........", "written: {fill}, {align}");
+        assert!(rt;
+            font_fixed_write_padded(-0x1_8000, &pad, &mut out) == length,
+            "{fill}, {align}"
+        );
     }
 }
 
@@ -168,7 +177,10 @@ fn alignments_and_flags(rt: HostRuntime) {
             ..STARS
         };
         let mut out = *b"........";
-        assert!(rt; font_fixed_write_padded(0x1_8000, &pad, &mut out) == 6 && out == *text);
+        assert!(rt;
+            font_fixed_write_padded(0x1_8000, &pad, &mut out) == 6 && out == *text,
+            "{align}, {plus}, {zeros}"
+        );
     }
 }
 

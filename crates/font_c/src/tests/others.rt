@@ -52,9 +52,18 @@ fn a_turn_behind_a_stretch(rt: HostRuntime) {
         (TURN, stretch, (ONE / 2, 9 * ONE)),
         (stretch, TURN, (2 * ONE, 5 * ONE)),
     ] {
-        assert!(rt; is_at(font_matrix_image(font_matrix_product(a, b), POINT), image));
-        assert!(rt; is_at(font_matrix_composed(a, b, POINT), image));
-        assert!(rt; is_at(font_matrix_in_turn(a, b, POINT), image));
+        assert!(rt;
+            is_at(font_matrix_image(font_matrix_product(a, b), POINT), image),
+            "product, to {image:?}"
+        );
+        assert!(rt;
+            is_at(font_matrix_composed(a, b, POINT), image),
+            "composed, to {image:?}"
+        );
+        assert!(rt;
+            is_at(font_matrix_in_turn(a, b, POINT), image),
+            "in turn, to {image:?}"
+        );
     }
 }
 
@@ -68,7 +77,10 @@ fn tags_are_made(rt: HostRuntime) {
     ];
     for &(text, status, tag) in rows {
         let mut place = 7;
-        assert!(rt; font_tag_new(text, &mut place) == status && place == tag);
+        assert!(rt;
+            font_tag_new(text, &mut place) == status && place == tag,
+            "{text:?}"
+        );
     }
 }
 
@@ -83,7 +95,10 @@ fn tags_are_judged(rt: HostRuntime) {
     ];
     for &(bytes, status, position) in rows {
         let mut place = 7;
-        assert!(rt; font_tag_validate(bytes, &mut place) == status && place == position);
+        assert!(rt;
+            font_tag_validate(bytes, &mut place) == status && place == position,
+            "{bytes:?}"
+        );
     }
 }
 
@@ -106,7 +121,10 @@ fn deltas_are_added_up(rt: HostRuntime) {
     ];
     for &(scalars, deltas, status, sum) in rows {
         let mut place = 7;
-        assert!(rt; font_checked_delta_sum(scalars, deltas, &mut place) == status && place == sum);
+        assert!(rt;
+            font_checked_delta_sum(scalars, deltas, &mut place) == status && place == sum,
+            "{scalars:?}, {deltas:?}"
+        );
     }
 }
 
@@ -136,6 +154,9 @@ fn units_are_varied(rt: HostRuntime) {
     for &(base, scalars, deltas, status, moved) in rows {
         let mut place = 7;
         let told = font_vary(base, scalars, deltas, &mut place);
-        assert!(rt; told == status && place == moved, "{base} to {moved}");
+        assert!(rt;
+            told == status && place == moved,
+            "{base} by {deltas:?} to {moved}"
+        );
     }
 }

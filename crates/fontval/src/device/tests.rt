@@ -77,6 +77,9 @@ fn a_write_of_no_byte_fails(rt: HostRuntime) {
         (b"", Some(0), true),
     ];
     for &(bytes, taken, failed) in rows {
-        assert!(rt; sink.write(bytes).ok() == taken && sink.has_failed() == failed);
+        assert!(rt;
+            sink.write(bytes).ok() == taken && sink.has_failed() == failed,
+            "{bytes:?}, {failed}"
+        );
     }
 }

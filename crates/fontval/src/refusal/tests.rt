@@ -18,8 +18,14 @@ fn refusals_in_words(rt: HostRuntime) -> Result<(), Fail> {
         (Refusal::NotWhole, 6, "not a whole number"),
     ] {
         let told = Unanswered::Refused(refusal).to_string(rt.alloc())?;
-        assert!(rt; told.as_str().strip_prefix("refused: ") == Some(text));
-        assert!(rt; refusal as u8 == number && refusal.to_string(rt.alloc())?.as_str() == text);
+        assert!(rt;
+            told.as_str().strip_prefix("refused: ") == Some(text),
+            "{text}"
+        );
+        assert!(rt;
+            refusal as u8 == number && refusal.to_string(rt.alloc())?.as_str() == text,
+            "{number}: {text}"
+        );
     }
     assert!(rt; Unanswered::Memory.to_string(rt.alloc())?.as_str() == "memory");
     Ok(())

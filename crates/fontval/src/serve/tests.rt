@@ -4,12 +4,9 @@ ghost use Rattle.std.specs.Prelude.{◌≡◌, Some, false};
 
 use super::{ServeFault, serve};
 use crate::device::{Failed, FromRead, FromWrite, Sink, Source};
+use linked_list_allocator::LocalHeap;
 use std::alloc::Global;
 use std::test::Fail;
-
-mod refusing;
-
-use refusing::Refusing;
 
 const LINES: &[u8] = b"int24 fe1dc0\nint24 fe1d\n\nbogus 1\nuint8";
 
@@ -190,7 +187,10 @@ fn a_failed_read_writes_nothing(rt: HostRuntime) {
         let mut source = Drip::new(LINES, passes);
         let mut sink = Trickle::new(rt.alloc(), usize::MAX);
         let result = serve(rt.alloc(), &mut source, &mut sink);
-        assert!(rt; matches!(result, Err(ServeFault::Read)));
+        assert!(rt;
+            matches!(result, Err(ServeFault::Read)),
+            "result of {passes}"
+        );
         assert!(rt; source.calls == passes + 1 && sink.calls == 0, "{passes}");
     }
 }
@@ -201,35 +201,41 @@ fn a_failed_write_keeps_what_passed(rt: HostRuntime) {
         let mut source = Drip::new(LINES, usize::MAX);
         let mut sink = Trickle::new(rt.alloc(), passes);
         let result = serve(rt.alloc(), &mut source, &mut sink);
-        assert!(rt; matches!(result, Err(ServeFault::Write)) && sink.calls == passes + 1);
+        assert!(rt;
+            matches!(result, Err(ServeFault::Write)) && sink.calls == passes + 1,
+            "calls of {passes}"
+        );
         assert!(rt; sink.taken.as_slice() == &ANSWERS[..passes], "{passes}");
     }
 }
 
-// Each request for memory is refused in turn, until the input is answered.
+// A heap that is too small for what the input needs, wherever that shows.
 #[test]
-fn each_growth_refused(rt: HostRuntime) -> Result<(), Fail> {
-    let rows: &[(&[u8], &[u8], usize)] = &[
-        (LINES, ANSWERS, 8),
-        (SUM, b"15.5\n", 8),
-        (VARY, b"5521408\n", 5),
-        (IMAGE, b"30 -6 30 -6\n", 6),
+fn too_little_memory_writes_nothing(rt: HostRuntime) -> Result<(), Fail> {
+    let rows: &[(&str, &[u8], &[u8])] = &[
+        ("lines", LINES, ANSWERS),
+        ("a sum", SUM, b"15.5\n"),
+        ("a moved number", VARY, b"5521408\n"),
+        ("an image", IMAGE, b"30 -6 30 -6\n"),
     ];
-    for &(input, answers, growths) in rows {
-        let mut refused = 0usize;
-        for before in 0..100usize {
-            let memory = Refusing::after(before, rt.alloc());
+    for &(name, input, answers) in rows {
+        let mut too_small = 0usize;
+        for size in (16..4096usize).step_by(16) {
+            let heap = LocalHeap::new(rt.alloc(), size)?;
             let mut source = Drip::new(input, usize::MAX);
             let mut sink = Trickle::new(rt.alloc(), usize::MAX);
-            let Err(fault) = serve(&memory, &mut source, &mut sink) else {
-                assert!(rt; sink.taken.as_slice() == answers);
+            let Err(fault) = serve(&heap, &mut source, &mut sink) else {
+                assert!(rt; sink.taken.as_slice() == answers, "{name}");
                 break;
             };
-            assert!(rt; matches!(fault, ServeFault::Memory));
-            assert!(rt; sink.calls == 0, "{before}");
-            refused = before + 1;
+            assert!(rt;
+                matches!(fault, ServeFault::Memory),
+                "{name} in {size} bytes"
+            );
+            assert!(rt; sink.calls == 0, "{name}, written in {size} bytes");
+            too_small = size;
         }
-        assert!(rt; refused == growths);
+        assert!(rt; too_small >= 80, "{name} in {too_small} bytes");
     }
     Ok(())
 }
@@ -241,7 +247,10 @@ fn faults_in_words(rt: HostRuntime) -> Result<(), Fail> {
         (ServeFault::Read, "read Read"),
         (ServeFault::Write, "write Write"),
     ] {
-        assert!(rt; format!(in rt.alloc(); "{fault} {fault:?}")?.as_str() == *text);
+        assert!(rt;
+            format!(in rt.alloc(); "{fault} {fault:?}")?.as_str() == *text,
+            "{text}"
+        );
     }
     let (memory, read) = (ServeFault::Memory as u8, ServeFault::Read as u8);
     assert!(rt; memory == 1 && read == 2 && ServeFault::Write as u8 == 3);

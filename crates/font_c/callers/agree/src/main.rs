@@ -1,7 +1,7 @@
 //! `agree [COUNT [SEED]]`: the static library and the Rust package, called side by side. Both are
 //! made of one proved text, by two toolchains, and a difference is a fault of one of them.
 //!
-//! Each of the library's 60 functions is called at edges, and COUNT times at random. The last line
+//! Each of the library's functions is called at edges, and COUNT times at random. The last line
 //! says how many calls agreed; the first that does not ends the program.
 
 #![deny(dead_code)]
@@ -41,7 +41,7 @@ fn main() {
         .skip(1)
         .map(|word| word.parse().expect("a number"));
     let count: u64 = words.next().unwrap_or(200_000);
-    let mut random = Random(words.next().unwrap_or(1));
+    let mut random = Random::of_input(words.next().unwrap_or(1), 0);
     let edges = edges();
     let triples = edges.len() * edges.len() * edges.len();
     for n in 0..triples {
@@ -74,18 +74,12 @@ fn edges() -> Vec<i64> {
 
 /// Calls each function once, over these numbers where it takes numbers.
 fn round([x, y, z]: [i64; 3], random: &mut Random) {
-    numbers::fixed::agree(x, random);
-    numbers::f2dot14::agree(x, random);
-    numbers::f4dot12::agree(x, random);
-    numbers::f6dot10::agree(x, random);
-    numbers::f26dot6::agree(x, random);
-    numbers::f48dot16::agree(x, random);
-    numbers::f2dot30::agree(x, random);
+    numbers::agree(x, random);
     sums_of_two([x, y].map(|n| n as i32));
     arithmetic([x, y, z].map(|n| n as i32));
     matrices(random);
     tags(&random.tag_bytes());
-    text_of_tag(Tag::from_u32(random.next() as u32), random.below(30));
+    text_of_tag(Tag::from_u32(random.next() as u32), random.count(30));
     sums(random);
 }
 
@@ -199,9 +193,9 @@ fn text_of_tag(tag: Tag, room: usize) {
 }
 
 fn sums(random: &mut Random) {
-    let scalars: Vec<i32> = (0..random.below(6)).map(|_| random.int()).collect();
-    let count = if random.below(20) == 0 {
-        random.below(6)
+    let scalars: Vec<i32> = (0..random.count(6)).map(|_| random.int()).collect();
+    let count = if random.count(20) == 0 {
+        random.count(6)
     } else {
         scalars.len()
     };

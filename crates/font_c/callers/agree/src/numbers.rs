@@ -49,9 +49,9 @@ macro_rules! numbers {
                 let number = $Type::from_bits(bits);
                 agree!($round(bits), number.round().to_bits(), "{bits}");
                 agree!($floor(bits), number.floor().to_bits(), "{bits}");
-                shown(bits, number, random.below(28));
+                shown(bits, number, random.count(28));
                 read(&random.near_text(&number.to_string()));
-                padded(bits, number, &random.pad(), random.below(50));
+                padded(bits, number, &random.pad(), random.count(50));
             }
 
             fn shown(bits: $bits, number: $Type, room: usize) {
@@ -79,7 +79,13 @@ macro_rules! numbers {
                 agree!((written, out), (length.unwrap_or(0), wanted), "{bits}, {of:?}");
             }
         }
-    )*};
+    )*
+
+        /// The calls of every type over this number.
+        pub fn agree(bits: i64, random: &mut Random) {
+            $($module::agree(bits, random);)*
+        }
+    };
 }
 
 numbers! {

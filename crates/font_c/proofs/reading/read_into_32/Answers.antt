@@ -1,10 +1,7 @@
-use Rattle.std.proofs.Common.{rules, refl, lit<, lit≤}
+use Rattle.std.proofs.Common.{rules, lit≤}
 use Rattle.std.specs.Int.{w32}
 use Rattle.font_c.proofs.Readings.{reads_into}
 use Rattle.font_c.proofs.reading.read_into_32.Goals as goal
-
-pub returns-in_default : goal.returns-in_default
-returns-in_default c = reads_into w32 (lit≤ tt) c.in_default.ensures (lit< tt) (λ _. refl)
 
 pub returns : goal.returns
 returns c =

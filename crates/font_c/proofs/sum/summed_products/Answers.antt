@@ -1,5 +1,5 @@
 use Rattle.std.proofs.Common.{rules, arith, ◌≡◌, ◌+◌, ◌∙◌, ap, length, get_or, pos, ◌+ℤ◌, ◌*ℤ◌}
-use Rattle.font_c.proofs.SumLemmas.{sum_of_first, sum_of_next, sum_of_all}
+use Rattle.font_c.proofs.Sums.{sum_of_first, sum_of_next, sum_of_all}
 use Rattle.font_c.proofs.sum.summed_products.Goals as goal
 
 pub loop-i-preserved : goal.loop-i-preserved

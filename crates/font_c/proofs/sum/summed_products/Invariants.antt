@@ -1,5 +1,5 @@
 use Rattle.std.proofs.Common.{◌≡◌, ◌≤◌, ◌*◌, ◌^◌, unsigned_abs}
-use Rattle.font_c.proofs.SumLemmas.{sum_of_first}
+use Rattle.font_c.proofs.Sums.{sum_of_first}
 use Rattle.font_c.proofs.sum.summed_products.Given as goal
 
 -- each product has a magnitude below 2^63

@@ -1,5 +1,5 @@
 use Rattle.std.proofs.Common.{string_bytes}
-use Rattle.fontval.proofs.AnswersLemmas.{IsAnsweredUpTo}
+use Rattle.fontval.proofs.Commands.{IsAnsweredUpTo}
 use Rattle.fontval.proofs.answers.answers.Given as goal
 
 abbrev pub invariant-loop-line : goal.invariant-loop-line

@@ -1,6 +1,6 @@
 use Rattle.std.proofs.Common.{rules}
 use Rattle.fontval.specs.Text.{words_of}
-use Rattle.fontval.proofs.CommandLemmas.{refused_images}
+use Rattle.fontval.proofs.Commands.{refused_images}
 use Rattle.fontval.proofs.command.image.Goals as goal
 
 pub returns-in_err-fixed_numbers : goal.returns-in_err-fixed_numbers

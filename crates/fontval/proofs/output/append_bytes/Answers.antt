@@ -1,7 +1,7 @@
 use Rattle.std.proofs.Common.{◌≡◌, List, ℕ, subst, sym}
 use Rattle.std.specs.Str.{IsUtf8}
 use Rattle.hex.specs.Hex.{encode_lower}
-use Rattle.fontval.proofs.HexadecimalLemmas.{hexadecimal_is_text}
+use Rattle.fontval.proofs.Hexadecimal.{hexadecimal_is_text}
 use Rattle.fontval.proofs.output.append_bytes.Goals as goal
 
 pub from_utf8_unchecked-requires : goal.from_utf8_unchecked-requires

@@ -1,5 +1,5 @@
 use Rattle.std.proofs.Common.{◌≡◌, false, length}
-use Rattle.fontval.proofs.DeviceLemmas.{IsWrittenUpTo}
+use Rattle.fontval.proofs.Writes.{IsWrittenUpTo}
 use Rattle.fontval.proofs.serve.write_all.Given as goal
 
 abbrev pub invariant-loop-rest : goal.invariant-loop-rest

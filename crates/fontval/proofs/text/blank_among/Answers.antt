@@ -1,7 +1,7 @@
 use Rattle.std.proofs.Common.{Some, sym, ap, ◌∙◌, arith}
 use lib.Count.{count_trailing_zeros}
 use Rattle.fontval.specs.Text.{is_blank}
-use Rattle.fontval.proofs.SearchLemmas.{blanks_marked, none_marked, first_marked}
+use Rattle.fontval.proofs.Search.{blanks_marked, none_marked, first_marked}
 use Rattle.fontval.proofs.text.blank_among.Goals as goal
 
 pub returns-then-blanks-eq0 : goal.returns-then-blanks-eq0

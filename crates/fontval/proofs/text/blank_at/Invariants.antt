@@ -1,6 +1,6 @@
 use Rattle.std.proofs.Common.{length}
 use Rattle.fontval.specs.Text.{is_blank}
-use Rattle.fontval.proofs.SearchLemmas.{IsPassed}
+use Rattle.fontval.proofs.Search.{IsPassed}
 use Rattle.fontval.proofs.text.blank_at.Given as goal
 
 abbrev pub invariant-loop-block : goal.invariant-loop-block

@@ -2,7 +2,7 @@ use Rattle.std.proofs.Common.{eqb, Some, sym, ap, ◌∙◌, arith, w8}
 use lib.Count.{count_trailing_zeros}
 use Rattle.std.proofs.lemmas.Simd.{bitmask_splat}
 use Rattle.fontval.specs.Text.{is_line_feed}
-use Rattle.fontval.proofs.SearchLemmas.{none_marked, first_marked}
+use Rattle.fontval.proofs.Search.{none_marked, first_marked}
 use Rattle.fontval.proofs.text.line_feed_among.Goals as goal
 
 pub returns-then-feeds-eq0 : goal.returns-then-feeds-eq0

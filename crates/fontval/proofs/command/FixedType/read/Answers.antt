@@ -4,7 +4,7 @@ use Rattle.font_types.specs.F4Dot12.{f4dot12_bits}
 use Rattle.font_types.specs.F6Dot10.{f6dot10_bits}
 use Rattle.font_types.specs.Fixed.{fixed_bits}
 use Rattle.font_types.specs.F2Dot30.{f2dot30_bits}
-use Rattle.fontval.proofs.CommandLemmas.{given_number}
+use Rattle.fontval.proofs.Commands.{given_number}
 use Rattle.fontval.proofs.command.FixedType.read.Goals as goal
 
 pub returns-in-F2Dot14 : goal.returns-in-F2Dot14

@@ -1,8 +1,8 @@
 use Rattle.std.proofs.Common.{rules}
 use Rattle.fontval.specs.Text.{words_of}
-use Rattle.fontval.proofs.CommandLemmas.{given_moved}
-use Rattle.fontval.proofs.command.move_units.Goals as goal
+use Rattle.fontval.proofs.Commands.{given_varied}
+use Rattle.fontval.proofs.command.append_varied.Goals as goal
 
 pub returns : goal.returns
-returns g c = given_moved _ _ _ (words_of c.args.words.rest.now) (words_of c.next.new.self.rest.now)
+returns g c = given_varied _ _ _ (words_of c.args.words.rest.now) (words_of c.next.new.self.rest.now)
     c.in_ok-base.base.now c.in-Ok.units c.deref.result.now (search rules) (search rules) (search rules) (search rules)

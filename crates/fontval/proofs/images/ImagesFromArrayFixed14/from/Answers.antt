@@ -2,7 +2,7 @@ use Rattle.std.proofs.Common.{rules, ◌≡◌, ◌∙◌, List, [], ◌∷◌, 
 use Rattle.std.proofs.Common.{slice_index_or, pos, take-append-drop}
 use Rattle.font_types.specs.Matrix.{elements_of}
 use Rattle.font_types.specs.Fixed.{fixed_of}
-use Rattle.fontval.proofs.images.MoveFromArrayFixed14.from.Goals as goal
+use Rattle.fontval.proofs.images.ImagesFromArrayFixed14.from.Goals as goal
 
 -- a list of two is its first and its second
 just_two : {T : Type 0} (values : List T) (default : T) → length values ≡ 2 → values ≡ slice_index_or values 0 default
