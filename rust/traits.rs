@@ -3,7 +3,8 @@
 
 use crate::TryFromUint24Error;
 use crate::{Align, DecimalFault, InvalidTag, Matrix, MatrixElement, Pad, Predefined};
-use crate::{SampleHeader, Shortest, TableDataRef, TableHeader, TryFromGlyphIdError};
+use crate::{SampleHeader, Scalar, ScalarArray, ScalarArrayIter};
+use crate::{Shortest, TableDataRef, TableHeader, TryFromGlyphIdError};
 use core::fmt::{Debug, Formatter, Result};
 use core::hash::{Hash, Hasher};
 use core::iter::FusedIterator;
@@ -126,6 +127,18 @@ impl<H: TableHeader> Debug for TableDataRef<'_, H> {
     }
 }
 
+impl<T: Scalar + Debug> Debug for ScalarArray<'_, T> {
+    fn fmt(&self, f: &mut Formatter<'_>) -> Result {
+        f.debug_list().entries(self.iter()).finish()
+    }
+}
+
+impl<T: Scalar + Debug> Debug for ScalarArrayIter<'_, T> {
+    fn fmt(&self, f: &mut Formatter<'_>) -> Result {
+        f.debug_list().entries(self.clone()).finish()
+    }
+}
+
 impl Debug for SampleHeader {
     fn fmt(&self, f: &mut Formatter<'_>) -> Result {
         let Self { a, b } = self;
@@ -135,6 +148,14 @@ impl Debug for SampleHeader {
             .finish()
     }
 }
+
+impl Clone for SampleHeader {
+    fn clone(&self) -> Self {
+        *self
+    }
+}
+
+impl Copy for SampleHeader {}
 
 impl Copy for DecimalFault {}
 

@@ -2,6 +2,7 @@
 
 use crate::erase::Crate;
 use crate::files::Files;
+use crate::links;
 use std::fs;
 use std::path::Path;
 
@@ -59,6 +60,10 @@ pub fn build(name: &str, package: &Path, out: &Path) -> Vec<String> {
 pub fn write_library(files: &mut Files, from: &Path, to: &Path) -> Result<(), String> {
     let wanted = constant_functions();
     let constant: Vec<_> = wanted.iter().map(|(_, function)| *function).collect();
+    let (root, left_out) = LIBRARY[LIBRARY.len() - 1];
+    // Where this file is not there, the last crate tells so.
+    let root = fs::read_to_string(from.join(root).join("src/lib.rt")).unwrap_or_default();
+    let linked = links::passed_on(&root, left_out);
     let mut modules = String::new();
     for (name, left_out) in LIBRARY {
         let of = Crate {
@@ -66,6 +71,7 @@ pub fn write_library(files: &mut Files, from: &Path, to: &Path) -> Result<(), St
             all: &LIBRARY.map(|(name, _)| name),
             left_out,
             constant: &constant,
+            linked: &linked,
             prelude: "",
         };
         files.write(&of, &from.join(name).join("src"), &to.join(name))?;
@@ -90,6 +96,7 @@ pub fn write_over(files: &mut Files, name: &str, from: &Path, to: &Path) -> Resu
         all: &library[..library.len() - 1],
         left_out: &[],
         constant: &[],
+        linked: &[],
         prelude: PRELUDE,
     };
     files.write(&of, &from.join(name).join("src"), &to.join(name))

@@ -17,13 +17,19 @@
 //! - a path from `crate` or from the name of a crate, since the crates become modules of one;
 //! - `fmt<W: fmt::Write>` over a `Formatter<W>`, which in Rust has no such parameter;
 //! - `clone(&self) -> Result<T, AllocError>` of a `Copy` type, which returns the value of its `Ok`;
+//! - a trait's parameter `Rhs`, which is `Self` where nothing is said, as of Rust's operators;
 //! - a slice that an `extern "C"` function takes, which becomes a pointer and a length;
 //! - what the caller wants in front of the first item, and `fn main`, which is `pub`;
 //! - a function with a body is `#[inline]`, if it says nothing of that itself, so that callers in
-//!   other crates have it as callers in its own; and `const` where the list says so.
+//!   other crates have it as callers in its own; and `const` where the list says so;
+//! - a function of the library that is public or a trait's, changes none of its arguments and
+//!   returns something is `#[must_use]`; a `Result` is so by itself;
+//! - in documentation the name of a type of the library, or of what it has, becomes a link to it,
+//!   and the library has the package's name in examples.
 //!
 //! What this file does not know is a [`Fault`].
 
+use crate::links;
 use crate::texts;
 use crate::tokens::{Fault, Kind, Token, tokens};
 use std::ops::Range;
@@ -38,6 +44,8 @@ pub struct Crate<'a> {
     pub left_out: &'a [&'a str],
     /// The functions that are `const`: the type or else the crate that they belong to, and a name.
     pub constant: &'a [(&'a str, &'a str)],
+    /// The types that documentation links to.
+    pub linked: &'a [&'a str],
     /// What stands in front of the items of a file of the program or of the exports, which brings
     /// in the names that Rattle's std has.
     pub prelude: &'a str,
@@ -151,6 +159,7 @@ impl<'a> Eraser<'a> {
             ["impl", ..] if self.depth == 0 => self.impl_of(at),
             ["fn", name, ..] if name != "(" => self.function(at),
             ["Formatter", "<", "W", ">", ..] => Ok(self.replace(at + 2, "'_")),
+            ["trait", _, "<", "Rhs", ">", ..] => Ok(self.put(at + 4, " = Self")),
             ["crate", "::", ..] => Ok(self.put(at + 2, format!("{}::", self.of.name))),
             [name, "::", ..] if self.of.all.contains(&name) && self.begins_path(at) => {
                 self.put(at, "crate::");
@@ -303,6 +312,9 @@ impl<'a> Eraser<'a> {
         if self.words[front..at].contains(&"extern") {
             return self.export(at);
         }
+        if self.is_for_its_result(front, at)? {
+            self.put(front, "#[must_use] ");
+        }
         let is_hinted = std::mem::take(&mut self.is_hinted);
         if self.body(at)?.is_some() && !is_hinted {
             self.put(front, "#[inline] ");
@@ -323,6 +335,28 @@ impl<'a> Eraser<'a> {
             }
             _ => Ok(at + 2),
         }
+    }
+
+    // Whether the function that stands here, and begins in front of it, is called for nothing but
+    // what it returns.
+    fn is_for_its_result(&self, front: usize, at: usize) -> Result<bool, Fault> {
+        let is_public = matches!(self.words[front..], ["pub", "fn" | "const", ..]);
+        let is_of_trait = front == at && self.depth == 1 && self.owner == self.of.name;
+        if !(is_public || is_of_trait) || !self.of.prelude.is_empty() {
+            return Ok(false);
+        }
+        let mut end = at;
+        while !matches!(
+            self.words[end],
+            "{" | ";" | "requires" | "ensures" | "ghost"
+        ) {
+            end = self.group_end(end)?;
+        }
+        let header = &self.words[at..end];
+        let arrow = header.windows(2).rposition(|pair| pair == ["-", ">"]);
+        let changes = header.windows(2).any(|pair| pair == ["&", "mut"]);
+        let returns = arrow.is_some_and(|arrow| !header[arrow..].contains(&"Result"));
+        Ok(returns && !changes)
     }
 
     // Where a function begins whose `fn` stands here: in front of what says how it is called, and
@@ -470,6 +504,11 @@ impl<'a> Eraser<'a> {
         let mut rust = String::new();
         for (at, token) in self.tokens.iter().enumerate() {
             rust.push_str(&self.put[at]);
+            if self.kept[at] && matches!(token.kind, Kind::Head | Kind::Doc) {
+                let text = token.text.replace("font_types::", "font_types_proved::");
+                rust.push_str(&links::linked(&text, self.of.linked));
+                continue;
+            }
             if self.kept[at] && token.kind != Kind::Space {
                 rust.push_str(token.text);
                 continue;

@@ -7,6 +7,7 @@
 mod crates;
 mod erase;
 mod files;
+mod links;
 mod texts;
 mod tokens;
 

@@ -4,6 +4,7 @@
 mod crates;
 mod erase;
 mod files;
+mod links;
 mod texts;
 mod tokens;
 
@@ -17,6 +18,7 @@ const HIGH: Crate = Crate {
     all: &["low", "high"],
     left_out: &["json"],
     constant: &[("S", "c"), ("high", "d")],
+    linked: &["S", "Tag"],
     prelude: "",
 };
 
@@ -161,6 +163,7 @@ fn functions() {
         "pub(crate) fn f() {}\npub const fn g() {}\npub(super) const fn h();",
         "#[inline] pub(crate) fn f() {}\n#[inline] pub const fn g() {}\npub(super) const fn h();",
     );
+    leaves("trait T<Rhs>: Sized {}", "trait T<Rhs = Self>: Sized {}");
     // A hint is of its own function alone, with a body or without.
     leaves(
         "trait T { #[inline]\nfn f(); fn g() {} }\n#[inline(never)]\nfn h() {}\nfn i() {}",
@@ -182,6 +185,61 @@ fn functions() {
         "impl S { const fn c() {} }",
         "impl S { #[inline] const fn c() {} }",
     );
+}
+
+// Only what is called for nothing but its result, and who sees it may call it.
+#[test]
+fn what_a_caller_must_use() {
+    leaves(
+        "impl S { pub fn a(x: [u8; 2]) -> u8 requires { x < 9 } { 1 } pub fn b(self) {} }",
+        "impl S { #[must_use] #[inline] pub fn a(x: [u8; 2]) -> u8 { 1 } #[inline] pub fn b(self) {} }",
+    );
+    leaves(
+        "pub const fn f() -> u8 { 1 }\npub fn g(x: &mut u8) -> u8 { 1 }\npub fn h() -> Result<u8, u8> {}",
+        "#[must_use] #[inline] pub const fn f() -> u8 { 1 }\n#[inline] pub fn g(x: &mut u8) -> u8 { 1 }
+        #[inline] pub fn h() -> Result<u8, u8> {}"
+            .replace("\n        ", "\n")
+            .as_str(),
+    );
+    leaves(
+        "trait T { fn f() -> u8; }\nimpl T for S { fn f() -> u8 { 1 } }\nfn g() -> u8 { 1 }",
+        "trait T { #[must_use] fn f() -> u8; }\nimpl T for S { #[inline] fn f() -> u8 { 1 } }
+        #[inline] fn g() -> u8 { 1 }"
+            .replace("\n        ", "\n")
+            .as_str(),
+    );
+}
+
+#[test]
+fn documentation() {
+    for (source, rust) in [
+        (
+            "/// `Tag`, `S::a` `a`",
+            "/// [`Tag`](crate::Tag), [`S::a`](crate::S::a) `a`",
+        ),
+        ("//! [`Tag`] `Tags` `a.S` `S", "//! [`Tag`] `Tags` `a.S` `S"),
+        (
+            "/// `S::a()` `::S`\n// `Tag`",
+            "/// `S::a()` `::S`\n// `Tag`",
+        ),
+        (
+            "/// use font_types::Tag;",
+            "/// use font_types_proved::Tag;",
+        ),
+        (
+            "const A: &str = \"`Tag` font_types::\";",
+            "const A: &str = \"`Tag` font_types::\";",
+        ),
+    ] {
+        leaves(source, rust);
+    }
+    let root = "pub use a::{B, Cd, e, FG};\nuse h::Ij;\npub use k::Lm;\npub use json::No;";
+    assert_eq!(links::passed_on(root, &["json"]), ["Cd", "Lm"]);
+    // The table in front of the crate's documentation has each type.
+    let root = include_str!("../../crates/font_types/src/lib.rt");
+    let is_missing = |name: &&&str| !include_str!("../lib.rs").contains(&format!("[`{name}`]"));
+    let types = links::passed_on(root, &["json"]);
+    assert_eq!(types.iter().find(is_missing), None, "{}", types.len());
 }
 
 // Each text is that of its own variant, and stands behind the last line.

@@ -11,6 +11,8 @@ mod crates;
 mod erase;
 #[path = "../build/files.rs"]
 mod files;
+#[path = "../build/links.rs"]
+mod links;
 #[path = "../build/texts.rs"]
 mod texts;
 #[path = "../build/tokens.rs"]
@@ -35,14 +37,17 @@ const LINES: [&str; 9] = [
 ];
 
 /// What is changed: in the source, and in Rust.
-const CHANGES: [(&str, &str); 13] = [
+const CHANGES: [(&str, &str); 15] = [
     ("< W : fmt :: Write >", ""),
     // Of a `Formatter<W>`.
     ("W >", "'_ >"),
     ("crate ::", "crate :: CRATE ::"),
     ("CRATE ::", "crate :: CRATE ::"),
     ("", "# [ inline ]"),
+    ("", "# [ must_use ]"),
     ("", "const"),
+    // Of the parameter `Rhs` of a trait.
+    (">", "= Self >"),
     // `clone` of two types, the last of which is a tuple's `)` that falls away with its `Ok (`.
     ("Result <", ""),
     (", AllocError >", ""),
@@ -187,7 +192,9 @@ impl Pair<'_> {
         while self.at < self.source.0.len() {
             let (source, rust) = (&self.source.0[self.at..], &self.rust.0[self.to..]);
             let gone = gone(source);
-            if gone > 0 && !rust.starts_with(&source[..gone]) {
+            let is_same = is_same(source, rust, counts);
+            let is_told = source[0].starts_with("//") && is_same;
+            if gone > 0 && !is_told && !rust.starts_with(&source[..gone]) {
                 self.at += gone;
             } else if let Some((pair, slice)) = slice_of_export(source, rust) {
                 self.slices += &slice;
@@ -198,7 +205,7 @@ impl Pair<'_> {
                 assert!(begins(rust, &made), "{}", self.place());
                 self.at += 1;
                 self.to += made.split_whitespace().count();
-            } else if rust.first() == source.first() && !is_path(self.name, source, rust) {
+            } else if is_same && !is_path(self.name, source, rust) {
                 let (from, into) = (self.source.1[self.at], self.rust.1[self.to]);
                 // A message of the compiler names the line of the source.
                 assert_eq!(from, into, "{}", self.place());
@@ -231,9 +238,9 @@ impl Pair<'_> {
         };
         match *into {
             "const" => assert_eq!(rust[1], "fn", "{}", self.place()),
-            "# [ inline ]" => {
+            "# [ inline ]" | "# [ must_use ]" => {
                 assert!(
-                    matches!(rust[4], "pub" | "const" | "fn"),
+                    matches!(rust[4], "pub" | "const" | "fn" | "#"),
                     "{}",
                     self.place()
                 );
@@ -253,6 +260,22 @@ impl Pair<'_> {
         let line = self.source.1.get(self.at);
         format!("{} {line:?}: {:.200?} is {:.200?}", self.name, source, rust)
     }
+}
+
+/// Whether the same stands in front of both, but for links and the package's name in documentation.
+fn is_same(source: &[&str], rust: &[&str], counts: &mut Counts) -> bool {
+    let (Some(&source), Some(&rust)) = (source.first(), rust.first()) else {
+        return false;
+    };
+    let mut unlinked = rust.to_string();
+    for piece in rust.split("[`").skip(1) {
+        let path = piece.split('`').next().unwrap();
+        unlinked = unlinked.replace(&format!("[`{path}`](crate::{path})"), &format!("`{path}`"));
+    }
+    let named = unlinked.replace("font_types_proved::", "font_types::");
+    let is_changed = source != rust && source.starts_with("//") && source == named;
+    *counts.entry("documentation").or_default() += usize::from(is_changed);
+    source == rust || is_changed
 }
 
 /// The number of tokens in front that are left out, or that are told of what is left out.
@@ -459,9 +482,13 @@ fn what_is_left_is_the_source() {
     };
     assert_eq!(counts["const"], constant.map(of_line).sum());
     for of_clone in ["Result <", ", AllocError >", "Ok (", ")"] {
-        assert_eq!(counts[of_clone], 2, "{of_clone}");
+        assert_eq!(counts[of_clone], 4, "{of_clone}");
     }
-    assert_eq!(counts.len(), CHANGES.len() + 1, "{counts:?}");
+    assert_eq!(counts.len(), CHANGES.len() + 2, "{counts:?}");
+    assert!(
+        counts["# [ must_use ]"] > 200 && counts["documentation"] > 30,
+        "{counts:?}"
+    );
     assert!(counts["error"] > 17 && slices > 25, "{counts:?} {slices}");
     assert!(functions > 500, "{functions}");
 }

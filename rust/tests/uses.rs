@@ -1,5 +1,5 @@
 //! What users of `font-types` write, line by line, with these names in place of that crate's. The
-//! comparison holds that each line is one of `font-types` too, and so is each that is left out.
+//! comparison holds that each line is one of `font-types` too.
 // A line says what a user might write, and not how it is best said.
 #![allow(clippy::all)]
 
@@ -10,18 +10,14 @@ include!("uses.in");
 
 #[test]
 fn each_use() {
-    let left_out = include_str!("left_out.in")
-        .lines()
-        .filter(|line| line.starts_with("        ") && line.ends_with(';'));
-    let (count, left_out) = (all_uses(), left_out.count());
-    println!("{count} of {} uses", count + left_out);
-    assert_eq!((count, left_out), (395, 2));
+    assert_eq!(all_uses(), 397);
 }
 
 // What `font-types` has not, or not as a `const`.
 #[test]
 fn each_use_of_our_own() {
     const IDENTITY: Matrix<Fixed> = Matrix::<Fixed>::identity();
+    let words = ScalarArray::<u16>::new(&[0, 1, 0, 4, 0, 9]).unwrap();
     let count = uses! {
         const { Tag::new(b"kern").as_bytes()[0] == b'k' };
         const { Tag::new(b"kern").into_bytes()[3] == b'n' };
@@ -46,6 +42,22 @@ fn each_use_of_our_own() {
             let table = TableDataRef::<SampleHeader>::new(&[0, 1, 0, 0, 0, 2]).unwrap();
             format!("{table:?} {:?}", table.header()) == "TableDataRef([0, 1, 0, 0, 0, 2]) SampleHeader { a: 1, b: 2 }"
         };
+        { let table = TableDataRef::<SampleHeader>::new(&[0, 1, 0, 0, 0, 2, 7]).unwrap(); table.rest() == [7] };
+        { let table = TableDataRef::<SampleHeader>::new(&[0; 6]).unwrap(); table.split().1.is_empty() };
+        words.as_bytes().len() == 6;
+        words.len() == 3 && !words.is_empty() && words.get(2) == Some(9) && words.get(3).is_none();
+        words.iter().rev().eq([9, 4, 1]) && words.into_iter().len() == 3 && words.iter().fuse().sum::<u16>() == 14;
+        words.binary_search(&4) == Ok(1) && words.binary_search(&5) == Err(2);
+        words.binary_search_by_key(&18, |word| word * 2) == Ok(2);
+        format!("{words:?} {:?}", words.iter()) == "[1, 4, 9] [1, 4, 9]" && is_copy::<ScalarArray<'_, Tag>>();
+        ScalarArray::<Int24>::new(&[0; 4]).is_none();
+        const { DeltaSum::new().finish().to_bits() == 0 };
+        { let mut sum = DeltaSum::default(); sum.add(Fixed::MIN, i32::MIN); sum.add(Fixed::MIN, i32::MIN); sum.checked_finish().is_none() };
+        FWord::round_steps(0x8000) == Some(FWord::new(1)) && UfWord::round_steps(-0x8001).is_none();
+        const { F2Dot30::from_fixed(Fixed::ONE).to_fixed().to_bits() == 0x1_0000 };
+        const { F2Dot30::from_f2dot14(F2Dot14::NEG_ONE).to_f2dot14().to_bits() == -0x4000 };
+        F2Dot30::from(F2Dot14::MIN) == F2Dot30::MIN && F2Dot30::MAX.to_fixed().to_bits() == 131072;
+        Fixed::from_steps(3) == Some(Fixed::from_bits(3)) && Fixed::from_steps(1 << 31).is_none();
         const { F2Dot14::MAX.wrapping_add(F2Dot14::EPSILON).to_bits() == i16::MIN };
         const { F4Dot12::MAX.wrapping_add(F4Dot12::EPSILON).to_bits() == i16::MIN };
         const { F6Dot10::MAX.wrapping_add(F6Dot10::EPSILON).to_bits() == i16::MIN };
@@ -54,7 +66,7 @@ fn each_use_of_our_own() {
         const { F48Dot16::MAX.wrapping_add(F48Dot16::EPSILON).to_bits() == i64::MIN };
         const { F2Dot30::MAX.wrapping_add(F2Dot30::EPSILON).to_bits() == i32::MIN };
     };
-    assert_eq!(count + of_fixed_point!(F2Dot30 i32: 30), 53);
+    assert_eq!(count + of_fixed_point!(F2Dot30 i32: 30), 69);
 }
 
 // A line of the list is a name, below that of its type.

@@ -3,9 +3,9 @@
 
 use font_types_proved::laws::{composed, in_turn};
 use font_types_proved::{
-    Align, DecimalFault, F2Dot14, F2Dot30, F4Dot12, F6Dot10, F26Dot6, F48Dot16, Fixed, GlyphId,
-    GlyphId16, InvalidTag, Matrix, Pad, Point, Shortest, Tag, Uint24, checked_delta_sum,
-    read_decimal,
+    Align, DecimalFault, F2Dot14, F2Dot30, F4Dot12, F6Dot10, F26Dot6, F48Dot16, FWord, Fixed,
+    GlyphId, GlyphId16, InvalidTag, Matrix, Pad, Point, Shortest, Tag, Uint24, checked_delta_sum,
+    read_decimal, vary,
 };
 use std::collections::BTreeSet;
 use std::panic::catch_unwind;
@@ -176,6 +176,52 @@ fn sums() {
             .collect();
         let sum = (words[0] == "0").then(|| F48Dot16::from_bits(words[1].parse().unwrap()));
         assert_eq!(checked_delta_sum(&terms), sum, "{words:?}");
+    }
+}
+
+/// The sum, the difference, the status of the checked sum, and both saturated.
+#[test]
+fn sums_of_two() {
+    for words in lines("add") {
+        let [x, y, sum, difference, status, checked, up, down] = numbers(&words);
+        let [x, y] = [x, y].map(Fixed::from_bits);
+        assert_eq!(
+            [x + y, x - y].map(Fixed::to_bits),
+            [sum, difference],
+            "{words:?}"
+        );
+        let wanted = (status == 0).then(|| Fixed::from_bits(checked));
+        assert_eq!(x.checked_add(y), wanted, "{words:?}");
+        let saturated = [x.saturating_add(y), x.saturating_sub(y)];
+        assert_eq!(saturated.map(Fixed::to_bits), [up, down], "{words:?}");
+    }
+    for words in lines("neg") {
+        let [x, opposite] = numbers(&words).map(Fixed::from_bits);
+        assert_eq!(-x, opposite, "{words:?}");
+    }
+    for words in lines("from_i32") {
+        let [number, bits] = numbers(&words);
+        assert_eq!(Fixed::from_i32(number).to_bits(), bits, "{words:?}");
+    }
+    for words in lines("to_fixed") {
+        let [bits, widened] = numbers(&words);
+        let number = F2Dot14::from_bits(bits as i16);
+        assert_eq!(number.to_fixed().to_bits(), widened, "{words:?}");
+    }
+}
+
+/// The library for C refuses a moved number outside 64 bits too.
+#[test]
+fn moved_quantities() {
+    for words in lines("vary") {
+        let base = FWord::new(words[0].parse().unwrap());
+        let terms = words[4..].chunks(2).map(numbers);
+        let terms: Vec<_> = terms
+            .map(|[x, delta]| (Fixed::from_bits(x), delta))
+            .collect();
+        let moved = vary(base, &terms).and_then(|moved| i64::try_from(moved).ok());
+        let wanted = (words[1] == "0").then(|| words[2].parse().unwrap());
+        assert_eq!(moved, wanted, "{words:?}");
     }
 }
 

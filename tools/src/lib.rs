@@ -3,6 +3,7 @@
 
 pub mod alike;
 pub mod assertions;
+pub mod calling;
 pub mod exact;
 pub mod header;
 pub mod lists;
@@ -11,3 +12,4 @@ pub mod program;
 pub mod quoted;
 pub mod repository;
 pub mod table;
+pub mod words;

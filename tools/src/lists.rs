@@ -18,7 +18,8 @@ pub fn definitions() -> String {
     let mut page = String::from(
         "# Definitions\n\nThe words of the contracts, by crate and file. The text is the comment above each word in \
          `specs/`. What has a\nsource in the OpenType specification names its section; all else is this project's \
-         own.\nThe files `Laws.antt`, whose words and lemmas an `impl` cites, are left out.\n\nThis page is made by `tools` (`cargo run --bin documents -- write`). A check says when it is stale.\n",
+         own.\nThe files `Laws.antt`, whose words and lemmas an `impl` cites, are left out.\n\n\
+         This page is made by `tools` (`cargo run --bin documents -- write`). A check says when it is stale.\n",
     );
     for name in crates() {
         let folder = format!("crates/{name}/specs");
@@ -141,9 +142,9 @@ fn read(path: &str) -> Definitions {
     found
 }
 
-// The word that a line defines for other files. Fields of a record are indented too, as definitions
-// of a module are, and have `pub` alone.
-fn defined(line: &str) -> Option<String> {
+/// The word that a line defines for other files. Fields of a record are indented too, as definitions
+/// of a module are, and have `pub` alone.
+pub fn defined(line: &str) -> Option<String> {
     let code = line.trim_start();
     let is_keyword = |word: &&str| ["unfoldable", "abbrev", "pub", "record"].contains(word);
     let keywords: Vec<&str> = code.split(' ').take_while(is_keyword).collect();

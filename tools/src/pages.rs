@@ -161,12 +161,24 @@ fn dead_paths(body: &str) -> Vec<String> {
                 .any(|other| word.contains(other))
             && !word.contains("TYPE")
     };
-    quoted
+    let dead = |path: &&String| is_path(path) && !repository::root().join(path).exists();
+    let paths = quoted.iter().filter(|path| dead(path) || is_lost(path));
+    paths.map(|path| format!("no {path} is there")).collect()
+}
+
+// Whether a path of a source, from whatever folder on, is that of no file. Capitals stand for names.
+fn is_lost(path: &str) -> bool {
+    let is_of_path = |c: char| c.is_ascii_alphanumeric() || "_-./".contains(c);
+    let Some((folder, name)) = path.rsplit_once('/') else {
+        return false;
+    };
+    let ending = name.rsplit_once('.').map(|(_, ending)| ending);
+    let is_source = ending.is_some_and(|ending| !["a", "so"].contains(&ending));
+    let is_open = ["TYPE", "NAME", "FILE", "Type.", "my_reader"]
         .iter()
-        .filter(is_path)
-        .filter(|path| !repository::root().join(path).exists())
-        .map(|path| format!("no {path} is there"))
-        .collect()
+        .any(|other| path.contains(other));
+    let is_inner = !folder.is_empty() && path.chars().all(is_of_path);
+    is_source && is_inner && !is_open && !files("", name).iter().any(|file| file.ends_with(path))
 }
 
 // The page without its blocks of code.
@@ -288,8 +300,8 @@ mod tests {
             ["no NO.md is there"]
         );
         assert_eq!(
-            dead_paths("`docs/NO.md`, `docs/DESIGN.md`"),
-            ["no docs/NO.md is there"]
+            dead_paths("`docs/NO.md`, `docs/DESIGN.md`, `src/pages.rs`, `src/no.awk`"),
+            ["no docs/NO.md is there", "no src/no.awk is there"]
         );
         let sources = [squeezed("fn a() { b(); }")];
         assert_eq!(

@@ -11,32 +11,28 @@ const BUFFER: usize = 64;
 /// A row with its answers worked out anew. A comment and a row of null pointers stay as they are.
 pub fn row(line: &str) -> String {
     let words: Vec<&str> = line.split(' ').collect();
-    let answer = match words[0] {
-        "read" => read(words[1], words[2]),
-        "write" => exact::shortest(integer(words[2]), kind(words[1]).fraction),
-        "pad" => pad(&words),
-        "whole" => whole(kind(words[1]), integer(words[2])),
-        "add" => add(integer(words[1]), integer(words[2])),
-        "neg" => exact::wrap(32, -integer(words[1])).to_string(),
-        "from_i32" => exact::wrap(32, integer(words[1]) << 16).to_string(),
-        "to_fixed" => (4 * integer(words[1])).to_string(),
-        "product" => product(kind(words[1]), integer(words[2]), integer(words[3])),
-        "mul_div" => {
-            exact::mul_div(32, integer(words[1]), integer(words[2]), integer(words[3])).to_string()
-        }
-        "narrow" => narrow(integer(words[1])),
-        "matrix" => matrix(&words[1..15]),
-        "tag" => tag(words[1]),
+    let number = |at: usize| integer(words[at]);
+    // How many words ask, and what is answered to them.
+    let (questions, answer) = match words[0] {
+        "read" => (3, read(words[1], words[2])),
+        "write" => (3, exact::shortest(number(2), kind(words[1]).fraction)),
+        "pad" => (8, pad(&words)),
+        "whole" => (3, whole(kind(words[1]), number(2))),
+        "add" => (3, add(number(1), number(2))),
+        "neg" => (2, exact::wrap(32, -number(1)).to_string()),
+        "from_i32" => (2, exact::wrap(32, number(1) << 16).to_string()),
+        "to_fixed" => (2, (4 * number(1)).to_string()),
+        "product" => (4, product(kind(words[1]), number(2), number(3))),
+        "mul_div" => (
+            4,
+            format!("{}", exact::mul_div(32, number(1), number(2), number(3))),
+        ),
+        "narrow" => (2, narrow(number(1))),
+        "matrix" => (15, matrix(&words[1..15])),
+        "tag" => (2, tag(words[1])),
         "sum" => return sum(&words),
         "vary" => return vary(&words),
         _ => return line.into(),
-    };
-    let questions = match words[0] {
-        "narrow" | "tag" | "neg" | "from_i32" | "to_fixed" => 2,
-        "read" | "write" | "whole" | "add" => 3,
-        "product" | "mul_div" => 4,
-        "pad" => 8,
-        _ => 15,
     };
     format!("{} {answer}", words[..questions].join(" "))
 }

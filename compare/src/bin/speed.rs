@@ -18,10 +18,12 @@ use text::Text;
 const INPUTS: usize = 1024;
 const ROUNDS: usize = 300;
 
-/// What the loops go over: numbers of any magnitude, decimals of them, and four bytes.
+/// What the loops go over: numbers of any magnitude, decimals of them, two of 5,000 digits, and four
+/// bytes.
 struct Inputs {
     bits: [[i32; 14]; INPUTS],
     texts: Vec<String>,
+    long: [String; 2],
     tags: [[u8; 4]; INPUTS],
 }
 
@@ -38,7 +40,13 @@ fn inputs() -> Inputs {
     let texts = texts.collect();
     let tags =
         std::array::from_fn(|_| *[b"wght", b"cvt ", b"kern", b"a\x07bc"][next() as usize % 4]);
-    Inputs { bits, texts, tags }
+    let long = ["0.", "-12345."].map(|front| format!("{front}{}", "12345".repeat(1000)));
+    Inputs {
+        bits,
+        texts,
+        long,
+        tags,
+    }
 }
 
 /// The first numbers of an input, which the compiler does not know.
@@ -140,6 +148,22 @@ sides! {
         let [a, b, c, _] = black_box(i.tags[n]);
         BigEndian::<Uint24>::new([a, b, c]).get()
     };
+    find(i, n) "BigEndian::<u32> ==, in a scan" {
+        let fields = i.bits[n].map(|bits| BigEndian::<u32>::from(bits as u32));
+        let wanted = BigEndian::from(black_box(i.bits[n][13]) as u32);
+        black_box(&fields).iter().position(|field| *field == wanted)
+    };
+    predefined(_i, _n) "NameId::predefined, summed" {
+        NameId::predefined().map(|id| u32::from(black_box(id).to_u16())).sum::<u32>()
+    };
+    predefined_for(_i, _n) "NameId::predefined, in a loop" {
+        let mut sum = 0;
+        for id in NameId::predefined() {
+            sum += u32::from(black_box(id).to_u16());
+        }
+        sum
+    };
+    long_text(i, n) "a long decimal read (there by f64)" read(black_box(&i.long[n % 2]));
     image(i, n) "matrix * point" {
         let [a, b, c, d, e, f, x, y] = few(i, n).map(Fixed::from_bits);
         Matrix::from_elements([a, b, c, d, e, f]) * Point::new(x, y)

@@ -1,9 +1,11 @@
-//! Makes the lists of definitions and of wrong bodies out of the sources, and checks what documents
-//! say: counts, links, paths, and that code on a page stands in a file that is run.
+//! Makes the lists of definitions, of wrong bodies and of public words out of the sources, and checks
+//! what documents say: counts, links, paths, that code on a page stands in a file that is run,
+//! that the changelog names each public word that went, and that docs/CALLING.md names functions
+//! that are proved as it says.
 //! `cargo run --bin documents -- write` writes the lists anew.
 
 use font_types_tools::pages::{self, Slip};
-use font_types_tools::{lists, repository};
+use font_types_tools::{calling, lists, repository, words};
 use std::process::ExitCode;
 
 fn main() -> ExitCode {
@@ -20,12 +22,16 @@ fn main() -> ExitCode {
             write,
         ),
     ];
-    let slips: Vec<Slip> = pages::slips();
+    let kept = [kept[0], kept[1], words::keep(write)];
+    for line in words::lost() {
+        println!("CHANGELOG.md: nothing of what went: {line}");
+    }
+    let slips: Vec<Slip> = pages::slips().into_iter().chain(calling::slips()).collect();
     for slip in &slips {
         println!("{}: {}", slip.page, slip.what);
     }
     println!("{} pages read, {} slips", pages::pages().len(), slips.len());
-    if kept == [true, true] && slips.is_empty() {
+    if kept == [true; 3] && slips.is_empty() {
         ExitCode::SUCCESS
     } else {
         ExitCode::FAILURE

@@ -9,6 +9,8 @@ mod crates;
 mod erase;
 #[path = "../../../rust/build/files.rs"]
 mod files;
+#[path = "../../../rust/build/links.rs"]
+mod links;
 #[path = "../../../rust/build/texts.rs"]
 mod texts;
 #[path = "../../../rust/build/tokens.rs"]
@@ -21,10 +23,11 @@ use std::path::Path;
 use std::process::{Command, ExitCode};
 
 /// What stands in the package as it stands in the repository.
-const COPIED: [&str; 10] = [
+const COPIED: [&str; 11] = [
     "LICENSE-APACHE",
     "LICENSE-MIT",
     "docs/DIFFERENCES.md",
+    "docs/FROM_FONT_TYPES.md",
     "rust/README.md",
     "rust/compared.rs",
     "rust/traits.rs",
