@@ -33,12 +33,12 @@ where
     let text = format!(in alloc; "{number}")?;
     let below = Some(number);
     let away = if half < 0 { below } else { above };
-    let around = [
-        read(alloc, half - 1)?,
-        read(alloc, half)?,
-        read(alloc, half + 1)?,
-    ];
-    Ok(text.as_str().parse() == Ok(number) && around == [below, away, above])
+    Ok(
+        text.as_str().parse() == Ok(number)
+            && read(alloc, half.wrapping_sub(1))? == below
+            && read(alloc, half)? == away
+            && read(alloc, half.wrapping_add(1))? == above,
+    )
 }
 
 /// Checks numbers of a type, by its bits of fraction and the numbers' bits.
