@@ -25,4 +25,8 @@ pub use Rattle.font_geom.proofs.RingCalls
 pub use Rattle.font_geom.proofs.RingMatrices
 pub use Rattle.font_types.proofs.SumCalls.{sum_calls, sum_calls_from, sum_calls_16, delta_sum_calls, running_total}
 pub use Rattle.font_types.proofs.SumCalls.{running_total_from}
+pub use Rattle.font_types.proofs.Compared.{stored_calls, found_by_number}
 pub use Rattle.font_types.specs.Json.Laws.{fixed_form, signed_form, unsigned_form, tag_form, version_form_of}
+
+-- `narrow_calls`, and that -1 is -1
+pub ruleset narrow_ends = (narrow_calls, quarter_neg_one)

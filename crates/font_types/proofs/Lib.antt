@@ -1,3 +1,4 @@
 pub mod JsonLemmas
 pub mod SumCalls
+pub mod Compared
 pub mod Callers

@@ -12,7 +12,7 @@ ghost use Rattle.font_uses.specs.Axis.{IsAlong};
 use font_types::{F2Dot14, Fixed};
 
 /// A coordinate as it is stored, kept from -1 to 1 and rounded, ties upwards.
-#[tactic(auto, using(font_types::proofs::Callers::narrow_calls))]
+#[tactic(auto, using(font_types::proofs::Callers::narrow_ends))]
 pub fn stored(coordinate: Fixed) -> F2Dot14
     ensures narrowed { fixed_bits Fixed.NEG_ONE ≤ℤ fixed_bits coordinate
         → fixed_bits coordinate ≤ℤ fixed_bits Fixed.ONE

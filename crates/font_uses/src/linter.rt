@@ -63,6 +63,7 @@ pub fn first_repeated(tags: &[Tag]) -> Option<usize>
 }
 
 /// Whether these bytes are those of the number.
+#[tactic(auto, using(font_types::proofs::Callers::stored_calls))]
 pub fn is_stored_as(number: Fixed, bytes: [u8; 4]) -> bool
     ensures { IsTrue result ↔ IsBytesOf 4 (fixed_bits number) bytes }
 {

@@ -1,19 +1,26 @@
 //! A reader of tables: values one after the other, the one at a place, and a scalar of its own.
 
 ghost use Rattle.std.specs.Prelude.{◌≡◌, ◌≢◌, ◌↔◌, ◌≤◌, ◌<◌, ◌+◌, ◌*◌, ◌/◌, ◌%◌, ◌^◌, ℕ, pos, nat_lt, refl};
-ghost use Rattle.std.specs.Prelude.{Some, IsSome, IfSome, IfNone, IfOk, IfErr, option_map, vec_len};
+ghost use Rattle.std.specs.Prelude.{Some, IsSome, IfSome, IfNone, IfOk, IfErr, MatchOption};
+ghost use Rattle.std.specs.Prelude.{option_map, vec_len};
 ghost use Rattle.std.specs.Prelude.{length, take, drop, slice_get, slice_index_or, All, IsSorted};
+ghost use Rattle.std.specs.List.{HoldsAt};
+ghost use Rattle.std.specs.List.Sorted.{IsSortedByKey};
+ghost use Rattle.std.specs.Ordering.{nat_cmp};
 ghost use Rattle.font_types.specs.Bytes.{numeral, signed_numeral, bytes_of};
 ghost use Rattle.font_types.specs.Scalar.{IsValueOf};
 ghost use Rattle.font_types.specs.Scalar.Laws.{unsigned_newtype, unsigned_identity};
 ghost use Rattle.font_types.specs.Array.{array_len, element_bytes};
 ghost use Rattle.font_types.specs.BigEndian.{raw_value};
 ghost use Rattle.font_types.specs.Fixed.{fixed_bits};
+ghost use Rattle.font_types.specs.GlyphId.{glyph16_number};
 ghost use Rattle.font_types.specs.Tag.{tag_bytes};
 ghost use Rattle.font_types.specs.Uint24.{uint24_number};
 ghost use Rattle.font_uses.specs.Reader.{AreValuesOf};
 
-use font_types::{BigEndian, Fixed, FixedSize, IdentityEq, Scalar, ScalarArray, Tag, Uint24};
+use font_types::{
+    BigEndian, Fixed, FixedSize, GlyphId16, IdentityEq, Scalar, ScalarArray, Tag, Uint24,
+};
 use std::alloc::{AllocError, Global};
 
 // ---- values one after the other
@@ -168,6 +175,29 @@ pub fn position_of(glyphs: &[BigEndian<u16>], glyph: BigEndian<u16>) -> Option<u
         (All (λ field. numeral (raw_value field) ≢ numeral (raw_value glyph)) glyphs.now) }
 {
     glyphs.binary_search(&glyph).ok()
+}
+
+/// A glyph, and the class that it belongs to.
+#[derive(Clone, Copy)]
+pub struct Classed {
+    /// The glyph.
+    pub glyph: GlyphId16,
+    /// Its class.
+    pub class: u16,
+}
+
+/// Where the record of a glyph stands among records in the order of their glyphs, or `None` where
+/// it has none.
+pub fn place_of_glyph(records: &[Classed], glyph: GlyphId16) -> Option<usize>
+    requires { IsSortedByKey (λ entry. glyph16_number entry.glyph) nat_cmp records.now }
+    ensures { MatchOption result
+        (All (λ entry. glyph16_number entry.glyph ≢ glyph16_number glyph) records.now)
+        (λ place. HoldsAt (λ entry. glyph16_number entry.glyph ≡ glyph16_number glyph)
+        records.now place) }
+{
+    records
+        .binary_search_by_key(&glyph, |entry| entry.glyph)
+        .ok()
 }
 
 // ---- arrays that stand in bytes

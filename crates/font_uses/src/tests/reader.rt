@@ -1,9 +1,10 @@
 //! A reader of tables.
 
 use crate::reader::{
-    Cursor, PixelsPerEm, nth, number_at, numbers, place_of, position_of, read_strike, value_at,
+    Classed, Cursor, PixelsPerEm, nth, number_at, numbers, place_of, place_of_glyph, position_of,
+    read_strike, value_at,
 };
-use font_types::{BigEndian, Fixed, Int24, ScalarArray, Tag, Uint24};
+use font_types::{BigEndian, Fixed, GlyphId16, Int24, ScalarArray, Tag, Uint24};
 use std::test::Fail;
 
 #[test]
@@ -97,4 +98,16 @@ fn glyphs_found(rt: HostRuntime) {
     ];
     assert!(rt; position_of(&glyphs, BigEndian::from(40)) == Some(1));
     assert!(rt; position_of(&glyphs, BigEndian::from(41)).is_none());
+}
+
+#[test]
+fn glyphs_found_by_their_records(rt: HostRuntime) {
+    let [space, slash, tilde] = [3, 40, 0x1234].map(GlyphId16::new);
+    let records = [(space, 1), (slash, 2), (tilde, 1)].map(|(glyph, class)| Classed {
+        glyph,
+        class,
+    });
+    assert!(rt; place_of_glyph(&records, slash) == Some(1));
+    assert!(rt; place_of_glyph(&records, tilde) == Some(2));
+    assert!(rt; place_of_glyph(&records[..2], tilde).is_none());
 }
