@@ -2,12 +2,12 @@
 //! a segment.
 #![tactic(auto, using(font_types::proofs::Callers::fixed_calls))]
 
-ghost use Rattle.std.specs.Prelude.{◌≡◌, ◌≢◌, pos, ◌≤ℤ◌, ◌+ℤ◌, ◌-ℤ◌, ◌*ℤ◌};
+ghost use Rattle.std.specs.Prelude.{◌≡◌, ◌≢◌, pos, ◌≤ℤ◌, ◌+ℤ◌, ◌-ℤ◌, ◌*ℤ◌, MatchOption, length};
 ghost use Rattle.font_types.specs.Wrap.{FitsBits};
 ghost use Rattle.font_types.specs.Operations.{IsMulDiv, IsNarrowed};
 ghost use Rattle.font_types.specs.Fixed.{fixed_bits};
 ghost use Rattle.font_types.specs.F2Dot14.{f2dot14_bits};
-ghost use Rattle.font_uses.specs.Axis.{IsAlong};
+ghost use Rattle.font_uses.specs.Axis.{IsAlong, IsOnNone, IsFirstEnd, IsMapped};
 
 use font_types::{F2Dot14, Fixed};
 
@@ -67,7 +67,7 @@ pub fn share(height: Fixed, part: Fixed, whole: Fixed) -> Fixed
     ensures low { pos 0 ≤ℤ fixed_bits result }
     ensures high { fixed_bits result ≤ℤ fixed_bits height }
     ensures start { part ≡ Fixed.ZERO → result ≡ Fixed.ZERO }
-    ensures end { part ≡ whole → result ≡ height }
+    ensures end { fixed_bits part ≡ fixed_bits whole → fixed_bits result ≡ fixed_bits height }
 {
     height.mul_div(part, whole)
 }
@@ -91,7 +91,34 @@ pub fn along(coordinate: Fixed, start: Mapping, end: Mapping) -> Fixed
     start.to + (end.to - start.to).mul_div(coordinate - start.from, end.from - start.from)
 }
 
+/// The first mapping of a list that ends a segment on which the coordinate lies.
+#[tactic(auto)]
+pub fn segment_end(coordinate: Fixed, mappings: &[Mapping]) -> Option<usize>
+    ensures { MatchOption result
+        (IsOnNone (fixed_bits coordinate) mappings.now (length mappings.now))
+        (λ end. IsFirstEnd (fixed_bits coordinate) mappings.now end) }
+{
+    for end in 1..mappings.len() {
+        if mappings[end - 1].from <= coordinate && coordinate < mappings[end].from {
+            return Some(end);
+        }
+    }
+    None
+}
+
+/// Where a coordinate comes to stand by a list of mappings: along the first segment that it lies
+/// on, or where it is if it lies on none.
+pub fn mapped(coordinate: Fixed, mappings: &[Mapping]) -> Fixed
+    ensures { IsMapped coordinate mappings.now result }
+{
+    match segment_end(coordinate, mappings) {
+        Some(end) => along(coordinate, mappings[end - 1], mappings[end]),
+        None => coordinate,
+    }
+}
+
 /// The same between two mappings: it also stays between them.
+#[tactic(auto, using(std::proofs::lemmas::Int::ints))]
 pub fn on_segment(coordinate: Fixed, start: Mapping, end: Mapping) -> Fixed
     requires apart { start.from ≢ end.from }
     requires within { (fixed_bits start.from ≤ℤ fixed_bits coordinate)
@@ -104,7 +131,8 @@ pub fn on_segment(coordinate: Fixed, start: Mapping, end: Mapping) -> Fixed
         (fixed_bits end.from -ℤ fixed_bits start.from)
         (fixed_bits result -ℤ fixed_bits start.to) }
     ensures start { coordinate ≡ start.from → result ≡ start.to }
-    ensures end { coordinate ≡ end.from → result ≡ end.to }
+    ensures end { fixed_bits coordinate ≡ fixed_bits end.from
+        → fixed_bits result ≡ fixed_bits end.to }
     ensures low { fixed_bits start.to ≤ℤ fixed_bits result }
     ensures high { fixed_bits result ≤ℤ fixed_bits end.to }
 {

@@ -154,6 +154,7 @@ fn steps_of_one(term: (Fixed, i32)) -> DeltaSum
 
 /// The terms that stand in bytes, a scalar and a delta in eight bytes each. What is behind the last
 /// whole term is left out.
+#[tactic(auto, using(crate::proofs::Widths::one_more_term))]
 pub fn read_terms(bytes: &[u8], alloc: Global) -> Result<Vec<(Fixed, i32)>, AllocError>
     ensures { IfOk result (λ terms. terms.items ≡ terms_of bytes.now) }
 {

@@ -11,8 +11,10 @@ pub mod linter;
 pub mod metrics;
 pub mod names;
 pub mod outline;
+pub mod packed;
 pub mod reader;
 pub mod report;
 pub mod scaler;
+pub mod settings;
 #[cfg(test)]
 mod tests;

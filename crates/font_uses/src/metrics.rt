@@ -1,6 +1,7 @@
 //! A reader of metrics: rows of an advance and a bearing, and behind them a tail of bearings alone.
 
-ghost use Rattle.std.specs.Prelude.{◌≡◌, ◌<◌, ◌≤◌, ◌+◌, ◌*◌, ◌/◌, ◌%◌, ◌^◌, ◌↔◌, pos, ◌-ℤ◌};
+ghost use Rattle.std.specs.Prelude.{◌≡◌, ◌<◌, ◌≤◌, ◌+◌, ◌*◌, ◌/◌, ◌%◌, ◌^◌, ◌↔◌};
+ghost use Rattle.std.specs.Prelude.{pos, ◌+ℤ◌, ◌-ℤ◌};
 ghost use Rattle.std.specs.Prelude.{nat_lt, ◌&&◌, ◌++◌, IsSome, IfSome, length, take, drop, refl};
 ghost use Rattle.std.proofs.Common.{lit<};
 ghost use Rattle.font_types.specs.Bytes.{numeral, signed_numeral, bytes_of};
@@ -67,6 +68,15 @@ pub fn in_16_16(advance: UfWord) -> Fixed
         → fixed_bits result ≡ (pos (ufword_number advance * 65536) -ℤ pos (2 ^ 32)) }
 {
     advance.to_fixed()
+}
+
+/// From the baseline of a line to that of the next, exactly.
+#[tactic(auto, using(std::proofs::lemmas::Int::wraps))]
+pub fn line_height(ascender: FWord, descender: FWord, gap: FWord) -> i32
+    ensures { result
+        ≡ ((fword_number ascender -ℤ fword_number descender) +ℤ fword_number gap) }
+{
+    i32::from(ascender.to_i16()) - i32::from(descender.to_i16()) + i32::from(gap.to_i16())
 }
 
 // ---- rows as records

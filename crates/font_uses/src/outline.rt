@@ -1,7 +1,7 @@
 //! A walk over an outline whose points stand as deltas.
 #![tactic(auto, using(font_types::proofs::Callers::sum_calls))]
 
-ghost use Rattle.std.specs.Prelude.{◌≡◌, ◌+ℤ◌, fold};
+ghost use Rattle.std.specs.Prelude.{◌≡◌, ◌↔◌, ◌+ℤ◌, ◌≤ℤ◌, IsTrue, fold};
 ghost use Rattle.std.specs.Int.{int_min, int_max};
 ghost use Rattle.font_types.specs.Wrap.{wrap};
 ghost use Rattle.font_types.specs.Fixed.{fixed_bits};
@@ -99,6 +99,16 @@ pub fn bounds_of(first: Point<i16>, others: &[Point<i16>]) -> BoundingBox<i16>
         x_max: right(first.x, others),
         y_max: top(first.y, others),
     }
+}
+
+/// Whether a point lies in a box, or on its edge.
+#[tactic(auto, using(std::proofs::lemmas::Int::wraps))]
+pub fn is_within(area: &BoundingBox<i16>, point: Point<i16>) -> bool
+    ensures { IsTrue result
+        ↔ ((area.now.x_min ≤ℤ point.x) × (point.x ≤ℤ area.now.x_max)
+        × (area.now.y_min ≤ℤ point.y) × (point.y ≤ℤ area.now.y_max)) }
+{
+    area.x_min <= point.x && point.x <= area.x_max && area.y_min <= point.y && point.y <= area.y_max
 }
 
 // The least x of all.

@@ -1,6 +1,7 @@
 //! A reader of tables: values one after the other, the one at a place, and a scalar of its own.
 
-ghost use Rattle.std.specs.Prelude.{◌≡◌, ◌≢◌, ◌↔◌, ◌≤◌, ◌<◌, ◌+◌, ◌*◌, ◌/◌, ◌%◌, ◌^◌, ℕ, pos, nat_lt, refl};
+ghost use Rattle.std.specs.Prelude.{◌≡◌, ◌≢◌, ◌↔◌, ◌≤◌, ◌<◌, ◌+◌, ◌*◌, ◌/◌, ◌%◌, ◌^◌};
+ghost use Rattle.std.specs.Prelude.{ℕ, pos, nat_lt, refl};
 ghost use Rattle.std.specs.Prelude.{Some, IsSome, IfSome, IfNone, IfOk, IfErr, MatchOption};
 ghost use Rattle.std.specs.Prelude.{option_map, vec_len};
 ghost use Rattle.std.specs.Prelude.{length, take, drop, slice_get, slice_index_or, All, IsSorted};

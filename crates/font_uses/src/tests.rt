@@ -9,6 +9,8 @@ mod linter;
 mod metrics;
 mod names;
 mod outline;
+mod packed;
 mod reader;
 mod report;
 mod scaler;
+mod settings;

@@ -1,6 +1,6 @@
 //! An axis.
 
-use crate::axis::{Mapping, along, apart, kept, on_segment, stored};
+use crate::axis::{Mapping, along, apart, kept, mapped, on_segment, segment_end, stored};
 use font_types::{F2Dot14, Fixed};
 
 #[test]
@@ -71,4 +71,44 @@ fn mapped_along_a_segment(rt: HostRuntime) {
 fn apart_by_four(rt: HostRuntime) {
     assert!(rt; apart(F2Dot14::NEG_ONE, F2Dot14::ONE) == Fixed::from_i32(2));
     assert!(rt; apart(F2Dot14::MAX, F2Dot14::MIN) == Fixed::from_bits(-0x3_FFFC));
+}
+
+#[test]
+fn mapped_by_a_list(rt: HostRuntime) {
+    let mappings = [
+        (-0x1_0000, -0x1_0000),
+        (0, 0),
+        (0x8000, 0x4000),
+        (0x1_0000, 0x1_0000),
+    ]
+    .map(|(from, to)| Mapping {
+        from: Fixed::from_bits(from),
+        to: Fixed::from_bits(to),
+    });
+    for &(bits, place) in &[
+        (-0x1_0001, -0x1_0001),
+        (-0x1_0000, -0x1_0000),
+        (-0x4000, -0x4000),
+        (0, 0),
+        (0x4000, 0x2000),
+        (0x7FFF, 0x4000),
+        (0x8000, 0x4000),
+        (0x8001, 0x4002),
+        (0xC000, 0xA000),
+        (0x1_0000, 0x1_0000),
+        (0x1_0001, 0x1_0001),
+    ] {
+        let coordinate = Fixed::from_bits(bits);
+        assert!(rt;
+            mapped(coordinate, &mappings) == Fixed::from_bits(place),
+            "{bits}"
+        );
+        assert!(rt;
+            mapped(coordinate, &mappings[..1]) == coordinate,
+            "{bits} by one"
+        );
+    }
+    assert!(rt; segment_end(Fixed::ZERO, &mappings) == Some(2));
+    assert!(rt; segment_end(Fixed::ONE, &mappings).is_none());
+    assert!(rt; mapped(Fixed::EPSILON, &[]) == Fixed::EPSILON);
 }

@@ -1,6 +1,6 @@
 //! Metrics with a tail.
 
-use crate::metrics::{advance, bearing, in_16_16, row, whole_again, wide_again};
+use crate::metrics::{advance, bearing, in_16_16, line_height, row, whole_again, wide_again};
 use font_types::{FWord, Fixed, GlyphId16, Scalar, UfWord};
 
 #[test]
@@ -44,4 +44,7 @@ fn widened(rt: HostRuntime) {
     assert!(rt; wide_again(i32::MIN) == -0x8000_0000);
     assert!(rt; in_16_16(UfWord::new(32767)) == Fixed::from_i32(32767));
     assert!(rt; in_16_16(UfWord::new(32769)) == Fixed::from_i32(-32767));
+    let least = FWord::new(i16::MIN);
+    assert!(rt; line_height(FWord::new(i16::MAX), least, FWord::new(90)) == 65625);
+    assert!(rt; line_height(least, FWord::new(i16::MAX), least) == -98303);
 }

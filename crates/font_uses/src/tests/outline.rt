@@ -1,6 +1,8 @@
 //! A walk over an outline.
 
-use crate::outline::{Placed, bounds_of, pen, pen_from, raised, rise, there_and_back, width};
+use crate::outline::{
+    Placed, bounds_of, is_within, pen, pen_from, raised, rise, there_and_back, width,
+};
 use font_types::{BoundingBox, Fixed, Point};
 
 #[test]
@@ -50,4 +52,25 @@ fn bounded(rt: HostRuntime) {
         Point::new(0, i16::MAX),
     ];
     assert!(rt; bounds_of(first, &others) == bounds(-7, -6, 9, i16::MAX));
+}
+
+#[test]
+fn points_in_a_box(rt: HostRuntime) {
+    let area = BoundingBox {
+        x_min: -7i16,
+        y_min: -6,
+        x_max: 9,
+        y_max: i16::MAX,
+    };
+    for (x, y, within) in [
+        (-7, -6, true),
+        (9, i16::MAX, true),
+        (0, 0, true),
+        (-8, 0, false),
+        (10, 0, false),
+        (0, -7, false),
+        (i16::MIN, 0, false),
+    ] {
+        assert!(rt; is_within(&area, Point::new(x, y)) == within, "{x}, {y}");
+    }
 }
