@@ -41,6 +41,7 @@ impl<T: Scalar> BigEndian<T> {
     pub fn new(raw: T::Raw) -> BigEndian<T>
         ensures { raw_value result ≡ raw }
     {
+        // Its contract says that the array is a value, which the field keeps.
         let _bytes = raw.as_slice();
         BigEndian {
             raw,
@@ -134,7 +135,7 @@ impl<T: Scalar> PartialEq for BigEndian<T> {
         (λ field. T.Raw.bytes (raw_value field)) (partial_equiv_from_equiv nat_list_eq_equiv) };
 
     fn eq(&self, other: &BigEndian<T>) -> bool {
-        self.be_bytes() == other.be_bytes()
+        self.raw.eq_array(&other.raw)
     }
 }
 

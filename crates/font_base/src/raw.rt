@@ -2,10 +2,11 @@
 #![tactic(auto, using(crate::proofs::StdBytes::std_bytes))]
 
 ghost use Rattle.std.specs.Prelude.{◌≡◌, ℕ, pos, Bool, List, IsTrue, IsSome, IfSome, ◌↔◌, ◌^◌};
-ghost use Rattle.std.specs.Prelude.{nat_lt, length};
+ghost use Rattle.std.specs.Prelude.{nat_eq, nat_lt, length};
 ghost use Rattle.std.proofs.Common.{rules, lit<};
 ghost use Rattle.std.specs.Bool.{Decides};
 ghost use Rattle.std.specs.Cmp.{signed_Decides, unsigned_Decides};
+ghost use Rattle.std.specs.Cmp.Lexicographic.{pointwise};
 ghost use Rattle.font_base.specs.Wrap.{fits_bits};
 ghost use Rattle.font_base.specs.Bytes.{are_bytes, numeral, bytes_of, signed_numeral};
 ghost use Rattle.font_base.specs.Scalar.{ScalarLaws, IsValueOf};
@@ -35,6 +36,13 @@ pub trait BeByteArray: Copy {
         ensures bytes { result.now ≡ bytes self.now }
         ensures length { length result.now ≡ LEN }
         ensures value { IsTrue (is_value self.now) };
+
+    /// Whether both arrays have the same bytes.
+    fn eq_array(&self, other: &Self) -> bool
+        ensures { result ≡ pointwise nat_eq (bytes self.now) (bytes other.now) }
+    {
+        self.as_slice() == other.as_slice()
+    }
 
     // A value has as many bytes as the type says.
     ghost length_is: { (a : Self) → IsTrue (is_value a) → length (bytes a) ≡ LEN };
@@ -71,6 +79,10 @@ impl<const N: usize> BeByteArray for [u8; N] {
 
     fn as_slice(&self) -> &[u8] {
         each_is_byte(self)
+    }
+
+    fn eq_array(&self, other: &[u8; N]) -> bool {
+        self == other
     }
 }
 

@@ -1,8 +1,12 @@
 //! Fields laid over bytes, and headers made of them.
 
 ghost use Rattle.std.specs.Prelude.{◌≡◌, length};
+ghost use Rattle.std.proofs.Common.{ap, rules};
+ghost use Rattle.font_base.specs.Bytes.{are_bytes};
 
-use crate::{BigEndian, FixedSize, Int24, SampleHeader, TableDataRef, TableHeader, Uint24};
+use crate::{
+    BeByteArray, BigEndian, FixedSize, Int24, SampleHeader, TableDataRef, TableHeader, Uint24,
+};
 use std::collections::HashSet;
 use std::hash::{DefaultHasher, Hash, Hasher};
 use std::test::Fail;
@@ -40,6 +44,44 @@ fn hashed_by_bytes(rt: HostRuntime) -> Result<(), Fail> {
     assert!(rt; set.contains(&BigEndian::new([0, 0, 0, 4])));
     assert!(rt; !set.contains(&BigEndian::new([4, 0, 0, 0])));
     Ok(())
+}
+
+/// An array of one's own, whose comparison is the trait's.
+#[derive(Clone, Copy)]
+struct Pair([u8; 2]);
+
+impl BeByteArray for Pair {
+    const LEN: usize = 2;
+
+    ghost LEN = { 2 };
+
+    ghost bytes = { λ pair. pair.0 };
+
+    ghost is_value = { λ pair. are_bytes 2 pair.0 };
+
+    ghost length_is = { Prim.search rules };
+
+    ghost same_bytes = { λ a b _ _ same. ap (λ bytes. record { 0 = bytes }) same };
+
+    fn from_slice(slice: &[u8]) -> Option<Pair> {
+        Some(Pair(<[u8; 2]>::from_slice(slice)?))
+    }
+
+    fn as_slice(&self) -> &[u8] {
+        BeByteArray::as_slice(&self.0)
+    }
+}
+
+#[test]
+fn equal_arrays(rt: HostRuntime) {
+    for &(other, equal) in &[([1, 2], true), ([0, 2], false), ([1, 0], false)] {
+        let own = Pair([1, 2]).eq_array(&Pair(other));
+        assert!(rt;
+            [1, 2].eq_array(&other) == equal && own == equal,
+            "{other:?}"
+        );
+    }
+    assert!(rt; Pair::from_slice(&[1, 2, 3]).is_none());
 }
 
 /// The number that a field is hashed to.
