@@ -5,6 +5,7 @@ pub mod Readings
 pub mod Order
 pub mod Padded
 pub mod Printed
+pub mod Columns
 mod Digits
 mod Rounding
 mod Parts

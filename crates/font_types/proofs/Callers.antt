@@ -10,6 +10,7 @@ pub use Rattle.font_decimal.proofs.Order.{order_of_readings}
 pub use Rattle.font_decimal.proofs.Printed.{shortest_is}
 pub use Rattle.font_decimal.proofs.Printed.{printed_is_read, printed_reads_once, same_value, printed_is_not_minus_zero}
 pub use Rattle.font_decimal.proofs.Printed.{zero_ends_no_fraction}
+pub use Rattle.font_decimal.proofs.Columns.{trimmed_column}
 pub use Rattle.font_arithmetic.proofs.Small.{product_near, mul_div_near}
 pub use Rattle.font_arithmetic.proofs.Group
 pub use Rattle.font_arithmetic.proofs.Laws

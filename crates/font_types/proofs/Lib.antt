@@ -1,4 +1,4 @@
-pub mod JsonLemmas
+pub mod FourBytes
 pub mod SumCalls
 pub mod Compared
 pub mod Callers

@@ -66,8 +66,8 @@ fn too_large(rt: HostRuntime) -> Result<(), Fail> {
     let wide = GlyphId::new(65536);
     let error = GlyphId16::try_from(wide).err().ok_or("refused")?;
     let text = format!(in rt.alloc(); "{error}; {error:?}")?;
-    let told = "glyph identifier 65536 too large for conversion; TryFromGlyphIdError(65536)";
-    assert!(rt; error.value() == 65536 && text.as_str() == told);
+    let texts = "glyph identifier 65536 too large for conversion; TryFromGlyphIdError(65536)";
+    assert!(rt; error.value() == 65536 && text.as_str() == texts);
     Ok(())
 }
 

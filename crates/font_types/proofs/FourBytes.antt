@@ -1,4 +1,4 @@
--- What the readers and writers of JSON forms need of bytes and texts.
+-- The four bytes of a version, whose JSON form is their number.
 use Rattle.std.proofs.Common.{◌≡◌, ℕ, ◌^◌, ◌<◌, pos}
 use Rattle.font_base.specs.Bytes.{numeral, bytes_of}
 use Rattle.font_base.specs.Bytes.Laws.{numeral-bytes_of}

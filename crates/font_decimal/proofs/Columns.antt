@@ -1,0 +1,68 @@
+-- What is left of a text in a column when the spaces in front of it are taken away.
+use Rattle.std.proofs.Common.{◌≡◌, ◌∙◌, ap, refl, ℕ, zero, suc, ◌+◌, ◌-◌, ◌<◌, ◌^◌, ◌≤◌, Bool, true, false}
+use Rattle.std.proofs.Common.{List, [], ◌∷◌, ◌++◌, length, get_or, arith, ℤ, append-nil, cond}
+use Rattle.std.specs.Prelude.{replicate, unsigned_abs, encode_utf8_all}
+use Rattle.std.specs.Str.{IsAscii, trim_start, skip_leading_whitespace}
+use Rattle.std.specs.Char.{is_whitespace, digit_value}
+use Rattle.std.proofs.lemmas.Str.{IsAscii-append, chars-IsAscii, encodes-IsAscii}
+use Rattle.std.proofs.lemmas.Str.Ascii.{IsAscii-cons, IsAscii-nil}
+use Rattle.std.proofs.lemmas.Bool.Decides.{nat_tests}
+use Rattle.std.proofs.lemmas.Str.Parse.{digit_from_value}
+use Rattle.font_decimal.specs.Grammar.{HasParts}
+use Rattle.font_decimal.specs.Padding.{padded_text, shown_sign, unsigned_body}
+use Rattle.font_decimal.specs.Shortest.{shortest_text}
+use Rattle.font_decimal.specs.declared.padding.Align.TheVariants.{Right}
+use Rattle.font_decimal.specs.declared.padding.Pad.{Pad}
+use Rattle.font_decimal.proofs.Texts.{decimal_is_ascii}
+use Rattle.font_decimal.proofs.Printed.{shortest_is}
+
+-- spaces are white space, and a digit or a sign is none
+digit_is_visible : (c : ℕ) → digit_value c < 10 → is_whitespace c ≡ false
+digit_is_visible c small = let digit = digit_from_value c small in grind (arith, nat_tests)
+
+first_is_visible : {text whole fraction : List ℕ} {negative : Bool} → HasParts text negative whole fraction
+    → is_whitespace (get_or text 0 0) ≡ false
+first_is_visible {whole = []} p = absurd (omega (arith, p.whole_digits.0))
+first_is_visible {whole = c ∷ cs} {negative = true} p = rw p.written refl
+first_is_visible {whole = c ∷ cs} {negative = false} p = rw p.written (digit_is_visible c p.whole_digits.1.0)
+
+skipped : (n : ℕ) (text : List ℕ) → is_whitespace (get_or text 0 0) ≡ false
+    → skip_leading_whitespace (replicate n 32 ++ text) ≡ text
+skipped zero [] visible = refl
+skipped zero (c ∷ cs) visible = ap (λ b. cond b (skip_leading_whitespace cs) (c ∷ cs)) visible
+skipped (suc n) text visible = skipped n text visible
+
+ascii_spaces : (n : ℕ) → IsAscii (replicate n 32)
+ascii_spaces zero = IsAscii-nil
+ascii_spaces (suc n) = IsAscii-cons 32 (replicate n 32) (omega arith) (ascii_spaces n)
+
+spaces_trimmed : (n : ℕ) (text : List ℕ) → IsAscii text → is_whitespace (get_or text 0 0) ≡ false
+    → trim_start (replicate n 32 ++ text) ≡ text
+unfolding trim_start
+spaces_trimmed n text ascii visible =
+    ap (λ cs. encode_utf8_all (skip_leading_whitespace cs))
+    (chars-IsAscii (replicate n 32 ++ text) (IsAscii-append _ _ (ascii_spaces n) ascii))
+    ∙ ap encode_utf8_all (skipped n text visible) ∙ encodes-IsAscii text ascii
+
+-- the sign that a text has and what stands behind it are the text
+sign_and_body : (text : List ℕ) → shown_sign false text ++ unsigned_body text ≡ text
+sign_and_body [] = refl
+sign_and_body (c ∷ cs) = grind (arith, nat_tests)
+
+-- a text that is padded by spaces in front of it
+spaces_in_front : (text : List ℕ) (pad : Pad) → pad.fill ≡ 32 → pad.align ≡ Right → pad.plus ≡ false → pad.zeros ≡ false
+    → padded_text text pad
+    ≡ replicate (pad.width - (length (shown_sign false text) + length (unsigned_body text))) 32 ++ text
+unfolding padded_text
+spaces_in_front text pad fill align plus zeros =
+    let spare = pad.width - (length (shown_sign false text) + length (unsigned_body text)) in
+    let none : spare - spare ≡ 0 = omega arith in
+    rw (zeros, plus, align, fill, none, append-nil) (ap (λ xs. replicate spare 32 ++ xs) (sign_and_body text))
+
+-- a printed text is what is left of it, padded by spaces in front, without white space there
+pub trimmed_column : (b : ℤ) (f : ℕ) (pad : Pad) → unsigned_abs b ≤ 2 ^ 63 → pad.fill ≡ 32 → pad.align ≡ Right
+    → pad.plus ≡ false → pad.zeros ≡ false → trim_start (padded_text (shortest_text b f) pad) ≡ shortest_text b f
+trimmed_column b f pad small fill align plus zeros =
+    let is = (shortest_is b f small).plain.decimal in
+    ap trim_start (spaces_in_front _ pad fill align plus zeros)
+    ∙ spaces_trimmed _ _ (decimal_is_ascii _ _ _ is) (first_is_visible is.parts)
