@@ -1,12 +1,12 @@
--- What callers of `Fixed` name once: products and quotients by 0 and by 1, sums with 0, differences, a number over
--- itself, a part of a whole,
--- one number times another over a third, and wrapping of what fits.
-use Rattle.std.proofs.Common.{◌≡◌, ◌≢◌, ◌∙◌, sym, ap, refl, arith, lit<, ℤ, pos, ◌+ℤ◌, ◌-ℤ◌, ◌*ℤ◌, ◌≤ℤ◌, w32, SFits}
+-- What callers of `Fixed` name once: products and quotients by 0, by 1 and by -1, sums with 0, differences, a number
+-- over itself, a part of a whole, one number times another over a third, and wrapping of what fits.
+use Rattle.std.proofs.Common.{◌≡◌, ◌≢◌, ◌∙◌, sym, ap, refl, arith, lit<, lit≤, ℤ, pos, negsuc, neg_ℤ, ◌+ℤ◌, ◌-ℤ◌}
+use Rattle.std.proofs.Common.{◌*ℤ◌, ◌≤ℤ◌, w32, SFits}
 use Rattle.std.proofs.lemmas.Int.{ints}
 use Rattle.std.proofs.Math.IntN.{*ℤ_comm}
 use Rattle.font_base.proofs.Widths.{signed_fits}
 use Rattle.font_base.specs.Wrap.{wrap, FitsBits}
-use Rattle.font_base.specs.Wrap.Laws.{wrap-add_right}
+use Rattle.font_base.specs.Wrap.Laws.{wrap-add_right, wrap-wrap}
 use Rattle.font_decimal.specs.Near.{near}
 use Rattle.font_arithmetic.specs.Operations.{IsQuotient, IsMulDiv, floor_of, fract_of}
 use Rattle.font_arithmetic.proofs.Calls.{near-times, near-times_left, near-times_zero, near-zero_times, add_zero}
@@ -24,6 +24,17 @@ by_zero x = near-times_zero x 65536 (lit< tt)
 
 pub zero_mul : (x : ℤ) → near (pos 0 *ℤ x) 65536 ≡ pos 0
 zero_mul x = near-zero_times x 65536 (lit< tt)
+
+pub mul_neg_one : (x : ℤ) → near (x *ℤ negsuc 65535) 65536 ≡ neg_ℤ x
+mul_neg_one x =
+    let whole : (x *ℤ negsuc 65535) ≡ (neg_ℤ x *ℤ pos 65536) = omega (arith, ints) in
+    ap (λ n. near n 65536) whole ∙ mul_one (neg_ℤ x)
+
+pub neg_one_by : (x : ℤ) → near (negsuc 65535 *ℤ x) 65536 ≡ neg_ℤ x
+neg_one_by x = ap (λ n. near n 65536) (*ℤ_comm (negsuc 65535) x) ∙ mul_neg_one x
+
+pub wrap_twice : (x : ℤ) → wrap 32 (wrap 32 x) ≡ wrap 32 x
+wrap_twice x = wrap-wrap 32 32 x (lit< tt) (lit≤ tt)
 
 pub floor_plus_fract : (b : ℤ) → SFits w32 b → wrap 32 (floor_of 16 b +ℤ fract_of 16 b) ≡ b
 floor_plus_fract b fits = ap (wrap 32) (ends b (fract_of 16 b)) ∙ fits_32 b fits
@@ -104,6 +115,9 @@ pub ruleset fixed_calls = (
   one_by,
   by_zero,
   zero_mul,
+  mul_neg_one,
+  neg_one_by,
+  wrap_twice,
   floor_plus_fract,
   add_sub_cancel,
   sub_self,

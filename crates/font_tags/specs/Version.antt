@@ -29,7 +29,7 @@ packed_version major minor = major * 65536 + min minor 9 * 4096
 
 -- how two numbers are printed: `major.minor`
 abbrev pub version_text : ℕ → ℕ → List ℕ
-version_text major minor = decimal major ++ codes "." ++ decimal minor
+version_text major minor = decimal major ++ (codes "." ++ decimal minor)
 
 -- 32 bits as eight lower-case hexadecimal digits: as many zeros as are missing, and the digits
 abbrev pub hex_text : ℕ → List ℕ

@@ -1,6 +1,7 @@
 //! What the fixed-point types share, JSON forms, sums and what users name, by values from the
 //! definitions and from the original crate.
 
+mod answered;
 mod calling;
 mod deltas;
 mod ends;

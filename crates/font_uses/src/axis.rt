@@ -2,7 +2,8 @@
 //! a segment.
 #![tactic(auto, using(font_types::proofs::Callers::fixed_calls))]
 
-ghost use Rattle.std.specs.Prelude.{◌≡◌, ◌≢◌, pos, ◌≤ℤ◌, ◌+ℤ◌, ◌-ℤ◌, ◌*ℤ◌, MatchOption, length};
+ghost use Rattle.std.specs.Prelude.{◌≡◌, ◌≢◌, pos, neg_ℤ, ◌≤ℤ◌, ◌+ℤ◌, ◌-ℤ◌, ◌*ℤ◌, MatchOption};
+ghost use Rattle.std.specs.Prelude.{length};
 ghost use Rattle.font_types.specs.Wrap.{FitsBits};
 ghost use Rattle.font_types.specs.Operations.{IsMulDiv, IsNarrowed};
 ghost use Rattle.font_types.specs.Fixed.{fixed_bits};
@@ -55,6 +56,14 @@ pub fn span_between(a: Fixed, b: Fixed) -> Fixed
     ensures { fixed_bits result ≡ (fixed_bits b -ℤ fixed_bits a) }
 {
     b - a
+}
+
+/// The coordinate as far below 0 as this one is above it.
+pub fn opposite(coordinate: Fixed) -> Fixed
+    requires { pos 0 ≤ℤ fixed_bits coordinate }
+    ensures { fixed_bits result ≡ neg_ℤ (fixed_bits coordinate) }
+{
+    -coordinate
 }
 
 /// The share of a height that `part` has in `whole`.

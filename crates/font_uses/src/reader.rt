@@ -226,6 +226,18 @@ pub fn place_of(glyphs: &ScalarArray<'_, u16>, glyph: u16) -> Result<usize, usiz
     glyphs.binary_search(&glyph)
 }
 
+/// The same, or `None`.
+pub fn index_of(glyphs: &ScalarArray<'_, u16>, glyph: u16) -> Option<usize>
+    ensures found { IfSome result (λ i. (i < array_len glyphs.now)
+        × (element_bytes glyphs.now i ≡ bytes_of 2 (pos glyph))) }
+    ensures absent { ((i j : ℕ) → i ≤ j → j < array_len glyphs.now
+        → numeral (element_bytes glyphs.now i) ≤ numeral (element_bytes glyphs.now j))
+        → IfNone result ((k : ℕ) → k < array_len glyphs.now
+        → element_bytes glyphs.now k ≢ bytes_of 2 (pos glyph)) }
+{
+    place_of(glyphs, glyph).ok()
+}
+
 // ---- a scalar of one's own
 
 /// How many pixels an em takes.

@@ -6,6 +6,7 @@ ghost use Rattle.font_types.specs.Tag.{tag_bytes, IsGood};
 ghost use Rattle.font_types.specs.Fixed.{fixed_bits, fixed_text};
 ghost use Rattle.font_types.specs.Padding.{padded_text};
 ghost use Rattle.font_types.specs.Shortest.{IsShortest};
+ghost use Rattle.font_types.specs.Version.{version_text};
 
 use font_types::{Fixed, JsonFault, JsonScalar, Pad, Tag};
 use serde_json::Value;
@@ -18,6 +19,13 @@ pub fn printed(number: Fixed, alloc: Global) -> Result<String, AllocError>
     ensures { IfOk result (λ text. IsShortest (fixed_bits number) 16 (string_bytes text)) }
 {
     format!(in alloc; "{number}")
+}
+
+/// A version as it is printed.
+pub fn version_of(major: u16, minor: u16, alloc: Global) -> Result<String, AllocError>
+    ensures { IfOk result (λ text. string_bytes text ≡ version_text major minor) }
+{
+    format!(in alloc; "{major}.{minor}")
 }
 
 /// A column of twelve bytes, as many as the longest `Fixed` has.

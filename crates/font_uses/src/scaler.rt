@@ -1,11 +1,13 @@
 //! A scaler of outlines: points through matrices, and sizes on the grid of pixels.
 
-ghost use Rattle.std.specs.Prelude.{◌≡◌, IfOk, map};
+ghost use Rattle.std.specs.Prelude.{◌≡◌, IfOk, map, neg_ℤ};
 ghost use Rattle.font_types.specs.F26Dot6.{f26dot6_bits};
+ghost use Rattle.font_types.specs.Fixed.{fixed_bits};
 ghost use Rattle.font_types.specs.FixedMatrix.{matrix_bits, point_bits, wrapped_sum};
 ghost use Rattle.font_types.specs.FixedMatrix.{wrapped_product, FitsComposed, IsCloseComposed};
 ghost use Rattle.font_types.specs.Matrix.{image_of, matrix_product};
 ghost use Rattle.font_types.specs.Operations.{IsNearestWhole};
+ghost use Rattle.font_types.specs.Wrap.{wrap};
 
 use font_types::{F26Dot6, Fixed, Matrix, Point, laws};
 use std::alloc::{AllocError, Global};
@@ -48,6 +50,27 @@ pub fn scaled(scale: Matrix<Fixed>, component: Component, point: Point<Fixed>) -
         → IsCloseComposed (matrix_bits scale) placed (point_bits point) (point_bits result) }
 {
     laws::composed(scale, component.placed, point)
+}
+
+/// A point slanted by so much for each unit of its height.
+#[tactic(auto, using(font_types::proofs::Callers::fixed_calls))]
+pub fn slanted(point: Point<Fixed>, slope: Fixed) -> Point<Fixed>
+    ensures x { fixed_bits result.x ≡ wrapped_sum (fixed_bits point.x)
+        (wrapped_product (fixed_bits slope) (fixed_bits point.y)) }
+    ensures y { result.y ≡ point.y }
+{
+    let (zero, one) = (Fixed::ZERO, Fixed::ONE);
+    Matrix::from_elements([one, zero, slope, one, zero, zero]) * point
+}
+
+/// A point mirrored at the vertical axis, wrapped.
+#[tactic(auto, using(font_types::proofs::Callers::fixed_calls))]
+pub fn mirrored(point: Point<Fixed>) -> Point<Fixed>
+    ensures x { fixed_bits result.x ≡ wrap 32 (neg_ℤ (fixed_bits point.x)) }
+    ensures y { result.y ≡ point.y }
+{
+    let (zero, one) = (Fixed::ZERO, Fixed::ONE);
+    Matrix::from_elements([Fixed::NEG_ONE, zero, zero, one, zero, zero]) * point
 }
 
 /// A coordinate in pixels, rounded to the grid, ties upwards, and wrapped: above the greatest whole
