@@ -22,12 +22,15 @@ pub fn row(line: &str) -> String {
         "neg" => (2, exact::wrap(32, -number(1)).to_string()),
         "from_i32" => (2, exact::wrap(32, number(1) << 16).to_string()),
         "to_fixed" => (2, (4 * number(1)).to_string()),
+        "from_fixed" => (2, exact::wrap(32, number(1) << 14).to_string()),
+        "from_f2dot14" => (2, (number(1) << 16).to_string()),
+        "narrow_f2dot30" => (2, narrow(number(1), &[(32, 14), (16, 16)])),
         "product" => (4, product(kind(words[1]), number(2), number(3))),
         "mul_div" => (
             4,
             format!("{}", exact::mul_div(32, number(1), number(2), number(3))),
         ),
-        "narrow" => (2, narrow(number(1))),
+        "narrow" => (2, narrow(number(1), &[(16, 16), (22, 10), (16, 2)])),
         "matrix" => (15, matrix(&words[1..15])),
         "tag" => (2, tag(words[1])),
         "sum" => return sum(&words),
@@ -107,11 +110,10 @@ fn product(kind: Type, x: i128, y: i128) -> String {
     spaced(&[product, exact::mul_div(32, x, one, y)])
 }
 
-fn narrow(bits: i128) -> String {
-    spaced(
-        &[(16, 16), (22, 10), (16, 2)]
-            .map(|(width, places)| exact::wrap(width, exact::up(bits, 1 << places))),
-    )
+// The bits with fewer places, ties upwards, each wrapped to a width.
+fn narrow(bits: i128, to: &[(u32, u32)]) -> String {
+    let narrowed = |&(width, places)| exact::wrap(width, exact::up(bits, 1i128 << places));
+    spaced(&to.iter().map(narrowed).collect::<Vec<_>>())
 }
 
 fn matrix(words: &[&str]) -> String {

@@ -232,6 +232,23 @@ static bool to_fixed_line(const words *line) {
     return font_f2dot14_to_fixed((int16_t)number(line, 1)) == number(line, 2);
 }
 
+/* from_fixed BITS BITS, of a 16.16 number and of the 2.30 number */
+static bool from_fixed_line(const words *line) {
+    return font_f2dot30_from_fixed((int32_t)number(line, 1)) == number(line, 2);
+}
+
+/* from_f2dot14 BITS BITS, of a 2.14 number and of the 2.30 number */
+static bool from_f2dot14_line(const words *line) {
+    return font_f2dot30_from_f2dot14((int16_t)number(line, 1)) == number(line, 2);
+}
+
+/* narrow_f2dot30 BITS FIXED F2DOT14 */
+static bool narrow_f2dot30_line(const words *line) {
+    int32_t bits = (int32_t)number(line, 1);
+    return font_f2dot30_to_fixed(bits) == number(line, 2)
+           && font_f2dot30_to_f2dot14(bits) == number(line, 3);
+}
+
 /* mul_div X A C RESULT */
 static bool mul_div_line(const words *line) {
     int32_t x = (int32_t)number(line, 1);
@@ -397,19 +414,30 @@ typedef struct kind {
     unsigned wanted; /* how many lines there are, of each type that has any */
 } kind;
 
-enum { KINDS = 17 };
-
-static const kind kinds[KINDS] = {
-    {"read", read_line, true, 35},        {"write", write_line, true, 20},
-    {"pad", pad_line, true, 32},          {"whole", whole_line, true, 20},
-    {"product", product_line, true, 33},  {"mul_div", mul_div_line, false, 24},
-    {"narrow", narrow_line, false, 25},   {"matrix", matrix_line, false, 16},
-    {"tag", tag_line, false, 20},         {"sum", sum_line, false, 9},
-    {"vary", vary_line, false, 23},       {"add", add_line, false, 32},
-    {"neg", neg_line, false, 13},         {"from_i32", from_i32_line, false, 16},
-    {"to_fixed", to_fixed_line, false, 12}, {"null", null_line, true, 1},
+static const kind kinds[] = {
+    {"read", read_line, true, 35},
+    {"write", write_line, true, 20},
+    {"pad", pad_line, true, 32},
+    {"whole", whole_line, true, 20},
+    {"null", null_line, true, 1},
+    {"product", product_line, true, 33},
+    {"mul_div", mul_div_line, false, 24},
+    {"narrow", narrow_line, false, 25},
+    {"add", add_line, false, 32},
+    {"neg", neg_line, false, 13},
+    {"from_i32", from_i32_line, false, 16},
+    {"to_fixed", to_fixed_line, false, 12},
+    {"from_fixed", from_fixed_line, false, 20},
+    {"from_f2dot14", from_f2dot14_line, false, 13},
+    {"narrow_f2dot30", narrow_f2dot30_line, false, 43},
+    {"matrix", matrix_line, false, 16},
+    {"tag", tag_line, false, 20},
+    {"sum", sum_line, false, 9},
+    {"vary", vary_line, false, 23},
     {"nulls", nulls_line, false, 1},
 };
+
+enum { KINDS = sizeof kinds / sizeof *kinds };
 
 /* How many lines of a kind there were, of each type, or at 0. */
 static unsigned lines_of[KINDS][TYPES];

@@ -1,14 +1,17 @@
 //! Numbers of 32 bits with 30 bits of fraction, by their bits.
 
+ghost use Rattle.std.specs.Prelude.{◌≡◌, ◌^◌, pos, ◌*ℤ◌};
 ghost use Rattle.std.specs.Int.{w32};
-ghost use Rattle.font_types.specs.Operations.{IsFloor, IsNearestWhole};
+ghost use Rattle.font_types.specs.Near.{up};
+ghost use Rattle.font_types.specs.Operations.{IsFloor, IsNarrowed, IsNearestWhole};
+ghost use Rattle.font_types.specs.Wrap.{wrap};
 ghost use Rattle.font_c.specs.Texts.{WritesDecimal};
 ghost use Rattle.font_c.specs.Readings.{ReadsInto};
 ghost use Rattle.font_c.specs.Pads.{WritesPadded};
 
 use crate::reading::read_into_32;
 use crate::text::{FontPad, put_decimal, put_padded};
-use font_types::F2Dot30;
+use font_types::{F2Dot14, F2Dot30, Fixed};
 
 /// Reads a decimal text as the nearest 2.30 number, ties away from zero: 0 where its bits are in
 /// `bits`, 1 where it is no decimal, 2 where it is out of range.
@@ -50,4 +53,36 @@ pub extern "C" fn font_f2dot30_floor(bits: i32) -> i32
     ensures { IsFloor 30 bits result }
 {
     F2Dot30::from_bits(bits).floor().to_bits()
+}
+
+/// The number of a 16.16 number, wrapped.
+#[unsafe(no_mangle)]
+pub extern "C" fn font_f2dot30_from_fixed(bits: i32) -> i32
+    ensures { result ≡ wrap 32 (bits *ℤ pos (2 ^ 14)) }
+{
+    F2Dot30::from_fixed(Fixed::from_bits(bits)).to_bits()
+}
+
+/// The nearest 16.16 number, ties upwards.
+#[unsafe(no_mangle)]
+pub extern "C" fn font_f2dot30_to_fixed(bits: i32) -> i32
+    ensures { result ≡ up bits (2 ^ 14) }
+{
+    F2Dot30::from_bits(bits).to_fixed().to_bits()
+}
+
+/// The number of a 2.14 number, exactly.
+#[unsafe(no_mangle)]
+pub extern "C" fn font_f2dot30_from_f2dot14(bits: i16) -> i32
+    ensures { result ≡ (bits *ℤ pos (2 ^ 16)) }
+{
+    F2Dot30::from_f2dot14(F2Dot14::from_bits(bits)).to_bits()
+}
+
+/// The nearest 2.14 number, ties upwards, its bits wrapped to 16.
+#[unsafe(no_mangle)]
+pub extern "C" fn font_f2dot30_to_f2dot14(bits: i32) -> i16
+    ensures { IsNarrowed 16 bits (2 ^ 16) result }
+{
+    F2Dot30::from_bits(bits).to_f2dot14().to_bits()
 }

@@ -1,6 +1,7 @@
 //! Holds the header for C to the sources of its functions, to the table that asserts its
 //! enumerators, and to the program that calls each function beside the Rust package.
 
+use font_types_tools::exact::{TYPES, Type};
 use font_types_tools::{header, repository};
 use std::collections::HashSet;
 use std::process::ExitCode;
@@ -17,9 +18,15 @@ fn main() -> ExitCode {
     let calls: HashSet<&str> = calls
         .split(|c: char| !c.is_alphanumeric() && c != '_')
         .collect();
+    // The calls that every type has stand there with no type in front.
+    let is_named = |name: &str| {
+        let of_type = |kind: &Type| name.strip_prefix("font_")?.strip_prefix(kind.name);
+        let mut calls_of_types = TYPES.iter().filter_map(of_type);
+        calls.contains(name) || calls_of_types.any(|call| calls.contains(call))
+    };
     let is_called = |line: &&String| {
         let name = line.split('(').next().unwrap().rsplit(' ').next().unwrap();
-        !line.contains('(') || calls.contains(name)
+        !line.contains('(') || is_named(name)
     };
     let called: Vec<String> = declared.iter().filter(is_called).cloned().collect();
     let differences = [

@@ -47,6 +47,10 @@ unsafe extern "C" {
     pub safe fn font_fixed_to_f26dot6(bits: i32) -> i32;
     pub safe fn font_fixed_to_f2dot14(bits: i32) -> i16;
     pub safe fn font_f2dot14_to_fixed(bits: i16) -> i32;
+    pub safe fn font_f2dot30_from_fixed(bits: i32) -> i32;
+    pub safe fn font_f2dot30_to_fixed(bits: i32) -> i32;
+    pub safe fn font_f2dot30_from_f2dot14(bits: i16) -> i32;
+    pub safe fn font_f2dot30_to_f2dot14(bits: i32) -> i16;
     pub safe fn font_f26dot6_mul(x: i32, y: i32) -> i32;
     pub safe fn font_f26dot6_div(x: i32, y: i32) -> i32;
     pub safe fn font_matrix_product(a: FontMatrix, b: FontMatrix) -> FontMatrix;

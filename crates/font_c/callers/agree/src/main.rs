@@ -26,15 +26,21 @@ mod random;
 use exports::*;
 use font_types_proved::laws::{composed, in_turn};
 use font_types_proved::{
-    F2Dot14, F26Dot6, FWord, Fixed, InvalidTag, Matrix, Point, Tag, checked_delta_sum, vary,
+    F2Dot14, F2Dot30, F26Dot6, FWord, Fixed, InvalidTag, Matrix, Point, Tag, checked_delta_sum,
+    vary,
 };
+use font_types_tools::header;
 use random::Random;
 
 /// What no call writes.
 const KEPT: i64 = 7;
 
-/// How many functions the library has; each round below calls every one of them.
-const EXPORTS: u64 = 60;
+/// How many functions the header declares; each round below calls every one of them.
+fn exports() -> u64 {
+    let declared = header::declared(include_str!("../../../include/font_types.h"));
+    let functions = declared.iter().filter(|one| one.contains('('));
+    functions.count() as u64
+}
 
 fn main() {
     let mut words = std::env::args()
@@ -55,7 +61,7 @@ fn main() {
     let agreed = AGREED.load(Ordering::Relaxed);
     assert_eq!(
         agreed,
-        (triples as u64 + count) * EXPORTS,
+        (triples as u64 + count) * exports(),
         "each once in each round"
     );
     println!("{agreed} calls agree");
@@ -77,6 +83,7 @@ fn round([x, y, z]: [i64; 3], random: &mut Random) {
     numbers::agree(x, random);
     sums_of_two([x, y].map(|n| n as i32));
     arithmetic([x, y, z].map(|n| n as i32));
+    conversions(x as i32);
     matrices(random);
     tags(&random.tag_bytes());
     text_of_tag(Tag::from_u32(random.next() as u32), random.count(30));
@@ -109,15 +116,28 @@ fn arithmetic([x, y, z]: [i32; 3]) {
         "{x} {y} {z}"
     );
     agree!(font_fixed_from_i32(x), Fixed::from_i32(x).to_bits(), "{x}");
-    let narrow = x as i16;
-    let wide = F2Dot14::from_bits(narrow).to_fixed().to_bits();
-    agree!(font_f2dot14_to_fixed(narrow), wide, "{narrow}");
     agree!(font_fixed_to_i32(x), a.to_i32(), "{x}");
-    agree!(font_fixed_to_f26dot6(x), a.to_f26dot6().to_bits(), "{x}");
-    agree!(font_fixed_to_f2dot14(x), a.to_f2dot14().to_bits(), "{x}");
     let [a, b] = [x, y].map(F26Dot6::from_bits);
     agree!(font_f26dot6_mul(x, y), (a * b).to_bits(), "{x} {y}");
     agree!(font_f26dot6_div(x, y), (a / b).to_bits(), "{x} {y}");
+}
+
+fn conversions(x: i32) {
+    let number = Fixed::from_bits(x);
+    let (whole, narrow) = (number.to_f26dot6().to_bits(), number.to_f2dot14().to_bits());
+    agree!(font_fixed_to_f26dot6(x), whole, "{x}");
+    agree!(font_fixed_to_f2dot14(x), narrow, "{x}");
+    let long = F2Dot30::from_fixed(number).to_bits();
+    agree!(font_f2dot30_from_fixed(x), long, "{x}");
+    let number = F2Dot30::from_bits(x);
+    let (fixed, narrow) = (number.to_fixed().to_bits(), number.to_f2dot14().to_bits());
+    agree!(font_f2dot30_to_fixed(x), fixed, "{x}");
+    agree!(font_f2dot30_to_f2dot14(x), narrow, "{x}");
+    let x = x as i16;
+    let number = F2Dot14::from_bits(x);
+    let (fixed, long) = (number.to_fixed(), F2Dot30::from_f2dot14(number));
+    agree!(font_f2dot14_to_fixed(x), fixed.to_bits(), "{x}");
+    agree!(font_f2dot30_from_f2dot14(x), long.to_bits(), "{x}");
 }
 
 fn matrices(random: &mut Random) {
@@ -148,7 +168,7 @@ fn matrices(random: &mut Random) {
 }
 
 /// The status of a tag's fault, and where it is.
-fn told(fault: &InvalidTag) -> (u32, i64) {
+fn status_and_place(fault: &InvalidTag) -> (u32, i64) {
     match fault {
         InvalidTag::InvalidLength(_) => (1, KEPT),
         InvalidTag::InvalidByte { pos, .. } => (2, *pos as i64),
@@ -163,7 +183,7 @@ fn tags(bytes: &[u8]) {
         Ok(made) => agree!((status, tag.to_be_bytes()), (0, made.to_be_bytes())),
         Err(fault) => agree!(
             (status, i64::from(tag)),
-            (told(&fault).0, KEPT),
+            (status_and_place(&fault).0, KEPT),
             "{bytes:?}"
         ),
     }
@@ -172,7 +192,7 @@ fn tags(bytes: &[u8]) {
     let judged = match <[u8; 4]>::try_from(bytes) {
         Ok(four) => Tag::new(&four)
             .validate()
-            .map_or_else(|fault| told(&fault), |()| (0, KEPT)),
+            .map_or_else(|fault| status_and_place(&fault), |()| (0, KEPT)),
         Err(_) => (1, KEPT),
     };
     agree!((status, i64::from(position)), judged, "{bytes:?}");
@@ -215,17 +235,17 @@ fn sums(random: &mut Random) {
         .map(|x| Fixed::from_bits(*x))
         .zip(deltas.iter().copied());
     let terms = terms.collect::<Vec<_>>();
-    let told = |number: Option<i64>| match number {
+    let answer = |number: Option<i64>| match number {
         _ if n != m => (1, KEPT),
         Some(number) => (0, number),
         None => (2, KEPT),
     };
-    let wanted = told(checked_delta_sum(&terms).map(|sum| sum.to_bits()));
+    let wanted = answer(checked_delta_sum(&terms).map(|sum| sum.to_bits()));
     agree!((status, sum), wanted, "{scalars:?} {deltas:?}");
     let units = vary(FWord::new(base), &terms).and_then(|units| i64::try_from(units).ok());
     agree!(
         (varied, moved),
-        told(units),
+        answer(units),
         "{base} {scalars:?} {deltas:?}"
     );
 }
