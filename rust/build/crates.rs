@@ -30,9 +30,20 @@ const OVER: [(&str, &str, &str); 2] = [
 /// What each file of such a crate begins with.
 const PRELUDE: &str = "#[allow(unused_imports)] use crate::prelude::*; ";
 
-/// The functions that become `const`: a type or a crate on a line, and its functions below it,
-/// indented.
+/// The functions that become `const`, of which each line is of types or of a crate.
 const CONSTANT: &str = include_str!("constant.txt");
+
+/// What stands there for every fixed-point type.
+const FIXED_POINT: &str = "fixed-point";
+
+macro_rules! of_fixed_point_types {
+    ($($name:ident $Type:ident $bits:ident $f:literal;)*) => {
+        /// The fixed-point types.
+        pub const FIXED_POINT_TYPES: &[&str] = &[$(stringify!($Type)),*];
+    };
+}
+
+include!("../types.in");
 
 /// Writes what a package compiles, and returns what Cargo is told: the files that were read, and a
 /// fault. What stands over the library is no part of it, and a fault there only of that.
@@ -104,11 +115,15 @@ pub fn write_over(files: &mut Files, name: &str, from: &Path, to: &Path) -> Resu
 
 /// What `constant.txt` says: the number of the line, the type or the crate, and the function. A
 /// line has types, a colon, and functions that each of them has.
-fn constant_functions() -> Vec<(usize, (&'static str, &'static str))> {
+pub fn constant_functions() -> Vec<(usize, (&'static str, &'static str))> {
     let mut functions = Vec::new();
     for (line, text) in (1..).zip(CONSTANT.lines()) {
         let (owners, names) = text.split_once(": ").unwrap_or((text, ""));
-        for owner in owners.split(' ') {
+        let owners = match owners {
+            FIXED_POINT => FIXED_POINT_TYPES.to_vec(),
+            _ => owners.split(' ').collect(),
+        };
+        for owner in owners {
             functions.extend(names.split(' ').map(|name| (line, (owner, name))));
         }
     }

@@ -544,3 +544,14 @@ fn a_constant_function_that_is_not_there() {
     let fault = "error=rust/build/constant.txt:1: no `each_is_byte` of `font_base`";
     assert_eq!(told.last().unwrap(), fault);
 }
+
+// What every fixed-point type has stands there once, and is looked for in each.
+#[test]
+fn constant_functions_of_each_type() {
+    let functions = crates::constant_functions().into_iter();
+    let owners = functions.filter_map(|(_, (owner, name))| (name == "fract").then_some(owner));
+    let lines = include_str!("../types.in").lines();
+    let lines = lines.filter(|line| line.ends_with(';'));
+    let types = lines.filter_map(|line| line.split_whitespace().nth(1));
+    assert_eq!(owners.collect::<Vec<_>>(), types.collect::<Vec<_>>());
+}

@@ -58,16 +58,26 @@ fn each_use_of_our_own() {
         const { F2Dot30::from_f2dot14(F2Dot14::NEG_ONE).to_f2dot14().to_bits() == -0x4000 };
         F2Dot30::from(F2Dot14::MIN) == F2Dot30::MIN && F2Dot30::MAX.to_fixed().to_bits() == 131072;
         Fixed::from_steps(3) == Some(Fixed::from_bits(3)) && Fixed::from_steps(1 << 31).is_none();
-        const { F2Dot14::MAX.wrapping_add(F2Dot14::EPSILON).to_bits() == i16::MIN };
-        const { F4Dot12::MAX.wrapping_add(F4Dot12::EPSILON).to_bits() == i16::MIN };
-        const { F6Dot10::MAX.wrapping_add(F6Dot10::EPSILON).to_bits() == i16::MIN };
-        const { Fixed::MAX.wrapping_add(Fixed::EPSILON).to_bits() == i32::MIN };
-        const { F26Dot6::MAX.wrapping_add(F26Dot6::EPSILON).to_bits() == i32::MIN };
-        const { F48Dot16::MAX.wrapping_add(F48Dot16::EPSILON).to_bits() == i64::MIN };
-        const { F2Dot30::MAX.wrapping_add(F2Dot30::EPSILON).to_bits() == i32::MIN };
     };
-    assert_eq!(count + of_fixed_point!(F2Dot30 i32: 30), 69);
+    assert_eq!(count, 36);
 }
+
+// What `font-types` has not as a `const` of any type, beside what it has of its own types.
+macro_rules! of_fixed_point_types {
+    ($($name:ident $Type:ident $bits:ident $f:literal;)*) => {
+        #[test]
+        fn each_use_of_each_type() {
+            $(
+                let count = uses! {
+                    const { $Type::MAX.wrapping_add($Type::EPSILON).to_bits() == $bits::MIN };
+                };
+                assert_eq!(count + of_fixed_point!($Type $bits: $f), 27);
+            )*
+        }
+    };
+}
+
+include!("../types.in");
 
 // A line of the list is a name, below that of its type.
 #[test]

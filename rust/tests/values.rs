@@ -3,9 +3,8 @@
 
 use font_types_proved::laws::{composed, in_turn};
 use font_types_proved::{
-    Align, DecimalFault, F2Dot14, F2Dot30, F4Dot12, F6Dot10, F26Dot6, F48Dot16, FWord, Fixed,
-    GlyphId, GlyphId16, InvalidTag, Matrix, Pad, Point, Shortest, Tag, Uint24, checked_delta_sum,
-    read_decimal, vary,
+    Align, DecimalFault, F2Dot14, F2Dot30, F26Dot6, F48Dot16, FWord, Fixed, GlyphId, GlyphId16,
+    InvalidTag, Matrix, Pad, Point, Shortest, Tag, Uint24, checked_delta_sum, read_decimal, vary,
 };
 use std::collections::BTreeSet;
 use std::panic::catch_unwind;
@@ -47,7 +46,7 @@ macro_rules! of_fixed_point_types {
     ($($test:ident $Type:ident $bits:ident $f:literal;)*) => {
         #[test]
         fn each_type_of_the_table() {
-            for kind in ["read", "write", "whole", "pad"] {
+            for kind in ["read", "write", "whole", "pad", "null"] {
                 let types: BTreeSet<&str> = lines(kind).iter().map(|words| words[0]).collect();
                 assert_eq!(types, BTreeSet::from([$(stringify!($test)),*]), "{kind}");
             }
@@ -55,6 +54,7 @@ macro_rules! of_fixed_point_types {
     $(
         #[test]
         fn $test() {
+            use font_types_proved::$Type;
             let number = |word: &str| $Type::from_bits(word.parse().unwrap());
             let of = |kind| lines(kind).into_iter().filter(|words| words[0] == stringify!($test));
             for words in of("read") {
@@ -207,6 +207,29 @@ fn sums_of_two() {
         let [bits, widened] = numbers(&words);
         let number = F2Dot14::from_bits(bits as i16);
         assert_eq!(number.to_fixed().to_bits(), widened, "{words:?}");
+    }
+}
+
+#[test]
+fn conversions_of_2_30() {
+    for words in lines("from_fixed") {
+        let [bits, long] = numbers(&words);
+        let number = F2Dot30::from_fixed(Fixed::from_bits(bits));
+        assert_eq!(number.to_bits(), long, "{words:?}");
+    }
+    for words in lines("from_f2dot14") {
+        let [bits, long] = numbers(&words);
+        let number = F2Dot30::from_f2dot14(F2Dot14::from_bits(bits as i16));
+        assert_eq!(number.to_bits(), long, "{words:?}");
+    }
+    for words in lines("narrow_f2dot30") {
+        let [bits, fixed, narrow] = numbers(&words);
+        let number = F2Dot30::from_bits(bits);
+        let narrowed = [
+            number.to_fixed().to_bits(),
+            number.to_f2dot14().to_bits().into(),
+        ];
+        assert_eq!(narrowed, [fixed, narrow], "{words:?}");
     }
 }
 

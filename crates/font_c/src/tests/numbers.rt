@@ -1,11 +1,8 @@
 //! Numbers of each type, read, written, padded and rounded. The values were worked out by hand.
 
-use crate::f2dot14::*;
+use crate::f2dot14::font_f2dot14_to_fixed;
 use crate::f2dot30::*;
-use crate::f4dot12::*;
-use crate::f6dot10::*;
-use crate::f26dot6::*;
-use crate::f48dot16::*;
+use crate::f26dot6::{font_f26dot6_div, font_f26dot6_mul};
 use crate::fixed::*;
 use crate::text::FontPad;
 
@@ -17,9 +14,16 @@ const STARS: FontPad = FontPad {
     zeros: 0,
 };
 
+// Bytes that are not ASCII, in UTF-8 or not.
+const NOT_ASCII: &[&[u8]] = &[b"1\xFF", b"\x80", b"\xC3\xA9", b"1.5\xC2\xA0", b"\xD9\xA1"];
+
 #[test]
 fn fixed_there_and_back(rt: HostRuntime) {
     let (mut bits, mut out) = (7, *b"........");
+    for &text in NOT_ASCII {
+        let status = font_fixed_from_decimal(text, &mut bits);
+        assert!(rt; status == 1 && bits == 7, "{text:?}");
+    }
     assert!(rt; font_fixed_from_decimal(b"1.5", &mut bits) == 0 && bits == 98304);
     assert!(rt; font_fixed_to_decimal(bits, &mut out) == 3 && out == *b"1.5.....");
     assert!(rt; font_fixed_write_padded(bits, &STARS, &mut out) == 6 && out == *b"***1.5..");
@@ -28,7 +32,12 @@ fn fixed_there_and_back(rt: HostRuntime) {
 
 #[test]
 fn f2dot14_there_and_back(rt: HostRuntime) {
+    use crate::f2dot14::*;
     let (mut bits, mut out) = (7, *b"........");
+    for &text in NOT_ASCII {
+        let status = font_f2dot14_from_decimal(text, &mut bits);
+        assert!(rt; status == 1 && bits == 7, "{text:?}");
+    }
     assert!(rt; font_f2dot14_from_decimal(b"0.6", &mut bits) == 0 && bits == 9830);
     assert!(rt; font_f2dot14_to_decimal(bits, &mut out) == 3 && out == *b"0.6.....");
     assert!(rt; font_f2dot14_write_padded(bits, &STARS, &mut out) == 6 && out == *b"***0.6..");
@@ -37,7 +46,12 @@ fn f2dot14_there_and_back(rt: HostRuntime) {
 
 #[test]
 fn f4dot12_there_and_back(rt: HostRuntime) {
+    use crate::f4dot12::*;
     let (mut bits, mut out) = (7, *b"........");
+    for &text in NOT_ASCII {
+        let status = font_f4dot12_from_decimal(text, &mut bits);
+        assert!(rt; status == 1 && bits == 7, "{text:?}");
+    }
     assert!(rt; font_f4dot12_from_decimal(b"-1.5", &mut bits) == 0 && bits == -6144);
     assert!(rt; font_f4dot12_to_decimal(bits, &mut out) == 4 && out == *b"-1.5....");
     assert!(rt; font_f4dot12_write_padded(bits, &STARS, &mut out) == 6 && out == *b"**-1.5..");
@@ -46,7 +60,12 @@ fn f4dot12_there_and_back(rt: HostRuntime) {
 
 #[test]
 fn f6dot10_there_and_back(rt: HostRuntime) {
+    use crate::f6dot10::*;
     let (mut bits, mut out) = (7, *b"........");
+    for &text in NOT_ASCII {
+        let status = font_f6dot10_from_decimal(text, &mut bits);
+        assert!(rt; status == 1 && bits == 7, "{text:?}");
+    }
     assert!(rt; font_f6dot10_from_decimal(b"31.999", &mut bits) == 0 && bits == 32767);
     assert!(rt; font_f6dot10_to_decimal(bits, &mut out) == 6 && out == *b"31.999..");
     assert!(rt; font_f6dot10_write_padded(bits, &STARS, &mut out) == 6 && out == *b"31.999..");
@@ -55,7 +74,12 @@ fn f6dot10_there_and_back(rt: HostRuntime) {
 
 #[test]
 fn f26dot6_there_and_back(rt: HostRuntime) {
+    use crate::f26dot6::*;
     let (mut bits, mut out) = (7, *b"........");
+    for &text in NOT_ASCII {
+        let status = font_f26dot6_from_decimal(text, &mut bits);
+        assert!(rt; status == 1 && bits == 7, "{text:?}");
+    }
     assert!(rt; font_f26dot6_from_decimal(b"0.02", &mut bits) == 0 && bits == 1);
     assert!(rt; font_f26dot6_to_decimal(bits, &mut out) == 4 && out == *b"0.02....");
     assert!(rt; font_f26dot6_write_padded(bits, &STARS, &mut out) == 6 && out == *b"**0.02..");
@@ -64,7 +88,12 @@ fn f26dot6_there_and_back(rt: HostRuntime) {
 
 #[test]
 fn f48dot16_there_and_back(rt: HostRuntime) {
+    use crate::f48dot16::*;
     let (mut bits, mut out) = (7, *b"........");
+    for &text in NOT_ASCII {
+        let status = font_f48dot16_from_decimal(text, &mut bits);
+        assert!(rt; status == 1 && bits == 7, "{text:?}");
+    }
     assert!(rt; font_f48dot16_from_decimal(b"-0.1", &mut bits) == 0 && bits == -6554);
     assert!(rt; font_f48dot16_to_decimal(bits, &mut out) == 4 && out == *b"-0.1....");
     assert!(rt; font_f48dot16_write_padded(bits, &STARS, &mut out) == 6 && out == *b"**-0.1..");
@@ -74,6 +103,10 @@ fn f48dot16_there_and_back(rt: HostRuntime) {
 #[test]
 fn f2dot30_there_and_back(rt: HostRuntime) {
     let (mut bits, mut out) = (7, *b"........");
+    for &text in NOT_ASCII {
+        let status = font_f2dot30_from_decimal(text, &mut bits);
+        assert!(rt; status == 1 && bits == 7, "{text:?}");
+    }
     assert!(rt; font_f2dot30_from_decimal(b"0.5", &mut bits) == 0 && bits == 536870912);
     assert!(rt; font_f2dot30_to_decimal(bits, &mut out) == 3 && out == *b"0.5.....");
     assert!(rt; font_f2dot30_write_padded(bits, &STARS, &mut out) == 6 && out == *b"***0.5..");
@@ -99,43 +132,6 @@ fn refusals_leave_the_place(rt: HostRuntime) {
     }
     let mut out = *b"..";
     assert!(rt; font_fixed_to_decimal(0x1_8000, &mut out) == 0 && out == *b"..");
-}
-
-// Bytes that are not ASCII, in UTF-8 or not, at each width.
-#[test]
-fn texts_that_are_not_ascii(rt: HostRuntime) {
-    let rows: &[&[u8]] = &[b"1\xFF", b"\x80", b"\xC3\xA9", b"1.5\xC2\xA0", b"\xD9\xA1"];
-    for &text in rows {
-        let (mut narrow, mut bits, mut wide) = (7, 7, 7);
-        assert!(rt;
-            font_f2dot14_from_decimal(text, &mut narrow) == 1 && narrow == 7,
-            "2.14: {text:?}"
-        );
-        assert!(rt;
-            font_f4dot12_from_decimal(text, &mut narrow) == 1 && narrow == 7,
-            "4.12: {text:?}"
-        );
-        assert!(rt;
-            font_f6dot10_from_decimal(text, &mut narrow) == 1 && narrow == 7,
-            "6.10: {text:?}"
-        );
-        assert!(rt;
-            font_fixed_from_decimal(text, &mut bits) == 1 && bits == 7,
-            "16.16: {text:?}"
-        );
-        assert!(rt;
-            font_f26dot6_from_decimal(text, &mut bits) == 1 && bits == 7,
-            "26.6: {text:?}"
-        );
-        assert!(rt;
-            font_f2dot30_from_decimal(text, &mut bits) == 1 && bits == 7,
-            "2.30: {text:?}"
-        );
-        assert!(rt;
-            font_f48dot16_from_decimal(text, &mut wide) == 1 && wide == 7,
-            "48.16: {text:?}"
-        );
-    }
 }
 
 #[test]
@@ -262,5 +258,44 @@ fn widened(rt: HostRuntime) {
         (i16::MAX, 131068),
     ] {
         assert!(rt; font_f2dot14_to_fixed(narrow) == bits, "2.14 of {narrow}");
+    }
+}
+
+#[test]
+fn to_2_30(rt: HostRuntime) {
+    for &(bits, long) in &[
+        (65536, 0x4000_0000),
+        (131071, 0x7FFF_C000),
+        (131072, i32::MIN),
+        (-131073, 0x7FFF_C000),
+    ] {
+        assert!(rt; font_f2dot30_from_fixed(bits) == long, "16.16 of {bits}");
+    }
+    let ends = [
+        font_f2dot30_from_f2dot14(i16::MIN),
+        font_f2dot30_from_f2dot14(i16::MAX),
+        font_f2dot30_from_f2dot14(-1),
+    ];
+    assert!(rt; ends == [i32::MIN, 0x7FFF_0000, -65536]);
+}
+
+#[test]
+fn of_2_30(rt: HostRuntime) {
+    for &(bits, fixed, narrow) in &[
+        (0x2000, 1, 0),
+        (0x1FFF, 0, 0),
+        (-0x2000, 0, 0),
+        (-0x2001, -1, 0),
+        (0x8000, 2, 1),
+        (0x7FFF, 2, 0),
+        (-0x8000, -2, 0),
+        (-0x8001, -2, -1),
+        (0x7FFF_7FFF, 131070, 32767),
+        (0x7FFF_8000, 131070, -32768),
+        (i32::MAX, 131072, -32768),
+        (i32::MIN, -131072, -32768),
+    ] {
+        assert!(rt; font_f2dot30_to_fixed(bits) == fixed, "16.16 of {bits}");
+        assert!(rt; font_f2dot30_to_f2dot14(bits) == narrow, "2.14 of {bits}");
     }
 }
