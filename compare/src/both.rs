@@ -1,5 +1,5 @@
-//! The number types of both crates, by one set of calls. The type of 30 bits of fraction, which
-//! `font-types` has not, stands beside one of whole numbers of 128 bits.
+//! The number types of both crates, by one set of calls. A type that `font-types` has not stands
+//! beside one of whole numbers of 128 bits.
 
 use crate::text::Text;
 use font_types_proved::{self as here, DecimalFault, Pad};
@@ -7,20 +7,23 @@ use std::fmt::{self, Write};
 
 /// The other side.
 pub mod there {
-    pub use crate::exact::F2Dot30;
+    use crate::exact::Number;
     pub use font_types::*;
+
+    // What `font-types` has not, by its bytes and its bits of fraction.
+    pub type F2Dot30 = Number<4, 30>;
 }
 
 /// What both sides give, as bits: here, and there.
 pub type Answers = [Option<i64>; 2];
 
-/// The calls of a number type of both crates. A number is told by its low bits.
+/// The calls of a number type of both crates. A number is given by its low bits.
 pub struct Both {
     pub name: &'static str,
     pub width: u32,
     pub fraction_bits: u32,
-    /// The bits of what `font-types` makes of an f64.
-    pub from_f64: Option<fn(f64) -> i64>,
+    /// The bits of what is made of an f64 there.
+    pub from_f64: fn(f64) -> i64,
     /// The number's bits.
     pub bits: fn(i64) -> i64,
     /// Writes the number by `{}`, here and there.
@@ -42,7 +45,7 @@ macro_rules! both {
             name: stringify!($Type),
             width: <$bits>::BITS,
             fraction_bits: $f,
-            from_f64: both!(@from_f64 $Type),
+            from_f64: |x| there::$Type::from_f64(x).to_bits().into(),
             bits: |bits| (bits as $bits).into(),
             write: |bits, text| write!(text, "{}", here::$Type::from_bits(bits as $bits)),
             write_there: |bits, text| write!(text, "{}", there::$Type::from_bits(bits as $bits)),
@@ -94,12 +97,6 @@ macro_rules! both {
     };
     (@bits $here:expr, $there:expr) => {
         [Some($here.to_bits().into()), Some($there.to_bits().into())]
-    };
-    (@from_f64 F2Dot30) => {
-        None
-    };
-    (@from_f64 $Type:ident) => {
-        Some(|x| there::$Type::from_f64(x).to_bits().into())
     };
 }
 

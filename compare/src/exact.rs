@@ -1,7 +1,7 @@
-//! Decimals and fixed-point numbers by whole numbers of 128 bits: what is exact, and the type
-//! `F2Dot30`, which `font-types` has not.
+//! Decimals and fixed-point numbers by whole numbers of 128 bits: what is exact, and a type of
+//! numbers to stand where `font-types` has none.
 
-use font_types_tools::exact::{near, shortest, up, wrap};
+use font_types_tools::exact::{fits, near, shortest, up, wrap};
 use std::fmt;
 use std::ops::{Add, Neg, Sub};
 
@@ -35,78 +35,82 @@ impl fmt::Display for Exact {
     }
 }
 
-/// A number of 32 bits with 30 bits of fraction.
+/// A number of so many bytes and bits of fraction.
 #[derive(Clone, Copy, PartialEq, Eq)]
-pub struct F2Dot30(i32);
+pub struct Number<const BYTES: usize, const FRACTION: u32>(i128);
 
-const ONE: i128 = 1 << 30;
+impl<const BYTES: usize, const FRACTION: u32> Number<BYTES, FRACTION> {
+    const WIDTH: u32 = 8 * BYTES as u32;
+    const ONE: i128 = 1 << FRACTION;
 
-impl F2Dot30 {
-    pub fn from_bits(bits: i32) -> Self {
-        Self(bits)
+    pub fn from_bits(bits: impl Into<i128>) -> Self {
+        Self(bits.into())
     }
 
-    pub fn to_bits(self) -> i32 {
-        self.0
+    pub fn to_bits(self) -> i64 {
+        self.0 as i64
     }
 
-    fn exact(self) -> i128 {
-        i128::from(self.0)
+    pub fn from_f64(x: f64) -> Self {
+        Self::clamped((x * Self::ONE as f64).round() as i128)
     }
 
-    // The number with these bits, wrapped to 32.
+    // The number with these bits, wrapped.
     fn wrapped(bits: i128) -> Self {
-        Self(wrap(32, bits) as i32)
+        Self(wrap(Self::WIDTH, bits))
     }
 
     // The same, or the nearest end.
     fn clamped(bits: i128) -> Self {
-        Self(bits.clamp(i32::MIN.into(), i32::MAX.into()) as i32)
+        let half = 1 << (Self::WIDTH - 1);
+        Self(bits.clamp(-half, half - 1))
     }
 
     pub fn round(self) -> Self {
-        Self::wrapped(up(self.exact(), ONE) * ONE)
+        Self::wrapped(up(self.0, Self::ONE) * Self::ONE)
     }
 
     pub fn floor(self) -> Self {
-        Self::wrapped(self.exact().div_euclid(ONE) * ONE)
+        Self::wrapped(self.0.div_euclid(Self::ONE) * Self::ONE)
     }
 
     pub fn fract(self) -> Self {
-        Self::wrapped(self.exact().rem_euclid(ONE))
+        Self::wrapped(self.0.rem_euclid(Self::ONE))
     }
 
     pub fn abs(self) -> Self {
-        Self::wrapped(self.exact().abs())
+        Self::wrapped(self.0.abs())
     }
 
     pub fn wrapping_add(self, other: Self) -> Self {
-        Self::wrapped(self.exact() + other.exact())
+        Self::wrapped(self.0 + other.0)
     }
 
     pub fn wrapping_sub(self, other: Self) -> Self {
-        Self::wrapped(self.exact() - other.exact())
+        Self::wrapped(self.0 - other.0)
     }
 
     pub fn saturating_add(self, other: Self) -> Self {
-        Self::clamped(self.exact() + other.exact())
+        Self::clamped(self.0 + other.0)
     }
 
     pub fn saturating_sub(self, other: Self) -> Self {
-        Self::clamped(self.exact() - other.exact())
+        Self::clamped(self.0 - other.0)
     }
 
     pub fn checked_add(self, other: Self) -> Option<Self> {
-        i32::try_from(self.exact() + other.exact()).ok().map(Self)
+        let sum = self.0 + other.0;
+        fits(Self::WIDTH, sum).then_some(Self(sum))
     }
 
-    /// The four bytes of the number modulo `2^32`, highest first.
-    pub fn to_be_bytes(self) -> [u8; 4] {
-        [24, 16, 8, 0].map(|shift| (self.exact().div_euclid(1 << shift)).rem_euclid(256) as u8)
+    /// The bytes of the number modulo a power of 256, highest first.
+    pub fn to_be_bytes(self) -> [u8; BYTES] {
+        let steps = |at| 1i128 << (8 * (BYTES - 1 - at));
+        std::array::from_fn(|at| self.0.div_euclid(steps(at)).rem_euclid(256) as u8)
     }
 }
 
-impl Add for F2Dot30 {
+impl<const BYTES: usize, const FRACTION: u32> Add for Number<BYTES, FRACTION> {
     type Output = Self;
 
     fn add(self, other: Self) -> Self {
@@ -114,7 +118,7 @@ impl Add for F2Dot30 {
     }
 }
 
-impl Sub for F2Dot30 {
+impl<const BYTES: usize, const FRACTION: u32> Sub for Number<BYTES, FRACTION> {
     type Output = Self;
 
     fn sub(self, other: Self) -> Self {
@@ -122,17 +126,17 @@ impl Sub for F2Dot30 {
     }
 }
 
-impl Neg for F2Dot30 {
+impl<const BYTES: usize, const FRACTION: u32> Neg for Number<BYTES, FRACTION> {
     type Output = Self;
 
     fn neg(self) -> Self {
-        Self::wrapped(-self.exact())
+        Self::wrapped(-self.0)
     }
 }
 
-impl fmt::Display for F2Dot30 {
+impl<const BYTES: usize, const FRACTION: u32> fmt::Display for Number<BYTES, FRACTION> {
     fn fmt(&self, f: &mut fmt::Formatter<'_>) -> fmt::Result {
-        let text = shortest(self.exact(), 30);
+        let text = shortest(self.0, FRACTION);
         f.pad_integral(self.0 >= 0, "", text.trim_start_matches('-'))
     }
 }

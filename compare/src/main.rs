@@ -4,12 +4,12 @@
 //! cargo run --release -- [--seed N] [--threads N] [--random N] [PART..]
 //! ```
 //!
-//! The parts are `f2dot14` (the three types of 16 bits), `fixed`, `f26dot6`, `f48dot16`, `f2dot30`,
-//! `sums`, `products`, `conversions`, `reading`, `matrices`, `deltas`, `tags` and `others`; without
-//! any it is all of them, which takes some processor hours. `small` takes a part of every part, in
-//! less than a minute. `--random` says how many random inputs each part takes that cannot go over
-//! all. A part prints how many comparisons agreed, and of those that did not the number and an
-//! example; the last line counts all comparisons and all differences, and the status is 1 where
+//! The parts are the types of numbers (`fixed`), `sums`, `products`, `conversions`, `reading`,
+//! `matrices`, `deltas`, `tags` and `others`; without any it is all of them, which takes some
+//! processor hours. `small` takes a part of every part, in less than a minute. `--random` says how
+//! many random inputs each part takes that cannot go over all. A part prints how many comparisons
+//! agreed, and of those that did not the number and an example; the last line counts all
+//! comparisons and all differences, and the status is 1 where
 //! there is a difference, or no comparison. A row in which nothing was compared is a difference.
 //!
 //! README.md says what is compared with what.
@@ -33,25 +33,25 @@ use work::Work;
 
 type Part = (&'static str, fn(&mut Work));
 
-const PARTS: [Part; 13] = [
-    ("f2dot14", numbers::small_types),
-    ("fixed", |work| numbers::all(work, both::named("Fixed"))),
-    ("f26dot6", |work| numbers::all(work, both::named("F26Dot6"))),
-    ("f48dot16", |work| {
-        numbers::random(work, both::named("F48Dot16"))
-    }),
-    ("f2dot30", |work| {
-        numbers::random(work, both::named("F2Dot30"))
-    }),
-    ("sums", numbers::all_sums),
-    ("products", numbers::products),
-    ("conversions", numbers::conversions),
-    ("reading", reading::compare),
-    ("matrices", matrices::compare),
-    ("deltas", matrices::sums),
-    ("tags", tags::compare),
-    ("others", others::compare),
-];
+macro_rules! of_fixed_point_types {
+    ($($name:ident $Type:ident $bits:ident $f:literal;)*) => {
+        const PARTS: &[Part] = &[
+            $((stringify!($name), |work| {
+                numbers::compare(work, both::named(stringify!($Type)));
+            }),)*
+            ("sums", numbers::all_sums),
+            ("products", numbers::products),
+            ("conversions", numbers::conversions),
+            ("reading", reading::compare),
+            ("matrices", matrices::compare),
+            ("deltas", matrices::sums),
+            ("tags", tags::compare),
+            ("others", others::compare),
+        ];
+    };
+}
+
+include!("../../rust/types.in");
 
 fn main() -> ExitCode {
     let arguments: Vec<String> = std::env::args().skip(1).collect();

@@ -1,17 +1,16 @@
 //! Random matrices, points and boxes of `Fixed`, and sums of deltas.
 
-use crate::both::there;
 use crate::random::Random;
 use crate::tally::Tally;
 use crate::work::Work;
 use font_types_proved::laws::{composed, in_turn};
-use font_types_proved::{self as here, checked_delta_sum, delta_sum, vary};
+use font_types_proved::{checked_delta_sum, delta_sum, vary};
 
-/// The calls of a side, from bits to bits.
+/// A side, with calls from bits to bits.
 macro_rules! side {
     ($name:ident $side:ident) => {
         mod $name {
-            use super::$side::{BoundingBox, Fixed, Matrix, Point};
+            pub use $side::*;
 
             pub fn matrix(bits: &[i32]) -> Matrix<Fixed> {
                 Matrix::from_elements(std::array::from_fn(|n| Fixed::from_bits(bits[n])))
@@ -51,8 +50,8 @@ macro_rules! side {
     };
 }
 
-side!(ours here);
-side!(theirs there);
+side!(here font_types_proved);
+side!(there font_types);
 
 /// Matrices, points and boxes.
 pub fn compare(work: &mut Work) {
@@ -67,28 +66,28 @@ pub fn compare(work: &mut Work) {
     work.go_over_random("Matrices, random", &names, 50_000_000, |random, tally| {
         let bits: [i32; 14] = std::array::from_fn(|_| random.bits_32());
         let (a, b, p) = (
-            ours::matrix(&bits),
-            ours::matrix(&bits[6..]),
-            ours::point(&bits[12..]),
+            here::matrix(&bits),
+            here::matrix(&bits[6..]),
+            here::point(&bits[12..]),
         );
-        let (c, d) = (theirs::matrix(&bits), theirs::matrix(&bits[6..]));
-        let q = theirs::point(&bits[12..]);
+        let (c, d) = (there::matrix(&bits), there::matrix(&bits[6..]));
+        let q = there::point(&bits[12..]);
         let example = || format!("bits {bits:?}");
-        tally.judge(0, ours::elements(a * b) == theirs::elements(c * d), example);
+        tally.judge(0, here::elements(a * b) == there::elements(c * d), example);
         let images = [
-            [ours::coordinates(a * p), theirs::coordinates(c * q)],
+            [here::coordinates(a * p), there::coordinates(c * q)],
             [
-                ours::coordinates(composed(a, b, p)),
-                theirs::coordinates((c * d) * q),
+                here::coordinates(composed(a, b, p)),
+                there::coordinates((c * d) * q),
             ],
             [
-                ours::coordinates(in_turn(a, b, p)),
-                theirs::coordinates(c * (d * q)),
+                here::coordinates(in_turn(a, b, p)),
+                there::coordinates(c * (d * q)),
             ],
         ];
         tally.judge_each(1, images, example);
-        tally.judge(4, ours::points(&bits) == theirs::points(&bits), example);
-        tally.judge(5, ours::boxes(&bits) == theirs::boxes(&bits), example);
+        tally.judge(4, here::points(&bits) == there::points(&bits), example);
+        tally.judge(5, here::boxes(&bits) == there::boxes(&bits), example);
     });
 }
 

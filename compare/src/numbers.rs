@@ -21,27 +21,20 @@ const ROWS: [&str; 10] = [
     "to_be_bytes",
 ];
 
-/// Every value of a type.
-pub fn all(work: &mut Work, of: &Both) {
-    work.go_over_all(of.name, &ROWS, of.width, |index, tally| {
-        let is_chosen = of.width == 16 || index % 1024 == 0;
-        value(of, (of.bits)(index as i64), is_chosen, tally);
-    });
-}
-
-/// Every value of the three types of 16 bits.
-pub fn small_types(work: &mut Work) {
-    let small = ALL.iter().filter(|of| of.width == 16);
-    small.for_each(|of| all(work, of));
-}
-
-/// Random values of a type.
-pub fn random(work: &mut Work, of: &Both) {
-    let title = format!("{}, random", of.name);
-    work.go_over_random(&title, &ROWS, 50_000_000, |random, tally| {
-        let bits = (of.bits)(random.bits_64());
-        value(of, bits, random.below(64) == 0, tally);
-    });
+/// Every value of a type of 16 or 32 bits, random values of one of 64 bits.
+pub fn compare(work: &mut Work, of: &Both) {
+    if of.width == 64 {
+        let title = format!("{}, random", of.name);
+        work.go_over_random(&title, &ROWS, 50_000_000, |random, tally| {
+            let bits = random.bits_64();
+            value(of, bits, random.below(64) == 0, tally);
+        });
+    } else {
+        work.go_over_all(of.name, &ROWS, of.width, |index, tally| {
+            let is_chosen = of.width == 16 || index % 1024 == 0;
+            value(of, (of.bits)(index as i64), is_chosen, tally);
+        });
+    }
 }
 
 // One value, printed by `{}` with neither a width nor a precision.

@@ -7,15 +7,15 @@ use font_types_proved as here;
 /// The same calls of both sides, as one answer that can be compared and shown.
 macro_rules! alike {
     ($tally:ident, $row:expr, $example:expr, $side:ident => $call:expr) => {{
-        let ours = {
+        let answer = {
             use here as $side;
             $call
         };
-        let theirs = {
+        let other = {
             use there as $side;
             $call
         };
-        $tally.judge($row, ours == theirs, $example);
+        $tally.judge($row, answer == other, $example);
     }};
 }
 
@@ -177,76 +177,51 @@ fn versions(work: &mut Work) {
     });
 }
 
-/// A scalar of both sides, read from bytes, written, and compared as a field.
+/// Scalars of both sides, read from bytes, written, and compared as fields, a row for each.
 macro_rules! scalars {
-    ($tally:ident, $bytes:expr, $example:expr;
-     $($row:literal $($Type:ident)::+ $len:literal;)*) => {$({
-        let [first, second]: [[u8; $len]; 2] = $bytes.map(|bytes: [u8; 8]| {
-            std::array::from_fn(|n| bytes[n])
-        });
-        alike!($tally, $row, $example, s => {
-            type Value = $($Type)::+;
-            let read = <Value as s::Scalar>::read(&first).map(s::Scalar::to_raw);
-            let short = <Value as s::Scalar>::read(&first[1..]).is_none();
-            let (x, y) = (s::BigEndian::<Value>::new(first), s::BigEndian::<Value>::new(second));
-            let mut set = x;
-            set.set(y.get());
-            let from = s::BigEndian::<Value>::from_slice(&first);
-            let from = from.map(|field| field.get() == x.get());
-            let bytes = (set.be_bytes().to_vec(), s::BigEndian::from(x.get()).be_bytes().to_vec());
-            (read, short, x == y, x == x.get(), bytes, from, <Value as s::FixedSize>::RAW_BYTE_LEN)
-        });
-    })*};
+    ($($Type:ident)*) => {
+        fn scalars(work: &mut Work) {
+            let title = "Scalars and fields, random";
+            let names = [$(stringify!($Type)),*];
+            work.go_over_random(title, &names, 5_000_000, |random, tally| {
+                let bytes = [random.next().to_le_bytes(), random.next().to_le_bytes()];
+                // One pair in four is equal.
+                let is_pair = random.below(4) == 0;
+                let bytes = if is_pair { [bytes[0]; 2] } else { bytes };
+                let example = || format!("{bytes:?}");
+                let mut rows = 0..;
+                $(alike!(tally, rows.next().unwrap(), example, s => {
+                    #[allow(unused_imports)]
+                    use s::*;
+                    field!(s $Type bytes)
+                });)*
+            });
+        }
+    };
 }
 
-fn scalars(work: &mut Work) {
-    let names = [
-        "u8",
-        "i8",
-        "u16",
-        "i16",
-        "u32",
-        "i32",
-        "i64",
-        "Uint24",
-        "Int24",
-        "Fixed",
-        "F2Dot14",
-        "F4Dot12",
-        "F6Dot10",
-        "FWord",
-        "UfWord",
-        "GlyphId16",
-        "GlyphId24",
-        "NameId",
-        "Offset16",
-        "Offset24",
-        "Offset32",
-        "LongDateTime",
-        "Version16Dot16",
-        "MajorMinor",
-        "Tag",
-    ];
-    work.go_over_random(
-        "Scalars and fields, random",
-        &names,
-        5_000_000,
-        |random, tally| {
-            let bytes = [random.next().to_le_bytes(), random.next().to_le_bytes()];
-            // One pair in four is equal.
-            let bytes = if random.below(4) == 0 {
-                [bytes[0]; 2]
-            } else {
-                bytes
-            };
-            let example = || format!("{bytes:?}");
-            scalars! { tally, bytes, example;
-                0 u8 1; 1 i8 1; 2 u16 2; 3 i16 2; 4 u32 4; 5 i32 4; 6 i64 8; 7 s::Uint24 3;
-                8 s::Int24 3; 9 s::Fixed 4; 10 s::F2Dot14 2; 11 s::F4Dot12 2; 12 s::F6Dot10 2;
-                13 s::FWord 2; 14 s::UfWord 2; 15 s::GlyphId16 2; 16 s::GlyphId24 3; 17 s::NameId 2;
-                18 s::Offset16 2; 19 s::Offset24 3; 20 s::Offset32 4; 21 s::LongDateTime 8;
-                22 s::Version16Dot16 4; 23 s::MajorMinor 4; 24 s::Tag 4;
-            }
-        },
-    );
+/// What a scalar of a side and a field of it give, over bytes.
+macro_rules! field {
+    ($side:ident $Type:ident $bytes:ident) => {{
+        const LEN: usize = <$Type as $side::FixedSize>::RAW_BYTE_LEN;
+        let [first, second]: [[u8; LEN]; 2] = $bytes.map(|bytes| std::array::from_fn(|n| bytes[n]));
+        let read = <$Type as $side::Scalar>::read(&first).map($side::Scalar::to_raw);
+        let short = <$Type as $side::Scalar>::read(&first[1..]).is_none();
+        let x = $side::BigEndian::<$Type>::new(first);
+        let y = $side::BigEndian::<$Type>::new(second);
+        let mut set = x;
+        set.set(y.get());
+        let from = $side::BigEndian::<$Type>::from_slice(&first);
+        let from = from.map(|field| field.get() == x.get());
+        let bytes = (
+            set.be_bytes().to_vec(),
+            $side::BigEndian::from(x.get()).be_bytes().to_vec(),
+        );
+        (read, short, x == y, x == x.get(), bytes, from, LEN)
+    }};
+}
+
+scalars! {
+    u8 i8 u16 i16 u32 i32 i64 Uint24 Int24 Fixed F2Dot14 F4Dot12 F6Dot10 FWord UfWord GlyphId16
+    GlyphId24 NameId Offset16 Offset24 Offset32 LongDateTime Version16Dot16 MajorMinor Tag
 }

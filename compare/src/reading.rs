@@ -20,13 +20,8 @@ pub fn compare(work: &mut Work) {
 
 fn of_type(work: &mut Work, of: &Both) {
     let name = of.name;
-    let rows = if of.from_f64.is_some() {
-        &ROWS[..]
-    } else {
-        &ROWS[..1]
-    };
     let title = format!("{name}, decimals of at most five places");
-    work.go_over_random(&title, rows, 20_000_000, |random, tally| {
+    work.go_over_random(&title, &ROWS, 20_000_000, |random, tally| {
         let (numeral, places) = (random.bits_32().into(), random.below(6) as u32);
         let decimal = Exact { numeral, places };
         read_exact(of, decimal, true, tally);
@@ -41,11 +36,11 @@ fn of_type(work: &mut Work, of: &Both) {
     let title = format!("{name}, half steps");
     if of.width == 16 {
         // One more on each side, beyond the ends.
-        work.go_over(&title, rows, (1 << 16) + 2, |index, tally| {
+        work.go_over(&title, &ROWS, (1 << 16) + 2, |index, tally| {
             half_step(of, index as i64 - (1 << 15) - 1, tally);
         });
     } else {
-        work.go_over_random(&title, rows, 20_000_000, |random, tally| {
+        work.go_over_random(&title, &ROWS, 20_000_000, |random, tally| {
             half_step(of, some_bits(of, random), tally);
         });
     }
@@ -139,8 +134,8 @@ fn read(of: &Both, text: &str, steps: i128, is_safe_in_f64: bool, tally: &mut Ta
     };
     let here = (of.read)(text);
     tally.judge(0, here == wanted, example);
-    if let Some(from_f64) = of.from_f64.filter(|_| is_safe_in_f64 && is_in_range) {
-        let there = text.parse().map(from_f64);
+    if is_safe_in_f64 && is_in_range {
+        let there = text.parse().map(of.from_f64);
         tally.judge(1, there.ok() == here.ok(), example);
     }
 }

@@ -1,5 +1,5 @@
 //! `cargo run --release --bin speed`: what a call of `font-types-proved` costs, as a part of what
-//! the same call of `font-types` costs. A ratio below 1.00 is cheaper. Only ratios are told, since
+//! the same call of `font-types` costs. A ratio below 1.00 is cheaper. Only ratios are shown, since
 //! times are of the machine.
 //!
 //! Operands are not known to the compiler, both sides go over the same numbers to the same end, and
@@ -80,18 +80,18 @@ macro_rules! side {
 
 macro_rules! sides {
     ($($name:ident($inputs:ident, $n:ident) $text:literal $call:expr;)*) => {
-        side! { ours; $($name($inputs, $n) $call;)* }
-        side! { theirs; $($name($inputs, $n) $call;)* }
+        side! { here; $($name($inputs, $n) $call;)* }
+        side! { there; $($name($inputs, $n) $call;)* }
 
         const CALLS: &[(&str, fn(&Inputs), fn(&Inputs))] = &[
-            $(($text, ours::$name, theirs::$name),)*
+            $(($text, here::$name, there::$name),)*
         ];
     };
 }
 
 /// The crates, each with a reader of decimals.
 mod sides {
-    pub mod ours {
+    pub mod here {
         pub use font_types_proved::*;
 
         pub fn read(text: &str) -> i32 {
@@ -99,7 +99,7 @@ mod sides {
         }
     }
 
-    pub mod theirs {
+    pub mod there {
         pub use font_types::*;
 
         pub fn read(text: &str) -> i32 {
@@ -192,23 +192,21 @@ fn main() {
             .iter()
             .find(|known| known.0 == call)
             .expect("a call of the list");
-        let run = if side == "ours" { call.1 } else { call.2 };
+        let run = if side == "here" { call.1 } else { call.2 };
         for _ in 0..100 {
             run(&inputs);
         }
         return;
     }
     println!("{:<32}{:>6}", "call", "ratio");
-    for (name, ours, theirs) in CALLS {
-        let (mut here, mut there) = (Duration::MAX, Duration::MAX);
+    for (name, here, there) in CALLS {
+        let mut quickest = [Duration::MAX; 2];
         for _ in 0..ROUNDS {
-            here = here.min(timed(*ours, &inputs));
-            there = there.min(timed(*theirs, &inputs));
+            let times = [here, there].map(|run| timed(*run, &inputs));
+            quickest = [0, 1].map(|side| quickest[side].min(times[side]));
         }
-        println!(
-            "{name:<32}{:>6.2}",
-            here.as_secs_f64() / there.as_secs_f64()
-        );
+        let [here, there] = quickest.map(|time| time.as_secs_f64());
+        println!("{name:<32}{:>6.2}", here / there);
     }
 }
 
