@@ -545,13 +545,26 @@ fn a_constant_function_that_is_not_there() {
     assert_eq!(told.last().unwrap(), fault);
 }
 
-// What every fixed-point type has stands there once, and is looked for in each.
+// What stands there for every fixed-point type is looked for in each.
 #[test]
 fn constant_functions_of_each_type() {
     let functions = crates::constant_functions().into_iter();
-    let owners = functions.filter_map(|(_, (owner, name))| (name == "fract").then_some(owner));
+    let functions: Vec<_> = functions.map(|(_, function)| function).collect();
     let lines = include_str!("../types.in").lines();
-    let lines = lines.filter(|line| line.ends_with(';'));
-    let types = lines.filter_map(|line| line.split_whitespace().nth(1));
-    assert_eq!(owners.collect::<Vec<_>>(), types.collect::<Vec<_>>());
+    let types = lines.filter(|line| line.ends_with(';'));
+    let types: Vec<_> = types
+        .filter_map(|line| line.split_whitespace().nth(1))
+        .collect();
+    assert!(types.contains(&"F48Dot16"), "{types:?}");
+    for name in [
+        "from_bits",
+        "round",
+        "abs",
+        "wrapping_sub",
+        "saturating_add",
+    ] {
+        let is_missing = |owner: &&&str| !functions.contains(&(owner, name));
+        assert_eq!(types.iter().find(is_missing), None, "{name}");
+    }
+    assert!(functions.iter().all(|(owner, _)| *owner != "fixed-point"));
 }
