@@ -193,8 +193,8 @@ impl Pair<'_> {
             let (source, rust) = (&self.source.0[self.at..], &self.rust.0[self.to..]);
             let gone = gone(source);
             let is_same = is_same(source, rust, counts);
-            let is_told = source[0].starts_with("//") && is_same;
-            if gone > 0 && !is_told && !rust.starts_with(&source[..gone]) {
+            let is_comment = source[0].starts_with("//") && is_same;
+            if gone > 0 && !is_comment && !rust.starts_with(&source[..gone]) {
                 self.at += gone;
             } else if let Some((pair, slice)) = slice_of_export(source, rust) {
                 self.slices += &slice;
