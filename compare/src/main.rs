@@ -9,8 +9,8 @@
 //! processor hours. `small` takes a part of every part, in less than a minute. `--random` says how
 //! many random inputs each part takes that cannot go over all. A part prints how many comparisons
 //! agreed, and of those that did not the number and an example; the last line counts all
-//! comparisons and all differences, and the status is 1 where
-//! there is a difference, or no comparison. A row in which nothing was compared is a difference.
+//! comparisons and all differences, and the status is 1 where there is a difference, or no
+//! comparison. A row in which nothing was compared is a difference.
 //!
 //! README.md says what is compared with what.
 #![forbid(unsafe_code)]

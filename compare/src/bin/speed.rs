@@ -192,7 +192,9 @@ fn main() {
             .iter()
             .find(|known| known.0 == call)
             .expect("a call of the list");
-        let run = if side == "here" { call.1 } else { call.2 };
+        let sides = [("here", call.1), ("there", call.2)];
+        let run = sides.iter().find(|known| known.0 == side);
+        let run = run.expect("a side, here or there").1;
         for _ in 0..100 {
             run(&inputs);
         }

@@ -320,13 +320,13 @@ int32_t font_f2dot30_round(int32_t bits);
 /* The bits of the greatest whole number that is not above the number. */
 int32_t font_f2dot30_floor(int32_t bits);
 
-/* The bits of a 16.16 number, modulo 2^32. */
+/* The bits of a 16.16 number in 2.30, bits * 2^14, modulo 2^32. */
 int32_t font_f2dot30_from_fixed(int32_t bits);
 
 /* The bits of the nearest 16.16 number, ties upwards. */
 int32_t font_f2dot30_to_fixed(int32_t bits);
 
-/* The bits of a 2.14 number, exactly. */
+/* The bits of a 2.14 number in 2.30, exactly: bits * 2^16. */
 int32_t font_f2dot30_from_f2dot14(int16_t bits);
 
 /* The bits of the nearest 2.14 number, ties upwards, modulo 2^16. */
