@@ -55,7 +55,7 @@ pub extern "C" fn font_f2dot30_floor(bits: i32) -> i32
     F2Dot30::from_bits(bits).floor().to_bits()
 }
 
-/// The number of a 16.16 number, wrapped.
+/// A 16.16 number in 2.30, wrapped.
 #[unsafe(no_mangle)]
 pub extern "C" fn font_f2dot30_from_fixed(bits: i32) -> i32
     ensures { result ≡ wrap 32 (bits *ℤ pos (2 ^ 14)) }
@@ -71,7 +71,7 @@ pub extern "C" fn font_f2dot30_to_fixed(bits: i32) -> i32
     F2Dot30::from_bits(bits).to_fixed().to_bits()
 }
 
-/// The number of a 2.14 number, exactly.
+/// A 2.14 number in 2.30, exactly.
 #[unsafe(no_mangle)]
 pub extern "C" fn font_f2dot30_from_f2dot14(bits: i16) -> i32
     ensures { result ≡ (bits *ℤ pos (2 ^ 16)) }
