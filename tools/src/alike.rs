@@ -21,8 +21,17 @@ const OF_FIELDS: [&str; 11] = [
     "fnto_raw",
 ];
 
+// What names a type in a file that has all of them.
+const NAMED: [(&str, &str); 2] = [
+    ("crates/font_c/callers/table.c", "OF(TYPE, intWIDTH_t)"),
+    (
+        "crates/font_c/src/tests/numbers.rt",
+        "fn TYPE_there_and_back(",
+    ),
+];
+
 /// How many items the types' files have in common, in the library and in the exports for C, and
-/// those of the model that a file has not.
+/// what is lost: items of the model that a file has not, and types that a list has not.
 pub fn missing() -> (usize, Vec<String>) {
     let (of_c, library): (Vec<String>, Vec<String>) = files("crates", ".rt")
         .into_iter()
@@ -30,7 +39,19 @@ pub fn missing() -> (usize, Vec<String>) {
     let (in_library, mut lost) = missing_in(&library);
     let (in_c, lost_in_c) = missing_in(&of_c);
     lost.extend(lost_in_c);
+    lost.extend(NAMED.iter().flat_map(|(path, form)| unnamed(path, form)));
     (in_library + in_c, lost)
+}
+
+// The types that this file does not name in this form.
+fn unnamed(path: &str, form: &str) -> Vec<String> {
+    let file = text(path);
+    let names = TYPES.iter().map(|kind| {
+        let name = form.replace("TYPE", kind.name);
+        name.replace("WIDTH", &kind.width.to_string())
+    });
+    let lost = names.filter(|name| !file.contains(name.as_str()));
+    lost.map(|name| format!("{path} has not: {name}")).collect()
 }
 
 // The same, of these files.

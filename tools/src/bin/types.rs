@@ -1,5 +1,5 @@
-//! Holds the files of the fixed-point types to one text, so that a change of one that is forgotten
-//! in another is seen.
+//! Holds the files of the fixed-point types to one text, and the lists of `font_c` to their table,
+//! so that what is forgotten in one is seen.
 
 use font_types_tools::alike;
 use std::process::ExitCode;
