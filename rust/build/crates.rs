@@ -33,9 +33,6 @@ const PRELUDE: &str = "#[allow(unused_imports)] use crate::prelude::*; ";
 /// The functions that become `const`, of which each line is of types or of a crate.
 const CONSTANT: &str = include_str!("constant.txt");
 
-/// What stands there for every fixed-point type.
-const FIXED_POINT: &str = "fixed-point";
-
 macro_rules! of_fixed_point_types {
     ($($name:ident $Type:ident $bits:ident $f:literal;)*) => {
         /// The fixed-point types.
@@ -120,7 +117,7 @@ pub fn constant_functions() -> Vec<(usize, (&'static str, &'static str))> {
     for (line, text) in (1..).zip(CONSTANT.lines()) {
         let (owners, names) = text.split_once(": ").unwrap_or((text, ""));
         let owners = match owners {
-            FIXED_POINT => FIXED_POINT_TYPES.to_vec(),
+            "fixed-point" => FIXED_POINT_TYPES.to_vec(),
             _ => owners.split(' ').collect(),
         };
         for owner in owners {

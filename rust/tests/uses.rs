@@ -68,10 +68,8 @@ macro_rules! of_fixed_point_types {
         #[test]
         fn each_use_of_each_type() {
             $(
-                let count = uses! {
-                    const { $Type::MAX.wrapping_add($Type::EPSILON).to_bits() == $bits::MIN };
-                };
-                assert_eq!(count + of_fixed_point!($Type $bits: $f), 27);
+                const { assert!($Type::MAX.wrapping_add($Type::EPSILON).to_bits() == $bits::MIN) };
+                assert_eq!(of_fixed_point!($Type $bits: $f), 26);
             )*
         }
     };
