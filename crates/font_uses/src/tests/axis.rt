@@ -1,6 +1,6 @@
 //! An axis.
 
-use crate::axis::{Mapping, along, apart, kept, mapped, on_segment, segment_end, stored};
+use crate::axis::{Mapping, along, apart, kept, mapped, on_segment, opposite, segment_end, stored};
 use font_types::{F2Dot14, Fixed};
 
 #[test]
@@ -36,6 +36,14 @@ fn kept_within_its_ends(rt: HostRuntime) {
             Fixed::from_bits(0x1_8000),
         );
         assert!(rt; value == Fixed::from_bits(within), "{bits}");
+    }
+}
+
+#[test]
+fn opposite_of_what_is_not_negative(rt: HostRuntime) {
+    for &(bits, other) in &[(0, 0), (1, -1), (i32::MAX, -i32::MAX)] {
+        let coordinate = opposite(Fixed::from_bits(bits));
+        assert!(rt; coordinate == Fixed::from_bits(other), "{bits}");
     }
 }
 

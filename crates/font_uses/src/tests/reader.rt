@@ -1,8 +1,8 @@
 //! A reader of tables.
 
 use crate::reader::{
-    Classed, Cursor, PixelsPerEm, nth, number_at, numbers, place_of, place_of_glyph, position_of,
-    read_strike, value_at,
+    Classed, Cursor, PixelsPerEm, index_of, nth, number_at, numbers, place_of, place_of_glyph,
+    position_of, read_strike, value_at,
 };
 use font_types::{BigEndian, Fixed, GlyphId16, Int24, ScalarArray, Tag, Uint24};
 use std::test::Fail;
@@ -34,7 +34,10 @@ fn numbers_of_an_array(rt: HostRuntime) -> Result<(), Fail> {
         (8, Err(2)),
         (0, Err(0)),
     ] {
-        assert!(rt; place_of(&glyphs, glyph) == place, "{glyph}");
+        assert!(rt;
+            place_of(&glyphs, glyph) == place && index_of(&glyphs, glyph) == place.ok(),
+            "{glyph}"
+        );
     }
     Ok(())
 }

@@ -1,6 +1,6 @@
 //! A report in columns.
 
-use crate::report::{axis_value, line, printed};
+use crate::report::{axis_value, line, printed, version_of};
 use font_types::{Fixed, Pad, Tag};
 use std::test::Fail;
 
@@ -19,6 +19,17 @@ fn printed_shortest(rt: HostRuntime) -> Result<(), Fail> {
     for &(bits, text) in &[(0x1_999A, "1.6"), (-1, "-0.00002"), (i32::MIN, "-32768")] {
         assert!(rt;
             printed(Fixed::from_bits(bits), rt.alloc())?.as_str() == text,
+            "{text}"
+        );
+    }
+    Ok(())
+}
+
+#[test]
+fn versions_printed(rt: HostRuntime) -> Result<(), Fail> {
+    for &(major, minor, text) in &[(1, 2, "1.2"), (0, 0, "0.0"), (65535, 10, "65535.10")] {
+        assert!(rt;
+            version_of(major, minor, rt.alloc())?.as_str() == text,
             "{text}"
         );
     }

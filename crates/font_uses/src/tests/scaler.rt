@@ -1,6 +1,6 @@
 //! A scaler of outlines.
 
-use crate::scaler::{Component, moved, on_grid, scaled};
+use crate::scaler::{Component, mirrored, moved, on_grid, scaled, slanted};
 use font_types::{F26Dot6, Fixed, Matrix, Point};
 use std::test::Fail;
 
@@ -36,5 +36,16 @@ fn rounded_to_the_grid(rt: HostRuntime) {
     for &(bits, rounded) in &[(31, 0), (32, 64), (-32, 0), (-33, -64), (100, 128)] {
         let number = on_grid(F26Dot6::from_bits(bits));
         assert!(rt; number == F26Dot6::from_bits(rounded), "{bits}");
+    }
+}
+
+#[test]
+fn slanted_and_mirrored(rt: HostRuntime) {
+    let slope = Fixed::from_bits(0x4000);
+    for &(x, y, moved) in &[(10, 8, 12), (10, -8, 8), (0, 0, 0), (32766, 4, 32767)] {
+        assert!(rt; slanted(point(x, y), slope) == point(moved, y), "{x} {y}");
+    }
+    for &(x, other) in &[(7, -7), (-7, 7), (0, 0), (-32768, -32768)] {
+        assert!(rt; mirrored(point(x, 3)) == point(other, 3), "{x}");
     }
 }
