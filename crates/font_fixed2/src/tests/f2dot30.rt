@@ -1,51 +1,11 @@
-//! Roundings, operators and bytes.
+//! 2.30.
 
-use crate::{F2Dot30, F4Dot12, F6Dot10};
-use font_base::{BigEndian, FixedSize, Scalar};
+use super::*;
+use crate::F2Dot30;
 use font_fixed::{F2Dot14, Fixed};
 
-/// The bits of a number's nearest whole number, of its floor and of its fraction.
-macro_rules! roundings {
-    ($Number:ident, $bits:ident) => {{
-        let number = $Number::from_bits($bits);
-        [number.round(), number.floor(), number.fract()].map($Number::to_bits)
-    }};
-}
-
 #[test]
-fn roundings_of_4_12(rt: HostRuntime) {
-    for &(bits, rounded, floor, fract) in &[
-        (0x1800, 0x2000, 0x1000, 0x800),
-        (0x17FF, 0x1000, 0x1000, 0x7FF),
-        (-0x1801, -0x2000, -0x2000, 0x7FF),
-        (-0x1800, -0x1000, -0x2000, 0x800),
-        (0x7FFF, -0x8000, 0x7000, 0xFFF),
-    ] {
-        assert!(rt;
-            roundings!(F4Dot12, bits) == [rounded, floor, fract],
-            "{bits}"
-        );
-    }
-}
-
-#[test]
-fn roundings_of_6_10(rt: HostRuntime) {
-    for &(bits, rounded, floor, fract) in &[
-        (0x600, 0x800, 0x400, 0x200),
-        (0x5FF, 0x400, 0x400, 0x1FF),
-        (-0x601, -0x800, -0x800, 0x1FF),
-        (-0x600, -0x400, -0x800, 0x200),
-        (0x7FFF, -0x8000, 0x7C00, 0x3FF),
-    ] {
-        assert!(rt;
-            roundings!(F6Dot10, bits) == [rounded, floor, fract],
-            "{bits}"
-        );
-    }
-}
-
-#[test]
-fn roundings_of_2_30(rt: HostRuntime) {
+fn rounded(rt: HostRuntime) {
     for &(bits, rounded, floor, fract) in &[
         (0x6000_0000, -0x8000_0000, 0x4000_0000, 0x2000_0000),
         (0x5FFF_FFFF, 0x4000_0000, 0x4000_0000, 0x1FFF_FFFF),
@@ -104,26 +64,67 @@ fn to_others(rt: HostRuntime) {
 
 #[test]
 fn opposites(rt: HostRuntime) {
-    let (number, other) = (F4Dot12::from_bits(0x1800), F6Dot10::from_bits(0x600));
-    assert!(rt; (-number).to_bits() == -0x1800 && (-other).to_bits() == -0x600);
     let number = F2Dot30::from_bits(0x6000_0000);
     assert!(rt; (-number).to_bits() == -0x6000_0000 && (-number).abs() == number);
 }
 
 #[test]
 fn bytes(rt: HostRuntime) {
-    assert!(rt; F4Dot12::from_bits(-2).to_be_bytes() == [0xFF, 0xFE]);
-    assert!(rt; F6Dot10::from_bits(-2).to_be_bytes() == [0xFF, 0xFE]);
-    assert!(rt; F4Dot12::read(&[0x10, 0x00]) == Some(F4Dot12::ONE));
-    assert!(rt; F6Dot10::read(&[0x04, 0x00]) == Some(F6Dot10::ONE));
-    assert!(rt; BigEndian::from(F4Dot12::NEG_ONE) < BigEndian::from(F4Dot12::ZERO));
-    assert!(rt; BigEndian::from(F6Dot10::NEG_ONE) < BigEndian::from(F6Dot10::ZERO));
-}
-
-#[test]
-fn bytes_of_2_30(rt: HostRuntime) {
     assert!(rt; F2Dot30::RAW_BYTE_LEN == 4 && F2Dot30::read(&[0x40, 0x00]).is_none());
     assert!(rt; F2Dot30::from_bits(0x0102_0304).to_be_bytes() == [1, 2, 3, 4]);
     assert!(rt; F2Dot30::read(&[0xC0, 0x00, 0x00, 0x00]) == Some(F2Dot30::NEG_ONE));
     assert!(rt; BigEndian::from(F2Dot30::NEG_ONE) < BigEndian::from(F2Dot30::ZERO));
+}
+
+#[test]
+fn printed(rt: HostRuntime) -> Result<(), Fail> {
+    for &(bits, text) in &[
+        (7, "0.0000000065"),
+        (0x2000_0000, "0.5"),
+        (-0x6000_0000, "-1.5"),
+    ] {
+        assert!(rt;
+            is_printed(rt.alloc(), F2Dot30::from_bits(bits), text)?,
+            "{text}"
+        );
+    }
+    Ok(())
+}
+
+#[test]
+fn read(rt: HostRuntime) {
+    let read = ["0.6", "0.0000000004656612873077392578125"].map(F2Dot30::from_decimal);
+    assert!(rt; read == [0x2666_6666, 1].map(F2Dot30::from_bits).map(Ok));
+}
+
+// Below half a step by less than any number of places that is kept.
+#[test]
+fn nines_below_half_a_step(rt: HostRuntime) -> Result<(), Fail> {
+    let nines = "9".repeat(rt.alloc(), 3000)?;
+    let text = format!(in rt.alloc(); "0.0000000004656612873077392578124{nines}")?;
+    assert!(rt; F2Dot30::from_decimal(text.as_str()) == Ok(F2Dot30::ZERO));
+    Ok(())
+}
+
+#[test]
+fn refused(rt: HostRuntime) {
+    let faults = [Err(DecimalFault::OutOfRange), Err(DecimalFault::Syntax)];
+    assert!(rt; ["1.9999999996", "1."].map(F2Dot30::from_decimal) == faults);
+    assert!(rt; F2Dot30::from_decimal_bytes(b"1.5\xFF") == Err(DecimalFault::Syntax));
+    for &text in &[" 1", "1 "] {
+        assert!(rt; is_no_decimal(F2Dot30::from_decimal(text), text), "{text}");
+    }
+}
+
+#[test]
+fn padded(rt: HostRuntime) {
+    let mut pad = Pad::new(12);
+    pad.zeros = true;
+    let mut cell = [b'-'; 14];
+    assert!(rt; F2Dot30::from_bits(-7).write_padded(&mut cell, &pad) == Some(13));
+    pad = Pad::new(0);
+    pad.plus = true;
+    let mut long = [b' '; 13];
+    assert!(rt; F2Dot30::from_bits(0x4010_0000).write_padded(&mut long, &pad) == Some(13));
+    assert!(rt; &cell == b"-0.0000000065-" && &long == b"+1.0009765625");
 }
