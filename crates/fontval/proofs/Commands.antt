@@ -3,19 +3,20 @@
 use Rattle.std.proofs.Common.{◌≡◌, ℕ, List, refl, sym, subst, Result, Err, rules, [], ◌∷◌, ◌++◌, Ok, ◌∙◌, ℤ, ◌/◌}
 use Rattle.std.proofs.Common.{Bool, length, Option, Some, None, MatchResult, arith, get_or, ◌%◌, ◌==◌, if◌then◌else◌}
 use Rattle.std.proofs.Common.{append_assoc, append-nil}
-use Rattle.fontval.specs.Refusal.{Answer, GivesAnswer, refusal_of}
+use Rattle.fontval.specs.Refusal.{Answer, GivesAnswer}
 use Rattle.fontval.specs.declared.refusal.Refusal.{Refusal}
 use Rattle.fontval.specs.declared.refusal.Unanswered.{Unanswered}
 use Rattle.fontval.specs.declared.refusal.Unanswered.TheVariants.{Refused}
 use Rattle.std.specs.Result.{result_map_both}
-use Rattle.hex.specs.Hex.{encode_lower}
 use Rattle.font_types.specs.Bytes.{bytes_of}
 use Rattle.font_types.specs.DecimalFault.{DecimalFault}
-use Rattle.font_types.specs.Operations.{ReadingGives}
+use Rattle.font_types.specs.NumberReading.{ReadsBy}
+use Rattle.std.specs.Int.{Width}
+use mir.Val.{bits}
 use Rattle.font_types.specs.Tag.{IsValidated, tag_text, IsFault, IsVisible, four_spaces}
 use Rattle.font_types.specs.InvalidTag.{InvalidTag}
 use Rattle.fontval.specs.Command.{AnswersWords, JudgesTag, IsNamedType, verdict_text, ShowsReading, fixed_row, name_of}
-use Rattle.fontval.specs.Command.{two_words, IsAnswer, IsNamed, fixed_point, integer, only_bytes}
+use Rattle.fontval.specs.Command.{two_words, IsAnswer, IsNamed, fixed_point, integer, only_bytes, ShowsBytes}
 use Rattle.fontval.specs.Numbers.{ReadsJust, ReadsTerms, ReadsWhole, ReadsEach, ReadsFixed, ReadsNumber, ReadsTerm}
 use Rattle.fontval.specs.Numbers.{AndThen, pairs_of}
 use Rattle.fontval.specs.Deltas.{varied_answer, Varies, sum_of}
@@ -37,8 +38,7 @@ use Rattle.font_types.specs.Fixed.{fixed_of}
 use Rattle.font_types.proofs.Callers.{reading_unique, validated_good}
 use Rattle.fontval.specs.Answers.{Answers, AnswersLine, AnswersLines, AppendsAnswer}
 use Rattle.fontval.specs.Text.{lines_of, words_of}
-use Rattle.fontval.specs.declared.command.FixedType.TheVariants.{F2Dot14, F4Dot12, F6Dot10, Fixed as Fixed16, F26Dot6}
-use Rattle.fontval.specs.declared.command.FixedType.TheVariants.{F48Dot16, F2Dot30}
+use Rattle.fontval.specs.declared.command.FixedType.TheVariants as types
 use Rattle.fontval.specs.declared.command.IntegerType.TheVariants.{Uint8, Int8, Uint16, Int16, Uint24, Int24, Uint32}
 use Rattle.fontval.specs.declared.command.IntegerType.TheVariants.{Int32, Int64}
 
@@ -66,17 +66,21 @@ pub ruleset given = (given_refusal, given_answer)
 
 -- ---- by a command
 -- the bytes of what a text is read as
-pub given_number : {T : Type 0} {type this : FixedType} {name text old new : List ℕ} {n w f : ℕ}
-    {outcome : Result (Unit {0}) Unanswered} (bits_of : T → ℤ) (number : Result T DecimalFault)
-    → GivesAnswer (λ answer. answer
-    ≡ result_map_both (λ value. encode_lower (bytes_of n (bits_of value))) refusal_of number) old new outcome
-    → ReadingGives w f text (result_map_both bits_of (λ fault. fault) number)
-    → type ≡ this → fixed_row this ≡ (name, w, f) → w / 8 ≡ n
+pub given_number : {T U : Type 0} (type : FixedType) {text old new : List ℕ} {f : ℕ} {w : Width}
+    {outcome : Result (Unit {0}) Unanswered} {bits_of : T → ℤ} {raw_of : U → List ℕ} {read : Result T DecimalFault}
+    {number : Result U DecimalFault}
+    → GivesAnswer (ShowsBytes raw_of number) old new outcome → ReadsBy w f bits_of text read
+    → result_map_both raw_of (λ fault. fault) number
+    ≡ result_map_both (λ x. bytes_of (bits w / 8) (bits_of x)) (λ fault. fault) read
+    → fixed_row type ≡ ((fixed_row type).0, bits w, f)
     → GivesAnswer (ShowsReading type text) old new outcome
-given_number {type = type} {text = text} bits_of number given read is row size =
-    given_answer (ShowsReading type text) _ _ _ _ given
-    (rw (is, row, size)
-    (record { bits = result_map_both bits_of (λ fault. fault) number; read = read; gives = search rules }))
+given_number type {text = text} {bits_of = bits_of} {raw_of = raw_of} {read = read} {number = number}
+    shown reads same row =
+    given_as (ShowsBytes raw_of number) (ShowsReading type text) _ _ _ (λ answer right. rw row (record {
+      bits = result_map_both bits_of (λ fault. fault) read;
+      read = reads.gives;
+      gives = grind (arith, same, right.is);
+    })) shown
 
 module _ (old new : List ℕ) (outcome : Result (Unit {0}) Unanswered) where
   -- what is read of two words, the first of which names a type
@@ -189,8 +193,8 @@ abbrev commands : List Command
 commands =
     Integer Uint8 ∷ Integer Int8 ∷ Integer Uint16 ∷ Integer Int16 ∷ Integer Uint24 ∷ Integer Int24 ∷ Integer Uint32
     ∷ Integer Int32 ∷ Integer Int64
-    ∷ FixedPoint F2Dot14 ∷ FixedPoint F4Dot12 ∷ FixedPoint F6Dot10 ∷ FixedPoint Fixed16 ∷ FixedPoint F26Dot6
-    ∷ FixedPoint F48Dot16 ∷ FixedPoint F2Dot30
+    ∷ FixedPoint types.F2Dot14 ∷ FixedPoint types.F4Dot12 ∷ FixedPoint types.F6Dot10 ∷ FixedPoint types.Fixed
+    ∷ FixedPoint types.F26Dot6 ∷ FixedPoint types.F48Dot16 ∷ FixedPoint types.F2Dot30
     ∷ Read ∷ Tag ∷ Image ∷ Sum ∷ Vary ∷ []
 
 -- each command is found by its name

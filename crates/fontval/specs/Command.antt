@@ -7,19 +7,19 @@ use Rattle.std.specs.Fmt.{signed_decimal}
 use Rattle.std.specs.Result.{result_flatten, result_map_both}
 use Rattle.hex.specs.Hex.{decode_sized, encode_lower}
 use Rattle.font_types.specs.Bytes.{numeral, signed_numeral, bytes_of}
+use Rattle.font_types.specs.DecimalFault.{DecimalFault}
 use Rattle.font_types.specs.Shortest.{shortest_text}
 use Rattle.font_types.specs.Tag.{IsValidated, tag_text}
 use Rattle.font_types.specs.InvalidTag.{InvalidTag}
 use Rattle.font_types.specs.InvalidTag.TheVariants.{InvalidLength, InvalidByte, ByteAfterSpace}
-use Rattle.fontval.specs.Refusal.{Answer}
+use Rattle.fontval.specs.Refusal.{Answer, refusal_of}
 use Rattle.fontval.specs.Numbers.{AndThen, ReadsJust, ReadsNumber, ReadsTerms}
 use Rattle.fontval.specs.Deltas.{ShowsSum, Varies}
 use Rattle.fontval.specs.Images.{ShowsImages}
 use Rattle.fontval.specs.declared.command.Command.{Command}
 use Rattle.fontval.specs.declared.command.Command.TheVariants.{Integer, FixedPoint, Read, Tag, Image, Sum, Vary}
 use Rattle.fontval.specs.declared.command.FixedType.{FixedType}
-use Rattle.fontval.specs.declared.command.FixedType.TheVariants.{F2Dot14, F4Dot12, F6Dot10, Fixed, F26Dot6, F48Dot16}
-use Rattle.fontval.specs.declared.command.FixedType.TheVariants.{F2Dot30}
+use Rattle.fontval.specs.declared.command.FixedType.TheVariants as types
 use Rattle.fontval.specs.declared.command.IntegerType.{IntegerType}
 use Rattle.fontval.specs.declared.command.IntegerType.TheVariants.{Uint8, Int8, Uint16, Int16, Uint24, Int24, Uint32}
 use Rattle.fontval.specs.declared.command.IntegerType.TheVariants.{Int32, Int64}
@@ -52,13 +52,13 @@ integer_row Int64 = (codes "int64", 8, signed_bytes)
 -- stand behind the point
 -- (OpenType, data types: Fixed is 16.16 and F2DOT14 is 2.14)
 abbrev pub fixed_row : FixedType → List ℕ × ℕ × ℕ
-fixed_row F2Dot14 = (codes "f2dot14", 16, 14)
-fixed_row F4Dot12 = (codes "f4dot12", 16, 12)
-fixed_row F6Dot10 = (codes "f6dot10", 16, 10)
-fixed_row Fixed = (codes "fixed", 32, 16)
-fixed_row F26Dot6 = (codes "f26dot6", 32, 6)
-fixed_row F48Dot16 = (codes "f48dot16", 64, 16)
-fixed_row F2Dot30 = (codes "f2dot30", 32, 30)
+fixed_row types.F2Dot14 = (codes "f2dot14", 16, 14)
+fixed_row types.F4Dot12 = (codes "f4dot12", 16, 12)
+fixed_row types.F6Dot10 = (codes "f6dot10", 16, 10)
+fixed_row types.Fixed = (codes "fixed", 32, 16)
+fixed_row types.F26Dot6 = (codes "f26dot6", 32, 6)
+fixed_row types.F48Dot16 = (codes "f48dot16", 64, 16)
+fixed_row types.F2Dot30 = (codes "f2dot30", 32, 30)
 
 -- the word that names a command
 abbrev pub name_of : Command → List ℕ
@@ -122,6 +122,11 @@ fixed_point type words =
     let text : List ℕ → List ℕ =
     λ bytes. shortest_text (signed_numeral n bytes) (fixed_row type).2 in
     result_map_both text (λ refusal. refusal) (only_bytes n words)
+
+-- the answer is the bytes, in hexadecimal digits, of a number that was read
+pub record ShowsBytes {T : Type 0} (raw_of : T → List ℕ) (number : Result T DecimalFault)
+    (answer : Answer) : Type 0 where
+  pub is : answer ≡ result_map_both (λ value. encode_lower (raw_of value)) refusal_of number
 
 -- the answer is the bytes, in hexadecimal digits, of the number of a type that the text is read as
 abbrev pub ShowsReading : FixedType → List ℕ → Answer → Type 0

@@ -67,10 +67,13 @@ pub enum FixedType {
 }
 
 impl Command {
-    /// The command that a word names. Each command has a row.
+    /// The command that a word names. Each has a row, here or in `FixedType::named`.
     pub fn named(word: &[u8]) -> Result<Command, Refusal>
         ensures { IsNamed word.now result }
     {
+        if let Ok(kind) = FixedType::named(word) {
+            return Ok(Command::FixedPoint(kind));
+        }
         Ok(match word {
             b"uint8" => Command::Integer(IntegerType::Uint8),
             b"int8" => Command::Integer(IntegerType::Int8),
@@ -81,13 +84,6 @@ impl Command {
             b"uint32" => Command::Integer(IntegerType::Uint32),
             b"int32" => Command::Integer(IntegerType::Int32),
             b"int64" => Command::Integer(IntegerType::Int64),
-            b"f2dot14" => Command::FixedPoint(FixedType::F2Dot14),
-            b"f4dot12" => Command::FixedPoint(FixedType::F4Dot12),
-            b"f6dot10" => Command::FixedPoint(FixedType::F6Dot10),
-            b"fixed" => Command::FixedPoint(FixedType::Fixed),
-            b"f26dot6" => Command::FixedPoint(FixedType::F26Dot6),
-            b"f48dot16" => Command::FixedPoint(FixedType::F48Dot16),
-            b"f2dot30" => Command::FixedPoint(FixedType::F2Dot30),
             b"read" => Command::Read,
             b"tag" => Command::Tag,
             b"image" => Command::Image,
@@ -142,6 +138,7 @@ impl IntegerType {
 
 impl FixedType {
     /// The fixed-point type that a word names.
+    #[inline(always)]
     pub fn named(word: &[u8]) -> Result<FixedType, Refusal>
         ensures { IsNamedType word.now result }
     {

@@ -1,9 +1,9 @@
 //! What a command appends to the output.
 
 ghost use Rattle.std.specs.Prelude.{◌≡◌, ◌≤◌, [], IsSome, length, unwrap_or, string_bytes};
-ghost use Rattle.std.specs.Result.{result_map_both};
 ghost use Rattle.hex.specs.Hex.{encode_lower};
-ghost use Rattle.fontval.specs.Refusal.{refusal_of, GivesAnswer};
+ghost use Rattle.fontval.specs.Command.{ShowsBytes};
+ghost use Rattle.fontval.specs.Refusal.{GivesAnswer};
 
 use crate::refusal::Unanswered;
 use font_types::{DecimalFault, Scalar};
@@ -24,14 +24,13 @@ pub fn append<T: Display + Drop, A: Allocator>(
 }
 
 /// Appends the bytes of a number that was read.
+#[tactic(auto, using(crate::proofs::Commands::given))]
 pub fn append_read<T: Scalar<Raw = [u8; N]> + Drop, const N: usize, A: Allocator>(
     number: Result<T, DecimalFault>,
     output: &mut String<A>,
 ) -> Result<(), Unanswered>
     requires room { N ≤ 8 }
-    ensures { GivesAnswer
-        (λ answer. answer
-        ≡ result_map_both (λ value. encode_lower (T.raw_of value)) refusal_of number)
+    ensures { GivesAnswer (ShowsBytes T.raw_of number)
         (string_bytes output.old) (string_bytes output.new) result }
 {
     append_bytes(number?.to_raw().as_slice(), output)
