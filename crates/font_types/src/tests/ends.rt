@@ -1,6 +1,6 @@
 //! The constants of each fixed-point type, its traits, and the sums at its ends.
 
-use crate::{F2Dot14, F2Dot30, F4Dot12, F6Dot10, F26Dot6, F48Dot16, Fixed, IdentityEq, Scalar};
+use crate::*;
 use std::alloc::{AllocError, Global};
 use std::collections::HashSet;
 use std::fmt::{Debug, Display};
@@ -58,31 +58,26 @@ macro_rules! check_ends {
 }
 
 #[test]
-fn scalars(_rt: HostRuntime) {
-    is_scalar::<F2Dot14>();
-    is_scalar::<F4Dot12>();
-    is_scalar::<F6Dot10>();
-    is_scalar::<Fixed>();
-    is_scalar::<F2Dot30>();
-}
-
-#[test]
 fn ends_of_2_14(rt: HostRuntime) -> Result<(), Fail> {
+    is_scalar::<F2Dot14>();
     check_ends!(rt, F2Dot14, i16, 16384, 16384, -16385);
 }
 
 #[test]
 fn ends_of_4_12(rt: HostRuntime) -> Result<(), Fail> {
+    is_scalar::<F4Dot12>();
     check_ends!(rt, F4Dot12, i16, 4096, 28672, -28673);
 }
 
 #[test]
 fn ends_of_6_10(rt: HostRuntime) -> Result<(), Fail> {
+    is_scalar::<F6Dot10>();
     check_ends!(rt, F6Dot10, i16, 1024, 31744, -31745);
 }
 
 #[test]
 fn ends_of_16_16(rt: HostRuntime) -> Result<(), Fail> {
+    is_scalar::<Fixed>();
     check_ends!(rt, Fixed, i32, 65536, 2147418112, -2147418113);
 }
 
@@ -105,5 +100,6 @@ fn ends_of_48_16(rt: HostRuntime) -> Result<(), Fail> {
 
 #[test]
 fn ends_of_2_30(rt: HostRuntime) -> Result<(), Fail> {
+    is_scalar::<F2Dot30>();
     check_ends!(rt, F2Dot30, i32, 1073741824, 1073741824, -1073741825);
 }

@@ -1,6 +1,6 @@
 //! Fixed-point numbers as texts.
 
-use crate::{F2Dot14, F2Dot30, F4Dot12, F6Dot10, F26Dot6, F48Dot16, Fixed, JsonFault, JsonScalar};
+use crate::*;
 use serde_json::{Value, json};
 use std::alloc::Global;
 use std::test::Fail;
@@ -21,8 +21,55 @@ fn misread<T: JsonScalar + Copy + PartialEq>(
     None
 }
 
+// Whether a number is read from none of the texts of 1 with a blank.
+fn refuses_blanks<T: JsonScalar + Drop>(alloc: Global) -> Result<bool, Fail> {
+    for &text in &[" 1", "1 "] {
+        let read = T::from_json(&Value::String(String::from_str(alloc, text)?));
+        if read.err() != Some(JsonFault::Syntax) {
+            return Ok(false);
+        }
+    }
+    Ok(true)
+}
+
 #[test]
-fn texts_of_16_16(rt: HostRuntime) {
+fn texts_of_2_14(rt: HostRuntime) -> Result<(), Fail> {
+    let rows = [
+        (19661, "1.2"),
+        (9830, "0.6"),
+        (-10139, "-0.61884"),
+        (1, "0.00006"),
+        (-1, "-0.00006"),
+        (i16::MIN, "-2"),
+        (i16::MAX, "1.99994"),
+    ]
+    .map(|row| (F2Dot14::from_bits(row.0), row.1));
+    assert_eq!(rt; misread(rt.alloc(), &rows), None);
+    assert!(rt; refuses_blanks::<F2Dot14>(rt.alloc())?);
+    assert!(rt; "1.5".parse() == Ok(F2Dot14::from_bits(24576)));
+    Ok(())
+}
+
+#[test]
+fn texts_of_4_12(rt: HostRuntime) -> Result<(), Fail> {
+    let rows = [(F4Dot12::MIN, "-8"), (F4Dot12::MAX, "7.9998")];
+    assert_eq!(rt; misread(rt.alloc(), &rows), None);
+    assert!(rt; refuses_blanks::<F4Dot12>(rt.alloc())?);
+    assert!(rt; "1.5".parse() == Ok(F4Dot12::from_bits(6144)));
+    Ok(())
+}
+
+#[test]
+fn texts_of_6_10(rt: HostRuntime) -> Result<(), Fail> {
+    let rows = [(F6Dot10::MIN, "-32"), (F6Dot10::MAX, "31.999")];
+    assert_eq!(rt; misread(rt.alloc(), &rows), None);
+    assert!(rt; refuses_blanks::<F6Dot10>(rt.alloc())?);
+    assert!(rt; "1.5".parse() == Ok(F6Dot10::from_bits(1536)));
+    Ok(())
+}
+
+#[test]
+fn texts_of_16_16(rt: HostRuntime) -> Result<(), Fail> {
     let rows = [
         (Fixed::from_bits(34177024), "521.5"),
         (Fixed::MAX, "32767.99998"),
@@ -31,10 +78,13 @@ fn texts_of_16_16(rt: HostRuntime) {
         (Fixed::EPSILON, "0.00002"),
     ];
     assert_eq!(rt; misread(rt.alloc(), &rows), None);
+    assert!(rt; refuses_blanks::<Fixed>(rt.alloc())?);
+    assert!(rt; "1.5".parse() == Ok(Fixed::from_bits(98304)));
+    Ok(())
 }
 
 #[test]
-fn texts_of_26_6(rt: HostRuntime) {
+fn texts_of_26_6(rt: HostRuntime) -> Result<(), Fail> {
     let rows = [
         (-64070, "-1001.1"),
         (1, "0.02"),
@@ -48,39 +98,26 @@ fn texts_of_26_6(rt: HostRuntime) {
     ]
     .map(|row| (F26Dot6::from_bits(row.0), row.1));
     assert_eq!(rt; misread(rt.alloc(), &rows), None);
+    assert!(rt; refuses_blanks::<F26Dot6>(rt.alloc())?);
+    assert!(rt; "1.5".parse() == Ok(F26Dot6::from_bits(96)));
+    Ok(())
 }
 
 #[test]
-fn texts_of_2_14(rt: HostRuntime) {
+fn texts_of_48_16(rt: HostRuntime) -> Result<(), Fail> {
     let rows = [
-        (19661, "1.2"),
-        (9830, "0.6"),
-        (-10139, "-0.61884"),
-        (1, "0.00006"),
-        (-1, "-0.00006"),
-        (i16::MIN, "-2"),
-        (i16::MAX, "1.99994"),
-    ]
-    .map(|row| (F2Dot14::from_bits(row.0), row.1));
-    assert_eq!(rt; misread(rt.alloc(), &rows), None);
-}
-
-#[test]
-fn texts_of_the_ends(rt: HostRuntime) {
-    let wide = [
         (F48Dot16::from_bits(72057594037927936), "1099511627776"),
         (F48Dot16::MIN, "-140737488355328"),
         (F48Dot16::MAX, "140737488355327.99998"),
     ];
-    let narrow = [(F4Dot12::MIN, "-8"), (F4Dot12::MAX, "7.9998")];
-    let narrower = [(F6Dot10::MIN, "-32"), (F6Dot10::MAX, "31.999")];
-    assert_eq!(rt; misread(rt.alloc(), &wide), None);
-    assert_eq!(rt; misread(rt.alloc(), &narrow), None);
-    assert_eq!(rt; misread(rt.alloc(), &narrower), None);
+    assert_eq!(rt; misread(rt.alloc(), &rows), None);
+    assert!(rt; refuses_blanks::<F48Dot16>(rt.alloc())?);
+    assert!(rt; "1.5".parse() == Ok(F48Dot16::from_bits(98304)));
+    Ok(())
 }
 
 #[test]
-fn texts_of_2_30(rt: HostRuntime) {
+fn texts_of_2_30(rt: HostRuntime) -> Result<(), Fail> {
     let rows = [
         (F2Dot30::MIN, "-2"),
         (F2Dot30::MAX, "1.999999999"),
@@ -89,29 +126,8 @@ fn texts_of_2_30(rt: HostRuntime) {
         (F2Dot30::from_bits(0x2666_6666), "0.6"),
     ];
     assert_eq!(rt; misread(rt.alloc(), &rows), None);
-}
-
-// Whether a number is read from none of the texts of 1 with a blank.
-fn refuses_blanks<T: JsonScalar + Drop>(alloc: Global) -> Result<bool, Fail> {
-    for &text in &[" 1", "1 "] {
-        let read = T::from_json(&Value::String(String::from_str(alloc, text)?));
-        if read.err() != Some(JsonFault::Syntax) {
-            return Ok(false);
-        }
-    }
-    Ok(true)
-}
-
-#[test]
-fn texts_with_blanks(rt: HostRuntime) -> Result<(), Fail> {
-    let alloc = rt.alloc();
-    assert!(rt; refuses_blanks::<F2Dot14>(alloc)?, "2.14");
-    assert!(rt; refuses_blanks::<F4Dot12>(alloc)?, "4.12");
-    assert!(rt; refuses_blanks::<F6Dot10>(alloc)?, "6.10");
-    assert!(rt; refuses_blanks::<Fixed>(alloc)?, "16.16");
-    assert!(rt; refuses_blanks::<F26Dot6>(alloc)?, "26.6");
-    assert!(rt; refuses_blanks::<F48Dot16>(alloc)?, "48.16");
-    assert!(rt; refuses_blanks::<F2Dot30>(alloc)?, "2.30");
+    assert!(rt; refuses_blanks::<F2Dot30>(rt.alloc())?);
+    assert!(rt; "1.5".parse() == Ok(F2Dot30::from_bits(1610612736)));
     Ok(())
 }
 

@@ -2,10 +2,7 @@
 //! one allocation of a run is refused: that answer is the fault, and the next one is the usual
 //! form.
 
-use crate::{
-    F2Dot14, F2Dot30, F4Dot12, F6Dot10, F26Dot6, F48Dot16, Fixed, JsonFault, JsonScalar,
-    MajorMinor, Tag,
-};
+use crate::*;
 use std::alloc::Global;
 
 // Whether the form is this text.

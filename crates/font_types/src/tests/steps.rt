@@ -2,7 +2,7 @@
 //! ten and their halves: printed and read back, and the half steps above them read as they should
 //! be.
 
-use crate::{DecimalFault, F2Dot14, F2Dot30, F4Dot12, F6Dot10};
+use crate::*;
 use std::alloc::{AllocError, Global};
 use std::fmt::Display;
 use std::str::FromStr;
