@@ -1,4 +1,4 @@
-//! The fixed-point numbers 4.12, 6.10 and 2.30.
+//! The fixed-point numbers that `font_fixed` has not.
 //!
 //! ```text
 //! F4Dot12::from_decimal("7.9998")       // Ok(F4Dot12::MAX)
