@@ -74,7 +74,8 @@ macro_rules! of_fixed_point_types {
                 let mut bits = KEPT.into();
                 let status = unsafe { from_decimal(text.as_ptr(), text.len(), &mut bits) };
                 let text = str::from_utf8(text).unwrap_or("no decimal");
-                let (wanted, number) = status_and_bits($Type::from_decimal(text), |x| x.to_bits().into());
+                let read = $Type::from_decimal(text);
+                let (wanted, number) = status_and_bits(read, |x| x.to_bits().into());
                 let kept = number.unwrap_or(KEPT.into());
                 agree!((status, i64::from(bits)), (wanted, kept), "{text}");
             }
