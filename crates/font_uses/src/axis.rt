@@ -61,7 +61,9 @@ pub fn span_between(a: Fixed, b: Fixed) -> Fixed
 /// The coordinate as far below 0 as this one is above it.
 pub fn opposite(coordinate: Fixed) -> Fixed
     requires { pos 0 ≤ℤ fixed_bits coordinate }
-    ensures { fixed_bits result ≡ neg_ℤ (fixed_bits coordinate) }
+    ensures value { fixed_bits result ≡ neg_ℤ (fixed_bits coordinate) }
+    ensures one { fixed_bits coordinate ≡ fixed_bits Fixed.ONE
+        → fixed_bits result ≡ fixed_bits Fixed.NEG_ONE }
 {
     -coordinate
 }

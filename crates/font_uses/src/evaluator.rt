@@ -56,6 +56,8 @@ pub fn ratio(part: Fixed, whole: Fixed) -> Fixed
     ensures high { fixed_bits result ≤ℤ fixed_bits Fixed.ONE }
     ensures none { part ≡ Fixed.ZERO → result ≡ Fixed.ZERO }
     ensures all { part ≡ whole → result ≡ Fixed.ONE }
+    ensures full { fixed_bits part ≡ fixed_bits whole
+        → fixed_bits result ≡ fixed_bits Fixed.ONE }
 {
     part / whole
 }

@@ -4,8 +4,10 @@
 
 pub mod axis;
 pub mod component;
+pub mod design;
 pub mod dumper;
 pub mod evaluator;
+pub mod flags;
 pub mod header;
 pub mod linter;
 pub mod metrics;

@@ -134,6 +134,8 @@ pub fn value_at<T: Scalar>(bytes: &[u8], offset: usize) -> Option<T>
     ensures end { IsSome result ↔ (offset + T.RAW_BYTE_LEN ≤ length bytes.now) }
     ensures value { IfSome result (λ v.
         IsValueOf T.Raw.bytes T.of_raw (take T.RAW_BYTE_LEN (drop offset bytes.now)) v) }
+    ensures stored { IfSome result (λ v.
+        T.Raw.bytes (T.raw_of v) ≡ take T.RAW_BYTE_LEN (drop offset bytes.now)) }
 {
     let (_, rest) = bytes.split_at_checked(offset)?;
     let (front, _) = rest.split_at_checked(T::RAW_BYTE_LEN)?;

@@ -2,8 +2,10 @@
 
 mod axis;
 mod component;
+mod design;
 mod dumper;
 mod evaluator;
+mod flags;
 mod header;
 mod linter;
 mod metrics;
