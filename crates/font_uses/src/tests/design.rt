@@ -3,18 +3,13 @@
 use crate::design::{DesignAxis, keep_each, normalized};
 use font_types::Fixed;
 
-/// The bits of the coordinate of a whole value, on an axis of whole values.
-fn coordinate(value: i32, [least, default, greatest]: [i32; 3]) -> i32 {
-    let axis = DesignAxis {
-        least: Fixed::from_i32(least),
-        default: Fixed::from_i32(default),
-        greatest: Fixed::from_i32(greatest),
-    };
-    normalized(Fixed::from_i32(value), axis).to_bits()
-}
-
 #[test]
 fn normalized_on_both_sides(rt: HostRuntime) {
+    let axis = DesignAxis {
+        least: Fixed::from_bits(100 * 0x1_0000),
+        default: Fixed::from_bits(400 * 0x1_0000),
+        greatest: Fixed::from_bits(900 * 0x1_0000),
+    };
     for &(value, bits) in &[
         (400, 0),
         (401, 131),
@@ -26,9 +21,27 @@ fn normalized_on_both_sides(rt: HostRuntime) {
         (901, 0x1_0000),
         (99, -0x1_0000),
     ] {
-        assert!(rt; coordinate(value, [100, 400, 900]) == bits, "{value}");
+        let coordinate = normalized(Fixed::from_i32(value), axis);
+        assert!(rt; coordinate == Fixed::from_bits(bits), "{value}");
     }
-    assert!(rt; coordinate(500, [100, 400, 400]) == 0 && coordinate(0, [400, 400, 900]) == 0);
+}
+
+// On a side that an axis has not, all values have the coordinate of the default.
+#[test]
+fn normalized_on_one_side(rt: HostRuntime) {
+    let (low, high) = (Fixed::from_bits(0x64_0000), Fixed::from_bits(0x190_0000));
+    let downward = DesignAxis {
+        least: low,
+        default: high,
+        greatest: high,
+    };
+    assert!(rt; normalized(Fixed::MAX, downward) == Fixed::ZERO);
+    let upward = DesignAxis {
+        least: low,
+        default: low,
+        greatest: high,
+    };
+    assert!(rt; normalized(Fixed::MIN, upward) == Fixed::ZERO);
 }
 
 #[test]
