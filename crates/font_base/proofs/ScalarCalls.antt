@@ -79,43 +79,55 @@ module _ {V : Type 0} (is_scalar : V → Bool) (stored : V → List ℕ) (answer
         (nat_cmp_rises (number_of v) (number_of w) key (sorted i j v w from within is_v is_w));
   }
 
--- the same of unsigned numbers of so many bytes, by their numerals
-module _ (size n key : ℕ) (at : ℕ → List ℕ) where
-  abbrev is_number : ℕ → Bool
-  is_number m = nat_lt m (256 ^ size)
+-- the same of unsigned numbers of so many bytes, and of what is one, by their numerals
+module _ {V : Type 0} (number_of : V → ℕ) (size n key : ℕ) (at : ℕ → List ℕ) where
+  abbrev is_number : V → Bool
+  is_number v = nat_lt (number_of v) (256 ^ size)
 
-  abbrev number_bytes : ℕ → List ℕ
-  number_bytes m = bytes_of size (pos m)
+  abbrev number_bytes : V → List ℕ
+  number_bytes v = bytes_of size (pos (number_of v))
 
-  numeral_stored : (i m : ℕ) → IsStored is_number number_bytes (at i) m → m ≡ numeral (at i)
-  numeral_stored i m is = sym (unsigned_back size m is.is_value) ∙ ap numeral is.bytes_are
+  numeral_stored : (i : ℕ) (v : V) → IsStored is_number number_bytes (at i) v → number_of v ≡ numeral (at i)
+  numeral_stored i v is = sym (unsigned_back size (number_of v) is.is_value) ∙ ap numeral is.bytes_are
 
   pub numerals_rise : ((i j : ℕ) → i ≤ j → j < n → numeral (at i) ≤ numeral (at j))
-      → Rises is_number number_bytes (λ m. nat_cmp m key) at n
-  numerals_rise sorted = rises_by is_number number_bytes (λ m. nat_cmp m key) at n (λ m. m) key (λ m. refl)
+      → Rises is_number number_bytes (λ v. nat_cmp (number_of v) key) at n
+  numerals_rise sorted = rises_by is_number number_bytes (λ v. nat_cmp (number_of v) key) at n number_of key
+      (λ v. refl)
       (λ i j v w from within is_v is_w.
       let less = sorted i j from within in
       omega (arith, less, numeral_stored i v is_v, numeral_stored j w is_w))
 
-  pub number_found : (result : Result ℕ ℕ) → MatchResult result
-      (λ i. (i < n) × StoresOne is_number number_bytes (at i) (λ m. nat_cmp m key ≡ Equal))
-      (λ i. (i ≤ n) × (Rises is_number number_bytes (λ m. nat_cmp m key) at n
-      → Splits is_number number_bytes (λ m. nat_cmp m key) at n i i))
+  abbrev pub IsNumberSearched : Result ℕ ℕ → Type 0
+  IsNumberSearched result = MatchResult result
+      (λ i. (i < n) × StoresOne is_number number_bytes (at i) (λ v. nat_cmp (number_of v) key ≡ Equal))
+      (λ i. (i ≤ n) × (Rises is_number number_bytes (λ v. nat_cmp (number_of v) key) at n
+      → Splits is_number number_bytes (λ v. nat_cmp (number_of v) key) at n i i))
+
+  pub number_found : (result : Result ℕ ℕ) → IsNumberSearched result
       → IfOk result (λ i. (i < n) × (at i ≡ bytes_of size (pos key)))
   number_found (Ok i) found =
-      (found.0, sym found.1.is_stored.bytes_are ∙ ap number_bytes (ranked found.1.value key Equal (sym found.1.holds)))
+      let is = found.1.is_stored.bytes_are in
+      let same = ranked (number_of found.1.value) key Equal (sym found.1.holds) in
+      (found.0, sym is ∙ ap (λ m. bytes_of size (pos m)) same)
   number_found (Err i) found = tt
 
-  pub number_absent : (result : Result ℕ ℕ) → key < 256 ^ size
-      → ((i j : ℕ) → i ≤ j → j < n → numeral (at i) ≤ numeral (at j)) → MatchResult result
-      (λ i. (i < n) × StoresOne is_number number_bytes (at i) (λ m. nat_cmp m key ≡ Equal))
-      (λ i. (i ≤ n) × (Rises is_number number_bytes (λ m. nat_cmp m key) at n
-      → Splits is_number number_bytes (λ m. nat_cmp m key) at n i i))
+  -- the same said by the numeral of the bytes
+  pub numeral_found : (result : Result ℕ ℕ) → IsNumberSearched result
+      → IfOk result (λ i. (i < n) × (numeral (at i) ≡ key))
+  numeral_found (Ok i) found =
+      let same = ranked (number_of found.1.value) key Equal (sym found.1.holds) in
+      (found.0, sym (numeral_stored i found.1.value found.1.is_stored) ∙ same)
+  numeral_found (Err i) found = tt
+
+  pub number_absent : (v : V) (result : Result ℕ ℕ) → number_of v ≡ key → key < 256 ^ size
+      → ((i j : ℕ) → i ≤ j → j < n → numeral (at i) ≤ numeral (at j)) → IsNumberSearched result
       → IfErr result (λ _. (k : ℕ) → k < n → at k ≢ bytes_of size (pos key))
-  number_absent (Ok i) below sorted found = tt
-  number_absent (Err i) below sorted found = λ k within same.
-      nowhere is_number number_bytes (λ m. nat_cmp m key) at n i k key (numerals_rise sorted) found.1 within
-      (record { bytes_are = sym same; is_value = search (rules, below) }) (sym (nat_cmp_is key key Equal refl))
+  number_absent v (Ok i) has below sorted found = tt
+  number_absent v (Err i) has below sorted found = λ k within same.
+      nowhere is_number number_bytes (λ v. nat_cmp (number_of v) key) at n i k v (numerals_rise sorted) found.1 within
+      (record { bytes_are = ap (λ m. bytes_of size (pos m)) has ∙ sym same; is_value = rw has (search (rules, below)) })
+      (sym (nat_cmp_is (number_of v) key Equal has))
 
 -- a search in an array of 16-bit numbers, seen in the form that the goals of its callers have
 module _ (bytes : List ℕ) (n key : ℕ) (result : Result ℕ ℕ) where
@@ -128,11 +140,14 @@ module _ (bytes : List ℕ) (n key : ℕ) (result : Result ℕ ℕ) where
       → Splits (λ (m : ℕ). nat_lt m (2 ^ 16)) (λ m. bytes_of 2 (pos m)) (λ m. nat_cmp m key) (element 2 bytes) n i i))
 
   pub word_found : IsSearchedWord → IfOk result (λ i. (i < n) × (element 2 bytes i ≡ bytes_of 2 (pos key)))
-  word_found = number_found 2 n key (element 2 bytes) result
+  word_found = number_found (λ m. m) 2 n key (element 2 bytes) result
+
+  pub word_numeral : IsSearchedWord → IfOk result (λ i. (i < n) × (numeral (element 2 bytes i) ≡ key))
+  word_numeral = numeral_found (λ m. m) 2 n key (element 2 bytes) result
 
   pub word_absent : key < 65536
       → ((i j : ℕ) → i ≤ j → j < n → numeral (element 2 bytes i) ≤ numeral (element 2 bytes j))
       → IsSearchedWord → IfErr result (λ _. (k : ℕ) → k < n → element 2 bytes k ≢ bytes_of 2 (pos key))
-  word_absent = number_absent 2 n key (element 2 bytes) result
+  word_absent = number_absent (λ m. m) 2 n key (element 2 bytes) key result refl
 
-pub ruleset array_calls = (word_found, word_absent)
+pub ruleset array_calls = (word_found, word_numeral, word_absent)

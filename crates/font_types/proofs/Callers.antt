@@ -1,5 +1,5 @@
 -- What callers of this crate cite of all below it: rulesets that `using(..)` names, and lemmas for answers.
-pub use Rattle.font_base.proofs.ScalarCalls.{scalar_calls, absent, array_calls, nowhere, rises_by}
+pub use Rattle.font_base.proofs.ScalarCalls.{scalar_calls, absent, nowhere, rises_by}
 pub use Rattle.font_base.proofs.Moved.{bytes_moved}
 pub use Rattle.font_base.specs.Wrap.Laws.{wrap_is, wrap_unique, wrap-fits}
 pub use Rattle.font_base.specs.Bytes.Laws.{bytes_of_is, bytes_of_are, bytes_unique, bytes_of-same, numeral_below}
@@ -24,9 +24,13 @@ pub use Rattle.font_geom.proofs.FixedCalls.{product_value, image_value}
 pub use Rattle.font_geom.proofs.Bounds.{bound_calls, fits_composed, fits_in_turn}
 pub use Rattle.font_geom.proofs.RingCalls
 pub use Rattle.font_geom.proofs.RingMatrices
+pub use Rattle.font_types.proofs.ArrayCalls.{array_calls}
+pub use Rattle.font_types.proofs.Listed.{listed_calls}
+pub use Rattle.font_types.proofs.Flags.{mask_calls}
 pub use Rattle.font_types.proofs.SumCalls.{sum_calls, sum_calls_from, sum_calls_16, delta_sum_calls, running_total}
 pub use Rattle.font_types.proofs.SumCalls.{running_total_from}
-pub use Rattle.font_types.proofs.Compared.{stored_calls, found_by_number}
+pub use Rattle.font_types.proofs.Compared.{stored_calls, written_calls, found_by_number}
+pub use Rattle.font_types.proofs.ShortProducts.{product_calls_16}
 pub use Rattle.font_types.specs.Json.Laws.{fixed_form, signed_form, unsigned_form, tag_form, version_form_of}
 
 -- `narrow_calls`, and that -1 is -1

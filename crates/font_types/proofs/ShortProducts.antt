@@ -1,0 +1,40 @@
+-- Products of two numbers of 16 bits: how large they are, so that sums and differences of them fit too.
+use Rattle.std.proofs.Common.{◌≡◌, ℕ, ◌*◌, ◌≤◌, ◌^◌, ℤ, pos, neg_ℤ, ◌*ℤ◌, ◌≤ℤ◌, arith, w16, w32, w64, SFits, to_z, of_z}
+use Rattle.std.proofs.Common.{unsigned_abs}
+use Rattle.std.proofs.Math.Nat.{mul-le-mul}
+use Rattle.std.proofs.lemmas.Int.{ints, to_z-of_z, unsigned_abs-mul}
+
+short : (a : ℤ) → SFits w16 a → unsigned_abs a ≤ 2 ^ 15
+short a fits = omega (arith, ints, fits)
+
+size : (a b : ℤ) → SFits w16 a → SFits w16 b → unsigned_abs (a *ℤ b) ≤ 2 ^ 30
+size a b fits_a fits_b =
+    let low : unsigned_abs a ≤ 2 ^ 15 = short a fits_a in
+    let high : unsigned_abs b ≤ 2 ^ 15 = short b fits_b in
+    omega (
+      arith,
+      unsigned_abs-mul a b,
+      mul-le-mul {n₁ = unsigned_abs a} {m₁ = unsigned_abs b} {n₂ = 2 ^ 15}
+          {m₂ = 2 ^ 15} low high,
+    )
+
+module _ (a b : ℤ) (fits_a : SFits w16 a) (fits_b : SFits w16 b) where
+  pub short_product_low : neg_ℤ (pos (2 ^ 30)) ≤ℤ (a *ℤ b)
+  short_product_low = omega (arith, ints, size a b fits_a fits_b)
+
+  pub short_product_high : (a *ℤ b) ≤ℤ pos (2 ^ 30)
+  short_product_high = omega (arith, ints, size a b fits_a fits_b)
+
+  pub short_product_fits_32 : SFits w32 (a *ℤ b)
+  short_product_fits_32 = omega (arith, ints, size a b fits_a fits_b)
+
+  pub short_product_fits_64 : SFits w64 (a *ℤ b)
+  short_product_fits_64 = omega (arith, ints, size a b fits_a fits_b)
+
+pub ruleset product_calls_16 = (
+  to_z-of_z,
+  short_product_low,
+  short_product_high,
+  short_product_fits_32,
+  short_product_fits_64,
+)
