@@ -1,12 +1,11 @@
 -- A list of settings, as `wght=400,wdth=87.5`: this example's own form.
-use Rattle.std.specs.Prelude.{◌≡◌, ℕ, ◌<◌, ◌==◌, List, [], length, Result, Ok, Err, slice_index_or}
+use Rattle.std.specs.Prelude.{◌≡◌, ℕ, ◌<◌, ◌==◌, List, length, Result, Ok, Err}
 use Rattle.std.specs.List.{position_or_len, before_first, after_first}
 use Rattle.std.specs.Int.{w32}
 use Rattle.font_types.specs.NumberReading.{ReadsBy}
 use Rattle.font_types.specs.Fixed.{fixed_bits}
 use Rattle.font_types.specs.Tag.{IsChecked, IsAcceptable}
 use Rattle.font_uses.specs.declared.settings.Setting.{Setting}
-use Rattle.font_uses.specs.declared.settings.Refused.{Refused}
 use Rattle.font_uses.specs.declared.settings.BadSetting.{BadSetting}
 use Rattle.font_uses.specs.declared.settings.BadSetting.TheVariants.{NoValue, NoTag, NoNumber}
 
@@ -38,21 +37,3 @@ IsSettingRead text (Err NoValue) = equals_place text ≡ length text
 IsSettingRead text (Err (NoTag fault)) = (equals_place text < length text) × IsChecked (axis_part text) (Err fault)
 IsSettingRead text (Err (NoNumber fault)) = (equals_place text < length text) × IsAcceptable (axis_part text)
     × ReadsBy w32 16 fixed_bits (value_part text) (Err fault)
-
--- the first texts are read as these settings, one after the other
-pub record AreRead (texts : List (List ℕ)) (settings : List Setting) : Type 0 where
-  pub each : (k : ℕ) (d : Setting) → k < length settings
-      → IsSetting (slice_index_or texts k []) (slice_index_or settings k d)
-
--- all texts are
-pub record AreAllRead (texts : List (List ℕ)) (settings : List Setting) : Type 0 where
-  pub count : length settings ≡ length texts
-  pub each : AreRead texts settings
-
--- the texts before that place are read, and the one there is not, for that reason
-pub record IsFirstRefused (texts : List (List ℕ)) (refused : Refused) : Type 0 where
-  pub settings : List Setting
-  pub within : refused.place < length texts
-  pub reached : length settings ≡ refused.place
-  pub before : AreRead texts settings
-  pub there : IsSettingRead (slice_index_or texts refused.place []) (Err refused.fault)

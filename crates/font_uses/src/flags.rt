@@ -1,7 +1,8 @@
 //! Flags of the points of an outline.
 
-ghost use Rattle.std.specs.Prelude.{◌≡◌, sum_by};
-ghost use Rattle.font_uses.specs.Flags.{x_width};
+ghost use Rattle.std.specs.Prelude.{◌≡◌, ◌↔◌, IsTrue, count_by, sum_by};
+ghost use Rattle.font_types.specs.Flags.{HasEach};
+ghost use Rattle.font_uses.specs.Flags.{x_width, is_on_curve};
 
 /// How many bytes the x of a point takes, by its flag.
 pub fn x_len(flag: u8) -> usize
@@ -16,6 +17,14 @@ pub fn x_len(flag: u8) -> usize
     }
 }
 
+/// Whether the flags have each bit of a mask.
+#[tactic(auto, using(font_types::proofs::Callers::mask_calls))]
+pub fn has_all(flags: u16, mask: u16) -> bool
+    ensures { IsTrue result ↔ HasEach flags mask }
+{
+    flags & mask == mask
+}
+
 /// How many bytes the xs of all points take.
 pub fn all_x_len(flags: &[u8]) -> usize
     ensures { result ≡ sum_by x_width flags.now }
@@ -25,4 +34,17 @@ pub fn all_x_len(flags: &[u8]) -> usize
         len += x_len(*flag);
     }
     len
+}
+
+/// How many points lie on the curve, by their flags.
+pub fn on_curve_count(flags: &[u8]) -> usize
+    ensures { result ≡ count_by is_on_curve flags.now }
+{
+    let mut count = 0;
+    for flag in flags {
+        if flag & 0x01 != 0 {
+            count += 1;
+        }
+    }
+    count
 }

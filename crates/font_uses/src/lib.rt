@@ -8,6 +8,7 @@ pub mod design;
 pub mod dumper;
 pub mod evaluator;
 pub mod flags;
+pub mod glyphs;
 pub mod header;
 pub mod linter;
 pub mod metrics;

@@ -1,7 +1,7 @@
 //! A reader of metrics: rows of an advance and a bearing, and behind them a tail of bearings alone.
 
 ghost use Rattle.std.specs.Prelude.{◌≡◌, ◌<◌, ◌≤◌, ◌+◌, ◌*◌, ◌/◌, ◌%◌, ◌^◌, ◌↔◌};
-ghost use Rattle.std.specs.Prelude.{pos, ◌+ℤ◌, ◌-ℤ◌};
+ghost use Rattle.std.specs.Prelude.{pos, ◌+ℤ◌, ◌-ℤ◌, sum};
 ghost use Rattle.std.specs.Prelude.{nat_lt, ◌&&◌, ◌++◌, IsSome, IfSome, length, take, drop, refl};
 ghost use Rattle.std.proofs.Common.{lit<};
 ghost use Rattle.font_types.specs.Bytes.{numeral, signed_numeral, bytes_of};
@@ -77,6 +77,26 @@ pub fn line_height(ascender: FWord, descender: FWord, gap: FWord) -> i32
         ≡ ((fword_number ascender -ℤ fword_number descender) +ℤ fword_number gap) }
 {
     i32::from(ascender.to_i16()) - i32::from(descender.to_i16()) + i32::from(gap.to_i16())
+}
+
+/// How many deltas a table has that holds so many for each of so many regions.
+pub fn cells(rows: u16, columns: u16) -> u32
+    ensures { result ≡ rows * columns }
+{
+    u32::from(rows) * u32::from(columns)
+}
+
+/// How long tables are together, or `None` where 32 bits do not hold that.
+#[tactic(auto, using(std::proofs::lemmas::List::Sums::sum_by_more_le))]
+pub fn total_len(lengths: &[u32]) -> Option<u32>
+    ensures end { IsSome result ↔ (sum lengths.now < 2 ^ 32) }
+    ensures value { IfSome result (λ total. total ≡ sum lengths.now) }
+{
+    let mut total = 0u32;
+    for length in lengths {
+        total = total.checked_add(*length)?;
+    }
+    Some(total)
 }
 
 // ---- rows as records

@@ -1,7 +1,7 @@
 //! A walk over an outline whose points stand as deltas.
 #![tactic(auto, using(font_types::proofs::Callers::sum_calls))]
 
-ghost use Rattle.std.specs.Prelude.{◌≡◌, ◌↔◌, ◌+ℤ◌, ◌≤ℤ◌, IsTrue, fold};
+ghost use Rattle.std.specs.Prelude.{◌≡◌, ◌↔◌, ◌^◌, pos, neg_ℤ, ◌+ℤ◌, ◌-ℤ◌, ◌*ℤ◌, ◌≤ℤ◌, IsTrue, fold};
 ghost use Rattle.std.specs.Int.{int_min, int_max};
 ghost use Rattle.font_types.specs.Wrap.{wrap};
 ghost use Rattle.font_types.specs.Fixed.{fixed_bits};
@@ -109,6 +109,24 @@ pub fn is_within(area: &BoundingBox<i16>, point: Point<i16>) -> bool
         × (area.now.y_min ≤ℤ point.y) × (point.y ≤ℤ area.now.y_max)) }
 {
     area.x_min <= point.x && point.x <= area.x_max && area.y_min <= point.y && point.y <= area.y_max
+}
+
+/// Twice the area that two steps span, above 0 where the second turns left of the first.
+#[tactic(auto, using(std::proofs::lemmas::Int::wraps))]
+pub fn turn(first: Point<i16>, second: Point<i16>) -> i64
+    ensures { result ≡ ((first.x *ℤ second.y) -ℤ (first.y *ℤ second.x)) }
+{
+    product(first.x, second.y) - product(first.y, second.x)
+}
+
+// A product of two coordinates, and how large it is.
+#[tactic(auto, using(font_types::proofs::Callers::product_calls_16))]
+fn product(a: i16, b: i16) -> i64
+    ensures value { result ≡ (a *ℤ b) }
+    ensures low { neg_ℤ (pos (2 ^ 30)) ≤ℤ result }
+    ensures high { result ≤ℤ pos (2 ^ 30) }
+{
+    i64::from(a) * i64::from(b)
 }
 
 // The least x of all.

@@ -17,7 +17,7 @@ ghost use Rattle.font_types.specs.Fixed.{fixed_bits};
 ghost use Rattle.font_types.specs.GlyphId.{glyph16_number};
 ghost use Rattle.font_types.specs.Tag.{tag_bytes};
 ghost use Rattle.font_types.specs.Uint24.{uint24_number};
-ghost use Rattle.font_uses.specs.Reader.{AreValuesOf};
+ghost use Rattle.font_uses.specs.Reader.{AreValuesOf, IsClassOf};
 
 use font_types::{
     BigEndian, Fixed, FixedSize, GlyphId16, IdentityEq, Scalar, ScalarArray, Tag, Uint24,
@@ -193,7 +193,8 @@ pub struct Classed {
 /// it has none.
 pub fn place_of_glyph(records: &[Classed], glyph: GlyphId16) -> Option<usize>
     requires { IsSortedByKey (λ entry. glyph16_number entry.glyph) nat_cmp records.now }
-    ensures { MatchOption result
+    ensures within { IfSome result (λ place. place < length records.now) }
+    ensures found { MatchOption result
         (All (λ entry. glyph16_number entry.glyph ≢ glyph16_number glyph) records.now)
         (λ place. HoldsAt (λ entry. glyph16_number entry.glyph ≡ glyph16_number glyph)
         records.now place) }
@@ -201,6 +202,27 @@ pub fn place_of_glyph(records: &[Classed], glyph: GlyphId16) -> Option<usize>
     records
         .binary_search_by_key(&glyph, |entry| entry.glyph)
         .ok()
+}
+
+/// The class of a glyph by records in the order of their glyphs, or `None` where it has none.
+pub fn class_of(records: &[Classed], glyph: GlyphId16) -> Option<u16>
+    requires { IsSortedByKey (λ entry. glyph16_number entry.glyph) nat_cmp records.now }
+    ensures { MatchOption result
+        (All (λ entry. glyph16_number entry.glyph ≢ glyph16_number glyph) records.now)
+        (λ class. IsClassOf (glyph16_number glyph) class records.now) }
+{
+    Some(records[place_of_glyph(records, glyph)?].class)
+}
+
+/// The four bytes of a record: the glyph, and behind it the class.
+#[tactic(auto, using(font_types::proofs::Callers::written_calls))]
+pub fn record_bytes(entry: Classed) -> [u8; 4]
+    ensures glyph { numeral (take 2 result) ≡ glyph16_number entry.glyph }
+    ensures class { numeral (drop 2 result) ≡ entry.class }
+{
+    let [a, b] = entry.glyph.to_be_bytes();
+    let [c, d] = entry.class.to_raw();
+    [a, b, c, d]
 }
 
 // ---- arrays that stand in bytes
@@ -238,6 +260,19 @@ pub fn index_of(glyphs: &ScalarArray<'_, u16>, glyph: u16) -> Option<usize>
         → element_bytes glyphs.now k ≢ bytes_of 2 (pos glyph)) }
 {
     place_of(glyphs, glyph).ok()
+}
+
+/// Where a glyph stands in an array of ids: the same, and the number of the id that is found.
+#[tactic(auto, using(font_types::proofs::Callers::array_calls))]
+pub fn coverage_index(glyphs: &ScalarArray<'_, GlyphId16>, glyph: GlyphId16) -> Result<usize, usize>
+    ensures found { IfOk result (λ i. (i < array_len glyphs.now)
+        × (numeral (element_bytes glyphs.now i) ≡ glyph16_number glyph)) }
+    ensures absent { ((i j : ℕ) → i ≤ j → j < array_len glyphs.now
+        → numeral (element_bytes glyphs.now i) ≤ numeral (element_bytes glyphs.now j))
+        → IfErr result (λ _. (k : ℕ) → k < array_len glyphs.now
+        → element_bytes glyphs.now k ≢ bytes_of 2 (pos (glyph16_number glyph))) }
+{
+    glyphs.binary_search(&glyph)
 }
 
 // ---- a scalar of one's own

@@ -1,14 +1,18 @@
 //! A report in columns of one width, which no number is too wide for.
 
 ghost use Rattle.std.specs.Prelude.{◌≡◌, ◌<◌, ◌++◌, IfOk, IfErr, string_bytes};
+ghost use Rattle.std.specs.List.{flat_map};
+ghost use lib.Chars.{codes};
 ghost use Rattle.serde_json.specs.View.{view};
 ghost use Rattle.font_types.specs.Tag.{tag_bytes, IsGood};
 ghost use Rattle.font_types.specs.Fixed.{fixed_bits, fixed_text};
 ghost use Rattle.font_types.specs.Padding.{padded_text};
 ghost use Rattle.font_types.specs.Shortest.{IsShortest};
 ghost use Rattle.font_types.specs.Version.{version_text};
+ghost use Rattle.font_types.specs.GlyphId.{glyph16_number};
+ghost use Rattle.font_uses.specs.Report.{line_of, five_digits};
 
-use font_types::{Fixed, JsonFault, JsonScalar, Pad, Tag};
+use font_types::{Fixed, GlyphId16, JsonFault, JsonScalar, Pad, Tag};
 use serde_json::Value;
 use std::alloc::{AllocError, Global};
 
@@ -65,4 +69,26 @@ pub fn axis_value(axis: Tag, alloc: Global) -> Result<Value, JsonFault>
     ensures refused { IfErr result (λ fault. fault ≡ JsonFault.Memory) }
 {
     axis.to_json(alloc)
+}
+
+/// The names, each on a line of its own.
+pub fn lines_of(names: &[&str], alloc: Global) -> Result<String, AllocError>
+    ensures { IfOk result (λ text.
+        string_bytes text ≡ flat_map (λ name. line_of name.now) names.now) }
+{
+    let mut lines = String::new(alloc);
+    for name in names {
+        lines.push_str(name)?;
+        lines.push('\n')?;
+    }
+    Ok(lines)
+}
+
+/// The name of a glyph that has none of its own, as `glyph00036`.
+pub fn glyph_name(glyph: GlyphId16, alloc: Global) -> Result<String, AllocError>
+    ensures { IfOk result (λ text.
+        string_bytes text ≡ codes "glyph" ++ five_digits (glyph16_number glyph)) }
+{
+    let number = glyph.to_u16();
+    format!(in alloc; "glyph{number:05}")
 }

@@ -2,13 +2,8 @@
 
 ghost use Rattle.std.specs.Prelude.{◌≡◌, ◌==◌, IfOk, MatchOption, MatchResult, length, map};
 ghost use Rattle.std.specs.List.{slice_split};
-ghost use Rattle.font_uses.specs.Settings.{
-  equals_place,
-  ArePartsOf,
-  IsSettingRead,
-  AreAllRead,
-  IsFirstRefused,
-};
+ghost use Rattle.font_types.specs.Listed.{AreRead, IsFirstRefused};
+ghost use Rattle.font_uses.specs.Settings.{equals_place, ArePartsOf, IsSettingRead};
 
 use font_types::{DecimalFault, Fixed, InvalidTag, Tag};
 use std::alloc::{AllocError, Global};
@@ -62,11 +57,12 @@ pub fn read_setting(text: &str) -> Result<Setting, BadSetting>
 }
 
 /// Reads each of the texts, up to the first that is no setting.
-#[tactic(auto, using(crate::proofs::Listed::read_in_turn))]
+#[tactic(auto, using(font_types::proofs::Callers::listed_calls))]
 pub fn read_each(texts: &[&str], alloc: Global) -> Result<Result<Vec<Setting>, Refused>, AllocError>
     ensures { IfOk result (λ read. MatchResult read
-        (λ settings. AreAllRead (map (λ text. text.now) texts.now) settings.items)
-        (λ refused. IsFirstRefused (map (λ text. text.now) texts.now) refused)) }
+        (λ settings. AreRead IsSettingRead (map (λ text. text.now) texts.now) settings.items)
+        (λ refused. IsFirstRefused IsSettingRead (map (λ text. text.now) texts.now)
+        refused.place refused.fault)) }
 {
     let mut settings = Vec::new(alloc);
     for (place, text) in texts.iter().enumerate() {
@@ -89,8 +85,10 @@ pub fn pieces(list: &str, alloc: Global) -> Result<Vec<&str>, AllocError>
 /// Reads a list of settings, with a comma between any two.
 pub fn read_settings(list: &str, alloc: Global) -> Result<Result<Vec<Setting>, Refused>, AllocError>
     ensures { IfOk result (λ read. MatchResult read
-        (λ settings. AreAllRead (slice_split (λ byte. byte == 0x2C) list.now) settings.items)
-        (λ refused. IsFirstRefused (slice_split (λ byte. byte == 0x2C) list.now) refused)) }
+        (λ settings. AreRead IsSettingRead (slice_split (λ byte. byte == 0x2C) list.now)
+        settings.items)
+        (λ refused. IsFirstRefused IsSettingRead (slice_split (λ byte. byte == 0x2C) list.now)
+        refused.place refused.fault)) }
 {
     let texts = pieces(list, alloc)?;
     read_each(&texts, alloc)

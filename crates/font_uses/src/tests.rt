@@ -6,6 +6,7 @@ mod design;
 mod dumper;
 mod evaluator;
 mod flags;
+mod glyphs;
 mod header;
 mod linter;
 mod metrics;

@@ -1,6 +1,6 @@
 //! Flags of points.
 
-use crate::flags::{all_x_len, x_len};
+use crate::flags::{all_x_len, has_all, on_curve_count, x_len};
 
 #[test]
 fn bytes_of_an_x(rt: HostRuntime) {
@@ -15,4 +15,19 @@ fn bytes_of_an_x(rt: HostRuntime) {
         assert!(rt; x_len(flag) == len, "{flag}");
     }
     assert!(rt; all_x_len(&[0x02, 0x10, 0x00, 0x12]) == 4 && all_x_len(&[]) == 0);
+    assert!(rt; on_curve_count(&[0x01, 0x02, 0xFF, 0xFE]) == 2 && on_curve_count(&[]) == 0);
+}
+
+#[test]
+fn flags_of_a_mask(rt: HostRuntime) {
+    for &(flags, mask, all) in &[
+        (0x8001, 0x8001, true),
+        (0x8001, 0x8000, true),
+        (0x8001, 0, true),
+        (0x8001, 0x8003, false),
+        (0, 1, false),
+        (0x7FFF, 0x8000, false),
+    ] {
+        assert!(rt; has_all(flags, mask) == all, "{flags:x} and {mask:x}");
+    }
 }

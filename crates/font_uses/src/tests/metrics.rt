@@ -1,6 +1,8 @@
 //! Metrics with a tail.
 
-use crate::metrics::{advance, bearing, in_16_16, line_height, row, whole_again, wide_again};
+use crate::metrics::{
+    advance, bearing, cells, in_16_16, line_height, row, total_len, whole_again, wide_again,
+};
 use font_types::{FWord, Fixed, GlyphId16, Scalar, UfWord};
 
 #[test]
@@ -47,4 +49,18 @@ fn widened(rt: HostRuntime) {
     let least = FWord::new(i16::MIN);
     assert!(rt; line_height(FWord::new(i16::MAX), least, FWord::new(90)) == 65625);
     assert!(rt; line_height(least, FWord::new(i16::MAX), least) == -98303);
+}
+
+#[test]
+fn lengths_together(rt: HostRuntime) {
+    for &(lengths, total) in &[
+        (&[] as &[u32], Some(0)),
+        (&[1, 2, 3], Some(6)),
+        (&[u32::MAX, 0], Some(u32::MAX)),
+        (&[u32::MAX, 1], None),
+        (&[1, u32::MAX, 5], None),
+    ] {
+        assert!(rt; total_len(lengths) == total, "{lengths:?}");
+    }
+    assert!(rt; cells(0xFFFF, 0xFFFF) == 0xFFFE_0001 && cells(3, 0) == 0);
 }

@@ -1,7 +1,7 @@
 //! A walk over an outline.
 
 use crate::outline::{
-    Placed, bounds_of, is_within, pen, pen_from, raised, rise, there_and_back, width,
+    Placed, bounds_of, is_within, pen, pen_from, raised, rise, there_and_back, turn, width,
 };
 use font_types::{BoundingBox, Fixed, Point};
 
@@ -26,6 +26,15 @@ fn walked(rt: HostRuntime) {
         );
     }
     assert!(rt; raised(i16::MAX, 1) == i16::MIN);
+    for &(a, b, area) in &[
+        ((3, 0), (0, 5), 15),
+        ((0, 5), (3, 0), -15),
+        ((2, 4), (1, 2), 0),
+        ((i16::MIN, i16::MAX), (i16::MIN, i16::MIN), 2_147_450_880),
+    ] {
+        let area_of = turn(Point::new(a.0, a.1), Point::new(b.0, b.1));
+        assert!(rt; area_of == area, "{area}");
+    }
 }
 
 #[test]

@@ -1,8 +1,8 @@
 //! A reader of tables.
 
 use crate::reader::{
-    Classed, Cursor, PixelsPerEm, index_of, nth, number_at, numbers, place_of, place_of_glyph,
-    position_of, read_strike, value_at,
+    Classed, Cursor, PixelsPerEm, class_of, coverage_index, index_of, nth, number_at, numbers,
+    place_of, place_of_glyph, position_of, read_strike, record_bytes, value_at,
 };
 use font_types::{BigEndian, Fixed, GlyphId16, Int24, ScalarArray, Tag, Uint24};
 use std::test::Fail;
@@ -37,6 +37,11 @@ fn numbers_of_an_array(rt: HostRuntime) -> Result<(), Fail> {
         assert!(rt;
             place_of(&glyphs, glyph) == place && index_of(&glyphs, glyph) == place.ok(),
             "{glyph}"
+        );
+        let ids = ScalarArray::new(&bytes).ok_or("six bytes")?;
+        assert!(rt;
+            coverage_index(&ids, GlyphId16::new(glyph)) == place,
+            "id {glyph}"
         );
     }
     Ok(())
@@ -113,4 +118,11 @@ fn glyphs_found_by_their_records(rt: HostRuntime) {
     assert!(rt; place_of_glyph(&records, slash) == Some(1));
     assert!(rt; place_of_glyph(&records, tilde) == Some(2));
     assert!(rt; place_of_glyph(&records[..2], tilde).is_none());
+    assert!(rt; class_of(&records, tilde) == Some(records[2].class));
+    assert!(rt; class_of(&records[..2], tilde).is_none());
+    let stored = record_bytes(Classed {
+        glyph: GlyphId16::new(0x0102),
+        class: 0xFF00,
+    });
+    assert!(rt; stored == [1, 2, 0xFF, 0]);
 }

@@ -1,7 +1,7 @@
 //! A report in columns.
 
-use crate::report::{axis_value, line, printed, version_of};
-use font_types::{Fixed, Pad, Tag};
+use crate::report::{axis_value, glyph_name, line, lines_of, printed, version_of};
+use font_types::{Fixed, GlyphId16, Pad, Tag};
 use std::test::Fail;
 
 #[test]
@@ -31,6 +31,19 @@ fn versions_printed(rt: HostRuntime) -> Result<(), Fail> {
         assert!(rt;
             version_of(major, minor, rt.alloc())?.as_str() == text,
             "{text}"
+        );
+    }
+    Ok(())
+}
+
+#[test]
+fn names_in_lines(rt: HostRuntime) -> Result<(), Fail> {
+    assert!(rt; lines_of(&["Regular", "", "Fett"], rt.alloc())?.as_str() == "Regular\n\nFett\n");
+    assert!(rt; lines_of(&[], rt.alloc())?.as_str() == "");
+    for &(glyph, name) in &[(36, "glyph00036"), (0, "glyph00000"), (65535, "glyph65535")] {
+        assert!(rt;
+            glyph_name(GlyphId16::new(glyph), rt.alloc())?.as_str() == name,
+            "{name}"
         );
     }
     Ok(())

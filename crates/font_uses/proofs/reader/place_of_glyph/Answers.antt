@@ -4,8 +4,8 @@ use Rattle.font_types.specs.GlyphId.{glyph16_number}
 use Rattle.font_types.proofs.Callers.{found_by_number}
 use Rattle.font_uses.proofs.reader.place_of_glyph.Goals as goal
 
-pub returns : goal.returns
-returns c = search (
+pub returns-clause-found : goal.returns-clause-found
+returns-clause-found c = search (
   rules,
   found_by_number (λ entry. glyph16_number entry.glyph) c.args.records.now _ _ c.requires
       (c.binary_search_by_key.ensures.position (λ entry. entry.glyph)

@@ -1,6 +1,7 @@
-use Rattle.std.proofs.Common.{◌≡◌, map, vec_len}
-use Rattle.font_uses.specs.Settings.{AreRead}
+use Rattle.std.proofs.Common.{map, take}
+use Rattle.font_types.specs.Listed.{AreRead}
+use Rattle.font_uses.specs.Settings.{IsSettingRead}
 use Rattle.font_uses.proofs.settings.read_each.Given as goal
 
 abbrev pub invariant-loop-place : goal.invariant-loop-place
-invariant-loop-place l = (vec_len l.settings ≡ l.place) × AreRead (map (λ text. text.now) l.texts) l.settings.items
+invariant-loop-place l = AreRead IsSettingRead (take l.place (map (λ text. text.now) l.texts)) l.settings.items

@@ -1,0 +1,11 @@
+-- How a report writes names. All of it is this example's own.
+use Rattle.std.specs.Prelude.{ℕ, ◌-◌, ◌^◌, false, List, [], ◌∷◌, ◌++◌}
+use Rattle.std.specs.Fmt.{decimal, padded_integral, format_spec}
+
+-- the text, and a line feed behind it
+abbrev pub line_of : List ℕ → List ℕ
+line_of text = text ++ 10 ∷ []
+
+-- a number in at least five digits, with zeros in front
+abbrev pub five_digits : ℕ → List ℕ
+five_digits n = padded_integral (format_spec 32 0 4 5 (2 ^ 64 - 1)) false [] (decimal n)
