@@ -1,5 +1,5 @@
 -- What a caller's test of flags by a mask says of their bits.
-use Rattle.std.proofs.Common.{◌≡◌, ◌∙◌, sym, ap, ℕ, ◌*◌, ◌<◌, ◌≤◌, ◌^◌, inl, inr, pow_pos, arith}
+use Rattle.std.proofs.Common.{◌≡◌, ◌∙◌, sym, ap, ℕ, ◌*◌, ◌≤◌, ◌^◌, inl, inr, pow_pos, arith}
 use Rattle.std.specs.Prelude.{bit_and, IsBitSet}
 use Rattle.std.specs.Int.{bit_at}
 use Rattle.std.specs.Int.Bits.{and_zero_r}

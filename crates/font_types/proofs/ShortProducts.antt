@@ -1,5 +1,5 @@
 -- Products of two numbers of 16 bits: how large they are, so that sums and differences of them fit too.
-use Rattle.std.proofs.Common.{◌≡◌, ℕ, ◌*◌, ◌≤◌, ◌^◌, ℤ, pos, neg_ℤ, ◌*ℤ◌, ◌≤ℤ◌, arith, w16, w32, w64, SFits, to_z, of_z}
+use Rattle.std.proofs.Common.{◌≤◌, ◌^◌, ℤ, pos, neg_ℤ, ◌*ℤ◌, ◌≤ℤ◌, arith, w16, w32, w64, SFits}
 use Rattle.std.proofs.Common.{unsigned_abs}
 use Rattle.std.proofs.Math.Nat.{mul-le-mul}
 use Rattle.std.proofs.lemmas.Int.{ints, to_z-of_z, unsigned_abs-mul}
