@@ -15,11 +15,11 @@ use font_types::Fixed;
 /// An axis of a design space, in the units of its values.
 #[derive(Clone, Copy, PartialEq, Debug)]
 pub struct DesignAxis {
-    /// Its least value, which has the coordinate -1.
+    /// Its least value, which has the coordinate -1 where it is not the default.
     pub least: Fixed,
     /// The value of the font's own outlines, which has 0.
     pub default: Fixed,
-    /// Its greatest value, which has 1.
+    /// Its greatest value, which has 1 where it is not the default.
     pub greatest: Fixed,
 }
 

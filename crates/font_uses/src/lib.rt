@@ -3,6 +3,7 @@
 #![tactic(auto)]
 
 pub mod axis;
+pub mod boxes;
 pub mod component;
 pub mod design;
 pub mod dumper;

@@ -1,6 +1,7 @@
 //! Each user at work, by values from the definitions and by arithmetic by hand.
 
 mod axis;
+mod boxes;
 mod component;
 mod design;
 mod dumper;
