@@ -1,4 +1,5 @@
 -- What callers of this crate cite of all below it: rulesets that `using(..)` names, and lemmas for answers.
+use Rattle.std.proofs.lemmas.List.Folds.{flat_map-map}
 pub use Rattle.font_base.proofs.ScalarCalls.{scalar_calls, absent, nowhere, rises_by}
 pub use Rattle.font_base.proofs.Moved.{bytes_moved}
 pub use Rattle.font_base.specs.Wrap.Laws.{wrap_is, wrap_unique, wrap-fits}
@@ -32,6 +33,9 @@ pub use Rattle.font_types.proofs.SumCalls.{running_total_from}
 pub use Rattle.font_types.proofs.Compared.{stored_calls, written_calls, found_by_number}
 pub use Rattle.font_types.proofs.ShortProducts.{product_calls_16}
 pub use Rattle.font_types.specs.Json.Laws.{fixed_form, signed_form, unsigned_form, tag_form, version_form_of}
+
+-- what is joined of a list of references, and of what they point to
+pub ruleset text_calls = (flat_map-map)
 
 -- `narrow_calls`, and that -1 is -1
 pub ruleset narrow_ends = (narrow_calls, quarter_neg_one)

@@ -1,7 +1,7 @@
 //! Flags of the points of an outline.
 
 ghost use Rattle.std.specs.Prelude.{◌≡◌, ◌↔◌, IsTrue, count_by, sum_by};
-ghost use Rattle.font_types.specs.Flags.{HasEach};
+ghost use Rattle.font_types.specs.Flags.{HasEach, HasNone};
 ghost use Rattle.font_uses.specs.Flags.{x_width, is_on_curve};
 
 /// How many bytes the x of a point takes, by its flag.
@@ -23,6 +23,14 @@ pub fn has_all(flags: u16, mask: u16) -> bool
     ensures { IsTrue result ↔ HasEach flags mask }
 {
     flags & mask == mask
+}
+
+/// Whether the flags have no bit of a mask.
+#[tactic(auto, using(font_types::proofs::Callers::mask_calls))]
+pub fn has_none(flags: u16, mask: u16) -> bool
+    ensures { IsTrue result ↔ HasNone flags mask }
+{
+    flags & mask == 0
 }
 
 /// How many bytes the xs of all points take.

@@ -1,7 +1,8 @@
 //! A reader of metrics: rows of an advance and a bearing, and behind them a tail of bearings alone.
 
 ghost use Rattle.std.specs.Prelude.{◌≡◌, ◌<◌, ◌≤◌, ◌+◌, ◌*◌, ◌/◌, ◌%◌, ◌^◌, ◌↔◌};
-ghost use Rattle.std.specs.Prelude.{pos, ◌+ℤ◌, ◌-ℤ◌, sum};
+ghost use Rattle.std.specs.Prelude.{pos, ◌+ℤ◌, ◌-ℤ◌, sum, All, IsTrue};
+ghost use Rattle.std.specs.List.{AllPairs};
 ghost use Rattle.std.specs.Prelude.{nat_lt, ◌&&◌, ◌++◌, IsSome, IfSome, length, take, drop, refl};
 ghost use Rattle.std.proofs.Common.{lit<};
 ghost use Rattle.font_types.specs.Bytes.{numeral, signed_numeral, bytes_of};
@@ -77,6 +78,23 @@ pub fn line_height(ascender: FWord, descender: FWord, gap: FWord) -> i32
         ≡ ((fword_number ascender -ℤ fword_number descender) +ℤ fword_number gap) }
 {
     i32::from(ascender.to_i16()) - i32::from(descender.to_i16()) + i32::from(gap.to_i16())
+}
+
+/// Whether all glyphs have one advance.
+pub fn is_monospaced(advances: &[u16]) -> bool
+    ensures { IsTrue result ↔ AllPairs (λ a b. a ≡ b) advances.now }
+{
+    match advances.first() {
+        Some(first) => are_all(advances, *first),
+        None => true,
+    }
+}
+
+// Whether each advance is this one.
+fn are_all(advances: &[u16], one: u16) -> bool
+    ensures { IsTrue result ↔ All (λ advance. advance ≡ one) advances.now }
+{
+    advances.iter().all(|advance| *advance == one)
 }
 
 /// How many deltas a table has that holds so many for each of so many regions.

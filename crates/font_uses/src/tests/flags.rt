@@ -1,6 +1,6 @@
 //! Flags of points.
 
-use crate::flags::{all_x_len, has_all, on_curve_count, x_len};
+use crate::flags::{all_x_len, has_all, has_none, on_curve_count, x_len};
 
 #[test]
 fn bytes_of_an_x(rt: HostRuntime) {
@@ -20,14 +20,21 @@ fn bytes_of_an_x(rt: HostRuntime) {
 
 #[test]
 fn flags_of_a_mask(rt: HostRuntime) {
-    for &(flags, mask, all) in &[
-        (0x8001, 0x8001, true),
-        (0x8001, 0x8000, true),
-        (0x8001, 0, true),
-        (0x8001, 0x8003, false),
-        (0, 1, false),
-        (0x7FFF, 0x8000, false),
+    for &(flags, mask, all, none) in &[
+        (0x8001, 0x8001, true, false),
+        (0x8001, 0x8000, true, false),
+        (0x8001, 0, true, true),
+        (0x8001, 0x8003, false, false),
+        (0, 1, false, true),
+        (0x7FFF, 0x8000, false, true),
     ] {
-        assert!(rt; has_all(flags, mask) == all, "{flags:x} and {mask:x}");
+        assert!(rt;
+            has_all(flags, mask) == all,
+            "all of {flags:x} and {mask:x}"
+        );
+        assert!(rt;
+            has_none(flags, mask) == none,
+            "none of {flags:x} and {mask:x}"
+        );
     }
 }

@@ -1,7 +1,8 @@
 //! Metrics with a tail.
 
 use crate::metrics::{
-    advance, bearing, cells, in_16_16, line_height, row, total_len, whole_again, wide_again,
+    advance, bearing, cells, in_16_16, is_monospaced, line_height, row, total_len, whole_again,
+    wide_again,
 };
 use font_types::{FWord, Fixed, GlyphId16, Scalar, UfWord};
 
@@ -62,5 +63,7 @@ fn lengths_together(rt: HostRuntime) {
     ] {
         assert!(rt; total_len(lengths) == total, "{lengths:?}");
     }
+    assert!(rt; is_monospaced(&[]) && is_monospaced(&[600]) && is_monospaced(&[600, 600, 600]));
+    assert!(rt; !is_monospaced(&[600, 601]) && !is_monospaced(&[600, 600, 0]));
     assert!(rt; cells(0xFFFF, 0xFFFF) == 0xFFFE_0001 && cells(3, 0) == 0);
 }

@@ -1,6 +1,9 @@
 //! A report in columns.
 
-use crate::report::{axis_value, glyph_name, line, lines_of, printed, version_of};
+use crate::report::{
+    axis_value, glyph_name, joined_names, line, lines_of, place_of_name, printed, two_columns,
+    version_of,
+};
 use font_types::{Fixed, GlyphId16, Pad, Tag};
 use std::test::Fail;
 
@@ -10,6 +13,7 @@ fn in_columns(rt: HostRuntime) -> Result<(), Fail> {
     let (slant, pad) = (Tag::new(b"slnt"), Pad::new(12));
     let line = line(slant, least, greatest, &pad, rt.alloc())?;
     assert!(rt; line.as_slice() == b"slnt-32767.99998         1.5".as_slice());
+    assert!(rt; two_columns(greatest, least, &pad) == *b"         1.5-32767.99998");
     assert!(rt; axis_value(Tag::new(b"slnt"), rt.alloc()).is_ok());
     Ok(())
 }
@@ -40,6 +44,13 @@ fn versions_printed(rt: HostRuntime) -> Result<(), Fail> {
 fn names_in_lines(rt: HostRuntime) -> Result<(), Fail> {
     assert!(rt; lines_of(&["Regular", "", "Fett"], rt.alloc())?.as_str() == "Regular\n\nFett\n");
     assert!(rt; lines_of(&[], rt.alloc())?.as_str() == "");
+    let names = ["a", "", "b", "a"];
+    assert!(rt; joined_names(&names, rt.alloc())?.as_str() == "a, , b, a");
+    assert!(rt; joined_names(&names[..1], rt.alloc())?.as_str() == "a");
+    assert!(rt; joined_names(&[], rt.alloc())?.as_str() == "");
+    for &(name, place) in &[("a", Some(0)), ("", Some(1)), ("b", Some(2)), ("ab", None)] {
+        assert!(rt; place_of_name(&names, name) == place, "place of {name}");
+    }
     for &(glyph, name) in &[(36, "glyph00036"), (0, "glyph00000"), (65535, "glyph65535")] {
         assert!(rt;
             glyph_name(GlyphId16::new(glyph), rt.alloc())?.as_str() == name,
