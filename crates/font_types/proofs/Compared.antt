@@ -26,16 +26,25 @@ module _ (k : ℕ) (z : ℤ) (stored bytes : List ℕ) (same : Bool) where
 
 pub ruleset stored_calls = (is_stored, equals_stored)
 
--- a number of 16 bits out of the two bytes that a caller took apart
-two_long : (n : ℕ) → length (bytes_of 2 (pos n)) ≡ 2
-two_long n = are_bytes-length 2 (bytes_of 2 (pos n)) (are_bytes-bytes_of 2 (pos n))
+-- a number out of the two or four bytes that a caller took apart
+bytes_long : (k n : ℕ) → length (bytes_of k (pos n)) ≡ k
+bytes_long k n = are_bytes-length k (bytes_of k (pos n)) (are_bytes-bytes_of k (pos n))
 
 pub word_of_bytes : (n : ℕ) (bytes : List ℕ) → n < 2 ^ 16 → bytes ≡ bytes_of 2 (pos n)
     → n ≡ (0 + get_or bytes 0 0) * 256 + get_or bytes 1 0
-word_of_bytes n [] below is = absurd (omega (arith, ap length is, two_long n))
-word_of_bytes n (a ∷ []) below is = absurd (omega (arith, ap length is, two_long n))
+word_of_bytes n [] below is = absurd (omega (arith, ap length is, bytes_long 2 n))
+word_of_bytes n (a ∷ []) below is = absurd (omega (arith, ap length is, bytes_long 2 n))
 word_of_bytes n (a ∷ b ∷ []) below is = sym (numeral-bytes_of 2 n below) ∙ sym (ap numeral is)
-word_of_bytes n (a ∷ b ∷ c ∷ more) below is = absurd (omega (arith, ap length is, two_long n))
+word_of_bytes n (a ∷ b ∷ c ∷ more) below is = absurd (omega (arith, ap length is, bytes_long 2 n))
+
+pub long_of_bytes : (n : ℕ) (bytes : List ℕ) → n < 2 ^ 32 → bytes ≡ bytes_of 4 (pos n)
+    → n ≡ (((0 + get_or bytes 0 0) * 256 + get_or bytes 1 0) * 256 + get_or bytes 2 0) * 256 + get_or bytes 3 0
+long_of_bytes n [] below is = absurd (omega (arith, ap length is, bytes_long 4 n))
+long_of_bytes n (a ∷ []) below is = absurd (omega (arith, ap length is, bytes_long 4 n))
+long_of_bytes n (a ∷ b ∷ []) below is = absurd (omega (arith, ap length is, bytes_long 4 n))
+long_of_bytes n (a ∷ b ∷ c ∷ []) below is = absurd (omega (arith, ap length is, bytes_long 4 n))
+long_of_bytes n (a ∷ b ∷ c ∷ d ∷ []) below is = sym (numeral-bytes_of 4 n below) ∙ sym (ap numeral is)
+long_of_bytes n (a ∷ b ∷ c ∷ d ∷ e ∷ more) below is = absurd (omega (arith, ap length is, bytes_long 4 n))
 
 -- the numeral of a number's bytes is the number
 pub word_numeral_of : (n : ℕ) (bytes : List ℕ) → n < 2 ^ 16 → bytes ≡ bytes_of 2 (pos n) → numeral bytes ≡ n
@@ -44,7 +53,7 @@ word_numeral_of n bytes below is = ap numeral is ∙ numeral-bytes_of 2 n below
 pub long_numeral_of : (n : ℕ) (bytes : List ℕ) → n < 2 ^ 32 → bytes ≡ bytes_of 4 (pos n) → numeral bytes ≡ n
 long_numeral_of n bytes below is = ap numeral is ∙ numeral-bytes_of 4 n below
 
-pub ruleset written_calls = (word_of_bytes, word_numeral_of, long_numeral_of)
+pub ruleset written_calls = (word_of_bytes, long_of_bytes, word_numeral_of, long_numeral_of)
 
 -- where elements are in the order of their numbers, a search answers a place that has the number, or none has it
 pub found_by_number : {X : Type 0} (number_of : X → ℕ) (xs : List X) (n : ℕ) (result : Result ℕ ℕ)

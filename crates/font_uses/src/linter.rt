@@ -1,15 +1,17 @@
 //! A linter: judges the tags of a font's tables, the bytes of a number and a stored sum.
 
 ghost use Rattle.std.specs.List.Sorted.{IsPermutation, IsSortedByKey};
-ghost use Rattle.std.specs.Prelude.{◌≡◌, ◌↔◌, ◌+ℤ◌, All, IsTrue, MatchResult, MatchOption, length};
+ghost use Rattle.std.specs.Prelude.{◌≡◌, ◌↔◌, ◌+ℤ◌, All, IsTrue, MatchResult, MatchOption};
+ghost use Rattle.std.specs.Prelude.{length, take, drop};
 ghost use Rattle.std.specs.List.{AllAdjacentBelow};
-ghost use Rattle.font_types.specs.Bytes.{IsBytesOf};
+ghost use Rattle.font_types.specs.Bytes.{numeral, IsBytesOf};
 ghost use Rattle.font_types.specs.Wrap.{IsWrapped};
 ghost use Rattle.font_types.specs.Fixed.{fixed_bits};
 ghost use Rattle.font_types.specs.Tag.{tag_bytes, IsGood};
+ghost use Rattle.font_types.specs.Offset.{offset32_number};
 ghost use Rattle.font_uses.specs.Linter.{IsFirstBad, AreDifferent, IsFirstRepeated};
 
-use font_types::{Fixed, InvalidTag, Offset32, Tag};
+use font_types::{Fixed, InvalidTag, Offset32, Scalar, Tag};
 use std::cmp::Ordering;
 use thiserror::Error;
 
@@ -85,6 +87,17 @@ pub struct Entry {
     pub tag: Tag,
     /// Where it begins.
     pub offset: Offset32,
+}
+
+/// The eight bytes of an entry: its tag, and behind it where the table begins.
+#[tactic(auto, using(font_types::proofs::Callers::written_calls))]
+pub fn entry_bytes(entry: Entry) -> [u8; 8]
+    ensures tag { take 4 result ≡ tag_bytes entry.tag }
+    ensures offset { numeral (drop 4 result) ≡ offset32_number entry.offset }
+{
+    let [a, b, c, d] = entry.tag.to_be_bytes();
+    let [e, f, g, h] = entry.offset.to_raw();
+    [a, b, c, d, e, f, g, h]
 }
 
 /// Puts the entries of a directory in the order of their tags.

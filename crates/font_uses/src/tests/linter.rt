@@ -1,7 +1,8 @@
 //! A linter of tags and of stored numbers.
 
 use crate::linter::{
-    BadTag, Entry, first_repeated, is_in_order, is_stored_as, is_sum, judge, sort_by_tag,
+    BadTag, Entry, entry_bytes, first_repeated, is_in_order, is_stored_as, is_sum, judge,
+    sort_by_tag,
 };
 use font_types::{Fixed, InvalidTag, Offset32, Tag};
 use std::test::Fail;
@@ -55,6 +56,12 @@ fn entries_in_order(rt: HostRuntime) {
     let mut entries = [glyf, cmap, os2];
     sort_by_tag(&mut entries);
     assert!(rt; entries == [os2, cmap, glyf]);
+    assert!(rt; entry_bytes(cmap).as_slice().starts_with(b"cmap"));
+    let far = Entry {
+        tag: Tag::new(b"a\xFFc "),
+        offset: Offset32::new(0xFE01_0203),
+    };
+    assert!(rt; entry_bytes(far) == *b"a\xFFc \xFE\x01\x02\x03");
 }
 
 #[test]
