@@ -2,7 +2,7 @@
 
 ghost use Rattle.std.specs.List.Sorted.{IsPermutation, IsSortedByKey};
 ghost use Rattle.std.specs.Prelude.{◌≡◌, ◌↔◌, ◌+ℤ◌, All, IsTrue, MatchResult, MatchOption};
-ghost use Rattle.std.specs.Prelude.{length, take, drop};
+ghost use Rattle.std.specs.Prelude.{◌%◌, ◌^◌, length, take, drop, sum};
 ghost use Rattle.std.specs.List.{AllAdjacentBelow};
 ghost use Rattle.font_types.specs.Bytes.{numeral, IsBytesOf};
 ghost use Rattle.font_types.specs.Wrap.{IsWrapped};
@@ -87,6 +87,17 @@ pub struct Entry {
     pub tag: Tag,
     /// Where it begins.
     pub offset: Offset32,
+}
+
+/// The checksum of a table, by its words of 32 bits.
+pub fn checksum(words: &[u32]) -> u32
+    ensures { result ≡ sum words.now % 2 ^ 32 }
+{
+    let mut total = 0u32;
+    for word in words {
+        total = total.wrapping_add(*word);
+    }
+    total
 }
 
 /// The eight bytes of an entry: its tag, and behind it where the table begins.

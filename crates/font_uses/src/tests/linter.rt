@@ -1,7 +1,7 @@
 //! A linter of tags and of stored numbers.
 
 use crate::linter::{
-    BadTag, Entry, entry_bytes, first_repeated, is_in_order, is_stored_as, is_sum, judge,
+    BadTag, Entry, checksum, entry_bytes, first_repeated, is_in_order, is_stored_as, is_sum, judge,
     sort_by_tag,
 };
 use font_types::{Fixed, InvalidTag, Offset32, Tag};
@@ -70,4 +70,12 @@ fn stored_numbers(rt: HostRuntime) {
     assert!(rt; is_stored_as(less, [0xFF, 0xFF, 0xFF, 0xFE]));
     assert!(rt; !is_stored_as(less, [0xFE, 0xFF, 0xFF, 0xFF]));
     assert!(rt; is_sum(Fixed::MIN, Fixed::MAX, step) && !is_sum(Fixed::MAX, Fixed::MAX, step));
+    for &(words, total) in &[
+        (&[] as &[u32], 0),
+        (&[0x0001_0000, 0x7472_7565], 0x7473_7565),
+        (&[u32::MAX, 1], 0),
+        (&[u32::MAX, u32::MAX, 5], 3),
+    ] {
+        assert!(rt; checksum(words) == total, "{words:?}");
+    }
 }
