@@ -105,7 +105,6 @@ pub fn cells(rows: u16, columns: u16) -> u32
 }
 
 /// How long tables are together, or `None` where 32 bits do not hold that.
-#[tactic(auto, using(std::proofs::lemmas::List::Sums::sum_by_more_le))]
 pub fn total_len(lengths: &[u32]) -> Option<u32>
     ensures end { IsSome result ↔ (sum lengths.now < 2 ^ 32) }
     ensures value { IfSome result (λ total. total ≡ sum lengths.now) }
