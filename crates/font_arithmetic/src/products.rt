@@ -9,6 +9,8 @@ ghost use Rattle.font_arithmetic.specs.Operations.{differ_in_sign, IsProduct, Is
 
 /// The product of two numbers with `f` bits of fraction, rounded to the nearest step, ties away
 /// from zero, and wrapped.
+#[must_use]
+#[inline]
 pub fn product(x: i32, y: i32, f: u32) -> i32
     requires { (6 ≤ f) × (f ≤ 30) }
     ensures { IsProduct 32 f x y result }
@@ -20,7 +22,9 @@ pub fn product(x: i32, y: i32, f: u32) -> i32
 ///
 /// Where `c` is zero it is the greatest number of 32 bits, negated where just one of `x` and `a` is
 /// negative.
-pub fn mul_div(x: i32, a: i32, c: i32) -> i32
+#[must_use]
+#[inline]
+pub const fn mul_div(x: i32, a: i32, c: i32) -> i32
     ensures { IsMulDiv 32 x a c result }
 {
     let product = magnitude(x) * magnitude(a);
@@ -29,13 +33,16 @@ pub fn mul_div(x: i32, a: i32, c: i32) -> i32
 }
 
 /// The last 32 bits of a number, as a signed one.
-pub fn low_bits(n: i64) -> i32
+#[must_use]
+#[inline]
+pub const fn low_bits(n: i64) -> i32
     ensures { result ≡ wrap 32 n }
 {
     (n.rem_euclid(1 << 32) as u32).cast_signed()
 }
 
 // `n / 2^f` rounded to the nearest whole number, ties away from zero.
+#[inline]
 fn rounded_shift(n: i64, f: u32) -> i64
     requires fraction { (6 ≤ f) × (f ≤ 30) }
     requires room { unsigned_abs n ≤ 2 ^ 62 }
@@ -47,7 +54,8 @@ fn rounded_shift(n: i64, f: u32) -> i64
 
 // `n / d` rounded to the nearest whole number, ties away from zero; where `d` is zero, the greatest
 // of 32 bits.
-fn rounded_quotient(n: u64, d: u64) -> u64
+#[inline]
+const fn rounded_quotient(n: u64, d: u64) -> u64
     requires { (n ≤ 2 ^ 62) × (d ≤ 2 ^ 31) }
     ensures quotient { 0 < d → result ≡ near_magnitude n d }
     ensures zero { d ≡ 0 → result ≡ 2 ^ 31 - 1 }
@@ -56,7 +64,8 @@ fn rounded_quotient(n: u64, d: u64) -> u64
 }
 
 // The number with this magnitude, negated where asked, and wrapped.
-fn with_sign(negative: bool, magnitude: u64) -> i32
+#[inline]
+const fn with_sign(negative: bool, magnitude: u64) -> i32
     ensures { result ≡ wrap 32 (signed negative magnitude) }
 {
     let number = ((magnitude % (1 << 32)) as u32).cast_signed();
@@ -67,14 +76,16 @@ fn with_sign(negative: bool, magnitude: u64) -> i32
     }
 }
 
-fn differs_in_sign(x: i32, y: i32) -> bool
+#[inline]
+const fn differs_in_sign(x: i32, y: i32) -> bool
     ensures { result ≡ differ_in_sign x y }
 {
     x.is_negative() != y.is_negative()
 }
 
 // The number without its sign.
-fn magnitude(x: i32) -> u64
+#[inline]
+const fn magnitude(x: i32) -> u64
     ensures value { result ≡ unsigned_abs x }
     ensures bound { result ≤ 2 ^ 31 }
 {

@@ -36,6 +36,7 @@ impl<'a, T: Scalar> ScalarArray<'a, T> {
     /// The array in these bytes, or `None` where their number is no multiple of `RAW_BYTE_LEN`.
     ///
     /// Where `RAW_BYTE_LEN` is 0, only the empty bytes are an array, and it is empty.
+    #[must_use]
     pub fn new(data: &'a [u8]) -> Option<ScalarArray<'a, T>>
         ensures whole { IsSome result ↔ (length «data».now % T.RAW_BYTE_LEN ≡ 0) }
         ensures bytes { IfSome result (λ array. array_bytes array ≡ «data».now) }
@@ -55,6 +56,7 @@ impl<'a, T: Scalar> ScalarArray<'a, T> {
     }
 
     /// How many elements there are.
+    #[must_use]
     pub fn len(&self) -> usize
         ensures value { result ≡ array_len self.now }
         ensures bytes { result * T.RAW_BYTE_LEN ≡ length (array_bytes self.now) }
@@ -63,6 +65,7 @@ impl<'a, T: Scalar> ScalarArray<'a, T> {
     }
 
     /// Whether there is no element.
+    #[must_use]
     pub fn is_empty(&self) -> bool
         ensures { IsTrue result ↔ (array_len self.now ≡ 0) }
     {
@@ -70,6 +73,7 @@ impl<'a, T: Scalar> ScalarArray<'a, T> {
     }
 
     /// All the bytes.
+    #[must_use]
     pub fn as_bytes(&self) -> &'a [u8]
         ensures { result.now ≡ array_bytes self.now }
     {
@@ -77,6 +81,7 @@ impl<'a, T: Scalar> ScalarArray<'a, T> {
     }
 
     /// The element of that index, the first has 0, or `None` behind the end.
+    #[must_use]
     pub fn get(&self, index: usize) -> Option<T>
         ensures end { IsSome result ↔ (index < array_len self.now) }
         ensures stored { IfSome result (λ v.
@@ -93,6 +98,7 @@ impl<'a, T: Scalar> ScalarArray<'a, T> {
     }
 
     /// The elements, first to last, and from the back.
+    #[must_use]
     pub fn iter(&self) -> ScalarArrayIter<'a, T>
         ensures { elements_left result ≡ array_elements self.now }
     {

@@ -38,6 +38,7 @@ impl<T: Scalar> BigEndian<T> {
     ghost use Rattle.font_base.specs.BigEndian.{raw_value};
 
     /// The field with these bytes.
+    #[must_use]
     pub fn new(raw: T::Raw) -> BigEndian<T>
         ensures { raw_value result ≡ raw }
     {
@@ -50,6 +51,7 @@ impl<T: Scalar> BigEndian<T> {
     }
 
     /// The field over these bytes, or `None` where there are not exactly `RAW_BYTE_LEN` of them.
+    #[must_use]
     pub fn from_slice(slice: &[u8]) -> Option<BigEndian<T>>
         ensures length { IsSome result ↔ (length slice.now ≡ T.RAW_BYTE_LEN) }
         ensures bytes { IfSome result (λ field. T.Raw.bytes (raw_value field) ≡ slice.now) }
@@ -62,6 +64,7 @@ impl<T: Scalar> BigEndian<T> {
     }
 
     /// The value that the bytes stand for.
+    #[must_use]
     pub fn get(&self) -> T
         ensures value { result ≡ T.of_raw (raw_value self.now) }
         ensures back { T.raw_of result ≡ raw_value self.now }
@@ -78,6 +81,7 @@ impl<T: Scalar> BigEndian<T> {
     }
 
     /// The bytes, highest first.
+    #[must_use]
     pub fn be_bytes(&self) -> &[u8]
         ensures { result.now ≡ T.Raw.bytes (raw_value self.now) }
     {
@@ -85,6 +89,7 @@ impl<T: Scalar> BigEndian<T> {
     }
 
     /// Whether the value is equal to another.
+    #[must_use]
     pub fn eq_value(&self, other: &T) -> bool
     where
         T: Copy + PartialEq,

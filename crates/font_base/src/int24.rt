@@ -33,7 +33,9 @@ impl Int24 {
     pub const MAX: Self = Int24 { value: 0x7F_FFFF };
 
     /// The number, or the nearest value where the number is out of range.
-    pub fn new(raw: i32) -> Int24
+    #[must_use]
+    #[inline]
+    pub const fn new(raw: i32) -> Int24
         ensures { int24_number result ≡ int_max INT24_MIN (int_min raw INT24_MAX) }
     {
         if raw < Self::MIN.value {
@@ -46,7 +48,9 @@ impl Int24 {
     }
 
     /// The number, or `None` where it is out of range.
-    pub fn checked_new(raw: i32) -> Option<Int24>
+    #[must_use]
+    #[inline]
+    pub const fn checked_new(raw: i32) -> Option<Int24>
         ensures variant { IsSome result ↔ ((INT24_MIN ≤ℤ raw) × (raw ≤ℤ INT24_MAX)) }
         ensures value { IfSome result (λ n. int24_number n ≡ raw) }
     {
@@ -58,14 +62,18 @@ impl Int24 {
     }
 
     /// The number.
-    pub fn to_i32(self) -> i32
+    #[must_use]
+    #[inline]
+    pub const fn to_i32(self) -> i32
         ensures { result ≡ int24_number self }
     {
         self.value
     }
 
     /// The three bytes in two's complement, highest first.
-    pub fn to_be_bytes(self) -> [u8; 3]
+    #[must_use]
+    #[inline]
+    pub const fn to_be_bytes(self) -> [u8; 3]
         ensures { result ≡ bytes_of 3 (int24_number self) }
     {
         let [_, high, middle, low] = self.value.to_be_bytes();
@@ -73,7 +81,9 @@ impl Int24 {
     }
 
     /// The number of three bytes in two's complement, highest first.
-    pub fn from_be_bytes(bytes: [u8; 3]) -> Int24
+    #[must_use]
+    #[inline]
+    pub const fn from_be_bytes(bytes: [u8; 3]) -> Int24
         ensures bytes { bytes ≡ bytes_of 3 (int24_number result) }
         ensures number { int24_number result ≡ signed_numeral 3 bytes }
     {
@@ -92,6 +102,7 @@ impl Default for Int24 {
 
     ghost is_default = { λ n. int24_number n ≡ pos 0 };
 
+    #[inline]
     fn default() -> Int24 {
         Int24 { value: 0 }
     }
@@ -118,6 +129,7 @@ impl From<Int24> for i32 {
 
     ghost from_gives = { λ n number. number ≡ int24_number n };
 
+    #[inline]
     fn from(n: Int24) -> i32 {
         n.value
     }
@@ -144,10 +156,12 @@ impl Scalar for Int24 {
 
     ghost laws = { int24_laws };
 
+    #[inline]
     fn from_raw(raw: [u8; 3]) -> Int24 {
         Int24::from_be_bytes(raw)
     }
 
+    #[inline]
     fn to_raw(self) -> [u8; 3] {
         self.to_be_bytes()
     }

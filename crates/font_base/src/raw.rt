@@ -26,18 +26,22 @@ pub trait BeByteArray: Copy {
     ghost is_value: { Self → Bool };
 
     /// The array with the slice's bytes, or `None` where the slice has another length than `LEN`.
+    #[must_use]
     fn from_slice(slice: &[u8]) -> Option<Self>
         ensures length { IsSome result ↔ (length slice.now ≡ LEN) }
         ensures value { IfSome result (λ array. IsTrue (is_value array)) }
         ensures bytes { IfSome result (λ array. bytes array ≡ slice.now) };
 
     /// The bytes as a slice.
+    #[must_use]
     fn as_slice(&self) -> &[u8]
         ensures bytes { result.now ≡ bytes self.now }
         ensures length { length result.now ≡ LEN }
         ensures value { IsTrue (is_value self.now) };
 
     /// Whether both arrays have the same bytes.
+    #[must_use]
+    #[inline]
     fn eq_array(&self, other: &Self) -> bool
         ensures { result ≡ pointwise nat_eq (bytes self.now) (bytes other.now) }
     {
@@ -53,7 +57,8 @@ pub trait BeByteArray: Copy {
 }
 
 // The same slice, with the fact that its elements are bytes.
-pub(crate) fn each_is_byte(slice: &[u8]) -> &[u8]
+#[inline]
+pub(crate) const fn each_is_byte(slice: &[u8]) -> &[u8]
     ensures same { result.now ≡ slice.now }
     ensures bytes { IsTrue (are_bytes (length slice.now) slice.now) }
 {
@@ -123,15 +128,19 @@ pub trait Scalar: FixedSize {
     ghost raw_of: { Self → Self.Raw };
 
     /// The value that the bytes stand for.
+    #[must_use]
     fn from_raw(raw: Self::Raw) -> Self
         ensures { result ≡ of_raw raw };
 
     /// The bytes of the value.
+    #[must_use]
     fn to_raw(self) -> Self::Raw
         ensures raw { result ≡ raw_of self }
         ensures value { IsTrue (is_scalar self) };
 
     /// Reads a value from a slice of exactly `RAW_BYTE_LEN` bytes, `None` at any other length.
+    #[must_use]
+    #[inline]
     fn read(slice: &[u8]) -> Option<Self>
         ensures length { IsSome result ↔ (length slice.now ≡ Self.RAW_BYTE_LEN) }
         ensures bytes { IfSome result (λ v. Self.Raw.bytes (raw_of v) ≡ slice.now) }
@@ -169,10 +178,12 @@ impl Scalar for u8 {
 
     ghost laws = { unsigned_laws 1 };
 
+    #[inline]
     fn from_raw(raw: [u8; 1]) -> u8 {
         u8::from_be_bytes(raw)
     }
 
+    #[inline]
     fn to_raw(self) -> [u8; 1] {
         self.to_be_bytes()
     }
@@ -199,10 +210,12 @@ impl Scalar for u16 {
 
     ghost laws = { unsigned_laws 2 };
 
+    #[inline]
     fn from_raw(raw: [u8; 2]) -> u16 {
         u16::from_be_bytes(raw)
     }
 
+    #[inline]
     fn to_raw(self) -> [u8; 2] {
         self.to_be_bytes()
     }
@@ -229,10 +242,12 @@ impl Scalar for u32 {
 
     ghost laws = { unsigned_laws 4 };
 
+    #[inline]
     fn from_raw(raw: [u8; 4]) -> u32 {
         u32::from_be_bytes(raw)
     }
 
+    #[inline]
     fn to_raw(self) -> [u8; 4] {
         self.to_be_bytes()
     }
@@ -259,10 +274,12 @@ impl Scalar for i8 {
 
     ghost laws = { signed_laws 1 (lit< tt) };
 
+    #[inline]
     fn from_raw(raw: [u8; 1]) -> i8 {
         u8::from_be_bytes(raw).cast_signed()
     }
 
+    #[inline]
     fn to_raw(self) -> [u8; 1] {
         self.to_be_bytes()
     }
@@ -289,10 +306,12 @@ impl Scalar for i16 {
 
     ghost laws = { signed_laws 2 (lit< tt) };
 
+    #[inline]
     fn from_raw(raw: [u8; 2]) -> i16 {
         u16::from_be_bytes(raw).cast_signed()
     }
 
+    #[inline]
     fn to_raw(self) -> [u8; 2] {
         self.to_be_bytes()
     }
@@ -319,10 +338,12 @@ impl Scalar for i32 {
 
     ghost laws = { signed_laws 4 (lit< tt) };
 
+    #[inline]
     fn from_raw(raw: [u8; 4]) -> i32 {
         u32::from_be_bytes(raw).cast_signed()
     }
 
+    #[inline]
     fn to_raw(self) -> [u8; 4] {
         self.to_be_bytes()
     }
@@ -349,10 +370,12 @@ impl Scalar for i64 {
 
     ghost laws = { signed_laws 8 (lit< tt) };
 
+    #[inline]
     fn from_raw(raw: [u8; 8]) -> i64 {
         u64::from_be_bytes(raw).cast_signed()
     }
 
+    #[inline]
     fn to_raw(self) -> [u8; 8] {
         self.to_be_bytes()
     }

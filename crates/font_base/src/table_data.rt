@@ -17,6 +17,7 @@ pub trait TableHeader: Sized {
     ghost decodes: { List ℕ → Self → Type 0 };
 
     /// The header that stands in exactly `BYTE_LEN` bytes. With others it may panic.
+    #[must_use]
     fn decode(bytes: &[u8]) -> Self
         requires { length bytes.now ≡ BYTE_LEN }
         ensures { decodes bytes.now result };
@@ -41,6 +42,7 @@ impl<'a, H: TableHeader> TableDataRef<'a, H> {
     ghost use Rattle.font_base.specs.TableData.{table_bytes};
 
     /// The table in these bytes, or `None` where they are too short for its header.
+    #[must_use]
     pub fn new(data: &'a [u8]) -> Option<TableDataRef<'a, H>>
         ensures long { IsSome result ↔ (H.BYTE_LEN ≤ length «data».now) }
         ensures bytes { IfSome result (λ table. table_bytes table ≡ «data».now) }
@@ -55,6 +57,7 @@ impl<'a, H: TableHeader> TableDataRef<'a, H> {
     }
 
     /// The header, decoded from the first `BYTE_LEN` bytes.
+    #[must_use]
     pub fn header(&self) -> H
         ensures { H.decodes (take H.BYTE_LEN (table_bytes self.now)) result }
     {
@@ -62,6 +65,7 @@ impl<'a, H: TableHeader> TableDataRef<'a, H> {
     }
 
     /// All the bytes, the header's among them.
+    #[must_use]
     pub fn data(&self) -> &'a [u8]
         ensures { result.now ≡ table_bytes self.now }
     {
@@ -69,6 +73,7 @@ impl<'a, H: TableHeader> TableDataRef<'a, H> {
     }
 
     /// The bytes behind the header.
+    #[must_use]
     pub fn rest(&self) -> &'a [u8]
         ensures { result.now ≡ drop H.BYTE_LEN (table_bytes self.now) }
     {
@@ -76,6 +81,7 @@ impl<'a, H: TableHeader> TableDataRef<'a, H> {
     }
 
     /// The header, and the bytes behind it.
+    #[must_use]
     pub fn split(&self) -> (H, &'a [u8])
         ensures header { H.decodes (take H.BYTE_LEN (table_bytes self.now)) result.0 }
         ensures rest { result.1.now ≡ drop H.BYTE_LEN (table_bytes self.now) }
@@ -119,6 +125,7 @@ impl TableHeader for SampleHeader {
 
     ghost decodes = { IsSampleHeader };
 
+    #[inline]
     fn decode(bytes: &[u8]) -> SampleHeader {
         SampleHeader {
             a: BigEndian::from_slice(&bytes[..2]).unwrap(),

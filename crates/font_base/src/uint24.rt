@@ -32,7 +32,9 @@ impl Uint24 {
     pub const MAX: Self = Uint24 { value: 0xFF_FFFF };
 
     /// The number, or the greatest value where the number is above it.
-    pub fn new(raw: u32) -> Uint24
+    #[must_use]
+    #[inline]
+    pub const fn new(raw: u32) -> Uint24
         ensures { uint24_number result ≡ min raw UINT24_MAX }
     {
         if raw > Self::MAX.value {
@@ -43,7 +45,9 @@ impl Uint24 {
     }
 
     /// The number, or `None` where it is above the greatest value.
-    pub fn checked_new(raw: u32) -> Option<Uint24>
+    #[must_use]
+    #[inline]
+    pub const fn checked_new(raw: u32) -> Option<Uint24>
         ensures variant { IsSome result ↔ (raw ≤ UINT24_MAX) }
         ensures value { IfSome result (λ n. uint24_number n ≡ raw) }
     {
@@ -55,14 +59,18 @@ impl Uint24 {
     }
 
     /// The number.
-    pub fn to_u32(self) -> u32
+    #[must_use]
+    #[inline]
+    pub const fn to_u32(self) -> u32
         ensures { result ≡ uint24_number self }
     {
         self.value
     }
 
     /// The three bytes, highest first.
-    pub fn to_be_bytes(self) -> [u8; 3]
+    #[must_use]
+    #[inline]
+    pub const fn to_be_bytes(self) -> [u8; 3]
         ensures { result ≡ bytes_of 3 (pos (uint24_number self)) }
     {
         let [_, high, middle, low] = self.value.to_be_bytes();
@@ -70,7 +78,9 @@ impl Uint24 {
     }
 
     /// The number of three bytes, highest first.
-    pub fn from_be_bytes(bytes: [u8; 3]) -> Uint24
+    #[must_use]
+    #[inline]
+    pub const fn from_be_bytes(bytes: [u8; 3]) -> Uint24
         ensures bytes { bytes ≡ bytes_of 3 (pos (uint24_number result)) }
         ensures number { uint24_number result ≡ numeral bytes }
     {
@@ -85,6 +95,7 @@ impl Default for Uint24 {
 
     ghost is_default = { λ n. uint24_number n ≡ 0 };
 
+    #[inline]
     fn default() -> Uint24 {
         Self::MIN
     }
@@ -111,6 +122,7 @@ impl From<Uint24> for u32 {
 
     ghost from_gives = { λ n number. number ≡ uint24_number n };
 
+    #[inline]
     fn from(n: Uint24) -> u32 {
         n.value
     }
@@ -121,6 +133,7 @@ impl From<Uint24> for usize {
 
     ghost from_gives = { λ n number. number ≡ uint24_number n };
 
+    #[inline]
     fn from(n: Uint24) -> usize {
         n.value as usize
     }
@@ -140,6 +153,7 @@ impl TryFrom<usize> for Uint24 {
         (λ n. uint24_number n ≡ number)
         (λ _. UINT24_MAX < number) };
 
+    #[inline]
     fn try_from(number: usize) -> Result<Uint24, TryFromUint24Error> {
         if number > Self::MAX.value as usize {
             Err(TryFromUint24Error)
@@ -172,10 +186,12 @@ impl Scalar for Uint24 {
 
     ghost laws = { uint24_laws };
 
+    #[inline]
     fn from_raw(raw: [u8; 3]) -> Uint24 {
         Uint24::from_be_bytes(raw)
     }
 
+    #[inline]
     fn to_raw(self) -> [u8; 3] {
         self.to_be_bytes()
     }

@@ -7,6 +7,8 @@ ghost use Rattle.std.specs.List.{list_all};
 ghost use Rattle.font_decimal.specs.Grammar.{fraction_text};
 
 // A sign and what follows it.
+#[must_use]
+#[inline]
 pub fn split_sign(text: &[u8]) -> (bool, &[u8])
     ensures minus { text.now ≡ sign_text result.0 ++ result.1.now }
     ensures plain { result.0 ≡ false → (rest : List ℕ) → text.now ≢ 45 ∷ rest }
@@ -18,6 +20,8 @@ pub fn split_sign(text: &[u8]) -> (bool, &[u8])
 }
 
 // What follows the whole digits, without its point: nothing, or one byte or more behind a point.
+#[must_use]
+#[inline]
 pub fn behind_point(text: &[u8]) -> Option<&[u8]>
     ensures { MatchOption result ((fraction : List ℕ) → text.now ≢ fraction_text fraction)
         (λ fraction. text.now ≡ fraction_text fraction.now) }
@@ -30,6 +34,8 @@ pub fn behind_point(text: &[u8]) -> Option<&[u8]>
 }
 
 // It looks at every byte, so that many at a time are judged.
+#[must_use]
+#[inline]
 pub fn are_digits(text: &[u8]) -> bool
     ensures { result ≡ list_all is_ascii_digit text.now }
 {

@@ -6,6 +6,7 @@ use crate::{DecimalFault, read_decimal};
 
 /// Reads both texts. Where both are accepted, the one of greater decimal value never gives the
 /// lesser number.
+#[inline]
 pub fn reads_in_order(
     s: &str,
     t: &str,

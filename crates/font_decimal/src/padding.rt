@@ -45,7 +45,9 @@ impl Pad {
     /// At least so many bytes, with spaces in front.
     ///
     /// The other fields are public: `Pad { plus: true, ..Pad::new(8) }` shows a plus sign too.
-    pub fn new(width: usize) -> Self
+    #[must_use]
+    #[inline]
+    pub const fn new(width: usize) -> Self
         ensures { result ≡ record {
           width = width;
           fill = 32;
@@ -68,6 +70,7 @@ impl Pad {
 ///
 /// `None` where `out` is too short, which then stays as it was. The caller gives a text that
 /// `read_decimal` accepts but for its range, and a fill below 0x80.
+#[inline]
 pub fn write_padded(text: &str, out: &mut [u8], pad: &Pad) -> Option<usize>
     requires decimal { IsDecimal text.now }
     requires ascii { pad.now.fill < 128 }
@@ -93,6 +96,7 @@ pub fn write_padded(text: &str, out: &mut [u8], pad: &Pad) -> Option<usize>
 }
 
 // The sign that is shown, and the text without its own.
+#[inline]
 fn shown_parts(text: &str, plus: bool) -> (&'static str, &str)
     ensures sign { result.0.now ≡ shown_sign plus text.now }
     ensures body { result.1.now ≡ unsigned_body text.now }
@@ -105,6 +109,7 @@ fn shown_parts(text: &str, plus: bool) -> (&'static str, &str)
 }
 
 // How many of the spare bytes are fill in front, zeros behind the sign, and fill behind.
+#[inline]
 fn spread(spare: usize, pad: &Pad) -> (usize, usize, usize)
     ensures all { result.0 + result.1 + result.2 ≡ spare }
     ensures places { (sign body : List ℕ) → laid_out pad.now sign body spare
@@ -123,6 +128,7 @@ fn spread(spare: usize, pad: &Pad) -> (usize, usize, usize)
 }
 
 // Writes bytes behind the first `at`, and returns where they end.
+#[inline]
 fn put(out: &mut [u8], at: usize, bytes: &[u8]) -> usize
     requires { at + length bytes.now ≤ length out.old }
     ensures end { result ≡ at + length bytes.now }
@@ -135,6 +141,7 @@ fn put(out: &mut [u8], at: usize, bytes: &[u8]) -> usize
 }
 
 // The same with one byte, a number of times.
+#[inline]
 fn put_fill(out: &mut [u8], at: usize, byte: u8, count: usize) -> usize
     requires { at + count ≤ length out.old }
     ensures end { result ≡ at + count }

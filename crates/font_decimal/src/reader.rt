@@ -167,6 +167,7 @@ fn numeral_and_power(digits: &[u8]) -> Option<(u64, u64)>
 }
 
 // The same of up to 31 digits, by their two halves.
+#[inline]
 fn long_numeral_and_power(digits: &[u8]) -> Option<(u128, u128)>
     requires { length digits.now ≤ 31 }
     ensures { MatchOption result (¬ (AllDigits 10 digits.now)) (λ n. AllDigits 10 digits.now

@@ -39,6 +39,8 @@ impl Shortest {
 
     /// The shortest decimal of `bits / 2^f`: of all that read back as `bits` the nearest with the
     /// fewest fractional digits. The caller gives an `f` of 6 to 30.
+    #[must_use]
+    #[inline]
     pub fn new(bits: i64, f: u32) -> Self
         requires { (6 ≤ f) × (f ≤ 30) }
         ensures shortest { IsShortest bits f (shown result) }
@@ -53,6 +55,8 @@ impl Shortest {
     }
 
     /// The text.
+    #[must_use]
+    #[inline]
     pub fn as_str(&self) -> &str
         ensures text { result.now ≡ shown self.now }
         ensures short { length result.now ≤ 22 }
@@ -61,6 +65,7 @@ impl Shortest {
         unsafe { std::str::from_utf8_unchecked(&self.bytes[self.start..]) }
     }
 
+    #[inline]
     fn empty() -> Self
         ensures { shown result ≡ [] }
     {
@@ -71,6 +76,7 @@ impl Shortest {
     }
 
     // Puts a byte in front of the text.
+    #[inline]
     fn push(&mut self, byte: u8)
         requires { (byte < 128) × (length (shown self.old) < 22) }
         ensures { shown self.new ≡ byte ∷ shown self.old }
@@ -80,6 +86,7 @@ impl Shortest {
     }
 
     // Puts the last `places` digits of a fraction in front, with a point before them.
+    #[inline]
     fn push_fraction(&mut self, fraction: u64, places: u32)
         requires { places + 1 + length (shown self.old) ≤ 22 }
         ensures { shown self.new ≡ fraction_text (last_digits places fraction) ++ shown self.old }
@@ -95,6 +102,7 @@ impl Shortest {
     }
 
     // Puts the digits of a whole number in front.
+    #[inline]
     fn push_whole(&mut self, whole: u64)
         requires { length (decimal whole) + length (shown self.old) ≤ 22 }
         ensures { shown self.new ≡ decimal whole ++ shown self.old }
@@ -108,6 +116,7 @@ impl Shortest {
     }
 
     // Puts a `-` in front of a negative number.
+    #[inline]
     fn push_sign(&mut self, negative: bool)
         requires { length (shown self.old) < 22 }
         ensures { shown self.new ≡ sign_text negative ++ shown self.old }
@@ -130,6 +139,7 @@ impl fmt::Display for Shortest {
 
 // The shortest decimal of `magnitude / 2^f`. Of the last place `rest / unit` is left, and half a
 // step is `margin / unit`.
+#[inline]
 fn shortest_digits(magnitude: u64, f: u32) -> Digits
     requires { f ≤ 30 }
     ensures places { result.places ≡ fewest_places magnitude f }

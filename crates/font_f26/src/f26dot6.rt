@@ -58,76 +58,98 @@ impl F26Dot6 {
     const FRACTION_BITS: u32 = 6;
 
     /// The number with these bits.
-    pub fn from_bits(bits: i32) -> Self
+    #[must_use]
+    #[inline]
+    pub const fn from_bits(bits: i32) -> Self
         ensures { bits_of result ≡ bits }
     {
         Self(bits)
     }
 
     /// The bits.
-    pub fn to_bits(self) -> i32
+    #[must_use]
+    #[inline]
+    pub const fn to_bits(self) -> i32
         ensures { result ≡ bits_of self }
     {
         self.0
     }
 
     /// The nearest whole number, ties upwards. It wraps: `F26Dot6::MAX.round()` is `F26Dot6::MIN`.
-    pub fn round(self) -> Self
+    #[must_use]
+    #[inline]
+    pub const fn round(self) -> Self
         ensures { IsNearestWhole 32 6 (bits_of self) (bits_of result) }
     {
         self.wrapping_add(Self(32)).floor()
     }
 
     /// The greatest whole number that is not above the number.
-    pub fn floor(self) -> Self
+    #[must_use]
+    #[inline]
+    pub const fn floor(self) -> Self
         ensures { IsFloor 6 (bits_of self) (bits_of result) }
     {
         Self(self.0 - self.fract().0)
     }
 
     /// What the number has above its floor, from 0 to a step below 1.
-    pub fn fract(self) -> Self
+    #[must_use]
+    #[inline]
+    pub const fn fract(self) -> Self
         ensures { IsFract 6 (bits_of self) (bits_of result) }
     {
         Self(self.0.rem_euclid(64))
     }
 
     /// The number without its sign. It wraps: `F26Dot6::MIN.abs()` is `F26Dot6::MIN`.
-    pub fn abs(self) -> Self
+    #[must_use]
+    #[inline]
+    pub const fn abs(self) -> Self
         ensures { bits_of result ≡ wrap 32 (pos (unsigned_abs (bits_of self))) }
     {
         Self(self.0.wrapping_abs())
     }
 
     /// The sum, wrapped.
-    pub fn wrapping_add(self, other: Self) -> Self
+    #[must_use]
+    #[inline]
+    pub const fn wrapping_add(self, other: Self) -> Self
         ensures { bits_of result ≡ wrap 32 (bits_of self +ℤ bits_of other) }
     {
         Self(self.0.wrapping_add(other.0))
     }
 
     /// The difference, wrapped.
-    pub fn wrapping_sub(self, other: Self) -> Self
+    #[must_use]
+    #[inline]
+    pub const fn wrapping_sub(self, other: Self) -> Self
         ensures { bits_of result ≡ wrap 32 (bits_of self -ℤ bits_of other) }
     {
         Self(self.0.wrapping_sub(other.0))
     }
 
     /// The sum, or the nearest end of the range where it is out of it.
-    pub fn saturating_add(self, other: Self) -> Self
+    #[must_use]
+    #[inline]
+    pub const fn saturating_add(self, other: Self) -> Self
         ensures { bits_of result ≡ clamp 32 (bits_of self +ℤ bits_of other) }
     {
         Self(self.0.saturating_add(other.0))
     }
 
     /// The difference, or the nearest end of the range where it is out of it.
-    pub fn saturating_sub(self, other: Self) -> Self
+    #[must_use]
+    #[inline]
+    pub const fn saturating_sub(self, other: Self) -> Self
         ensures { bits_of result ≡ clamp 32 (bits_of self -ℤ bits_of other) }
     {
         Self(self.0.saturating_sub(other.0))
     }
 
     /// The sum, or `None` where it is out of range.
+    #[must_use]
+    #[inline]
     pub fn checked_add(self, other: Self) -> Option<Self>
         ensures variant { IsSome result ↔ FitsBits 32 (bits_of self +ℤ bits_of other) }
         ensures value { IfSome result (λ sum. bits_of sum ≡ (bits_of self +ℤ bits_of other)) }
@@ -136,22 +158,28 @@ impl F26Dot6 {
     }
 
     /// The four bytes of the bits, highest first.
+    #[must_use]
+    #[inline]
     #[tactic(auto, using(font_base::proofs::StdBytes::std_bytes))]
-    pub fn to_be_bytes(self) -> [u8; 4]
+    pub const fn to_be_bytes(self) -> [u8; 4]
         ensures { result ≡ bytes_of 4 (bits_of self) }
     {
         self.0.to_be_bytes()
     }
 
     /// A whole number, wrapped.
-    pub fn from_i32(number: i32) -> Self
+    #[must_use]
+    #[inline]
+    pub const fn from_i32(number: i32) -> Self
         ensures { bits_of result ≡ wrap 32 (number *ℤ pos (2 ^ 6)) }
     {
         Self(number.wrapping_mul(64))
     }
 
     /// The nearest whole number, ties upwards, wrapped to 26 bits.
-    pub fn to_i32(self) -> i32
+    #[must_use]
+    #[inline]
+    pub const fn to_i32(self) -> i32
         ensures { IsNarrowed 26 (bits_of self) (2 ^ 6) result }
     {
         self.wrapping_add(Self(32)).0 >> 6
@@ -163,6 +191,7 @@ impl F26Dot6 {
     ///
     /// A text outside the grammar is refused as `Syntax`, one whose nearest number is out of range
     /// as `OutOfRange`.
+    #[inline]
     pub fn from_decimal(text: &str) -> Result<Self, DecimalFault>
         ensures { ReadsBy w32 6 bits_of text.now result }
     {
@@ -174,6 +203,7 @@ impl F26Dot6 {
     /// # Errors
     ///
     /// Those of `from_decimal`; bytes that are no text are `Syntax`.
+    #[inline]
     pub fn from_decimal_bytes(text: &[u8]) -> Result<Self, DecimalFault>
         ensures { ReadsBy w32 6 bits_of text.now result }
     {
@@ -183,6 +213,7 @@ impl F26Dot6 {
     /// Writes the printed text to the front of `out`, padded, and returns the number of bytes;
     /// `None` where `out` is too short, which then stays as it was. 12 bytes, or the width where
     /// that is more, are always enough. The fill is below 0x80.
+    #[inline]
     pub fn write_padded(self, out: &mut [u8], pad: &Pad) -> Option<usize>
         requires { pad.now.fill < 128 }
         ensures written { IfSome result
@@ -197,6 +228,7 @@ impl F26Dot6 {
         font_decimal::write_padded(self.shortest().as_str(), out, pad)
     }
 
+    #[inline]
     fn shortest(self) -> Shortest
         ensures shortest { IsShortest (bits_of self) 6 (shown result) }
         ensures text { shown result ≡ text_of self }
@@ -210,6 +242,7 @@ impl Add for F26Dot6 {
 
     ghost add_gives = { λ x y sum. bits_of sum ≡ wrap 32 (bits_of x +ℤ bits_of y) };
 
+    #[inline]
     fn add(self, other: F26Dot6) -> F26Dot6 {
         self.wrapping_add(other)
     }
@@ -218,6 +251,7 @@ impl Add for F26Dot6 {
 impl AddAssign for F26Dot6 {
     ghost add_assign_gives = { λ x y sum. bits_of sum ≡ wrap 32 (bits_of x +ℤ bits_of y) };
 
+    #[inline]
     fn add_assign(&mut self, other: F26Dot6) {
         *self = *self + other;
     }
@@ -228,6 +262,7 @@ impl Sub for F26Dot6 {
 
     ghost sub_gives = { λ x y rest. bits_of rest ≡ wrap 32 (bits_of x -ℤ bits_of y) };
 
+    #[inline]
     fn sub(self, other: F26Dot6) -> F26Dot6 {
         self.wrapping_sub(other)
     }
@@ -236,6 +271,7 @@ impl Sub for F26Dot6 {
 impl SubAssign for F26Dot6 {
     ghost sub_assign_gives = { λ x y rest. bits_of rest ≡ wrap 32 (bits_of x -ℤ bits_of y) };
 
+    #[inline]
     fn sub_assign(&mut self, other: F26Dot6) {
         *self = *self - other;
     }
@@ -246,6 +282,7 @@ impl Neg for F26Dot6 {
 
     ghost neg_gives = { λ x opposite. bits_of opposite ≡ wrap 32 (neg_ℤ (bits_of x)) };
 
+    #[inline]
     fn neg(self) -> F26Dot6 {
         Self(self.0.wrapping_neg())
     }
@@ -257,6 +294,7 @@ impl Mul for F26Dot6 {
     ghost mul_gives = { λ x y product.
         IsProduct 32 6 (bits_of x) (bits_of y) (bits_of product) };
 
+    #[inline]
     fn mul(self, other: F26Dot6) -> F26Dot6 {
         Self(product(self.0, other.0, Self::FRACTION_BITS))
     }
@@ -266,6 +304,7 @@ impl MulAssign for F26Dot6 {
     ghost mul_assign_gives = { λ x y product.
         IsProduct 32 6 (bits_of x) (bits_of y) (bits_of product) };
 
+    #[inline]
     fn mul_assign(&mut self, other: F26Dot6) {
         *self = *self * other;
     }
@@ -278,6 +317,7 @@ impl Div for F26Dot6 {
     ghost div_gives = { λ x y quotient.
         IsQuotient 32 6 (bits_of x) (bits_of y) (bits_of quotient) };
 
+    #[inline]
     fn div(self, other: F26Dot6) -> F26Dot6 {
         Self(mul_div(self.0, Self::ONE.0, other.0))
     }
@@ -287,6 +327,7 @@ impl DivAssign for F26Dot6 {
     ghost div_assign_gives = { λ x y quotient.
         IsQuotient 32 6 (bits_of x) (bits_of y) (bits_of quotient) };
 
+    #[inline]
     fn div_assign(&mut self, other: F26Dot6) {
         *self = *self / other;
     }
@@ -298,6 +339,7 @@ impl FromStr for F26Dot6 {
 
     ghost from_str_gives = { λ text result. ReadsBy w32 6 bits_of text result };
 
+    #[inline]
     fn from_str(text: &str) -> Result<Self, DecimalFault> {
         Self::from_decimal(text)
     }

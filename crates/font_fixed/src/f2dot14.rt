@@ -64,76 +64,98 @@ impl F2Dot14 {
     const FRACTION_BITS: u32 = 14;
 
     /// The number with these bits.
-    pub fn from_bits(bits: i16) -> Self
+    #[must_use]
+    #[inline]
+    pub const fn from_bits(bits: i16) -> Self
         ensures { bits_of result ≡ bits }
     {
         Self(bits)
     }
 
     /// The bits.
-    pub fn to_bits(self) -> i16
+    #[must_use]
+    #[inline]
+    pub const fn to_bits(self) -> i16
         ensures { result ≡ bits_of self }
     {
         self.0
     }
 
     /// The nearest whole number, ties upwards. It wraps: `F2Dot14::MAX.round()` is `F2Dot14::MIN`.
-    pub fn round(self) -> Self
+    #[must_use]
+    #[inline]
+    pub const fn round(self) -> Self
         ensures { IsNearestWhole 16 14 (bits_of self) (bits_of result) }
     {
         self.wrapping_add(Self(0x2000)).floor()
     }
 
     /// The greatest whole number that is not above the number.
-    pub fn floor(self) -> Self
+    #[must_use]
+    #[inline]
+    pub const fn floor(self) -> Self
         ensures { IsFloor 14 (bits_of self) (bits_of result) }
     {
         Self(self.0 - self.fract().0)
     }
 
     /// What the number has above its floor, from 0 to a step below 1.
-    pub fn fract(self) -> Self
+    #[must_use]
+    #[inline]
+    pub const fn fract(self) -> Self
         ensures { IsFract 14 (bits_of self) (bits_of result) }
     {
         Self(self.0.rem_euclid(0x4000))
     }
 
     /// The number without its sign. It wraps: `F2Dot14::MIN.abs()` is `F2Dot14::MIN`.
-    pub fn abs(self) -> Self
+    #[must_use]
+    #[inline]
+    pub const fn abs(self) -> Self
         ensures { bits_of result ≡ wrap 16 (pos (unsigned_abs (bits_of self))) }
     {
         Self(self.0.wrapping_abs())
     }
 
     /// The sum, wrapped.
-    pub fn wrapping_add(self, other: Self) -> Self
+    #[must_use]
+    #[inline]
+    pub const fn wrapping_add(self, other: Self) -> Self
         ensures { bits_of result ≡ wrap 16 (bits_of self +ℤ bits_of other) }
     {
         Self(self.0.wrapping_add(other.0))
     }
 
     /// The difference, wrapped.
-    pub fn wrapping_sub(self, other: Self) -> Self
+    #[must_use]
+    #[inline]
+    pub const fn wrapping_sub(self, other: Self) -> Self
         ensures { bits_of result ≡ wrap 16 (bits_of self -ℤ bits_of other) }
     {
         Self(self.0.wrapping_sub(other.0))
     }
 
     /// The sum, or the nearest end of the range where it is out of it.
-    pub fn saturating_add(self, other: Self) -> Self
+    #[must_use]
+    #[inline]
+    pub const fn saturating_add(self, other: Self) -> Self
         ensures { bits_of result ≡ clamp 16 (bits_of self +ℤ bits_of other) }
     {
         Self(self.0.saturating_add(other.0))
     }
 
     /// The difference, or the nearest end of the range where it is out of it.
-    pub fn saturating_sub(self, other: Self) -> Self
+    #[must_use]
+    #[inline]
+    pub const fn saturating_sub(self, other: Self) -> Self
         ensures { bits_of result ≡ clamp 16 (bits_of self -ℤ bits_of other) }
     {
         Self(self.0.saturating_sub(other.0))
     }
 
     /// The sum, or `None` where it is out of range.
+    #[must_use]
+    #[inline]
     pub fn checked_add(self, other: Self) -> Option<Self>
         ensures variant { IsSome result ↔ FitsBits 16 (bits_of self +ℤ bits_of other) }
         ensures value { IfSome result (λ sum. bits_of sum ≡ (bits_of self +ℤ bits_of other)) }
@@ -142,15 +164,19 @@ impl F2Dot14 {
     }
 
     /// The two bytes of the bits, highest first.
+    #[must_use]
+    #[inline]
     #[tactic(auto, using(font_base::proofs::StdBytes::std_bytes))]
-    pub fn to_be_bytes(self) -> [u8; 2]
+    pub const fn to_be_bytes(self) -> [u8; 2]
         ensures { result ≡ bytes_of 2 (bits_of self) }
     {
         self.0.to_be_bytes()
     }
 
     /// The same number as a `Fixed`.
-    pub fn to_fixed(self) -> Fixed
+    #[must_use]
+    #[inline]
+    pub const fn to_fixed(self) -> Fixed
         ensures { fixed_bits result ≡ (bits_of self *ℤ pos 4) }
     {
         Fixed::from_bits(self.0 as i32 * 4)
@@ -160,6 +186,8 @@ impl F2Dot14 {
     ///
     /// A delta counts in units of `1 / 16384`, the last bit of this type, with 16 bits of fraction
     /// behind it.
+    #[must_use]
+    #[inline]
     pub fn apply_delta(self, delta: F48Dot16) -> i128
         ensures { result ≡ (bits_of self *ℤ pos 65536 +ℤ f48dot16_bits delta) }
     {
@@ -172,6 +200,7 @@ impl F2Dot14 {
     ///
     /// A text outside the grammar is refused as `Syntax`, one whose nearest number is out of range
     /// as `OutOfRange`.
+    #[inline]
     pub fn from_decimal(text: &str) -> Result<Self, DecimalFault>
         ensures { ReadsBy w16 14 bits_of text.now result }
     {
@@ -183,6 +212,7 @@ impl F2Dot14 {
     /// # Errors
     ///
     /// Those of `from_decimal`; bytes that are no text are `Syntax`.
+    #[inline]
     pub fn from_decimal_bytes(text: &[u8]) -> Result<Self, DecimalFault>
         ensures { ReadsBy w16 14 bits_of text.now result }
     {
@@ -192,6 +222,7 @@ impl F2Dot14 {
     /// Writes the printed text to the front of `out`, padded, and returns the number of bytes;
     /// `None` where `out` is too short, which then stays as it was. 8 bytes, or the width where
     /// that is more, are always enough. The fill is below 0x80.
+    #[inline]
     pub fn write_padded(self, out: &mut [u8], pad: &Pad) -> Option<usize>
         requires { pad.now.fill < 128 }
         ensures written { IfSome result
@@ -206,6 +237,7 @@ impl F2Dot14 {
         font_decimal::write_padded(self.shortest().as_str(), out, pad)
     }
 
+    #[inline]
     fn shortest(self) -> Shortest
         ensures shortest { IsShortest (bits_of self) 14 (shown result) }
         ensures text { shown result ≡ text_of self }
@@ -219,6 +251,7 @@ impl Add for F2Dot14 {
 
     ghost add_gives = { λ x y sum. bits_of sum ≡ wrap 16 (bits_of x +ℤ bits_of y) };
 
+    #[inline]
     fn add(self, other: F2Dot14) -> F2Dot14 {
         self.wrapping_add(other)
     }
@@ -227,6 +260,7 @@ impl Add for F2Dot14 {
 impl AddAssign for F2Dot14 {
     ghost add_assign_gives = { λ x y sum. bits_of sum ≡ wrap 16 (bits_of x +ℤ bits_of y) };
 
+    #[inline]
     fn add_assign(&mut self, other: F2Dot14) {
         *self = *self + other;
     }
@@ -237,6 +271,7 @@ impl Sub for F2Dot14 {
 
     ghost sub_gives = { λ x y rest. bits_of rest ≡ wrap 16 (bits_of x -ℤ bits_of y) };
 
+    #[inline]
     fn sub(self, other: F2Dot14) -> F2Dot14 {
         self.wrapping_sub(other)
     }
@@ -245,6 +280,7 @@ impl Sub for F2Dot14 {
 impl SubAssign for F2Dot14 {
     ghost sub_assign_gives = { λ x y rest. bits_of rest ≡ wrap 16 (bits_of x -ℤ bits_of y) };
 
+    #[inline]
     fn sub_assign(&mut self, other: F2Dot14) {
         *self = *self - other;
     }
@@ -255,6 +291,7 @@ impl Neg for F2Dot14 {
 
     ghost neg_gives = { λ x opposite. bits_of opposite ≡ wrap 16 (neg_ℤ (bits_of x)) };
 
+    #[inline]
     fn neg(self) -> F2Dot14 {
         Self(self.0.wrapping_neg())
     }
@@ -266,6 +303,7 @@ impl FromStr for F2Dot14 {
 
     ghost from_str_gives = { λ text result. ReadsBy w16 14 bits_of text result };
 
+    #[inline]
     fn from_str(text: &str) -> Result<Self, DecimalFault> {
         Self::from_decimal(text)
     }
@@ -304,10 +342,12 @@ impl Scalar for F2Dot14 {
 
     ghost laws = { signed_newtype 2 (lit< tt) bits_of of_bits (λ _. refl) (λ _. refl) };
 
+    #[inline]
     fn from_raw(raw: [u8; 2]) -> F2Dot14 {
         Self(i16::from_raw(raw))
     }
 
+    #[inline]
     fn to_raw(self) -> [u8; 2] {
         self.0.to_raw()
     }

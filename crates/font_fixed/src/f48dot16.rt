@@ -58,14 +58,18 @@ impl F48Dot16 {
     const FRACTION_BITS: u32 = 16;
 
     /// The number with these bits.
-    pub fn from_bits(bits: i64) -> Self
+    #[must_use]
+    #[inline]
+    pub const fn from_bits(bits: i64) -> Self
         ensures { bits_of result ≡ bits }
     {
         Self(bits)
     }
 
     /// The bits.
-    pub fn to_bits(self) -> i64
+    #[must_use]
+    #[inline]
+    pub const fn to_bits(self) -> i64
         ensures { result ≡ bits_of self }
     {
         self.0
@@ -73,62 +77,80 @@ impl F48Dot16 {
 
     /// The nearest whole number, ties upwards. It wraps: `F48Dot16::MAX.round()` is
     /// `F48Dot16::MIN`.
-    pub fn round(self) -> Self
+    #[must_use]
+    #[inline]
+    pub const fn round(self) -> Self
         ensures { IsNearestWhole 64 16 (bits_of self) (bits_of result) }
     {
         self.wrapping_add(Self(0x8000)).floor()
     }
 
     /// The greatest whole number that is not above the number.
-    pub fn floor(self) -> Self
+    #[must_use]
+    #[inline]
+    pub const fn floor(self) -> Self
         ensures { IsFloor 16 (bits_of self) (bits_of result) }
     {
         Self(self.0 - self.fract().0)
     }
 
     /// What the number has above its floor, from 0 to a step below 1.
-    pub fn fract(self) -> Self
+    #[must_use]
+    #[inline]
+    pub const fn fract(self) -> Self
         ensures { IsFract 16 (bits_of self) (bits_of result) }
     {
         Self(self.0.rem_euclid(0x1_0000))
     }
 
     /// The number without its sign. It wraps: `F48Dot16::MIN.abs()` is `F48Dot16::MIN`.
-    pub fn abs(self) -> Self
+    #[must_use]
+    #[inline]
+    pub const fn abs(self) -> Self
         ensures { bits_of result ≡ wrap 64 (pos (unsigned_abs (bits_of self))) }
     {
         Self(self.0.wrapping_abs())
     }
 
     /// The sum, wrapped.
-    pub fn wrapping_add(self, other: Self) -> Self
+    #[must_use]
+    #[inline]
+    pub const fn wrapping_add(self, other: Self) -> Self
         ensures { bits_of result ≡ wrap 64 (bits_of self +ℤ bits_of other) }
     {
         Self(self.0.wrapping_add(other.0))
     }
 
     /// The difference, wrapped.
-    pub fn wrapping_sub(self, other: Self) -> Self
+    #[must_use]
+    #[inline]
+    pub const fn wrapping_sub(self, other: Self) -> Self
         ensures { bits_of result ≡ wrap 64 (bits_of self -ℤ bits_of other) }
     {
         Self(self.0.wrapping_sub(other.0))
     }
 
     /// The sum, or the nearest end of the range where it is out of it.
-    pub fn saturating_add(self, other: Self) -> Self
+    #[must_use]
+    #[inline]
+    pub const fn saturating_add(self, other: Self) -> Self
         ensures { bits_of result ≡ clamp 64 (bits_of self +ℤ bits_of other) }
     {
         Self(self.0.saturating_add(other.0))
     }
 
     /// The difference, or the nearest end of the range where it is out of it.
-    pub fn saturating_sub(self, other: Self) -> Self
+    #[must_use]
+    #[inline]
+    pub const fn saturating_sub(self, other: Self) -> Self
         ensures { bits_of result ≡ clamp 64 (bits_of self -ℤ bits_of other) }
     {
         Self(self.0.saturating_sub(other.0))
     }
 
     /// The sum, or `None` where it is out of range.
+    #[must_use]
+    #[inline]
     pub fn checked_add(self, other: Self) -> Option<Self>
         ensures variant { IsSome result ↔ FitsBits 64 (bits_of self +ℤ bits_of other) }
         ensures value { IfSome result (λ sum. bits_of sum ≡ (bits_of self +ℤ bits_of other)) }
@@ -137,43 +159,55 @@ impl F48Dot16 {
     }
 
     /// The eight bytes of the bits, highest first.
+    #[must_use]
+    #[inline]
     #[tactic(auto, using(font_base::proofs::StdBytes::std_bytes))]
-    pub fn to_be_bytes(self) -> [u8; 8]
+    pub const fn to_be_bytes(self) -> [u8; 8]
         ensures { result ≡ bytes_of 8 (bits_of self) }
     {
         self.0.to_be_bytes()
     }
 
     /// A whole number, wrapped.
-    pub fn from_i64(number: i64) -> Self
+    #[must_use]
+    #[inline]
+    pub const fn from_i64(number: i64) -> Self
         ensures { bits_of result ≡ wrap 64 (number *ℤ pos (2 ^ 16)) }
     {
         Self(number.wrapping_mul(0x1_0000))
     }
 
     /// A whole number, which always fits.
-    pub fn from_i32(number: i32) -> Self
+    #[must_use]
+    #[inline]
+    pub const fn from_i32(number: i32) -> Self
         ensures { bits_of result ≡ (number *ℤ pos (2 ^ 16)) }
     {
         Self(number as i64 * 0x1_0000)
     }
 
     /// The nearest whole number, ties upwards, wrapped to 48 bits.
-    pub fn to_i64(self) -> i64
+    #[must_use]
+    #[inline]
+    pub const fn to_i64(self) -> i64
         ensures { IsNarrowed 48 (bits_of self) (2 ^ 16) result }
     {
         self.wrapping_add(Self(0x8000)).0 >> 16
     }
 
     /// The nearest whole number, ties upwards, wrapped to 32 bits.
-    pub fn to_i32(self) -> i32
+    #[must_use]
+    #[inline]
+    pub const fn to_i32(self) -> i32
         ensures { IsNarrowed 32 (bits_of self) (2 ^ 16) result }
     {
         low_bits(self.to_i64())
     }
 
     /// The same number as a `Fixed`, its bits wrapped to 32.
-    pub fn to_fixed(self) -> Fixed
+    #[must_use]
+    #[inline]
+    pub const fn to_fixed(self) -> Fixed
         ensures { fixed_bits result ≡ wrap 32 (bits_of self) }
     {
         Fixed::from_bits(low_bits(self.0))
@@ -185,6 +219,7 @@ impl F48Dot16 {
     ///
     /// A text outside the grammar is refused as `Syntax`, one whose nearest number is out of range
     /// as `OutOfRange`.
+    #[inline]
     pub fn from_decimal(text: &str) -> Result<Self, DecimalFault>
         ensures { ReadsBy w64 16 bits_of text.now result }
     {
@@ -196,6 +231,7 @@ impl F48Dot16 {
     /// # Errors
     ///
     /// Those of `from_decimal`; bytes that are no text are `Syntax`.
+    #[inline]
     pub fn from_decimal_bytes(text: &[u8]) -> Result<Self, DecimalFault>
         ensures { ReadsBy w64 16 bits_of text.now result }
     {
@@ -205,6 +241,7 @@ impl F48Dot16 {
     /// Writes the printed text to the front of `out`, padded, and returns the number of bytes;
     /// `None` where `out` is too short, which then stays as it was. 22 bytes, or the width where
     /// that is more, are always enough. The fill is below 0x80.
+    #[inline]
     pub fn write_padded(self, out: &mut [u8], pad: &Pad) -> Option<usize>
         requires { pad.now.fill < 128 }
         ensures written { IfSome result
@@ -219,6 +256,7 @@ impl F48Dot16 {
         font_decimal::write_padded(self.shortest().as_str(), out, pad)
     }
 
+    #[inline]
     fn shortest(self) -> Shortest
         ensures shortest { IsShortest (bits_of self) 16 (shown result) }
         ensures text { shown result ≡ text_of self }
@@ -232,6 +270,7 @@ impl Add for F48Dot16 {
 
     ghost add_gives = { λ x y sum. bits_of sum ≡ wrap 64 (bits_of x +ℤ bits_of y) };
 
+    #[inline]
     fn add(self, other: F48Dot16) -> F48Dot16 {
         self.wrapping_add(other)
     }
@@ -240,6 +279,7 @@ impl Add for F48Dot16 {
 impl AddAssign for F48Dot16 {
     ghost add_assign_gives = { λ x y sum. bits_of sum ≡ wrap 64 (bits_of x +ℤ bits_of y) };
 
+    #[inline]
     fn add_assign(&mut self, other: F48Dot16) {
         *self = *self + other;
     }
@@ -250,6 +290,7 @@ impl Sub for F48Dot16 {
 
     ghost sub_gives = { λ x y rest. bits_of rest ≡ wrap 64 (bits_of x -ℤ bits_of y) };
 
+    #[inline]
     fn sub(self, other: F48Dot16) -> F48Dot16 {
         self.wrapping_sub(other)
     }
@@ -258,6 +299,7 @@ impl Sub for F48Dot16 {
 impl SubAssign for F48Dot16 {
     ghost sub_assign_gives = { λ x y rest. bits_of rest ≡ wrap 64 (bits_of x -ℤ bits_of y) };
 
+    #[inline]
     fn sub_assign(&mut self, other: F48Dot16) {
         *self = *self - other;
     }
@@ -268,6 +310,7 @@ impl Neg for F48Dot16 {
 
     ghost neg_gives = { λ x opposite. bits_of opposite ≡ wrap 64 (neg_ℤ (bits_of x)) };
 
+    #[inline]
     fn neg(self) -> F48Dot16 {
         Self(self.0.wrapping_neg())
     }
@@ -279,6 +322,7 @@ impl FromStr for F48Dot16 {
 
     ghost from_str_gives = { λ text result. ReadsBy w64 16 bits_of text result };
 
+    #[inline]
     fn from_str(text: &str) -> Result<Self, DecimalFault> {
         Self::from_decimal(text)
     }

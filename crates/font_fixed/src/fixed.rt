@@ -68,76 +68,98 @@ impl Fixed {
     const FRACTION_BITS: u32 = 16;
 
     /// The number with these bits.
-    pub fn from_bits(bits: i32) -> Self
+    #[must_use]
+    #[inline]
+    pub const fn from_bits(bits: i32) -> Self
         ensures { bits_of result ≡ bits }
     {
         Self(bits)
     }
 
     /// The bits.
-    pub fn to_bits(self) -> i32
+    #[must_use]
+    #[inline]
+    pub const fn to_bits(self) -> i32
         ensures { result ≡ bits_of self }
     {
         self.0
     }
 
     /// The nearest whole number, ties upwards. It wraps: `Fixed::MAX.round()` is `Fixed::MIN`.
-    pub fn round(self) -> Self
+    #[must_use]
+    #[inline]
+    pub const fn round(self) -> Self
         ensures { IsNearestWhole 32 16 (bits_of self) (bits_of result) }
     {
         self.wrapping_add(Self(0x8000)).floor()
     }
 
     /// The greatest whole number that is not above the number.
-    pub fn floor(self) -> Self
+    #[must_use]
+    #[inline]
+    pub const fn floor(self) -> Self
         ensures { IsFloor 16 (bits_of self) (bits_of result) }
     {
         Self(self.0 - self.fract().0)
     }
 
     /// What the number has above its floor, from 0 to a step below 1.
-    pub fn fract(self) -> Self
+    #[must_use]
+    #[inline]
+    pub const fn fract(self) -> Self
         ensures { IsFract 16 (bits_of self) (bits_of result) }
     {
         Self(self.0.rem_euclid(0x1_0000))
     }
 
     /// The number without its sign. It wraps: `Fixed::MIN.abs()` is `Fixed::MIN`.
-    pub fn abs(self) -> Self
+    #[must_use]
+    #[inline]
+    pub const fn abs(self) -> Self
         ensures { bits_of result ≡ wrap 32 (pos (unsigned_abs (bits_of self))) }
     {
         Self(self.0.wrapping_abs())
     }
 
     /// The sum, wrapped.
-    pub fn wrapping_add(self, other: Self) -> Self
+    #[must_use]
+    #[inline]
+    pub const fn wrapping_add(self, other: Self) -> Self
         ensures { bits_of result ≡ wrap 32 (bits_of self +ℤ bits_of other) }
     {
         Self(self.0.wrapping_add(other.0))
     }
 
     /// The difference, wrapped.
-    pub fn wrapping_sub(self, other: Self) -> Self
+    #[must_use]
+    #[inline]
+    pub const fn wrapping_sub(self, other: Self) -> Self
         ensures { bits_of result ≡ wrap 32 (bits_of self -ℤ bits_of other) }
     {
         Self(self.0.wrapping_sub(other.0))
     }
 
     /// The sum, or the nearest end of the range where it is out of it.
-    pub fn saturating_add(self, other: Self) -> Self
+    #[must_use]
+    #[inline]
+    pub const fn saturating_add(self, other: Self) -> Self
         ensures { bits_of result ≡ clamp 32 (bits_of self +ℤ bits_of other) }
     {
         Self(self.0.saturating_add(other.0))
     }
 
     /// The difference, or the nearest end of the range where it is out of it.
-    pub fn saturating_sub(self, other: Self) -> Self
+    #[must_use]
+    #[inline]
+    pub const fn saturating_sub(self, other: Self) -> Self
         ensures { bits_of result ≡ clamp 32 (bits_of self -ℤ bits_of other) }
     {
         Self(self.0.saturating_sub(other.0))
     }
 
     /// The sum, or `None` where it is out of range.
+    #[must_use]
+    #[inline]
     pub fn checked_add(self, other: Self) -> Option<Self>
         ensures variant { IsSome result ↔ FitsBits 32 (bits_of self +ℤ bits_of other) }
         ensures value { IfSome result (λ sum. bits_of sum ≡ (bits_of self +ℤ bits_of other)) }
@@ -146,8 +168,10 @@ impl Fixed {
     }
 
     /// The four bytes of the bits, highest first.
+    #[must_use]
+    #[inline]
     #[tactic(auto, using(font_base::proofs::StdBytes::std_bytes))]
-    pub fn to_be_bytes(self) -> [u8; 4]
+    pub const fn to_be_bytes(self) -> [u8; 4]
         ensures { result ≡ bytes_of 4 (bits_of self) }
     {
         self.0.to_be_bytes()
@@ -157,7 +181,9 @@ impl Fixed {
     ///
     /// Where `c` is zero it is the greatest number, negated where just one of `self` and `a` is
     /// negative.
-    pub fn mul_div(&self, a: Self, c: Self) -> Self
+    #[must_use]
+    #[inline]
+    pub const fn mul_div(&self, a: Self, c: Self) -> Self
         ensures { IsMulDiv 32 (bits_of self.now) (bits_of a) (bits_of c)
             (bits_of result) }
     {
@@ -165,42 +191,54 @@ impl Fixed {
     }
 
     /// A whole number, wrapped.
-    pub fn from_i32(number: i32) -> Self
+    #[must_use]
+    #[inline]
+    pub const fn from_i32(number: i32) -> Self
         ensures { bits_of result ≡ wrap 32 (number *ℤ pos (2 ^ 16)) }
     {
         Self(number.wrapping_mul(0x1_0000))
     }
 
     /// The nearest whole number, ties upwards, wrapped to 16 bits.
-    pub fn to_i32(self) -> i32
+    #[must_use]
+    #[inline]
+    pub const fn to_i32(self) -> i32
         ensures { IsNarrowed 16 (bits_of self) (2 ^ 16) result }
     {
         self.wrapping_add(Self(0x8000)).0 >> 16
     }
 
     /// The nearest `F26Dot6`, ties upwards, its bits wrapped to 22.
-    pub fn to_f26dot6(self) -> F26Dot6
+    #[must_use]
+    #[inline]
+    pub const fn to_f26dot6(self) -> F26Dot6
         ensures { IsNarrowed 22 (bits_of self) (2 ^ 10) (f26dot6_bits result) }
     {
         F26Dot6::from_bits(self.wrapping_add(Self(0x200)).0 >> 10)
     }
 
     /// The nearest `F2Dot14`, ties upwards, its bits wrapped to 16.
-    pub fn to_f2dot14(self) -> F2Dot14
+    #[must_use]
+    #[inline]
+    pub const fn to_f2dot14(self) -> F2Dot14
         ensures { IsNarrowed 16 (bits_of self) 4 (f2dot14_bits result) }
     {
         F2Dot14::from_bits(low_half(self.quarter()))
     }
 
     /// The same number as an `F48Dot16`.
-    pub fn to_f48dot16(self) -> F48Dot16
+    #[must_use]
+    #[inline]
+    pub const fn to_f48dot16(self) -> F48Dot16
         ensures { f48dot16_bits result ≡ bits_of self }
     {
         F48Dot16::from_bits(self.0 as i64)
     }
 
     /// The exact product with a whole number.
-    pub fn mul_i32(self, number: i32) -> F48Dot16
+    #[must_use]
+    #[inline]
+    pub const fn mul_i32(self, number: i32) -> F48Dot16
         ensures { f48dot16_bits result ≡ (bits_of self *ℤ number) }
     {
         F48Dot16::from_bits(self.0 as i64 * number as i64)
@@ -209,6 +247,8 @@ impl Fixed {
     /// The number with so many steps of `2^-16`, or `None` where 32 bits do not hold it.
     ///
     /// `apply_delta` of a font unit gives its result in such steps.
+    #[must_use]
+    #[inline]
     pub fn from_steps(steps: i128) -> Option<Fixed>
         ensures variant { IsSome result ↔ FitsBits 32 steps }
         ensures value { IfSome result (λ number. bits_of number ≡ steps) }
@@ -220,6 +260,8 @@ impl Fixed {
     ///
     /// A delta counts in units of `1 / 65536`, the last bit of this type, with 16 bits of fraction
     /// behind it.
+    #[must_use]
+    #[inline]
     pub fn apply_delta(self, delta: F48Dot16) -> i128
         ensures { result ≡ (bits_of self *ℤ pos 65536 +ℤ f48dot16_bits delta) }
     {
@@ -232,6 +274,7 @@ impl Fixed {
     ///
     /// A text outside the grammar is refused as `Syntax`, one whose nearest number is out of range
     /// as `OutOfRange`.
+    #[inline]
     pub fn from_decimal(text: &str) -> Result<Self, DecimalFault>
         ensures { ReadsBy w32 16 bits_of text.now result }
     {
@@ -243,6 +286,7 @@ impl Fixed {
     /// # Errors
     ///
     /// Those of `from_decimal`; bytes that are no text are `Syntax`.
+    #[inline]
     pub fn from_decimal_bytes(text: &[u8]) -> Result<Self, DecimalFault>
         ensures { ReadsBy w32 16 bits_of text.now result }
     {
@@ -252,6 +296,7 @@ impl Fixed {
     /// Writes the printed text to the front of `out`, padded, and returns the number of bytes;
     /// `None` where `out` is too short, which then stays as it was. 12 bytes, or the width where
     /// that is more, are always enough. The fill is below 0x80.
+    #[inline]
     pub fn write_padded(self, out: &mut [u8], pad: &Pad) -> Option<usize>
         requires { pad.now.fill < 128 }
         ensures written { IfSome result
@@ -266,6 +311,7 @@ impl Fixed {
         font_decimal::write_padded(self.shortest().as_str(), out, pad)
     }
 
+    #[inline]
     fn shortest(self) -> Shortest
         ensures shortest { IsShortest (bits_of self) 16 (shown result) }
         ensures text { shown result ≡ text_of self }
@@ -274,7 +320,8 @@ impl Fixed {
     }
 
     // The nearest number of four steps, ties upwards, wrapped to 30 bits.
-    fn quarter(self) -> i32
+    #[inline]
+    const fn quarter(self) -> i32
         ensures { IsNarrowed 30 (bits_of self) 4 result }
     {
         self.wrapping_add(Self(2)).0 >> 2
@@ -282,7 +329,8 @@ impl Fixed {
 }
 
 // The last 16 bits of a number, as a signed one.
-fn low_half(n: i32) -> i16
+#[inline]
+const fn low_half(n: i32) -> i16
     ensures { result ≡ wrap 16 n }
 {
     (n.rem_euclid(0x1_0000) as u16).cast_signed()
@@ -293,6 +341,7 @@ impl Add for Fixed {
 
     ghost add_gives = { λ x y sum. bits_of sum ≡ wrap 32 (bits_of x +ℤ bits_of y) };
 
+    #[inline]
     fn add(self, other: Fixed) -> Fixed {
         self.wrapping_add(other)
     }
@@ -301,6 +350,7 @@ impl Add for Fixed {
 impl AddAssign for Fixed {
     ghost add_assign_gives = { λ x y sum. bits_of sum ≡ wrap 32 (bits_of x +ℤ bits_of y) };
 
+    #[inline]
     fn add_assign(&mut self, other: Fixed) {
         *self = *self + other;
     }
@@ -311,6 +361,7 @@ impl Sub for Fixed {
 
     ghost sub_gives = { λ x y rest. bits_of rest ≡ wrap 32 (bits_of x -ℤ bits_of y) };
 
+    #[inline]
     fn sub(self, other: Fixed) -> Fixed {
         self.wrapping_sub(other)
     }
@@ -319,6 +370,7 @@ impl Sub for Fixed {
 impl SubAssign for Fixed {
     ghost sub_assign_gives = { λ x y rest. bits_of rest ≡ wrap 32 (bits_of x -ℤ bits_of y) };
 
+    #[inline]
     fn sub_assign(&mut self, other: Fixed) {
         *self = *self - other;
     }
@@ -329,6 +381,7 @@ impl Neg for Fixed {
 
     ghost neg_gives = { λ x opposite. bits_of opposite ≡ wrap 32 (neg_ℤ (bits_of x)) };
 
+    #[inline]
     fn neg(self) -> Fixed {
         Self(self.0.wrapping_neg())
     }
@@ -340,6 +393,7 @@ impl Mul for Fixed {
     ghost mul_gives = { λ x y product.
         IsProduct 32 16 (bits_of x) (bits_of y) (bits_of product) };
 
+    #[inline]
     fn mul(self, other: Fixed) -> Fixed {
         Self(product(self.0, other.0, Self::FRACTION_BITS))
     }
@@ -349,6 +403,7 @@ impl MulAssign for Fixed {
     ghost mul_assign_gives = { λ x y product.
         IsProduct 32 16 (bits_of x) (bits_of y) (bits_of product) };
 
+    #[inline]
     fn mul_assign(&mut self, other: Fixed) {
         *self = *self * other;
     }
@@ -361,6 +416,7 @@ impl Div for Fixed {
     ghost div_gives = { λ x y quotient.
         IsQuotient 32 16 (bits_of x) (bits_of y) (bits_of quotient) };
 
+    #[inline]
     fn div(self, other: Fixed) -> Fixed {
         self.mul_div(Self::ONE, other)
     }
@@ -370,6 +426,7 @@ impl DivAssign for Fixed {
     ghost div_assign_gives = { λ x y quotient.
         IsQuotient 32 16 (bits_of x) (bits_of y) (bits_of quotient) };
 
+    #[inline]
     fn div_assign(&mut self, other: Fixed) {
         *self = *self / other;
     }
@@ -378,6 +435,7 @@ impl DivAssign for Fixed {
 impl From<i32> for Fixed {
     ghost from_gives = { λ number fixed. bits_of fixed ≡ wrap 32 (number *ℤ pos (2 ^ 16)) };
 
+    #[inline]
     fn from(number: i32) -> Fixed {
         Fixed::from_i32(number)
     }
@@ -387,6 +445,7 @@ impl From<i32> for Fixed {
 impl From<F2Dot14> for Fixed {
     ghost from_gives = { λ number fixed. bits_of fixed ≡ (f2dot14_bits number *ℤ pos 4) };
 
+    #[inline]
     fn from(number: F2Dot14) -> Fixed {
         number.to_fixed()
     }
@@ -398,6 +457,7 @@ impl FromStr for Fixed {
 
     ghost from_str_gives = { λ text result. ReadsBy w32 16 bits_of text result };
 
+    #[inline]
     fn from_str(text: &str) -> Result<Self, DecimalFault> {
         Self::from_decimal(text)
     }
@@ -436,10 +496,12 @@ impl Scalar for Fixed {
 
     ghost laws = { signed_newtype 4 (lit< tt) bits_of of_bits (λ _. refl) (λ _. refl) };
 
+    #[inline]
     fn from_raw(raw: [u8; 4]) -> Fixed {
         Self(i32::from_raw(raw))
     }
 
+    #[inline]
     fn to_raw(self) -> [u8; 4] {
         self.0.to_raw()
     }

@@ -64,76 +64,98 @@ impl F2Dot30 {
     const FRACTION_BITS: u32 = 30;
 
     /// The number with these bits.
-    pub fn from_bits(bits: i32) -> Self
+    #[must_use]
+    #[inline]
+    pub const fn from_bits(bits: i32) -> Self
         ensures { bits_of result ≡ bits }
     {
         Self(bits)
     }
 
     /// The bits.
-    pub fn to_bits(self) -> i32
+    #[must_use]
+    #[inline]
+    pub const fn to_bits(self) -> i32
         ensures { result ≡ bits_of self }
     {
         self.0
     }
 
     /// The nearest whole number, ties upwards. It wraps: `F2Dot30::MAX.round()` is `F2Dot30::MIN`.
-    pub fn round(self) -> Self
+    #[must_use]
+    #[inline]
+    pub const fn round(self) -> Self
         ensures { IsNearestWhole 32 30 (bits_of self) (bits_of result) }
     {
         self.wrapping_add(Self(0x2000_0000)).floor()
     }
 
     /// The greatest whole number that is not above the number.
-    pub fn floor(self) -> Self
+    #[must_use]
+    #[inline]
+    pub const fn floor(self) -> Self
         ensures { IsFloor 30 (bits_of self) (bits_of result) }
     {
         Self(self.0 - self.fract().0)
     }
 
     /// What the number has above its floor, from 0 to a step below 1.
-    pub fn fract(self) -> Self
+    #[must_use]
+    #[inline]
+    pub const fn fract(self) -> Self
         ensures { IsFract 30 (bits_of self) (bits_of result) }
     {
         Self(self.0.rem_euclid(0x4000_0000))
     }
 
     /// The number without its sign. It wraps: `F2Dot30::MIN.abs()` is `F2Dot30::MIN`.
-    pub fn abs(self) -> Self
+    #[must_use]
+    #[inline]
+    pub const fn abs(self) -> Self
         ensures { bits_of result ≡ wrap 32 (pos (unsigned_abs (bits_of self))) }
     {
         Self(self.0.wrapping_abs())
     }
 
     /// The sum, wrapped.
-    pub fn wrapping_add(self, other: Self) -> Self
+    #[must_use]
+    #[inline]
+    pub const fn wrapping_add(self, other: Self) -> Self
         ensures { bits_of result ≡ wrap 32 (bits_of self +ℤ bits_of other) }
     {
         Self(self.0.wrapping_add(other.0))
     }
 
     /// The difference, wrapped.
-    pub fn wrapping_sub(self, other: Self) -> Self
+    #[must_use]
+    #[inline]
+    pub const fn wrapping_sub(self, other: Self) -> Self
         ensures { bits_of result ≡ wrap 32 (bits_of self -ℤ bits_of other) }
     {
         Self(self.0.wrapping_sub(other.0))
     }
 
     /// The sum, or the nearest end of the range where it is out of it.
-    pub fn saturating_add(self, other: Self) -> Self
+    #[must_use]
+    #[inline]
+    pub const fn saturating_add(self, other: Self) -> Self
         ensures { bits_of result ≡ clamp 32 (bits_of self +ℤ bits_of other) }
     {
         Self(self.0.saturating_add(other.0))
     }
 
     /// The difference, or the nearest end of the range where it is out of it.
-    pub fn saturating_sub(self, other: Self) -> Self
+    #[must_use]
+    #[inline]
+    pub const fn saturating_sub(self, other: Self) -> Self
         ensures { bits_of result ≡ clamp 32 (bits_of self -ℤ bits_of other) }
     {
         Self(self.0.saturating_sub(other.0))
     }
 
     /// The sum, or `None` where it is out of range.
+    #[must_use]
+    #[inline]
     pub fn checked_add(self, other: Self) -> Option<Self>
         ensures variant { IsSome result ↔ FitsBits 32 (bits_of self +ℤ bits_of other) }
         ensures value { IfSome result (λ sum. bits_of sum ≡ (bits_of self +ℤ bits_of other)) }
@@ -142,8 +164,10 @@ impl F2Dot30 {
     }
 
     /// The four bytes of the bits, highest first.
+    #[must_use]
+    #[inline]
     #[tactic(auto, using(font_base::proofs::StdBytes::std_bytes))]
-    pub fn to_be_bytes(self) -> [u8; 4]
+    pub const fn to_be_bytes(self) -> [u8; 4]
         ensures { result ≡ bytes_of 4 (bits_of self) }
     {
         self.0.to_be_bytes()
@@ -151,28 +175,36 @@ impl F2Dot30 {
 
     /// The number of a `Fixed`, its bits wrapped to 32: the same number where that is from -2 to
     /// below 2.
-    pub fn from_fixed(number: Fixed) -> Self
+    #[must_use]
+    #[inline]
+    pub const fn from_fixed(number: Fixed) -> Self
         ensures { bits_of result ≡ wrap 32 (fixed_bits number *ℤ pos (2 ^ 14)) }
     {
         Self(number.to_bits().wrapping_mul(0x4000))
     }
 
     /// The number of an `F2Dot14`.
-    pub fn from_f2dot14(number: F2Dot14) -> Self
+    #[must_use]
+    #[inline]
+    pub const fn from_f2dot14(number: F2Dot14) -> Self
         ensures { bits_of result ≡ (f2dot14_bits number *ℤ pos (2 ^ 16)) }
     {
         Self(number.to_bits() as i32 * 0x1_0000)
     }
 
     /// The nearest `Fixed`, ties upwards.
-    pub fn to_fixed(self) -> Fixed
+    #[must_use]
+    #[inline]
+    pub const fn to_fixed(self) -> Fixed
         ensures { fixed_bits result ≡ up (bits_of self) (2 ^ 14) }
     {
         Fixed::from_bits(((self.0 >> 13) + 1) >> 1)
     }
 
     /// The nearest `F2Dot14`, ties upwards, its bits wrapped to 16.
-    pub fn to_f2dot14(self) -> F2Dot14
+    #[must_use]
+    #[inline]
+    pub const fn to_f2dot14(self) -> F2Dot14
         ensures { IsNarrowed 16 (bits_of self) (2 ^ 16) (f2dot14_bits result) }
     {
         F2Dot14::from_bits((self.wrapping_add(Self(0x8000)).0 >> 16) as i16)
@@ -184,6 +216,7 @@ impl F2Dot30 {
     ///
     /// A text outside the grammar is refused as `Syntax`, one whose nearest number is out of range
     /// as `OutOfRange`.
+    #[inline]
     pub fn from_decimal(text: &str) -> Result<Self, DecimalFault>
         ensures { ReadsBy w32 30 bits_of text.now result }
     {
@@ -195,6 +228,7 @@ impl F2Dot30 {
     /// # Errors
     ///
     /// Those of `from_decimal`; bytes that are no text are `Syntax`.
+    #[inline]
     pub fn from_decimal_bytes(text: &[u8]) -> Result<Self, DecimalFault>
         ensures { ReadsBy w32 30 bits_of text.now result }
     {
@@ -204,6 +238,7 @@ impl F2Dot30 {
     /// Writes the printed text to the front of `out`, padded, and returns the number of bytes;
     /// `None` where `out` is too short, which then stays as it was. 13 bytes, or the width where
     /// that is more, are always enough. The fill is below 0x80.
+    #[inline]
     pub fn write_padded(self, out: &mut [u8], pad: &Pad) -> Option<usize>
         requires { pad.now.fill < 128 }
         ensures written { IfSome result
@@ -218,6 +253,7 @@ impl F2Dot30 {
         font_decimal::write_padded(self.shortest().as_str(), out, pad)
     }
 
+    #[inline]
     fn shortest(self) -> Shortest
         ensures shortest { IsShortest (bits_of self) 30 (shown result) }
         ensures text { shown result ≡ text_of self }
@@ -231,6 +267,7 @@ impl Add for F2Dot30 {
 
     ghost add_gives = { λ x y sum. bits_of sum ≡ wrap 32 (bits_of x +ℤ bits_of y) };
 
+    #[inline]
     fn add(self, other: F2Dot30) -> F2Dot30 {
         self.wrapping_add(other)
     }
@@ -239,6 +276,7 @@ impl Add for F2Dot30 {
 impl AddAssign for F2Dot30 {
     ghost add_assign_gives = { λ x y sum. bits_of sum ≡ wrap 32 (bits_of x +ℤ bits_of y) };
 
+    #[inline]
     fn add_assign(&mut self, other: F2Dot30) {
         *self = *self + other;
     }
@@ -249,6 +287,7 @@ impl Sub for F2Dot30 {
 
     ghost sub_gives = { λ x y rest. bits_of rest ≡ wrap 32 (bits_of x -ℤ bits_of y) };
 
+    #[inline]
     fn sub(self, other: F2Dot30) -> F2Dot30 {
         self.wrapping_sub(other)
     }
@@ -257,6 +296,7 @@ impl Sub for F2Dot30 {
 impl SubAssign for F2Dot30 {
     ghost sub_assign_gives = { λ x y rest. bits_of rest ≡ wrap 32 (bits_of x -ℤ bits_of y) };
 
+    #[inline]
     fn sub_assign(&mut self, other: F2Dot30) {
         *self = *self - other;
     }
@@ -267,6 +307,7 @@ impl Neg for F2Dot30 {
 
     ghost neg_gives = { λ x opposite. bits_of opposite ≡ wrap 32 (neg_ℤ (bits_of x)) };
 
+    #[inline]
     fn neg(self) -> F2Dot30 {
         Self(self.0.wrapping_neg())
     }
@@ -276,6 +317,7 @@ impl Neg for F2Dot30 {
 impl From<F2Dot14> for F2Dot30 {
     ghost from_gives = { λ number long. bits_of long ≡ (f2dot14_bits number *ℤ pos (2 ^ 16)) };
 
+    #[inline]
     fn from(number: F2Dot14) -> F2Dot30 {
         F2Dot30::from_f2dot14(number)
     }
@@ -287,6 +329,7 @@ impl FromStr for F2Dot30 {
 
     ghost from_str_gives = { λ text result. ReadsBy w32 30 bits_of text result };
 
+    #[inline]
     fn from_str(text: &str) -> Result<Self, DecimalFault> {
         Self::from_decimal(text)
     }
@@ -325,10 +368,12 @@ impl Scalar for F2Dot30 {
 
     ghost laws = { signed_newtype 4 (lit< tt) bits_of of_bits (λ _. refl) (λ _. refl) };
 
+    #[inline]
     fn from_raw(raw: [u8; 4]) -> F2Dot30 {
         Self(i32::from_raw(raw))
     }
 
+    #[inline]
     fn to_raw(self) -> [u8; 4] {
         self.0.to_raw()
     }

@@ -59,76 +59,98 @@ impl F6Dot10 {
     const FRACTION_BITS: u32 = 10;
 
     /// The number with these bits.
-    pub fn from_bits(bits: i16) -> Self
+    #[must_use]
+    #[inline]
+    pub const fn from_bits(bits: i16) -> Self
         ensures { bits_of result ≡ bits }
     {
         Self(bits)
     }
 
     /// The bits.
-    pub fn to_bits(self) -> i16
+    #[must_use]
+    #[inline]
+    pub const fn to_bits(self) -> i16
         ensures { result ≡ bits_of self }
     {
         self.0
     }
 
     /// The nearest whole number, ties upwards. It wraps: `F6Dot10::MAX.round()` is `F6Dot10::MIN`.
-    pub fn round(self) -> Self
+    #[must_use]
+    #[inline]
+    pub const fn round(self) -> Self
         ensures { IsNearestWhole 16 10 (bits_of self) (bits_of result) }
     {
         self.wrapping_add(Self(0x200)).floor()
     }
 
     /// The greatest whole number that is not above the number.
-    pub fn floor(self) -> Self
+    #[must_use]
+    #[inline]
+    pub const fn floor(self) -> Self
         ensures { IsFloor 10 (bits_of self) (bits_of result) }
     {
         Self(self.0 - self.fract().0)
     }
 
     /// What the number has above its floor, from 0 to a step below 1.
-    pub fn fract(self) -> Self
+    #[must_use]
+    #[inline]
+    pub const fn fract(self) -> Self
         ensures { IsFract 10 (bits_of self) (bits_of result) }
     {
         Self(self.0.rem_euclid(0x400))
     }
 
     /// The number without its sign. It wraps: `F6Dot10::MIN.abs()` is `F6Dot10::MIN`.
-    pub fn abs(self) -> Self
+    #[must_use]
+    #[inline]
+    pub const fn abs(self) -> Self
         ensures { bits_of result ≡ wrap 16 (pos (unsigned_abs (bits_of self))) }
     {
         Self(self.0.wrapping_abs())
     }
 
     /// The sum, wrapped.
-    pub fn wrapping_add(self, other: Self) -> Self
+    #[must_use]
+    #[inline]
+    pub const fn wrapping_add(self, other: Self) -> Self
         ensures { bits_of result ≡ wrap 16 (bits_of self +ℤ bits_of other) }
     {
         Self(self.0.wrapping_add(other.0))
     }
 
     /// The difference, wrapped.
-    pub fn wrapping_sub(self, other: Self) -> Self
+    #[must_use]
+    #[inline]
+    pub const fn wrapping_sub(self, other: Self) -> Self
         ensures { bits_of result ≡ wrap 16 (bits_of self -ℤ bits_of other) }
     {
         Self(self.0.wrapping_sub(other.0))
     }
 
     /// The sum, or the nearest end of the range where it is out of it.
-    pub fn saturating_add(self, other: Self) -> Self
+    #[must_use]
+    #[inline]
+    pub const fn saturating_add(self, other: Self) -> Self
         ensures { bits_of result ≡ clamp 16 (bits_of self +ℤ bits_of other) }
     {
         Self(self.0.saturating_add(other.0))
     }
 
     /// The difference, or the nearest end of the range where it is out of it.
-    pub fn saturating_sub(self, other: Self) -> Self
+    #[must_use]
+    #[inline]
+    pub const fn saturating_sub(self, other: Self) -> Self
         ensures { bits_of result ≡ clamp 16 (bits_of self -ℤ bits_of other) }
     {
         Self(self.0.saturating_sub(other.0))
     }
 
     /// The sum, or `None` where it is out of range.
+    #[must_use]
+    #[inline]
     pub fn checked_add(self, other: Self) -> Option<Self>
         ensures variant { IsSome result ↔ FitsBits 16 (bits_of self +ℤ bits_of other) }
         ensures value { IfSome result (λ sum. bits_of sum ≡ (bits_of self +ℤ bits_of other)) }
@@ -137,8 +159,10 @@ impl F6Dot10 {
     }
 
     /// The two bytes of the bits, highest first.
+    #[must_use]
+    #[inline]
     #[tactic(auto, using(font_base::proofs::StdBytes::std_bytes))]
-    pub fn to_be_bytes(self) -> [u8; 2]
+    pub const fn to_be_bytes(self) -> [u8; 2]
         ensures { result ≡ bytes_of 2 (bits_of self) }
     {
         self.0.to_be_bytes()
@@ -150,6 +174,7 @@ impl F6Dot10 {
     ///
     /// A text outside the grammar is refused as `Syntax`, one whose nearest number is out of range
     /// as `OutOfRange`.
+    #[inline]
     pub fn from_decimal(text: &str) -> Result<Self, DecimalFault>
         ensures { ReadsBy w16 10 bits_of text.now result }
     {
@@ -161,6 +186,7 @@ impl F6Dot10 {
     /// # Errors
     ///
     /// Those of `from_decimal`; bytes that are no text are `Syntax`.
+    #[inline]
     pub fn from_decimal_bytes(text: &[u8]) -> Result<Self, DecimalFault>
         ensures { ReadsBy w16 10 bits_of text.now result }
     {
@@ -170,6 +196,7 @@ impl F6Dot10 {
     /// Writes the printed text to the front of `out`, padded, and returns the number of bytes;
     /// `None` where `out` is too short, which then stays as it was. 8 bytes, or the width where
     /// that is more, are always enough. The fill is below 0x80.
+    #[inline]
     pub fn write_padded(self, out: &mut [u8], pad: &Pad) -> Option<usize>
         requires { pad.now.fill < 128 }
         ensures written { IfSome result
@@ -184,6 +211,7 @@ impl F6Dot10 {
         font_decimal::write_padded(self.shortest().as_str(), out, pad)
     }
 
+    #[inline]
     fn shortest(self) -> Shortest
         ensures shortest { IsShortest (bits_of self) 10 (shown result) }
         ensures text { shown result ≡ text_of self }
@@ -197,6 +225,7 @@ impl Add for F6Dot10 {
 
     ghost add_gives = { λ x y sum. bits_of sum ≡ wrap 16 (bits_of x +ℤ bits_of y) };
 
+    #[inline]
     fn add(self, other: F6Dot10) -> F6Dot10 {
         self.wrapping_add(other)
     }
@@ -205,6 +234,7 @@ impl Add for F6Dot10 {
 impl AddAssign for F6Dot10 {
     ghost add_assign_gives = { λ x y sum. bits_of sum ≡ wrap 16 (bits_of x +ℤ bits_of y) };
 
+    #[inline]
     fn add_assign(&mut self, other: F6Dot10) {
         *self = *self + other;
     }
@@ -215,6 +245,7 @@ impl Sub for F6Dot10 {
 
     ghost sub_gives = { λ x y rest. bits_of rest ≡ wrap 16 (bits_of x -ℤ bits_of y) };
 
+    #[inline]
     fn sub(self, other: F6Dot10) -> F6Dot10 {
         self.wrapping_sub(other)
     }
@@ -223,6 +254,7 @@ impl Sub for F6Dot10 {
 impl SubAssign for F6Dot10 {
     ghost sub_assign_gives = { λ x y rest. bits_of rest ≡ wrap 16 (bits_of x -ℤ bits_of y) };
 
+    #[inline]
     fn sub_assign(&mut self, other: F6Dot10) {
         *self = *self - other;
     }
@@ -233,6 +265,7 @@ impl Neg for F6Dot10 {
 
     ghost neg_gives = { λ x opposite. bits_of opposite ≡ wrap 16 (neg_ℤ (bits_of x)) };
 
+    #[inline]
     fn neg(self) -> F6Dot10 {
         Self(self.0.wrapping_neg())
     }
@@ -244,6 +277,7 @@ impl FromStr for F6Dot10 {
 
     ghost from_str_gives = { λ text result. ReadsBy w16 10 bits_of text result };
 
+    #[inline]
     fn from_str(text: &str) -> Result<Self, DecimalFault> {
         Self::from_decimal(text)
     }
@@ -282,10 +316,12 @@ impl Scalar for F6Dot10 {
 
     ghost laws = { signed_newtype 2 (lit< tt) bits_of of_bits (λ _. refl) (λ _. refl) };
 
+    #[inline]
     fn from_raw(raw: [u8; 2]) -> F6Dot10 {
         Self(i16::from_raw(raw))
     }
 
+    #[inline]
     fn to_raw(self) -> [u8; 2] {
         self.0.to_raw()
     }

@@ -31,6 +31,7 @@ impl<T: Mul<Output = T> + Copy> BoundingBox<T> {
     /// The box with each entry times the factor.
     ///
     /// A negative factor turns the box round: call `normalize` after it.
+    #[must_use]
     pub fn scale(&self, factor: T) -> Self
         requires { CanScale T.can_mul self.now factor }
         ensures { IsScaled T.mul_gives self.now factor result }
@@ -46,6 +47,7 @@ impl<T: Mul<Output = T> + Copy> BoundingBox<T> {
 
 impl<T: PartialOrd + Copy> BoundingBox<T> {
     /// Whether `x_min <= x_max` and `y_min <= y_max`.
+    #[must_use]
     pub fn is_normalized(&self) -> bool
         ensures { result ≡ is_normalized (partial_le T.partial_cmp) self.now }
     {
@@ -56,6 +58,7 @@ impl<T: PartialOrd + Copy> BoundingBox<T> {
     /// other pair is swapped.
     ///
     /// A pair that does not compare is swapped too, and then the box is not normalized.
+    #[must_use]
     pub fn normalize(&self) -> Self
         ensures value { result ≡ normalized_box (partial_le T.partial_cmp) self.now }
         ensures pairs { HasSamePairs self.now result }

@@ -12,6 +12,7 @@ use crate::{Matrix, Point, RingElement};
 use font_fixed::Fixed;
 
 /// `(a * b) * c` and `a * (b * c)`, which are equal.
+#[must_use]
 pub fn associative<T: RingElement>(
     a: Matrix<T>,
     b: Matrix<T>,
@@ -26,6 +27,7 @@ pub fn associative<T: RingElement>(
 }
 
 /// `(a * b) * p` and `a * (b * p)`, which are equal.
+#[must_use]
 pub fn action<T: RingElement>(a: Matrix<T>, b: Matrix<T>, p: Point<T>) -> (Point<T>, Point<T>)
     ensures first { result.0 ≡ image_of T.plus T.times (matrix_product T.plus T.times a b) p }
     ensures second { result.1 ≡ image_of T.plus T.times a (image_of T.plus T.times b p) }
@@ -35,6 +37,7 @@ pub fn action<T: RingElement>(a: Matrix<T>, b: Matrix<T>, p: Point<T>) -> (Point
 }
 
 /// The identity times `a`, and `a` times the identity: both are `a`.
+#[must_use]
 pub fn identity_neutral<T: RingElement>(a: Matrix<T>) -> (Matrix<T>, Matrix<T>)
     ensures first { result.0 ≡ matrix_product T.plus T.times (identity_matrix T.ZERO T.ONE) a }
     ensures second { result.1 ≡ matrix_product T.plus T.times a (identity_matrix T.ZERO T.ONE) }
@@ -46,6 +49,8 @@ pub fn identity_neutral<T: RingElement>(a: Matrix<T>) -> (Matrix<T>, Matrix<T>)
 
 /// The identity times `a`, and `a` times the identity: both are `a`, also where products are
 /// rounded and sums wrap.
+#[must_use]
+#[inline]
 #[tactic(auto, using(font_fixed::proofs::FixedCalls::fixed_calls))]
 pub fn fixed_identity(a: Matrix<Fixed>) -> (Matrix<Fixed>, Matrix<Fixed>)
     ensures first { matrix_bits result.0 ≡ matrix_product wrapped_sum wrapped_product
@@ -62,6 +67,8 @@ pub fn fixed_identity(a: Matrix<Fixed>) -> (Matrix<Fixed>, Matrix<Fixed>)
 /// `(x * y) * z` and `x * (y * z)` of one step and two halves: one step, and zero.
 ///
 /// So products of `Fixed`, which are rounded, do not associate, and `Fixed` is no `RingElement`.
+#[must_use]
+#[inline]
 pub fn step_and_halves() -> (Fixed, Fixed)
     ensures first { fixed_bits result.0 ≡ pos 1 }
     ensures second { fixed_bits result.1 ≡ pos 0 }
@@ -76,6 +83,8 @@ pub fn step_and_halves() -> (Fixed, Fixed)
 ///
 /// Each coordinate is then at most `(|x| + |y|) / 65536 + 2` bits from the exact one, magnitudes in
 /// bits. What happens on the way may wrap.
+#[must_use]
+#[inline]
 pub fn composed(a: Matrix<Fixed>, b: Matrix<Fixed>, p: Point<Fixed>) -> Point<Fixed>
     ensures value { point_bits result
         ≡ image_of wrapped_sum wrapped_product (matrix_product wrapped_sum wrapped_product
@@ -91,6 +100,8 @@ pub fn composed(a: Matrix<Fixed>, b: Matrix<Fixed>, p: Point<Fixed>) -> Point<Fi
 ///
 /// A coordinate is then at most the magnitudes of the two linear entries of its row of `a`, in
 /// bits, over 65536, and 1 bit from the exact one. What happens on the way may wrap.
+#[must_use]
+#[inline]
 pub fn in_turn(a: Matrix<Fixed>, b: Matrix<Fixed>, p: Point<Fixed>) -> Point<Fixed>
     ensures value { point_bits result
         ≡ image_of wrapped_sum wrapped_product (matrix_bits a)

@@ -67,7 +67,8 @@ impl MatrixElement for Fixed {
 
 impl<T: Copy> Matrix<T> {
     /// The matrix of these elements, in the order `[xx, yx, xy, yy, dx, dy]`.
-    pub fn from_elements(elements: [T; 6]) -> Self
+    #[must_use]
+    pub const fn from_elements(elements: [T; 6]) -> Self
         ensures { elements_of result ≡ elements }
     {
         let [xx, yx, xy, yy, dx, dy] = elements;
@@ -82,13 +83,15 @@ impl<T: Copy> Matrix<T> {
     }
 
     /// The elements in the order `[xx, yx, xy, yy, dx, dy]`.
-    pub fn elements(&self) -> [T; 6]
+    #[must_use]
+    pub const fn elements(&self) -> [T; 6]
         ensures { result ≡ elements_of self.now }
     {
         [self.xx, self.yx, self.xy, self.yy, self.dx, self.dy]
     }
 
     /// The matrix of what the function gives at each element, in the order of `elements`.
+    #[must_use]
     pub fn map<U: Copy, F: FnMut(T) -> U>(self, mut f: F) -> Matrix<U>
         requires { CanCallEach F.pre F.step f (elements_of self) }
         ensures { CallsEach F.step f (elements_of self) (elements_of result) }
@@ -106,7 +109,8 @@ impl<T: Copy> Matrix<T> {
 
 impl<T: MatrixElement> Matrix<T> {
     /// The matrix that leaves every point where it is.
-    pub fn identity() -> Self
+    #[must_use]
+    pub const fn identity() -> Self
         ensures { result ≡ identity_matrix T.ZERO T.ONE }
     {
         Self {
@@ -120,6 +124,7 @@ impl<T: MatrixElement> Matrix<T> {
     }
 
     /// Where the point `(x, y)` goes.
+    #[must_use]
     pub fn transform(&self, x: T, y: T) -> (T, T)
         requires { CanTransform T.can_mul T.mul_gives T.can_add T.add_gives self.now x y }
         ensures { IsTransformed T.mul_gives T.add_gives self.now x y result.0 result.1 }

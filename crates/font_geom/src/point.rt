@@ -21,14 +21,16 @@ pub struct Point<T> {
 
 impl<T> Point<T> {
     /// The point with these coordinates.
-    pub fn new(x: T, y: T) -> Self
+    #[must_use]
+    pub const fn new(x: T, y: T) -> Self
         ensures { result ≡ record { x = x; y = y } }
     {
         Self { x, y }
     }
 
     /// The point with both coordinates the same.
-    pub fn broadcast(xy: T) -> Self
+    #[must_use]
+    pub const fn broadcast(xy: T) -> Self
     where
         T: Copy,
         ensures { result ≡ record { x = xy; y = xy } }
@@ -40,6 +42,7 @@ impl<T> Point<T> {
     ///
     /// `point.map(|n| n / 2)` halves both. The function may be called at x, and then at y in the
     /// state that it is left in.
+    #[must_use]
     pub fn map<U, F: FnMut(T) -> U>(self, mut f: F) -> Point<U>
         requires { CanCallEach F.pre F.step f (self.x ∷ self.y ∷ []) }
         ensures { CallsEach F.step f (self.x ∷ self.y ∷ []) (result.x ∷ result.y ∷ []) }

@@ -18,6 +18,7 @@ use font_fixed::{F48Dot16, Fixed};
 use std::fmt;
 
 // The whole number nearest to a quantity in steps of `2^-16`, ties upwards.
+#[inline]
 #[tactic(auto, using(font_arithmetic::proofs::Shifts::halves_up_128))]
 fn nearest_whole(steps: i128) -> i128
     ensures { result ≡ nearest_unit steps }
@@ -37,28 +38,36 @@ pub struct FWord(i16);
 
 impl FWord {
     /// The quantity of a number.
-    pub fn new(raw: i16) -> Self
+    #[must_use]
+    #[inline]
+    pub const fn new(raw: i16) -> Self
         ensures { fword_number result ≡ raw }
     {
         Self(raw)
     }
 
     /// The number.
-    pub fn to_i16(self) -> i16
+    #[must_use]
+    #[inline]
+    pub const fn to_i16(self) -> i16
         ensures { result ≡ fword_number self }
     {
         self.0
     }
 
     /// The number as a 16.16 number, which never wraps.
+    #[must_use]
+    #[inline]
     #[tactic(auto, using(font_fixed::proofs::FixedCalls::fixed_calls))]
-    pub fn to_fixed(self) -> Fixed
+    pub const fn to_fixed(self) -> Fixed
         ensures { fixed_bits result ≡ (fword_number self *ℤ pos (2 ^ 16)) }
     {
         Fixed::from_i32(self.to_i16() as i32)
     }
 
     /// The number moved by a sum of deltas, exactly, in units of `2^-16`.
+    #[must_use]
+    #[inline]
     pub fn apply_delta(self, delta: F48Dot16) -> i128
         ensures { result ≡ (fword_number self *ℤ pos 65536 +ℤ f48dot16_bits delta) }
     {
@@ -73,6 +82,8 @@ impl FWord {
     /// let moved = vary(FWord::new(100), &[(Fixed::from_bits(0x8000), 3)]).unwrap();
     /// assert_eq!(FWord::round_steps(moved), Some(FWord::new(102)));
     /// ```
+    #[must_use]
+    #[inline]
     pub fn round_steps(steps: i128) -> Option<FWord>
         ensures variant { IsSome result ↔ FitsBits 16 (nearest_unit steps) }
         ensures value { IfSome result (λ word. fword_number word ≡ nearest_unit steps) }
@@ -81,8 +92,10 @@ impl FWord {
     }
 
     /// The two bytes in two's complement, highest first.
+    #[must_use]
+    #[inline]
     #[tactic(auto, using(font_base::proofs::StdBytes::std_bytes))]
-    pub fn to_be_bytes(self) -> [u8; 2]
+    pub const fn to_be_bytes(self) -> [u8; 2]
         ensures { result ≡ bytes_of 2 (fword_number self) }
     {
         self.0.to_be_bytes()
@@ -100,6 +113,7 @@ impl fmt::Display for FWord {
 impl From<i16> for FWord {
     ghost from_gives = { λ number word. fword_number word ≡ number };
 
+    #[inline]
     fn from(number: i16) -> FWord {
         FWord(number)
     }
@@ -108,6 +122,7 @@ impl From<i16> for FWord {
 impl From<FWord> for i16 {
     ghost from_gives = { λ word number. number ≡ fword_number word };
 
+    #[inline]
     fn from(word: FWord) -> i16 {
         word.0
     }
@@ -130,10 +145,12 @@ impl Scalar for FWord {
 
     ghost laws = { signed_newtype 2 (lit< tt) fword_number fword_of (λ _. refl) (λ _. refl) };
 
+    #[inline]
     fn from_raw(raw: [u8; 2]) -> FWord {
         FWord(i16::from_raw(raw))
     }
 
+    #[inline]
     fn to_raw(self) -> [u8; 2] {
         i16::to_raw(self.0)
     }
@@ -154,27 +171,35 @@ pub struct UfWord(u16);
 
 impl UfWord {
     /// The quantity of a number.
-    pub fn new(raw: u16) -> Self
+    #[must_use]
+    #[inline]
+    pub const fn new(raw: u16) -> Self
         ensures { ufword_number result ≡ raw }
     {
         Self(raw)
     }
 
     /// The number.
-    pub fn to_u16(self) -> u16
+    #[must_use]
+    #[inline]
+    pub const fn to_u16(self) -> u16
         ensures { result ≡ ufword_number self }
     {
         self.0
     }
 
     /// The number as a 16.16 number. It wraps: from 32768 on the result is negative.
-    pub fn to_fixed(self) -> Fixed
+    #[must_use]
+    #[inline]
+    pub const fn to_fixed(self) -> Fixed
         ensures { fixed_bits result ≡ wrap 32 (pos (ufword_number self) *ℤ pos (2 ^ 16)) }
     {
         Fixed::from_i32(self.to_u16() as i32)
     }
 
     /// The number moved by a sum of deltas, exactly, in units of `2^-16`.
+    #[must_use]
+    #[inline]
     pub fn apply_delta(self, delta: F48Dot16) -> i128
         ensures { result ≡ (pos (ufword_number self) *ℤ pos 65536 +ℤ f48dot16_bits delta) }
     {
@@ -183,6 +208,8 @@ impl UfWord {
 
     /// The number nearest to a quantity in steps of `2^-16`, as `apply_delta` gives it, ties
     /// upwards, or `None` where that is out of range.
+    #[must_use]
+    #[inline]
     pub fn round_steps(steps: i128) -> Option<UfWord>
         ensures variant { IsSome result
             ↔ ((pos 0 ≤ℤ nearest_unit steps) × (nearest_unit steps <ℤ pos 65536)) }
@@ -192,8 +219,10 @@ impl UfWord {
     }
 
     /// The two bytes, highest first.
+    #[must_use]
+    #[inline]
     #[tactic(auto, using(font_base::proofs::StdBytes::std_bytes))]
-    pub fn to_be_bytes(self) -> [u8; 2]
+    pub const fn to_be_bytes(self) -> [u8; 2]
         ensures { result ≡ bytes_of 2 (pos (ufword_number self)) }
     {
         self.0.to_be_bytes()
@@ -211,6 +240,7 @@ impl fmt::Display for UfWord {
 impl From<u16> for UfWord {
     ghost from_gives = { λ number word. ufword_number word ≡ number };
 
+    #[inline]
     fn from(number: u16) -> UfWord {
         UfWord(number)
     }
@@ -219,6 +249,7 @@ impl From<u16> for UfWord {
 impl From<UfWord> for u16 {
     ghost from_gives = { λ word number. number ≡ ufword_number word };
 
+    #[inline]
     fn from(word: UfWord) -> u16 {
         word.0
     }
@@ -241,10 +272,12 @@ impl Scalar for UfWord {
 
     ghost laws = { unsigned_newtype 2 ufword_number ufword_of (λ _. refl) (λ _. refl) };
 
+    #[inline]
     fn from_raw(raw: [u8; 2]) -> UfWord {
         UfWord(u16::from_raw(raw))
     }
 
+    #[inline]
     fn to_raw(self) -> [u8; 2] {
         u16::to_raw(self.0)
     }

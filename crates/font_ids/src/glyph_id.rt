@@ -30,35 +30,45 @@ impl GlyphId16 {
     pub const NOTDEF: Self = Self(0);
 
     /// The id of a number.
-    pub fn new(raw: u16) -> Self
+    #[must_use]
+    #[inline]
+    pub const fn new(raw: u16) -> Self
         ensures { glyph16_number result ≡ raw }
     {
         Self(raw)
     }
 
     /// The number.
-    pub fn to_u16(self) -> u16
+    #[must_use]
+    #[inline]
+    pub const fn to_u16(self) -> u16
         ensures { result ≡ glyph16_number self }
     {
         self.0
     }
 
     /// The number.
-    pub fn to_u32(self) -> u32
+    #[must_use]
+    #[inline]
+    pub const fn to_u32(self) -> u32
         ensures { result ≡ glyph16_number self }
     {
         self.0 as u32
     }
 
     /// The two bytes of the number, highest first.
+    #[must_use]
+    #[inline]
     #[tactic(auto, using(font_base::proofs::StdBytes::std_bytes))]
-    pub fn to_be_bytes(self) -> [u8; 2]
+    pub const fn to_be_bytes(self) -> [u8; 2]
         ensures { result ≡ bytes_of 2 (pos (glyph16_number self)) }
     {
         self.0.to_be_bytes()
     }
 
     /// Whether both are the id of one glyph.
+    #[must_use]
+    #[inline]
     pub fn eq_gid(&self, other: &GlyphId) -> bool
         ensures { IsTrue result ↔ (glyph16_number self.now ≡ glyph_number other.now) }
     {
@@ -66,6 +76,8 @@ impl GlyphId16 {
     }
 
     /// The order of the two numbers.
+    #[must_use]
+    #[inline]
     pub fn cmp_gid(&self, other: &GlyphId) -> Ordering
         ensures { result ≡ nat_cmp (glyph16_number self.now) (glyph_number other.now) }
     {
@@ -84,6 +96,7 @@ impl fmt::Display for GlyphId16 {
 impl From<u16> for GlyphId16 {
     ghost from_gives = { λ number id. glyph16_number id ≡ number };
 
+    #[inline]
     fn from(number: u16) -> GlyphId16 {
         GlyphId16(number)
     }
@@ -92,6 +105,7 @@ impl From<u16> for GlyphId16 {
 impl From<GlyphId16> for u32 {
     ghost from_gives = { λ id number. number ≡ glyph16_number id };
 
+    #[inline]
     fn from(id: GlyphId16) -> u32 {
         id.to_u32()
     }
@@ -100,6 +114,7 @@ impl From<GlyphId16> for u32 {
 impl From<GlyphId16> for usize {
     ghost from_gives = { λ id number. number ≡ glyph16_number id };
 
+    #[inline]
     fn from(id: GlyphId16) -> usize {
         usize::from(id.0)
     }
@@ -112,6 +127,7 @@ impl TryFrom<GlyphId> for GlyphId16 {
         (λ narrow. glyph16_number narrow ≡ glyph_number id)
         (λ error. (2 ^ 16 ≤ glyph_number id) × (refused_number error ≡ glyph_number id)) };
 
+    #[inline]
     fn try_from(id: GlyphId) -> Result<GlyphId16, TryFromGlyphIdError> {
         match u16::try_from(id.0) {
             Ok(number) => Ok(GlyphId16(number)),
@@ -137,10 +153,12 @@ impl Scalar for GlyphId16 {
 
     ghost laws = { unsigned_newtype 2 glyph16_number glyph16_of (λ _. refl) (λ _. refl) };
 
+    #[inline]
     fn from_raw(raw: [u8; 2]) -> GlyphId16 {
         GlyphId16(u16::from_raw(raw))
     }
 
+    #[inline]
     fn to_raw(self) -> [u8; 2] {
         self.0.to_raw()
     }
@@ -164,14 +182,18 @@ impl GlyphId24 {
     pub const NOTDEF: Self = Self(Uint24::MIN);
 
     /// The id of a number, or the greatest id where the number is above it.
-    pub fn new(raw: u32) -> Self
+    #[must_use]
+    #[inline]
+    pub const fn new(raw: u32) -> Self
         ensures { glyph24_number result ≡ min raw UINT24_MAX }
     {
         Self(Uint24::new(raw))
     }
 
     /// The id of a number, or `None` where it is above 16777215.
-    pub fn checked_new(raw: u32) -> Option<Self>
+    #[must_use]
+    #[inline]
+    pub const fn checked_new(raw: u32) -> Option<Self>
         ensures variant { IsSome result ↔ (raw ≤ UINT24_MAX) }
         ensures value { IfSome result (λ id. glyph24_number id ≡ raw) }
     {
@@ -182,21 +204,27 @@ impl GlyphId24 {
     }
 
     /// The number.
-    pub fn to_u32(self) -> u32
+    #[must_use]
+    #[inline]
+    pub const fn to_u32(self) -> u32
         ensures { result ≡ glyph24_number self }
     {
         self.0.to_u32()
     }
 
     /// The three bytes of the number, highest first.
-    pub fn to_be_bytes(self) -> [u8; 3]
+    #[must_use]
+    #[inline]
+    pub const fn to_be_bytes(self) -> [u8; 3]
         ensures { result ≡ bytes_of 3 (pos (glyph24_number self)) }
     {
         self.0.to_be_bytes()
     }
 
     /// The id of three bytes, highest first.
-    pub fn from_be_bytes(bytes: [u8; 3]) -> Self
+    #[must_use]
+    #[inline]
+    pub const fn from_be_bytes(bytes: [u8; 3]) -> Self
         ensures { bytes ≡ bytes_of 3 (pos (glyph24_number result)) }
     {
         Self(Uint24::from_be_bytes(bytes))
@@ -214,6 +242,7 @@ impl fmt::Display for GlyphId24 {
 impl From<GlyphId24> for u32 {
     ghost from_gives = { λ id number. number ≡ glyph24_number id };
 
+    #[inline]
     fn from(id: GlyphId24) -> u32 {
         id.to_u32()
     }
@@ -222,6 +251,7 @@ impl From<GlyphId24> for u32 {
 impl From<GlyphId24> for usize {
     ghost from_gives = { λ id number. number ≡ glyph24_number id };
 
+    #[inline]
     fn from(id: GlyphId24) -> usize {
         usize::from(id.0)
     }
@@ -234,6 +264,7 @@ impl TryFrom<GlyphId> for GlyphId24 {
         (λ narrow. glyph24_number narrow ≡ glyph_number id)
         (λ error. (2 ^ 24 ≤ glyph_number id) × (refused_number error ≡ glyph_number id)) };
 
+    #[inline]
     fn try_from(id: GlyphId) -> Result<GlyphId24, TryFromGlyphIdError> {
         match Uint24::checked_new(id.0) {
             Some(number) => Ok(GlyphId24(number)),
@@ -259,10 +290,12 @@ impl Scalar for GlyphId24 {
 
     ghost laws = { newtype_laws (λ id. id.0) glyph24_of (λ _. refl) (λ _. refl) uint24_laws };
 
+    #[inline]
     fn from_raw(raw: [u8; 3]) -> GlyphId24 {
         GlyphId24(Uint24::from_raw(raw))
     }
 
+    #[inline]
     fn to_raw(self) -> [u8; 3] {
         self.0.to_raw()
     }
@@ -286,20 +319,26 @@ impl GlyphId {
     pub const NOTDEF: Self = Self(0);
 
     /// The id of a number.
-    pub fn new(raw: u32) -> Self
+    #[must_use]
+    #[inline]
+    pub const fn new(raw: u32) -> Self
         ensures { glyph_number result ≡ raw }
     {
         Self(raw)
     }
 
     /// The number.
-    pub fn to_u32(self) -> u32
+    #[must_use]
+    #[inline]
+    pub const fn to_u32(self) -> u32
         ensures { result ≡ glyph_number self }
     {
         self.0
     }
 
     /// Whether both are the id of one glyph.
+    #[must_use]
+    #[inline]
     pub fn eq_gid16(&self, other: &GlyphId16) -> bool
         ensures { IsTrue result ↔ (glyph_number self.now ≡ glyph16_number other.now) }
     {
@@ -307,6 +346,8 @@ impl GlyphId {
     }
 
     /// The order of the two numbers.
+    #[must_use]
+    #[inline]
     pub fn cmp_gid16(&self, other: &GlyphId16) -> Ordering
         ensures { result ≡ nat_cmp (glyph_number self.now) (glyph16_number other.now) }
     {
@@ -325,6 +366,7 @@ impl fmt::Display for GlyphId {
 impl From<u16> for GlyphId {
     ghost from_gives = { λ number id. glyph_number id ≡ number };
 
+    #[inline]
     fn from(number: u16) -> GlyphId {
         GlyphId(u32::from(number))
     }
@@ -333,6 +375,7 @@ impl From<u16> for GlyphId {
 impl From<u32> for GlyphId {
     ghost from_gives = { λ number id. glyph_number id ≡ number };
 
+    #[inline]
     fn from(number: u32) -> GlyphId {
         GlyphId(number)
     }
@@ -341,6 +384,7 @@ impl From<u32> for GlyphId {
 impl From<GlyphId16> for GlyphId {
     ghost from_gives = { λ narrow id. glyph_number id ≡ glyph16_number narrow };
 
+    #[inline]
     fn from(narrow: GlyphId16) -> GlyphId {
         GlyphId(narrow.to_u32())
     }
@@ -349,6 +393,7 @@ impl From<GlyphId16> for GlyphId {
 impl From<GlyphId24> for GlyphId {
     ghost from_gives = { λ narrow id. glyph_number id ≡ glyph24_number narrow };
 
+    #[inline]
     fn from(narrow: GlyphId24) -> GlyphId {
         GlyphId(narrow.to_u32())
     }
@@ -357,6 +402,7 @@ impl From<GlyphId24> for GlyphId {
 impl From<GlyphId> for u32 {
     ghost from_gives = { λ id number. number ≡ glyph_number id };
 
+    #[inline]
     fn from(id: GlyphId) -> u32 {
         id.0
     }
@@ -375,6 +421,8 @@ pub struct TryFromGlyphIdError(u32);
 
 impl TryFromGlyphIdError {
     /// The number that was too large.
+    #[must_use]
+    #[inline]
     pub fn value(&self) -> u32
         ensures { result ≡ refused_number self.now }
     {

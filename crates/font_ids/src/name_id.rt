@@ -107,13 +107,17 @@ impl NameId {
     pub const LAST_ALLOWED_NAME_ID: Self = Self(32767);
 
     /// The id of a number.
-    pub fn new(raw: u16) -> Self
+    #[must_use]
+    #[inline]
+    pub const fn new(raw: u16) -> Self
         ensures { name_number result ≡ raw }
     {
         Self(raw)
     }
 
     /// The predefined ids from the least on: 0 to 14 and 16 to 25.
+    #[must_use]
+    #[inline]
     #[tactic(auto, unfolding(crate::specs::NameId::predefined_left))]
     pub fn predefined() -> Predefined
         ensures ids { predefined_left result ≡ map name_id_of predefined_numbers }
@@ -123,14 +127,18 @@ impl NameId {
     }
 
     /// The number.
-    pub fn to_u16(self) -> u16
+    #[must_use]
+    #[inline]
+    pub const fn to_u16(self) -> u16
         ensures { result ≡ name_number self }
     {
         self.0
     }
 
     /// Whether the number is kept for standard names: 255 at most.
-    pub fn is_reserved(self) -> bool
+    #[must_use]
+    #[inline]
+    pub const fn is_reserved(self) -> bool
         ensures { IsTrue result ↔ (name_number self ≤ last_reserved) }
     {
         self.0 <= Self::LAST_RESERVED_NAME_ID.0
@@ -138,7 +146,9 @@ impl NameId {
 
     /// The id so many numbers on, or `None` where that is above the last one allowed, also with
     /// nothing added.
-    pub fn checked_add(self, rhs: u16) -> Option<Self>
+    #[must_use]
+    #[inline]
+    pub const fn checked_add(self, rhs: u16) -> Option<Self>
         ensures variant { IsSome result ↔ (name_number self + rhs ≤ last_allowed) }
         ensures value { IfSome result (λ id. name_number id ≡ name_number self + rhs) }
     {
@@ -151,8 +161,10 @@ impl NameId {
     }
 
     /// The two bytes of the number, highest first.
+    #[must_use]
+    #[inline]
     #[tactic(auto, using(font_base::proofs::StdBytes::std_bytes))]
-    pub fn to_be_bytes(self) -> [u8; 2]
+    pub const fn to_be_bytes(self) -> [u8; 2]
         ensures { result ≡ bytes_of 2 (pos (name_number self)) }
     {
         self.0.to_be_bytes()
@@ -163,6 +175,7 @@ impl NameId {
 impl Default for NameId {
     ghost is_default = { λ id. name_number id ≡ 65535 };
 
+    #[inline]
     fn default() -> NameId {
         NameId(0xFFFF)
     }
@@ -171,6 +184,7 @@ impl Default for NameId {
 impl From<u16> for NameId {
     ghost from_gives = { λ number id. name_number id ≡ number };
 
+    #[inline]
     fn from(number: u16) -> NameId {
         NameId(number)
     }
@@ -239,10 +253,12 @@ impl Scalar for NameId {
 
     ghost laws = { unsigned_newtype 2 name_number name_id_of (λ _. refl) (λ _. refl) };
 
+    #[inline]
     fn from_raw(raw: [u8; 2]) -> NameId {
         NameId(u16::from_raw(raw))
     }
 
+    #[inline]
     fn to_raw(self) -> [u8; 2] {
         self.0.to_raw()
     }
@@ -270,6 +286,7 @@ impl Iterator for Predefined {
 
     ghost remaining = { item_count predefined_left };
 
+    #[inline]
     #[tactic(auto, unfolding(crate::specs::NameId::predefined_left))]
     fn next(&mut self) -> Option<NameId> {
         let number = if self.next == 15 { 16 } else { self.next };
@@ -280,6 +297,7 @@ impl Iterator for Predefined {
         Some(NameId(number))
     }
 
+    #[inline]
     #[tactic(auto, unfolding(crate::specs::NameId::predefined_left))]
     fn size_hint(&self) -> (usize, Option<usize>) {
         let left = match self.next {

@@ -26,13 +26,17 @@ pub struct Offset16(u16);
 
 impl Offset16 {
     /// The offset of a number.
-    pub fn new(raw: u16) -> Self
+    #[must_use]
+    #[inline]
+    pub const fn new(raw: u16) -> Self
         ensures { offset16_number result ≡ raw }
     {
         Self(raw)
     }
 
     /// Whether the offset is zero.
+    #[must_use]
+    #[inline]
     pub fn is_null(self) -> bool
         ensures { IsTrue result ↔ (offset16_number self ≡ 0) }
     {
@@ -40,6 +44,8 @@ impl Offset16 {
     }
 
     /// The number.
+    #[must_use]
+    #[inline]
     pub fn to_u32(self) -> u32
         ensures { result ≡ offset16_number self }
     {
@@ -47,6 +53,8 @@ impl Offset16 {
     }
 
     /// Whether this is the offset's number.
+    #[must_use]
+    #[inline]
     pub fn eq_u32(&self, other: &u32) -> bool
         ensures { IsTrue result ↔ (offset16_number self.now ≡ other.now) }
     {
@@ -71,10 +79,12 @@ impl Scalar for Offset16 {
 
     ghost laws = { unsigned_newtype 2 offset16_number offset16_of (λ _. refl) (λ _. refl) };
 
+    #[inline]
     fn from_raw(raw: [u8; 2]) -> Offset16 {
         Offset16(u16::from_raw(raw))
     }
 
+    #[inline]
     fn to_raw(self) -> [u8; 2] {
         self.0.to_raw()
     }
@@ -97,13 +107,17 @@ pub struct Offset24(Uint24);
 
 impl Offset24 {
     /// The offset of a number.
-    pub fn new(raw: Uint24) -> Self
+    #[must_use]
+    #[inline]
+    pub const fn new(raw: Uint24) -> Self
         ensures { offset24_number result ≡ uint24_number raw }
     {
         Self(raw)
     }
 
     /// Whether the offset is zero.
+    #[must_use]
+    #[inline]
     pub fn is_null(self) -> bool
         ensures { IsTrue result ↔ (offset24_number self ≡ 0) }
     {
@@ -111,13 +125,17 @@ impl Offset24 {
     }
 
     /// The number.
-    pub fn to_u32(self) -> u32
+    #[must_use]
+    #[inline]
+    pub const fn to_u32(self) -> u32
         ensures { result ≡ offset24_number self }
     {
         self.0.to_u32()
     }
 
     /// Whether this is the offset's number.
+    #[must_use]
+    #[inline]
     pub fn eq_u32(&self, other: &u32) -> bool
         ensures { IsTrue result ↔ (offset24_number self.now ≡ other.now) }
     {
@@ -143,10 +161,12 @@ impl Scalar for Offset24 {
     ghost laws = { newtype_laws (λ offset. offset.0) offset24_of (λ _. refl)
         (λ _. refl) uint24_laws };
 
+    #[inline]
     fn from_raw(raw: [u8; 3]) -> Offset24 {
         Offset24(Uint24::from_raw(raw))
     }
 
+    #[inline]
     fn to_raw(self) -> [u8; 3] {
         self.0.to_raw()
     }
@@ -170,13 +190,17 @@ pub struct Offset32(u32);
 
 impl Offset32 {
     /// The offset of a number.
-    pub fn new(raw: u32) -> Self
+    #[must_use]
+    #[inline]
+    pub const fn new(raw: u32) -> Self
         ensures { offset32_number result ≡ raw }
     {
         Self(raw)
     }
 
     /// Whether the offset is zero.
+    #[must_use]
+    #[inline]
     pub fn is_null(self) -> bool
         ensures { IsTrue result ↔ (offset32_number self ≡ 0) }
     {
@@ -184,13 +208,17 @@ impl Offset32 {
     }
 
     /// The number.
-    pub fn to_u32(self) -> u32
+    #[must_use]
+    #[inline]
+    pub const fn to_u32(self) -> u32
         ensures { result ≡ offset32_number self }
     {
         self.0
     }
 
     /// Whether this is the offset's number.
+    #[must_use]
+    #[inline]
     pub fn eq_u32(&self, other: &u32) -> bool
         ensures { IsTrue result ↔ (offset32_number self.now ≡ other.now) }
     {
@@ -215,10 +243,12 @@ impl Scalar for Offset32 {
 
     ghost laws = { unsigned_newtype 4 offset32_number offset32_of (λ _. refl) (λ _. refl) };
 
+    #[inline]
     fn from_raw(raw: [u8; 4]) -> Offset32 {
         Offset32(u32::from_raw(raw))
     }
 
+    #[inline]
     fn to_raw(self) -> [u8; 4] {
         self.0.to_raw()
     }
@@ -239,6 +269,7 @@ pub trait OffsetValue: Copy {
     ghost number_of: { Self → ℕ };
 
     /// The number.
+    #[must_use]
     fn value_u32(&self) -> u32
         ensures { result ≡ number_of self.now };
 
@@ -255,6 +286,7 @@ impl OffsetValue for Offset16 {
 
     ghost null_is_zero = { refl };
 
+    #[inline]
     fn value_u32(&self) -> u32 {
         self.to_u32()
     }
@@ -269,6 +301,7 @@ impl OffsetValue for Offset24 {
 
     ghost null_is_zero = { uint24_number-of 0 (lit< tt) };
 
+    #[inline]
     fn value_u32(&self) -> u32 {
         self.to_u32()
     }
@@ -283,6 +316,7 @@ impl OffsetValue for Offset32 {
 
     ghost null_is_zero = { refl };
 
+    #[inline]
     fn value_u32(&self) -> u32 {
         self.to_u32()
     }
@@ -299,6 +333,7 @@ pub struct Nullable<T>(T);
 
 impl<T> Nullable<T> {
     /// The offset, null or not.
+    #[must_use]
     pub fn offset(&self) -> &T
         ensures { result.now ≡ nullable_offset self.now }
     {
@@ -308,6 +343,7 @@ impl<T> Nullable<T> {
 
 impl<T: OffsetValue> Nullable<T> {
     /// Whether the offset is zero.
+    #[must_use]
     pub fn is_null(&self) -> bool
         ensures { IsTrue result ↔ (T.number_of (nullable_offset self.now) ≡ 0) }
     {
@@ -315,6 +351,7 @@ impl<T: OffsetValue> Nullable<T> {
     }
 
     /// Whether this is the offset's number.
+    #[must_use]
     pub fn eq_u32(&self, other: &u32) -> bool
         ensures { IsTrue result ↔ (T.number_of (nullable_offset self.now) ≡ other.now) }
     {

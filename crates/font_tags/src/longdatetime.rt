@@ -21,22 +21,28 @@ pub struct LongDateTime(i64);
 
 impl LongDateTime {
     /// The date that is so many seconds after 1904-01-01 00:00 UTC.
-    pub fn new(secs: i64) -> Self
+    #[must_use]
+    #[inline]
+    pub const fn new(secs: i64) -> Self
         ensures { date_seconds result ≡ secs }
     {
         Self(secs)
     }
 
     /// The seconds since 1904-01-01 00:00 UTC.
-    pub fn as_secs(&self) -> i64
+    #[must_use]
+    #[inline]
+    pub const fn as_secs(&self) -> i64
         ensures { result ≡ date_seconds self.now }
     {
         self.0
     }
 
     /// The eight bytes of the seconds, highest first.
+    #[must_use]
+    #[inline]
     #[tactic(auto, using(font_base::proofs::StdBytes::std_bytes))]
-    pub fn to_be_bytes(self) -> [u8; 8]
+    pub const fn to_be_bytes(self) -> [u8; 8]
         ensures { result ≡ bytes_of 8 (date_seconds self) }
     {
         self.0.to_be_bytes()
@@ -60,10 +66,12 @@ impl Scalar for LongDateTime {
 
     ghost laws = { signed_newtype 8 (lit< tt) date_seconds date_of (λ _. refl) (λ _. refl) };
 
+    #[inline]
     fn from_raw(raw: [u8; 8]) -> LongDateTime {
         LongDateTime(i64::from_raw(raw))
     }
 
+    #[inline]
     fn to_raw(self) -> [u8; 8] {
         self.0.to_raw()
     }

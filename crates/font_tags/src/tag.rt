@@ -37,7 +37,9 @@ pub struct Tag([u8; 4]);
 
 impl Tag {
     /// The tag of four bytes, whatever they are.
-    pub fn new(src: &[u8; 4]) -> Self
+    #[must_use]
+    #[inline]
+    pub const fn new(src: &[u8; 4]) -> Self
         ensures { tag_bytes result ≡ src.now }
     {
         Self(*src)
@@ -51,6 +53,7 @@ impl Tag {
     ///
     /// No bytes and more than four are `InvalidLength`. Every fault of the bytes is `InvalidByte`,
     /// also a visible byte after a space.
+    #[inline]
     #[tactic(auto, using(crate::proofs::Good::tag_judgements))]
     pub fn new_checked(src: &[u8]) -> Result<Self, InvalidTag>
         ensures judged { IsChecked src.now result }
@@ -72,42 +75,54 @@ impl Tag {
     }
 
     /// The tag of a number's four bytes, highest first.
+    #[must_use]
+    #[inline]
     #[tactic(auto, using(font_base::proofs::StdBytes::std_bytes))]
-    pub fn from_u32(src: u32) -> Self
+    pub const fn from_u32(src: u32) -> Self
         ensures { tag_bytes result ≡ bytes_of 4 (pos src) }
     {
         Self(src.to_be_bytes())
     }
 
     /// The tag of four bytes, whatever they are.
-    pub fn from_be_bytes(bytes: [u8; 4]) -> Self
+    #[must_use]
+    #[inline]
+    pub const fn from_be_bytes(bytes: [u8; 4]) -> Self
         ensures { tag_bytes result ≡ bytes }
     {
         Self(bytes)
     }
 
     /// The four bytes, first to last.
-    pub fn to_be_bytes(self) -> [u8; 4]
+    #[must_use]
+    #[inline]
+    pub const fn to_be_bytes(self) -> [u8; 4]
         ensures { result ≡ tag_bytes self }
     {
         self.0
     }
 
     /// The four bytes, first to last.
-    pub fn into_bytes(self) -> [u8; 4]
+    #[must_use]
+    #[inline]
+    pub const fn into_bytes(self) -> [u8; 4]
         ensures { result ≡ tag_bytes self }
     {
         self.0
     }
 
     /// The four bytes, first to last.
-    pub fn as_bytes(&self) -> &[u8; 4]
+    #[must_use]
+    #[inline]
+    pub const fn as_bytes(&self) -> &[u8; 4]
         ensures { result.now ≡ tag_bytes self.now }
     {
         &self.0
     }
 
     /// Whether these are the tag's bytes.
+    #[must_use]
+    #[inline]
     pub fn eq_bytes(&self, other: &[u8; 4]) -> bool
         ensures { IsTrue result ↔ (tag_bytes self.now ≡ other.now) }
     {
@@ -115,6 +130,8 @@ impl Tag {
     }
 
     /// Whether these are the tag's bytes; a text of another length never is.
+    #[must_use]
+    #[inline]
     pub fn eq_str(&self, other: &str) -> bool
         ensures { IsTrue result ↔ (tag_bytes self.now ≡ other.now) }
     {
@@ -122,6 +139,8 @@ impl Tag {
     }
 
     /// Whether these are the tag's bytes; a slice of another length never is.
+    #[must_use]
+    #[inline]
     pub fn eq_slice(&self, other: &[u8]) -> bool
         ensures { IsTrue result ↔ (tag_bytes self.now ≡ other.now) }
     {
@@ -134,6 +153,7 @@ impl Tag {
     ///
     /// Four spaces are refused as a tag of no bytes, `InvalidLength(0)`, a visible byte after a
     /// space as `ByteAfterSpace`, and any other fault as `InvalidByte`.
+    #[inline]
     #[tactic(auto, using(crate::proofs::Good::tag_judgements))]
     pub fn validate(self) -> Result<(), InvalidTag>
         ensures judged { IsValidated (tag_bytes self) result }
@@ -154,7 +174,8 @@ impl Tag {
 }
 
 // Where the bytes cease to be good, or `None` where they are good.
-fn first_fault(bytes: &[u8]) -> Option<usize>
+#[inline]
+const fn first_fault(bytes: &[u8]) -> Option<usize>
     requires { 0 < length bytes.now }
     ensures { MatchOption result (IsGood bytes.now) (λ index. IsFault bytes.now index) }
 {
@@ -167,7 +188,8 @@ fn first_fault(bytes: &[u8]) -> Option<usize>
 }
 
 // How many bytes in front are visible.
-fn visible_run(bytes: &[u8]) -> usize
+#[inline]
+const fn visible_run(bytes: &[u8]) -> usize
     ensures within { result ≤ length bytes.now }
     ensures visible { (i : ℕ) → i < result → IsVisible (slice_index bytes.now i) }
     ensures end { result < length bytes.now → ¬ IsVisible (slice_index bytes.now result) }
@@ -180,7 +202,8 @@ fn visible_run(bytes: &[u8]) -> usize
 }
 
 // Where the spaces end that stand from this index on.
-fn behind_spaces(bytes: &[u8], from: usize) -> usize
+#[inline]
+const fn behind_spaces(bytes: &[u8], from: usize) -> usize
     requires { from ≤ length bytes.now }
     ensures within { (from ≤ result) × (result ≤ length bytes.now) }
     ensures spaces { (i : ℕ) → from ≤ i → i < result → slice_index bytes.now i ≡ 32 }
@@ -220,6 +243,7 @@ impl PartialOrd for Tag {
 
     ghost laws = { on_po tag_bytes texts_po };
 
+    #[inline]
     fn partial_cmp(&self, other: &Tag) -> Option<Ordering> {
         Some(self.cmp(other))
     }
@@ -234,6 +258,7 @@ impl Ord for Tag {
 
     ghost matches_eq = { λ a b. texts_ties (tag_bytes a) (tag_bytes b) };
 
+    #[inline]
     fn cmp(&self, other: &Tag) -> Ordering {
         self.0.cmp(&other.0)
     }
@@ -244,6 +269,7 @@ impl FromStr for Tag {
 
     ghost from_str_gives = { IsChecked };
 
+    #[inline]
     fn from_str(src: &str) -> Result<Self, InvalidTag> {
         Tag::new_checked(src.as_bytes())
     }
@@ -253,6 +279,7 @@ impl FromStr for Tag {
 impl Default for Tag {
     ghost is_default = { λ tag. tag_bytes tag ≡ four_spaces };
 
+    #[inline]
     fn default() -> Tag {
         Tag([b' '; 4])
     }
@@ -310,10 +337,12 @@ impl Scalar for Tag {
       lengths_agree = refl;
     } };
 
+    #[inline]
     fn from_raw(raw: [u8; 4]) -> Tag {
         Tag(raw)
     }
 
+    #[inline]
     fn to_raw(self) -> [u8; 4] {
         let _bytes = BeByteArray::as_slice(&self.0);
         self.0

@@ -46,7 +46,9 @@ impl Version16Dot16 {
     pub const VERSION_3_0: Self = Self(0x0003_0000);
 
     /// The version of two numbers. A minor number above 9 counts as 9.
-    pub fn new(major: u16, minor: u16) -> Self
+    #[must_use]
+    #[inline]
+    pub const fn new(major: u16, minor: u16) -> Self
         ensures { version_bits result ≡ packed_version major minor }
     {
         let minor = if minor > 9 { 9 } else { minor };
@@ -55,7 +57,9 @@ impl Version16Dot16 {
 
     /// The major and the minor number. The minor number of other bits than those of `new` is up to
     /// 15.
-    pub fn to_major_minor(self) -> (u16, u16)
+    #[must_use]
+    #[inline]
+    pub const fn to_major_minor(self) -> (u16, u16)
         ensures major { result.0 ≡ version_major self }
         ensures minor { result.1 ≡ version_minor self }
     {
@@ -66,8 +70,10 @@ impl Version16Dot16 {
     }
 
     /// The four bytes of the bits, highest first.
+    #[must_use]
+    #[inline]
     #[tactic(auto, using(font_base::proofs::StdBytes::std_bytes))]
-    pub fn to_be_bytes(self) -> [u8; 4]
+    pub const fn to_be_bytes(self) -> [u8; 4]
         ensures { result ≡ bytes_of 4 (pos (version_bits self)) }
     {
         self.0.to_be_bytes()
@@ -110,10 +116,12 @@ impl Scalar for Version16Dot16 {
 
     ghost laws = { unsigned_newtype 4 version_bits version_of (λ _. refl) (λ _. refl) };
 
+    #[inline]
     fn from_raw(raw: [u8; 4]) -> Version16Dot16 {
         Version16Dot16(u32::from_raw(raw))
     }
 
+    #[inline]
     fn to_raw(self) -> [u8; 4] {
         self.0.to_raw()
     }
@@ -155,7 +163,9 @@ impl MajorMinor {
     pub const VERSION_2_0: Self = MajorMinor { major: 2, minor: 0 };
 
     /// The version of two numbers.
-    pub fn new(major: u16, minor: u16) -> Self
+    #[must_use]
+    #[inline]
+    pub const fn new(major: u16, minor: u16) -> Self
         ensures major { result.major ≡ major }
         ensures minor { result.minor ≡ minor }
     {
@@ -163,8 +173,10 @@ impl MajorMinor {
     }
 
     /// Two bytes of the major number and then two of the minor number, highest first.
+    #[must_use]
+    #[inline]
     #[tactic(auto, using(font_base::proofs::StdBytes::std_bytes))]
-    pub fn to_be_bytes(self) -> [u8; 4]
+    pub const fn to_be_bytes(self) -> [u8; 4]
         ensures { result ≡ bytes_of 2 (pos self.major) ++ bytes_of 2 (pos self.minor) }
     {
         let [a, b] = self.major.to_be_bytes();
@@ -201,6 +213,7 @@ impl Scalar for MajorMinor {
 
     ghost laws = { major_minor_laws };
 
+    #[inline]
     fn from_raw(raw: [u8; 4]) -> MajorMinor {
         let [a, b, c, d] = raw;
         MajorMinor {
@@ -209,6 +222,7 @@ impl Scalar for MajorMinor {
         }
     }
 
+    #[inline]
     fn to_raw(self) -> [u8; 4] {
         let [a, b] = self.major.to_raw();
         let [c, d] = self.minor.to_raw();
@@ -229,6 +243,7 @@ pub trait Compatible<Rhs>: Sized {
 
     /// Whether this version has the other's major number, and a minor number that is not below the
     /// other's.
+    #[must_use]
     fn compatible(&self, other: Rhs) -> bool
         ensures { IsTrue result ↔ is_compatible self.now other };
 }
@@ -237,6 +252,7 @@ impl Compatible<Version16Dot16> for Version16Dot16 {
     ghost is_compatible = { λ version other. IsCompatible (version_major version)
         (version_minor version) (version_major other) (version_minor other) };
 
+    #[inline]
     fn compatible(&self, other: Version16Dot16) -> bool {
         let (major, minor) = self.to_major_minor();
         let (other_major, other_minor) = other.to_major_minor();
@@ -249,6 +265,7 @@ impl Compatible<(u16, u16)> for Version16Dot16 {
     ghost is_compatible = { λ version other.
         IsCompatible (version_major version) (version_minor version) other.0 (min other.1 9) };
 
+    #[inline]
     fn compatible(&self, other: (u16, u16)) -> bool {
         self.compatible(Version16Dot16::new(other.0, other.1))
     }
@@ -258,6 +275,7 @@ impl Compatible<MajorMinor> for MajorMinor {
     ghost is_compatible = { λ version other.
         IsCompatible version.major version.minor other.major other.minor };
 
+    #[inline]
     fn compatible(&self, other: MajorMinor) -> bool {
         self.major == other.major && self.minor >= other.minor
     }
@@ -267,6 +285,7 @@ impl Compatible<(u16, u16)> for MajorMinor {
     ghost is_compatible = { λ version other.
         IsCompatible version.major version.minor other.0 other.1 };
 
+    #[inline]
     fn compatible(&self, other: (u16, u16)) -> bool {
         self.compatible(MajorMinor::new(other.0, other.1))
     }
@@ -276,6 +295,7 @@ impl Compatible<(u16, u16)> for MajorMinor {
 impl Compatible<u16> for u16 {
     ghost is_compatible = { λ version other. other ≤ version };
 
+    #[inline]
     fn compatible(&self, other: u16) -> bool {
         *self >= other
     }

@@ -35,8 +35,10 @@ impl DeltaSum {
     ghost use Rattle.font_types.specs.DeltaSum.{steps_of};
 
     /// The sum of no terms.
+    #[must_use]
+    #[inline]
     #[tactic(auto, using(crate::proofs::SumCalls::delta_sum_calls))]
-    pub fn new() -> DeltaSum
+    pub const fn new() -> DeltaSum
         ensures { steps_of result ≡ pos 0 }
     {
         DeltaSum {
@@ -46,6 +48,7 @@ impl DeltaSum {
     }
 
     /// Adds the product of a scalar and a delta in font units, which is at most `2^62` steps.
+    #[inline]
     #[tactic(auto, using(crate::proofs::SumCalls::delta_sum_calls))]
     pub fn add(&mut self, scalar: Fixed, delta: i32)
         ensures wrapped { steps_of self.new
@@ -62,6 +65,7 @@ impl DeltaSum {
     }
 
     // Adds the product of a term.
+    #[inline]
     fn add_term(&mut self, term: &(Fixed, i32))
         ensures wrapped { steps_of self.new
             ≡ wrap 128 (steps_of self.old +ℤ term_product term.now) }
@@ -74,13 +78,17 @@ impl DeltaSum {
     }
 
     /// The sum, wrapped to 64 bits.
-    pub fn finish(self) -> F48Dot16
+    #[must_use]
+    #[inline]
+    pub const fn finish(self) -> F48Dot16
         ensures { f48dot16_bits result ≡ wrap 64 (steps_of self) }
     {
         self.low
     }
 
     /// The sum, or `None` where it lies outside 64 bits.
+    #[must_use]
+    #[inline]
     pub fn checked_finish(self) -> Option<F48Dot16>
         ensures variant { IsSome result ↔ FitsBits 64 (steps_of self) }
         ensures value { IfSome result (λ sum. f48dot16_bits sum ≡ steps_of self) }
@@ -95,6 +103,7 @@ impl Default for DeltaSum {
 
     ghost is_default = { λ sum. steps_of sum ≡ pos 0 };
 
+    #[inline]
     fn default() -> DeltaSum {
         DeltaSum::new()
     }
@@ -111,6 +120,8 @@ impl Default for DeltaSum {
 /// let half = Fixed::from_bits(0x8000);
 /// assert_eq!(delta_sum(&[(half, 3), (Fixed::NEG_ONE, 2)]).to_string(), "-0.5");
 /// ```
+#[must_use]
+#[inline]
 #[tactic(auto, using(crate::proofs::SumCalls::delta_sum_calls))]
 pub fn delta_sum(terms: &[(Fixed, i32)]) -> F48Dot16
     ensures { f48dot16_bits result ≡ wrap 64 (exact_sum terms.now) }
@@ -133,6 +144,8 @@ pub fn delta_sum(terms: &[(Fixed, i32)]) -> F48Dot16
 /// let sum = checked_delta_sum(&[(Fixed::from_bits(0x8000), 3)]).unwrap();
 /// assert_eq!(sum.to_bits(), 98304);
 /// ```
+#[must_use]
+#[inline]
 pub fn checked_delta_sum(terms: &[(Fixed, i32)]) -> Option<F48Dot16>
     ensures variant { IsSome result ↔ FitsBits 64 (exact_sum terms.now) }
     ensures value { IfSome result (λ sum. f48dot16_bits sum ≡ exact_sum terms.now) }
@@ -156,6 +169,8 @@ pub fn checked_delta_sum(terms: &[(Fixed, i32)]) -> Option<F48Dot16>
 /// use font_types::{FWord, Fixed, vary};
 /// assert_eq!(vary(FWord::new(100), &[(Fixed::from_bits(0x8000), 3)]), Some(6651904));
 /// ```
+#[must_use]
+#[inline]
 pub fn vary(base: FWord, terms: &[(Fixed, i32)]) -> Option<i128>
     ensures variant { IsSome result ↔ FitsBits 64 (exact_sum terms.now) }
     ensures value { IfSome result (λ units.

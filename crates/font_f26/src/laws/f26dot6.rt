@@ -8,6 +8,8 @@ use crate::F26Dot6;
 /// `x * y`, `y * x` and `x * ONE`.
 ///
 /// The first two are equal, and the third is `x`.
+#[must_use]
+#[inline]
 pub fn product_laws(x: F26Dot6, y: F26Dot6) -> [F26Dot6; 3]
     ensures { OnThree result (λ product flipped by_one.
         ProductLaws 32 6 (f26dot6_bits x) (f26dot6_bits y)
@@ -19,6 +21,8 @@ pub fn product_laws(x: F26Dot6, y: F26Dot6) -> [F26Dot6; 3]
 /// `x / y`, `x / ONE` and `x / x`.
 ///
 /// The second is `x`, and the last is `ONE` where `x` is not zero.
+#[must_use]
+#[inline]
 pub fn quotient_laws(x: F26Dot6, y: F26Dot6) -> [F26Dot6; 3]
     ensures { OnThree result (λ quotient by_one by_itself.
         QuotientLaws 32 6 (f26dot6_bits x) (f26dot6_bits y)

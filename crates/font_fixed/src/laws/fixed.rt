@@ -9,6 +9,8 @@ use crate::Fixed;
 /// `x * y`, `y * x`, `x * ONE` and `x.mul_div(y, ONE)`.
 ///
 /// The first, the second and the last are equal, and the third is `x`.
+#[must_use]
+#[inline]
 pub fn product_laws(x: Fixed, y: Fixed) -> [Fixed; 4]
     ensures laws { OnFour result (λ product flipped by_one in_one_step.
         ProductLaws 32 16 (fixed_bits x) (fixed_bits y)
@@ -24,6 +26,8 @@ pub fn product_laws(x: Fixed, y: Fixed) -> [Fixed; 4]
 ///
 /// The first two are equal, also where `y` is zero; the third is `x`, and the last is `ONE` where
 /// `x` is not zero.
+#[must_use]
+#[inline]
 pub fn quotient_laws(x: Fixed, y: Fixed) -> [Fixed; 4]
     ensures laws { OnFour result (λ quotient in_one_step by_one by_itself.
         QuotientLaws 32 16 (fixed_bits x) (fixed_bits y)
