@@ -1,4 +1,4 @@
-//! Products and quotients of fixed-point numbers of 32 bits, over their bits.
+//! Products and quotients of 32-bit fixed-point numbers, over their raw bits.
 #![tactic(auto, using(crate::proofs::Rules::number_code, crate::proofs::Quotients::signed_code))]
 
 ghost use Rattle.std.specs.Prelude.{◌≡◌, ◌-◌, ◌^◌, ◌<◌, ◌≤◌, unsigned_abs};
@@ -7,8 +7,8 @@ ghost use Rattle.font_base.specs.Wrap.{wrap};
 ghost use Rattle.font_decimal.specs.Near.{signed, near, near_magnitude};
 ghost use Rattle.font_arithmetic.specs.Operations.{differ_in_sign, IsProduct, IsMulDiv};
 
-/// The product of two numbers with `f` bits of fraction, rounded to the nearest step, ties away
-/// from zero, and wrapped.
+/// Multiplies two numbers with `f` fraction bits, rounding half away from zero and wrapping on
+/// overflow.
 #[must_use]
 #[inline]
 pub fn product(x: i32, y: i32, f: u32) -> i32
@@ -18,10 +18,9 @@ pub fn product(x: i32, y: i32, f: u32) -> i32
     low_bits(rounded_shift(i64::from(x) * i64::from(y), f))
 }
 
-/// `x * a / c`, rounded once to the nearest whole number, ties away from zero, and wrapped.
+/// Returns `x * a / c`, rounded once, half away from zero, wrapping on overflow.
 ///
-/// Where `c` is zero it is the greatest number of 32 bits, negated where just one of `x` and `a` is
-/// negative.
+/// If `c` is zero, the result is `i32::MAX`, negated if exactly one of `x` and `a` is negative.
 #[must_use]
 #[inline]
 pub const fn mul_div(x: i32, a: i32, c: i32) -> i32
@@ -32,7 +31,7 @@ pub const fn mul_div(x: i32, a: i32, c: i32) -> i32
     with_sign(negative, rounded_quotient(product, magnitude(c)))
 }
 
-/// The last 32 bits of a number, as a signed one.
+/// Truncates to the low 32 bits.
 #[must_use]
 #[inline]
 pub const fn low_bits(n: i64) -> i32
@@ -41,7 +40,7 @@ pub const fn low_bits(n: i64) -> i32
     (n.rem_euclid(1 << 32) as u32).cast_signed()
 }
 
-// `n / 2^f` rounded to the nearest whole number, ties away from zero.
+// Returns `n / 2^f`, rounded half away from zero.
 #[inline]
 fn rounded_shift(n: i64, f: u32) -> i64
     requires fraction { (6 ≤ f) × (f ≤ 30) }
@@ -52,8 +51,7 @@ fn rounded_shift(n: i64, f: u32) -> i64
     (n + half - i64::from(n < 0)) >> f
 }
 
-// `n / d` rounded to the nearest whole number, ties away from zero; where `d` is zero, the greatest
-// of 32 bits.
+// Returns `n / d`, rounded half away from zero, or `i32::MAX` if `d` is zero.
 #[inline]
 const fn rounded_quotient(n: u64, d: u64) -> u64
     requires { (n ≤ 2 ^ 62) × (d ≤ 2 ^ 31) }
@@ -63,7 +61,7 @@ const fn rounded_quotient(n: u64, d: u64) -> u64
     if d == 0 { 0x7FFF_FFFF } else { (n + d / 2) / d }
 }
 
-// The number with this magnitude, negated where asked, and wrapped.
+// Applies a sign to a magnitude, wrapping on overflow.
 #[inline]
 const fn with_sign(negative: bool, magnitude: u64) -> i32
     ensures { result ≡ wrap 32 (signed negative magnitude) }
@@ -83,7 +81,7 @@ const fn differs_in_sign(x: i32, y: i32) -> bool
     x.is_negative() != y.is_negative()
 }
 
-// The number without its sign.
+// Returns the absolute value.
 #[inline]
 const fn magnitude(x: i32) -> u64
     ensures value { result ≡ unsigned_abs x }

@@ -1,4 +1,4 @@
-//! Decimals read as the bits of fixed-point numbers.
+//! Parsing decimals to the raw bits of fixed-point numbers.
 
 ghost use Rattle.std.specs.Prelude.{◌≤◌};
 ghost use Rattle.std.specs.Int.{w16, w32, w64};
@@ -6,8 +6,8 @@ ghost use Rattle.font_arithmetic.specs.Reading.{ReadsBy};
 
 use font_decimal::{DecimalFault, read_decimal_bytes};
 
-/// The bits of the number nearest to the decimal that bytes write, ties away from zero, of 16 bits,
-/// `f` of which are its fraction.
+/// Parses a decimal as the nearest 16-bit raw value with `f` fraction bits, rounding half away from
+/// zero.
 #[inline(always)]
 pub fn read_bits_16(text: &[u8], f: u32) -> Result<i16, DecimalFault>
     requires { (6 ≤ f) × (f ≤ 30) }
@@ -17,8 +17,8 @@ pub fn read_bits_16(text: &[u8], f: u32) -> Result<i16, DecimalFault>
     Ok(bits as i16)
 }
 
-/// The bits of the number nearest to the decimal that bytes write, ties away from zero, of 32 bits,
-/// `f` of which are its fraction.
+/// Parses a decimal as the nearest 32-bit raw value with `f` fraction bits, rounding half away from
+/// zero.
 #[inline(always)]
 pub fn read_bits_32(text: &[u8], f: u32) -> Result<i32, DecimalFault>
     requires { (6 ≤ f) × (f ≤ 30) }
@@ -28,8 +28,8 @@ pub fn read_bits_32(text: &[u8], f: u32) -> Result<i32, DecimalFault>
     Ok(bits as i32)
 }
 
-/// The bits of the number nearest to the decimal that bytes write, ties away from zero, of 64 bits,
-/// `f` of which are its fraction.
+/// Parses a decimal as the nearest 64-bit raw value with `f` fraction bits, rounding half away from
+/// zero.
 #[inline(always)]
 pub fn read_bits_64(text: &[u8], f: u32) -> Result<i64, DecimalFault>
     requires { (6 ≤ f) × (f ≤ 30) }

@@ -1,4 +1,4 @@
-//! Arrays of scalars over the bytes of a table.
+//! Borrowed arrays of big-endian scalars.
 
 ghost use Rattle.std.specs.Prelude.{◌≡◌, ⊤, ◌↔◌, ◌*◌, ◌%◌, ◌<◌, IsTrue, IsSome, IfSome, length};
 ghost use Rattle.std.specs.Iterator.{YieldsFirstBy, YieldsLastBy, item_count};
@@ -10,10 +10,10 @@ use std::cmp::Ordering;
 use std::iter::FusedIterator;
 use std::marker::PhantomData;
 
-/// An array of scalars over its bytes, one element behind the other.
+/// A borrowed, big-endian array of scalars.
 ///
-/// The length is checked once, where the view is made; an element is decoded where it is asked for.
-/// A record of one's own that is a [`Scalar`] can be an element too.
+/// The length is checked once, by `new`; elements are decoded on access. A record type that
+/// implements [`Scalar`] can be an element too.
 ///
 /// ```
 /// use font_types::ScalarArray;
@@ -33,9 +33,10 @@ impl<'a, T: Scalar> ScalarArray<'a, T> {
     ghost use Rattle.font_base.specs.Array.{array_bytes, array_len, element_bytes};
     ghost use Rattle.font_base.specs.Array.{array_elements, elements_left, IsSearched};
 
-    /// The array in these bytes, or `None` where their number is no multiple of `RAW_BYTE_LEN`.
+    /// Creates an array over `data`, or returns `None` if its length is not a multiple of
+    /// `RAW_BYTE_LEN`.
     ///
-    /// Where `RAW_BYTE_LEN` is 0, only the empty bytes are an array, and it is empty.
+    /// If `RAW_BYTE_LEN` is 0, only empty data is an array, and it is empty.
     #[must_use]
     pub fn new(data: &'a [u8]) -> Option<ScalarArray<'a, T>>
         ensures whole { IsSome result ↔ (length «data».now % T.RAW_BYTE_LEN ≡ 0) }
@@ -55,7 +56,7 @@ impl<'a, T: Scalar> ScalarArray<'a, T> {
         })
     }
 
-    /// How many elements there are.
+    /// Returns the number of elements.
     #[must_use]
     pub fn len(&self) -> usize
         ensures value { result ≡ array_len self.now }
@@ -64,7 +65,7 @@ impl<'a, T: Scalar> ScalarArray<'a, T> {
         self.data.len().checked_div(T::RAW_BYTE_LEN).unwrap_or(0)
     }
 
-    /// Whether there is no element.
+    /// Returns `true` if the array has no elements.
     #[must_use]
     pub fn is_empty(&self) -> bool
         ensures { IsTrue result ↔ (array_len self.now ≡ 0) }
@@ -72,7 +73,7 @@ impl<'a, T: Scalar> ScalarArray<'a, T> {
         self.len() == 0
     }
 
-    /// All the bytes.
+    /// Returns the underlying bytes.
     #[must_use]
     pub fn as_bytes(&self) -> &'a [u8]
         ensures { result.now ≡ array_bytes self.now }
@@ -80,7 +81,7 @@ impl<'a, T: Scalar> ScalarArray<'a, T> {
         self.data
     }
 
-    /// The element of that index, the first has 0, or `None` behind the end.
+    /// Returns the element at `index`, or `None` if out of bounds.
     #[must_use]
     pub fn get(&self, index: usize) -> Option<T>
         ensures end { IsSome result ↔ (index < array_len self.now) }
@@ -97,7 +98,7 @@ impl<'a, T: Scalar> ScalarArray<'a, T> {
         T::read(&self.data[start..start + T::RAW_BYTE_LEN])
     }
 
-    /// The elements, first to last, and from the back.
+    /// Returns an iterator over the elements, from either end.
     #[must_use]
     pub fn iter(&self) -> ScalarArrayIter<'a, T>
         ensures { elements_left result ≡ array_elements self.now }
@@ -126,12 +127,12 @@ impl<'a, T: Scalar> Copy for ScalarArray<'a, T> {}
 impl<'a, T: Scalar> ScalarArray<'a, T> {
     ghost use Rattle.font_base.specs.Array.{IsSearched};
 
-    /// Where an element of that key stands, in an array that is sorted by it; where there are
-    /// several, any of them.
+    /// Searches an array that is sorted by a key, and returns the index of an element with that
+    /// key. If there are several, any of them may be returned.
     ///
     /// # Errors
     ///
-    /// The index at which one could be put in, where there is none.
+    /// If there is none, returns the index at which it could be inserted.
     #[tactic(auto, using(crate::proofs::Elements::search_rules))]
     pub fn binary_search_by_key<K: Ord + Copy, F: Fn(T) -> K>(
         &self,
@@ -158,12 +159,12 @@ impl<'a, T: Scalar> ScalarArray<'a, T> {
         Err(low)
     }
 
-    /// Where an element equal to the key stands, in an array that is sorted; where there are
-    /// several, any of them.
+    /// Searches a sorted array, and returns the index of an element equal to `key`. If there are
+    /// several, any of them may be returned.
     ///
     /// # Errors
     ///
-    /// The index at which the key could be put in, where there is none.
+    /// If there is none, returns the index at which it could be inserted.
     pub fn binary_search(&self, key: &T) -> Result<usize, usize>
     where
         T: Ord + Copy,
@@ -173,7 +174,7 @@ impl<'a, T: Scalar> ScalarArray<'a, T> {
     }
 }
 
-/// Goes over the elements of an array, first to last or from the back.
+/// An iterator over the elements of a [`ScalarArray`].
 #[derive(Drop)]
 pub struct ScalarArrayIter<'a, T: Scalar> {
     rest: ScalarArray<'a, T>,

@@ -1,4 +1,4 @@
-//! Fields laid over big-endian bytes.
+//! Big-endian fields.
 
 ghost use Rattle.std.specs.Prelude.{◌≡◌, ⊤, nat_eq, Some, IsTrue, IsSome, IfSome, ◌↔◌, length};
 ghost use Rattle.std.specs.Prelude.{refl};
@@ -17,11 +17,10 @@ use std::fmt;
 use std::hash::{Hash, Hasher};
 use std::marker::PhantomData;
 
-/// A scalar as it stands in a font file: its raw bytes, highest first.
+/// A scalar as stored in a font file: its raw big-endian bytes.
 ///
-/// Fields are equal where their bytes are, and ordered as their values are.
-/// The second parameter is the array of bytes, and is never written:
-/// `BigEndian<u16>` holds `[u8; 2]`.
+/// Two fields are equal if their bytes are, and are ordered by their values. The second parameter
+/// is the byte array and is always left out: `BigEndian<u16>` holds a `[u8; 2]`.
 ///
 /// ```
 /// use font_types::{BigEndian, FWord};
@@ -37,7 +36,7 @@ pub struct BigEndian<T: Scalar, R: BeByteArray = <T as Scalar>::Raw> {
 impl<T: Scalar> BigEndian<T> {
     ghost use Rattle.font_base.specs.BigEndian.{raw_value};
 
-    /// The field with these bytes.
+    /// Creates a field from its raw bytes.
     #[must_use]
     pub fn new(raw: T::Raw) -> BigEndian<T>
         ensures { raw_value result ≡ raw }
@@ -50,7 +49,7 @@ impl<T: Scalar> BigEndian<T> {
         }
     }
 
-    /// The field over these bytes, or `None` where there are not exactly `RAW_BYTE_LEN` of them.
+    /// Creates a field from a slice, or returns `None` unless its length is `RAW_BYTE_LEN`.
     #[must_use]
     pub fn from_slice(slice: &[u8]) -> Option<BigEndian<T>>
         ensures length { IsSome result ↔ (length slice.now ≡ T.RAW_BYTE_LEN) }
@@ -63,7 +62,7 @@ impl<T: Scalar> BigEndian<T> {
         })
     }
 
-    /// The value that the bytes stand for.
+    /// Decodes the value.
     #[must_use]
     pub fn get(&self) -> T
         ensures value { result ≡ T.of_raw (raw_value self.now) }
@@ -72,7 +71,7 @@ impl<T: Scalar> BigEndian<T> {
         T::from_raw(self.raw)
     }
 
-    /// Writes the bytes of a value.
+    /// Overwrites the field with the bytes of `value`.
     pub fn set(&mut self, value: T)
         ensures bytes { raw_value self.new ≡ T.raw_of value }
         ensures back { T.of_raw (raw_value self.new) ≡ value }
@@ -80,7 +79,7 @@ impl<T: Scalar> BigEndian<T> {
         self.raw = value.to_raw();
     }
 
-    /// The bytes, highest first.
+    /// Returns the raw big-endian bytes.
     #[must_use]
     pub fn be_bytes(&self) -> &[u8]
         ensures { result.now ≡ T.Raw.bytes (raw_value self.now) }
@@ -88,7 +87,7 @@ impl<T: Scalar> BigEndian<T> {
         self.raw.as_slice()
     }
 
-    /// Whether the value is equal to another.
+    /// Returns `true` if the decoded value equals `other`.
     #[must_use]
     pub fn eq_value(&self, other: &T) -> bool
     where

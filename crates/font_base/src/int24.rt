@@ -1,4 +1,4 @@
-//! The signed integer of 24 bits.
+//! 24-bit signed integers.
 
 ghost use Rattle.std.specs.Prelude.{◌≡◌, ◌≤ℤ◌, ◌<ℤ◌, ◌↔◌, pos, neg_ℤ, Some, IsSome, IfSome};
 ghost use Rattle.std.specs.Int.{int_min, int_max};
@@ -8,7 +8,7 @@ use crate::raw::{FixedSize, IdentityEq, Scalar};
 use crate::uint24::Uint24;
 use std::fmt;
 
-/// A signed integer of 24 bits, from -8388608 to 8388607.
+/// A 24-bit signed integer.
 ///
 /// ```
 /// use font_types::Int24;
@@ -26,13 +26,13 @@ impl Int24 {
     ghost use Rattle.font_base.specs.Int24.{INT24_MIN, INT24_MAX, int24_number};
     ghost use Rattle.font_base.specs.Bytes.{signed_numeral, bytes_of};
 
-    /// The least value, -8388608.
+    /// The smallest value, -8388608.
     pub const MIN: Self = Int24 { value: -0x80_0000 };
 
-    /// The greatest value, 8388607.
+    /// The largest value, 8388607.
     pub const MAX: Self = Int24 { value: 0x7F_FFFF };
 
-    /// The number, or the nearest value where the number is out of range.
+    /// Converts an `i32`, saturating at `MIN` and `MAX`.
     #[must_use]
     #[inline]
     pub const fn new(raw: i32) -> Int24
@@ -47,7 +47,7 @@ impl Int24 {
         }
     }
 
-    /// The number, or `None` where it is out of range.
+    /// Converts an `i32`, or returns `None` if it is out of range.
     #[must_use]
     #[inline]
     pub const fn checked_new(raw: i32) -> Option<Int24>
@@ -61,7 +61,7 @@ impl Int24 {
         }
     }
 
-    /// The number.
+    /// Returns the value as an `i32`.
     #[must_use]
     #[inline]
     pub const fn to_i32(self) -> i32
@@ -70,7 +70,7 @@ impl Int24 {
         self.value
     }
 
-    /// The three bytes in two's complement, highest first.
+    /// Returns the big-endian bytes, in two's complement.
     #[must_use]
     #[inline]
     pub const fn to_be_bytes(self) -> [u8; 3]
@@ -80,7 +80,7 @@ impl Int24 {
         [high, middle, low]
     }
 
-    /// The number of three bytes in two's complement, highest first.
+    /// Creates a value from big-endian bytes in two's complement.
     #[must_use]
     #[inline]
     pub const fn from_be_bytes(bytes: [u8; 3]) -> Int24

@@ -1,4 +1,4 @@
-//! Scalars, and the big-endian bytes that they are stored as.
+//! Scalars and their big-endian bytes.
 #![tactic(auto, using(crate::proofs::StdBytes::std_bytes))]
 
 ghost use Rattle.std.specs.Prelude.{◌≡◌, ℕ, pos, Bool, List, IsTrue, IsSome, IfSome, ◌↔◌, ◌^◌};
@@ -12,34 +12,34 @@ ghost use Rattle.font_base.specs.Bytes.{are_bytes, numeral, bytes_of, signed_num
 ghost use Rattle.font_base.specs.Scalar.{ScalarLaws, IsValueOf};
 ghost use Rattle.font_base.specs.Scalar.Laws.{unsigned_laws, signed_laws};
 
-/// An array of a fixed number of bytes, highest first.
+/// A fixed-size big-endian byte array.
 pub trait BeByteArray: Copy {
-    /// How many bytes the array has.
+    /// The number of bytes.
     const LEN: usize;
 
     ghost LEN: { ℕ };
 
-    // the bytes, first to last
+    // the bytes, in order
     ghost bytes: { Self → List ℕ };
 
-    // that these are as many bytes as they should be, each below 256
+    // it has `LEN` bytes, each below 256
     ghost is_value: { Self → Bool };
 
-    /// The array with the slice's bytes, or `None` where the slice has another length than `LEN`.
+    /// Copies a slice, or returns `None` unless its length is `LEN`.
     #[must_use]
     fn from_slice(slice: &[u8]) -> Option<Self>
         ensures length { IsSome result ↔ (length slice.now ≡ LEN) }
         ensures value { IfSome result (λ array. IsTrue (is_value array)) }
         ensures bytes { IfSome result (λ array. bytes array ≡ slice.now) };
 
-    /// The bytes as a slice.
+    /// Returns the bytes as a slice.
     #[must_use]
     fn as_slice(&self) -> &[u8]
         ensures bytes { result.now ≡ bytes self.now }
         ensures length { length result.now ≡ LEN }
         ensures value { IsTrue (is_value self.now) };
 
-    /// Whether both arrays have the same bytes.
+    /// Returns `true` if both arrays have the same bytes.
     #[must_use]
     #[inline]
     fn eq_array(&self, other: &Self) -> bool
@@ -48,15 +48,15 @@ pub trait BeByteArray: Copy {
         self.as_slice() == other.as_slice()
     }
 
-    // A value has as many bytes as the type says.
+    // Every value has `LEN` bytes.
     ghost length_is: { (a : Self) → IsTrue (is_value a) → length (bytes a) ≡ LEN };
 
-    // Equal bytes are the same value.
+    // Equal bytes mean equal values.
     ghost same_bytes: { (a b : Self) → IsTrue (is_value a) → IsTrue (is_value b) → bytes a ≡ bytes b
         → a ≡ b };
 }
 
-// The same slice, with the fact that its elements are bytes.
+// Returns the slice itself; its contract adds that every element is below 256.
 #[inline]
 pub(crate) const fn each_is_byte(slice: &[u8]) -> &[u8]
     ensures same { result.now ≡ slice.now }
@@ -91,23 +91,22 @@ impl<const N: usize> BeByteArray for [u8; N] {
     }
 }
 
-/// A type whose stored size is known.
+/// A type with a fixed encoded size.
 ///
 /// ```
 /// use font_types::{FixedSize, Offset24};
 /// assert_eq!(Offset24::RAW_BYTE_LEN, 3);
 /// ```
 pub trait FixedSize: Sized {
-    /// How many bytes a value takes in a font file.
+    /// The encoded size, in bytes.
     const RAW_BYTE_LEN: usize;
 
     ghost RAW_BYTE_LEN: { ℕ };
 }
 
-/// A value that is stored as a fixed number of big-endian bytes.
+/// A type that is encoded as a fixed number of big-endian bytes.
 ///
-/// An `impl` says which bytes a value has. A value and its bytes determine each other: fields,
-/// headers and their laws ask nothing more of a type.
+/// A value and its raw bytes determine each other.
 ///
 /// ```
 /// use font_types::Scalar;
@@ -115,30 +114,30 @@ pub trait FixedSize: Sized {
 /// assert_eq!(u16::read(&[0x01]), None);
 /// ```
 pub trait Scalar: FixedSize {
-    /// The array of bytes.
+    /// The raw bytes.
     type Raw: BeByteArray;
 
-    // that this is a value of the type
+    // it is a value of the type
     ghost is_scalar: { Self → Bool };
 
-    // the value of an array of bytes
+    // the value with these raw bytes
     ghost of_raw: { Self.Raw → Self };
 
-    // the array of bytes of a value
+    // the raw bytes of a value
     ghost raw_of: { Self → Self.Raw };
 
-    /// The value that the bytes stand for.
+    /// Decodes a value from its raw bytes.
     #[must_use]
     fn from_raw(raw: Self::Raw) -> Self
         ensures { result ≡ of_raw raw };
 
-    /// The bytes of the value.
+    /// Encodes the value as raw bytes.
     #[must_use]
     fn to_raw(self) -> Self::Raw
         ensures raw { result ≡ raw_of self }
         ensures value { IsTrue (is_scalar self) };
 
-    /// Reads a value from a slice of exactly `RAW_BYTE_LEN` bytes, `None` at any other length.
+    /// Reads a value from a slice, or returns `None` unless its length is `RAW_BYTE_LEN`.
     #[must_use]
     #[inline]
     fn read(slice: &[u8]) -> Option<Self>
@@ -151,12 +150,12 @@ pub trait Scalar: FixedSize {
         Some(Self::from_raw(raw))
     }
 
-    // Values and arrays determine each other, and the array is as long as the type says.
+    // Encoding and decoding are inverse, and the encoded size is `RAW_BYTE_LEN`.
     ghost laws: { ScalarLaws is_scalar Self.Raw.is_value of_raw raw_of
         Self.Raw.LEN Self.RAW_BYTE_LEN };
 }
 
-/// A scalar whose `==` joins no two values: `a == b` is true exactly where they are the same.
+/// A scalar whose `==` is identity: `a == b` if and only if they are the same value.
 pub trait IdentityEq: Eq {
     ghost identity: { (a b : Self) → Decides (Self.eq a b) (a ≡ b) };
 }

@@ -1,4 +1,4 @@
-//! Table data with a header of a fixed size at its start.
+//! Table data with a fixed-size header.
 
 ghost use Rattle.std.specs.Prelude.{◌≡◌, ⊤, ℕ, List, IsSome, IfSome, ◌↔◌, ◌≤◌, length, take, drop};
 
@@ -6,26 +6,26 @@ use crate::big_endian::BigEndian;
 use std::alloc::AllocError;
 use std::marker::PhantomData;
 
-/// A header of a fixed size, as it stands at the start of a table.
+/// A fixed-size header at the start of a table.
 pub trait TableHeader: Sized {
-    /// How many bytes the header takes.
+    /// The size of the header, in bytes.
     const BYTE_LEN: usize;
 
     ghost BYTE_LEN: { ℕ };
 
-    // that these bytes are the header's
+    // these bytes are the encoded header
     ghost decodes: { List ℕ → Self → Type 0 };
 
-    /// The header that stands in exactly `BYTE_LEN` bytes. With others it may panic.
+    /// Decodes a header from exactly `BYTE_LEN` bytes. May panic at any other length.
     #[must_use]
     fn decode(bytes: &[u8]) -> Self
         requires { length bytes.now ≡ BYTE_LEN }
         ensures { decodes bytes.now result };
 }
 
-/// The bytes of a table whose start holds a header of type `H`.
+/// The bytes of a table that starts with a header of type `H`.
 ///
-/// The length is checked once, where the reference is made.
+/// The length is checked once, by `new`.
 ///
 /// ```
 /// use font_types::{SampleHeader, TableDataRef};
@@ -41,7 +41,7 @@ pub struct TableDataRef<'a, H: TableHeader> {
 impl<'a, H: TableHeader> TableDataRef<'a, H> {
     ghost use Rattle.font_base.specs.TableData.{table_bytes};
 
-    /// The table in these bytes, or `None` where they are too short for its header.
+    /// Creates a table over `data`, or returns `None` if it is too short for the header.
     #[must_use]
     pub fn new(data: &'a [u8]) -> Option<TableDataRef<'a, H>>
         ensures long { IsSome result ↔ (H.BYTE_LEN ≤ length «data».now) }
@@ -56,7 +56,7 @@ impl<'a, H: TableHeader> TableDataRef<'a, H> {
         })
     }
 
-    /// The header, decoded from the first `BYTE_LEN` bytes.
+    /// Decodes the header from the first `BYTE_LEN` bytes.
     #[must_use]
     pub fn header(&self) -> H
         ensures { H.decodes (take H.BYTE_LEN (table_bytes self.now)) result }
@@ -64,7 +64,7 @@ impl<'a, H: TableHeader> TableDataRef<'a, H> {
         H::decode(&self.data[..H::BYTE_LEN])
     }
 
-    /// All the bytes, the header's among them.
+    /// Returns all the bytes, including the header.
     #[must_use]
     pub fn data(&self) -> &'a [u8]
         ensures { result.now ≡ table_bytes self.now }
@@ -72,7 +72,7 @@ impl<'a, H: TableHeader> TableDataRef<'a, H> {
         self.data
     }
 
-    /// The bytes behind the header.
+    /// Returns the bytes after the header.
     #[must_use]
     pub fn rest(&self) -> &'a [u8]
         ensures { result.now ≡ drop H.BYTE_LEN (table_bytes self.now) }
@@ -80,7 +80,7 @@ impl<'a, H: TableHeader> TableDataRef<'a, H> {
         &self.data[H::BYTE_LEN..]
     }
 
-    /// The header, and the bytes behind it.
+    /// Returns the header and the bytes after it.
     #[must_use]
     pub fn split(&self) -> (H, &'a [u8])
         ensures header { H.decodes (take H.BYTE_LEN (table_bytes self.now)) result.0 }
@@ -107,12 +107,12 @@ impl<'a, H: TableHeader> Clone for TableDataRef<'a, H> {
 
 impl<'a, H: TableHeader> Copy for TableDataRef<'a, H> {}
 
-/// A header of two fields.
+/// An example of a header, with two fields.
 #[derive(Drop)]
 pub struct SampleHeader {
-    /// The first two bytes.
+    /// Bytes 0 and 1.
     pub a: BigEndian<u16>,
-    /// The four bytes behind them.
+    /// Bytes 2 to 5.
     pub b: BigEndian<u32>,
 }
 

@@ -1,4 +1,4 @@
-//! The unsigned integer of 24 bits.
+//! 24-bit unsigned integers.
 
 ghost use Rattle.std.specs.Prelude.{◌≡◌, ◌≤◌, ◌<◌, ◌^◌, ◌↔◌, min, pos, Some, IsSome, IfSome};
 ghost use Rattle.std.specs.Prelude.{MatchResult};
@@ -8,7 +8,7 @@ use crate::raw::{FixedSize, IdentityEq, Scalar, each_is_byte};
 use std::fmt;
 use thiserror::Error;
 
-/// An unsigned integer of 24 bits, from 0 to 16777215.
+/// A 24-bit unsigned integer.
 ///
 /// ```
 /// use font_types::Uint24;
@@ -25,13 +25,13 @@ impl Uint24 {
     ghost use Rattle.font_base.specs.Uint24.{UINT24_MAX, uint24_number};
     ghost use Rattle.font_base.specs.Bytes.{numeral, bytes_of};
 
-    /// The least value, 0.
+    /// The smallest value, 0.
     pub const MIN: Self = Uint24 { value: 0 };
 
-    /// The greatest value, 16777215.
+    /// The largest value, 16777215.
     pub const MAX: Self = Uint24 { value: 0xFF_FFFF };
 
-    /// The number, or the greatest value where the number is above it.
+    /// Converts a `u32`, saturating at `MAX`.
     #[must_use]
     #[inline]
     pub const fn new(raw: u32) -> Uint24
@@ -44,7 +44,7 @@ impl Uint24 {
         }
     }
 
-    /// The number, or `None` where it is above the greatest value.
+    /// Converts a `u32`, or returns `None` if it exceeds `MAX`.
     #[must_use]
     #[inline]
     pub const fn checked_new(raw: u32) -> Option<Uint24>
@@ -58,7 +58,7 @@ impl Uint24 {
         }
     }
 
-    /// The number.
+    /// Returns the value as a `u32`.
     #[must_use]
     #[inline]
     pub const fn to_u32(self) -> u32
@@ -67,7 +67,7 @@ impl Uint24 {
         self.value
     }
 
-    /// The three bytes, highest first.
+    /// Returns the big-endian bytes.
     #[must_use]
     #[inline]
     pub const fn to_be_bytes(self) -> [u8; 3]
@@ -77,7 +77,7 @@ impl Uint24 {
         [high, middle, low]
     }
 
-    /// The number of three bytes, highest first.
+    /// Creates a value from big-endian bytes.
     #[must_use]
     #[inline]
     pub const fn from_be_bytes(bytes: [u8; 3]) -> Uint24
@@ -139,7 +139,7 @@ impl From<Uint24> for usize {
     }
 }
 
-/// A number that is above `Uint24::MAX`.
+/// The error of a conversion from a `usize` that exceeds `Uint24::MAX`.
 #[derive(Debug, Drop, Error)]
 #[error("failed to convert usize value into Uint24.")]
 pub struct TryFromUint24Error;

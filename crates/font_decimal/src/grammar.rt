@@ -1,4 +1,4 @@
-//! The parts of a decimal text.
+//! The parts of a decimal.
 
 ghost use Rattle.std.specs.Prelude.{◌≡◌, ◌≢◌, ℕ, false, List, ◌∷◌, ◌++◌, MatchOption};
 ghost use Rattle.std.specs.Fmt.{sign_text};
@@ -6,7 +6,7 @@ ghost use Rattle.std.specs.Char.{is_ascii_digit};
 ghost use Rattle.std.specs.List.{list_all};
 ghost use Rattle.font_decimal.specs.Grammar.{fraction_text};
 
-// A sign and what follows it.
+// Splits off a leading `-`.
 #[must_use]
 #[inline]
 pub fn split_sign(text: &[u8]) -> (bool, &[u8])
@@ -19,7 +19,7 @@ pub fn split_sign(text: &[u8]) -> (bool, &[u8])
     }
 }
 
-// What follows the whole digits, without its point: nothing, or one byte or more behind a point.
+// Returns the fraction, without its point: empty, or one byte or more after a point.
 #[must_use]
 #[inline]
 pub fn behind_point(text: &[u8]) -> Option<&[u8]>
@@ -33,7 +33,7 @@ pub fn behind_point(text: &[u8]) -> Option<&[u8]>
     }
 }
 
-// It looks at every byte, so that many at a time are judged.
+// No early exit, so that it vectorizes.
 #[must_use]
 #[inline]
 pub fn are_digits(text: &[u8]) -> bool

@@ -1,11 +1,10 @@
-//! Functions whose contracts are laws of reading.
+//! A law of parsing, as the contract of a function.
 ghost use Rattle.std.specs.Prelude.{◌≡◌, ◌≤◌, ℤ, pos, ◌≤ℤ◌};
 ghost use Rattle.font_decimal.specs.Reading.{IsReading, IsAtMost};
 
 use crate::{DecimalFault, read_decimal};
 
-/// Reads both texts. Where both are accepted, the one of greater decimal value never gives the
-/// lesser number.
+/// Parses both texts. If both are accepted, the greater decimal never gives the smaller value.
 #[inline]
 pub fn reads_in_order(
     s: &str,

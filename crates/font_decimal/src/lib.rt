@@ -1,6 +1,6 @@
-//! Decimal texts of fixed-point numbers: reading them, writing the shortest one, and padding.
+//! Decimals of fixed-point numbers: parsing, shortest printing, padding.
 //!
-//! A fixed-point number with `f` bits of fraction stands for its bits over `2^f`. Nothing here
+//! A fixed-point number with `f` fraction bits is its raw value times `2^-f`. Nothing here
 //! allocates.
 //!
 //! ```text

@@ -357,8 +357,8 @@ fn pads_to_a_width(rt: HostRuntime) {
     }
 }
 
-// The length of a text padded into a room of `#`, which then begins with this; `None` where the text
-// is no decimal or the room is too short.
+// The length of a text padded into a room of `#`, which then begins with this; `None` where the
+// text is no decimal or the room is too short.
 fn is_padded(text: &str, pad: &Pad, room: &mut [u8], front: &[u8]) -> Option<usize>
     requires { pad.now.fill < 128 }
 {

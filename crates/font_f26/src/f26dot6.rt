@@ -1,4 +1,4 @@
-//! The fixed-point number of 32 bits with 6 bits of fraction.
+//! 26.6 fixed-point numbers.
 #![tactic(auto, using(font_arithmetic::proofs::Rules::number_code))]
 
 ghost use Rattle.std.specs.Prelude.{◌≡◌, ◌-◌, ◌^◌, ◌<◌, ◌≤◌, ◌↔◌, ℤ, pos, neg_ℤ, ◌+ℤ◌, ◌-ℤ◌, ◌*ℤ◌};
@@ -21,11 +21,9 @@ use std::fmt;
 use std::ops::{Add, AddAssign, Div, DivAssign, Mul, MulAssign, Neg, Sub, SubAssign};
 use std::str::FromStr;
 
-/// A fixed-point number of 32 bits, the last 6 of which are its fraction: the unit of scaled
-/// outlines.
+/// A signed 26.6 fixed-point number, the unit of scaled outlines.
 ///
-/// Its bits are counted in steps of `1 / 64`. Sums, products and quotients that leave the range
-/// wrap.
+/// The raw value is an `i32` in units of `1 / 64`. Sums, products and quotients wrap on overflow.
 ///
 /// ```
 /// use font_types::F26Dot6;
@@ -37,13 +35,13 @@ use std::str::FromStr;
 pub struct F26Dot6(i32);
 
 impl F26Dot6 {
-    /// The least value, -33554432.
+    /// The smallest value, -33554432.
     pub const MIN: Self = Self(-0x8000_0000);
 
-    /// The greatest value, a step below 33554432.
+    /// The largest value, `33554432 - 1 / 64`.
     pub const MAX: Self = Self(0x7FFF_FFFF);
 
-    /// One step, `1 / 64`.
+    /// The smallest positive value, `1 / 64`.
     pub const EPSILON: Self = Self(1);
 
     /// 0.
@@ -57,7 +55,7 @@ impl F26Dot6 {
 
     const FRACTION_BITS: u32 = 6;
 
-    /// The number with these bits.
+    /// Creates a value from its raw bits.
     #[must_use]
     #[inline]
     pub const fn from_bits(bits: i32) -> Self
@@ -66,7 +64,7 @@ impl F26Dot6 {
         Self(bits)
     }
 
-    /// The bits.
+    /// Returns the raw bits.
     #[must_use]
     #[inline]
     pub const fn to_bits(self) -> i32
@@ -75,7 +73,7 @@ impl F26Dot6 {
         self.0
     }
 
-    /// The nearest whole number, ties upwards. It wraps: `F26Dot6::MAX.round()` is `F26Dot6::MIN`.
+    /// Rounds to the nearest integer, half up; wraps: `F26Dot6::MAX.round()` is `F26Dot6::MIN`.
     #[must_use]
     #[inline]
     pub const fn round(self) -> Self
@@ -84,7 +82,7 @@ impl F26Dot6 {
         self.wrapping_add(Self(32)).floor()
     }
 
-    /// The greatest whole number that is not above the number.
+    /// Returns the largest integer less than or equal to `self`.
     #[must_use]
     #[inline]
     pub const fn floor(self) -> Self
@@ -93,7 +91,7 @@ impl F26Dot6 {
         Self(self.0 - self.fract().0)
     }
 
-    /// What the number has above its floor, from 0 to a step below 1.
+    /// Returns the fractional part, `self - self.floor()`, at least 0 and less than 1.
     #[must_use]
     #[inline]
     pub const fn fract(self) -> Self
@@ -102,7 +100,7 @@ impl F26Dot6 {
         Self(self.0.rem_euclid(64))
     }
 
-    /// The number without its sign. It wraps: `F26Dot6::MIN.abs()` is `F26Dot6::MIN`.
+    /// Returns the absolute value; wraps: `F26Dot6::MIN.abs()` is `F26Dot6::MIN`.
     #[must_use]
     #[inline]
     pub const fn abs(self) -> Self
@@ -111,7 +109,7 @@ impl F26Dot6 {
         Self(self.0.wrapping_abs())
     }
 
-    /// The sum, wrapped.
+    /// Returns `self + other`, wrapping on overflow.
     #[must_use]
     #[inline]
     pub const fn wrapping_add(self, other: Self) -> Self
@@ -120,7 +118,7 @@ impl F26Dot6 {
         Self(self.0.wrapping_add(other.0))
     }
 
-    /// The difference, wrapped.
+    /// Returns `self - other`, wrapping on overflow.
     #[must_use]
     #[inline]
     pub const fn wrapping_sub(self, other: Self) -> Self
@@ -129,7 +127,7 @@ impl F26Dot6 {
         Self(self.0.wrapping_sub(other.0))
     }
 
-    /// The sum, or the nearest end of the range where it is out of it.
+    /// Returns `self + other`, saturating at `MIN` and `MAX`.
     #[must_use]
     #[inline]
     pub const fn saturating_add(self, other: Self) -> Self
@@ -138,7 +136,7 @@ impl F26Dot6 {
         Self(self.0.saturating_add(other.0))
     }
 
-    /// The difference, or the nearest end of the range where it is out of it.
+    /// Returns `self - other`, saturating at `MIN` and `MAX`.
     #[must_use]
     #[inline]
     pub const fn saturating_sub(self, other: Self) -> Self
@@ -147,7 +145,7 @@ impl F26Dot6 {
         Self(self.0.saturating_sub(other.0))
     }
 
-    /// The sum, or `None` where it is out of range.
+    /// Returns `self + other`, or `None` on overflow.
     #[must_use]
     #[inline]
     pub fn checked_add(self, other: Self) -> Option<Self>
@@ -157,7 +155,7 @@ impl F26Dot6 {
         Some(Self(self.0.checked_add(other.0)?))
     }
 
-    /// The four bytes of the bits, highest first.
+    /// Returns the raw bits as big-endian bytes.
     #[must_use]
     #[inline]
     #[tactic(auto, using(font_base::proofs::StdBytes::std_bytes))]
@@ -167,7 +165,7 @@ impl F26Dot6 {
         self.0.to_be_bytes()
     }
 
-    /// A whole number, wrapped.
+    /// Converts an integer, wrapping on overflow.
     #[must_use]
     #[inline]
     pub const fn from_i32(number: i32) -> Self
@@ -176,7 +174,7 @@ impl F26Dot6 {
         Self(number.wrapping_mul(64))
     }
 
-    /// The nearest whole number, ties upwards, wrapped to 26 bits.
+    /// Rounds to the nearest integer, half up, wrapped to 26 bits: `F26Dot6::MAX` gives -33554432.
     #[must_use]
     #[inline]
     pub const fn to_i32(self) -> i32
@@ -185,12 +183,12 @@ impl F26Dot6 {
         self.wrapping_add(Self(32)).0 >> 6
     }
 
-    /// The number nearest to a decimal text, ties away from zero.
+    /// Parses a decimal as the nearest value, rounding half away from zero.
     ///
     /// # Errors
     ///
-    /// A text outside the grammar is refused as `Syntax`, one whose nearest number is out of range
-    /// as `OutOfRange`.
+    /// Returns `Syntax` if the text is not a decimal, and `OutOfRange` if its nearest value is out
+    /// of range.
     #[inline]
     pub fn from_decimal(text: &str) -> Result<Self, DecimalFault>
         ensures { ReadsBy w32 6 bits_of text.now result }
@@ -198,11 +196,11 @@ impl F26Dot6 {
         Self::from_decimal_bytes(text.as_bytes())
     }
 
-    /// The same of bytes, which need not be a text.
+    /// Parses a decimal from bytes, as `from_decimal` does.
     ///
     /// # Errors
     ///
-    /// Those of `from_decimal`; bytes that are no text are `Syntax`.
+    /// Those of `from_decimal`; bytes that are not UTF-8 are `Syntax`.
     #[inline]
     pub fn from_decimal_bytes(text: &[u8]) -> Result<Self, DecimalFault>
         ensures { ReadsBy w32 6 bits_of text.now result }
@@ -210,9 +208,9 @@ impl F26Dot6 {
         read_bits_32(text, Self::FRACTION_BITS).map(Self)
     }
 
-    /// Writes the printed text to the front of `out`, padded, and returns the number of bytes;
-    /// `None` where `out` is too short, which then stays as it was. 12 bytes, or the width where
-    /// that is more, are always enough. The fill is below 0x80.
+    /// Writes the padded decimal to the start of `out` and returns its length, or returns `None`
+    /// and leaves `out` unchanged if it is too short. 12 bytes, or `pad.width` if that is more, are
+    /// always enough. `pad.fill` must be ASCII.
     #[inline]
     pub fn write_padded(self, out: &mut [u8], pad: &Pad) -> Option<usize>
         requires { pad.now.fill < 128 }
@@ -310,7 +308,7 @@ impl MulAssign for F26Dot6 {
     }
 }
 
-/// A zero divisor gives `F26Dot6::MAX`, or its opposite where the dividend is negative.
+/// Division by zero gives `F26Dot6::MAX`, or `-F26Dot6::MAX` if the dividend is negative.
 impl Div for F26Dot6 {
     type Output = F26Dot6;
 
@@ -333,7 +331,7 @@ impl DivAssign for F26Dot6 {
     }
 }
 
-/// The text is read as by `from_decimal`: `"1.5".parse::<F26Dot6>()`.
+/// Parses as `from_decimal` does: `"1.5".parse::<F26Dot6>()`.
 impl FromStr for F26Dot6 {
     type Err = DecimalFault;
 

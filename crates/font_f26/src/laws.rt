@@ -1,3 +1,3 @@
-//! Functions whose contracts are laws of the numbers.
+//! Laws of arithmetic, as contracts of functions.
 
 pub mod f26dot6;

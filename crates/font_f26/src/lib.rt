@@ -1,4 +1,4 @@
-//! The 26.6 number, in which outlines are scaled.
+//! `F26Dot6`, the 26.6 number of scaled outlines.
 //!
 //! ```text
 //! let width = F26Dot6::from_i32(10) / F26Dot6::from_i32(4);

@@ -1,4 +1,4 @@
-//! The fixed-point number of 16 bits with 14 bits of fraction.
+//! 2.14 fixed-point numbers.
 #![tactic(auto, using(font_arithmetic::proofs::Rules::number_code))]
 
 ghost use Rattle.std.specs.Prelude.{◌≡◌, ◌<◌, ◌≤◌, ◌↔◌, ℤ, pos, neg_ℤ, ◌+ℤ◌, ◌-ℤ◌, ◌*ℤ◌, Some};
@@ -28,10 +28,9 @@ use std::fmt;
 use std::ops::{Add, AddAssign, Neg, Sub, SubAssign};
 use std::str::FromStr;
 
-/// A fixed-point number of 16 bits, the last 14 of which are its fraction: a coordinate in a
-/// normalized design space.
+/// A signed 2.14 fixed-point number, such as a coordinate of a normalized design space.
 ///
-/// Its bits are counted in steps of `1 / 16384`. Sums that leave the range wrap.
+/// The raw value is an `i16` in units of `1 / 16384`. Sums wrap on overflow.
 ///
 /// ```
 /// use font_types::F2Dot14;
@@ -43,13 +42,13 @@ use std::str::FromStr;
 pub struct F2Dot14(i16);
 
 impl F2Dot14 {
-    /// The least value, -2.
+    /// The smallest value, -2.
     pub const MIN: Self = Self(-0x8000);
 
-    /// The greatest value, a step below 2.
+    /// The largest value, `2 - 1 / 16384`.
     pub const MAX: Self = Self(0x7FFF);
 
-    /// One step, `1 / 16384`.
+    /// The smallest positive value, `1 / 16384`.
     pub const EPSILON: Self = Self(1);
 
     /// 0.
@@ -63,7 +62,7 @@ impl F2Dot14 {
 
     const FRACTION_BITS: u32 = 14;
 
-    /// The number with these bits.
+    /// Creates a value from its raw bits.
     #[must_use]
     #[inline]
     pub const fn from_bits(bits: i16) -> Self
@@ -72,7 +71,7 @@ impl F2Dot14 {
         Self(bits)
     }
 
-    /// The bits.
+    /// Returns the raw bits.
     #[must_use]
     #[inline]
     pub const fn to_bits(self) -> i16
@@ -81,7 +80,7 @@ impl F2Dot14 {
         self.0
     }
 
-    /// The nearest whole number, ties upwards. It wraps: `F2Dot14::MAX.round()` is `F2Dot14::MIN`.
+    /// Rounds to the nearest integer, half up; wraps: `F2Dot14::MAX.round()` is `F2Dot14::MIN`.
     #[must_use]
     #[inline]
     pub const fn round(self) -> Self
@@ -90,7 +89,7 @@ impl F2Dot14 {
         self.wrapping_add(Self(0x2000)).floor()
     }
 
-    /// The greatest whole number that is not above the number.
+    /// Returns the largest integer less than or equal to `self`.
     #[must_use]
     #[inline]
     pub const fn floor(self) -> Self
@@ -99,7 +98,7 @@ impl F2Dot14 {
         Self(self.0 - self.fract().0)
     }
 
-    /// What the number has above its floor, from 0 to a step below 1.
+    /// Returns the fractional part, `self - self.floor()`, at least 0 and less than 1.
     #[must_use]
     #[inline]
     pub const fn fract(self) -> Self
@@ -108,7 +107,7 @@ impl F2Dot14 {
         Self(self.0.rem_euclid(0x4000))
     }
 
-    /// The number without its sign. It wraps: `F2Dot14::MIN.abs()` is `F2Dot14::MIN`.
+    /// Returns the absolute value; wraps: `F2Dot14::MIN.abs()` is `F2Dot14::MIN`.
     #[must_use]
     #[inline]
     pub const fn abs(self) -> Self
@@ -117,7 +116,7 @@ impl F2Dot14 {
         Self(self.0.wrapping_abs())
     }
 
-    /// The sum, wrapped.
+    /// Returns `self + other`, wrapping on overflow.
     #[must_use]
     #[inline]
     pub const fn wrapping_add(self, other: Self) -> Self
@@ -126,7 +125,7 @@ impl F2Dot14 {
         Self(self.0.wrapping_add(other.0))
     }
 
-    /// The difference, wrapped.
+    /// Returns `self - other`, wrapping on overflow.
     #[must_use]
     #[inline]
     pub const fn wrapping_sub(self, other: Self) -> Self
@@ -135,7 +134,7 @@ impl F2Dot14 {
         Self(self.0.wrapping_sub(other.0))
     }
 
-    /// The sum, or the nearest end of the range where it is out of it.
+    /// Returns `self + other`, saturating at `MIN` and `MAX`.
     #[must_use]
     #[inline]
     pub const fn saturating_add(self, other: Self) -> Self
@@ -144,7 +143,7 @@ impl F2Dot14 {
         Self(self.0.saturating_add(other.0))
     }
 
-    /// The difference, or the nearest end of the range where it is out of it.
+    /// Returns `self - other`, saturating at `MIN` and `MAX`.
     #[must_use]
     #[inline]
     pub const fn saturating_sub(self, other: Self) -> Self
@@ -153,7 +152,7 @@ impl F2Dot14 {
         Self(self.0.saturating_sub(other.0))
     }
 
-    /// The sum, or `None` where it is out of range.
+    /// Returns `self + other`, or `None` on overflow.
     #[must_use]
     #[inline]
     pub fn checked_add(self, other: Self) -> Option<Self>
@@ -163,7 +162,7 @@ impl F2Dot14 {
         Some(Self(self.0.checked_add(other.0)?))
     }
 
-    /// The two bytes of the bits, highest first.
+    /// Returns the raw bits as big-endian bytes.
     #[must_use]
     #[inline]
     #[tactic(auto, using(font_base::proofs::StdBytes::std_bytes))]
@@ -173,7 +172,7 @@ impl F2Dot14 {
         self.0.to_be_bytes()
     }
 
-    /// The same number as a `Fixed`.
+    /// Converts to `Fixed`, exactly.
     #[must_use]
     #[inline]
     pub const fn to_fixed(self) -> Fixed
@@ -182,10 +181,9 @@ impl F2Dot14 {
         Fixed::from_bits(self.0 as i32 * 4)
     }
 
-    /// The number moved by a sum of deltas, exactly, in units of `2^-30`.
+    /// Adds a sum of deltas, exactly. The result is in units of `2^-30`.
     ///
-    /// A delta counts in units of `1 / 16384`, the last bit of this type, with 16 bits of fraction
-    /// behind it.
+    /// A delta of 1 is one unit of the raw value, `1 / 16384`.
     #[must_use]
     #[inline]
     pub fn apply_delta(self, delta: F48Dot16) -> i128
@@ -194,12 +192,12 @@ impl F2Dot14 {
         i128::from(self.0) * 0x1_0000 + i128::from(delta.to_bits())
     }
 
-    /// The number nearest to a decimal text, ties away from zero.
+    /// Parses a decimal as the nearest value, rounding half away from zero.
     ///
     /// # Errors
     ///
-    /// A text outside the grammar is refused as `Syntax`, one whose nearest number is out of range
-    /// as `OutOfRange`.
+    /// Returns `Syntax` if the text is not a decimal, and `OutOfRange` if its nearest value is out
+    /// of range.
     #[inline]
     pub fn from_decimal(text: &str) -> Result<Self, DecimalFault>
         ensures { ReadsBy w16 14 bits_of text.now result }
@@ -207,11 +205,11 @@ impl F2Dot14 {
         Self::from_decimal_bytes(text.as_bytes())
     }
 
-    /// The same of bytes, which need not be a text.
+    /// Parses a decimal from bytes, as `from_decimal` does.
     ///
     /// # Errors
     ///
-    /// Those of `from_decimal`; bytes that are no text are `Syntax`.
+    /// Those of `from_decimal`; bytes that are not UTF-8 are `Syntax`.
     #[inline]
     pub fn from_decimal_bytes(text: &[u8]) -> Result<Self, DecimalFault>
         ensures { ReadsBy w16 14 bits_of text.now result }
@@ -219,9 +217,9 @@ impl F2Dot14 {
         read_bits_16(text, Self::FRACTION_BITS).map(Self)
     }
 
-    /// Writes the printed text to the front of `out`, padded, and returns the number of bytes;
-    /// `None` where `out` is too short, which then stays as it was. 8 bytes, or the width where
-    /// that is more, are always enough. The fill is below 0x80.
+    /// Writes the padded decimal to the start of `out` and returns its length, or returns `None`
+    /// and leaves `out` unchanged if it is too short. 8 bytes, or `pad.width` if that is more, are
+    /// always enough. `pad.fill` must be ASCII.
     #[inline]
     pub fn write_padded(self, out: &mut [u8], pad: &Pad) -> Option<usize>
         requires { pad.now.fill < 128 }
@@ -297,7 +295,7 @@ impl Neg for F2Dot14 {
     }
 }
 
-/// The text is read as by `from_decimal`: `"1.5".parse::<F2Dot14>()`.
+/// Parses as `from_decimal` does: `"1.5".parse::<F2Dot14>()`.
 impl FromStr for F2Dot14 {
     type Err = DecimalFault;
 

@@ -1,4 +1,4 @@
-//! Functions whose contracts are laws of the numbers.
+//! Laws of arithmetic, as contracts of functions.
 
 pub mod fixed;
 

@@ -1,4 +1,4 @@
-//! The fixed-point number of 32 bits with 30 bits of fraction.
+//! 2.30 fixed-point numbers.
 #![tactic(auto, using(font_arithmetic::proofs::Rules::number_code))]
 
 ghost use Rattle.std.specs.Prelude.{◌≡◌, ◌^◌, ◌<◌, ◌≤◌, ◌↔◌, ℤ, pos, neg_ℤ, ◌+ℤ◌, ◌-ℤ◌, ◌*ℤ◌};
@@ -29,9 +29,9 @@ use std::fmt;
 use std::ops::{Add, AddAssign, Neg, Sub, SubAssign};
 use std::str::FromStr;
 
-/// A fixed-point number of 32 bits, the last 30 of which are its fraction.
+/// A signed 2.30 fixed-point number.
 ///
-/// Its bits are counted in steps of `1 / 2^30`. Sums that leave the range wrap.
+/// The raw value is an `i32` in units of `1 / 2^30`. Sums wrap on overflow.
 ///
 /// ```
 /// use font_types::F2Dot30;
@@ -43,13 +43,13 @@ use std::str::FromStr;
 pub struct F2Dot30(i32);
 
 impl F2Dot30 {
-    /// The least value, -2.
+    /// The smallest value, -2.
     pub const MIN: Self = Self(-0x8000_0000);
 
-    /// The greatest value, a step below 2.
+    /// The largest value, `2 - 1 / 2^30`.
     pub const MAX: Self = Self(0x7FFF_FFFF);
 
-    /// One step, `1 / 2^30`.
+    /// The smallest positive value, `1 / 2^30`.
     pub const EPSILON: Self = Self(1);
 
     /// 0.
@@ -63,7 +63,7 @@ impl F2Dot30 {
 
     const FRACTION_BITS: u32 = 30;
 
-    /// The number with these bits.
+    /// Creates a value from its raw bits.
     #[must_use]
     #[inline]
     pub const fn from_bits(bits: i32) -> Self
@@ -72,7 +72,7 @@ impl F2Dot30 {
         Self(bits)
     }
 
-    /// The bits.
+    /// Returns the raw bits.
     #[must_use]
     #[inline]
     pub const fn to_bits(self) -> i32
@@ -81,7 +81,7 @@ impl F2Dot30 {
         self.0
     }
 
-    /// The nearest whole number, ties upwards. It wraps: `F2Dot30::MAX.round()` is `F2Dot30::MIN`.
+    /// Rounds to the nearest integer, half up; wraps: `F2Dot30::MAX.round()` is `F2Dot30::MIN`.
     #[must_use]
     #[inline]
     pub const fn round(self) -> Self
@@ -90,7 +90,7 @@ impl F2Dot30 {
         self.wrapping_add(Self(0x2000_0000)).floor()
     }
 
-    /// The greatest whole number that is not above the number.
+    /// Returns the largest integer less than or equal to `self`.
     #[must_use]
     #[inline]
     pub const fn floor(self) -> Self
@@ -99,7 +99,7 @@ impl F2Dot30 {
         Self(self.0 - self.fract().0)
     }
 
-    /// What the number has above its floor, from 0 to a step below 1.
+    /// Returns the fractional part, `self - self.floor()`, at least 0 and less than 1.
     #[must_use]
     #[inline]
     pub const fn fract(self) -> Self
@@ -108,7 +108,7 @@ impl F2Dot30 {
         Self(self.0.rem_euclid(0x4000_0000))
     }
 
-    /// The number without its sign. It wraps: `F2Dot30::MIN.abs()` is `F2Dot30::MIN`.
+    /// Returns the absolute value; wraps: `F2Dot30::MIN.abs()` is `F2Dot30::MIN`.
     #[must_use]
     #[inline]
     pub const fn abs(self) -> Self
@@ -117,7 +117,7 @@ impl F2Dot30 {
         Self(self.0.wrapping_abs())
     }
 
-    /// The sum, wrapped.
+    /// Returns `self + other`, wrapping on overflow.
     #[must_use]
     #[inline]
     pub const fn wrapping_add(self, other: Self) -> Self
@@ -126,7 +126,7 @@ impl F2Dot30 {
         Self(self.0.wrapping_add(other.0))
     }
 
-    /// The difference, wrapped.
+    /// Returns `self - other`, wrapping on overflow.
     #[must_use]
     #[inline]
     pub const fn wrapping_sub(self, other: Self) -> Self
@@ -135,7 +135,7 @@ impl F2Dot30 {
         Self(self.0.wrapping_sub(other.0))
     }
 
-    /// The sum, or the nearest end of the range where it is out of it.
+    /// Returns `self + other`, saturating at `MIN` and `MAX`.
     #[must_use]
     #[inline]
     pub const fn saturating_add(self, other: Self) -> Self
@@ -144,7 +144,7 @@ impl F2Dot30 {
         Self(self.0.saturating_add(other.0))
     }
 
-    /// The difference, or the nearest end of the range where it is out of it.
+    /// Returns `self - other`, saturating at `MIN` and `MAX`.
     #[must_use]
     #[inline]
     pub const fn saturating_sub(self, other: Self) -> Self
@@ -153,7 +153,7 @@ impl F2Dot30 {
         Self(self.0.saturating_sub(other.0))
     }
 
-    /// The sum, or `None` where it is out of range.
+    /// Returns `self + other`, or `None` on overflow.
     #[must_use]
     #[inline]
     pub fn checked_add(self, other: Self) -> Option<Self>
@@ -163,7 +163,7 @@ impl F2Dot30 {
         Some(Self(self.0.checked_add(other.0)?))
     }
 
-    /// The four bytes of the bits, highest first.
+    /// Returns the raw bits as big-endian bytes.
     #[must_use]
     #[inline]
     #[tactic(auto, using(font_base::proofs::StdBytes::std_bytes))]
@@ -173,8 +173,7 @@ impl F2Dot30 {
         self.0.to_be_bytes()
     }
 
-    /// The number of a `Fixed`, its bits wrapped to 32: the same number where that is from -2 to
-    /// below 2.
+    /// Converts from `Fixed`, wrapping on overflow: exact from -2 up to but not including 2.
     #[must_use]
     #[inline]
     pub const fn from_fixed(number: Fixed) -> Self
@@ -183,7 +182,7 @@ impl F2Dot30 {
         Self(number.to_bits().wrapping_mul(0x4000))
     }
 
-    /// The number of an `F2Dot14`.
+    /// Converts from `F2Dot14`, exactly.
     #[must_use]
     #[inline]
     pub const fn from_f2dot14(number: F2Dot14) -> Self
@@ -192,7 +191,7 @@ impl F2Dot30 {
         Self(number.to_bits() as i32 * 0x1_0000)
     }
 
-    /// The nearest `Fixed`, ties upwards.
+    /// Rounds to the nearest `Fixed`, half up.
     #[must_use]
     #[inline]
     pub const fn to_fixed(self) -> Fixed
@@ -201,7 +200,7 @@ impl F2Dot30 {
         Fixed::from_bits(((self.0 >> 13) + 1) >> 1)
     }
 
-    /// The nearest `F2Dot14`, ties upwards, its bits wrapped to 16.
+    /// Rounds to the nearest `F2Dot14`, half up, wrapping on overflow.
     #[must_use]
     #[inline]
     pub const fn to_f2dot14(self) -> F2Dot14
@@ -210,12 +209,12 @@ impl F2Dot30 {
         F2Dot14::from_bits((self.wrapping_add(Self(0x8000)).0 >> 16) as i16)
     }
 
-    /// The number nearest to a decimal text, ties away from zero.
+    /// Parses a decimal as the nearest value, rounding half away from zero.
     ///
     /// # Errors
     ///
-    /// A text outside the grammar is refused as `Syntax`, one whose nearest number is out of range
-    /// as `OutOfRange`.
+    /// Returns `Syntax` if the text is not a decimal, and `OutOfRange` if its nearest value is out
+    /// of range.
     #[inline]
     pub fn from_decimal(text: &str) -> Result<Self, DecimalFault>
         ensures { ReadsBy w32 30 bits_of text.now result }
@@ -223,11 +222,11 @@ impl F2Dot30 {
         Self::from_decimal_bytes(text.as_bytes())
     }
 
-    /// The same of bytes, which need not be a text.
+    /// Parses a decimal from bytes, as `from_decimal` does.
     ///
     /// # Errors
     ///
-    /// Those of `from_decimal`; bytes that are no text are `Syntax`.
+    /// Those of `from_decimal`; bytes that are not UTF-8 are `Syntax`.
     #[inline]
     pub fn from_decimal_bytes(text: &[u8]) -> Result<Self, DecimalFault>
         ensures { ReadsBy w32 30 bits_of text.now result }
@@ -235,9 +234,9 @@ impl F2Dot30 {
         read_bits_32(text, Self::FRACTION_BITS).map(Self)
     }
 
-    /// Writes the printed text to the front of `out`, padded, and returns the number of bytes;
-    /// `None` where `out` is too short, which then stays as it was. 13 bytes, or the width where
-    /// that is more, are always enough. The fill is below 0x80.
+    /// Writes the padded decimal to the start of `out` and returns its length, or returns `None`
+    /// and leaves `out` unchanged if it is too short. 13 bytes, or `pad.width` if that is more, are
+    /// always enough. `pad.fill` must be ASCII.
     #[inline]
     pub fn write_padded(self, out: &mut [u8], pad: &Pad) -> Option<usize>
         requires { pad.now.fill < 128 }
@@ -313,7 +312,7 @@ impl Neg for F2Dot30 {
     }
 }
 
-/// The same number, as by `from_f2dot14`.
+/// Converts exactly, as `from_f2dot14` does.
 impl From<F2Dot14> for F2Dot30 {
     ghost from_gives = { λ number long. bits_of long ≡ (f2dot14_bits number *ℤ pos (2 ^ 16)) };
 
@@ -323,7 +322,7 @@ impl From<F2Dot14> for F2Dot30 {
     }
 }
 
-/// The text is read as by `from_decimal`: `"1.5".parse::<F2Dot30>()`.
+/// Parses as `from_decimal` does: `"1.5".parse::<F2Dot30>()`.
 impl FromStr for F2Dot30 {
     type Err = DecimalFault;
 

@@ -1,4 +1,4 @@
-//! The fixed-point number of 16 bits with 10 bits of fraction.
+//! 6.10 fixed-point numbers.
 #![tactic(auto, using(font_arithmetic::proofs::Rules::number_code))]
 
 ghost use Rattle.std.specs.Prelude.{◌≡◌, ◌<◌, ◌≤◌, ◌↔◌, ℤ, pos, neg_ℤ, ◌+ℤ◌, ◌-ℤ◌, Some, IsSome};
@@ -24,9 +24,9 @@ use std::fmt;
 use std::ops::{Add, AddAssign, Neg, Sub, SubAssign};
 use std::str::FromStr;
 
-/// A fixed-point number of 16 bits, the last 10 of which are its fraction.
+/// A signed 6.10 fixed-point number.
 ///
-/// Its bits are counted in steps of `1 / 1024`. Sums that leave the range wrap.
+/// The raw value is an `i16` in units of `1 / 1024`. Sums wrap on overflow.
 ///
 /// ```
 /// use font_types::F6Dot10;
@@ -38,13 +38,13 @@ use std::str::FromStr;
 pub struct F6Dot10(i16);
 
 impl F6Dot10 {
-    /// The least value, -32.
+    /// The smallest value, -32.
     pub const MIN: Self = Self(-0x8000);
 
-    /// The greatest value, a step below 32.
+    /// The largest value, `32 - 1 / 1024`.
     pub const MAX: Self = Self(0x7FFF);
 
-    /// One step, `1 / 1024`.
+    /// The smallest positive value, `1 / 1024`.
     pub const EPSILON: Self = Self(1);
 
     /// 0.
@@ -58,7 +58,7 @@ impl F6Dot10 {
 
     const FRACTION_BITS: u32 = 10;
 
-    /// The number with these bits.
+    /// Creates a value from its raw bits.
     #[must_use]
     #[inline]
     pub const fn from_bits(bits: i16) -> Self
@@ -67,7 +67,7 @@ impl F6Dot10 {
         Self(bits)
     }
 
-    /// The bits.
+    /// Returns the raw bits.
     #[must_use]
     #[inline]
     pub const fn to_bits(self) -> i16
@@ -76,7 +76,7 @@ impl F6Dot10 {
         self.0
     }
 
-    /// The nearest whole number, ties upwards. It wraps: `F6Dot10::MAX.round()` is `F6Dot10::MIN`.
+    /// Rounds to the nearest integer, half up; wraps: `F6Dot10::MAX.round()` is `F6Dot10::MIN`.
     #[must_use]
     #[inline]
     pub const fn round(self) -> Self
@@ -85,7 +85,7 @@ impl F6Dot10 {
         self.wrapping_add(Self(0x200)).floor()
     }
 
-    /// The greatest whole number that is not above the number.
+    /// Returns the largest integer less than or equal to `self`.
     #[must_use]
     #[inline]
     pub const fn floor(self) -> Self
@@ -94,7 +94,7 @@ impl F6Dot10 {
         Self(self.0 - self.fract().0)
     }
 
-    /// What the number has above its floor, from 0 to a step below 1.
+    /// Returns the fractional part, `self - self.floor()`, at least 0 and less than 1.
     #[must_use]
     #[inline]
     pub const fn fract(self) -> Self
@@ -103,7 +103,7 @@ impl F6Dot10 {
         Self(self.0.rem_euclid(0x400))
     }
 
-    /// The number without its sign. It wraps: `F6Dot10::MIN.abs()` is `F6Dot10::MIN`.
+    /// Returns the absolute value; wraps: `F6Dot10::MIN.abs()` is `F6Dot10::MIN`.
     #[must_use]
     #[inline]
     pub const fn abs(self) -> Self
@@ -112,7 +112,7 @@ impl F6Dot10 {
         Self(self.0.wrapping_abs())
     }
 
-    /// The sum, wrapped.
+    /// Returns `self + other`, wrapping on overflow.
     #[must_use]
     #[inline]
     pub const fn wrapping_add(self, other: Self) -> Self
@@ -121,7 +121,7 @@ impl F6Dot10 {
         Self(self.0.wrapping_add(other.0))
     }
 
-    /// The difference, wrapped.
+    /// Returns `self - other`, wrapping on overflow.
     #[must_use]
     #[inline]
     pub const fn wrapping_sub(self, other: Self) -> Self
@@ -130,7 +130,7 @@ impl F6Dot10 {
         Self(self.0.wrapping_sub(other.0))
     }
 
-    /// The sum, or the nearest end of the range where it is out of it.
+    /// Returns `self + other`, saturating at `MIN` and `MAX`.
     #[must_use]
     #[inline]
     pub const fn saturating_add(self, other: Self) -> Self
@@ -139,7 +139,7 @@ impl F6Dot10 {
         Self(self.0.saturating_add(other.0))
     }
 
-    /// The difference, or the nearest end of the range where it is out of it.
+    /// Returns `self - other`, saturating at `MIN` and `MAX`.
     #[must_use]
     #[inline]
     pub const fn saturating_sub(self, other: Self) -> Self
@@ -148,7 +148,7 @@ impl F6Dot10 {
         Self(self.0.saturating_sub(other.0))
     }
 
-    /// The sum, or `None` where it is out of range.
+    /// Returns `self + other`, or `None` on overflow.
     #[must_use]
     #[inline]
     pub fn checked_add(self, other: Self) -> Option<Self>
@@ -158,7 +158,7 @@ impl F6Dot10 {
         Some(Self(self.0.checked_add(other.0)?))
     }
 
-    /// The two bytes of the bits, highest first.
+    /// Returns the raw bits as big-endian bytes.
     #[must_use]
     #[inline]
     #[tactic(auto, using(font_base::proofs::StdBytes::std_bytes))]
@@ -168,12 +168,12 @@ impl F6Dot10 {
         self.0.to_be_bytes()
     }
 
-    /// The number nearest to a decimal text, ties away from zero.
+    /// Parses a decimal as the nearest value, rounding half away from zero.
     ///
     /// # Errors
     ///
-    /// A text outside the grammar is refused as `Syntax`, one whose nearest number is out of range
-    /// as `OutOfRange`.
+    /// Returns `Syntax` if the text is not a decimal, and `OutOfRange` if its nearest value is out
+    /// of range.
     #[inline]
     pub fn from_decimal(text: &str) -> Result<Self, DecimalFault>
         ensures { ReadsBy w16 10 bits_of text.now result }
@@ -181,11 +181,11 @@ impl F6Dot10 {
         Self::from_decimal_bytes(text.as_bytes())
     }
 
-    /// The same of bytes, which need not be a text.
+    /// Parses a decimal from bytes, as `from_decimal` does.
     ///
     /// # Errors
     ///
-    /// Those of `from_decimal`; bytes that are no text are `Syntax`.
+    /// Those of `from_decimal`; bytes that are not UTF-8 are `Syntax`.
     #[inline]
     pub fn from_decimal_bytes(text: &[u8]) -> Result<Self, DecimalFault>
         ensures { ReadsBy w16 10 bits_of text.now result }
@@ -193,9 +193,9 @@ impl F6Dot10 {
         read_bits_16(text, Self::FRACTION_BITS).map(Self)
     }
 
-    /// Writes the printed text to the front of `out`, padded, and returns the number of bytes;
-    /// `None` where `out` is too short, which then stays as it was. 8 bytes, or the width where
-    /// that is more, are always enough. The fill is below 0x80.
+    /// Writes the padded decimal to the start of `out` and returns its length, or returns `None`
+    /// and leaves `out` unchanged if it is too short. 8 bytes, or `pad.width` if that is more, are
+    /// always enough. `pad.fill` must be ASCII.
     #[inline]
     pub fn write_padded(self, out: &mut [u8], pad: &Pad) -> Option<usize>
         requires { pad.now.fill < 128 }
@@ -271,7 +271,7 @@ impl Neg for F6Dot10 {
     }
 }
 
-/// The text is read as by `from_decimal`: `"1.5".parse::<F6Dot10>()`.
+/// Parses as `from_decimal` does: `"1.5".parse::<F6Dot10>()`.
 impl FromStr for F6Dot10 {
     type Err = DecimalFault;
 

@@ -1,5 +1,4 @@
-//! Functions whose contracts are laws of matrices: they make the calls that a law speaks of, and
-//! return what those give.
+//! Laws of matrices, as contracts of functions that make the calls and return their results.
 
 ghost use Rattle.std.specs.Prelude.{◌≡◌, pos};
 ghost use Rattle.font_geom.specs.Matrix.{identity_matrix, image_of, matrix_product};
@@ -11,7 +10,7 @@ ghost use Rattle.font_fixed.specs.Fixed.{fixed_bits};
 use crate::{Matrix, Point, RingElement};
 use font_fixed::Fixed;
 
-/// `(a * b) * c` and `a * (b * c)`, which are equal.
+/// Returns `(a * b) * c` and `a * (b * c)`, which are equal.
 #[must_use]
 pub fn associative<T: RingElement>(
     a: Matrix<T>,
@@ -26,7 +25,7 @@ pub fn associative<T: RingElement>(
     ((a * b) * c, a * (b * c))
 }
 
-/// `(a * b) * p` and `a * (b * p)`, which are equal.
+/// Returns `(a * b) * p` and `a * (b * p)`, which are equal.
 #[must_use]
 pub fn action<T: RingElement>(a: Matrix<T>, b: Matrix<T>, p: Point<T>) -> (Point<T>, Point<T>)
     ensures first { result.0 ≡ image_of T.plus T.times (matrix_product T.plus T.times a b) p }
@@ -36,7 +35,7 @@ pub fn action<T: RingElement>(a: Matrix<T>, b: Matrix<T>, p: Point<T>) -> (Point
     ((a * b) * p, a * (b * p))
 }
 
-/// The identity times `a`, and `a` times the identity: both are `a`.
+/// Returns the identity times `a`, and `a` times the identity: both are `a`.
 #[must_use]
 pub fn identity_neutral<T: RingElement>(a: Matrix<T>) -> (Matrix<T>, Matrix<T>)
     ensures first { result.0 ≡ matrix_product T.plus T.times (identity_matrix T.ZERO T.ONE) a }
@@ -47,8 +46,8 @@ pub fn identity_neutral<T: RingElement>(a: Matrix<T>) -> (Matrix<T>, Matrix<T>)
     (Matrix::identity() * a, a * Matrix::identity())
 }
 
-/// The identity times `a`, and `a` times the identity: both are `a`, also where products are
-/// rounded and sums wrap.
+/// Returns the identity times `a`, and `a` times the identity: both are `a`, even though products
+/// round and sums wrap.
 #[must_use]
 #[inline]
 #[tactic(auto, using(font_fixed::proofs::FixedCalls::fixed_calls))]
@@ -64,9 +63,9 @@ pub fn fixed_identity(a: Matrix<Fixed>) -> (Matrix<Fixed>, Matrix<Fixed>)
     (identity * a, a * identity)
 }
 
-/// `(x * y) * z` and `x * (y * z)` of one step and two halves: one step, and zero.
+/// Returns `(e * h) * h` and `e * (h * h)` for `e = Fixed::EPSILON` and `h` one half: `e` and zero.
 ///
-/// So products of `Fixed`, which are rounded, do not associate, and `Fixed` is no `RingElement`.
+/// So products of `Fixed` are not associative, and `Fixed` is not a `RingElement`.
 #[must_use]
 #[inline]
 pub fn step_and_halves() -> (Fixed, Fixed)
@@ -78,11 +77,11 @@ pub fn step_and_halves() -> (Fixed, Fixed)
     (step * half * half, step * (half * half))
 }
 
-/// `(a * b) * p`, which is near the exact image of `p` where no entry of the product and no
-/// coordinate of the result leaves 32 bits.
+/// Returns `(a * b) * p`, with a bound on the distance from the exact image of `p`.
 ///
-/// Each coordinate is then at most `(|x| + |y|) / 65536 + 2` bits from the exact one, magnitudes in
-/// bits. What happens on the way may wrap.
+/// If no entry of `a * b` and no coordinate of the result overflows 32 bits, each coordinate is at
+/// most `(|x| + |y|) / 65536 + 2` from the exact one, all as raw values. Intermediate sums may
+/// wrap.
 #[must_use]
 #[inline]
 pub fn composed(a: Matrix<Fixed>, b: Matrix<Fixed>, p: Point<Fixed>) -> Point<Fixed>
@@ -95,11 +94,11 @@ pub fn composed(a: Matrix<Fixed>, b: Matrix<Fixed>, p: Point<Fixed>) -> Point<Fi
     (a * b) * p
 }
 
-/// `a * (b * p)`, which is near the exact image of `p` where no coordinate of `b * p` and none of
-/// the result leaves 32 bits.
+/// Returns `a * (b * p)`, with a bound on the distance from the exact image of `p`.
 ///
-/// A coordinate is then at most the magnitudes of the two linear entries of its row of `a`, in
-/// bits, over 65536, and 1 bit from the exact one. What happens on the way may wrap.
+/// If no coordinate of `b * p` and none of the result overflows 32 bits, `x` is at most
+/// `(|a.xx| + |a.xy|) / 65536 + 1` from the exact one, and `y` at most
+/// `(|a.yx| + |a.yy|) / 65536 + 1`, all as raw values. Intermediate sums may wrap.
 #[must_use]
 #[inline]
 pub fn in_turn(a: Matrix<Fixed>, b: Matrix<Fixed>, p: Point<Fixed>) -> Point<Fixed>

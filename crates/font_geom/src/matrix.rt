@@ -10,15 +10,15 @@ use crate::Point;
 use font_fixed::Fixed;
 use std::ops::{Add, Mul, MulAssign};
 
-/// A matrix that moves points: one of 2 by 2 elements, and a translation.
+/// An affine transformation: a 2 by 2 matrix and a translation.
 ///
 /// ```none
 /// | xx xy dx |
 /// | yx yy dy |
 /// ```
 ///
-/// It sends `(x, y)` to `(xx * x + xy * y + dx, yx * x + yy * y + dy)`. The product `a * b` applies
-/// `b` and then `a`.
+/// Transforms `(x, y)` to `(xx * x + xy * y + dx, yx * x + yy * y + dy)`. The product `a * b`
+/// applies `b` first, then `a`. For `Fixed`, the translation is in the unit of the points.
 ///
 /// ```
 /// use font_types::{Fixed, Matrix, Point};
@@ -28,13 +28,13 @@ use std::ops::{Add, Mul, MulAssign};
 /// ```
 #[derive(Clone, Copy, PartialEq, Eq, Debug)]
 pub struct Matrix<T> {
-    /// What x adds to x.
+    /// The factor of x in x.
     pub xx: T,
-    /// What x adds to y.
+    /// The factor of x in y.
     pub yx: T,
-    /// What y adds to x.
+    /// The factor of y in x.
     pub xy: T,
-    /// What y adds to y.
+    /// The factor of y in y.
     pub yy: T,
     /// The translation along x.
     pub dx: T,
@@ -42,7 +42,7 @@ pub struct Matrix<T> {
     pub dy: T,
 }
 
-/// A type whose values can be elements of a matrix.
+/// A type of matrix elements.
 pub trait MatrixElement: Copy + Add<Output = Self> + Mul<Output = Self> {
     /// 0.
     const ZERO: Self;
@@ -66,7 +66,7 @@ impl MatrixElement for Fixed {
 }
 
 impl<T: Copy> Matrix<T> {
-    /// The matrix of these elements, in the order `[xx, yx, xy, yy, dx, dy]`.
+    /// Creates a matrix from its elements in the order `[xx, yx, xy, yy, dx, dy]`.
     #[must_use]
     pub const fn from_elements(elements: [T; 6]) -> Self
         ensures { elements_of result ≡ elements }
@@ -82,7 +82,7 @@ impl<T: Copy> Matrix<T> {
         }
     }
 
-    /// The elements in the order `[xx, yx, xy, yy, dx, dy]`.
+    /// Returns the elements in the order `[xx, yx, xy, yy, dx, dy]`.
     #[must_use]
     pub const fn elements(&self) -> [T; 6]
         ensures { result ≡ elements_of self.now }
@@ -90,7 +90,7 @@ impl<T: Copy> Matrix<T> {
         [self.xx, self.yx, self.xy, self.yy, self.dx, self.dy]
     }
 
-    /// The matrix of what the function gives at each element, in the order of `elements`.
+    /// Applies a function to each element, in the order of `elements`.
     #[must_use]
     pub fn map<U: Copy, F: FnMut(T) -> U>(self, mut f: F) -> Matrix<U>
         requires { CanCallEach F.pre F.step f (elements_of self) }
@@ -108,7 +108,7 @@ impl<T: Copy> Matrix<T> {
 }
 
 impl<T: MatrixElement> Matrix<T> {
-    /// The matrix that leaves every point where it is.
+    /// Returns the identity matrix.
     #[must_use]
     pub const fn identity() -> Self
         ensures { result ≡ identity_matrix T.ZERO T.ONE }
@@ -123,7 +123,7 @@ impl<T: MatrixElement> Matrix<T> {
         }
     }
 
-    /// Where the point `(x, y)` goes.
+    /// Transforms the point `(x, y)`.
     #[must_use]
     pub fn transform(&self, x: T, y: T) -> (T, T)
         requires { CanTransform T.can_mul T.mul_gives T.can_add T.add_gives self.now x y }

@@ -1,11 +1,11 @@
-//! Points of two coordinates.
+//! Two-dimensional points.
 
 ghost use Rattle.std.specs.Prelude.{◌≡◌, [], ◌∷◌};
 ghost use Rattle.font_geom.specs.Calls.{CanCallEach, CallsEach};
 
 use std::ops::{Add, AddAssign, Div, DivAssign, Mul, MulAssign, Neg, Sub, SubAssign};
 
-/// A point of the plane.
+/// A two-dimensional point.
 ///
 /// ```
 /// use font_types::Point;
@@ -20,7 +20,7 @@ pub struct Point<T> {
 }
 
 impl<T> Point<T> {
-    /// The point with these coordinates.
+    /// Creates a point.
     #[must_use]
     pub const fn new(x: T, y: T) -> Self
         ensures { result ≡ record { x = x; y = y } }
@@ -28,7 +28,7 @@ impl<T> Point<T> {
         Self { x, y }
     }
 
-    /// The point with both coordinates the same.
+    /// Creates a point with both coordinates equal to `xy`.
     #[must_use]
     pub const fn broadcast(xy: T) -> Self
     where
@@ -38,10 +38,9 @@ impl<T> Point<T> {
         Self { x: xy, y: xy }
     }
 
-    /// The point of what the function gives at each coordinate, x first.
+    /// Applies a function to each coordinate, x first.
     ///
-    /// `point.map(|n| n / 2)` halves both. The function may be called at x, and then at y in the
-    /// state that it is left in.
+    /// `point.map(|n| n / 2)` halves both.
     #[must_use]
     pub fn map<U, F: FnMut(T) -> U>(self, mut f: F) -> Point<U>
         requires { CanCallEach F.pre F.step f (self.x ∷ self.y ∷ []) }

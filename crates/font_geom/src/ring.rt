@@ -1,22 +1,22 @@
-//! Elements that obey the laws of a ring.
+//! Matrix elements that form a ring.
 
 ghost use Rattle.font_geom.specs.Ring.{RingLaws};
 ghost use Rattle.std.specs.Prelude.{◌≡◌};
 
 use crate::MatrixElement;
 
-/// An element whose sums and products can be taken of all values and obey the laws of a ring.
+/// A matrix element whose `+` and `*` accept all values and form a ring.
 ///
-/// Products of matrices over such an element associate, and a product of matrices moves a point as
-/// its factors do in turn. `Fixed` has no such laws, since its products are rounded.
+/// Products of matrices over such elements are associative, and `(a * b) * p` equals `a * (b * p)`.
+/// `Fixed` is not one, because its products are rounded.
 pub trait RingElement: MatrixElement {
-    // what `x + y` gives
+    // the result of `x + y`
     ghost plus: { Self → Self → Self };
 
-    // what `x * y` gives
+    // the result of `x * y`
     ghost times: { Self → Self → Self };
 
-    // Both can be called on all values, and give no other.
+    // Both accept all values, and have no other results.
     ghost can_add_all: { (x y : Self) → Self.can_add x y };
 
     ghost can_multiply_all: { (x y : Self) → Self.can_mul x y };

@@ -1,4 +1,4 @@
-//! Quantities in font design units, of 16 bits.
+//! 16-bit quantities in font design units.
 
 ghost use Rattle.std.specs.Prelude.{◌≡◌, ◌↔◌, ◌^◌, ◌+ℤ◌, ◌*ℤ◌, ◌≤ℤ◌, ◌<ℤ◌, pos, nat_lt, Some};
 ghost use Rattle.std.specs.Prelude.{IsSome, IfSome, refl};
@@ -17,7 +17,7 @@ use font_base::{FixedSize, IdentityEq, Scalar};
 use font_fixed::{F48Dot16, Fixed};
 use std::fmt;
 
-// The whole number nearest to a quantity in steps of `2^-16`, ties upwards.
+// Rounds a 16.16 raw value to the nearest integer, half up.
 #[inline]
 #[tactic(auto, using(font_arithmetic::proofs::Shifts::halves_up_128))]
 fn nearest_whole(steps: i128) -> i128
@@ -26,7 +26,7 @@ fn nearest_whole(steps: i128) -> i128
     ((steps >> 15) + 1) >> 1
 }
 
-/// A signed quantity in font design units.
+/// A signed 16-bit quantity in font design units.
 ///
 /// ```
 /// use font_types::{FWord, Fixed, Scalar};
@@ -37,7 +37,7 @@ fn nearest_whole(steps: i128) -> i128
 pub struct FWord(i16);
 
 impl FWord {
-    /// The quantity of a number.
+    /// Creates a quantity from a number of font units.
     #[must_use]
     #[inline]
     pub const fn new(raw: i16) -> Self
@@ -46,7 +46,7 @@ impl FWord {
         Self(raw)
     }
 
-    /// The number.
+    /// Returns the number of font units.
     #[must_use]
     #[inline]
     pub const fn to_i16(self) -> i16
@@ -55,7 +55,7 @@ impl FWord {
         self.0
     }
 
-    /// The number as a 16.16 number, which never wraps.
+    /// Converts to 16.16, exactly.
     #[must_use]
     #[inline]
     #[tactic(auto, using(font_fixed::proofs::FixedCalls::fixed_calls))]
@@ -65,7 +65,7 @@ impl FWord {
         Fixed::from_i32(self.to_i16() as i32)
     }
 
-    /// The number moved by a sum of deltas, exactly, in units of `2^-16`.
+    /// Adds a sum of deltas, exactly. The result is a 16.16 raw value.
     #[must_use]
     #[inline]
     pub fn apply_delta(self, delta: F48Dot16) -> i128
@@ -74,8 +74,8 @@ impl FWord {
         i128::from(self.to_i16()) * 0x1_0000 + i128::from(delta.to_bits())
     }
 
-    /// The number nearest to a quantity in steps of `2^-16`, as `apply_delta` gives it, ties
-    /// upwards, or `None` where that is out of range.
+    /// Rounds a 16.16 raw value, such as the result of `apply_delta`, to the nearest font unit,
+    /// half up, or returns `None` if that is out of range.
     ///
     /// ```
     /// use font_types::{FWord, Fixed, vary};
@@ -91,7 +91,7 @@ impl FWord {
         Some(FWord::new(i16::try_from(nearest_whole(steps)).ok()?))
     }
 
-    /// The two bytes in two's complement, highest first.
+    /// Returns the big-endian bytes.
     #[must_use]
     #[inline]
     #[tactic(auto, using(font_base::proofs::StdBytes::std_bytes))]
@@ -160,7 +160,7 @@ impl IdentityEq for FWord {
     ghost identity = { signed_identity fword_number fword_of (λ _. refl) };
 }
 
-/// An unsigned quantity in font design units.
+/// An unsigned 16-bit quantity in font design units.
 ///
 /// ```
 /// use font_types::{Scalar, UfWord};
@@ -170,7 +170,7 @@ impl IdentityEq for FWord {
 pub struct UfWord(u16);
 
 impl UfWord {
-    /// The quantity of a number.
+    /// Creates a quantity from a number of font units.
     #[must_use]
     #[inline]
     pub const fn new(raw: u16) -> Self
@@ -179,7 +179,7 @@ impl UfWord {
         Self(raw)
     }
 
-    /// The number.
+    /// Returns the number of font units.
     #[must_use]
     #[inline]
     pub const fn to_u16(self) -> u16
@@ -188,7 +188,7 @@ impl UfWord {
         self.0
     }
 
-    /// The number as a 16.16 number. It wraps: from 32768 on the result is negative.
+    /// Converts to 16.16, wrapping: 32768 and above become negative.
     #[must_use]
     #[inline]
     pub const fn to_fixed(self) -> Fixed
@@ -197,7 +197,7 @@ impl UfWord {
         Fixed::from_i32(self.to_u16() as i32)
     }
 
-    /// The number moved by a sum of deltas, exactly, in units of `2^-16`.
+    /// Adds a sum of deltas, exactly. The result is a 16.16 raw value.
     #[must_use]
     #[inline]
     pub fn apply_delta(self, delta: F48Dot16) -> i128
@@ -206,8 +206,8 @@ impl UfWord {
         i128::from(self.to_u16()) * 0x1_0000 + i128::from(delta.to_bits())
     }
 
-    /// The number nearest to a quantity in steps of `2^-16`, as `apply_delta` gives it, ties
-    /// upwards, or `None` where that is out of range.
+    /// Rounds a 16.16 raw value, such as the result of `apply_delta`, to the nearest font unit,
+    /// half up, or returns `None` if that is out of range.
     #[must_use]
     #[inline]
     pub fn round_steps(steps: i128) -> Option<UfWord>
@@ -218,7 +218,7 @@ impl UfWord {
         Some(UfWord::new(u16::try_from(nearest_whole(steps)).ok()?))
     }
 
-    /// The two bytes, highest first.
+    /// Returns the big-endian bytes.
     #[must_use]
     #[inline]
     #[tactic(auto, using(font_base::proofs::StdBytes::std_bytes))]

@@ -1,4 +1,4 @@
-//! Glyph identifiers, as types of their own.
+//! Glyph ids.
 
 ghost use Rattle.std.specs.Prelude.{◌≡◌, ◌<◌, ◌≤◌, ◌^◌, ◌↔◌, pos, min, nat_lt, true, Some, IsTrue};
 ghost use Rattle.std.specs.Prelude.{IsSome, IfSome, MatchResult, refl};
@@ -16,7 +16,7 @@ use std::cmp::Ordering;
 use std::fmt;
 use thiserror::Error;
 
-/// A glyph identifier of 16 bits.
+/// A 16-bit glyph id.
 ///
 /// ```
 /// use font_types::{GlyphId, GlyphId16};
@@ -26,10 +26,10 @@ use thiserror::Error;
 pub struct GlyphId16(u16);
 
 impl GlyphId16 {
-    /// The glyph that stands for an unknown one, 0.
+    /// `.notdef`, glyph 0.
     pub const NOTDEF: Self = Self(0);
 
-    /// The id of a number.
+    /// Creates a glyph id.
     #[must_use]
     #[inline]
     pub const fn new(raw: u16) -> Self
@@ -38,7 +38,7 @@ impl GlyphId16 {
         Self(raw)
     }
 
-    /// The number.
+    /// Returns the number.
     #[must_use]
     #[inline]
     pub const fn to_u16(self) -> u16
@@ -47,7 +47,7 @@ impl GlyphId16 {
         self.0
     }
 
-    /// The number.
+    /// Returns the number.
     #[must_use]
     #[inline]
     pub const fn to_u32(self) -> u32
@@ -56,7 +56,7 @@ impl GlyphId16 {
         self.0 as u32
     }
 
-    /// The two bytes of the number, highest first.
+    /// Returns the big-endian bytes.
     #[must_use]
     #[inline]
     #[tactic(auto, using(font_base::proofs::StdBytes::std_bytes))]
@@ -66,7 +66,7 @@ impl GlyphId16 {
         self.0.to_be_bytes()
     }
 
-    /// Whether both are the id of one glyph.
+    /// Returns `true` if both are the same glyph.
     #[must_use]
     #[inline]
     pub fn eq_gid(&self, other: &GlyphId) -> bool
@@ -75,7 +75,7 @@ impl GlyphId16 {
         GlyphId::from(*self) == *other
     }
 
-    /// The order of the two numbers.
+    /// Compares the two numbers.
     #[must_use]
     #[inline]
     pub fn cmp_gid(&self, other: &GlyphId) -> Ordering
@@ -168,7 +168,7 @@ impl IdentityEq for GlyphId16 {
     ghost identity = { unsigned_identity glyph16_number glyph16_of (λ _. refl) };
 }
 
-/// A glyph identifier of 24 bits.
+/// A 24-bit glyph id.
 ///
 /// ```
 /// use font_types::GlyphId24;
@@ -178,10 +178,10 @@ impl IdentityEq for GlyphId16 {
 pub struct GlyphId24(Uint24);
 
 impl GlyphId24 {
-    /// The glyph that stands for an unknown one, 0.
+    /// `.notdef`, glyph 0.
     pub const NOTDEF: Self = Self(Uint24::MIN);
 
-    /// The id of a number, or the greatest id where the number is above it.
+    /// Creates a glyph id, saturating at 16777215.
     #[must_use]
     #[inline]
     pub const fn new(raw: u32) -> Self
@@ -190,7 +190,7 @@ impl GlyphId24 {
         Self(Uint24::new(raw))
     }
 
-    /// The id of a number, or `None` where it is above 16777215.
+    /// Creates a glyph id, or returns `None` if the number exceeds 16777215.
     #[must_use]
     #[inline]
     pub const fn checked_new(raw: u32) -> Option<Self>
@@ -203,7 +203,7 @@ impl GlyphId24 {
         }
     }
 
-    /// The number.
+    /// Returns the number.
     #[must_use]
     #[inline]
     pub const fn to_u32(self) -> u32
@@ -212,7 +212,7 @@ impl GlyphId24 {
         self.0.to_u32()
     }
 
-    /// The three bytes of the number, highest first.
+    /// Returns the big-endian bytes.
     #[must_use]
     #[inline]
     pub const fn to_be_bytes(self) -> [u8; 3]
@@ -221,7 +221,7 @@ impl GlyphId24 {
         self.0.to_be_bytes()
     }
 
-    /// The id of three bytes, highest first.
+    /// Creates a glyph id from big-endian bytes.
     #[must_use]
     #[inline]
     pub const fn from_be_bytes(bytes: [u8; 3]) -> Self
@@ -305,7 +305,7 @@ impl IdentityEq for GlyphId24 {
     ghost identity = { newtype_identity (λ id. id.0) glyph24_of (λ _. refl) uint24_identity };
 }
 
-/// A glyph identifier of 32 bits, into which those of 16 and 24 bits convert.
+/// A 32-bit glyph id, to which 16-bit and 24-bit ids convert.
 ///
 /// ```
 /// use font_types::{GlyphId, GlyphId16};
@@ -315,10 +315,10 @@ impl IdentityEq for GlyphId24 {
 pub struct GlyphId(u32);
 
 impl GlyphId {
-    /// The glyph that stands for an unknown one, 0.
+    /// `.notdef`, glyph 0.
     pub const NOTDEF: Self = Self(0);
 
-    /// The id of a number.
+    /// Creates a glyph id.
     #[must_use]
     #[inline]
     pub const fn new(raw: u32) -> Self
@@ -327,7 +327,7 @@ impl GlyphId {
         Self(raw)
     }
 
-    /// The number.
+    /// Returns the number.
     #[must_use]
     #[inline]
     pub const fn to_u32(self) -> u32
@@ -336,7 +336,7 @@ impl GlyphId {
         self.0
     }
 
-    /// Whether both are the id of one glyph.
+    /// Returns `true` if both are the same glyph.
     #[must_use]
     #[inline]
     pub fn eq_gid16(&self, other: &GlyphId16) -> bool
@@ -345,7 +345,7 @@ impl GlyphId {
         *self == GlyphId::from(*other)
     }
 
-    /// The order of the two numbers.
+    /// Compares the two numbers.
     #[must_use]
     #[inline]
     pub fn cmp_gid16(&self, other: &GlyphId16) -> Ordering
@@ -408,7 +408,7 @@ impl From<GlyphId> for u32 {
     }
 }
 
-/// A glyph identifier that is too large for the type it was to be converted to.
+/// The error of a conversion of a glyph id that is too large for the target type.
 ///
 /// ```
 /// use font_types::{GlyphId, GlyphId16};
@@ -420,7 +420,7 @@ impl From<GlyphId> for u32 {
 pub struct TryFromGlyphIdError(u32);
 
 impl TryFromGlyphIdError {
-    /// The number that was too large.
+    /// Returns the number that was too large.
     #[must_use]
     #[inline]
     pub fn value(&self) -> u32

@@ -1,4 +1,4 @@
-//! Font units, glyph and name ids, and offsets; with the tags, versions and dates of `font_tags`.
+//! Font units, glyph ids, name ids and offsets, and the tags, versions and dates of `font_tags`.
 //!
 //! ```text
 //! format!(in alloc; "{}", NameId::FAMILY_NAME)          // "FAMILY_NAME"

@@ -13,8 +13,7 @@ ghost use Rattle.font_ids.specs.Offset.{offset32_number, offset32_of, nullable_o
 
 use font_base::{FixedSize, IdentityEq, Scalar, Uint24};
 
-/// An offset of 16 bits to a table. Zero is null, and stands for no table where the field allows
-/// it.
+/// A 16-bit offset to a table. Zero means null, that is, no table, if the field allows that.
 ///
 /// ```
 /// use font_types::Offset16;
@@ -25,7 +24,7 @@ use font_base::{FixedSize, IdentityEq, Scalar, Uint24};
 pub struct Offset16(u16);
 
 impl Offset16 {
-    /// The offset of a number.
+    /// Creates an offset.
     #[must_use]
     #[inline]
     pub const fn new(raw: u16) -> Self
@@ -34,7 +33,7 @@ impl Offset16 {
         Self(raw)
     }
 
-    /// Whether the offset is zero.
+    /// Returns `true` if the offset is zero.
     #[must_use]
     #[inline]
     pub fn is_null(self) -> bool
@@ -43,7 +42,7 @@ impl Offset16 {
         self == Offset16::NULL
     }
 
-    /// The number.
+    /// Returns the number.
     #[must_use]
     #[inline]
     pub fn to_u32(self) -> u32
@@ -52,7 +51,7 @@ impl Offset16 {
         u32::from(self.0)
     }
 
-    /// Whether this is the offset's number.
+    /// Returns `true` if the offset is this number.
     #[must_use]
     #[inline]
     pub fn eq_u32(&self, other: &u32) -> bool
@@ -94,8 +93,7 @@ impl IdentityEq for Offset16 {
     ghost identity = { unsigned_identity offset16_number offset16_of (λ _. refl) };
 }
 
-/// An offset of 24 bits to a table. Zero is null, and stands for no table where the field allows
-/// it.
+/// A 24-bit offset to a table. Zero means null, that is, no table, if the field allows that.
 ///
 /// ```
 /// use font_types::{Offset24, Uint24};
@@ -106,7 +104,7 @@ impl IdentityEq for Offset16 {
 pub struct Offset24(Uint24);
 
 impl Offset24 {
-    /// The offset of a number.
+    /// Creates an offset.
     #[must_use]
     #[inline]
     pub const fn new(raw: Uint24) -> Self
@@ -115,7 +113,7 @@ impl Offset24 {
         Self(raw)
     }
 
-    /// Whether the offset is zero.
+    /// Returns `true` if the offset is zero.
     #[must_use]
     #[inline]
     pub fn is_null(self) -> bool
@@ -124,7 +122,7 @@ impl Offset24 {
         self == Offset24::NULL
     }
 
-    /// The number.
+    /// Returns the number.
     #[must_use]
     #[inline]
     pub const fn to_u32(self) -> u32
@@ -133,7 +131,7 @@ impl Offset24 {
         self.0.to_u32()
     }
 
-    /// Whether this is the offset's number.
+    /// Returns `true` if the offset is this number.
     #[must_use]
     #[inline]
     pub fn eq_u32(&self, other: &u32) -> bool
@@ -177,8 +175,7 @@ impl IdentityEq for Offset24 {
         (λ _. refl) uint24_identity };
 }
 
-/// An offset of 32 bits to a table. Zero is null, and stands for no table where the field allows
-/// it.
+/// A 32-bit offset to a table. Zero means null, that is, no table, if the field allows that.
 ///
 /// ```
 /// use font_types::Offset32;
@@ -189,7 +186,7 @@ impl IdentityEq for Offset24 {
 pub struct Offset32(u32);
 
 impl Offset32 {
-    /// The offset of a number.
+    /// Creates an offset.
     #[must_use]
     #[inline]
     pub const fn new(raw: u32) -> Self
@@ -198,7 +195,7 @@ impl Offset32 {
         Self(raw)
     }
 
-    /// Whether the offset is zero.
+    /// Returns `true` if the offset is zero.
     #[must_use]
     #[inline]
     pub fn is_null(self) -> bool
@@ -207,7 +204,7 @@ impl Offset32 {
         self == Offset32::NULL
     }
 
-    /// The number.
+    /// Returns the number.
     #[must_use]
     #[inline]
     pub const fn to_u32(self) -> u32
@@ -216,7 +213,7 @@ impl Offset32 {
         self.0
     }
 
-    /// Whether this is the offset's number.
+    /// Returns `true` if the offset is this number.
     #[must_use]
     #[inline]
     pub fn eq_u32(&self, other: &u32) -> bool
@@ -258,9 +255,9 @@ impl IdentityEq for Offset32 {
     ghost identity = { unsigned_identity offset32_number offset32_of (λ _. refl) };
 }
 
-/// What an offset is to [`Nullable`]: a number, with the offset of zero.
+/// An offset that can be [`Nullable`].
 pub trait OffsetValue: Copy {
-    /// The offset of zero.
+    /// The null offset, 0.
     const NULL: Self;
 
     ghost NULL: { Self };
@@ -268,7 +265,7 @@ pub trait OffsetValue: Copy {
     // the number of the offset
     ghost number_of: { Self → ℕ };
 
-    /// The number.
+    /// Returns the number.
     #[must_use]
     fn value_u32(&self) -> u32
         ensures { result ≡ number_of self.now };
@@ -322,7 +319,7 @@ impl OffsetValue for Offset32 {
     }
 }
 
-/// An offset in a field that allows null, which then stands for no table.
+/// An offset that may be null, that is, refer to no table.
 ///
 /// ```
 /// use font_types::{Nullable, Offset16, Scalar};
@@ -332,7 +329,7 @@ impl OffsetValue for Offset32 {
 pub struct Nullable<T>(T);
 
 impl<T> Nullable<T> {
-    /// The offset, null or not.
+    /// Returns the offset, whether null or not.
     #[must_use]
     pub fn offset(&self) -> &T
         ensures { result.now ≡ nullable_offset self.now }
@@ -342,7 +339,7 @@ impl<T> Nullable<T> {
 }
 
 impl<T: OffsetValue> Nullable<T> {
-    /// Whether the offset is zero.
+    /// Returns `true` if the offset is zero.
     #[must_use]
     pub fn is_null(&self) -> bool
         ensures { IsTrue result ↔ (T.number_of (nullable_offset self.now) ≡ 0) }
@@ -350,7 +347,7 @@ impl<T: OffsetValue> Nullable<T> {
         self.0.value_u32() == 0
     }
 
-    /// Whether this is the offset's number.
+    /// Returns `true` if the offset is this number.
     #[must_use]
     pub fn eq_u32(&self, other: &u32) -> bool
         ensures { IsTrue result ↔ (T.number_of (nullable_offset self.now) ≡ other.now) }

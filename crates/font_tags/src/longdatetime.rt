@@ -9,7 +9,7 @@ ghost use Rattle.font_tags.specs.LongDateTime.{date_seconds, date_of};
 
 use font_base::{FixedSize, IdentityEq, Scalar};
 
-/// A date and time: seconds since midnight of January 1, 1904, UTC, and negative before.
+/// A date and time, as seconds since 1904-01-01 00:00 UTC; negative before that.
 ///
 /// ```
 /// use font_types::{LongDateTime, Scalar};
@@ -20,7 +20,7 @@ use font_base::{FixedSize, IdentityEq, Scalar};
 pub struct LongDateTime(i64);
 
 impl LongDateTime {
-    /// The date that is so many seconds after 1904-01-01 00:00 UTC.
+    /// Creates a date from seconds since 1904-01-01 00:00 UTC.
     #[must_use]
     #[inline]
     pub const fn new(secs: i64) -> Self
@@ -29,7 +29,7 @@ impl LongDateTime {
         Self(secs)
     }
 
-    /// The seconds since 1904-01-01 00:00 UTC.
+    /// Returns the seconds since 1904-01-01 00:00 UTC.
     #[must_use]
     #[inline]
     pub const fn as_secs(&self) -> i64
@@ -38,7 +38,7 @@ impl LongDateTime {
         self.0
     }
 
-    /// The eight bytes of the seconds, highest first.
+    /// Returns the seconds as big-endian bytes.
     #[must_use]
     #[inline]
     #[tactic(auto, using(font_base::proofs::StdBytes::std_bytes))]

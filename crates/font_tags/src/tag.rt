@@ -1,4 +1,4 @@
-//! Tags of four bytes.
+//! Four-byte tags.
 
 ghost use Rattle.std.specs.Prelude.{◌≡◌, ◌≢◌, ◌<◌, ◌≤◌, ◌++◌, ◌↔◌, ℕ, pos, Some, IsTrue};
 ghost use Rattle.std.specs.Prelude.{IsOk, IfOk, MatchOption, slice_index, length, refl};
@@ -18,14 +18,14 @@ use std::fmt;
 use std::str::FromStr;
 use thiserror::Error;
 
-/// The tag in front of a font collection, `ttcf`.
+/// The tag at the start of a font collection, `ttcf`.
 pub const TTC_HEADER_TAG: Tag = Tag([0x74, 0x74, 0x63, 0x66]);
 
-/// A name of four bytes, of a table, a script, a feature and the like.
+/// A four-byte identifier of a table, script, feature, axis and so on.
 ///
-/// A good tag has one to four visible characters of ASCII, filled to four bytes with spaces. Fonts
-/// hold others too, so any four bytes are a `Tag`: [`Tag::new_checked`] takes good ones alone, and
-/// [`Tag::validate`] judges a tag.
+/// A valid tag is one to four printable ASCII characters, padded to four bytes with spaces. Fonts
+/// may contain others, so a `Tag` can have any four bytes: [`Tag::new_checked`] accepts only valid
+/// ones, and [`Tag::validate`] checks a tag.
 ///
 /// ```
 /// use font_types::{InvalidTag, Tag};
@@ -36,7 +36,7 @@ pub const TTC_HEADER_TAG: Tag = Tag([0x74, 0x74, 0x63, 0x66]);
 pub struct Tag([u8; 4]);
 
 impl Tag {
-    /// The tag of four bytes, whatever they are.
+    /// Creates a tag from four bytes, without validation.
     #[must_use]
     #[inline]
     pub const fn new(src: &[u8; 4]) -> Self
@@ -45,14 +45,14 @@ impl Tag {
         Self(*src)
     }
 
-    /// The tag of one to four good bytes, filled with spaces.
+    /// Creates a valid tag from one to four bytes, padding with spaces.
     ///
-    /// `Tag::new_checked(b"cv1")` is `cv1` and a space.
+    /// `Tag::new_checked(b"cv1")` is `cv1` followed by a space.
     ///
     /// # Errors
     ///
-    /// No bytes and more than four are `InvalidLength`. Every fault of the bytes is `InvalidByte`,
-    /// also a visible byte after a space.
+    /// Returns `InvalidLength` unless there are one to four bytes. Any other error is
+    /// `InvalidByte`, including a printable byte after a space.
     #[inline]
     #[tactic(auto, using(crate::proofs::Good::tag_judgements))]
     pub fn new_checked(src: &[u8]) -> Result<Self, InvalidTag>
@@ -74,7 +74,7 @@ impl Tag {
         Ok(Self(bytes))
     }
 
-    /// The tag of a number's four bytes, highest first.
+    /// Creates a tag from the big-endian bytes of a number.
     #[must_use]
     #[inline]
     #[tactic(auto, using(font_base::proofs::StdBytes::std_bytes))]
@@ -84,7 +84,7 @@ impl Tag {
         Self(src.to_be_bytes())
     }
 
-    /// The tag of four bytes, whatever they are.
+    /// Creates a tag from four bytes, without validation.
     #[must_use]
     #[inline]
     pub const fn from_be_bytes(bytes: [u8; 4]) -> Self
@@ -93,7 +93,7 @@ impl Tag {
         Self(bytes)
     }
 
-    /// The four bytes, first to last.
+    /// Returns the four bytes.
     #[must_use]
     #[inline]
     pub const fn to_be_bytes(self) -> [u8; 4]
@@ -102,7 +102,7 @@ impl Tag {
         self.0
     }
 
-    /// The four bytes, first to last.
+    /// Returns the four bytes.
     #[must_use]
     #[inline]
     pub const fn into_bytes(self) -> [u8; 4]
@@ -111,7 +111,7 @@ impl Tag {
         self.0
     }
 
-    /// The four bytes, first to last.
+    /// Returns the four bytes.
     #[must_use]
     #[inline]
     pub const fn as_bytes(&self) -> &[u8; 4]
@@ -120,7 +120,7 @@ impl Tag {
         &self.0
     }
 
-    /// Whether these are the tag's bytes.
+    /// Returns `true` if the tag has these bytes.
     #[must_use]
     #[inline]
     pub fn eq_bytes(&self, other: &[u8; 4]) -> bool
@@ -129,7 +129,7 @@ impl Tag {
         self.0 == *other
     }
 
-    /// Whether these are the tag's bytes; a text of another length never is.
+    /// Returns `true` if the tag has the bytes of this string.
     #[must_use]
     #[inline]
     pub fn eq_str(&self, other: &str) -> bool
@@ -138,7 +138,7 @@ impl Tag {
         self.eq_slice(other.as_bytes())
     }
 
-    /// Whether these are the tag's bytes; a slice of another length never is.
+    /// Returns `true` if the tag has the bytes of this slice.
     #[must_use]
     #[inline]
     pub fn eq_slice(&self, other: &[u8]) -> bool
@@ -147,12 +147,12 @@ impl Tag {
         self.0.as_slice() == other
     }
 
-    /// Whether the tag is good: visible characters, and only spaces behind them.
+    /// Checks that the tag is valid: printable characters, followed only by spaces.
     ///
     /// # Errors
     ///
-    /// Four spaces are refused as a tag of no bytes, `InvalidLength(0)`, a visible byte after a
-    /// space as `ByteAfterSpace`, and any other fault as `InvalidByte`.
+    /// Returns `InvalidLength(0)` for four spaces, `ByteAfterSpace` for a printable byte after a
+    /// space, and otherwise `InvalidByte`.
     #[inline]
     #[tactic(auto, using(crate::proofs::Good::tag_judgements))]
     pub fn validate(self) -> Result<(), InvalidTag>
@@ -173,7 +173,7 @@ impl Tag {
     }
 }
 
-// Where the bytes cease to be good, or `None` where they are good.
+// Returns the index of the first invalid byte, or `None` if all are valid.
 #[inline]
 const fn first_fault(bytes: &[u8]) -> Option<usize>
     requires { 0 < length bytes.now }
@@ -187,7 +187,7 @@ const fn first_fault(bytes: &[u8]) -> Option<usize>
     if pos < bytes.len() { Some(pos) } else { None }
 }
 
-// How many bytes in front are visible.
+// Returns the number of leading printable bytes other than spaces.
 #[inline]
 const fn visible_run(bytes: &[u8]) -> usize
     ensures within { result ≤ length bytes.now }
@@ -201,7 +201,7 @@ const fn visible_run(bytes: &[u8]) -> usize
     run
 }
 
-// Where the spaces end that stand from this index on.
+// Returns the index after the spaces that start at `from`.
 #[inline]
 const fn behind_spaces(bytes: &[u8], from: usize) -> usize
     requires { from ≤ length bytes.now }
@@ -216,13 +216,13 @@ const fn behind_spaces(bytes: &[u8], from: usize) -> usize
     pos
 }
 
-/// Why bytes are no good tag.
+/// Why a tag is invalid.
 #[derive(Clone, Debug, PartialEq, Eq, Drop, Error)]
 pub enum InvalidTag {
-    /// There were not one to four bytes; a tag of four spaces has none.
+    /// There are not one to four bytes; a tag of four spaces has length 0.
     #[error("Invalid length ({0})")]
     InvalidLength(usize),
-    /// The byte at `pos` cannot stand there.
+    /// The byte at `pos` is not allowed there.
     #[error("Invalid byte 0x{byte:X} at index {pos}")]
     InvalidByte {
         /// The index of the byte.
@@ -230,7 +230,7 @@ pub enum InvalidTag {
         /// The byte.
         byte: u8,
     },
-    /// The byte at `pos` is visible, and stands after a space.
+    /// The byte at `pos` is printable, but follows a space.
     #[error("Non-space character after first space")]
     ByteAfterSpace {
         /// The index of the byte.
@@ -296,7 +296,7 @@ impl fmt::Display for Tag {
     }
 }
 
-// Writes a byte as a tag shows it.
+// Writes a byte as in the text of a tag.
 fn write_byte<W: fmt::Write>(f: &mut fmt::Formatter<W>, byte: u8) -> fmt::Result
     ensures { WritesOnOk W.write_str_gives f.old result (byte_text byte) f.new }
 {

@@ -1,4 +1,4 @@
-//! Version numbers of tables.
+//! Table versions.
 
 ghost use Rattle.std.specs.Prelude.{◌≡◌, ◌≤◌, ◌^◌, ◌++◌, ◌&&◌, ◌↔◌, pos, nat_lt, min, Some, IsTrue};
 ghost use Rattle.std.specs.Prelude.{◌++◌, refl};
@@ -12,10 +12,10 @@ ghost use Rattle.font_tags.specs.Version.{major_minor_bytes, major_minor_of, IsC
 use font_base::{FixedSize, IdentityEq, Scalar};
 use std::fmt;
 
-/// A version of the older tables, packed into 32 bits: 16 of the major number, 4 of the minor
-/// number, and 12 without meaning.
+/// A packed 32-bit version, as in `maxp`, `post` and `vhea`: the major number in the high 16 bits
+/// and the minor number in the next four.
 ///
-/// Versions are equal where all 32 bits are.
+/// Equality compares all 32 bits.
 ///
 /// ```
 /// use font_types::{Compatible, Version16Dot16};
@@ -45,7 +45,7 @@ impl Version16Dot16 {
     /// Version 3.0.
     pub const VERSION_3_0: Self = Self(0x0003_0000);
 
-    /// The version of two numbers. A minor number above 9 counts as 9.
+    /// Creates a version. A minor number above 9 counts as 9.
     #[must_use]
     #[inline]
     pub const fn new(major: u16, minor: u16) -> Self
@@ -55,8 +55,8 @@ impl Version16Dot16 {
         Self(major as u32 * 0x1_0000 + minor as u32 * 0x1000)
     }
 
-    /// The major and the minor number. The minor number of other bits than those of `new` is up to
-    /// 15.
+    /// Returns the major and minor numbers. The minor number can be up to 15 unless the version was
+    /// created by `new`.
     #[must_use]
     #[inline]
     pub const fn to_major_minor(self) -> (u16, u16)
@@ -69,7 +69,7 @@ impl Version16Dot16 {
         )
     }
 
-    /// The four bytes of the bits, highest first.
+    /// Returns the big-endian bytes.
     #[must_use]
     #[inline]
     #[tactic(auto, using(font_base::proofs::StdBytes::std_bytes))]
@@ -131,7 +131,7 @@ impl IdentityEq for Version16Dot16 {
     ghost identity = { unsigned_identity version_bits version_of (λ _. refl) };
 }
 
-/// A version of the newer tables: a major and a minor number of 16 bits each.
+/// A version with 16-bit major and minor numbers.
 ///
 /// ```
 /// use font_types::{Compatible, MajorMinor};
@@ -162,7 +162,7 @@ impl MajorMinor {
     /// Version 2.0.
     pub const VERSION_2_0: Self = MajorMinor { major: 2, minor: 0 };
 
-    /// The version of two numbers.
+    /// Creates a version.
     #[must_use]
     #[inline]
     pub const fn new(major: u16, minor: u16) -> Self
@@ -172,7 +172,7 @@ impl MajorMinor {
         MajorMinor { major, minor }
     }
 
-    /// Two bytes of the major number and then two of the minor number, highest first.
+    /// Returns the big-endian bytes, the major number first.
     #[must_use]
     #[inline]
     #[tactic(auto, using(font_base::proofs::StdBytes::std_bytes))]
@@ -236,13 +236,12 @@ impl IdentityEq for MajorMinor {
     ghost identity = { major_minor_identity };
 }
 
-/// Whether a table of one version can be read as one of another.
+/// Compatibility of table versions.
 pub trait Compatible<Rhs>: Sized {
-    // that all fields which a reader of the other version wants are there
+    // every field that a reader of the other version needs is present
     ghost is_compatible: { Self → Rhs → Type 0 };
 
-    /// Whether this version has the other's major number, and a minor number that is not below the
-    /// other's.
+    /// Returns `true` if the major numbers are equal and this minor number is at least the other's.
     #[must_use]
     fn compatible(&self, other: Rhs) -> bool
         ensures { IsTrue result ↔ is_compatible self.now other };
@@ -291,7 +290,7 @@ impl Compatible<(u16, u16)> for MajorMinor {
     }
 }
 
-/// A version of one number: one that is not below the other.
+/// A version of one number is compatible if it is at least the other.
 impl Compatible<u16> for u16 {
     ghost is_compatible = { λ version other. other ≤ version };
 

@@ -1,4 +1,4 @@
-//! Scalars as JSON values.
+//! JSON forms of scalars.
 
 ghost use Rattle.std.specs.Prelude.{◌≡◌, Ok, Bool, IsTrue, Some, IfOk, IfErr, Option, Result};
 ghost use Rattle.std.specs.Prelude.{MatchResult, pos, List, None, ◌≤◌, ◌≤ℤ◌, ◌^◌};
@@ -20,28 +20,28 @@ use serde_json::Value;
 use std::alloc::{AllocError, Global};
 use thiserror::Error;
 
-/// Why a value has no JSON form, or a JSON value is none of the type.
+/// Why a conversion to or from JSON failed.
 #[derive(Clone, Debug, PartialEq, Eq, Drop, Error)]
 pub enum JsonFault {
-    /// Memory for the value was refused.
+    /// Out of memory.
     #[error("out of memory")]
     Memory = 1,
-    /// Another kind of JSON value is wanted.
+    /// The JSON value is of the wrong kind.
     #[error("wrong kind of value")]
     WrongKind = 2,
-    /// The number is out of the type's range.
+    /// The number is out of range.
     #[error("number out of range")]
     OutOfRange = 3,
-    /// The text is no decimal number.
+    /// The text is not a decimal.
     #[error("not a decimal number")]
     Syntax = 4,
-    /// The bytes of a tag are no text.
+    /// The bytes of the tag are not UTF-8.
     #[error("tag is not UTF-8")]
     NotUtf8 = 5,
-    /// The text is no tag.
+    /// The text is not a valid tag.
     #[error("invalid tag")]
     InvalidTag = 6,
-    /// A member of the object is absent.
+    /// A member of the object is missing.
     #[error("missing member")]
     MissingMember = 7,
 }
@@ -67,28 +67,27 @@ impl From<DecimalFault> for JsonFault {
     }
 }
 
-/// A type whose values have a JSON form.
+/// A type with a JSON form.
 ///
-/// Fixed-point numbers and tags are texts, whole numbers are numbers, and a `MajorMinor` is an
-/// object.
+/// Fixed-point numbers and tags are strings, integers are numbers, and a `MajorMinor` is an object.
 pub trait JsonScalar: Sized {
-    // which data shows a value, and what data is read as
+    // which JSON a value has, and what JSON is read as
     ghost form: { JsonForm Self };
 
-    /// The JSON form of the value.
+    /// Converts to JSON.
     fn to_json(self, alloc: Global) -> Result<Value, JsonFault>
         ensures shown { IfOk result (λ value. form.shows self (view value)) }
         ensures refused { IfErr result (λ fault. form.refuses self fault) }
         ensures value { IsTrue (form.is_value self) };
 
-    /// The value whose form this is.
+    /// Converts from JSON.
     fn from_json(value: &Value) -> Result<Self, JsonFault>
         ensures read { form.reads (view value.now) result }
         ensures back { (v : Self) → IsTrue (form.is_value v) → form.shows v (view value.now)
             → form.comes_back v result };
 }
 
-// The text that a value is, if it is one.
+// Returns the string, or `WrongKind`.
 fn text_or_fault(value: &Value) -> Result<&str, JsonFault>
     ensures { MatchResult result (λ text. as_str (view value.now) ≡ Some text.now)
         (λ fault. (as_str (view value.now) ≡ None) × (fault ≡ JsonFault.WrongKind)) }
@@ -96,7 +95,7 @@ fn text_or_fault(value: &Value) -> Result<&str, JsonFault>
     value.as_str().ok_or(JsonFault::WrongKind)
 }
 
-// The whole number from `min` to `max` that a value is.
+// Returns the integer if it is from `min` to `max`.
 fn number_within(value: &Value, min: i64, max: i64) -> Result<i64, JsonFault>
     ensures number { result ≡ number_within min max (view value.now) }
     ensures within { IfOk result (λ z. (min ≤ℤ z) × (z ≤ℤ max)) }
@@ -109,7 +108,7 @@ fn number_within(value: &Value, min: i64, max: i64) -> Result<i64, JsonFault>
     Ok(whole as i64)
 }
 
-// The same of a number that is not signed.
+// Returns the integer if it is from 0 to `max`.
 fn natural(value: &Value, max: u32) -> Result<u32, JsonFault>
     ensures number { result_map_both (λ n. pos n) (λ fault. fault) result
         ≡ number_within (pos 0) (pos max) (view value.now) }

@@ -1,4 +1,4 @@
-//! Functions whose contracts are laws.
+//! Laws, as contracts of functions.
 
 ghost use Rattle.std.specs.Prelude.{◌≡◌, IfOk, IfErr};
 
@@ -8,8 +8,8 @@ pub use font_geom::laws::{
 };
 use std::alloc::Global;
 
-/// The JSON form of a value, read back: what comes back is the value, but for a tag that is not
-/// good, which is refused.
+/// Converts a value to JSON and back: the result is the value, except that an invalid tag is an
+/// error.
 ///
 /// The outer result is that of `to_json`, the inner one that of `from_json`.
 pub fn round_trip<T: JsonScalar>(value: T, alloc: Global) -> Result<Result<T, JsonFault>, JsonFault>

@@ -1,5 +1,5 @@
-//! The scalar types of OpenType, under one name: what readers of font tables, evaluators of deltas,
-//! scalers of outlines and dumpers of font values are built with.
+//! The scalar types of OpenType, for readers of font tables, evaluators of deltas, scalers of
+//! outlines and dumpers of font values.
 //!
 //! ```text
 //! let version = MajorMinor::read(&bytes[..4]);          // Some, as there are four bytes
@@ -31,13 +31,13 @@ pub use font_ids::{
 };
 pub use json::{JsonFault, JsonScalar};
 
-/// The version in front of a font with TrueType outlines, 1.0.
+/// The `sfnt` version of a font with TrueType outlines, 1.0.
 pub const TT_SFNT_VERSION: u32 = 0x0001_0000;
 
-/// The version in front of a TrueType font of older Apple systems, the bytes `true`.
+/// The `sfnt` version of a TrueType font of older Apple systems, the bytes `true`.
 pub const TRUE_SFNT_VERSION: u32 = 0x7472_7565;
 
-/// The version in front of a font with CFF outlines, the bytes `OTTO`.
+/// The `sfnt` version of a font with CFF outlines, the bytes `OTTO`.
 pub const CFF_SFNT_VERSION: u32 = 0x4F54_544F;
 
 #[cfg(test)]

@@ -1,13 +1,11 @@
-//! Laws of `F26Dot6`, as contracts of functions that make the calls.
+//! Laws of `F26Dot6`, as contracts of functions.
 
 ghost use Rattle.font_f26.specs.F26Dot6.{f26dot6_bits};
 ghost use Rattle.font_arithmetic.specs.NumberLaws.{OnThree, ProductLaws, QuotientLaws};
 
 use crate::F26Dot6;
 
-/// `x * y`, `y * x` and `x * ONE`.
-///
-/// The first two are equal, and the third is `x`.
+/// Returns `x * y`, `y * x` and `x * ONE`: the first two are equal, and the third is `x`.
 #[must_use]
 #[inline]
 pub fn product_laws(x: F26Dot6, y: F26Dot6) -> [F26Dot6; 3]
@@ -18,9 +16,8 @@ pub fn product_laws(x: F26Dot6, y: F26Dot6) -> [F26Dot6; 3]
     [x * y, y * x, x * F26Dot6::ONE]
 }
 
-/// `x / y`, `x / ONE` and `x / x`.
-///
-/// The second is `x`, and the last is `ONE` where `x` is not zero.
+/// Returns `x / y`, `x / ONE` and `x / x`: the second is `x`, and the last is `ONE` unless `x` is
+/// zero.
 #[must_use]
 #[inline]
 pub fn quotient_laws(x: F26Dot6, y: F26Dot6) -> [F26Dot6; 3]

@@ -1,4 +1,4 @@
-//! Laws of `Fixed`, as contracts of functions that make the calls.
+//! Laws of `Fixed`, as contracts of functions.
 
 ghost use Rattle.font_fixed.specs.Fixed.{fixed_bits};
 ghost use Rattle.font_arithmetic.specs.NumberLaws.{OnFour, ProductLaws, ProductInOneStep};
@@ -6,9 +6,8 @@ ghost use Rattle.font_arithmetic.specs.NumberLaws.{QuotientLaws, QuotientInOneSt
 
 use crate::Fixed;
 
-/// `x * y`, `y * x`, `x * ONE` and `x.mul_div(y, ONE)`.
-///
-/// The first, the second and the last are equal, and the third is `x`.
+/// Returns `x * y`, `y * x`, `x * ONE` and `x.mul_div(y, ONE)`: the third is `x`, and the others
+/// are equal.
 #[must_use]
 #[inline]
 pub fn product_laws(x: Fixed, y: Fixed) -> [Fixed; 4]
@@ -22,10 +21,10 @@ pub fn product_laws(x: Fixed, y: Fixed) -> [Fixed; 4]
     [x * y, y * x, x * Fixed::ONE, x.mul_div(y, Fixed::ONE)]
 }
 
-/// `x / y`, `x.mul_div(ONE, y)`, `x / ONE` and `x / x`.
+/// Returns `x / y`, `x.mul_div(ONE, y)`, `x / ONE` and `x / x`.
 ///
-/// The first two are equal, also where `y` is zero; the third is `x`, and the last is `ONE` where
-/// `x` is not zero.
+/// The first two are equal, even if `y` is zero; the third is `x`, and the last is `ONE` unless `x`
+/// is zero.
 #[must_use]
 #[inline]
 pub fn quotient_laws(x: Fixed, y: Fixed) -> [Fixed; 4]

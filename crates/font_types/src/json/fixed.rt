@@ -1,4 +1,4 @@
-//! Fixed-point numbers as texts, the shortest decimals of their values.
+//! Fixed-point numbers as strings, their shortest decimals.
 
 ghost use Rattle.std.specs.Prelude.{Ok, refl};
 ghost use Rattle.std.proofs.Common.{lit≤};

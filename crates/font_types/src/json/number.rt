@@ -1,4 +1,4 @@
-//! Whole numbers as numbers. Their `to_json` never fails.
+//! Integers as numbers. Their `to_json` never fails.
 
 ghost use Rattle.std.specs.Prelude.{Ok};
 ghost use Rattle.std.proofs.Common.{ap};

@@ -1,4 +1,4 @@
-//! Tags as texts of their four bytes.
+//! Tags as strings of their four bytes.
 
 ghost use Rattle.std.specs.Prelude.{◌≡◌, IsUtf8};
 ghost use Rattle.serde_json.specs.Data.{string};

@@ -1,4 +1,4 @@
-//! Versions of two numbers as objects.
+//! `MajorMinor` as an object.
 
 ghost use Rattle.std.specs.Prelude.{◌≡◌, ◌^◌, ◌&&◌, nat_lt, pos};
 ghost use Rattle.std.specs.Result.{result_map_both};
@@ -30,7 +30,7 @@ impl JsonScalar for MajorMinor {
     }
 }
 
-// The number of 16 bits that a member is.
+// Returns a member that is a 16-bit integer.
 fn member(value: &Value, name: &str) -> Result<u16, JsonFault>
     ensures { result_map_both (λ n. pos n) (λ fault. fault) result
         ≡ member_number name.now (view value.now) }
