@@ -1,5 +1,5 @@
--- What each operation on fixed-point numbers gives, over their bits. A number of w bits with f bits of fraction stands
--- for its bits over 2^f (OpenType, data types: Fixed is 16.16, F2DOT14 is 2.14).
+-- The operations of fixed-point numbers, over their raw values. A w-bit number with f fraction bits is its raw value
+-- over 2^f (OpenType, data types: Fixed is 16.16, F2DOT14 is 2.14).
 use Rattle.std.specs.Prelude.{◌≡◌, ℕ, zero, suc, ◌-◌, ◌^◌, Bool, not, List, ℤ, pos, negsuc, neg_ℤ, ◌+ℤ◌, ◌-ℤ◌, ◌*ℤ◌}
 use Rattle.std.specs.Prelude.{◌≤ℤ◌, ◌<ℤ◌, Result, if◌then◌else◌}
 use Rattle.std.specs.Int.{is_negative, int_rem_euclid, saturate_to_bits}
@@ -8,47 +8,47 @@ use Rattle.font_decimal.specs.Near.{signed, Near, near, Up, up}
 use Rattle.font_decimal.specs.Reading.{Reads, IsOutOfRange, IsReading}
 use Rattle.font_decimal.specs.declared.reader.DecimalFault.{DecimalFault}
 
--- n / d rounded to the nearest whole number, ties away from zero, and wrapped to w bits
+-- n / d rounded half away from zero and wrapped to w bits
 abbrev pub wrapped_near : ℕ → ℤ → ℕ → ℤ
 wrapped_near w n d = wrap w (near n d)
 
--- r is that number
+-- r is n / d rounded half away from zero and wrapped to w bits
 pub record IsWrappedNear (w : ℕ) (n : ℤ) (d : ℕ) (r : ℤ) : Type 0 where
   pub exact : ℤ
   pub nearest : Near n d exact
   pub wrapped : r ≡ wrap w exact
   pub is : r ≡ wrapped_near w n d
 
--- b / d rounded to the nearest whole number, ties upwards, and wrapped to w bits
+-- b / d rounded half up and wrapped to w bits
 abbrev pub narrowed : ℕ → ℤ → ℕ → ℤ
 narrowed w b d = wrap w (up b d)
 
--- r is that number
+-- r is b / d rounded half up and wrapped to w bits
 pub record IsNarrowed (w : ℕ) (b : ℤ) (d : ℕ) (r : ℤ) : Type 0 where
   pub exact : ℤ
   pub nearest : Up b d exact
   pub wrapped : r ≡ wrap w exact
   pub is : r ≡ narrowed w b d
 
--- the bits of the whole number nearest to b / 2^f, ties upwards, wrapped to w bits
+-- the raw value of b / 2^f rounded half up to an integer, wrapped to w bits
 abbrev pub nearest_whole : ℕ → ℕ → ℤ → ℤ
 nearest_whole w f b = wrap w (up b (2 ^ f) *ℤ pos (2 ^ f))
 
--- r is those bits
+-- r is the raw value of b / 2^f rounded half up to an integer, wrapped to w bits
 pub record IsNearestWhole (w f : ℕ) (b r : ℤ) : Type 0 where
   pub whole : ℤ
   pub nearest : Up b (2 ^ f) whole
   pub wrapped : r ≡ wrap w (whole *ℤ pos (2 ^ f))
   pub is : r ≡ nearest_whole w f b
 
--- what b / 2^f has above the greatest whole number that is not above it, and the bits of that whole number
+-- the raw values of the fractional part of b / 2^f, and of its floor
 unfoldable pub fract_of : ℕ → ℤ → ℤ
 fract_of f b = int_rem_euclid b (pos (2 ^ f))
 
 abbrev pub floor_of : ℕ → ℤ → ℤ
 floor_of f b = b -ℤ fract_of f b
 
--- r is the bits of that whole number
+-- r is the raw value of the floor of b / 2^f
 pub record IsFloor (f : ℕ) (b r : ℤ) : Type 0 where
   pub whole : ℤ
   pub bits : r ≡ (whole *ℤ pos (2 ^ f))
@@ -56,51 +56,51 @@ pub record IsFloor (f : ℕ) (b r : ℤ) : Type 0 where
   pub high : b <ℤ (r +ℤ pos (2 ^ f))
   pub is : r ≡ floor_of f b
 
--- r is what b has above its floor
+-- r is the raw value of the fractional part of b / 2^f
 pub record IsFract (f : ℕ) (b r : ℤ) : Type 0 where
   pub floor : ℤ
   pub is_floor : IsFloor f b floor
   pub rest : r ≡ (b -ℤ floor)
   pub is : r ≡ fract_of f b
 
--- the least and the greatest number of w bits
+-- the smallest and largest w-bit integers
 abbrev pub least : ℕ → ℤ
 least w = neg_ℤ (pos (half_range w))
 
 abbrev pub greatest : ℕ → ℤ
 greatest w = pos (half_range w - 1)
 
--- the text is read as the number of w bits with f bits of fraction whose bits are b
+-- the text parses as the w-bit raw value b with f fraction bits
 abbrev pub ReadsAs : ℕ → ℕ → List ℕ → ℤ → Type 0
 ReadsAs w f text b = Reads text f (least w) (greatest w) b
 
--- the text is a decimal too far from zero for a number of w bits with f bits of fraction
+-- the text is a decimal whose rounded raw value does not fit in w bits
 abbrev pub IsTooFar : ℕ → ℕ → List ℕ → Type 0
 IsTooFar w f text = IsOutOfRange text f (least w) (greatest w)
 
--- what reading the text as a number of w bits with f bits of fraction comes to: the bits, or the fault that it has
+-- the result of parsing as a w-bit raw value with f fraction bits
 abbrev pub ReadingGives : ℕ → ℕ → List ℕ → Result ℤ DecimalFault → Type 0
 ReadingGives w f text result = IsReading text f (least w) (greatest w) result
 
--- the number of w bits that is nearest to z
+-- z saturated to w bits
 abbrev pub clamp : ℕ → ℤ → ℤ
 clamp w z = saturate_to_bits (w - 1) z
 
--- just one of two numbers is negative
+-- exactly one of two integers is negative
 abbrev pub differ_in_sign : ℤ → ℤ → Bool
 differ_in_sign x y = if is_negative x then not (is_negative y) else is_negative y
 
--- r is the product of the numbers with bits x and y: their exact product, rounded and wrapped
+-- r is the product of the raw values x and y: the exact product, rounded and wrapped
 abbrev pub IsProduct : ℕ → ℕ → ℤ → ℤ → ℤ → Type 0
 IsProduct w f x y r = IsWrappedNear w (x *ℤ y) (2 ^ f) r
 
--- r is x * a / c rounded and wrapped. A zero divisor gives the greatest number of w bits, negated where just one of x
--- and a is negative.
+-- r is x * a / c, rounded and wrapped; if c is 0, the largest w-bit integer, negated if exactly one of x and a is
+-- negative
 abbrev pub IsMulDiv : ℕ → ℤ → ℤ → ℤ → ℤ → Type 0
 IsMulDiv w x a (pos zero) r = r ≡ signed (differ_in_sign x a) (half_range w - 1)
 IsMulDiv w x a (pos (suc c)) r = IsWrappedNear w (x *ℤ a) (suc c) r
 IsMulDiv w x a (negsuc c) r = IsWrappedNear w (neg_ℤ (x *ℤ a)) (suc c) r
 
--- r is the quotient of the numbers with bits x and y: x * 2^f / y, rounded and wrapped
+-- r is the quotient of the raw values x and y: x * 2^f / y, rounded and wrapped
 abbrev pub IsQuotient : ℕ → ℕ → ℤ → ℤ → ℤ → Type 0
 IsQuotient w f x y r = IsMulDiv w x (pos (2 ^ f)) y r

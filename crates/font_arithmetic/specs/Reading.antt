@@ -1,4 +1,4 @@
--- What reading a decimal text as a number in a type of its own comes to.
+-- Parsing a decimal as a value of a fixed-point type.
 use Rattle.std.specs.Prelude.{◌≡◌, ◌↔◌, ℕ, ℤ, List, Result, Ok, Err, IfOk, FitsSigned}
 use Rattle.std.specs.Int.{Width}
 use Rattle.std.specs.Result.{result_map_both}
@@ -9,10 +9,9 @@ use Rattle.font_decimal.specs.declared.reader.DecimalFault.{DecimalFault}
 use Rattle.font_decimal.specs.declared.reader.DecimalFault.TheVariants.{Syntax, OutOfRange}
 use Rattle.font_arithmetic.specs.Operations.{ReadsAs, IsTooFar, ReadingGives}
 
--- The text is read as the nearest number of the width w with f bits of fraction, in the type whose
--- numbers have these bits; or refused: as `Syntax` where it is outside the grammar, as `OutOfRange`
--- where the width does not hold its nearest number. The printed text of a number is read as that
--- number. (The project's own rule.)
+-- The result of parsing: the nearest value of the type with width w and f fraction bits; `Syntax` if the text is not a
+-- decimal; `OutOfRange` if its nearest value does not fit in the width. The printed text of a value parses as that
+-- value. (The project's own rule.)
 pub record ReadsBy {T : Type 0} (w : Width) (f : ℕ) (bits_of : T → ℤ) (text : List ℕ)
     (result : Result T DecimalFault) : Type 0 where
   pub ok : (x : T) → (result ≡ Ok x) ↔ ReadsAs (bits w) f text (bits_of x)

@@ -10,38 +10,38 @@ use Rattle.font_base.specs.declared.array.ScalarArrayIter.{ScalarArrayIter}
 use Rattle.font_base.specs.Elements.{element, elements, StoresOne, Rises, Splits}
 
 module _ {T X : Type 0} {scalar : Scalar.Ghosts T X} {size : FixedSize.Ghosts T} {x : BeByteArray.Ghosts X} where
-  -- the bytes that an array is
+  -- the bytes of an array
   abbrev pub array_bytes : ScalarArray T X scalar size x → List ℕ
   array_bytes array = array.data.now
 
-  -- how many elements it has
+  -- the number of elements
   abbrev pub array_len : ScalarArray T X scalar size x → ℕ
   array_len array = length (array_bytes array) / size.RAW_BYTE_LEN
 
-  -- the bytes of its element of an index
+  -- the bytes of the element at an index
   abbrev pub element_bytes : ScalarArray T X scalar size x → ℕ → List ℕ
   element_bytes array = element size.RAW_BYTE_LEN (array_bytes array)
 
-  -- the bytes of each element, first to last
+  -- the bytes of each element, in order
   abbrev pub array_elements : ScalarArray T X scalar size x → List (List ℕ)
   array_elements array = elements size.RAW_BYTE_LEN (array_len array) (array_bytes array)
 
-  -- the same of the elements that an iterator has left
+  -- the bytes of each element that an iterator has left, in order
   abbrev pub elements_left : ScalarArrayIter T X scalar size x → List (List ℕ)
   elements_left iter = array_elements iter.rest
 
-  -- the answers do not fall along the array
+  -- the comparisons are sorted: `Less`, then `Equal`, then `Greater`
   abbrev pub RisesAlong : ScalarArray T X scalar size x → (T → Ordering) → Type 0
   RisesAlong array answer = Rises scalar.is_scalar (λ v. x.bytes (scalar.raw_of v)) answer
       (element_bytes array) (array_len array)
 
-  -- the answer is `Less` below `low`, and `Greater` from `high` on
+  -- elements before `low` compare as `Less`, and those from `high` on as `Greater`
   abbrev pub SplitsArray : ScalarArray T X scalar size x → (T → Ordering) → ℕ → ℕ → Type 0
   SplitsArray array answer = Splits scalar.is_scalar (λ v. x.bytes (scalar.raw_of v)) answer
       (element_bytes array) (array_len array)
 
-  -- what a search by the answers gives: an index whose element answers `Equal`, or else, where the answers do not fall,
-  -- the index that all `Less` are in front of, and that all others, which are `Greater`, are not
+  -- the result of a binary search: the index of an element that compares as `Equal`; or, if the comparisons are sorted,
+  -- the index before which every element is `Less`, and from which on every element is `Greater`
   abbrev pub IsSearched : ScalarArray T X scalar size x → (T → Ordering) → Result ℕ ℕ → Type 0
   IsSearched array answer result = MatchResult result
       (λ i. (i < array_len array)

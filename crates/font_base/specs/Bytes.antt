@@ -1,4 +1,4 @@
--- Big-endian bytes: all numbers of a font file are stored with their highest byte first.
+-- Big-endian bytes: every number in a font file is stored with its most significant byte first.
 -- (OpenType, data types: "All OpenType fonts use Motorola-style byte ordering (Big Endian)")
 pub mod Laws
 use Rattle.std.specs.Prelude.{◌≡◌, ℕ, ◌+◌, ◌*◌, ◌^◌, ◌<◌, Bool, List, length, fold, ◌&&◌, ◌==◌, IsTrue, nat_lt}
@@ -7,24 +7,24 @@ use Rattle.std.specs.List.{list_all}
 use Rattle.std.specs.Int.{bytes_high_first, int_rem_euclid}
 use Rattle.font_base.specs.Wrap.{wrap}
 
--- the number that a list of bytes stands for: its numeral in base 256, first byte highest
+-- the unsigned integer with these big-endian bytes
 abbrev pub numeral : List ℕ → ℕ
 numeral bytes = fold (λ n byte. n * 256 + byte) 0 bytes
 
--- the test that a list has n elements, and that each is a byte
+-- the list has n elements, each below 256 (decidable)
 abbrev pub are_bytes : ℕ → List ℕ → Bool
 are_bytes n bytes = (length bytes == n) && list_all (λ byte. nat_lt byte 256) bytes
 
--- the n bytes of the whole number v: their numeral differs from v by a multiple of 256^n
+-- bytes is the n-byte encoding of the integer v: `numeral bytes` differs from v by a multiple of 256^n
 pub record IsBytesOf (n : ℕ) (v : ℤ) (bytes : List ℕ) : Type 0 where
   pub are : IsTrue (are_bytes n bytes)
   pub turns : ℤ
   pub differs : v ≡ (pos (numeral bytes) +ℤ (turns *ℤ pos (256 ^ n)))
 
--- the one list that `IsBytesOf n v` allows
+-- the unique list with `IsBytesOf n v`
 unfoldable pub bytes_of : ℕ → ℤ → List ℕ
 bytes_of n v = bytes_high_first n (unsigned_abs (int_rem_euclid v (pos (256 ^ n))))
 
--- the number that n bytes stand for in two's complement
+-- the signed integer with these n bytes, in two's complement
 unfoldable pub signed_numeral : ℕ → List ℕ → ℤ
 signed_numeral n bytes = wrap (8 * n) (pos (numeral bytes))

@@ -1,39 +1,39 @@
--- Elements that stand one behind the other, each in as many bytes.
+-- Consecutive elements of equal size.
 -- (OpenType, the tables' formats: arrays, as of `uint16` in `cmap` and of records in the table directory)
 use Rattle.std.specs.Prelude.{◌≡◌, ℕ, zero, suc, ◌*◌, ◌<◌, ◌≤◌, List, [], ◌∷◌, take, drop, Bool, IsTrue}
 use Rattle.std.specs.declared.cmp.Ordering.{Ordering}
 use Rattle.std.specs.declared.cmp.Ordering.TheVariants.{Less, Greater}
 use Rattle.std.specs.Ordering.{ordering_index}
 
--- the bytes of the element of an index, the first has 0, where each has `size`
+-- the bytes of the element at an index, if each element has `size` bytes
 abbrev pub element : ℕ → List ℕ → ℕ → List ℕ
 element size bytes i = take size (drop (i * size) bytes)
 
--- the bytes of each of so many elements, first to last
+-- the bytes of each of n elements, in order
 abbrev pub elements : ℕ → ℕ → List ℕ → List (List ℕ)
 elements size zero bytes = []
 elements size (suc n) bytes = take size bytes ∷ elements size n (drop size bytes)
 
--- v is a value of its type, and is stored as these bytes
+-- v is a value of its type, encoded as these bytes
 pub record IsStored {V : Type 0} (is_scalar : V → Bool) (stored : V → List ℕ) (bytes : List ℕ) (v : V) : Type 0 where
   pub bytes_are : stored v ≡ bytes
   pub is_value : IsTrue (is_scalar v)
 
--- the bytes store a value of which P holds
+-- the bytes encode a value with the property P
 pub record StoresOne {V : Type 0} (is_scalar : V → Bool) (stored : V → List ℕ) (bytes : List ℕ)
     (P : V → Type 0) : Type 0 where
   pub value : V
   pub is_stored : IsStored is_scalar stored bytes value
   pub holds : P value
 
--- Along the n elements that stand at `at`, the answers do not fall: all `Less` are in front, and all `Greater` behind.
--- An array that is sorted by a key answers so when its keys are compared with one.
+-- The comparisons of the n elements are sorted: `Less`, then `Equal`, then `Greater`. So it is if an array that is
+-- sorted by a key has its keys compared with one.
 pub record Rises {V : Type 0} (is_scalar : V → Bool) (stored : V → List ℕ) (answer : V → Ordering)
     (at : ℕ → List ℕ) (n : ℕ) : Type 0 where
   pub keeps : (i j : ℕ) (v w : V) → i ≤ j → j < n → IsStored is_scalar stored (at i) v
       → IsStored is_scalar stored (at j) w → ordering_index (answer v) ≤ ordering_index (answer w)
 
--- each element below `low` is less, and each from `high` on is greater
+-- elements before `low` compare as `Less`, and those from `high` on as `Greater`
 pub record Splits {V : Type 0} (is_scalar : V → Bool) (stored : V → List ℕ) (answer : V → Ordering)
     (at : ℕ → List ℕ) (n low high : ℕ) : Type 0 where
   pub less : (k : ℕ) (v : V) → k < low → IsStored is_scalar stored (at k) v → answer v ≡ Less

@@ -1,9 +1,9 @@
--- Whole numbers: products spread over sums, and associate. (std has that they commute, `*ℤ_comm`.)
+-- Integers: multiplication distributes over addition and is associative. (std has that it commutes, `*ℤ_comm`.)
 use Rattle.std.proofs.Common.{◌≡◌, ◌∙◌, sym, ap, ℕ, ◌+◌, ◌*◌, ℤ, ◌+ℤ◌, ◌*ℤ◌, arith}
 use Rattle.std.proofs.Math.Nat.{mul_assoc, mul-add, add-mul}
 use borrow.Author.Differences.{up, down, same_in, sum_is_lem, product_is}
 
--- (x + y) * z, where s and t are the parts of x + y
+-- (x + y) * z, if s and t are the parts of x + y
 parts_times : (s t a b c d m n : ℕ) → s + b + d ≡ t + a + c
     → (s * m + t * n) + ((a * n + b * m) + (c * n + d * m)) ≡ ((a * m + b * n) + (c * m + d * n)) + (s * n + t * m)
 parts_times s t a b c d m n same =

@@ -1,4 +1,4 @@
--- A record of two scalars, one behind the other, is a scalar (OpenType, the tables' formats: records).
+-- A record of two consecutive scalars is a scalar (OpenType, the tables' formats: records).
 use Rattle.std.proofs.Common.{◌≡◌, ◌∙◌, sym, ap, ℕ, ◌+◌, Bool, ◌&&◌, ◌==◌, IsTrue, List, ◌++◌, length, take}
 use Rattle.std.proofs.Common.{drop, arith, refl, true, eq-eqb}
 use Rattle.std.proofs.lemmas.List.{take-append-drop, length-append, length-drop, length-take-le, take_at, drop_at}
@@ -13,7 +13,7 @@ use Rattle.font_base.specs.Scalar.{ScalarLaws}
 all_are : (n : ℕ) (bytes : List ℕ) → IsTrue (are_bytes n bytes) → list_all is_byte bytes ≡ true
 all_are n bytes are = second_so (length bytes == n) (list_all is_byte bytes) are
 
--- bytes in two parts
+-- bytes split in two parts
 front_bytes : (m n : ℕ) (bytes : List ℕ) → IsTrue (are_bytes (m + n) bytes) → IsTrue (are_bytes m (take m bytes))
 front_bytes m n bytes are =
     let many = are_bytes-length (m + n) bytes are in
@@ -38,7 +38,7 @@ joined_bytes m n xs ys of_xs of_ys =
     (length-append xs ys ∙ omega (arith, are_bytes-length m xs of_xs, are_bytes-length n ys of_ys)))
     (list_all-append is_byte xs ys ∙ both_true (all_are m xs of_xs) (all_are n ys of_ys))
 
--- a record whose first field has m bytes, and whose second the n behind them
+-- a record whose first field has m bytes, followed by a second field of n bytes
 pub record_laws : {A B T : Type 0} {is_a : A → Bool} {of_a : List ℕ → A} {a_of : A → List ℕ} {is_b : B → Bool}
     {of_b : List ℕ → B} {b_of : B → List ℕ} (m n : ℕ) (first : T → A) (second : T → B) (make : A → B → T)
     → ((a : A) (b : B) → first (make a b) ≡ a) → ((a : A) (b : B) → second (make a b) ≡ b)

@@ -1,9 +1,9 @@
--- What makes a type a scalar: each of its values is stored as one array of bytes.
+-- The laws of a scalar: every value has one encoding.
 pub mod Laws
 use Rattle.std.specs.Prelude.{◌≡◌, ℕ, Bool, IsTrue, List}
 
--- Values and arrays determine each other: what an array gives is a value, what a value gives is an array, both ways
--- undo each other, and an array is as long as the type says. (own: that a scalar can be read and written without loss)
+-- Decoding gives a value, encoding gives raw bytes, each is the inverse of the other, and the encoded size is that of
+-- the type. (own: a scalar can be read and written without loss)
 pub record ScalarLaws {V R : Type 0} (is_scalar : V → Bool) (is_raw : R → Bool) (of_raw : R → V) (raw_of : V → R)
     (raw_len byte_len : ℕ) : Type 0 where
   pub of_raw_value : (r : R) → IsTrue (is_raw r) → IsTrue (is_scalar (of_raw r))
@@ -12,7 +12,7 @@ pub record ScalarLaws {V R : Type 0} (is_scalar : V → Bool) (is_raw : R → Bo
   pub forth : (r : R) → IsTrue (is_raw r) → raw_of (of_raw r) ≡ r
   pub lengths_agree : raw_len ≡ byte_len
 
--- the value is that of an array with these bytes
+-- v is the value with these bytes
 pub record IsValueOf {V R : Type 0} (bytes_of : R → List ℕ) (of_raw : R → V) (bytes : List ℕ) (v : V) : Type 0 where
   pub raw : R
   pub is_raw : bytes_of raw ≡ bytes

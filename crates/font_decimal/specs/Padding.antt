@@ -1,11 +1,11 @@
--- A decimal text in a field of some width. These rules are the project's own.
+-- Padding a decimal to a width. These rules are the project's own.
 use Rattle.std.specs.Prelude.{◌≡◌, ℕ, ◌+◌, ◌-◌, ◌/◌, Bool, List, [], ◌∷◌, ◌++◌, length, drop, replicate, slice_index}
 use Rattle.std.specs.Prelude.{◌==◌, if◌then◌else◌}
 use Rattle.font_decimal.specs.declared.padding.Align.{Align}
 use Rattle.font_decimal.specs.declared.padding.Align.TheVariants.{Left, Right, Center}
 use Rattle.font_decimal.specs.declared.padding.Pad.{Pad}
 
--- the sign that is shown: the text's own `-`, otherwise a `+` where one is asked for
+-- the sign to write: the text's own `-`, otherwise a `+` if requested
 abbrev pub shown_sign : Bool → List ℕ → List ℕ
 shown_sign plus text = if slice_index text 0 == 45 then 45 ∷ [] else (if plus then 43 ∷ [] else [])
 
@@ -13,27 +13,27 @@ shown_sign plus text = if slice_index text 0 == 45 then 45 ∷ [] else (if plus 
 abbrev pub unsigned_body : List ℕ → List ℕ
 unsigned_body text = if slice_index text 0 == 45 then drop 1 text else text
 
--- how many of the spare bytes stand in front
+-- how many padding bytes go on the left
 abbrev pub spare_in_front : Align → ℕ → ℕ
 spare_in_front Left spare = 0
 spare_in_front Right spare = spare
 spare_in_front Center spare = spare / 2
 
--- the sign and the body with `spare` bytes put in: zeros between the two, or fill around them
+-- the sign and the body with `spare` padding bytes: zeros between the two, or fill around them
 abbrev pub laid_out : Pad → List ℕ → List ℕ → ℕ → List ℕ
 laid_out pad sign body spare =
     let front = spare_in_front pad.align spare in
     if pad.zeros then sign ++ (replicate spare 48 ++ body)
     else replicate front pad.fill ++ (sign ++ (body ++ replicate (spare - front) pad.fill))
 
--- the text, padded to the width where it is shorter
+-- the text, padded to the width if it is shorter
 unfoldable pub padded_text : List ℕ → Pad → List ℕ
 padded_text text pad =
     let sign = shown_sign pad.plus text in
     let body = unsigned_body text in
     laid_out pad sign body (pad.width - (length sign + length body))
 
--- the text stands at the front of the new list, n bytes long, and behind it the old list goes on
+-- the first n elements of the new list are the text, and the rest is unchanged
 pub record FillsFront (text : List ℕ) (n : ℕ) (old new : List ℕ) : Type 0 where
   pub count : n ≡ length text
   pub bytes : new ≡ text ++ drop n old

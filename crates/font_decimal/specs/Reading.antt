@@ -1,36 +1,36 @@
--- What a text is read as, where values are multiples of 1 / 2^f.
+-- Parsing a decimal as a multiple of 1 / 2^f.
 use Rattle.std.specs.Prelude.{ℕ, ◌^◌, ◌⊎◌, List, ℤ, pos, ◌*ℤ◌, ◌≤ℤ◌, ◌<ℤ◌, Result, Ok, Err}
 use Rattle.font_decimal.specs.Near.{Near}
 use Rattle.font_decimal.specs.Grammar.{Decimal, IsNoDecimal}
 use Rattle.font_decimal.specs.declared.reader.DecimalFault.{DecimalFault}
 use Rattle.font_decimal.specs.declared.reader.DecimalFault.TheVariants.{Syntax, OutOfRange}
 
--- the text is a decimal whose nearest multiple of 1 / 2^f, ties away from zero, is b / 2^f
+-- the text is a decimal that rounds to b / 2^f, half away from zero
 pub record Rounds (text : List ℕ) (f : ℕ) (b : ℤ) : Type 0 where
   pub numeral : ℤ
   pub places : ℕ
   pub decimal : Decimal text numeral places
   pub nearest : Near (numeral *ℤ pos (2 ^ f)) (10 ^ places) b
 
--- the text rounds to b, which is in the range
+-- the text rounds to b, which is in range
 pub record Reads (text : List ℕ) (f : ℕ) (min max b : ℤ) : Type 0 where
   pub rounds : Rounds text f b
   pub low : min ≤ℤ b
   pub high : b ≤ℤ max
 
--- the text rounds to a number that is out of the range: the rounding comes first, and the range is judged afterwards
+-- the text rounds to a value that is out of range: the range is checked after rounding
 pub record IsOutOfRange (text : List ℕ) (f : ℕ) (min max : ℤ) : Type 0 where
   pub nearest : ℤ
   pub rounds : Rounds text f nearest
   pub outside : (nearest <ℤ min) ⊎ (max <ℤ nearest)
 
--- the answer to a text: the value that it reads as, or the fault that it has
+-- the result of parsing: the raw value, or the error
 abbrev pub IsReading : List ℕ → ℕ → ℤ → ℤ → Result ℤ DecimalFault → Type 0
 IsReading text f min max (Ok b) = Reads text f min max b
 IsReading text f min max (Err Syntax) = IsNoDecimal text
 IsReading text f min max (Err OutOfRange) = IsOutOfRange text f min max
 
--- the decimal number that one text stands for is at most that of the other
+-- the value of one decimal is less than or equal to that of the other
 pub record IsAtMost (lesser greater : List ℕ) : Type 0 where
   pub n : ℤ
   pub j : ℕ

@@ -1,16 +1,16 @@
--- The fixed-point number of 16 bits with 12 bits of fraction (4.12, as variable composites store angles).
+-- 4.12 fixed-point numbers, as variable composites store angles.
 use Rattle.std.specs.Prelude.{ℕ, ℤ, List}
 use Rattle.font_decimal.specs.Shortest.{shortest_text}
 use Rattle.font_fixed2.specs.declared.f4dot12.F4Dot12.{F4Dot12}
 
--- the bits of an `F4Dot12`, which stand for their number over 2^12
+-- the raw value of an `F4Dot12`, its value times 2^12
 abbrev pub f4dot12_bits : F4Dot12 → ℤ
 f4dot12_bits x = x.0
 
--- the `F4Dot12` of these bits
+-- the `F4Dot12` with this raw value
 abbrev pub f4dot12_of : ℤ → F4Dot12
 f4dot12_of bits = record { 0 = bits }
 
--- the text that an `F4Dot12` is printed as: its shortest decimal
+-- the printed text of an `F4Dot12`: its shortest decimal
 abbrev pub f4dot12_text : F4Dot12 → List ℕ
 f4dot12_text x = shortest_text (f4dot12_bits x) 12

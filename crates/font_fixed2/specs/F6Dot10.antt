@@ -1,16 +1,16 @@
--- The fixed-point number of 16 bits with 10 bits of fraction (6.10, as variable composites store scales).
+-- 6.10 fixed-point numbers, as variable composites store scales.
 use Rattle.std.specs.Prelude.{ℕ, ℤ, List}
 use Rattle.font_decimal.specs.Shortest.{shortest_text}
 use Rattle.font_fixed2.specs.declared.f6dot10.F6Dot10.{F6Dot10}
 
--- the bits of an `F6Dot10`, which stand for their number over 2^10
+-- the raw value of an `F6Dot10`, its value times 2^10
 abbrev pub f6dot10_bits : F6Dot10 → ℤ
 f6dot10_bits x = x.0
 
--- the `F6Dot10` of these bits
+-- the `F6Dot10` with this raw value
 abbrev pub f6dot10_of : ℤ → F6Dot10
 f6dot10_of bits = record { 0 = bits }
 
--- the text that an `F6Dot10` is printed as: its shortest decimal
+-- the printed text of an `F6Dot10`: its shortest decimal
 abbrev pub f6dot10_text : F6Dot10 → List ℕ
 f6dot10_text x = shortest_text (f6dot10_bits x) 10

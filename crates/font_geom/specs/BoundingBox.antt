@@ -1,16 +1,16 @@
--- Boxes of least and greatest coordinates.
+-- Axis-aligned bounding boxes.
 pub mod Laws
 use Rattle.std.specs.Prelude.{◌≡◌, Bool, IsTrue, ◌&&◌, ◌⊎◌, if◌then◌else◌}
 use Rattle.font_geom.specs.declared.bbox.BoundingBox.{BoundingBox}
 
--- each entry may be multiplied by the factor
+-- each coordinate may be multiplied by the factor
 pub record CanScale {T : Type 0} (can_multiply : T → T → Type 0) (box : BoundingBox T) (factor : T) : Type 0 where
   pub x_min : can_multiply box.x_min factor
   pub y_min : can_multiply box.y_min factor
   pub x_max : can_multiply box.x_max factor
   pub y_max : can_multiply box.y_max factor
 
--- each entry of `scaled` is what the product of the entry and the factor gives
+-- each coordinate of `scaled` is the product of the coordinate and the factor
 pub record IsScaled {T : Type 0} (product : T → T → T → Type 0) (box : BoundingBox T) (factor : T)
     (scaled : BoundingBox T) : Type 0 where
   pub x_min : product box.x_min factor scaled.x_min
@@ -18,11 +18,11 @@ pub record IsScaled {T : Type 0} (product : T → T → T → Type 0) (box : Bou
   pub x_max : product box.x_max factor scaled.x_max
   pub y_max : product box.y_max factor scaled.y_max
 
--- in both pairs the least is at most the greatest, by the test `le`
+-- `le` is true for both pairs
 abbrev pub is_normalized : {T : Type 0} → (T → T → Bool) → BoundingBox T → Bool
 is_normalized le box = le box.x_min box.x_max && le box.y_min box.y_max
 
--- a pair for which the test is true stays, and every other pair is swapped
+-- each pair is swapped unless `le` is true for it
 abbrev pub normalized_box : {T : Type 0} → (T → T → Bool) → BoundingBox T → BoundingBox T
 normalized_box le box = record {
   x_min = if le box.x_min box.x_max then box.x_min else box.x_max;
@@ -31,16 +31,16 @@ normalized_box le box = record {
   y_max = if le box.y_min box.y_max then box.y_max else box.y_min;
 }
 
--- a and b are c and d, in one order or the other
+-- a and b are c and d, in either order
 abbrev pub IsSamePair : {T : Type 0} → T → T → T → T → Type 0
 IsSamePair a b c d = ((a ≡ c) × (b ≡ d)) ⊎ ((a ≡ d) × (b ≡ c))
 
--- both pairs have the values that they had
+-- both pairs have the same values as before
 pub record HasSamePairs {T : Type 0} (old new : BoundingBox T) : Type 0 where
   pub on_x : IsSamePair new.x_min new.x_max old.x_min old.x_max
   pub on_y : IsSamePair new.y_min new.y_max old.y_min old.y_max
 
--- a and b compare by the test, in one order or the other
+-- `le` is true for a and b, in either order
 abbrev pub ComparesPair : {T : Type 0} → (T → T → Bool) → T → T → Type 0
 ComparesPair le a b = IsTrue (le a b) ⊎ IsTrue (le b a)
 

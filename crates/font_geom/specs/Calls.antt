@@ -1,13 +1,13 @@
--- A function that is called at each element of a list, first to last, and may change its state between calls.
+-- A function that is called on each element of a list, in order, and may change its state.
 use Rattle.std.specs.Prelude.{List, [], ◌∷◌, ⊤}
 
--- in the state f it may be called at each of these, in order: `pre f x` says that it may be called at x, and `step f x
--- y g` that the call may give y and leave the state g
+-- in the state f it may be called on each of these, in order: `pre f x` means that it may be called on x, and
+-- `step f x y g` that the call may return y and leave the state g
 abbrev pub CanCallEach : {F A B : Type 0} → (F → A → Type 0) → (F → A → B → F → Type 0) → F → List A → Type 0
 CanCallEach pre step f [] = ⊤
 CanCallEach {F} {A} {B} pre step f (x ∷ xs) = pre f x × ((y : B) (g : F) → step f x y g → CanCallEach pre step g xs)
 
--- calls at each of the first list, in order, gave the second
+-- calls on each element of the first list, in order, returned the second
 abbrev pub CallsEach : {F A B : Type 0} → (F → A → B → F → Type 0) → F → List A → List B → Type 0
 CallsEach step f [] [] = ⊤
 CallsEach step f [] (y ∷ ys) = ⊥

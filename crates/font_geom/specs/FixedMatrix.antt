@@ -1,5 +1,5 @@
--- Matrices of `Fixed`, over their bits (OpenType, data types: Fixed is 16.16), and how far from its exact image they
--- move a point.
+-- Matrices of `Fixed`, over their raw values (OpenType, data types: Fixed is 16.16), and the distance of a transformed
+-- point from its exact image.
 pub mod Laws
 use Rattle.std.specs.Prelude.{◌≡◌, ℕ, ◌+◌, ◌*◌, ◌/◌, ◌^◌, ◌≤◌, Bool, ◌&&◌, nat_lt, ℤ, pos, ◌+ℤ◌, ◌-ℤ◌, ◌*ℤ◌}
 use Rattle.std.specs.Prelude.{unsigned_abs}
@@ -11,7 +11,7 @@ use Rattle.font_geom.specs.declared.matrix.Matrix.{Matrix}
 use Rattle.font_geom.specs.declared.point.Point.{Point}
 use Rattle.font_geom.specs.Matrix.{image_of, matrix_product, FitsEach}
 
--- the bits of each element, and of each coordinate
+-- the raw value of each element, and of each coordinate
 abbrev pub matrix_bits : Matrix Fixed → Matrix ℤ
 matrix_bits m = record {
   xx = fixed_bits m.xx;
@@ -25,46 +25,45 @@ matrix_bits m = record {
 abbrev pub point_bits : Point Fixed → Point ℤ
 point_bits p = record { x = fixed_bits p.x; y = fixed_bits p.y }
 
--- the product of two numbers, rounded to the nearest step, ties away from zero, and not wrapped
+-- the product of two raw values, rounded half away from zero, and not wrapped
 abbrev pub rounded_product : ℤ → ℤ → ℤ
 rounded_product x y = near (x *ℤ y) 65536
 
--- what `*` and `+` give: the rounded product and the sum, each wrapped to 32 bits
+-- the results of `*` and `+`: the rounded product and the sum, each wrapped to 32 bits
 abbrev pub wrapped_product : ℤ → ℤ → ℤ
 wrapped_product x y = wrap 32 (rounded_product x y)
 
 abbrev pub wrapped_sum : ℤ → ℤ → ℤ
 wrapped_sum x y = wrap 32 (x +ℤ y)
 
--- what `*` gives, as a `Fixed`
+-- the result of `*`, as a `Fixed`
 abbrev pub fixed_product : Fixed → Fixed → Fixed
 fixed_product x y = fixed_of (wrapped_product (fixed_bits x) (fixed_bits y))
 
--- that products associate, as in a ring. Those of `Fixed` do not.
+-- products are associative, as in a ring; those of `Fixed` are not
 abbrev pub ProductsAssociate : Type 0
 ProductsAssociate = (x y z : Fixed) → fixed_product (fixed_product x y) z ≡ fixed_product x (fixed_product y z)
 
--- ---- where no entry and no coordinate leaves 32 bits. Each is an exact sum of rounded products: what happens on the
--- way may wrap.
+-- ---- no overflow of entries and coordinates. Each is an exact sum of rounded products: intermediate sums may wrap.
 
--- both coordinates fit 32 bits
+-- both coordinates fit in 32 bits
 pub record FitsPoint (p : Point ℤ) : Type 0 where
   pub x : FitsBits 32 p.x
   pub y : FitsBits 32 p.y
 
--- no entry of a * b and no coordinate of (a * b) * p leaves 32 bits, each as the exact sum of rounded products
+-- every entry of a * b and every coordinate of (a * b) * p fits in 32 bits, as the exact sum of rounded products
 pub record FitsComposed (a b : Matrix ℤ) (p : Point ℤ) : Type 0 where
   pub product : FitsEach (FitsBits 32) (matrix_product ◌+ℤ◌ rounded_product a b)
   pub image : FitsPoint (image_of ◌+ℤ◌ rounded_product (matrix_product ◌+ℤ◌ rounded_product a b) p)
 
--- no coordinate of b * p and none of a * (b * p) leaves 32 bits, each as the exact sum of rounded products
+-- every coordinate of b * p and of a * (b * p) fits in 32 bits, as the exact sum of rounded products
 pub record FitsInTurn (a b : Matrix ℤ) (p : Point ℤ) : Type 0 where
   pub first : FitsPoint (image_of ◌+ℤ◌ rounded_product b p)
   pub image : FitsPoint (image_of ◌+ℤ◌ rounded_product a (image_of ◌+ℤ◌ rounded_product b p))
 
--- ---- numbers that are not too large, from which the two follow
+-- ---- bounds on the inputs that imply these
 
--- each linear entry is at most m from zero, and each shift at most d
+-- each linear entry has magnitude at most m, and each translation at most d
 pub record IsBounded (m d : ℕ) (a : Matrix ℤ) : Type 0 where
   pub xx : unsigned_abs a.xx ≤ m
   pub yx : unsigned_abs a.yx ≤ m
@@ -73,49 +72,49 @@ pub record IsBounded (m d : ℕ) (a : Matrix ℤ) : Type 0 where
   pub dx : unsigned_abs a.dx ≤ d
   pub dy : unsigned_abs a.dy ≤ d
 
--- each coordinate is at most n from zero
+-- each coordinate has magnitude at most n
 pub record IsBoundedPoint (n : ℕ) (p : Point ℤ) : Type 0 where
   pub x : unsigned_abs p.x ≤ n
   pub y : unsigned_abs p.y ≤ n
 
--- as much as the rounded products of two pairs of numbers come to, of which the first are at most u from zero and the
--- others at most v
+-- a bound on the sum of two rounded products, if the magnitudes of the first factors are at most u and those of the
+-- second at most v
 abbrev pub form_bound : ℕ → ℕ → ℕ
 form_bound u v = 2 * (u * v / 65536 + 1)
 
--- 32 bits have room for what a * b, by bounds of both, makes of a point with coordinates at most n from zero
+-- the bounds imply `FitsComposed` for every point whose coordinates have magnitude at most n
 abbrev pub has_room_composed : ℕ → ℕ → ℕ → ℕ → ℕ → Bool
 has_room_composed m d m' d' n =
     nat_lt (form_bound m m') (2 ^ 31) && nat_lt (form_bound (form_bound m m') n + (form_bound m d' + d)) (2 ^ 31)
 
--- and for what a makes of the point that b moved
+-- the bounds imply `FitsInTurn` for every point whose coordinates have magnitude at most n
 abbrev pub has_room_in_turn : ℕ → ℕ → ℕ → ℕ → ℕ → Bool
 has_room_in_turn m d m' d' n =
     nat_lt (form_bound m' n + d') (2 ^ 31) && nat_lt (form_bound m (form_bound m' n + d') + d) (2 ^ 31)
 
 -- ---- the exact image
 
--- 2^32 times the exact coordinate, in bits, of the point p after b and then the row (u, v, d) of another matrix
+-- 2^32 times the exact coordinate, as a raw value, of the point p after b and then the row (u, v, d) of another matrix
 abbrev pub exact_coordinate : ℤ → ℤ → ℤ → Matrix ℤ → Point ℤ → ℤ
 exact_coordinate u v d b p =
     (u *ℤ ((b.xx *ℤ p.x) +ℤ (b.xy *ℤ p.y) +ℤ (pos 65536 *ℤ b.dx)))
     +ℤ (v *ℤ ((b.yx *ℤ p.x) +ℤ (b.yy *ℤ p.y) +ℤ (pos 65536 *ℤ b.dy)))
     +ℤ (pos (2 ^ 32) *ℤ d)
 
--- 2^32 times the exact image of p, in bits, after b and then a
+-- 2^32 times the exact image of p, as raw values, after b and then a
 abbrev pub exact_image : Matrix ℤ → Matrix ℤ → Point ℤ → Point ℤ
 exact_image a b p = record { x = exact_coordinate a.xx a.xy a.dx b p; y = exact_coordinate a.yx a.yy a.dy b p }
 
--- the coordinate, in bits, is within e / 2^32 of the exact one
+-- the raw coordinate is within e / 2^32 of the exact one
 abbrev pub IsWithin : ℕ → ℤ → ℤ → Type 0
 IsWithin e exact coordinate = unsigned_abs ((pos (2 ^ 32) *ℤ coordinate) -ℤ exact) ≤ e
 
--- how far (a * b) * p may be from the exact image: (|x| + |y|) / 65536 + 2 bits
+-- the bound for (a * b) * p: (|x| + |y|) / 65536 + 2, in units of the raw value
 pub record IsCloseComposed (a b : Matrix ℤ) (p moved : Point ℤ) : Type 0 where
   pub x : IsWithin (65536 * (unsigned_abs p.x + unsigned_abs p.y + 2 * 65536)) (exact_image a b p).x moved.x
   pub y : IsWithin (65536 * (unsigned_abs p.x + unsigned_abs p.y + 2 * 65536)) (exact_image a b p).y moved.y
 
--- how far a * (b * p) may be from it: the magnitudes of the linear entries of a's row, over 65536, and 1 bit
+-- the bound for a * (b * p): the sum of the magnitudes of the linear entries of a's row over 65536, plus 1
 pub record IsCloseInTurn (a b : Matrix ℤ) (p moved : Point ℤ) : Type 0 where
   pub x : IsWithin (65536 * (unsigned_abs a.xx + unsigned_abs a.xy + 65536)) (exact_image a b p).x moved.x
   pub y : IsWithin (65536 * (unsigned_abs a.yx + unsigned_abs a.yy + 65536)) (exact_image a b p).y moved.y

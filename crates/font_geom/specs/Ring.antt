@@ -1,9 +1,9 @@
--- Elements that obey the laws of a ring, the opposite of an element aside. So products of their matrices associate.
+-- Elements that form a ring (without negation), so that products of their matrices are associative.
 pub mod Laws
 use Rattle.std.specs.Prelude.{◌≡◌}
 
--- Sums associate and commute, and `zero` is neutral. Products associate, `one` is neutral on both sides, and `zero`
--- times anything, on either side, is `zero`. Products spread over sums on both sides.
+-- Addition is associative and commutative, with `zero` neutral. Multiplication is associative, with `one` neutral and
+-- `zero` absorbing on both sides, and distributes over addition on both sides.
 pub record RingLaws {T : Type 0} (zero one : T) (plus times : T → T → T) : Type 0 where
   pub sums_associate : (x y z : T) → plus (plus x y) z ≡ plus x (plus y z)
   pub sums_commute : (x y : T) → plus x y ≡ plus y x

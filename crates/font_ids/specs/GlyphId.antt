@@ -1,4 +1,4 @@
--- Glyph identifiers (OpenType: glyphs of a font are numbered from 0; data types uint16 and uint24 hold the numbers).
+-- Glyph ids (OpenType: the glyphs of a font are numbered from 0; ids are stored as uint16 or uint24).
 use Rattle.std.specs.Prelude.{ℕ, List, ◌++◌, codes}
 use Rattle.std.specs.Fmt.{decimal}
 use Rattle.font_base.specs.declared.uint24.Uint24.{Uint24}
@@ -8,21 +8,21 @@ use Rattle.font_ids.specs.declared.glyph_id.GlyphId24.{GlyphId24}
 use Rattle.font_ids.specs.declared.glyph_id.GlyphId.{GlyphId}
 use Rattle.font_ids.specs.declared.glyph_id.TryFromGlyphIdError.{TryFromGlyphIdError}
 
--- the number of a glyph id of 16 bits, and the glyph id of a number
+-- the number of a 16-bit glyph id, and the glyph id with this number
 abbrev pub glyph16_number : GlyphId16 → ℕ
 glyph16_number id = id.0
 
 abbrev pub glyph16_of : ℕ → GlyphId16
 glyph16_of number = record { 0 = number }
 
--- the number of a glyph id of 24 bits, and the glyph id of a number of 24 bits
+-- the number of a 24-bit glyph id, and the glyph id with this number
 abbrev pub glyph24_number : GlyphId24 → ℕ
 glyph24_number id = uint24_number id.0
 
 abbrev pub glyph24_of : Uint24 → GlyphId24
 glyph24_of number = record { 0 = number }
 
--- the number of a glyph id of 32 bits
+-- the number of a 32-bit glyph id
 abbrev pub glyph_number : GlyphId → ℕ
 glyph_number id = id.0
 
@@ -30,6 +30,6 @@ glyph_number id = id.0
 abbrev pub refused_number : TryFromGlyphIdError → ℕ
 refused_number error = error.0
 
--- how a glyph id is printed: `GID_` and its number
+-- the text of a glyph id: `GID_` and its number
 abbrev pub glyph_text : ℕ → List ℕ
 glyph_text number = codes "GID_" ++ decimal number

@@ -1,9 +1,9 @@
--- A scalar or an equality of a type that holds one value of another, cited by the types' own.
+-- The scalar and equality laws of a newtype of a scalar.
 use Rattle.std.proofs.Common.{◌≡◌, ◌∙◌, sym, ap, ℕ, Bool}
 use Rattle.std.specs.Bool.{Decides}
 use Rattle.font_base.specs.Scalar.{ScalarLaws}
 
--- what holds of the value that is held holds of the one that holds it
+-- the laws of the inner type hold for the newtype
 pub newtype_laws : {V T R : Type 0} {is_scalar : V → Bool} {is_raw : R → Bool} {of_raw : R → V} {raw_of : V → R}
     {raw_len byte_len : ℕ}
     (held : T → V) (holder : V → T) → ((v : V) → held (holder v) ≡ v) → ((x : T) → holder (held x) ≡ x)

@@ -8,7 +8,7 @@ use Rattle.font_ids.specs.declared.offset.Offset24.{Offset24}
 use Rattle.font_ids.specs.declared.offset.Offset32.{Offset32}
 use Rattle.font_ids.specs.declared.offset.Nullable.{Nullable}
 
--- the number of bytes that an offset stands for, and the offset of a number
+-- the number of an offset, and the offset with this number
 abbrev pub offset16_number : Offset16 → ℕ
 offset16_number offset = offset.0
 
@@ -27,7 +27,7 @@ offset32_number offset = offset.0
 abbrev pub offset32_of : ℕ → Offset32
 offset32_of number = record { 0 = number }
 
--- the offset that may be null, and one that is given for it
+-- the offset of a `Nullable`, and the `Nullable` of an offset
 abbrev pub nullable_offset : {T : Type 0} → Nullable T → T
 nullable_offset nullable = nullable.0
 

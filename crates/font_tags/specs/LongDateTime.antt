@@ -3,7 +3,7 @@
 use Rattle.std.specs.Prelude.{ℤ}
 use Rattle.font_tags.specs.declared.longdatetime.LongDateTime.{LongDateTime}
 
--- the seconds since 1904, which are negative before it, and the date of these seconds
+-- the seconds since 1904, negative before that, and the date with these seconds
 abbrev pub date_seconds : LongDateTime → ℤ
 date_seconds date = date.0
 

@@ -1,5 +1,5 @@
--- Tags of four bytes. (OpenType, data types: Tag, "Array of four uint8s (length = 32 bits) used to identify a table,
--- design-variation axis, script, language system, feature, or baseline")
+-- Four-byte tags (OpenType, data types: Tag, "Array of four uint8s (length = 32 bits) used to identify a table,
+-- design-variation axis, script, language system, feature, or baseline").
 pub mod Laws
 use Rattle.std.specs.Prelude.{◌≡◌, ◌≢◌, ℕ, ◌+◌, ◌-◌, ◌/◌, ◌%◌, ◌<◌, ◌≤◌, ◌⊎◌, List, [], ◌∷◌, ◌++◌, length, take}
 use Rattle.std.specs.Prelude.{replicate, All, slice_index, nat_le, ◌&&◌, true, if◌then◌else◌, Result, Ok, Err, codes}
@@ -9,25 +9,25 @@ use Rattle.font_tags.specs.declared.tag.Tag.{Tag}
 use Rattle.font_tags.specs.declared.tag.InvalidTag.{InvalidTag}
 use Rattle.font_tags.specs.declared.tag.InvalidTag.TheVariants.{InvalidLength, InvalidByte, ByteAfterSpace}
 
--- the four bytes of a tag, first to last
+-- the four bytes of a tag
 abbrev pub tag_bytes : Tag → List ℕ
 tag_bytes tag = tag.0
 
--- the tag of four bytes
+-- the tag with these bytes
 abbrev pub tag_of : List ℕ → Tag
 tag_of bytes = record { 0 = bytes }
 
--- the tag of four spaces, which stands for no tag
+-- four spaces, which mean no tag
 abbrev pub four_spaces : List ℕ
 four_spaces = replicate 4 0x20
 
--- a byte that shows a character
+-- a printable byte other than the space
 -- (OpenType: the bytes of a tag are printable ASCII characters, from 0x20, the space, to 0x7E)
 abbrev pub IsVisible : ℕ → Type 0
 IsVisible byte = (0x21 ≤ byte) × (byte ≤ 0x7E)
 
--- good bytes, of any number: a nonempty run of visible bytes followed by any number of spaces
--- (OpenType: a tag has one to four printable characters, and trailing spaces fill it)
+-- a valid list of bytes, of any length: one or more visible bytes, followed by any number of spaces
+-- (OpenType: a tag has one to four printable characters, padded with trailing spaces)
 pub record IsGood (bytes : List ℕ) : Type 0 where
   pub run : List ℕ
   pub spaces : ℕ
@@ -35,8 +35,7 @@ pub record IsGood (bytes : List ℕ) : Type 0 where
   pub visible : All IsVisible run
   pub whole : bytes ≡ run ++ replicate spaces 0x20
 
--- where bytes that are not good go wrong: the least index whose byte, with those before it, makes bytes that are not
--- good
+-- the index of the first invalid byte: the least index such that the bytes up to and including it are not valid
 pub record IsFault (bytes : List ℕ) (index : ℕ) : Type 0 where
   pub within : index < length bytes
   pub fails : ¬ IsGood (take (index + 1) bytes)
@@ -46,15 +45,15 @@ pub record IsFault (bytes : List ℕ) (index : ℕ) : Type 0 where
 abbrev pub IsTagLength : ℕ → Type 0
 IsTagLength n = (0 < n) × (n ≤ 4)
 
--- bytes that a tag can be made of
+-- bytes from which a tag can be created
 abbrev pub IsAcceptable : List ℕ → Type 0
 IsAcceptable bytes = IsTagLength (length bytes) × IsGood bytes
 
--- bytes filled to four with spaces
+-- bytes padded to four with spaces
 abbrev pub filled : List ℕ → List ℕ
 filled bytes = bytes ++ replicate (4 - length bytes) 0x20
 
--- what making a tag of bytes answers: the length is judged first, and then the first fault is an invalid byte, whatever
+-- the result of `new_checked`: the length is checked first, and then the first invalid byte is `InvalidByte`, whatever
 -- it is
 abbrev pub IsChecked : List ℕ → Result Tag InvalidTag → Type 0
 IsChecked bytes (Ok tag) = IsAcceptable bytes × (tag_bytes tag ≡ filled bytes)
@@ -63,8 +62,7 @@ IsChecked bytes (Err (InvalidByte index byte)) = IsTagLength (length bytes) × I
     × (byte ≡ slice_index bytes index)
 IsChecked bytes (Err (ByteAfterSpace index)) = ⊥
 
--- what judging the four bytes of a tag answers: four spaces count as a tag of no bytes, and where the first fault is a
--- visible byte, it stands behind a space
+-- the result of `validate`: four spaces have length 0, and if the first invalid byte is visible, it follows a space
 abbrev pub IsValidated : List ℕ → Result (Unit {0}) InvalidTag → Type 0
 IsValidated bytes (Ok _) = IsGood bytes
 IsValidated bytes (Err (InvalidLength n)) = (bytes ≡ four_spaces) × (n ≡ 0)
@@ -72,11 +70,11 @@ IsValidated bytes (Err (InvalidByte index byte)) = (bytes ≢ four_spaces) × Is
     × (byte ≡ slice_index bytes index)
 IsValidated bytes (Err (ByteAfterSpace index)) = IsFault bytes index × IsVisible (slice_index bytes index)
 
--- how a byte is printed: from 0x20 to 0x7E as it is, any other as `{0xNN}` with two capital hexadecimal digits (own)
+-- the text of a byte: 0x20 to 0x7E as it is, any other as `{0xNN}` with two uppercase hexadecimal digits (own)
 abbrev pub byte_text : ℕ → List ℕ
 byte_text byte = if nat_le 0x20 byte && nat_le byte 0x7E then byte ∷ [] else codes "{0x" ++ digit_glyph true (byte / 16)
     ∷ digit_glyph true (byte % 16) ∷ codes "}"
 
--- how a tag is printed
+-- the text of a tag
 abbrev pub tag_text : List ℕ → List ℕ
 tag_text bytes = flat_map byte_text bytes

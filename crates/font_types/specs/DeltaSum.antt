@@ -1,7 +1,7 @@
--- A sum of deltas that is counted term by term.
+-- An accumulator of deltas.
 use Rattle.std.specs.Prelude.{ℤ}
 use Rattle.font_types.specs.declared.delta.DeltaSum.{DeltaSum}
 
--- how many steps of 2^-16 font units it counts
+-- the 16.16 raw value of the sum
 abbrev pub steps_of : DeltaSum → ℤ
 steps_of sum = sum.steps

@@ -1,4 +1,4 @@
--- JSON forms of scalars. All of it is the project's own rule, but for what JSON itself has: texts, numbers and objects.
+-- JSON forms of scalars. The rules are the project's own; strings, numbers and objects are JSON's.
 pub mod Laws
 use Rattle.std.specs.Prelude.{◌≡◌, ℕ, ◌-◌, ◌^◌, ℤ, Bool, IsTrue, ◌&&◌, int_le, if◌then◌else◌, List, Option, Some, None}
 use Rattle.std.specs.Prelude.{option_and_then, is_some, pos, IsUtf8, Result, Ok, Err, codes}
@@ -15,113 +15,112 @@ use Rattle.font_types.specs.declared.json.JsonFault.{JsonFault}
 use Rattle.font_types.specs.declared.json.JsonFault.TheVariants.{Memory, WrongKind, OutOfRange, Syntax, NotUtf8}
 use Rattle.font_types.specs.declared.json.JsonFault.TheVariants.{InvalidTag, MissingMember}
 
--- a JSON form of the values of a type: what is shown of a value is read back
+-- a JSON form of a type, which converts back to the value
 pub record JsonForm (T : Type 0) : Type 1 where
-  -- that this is a value of the type
+  -- it is a value of the type
   pub is_value : T → Bool
-  -- that the data is the form of the value
+  -- the JSON is the form of the value
   pub shows : T → Data → Type 0
-  -- that the value may be refused so
+  -- the conversion of the value may fail so
   pub refuses : T → JsonFault → Type 0
-  -- what the data is read as
+  -- the result of converting the JSON
   pub reads : Data → Result T JsonFault → Type 0
-  -- what the form of a value is read as: the value, but for a tag that is not good
+  -- the result of converting the form of a value back: the value, except for an invalid tag
   pub comes_back : T → Result T JsonFault → Type 0
   pub round_trip : (v : T) (d : Data) (result : Result T JsonFault) → IsTrue (is_value v) → shows v d → reads d result
       → comes_back v result
 
--- ---- whole numbers
+-- ---- integers
 
--- the data is the number
+-- the JSON is the integer
 abbrev pub IsNumber : ℤ → Data → Type 0
 IsNumber z d = d ≡ number (of_integer z)
 
--- the test that a number lies from `min` to `max`
+-- an integer is from `min` to `max` (decidable)
 abbrev pub is_within : ℤ → ℤ → ℤ → Bool
 is_within min max z = int_le min z && int_le z max
 
--- the number, where it lies in that range
+-- the integer if it is in that range
 abbrev pub within_or_fault : ℤ → ℤ → ℤ → Result ℤ JsonFault
 within_or_fault min max z = if is_within min max z then Ok z else Err OutOfRange
 
--- the whole number that there is, in the range; none is the wrong kind
+-- the integer if there is one and it is in range; none is `WrongKind`
 abbrev pub number_or_fault : ℤ → ℤ → Option ℤ → Result ℤ JsonFault
 number_or_fault min max None = Err WrongKind
 number_or_fault min max (Some z) = within_or_fault min max z
 
--- the whole number from `min` to `max` that the data is: data that is no number is the wrong kind, and a number that
--- holds a float is too
+-- the integer from `min` to `max` that the JSON is: anything else, including a float, is `WrongKind`
 abbrev pub number_within : ℤ → ℤ → Data → Result ℤ JsonFault
 number_within min max d = number_or_fault min max (option_and_then as_integer (as_number d))
 
--- what data is read as by a type whose values are the numbers from `min` to `max`
+-- the result of converting JSON to a type whose values are the integers from `min` to `max`
 abbrev pub ReadsWholeNumber : {T : Type 0} → ℤ → ℤ → (T → ℤ) → Data → Result T JsonFault → Type 0
 ReadsWholeNumber min max number_of d result = result_map_both number_of (λ fault. fault) result
     ≡ number_within min max d
 
--- the test of w bits in two's complement
+-- an integer fits in w bits in two's complement (decidable)
 abbrev pub is_within_signed : ℕ → ℤ → Bool
 is_within_signed w z = is_within (least w) (greatest w) z
 
--- the test of w bits without a sign
+-- an integer fits in w unsigned bits (decidable)
 abbrev pub is_unsigned : ℕ → ℕ → Bool
 is_unsigned w n = is_within (pos 0) (pos (2 ^ w - 1)) (pos n)
 
--- ---- decimal texts
+-- ---- decimals
 
--- the same fault of a decimal text
+-- the same error as of a decimal
 abbrev pub json_fault : DecimalFault → JsonFault
 json_fault DecimalFault.Syntax = Syntax
 json_fault DecimalFault.OutOfRange = OutOfRange
 
--- what a text is read as by a type of w bits with f bits of fraction
+-- the result of parsing a string as a w-bit type with f fraction bits
 abbrev pub IsTextRead : ℕ → ℕ → List ℕ → Result ℤ JsonFault → Type 0
 IsTextRead w f text (Ok b) = ReadsAs w f text b
 IsTextRead w f text (Err Syntax) = IsNoDecimal text
 IsTextRead w f text (Err OutOfRange) = IsTooFar w f text
 IsTextRead w f text (Err _) = ⊥
 
--- the same of data that may be a text: any other is the wrong kind
+-- the same if there is a string; otherwise `WrongKind`
 abbrev pub IsDecimalRead : ℕ → ℕ → Option (List ℕ) → Result ℤ JsonFault → Type 0
 IsDecimalRead w f None result = result ≡ Err WrongKind
 IsDecimalRead w f (Some text) result = IsTextRead w f text result
 
--- what data is read as by a type of w bits with f bits of fraction
+-- the result of converting JSON to a w-bit type with f fraction bits
 abbrev pub ReadsDecimal : {T : Type 0} → ℕ → ℕ → (T → ℤ) → Data → Result T JsonFault → Type 0
 ReadsDecimal w f bits_of d result = IsDecimalRead w f (as_str d) (result_map_both bits_of (λ fault. fault) result)
 
 -- ---- tags
 
--- how a tag is refused: where its bytes are no text, or where memory for the text is
+-- how the conversion of a tag may fail: its bytes are not UTF-8, or out of memory
 abbrev pub IsTagRefused : List ℕ → JsonFault → Type 0
 IsTagRefused bytes Memory = IsUtf8 bytes
 IsTagRefused bytes NotUtf8 = ¬ IsUtf8 bytes
 IsTagRefused bytes _ = ⊥
 
--- what a text is read as: a tag where a tag can be made of its bytes
+-- the result of converting a string: the tag, if one can be created from its bytes
 abbrev pub IsTagMade : List ℕ → Result Tag JsonFault → Type 0
 IsTagMade text (Ok tag) = IsAcceptable text × (tag_bytes tag ≡ filled text)
 IsTagMade text (Err InvalidTag) = ¬ IsAcceptable text
 IsTagMade text (Err _) = ⊥
 
--- the same of data that may be a text
+-- the same if there is a string
 abbrev pub IsTagRead : Option (List ℕ) → Result Tag JsonFault → Type 0
 IsTagRead None result = result ≡ Err WrongKind
 IsTagRead (Some text) result = IsTagMade text result
 
--- what the form of a tag is read as: the tag where it is good
+-- the result of converting the form of a tag back: the tag if it is valid
 pub record TagComesBack (tag : Tag) (result : Result Tag JsonFault) : Type 0 where
   pub good : IsGood (tag_bytes tag) → result ≡ Ok tag
   pub other : ¬ IsGood (tag_bytes tag) → result ≡ Err InvalidTag
 
--- ---- versions of two numbers
+-- ---- versions
 
--- the form of two numbers: an object of two members
+-- the form of a version: an object with two members
 abbrev pub version_form : ℕ → ℕ → Data
 version_form major minor = object
     (member (codes "major") (number (unsigned major)) (member (codes "minor") (number (unsigned minor)) no_members))
 
--- the number of 16 bits that a member is
+-- a member that is a 16-bit integer
 abbrev pub member_or_fault : Option Data → Result ℤ JsonFault
 member_or_fault None = Err MissingMember
 member_or_fault (Some d) = number_within (pos 0) (pos 65535) d
@@ -129,18 +128,18 @@ member_or_fault (Some d) = number_within (pos 0) (pos 65535) d
 abbrev pub member_number : List ℕ → Data → Result ℤ JsonFault
 member_number name d = member_or_fault (get name d)
 
--- both numbers, of which the first is judged first
+-- both numbers; an error of the first comes first
 abbrev pub both_numbers : Result ℤ JsonFault → Result ℤ JsonFault → Result (ℤ × ℤ) JsonFault
 both_numbers (Err fault) second = Err fault
 both_numbers (Ok a) (Err fault) = Err fault
 both_numbers (Ok a) (Ok b) = Ok (a, b)
 
--- the two numbers of an object, whose other members do not matter; any other data is the wrong kind
+-- the two numbers of an object, whose other members are ignored; other JSON is `WrongKind`
 abbrev pub version_read : Data → Result (ℤ × ℤ) JsonFault
 version_read d = if is_some (as_object d) then both_numbers (member_number (codes "major") d)
     (member_number (codes "minor") d) else Err WrongKind
 
--- what data is read as by the type of two numbers
+-- the result of converting JSON to a `MajorMinor`
 abbrev pub ReadsVersion : Data → Result MajorMinor JsonFault → Type 0
 ReadsVersion d result = result_map_both {U = ℤ × ℤ} (λ version. (pos version.major, pos version.minor))
     (λ fault. fault) result ≡ version_read d

@@ -1,4 +1,4 @@
--- That fields are equal where their bytes are, and that their order agrees.
+-- Fields are equal if and only if their bytes are, and their order agrees with that.
 use Rattle.std.proofs.Common.{◌≡◌, sym, ◌∙◌, ℕ, List, Bool, nat_eq, IsTrue}
 use Rattle.std.specs.Bool.{Decides}
 use Rattle.std.specs.Cmp.{both_ways}
@@ -13,8 +13,7 @@ use Rattle.font_base.specs.declared.big_endian.BigEndian.{BigEndian}
 use Rattle.font_base.specs.BigEndian.{raw_value}
 use Rattle.std.specs.declared.cmp.Ordering.{Ordering}
 
--- an order of values that agrees with their equality, which joins no two, agrees with the equality of bytes that are
--- those of the values
+-- if `==` of the values is identity, an order that agrees with it also agrees with equality of their bytes
 pub same_answer : {V : Type 0} (R : V → V → Ordering) (E : V → V → Bool) → ((a b : V) → E a b ≡ is_eq (R a b))
     → ((a b : V) → Decides (E a b) (a ≡ b))
     → (a b : V) (xs ys : List ℕ) → (xs ≡ ys → a ≡ b) → (a ≡ b → xs ≡ ys) → pointwise nat_eq xs ys ≡ is_eq (R a b)
@@ -23,7 +22,7 @@ same_answer R E agrees identity a b xs ys to from =
     (λ same. sym (agrees a b) ∙ (identity a b).1 (to ((bytes_decides xs ys).0 same)))
     (λ tied. (bytes_decides xs ys).1 (from ((identity a b).0 (agrees a b ∙ tied))))
 
--- fields of one array are the same
+-- fields with the same raw bytes are the same
 pub same_field : {T R X : Type 0} {scalar : Scalar.Ghosts T X} {size : FixedSize.Ghosts T} {x : BeByteArray.Ghosts X}
     {r : BeByteArray.Ghosts R}
     → (a b : BigEndian T R X scalar size x r) → raw_value a ≡ raw_value b → a ≡ b

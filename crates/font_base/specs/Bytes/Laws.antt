@@ -1,4 +1,4 @@
--- That a number and its bytes determine each other.
+-- An integer and its bytes determine each other.
 use Rattle.std.proofs.Common.{◌≡◌, ◌∙◌, sym, ap, subst, refl, ℕ, zero, suc, ◌+◌, ◌*◌, ◌/◌, ◌%◌, ◌^◌, ◌<◌, Bool, true, ℤ}
 use Rattle.std.proofs.Common.{pos, ◌+ℤ◌, ◌*ℤ◌, List, [], ◌∷◌, length, get_or, fold, arith, IsTrue, nat_lt, ◌==◌, lit<}
 use Rattle.std.proofs.Common.{pow-add, div-add-mod', eq-eqb, eqb-true, lt-ltb, ltb-true}
@@ -16,7 +16,7 @@ use Rattle.font_base.specs.Wrap.Laws.{fits_bits-true, FitsBits-fits_bits, remain
 use Rattle.font_base.specs.Wrap.Laws.{wrap-fits}
 use Rattle.font_base.specs.Bytes.{numeral, are_bytes, IsBytesOf, bytes_of, signed_numeral}
 
--- the step of a numeral
+-- one step of `numeral`
 abbrev push_byte : ℕ → ℕ → ℕ
 push_byte n byte = n * 256 + byte
 
@@ -31,11 +31,11 @@ fold-numeral a (b ∷ bs) =
       ap (λ p. a * p) (pow-suc 256 (length bs)),
     ))
 
--- the first byte counts most
+-- the first byte is the most significant
 pub numeral-cons : (b : ℕ) (bs : List ℕ) → numeral (b ∷ bs) ≡ b * 256 ^ length bs + numeral bs
 numeral-cons b bs = fold-numeral (0 * 256 + b) bs ∙ ap (λ n. n * 256 ^ length bs + numeral bs) (omega arith)
 
--- ---- what the test of bytes says
+-- ---- what `are_bytes` says
 
 abbrev pub is_byte : ℕ → Bool
 is_byte byte = nat_lt byte 256
@@ -53,7 +53,7 @@ are_bytes-length n bs are = eqb-true (length bs) n (first_so (length bs == n) (l
 are_bytes-each : (n : ℕ) (bs : List ℕ) → IsTrue (are_bytes n bs) → list_all is_byte bs ≡ true
 are_bytes-each n bs are = second_so (length bs == n) (list_all is_byte bs) are
 
--- ---- from a number to its bytes and back
+-- ---- from an integer to its bytes and back
 
 length-bytes_high_first : (k n : ℕ) → length (bytes_high_first k n) ≡ k
 length-bytes_high_first zero n = refl
@@ -83,7 +83,7 @@ numeral-bytes_high_first (suc k) n =
     ∙ rw (length-bytes_high_first k n, numeral-bytes_high_first k n, byte_at_is k n)
     (sym (ap (λ d. n % d) (omega (arith, pow-suc 256 k)) ∙ mod-mul n (lit< tt) (some_power k)))
 
--- what counts 256^k or more does not show in the last k bytes
+-- multiples of 256^k do not change the last k bytes
 bytes_high_first-above : (k a m : ℕ) → bytes_high_first k (a * 256 ^ k + m) ≡ bytes_high_first k m
 bytes_high_first-above zero a m = refl
 bytes_high_first-above (suc k) a m =
@@ -117,7 +117,7 @@ bytes_high_first-numeral (b ∷ bs) each =
     rw numeral-cons
     (ap (λ x. x ∷ bytes_high_first (length bs) (b * 256 ^ length bs + numeral bs)) first ∙ ap (λ xs. b ∷ xs) others)
 
--- ---- the bytes of a whole number
+-- ---- the bytes of an integer
 
 pow-256 : (n : ℕ) → 256 ^ n ≡ 2 ^ (8 * n)
 pow-256 zero = refl
@@ -139,7 +139,7 @@ numeral_below n bytes are =
     let many = are_bytes-length n bytes are in
     subst (λ (k : ℕ). numeral bytes < 256 ^ k) many (numeral_of_bytes_below bytes (are_bytes-each n bytes are))
 
--- a number has one list of n bytes
+-- the n bytes of an integer are unique
 pub bytes_unique : (n : ℕ) (v : ℤ) (xs ys : List ℕ) → IsBytesOf n v xs → IsBytesOf n v ys → xs ≡ ys
 bytes_unique n v xs ys p q =
     let x_below = numeral_below n xs p.are in
@@ -153,7 +153,7 @@ bytes_unique n v xs ys p q =
     ∙ ap (λ k. bytes_high_first k (numeral xs)) many ∙ ap (λ m. bytes_high_first (length ys) m) number
     ∙ bytes_high_first-numeral ys (are_bytes-each n ys q.are)
 
--- numbers a multiple of 256^n apart have the same n bytes
+-- integers that differ by a multiple of 256^n have the same n bytes
 pub IsBytesOf-apart : (n : ℕ) (v u turns : ℤ) (bytes : List ℕ) → v ≡ (u +ℤ (turns *ℤ pos (256 ^ n)))
     → IsBytesOf n u bytes → IsBytesOf n v bytes
 IsBytesOf-apart n v u turns bytes apart given = record {
@@ -165,7 +165,7 @@ IsBytesOf-apart n v u turns bytes apart given = record {
 pub IsBytesOf-numeral : (n : ℕ) (bytes : List ℕ) → IsTrue (are_bytes n bytes) → IsBytesOf n (pos (numeral bytes)) bytes
 IsBytesOf-numeral n bytes are = record { are = are; turns = pos 0; differs = omega (arith, ints) }
 
--- the last n bytes that std writes of a number
+-- std's big-endian bytes of an integer are its n bytes
 pub IsBytesOf-high_first : (n m : ℕ) → IsBytesOf n (pos m) (bytes_high_first n m)
 IsBytesOf-high_first n m = record {
   are = are_bytes-high_first n m;
@@ -173,11 +173,11 @@ IsBytesOf-high_first n m = record {
   differs = rw (numeral-bytes_high_first n m) (omega (arith, ints, div-add-mod' m (256 ^ n)));
 }
 
--- what an answer gives is what `bytes_of` gives
+-- `IsBytesOf` implies `bytes_of`
 pub bytes_of_gives : (n : ℕ) (v : ℤ) (bytes : List ℕ) → IsBytesOf n v bytes → bytes ≡ bytes_of n v
 bytes_of_gives n v bytes given = bytes_unique n v bytes (bytes_of n v) given (bytes_of_is n v)
 
--- and the other way
+-- and conversely
 pub bytes_of_are : (n : ℕ) (v : ℤ) (bytes : List ℕ) → bytes ≡ bytes_of n v → IsBytesOf n v bytes
 bytes_of_are n v bytes is = rw is (bytes_of_is n v)
 
@@ -188,7 +188,7 @@ bytes_of-same n v u turns apart =
 pub are_bytes-bytes_of : (n : ℕ) (v : ℤ) → IsTrue (are_bytes n (bytes_of n v))
 are_bytes-bytes_of n v = (bytes_of_is n v).are
 
--- ---- there and back
+-- ---- round trips
 
 pub bytes_of-numeral : (n : ℕ) (bytes : List ℕ) → IsTrue (are_bytes n bytes) → bytes_of n (pos (numeral bytes)) ≡ bytes
 bytes_of-numeral n bytes are = sym (bytes_of_gives n (pos (numeral bytes)) bytes (IsBytesOf-numeral n bytes are))
@@ -217,7 +217,7 @@ pub FitsBits-signed_numeral : (n : ℕ) (bytes : List ℕ) → 0 < n → FitsBit
 unfolding signed_numeral
 FitsBits-signed_numeral n bytes some = (wrap_is (8 * n) (pos (numeral bytes)) (omega arith)).fits
 
--- ---- the laws of a scalar that is a number
+-- ---- the laws of a scalar that is an integer
 
 pub unsigned_value : (n : ℕ) (bytes : List ℕ) → IsTrue (are_bytes n bytes) → IsTrue (nat_lt (numeral bytes) (256 ^ n))
 unsigned_value n bytes are = lt-ltb (numeral bytes) (256 ^ n) (numeral_below n bytes are)

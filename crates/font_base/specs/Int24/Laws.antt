@@ -1,4 +1,4 @@
--- That an `Int24` and its three bytes determine each other.
+-- An `Int24` and its three bytes determine each other.
 use Rattle.std.proofs.Common.{◌≡◌, ◌∙◌, ap, sym, refl, true, ℕ, ℤ, pos, neg_ℤ, ◌≤ℤ◌, ◌<ℤ◌, List, IsTrue, lit<}
 use Rattle.std.specs.Bool.{Decides}
 use Rattle.std.specs.Cmp.{signed_Decides}
@@ -14,7 +14,7 @@ use Rattle.font_base.specs.Bytes.Laws.{bytes_of-signed_numeral}
 use Rattle.font_base.specs.Scalar.{ScalarLaws}
 use Rattle.font_base.specs.Int24.{int24_number, int24_of, int24_of_bytes, bytes_of_int24}
 
--- two of one number are the same value
+-- equal values are the same `Int24`
 pub same_int24 : (m n : Int24) → int24_number m ≡ int24_number n → m ≡ n
 same_int24 m n same =
     let low : (z : ℤ) → IsProp (neg_ℤ (pos 8388608) ≤ℤ z) = λ z. hlevel props in
@@ -52,11 +52,11 @@ int24_laws = record {
   lengths_agree = refl;
 }
 
--- the value whose bytes these are
+-- decoding the bytes of a value gives the value
 pub int24_read : (n : Int24) (bytes : List ℕ) → bytes ≡ bytes_of 3 (int24_number n) → n ≡ int24_of_bytes bytes
 int24_read n bytes given = sym (int24_back n) ∙ ap int24_of_bytes (sym given)
 
--- `==` of the numbers joins no two values
+-- `==` is identity
 pub int24_identity : (m n : Int24) → Decides (int_eq (int24_number m) (int24_number n)) (m ≡ n)
 int24_identity m n =
     let decides = signed_Decides (int24_number m) (int24_number n) in

@@ -1,4 +1,4 @@
--- That a `Uint24` and its three bytes determine each other.
+-- A `Uint24` and its three bytes determine each other.
 use Rattle.std.proofs.Common.{◌≡◌, ◌∙◌, ap, sym, refl, true, ℕ, ◌^◌, ◌<◌, List, IsTrue, nat_eq, pos}
 use Rattle.std.proofs.Math.Nat.{mod-eq_of_lt}
 use Rattle.std.specs.Cmp.{unsigned_Decides}
@@ -11,7 +11,7 @@ use Rattle.font_base.specs.Bytes.Laws.{are_bytes-bytes_of, numeral-bytes_of, num
 use Rattle.font_base.specs.Scalar.{ScalarLaws}
 use Rattle.font_base.specs.Uint24.{uint24_number, uint24_of, uint24_of_bytes, bytes_of_uint24}
 
--- two of one number are the same value
+-- equal values are the same `Uint24`
 pub same_uint24 : (m n : Uint24) → uint24_number m ≡ uint24_number n → m ≡ n
 same_uint24 m n same =
     let prop : (k : ℕ) → IsProp (k < 2 ^ 24) = λ k. hlevel props in
@@ -44,11 +44,11 @@ uint24_laws = record {
   lengths_agree = refl;
 }
 
--- the value whose bytes these are
+-- decoding the bytes of a value gives the value
 pub uint24_read : (n : Uint24) (bytes : List ℕ) → bytes ≡ bytes_of 3 (pos (uint24_number n)) → n ≡ uint24_of_bytes bytes
 uint24_read n bytes given = sym (uint24_back n) ∙ ap uint24_of_bytes (sym given)
 
--- `==` of the numbers joins no two values
+-- `==` is identity
 pub uint24_identity : (m n : Uint24) → Decides (nat_eq (uint24_number m) (uint24_number n)) (m ≡ n)
 uint24_identity m n =
     let decides = unsigned_Decides (uint24_number m) (uint24_number n) in

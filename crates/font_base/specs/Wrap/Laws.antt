@@ -1,4 +1,4 @@
--- That wrapping has one answer, and what wrapping does to sums, opposites and what is wrapped.
+-- Wrapping is unique, and commutes with sums, negation and wrapping to fewer bits.
 use Rattle.std.proofs.Common.{◌≡◌, ◌∙◌, sym, ap, refl, ℕ, zero, suc, ◌+◌, ◌-◌, ◌*◌, ◌/◌, ◌%◌, ◌^◌, ◌<◌, ◌≤◌, ℤ, pos}
 use Rattle.std.proofs.Common.{negsuc, ◌+ℤ◌, ◌*ℤ◌, neg_ℤ, ◌≤ℤ◌, ◌<ℤ◌, true, int_le, int_lt, IsTrue, arith, pow_pos}
 use Rattle.std.proofs.Common.{pow-add, div-add-mod'}
@@ -11,13 +11,13 @@ use borrow.Author.Differences.{ints, up, down}
 use Rattle.font_base.specs.Integers.{sum-times, product-times}
 use Rattle.font_base.specs.Wrap.{half_range, FitsBits, fits_bits, IsWrapped, wrap}
 
--- w bits tell apart twice as many numbers as w - 1 bits
+-- w bits have twice as many values as w - 1 bits
 pub two_halves : (w : ℕ) → 0 < w → 2 ^ w ≡ half_range w + half_range w
 two_halves zero positive = absurd (omega arith)
 two_halves (suc w) positive =
     let less : suc w - 1 ≡ w = omega arith in rw less (omega (arith, pow-suc 2 w))
 
--- a whole number is its remainder and a multiple of the divisor
+-- an integer is its remainder plus a multiple of the divisor
 pub record Remainder (z : ℤ) (d : ℕ) : Type 0 where
   pub rest : ℕ
   pub turns : ℤ
@@ -54,14 +54,14 @@ wrap_is w z positive =
       differs = rw parts.is (omega (arith, ints, parts.parts));
     }
 
--- of two numbers that are turns apart, the one with more turns is at least a whole turn above
+-- of two integers that differ by a multiple of d, the greater is at least d above the other
 turn_above : (d : ℕ) (t u r s : ℤ) → t <ℤ u → (r +ℤ (t *ℤ pos d)) ≡ (s +ℤ (u *ℤ pos d)) → (s +ℤ pos d) ≤ℤ r
 turn_above d t u r s less same =
     let fewer : up t + down u + 1 ≤ up u + down t = omega (arith, ints, less) in
     let scaled : (up t + down u + 1) * d ≤ (up u + down t) * d = mul-le-mul_right d fewer in
     omega (arith, ints, same, scaled, add-mul (up t + down u) 1 d, add-mul (up t) (down u) d, add-mul (up u) (down t) d)
 
--- two numbers less than d apart are equal where they differ by a multiple of d
+-- two integers less than d apart that differ by a multiple of d are equal
 pub same_rest : (d : ℕ) (m n t u : ℤ) → m <ℤ (n +ℤ pos d) → n <ℤ (m +ℤ pos d)
     → (m +ℤ (t *ℤ pos d)) ≡ (n +ℤ (u *ℤ pos d)) → m ≡ n
 same_rest d m n t u near far same =
@@ -72,23 +72,23 @@ same_rest d m n t u near far same =
     (λ fewer. let equal : t ≡ u = omega (arith, ints, more, fewer) in
     omega (arith, ints, same, ap (λ k. k *ℤ pos d) equal)))
 
--- no two numbers of w bits differ by a multiple of 2^w
+-- two different w-bit integers do not differ by a multiple of 2^w
 pub wrap_unique : (w : ℕ) (z r s : ℤ) → 0 < w → IsWrapped w z r → IsWrapped w z s → r ≡ s
 wrap_unique w z r s positive p q =
     let whole = two_halves w positive in
     same_rest (2 ^ w) r s p.turns q.turns (omega (arith, ints, whole)) (omega (arith, ints, whole))
     (sym p.differs ∙ q.differs)
 
--- what an answer gives is what `wrap` gives
+-- `IsWrapped` implies `wrap`
 pub wrap_gives : (w : ℕ) (z r : ℤ) → 0 < w → IsWrapped w z r → r ≡ wrap w z
 wrap_gives w z r positive given = wrap_unique w z r (wrap w z) positive given (wrap_is w z positive)
 
--- a number that fits is left as it is
+-- an integer that fits is unchanged
 pub wrap-fits : (w : ℕ) (z : ℤ) → 0 < w → FitsBits w z → wrap w z ≡ z
 wrap-fits w z positive fits =
     sym (wrap_gives w z z positive (record { fits = fits; turns = pos 0; differs = omega (arith, ints) }))
 
--- numbers a multiple of 2^w apart wrap to the same
+-- integers that differ by a multiple of 2^w wrap to the same integer
 pub wrap_same : (w : ℕ) (y z : ℤ) (turns : ℤ) → 0 < w → y ≡ (z +ℤ (turns *ℤ pos (2 ^ w))) → wrap w y ≡ wrap w z
 wrap_same w y z turns positive apart =
     let given = wrap_is w z positive in
@@ -98,7 +98,7 @@ wrap_same w y z turns positive apart =
       differs = omega (arith, ints, apart, given.differs, sum-times given.turns turns (pos (2 ^ w)));
     }))
 
--- ---- a part of what is wrapped may be wrapped first
+-- ---- operands may be wrapped first
 
 pub wrap-add_left : (w : ℕ) (a b : ℤ) → 0 < w → wrap w (wrap w a +ℤ b) ≡ wrap w (a +ℤ b)
 wrap-add_left w a b some =
@@ -115,7 +115,7 @@ wrap-neg w z some =
     let given = wrap_is w z some in
     wrap_same w (neg_ℤ (wrap w z)) (neg_ℤ z) given.turns some (omega (arith, ints, given.differs))
 
--- of v bits that are kept, fewer are kept
+-- wrapping to v bits and then to fewer is wrapping to fewer
 pub wrap-wrap : (u v : ℕ) (z : ℤ) → 0 < u → u ≤ v → wrap u (wrap v z) ≡ wrap u z
 wrap-wrap u v z some less =
     let given = wrap_is v z (omega (arith, some, less)) in
@@ -125,7 +125,7 @@ wrap-wrap u v z some less =
     (given.differs ∙ ap (λ y. wrap v z +ℤ y) (ap (λ n. given.turns *ℤ pos n) power
     ∙ sym (product-times given.turns (pos (2 ^ (v - u))) (pos (2 ^ u))))))
 
--- ---- the test of a range and the range
+-- ---- the decidable form
 
 pub fits_bits-true : (w : ℕ) (z : ℤ) → IsTrue (fits_bits w z) → FitsBits w z
 fits_bits-true w z test =

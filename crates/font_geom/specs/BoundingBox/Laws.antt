@@ -1,5 +1,4 @@
--- The laws of an order that is given by a test `le` alone, in which not all values need to compare: what an element of
--- a box has to show.
+-- The laws of a partial order that is given by a test `le`: what an element type of a box has to prove.
 use Rattle.std.proofs.Common.{◌≡◌, ◌∙◌, ap, refl, ℕ, nat_le, arith, Bool, true, false, ◌&&◌, Option, Some, None}
 use Rattle.std.proofs.lemmas.Bool.Decides.{nat_tests}
 use Rattle.std.specs.Bool.{Decides}
@@ -10,7 +9,7 @@ use Rattle.std.specs.Ordering.{ordering_reverse}
 use Rattle.std.specs.declared.cmp.Ordering.{Ordering}
 use Rattle.std.specs.declared.cmp.Ordering.TheVariants.{Less, Equal, Greater}
 
--- what the two tests of a pair of values say
+-- the order of two values, from the tests both ways
 abbrev pub answer_of : Bool → Bool → Option Ordering
 answer_of true true = Some Equal
 answer_of true false = Some Less
@@ -29,7 +28,7 @@ answers_equal true false = (λ e. cc, λ e. cc)
 answers_equal false true = (λ e. cc, λ e. cc)
 answers_equal false false = (λ e. cc, λ e. cc)
 
--- an answer `Less`
+-- the order `Less`
 is_less : (s t : Bool) → answer_of s t ≡ Some Less → (s ≡ true) × (t ≡ false)
 is_less true true e = cc
 is_less true false e = (refl, refl)
@@ -49,7 +48,7 @@ swapped false false = refl
 nat_le_chains : (a b c : ℕ) → nat_le a b ≡ true → nat_le b c ≡ true → nat_le a c ≡ true
 nat_le_chains a b c p q = grind (arith, nat_tests)
 
--- pairs of numbers, coordinate by coordinate
+-- pairs of numbers, ordered coordinate by coordinate
 pub coordinates_chain : (a b c d e f : ℕ) → (nat_le a b && nat_le d e) ≡ true → (nat_le b c && nat_le e f) ≡ true
     → (nat_le a c && nat_le d f) ≡ true
 coordinates_chain a b c d e f p q = both_true
@@ -57,7 +56,7 @@ coordinates_chain a b c d e f p q = both_true
     (nat_le_chains d e f (second_so (nat_le a b) (nat_le d e) p) (second_so (nat_le b c) (nat_le e f) q))
 
 module _ {K : Type 0} (le : K → K → Bool) where
-  -- what `==` and `partial_cmp` answer
+  -- the results of `==` and `partial_cmp`
   abbrev pub is_tied : K → K → Bool
   is_tied x y = le x y && le y x
 

@@ -1,16 +1,16 @@
--- Products of `Fixed` are rounded, and do not associate.
+-- Products of `Fixed` are rounded, and so not associative.
 use Rattle.std.proofs.Common.{◌≡◌, ◌∙◌, sym, ap, pos, refl}
 use Rattle.font_base.specs.Wrap.{wrap}
 use Rattle.font_decimal.specs.Near.{near}
 use Rattle.font_fixed.specs.Fixed.{fixed_bits, fixed_of}
 use Rattle.font_geom.specs.FixedMatrix.{wrapped_product, ProductsAssociate}
 
--- half a step is rounded away from zero, so that two halves leave a step as it is
+-- half a unit rounds away from zero, so multiplying one unit by one half twice leaves it unchanged
 pub step_halved_twice : wrapped_product (wrapped_product (pos 1) (pos 0x8000)) (pos 0x8000) ≡ pos 1
 unfolding near wrap
 step_halved_twice = refl
 
--- and a quarter of a step is none
+-- and a quarter of a unit rounds to zero
 pub step_quartered : wrapped_product (pos 1) (wrapped_product (pos 0x8000) (pos 0x8000)) ≡ pos 0
 unfolding near wrap
 step_quartered = refl

@@ -1,4 +1,4 @@
--- Whole numbers below n are a ring where sums and products are taken modulo n: what an element that wraps has to show.
+-- The integers modulo n form a ring: what an element type that wraps has to prove.
 use Rattle.std.proofs.Common.{◌≡◌, ◌∙◌, sym, ap, ℕ, ◌+◌, ◌*◌, ◌%◌, ◌<◌, arith}
 use Rattle.std.proofs.Math.Nat.{mod-eq_of_lt, mod-add-mod, add-mod-mod, mul_assoc, mul-add, add-mul}
 use Rattle.std.proofs.lemmas.Nat.{mul-mod_first, mul-mod_second}
@@ -6,14 +6,14 @@ use mathlib.Core.HLevel.{is_prop→PathP}
 use denote.Struct.Props.{props}
 use Rattle.font_geom.specs.Ring.{RingLaws}
 
--- values that are made of a number below n, and of nothing else, are the same where their numbers are
+-- values that consist of a number below n are the same if their numbers are
 pub same_made : {T : Type 0} {n : ℕ} (make : (k : ℕ) → k < n → T) {j k : ℕ} (p : j < n) (q : k < n) → j ≡ k
     → make j p ≡ make k q
 same_made {n = n} make p q same =
     let prop : (k : ℕ) → IsProp (k < n) = λ k. hlevel props in
     λ i. make (same i) (is_prop→PathP (λ j. same j < n) (λ j. prop (same j)) p q i)
 
--- the sums and products of values, by their numbers
+-- sums and products of values are those of their numbers, modulo n
 pub record IsModular {T : Type 0} (n : ℕ) (number : T → ℕ) (zero one : T) (plus times : T → T → T) : Type 0 where
   pub below : (x : T) → number x < n
   pub same : (x y : T) → number x ≡ number y → x ≡ y
@@ -24,7 +24,7 @@ pub record IsModular {T : Type 0} (n : ℕ) (number : T → ℕ) (zero one : T) 
 
 module _ {T : Type 0} {n : ℕ} {number : T → ℕ} {zero one : T} {plus times : T → T → T}
     (it : IsModular n number zero one plus times) where
-  -- of a sum or a product, another one
+  -- a sum of sums, and a product of products
   plus_sum : (x y z : T) → number (plus (plus x y) z) ≡ (number x + number y + number z) % n
   plus_sum x y z = it.number-plus (plus x y) z ∙ ap (λ k. (k + number z) % n) (it.number-plus x y) ∙ mod-add-mod
       (number x + number y) n (number z)
@@ -58,7 +58,7 @@ module _ {T : Type 0} {n : ℕ} {number : T → ℕ} {zero one : T} {plus times 
       ∙ ap (λ m. (number j * number k + m) % n) (it.number-times a b) ∙ add-mod-mod (number j * number k)
       (number a * number b) n
 
-  -- what is left of a number that is below n
+  -- a number below n is its own remainder
   kept : (x : T) (k : ℕ) → k ≡ number x → k % n ≡ number x
   kept x k is = let below = it.below x in mod-eq_of_lt (omega arith) ∙ is
 

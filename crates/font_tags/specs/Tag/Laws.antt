@@ -1,4 +1,4 @@
--- That equality joins no two tags.
+-- `==` of tags is identity.
 use Rattle.std.proofs.Common.{◌≡◌, ap, nat_eq}
 use Rattle.std.specs.Bool.{Decides}
 use Rattle.std.specs.Cmp.Lexicographic.{pointwise, bytes_decides}

@@ -1,4 +1,4 @@
--- That a pair of numbers and its four bytes determine each other, and that equality joins no two pairs.
+-- A version and its four bytes determine each other, and `==` is identity.
 use Rattle.std.proofs.Common.{◌≡◌, ◌∙◌, sym, ap, refl, ℕ, ◌^◌, ◌+◌, true, ◌&&◌, ◌==◌, nat_eq, nat_lt, pos, List, ◌++◌}
 use Rattle.std.proofs.Common.{IsTrue, take, drop, length, arith, eq-eqb, length-append, length-take-le, length-drop}
 use Rattle.std.proofs.Common.{take-append-drop, take_at, drop_at}
@@ -14,7 +14,7 @@ use Rattle.font_base.specs.Scalar.{ScalarLaws}
 use Rattle.font_tags.specs.declared.version.MajorMinor.{MajorMinor}
 use Rattle.font_tags.specs.Version.{major_minor_bytes, major_minor_of}
 
--- bytes behind bytes
+-- bytes followed by bytes
 are_bytes-append : (n m : ℕ) (xs ys : List ℕ) → IsTrue (are_bytes n xs) → IsTrue (are_bytes m ys)
     → IsTrue (are_bytes (n + m) (xs ++ ys))
 are_bytes-append n m xs ys first second =

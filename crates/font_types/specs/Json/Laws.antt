@@ -1,4 +1,4 @@
--- That what is shown as JSON is read back.
+-- JSON forms convert back.
 use Rattle.std.proofs.Common.{◌≡◌, ◌∙◌, sym, ap, refl, negsuc, ℕ, ◌-◌, ◌^◌, ◌≤◌, ℤ, pos, List, ◌++◌, length, replicate}
 use Rattle.std.proofs.Common.{true, nat_lt, IsUtf8, IsTrue, Result, Ok, Err, ◌&&◌, int_le, arith, ltb-true, append-nil}
 use Rattle.std.proofs.lemmas.Int.{ints}
@@ -25,7 +25,7 @@ use Rattle.font_tags.specs.declared.tag.Tag.{Tag}
 use Rattle.font_tags.specs.declared.version.MajorMinor.{MajorMinor}
 use Rattle.font_tags.specs.Tag.{tag_bytes, tag_of, filled}
 
--- a printed number is read as itself
+-- a printed value parses back
 text_reads_back : (w f : ℕ) (text : List ℕ) (b : ℤ) (result : Result ℤ JsonFault) → ReadsAs w f text b
     → IsTextRead w f text result → result ≡ Ok b
 text_reads_back w f text b (Ok c) reads read = ap Ok (rounds_unique text f c b read.rounds reads.rounds)
@@ -38,7 +38,7 @@ text_reads_back w f text b (Err NotUtf8) reads read = absurd read
 text_reads_back w f text b (Err InvalidTag) reads read = absurd read
 text_reads_back w f text b (Err MissingMember) reads read = absurd read
 
--- a value whose bits are read is read
+-- parsing the raw value gives the value
 same_read : {T : Type 0} (bits_of : T → ℤ) (of_bits : ℤ → T) → ((x : T) → of_bits (bits_of x) ≡ x)
     → (x : T) (result : Result T JsonFault)
     → result_map_both bits_of (λ fault. fault) result ≡ Ok (bits_of x) → result ≡ Ok x
@@ -71,15 +71,15 @@ fixed_form w f bits_of of_bits back room = record {
   round_trip = fixed_round_trip w f bits_of of_bits back room;
 }
 
--- ---- whole numbers
+-- ---- integers
 
--- a number in the range is read as itself
+-- an integer in range converts back
 number_reads_back : (min max z : ℤ) → IsTrue (is_within min max z) → number_within min max (number (of_integer z))
     ≡ Ok z
 number_reads_back min max (pos n) within = rw within refl
 number_reads_back min max (negsuc n) within = rw within refl
 
--- a value whose number determines it
+-- a value that is determined by its integer
 pub number_round_trip : {T : Type 0} (number_of : T → ℤ) → ((x y : T) → number_of x ≡ number_of y → x ≡ y)
     → (min max : ℤ) (x : T) (d : Data) (result : Result T JsonFault)
     → IsTrue (is_within min max (number_of x)) → IsNumber (number_of x) d → ReadsWholeNumber min max number_of d result
@@ -105,7 +105,7 @@ number_form min max number_of same = record {
   round_trip = number_round_trip number_of same min max;
 }
 
--- that of a type of all numbers of w bits in two's complement, and of all of w bits without a sign
+-- the forms of w-bit signed and unsigned integers
 abbrev pub signed_form : {T : Type 0} (w : ℕ) (number_of : T → ℤ) → ((x y : T) → number_of x ≡ number_of y → x ≡ y)
     → JsonForm T
 signed_form w = number_form (least w) (greatest w)
@@ -121,7 +121,7 @@ unsigned_form w number_of same = number_form (pos 0) (pos (2 ^ w - 1)) (λ x. po
 
 -- ---- tags
 
--- four bytes need no filling
+-- four bytes need no padding
 unfilled : (bytes : List ℕ) → length bytes ≡ 4 → filled bytes ≡ bytes
 unfilled bytes many = let none : 4 - length bytes ≡ 0 = omega (arith, many) in ap (λ n. bytes ++ replicate n 0x20) none
     ∙ append-nil bytes
@@ -161,7 +161,7 @@ tag_form = record {
   round_trip = tag_round_trip;
 }
 
--- ---- versions of two numbers
+-- ---- versions
 
 sixteen_bits : (n : ℕ) → IsTrue (nat_lt n (2 ^ 16)) → IsTrue (int_le (pos 0) (pos n) && int_le (pos n) (pos 65535))
 sixteen_bits n test =
