@@ -1,11 +1,14 @@
 -- What an array of elements is made of, and where a search in it ends.
-use Rattle.std.proofs.Common.{◌≡◌, ◌∙◌, sym, ap, refl, subst, ℕ, zero, suc, ◌+◌, ◌-◌, ◌*◌, ◌/◌, ◌%◌, ◌<◌, ◌≤◌, Bool}
-use Rattle.std.proofs.Common.{List, [], ◌∷◌, ◌++◌, length, take, drop, arith, inl, inr}
+use Rattle.std.proofs.Common.{◌≡◌, ◌≢◌, ◌∙◌, sym, ap, refl, subst, ℕ, zero, suc}
+use Rattle.std.proofs.Common.{◌+◌, ◌-◌, ◌*◌, ◌/◌, ◌%◌, ◌<◌, ◌≤◌}
+use Rattle.std.proofs.Common.{Bool, true, false, if◌then◌else◌, IsFalse, List, [], ◌∷◌, ◌++◌, length, take, drop}
+use Rattle.std.proofs.Common.{arith, rules, inl, inr}
+use Rattle.std.specs.Int.{from_bool}
 use Rattle.std.proofs.Math.Nat.{div-zero, div-eq-sub-div, div-eq_of_lt, div-mul-le_self, mul-div_cancel, mul-mod_left}
 use Rattle.std.proofs.Math.Nat.{mod-eq-sub-div-mul, add-mul}
 use Rattle.std.proofs.lemmas.Bool.{cases_lt}
 use Rattle.std.proofs.lemmas.List.{length-drop, length-take-le, drop-drop, drop-take, take-take, take_all}
-use Rattle.std.specs.Ordering.{ordering_index}
+use Rattle.std.specs.Ordering.{ordering_index, is_gt, is_eq, is_lt}
 use Rattle.std.specs.declared.cmp.Ordering.{Ordering}
 use Rattle.std.specs.declared.cmp.Ordering.TheVariants.{Less, Equal, Greater}
 use Rattle.font_base.specs.Elements.{element, elements, IsStored, Rises, Splits}
@@ -126,34 +129,85 @@ high_greater Less high = absurd (omega arith)
 high_greater Equal high = absurd (omega arith)
 high_greater Greater high = refl
 
+-- What the loop of a search keeps of the elements from `low` up to `high`, where the answers do not fall: the first of
+-- them is the first of all or no `Greater`, and all behind them are `Greater`.
+pub record Narrows {V : Type 0} (is_scalar : V → Bool) (stored : V → List ℕ) (answer : V → Ordering)
+    (at : ℕ → List ℕ) (n low high : ℕ) : Type 0 where
+  pub first : (v : V) → 0 < low → IsStored is_scalar stored (at low) v → answer v ≢ Greater
+  pub greater : (k : ℕ) (v : V) → high ≤ k → k < n → IsStored is_scalar stored (at k) v → answer v ≡ Greater
+
+less_no_greater : Less ≢ Greater
+less_no_greater same =
+    let index : ordering_index Less ≡ ordering_index Greater = ap ordering_index same in omega (arith, index)
+
+equal_no_greater : Equal ≢ Greater
+equal_no_greater same =
+    let index : ordering_index Equal ≡ ordering_index Greater = ap ordering_index same in omega (arith, index)
+
 module _ {V : Type 0} (is_scalar : V → Bool) (stored : V → List ℕ) (answer : V → Ordering) (at : ℕ → List ℕ)
     (n : ℕ) where
-  -- at first nothing is known
-  pub splits_nowhere : Splits is_scalar stored answer at n 0 n
-  splits_nowhere = record {
-    less = λ k v before _. absurd (omega arith);
-    greater = λ k v from within _. absurd (omega arith);
+  -- behind an element that is greater all are
+  greater_behind : (middle : ℕ) (w : V) → IsStored is_scalar stored (at middle) w → answer w ≡ Greater
+      → Rises is_scalar stored answer at n → (k : ℕ) (v : V) → middle ≤ k → k < n
+      → IsStored is_scalar stored (at k) v → answer v ≡ Greater
+  greater_behind middle w is greater rises k v from within is_v = high_greater (answer v)
+      (subst (λ o. ordering_index o ≤ ordering_index (answer v)) greater
+      (rises.keeps middle k w v from within is is_v))
+
+  -- what is left after a look at the element `half` behind the first: what is behind that is greater, or it is the first
+  narrows_up : (low high middle : ℕ) (w : V) → middle < n → IsStored is_scalar stored (at middle) w
+      → answer w ≢ Greater → Rises is_scalar stored answer at n → Narrows is_scalar stored answer at n low high
+      → Narrows is_scalar stored answer at n middle high
+  narrows_up low high middle w within is not_greater rises left = record {
+    first = λ v _ is_v greater.
+        not_greater (greater_behind middle v is_v greater rises middle w (omega arith) within is);
+    greater = left.greater;
   }
 
-  -- an element that is less has all in front of it less
-  pub splits_behind : (low high middle : ℕ) (w : V) → middle < n → IsStored is_scalar stored (at middle) w
-      → answer w ≡ Less → Rises is_scalar stored answer at n → Splits is_scalar stored answer at n low high
-      → Splits is_scalar stored answer at n (middle + 1) high
-  splits_behind low high middle w within is less rises place = record {
-    less = λ k v before stored_v. low_less (answer v) (subst (λ o. ordering_index (answer v) ≤ ordering_index o) less
-        (rises.keeps k middle v w (omega arith) within stored_v is));
-    greater = place.greater;
+  narrows_down : (low high middle end : ℕ) (w : V) → middle ≤ end → IsStored is_scalar stored (at middle) w
+      → answer w ≡ Greater → Rises is_scalar stored answer at n → Narrows is_scalar stored answer at n low high
+      → Narrows is_scalar stored answer at n low end
+  narrows_down low high middle end w before is greater rises left = record {
+    first = left.first;
+    greater = λ k v from. greater_behind middle w is greater rises k v (omega arith);
   }
 
-  -- and one that is greater has all behind it greater
-  pub splits_before : (low high middle : ℕ) (w : V) → middle < n → IsStored is_scalar stored (at middle) w
-      → answer w ≡ Greater → Rises is_scalar stored answer at n → Splits is_scalar stored answer at n low high
-      → Splits is_scalar stored answer at n low middle
-  splits_before low high middle w within is greater rises place = record {
-    less = place.less;
-    greater = λ k v from inside stored_v. high_greater (answer v)
-        (subst (λ o. ordering_index o ≤ ordering_index (answer v)) greater
-        (rises.keeps middle k w v from inside is stored_v));
-  }
+  pub narrows_half : (o : Ordering) (low size half next : ℕ) (w : V) → half ≤ size - half → low + size ≤ n
+      → low + half < n → next ≡ (if is_gt o then low else low + half) → answer w ≡ o
+      → IsStored is_scalar stored (at (low + half)) w → Rises is_scalar stored answer at n
+      → Narrows is_scalar stored answer at n low (low + size)
+      → Narrows is_scalar stored answer at n next (next + (size - half))
+  narrows_half Less low size half next w halved fits within chosen is_less is rises left =
+      let end : next + (size - half) ≡ low + size = omega (arith, chosen) in
+      rw (end, chosen) (narrows_up low (low + size) (low + half) w within is
+      (λ greater. less_no_greater (sym is_less ∙ greater)) rises left)
+  narrows_half Equal low size half next w halved fits within chosen is_equal is rises left =
+      let end : next + (size - half) ≡ low + size = omega (arith, chosen) in
+      rw (end, chosen) (narrows_up low (low + size) (low + half) w within is
+      (λ greater. equal_no_greater (sym is_equal ∙ greater)) rises left)
+  narrows_half Greater low size half next w halved fits within chosen is_greater is rises left =
+      rw chosen (narrows_down low (low + size) (low + half) (low + (size - half)) w (omega arith) is is_greater rises
+      left)
 
-pub ruleset search_rules = (splits_nowhere, splits_behind, splits_before)
+  -- where one element is left, and it is not equal, its answer says where the array is split
+  pub splits_at_one : (o : Ordering) (low high place : ℕ) (w : V) → high ≤ low + 1 → low < n → IsFalse (is_eq o)
+      → place ≡ low + from_bool (is_lt o) → answer w ≡ o → IsStored is_scalar stored (at low) w
+      → Rises is_scalar stored answer at n → Narrows is_scalar stored answer at n low high
+      → Splits is_scalar stored answer at n place place
+  splits_at_one Less low high place w one within other here is_less is rises left = rw here (record {
+    less = λ k v before is_v. low_less (answer v) (subst (λ o. ordering_index (answer v) ≤ ordering_index o) is_less
+        (rises.keeps k low v w (omega arith) within is_v is));
+    greater = λ k v from. left.greater k v (omega arith);
+  })
+  splits_at_one Equal low high place w one within other here is_equal is rises left = absurd (search (rules, other))
+  splits_at_one Greater low high place w one within other here is_greater is rises left =
+      let end : place ≡ low = omega (arith, here) in rw end (record {
+        less = λ k v before _. absurd (left.first w (omega arith) is is_greater);
+        greater = greater_behind low w is is_greater rises;
+      })
+
+-- the place that a step of the search keeps, and what is left from there on, are in the array
+pub half_fits : (greater : Bool) (low size half next n : ℕ) → next ≡ (if greater then low else low + half)
+    → half ≤ size → low + size ≤ n → next + (size - half) ≤ n
+half_fits true low size half next n chosen some fits = omega (arith, chosen)
+half_fits false low size half next n chosen some fits = omega (arith, chosen)

@@ -1,12 +1,13 @@
 //! Borrowed arrays of big-endian scalars.
 
-ghost use Rattle.std.specs.Prelude.{◌≡◌, ⊤, ◌↔◌, ◌*◌, ◌%◌, ◌<◌, IsTrue, IsSome, IfSome, length};
+ghost use Rattle.std.specs.Prelude.{◌≡◌, ⊤, ◌↔◌, ◌-◌, ◌*◌, ◌%◌, ◌<◌, ◌≤◌, IsTrue, IsSome, IfSome};
+ghost use Rattle.std.specs.Prelude.{IfOk, IfErr, length};
 ghost use Rattle.std.specs.Iterator.{YieldsFirstBy, YieldsLastBy, item_count};
 ghost use Rattle.font_base.specs.Scalar.{IsValueOf};
 
 use crate::raw::Scalar;
 use std::alloc::AllocError;
-use std::cmp::Ordering;
+use std::hint::{assert_unchecked, select_unpredictable};
 use std::iter::FusedIterator;
 use std::marker::PhantomData;
 
@@ -95,7 +96,36 @@ impl<'a, T: Scalar> ScalarArray<'a, T> {
             return None;
         }
         let start = index * T::RAW_BYTE_LEN;
-        T::read(&self.data[start..start + T::RAW_BYTE_LEN])
+        let end = start + T::RAW_BYTE_LEN;
+        // SAFETY: `data` holds `len()` elements, and `index` is less than that.
+        unsafe { assert_unchecked(end <= self.data.len()) };
+        T::read(&self.data[start..end])
+    }
+
+    /// Returns the first element, or `None` if there is none.
+    #[must_use]
+    pub fn first(&self) -> Option<T>
+        ensures end { IsSome result ↔ (0 < array_len self.now) }
+        ensures stored { IfSome result (λ v.
+            T.Raw.bytes (T.raw_of v) ≡ element_bytes self.now 0) }
+        ensures reads { IfSome result (λ v.
+            IsValueOf T.Raw.bytes T.of_raw (element_bytes self.now 0) v) }
+        ensures value { IfSome result (λ v. IsTrue (T.is_scalar v)) }
+    {
+        self.get(0)
+    }
+
+    /// Returns the last element, or `None` if there is none.
+    #[must_use]
+    pub fn last(&self) -> Option<T>
+        ensures end { IsSome result ↔ (0 < array_len self.now) }
+        ensures stored { IfSome result (λ v.
+            T.Raw.bytes (T.raw_of v) ≡ element_bytes self.now (array_len self.now - 1)) }
+        ensures reads { IfSome result (λ v. IsValueOf T.Raw.bytes T.of_raw
+            (element_bytes self.now (array_len self.now - 1)) v) }
+        ensures value { IfSome result (λ v. IsTrue (T.is_scalar v)) }
+    {
+        self.get(self.len().checked_sub(1)?)
     }
 
     /// Returns an iterator over the elements, from either end.
@@ -125,7 +155,7 @@ impl<'a, T: Scalar> Clone for ScalarArray<'a, T> {
 impl<'a, T: Scalar> Copy for ScalarArray<'a, T> {}
 
 impl<'a, T: Scalar> ScalarArray<'a, T> {
-    ghost use Rattle.font_base.specs.Array.{IsSearched};
+    ghost use Rattle.font_base.specs.Array.{array_len, IsSearched};
 
     /// Searches an array that is sorted by a key, and returns the index of an element with that
     /// key. If there are several, any of them may be returned.
@@ -133,30 +163,38 @@ impl<'a, T: Scalar> ScalarArray<'a, T> {
     /// # Errors
     ///
     /// If there is none, returns the index at which it could be inserted.
-    #[tactic(auto, using(crate::proofs::Elements::search_rules))]
     pub fn binary_search_by_key<K: Ord + Copy, F: Fn(T) -> K>(
         &self,
         key: &K,
         key_of: F,
     ) -> Result<usize, usize>
         requires { F.IsAlwaysCallable key_of }
-        ensures { (of : T → K) → ((v : T) (k : K) → F.post key_of v k → k ≡ of v)
+        ensures found { IfOk result (λ i. i < array_len self.now) }
+        ensures absent { IfErr result (λ i. i ≤ array_len self.now) }
+        ensures place { (of : T → K) → ((v : T) (k : K) → F.post key_of v k → k ≡ of v)
             → IsSearched self.now (λ v. K.cmp (of v) key.now) result }
     {
-        let mut low = 0;
-        let mut high = self.len();
-        while low < high {
-            let middle = low + (high - low) / 2;
+        // As in std: a number of steps that the length alone decides, and no branch on an element.
+        let mut base = 0;
+        let mut size = self.len();
+        while size > 1 {
+            let half = size / 2;
+            let middle = base + half;
             let Some(value) = self.get(middle) else {
-                return Err(low);
+                return Err(base);
             };
-            match key_of(value).cmp(key) {
-                Ordering::Less => low = middle + 1,
-                Ordering::Greater => high = middle,
-                Ordering::Equal => return Ok(middle),
-            }
+            let is_greater = key_of(value).cmp(key).is_gt();
+            base = select_unpredictable(is_greater, base, middle);
+            size -= half;
         }
-        Err(low)
+        let Some(value) = self.get(base) else {
+            return Err(base);
+        };
+        let order = key_of(value).cmp(key);
+        if order.is_eq() {
+            return Ok(base);
+        }
+        Err(base + usize::from(order.is_lt()))
     }
 
     /// Searches a sorted array, and returns the index of an element equal to `key`. If there are
@@ -203,7 +241,9 @@ impl<'a, T: Scalar> Iterator for ScalarArrayIter<'a, T> {
     }
 
     #[tactic(auto, using(crate::proofs::Elements::element_rules))]
-    fn size_hint(&self) -> (usize, Option<usize>) {
+    fn size_hint(&self) -> (usize, Option<usize>)
+        ensures exact { let left = length (elements_left self.now) in result ≡ (left, Some left) }
+    {
         let left = self.rest.len();
         (left, Some(left))
     }
@@ -255,6 +295,20 @@ impl<'a, T: Scalar> IntoIterator for ScalarArray<'a, T> {
     type IntoIter = ScalarArrayIter<'a, T>;
 
     ghost into_iter_gives = { λ array iter. elements_left iter ≡ array_elements array };
+
+    fn into_iter(self) -> ScalarArrayIter<'a, T> {
+        self.iter()
+    }
+}
+
+impl<'a, T: Scalar> IntoIterator for &ScalarArray<'a, T> {
+    ghost use Rattle.font_base.specs.Array.{array_elements, elements_left};
+
+    type Item = T;
+
+    type IntoIter = ScalarArrayIter<'a, T>;
+
+    ghost into_iter_gives = { λ array iter. elements_left iter ≡ array_elements array.now };
 
     fn into_iter(self) -> ScalarArrayIter<'a, T> {
         self.iter()

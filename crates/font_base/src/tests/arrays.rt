@@ -25,6 +25,9 @@ fn empty_without_elements(rt: HostRuntime) -> Result<(), Fail> {
     let none = ScalarArray::<u16>::new(&[]).ok_or("no bytes")?;
     let one = ScalarArray::<u16>::new(&[0, 7]).ok_or("two bytes")?;
     assert!(rt; none.is_empty() && !one.is_empty() && one.as_bytes() == [0, 7].as_slice());
+    assert!(rt; none.first().is_none() && none.last().is_none());
+    assert!(rt; none.binary_search(&7) == Err(0) && none.iter().size_hint() == (0, Some(0)));
+    assert!(rt; one.first() == Some(7) && one.last() == Some(7));
     Ok(())
 }
 
@@ -40,6 +43,7 @@ fn element_of_an_index(rt: HostRuntime) -> Result<(), Fail> {
     ] {
         assert!(rt; array.get(index) == value, "{index}");
     }
+    assert!(rt; array.first() == Some(1) && array.last() == Some(-32768));
     Ok(())
 }
 
@@ -55,6 +59,10 @@ fn walks_both_ways(rt: HostRuntime) -> Result<(), Fail> {
         sum = sum.wrapping_mul(10).wrapping_add(u32::from(number));
     }
     assert!(rt; sum == 123);
+    for number in &array {
+        sum = sum.wrapping_add(u32::from(number));
+    }
+    assert!(rt; sum == 129);
     Ok(())
 }
 
@@ -68,6 +76,16 @@ fn finds_by_binary_search(rt: HostRuntime) -> Result<(), Fail> {
     let absent = [(11, 0), (13, 1), (26, 2), (32, 3), (257, 4)];
     for &(key, place) in &absent {
         assert!(rt; array.binary_search(&key) == Err(place), "{key}");
+    }
+    Ok(())
+}
+
+#[test]
+fn finds_one_of_equal_elements(rt: HostRuntime) -> Result<(), Fail> {
+    let array = ScalarArray::<u8>::new(&[1, 3, 3, 3, 5]).ok_or("five bytes")?;
+    for &(key, least, most) in &[(1, 0, 0), (3, 1, 3), (5, 4, 4)] {
+        let found = array.binary_search(&key).map_err(|_| "no place")?;
+        assert!(rt; least <= found && found <= most, "{key}");
     }
     Ok(())
 }

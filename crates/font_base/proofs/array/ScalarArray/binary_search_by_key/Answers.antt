@@ -1,43 +1,36 @@
-use Rattle.std.proofs.Common.{◌≡◌, ◌<◌, arith, rules}
-use Rattle.font_base.proofs.Elements.{splits_behind, splits_before}
+use Rattle.std.proofs.Common.{◌≡◌, ◌<◌, ◌≤◌, ◌-◌, ◌/◌, arith, refl, rules}
+use Rattle.font_base.specs.Array.{array_len}
+use Rattle.font_base.proofs.Elements.{half_fits, narrows_half, splits_at_one}
 use Rattle.font_base.proofs.array.ScalarArray.binary_search_by_key.Goals as goal
 
-pub loop-low-preserved-in-Less : goal.loop-low-preserved-in-Less
-loop-low-preserved-in-Less g c =
-    let low = c.loop-low.low in
-    let high = c.loop-low.high in
-    let invariant = c.loop-low.invariant in
-    let test : low < high = omega (arith, c.loop-low-test.true) in (
-      omega arith,
-      omega arith,
+pub loop-size-preserved : goal.loop-size-preserved
+loop-size-preserved g c =
+    let size = c.loop-size.size in
+    let invariant = c.loop-size.invariant in
+    let some : 1 < size = omega (arith, c.loop-size-test.true) in
+    let fits = invariant.0 in
+    let halved : size / 2 ≤ size - size / 2 = omega arith in (
+      half_fits c.is_gt-is_greater.result c.loop-size.base size (size / 2) _ _ c.select_unpredictable-base.ensures
+          (omega arith) fits,
+      λ _. omega arith,
       invariant.2,
-      λ of computes rises. splits_behind _ _ _ _ _ low high _ c.in-Some.value (omega arith)
+      λ of computes rises. narrows_half _ _ _ _ _ c.cmp.result c.loop-size.base size (size / 2) _ c.in-Some.value
+          halved fits (omega arith)
+          (search (rules, c.select_unpredictable-base.ensures, c.is_gt-is_greater.ensures))
+          (search (rules, c.cmp.ensures, computes c.in-Some.value c.key_of.result c.key_of.ensures))
           (record { bytes_are = c.in-Some.ensures.stored; is_value = c.in-Some.ensures.value })
-          (search (rules, c.in-Less.is, c.cmp.ensures, computes c.in-Some.value c.key_of.result c.key_of.ensures))
           rises (invariant.3 of computes rises),
     )
 
-pub loop-low-preserved : goal.loop-low-preserved
-loop-low-preserved g c =
-    let low = c.loop-low.low in
-    let high = c.loop-low.high in
-    let invariant = c.loop-low.invariant in
-    let test : low < high = omega (arith, c.loop-low-test.true) in (
-      omega arith,
-      omega arith,
-      invariant.2,
-      λ of computes rises. splits_before _ _ _ _ _ low high _ c.in-Some.value (omega arith)
-          (record { bytes_are = c.in-Some.ensures.stored; is_value = c.in-Some.ensures.value })
-          (search (rules, c.in-Greater.is, c.cmp.ensures, computes c.in-Some.value c.key_of.result c.key_of.ensures))
+pub returns-clause-place : goal.returns-clause-place
+returns-clause-place g c = λ of computes.
+    let within : c.loop-size.base < array_len c.args.self.now = c.in-Some-get.ensures.end.0 refl in
+    let invariant = c.loop-size.invariant in (
+      search rules,
+      λ rises. splits_at_one _ _ _ _ _ c.cmp-order.result c.loop-size.base _ _ c.in-Some-get.value
+          (omega (arith, c.loop-size-test.false)) within
+          (search (rules, c.if-is_eq.ensures)) (search (rules, c.from.ensures, c.is_lt.ensures))
+          (search (rules, c.cmp-order.ensures, computes c.in-Some-get.value c.key_of-2.result c.key_of-2.ensures))
+          (record { bytes_are = c.in-Some-get.ensures.stored; is_value = c.in-Some-get.ensures.value })
           rises (invariant.3 of computes rises),
-    )
-
-pub returns : goal.returns
-returns g c = λ of computes.
-    let met : c.loop-low.low ≡ c.loop-low.high = omega (arith, c.loop-low-test.false, c.loop-low.invariant.0) in (
-      omega arith,
-      λ rises. let place = c.loop-low.invariant.3 of computes rises in record {
-        less = place.less;
-        greater = λ k v from. place.greater k v (omega (arith, met, from));
-      },
     )
