@@ -2,7 +2,8 @@
 
 ghost use Rattle.std.specs.Prelude.{◌≡◌, ⊤, ◌↔◌, ◌-◌, ◌*◌, ◌%◌, ◌<◌, ◌≤◌, IsTrue, IsSome, IfSome};
 ghost use Rattle.std.specs.Prelude.{IfOk, IfErr, length};
-ghost use Rattle.std.specs.Iterator.{YieldsFirstBy, YieldsLastBy, item_count};
+ghost use Rattle.std.specs.Iterator.{YieldsFirstBy, YieldsLastBy, UpTo, item_count};
+ghost use Rattle.std.specs.Iterator.SizeHint.{IsWithinCount};
 ghost use Rattle.font_base.specs.Scalar.{IsValueOf};
 
 use crate::raw::Scalar;
@@ -242,6 +243,8 @@ impl<'a, T: Scalar> Iterator for ScalarArrayIter<'a, T> {
 
     #[tactic(auto, using(crate::proofs::Elements::element_rules))]
     fn size_hint(&self) -> (usize, Option<usize>)
+        ensures lower { IsWithinCount result.0 (item_count elements_left self.now) }
+        ensures upper { IfSome result.1 (UpTo (item_count elements_left self.now)) }
         ensures exact { let left = length (elements_left self.now) in result ≡ (left, Some left) }
     {
         let left = self.rest.len();

@@ -298,7 +298,11 @@ impl Iterator for Predefined {
 
     #[inline]
     #[tactic(auto, unfolding(crate::specs::NameId::predefined_left))]
-    fn size_hint(&self) -> (usize, Option<usize>) {
+    fn size_hint(&self) -> (usize, Option<usize>)
+        ensures lower { IsWithinCount result.0 (item_count predefined_left self.now) }
+        ensures upper { IfSome result.1 (UpTo (item_count predefined_left self.now)) }
+        ensures exact { let left = length (predefined_left self.now) in result ≡ (left, Some left) }
+    {
         let left = match self.next {
             0..=15 => 25 - self.next,
             16..=25 => 26 - self.next,

@@ -1,4 +1,4 @@
-use Rattle.std.proofs.Common.{◌≡◌, ◌<◌, ◌≤◌, ◌-◌, ◌/◌, arith, refl, rules}
+use Rattle.std.proofs.Common.{◌<◌, ◌≤◌, ◌-◌, ◌/◌, arith, refl, rules}
 use Rattle.font_base.specs.Array.{array_len}
 use Rattle.font_base.proofs.Elements.{half_fits, narrows_half, splits_at_one}
 use Rattle.font_base.proofs.array.ScalarArray.binary_search_by_key.Goals as goal
