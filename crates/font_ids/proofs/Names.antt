@@ -1,6 +1,7 @@
 -- The predefined name ids, one by one.
 use Rattle.std.proofs.Common.{◌≡◌, ◌≢◌, ◌∙◌, sym, ap, refl, ℕ, ◌+◌, ◌≤◌, ◌⊎◌, inl, inr, Bool, true, ◌==◌, ◌||◌, nat_le}
-use Rattle.std.proofs.Common.{nat_eq, List, ◌∷◌, filter, arith}
+use Rattle.std.proofs.Common.{nat_eq, List, ◌∷◌, filter, length, ◌-◌, ◌<◌, arith}
+use Rattle.std.proofs.lemmas.Grind.{common_steps}
 use Rattle.std.proofs.lemmas.Bool.{agree_below_at, or_cases, eqb-true}
 use Rattle.std.specs.Cmp.Lexicographic.{pointwise, bytes_decides}
 use Rattle.font_ids.specs.NameId.{predefined_numbers}
@@ -26,3 +27,18 @@ left_from-next n k (inl gap) small = ap left_from gap.0 ∙ left_from-step 16 (o
     ∙ sym (ap (λ m. m ∷ left_from (m + 1)) gap.1)
 left_from-next n k (inr plain) small = left_from-step n (omega (arith, plain.1)) plain.0 ∙ sym
     (ap (λ m. m ∷ left_from (m + 1)) plain.1)
+
+-- how many are left: before the gap, behind it, and behind the last
+pub left_from-low : (n : ℕ) → n ≤ 15 → length (left_from n) ≡ 25 - n
+left_from-low n low =
+    eqb-true _ _ (agree_below_at (λ m. length (left_from m) == 25 - m) (λ _. true) 16 n refl (omega arith))
+
+pub left_from-high : (n : ℕ) → 15 < n → n ≤ 25 → length (left_from n) ≡ 26 - n
+left_from-high n high small =
+    let here : 16 + (n - 16) ≡ n = omega arith in
+    let count : length (left_from (16 + (n - 16))) ≡ 10 - (n - 16) = eqb-true _ _
+    (agree_below_at (λ m. length (left_from (16 + m)) == 10 - m) (λ _. true) 10 (n - 16) refl (omega arith)) in
+    sym (ap (λ m. length (left_from m)) here) ∙ count ∙ omega arith
+
+pub left_from-none : (n : ℕ) → 25 < n → length (left_from n) ≡ 0
+left_from-none n large = grind (arith, common_steps)

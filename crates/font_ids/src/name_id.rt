@@ -2,7 +2,8 @@
 
 ghost use Rattle.std.specs.Prelude.{◌≡◌, ◌+◌, ◌≤◌, ◌^◌, ◌↔◌, pos, nat_lt, map, length, Some};
 ghost use Rattle.std.specs.Prelude.{IsTrue, IsSome, IfSome, refl};
-ghost use Rattle.std.specs.Iterator.{YieldsFirst, item_count};
+ghost use Rattle.std.specs.Iterator.{YieldsFirst, UpTo, item_count};
+ghost use Rattle.std.specs.Iterator.SizeHint.{IsWithinCount};
 ghost use Rattle.font_base.specs.Bytes.{bytes_of, numeral};
 ghost use Rattle.font_base.specs.Scalar.Laws.{unsigned_newtype, unsigned_identity};
 ghost use Rattle.font_ids.specs.NameId.{name_number, name_id_of, name_text, predefined_numbers};

@@ -26,9 +26,6 @@ use font_ids::FWord;
 #[derive(Clone, Copy, Debug, Drop)]
 pub struct DeltaSum {
     steps: i128,
-    // The low 64 of these bits.
-    low: F48Dot16,
-    ghost agree: { f48dot16_bits low ≡ wrap 64 steps },
 }
 
 impl DeltaSum {
@@ -37,14 +34,10 @@ impl DeltaSum {
     /// Creates an empty sum, 0.
     #[must_use]
     #[inline]
-    #[tactic(auto, using(crate::proofs::SumCalls::delta_sum_calls))]
     pub const fn new() -> DeltaSum
         ensures { steps_of result ≡ pos 0 }
     {
-        DeltaSum {
-            steps: 0,
-            low: F48Dot16::ZERO,
-        }
+        DeltaSum { steps: 0 }
     }
 
     /// Adds the product of a scalar and a delta in font units.
@@ -58,10 +51,7 @@ impl DeltaSum {
         ensures bound { unsigned_abs (fixed_bits scalar *ℤ delta) ≤ 2 ^ 62 }
     {
         let product = scalar.mul_i32(delta);
-        *self = DeltaSum {
-            steps: self.steps.wrapping_add(i128::from(product.to_bits())),
-            low: self.low + product,
-        };
+        self.steps = self.steps.wrapping_add(i128::from(product.to_bits()));
     }
 
     // Adds the product of a term.
@@ -83,7 +73,7 @@ impl DeltaSum {
     pub const fn finish(self) -> F48Dot16
         ensures { f48dot16_bits result ≡ wrap 64 (steps_of self) }
     {
-        self.low
+        F48Dot16::from_bits((self.steps.rem_euclid(1 << 64) as u64).cast_signed())
     }
 
     /// Returns the sum, or `None` if it does not fit in 64 bits.
