@@ -99,9 +99,9 @@ front_many size m bytes whole many = rw (front_length size m bytes whole many)
     (mul-div_cancel m (sized size (length bytes) (omega arith)))
 
 -- and behind it the last element is left
-pub last_length : (size m : ℕ) (bytes : List ℕ) → length bytes % size ≡ 0 → length bytes / size ≡ m + 1
+pub last_element_length : (size m : ℕ) (bytes : List ℕ) → length bytes % size ≡ 0 → length bytes / size ≡ m + 1
     → length (drop (m * size) bytes) ≡ size
-last_length size m bytes whole many = let all = whole_bytes size m bytes whole many in
+last_element_length size m bytes whole many = let all = whole_bytes size m bytes whole many in
     length-drop (m * size) bytes ∙ omega arith
 
 pub last_and_others : (size m : ℕ) (bytes : List ℕ) → length bytes % size ≡ 0 → length bytes / size ≡ m + 1
@@ -109,13 +109,13 @@ pub last_and_others : (size m : ℕ) (bytes : List ℕ) → length bytes % size 
     ≡ elements size (length (take (m * size) bytes) / size) (take (m * size) bytes) ++ drop (m * size) bytes ∷ []
 last_and_others size m bytes whole many =
     let next : m + 1 ≡ suc m = omega arith in
-    let last = take_all size (drop (m * size) bytes) (omega (arith, last_length size m bytes whole many)) in
+    let last = take_all size (drop (m * size) bytes) (omega (arith, last_element_length size m bytes whole many)) in
     ap (λ n. elements size n bytes) (many ∙ next) ∙ others_and_last size m bytes
     ∙ rw (last, front_many size m bytes whole many, elements-take size m bytes) refl
 
 pub ruleset element_rules = (length-elements, one_fits, one_less, first_and_others, none_left)
 
-pub ruleset back_rules = (length-elements, front_whole, front_many, last_length, last_and_others, none_left)
+pub ruleset back_rules = (length-elements, front_whole, front_many, last_element_length, last_and_others, none_left)
 
 -- ---- searches
 

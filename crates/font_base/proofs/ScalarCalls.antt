@@ -131,7 +131,7 @@ module _ {V : Type 0} (number_of : V → ℕ) (size n key : ℕ) (at : ℕ → L
 
 -- a search in an array of 16-bit numbers, seen in the form that the goals of its callers have
 module _ (bytes : List ℕ) (n key : ℕ) (result : Result ℕ ℕ) where
-  abbrev IsSearchedWord : Type 0
+  abbrev pub IsSearchedWord : Type 0
   IsSearchedWord = MatchResult result
       (λ i. (i < n) × StoresOne (λ (m : ℕ). nat_lt m (2 ^ 16)) (λ m. bytes_of 2 (pos m)) (element 2 bytes i)
       (λ m. nat_cmp m key ≡ Equal))

@@ -1,8 +1,6 @@
 pub mod FourBytes
 pub mod SumCalls
-pub mod Compared
-pub mod ArrayCalls
-pub mod Listed
-pub mod Flags
+pub mod StoredBytes
+pub mod Searches
 pub mod ShortProducts
 pub mod Callers

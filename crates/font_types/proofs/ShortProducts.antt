@@ -31,7 +31,7 @@ module _ (a b : ℤ) (fits_a : SFits w16 a) (fits_b : SFits w16 b) where
   pub short_product_fits_64 : SFits w64 (a *ℤ b)
   short_product_fits_64 = omega (arith, ints, size a b fits_a fits_b)
 
-pub ruleset product_calls_16 = (
+pub ruleset short_product_calls = (
   to_z-of_z,
   short_product_low,
   short_product_high,

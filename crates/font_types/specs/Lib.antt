@@ -1,8 +1,6 @@
 pub mod Json
 pub mod Delta
 pub mod DeltaSum
-pub mod Listed
-pub mod Flags
 pub use Rattle.font_base.specs.Wrap
 pub use Rattle.font_base.specs.Bytes
 pub use Rattle.font_base.specs.Scalar

@@ -1,4 +1,5 @@
 //! A user of the library: a value of each family, and what its contracts say of numbers.
+#![tactic(auto, using(crate::proofs::Callers::calls))]
 
 ghost use Rattle.std.specs.Int.{w32};
 ghost use Rattle.std.specs.List.{list_any};
@@ -17,21 +18,18 @@ use crate::{
 };
 use std::test::Fail;
 
-#[tactic(auto, using(crate::proofs::Callers::calls_16))]
 fn with_nothing_narrow(x: F2Dot14) -> F2Dot14
     ensures { result ≡ x }
 {
     x + F2Dot14::ZERO
 }
 
-#[tactic(auto, using(crate::proofs::Callers::calls_32))]
 fn with_nothing(x: F26Dot6) -> F26Dot6
     ensures { result ≡ x }
 {
     F26Dot6::ZERO + x
 }
 
-#[tactic(auto, using(crate::proofs::Callers::calls_64))]
 fn with_nothing_wide(x: F48Dot16) -> F48Dot16
     ensures { result ≡ x }
 {
@@ -87,7 +85,6 @@ fn scaled(distance: Fixed, scale: Fixed) -> Fixed
 }
 
 /// The glyph of a character, by its distance from there, of 16 bits.
-#[tactic(auto, using(crate::proofs::Callers::sum_calls_16))]
 fn glyph_at(character: u16, distance: i16) -> GlyphId16
     ensures { bytes_of 2 (pos (glyph16_number result)) ≡ bytes_of 2 (pos character +ℤ distance) }
 {

@@ -1,0 +1,93 @@
+-- What searches say, in the form that the goals of their callers have: in an array of glyph ids, and among records in the
+-- order of a number.
+use Rattle.std.proofs.Common.{◌≡◌, ◌≢◌, ◌<◌, ◌≤◌, ◌^◌, ℕ, pos, nat_lt, refl, subst, List, get_or}
+use Rattle.std.proofs.Common.{Result, Ok, Err, IfOk, IfErr, IfSome, IfNone, MatchResult}
+use Rattle.std.specs.Cmp.{ranks}
+use Rattle.std.specs.Result.{result_ok}
+use Rattle.std.specs.List.{All, HoldsAt}
+use Rattle.std.specs.List.Sorted.{IsSortedByKey, IsBinarySearchResult}
+use Rattle.std.specs.Ordering.{nat_cmp, MatchOrdering}
+use Rattle.std.specs.declared.cmp.Ordering.TheVariants.{Equal}
+use Rattle.font_base.specs.Bytes.{numeral, bytes_of}
+use Rattle.font_base.specs.Elements.{element, StoresOne, Rises, Splits}
+use Rattle.font_base.proofs.ScalarCalls.{absent, array_calls, number_found, numeral_found, number_absent}
+use Rattle.font_base.proofs.ScalarCalls.{IsSearchedWord, word_numeral, word_absent}
+use Rattle.font_ids.specs.declared.glyph_id.GlyphId16.{GlyphId16}
+use Rattle.font_ids.specs.GlyphId.{glyph16_number}
+
+module _ (bytes : List ℕ) (n : ℕ) (key : GlyphId16) (result : Result ℕ ℕ) where
+  abbrev IsSearchedGlyph : Type 0
+  IsSearchedGlyph = MatchResult result
+      (λ i. (i < n)
+      × StoresOne (λ (g : GlyphId16). nat_lt (glyph16_number g) (2 ^ 16)) (λ g. bytes_of 2 (pos (glyph16_number g)))
+      (element 2 bytes i) (λ g. nat_cmp (glyph16_number g) (glyph16_number key) ≡ Equal))
+      (λ i. (i ≤ n)
+      × (Rises (λ (g : GlyphId16). nat_lt (glyph16_number g) (2 ^ 16)) (λ g. bytes_of 2 (pos (glyph16_number g)))
+      (λ g. nat_cmp (glyph16_number g) (glyph16_number key)) (element 2 bytes) n
+      → Splits (λ (g : GlyphId16). nat_lt (glyph16_number g) (2 ^ 16)) (λ g. bytes_of 2 (pos (glyph16_number g)))
+      (λ g. nat_cmp (glyph16_number g) (glyph16_number key)) (element 2 bytes) n i i))
+
+  pub glyph_found : IsSearchedGlyph
+      → IfOk result (λ i. (i < n) × (element 2 bytes i ≡ bytes_of 2 (pos (glyph16_number key))))
+  glyph_found = number_found glyph16_number 2 n (glyph16_number key) (element 2 bytes) result
+
+  pub glyph_numeral : IsSearchedGlyph
+      → IfOk result (λ i. (i < n) × (numeral (element 2 bytes i) ≡ glyph16_number key))
+  glyph_numeral = numeral_found glyph16_number 2 n (glyph16_number key) (element 2 bytes) result
+
+  pub glyph_absent : glyph16_number key < 65536
+      → ((i j : ℕ) → i ≤ j → j < n → numeral (element 2 bytes i) ≤ numeral (element 2 bytes j))
+      → IsSearchedGlyph
+      → IfErr result (λ _. (k : ℕ) → k < n → element 2 bytes k ≢ bytes_of 2 (pos (glyph16_number key)))
+  glyph_absent = number_absent glyph16_number 2 n (glyph16_number key) (element 2 bytes) key result refl
+
+-- the same of the place alone, as `ok` gives it
+found_some : (P : ℕ → Type 0) (result : Result ℕ ℕ) → IfOk result P → IfSome (result_ok result) P
+found_some P (Ok i) found = found
+found_some P (Err i) found = tt
+
+absent_none : (P : Type 0) (result : Result ℕ ℕ) → IfErr result (λ _. P) → IfNone (result_ok result) P
+absent_none P (Ok i) absent = tt
+absent_none P (Err i) absent = absent
+
+module _ (bytes : List ℕ) (n : ℕ) (key : GlyphId16) (result : Result ℕ ℕ) where
+  pub glyph_numeral_some : IsSearchedGlyph bytes n key result
+      → IfSome (result_ok result) (λ i. (i < n) × (numeral (element 2 bytes i) ≡ glyph16_number key))
+  glyph_numeral_some searched = found_some _ result (glyph_numeral bytes n key result searched)
+
+  pub glyph_absent_none : glyph16_number key < 65536
+      → ((i j : ℕ) → i ≤ j → j < n → numeral (element 2 bytes i) ≤ numeral (element 2 bytes j))
+      → IsSearchedGlyph bytes n key result
+      → IfNone (result_ok result) ((k : ℕ) → k < n → element 2 bytes k ≢ bytes_of 2 (pos (glyph16_number key)))
+  glyph_absent_none below sorted searched = absent_none _ result (glyph_absent bytes n key result below sorted searched)
+
+module _ (bytes : List ℕ) (n key : ℕ) (result : Result ℕ ℕ) where
+  pub word_numeral_some : IsSearchedWord bytes n key result
+      → IfSome (result_ok result) (λ i. (i < n) × (numeral (element 2 bytes i) ≡ key))
+  word_numeral_some searched = found_some _ result (word_numeral bytes n key result searched)
+
+  pub word_absent_none : key < 65536
+      → ((i j : ℕ) → i ≤ j → j < n → numeral (element 2 bytes i) ≤ numeral (element 2 bytes j))
+      → IsSearchedWord bytes n key result
+      → IfNone (result_ok result) ((k : ℕ) → k < n → element 2 bytes k ≢ bytes_of 2 (pos key))
+  word_absent_none below sorted searched = absent_none _ result (word_absent bytes n key result below sorted searched)
+
+pub ruleset search_calls = (
+  array_calls,
+  glyph_found,
+  glyph_numeral,
+  glyph_absent,
+  glyph_numeral_some,
+  glyph_absent_none,
+  word_numeral_some,
+  word_absent_none,
+)
+
+-- where elements are in the order of their numbers, a search answers a place that has the number, or none has it
+pub found_by_number : {X : Type 0} (number_of : X → ℕ) (xs : List X) (n : ℕ) (result : Result ℕ ℕ)
+    → IsSortedByKey number_of nat_cmp xs → IsBinarySearchResult (λ x. nat_cmp (number_of x) n) xs result
+    → MatchResult result (HoldsAt (λ x. number_of x ≡ n) xs) (λ _. All (λ x. number_of x ≢ n) xs)
+found_by_number number_of xs n (Ok place) sorted searched = λ d.
+    let x = number_of (get_or xs place d) in
+    subst (λ o. MatchOrdering o (x < n) (x ≡ n) (n < x)) (searched d) (ranks x n)
+found_by_number number_of xs n (Err place) sorted searched = absent number_of xs n (Err place) sorted searched
