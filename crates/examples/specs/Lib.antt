@@ -1,0 +1,5 @@
+pub mod Reader
+pub mod Head
+pub mod Evaluator
+pub mod Linter
+pub mod Dumper

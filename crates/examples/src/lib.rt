@@ -1,0 +1,17 @@
+//! Callers of `font_types`: one file for each kind of program that builds on it. Each function is
+//! proved against the contract that its caller wants, and run by a test.
+//!
+//! - `reader`: tables, as `head`, `hmtx`, `fvar`, coverage and `VORG`.
+//! - `evaluator`: variations, from `wght=650` to a varied advance, by `avar` and packed deltas.
+//! - `scaler`: outlines through a chain of matrices.
+//! - `linter`: tags, names, versions and the records of a table directory.
+//! - `dumper`: numbers in columns, raw values in hexadecimal, JSON.
+#![tactic(auto, using(font_types::proofs::Callers::calls))]
+
+pub mod dumper;
+pub mod evaluator;
+pub mod linter;
+pub mod reader;
+pub mod scaler;
+#[cfg(test)]
+mod tests;

@@ -1,0 +1,416 @@
+//! A reader of tables: scalars one after the other, `head`, `hmtx`, arrays and records.
+
+ghost use Rattle.std.specs.Prelude.{◌≡◌, ◌≢◌, ◌↔◌, ◌≤◌, ◌<◌, ◌+◌, ◌*◌, ◌/◌, ◌%◌, ◌^◌, ◌&&◌, ◌++◌};
+ghost use Rattle.std.specs.Prelude.{ℕ, pos, nat_lt, refl};
+ghost use Rattle.std.specs.Prelude.{IsSome, IfSome, IfNone, IfOk, IfErr, MatchOption};
+ghost use Rattle.std.specs.Prelude.{length, take, drop, vec_len, All};
+ghost use Rattle.std.specs.List.{HoldsAt};
+ghost use Rattle.std.specs.List.Sorted.{IsSortedByKey};
+ghost use Rattle.std.specs.Ordering.{nat_cmp};
+ghost use Rattle.std.proofs.Common.{lit<};
+ghost use Rattle.font_types.specs.Bytes.{numeral, signed_numeral, bytes_of};
+ghost use Rattle.font_types.specs.Scalar.{IsValueOf};
+ghost use Rattle.font_types.specs.Scalar.Laws.{unsigned_newtype, unsigned_identity, signed_newtype};
+ghost use Rattle.font_types.specs.Records.{record_laws};
+ghost use Rattle.font_types.specs.Array.{array_len, element_bytes};
+ghost use Rattle.font_types.specs.BigEndian.{raw_value};
+ghost use Rattle.font_types.specs.Wrap.{fits_bits};
+ghost use Rattle.font_types.specs.Fixed.{fixed_bits};
+ghost use Rattle.font_types.specs.FWord.{fword_number, fword_of, ufword_number, ufword_of};
+ghost use Rattle.font_types.specs.GlyphId.{glyph16_number};
+ghost use Rattle.font_types.specs.NameId.{name_number};
+ghost use Rattle.font_types.specs.Offset.{offset32_number};
+ghost use Rattle.font_types.specs.Tag.{tag_bytes};
+ghost use Rattle.font_types.specs.Uint24.{uint24_number};
+ghost use Rattle.examples.specs.Reader.{AreValuesOf, advance_offset, IsVertOrigin};
+
+use font_types::{
+    BigEndian, FWord, Fixed, FixedSize, GlyphId16, IdentityEq, LongDateTime, NameId, Offset32,
+    Scalar, ScalarArray, TableDataRef, TableHeader, Tag, UfWord, Uint24,
+};
+use std::alloc::{AllocError, Global};
+
+// ---- scalars one after the other
+
+/// Reads scalars from the front of bytes.
+#[derive(Drop)]
+pub struct Cursor<'a> {
+    /// The bytes that are left.
+    pub rest: &'a [u8],
+}
+
+impl Cursor<'_> {
+    /// Reads the next scalar, or returns `None` and stays if too few bytes are left.
+    ///
+    /// At a concrete type `IsValueOf` gives callers the number, the tag or the date; the 24-bit
+    /// types need the clause `stored` as well.
+    pub fn read<T: Scalar>(&mut self) -> Option<T>
+        ensures end { IsSome result ↔ (T.RAW_BYTE_LEN ≤ length self.old.rest.now) }
+        ensures value { IfSome result (λ v.
+            IsValueOf T.Raw.bytes T.of_raw (take T.RAW_BYTE_LEN self.old.rest.now) v) }
+        ensures stored { IfSome result (λ v.
+            T.Raw.bytes (T.raw_of v) ≡ take T.RAW_BYTE_LEN self.old.rest.now) }
+        ensures moved { IsSome result →
+            self.new.rest.now ≡ drop T.RAW_BYTE_LEN self.old.rest.now }
+        ensures stays { IfNone result (self.new.rest.now ≡ self.old.rest.now) }
+    {
+        let (front, rest) = self.rest.split_at_checked(T::RAW_BYTE_LEN)?;
+        let value = T::read(front)?;
+        self.rest = rest;
+        Some(value)
+    }
+
+    /// Reads `count` scalars, or returns `None` and stays if there are fewer.
+    ///
+    /// The loop has an invariant in `proofs/reader/Cursor/read_array`: the scalars read so far.
+    ///
+    /// # Errors
+    ///
+    /// Stays and returns the error if memory for the scalars is refused.
+    pub fn read_array<T: Scalar + Drop>(
+        &mut self,
+        count: usize,
+        alloc: Global,
+    ) -> Result<Option<Vec<T>>, AllocError>
+        ensures end { IfOk result (λ read.
+            IsSome read ↔ (count * T.RAW_BYTE_LEN ≤ length self.old.rest.now)) }
+        ensures count { IfOk result (λ read. IfSome read (λ values. vec_len values ≡ count)) }
+        ensures each { IfOk result (λ read. IfSome read (λ values. AreValuesOf T.Raw.bytes T.of_raw
+            T.RAW_BYTE_LEN self.old.rest.now count values.items)) }
+        ensures moved { IfOk result (λ read. IsSome read →
+            self.new.rest.now ≡ drop (count * T.RAW_BYTE_LEN) self.old.rest.now) }
+        ensures stays { IfOk result (λ read. IfNone read
+            (self.new.rest.now ≡ self.old.rest.now)) }
+        ensures refused { IfErr result (λ _. self.new.rest.now ≡ self.old.rest.now) }
+    {
+        let mut ahead = Cursor { rest: self.rest };
+        let mut values = Vec::new(alloc);
+        for _ in 0..count {
+            let Some(value) = ahead.read::<T>() else {
+                return Ok(None);
+            };
+            values.push(value)?;
+        }
+        self.rest = ahead.rest;
+        Ok(Some(values))
+    }
+}
+
+/// A variation axis, a record of `fvar`.
+#[derive(Clone, Copy)]
+pub struct VariationAxisRecord {
+    pub axis_tag: Tag,
+    pub min_value: Fixed,
+    pub default_value: Fixed,
+    pub max_value: Fixed,
+    pub flags: u16,
+    pub axis_name_id: NameId,
+}
+
+/// Reads the next axis record, or returns `None` and stays if fewer than 20 bytes are left.
+pub fn read_axis(cursor: &mut Cursor<'_>) -> Option<VariationAxisRecord>
+    ensures end { IsSome result ↔ (20 ≤ length cursor.old.rest.now) }
+    ensures axis_tag { IfSome result (λ axis.
+        tag_bytes axis.axis_tag ≡ take 4 cursor.old.rest.now) }
+    ensures min_value { IfSome result (λ axis.
+        fixed_bits axis.min_value ≡ signed_numeral 4 (take 4 (drop 4 cursor.old.rest.now))) }
+    ensures default_value { IfSome result (λ axis.
+        fixed_bits axis.default_value ≡ signed_numeral 4 (take 4 (drop 8 cursor.old.rest.now))) }
+    ensures max_value { IfSome result (λ axis.
+        fixed_bits axis.max_value ≡ signed_numeral 4 (take 4 (drop 12 cursor.old.rest.now))) }
+    ensures flags { IfSome result (λ axis.
+        axis.flags ≡ numeral (take 2 (drop 16 cursor.old.rest.now))) }
+    ensures axis_name_id { IfSome result (λ axis.
+        name_number axis.axis_name_id ≡ numeral (take 2 (drop 18 cursor.old.rest.now))) }
+    ensures moved { IsSome result → cursor.new.rest.now ≡ drop 20 cursor.old.rest.now }
+    ensures stays { IfNone result (cursor.new.rest.now ≡ cursor.old.rest.now) }
+{
+    let mut ahead = Cursor { rest: cursor.rest };
+    let axis = VariationAxisRecord {
+        axis_tag: ahead.read()?,
+        min_value: ahead.read()?,
+        default_value: ahead.read()?,
+        max_value: ahead.read()?,
+        flags: ahead.read()?,
+        axis_name_id: ahead.read()?,
+    };
+    cursor.rest = ahead.rest;
+    Some(axis)
+}
+
+/// Reads a variation selector and the offset of its default mappings, the first seven bytes of a
+/// record of `cmap`, format 14; returns `None` if there are fewer.
+pub fn read_selector(record: &[u8]) -> Option<(Uint24, Offset32)>
+    ensures end { IsSome result ↔ (7 ≤ length record.now) }
+    ensures selector { IfSome result (λ found.
+        uint24_number found.0 ≡ numeral (take 3 record.now)) }
+    ensures offset { IfSome result (λ found.
+        offset32_number found.1 ≡ numeral (take 4 (drop 3 record.now))) }
+{
+    let mut cursor = Cursor { rest: record };
+    Some((cursor.read()?, cursor.read()?))
+}
+
+/// Returns the scalar at an offset, or `None` if it ends behind the bytes.
+///
+/// Two `split_at_checked`, since `offset + T::RAW_BYTE_LEN` may be too large for a `usize`.
+pub fn scalar_at<T: Scalar>(bytes: &[u8], offset: usize) -> Option<T>
+    ensures end { IsSome result ↔ (offset + T.RAW_BYTE_LEN ≤ length bytes.now) }
+    ensures value { IfSome result (λ v.
+        IsValueOf T.Raw.bytes T.of_raw (take T.RAW_BYTE_LEN (drop offset bytes.now)) v) }
+    ensures stored { IfSome result (λ v.
+        T.Raw.bytes (T.raw_of v) ≡ take T.RAW_BYTE_LEN (drop offset bytes.now)) }
+{
+    let (_, rest) = bytes.split_at_checked(offset)?;
+    let (front, _) = rest.split_at_checked(T::RAW_BYTE_LEN)?;
+    T::read(front)
+}
+
+// ---- `head`
+
+/// Returns the field of a header at an offset.
+pub fn field_at<T: Scalar>(bytes: &[u8], offset: usize) -> BigEndian<T>
+    requires { offset + T.RAW_BYTE_LEN ≤ length bytes.now }
+    ensures { T.Raw.bytes (raw_value result) ≡ take T.RAW_BYTE_LEN (drop offset bytes.now) }
+{
+    BigEndian::from_slice(&bytes[offset..offset + T::RAW_BYTE_LEN]).unwrap()
+}
+
+/// The table `head`, 54 bytes.
+///
+/// `IsHead` in `specs/` has a line for each field. Each is filled by `field_at`: one that went to
+/// the end of the bytes, as `&bytes[52..]`, would stop the search in a header of many fields.
+#[derive(Drop)]
+pub struct Head {
+    pub major_version: BigEndian<u16>,
+    pub minor_version: BigEndian<u16>,
+    pub font_revision: BigEndian<Fixed>,
+    pub checksum_adjustment: BigEndian<u32>,
+    pub magic_number: BigEndian<u32>,
+    pub flags: BigEndian<u16>,
+    pub units_per_em: BigEndian<u16>,
+    pub created: BigEndian<LongDateTime>,
+    pub modified: BigEndian<LongDateTime>,
+    pub x_min: BigEndian<FWord>,
+    pub y_min: BigEndian<FWord>,
+    pub x_max: BigEndian<FWord>,
+    pub y_max: BigEndian<FWord>,
+    pub mac_style: BigEndian<u16>,
+    pub lowest_rec_ppem: BigEndian<u16>,
+    pub font_direction_hint: BigEndian<i16>,
+    pub index_to_loc_format: BigEndian<i16>,
+    pub glyph_data_format: BigEndian<i16>,
+}
+
+impl TableHeader for Head {
+    ghost use Rattle.examples.specs.Head.{IsHead};
+
+    const BYTE_LEN: usize = 54;
+
+    ghost BYTE_LEN = { 54 };
+
+    ghost decodes = { IsHead };
+
+    fn decode(bytes: &[u8]) -> Head {
+        Head {
+            major_version: field_at(bytes, 0),
+            minor_version: field_at(bytes, 2),
+            font_revision: field_at(bytes, 4),
+            checksum_adjustment: field_at(bytes, 8),
+            magic_number: field_at(bytes, 12),
+            flags: field_at(bytes, 16),
+            units_per_em: field_at(bytes, 18),
+            created: field_at(bytes, 20),
+            modified: field_at(bytes, 28),
+            x_min: field_at(bytes, 36),
+            y_min: field_at(bytes, 38),
+            x_max: field_at(bytes, 40),
+            y_max: field_at(bytes, 42),
+            mac_style: field_at(bytes, 44),
+            lowest_rec_ppem: field_at(bytes, 46),
+            font_direction_hint: field_at(bytes, 48),
+            index_to_loc_format: field_at(bytes, 50),
+            glyph_data_format: field_at(bytes, 52),
+        }
+    }
+}
+
+/// Returns the units per em, or `None` if `head` has fewer than 54 bytes.
+///
+/// A clause on a field speaks of the header's bytes, the first 54 of the table's.
+pub fn units_per_em(head: &[u8]) -> Option<u16>
+    ensures there { IsSome result ↔ (54 ≤ length head.now) }
+    ensures value { IfSome result (λ units. units ≡ numeral (take 2 (drop 18 (take 54 head.now)))) }
+{
+    let head = TableDataRef::<Head>::new(head)?;
+    Some(head.header().units_per_em.get())
+}
+
+// ---- `hmtx`
+
+/// A horizontal metric, a record of `hmtx`.
+///
+/// A record of two fields is a scalar by `record_laws` and the laws of its fields, and so can be an
+/// element of an array.
+#[derive(Clone, Copy)]
+pub struct LongHorMetric {
+    pub advance_width: UfWord,
+    pub left_side_bearing: FWord,
+}
+
+impl FixedSize for LongHorMetric {
+    const RAW_BYTE_LEN: usize = 4;
+
+    ghost RAW_BYTE_LEN = { 4 };
+}
+
+impl Scalar for LongHorMetric {
+    type Raw = [u8; 4];
+
+    ghost is_scalar = { λ metric. nat_lt (ufword_number metric.advance_width) (2 ^ 16)
+        && fits_bits 16 (fword_number metric.left_side_bearing) };
+
+    ghost of_raw = { λ raw. record {
+      advance_width = ufword_of (numeral (take 2 raw));
+      left_side_bearing = fword_of (signed_numeral 2 (drop 2 raw));
+    } };
+
+    ghost raw_of = { λ metric. bytes_of 2 (pos (ufword_number metric.advance_width))
+        ++ bytes_of 2 (fword_number metric.left_side_bearing) };
+
+    ghost laws = { record_laws 2 2 (λ metric. metric.advance_width)
+        (λ metric. metric.left_side_bearing)
+        (λ advance bearing. record { advance_width = advance; left_side_bearing = bearing })
+        (λ _ _. refl) (λ _ _. refl) (λ _. refl)
+        (unsigned_newtype 2 ufword_number ufword_of (λ _. refl) (λ _. refl))
+        (signed_newtype 2 (lit< tt) fword_number fword_of (λ _. refl) (λ _. refl)) };
+
+    fn from_raw(raw: [u8; 4]) -> LongHorMetric {
+        LongHorMetric {
+            advance_width: UfWord::read(&raw[..2]).unwrap(),
+            left_side_bearing: FWord::read(&raw[2..]).unwrap(),
+        }
+    }
+
+    fn to_raw(self) -> [u8; 4] {
+        let [a, b] = self.advance_width.to_be_bytes();
+        let [c, d] = self.left_side_bearing.to_be_bytes();
+        [a, b, c, d]
+    }
+}
+
+/// Returns the metric of a glyph, or `None` if the bytes are no array of metrics or end before it.
+pub fn metric(metrics: &[u8], glyph: GlyphId16) -> Option<LongHorMetric>
+    ensures end { IsSome result ↔ ((length metrics.now % 4 ≡ 0)
+        × (glyph16_number glyph < length metrics.now / 4)) }
+    ensures advance { IfSome result (λ metric. ufword_number metric.advance_width
+        ≡ numeral (take 2 (take 4 (drop (glyph16_number glyph * 4) metrics.now)))) }
+    ensures bearing { IfSome result (λ metric. fword_number metric.left_side_bearing
+        ≡ signed_numeral 2 (drop 2 (take 4 (drop (glyph16_number glyph * 4) metrics.now)))) }
+{
+    ScalarArray::<LongHorMetric>::new(metrics)?.get(usize::from(glyph.to_u16()))
+}
+
+/// Returns the advance width of a glyph in `hmtx` of `count` metrics; glyphs beyond them have the
+/// last one's.
+pub fn advance_width(hmtx: &[u8], count: u16, glyph: GlyphId16) -> Option<UfWord>
+    requires { 0 < count }
+    ensures end { IsSome result
+        ↔ (advance_offset count (glyph16_number glyph) + 2 ≤ length hmtx.now) }
+    ensures value { IfSome result (λ advance. ufword_number advance
+        ≡ numeral (take 2 (drop (advance_offset count (glyph16_number glyph)) hmtx.now))) }
+{
+    let last = usize::from(count) - 1;
+    scalar_at(hmtx, 4 * usize::from(glyph.to_u16()).min(last))
+}
+
+// ---- searches
+
+/// Returns the coverage index of a glyph in a sorted array of glyph ids (coverage, format 1), or
+/// `None` if it is not covered.
+pub fn coverage_index(glyphs: &ScalarArray<'_, GlyphId16>, glyph: GlyphId16) -> Option<usize>
+    ensures found { IfSome result (λ i. (i < array_len glyphs.now)
+        × (numeral (element_bytes glyphs.now i) ≡ glyph16_number glyph)) }
+    ensures absent { ((i j : ℕ) → i ≤ j → j < array_len glyphs.now
+        → numeral (element_bytes glyphs.now i) ≤ numeral (element_bytes glyphs.now j))
+        → IfNone result ((k : ℕ) → k < array_len glyphs.now
+        → element_bytes glyphs.now k ≢ bytes_of 2 (pos (glyph16_number glyph))) }
+{
+    glyphs.binary_search(&glyph).ok()
+}
+
+/// The vertical origin of a glyph, a record of `VORG`.
+#[derive(Clone, Copy)]
+pub struct VertOriginYMetrics {
+    pub glyph_index: GlyphId16,
+    pub vert_origin_y: i16,
+}
+
+/// Returns the index of a glyph's record among records sorted by glyph, or `None` if it has none.
+///
+/// A search by a closure says what it found for each key that the closure gives; the answer in
+/// `proofs/reader/origin_index` names that key.
+pub fn origin_index(records: &[VertOriginYMetrics], glyph: GlyphId16) -> Option<usize>
+    requires { IsSortedByKey (λ metric. glyph16_number metric.glyph_index) nat_cmp records.now }
+    ensures within { IfSome result (λ index. index < length records.now) }
+    ensures found { MatchOption result
+        (All (λ metric. glyph16_number metric.glyph_index ≢ glyph16_number glyph) records.now)
+        (λ index. HoldsAt (λ metric. glyph16_number metric.glyph_index ≡ glyph16_number glyph)
+        records.now index) }
+{
+    records
+        .binary_search_by_key(&glyph, |metric| metric.glyph_index)
+        .ok()
+}
+
+/// Returns the y coordinate of a glyph's vertical origin, or the default if it has no record.
+pub fn vert_origin_y(records: &[VertOriginYMetrics], default: i16, glyph: GlyphId16) -> i16
+    requires { IsSortedByKey (λ metric. glyph16_number metric.glyph_index) nat_cmp records.now }
+    ensures { IsVertOrigin (glyph16_number glyph) default result records.now }
+{
+    match origin_index(records, glyph) {
+        Some(index) => records[index].vert_origin_y,
+        None => default,
+    }
+}
+
+// ---- a scalar of one's own
+
+/// A size in pixels per em, as in `gasp` and `hdmx`.
+///
+/// A newtype round a number takes four ghost lines. Every bit pattern has to be a value, since
+/// `read` refuses nothing but a wrong length. Signed numbers have `signed_newtype 2 (lit< tt)`,
+/// `signed_identity`, `signed_numeral 2` and `fits_bits 16` instead.
+#[derive(Clone, Copy, PartialEq, Eq, PartialOrd, Ord)]
+pub struct Ppem(pub u16);
+
+impl FixedSize for Ppem {
+    const RAW_BYTE_LEN: usize = 2;
+
+    ghost RAW_BYTE_LEN = { 2 };
+}
+
+impl Scalar for Ppem {
+    type Raw = [u8; 2];
+
+    ghost is_scalar = { λ size. nat_lt size.0 (2 ^ 16) };
+
+    ghost of_raw = { λ raw. record { 0 = numeral raw } };
+
+    ghost raw_of = { λ size. bytes_of 2 (pos size.0) };
+
+    ghost laws = { unsigned_newtype 2 (λ size. size.0) (λ n. record { 0 = n })
+        (λ _. refl) (λ _. refl) };
+
+    fn from_raw(raw: [u8; 2]) -> Ppem {
+        Ppem(u16::from_raw(raw))
+    }
+
+    fn to_raw(self) -> [u8; 2] {
+        self.0.to_raw()
+    }
+}
+
+impl IdentityEq for Ppem {
+    ghost identity = { unsigned_identity (λ size. size.0) (λ n. record { 0 = n }) (λ _. refl) };
+}

@@ -1,0 +1,7 @@
+//! Each example at work, with values from OpenType and from arithmetic by hand.
+
+mod dumper;
+mod evaluator;
+mod linter;
+mod reader;
+mod scaler;

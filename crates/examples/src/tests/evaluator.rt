@@ -1,0 +1,195 @@
+//! An evaluator of variations.
+
+use crate::evaluator::{
+    AxisValueMap, Setting, SettingError, clamp, delta_width, deltas_in_run, lerp, map_coordinate,
+    normalize, read_run, read_setting, region_terms, segment_end, to_stored, vary_and_round,
+};
+use crate::reader::VariationAxisRecord;
+use font_types::{DecimalFault, F2Dot14, FWord, Fixed, InvalidTag, NameId, Tag};
+use std::test::Fail;
+
+#[test]
+fn settings(rt: HostRuntime) {
+    for &(text, axis, bits) in &[
+        ("wght=650", b"wght", 650 << 16),
+        ("x=-0.5", b"x   ", -0x8000),
+    ] {
+        let setting = Setting {
+            axis: Tag::new(axis),
+            value: Fixed::from_bits(bits),
+        };
+        assert!(rt; read_setting(text) == Ok(setting), "{text}");
+    }
+    for (text, error) in [
+        ("wght", SettingError::NoValue),
+        ("=400", SettingError::Axis(InvalidTag::InvalidLength(0))),
+        ("=x", SettingError::Axis(InvalidTag::InvalidLength(0))),
+        (
+            "width=400",
+            SettingError::Axis(InvalidTag::InvalidLength(5)),
+        ),
+        ("wght=4=", SettingError::Value(DecimalFault::Syntax)),
+        ("wght=32768", SettingError::Value(DecimalFault::OutOfRange)),
+    ] {
+        assert!(rt; read_setting(text) == Err(error), "{text}");
+    }
+}
+
+fn weight(min: i32, default: i32, max: i32) -> VariationAxisRecord {
+    VariationAxisRecord {
+        axis_tag: Tag::new(b"wght"),
+        min_value: Fixed::from_bits(min),
+        default_value: Fixed::from_bits(default),
+        max_value: Fixed::from_bits(max),
+        flags: 0,
+        axis_name_id: NameId::new(256),
+    }
+}
+
+#[test]
+fn values_normalized(rt: HostRuntime) {
+    let axis = weight(100 << 16, 400 << 16, 900 << 16);
+    for &(value, bits) in &[
+        (400, 0),
+        (401, 131),
+        (399, -218),
+        (650, 0x8000),
+        (250, -0x8000),
+        (900, 0x1_0000),
+        (100, -0x1_0000),
+        (901, 0x1_0000),
+        (99, -0x1_0000),
+    ] {
+        let coordinate = normalize(Fixed::from_i32(value), axis);
+        assert!(rt; coordinate == Fixed::from_bits(bits), "{value}");
+    }
+}
+
+// An axis that ends at its default has no coordinates on that side.
+#[test]
+fn values_normalized_on_one_side(rt: HostRuntime) {
+    let (low, high) = (100 << 16, 400 << 16);
+    assert!(rt; normalize(Fixed::MAX, weight(low, high, high)) == Fixed::ZERO);
+    assert!(rt; normalize(Fixed::MIN, weight(low, low, high)) == Fixed::ZERO);
+    let one = Fixed::ONE;
+    assert!(rt; clamp(Fixed::MAX, Fixed::NEG_ONE, one) == one && clamp(one, one, one) == one);
+}
+
+#[test]
+fn coordinates_stored(rt: HostRuntime) {
+    for &(bits, stored) in &[
+        (0x2_0000, 0x4000),
+        (-0x1_0001, -0x4000),
+        (-0x8002, -0x2000),
+        (-0x8003, -0x2001),
+        (0x8002, 0x2001),
+        (0x8001, 0x2000),
+        (0, 0),
+    ] {
+        let coordinate = to_stored(Fixed::from_bits(bits));
+        assert!(rt; coordinate == F2Dot14::from_bits(stored), "{bits}");
+    }
+}
+
+#[test]
+fn coordinates_mapped(rt: HostRuntime) {
+    let map = [
+        (-0x1_0000, -0x1_0000),
+        (0, 0),
+        (0x8000, 0x4000),
+        (0x1_0000, 0x1_0000),
+    ]
+    .map(|(from, to)| AxisValueMap {
+        from_coordinate: Fixed::from_bits(from),
+        to_coordinate: Fixed::from_bits(to),
+    });
+    for &(bits, mapped, end) in &[
+        (-0x1_0001, -0x1_0001, None),
+        (-0x1_0000, -0x1_0000, Some(1)),
+        (-0x4000, -0x4000, Some(1)),
+        (0, 0, Some(2)),
+        (0x4000, 0x2000, Some(2)),
+        (0x7FFF, 0x4000, Some(2)),
+        (0x8000, 0x4000, Some(3)),
+        (0x8001, 0x4002, Some(3)),
+        (0xC000, 0xA000, Some(3)),
+        (0x1_0000, 0x1_0000, None),
+        (0x1_0001, 0x1_0001, None),
+    ] {
+        let coordinate = Fixed::from_bits(bits);
+        assert!(rt; segment_end(coordinate, &map) == end, "segment of {bits}");
+        assert!(rt;
+            map_coordinate(coordinate, &map) == Fixed::from_bits(mapped),
+            "{bits}"
+        );
+        assert!(rt;
+            map_coordinate(coordinate, &map[..1]) == coordinate,
+            "{bits} by one"
+        );
+    }
+    assert!(rt; lerp(Fixed::ONE, map[1], map[2]) == Fixed::from_bits(0x8000));
+}
+
+// (OpenType, font variations common table formats: the example of packed deltas)
+const PACKED: [u8; 16] = [
+    0x03, 0x0A, 0x97, 0x00, 0xC6, 0x87, 0x41, 0x10, 0x22, 0xFB, 0x34, 0x40, 0x80, 0x00, 0x01, 0x7F,
+];
+
+#[test]
+fn control_bytes(rt: HostRuntime) {
+    for &(control, count, width) in &[
+        (0x00, 1, 1),
+        (0x3F, 64, 1),
+        (0x40, 1, 2),
+        (0x7F, 64, 2),
+        (0x80, 1, 0),
+        (0xBF, 64, 0),
+        (0xFF, 64, 0),
+    ] {
+        assert!(rt;
+            deltas_in_run(control) == count && delta_width(control) == width,
+            "{control}"
+        );
+    }
+}
+
+#[test]
+fn runs_in_turn(rt: HostRuntime) -> Result<(), Fail> {
+    let (bytes, words) = ([10, -105, 0, -58], [4130, -1228]);
+    let (deltas, rest) = read_run(&PACKED, rt.alloc())?.unwrap();
+    assert!(rt; deltas.as_slice() == bytes.as_slice() && rest == &PACKED[5..]);
+    let (deltas, rest) = read_run(rest, rt.alloc())?.unwrap();
+    assert!(rt; deltas.as_slice() == [0; 8].as_slice() && rest == &PACKED[6..]);
+    let (deltas, rest) = read_run(rest, rt.alloc())?.unwrap();
+    assert!(rt; deltas.as_slice() == words.as_slice() && rest == &PACKED[11..]);
+    let (deltas, rest) = read_run(rest, rt.alloc())?.unwrap();
+    assert!(rt; deltas.as_slice() == [-0x8000].as_slice() && rest == &PACKED[14..]);
+    for packed in [&[][..], &[0x00], &[0x01, 0x01], &[0x40, 0x01]] {
+        assert!(rt; read_run(packed, rt.alloc())?.is_none(), "{}", packed.len());
+    }
+    Ok(())
+}
+
+#[test]
+fn values_varied(rt: HostRuntime) -> Result<(), Fail> {
+    let (half, base) = (Fixed::from_bits(0x8000), FWord::new(100));
+    let terms = region_terms(&[half, Fixed::ONE], &[3, -2], rt.alloc())?;
+    assert!(rt; terms.as_slice() == [(half, 3), (Fixed::ONE, -2)].as_slice());
+    assert!(rt; vary_and_round(base, &terms) == Some(FWord::new(100)));
+    for &(bits, delta, varied) in &[
+        (0x8000, 3, Some(102)),
+        (0x8000, -3, Some(99)),
+        (0x1_0000, 32667, Some(32767)),
+        (0x1_0000, 32668, None),
+        (i32::MIN, i32::MIN, None),
+    ] {
+        let term = (Fixed::from_bits(bits), delta);
+        assert!(rt;
+            vary_and_round(base, &[term]) == varied.map(FWord::new),
+            "{bits} {delta}"
+        );
+    }
+    let largest = (Fixed::MIN, i32::MIN);
+    assert!(rt; vary_and_round(base, &[largest, largest]).is_none());
+    Ok(())
+}

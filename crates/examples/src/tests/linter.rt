@@ -1,0 +1,79 @@
+//! A linter.
+
+use crate::linter::{
+    BadTag, TableRecord, checksum, is_ascending, is_predefined, is_supported, sort_by_tag,
+    total_length, validate,
+};
+use font_types::{InvalidTag, MajorMinor, NameId, Offset32, Tag};
+use std::test::Fail;
+
+#[test]
+fn tags_validated(rt: HostRuntime) -> Result<(), Fail> {
+    let good = [Tag::new(b"glyf"), Tag::new(b"cvt "), Tag::new(b"OS/2")];
+    assert!(rt; validate(&good).is_ok());
+    let bad = [Tag::new(b"glyf"), Tag::new(b"c vt"), Tag::new(b"    ")];
+    let error = BadTag {
+        index: 1,
+        error: InvalidTag::ByteAfterSpace { pos: 2 },
+    };
+    let text = format!(in rt.alloc(); "{error}")?;
+    assert!(rt; text.as_str() == "tag 1: Non-space character after first space");
+    assert!(rt; validate(&bad) == Err(error));
+    Ok(())
+}
+
+#[test]
+fn tags_in_order(rt: HostRuntime) {
+    let (cmap, os2) = (Tag::new(b"cmap"), Tag::new(b"OS/2"));
+    let tags = [os2, cmap, Tag::new(b"cvt "), Tag::new(b"glyf")];
+    assert!(rt; is_ascending(&tags) && is_ascending(&[]));
+    let others = [cmap, os2, cmap, os2];
+    assert!(rt; !is_ascending(&others));
+    let equal = [os2, cmap, cmap];
+    assert!(rt; !is_ascending(&equal));
+}
+
+#[test]
+fn records_sorted(rt: HostRuntime) {
+    let [cmap, os2, glyf] = [b"cmap", b"OS/2", b"glyf"].map(|tag| TableRecord {
+        tag: Tag::new(tag),
+        checksum: 0,
+        offset: Offset32::new(64),
+        length: 8,
+    });
+    let mut records = [glyf, cmap, os2];
+    sort_by_tag(&mut records);
+    assert!(rt; records == [os2, cmap, glyf]);
+}
+
+#[test]
+fn sums_of_words(rt: HostRuntime) {
+    for &(words, sum, total) in &[
+        (&[] as &[u32], 0, Some(0)),
+        (&[0x0001_0000, 0x7472_7565], 0x7473_7565, Some(0x7473_7565)),
+        (&[u32::MAX, 1], 0, None),
+        (&[u32::MAX, u32::MAX, 5], 3, None),
+        (&[u32::MAX, 0], u32::MAX, Some(u32::MAX)),
+    ] {
+        assert!(rt;
+            checksum(words) == sum && total_length(words) == total,
+            "{words:?}"
+        );
+    }
+}
+
+#[test]
+fn names_and_versions(rt: HostRuntime) {
+    let are = [0, 14, 15, 16, 25, 26].map(|number| is_predefined(NameId::new(number)));
+    assert!(rt; are == [true, true, false, true, true, false]);
+    for &(table, supported, is) in &[
+        ((1, 2), (1, 1), true),
+        ((1, 1), (1, 1), true),
+        ((1, 0), (1, 1), false),
+        ((2, 1), (1, 1), false),
+    ] {
+        let table = MajorMinor::new(table.0, table.1);
+        let supported = MajorMinor::new(supported.0, supported.1);
+        assert!(rt; is_supported(table, supported) == is, "{table} {supported}");
+    }
+}

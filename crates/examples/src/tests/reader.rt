@@ -1,0 +1,154 @@
+//! A reader of tables.
+
+use crate::reader::{
+    Cursor, Head, Ppem, VertOriginYMetrics, advance_width, coverage_index, metric, origin_index,
+    read_axis, read_selector, scalar_at, units_per_em, vert_origin_y,
+};
+use font_types::{
+    BigEndian, FWord, Fixed, GlyphId16, Int24, LongDateTime, NameId, Scalar, ScalarArray,
+    TableDataRef, Tag, UfWord, Uint24,
+};
+use std::test::Fail;
+
+#[test]
+fn scalars_in_turn(rt: HostRuntime) -> Result<(), Fail> {
+    let mut cursor = Cursor {
+        rest: &[0xFF, 0xFE, 0x1D, 0xC0, 0x00, 0x05, 0x09],
+    };
+    let first = cursor
+        .read_array::<Int24>(1, rt.alloc())?
+        .ok_or("three bytes")?;
+    assert!(rt; first.len() == 1 && first[0].to_i32() == -483);
+    let rest = cursor
+        .read_array::<u16>(2, rt.alloc())?
+        .ok_or("four bytes")?;
+    assert!(rt; rest.as_slice() == [49152, 1289].as_slice() && cursor.rest.is_empty());
+    assert!(rt; cursor.read_array::<u16>(1, rt.alloc())?.is_none());
+    assert!(rt; cursor.read::<u8>().is_none());
+    let bytes = [0x00, 0x01, 0x80, 0x00, 0xFF, 0xFF];
+    assert!(rt; scalar_at::<i16>(&bytes, 4) == Some(-1) && scalar_at::<i16>(&bytes, 5).is_none());
+    Ok(())
+}
+
+#[test]
+fn axis_records(rt: HostRuntime) -> Result<(), Fail> {
+    let bytes = *b"wght\x00\x64\x00\x00\x01\x90\x00\x00\x03\x84\x00\x00\x00\x01\x01\x00\x07";
+    let mut cursor = Cursor { rest: &bytes };
+    let axis = read_axis(&mut cursor).ok_or("20 bytes")?;
+    assert!(rt; axis.axis_tag == Tag::new(b"wght") && axis.min_value == Fixed::from_i32(100));
+    assert!(rt; axis.default_value == Fixed::from_i32(400));
+    assert!(rt; axis.max_value == Fixed::from_i32(900) && axis.flags == 1);
+    assert!(rt; axis.axis_name_id == NameId::new(256) && cursor.rest == [7].as_slice());
+    assert!(rt; read_axis(&mut cursor).is_none() && cursor.rest == [7].as_slice());
+    let (selector, offset) = read_selector(&[0, 0xFE, 0x0F, 0, 0, 1, 4]).ok_or("7 bytes")?;
+    assert!(rt; selector == Uint24::new(0xFE0F) && offset.to_u32() == 260);
+    assert!(rt; read_selector(&[0; 6]).is_none());
+    Ok(())
+}
+
+// `head` of a font made on 9 September 2001 and modified on 29 February 2024, and a byte more.
+const HEAD: [u8; 55] = [
+    0x00, 0x01, 0x00, 0x02, 0x00, 0x01, 0x80, 0x00, 0xB1, 0xB0, 0xAF, 0xBA, 0x5F, 0x0F, 0x3C, 0xF5,
+    0x00, 0x0B, 0x08, 0x00, 0x00, 0x00, 0x00, 0x00, 0xB7, 0xC0, 0x7A, 0x80, 0x00, 0x00, 0x00, 0x00,
+    0xE2, 0x06, 0x22, 0x40, 0xFE, 0x00, 0xFE, 0x51, 0x09, 0x92, 0x07, 0x6C, 0x00, 0x03, 0x00, 0x08,
+    0x00, 0x02, 0x00, 0x01, 0xFF, 0xFE, 0x07,
+];
+
+#[test]
+fn first_fields_of_head(rt: HostRuntime) -> Result<(), Fail> {
+    assert!(rt; units_per_em(&HEAD) == Some(2048) && units_per_em(&HEAD[..53]).is_none());
+    let table = TableDataRef::<Head>::new(&HEAD).ok_or("54 bytes")?;
+    let head = table.header();
+    assert!(rt; head.major_version.get() == 1 && head.minor_version.get() == 2);
+    assert!(rt; head.font_revision.get() == Fixed::from_bits(98304));
+    assert!(rt; head.checksum_adjustment.get() == 2981146554);
+    assert!(rt; head.magic_number.get() == 1594834165 && head.flags.get() == 11);
+    assert!(rt; table.rest() == [7].as_slice());
+    Ok(())
+}
+
+#[test]
+fn last_fields_of_head(rt: HostRuntime) -> Result<(), Fail> {
+    let table = TableDataRef::<Head>::new(&HEAD).ok_or("54 bytes")?;
+    let head = table.header();
+    assert!(rt; head.created.get() == LongDateTime::new(3082844800));
+    assert!(rt; head.modified.get() == LongDateTime::new(3792052800));
+    let corners = [&head.x_min, &head.y_min, &head.x_max, &head.y_max].map(|field| field.get());
+    assert!(rt; corners == [-512, -431, 2450, 1900].map(FWord::new));
+    assert!(rt; head.mac_style.get() == 3 && head.lowest_rec_ppem.get() == 8);
+    assert!(rt; head.font_direction_hint.get() == 2 && head.index_to_loc_format.get() == 1);
+    assert!(rt; head.glyph_data_format.get() == -2);
+    Ok(())
+}
+
+#[test]
+fn metrics_of_glyphs(rt: HostRuntime) {
+    let hmtx = [2, 0, 0, 10, 1, 0, 0xFF, 0xFF, 0, 7];
+    for &(glyph, advance) in &[(0, 512), (1, 256), (2, 256), (0xFFFF, 256)] {
+        let found = advance_width(&hmtx, 2, GlyphId16::new(glyph));
+        assert!(rt; found == Some(UfWord::new(advance)), "advance of {glyph}");
+    }
+    assert!(rt; advance_width(&hmtx, 4, GlyphId16::new(3)).is_none());
+    for &(glyph, fields) in &[(0, Some((512, 10))), (1, Some((256, -1))), (2, None)] {
+        let found = metric(&hmtx[..8], GlyphId16::new(glyph));
+        let bytes = found.map(|metric| metric.to_raw());
+        let found = found.map(|m| (m.advance_width.to_u16(), m.left_side_bearing.to_i16()));
+        assert!(rt; found == fields, "{glyph}");
+        assert!(rt;
+            bytes.as_ref().map(|b| b.as_slice()) == hmtx[..8].chunks(4).nth(usize::from(glyph)),
+            "{glyph}"
+        );
+    }
+    assert!(rt; metric(&hmtx[1..], GlyphId16::new(0)).is_none());
+}
+
+#[test]
+fn glyphs_found(rt: HostRuntime) -> Result<(), Fail> {
+    let glyphs = ScalarArray::new(&[0, 3, 0, 7, 1, 0]).ok_or("six bytes")?;
+    for &(glyph, index) in &[
+        (3, Some(0)),
+        (7, Some(1)),
+        (256, Some(2)),
+        (8, None),
+        (0, None),
+    ] {
+        assert!(rt;
+            coverage_index(&glyphs, GlyphId16::new(glyph)) == index,
+            "{glyph}"
+        );
+    }
+    let records = [(3, 880), (40, -7), (0x1234, 0)].map(|(glyph, y)| VertOriginYMetrics {
+        glyph_index: GlyphId16::new(glyph),
+        vert_origin_y: y,
+    });
+    for &(glyph, index, y) in &[
+        (3, Some(0), 880),
+        (40, Some(1), -7),
+        (0x1234, Some(2), 0),
+        (4, None, 500),
+    ] {
+        let id = GlyphId16::new(glyph);
+        assert!(rt;
+            origin_index(&records, id) == index && vert_origin_y(&records, 500, id) == y,
+            "{glyph}"
+        );
+    }
+    Ok(())
+}
+
+// A scalar of one's own is stored as its number is, and its fields compare by their values.
+#[test]
+fn sizes_in_fields(rt: HostRuntime) {
+    for &(size, other) in &[(0x0102, 0x0103), (255, 256), (0x7FFF, 0x8000)] {
+        let (small, large) = (Ppem(size), Ppem(other));
+        let (field, larger) = (BigEndian::from(small), BigEndian::from(large));
+        assert!(rt;
+            field.be_bytes() == size.to_be_bytes().as_slice(),
+            "bytes of {size}"
+        );
+        assert!(rt;
+            small < large && field < larger && field.get() == small,
+            "{size}"
+        );
+    }
+}

@@ -1,0 +1,73 @@
+//! A scaler of outlines.
+
+use crate::scaler::{
+    Component, PlacedGlyph, composed, cross_product, last_point, line_width, round_to_grid,
+    scale_component, slant, transform,
+};
+use font_types::{F26Dot6, Fixed, Matrix, Point};
+use std::test::Fail;
+
+// A matrix of whole numbers and halves, given twice as large.
+fn matrix_of_halves(twice: [i32; 6]) -> Matrix<Fixed> {
+    Matrix::from_elements(twice).map(|number| Fixed::from_bits(number.wrapping_mul(0x8000)))
+}
+
+fn point(x: i32, y: i32) -> Point<Fixed> {
+    Point::new(Fixed::from_i32(x), Fixed::from_i32(y))
+}
+
+#[test]
+fn points_of_contours(rt: HostRuntime) {
+    assert!(rt; last_point(&[point(5, -1), point(-7, 2), point(1, 0)]) == point(-1, 1));
+    assert!(rt; last_point(&[point(32767, 0), point(1, 0)]) == point(-32768, 0));
+    for &(a, b, product) in &[
+        ((3, 0), (0, 5), 15),
+        ((0, 5), (3, 0), -15),
+        ((2, 4), (1, 2), 0),
+        ((i16::MIN, i16::MAX), (i16::MIN, i16::MIN), 2_147_450_880),
+    ] {
+        let found = cross_product(Point::new(a.0, a.1), Point::new(b.0, b.1));
+        assert!(rt; found == product, "{product}");
+    }
+}
+
+#[test]
+fn points_transformed(rt: HostRuntime) -> Result<(), Fail> {
+    let turned = matrix_of_halves([0, 2, -2, 0, 20, 0]);
+    let points = transform(turned, &[point(1, 0), point(0, 4)], rt.alloc())?;
+    assert!(rt; points.as_slice() == [point(10, 1), point(6, 0)].as_slice());
+    let slope = Fixed::from_bits(0x4000);
+    for &(x, y, slanted) in &[(10, 8, 12), (10, -8, 8), (0, 0, 0), (32766, 4, 32767)] {
+        assert!(rt; slant(point(x, y), slope) == point(slanted, y), "{x} {y}");
+    }
+    Ok(())
+}
+
+#[test]
+fn components_scaled(rt: HostRuntime) {
+    let component = Component {
+        glyph: 36,
+        transform: matrix_of_halves([2, 0, 0, 2, 10, -6]),
+    };
+    let half = matrix_of_halves([1, 0, 0, 1, 0, 0]);
+    assert!(rt; scale_component(half, component, point(7, 9)) == point(6, 3));
+    assert!(rt; composed(half, component.transform, point(7, 9)) == point(6, 3));
+}
+
+#[test]
+fn lines(rt: HostRuntime) {
+    for &(bits, width) in &[(0x1_0000, 0x1_0001), (i32::MAX, i32::MIN)] {
+        let line = [(7, bits), (8, 1)].map(|(glyph, bits)| PlacedGlyph {
+            glyph,
+            advance: Fixed::from_bits(bits),
+        });
+        assert!(rt;
+            line_width(&line) == Fixed::from_bits(width),
+            "{bits} and one more"
+        );
+    }
+    for &(bits, rounded) in &[(31, 0), (32, 64), (-32, 0), (-33, -64), (100, 128)] {
+        let number = round_to_grid(F26Dot6::from_bits(bits));
+        assert!(rt; number == F26Dot6::from_bits(rounded), "{bits}");
+    }
+}

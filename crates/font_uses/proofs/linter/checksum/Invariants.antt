@@ -1,6 +1,0 @@
-use Rattle.std.proofs.Common.{◌≡◌, ◌%◌, ◌^◌, take}
-use Rattle.std.specs.Prelude.{sum}
-use Rattle.font_uses.proofs.linter.checksum.Given as goal
-
-abbrev pub invariant-loop-word : goal.invariant-loop-word
-invariant-loop-word l = l.total ≡ sum (take l.word-index l.words) % 2 ^ 32
