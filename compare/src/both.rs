@@ -107,7 +107,7 @@ macro_rules! of_fixed_point_types {
     };
 }
 
-include!("../../rust/types.in");
+include!("../../tools/src/types.in");
 
 /// The type of this name.
 pub fn named(name: &str) -> &'static Both {

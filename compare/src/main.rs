@@ -51,7 +51,7 @@ macro_rules! of_fixed_point_types {
     };
 }
 
-include!("../../rust/types.in");
+include!("../../tools/src/types.in");
 
 fn main() -> ExitCode {
     let arguments: Vec<String> = std::env::args().skip(1).collect();

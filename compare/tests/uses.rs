@@ -3,7 +3,7 @@
 
 use font_types::*;
 
-include!("../../rust/tests/uses.in");
+include!("../../tests/uses.in");
 
 #[test]
 fn each_use() {

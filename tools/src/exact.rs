@@ -19,7 +19,7 @@ macro_rules! of_fixed_point_types {
     };
 }
 
-include!("../../rust/types.in");
+include!("types.in");
 
 impl Type {
     pub fn named(name: &[u8]) -> Option<Self> {

@@ -4,6 +4,7 @@
 pub mod alike;
 pub mod assertions;
 pub mod calling;
+pub mod erase;
 pub mod exact;
 pub mod header;
 pub mod lists;

@@ -46,6 +46,7 @@ pub fn keep(path: &str, right: &[u8], write: bool) -> bool {
         return true;
     }
     if write {
+        fs::create_dir_all(file.parent().unwrap()).unwrap();
         fs::write(&file, right).unwrap();
         println!("written: {path}");
     } else {

@@ -12,7 +12,7 @@ ghost use Rattle.font_tags.specs.Tag.{tag_bytes, tag_of, four_spaces, IsVisible}
 ghost use Rattle.font_tags.specs.Tag.{IsGood, IsFault, IsAcceptable, IsChecked, IsValidated};
 ghost use Rattle.font_tags.specs.Tag.{byte_text, tag_text};
 
-use font_base::{BeByteArray, FixedSize, IdentityEq, Scalar};
+use font_base::{FixedSize, IdentityEq, Scalar};
 use std::cmp::Ordering;
 use std::fmt;
 use std::str::FromStr;
@@ -344,7 +344,7 @@ impl Scalar for Tag {
 
     #[inline]
     fn to_raw(self) -> [u8; 4] {
-        let _bytes = BeByteArray::as_slice(&self.0);
+        let _bytes = font_base::BeByteArray::as_slice(&self.0);
         self.0
     }
 }

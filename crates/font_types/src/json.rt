@@ -116,3 +116,15 @@ fn natural(value: &Value, max: u32) -> Result<u32, JsonFault>
 {
     Ok(number_within(value, 0, i64::from(max))? as u32)
 }
+
+/// Converts a value to JSON and back: the result is the value, except that an invalid tag is an
+/// error.
+///
+/// The outer result is that of `to_json`, the inner one that of `from_json`.
+pub fn round_trip<T: JsonScalar>(value: T, alloc: Global) -> Result<Result<T, JsonFault>, JsonFault>
+    ensures back { IfOk result (λ read. T.form.comes_back value read) }
+    ensures refused { IfErr result (λ fault. T.form.refuses value fault) }
+{
+    let shown = value.to_json(alloc)?;
+    Ok(T::from_json(&shown))
+}

@@ -96,4 +96,4 @@ macro_rules! of_fixed_point_types {
     };
 }
 
-include!("../../../../../rust/types.in");
+include!("../../../../../tools/src/types.in");

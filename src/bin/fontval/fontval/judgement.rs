@@ -1,0 +1,26 @@
+// @generated from crates/fontval/src/judgement.rt by tools/src/bin/erase.rs
+
+//! What is said of a tag.
+
+use font_types_proved::{InvalidTag, Tag};
+use std::fmt;
+
+/// A tag, and whether it is good.
+pub struct Judgement {
+    /// The tag.
+    pub tag: Tag,
+    /// That it is good, or the fault that it has.
+    pub verdict: Result<(), InvalidTag>,
+}
+
+impl fmt::Display for Judgement {
+    fn fmt(&self, f: &mut fmt::Formatter<'_>) -> fmt::Result {
+        write!(f, "{}", self.tag)?;
+        match &self.verdict {
+            Ok(()) => write!(f, " valid"),
+            Err(InvalidTag::InvalidLength(_)) => write!(f, " length"),
+            Err(InvalidTag::InvalidByte { pos, .. }) => write!(f, " byte {pos}"),
+            Err(InvalidTag::ByteAfterSpace { pos }) => write!(f, " space {pos}"),
+        }
+    }
+}

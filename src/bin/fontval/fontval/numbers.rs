@@ -1,0 +1,115 @@
+// @generated from crates/fontval/src/numbers.rt by tools/src/bin/erase.rs
+
+//! The numbers that the words of a line are read as.
+
+use crate::rattle::Vec;
+
+use crate::fontval::refusal::{Refusal, Unanswered};
+use crate::fontval::text::Words;
+use crate::rattle::alloc::Allocator;
+use font_types_proved::Fixed;
+
+// How many terms the list has room for at first.
+const FEW_TERMS: usize = 16;
+
+/// The numbers that just N words are read as.
+///
+/// The words are read as they come, and counted only where one of them is refused: their number is
+/// judged before any of them.
+pub fn fixed_numbers<const N: usize>(mut words: Words<'_>) -> Result<[Fixed; N], Refusal> {
+    let mut numbers = [Fixed::ZERO; N];
+    let mut at = 0;
+    while let Some(word) = words.next() {
+        if at == N {
+            return Err(Refusal::WordCount);
+        }
+        match fixed_number(word) {
+            Ok(number) => numbers[at] = number,
+            Err(refusal) if words.left() == N - at - 1 => return Err(refusal),
+            Err(_) => return Err(Refusal::WordCount),
+        }
+        at += 1;
+    }
+    if at < N {
+        return Err(Refusal::WordCount);
+    }
+    Ok(numbers)
+}
+
+// The `Fixed` that a word is read as.
+#[inline(always)]
+fn fixed_number(word: &[u8]) -> Result<Fixed, Refusal> {
+    Ok(Fixed::from_decimal_bytes(word)?)
+}
+
+/// The terms that words are read as two by two: a scalar, and a whole number of font units.
+///
+/// The words are counted only where one of them is refused, as those of `fixed_numbers`.
+pub fn terms<A: Allocator>(
+    alloc: A,
+    mut words: Words<'_>,
+) -> Result<Vec<(Fixed, i32), A>, Unanswered> {
+    let mut terms = Vec::with_capacity(alloc, FEW_TERMS)?;
+    while let Some(scalar) = words.next() {
+        let delta = words.next().ok_or(Refusal::WordCount)?;
+        match term(scalar, delta) {
+            Ok(term) => terms.push(term).map_err(|_| Unanswered::Memory)?,
+            Err(refusal) => {
+                in_pairs(&words)?;
+                return Err(refusal.into());
+            }
+        }
+    }
+    Ok(terms)
+}
+
+/// Whether the words can be taken two by two.
+pub fn in_pairs(words: &Words<'_>) -> Result<(), Refusal> {
+    if words.left().is_multiple_of(2) {
+        Ok(())
+    } else {
+        Err(Refusal::WordCount)
+    }
+}
+
+// The term that two words are read as.
+#[inline(always)]
+fn term(scalar: &[u8], delta: &[u8]) -> Result<(Fixed, i32), Refusal> {
+    Ok((fixed_number(scalar)?, whole_number(delta)?))
+}
+
+/// The whole number of 32 bits that a word is read as.
+pub fn whole_number(word: &[u8]) -> Result<i32, Refusal> {
+    let (negative, digits) = split_minus(word);
+    let magnitude = magnitude_of_digits(digits).ok_or(Refusal::NotWhole)?;
+    let number = if negative { -magnitude } else { magnitude };
+    i32::try_from(number).map_err(|_| Refusal::OutOfRange)
+}
+
+/// The whole number of 16 bits that a word is read as.
+pub fn whole_number_16(word: &[u8]) -> Result<i16, Refusal> {
+    i16::try_from(whole_number(word)?).map_err(|_| Refusal::OutOfRange)
+}
+
+// Whether a word begins with a `-`, and what stands behind it.
+fn split_minus(word: &[u8]) -> (bool, &[u8]) {
+    match word {
+        [b'-', rest @ ..] => (true, rest),
+        _ => (false, word),
+    }
+}
+
+// The number that one or more digits write, or 2^40 where it is greater.
+fn magnitude_of_digits(digits: &[u8]) -> Option<i64> {
+    if digits.is_empty() {
+        return None;
+    }
+    let mut number = 0u64;
+    for digit in digits {
+        if !digit.is_ascii_digit() {
+            return None;
+        }
+        number = (number * 10 + u64::from(*digit - b'0')).min(1 << 40);
+    }
+    Some(number as i64)
+}

@@ -1,0 +1,49 @@
+// @generated from crates/fontval/src/parse.rt by tools/src/bin/erase.rs
+
+//! What a command makes of its words.
+
+use crate::rattle::hex;
+
+use crate::fontval::refusal::Refusal;
+use crate::fontval::text::Words;
+
+// The word of a command that takes one.
+fn only_word(mut words: Words<'_>) -> Result<&[u8], Refusal> {
+    match (words.next(), words.next()) {
+        (Some(word), None) => Ok(word),
+        _ => Err(Refusal::WordCount),
+    }
+}
+
+/// The words of a command that takes two.
+pub fn two_words(mut words: Words<'_>) -> Result<(&[u8], &[u8]), Refusal> {
+    match (words.next(), words.next(), words.next()) {
+        (Some(first), Some(second), None) => Ok((first, second)),
+        _ => Err(Refusal::WordCount),
+    }
+}
+
+/// The bytes of the only word, of hexadecimal digits of either case.
+///
+/// Where all that is left are such digits, they are one word, and no other is sought.
+pub fn hexadecimal<const N: usize>(words: Words<'_>) -> Result<[u8; N], Refusal> {
+    match decoded(words.rest) {
+        Ok(bytes) => Ok(bytes),
+        Err(_) => hexadecimal_word(words),
+    }
+}
+
+// The same, with the words told apart first.
+#[cold]
+#[inline(never)]
+fn hexadecimal_word<const N: usize>(words: Words<'_>) -> Result<[u8; N], Refusal> {
+    decoded(only_word(words)?)
+}
+
+// The bytes of a text of hexadecimal digits.
+#[inline(never)]
+fn decoded<const N: usize>(text: &[u8]) -> Result<[u8; N], Refusal> {
+    let mut bytes = [0; N];
+    hex::decode_to_slice(text, &mut bytes).map_err(|_| Refusal::NotHexadecimal)?;
+    Ok(bytes)
+}

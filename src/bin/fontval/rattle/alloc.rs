@@ -1,0 +1,104 @@
+//! Fallible vectors and strings over std's, which abort if there is no memory.
+
+use core::fmt;
+use core::marker::PhantomData;
+use core::ops::Deref;
+use std::{string, vec};
+
+/// There is no memory.
+#[derive(Clone, Copy, Debug)]
+pub struct AllocError;
+
+/// What gives memory. All of it is that of Rust's global allocator.
+pub trait Allocator {}
+
+/// Rust's global allocator.
+#[derive(Clone, Copy)]
+pub struct Global;
+
+impl Allocator for Global {}
+
+/// A vector.
+pub struct Vec<T, A> {
+    items: vec::Vec<T>,
+    alloc: PhantomData<A>,
+}
+
+impl<T, A: Allocator> Vec<T, A> {
+    pub fn new(_alloc: A) -> Self {
+        Self {
+            items: vec::Vec::new(),
+            alloc: PhantomData,
+        }
+    }
+
+    pub fn with_capacity(alloc: A, capacity: usize) -> Result<Self, AllocError> {
+        let mut vec = Self::new(alloc);
+        vec.items.try_reserve(capacity).map_err(|_| AllocError)?;
+        Ok(vec)
+    }
+
+    pub fn push(&mut self, item: T) -> Result<(), AllocError> {
+        self.items.try_reserve(1).map_err(|_| AllocError)?;
+        self.items.push(item);
+        Ok(())
+    }
+
+    pub fn extend_from_slice(&mut self, items: &[T]) -> Result<(), AllocError>
+    where
+        T: Copy,
+    {
+        let more = items.len();
+        self.items.try_reserve(more).map_err(|_| AllocError)?;
+        self.items.extend_from_slice(items);
+        Ok(())
+    }
+}
+
+impl<T, A> Deref for Vec<T, A> {
+    type Target = [T];
+
+    fn deref(&self) -> &[T] {
+        &self.items
+    }
+}
+
+/// A text.
+pub struct String<A> {
+    text: string::String,
+    alloc: PhantomData<A>,
+}
+
+impl<A: Allocator> String<A> {
+    pub fn new(_alloc: A) -> Self {
+        Self {
+            text: string::String::new(),
+            alloc: PhantomData,
+        }
+    }
+
+    pub fn push_str(&mut self, text: &str) -> Result<(), AllocError> {
+        self.text.try_reserve(text.len()).map_err(|_| AllocError)?;
+        self.text.push_str(text);
+        Ok(())
+    }
+
+    /// What `write!` calls. Nothing that is written refuses but memory.
+    pub fn write_fmt(&mut self, text: fmt::Arguments<'_>) -> Result<(), AllocError> {
+        fmt::Write::write_fmt(self, text).map_err(|_| AllocError)
+    }
+}
+
+impl<A: Allocator> fmt::Write for String<A> {
+    fn write_str(&mut self, text: &str) -> fmt::Result {
+        self.push_str(text).map_err(|_| fmt::Error)
+    }
+}
+
+impl<A> Deref for String<A> {
+    type Target = str;
+
+    fn deref(&self) -> &str {
+        &self.text
+    }
+}

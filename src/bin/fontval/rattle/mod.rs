@@ -1,0 +1,22 @@
+//! What the program uses of Rattle's std.
+
+pub mod alloc;
+pub mod hex;
+pub mod io;
+pub mod simd;
+
+#[allow(unused_imports)]
+pub use alloc::{String, Vec};
+
+/// The right to what is outside the program.
+pub struct HostRuntime;
+
+impl HostRuntime {
+    pub fn stdin(&self) -> io::Stream {
+        io::reader(self)
+    }
+
+    pub fn alloc(&self) -> alloc::Global {
+        alloc::Global
+    }
+}

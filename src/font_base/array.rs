@@ -1,0 +1,339 @@
+// @generated from crates/font_base/src/array.rt by tools/src/bin/erase.rs
+
+//! Arrays of scalars over the bytes of a table.
+
+use crate::font_base::raw::Scalar;
+use core::cmp::Ordering;
+use core::iter::FusedIterator;
+use core::marker::PhantomData;
+
+/// An array of scalars over its bytes, one element behind the other.
+///
+/// The length is checked once, where the view is made; an element is decoded where it is asked for.
+/// A record of one's own that is a [`Scalar`] can be an element too.
+///
+/// ```
+/// use font_types_proved::ScalarArray;
+/// let ends = ScalarArray::<u16>::new(&[0x00, 0x5A, 0x00, 0x7A, 0xFF, 0xFF]).unwrap();
+/// assert_eq!((ends.len(), ends.get(1)), (3, Some(0x7A)));
+/// assert_eq!(ends.binary_search(&0x60), Err(1));
+/// assert_eq!(ends.iter().next_back(), Some(0xFFFF));
+/// assert!(ScalarArray::<u16>::new(&[0x00]).is_none());
+/// ```
+pub struct ScalarArray<'a, T: Scalar> {
+    data: &'a [u8],
+    scalar: PhantomData<T>,
+}
+
+impl<'a, T: Scalar> ScalarArray<'a, T> {
+    /// The array in these bytes, or `None` where their number is no multiple of `RAW_BYTE_LEN`.
+    ///
+    /// Where `RAW_BYTE_LEN` is 0, only the empty bytes are an array, and it is empty.
+    ///
+    /// <details><summary>Contract</summary>
+    ///
+    /// ```text
+    /// ensures whole { IsSome result ↔ (length «data».now % T.RAW_BYTE_LEN ≡ 0) }
+    /// ensures bytes { IfSome result (λ array. array_bytes array ≡ «data».now) }
+    /// ```
+    ///
+    /// Defined:
+    /// [`array_bytes`](crate::contracts::font_base::Array).
+    /// [How to read it](crate::contracts).
+    ///
+    /// </details>
+    #[must_use]
+    pub fn new(data: &'a [u8]) -> Option<ScalarArray<'a, T>> {
+        // A remainder by 0 is the number itself.
+        let left = data
+            .len()
+            .checked_rem(T::RAW_BYTE_LEN)
+            .unwrap_or(data.len());
+        if left != 0 {
+            return None;
+        }
+        Some(ScalarArray {
+            data,
+            scalar: PhantomData,
+        })
+    }
+
+    /// How many elements there are.
+    ///
+    /// <details><summary>Contract</summary>
+    ///
+    /// ```text
+    /// ensures value { result ≡ array_len self.now }
+    /// ensures bytes { result * T.RAW_BYTE_LEN ≡ length (array_bytes self.now) }
+    /// ```
+    ///
+    /// Defined:
+    /// [`array_bytes`](crate::contracts::font_base::Array),
+    /// [`array_len`](crate::contracts::font_base::Array).
+    /// [How to read it](crate::contracts).
+    ///
+    /// </details>
+    #[must_use]
+    pub fn len(&self) -> usize {
+        self.data.len().checked_div(T::RAW_BYTE_LEN).unwrap_or(0)
+    }
+
+    /// Whether there is no element.
+    ///
+    /// <details><summary>Contract</summary>
+    ///
+    /// ```text
+    /// ensures { IsTrue result ↔ (array_len self.now ≡ 0) }
+    /// ```
+    ///
+    /// Defined:
+    /// [`array_len`](crate::contracts::font_base::Array).
+    /// [How to read it](crate::contracts).
+    ///
+    /// </details>
+    #[must_use]
+    pub fn is_empty(&self) -> bool {
+        self.len() == 0
+    }
+
+    /// All the bytes.
+    ///
+    /// <details><summary>Contract</summary>
+    ///
+    /// ```text
+    /// ensures { result.now ≡ array_bytes self.now }
+    /// ```
+    ///
+    /// Defined:
+    /// [`array_bytes`](crate::contracts::font_base::Array).
+    /// [How to read it](crate::contracts).
+    ///
+    /// </details>
+    #[must_use]
+    pub fn as_bytes(&self) -> &'a [u8] {
+        self.data
+    }
+
+    /// The element of that index, the first has 0, or `None` behind the end.
+    ///
+    /// <details><summary>Contract</summary>
+    ///
+    /// ```text
+    /// ensures end { IsSome result ↔ (index < array_len self.now) }
+    /// ensures stored { IfSome result (λ v.
+    ///     T.Raw.bytes (T.raw_of v) ≡ element_bytes self.now index) }
+    /// ensures reads { IfSome result (λ v.
+    ///     IsValueOf T.Raw.bytes T.of_raw (element_bytes self.now index) v) }
+    /// ensures value { IfSome result (λ v. IsTrue (T.is_scalar v)) }
+    /// ```
+    ///
+    /// Defined:
+    /// [`IsValueOf`](crate::contracts::font_base::Scalar),
+    /// [`array_len`](crate::contracts::font_base::Array),
+    /// [`element_bytes`](crate::contracts::font_base::Array).
+    /// [How to read it](crate::contracts).
+    ///
+    /// </details>
+    #[must_use]
+    pub fn get(&self, index: usize) -> Option<T> {
+        if index >= self.len() {
+            return None;
+        }
+        let start = index * T::RAW_BYTE_LEN;
+        T::read(&self.data[start..start + T::RAW_BYTE_LEN])
+    }
+
+    /// The elements, first to last, and from the back.
+    ///
+    /// <details><summary>Contract</summary>
+    ///
+    /// ```text
+    /// ensures { elements_left result ≡ array_elements self.now }
+    /// ```
+    ///
+    /// Defined:
+    /// [`array_elements`](crate::contracts::font_base::Array),
+    /// [`elements_left`](crate::contracts::font_base::Array).
+    /// [How to read it](crate::contracts).
+    ///
+    /// </details>
+    #[must_use]
+    pub fn iter(&self) -> ScalarArrayIter<'a, T> {
+        ScalarArrayIter { rest: *self }
+    }
+}
+
+impl<'a, T: Scalar> Clone for ScalarArray<'a, T> {
+    fn clone(&self) -> ScalarArray<'a, T> {
+        ScalarArray {
+            data: self.data,
+            scalar: PhantomData,
+        }
+    }
+}
+
+impl<'a, T: Scalar> Copy for ScalarArray<'a, T> {}
+
+impl<'a, T: Scalar> ScalarArray<'a, T> {
+    /// Where an element of that key stands, in an array that is sorted by it; where there are
+    /// several, any of them.
+    ///
+    /// # Errors
+    ///
+    /// The index at which one could be put in, where there is none.
+    ///
+    /// <details><summary>Contract</summary>
+    ///
+    /// ```text
+    /// requires { F.IsAlwaysCallable key_of }
+    /// ensures { (of : T → K) → ((v : T) (k : K) → F.post key_of v k → k ≡ of v)
+    ///     → IsSearched self.now (λ v. K.cmp (of v) key.now) result }
+    /// ```
+    ///
+    /// Defined:
+    /// [`IsSearched`](crate::contracts::font_base::Array).
+    /// [How to read it](crate::contracts).
+    ///
+    /// </details>
+    pub fn binary_search_by_key<K: Ord + Copy, F: Fn(T) -> K>(
+        &self,
+        key: &K,
+        key_of: F,
+    ) -> Result<usize, usize> {
+        let mut low = 0;
+        let mut high = self.len();
+        while low < high {
+            let middle = low + (high - low) / 2;
+            let Some(value) = self.get(middle) else {
+                return Err(low);
+            };
+            match key_of(value).cmp(key) {
+                Ordering::Less => low = middle + 1,
+                Ordering::Greater => high = middle,
+                Ordering::Equal => return Ok(middle),
+            }
+        }
+        Err(low)
+    }
+
+    /// Where an element equal to the key stands, in an array that is sorted; where there are
+    /// several, any of them.
+    ///
+    /// # Errors
+    ///
+    /// The index at which the key could be put in, where there is none.
+    ///
+    /// <details><summary>Contract</summary>
+    ///
+    /// ```text
+    /// ensures { IsSearched self.now (λ v. T.cmp v key.now) result }
+    /// ```
+    ///
+    /// Defined:
+    /// [`IsSearched`](crate::contracts::font_base::Array).
+    /// [How to read it](crate::contracts).
+    ///
+    /// </details>
+    pub fn binary_search(&self, key: &T) -> Result<usize, usize>
+    where
+        T: Ord + Copy,
+    {
+        self.binary_search_by_key(key, |value| value)
+    }
+}
+
+/// Goes over the elements of an array, first to last or from the back.
+pub struct ScalarArrayIter<'a, T: Scalar> {
+    rest: ScalarArray<'a, T>,
+}
+
+/// <details><summary>Contract</summary>
+///
+/// ```text
+/// next_gives = { YieldsFirstBy (λ v. T.Raw.bytes (T.raw_of v)) elements_left }
+/// ```
+///
+/// Defined:
+/// [`elements_left`](crate::contracts::font_base::Array).
+/// [How to read it](crate::contracts).
+///
+/// </details>
+impl<'a, T: Scalar> Iterator for ScalarArrayIter<'a, T> {
+    type Item = T;
+
+    fn next(&mut self) -> Option<T> {
+        if self.rest.is_empty() {
+            return None;
+        }
+        let (first, others) = self.rest.data.split_at(T::RAW_BYTE_LEN);
+        self.rest = ScalarArray {
+            data: others,
+            scalar: PhantomData,
+        };
+        T::read(first)
+    }
+
+    fn size_hint(&self) -> (usize, Option<usize>) {
+        let left = self.rest.len();
+        (left, Some(left))
+    }
+}
+
+/// <details><summary>Contract</summary>
+///
+/// ```text
+/// next_back_gives = { YieldsLastBy (λ v. T.Raw.bytes (T.raw_of v)) elements_left }
+/// ```
+///
+/// Defined:
+/// [`elements_left`](crate::contracts::font_base::Array).
+/// [How to read it](crate::contracts).
+///
+/// </details>
+impl<'a, T: Scalar> DoubleEndedIterator for ScalarArrayIter<'a, T> {
+    fn next_back(&mut self) -> Option<T> {
+        let front = self.rest.len().checked_sub(1)?;
+        let (others, last) = self.rest.data.split_at(front * T::RAW_BYTE_LEN);
+        self.rest = ScalarArray {
+            data: others,
+            scalar: PhantomData,
+        };
+        T::read(last)
+    }
+}
+
+impl<'a, T: Scalar> ExactSizeIterator for ScalarArrayIter<'a, T> {
+    fn len(&self) -> usize {
+        self.rest.len()
+    }
+}
+
+impl<'a, T: Scalar> FusedIterator for ScalarArrayIter<'a, T> {}
+
+impl<'a, T: Scalar> Clone for ScalarArrayIter<'a, T> {
+    fn clone(&self) -> ScalarArrayIter<'a, T> {
+        ScalarArrayIter { rest: self.rest }
+    }
+}
+
+/// <details><summary>Contract</summary>
+///
+/// ```text
+/// into_iter_gives = { λ array iter. elements_left iter ≡ array_elements array }
+/// ```
+///
+/// Defined:
+/// [`array_elements`](crate::contracts::font_base::Array),
+/// [`elements_left`](crate::contracts::font_base::Array).
+/// [How to read it](crate::contracts).
+///
+/// </details>
+impl<'a, T: Scalar> IntoIterator for ScalarArray<'a, T> {
+    type Item = T;
+
+    type IntoIter = ScalarArrayIter<'a, T>;
+
+    fn into_iter(self) -> ScalarArrayIter<'a, T> {
+        self.iter()
+    }
+}

@@ -1,0 +1,216 @@
+// @generated from crates/font_base/src/int24.rt by tools/src/bin/erase.rs
+
+//! The signed integer of 24 bits.
+
+use crate::font_base::raw::{FixedSize, IdentityEq, Scalar};
+use crate::font_base::uint24::Uint24;
+use core::fmt;
+
+/// A signed integer of 24 bits, from -8388608 to 8388607.
+///
+/// ```
+/// use font_types_proved::Int24;
+/// assert_eq!(Int24::new(-2).to_be_bytes(), [0xFF, 0xFF, 0xFE]);
+/// assert_eq!(Int24::checked_new(8388608), None);
+/// ```
+#[derive(Clone, Copy, PartialEq, Eq, PartialOrd, Ord, Hash)]
+pub struct Int24 {
+    value: i32,
+}
+
+impl Int24 {
+    /// The least value, -8388608.
+    pub const MIN: Self = Int24 { value: -0x80_0000 };
+
+    /// The greatest value, 8388607.
+    pub const MAX: Self = Int24 { value: 0x7F_FFFF };
+
+    /// The number, or the nearest value where the number is out of range.
+    ///
+    /// <details><summary>Contract</summary>
+    ///
+    /// ```text
+    /// ensures { int24_number result ≡ int_max INT24_MIN (int_min raw INT24_MAX) }
+    /// ```
+    ///
+    /// Defined:
+    /// [`INT24_MIN`](crate::contracts::font_base::Int24),
+    /// [`INT24_MAX`](crate::contracts::font_base::Int24),
+    /// [`int24_number`](crate::contracts::font_base::Int24).
+    /// [How to read it](crate::contracts).
+    ///
+    /// </details>
+    #[must_use]
+    #[inline]
+    pub const fn new(raw: i32) -> Int24 {
+        if raw < Self::MIN.value {
+            Self::MIN
+        } else if raw > Self::MAX.value {
+            Self::MAX
+        } else {
+            Int24 { value: raw }
+        }
+    }
+
+    /// The number, or `None` where it is out of range.
+    ///
+    /// <details><summary>Contract</summary>
+    ///
+    /// ```text
+    /// ensures variant { IsSome result ↔ ((INT24_MIN ≤ℤ raw) × (raw ≤ℤ INT24_MAX)) }
+    /// ensures value { IfSome result (λ n. int24_number n ≡ raw) }
+    /// ```
+    ///
+    /// Defined:
+    /// [`INT24_MIN`](crate::contracts::font_base::Int24),
+    /// [`INT24_MAX`](crate::contracts::font_base::Int24),
+    /// [`int24_number`](crate::contracts::font_base::Int24).
+    /// [How to read it](crate::contracts).
+    ///
+    /// </details>
+    #[must_use]
+    #[inline]
+    pub const fn checked_new(raw: i32) -> Option<Int24> {
+        if raw < Self::MIN.value || raw > Self::MAX.value {
+            None
+        } else {
+            Some(Int24 { value: raw })
+        }
+    }
+
+    /// The number.
+    ///
+    /// <details><summary>Contract</summary>
+    ///
+    /// ```text
+    /// ensures { result ≡ int24_number self }
+    /// ```
+    ///
+    /// Defined:
+    /// [`int24_number`](crate::contracts::font_base::Int24).
+    /// [How to read it](crate::contracts).
+    ///
+    /// </details>
+    #[must_use]
+    #[inline]
+    pub const fn to_i32(self) -> i32 {
+        self.value
+    }
+
+    /// The three bytes in two's complement, highest first.
+    ///
+    /// <details><summary>Contract</summary>
+    ///
+    /// ```text
+    /// ensures { result ≡ bytes_of 3 (int24_number self) }
+    /// ```
+    ///
+    /// Defined:
+    /// [`int24_number`](crate::contracts::font_base::Int24),
+    /// [`bytes_of`](crate::contracts::font_base::Bytes).
+    /// [How to read it](crate::contracts).
+    ///
+    /// </details>
+    #[must_use]
+    #[inline]
+    pub const fn to_be_bytes(self) -> [u8; 3] {
+        let [_, high, middle, low] = self.value.to_be_bytes();
+        [high, middle, low]
+    }
+
+    /// The number of three bytes in two's complement, highest first.
+    ///
+    /// <details><summary>Contract</summary>
+    ///
+    /// ```text
+    /// ensures bytes { bytes ≡ bytes_of 3 (int24_number result) }
+    /// ensures number { int24_number result ≡ signed_numeral 3 bytes }
+    /// ```
+    ///
+    /// Defined:
+    /// [`int24_number`](crate::contracts::font_base::Int24),
+    /// [`signed_numeral`](crate::contracts::font_base::Bytes),
+    /// [`bytes_of`](crate::contracts::font_base::Bytes).
+    /// [How to read it](crate::contracts).
+    ///
+    /// </details>
+    #[must_use]
+    #[inline]
+    pub const fn from_be_bytes(bytes: [u8; 3]) -> Int24 {
+        let unsigned = Uint24::from_be_bytes(bytes).to_u32() as i32;
+        let value = if unsigned > Self::MAX.value {
+            unsigned - 0x100_0000
+        } else {
+            unsigned
+        };
+        Int24 { value }
+    }
+}
+
+impl Default for Int24 {
+    #[inline]
+    fn default() -> Int24 {
+        Int24 { value: 0 }
+    }
+}
+
+impl fmt::Debug for Int24 {
+    fn fmt(&self, f: &mut fmt::Formatter<'_>) -> fmt::Result {
+        f.debug_tuple("Int24").field(&self.value).finish()
+    }
+}
+
+/// <details><summary>Contract</summary>
+///
+/// ```text
+/// output = { λ n. Some (signed_decimal (int24_number n)) }
+/// ```
+///
+/// Defined:
+/// [`int24_number`](crate::contracts::font_base::Int24).
+/// [How to read it](crate::contracts).
+///
+/// </details>
+impl fmt::Display for Int24 {
+    fn fmt(&self, f: &mut fmt::Formatter<'_>) -> fmt::Result {
+        fmt::Display::fmt(&self.value, f)
+    }
+}
+
+/// <details><summary>Contract</summary>
+///
+/// ```text
+/// from_gives = { λ n number. number ≡ int24_number n }
+/// ```
+///
+/// Defined:
+/// [`int24_number`](crate::contracts::font_base::Int24).
+/// [How to read it](crate::contracts).
+///
+/// </details>
+impl From<Int24> for i32 {
+    #[inline]
+    fn from(n: Int24) -> i32 {
+        n.value
+    }
+}
+
+impl FixedSize for Int24 {
+    const RAW_BYTE_LEN: usize = 3;
+}
+
+impl Scalar for Int24 {
+    type Raw = [u8; 3];
+
+    #[inline]
+    fn from_raw(raw: [u8; 3]) -> Int24 {
+        Int24::from_be_bytes(raw)
+    }
+
+    #[inline]
+    fn to_raw(self) -> [u8; 3] {
+        self.to_be_bytes()
+    }
+}
+
+impl IdentityEq for Int24 {}

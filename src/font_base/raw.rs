@@ -1,0 +1,295 @@
+// @generated from crates/font_base/src/raw.rt by tools/src/bin/erase.rs
+
+//! Scalars, and the big-endian bytes that they are stored as.
+
+/// An array of a fixed number of bytes, highest first.
+pub trait BeByteArray: Copy {
+    /// How many bytes the array has.
+    const LEN: usize;
+
+    /// The array with the slice's bytes, or `None` where the slice has another length than `LEN`.
+    ///
+    /// <details><summary>Contract</summary>
+    ///
+    /// ```text
+    /// ensures length { IsSome result ↔ (length slice.now ≡ LEN) }
+    /// ensures value { IfSome result (λ array. IsTrue (is_value array)) }
+    /// ensures bytes { IfSome result (λ array. bytes array ≡ slice.now) }
+    /// ```
+    ///
+    /// [How to read it](crate::contracts).
+    ///
+    /// </details>
+    #[must_use]
+    fn from_slice(slice: &[u8]) -> Option<Self>;
+
+    /// The bytes as a slice.
+    ///
+    /// <details><summary>Contract</summary>
+    ///
+    /// ```text
+    /// ensures bytes { result.now ≡ bytes self.now }
+    /// ensures length { length result.now ≡ LEN }
+    /// ensures value { IsTrue (is_value self.now) }
+    /// ```
+    ///
+    /// [How to read it](crate::contracts).
+    ///
+    /// </details>
+    #[must_use]
+    fn as_slice(&self) -> &[u8];
+
+    /// Whether both arrays have the same bytes.
+    ///
+    /// <details><summary>Contract</summary>
+    ///
+    /// ```text
+    /// ensures { result ≡ pointwise nat_eq (bytes self.now) (bytes other.now) }
+    /// ```
+    ///
+    /// [How to read it](crate::contracts).
+    ///
+    /// </details>
+    #[must_use]
+    #[inline]
+    fn eq_array(&self, other: &Self) -> bool {
+        self.as_slice() == other.as_slice()
+    }
+}
+
+impl<const N: usize> BeByteArray for [u8; N] {
+    const LEN: usize = N;
+
+    fn from_slice(slice: &[u8]) -> Option<[u8; N]> {
+        slice.try_into().ok()
+    }
+
+    fn as_slice(&self) -> &[u8] {
+        self
+    }
+
+    fn eq_array(&self, other: &[u8; N]) -> bool {
+        self == other
+    }
+}
+
+/// A type whose stored size is known.
+///
+/// ```
+/// use font_types_proved::{FixedSize, Offset24};
+/// assert_eq!(Offset24::RAW_BYTE_LEN, 3);
+/// ```
+pub trait FixedSize: Sized {
+    /// How many bytes a value takes in a font file.
+    const RAW_BYTE_LEN: usize;
+}
+
+/// A value that is stored as a fixed number of big-endian bytes.
+///
+/// An `impl` says which bytes a value has. A value and its bytes determine each other: fields,
+/// headers and their laws ask nothing more of a type.
+///
+/// ```
+/// use font_types_proved::Scalar;
+/// assert_eq!(u16::read(&[0x01, 0x00]), Some(256));
+/// assert_eq!(u16::read(&[0x01]), None);
+/// ```
+pub trait Scalar: FixedSize {
+    /// The array of bytes.
+    type Raw: BeByteArray;
+
+    /// The value that the bytes stand for.
+    ///
+    /// <details><summary>Contract</summary>
+    ///
+    /// ```text
+    /// ensures { result ≡ of_raw raw }
+    /// ```
+    ///
+    /// [How to read it](crate::contracts).
+    ///
+    /// </details>
+    #[must_use]
+    fn from_raw(raw: Self::Raw) -> Self;
+
+    /// The bytes of the value.
+    ///
+    /// <details><summary>Contract</summary>
+    ///
+    /// ```text
+    /// ensures raw { result ≡ raw_of self }
+    /// ensures value { IsTrue (is_scalar self) }
+    /// ```
+    ///
+    /// [How to read it](crate::contracts).
+    ///
+    /// </details>
+    #[must_use]
+    fn to_raw(self) -> Self::Raw;
+
+    /// Reads a value from a slice of exactly `RAW_BYTE_LEN` bytes, `None` at any other length.
+    ///
+    /// <details><summary>Contract</summary>
+    ///
+    /// ```text
+    /// ensures length { IsSome result ↔ (length slice.now ≡ Self.RAW_BYTE_LEN) }
+    /// ensures bytes { IfSome result (λ v. Self.Raw.bytes (raw_of v) ≡ slice.now) }
+    /// ensures reads { IfSome result (λ v. IsValueOf Self.Raw.bytes of_raw slice.now v) }
+    /// ensures value { IfSome result (λ v. IsTrue (is_scalar v)) }
+    /// ```
+    ///
+    /// Defined:
+    /// [`IsValueOf`](crate::contracts::font_base::Scalar).
+    /// [How to read it](crate::contracts).
+    ///
+    /// </details>
+    #[must_use]
+    #[inline]
+    fn read(slice: &[u8]) -> Option<Self> {
+        let raw = Self::Raw::from_slice(slice)?;
+        Some(Self::from_raw(raw))
+    }
+}
+
+/// A scalar whose `==` joins no two values: `a == b` is true exactly where they are the same.
+pub trait IdentityEq: Eq {}
+
+impl FixedSize for u8 {
+    const RAW_BYTE_LEN: usize = 1;
+}
+
+impl Scalar for u8 {
+    type Raw = [u8; 1];
+
+    #[inline]
+    fn from_raw(raw: [u8; 1]) -> u8 {
+        u8::from_be_bytes(raw)
+    }
+
+    #[inline]
+    fn to_raw(self) -> [u8; 1] {
+        self.to_be_bytes()
+    }
+}
+
+impl IdentityEq for u8 {}
+
+impl FixedSize for u16 {
+    const RAW_BYTE_LEN: usize = 2;
+}
+
+impl Scalar for u16 {
+    type Raw = [u8; 2];
+
+    #[inline]
+    fn from_raw(raw: [u8; 2]) -> u16 {
+        u16::from_be_bytes(raw)
+    }
+
+    #[inline]
+    fn to_raw(self) -> [u8; 2] {
+        self.to_be_bytes()
+    }
+}
+
+impl IdentityEq for u16 {}
+
+impl FixedSize for u32 {
+    const RAW_BYTE_LEN: usize = 4;
+}
+
+impl Scalar for u32 {
+    type Raw = [u8; 4];
+
+    #[inline]
+    fn from_raw(raw: [u8; 4]) -> u32 {
+        u32::from_be_bytes(raw)
+    }
+
+    #[inline]
+    fn to_raw(self) -> [u8; 4] {
+        self.to_be_bytes()
+    }
+}
+
+impl IdentityEq for u32 {}
+
+impl FixedSize for i8 {
+    const RAW_BYTE_LEN: usize = 1;
+}
+
+impl Scalar for i8 {
+    type Raw = [u8; 1];
+
+    #[inline]
+    fn from_raw(raw: [u8; 1]) -> i8 {
+        u8::from_be_bytes(raw).cast_signed()
+    }
+
+    #[inline]
+    fn to_raw(self) -> [u8; 1] {
+        self.to_be_bytes()
+    }
+}
+
+impl IdentityEq for i8 {}
+
+impl FixedSize for i16 {
+    const RAW_BYTE_LEN: usize = 2;
+}
+
+impl Scalar for i16 {
+    type Raw = [u8; 2];
+
+    #[inline]
+    fn from_raw(raw: [u8; 2]) -> i16 {
+        u16::from_be_bytes(raw).cast_signed()
+    }
+
+    #[inline]
+    fn to_raw(self) -> [u8; 2] {
+        self.to_be_bytes()
+    }
+}
+
+impl IdentityEq for i16 {}
+
+impl FixedSize for i32 {
+    const RAW_BYTE_LEN: usize = 4;
+}
+
+impl Scalar for i32 {
+    type Raw = [u8; 4];
+
+    #[inline]
+    fn from_raw(raw: [u8; 4]) -> i32 {
+        u32::from_be_bytes(raw).cast_signed()
+    }
+
+    #[inline]
+    fn to_raw(self) -> [u8; 4] {
+        self.to_be_bytes()
+    }
+}
+
+impl IdentityEq for i32 {}
+
+impl FixedSize for i64 {
+    const RAW_BYTE_LEN: usize = 8;
+}
+
+impl Scalar for i64 {
+    type Raw = [u8; 8];
+
+    #[inline]
+    fn from_raw(raw: [u8; 8]) -> i64 {
+        u64::from_be_bytes(raw).cast_signed()
+    }
+
+    #[inline]
+    fn to_raw(self) -> [u8; 8] {
+        self.to_be_bytes()
+    }
+}
+
+impl IdentityEq for i64 {}

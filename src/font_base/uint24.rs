@@ -1,0 +1,267 @@
+// @generated from crates/font_base/src/uint24.rt by tools/src/bin/erase.rs
+
+//! The unsigned integer of 24 bits.
+
+use crate::font_base::raw::{FixedSize, IdentityEq, Scalar};
+use core::fmt;
+
+/// An unsigned integer of 24 bits, from 0 to 16777215.
+///
+/// ```
+/// use font_types_proved::Uint24;
+/// assert_eq!(Uint24::new(5).to_be_bytes(), [0, 0, 5]);
+/// assert!(Uint24::try_from(16777216_usize).is_err());
+/// ```
+#[derive(Clone, Copy, PartialEq, Eq, PartialOrd, Ord, Hash)]
+pub struct Uint24 {
+    value: u32,
+}
+
+impl Uint24 {
+    /// The least value, 0.
+    pub const MIN: Self = Uint24 { value: 0 };
+
+    /// The greatest value, 16777215.
+    pub const MAX: Self = Uint24 { value: 0xFF_FFFF };
+
+    /// The number, or the greatest value where the number is above it.
+    ///
+    /// <details><summary>Contract</summary>
+    ///
+    /// ```text
+    /// ensures { uint24_number result ≡ min raw UINT24_MAX }
+    /// ```
+    ///
+    /// Defined:
+    /// [`UINT24_MAX`](crate::contracts::font_base::Uint24),
+    /// [`uint24_number`](crate::contracts::font_base::Uint24).
+    /// [How to read it](crate::contracts).
+    ///
+    /// </details>
+    #[must_use]
+    #[inline]
+    pub const fn new(raw: u32) -> Uint24 {
+        if raw > Self::MAX.value {
+            Self::MAX
+        } else {
+            Uint24 { value: raw }
+        }
+    }
+
+    /// The number, or `None` where it is above the greatest value.
+    ///
+    /// <details><summary>Contract</summary>
+    ///
+    /// ```text
+    /// ensures variant { IsSome result ↔ (raw ≤ UINT24_MAX) }
+    /// ensures value { IfSome result (λ n. uint24_number n ≡ raw) }
+    /// ```
+    ///
+    /// Defined:
+    /// [`UINT24_MAX`](crate::contracts::font_base::Uint24),
+    /// [`uint24_number`](crate::contracts::font_base::Uint24).
+    /// [How to read it](crate::contracts).
+    ///
+    /// </details>
+    #[must_use]
+    #[inline]
+    pub const fn checked_new(raw: u32) -> Option<Uint24> {
+        if raw > Self::MAX.value {
+            None
+        } else {
+            Some(Uint24 { value: raw })
+        }
+    }
+
+    /// The number.
+    ///
+    /// <details><summary>Contract</summary>
+    ///
+    /// ```text
+    /// ensures { result ≡ uint24_number self }
+    /// ```
+    ///
+    /// Defined:
+    /// [`uint24_number`](crate::contracts::font_base::Uint24).
+    /// [How to read it](crate::contracts).
+    ///
+    /// </details>
+    #[must_use]
+    #[inline]
+    pub const fn to_u32(self) -> u32 {
+        self.value
+    }
+
+    /// The three bytes, highest first.
+    ///
+    /// <details><summary>Contract</summary>
+    ///
+    /// ```text
+    /// ensures { result ≡ bytes_of 3 (pos (uint24_number self)) }
+    /// ```
+    ///
+    /// Defined:
+    /// [`uint24_number`](crate::contracts::font_base::Uint24),
+    /// [`bytes_of`](crate::contracts::font_base::Bytes).
+    /// [How to read it](crate::contracts).
+    ///
+    /// </details>
+    #[must_use]
+    #[inline]
+    pub const fn to_be_bytes(self) -> [u8; 3] {
+        let [_, high, middle, low] = self.value.to_be_bytes();
+        [high, middle, low]
+    }
+
+    /// The number of three bytes, highest first.
+    ///
+    /// <details><summary>Contract</summary>
+    ///
+    /// ```text
+    /// ensures bytes { bytes ≡ bytes_of 3 (pos (uint24_number result)) }
+    /// ensures number { uint24_number result ≡ numeral bytes }
+    /// ```
+    ///
+    /// Defined:
+    /// [`uint24_number`](crate::contracts::font_base::Uint24),
+    /// [`numeral`](crate::contracts::font_base::Bytes),
+    /// [`bytes_of`](crate::contracts::font_base::Bytes).
+    /// [How to read it](crate::contracts).
+    ///
+    /// </details>
+    #[must_use]
+    #[inline]
+    pub const fn from_be_bytes(bytes: [u8; 3]) -> Uint24 {
+        let bytes = &bytes;
+        let value = bytes[0] as u32 * 0x1_0000 + bytes[1] as u32 * 0x100 + bytes[2] as u32;
+        Uint24 { value }
+    }
+}
+
+impl Default for Uint24 {
+    #[inline]
+    fn default() -> Uint24 {
+        Self::MIN
+    }
+}
+
+impl fmt::Debug for Uint24 {
+    fn fmt(&self, f: &mut fmt::Formatter<'_>) -> fmt::Result {
+        f.debug_tuple("Uint24").field(&self.value).finish()
+    }
+}
+
+/// <details><summary>Contract</summary>
+///
+/// ```text
+/// output = { λ n. Some (decimal (uint24_number n)) }
+/// ```
+///
+/// Defined:
+/// [`uint24_number`](crate::contracts::font_base::Uint24).
+/// [How to read it](crate::contracts).
+///
+/// </details>
+impl fmt::Display for Uint24 {
+    fn fmt(&self, f: &mut fmt::Formatter<'_>) -> fmt::Result {
+        fmt::Display::fmt(&self.value, f)
+    }
+}
+
+/// <details><summary>Contract</summary>
+///
+/// ```text
+/// from_gives = { λ n number. number ≡ uint24_number n }
+/// ```
+///
+/// Defined:
+/// [`uint24_number`](crate::contracts::font_base::Uint24).
+/// [How to read it](crate::contracts).
+///
+/// </details>
+impl From<Uint24> for u32 {
+    #[inline]
+    fn from(n: Uint24) -> u32 {
+        n.value
+    }
+}
+
+/// <details><summary>Contract</summary>
+///
+/// ```text
+/// from_gives = { λ n number. number ≡ uint24_number n }
+/// ```
+///
+/// Defined:
+/// [`uint24_number`](crate::contracts::font_base::Uint24).
+/// [How to read it](crate::contracts).
+///
+/// </details>
+impl From<Uint24> for usize {
+    #[inline]
+    fn from(n: Uint24) -> usize {
+        n.value as usize
+    }
+}
+
+/// A number that is above [`Uint24::MAX`].
+#[derive(Debug)]
+pub struct TryFromUint24Error;
+impl core::error::Error for TryFromUint24Error {}
+
+impl core::fmt::Display for TryFromUint24Error {
+    fn fmt(&self, f: &mut core::fmt::Formatter<'_>) -> core::fmt::Result {
+        match self {
+            Self => write!(f, "failed to convert usize value into Uint24."),
+        }
+    }
+}
+
+/// <details><summary>Contract</summary>
+///
+/// ```text
+/// try_from_gives = { λ number result. MatchResult result
+///        (λ n. uint24_number n ≡ number)
+///        (λ _. UINT24_MAX < number) }
+/// ```
+///
+/// Defined:
+/// [`UINT24_MAX`](crate::contracts::font_base::Uint24),
+/// [`uint24_number`](crate::contracts::font_base::Uint24).
+/// [How to read it](crate::contracts).
+///
+/// </details>
+impl TryFrom<usize> for Uint24 {
+    type Error = TryFromUint24Error;
+
+    #[inline]
+    fn try_from(number: usize) -> Result<Uint24, TryFromUint24Error> {
+        if number > Self::MAX.value as usize {
+            Err(TryFromUint24Error)
+        } else {
+            Ok(Uint24 {
+                value: number as u32,
+            })
+        }
+    }
+}
+
+impl FixedSize for Uint24 {
+    const RAW_BYTE_LEN: usize = 3;
+}
+
+impl Scalar for Uint24 {
+    type Raw = [u8; 3];
+
+    #[inline]
+    fn from_raw(raw: [u8; 3]) -> Uint24 {
+        Uint24::from_be_bytes(raw)
+    }
+
+    #[inline]
+    fn to_raw(self) -> [u8; 3] {
+        self.to_be_bytes()
+    }
+}
+
+impl IdentityEq for Uint24 {}

@@ -1,0 +1,191 @@
+// @generated from crates/font_decimal/src/reader.rt by tools/src/bin/erase.rs
+
+//! Reading a decimal text as the nearest fixed-point number.
+
+use crate::font_decimal::grammar::{are_digits, behind_point, split_sign};
+
+/// Why a text is not read.
+///
+/// ```
+/// use font_types_proved::{DecimalFault, Fixed};
+/// assert_eq!(Fixed::from_decimal("1e5"), Err(DecimalFault::Syntax));
+/// assert_eq!(Fixed::from_decimal("100000"), Err(DecimalFault::OutOfRange));
+/// ```
+#[derive(Clone, PartialEq, Eq, Debug)]
+pub enum DecimalFault {
+    /// The text is not in the grammar of decimal texts.
+    Syntax = 1,
+    /// The nearest number is below the least or above the greatest that is asked for.
+    OutOfRange = 2,
+}
+impl core::error::Error for DecimalFault {}
+
+impl core::fmt::Display for DecimalFault {
+    fn fmt(&self, f: &mut core::fmt::Formatter<'_>) -> core::fmt::Result {
+        match self {
+            Self::Syntax => write!(f, "not a decimal number"),
+            Self::OutOfRange => write!(f, "number out of range"),
+        }
+    }
+}
+
+/// Reads a decimal text as the nearest multiple of `1 / 2^f`, ties away from zero, and gives that
+/// multiple's number of steps of `1 / 2^f`.
+///
+/// A text is an optional `-`, one or more digits, and optionally a point followed by one or more
+/// digits. It may have any length. The caller gives 6 to 30 bits of fraction, and a range that holds
+/// zero.
+///
+/// # Errors
+///
+/// Another text is refused as `Syntax`. The rounding comes first; a result below `min` or above
+/// `max` is refused as `OutOfRange`.
+///
+/// # Examples
+///
+/// ```
+/// use font_types_proved::read_decimal;
+/// assert_eq!(read_decimal("-1.5", 16, i64::MIN, i64::MAX), Ok(-98304));
+/// ```
+///
+/// <details><summary>Contract</summary>
+///
+/// ```text
+/// requires bits_of_fraction { (6 ≤ f) × (f ≤ 30) }
+/// requires around_zero { (min ≤ℤ pos 0) × (pos 0 ≤ℤ max) }
+/// ensures ok { (b : ℤ) → (result ≡ Ok b) ↔ Reads text.now f min max b }
+/// ensures reading { IsReading text.now f min max result }
+/// ensures out_of_range { (result ≡ Err DecimalFault.OutOfRange)
+///     ↔ IsOutOfRange text.now f min max }
+/// ensures syntax { (result ≡ Err DecimalFault.Syntax) ↔ IsNoDecimal text.now }
+/// ```
+///
+/// Defined:
+/// [`IsNoDecimal`](crate::contracts::font_decimal::Grammar),
+/// [`Reads`](crate::contracts::font_decimal::Reading),
+/// [`IsOutOfRange`](crate::contracts::font_decimal::Reading),
+/// [`IsReading`](crate::contracts::font_decimal::Reading).
+/// [How to read it](crate::contracts).
+///
+/// </details>
+#[inline(always)]
+pub fn read_decimal(text: &str, f: u32, min: i64, max: i64) -> Result<i64, DecimalFault> {
+    read_decimal_bytes(text.as_bytes(), f, min, max)
+}
+
+/// The same of bytes, which need not be a text.
+///
+/// # Errors
+///
+/// Those of `read_decimal`; bytes that are no text are `Syntax`.
+///
+/// <details><summary>Contract</summary>
+///
+/// ```text
+/// requires bits_of_fraction { (6 ≤ f) × (f ≤ 30) }
+/// requires around_zero { (min ≤ℤ pos 0) × (pos 0 ≤ℤ max) }
+/// ensures { IsReading text.now f min max result }
+/// ```
+///
+/// Defined:
+/// [`IsReading`](crate::contracts::font_decimal::Reading).
+/// [How to read it](crate::contracts).
+///
+/// </details>
+#[inline(always)]
+pub fn read_decimal_bytes(text: &[u8], f: u32, min: i64, max: i64) -> Result<i64, DecimalFault> {
+    let (negative, digits) = split_sign(text);
+    let Some(steps) = nearest_steps(digits, f) else {
+        return Err(DecimalFault::Syntax);
+    };
+    in_range(negative, steps, min, max).ok_or(DecimalFault::OutOfRange)
+}
+
+// The number of steps of `1 / 2^f` nearest to a decimal with no sign, or where that is above 2^63,
+// some number above 2^63.
+#[inline(always)]
+fn nearest_steps(digits: &[u8], f: u32) -> Option<u64> {
+    // One whole more than 2^63 steps is out of every range.
+    let (whole, len) = whole_digits(digits, (1 << (63 - f)) + 1);
+    if len == 0 {
+        return None;
+    }
+    let half_steps = half_steps(behind_point(&digits[len..])?, f)?;
+    Some((whole << f) + (half_steps + 1) / 2)
+}
+
+// The number that the digits in front write, or `too_large` where it is greater, and how many
+// digits they are.
+#[inline(always)]
+fn whole_digits(text: &[u8], too_large: u64) -> (u64, usize) {
+    let mut whole = 0u64;
+    for place in 0..text.len() {
+        let digit = text[place];
+        if !digit.is_ascii_digit() {
+            return (whole, place);
+        }
+        whole = (whole * 10 + u64::from(digit - b'0')).min(too_large);
+    }
+    (whole, text.len())
+}
+
+// The number of whole half steps of `1 / 2^f` in a fraction. A half step has `f + 1` places, so
+// that later digits do not count; and where there are fewer digits, the fives of the missing zeros
+// are left out.
+#[inline(always)]
+fn half_steps(fraction: &[u8], f: u32) -> Option<u64> {
+    let places = fraction.len().min(f as usize + 1);
+    let (kept, late) = fraction.split_at(places);
+    if !are_digits(late) {
+        return None;
+    }
+    let missing = f as usize + 1 - places;
+    // 19 digits fit 64 bits.
+    if f <= 18 {
+        let (numeral, power_of_five) = numeral_and_power(kept)?;
+        Some((numeral << missing) / power_of_five)
+    } else {
+        let (numeral, power_of_five) = long_numeral_and_power(kept)?;
+        Some(((numeral << missing) / power_of_five) as u64)
+    }
+}
+
+// The number that digits write, and five to the power of how many they are.
+#[inline(always)]
+fn numeral_and_power(digits: &[u8]) -> Option<(u64, u64)> {
+    let mut numeral = 0u64;
+    let mut power_of_five = 1u64;
+    for digit in digits {
+        if !digit.is_ascii_digit() {
+            return None;
+        }
+        numeral = numeral * 10 + u64::from(*digit - b'0');
+        power_of_five *= 5;
+    }
+    Some((numeral, power_of_five))
+}
+
+// The same of up to 31 digits, by their two halves.
+#[inline]
+fn long_numeral_and_power(digits: &[u8]) -> Option<(u128, u128)> {
+    let (front, back) = digits.split_at(digits.len() / 2);
+    let (high, high_power) = numeral_and_power(front)?;
+    let (low, low_power) = numeral_and_power(back)?;
+    let tens = u128::from(low_power) << back.len();
+    let numeral = u128::from(high) * tens + u128::from(low);
+    Some((numeral, u128::from(high_power) * u128::from(low_power)))
+}
+
+// The signed number of steps, or `None` where it is out of the range.
+#[inline(always)]
+fn in_range(negative: bool, steps: u64, min: i64, max: i64) -> Option<i64> {
+    let number = if negative {
+        0i64.checked_sub_unsigned(steps)?
+    } else {
+        0i64.checked_add_unsigned(steps)?
+    };
+    if number < min || number > max {
+        return None;
+    }
+    Some(number)
+}

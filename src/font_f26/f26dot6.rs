@@ -1,0 +1,640 @@
+// @generated from crates/font_f26/src/f26dot6.rt by tools/src/bin/erase.rs
+
+//! The fixed-point number of 32 bits with 6 bits of fraction.
+
+use crate::font_arithmetic::{mul_div, product, read_bits_32};
+use crate::font_decimal::{DecimalFault, Pad, Shortest};
+use core::fmt;
+use core::ops::{Add, AddAssign, Div, DivAssign, Mul, MulAssign, Neg, Sub, SubAssign};
+use core::str::FromStr;
+
+/// A fixed-point number of 32 bits, the last 6 of which are its fraction: the unit of scaled
+/// outlines.
+///
+/// Its bits are counted in steps of `1 / 64`. Sums, products and quotients that leave the range
+/// wrap.
+///
+/// ```
+/// use font_types_proved::F26Dot6;
+/// let number = F26Dot6::from_bits(96);
+/// assert_eq!(number.to_string(), "1.5");
+/// assert_eq!("1.5".parse(), Ok(number));
+/// ```
+#[derive(Clone, Copy, PartialEq, Eq, PartialOrd, Ord, Hash, Default)]
+pub struct F26Dot6(i32);
+
+impl F26Dot6 {
+    /// The least value, -33554432.
+    pub const MIN: Self = Self(-0x8000_0000);
+
+    /// The greatest value, a step below 33554432.
+    pub const MAX: Self = Self(0x7FFF_FFFF);
+
+    /// One step, `1 / 64`.
+    pub const EPSILON: Self = Self(1);
+
+    /// 0.
+    pub const ZERO: Self = Self(0);
+
+    /// 1.
+    pub const ONE: Self = Self(64);
+
+    /// -1.
+    pub const NEG_ONE: Self = Self(-64);
+
+    const FRACTION_BITS: u32 = 6;
+
+    /// The number with these bits.
+    ///
+    /// <details><summary>Contract</summary>
+    ///
+    /// ```text
+    /// ensures { bits_of result ≡ bits }
+    /// ```
+    ///
+    /// Defined:
+    /// [`bits_of`](crate::contracts::font_f26::F26Dot6).
+    /// [How to read it](crate::contracts).
+    ///
+    /// </details>
+    #[must_use]
+    #[inline]
+    pub const fn from_bits(bits: i32) -> Self {
+        Self(bits)
+    }
+
+    /// The bits.
+    ///
+    /// <details><summary>Contract</summary>
+    ///
+    /// ```text
+    /// ensures { result ≡ bits_of self }
+    /// ```
+    ///
+    /// Defined:
+    /// [`bits_of`](crate::contracts::font_f26::F26Dot6).
+    /// [How to read it](crate::contracts).
+    ///
+    /// </details>
+    #[must_use]
+    #[inline]
+    pub const fn to_bits(self) -> i32 {
+        self.0
+    }
+
+    /// The nearest whole number, ties upwards. It wraps: `F26Dot6::MAX.round()` is [`F26Dot6::MIN`].
+    ///
+    /// <details><summary>Contract</summary>
+    ///
+    /// ```text
+    /// ensures { IsNearestWhole 32 6 (bits_of self) (bits_of result) }
+    /// ```
+    ///
+    /// Defined:
+    /// [`IsNearestWhole`](crate::contracts::font_arithmetic::Operations),
+    /// [`bits_of`](crate::contracts::font_f26::F26Dot6).
+    /// [How to read it](crate::contracts).
+    ///
+    /// </details>
+    #[must_use]
+    #[inline]
+    pub const fn round(self) -> Self {
+        self.wrapping_add(Self(32)).floor()
+    }
+
+    /// The greatest whole number that is not above the number.
+    ///
+    /// <details><summary>Contract</summary>
+    ///
+    /// ```text
+    /// ensures { IsFloor 6 (bits_of self) (bits_of result) }
+    /// ```
+    ///
+    /// Defined:
+    /// [`IsFloor`](crate::contracts::font_arithmetic::Operations),
+    /// [`bits_of`](crate::contracts::font_f26::F26Dot6).
+    /// [How to read it](crate::contracts).
+    ///
+    /// </details>
+    #[must_use]
+    #[inline]
+    pub const fn floor(self) -> Self {
+        Self(self.0 - self.fract().0)
+    }
+
+    /// What the number has above its floor, from 0 to a step below 1.
+    ///
+    /// <details><summary>Contract</summary>
+    ///
+    /// ```text
+    /// ensures { IsFract 6 (bits_of self) (bits_of result) }
+    /// ```
+    ///
+    /// Defined:
+    /// [`IsFract`](crate::contracts::font_arithmetic::Operations),
+    /// [`bits_of`](crate::contracts::font_f26::F26Dot6).
+    /// [How to read it](crate::contracts).
+    ///
+    /// </details>
+    #[must_use]
+    #[inline]
+    pub const fn fract(self) -> Self {
+        Self(self.0.rem_euclid(64))
+    }
+
+    /// The number without its sign. It wraps: `F26Dot6::MIN.abs()` is [`F26Dot6::MIN`].
+    ///
+    /// <details><summary>Contract</summary>
+    ///
+    /// ```text
+    /// ensures { bits_of result ≡ wrap 32 (pos (unsigned_abs (bits_of self))) }
+    /// ```
+    ///
+    /// Defined:
+    /// [`wrap`](crate::contracts::font_base::Wrap),
+    /// [`bits_of`](crate::contracts::font_f26::F26Dot6).
+    /// [How to read it](crate::contracts).
+    ///
+    /// </details>
+    #[must_use]
+    #[inline]
+    pub const fn abs(self) -> Self {
+        Self(self.0.wrapping_abs())
+    }
+
+    /// The sum, wrapped.
+    ///
+    /// <details><summary>Contract</summary>
+    ///
+    /// ```text
+    /// ensures { bits_of result ≡ wrap 32 (bits_of self +ℤ bits_of other) }
+    /// ```
+    ///
+    /// Defined:
+    /// [`wrap`](crate::contracts::font_base::Wrap),
+    /// [`bits_of`](crate::contracts::font_f26::F26Dot6).
+    /// [How to read it](crate::contracts).
+    ///
+    /// </details>
+    #[must_use]
+    #[inline]
+    pub const fn wrapping_add(self, other: Self) -> Self {
+        Self(self.0.wrapping_add(other.0))
+    }
+
+    /// The difference, wrapped.
+    ///
+    /// <details><summary>Contract</summary>
+    ///
+    /// ```text
+    /// ensures { bits_of result ≡ wrap 32 (bits_of self -ℤ bits_of other) }
+    /// ```
+    ///
+    /// Defined:
+    /// [`wrap`](crate::contracts::font_base::Wrap),
+    /// [`bits_of`](crate::contracts::font_f26::F26Dot6).
+    /// [How to read it](crate::contracts).
+    ///
+    /// </details>
+    #[must_use]
+    #[inline]
+    pub const fn wrapping_sub(self, other: Self) -> Self {
+        Self(self.0.wrapping_sub(other.0))
+    }
+
+    /// The sum, or the nearest end of the range where it is out of it.
+    ///
+    /// <details><summary>Contract</summary>
+    ///
+    /// ```text
+    /// ensures { bits_of result ≡ clamp 32 (bits_of self +ℤ bits_of other) }
+    /// ```
+    ///
+    /// Defined:
+    /// [`clamp`](crate::contracts::font_arithmetic::Operations),
+    /// [`bits_of`](crate::contracts::font_f26::F26Dot6).
+    /// [How to read it](crate::contracts).
+    ///
+    /// </details>
+    #[must_use]
+    #[inline]
+    pub const fn saturating_add(self, other: Self) -> Self {
+        Self(self.0.saturating_add(other.0))
+    }
+
+    /// The difference, or the nearest end of the range where it is out of it.
+    ///
+    /// <details><summary>Contract</summary>
+    ///
+    /// ```text
+    /// ensures { bits_of result ≡ clamp 32 (bits_of self -ℤ bits_of other) }
+    /// ```
+    ///
+    /// Defined:
+    /// [`clamp`](crate::contracts::font_arithmetic::Operations),
+    /// [`bits_of`](crate::contracts::font_f26::F26Dot6).
+    /// [How to read it](crate::contracts).
+    ///
+    /// </details>
+    #[must_use]
+    #[inline]
+    pub const fn saturating_sub(self, other: Self) -> Self {
+        Self(self.0.saturating_sub(other.0))
+    }
+
+    /// The sum, or `None` where it is out of range.
+    ///
+    /// <details><summary>Contract</summary>
+    ///
+    /// ```text
+    /// ensures variant { IsSome result ↔ FitsBits 32 (bits_of self +ℤ bits_of other) }
+    /// ensures value { IfSome result (λ sum. bits_of sum ≡ (bits_of self +ℤ bits_of other)) }
+    /// ```
+    ///
+    /// Defined:
+    /// [`FitsBits`](crate::contracts::font_base::Wrap),
+    /// [`bits_of`](crate::contracts::font_f26::F26Dot6).
+    /// [How to read it](crate::contracts).
+    ///
+    /// </details>
+    #[must_use]
+    #[inline]
+    pub fn checked_add(self, other: Self) -> Option<Self> {
+        Some(Self(self.0.checked_add(other.0)?))
+    }
+
+    /// The four bytes of the bits, highest first.
+    ///
+    /// <details><summary>Contract</summary>
+    ///
+    /// ```text
+    /// ensures { result ≡ bytes_of 4 (bits_of self) }
+    /// ```
+    ///
+    /// Defined:
+    /// [`bytes_of`](crate::contracts::font_base::Bytes),
+    /// [`bits_of`](crate::contracts::font_f26::F26Dot6).
+    /// [How to read it](crate::contracts).
+    ///
+    /// </details>
+    #[must_use]
+    #[inline]
+    pub const fn to_be_bytes(self) -> [u8; 4] {
+        self.0.to_be_bytes()
+    }
+
+    /// A whole number, wrapped.
+    ///
+    /// <details><summary>Contract</summary>
+    ///
+    /// ```text
+    /// ensures { bits_of result ≡ wrap 32 (number *ℤ pos (2 ^ 6)) }
+    /// ```
+    ///
+    /// Defined:
+    /// [`wrap`](crate::contracts::font_base::Wrap),
+    /// [`bits_of`](crate::contracts::font_f26::F26Dot6).
+    /// [How to read it](crate::contracts).
+    ///
+    /// </details>
+    #[must_use]
+    #[inline]
+    pub const fn from_i32(number: i32) -> Self {
+        Self(number.wrapping_mul(64))
+    }
+
+    /// The nearest whole number, ties upwards, wrapped to 26 bits.
+    ///
+    /// <details><summary>Contract</summary>
+    ///
+    /// ```text
+    /// ensures { IsNarrowed 26 (bits_of self) (2 ^ 6) result }
+    /// ```
+    ///
+    /// Defined:
+    /// [`IsNarrowed`](crate::contracts::font_arithmetic::Operations),
+    /// [`bits_of`](crate::contracts::font_f26::F26Dot6).
+    /// [How to read it](crate::contracts).
+    ///
+    /// </details>
+    #[must_use]
+    #[inline]
+    pub const fn to_i32(self) -> i32 {
+        self.wrapping_add(Self(32)).0 >> 6
+    }
+
+    /// The number nearest to a decimal text, ties away from zero.
+    ///
+    /// # Errors
+    ///
+    /// A text outside the grammar is refused as `Syntax`, one whose nearest number is out of range
+    /// as `OutOfRange`.
+    ///
+    /// <details><summary>Contract</summary>
+    ///
+    /// ```text
+    /// ensures { ReadsBy w32 6 bits_of text.now result }
+    /// ```
+    ///
+    /// Defined:
+    /// [`ReadsBy`](crate::contracts::font_arithmetic::Reading),
+    /// [`bits_of`](crate::contracts::font_f26::F26Dot6).
+    /// [How to read it](crate::contracts).
+    ///
+    /// </details>
+    #[inline]
+    pub fn from_decimal(text: &str) -> Result<Self, DecimalFault> {
+        Self::from_decimal_bytes(text.as_bytes())
+    }
+
+    /// The same of bytes, which need not be a text.
+    ///
+    /// # Errors
+    ///
+    /// Those of `from_decimal`; bytes that are no text are `Syntax`.
+    ///
+    /// <details><summary>Contract</summary>
+    ///
+    /// ```text
+    /// ensures { ReadsBy w32 6 bits_of text.now result }
+    /// ```
+    ///
+    /// Defined:
+    /// [`ReadsBy`](crate::contracts::font_arithmetic::Reading),
+    /// [`bits_of`](crate::contracts::font_f26::F26Dot6).
+    /// [How to read it](crate::contracts).
+    ///
+    /// </details>
+    #[inline]
+    pub fn from_decimal_bytes(text: &[u8]) -> Result<Self, DecimalFault> {
+        read_bits_32(text, Self::FRACTION_BITS).map(Self)
+    }
+
+    /// Writes the printed text to the front of `out`, padded, and returns the number of bytes;
+    /// `None` where `out` is too short, which then stays as it was. 12 bytes, or the width where
+    /// that is more, are always enough. The fill is below 0x80.
+    ///
+    /// <details><summary>Contract</summary>
+    ///
+    /// ```text
+    /// requires { pad.now.fill < 128 }
+    /// ensures written { IfSome result
+    ///     (λ n. FillsFront (padded_text (text_of self) pad.now) n out.old out.new) }
+    /// ensures room { IsSome result
+    ///     ↔ (length (padded_text (text_of self) pad.now) ≤ length out.old) }
+    /// ensures cell { max 12 pad.now.width ≤ length out.old → IsSome result }
+    /// ensures fills { length out.old ≤ pad.now.width
+    ///     → IfSome result (λ _. out.new ≡ padded_text (text_of self) pad.now) }
+    /// ensures untouched { IfNone result (out.new ≡ out.old) }
+    /// ```
+    ///
+    /// Defined:
+    /// [`padded_text`](crate::contracts::font_decimal::Padding),
+    /// [`FillsFront`](crate::contracts::font_decimal::Padding),
+    /// [`text_of`](crate::contracts::font_f26::F26Dot6).
+    /// [How to read it](crate::contracts).
+    ///
+    /// </details>
+    #[inline]
+    pub fn write_padded(self, out: &mut [u8], pad: &Pad) -> Option<usize> {
+        crate::font_decimal::write_padded(self.shortest().as_str(), out, pad)
+    }
+
+    #[inline]
+    fn shortest(self) -> Shortest {
+        Shortest::new(i64::from(self.0), Self::FRACTION_BITS)
+    }
+}
+
+/// <details><summary>Contract</summary>
+///
+/// ```text
+/// add_gives = { λ x y sum. bits_of sum ≡ wrap 32 (bits_of x +ℤ bits_of y) }
+/// ```
+///
+/// Defined:
+/// [`wrap`](crate::contracts::font_base::Wrap),
+/// [`bits_of`](crate::contracts::font_f26::F26Dot6).
+/// [How to read it](crate::contracts).
+///
+/// </details>
+impl Add for F26Dot6 {
+    type Output = F26Dot6;
+
+    #[inline]
+    fn add(self, other: F26Dot6) -> F26Dot6 {
+        self.wrapping_add(other)
+    }
+}
+
+/// <details><summary>Contract</summary>
+///
+/// ```text
+/// add_assign_gives = { λ x y sum. bits_of sum ≡ wrap 32 (bits_of x +ℤ bits_of y) }
+/// ```
+///
+/// Defined:
+/// [`wrap`](crate::contracts::font_base::Wrap),
+/// [`bits_of`](crate::contracts::font_f26::F26Dot6).
+/// [How to read it](crate::contracts).
+///
+/// </details>
+impl AddAssign for F26Dot6 {
+    #[inline]
+    fn add_assign(&mut self, other: F26Dot6) {
+        *self = *self + other;
+    }
+}
+
+/// <details><summary>Contract</summary>
+///
+/// ```text
+/// sub_gives = { λ x y rest. bits_of rest ≡ wrap 32 (bits_of x -ℤ bits_of y) }
+/// ```
+///
+/// Defined:
+/// [`wrap`](crate::contracts::font_base::Wrap),
+/// [`bits_of`](crate::contracts::font_f26::F26Dot6).
+/// [How to read it](crate::contracts).
+///
+/// </details>
+impl Sub for F26Dot6 {
+    type Output = F26Dot6;
+
+    #[inline]
+    fn sub(self, other: F26Dot6) -> F26Dot6 {
+        self.wrapping_sub(other)
+    }
+}
+
+/// <details><summary>Contract</summary>
+///
+/// ```text
+/// sub_assign_gives = { λ x y rest. bits_of rest ≡ wrap 32 (bits_of x -ℤ bits_of y) }
+/// ```
+///
+/// Defined:
+/// [`wrap`](crate::contracts::font_base::Wrap),
+/// [`bits_of`](crate::contracts::font_f26::F26Dot6).
+/// [How to read it](crate::contracts).
+///
+/// </details>
+impl SubAssign for F26Dot6 {
+    #[inline]
+    fn sub_assign(&mut self, other: F26Dot6) {
+        *self = *self - other;
+    }
+}
+
+/// <details><summary>Contract</summary>
+///
+/// ```text
+/// neg_gives = { λ x opposite. bits_of opposite ≡ wrap 32 (neg_ℤ (bits_of x)) }
+/// ```
+///
+/// Defined:
+/// [`wrap`](crate::contracts::font_base::Wrap),
+/// [`bits_of`](crate::contracts::font_f26::F26Dot6).
+/// [How to read it](crate::contracts).
+///
+/// </details>
+impl Neg for F26Dot6 {
+    type Output = F26Dot6;
+
+    #[inline]
+    fn neg(self) -> F26Dot6 {
+        Self(self.0.wrapping_neg())
+    }
+}
+
+/// <details><summary>Contract</summary>
+///
+/// ```text
+/// mul_gives = { λ x y product.
+///        IsProduct 32 6 (bits_of x) (bits_of y) (bits_of product) }
+/// ```
+///
+/// Defined:
+/// [`IsProduct`](crate::contracts::font_arithmetic::Operations),
+/// [`bits_of`](crate::contracts::font_f26::F26Dot6).
+/// [How to read it](crate::contracts).
+///
+/// </details>
+impl Mul for F26Dot6 {
+    type Output = F26Dot6;
+
+    #[inline]
+    fn mul(self, other: F26Dot6) -> F26Dot6 {
+        Self(product(self.0, other.0, Self::FRACTION_BITS))
+    }
+}
+
+/// <details><summary>Contract</summary>
+///
+/// ```text
+/// mul_assign_gives = { λ x y product.
+///        IsProduct 32 6 (bits_of x) (bits_of y) (bits_of product) }
+/// ```
+///
+/// Defined:
+/// [`IsProduct`](crate::contracts::font_arithmetic::Operations),
+/// [`bits_of`](crate::contracts::font_f26::F26Dot6).
+/// [How to read it](crate::contracts).
+///
+/// </details>
+impl MulAssign for F26Dot6 {
+    #[inline]
+    fn mul_assign(&mut self, other: F26Dot6) {
+        *self = *self * other;
+    }
+}
+
+/// A zero divisor gives [`F26Dot6::MAX`], or its opposite where the dividend is negative.
+///
+/// <details><summary>Contract</summary>
+///
+/// ```text
+/// div_gives = { λ x y quotient.
+///        IsQuotient 32 6 (bits_of x) (bits_of y) (bits_of quotient) }
+/// ```
+///
+/// Defined:
+/// [`IsQuotient`](crate::contracts::font_arithmetic::Operations),
+/// [`bits_of`](crate::contracts::font_f26::F26Dot6).
+/// [How to read it](crate::contracts).
+///
+/// </details>
+impl Div for F26Dot6 {
+    type Output = F26Dot6;
+
+    #[inline]
+    fn div(self, other: F26Dot6) -> F26Dot6 {
+        Self(mul_div(self.0, Self::ONE.0, other.0))
+    }
+}
+
+/// <details><summary>Contract</summary>
+///
+/// ```text
+/// div_assign_gives = { λ x y quotient.
+///        IsQuotient 32 6 (bits_of x) (bits_of y) (bits_of quotient) }
+/// ```
+///
+/// Defined:
+/// [`IsQuotient`](crate::contracts::font_arithmetic::Operations),
+/// [`bits_of`](crate::contracts::font_f26::F26Dot6).
+/// [How to read it](crate::contracts).
+///
+/// </details>
+impl DivAssign for F26Dot6 {
+    #[inline]
+    fn div_assign(&mut self, other: F26Dot6) {
+        *self = *self / other;
+    }
+}
+
+/// The text is read as by `from_decimal`: `"1.5".parse::<F26Dot6>()`.
+///
+/// <details><summary>Contract</summary>
+///
+/// ```text
+/// from_str_gives = { λ text result. ReadsBy w32 6 bits_of text result }
+/// ```
+///
+/// Defined:
+/// [`ReadsBy`](crate::contracts::font_arithmetic::Reading),
+/// [`bits_of`](crate::contracts::font_f26::F26Dot6).
+/// [How to read it](crate::contracts).
+///
+/// </details>
+impl FromStr for F26Dot6 {
+    type Err = DecimalFault;
+
+    #[inline]
+    fn from_str(text: &str) -> Result<Self, DecimalFault> {
+        Self::from_decimal(text)
+    }
+}
+
+/// <details><summary>Contract</summary>
+///
+/// ```text
+/// output = { λ x. Some (text_of x) }
+/// ```
+///
+/// Defined:
+/// [`text_of`](crate::contracts::font_f26::F26Dot6).
+/// [How to read it](crate::contracts).
+///
+/// </details>
+impl fmt::Display for F26Dot6 {
+    fn fmt(&self, f: &mut fmt::Formatter<'_>) -> fmt::Result {
+        fmt::Display::fmt(&self.shortest(), f)
+    }
+}
+
+impl fmt::Debug for F26Dot6 {
+    fn fmt(&self, f: &mut fmt::Formatter<'_>) -> fmt::Result {
+        fmt::Display::fmt(&self.shortest(), f)
+    }
+}

@@ -1,0 +1,533 @@
+// @generated from crates/font_fixed2/src/f4dot12.rt by tools/src/bin/erase.rs
+
+//! The fixed-point number of 16 bits with 12 bits of fraction.
+
+use crate::font_arithmetic::read_bits_16;
+use crate::font_base::{FixedSize, IdentityEq, Scalar};
+use crate::font_decimal::{DecimalFault, Pad, Shortest};
+use core::fmt;
+use core::ops::{Add, AddAssign, Neg, Sub, SubAssign};
+use core::str::FromStr;
+
+/// A fixed-point number of 16 bits, the last 12 of which are its fraction.
+///
+/// Its bits are counted in steps of `1 / 4096`. Sums that leave the range wrap.
+///
+/// ```
+/// use font_types_proved::F4Dot12;
+/// let number = F4Dot12::from_bits(0x1800);
+/// assert_eq!(number.to_string(), "1.5");
+/// assert_eq!("1.5".parse(), Ok(number));
+/// ```
+#[derive(Clone, Copy, PartialEq, Eq, PartialOrd, Ord, Hash, Default)]
+pub struct F4Dot12(i16);
+
+impl F4Dot12 {
+    /// The least value, -8.
+    pub const MIN: Self = Self(-0x8000);
+
+    /// The greatest value, a step below 8.
+    pub const MAX: Self = Self(0x7FFF);
+
+    /// One step, `1 / 4096`.
+    pub const EPSILON: Self = Self(1);
+
+    /// 0.
+    pub const ZERO: Self = Self(0);
+
+    /// 1.
+    pub const ONE: Self = Self(0x1000);
+
+    /// -1.
+    pub const NEG_ONE: Self = Self(-0x1000);
+
+    const FRACTION_BITS: u32 = 12;
+
+    /// The number with these bits.
+    ///
+    /// <details><summary>Contract</summary>
+    ///
+    /// ```text
+    /// ensures { bits_of result ≡ bits }
+    /// ```
+    ///
+    /// Defined:
+    /// [`bits_of`](crate::contracts::font_fixed2::F4Dot12).
+    /// [How to read it](crate::contracts).
+    ///
+    /// </details>
+    #[must_use]
+    #[inline]
+    pub const fn from_bits(bits: i16) -> Self {
+        Self(bits)
+    }
+
+    /// The bits.
+    ///
+    /// <details><summary>Contract</summary>
+    ///
+    /// ```text
+    /// ensures { result ≡ bits_of self }
+    /// ```
+    ///
+    /// Defined:
+    /// [`bits_of`](crate::contracts::font_fixed2::F4Dot12).
+    /// [How to read it](crate::contracts).
+    ///
+    /// </details>
+    #[must_use]
+    #[inline]
+    pub const fn to_bits(self) -> i16 {
+        self.0
+    }
+
+    /// The nearest whole number, ties upwards. It wraps: `F4Dot12::MAX.round()` is [`F4Dot12::MIN`].
+    ///
+    /// <details><summary>Contract</summary>
+    ///
+    /// ```text
+    /// ensures { IsNearestWhole 16 12 (bits_of self) (bits_of result) }
+    /// ```
+    ///
+    /// Defined:
+    /// [`IsNearestWhole`](crate::contracts::font_arithmetic::Operations),
+    /// [`bits_of`](crate::contracts::font_fixed2::F4Dot12).
+    /// [How to read it](crate::contracts).
+    ///
+    /// </details>
+    #[must_use]
+    #[inline]
+    pub const fn round(self) -> Self {
+        self.wrapping_add(Self(0x800)).floor()
+    }
+
+    /// The greatest whole number that is not above the number.
+    ///
+    /// <details><summary>Contract</summary>
+    ///
+    /// ```text
+    /// ensures { IsFloor 12 (bits_of self) (bits_of result) }
+    /// ```
+    ///
+    /// Defined:
+    /// [`IsFloor`](crate::contracts::font_arithmetic::Operations),
+    /// [`bits_of`](crate::contracts::font_fixed2::F4Dot12).
+    /// [How to read it](crate::contracts).
+    ///
+    /// </details>
+    #[must_use]
+    #[inline]
+    pub const fn floor(self) -> Self {
+        Self(self.0 - self.fract().0)
+    }
+
+    /// What the number has above its floor, from 0 to a step below 1.
+    ///
+    /// <details><summary>Contract</summary>
+    ///
+    /// ```text
+    /// ensures { IsFract 12 (bits_of self) (bits_of result) }
+    /// ```
+    ///
+    /// Defined:
+    /// [`IsFract`](crate::contracts::font_arithmetic::Operations),
+    /// [`bits_of`](crate::contracts::font_fixed2::F4Dot12).
+    /// [How to read it](crate::contracts).
+    ///
+    /// </details>
+    #[must_use]
+    #[inline]
+    pub const fn fract(self) -> Self {
+        Self(self.0.rem_euclid(0x1000))
+    }
+
+    /// The number without its sign. It wraps: `F4Dot12::MIN.abs()` is [`F4Dot12::MIN`].
+    ///
+    /// <details><summary>Contract</summary>
+    ///
+    /// ```text
+    /// ensures { bits_of result ≡ wrap 16 (pos (unsigned_abs (bits_of self))) }
+    /// ```
+    ///
+    /// Defined:
+    /// [`wrap`](crate::contracts::font_base::Wrap),
+    /// [`bits_of`](crate::contracts::font_fixed2::F4Dot12).
+    /// [How to read it](crate::contracts).
+    ///
+    /// </details>
+    #[must_use]
+    #[inline]
+    pub const fn abs(self) -> Self {
+        Self(self.0.wrapping_abs())
+    }
+
+    /// The sum, wrapped.
+    ///
+    /// <details><summary>Contract</summary>
+    ///
+    /// ```text
+    /// ensures { bits_of result ≡ wrap 16 (bits_of self +ℤ bits_of other) }
+    /// ```
+    ///
+    /// Defined:
+    /// [`wrap`](crate::contracts::font_base::Wrap),
+    /// [`bits_of`](crate::contracts::font_fixed2::F4Dot12).
+    /// [How to read it](crate::contracts).
+    ///
+    /// </details>
+    #[must_use]
+    #[inline]
+    pub const fn wrapping_add(self, other: Self) -> Self {
+        Self(self.0.wrapping_add(other.0))
+    }
+
+    /// The difference, wrapped.
+    ///
+    /// <details><summary>Contract</summary>
+    ///
+    /// ```text
+    /// ensures { bits_of result ≡ wrap 16 (bits_of self -ℤ bits_of other) }
+    /// ```
+    ///
+    /// Defined:
+    /// [`wrap`](crate::contracts::font_base::Wrap),
+    /// [`bits_of`](crate::contracts::font_fixed2::F4Dot12).
+    /// [How to read it](crate::contracts).
+    ///
+    /// </details>
+    #[must_use]
+    #[inline]
+    pub const fn wrapping_sub(self, other: Self) -> Self {
+        Self(self.0.wrapping_sub(other.0))
+    }
+
+    /// The sum, or the nearest end of the range where it is out of it.
+    ///
+    /// <details><summary>Contract</summary>
+    ///
+    /// ```text
+    /// ensures { bits_of result ≡ clamp 16 (bits_of self +ℤ bits_of other) }
+    /// ```
+    ///
+    /// Defined:
+    /// [`clamp`](crate::contracts::font_arithmetic::Operations),
+    /// [`bits_of`](crate::contracts::font_fixed2::F4Dot12).
+    /// [How to read it](crate::contracts).
+    ///
+    /// </details>
+    #[must_use]
+    #[inline]
+    pub const fn saturating_add(self, other: Self) -> Self {
+        Self(self.0.saturating_add(other.0))
+    }
+
+    /// The difference, or the nearest end of the range where it is out of it.
+    ///
+    /// <details><summary>Contract</summary>
+    ///
+    /// ```text
+    /// ensures { bits_of result ≡ clamp 16 (bits_of self -ℤ bits_of other) }
+    /// ```
+    ///
+    /// Defined:
+    /// [`clamp`](crate::contracts::font_arithmetic::Operations),
+    /// [`bits_of`](crate::contracts::font_fixed2::F4Dot12).
+    /// [How to read it](crate::contracts).
+    ///
+    /// </details>
+    #[must_use]
+    #[inline]
+    pub const fn saturating_sub(self, other: Self) -> Self {
+        Self(self.0.saturating_sub(other.0))
+    }
+
+    /// The sum, or `None` where it is out of range.
+    ///
+    /// <details><summary>Contract</summary>
+    ///
+    /// ```text
+    /// ensures variant { IsSome result ↔ FitsBits 16 (bits_of self +ℤ bits_of other) }
+    /// ensures value { IfSome result (λ sum. bits_of sum ≡ (bits_of self +ℤ bits_of other)) }
+    /// ```
+    ///
+    /// Defined:
+    /// [`FitsBits`](crate::contracts::font_base::Wrap),
+    /// [`bits_of`](crate::contracts::font_fixed2::F4Dot12).
+    /// [How to read it](crate::contracts).
+    ///
+    /// </details>
+    #[must_use]
+    #[inline]
+    pub fn checked_add(self, other: Self) -> Option<Self> {
+        Some(Self(self.0.checked_add(other.0)?))
+    }
+
+    /// The two bytes of the bits, highest first.
+    ///
+    /// <details><summary>Contract</summary>
+    ///
+    /// ```text
+    /// ensures { result ≡ bytes_of 2 (bits_of self) }
+    /// ```
+    ///
+    /// Defined:
+    /// [`bytes_of`](crate::contracts::font_base::Bytes),
+    /// [`bits_of`](crate::contracts::font_fixed2::F4Dot12).
+    /// [How to read it](crate::contracts).
+    ///
+    /// </details>
+    #[must_use]
+    #[inline]
+    pub const fn to_be_bytes(self) -> [u8; 2] {
+        self.0.to_be_bytes()
+    }
+
+    /// The number nearest to a decimal text, ties away from zero.
+    ///
+    /// # Errors
+    ///
+    /// A text outside the grammar is refused as `Syntax`, one whose nearest number is out of range
+    /// as `OutOfRange`.
+    ///
+    /// <details><summary>Contract</summary>
+    ///
+    /// ```text
+    /// ensures { ReadsBy w16 12 bits_of text.now result }
+    /// ```
+    ///
+    /// Defined:
+    /// [`ReadsBy`](crate::contracts::font_arithmetic::Reading),
+    /// [`bits_of`](crate::contracts::font_fixed2::F4Dot12).
+    /// [How to read it](crate::contracts).
+    ///
+    /// </details>
+    #[inline]
+    pub fn from_decimal(text: &str) -> Result<Self, DecimalFault> {
+        Self::from_decimal_bytes(text.as_bytes())
+    }
+
+    /// The same of bytes, which need not be a text.
+    ///
+    /// # Errors
+    ///
+    /// Those of `from_decimal`; bytes that are no text are `Syntax`.
+    ///
+    /// <details><summary>Contract</summary>
+    ///
+    /// ```text
+    /// ensures { ReadsBy w16 12 bits_of text.now result }
+    /// ```
+    ///
+    /// Defined:
+    /// [`ReadsBy`](crate::contracts::font_arithmetic::Reading),
+    /// [`bits_of`](crate::contracts::font_fixed2::F4Dot12).
+    /// [How to read it](crate::contracts).
+    ///
+    /// </details>
+    #[inline]
+    pub fn from_decimal_bytes(text: &[u8]) -> Result<Self, DecimalFault> {
+        read_bits_16(text, Self::FRACTION_BITS).map(Self)
+    }
+
+    /// Writes the printed text to the front of `out`, padded, and returns the number of bytes;
+    /// `None` where `out` is too short, which then stays as it was. 7 bytes, or the width where
+    /// that is more, are always enough. The fill is below 0x80.
+    ///
+    /// <details><summary>Contract</summary>
+    ///
+    /// ```text
+    /// requires { pad.now.fill < 128 }
+    /// ensures written { IfSome result
+    ///     (λ n. FillsFront (padded_text (text_of self) pad.now) n out.old out.new) }
+    /// ensures room { IsSome result
+    ///     ↔ (length (padded_text (text_of self) pad.now) ≤ length out.old) }
+    /// ensures cell { max 7 pad.now.width ≤ length out.old → IsSome result }
+    /// ensures fills { length out.old ≤ pad.now.width
+    ///     → IfSome result (λ _. out.new ≡ padded_text (text_of self) pad.now) }
+    /// ensures untouched { IfNone result (out.new ≡ out.old) }
+    /// ```
+    ///
+    /// Defined:
+    /// [`padded_text`](crate::contracts::font_decimal::Padding),
+    /// [`FillsFront`](crate::contracts::font_decimal::Padding),
+    /// [`text_of`](crate::contracts::font_fixed2::F4Dot12).
+    /// [How to read it](crate::contracts).
+    ///
+    /// </details>
+    #[inline]
+    pub fn write_padded(self, out: &mut [u8], pad: &Pad) -> Option<usize> {
+        crate::font_decimal::write_padded(self.shortest().as_str(), out, pad)
+    }
+
+    #[inline]
+    fn shortest(self) -> Shortest {
+        Shortest::new(i64::from(self.0), Self::FRACTION_BITS)
+    }
+}
+
+/// <details><summary>Contract</summary>
+///
+/// ```text
+/// add_gives = { λ x y sum. bits_of sum ≡ wrap 16 (bits_of x +ℤ bits_of y) }
+/// ```
+///
+/// Defined:
+/// [`wrap`](crate::contracts::font_base::Wrap),
+/// [`bits_of`](crate::contracts::font_fixed2::F4Dot12).
+/// [How to read it](crate::contracts).
+///
+/// </details>
+impl Add for F4Dot12 {
+    type Output = F4Dot12;
+
+    #[inline]
+    fn add(self, other: F4Dot12) -> F4Dot12 {
+        self.wrapping_add(other)
+    }
+}
+
+/// <details><summary>Contract</summary>
+///
+/// ```text
+/// add_assign_gives = { λ x y sum. bits_of sum ≡ wrap 16 (bits_of x +ℤ bits_of y) }
+/// ```
+///
+/// Defined:
+/// [`wrap`](crate::contracts::font_base::Wrap),
+/// [`bits_of`](crate::contracts::font_fixed2::F4Dot12).
+/// [How to read it](crate::contracts).
+///
+/// </details>
+impl AddAssign for F4Dot12 {
+    #[inline]
+    fn add_assign(&mut self, other: F4Dot12) {
+        *self = *self + other;
+    }
+}
+
+/// <details><summary>Contract</summary>
+///
+/// ```text
+/// sub_gives = { λ x y rest. bits_of rest ≡ wrap 16 (bits_of x -ℤ bits_of y) }
+/// ```
+///
+/// Defined:
+/// [`wrap`](crate::contracts::font_base::Wrap),
+/// [`bits_of`](crate::contracts::font_fixed2::F4Dot12).
+/// [How to read it](crate::contracts).
+///
+/// </details>
+impl Sub for F4Dot12 {
+    type Output = F4Dot12;
+
+    #[inline]
+    fn sub(self, other: F4Dot12) -> F4Dot12 {
+        self.wrapping_sub(other)
+    }
+}
+
+/// <details><summary>Contract</summary>
+///
+/// ```text
+/// sub_assign_gives = { λ x y rest. bits_of rest ≡ wrap 16 (bits_of x -ℤ bits_of y) }
+/// ```
+///
+/// Defined:
+/// [`wrap`](crate::contracts::font_base::Wrap),
+/// [`bits_of`](crate::contracts::font_fixed2::F4Dot12).
+/// [How to read it](crate::contracts).
+///
+/// </details>
+impl SubAssign for F4Dot12 {
+    #[inline]
+    fn sub_assign(&mut self, other: F4Dot12) {
+        *self = *self - other;
+    }
+}
+
+/// <details><summary>Contract</summary>
+///
+/// ```text
+/// neg_gives = { λ x opposite. bits_of opposite ≡ wrap 16 (neg_ℤ (bits_of x)) }
+/// ```
+///
+/// Defined:
+/// [`wrap`](crate::contracts::font_base::Wrap),
+/// [`bits_of`](crate::contracts::font_fixed2::F4Dot12).
+/// [How to read it](crate::contracts).
+///
+/// </details>
+impl Neg for F4Dot12 {
+    type Output = F4Dot12;
+
+    #[inline]
+    fn neg(self) -> F4Dot12 {
+        Self(self.0.wrapping_neg())
+    }
+}
+
+/// The text is read as by `from_decimal`: `"1.5".parse::<F4Dot12>()`.
+///
+/// <details><summary>Contract</summary>
+///
+/// ```text
+/// from_str_gives = { λ text result. ReadsBy w16 12 bits_of text result }
+/// ```
+///
+/// Defined:
+/// [`ReadsBy`](crate::contracts::font_arithmetic::Reading),
+/// [`bits_of`](crate::contracts::font_fixed2::F4Dot12).
+/// [How to read it](crate::contracts).
+///
+/// </details>
+impl FromStr for F4Dot12 {
+    type Err = DecimalFault;
+
+    #[inline]
+    fn from_str(text: &str) -> Result<Self, DecimalFault> {
+        Self::from_decimal(text)
+    }
+}
+
+/// <details><summary>Contract</summary>
+///
+/// ```text
+/// output = { λ x. Some (text_of x) }
+/// ```
+///
+/// Defined:
+/// [`text_of`](crate::contracts::font_fixed2::F4Dot12).
+/// [How to read it](crate::contracts).
+///
+/// </details>
+impl fmt::Display for F4Dot12 {
+    fn fmt(&self, f: &mut fmt::Formatter<'_>) -> fmt::Result {
+        fmt::Display::fmt(&self.shortest(), f)
+    }
+}
+
+impl fmt::Debug for F4Dot12 {
+    fn fmt(&self, f: &mut fmt::Formatter<'_>) -> fmt::Result {
+        fmt::Display::fmt(&self.shortest(), f)
+    }
+}
+
+impl FixedSize for F4Dot12 {
+    const RAW_BYTE_LEN: usize = 2;
+}
+
+impl Scalar for F4Dot12 {
+    type Raw = [u8; 2];
+
+    #[inline]
+    fn from_raw(raw: [u8; 2]) -> F4Dot12 {
+        Self(i16::from_raw(raw))
+    }
+
+    #[inline]
+    fn to_raw(self) -> [u8; 2] {
+        self.0.to_raw()
+    }
+}
+
+impl IdentityEq for F4Dot12 {}

@@ -1,0 +1,118 @@
+// @generated from crates/font_geom/src/bbox.rt by tools/src/bin/erase.rs
+
+//! Boxes with sides along the axes.
+
+use core::ops::Mul;
+
+/// The least and greatest coordinates of a region.
+///
+/// ```
+/// use font_types_proved::BoundingBox;
+/// let region = BoundingBox { x_min: 3, y_min: 0, x_max: 1, y_max: 2 };
+/// assert_eq!(region.normalize(), BoundingBox { x_min: 1, y_min: 0, x_max: 3, y_max: 2 });
+/// assert_eq!(region.scale(2).y_max, 4);
+/// ```
+#[derive(Clone, Copy, PartialEq, Eq, Default, Debug)]
+pub struct BoundingBox<T> {
+    /// The least x, the left side.
+    pub x_min: T,
+    /// The least y, the bottom where y goes up, as in fonts.
+    pub y_min: T,
+    /// The greatest x, the right side.
+    pub x_max: T,
+    /// The greatest y, the top where y goes up.
+    pub y_max: T,
+}
+
+impl<T: Mul<Output = T> + Copy> BoundingBox<T> {
+    /// The box with each entry times the factor.
+    ///
+    /// A negative factor turns the box round: call `normalize` after it.
+    ///
+    /// <details><summary>Contract</summary>
+    ///
+    /// ```text
+    /// requires { CanScale T.can_mul self.now factor }
+    /// ensures { IsScaled T.mul_gives self.now factor result }
+    /// ```
+    ///
+    /// Defined:
+    /// [`CanScale`](crate::contracts::font_geom::BoundingBox),
+    /// [`IsScaled`](crate::contracts::font_geom::BoundingBox).
+    /// [How to read it](crate::contracts).
+    ///
+    /// </details>
+    #[must_use]
+    pub fn scale(&self, factor: T) -> Self {
+        Self {
+            x_min: self.x_min * factor,
+            y_min: self.y_min * factor,
+            x_max: self.x_max * factor,
+            y_max: self.y_max * factor,
+        }
+    }
+}
+
+impl<T: PartialOrd + Copy> BoundingBox<T> {
+    /// Whether `x_min <= x_max` and `y_min <= y_max`.
+    ///
+    /// <details><summary>Contract</summary>
+    ///
+    /// ```text
+    /// ensures { result ≡ is_normalized (partial_le T.partial_cmp) self.now }
+    /// ```
+    ///
+    /// Defined:
+    /// [`is_normalized`](crate::contracts::font_geom::BoundingBox).
+    /// [How to read it](crate::contracts).
+    ///
+    /// </details>
+    #[must_use]
+    pub fn is_normalized(&self) -> bool {
+        self.x_min <= self.x_max && self.y_min <= self.y_max
+    }
+
+    /// The box whose pairs are in order: a pair for which `min <= max` is true stays, and every
+    /// other pair is swapped.
+    ///
+    /// A pair that does not compare is swapped too, and then the box is not normalized.
+    ///
+    /// <details><summary>Contract</summary>
+    ///
+    /// ```text
+    /// ensures value { result ≡ normalized_box (partial_le T.partial_cmp) self.now }
+    /// ensures pairs { HasSamePairs self.now result }
+    /// ensures in_order { Compares (partial_le T.partial_cmp) self.now
+    ///     → IsTrue (is_normalized (partial_le T.partial_cmp) result) }
+    /// ensures once { Compares (partial_le T.partial_cmp) self.now
+    ///     → normalized_box (partial_le T.partial_cmp) result ≡ result }
+    /// ```
+    ///
+    /// Defined:
+    /// [`is_normalized`](crate::contracts::font_geom::BoundingBox),
+    /// [`normalized_box`](crate::contracts::font_geom::BoundingBox),
+    /// [`Compares`](crate::contracts::font_geom::BoundingBox),
+    /// [`HasSamePairs`](crate::contracts::font_geom::BoundingBox).
+    /// [How to read it](crate::contracts).
+    ///
+    /// </details>
+    #[must_use]
+    pub fn normalize(&self) -> Self {
+        let (x_min, x_max) = if self.x_min <= self.x_max {
+            (self.x_min, self.x_max)
+        } else {
+            (self.x_max, self.x_min)
+        };
+        let (y_min, y_max) = if self.y_min <= self.y_max {
+            (self.y_min, self.y_max)
+        } else {
+            (self.y_max, self.y_min)
+        };
+        Self {
+            x_min,
+            y_min,
+            x_max,
+            y_max,
+        }
+    }
+}

@@ -1,0 +1,197 @@
+// @generated from crates/font_geom/src/laws.rt by tools/src/bin/erase.rs
+
+//! Functions whose contracts are laws of matrices: they make the calls that a law speaks of, and
+//! return what those give.
+
+use crate::font_fixed::Fixed;
+use crate::font_geom::{Matrix, Point, RingElement};
+
+/// `(a * b) * c` and `a * (b * c)`, which are equal.
+///
+/// <details><summary>Contract</summary>
+///
+/// ```text
+/// ensures first { result.0 ≡ matrix_product T.plus T.times (matrix_product T.plus T.times a b) c }
+/// ensures second { result.1
+///     ≡ matrix_product T.plus T.times a (matrix_product T.plus T.times b c) }
+/// ensures equal { result.0 ≡ result.1 }
+/// ```
+///
+/// Defined:
+/// [`matrix_product`](crate::contracts::font_geom::Matrix).
+/// [How to read it](crate::contracts).
+///
+/// </details>
+#[must_use]
+pub fn associative<T: RingElement>(
+    a: Matrix<T>,
+    b: Matrix<T>,
+    c: Matrix<T>,
+) -> (Matrix<T>, Matrix<T>) {
+    ((a * b) * c, a * (b * c))
+}
+
+/// `(a * b) * p` and `a * (b * p)`, which are equal.
+///
+/// <details><summary>Contract</summary>
+///
+/// ```text
+/// ensures first { result.0 ≡ image_of T.plus T.times (matrix_product T.plus T.times a b) p }
+/// ensures second { result.1 ≡ image_of T.plus T.times a (image_of T.plus T.times b p) }
+/// ensures equal { result.0 ≡ result.1 }
+/// ```
+///
+/// Defined:
+/// [`image_of`](crate::contracts::font_geom::Matrix),
+/// [`matrix_product`](crate::contracts::font_geom::Matrix).
+/// [How to read it](crate::contracts).
+///
+/// </details>
+#[must_use]
+pub fn action<T: RingElement>(a: Matrix<T>, b: Matrix<T>, p: Point<T>) -> (Point<T>, Point<T>) {
+    ((a * b) * p, a * (b * p))
+}
+
+/// The identity times `a`, and `a` times the identity: both are `a`.
+///
+/// <details><summary>Contract</summary>
+///
+/// ```text
+/// ensures first { result.0 ≡ matrix_product T.plus T.times (identity_matrix T.ZERO T.ONE) a }
+/// ensures second { result.1 ≡ matrix_product T.plus T.times a (identity_matrix T.ZERO T.ONE) }
+/// ensures left { result.0 ≡ a }
+/// ensures right { result.1 ≡ a }
+/// ```
+///
+/// Defined:
+/// [`identity_matrix`](crate::contracts::font_geom::Matrix),
+/// [`matrix_product`](crate::contracts::font_geom::Matrix).
+/// [How to read it](crate::contracts).
+///
+/// </details>
+#[must_use]
+pub fn identity_neutral<T: RingElement>(a: Matrix<T>) -> (Matrix<T>, Matrix<T>) {
+    (Matrix::identity() * a, a * Matrix::identity())
+}
+
+/// The identity times `a`, and `a` times the identity: both are `a`, also where products are
+/// rounded and sums wrap.
+///
+/// <details><summary>Contract</summary>
+///
+/// ```text
+/// ensures first { matrix_bits result.0 ≡ matrix_product wrapped_sum wrapped_product
+///     (identity_matrix (pos 0) (pos 65536)) (matrix_bits a) }
+/// ensures second { matrix_bits result.1 ≡ matrix_product wrapped_sum wrapped_product
+///     (matrix_bits a) (identity_matrix (pos 0) (pos 65536)) }
+/// ensures left { result.0 ≡ a }
+/// ensures right { result.1 ≡ a }
+/// ```
+///
+/// Defined:
+/// [`identity_matrix`](crate::contracts::font_geom::Matrix),
+/// [`matrix_product`](crate::contracts::font_geom::Matrix),
+/// [`matrix_bits`](crate::contracts::font_geom::FixedMatrix),
+/// [`wrapped_sum`](crate::contracts::font_geom::FixedMatrix),
+/// [`wrapped_product`](crate::contracts::font_geom::FixedMatrix).
+/// [How to read it](crate::contracts).
+///
+/// </details>
+#[must_use]
+#[inline]
+pub fn fixed_identity(a: Matrix<Fixed>) -> (Matrix<Fixed>, Matrix<Fixed>) {
+    let identity = Matrix::identity();
+    (identity * a, a * identity)
+}
+
+/// `(x * y) * z` and `x * (y * z)` of one step and two halves: one step, and zero.
+///
+/// So products of [`Fixed`], which are rounded, do not associate, and [`Fixed`] is no [`RingElement`].
+///
+/// <details><summary>Contract</summary>
+///
+/// ```text
+/// ensures first { fixed_bits result.0 ≡ pos 1 }
+/// ensures second { fixed_bits result.1 ≡ pos 0 }
+/// ensures apart { ¬ ProductsAssociate }
+/// ```
+///
+/// Defined:
+/// [`ProductsAssociate`](crate::contracts::font_geom::FixedMatrix),
+/// [`fixed_bits`](crate::contracts::font_fixed::Fixed).
+/// [How to read it](crate::contracts).
+///
+/// </details>
+#[must_use]
+#[inline]
+pub fn step_and_halves() -> (Fixed, Fixed) {
+    let (step, half) = (Fixed::EPSILON, Fixed::from_bits(0x8000));
+    (step * half * half, step * (half * half))
+}
+
+/// `(a * b) * p`, which is near the exact image of `p` where no entry of the product and no
+/// coordinate of the result leaves 32 bits.
+///
+/// Each coordinate is then at most `(|x| + |y|) / 65536 + 2` bits from the exact one, magnitudes in
+/// bits. What happens on the way may wrap.
+///
+/// <details><summary>Contract</summary>
+///
+/// ```text
+/// ensures value { point_bits result
+///     ≡ image_of wrapped_sum wrapped_product (matrix_product wrapped_sum wrapped_product
+///     (matrix_bits a) (matrix_bits b)) (point_bits p) }
+/// ensures close { FitsComposed (matrix_bits a) (matrix_bits b) (point_bits p)
+///     → IsCloseComposed (matrix_bits a) (matrix_bits b) (point_bits p) (point_bits result) }
+/// ```
+///
+/// Defined:
+/// [`image_of`](crate::contracts::font_geom::Matrix),
+/// [`matrix_product`](crate::contracts::font_geom::Matrix),
+/// [`matrix_bits`](crate::contracts::font_geom::FixedMatrix),
+/// [`point_bits`](crate::contracts::font_geom::FixedMatrix),
+/// [`wrapped_sum`](crate::contracts::font_geom::FixedMatrix),
+/// [`wrapped_product`](crate::contracts::font_geom::FixedMatrix),
+/// [`FitsComposed`](crate::contracts::font_geom::FixedMatrix),
+/// [`IsCloseComposed`](crate::contracts::font_geom::FixedMatrix).
+/// [How to read it](crate::contracts).
+///
+/// </details>
+#[must_use]
+#[inline]
+pub fn composed(a: Matrix<Fixed>, b: Matrix<Fixed>, p: Point<Fixed>) -> Point<Fixed> {
+    (a * b) * p
+}
+
+/// `a * (b * p)`, which is near the exact image of `p` where no coordinate of `b * p` and none of
+/// the result leaves 32 bits.
+///
+/// A coordinate is then at most the magnitudes of the two linear entries of its row of `a`, in
+/// bits, over 65536, and 1 bit from the exact one. What happens on the way may wrap.
+///
+/// <details><summary>Contract</summary>
+///
+/// ```text
+/// ensures value { point_bits result
+///     ≡ image_of wrapped_sum wrapped_product (matrix_bits a)
+///     (image_of wrapped_sum wrapped_product (matrix_bits b) (point_bits p)) }
+/// ensures close { FitsInTurn (matrix_bits a) (matrix_bits b) (point_bits p)
+///     → IsCloseInTurn (matrix_bits a) (matrix_bits b) (point_bits p) (point_bits result) }
+/// ```
+///
+/// Defined:
+/// [`image_of`](crate::contracts::font_geom::Matrix),
+/// [`matrix_bits`](crate::contracts::font_geom::FixedMatrix),
+/// [`point_bits`](crate::contracts::font_geom::FixedMatrix),
+/// [`wrapped_sum`](crate::contracts::font_geom::FixedMatrix),
+/// [`wrapped_product`](crate::contracts::font_geom::FixedMatrix),
+/// [`FitsInTurn`](crate::contracts::font_geom::FixedMatrix),
+/// [`IsCloseInTurn`](crate::contracts::font_geom::FixedMatrix).
+/// [How to read it](crate::contracts).
+///
+/// </details>
+#[must_use]
+#[inline]
+pub fn in_turn(a: Matrix<Fixed>, b: Matrix<Fixed>, p: Point<Fixed>) -> Point<Fixed> {
+    a * (b * p)
+}

@@ -1,0 +1,248 @@
+// @generated from crates/font_geom/src/matrix.rt by tools/src/bin/erase.rs
+
+//! Affine matrices.
+
+use crate::font_fixed::Fixed;
+use crate::font_geom::Point;
+use core::ops::{Add, Mul, MulAssign};
+
+/// A matrix that moves points: one of 2 by 2 elements, and a translation.
+///
+/// ```none
+/// | xx xy dx |
+/// | yx yy dy |
+/// ```
+///
+/// It sends `(x, y)` to `(xx * x + xy * y + dx, yx * x + yy * y + dy)`. The product `a * b` applies
+/// `b` and then `a`.
+///
+/// ```
+/// use font_types_proved::{Fixed, Matrix, Point};
+/// let half = Fixed::from_bits(0x8000);
+/// let shrink = Matrix { xx: half, yy: half, ..Matrix::identity() };
+/// assert_eq!(shrink * Point::new(Fixed::ONE, half), Point::new(half, half * half));
+/// ```
+#[derive(Clone, Copy, PartialEq, Eq, Debug)]
+pub struct Matrix<T> {
+    /// What x adds to x.
+    pub xx: T,
+    /// What x adds to y.
+    pub yx: T,
+    /// What y adds to x.
+    pub xy: T,
+    /// What y adds to y.
+    pub yy: T,
+    /// The translation along x.
+    pub dx: T,
+    /// The translation along y.
+    pub dy: T,
+}
+
+/// A type whose values can be elements of a matrix.
+pub trait MatrixElement: Copy + Add<Output = Self> + Mul<Output = Self> {
+    /// 0.
+    const ZERO: Self;
+
+    /// 1.
+    const ONE: Self;
+}
+
+impl MatrixElement for Fixed {
+    const ZERO: Self = Fixed::ZERO;
+
+    const ONE: Self = Fixed::ONE;
+}
+
+impl<T: Copy> Matrix<T> {
+    /// The matrix of these elements, in the order `[xx, yx, xy, yy, dx, dy]`.
+    ///
+    /// <details><summary>Contract</summary>
+    ///
+    /// ```text
+    /// ensures { elements_of result ≡ elements }
+    /// ```
+    ///
+    /// Defined:
+    /// [`elements_of`](crate::contracts::font_geom::Matrix).
+    /// [How to read it](crate::contracts).
+    ///
+    /// </details>
+    #[must_use]
+    pub const fn from_elements(elements: [T; 6]) -> Self {
+        let [xx, yx, xy, yy, dx, dy] = elements;
+        Self {
+            xx,
+            yx,
+            xy,
+            yy,
+            dx,
+            dy,
+        }
+    }
+
+    /// The elements in the order `[xx, yx, xy, yy, dx, dy]`.
+    ///
+    /// <details><summary>Contract</summary>
+    ///
+    /// ```text
+    /// ensures { result ≡ elements_of self.now }
+    /// ```
+    ///
+    /// Defined:
+    /// [`elements_of`](crate::contracts::font_geom::Matrix).
+    /// [How to read it](crate::contracts).
+    ///
+    /// </details>
+    #[must_use]
+    pub const fn elements(&self) -> [T; 6] {
+        [self.xx, self.yx, self.xy, self.yy, self.dx, self.dy]
+    }
+
+    /// The matrix of what the function gives at each element, in the order of `elements`.
+    ///
+    /// <details><summary>Contract</summary>
+    ///
+    /// ```text
+    /// requires { CanCallEach F.pre F.step f (elements_of self) }
+    /// ensures { CallsEach F.step f (elements_of self) (elements_of result) }
+    /// ```
+    ///
+    /// Defined:
+    /// [`CanCallEach`](crate::contracts::font_geom::Calls),
+    /// [`CallsEach`](crate::contracts::font_geom::Calls),
+    /// [`elements_of`](crate::contracts::font_geom::Matrix).
+    /// [How to read it](crate::contracts).
+    ///
+    /// </details>
+    #[must_use]
+    pub fn map<U: Copy, F: FnMut(T) -> U>(self, mut f: F) -> Matrix<U> {
+        Matrix {
+            xx: f(self.xx),
+            yx: f(self.yx),
+            xy: f(self.xy),
+            yy: f(self.yy),
+            dx: f(self.dx),
+            dy: f(self.dy),
+        }
+    }
+}
+
+impl<T: MatrixElement> Matrix<T> {
+    /// The matrix that leaves every point where it is.
+    ///
+    /// <details><summary>Contract</summary>
+    ///
+    /// ```text
+    /// ensures { result ≡ identity_matrix T.ZERO T.ONE }
+    /// ```
+    ///
+    /// Defined:
+    /// [`identity_matrix`](crate::contracts::font_geom::Matrix).
+    /// [How to read it](crate::contracts).
+    ///
+    /// </details>
+    #[must_use]
+    pub const fn identity() -> Self {
+        Self {
+            xx: T::ONE,
+            yx: T::ZERO,
+            xy: T::ZERO,
+            yy: T::ONE,
+            dx: T::ZERO,
+            dy: T::ZERO,
+        }
+    }
+
+    /// Where the point `(x, y)` goes.
+    ///
+    /// <details><summary>Contract</summary>
+    ///
+    /// ```text
+    /// requires { CanTransform T.can_mul T.mul_gives T.can_add T.add_gives self.now x y }
+    /// ensures { IsTransformed T.mul_gives T.add_gives self.now x y result.0 result.1 }
+    /// ```
+    ///
+    /// Defined:
+    /// [`CanTransform`](crate::contracts::font_geom::Matrix),
+    /// [`IsTransformed`](crate::contracts::font_geom::Matrix).
+    /// [How to read it](crate::contracts).
+    ///
+    /// </details>
+    #[must_use]
+    pub fn transform(&self, x: T, y: T) -> (T, T) {
+        (
+            self.xx * x + self.xy * y + self.dx,
+            self.yx * x + self.yy * y + self.dy,
+        )
+    }
+}
+
+impl<T: MatrixElement> Default for Matrix<T> {
+    fn default() -> Matrix<T> {
+        Self::identity()
+    }
+}
+
+/// <details><summary>Contract</summary>
+///
+/// ```text
+/// mul_gives = { IsProductOf T.mul_gives T.add_gives }
+/// ```
+///
+/// Defined:
+/// [`IsProductOf`](crate::contracts::font_geom::Matrix).
+/// [How to read it](crate::contracts).
+///
+/// </details>
+impl<T: MatrixElement> Mul for Matrix<T> {
+    type Output = Matrix<T>;
+
+    fn mul(self, rhs: Matrix<T>) -> Matrix<T> {
+        Matrix {
+            xx: self.xx * rhs.xx + self.xy * rhs.yx,
+            yx: self.yx * rhs.xx + self.yy * rhs.yx,
+            xy: self.xx * rhs.xy + self.xy * rhs.yy,
+            yy: self.yx * rhs.xy + self.yy * rhs.yy,
+            dx: self.xx * rhs.dx + self.xy * rhs.dy + self.dx,
+            dy: self.yx * rhs.dx + self.yy * rhs.dy + self.dy,
+        }
+    }
+}
+
+/// <details><summary>Contract</summary>
+///
+/// ```text
+/// mul_assign_gives = { IsProductOf T.mul_gives T.add_gives }
+/// ```
+///
+/// Defined:
+/// [`IsProductOf`](crate::contracts::font_geom::Matrix).
+/// [How to read it](crate::contracts).
+///
+/// </details>
+impl<T: MatrixElement> MulAssign for Matrix<T> {
+    fn mul_assign(&mut self, rhs: Matrix<T>) {
+        *self = *self * rhs;
+    }
+}
+
+/// <details><summary>Contract</summary>
+///
+/// ```text
+/// mul_gives = { λ matrix p moved.
+///        IsTransformed T.mul_gives T.add_gives matrix p.x p.y moved.x moved.y }
+/// ```
+///
+/// Defined:
+/// [`IsTransformed`](crate::contracts::font_geom::Matrix).
+/// [How to read it](crate::contracts).
+///
+/// </details>
+impl<T: MatrixElement> Mul<Point<T>> for Matrix<T> {
+    type Output = Point<T>;
+
+    fn mul(self, rhs: Point<T>) -> Point<T> {
+        let (x, y) = self.transform(rhs.x, rhs.y);
+        Point::new(x, y)
+    }
+}

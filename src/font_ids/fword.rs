@@ -1,0 +1,431 @@
+// @generated from crates/font_ids/src/fword.rt by tools/src/bin/erase.rs
+
+//! Quantities in font design units, of 16 bits.
+
+use crate::font_base::{FixedSize, IdentityEq, Scalar};
+use crate::font_fixed::{F48Dot16, Fixed};
+use core::fmt;
+
+// The whole number nearest to a quantity in steps of `2^-16`, ties upwards.
+#[inline]
+fn nearest_whole(steps: i128) -> i128 {
+    ((steps >> 15) + 1) >> 1
+}
+
+/// A signed quantity in font design units.
+///
+/// ```
+/// use font_types_proved::{FWord, Fixed, Scalar};
+/// let ascender = FWord::read(&[0xFF, 0xFE]).unwrap();
+/// assert_eq!(ascender.to_fixed(), Fixed::from_i32(-2));
+/// ```
+#[derive(Clone, Copy, Debug, Default, PartialEq, Eq, PartialOrd, Ord, Hash)]
+pub struct FWord(i16);
+
+impl FWord {
+    /// The quantity of a number.
+    ///
+    /// <details><summary>Contract</summary>
+    ///
+    /// ```text
+    /// ensures { fword_number result ≡ raw }
+    /// ```
+    ///
+    /// Defined:
+    /// [`fword_number`](crate::contracts::font_ids::FWord).
+    /// [How to read it](crate::contracts).
+    ///
+    /// </details>
+    #[must_use]
+    #[inline]
+    pub const fn new(raw: i16) -> Self {
+        Self(raw)
+    }
+
+    /// The number.
+    ///
+    /// <details><summary>Contract</summary>
+    ///
+    /// ```text
+    /// ensures { result ≡ fword_number self }
+    /// ```
+    ///
+    /// Defined:
+    /// [`fword_number`](crate::contracts::font_ids::FWord).
+    /// [How to read it](crate::contracts).
+    ///
+    /// </details>
+    #[must_use]
+    #[inline]
+    pub const fn to_i16(self) -> i16 {
+        self.0
+    }
+
+    /// The number as a 16.16 number, which never wraps.
+    ///
+    /// <details><summary>Contract</summary>
+    ///
+    /// ```text
+    /// ensures { fixed_bits result ≡ (fword_number self *ℤ pos (2 ^ 16)) }
+    /// ```
+    ///
+    /// Defined:
+    /// [`fixed_bits`](crate::contracts::font_fixed::Fixed),
+    /// [`fword_number`](crate::contracts::font_ids::FWord).
+    /// [How to read it](crate::contracts).
+    ///
+    /// </details>
+    #[must_use]
+    #[inline]
+    pub const fn to_fixed(self) -> Fixed {
+        Fixed::from_i32(self.to_i16() as i32)
+    }
+
+    /// The number moved by a sum of deltas, exactly, in units of `2^-16`.
+    ///
+    /// <details><summary>Contract</summary>
+    ///
+    /// ```text
+    /// ensures { result ≡ (fword_number self *ℤ pos 65536 +ℤ f48dot16_bits delta) }
+    /// ```
+    ///
+    /// Defined:
+    /// [`f48dot16_bits`](crate::contracts::font_fixed::F48Dot16),
+    /// [`fword_number`](crate::contracts::font_ids::FWord).
+    /// [How to read it](crate::contracts).
+    ///
+    /// </details>
+    #[must_use]
+    #[inline]
+    pub fn apply_delta(self, delta: F48Dot16) -> i128 {
+        i128::from(self.to_i16()) * 0x1_0000 + i128::from(delta.to_bits())
+    }
+
+    /// The number nearest to a quantity in steps of `2^-16`, as `apply_delta` gives it, ties
+    /// upwards, or `None` where that is out of range.
+    ///
+    /// ```
+    /// use font_types_proved::{FWord, Fixed, vary};
+    /// let moved = vary(FWord::new(100), &[(Fixed::from_bits(0x8000), 3)]).unwrap();
+    /// assert_eq!(FWord::round_steps(moved), Some(FWord::new(102)));
+    /// ```
+    ///
+    /// <details><summary>Contract</summary>
+    ///
+    /// ```text
+    /// ensures variant { IsSome result ↔ FitsBits 16 (nearest_unit steps) }
+    /// ensures value { IfSome result (λ word. fword_number word ≡ nearest_unit steps) }
+    /// ```
+    ///
+    /// Defined:
+    /// [`FitsBits`](crate::contracts::font_base::Wrap),
+    /// [`fword_number`](crate::contracts::font_ids::FWord),
+    /// [`nearest_unit`](crate::contracts::font_ids::FWord).
+    /// [How to read it](crate::contracts).
+    ///
+    /// </details>
+    #[must_use]
+    #[inline]
+    pub fn round_steps(steps: i128) -> Option<FWord> {
+        Some(FWord::new(i16::try_from(nearest_whole(steps)).ok()?))
+    }
+
+    /// The two bytes in two's complement, highest first.
+    ///
+    /// <details><summary>Contract</summary>
+    ///
+    /// ```text
+    /// ensures { result ≡ bytes_of 2 (fword_number self) }
+    /// ```
+    ///
+    /// Defined:
+    /// [`bytes_of`](crate::contracts::font_base::Bytes),
+    /// [`fword_number`](crate::contracts::font_ids::FWord).
+    /// [How to read it](crate::contracts).
+    ///
+    /// </details>
+    #[must_use]
+    #[inline]
+    pub const fn to_be_bytes(self) -> [u8; 2] {
+        self.0.to_be_bytes()
+    }
+}
+
+/// <details><summary>Contract</summary>
+///
+/// ```text
+/// output = { λ word. Some (signed_decimal (fword_number word)) }
+/// ```
+///
+/// Defined:
+/// [`fword_number`](crate::contracts::font_ids::FWord).
+/// [How to read it](crate::contracts).
+///
+/// </details>
+impl fmt::Display for FWord {
+    fn fmt(&self, f: &mut fmt::Formatter<'_>) -> fmt::Result {
+        fmt::Display::fmt(&self.0, f)
+    }
+}
+
+/// <details><summary>Contract</summary>
+///
+/// ```text
+/// from_gives = { λ number word. fword_number word ≡ number }
+/// ```
+///
+/// Defined:
+/// [`fword_number`](crate::contracts::font_ids::FWord).
+/// [How to read it](crate::contracts).
+///
+/// </details>
+impl From<i16> for FWord {
+    #[inline]
+    fn from(number: i16) -> FWord {
+        FWord(number)
+    }
+}
+
+/// <details><summary>Contract</summary>
+///
+/// ```text
+/// from_gives = { λ word number. number ≡ fword_number word }
+/// ```
+///
+/// Defined:
+/// [`fword_number`](crate::contracts::font_ids::FWord).
+/// [How to read it](crate::contracts).
+///
+/// </details>
+impl From<FWord> for i16 {
+    #[inline]
+    fn from(word: FWord) -> i16 {
+        word.0
+    }
+}
+
+impl FixedSize for FWord {
+    const RAW_BYTE_LEN: usize = 2;
+}
+
+impl Scalar for FWord {
+    type Raw = [u8; 2];
+
+    #[inline]
+    fn from_raw(raw: [u8; 2]) -> FWord {
+        FWord(i16::from_raw(raw))
+    }
+
+    #[inline]
+    fn to_raw(self) -> [u8; 2] {
+        i16::to_raw(self.0)
+    }
+}
+
+impl IdentityEq for FWord {}
+
+/// An unsigned quantity in font design units.
+///
+/// ```
+/// use font_types_proved::{Scalar, UfWord};
+/// assert_eq!(UfWord::read(&[0xFF, 0xFE]), Some(UfWord::new(65534)));
+/// ```
+#[derive(Clone, Copy, Debug, Default, PartialEq, Eq, PartialOrd, Ord, Hash)]
+pub struct UfWord(u16);
+
+impl UfWord {
+    /// The quantity of a number.
+    ///
+    /// <details><summary>Contract</summary>
+    ///
+    /// ```text
+    /// ensures { ufword_number result ≡ raw }
+    /// ```
+    ///
+    /// Defined:
+    /// [`ufword_number`](crate::contracts::font_ids::FWord).
+    /// [How to read it](crate::contracts).
+    ///
+    /// </details>
+    #[must_use]
+    #[inline]
+    pub const fn new(raw: u16) -> Self {
+        Self(raw)
+    }
+
+    /// The number.
+    ///
+    /// <details><summary>Contract</summary>
+    ///
+    /// ```text
+    /// ensures { result ≡ ufword_number self }
+    /// ```
+    ///
+    /// Defined:
+    /// [`ufword_number`](crate::contracts::font_ids::FWord).
+    /// [How to read it](crate::contracts).
+    ///
+    /// </details>
+    #[must_use]
+    #[inline]
+    pub const fn to_u16(self) -> u16 {
+        self.0
+    }
+
+    /// The number as a 16.16 number. It wraps: from 32768 on the result is negative.
+    ///
+    /// <details><summary>Contract</summary>
+    ///
+    /// ```text
+    /// ensures { fixed_bits result ≡ wrap 32 (pos (ufword_number self) *ℤ pos (2 ^ 16)) }
+    /// ```
+    ///
+    /// Defined:
+    /// [`wrap`](crate::contracts::font_base::Wrap),
+    /// [`fixed_bits`](crate::contracts::font_fixed::Fixed),
+    /// [`ufword_number`](crate::contracts::font_ids::FWord).
+    /// [How to read it](crate::contracts).
+    ///
+    /// </details>
+    #[must_use]
+    #[inline]
+    pub const fn to_fixed(self) -> Fixed {
+        Fixed::from_i32(self.to_u16() as i32)
+    }
+
+    /// The number moved by a sum of deltas, exactly, in units of `2^-16`.
+    ///
+    /// <details><summary>Contract</summary>
+    ///
+    /// ```text
+    /// ensures { result ≡ (pos (ufword_number self) *ℤ pos 65536 +ℤ f48dot16_bits delta) }
+    /// ```
+    ///
+    /// Defined:
+    /// [`f48dot16_bits`](crate::contracts::font_fixed::F48Dot16),
+    /// [`ufword_number`](crate::contracts::font_ids::FWord).
+    /// [How to read it](crate::contracts).
+    ///
+    /// </details>
+    #[must_use]
+    #[inline]
+    pub fn apply_delta(self, delta: F48Dot16) -> i128 {
+        i128::from(self.to_u16()) * 0x1_0000 + i128::from(delta.to_bits())
+    }
+
+    /// The number nearest to a quantity in steps of `2^-16`, as `apply_delta` gives it, ties
+    /// upwards, or `None` where that is out of range.
+    ///
+    /// <details><summary>Contract</summary>
+    ///
+    /// ```text
+    /// ensures variant { IsSome result
+    ///     ↔ ((pos 0 ≤ℤ nearest_unit steps) × (nearest_unit steps <ℤ pos 65536)) }
+    /// ensures value { IfSome result (λ word. pos (ufword_number word) ≡ nearest_unit steps) }
+    /// ```
+    ///
+    /// Defined:
+    /// [`ufword_number`](crate::contracts::font_ids::FWord),
+    /// [`nearest_unit`](crate::contracts::font_ids::FWord).
+    /// [How to read it](crate::contracts).
+    ///
+    /// </details>
+    #[must_use]
+    #[inline]
+    pub fn round_steps(steps: i128) -> Option<UfWord> {
+        Some(UfWord::new(u16::try_from(nearest_whole(steps)).ok()?))
+    }
+
+    /// The two bytes, highest first.
+    ///
+    /// <details><summary>Contract</summary>
+    ///
+    /// ```text
+    /// ensures { result ≡ bytes_of 2 (pos (ufword_number self)) }
+    /// ```
+    ///
+    /// Defined:
+    /// [`bytes_of`](crate::contracts::font_base::Bytes),
+    /// [`ufword_number`](crate::contracts::font_ids::FWord).
+    /// [How to read it](crate::contracts).
+    ///
+    /// </details>
+    #[must_use]
+    #[inline]
+    pub const fn to_be_bytes(self) -> [u8; 2] {
+        self.0.to_be_bytes()
+    }
+}
+
+/// <details><summary>Contract</summary>
+///
+/// ```text
+/// output = { λ word. Some (decimal (ufword_number word)) }
+/// ```
+///
+/// Defined:
+/// [`ufword_number`](crate::contracts::font_ids::FWord).
+/// [How to read it](crate::contracts).
+///
+/// </details>
+impl fmt::Display for UfWord {
+    fn fmt(&self, f: &mut fmt::Formatter<'_>) -> fmt::Result {
+        fmt::Display::fmt(&self.0, f)
+    }
+}
+
+/// <details><summary>Contract</summary>
+///
+/// ```text
+/// from_gives = { λ number word. ufword_number word ≡ number }
+/// ```
+///
+/// Defined:
+/// [`ufword_number`](crate::contracts::font_ids::FWord).
+/// [How to read it](crate::contracts).
+///
+/// </details>
+impl From<u16> for UfWord {
+    #[inline]
+    fn from(number: u16) -> UfWord {
+        UfWord(number)
+    }
+}
+
+/// <details><summary>Contract</summary>
+///
+/// ```text
+/// from_gives = { λ word number. number ≡ ufword_number word }
+/// ```
+///
+/// Defined:
+/// [`ufword_number`](crate::contracts::font_ids::FWord).
+/// [How to read it](crate::contracts).
+///
+/// </details>
+impl From<UfWord> for u16 {
+    #[inline]
+    fn from(word: UfWord) -> u16 {
+        word.0
+    }
+}
+
+impl FixedSize for UfWord {
+    const RAW_BYTE_LEN: usize = 2;
+}
+
+impl Scalar for UfWord {
+    type Raw = [u8; 2];
+
+    #[inline]
+    fn from_raw(raw: [u8; 2]) -> UfWord {
+        UfWord(u16::from_raw(raw))
+    }
+
+    #[inline]
+    fn to_raw(self) -> [u8; 2] {
+        u16::to_raw(self.0)
+    }
+}
+
+impl IdentityEq for UfWord {}

@@ -1,0 +1,717 @@
+// @generated from crates/font_ids/src/glyph_id.rt by tools/src/bin/erase.rs
+
+//! Glyph identifiers, as types of their own.
+
+use crate::font_base::{FixedSize, IdentityEq, Scalar, Uint24};
+use core::cmp::Ordering;
+use core::fmt;
+
+/// A glyph identifier of 16 bits.
+///
+/// ```
+/// use font_types_proved::{GlyphId, GlyphId16};
+/// assert_eq!(GlyphId16::try_from(GlyphId::new(7)).unwrap(), GlyphId16::new(7));
+/// ```
+#[derive(Clone, Copy, Debug, Default, PartialEq, Eq, PartialOrd, Ord, Hash)]
+pub struct GlyphId16(u16);
+
+impl GlyphId16 {
+    /// The glyph that stands for an unknown one, 0.
+    pub const NOTDEF: Self = Self(0);
+
+    /// The id of a number.
+    ///
+    /// <details><summary>Contract</summary>
+    ///
+    /// ```text
+    /// ensures { glyph16_number result ≡ raw }
+    /// ```
+    ///
+    /// Defined:
+    /// [`glyph16_number`](crate::contracts::font_ids::GlyphId).
+    /// [How to read it](crate::contracts).
+    ///
+    /// </details>
+    #[must_use]
+    #[inline]
+    pub const fn new(raw: u16) -> Self {
+        Self(raw)
+    }
+
+    /// The number.
+    ///
+    /// <details><summary>Contract</summary>
+    ///
+    /// ```text
+    /// ensures { result ≡ glyph16_number self }
+    /// ```
+    ///
+    /// Defined:
+    /// [`glyph16_number`](crate::contracts::font_ids::GlyphId).
+    /// [How to read it](crate::contracts).
+    ///
+    /// </details>
+    #[must_use]
+    #[inline]
+    pub const fn to_u16(self) -> u16 {
+        self.0
+    }
+
+    /// The number.
+    ///
+    /// <details><summary>Contract</summary>
+    ///
+    /// ```text
+    /// ensures { result ≡ glyph16_number self }
+    /// ```
+    ///
+    /// Defined:
+    /// [`glyph16_number`](crate::contracts::font_ids::GlyphId).
+    /// [How to read it](crate::contracts).
+    ///
+    /// </details>
+    #[must_use]
+    #[inline]
+    pub const fn to_u32(self) -> u32 {
+        self.0 as u32
+    }
+
+    /// The two bytes of the number, highest first.
+    ///
+    /// <details><summary>Contract</summary>
+    ///
+    /// ```text
+    /// ensures { result ≡ bytes_of 2 (pos (glyph16_number self)) }
+    /// ```
+    ///
+    /// Defined:
+    /// [`bytes_of`](crate::contracts::font_base::Bytes),
+    /// [`glyph16_number`](crate::contracts::font_ids::GlyphId).
+    /// [How to read it](crate::contracts).
+    ///
+    /// </details>
+    #[must_use]
+    #[inline]
+    pub const fn to_be_bytes(self) -> [u8; 2] {
+        self.0.to_be_bytes()
+    }
+
+    /// Whether both are the id of one glyph.
+    ///
+    /// <details><summary>Contract</summary>
+    ///
+    /// ```text
+    /// ensures { IsTrue result ↔ (glyph16_number self.now ≡ glyph_number other.now) }
+    /// ```
+    ///
+    /// Defined:
+    /// [`glyph16_number`](crate::contracts::font_ids::GlyphId),
+    /// [`glyph_number`](crate::contracts::font_ids::GlyphId).
+    /// [How to read it](crate::contracts).
+    ///
+    /// </details>
+    #[must_use]
+    #[inline]
+    pub fn eq_gid(&self, other: &GlyphId) -> bool {
+        GlyphId::from(*self) == *other
+    }
+
+    /// The order of the two numbers.
+    ///
+    /// <details><summary>Contract</summary>
+    ///
+    /// ```text
+    /// ensures { result ≡ nat_cmp (glyph16_number self.now) (glyph_number other.now) }
+    /// ```
+    ///
+    /// Defined:
+    /// [`glyph16_number`](crate::contracts::font_ids::GlyphId),
+    /// [`glyph_number`](crate::contracts::font_ids::GlyphId).
+    /// [How to read it](crate::contracts).
+    ///
+    /// </details>
+    #[must_use]
+    #[inline]
+    pub fn cmp_gid(&self, other: &GlyphId) -> Ordering {
+        GlyphId::from(*self).cmp(other)
+    }
+}
+
+/// <details><summary>Contract</summary>
+///
+/// ```text
+/// output = { λ id. Some (glyph_text (glyph16_number id)) }
+/// ```
+///
+/// Defined:
+/// [`glyph16_number`](crate::contracts::font_ids::GlyphId),
+/// [`glyph_text`](crate::contracts::font_ids::GlyphId).
+/// [How to read it](crate::contracts).
+///
+/// </details>
+impl fmt::Display for GlyphId16 {
+    fn fmt(&self, f: &mut fmt::Formatter<'_>) -> fmt::Result {
+        write!(f, "GID_{}", self.0)
+    }
+}
+
+/// <details><summary>Contract</summary>
+///
+/// ```text
+/// from_gives = { λ number id. glyph16_number id ≡ number }
+/// ```
+///
+/// Defined:
+/// [`glyph16_number`](crate::contracts::font_ids::GlyphId).
+/// [How to read it](crate::contracts).
+///
+/// </details>
+impl From<u16> for GlyphId16 {
+    #[inline]
+    fn from(number: u16) -> GlyphId16 {
+        GlyphId16(number)
+    }
+}
+
+/// <details><summary>Contract</summary>
+///
+/// ```text
+/// from_gives = { λ id number. number ≡ glyph16_number id }
+/// ```
+///
+/// Defined:
+/// [`glyph16_number`](crate::contracts::font_ids::GlyphId).
+/// [How to read it](crate::contracts).
+///
+/// </details>
+impl From<GlyphId16> for u32 {
+    #[inline]
+    fn from(id: GlyphId16) -> u32 {
+        id.to_u32()
+    }
+}
+
+/// <details><summary>Contract</summary>
+///
+/// ```text
+/// from_gives = { λ id number. number ≡ glyph16_number id }
+/// ```
+///
+/// Defined:
+/// [`glyph16_number`](crate::contracts::font_ids::GlyphId).
+/// [How to read it](crate::contracts).
+///
+/// </details>
+impl From<GlyphId16> for usize {
+    #[inline]
+    fn from(id: GlyphId16) -> usize {
+        usize::from(id.0)
+    }
+}
+
+/// <details><summary>Contract</summary>
+///
+/// ```text
+/// try_from_gives = { λ id result. MatchResult result
+///        (λ narrow. glyph16_number narrow ≡ glyph_number id)
+///        (λ error. (2 ^ 16 ≤ glyph_number id) × (refused_number error ≡ glyph_number id)) }
+/// ```
+///
+/// Defined:
+/// [`glyph16_number`](crate::contracts::font_ids::GlyphId),
+/// [`glyph_number`](crate::contracts::font_ids::GlyphId),
+/// [`refused_number`](crate::contracts::font_ids::GlyphId).
+/// [How to read it](crate::contracts).
+///
+/// </details>
+impl TryFrom<GlyphId> for GlyphId16 {
+    type Error = TryFromGlyphIdError;
+
+    #[inline]
+    fn try_from(id: GlyphId) -> Result<GlyphId16, TryFromGlyphIdError> {
+        match u16::try_from(id.0) {
+            Ok(number) => Ok(GlyphId16(number)),
+            Err(_) => Err(TryFromGlyphIdError(id.0)),
+        }
+    }
+}
+
+impl FixedSize for GlyphId16 {
+    const RAW_BYTE_LEN: usize = 2;
+}
+
+impl Scalar for GlyphId16 {
+    type Raw = [u8; 2];
+
+    #[inline]
+    fn from_raw(raw: [u8; 2]) -> GlyphId16 {
+        GlyphId16(u16::from_raw(raw))
+    }
+
+    #[inline]
+    fn to_raw(self) -> [u8; 2] {
+        self.0.to_raw()
+    }
+}
+
+impl IdentityEq for GlyphId16 {}
+
+/// A glyph identifier of 24 bits.
+///
+/// ```
+/// use font_types_proved::GlyphId24;
+/// assert_eq!(GlyphId24::checked_new(0x01_0000).unwrap().to_be_bytes(), [1, 0, 0]);
+/// ```
+#[derive(Clone, Copy, Debug, Default, PartialEq, Eq, PartialOrd, Ord, Hash)]
+pub struct GlyphId24(Uint24);
+
+impl GlyphId24 {
+    /// The glyph that stands for an unknown one, 0.
+    pub const NOTDEF: Self = Self(Uint24::MIN);
+
+    /// The id of a number, or the greatest id where the number is above it.
+    ///
+    /// <details><summary>Contract</summary>
+    ///
+    /// ```text
+    /// ensures { glyph24_number result ≡ min raw UINT24_MAX }
+    /// ```
+    ///
+    /// Defined:
+    /// [`UINT24_MAX`](crate::contracts::font_base::Uint24),
+    /// [`glyph24_number`](crate::contracts::font_ids::GlyphId).
+    /// [How to read it](crate::contracts).
+    ///
+    /// </details>
+    #[must_use]
+    #[inline]
+    pub const fn new(raw: u32) -> Self {
+        Self(Uint24::new(raw))
+    }
+
+    /// The id of a number, or `None` where it is above 16777215.
+    ///
+    /// <details><summary>Contract</summary>
+    ///
+    /// ```text
+    /// ensures variant { IsSome result ↔ (raw ≤ UINT24_MAX) }
+    /// ensures value { IfSome result (λ id. glyph24_number id ≡ raw) }
+    /// ```
+    ///
+    /// Defined:
+    /// [`UINT24_MAX`](crate::contracts::font_base::Uint24),
+    /// [`glyph24_number`](crate::contracts::font_ids::GlyphId).
+    /// [How to read it](crate::contracts).
+    ///
+    /// </details>
+    #[must_use]
+    #[inline]
+    pub const fn checked_new(raw: u32) -> Option<Self> {
+        match Uint24::checked_new(raw) {
+            Some(number) => Some(Self(number)),
+            None => None,
+        }
+    }
+
+    /// The number.
+    ///
+    /// <details><summary>Contract</summary>
+    ///
+    /// ```text
+    /// ensures { result ≡ glyph24_number self }
+    /// ```
+    ///
+    /// Defined:
+    /// [`glyph24_number`](crate::contracts::font_ids::GlyphId).
+    /// [How to read it](crate::contracts).
+    ///
+    /// </details>
+    #[must_use]
+    #[inline]
+    pub const fn to_u32(self) -> u32 {
+        self.0.to_u32()
+    }
+
+    /// The three bytes of the number, highest first.
+    ///
+    /// <details><summary>Contract</summary>
+    ///
+    /// ```text
+    /// ensures { result ≡ bytes_of 3 (pos (glyph24_number self)) }
+    /// ```
+    ///
+    /// Defined:
+    /// [`bytes_of`](crate::contracts::font_base::Bytes),
+    /// [`glyph24_number`](crate::contracts::font_ids::GlyphId).
+    /// [How to read it](crate::contracts).
+    ///
+    /// </details>
+    #[must_use]
+    #[inline]
+    pub const fn to_be_bytes(self) -> [u8; 3] {
+        self.0.to_be_bytes()
+    }
+
+    /// The id of three bytes, highest first.
+    ///
+    /// <details><summary>Contract</summary>
+    ///
+    /// ```text
+    /// ensures { bytes ≡ bytes_of 3 (pos (glyph24_number result)) }
+    /// ```
+    ///
+    /// Defined:
+    /// [`bytes_of`](crate::contracts::font_base::Bytes),
+    /// [`glyph24_number`](crate::contracts::font_ids::GlyphId).
+    /// [How to read it](crate::contracts).
+    ///
+    /// </details>
+    #[must_use]
+    #[inline]
+    pub const fn from_be_bytes(bytes: [u8; 3]) -> Self {
+        Self(Uint24::from_be_bytes(bytes))
+    }
+}
+
+/// <details><summary>Contract</summary>
+///
+/// ```text
+/// output = { λ id. Some (glyph_text (glyph24_number id)) }
+/// ```
+///
+/// Defined:
+/// [`glyph24_number`](crate::contracts::font_ids::GlyphId),
+/// [`glyph_text`](crate::contracts::font_ids::GlyphId).
+/// [How to read it](crate::contracts).
+///
+/// </details>
+impl fmt::Display for GlyphId24 {
+    fn fmt(&self, f: &mut fmt::Formatter<'_>) -> fmt::Result {
+        write!(f, "GID_{}", self.to_u32())
+    }
+}
+
+/// <details><summary>Contract</summary>
+///
+/// ```text
+/// from_gives = { λ id number. number ≡ glyph24_number id }
+/// ```
+///
+/// Defined:
+/// [`glyph24_number`](crate::contracts::font_ids::GlyphId).
+/// [How to read it](crate::contracts).
+///
+/// </details>
+impl From<GlyphId24> for u32 {
+    #[inline]
+    fn from(id: GlyphId24) -> u32 {
+        id.to_u32()
+    }
+}
+
+/// <details><summary>Contract</summary>
+///
+/// ```text
+/// from_gives = { λ id number. number ≡ glyph24_number id }
+/// ```
+///
+/// Defined:
+/// [`glyph24_number`](crate::contracts::font_ids::GlyphId).
+/// [How to read it](crate::contracts).
+///
+/// </details>
+impl From<GlyphId24> for usize {
+    #[inline]
+    fn from(id: GlyphId24) -> usize {
+        usize::from(id.0)
+    }
+}
+
+/// <details><summary>Contract</summary>
+///
+/// ```text
+/// try_from_gives = { λ id result. MatchResult result
+///        (λ narrow. glyph24_number narrow ≡ glyph_number id)
+///        (λ error. (2 ^ 24 ≤ glyph_number id) × (refused_number error ≡ glyph_number id)) }
+/// ```
+///
+/// Defined:
+/// [`glyph24_number`](crate::contracts::font_ids::GlyphId),
+/// [`glyph_number`](crate::contracts::font_ids::GlyphId),
+/// [`refused_number`](crate::contracts::font_ids::GlyphId).
+/// [How to read it](crate::contracts).
+///
+/// </details>
+impl TryFrom<GlyphId> for GlyphId24 {
+    type Error = TryFromGlyphIdError;
+
+    #[inline]
+    fn try_from(id: GlyphId) -> Result<GlyphId24, TryFromGlyphIdError> {
+        match Uint24::checked_new(id.0) {
+            Some(number) => Ok(GlyphId24(number)),
+            None => Err(TryFromGlyphIdError(id.0)),
+        }
+    }
+}
+
+impl FixedSize for GlyphId24 {
+    const RAW_BYTE_LEN: usize = 3;
+}
+
+impl Scalar for GlyphId24 {
+    type Raw = [u8; 3];
+
+    #[inline]
+    fn from_raw(raw: [u8; 3]) -> GlyphId24 {
+        GlyphId24(Uint24::from_raw(raw))
+    }
+
+    #[inline]
+    fn to_raw(self) -> [u8; 3] {
+        self.0.to_raw()
+    }
+}
+
+impl IdentityEq for GlyphId24 {}
+
+/// A glyph identifier of 32 bits, into which those of 16 and 24 bits convert.
+///
+/// ```
+/// use font_types_proved::{GlyphId, GlyphId16};
+/// assert_eq!(GlyphId::from(GlyphId16::new(7)).to_u32(), 7);
+/// ```
+#[derive(Clone, Copy, Debug, Default, PartialEq, Eq, PartialOrd, Ord, Hash)]
+pub struct GlyphId(u32);
+
+impl GlyphId {
+    /// The glyph that stands for an unknown one, 0.
+    pub const NOTDEF: Self = Self(0);
+
+    /// The id of a number.
+    ///
+    /// <details><summary>Contract</summary>
+    ///
+    /// ```text
+    /// ensures { glyph_number result ≡ raw }
+    /// ```
+    ///
+    /// Defined:
+    /// [`glyph_number`](crate::contracts::font_ids::GlyphId).
+    /// [How to read it](crate::contracts).
+    ///
+    /// </details>
+    #[must_use]
+    #[inline]
+    pub const fn new(raw: u32) -> Self {
+        Self(raw)
+    }
+
+    /// The number.
+    ///
+    /// <details><summary>Contract</summary>
+    ///
+    /// ```text
+    /// ensures { result ≡ glyph_number self }
+    /// ```
+    ///
+    /// Defined:
+    /// [`glyph_number`](crate::contracts::font_ids::GlyphId).
+    /// [How to read it](crate::contracts).
+    ///
+    /// </details>
+    #[must_use]
+    #[inline]
+    pub const fn to_u32(self) -> u32 {
+        self.0
+    }
+
+    /// Whether both are the id of one glyph.
+    ///
+    /// <details><summary>Contract</summary>
+    ///
+    /// ```text
+    /// ensures { IsTrue result ↔ (glyph_number self.now ≡ glyph16_number other.now) }
+    /// ```
+    ///
+    /// Defined:
+    /// [`glyph16_number`](crate::contracts::font_ids::GlyphId),
+    /// [`glyph_number`](crate::contracts::font_ids::GlyphId).
+    /// [How to read it](crate::contracts).
+    ///
+    /// </details>
+    #[must_use]
+    #[inline]
+    pub fn eq_gid16(&self, other: &GlyphId16) -> bool {
+        *self == GlyphId::from(*other)
+    }
+
+    /// The order of the two numbers.
+    ///
+    /// <details><summary>Contract</summary>
+    ///
+    /// ```text
+    /// ensures { result ≡ nat_cmp (glyph_number self.now) (glyph16_number other.now) }
+    /// ```
+    ///
+    /// Defined:
+    /// [`glyph16_number`](crate::contracts::font_ids::GlyphId),
+    /// [`glyph_number`](crate::contracts::font_ids::GlyphId).
+    /// [How to read it](crate::contracts).
+    ///
+    /// </details>
+    #[must_use]
+    #[inline]
+    pub fn cmp_gid16(&self, other: &GlyphId16) -> Ordering {
+        self.cmp(&GlyphId::from(*other))
+    }
+}
+
+/// <details><summary>Contract</summary>
+///
+/// ```text
+/// output = { λ id. Some (glyph_text (glyph_number id)) }
+/// ```
+///
+/// Defined:
+/// [`glyph_number`](crate::contracts::font_ids::GlyphId),
+/// [`glyph_text`](crate::contracts::font_ids::GlyphId).
+/// [How to read it](crate::contracts).
+///
+/// </details>
+impl fmt::Display for GlyphId {
+    fn fmt(&self, f: &mut fmt::Formatter<'_>) -> fmt::Result {
+        write!(f, "GID_{}", self.0)
+    }
+}
+
+/// <details><summary>Contract</summary>
+///
+/// ```text
+/// from_gives = { λ number id. glyph_number id ≡ number }
+/// ```
+///
+/// Defined:
+/// [`glyph_number`](crate::contracts::font_ids::GlyphId).
+/// [How to read it](crate::contracts).
+///
+/// </details>
+impl From<u16> for GlyphId {
+    #[inline]
+    fn from(number: u16) -> GlyphId {
+        GlyphId(u32::from(number))
+    }
+}
+
+/// <details><summary>Contract</summary>
+///
+/// ```text
+/// from_gives = { λ number id. glyph_number id ≡ number }
+/// ```
+///
+/// Defined:
+/// [`glyph_number`](crate::contracts::font_ids::GlyphId).
+/// [How to read it](crate::contracts).
+///
+/// </details>
+impl From<u32> for GlyphId {
+    #[inline]
+    fn from(number: u32) -> GlyphId {
+        GlyphId(number)
+    }
+}
+
+/// <details><summary>Contract</summary>
+///
+/// ```text
+/// from_gives = { λ narrow id. glyph_number id ≡ glyph16_number narrow }
+/// ```
+///
+/// Defined:
+/// [`glyph16_number`](crate::contracts::font_ids::GlyphId),
+/// [`glyph_number`](crate::contracts::font_ids::GlyphId).
+/// [How to read it](crate::contracts).
+///
+/// </details>
+impl From<GlyphId16> for GlyphId {
+    #[inline]
+    fn from(narrow: GlyphId16) -> GlyphId {
+        GlyphId(narrow.to_u32())
+    }
+}
+
+/// <details><summary>Contract</summary>
+///
+/// ```text
+/// from_gives = { λ narrow id. glyph_number id ≡ glyph24_number narrow }
+/// ```
+///
+/// Defined:
+/// [`glyph24_number`](crate::contracts::font_ids::GlyphId),
+/// [`glyph_number`](crate::contracts::font_ids::GlyphId).
+/// [How to read it](crate::contracts).
+///
+/// </details>
+impl From<GlyphId24> for GlyphId {
+    #[inline]
+    fn from(narrow: GlyphId24) -> GlyphId {
+        GlyphId(narrow.to_u32())
+    }
+}
+
+/// <details><summary>Contract</summary>
+///
+/// ```text
+/// from_gives = { λ id number. number ≡ glyph_number id }
+/// ```
+///
+/// Defined:
+/// [`glyph_number`](crate::contracts::font_ids::GlyphId).
+/// [How to read it](crate::contracts).
+///
+/// </details>
+impl From<GlyphId> for u32 {
+    #[inline]
+    fn from(id: GlyphId) -> u32 {
+        id.0
+    }
+}
+
+/// A glyph identifier that is too large for the type it was to be converted to.
+///
+/// ```
+/// use font_types_proved::{GlyphId, GlyphId16};
+/// let error = GlyphId16::try_from(GlyphId::new(65536)).unwrap_err();
+/// assert_eq!(error.value(), 65536);
+/// ```
+#[derive(Debug)]
+pub struct TryFromGlyphIdError(u32);
+impl core::error::Error for TryFromGlyphIdError {}
+
+impl core::fmt::Display for TryFromGlyphIdError {
+    fn fmt(&self, f: &mut core::fmt::Formatter<'_>) -> core::fmt::Result {
+        match self {
+            Self(field_0, ..) => write!(f, "glyph identifier {field_0} too large for conversion"),
+        }
+    }
+}
+
+impl TryFromGlyphIdError {
+    /// The number that was too large.
+    ///
+    /// <details><summary>Contract</summary>
+    ///
+    /// ```text
+    /// ensures { result ≡ refused_number self.now }
+    /// ```
+    ///
+    /// Defined:
+    /// [`refused_number`](crate::contracts::font_ids::GlyphId).
+    /// [How to read it](crate::contracts).
+    ///
+    /// </details>
+    #[must_use]
+    #[inline]
+    pub fn value(&self) -> u32 {
+        self.0
+    }
+}

@@ -1,0 +1,376 @@
+// @generated from crates/font_ids/src/name_id.rt by tools/src/bin/erase.rs
+
+//! Identifiers of the texts in a naming table, as a type of their own.
+
+use crate::font_base::{FixedSize, IdentityEq, Scalar};
+use core::fmt;
+
+/// The number of a text that tells something of a font, as its family or its designer.
+///
+/// Some numbers are predefined and have a constant here; up to 255 they are kept for standard
+/// names, and from 256 to 32767 they are the font's own.
+///
+/// ```
+/// use font_types_proved::NameId;
+/// assert_eq!(NameId::new(1), NameId::FAMILY_NAME);
+/// assert!(NameId::FAMILY_NAME.is_reserved());
+/// ```
+#[derive(Clone, Copy, PartialEq, Eq, PartialOrd, Ord, Hash)]
+pub struct NameId(u16);
+
+impl NameId {
+    /// Copyright notice.
+    pub const COPYRIGHT_NOTICE: Self = Self(0);
+
+    /// Family name, shared by at most four fonts that differ in weight or style alone.
+    pub const FAMILY_NAME: Self = Self(1);
+
+    /// Subfamily name, which tells these fonts apart.
+    pub const SUBFAMILY_NAME: Self = Self(2);
+
+    /// Unique identifier of the font.
+    pub const UNIQUE_ID: Self = Self(3);
+
+    /// Full name, for people to read.
+    pub const FULL_NAME: Self = Self(4);
+
+    /// Version, as `Version 1.000`.
+    pub const VERSION_STRING: Self = Self(5);
+
+    /// PostScript name.
+    pub const POSTSCRIPT_NAME: Self = Self(6);
+
+    /// Trademark.
+    pub const TRADEMARK: Self = Self(7);
+
+    /// Manufacturer.
+    pub const MANUFACTURER: Self = Self(8);
+
+    /// Designer of the typeface.
+    pub const DESIGNER: Self = Self(9);
+
+    /// Description of the typeface.
+    pub const DESCRIPTION: Self = Self(10);
+
+    /// Address of the vendor on the web.
+    pub const VENDOR_URL: Self = Self(11);
+
+    /// Address of the designer on the web.
+    pub const DESIGNER_URL: Self = Self(12);
+
+    /// Description of the licence.
+    pub const LICENSE_DESCRIPTION: Self = Self(13);
+
+    /// Address of the licence on the web.
+    pub const LICENSE_URL: Self = Self(14);
+
+    /// Typographic family name, shared by any number of fonts.
+    pub const TYPOGRAPHIC_FAMILY_NAME: Self = Self(16);
+
+    /// Typographic subfamily name, which tells these fonts apart.
+    pub const TYPOGRAPHIC_SUBFAMILY_NAME: Self = Self(17);
+
+    /// Full name for menus of the Macintosh.
+    pub const COMPATIBLE_FULL_NAME: Self = Self(18);
+
+    /// Sample text.
+    pub const SAMPLE_TEXT: Self = Self(19);
+
+    /// PostScript name of a font that is keyed by character ids.
+    pub const POSTSCRIPT_CID_NAME: Self = Self(20);
+
+    /// Family name by weight, width and slope.
+    pub const WWS_FAMILY_NAME: Self = Self(21);
+
+    /// Subfamily name by weight, width and slope.
+    pub const WWS_SUBFAMILY_NAME: Self = Self(22);
+
+    /// Name of the palette for light backgrounds.
+    pub const LIGHT_BACKGROUND_PALETTE: Self = Self(23);
+
+    /// Name of the palette for dark backgrounds.
+    pub const DARK_BACKGROUND_PALETTE: Self = Self(24);
+
+    /// Start of the PostScript names of a variable font's instances.
+    pub const VARIATIONS_POSTSCRIPT_NAME_PREFIX: Self = Self(25);
+
+    /// The last number that is kept for standard names.
+    pub const LAST_RESERVED_NAME_ID: Self = Self(255);
+
+    /// The last number that a name can have.
+    pub const LAST_ALLOWED_NAME_ID: Self = Self(32767);
+
+    /// The id of a number.
+    ///
+    /// <details><summary>Contract</summary>
+    ///
+    /// ```text
+    /// ensures { name_number result ≡ raw }
+    /// ```
+    ///
+    /// Defined:
+    /// [`name_number`](crate::contracts::font_ids::NameId).
+    /// [How to read it](crate::contracts).
+    ///
+    /// </details>
+    #[must_use]
+    #[inline]
+    pub const fn new(raw: u16) -> Self {
+        Self(raw)
+    }
+
+    /// The predefined ids from the least on: 0 to 14 and 16 to 25.
+    ///
+    /// <details><summary>Contract</summary>
+    ///
+    /// ```text
+    /// ensures ids { predefined_left result ≡ map name_id_of predefined_numbers }
+    /// ensures count { length (predefined_left result) ≡ 25 }
+    /// ```
+    ///
+    /// Defined:
+    /// [`name_id_of`](crate::contracts::font_ids::NameId),
+    /// [`predefined_numbers`](crate::contracts::font_ids::NameId),
+    /// [`predefined_left`](crate::contracts::font_ids::NameId).
+    /// [How to read it](crate::contracts).
+    ///
+    /// </details>
+    #[must_use]
+    #[inline]
+    pub fn predefined() -> Predefined {
+        Predefined { next: 0 }
+    }
+
+    /// The number.
+    ///
+    /// <details><summary>Contract</summary>
+    ///
+    /// ```text
+    /// ensures { result ≡ name_number self }
+    /// ```
+    ///
+    /// Defined:
+    /// [`name_number`](crate::contracts::font_ids::NameId).
+    /// [How to read it](crate::contracts).
+    ///
+    /// </details>
+    #[must_use]
+    #[inline]
+    pub const fn to_u16(self) -> u16 {
+        self.0
+    }
+
+    /// Whether the number is kept for standard names: 255 at most.
+    ///
+    /// <details><summary>Contract</summary>
+    ///
+    /// ```text
+    /// ensures { IsTrue result ↔ (name_number self ≤ last_reserved) }
+    /// ```
+    ///
+    /// Defined:
+    /// [`name_number`](crate::contracts::font_ids::NameId),
+    /// [`last_reserved`](crate::contracts::font_ids::NameId).
+    /// [How to read it](crate::contracts).
+    ///
+    /// </details>
+    #[must_use]
+    #[inline]
+    pub const fn is_reserved(self) -> bool {
+        self.0 <= Self::LAST_RESERVED_NAME_ID.0
+    }
+
+    /// The id so many numbers on, or `None` where that is above the last one allowed, also with
+    /// nothing added.
+    ///
+    /// <details><summary>Contract</summary>
+    ///
+    /// ```text
+    /// ensures variant { IsSome result ↔ (name_number self + rhs ≤ last_allowed) }
+    /// ensures value { IfSome result (λ id. name_number id ≡ name_number self + rhs) }
+    /// ```
+    ///
+    /// Defined:
+    /// [`name_number`](crate::contracts::font_ids::NameId),
+    /// [`last_allowed`](crate::contracts::font_ids::NameId).
+    /// [How to read it](crate::contracts).
+    ///
+    /// </details>
+    #[must_use]
+    #[inline]
+    pub const fn checked_add(self, rhs: u16) -> Option<Self> {
+        let sum = Self(self.0.saturating_add(rhs));
+        if sum.0 > Self::LAST_ALLOWED_NAME_ID.0 {
+            None
+        } else {
+            Some(sum)
+        }
+    }
+
+    /// The two bytes of the number, highest first.
+    ///
+    /// <details><summary>Contract</summary>
+    ///
+    /// ```text
+    /// ensures { result ≡ bytes_of 2 (pos (name_number self)) }
+    /// ```
+    ///
+    /// Defined:
+    /// [`bytes_of`](crate::contracts::font_base::Bytes),
+    /// [`name_number`](crate::contracts::font_ids::NameId).
+    /// [How to read it](crate::contracts).
+    ///
+    /// </details>
+    #[must_use]
+    #[inline]
+    pub const fn to_be_bytes(self) -> [u8; 2] {
+        self.0.to_be_bytes()
+    }
+}
+
+/// 65535, which is no id of a name.
+impl Default for NameId {
+    #[inline]
+    fn default() -> NameId {
+        NameId(0xFFFF)
+    }
+}
+
+/// <details><summary>Contract</summary>
+///
+/// ```text
+/// from_gives = { λ number id. name_number id ≡ number }
+/// ```
+///
+/// Defined:
+/// [`name_number`](crate::contracts::font_ids::NameId).
+/// [How to read it](crate::contracts).
+///
+/// </details>
+impl From<u16> for NameId {
+    #[inline]
+    fn from(number: u16) -> NameId {
+        NameId(number)
+    }
+}
+
+/// The name of the constant, or [`NameId`] and the number.
+impl fmt::Debug for NameId {
+    fn fmt(&self, f: &mut fmt::Formatter<'_>) -> fmt::Result {
+        let name = match *self {
+            Self::COPYRIGHT_NOTICE => "COPYRIGHT_NOTICE",
+            Self::FAMILY_NAME => "FAMILY_NAME",
+            Self::SUBFAMILY_NAME => "SUBFAMILY_NAME",
+            Self::UNIQUE_ID => "UNIQUE_ID",
+            Self::FULL_NAME => "FULL_NAME",
+            Self::VERSION_STRING => "VERSION_STRING",
+            Self::POSTSCRIPT_NAME => "POSTSCRIPT_NAME",
+            Self::TRADEMARK => "TRADEMARK",
+            Self::MANUFACTURER => "MANUFACTURER",
+            Self::DESIGNER => "DESIGNER",
+            Self::DESCRIPTION => "DESCRIPTION",
+            Self::VENDOR_URL => "VENDOR_URL",
+            Self::DESIGNER_URL => "DESIGNER_URL",
+            Self::LICENSE_DESCRIPTION => "LICENSE_DESCRIPTION",
+            Self::LICENSE_URL => "LICENSE_URL",
+            Self::TYPOGRAPHIC_FAMILY_NAME => "TYPOGRAPHIC_FAMILY_NAME",
+            Self::TYPOGRAPHIC_SUBFAMILY_NAME => "TYPOGRAPHIC_SUBFAMILY_NAME",
+            Self::COMPATIBLE_FULL_NAME => "COMPATIBLE_FULL_NAME",
+            Self::SAMPLE_TEXT => "SAMPLE_TEXT",
+            Self::POSTSCRIPT_CID_NAME => "POSTSCRIPT_CID_NAME",
+            Self::WWS_FAMILY_NAME => "WWS_FAMILY_NAME",
+            Self::WWS_SUBFAMILY_NAME => "WWS_SUBFAMILY_NAME",
+            Self::LIGHT_BACKGROUND_PALETTE => "LIGHT_BACKGROUND_PALETTE",
+            Self::DARK_BACKGROUND_PALETTE => "DARK_BACKGROUND_PALETTE",
+            Self::VARIATIONS_POSTSCRIPT_NAME_PREFIX => "VARIATIONS_POSTSCRIPT_NAME_PREFIX",
+            _ => return write!(f, "NameId {}", self.0),
+        };
+        f.write_str(name)
+    }
+}
+
+/// The name of the constant, or [`NameId`] and the number.
+///
+/// <details><summary>Contract</summary>
+///
+/// ```text
+/// output = { λ id. Some (name_text (name_number id)) }
+/// ```
+///
+/// Defined:
+/// [`name_number`](crate::contracts::font_ids::NameId),
+/// [`name_text`](crate::contracts::font_ids::NameId).
+/// [How to read it](crate::contracts).
+///
+/// </details>
+impl fmt::Display for NameId {
+    fn fmt(&self, f: &mut fmt::Formatter<'_>) -> fmt::Result {
+        fmt::Debug::fmt(self, f)
+    }
+}
+
+impl FixedSize for NameId {
+    const RAW_BYTE_LEN: usize = 2;
+}
+
+impl Scalar for NameId {
+    type Raw = [u8; 2];
+
+    #[inline]
+    fn from_raw(raw: [u8; 2]) -> NameId {
+        NameId(u16::from_raw(raw))
+    }
+
+    #[inline]
+    fn to_raw(self) -> [u8; 2] {
+        self.0.to_raw()
+    }
+}
+
+impl IdentityEq for NameId {}
+
+/// The predefined ids, one by one from the least on.
+///
+/// ```
+/// use font_types_proved::NameId;
+/// assert_eq!(NameId::predefined().nth(1), Some(NameId::FAMILY_NAME));
+/// ```
+#[derive(Clone)]
+pub struct Predefined {
+    next: u16,
+}
+
+/// <details><summary>Contract</summary>
+///
+/// ```text
+/// next_gives = { YieldsFirst predefined_left }
+/// ```
+///
+/// Defined:
+/// [`predefined_left`](crate::contracts::font_ids::NameId).
+/// [How to read it](crate::contracts).
+///
+/// </details>
+impl Iterator for Predefined {
+    type Item = NameId;
+
+    #[inline]
+    fn next(&mut self) -> Option<NameId> {
+        let number = if self.next == 15 { 16 } else { self.next };
+        if number > 25 {
+            return None;
+        }
+        self.next = number + 1;
+        Some(NameId(number))
+    }
+
+    #[inline]
+    fn size_hint(&self) -> (usize, Option<usize>) {
+        let left = match self.next {
+            0..=15 => 25 - self.next,
+            16..=25 => 26 - self.next,
+            _ => 0,
+        };
+        (left as usize, Some(left as usize))
+    }
+}

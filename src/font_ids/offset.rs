@@ -1,0 +1,470 @@
+// @generated from crates/font_ids/src/offset.rt by tools/src/bin/erase.rs
+
+//! Offsets to tables.
+
+use crate::font_base::{FixedSize, IdentityEq, Scalar, Uint24};
+
+/// An offset of 16 bits to a table. Zero is null, and stands for no table where the field allows
+/// it.
+///
+/// ```
+/// use font_types_proved::Offset16;
+/// let offset = Offset16::new(7);
+/// assert!(!offset.is_null() && offset.to_u32() == 7);
+/// ```
+#[derive(Clone, Copy, Debug, PartialEq, Eq, PartialOrd, Ord)]
+pub struct Offset16(u16);
+
+impl Offset16 {
+    /// The offset of a number.
+    ///
+    /// <details><summary>Contract</summary>
+    ///
+    /// ```text
+    /// ensures { offset16_number result ≡ raw }
+    /// ```
+    ///
+    /// Defined:
+    /// [`offset16_number`](crate::contracts::font_ids::Offset).
+    /// [How to read it](crate::contracts).
+    ///
+    /// </details>
+    #[must_use]
+    #[inline]
+    pub const fn new(raw: u16) -> Self {
+        Self(raw)
+    }
+
+    /// Whether the offset is zero.
+    ///
+    /// <details><summary>Contract</summary>
+    ///
+    /// ```text
+    /// ensures { IsTrue result ↔ (offset16_number self ≡ 0) }
+    /// ```
+    ///
+    /// Defined:
+    /// [`offset16_number`](crate::contracts::font_ids::Offset).
+    /// [How to read it](crate::contracts).
+    ///
+    /// </details>
+    #[must_use]
+    #[inline]
+    pub fn is_null(self) -> bool {
+        self == Offset16::NULL
+    }
+
+    /// The number.
+    ///
+    /// <details><summary>Contract</summary>
+    ///
+    /// ```text
+    /// ensures { result ≡ offset16_number self }
+    /// ```
+    ///
+    /// Defined:
+    /// [`offset16_number`](crate::contracts::font_ids::Offset).
+    /// [How to read it](crate::contracts).
+    ///
+    /// </details>
+    #[must_use]
+    #[inline]
+    pub fn to_u32(self) -> u32 {
+        u32::from(self.0)
+    }
+
+    /// Whether this is the offset's number.
+    ///
+    /// <details><summary>Contract</summary>
+    ///
+    /// ```text
+    /// ensures { IsTrue result ↔ (offset16_number self.now ≡ other.now) }
+    /// ```
+    ///
+    /// Defined:
+    /// [`offset16_number`](crate::contracts::font_ids::Offset).
+    /// [How to read it](crate::contracts).
+    ///
+    /// </details>
+    #[must_use]
+    #[inline]
+    pub fn eq_u32(&self, other: &u32) -> bool {
+        self.to_u32() == *other
+    }
+}
+
+impl FixedSize for Offset16 {
+    const RAW_BYTE_LEN: usize = 2;
+}
+
+impl Scalar for Offset16 {
+    type Raw = [u8; 2];
+
+    #[inline]
+    fn from_raw(raw: [u8; 2]) -> Offset16 {
+        Offset16(u16::from_raw(raw))
+    }
+
+    #[inline]
+    fn to_raw(self) -> [u8; 2] {
+        self.0.to_raw()
+    }
+}
+
+impl IdentityEq for Offset16 {}
+
+/// An offset of 24 bits to a table. Zero is null, and stands for no table where the field allows
+/// it.
+///
+/// ```
+/// use font_types_proved::{Offset24, Uint24};
+/// let offset = Offset24::new(Uint24::new(7));
+/// assert!(!offset.is_null() && offset.to_u32() == 7);
+/// ```
+#[derive(Clone, Copy, Debug, PartialEq, Eq, PartialOrd, Ord)]
+pub struct Offset24(Uint24);
+
+impl Offset24 {
+    /// The offset of a number.
+    ///
+    /// <details><summary>Contract</summary>
+    ///
+    /// ```text
+    /// ensures { offset24_number result ≡ uint24_number raw }
+    /// ```
+    ///
+    /// Defined:
+    /// [`uint24_number`](crate::contracts::font_base::Uint24),
+    /// [`offset24_number`](crate::contracts::font_ids::Offset).
+    /// [How to read it](crate::contracts).
+    ///
+    /// </details>
+    #[must_use]
+    #[inline]
+    pub const fn new(raw: Uint24) -> Self {
+        Self(raw)
+    }
+
+    /// Whether the offset is zero.
+    ///
+    /// <details><summary>Contract</summary>
+    ///
+    /// ```text
+    /// ensures { IsTrue result ↔ (offset24_number self ≡ 0) }
+    /// ```
+    ///
+    /// Defined:
+    /// [`offset24_number`](crate::contracts::font_ids::Offset).
+    /// [How to read it](crate::contracts).
+    ///
+    /// </details>
+    #[must_use]
+    #[inline]
+    pub fn is_null(self) -> bool {
+        self == Offset24::NULL
+    }
+
+    /// The number.
+    ///
+    /// <details><summary>Contract</summary>
+    ///
+    /// ```text
+    /// ensures { result ≡ offset24_number self }
+    /// ```
+    ///
+    /// Defined:
+    /// [`offset24_number`](crate::contracts::font_ids::Offset).
+    /// [How to read it](crate::contracts).
+    ///
+    /// </details>
+    #[must_use]
+    #[inline]
+    pub const fn to_u32(self) -> u32 {
+        self.0.to_u32()
+    }
+
+    /// Whether this is the offset's number.
+    ///
+    /// <details><summary>Contract</summary>
+    ///
+    /// ```text
+    /// ensures { IsTrue result ↔ (offset24_number self.now ≡ other.now) }
+    /// ```
+    ///
+    /// Defined:
+    /// [`offset24_number`](crate::contracts::font_ids::Offset).
+    /// [How to read it](crate::contracts).
+    ///
+    /// </details>
+    #[must_use]
+    #[inline]
+    pub fn eq_u32(&self, other: &u32) -> bool {
+        self.to_u32() == *other
+    }
+}
+
+impl FixedSize for Offset24 {
+    const RAW_BYTE_LEN: usize = 3;
+}
+
+impl Scalar for Offset24 {
+    type Raw = [u8; 3];
+
+    #[inline]
+    fn from_raw(raw: [u8; 3]) -> Offset24 {
+        Offset24(Uint24::from_raw(raw))
+    }
+
+    #[inline]
+    fn to_raw(self) -> [u8; 3] {
+        self.0.to_raw()
+    }
+}
+
+impl IdentityEq for Offset24 {}
+
+/// An offset of 32 bits to a table. Zero is null, and stands for no table where the field allows
+/// it.
+///
+/// ```
+/// use font_types_proved::Offset32;
+/// let offset = Offset32::new(7);
+/// assert!(!offset.is_null() && offset.to_u32() == 7);
+/// ```
+#[derive(Clone, Copy, Debug, PartialEq, Eq, PartialOrd, Ord)]
+pub struct Offset32(u32);
+
+impl Offset32 {
+    /// The offset of a number.
+    ///
+    /// <details><summary>Contract</summary>
+    ///
+    /// ```text
+    /// ensures { offset32_number result ≡ raw }
+    /// ```
+    ///
+    /// Defined:
+    /// [`offset32_number`](crate::contracts::font_ids::Offset).
+    /// [How to read it](crate::contracts).
+    ///
+    /// </details>
+    #[must_use]
+    #[inline]
+    pub const fn new(raw: u32) -> Self {
+        Self(raw)
+    }
+
+    /// Whether the offset is zero.
+    ///
+    /// <details><summary>Contract</summary>
+    ///
+    /// ```text
+    /// ensures { IsTrue result ↔ (offset32_number self ≡ 0) }
+    /// ```
+    ///
+    /// Defined:
+    /// [`offset32_number`](crate::contracts::font_ids::Offset).
+    /// [How to read it](crate::contracts).
+    ///
+    /// </details>
+    #[must_use]
+    #[inline]
+    pub fn is_null(self) -> bool {
+        self == Offset32::NULL
+    }
+
+    /// The number.
+    ///
+    /// <details><summary>Contract</summary>
+    ///
+    /// ```text
+    /// ensures { result ≡ offset32_number self }
+    /// ```
+    ///
+    /// Defined:
+    /// [`offset32_number`](crate::contracts::font_ids::Offset).
+    /// [How to read it](crate::contracts).
+    ///
+    /// </details>
+    #[must_use]
+    #[inline]
+    pub const fn to_u32(self) -> u32 {
+        self.0
+    }
+
+    /// Whether this is the offset's number.
+    ///
+    /// <details><summary>Contract</summary>
+    ///
+    /// ```text
+    /// ensures { IsTrue result ↔ (offset32_number self.now ≡ other.now) }
+    /// ```
+    ///
+    /// Defined:
+    /// [`offset32_number`](crate::contracts::font_ids::Offset).
+    /// [How to read it](crate::contracts).
+    ///
+    /// </details>
+    #[must_use]
+    #[inline]
+    pub fn eq_u32(&self, other: &u32) -> bool {
+        self.to_u32() == *other
+    }
+}
+
+impl FixedSize for Offset32 {
+    const RAW_BYTE_LEN: usize = 4;
+}
+
+impl Scalar for Offset32 {
+    type Raw = [u8; 4];
+
+    #[inline]
+    fn from_raw(raw: [u8; 4]) -> Offset32 {
+        Offset32(u32::from_raw(raw))
+    }
+
+    #[inline]
+    fn to_raw(self) -> [u8; 4] {
+        self.0.to_raw()
+    }
+}
+
+impl IdentityEq for Offset32 {}
+
+/// What an offset is to [`Nullable`]: a number, with the offset of zero.
+pub trait OffsetValue: Copy {
+    /// The offset of zero.
+    const NULL: Self;
+
+    /// The number.
+    ///
+    /// <details><summary>Contract</summary>
+    ///
+    /// ```text
+    /// ensures { result ≡ number_of self.now }
+    /// ```
+    ///
+    /// [How to read it](crate::contracts).
+    ///
+    /// </details>
+    #[must_use]
+    fn value_u32(&self) -> u32;
+}
+
+impl OffsetValue for Offset16 {
+    const NULL: Offset16 = Offset16(0);
+
+    #[inline]
+    fn value_u32(&self) -> u32 {
+        self.to_u32()
+    }
+}
+
+impl OffsetValue for Offset24 {
+    const NULL: Offset24 = Offset24(Uint24::MIN);
+
+    #[inline]
+    fn value_u32(&self) -> u32 {
+        self.to_u32()
+    }
+}
+
+impl OffsetValue for Offset32 {
+    const NULL: Offset32 = Offset32(0);
+
+    #[inline]
+    fn value_u32(&self) -> u32 {
+        self.to_u32()
+    }
+}
+
+/// An offset in a field that allows null, which then stands for no table.
+///
+/// ```
+/// use font_types_proved::{Nullable, Offset16, Scalar};
+/// assert!(Nullable::<Offset16>::read(&[0, 0]).unwrap().is_null());
+/// ```
+#[derive(Clone, Copy, Debug, PartialEq, Eq)]
+pub struct Nullable<T>(T);
+
+impl<T> Nullable<T> {
+    /// The offset, null or not.
+    ///
+    /// <details><summary>Contract</summary>
+    ///
+    /// ```text
+    /// ensures { result.now ≡ nullable_offset self.now }
+    /// ```
+    ///
+    /// Defined:
+    /// [`nullable_offset`](crate::contracts::font_ids::Offset).
+    /// [How to read it](crate::contracts).
+    ///
+    /// </details>
+    #[must_use]
+    pub fn offset(&self) -> &T {
+        &self.0
+    }
+}
+
+impl<T: OffsetValue> Nullable<T> {
+    /// Whether the offset is zero.
+    ///
+    /// <details><summary>Contract</summary>
+    ///
+    /// ```text
+    /// ensures { IsTrue result ↔ (T.number_of (nullable_offset self.now) ≡ 0) }
+    /// ```
+    ///
+    /// Defined:
+    /// [`nullable_offset`](crate::contracts::font_ids::Offset).
+    /// [How to read it](crate::contracts).
+    ///
+    /// </details>
+    #[must_use]
+    pub fn is_null(&self) -> bool {
+        self.0.value_u32() == 0
+    }
+
+    /// Whether this is the offset's number.
+    ///
+    /// <details><summary>Contract</summary>
+    ///
+    /// ```text
+    /// ensures { IsTrue result ↔ (T.number_of (nullable_offset self.now) ≡ other.now) }
+    /// ```
+    ///
+    /// Defined:
+    /// [`nullable_offset`](crate::contracts::font_ids::Offset).
+    /// [How to read it](crate::contracts).
+    ///
+    /// </details>
+    #[must_use]
+    pub fn eq_u32(&self, other: &u32) -> bool {
+        self.0.value_u32() == *other
+    }
+}
+
+/// Null.
+impl<T: OffsetValue> Default for Nullable<T> {
+    fn default() -> Nullable<T> {
+        Nullable(T::NULL)
+    }
+}
+
+impl<T: FixedSize> FixedSize for Nullable<T> {
+    const RAW_BYTE_LEN: usize = T::RAW_BYTE_LEN;
+}
+
+impl<T: Scalar> Scalar for Nullable<T> {
+    type Raw = T::Raw;
+
+    fn from_raw(raw: T::Raw) -> Nullable<T> {
+        Nullable(T::from_raw(raw))
+    }
+
+    fn to_raw(self) -> T::Raw {
+        T::to_raw(self.0)
+    }
+}

@@ -1,0 +1,436 @@
+// @generated from crates/font_tags/src/tag.rt by tools/src/bin/erase.rs
+
+//! Tags of four bytes.
+
+use crate::font_base::{FixedSize, IdentityEq, Scalar};
+use core::cmp::Ordering;
+use core::fmt;
+use core::str::FromStr;
+
+/// The tag in front of a font collection, `ttcf`.
+pub const TTC_HEADER_TAG: Tag = Tag([0x74, 0x74, 0x63, 0x66]);
+
+/// A name of four bytes, of a table, a script, a feature and the like.
+///
+/// A good tag has one to four visible characters of ASCII, filled to four bytes with spaces. Fonts
+/// hold others too, so any four bytes are a [`Tag`]: [`Tag::new_checked`] takes good ones alone, and
+/// [`Tag::validate`] judges a tag.
+///
+/// ```
+/// use font_types_proved::{InvalidTag, Tag};
+/// assert_eq!(Tag::new_checked(b"cvt").unwrap(), Tag::new(b"cvt "));
+/// assert_eq!(Tag::new_checked(b"glyph"), Err(InvalidTag::InvalidLength(5)));
+/// ```
+#[derive(Clone, Copy, PartialEq, Eq, Hash)]
+pub struct Tag([u8; 4]);
+
+impl Tag {
+    /// The tag of four bytes, whatever they are.
+    ///
+    /// <details><summary>Contract</summary>
+    ///
+    /// ```text
+    /// ensures { tag_bytes result ≡ src.now }
+    /// ```
+    ///
+    /// Defined:
+    /// [`tag_bytes`](crate::contracts::font_tags::Tag).
+    /// [How to read it](crate::contracts).
+    ///
+    /// </details>
+    #[must_use]
+    #[inline]
+    pub const fn new(src: &[u8; 4]) -> Self {
+        Self(*src)
+    }
+
+    /// The tag of one to four good bytes, filled with spaces.
+    ///
+    /// `Tag::new_checked(b"cv1")` is `cv1` and a space.
+    ///
+    /// # Errors
+    ///
+    /// No bytes and more than four are `InvalidLength`. Every fault of the bytes is `InvalidByte`,
+    /// also a visible byte after a space.
+    ///
+    /// <details><summary>Contract</summary>
+    ///
+    /// ```text
+    /// ensures judged { IsChecked src.now result }
+    /// ensures ok { IsOk result ↔ IsAcceptable src.now }
+    /// ensures valid { IfOk result (λ tag. IsGood (tag_bytes tag)) }
+    /// ```
+    ///
+    /// Defined:
+    /// [`tag_bytes`](crate::contracts::font_tags::Tag),
+    /// [`IsGood`](crate::contracts::font_tags::Tag),
+    /// [`IsAcceptable`](crate::contracts::font_tags::Tag),
+    /// [`IsChecked`](crate::contracts::font_tags::Tag).
+    /// [How to read it](crate::contracts).
+    ///
+    /// </details>
+    #[inline]
+    pub const fn new_checked(src: &[u8]) -> Result<Self, InvalidTag> {
+        if src.is_empty() || src.len() > 4 {
+            return Err(InvalidTag::InvalidLength(src.len()));
+        }
+        if let Some(pos) = first_fault(src) {
+            return Err(InvalidTag::InvalidByte {
+                pos,
+                byte: src[pos],
+            });
+        }
+        let mut bytes = [b' '; 4];
+        bytes.split_at_mut(src.len()).0.copy_from_slice(src);
+        Ok(Self(bytes))
+    }
+
+    /// The tag of a number's four bytes, highest first.
+    ///
+    /// <details><summary>Contract</summary>
+    ///
+    /// ```text
+    /// ensures { tag_bytes result ≡ bytes_of 4 (pos src) }
+    /// ```
+    ///
+    /// Defined:
+    /// [`bytes_of`](crate::contracts::font_base::Bytes),
+    /// [`tag_bytes`](crate::contracts::font_tags::Tag).
+    /// [How to read it](crate::contracts).
+    ///
+    /// </details>
+    #[must_use]
+    #[inline]
+    pub const fn from_u32(src: u32) -> Self {
+        Self(src.to_be_bytes())
+    }
+
+    /// The tag of four bytes, whatever they are.
+    ///
+    /// <details><summary>Contract</summary>
+    ///
+    /// ```text
+    /// ensures { tag_bytes result ≡ bytes }
+    /// ```
+    ///
+    /// Defined:
+    /// [`tag_bytes`](crate::contracts::font_tags::Tag).
+    /// [How to read it](crate::contracts).
+    ///
+    /// </details>
+    #[must_use]
+    #[inline]
+    pub const fn from_be_bytes(bytes: [u8; 4]) -> Self {
+        Self(bytes)
+    }
+
+    /// The four bytes, first to last.
+    ///
+    /// <details><summary>Contract</summary>
+    ///
+    /// ```text
+    /// ensures { result ≡ tag_bytes self }
+    /// ```
+    ///
+    /// Defined:
+    /// [`tag_bytes`](crate::contracts::font_tags::Tag).
+    /// [How to read it](crate::contracts).
+    ///
+    /// </details>
+    #[must_use]
+    #[inline]
+    pub const fn to_be_bytes(self) -> [u8; 4] {
+        self.0
+    }
+
+    /// The four bytes, first to last.
+    ///
+    /// <details><summary>Contract</summary>
+    ///
+    /// ```text
+    /// ensures { result ≡ tag_bytes self }
+    /// ```
+    ///
+    /// Defined:
+    /// [`tag_bytes`](crate::contracts::font_tags::Tag).
+    /// [How to read it](crate::contracts).
+    ///
+    /// </details>
+    #[must_use]
+    #[inline]
+    pub const fn into_bytes(self) -> [u8; 4] {
+        self.0
+    }
+
+    /// The four bytes, first to last.
+    ///
+    /// <details><summary>Contract</summary>
+    ///
+    /// ```text
+    /// ensures { result.now ≡ tag_bytes self.now }
+    /// ```
+    ///
+    /// Defined:
+    /// [`tag_bytes`](crate::contracts::font_tags::Tag).
+    /// [How to read it](crate::contracts).
+    ///
+    /// </details>
+    #[must_use]
+    #[inline]
+    pub const fn as_bytes(&self) -> &[u8; 4] {
+        &self.0
+    }
+
+    /// Whether these are the tag's bytes.
+    ///
+    /// <details><summary>Contract</summary>
+    ///
+    /// ```text
+    /// ensures { IsTrue result ↔ (tag_bytes self.now ≡ other.now) }
+    /// ```
+    ///
+    /// Defined:
+    /// [`tag_bytes`](crate::contracts::font_tags::Tag).
+    /// [How to read it](crate::contracts).
+    ///
+    /// </details>
+    #[must_use]
+    #[inline]
+    pub fn eq_bytes(&self, other: &[u8; 4]) -> bool {
+        self.0 == *other
+    }
+
+    /// Whether these are the tag's bytes; a text of another length never is.
+    ///
+    /// <details><summary>Contract</summary>
+    ///
+    /// ```text
+    /// ensures { IsTrue result ↔ (tag_bytes self.now ≡ other.now) }
+    /// ```
+    ///
+    /// Defined:
+    /// [`tag_bytes`](crate::contracts::font_tags::Tag).
+    /// [How to read it](crate::contracts).
+    ///
+    /// </details>
+    #[must_use]
+    #[inline]
+    pub fn eq_str(&self, other: &str) -> bool {
+        self.eq_slice(other.as_bytes())
+    }
+
+    /// Whether these are the tag's bytes; a slice of another length never is.
+    ///
+    /// <details><summary>Contract</summary>
+    ///
+    /// ```text
+    /// ensures { IsTrue result ↔ (tag_bytes self.now ≡ other.now) }
+    /// ```
+    ///
+    /// Defined:
+    /// [`tag_bytes`](crate::contracts::font_tags::Tag).
+    /// [How to read it](crate::contracts).
+    ///
+    /// </details>
+    #[must_use]
+    #[inline]
+    pub fn eq_slice(&self, other: &[u8]) -> bool {
+        self.0.as_slice() == other
+    }
+
+    /// Whether the tag is good: visible characters, and only spaces behind them.
+    ///
+    /// # Errors
+    ///
+    /// Four spaces are refused as a tag of no bytes, `InvalidLength(0)`, a visible byte after a
+    /// space as `ByteAfterSpace`, and any other fault as `InvalidByte`.
+    ///
+    /// <details><summary>Contract</summary>
+    ///
+    /// ```text
+    /// ensures judged { IsValidated (tag_bytes self) result }
+    /// ensures ok { IsOk result ↔ IsGood (tag_bytes self) }
+    /// ```
+    ///
+    /// Defined:
+    /// [`tag_bytes`](crate::contracts::font_tags::Tag),
+    /// [`IsGood`](crate::contracts::font_tags::Tag),
+    /// [`IsValidated`](crate::contracts::font_tags::Tag).
+    /// [How to read it](crate::contracts).
+    ///
+    /// </details>
+    #[inline]
+    pub fn validate(self) -> Result<(), InvalidTag> {
+        if self.eq_bytes(&[b' '; 4]) {
+            return Err(InvalidTag::InvalidLength(0));
+        }
+        match first_fault(&self.0) {
+            None => Ok(()),
+            Some(pos) if self.0[pos].is_ascii_graphic() => Err(InvalidTag::ByteAfterSpace { pos }),
+            Some(pos) => Err(InvalidTag::InvalidByte {
+                pos,
+                byte: self.0[pos],
+            }),
+        }
+    }
+}
+
+// Where the bytes cease to be good, or `None` where they are good.
+#[inline]
+const fn first_fault(bytes: &[u8]) -> Option<usize> {
+    let run = visible_run(bytes);
+    if run == 0 {
+        return Some(0);
+    }
+    let pos = behind_spaces(bytes, run);
+    if pos < bytes.len() { Some(pos) } else { None }
+}
+
+// How many bytes in front are visible.
+#[inline]
+const fn visible_run(bytes: &[u8]) -> usize {
+    let mut run = 0;
+    while run < bytes.len() && bytes[run].is_ascii_graphic() {
+        run += 1;
+    }
+    run
+}
+
+// Where the spaces end that stand from this index on.
+#[inline]
+const fn behind_spaces(bytes: &[u8], from: usize) -> usize {
+    let mut pos = from;
+    while pos < bytes.len() && bytes[pos] == b' ' {
+        pos += 1;
+    }
+    pos
+}
+
+/// Why bytes are no good tag.
+#[derive(Clone, Debug, PartialEq, Eq)]
+pub enum InvalidTag {
+    /// There were not one to four bytes; a tag of four spaces has none.
+    InvalidLength(usize),
+    /// The byte at `pos` cannot stand there.
+    InvalidByte {
+        /// The index of the byte.
+        pos: usize,
+        /// The byte.
+        byte: u8,
+    },
+    /// The byte at `pos` is visible, and stands after a space.
+    ByteAfterSpace {
+        /// The index of the byte.
+        pos: usize,
+    },
+}
+impl core::error::Error for InvalidTag {}
+
+impl core::fmt::Display for InvalidTag {
+    fn fmt(&self, f: &mut core::fmt::Formatter<'_>) -> core::fmt::Result {
+        match self {
+            Self::InvalidLength(field_0, ..) => write!(f, "Invalid length ({field_0})"),
+            Self::InvalidByte { byte, pos, .. } => {
+                write!(f, "Invalid byte 0x{byte:X} at index {pos}")
+            }
+            Self::ByteAfterSpace { .. } => write!(f, "Non-space character after first space"),
+        }
+    }
+}
+
+impl PartialOrd for Tag {
+    #[inline]
+    fn partial_cmp(&self, other: &Tag) -> Option<Ordering> {
+        Some(self.cmp(other))
+    }
+}
+
+impl Ord for Tag {
+    #[inline]
+    fn cmp(&self, other: &Tag) -> Ordering {
+        self.0.cmp(&other.0)
+    }
+}
+
+/// <details><summary>Contract</summary>
+///
+/// ```text
+/// from_str_gives = { IsChecked }
+/// ```
+///
+/// Defined:
+/// [`IsChecked`](crate::contracts::font_tags::Tag).
+/// [How to read it](crate::contracts).
+///
+/// </details>
+impl FromStr for Tag {
+    type Err = InvalidTag;
+
+    #[inline]
+    fn from_str(src: &str) -> Result<Self, InvalidTag> {
+        Tag::new_checked(src.as_bytes())
+    }
+}
+
+/// Four spaces.
+impl Default for Tag {
+    #[inline]
+    fn default() -> Tag {
+        Tag([b' '; 4])
+    }
+}
+
+/// <details><summary>Contract</summary>
+///
+/// ```text
+/// output = { λ tag. Some (tag_text (tag_bytes tag)) }
+/// ```
+///
+/// Defined:
+/// [`tag_bytes`](crate::contracts::font_tags::Tag),
+/// [`tag_text`](crate::contracts::font_tags::Tag).
+/// [How to read it](crate::contracts).
+///
+/// </details>
+impl fmt::Display for Tag {
+    fn fmt(&self, f: &mut fmt::Formatter<'_>) -> fmt::Result {
+        for byte in &self.0 {
+            write_byte(f, *byte)?;
+        }
+        Ok(())
+    }
+}
+
+// Writes a byte as a tag shows it.
+fn write_byte(f: &mut fmt::Formatter<'_>, byte: u8) -> fmt::Result {
+    match byte {
+        0x20..=0x7E => f.write_str(char::from(byte).encode_utf8(&mut [0; 4])),
+        _ => write!(f, "{{0x{byte:02X}}}"),
+    }
+}
+
+impl fmt::Debug for Tag {
+    fn fmt(&self, f: &mut fmt::Formatter<'_>) -> fmt::Result {
+        write!(f, "Tag({self})")
+    }
+}
+
+impl FixedSize for Tag {
+    const RAW_BYTE_LEN: usize = 4;
+}
+
+impl Scalar for Tag {
+    type Raw = [u8; 4];
+
+    #[inline]
+    fn from_raw(raw: [u8; 4]) -> Tag {
+        Tag(raw)
+    }
+
+    #[inline]
+    fn to_raw(self) -> [u8; 4] {
+        self.0
+    }
+}
+
+impl IdentityEq for Tag {}

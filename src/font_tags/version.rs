@@ -1,0 +1,325 @@
+// @generated from crates/font_tags/src/version.rt by tools/src/bin/erase.rs
+
+//! Version numbers of tables.
+
+use crate::font_base::{FixedSize, IdentityEq, Scalar};
+use core::fmt;
+
+/// A version of the older tables, packed into 32 bits: 16 of the major number, 4 of the minor
+/// number, and 12 without meaning.
+///
+/// Versions are equal where all 32 bits are.
+///
+/// ```
+/// use font_types_proved::{Compatible, Version16Dot16};
+/// let version = Version16Dot16::new(0, 5);
+/// assert_eq!(version.to_be_bytes(), [0, 0, 0x50, 0]);
+/// assert!(version.compatible((0, 5)));
+/// ```
+#[derive(Clone, Copy, Default, PartialEq, Eq, PartialOrd, Ord, Hash)]
+pub struct Version16Dot16(u32);
+
+impl Version16Dot16 {
+    /// Version 0.5.
+    pub const VERSION_0_5: Self = Self(0x0000_5000);
+
+    /// Version 1.0.
+    pub const VERSION_1_0: Self = Self(0x0001_0000);
+
+    /// Version 1.1.
+    pub const VERSION_1_1: Self = Self(0x0001_1000);
+
+    /// Version 2.0.
+    pub const VERSION_2_0: Self = Self(0x0002_0000);
+
+    /// Version 2.5.
+    pub const VERSION_2_5: Self = Self(0x0002_5000);
+
+    /// Version 3.0.
+    pub const VERSION_3_0: Self = Self(0x0003_0000);
+
+    /// The version of two numbers. A minor number above 9 counts as 9.
+    ///
+    /// <details><summary>Contract</summary>
+    ///
+    /// ```text
+    /// ensures { version_bits result ≡ packed_version major minor }
+    /// ```
+    ///
+    /// Defined:
+    /// [`version_bits`](crate::contracts::font_tags::Version),
+    /// [`packed_version`](crate::contracts::font_tags::Version).
+    /// [How to read it](crate::contracts).
+    ///
+    /// </details>
+    #[must_use]
+    #[inline]
+    pub const fn new(major: u16, minor: u16) -> Self {
+        let minor = if minor > 9 { 9 } else { minor };
+        Self(major as u32 * 0x1_0000 + minor as u32 * 0x1000)
+    }
+
+    /// The major and the minor number. The minor number of other bits than those of `new` is up to
+    /// 15.
+    ///
+    /// <details><summary>Contract</summary>
+    ///
+    /// ```text
+    /// ensures major { result.0 ≡ version_major self }
+    /// ensures minor { result.1 ≡ version_minor self }
+    /// ```
+    ///
+    /// Defined:
+    /// [`version_major`](crate::contracts::font_tags::Version),
+    /// [`version_minor`](crate::contracts::font_tags::Version).
+    /// [How to read it](crate::contracts).
+    ///
+    /// </details>
+    #[must_use]
+    #[inline]
+    pub const fn to_major_minor(self) -> (u16, u16) {
+        (
+            (self.0 / 0x1_0000) as u16,
+            (self.0 % 0x1_0000 / 0x1000) as u16,
+        )
+    }
+
+    /// The four bytes of the bits, highest first.
+    ///
+    /// <details><summary>Contract</summary>
+    ///
+    /// ```text
+    /// ensures { result ≡ bytes_of 4 (pos (version_bits self)) }
+    /// ```
+    ///
+    /// Defined:
+    /// [`bytes_of`](crate::contracts::font_base::Bytes),
+    /// [`version_bits`](crate::contracts::font_tags::Version).
+    /// [How to read it](crate::contracts).
+    ///
+    /// </details>
+    #[must_use]
+    #[inline]
+    pub const fn to_be_bytes(self) -> [u8; 4] {
+        self.0.to_be_bytes()
+    }
+}
+
+/// <details><summary>Contract</summary>
+///
+/// ```text
+/// output = { λ version.
+///        Some (version_text (version_major version) (version_minor version)) }
+/// ```
+///
+/// Defined:
+/// [`version_major`](crate::contracts::font_tags::Version),
+/// [`version_minor`](crate::contracts::font_tags::Version),
+/// [`version_text`](crate::contracts::font_tags::Version).
+/// [How to read it](crate::contracts).
+///
+/// </details>
+impl fmt::Display for Version16Dot16 {
+    fn fmt(&self, f: &mut fmt::Formatter<'_>) -> fmt::Result {
+        let (major, minor) = self.to_major_minor();
+        write!(f, "{major}.{minor}")
+    }
+}
+
+impl fmt::Debug for Version16Dot16 {
+    fn fmt(&self, f: &mut fmt::Formatter<'_>) -> fmt::Result {
+        write!(f, "Version16Dot16({:08x})", self.0)
+    }
+}
+
+impl FixedSize for Version16Dot16 {
+    const RAW_BYTE_LEN: usize = 4;
+}
+
+impl Scalar for Version16Dot16 {
+    type Raw = [u8; 4];
+
+    #[inline]
+    fn from_raw(raw: [u8; 4]) -> Version16Dot16 {
+        Version16Dot16(u32::from_raw(raw))
+    }
+
+    #[inline]
+    fn to_raw(self) -> [u8; 4] {
+        self.0.to_raw()
+    }
+}
+
+impl IdentityEq for Version16Dot16 {}
+
+/// A version of the newer tables: a major and a minor number of 16 bits each.
+///
+/// ```
+/// use font_types_proved::{Compatible, MajorMinor};
+/// let version = MajorMinor::new(1, 2);
+/// assert!(version.compatible((1, 0)) && !version.compatible((1, 3)));
+/// ```
+#[derive(Clone, Copy, Debug, Default, PartialEq, Eq, PartialOrd, Ord, Hash)]
+pub struct MajorMinor {
+    /// The major number.
+    pub major: u16,
+    /// The minor number.
+    pub minor: u16,
+}
+
+impl MajorMinor {
+    /// Version 1.0.
+    pub const VERSION_1_0: Self = MajorMinor { major: 1, minor: 0 };
+
+    /// Version 1.1.
+    pub const VERSION_1_1: Self = MajorMinor { major: 1, minor: 1 };
+
+    /// Version 1.2.
+    pub const VERSION_1_2: Self = MajorMinor { major: 1, minor: 2 };
+
+    /// Version 1.3.
+    pub const VERSION_1_3: Self = MajorMinor { major: 1, minor: 3 };
+
+    /// Version 2.0.
+    pub const VERSION_2_0: Self = MajorMinor { major: 2, minor: 0 };
+
+    /// The version of two numbers.
+    ///
+    /// <details><summary>Contract</summary>
+    ///
+    /// ```text
+    /// ensures major { result.major ≡ major }
+    /// ensures minor { result.minor ≡ minor }
+    /// ```
+    ///
+    /// [How to read it](crate::contracts).
+    ///
+    /// </details>
+    #[must_use]
+    #[inline]
+    pub const fn new(major: u16, minor: u16) -> Self {
+        MajorMinor { major, minor }
+    }
+
+    /// Two bytes of the major number and then two of the minor number, highest first.
+    ///
+    /// <details><summary>Contract</summary>
+    ///
+    /// ```text
+    /// ensures { result ≡ bytes_of 2 (pos self.major) ++ bytes_of 2 (pos self.minor) }
+    /// ```
+    ///
+    /// Defined:
+    /// [`bytes_of`](crate::contracts::font_base::Bytes).
+    /// [How to read it](crate::contracts).
+    ///
+    /// </details>
+    #[must_use]
+    #[inline]
+    pub const fn to_be_bytes(self) -> [u8; 4] {
+        let [a, b] = self.major.to_be_bytes();
+        let [c, d] = self.minor.to_be_bytes();
+        [a, b, c, d]
+    }
+}
+
+/// <details><summary>Contract</summary>
+///
+/// ```text
+/// output = { λ version. Some (version_text version.major version.minor) }
+/// ```
+///
+/// Defined:
+/// [`version_text`](crate::contracts::font_tags::Version).
+/// [How to read it](crate::contracts).
+///
+/// </details>
+impl fmt::Display for MajorMinor {
+    fn fmt(&self, f: &mut fmt::Formatter<'_>) -> fmt::Result {
+        let MajorMinor { major, minor } = self;
+        write!(f, "{major}.{minor}")
+    }
+}
+
+impl FixedSize for MajorMinor {
+    const RAW_BYTE_LEN: usize = 4;
+}
+
+impl Scalar for MajorMinor {
+    type Raw = [u8; 4];
+
+    #[inline]
+    fn from_raw(raw: [u8; 4]) -> MajorMinor {
+        let [a, b, c, d] = raw;
+        MajorMinor {
+            major: u16::from_raw([a, b]),
+            minor: u16::from_raw([c, d]),
+        }
+    }
+
+    #[inline]
+    fn to_raw(self) -> [u8; 4] {
+        let [a, b] = self.major.to_raw();
+        let [c, d] = self.minor.to_raw();
+        [a, b, c, d]
+    }
+}
+
+impl IdentityEq for MajorMinor {}
+
+/// Whether a table of one version can be read as one of another.
+pub trait Compatible<Rhs = Self>: Sized {
+    /// Whether this version has the other's major number, and a minor number that is not below the
+    /// other's.
+    ///
+    /// <details><summary>Contract</summary>
+    ///
+    /// ```text
+    /// ensures { IsTrue result ↔ is_compatible self.now other }
+    /// ```
+    ///
+    /// [How to read it](crate::contracts).
+    ///
+    /// </details>
+    #[must_use]
+    fn compatible(&self, other: Rhs) -> bool;
+}
+
+impl Compatible<Version16Dot16> for Version16Dot16 {
+    #[inline]
+    fn compatible(&self, other: Version16Dot16) -> bool {
+        let (major, minor) = self.to_major_minor();
+        let (other_major, other_minor) = other.to_major_minor();
+        major == other_major && minor >= other_minor
+    }
+}
+
+/// A minor number above 9 counts as 9.
+impl Compatible<(u16, u16)> for Version16Dot16 {
+    #[inline]
+    fn compatible(&self, other: (u16, u16)) -> bool {
+        self.compatible(Version16Dot16::new(other.0, other.1))
+    }
+}
+
+impl Compatible<MajorMinor> for MajorMinor {
+    #[inline]
+    fn compatible(&self, other: MajorMinor) -> bool {
+        self.major == other.major && self.minor >= other.minor
+    }
+}
+
+impl Compatible<(u16, u16)> for MajorMinor {
+    #[inline]
+    fn compatible(&self, other: (u16, u16)) -> bool {
+        self.compatible(MajorMinor::new(other.0, other.1))
+    }
+}
+
+/// A version of one number: one that is not below the other.
+impl Compatible<u16> for u16 {
+    #[inline]
+    fn compatible(&self, other: u16) -> bool {
+        *self >= other
+    }
+}

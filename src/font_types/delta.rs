@@ -1,0 +1,245 @@
+// @generated from crates/font_types/src/delta.rt by tools/src/bin/erase.rs
+
+//! Sums of deltas.
+
+use crate::font_fixed::{F48Dot16, Fixed};
+use crate::font_ids::FWord;
+
+/// A sum of products of scalars and deltas that grows term by term, where no list holds the terms.
+///
+/// It counts steps of `2^-16` font units in 128 bits, which hold every sum of fewer than `2^65`
+/// terms, whatever their order and signs; a sum that they do not hold wraps.
+///
+/// ```
+/// use font_types_proved::{DeltaSum, Fixed};
+/// let mut sum = DeltaSum::new();
+/// sum.add(Fixed::from_bits(0x8000), 3);
+/// sum.add(Fixed::NEG_ONE, 2);
+/// assert_eq!(sum.finish().to_string(), "-0.5");
+/// ```
+#[derive(Clone, Copy, Debug)]
+pub struct DeltaSum {
+    steps: i128,
+    // The low 64 of these bits.
+    low: F48Dot16,
+}
+
+impl DeltaSum {
+    /// The sum of no terms.
+    ///
+    /// <details><summary>Contract</summary>
+    ///
+    /// ```text
+    /// ensures { steps_of result ≡ pos 0 }
+    /// ```
+    ///
+    /// Defined:
+    /// [`steps_of`](crate::contracts::font_types::DeltaSum).
+    /// [How to read it](crate::contracts).
+    ///
+    /// </details>
+    #[must_use]
+    #[inline]
+    pub const fn new() -> DeltaSum {
+        DeltaSum {
+            steps: 0,
+            low: F48Dot16::ZERO,
+        }
+    }
+
+    /// Adds the product of a scalar and a delta in font units, which is at most `2^62` steps.
+    ///
+    /// <details><summary>Contract</summary>
+    ///
+    /// ```text
+    /// ensures wrapped { steps_of self.new
+    ///     ≡ wrap 128 (steps_of self.old +ℤ fixed_bits scalar *ℤ delta) }
+    /// ensures exact { FitsBits 128 (steps_of self.old +ℤ fixed_bits scalar *ℤ delta)
+    ///     → steps_of self.new ≡ (steps_of self.old +ℤ fixed_bits scalar *ℤ delta) }
+    /// ensures bound { unsigned_abs (fixed_bits scalar *ℤ delta) ≤ 2 ^ 62 }
+    /// ```
+    ///
+    /// Defined:
+    /// [`wrap`](crate::contracts::font_base::Wrap),
+    /// [`FitsBits`](crate::contracts::font_base::Wrap),
+    /// [`fixed_bits`](crate::contracts::font_fixed::Fixed),
+    /// [`steps_of`](crate::contracts::font_types::DeltaSum).
+    /// [How to read it](crate::contracts).
+    ///
+    /// </details>
+    #[inline]
+    pub fn add(&mut self, scalar: Fixed, delta: i32) {
+        let product = scalar.mul_i32(delta);
+        *self = DeltaSum {
+            steps: self.steps.wrapping_add(i128::from(product.to_bits())),
+            low: self.low + product,
+        };
+    }
+
+    // Adds the product of a term.
+    #[inline]
+    fn add_term(&mut self, term: &(Fixed, i32)) {
+        let (scalar, delta) = *term;
+        self.add(scalar, delta);
+    }
+
+    /// The sum, wrapped to 64 bits.
+    ///
+    /// <details><summary>Contract</summary>
+    ///
+    /// ```text
+    /// ensures { f48dot16_bits result ≡ wrap 64 (steps_of self) }
+    /// ```
+    ///
+    /// Defined:
+    /// [`wrap`](crate::contracts::font_base::Wrap),
+    /// [`f48dot16_bits`](crate::contracts::font_fixed::F48Dot16),
+    /// [`steps_of`](crate::contracts::font_types::DeltaSum).
+    /// [How to read it](crate::contracts).
+    ///
+    /// </details>
+    #[must_use]
+    #[inline]
+    pub const fn finish(self) -> F48Dot16 {
+        self.low
+    }
+
+    /// The sum, or `None` where it lies outside 64 bits.
+    ///
+    /// <details><summary>Contract</summary>
+    ///
+    /// ```text
+    /// ensures variant { IsSome result ↔ FitsBits 64 (steps_of self) }
+    /// ensures value { IfSome result (λ sum. f48dot16_bits sum ≡ steps_of self) }
+    /// ```
+    ///
+    /// Defined:
+    /// [`FitsBits`](crate::contracts::font_base::Wrap),
+    /// [`f48dot16_bits`](crate::contracts::font_fixed::F48Dot16),
+    /// [`steps_of`](crate::contracts::font_types::DeltaSum).
+    /// [How to read it](crate::contracts).
+    ///
+    /// </details>
+    #[must_use]
+    #[inline]
+    pub fn checked_finish(self) -> Option<F48Dot16> {
+        let bits = i64::try_from(self.steps).ok()?;
+        Some(F48Dot16::from_bits(bits))
+    }
+}
+
+impl Default for DeltaSum {
+    #[inline]
+    fn default() -> DeltaSum {
+        DeltaSum::new()
+    }
+}
+
+/// The sum of the products of scalars and deltas, exact where it fits 64 bits, whatever partial
+/// sums do.
+///
+/// A sum out of range wraps. Each term is a scalar and a delta in font units; the empty list gives
+/// zero.
+///
+/// ```
+/// use font_types_proved::{Fixed, delta_sum};
+/// let half = Fixed::from_bits(0x8000);
+/// assert_eq!(delta_sum(&[(half, 3), (Fixed::NEG_ONE, 2)]).to_string(), "-0.5");
+/// ```
+///
+/// <details><summary>Contract</summary>
+///
+/// ```text
+/// ensures { f48dot16_bits result ≡ wrap 64 (exact_sum terms.now) }
+/// ```
+///
+/// Defined:
+/// [`wrap`](crate::contracts::font_base::Wrap),
+/// [`f48dot16_bits`](crate::contracts::font_fixed::F48Dot16),
+/// [`exact_sum`](crate::contracts::font_types::Delta).
+/// [How to read it](crate::contracts).
+///
+/// </details>
+#[must_use]
+#[inline]
+pub fn delta_sum(terms: &[(Fixed, i32)]) -> F48Dot16 {
+    let mut sum = DeltaSum::new();
+    for term in terms {
+        sum.add_term(term);
+    }
+    sum.finish()
+}
+
+/// The exact sum of the products of scalars and deltas, or `None` where it lies outside 64 bits.
+///
+/// Partial sums may lie anywhere. Each term is a scalar and a delta in font units, and the bits of
+/// the result count steps of `2^-16` font units, from `-2^63` to `2^63 - 1`; the empty list gives
+/// zero. Half of 3 font units is 1.5:
+///
+/// ```
+/// use font_types_proved::{Fixed, checked_delta_sum};
+/// let sum = checked_delta_sum(&[(Fixed::from_bits(0x8000), 3)]).unwrap();
+/// assert_eq!(sum.to_bits(), 98304);
+/// ```
+///
+/// <details><summary>Contract</summary>
+///
+/// ```text
+/// ensures variant { IsSome result ↔ FitsBits 64 (exact_sum terms.now) }
+/// ensures value { IfSome result (λ sum. f48dot16_bits sum ≡ exact_sum terms.now) }
+/// ensures gives { option_map f48dot16_bits result ≡ sum_in_range terms.now }
+/// ```
+///
+/// Defined:
+/// [`FitsBits`](crate::contracts::font_base::Wrap),
+/// [`f48dot16_bits`](crate::contracts::font_fixed::F48Dot16),
+/// [`exact_sum`](crate::contracts::font_types::Delta),
+/// [`sum_in_range`](crate::contracts::font_types::Delta).
+/// [How to read it](crate::contracts).
+///
+/// </details>
+#[must_use]
+#[inline]
+pub fn checked_delta_sum(terms: &[(Fixed, i32)]) -> Option<F48Dot16> {
+    // A list has fewer than 2^64 terms, so that 128 bits hold every partial sum.
+    let mut exact = DeltaSum::new();
+    for term in terms {
+        exact.add_term(term);
+    }
+    exact.checked_finish()
+}
+
+/// A quantity moved by the exact sum of deltas, in units of `2^-16`, or `None` where that sum lies
+/// outside 64 bits.
+///
+/// The result is `base.apply_delta` of what `checked_delta_sum` gives: 100 font units and half of 3
+/// are 101.5.
+///
+/// ```
+/// use font_types_proved::{FWord, Fixed, vary};
+/// assert_eq!(vary(FWord::new(100), &[(Fixed::from_bits(0x8000), 3)]), Some(6651904));
+/// ```
+///
+/// <details><summary>Contract</summary>
+///
+/// ```text
+/// ensures variant { IsSome result ↔ FitsBits 64 (exact_sum terms.now) }
+/// ensures value { IfSome result (λ units.
+///     units ≡ (fword_number base *ℤ pos 65536 +ℤ exact_sum terms.now)) }
+/// ensures gives { result ≡ varied (fword_number base) terms.now }
+/// ```
+///
+/// Defined:
+/// [`FitsBits`](crate::contracts::font_base::Wrap),
+/// [`fword_number`](crate::contracts::font_ids::FWord),
+/// [`exact_sum`](crate::contracts::font_types::Delta),
+/// [`varied`](crate::contracts::font_types::Delta).
+/// [How to read it](crate::contracts).
+///
+/// </details>
+#[must_use]
+#[inline]
+pub fn vary(base: FWord, terms: &[(Fixed, i32)]) -> Option<i128> {
+    let sum = checked_delta_sum(terms)?;
+    Some(base.apply_delta(sum))
+}

@@ -1,0 +1,233 @@
+//! What the program uses in place of Rattle's std: what its source relies on, and what fails.
+#![allow(dead_code)]
+
+#[path = "../src/bin/fontval/rattle/mod.rs"]
+mod rattle;
+
+use rattle::alloc::{Global, String, Vec};
+use rattle::{hex, io, simd};
+use std::alloc::{GlobalAlloc, Layout, System};
+
+// ---- hexadecimal digits
+
+#[test]
+fn encoded_bytes() {
+    for byte in 0..=u8::MAX {
+        let mut digits = [0; 2];
+        hex::encode_to_slice(&[byte], &mut digits).unwrap();
+        assert_eq!(digits, *format!("{byte:02x}").as_bytes());
+    }
+    let mut digits = [0; 16];
+    hex::encode_to_slice(b"\0\x12\xFFabcd\x80", &mut digits).unwrap();
+    assert_eq!(&digits, b"0012ff6162636480");
+    for len in (0..20).filter(|len| *len != 16) {
+        let mut digits = [b'~'; 20];
+        assert!(hex::encode_to_slice(&[0; 8], &mut digits[..len]).is_err());
+        assert_eq!(digits, [b'~'; 20]);
+    }
+}
+
+// Every pair of bytes, where just the digits of either case are taken.
+#[test]
+fn decoded_digits() {
+    let value = |digit: u8| char::from(digit).to_digit(16).map(|value| value as u8);
+    for high in 0..=u8::MAX {
+        for low in 0..=u8::MAX {
+            let mut byte = [0];
+            let read = hex::decode_to_slice(&[high, low], &mut byte);
+            match (value(high), value(low)) {
+                (Some(high), Some(low)) => assert_eq!(byte, [16 * high + low]),
+                _ => assert!(read.is_err(), "{high} {low}"),
+            }
+        }
+    }
+    let mut bytes = [0; 4];
+    hex::decode_to_slice(b"0012fFA9", &mut bytes).unwrap();
+    assert_eq!(bytes, [0, 0x12, 0xFF, 0xA9]);
+    for len in (0..12).filter(|len| *len != 8) {
+        assert!(hex::decode_to_slice(&[b'0'; 12][..len], &mut bytes).is_err());
+    }
+}
+
+// ---- bytes that are compared at once
+
+#[test]
+fn compared_bytes() {
+    for x in 0..=u8::MAX {
+        for y in 0..=u8::MAX {
+            let bytes: [u8; 16] = std::array::from_fn(|i| if i % 3 == 0 { x } else { y });
+            let eight: [u8; 8] = std::array::from_fn(|i| bytes[i + 5]);
+            let mask = |bytes: &[u8]| {
+                let bits = bytes.iter().enumerate();
+                bits.map(|(i, byte)| u64::from(*byte == x) << i)
+                    .sum::<u64>()
+            };
+            let of_16 = simd::prelude::u8x16::from_array(bytes);
+            let of_8 = simd::prelude::u8x8::from_array(eight);
+            let equal = of_16.simd_eq(simd::prelude::u8x16::splat(x)).to_bitmask();
+            assert_eq!(equal, mask(&bytes), "{x} {y}");
+            let equal = of_8.simd_eq(simd::prelude::u8x8::splat(x));
+            assert_eq!(equal.to_bitmask(), mask(&eight), "{x} {y}");
+            let none = of_8.simd_eq(simd::prelude::u8x8::splat(!x & !y));
+            assert_eq!((equal | none).to_bitmask() & mask(&eight), mask(&eight));
+        }
+    }
+}
+
+// ---- memory
+
+/// No more than a megabyte at once.
+struct Refusing;
+
+#[global_allocator]
+static ALLOCATOR: Refusing = Refusing;
+
+// SAFETY: it is the system's allocator, or it refuses.
+unsafe impl GlobalAlloc for Refusing {
+    unsafe fn alloc(&self, layout: Layout) -> *mut u8 {
+        if layout.size() > 1 << 20 {
+            return std::ptr::null_mut();
+        }
+        unsafe { System.alloc(layout) }
+    }
+
+    unsafe fn dealloc(&self, bytes: *mut u8, layout: Layout) {
+        unsafe { System.dealloc(bytes, layout) }
+    }
+}
+
+/// How often something is done until it is refused.
+fn until_refused<E>(mut done: impl FnMut() -> Result<(), E>) -> usize {
+    let mut count = 0;
+    while done().is_ok() {
+        count += 1;
+        assert!(count <= 1 << 20);
+    }
+    count
+}
+
+// A refusal is told, and what was there is kept.
+#[test]
+fn refused_vectors() {
+    assert!(Vec::<u64, _>::with_capacity(Global, usize::MAX).is_err());
+    assert!(Vec::<u64, _>::with_capacity(Global, 1 << 17).is_ok());
+    assert!(Vec::<u64, _>::with_capacity(Global, (1 << 17) + 1).is_err());
+    let mut vec = Vec::new(Global);
+    let pushed = until_refused(|| vec.push(7u64));
+    assert_eq!(*vec, std::vec![7; pushed]);
+    assert_eq!(pushed, 1 << 17);
+    let mut vec = Vec::new(Global);
+    let pushed = until_refused(|| vec.extend_from_slice(&[1u8, 2, 3]));
+    assert_eq!(*vec, [1, 2, 3].repeat(pushed));
+    assert!(pushed > 1 << 17);
+}
+
+#[test]
+fn refused_strings() {
+    let mut text = String::new(Global);
+    let pushed = until_refused(|| text.push_str("a ä"));
+    assert_eq!(*text, "a ä".repeat(pushed));
+    assert!(pushed > 1 << 17);
+    let mut text = String::new(Global);
+    let written = until_refused(|| write!(text, "{:?}", (5, "b")));
+    assert!(text.starts_with("(5, \"b\")(5, \"b\")") && written > 1 << 16);
+    let mut text = String::new(Global);
+    let written = until_refused(|| (&mut text as &mut dyn std::fmt::Write).write_str("ab"));
+    assert_eq!(text.len(), 2 * written);
+}
+
+// ---- streams
+
+// Where no file can be had, each call is refused.
+#[test]
+#[cfg(unix)]
+fn missing_streams() {
+    use io::{Read, Write};
+    use std::os::fd::BorrowedFd;
+    // SAFETY: nothing is asked of it but a copy, which is refused.
+    let missing = unsafe { BorrowedFd::borrow_raw(1 << 20) };
+    let mut stream = io::Stream::over(missing);
+    assert!(stream.read(&mut [0; 9]).is_err());
+    assert!(stream.write(b"a").is_err());
+    assert!(stream.flush().is_err());
+}
+
+// ---- interrupted calls
+
+#[cfg(target_os = "linux")]
+mod interrupted {
+    use super::rattle::io::{Read, Stream, Write};
+    use std::ffi::{c_int, c_ulong};
+    use std::io::ErrorKind;
+    use std::net::Shutdown;
+    use std::os::unix::net::UnixStream;
+    use std::sync::atomic::{AtomicBool, Ordering};
+    use std::thread;
+    use std::time::{Duration, Instant};
+
+    unsafe extern "C" {
+        fn signal(number: c_int, handler: extern "C" fn(c_int)) -> usize;
+        fn siginterrupt(number: c_int, interrupts: c_int) -> c_int;
+        fn pthread_self() -> c_ulong;
+        fn pthread_kill(thread: c_ulong, number: c_int) -> c_int;
+    }
+
+    const SIGUSR1: c_int = 10;
+
+    extern "C" fn nothing(_: c_int) {}
+
+    /// Makes calls that wait, while this thread is interrupted again and again; after two seconds
+    /// the other end goes away.
+    fn while_interrupted<T>(other: UnixStream, calls: impl FnOnce() -> T) -> T {
+        let done = AtomicBool::new(false);
+        let here = unsafe {
+            signal(SIGUSR1, nothing);
+            siginterrupt(SIGUSR1, 1);
+            pthread_self()
+        };
+        thread::scope(|scope| {
+            scope.spawn(|| {
+                let start = Instant::now();
+                while !done.load(Ordering::SeqCst) {
+                    thread::sleep(Duration::from_millis(20));
+                    if start.elapsed() > Duration::from_secs(2) {
+                        let _ = other.shutdown(Shutdown::Both);
+                    }
+                    unsafe { pthread_kill(here, SIGUSR1) };
+                }
+            });
+            let made = calls();
+            done.store(true, Ordering::SeqCst);
+            made
+        })
+    }
+
+    // It is told, and not made again.
+    #[test]
+    fn read() {
+        let (here, other) = UnixStream::pair().unwrap();
+        let mut stream = Stream::over(here);
+        let read = while_interrupted(other, || stream.read(&mut [0; 9]));
+        assert_eq!(read.unwrap_err().kind(), ErrorKind::Interrupted);
+    }
+
+    // As many bytes were written as it says, and then it is told.
+    #[test]
+    fn write() {
+        let (here, other) = UnixStream::pair().unwrap();
+        let mut stream = Stream::over(here);
+        let bytes = std::vec![7; 1 << 20];
+        let mut read = other.try_clone().unwrap();
+        let (first, second) =
+            while_interrupted(other, || (stream.write(&bytes), stream.write(&bytes)));
+        assert_eq!(second.unwrap_err().kind(), ErrorKind::Interrupted);
+        drop(stream);
+        let mut room = std::vec![0; 1 << 10];
+        let mut count = 0;
+        while let Ok(n @ 1..) = read.read(&mut room) {
+            count += n;
+        }
+        assert_eq!(first.unwrap(), count);
+        assert!(count < bytes.len());
+    }
+}

@@ -1,0 +1,317 @@
+//! The table of values, whose calls C and C++ make too; the texts of errors; and what becomes of a
+//! call that does not give what its function asks.
+
+use font_types_proved::laws::{composed, in_turn};
+use font_types_proved::{
+    Align, DecimalFault, F2Dot14, F2Dot30, F26Dot6, F48Dot16, FWord, Fixed, GlyphId, GlyphId16,
+    InvalidTag, Matrix, Pad, Point, Shortest, Tag, Uint24, checked_delta_sum, read_decimal, vary,
+};
+use std::collections::BTreeSet;
+use std::panic::catch_unwind;
+
+const TABLE: &str = include_str!("../crates/font_c/callers/values.txt");
+
+/// The words of each line of a kind, without the first.
+fn lines(kind: &str) -> Vec<Vec<&'static str>> {
+    let words = TABLE
+        .lines()
+        .map(|line| line.split(' ').collect::<Vec<_>>());
+    let of_kind = words.filter(|words| words[0] == kind);
+    let lines: Vec<_> = of_kind.map(|words| words[1..].to_vec()).collect();
+    assert!(!lines.is_empty(), "{kind}");
+    lines
+}
+
+fn numbers<const N: usize>(words: &[&str]) -> [i32; N] {
+    let numbers: Vec<i32> = words.iter().map(|word| word.parse().unwrap()).collect();
+    numbers.try_into().unwrap()
+}
+
+/// How a line pads, or `None` where no `Pad` says it.
+fn pad(words: &[&str]) -> Option<Pad> {
+    let [width, fill, align, plus, zeros] = numbers(words);
+    let aligns = [Align::Left, Align::Center, Align::Right];
+    let fill = u8::try_from(fill).ok().filter(u8::is_ascii)?;
+    Some(Pad {
+        width: width as usize,
+        fill,
+        align: *aligns.get(align as usize)?,
+        plus: plus != 0,
+        zeros: zeros != 0,
+    })
+}
+
+/// The lines of a type of numbers, and that each type of the table has its own.
+macro_rules! of_fixed_point_types {
+    ($($test:ident $Type:ident $bits:ident $f:literal;)*) => {
+        #[test]
+        fn each_type_of_the_table() {
+            for kind in ["read", "write", "whole", "pad", "null"] {
+                let types: BTreeSet<&str> = lines(kind).iter().map(|words| words[0]).collect();
+                assert_eq!(types, BTreeSet::from([$(stringify!($test)),*]), "{kind}");
+            }
+        }
+    $(
+        #[test]
+        fn $test() {
+            use font_types_proved::$Type;
+            let number = |word: &str| $Type::from_bits(word.parse().unwrap());
+            let of = |kind| lines(kind).into_iter().filter(|words| words[0] == stringify!($test));
+            for words in of("read") {
+                let read = match words[2] {
+                    "0" => Ok(number(words[3])),
+                    "1" => Err(DecimalFault::Syntax),
+                    _ => Err(DecimalFault::OutOfRange),
+                };
+                assert_eq!(words[1].parse(), read, "{words:?}");
+            }
+            for words in of("write") {
+                assert_eq!(number(words[1]).to_string(), words[2]);
+            }
+            for words in of("whole") {
+                let x = number(words[1]);
+                assert_eq!([x.round(), x.floor()], [number(words[2]), number(words[3])]);
+                assert_eq!(x.floor() + x.fract(), x);
+            }
+            for words in of("pad") {
+                let Some(pad) = pad(&words[2..7]) else { continue };
+                let mut out = [b'~'; 40];
+                match number(words[1]).write_padded(&mut out, &pad) {
+                    Some(length) => assert_eq!(out[..length], *words[7].as_bytes()),
+                    None => assert_eq!((words[7], out), ("refused", [b'~'; 40])),
+                }
+            }
+        }
+    )*};
+}
+
+include!("../tools/src/types.in");
+
+#[test]
+fn products() {
+    for words in lines("product") {
+        let [x, y, product, quotient] = numbers(&words[1..]);
+        let found = if words[0] == "fixed" {
+            let [x, y] = [x, y].map(Fixed::from_bits);
+            [x * y, x / y].map(Fixed::to_bits)
+        } else {
+            let [x, y] = [x, y].map(F26Dot6::from_bits);
+            [x * y, x / y].map(F26Dot6::to_bits)
+        };
+        assert_eq!(found, [product, quotient], "{words:?}");
+    }
+    for words in lines("mul_div") {
+        let [x, a, c, result] = numbers(&words).map(Fixed::from_bits);
+        assert_eq!(x.mul_div(a, c), result, "{words:?}");
+    }
+    for words in lines("narrow") {
+        let [bits, whole, f26dot6, f2dot14] = numbers(&words);
+        let x = Fixed::from_bits(bits);
+        assert_eq!(x.to_i32(), whole);
+        assert_eq!(x.to_f26dot6().to_bits(), f26dot6);
+        assert_eq!(i32::from(x.to_f2dot14().to_bits()), f2dot14);
+    }
+}
+
+#[test]
+fn matrices() {
+    for words in lines("matrix") {
+        let matrix = |at| Matrix::from_elements(numbers(&words[at..at + 6]).map(Fixed::from_bits));
+        let point = |at| {
+            let [x, y] = numbers(&words[at..at + 2]).map(Fixed::from_bits);
+            Point::new(x, y)
+        };
+        let (a, b, p) = (matrix(0), matrix(6), point(12));
+        assert_eq!(a * b, matrix(14));
+        let moved = [a * p, composed(a, b, p), in_turn(a, b, p)];
+        assert_eq!(moved, [point(20), point(22), point(24)]);
+    }
+}
+
+fn bytes(digits: &str) -> Vec<u8> {
+    let pairs = (0..digits.len()).step_by(2).map(|at| &digits[at..at + 2]);
+    pairs
+        .map(|pair| u8::from_str_radix(pair, 16).unwrap())
+        .collect()
+}
+
+#[test]
+fn tags() {
+    for words in lines("tag") {
+        let bytes = bytes(words[0]);
+        match (Tag::new_checked(&bytes), words[1]) {
+            (Ok(tag), "0") => {
+                let number = u32::from_be_bytes(tag.to_be_bytes());
+                assert_eq!(number.to_string(), words[2]);
+            }
+            (Err(InvalidTag::InvalidLength(length)), "1") => assert_eq!(length, bytes.len()),
+            (Err(InvalidTag::InvalidByte { pos, byte }), "2") => assert_eq!(bytes[pos], byte),
+            (made, _) => panic!("{words:?}: {made:?}"),
+        }
+        let Ok(four) = <[u8; 4]>::try_from(bytes) else {
+            continue;
+        };
+        let tag = Tag::new(&four);
+        assert_eq!(tag.to_string(), words[5].replace('_', " "));
+        let pos: usize = words[4].parse().unwrap();
+        let judged = match words[3] {
+            "0" => Ok(()),
+            "1" => Err(InvalidTag::InvalidLength(0)),
+            "2" => Err(InvalidTag::InvalidByte {
+                pos,
+                byte: four[pos],
+            }),
+            _ => Err(InvalidTag::ByteAfterSpace { pos }),
+        };
+        assert_eq!(tag.validate(), judged, "{words:?}");
+    }
+}
+
+#[test]
+fn sums() {
+    for words in lines("sum") {
+        let terms = words[3..].chunks(2).map(numbers);
+        let terms: Vec<_> = terms
+            .map(|[x, delta]| (Fixed::from_bits(x), delta))
+            .collect();
+        let sum = (words[0] == "0").then(|| F48Dot16::from_bits(words[1].parse().unwrap()));
+        assert_eq!(checked_delta_sum(&terms), sum, "{words:?}");
+    }
+}
+
+/// The sum, the difference, the status of the checked sum, and both saturated.
+#[test]
+fn sums_of_two() {
+    for words in lines("add") {
+        let [x, y, sum, difference, status, checked, up, down] = numbers(&words);
+        let [x, y] = [x, y].map(Fixed::from_bits);
+        assert_eq!(
+            [x + y, x - y].map(Fixed::to_bits),
+            [sum, difference],
+            "{words:?}"
+        );
+        let wanted = (status == 0).then(|| Fixed::from_bits(checked));
+        assert_eq!(x.checked_add(y), wanted, "{words:?}");
+        let saturated = [x.saturating_add(y), x.saturating_sub(y)];
+        assert_eq!(saturated.map(Fixed::to_bits), [up, down], "{words:?}");
+    }
+    for words in lines("neg") {
+        let [x, opposite] = numbers(&words).map(Fixed::from_bits);
+        assert_eq!(-x, opposite, "{words:?}");
+    }
+    for words in lines("from_i32") {
+        let [number, bits] = numbers(&words);
+        assert_eq!(Fixed::from_i32(number).to_bits(), bits, "{words:?}");
+    }
+    for words in lines("to_fixed") {
+        let [bits, widened] = numbers(&words);
+        let number = F2Dot14::from_bits(bits as i16);
+        assert_eq!(number.to_fixed().to_bits(), widened, "{words:?}");
+    }
+}
+
+#[test]
+fn conversions_of_2_30() {
+    for words in lines("from_fixed") {
+        let [bits, long] = numbers(&words);
+        let number = F2Dot30::from_fixed(Fixed::from_bits(bits));
+        assert_eq!(number.to_bits(), long, "{words:?}");
+    }
+    for words in lines("from_f2dot14") {
+        let [bits, long] = numbers(&words);
+        let number = F2Dot30::from_f2dot14(F2Dot14::from_bits(bits as i16));
+        assert_eq!(number.to_bits(), long, "{words:?}");
+    }
+    for words in lines("narrow_f2dot30") {
+        let [bits, fixed, narrow] = numbers(&words);
+        let number = F2Dot30::from_bits(bits);
+        let narrowed = [
+            number.to_fixed().to_bits(),
+            number.to_f2dot14().to_bits().into(),
+        ];
+        assert_eq!(narrowed, [fixed, narrow], "{words:?}");
+    }
+}
+
+/// The library for C refuses a moved number outside 64 bits too.
+#[test]
+fn moved_quantities() {
+    for words in lines("vary") {
+        let base = FWord::new(words[0].parse().unwrap());
+        let terms = words[4..].chunks(2).map(numbers);
+        let terms: Vec<_> = terms
+            .map(|[x, delta]| (Fixed::from_bits(x), delta))
+            .collect();
+        let moved = vary(base, &terms).and_then(|moved| i64::try_from(moved).ok());
+        let wanted = (words[1] == "0").then(|| words[2].parse().unwrap());
+        assert_eq!(moved, wanted, "{words:?}");
+    }
+}
+
+#[test]
+fn texts_of_errors() {
+    let too_large = GlyphId16::try_from(GlyphId::new(65536)).unwrap_err();
+    let faults: [(Box<dyn std::error::Error>, &str); 9] = [
+        (DecimalFault::Syntax.into(), "not a decimal number"),
+        (DecimalFault::OutOfRange.into(), "number out of range"),
+        (InvalidTag::InvalidLength(5).into(), "Invalid length (5)"),
+        (InvalidTag::InvalidLength(0).into(), "Invalid length (0)"),
+        (
+            InvalidTag::InvalidByte { pos: 3, byte: 7 }.into(),
+            "Invalid byte 0x7 at index 3",
+        ),
+        (
+            InvalidTag::InvalidByte { pos: 1, byte: 0x1F }.into(),
+            "Invalid byte 0x1F at index 1",
+        ),
+        (
+            InvalidTag::ByteAfterSpace { pos: 2 }.into(),
+            "Non-space character after first space",
+        ),
+        (
+            too_large.into(),
+            "glyph identifier 65536 too large for conversion",
+        ),
+        (
+            Uint24::try_from(1usize << 24).unwrap_err().into(),
+            "failed to convert usize value into Uint24.",
+        ),
+    ];
+    for (fault, text) in faults {
+        assert_eq!(fault.to_string(), text);
+    }
+}
+
+/// Where the bits of fraction are not those that are asked for, a call panics or answers; a text is
+/// of ASCII, so that the one unsafe line is right.
+#[test]
+fn calls_that_give_too_little() {
+    std::panic::set_hook(Box::new(|_| {}));
+    let mut answered = 0;
+    for f in (0..130).chain([u32::MAX - 1, u32::MAX]) {
+        for bits in [
+            0,
+            1,
+            -1,
+            9,
+            0x7FFF,
+            -0x8000,
+            i64::MAX,
+            i64::MIN,
+            i64::MAX / 3,
+            1 << 62,
+        ] {
+            let text = catch_unwind(|| {
+                let shortest = Shortest::new(bits, f);
+                assert!(shortest.as_str().bytes().all(|byte| byte.is_ascii()));
+                std::str::from_utf8(shortest.as_str().as_bytes())
+                    .unwrap()
+                    .to_string()
+            });
+            answered += usize::from(text.is_ok());
+            let text = text.unwrap_or("1.5".into());
+            let _read = catch_unwind(|| read_decimal(&text, f, bits, bits));
+        }
+    }
+    assert!(answered > 250, "{answered}");
+}

@@ -1,0 +1,165 @@
+//! The generated files of the repository.
+
+use super::{Crate, Error, Target, erase};
+use crate::repository;
+use std::collections::BTreeMap;
+use std::io::Write;
+use std::process::{Command, Stdio};
+
+/// The crates of the library, lowest first, and of each the modules that need Rattle's libraries.
+pub const LIBRARY: [(&str, &[&str]); 10] = [
+    ("font_decimal", &[]),
+    ("font_base", &[]),
+    ("font_arithmetic", &[]),
+    ("font_f26", &[]),
+    ("font_fixed", &[]),
+    ("font_fixed2", &[]),
+    ("font_tags", &[]),
+    ("font_ids", &[]),
+    ("font_geom", &[]),
+    ("font_types", &["json"]),
+];
+
+/// The crates above the library.
+const ABOVE: [(&str, Target); 2] = [("fontval", Target::Program), ("font_c", Target::Exports)];
+
+/// The modules of documentation with the definitions that contracts name.
+const CONTRACTS: &str = "src/contracts.rs";
+
+impl Target {
+    // The folder with a folder for each of its crates.
+    fn folder(self) -> &'static str {
+        match self {
+            Self::Library => "src",
+            Self::Program => "src/bin/fontval",
+            Self::Exports => "rust/c/src",
+        }
+    }
+}
+
+/// Every generated file, by its path from the root.
+pub fn tree() -> Result<BTreeMap<String, String>, String> {
+    let root = repository::text("crates/font_types/src/lib.rt");
+    let linked = public_types(&root, LIBRARY[9].1);
+    let mut files = BTreeMap::new();
+    for (name, target) in crates() {
+        let left_out = LIBRARY.iter().find(|library| library.0 == name);
+        let of = Crate {
+            name,
+            target,
+            left_out: left_out.map_or(&[], |library| library.1),
+            linked: &linked,
+        };
+        let root = ["lib", "main"][usize::from(target == Target::Program)];
+        let (from, to) = (
+            format!("crates/{name}/src"),
+            format!("{}/{name}", target.folder()),
+        );
+        add_file(&mut files, &of, [&from, root], [&to, "mod"])?;
+    }
+    files.insert(CONTRACTS.into(), laid_out(&contracts())?);
+    Ok(files)
+}
+
+/// The paths from the root of the files that are in the folders of generated files.
+pub fn there() -> Vec<String> {
+    let folders = crates().map(|(name, target)| format!("{}/{name}", target.folder()));
+    folders
+        .flat_map(|folder| repository::files(&folder, ""))
+        .collect()
+}
+
+fn crates() -> impl Iterator<Item = (&'static str, Target)> {
+    let library = LIBRARY.iter().map(|(name, _)| (*name, Target::Library));
+    library.chain(ABOVE)
+}
+
+// Adds a file, which is the root of a crate or is not, and the modules that it declares.
+fn add_file(
+    files: &mut BTreeMap<String, String>,
+    of: &Crate,
+    [from, name]: [&str; 2],
+    [to, module]: [&str; 2],
+) -> Result<(), String> {
+    let source = format!("{from}/{name}.rt");
+    let text = std::fs::read_to_string(repository::root().join(&source))
+        .map_err(|error| format!("{source}: {error}"))?;
+    let erased = erase(&text, of, module == "mod").map_err(|Error { line, what }| {
+        format!("{source}:{line}: {what}: see tools/src/erase.rs")
+    })?;
+    let head = format!("// @generated from {source} by tools/src/bin/erase.rs\n\n");
+    let rust = laid_out(&(head + &erased.rust)).map_err(|error| format!("{source}: {error}"))?;
+    files.insert(format!("{to}/{module}.rs"), rust);
+    // A module of the root is beside it, and one of another file below it.
+    let below = |folder: &str, file: &str| match module {
+        "mod" => folder.to_string(),
+        _ => format!("{folder}/{file}"),
+    };
+    for (_, inner) in erased.modules {
+        add_file(
+            files,
+            of,
+            [&below(from, name), inner],
+            [&below(to, module), inner],
+        )?;
+    }
+    Ok(())
+}
+
+// The text as rustfmt lays it out.
+fn laid_out(text: &str) -> Result<String, String> {
+    let told = |error: std::io::Error| format!("rustfmt: {error}");
+    let mut rustfmt = Command::new("rustfmt");
+    rustfmt
+        .arg("--edition=2024")
+        .stdin(Stdio::piped())
+        .stdout(Stdio::piped());
+    let mut running = rustfmt.spawn().map_err(told)?;
+    let mut input = running.stdin.take().expect("it is piped");
+    input.write_all(text.as_bytes()).map_err(told)?;
+    drop(input);
+    let output = running.wait_with_output().map_err(told)?;
+    if !output.status.success() {
+        return Err("rustfmt does not read what is left".into());
+    }
+    String::from_utf8(output.stdout).map_err(|error| error.to_string())
+}
+
+/// The types that the root of a crate exports, except those of modules that are left out: names
+/// after `pub use`, with a capital first and a small letter.
+fn public_types<'a>(root: &'a str, left_out: &[&str]) -> Vec<&'a str> {
+    let uses = root.split("pub use ").skip(1);
+    let uses = uses.filter_map(|rest| rest.split(';').next()?.split_once("::"));
+    let uses = uses.filter(|(from, _)| !left_out.contains(from));
+    let names = uses.flat_map(|(_, names)| names.split(|c: char| !c.is_alphanumeric()));
+    let begins = |name: &str| name.starts_with(|c: char| c.is_ascii_uppercase());
+    names
+        .filter(|name| begins(name) && name.contains(|c: char| c.is_ascii_lowercase()))
+        .collect()
+}
+
+// Modules of documentation, one for each file of definitions of the library.
+fn contracts() -> String {
+    let mut text = "// @generated from crates/*/specs by tools/src/bin/erase.rs\n".to_string();
+    for (name, left_out) in LIBRARY {
+        text += &format!("\n/// The definitions of `crates/{name}/specs`.\npub mod {name} {{\n");
+        for path in repository::files(&format!("crates/{name}/specs"), ".antt") {
+            let (_, file) = path.split_once("/specs/").expect("it is in that folder");
+            let module = file.trim_end_matches(".antt").replace('/', "_");
+            let first = file
+                .split(['/', '.'])
+                .next()
+                .unwrap_or_default()
+                .to_lowercase();
+            if file == "Lib.antt" || left_out.contains(&&*first) {
+                continue;
+            }
+            text += &format!(
+                "/// `{path}`\n///\n/// ```text\n#[doc = include_str!(\"../{path}\")]\n\
+                 /// ```\npub mod {module} {{}}\n\n"
+            );
+        }
+        text += "}\n";
+    }
+    text
+}

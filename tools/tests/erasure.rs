@@ -1,0 +1,147 @@
+//! A second reader, which shares nothing with the eraser: the tokens of each generated file are those
+//! of its source in order, less what is left out, except for the changes listed here. It does not
+//! read comments, imports, and a comma at the end of a list.
+
+use font_types_tools::{erase::LIBRARY, repository};
+
+/// What is changed: in Rust, and in the source. `CRATE` is any crate of the library.
+const CHANGES: [(&str, &str); 7] = [
+    ("crate::CRATE::", "CRATE::"),
+    ("core::", "std::"),
+    ("Formatter<'_>", "Formatter<W>"),
+    ("<Rhs = Self>", "<Rhs>"),
+    ("pub const fn new_checked", "pub fn new_checked"),
+    ("pub fn main", "fn main"),
+    ("pub unsafe extern", "pub extern"),
+];
+
+/// What is left out beside clauses, ghost items, attributes of proofs, and the results of `clone`.
+const LEFT_OUT: [&str; 10] = [
+    "#[cfg(test)] mod tests;",
+    "mod json;",
+    "#[derive(Drop)]",
+    ", Drop, Error",
+    ", Drop",
+    ", Error",
+    "+ Drop",
+    "<W: fmt::Write>",
+    "let _bytes = raw.as_slice();",
+    "let _bytes = font_base::BeByteArray::as_slice(&self.0);",
+];
+
+/// The words and signs of a text, without comments.
+fn tokens(text: &str) -> Vec<&str> {
+    let is_sign = |c: char| !c.is_alphanumeric() && c != '_';
+    let code = text.lines().map(|line| line.split("//").next().unwrap());
+    let pieces = code.flat_map(|line| line.split_inclusive(is_sign));
+    let cut = |piece: &'_ str| piece.rfind(is_sign).unwrap_or(piece.len());
+    let words = pieces.flat_map(|piece| <[&str; 2]>::from(piece.split_at(cut(piece))));
+    let words = words.map(str::trim);
+    words.filter(|word| !word.is_empty()).collect()
+}
+
+/// The number of tokens up to and with this one.
+fn through(t: &[&str], end: &str) -> usize {
+    1 + t.iter().position(|token| *token == end).expect(end)
+}
+
+/// The number of tokens of the group that opens first.
+fn group(t: &[&str]) -> usize {
+    let mut depth = 0;
+    let ends = |token: &&str| {
+        depth += i32::from(matches!(*token, "(" | "[" | "{"));
+        depth -= i32::from(matches!(*token, ")" | "]" | "}"));
+        depth == 0
+    };
+    1 + t.iter().position(ends).expect("a closed bracket")
+}
+
+/// The tokens less what is left out of a source, and less what is added to Rust.
+fn kept<'a>(mut t: &[&'a str]) -> Vec<&'a str> {
+    let lines = LEFT_OUT.map(tokens);
+    let (mut kept, mut function) = (Vec::new(), "");
+    while let [first, rest @ ..] = t {
+        let body = |t: &[&str]| through(t, "{") - 1 + group(&t[through(t, "{") - 1..]);
+        let line = lines.iter().find(|line| t.starts_with(line));
+        let len = match t {
+            ["use", ..] | ["pub", "use", ..] | ["ghost", "use", ..] => through(t, ";"),
+            ["requires" | "ensures", ..] => body(t),
+            ["ghost", ..] | ["pub", "ghost", ..] => {
+                let mut len = 2 + through(t, "ghost") - 1;
+                while matches!(t[len..], [":" | "=", "{", ..]) {
+                    len += 1 + group(&t[len + 1..]);
+                }
+                len + usize::from(matches!(t[len], "," | ";"))
+            }
+            ["#", "!", "[", "tactic", ..] => 2 + group(&t[2..]),
+            ["#", "[", "tactic" | "error", ..] => 1 + group(&t[1..]),
+            // The identity function, and calls of it.
+            ["each_is_byte", "(", "slice", ":", ..] => {
+                kept.truncate(kept.len() - 10);
+                1 + t.windows(2).position(|t| t == ["slice", "}"]).unwrap() + 1
+            }
+            ["each_is_byte", "(", ..] => {
+                kept.extend(&t[2..group(rest)]);
+                1 + group(rest)
+            }
+            // The result of `clone`.
+            ["Result", "<", ..] if function == "clone" => 2,
+            [",", "AllocError", ">", "{", "Ok", "(", ..] if function == "clone" => {
+                kept.push("{");
+                kept.extend(&t[6..4 + group(&t[5..])]);
+                5 + group(&t[5..])
+            }
+            // The impls of an error.
+            ["impl", "core", _, _, "error", ..] => body(t) + body(&t[body(t)..]),
+            // A slice that an export takes.
+            [name, ":", "*", kind, item, ",", len, ":", "usize", ..] => {
+                assert_eq!(*len, format!("{name}_len"));
+                kept.extend([name, ":", "&"]);
+                kept.extend((*kind == "mut").then_some(*kind));
+                kept.extend(["[", item, "]"]);
+                9
+            }
+            ["let", name, "=", "unsafe", "{", "crate", rest @ ..] => {
+                assert_eq!(rest[3..9].concat(), format!("({name},{name}_len)}}"));
+                16
+            }
+            _ => line.map_or(0, Vec::len),
+        };
+        function = if *first == "fn" { rest[0] } else { function };
+        kept.extend((len == 0).then_some(*first));
+        t = &t[len.max(1)..];
+    }
+    kept
+}
+
+/// The tokens without commas at the end of a list.
+fn without_last_commas(t: &[&str]) -> String {
+    let mut text = t.join(" ");
+    for end in [")", "]", "}", ">"] {
+        text = text.replace(&format!(" , {end}"), &format!(" {end}"));
+    }
+    text + " "
+}
+
+#[test]
+fn generated_files_are_their_sources() {
+    let mut counts = [0; CHANGES.len()];
+    for path in repository::files("", ".rs") {
+        let rust = repository::text(&path);
+        let source = rust.strip_prefix("// @generated from ").unwrap_or("");
+        let Some((source, _)) = source.split_once(".rt ") else {
+            continue;
+        };
+        let mut made = without_last_commas(&kept(&tokens(&rust)));
+        for ((into, from), count) in CHANGES.iter().zip(&mut counts) {
+            for name in LIBRARY.map(|(name, _)| name) {
+                let put = |t: &str| format!(" {} ", tokens(&t.replace("CRATE", name)).join(" "));
+                *count += made.matches(&put(into)).count();
+                made = made.replace(&put(into), &put(from));
+            }
+        }
+        let text = repository::text(&format!("{source}.rt"));
+        assert_eq!(made, without_last_commas(&kept(&tokens(&text))), "{path}");
+    }
+    assert!(counts.iter().all(|count| *count > 0), "{counts:?}");
+}
