@@ -1,11 +1,10 @@
 // @generated from crates/font_arithmetic/src/lib.rt by tools/src/bin/erase.rs
 
-//! The arithmetic of fixed-point numbers, once for all types: definitions and lemmas over every
-//! width and fraction, the reading of decimal texts as bits, and products and quotients of 32 bits.
+//! Fixed-point arithmetic, once for all types, over every width and number of fraction bits: parsing
+//! to raw bits, and 32-bit products and quotients.
 //!
-//! A fixed-point number has `w` bits, the last `f` of which are its fraction: its bits `b`, a whole
-//! number from `-2^(w-1)` to `2^(w-1) - 1`, stand for `b / 2^f`. Each type of numbers cites these
-//! words in its contracts.
+//! A fixed-point number with `w` bits and `f` fraction bits is a raw value `b` from `-2^(w-1)` to
+//! `2^(w-1) - 1`, and means `b / 2^f`. The contracts of all types use these definitions.
 
 mod products;
 mod reading;

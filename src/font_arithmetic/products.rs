@@ -1,9 +1,9 @@
 // @generated from crates/font_arithmetic/src/products.rt by tools/src/bin/erase.rs
 
-//! Products and quotients of fixed-point numbers of 32 bits, over their bits.
+//! Products and quotients of 32-bit fixed-point numbers, over their raw bits.
 
-/// The product of two numbers with `f` bits of fraction, rounded to the nearest step, ties away
-/// from zero, and wrapped.
+/// Multiplies two numbers with `f` fraction bits, rounding half away from zero and wrapping on
+/// overflow.
 ///
 /// <details><summary>Contract</summary>
 ///
@@ -23,10 +23,9 @@ pub fn product(x: i32, y: i32, f: u32) -> i32 {
     low_bits(rounded_shift(i64::from(x) * i64::from(y), f))
 }
 
-/// `x * a / c`, rounded once to the nearest whole number, ties away from zero, and wrapped.
+/// Returns `x * a / c`, rounded once, half away from zero, wrapping on overflow.
 ///
-/// Where `c` is zero it is the greatest number of 32 bits, negated where just one of `x` and `a` is
-/// negative.
+/// If `c` is zero, the result is `i32::MAX`, negated if exactly one of `x` and `a` is negative.
 ///
 /// <details><summary>Contract</summary>
 ///
@@ -47,7 +46,7 @@ pub const fn mul_div(x: i32, a: i32, c: i32) -> i32 {
     with_sign(negative, rounded_quotient(product, magnitude(c)))
 }
 
-/// The last 32 bits of a number, as a signed one.
+/// Truncates to the low 32 bits.
 ///
 /// <details><summary>Contract</summary>
 ///
@@ -66,21 +65,20 @@ pub const fn low_bits(n: i64) -> i32 {
     (n.rem_euclid(1 << 32) as u32).cast_signed()
 }
 
-// `n / 2^f` rounded to the nearest whole number, ties away from zero.
+// Returns `n / 2^f`, rounded half away from zero.
 #[inline]
 fn rounded_shift(n: i64, f: u32) -> i64 {
     let half = 1 << (f - 1);
     (n + half - i64::from(n < 0)) >> f
 }
 
-// `n / d` rounded to the nearest whole number, ties away from zero; where `d` is zero, the greatest
-// of 32 bits.
+// Returns `n / d`, rounded half away from zero, or `i32::MAX` if `d` is zero.
 #[inline]
 const fn rounded_quotient(n: u64, d: u64) -> u64 {
     if d == 0 { 0x7FFF_FFFF } else { (n + d / 2) / d }
 }
 
-// The number with this magnitude, negated where asked, and wrapped.
+// Applies a sign to a magnitude, wrapping on overflow.
 #[inline]
 const fn with_sign(negative: bool, magnitude: u64) -> i32 {
     let number = ((magnitude % (1 << 32)) as u32).cast_signed();
@@ -96,7 +94,7 @@ const fn differs_in_sign(x: i32, y: i32) -> bool {
     x.is_negative() != y.is_negative()
 }
 
-// The number without its sign.
+// Returns the absolute value.
 #[inline]
 const fn magnitude(x: i32) -> u64 {
     x.unsigned_abs() as u64

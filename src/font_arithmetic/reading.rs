@@ -1,11 +1,11 @@
 // @generated from crates/font_arithmetic/src/reading.rt by tools/src/bin/erase.rs
 
-//! Decimals read as the bits of fixed-point numbers.
+//! Parsing decimals to the raw bits of fixed-point numbers.
 
 use crate::font_decimal::{DecimalFault, read_decimal_bytes};
 
-/// The bits of the number nearest to the decimal that bytes write, ties away from zero, of 16 bits,
-/// `f` of which are its fraction.
+/// Parses a decimal as the nearest 16-bit raw value with `f` fraction bits, rounding half away from
+/// zero.
 ///
 /// <details><summary>Contract</summary>
 ///
@@ -25,8 +25,8 @@ pub fn read_bits_16(text: &[u8], f: u32) -> Result<i16, DecimalFault> {
     Ok(bits as i16)
 }
 
-/// The bits of the number nearest to the decimal that bytes write, ties away from zero, of 32 bits,
-/// `f` of which are its fraction.
+/// Parses a decimal as the nearest 32-bit raw value with `f` fraction bits, rounding half away from
+/// zero.
 ///
 /// <details><summary>Contract</summary>
 ///
@@ -46,8 +46,8 @@ pub fn read_bits_32(text: &[u8], f: u32) -> Result<i32, DecimalFault> {
     Ok(bits as i32)
 }
 
-/// The bits of the number nearest to the decimal that bytes write, ties away from zero, of 64 bits,
-/// `f` of which are its fraction.
+/// Parses a decimal as the nearest 64-bit raw value with `f` fraction bits, rounding half away from
+/// zero.
 ///
 /// <details><summary>Contract</summary>
 ///

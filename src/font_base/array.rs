@@ -1,16 +1,16 @@
 // @generated from crates/font_base/src/array.rt by tools/src/bin/erase.rs
 
-//! Arrays of scalars over the bytes of a table.
+//! Borrowed arrays of big-endian scalars.
 
 use crate::font_base::raw::Scalar;
 use core::cmp::Ordering;
 use core::iter::FusedIterator;
 use core::marker::PhantomData;
 
-/// An array of scalars over its bytes, one element behind the other.
+/// A borrowed, big-endian array of scalars.
 ///
-/// The length is checked once, where the view is made; an element is decoded where it is asked for.
-/// A record of one's own that is a [`Scalar`] can be an element too.
+/// The length is checked once, by `new`; elements are decoded on access. A record type that
+/// implements [`Scalar`] can be an element too.
 ///
 /// ```
 /// use font_types_proved::ScalarArray;
@@ -26,9 +26,10 @@ pub struct ScalarArray<'a, T: Scalar> {
 }
 
 impl<'a, T: Scalar> ScalarArray<'a, T> {
-    /// The array in these bytes, or `None` where their number is no multiple of `RAW_BYTE_LEN`.
+    /// Creates an array over `data`, or returns `None` if its length is not a multiple of
+    /// `RAW_BYTE_LEN`.
     ///
-    /// Where `RAW_BYTE_LEN` is 0, only the empty bytes are an array, and it is empty.
+    /// If `RAW_BYTE_LEN` is 0, only empty data is an array, and it is empty.
     ///
     /// <details><summary>Contract</summary>
     ///
@@ -58,7 +59,7 @@ impl<'a, T: Scalar> ScalarArray<'a, T> {
         })
     }
 
-    /// How many elements there are.
+    /// Returns the number of elements.
     ///
     /// <details><summary>Contract</summary>
     ///
@@ -78,7 +79,7 @@ impl<'a, T: Scalar> ScalarArray<'a, T> {
         self.data.len().checked_div(T::RAW_BYTE_LEN).unwrap_or(0)
     }
 
-    /// Whether there is no element.
+    /// Returns `true` if the array has no elements.
     ///
     /// <details><summary>Contract</summary>
     ///
@@ -96,7 +97,7 @@ impl<'a, T: Scalar> ScalarArray<'a, T> {
         self.len() == 0
     }
 
-    /// All the bytes.
+    /// Returns the underlying bytes.
     ///
     /// <details><summary>Contract</summary>
     ///
@@ -114,7 +115,7 @@ impl<'a, T: Scalar> ScalarArray<'a, T> {
         self.data
     }
 
-    /// The element of that index, the first has 0, or `None` behind the end.
+    /// Returns the element at `index`, or `None` if out of bounds.
     ///
     /// <details><summary>Contract</summary>
     ///
@@ -143,7 +144,7 @@ impl<'a, T: Scalar> ScalarArray<'a, T> {
         T::read(&self.data[start..start + T::RAW_BYTE_LEN])
     }
 
-    /// The elements, first to last, and from the back.
+    /// Returns an iterator over the elements, from either end.
     ///
     /// <details><summary>Contract</summary>
     ///
@@ -175,12 +176,12 @@ impl<'a, T: Scalar> Clone for ScalarArray<'a, T> {
 impl<'a, T: Scalar> Copy for ScalarArray<'a, T> {}
 
 impl<'a, T: Scalar> ScalarArray<'a, T> {
-    /// Where an element of that key stands, in an array that is sorted by it; where there are
-    /// several, any of them.
+    /// Searches an array that is sorted by a key, and returns the index of an element with that
+    /// key. If there are several, any of them may be returned.
     ///
     /// # Errors
     ///
-    /// The index at which one could be put in, where there is none.
+    /// If there is none, returns the index at which it could be inserted.
     ///
     /// <details><summary>Contract</summary>
     ///
@@ -216,12 +217,12 @@ impl<'a, T: Scalar> ScalarArray<'a, T> {
         Err(low)
     }
 
-    /// Where an element equal to the key stands, in an array that is sorted; where there are
-    /// several, any of them.
+    /// Searches a sorted array, and returns the index of an element equal to `key`. If there are
+    /// several, any of them may be returned.
     ///
     /// # Errors
     ///
-    /// The index at which the key could be put in, where there is none.
+    /// If there is none, returns the index at which it could be inserted.
     ///
     /// <details><summary>Contract</summary>
     ///
@@ -242,7 +243,7 @@ impl<'a, T: Scalar> ScalarArray<'a, T> {
     }
 }
 
-/// Goes over the elements of an array, first to last or from the back.
+/// An iterator over the elements of a [`ScalarArray`].
 pub struct ScalarArrayIter<'a, T: Scalar> {
     rest: ScalarArray<'a, T>,
 }

@@ -1,6 +1,6 @@
 // @generated from crates/font_base/src/big_endian.rt by tools/src/bin/erase.rs
 
-//! Fields laid over big-endian bytes.
+//! Big-endian fields.
 
 use crate::font_base::raw::{BeByteArray, FixedSize, IdentityEq, Scalar};
 use core::cmp::Ordering;
@@ -8,11 +8,10 @@ use core::fmt;
 use core::hash::{Hash, Hasher};
 use core::marker::PhantomData;
 
-/// A scalar as it stands in a font file: its raw bytes, highest first.
+/// A scalar as stored in a font file: its raw big-endian bytes.
 ///
-/// Fields are equal where their bytes are, and ordered as their values are.
-/// The second parameter is the array of bytes, and is never written:
-/// `BigEndian<u16>` holds `[u8; 2]`.
+/// Two fields are equal if their bytes are, and are ordered by their values. The second parameter
+/// is the byte array and is always left out: `BigEndian<u16>` holds a `[u8; 2]`.
 ///
 /// ```
 /// use font_types_proved::{BigEndian, FWord};
@@ -25,7 +24,7 @@ pub struct BigEndian<T: Scalar, R: BeByteArray = <T as Scalar>::Raw> {
 }
 
 impl<T: Scalar> BigEndian<T> {
-    /// The field with these bytes.
+    /// Creates a field from its raw bytes.
     ///
     /// <details><summary>Contract</summary>
     ///
@@ -46,7 +45,7 @@ impl<T: Scalar> BigEndian<T> {
         }
     }
 
-    /// The field over these bytes, or `None` where there are not exactly `RAW_BYTE_LEN` of them.
+    /// Creates a field from a slice, or returns `None` unless its length is `RAW_BYTE_LEN`.
     ///
     /// <details><summary>Contract</summary>
     ///
@@ -69,7 +68,7 @@ impl<T: Scalar> BigEndian<T> {
         })
     }
 
-    /// The value that the bytes stand for.
+    /// Decodes the value.
     ///
     /// <details><summary>Contract</summary>
     ///
@@ -88,7 +87,7 @@ impl<T: Scalar> BigEndian<T> {
         T::from_raw(self.raw)
     }
 
-    /// Writes the bytes of a value.
+    /// Overwrites the field with the bytes of `value`.
     ///
     /// <details><summary>Contract</summary>
     ///
@@ -106,7 +105,7 @@ impl<T: Scalar> BigEndian<T> {
         self.raw = value.to_raw();
     }
 
-    /// The bytes, highest first.
+    /// Returns the raw big-endian bytes.
     ///
     /// <details><summary>Contract</summary>
     ///
@@ -124,7 +123,7 @@ impl<T: Scalar> BigEndian<T> {
         self.raw.as_slice()
     }
 
-    /// Whether the value is equal to another.
+    /// Returns `true` if the decoded value equals `other`.
     ///
     /// <details><summary>Contract</summary>
     ///

@@ -1,12 +1,12 @@
 // @generated from crates/font_base/src/int24.rt by tools/src/bin/erase.rs
 
-//! The signed integer of 24 bits.
+//! 24-bit signed integers.
 
 use crate::font_base::raw::{FixedSize, IdentityEq, Scalar};
 use crate::font_base::uint24::Uint24;
 use core::fmt;
 
-/// A signed integer of 24 bits, from -8388608 to 8388607.
+/// A 24-bit signed integer.
 ///
 /// ```
 /// use font_types_proved::Int24;
@@ -19,13 +19,13 @@ pub struct Int24 {
 }
 
 impl Int24 {
-    /// The least value, -8388608.
+    /// The smallest value, -8388608.
     pub const MIN: Self = Int24 { value: -0x80_0000 };
 
-    /// The greatest value, 8388607.
+    /// The largest value, 8388607.
     pub const MAX: Self = Int24 { value: 0x7F_FFFF };
 
-    /// The number, or the nearest value where the number is out of range.
+    /// Converts an `i32`, saturating at `MIN` and `MAX`.
     ///
     /// <details><summary>Contract</summary>
     ///
@@ -52,7 +52,7 @@ impl Int24 {
         }
     }
 
-    /// The number, or `None` where it is out of range.
+    /// Converts an `i32`, or returns `None` if it is out of range.
     ///
     /// <details><summary>Contract</summary>
     ///
@@ -78,7 +78,7 @@ impl Int24 {
         }
     }
 
-    /// The number.
+    /// Returns the value as an `i32`.
     ///
     /// <details><summary>Contract</summary>
     ///
@@ -97,7 +97,7 @@ impl Int24 {
         self.value
     }
 
-    /// The three bytes in two's complement, highest first.
+    /// Returns the big-endian bytes, in two's complement.
     ///
     /// <details><summary>Contract</summary>
     ///
@@ -118,7 +118,7 @@ impl Int24 {
         [high, middle, low]
     }
 
-    /// The number of three bytes in two's complement, highest first.
+    /// Creates a value from big-endian bytes in two's complement.
     ///
     /// <details><summary>Contract</summary>
     ///

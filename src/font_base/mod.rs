@@ -1,6 +1,6 @@
 // @generated from crates/font_base/src/lib.rt by tools/src/bin/erase.rs
 
-//! The raw bytes of OpenType's scalar types, and the integers of 24 bits.
+//! Big-endian scalars, arrays and table headers, and 24-bit integers.
 //!
 //! ```text
 //! u16::read(&[0x01, 0x00])                              // Some(256)

@@ -1,13 +1,13 @@
 // @generated from crates/font_base/src/raw.rt by tools/src/bin/erase.rs
 
-//! Scalars, and the big-endian bytes that they are stored as.
+//! Scalars and their big-endian bytes.
 
-/// An array of a fixed number of bytes, highest first.
+/// A fixed-size big-endian byte array.
 pub trait BeByteArray: Copy {
-    /// How many bytes the array has.
+    /// The number of bytes.
     const LEN: usize;
 
-    /// The array with the slice's bytes, or `None` where the slice has another length than `LEN`.
+    /// Copies a slice, or returns `None` unless its length is `LEN`.
     ///
     /// <details><summary>Contract</summary>
     ///
@@ -23,7 +23,7 @@ pub trait BeByteArray: Copy {
     #[must_use]
     fn from_slice(slice: &[u8]) -> Option<Self>;
 
-    /// The bytes as a slice.
+    /// Returns the bytes as a slice.
     ///
     /// <details><summary>Contract</summary>
     ///
@@ -39,7 +39,7 @@ pub trait BeByteArray: Copy {
     #[must_use]
     fn as_slice(&self) -> &[u8];
 
-    /// Whether both arrays have the same bytes.
+    /// Returns `true` if both arrays have the same bytes.
     ///
     /// <details><summary>Contract</summary>
     ///
@@ -73,21 +73,20 @@ impl<const N: usize> BeByteArray for [u8; N] {
     }
 }
 
-/// A type whose stored size is known.
+/// A type with a fixed encoded size.
 ///
 /// ```
 /// use font_types_proved::{FixedSize, Offset24};
 /// assert_eq!(Offset24::RAW_BYTE_LEN, 3);
 /// ```
 pub trait FixedSize: Sized {
-    /// How many bytes a value takes in a font file.
+    /// The encoded size, in bytes.
     const RAW_BYTE_LEN: usize;
 }
 
-/// A value that is stored as a fixed number of big-endian bytes.
+/// A type that is encoded as a fixed number of big-endian bytes.
 ///
-/// An `impl` says which bytes a value has. A value and its bytes determine each other: fields,
-/// headers and their laws ask nothing more of a type.
+/// A value and its raw bytes determine each other.
 ///
 /// ```
 /// use font_types_proved::Scalar;
@@ -95,10 +94,10 @@ pub trait FixedSize: Sized {
 /// assert_eq!(u16::read(&[0x01]), None);
 /// ```
 pub trait Scalar: FixedSize {
-    /// The array of bytes.
+    /// The raw bytes.
     type Raw: BeByteArray;
 
-    /// The value that the bytes stand for.
+    /// Decodes a value from its raw bytes.
     ///
     /// <details><summary>Contract</summary>
     ///
@@ -112,7 +111,7 @@ pub trait Scalar: FixedSize {
     #[must_use]
     fn from_raw(raw: Self::Raw) -> Self;
 
-    /// The bytes of the value.
+    /// Encodes the value as raw bytes.
     ///
     /// <details><summary>Contract</summary>
     ///
@@ -127,7 +126,7 @@ pub trait Scalar: FixedSize {
     #[must_use]
     fn to_raw(self) -> Self::Raw;
 
-    /// Reads a value from a slice of exactly `RAW_BYTE_LEN` bytes, `None` at any other length.
+    /// Reads a value from a slice, or returns `None` unless its length is `RAW_BYTE_LEN`.
     ///
     /// <details><summary>Contract</summary>
     ///
@@ -151,7 +150,7 @@ pub trait Scalar: FixedSize {
     }
 }
 
-/// A scalar whose `==` joins no two values: `a == b` is true exactly where they are the same.
+/// A scalar whose `==` is identity: `a == b` if and only if they are the same value.
 pub trait IdentityEq: Eq {}
 
 impl FixedSize for u8 {

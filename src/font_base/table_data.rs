@@ -1,16 +1,16 @@
 // @generated from crates/font_base/src/table_data.rt by tools/src/bin/erase.rs
 
-//! Table data with a header of a fixed size at its start.
+//! Table data with a fixed-size header.
 
 use crate::font_base::big_endian::BigEndian;
 use core::marker::PhantomData;
 
-/// A header of a fixed size, as it stands at the start of a table.
+/// A fixed-size header at the start of a table.
 pub trait TableHeader: Sized {
-    /// How many bytes the header takes.
+    /// The size of the header, in bytes.
     const BYTE_LEN: usize;
 
-    /// The header that stands in exactly `BYTE_LEN` bytes. With others it may panic.
+    /// Decodes a header from exactly `BYTE_LEN` bytes. May panic at any other length.
     ///
     /// <details><summary>Contract</summary>
     ///
@@ -26,9 +26,9 @@ pub trait TableHeader: Sized {
     fn decode(bytes: &[u8]) -> Self;
 }
 
-/// The bytes of a table whose start holds a header of type `H`.
+/// The bytes of a table that starts with a header of type `H`.
 ///
-/// The length is checked once, where the reference is made.
+/// The length is checked once, by `new`.
 ///
 /// ```
 /// use font_types_proved::{SampleHeader, TableDataRef};
@@ -41,7 +41,7 @@ pub struct TableDataRef<'a, H: TableHeader> {
 }
 
 impl<'a, H: TableHeader> TableDataRef<'a, H> {
-    /// The table in these bytes, or `None` where they are too short for its header.
+    /// Creates a table over `data`, or returns `None` if it is too short for the header.
     ///
     /// <details><summary>Contract</summary>
     ///
@@ -66,7 +66,7 @@ impl<'a, H: TableHeader> TableDataRef<'a, H> {
         })
     }
 
-    /// The header, decoded from the first `BYTE_LEN` bytes.
+    /// Decodes the header from the first `BYTE_LEN` bytes.
     ///
     /// <details><summary>Contract</summary>
     ///
@@ -84,7 +84,7 @@ impl<'a, H: TableHeader> TableDataRef<'a, H> {
         H::decode(&self.data[..H::BYTE_LEN])
     }
 
-    /// All the bytes, the header's among them.
+    /// Returns all the bytes, including the header.
     ///
     /// <details><summary>Contract</summary>
     ///
@@ -102,7 +102,7 @@ impl<'a, H: TableHeader> TableDataRef<'a, H> {
         self.data
     }
 
-    /// The bytes behind the header.
+    /// Returns the bytes after the header.
     ///
     /// <details><summary>Contract</summary>
     ///
@@ -120,7 +120,7 @@ impl<'a, H: TableHeader> TableDataRef<'a, H> {
         &self.data[H::BYTE_LEN..]
     }
 
-    /// The header, and the bytes behind it.
+    /// Returns the header and the bytes after it.
     ///
     /// <details><summary>Contract</summary>
     ///
@@ -151,11 +151,11 @@ impl<'a, H: TableHeader> Clone for TableDataRef<'a, H> {
 
 impl<'a, H: TableHeader> Copy for TableDataRef<'a, H> {}
 
-/// A header of two fields.
+/// An example of a header, with two fields.
 pub struct SampleHeader {
-    /// The first two bytes.
+    /// Bytes 0 and 1.
     pub a: BigEndian<u16>,
-    /// The four bytes behind them.
+    /// Bytes 2 to 5.
     pub b: BigEndian<u32>,
 }
 

@@ -1,11 +1,11 @@
 // @generated from crates/font_base/src/uint24.rt by tools/src/bin/erase.rs
 
-//! The unsigned integer of 24 bits.
+//! 24-bit unsigned integers.
 
 use crate::font_base::raw::{FixedSize, IdentityEq, Scalar};
 use core::fmt;
 
-/// An unsigned integer of 24 bits, from 0 to 16777215.
+/// A 24-bit unsigned integer.
 ///
 /// ```
 /// use font_types_proved::Uint24;
@@ -18,13 +18,13 @@ pub struct Uint24 {
 }
 
 impl Uint24 {
-    /// The least value, 0.
+    /// The smallest value, 0.
     pub const MIN: Self = Uint24 { value: 0 };
 
-    /// The greatest value, 16777215.
+    /// The largest value, 16777215.
     pub const MAX: Self = Uint24 { value: 0xFF_FFFF };
 
-    /// The number, or the greatest value where the number is above it.
+    /// Converts a `u32`, saturating at `MAX`.
     ///
     /// <details><summary>Contract</summary>
     ///
@@ -48,7 +48,7 @@ impl Uint24 {
         }
     }
 
-    /// The number, or `None` where it is above the greatest value.
+    /// Converts a `u32`, or returns `None` if it exceeds `MAX`.
     ///
     /// <details><summary>Contract</summary>
     ///
@@ -73,7 +73,7 @@ impl Uint24 {
         }
     }
 
-    /// The number.
+    /// Returns the value as a `u32`.
     ///
     /// <details><summary>Contract</summary>
     ///
@@ -92,7 +92,7 @@ impl Uint24 {
         self.value
     }
 
-    /// The three bytes, highest first.
+    /// Returns the big-endian bytes.
     ///
     /// <details><summary>Contract</summary>
     ///
@@ -113,7 +113,7 @@ impl Uint24 {
         [high, middle, low]
     }
 
-    /// The number of three bytes, highest first.
+    /// Creates a value from big-endian bytes.
     ///
     /// <details><summary>Contract</summary>
     ///
@@ -204,7 +204,7 @@ impl From<Uint24> for usize {
     }
 }
 
-/// A number that is above [`Uint24::MAX`].
+/// The error of a conversion from a `usize` that exceeds [`Uint24::MAX`].
 #[derive(Debug)]
 pub struct TryFromUint24Error;
 impl core::error::Error for TryFromUint24Error {}

@@ -1,8 +1,8 @@
 // @generated from crates/font_decimal/src/grammar.rt by tools/src/bin/erase.rs
 
-//! The parts of a decimal text.
+//! The parts of a decimal.
 
-// A sign and what follows it.
+// Splits off a leading `-`.
 #[must_use]
 #[inline]
 pub fn split_sign(text: &[u8]) -> (bool, &[u8]) {
@@ -12,7 +12,7 @@ pub fn split_sign(text: &[u8]) -> (bool, &[u8]) {
     }
 }
 
-// What follows the whole digits, without its point: nothing, or one byte or more behind a point.
+// Returns the fraction, without its point: empty, or one byte or more after a point.
 #[must_use]
 #[inline]
 pub fn behind_point(text: &[u8]) -> Option<&[u8]> {
@@ -23,7 +23,7 @@ pub fn behind_point(text: &[u8]) -> Option<&[u8]> {
     }
 }
 
-// It looks at every byte, so that many at a time are judged.
+// No early exit, so that it vectorizes.
 #[must_use]
 #[inline]
 pub fn are_digits(text: &[u8]) -> bool {

@@ -1,11 +1,10 @@
 // @generated from crates/font_decimal/src/laws.rt by tools/src/bin/erase.rs
 
-//! Functions whose contracts are laws of reading.
+//! A law of parsing, as the contract of a function.
 
 use crate::font_decimal::{DecimalFault, read_decimal};
 
-/// Reads both texts. Where both are accepted, the one of greater decimal value never gives the
-/// lesser number.
+/// Parses both texts. If both are accepted, the greater decimal never gives the smaller value.
 ///
 /// <details><summary>Contract</summary>
 ///

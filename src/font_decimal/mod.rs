@@ -1,8 +1,8 @@
 // @generated from crates/font_decimal/src/lib.rt by tools/src/bin/erase.rs
 
-//! Decimal texts of fixed-point numbers: reading them, writing the shortest one, and padding.
+//! Decimals of fixed-point numbers: parsing, shortest printing, padding.
 //!
-//! A fixed-point number with `f` bits of fraction stands for its bits over `2^f`. Nothing here
+//! A fixed-point number with `f` fraction bits is its raw value times `2^-f`. Nothing here
 //! allocates.
 //!
 //! ```text

@@ -1,19 +1,19 @@
 // @generated from crates/font_decimal/src/padding.rt by tools/src/bin/erase.rs
 
-//! A decimal text in a field of some width.
+//! Padding a decimal to a width.
 
-/// Where a text stands in a field that is wider.
+/// The alignment of text that is shorter than the width.
 #[derive(Clone, Copy)]
 pub enum Align {
-    /// At the front, with all fill behind.
+    /// Left-aligned, with the fill on the right.
     Left,
-    /// In the middle. Of an odd number of fill bytes the greater half stands behind.
+    /// Centered; an odd fill byte goes on the right.
     Center,
-    /// At the back, with all fill in front.
+    /// Right-aligned, with the fill on the left.
     Right,
 }
 
-/// How a text is padded.
+/// How to pad a decimal.
 ///
 /// ```
 /// use font_types_proved::{Align, Fixed, Pad};
@@ -26,22 +26,22 @@ pub enum Align {
 /// ```
 #[derive(Clone, Copy)]
 pub struct Pad {
-    /// The least number of bytes; 0 asks for none.
+    /// The minimum width in bytes; 0 means none.
     pub width: usize,
-    /// The byte that fills, below 0x80.
+    /// The fill byte, below 0x80.
     pub fill: u8,
-    /// Where the text stands.
+    /// The alignment.
     pub align: Align,
-    /// Whether a text with no `-` gets a `+`.
+    /// Writes a `+` unless the text starts with `-`.
     pub plus: bool,
-    /// Whether zeros between the sign and the digits stand in place of the fill.
+    /// Pads with zeros after the sign, ignoring `fill` and `align`.
     pub zeros: bool,
 }
 
 impl Pad {
-    /// At least so many bytes, with spaces in front.
+    /// Creates a padding of at least `width` bytes, right-aligned, filled with spaces.
     ///
-    /// The other fields are public: `Pad { plus: true, ..Pad::new(8) }` shows a plus sign too.
+    /// The fields are public: `Pad { plus: true, ..Pad::new(8) }` also writes a plus sign.
     ///
     /// <details><summary>Contract</summary>
     ///
@@ -71,10 +71,10 @@ impl Pad {
     }
 }
 
-/// Writes a decimal text to the front of `out`, padded, and returns the number of bytes.
+/// Writes a padded decimal to the start of `out` and returns its length, or returns `None` and
+/// leaves `out` unchanged if it is too short.
 ///
-/// `None` where `out` is too short, which then stays as it was. The caller gives a text that
-/// `read_decimal` accepts but for its range, and a fill below 0x80.
+/// The text must be a decimal, in range or not, and `pad.fill` must be below 0x80.
 ///
 /// <details><summary>Contract</summary>
 ///
@@ -112,7 +112,7 @@ pub fn write_padded(text: &str, out: &mut [u8], pad: &Pad) -> Option<usize> {
     Some(put_fill(out, at, pad.fill, back))
 }
 
-// The sign that is shown, and the text without its own.
+// Returns the sign to write, and the text without its own sign.
 #[inline]
 fn shown_parts(text: &str, plus: bool) -> (&'static str, &str) {
     match text.strip_prefix('-') {
@@ -122,7 +122,7 @@ fn shown_parts(text: &str, plus: bool) -> (&'static str, &str) {
     }
 }
 
-// How many of the spare bytes are fill in front, zeros behind the sign, and fill behind.
+// Splits the padding into fill on the left, zeros after the sign, and fill on the right.
 #[inline]
 fn spread(spare: usize, pad: &Pad) -> (usize, usize, usize) {
     if pad.zeros {
@@ -136,7 +136,7 @@ fn spread(spare: usize, pad: &Pad) -> (usize, usize, usize) {
     (front, 0, spare - front)
 }
 
-// Writes bytes behind the first `at`, and returns where they end.
+// Writes bytes at index `at`, and returns the index after them.
 #[inline]
 fn put(out: &mut [u8], at: usize, bytes: &[u8]) -> usize {
     let end = at + bytes.len();
@@ -144,7 +144,7 @@ fn put(out: &mut [u8], at: usize, bytes: &[u8]) -> usize {
     end
 }
 
-// The same with one byte, a number of times.
+// Writes a byte `count` times at index `at`, and returns the index after them.
 #[inline]
 fn put_fill(out: &mut [u8], at: usize, byte: u8, count: usize) -> usize {
     let end = at + count;

@@ -1,10 +1,10 @@
 // @generated from crates/font_decimal/src/reader.rt by tools/src/bin/erase.rs
 
-//! Reading a decimal text as the nearest fixed-point number.
+//! Parsing a decimal as the nearest fixed-point number.
 
 use crate::font_decimal::grammar::{are_digits, behind_point, split_sign};
 
-/// Why a text is not read.
+/// Why a text was not parsed.
 ///
 /// ```
 /// use font_types_proved::{DecimalFault, Fixed};
@@ -13,9 +13,9 @@ use crate::font_decimal::grammar::{are_digits, behind_point, split_sign};
 /// ```
 #[derive(Clone, PartialEq, Eq, Debug)]
 pub enum DecimalFault {
-    /// The text is not in the grammar of decimal texts.
+    /// The text is not a decimal.
     Syntax = 1,
-    /// The nearest number is below the least or above the greatest that is asked for.
+    /// The nearest value is out of range.
     OutOfRange = 2,
 }
 impl core::error::Error for DecimalFault {}
@@ -29,17 +29,15 @@ impl core::fmt::Display for DecimalFault {
     }
 }
 
-/// Reads a decimal text as the nearest multiple of `1 / 2^f`, ties away from zero, and gives that
-/// multiple's number of steps of `1 / 2^f`.
+/// Parses a decimal as the nearest raw value with `f` fraction bits, rounding half away from zero.
 ///
-/// A text is an optional `-`, one or more digits, and optionally a point followed by one or more
-/// digits. It may have any length. The caller gives 6 to 30 bits of fraction, and a range that holds
-/// zero.
+/// A decimal is an optional `-`, one or more digits, and optionally a point followed by one or more
+/// digits, of any length. `f` must be from 6 to 30, and `min..=max` must contain 0.
 ///
 /// # Errors
 ///
-/// Another text is refused as `Syntax`. The rounding comes first; a result below `min` or above
-/// `max` is refused as `OutOfRange`.
+/// Returns `Syntax` if the text is not a decimal, and `OutOfRange` if the rounded value is less
+/// than `min` or greater than `max`.
 ///
 /// # Examples
 ///
@@ -73,11 +71,11 @@ pub fn read_decimal(text: &str, f: u32, min: i64, max: i64) -> Result<i64, Decim
     read_decimal_bytes(text.as_bytes(), f, min, max)
 }
 
-/// The same of bytes, which need not be a text.
+/// Parses a decimal from bytes, as `read_decimal` does.
 ///
 /// # Errors
 ///
-/// Those of `read_decimal`; bytes that are no text are `Syntax`.
+/// Those of `read_decimal`; bytes that are not UTF-8 are `Syntax`.
 ///
 /// <details><summary>Contract</summary>
 ///
@@ -101,11 +99,11 @@ pub fn read_decimal_bytes(text: &[u8], f: u32, min: i64, max: i64) -> Result<i64
     in_range(negative, steps, min, max).ok_or(DecimalFault::OutOfRange)
 }
 
-// The number of steps of `1 / 2^f` nearest to a decimal with no sign, or where that is above 2^63,
-// some number above 2^63.
+// Returns the raw value nearest to a decimal without a sign, or, if that exceeds 2^63, some number
+// that does.
 #[inline(always)]
 fn nearest_steps(digits: &[u8], f: u32) -> Option<u64> {
-    // One whole more than 2^63 steps is out of every range.
+    // An integer part that exceeds 2^63 raw units is out of every range.
     let (whole, len) = whole_digits(digits, (1 << (63 - f)) + 1);
     if len == 0 {
         return None;
@@ -114,8 +112,8 @@ fn nearest_steps(digits: &[u8], f: u32) -> Option<u64> {
     Some((whole << f) + (half_steps + 1) / 2)
 }
 
-// The number that the digits in front write, or `too_large` where it is greater, and how many
-// digits they are.
+// Returns the value of the leading digits, or `too_large` if it is greater, and how many digits
+// there are.
 #[inline(always)]
 fn whole_digits(text: &[u8], too_large: u64) -> (u64, usize) {
     let mut whole = 0u64;
@@ -129,9 +127,9 @@ fn whole_digits(text: &[u8], too_large: u64) -> (u64, usize) {
     (whole, text.len())
 }
 
-// The number of whole half steps of `1 / 2^f` in a fraction. A half step has `f + 1` places, so
-// that later digits do not count; and where there are fewer digits, the fives of the missing zeros
-// are left out.
+// Returns a fraction in half units of `1 / 2^f`, rounded down. A half unit has `f + 1` decimal
+// places, so later digits do not count; if there are fewer digits, the power of five is smaller as
+// well.
 #[inline(always)]
 fn half_steps(fraction: &[u8], f: u32) -> Option<u64> {
     let places = fraction.len().min(f as usize + 1);
@@ -140,7 +138,7 @@ fn half_steps(fraction: &[u8], f: u32) -> Option<u64> {
         return None;
     }
     let missing = f as usize + 1 - places;
-    // 19 digits fit 64 bits.
+    // 19 digits fit in 64 bits.
     if f <= 18 {
         let (numeral, power_of_five) = numeral_and_power(kept)?;
         Some((numeral << missing) / power_of_five)
@@ -150,7 +148,7 @@ fn half_steps(fraction: &[u8], f: u32) -> Option<u64> {
     }
 }
 
-// The number that digits write, and five to the power of how many they are.
+// Returns the value of the digits, and five to the power of their number.
 #[inline(always)]
 fn numeral_and_power(digits: &[u8]) -> Option<(u64, u64)> {
     let mut numeral = 0u64;
@@ -165,7 +163,7 @@ fn numeral_and_power(digits: &[u8]) -> Option<(u64, u64)> {
     Some((numeral, power_of_five))
 }
 
-// The same of up to 31 digits, by their two halves.
+// Does the same for up to 31 digits, by halves.
 #[inline]
 fn long_numeral_and_power(digits: &[u8]) -> Option<(u128, u128)> {
     let (front, back) = digits.split_at(digits.len() / 2);
@@ -176,7 +174,7 @@ fn long_numeral_and_power(digits: &[u8]) -> Option<(u128, u128)> {
     Some((numeral, u128::from(high_power) * u128::from(low_power)))
 }
 
-// The signed number of steps, or `None` where it is out of the range.
+// Returns the signed raw value, or `None` if it is out of range.
 #[inline(always)]
 fn in_range(negative: bool, steps: u64, min: i64, max: i64) -> Option<i64> {
     let number = if negative {

@@ -1,12 +1,12 @@
 // @generated from crates/font_decimal/src/shortest.rt by tools/src/bin/erase.rs
 
-//! Writing the shortest decimal text of a fixed-point number.
+//! The shortest decimal of a fixed-point number.
 
 use core::fmt;
 
 const LEN: usize = 22;
 
-// The digits of a decimal: its whole part, and its fraction as a numeral of so many places.
+// The digits of a decimal: its integer part, and its fraction as an integer with `places` digits.
 #[derive(Clone, Copy)]
 struct Digits {
     whole: u64,
@@ -14,7 +14,7 @@ struct Digits {
     places: u32,
 }
 
-/// The shortest decimal text of a fixed-point number, at most 22 bytes long.
+/// The shortest decimal of a fixed-point number, in a buffer of 22 bytes.
 ///
 /// ```
 /// use font_types_proved::Shortest;
@@ -22,14 +22,16 @@ struct Digits {
 /// ```
 #[derive(Clone, Copy)]
 pub struct Shortest {
-    // The text stands at the back, so that it can be written from its last byte on.
+    // The text ends at the end of the buffer, because it is written from its last byte.
     bytes: [u8; LEN],
     start: usize,
 }
 
 impl Shortest {
-    /// The shortest decimal of `bits / 2^f`: of all that read back as `bits` the nearest with the
-    /// fewest fractional digits. The caller gives an `f` of 6 to 30.
+    /// Formats the raw value `bits` with `f` fraction bits.
+    ///
+    /// Of all decimals that parse back to `bits`, this is the nearest with the fewest fractional
+    /// digits. `f` must be from 6 to 30.
     ///
     /// <details><summary>Contract</summary>
     ///
@@ -57,7 +59,7 @@ impl Shortest {
         text
     }
 
-    /// The text.
+    /// Returns the decimal as a string.
     ///
     /// <details><summary>Contract</summary>
     ///
@@ -74,7 +76,7 @@ impl Shortest {
     #[must_use]
     #[inline]
     pub fn as_str(&self) -> &str {
-        // SAFETY: every byte of the text is ASCII, which the field `ascii` says, so it is UTF-8.
+        // SAFETY: only `push` writes bytes, and only digits, `.` and `-`, so the text is ASCII.
         unsafe { core::str::from_utf8_unchecked(&self.bytes[self.start..]) }
     }
 
@@ -86,14 +88,14 @@ impl Shortest {
         }
     }
 
-    // Puts a byte in front of the text.
+    // Prepends a byte.
     #[inline]
     fn push(&mut self, byte: u8) {
         self.start -= 1;
         self.bytes[self.start] = byte;
     }
 
-    // Puts the last `places` digits of a fraction in front, with a point before them.
+    // Prepends the last `places` digits of a fraction, and then a point.
     #[inline]
     fn push_fraction(&mut self, fraction: u64, places: u32) {
         let mut left = fraction;
@@ -106,7 +108,7 @@ impl Shortest {
         }
     }
 
-    // Puts the digits of a whole number in front.
+    // Prepends the digits of an integer.
     #[inline]
     fn push_whole(&mut self, whole: u64) {
         let mut left = whole;
@@ -117,7 +119,7 @@ impl Shortest {
         self.push(b'0' + left as u8);
     }
 
-    // Puts a `-` in front of a negative number.
+    // Prepends a `-` to a negative number.
     #[inline]
     fn push_sign(&mut self, negative: bool) {
         if negative {
@@ -143,8 +145,8 @@ impl fmt::Display for Shortest {
     }
 }
 
-// The shortest decimal of `magnitude / 2^f`. Of the last place `rest / unit` is left, and half a
-// step is `margin / unit`.
+// Returns the shortest decimal of `magnitude / 2^f`. In units of the last place written so far, the
+// remainder is `rest / unit`, and half a unit of the raw value is `margin / unit`.
 #[inline]
 fn shortest_digits(magnitude: u64, f: u32) -> Digits {
     let step = 1u64 << f;
@@ -162,7 +164,7 @@ fn shortest_digits(magnitude: u64, f: u32) -> Digits {
         places += 1;
     }
     if 2 * rest >= unit {
-        // Nothing is carried into the whole digits.
+        // This never carries into the integer part.
         fraction += 1;
     }
     Digits {

@@ -1,6 +1,6 @@
 // @generated from crates/font_f26/src/f26dot6.rt by tools/src/bin/erase.rs
 
-//! The fixed-point number of 32 bits with 6 bits of fraction.
+//! 26.6 fixed-point numbers.
 
 use crate::font_arithmetic::{mul_div, product, read_bits_32};
 use crate::font_decimal::{DecimalFault, Pad, Shortest};
@@ -8,11 +8,9 @@ use core::fmt;
 use core::ops::{Add, AddAssign, Div, DivAssign, Mul, MulAssign, Neg, Sub, SubAssign};
 use core::str::FromStr;
 
-/// A fixed-point number of 32 bits, the last 6 of which are its fraction: the unit of scaled
-/// outlines.
+/// A signed 26.6 fixed-point number, the unit of scaled outlines.
 ///
-/// Its bits are counted in steps of `1 / 64`. Sums, products and quotients that leave the range
-/// wrap.
+/// The raw value is an `i32` in units of `1 / 64`. Sums, products and quotients wrap on overflow.
 ///
 /// ```
 /// use font_types_proved::F26Dot6;
@@ -24,13 +22,13 @@ use core::str::FromStr;
 pub struct F26Dot6(i32);
 
 impl F26Dot6 {
-    /// The least value, -33554432.
+    /// The smallest value, -33554432.
     pub const MIN: Self = Self(-0x8000_0000);
 
-    /// The greatest value, a step below 33554432.
+    /// The largest value, `33554432 - 1 / 64`.
     pub const MAX: Self = Self(0x7FFF_FFFF);
 
-    /// One step, `1 / 64`.
+    /// The smallest positive value, `1 / 64`.
     pub const EPSILON: Self = Self(1);
 
     /// 0.
@@ -44,7 +42,7 @@ impl F26Dot6 {
 
     const FRACTION_BITS: u32 = 6;
 
-    /// The number with these bits.
+    /// Creates a value from its raw bits.
     ///
     /// <details><summary>Contract</summary>
     ///
@@ -63,7 +61,7 @@ impl F26Dot6 {
         Self(bits)
     }
 
-    /// The bits.
+    /// Returns the raw bits.
     ///
     /// <details><summary>Contract</summary>
     ///
@@ -82,7 +80,7 @@ impl F26Dot6 {
         self.0
     }
 
-    /// The nearest whole number, ties upwards. It wraps: `F26Dot6::MAX.round()` is [`F26Dot6::MIN`].
+    /// Rounds to the nearest integer, half up; wraps: `F26Dot6::MAX.round()` is [`F26Dot6::MIN`].
     ///
     /// <details><summary>Contract</summary>
     ///
@@ -102,7 +100,7 @@ impl F26Dot6 {
         self.wrapping_add(Self(32)).floor()
     }
 
-    /// The greatest whole number that is not above the number.
+    /// Returns the largest integer less than or equal to `self`.
     ///
     /// <details><summary>Contract</summary>
     ///
@@ -122,7 +120,7 @@ impl F26Dot6 {
         Self(self.0 - self.fract().0)
     }
 
-    /// What the number has above its floor, from 0 to a step below 1.
+    /// Returns the fractional part, `self - self.floor()`, at least 0 and less than 1.
     ///
     /// <details><summary>Contract</summary>
     ///
@@ -142,7 +140,7 @@ impl F26Dot6 {
         Self(self.0.rem_euclid(64))
     }
 
-    /// The number without its sign. It wraps: `F26Dot6::MIN.abs()` is [`F26Dot6::MIN`].
+    /// Returns the absolute value; wraps: `F26Dot6::MIN.abs()` is [`F26Dot6::MIN`].
     ///
     /// <details><summary>Contract</summary>
     ///
@@ -162,7 +160,7 @@ impl F26Dot6 {
         Self(self.0.wrapping_abs())
     }
 
-    /// The sum, wrapped.
+    /// Returns `self + other`, wrapping on overflow.
     ///
     /// <details><summary>Contract</summary>
     ///
@@ -182,7 +180,7 @@ impl F26Dot6 {
         Self(self.0.wrapping_add(other.0))
     }
 
-    /// The difference, wrapped.
+    /// Returns `self - other`, wrapping on overflow.
     ///
     /// <details><summary>Contract</summary>
     ///
@@ -202,7 +200,7 @@ impl F26Dot6 {
         Self(self.0.wrapping_sub(other.0))
     }
 
-    /// The sum, or the nearest end of the range where it is out of it.
+    /// Returns `self + other`, saturating at `MIN` and `MAX`.
     ///
     /// <details><summary>Contract</summary>
     ///
@@ -222,7 +220,7 @@ impl F26Dot6 {
         Self(self.0.saturating_add(other.0))
     }
 
-    /// The difference, or the nearest end of the range where it is out of it.
+    /// Returns `self - other`, saturating at `MIN` and `MAX`.
     ///
     /// <details><summary>Contract</summary>
     ///
@@ -242,7 +240,7 @@ impl F26Dot6 {
         Self(self.0.saturating_sub(other.0))
     }
 
-    /// The sum, or `None` where it is out of range.
+    /// Returns `self + other`, or `None` on overflow.
     ///
     /// <details><summary>Contract</summary>
     ///
@@ -263,7 +261,7 @@ impl F26Dot6 {
         Some(Self(self.0.checked_add(other.0)?))
     }
 
-    /// The four bytes of the bits, highest first.
+    /// Returns the raw bits as big-endian bytes.
     ///
     /// <details><summary>Contract</summary>
     ///
@@ -283,7 +281,7 @@ impl F26Dot6 {
         self.0.to_be_bytes()
     }
 
-    /// A whole number, wrapped.
+    /// Converts an integer, wrapping on overflow.
     ///
     /// <details><summary>Contract</summary>
     ///
@@ -303,7 +301,7 @@ impl F26Dot6 {
         Self(number.wrapping_mul(64))
     }
 
-    /// The nearest whole number, ties upwards, wrapped to 26 bits.
+    /// Rounds to the nearest integer, half up, wrapped to 26 bits: [`F26Dot6::MAX`] gives -33554432.
     ///
     /// <details><summary>Contract</summary>
     ///
@@ -323,12 +321,12 @@ impl F26Dot6 {
         self.wrapping_add(Self(32)).0 >> 6
     }
 
-    /// The number nearest to a decimal text, ties away from zero.
+    /// Parses a decimal as the nearest value, rounding half away from zero.
     ///
     /// # Errors
     ///
-    /// A text outside the grammar is refused as `Syntax`, one whose nearest number is out of range
-    /// as `OutOfRange`.
+    /// Returns `Syntax` if the text is not a decimal, and `OutOfRange` if its nearest value is out
+    /// of range.
     ///
     /// <details><summary>Contract</summary>
     ///
@@ -347,11 +345,11 @@ impl F26Dot6 {
         Self::from_decimal_bytes(text.as_bytes())
     }
 
-    /// The same of bytes, which need not be a text.
+    /// Parses a decimal from bytes, as `from_decimal` does.
     ///
     /// # Errors
     ///
-    /// Those of `from_decimal`; bytes that are no text are `Syntax`.
+    /// Those of `from_decimal`; bytes that are not UTF-8 are `Syntax`.
     ///
     /// <details><summary>Contract</summary>
     ///
@@ -370,9 +368,9 @@ impl F26Dot6 {
         read_bits_32(text, Self::FRACTION_BITS).map(Self)
     }
 
-    /// Writes the printed text to the front of `out`, padded, and returns the number of bytes;
-    /// `None` where `out` is too short, which then stays as it was. 12 bytes, or the width where
-    /// that is more, are always enough. The fill is below 0x80.
+    /// Writes the padded decimal to the start of `out` and returns its length, or returns `None`
+    /// and leaves `out` unchanged if it is too short. 12 bytes, or `pad.width` if that is more, are
+    /// always enough. `pad.fill` must be ASCII.
     ///
     /// <details><summary>Contract</summary>
     ///
@@ -549,7 +547,7 @@ impl MulAssign for F26Dot6 {
     }
 }
 
-/// A zero divisor gives [`F26Dot6::MAX`], or its opposite where the dividend is negative.
+/// Division by zero gives [`F26Dot6::MAX`], or `-F26Dot6::MAX` if the dividend is negative.
 ///
 /// <details><summary>Contract</summary>
 ///
@@ -593,7 +591,7 @@ impl DivAssign for F26Dot6 {
     }
 }
 
-/// The text is read as by `from_decimal`: `"1.5".parse::<F26Dot6>()`.
+/// Parses as `from_decimal` does: `"1.5".parse::<F26Dot6>()`.
 ///
 /// <details><summary>Contract</summary>
 ///

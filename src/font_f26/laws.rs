@@ -1,5 +1,5 @@
 // @generated from crates/font_f26/src/laws.rt by tools/src/bin/erase.rs
 
-//! Functions whose contracts are laws of the numbers.
+//! Laws of arithmetic, as contracts of functions.
 
 pub mod f26dot6;

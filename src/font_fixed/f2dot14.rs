@@ -1,6 +1,6 @@
 // @generated from crates/font_fixed/src/f2dot14.rt by tools/src/bin/erase.rs
 
-//! The fixed-point number of 16 bits with 14 bits of fraction.
+//! 2.14 fixed-point numbers.
 
 use crate::font_arithmetic::read_bits_16;
 use crate::font_base::{FixedSize, IdentityEq, Scalar};
@@ -11,10 +11,9 @@ use core::fmt;
 use core::ops::{Add, AddAssign, Neg, Sub, SubAssign};
 use core::str::FromStr;
 
-/// A fixed-point number of 16 bits, the last 14 of which are its fraction: a coordinate in a
-/// normalized design space.
+/// A signed 2.14 fixed-point number, such as a coordinate of a normalized design space.
 ///
-/// Its bits are counted in steps of `1 / 16384`. Sums that leave the range wrap.
+/// The raw value is an `i16` in units of `1 / 16384`. Sums wrap on overflow.
 ///
 /// ```
 /// use font_types_proved::F2Dot14;
@@ -26,13 +25,13 @@ use core::str::FromStr;
 pub struct F2Dot14(i16);
 
 impl F2Dot14 {
-    /// The least value, -2.
+    /// The smallest value, -2.
     pub const MIN: Self = Self(-0x8000);
 
-    /// The greatest value, a step below 2.
+    /// The largest value, `2 - 1 / 16384`.
     pub const MAX: Self = Self(0x7FFF);
 
-    /// One step, `1 / 16384`.
+    /// The smallest positive value, `1 / 16384`.
     pub const EPSILON: Self = Self(1);
 
     /// 0.
@@ -46,7 +45,7 @@ impl F2Dot14 {
 
     const FRACTION_BITS: u32 = 14;
 
-    /// The number with these bits.
+    /// Creates a value from its raw bits.
     ///
     /// <details><summary>Contract</summary>
     ///
@@ -65,7 +64,7 @@ impl F2Dot14 {
         Self(bits)
     }
 
-    /// The bits.
+    /// Returns the raw bits.
     ///
     /// <details><summary>Contract</summary>
     ///
@@ -84,7 +83,7 @@ impl F2Dot14 {
         self.0
     }
 
-    /// The nearest whole number, ties upwards. It wraps: `F2Dot14::MAX.round()` is [`F2Dot14::MIN`].
+    /// Rounds to the nearest integer, half up; wraps: `F2Dot14::MAX.round()` is [`F2Dot14::MIN`].
     ///
     /// <details><summary>Contract</summary>
     ///
@@ -104,7 +103,7 @@ impl F2Dot14 {
         self.wrapping_add(Self(0x2000)).floor()
     }
 
-    /// The greatest whole number that is not above the number.
+    /// Returns the largest integer less than or equal to `self`.
     ///
     /// <details><summary>Contract</summary>
     ///
@@ -124,7 +123,7 @@ impl F2Dot14 {
         Self(self.0 - self.fract().0)
     }
 
-    /// What the number has above its floor, from 0 to a step below 1.
+    /// Returns the fractional part, `self - self.floor()`, at least 0 and less than 1.
     ///
     /// <details><summary>Contract</summary>
     ///
@@ -144,7 +143,7 @@ impl F2Dot14 {
         Self(self.0.rem_euclid(0x4000))
     }
 
-    /// The number without its sign. It wraps: `F2Dot14::MIN.abs()` is [`F2Dot14::MIN`].
+    /// Returns the absolute value; wraps: `F2Dot14::MIN.abs()` is [`F2Dot14::MIN`].
     ///
     /// <details><summary>Contract</summary>
     ///
@@ -164,7 +163,7 @@ impl F2Dot14 {
         Self(self.0.wrapping_abs())
     }
 
-    /// The sum, wrapped.
+    /// Returns `self + other`, wrapping on overflow.
     ///
     /// <details><summary>Contract</summary>
     ///
@@ -184,7 +183,7 @@ impl F2Dot14 {
         Self(self.0.wrapping_add(other.0))
     }
 
-    /// The difference, wrapped.
+    /// Returns `self - other`, wrapping on overflow.
     ///
     /// <details><summary>Contract</summary>
     ///
@@ -204,7 +203,7 @@ impl F2Dot14 {
         Self(self.0.wrapping_sub(other.0))
     }
 
-    /// The sum, or the nearest end of the range where it is out of it.
+    /// Returns `self + other`, saturating at `MIN` and `MAX`.
     ///
     /// <details><summary>Contract</summary>
     ///
@@ -224,7 +223,7 @@ impl F2Dot14 {
         Self(self.0.saturating_add(other.0))
     }
 
-    /// The difference, or the nearest end of the range where it is out of it.
+    /// Returns `self - other`, saturating at `MIN` and `MAX`.
     ///
     /// <details><summary>Contract</summary>
     ///
@@ -244,7 +243,7 @@ impl F2Dot14 {
         Self(self.0.saturating_sub(other.0))
     }
 
-    /// The sum, or `None` where it is out of range.
+    /// Returns `self + other`, or `None` on overflow.
     ///
     /// <details><summary>Contract</summary>
     ///
@@ -265,7 +264,7 @@ impl F2Dot14 {
         Some(Self(self.0.checked_add(other.0)?))
     }
 
-    /// The two bytes of the bits, highest first.
+    /// Returns the raw bits as big-endian bytes.
     ///
     /// <details><summary>Contract</summary>
     ///
@@ -285,7 +284,7 @@ impl F2Dot14 {
         self.0.to_be_bytes()
     }
 
-    /// The same number as a [`Fixed`].
+    /// Converts to [`Fixed`], exactly.
     ///
     /// <details><summary>Contract</summary>
     ///
@@ -305,10 +304,9 @@ impl F2Dot14 {
         Fixed::from_bits(self.0 as i32 * 4)
     }
 
-    /// The number moved by a sum of deltas, exactly, in units of `2^-30`.
+    /// Adds a sum of deltas, exactly. The result is in units of `2^-30`.
     ///
-    /// A delta counts in units of `1 / 16384`, the last bit of this type, with 16 bits of fraction
-    /// behind it.
+    /// A delta of 1 is one unit of the raw value, `1 / 16384`.
     ///
     /// <details><summary>Contract</summary>
     ///
@@ -328,12 +326,12 @@ impl F2Dot14 {
         i128::from(self.0) * 0x1_0000 + i128::from(delta.to_bits())
     }
 
-    /// The number nearest to a decimal text, ties away from zero.
+    /// Parses a decimal as the nearest value, rounding half away from zero.
     ///
     /// # Errors
     ///
-    /// A text outside the grammar is refused as `Syntax`, one whose nearest number is out of range
-    /// as `OutOfRange`.
+    /// Returns `Syntax` if the text is not a decimal, and `OutOfRange` if its nearest value is out
+    /// of range.
     ///
     /// <details><summary>Contract</summary>
     ///
@@ -352,11 +350,11 @@ impl F2Dot14 {
         Self::from_decimal_bytes(text.as_bytes())
     }
 
-    /// The same of bytes, which need not be a text.
+    /// Parses a decimal from bytes, as `from_decimal` does.
     ///
     /// # Errors
     ///
-    /// Those of `from_decimal`; bytes that are no text are `Syntax`.
+    /// Those of `from_decimal`; bytes that are not UTF-8 are `Syntax`.
     ///
     /// <details><summary>Contract</summary>
     ///
@@ -375,9 +373,9 @@ impl F2Dot14 {
         read_bits_16(text, Self::FRACTION_BITS).map(Self)
     }
 
-    /// Writes the printed text to the front of `out`, padded, and returns the number of bytes;
-    /// `None` where `out` is too short, which then stays as it was. 8 bytes, or the width where
-    /// that is more, are always enough. The fill is below 0x80.
+    /// Writes the padded decimal to the start of `out` and returns its length, or returns `None`
+    /// and leaves `out` unchanged if it is too short. 8 bytes, or `pad.width` if that is more, are
+    /// always enough. `pad.fill` must be ASCII.
     ///
     /// <details><summary>Contract</summary>
     ///
@@ -512,7 +510,7 @@ impl Neg for F2Dot14 {
     }
 }
 
-/// The text is read as by `from_decimal`: `"1.5".parse::<F2Dot14>()`.
+/// Parses as `from_decimal` does: `"1.5".parse::<F2Dot14>()`.
 ///
 /// <details><summary>Contract</summary>
 ///

@@ -1,6 +1,6 @@
 // @generated from crates/font_fixed/src/f48dot16.rt by tools/src/bin/erase.rs
 
-//! The fixed-point number of 64 bits with 16 bits of fraction.
+//! 48.16 fixed-point numbers.
 
 use crate::font_arithmetic::{low_bits, read_bits_64};
 use crate::font_decimal::{DecimalFault, Pad, Shortest};
@@ -9,9 +9,9 @@ use core::fmt;
 use core::ops::{Add, AddAssign, Neg, Sub, SubAssign};
 use core::str::FromStr;
 
-/// A fixed-point number of 64 bits, the last 16 of which are its fraction: a sum of deltas.
+/// A signed 48.16 fixed-point number, such as a sum of deltas.
 ///
-/// Its bits are counted in steps of `1 / 65536`. Sums that leave the range wrap.
+/// The raw value is an `i64` in units of `1 / 65536`. Sums wrap on overflow.
 ///
 /// ```
 /// use font_types_proved::F48Dot16;
@@ -23,13 +23,13 @@ use core::str::FromStr;
 pub struct F48Dot16(i64);
 
 impl F48Dot16 {
-    /// The least value, -140737488355328.
+    /// The smallest value, -140737488355328.
     pub const MIN: Self = Self(-0x8000_0000_0000_0000);
 
-    /// The greatest value, a step below 140737488355328.
+    /// The largest value, `140737488355328 - 1 / 65536`.
     pub const MAX: Self = Self(0x7FFF_FFFF_FFFF_FFFF);
 
-    /// One step, `1 / 65536`.
+    /// The smallest positive value, `1 / 65536`.
     pub const EPSILON: Self = Self(1);
 
     /// 0.
@@ -43,7 +43,7 @@ impl F48Dot16 {
 
     const FRACTION_BITS: u32 = 16;
 
-    /// The number with these bits.
+    /// Creates a value from its raw bits.
     ///
     /// <details><summary>Contract</summary>
     ///
@@ -62,7 +62,7 @@ impl F48Dot16 {
         Self(bits)
     }
 
-    /// The bits.
+    /// Returns the raw bits.
     ///
     /// <details><summary>Contract</summary>
     ///
@@ -81,8 +81,7 @@ impl F48Dot16 {
         self.0
     }
 
-    /// The nearest whole number, ties upwards. It wraps: `F48Dot16::MAX.round()` is
-    /// [`F48Dot16::MIN`].
+    /// Rounds to the nearest integer, half up; wraps: `F48Dot16::MAX.round()` is [`F48Dot16::MIN`].
     ///
     /// <details><summary>Contract</summary>
     ///
@@ -102,7 +101,7 @@ impl F48Dot16 {
         self.wrapping_add(Self(0x8000)).floor()
     }
 
-    /// The greatest whole number that is not above the number.
+    /// Returns the largest integer less than or equal to `self`.
     ///
     /// <details><summary>Contract</summary>
     ///
@@ -122,7 +121,7 @@ impl F48Dot16 {
         Self(self.0 - self.fract().0)
     }
 
-    /// What the number has above its floor, from 0 to a step below 1.
+    /// Returns the fractional part, `self - self.floor()`, at least 0 and less than 1.
     ///
     /// <details><summary>Contract</summary>
     ///
@@ -142,7 +141,7 @@ impl F48Dot16 {
         Self(self.0.rem_euclid(0x1_0000))
     }
 
-    /// The number without its sign. It wraps: `F48Dot16::MIN.abs()` is [`F48Dot16::MIN`].
+    /// Returns the absolute value; wraps: `F48Dot16::MIN.abs()` is [`F48Dot16::MIN`].
     ///
     /// <details><summary>Contract</summary>
     ///
@@ -162,7 +161,7 @@ impl F48Dot16 {
         Self(self.0.wrapping_abs())
     }
 
-    /// The sum, wrapped.
+    /// Returns `self + other`, wrapping on overflow.
     ///
     /// <details><summary>Contract</summary>
     ///
@@ -182,7 +181,7 @@ impl F48Dot16 {
         Self(self.0.wrapping_add(other.0))
     }
 
-    /// The difference, wrapped.
+    /// Returns `self - other`, wrapping on overflow.
     ///
     /// <details><summary>Contract</summary>
     ///
@@ -202,7 +201,7 @@ impl F48Dot16 {
         Self(self.0.wrapping_sub(other.0))
     }
 
-    /// The sum, or the nearest end of the range where it is out of it.
+    /// Returns `self + other`, saturating at `MIN` and `MAX`.
     ///
     /// <details><summary>Contract</summary>
     ///
@@ -222,7 +221,7 @@ impl F48Dot16 {
         Self(self.0.saturating_add(other.0))
     }
 
-    /// The difference, or the nearest end of the range where it is out of it.
+    /// Returns `self - other`, saturating at `MIN` and `MAX`.
     ///
     /// <details><summary>Contract</summary>
     ///
@@ -242,7 +241,7 @@ impl F48Dot16 {
         Self(self.0.saturating_sub(other.0))
     }
 
-    /// The sum, or `None` where it is out of range.
+    /// Returns `self + other`, or `None` on overflow.
     ///
     /// <details><summary>Contract</summary>
     ///
@@ -263,7 +262,7 @@ impl F48Dot16 {
         Some(Self(self.0.checked_add(other.0)?))
     }
 
-    /// The eight bytes of the bits, highest first.
+    /// Returns the raw bits as big-endian bytes.
     ///
     /// <details><summary>Contract</summary>
     ///
@@ -283,7 +282,7 @@ impl F48Dot16 {
         self.0.to_be_bytes()
     }
 
-    /// A whole number, wrapped.
+    /// Converts an integer, wrapping on overflow.
     ///
     /// <details><summary>Contract</summary>
     ///
@@ -303,7 +302,7 @@ impl F48Dot16 {
         Self(number.wrapping_mul(0x1_0000))
     }
 
-    /// A whole number, which always fits.
+    /// Converts an integer, exactly.
     ///
     /// <details><summary>Contract</summary>
     ///
@@ -322,7 +321,7 @@ impl F48Dot16 {
         Self(number as i64 * 0x1_0000)
     }
 
-    /// The nearest whole number, ties upwards, wrapped to 48 bits.
+    /// Rounds to the nearest integer, half up, wrapped to 48 bits.
     ///
     /// <details><summary>Contract</summary>
     ///
@@ -342,7 +341,7 @@ impl F48Dot16 {
         self.wrapping_add(Self(0x8000)).0 >> 16
     }
 
-    /// The nearest whole number, ties upwards, wrapped to 32 bits.
+    /// Rounds to the nearest integer, half up, wrapped to 32 bits.
     ///
     /// <details><summary>Contract</summary>
     ///
@@ -362,7 +361,7 @@ impl F48Dot16 {
         low_bits(self.to_i64())
     }
 
-    /// The same number as a [`Fixed`], its bits wrapped to 32.
+    /// Converts to [`Fixed`], wrapping on overflow.
     ///
     /// <details><summary>Contract</summary>
     ///
@@ -383,12 +382,12 @@ impl F48Dot16 {
         Fixed::from_bits(low_bits(self.0))
     }
 
-    /// The number nearest to a decimal text, ties away from zero.
+    /// Parses a decimal as the nearest value, rounding half away from zero.
     ///
     /// # Errors
     ///
-    /// A text outside the grammar is refused as `Syntax`, one whose nearest number is out of range
-    /// as `OutOfRange`.
+    /// Returns `Syntax` if the text is not a decimal, and `OutOfRange` if its nearest value is out
+    /// of range.
     ///
     /// <details><summary>Contract</summary>
     ///
@@ -407,11 +406,11 @@ impl F48Dot16 {
         Self::from_decimal_bytes(text.as_bytes())
     }
 
-    /// The same of bytes, which need not be a text.
+    /// Parses a decimal from bytes, as `from_decimal` does.
     ///
     /// # Errors
     ///
-    /// Those of `from_decimal`; bytes that are no text are `Syntax`.
+    /// Those of `from_decimal`; bytes that are not UTF-8 are `Syntax`.
     ///
     /// <details><summary>Contract</summary>
     ///
@@ -430,9 +429,9 @@ impl F48Dot16 {
         read_bits_64(text, Self::FRACTION_BITS).map(Self)
     }
 
-    /// Writes the printed text to the front of `out`, padded, and returns the number of bytes;
-    /// `None` where `out` is too short, which then stays as it was. 22 bytes, or the width where
-    /// that is more, are always enough. The fill is below 0x80.
+    /// Writes the padded decimal to the start of `out` and returns its length, or returns `None`
+    /// and leaves `out` unchanged if it is too short. 22 bytes, or `pad.width` if that is more, are
+    /// always enough. `pad.fill` must be ASCII.
     ///
     /// <details><summary>Contract</summary>
     ///
@@ -567,7 +566,7 @@ impl Neg for F48Dot16 {
     }
 }
 
-/// The text is read as by `from_decimal`: `"1.5".parse::<F48Dot16>()`.
+/// Parses as `from_decimal` does: `"1.5".parse::<F48Dot16>()`.
 ///
 /// <details><summary>Contract</summary>
 ///

@@ -1,6 +1,6 @@
 // @generated from crates/font_fixed/src/fixed.rt by tools/src/bin/erase.rs
 
-//! The fixed-point number of 32 bits with 16 bits of fraction.
+//! 16.16 fixed-point numbers.
 
 use crate::font_arithmetic::{mul_div, product, read_bits_32};
 use crate::font_base::{FixedSize, IdentityEq, Scalar};
@@ -12,10 +12,10 @@ use core::fmt;
 use core::ops::{Add, AddAssign, Div, DivAssign, Mul, MulAssign, Neg, Sub, SubAssign};
 use core::str::FromStr;
 
-/// A fixed-point number of 32 bits, the last 16 of which are its fraction.
+/// A signed 16.16 fixed-point number.
 ///
-/// Its bits are counted in steps of `1 / 65536`. Sums, products and quotients that leave the range
-/// wrap.
+/// The raw value is an `i32` in units of `1 / 65536`. Sums, products and quotients wrap on
+/// overflow.
 ///
 /// ```
 /// use font_types_proved::Fixed;
@@ -27,13 +27,13 @@ use core::str::FromStr;
 pub struct Fixed(i32);
 
 impl Fixed {
-    /// The least value, -32768.
+    /// The smallest value, -32768.
     pub const MIN: Self = Self(-0x8000_0000);
 
-    /// The greatest value, a step below 32768.
+    /// The largest value, `32768 - 1 / 65536`.
     pub const MAX: Self = Self(0x7FFF_FFFF);
 
-    /// One step, `1 / 65536`.
+    /// The smallest positive value, `1 / 65536`.
     pub const EPSILON: Self = Self(1);
 
     /// 0.
@@ -47,7 +47,7 @@ impl Fixed {
 
     const FRACTION_BITS: u32 = 16;
 
-    /// The number with these bits.
+    /// Creates a value from its raw bits.
     ///
     /// <details><summary>Contract</summary>
     ///
@@ -66,7 +66,7 @@ impl Fixed {
         Self(bits)
     }
 
-    /// The bits.
+    /// Returns the raw bits.
     ///
     /// <details><summary>Contract</summary>
     ///
@@ -85,7 +85,7 @@ impl Fixed {
         self.0
     }
 
-    /// The nearest whole number, ties upwards. It wraps: `Fixed::MAX.round()` is [`Fixed::MIN`].
+    /// Rounds to the nearest integer, half up; wraps: `Fixed::MAX.round()` is [`Fixed::MIN`].
     ///
     /// <details><summary>Contract</summary>
     ///
@@ -105,7 +105,7 @@ impl Fixed {
         self.wrapping_add(Self(0x8000)).floor()
     }
 
-    /// The greatest whole number that is not above the number.
+    /// Returns the largest integer less than or equal to `self`.
     ///
     /// <details><summary>Contract</summary>
     ///
@@ -125,7 +125,7 @@ impl Fixed {
         Self(self.0 - self.fract().0)
     }
 
-    /// What the number has above its floor, from 0 to a step below 1.
+    /// Returns the fractional part, `self - self.floor()`, at least 0 and less than 1.
     ///
     /// <details><summary>Contract</summary>
     ///
@@ -145,7 +145,7 @@ impl Fixed {
         Self(self.0.rem_euclid(0x1_0000))
     }
 
-    /// The number without its sign. It wraps: `Fixed::MIN.abs()` is [`Fixed::MIN`].
+    /// Returns the absolute value; wraps: `Fixed::MIN.abs()` is [`Fixed::MIN`].
     ///
     /// <details><summary>Contract</summary>
     ///
@@ -165,7 +165,7 @@ impl Fixed {
         Self(self.0.wrapping_abs())
     }
 
-    /// The sum, wrapped.
+    /// Returns `self + other`, wrapping on overflow.
     ///
     /// <details><summary>Contract</summary>
     ///
@@ -185,7 +185,7 @@ impl Fixed {
         Self(self.0.wrapping_add(other.0))
     }
 
-    /// The difference, wrapped.
+    /// Returns `self - other`, wrapping on overflow.
     ///
     /// <details><summary>Contract</summary>
     ///
@@ -205,7 +205,7 @@ impl Fixed {
         Self(self.0.wrapping_sub(other.0))
     }
 
-    /// The sum, or the nearest end of the range where it is out of it.
+    /// Returns `self + other`, saturating at `MIN` and `MAX`.
     ///
     /// <details><summary>Contract</summary>
     ///
@@ -225,7 +225,7 @@ impl Fixed {
         Self(self.0.saturating_add(other.0))
     }
 
-    /// The difference, or the nearest end of the range where it is out of it.
+    /// Returns `self - other`, saturating at `MIN` and `MAX`.
     ///
     /// <details><summary>Contract</summary>
     ///
@@ -245,7 +245,7 @@ impl Fixed {
         Self(self.0.saturating_sub(other.0))
     }
 
-    /// The sum, or `None` where it is out of range.
+    /// Returns `self + other`, or `None` on overflow.
     ///
     /// <details><summary>Contract</summary>
     ///
@@ -266,7 +266,7 @@ impl Fixed {
         Some(Self(self.0.checked_add(other.0)?))
     }
 
-    /// The four bytes of the bits, highest first.
+    /// Returns the raw bits as big-endian bytes.
     ///
     /// <details><summary>Contract</summary>
     ///
@@ -286,9 +286,9 @@ impl Fixed {
         self.0.to_be_bytes()
     }
 
-    /// `self * a / c`, rounded once to the nearest step, ties away from zero, and wrapped.
+    /// Returns `self * a / c`, rounded once, half away from zero, wrapping on overflow.
     ///
-    /// Where `c` is zero it is the greatest number, negated where just one of `self` and `a` is
+    /// If `c` is zero, the result is [`Fixed::MAX`], negated if exactly one of `self` and `a` is
     /// negative.
     ///
     /// <details><summary>Contract</summary>
@@ -310,7 +310,7 @@ impl Fixed {
         Self(mul_div(self.0, a.0, c.0))
     }
 
-    /// A whole number, wrapped.
+    /// Converts an integer, wrapping on overflow.
     ///
     /// <details><summary>Contract</summary>
     ///
@@ -330,7 +330,7 @@ impl Fixed {
         Self(number.wrapping_mul(0x1_0000))
     }
 
-    /// The nearest whole number, ties upwards, wrapped to 16 bits.
+    /// Rounds to the nearest integer, half up, wrapped to 16 bits: [`Fixed::MAX`] gives -32768.
     ///
     /// <details><summary>Contract</summary>
     ///
@@ -350,7 +350,7 @@ impl Fixed {
         self.wrapping_add(Self(0x8000)).0 >> 16
     }
 
-    /// The nearest [`F26Dot6`], ties upwards, its bits wrapped to 22.
+    /// Rounds to the nearest [`F26Dot6`], half up, its raw bits wrapped to 22 bits.
     ///
     /// <details><summary>Contract</summary>
     ///
@@ -371,7 +371,7 @@ impl Fixed {
         F26Dot6::from_bits(self.wrapping_add(Self(0x200)).0 >> 10)
     }
 
-    /// The nearest [`F2Dot14`], ties upwards, its bits wrapped to 16.
+    /// Rounds to the nearest [`F2Dot14`], half up, wrapping on overflow.
     ///
     /// <details><summary>Contract</summary>
     ///
@@ -392,7 +392,7 @@ impl Fixed {
         F2Dot14::from_bits(low_half(self.quarter()))
     }
 
-    /// The same number as an [`F48Dot16`].
+    /// Converts to [`F48Dot16`], exactly.
     ///
     /// <details><summary>Contract</summary>
     ///
@@ -412,7 +412,7 @@ impl Fixed {
         F48Dot16::from_bits(self.0 as i64)
     }
 
-    /// The exact product with a whole number.
+    /// Returns the exact product with an integer.
     ///
     /// <details><summary>Contract</summary>
     ///
@@ -432,9 +432,9 @@ impl Fixed {
         F48Dot16::from_bits(self.0 as i64 * number as i64)
     }
 
-    /// The number with so many steps of `2^-16`, or `None` where 32 bits do not hold it.
+    /// Creates a value from a 16.16 raw value, or returns `None` if 32 bits do not hold it.
     ///
-    /// `apply_delta` of a font unit gives its result in such steps.
+    /// `FWord::apply_delta` and `UfWord::apply_delta` return such a raw value.
     ///
     /// <details><summary>Contract</summary>
     ///
@@ -455,10 +455,9 @@ impl Fixed {
         Some(Self(i32::try_from(steps).ok()?))
     }
 
-    /// The number moved by a sum of deltas, exactly, in units of `2^-32`.
+    /// Adds a sum of deltas, exactly. The result is in units of `2^-32`.
     ///
-    /// A delta counts in units of `1 / 65536`, the last bit of this type, with 16 bits of fraction
-    /// behind it.
+    /// A delta of 1 is one unit of the raw value, `1 / 65536`.
     ///
     /// <details><summary>Contract</summary>
     ///
@@ -478,12 +477,12 @@ impl Fixed {
         i128::from(self.0) * 0x1_0000 + i128::from(delta.to_bits())
     }
 
-    /// The number nearest to a decimal text, ties away from zero.
+    /// Parses a decimal as the nearest value, rounding half away from zero.
     ///
     /// # Errors
     ///
-    /// A text outside the grammar is refused as `Syntax`, one whose nearest number is out of range
-    /// as `OutOfRange`.
+    /// Returns `Syntax` if the text is not a decimal, and `OutOfRange` if its nearest value is out
+    /// of range.
     ///
     /// <details><summary>Contract</summary>
     ///
@@ -502,11 +501,11 @@ impl Fixed {
         Self::from_decimal_bytes(text.as_bytes())
     }
 
-    /// The same of bytes, which need not be a text.
+    /// Parses a decimal from bytes, as `from_decimal` does.
     ///
     /// # Errors
     ///
-    /// Those of `from_decimal`; bytes that are no text are `Syntax`.
+    /// Those of `from_decimal`; bytes that are not UTF-8 are `Syntax`.
     ///
     /// <details><summary>Contract</summary>
     ///
@@ -525,9 +524,9 @@ impl Fixed {
         read_bits_32(text, Self::FRACTION_BITS).map(Self)
     }
 
-    /// Writes the printed text to the front of `out`, padded, and returns the number of bytes;
-    /// `None` where `out` is too short, which then stays as it was. 12 bytes, or the width where
-    /// that is more, are always enough. The fill is below 0x80.
+    /// Writes the padded decimal to the start of `out` and returns its length, or returns `None`
+    /// and leaves `out` unchanged if it is too short. 12 bytes, or `pad.width` if that is more, are
+    /// always enough. `pad.fill` must be ASCII.
     ///
     /// <details><summary>Contract</summary>
     ///
@@ -560,14 +559,14 @@ impl Fixed {
         Shortest::new(i64::from(self.0), Self::FRACTION_BITS)
     }
 
-    // The nearest number of four steps, ties upwards, wrapped to 30 bits.
+    // A quarter of the raw bits, rounded half up, wrapped to 30 bits.
     #[inline]
     const fn quarter(self) -> i32 {
         self.wrapping_add(Self(2)).0 >> 2
     }
 }
 
-// The last 16 bits of a number, as a signed one.
+// Truncates to the low 16 bits.
 #[inline]
 const fn low_half(n: i32) -> i16 {
     (n.rem_euclid(0x1_0000) as u16).cast_signed()
@@ -716,7 +715,7 @@ impl MulAssign for Fixed {
     }
 }
 
-/// A zero divisor gives [`Fixed::MAX`], or its opposite where the dividend is negative.
+/// Division by zero gives [`Fixed::MAX`], or `-Fixed::MAX` if the dividend is negative.
 ///
 /// <details><summary>Contract</summary>
 ///
@@ -779,7 +778,7 @@ impl From<i32> for Fixed {
     }
 }
 
-/// The same number, as by `to_fixed`.
+/// Converts exactly, as `to_fixed` does.
 ///
 /// <details><summary>Contract</summary>
 ///
@@ -800,7 +799,7 @@ impl From<F2Dot14> for Fixed {
     }
 }
 
-/// The text is read as by `from_decimal`: `"1.5".parse::<Fixed>()`.
+/// Parses as `from_decimal` does: `"1.5".parse::<Fixed>()`.
 ///
 /// <details><summary>Contract</summary>
 ///

@@ -1,6 +1,6 @@
 // @generated from crates/font_fixed/src/laws.rt by tools/src/bin/erase.rs
 
-//! Functions whose contracts are laws of the numbers.
+//! Laws of arithmetic, as contracts of functions.
 
 pub mod fixed;
 

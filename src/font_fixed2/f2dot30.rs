@@ -1,6 +1,6 @@
 // @generated from crates/font_fixed2/src/f2dot30.rt by tools/src/bin/erase.rs
 
-//! The fixed-point number of 32 bits with 30 bits of fraction.
+//! 2.30 fixed-point numbers.
 
 use crate::font_arithmetic::read_bits_32;
 use crate::font_base::{FixedSize, IdentityEq, Scalar};
@@ -10,9 +10,9 @@ use core::fmt;
 use core::ops::{Add, AddAssign, Neg, Sub, SubAssign};
 use core::str::FromStr;
 
-/// A fixed-point number of 32 bits, the last 30 of which are its fraction.
+/// A signed 2.30 fixed-point number.
 ///
-/// Its bits are counted in steps of `1 / 2^30`. Sums that leave the range wrap.
+/// The raw value is an `i32` in units of `1 / 2^30`. Sums wrap on overflow.
 ///
 /// ```
 /// use font_types_proved::F2Dot30;
@@ -24,13 +24,13 @@ use core::str::FromStr;
 pub struct F2Dot30(i32);
 
 impl F2Dot30 {
-    /// The least value, -2.
+    /// The smallest value, -2.
     pub const MIN: Self = Self(-0x8000_0000);
 
-    /// The greatest value, a step below 2.
+    /// The largest value, `2 - 1 / 2^30`.
     pub const MAX: Self = Self(0x7FFF_FFFF);
 
-    /// One step, `1 / 2^30`.
+    /// The smallest positive value, `1 / 2^30`.
     pub const EPSILON: Self = Self(1);
 
     /// 0.
@@ -44,7 +44,7 @@ impl F2Dot30 {
 
     const FRACTION_BITS: u32 = 30;
 
-    /// The number with these bits.
+    /// Creates a value from its raw bits.
     ///
     /// <details><summary>Contract</summary>
     ///
@@ -63,7 +63,7 @@ impl F2Dot30 {
         Self(bits)
     }
 
-    /// The bits.
+    /// Returns the raw bits.
     ///
     /// <details><summary>Contract</summary>
     ///
@@ -82,7 +82,7 @@ impl F2Dot30 {
         self.0
     }
 
-    /// The nearest whole number, ties upwards. It wraps: `F2Dot30::MAX.round()` is [`F2Dot30::MIN`].
+    /// Rounds to the nearest integer, half up; wraps: `F2Dot30::MAX.round()` is [`F2Dot30::MIN`].
     ///
     /// <details><summary>Contract</summary>
     ///
@@ -102,7 +102,7 @@ impl F2Dot30 {
         self.wrapping_add(Self(0x2000_0000)).floor()
     }
 
-    /// The greatest whole number that is not above the number.
+    /// Returns the largest integer less than or equal to `self`.
     ///
     /// <details><summary>Contract</summary>
     ///
@@ -122,7 +122,7 @@ impl F2Dot30 {
         Self(self.0 - self.fract().0)
     }
 
-    /// What the number has above its floor, from 0 to a step below 1.
+    /// Returns the fractional part, `self - self.floor()`, at least 0 and less than 1.
     ///
     /// <details><summary>Contract</summary>
     ///
@@ -142,7 +142,7 @@ impl F2Dot30 {
         Self(self.0.rem_euclid(0x4000_0000))
     }
 
-    /// The number without its sign. It wraps: `F2Dot30::MIN.abs()` is [`F2Dot30::MIN`].
+    /// Returns the absolute value; wraps: `F2Dot30::MIN.abs()` is [`F2Dot30::MIN`].
     ///
     /// <details><summary>Contract</summary>
     ///
@@ -162,7 +162,7 @@ impl F2Dot30 {
         Self(self.0.wrapping_abs())
     }
 
-    /// The sum, wrapped.
+    /// Returns `self + other`, wrapping on overflow.
     ///
     /// <details><summary>Contract</summary>
     ///
@@ -182,7 +182,7 @@ impl F2Dot30 {
         Self(self.0.wrapping_add(other.0))
     }
 
-    /// The difference, wrapped.
+    /// Returns `self - other`, wrapping on overflow.
     ///
     /// <details><summary>Contract</summary>
     ///
@@ -202,7 +202,7 @@ impl F2Dot30 {
         Self(self.0.wrapping_sub(other.0))
     }
 
-    /// The sum, or the nearest end of the range where it is out of it.
+    /// Returns `self + other`, saturating at `MIN` and `MAX`.
     ///
     /// <details><summary>Contract</summary>
     ///
@@ -222,7 +222,7 @@ impl F2Dot30 {
         Self(self.0.saturating_add(other.0))
     }
 
-    /// The difference, or the nearest end of the range where it is out of it.
+    /// Returns `self - other`, saturating at `MIN` and `MAX`.
     ///
     /// <details><summary>Contract</summary>
     ///
@@ -242,7 +242,7 @@ impl F2Dot30 {
         Self(self.0.saturating_sub(other.0))
     }
 
-    /// The sum, or `None` where it is out of range.
+    /// Returns `self + other`, or `None` on overflow.
     ///
     /// <details><summary>Contract</summary>
     ///
@@ -263,7 +263,7 @@ impl F2Dot30 {
         Some(Self(self.0.checked_add(other.0)?))
     }
 
-    /// The four bytes of the bits, highest first.
+    /// Returns the raw bits as big-endian bytes.
     ///
     /// <details><summary>Contract</summary>
     ///
@@ -283,8 +283,7 @@ impl F2Dot30 {
         self.0.to_be_bytes()
     }
 
-    /// The number of a [`Fixed`], its bits wrapped to 32: the same number where that is from -2 to
-    /// below 2.
+    /// Converts from [`Fixed`], wrapping on overflow: exact from -2 up to but not including 2.
     ///
     /// <details><summary>Contract</summary>
     ///
@@ -305,7 +304,7 @@ impl F2Dot30 {
         Self(number.to_bits().wrapping_mul(0x4000))
     }
 
-    /// The number of an [`F2Dot14`].
+    /// Converts from [`F2Dot14`], exactly.
     ///
     /// <details><summary>Contract</summary>
     ///
@@ -325,7 +324,7 @@ impl F2Dot30 {
         Self(number.to_bits() as i32 * 0x1_0000)
     }
 
-    /// The nearest [`Fixed`], ties upwards.
+    /// Rounds to the nearest [`Fixed`], half up.
     ///
     /// <details><summary>Contract</summary>
     ///
@@ -346,7 +345,7 @@ impl F2Dot30 {
         Fixed::from_bits(((self.0 >> 13) + 1) >> 1)
     }
 
-    /// The nearest [`F2Dot14`], ties upwards, its bits wrapped to 16.
+    /// Rounds to the nearest [`F2Dot14`], half up, wrapping on overflow.
     ///
     /// <details><summary>Contract</summary>
     ///
@@ -367,12 +366,12 @@ impl F2Dot30 {
         F2Dot14::from_bits((self.wrapping_add(Self(0x8000)).0 >> 16) as i16)
     }
 
-    /// The number nearest to a decimal text, ties away from zero.
+    /// Parses a decimal as the nearest value, rounding half away from zero.
     ///
     /// # Errors
     ///
-    /// A text outside the grammar is refused as `Syntax`, one whose nearest number is out of range
-    /// as `OutOfRange`.
+    /// Returns `Syntax` if the text is not a decimal, and `OutOfRange` if its nearest value is out
+    /// of range.
     ///
     /// <details><summary>Contract</summary>
     ///
@@ -391,11 +390,11 @@ impl F2Dot30 {
         Self::from_decimal_bytes(text.as_bytes())
     }
 
-    /// The same of bytes, which need not be a text.
+    /// Parses a decimal from bytes, as `from_decimal` does.
     ///
     /// # Errors
     ///
-    /// Those of `from_decimal`; bytes that are no text are `Syntax`.
+    /// Those of `from_decimal`; bytes that are not UTF-8 are `Syntax`.
     ///
     /// <details><summary>Contract</summary>
     ///
@@ -414,9 +413,9 @@ impl F2Dot30 {
         read_bits_32(text, Self::FRACTION_BITS).map(Self)
     }
 
-    /// Writes the printed text to the front of `out`, padded, and returns the number of bytes;
-    /// `None` where `out` is too short, which then stays as it was. 13 bytes, or the width where
-    /// that is more, are always enough. The fill is below 0x80.
+    /// Writes the padded decimal to the start of `out` and returns its length, or returns `None`
+    /// and leaves `out` unchanged if it is too short. 13 bytes, or `pad.width` if that is more, are
+    /// always enough. `pad.fill` must be ASCII.
     ///
     /// <details><summary>Contract</summary>
     ///
@@ -551,7 +550,7 @@ impl Neg for F2Dot30 {
     }
 }
 
-/// The same number, as by `from_f2dot14`.
+/// Converts exactly, as `from_f2dot14` does.
 ///
 /// <details><summary>Contract</summary>
 ///
@@ -572,7 +571,7 @@ impl From<F2Dot14> for F2Dot30 {
     }
 }
 
-/// The text is read as by `from_decimal`: `"1.5".parse::<F2Dot30>()`.
+/// Parses as `from_decimal` does: `"1.5".parse::<F2Dot30>()`.
 ///
 /// <details><summary>Contract</summary>
 ///

@@ -1,6 +1,6 @@
 // @generated from crates/font_fixed2/src/f6dot10.rt by tools/src/bin/erase.rs
 
-//! The fixed-point number of 16 bits with 10 bits of fraction.
+//! 6.10 fixed-point numbers.
 
 use crate::font_arithmetic::read_bits_16;
 use crate::font_base::{FixedSize, IdentityEq, Scalar};
@@ -9,9 +9,9 @@ use core::fmt;
 use core::ops::{Add, AddAssign, Neg, Sub, SubAssign};
 use core::str::FromStr;
 
-/// A fixed-point number of 16 bits, the last 10 of which are its fraction.
+/// A signed 6.10 fixed-point number.
 ///
-/// Its bits are counted in steps of `1 / 1024`. Sums that leave the range wrap.
+/// The raw value is an `i16` in units of `1 / 1024`. Sums wrap on overflow.
 ///
 /// ```
 /// use font_types_proved::F6Dot10;
@@ -23,13 +23,13 @@ use core::str::FromStr;
 pub struct F6Dot10(i16);
 
 impl F6Dot10 {
-    /// The least value, -32.
+    /// The smallest value, -32.
     pub const MIN: Self = Self(-0x8000);
 
-    /// The greatest value, a step below 32.
+    /// The largest value, `32 - 1 / 1024`.
     pub const MAX: Self = Self(0x7FFF);
 
-    /// One step, `1 / 1024`.
+    /// The smallest positive value, `1 / 1024`.
     pub const EPSILON: Self = Self(1);
 
     /// 0.
@@ -43,7 +43,7 @@ impl F6Dot10 {
 
     const FRACTION_BITS: u32 = 10;
 
-    /// The number with these bits.
+    /// Creates a value from its raw bits.
     ///
     /// <details><summary>Contract</summary>
     ///
@@ -62,7 +62,7 @@ impl F6Dot10 {
         Self(bits)
     }
 
-    /// The bits.
+    /// Returns the raw bits.
     ///
     /// <details><summary>Contract</summary>
     ///
@@ -81,7 +81,7 @@ impl F6Dot10 {
         self.0
     }
 
-    /// The nearest whole number, ties upwards. It wraps: `F6Dot10::MAX.round()` is [`F6Dot10::MIN`].
+    /// Rounds to the nearest integer, half up; wraps: `F6Dot10::MAX.round()` is [`F6Dot10::MIN`].
     ///
     /// <details><summary>Contract</summary>
     ///
@@ -101,7 +101,7 @@ impl F6Dot10 {
         self.wrapping_add(Self(0x200)).floor()
     }
 
-    /// The greatest whole number that is not above the number.
+    /// Returns the largest integer less than or equal to `self`.
     ///
     /// <details><summary>Contract</summary>
     ///
@@ -121,7 +121,7 @@ impl F6Dot10 {
         Self(self.0 - self.fract().0)
     }
 
-    /// What the number has above its floor, from 0 to a step below 1.
+    /// Returns the fractional part, `self - self.floor()`, at least 0 and less than 1.
     ///
     /// <details><summary>Contract</summary>
     ///
@@ -141,7 +141,7 @@ impl F6Dot10 {
         Self(self.0.rem_euclid(0x400))
     }
 
-    /// The number without its sign. It wraps: `F6Dot10::MIN.abs()` is [`F6Dot10::MIN`].
+    /// Returns the absolute value; wraps: `F6Dot10::MIN.abs()` is [`F6Dot10::MIN`].
     ///
     /// <details><summary>Contract</summary>
     ///
@@ -161,7 +161,7 @@ impl F6Dot10 {
         Self(self.0.wrapping_abs())
     }
 
-    /// The sum, wrapped.
+    /// Returns `self + other`, wrapping on overflow.
     ///
     /// <details><summary>Contract</summary>
     ///
@@ -181,7 +181,7 @@ impl F6Dot10 {
         Self(self.0.wrapping_add(other.0))
     }
 
-    /// The difference, wrapped.
+    /// Returns `self - other`, wrapping on overflow.
     ///
     /// <details><summary>Contract</summary>
     ///
@@ -201,7 +201,7 @@ impl F6Dot10 {
         Self(self.0.wrapping_sub(other.0))
     }
 
-    /// The sum, or the nearest end of the range where it is out of it.
+    /// Returns `self + other`, saturating at `MIN` and `MAX`.
     ///
     /// <details><summary>Contract</summary>
     ///
@@ -221,7 +221,7 @@ impl F6Dot10 {
         Self(self.0.saturating_add(other.0))
     }
 
-    /// The difference, or the nearest end of the range where it is out of it.
+    /// Returns `self - other`, saturating at `MIN` and `MAX`.
     ///
     /// <details><summary>Contract</summary>
     ///
@@ -241,7 +241,7 @@ impl F6Dot10 {
         Self(self.0.saturating_sub(other.0))
     }
 
-    /// The sum, or `None` where it is out of range.
+    /// Returns `self + other`, or `None` on overflow.
     ///
     /// <details><summary>Contract</summary>
     ///
@@ -262,7 +262,7 @@ impl F6Dot10 {
         Some(Self(self.0.checked_add(other.0)?))
     }
 
-    /// The two bytes of the bits, highest first.
+    /// Returns the raw bits as big-endian bytes.
     ///
     /// <details><summary>Contract</summary>
     ///
@@ -282,12 +282,12 @@ impl F6Dot10 {
         self.0.to_be_bytes()
     }
 
-    /// The number nearest to a decimal text, ties away from zero.
+    /// Parses a decimal as the nearest value, rounding half away from zero.
     ///
     /// # Errors
     ///
-    /// A text outside the grammar is refused as `Syntax`, one whose nearest number is out of range
-    /// as `OutOfRange`.
+    /// Returns `Syntax` if the text is not a decimal, and `OutOfRange` if its nearest value is out
+    /// of range.
     ///
     /// <details><summary>Contract</summary>
     ///
@@ -306,11 +306,11 @@ impl F6Dot10 {
         Self::from_decimal_bytes(text.as_bytes())
     }
 
-    /// The same of bytes, which need not be a text.
+    /// Parses a decimal from bytes, as `from_decimal` does.
     ///
     /// # Errors
     ///
-    /// Those of `from_decimal`; bytes that are no text are `Syntax`.
+    /// Those of `from_decimal`; bytes that are not UTF-8 are `Syntax`.
     ///
     /// <details><summary>Contract</summary>
     ///
@@ -329,9 +329,9 @@ impl F6Dot10 {
         read_bits_16(text, Self::FRACTION_BITS).map(Self)
     }
 
-    /// Writes the printed text to the front of `out`, padded, and returns the number of bytes;
-    /// `None` where `out` is too short, which then stays as it was. 8 bytes, or the width where
-    /// that is more, are always enough. The fill is below 0x80.
+    /// Writes the padded decimal to the start of `out` and returns its length, or returns `None`
+    /// and leaves `out` unchanged if it is too short. 8 bytes, or `pad.width` if that is more, are
+    /// always enough. `pad.fill` must be ASCII.
     ///
     /// <details><summary>Contract</summary>
     ///
@@ -466,7 +466,7 @@ impl Neg for F6Dot10 {
     }
 }
 
-/// The text is read as by `from_decimal`: `"1.5".parse::<F6Dot10>()`.
+/// Parses as `from_decimal` does: `"1.5".parse::<F6Dot10>()`.
 ///
 /// <details><summary>Contract</summary>
 ///

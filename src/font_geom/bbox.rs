@@ -1,10 +1,10 @@
 // @generated from crates/font_geom/src/bbox.rt by tools/src/bin/erase.rs
 
-//! Boxes with sides along the axes.
+//! Axis-aligned bounding boxes.
 
 use core::ops::Mul;
 
-/// The least and greatest coordinates of a region.
+/// The minimum and maximum coordinates of a region.
 ///
 /// ```
 /// use font_types_proved::BoundingBox;
@@ -14,20 +14,20 @@ use core::ops::Mul;
 /// ```
 #[derive(Clone, Copy, PartialEq, Eq, Default, Debug)]
 pub struct BoundingBox<T> {
-    /// The least x, the left side.
+    /// The minimum x coordinate.
     pub x_min: T,
-    /// The least y, the bottom where y goes up, as in fonts.
+    /// The minimum y coordinate.
     pub y_min: T,
-    /// The greatest x, the right side.
+    /// The maximum x coordinate.
     pub x_max: T,
-    /// The greatest y, the top where y goes up.
+    /// The maximum y coordinate.
     pub y_max: T,
 }
 
 impl<T: Mul<Output = T> + Copy> BoundingBox<T> {
-    /// The box with each entry times the factor.
+    /// Multiplies each coordinate by `factor`.
     ///
-    /// A negative factor turns the box round: call `normalize` after it.
+    /// A negative factor swaps minimum and maximum: call `normalize` afterwards.
     ///
     /// <details><summary>Contract</summary>
     ///
@@ -54,7 +54,7 @@ impl<T: Mul<Output = T> + Copy> BoundingBox<T> {
 }
 
 impl<T: PartialOrd + Copy> BoundingBox<T> {
-    /// Whether `x_min <= x_max` and `y_min <= y_max`.
+    /// Returns `true` if `x_min <= x_max` and `y_min <= y_max`.
     ///
     /// <details><summary>Contract</summary>
     ///
@@ -72,8 +72,7 @@ impl<T: PartialOrd + Copy> BoundingBox<T> {
         self.x_min <= self.x_max && self.y_min <= self.y_max
     }
 
-    /// The box whose pairs are in order: a pair for which `min <= max` is true stays, and every
-    /// other pair is swapped.
+    /// Swaps each pair unless `min <= max`.
     ///
     /// A pair that does not compare is swapped too, and then the box is not normalized.
     ///

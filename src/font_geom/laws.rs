@@ -1,12 +1,11 @@
 // @generated from crates/font_geom/src/laws.rt by tools/src/bin/erase.rs
 
-//! Functions whose contracts are laws of matrices: they make the calls that a law speaks of, and
-//! return what those give.
+//! Laws of matrices, as contracts of functions that make the calls and return their results.
 
 use crate::font_fixed::Fixed;
 use crate::font_geom::{Matrix, Point, RingElement};
 
-/// `(a * b) * c` and `a * (b * c)`, which are equal.
+/// Returns `(a * b) * c` and `a * (b * c)`, which are equal.
 ///
 /// <details><summary>Contract</summary>
 ///
@@ -31,7 +30,7 @@ pub fn associative<T: RingElement>(
     ((a * b) * c, a * (b * c))
 }
 
-/// `(a * b) * p` and `a * (b * p)`, which are equal.
+/// Returns `(a * b) * p` and `a * (b * p)`, which are equal.
 ///
 /// <details><summary>Contract</summary>
 ///
@@ -52,7 +51,7 @@ pub fn action<T: RingElement>(a: Matrix<T>, b: Matrix<T>, p: Point<T>) -> (Point
     ((a * b) * p, a * (b * p))
 }
 
-/// The identity times `a`, and `a` times the identity: both are `a`.
+/// Returns the identity times `a`, and `a` times the identity: both are `a`.
 ///
 /// <details><summary>Contract</summary>
 ///
@@ -74,8 +73,8 @@ pub fn identity_neutral<T: RingElement>(a: Matrix<T>) -> (Matrix<T>, Matrix<T>) 
     (Matrix::identity() * a, a * Matrix::identity())
 }
 
-/// The identity times `a`, and `a` times the identity: both are `a`, also where products are
-/// rounded and sums wrap.
+/// Returns the identity times `a`, and `a` times the identity: both are `a`, even though products
+/// round and sums wrap.
 ///
 /// <details><summary>Contract</summary>
 ///
@@ -104,9 +103,9 @@ pub fn fixed_identity(a: Matrix<Fixed>) -> (Matrix<Fixed>, Matrix<Fixed>) {
     (identity * a, a * identity)
 }
 
-/// `(x * y) * z` and `x * (y * z)` of one step and two halves: one step, and zero.
+/// Returns `(e * h) * h` and `e * (h * h)` for `e = Fixed::EPSILON` and `h` one half: `e` and zero.
 ///
-/// So products of [`Fixed`], which are rounded, do not associate, and [`Fixed`] is no [`RingElement`].
+/// So products of [`Fixed`] are not associative, and [`Fixed`] is not a [`RingElement`].
 ///
 /// <details><summary>Contract</summary>
 ///
@@ -129,11 +128,11 @@ pub fn step_and_halves() -> (Fixed, Fixed) {
     (step * half * half, step * (half * half))
 }
 
-/// `(a * b) * p`, which is near the exact image of `p` where no entry of the product and no
-/// coordinate of the result leaves 32 bits.
+/// Returns `(a * b) * p`, with a bound on the distance from the exact image of `p`.
 ///
-/// Each coordinate is then at most `(|x| + |y|) / 65536 + 2` bits from the exact one, magnitudes in
-/// bits. What happens on the way may wrap.
+/// If no entry of `a * b` and no coordinate of the result overflows 32 bits, each coordinate is at
+/// most `(|x| + |y|) / 65536 + 2` from the exact one, all as raw values. Intermediate sums may
+/// wrap.
 ///
 /// <details><summary>Contract</summary>
 ///
@@ -163,11 +162,11 @@ pub fn composed(a: Matrix<Fixed>, b: Matrix<Fixed>, p: Point<Fixed>) -> Point<Fi
     (a * b) * p
 }
 
-/// `a * (b * p)`, which is near the exact image of `p` where no coordinate of `b * p` and none of
-/// the result leaves 32 bits.
+/// Returns `a * (b * p)`, with a bound on the distance from the exact image of `p`.
 ///
-/// A coordinate is then at most the magnitudes of the two linear entries of its row of `a`, in
-/// bits, over 65536, and 1 bit from the exact one. What happens on the way may wrap.
+/// If no coordinate of `b * p` and none of the result overflows 32 bits, `x` is at most
+/// `(|a.xx| + |a.xy|) / 65536 + 1` from the exact one, and `y` at most
+/// `(|a.yx| + |a.yy|) / 65536 + 1`, all as raw values. Intermediate sums may wrap.
 ///
 /// <details><summary>Contract</summary>
 ///

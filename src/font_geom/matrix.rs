@@ -6,15 +6,15 @@ use crate::font_fixed::Fixed;
 use crate::font_geom::Point;
 use core::ops::{Add, Mul, MulAssign};
 
-/// A matrix that moves points: one of 2 by 2 elements, and a translation.
+/// An affine transformation: a 2 by 2 matrix and a translation.
 ///
 /// ```none
 /// | xx xy dx |
 /// | yx yy dy |
 /// ```
 ///
-/// It sends `(x, y)` to `(xx * x + xy * y + dx, yx * x + yy * y + dy)`. The product `a * b` applies
-/// `b` and then `a`.
+/// Transforms `(x, y)` to `(xx * x + xy * y + dx, yx * x + yy * y + dy)`. The product `a * b`
+/// applies `b` first, then `a`. For [`Fixed`], the translation is in the unit of the points.
 ///
 /// ```
 /// use font_types_proved::{Fixed, Matrix, Point};
@@ -24,13 +24,13 @@ use core::ops::{Add, Mul, MulAssign};
 /// ```
 #[derive(Clone, Copy, PartialEq, Eq, Debug)]
 pub struct Matrix<T> {
-    /// What x adds to x.
+    /// The factor of x in x.
     pub xx: T,
-    /// What x adds to y.
+    /// The factor of x in y.
     pub yx: T,
-    /// What y adds to x.
+    /// The factor of y in x.
     pub xy: T,
-    /// What y adds to y.
+    /// The factor of y in y.
     pub yy: T,
     /// The translation along x.
     pub dx: T,
@@ -38,7 +38,7 @@ pub struct Matrix<T> {
     pub dy: T,
 }
 
-/// A type whose values can be elements of a matrix.
+/// A type of matrix elements.
 pub trait MatrixElement: Copy + Add<Output = Self> + Mul<Output = Self> {
     /// 0.
     const ZERO: Self;
@@ -54,7 +54,7 @@ impl MatrixElement for Fixed {
 }
 
 impl<T: Copy> Matrix<T> {
-    /// The matrix of these elements, in the order `[xx, yx, xy, yy, dx, dy]`.
+    /// Creates a matrix from its elements in the order `[xx, yx, xy, yy, dx, dy]`.
     ///
     /// <details><summary>Contract</summary>
     ///
@@ -80,7 +80,7 @@ impl<T: Copy> Matrix<T> {
         }
     }
 
-    /// The elements in the order `[xx, yx, xy, yy, dx, dy]`.
+    /// Returns the elements in the order `[xx, yx, xy, yy, dx, dy]`.
     ///
     /// <details><summary>Contract</summary>
     ///
@@ -98,7 +98,7 @@ impl<T: Copy> Matrix<T> {
         [self.xx, self.yx, self.xy, self.yy, self.dx, self.dy]
     }
 
-    /// The matrix of what the function gives at each element, in the order of `elements`.
+    /// Applies a function to each element, in the order of `elements`.
     ///
     /// <details><summary>Contract</summary>
     ///
@@ -128,7 +128,7 @@ impl<T: Copy> Matrix<T> {
 }
 
 impl<T: MatrixElement> Matrix<T> {
-    /// The matrix that leaves every point where it is.
+    /// Returns the identity matrix.
     ///
     /// <details><summary>Contract</summary>
     ///
@@ -153,7 +153,7 @@ impl<T: MatrixElement> Matrix<T> {
         }
     }
 
-    /// Where the point `(x, y)` goes.
+    /// Transforms the point `(x, y)`.
     ///
     /// <details><summary>Contract</summary>
     ///

@@ -1,10 +1,10 @@
 // @generated from crates/font_geom/src/point.rt by tools/src/bin/erase.rs
 
-//! Points of two coordinates.
+//! Two-dimensional points.
 
 use core::ops::{Add, AddAssign, Div, DivAssign, Mul, MulAssign, Neg, Sub, SubAssign};
 
-/// A point of the plane.
+/// A two-dimensional point.
 ///
 /// ```
 /// use font_types_proved::Point;
@@ -19,7 +19,7 @@ pub struct Point<T> {
 }
 
 impl<T> Point<T> {
-    /// The point with these coordinates.
+    /// Creates a point.
     ///
     /// <details><summary>Contract</summary>
     ///
@@ -35,7 +35,7 @@ impl<T> Point<T> {
         Self { x, y }
     }
 
-    /// The point with both coordinates the same.
+    /// Creates a point with both coordinates equal to `xy`.
     ///
     /// <details><summary>Contract</summary>
     ///
@@ -54,10 +54,9 @@ impl<T> Point<T> {
         Self { x: xy, y: xy }
     }
 
-    /// The point of what the function gives at each coordinate, x first.
+    /// Applies a function to each coordinate, x first.
     ///
-    /// `point.map(|n| n / 2)` halves both. The function may be called at x, and then at y in the
-    /// state that it is left in.
+    /// `point.map(|n| n / 2)` halves both.
     ///
     /// <details><summary>Contract</summary>
     ///

@@ -1,18 +1,18 @@
 // @generated from crates/font_ids/src/fword.rt by tools/src/bin/erase.rs
 
-//! Quantities in font design units, of 16 bits.
+//! 16-bit quantities in font design units.
 
 use crate::font_base::{FixedSize, IdentityEq, Scalar};
 use crate::font_fixed::{F48Dot16, Fixed};
 use core::fmt;
 
-// The whole number nearest to a quantity in steps of `2^-16`, ties upwards.
+// Rounds a 16.16 raw value to the nearest integer, half up.
 #[inline]
 fn nearest_whole(steps: i128) -> i128 {
     ((steps >> 15) + 1) >> 1
 }
 
-/// A signed quantity in font design units.
+/// A signed 16-bit quantity in font design units.
 ///
 /// ```
 /// use font_types_proved::{FWord, Fixed, Scalar};
@@ -23,7 +23,7 @@ fn nearest_whole(steps: i128) -> i128 {
 pub struct FWord(i16);
 
 impl FWord {
-    /// The quantity of a number.
+    /// Creates a quantity from a number of font units.
     ///
     /// <details><summary>Contract</summary>
     ///
@@ -42,7 +42,7 @@ impl FWord {
         Self(raw)
     }
 
-    /// The number.
+    /// Returns the number of font units.
     ///
     /// <details><summary>Contract</summary>
     ///
@@ -61,7 +61,7 @@ impl FWord {
         self.0
     }
 
-    /// The number as a 16.16 number, which never wraps.
+    /// Converts to 16.16, exactly.
     ///
     /// <details><summary>Contract</summary>
     ///
@@ -81,7 +81,7 @@ impl FWord {
         Fixed::from_i32(self.to_i16() as i32)
     }
 
-    /// The number moved by a sum of deltas, exactly, in units of `2^-16`.
+    /// Adds a sum of deltas, exactly. The result is a 16.16 raw value.
     ///
     /// <details><summary>Contract</summary>
     ///
@@ -101,8 +101,8 @@ impl FWord {
         i128::from(self.to_i16()) * 0x1_0000 + i128::from(delta.to_bits())
     }
 
-    /// The number nearest to a quantity in steps of `2^-16`, as `apply_delta` gives it, ties
-    /// upwards, or `None` where that is out of range.
+    /// Rounds a 16.16 raw value, such as the result of `apply_delta`, to the nearest font unit,
+    /// half up, or returns `None` if that is out of range.
     ///
     /// ```
     /// use font_types_proved::{FWord, Fixed, vary};
@@ -130,7 +130,7 @@ impl FWord {
         Some(FWord::new(i16::try_from(nearest_whole(steps)).ok()?))
     }
 
-    /// The two bytes in two's complement, highest first.
+    /// Returns the big-endian bytes.
     ///
     /// <details><summary>Contract</summary>
     ///
@@ -224,7 +224,7 @@ impl Scalar for FWord {
 
 impl IdentityEq for FWord {}
 
-/// An unsigned quantity in font design units.
+/// An unsigned 16-bit quantity in font design units.
 ///
 /// ```
 /// use font_types_proved::{Scalar, UfWord};
@@ -234,7 +234,7 @@ impl IdentityEq for FWord {}
 pub struct UfWord(u16);
 
 impl UfWord {
-    /// The quantity of a number.
+    /// Creates a quantity from a number of font units.
     ///
     /// <details><summary>Contract</summary>
     ///
@@ -253,7 +253,7 @@ impl UfWord {
         Self(raw)
     }
 
-    /// The number.
+    /// Returns the number of font units.
     ///
     /// <details><summary>Contract</summary>
     ///
@@ -272,7 +272,7 @@ impl UfWord {
         self.0
     }
 
-    /// The number as a 16.16 number. It wraps: from 32768 on the result is negative.
+    /// Converts to 16.16, wrapping: 32768 and above become negative.
     ///
     /// <details><summary>Contract</summary>
     ///
@@ -293,7 +293,7 @@ impl UfWord {
         Fixed::from_i32(self.to_u16() as i32)
     }
 
-    /// The number moved by a sum of deltas, exactly, in units of `2^-16`.
+    /// Adds a sum of deltas, exactly. The result is a 16.16 raw value.
     ///
     /// <details><summary>Contract</summary>
     ///
@@ -313,8 +313,8 @@ impl UfWord {
         i128::from(self.to_u16()) * 0x1_0000 + i128::from(delta.to_bits())
     }
 
-    /// The number nearest to a quantity in steps of `2^-16`, as `apply_delta` gives it, ties
-    /// upwards, or `None` where that is out of range.
+    /// Rounds a 16.16 raw value, such as the result of `apply_delta`, to the nearest font unit,
+    /// half up, or returns `None` if that is out of range.
     ///
     /// <details><summary>Contract</summary>
     ///
@@ -336,7 +336,7 @@ impl UfWord {
         Some(UfWord::new(u16::try_from(nearest_whole(steps)).ok()?))
     }
 
-    /// The two bytes, highest first.
+    /// Returns the big-endian bytes.
     ///
     /// <details><summary>Contract</summary>
     ///

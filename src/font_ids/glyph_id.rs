@@ -1,12 +1,12 @@
 // @generated from crates/font_ids/src/glyph_id.rt by tools/src/bin/erase.rs
 
-//! Glyph identifiers, as types of their own.
+//! Glyph ids.
 
 use crate::font_base::{FixedSize, IdentityEq, Scalar, Uint24};
 use core::cmp::Ordering;
 use core::fmt;
 
-/// A glyph identifier of 16 bits.
+/// A 16-bit glyph id.
 ///
 /// ```
 /// use font_types_proved::{GlyphId, GlyphId16};
@@ -16,10 +16,10 @@ use core::fmt;
 pub struct GlyphId16(u16);
 
 impl GlyphId16 {
-    /// The glyph that stands for an unknown one, 0.
+    /// `.notdef`, glyph 0.
     pub const NOTDEF: Self = Self(0);
 
-    /// The id of a number.
+    /// Creates a glyph id.
     ///
     /// <details><summary>Contract</summary>
     ///
@@ -38,7 +38,7 @@ impl GlyphId16 {
         Self(raw)
     }
 
-    /// The number.
+    /// Returns the number.
     ///
     /// <details><summary>Contract</summary>
     ///
@@ -57,7 +57,7 @@ impl GlyphId16 {
         self.0
     }
 
-    /// The number.
+    /// Returns the number.
     ///
     /// <details><summary>Contract</summary>
     ///
@@ -76,7 +76,7 @@ impl GlyphId16 {
         self.0 as u32
     }
 
-    /// The two bytes of the number, highest first.
+    /// Returns the big-endian bytes.
     ///
     /// <details><summary>Contract</summary>
     ///
@@ -96,7 +96,7 @@ impl GlyphId16 {
         self.0.to_be_bytes()
     }
 
-    /// Whether both are the id of one glyph.
+    /// Returns `true` if both are the same glyph.
     ///
     /// <details><summary>Contract</summary>
     ///
@@ -116,7 +116,7 @@ impl GlyphId16 {
         GlyphId::from(*self) == *other
     }
 
-    /// The order of the two numbers.
+    /// Compares the two numbers.
     ///
     /// <details><summary>Contract</summary>
     ///
@@ -256,7 +256,7 @@ impl Scalar for GlyphId16 {
 
 impl IdentityEq for GlyphId16 {}
 
-/// A glyph identifier of 24 bits.
+/// A 24-bit glyph id.
 ///
 /// ```
 /// use font_types_proved::GlyphId24;
@@ -266,10 +266,10 @@ impl IdentityEq for GlyphId16 {}
 pub struct GlyphId24(Uint24);
 
 impl GlyphId24 {
-    /// The glyph that stands for an unknown one, 0.
+    /// `.notdef`, glyph 0.
     pub const NOTDEF: Self = Self(Uint24::MIN);
 
-    /// The id of a number, or the greatest id where the number is above it.
+    /// Creates a glyph id, saturating at 16777215.
     ///
     /// <details><summary>Contract</summary>
     ///
@@ -289,7 +289,7 @@ impl GlyphId24 {
         Self(Uint24::new(raw))
     }
 
-    /// The id of a number, or `None` where it is above 16777215.
+    /// Creates a glyph id, or returns `None` if the number exceeds 16777215.
     ///
     /// <details><summary>Contract</summary>
     ///
@@ -313,7 +313,7 @@ impl GlyphId24 {
         }
     }
 
-    /// The number.
+    /// Returns the number.
     ///
     /// <details><summary>Contract</summary>
     ///
@@ -332,7 +332,7 @@ impl GlyphId24 {
         self.0.to_u32()
     }
 
-    /// The three bytes of the number, highest first.
+    /// Returns the big-endian bytes.
     ///
     /// <details><summary>Contract</summary>
     ///
@@ -352,7 +352,7 @@ impl GlyphId24 {
         self.0.to_be_bytes()
     }
 
-    /// The id of three bytes, highest first.
+    /// Creates a glyph id from big-endian bytes.
     ///
     /// <details><summary>Contract</summary>
     ///
@@ -474,7 +474,7 @@ impl Scalar for GlyphId24 {
 
 impl IdentityEq for GlyphId24 {}
 
-/// A glyph identifier of 32 bits, into which those of 16 and 24 bits convert.
+/// A 32-bit glyph id, to which 16-bit and 24-bit ids convert.
 ///
 /// ```
 /// use font_types_proved::{GlyphId, GlyphId16};
@@ -484,10 +484,10 @@ impl IdentityEq for GlyphId24 {}
 pub struct GlyphId(u32);
 
 impl GlyphId {
-    /// The glyph that stands for an unknown one, 0.
+    /// `.notdef`, glyph 0.
     pub const NOTDEF: Self = Self(0);
 
-    /// The id of a number.
+    /// Creates a glyph id.
     ///
     /// <details><summary>Contract</summary>
     ///
@@ -506,7 +506,7 @@ impl GlyphId {
         Self(raw)
     }
 
-    /// The number.
+    /// Returns the number.
     ///
     /// <details><summary>Contract</summary>
     ///
@@ -525,7 +525,7 @@ impl GlyphId {
         self.0
     }
 
-    /// Whether both are the id of one glyph.
+    /// Returns `true` if both are the same glyph.
     ///
     /// <details><summary>Contract</summary>
     ///
@@ -545,7 +545,7 @@ impl GlyphId {
         *self == GlyphId::from(*other)
     }
 
-    /// The order of the two numbers.
+    /// Compares the two numbers.
     ///
     /// <details><summary>Contract</summary>
     ///
@@ -676,7 +676,7 @@ impl From<GlyphId> for u32 {
     }
 }
 
-/// A glyph identifier that is too large for the type it was to be converted to.
+/// The error of a conversion of a glyph id that is too large for the target type.
 ///
 /// ```
 /// use font_types_proved::{GlyphId, GlyphId16};
@@ -696,7 +696,7 @@ impl core::fmt::Display for TryFromGlyphIdError {
 }
 
 impl TryFromGlyphIdError {
-    /// The number that was too large.
+    /// Returns the number that was too large.
     ///
     /// <details><summary>Contract</summary>
     ///

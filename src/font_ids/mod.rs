@@ -1,6 +1,6 @@
 // @generated from crates/font_ids/src/lib.rt by tools/src/bin/erase.rs
 
-//! Font units, glyph and name ids, and offsets; with the tags, versions and dates of `font_tags`.
+//! Font units, glyph ids, name ids and offsets, and the tags, versions and dates of `font_tags`.
 //!
 //! ```text
 //! format!(in alloc; "{}", NameId::FAMILY_NAME)          // "FAMILY_NAME"

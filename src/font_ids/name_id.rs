@@ -1,14 +1,14 @@
 // @generated from crates/font_ids/src/name_id.rt by tools/src/bin/erase.rs
 
-//! Identifiers of the texts in a naming table, as a type of their own.
+//! Name ids of the `name` table.
 
 use crate::font_base::{FixedSize, IdentityEq, Scalar};
 use core::fmt;
 
-/// The number of a text that tells something of a font, as its family or its designer.
+/// The id of a string in the `name` table, such as the family name.
 ///
-/// Some numbers are predefined and have a constant here; up to 255 they are kept for standard
-/// names, and from 256 to 32767 they are the font's own.
+/// Ids up to 255 are reserved; the predefined ones have constants here. Ids from 256 to 32767 are
+/// font-specific.
 ///
 /// ```
 /// use font_types_proved::NameId;
@@ -22,19 +22,19 @@ impl NameId {
     /// Copyright notice.
     pub const COPYRIGHT_NOTICE: Self = Self(0);
 
-    /// Family name, shared by at most four fonts that differ in weight or style alone.
+    /// Font family name, shared by at most four fonts that differ only in weight or style.
     pub const FAMILY_NAME: Self = Self(1);
 
-    /// Subfamily name, which tells these fonts apart.
+    /// Font subfamily name, which distinguishes the fonts of such a family.
     pub const SUBFAMILY_NAME: Self = Self(2);
 
-    /// Unique identifier of the font.
+    /// Unique font identifier.
     pub const UNIQUE_ID: Self = Self(3);
 
-    /// Full name, for people to read.
+    /// Full font name.
     pub const FULL_NAME: Self = Self(4);
 
-    /// Version, as `Version 1.000`.
+    /// Version string, such as `Version 1.000`.
     pub const VERSION_STRING: Self = Self(5);
 
     /// PostScript name.
@@ -52,55 +52,55 @@ impl NameId {
     /// Description of the typeface.
     pub const DESCRIPTION: Self = Self(10);
 
-    /// Address of the vendor on the web.
+    /// URL of the vendor.
     pub const VENDOR_URL: Self = Self(11);
 
-    /// Address of the designer on the web.
+    /// URL of the designer.
     pub const DESIGNER_URL: Self = Self(12);
 
-    /// Description of the licence.
+    /// License description.
     pub const LICENSE_DESCRIPTION: Self = Self(13);
 
-    /// Address of the licence on the web.
+    /// URL of the license.
     pub const LICENSE_URL: Self = Self(14);
 
     /// Typographic family name, shared by any number of fonts.
     pub const TYPOGRAPHIC_FAMILY_NAME: Self = Self(16);
 
-    /// Typographic subfamily name, which tells these fonts apart.
+    /// Typographic subfamily name.
     pub const TYPOGRAPHIC_SUBFAMILY_NAME: Self = Self(17);
 
-    /// Full name for menus of the Macintosh.
+    /// Compatible full name, for Macintosh menus.
     pub const COMPATIBLE_FULL_NAME: Self = Self(18);
 
     /// Sample text.
     pub const SAMPLE_TEXT: Self = Self(19);
 
-    /// PostScript name of a font that is keyed by character ids.
+    /// PostScript name of a CID-keyed font.
     pub const POSTSCRIPT_CID_NAME: Self = Self(20);
 
-    /// Family name by weight, width and slope.
+    /// Family name in the weight, width and slope model.
     pub const WWS_FAMILY_NAME: Self = Self(21);
 
-    /// Subfamily name by weight, width and slope.
+    /// Subfamily name in the weight, width and slope model.
     pub const WWS_SUBFAMILY_NAME: Self = Self(22);
 
-    /// Name of the palette for light backgrounds.
+    /// Name of a palette for light backgrounds.
     pub const LIGHT_BACKGROUND_PALETTE: Self = Self(23);
 
-    /// Name of the palette for dark backgrounds.
+    /// Name of a palette for dark backgrounds.
     pub const DARK_BACKGROUND_PALETTE: Self = Self(24);
 
-    /// Start of the PostScript names of a variable font's instances.
+    /// Prefix of the PostScript names of a variable font's instances.
     pub const VARIATIONS_POSTSCRIPT_NAME_PREFIX: Self = Self(25);
 
-    /// The last number that is kept for standard names.
+    /// The largest reserved id.
     pub const LAST_RESERVED_NAME_ID: Self = Self(255);
 
-    /// The last number that a name can have.
+    /// The largest id that is allowed.
     pub const LAST_ALLOWED_NAME_ID: Self = Self(32767);
 
-    /// The id of a number.
+    /// Creates a name id.
     ///
     /// <details><summary>Contract</summary>
     ///
@@ -119,7 +119,7 @@ impl NameId {
         Self(raw)
     }
 
-    /// The predefined ids from the least on: 0 to 14 and 16 to 25.
+    /// Returns an iterator over the predefined ids in order: 0 to 14 and 16 to 25.
     ///
     /// <details><summary>Contract</summary>
     ///
@@ -141,7 +141,7 @@ impl NameId {
         Predefined { next: 0 }
     }
 
-    /// The number.
+    /// Returns the number.
     ///
     /// <details><summary>Contract</summary>
     ///
@@ -160,7 +160,7 @@ impl NameId {
         self.0
     }
 
-    /// Whether the number is kept for standard names: 255 at most.
+    /// Returns `true` if the id is reserved, that is, at most 255.
     ///
     /// <details><summary>Contract</summary>
     ///
@@ -180,8 +180,7 @@ impl NameId {
         self.0 <= Self::LAST_RESERVED_NAME_ID.0
     }
 
-    /// The id so many numbers on, or `None` where that is above the last one allowed, also with
-    /// nothing added.
+    /// Returns `self + rhs`, or `None` if that exceeds `LAST_ALLOWED_NAME_ID`, even if `rhs` is 0.
     ///
     /// <details><summary>Contract</summary>
     ///
@@ -207,7 +206,7 @@ impl NameId {
         }
     }
 
-    /// The two bytes of the number, highest first.
+    /// Returns the big-endian bytes.
     ///
     /// <details><summary>Contract</summary>
     ///
@@ -228,7 +227,7 @@ impl NameId {
     }
 }
 
-/// 65535, which is no id of a name.
+/// 65535, which is not an id of a name.
 impl Default for NameId {
     #[inline]
     fn default() -> NameId {
@@ -254,7 +253,7 @@ impl From<u16> for NameId {
     }
 }
 
-/// The name of the constant, or [`NameId`] and the number.
+/// Writes the name of the constant, or [`NameId`] and the number.
 impl fmt::Debug for NameId {
     fn fmt(&self, f: &mut fmt::Formatter<'_>) -> fmt::Result {
         let name = match *self {
@@ -289,7 +288,7 @@ impl fmt::Debug for NameId {
     }
 }
 
-/// The name of the constant, or [`NameId`] and the number.
+/// Writes the name of the constant, or [`NameId`] and the number.
 ///
 /// <details><summary>Contract</summary>
 ///
@@ -329,7 +328,7 @@ impl Scalar for NameId {
 
 impl IdentityEq for NameId {}
 
-/// The predefined ids, one by one from the least on.
+/// An iterator over the predefined ids, in order.
 ///
 /// ```
 /// use font_types_proved::NameId;

@@ -4,8 +4,7 @@
 
 use crate::font_base::{FixedSize, IdentityEq, Scalar, Uint24};
 
-/// An offset of 16 bits to a table. Zero is null, and stands for no table where the field allows
-/// it.
+/// A 16-bit offset to a table. Zero means null, that is, no table, if the field allows that.
 ///
 /// ```
 /// use font_types_proved::Offset16;
@@ -16,7 +15,7 @@ use crate::font_base::{FixedSize, IdentityEq, Scalar, Uint24};
 pub struct Offset16(u16);
 
 impl Offset16 {
-    /// The offset of a number.
+    /// Creates an offset.
     ///
     /// <details><summary>Contract</summary>
     ///
@@ -35,7 +34,7 @@ impl Offset16 {
         Self(raw)
     }
 
-    /// Whether the offset is zero.
+    /// Returns `true` if the offset is zero.
     ///
     /// <details><summary>Contract</summary>
     ///
@@ -54,7 +53,7 @@ impl Offset16 {
         self == Offset16::NULL
     }
 
-    /// The number.
+    /// Returns the number.
     ///
     /// <details><summary>Contract</summary>
     ///
@@ -73,7 +72,7 @@ impl Offset16 {
         u32::from(self.0)
     }
 
-    /// Whether this is the offset's number.
+    /// Returns `true` if the offset is this number.
     ///
     /// <details><summary>Contract</summary>
     ///
@@ -113,8 +112,7 @@ impl Scalar for Offset16 {
 
 impl IdentityEq for Offset16 {}
 
-/// An offset of 24 bits to a table. Zero is null, and stands for no table where the field allows
-/// it.
+/// A 24-bit offset to a table. Zero means null, that is, no table, if the field allows that.
 ///
 /// ```
 /// use font_types_proved::{Offset24, Uint24};
@@ -125,7 +123,7 @@ impl IdentityEq for Offset16 {}
 pub struct Offset24(Uint24);
 
 impl Offset24 {
-    /// The offset of a number.
+    /// Creates an offset.
     ///
     /// <details><summary>Contract</summary>
     ///
@@ -145,7 +143,7 @@ impl Offset24 {
         Self(raw)
     }
 
-    /// Whether the offset is zero.
+    /// Returns `true` if the offset is zero.
     ///
     /// <details><summary>Contract</summary>
     ///
@@ -164,7 +162,7 @@ impl Offset24 {
         self == Offset24::NULL
     }
 
-    /// The number.
+    /// Returns the number.
     ///
     /// <details><summary>Contract</summary>
     ///
@@ -183,7 +181,7 @@ impl Offset24 {
         self.0.to_u32()
     }
 
-    /// Whether this is the offset's number.
+    /// Returns `true` if the offset is this number.
     ///
     /// <details><summary>Contract</summary>
     ///
@@ -223,8 +221,7 @@ impl Scalar for Offset24 {
 
 impl IdentityEq for Offset24 {}
 
-/// An offset of 32 bits to a table. Zero is null, and stands for no table where the field allows
-/// it.
+/// A 32-bit offset to a table. Zero means null, that is, no table, if the field allows that.
 ///
 /// ```
 /// use font_types_proved::Offset32;
@@ -235,7 +232,7 @@ impl IdentityEq for Offset24 {}
 pub struct Offset32(u32);
 
 impl Offset32 {
-    /// The offset of a number.
+    /// Creates an offset.
     ///
     /// <details><summary>Contract</summary>
     ///
@@ -254,7 +251,7 @@ impl Offset32 {
         Self(raw)
     }
 
-    /// Whether the offset is zero.
+    /// Returns `true` if the offset is zero.
     ///
     /// <details><summary>Contract</summary>
     ///
@@ -273,7 +270,7 @@ impl Offset32 {
         self == Offset32::NULL
     }
 
-    /// The number.
+    /// Returns the number.
     ///
     /// <details><summary>Contract</summary>
     ///
@@ -292,7 +289,7 @@ impl Offset32 {
         self.0
     }
 
-    /// Whether this is the offset's number.
+    /// Returns `true` if the offset is this number.
     ///
     /// <details><summary>Contract</summary>
     ///
@@ -332,12 +329,12 @@ impl Scalar for Offset32 {
 
 impl IdentityEq for Offset32 {}
 
-/// What an offset is to [`Nullable`]: a number, with the offset of zero.
+/// An offset that can be [`Nullable`].
 pub trait OffsetValue: Copy {
-    /// The offset of zero.
+    /// The null offset, 0.
     const NULL: Self;
 
-    /// The number.
+    /// Returns the number.
     ///
     /// <details><summary>Contract</summary>
     ///
@@ -379,7 +376,7 @@ impl OffsetValue for Offset32 {
     }
 }
 
-/// An offset in a field that allows null, which then stands for no table.
+/// An offset that may be null, that is, refer to no table.
 ///
 /// ```
 /// use font_types_proved::{Nullable, Offset16, Scalar};
@@ -389,7 +386,7 @@ impl OffsetValue for Offset32 {
 pub struct Nullable<T>(T);
 
 impl<T> Nullable<T> {
-    /// The offset, null or not.
+    /// Returns the offset, whether null or not.
     ///
     /// <details><summary>Contract</summary>
     ///
@@ -409,7 +406,7 @@ impl<T> Nullable<T> {
 }
 
 impl<T: OffsetValue> Nullable<T> {
-    /// Whether the offset is zero.
+    /// Returns `true` if the offset is zero.
     ///
     /// <details><summary>Contract</summary>
     ///
@@ -427,7 +424,7 @@ impl<T: OffsetValue> Nullable<T> {
         self.0.value_u32() == 0
     }
 
-    /// Whether this is the offset's number.
+    /// Returns `true` if the offset is this number.
     ///
     /// <details><summary>Contract</summary>
     ///

@@ -4,7 +4,7 @@
 
 use crate::font_base::{FixedSize, IdentityEq, Scalar};
 
-/// A date and time: seconds since midnight of January 1, 1904, UTC, and negative before.
+/// A date and time, as seconds since 1904-01-01 00:00 UTC; negative before that.
 ///
 /// ```
 /// use font_types_proved::{LongDateTime, Scalar};
@@ -15,7 +15,7 @@ use crate::font_base::{FixedSize, IdentityEq, Scalar};
 pub struct LongDateTime(i64);
 
 impl LongDateTime {
-    /// The date that is so many seconds after 1904-01-01 00:00 UTC.
+    /// Creates a date from seconds since 1904-01-01 00:00 UTC.
     ///
     /// <details><summary>Contract</summary>
     ///
@@ -34,7 +34,7 @@ impl LongDateTime {
         Self(secs)
     }
 
-    /// The seconds since 1904-01-01 00:00 UTC.
+    /// Returns the seconds since 1904-01-01 00:00 UTC.
     ///
     /// <details><summary>Contract</summary>
     ///
@@ -53,7 +53,7 @@ impl LongDateTime {
         self.0
     }
 
-    /// The eight bytes of the seconds, highest first.
+    /// Returns the seconds as big-endian bytes.
     ///
     /// <details><summary>Contract</summary>
     ///

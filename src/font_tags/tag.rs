@@ -1,20 +1,20 @@
 // @generated from crates/font_tags/src/tag.rt by tools/src/bin/erase.rs
 
-//! Tags of four bytes.
+//! Four-byte tags.
 
 use crate::font_base::{FixedSize, IdentityEq, Scalar};
 use core::cmp::Ordering;
 use core::fmt;
 use core::str::FromStr;
 
-/// The tag in front of a font collection, `ttcf`.
+/// The tag at the start of a font collection, `ttcf`.
 pub const TTC_HEADER_TAG: Tag = Tag([0x74, 0x74, 0x63, 0x66]);
 
-/// A name of four bytes, of a table, a script, a feature and the like.
+/// A four-byte identifier of a table, script, feature, axis and so on.
 ///
-/// A good tag has one to four visible characters of ASCII, filled to four bytes with spaces. Fonts
-/// hold others too, so any four bytes are a [`Tag`]: [`Tag::new_checked`] takes good ones alone, and
-/// [`Tag::validate`] judges a tag.
+/// A valid tag is one to four printable ASCII characters, padded to four bytes with spaces. Fonts
+/// may contain others, so a [`Tag`] can have any four bytes: [`Tag::new_checked`] accepts only valid
+/// ones, and [`Tag::validate`] checks a tag.
 ///
 /// ```
 /// use font_types_proved::{InvalidTag, Tag};
@@ -25,7 +25,7 @@ pub const TTC_HEADER_TAG: Tag = Tag([0x74, 0x74, 0x63, 0x66]);
 pub struct Tag([u8; 4]);
 
 impl Tag {
-    /// The tag of four bytes, whatever they are.
+    /// Creates a tag from four bytes, without validation.
     ///
     /// <details><summary>Contract</summary>
     ///
@@ -44,14 +44,14 @@ impl Tag {
         Self(*src)
     }
 
-    /// The tag of one to four good bytes, filled with spaces.
+    /// Creates a valid tag from one to four bytes, padding with spaces.
     ///
-    /// `Tag::new_checked(b"cv1")` is `cv1` and a space.
+    /// `Tag::new_checked(b"cv1")` is `cv1` followed by a space.
     ///
     /// # Errors
     ///
-    /// No bytes and more than four are `InvalidLength`. Every fault of the bytes is `InvalidByte`,
-    /// also a visible byte after a space.
+    /// Returns `InvalidLength` unless there are one to four bytes. Any other error is
+    /// `InvalidByte`, including a printable byte after a space.
     ///
     /// <details><summary>Contract</summary>
     ///
@@ -85,7 +85,7 @@ impl Tag {
         Ok(Self(bytes))
     }
 
-    /// The tag of a number's four bytes, highest first.
+    /// Creates a tag from the big-endian bytes of a number.
     ///
     /// <details><summary>Contract</summary>
     ///
@@ -105,7 +105,7 @@ impl Tag {
         Self(src.to_be_bytes())
     }
 
-    /// The tag of four bytes, whatever they are.
+    /// Creates a tag from four bytes, without validation.
     ///
     /// <details><summary>Contract</summary>
     ///
@@ -124,7 +124,7 @@ impl Tag {
         Self(bytes)
     }
 
-    /// The four bytes, first to last.
+    /// Returns the four bytes.
     ///
     /// <details><summary>Contract</summary>
     ///
@@ -143,7 +143,7 @@ impl Tag {
         self.0
     }
 
-    /// The four bytes, first to last.
+    /// Returns the four bytes.
     ///
     /// <details><summary>Contract</summary>
     ///
@@ -162,7 +162,7 @@ impl Tag {
         self.0
     }
 
-    /// The four bytes, first to last.
+    /// Returns the four bytes.
     ///
     /// <details><summary>Contract</summary>
     ///
@@ -181,7 +181,7 @@ impl Tag {
         &self.0
     }
 
-    /// Whether these are the tag's bytes.
+    /// Returns `true` if the tag has these bytes.
     ///
     /// <details><summary>Contract</summary>
     ///
@@ -200,7 +200,7 @@ impl Tag {
         self.0 == *other
     }
 
-    /// Whether these are the tag's bytes; a text of another length never is.
+    /// Returns `true` if the tag has the bytes of this string.
     ///
     /// <details><summary>Contract</summary>
     ///
@@ -219,7 +219,7 @@ impl Tag {
         self.eq_slice(other.as_bytes())
     }
 
-    /// Whether these are the tag's bytes; a slice of another length never is.
+    /// Returns `true` if the tag has the bytes of this slice.
     ///
     /// <details><summary>Contract</summary>
     ///
@@ -238,12 +238,12 @@ impl Tag {
         self.0.as_slice() == other
     }
 
-    /// Whether the tag is good: visible characters, and only spaces behind them.
+    /// Checks that the tag is valid: printable characters, followed only by spaces.
     ///
     /// # Errors
     ///
-    /// Four spaces are refused as a tag of no bytes, `InvalidLength(0)`, a visible byte after a
-    /// space as `ByteAfterSpace`, and any other fault as `InvalidByte`.
+    /// Returns `InvalidLength(0)` for four spaces, `ByteAfterSpace` for a printable byte after a
+    /// space, and otherwise `InvalidByte`.
     ///
     /// <details><summary>Contract</summary>
     ///
@@ -275,7 +275,7 @@ impl Tag {
     }
 }
 
-// Where the bytes cease to be good, or `None` where they are good.
+// Returns the index of the first invalid byte, or `None` if all are valid.
 #[inline]
 const fn first_fault(bytes: &[u8]) -> Option<usize> {
     let run = visible_run(bytes);
@@ -286,7 +286,7 @@ const fn first_fault(bytes: &[u8]) -> Option<usize> {
     if pos < bytes.len() { Some(pos) } else { None }
 }
 
-// How many bytes in front are visible.
+// Returns the number of leading printable bytes other than spaces.
 #[inline]
 const fn visible_run(bytes: &[u8]) -> usize {
     let mut run = 0;
@@ -296,7 +296,7 @@ const fn visible_run(bytes: &[u8]) -> usize {
     run
 }
 
-// Where the spaces end that stand from this index on.
+// Returns the index after the spaces that start at `from`.
 #[inline]
 const fn behind_spaces(bytes: &[u8], from: usize) -> usize {
     let mut pos = from;
@@ -306,19 +306,19 @@ const fn behind_spaces(bytes: &[u8], from: usize) -> usize {
     pos
 }
 
-/// Why bytes are no good tag.
+/// Why a tag is invalid.
 #[derive(Clone, Debug, PartialEq, Eq)]
 pub enum InvalidTag {
-    /// There were not one to four bytes; a tag of four spaces has none.
+    /// There are not one to four bytes; a tag of four spaces has length 0.
     InvalidLength(usize),
-    /// The byte at `pos` cannot stand there.
+    /// The byte at `pos` is not allowed there.
     InvalidByte {
         /// The index of the byte.
         pos: usize,
         /// The byte.
         byte: u8,
     },
-    /// The byte at `pos` is visible, and stands after a space.
+    /// The byte at `pos` is printable, but follows a space.
     ByteAfterSpace {
         /// The index of the byte.
         pos: usize,
@@ -401,7 +401,7 @@ impl fmt::Display for Tag {
     }
 }
 
-// Writes a byte as a tag shows it.
+// Writes a byte as in the text of a tag.
 fn write_byte(f: &mut fmt::Formatter<'_>, byte: u8) -> fmt::Result {
     match byte {
         0x20..=0x7E => f.write_str(char::from(byte).encode_utf8(&mut [0; 4])),

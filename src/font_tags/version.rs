@@ -1,14 +1,14 @@
 // @generated from crates/font_tags/src/version.rt by tools/src/bin/erase.rs
 
-//! Version numbers of tables.
+//! Table versions.
 
 use crate::font_base::{FixedSize, IdentityEq, Scalar};
 use core::fmt;
 
-/// A version of the older tables, packed into 32 bits: 16 of the major number, 4 of the minor
-/// number, and 12 without meaning.
+/// A packed 32-bit version, as in `maxp`, `post` and `vhea`: the major number in the high 16 bits
+/// and the minor number in the next four.
 ///
-/// Versions are equal where all 32 bits are.
+/// Equality compares all 32 bits.
 ///
 /// ```
 /// use font_types_proved::{Compatible, Version16Dot16};
@@ -38,7 +38,7 @@ impl Version16Dot16 {
     /// Version 3.0.
     pub const VERSION_3_0: Self = Self(0x0003_0000);
 
-    /// The version of two numbers. A minor number above 9 counts as 9.
+    /// Creates a version. A minor number above 9 counts as 9.
     ///
     /// <details><summary>Contract</summary>
     ///
@@ -59,8 +59,8 @@ impl Version16Dot16 {
         Self(major as u32 * 0x1_0000 + minor as u32 * 0x1000)
     }
 
-    /// The major and the minor number. The minor number of other bits than those of `new` is up to
-    /// 15.
+    /// Returns the major and minor numbers. The minor number can be up to 15 unless the version was
+    /// created by `new`.
     ///
     /// <details><summary>Contract</summary>
     ///
@@ -84,7 +84,7 @@ impl Version16Dot16 {
         )
     }
 
-    /// The four bytes of the bits, highest first.
+    /// Returns the big-endian bytes.
     ///
     /// <details><summary>Contract</summary>
     ///
@@ -152,7 +152,7 @@ impl Scalar for Version16Dot16 {
 
 impl IdentityEq for Version16Dot16 {}
 
-/// A version of the newer tables: a major and a minor number of 16 bits each.
+/// A version with 16-bit major and minor numbers.
 ///
 /// ```
 /// use font_types_proved::{Compatible, MajorMinor};
@@ -183,7 +183,7 @@ impl MajorMinor {
     /// Version 2.0.
     pub const VERSION_2_0: Self = MajorMinor { major: 2, minor: 0 };
 
-    /// The version of two numbers.
+    /// Creates a version.
     ///
     /// <details><summary>Contract</summary>
     ///
@@ -201,7 +201,7 @@ impl MajorMinor {
         MajorMinor { major, minor }
     }
 
-    /// Two bytes of the major number and then two of the minor number, highest first.
+    /// Returns the big-endian bytes, the major number first.
     ///
     /// <details><summary>Contract</summary>
     ///
@@ -267,10 +267,9 @@ impl Scalar for MajorMinor {
 
 impl IdentityEq for MajorMinor {}
 
-/// Whether a table of one version can be read as one of another.
+/// Compatibility of table versions.
 pub trait Compatible<Rhs = Self>: Sized {
-    /// Whether this version has the other's major number, and a minor number that is not below the
-    /// other's.
+    /// Returns `true` if the major numbers are equal and this minor number is at least the other's.
     ///
     /// <details><summary>Contract</summary>
     ///
@@ -316,7 +315,7 @@ impl Compatible<(u16, u16)> for MajorMinor {
     }
 }
 
-/// A version of one number: one that is not below the other.
+/// A version of one number is compatible if it is at least the other.
 impl Compatible<u16> for u16 {
     #[inline]
     fn compatible(&self, other: u16) -> bool {

@@ -5,10 +5,10 @@
 use crate::font_fixed::{F48Dot16, Fixed};
 use crate::font_ids::FWord;
 
-/// A sum of products of scalars and deltas that grows term by term, where no list holds the terms.
+/// An accumulator for products of scalars and deltas.
 ///
-/// It counts steps of `2^-16` font units in 128 bits, which hold every sum of fewer than `2^65`
-/// terms, whatever their order and signs; a sum that they do not hold wraps.
+/// The sum is a 16.16 raw value in 128 bits, enough for any `2^65 - 1` terms in any order; beyond
+/// that it wraps.
 ///
 /// ```
 /// use font_types_proved::{DeltaSum, Fixed};
@@ -25,7 +25,7 @@ pub struct DeltaSum {
 }
 
 impl DeltaSum {
-    /// The sum of no terms.
+    /// Creates an empty sum, 0.
     ///
     /// <details><summary>Contract</summary>
     ///
@@ -47,7 +47,7 @@ impl DeltaSum {
         }
     }
 
-    /// Adds the product of a scalar and a delta in font units, which is at most `2^62` steps.
+    /// Adds the product of a scalar and a delta in font units.
     ///
     /// <details><summary>Contract</summary>
     ///
@@ -83,7 +83,7 @@ impl DeltaSum {
         self.add(scalar, delta);
     }
 
-    /// The sum, wrapped to 64 bits.
+    /// Returns the sum, wrapped to 64 bits.
     ///
     /// <details><summary>Contract</summary>
     ///
@@ -104,7 +104,7 @@ impl DeltaSum {
         self.low
     }
 
-    /// The sum, or `None` where it lies outside 64 bits.
+    /// Returns the sum, or `None` if it does not fit in 64 bits.
     ///
     /// <details><summary>Contract</summary>
     ///
@@ -135,11 +135,9 @@ impl Default for DeltaSum {
     }
 }
 
-/// The sum of the products of scalars and deltas, exact where it fits 64 bits, whatever partial
-/// sums do.
+/// Returns the sum of scalar times delta over all terms, in font units, wrapped to 64 bits.
 ///
-/// A sum out of range wraps. Each term is a scalar and a delta in font units; the empty list gives
-/// zero.
+/// The sum is exact if it fits in 64 bits, even if partial sums do not. The empty list gives zero.
 ///
 /// ```
 /// use font_types_proved::{Fixed, delta_sum};
@@ -170,11 +168,10 @@ pub fn delta_sum(terms: &[(Fixed, i32)]) -> F48Dot16 {
     sum.finish()
 }
 
-/// The exact sum of the products of scalars and deltas, or `None` where it lies outside 64 bits.
+/// Returns the exact sum of scalar times delta over all terms, in font units, or `None` if it does
+/// not fit in 64 bits.
 ///
-/// Partial sums may lie anywhere. Each term is a scalar and a delta in font units, and the bits of
-/// the result count steps of `2^-16` font units, from `-2^63` to `2^63 - 1`; the empty list gives
-/// zero. Half of 3 font units is 1.5:
+/// Partial sums may have any size. The empty list gives zero. Half of 3 font units is 1.5:
 ///
 /// ```
 /// use font_types_proved::{Fixed, checked_delta_sum};
@@ -201,7 +198,7 @@ pub fn delta_sum(terms: &[(Fixed, i32)]) -> F48Dot16 {
 #[must_use]
 #[inline]
 pub fn checked_delta_sum(terms: &[(Fixed, i32)]) -> Option<F48Dot16> {
-    // A list has fewer than 2^64 terms, so that 128 bits hold every partial sum.
+    // A list has fewer than 2^64 terms, so every partial sum fits in 128 bits.
     let mut exact = DeltaSum::new();
     for term in terms {
         exact.add_term(term);
@@ -209,11 +206,10 @@ pub fn checked_delta_sum(terms: &[(Fixed, i32)]) -> Option<F48Dot16> {
     exact.checked_finish()
 }
 
-/// A quantity moved by the exact sum of deltas, in units of `2^-16`, or `None` where that sum lies
-/// outside 64 bits.
+/// Adds the exact sum of deltas to a quantity in font units, and returns the 16.16 raw value, or
+/// `None` if `checked_delta_sum` does.
 ///
-/// The result is `base.apply_delta` of what `checked_delta_sum` gives: 100 font units and half of 3
-/// are 101.5.
+/// 100 font units and half of 3 are 101.5:
 ///
 /// ```
 /// use font_types_proved::{FWord, Fixed, vary};

@@ -1,6 +1,6 @@
 // @generated from crates/font_types/src/laws.rt by tools/src/bin/erase.rs
 
-//! Functions whose contracts are laws.
+//! Laws, as contracts of functions.
 
 pub use crate::font_decimal::laws::reads_in_order;
 pub use crate::font_fixed::laws::{f26dot6, fixed};

@@ -1,13 +1,13 @@
 // @generated from crates/font_types/src/lib.rt by tools/src/bin/erase.rs
 
-//! The scalar types of OpenType, under one name: what readers of font tables, evaluators of deltas,
-//! scalers of outlines and dumpers of font values are built with.
+//! The scalar types of OpenType, for readers of font tables, evaluators of deltas, scalers of
+//! outlines and dumpers of font values.
 //!
 //! ```text
 //! let version = MajorMinor::read(&bytes[..4]);          // Some, as there are four bytes
 //! let width = Fixed::from_decimal("1.5")?;              // bits 98304
 //! let moved = Matrix::identity() * Point::new(width, Fixed::ZERO);
-//! Tag::new_checked(b"cvt")?.to_json(alloc)?             // the text "cvt "
+//! let tag = Tag::new_checked(b"cvt")?;                  // "cvt "
 //! ```
 
 mod delta;
@@ -30,11 +30,11 @@ pub use crate::font_ids::{
 };
 pub use delta::{DeltaSum, checked_delta_sum, delta_sum, vary};
 
-/// The version in front of a font with TrueType outlines, 1.0.
+/// The `sfnt` version of a font with TrueType outlines, 1.0.
 pub const TT_SFNT_VERSION: u32 = 0x0001_0000;
 
-/// The version in front of a TrueType font of older Apple systems, the bytes `true`.
+/// The `sfnt` version of a TrueType font of older Apple systems, the bytes `true`.
 pub const TRUE_SFNT_VERSION: u32 = 0x7472_7565;
 
-/// The version in front of a font with CFF outlines, the bytes `OTTO`.
+/// The `sfnt` version of a font with CFF outlines, the bytes `OTTO`.
 pub const CFF_SFNT_VERSION: u32 = 0x4F54_544F;

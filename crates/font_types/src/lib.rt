@@ -5,7 +5,7 @@
 //! let version = MajorMinor::read(&bytes[..4]);          // Some, as there are four bytes
 //! let width = Fixed::from_decimal("1.5")?;              // bits 98304
 //! let moved = Matrix::identity() * Point::new(width, Fixed::ZERO);
-//! Tag::new_checked(b"cvt")?.to_json(alloc)?             // the text "cvt "
+//! let tag = Tag::new_checked(b"cvt")?;                  // "cvt "
 //! ```
 #![tactic(auto)]
 

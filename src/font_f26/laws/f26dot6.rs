@@ -1,12 +1,10 @@
 // @generated from crates/font_f26/src/laws/f26dot6.rt by tools/src/bin/erase.rs
 
-//! Laws of [`F26Dot6`], as contracts of functions that make the calls.
+//! Laws of [`F26Dot6`], as contracts of functions.
 
 use crate::font_f26::F26Dot6;
 
-/// `x * y`, `y * x` and `x * ONE`.
-///
-/// The first two are equal, and the third is `x`.
+/// Returns `x * y`, `y * x` and `x * ONE`: the first two are equal, and the third is `x`.
 ///
 /// <details><summary>Contract</summary>
 ///
@@ -29,9 +27,8 @@ pub fn product_laws(x: F26Dot6, y: F26Dot6) -> [F26Dot6; 3] {
     [x * y, y * x, x * F26Dot6::ONE]
 }
 
-/// `x / y`, `x / ONE` and `x / x`.
-///
-/// The second is `x`, and the last is `ONE` where `x` is not zero.
+/// Returns `x / y`, `x / ONE` and `x / x`: the second is `x`, and the last is `ONE` unless `x` is
+/// zero.
 ///
 /// <details><summary>Contract</summary>
 ///

@@ -1,12 +1,11 @@
 // @generated from crates/font_fixed/src/laws/fixed.rt by tools/src/bin/erase.rs
 
-//! Laws of [`Fixed`], as contracts of functions that make the calls.
+//! Laws of [`Fixed`], as contracts of functions.
 
 use crate::font_fixed::Fixed;
 
-/// `x * y`, `y * x`, `x * ONE` and `x.mul_div(y, ONE)`.
-///
-/// The first, the second and the last are equal, and the third is `x`.
+/// Returns `x * y`, `y * x`, `x * ONE` and `x.mul_div(y, ONE)`: the third is `x`, and the others
+/// are equal.
 ///
 /// <details><summary>Contract</summary>
 ///
@@ -33,10 +32,10 @@ pub fn product_laws(x: Fixed, y: Fixed) -> [Fixed; 4] {
     [x * y, y * x, x * Fixed::ONE, x.mul_div(y, Fixed::ONE)]
 }
 
-/// `x / y`, `x.mul_div(ONE, y)`, `x / ONE` and `x / x`.
+/// Returns `x / y`, `x.mul_div(ONE, y)`, `x / ONE` and `x / x`.
 ///
-/// The first two are equal, also where `y` is zero; the third is `x`, and the last is `ONE` where
-/// `x` is not zero.
+/// The first two are equal, even if `y` is zero; the third is `x`, and the last is `ONE` unless `x`
+/// is zero.
 ///
 /// <details><summary>Contract</summary>
 ///
