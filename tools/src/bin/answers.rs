@@ -19,11 +19,9 @@ fn main() -> ExitCode {
         repository::keep("crates/fontval/stdout", &answers, write),
         repository::keep(values, (rows.join("\n") + "\n").as_bytes(), write),
     ];
-    println!(
-        "{lines} lines and {} rows worked out",
-        rows.iter().filter(|row| !row.starts_with('#')).count()
-    );
-    if kept == [true, true] {
+    let count = rows.iter().filter(|row| !row.starts_with('#')).count();
+    println!("{lines} lines and {count} rows worked out");
+    if kept == [true, true] && lines > 0 && count > 0 {
         ExitCode::SUCCESS
     } else {
         ExitCode::FAILURE
