@@ -45,6 +45,7 @@ impl<'a, T: Scalar> ScalarArray<'a, T> {
     /// </details>
     #[must_use]
     pub fn new(data: &'a [u8]) -> Option<ScalarArray<'a, T>> {
+        const { assert!(T::RAW_BYTE_LEN == <T::Raw as crate::font_base::BeByteArray>::LEN) };
         // A remainder by 0 is the number itself.
         let left = data
             .len()

@@ -39,6 +39,7 @@ impl<T: Scalar> BigEndian<T> {
     /// </details>
     #[must_use]
     pub fn new(raw: T::Raw) -> BigEndian<T> {
+        const { assert!(T::RAW_BYTE_LEN == <T::Raw as crate::font_base::BeByteArray>::LEN) };
         BigEndian {
             raw,
             scalar: PhantomData,
@@ -61,6 +62,7 @@ impl<T: Scalar> BigEndian<T> {
     /// </details>
     #[must_use]
     pub fn from_slice(slice: &[u8]) -> Option<BigEndian<T>> {
+        const { assert!(T::RAW_BYTE_LEN == <T::Raw as crate::font_base::BeByteArray>::LEN) };
         let raw = T::Raw::from_slice(slice)?;
         Some(BigEndian {
             raw,

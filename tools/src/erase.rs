@@ -21,8 +21,9 @@
 //! - the program's `fn main`, which becomes `pub`, and `Tag::new_checked`, which becomes `const`.
 //!
 //! These are added: imports of what Rattle has in scope everywhere, `Display` and `Error` of a type
-//! that derives `Error`, and in documentation the contract of a public function, the links, and the
-//! package's name in examples.
+//! that derives `Error`, an assertion when it is compiled where a field or a view of scalars is made,
+//! and in documentation the contract of a public function, the links, and the package's name in
+//! examples.
 //!
 //! Anything else that Rust does not have is an [`Error`].
 
@@ -352,12 +353,31 @@ impl<'a> Eraser<'a> {
         if name == CONSTANT {
             self.put(at, "const ");
         }
+        self.assert_length(at)?;
         match self.words[at + 1..] {
             [IDENTITY, ..] => self.leave_out_identity(at),
             [_, "<", "W", ":", "fmt", "::", "Write", ">", ..] => Ok(self.leave_out(at + 2..at + 9)),
             ["clone", "(", "&", "self", ")", "-", ">", "Result", "<", ..] => self.clone_of_copy(at),
             _ => Ok(at + 2),
         }
+    }
+
+    // A constructor of a field or of a view asserts, when it is compiled, what Rattle proves of each
+    // `impl Scalar`.
+    fn assert_length(&mut self, at: usize) -> Result<(), Error> {
+        let (_, body) = self.clauses(at + 2)?;
+        let is_made = |word: &&str| matches!(*word, "BigEndian" | "ScalarArray");
+        let header = &self.words[at..body.unwrap_or(at)];
+        let is_constructor = matches!(self.words[at + 1], "new" | "from_slice");
+        if let Some(body) = body
+            && is_constructor
+            && header.iter().any(is_made)
+        {
+            self.put[self.places[body] + 1].push_str(
+                "\nconst { assert!(T::RAW_BYTE_LEN == <T::Raw as crate::font_base::BeByteArray>::LEN) };",
+            );
+        }
+        Ok(())
     }
 
     // `extern "C" fn f(x: &[T]) { .. }` becomes `extern "C" fn f(x: *const T, x_len: usize) { let x

@@ -93,6 +93,8 @@ fn kept<'a>(mut t: &[&'a str]) -> Vec<&'a str> {
             }
             // The impls of an error.
             ["impl", "core", _, _, "error", ..] => body(t) + body(&t[body(t)..]),
+            // An assertion on a scalar's length.
+            ["const", "{", "assert", ..] => through(t, ";"),
             // A slice that an export takes.
             [name, ":", "*", kind, item, ",", len, ":", "usize", ..] => {
                 assert_eq!(*len, format!("{name}_len"));
