@@ -1,10 +1,8 @@
-//! Traits that Rust's users expect, and that the proved text leaves to Rust; and the constant that
-//! Rattle has as a function. Each says what the fields and calls of the proved text say.
+//! Traits that Rust's users expect and the proved source does not have, over its calls; and a
+//! constant that Rattle has as a function.
 
-use crate::TryFromUint24Error;
-use crate::{Align, DecimalFault, InvalidTag, Matrix, MatrixElement, Pad, Predefined};
-use crate::{SampleHeader, Scalar, ScalarArray, ScalarArrayIter};
-use crate::{Shortest, TableDataRef, TableHeader, TryFromGlyphIdError};
+use crate::{Matrix, MatrixElement, Predefined, Scalar, ScalarArray, ScalarArrayIter};
+use crate::{Shortest, TableDataRef, TableHeader};
 use core::fmt::{Debug, Formatter, Result};
 use core::hash::{Hash, Hasher};
 use core::iter::FusedIterator;
@@ -12,70 +10,6 @@ use core::iter::FusedIterator;
 impl<T: MatrixElement> Matrix<T> {
     /// The matrix that moves no point, [`Matrix::identity`].
     pub const IDENTITY: Self = Self::identity();
-}
-
-// ---- how a number is padded
-
-impl Align {
-    fn name(self) -> &'static str {
-        match self {
-            Self::Left => "Left",
-            Self::Center => "Center",
-            Self::Right => "Right",
-        }
-    }
-}
-
-impl Debug for Align {
-    fn fmt(&self, f: &mut Formatter<'_>) -> Result {
-        f.write_str(self.name())
-    }
-}
-
-impl PartialEq for Align {
-    fn eq(&self, other: &Self) -> bool {
-        self.name() == other.name()
-    }
-}
-
-impl Eq for Align {}
-
-impl Hash for Align {
-    fn hash<H: Hasher>(&self, state: &mut H) {
-        self.name().hash(state);
-    }
-}
-
-impl Pad {
-    fn fields(&self) -> (usize, u8, Align, bool, bool) {
-        (self.width, self.fill, self.align, self.plus, self.zeros)
-    }
-}
-
-impl Debug for Pad {
-    fn fmt(&self, f: &mut Formatter<'_>) -> Result {
-        f.debug_struct("Pad")
-            .field("width", &self.width)
-            .field("fill", &self.fill)
-            .field("align", &self.align)
-            .field("plus", &self.plus)
-            .field("zeros", &self.zeros)
-            .finish()
-    }
-}
-
-impl PartialEq for Pad {
-    fn eq(&self, other: &Self) -> bool {
-        self.fields() == other.fields()
-    }
-}
-
-impl Eq for Pad {}
-
-impl Hash for Pad {
-    fn hash<H: Hasher>(&self, state: &mut H) {
-        self.fields().hash(state);
-    }
 }
 
 // ---- a number's text
@@ -138,49 +72,3 @@ impl<T: Scalar + Debug> Debug for ScalarArrayIter<'_, T> {
         f.debug_list().entries(self.clone()).finish()
     }
 }
-
-impl Debug for SampleHeader {
-    fn fmt(&self, f: &mut Formatter<'_>) -> Result {
-        let Self { a, b } = self;
-        f.debug_struct("SampleHeader")
-            .field("a", a)
-            .field("b", b)
-            .finish()
-    }
-}
-
-impl Clone for SampleHeader {
-    fn clone(&self) -> Self {
-        *self
-    }
-}
-
-impl Copy for SampleHeader {}
-
-impl Copy for DecimalFault {}
-
-impl Copy for InvalidTag {}
-
-impl Clone for TryFromGlyphIdError {
-    fn clone(&self) -> Self {
-        *self
-    }
-}
-
-impl Copy for TryFromGlyphIdError {}
-
-impl PartialEq for TryFromGlyphIdError {
-    fn eq(&self, other: &Self) -> bool {
-        self.value() == other.value()
-    }
-}
-
-impl Eq for TryFromGlyphIdError {}
-
-impl Clone for TryFromUint24Error {
-    fn clone(&self) -> Self {
-        *self
-    }
-}
-
-impl Copy for TryFromUint24Error {}

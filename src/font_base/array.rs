@@ -3,7 +3,7 @@
 //! Borrowed arrays of big-endian scalars.
 
 use crate::font_base::raw::Scalar;
-use core::cmp::Ordering;
+use core::hint::{assert_unchecked, select_unpredictable};
 use core::iter::FusedIterator;
 use core::marker::PhantomData;
 
@@ -142,7 +142,60 @@ impl<'a, T: Scalar> ScalarArray<'a, T> {
             return None;
         }
         let start = index * T::RAW_BYTE_LEN;
-        T::read(&self.data[start..start + T::RAW_BYTE_LEN])
+        let end = start + T::RAW_BYTE_LEN;
+        // SAFETY: `data` holds `len()` elements, and `index` is less than that.
+        unsafe { assert_unchecked(end <= self.data.len()) };
+        T::read(&self.data[start..end])
+    }
+
+    /// Returns the first element, or `None` if there is none.
+    ///
+    /// <details><summary>Contract</summary>
+    ///
+    /// ```text
+    /// ensures end { IsSome result ↔ (0 < array_len self.now) }
+    /// ensures stored { IfSome result (λ v.
+    ///     T.Raw.bytes (T.raw_of v) ≡ element_bytes self.now 0) }
+    /// ensures reads { IfSome result (λ v.
+    ///     IsValueOf T.Raw.bytes T.of_raw (element_bytes self.now 0) v) }
+    /// ensures value { IfSome result (λ v. IsTrue (T.is_scalar v)) }
+    /// ```
+    ///
+    /// Defined:
+    /// [`IsValueOf`](crate::contracts::font_base::Scalar),
+    /// [`array_len`](crate::contracts::font_base::Array),
+    /// [`element_bytes`](crate::contracts::font_base::Array).
+    /// [How to read it](crate::contracts).
+    ///
+    /// </details>
+    #[must_use]
+    pub fn first(&self) -> Option<T> {
+        self.get(0)
+    }
+
+    /// Returns the last element, or `None` if there is none.
+    ///
+    /// <details><summary>Contract</summary>
+    ///
+    /// ```text
+    /// ensures end { IsSome result ↔ (0 < array_len self.now) }
+    /// ensures stored { IfSome result (λ v.
+    ///     T.Raw.bytes (T.raw_of v) ≡ element_bytes self.now (array_len self.now - 1)) }
+    /// ensures reads { IfSome result (λ v. IsValueOf T.Raw.bytes T.of_raw
+    ///     (element_bytes self.now (array_len self.now - 1)) v) }
+    /// ensures value { IfSome result (λ v. IsTrue (T.is_scalar v)) }
+    /// ```
+    ///
+    /// Defined:
+    /// [`IsValueOf`](crate::contracts::font_base::Scalar),
+    /// [`array_len`](crate::contracts::font_base::Array),
+    /// [`element_bytes`](crate::contracts::font_base::Array).
+    /// [How to read it](crate::contracts).
+    ///
+    /// </details>
+    #[must_use]
+    pub fn last(&self) -> Option<T> {
+        self.get(self.len().checked_sub(1)?)
     }
 
     /// Returns an iterator over the elements, from either end.
@@ -188,11 +241,14 @@ impl<'a, T: Scalar> ScalarArray<'a, T> {
     ///
     /// ```text
     /// requires { F.IsAlwaysCallable key_of }
-    /// ensures { (of : T → K) → ((v : T) (k : K) → F.post key_of v k → k ≡ of v)
+    /// ensures found { IfOk result (λ i. i < array_len self.now) }
+    /// ensures absent { IfErr result (λ i. i ≤ array_len self.now) }
+    /// ensures place { (of : T → K) → ((v : T) (k : K) → F.post key_of v k → k ≡ of v)
     ///     → IsSearched self.now (λ v. K.cmp (of v) key.now) result }
     /// ```
     ///
     /// Defined:
+    /// [`array_len`](crate::contracts::font_base::Array),
     /// [`IsSearched`](crate::contracts::font_base::Array).
     /// [How to read it](crate::contracts).
     ///
@@ -202,20 +258,27 @@ impl<'a, T: Scalar> ScalarArray<'a, T> {
         key: &K,
         key_of: F,
     ) -> Result<usize, usize> {
-        let mut low = 0;
-        let mut high = self.len();
-        while low < high {
-            let middle = low + (high - low) / 2;
+        // As in std: a number of steps that the length alone decides, and no branch on an element.
+        let mut base = 0;
+        let mut size = self.len();
+        while size > 1 {
+            let half = size / 2;
+            let middle = base + half;
             let Some(value) = self.get(middle) else {
-                return Err(low);
+                return Err(base);
             };
-            match key_of(value).cmp(key) {
-                Ordering::Less => low = middle + 1,
-                Ordering::Greater => high = middle,
-                Ordering::Equal => return Ok(middle),
-            }
+            let is_greater = key_of(value).cmp(key).is_gt();
+            base = select_unpredictable(is_greater, base, middle);
+            size -= half;
         }
-        Err(low)
+        let Some(value) = self.get(base) else {
+            return Err(base);
+        };
+        let order = key_of(value).cmp(key);
+        if order.is_eq() {
+            return Ok(base);
+        }
+        Err(base + usize::from(order.is_lt()))
     }
 
     /// Searches a sorted array, and returns the index of an element equal to `key`. If there are
@@ -331,6 +394,28 @@ impl<'a, T: Scalar> Clone for ScalarArrayIter<'a, T> {
 ///
 /// </details>
 impl<'a, T: Scalar> IntoIterator for ScalarArray<'a, T> {
+    type Item = T;
+
+    type IntoIter = ScalarArrayIter<'a, T>;
+
+    fn into_iter(self) -> ScalarArrayIter<'a, T> {
+        self.iter()
+    }
+}
+
+/// <details><summary>Contract</summary>
+///
+/// ```text
+/// into_iter_gives = { λ array iter. elements_left iter ≡ array_elements array.now }
+/// ```
+///
+/// Defined:
+/// [`array_elements`](crate::contracts::font_base::Array),
+/// [`elements_left`](crate::contracts::font_base::Array).
+/// [How to read it](crate::contracts).
+///
+/// </details>
+impl<'a, T: Scalar> IntoIterator for &ScalarArray<'a, T> {
     type Item = T;
 
     type IntoIter = ScalarArrayIter<'a, T>;

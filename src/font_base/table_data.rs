@@ -152,6 +152,7 @@ impl<'a, H: TableHeader> Clone for TableDataRef<'a, H> {
 impl<'a, H: TableHeader> Copy for TableDataRef<'a, H> {}
 
 /// An example of a header, with two fields.
+#[derive(Clone, Copy, Debug)]
 pub struct SampleHeader {
     /// Bytes 0 and 1.
     pub a: BigEndian<u16>,

@@ -3,7 +3,7 @@
 //! Padding a decimal to a width.
 
 /// The alignment of text that is shorter than the width.
-#[derive(Clone, Copy)]
+#[derive(Clone, Copy, Debug, PartialEq, Eq, Hash)]
 pub enum Align {
     /// Left-aligned, with the fill on the right.
     Left,
@@ -24,7 +24,7 @@ pub enum Align {
 /// assert_eq!(Fixed::ONE.write_padded(&mut out, &pad), Some(6));
 /// assert_eq!(&out, b"1.....");
 /// ```
-#[derive(Clone, Copy)]
+#[derive(Clone, Copy, Debug, PartialEq, Eq, Hash)]
 pub struct Pad {
     /// The minimum width in bytes; 0 means none.
     pub width: usize,

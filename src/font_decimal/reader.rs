@@ -11,7 +11,7 @@ use crate::font_decimal::grammar::{are_digits, behind_point, split_sign};
 /// assert_eq!(Fixed::from_decimal("1e5"), Err(DecimalFault::Syntax));
 /// assert_eq!(Fixed::from_decimal("100000"), Err(DecimalFault::OutOfRange));
 /// ```
-#[derive(Clone, PartialEq, Eq, Debug)]
+#[derive(Clone, PartialEq, Eq, Debug, Copy)]
 pub enum DecimalFault {
     /// The text is not a decimal.
     Syntax = 1,

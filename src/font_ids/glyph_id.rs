@@ -683,7 +683,7 @@ impl From<GlyphId> for u32 {
 /// let error = GlyphId16::try_from(GlyphId::new(65536)).unwrap_err();
 /// assert_eq!(error.value(), 65536);
 /// ```
-#[derive(Debug)]
+#[derive(Debug, Clone, Copy, PartialEq, Eq)]
 pub struct TryFromGlyphIdError(u32);
 impl core::error::Error for TryFromGlyphIdError {}
 

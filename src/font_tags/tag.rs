@@ -307,7 +307,7 @@ const fn behind_spaces(bytes: &[u8], from: usize) -> usize {
 }
 
 /// Why a tag is invalid.
-#[derive(Clone, Debug, PartialEq, Eq)]
+#[derive(Clone, Debug, PartialEq, Eq, Copy)]
 pub enum InvalidTag {
     /// There are not one to four bytes; a tag of four spaces has length 0.
     InvalidLength(usize),

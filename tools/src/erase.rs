@@ -20,7 +20,7 @@
 //! - a slice parameter of an `extern "C"` function, which becomes a pointer and a length;
 //! - the program's `fn main`, which becomes `pub`, and `Tag::new_checked`, which becomes `const`.
 //!
-//! These are added: imports of what Rattle has in scope everywhere, `Display` and `Error` of a type
+//! These are added: derives that Rust's users expect, imports of what Rattle has in scope everywhere, `Display` and `Error` of a type
 //! that derives `Error`, an assertion when it is compiled where a field or a view of scalars is made,
 //! and in documentation the contract of a public function, the links, and the package's name in
 //! examples.
@@ -84,6 +84,17 @@ const IDENTITY: &str = "each_is_byte";
 
 /// The function that is `const` in Rust alone: it calls functions of std that are not in Rattle.
 const CONSTANT: &str = "new_checked";
+
+/// What types derive in Rust beside what they derive in Rattle.
+const DERIVED: [(&str, &str); 7] = [
+    ("Align", "Debug, PartialEq, Eq, Hash"),
+    ("Pad", "Debug, PartialEq, Eq, Hash"),
+    ("SampleHeader", "Clone, Copy, Debug"),
+    ("DecimalFault", "Copy"),
+    ("InvalidTag", "Copy"),
+    ("TryFromGlyphIdError", "Clone, Copy, PartialEq, Eq"),
+    ("TryFromUint24Error", "Clone, Copy"),
+];
 
 /// The Rust of a file, and the modules that it declares, with the line of each.
 pub struct Erased<'a> {
@@ -309,13 +320,18 @@ impl<'a> Eraser<'a> {
         let names = self.words[at + 4..end - 2].split(|word| *word == ",");
         let names: Vec<String> = names.map(|name| name.concat()).collect();
         let is_kept = |name: &&String| !matches!(name.as_str(), "Drop" | "Error" | "");
-        let kept: Vec<&str> = names.iter().filter(is_kept).map(|name| &**name).collect();
+        let mut kept: Vec<&str> = names.iter().filter(is_kept).map(|name| &**name).collect();
+        let is_kind = |word: &&str| matches!(*word, "struct" | "enum");
+        let kind = self.words[end..].iter().position(is_kind);
+        let name = kind.and_then(|kind| self.words.get(end + kind + 1));
+        let more = DERIVED.iter().find(|more| Some(&more.0) == name);
+        kept.extend(more.map(|more| more.1));
         if names.iter().any(|name| name == "Error") {
             self.derive_error(end)?;
         }
         if kept.is_empty() {
             self.leave_out(at..end);
-        } else if kept.len() < names.len() {
+        } else if kept.len() < names.len() || more.is_some() {
             self.put(at + 4, kept.join(", "));
             self.leave_out(at + 4..end - 2);
         }

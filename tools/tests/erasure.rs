@@ -1,6 +1,6 @@
 //! A second reader, which shares nothing with the eraser: the tokens of each generated file are those
 //! of its source in order, less what is left out, except for the changes listed here. It does not
-//! read comments, imports, and a comma at the end of a list.
+//! read comments, imports, derives, and a comma at the end of a list.
 
 use font_types_tools::{erase::LIBRARY, repository};
 
@@ -16,13 +16,9 @@ const CHANGES: [(&str, &str); 7] = [
 ];
 
 /// What is left out beside clauses, ghost items, attributes of proofs, and the results of `clone`.
-const LEFT_OUT: [&str; 10] = [
+const LEFT_OUT: [&str; 6] = [
     "#[cfg(test)] mod tests;",
     "mod json;",
-    "#[derive(Drop)]",
-    ", Drop, Error",
-    ", Drop",
-    ", Error",
     "+ Drop",
     "<W: fmt::Write>",
     "let _bytes = raw.as_slice();",
@@ -74,7 +70,7 @@ fn kept<'a>(mut t: &[&'a str]) -> Vec<&'a str> {
                 len + usize::from(matches!(t[len], "," | ";"))
             }
             ["#", "!", "[", "tactic", ..] => 2 + group(&t[2..]),
-            ["#", "[", "tactic" | "error", ..] => 1 + group(&t[1..]),
+            ["#", "[", "tactic" | "error" | "derive", ..] => 1 + group(&t[1..]),
             // The identity function, and calls of it.
             ["each_is_byte", "(", "slice", ":", ..] => {
                 kept.truncate(kept.len() - 10);
