@@ -1,4 +1,29 @@
 #![doc = include_str!("../rust/README.md")]
+//!
+//! # Types
+//!
+//! | For | Types and functions |
+//! |---|---|
+//! | fixed-point numbers of 16 bits | [`F2Dot14`], [`F4Dot12`], [`F6Dot10`] |
+//! | of 32 and of 64 bits | [`Fixed`], [`F26Dot6`], [`F2Dot30`], [`F48Dot16`] |
+//! | integers of 24 bits | [`Uint24`], [`Int24`] |
+//! | arrays in a font file | [`ScalarArray`], [`ScalarArrayIter`] |
+//! | fields in a font file | [`Scalar`], [`BigEndian`], [`FixedSize`], [`BeByteArray`], [`IdentityEq`] |
+//! | headers of tables | [`TableHeader`], [`TableDataRef`], [`SampleHeader`] |
+//! | tags and dates | [`Tag`], [`LongDateTime`] |
+//! | versions | [`MajorMinor`], [`Version16Dot16`], [`Compatible`] |
+//! | ids | [`GlyphId`], [`GlyphId16`], [`GlyphId24`], [`NameId`], [`Predefined`] |
+//! | quantities in font units | [`FWord`], [`UfWord`] |
+//! | offsets | [`Offset16`], [`Offset24`], [`Offset32`], [`Nullable`], [`OffsetValue`] |
+//! | geometry | [`Point`], [`Matrix`], [`BoundingBox`], [`MatrixElement`], [`RingElement`] |
+//! | sums of deltas | [`DeltaSum`], [`delta_sum`], [`checked_delta_sum`], [`vary`] |
+//! | decimal text, parsed | [`read_decimal`], [`read_decimal_bytes`] |
+//! | decimal text, printed | [`Shortest`], [`write_padded`], [`Pad`], [`Align`] |
+//! | errors | [`DecimalFault`], [`InvalidTag`], [`TryFromGlyphIdError`], [`TryFromUint24Error`] |
+//!
+//! The folder `examples` has a dump of a font's tables and the advances of an instance.
+//!
+#![doc = include_str!("guide.md")]
 #![no_std]
 #![warn(
     missing_docs,

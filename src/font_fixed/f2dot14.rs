@@ -34,13 +34,13 @@ impl F2Dot14 {
     /// The smallest positive value, `1 / 16384`.
     pub const EPSILON: Self = Self(1);
 
-    /// 0.
+    /// The value 0.
     pub const ZERO: Self = Self(0);
 
-    /// 1.
+    /// The value 1.
     pub const ONE: Self = Self(0x4000);
 
-    /// -1.
+    /// The value -1.
     pub const NEG_ONE: Self = Self(-0x4000);
 
     const FRACTION_BITS: u32 = 14;

@@ -33,13 +33,13 @@ impl F2Dot30 {
     /// The smallest positive value, `1 / 2^30`.
     pub const EPSILON: Self = Self(1);
 
-    /// 0.
+    /// The value 0.
     pub const ZERO: Self = Self(0);
 
-    /// 1.
+    /// The value 1.
     pub const ONE: Self = Self(0x4000_0000);
 
-    /// -1.
+    /// The value -1.
     pub const NEG_ONE: Self = Self(-0x4000_0000);
 
     const FRACTION_BITS: u32 = 30;

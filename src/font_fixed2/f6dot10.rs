@@ -32,13 +32,13 @@ impl F6Dot10 {
     /// The smallest positive value, `1 / 1024`.
     pub const EPSILON: Self = Self(1);
 
-    /// 0.
+    /// The value 0.
     pub const ZERO: Self = Self(0);
 
-    /// 1.
+    /// The value 1.
     pub const ONE: Self = Self(0x400);
 
-    /// -1.
+    /// The value -1.
     pub const NEG_ONE: Self = Self(-0x400);
 
     const FRACTION_BITS: u32 = 10;

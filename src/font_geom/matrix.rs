@@ -40,10 +40,10 @@ pub struct Matrix<T> {
 
 /// A type of matrix elements.
 pub trait MatrixElement: Copy + Add<Output = Self> + Mul<Output = Self> {
-    /// 0.
+    /// The value 0.
     const ZERO: Self;
 
-    /// 1.
+    /// The value 1.
     const ONE: Self;
 }
 

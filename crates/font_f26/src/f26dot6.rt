@@ -44,13 +44,13 @@ impl F26Dot6 {
     /// The smallest positive value, `1 / 64`.
     pub const EPSILON: Self = Self(1);
 
-    /// 0.
+    /// The value 0.
     pub const ZERO: Self = Self(0);
 
-    /// 1.
+    /// The value 1.
     pub const ONE: Self = Self(64);
 
-    /// -1.
+    /// The value -1.
     pub const NEG_ONE: Self = Self(-64);
 
     const FRACTION_BITS: u32 = 6;

@@ -56,13 +56,13 @@ impl Fixed {
     /// The smallest positive value, `1 / 65536`.
     pub const EPSILON: Self = Self(1);
 
-    /// 0.
+    /// The value 0.
     pub const ZERO: Self = Self(0);
 
-    /// 1.
+    /// The value 1.
     pub const ONE: Self = Self(0x1_0000);
 
-    /// -1.
+    /// The value -1.
     pub const NEG_ONE: Self = Self(-0x1_0000);
 
     const FRACTION_BITS: u32 = 16;

@@ -47,13 +47,13 @@ impl F4Dot12 {
     /// The smallest positive value, `1 / 4096`.
     pub const EPSILON: Self = Self(1);
 
-    /// 0.
+    /// The value 0.
     pub const ZERO: Self = Self(0);
 
-    /// 1.
+    /// The value 1.
     pub const ONE: Self = Self(0x1000);
 
-    /// -1.
+    /// The value -1.
     pub const NEG_ONE: Self = Self(-0x1000);
 
     const FRACTION_BITS: u32 = 12;
