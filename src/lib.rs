@@ -21,7 +21,8 @@
 //! | decimal text, printed | [`Shortest`], [`write_padded`], [`Pad`], [`Align`] |
 //! | errors | [`DecimalFault`], [`InvalidTag`], [`TryFromGlyphIdError`], [`TryFromUint24Error`] |
 //!
-//! The folder `examples` has a dump of a font's tables and the advances of an instance.
+//! The folder `examples` of the repository has a dump of a font's tables and the advances of an
+//! instance.
 //!
 #![doc = include_str!("guide.md")]
 #![no_std]

@@ -1,0 +1,105 @@
+//! Prints what some tables of a font say, and the glyphs of characters:
+//! `cargo run --example dump -- FONT [TEXT]`.
+
+#[macro_use]
+pub mod font;
+
+use core::fmt::{self, Write};
+use font::{Font, array, field};
+use font_types_proved::{
+    FWord, Fixed, LongDateTime, MajorMinor, NameId, Scalar, Tag, UfWord, Version16Dot16,
+};
+
+record! { NameRecord 12:
+    platform: u16, 0..2;
+    encoding: u16, 2..4;
+    language: u16, 4..6;
+    name: NameId, 6..8;
+    length: u16, 8..10;
+    offset: u16, 10..12;
+}
+
+/// Writes a line for each table that the font has, and for each character.
+pub fn dump(font: &Font<'_>, characters: &str, out: &mut impl Write) -> fmt::Result {
+    if let Some(head) = font.table(b"head") {
+        line::<MajorMinor>(out, "head version", head, 0)?;
+        line::<Fixed>(out, "font revision", head, 4)?;
+        line::<u16>(out, "units per em", head, 18)?;
+        line::<LongDateTime>(out, "modified", head, 28)?;
+        line::<FWord>(out, "x min", head, 36)?;
+    }
+    if let Some(hhea) = font.table(b"hhea") {
+        line::<FWord>(out, "ascender", hhea, 4)?;
+        line::<FWord>(out, "descender", hhea, 6)?;
+        line::<UfWord>(out, "widest advance", hhea, 10)?;
+    }
+    if let Some(maxp) = font.table(b"maxp") {
+        line::<Version16Dot16>(out, "maxp version", maxp, 0)?;
+        line::<u16>(out, "glyphs", maxp, 4)?;
+    }
+    if let Some(os2) = font.table(b"OS/2") {
+        line::<u16>(out, "weight class", os2, 4)?;
+        line::<Tag>(out, "vendor", os2, 58)?;
+        line::<FWord>(out, "typographic ascender", os2, 68)?;
+    }
+    names(font, out)?;
+    for character in characters.chars() {
+        match font.glyph(character) {
+            Some(glyph) => writeln!(out, "{character}: glyph {}", glyph.to_u16())?,
+            None => writeln!(out, "{character}: no glyph")?,
+        }
+    }
+    Ok(())
+}
+
+/// Writes a field, if the table has it.
+fn line<T: Scalar + fmt::Debug>(
+    out: &mut impl Write,
+    what: &str,
+    table: &[u8],
+    offset: usize,
+) -> fmt::Result {
+    match field::<T>(table, offset) {
+        Some(value) => writeln!(out, "{what}: {value:?}"),
+        None => Ok(()),
+    }
+}
+
+/// Writes the names for Windows, which are UTF-16.
+fn names(font: &Font<'_>, out: &mut impl Write) -> fmt::Result {
+    let records = font.table(b"name").and_then(|name| {
+        let records = array::<NameRecord>(name, 6, field::<u16>(name, 2)?.into())?;
+        Some((records, name.get(field::<u16>(name, 4)?.into()..)?))
+    });
+    let Some((records, storage)) = records else {
+        return Ok(());
+    };
+    for record in records.iter().filter(|record| record.platform == 3) {
+        let units = array::<u16>(
+            storage,
+            record.offset.into(),
+            usize::from(record.length / 2),
+        );
+        write!(out, "{}: ", record.name)?;
+        for unit in char::decode_utf16(units.iter().flat_map(|units| units.iter())) {
+            out.write_char(unit.unwrap_or(char::REPLACEMENT_CHARACTER))?;
+        }
+        writeln!(out)?;
+    }
+    Ok(())
+}
+
+#[allow(dead_code)]
+fn main() -> Result<(), Box<dyn std::error::Error>> {
+    let mut words = std::env::args().skip(1);
+    let bytes = std::fs::read(
+        words
+            .next()
+            .ok_or("cargo run --example dump -- FONT [TEXT]")?,
+    )?;
+    let font = Font::new(&bytes).ok_or("no font of one face")?;
+    let mut text = String::new();
+    dump(&font, &words.next().unwrap_or_default(), &mut text)?;
+    print!("{text}");
+    Ok(())
+}

@@ -1,0 +1,147 @@
+//! What the examples read of a font, without `std` and without allocation.
+#![allow(dead_code)]
+
+use font_types_proved::{
+    FWord, GlyphId16, Offset32, Scalar, ScalarArray, TableDataRef, TableHeader, Tag, UfWord,
+};
+
+/// The field at an offset, or `None` past the end.
+pub fn field<T: Scalar>(table: &[u8], offset: usize) -> Option<T> {
+    T::read(table.get(offset..)?.get(..T::RAW_BYTE_LEN)?)
+}
+
+/// An array of `count` elements at an offset.
+pub fn array<T: Scalar>(table: &[u8], offset: usize, count: usize) -> Option<ScalarArray<'_, T>> {
+    ScalarArray::new(table.get(offset..)?.get(..count * T::RAW_BYTE_LEN)?)
+}
+
+/// What an [`Offset32`] at an offset points to, from the start of the table.
+pub fn at_offset(table: &[u8], offset: usize) -> Option<&[u8]> {
+    table.get(field::<Offset32>(table, offset)?.to_u32() as usize..)
+}
+
+/// A record of fields, which can be an element of an array.
+macro_rules! record {
+    ($name:ident $len:literal: $($field:ident: $kind:ty, $range:expr;)*) => {
+        #[derive(Clone, Copy, Debug, PartialEq)]
+        pub struct $name {
+            $(pub $field: $kind,)*
+        }
+
+        impl font_types_proved::FixedSize for $name {
+            const RAW_BYTE_LEN: usize = $len;
+        }
+
+        impl font_types_proved::Scalar for $name {
+            type Raw = [u8; $len];
+
+            fn from_raw(raw: [u8; $len]) -> Self {
+                $(let $field = <$kind>::read(&raw[$range]).expect("as many bytes");)*
+                Self { $($field,)* }
+            }
+
+            fn to_raw(self) -> [u8; $len] {
+                let mut raw = [0; $len];
+                $(raw[$range].copy_from_slice(&self.$field.to_raw());)*
+                raw
+            }
+        }
+    };
+}
+
+record! { TableRecord 16:
+    tag: Tag, 0..4;
+    checksum: u32, 4..8;
+    offset: Offset32, 8..12;
+    length: u32, 12..16;
+}
+
+record! { LongMetric 4:
+    advance: UfWord, 0..2;
+    bearing: FWord, 2..4;
+}
+
+/// The header of a font: how many tables it has.
+struct Header(u16);
+
+impl TableHeader for Header {
+    const BYTE_LEN: usize = 12;
+
+    fn decode(bytes: &[u8]) -> Self {
+        Self(field(bytes, 4).expect("12 bytes"))
+    }
+}
+
+/// A font of one face.
+pub struct Font<'a> {
+    data: &'a [u8],
+    pub tables: ScalarArray<'a, TableRecord>,
+}
+
+impl<'a> Font<'a> {
+    pub fn new(data: &'a [u8]) -> Option<Self> {
+        let (Header(count), rest) = TableDataRef::<Header>::new(data)?.split();
+        let tables = array(rest, 0, count.into())?;
+        Some(Self { data, tables })
+    }
+
+    pub fn table(&self, tag: &[u8; 4]) -> Option<&'a [u8]> {
+        let place = self
+            .tables
+            .binary_search_by_key(&Tag::new(tag), |table| table.tag);
+        let record = self.tables.get(place.ok()?)?;
+        let start = record.offset.to_u32() as usize;
+        self.data.get(start..)?.get(..record.length as usize)
+    }
+
+    /// The advance of a glyph. Glyphs past the last metric have its advance.
+    pub fn advance(&self, glyph: GlyphId16) -> Option<UfWord> {
+        let count = field::<u16>(self.table(b"hhea")?, 34)?;
+        let metrics = array::<LongMetric>(self.table(b"hmtx")?, 0, count.into())?;
+        let metric = metrics.get(glyph.into()).or(metrics.last())?;
+        Some(metric.advance)
+    }
+
+    /// The glyph of a character, by the first subtable of format 4 or 12 that has it.
+    pub fn glyph(&self, character: char) -> Option<GlyphId16> {
+        let cmap = self.table(b"cmap")?;
+        let encodings = 0..field::<u16>(cmap, 2)?;
+        let mut subtables = encodings.filter_map(|n| at_offset(cmap, 4 + 8 * usize::from(n) + 4));
+        subtables.find_map(|subtable| match field::<u16>(subtable, 0)? {
+            4 => of_format_4(subtable, u16::try_from(u32::from(character)).ok()?),
+            12 => of_format_12(subtable, character.into()),
+            _ => None,
+        })
+    }
+}
+
+fn of_format_4(subtable: &[u8], code: u16) -> Option<GlyphId16> {
+    let count = usize::from(field::<u16>(subtable, 6)? / 2);
+    let column = |n: usize| array::<u16>(subtable, 14 + 2 * n * count + 2 * n.min(1), count);
+    let [ends, starts, deltas, offsets] = [column(0)?, column(1)?, column(2)?, column(3)?];
+    let segment = ends.binary_search(&code).unwrap_or_else(|after| after);
+    let place = usize::from(code.checked_sub(starts.get(segment)?)?);
+    let glyph = match offsets.get(segment)? {
+        0 => code,
+        // From the place of the offset itself.
+        offset => {
+            let start = 16 + 2 * (3 * count + segment) + usize::from(offset);
+            field::<u16>(subtable, start + 2 * place).filter(|glyph| *glyph != 0)?
+        }
+    };
+    Some(GlyphId16::new(glyph.wrapping_add(deltas.get(segment)?)))
+}
+
+record! { Group 12:
+    start: u32, 0..4;
+    end: u32, 4..8;
+    glyph: u32, 8..12;
+}
+
+fn of_format_12(subtable: &[u8], code: u32) -> Option<GlyphId16> {
+    let groups = array::<Group>(subtable, 16, field::<u32>(subtable, 12)? as usize)?;
+    let place = groups.binary_search_by_key(&code, |group| group.end);
+    let group = groups.get(place.unwrap_or_else(|after| after))?;
+    let glyph = group.glyph + code.checked_sub(group.start)?;
+    u16::try_from(glyph).ok().map(GlyphId16::new)
+}

@@ -1,0 +1,162 @@
+//! Prints the advances of characters in an instance of a variable font, in the order of its axes:
+//! `cargo run --example instance -- FONT TEXT wght=600 wdth=87.5`.
+
+#[macro_use]
+pub mod font;
+
+use font::{Font, array, at_offset, field};
+use font_types_proved::{
+    DeltaSum, F2Dot14, Fixed, GlyphId16, NameId, Offset32, ScalarArray, Tag, UfWord,
+};
+
+record! { Axis 20:
+    tag: Tag, 0..4;
+    min: Fixed, 4..8;
+    default: Fixed, 8..12;
+    max: Fixed, 12..16;
+    flags: u16, 16..18;
+    name: NameId, 18..20;
+}
+
+record! { AxisMap 4:
+    from: F2Dot14, 0..2;
+    to: F2Dot14, 2..4;
+}
+
+record! { RegionAxis 6:
+    start: F2Dot14, 0..2;
+    peak: F2Dot14, 2..4;
+    end: F2Dot14, 4..6;
+}
+
+/// The axes of a font.
+pub fn axes<'a>(font: &Font<'a>) -> Option<ScalarArray<'a, Axis>> {
+    let fvar = font.table(b"fvar")?;
+    array(
+        fvar,
+        field::<u16>(fvar, 4)?.into(),
+        field::<u16>(fvar, 8)?.into(),
+    )
+}
+
+/// The coordinate of a value of the axis of this index, from -1 to 1.
+pub fn normalized(font: &Font<'_>, index: usize, value: Fixed) -> Option<F2Dot14> {
+    let axis = axes(font)?.get(index)?;
+    let value = value.clamp(axis.min, axis.max);
+    let side = match value < axis.default {
+        true => axis.default - axis.min,
+        false => axis.max - axis.default,
+    };
+    let coordinate = match value == axis.default {
+        true => F2Dot14::ZERO,
+        false => ((value - axis.default) / side).to_f2dot14(),
+    };
+    match font.table(b"avar") {
+        Some(avar) => mapped(&segment_map(avar, index)?, coordinate),
+        None => Some(coordinate),
+    }
+}
+
+/// The segment map of an axis. Maps are of different lengths.
+fn segment_map(avar: &[u8], index: usize) -> Option<ScalarArray<'_, AxisMap>> {
+    let mut start = 8;
+    for _ in 0..index {
+        start += 2 + 4 * usize::from(field::<u16>(avar, start)?);
+    }
+    array(avar, start + 2, field::<u16>(avar, start)?.into())
+}
+
+/// A coordinate, interpolated between two records of a map.
+fn mapped(map: &ScalarArray<'_, AxisMap>, coordinate: F2Dot14) -> Option<F2Dot14> {
+    let above = match map.binary_search_by_key(&coordinate, |record| record.from) {
+        Ok(place) => return Some(map.get(place)?.to),
+        Err(place) => place,
+    };
+    let (low, high) = (map.get(above.checked_sub(1)?)?, map.get(above)?);
+    let [from, to, x] = [low.from, low.to, coordinate].map(F2Dot14::to_fixed);
+    let (run, rise) = (high.from.to_fixed() - from, high.to.to_fixed() - to);
+    Some((to + (x - from).mul_div(rise, run)).to_f2dot14())
+}
+
+/// How much a region's deltas count at these coordinates.
+fn scalar(region: &ScalarArray<'_, RegionAxis>, coordinates: &[F2Dot14]) -> Fixed {
+    let of_axis = |(axis, x): (RegionAxis, &F2Dot14)| {
+        let [start, peak, end] = [axis.start, axis.peak, axis.end].map(F2Dot14::to_fixed);
+        let x = x.to_fixed();
+        match x {
+            _ if x == peak || peak == Fixed::ZERO => Fixed::ONE,
+            _ if x <= start || x >= end => Fixed::ZERO,
+            _ if x < peak => (x - start) / (peak - start),
+            _ => (end - x) / (end - peak),
+        }
+    };
+    let scalars = region.iter().zip(coordinates).map(of_axis);
+    scalars.fold(Fixed::ONE, |product, scalar| product * scalar)
+}
+
+/// The advance of a glyph at these coordinates, rounded.
+pub fn advance(font: &Font<'_>, glyph: GlyphId16, coordinates: &[F2Dot14]) -> Option<UfWord> {
+    let base = font.advance(glyph)?;
+    let hvar = font.table(b"HVAR")?;
+    let store = at_offset(hvar, 4)?;
+    let (outer, inner) = match field::<Offset32>(hvar, 8)?.is_null() {
+        true => (0, glyph.into()),
+        false => delta_set(at_offset(hvar, 8)?, glyph.into())?,
+    };
+    let data = at_offset(store, 8 + 4 * outer)?;
+    let regions = at_offset(store, 2)?;
+    let axis_count = usize::from(field::<u16>(regions, 0)?);
+    let (words, count) = (field::<u16>(data, 2)?, field::<u16>(data, 4)?);
+    let row = 6 + 2 * usize::from(count) + inner * usize::from(words + count);
+    let mut sum = DeltaSum::new();
+    for (n, index) in array::<u16>(data, 6, count.into())?.iter().enumerate() {
+        let wide = n.min(words.into());
+        let delta = match n < words.into() {
+            true => field::<i16>(data, row + 2 * n)?.into(),
+            false => field::<i8>(data, row + n + wide)?.into(),
+        };
+        let region = array(regions, 4 + 6 * axis_count * usize::from(index), axis_count)?;
+        sum.add(scalar(&region, coordinates), delta);
+    }
+    UfWord::round_steps(base.apply_delta(sum.checked_finish()?))
+}
+
+/// The outer and the inner index of a delta set, by a map of bytes. The last entry counts for all
+/// that follow.
+fn delta_set(map: &[u8], index: usize) -> Option<(usize, usize)> {
+    let format = field::<u8>(map, 1)?;
+    let count = usize::from(field::<u16>(map, 2)?);
+    let len = usize::from(format >> 4 & 3) + 1;
+    let start = 4 + len * index.min(count.checked_sub(1)?);
+    let bytes = map.get(start..)?.get(..len)?;
+    let entry = bytes
+        .iter()
+        .fold(0, |entry, byte| entry << 8 | usize::from(*byte));
+    let bits = (format & 15) + 1;
+    Some((entry >> bits, entry & ((1 << bits) - 1)))
+}
+
+#[allow(dead_code)]
+fn main() -> Result<(), Box<dyn std::error::Error>> {
+    let usage = "cargo run --example instance -- FONT TEXT wght=600 wdth=87.5";
+    let mut words = std::env::args().skip(1);
+    let bytes = std::fs::read(words.next().ok_or(usage)?)?;
+    let text = words.next().ok_or(usage)?;
+    let settings: Vec<String> = words.collect();
+    let font = Font::new(&bytes).ok_or("no font of one face")?;
+    let mut coordinates = Vec::new();
+    for (n, axis) in axes(&font).ok_or("no axes")?.iter().enumerate() {
+        let value = settings
+            .iter()
+            .find_map(|word| word.strip_prefix(&format!("{}=", axis.tag)));
+        let value = value.map_or(Ok(axis.default), str::parse)?;
+        println!("{}: {value}, from {} to {}", axis.tag, axis.min, axis.max);
+        coordinates.push(normalized(&font, n, value).ok_or("an invalid axis")?);
+    }
+    for character in text.chars() {
+        let glyph = font.glyph(character).unwrap_or_default();
+        let advance = advance(&font, glyph, &coordinates).ok_or("no variation of advances")?;
+        println!("{character}: {advance}");
+    }
+    Ok(())
+}

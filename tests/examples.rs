@@ -1,0 +1,180 @@
+//! The examples, over a font that is built here.
+#![allow(clippy::duplicate_mod)]
+
+#[path = "../examples/dump.rs"]
+mod dump;
+#[path = "../examples/instance.rs"]
+mod instance;
+
+use dump::dump;
+use font_types_proved::{F2Dot14, Fixed, GlyphId16, Tag, UfWord};
+use instance::{advance, axes, normalized};
+
+/// Numbers of 16 bits, big-endian.
+fn words(words: &[u16]) -> Vec<u8> {
+    words.iter().flat_map(|word| word.to_be_bytes()).collect()
+}
+
+/// Bytes with these words at these offsets, and zeros elsewhere.
+fn table(len: usize, fields: &[(usize, &[u16])]) -> Vec<u8> {
+    let mut table = vec![0; len];
+    for (offset, numbers) in fields {
+        table[*offset..][..2 * numbers.len()].copy_from_slice(&words(numbers));
+    }
+    table
+}
+
+/// Two encodings: the specification's example of format 4, with its last segment by an array of
+/// glyphs, and a group of format 12.
+fn cmap() -> Vec<u8> {
+    let format_4 = [
+        &[
+            4, 52, 0, 8, 8, 2, 0, 20, 90, 154, 0xFFFF, 0, 10, 30, 153, 0xFFFF,
+        ][..],
+        &[
+            9u16.wrapping_neg(),
+            18u16.wrapping_neg(),
+            7,
+            1,
+            0,
+            0,
+            4,
+            0,
+            100,
+            0,
+        ],
+    ];
+    let format_12 = [12, 0, 0, 28, 0, 0, 0, 1, 1, 0xF600, 1, 0xF610, 0, 500];
+    let encodings = [0, 2, 0, 3, 0, 20, 0, 10, 0, 20 + 52];
+    words(&[&encodings[..], &format_4.concat(), &format_12].concat())
+}
+
+/// Two regions of one axis, and two delta sets: one of a word and a byte, by a map of glyphs.
+fn hvar() -> Vec<u8> {
+    let header = [1, 0, 0, 20, 0, 66, 0, 0, 0, 0];
+    let store = [1, 0, 12, 1, 0, 28];
+    let regions = [1, 2, 0, 0x4000, 0x4000, 0, 0x1000, 0x4000];
+    let data = [2, 1, 2, 0, 1, 300, 0x0A14, 0, 0];
+    let mut table = words(&[&header[..], &store, &regions, &data].concat());
+    // Rows of a word and a byte.
+    table.truncate(20 + 28 + 10);
+    table.extend([0, 100, -30i8 as u8, 0, 0, 0, 0, 0]);
+    table.extend([0, 0, 0, 2, 0, 1]);
+    table
+}
+
+/// A name for Windows.
+fn name(text: &str) -> Vec<u8> {
+    let units: Vec<u16> = text.encode_utf16().collect();
+    let record = [0, 1, 18, 3, 1, 0x409, 1, 2 * units.len() as u16, 0];
+    words(&[&record[..], &units].concat())
+}
+
+fn font() -> Vec<u8> {
+    let tables: [(&[u8; 4], Vec<u8>); 10] = [
+        (b"HVAR", hvar()),
+        (
+            b"OS/2",
+            table(78, &[(4, &[400]), (58, &[0x5445, 0x5354]), (68, &[800])]),
+        ),
+        (
+            b"avar",
+            words(&[
+                1, 0, 0, 1, 4, 0xC000, 0xC000, 0, 0, 0x2000, 0x1000, 0x4000, 0x4000,
+            ]),
+        ),
+        (b"cmap", cmap()),
+        (b"fvar", {
+            let header = words(&[1, 0, 16, 2, 1, 20, 0, 8]);
+            let axis = words(&[100, 0, 400, 0, 900, 0, 0, 256]);
+            [&header[..], b"wght", &axis].concat()
+        }),
+        (
+            b"head",
+            table(
+                54,
+                &[(0, &[1, 0, 2, 0x8000]), (18, &[1000]), (36, &[0xFFF6])],
+            ),
+        ),
+        (
+            b"hhea",
+            table(36, &[(4, &[800, 0xFF38, 0, 620]), (34, &[2])]),
+        ),
+        (b"hmtx", words(&[500, 7, 620, 0xFFF0, 9])),
+        (b"maxp", words(&[1, 0, 3])),
+        (b"name", name("Ütest")),
+    ];
+    let mut font = words(&[1, 0, tables.len() as u16, 0, 0, 0]);
+    let mut offset = 12 + 16 * tables.len();
+    for (tag, table) in &tables {
+        font.extend(*tag);
+        for number in [0, offset, table.len()] {
+            font.extend((number as u32).to_be_bytes());
+        }
+        offset += table.len();
+    }
+    font.extend(tables.iter().flat_map(|(_, table)| table));
+    font
+}
+
+#[test]
+fn dumps_a_font() {
+    let bytes = font();
+    let font = dump::font::Font::new(&bytes).unwrap();
+    let mut text = String::new();
+    dump(&font, "\n\u{15}\u{99}\u{9A}😀a", &mut text).unwrap();
+    let wanted = "\
+head version: MajorMinor { major: 1, minor: 0 }
+font revision: 2.5
+units per em: 1000
+modified: LongDateTime(0)
+x min: FWord(-10)
+ascender: FWord(800)
+descender: FWord(-200)
+widest advance: UfWord(620)
+maxp version: Version16Dot16(00010000)
+glyphs: 3
+weight class: 400
+vendor: Tag(TEST)
+typographic ascender: FWord(800)
+FAMILY_NAME: Ütest
+\n: glyph 1
+\u{15}: no glyph
+\u{99}: glyph 107
+\u{9A}: no glyph
+😀: glyph 500
+a: no glyph
+";
+    assert_eq!(text, wanted);
+    // Cut off anywhere, it is read as far as it goes.
+    for len in 0..bytes.len() {
+        if let Some(font) = dump::font::Font::new(&bytes[..len]) {
+            dump(&font, "\n", &mut text).unwrap();
+        }
+    }
+}
+
+#[test]
+fn instances_follow_the_axis() {
+    let bytes = font();
+    let font = instance::font::Font::new(&bytes).unwrap();
+    assert_eq!(axes(&font).unwrap().first().unwrap().tag, Tag::new(b"wght"));
+    for (place, coordinate, moved) in [
+        ("0", "-1", 500),
+        ("250", "-0.5", 500),
+        ("400", "0", 500),
+        ("650", "0.25", 495),
+        ("775", "0.625", 548),
+        ("900", "1", 600),
+        ("1000", "1", 600),
+    ] {
+        let [place, at] = [place, coordinate].map(|text| Fixed::from_decimal(text).unwrap());
+        let at: F2Dot14 = at.to_f2dot14();
+        assert_eq!(normalized(&font, 0, place), Some(at), "{place}");
+        let advance = |glyph| advance(&font, GlyphId16::new(glyph), &[at]);
+        assert_eq!(advance(0), Some(UfWord::new(moved)), "{place}");
+        // The map's last entry counts for all that follow.
+        assert_eq!(advance(1), Some(UfWord::new(620)), "{place}");
+        assert_eq!(advance(2), Some(UfWord::new(620)), "{place}");
+    }
+}
