@@ -1,4 +1,4 @@
-//! Numbers of 16 bits with 10 bits of fraction, by their bits.
+//! 6.10 fixed-point numbers, by their raw bits.
 
 ghost use Rattle.std.specs.Int.{w16};
 ghost use Rattle.font_types.specs.Operations.{IsFloor, IsNearestWhole};
@@ -10,33 +10,35 @@ use crate::reading::read_into_16;
 use crate::text::{FontPad, put_decimal, put_padded};
 use font_types::F6Dot10;
 
-/// Reads a decimal text as the nearest 6.10 number, ties away from zero: 0 where its bits are in
-/// `bits`, 1 where it is no decimal, 2 where it is out of range.
+const FRACTION_BITS: u32 = 10;
+
+/// Parses a decimal as the nearest 6.10 value, rounding half away from zero: 0 and the raw bits in
+/// `bits`, 1 if the text is not a decimal, or 2 if the value is out of range.
 #[unsafe(no_mangle)]
 pub extern "C" fn font_f6dot10_from_decimal(text: &[u8], bits: &mut i16) -> u32
     ensures { ReadsInto w16 10 text.now result bits.old bits.new }
 {
-    read_into_16(text, 10, bits)
+    read_into_16(text, FRACTION_BITS, bits)
 }
 
-/// Writes the shortest decimal that is read back as the number to the front of `out`, and returns
-/// its length, or 0 where `out` is too short.
+/// Writes the shortest decimal that parses back to the value to the start of `out`, and returns
+/// its length, or 0 if `out` is too short.
 #[unsafe(no_mangle)]
 pub extern "C" fn font_f6dot10_to_decimal(bits: i16, out: &mut [u8]) -> usize
     ensures { WritesDecimal bits 10 result out.old out.new }
 {
-    put_decimal(i64::from(bits), 10, out)
+    put_decimal(i64::from(bits), FRACTION_BITS, out)
 }
 
-/// The same, padded; 0 also where `pad` is invalid.
+/// Writes the padded decimal; returns 0 also if `pad` is invalid.
 #[unsafe(no_mangle)]
 pub extern "C" fn font_f6dot10_write_padded(bits: i16, pad: &FontPad, out: &mut [u8]) -> usize
     ensures { WritesPadded bits 10 pad.now result out.old out.new }
 {
-    put_padded(i64::from(bits), 10, pad, out)
+    put_padded(i64::from(bits), FRACTION_BITS, pad, out)
 }
 
-/// The nearest whole number, ties upwards, wrapped.
+/// Rounds to the nearest integer, half up, wrapping on overflow.
 #[unsafe(no_mangle)]
 pub extern "C" fn font_f6dot10_round(bits: i16) -> i16
     ensures { IsNearestWhole 16 10 bits result }
@@ -44,7 +46,7 @@ pub extern "C" fn font_f6dot10_round(bits: i16) -> i16
     F6Dot10::from_bits(bits).round().to_bits()
 }
 
-/// The greatest whole number that is not above the number.
+/// Returns the largest integer less than or equal to the value.
 #[unsafe(no_mangle)]
 pub extern "C" fn font_f6dot10_floor(bits: i16) -> i16
     ensures { IsFloor 10 bits result }
