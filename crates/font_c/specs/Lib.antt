@@ -5,3 +5,5 @@ pub mod Tags
 pub mod TagText
 pub mod Matrices
 pub mod Sums
+pub mod Exact
+pub mod Fields

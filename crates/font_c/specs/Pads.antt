@@ -1,4 +1,4 @@
--- How C says that a text is padded. All of it is the project's own.
+-- Padding requested by C. The project's own.
 use Rattle.std.specs.Prelude.{◌≡◌, ◌≢◌, ◌<◌, ◌≤◌, ℕ, zero, suc, ℤ, List, length, max, Bool, true, false}
 use Rattle.font_types.specs.Padding.{padded_text}
 use Rattle.font_types.specs.Shortest.{shortest_text}
@@ -12,29 +12,34 @@ use Rattle.font_c.specs.Texts.{WritesText}
 abbrev pub IsPad : FontPad → Type 0
 IsPad pad = (pad.align < 3) × (pad.fill < 128)
 
--- 0 stands for the front, 1 for the middle, and 2 for the back
+-- 0 is left, 1 center, 2 right
 abbrev pub align_of : ℕ → Align
 align_of zero = Left
 align_of (suc zero) = Center
 align_of (suc (suc n)) = Right
 
--- any byte but 0 says yes
+-- a flag is set unless its byte is 0
 abbrev pub flag_of : ℕ → Bool
 flag_of zero = false
 flag_of (suc n) = true
 
--- the padding that it stands for
+-- the fill byte; 0 is a space
+abbrev pub fill_of : ℕ → ℕ
+fill_of zero = 32
+fill_of (suc n) = suc n
+
+-- the padding
 abbrev pub pad_of : FontPad → Pad
 pad_of pad = record {
   width = pad.width;
-  fill = pad.fill;
+  fill = fill_of pad.fill;
   align = align_of pad.align;
   plus = flag_of pad.plus;
   zeros = flag_of pad.zeros;
 }
 
--- the shortest decimal of b / 2^f is handed over padded, and a room of 22 bytes, or of the width
--- where that is greater, is enough; where the padding is invalid, n is 0 and the bytes stay
+-- the padded shortest decimal of b / 2^f is written, for which 22 bytes, or the width if that is more, are enough; if the
+-- padding is invalid, n is 0 and the bytes are unchanged
 pub record WritesPadded (b : ℤ) (f : ℕ) (pad : FontPad) (n : ℕ) (old new : List ℕ) : Type 0 where
   pub text : IsPad pad → WritesText (padded_text (shortest_text b f) (pad_of pad)) n old new
   pub enough : IsPad pad → max 22 pad.width ≤ length old → n ≢ 0

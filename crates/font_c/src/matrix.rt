@@ -1,14 +1,15 @@
-//! Matrices and points of 16.16 numbers.
+//! Matrices and points of 16.16 values.
 
 ghost use Rattle.std.specs.Prelude.{◌≡◌};
 ghost use Rattle.font_types.specs.FixedMatrix.{matrix_bits, point_bits, FitsComposed, FitsInTurn};
 ghost use Rattle.font_types.specs.FixedMatrix.{IsCloseComposed, IsCloseInTurn};
 ghost use Rattle.font_c.specs.Matrices.{entries, coordinates, fixed_matrix_product, fixed_image};
+ghost use Rattle.font_c.specs.Matrices.{linear_part, TransformsEach};
 
 use font_types::{Fixed, Matrix, Point, laws};
 
-/// A matrix of 16.16 numbers, by their bits: it sends `(x, y)` to `(xx * x + xy * y + dx, yx * x +
-/// yy * y + dy)`.
+/// A matrix of raw 16.16 values: it transforms `(x, y)` to `(xx * x + xy * y + dx, yx * x + yy * y +
+/// dy)`.
 #[repr(C)]
 #[derive(Clone, Copy)]
 pub struct FontMatrix {
@@ -20,7 +21,7 @@ pub struct FontMatrix {
     pub dy: i32,
 }
 
-/// A point of 16.16 numbers, by their bits.
+/// A point of raw 16.16 values.
 #[repr(C)]
 #[derive(Clone, Copy)]
 pub struct FontPoint {
@@ -77,8 +78,8 @@ impl From<FontPoint> for Point<Fixed> {
     }
 }
 
-/// The matrix that applies `b` and then `a`: products are rounded and sums wrap, as those of 16.16
-/// numbers do.
+/// Returns the matrix that applies `b` first, then `a`. Products round and sums wrap, as of 16.16
+/// values.
 #[unsafe(no_mangle)]
 #[tactic(auto, using(font_geom::proofs::FixedCalls::product_value))]
 pub extern "C" fn font_matrix_product(a: FontMatrix, b: FontMatrix) -> FontMatrix
@@ -87,7 +88,7 @@ pub extern "C" fn font_matrix_product(a: FontMatrix, b: FontMatrix) -> FontMatri
     (Matrix::from(a) * Matrix::from(b)).into()
 }
 
-/// Where the matrix sends a point.
+/// Transforms a point.
 #[unsafe(no_mangle)]
 #[tactic(auto, using(font_geom::proofs::FixedCalls::image_value))]
 pub extern "C" fn font_matrix_image(m: FontMatrix, p: FontPoint) -> FontPoint
@@ -96,10 +97,29 @@ pub extern "C" fn font_matrix_image(m: FontMatrix, p: FontPoint) -> FontPoint
     (Matrix::from(m) * Point::from(p)).into()
 }
 
-/// Where the product of `a` and `b` sends a point.
+/// Transforms a vector: as `font_matrix_image`, without the translation.
+#[unsafe(no_mangle)]
+#[tactic(auto, using(font_geom::proofs::FixedCalls::image_value))]
+pub extern "C" fn font_matrix_vector(m: FontMatrix, v: FontPoint) -> FontPoint
+    ensures { coordinates result ≡ fixed_image (linear_part (entries m)) (coordinates v) }
+{
+    font_matrix_image(FontMatrix { dx: 0, dy: 0, ..m }, v)
+}
+
+/// Transforms points in place, each as `font_matrix_image` does.
+#[unsafe(no_mangle)]
+pub extern "C" fn font_matrix_images(m: &FontMatrix, points: &mut [FontPoint])
+    ensures { TransformsEach (entries m.now) points.old points.new }
+{
+    for p in points.iter_mut() {
+        *p = font_matrix_image(*m, *p);
+    }
+}
+
+/// Transforms a point by the product of `a` and `b`.
 ///
-/// Where no element of the product and no coordinate of the result leaves 32 bits, each coordinate
-/// is at most `(|x| + |y|) / 65536 + 2` bits from the exact one, magnitudes in bits.
+/// If no element of the product and no coordinate of the result overflows 32 bits, each coordinate is
+/// at most `(|x| + |y|) / 65536 + 2` from the exact one, all as raw values.
 #[unsafe(no_mangle)]
 pub extern "C" fn font_matrix_composed(a: FontMatrix, b: FontMatrix, p: FontPoint) -> FontPoint
     ensures value { coordinates result
@@ -110,11 +130,10 @@ pub extern "C" fn font_matrix_composed(a: FontMatrix, b: FontMatrix, p: FontPoin
     laws::composed(a.into(), b.into(), p.into()).into()
 }
 
-/// Where `a` sends what `b` sends a point to.
+/// Transforms a point by `b`, and the result by `a`.
 ///
-/// Where no coordinate on the way or of the result leaves 32 bits, a coordinate is at most the
-/// magnitudes of the two linear elements of its row of `a`, in bits, over 65536, and 1 bit from the
-/// exact one.
+/// If no coordinate of either overflows 32 bits, `x` is at most `(|a.xx| + |a.xy|) / 65536 + 1` from
+/// the exact one, and `y` at most `(|a.yx| + |a.yy|) / 65536 + 1`, all as raw values.
 #[unsafe(no_mangle)]
 pub extern "C" fn font_matrix_in_turn(a: FontMatrix, b: FontMatrix, p: FontPoint) -> FontPoint
     ensures value { coordinates result

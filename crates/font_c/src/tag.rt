@@ -1,4 +1,4 @@
-//! Tags, as numbers of 32 bits whose bytes they are, highest first.
+//! Tags, as 32-bit numbers with their big-endian bytes.
 
 ghost use Rattle.std.specs.Prelude.{◌≡◌, ◌≢◌, ◌<◌, ◌≤◌, length};
 ghost use Rattle.font_types.specs.Tag.{tag_text};
@@ -9,20 +9,20 @@ use crate::tag_text::TagText;
 use crate::text::put_text;
 use font_types::{InvalidTag, Scalar, Tag};
 
-/// Visible characters, and only spaces behind them.
+/// The tag is valid.
 const GOOD: u32 = 0;
 
-/// Another number of bytes, or spaces alone.
+/// There is a wrong number of bytes, or only spaces.
 const BAD_LENGTH: u32 = 1;
 
-/// A byte that cannot stand where it does.
+/// A byte is not allowed where it is.
 const BAD_BYTE: u32 = 2;
 
-/// A visible byte behind a space.
+/// A printable byte follows a space.
 const AFTER_SPACE: u32 = 3;
 
-/// Makes a tag of one to four good bytes, filled with spaces: 0 where it is in `tag`, 1 where there
-/// are not one to four bytes, 2 where a byte cannot stand where it does.
+/// Creates a valid tag from one to four bytes, padding with spaces: 0 and the tag in `tag`, 1 unless
+/// there are one to four bytes, or 2 if a byte is not allowed where it is.
 #[unsafe(no_mangle)]
 pub extern "C" fn font_tag_new(text: &[u8], tag: &mut u32) -> u32
     ensures made { IsMade text.now result tag.new }
@@ -39,8 +39,8 @@ pub extern "C" fn font_tag_new(text: &[u8], tag: &mut u32) -> u32
     }
 }
 
-/// Judges the four bytes of a tag: 0 good, 1 not four bytes or four spaces, 2 where the byte at
-/// `position` is not visible, 3 where it is, and stands behind a space.
+/// Checks the four bytes of a tag: 0 if valid, 1 if there are not four bytes or only spaces, 2 if the
+/// byte at `position` is not allowed there, or 3 if it is printable but follows a space.
 #[unsafe(no_mangle)]
 pub extern "C" fn font_tag_validate(bytes: &[u8], position: &mut u32) -> u32
     ensures judged { IsJudged bytes.now result position.new }
@@ -64,8 +64,8 @@ pub extern "C" fn font_tag_validate(bytes: &[u8], position: &mut u32) -> u32
     }
 }
 
-/// Writes the text of a tag to the front of `out`, and returns its length, or 0 where `out` is too
-/// short. From 0x20 to 0x7E a byte is shown as it is, any other as `{0xNN}`.
+/// Writes the text of a tag to the start of `out`, and returns its length, or 0 if `out` is too
+/// short. Bytes from 0x20 to 0x7E are written as they are, others as `{0xNN}`.
 #[unsafe(no_mangle)]
 pub extern "C" fn font_tag_to_text(tag: u32, out: &mut [u8]) -> usize
     ensures text { WritesText (tag_text (number_bytes tag)) result out.old out.new }

@@ -1,6 +1,6 @@
-//! Texts that go to C.
+//! Text written to buffers of C.
 
-ghost use Rattle.std.specs.Prelude.{◌≡◌, ◌≢◌, ◌<◌, ◌≤◌, length, max, MatchResult};
+ghost use Rattle.std.specs.Prelude.{◌≡◌, ◌≢◌, ◌<◌, ◌≤◌, ◌↔◌, length, max, IsTrue, MatchResult};
 ghost use Rattle.font_types.specs.Grammar.{IsDecimal};
 ghost use Rattle.font_types.specs.Shortest.{shortest_text};
 ghost use Rattle.font_types.specs.Padding.{padded_text, unsigned_body};
@@ -9,23 +9,23 @@ ghost use Rattle.font_c.specs.Pads.{IsPad, pad_of, WritesPadded};
 
 use font_types::{Align, Pad, Shortest};
 
-/// How a text is padded.
+/// How to pad a decimal.
 #[repr(C)]
 #[derive(Clone, Copy)]
 pub struct FontPad {
-    /// The least number of bytes.
+    /// The minimum width in bytes; 0 means none.
     pub width: usize,
-    /// The byte that fills, below 0x80.
+    /// The fill byte, below 0x80; 0 means a space.
     pub fill: u8,
-    /// Where the text stands: 0 at the front, 1 in the middle, 2 at the back.
+    /// The alignment: 0 left, 1 center, 2 right.
     pub align: u8,
-    /// Not 0 where a text with no `-` gets a `+`.
+    /// Writes a `+` unless the text starts with `-`, if not 0.
     pub plus: u8,
-    /// Not 0 where zeros between the sign and the digits stand in place of the fill.
+    /// Pads with zeros after the sign, if not 0.
     pub zeros: u8,
 }
 
-/// What C handed over stands for no padding: it is invalid.
+/// The error of an invalid `FontPad`.
 #[derive(Clone, Copy)]
 pub struct NoPad;
 
@@ -47,7 +47,7 @@ impl TryFrom<FontPad> for Pad {
         };
         Ok(Self {
             width: given.width,
-            fill: given.fill,
+            fill: if given.fill == 0 { b' ' } else { given.fill },
             align,
             plus: given.plus != 0,
             zeros: given.zeros != 0,
@@ -55,8 +55,16 @@ impl TryFrom<FontPad> for Pad {
     }
 }
 
-/// Writes a text of at least one byte to the front of `out`, and returns its length, or 0 where
-/// `out` is too short.
+/// Returns `true` if the fill is below 0x80 and the alignment is one of the three.
+#[unsafe(no_mangle)]
+pub extern "C" fn font_pad_is_valid(pad: &FontPad) -> bool
+    ensures { IsTrue result ↔ IsPad pad.now }
+{
+    Pad::try_from(*pad).is_ok()
+}
+
+/// Writes text of at least one byte to the start of `out`, and returns its length, or 0 if `out` is
+/// too short.
 pub fn put_text(text: &[u8], out: &mut [u8]) -> usize
     requires { 0 < length text.now }
     ensures { WritesText text.now result out.old out.new }
@@ -68,7 +76,7 @@ pub fn put_text(text: &[u8], out: &mut [u8]) -> usize
     text.len()
 }
 
-/// The same with the shortest decimal of `bits / 2^f`.
+/// Writes the shortest decimal of a raw value with `f` fraction bits.
 #[tactic(auto, using(crate::proofs::Texts::text_calls))]
 pub fn put_decimal(bits: i64, f: u32, out: &mut [u8]) -> usize
     requires { (6 ≤ f) × (f ≤ 30) }
@@ -77,7 +85,7 @@ pub fn put_decimal(bits: i64, f: u32, out: &mut [u8]) -> usize
     put_text(Shortest::new(bits, f).as_str().as_bytes(), out)
 }
 
-/// The same, padded; 0 also where `pad` is invalid.
+/// Writes the padded decimal; returns 0 also if `pad` is invalid.
 pub fn put_padded(bits: i64, f: u32, pad: &FontPad, out: &mut [u8]) -> usize
     requires { (6 ≤ f) × (f ≤ 30) }
     ensures { WritesPadded bits f pad.now result out.old out.new }
@@ -88,8 +96,7 @@ pub fn put_padded(bits: i64, f: u32, pad: &FontPad, out: &mut [u8]) -> usize
     }
 }
 
-// Writes a decimal to the front of `out`, padded, and returns the number of bytes, or 0 where `out`
-// is too short.
+// Writes a padded decimal to the start of `out`, and returns its length, or 0 if `out` is too short.
 #[tactic(auto, using(crate::proofs::Texts::text_calls))]
 fn put_padded_text(text: &str, pad: &Pad, out: &mut [u8]) -> usize
     requires decimal { IsDecimal text.now }

@@ -1,0 +1,121 @@
+//! Big-endian fields at byte offsets.
+#![tactic(auto, using(font_types::proofs::Callers::scalar_calls))]
+
+ghost use Rattle.std.specs.Prelude.{◌≡◌, ◌↔◌, ◌+◌, ◌<◌, ◌≤◌, pos, length, take, drop, IsSome, IfSome};
+ghost use Rattle.font_types.specs.Bytes.{numeral, signed_numeral};
+ghost use Rattle.font_types.specs.Scalar.{IsValueOf};
+ghost use Rattle.font_c.specs.Fields.{ReadsField};
+
+use font_types::{BeByteArray, Int24, Scalar, Uint24};
+
+// The field was read.
+const IN_BOUNDS: u32 = 0;
+
+// The field is not within the bytes.
+const OUT_OF_BOUNDS: u32 = 1;
+
+fn value_at<T: Scalar>(bytes: &[u8], offset: usize) -> Option<T>
+    ensures within { IsSome result ↔ (offset + T.RAW_BYTE_LEN ≤ length bytes.now) }
+    ensures value { IfSome result (λ v.
+        IsValueOf T.Raw.bytes T.of_raw (take T.RAW_BYTE_LEN (drop offset bytes.now)) v) }
+{
+    let (_, rest) = bytes.split_at_checked(offset)?;
+    let (field, _) = rest.split_at_checked(T::RAW_BYTE_LEN)?;
+    T::read(field)
+}
+
+fn three_bytes_at(bytes: &[u8], offset: usize) -> Option<[u8; 3]>
+    ensures within { IsSome result ↔ (offset + 3 ≤ length bytes.now) }
+    ensures value { IfSome result (λ field. field ≡ take 3 (drop offset bytes.now)) }
+{
+    let (_, rest) = bytes.split_at_checked(offset)?;
+    let (field, _) = rest.split_at_checked(3)?;
+    <[u8; 3]>::from_slice(field)
+}
+
+/// Reads a `uint16` at a byte offset: 0 and the number in `value`, or 1 if it is out of bounds.
+#[unsafe(no_mangle)]
+pub extern "C" fn font_u16_at(bytes: &[u8], offset: usize, value: &mut u16) -> u32
+    ensures { ReadsField 2 (λ field. pos (numeral field)) bytes.now offset result
+        (pos value.old) (pos value.new) }
+{
+    let Some(number) = value_at(bytes, offset) else {
+        return OUT_OF_BOUNDS;
+    };
+    *value = number;
+    IN_BOUNDS
+}
+
+/// Reads an `int16` at a byte offset: 0 and the number in `value`, or 1 if it is out of bounds.
+#[unsafe(no_mangle)]
+pub extern "C" fn font_i16_at(bytes: &[u8], offset: usize, value: &mut i16) -> u32
+    ensures { ReadsField 2 (signed_numeral 2) bytes.now offset result value.old value.new }
+{
+    let Some(number) = value_at(bytes, offset) else {
+        return OUT_OF_BOUNDS;
+    };
+    *value = number;
+    IN_BOUNDS
+}
+
+/// Reads a `uint24` at a byte offset: 0 and the number in `value`, or 1 if it is out of bounds.
+#[unsafe(no_mangle)]
+pub extern "C" fn font_u24_at(bytes: &[u8], offset: usize, value: &mut u32) -> u32
+    ensures { ReadsField 3 (λ field. pos (numeral field)) bytes.now offset result
+        (pos value.old) (pos value.new) }
+{
+    let Some(field) = three_bytes_at(bytes, offset) else {
+        return OUT_OF_BOUNDS;
+    };
+    *value = Uint24::from_be_bytes(field).to_u32();
+    IN_BOUNDS
+}
+
+/// Reads an `int24` at a byte offset: 0 and the number in `value`, or 1 if it is out of bounds.
+#[unsafe(no_mangle)]
+pub extern "C" fn font_i24_at(bytes: &[u8], offset: usize, value: &mut i32) -> u32
+    ensures { ReadsField 3 (signed_numeral 3) bytes.now offset result value.old value.new }
+{
+    let Some(field) = three_bytes_at(bytes, offset) else {
+        return OUT_OF_BOUNDS;
+    };
+    *value = Int24::from_be_bytes(field).to_i32();
+    IN_BOUNDS
+}
+
+/// Reads a `uint32` at a byte offset: 0 and the number in `value`, or 1 if it is out of bounds.
+#[unsafe(no_mangle)]
+pub extern "C" fn font_u32_at(bytes: &[u8], offset: usize, value: &mut u32) -> u32
+    ensures { ReadsField 4 (λ field. pos (numeral field)) bytes.now offset result
+        (pos value.old) (pos value.new) }
+{
+    let Some(number) = value_at(bytes, offset) else {
+        return OUT_OF_BOUNDS;
+    };
+    *value = number;
+    IN_BOUNDS
+}
+
+/// Reads an `int32` at a byte offset: 0 and the number in `value`, or 1 if it is out of bounds.
+#[unsafe(no_mangle)]
+pub extern "C" fn font_i32_at(bytes: &[u8], offset: usize, value: &mut i32) -> u32
+    ensures { ReadsField 4 (signed_numeral 4) bytes.now offset result value.old value.new }
+{
+    let Some(number) = value_at(bytes, offset) else {
+        return OUT_OF_BOUNDS;
+    };
+    *value = number;
+    IN_BOUNDS
+}
+
+/// Reads an `int64` at a byte offset: 0 and the number in `value`, or 1 if it is out of bounds.
+#[unsafe(no_mangle)]
+pub extern "C" fn font_i64_at(bytes: &[u8], offset: usize, value: &mut i64) -> u32
+    ensures { ReadsField 8 (signed_numeral 8) bytes.now offset result value.old value.new }
+{
+    let Some(number) = value_at(bytes, offset) else {
+        return OUT_OF_BOUNDS;
+    };
+    *value = number;
+    IN_BOUNDS
+}

@@ -1,0 +1,11 @@
+//! The version of the library.
+
+ghost use Rattle.std.specs.Prelude.{◌≡◌};
+
+/// Returns the version as `major << 16 | minor << 8 | patch`.
+#[unsafe(no_mangle)]
+pub extern "C" fn font_types_version() -> u32
+    ensures { result ≡ 0x00_0300 }
+{
+    0x00_0300
+}
