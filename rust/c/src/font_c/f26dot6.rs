@@ -1,13 +1,16 @@
 // @generated from crates/font_c/src/f26dot6.rt by tools/src/bin/erase.rs
 
-//! Numbers of 32 bits with 6 bits of fraction, by their bits.
+//! 26.6 fixed-point numbers, by their raw bits.
 
 use crate::font_c::reading::read_into_32;
+use crate::font_c::sum::{SUM_OUT_OF_RANGE, SUMMED};
 use crate::font_c::text::{FontPad, put_decimal, put_padded};
 use crate::font_types::F26Dot6;
 
-/// Reads a decimal text as the nearest 26.6 number, ties away from zero: 0 where its bits are in
-/// `bits`, 1 where it is no decimal, 2 where it is out of range.
+const FRACTION_BITS: u32 = 6;
+
+/// Parses a decimal as the nearest 26.6 value, rounding half away from zero: 0 and the raw bits in
+/// `bits`, 1 if the text is not a decimal, or 2 if the value is out of range.
 #[unsafe(no_mangle)]
 pub unsafe extern "C" fn font_f26dot6_from_decimal(
     text: *const u8,
@@ -15,18 +18,18 @@ pub unsafe extern "C" fn font_f26dot6_from_decimal(
     bits: &mut i32,
 ) -> u32 {
     let text = unsafe { crate::slice(text, text_len) };
-    read_into_32(text, 6, bits)
+    read_into_32(text, FRACTION_BITS, bits)
 }
 
-/// Writes the shortest decimal that is read back as the number to the front of `out`, and returns
-/// its length, or 0 where `out` is too short.
+/// Writes the shortest decimal that parses back to the value to the start of `out`, and returns
+/// its length, or 0 if `out` is too short.
 #[unsafe(no_mangle)]
 pub unsafe extern "C" fn font_f26dot6_to_decimal(bits: i32, out: *mut u8, out_len: usize) -> usize {
     let out = unsafe { crate::slice_mut(out, out_len) };
-    put_decimal(i64::from(bits), 6, out)
+    put_decimal(i64::from(bits), FRACTION_BITS, out)
 }
 
-/// The same, padded; 0 also where `pad` is invalid.
+/// Writes the padded decimal; returns 0 also if `pad` is invalid.
 #[unsafe(no_mangle)]
 pub unsafe extern "C" fn font_f26dot6_write_padded(
     bits: i32,
@@ -35,30 +38,98 @@ pub unsafe extern "C" fn font_f26dot6_write_padded(
     out_len: usize,
 ) -> usize {
     let out = unsafe { crate::slice_mut(out, out_len) };
-    put_padded(i64::from(bits), 6, pad, out)
+    put_padded(i64::from(bits), FRACTION_BITS, pad, out)
 }
 
-/// The nearest whole number, ties upwards, wrapped.
+/// Rounds to the nearest integer, half up, wrapping on overflow.
 #[unsafe(no_mangle)]
 pub extern "C" fn font_f26dot6_round(bits: i32) -> i32 {
     F26Dot6::from_bits(bits).round().to_bits()
 }
 
-/// The greatest whole number that is not above the number.
+/// Returns the largest integer less than or equal to the value.
 #[unsafe(no_mangle)]
 pub extern "C" fn font_f26dot6_floor(bits: i32) -> i32 {
     F26Dot6::from_bits(bits).floor().to_bits()
 }
 
-/// The product, rounded to the nearest step, ties away from zero, and wrapped.
+/// Returns the fractional part, at least 0 and less than 1.
+#[unsafe(no_mangle)]
+pub extern "C" fn font_f26dot6_fract(bits: i32) -> i32 {
+    F26Dot6::from_bits(bits).fract().to_bits()
+}
+
+/// Returns the absolute value, wrapping on overflow.
+#[unsafe(no_mangle)]
+pub extern "C" fn font_f26dot6_abs(bits: i32) -> i32 {
+    F26Dot6::from_bits(bits).abs().to_bits()
+}
+
+/// Negates, wrapping on overflow.
+#[unsafe(no_mangle)]
+pub extern "C" fn font_f26dot6_neg(bits: i32) -> i32 {
+    (-F26Dot6::from_bits(bits)).to_bits()
+}
+
+/// Adds, wrapping on overflow.
+#[unsafe(no_mangle)]
+pub extern "C" fn font_f26dot6_add(x: i32, y: i32) -> i32 {
+    (F26Dot6::from_bits(x) + F26Dot6::from_bits(y)).to_bits()
+}
+
+/// Subtracts, wrapping on overflow.
+#[unsafe(no_mangle)]
+pub extern "C" fn font_f26dot6_sub(x: i32, y: i32) -> i32 {
+    (F26Dot6::from_bits(x) - F26Dot6::from_bits(y)).to_bits()
+}
+
+/// Adds: 0 and the sum in `sum`, or 2 on overflow.
+#[unsafe(no_mangle)]
+pub unsafe extern "C" fn font_f26dot6_checked_add(x: i32, y: i32, sum: &mut i32) -> u32 {
+    let Some(exact) = F26Dot6::from_bits(x).checked_add(F26Dot6::from_bits(y)) else {
+        return SUM_OUT_OF_RANGE;
+    };
+    *sum = exact.to_bits();
+    SUMMED
+}
+
+/// Adds, saturating on overflow.
+#[unsafe(no_mangle)]
+pub extern "C" fn font_f26dot6_saturating_add(x: i32, y: i32) -> i32 {
+    F26Dot6::from_bits(x)
+        .saturating_add(F26Dot6::from_bits(y))
+        .to_bits()
+}
+
+/// Subtracts, saturating on overflow.
+#[unsafe(no_mangle)]
+pub extern "C" fn font_f26dot6_saturating_sub(x: i32, y: i32) -> i32 {
+    F26Dot6::from_bits(x)
+        .saturating_sub(F26Dot6::from_bits(y))
+        .to_bits()
+}
+
+/// Multiplies, rounding half away from zero and wrapping on overflow.
 #[unsafe(no_mangle)]
 pub extern "C" fn font_f26dot6_mul(x: i32, y: i32) -> i32 {
     (F26Dot6::from_bits(x) * F26Dot6::from_bits(y)).to_bits()
 }
 
-/// The quotient, rounded in the same way; by zero, the greatest number, negated where `x` is
-/// negative.
+/// Divides, rounding half away from zero and wrapping on overflow. Division by zero gives the
+/// largest value, negated if `x` is negative.
 #[unsafe(no_mangle)]
 pub extern "C" fn font_f26dot6_div(x: i32, y: i32) -> i32 {
     (F26Dot6::from_bits(x) / F26Dot6::from_bits(y)).to_bits()
+}
+
+/// Converts an integer, wrapping on overflow.
+#[unsafe(no_mangle)]
+pub extern "C" fn font_f26dot6_from_i32(number: i32) -> i32 {
+    F26Dot6::from_i32(number).to_bits()
+}
+
+/// Rounds to the nearest integer, half up, wrapped to 26 bits.
+#[unsafe(no_mangle)]
+pub extern "C" fn font_f26dot6_to_i32(bits: i32) -> i32 {
+    F26Dot6::from_bits(bits).to_i32()
 }

@@ -1,13 +1,16 @@
 // @generated from crates/font_c/src/f2dot14.rt by tools/src/bin/erase.rs
 
-//! Numbers of 16 bits with 14 bits of fraction, by their bits.
+//! 2.14 fixed-point numbers, by their raw bits.
 
 use crate::font_c::reading::read_into_16;
+use crate::font_c::sum::{SUM_OUT_OF_RANGE, SUMMED};
 use crate::font_c::text::{FontPad, put_decimal, put_padded};
 use crate::font_types::F2Dot14;
 
-/// Reads a decimal text as the nearest 2.14 number, ties away from zero: 0 where its bits are in
-/// `bits`, 1 where it is no decimal, 2 where it is out of range.
+const FRACTION_BITS: u32 = 14;
+
+/// Parses a decimal as the nearest 2.14 value, rounding half away from zero: 0 and the raw bits in
+/// `bits`, 1 if the text is not a decimal, or 2 if the value is out of range.
 #[unsafe(no_mangle)]
 pub unsafe extern "C" fn font_f2dot14_from_decimal(
     text: *const u8,
@@ -15,18 +18,18 @@ pub unsafe extern "C" fn font_f2dot14_from_decimal(
     bits: &mut i16,
 ) -> u32 {
     let text = unsafe { crate::slice(text, text_len) };
-    read_into_16(text, 14, bits)
+    read_into_16(text, FRACTION_BITS, bits)
 }
 
-/// Writes the shortest decimal that is read back as the number to the front of `out`, and returns
-/// its length, or 0 where `out` is too short.
+/// Writes the shortest decimal that parses back to the value to the start of `out`, and returns
+/// its length, or 0 if `out` is too short.
 #[unsafe(no_mangle)]
 pub unsafe extern "C" fn font_f2dot14_to_decimal(bits: i16, out: *mut u8, out_len: usize) -> usize {
     let out = unsafe { crate::slice_mut(out, out_len) };
-    put_decimal(i64::from(bits), 14, out)
+    put_decimal(i64::from(bits), FRACTION_BITS, out)
 }
 
-/// The same, padded; 0 also where `pad` is invalid.
+/// Writes the padded decimal; returns 0 also if `pad` is invalid.
 #[unsafe(no_mangle)]
 pub unsafe extern "C" fn font_f2dot14_write_padded(
     bits: i16,
@@ -35,22 +38,78 @@ pub unsafe extern "C" fn font_f2dot14_write_padded(
     out_len: usize,
 ) -> usize {
     let out = unsafe { crate::slice_mut(out, out_len) };
-    put_padded(i64::from(bits), 14, pad, out)
+    put_padded(i64::from(bits), FRACTION_BITS, pad, out)
 }
 
-/// The nearest whole number, ties upwards, wrapped.
+/// Rounds to the nearest integer, half up, wrapping on overflow.
 #[unsafe(no_mangle)]
 pub extern "C" fn font_f2dot14_round(bits: i16) -> i16 {
     F2Dot14::from_bits(bits).round().to_bits()
 }
 
-/// The greatest whole number that is not above the number.
+/// Returns the largest integer less than or equal to the value.
 #[unsafe(no_mangle)]
 pub extern "C" fn font_f2dot14_floor(bits: i16) -> i16 {
     F2Dot14::from_bits(bits).floor().to_bits()
 }
 
-/// The same number in 16.16, exactly.
+/// Returns the fractional part, at least 0 and less than 1.
+#[unsafe(no_mangle)]
+pub extern "C" fn font_f2dot14_fract(bits: i16) -> i16 {
+    F2Dot14::from_bits(bits).fract().to_bits()
+}
+
+/// Returns the absolute value, wrapping on overflow.
+#[unsafe(no_mangle)]
+pub extern "C" fn font_f2dot14_abs(bits: i16) -> i16 {
+    F2Dot14::from_bits(bits).abs().to_bits()
+}
+
+/// Negates, wrapping on overflow.
+#[unsafe(no_mangle)]
+pub extern "C" fn font_f2dot14_neg(bits: i16) -> i16 {
+    (-F2Dot14::from_bits(bits)).to_bits()
+}
+
+/// Adds, wrapping on overflow.
+#[unsafe(no_mangle)]
+pub extern "C" fn font_f2dot14_add(x: i16, y: i16) -> i16 {
+    (F2Dot14::from_bits(x) + F2Dot14::from_bits(y)).to_bits()
+}
+
+/// Subtracts, wrapping on overflow.
+#[unsafe(no_mangle)]
+pub extern "C" fn font_f2dot14_sub(x: i16, y: i16) -> i16 {
+    (F2Dot14::from_bits(x) - F2Dot14::from_bits(y)).to_bits()
+}
+
+/// Adds: 0 and the sum in `sum`, or 2 on overflow.
+#[unsafe(no_mangle)]
+pub unsafe extern "C" fn font_f2dot14_checked_add(x: i16, y: i16, sum: &mut i16) -> u32 {
+    let Some(exact) = F2Dot14::from_bits(x).checked_add(F2Dot14::from_bits(y)) else {
+        return SUM_OUT_OF_RANGE;
+    };
+    *sum = exact.to_bits();
+    SUMMED
+}
+
+/// Adds, saturating on overflow.
+#[unsafe(no_mangle)]
+pub extern "C" fn font_f2dot14_saturating_add(x: i16, y: i16) -> i16 {
+    F2Dot14::from_bits(x)
+        .saturating_add(F2Dot14::from_bits(y))
+        .to_bits()
+}
+
+/// Subtracts, saturating on overflow.
+#[unsafe(no_mangle)]
+pub extern "C" fn font_f2dot14_saturating_sub(x: i16, y: i16) -> i16 {
+    F2Dot14::from_bits(x)
+        .saturating_sub(F2Dot14::from_bits(y))
+        .to_bits()
+}
+
+/// Converts to 16.16, exactly.
 #[unsafe(no_mangle)]
 pub extern "C" fn font_f2dot14_to_fixed(bits: i16) -> i32 {
     F2Dot14::from_bits(bits).to_fixed().to_bits()

@@ -1,13 +1,16 @@
 // @generated from crates/font_c/src/f48dot16.rt by tools/src/bin/erase.rs
 
-//! Numbers of 64 bits with 16 bits of fraction, by their bits.
+//! 48.16 fixed-point numbers, by their raw bits.
 
 use crate::font_c::reading::read_into_64;
+use crate::font_c::sum::{SUM_OUT_OF_RANGE, SUMMED};
 use crate::font_c::text::{FontPad, put_decimal, put_padded};
 use crate::font_types::F48Dot16;
 
-/// Reads a decimal text as the nearest 48.16 number, ties away from zero: 0 where its bits are in
-/// `bits`, 1 where it is no decimal, 2 where it is out of range.
+const FRACTION_BITS: u32 = 16;
+
+/// Parses a decimal as the nearest 48.16 value, rounding half away from zero: 0 and the raw bits in
+/// `bits`, 1 if the text is not a decimal, or 2 if the value is out of range.
 #[unsafe(no_mangle)]
 pub unsafe extern "C" fn font_f48dot16_from_decimal(
     text: *const u8,
@@ -15,11 +18,11 @@ pub unsafe extern "C" fn font_f48dot16_from_decimal(
     bits: &mut i64,
 ) -> u32 {
     let text = unsafe { crate::slice(text, text_len) };
-    read_into_64(text, 16, bits)
+    read_into_64(text, FRACTION_BITS, bits)
 }
 
-/// Writes the shortest decimal that is read back as the number to the front of `out`, and returns
-/// its length, or 0 where `out` is too short.
+/// Writes the shortest decimal that parses back to the value to the start of `out`, and returns
+/// its length, or 0 if `out` is too short.
 #[unsafe(no_mangle)]
 pub unsafe extern "C" fn font_f48dot16_to_decimal(
     bits: i64,
@@ -27,10 +30,10 @@ pub unsafe extern "C" fn font_f48dot16_to_decimal(
     out_len: usize,
 ) -> usize {
     let out = unsafe { crate::slice_mut(out, out_len) };
-    put_decimal(bits, 16, out)
+    put_decimal(bits, FRACTION_BITS, out)
 }
 
-/// The same, padded; 0 also where `pad` is invalid.
+/// Writes the padded decimal; returns 0 also if `pad` is invalid.
 #[unsafe(no_mangle)]
 pub unsafe extern "C" fn font_f48dot16_write_padded(
     bits: i64,
@@ -39,17 +42,97 @@ pub unsafe extern "C" fn font_f48dot16_write_padded(
     out_len: usize,
 ) -> usize {
     let out = unsafe { crate::slice_mut(out, out_len) };
-    put_padded(bits, 16, pad, out)
+    put_padded(bits, FRACTION_BITS, pad, out)
 }
 
-/// The nearest whole number, ties upwards, wrapped.
+/// Rounds to the nearest integer, half up, wrapping on overflow.
 #[unsafe(no_mangle)]
 pub extern "C" fn font_f48dot16_round(bits: i64) -> i64 {
     F48Dot16::from_bits(bits).round().to_bits()
 }
 
-/// The greatest whole number that is not above the number.
+/// Returns the largest integer less than or equal to the value.
 #[unsafe(no_mangle)]
 pub extern "C" fn font_f48dot16_floor(bits: i64) -> i64 {
     F48Dot16::from_bits(bits).floor().to_bits()
+}
+
+/// Returns the fractional part, at least 0 and less than 1.
+#[unsafe(no_mangle)]
+pub extern "C" fn font_f48dot16_fract(bits: i64) -> i64 {
+    F48Dot16::from_bits(bits).fract().to_bits()
+}
+
+/// Returns the absolute value, wrapping on overflow.
+#[unsafe(no_mangle)]
+pub extern "C" fn font_f48dot16_abs(bits: i64) -> i64 {
+    F48Dot16::from_bits(bits).abs().to_bits()
+}
+
+/// Negates, wrapping on overflow.
+#[unsafe(no_mangle)]
+pub extern "C" fn font_f48dot16_neg(bits: i64) -> i64 {
+    (-F48Dot16::from_bits(bits)).to_bits()
+}
+
+/// Adds, wrapping on overflow.
+#[unsafe(no_mangle)]
+pub extern "C" fn font_f48dot16_add(x: i64, y: i64) -> i64 {
+    (F48Dot16::from_bits(x) + F48Dot16::from_bits(y)).to_bits()
+}
+
+/// Subtracts, wrapping on overflow.
+#[unsafe(no_mangle)]
+pub extern "C" fn font_f48dot16_sub(x: i64, y: i64) -> i64 {
+    (F48Dot16::from_bits(x) - F48Dot16::from_bits(y)).to_bits()
+}
+
+/// Adds: 0 and the sum in `sum`, or 2 on overflow.
+#[unsafe(no_mangle)]
+pub unsafe extern "C" fn font_f48dot16_checked_add(x: i64, y: i64, sum: &mut i64) -> u32 {
+    let Some(exact) = F48Dot16::from_bits(x).checked_add(F48Dot16::from_bits(y)) else {
+        return SUM_OUT_OF_RANGE;
+    };
+    *sum = exact.to_bits();
+    SUMMED
+}
+
+/// Adds, saturating on overflow.
+#[unsafe(no_mangle)]
+pub extern "C" fn font_f48dot16_saturating_add(x: i64, y: i64) -> i64 {
+    F48Dot16::from_bits(x)
+        .saturating_add(F48Dot16::from_bits(y))
+        .to_bits()
+}
+
+/// Subtracts, saturating on overflow.
+#[unsafe(no_mangle)]
+pub extern "C" fn font_f48dot16_saturating_sub(x: i64, y: i64) -> i64 {
+    F48Dot16::from_bits(x)
+        .saturating_sub(F48Dot16::from_bits(y))
+        .to_bits()
+}
+
+/// Converts an integer, wrapping on overflow.
+#[unsafe(no_mangle)]
+pub extern "C" fn font_f48dot16_from_i64(number: i64) -> i64 {
+    F48Dot16::from_i64(number).to_bits()
+}
+
+/// Rounds to the nearest integer, half up, wrapped to 48 bits.
+#[unsafe(no_mangle)]
+pub extern "C" fn font_f48dot16_to_i64(bits: i64) -> i64 {
+    F48Dot16::from_bits(bits).to_i64()
+}
+
+/// Rounds to the nearest integer, half up, wrapped to 32 bits.
+#[unsafe(no_mangle)]
+pub extern "C" fn font_f48dot16_to_i32(bits: i64) -> i32 {
+    F48Dot16::from_bits(bits).to_i32()
+}
+
+/// Converts to 16.16, wrapping on overflow.
+#[unsafe(no_mangle)]
+pub extern "C" fn font_f48dot16_to_fixed(bits: i64) -> i32 {
+    F48Dot16::from_bits(bits).to_fixed().to_bits()
 }

@@ -1,14 +1,16 @@
 // @generated from crates/font_c/src/fixed.rt by tools/src/bin/erase.rs
 
-//! Numbers of 32 bits with 16 bits of fraction, by their bits.
+//! 16.16 fixed-point numbers, by their raw bits.
 
 use crate::font_c::reading::read_into_32;
 use crate::font_c::sum::{SUM_OUT_OF_RANGE, SUMMED};
 use crate::font_c::text::{FontPad, put_decimal, put_padded};
 use crate::font_types::Fixed;
 
-/// Reads a decimal text as the nearest 16.16 number, ties away from zero: 0 where its bits are in
-/// `bits`, 1 where it is no decimal, 2 where it is out of range.
+const FRACTION_BITS: u32 = 16;
+
+/// Parses a decimal as the nearest 16.16 value, rounding half away from zero: 0 and the raw bits in
+/// `bits`, 1 if the text is not a decimal, or 2 if the value is out of range.
 #[unsafe(no_mangle)]
 pub unsafe extern "C" fn font_fixed_from_decimal(
     text: *const u8,
@@ -16,18 +18,18 @@ pub unsafe extern "C" fn font_fixed_from_decimal(
     bits: &mut i32,
 ) -> u32 {
     let text = unsafe { crate::slice(text, text_len) };
-    read_into_32(text, 16, bits)
+    read_into_32(text, FRACTION_BITS, bits)
 }
 
-/// Writes the shortest decimal that is read back as the number to the front of `out`, and returns
-/// its length, or 0 where `out` is too short.
+/// Writes the shortest decimal that parses back to the value to the start of `out`, and returns
+/// its length, or 0 if `out` is too short.
 #[unsafe(no_mangle)]
 pub unsafe extern "C" fn font_fixed_to_decimal(bits: i32, out: *mut u8, out_len: usize) -> usize {
     let out = unsafe { crate::slice_mut(out, out_len) };
-    put_decimal(i64::from(bits), 16, out)
+    put_decimal(i64::from(bits), FRACTION_BITS, out)
 }
 
-/// The same, padded; 0 also where `pad` is invalid.
+/// Writes the padded decimal; returns 0 also if `pad` is invalid.
 #[unsafe(no_mangle)]
 pub unsafe extern "C" fn font_fixed_write_padded(
     bits: i32,
@@ -36,40 +38,52 @@ pub unsafe extern "C" fn font_fixed_write_padded(
     out_len: usize,
 ) -> usize {
     let out = unsafe { crate::slice_mut(out, out_len) };
-    put_padded(i64::from(bits), 16, pad, out)
+    put_padded(i64::from(bits), FRACTION_BITS, pad, out)
 }
 
-/// The nearest whole number, ties upwards, wrapped.
+/// Rounds to the nearest integer, half up, wrapping on overflow.
 #[unsafe(no_mangle)]
 pub extern "C" fn font_fixed_round(bits: i32) -> i32 {
     Fixed::from_bits(bits).round().to_bits()
 }
 
-/// The greatest whole number that is not above the number.
+/// Returns the largest integer less than or equal to the value.
 #[unsafe(no_mangle)]
 pub extern "C" fn font_fixed_floor(bits: i32) -> i32 {
     Fixed::from_bits(bits).floor().to_bits()
 }
 
-/// The sum, wrapped.
+/// Returns the fractional part, at least 0 and less than 1.
 #[unsafe(no_mangle)]
-pub extern "C" fn font_fixed_add(x: i32, y: i32) -> i32 {
-    (Fixed::from_bits(x) + Fixed::from_bits(y)).to_bits()
+pub extern "C" fn font_fixed_fract(bits: i32) -> i32 {
+    Fixed::from_bits(bits).fract().to_bits()
 }
 
-/// The difference, wrapped.
+/// Returns the absolute value, wrapping on overflow.
 #[unsafe(no_mangle)]
-pub extern "C" fn font_fixed_sub(x: i32, y: i32) -> i32 {
-    (Fixed::from_bits(x) - Fixed::from_bits(y)).to_bits()
+pub extern "C" fn font_fixed_abs(bits: i32) -> i32 {
+    Fixed::from_bits(bits).abs().to_bits()
 }
 
-/// The opposite, wrapped.
+/// Negates, wrapping on overflow.
 #[unsafe(no_mangle)]
 pub extern "C" fn font_fixed_neg(bits: i32) -> i32 {
     (-Fixed::from_bits(bits)).to_bits()
 }
 
-/// The exact sum: 0 where its bits are in `sum`, 2 where 32 bits do not hold it.
+/// Adds, wrapping on overflow.
+#[unsafe(no_mangle)]
+pub extern "C" fn font_fixed_add(x: i32, y: i32) -> i32 {
+    (Fixed::from_bits(x) + Fixed::from_bits(y)).to_bits()
+}
+
+/// Subtracts, wrapping on overflow.
+#[unsafe(no_mangle)]
+pub extern "C" fn font_fixed_sub(x: i32, y: i32) -> i32 {
+    (Fixed::from_bits(x) - Fixed::from_bits(y)).to_bits()
+}
+
+/// Adds: 0 and the sum in `sum`, or 2 on overflow.
 #[unsafe(no_mangle)]
 pub unsafe extern "C" fn font_fixed_checked_add(x: i32, y: i32, sum: &mut i32) -> u32 {
     let Some(exact) = Fixed::from_bits(x).checked_add(Fixed::from_bits(y)) else {
@@ -79,7 +93,7 @@ pub unsafe extern "C" fn font_fixed_checked_add(x: i32, y: i32, sum: &mut i32) -
     SUMMED
 }
 
-/// The sum, or the nearest end of the range where it is out of it.
+/// Adds, saturating on overflow.
 #[unsafe(no_mangle)]
 pub extern "C" fn font_fixed_saturating_add(x: i32, y: i32) -> i32 {
     Fixed::from_bits(x)
@@ -87,7 +101,7 @@ pub extern "C" fn font_fixed_saturating_add(x: i32, y: i32) -> i32 {
         .to_bits()
 }
 
-/// The difference, or the nearest end of the range where it is out of it.
+/// Subtracts, saturating on overflow.
 #[unsafe(no_mangle)]
 pub extern "C" fn font_fixed_saturating_sub(x: i32, y: i32) -> i32 {
     Fixed::from_bits(x)
@@ -95,21 +109,21 @@ pub extern "C" fn font_fixed_saturating_sub(x: i32, y: i32) -> i32 {
         .to_bits()
 }
 
-/// The product, rounded to the nearest step, ties away from zero, and wrapped.
+/// Multiplies, rounding half away from zero and wrapping on overflow.
 #[unsafe(no_mangle)]
 pub extern "C" fn font_fixed_mul(x: i32, y: i32) -> i32 {
     (Fixed::from_bits(x) * Fixed::from_bits(y)).to_bits()
 }
 
-/// The quotient, rounded in the same way; by zero, the greatest number, negated where `x` is
-/// negative.
+/// Divides, rounding half away from zero and wrapping on overflow. Division by zero gives the
+/// largest value, negated if `x` is negative.
 #[unsafe(no_mangle)]
 pub extern "C" fn font_fixed_div(x: i32, y: i32) -> i32 {
     (Fixed::from_bits(x) / Fixed::from_bits(y)).to_bits()
 }
 
-/// `x * a / c`, rounded once; where `c` is zero, the greatest number, negated where just one of `x`
-/// and `a` is negative.
+/// Returns `x * a / c`, rounded once, half away from zero, wrapping on overflow. If `c` is zero, the
+/// result is the largest value, negated if exactly one of `x` and `a` is negative.
 #[unsafe(no_mangle)]
 pub extern "C" fn font_fixed_mul_div(x: i32, a: i32, c: i32) -> i32 {
     Fixed::from_bits(x)
@@ -117,26 +131,38 @@ pub extern "C" fn font_fixed_mul_div(x: i32, a: i32, c: i32) -> i32 {
         .to_bits()
 }
 
-/// A whole number, wrapped.
+/// Returns the exact product with an integer, in 48.16.
+#[unsafe(no_mangle)]
+pub extern "C" fn font_fixed_mul_i32(bits: i32, number: i32) -> i64 {
+    Fixed::from_bits(bits).mul_i32(number).to_bits()
+}
+
+/// Converts an integer, wrapping on overflow.
 #[unsafe(no_mangle)]
 pub extern "C" fn font_fixed_from_i32(number: i32) -> i32 {
     Fixed::from_i32(number).to_bits()
 }
 
-/// The nearest whole number, ties upwards, wrapped to 16 bits.
+/// Rounds to the nearest integer, half up, wrapped to 16 bits.
 #[unsafe(no_mangle)]
 pub extern "C" fn font_fixed_to_i32(bits: i32) -> i32 {
     Fixed::from_bits(bits).to_i32()
 }
 
-/// The nearest 26.6 number, ties upwards, its bits wrapped to 22.
+/// Rounds to the nearest 26.6 value, half up, its raw bits wrapped to 22 bits.
 #[unsafe(no_mangle)]
 pub extern "C" fn font_fixed_to_f26dot6(bits: i32) -> i32 {
     Fixed::from_bits(bits).to_f26dot6().to_bits()
 }
 
-/// The nearest 2.14 number, ties upwards, its bits wrapped to 16.
+/// Rounds to the nearest 2.14 value, half up, wrapping on overflow.
 #[unsafe(no_mangle)]
 pub extern "C" fn font_fixed_to_f2dot14(bits: i32) -> i16 {
     Fixed::from_bits(bits).to_f2dot14().to_bits()
+}
+
+/// Converts to 48.16, exactly.
+#[unsafe(no_mangle)]
+pub extern "C" fn font_fixed_to_f48dot16(bits: i32) -> i64 {
+    Fixed::from_bits(bits).to_f48dot16().to_bits()
 }

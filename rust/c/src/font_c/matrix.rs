@@ -1,11 +1,11 @@
 // @generated from crates/font_c/src/matrix.rt by tools/src/bin/erase.rs
 
-//! Matrices and points of 16.16 numbers.
+//! Matrices and points of 16.16 values.
 
 use crate::font_types::{Fixed, Matrix, Point, laws};
 
-/// A matrix of 16.16 numbers, by their bits: it sends `(x, y)` to `(xx * x + xy * y + dx, yx * x +
-/// yy * y + dy)`.
+/// A matrix of raw 16.16 values: it transforms `(x, y)` to `(xx * x + xy * y + dx, yx * x + yy * y +
+/// dy)`.
 #[repr(C)]
 #[derive(Clone, Copy)]
 pub struct FontMatrix {
@@ -17,7 +17,7 @@ pub struct FontMatrix {
     pub dy: i32,
 }
 
-/// A point of 16.16 numbers, by their bits.
+/// A point of raw 16.16 values.
 #[repr(C)]
 #[derive(Clone, Copy)]
 pub struct FontPoint {
@@ -66,33 +66,51 @@ impl From<FontPoint> for Point<Fixed> {
     }
 }
 
-/// The matrix that applies `b` and then `a`: products are rounded and sums wrap, as those of 16.16
-/// numbers do.
+/// Returns the matrix that applies `b` first, then `a`. Products round and sums wrap, as of 16.16
+/// values.
 #[unsafe(no_mangle)]
 pub extern "C" fn font_matrix_product(a: FontMatrix, b: FontMatrix) -> FontMatrix {
     (Matrix::from(a) * Matrix::from(b)).into()
 }
 
-/// Where the matrix sends a point.
+/// Transforms a point.
 #[unsafe(no_mangle)]
 pub extern "C" fn font_matrix_image(m: FontMatrix, p: FontPoint) -> FontPoint {
     (Matrix::from(m) * Point::from(p)).into()
 }
 
-/// Where the product of `a` and `b` sends a point.
+/// Transforms a vector: as `font_matrix_image`, without the translation.
+#[unsafe(no_mangle)]
+pub extern "C" fn font_matrix_vector(m: FontMatrix, v: FontPoint) -> FontPoint {
+    font_matrix_image(FontMatrix { dx: 0, dy: 0, ..m }, v)
+}
+
+/// Transforms points in place, each as `font_matrix_image` does.
+#[unsafe(no_mangle)]
+pub unsafe extern "C" fn font_matrix_images(
+    m: &FontMatrix,
+    points: *mut FontPoint,
+    points_len: usize,
+) {
+    let points = unsafe { crate::slice_mut(points, points_len) };
+    for p in points.iter_mut() {
+        *p = font_matrix_image(*m, *p);
+    }
+}
+
+/// Transforms a point by the product of `a` and `b`.
 ///
-/// Where no element of the product and no coordinate of the result leaves 32 bits, each coordinate
-/// is at most `(|x| + |y|) / 65536 + 2` bits from the exact one, magnitudes in bits.
+/// If no element of the product and no coordinate of the result overflows 32 bits, each coordinate is
+/// at most `(|x| + |y|) / 65536 + 2` from the exact one, all as raw values.
 #[unsafe(no_mangle)]
 pub extern "C" fn font_matrix_composed(a: FontMatrix, b: FontMatrix, p: FontPoint) -> FontPoint {
     laws::composed(a.into(), b.into(), p.into()).into()
 }
 
-/// Where `a` sends what `b` sends a point to.
+/// Transforms a point by `b`, and the result by `a`.
 ///
-/// Where no coordinate on the way or of the result leaves 32 bits, a coordinate is at most the
-/// magnitudes of the two linear elements of its row of `a`, in bits, over 65536, and 1 bit from the
-/// exact one.
+/// If no coordinate of either overflows 32 bits, `x` is at most `(|a.xx| + |a.xy|) / 65536 + 1` from
+/// the exact one, and `y` at most `(|a.yx| + |a.yy|) / 65536 + 1`, all as raw values.
 #[unsafe(no_mangle)]
 pub extern "C" fn font_matrix_in_turn(a: FontMatrix, b: FontMatrix, p: FontPoint) -> FontPoint {
     laws::in_turn(a.into(), b.into(), p.into()).into()

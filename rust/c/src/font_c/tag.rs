@@ -1,25 +1,25 @@
 // @generated from crates/font_c/src/tag.rt by tools/src/bin/erase.rs
 
-//! Tags, as numbers of 32 bits whose bytes they are, highest first.
+//! Tags, as 32-bit numbers with their big-endian bytes.
 
 use crate::font_c::tag_text::TagText;
 use crate::font_c::text::put_text;
 use crate::font_types::{InvalidTag, Scalar, Tag};
 
-/// Visible characters, and only spaces behind them.
+/// The tag is valid.
 const GOOD: u32 = 0;
 
-/// Another number of bytes, or spaces alone.
+/// There is a wrong number of bytes, or only spaces.
 const BAD_LENGTH: u32 = 1;
 
-/// A byte that cannot stand where it does.
+/// A byte is not allowed where it is.
 const BAD_BYTE: u32 = 2;
 
-/// A visible byte behind a space.
+/// A printable byte follows a space.
 const AFTER_SPACE: u32 = 3;
 
-/// Makes a tag of one to four good bytes, filled with spaces: 0 where it is in `tag`, 1 where there
-/// are not one to four bytes, 2 where a byte cannot stand where it does.
+/// Creates a valid tag from one to four bytes, padding with spaces: 0 and the tag in `tag`, 1 unless
+/// there are one to four bytes, or 2 if a byte is not allowed where it is.
 #[unsafe(no_mangle)]
 pub unsafe extern "C" fn font_tag_new(text: *const u8, text_len: usize, tag: &mut u32) -> u32 {
     let text = unsafe { crate::slice(text, text_len) };
@@ -33,8 +33,8 @@ pub unsafe extern "C" fn font_tag_new(text: *const u8, text_len: usize, tag: &mu
     }
 }
 
-/// Judges the four bytes of a tag: 0 good, 1 not four bytes or four spaces, 2 where the byte at
-/// `position` is not visible, 3 where it is, and stands behind a space.
+/// Checks the four bytes of a tag: 0 if valid, 1 if there are not four bytes or only spaces, 2 if the
+/// byte at `position` is not allowed there, or 3 if it is printable but follows a space.
 #[unsafe(no_mangle)]
 pub unsafe extern "C" fn font_tag_validate(
     bytes: *const u8,
@@ -59,8 +59,8 @@ pub unsafe extern "C" fn font_tag_validate(
     }
 }
 
-/// Writes the text of a tag to the front of `out`, and returns its length, or 0 where `out` is too
-/// short. From 0x20 to 0x7E a byte is shown as it is, any other as `{0xNN}`.
+/// Writes the text of a tag to the start of `out`, and returns its length, or 0 if `out` is too
+/// short. Bytes from 0x20 to 0x7E are written as they are, others as `{0xNN}`.
 #[unsafe(no_mangle)]
 pub unsafe extern "C" fn font_tag_to_text(tag: u32, out: *mut u8, out_len: usize) -> usize {
     let out = unsafe { crate::slice_mut(out, out_len) };

@@ -1,26 +1,26 @@
 // @generated from crates/font_c/src/text.rt by tools/src/bin/erase.rs
 
-//! Texts that go to C.
+//! Text written to buffers of C.
 
 use crate::font_types::{Align, Pad, Shortest};
 
-/// How a text is padded.
+/// How to pad a decimal.
 #[repr(C)]
 #[derive(Clone, Copy)]
 pub struct FontPad {
-    /// The least number of bytes.
+    /// The minimum width in bytes; 0 means none.
     pub width: usize,
-    /// The byte that fills, below 0x80.
+    /// The fill byte, below 0x80; 0 means a space.
     pub fill: u8,
-    /// Where the text stands: 0 at the front, 1 in the middle, 2 at the back.
+    /// The alignment: 0 left, 1 center, 2 right.
     pub align: u8,
-    /// Not 0 where a text with no `-` gets a `+`.
+    /// Writes a `+` unless the text starts with `-`, if not 0.
     pub plus: u8,
-    /// Not 0 where zeros between the sign and the digits stand in place of the fill.
+    /// Pads with zeros after the sign, if not 0.
     pub zeros: u8,
 }
 
-/// What C handed over stands for no padding: it is invalid.
+/// The error of an invalid `FontPad`.
 #[derive(Clone, Copy)]
 pub struct NoPad;
 
@@ -39,7 +39,7 @@ impl TryFrom<FontPad> for Pad {
         };
         Ok(Self {
             width: given.width,
-            fill: given.fill,
+            fill: if given.fill == 0 { b' ' } else { given.fill },
             align,
             plus: given.plus != 0,
             zeros: given.zeros != 0,
@@ -47,8 +47,14 @@ impl TryFrom<FontPad> for Pad {
     }
 }
 
-/// Writes a text of at least one byte to the front of `out`, and returns its length, or 0 where
-/// `out` is too short.
+/// Returns `true` if the fill is below 0x80 and the alignment is one of the three.
+#[unsafe(no_mangle)]
+pub unsafe extern "C" fn font_pad_is_valid(pad: &FontPad) -> bool {
+    Pad::try_from(*pad).is_ok()
+}
+
+/// Writes text of at least one byte to the start of `out`, and returns its length, or 0 if `out` is
+/// too short.
 pub fn put_text(text: &[u8], out: &mut [u8]) -> usize {
     if out.len() < text.len() {
         return 0;
@@ -57,12 +63,12 @@ pub fn put_text(text: &[u8], out: &mut [u8]) -> usize {
     text.len()
 }
 
-/// The same with the shortest decimal of `bits / 2^f`.
+/// Writes the shortest decimal of a raw value with `f` fraction bits.
 pub fn put_decimal(bits: i64, f: u32, out: &mut [u8]) -> usize {
     put_text(Shortest::new(bits, f).as_str().as_bytes(), out)
 }
 
-/// The same, padded; 0 also where `pad` is invalid.
+/// Writes the padded decimal; returns 0 also if `pad` is invalid.
 pub fn put_padded(bits: i64, f: u32, pad: &FontPad, out: &mut [u8]) -> usize {
     match Pad::try_from(*pad) {
         Ok(pad) => put_padded_text(Shortest::new(bits, f).as_str(), &pad, out),
@@ -70,8 +76,7 @@ pub fn put_padded(bits: i64, f: u32, pad: &FontPad, out: &mut [u8]) -> usize {
     }
 }
 
-// Writes a decimal to the front of `out`, padded, and returns the number of bytes, or 0 where `out`
-// is too short.
+// Writes a padded decimal to the start of `out`, and returns its length, or 0 if `out` is too short.
 fn put_padded_text(text: &str, pad: &Pad, out: &mut [u8]) -> usize {
     match crate::font_types::write_padded(text, out, pad) {
         Some(len) => len,

@@ -1,0 +1,135 @@
+// @generated from crates/font_c/src/field.rt by tools/src/bin/erase.rs
+
+//! Big-endian fields at byte offsets.
+
+use crate::font_types::{BeByteArray, Int24, Scalar, Uint24};
+
+// The field was read.
+const IN_BOUNDS: u32 = 0;
+
+// The field is not within the bytes.
+const OUT_OF_BOUNDS: u32 = 1;
+
+fn value_at<T: Scalar>(bytes: &[u8], offset: usize) -> Option<T> {
+    let (_, rest) = bytes.split_at_checked(offset)?;
+    let (field, _) = rest.split_at_checked(T::RAW_BYTE_LEN)?;
+    T::read(field)
+}
+
+fn three_bytes_at(bytes: &[u8], offset: usize) -> Option<[u8; 3]> {
+    let (_, rest) = bytes.split_at_checked(offset)?;
+    let (field, _) = rest.split_at_checked(3)?;
+    <[u8; 3]>::from_slice(field)
+}
+
+/// Reads a `uint16` at a byte offset: 0 and the number in `value`, or 1 if it is out of bounds.
+#[unsafe(no_mangle)]
+pub unsafe extern "C" fn font_u16_at(
+    bytes: *const u8,
+    bytes_len: usize,
+    offset: usize,
+    value: &mut u16,
+) -> u32 {
+    let bytes = unsafe { crate::slice(bytes, bytes_len) };
+    let Some(number) = value_at(bytes, offset) else {
+        return OUT_OF_BOUNDS;
+    };
+    *value = number;
+    IN_BOUNDS
+}
+
+/// Reads an `int16` at a byte offset: 0 and the number in `value`, or 1 if it is out of bounds.
+#[unsafe(no_mangle)]
+pub unsafe extern "C" fn font_i16_at(
+    bytes: *const u8,
+    bytes_len: usize,
+    offset: usize,
+    value: &mut i16,
+) -> u32 {
+    let bytes = unsafe { crate::slice(bytes, bytes_len) };
+    let Some(number) = value_at(bytes, offset) else {
+        return OUT_OF_BOUNDS;
+    };
+    *value = number;
+    IN_BOUNDS
+}
+
+/// Reads a `uint24` at a byte offset: 0 and the number in `value`, or 1 if it is out of bounds.
+#[unsafe(no_mangle)]
+pub unsafe extern "C" fn font_u24_at(
+    bytes: *const u8,
+    bytes_len: usize,
+    offset: usize,
+    value: &mut u32,
+) -> u32 {
+    let bytes = unsafe { crate::slice(bytes, bytes_len) };
+    let Some(field) = three_bytes_at(bytes, offset) else {
+        return OUT_OF_BOUNDS;
+    };
+    *value = Uint24::from_be_bytes(field).to_u32();
+    IN_BOUNDS
+}
+
+/// Reads an `int24` at a byte offset: 0 and the number in `value`, or 1 if it is out of bounds.
+#[unsafe(no_mangle)]
+pub unsafe extern "C" fn font_i24_at(
+    bytes: *const u8,
+    bytes_len: usize,
+    offset: usize,
+    value: &mut i32,
+) -> u32 {
+    let bytes = unsafe { crate::slice(bytes, bytes_len) };
+    let Some(field) = three_bytes_at(bytes, offset) else {
+        return OUT_OF_BOUNDS;
+    };
+    *value = Int24::from_be_bytes(field).to_i32();
+    IN_BOUNDS
+}
+
+/// Reads a `uint32` at a byte offset: 0 and the number in `value`, or 1 if it is out of bounds.
+#[unsafe(no_mangle)]
+pub unsafe extern "C" fn font_u32_at(
+    bytes: *const u8,
+    bytes_len: usize,
+    offset: usize,
+    value: &mut u32,
+) -> u32 {
+    let bytes = unsafe { crate::slice(bytes, bytes_len) };
+    let Some(number) = value_at(bytes, offset) else {
+        return OUT_OF_BOUNDS;
+    };
+    *value = number;
+    IN_BOUNDS
+}
+
+/// Reads an `int32` at a byte offset: 0 and the number in `value`, or 1 if it is out of bounds.
+#[unsafe(no_mangle)]
+pub unsafe extern "C" fn font_i32_at(
+    bytes: *const u8,
+    bytes_len: usize,
+    offset: usize,
+    value: &mut i32,
+) -> u32 {
+    let bytes = unsafe { crate::slice(bytes, bytes_len) };
+    let Some(number) = value_at(bytes, offset) else {
+        return OUT_OF_BOUNDS;
+    };
+    *value = number;
+    IN_BOUNDS
+}
+
+/// Reads an `int64` at a byte offset: 0 and the number in `value`, or 1 if it is out of bounds.
+#[unsafe(no_mangle)]
+pub unsafe extern "C" fn font_i64_at(
+    bytes: *const u8,
+    bytes_len: usize,
+    offset: usize,
+    value: &mut i64,
+) -> u32 {
+    let bytes = unsafe { crate::slice(bytes, bytes_len) };
+    let Some(number) = value_at(bytes, offset) else {
+        return OUT_OF_BOUNDS;
+    };
+    *value = number;
+    IN_BOUNDS
+}
