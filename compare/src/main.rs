@@ -5,17 +5,20 @@
 //! ```
 //!
 //! The parts are the types of numbers (`fixed`), `sums`, `products`, `conversions`, `reading`,
-//! `matrices`, `deltas`, `tags` and `others`; without any it is all of them, which takes some
-//! processor hours. `small` takes a part of every part, in less than a minute. `--random` says how
+//! `matrices`, `deltas`, `tags` and `others`, and `c` if `FONT_C_LIB_DIR` names a folder with the
+//! library for C when this is compiled; without any it is all of them, which takes some processor
+//! hours. `small` takes a part of every part, in less than a minute. `--random` says how
 //! many random inputs each part takes that cannot go over all. A part prints how many comparisons
 //! agreed, and of those that did not the number and an example; the last line counts all
 //! comparisons and all differences, and the status is 1 where there is a difference, or no
 //! comparison. A row in which nothing was compared is a difference.
 //!
 //! README.md says what is compared with what.
-#![forbid(unsafe_code)]
+#![cfg_attr(not(font_c), forbid(unsafe_code))]
 
 mod both;
+#[cfg(font_c)]
+mod c;
 mod exact;
 mod matrices;
 mod numbers;
@@ -47,6 +50,8 @@ macro_rules! of_fixed_point_types {
             ("deltas", matrices::sums),
             ("tags", tags::compare),
             ("others", others::compare),
+            #[cfg(font_c)]
+            ("c", c::compare),
         ];
     };
 }

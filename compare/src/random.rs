@@ -41,4 +41,33 @@ impl Random {
     pub fn bits_64(&mut self) -> i64 {
         (self.next() as i64) >> self.below(64)
     }
+
+    /// A number of any magnitude, one in four next to a power of two.
+    #[cfg(font_c)]
+    pub fn any(&mut self) -> i64 {
+        let shift = self.below(64);
+        let near = self.below(3) as i64 - 1;
+        match self.below(8) {
+            0 => (1i64 << shift).wrapping_add(near),
+            1 => (-1i64 << shift).wrapping_add(near),
+            _ => (self.next() as i64) >> shift,
+        }
+    }
+
+    /// The text, or one near it, or one of another form.
+    #[cfg(font_c)]
+    pub fn near_text(&mut self, text: &str) -> Vec<u8> {
+        let mut text = text.as_bytes().to_vec();
+        for _ in 0..self.below(4) {
+            let at = self.below(text.len() as u64 + 1) as usize;
+            text.insert(
+                at,
+                b"0123456789.-0123456789 +e\xFF"[self.below(26) as usize],
+            );
+        }
+        if self.below(40) == 0 {
+            text.extend((0..self.below(5000)).map(|_| b'0' + self.below(10) as u8));
+        }
+        text
+    }
 }
