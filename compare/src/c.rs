@@ -234,6 +234,11 @@ unsafe extern "C" {
 /// All exports.
 pub fn compare(work: &mut Work) {
     let names = [NUMBERS, TYPES, &OTHERS].concat();
+    let header = include_str!("../../crates/font_c/include/font_types.h").split('(');
+    let words = header.filter_map(|piece| piece.rsplit([' ', '*', '\n']).next());
+    let declared = words.filter(|word| word.starts_with("font_"));
+    let missing: Vec<&str> = declared.filter(|name| !names.contains(name)).collect();
+    assert!(missing.is_empty(), "not compared: {missing:?}");
     work.go_over_random(
         "The library for C, random",
         &names,
