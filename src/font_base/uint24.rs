@@ -207,6 +207,7 @@ impl From<Uint24> for usize {
 /// The error of a conversion from a `usize` that exceeds [`Uint24::MAX`].
 #[derive(Debug, Clone, Copy)]
 pub struct TryFromUint24Error;
+
 impl core::error::Error for TryFromUint24Error {}
 
 impl core::fmt::Display for TryFromUint24Error {

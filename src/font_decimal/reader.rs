@@ -18,6 +18,7 @@ pub enum DecimalFault {
     /// The nearest value is out of range.
     OutOfRange = 2,
 }
+
 impl core::error::Error for DecimalFault {}
 
 impl core::fmt::Display for DecimalFault {

@@ -685,6 +685,7 @@ impl From<GlyphId> for u32 {
 /// ```
 #[derive(Debug, Clone, Copy, PartialEq, Eq)]
 pub struct TryFromGlyphIdError(u32);
+
 impl core::error::Error for TryFromGlyphIdError {}
 
 impl core::fmt::Display for TryFromGlyphIdError {

@@ -324,6 +324,7 @@ pub enum InvalidTag {
         pos: usize,
     },
 }
+
 impl core::error::Error for InvalidTag {}
 
 impl core::fmt::Display for InvalidTag {

@@ -21,6 +21,7 @@ pub enum Refusal {
     /// A word that is no whole number: an optional `-`, and one or more digits.
     NotWhole = 6,
 }
+
 impl core::error::Error for Refusal {}
 
 impl core::fmt::Display for Refusal {
@@ -53,6 +54,7 @@ pub enum Unanswered {
     /// The line is refused.
     Refused(Refusal),
 }
+
 impl core::error::Error for Unanswered {}
 
 impl core::fmt::Display for Unanswered {

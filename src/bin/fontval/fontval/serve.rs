@@ -18,6 +18,7 @@ pub enum ServeFault {
     /// A write failed.
     Write = 3,
 }
+
 impl core::error::Error for ServeFault {}
 
 impl core::fmt::Display for ServeFault {
