@@ -399,18 +399,4 @@ pub mod font_types {
     #[doc = include_str!("../crates/font_types/specs/DeltaSum.antt")]
     /// ```
     pub mod DeltaSum {}
-
-    /// `crates/font_types/specs/Flags.antt`
-    ///
-    /// ```text
-    #[doc = include_str!("../crates/font_types/specs/Flags.antt")]
-    /// ```
-    pub mod Flags {}
-
-    /// `crates/font_types/specs/Listed.antt`
-    ///
-    /// ```text
-    #[doc = include_str!("../crates/font_types/specs/Listed.antt")]
-    /// ```
-    pub mod Listed {}
 }

@@ -301,7 +301,7 @@ impl F26Dot6 {
         Self(number.wrapping_mul(64))
     }
 
-    /// Rounds to the nearest integer, half up, wrapped to 26 bits: [`F26Dot6::MAX`] gives -33554432.
+    /// Rounds to the nearest integer, half up, wrapped to 26 bits: `F26Dot6::MAX` gives -33554432.
     ///
     /// <details><summary>Contract</summary>
     ///

@@ -1,6 +1,6 @@
 // @generated from crates/font_f26/src/lib.rt by tools/src/bin/erase.rs
 
-//! [`F26Dot6`], the 26.6 number of scaled outlines.
+//! `F26Dot6`, the 26.6 number of scaled outlines.
 //!
 //! ```text
 //! let width = F26Dot6::from_i32(10) / F26Dot6::from_i32(4);

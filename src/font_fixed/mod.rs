@@ -1,6 +1,6 @@
 // @generated from crates/font_fixed/src/lib.rt by tools/src/bin/erase.rs
 
-//! [`Fixed`] (16.16), [`F2Dot14`] (2.14) and [`F48Dot16`] (48.16), with [`F26Dot6`] (26.6) of `font_f26`:
+//! `Fixed` (16.16), `F2Dot14` (2.14) and `F48Dot16` (48.16), with `F26Dot6` (26.6) of `font_f26`:
 //! the types that convert to one another.
 //!
 //! ```text

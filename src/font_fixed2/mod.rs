@@ -1,6 +1,6 @@
 // @generated from crates/font_fixed2/src/lib.rt by tools/src/bin/erase.rs
 
-//! [`F4Dot12`] (4.12), [`F6Dot10`] (6.10) and [`F2Dot30`] (2.30).
+//! `F4Dot12` (4.12), `F6Dot10` (6.10) and `F2Dot30` (2.30).
 //!
 //! ```text
 //! F4Dot12::from_decimal("7.9998")       // Ok(F4Dot12::MAX)

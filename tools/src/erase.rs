@@ -22,8 +22,7 @@
 //!
 //! These are added: derives that Rust's users expect, imports of what Rattle has in scope everywhere, `Display` and `Error` of a type
 //! that derives `Error`, an assertion when it is compiled where a field or a view of scalars is made,
-//! and in documentation the contract of a public function, the links, and the package's name in
-//! examples.
+//! and in documentation the contract of a public function and the package's name in examples.
 //!
 //! Anything else that Rust does not have is an [`Error`].
 
@@ -56,8 +55,6 @@ pub struct Crate<'a> {
     pub target: Target,
     /// Its modules that are left out, with what is imported from them.
     pub left_out: &'a [&'a str],
-    /// The public types of the library, to which documentation links.
-    pub linked: &'a [&'a str],
 }
 
 /// Attributes that stay. Of `unsafe` that is `unsafe(no_mangle)`.
@@ -111,7 +108,6 @@ pub fn erase<'a>(source: &'a str, of: &'a Crate, is_root: bool) -> Result<Erased
     let mut eraser = Eraser {
         kept: vec![true; tokens.len()],
         put: vec![String::new(); tokens.len() + 1],
-        linked: in_scope(&words, of.linked),
         defined: Words::imported(&words),
         words,
         tokens,
@@ -133,23 +129,6 @@ pub fn erase<'a>(source: &'a str, of: &'a Crate, is_root: bool) -> Result<Erased
     })
 }
 
-/// Those of the names that a file declares or imports.
-fn in_scope<'a>(words: &[&str], names: &[&'a str]) -> Vec<&'a str> {
-    let mut found = Vec::new();
-    for (at, word) in words.iter().enumerate() {
-        let is_import = *word == "use" && (at == 0 || words[at - 1] != "ghost");
-        let is_type = matches!(*word, "struct" | "enum" | "trait" | "type");
-        let len = match words[at..].iter().position(|word| *word == ";") {
-            Some(len) if is_import => len,
-            _ if is_type => 2,
-            _ => continue,
-        };
-        let scope = &words[at..(at + len).min(words.len())];
-        found.extend(names.iter().filter(|name| scope.contains(name)));
-    }
-    found
-}
-
 // A file's words are its tokens of code. Places in it are counted in words.
 struct Eraser<'a> {
     tokens: Vec<Token<'a>>,
@@ -161,7 +140,6 @@ struct Eraser<'a> {
     put: Vec<String>,
     of: &'a Crate<'a>,
     is_root: bool,
-    linked: Vec<&'a str>,
     defined: Words<'a>,
     // The end of the last attributes of which one stays.
     attributes_end: usize,
@@ -624,8 +602,7 @@ impl<'a> Eraser<'a> {
             match token.kind {
                 _ if !self.kept[at] => rust.push(GONE),
                 Kind::Head | Kind::Doc => {
-                    let text = token.text.replace("font_types::", "font_types_proved::");
-                    rust.push_str(&contracts::linked(&text, &self.linked));
+                    rust.push_str(&token.text.replace("font_types::", "font_types_proved::"));
                 }
                 _ => rust.push_str(token.text),
             }

@@ -7,7 +7,6 @@ const LIBRARY: Crate = Crate {
     name: "font_geom",
     target: Target::Library,
     left_out: &["json"],
-    linked: &["S", "Tag"],
 };
 
 const PROGRAM: Crate = Crate {
@@ -115,8 +114,6 @@ fn documentation() {
     leaves(
         &LIBRARY,
         r#"
-use a::Tag;¶/// `Tag`, `S::a` `a` `Tag::b()` [`Tag`] => use a::Tag;¶/// [`Tag`], `S::a` `a` `Tag::b()` [`Tag`]
-struct S;¶//! `S::a`¶// `S` => struct S;¶//! [`S::a`]¶// `S`
 /// use font_types::Tag; => /// use font_types_proved::Tag;
 ghost use Rattle.font_base.specs.Bytes.Laws.{a, b as c};¶/// D.¶#[inline]¶pub fn f(x: u8)¶ ensures { c x }¶{ x } => /// D.¶///¶/// <details><summary>Contract</summary>¶///¶/// ```text¶/// ensures { c x }¶/// ```¶///¶/// Defined:¶/// [`c`](crate::contracts::font_base::Bytes_Laws).¶/// [How to read it](crate::contracts).¶///¶/// </details>¶#[inline]¶pub fn f(x: u8) { x }
 /// D.¶impl Add for S {¶ ghost add_gives = { λ x. x };¶¶ ghost cmp = { a };¶} => /// D.¶///¶/// <details><summary>Contract</summary>¶///¶/// ```text¶/// add_gives = { λ x. x }¶/// ```¶///¶/// [How to read it](crate::contracts).¶///¶/// </details>¶impl Add for S { }

@@ -139,7 +139,7 @@ impl From<Uint24> for usize {
     }
 }
 
-/// The error of a conversion from a `usize` that exceeds `Uint24::MAX`.
+/// The error of a conversion from a `usize` that exceeds [`Uint24::MAX`].
 #[derive(Debug, Drop, Error)]
 #[error("failed to convert usize value into Uint24.")]
 pub struct TryFromUint24Error;

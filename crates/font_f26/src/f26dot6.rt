@@ -73,7 +73,7 @@ impl F26Dot6 {
         self.0
     }
 
-    /// Rounds to the nearest integer, half up; wraps: `F26Dot6::MAX.round()` is `F26Dot6::MIN`.
+    /// Rounds to the nearest integer, half up; wraps: `F26Dot6::MAX.round()` is [`F26Dot6::MIN`].
     #[must_use]
     #[inline]
     pub const fn round(self) -> Self
@@ -100,7 +100,7 @@ impl F26Dot6 {
         Self(self.0.rem_euclid(64))
     }
 
-    /// Returns the absolute value; wraps: `F26Dot6::MIN.abs()` is `F26Dot6::MIN`.
+    /// Returns the absolute value; wraps: `F26Dot6::MIN.abs()` is [`F26Dot6::MIN`].
     #[must_use]
     #[inline]
     pub const fn abs(self) -> Self
@@ -308,7 +308,7 @@ impl MulAssign for F26Dot6 {
     }
 }
 
-/// Division by zero gives `F26Dot6::MAX`, or `-F26Dot6::MAX` if the dividend is negative.
+/// Division by zero gives [`F26Dot6::MAX`], or `-F26Dot6::MAX` if the dividend is negative.
 impl Div for F26Dot6 {
     type Output = F26Dot6;
 

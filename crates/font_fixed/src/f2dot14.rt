@@ -80,7 +80,7 @@ impl F2Dot14 {
         self.0
     }
 
-    /// Rounds to the nearest integer, half up; wraps: `F2Dot14::MAX.round()` is `F2Dot14::MIN`.
+    /// Rounds to the nearest integer, half up; wraps: `F2Dot14::MAX.round()` is [`F2Dot14::MIN`].
     #[must_use]
     #[inline]
     pub const fn round(self) -> Self
@@ -107,7 +107,7 @@ impl F2Dot14 {
         Self(self.0.rem_euclid(0x4000))
     }
 
-    /// Returns the absolute value; wraps: `F2Dot14::MIN.abs()` is `F2Dot14::MIN`.
+    /// Returns the absolute value; wraps: `F2Dot14::MIN.abs()` is [`F2Dot14::MIN`].
     #[must_use]
     #[inline]
     pub const fn abs(self) -> Self
@@ -172,7 +172,7 @@ impl F2Dot14 {
         self.0.to_be_bytes()
     }
 
-    /// Converts to `Fixed`, exactly.
+    /// Converts to [`Fixed`], exactly.
     #[must_use]
     #[inline]
     pub const fn to_fixed(self) -> Fixed

@@ -75,7 +75,7 @@ impl F48Dot16 {
         self.0
     }
 
-    /// Rounds to the nearest integer, half up; wraps: `F48Dot16::MAX.round()` is `F48Dot16::MIN`.
+    /// Rounds to the nearest integer, half up; wraps: `F48Dot16::MAX.round()` is [`F48Dot16::MIN`].
     #[must_use]
     #[inline]
     pub const fn round(self) -> Self
@@ -102,7 +102,7 @@ impl F48Dot16 {
         Self(self.0.rem_euclid(0x1_0000))
     }
 
-    /// Returns the absolute value; wraps: `F48Dot16::MIN.abs()` is `F48Dot16::MIN`.
+    /// Returns the absolute value; wraps: `F48Dot16::MIN.abs()` is [`F48Dot16::MIN`].
     #[must_use]
     #[inline]
     pub const fn abs(self) -> Self
@@ -203,7 +203,7 @@ impl F48Dot16 {
         low_bits(self.to_i64())
     }
 
-    /// Converts to `Fixed`, wrapping on overflow.
+    /// Converts to [`Fixed`], wrapping on overflow.
     #[must_use]
     #[inline]
     pub const fn to_fixed(self) -> Fixed

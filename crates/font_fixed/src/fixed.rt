@@ -85,7 +85,7 @@ impl Fixed {
         self.0
     }
 
-    /// Rounds to the nearest integer, half up; wraps: `Fixed::MAX.round()` is `Fixed::MIN`.
+    /// Rounds to the nearest integer, half up; wraps: `Fixed::MAX.round()` is [`Fixed::MIN`].
     #[must_use]
     #[inline]
     pub const fn round(self) -> Self
@@ -112,7 +112,7 @@ impl Fixed {
         Self(self.0.rem_euclid(0x1_0000))
     }
 
-    /// Returns the absolute value; wraps: `Fixed::MIN.abs()` is `Fixed::MIN`.
+    /// Returns the absolute value; wraps: `Fixed::MIN.abs()` is [`Fixed::MIN`].
     #[must_use]
     #[inline]
     pub const fn abs(self) -> Self
@@ -179,7 +179,7 @@ impl Fixed {
 
     /// Returns `self * a / c`, rounded once, half away from zero, wrapping on overflow.
     ///
-    /// If `c` is zero, the result is `Fixed::MAX`, negated if exactly one of `self` and `a` is
+    /// If `c` is zero, the result is [`Fixed::MAX`], negated if exactly one of `self` and `a` is
     /// negative.
     #[must_use]
     #[inline]
@@ -199,7 +199,7 @@ impl Fixed {
         Self(number.wrapping_mul(0x1_0000))
     }
 
-    /// Rounds to the nearest integer, half up, wrapped to 16 bits: `Fixed::MAX` gives -32768.
+    /// Rounds to the nearest integer, half up, wrapped to 16 bits: [`Fixed::MAX`] gives -32768.
     #[must_use]
     #[inline]
     pub const fn to_i32(self) -> i32
@@ -208,7 +208,7 @@ impl Fixed {
         self.wrapping_add(Self(0x8000)).0 >> 16
     }
 
-    /// Rounds to the nearest `F26Dot6`, half up, its raw bits wrapped to 22 bits.
+    /// Rounds to the nearest [`F26Dot6`], half up, its raw bits wrapped to 22 bits.
     #[must_use]
     #[inline]
     pub const fn to_f26dot6(self) -> F26Dot6
@@ -217,7 +217,7 @@ impl Fixed {
         F26Dot6::from_bits(self.wrapping_add(Self(0x200)).0 >> 10)
     }
 
-    /// Rounds to the nearest `F2Dot14`, half up, wrapping on overflow.
+    /// Rounds to the nearest [`F2Dot14`], half up, wrapping on overflow.
     #[must_use]
     #[inline]
     pub const fn to_f2dot14(self) -> F2Dot14
@@ -226,7 +226,7 @@ impl Fixed {
         F2Dot14::from_bits(low_half(self.quarter()))
     }
 
-    /// Converts to `F48Dot16`, exactly.
+    /// Converts to [`F48Dot16`], exactly.
     #[must_use]
     #[inline]
     pub const fn to_f48dot16(self) -> F48Dot16
@@ -408,7 +408,7 @@ impl MulAssign for Fixed {
     }
 }
 
-/// Division by zero gives `Fixed::MAX`, or `-Fixed::MAX` if the dividend is negative.
+/// Division by zero gives [`Fixed::MAX`], or `-Fixed::MAX` if the dividend is negative.
 impl Div for Fixed {
     type Output = Fixed;
 

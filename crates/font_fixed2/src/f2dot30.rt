@@ -81,7 +81,7 @@ impl F2Dot30 {
         self.0
     }
 
-    /// Rounds to the nearest integer, half up; wraps: `F2Dot30::MAX.round()` is `F2Dot30::MIN`.
+    /// Rounds to the nearest integer, half up; wraps: `F2Dot30::MAX.round()` is [`F2Dot30::MIN`].
     #[must_use]
     #[inline]
     pub const fn round(self) -> Self
@@ -108,7 +108,7 @@ impl F2Dot30 {
         Self(self.0.rem_euclid(0x4000_0000))
     }
 
-    /// Returns the absolute value; wraps: `F2Dot30::MIN.abs()` is `F2Dot30::MIN`.
+    /// Returns the absolute value; wraps: `F2Dot30::MIN.abs()` is [`F2Dot30::MIN`].
     #[must_use]
     #[inline]
     pub const fn abs(self) -> Self
@@ -173,7 +173,7 @@ impl F2Dot30 {
         self.0.to_be_bytes()
     }
 
-    /// Converts from `Fixed`, wrapping on overflow: exact from -2 up to but not including 2.
+    /// Converts from [`Fixed`], wrapping on overflow: exact from -2 up to but not including 2.
     #[must_use]
     #[inline]
     pub const fn from_fixed(number: Fixed) -> Self
@@ -182,7 +182,7 @@ impl F2Dot30 {
         Self(number.to_bits().wrapping_mul(0x4000))
     }
 
-    /// Converts from `F2Dot14`, exactly.
+    /// Converts from [`F2Dot14`], exactly.
     #[must_use]
     #[inline]
     pub const fn from_f2dot14(number: F2Dot14) -> Self
@@ -191,7 +191,7 @@ impl F2Dot30 {
         Self(number.to_bits() as i32 * 0x1_0000)
     }
 
-    /// Rounds to the nearest `Fixed`, half up.
+    /// Rounds to the nearest [`Fixed`], half up.
     #[must_use]
     #[inline]
     pub const fn to_fixed(self) -> Fixed
@@ -200,7 +200,7 @@ impl F2Dot30 {
         Fixed::from_bits(((self.0 >> 13) + 1) >> 1)
     }
 
-    /// Rounds to the nearest `F2Dot14`, half up, wrapping on overflow.
+    /// Rounds to the nearest [`F2Dot14`], half up, wrapping on overflow.
     #[must_use]
     #[inline]
     pub const fn to_f2dot14(self) -> F2Dot14

@@ -76,7 +76,7 @@ impl F4Dot12 {
         self.0
     }
 
-    /// Rounds to the nearest integer, half up; wraps: `F4Dot12::MAX.round()` is `F4Dot12::MIN`.
+    /// Rounds to the nearest integer, half up; wraps: `F4Dot12::MAX.round()` is [`F4Dot12::MIN`].
     #[must_use]
     #[inline]
     pub const fn round(self) -> Self
@@ -103,7 +103,7 @@ impl F4Dot12 {
         Self(self.0.rem_euclid(0x1000))
     }
 
-    /// Returns the absolute value; wraps: `F4Dot12::MIN.abs()` is `F4Dot12::MIN`.
+    /// Returns the absolute value; wraps: `F4Dot12::MIN.abs()` is [`F4Dot12::MIN`].
     #[must_use]
     #[inline]
     pub const fn abs(self) -> Self

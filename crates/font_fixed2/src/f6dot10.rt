@@ -76,7 +76,7 @@ impl F6Dot10 {
         self.0
     }
 
-    /// Rounds to the nearest integer, half up; wraps: `F6Dot10::MAX.round()` is `F6Dot10::MIN`.
+    /// Rounds to the nearest integer, half up; wraps: `F6Dot10::MAX.round()` is [`F6Dot10::MIN`].
     #[must_use]
     #[inline]
     pub const fn round(self) -> Self
@@ -103,7 +103,7 @@ impl F6Dot10 {
         Self(self.0.rem_euclid(0x400))
     }
 
-    /// Returns the absolute value; wraps: `F6Dot10::MIN.abs()` is `F6Dot10::MIN`.
+    /// Returns the absolute value; wraps: `F6Dot10::MIN.abs()` is [`F6Dot10::MIN`].
     #[must_use]
     #[inline]
     pub const fn abs(self) -> Self

@@ -65,7 +65,7 @@ pub fn fixed_identity(a: Matrix<Fixed>) -> (Matrix<Fixed>, Matrix<Fixed>)
 
 /// Returns `(e * h) * h` and `e * (h * h)` for `e = Fixed::EPSILON` and `h` one half: `e` and zero.
 ///
-/// So products of `Fixed` are not associative, and `Fixed` is not a `RingElement`.
+/// So products of [`Fixed`] are not associative, and [`Fixed`] is not a [`RingElement`].
 #[must_use]
 #[inline]
 pub fn step_and_halves() -> (Fixed, Fixed)

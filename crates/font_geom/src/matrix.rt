@@ -18,7 +18,7 @@ use std::ops::{Add, Mul, MulAssign};
 /// ```
 ///
 /// Transforms `(x, y)` to `(xx * x + xy * y + dx, yx * x + yy * y + dy)`. The product `a * b`
-/// applies `b` first, then `a`. For `Fixed`, the translation is in the unit of the points.
+/// applies `b` first, then `a`. For [`Fixed`], the translation is in the unit of the points.
 ///
 /// ```
 /// use font_types::{Fixed, Matrix, Point};

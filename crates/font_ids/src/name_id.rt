@@ -190,7 +190,7 @@ impl From<u16> for NameId {
     }
 }
 
-/// Writes the name of the constant, or `NameId` and the number.
+/// Writes the name of the constant, or [`NameId`] and the number.
 impl fmt::Debug for NameId {
     ghost debug_output = { λ id. Some (name_text (name_number id)) };
 
@@ -227,7 +227,7 @@ impl fmt::Debug for NameId {
     }
 }
 
-/// Writes the name of the constant, or `NameId` and the number.
+/// Writes the name of the constant, or [`NameId`] and the number.
 impl fmt::Display for NameId {
     ghost output = { λ id. Some (name_text (name_number id)) };
 

@@ -1,4 +1,4 @@
-//! Contracts and links in documentation.
+//! Contracts in documentation.
 
 /// The words of `specs/` that a file imports: its own name, and the crate and the file that define
 /// it.
@@ -66,26 +66,4 @@ impl<'a> Words<'a> {
         };
         text.lines().map(line).collect()
     }
-}
-
-/// Documentation in which a path in backquotes that begins with one of the names is a link, unless
-/// it is one already.
-pub fn linked(documentation: &str, names: &[&str]) -> String {
-    let is_of_path = |c: char| c.is_alphanumeric() || matches!(c, '_' | ':');
-    let is_named = |path: &str| {
-        let name = path.split("::").next();
-        path.chars().all(is_of_path) && name.is_some_and(|name| names.contains(&name))
-    };
-    let mut linked = String::new();
-    let mut rest = documentation;
-    while let Some((front, quoted)) = rest.split_once('`') {
-        let Some((path, behind)) = quoted.split_once('`') else {
-            break;
-        };
-        let is_link = is_named(path) && !front.ends_with('[');
-        let [open, close] = if is_link { ["[", "]"] } else { ["", ""] };
-        linked += &format!("{front}{open}`{path}`{close}");
-        rest = behind;
-    }
-    linked + rest
 }

@@ -39,8 +39,6 @@ impl Target {
 
 /// Every generated file, by its path from the root.
 pub fn tree() -> Result<BTreeMap<String, String>, String> {
-    let root = repository::text("crates/font_types/src/lib.rt");
-    let linked = public_types(&root, LIBRARY[9].1);
     let mut files = BTreeMap::new();
     for (name, target) in crates() {
         let left_out = LIBRARY.iter().find(|library| library.0 == name);
@@ -48,7 +46,6 @@ pub fn tree() -> Result<BTreeMap<String, String>, String> {
             name,
             target,
             left_out: left_out.map_or(&[], |library| library.1),
-            linked: &linked,
         };
         let root = ["lib", "main"][usize::from(target == Target::Program)];
         let (from, to) = (
@@ -123,19 +120,6 @@ fn laid_out(text: &str) -> Result<String, String> {
         return Err("rustfmt does not read what is left".into());
     }
     String::from_utf8(output.stdout).map_err(|error| error.to_string())
-}
-
-/// The types that the root of a crate exports, except those of modules that are left out: names
-/// after `pub use`, with a capital first and a small letter.
-fn public_types<'a>(root: &'a str, left_out: &[&str]) -> Vec<&'a str> {
-    let uses = root.split("pub use ").skip(1);
-    let uses = uses.filter_map(|rest| rest.split(';').next()?.split_once("::"));
-    let uses = uses.filter(|(from, _)| !left_out.contains(from));
-    let names = uses.flat_map(|(_, names)| names.split(|c: char| !c.is_alphanumeric()));
-    let begins = |name: &str| name.starts_with(|c: char| c.is_ascii_uppercase());
-    names
-        .filter(|name| begins(name) && name.contains(|c: char| c.is_ascii_lowercase()))
-        .collect()
 }
 
 // Modules of documentation, one for each file of definitions of the library.

@@ -1,4 +1,4 @@
-//! Laws of `F26Dot6`, as contracts of functions.
+//! Laws of [`F26Dot6`], as contracts of functions.
 
 ghost use Rattle.font_f26.specs.F26Dot6.{f26dot6_bits};
 ghost use Rattle.font_arithmetic.specs.NumberLaws.{OnThree, ProductLaws, QuotientLaws};

@@ -1,4 +1,4 @@
-//! Laws of `Fixed`, as contracts of functions.
+//! Laws of [`Fixed`], as contracts of functions.
 
 ghost use Rattle.font_fixed.specs.Fixed.{fixed_bits};
 ghost use Rattle.font_arithmetic.specs.NumberLaws.{OnFour, ProductLaws, ProductInOneStep};
