@@ -20,8 +20,6 @@ use crate::font_ids::FWord;
 #[derive(Clone, Copy, Debug)]
 pub struct DeltaSum {
     steps: i128,
-    // The low 64 of these bits.
-    low: F48Dot16,
 }
 
 impl DeltaSum {
@@ -41,10 +39,7 @@ impl DeltaSum {
     #[must_use]
     #[inline]
     pub const fn new() -> DeltaSum {
-        DeltaSum {
-            steps: 0,
-            low: F48Dot16::ZERO,
-        }
+        DeltaSum { steps: 0 }
     }
 
     /// Adds the product of a scalar and a delta in font units.
@@ -70,10 +65,7 @@ impl DeltaSum {
     #[inline]
     pub fn add(&mut self, scalar: Fixed, delta: i32) {
         let product = scalar.mul_i32(delta);
-        *self = DeltaSum {
-            steps: self.steps.wrapping_add(i128::from(product.to_bits())),
-            low: self.low + product,
-        };
+        self.steps = self.steps.wrapping_add(i128::from(product.to_bits()));
     }
 
     // Adds the product of a term.
@@ -101,7 +93,7 @@ impl DeltaSum {
     #[must_use]
     #[inline]
     pub const fn finish(self) -> F48Dot16 {
-        self.low
+        F48Dot16::from_bits((self.steps.rem_euclid(1 << 64) as u64).cast_signed())
     }
 
     /// Returns the sum, or `None` if it does not fit in 64 bits.
