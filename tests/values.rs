@@ -87,45 +87,83 @@ macro_rules! of_fixed_point_types {
 
 include!("../tools/src/types.in");
 
+/// Goes over the lines of a kind, whose first numbers ask and whose others answer.
+fn answers<const Q: usize, const A: usize>(kind: &str, answer: impl Fn([i32; Q]) -> [i32; A]) {
+    for words in lines(kind) {
+        let asked = numbers(&words[..Q]);
+        assert_eq!(answer(asked), numbers(&words[Q..]), "{kind} {words:?}");
+    }
+}
+
 #[test]
-fn products() {
+fn numbers_of_32_bits() {
+    let fixed = Fixed::from_bits;
+    let f2dot14 = |bits: i32| F2Dot14::from_bits(bits as i16);
+    answers("add", |[x, y]| {
+        let [x, y] = [x, y].map(fixed);
+        let (status, sum) = x.checked_add(y).map_or((2, 7), |sum| (0, sum.to_bits()));
+        let [more, less] = [x.saturating_add(y), x.saturating_sub(y)].map(Fixed::to_bits);
+        [
+            (x + y).to_bits(),
+            (x - y).to_bits(),
+            status,
+            sum,
+            more,
+            less,
+        ]
+    });
+    answers("neg", |[x]| [(-fixed(x)).to_bits()]);
+    answers("from_i32", |[number]| [Fixed::from_i32(number).to_bits()]);
+    answers("to_fixed", |[x]| [f2dot14(x).to_fixed().to_bits()]);
+    answers(
+        "from_fixed",
+        |[x]| [F2Dot30::from_fixed(fixed(x)).to_bits()],
+    );
+    answers("from_f2dot14", |[x]| {
+        [F2Dot30::from_f2dot14(f2dot14(x)).to_bits()]
+    });
+    answers("narrow_f2dot30", |[x]| {
+        let x = F2Dot30::from_bits(x);
+        [x.to_fixed().to_bits(), x.to_f2dot14().to_bits().into()]
+    });
+    answers("mul_div", |[x, a, c]| {
+        [fixed(x).mul_div(fixed(a), fixed(c)).to_bits()]
+    });
+    answers("narrow", |[x]| {
+        let x = fixed(x);
+        [
+            x.to_i32(),
+            x.to_f26dot6().to_bits(),
+            x.to_f2dot14().to_bits().into(),
+        ]
+    });
     for words in lines("product") {
         let [x, y, product, quotient] = numbers(&words[1..]);
-        let found = if words[0] == "fixed" {
-            let [x, y] = [x, y].map(Fixed::from_bits);
-            [x * y, x / y].map(Fixed::to_bits)
-        } else {
-            let [x, y] = [x, y].map(F26Dot6::from_bits);
-            [x * y, x / y].map(F26Dot6::to_bits)
+        let ([a, b], [c, d]) = ([x, y].map(fixed), [x, y].map(F26Dot6::from_bits));
+        let found = match words[0] {
+            "fixed" => [a * b, a / b].map(Fixed::to_bits),
+            _ => [c * d, c / d].map(F26Dot6::to_bits),
         };
         assert_eq!(found, [product, quotient], "{words:?}");
-    }
-    for words in lines("mul_div") {
-        let [x, a, c, result] = numbers(&words).map(Fixed::from_bits);
-        assert_eq!(x.mul_div(a, c), result, "{words:?}");
-    }
-    for words in lines("narrow") {
-        let [bits, whole, f26dot6, f2dot14] = numbers(&words);
-        let x = Fixed::from_bits(bits);
-        assert_eq!(x.to_i32(), whole);
-        assert_eq!(x.to_f26dot6().to_bits(), f26dot6);
-        assert_eq!(i32::from(x.to_f2dot14().to_bits()), f2dot14);
     }
 }
 
 #[test]
 fn matrices() {
-    for words in lines("matrix") {
-        let matrix = |at| Matrix::from_elements(numbers(&words[at..at + 6]).map(Fixed::from_bits));
-        let point = |at| {
-            let [x, y] = numbers(&words[at..at + 2]).map(Fixed::from_bits);
-            Point::new(x, y)
-        };
-        let (a, b, p) = (matrix(0), matrix(6), point(12));
-        assert_eq!(a * b, matrix(14));
+    answers("matrix", |bits: [i32; 14]| {
+        let bits = bits.map(Fixed::from_bits);
+        let matrix = |at| Matrix::from_elements(std::array::from_fn(|n| bits[at + n]));
+        let (a, b, p) = (matrix(0), matrix(6), Point::new(bits[12], bits[13]));
         let moved = [a * p, composed(a, b, p), in_turn(a, b, p)];
-        assert_eq!(moved, [point(20), point(22), point(24)]);
-    }
+        let moved = moved.iter().flat_map(|point| [point.x, point.y]);
+        let all: Vec<i32> = (a * b)
+            .elements()
+            .into_iter()
+            .chain(moved)
+            .map(Fixed::to_bits)
+            .collect();
+        <[i32; 12]>::try_from(all).unwrap()
+    });
 }
 
 fn bytes(digits: &str) -> Vec<u8> {
@@ -176,60 +214,6 @@ fn sums() {
             .collect();
         let sum = (words[0] == "0").then(|| F48Dot16::from_bits(words[1].parse().unwrap()));
         assert_eq!(checked_delta_sum(&terms), sum, "{words:?}");
-    }
-}
-
-/// The sum, the difference, the status of the checked sum, and both saturated.
-#[test]
-fn sums_of_two() {
-    for words in lines("add") {
-        let [x, y, sum, difference, status, checked, up, down] = numbers(&words);
-        let [x, y] = [x, y].map(Fixed::from_bits);
-        assert_eq!(
-            [x + y, x - y].map(Fixed::to_bits),
-            [sum, difference],
-            "{words:?}"
-        );
-        let wanted = (status == 0).then(|| Fixed::from_bits(checked));
-        assert_eq!(x.checked_add(y), wanted, "{words:?}");
-        let saturated = [x.saturating_add(y), x.saturating_sub(y)];
-        assert_eq!(saturated.map(Fixed::to_bits), [up, down], "{words:?}");
-    }
-    for words in lines("neg") {
-        let [x, opposite] = numbers(&words).map(Fixed::from_bits);
-        assert_eq!(-x, opposite, "{words:?}");
-    }
-    for words in lines("from_i32") {
-        let [number, bits] = numbers(&words);
-        assert_eq!(Fixed::from_i32(number).to_bits(), bits, "{words:?}");
-    }
-    for words in lines("to_fixed") {
-        let [bits, widened] = numbers(&words);
-        let number = F2Dot14::from_bits(bits as i16);
-        assert_eq!(number.to_fixed().to_bits(), widened, "{words:?}");
-    }
-}
-
-#[test]
-fn conversions_of_2_30() {
-    for words in lines("from_fixed") {
-        let [bits, long] = numbers(&words);
-        let number = F2Dot30::from_fixed(Fixed::from_bits(bits));
-        assert_eq!(number.to_bits(), long, "{words:?}");
-    }
-    for words in lines("from_f2dot14") {
-        let [bits, long] = numbers(&words);
-        let number = F2Dot30::from_f2dot14(F2Dot14::from_bits(bits as i16));
-        assert_eq!(number.to_bits(), long, "{words:?}");
-    }
-    for words in lines("narrow_f2dot30") {
-        let [bits, fixed, narrow] = numbers(&words);
-        let number = F2Dot30::from_bits(bits);
-        let narrowed = [
-            number.to_fixed().to_bits(),
-            number.to_f2dot14().to_bits().into(),
-        ];
-        assert_eq!(narrowed, [fixed, narrow], "{words:?}");
     }
 }
 

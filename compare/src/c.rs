@@ -192,48 +192,33 @@ fn pad(of: &FontPad) -> Option<Pad> {
     })
 }
 
-const OTHERS: [&str; 10] = [
-    "font_fixed_checked_add",
-    "font_matrix_product",
-    "font_matrix_image",
-    "font_matrix_composed",
-    "font_matrix_in_turn",
-    "font_tag_new",
-    "font_tag_validate",
-    "font_tag_to_text",
-    "font_checked_delta_sum",
-    "font_vary",
-];
+/// Exports over pointers and structures.
+macro_rules! others {
+    ($($name:ident($($kind:ty),*) -> $result:ty;)*) => {
+        unsafe extern "C" {
+            $(fn $name($(_: $kind),*) -> $result;)*
+        }
 
-unsafe extern "C" {
-    safe fn font_fixed_checked_add(x: i32, y: i32, sum: &mut i32) -> u32;
-    safe fn font_matrix_product(a: FontMatrix, b: FontMatrix) -> FontMatrix;
-    safe fn font_matrix_image(m: FontMatrix, p: FontPoint) -> FontPoint;
-    safe fn font_matrix_composed(a: FontMatrix, b: FontMatrix, p: FontPoint) -> FontPoint;
-    safe fn font_matrix_in_turn(a: FontMatrix, b: FontMatrix, p: FontPoint) -> FontPoint;
-    fn font_tag_new(text: *const u8, len: usize, tag: &mut u32) -> u32;
-    fn font_tag_validate(bytes: *const u8, len: usize, position: &mut u32) -> u32;
-    fn font_tag_to_text(tag: u32, out: *mut u8, room: usize) -> usize;
-    fn font_checked_delta_sum(
-        scalars: *const i32,
-        scalar_count: usize,
-        deltas: *const i32,
-        delta_count: usize,
-        sum: &mut i64,
-    ) -> u32;
-    fn font_vary(
-        base: i16,
-        scalars: *const i32,
-        scalar_count: usize,
-        deltas: *const i32,
-        delta_count: usize,
-        moved: &mut i64,
-    ) -> u32;
+        const OTHERS: &[&str] = &[$(stringify!($name)),*];
+    };
+}
+
+others! {
+    font_fixed_checked_add(i32, i32, &mut i32) -> u32;
+    font_matrix_product(FontMatrix, FontMatrix) -> FontMatrix;
+    font_matrix_image(FontMatrix, FontPoint) -> FontPoint;
+    font_matrix_composed(FontMatrix, FontMatrix, FontPoint) -> FontPoint;
+    font_matrix_in_turn(FontMatrix, FontMatrix, FontPoint) -> FontPoint;
+    font_tag_new(*const u8, usize, &mut u32) -> u32;
+    font_tag_validate(*const u8, usize, &mut u32) -> u32;
+    font_tag_to_text(u32, *mut u8, usize) -> usize;
+    font_checked_delta_sum(*const i32, usize, *const i32, usize, &mut i64) -> u32;
+    font_vary(i16, *const i32, usize, *const i32, usize, &mut i64) -> u32;
 }
 
 /// All exports.
 pub fn compare(work: &mut Work) {
-    let names = [NUMBERS, TYPES, &OTHERS].concat();
+    let names = [NUMBERS, TYPES, OTHERS].concat();
     let header = include_str!("../../crates/font_c/include/font_types.h").split('(');
     let words = header.filter_map(|piece| piece.rsplit([' ', '*', '\n']).next());
     let declared = words.filter(|word| word.starts_with("font_"));
@@ -257,7 +242,7 @@ pub fn compare(work: &mut Work) {
 fn matrices(random: &mut Random, calls: &mut Calls) {
     let [x, y] = [random.any() as i32, random.any() as i32];
     let mut sum = KEPT.into();
-    let status = font_fixed_checked_add(x, y, &mut sum);
+    let status = unsafe { font_fixed_checked_add(x, y, &mut sum) };
     let rust = fixed(x).checked_add(fixed(y));
     let rust = rust.map_or((2, KEPT.into()), |sum| (0, sum.to_bits()));
     calls.judge((status, sum), rust, || format!("{x} {y}"));
@@ -269,16 +254,16 @@ fn matrices(random: &mut Random, calls: &mut Calls) {
     let p = Point::new(fixed(q.0[0]), fixed(q.0[1]));
     let example = || format!("{:?} {:?} {:?}", m.0, n.0, q.0);
     let product = FontMatrix((a * b).elements().map(Fixed::to_bits));
-    calls.judge(font_matrix_product(m, n), product, example);
+    calls.judge(unsafe { font_matrix_product(m, n) }, product, example);
     let point = |p: Point<Fixed>| FontPoint([p.x, p.y].map(Fixed::to_bits));
-    calls.judge(font_matrix_image(m, q), point(a * p), example);
+    calls.judge(unsafe { font_matrix_image(m, q) }, point(a * p), example);
     calls.judge(
-        font_matrix_composed(m, n, q),
+        unsafe { font_matrix_composed(m, n, q) },
         point(composed(a, b, p)),
         example,
     );
     calls.judge(
-        font_matrix_in_turn(m, n, q),
+        unsafe { font_matrix_in_turn(m, n, q) },
         point(in_turn(a, b, p)),
         example,
     );

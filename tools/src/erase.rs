@@ -58,17 +58,7 @@ pub struct Crate<'a> {
 }
 
 /// Attributes that stay. Of `unsafe` that is `unsafe(no_mangle)`.
-const KEPT: [&str; 9] = [
-    "allow",
-    "cold",
-    "deprecated",
-    "doc",
-    "inline",
-    "must_use",
-    "non_exhaustive",
-    "repr",
-    "unsafe",
-];
+const KEPT: &str = "allow cold deprecated doc inline must_use non_exhaustive repr unsafe";
 
 /// What Rattle has in scope in every file, and the program imports.
 const PRELUDE: [&str; 4] = ["HostRuntime", "String", "Vec", "hex"];
@@ -275,7 +265,7 @@ impl<'a> Eraser<'a> {
     fn attribute(&mut self, at: usize, open: usize) -> Result<usize, Error> {
         let end = self.group_end(open)?;
         let name = self.words[open + 1];
-        let is_kept = KEPT.contains(&name);
+        let is_kept = KEPT.split(' ').any(|kept| kept == name);
         if open == at + 1 && (is_kept || name != "cfg" && self.attributes_end == at) {
             self.attributes_end = end;
         }
