@@ -185,7 +185,10 @@ fn pad(of: &FontPad) -> Option<Pad> {
     let aligns = [Align::Left, Align::Center, Align::Right];
     Some(Pad {
         width: of.width,
-        fill: Some(of.fill).filter(u8::is_ascii)?,
+        fill: match of.fill {
+            0 => b' ',
+            fill => Some(fill).filter(u8::is_ascii)?,
+        },
         align: *aligns.get(usize::from(of.align))?,
         plus: of.plus != 0,
         zeros: of.zeros != 0,
