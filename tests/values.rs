@@ -4,7 +4,8 @@
 use font_types_proved::laws::{composed, in_turn};
 use font_types_proved::{
     Align, DecimalFault, F2Dot14, F2Dot30, F26Dot6, F48Dot16, FWord, Fixed, GlyphId, GlyphId16,
-    InvalidTag, Matrix, Pad, Point, Shortest, Tag, Uint24, checked_delta_sum, read_decimal, vary,
+    InvalidTag, Matrix, Pad, Point, Shortest, Tag, UfWord, Uint24, checked_delta_sum, read_decimal,
+    vary,
 };
 use std::collections::BTreeSet;
 use std::panic::catch_unwind;
@@ -73,6 +74,18 @@ macro_rules! of_fixed_point_types {
                 assert_eq!([x.round(), x.floor()], [number(words[2]), number(words[3])]);
                 assert_eq!(x.floor() + x.fract(), x);
             }
+            for words in of("add") {
+                let [x, y] = [1, 2].map(|at| number(words[at]));
+                let sums = [x + y, x - y, x.saturating_add(y), x.saturating_sub(y)];
+                assert_eq!(sums, [3, 4, 7, 8].map(|at| number(words[at])), "{words:?}");
+                let exact = (words[5] == "0").then(|| number(words[6]));
+                assert_eq!(x.checked_add(y), exact, "{words:?}");
+            }
+            for words in of("sign") {
+                let x = number(words[1]);
+                let signs = [-x, x.abs(), x.fract()];
+                assert_eq!(signs, [2, 3, 4].map(|at| number(words[at])), "{words:?}");
+            }
             for words in of("pad") {
                 let Some(pad) = pad(&words[2..7]) else { continue };
                 let mut out = [b'~'; 40];
@@ -99,21 +112,6 @@ fn answers<const Q: usize, const A: usize>(kind: &str, answer: impl Fn([i32; Q])
 fn numbers_of_32_bits() {
     let fixed = Fixed::from_bits;
     let f2dot14 = |bits: i32| F2Dot14::from_bits(bits as i16);
-    answers("add", |[x, y]| {
-        let [x, y] = [x, y].map(fixed);
-        let (status, sum) = x.checked_add(y).map_or((2, 7), |sum| (0, sum.to_bits()));
-        let [more, less] = [x.saturating_add(y), x.saturating_sub(y)].map(Fixed::to_bits);
-        [
-            (x + y).to_bits(),
-            (x - y).to_bits(),
-            status,
-            sum,
-            more,
-            less,
-        ]
-    });
-    answers("neg", |[x]| [(-fixed(x)).to_bits()]);
-    answers("from_i32", |[number]| [Fixed::from_i32(number).to_bits()]);
     answers("to_fixed", |[x]| [f2dot14(x).to_fixed().to_bits()]);
     answers(
         "from_fixed",
@@ -154,7 +152,12 @@ fn matrices() {
         let bits = bits.map(Fixed::from_bits);
         let matrix = |at| Matrix::from_elements(std::array::from_fn(|n| bits[at + n]));
         let (a, b, p) = (matrix(0), matrix(6), Point::new(bits[12], bits[13]));
-        let moved = [a * p, composed(a, b, p), in_turn(a, b, p)];
+        let linear = Matrix {
+            dx: Fixed::ZERO,
+            dy: Fixed::ZERO,
+            ..a
+        };
+        let moved = [a * p, composed(a, b, p), in_turn(a, b, p), linear * p];
         let moved = moved.iter().flat_map(|point| [point.x, point.y]);
         let all: Vec<i32> = (a * b)
             .elements()
@@ -162,7 +165,7 @@ fn matrices() {
             .chain(moved)
             .map(Fixed::to_bits)
             .collect();
-        <[i32; 12]>::try_from(all).unwrap()
+        <[i32; 14]>::try_from(all).unwrap()
     });
 }
 
@@ -217,7 +220,55 @@ fn sums() {
     }
 }
 
-/// The library for C refuses a moved number outside 64 bits too.
+#[test]
+fn integers() {
+    for words in lines("integer") {
+        let number: i64 = words[1].parse().unwrap();
+        let bits = match words[0] {
+            "fixed" => Fixed::from_i32(number as i32).to_bits().into(),
+            "f26dot6" => F26Dot6::from_i32(number as i32).to_bits().into(),
+            _ => F48Dot16::from_i64(number).to_bits(),
+        };
+        assert_eq!(bits.to_string(), words[2], "{words:?}");
+    }
+    answers("narrow_f26dot6", |[x]| [F26Dot6::from_bits(x).to_i32()]);
+    for words in lines("narrow_f48dot16") {
+        let x = F48Dot16::from_bits(words[0].parse().unwrap());
+        let narrowed = [x.to_i64(), x.to_i32().into(), x.to_fixed().to_bits().into()];
+        assert_eq!(narrowed.map(|n| n.to_string()), words[1..], "{words:?}");
+    }
+    for words in lines("mul_i32") {
+        let product =
+            Fixed::from_bits(words[0].parse().unwrap()).mul_i32(words[1].parse().unwrap());
+        assert_eq!(product.to_bits().to_string(), words[2], "{words:?}");
+    }
+}
+
+#[test]
+fn deltas() {
+    for words in lines("apply") {
+        let delta = F48Dot16::from_bits(words[2].parse().unwrap());
+        let moved = match words[0] {
+            "fword" => FWord::new(words[1].parse().unwrap()).apply_delta(delta),
+            "ufword" => UfWord::new(words[1].parse().unwrap()).apply_delta(delta),
+            "fixed" => Fixed::from_bits(words[1].parse().unwrap()).apply_delta(delta),
+            _ => F2Dot14::from_bits(words[1].parse().unwrap()).apply_delta(delta),
+        };
+        let wanted = (words[3] == "0").then(|| words[4].parse().unwrap());
+        assert_eq!(i64::try_from(moved).ok(), wanted, "{words:?}");
+    }
+    for words in lines("units") {
+        let steps = words[1].parse().unwrap();
+        let units = match words[0] {
+            "fword" => FWord::round_steps(steps).map(|word| i32::from(word.to_i16())),
+            _ => UfWord::round_steps(steps).map(|word| i32::from(word.to_u16())),
+        };
+        let wanted = (words[2] == "0").then(|| words[3].parse().unwrap());
+        assert_eq!(units, wanted, "{words:?}");
+    }
+}
+
+/// The library for C fails if the result does not fit in 64 bits, too.
 #[test]
 fn moved_quantities() {
     for words in lines("vary") {

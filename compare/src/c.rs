@@ -6,8 +6,8 @@ use crate::tally::Tally;
 use crate::work::Work;
 use font_types_proved::laws::{composed, in_turn};
 use font_types_proved::{
-    Align, F2Dot14, F2Dot30, F26Dot6, FWord, Fixed, InvalidTag, Matrix, Pad, Point, Tag,
-    checked_delta_sum, vary,
+    Align, F2Dot14, F2Dot30, F26Dot6, F48Dot16, FWord, Fixed, InvalidTag, Matrix, Pad, Point, Tag,
+    UfWord, checked_delta_sum, vary,
 };
 
 /// What no call writes.
@@ -71,11 +71,41 @@ fn f26(bits: i32) -> F26Dot6 {
 }
 
 exports! {
-    font_fixed_add(x: i32, y: i32) -> i32 = (fixed(x) + fixed(y)).to_bits();
-    font_fixed_sub(x: i32, y: i32) -> i32 = (fixed(x) - fixed(y)).to_bits();
-    font_fixed_neg(x: i32) -> i32 = (-fixed(x)).to_bits();
-    font_fixed_saturating_add(x: i32, y: i32) -> i32 = fixed(x).saturating_add(fixed(y)).to_bits();
-    font_fixed_saturating_sub(x: i32, y: i32) -> i32 = fixed(x).saturating_sub(fixed(y)).to_bits();
+    font_fixed_fract(x: i32) -> i32 = Fixed::from_bits(x).fract().to_bits();
+    font_fixed_abs(x: i32) -> i32 = Fixed::from_bits(x).abs().to_bits();
+    font_fixed_neg(x: i32) -> i32 = (-Fixed::from_bits(x)).to_bits();
+    font_fixed_add(x: i32, y: i32) -> i32 = (Fixed::from_bits(x) + Fixed::from_bits(y)).to_bits();
+    font_fixed_sub(x: i32, y: i32) -> i32 = (Fixed::from_bits(x) - Fixed::from_bits(y)).to_bits();
+    font_fixed_saturating_add(x: i32, y: i32) -> i32 = Fixed::from_bits(x).saturating_add(Fixed::from_bits(y)).to_bits();
+    font_fixed_saturating_sub(x: i32, y: i32) -> i32 = Fixed::from_bits(x).saturating_sub(Fixed::from_bits(y)).to_bits();
+    font_f2dot14_fract(x: i16) -> i16 = F2Dot14::from_bits(x).fract().to_bits();
+    font_f2dot14_abs(x: i16) -> i16 = F2Dot14::from_bits(x).abs().to_bits();
+    font_f2dot14_neg(x: i16) -> i16 = (-F2Dot14::from_bits(x)).to_bits();
+    font_f2dot14_add(x: i16, y: i16) -> i16 = (F2Dot14::from_bits(x) + F2Dot14::from_bits(y)).to_bits();
+    font_f2dot14_sub(x: i16, y: i16) -> i16 = (F2Dot14::from_bits(x) - F2Dot14::from_bits(y)).to_bits();
+    font_f2dot14_saturating_add(x: i16, y: i16) -> i16 = F2Dot14::from_bits(x).saturating_add(F2Dot14::from_bits(y)).to_bits();
+    font_f2dot14_saturating_sub(x: i16, y: i16) -> i16 = F2Dot14::from_bits(x).saturating_sub(F2Dot14::from_bits(y)).to_bits();
+    font_f2dot30_fract(x: i32) -> i32 = F2Dot30::from_bits(x).fract().to_bits();
+    font_f2dot30_abs(x: i32) -> i32 = F2Dot30::from_bits(x).abs().to_bits();
+    font_f2dot30_neg(x: i32) -> i32 = (-F2Dot30::from_bits(x)).to_bits();
+    font_f2dot30_add(x: i32, y: i32) -> i32 = (F2Dot30::from_bits(x) + F2Dot30::from_bits(y)).to_bits();
+    font_f2dot30_sub(x: i32, y: i32) -> i32 = (F2Dot30::from_bits(x) - F2Dot30::from_bits(y)).to_bits();
+    font_f2dot30_saturating_add(x: i32, y: i32) -> i32 = F2Dot30::from_bits(x).saturating_add(F2Dot30::from_bits(y)).to_bits();
+    font_f2dot30_saturating_sub(x: i32, y: i32) -> i32 = F2Dot30::from_bits(x).saturating_sub(F2Dot30::from_bits(y)).to_bits();
+    font_f26dot6_fract(x: i32) -> i32 = F26Dot6::from_bits(x).fract().to_bits();
+    font_f26dot6_abs(x: i32) -> i32 = F26Dot6::from_bits(x).abs().to_bits();
+    font_f26dot6_neg(x: i32) -> i32 = (-F26Dot6::from_bits(x)).to_bits();
+    font_f26dot6_add(x: i32, y: i32) -> i32 = (F26Dot6::from_bits(x) + F26Dot6::from_bits(y)).to_bits();
+    font_f26dot6_sub(x: i32, y: i32) -> i32 = (F26Dot6::from_bits(x) - F26Dot6::from_bits(y)).to_bits();
+    font_f26dot6_saturating_add(x: i32, y: i32) -> i32 = F26Dot6::from_bits(x).saturating_add(F26Dot6::from_bits(y)).to_bits();
+    font_f26dot6_saturating_sub(x: i32, y: i32) -> i32 = F26Dot6::from_bits(x).saturating_sub(F26Dot6::from_bits(y)).to_bits();
+    font_f48dot16_fract(x: i64) -> i64 = F48Dot16::from_bits(x).fract().to_bits();
+    font_f48dot16_abs(x: i64) -> i64 = F48Dot16::from_bits(x).abs().to_bits();
+    font_f48dot16_neg(x: i64) -> i64 = (-F48Dot16::from_bits(x)).to_bits();
+    font_f48dot16_add(x: i64, y: i64) -> i64 = (F48Dot16::from_bits(x) + F48Dot16::from_bits(y)).to_bits();
+    font_f48dot16_sub(x: i64, y: i64) -> i64 = (F48Dot16::from_bits(x) - F48Dot16::from_bits(y)).to_bits();
+    font_f48dot16_saturating_add(x: i64, y: i64) -> i64 = F48Dot16::from_bits(x).saturating_add(F48Dot16::from_bits(y)).to_bits();
+    font_f48dot16_saturating_sub(x: i64, y: i64) -> i64 = F48Dot16::from_bits(x).saturating_sub(F48Dot16::from_bits(y)).to_bits();
     font_fixed_mul(x: i32, y: i32) -> i32 = (fixed(x) * fixed(y)).to_bits();
     font_fixed_div(x: i32, y: i32) -> i32 = (fixed(x) / fixed(y)).to_bits();
     font_fixed_mul_div(x: i32, y: i32, z: i32) -> i32 = fixed(x).mul_div(fixed(y), fixed(z)).to_bits();
@@ -88,8 +118,93 @@ exports! {
     font_f2dot30_to_fixed(x: i32) -> i32 = F2Dot30::from_bits(x).to_fixed().to_bits();
     font_f2dot30_from_f2dot14(x: i16) -> i32 = F2Dot30::from_f2dot14(F2Dot14::from_bits(x)).to_bits();
     font_f2dot30_to_f2dot14(x: i32) -> i16 = F2Dot30::from_bits(x).to_f2dot14().to_bits();
+    font_fixed_mul_i32(x: i32, y: i32) -> i64 = fixed(x).mul_i32(y).to_bits();
+    font_fixed_to_f48dot16(x: i32) -> i64 = fixed(x).to_f48dot16().to_bits();
+    font_f26dot6_from_i32(x: i32) -> i32 = F26Dot6::from_i32(x).to_bits();
+    font_f26dot6_to_i32(x: i32) -> i32 = f26(x).to_i32();
+    font_f48dot16_from_i64(x: i64) -> i64 = F48Dot16::from_i64(x).to_bits();
+    font_f48dot16_to_i64(x: i64) -> i64 = F48Dot16::from_bits(x).to_i64();
+    font_f48dot16_to_i32(x: i64) -> i32 = F48Dot16::from_bits(x).to_i32();
+    font_f48dot16_to_fixed(x: i64) -> i32 = F48Dot16::from_bits(x).to_fixed().to_bits();
     font_f26dot6_mul(x: i32, y: i32) -> i32 = (f26(x) * f26(y)).to_bits();
     font_f26dot6_div(x: i32, y: i32) -> i32 = (f26(x) / f26(y)).to_bits();
+}
+
+/// Exports that store a result unless it is out of range, each with what the package returns.
+macro_rules! stores {
+    ($($name:ident($($x:ident: $kind:ty),*) -> $result:ty = $rust:expr;)*) => {
+        unsafe extern "C" {
+            $(safe fn $name($($x: $kind,)* place: &mut $result) -> u32;)*
+        }
+
+        const STORES: &[&str] = &[$(stringify!($name)),*];
+
+        fn stores(random: &mut Random, calls: &mut Calls) {
+            $({
+                $(let $x = random.any() as $kind;)*
+                let mut place = KEPT.into();
+                let status = $name($($x,)* &mut place);
+                let rust: Option<$result> = $rust;
+                let rust = rust.map_or((2, KEPT.into()), |result| (0, result));
+                calls.judge((status, place), rust, || format!("{:?}", ($($x,)*)));
+            })*
+        }
+    };
+}
+
+stores! {
+    font_fixed_checked_add(x: i32, y: i32) -> i32 =
+        fixed(x).checked_add(fixed(y)).map(Fixed::to_bits);
+    font_f2dot14_checked_add(x: i16, y: i16) -> i16 =
+        F2Dot14::from_bits(x).checked_add(F2Dot14::from_bits(y)).map(F2Dot14::to_bits);
+    font_f2dot30_checked_add(x: i32, y: i32) -> i32 =
+        F2Dot30::from_bits(x).checked_add(F2Dot30::from_bits(y)).map(F2Dot30::to_bits);
+    font_f26dot6_checked_add(x: i32, y: i32) -> i32 = f26(x).checked_add(f26(y)).map(F26Dot6::to_bits);
+    font_f48dot16_checked_add(x: i64, y: i64) -> i64 =
+        F48Dot16::from_bits(x).checked_add(F48Dot16::from_bits(y)).map(F48Dot16::to_bits);
+    font_fword_apply_delta(x: i16, y: i64) -> i64 =
+        FWord::new(x).apply_delta(F48Dot16::from_bits(y)).try_into().ok();
+    font_ufword_apply_delta(x: u16, y: i64) -> i64 =
+        UfWord::new(x).apply_delta(F48Dot16::from_bits(y)).try_into().ok();
+    font_fixed_apply_delta(x: i32, y: i64) -> i64 =
+        fixed(x).apply_delta(F48Dot16::from_bits(y)).try_into().ok();
+    font_f2dot14_apply_delta(x: i16, y: i64) -> i64 =
+        F2Dot14::from_bits(x).apply_delta(F48Dot16::from_bits(y)).try_into().ok();
+    font_fword_round(x: i64) -> i16 = FWord::round_steps(x.into()).map(FWord::to_i16);
+    font_ufword_round(x: i64) -> u16 = UfWord::round_steps(x.into()).map(UfWord::to_u16);
+}
+
+/// Exports that read a field, each with what std reads.
+macro_rules! fields {
+    ($($name:ident -> $result:ty = $len:literal $rust:expr;)*) => {
+        unsafe extern "C" {
+            $(fn $name(bytes: *const u8, len: usize, offset: usize, value: &mut $result) -> u32;)*
+        }
+
+        const FIELDS: &[&str] = &[$(stringify!($name)),*];
+
+        fn fields(random: &mut Random, calls: &mut Calls) {
+            let bytes = random.next().to_be_bytes();
+            let offset = random.below(10) as usize;
+            $({
+                let mut value = KEPT.into();
+                let status = unsafe { $name(bytes.as_ptr(), 8, offset, &mut value) };
+                let field = bytes[offset.min(8)..].first_chunk::<$len>();
+                let rust = field.map_or((1, KEPT.into()), |field| (0, $rust(*field)));
+                calls.judge((status, value), rust, || format!("{bytes:?} {offset}"));
+            })*
+        }
+    };
+}
+
+fields! {
+    font_u16_at -> u16 = 2 u16::from_be_bytes;
+    font_i16_at -> i16 = 2 i16::from_be_bytes;
+    font_u24_at -> u32 = 3 |[a, b, c]: [u8; 3]| u32::from_be_bytes([0, a, b, c]);
+    font_i24_at -> i32 = 3 |[a, b, c]: [u8; 3]| i32::from_be_bytes([a, b, c, 0]) >> 8;
+    font_u32_at -> u32 = 4 u32::from_be_bytes;
+    font_i32_at -> i32 = 4 i32::from_be_bytes;
+    font_i64_at -> i64 = 8 i64::from_be_bytes;
 }
 
 /// The exports of each type, whose names have the type's own in the middle.
@@ -207,9 +322,12 @@ macro_rules! others {
 }
 
 others! {
-    font_fixed_checked_add(i32, i32, &mut i32) -> u32;
+    font_types_version() -> u32;
+    font_pad_is_valid(&FontPad) -> bool;
     font_matrix_product(FontMatrix, FontMatrix) -> FontMatrix;
     font_matrix_image(FontMatrix, FontPoint) -> FontPoint;
+    font_matrix_vector(FontMatrix, FontPoint) -> FontPoint;
+    font_matrix_images(&FontMatrix, *mut FontPoint, usize) -> ();
     font_matrix_composed(FontMatrix, FontMatrix, FontPoint) -> FontPoint;
     font_matrix_in_turn(FontMatrix, FontMatrix, FontPoint) -> FontPoint;
     font_tag_new(*const u8, usize, &mut u32) -> u32;
@@ -221,10 +339,11 @@ others! {
 
 /// All exports.
 pub fn compare(work: &mut Work) {
-    let names = [NUMBERS, TYPES, OTHERS].concat();
+    let names = [NUMBERS, STORES, FIELDS, TYPES, OTHERS].concat();
     let header = include_str!("../../crates/font_c/include/font_types.h").split('(');
     let words = header.filter_map(|piece| piece.rsplit([' ', '*', '\n']).next());
-    let declared = words.filter(|word| word.starts_with("font_"));
+    let is_export = |word: &&str| word.starts_with("font_") && !word.ends_with("_status_text");
+    let declared = words.filter(is_export);
     let missing: Vec<&str> = declared.filter(|name| !names.contains(name)).collect();
     assert!(missing.is_empty(), "not compared: {missing:?}");
     work.go_over_random(
@@ -234,6 +353,8 @@ pub fn compare(work: &mut Work) {
         |random, tally| {
             let mut calls = Calls { row: 0, tally };
             numbers(random, &mut calls);
+            stores(random, &mut calls);
+            fields(random, &mut calls);
             types(random, &mut calls);
             matrices(random, &mut calls);
             tags(random, &mut calls);
@@ -243,12 +364,13 @@ pub fn compare(work: &mut Work) {
 }
 
 fn matrices(random: &mut Random, calls: &mut Calls) {
-    let [x, y] = [random.any() as i32, random.any() as i32];
-    let mut sum = KEPT.into();
-    let status = unsafe { font_fixed_checked_add(x, y, &mut sum) };
-    let rust = fixed(x).checked_add(fixed(y));
-    let rust = rust.map_or((2, KEPT.into()), |sum| (0, sum.to_bits()));
-    calls.judge((status, sum), rust, || format!("{x} {y}"));
+    calls.judge(unsafe { font_types_version() }, 0x000300, String::new);
+    let of = font_pad(random);
+    calls.judge(
+        unsafe { font_pad_is_valid(&of) },
+        pad(&of).is_some(),
+        || format!("{of:?}"),
+    );
 
     let mut bits = || random.any() as i32;
     let [m, n] = [0, 1].map(|_| FontMatrix(std::array::from_fn(|_| bits())));
@@ -260,6 +382,19 @@ fn matrices(random: &mut Random, calls: &mut Calls) {
     calls.judge(unsafe { font_matrix_product(m, n) }, product, example);
     let point = |p: Point<Fixed>| FontPoint([p.x, p.y].map(Fixed::to_bits));
     calls.judge(unsafe { font_matrix_image(m, q) }, point(a * p), example);
+    let linear = Matrix {
+        dx: Fixed::ZERO,
+        dy: Fixed::ZERO,
+        ..a
+    };
+    calls.judge(
+        unsafe { font_matrix_vector(m, q) },
+        point(linear * p),
+        example,
+    );
+    let mut points = [q; 3];
+    unsafe { font_matrix_images(&m, points.as_mut_ptr(), 2) };
+    calls.judge(points, [point(a * p), point(a * p), q], example);
     calls.judge(
         unsafe { font_matrix_composed(m, n, q) },
         point(composed(a, b, p)),

@@ -1,14 +1,16 @@
-//! Gives the shared library the name that programs look for. Below 1.0 a minor version may change
-//! what is called, so that it has a name of its own.
+//! Names the shared library, and the libraries that it needs.
 
 fn main() {
-    let version = (
-        env!("CARGO_PKG_VERSION_MAJOR"),
-        env!("CARGO_PKG_VERSION_MINOR"),
-    );
     if std::env::var("CARGO_CFG_TARGET_OS").is_ok_and(|system| system == "linux") {
-        let name = format!("libfont_c.so.{}.{}", version.0, version.1);
+        // Below 1.0, a minor version may change the exports, so each has a name of its own.
+        let version = [
+            env!("CARGO_PKG_VERSION_MAJOR"),
+            env!("CARGO_PKG_VERSION_MINOR"),
+        ];
+        let name = format!("libfont_types.so.{}", version.join("."));
         println!("cargo::rustc-cdylib-link-arg=-Wl,-soname,{name}");
+        // `memcpy` and the like.
+        println!("cargo::rustc-cdylib-link-arg=-lc");
     }
     println!("cargo::rerun-if-changed=build.rs");
 }

@@ -1,4 +1,4 @@
-/* The lines of C that README.md shows, run. */
+/* Runs the lines that README.md shows. */
 #include "font_types.h"
 
 #include <stdio.h>
@@ -14,9 +14,9 @@ int main(void) {
     font_matrix half = {32768, 0, 0, 32768, 0, 0};
     font_point moved = font_matrix_image(half, (font_point){width, 0}); /* (49152, 0) */
     uint32_t tag;
-    uint32_t fault = font_tag_new("cvt", 3, &tag);                      /* 0x63767420 */
+    font_tag_status status = font_tag_new("cvt", 3, &tag);              /* 0x63767420 */
     /* end */
-    printf("%.*s %d %d %u %x\n", (int)length, text, (int)moved.x, (int)moved.y, (unsigned)fault,
+    printf("%.*s %d %d %u %x\n", (int)length, text, (int)moved.x, (int)moved.y, (unsigned)status,
            (unsigned)tag);
     return 0;
 }

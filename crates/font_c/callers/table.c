@@ -1,7 +1,7 @@
 /*
- * Makes the calls of a table of values, and counts the answers that are those
- * of the table. Its last line is "N passed, M failed"; it fails too where there
- * are fewer lines of a kind than it knows of, or more. It is C and C++.
+ * Makes the calls of a table of values, and counts the results that are those of
+ * the table. Its last line is "N passed, M failed". It also fails if a kind has
+ * another number of lines than it should. It is both C and C++.
  */
 #include "font_types.h"
 
@@ -13,31 +13,13 @@
 
 enum { MOST_WORDS = 32, LINE = 512, ROOM = 64 };
 
-/* What the library answers by these names, and the table has as numbers. */
-#define IS(NAME, NUMBER) typedef char NAME##_is_##NUMBER[(NAME) == (NUMBER) ? 1 : -1]
-
-IS(FONT_READ, 0);
-IS(FONT_NO_DECIMAL, 1);
-IS(FONT_OUT_OF_RANGE, 2);
-IS(FONT_LEFT, 0);
-IS(FONT_CENTER, 1);
-IS(FONT_RIGHT, 2);
-IS(FONT_DECIMAL_ROOM, 24);
-IS(FONT_TAG_GOOD, 0);
-IS(FONT_TAG_LENGTH, 1);
-IS(FONT_TAG_BYTE, 2);
-IS(FONT_TAG_AFTER_SPACE, 3);
-IS(FONT_TAG_ROOM, 25);
-IS(FONT_SUMMED, 0);
-IS(FONT_OTHER_LENGTH, 1);
-IS(FONT_SUM_OUT_OF_RANGE, 2);
-
-/* Whether the number of the version is that of its text. */
+/* The version of the header, as text and as a number, and that of the library. */
 static bool is_version_number(void) {
     char text[16];
     snprintf(text, sizeof text, "%d.%d.%d", FONT_TYPES_VERSION_NUMBER >> 16,
              FONT_TYPES_VERSION_NUMBER >> 8 & 0xFF, FONT_TYPES_VERSION_NUMBER & 0xFF);
-    return strcmp(text, FONT_TYPES_VERSION) == 0;
+    return strcmp(text, FONT_TYPES_VERSION) == 0
+           && font_types_version() == FONT_TYPES_VERSION_NUMBER;
 }
 
 /* The words of a line. */
@@ -62,10 +44,11 @@ static int64_t number(const words *line, int at) {
 
 /* ---- the types of numbers, as if all had 64 bits ---- */
 
-/* Each type, and that of its bits. */
-#define NUMBER_TYPES(OF)                                                                       \
-    OF(fixed, int32_t) OF(f2dot14, int16_t) OF(f4dot12, int16_t) OF(f6dot10, int16_t)          \
-    OF(f26dot6, int32_t) OF(f48dot16, int64_t) OF(f2dot30, int32_t)
+/* Each type with arithmetic, each without, and the type of its raw values. */
+#define ARITHMETIC_TYPES(OF)                                                                   \
+    OF(fixed, int32_t) OF(f2dot14, int16_t) OF(f26dot6, int32_t) OF(f48dot16, int64_t)         \
+    OF(f2dot30, int32_t)
+#define OTHER_TYPES(OF) OF(f4dot12, int16_t) OF(f6dot10, int16_t)
 
 typedef struct number_type {
     const char *name;
@@ -74,12 +57,14 @@ typedef struct number_type {
     size_t (*write_padded)(int64_t bits, const font_pad *pad, char *out, size_t room);
     int64_t (*round)(int64_t bits);
     int64_t (*floor)(int64_t bits);
+    bool (*adds)(const words *line);
+    bool (*has_sign)(const words *line);
 } number_type;
 
 #define WIDENED(NAME, BITS)                                                                    \
     static uint32_t NAME##_from_decimal(const char *text, size_t length, int64_t *bits) {      \
         BITS place = (BITS)*bits;                                                              \
-        uint32_t status = font_##NAME##_from_decimal(text, length, &place);                    \
+        font_parse_status status = font_##NAME##_from_decimal(text, length, &place);                    \
         *bits = place;                                                                         \
         return status;                                                                         \
     }                                                                                          \
@@ -93,28 +78,44 @@ typedef struct number_type {
     static int64_t NAME##_round(int64_t bits) { return font_##NAME##_round((BITS)bits); }      \
     static int64_t NAME##_floor(int64_t bits) { return font_##NAME##_floor((BITS)bits); }
 
-#define CALLS_OF(NAME, BITS)                                                                   \
-    { #NAME, NAME##_from_decimal, NAME##_to_decimal, NAME##_write_padded, NAME##_round,        \
-      NAME##_floor },
+/* add TYPE X Y SUM DIFFERENCE STATUS CHECKED SATURATED_SUM SATURATED_DIFFERENCE, and sign TYPE BITS
+   OPPOSITE MAGNITUDE FRACTION; the checked sum has 7 before */
+#define ARITHMETIC(NAME, BITS)                                                                 \
+    static bool NAME##_adds(const words *line) {                                               \
+        BITS x = (BITS)number(line, 2);                                                        \
+        BITS y = (BITS)number(line, 3);                                                        \
+        BITS sum = 7;                                                                          \
+        return font_##NAME##_add(x, y) == number(line, 4)                                      \
+               && font_##NAME##_sub(x, y) == number(line, 5)                                   \
+               && (int)font_##NAME##_checked_add(x, y, &sum) == number(line, 6)                \
+               && sum == number(line, 7)                                                       \
+               && font_##NAME##_saturating_add(x, y) == number(line, 8)                        \
+               && font_##NAME##_saturating_sub(x, y) == number(line, 9);                       \
+    }                                                                                          \
+    static bool NAME##_has_sign(const words *line) {                                           \
+        BITS x = (BITS)number(line, 2);                                                        \
+        return font_##NAME##_neg(x) == number(line, 3)                                         \
+               && font_##NAME##_abs(x) == number(line, 4)                                      \
+               && font_##NAME##_fract(x) == number(line, 5);                                   \
+    }
 
-NUMBER_TYPES(WIDENED)
+#define COMMON_OF(NAME)                                                                        \
+    #NAME, NAME##_from_decimal, NAME##_to_decimal, NAME##_write_padded, NAME##_round, NAME##_floor
+#define ALL_OF(NAME, BITS) {COMMON_OF(NAME), NAME##_adds, NAME##_has_sign},
+#define SOME_OF(NAME, BITS) {COMMON_OF(NAME), NULL, NULL},
 
-static const number_type number_types[] = {NUMBER_TYPES(CALLS_OF)};
+ARITHMETIC_TYPES(WIDENED)
+OTHER_TYPES(WIDENED)
+ARITHMETIC_TYPES(ARITHMETIC)
+
+static const number_type number_types[] = {ARITHMETIC_TYPES(ALL_OF) OTHER_TYPES(SOME_OF)};
 
 enum { TYPES = sizeof number_types / sizeof *number_types };
 
-/* The place of a type among them, or TYPES. */
-static size_t place_of(const char *name) {
-    size_t place = 0;
-    while (place < TYPES && strcmp(number_types[place].name, name) != 0)
-        place++;
-    return place;
-}
-
 static const number_type *type_named(const char *name) {
-    size_t place = place_of(name);
-    if (place < TYPES)
-        return &number_types[place];
+    for (size_t i = 0; i < TYPES; i++)
+        if (strcmp(number_types[i].name, name) == 0)
+            return &number_types[i];
     fprintf(stderr, "no type %s\n", name);
     exit(2);
 }
@@ -165,10 +166,11 @@ static bool pad_line(const words *line) {
     pad.align = (uint8_t)number(line, 5);
     pad.plus = (uint8_t)number(line, 6);
     pad.zeros = (uint8_t)number(line, 7);
+    bool valid = pad.fill < 0x80 && pad.align <= FONT_RIGHT;
     const char *text = strcmp(line->word[8], "refused") == 0 ? "" : line->word[8];
     char out[ROOM];
     memset(out, '~', ROOM);
-    if (!is_written(out, type->write_padded(number(line, 2), &pad, out, ROOM), text))
+    if (font_pad_is_valid(&pad) != valid || !is_written(out, type->write_padded(number(line, 2), &pad, out, ROOM), text))
         return false;
     if (pad.width > FONT_DECIMAL_ROOM)
         return true;
@@ -188,7 +190,7 @@ static bool whole_line(const words *line) {
 static bool null_line(const words *line) {
     const number_type *type = type_named(line->word[1]);
     int64_t bits = number(line, 2);
-    font_pad pad = {0, ' ', 0, 0, 0};
+    font_pad pad = FONT_PAD_INIT(0);
     int64_t place = 7;
     return type->from_decimal(NULL, 0, &place) == number(line, 3) && place == 7
            && type->to_decimal(bits, NULL, 0) == 0
@@ -205,26 +207,28 @@ static bool product_line(const words *line) {
     return product == number(line, 4) && quotient == number(line, 5);
 }
 
-/* add X Y SUM DIFFERENCE STATUS CHECKED NEAREST_SUM NEAREST_DIFFERENCE, where the place of the
-   checked sum has 7 before */
 static bool add_line(const words *line) {
-    int32_t x = (int32_t)number(line, 1);
-    int32_t y = (int32_t)number(line, 2);
-    int32_t sum = 7;
-    return font_fixed_add(x, y) == number(line, 3) && font_fixed_sub(x, y) == number(line, 4)
-           && font_fixed_checked_add(x, y, &sum) == number(line, 5) && sum == number(line, 6)
-           && font_fixed_saturating_add(x, y) == number(line, 7)
-           && font_fixed_saturating_sub(x, y) == number(line, 8);
+    return type_named(line->word[1])->adds(line);
 }
 
-/* neg X OPPOSITE */
-static bool neg_line(const words *line) {
-    return font_fixed_neg((int32_t)number(line, 1)) == number(line, 2);
+static bool sign_line(const words *line) {
+    return type_named(line->word[1])->has_sign(line);
 }
 
-/* from_i32 NUMBER BITS */
-static bool from_i32_line(const words *line) {
-    return font_fixed_from_i32((int32_t)number(line, 1)) == number(line, 2);
+/* integer TYPE NUMBER BITS */
+static bool integer_line(const words *line) {
+    int64_t n = number(line, 2);
+    if (strcmp(line->word[1], "f48dot16") == 0)
+        return font_f48dot16_from_i64(n) == number(line, 3);
+    if (strcmp(line->word[1], "f26dot6") == 0)
+        return font_f26dot6_from_i32((int32_t)n) == number(line, 3);
+    return font_fixed_from_i32((int32_t)n) == number(line, 3);
+}
+
+/* mul_i32 BITS NUMBER PRODUCT */
+static bool mul_i32_line(const words *line) {
+    return font_fixed_mul_i32((int32_t)number(line, 1), (int32_t)number(line, 2))
+           == number(line, 3);
 }
 
 /* to_fixed BITS BITS, of a 2.14 number and of the 16.16 number */
@@ -260,9 +264,53 @@ static bool mul_div_line(const words *line) {
 /* narrow BITS WHOLE F26DOT6 F2DOT14 */
 static bool narrow_line(const words *line) {
     int32_t bits = (int32_t)number(line, 1);
-    return font_fixed_to_i32(bits) == number(line, 2)
+    return font_fixed_to_f48dot16(bits) == number(line, 1)
+           && font_fixed_to_i32(bits) == number(line, 2)
            && font_fixed_to_f26dot6(bits) == number(line, 3)
            && font_fixed_to_f2dot14(bits) == number(line, 4);
+}
+
+/* narrow_f26dot6 BITS WHOLE */
+static bool narrow_f26dot6_line(const words *line) {
+    return font_f26dot6_to_i32((int32_t)number(line, 1)) == number(line, 2);
+}
+
+/* narrow_f48dot16 BITS I64 I32 FIXED */
+static bool narrow_f48dot16_line(const words *line) {
+    int64_t bits = number(line, 1);
+    return font_f48dot16_to_i64(bits) == number(line, 2)
+           && font_f48dot16_to_i32(bits) == number(line, 3)
+           && font_f48dot16_to_fixed(bits) == number(line, 4);
+}
+
+/* apply TYPE BASE DELTA STATUS MOVED, where the place has 7 before */
+static bool apply_line(const words *line) {
+    const char *type = line->word[1];
+    int64_t base = number(line, 2);
+    int64_t delta = number(line, 3);
+    int64_t moved = 7;
+    font_sum_status status;
+    if (strcmp(type, "fword") == 0)
+        status = font_fword_apply_delta((int16_t)base, delta, &moved);
+    else if (strcmp(type, "ufword") == 0)
+        status = font_ufword_apply_delta((uint16_t)base, delta, &moved);
+    else if (strcmp(type, "f2dot14") == 0)
+        status = font_f2dot14_apply_delta((int16_t)base, delta, &moved);
+    else
+        status = font_fixed_apply_delta((int32_t)base, delta, &moved);
+    return (int)status == number(line, 4) && moved == number(line, 5);
+}
+
+/* units TYPE BITS STATUS UNITS, where the place has 7 before */
+static bool units_line(const words *line) {
+    int16_t units = 7;
+    uint16_t unsigned_units = 7;
+    bool is_signed = strcmp(line->word[1], "fword") == 0;
+    int64_t bits = number(line, 2);
+    font_sum_status status = is_signed ? font_fword_round(bits, &units)
+                                       : font_ufword_round(bits, &unsigned_units);
+    return (int)status == number(line, 3)
+           && (is_signed ? units : unsigned_units) == number(line, 4);
 }
 
 static font_matrix matrix(const words *line, int at) {
@@ -295,7 +343,19 @@ static bool same_matrix(font_matrix a, font_matrix b) {
            && a.dy == b.dy;
 }
 
-/* matrix A B P PRODUCT, and the points that A, the product, and A after B make of P */
+/* Whether each of three points is transformed in place, and none of none. */
+static bool moves_points(const font_matrix *m, font_point p) {
+    font_point origin = {0, 0};
+    font_point points[3] = {p, origin, p};
+    font_matrix_images(m, points, 2);
+    font_matrix_images(m, NULL, 0);
+    font_point image = font_matrix_image(*m, p);
+    font_point shift = {m->dx, m->dy};
+    return same_point(points[0], image) && same_point(points[1], shift) && same_point(points[2], p);
+}
+
+/* matrix A B P PRODUCT, the images of P under A, under the product, and under B and then A, and the
+   image of the vector P under A */
 static bool matrix_line(const words *line) {
     font_matrix a = matrix(line, 1);
     font_matrix b = matrix(line, 7);
@@ -303,7 +363,8 @@ static bool matrix_line(const words *line) {
     return same_matrix(font_matrix_product(a, b), matrix(line, 15))
            && same_point(font_matrix_image(a, p), point(line, 21))
            && same_point(font_matrix_composed(a, b, p), point(line, 23))
-           && same_point(font_matrix_in_turn(a, b, p), point(line, 25));
+           && same_point(font_matrix_in_turn(a, b, p), point(line, 25))
+           && same_point(font_matrix_vector(a, p), point(line, 27)) && moves_points(&a, p);
 }
 
 /* The bytes of pairs of hexadecimal digits; returns how many. */
@@ -316,15 +377,37 @@ static size_t bytes_of(const char *digits, uint8_t *bytes) {
     return count;
 }
 
+/* field TYPE BYTES OFFSET STATUS VALUE, where the place has 7 before */
+#define READS(NAME, VALUE)                                                                     \
+    if (strcmp(line->word[1], #NAME) == 0) {                                                   \
+        VALUE value = 7;                                                                       \
+        return (int)font_##NAME##_at(bytes, count, offset, &value) == number(line, 4)          \
+               && (int64_t)value == number(line, 5);                                           \
+    }
+static bool field_line(const words *line) {
+    uint8_t bytes[16];
+    size_t count = bytes_of(line->word[2], bytes);
+    size_t offset = (size_t)strtoull(line->word[3], NULL, 10);
+    READS(u16, uint16_t)
+    READS(i16, int16_t)
+    READS(u24, uint32_t)
+    READS(i24, int32_t)
+    READS(u32, uint32_t)
+    READS(i32, int32_t)
+    READS(i64, int64_t)
+    return false;
+}
+
 /* tag BYTES STATUS NUMBER STATUS POSITION TEXT, where places have 7 before */
 static bool tag_line(const words *line) {
     uint8_t bytes[8];
     size_t count = bytes_of(line->word[1], bytes);
     uint32_t tag = 7;
     uint32_t position = 7;
-    if (font_tag_new((const char *)bytes, count, &tag) != number(line, 2) || tag != number(line, 3))
+    if ((int)font_tag_new((const char *)bytes, count, &tag) != number(line, 2)
+        || tag != number(line, 3))
         return false;
-    if (font_tag_validate(bytes, count, &position) != number(line, 4)
+    if ((int)font_tag_validate(bytes, count, &position) != number(line, 4)
         || position != number(line, 5))
         return false;
     if (count != 4)
@@ -335,7 +418,7 @@ static bool tag_line(const words *line) {
         *space = ' ';
     char out[ROOM];
     memset(out, '~', ROOM);
-    tag = (uint32_t)bytes[0] << 24 | (uint32_t)bytes[1] << 16 | (uint32_t)bytes[2] << 8 | bytes[3];
+    tag = FONT_TAG(bytes[0], bytes[1], bytes[2], bytes[3]);
     if (!is_written(out, font_tag_to_text(tag, out, 24), text))
         return false;
     char shown[FONT_TAG_ROOM];
@@ -359,8 +442,8 @@ static bool sum_line(const words *line) {
     int32_t deltas[MOST_WORDS] = {0};
     size_t count = terms(line, 3, scalars, deltas);
     int64_t sum = 7;
-    uint32_t status = font_checked_delta_sum(scalars, count, deltas, count, &sum);
-    if (status != number(line, 1) || sum != number(line, 2))
+    font_sum_status status = font_checked_delta_sum(scalars, count, deltas, count, &sum);
+    if ((int)status != number(line, 1) || sum != number(line, 2))
         return false;
     sum = 7;
     return font_checked_delta_sum(scalars, count, deltas, count + 1, &sum) == FONT_OTHER_LENGTH
@@ -375,8 +458,8 @@ static bool vary_line(const words *line) {
     int16_t base = (int16_t)number(line, 1);
     size_t count = terms(line, 4, scalars, deltas);
     int64_t moved = 7;
-    uint32_t status = font_vary(base, scalars, count, deltas, count, &moved);
-    if (status != number(line, 2) || moved != number(line, 3))
+    font_sum_status status = font_vary(base, scalars, count, deltas, count, &moved);
+    if ((int)status != number(line, 2) || moved != number(line, 3))
         return false;
     moved = 7;
     return font_vary(base, scalars, count, deltas, count + 1, &moved) == FONT_OTHER_LENGTH
@@ -392,14 +475,14 @@ static bool nulls_line(const words *line) {
     int64_t sum = 7;
     int64_t moved = 7;
     int32_t one = 1;
-    if (font_tag_new(NULL, 0, &tag) != number(line, 1) || tag != 7
-        || font_tag_validate(NULL, 0, &position) != number(line, 2) || position != 7
+    if ((int)font_tag_new(NULL, 0, &tag) != number(line, 1) || tag != 7
+        || (int)font_tag_validate(NULL, 0, &position) != number(line, 2) || position != 7
         || font_tag_to_text(0x63767420, NULL, 0) != 0)
         return false;
     if (font_checked_delta_sum(NULL, 0, &one, 1, &sum) != FONT_OTHER_LENGTH
         || font_vary(1, &one, 1, NULL, 0, &moved) != FONT_OTHER_LENGTH || sum != 7 || moved != 7)
         return false;
-    return font_checked_delta_sum(NULL, 0, NULL, 0, &sum) == number(line, 3)
+    return (int)font_checked_delta_sum(NULL, 0, NULL, 0, &sum) == number(line, 3)
            && sum == number(line, 4)
            && font_vary((int16_t)number(line, 5), NULL, 0, NULL, 0, &moved) == FONT_SUMMED
            && moved == number(line, 6);
@@ -410,70 +493,77 @@ static bool nulls_line(const words *line) {
 typedef struct kind {
     const char *name;
     bool (*holds)(const words *line);
-    bool of_types;   /* whether a type stands behind the name */
-    unsigned wanted; /* how many lines there are, of each type that has any */
+    unsigned wanted; /* how many lines there are */
 } kind;
 
 static const kind kinds[] = {
-    {"read", read_line, true, 35},
-    {"write", write_line, true, 20},
-    {"pad", pad_line, true, 32},
-    {"whole", whole_line, true, 20},
-    {"null", null_line, true, 1},
-    {"product", product_line, true, 33},
-    {"mul_div", mul_div_line, false, 24},
-    {"narrow", narrow_line, false, 25},
-    {"add", add_line, false, 32},
-    {"neg", neg_line, false, 13},
-    {"from_i32", from_i32_line, false, 16},
-    {"to_fixed", to_fixed_line, false, 12},
-    {"from_fixed", from_fixed_line, false, 20},
-    {"from_f2dot14", from_f2dot14_line, false, 13},
-    {"narrow_f2dot30", narrow_f2dot30_line, false, 43},
-    {"matrix", matrix_line, false, 16},
-    {"tag", tag_line, false, 20},
-    {"sum", sum_line, false, 9},
-    {"vary", vary_line, false, 23},
-    {"nulls", nulls_line, false, 1},
+    {"read", read_line, 245},
+    {"write", write_line, 140},
+    {"pad", pad_line, 224},
+    {"whole", whole_line, 140},
+    {"null", null_line, 7},
+    {"product", product_line, 66},
+    {"mul_div", mul_div_line, 24},
+    {"mul_i32", mul_i32_line, 8},
+    {"narrow", narrow_line, 25},
+    {"add", add_line, 160},
+    {"sign", sign_line, 80},
+    {"integer", integer_line, 48},
+    {"to_fixed", to_fixed_line, 12},
+    {"from_fixed", from_fixed_line, 20},
+    {"from_f2dot14", from_f2dot14_line, 13},
+    {"narrow_f2dot30", narrow_f2dot30_line, 43},
+    {"narrow_f26dot6", narrow_f26dot6_line, 17},
+    {"narrow_f48dot16", narrow_f48dot16_line, 20},
+    {"apply", apply_line, 134},
+    {"units", units_line, 34},
+    {"field", field_line, 77},
+    {"matrix", matrix_line, 16},
+    {"tag", tag_line, 20},
+    {"sum", sum_line, 14},
+    {"vary", vary_line, 23},
+    {"nulls", nulls_line, 1},
 };
 
 enum { KINDS = sizeof kinds / sizeof *kinds };
 
-/* How many lines of a kind there were, of each type, or at 0. */
-static unsigned lines_of[KINDS][TYPES];
+/* How many lines of each kind there were. */
+static unsigned lines_of[KINDS];
 
 static bool holds(const words *line) {
     for (size_t i = 0; line->count > 1 && i < KINDS; i++)
         if (strcmp(kinds[i].name, line->word[0]) == 0) {
-            size_t type = kinds[i].of_types ? place_of(line->word[1]) : 0;
-            if (type == TYPES)
-                return false;
-            lines_of[i][type]++;
+            lines_of[i]++;
             return kinds[i].holds(line);
         }
     return false;
 }
 
-/* Whether products are those of 16.16 and 26.6 numbers, and all other kinds stand for each type. */
 static bool is_complete(void) {
     bool complete = true;
     for (size_t i = 0; i < KINDS; i++)
-        for (size_t type = 0; type < (kinds[i].of_types ? (size_t)TYPES : 1); type++) {
-            bool product = kinds[i].holds == product_line;
-            bool has = !product || type == place_of("fixed") || type == place_of("f26dot6");
-            unsigned wanted = has ? kinds[i].wanted : 0;
-            if (lines_of[i][type] != wanted) {
-                printf("%u lines %s %s, and not %u\n", lines_of[i][type], kinds[i].name,
-                       kinds[i].of_types ? number_types[type].name : "", wanted);
-                complete = false;
-            }
+        if (lines_of[i] != kinds[i].wanted) {
+            printf("%u lines %s, and not %u\n", lines_of[i], kinds[i].name, kinds[i].wanted);
+            complete = false;
         }
     return complete;
 }
 
+/* What is no row: a fill of 0 is a space, and a tag is a constant. */
+static bool is_as_the_header_says(void) {
+    font_pad pad = {8, 0, FONT_RIGHT, 0, 0};
+    char out[8];
+    if (font_fixed_write_padded(98304, &pad, out, sizeof out) != 8 || memcmp(out, "     1.5", 8) != 0)
+        return false;
+    switch ((uint32_t)0x676C7966) {
+    case FONT_TAG('g', 'l', 'y', 'f'): return strcmp(font_tag_status_text(FONT_TAG_GOOD), "valid tag") == 0;
+    default: return false;
+    }
+}
+
 int main(int argc, char **argv) {
-    if (!is_version_number()) {
-        printf("the number of the version is not %s\n", FONT_TYPES_VERSION);
+    if (!is_version_number() || !is_as_the_header_says()) {
+        printf("the version, the padding or the tags are not those of the header\n");
         return 1;
     }
     FILE *table = argc == 2 ? fopen(argv[1], "r") : NULL;

@@ -54,15 +54,18 @@ unsafe fn slice_mut<'a, T>(values: *mut T, len: usize) -> &'a mut [T] {
     }
 }
 
+unsafe extern "C" {
+    safe fn abort() -> !;
+}
+
 // No export panics for a caller that keeps to the header.
 #[panic_handler]
 fn panic(_: &core::panic::PanicInfo<'_>) -> ! {
-    loop {}
+    abort()
 }
 
-// Objects of the compiler's own library name this function of Rust's unwinding. A program that
-// divides numbers of 128 bits takes one of them out of the archive. Nothing here unwinds, so that
-// nothing calls it; no other library and no user of the shared one sees it.
+// Objects of the compiler's own library in the archive refer to this function of Rust's unwinding.
+// Nothing here unwinds, so nothing calls it.
 #[cfg(all(target_os = "linux", panic = "abort"))]
 core::arch::global_asm!(
     ".weak rust_eh_personality",
