@@ -18,9 +18,15 @@ pub fn row(line: &str) -> String {
         "write" => (3, exact::shortest(number(2), kind(words[1]).fraction)),
         "pad" => (8, pad(&words)),
         "whole" => (3, whole(kind(words[1]), number(2))),
-        "add" => (3, add(number(1), number(2))),
-        "neg" => (2, exact::wrap(32, -number(1)).to_string()),
-        "from_i32" => (2, exact::wrap(32, number(1) << 16).to_string()),
+        "add" => (4, add(kind(words[1]).width, number(2), number(3))),
+        "sign" => (3, sign(kind(words[1]), number(2))),
+        "integer" => (3, integer_bits(kind(words[1]), number(2)).to_string()),
+        "mul_i32" => (3, exact::wrap(64, number(1) * number(2)).to_string()),
+        "narrow_f26dot6" => (2, narrow(number(1), &[(26, 6)])),
+        "narrow_f48dot16" => (2, narrow(number(1), &[(48, 16), (32, 16), (32, 0)])),
+        "field" => (4, field(words[1], words[2], number(3))),
+        "apply" => (4, spaced_pair(stored(64, 65536 * number(2) + number(3)))),
+        "units" => (3, units(words[1], number(2))),
         "to_fixed" => (2, (4 * number(1)).to_string()),
         "from_fixed" => (2, exact::wrap(32, number(1) << 14).to_string()),
         "from_f2dot14" => (2, (number(1) << 16).to_string()),
@@ -91,17 +97,57 @@ fn whole(kind: Type, bits: i128) -> String {
     spaced(&[round, one * bits.div_euclid(one)])
 }
 
-fn add(x: i128, y: i128) -> String {
-    let nearest = |number: i128| number.clamp(-1 << 31, (1 << 31) - 1);
-    let (status, place) = stored(exact::fits(32, x + y), x + y);
+fn add(width: u32, x: i128, y: i128) -> String {
+    let half = 1i128 << (width - 1);
+    let nearest = |number: i128| number.clamp(-half, half - 1);
+    let (status, place) = stored(width, x + y);
     spaced(&[
-        exact::wrap(32, x + y),
-        exact::wrap(32, x - y),
+        exact::wrap(width, x + y),
+        exact::wrap(width, x - y),
         status,
         place,
         nearest(x + y),
         nearest(x - y),
     ])
+}
+
+// The opposite, the magnitude and the fractional part.
+fn sign(kind: Type, x: i128) -> String {
+    let [opposite, magnitude] = [-x, x.abs()].map(|number| exact::wrap(kind.width, number));
+    spaced(&[opposite, magnitude, x.rem_euclid(1 << kind.fraction)])
+}
+
+fn integer_bits(kind: Type, number: i128) -> i128 {
+    exact::wrap(kind.width, number << kind.fraction)
+}
+
+// The status of a big-endian field at an offset, and its value.
+fn field(name: &str, digits: &str, offset: i128) -> String {
+    let (signed, width) = name.split_at(1);
+    let width: u32 = width.parse().unwrap();
+    let start = usize::try_from(2 * offset).unwrap_or(usize::MAX);
+    let end = start.saturating_add(width as usize / 4);
+    let value = digits
+        .get(start..end)
+        .map(|digits| i128::from_str_radix(digits, 16).unwrap());
+    let value = value.map(|value| {
+        if signed == "i" {
+            exact::wrap(width, value)
+        } else {
+            value
+        }
+    });
+    spaced_pair(value.map_or((1, KEPT), |value| (0, value)))
+}
+
+// The status of the nearest integer, half up, in 16 bits.
+fn units(name: &str, steps: i128) -> String {
+    let nearest = exact::up(steps, 1 << 16);
+    let fits = match name {
+        "fword" => exact::fits(16, nearest),
+        _ => (0..1 << 16).contains(&nearest),
+    };
+    spaced_pair(if fits { (0, nearest) } else { (2, KEPT) })
 }
 
 fn product(kind: Type, x: i128, y: i128) -> String {
@@ -121,10 +167,12 @@ fn matrix(words: &[&str]) -> String {
     let matrix = |at: usize| exact::Matrix::try_from(&numbers[at..at + 6]).unwrap();
     let (a, b, p) = (matrix(0), matrix(6), [numbers[12], numbers[13]]);
     let composed = exact::composed(a, b);
+    let linear = [a[0], a[1], a[2], a[3], 0, 0];
     let images = [
         exact::image(a, p),
         exact::image(composed, p),
         exact::image(a, exact::image(b, p)),
+        exact::image(linear, p),
     ];
     spaced(&[&composed[..], &images.concat()].concat())
 }
@@ -156,9 +204,16 @@ fn tag(digits: &str) -> String {
     format!("{} {} {} {} {text}", made.0, made.1, judged.0, judged.1)
 }
 
-// The status of a number that is stored where it fits, and what then stands in the place.
-fn stored(fits: bool, number: i128) -> (i128, i128) {
-    if fits { (0, number) } else { (2, KEPT) }
+// The status of a number that is stored if it fits, and what is then in the place.
+fn stored(width: u32, number: i128) -> (i128, i128) {
+    match exact::fits(width, number) {
+        true => (0, number),
+        false => (2, KEPT),
+    }
+}
+
+fn spaced_pair((status, number): (i128, i128)) -> String {
+    spaced(&[status, number])
 }
 
 fn sum_of(terms: &[&str]) -> i128 {
@@ -168,14 +223,19 @@ fn sum_of(terms: &[&str]) -> i128 {
 
 fn sum(words: &[&str]) -> String {
     let sum = sum_of(&words[4..]);
-    let (status, sum) = stored(exact::fits(64, sum), sum);
+    let (status, sum) = stored(64, sum);
     format!("sum {status} {sum} {}", words[3..].join(" "))
 }
 
 fn vary(words: &[&str]) -> String {
     let sum = sum_of(&words[5..]);
     let moved = 65536 * integer(words[1]) + sum;
-    let (status, moved) = stored(exact::fits(64, sum) && exact::fits(64, moved), moved);
+    let moved = if exact::fits(64, sum) {
+        moved
+    } else {
+        i128::MAX
+    };
+    let (status, moved) = stored(64, moved);
     format!(
         "vary {} {status} {moved} {}",
         words[1],
