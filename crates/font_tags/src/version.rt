@@ -237,6 +237,13 @@ impl IdentityEq for MajorMinor {
 }
 
 /// Compatibility of table versions.
+///
+/// # Laws
+///
+/// Rattle proves this of every implementation; rustc does not check it.
+///
+/// - `compatible` returns `true` if and only if the two versions are compatible as the
+///   implementation defines it, and it does not panic.
 pub trait Compatible<Rhs>: Sized {
     // every field that a reader of the other version needs is present
     ghost is_compatible: { Self → Rhs → Type 0 };

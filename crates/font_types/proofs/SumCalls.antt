@@ -108,12 +108,6 @@ fits_128 z fits = wrap-fits 128 z (lit< tt) fits
 pub cut_to_64 : (z : ℤ) → wrap 64 (wrap 128 z) ≡ wrap 64 z
 cut_to_64 z = wrap-wrap 64 128 z (lit< tt) (lit≤ tt)
 
-pub added_64 : (a b : ℤ) → wrap 64 (wrap 64 a +ℤ b) ≡ wrap 64 (a +ℤ b)
-added_64 a b = wrap-add_left 64 a b (lit< tt)
-
-pub none_64 : wrap 64 (pos 0) ≡ pos 0
-none_64 = fits_64 (pos 0) (omega (arith, ints))
-
 -- a product of 32 bits each
 pub term_bound : (x y : ℤ) → SFits w32 x → SFits w32 y → unsigned_abs (x *ℤ y) ≤ 2 ^ 62
 term_bound x y fits_x fits_y =
@@ -151,8 +145,6 @@ pub ruleset delta_sum_calls = (
   added_128,
   fits_128,
   cut_to_64,
-  added_64,
-  none_64,
   term_bound,
   exact_term,
   sum_starts,
