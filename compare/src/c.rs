@@ -334,6 +334,7 @@ others! {
     font_tag_validate(*const u8, usize, &mut u32) -> u32;
     font_tag_to_text(u32, *mut u8, usize) -> usize;
     font_checked_delta_sum(*const i32, usize, *const i32, usize, &mut i64) -> u32;
+    font_delta_set_sum(*const i32, usize, *const u8, usize, usize, &mut i64) -> u32;
     font_vary(i16, *const i32, usize, *const i32, usize, &mut i64) -> u32;
 }
 
@@ -484,6 +485,25 @@ fn sums(random: &mut Random, calls: &mut Calls) {
     let status = unsafe { font_checked_delta_sum(x, n, d, m, &mut sum) };
     let exact = checked_delta_sum(&terms).map(|sum| sum.to_bits());
     calls.judge((status, sum), rust(exact), example);
+    let words = random.below(n as u64 + 2) as usize;
+    let set = deltas.iter().zip(0..).flat_map(|(delta, i)| {
+        let bytes = (*delta as i16).to_be_bytes();
+        bytes[usize::from(i >= words)..].to_vec()
+    });
+    let set: Vec<u8> = set.collect();
+    let mut sum = KEPT.into();
+    let status = unsafe { font_delta_set_sum(x, n, set.as_ptr(), set.len(), words, &mut sum) };
+    let narrow = |(i, (scalar, delta)): (usize, &(Fixed, i32))| match i < words {
+        true => (*scalar, i32::from(*delta as i16)),
+        false => (*scalar, i32::from(*delta as i8)),
+    };
+    let exact = checked_delta_sum(&terms.iter().enumerate().map(narrow).collect::<Vec<_>>());
+    let found = match exact.map(|sum| sum.to_bits()) {
+        _ if words > n || set.len() != n + words => (1, KEPT.into()),
+        Some(sum) => (0, sum),
+        None => (2, KEPT.into()),
+    };
+    calls.judge((status, sum), found, example);
     let mut moved = KEPT.into();
     let status = unsafe { font_vary(base, x, n, d, m, &mut moved) };
     let varied = vary(FWord::new(base), &terms).and_then(|moved| i64::try_from(moved).ok());

@@ -3,6 +3,14 @@
 //! Scalars and their big-endian bytes.
 
 /// A fixed-size big-endian byte array.
+///
+/// # Laws
+///
+/// Rattle proves these of every implementation; rustc checks none of them.
+///
+/// - `from_slice` accepts exactly the slices of `LEN` bytes.
+/// - `as_slice` returns `LEN` bytes, those that `from_slice` was given.
+/// - Arrays with equal bytes are the same value.
 pub trait BeByteArray: Copy {
     /// The number of bytes.
     const LEN: usize;
@@ -79,6 +87,12 @@ impl<const N: usize> BeByteArray for [u8; N] {
 /// use font_types_proved::{FixedSize, Offset24};
 /// assert_eq!(Offset24::RAW_BYTE_LEN, 3);
 /// ```
+///
+/// # Laws
+///
+/// Rattle proves this of every [`Scalar`]; rustc does not check it.
+///
+/// - A value has `RAW_BYTE_LEN` raw bytes.
 pub trait FixedSize: Sized {
     /// The encoded size, in bytes.
     const RAW_BYTE_LEN: usize;
@@ -93,6 +107,13 @@ pub trait FixedSize: Sized {
 /// assert_eq!(u16::read(&[0x01, 0x00]), Some(256));
 /// assert_eq!(u16::read(&[0x01]), None);
 /// ```
+///
+/// # Laws
+///
+/// Rattle proves these of every implementation; rustc checks none of them.
+///
+/// - `from_raw(value.to_raw())` is `value`, and `from_raw(raw).to_raw()` is `raw`.
+/// - `Raw::LEN` equals `RAW_BYTE_LEN`.
 pub trait Scalar: FixedSize {
     /// The raw bytes.
     type Raw: BeByteArray;
@@ -150,7 +171,13 @@ pub trait Scalar: FixedSize {
     }
 }
 
-/// A scalar whose `==` is identity: `a == b` if and only if they are the same value.
+/// A scalar whose `==` is identity.
+///
+/// # Laws
+///
+/// Rattle proves this of every implementation; rustc does not check it.
+///
+/// - `a == b` if and only if they are the same value, with the same raw bytes.
 pub trait IdentityEq: Eq {}
 
 impl FixedSize for u8 {

@@ -6,6 +6,12 @@ use crate::font_base::big_endian::BigEndian;
 use core::marker::PhantomData;
 
 /// A fixed-size header at the start of a table.
+///
+/// # Laws
+///
+/// Rattle proves this of every implementation; rustc does not check it.
+///
+/// - `decode` returns a header for any `BYTE_LEN` bytes: it does not panic.
 pub trait TableHeader: Sized {
     /// The size of the header, in bytes.
     const BYTE_LEN: usize;

@@ -39,6 +39,11 @@ pub struct Matrix<T> {
 }
 
 /// A type of matrix elements.
+///
+/// # Laws
+///
+/// None that Rattle proves either: that `ZERO` and `ONE` are neutral, so that the identity matrix
+/// is one, is a law of [`RingElement`](crate::RingElement).
 pub trait MatrixElement: Copy + Add<Output = Self> + Mul<Output = Self> {
     /// The value 0.
     const ZERO: Self;

@@ -8,4 +8,13 @@ use crate::font_geom::MatrixElement;
 ///
 /// Products of matrices over such elements are associative, and `(a * b) * p` equals `a * (b * p)`.
 /// `Fixed` is not one, because its products are rounded.
+///
+/// # Laws
+///
+/// Rattle proves these of every implementation; rustc checks none of them.
+///
+/// - `+` and `*` accept all values: they do not panic.
+/// - `+` is associative and commutative, and `x + ZERO` is `x`.
+/// - `*` is associative and distributes over `+` on both sides. On both sides a product with `ONE`
+///   is the other factor, and one with `ZERO` is `ZERO`.
 pub trait RingElement: MatrixElement {}

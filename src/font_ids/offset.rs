@@ -330,6 +330,12 @@ impl Scalar for Offset32 {
 impl IdentityEq for Offset32 {}
 
 /// An offset that can be [`Nullable`].
+///
+/// # Laws
+///
+/// Rattle proves this of every implementation; rustc does not check it.
+///
+/// - `NULL.value_u32()` is 0.
 pub trait OffsetValue: Copy {
     /// The null offset, 0.
     const NULL: Self;

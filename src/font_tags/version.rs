@@ -268,6 +268,13 @@ impl Scalar for MajorMinor {
 impl IdentityEq for MajorMinor {}
 
 /// Compatibility of table versions.
+///
+/// # Laws
+///
+/// Rattle proves this of every implementation; rustc does not check it.
+///
+/// - `compatible` returns `true` if and only if the two versions are compatible as the
+///   implementation defines it, and it does not panic.
 pub trait Compatible<Rhs = Self>: Sized {
     /// Returns `true` if the major numbers are equal and this minor number is at least the other's.
     ///

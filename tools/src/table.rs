@@ -41,6 +41,7 @@ pub fn row(line: &str) -> String {
         "tag" => (2, tag(words[1])),
         "sum" => return sum(&words),
         "vary" => return vary(&words),
+        "set" => return set(&words),
         _ => return line.into(),
     };
     format!("{} {answer}", words[..questions].join(" "))
@@ -225,6 +226,30 @@ fn sum(words: &[&str]) -> String {
     let sum = sum_of(&words[4..]);
     let (status, sum) = stored(64, sum);
     format!("sum {status} {sum} {}", words[3..].join(" "))
+}
+
+// The set is hexadecimal: deltas of four digits, as many as words, and then of two.
+fn set(words: &[&str]) -> String {
+    let (asked, scalars) = (words[3..].join(" "), &words[6..]);
+    let (digits, count) = (words[4].trim_matches('-'), integer(words[3]));
+    let delta = |index: i128| {
+        let (start, width) = match index < count {
+            true => (4 * index, 16),
+            false => (2 * (count + index), 8),
+        };
+        let digits = digits.get(start as usize..(start + width / 4) as usize)?;
+        let value = i128::from_str_radix(digits, 16).ok()?;
+        Some(exact::wrap(width as u32, value))
+    };
+    let products = (0..)
+        .zip(scalars)
+        .map(|(i, x)| Some(integer(x) * delta(i)?));
+    let whole = digits.len() as i128 == 2 * (count + scalars.len() as i128);
+    let sum = products.sum::<Option<i128>>();
+    match sum.filter(|_| whole && count <= scalars.len() as i128) {
+        Some(sum) => format!("set {} {asked}", spaced_pair(stored(64, sum))),
+        None => format!("set 1 {KEPT} {asked}"),
+    }
 }
 
 fn vary(words: &[&str]) -> String {

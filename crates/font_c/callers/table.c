@@ -467,6 +467,20 @@ static bool vary_line(const words *line) {
            && moved == 7;
 }
 
+/* set STATUS SUM WORDS BYTES COUNT, and a scalar for each delta, where the place has 7 before */
+static bool set_line(const words *line) {
+    uint8_t set[MOST_WORDS];
+    size_t length = strcmp(line->word[4], "-") == 0 ? 0 : bytes_of(line->word[4], set);
+    int32_t scalars[MOST_WORDS] = {0};
+    size_t count = (size_t)number(line, 5);
+    for (size_t i = 0; i < count; i++)
+        scalars[i] = (int32_t)number(line, 6 + (int)i);
+    size_t word_count = (size_t)strtoull(line->word[3], NULL, 10);
+    int64_t sum = 7;
+    font_sum_status status = font_delta_set_sum(scalars, count, set, length, word_count, &sum);
+    return (int)status == number(line, 1) && sum == number(line, 2);
+}
+
 /* nulls STATUS STATUS STATUS SUM BASE MOVED: null pointers with the length 0. The statuses are those
    of making a tag, of judging one and of the empty sum, and the places have 7 before. */
 static bool nulls_line(const words *line) {
@@ -522,6 +536,7 @@ static const kind kinds[] = {
     {"tag", tag_line, 20},
     {"sum", sum_line, 14},
     {"vary", vary_line, 23},
+    {"set", set_line, 11},
     {"nulls", nulls_line, 1},
 };
 

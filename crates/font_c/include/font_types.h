@@ -385,6 +385,15 @@ FONT_REPORT(font_sum_status)
 font_checked_delta_sum(const int32_t *scalars, size_t scalar_count, const int32_t *deltas,
                        size_t delta_count, int64_t *sum) FONT_API_NOEXCEPT;
 
+/*
+ * The same sum over a delta set of an item variation store: `word_count` big-endian
+ * deltas of 16 bits, followed by deltas of 8 bits. FONT_OTHER_LENGTH unless there
+ * are as many deltas as scalars.
+ */
+FONT_REPORT(font_sum_status)
+font_delta_set_sum(const int32_t *scalars, size_t scalar_count, const uint8_t *set,
+                   size_t set_length, size_t word_count, int64_t *sum) FONT_API_NOEXCEPT;
+
 /* `base` font units plus that sum, in 48.16. */
 FONT_REPORT(font_sum_status)
 font_vary(int16_t base, const int32_t *scalars, size_t scalar_count, const int32_t *deltas,

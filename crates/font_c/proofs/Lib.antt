@@ -1,3 +1,4 @@
 pub mod Texts
 mod Readings
 mod Sums
+mod DeltaSets

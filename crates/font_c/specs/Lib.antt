@@ -7,3 +7,4 @@ pub mod Matrices
 pub mod Sums
 pub mod Exact
 pub mod Fields
+pub mod DeltaSets

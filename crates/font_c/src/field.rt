@@ -1,5 +1,5 @@
 //! Big-endian fields at byte offsets.
-#![tactic(auto, using(font_types::proofs::Callers::scalar_calls))]
+#![tactic(auto, using(font_types::proofs::Callers::calls))]
 
 ghost use Rattle.std.specs.Prelude.{◌≡◌, ◌↔◌, ◌+◌, ◌<◌, ◌≤◌, pos, length, take, drop, IsSome, IfSome};
 ghost use Rattle.font_types.specs.Bytes.{numeral, signed_numeral};
@@ -14,7 +14,8 @@ const IN_BOUNDS: u32 = 0;
 // The field is not within the bytes.
 const OUT_OF_BOUNDS: u32 = 1;
 
-fn value_at<T: Scalar>(bytes: &[u8], offset: usize) -> Option<T>
+/// The value at a byte offset, or `None` if it is out of bounds.
+pub fn value_at<T: Scalar>(bytes: &[u8], offset: usize) -> Option<T>
     ensures within { IsSome result ↔ (offset + T.RAW_BYTE_LEN ≤ length bytes.now) }
     ensures value { IfSome result (λ v.
         IsValueOf T.Raw.bytes T.of_raw (take T.RAW_BYTE_LEN (drop offset bytes.now)) v) }
@@ -24,6 +25,7 @@ fn value_at<T: Scalar>(bytes: &[u8], offset: usize) -> Option<T>
     T::read(field)
 }
 
+// The three bytes at an offset, or `None` if they are out of bounds.
 fn three_bytes_at(bytes: &[u8], offset: usize) -> Option<[u8; 3]>
     ensures within { IsSome result ↔ (offset + 3 ≤ length bytes.now) }
     ensures value { IfSome result (λ field. field ≡ take 3 (drop offset bytes.now)) }

@@ -6,6 +6,7 @@
 #![tactic(auto)]
 
 mod delta;
+mod delta_set;
 mod f26dot6;
 mod f2dot14;
 mod f2dot30;

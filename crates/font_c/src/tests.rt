@@ -1,4 +1,5 @@
 //! Each export, called by values that were worked out by hand.
 
+mod arithmetic;
 mod numbers;
 mod others;

@@ -21,6 +21,8 @@ const POINT: FontPoint = FontPoint {
     y: ONE / 2,
 };
 
+const TURN_OF_ORIGIN: FontPoint = FontPoint { x: ONE, y: 2 * ONE };
+
 // Whether a point is the one of these coordinates.
 fn is_at(point: FontPoint, (x, y): (i32, i32)) -> bool {
     point.x == x && point.y == y
@@ -34,6 +36,16 @@ fn a_turn_and_two(rt: HostRuntime) {
     assert!(rt; half_turn.dx == -ONE && half_turn.dy == 3 * ONE);
     assert!(rt; is_at(font_matrix_composed(TURN, TURN, POINT), twice));
     assert!(rt; is_at(font_matrix_in_turn(TURN, TURN, POINT), twice));
+}
+
+#[test]
+fn vectors_and_arrays(rt: HostRuntime) {
+    assert!(rt; is_at(font_matrix_vector(TURN, POINT), (-ONE / 2, 3 * ONE)));
+    let mut points = [POINT, TURN_OF_ORIGIN, POINT];
+    font_matrix_images(&TURN, &mut points[..2]);
+    let [first, second, third] = points;
+    assert!(rt; is_at(first, (ONE / 2, 5 * ONE)) && is_at(second, (-ONE, 3 * ONE)));
+    assert!(rt; is_at(third, (3 * ONE, ONE / 2)));
 }
 
 #[test]

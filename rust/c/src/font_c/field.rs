@@ -10,12 +10,14 @@ const IN_BOUNDS: u32 = 0;
 // The field is not within the bytes.
 const OUT_OF_BOUNDS: u32 = 1;
 
-fn value_at<T: Scalar>(bytes: &[u8], offset: usize) -> Option<T> {
+/// The value at a byte offset, or `None` if it is out of bounds.
+pub fn value_at<T: Scalar>(bytes: &[u8], offset: usize) -> Option<T> {
     let (_, rest) = bytes.split_at_checked(offset)?;
     let (field, _) = rest.split_at_checked(T::RAW_BYTE_LEN)?;
     T::read(field)
 }
 
+// The three bytes at an offset, or `None` if they are out of bounds.
 fn three_bytes_at(bytes: &[u8], offset: usize) -> Option<[u8; 3]> {
     let (_, rest) = bytes.split_at_checked(offset)?;
     let (field, _) = rest.split_at_checked(3)?;

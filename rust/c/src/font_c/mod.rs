@@ -7,6 +7,7 @@
 //! kept between calls, and nothing is allocated. `include/font_types.h` declares the exports.
 
 mod delta;
+mod delta_set;
 mod f26dot6;
 mod f2dot14;
 mod f2dot30;

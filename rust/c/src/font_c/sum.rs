@@ -8,7 +8,7 @@ use crate::font_types::{F48Dot16, FWord, Fixed};
 pub const SUMMED: u32 = 0;
 
 /// There are not as many scalars as deltas.
-const OTHER_LENGTH: u32 = 1;
+pub const OTHER_LENGTH: u32 = 1;
 
 /// The sum is out of range.
 pub const SUM_OUT_OF_RANGE: u32 = 2;
@@ -76,6 +76,7 @@ fn summed_products(scalars: &[i32], deltas: &[i32]) -> i128 {
     sum
 }
 
-fn exact_product(scalar: i32, delta: i32) -> i64 {
+/// The exact product of a 16.16 scalar and a delta, in 48.16.
+pub fn exact_product(scalar: i32, delta: i32) -> i64 {
     Fixed::from_bits(scalar).mul_i32(delta).to_bits()
 }
