@@ -1,6 +1,8 @@
 -- A sum of products over two lists of one length, item by item.
 use Rattle.std.proofs.Common.{◌≡◌, ◌∙◌, ap, ℕ, ◌+◌, ◌<◌, ◌≤◌, List, length, take, get_or, ℤ, pos, ◌+ℤ◌, ◌*ℤ◌, arith}
-use Rattle.std.proofs.Common.{fold, take_all}
+use Rattle.std.proofs.Common.{◌*◌, ◌^◌, sym, unsigned_abs, fold, take_all}
+use Rattle.std.proofs.lemmas.Int.{ints}
+use Rattle.font_types.specs.Wrap.{FitsBits}
 use Rattle.std.specs.List.{zip}
 use Rattle.std.proofs.lemmas.List.Sums.{fold_more}
 use Rattle.std.proofs.lemmas.Slice.Zip.{length-zip, get_or-zip}
@@ -14,17 +16,23 @@ plus_product sum term = sum +ℤ (term.0 *ℤ term.1)
 abbrev pub sum_of_first : ℕ → List ℤ → List ℤ → ℤ
 sum_of_first n xs ys = fold plus_product (pos 0) (take n (zip xs ys))
 
-pub sum_of_next : (xs ys : List ℤ) (n : ℕ) → length xs ≡ length ys → n < length xs
-    → sum_of_first (n + 1) xs ys
-    ≡ (sum_of_first n xs ys +ℤ (get_or xs n (pos 0) *ℤ get_or ys n (pos 0)))
-sum_of_next xs ys n same within =
-    let in_ys : n < length ys = omega arith in
-    let in_zip : n < length (zip xs ys) = omega (arith, length-zip xs ys) in
-    fold_more plus_product (pos 0) (zip xs ys) n (pos 0, pos 0) in_zip
-    ∙ ap (plus_product (sum_of_first n xs ys)) (get_or-zip xs ys n (pos 0, pos 0) within in_ys)
+pub sum_of_all : (xs ys : List ℤ) (n : ℕ) → length xs ≡ length ys → length xs ≤ n
+    → sum_of_first n xs ys ≡ sum_of_products xs ys
+sum_of_all xs ys n same all =
+    ap (fold plus_product (pos 0)) (take_all n (zip xs ys) (omega (arith, length-zip xs ys)))
 
-pub sum_of_all : (xs ys : List ℤ) → length xs ≡ length ys
-    → sum_of_first (length xs) xs ys ≡ sum_of_products xs ys
-sum_of_all xs ys same =
-    let no_more : length (zip xs ys) ≤ length xs = omega (arith, length-zip xs ys) in
-    ap (fold plus_product (pos 0)) (take_all (length xs) (zip xs ys) no_more)
+-- 128 bits hold the sum with one product more
+pub sum_grows : (xs ys : List ℤ) (n : ℕ) (sum term next : ℤ) → length xs ≡ length ys → n < length xs → n < 2 ^ 64
+    → (sum ≡ sum_of_first n xs ys) × (unsigned_abs sum ≤ n * 2 ^ 62)
+    → term ≡ (get_or xs n (pos 0) *ℤ get_or ys n (pos 0)) → unsigned_abs term ≤ 2 ^ 62
+    → (FitsBits 128 (sum +ℤ term) → next ≡ (sum +ℤ term))
+    → (next ≡ sum_of_first (n + 1) xs ys) × (unsigned_abs next ≤ (n + 1) * 2 ^ 62)
+sum_grows xs ys n sum term next same within few so_far is small exact =
+    let far = so_far.1 in
+    let added = exact (record { low = omega (arith, ints, far, small); high = omega (arith, ints, far, small) }) in
+    let here = get_or-zip xs ys n (pos 0, pos 0) within (omega arith) in (
+      added ∙ ap (λ z. z +ℤ term) so_far.0 ∙ ap (λ z. sum_of_first n xs ys +ℤ z) is
+          ∙ sym (fold_more plus_product (pos 0) (zip xs ys) n (pos 0, pos 0) (omega (arith, length-zip xs ys))
+          ∙ ap (plus_product (sum_of_first n xs ys)) here),
+      omega (arith, ints, far, small, added),
+    )

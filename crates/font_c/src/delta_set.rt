@@ -1,10 +1,11 @@
 //! Sums over delta sets of item variation stores.
 
-ghost use Rattle.std.specs.Prelude.{◌≡◌, ◌≢◌, ◌+◌, ◌<◌, length};
+ghost use Rattle.std.specs.Prelude.{◌≡◌, ◌≢◌, ◌+◌, ◌<◌, ◌*ℤ◌, length};
 ghost use Rattle.font_c.specs.DeltaSets.{delta_at, IsSet, IsSetSummed, set_sum};
 
 use crate::field::value_at;
-use crate::sum::{OTHER_LENGTH, SUM_OUT_OF_RANGE, SUMMED, exact_product};
+use crate::sum::{OTHER_LENGTH, SUM_OUT_OF_RANGE, SUMMED};
+use font_types::Fixed;
 
 /// Adds up the products of 16.16 scalars and the deltas of a delta set, which has `word_count` deltas
 /// of 16 bits, followed by deltas of 8 bits: 0 and the 48.16 sum in `sum`, 1 if there are not as many
@@ -40,6 +41,13 @@ fn summed(scalars: &[i32], set: &[u8], word_count: usize) -> i128
         sum += i128::from(exact_product(scalars[i], delta(set, word_count, i)));
     }
     sum
+}
+
+// The exact product of a 16.16 scalar and a delta, in 48.16.
+fn exact_product(scalar: i32, delta: i32) -> i64
+    ensures { result ≡ (scalar *ℤ delta) }
+{
+    Fixed::from_bits(scalar).mul_i32(delta).to_bits()
 }
 
 // The delta at an index.

@@ -3,7 +3,8 @@
 //! Sums over delta sets of item variation stores.
 
 use crate::font_c::field::value_at;
-use crate::font_c::sum::{OTHER_LENGTH, SUM_OUT_OF_RANGE, SUMMED, exact_product};
+use crate::font_c::sum::{OTHER_LENGTH, SUM_OUT_OF_RANGE, SUMMED};
+use crate::font_types::Fixed;
 
 /// Adds up the products of 16.16 scalars and the deltas of a delta set, which has `word_count` deltas
 /// of 16 bits, followed by deltas of 8 bits: 0 and the 48.16 sum in `sum`, 1 if there are not as many
@@ -36,6 +37,11 @@ fn summed(scalars: &[i32], set: &[u8], word_count: usize) -> i128 {
         sum += i128::from(exact_product(scalars[i], delta(set, word_count, i)));
     }
     sum
+}
+
+// The exact product of a 16.16 scalar and a delta, in 48.16.
+fn exact_product(scalar: i32, delta: i32) -> i64 {
+    Fixed::from_bits(scalar).mul_i32(delta).to_bits()
 }
 
 // The delta at an index.

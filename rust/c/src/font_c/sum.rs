@@ -2,7 +2,7 @@
 
 //! Sums of deltas.
 
-use crate::font_types::{F48Dot16, FWord, Fixed};
+use crate::font_types::{DeltaSum, F48Dot16, FWord, Fixed};
 
 /// The sum is stored.
 pub const SUMMED: u32 = 0;
@@ -28,10 +28,10 @@ pub unsafe extern "C" fn font_checked_delta_sum(
     if scalars.len() != deltas.len() {
         return OTHER_LENGTH;
     }
-    let Some(units) = sum_in_range(scalars, deltas) else {
+    let Some(exact) = sum_in_range(scalars, deltas) else {
         return SUM_OUT_OF_RANGE;
     };
-    *sum = units;
+    *sum = exact.to_bits();
     SUMMED
 }
 
@@ -54,29 +54,18 @@ pub unsafe extern "C" fn font_vary(
     let Some(sum) = sum_in_range(scalars, deltas) else {
         return SUM_OUT_OF_RANGE;
     };
-    let Ok(units) = i64::try_from(FWord::new(base).apply_delta(F48Dot16::from_bits(sum))) else {
+    let Ok(units) = i64::try_from(FWord::new(base).apply_delta(sum)) else {
         return SUM_OUT_OF_RANGE;
     };
     *moved = units;
     SUMMED
 }
 
-// The exact sum of the products, or `None` where 64 bits do not hold it.
-fn sum_in_range(scalars: &[i32], deltas: &[i32]) -> Option<i64> {
-    i64::try_from(summed_products(scalars, deltas)).ok()
-}
-
-// The exact sum of the products, item by item. 128 bits hold every partial sum of fewer than 2^64
-// products of 64 bits.
-fn summed_products(scalars: &[i32], deltas: &[i32]) -> i128 {
-    let mut sum = 0i128;
+// Returns the exact sum of the products, item by item, or `None` if it does not fit in 64 bits.
+fn sum_in_range(scalars: &[i32], deltas: &[i32]) -> Option<F48Dot16> {
+    let mut sum = DeltaSum::new();
     for i in 0..scalars.len() {
-        sum += i128::from(exact_product(scalars[i], deltas[i]));
+        sum.add(Fixed::from_bits(scalars[i]), deltas[i]);
     }
-    sum
-}
-
-/// The exact product of a 16.16 scalar and a delta, in 48.16.
-pub fn exact_product(scalar: i32, delta: i32) -> i64 {
-    Fixed::from_bits(scalar).mul_i32(delta).to_bits()
+    sum.checked_finish()
 }
