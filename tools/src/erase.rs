@@ -146,15 +146,13 @@ impl<'a> Eraser<'a> {
         while self.words[at..].starts_with(&["#", "!"]) {
             at = self.attribute(at, at + 2)?;
         }
-        if self.of.target == Target::Program && !self.words.is_empty() {
-            let is_used = |name: &&&str| self.words.contains(name);
-            let names: Vec<&str> = PRELUDE.iter().filter(is_used).copied().collect();
-            if !names.is_empty() {
-                let import = format!("use crate::rattle::{{{}}};\n", names.join(", "));
-                let front = &self.tokens[..self.places[at]];
-                let docs = front.iter().position(|token| token.kind == Kind::Doc);
-                self.put[docs.unwrap_or(self.places[at])].push_str(&import);
-            }
+        let is_used = |name: &&&str| self.words.contains(name);
+        let names: Vec<&str> = PRELUDE.iter().filter(is_used).copied().collect();
+        if self.of.target == Target::Program && !names.is_empty() {
+            let import = format!("use crate::rattle::{{{}}};\n", names.join(", "));
+            let is_import = |n: &usize| self.words[*n] == "use" && self.words[n - 1] != "ghost";
+            let first = (at + 1..self.words.len()).find(is_import).unwrap_or(at);
+            self.put(first, import);
         }
         Ok(at)
     }

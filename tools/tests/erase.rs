@@ -146,7 +146,7 @@ fn program_and_exports() {
     leaves(
         &PROGRAM,
         r#"
-//! A.¶¶/// B.¶use std::alloc::AllocError;¶fn main(rt: HostRuntime) {} => //! A.¶¶use crate::rattle::{HostRuntime};¶/// B.¶use crate::rattle::alloc::AllocError;¶pub fn main(rt: HostRuntime) {}
+//! A.¶¶mod b;¶use std::alloc::AllocError;¶fn main(rt: HostRuntime) {} => //! A.¶¶mod b;¶use crate::rattle::{HostRuntime};¶use crate::rattle::alloc::AllocError;¶pub fn main(rt: HostRuntime) {}
 use std::fmt;¶use font_types::Tag; => use std::fmt;¶use font_types_proved::Tag;
 "#,
     );

@@ -2,11 +2,10 @@
 
 //! The answers to lines, as text.
 
-use crate::rattle::String;
-
 use crate::fontval::command::Command;
 use crate::fontval::refusal::{Refusal, Unanswered};
 use crate::fontval::text::{Lines, Words};
+use crate::rattle::String;
 use crate::rattle::alloc::{AllocError, Allocator};
 
 /// The answers to the lines of an input, each followed by a line feed.

@@ -2,8 +2,6 @@
 
 //! The commands, and what they answer.
 
-use crate::rattle::String;
-
 use crate::fontval::images::Images;
 use crate::fontval::judgement::Judgement;
 use crate::fontval::numbers::{fixed_numbers, in_pairs, terms, whole_number_16};
@@ -11,6 +9,7 @@ use crate::fontval::output::{append, append_read};
 use crate::fontval::parse::{hexadecimal, two_words};
 use crate::fontval::refusal::{Refusal, Unanswered};
 use crate::fontval::text::Words;
+use crate::rattle::String;
 use crate::rattle::alloc::Allocator;
 use font_types_proved::{
     F2Dot14, F2Dot30, F4Dot12, F6Dot10, F26Dot6, F48Dot16, FWord, Fixed, Int24, Scalar, Tag,

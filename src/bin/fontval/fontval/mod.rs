@@ -3,7 +3,6 @@
 //! `fontval` reads lines of commands from standard input to its end, and writes an answer to each
 //! on standard output. It takes no arguments.
 
-use crate::rattle::HostRuntime;
 mod answers;
 mod command;
 mod device;
@@ -17,6 +16,7 @@ mod refusal;
 mod serve;
 mod text;
 
+use crate::rattle::HostRuntime;
 use crate::rattle::io;
 use device::{FromRead, FromWrite};
 use ending::ending;

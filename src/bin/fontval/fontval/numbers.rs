@@ -2,10 +2,9 @@
 
 //! The numbers that the words of a line are read as.
 
-use crate::rattle::Vec;
-
 use crate::fontval::refusal::{Refusal, Unanswered};
 use crate::fontval::text::Words;
+use crate::rattle::Vec;
 use crate::rattle::alloc::Allocator;
 use font_types_proved::Fixed;
 

@@ -2,10 +2,9 @@
 
 //! What a command appends to the output.
 
-use crate::rattle::{String, hex};
-
 use crate::fontval::refusal::Unanswered;
 use crate::rattle::alloc::Allocator;
+use crate::rattle::{String, hex};
 use font_types_proved::{DecimalFault, Scalar};
 use std::fmt::Display;
 

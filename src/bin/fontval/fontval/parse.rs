@@ -2,10 +2,9 @@
 
 //! What a command makes of its words.
 
-use crate::rattle::hex;
-
 use crate::fontval::refusal::Refusal;
 use crate::fontval::text::Words;
+use crate::rattle::hex;
 
 // The word of a command that takes one.
 fn only_word(mut words: Words<'_>) -> Result<&[u8], Refusal> {

@@ -2,10 +2,9 @@
 
 //! The work of the program: all input is read, all answers are made, and then they are written.
 
-use crate::rattle::Vec;
-
 use crate::fontval::answers::answers;
 use crate::fontval::device::{Sink, Source};
+use crate::rattle::Vec;
 use crate::rattle::alloc::Allocator;
 
 /// Why a source was not served.
