@@ -166,7 +166,7 @@ impl<T: Scalar> FixedSize for BigEndian<T> {
 ///
 /// ```text
 /// from_gives = { λ value field. (raw_value field ≡ T.raw_of value)
-///        × (T.of_raw (raw_value field) ≡ value) }
+///     × (T.of_raw (raw_value field) ≡ value) }
 /// ```
 ///
 /// Defined:

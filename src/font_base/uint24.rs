@@ -222,8 +222,8 @@ impl core::fmt::Display for TryFromUint24Error {
 ///
 /// ```text
 /// try_from_gives = { λ number result. MatchResult result
-///        (λ n. uint24_number n ≡ number)
-///        (λ _. UINT24_MAX < number) }
+///     (λ n. uint24_number n ≡ number)
+///     (λ _. UINT24_MAX < number) }
 /// ```
 ///
 /// Defined:

@@ -509,7 +509,7 @@ impl Neg for F26Dot6 {
 ///
 /// ```text
 /// mul_gives = { λ x y product.
-///        IsProduct 32 6 (bits_of x) (bits_of y) (bits_of product) }
+///     IsProduct 32 6 (bits_of x) (bits_of y) (bits_of product) }
 /// ```
 ///
 /// Defined:
@@ -531,7 +531,7 @@ impl Mul for F26Dot6 {
 ///
 /// ```text
 /// mul_assign_gives = { λ x y product.
-///        IsProduct 32 6 (bits_of x) (bits_of y) (bits_of product) }
+///     IsProduct 32 6 (bits_of x) (bits_of y) (bits_of product) }
 /// ```
 ///
 /// Defined:
@@ -553,7 +553,7 @@ impl MulAssign for F26Dot6 {
 ///
 /// ```text
 /// div_gives = { λ x y quotient.
-///        IsQuotient 32 6 (bits_of x) (bits_of y) (bits_of quotient) }
+///     IsQuotient 32 6 (bits_of x) (bits_of y) (bits_of quotient) }
 /// ```
 ///
 /// Defined:
@@ -575,7 +575,7 @@ impl Div for F26Dot6 {
 ///
 /// ```text
 /// div_assign_gives = { λ x y quotient.
-///        IsQuotient 32 6 (bits_of x) (bits_of y) (bits_of quotient) }
+///     IsQuotient 32 6 (bits_of x) (bits_of y) (bits_of quotient) }
 /// ```
 ///
 /// Defined:

@@ -677,7 +677,7 @@ impl Neg for Fixed {
 ///
 /// ```text
 /// mul_gives = { λ x y product.
-///        IsProduct 32 16 (bits_of x) (bits_of y) (bits_of product) }
+///     IsProduct 32 16 (bits_of x) (bits_of y) (bits_of product) }
 /// ```
 ///
 /// Defined:
@@ -699,7 +699,7 @@ impl Mul for Fixed {
 ///
 /// ```text
 /// mul_assign_gives = { λ x y product.
-///        IsProduct 32 16 (bits_of x) (bits_of y) (bits_of product) }
+///     IsProduct 32 16 (bits_of x) (bits_of y) (bits_of product) }
 /// ```
 ///
 /// Defined:
@@ -721,7 +721,7 @@ impl MulAssign for Fixed {
 ///
 /// ```text
 /// div_gives = { λ x y quotient.
-///        IsQuotient 32 16 (bits_of x) (bits_of y) (bits_of quotient) }
+///     IsQuotient 32 16 (bits_of x) (bits_of y) (bits_of quotient) }
 /// ```
 ///
 /// Defined:
@@ -743,7 +743,7 @@ impl Div for Fixed {
 ///
 /// ```text
 /// div_assign_gives = { λ x y quotient.
-///        IsQuotient 32 16 (bits_of x) (bits_of y) (bits_of quotient) }
+///     IsQuotient 32 16 (bits_of x) (bits_of y) (bits_of quotient) }
 /// ```
 ///
 /// Defined:

@@ -235,7 +235,7 @@ impl<T: MatrixElement> MulAssign for Matrix<T> {
 ///
 /// ```text
 /// mul_gives = { λ matrix p moved.
-///        IsTransformed T.mul_gives T.add_gives matrix p.x p.y moved.x moved.y }
+///     IsTransformed T.mul_gives T.add_gives matrix p.x p.y moved.x moved.y }
 /// ```
 ///
 /// Defined:

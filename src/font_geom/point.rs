@@ -104,7 +104,7 @@ impl<T: Add<Output = T>> Add for Point<T> {
 ///
 /// ```text
 /// add_assign_gives = { λ p q sum. T.add_assign_gives p.x q.x sum.x
-///        × T.add_assign_gives p.y q.y sum.y }
+///     × T.add_assign_gives p.y q.y sum.y }
 /// ```
 ///
 /// [How to read it](crate::contracts).
@@ -141,7 +141,7 @@ impl<T: Sub<Output = T>> Sub for Point<T> {
 ///
 /// ```text
 /// sub_assign_gives = { λ p q rest. T.sub_assign_gives p.x q.x rest.x
-///        × T.sub_assign_gives p.y q.y rest.y }
+///     × T.sub_assign_gives p.y q.y rest.y }
 /// ```
 ///
 /// [How to read it](crate::contracts).
@@ -158,7 +158,7 @@ impl<T: SubAssign> SubAssign for Point<T> {
 ///
 /// ```text
 /// mul_gives = { λ p q product. T.mul_gives p.x q.x product.x
-///        × T.mul_gives p.y q.y product.y }
+///     × T.mul_gives p.y q.y product.y }
 /// ```
 ///
 /// [How to read it](crate::contracts).
@@ -179,7 +179,7 @@ impl<T: Mul<Output = T>> Mul for Point<T> {
 ///
 /// ```text
 /// mul_gives = { λ p factor product. T.mul_gives p.x factor product.x
-///        × T.mul_gives p.y factor product.y }
+///     × T.mul_gives p.y factor product.y }
 /// ```
 ///
 /// [How to read it](crate::contracts).
@@ -200,7 +200,7 @@ impl<T: Mul<Output = T> + Copy> Mul<T> for Point<T> {
 ///
 /// ```text
 /// mul_assign_gives = { λ p q product. T.mul_assign_gives p.x q.x product.x
-///        × T.mul_assign_gives p.y q.y product.y }
+///     × T.mul_assign_gives p.y q.y product.y }
 /// ```
 ///
 /// [How to read it](crate::contracts).
@@ -217,7 +217,7 @@ impl<T: MulAssign> MulAssign for Point<T> {
 ///
 /// ```text
 /// mul_assign_gives = { λ p factor product. T.mul_assign_gives p.x factor product.x
-///        × T.mul_assign_gives p.y factor product.y }
+///     × T.mul_assign_gives p.y factor product.y }
 /// ```
 ///
 /// [How to read it](crate::contracts).
@@ -234,7 +234,7 @@ impl<T: MulAssign + Copy> MulAssign<T> for Point<T> {
 ///
 /// ```text
 /// div_gives = { λ p q quotient. T.div_gives p.x q.x quotient.x
-///        × T.div_gives p.y q.y quotient.y }
+///     × T.div_gives p.y q.y quotient.y }
 /// ```
 ///
 /// [How to read it](crate::contracts).
@@ -255,7 +255,7 @@ impl<T: Div<Output = T>> Div for Point<T> {
 ///
 /// ```text
 /// div_gives = { λ p divisor quotient. T.div_gives p.x divisor quotient.x
-///        × T.div_gives p.y divisor quotient.y }
+///     × T.div_gives p.y divisor quotient.y }
 /// ```
 ///
 /// [How to read it](crate::contracts).
@@ -276,7 +276,7 @@ impl<T: Div<Output = T> + Copy> Div<T> for Point<T> {
 ///
 /// ```text
 /// div_assign_gives = { λ p q quotient. T.div_assign_gives p.x q.x quotient.x
-///        × T.div_assign_gives p.y q.y quotient.y }
+///     × T.div_assign_gives p.y q.y quotient.y }
 /// ```
 ///
 /// [How to read it](crate::contracts).
@@ -293,7 +293,7 @@ impl<T: DivAssign> DivAssign for Point<T> {
 ///
 /// ```text
 /// div_assign_gives = { λ p divisor quotient. T.div_assign_gives p.x divisor quotient.x
-///        × T.div_assign_gives p.y divisor quotient.y }
+///     × T.div_assign_gives p.y divisor quotient.y }
 /// ```
 ///
 /// [How to read it](crate::contracts).

@@ -213,8 +213,8 @@ impl From<GlyphId16> for usize {
 ///
 /// ```text
 /// try_from_gives = { λ id result. MatchResult result
-///        (λ narrow. glyph16_number narrow ≡ glyph_number id)
-///        (λ error. (2 ^ 16 ≤ glyph_number id) × (refused_number error ≡ glyph_number id)) }
+///     (λ narrow. glyph16_number narrow ≡ glyph_number id)
+///     (λ error. (2 ^ 16 ≤ glyph_number id) × (refused_number error ≡ glyph_number id)) }
 /// ```
 ///
 /// Defined:
@@ -431,8 +431,8 @@ impl From<GlyphId24> for usize {
 ///
 /// ```text
 /// try_from_gives = { λ id result. MatchResult result
-///        (λ narrow. glyph24_number narrow ≡ glyph_number id)
-///        (λ error. (2 ^ 24 ≤ glyph_number id) × (refused_number error ≡ glyph_number id)) }
+///     (λ narrow. glyph24_number narrow ≡ glyph_number id)
+///     (λ error. (2 ^ 24 ≤ glyph_number id) × (refused_number error ≡ glyph_number id)) }
 /// ```
 ///
 /// Defined:

@@ -109,7 +109,7 @@ impl Version16Dot16 {
 ///
 /// ```text
 /// output = { λ version.
-///        Some (version_text (version_major version) (version_minor version)) }
+///     Some (version_text (version_major version) (version_minor version)) }
 /// ```
 ///
 /// Defined:

@@ -468,13 +468,12 @@ impl<'a> Eraser<'a> {
 
     // Adds a ghost item to the documentation of the `impl` that it is in.
     fn show_contract_of_impl(&mut self, item: usize, end: usize) {
-        let Some(start) = self
-            .impl_start
-            .filter(|_| self.of.target == Target::Library)
-        else {
+        let is_library = self.of.target == Target::Library;
+        let Some(start) = self.impl_start.filter(|_| is_library) else {
             return;
         };
-        let shown = self.defined.details(&[self.text(&(item + 1..end - 1))], "");
+        let text = self.text(&(item..end - 1)).replace("ghost ", "");
+        let shown = self.defined.details(&[text], "");
         let place = self.places[start];
         let is_documented = place > 1 && self.tokens[place - 2].kind == Kind::Doc;
         let shown = shown.strip_prefix("\n///").unwrap_or(&shown);
