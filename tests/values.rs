@@ -8,7 +8,9 @@ use font_types_proved::{
     vary,
 };
 use std::collections::BTreeSet;
+use std::fmt::Debug;
 use std::panic::catch_unwind;
+use std::str::FromStr;
 
 const TABLE: &str = include_str!("../crates/font_c/callers/values.txt");
 
@@ -23,14 +25,14 @@ fn lines(kind: &str) -> Vec<Vec<&'static str>> {
     lines
 }
 
-fn numbers<const N: usize>(words: &[&str]) -> [i32; N] {
-    let numbers: Vec<i32> = words.iter().map(|word| word.parse().unwrap()).collect();
+fn numbers<const N: usize, T: FromStr<Err: Debug> + Debug>(words: &[&str]) -> [T; N] {
+    let numbers: Vec<T> = words.iter().map(|word| word.parse().unwrap()).collect();
     numbers.try_into().unwrap()
 }
 
 /// How a line pads, or `None` where no `Pad` says it.
 fn pad(words: &[&str]) -> Option<Pad> {
-    let [width, fill, align, plus, zeros] = numbers(words);
+    let [width, fill, align, plus, zeros]: [i32; 5] = numbers(words);
     let aligns = [Align::Left, Align::Center, Align::Right];
     let fill = u8::try_from(fill).ok().filter(u8::is_ascii)?;
     Some(Pad {
@@ -101,7 +103,11 @@ macro_rules! of_fixed_point_types {
 include!("../tools/src/types.in");
 
 /// Goes over the lines of a kind, whose first numbers ask and whose others answer.
-fn answers<const Q: usize, const A: usize>(kind: &str, answer: impl Fn([i32; Q]) -> [i32; A]) {
+fn answers<const Q: usize, const A: usize, N, R>(kind: &str, answer: impl Fn([N; Q]) -> [R; A])
+where
+    N: FromStr<Err: Debug> + Debug,
+    R: FromStr<Err: Debug> + Debug + PartialEq,
+{
     for words in lines(kind) {
         let asked = numbers(&words[..Q]);
         assert_eq!(answer(asked), numbers(&words[Q..]), "{kind} {words:?}");
@@ -232,16 +238,13 @@ fn integers() {
         assert_eq!(bits.to_string(), words[2], "{words:?}");
     }
     answers("narrow_f26dot6", |[x]| [F26Dot6::from_bits(x).to_i32()]);
-    for words in lines("narrow_f48dot16") {
-        let x = F48Dot16::from_bits(words[0].parse().unwrap());
-        let narrowed = [x.to_i64(), x.to_i32().into(), x.to_fixed().to_bits().into()];
-        assert_eq!(narrowed.map(|n| n.to_string()), words[1..], "{words:?}");
-    }
-    for words in lines("mul_i32") {
-        let product =
-            Fixed::from_bits(words[0].parse().unwrap()).mul_i32(words[1].parse().unwrap());
-        assert_eq!(product.to_bits().to_string(), words[2], "{words:?}");
-    }
+    answers("narrow_f48dot16", |[x]| {
+        let x = F48Dot16::from_bits(x);
+        [x.to_i64(), x.to_i32().into(), x.to_fixed().to_bits().into()]
+    });
+    answers("mul_i32", |[x, n]| {
+        [Fixed::from_bits(x).mul_i32(n).to_bits()]
+    });
 }
 
 #[test]

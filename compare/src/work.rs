@@ -2,14 +2,8 @@
 
 use crate::random::Random;
 use crate::tally::Tally;
-use std::ops::Range;
-use std::sync::atomic::{AtomicU64, Ordering};
-use std::sync::mpsc::{self, RecvTimeoutError};
 use std::thread;
-use std::time::{Duration, Instant};
-
-const CHUNK: u64 = 1 << 14;
-const BETWEEN_LINES: Duration = Duration::from_secs(10);
+use std::time::Instant;
 
 /// How the work is done.
 pub struct Work {
@@ -25,8 +19,7 @@ pub struct Work {
 }
 
 impl Work {
-    /// Goes over the inputs 0 to `count - 1`, with a line on standard error every ten seconds, and
-    /// prints the counts.
+    /// Goes over the inputs 0 to `count - 1`, and prints the counts.
     pub fn go_over(
         &mut self,
         title: &str,
@@ -35,30 +28,20 @@ impl Work {
         compare: impl Fn(u64, &mut Tally) + Sync,
     ) {
         let start = Instant::now();
-        let chunks = Chunks::new(count);
+        let (threads, compare) = (self.threads, &compare);
         let mut total = Tally::new(names);
         thread::scope(|scope| {
-            let (sender, receiver) = mpsc::channel();
-            for _ in 0..self.threads {
-                let (sender, chunks, compare) = (sender.clone(), &chunks, &compare);
+            let worker = |first: usize| {
                 scope.spawn(move || {
                     let mut tally = Tally::new(names);
-                    while let Some(chunk) = chunks.next() {
-                        chunk.for_each(|index| compare(index, &mut tally));
-                    }
-                    // The receiver is there until every sender is gone.
-                    let _ = sender.send(tally);
-                });
-            }
-            drop(sender);
-            loop {
-                match receiver.recv_timeout(BETWEEN_LINES) {
-                    Ok(tally) => total.add(tally),
-                    Err(RecvTimeoutError::Timeout) => {
-                        eprintln!("{title}: {} of {count}", chunks.handed_out());
-                    }
-                    Err(RecvTimeoutError::Disconnected) => break,
-                }
+                    let inputs = (first as u64..count).step_by(threads);
+                    inputs.for_each(|index| compare(index, &mut tally));
+                    tally
+                })
+            };
+            let workers: Vec<_> = (0..threads).map(worker).collect();
+            for worker in workers {
+                total.add(worker.join().expect("no comparison panics"));
             }
         });
         self.compared += total.compared();
@@ -96,29 +79,6 @@ impl Work {
         self.go_over(title, names, count, |index, tally| {
             compare(&mut Random::of_input(seed, index), tally);
         });
-    }
-}
-
-struct Chunks {
-    next: AtomicU64,
-    count: u64,
-}
-
-impl Chunks {
-    fn new(count: u64) -> Self {
-        Self {
-            next: AtomicU64::new(0),
-            count,
-        }
-    }
-
-    fn next(&self) -> Option<Range<u64>> {
-        let start = self.next.fetch_add(CHUNK, Ordering::Relaxed);
-        (start < self.count).then(|| start..self.count.min(start + CHUNK))
-    }
-
-    fn handed_out(&self) -> u64 {
-        self.next.load(Ordering::Relaxed).min(self.count)
     }
 }
 
