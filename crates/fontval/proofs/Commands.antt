@@ -1,6 +1,6 @@
 -- What is given for an answer, command by command; and an input has one answer: each definition on the way from a line
 -- to its text has one result.
-use Rattle.std.proofs.Common.{◌≡◌, ℕ, List, refl, sym, subst, Result, Err, rules, [], ◌∷◌, ◌++◌, Ok, ◌∙◌, ℤ, ◌/◌}
+use Rattle.std.proofs.Common.{◌≡◌, ◌≢◌, ℕ, List, refl, sym, subst, Result, Err, rules, [], ◌∷◌, ◌++◌, Ok, ◌∙◌, ℤ, ◌/◌}
 use Rattle.std.proofs.Common.{Bool, length, Option, Some, None, MatchResult, arith, get_or, ◌%◌, ◌==◌, if◌then◌else◌}
 use Rattle.std.proofs.Common.{append_assoc, append-nil}
 use Rattle.fontval.specs.Refusal.{Answer, GivesAnswer}
@@ -26,7 +26,7 @@ use Rattle.font_types.specs.matrix.Matrix.{Matrix}
 use Rattle.font_types.specs.point.Point.{Point}
 use Rattle.font_types.specs.Matrix.{elements_of}
 use Rattle.font_types.specs.FixedMatrix.{matrix_bits, point_bits}
-use Rattle.fontval.proofs.Readings.{terms_are_even}
+use Rattle.fontval.proofs.WordByWord.{terms_are_even}
 use Rattle.fontval.specs.declared.command.Command.{Command}
 use Rattle.fontval.specs.declared.command.Command.TheVariants.{FixedPoint, Read, Image, Vary, Integer, Tag, Sum}
 use Rattle.fontval.specs.declared.command.FixedType.{FixedType}
@@ -206,6 +206,11 @@ commands_apart a b same = let one = found a in let other = found b in cc
 
 types_apart : (a b : FixedType) → (fixed_row a).0 ≡ (fixed_row b).0 → a ≡ b
 types_apart a b same = let one = found (FixedPoint a) in let other = found (FixedPoint b) in cc
+
+-- a word that names no command names no type
+pub no_type_named : (word : List ℕ) → ((command : Command) → name_of command ≢ word)
+    → (type : FixedType) → (fixed_row type).0 ≢ word
+no_type_named word none type = none (FixedPoint type)
 
 one_named : (word : List ℕ) → IsOne (IsNamed word)
 one_named word x y p q = grind (arith, commands_apart)

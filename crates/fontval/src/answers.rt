@@ -1,4 +1,4 @@
-//! The answers to lines, as text.
+//! The answers to the lines of an input.
 
 ghost use Rattle.std.specs.Prelude.{◌≡◌, ℕ, List, string_bytes, IfOk, OnOk};
 ghost use Rattle.fontval.specs.Answers.{AppendsAnswer, Answers};
@@ -11,7 +11,7 @@ use crate::refusal::{Refusal, Unanswered};
 use crate::text::{Lines, Words};
 use std::alloc::{AllocError, Allocator};
 
-/// The answers to the lines of an input, each followed by a line feed.
+/// Returns the answers to the lines of an input, each followed by a line feed.
 #[tactic(auto, using(crate::proofs::Commands::answer_steps))]
 pub fn answers<A: Allocator + Copy>(alloc: A, input: &[u8]) -> Result<String<A>, AllocError>
     ensures answers { IfOk result (λ output. Answers input.now (string_bytes output)) }
@@ -43,7 +43,7 @@ fn append_answer<A: Allocator>(
     }
 }
 
-// Appends the answer to a line that is not refused.
+// Appends the answer to a line, unless it is refused.
 #[inline(always)]
 #[tactic(auto, using(crate::proofs::Commands::given_refusal))]
 fn append_text<A: Allocator>(

@@ -1,4 +1,4 @@
-//! How the program ends.
+//! The exit status.
 
 ghost use Rattle.std.specs.Prelude.{◌≡◌};
 ghost use Rattle.std.specs.Process.{exit_status};
@@ -10,7 +10,7 @@ use std::process::ExitCode;
 #[cfg(test)]
 mod tests;
 
-/// The status that the program ends with, and what it says on standard error.
+/// Returns the exit status, and the text for standard error.
 pub fn ending(served: Result<(), ServeFault>) -> (ExitCode, &'static str)
     ensures status { exit_status result.0 ≡ status_of served }
     ensures complaint { result.1.now ≡ complaint_of served }

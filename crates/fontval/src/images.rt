@@ -1,4 +1,4 @@
-//! Where a point goes by two matrices.
+//! The images of a point under two matrices.
 
 ghost use Rattle.std.specs.Prelude.{◌≡◌, [], ◌∷◌, ◌++◌, Some};
 ghost use Rattle.font_types.specs.Matrix.{elements_of};
@@ -8,7 +8,7 @@ ghost use Rattle.fontval.specs.Images.{images_text};
 use font_types::{Fixed, Matrix, Point, laws};
 use std::fmt;
 
-/// The images of a point by two matrices.
+/// A point and two matrices, printed as the images of the point.
 #[derive(Clone, Copy)]
 pub struct Images {
     /// The matrix that is applied last.
@@ -19,7 +19,7 @@ pub struct Images {
     pub p: Point<Fixed>,
 }
 
-// The numbers are the elements of both matrices, and the coordinates of the point.
+// The numbers are the elements of both matrices and the coordinates of the point.
 impl From<[Fixed; 14]> for Images {
     ghost from_gives = { λ numbers m.
         numbers ≡ elements_of m.a ++ elements_of m.b ++ m.p.x ∷ m.p.y ∷ [] };
@@ -35,7 +35,7 @@ impl From<[Fixed; 14]> for Images {
     }
 }
 
-// By the product of the matrices, and by one after the other.
+// Prints the image under the product of the matrices, and that under one after the other.
 impl fmt::Display for Images {
     ghost output = { λ m. Some (images_text (matrix_bits m.a) (matrix_bits m.b) (point_bits m.p)) };
 

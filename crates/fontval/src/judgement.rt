@@ -1,4 +1,4 @@
-//! What is said of a tag.
+//! The answer to a tag.
 
 ghost use Rattle.std.specs.Prelude.{◌++◌, Some};
 ghost use Rattle.font_types.specs.Tag.{tag_bytes, tag_text};
@@ -7,12 +7,12 @@ ghost use Rattle.fontval.specs.Command.{verdict_text};
 use font_types::{InvalidTag, Tag};
 use std::fmt;
 
-/// A tag, and whether it is good.
+/// A tag and its validation.
 #[derive(Drop)]
 pub struct Judgement {
     /// The tag.
     pub tag: Tag,
-    /// That it is good, or the fault that it has.
+    /// The result of `validate`.
     pub verdict: Result<(), InvalidTag>,
 }
 

@@ -1,4 +1,4 @@
-//! The numbers that the words of a line are read as.
+//! Reads the words of a line as numbers.
 
 ghost use Rattle.std.specs.Prelude.{◌≡◌, ◌%◌, ◌^◌, ◌==◌, Ok, Err, true, false, length, min, pos};
 ghost use Rattle.std.specs.Prelude.{MatchOption, MatchResult};
@@ -13,14 +13,14 @@ use crate::text::Words;
 use font_types::Fixed;
 use std::alloc::Allocator;
 
-// How many terms the list has room for at first.
+// The capacity of a new list of terms.
 const FEW_TERMS: usize = 16;
 
-/// The numbers that just N words are read as.
+/// Reads exactly `N` words as numbers.
 ///
-/// The words are read as they come, and counted only where one of them is refused: their number is
-/// judged before any of them.
-#[tactic(auto, using(crate::proofs::Readings::number_steps))]
+/// A wrong number of words is reported before a wrong word. Since the words are read one by one,
+/// they are counted only if one of them is refused.
+#[tactic(auto, using(crate::proofs::WordByWord::number_steps))]
 pub fn fixed_numbers<const N: usize>(mut words: Words<'_>) -> Result<[Fixed; N], Refusal>
     ensures { ReadsJust N (words_of words.entry.rest.now) result }
 {
@@ -43,7 +43,7 @@ pub fn fixed_numbers<const N: usize>(mut words: Words<'_>) -> Result<[Fixed; N],
     Ok(numbers)
 }
 
-// The `Fixed` that a word is read as.
+// Reads a word as a `Fixed`.
 #[inline(always)]
 fn fixed_number(word: &[u8]) -> Result<Fixed, Refusal>
     ensures { ReadsFixed word.now result }
@@ -51,10 +51,10 @@ fn fixed_number(word: &[u8]) -> Result<Fixed, Refusal>
     Ok(Fixed::from_decimal_bytes(word)?)
 }
 
-/// The terms that words are read as two by two: a scalar, and a whole number of font units.
+/// Reads words as terms, two by two: a scalar, and a delta in font units.
 ///
-/// The words are counted only where one of them is refused, as those of `fixed_numbers`.
-#[tactic(auto, using(crate::proofs::Readings::term_steps))]
+/// The words are counted only if one of them is refused, as in `fixed_numbers`.
+#[tactic(auto, using(crate::proofs::WordByWord::term_steps))]
 pub fn terms<A: Allocator>(
     alloc: A,
     mut words: Words<'_>,
@@ -78,7 +78,7 @@ pub fn terms<A: Allocator>(
     Ok(terms)
 }
 
-/// Whether the words can be taken two by two.
+/// Returns an error if the number of words is odd.
 pub fn in_pairs(words: &Words<'_>) -> Result<(), Refusal>
     ensures { MatchResult result
         (λ _. (length (words_of words.now.rest.now) % 2 == 0) ≡ true)
@@ -92,7 +92,7 @@ pub fn in_pairs(words: &Words<'_>) -> Result<(), Refusal>
     }
 }
 
-// The term that two words are read as.
+// Reads two words as a term.
 #[inline(always)]
 fn term(scalar: &[u8], delta: &[u8]) -> Result<(Fixed, i32), Refusal>
     ensures { ReadsTerm (scalar.now, delta.now) result }
@@ -100,7 +100,7 @@ fn term(scalar: &[u8], delta: &[u8]) -> Result<(Fixed, i32), Refusal>
     Ok((fixed_number(scalar)?, whole_number(delta)?))
 }
 
-/// The whole number of 32 bits that a word is read as.
+/// Reads a word as an `i32`.
 pub fn whole_number(word: &[u8]) -> Result<i32, Refusal>
     ensures { ReadsWhole 32 word.now result }
 {
@@ -110,14 +110,14 @@ pub fn whole_number(word: &[u8]) -> Result<i32, Refusal>
     i32::try_from(number).map_err(|_| Refusal::OutOfRange)
 }
 
-/// The whole number of 16 bits that a word is read as.
+/// Reads a word as an `i16`.
 pub fn whole_number_16(word: &[u8]) -> Result<i16, Refusal>
     ensures { ReadsWhole 16 word.now result }
 {
     i16::try_from(whole_number(word)?).map_err(|_| Refusal::OutOfRange)
 }
 
-// Whether a word begins with a `-`, and what stands behind it.
+// Splits off a leading `-`.
 fn split_minus(word: &[u8]) -> (bool, &[u8])
     ensures minus { result.0 ≡ starts_with_minus word.now }
     ensures rest { result.1.now ≡ behind_minus word.now }
@@ -128,7 +128,7 @@ fn split_minus(word: &[u8]) -> (bool, &[u8])
     }
 }
 
-// The number that one or more digits write, or 2^40 where it is greater.
+// Returns the number of one or more digits, or 2^40 if it is greater.
 fn magnitude_of_digits(digits: &[u8]) -> Option<i64>
     ensures { MatchOption result
         (¬ (IsNumeral 10 digits.now))

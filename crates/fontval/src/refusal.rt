@@ -1,4 +1,4 @@
-//! Why a line is refused, and why a command appends nothing.
+//! The errors of lines and of commands.
 
 ghost use Rattle.std.specs.Prelude.{◌≡◌};
 ghost use Rattle.fontval.specs.Refusal.{refusal_of};
@@ -11,7 +11,7 @@ use thiserror::Error;
 #[cfg(test)]
 mod tests;
 
-/// Why a line is refused. In an answer it is shown by its number.
+/// Why a line is refused. Its answer has the number.
 #[derive(Clone, Copy, Debug, Error)]
 pub enum Refusal {
     /// No word, or a first word that names no command.
@@ -29,7 +29,7 @@ pub enum Refusal {
     /// A number outside the range of its type.
     #[error("number out of range")]
     OutOfRange = 5,
-    /// A word that is no whole number: an optional `-`, and one or more digits.
+    /// A word that is not an integer: an optional `-`, and one or more digits.
     #[error("not a whole number")]
     NotWhole = 6,
 }
@@ -48,7 +48,7 @@ impl From<DecimalFault> for Refusal {
 /// Why a command appends nothing.
 #[derive(Clone, Copy, Debug, Error)]
 pub enum Unanswered {
-    /// There is no memory for the answer.
+    /// Memory for the answer was refused.
     #[error("memory")]
     Memory,
     /// The line is refused.

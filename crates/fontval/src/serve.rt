@@ -1,4 +1,4 @@
-//! The work of the program: all input is read, all answers are made, and then they are written.
+//! A run: reads all input, makes all answers, and then writes them.
 
 ghost use Rattle.std.specs.Prelude.{◌≡◌, Ok, Err, true, false};
 ghost use Rattle.std.specs.Prelude.{IfOk, IfErr, OnOk, OnErr};
@@ -10,10 +10,10 @@ use crate::device::{Sink, Source};
 use std::alloc::Allocator;
 use thiserror::Error;
 
-/// Why a source was not served.
+/// Why a run failed.
 #[derive(Debug, Drop, Error)]
 pub enum ServeFault {
-    /// There was no memory for the input or for the answers.
+    /// Memory for the input or for the answers was refused.
     #[error("memory")]
     Memory = 1,
     /// A read failed.
@@ -27,13 +27,13 @@ pub enum ServeFault {
 #[cfg(test)]
 mod tests;
 
-// How many bytes are asked for at once.
+// The size of a read.
 const BLOCK: usize = 16384;
 
-/// Reads the source to its end, and writes the answers to its lines to the sink.
+/// Reads a source to its end, and writes the answers to its lines to a sink.
 ///
-/// Nothing is written before all answers are made, and nothing that was refused is tried again. Of
-/// a source that does not tell its bytes, the clauses only say that the answers are those to some
+/// Nothing is written before all answers are made, and nothing that failed is tried again. If the
+/// bytes of the source are not known, the clauses only say that the answers are those to some
 /// input.
 pub fn serve<A: Allocator + Copy, S: Source, K: Sink>(
     alloc: A,
@@ -43,12 +43,12 @@ pub fn serve<A: Allocator + Copy, S: Source, K: Sink>(
     requires source_works { S.failed source.old ≡ false }
     requires sink_works { K.failed sink.old ≡ false }
 
-    // All was read and all answers were written, and nothing has failed.
+    // Everything was read and written, and nothing has failed.
     ensures ok { OnOk result (Serves
         (S.left source.old) (S.left source.new) (K.taken sink.old) (K.taken sink.new)) }
     ensures ok_works { OnOk result ((S.failed source.new ≡ false) × (K.failed sink.new ≡ false)) }
 
-    // Where memory or a read is refused, nothing was written.
+    // If memory is refused or a read fails, nothing was written.
     ensures memory { result ≡ Err ServeFault.Memory → Keeps (K.taken sink.old) (K.taken sink.new) }
     ensures memory_works { result ≡ Err ServeFault.Memory
         → (S.failed source.new ≡ false) × (K.failed sink.new ≡ false) }
@@ -56,7 +56,7 @@ pub fn serve<A: Allocator + Copy, S: Source, K: Sink>(
     ensures read_failed { result ≡ Err ServeFault.Read
         → (S.failed source.new ≡ true) × (K.failed sink.new ≡ false) }
 
-    // Where a write is refused, a beginning of the answers was written, and not the whole.
+    // If a write fails, a beginning of the answers was written, and not all.
     ensures write { result ≡ Err ServeFault.Write
         → ServesInPart
         (S.left source.old) (S.left source.new) (K.taken sink.old) (K.taken sink.new) }
@@ -93,7 +93,7 @@ fn read_all<A: Allocator, S: Source>(alloc: A, source: &mut S) -> Result<Vec<u8,
     }
 }
 
-// Writes all the bytes.
+// Writes all bytes.
 #[tactic(auto, using(crate::proofs::Writes::write_steps))]
 fn write_all<K: Sink>(sink: &mut K, bytes: &[u8]) -> Result<(), ServeFault>
     requires { K.failed sink.old ≡ false }

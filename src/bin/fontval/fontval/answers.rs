@@ -1,6 +1,6 @@
 // @generated from crates/fontval/src/answers.rt by tools/src/bin/erase.rs
 
-//! The answers to lines, as text.
+//! The answers to the lines of an input.
 
 use crate::fontval::command::Command;
 use crate::fontval::refusal::{Refusal, Unanswered};
@@ -8,7 +8,7 @@ use crate::fontval::text::{Lines, Words};
 use crate::rattle::String;
 use crate::rattle::alloc::{AllocError, Allocator};
 
-/// The answers to the lines of an input, each followed by a line feed.
+/// Returns the answers to the lines of an input, each followed by a line feed.
 pub fn answers<A: Allocator + Copy>(alloc: A, input: &[u8]) -> Result<String<A>, AllocError> {
     let mut output = String::new(alloc);
     for line in Lines::new(input) {
@@ -32,7 +32,7 @@ fn append_answer<A: Allocator>(
     }
 }
 
-// Appends the answer to a line that is not refused.
+// Appends the answer to a line, unless it is refused.
 #[inline(always)]
 fn append_text<A: Allocator>(
     alloc: A,

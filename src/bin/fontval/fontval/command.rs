@@ -1,6 +1,6 @@
 // @generated from crates/fontval/src/command.rt by tools/src/bin/erase.rs
 
-//! The commands, and what they answer.
+//! The commands and their answers.
 
 use crate::fontval::images::Images;
 use crate::fontval::judgement::Judgement;
@@ -16,26 +16,26 @@ use font_types_proved::{
     Uint24, checked_delta_sum, vary,
 };
 
-/// What a line asks for.
+/// A command.
 #[derive(Clone, Copy)]
 pub enum Command {
-    /// The number that a hexadecimal word's bytes stand for.
+    /// Prints the integer whose bytes a word has in hexadecimal.
     Integer(IntegerType),
-    /// The fixed-point number whose bits a hexadecimal word's bytes are.
+    /// Prints the fixed-point number whose bytes a word has in hexadecimal.
     FixedPoint(FixedType),
-    /// The bytes of the fixed-point number that a decimal text is read as, of the type named first.
+    /// Reads a decimal text as a number of a fixed-point type, and prints its bytes.
     Read,
-    /// The text of the tag of four bytes, and whether it is good.
+    /// Prints the tag of four bytes, and whether it is valid.
     Tag,
-    /// Where a point goes by two matrices.
+    /// Prints the images of a point under two matrices.
     Image,
-    /// The sum of the products of scalars and whole numbers.
+    /// Prints the sum of the products of scalars and deltas.
     Sum,
-    /// A whole number of font units moved by such a sum.
+    /// Prints a value in font units varied by such a sum.
     Vary,
 }
 
-/// The integer types of OpenType, by how their bytes are read.
+/// The integer types of OpenType.
 #[derive(Clone, Copy)]
 pub enum IntegerType {
     Uint8,
@@ -49,7 +49,7 @@ pub enum IntegerType {
     Int64,
 }
 
-/// The seven fixed-point types, by how their bits are read.
+/// The seven fixed-point types.
 #[derive(Clone, Copy)]
 pub enum FixedType {
     F2Dot14,
@@ -62,11 +62,8 @@ pub enum FixedType {
 }
 
 impl Command {
-    /// The command that a word names. Each has a row, here or in `FixedType::named`.
+    /// Returns the command that a word names.
     pub fn named(word: &[u8]) -> Result<Command, Refusal> {
-        if let Ok(kind) = FixedType::named(word) {
-            return Ok(Command::FixedPoint(kind));
-        }
         Ok(match word {
             b"uint8" => Command::Integer(IntegerType::Uint8),
             b"int8" => Command::Integer(IntegerType::Int8),
@@ -77,6 +74,13 @@ impl Command {
             b"uint32" => Command::Integer(IntegerType::Uint32),
             b"int32" => Command::Integer(IntegerType::Int32),
             b"int64" => Command::Integer(IntegerType::Int64),
+            b"f2dot14" => Command::FixedPoint(FixedType::F2Dot14),
+            b"f4dot12" => Command::FixedPoint(FixedType::F4Dot12),
+            b"f6dot10" => Command::FixedPoint(FixedType::F6Dot10),
+            b"fixed" => Command::FixedPoint(FixedType::Fixed),
+            b"f26dot6" => Command::FixedPoint(FixedType::F26Dot6),
+            b"f48dot16" => Command::FixedPoint(FixedType::F48Dot16),
+            b"f2dot30" => Command::FixedPoint(FixedType::F2Dot30),
             b"read" => Command::Read,
             b"tag" => Command::Tag,
             b"image" => Command::Image,
@@ -86,7 +90,7 @@ impl Command {
         })
     }
 
-    /// Appends what the command answers to the words behind it.
+    /// Appends the answer of the command to the words that follow it.
     #[inline(always)]
     pub fn answer<A: Allocator>(
         self,
@@ -107,7 +111,7 @@ impl Command {
 }
 
 impl IntegerType {
-    // The number that the bytes of the only word stand for.
+    // Returns the integer whose bytes the only word has.
     fn number(self, words: Words<'_>) -> Result<i64, Refusal> {
         Ok(match self {
             IntegerType::Uint8 => i64::from(u8::from_raw(hexadecimal(words)?)),
@@ -124,22 +128,15 @@ impl IntegerType {
 }
 
 impl FixedType {
-    /// The fixed-point type that a word names.
-    #[inline(always)]
-    pub fn named(word: &[u8]) -> Result<FixedType, Refusal> {
-        Ok(match word {
-            b"f2dot14" => FixedType::F2Dot14,
-            b"f4dot12" => FixedType::F4Dot12,
-            b"f6dot10" => FixedType::F6Dot10,
-            b"fixed" => FixedType::Fixed,
-            b"f26dot6" => FixedType::F26Dot6,
-            b"f48dot16" => FixedType::F48Dot16,
-            b"f2dot30" => FixedType::F2Dot30,
-            _ => return Err(Refusal::UnknownCommand),
-        })
+    // Returns the fixed-point type that a word names.
+    fn named(word: &[u8]) -> Result<FixedType, Refusal> {
+        match Command::named(word)? {
+            Command::FixedPoint(kind) => Ok(kind),
+            _ => Err(Refusal::UnknownCommand),
+        }
     }
 
-    // Appends the number whose bits the bytes of the only word are.
+    // Appends the number whose bytes the only word has.
     fn show<A: Allocator>(
         self,
         words: Words<'_>,
@@ -190,14 +187,14 @@ fn read<A: Allocator>(words: Words<'_>, output: &mut String<A>) -> Result<(), Un
     FixedType::named(name)?.read(word, output)
 }
 
-// Appends the text of a tag, and what is said of it.
+// Appends a tag and its validation.
 #[inline(never)]
 fn append_judgement<A: Allocator>(tag: Tag, output: &mut String<A>) -> Result<(), Unanswered> {
     let verdict = tag.validate();
     append(Judgement { tag, verdict }, output)
 }
 
-// Appends where a point goes by two matrices.
+// Appends the images of a point under two matrices.
 #[inline(never)]
 fn image<A: Allocator>(words: Words<'_>, output: &mut String<A>) -> Result<(), Unanswered> {
     append(Images::from(fixed_numbers(words)?), output)
@@ -218,7 +215,7 @@ fn append_sum<A: Allocator>(
     append(checked_delta_sum(terms).ok_or(Refusal::OutOfRange)?, output)
 }
 
-// Appends a whole number of font units moved by the sum of terms.
+// Appends a value in font units varied by the sum of terms.
 #[inline(never)]
 fn append_varied<A: Allocator>(
     alloc: A,
@@ -237,7 +234,7 @@ fn append_varied<A: Allocator>(
     append_units(units, &terms, output)
 }
 
-// Appends so many font units moved by the sum of these terms.
+// Appends a value in font units varied by the sum of these terms.
 fn append_units<A: Allocator>(
     units: i16,
     terms: &[(Fixed, i32)],

@@ -1,6 +1,6 @@
 // @generated from crates/fontval/src/device.rt by tools/src/bin/erase.rs
 
-//! Where the program's bytes come from and where they go.
+//! The source and the sink of a run.
 
 mod from_read;
 mod from_write;
@@ -8,25 +8,25 @@ mod from_write;
 pub use from_read::FromRead;
 pub use from_write::FromWrite;
 
-/// A read or a write failed. The device keeps that it has.
+/// A read or a write failed. The device remembers it.
 pub struct Failed;
 
-/// What the program reads.
+/// A source of bytes.
 pub trait Source {
-    /// Puts the next bytes of what is left at the front of `buf`, and returns how many. It returns
-    /// 0 for a nonempty `buf` only at the end.
+    /// Reads into the front of `buf`, and returns the number of bytes read: 0 for a nonempty `buf`
+    /// only at the end.
     fn read(&mut self, buf: &mut [u8]) -> Result<usize, Failed>;
 
-    /// Whether a read has failed.
+    /// Returns whether a read has failed.
     fn has_failed(&self) -> bool;
 }
 
-/// What the program writes to.
+/// A sink of bytes.
 pub trait Sink {
-    /// Appends some bytes of the front of `buf`, and returns how many. It returns 0 only for an
-    /// empty `buf`, and appends nothing where it fails.
+    /// Writes bytes from the front of `buf`, and returns the number of bytes written: 0 only for an
+    /// empty `buf`. Writes nothing if it fails.
     fn write(&mut self, buf: &[u8]) -> Result<usize, Failed>;
 
-    /// Whether a write has failed.
+    /// Returns whether a write has failed.
     fn has_failed(&self) -> bool;
 }

@@ -1,11 +1,11 @@
 // @generated from crates/fontval/src/ending.rt by tools/src/bin/erase.rs
 
-//! How the program ends.
+//! The exit status.
 
 use crate::fontval::serve::ServeFault;
 use std::process::ExitCode;
 
-/// The status that the program ends with, and what it says on standard error.
+/// Returns the exit status, and the text for standard error.
 pub fn ending(served: Result<(), ServeFault>) -> (ExitCode, &'static str) {
     match served {
         Ok(()) => (ExitCode::SUCCESS, ""),

@@ -1,11 +1,11 @@
 // @generated from crates/fontval/src/images.rt by tools/src/bin/erase.rs
 
-//! Where a point goes by two matrices.
+//! The images of a point under two matrices.
 
 use font_types_proved::{Fixed, Matrix, Point, laws};
 use std::fmt;
 
-/// The images of a point by two matrices.
+/// A point and two matrices, printed as the images of the point.
 #[derive(Clone, Copy)]
 pub struct Images {
     /// The matrix that is applied last.
@@ -16,7 +16,7 @@ pub struct Images {
     pub p: Point<Fixed>,
 }
 
-// The numbers are the elements of both matrices, and the coordinates of the point.
+// The numbers are the elements of both matrices and the coordinates of the point.
 impl From<[Fixed; 14]> for Images {
     fn from(numbers: [Fixed; 14]) -> Self {
         let (a, rest) = numbers.split_first_chunk::<6>().unwrap();
@@ -29,7 +29,7 @@ impl From<[Fixed; 14]> for Images {
     }
 }
 
-// By the product of the matrices, and by one after the other.
+// Prints the image under the product of the matrices, and that under one after the other.
 impl fmt::Display for Images {
     fn fmt(&self, f: &mut fmt::Formatter<'_>) -> fmt::Result {
         let composed = laws::composed(self.a, self.b, self.p);

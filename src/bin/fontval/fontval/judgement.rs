@@ -1,15 +1,15 @@
 // @generated from crates/fontval/src/judgement.rt by tools/src/bin/erase.rs
 
-//! What is said of a tag.
+//! The answer to a tag.
 
 use font_types_proved::{InvalidTag, Tag};
 use std::fmt;
 
-/// A tag, and whether it is good.
+/// A tag and its validation.
 pub struct Judgement {
     /// The tag.
     pub tag: Tag,
-    /// That it is good, or the fault that it has.
+    /// The result of `validate`.
     pub verdict: Result<(), InvalidTag>,
 }
 

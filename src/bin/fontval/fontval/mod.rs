@@ -23,8 +23,8 @@ use ending::ending;
 use serve::serve;
 use std::process::ExitCode;
 
-// No clause can say what standard input gave and what standard output and standard error took. A
-// complaint that standard error refuses is lost, and the status stays.
+// No clause can say what the standard streams read and wrote. If standard error fails, its text is
+// lost, and the status stays.
 pub fn main(rt: HostRuntime) -> ExitCode {
     let mut source = FromRead::new(rt.stdin());
     let mut sink = FromWrite::new(io::writer(&rt));

@@ -1,6 +1,6 @@
 // @generated from crates/fontval/src/numbers.rt by tools/src/bin/erase.rs
 
-//! The numbers that the words of a line are read as.
+//! Reads the words of a line as numbers.
 
 use crate::fontval::refusal::{Refusal, Unanswered};
 use crate::fontval::text::Words;
@@ -8,13 +8,13 @@ use crate::rattle::Vec;
 use crate::rattle::alloc::Allocator;
 use font_types_proved::Fixed;
 
-// How many terms the list has room for at first.
+// The capacity of a new list of terms.
 const FEW_TERMS: usize = 16;
 
-/// The numbers that just N words are read as.
+/// Reads exactly `N` words as numbers.
 ///
-/// The words are read as they come, and counted only where one of them is refused: their number is
-/// judged before any of them.
+/// A wrong number of words is reported before a wrong word. Since the words are read one by one,
+/// they are counted only if one of them is refused.
 pub fn fixed_numbers<const N: usize>(mut words: Words<'_>) -> Result<[Fixed; N], Refusal> {
     let mut numbers = [Fixed::ZERO; N];
     let mut at = 0;
@@ -35,15 +35,15 @@ pub fn fixed_numbers<const N: usize>(mut words: Words<'_>) -> Result<[Fixed; N],
     Ok(numbers)
 }
 
-// The `Fixed` that a word is read as.
+// Reads a word as a `Fixed`.
 #[inline(always)]
 fn fixed_number(word: &[u8]) -> Result<Fixed, Refusal> {
     Ok(Fixed::from_decimal_bytes(word)?)
 }
 
-/// The terms that words are read as two by two: a scalar, and a whole number of font units.
+/// Reads words as terms, two by two: a scalar, and a delta in font units.
 ///
-/// The words are counted only where one of them is refused, as those of `fixed_numbers`.
+/// The words are counted only if one of them is refused, as in `fixed_numbers`.
 pub fn terms<A: Allocator>(
     alloc: A,
     mut words: Words<'_>,
@@ -62,7 +62,7 @@ pub fn terms<A: Allocator>(
     Ok(terms)
 }
 
-/// Whether the words can be taken two by two.
+/// Returns an error if the number of words is odd.
 pub fn in_pairs(words: &Words<'_>) -> Result<(), Refusal> {
     if words.left().is_multiple_of(2) {
         Ok(())
@@ -71,13 +71,13 @@ pub fn in_pairs(words: &Words<'_>) -> Result<(), Refusal> {
     }
 }
 
-// The term that two words are read as.
+// Reads two words as a term.
 #[inline(always)]
 fn term(scalar: &[u8], delta: &[u8]) -> Result<(Fixed, i32), Refusal> {
     Ok((fixed_number(scalar)?, whole_number(delta)?))
 }
 
-/// The whole number of 32 bits that a word is read as.
+/// Reads a word as an `i32`.
 pub fn whole_number(word: &[u8]) -> Result<i32, Refusal> {
     let (negative, digits) = split_minus(word);
     let magnitude = magnitude_of_digits(digits).ok_or(Refusal::NotWhole)?;
@@ -85,12 +85,12 @@ pub fn whole_number(word: &[u8]) -> Result<i32, Refusal> {
     i32::try_from(number).map_err(|_| Refusal::OutOfRange)
 }
 
-/// The whole number of 16 bits that a word is read as.
+/// Reads a word as an `i16`.
 pub fn whole_number_16(word: &[u8]) -> Result<i16, Refusal> {
     i16::try_from(whole_number(word)?).map_err(|_| Refusal::OutOfRange)
 }
 
-// Whether a word begins with a `-`, and what stands behind it.
+// Splits off a leading `-`.
 fn split_minus(word: &[u8]) -> (bool, &[u8]) {
     match word {
         [b'-', rest @ ..] => (true, rest),
@@ -98,7 +98,7 @@ fn split_minus(word: &[u8]) -> (bool, &[u8]) {
     }
 }
 
-// The number that one or more digits write, or 2^40 where it is greater.
+// Returns the number of one or more digits, or 2^40 if it is greater.
 fn magnitude_of_digits(digits: &[u8]) -> Option<i64> {
     if digits.is_empty() {
         return None;

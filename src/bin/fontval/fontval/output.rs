@@ -1,6 +1,6 @@
 // @generated from crates/fontval/src/output.rt by tools/src/bin/erase.rs
 
-//! What a command appends to the output.
+//! Appends answers to the output.
 
 use crate::fontval::refusal::Unanswered;
 use crate::rattle::alloc::Allocator;
@@ -17,7 +17,7 @@ pub fn append<T: Display, A: Allocator>(
     Ok(())
 }
 
-/// Appends the bytes of a number that was read.
+/// Appends the bytes of a number that was read, or returns why it was not.
 pub fn append_read<T: Scalar<Raw = [u8; N]>, const N: usize, A: Allocator>(
     number: Result<T, DecimalFault>,
     output: &mut String<A>,

@@ -1,11 +1,11 @@
 // @generated from crates/fontval/src/refusal.rt by tools/src/bin/erase.rs
 
-//! Why a line is refused, and why a command appends nothing.
+//! The errors of lines and of commands.
 
 use crate::rattle::alloc::AllocError;
 use font_types_proved::DecimalFault;
 
-/// Why a line is refused. In an answer it is shown by its number.
+/// Why a line is refused. Its answer has the number.
 #[derive(Clone, Copy, Debug)]
 pub enum Refusal {
     /// No word, or a first word that names no command.
@@ -18,7 +18,7 @@ pub enum Refusal {
     NotDecimal = 4,
     /// A number outside the range of its type.
     OutOfRange = 5,
-    /// A word that is no whole number: an optional `-`, and one or more digits.
+    /// A word that is not an integer: an optional `-`, and one or more digits.
     NotWhole = 6,
 }
 
@@ -49,7 +49,7 @@ impl From<DecimalFault> for Refusal {
 /// Why a command appends nothing.
 #[derive(Clone, Copy, Debug)]
 pub enum Unanswered {
-    /// There is no memory for the answer.
+    /// Memory for the answer was refused.
     Memory,
     /// The line is refused.
     Refused(Refusal),

@@ -1,16 +1,16 @@
 // @generated from crates/fontval/src/serve.rt by tools/src/bin/erase.rs
 
-//! The work of the program: all input is read, all answers are made, and then they are written.
+//! A run: reads all input, makes all answers, and then writes them.
 
 use crate::fontval::answers::answers;
 use crate::fontval::device::{Sink, Source};
 use crate::rattle::Vec;
 use crate::rattle::alloc::Allocator;
 
-/// Why a source was not served.
+/// Why a run failed.
 #[derive(Debug)]
 pub enum ServeFault {
-    /// There was no memory for the input or for the answers.
+    /// Memory for the input or for the answers was refused.
     Memory = 1,
     /// A read failed.
     Read = 2,
@@ -30,13 +30,13 @@ impl core::fmt::Display for ServeFault {
     }
 }
 
-// How many bytes are asked for at once.
+// The size of a read.
 const BLOCK: usize = 16384;
 
-/// Reads the source to its end, and writes the answers to its lines to the sink.
+/// Reads a source to its end, and writes the answers to its lines to a sink.
 ///
-/// Nothing is written before all answers are made, and nothing that was refused is tried again. Of
-/// a source that does not tell its bytes, the clauses only say that the answers are those to some
+/// Nothing is written before all answers are made, and nothing that failed is tried again. If the
+/// bytes of the source are not known, the clauses only say that the answers are those to some
 /// input.
 pub fn serve<A: Allocator + Copy, S: Source, K: Sink>(
     alloc: A,
@@ -67,7 +67,7 @@ fn read_all<A: Allocator, S: Source>(alloc: A, source: &mut S) -> Result<Vec<u8,
     }
 }
 
-// Writes all the bytes.
+// Writes all bytes.
 fn write_all<K: Sink>(sink: &mut K, bytes: &[u8]) -> Result<(), ServeFault> {
     let mut rest = bytes;
     while !rest.is_empty() {

@@ -2,16 +2,14 @@
 
 //! The lines of an input and the words of a line.
 
-use crate::rattle::simd::prelude::*;
-
 /// The lines of an input, first to last, each without its line feed. The last line may lack one.
 pub struct Lines<'a> {
-    /// The input behind the lines that were given.
+    /// The input behind the lines returned so far.
     pub rest: &'a [u8],
 }
 
 impl<'a> Lines<'a> {
-    /// The lines of `input`.
+    /// Creates an iterator over the lines of `input`.
     pub fn new(input: &'a [u8]) -> Self {
         Lines { rest: input }
     }
@@ -30,58 +28,32 @@ impl<'a> Iterator for Lines<'a> {
     }
 }
 
-// What stands before the first line feed of an input, and what stands behind it.
+// Splits an input at its first line feed.
 fn split_line(input: &[u8]) -> (&[u8], &[u8]) {
-    match line_feed_at(input) {
+    match line_feed_in(input) {
         Some(end) => (&input[..end], &input[end + 1..]),
         None => (input, &[]),
     }
 }
 
-// Where the first line feed stands. It is sought in blocks of sixteen bytes, and then in what is
-// left.
-fn line_feed_at(input: &[u8]) -> Option<usize> {
-    let mut passed = 0;
-    let mut rest = input;
-    while let Some((block, behind)) = rest.split_first_chunk::<16>() {
-        if let Some(at) = line_feed_among(block) {
-            return Some(passed + at);
-        }
-        passed += 16;
-        rest = behind;
-    }
-    Some(passed + line_feed_in(rest)?)
-}
-
-// The same of sixteen bytes, which are compared at once.
-fn line_feed_among(block: &[u8; 16]) -> Option<usize> {
-    let feeds = u8x16::from_array(*block)
-        .simd_eq(u8x16::splat(b'\n'))
-        .to_bitmask();
-    if feeds == 0 {
-        None
-    } else {
-        Some(feeds.trailing_zeros() as usize)
-    }
-}
-
-fn line_feed_in(bytes: &[u8]) -> Option<usize> {
-    bytes.iter().position(|byte| *byte == b'\n')
+// Returns the index of the first line feed.
+fn line_feed_in(input: &[u8]) -> Option<usize> {
+    input.iter().position(|byte| *byte == b'\n')
 }
 
 /// The words of a line, first to last.
 pub struct Words<'a> {
-    /// The line behind the words that were given.
+    /// The line behind the words returned so far.
     pub rest: &'a [u8],
 }
 
 impl<'a> Words<'a> {
-    /// The words of `line`.
+    /// Creates an iterator over the words of `line`.
     pub fn new(line: &'a [u8]) -> Self {
         Words { rest: line }
     }
 
-    /// How many words are left.
+    /// Returns the number of words that are left.
     pub fn left(&self) -> usize {
         Words::new(self.rest).count()
     }
@@ -98,51 +70,25 @@ impl<'a> Iterator for Words<'a> {
     }
 }
 
+// Returns the index of the first byte that is not blank.
 fn word_at(text: &[u8]) -> Option<usize> {
     text.iter().position(|byte| !is_blank(*byte))
 }
 
-// What stands before the first blank, and what stands behind it.
+// Splits a text at its first blank.
 fn split_word(text: &[u8]) -> (&[u8], &[u8]) {
-    match blank_at(text) {
+    match blank_in(text) {
         Some(end) => (&text[..end], &text[end + 1..]),
         None => (text, &[]),
     }
 }
 
-// Where the first blank stands. It is sought in blocks of eight bytes, and then in what is left.
-fn blank_at(text: &[u8]) -> Option<usize> {
-    let mut passed = 0;
-    let mut rest = text;
-    while let Some((block, behind)) = rest.split_first_chunk::<8>() {
-        if let Some(at) = blank_among(block) {
-            return Some(passed + at);
-        }
-        passed += 8;
-        rest = behind;
-    }
-    Some(passed + blank_in(rest)?)
+// Returns the index of the first blank.
+fn blank_in(text: &[u8]) -> Option<usize> {
+    text.iter().position(|byte| is_blank(*byte))
 }
 
-// The same of eight bytes, which are compared at once.
-fn blank_among(block: &[u8; 8]) -> Option<usize> {
-    let bytes = u8x8::from_array(*block);
-    let spaces = bytes.simd_eq(u8x8::splat(b' '));
-    let tabs = bytes.simd_eq(u8x8::splat(b'\t'));
-    let returns = bytes.simd_eq(u8x8::splat(b'\r'));
-    let blanks = (spaces | tabs | returns).to_bitmask();
-    if blanks == 0 {
-        None
-    } else {
-        Some(blanks.trailing_zeros() as usize)
-    }
-}
-
-fn blank_in(bytes: &[u8]) -> Option<usize> {
-    bytes.iter().position(|byte| is_blank(*byte))
-}
-
-// Whether a byte stands between words.
+// Returns whether a byte separates words.
 fn is_blank(byte: u8) -> bool {
     matches!(byte, b' ' | b'\t' | b'\r')
 }

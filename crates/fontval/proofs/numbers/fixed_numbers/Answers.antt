@@ -1,5 +1,5 @@
 use Rattle.std.proofs.Common.{rules}
-use Rattle.fontval.proofs.Readings.{one_more_number}
+use Rattle.fontval.proofs.WordByWord.{one_more_number}
 use Rattle.fontval.proofs.numbers.fixed_numbers.Goals as goal
 
 pub loop-word-preserved : goal.loop-word-preserved

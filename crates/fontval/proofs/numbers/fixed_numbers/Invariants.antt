@@ -1,4 +1,4 @@
-use Rattle.fontval.proofs.Readings.{AreNumbersUpTo}
+use Rattle.fontval.proofs.WordByWord.{AreNumbersUpTo}
 use Rattle.fontval.proofs.numbers.fixed_numbers.Given as goal
 
 abbrev pub invariant-loop-word : goal.invariant-loop-word

@@ -1,7 +1,7 @@
 use Rattle.std.proofs.Common.{◌^◌, ◌∙◌, arith}
 use Rattle.std.proofs.lemmas.Int.Digits.{digits_more}
 use Rattle.std.proofs.lemmas.Str.Parse.{digit_at}
-use Rattle.fontval.proofs.Readings.{bounded_digit_more}
+use Rattle.fontval.proofs.WordByWord.{bounded_digit_more}
 use Rattle.fontval.proofs.numbers.magnitude_of_digits.Goals as goal
 
 pub returns-then-not-is_ascii_digit : goal.returns-then-not-is_ascii_digit

@@ -1,5 +1,5 @@
 use Rattle.std.proofs.Common.{rules}
-use Rattle.fontval.proofs.Readings.{one_more_term, refused_term, all_terms}
+use Rattle.fontval.proofs.WordByWord.{one_more_term, refused_term, all_terms}
 use Rattle.fontval.proofs.numbers.terms.Goals as goal
 
 pub loop-scalar-preserved : goal.loop-scalar-preserved

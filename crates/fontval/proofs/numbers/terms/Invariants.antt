@@ -1,4 +1,4 @@
-use Rattle.fontval.proofs.Readings.{AreTermsUpTo}
+use Rattle.fontval.proofs.WordByWord.{AreTermsUpTo}
 use Rattle.fontval.proofs.numbers.terms.Given as goal
 
 abbrev pub invariant-loop-scalar : goal.invariant-loop-scalar
