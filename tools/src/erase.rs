@@ -83,10 +83,10 @@ const DERIVED: [(&str, &str); 7] = [
     ("TryFromUint24Error", "Clone, Copy"),
 ];
 
-/// The Rust of a file, and the modules that it declares, with the line of each.
+/// The Rust of a file, and the modules that it declares.
 pub struct Erased<'a> {
     pub rust: String,
-    pub modules: Vec<(usize, &'a str)>,
+    pub modules: Vec<&'a str>,
 }
 
 /// Erases a file of the crate.
@@ -136,7 +136,7 @@ struct Eraser<'a> {
     // The end of the last type that derives `Error`.
     error_end: usize,
     impl_start: Option<usize>,
-    modules: Vec<(usize, &'a str)>,
+    modules: Vec<&'a str>,
 }
 
 impl<'a> Eraser<'a> {
@@ -237,7 +237,7 @@ impl<'a> Eraser<'a> {
             }
             ["mod" | "use", ..] if self.is_left_out(item) => self.item_end(item)?,
             ["mod", name, ";", ..] if item == at => {
-                self.modules.push((self.line(at), name));
+                self.modules.push(name);
                 return Ok(at + 2);
             }
             _ => return Ok(at + 1),

@@ -88,7 +88,7 @@ use thiserror::Error;¶use std::alloc::AllocError;¶use a::B; => use a::B;
     // In a file below the root, a module of that name is another.
     let nested = erase("mod json;\nuse json::A;", &LIBRARY, false).unwrap();
     assert_eq!(nested.rust, "mod json;\nuse json::A;");
-    assert_eq!(nested.modules, [(1, "json")]);
+    assert_eq!(nested.modules, ["json"]);
 }
 
 #[test]

@@ -92,7 +92,7 @@ fn add_file(
         "mod" => folder.to_string(),
         _ => format!("{folder}/{file}"),
     };
-    for (_, inner) in erased.modules {
+    for inner in erased.modules {
         add_file(
             files,
             of,
