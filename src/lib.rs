@@ -70,7 +70,7 @@ pub mod contracts;
 
 // The code of that page is compiled and run.
 #[cfg(doctest)]
-#[doc = include_str!("../docs/FROM_FONT_TYPES.md")]
-mod from_font_types {}
+#[doc = include_str!("../docs/PORTING.md")]
+mod porting {}
 
 pub use font_types::*;
