@@ -4,9 +4,12 @@ ghost use Rattle.std.specs.Prelude.{◌≡◌, Some, false};
 
 use super::{ServeFault, serve};
 use crate::device::{Failed, FromRead, FromWrite, Sink, Source};
-use linked_list_allocator::LocalHeap;
 use std::alloc::Global;
 use std::test::Fail;
+
+mod refusing;
+
+use refusing::Refusing;
 
 const LINES: &[u8] = b"int24 fe1dc0\nint24 fe1d\n\nbogus 1\nuint8";
 
@@ -209,33 +212,33 @@ fn a_failed_write_keeps_what_passed(rt: HostRuntime) {
     }
 }
 
-// A heap that is too small for what the input needs, wherever that shows.
+// Each request for memory is refused in turn, until the input is answered. The last number of a row
+// is that of the requests.
 #[test]
-fn too_little_memory_writes_nothing(rt: HostRuntime) -> Result<(), Fail> {
-    let rows: &[(&str, &[u8], &[u8])] = &[
-        ("lines", LINES, ANSWERS),
-        ("a sum", SUM, b"15.5\n"),
-        ("a moved number", VARY, b"5521408\n"),
-        ("an image", IMAGE, b"30 -6 30 -6\n"),
+fn each_request_refused(rt: HostRuntime) -> Result<(), Fail> {
+    let rows: &[(&str, &[u8], &[u8], usize)] = &[
+        ("lines", LINES, ANSWERS, 8),
+        ("a sum", SUM, b"15.5\n", 8),
+        ("a moved number", VARY, b"5521408\n", 5),
+        ("an image", IMAGE, b"30 -6 30 -6\n", 6),
     ];
-    for &(name, input, answers) in rows {
-        let mut too_small = 0usize;
-        for size in (16..4096usize).step_by(16) {
-            let heap = LocalHeap::new(rt.alloc(), size)?;
+    for &(name, input, answers, requests) in rows {
+        let mut refused = 0usize;
+        for before in 0..100usize {
+            let memory = Refusing::after(before, rt.alloc());
             let mut source = Drip::new(input, usize::MAX);
             let mut sink = Trickle::new(rt.alloc(), usize::MAX);
-            let Err(fault) = serve(&heap, &mut source, &mut sink) else {
+            let Err(fault) = serve(&memory, &mut source, &mut sink) else {
                 assert!(rt; sink.taken.as_slice() == answers, "{name}");
                 break;
             };
             assert!(rt;
-                matches!(fault, ServeFault::Memory),
-                "{name} in {size} bytes"
+                matches!(fault, ServeFault::Memory) && sink.calls == 0,
+                "{name}, request {before}"
             );
-            assert!(rt; sink.calls == 0, "{name}, written in {size} bytes");
-            too_small = size;
+            refused = before + 1;
         }
-        assert!(rt; too_small >= 80, "{name} in {too_small} bytes");
+        assert!(rt; refused == requests, "{name}: {refused}");
     }
     Ok(())
 }
