@@ -399,21 +399,23 @@ fn deltas_applied(rt: HostRuntime) {
         (0, i64::MIN, i64::MIN),
         (-1, 0, -65536),
     ] {
-        let mut places = [7; 3];
-        let [first, second, third] = &mut places;
+        let (mut units, mut narrow, mut fixed) = (7, 7, 7);
         assert!(rt;
-            font_fword_apply_delta(base, delta, first) == 0,
+            font_fword_apply_delta(base, delta, &mut units) == 0,
             "font units, {base}"
         );
         assert!(rt;
-            font_f2dot14_apply_delta(base, delta, second) == 0,
+            font_f2dot14_apply_delta(base, delta, &mut narrow) == 0,
             "2.14, {base}"
         );
         assert!(rt;
-            font_fixed_apply_delta(i32::from(base), delta, third) == 0,
+            font_fixed_apply_delta(i32::from(base), delta, &mut fixed) == 0,
             "16.16, {base}"
         );
-        assert!(rt; places == [moved, moved, moved], "{base} and {delta}");
+        assert!(rt;
+            [units, narrow, fixed] == [moved, moved, moved],
+            "{base} and {delta}"
+        );
     }
     let mut moved = 7;
     assert!(rt; font_fword_apply_delta(-1, i64::MIN, &mut moved) == 2 && moved == 7);
