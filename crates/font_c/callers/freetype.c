@@ -32,7 +32,8 @@ static int failed;
 
 static void check(const char *name, int32_t ours, FT_Long theirs, int32_t x, int32_t y, int32_t z) {
     if (ours != (int32_t)theirs && failed++ < 10)
-        printf("%s(%d, %d, %d): %d, not %d\n", name, (int)x, (int)y, (int)z, (int)ours, (int)theirs);
+        printf("%s(%d, %d, %d): %d, not %d\n", name, (int)x, (int)y, (int)z, (int)ours,
+               (int)theirs);
 }
 
 int main(void) {

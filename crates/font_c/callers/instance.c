@@ -77,9 +77,9 @@ static int16_t mapped(bytes avar, int32_t coordinate) {
         int32_t x1 = font_f2dot14_to_fixed(f2dot14(map, 2 + 4 * i));
         int32_t y1 = font_f2dot14_to_fixed(f2dot14(map, 4 + 4 * i));
         if (coordinate <= x1) {
-            int32_t part = font_fixed_mul_div(font_fixed_sub(coordinate, x0), font_fixed_sub(y1, y0),
-                                              font_fixed_sub(x1, x0));
-            int32_t y = x1 == x0 ? y1 : font_fixed_add(y0, part);
+            int32_t rise = font_fixed_sub(y1, y0), run = font_fixed_sub(x1, x0);
+            int32_t part = font_fixed_mul_div(font_fixed_sub(coordinate, x0), rise, run);
+            int32_t y = run == 0 ? y1 : font_fixed_add(y0, part);
             return font_fixed_to_f2dot14(y);
         }
         x0 = x1;

@@ -64,7 +64,7 @@ typedef struct number_type {
 #define WIDENED(NAME, BITS)                                                                    \
     static uint32_t NAME##_from_decimal(const char *text, size_t length, int64_t *bits) {      \
         BITS place = (BITS)*bits;                                                              \
-        font_parse_status status = font_##NAME##_from_decimal(text, length, &place);                    \
+        uint32_t status = (uint32_t)font_##NAME##_from_decimal(text, length, &place);          \
         *bits = place;                                                                         \
         return status;                                                                         \
     }                                                                                          \
@@ -130,7 +130,7 @@ static bool read_line(const words *line) {
     return status == number(line, 3) && bits == number(line, 4);
 }
 
-/* Whether `length` bytes of `out`, which was full of `~`, are the text, and the rest is as it was. */
+/* Whether `length` bytes of `out`, which was full of `~`, are the text, and the rest unchanged. */
 static bool is_written(const char *out, size_t length, const char *text) {
     if (length != strlen(text) || memcmp(out, text, length) != 0)
         return false;
@@ -170,7 +170,8 @@ static bool pad_line(const words *line) {
     const char *text = strcmp(line->word[8], "refused") == 0 ? "" : line->word[8];
     char out[ROOM];
     memset(out, '~', ROOM);
-    if (font_pad_is_valid(&pad) != valid || !is_written(out, type->write_padded(number(line, 2), &pad, out, ROOM), text))
+    size_t length = type->write_padded(number(line, 2), &pad, out, ROOM);
+    if (font_pad_is_valid(&pad) != valid || !is_written(out, length, text))
         return false;
     if (pad.width > FONT_DECIMAL_ROOM)
         return true;
@@ -481,8 +482,8 @@ static bool set_line(const words *line) {
     return (int)status == number(line, 1) && sum == number(line, 2);
 }
 
-/* nulls STATUS STATUS STATUS SUM BASE MOVED: null pointers with the length 0. The statuses are those
-   of making a tag, of judging one and of the empty sum, and the places have 7 before. */
+/* nulls STATUS STATUS STATUS SUM BASE MOVED: null pointers with length 0. The statuses are those of
+   creating a tag, of checking one and of the empty sum; the places have 7 before. */
 static bool nulls_line(const words *line) {
     uint32_t tag = 7;
     uint32_t position = 7;
@@ -568,10 +569,12 @@ static bool is_complete(void) {
 static bool is_as_the_header_says(void) {
     font_pad pad = {8, 0, FONT_RIGHT, 0, 0};
     char out[8];
-    if (font_fixed_write_padded(98304, &pad, out, sizeof out) != 8 || memcmp(out, "     1.5", 8) != 0)
+    size_t length = font_fixed_write_padded(98304, &pad, out, sizeof out);
+    if (length != 8 || memcmp(out, "     1.5", 8) != 0)
         return false;
     switch ((uint32_t)0x676C7966) {
-    case FONT_TAG('g', 'l', 'y', 'f'): return strcmp(font_tag_status_text(FONT_TAG_GOOD), "valid tag") == 0;
+    case FONT_TAG('g', 'l', 'y', 'f'):
+        return strcmp(font_tag_status_text(FONT_TAG_GOOD), "valid tag") == 0;
     default: return false;
     }
 }

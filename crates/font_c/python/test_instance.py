@@ -28,10 +28,10 @@ def build(advances, sets):
     fvar = struct.pack(">HHHHHHHH4siiiHH", 1, 0, 16, 2, 1, 20, 0, 8, b"wght", *AXIS, 0, 256)
     pairs = b"".join(struct.pack(">hh", *pair) for pair in MAP)
     avar = struct.pack(">HHHHH", 1, 0, 0, 1, len(MAP)) + pairs
-    regions = struct.pack(">HH", 1, len(REGIONS)) + b"".join(struct.pack(">hhh", *r) for r in REGIONS)
-    order = range(len(REGIONS))
-    data = struct.pack(">HHH", len(sets), WORDS, len(REGIONS)) + struct.pack(f">{len(REGIONS)}H", *order)
-    data += b"".join(struct.pack(f">{WORDS}h{len(REGIONS) - WORDS}b", *deltas) for deltas in sets)
+    count = len(REGIONS)
+    regions = struct.pack(">HH", 1, count) + b"".join(struct.pack(">hhh", *r) for r in REGIONS)
+    data = struct.pack(f">HHH{count}H", len(sets), WORDS, count, *range(count))
+    data += b"".join(struct.pack(f">{WORDS}h{count - WORDS}b", *deltas) for deltas in sets)
     store = struct.pack(">HIHI", 1, 12, 1, 12 + len(regions)) + regions + data
     tables = {
         b"HVAR": struct.pack(">HHIIII", 1, 0, 20, 0, 0, 0) + store,
@@ -85,7 +85,8 @@ class Instances(unittest.TestCase):
         with tempfile.NamedTemporaryFile() as file:
             file.write(build(advances, sets))
             file.flush()
-            for text in ("100", "900", "400", "400.00001", "237.5", "99", "1000", "655.55", "399.99998"):
+            users = "100 900 400 400.00001 237.5 99 1000 655.55 399.99998"
+            for text in users.split():
                 x = coordinate(away(Fraction(text) * 65536))
                 scalars = [scalar(region, x) for region in REGIONS]
                 sums = [sum(a * b for a, b in zip(scalars, deltas)) for deltas in sets]
