@@ -23,3 +23,11 @@ fn example() -> Result<(), Box<dyn std::error::Error>> {
     assert_eq!(text, "1.2 256 2.25 120 40632320");
     Ok(())
 }
+
+#[test]
+fn the_page_has_the_example() {
+    let squeezed = |text: &str| text.split_whitespace().collect::<String>();
+    let source = squeezed(include_str!("readme.rs")).replace(",]", "]");
+    let [start, end] = ["letversion", "lettext"].map(|word| source.find(word).unwrap());
+    assert!(squeezed(include_str!("../README.md")).contains(&source[start..end]));
+}
