@@ -38,6 +38,7 @@ fn each_use_of_our_own() {
         format!("{:?}", NameId::predefined()).starts_with("[COPYRIGHT_NOTICE, FAMILY_NAME, ");
         { let error = GlyphId16::try_from(GlyphId::new(1 << 20)).unwrap_err(); error.clone() == error };
         is_copy::<DecimalFault>() && is_copy::<InvalidTag>() && is_copy::<TryFromUint24Error>();
+        is_error::<DecimalFault>();
         {
             let table = TableDataRef::<SampleHeader>::new(&[0, 1, 0, 0, 0, 2]).unwrap();
             format!("{table:?} {:?}", table.header()) == "TableDataRef([0, 1, 0, 0, 0, 2]) SampleHeader { a: 1, b: 2 }"
@@ -59,7 +60,7 @@ fn each_use_of_our_own() {
         F2Dot30::from(F2Dot14::MIN) == F2Dot30::MIN && F2Dot30::MAX.to_fixed().to_bits() == 131072;
         Fixed::from_steps(3) == Some(Fixed::from_bits(3)) && Fixed::from_steps(1 << 31).is_none();
     };
-    assert_eq!(count, 36);
+    assert_eq!(count, 37);
 }
 
 // What `font-types` has not as a `const` of any type, beside what it has of its own types.
