@@ -201,7 +201,7 @@ fn tags() {
         let tag = Tag::new(&four);
         assert_eq!(tag.to_string(), words[5].replace('_', " "));
         let pos: usize = words[4].parse().unwrap();
-        let judged = match words[3] {
+        let checked = match words[3] {
             "0" => Ok(()),
             "1" => Err(InvalidTag::InvalidLength(0)),
             "2" => Err(InvalidTag::InvalidByte {
@@ -210,7 +210,7 @@ fn tags() {
             }),
             _ => Err(InvalidTag::ByteAfterSpace { pos }),
         };
-        assert_eq!(tag.validate(), judged, "{words:?}");
+        assert_eq!(tag.validate(), checked, "{words:?}");
     }
 }
 

@@ -38,8 +38,8 @@ struct Calls<'a> {
 }
 
 impl Calls<'_> {
-    fn judge<T: PartialEq>(&mut self, c: T, rust: T, example: impl FnOnce() -> String) {
-        self.tally.judge(self.row, c == rust, example);
+    fn check<T: PartialEq>(&mut self, c: T, rust: T, example: impl FnOnce() -> String) {
+        self.tally.check(self.row, c == rust, example);
         self.row += 1;
     }
 }
@@ -56,7 +56,7 @@ macro_rules! exports {
         fn numbers(random: &mut Random, calls: &mut Calls) {
             $({
                 $(let $x = random.any() as $kind;)*
-                calls.judge($name($($x),*), $rust, || format!("{:?}", ($($x,)*)));
+                calls.check($name($($x),*), $rust, || format!("{:?}", ($($x,)*)));
             })*
         }
     };
@@ -146,7 +146,7 @@ macro_rules! stores {
                 let status = $name($($x,)* &mut place);
                 let rust: Option<$result> = $rust;
                 let rust = rust.map_or((2, KEPT.into()), |result| (0, result));
-                calls.judge((status, place), rust, || format!("{:?}", ($($x,)*)));
+                calls.check((status, place), rust, || format!("{:?}", ($($x,)*)));
             })*
         }
     };
@@ -191,7 +191,7 @@ macro_rules! fields {
                 let status = unsafe { $name(bytes.as_ptr(), 8, offset, &mut value) };
                 let field = bytes[offset.min(8)..].first_chunk::<$len>();
                 let rust = field.map_or((1, KEPT.into()), |field| (0, $rust(*field)));
-                calls.judge((status, value), rust, || format!("{bytes:?} {offset}"));
+                calls.check((status, value), rust, || format!("{bytes:?} {offset}"));
             })*
         }
     };
@@ -242,11 +242,11 @@ macro_rules! of_fixed_point_types {
             pub fn compare(bits: $bits, random: &mut Random, calls: &mut Calls) {
                 let number = $Type::from_bits(bits);
                 let example = || format!("bits {bits}");
-                calls.judge(round(bits), number.round().to_bits(), example);
-                calls.judge(floor(bits), number.floor().to_bits(), example);
+                calls.check(round(bits), number.round().to_bits(), example);
+                calls.check(floor(bits), number.floor().to_bits(), example);
                 let (text, room) = (number.to_string(), random.below(28) as usize);
                 let c = written(|out| unsafe { to_decimal(bits, out, room) });
-                calls.judge(c, fitting(&text, room), example);
+                calls.check(c, fitting(&text, room), example);
 
                 let text = random.near_text(&text);
                 let mut read = KEPT.into();
@@ -256,13 +256,13 @@ macro_rules! of_fixed_point_types {
                     Err(DecimalFault::Syntax) => (1, KEPT.into()),
                     Err(DecimalFault::OutOfRange) => (2, KEPT.into()),
                 };
-                calls.judge((status, read), rust, || String::from_utf8_lossy(&text).into());
+                calls.check((status, read), rust, || String::from_utf8_lossy(&text).into());
 
                 let (of, room) = (font_pad(random), random.below(50) as usize);
                 let c = written(|out| unsafe { write_padded(bits, &of, out, room) });
                 let mut out = [KEPT; 64];
                 let len = pad(&of).and_then(|pad| number.write_padded(&mut out[..room], &pad));
-                calls.judge(c, (len.unwrap_or(0), out), || format!("{bits}, {of:?}"));
+                calls.check(c, (len.unwrap_or(0), out), || format!("{bits}, {of:?}"));
             }
         })*
     };
@@ -365,9 +365,9 @@ pub fn compare(work: &mut Work) {
 }
 
 fn matrices(random: &mut Random, calls: &mut Calls) {
-    calls.judge(unsafe { font_types_version() }, 0x000300, String::new);
+    calls.check(unsafe { font_types_version() }, 0x000300, String::new);
     let of = font_pad(random);
-    calls.judge(
+    calls.check(
         unsafe { font_pad_is_valid(&of) },
         pad(&of).is_some(),
         || format!("{of:?}"),
@@ -380,28 +380,28 @@ fn matrices(random: &mut Random, calls: &mut Calls) {
     let p = Point::new(fixed(q.0[0]), fixed(q.0[1]));
     let example = || format!("{:?} {:?} {:?}", m.0, n.0, q.0);
     let product = FontMatrix((a * b).elements().map(Fixed::to_bits));
-    calls.judge(unsafe { font_matrix_product(m, n) }, product, example);
+    calls.check(unsafe { font_matrix_product(m, n) }, product, example);
     let point = |p: Point<Fixed>| FontPoint([p.x, p.y].map(Fixed::to_bits));
-    calls.judge(unsafe { font_matrix_image(m, q) }, point(a * p), example);
+    calls.check(unsafe { font_matrix_image(m, q) }, point(a * p), example);
     let linear = Matrix {
         dx: Fixed::ZERO,
         dy: Fixed::ZERO,
         ..a
     };
-    calls.judge(
+    calls.check(
         unsafe { font_matrix_vector(m, q) },
         point(linear * p),
         example,
     );
     let mut points = [q; 3];
     unsafe { font_matrix_images(&m, points.as_mut_ptr(), 2) };
-    calls.judge(points, [point(a * p), point(a * p), q], example);
-    calls.judge(
+    calls.check(points, [point(a * p), point(a * p), q], example);
+    calls.check(
         unsafe { font_matrix_composed(m, n, q) },
         point(composed(a, b, p)),
         example,
     );
-    calls.judge(
+    calls.check(
         unsafe { font_matrix_in_turn(m, n, q) },
         point(in_turn(a, b, p)),
         example,
@@ -430,7 +430,7 @@ fn tags(random: &mut Random, calls: &mut Calls) {
     let number = |tag: Tag| u32::from_be_bytes(tag.to_be_bytes());
     let rust = Tag::new_checked(&bytes).map_err(status);
     let rust = rust.map_or_else(|error| (error.0, KEPT.into()), |tag| (0, number(tag)));
-    calls.judge((made, tag), rust, example);
+    calls.check((made, tag), rust, example);
 
     let mut position = KEPT.into();
     let valid = unsafe { font_tag_validate(bytes.as_ptr(), bytes.len(), &mut position) };
@@ -438,7 +438,7 @@ fn tags(random: &mut Random, calls: &mut Calls) {
         Ok(four) => Tag::new(&four).validate().map_err(status),
         Err(_) => Err((1, KEPT.into())),
     };
-    calls.judge(
+    calls.check(
         (valid, position),
         rust.err().unwrap_or((0, KEPT.into())),
         example,
@@ -449,7 +449,7 @@ fn tags(random: &mut Random, calls: &mut Calls) {
         random.below(30) as usize,
     );
     let c = written(|out| unsafe { font_tag_to_text(number(tag), out, room) });
-    calls.judge(c, fitting(&tag.to_string(), room), || {
+    calls.check(c, fitting(&tag.to_string(), room), || {
         format!("{tag:?}, room {room}")
     });
 }
@@ -484,7 +484,7 @@ fn sums(random: &mut Random, calls: &mut Calls) {
     let mut sum = KEPT.into();
     let status = unsafe { font_checked_delta_sum(x, n, d, m, &mut sum) };
     let exact = checked_delta_sum(&terms).map(|sum| sum.to_bits());
-    calls.judge((status, sum), rust(exact), example);
+    calls.check((status, sum), rust(exact), example);
     let words = random.below(n as u64 + 2) as usize;
     let set = deltas.iter().zip(0..).flat_map(|(delta, i)| {
         let bytes = (*delta as i16).to_be_bytes();
@@ -503,9 +503,9 @@ fn sums(random: &mut Random, calls: &mut Calls) {
         Some(sum) => (0, sum),
         None => (2, KEPT.into()),
     };
-    calls.judge((status, sum), found, example);
+    calls.check((status, sum), found, example);
     let mut moved = KEPT.into();
     let status = unsafe { font_vary(base, x, n, d, m, &mut moved) };
     let varied = vary(FWord::new(base), &terms).and_then(|moved| i64::try_from(moved).ok());
-    calls.judge((status, moved), rust(varied), example);
+    calls.check((status, moved), rust(varied), example);
 }

@@ -73,7 +73,7 @@ pub fn compare(work: &mut Work) {
         let (c, d) = (there::matrix(&bits), there::matrix(&bits[6..]));
         let q = there::point(&bits[12..]);
         let example = || format!("bits {bits:?}");
-        tally.judge(0, here::elements(a * b) == there::elements(c * d), example);
+        tally.check(0, here::elements(a * b) == there::elements(c * d), example);
         let images = [
             [here::coordinates(a * p), there::coordinates(c * q)],
             [
@@ -86,8 +86,8 @@ pub fn compare(work: &mut Work) {
             ],
         ];
         tally.judge_each(1, images, example);
-        tally.judge(4, here::points(&bits) == there::points(&bits), example);
-        tally.judge(5, here::boxes(&bits) == there::boxes(&bits), example);
+        tally.check(4, here::points(&bits) == there::points(&bits), example);
+        tally.check(5, here::boxes(&bits) == there::boxes(&bits), example);
     });
 }
 
@@ -117,7 +117,7 @@ fn sum(random: &mut Random, tally: &mut Tally) {
     for [x, delta] in bits {
         wrapping += there::Fixed::from_bits(*x).mul_i32(*delta);
     }
-    tally.judge(
+    tally.check(
         0,
         delta_sum(&terms).to_bits() == wrapping.to_bits(),
         example,
@@ -125,9 +125,9 @@ fn sum(random: &mut Random, tally: &mut Tally) {
     let checked = checked_delta_sum(&terms).map(|sum| i128::from(sum.to_bits()));
     let in_range = Some(exact).filter(|sum| i64::try_from(*sum).is_ok());
     let row = if in_range.is_some() { 1 } else { 2 };
-    tally.judge(row, checked == in_range, example);
+    tally.check(row, checked == in_range, example);
     let varied = in_range.map(|sum| i128::from(base) * 65536 + sum);
-    tally.judge(3, vary(here::FWord::new(base), &terms) == varied, example);
+    tally.check(3, vary(here::FWord::new(base), &terms) == varied, example);
 }
 
 // Every other number is an end, so that many sums leave 64 bits.

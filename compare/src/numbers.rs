@@ -41,13 +41,13 @@ pub fn compare(work: &mut Work, of: &Both) {
 fn value(of: &Both, bits: i64, is_chosen: bool, tally: &mut Tally) {
     let example = || format!("bits {bits}");
     let [text, other] = [of.write, of.write_there].map(|write| Text::of(|text| write(bits, text)));
-    tally.judge(0, text.as_str() == other.as_str(), example);
-    tally.judge(2, (of.read)(text.as_str()) == Ok(bits), example);
+    tally.check(0, text.as_str() == other.as_str(), example);
+    tally.check(2, (of.read)(text.as_str()) == Ok(bits), example);
     tally.judge_each(4, (of.unary)(bits), example);
     if is_chosen {
         let shortest = exact::shortest(bits.into(), of.fraction_bits);
-        tally.judge(1, text.as_str() == shortest, example);
-        tally.judge(3, padded_alike(of, bits), example);
+        tally.check(1, text.as_str() == shortest, example);
+        tally.check(3, padded_alike(of, bits), example);
     }
 }
 
@@ -107,12 +107,12 @@ pub fn all_sums(work: &mut Work) {
 fn sums(work: &mut Work, of: &Both) {
     let edges = edges(of.width);
     let n = edges.len() as u64;
-    let judge = |x: i64, y: i64, tally: &mut Tally| {
+    let check = |x: i64, y: i64, tally: &mut Tally| {
         tally.judge_each(0, (of.sums)(x, y), || format!("bits {x} and {y}"));
     };
     let title = format!("{}, sums of edges", of.name);
     work.go_over(&title, &SUMS, n * n, |index, tally| {
-        judge(
+        check(
             edges[(index / n) as usize],
             edges[(index % n) as usize],
             tally,
@@ -120,7 +120,7 @@ fn sums(work: &mut Work, of: &Both) {
     });
     let title = format!("{}, sums of random pairs", of.name);
     work.go_over_random(&title, &SUMS, 10_000_000, |random, tally| {
-        judge(random.bits_64(), random.bits_64(), tally);
+        check(random.bits_64(), random.bits_64(), tally);
     });
 }
 
@@ -158,11 +158,11 @@ fn of_three(bits: [i32; 3], tally: &mut Tally) {
     let pairs = fixed.into_iter().flatten().zip(other.into_iter().flatten());
     tally.judge_each(0, pairs.map(|(x, y)| [x, y]), example);
     let (sum, other) = (x.mul_i32(bits[1]).to_bits(), u.mul_i32(bits[1]).to_bits());
-    tally.judge(3, sum == other, example);
+    tally.check(3, sum == other, example);
     let [x, y, _] = bits.map(here::F26Dot6::from_bits);
     let [u, v, _] = bits.map(there::F26Dot6::from_bits);
-    tally.judge(4, (x * y).to_bits() == (u * v).to_bits(), example);
-    tally.judge(5, (x / y).to_bits() == (u / v).to_bits(), example);
+    tally.check(4, (x * y).to_bits() == (u * v).to_bits(), example);
+    tally.check(5, (x / y).to_bits() == (u / v).to_bits(), example);
 }
 
 /// Conversions of every value of `Fixed` and `F26Dot6`, and of random values of the others.
@@ -250,5 +250,5 @@ fn of_48_dot_16(random: &mut Random, tally: &mut Tally) {
         && here::F2Dot14::from_bits(half).apply_delta(x) == moved(half.into())
         && here::FWord::new(half).apply_delta(x) == moved(half.into())
         && here::UfWord::new(half as u16).apply_delta(x) == moved((half as u16).into());
-    tally.judge(5, is_exact, example);
+    tally.check(5, is_exact, example);
 }

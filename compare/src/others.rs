@@ -15,7 +15,7 @@ macro_rules! alike {
             use there as $side;
             $call
         };
-        $tally.judge($row, answer == other, $example);
+        $tally.check($row, answer == other, $example);
     }};
 }
 

@@ -1,4 +1,4 @@
-//! Decimals that are read: judged by whole numbers, refusals and ends included, and beside what
+//! Decimals that are read: checked by whole numbers, refusals and ends included, and beside what
 //! `font-types` makes of the text by way of f64, where that lies on the same side of a half step.
 
 use crate::both::{ALL, Both};
@@ -133,10 +133,10 @@ fn read(of: &Both, text: &str, steps: i128, is_safe_in_f64: bool, tally: &mut Ta
         Err(DecimalFault::OutOfRange)
     };
     let here = (of.read)(text);
-    tally.judge(0, here == wanted, example);
+    tally.check(0, here == wanted, example);
     if is_safe_in_f64 && is_in_range {
         let there = text.parse().map(of.from_f64);
-        tally.judge(1, there.ok() == here.ok(), example);
+        tally.check(1, there.ok() == here.ok(), example);
     }
 }
 
@@ -157,7 +157,7 @@ fn other_form(of: &Both, random: &mut Random, tally: &mut Tally) {
     }
     let is_syntax = |text: &str| (of.read)(text).err() == Some(DecimalFault::Syntax);
     let row = usize::from(is_decimal(&text));
-    tally.judge(row, is_syntax(&text) == (row == 0), || format!("{text:?}"));
+    tally.check(row, is_syntax(&text) == (row == 0), || format!("{text:?}"));
 }
 
 // An optional `-`, digits, and then nothing, or a point and digits.

@@ -1,4 +1,4 @@
-//! Tags: all of them, by both judges, and other bytes.
+//! Tags: all of them, by both checks, and other bytes.
 
 use crate::both::there;
 use crate::work::Work;
@@ -6,25 +6,25 @@ use font_types_proved as here;
 
 /// All of it.
 pub fn compare(work: &mut Work) {
-    judged(work);
+    checked(work);
     of_other_lengths(work);
     texts(work);
 }
 
 // Every four bytes.
-fn judged(work: &mut Work) {
+fn checked(work: &mut Work) {
     let names = ["validate", "new_checked"];
     work.go_over_all("Tags, every four bytes", &names, 32, |index, tally| {
         let bytes = (index as u32).to_be_bytes();
         let example = || format!("{bytes:X?}");
         let here = here::Tag::new(&bytes).validate();
         let there = there::Tag::new(&bytes).validate();
-        tally.judge(
+        tally.check(
             0,
             here.map_err(fault) == there.map_err(fault_there),
             example,
         );
-        tally.judge(1, made_alike(&bytes), example);
+        tally.check(1, made_alike(&bytes), example);
     });
 }
 
@@ -34,7 +34,7 @@ fn of_other_lengths(work: &mut Work) {
         let title = format!("Tags of {length} bytes");
         work.go_over_all(&title, &["new_checked"], 8 * length, |index, tally| {
             let bytes = &index.to_le_bytes()[..length as usize];
-            tally.judge(0, made_alike(bytes), || format!("{bytes:X?}"));
+            tally.check(0, made_alike(bytes), || format!("{bytes:X?}"));
         });
     }
     let names = ["new_checked", "from_str, of texts"];
@@ -45,12 +45,12 @@ fn of_other_lengths(work: &mut Work) {
         |random, tally| {
             let number = random.next();
             let bytes = &number.to_le_bytes()[..5];
-            tally.judge(0, made_alike(bytes), || format!("{bytes:X?}"));
+            tally.check(0, made_alike(bytes), || format!("{bytes:X?}"));
             let text = [bytes[0] & 0x7F, bytes[1] & 0x7F, bytes[2] & 0x7F, b' '];
             let text = str::from_utf8(&text[..1 + (number >> 62) as usize]).expect("ASCII");
             let made = text.parse().map(|tag: here::Tag| tag.to_be_bytes());
             let other = text.parse().map(|tag: there::Tag| tag.to_be_bytes());
-            tally.judge(1, made.map_err(fault) == other.map_err(fault_there), || {
+            tally.check(1, made.map_err(fault) == other.map_err(fault_there), || {
                 text.into()
             });
         },
@@ -65,13 +65,13 @@ fn texts(work: &mut Work) {
         let (a, b) = (number.to_be_bytes(), other.to_be_bytes());
         let example = || format!("{a:X?} and {b:X?}");
         let (x, y) = (here::Tag::new(&a), there::Tag::new(&a));
-        tally.judge(0, x.to_string() == y.to_string(), example);
-        tally.judge(1, format!("{x:?}") == format!("{y:?}"), example);
+        tally.check(0, x.to_string() == y.to_string(), example);
+        tally.check(1, format!("{x:?}") == format!("{y:?}"), example);
         let (u, v) = (here::Tag::new(&b), there::Tag::new(&b));
-        tally.judge(2, x.cmp(&u) == y.cmp(&v), example);
+        tally.check(2, x.cmp(&u) == y.cmp(&v), example);
         let numbers =
             here::Tag::from_u32(number).into_bytes() == there::Tag::from_u32(number).into_bytes();
-        tally.judge(3, numbers, example);
+        tally.check(3, numbers, example);
     });
 }
 

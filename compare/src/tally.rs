@@ -28,7 +28,7 @@ impl Tally {
     }
 
     /// Counts one comparison. `example` is called for the first difference of the row.
-    pub fn judge(&mut self, row: usize, agree: bool, example: impl FnOnce() -> String) {
+    pub fn check(&mut self, row: usize, agree: bool, example: impl FnOnce() -> String) {
         let row = &mut self.rows[row];
         if agree {
             row.same += 1;
@@ -46,7 +46,7 @@ impl Tally {
         example: impl Fn() -> String,
     ) {
         for (row, [here, there]) in (first..).zip(answers) {
-            self.judge(row, here == there, &example);
+            self.check(row, here == there, &example);
         }
     }
 

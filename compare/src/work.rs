@@ -97,8 +97,8 @@ mod tests {
             different: 0,
         };
         work.go_over("a part", &["one", "two"], inputs, |index, tally| {
-            tally.judge(0, true, String::new);
-            tally.judge(1, index != wrong, || format!("{index}"));
+            tally.check(0, true, String::new);
+            tally.check(1, index != wrong, || format!("{index}"));
         });
         (work.compared, work.different)
     }

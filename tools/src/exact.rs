@@ -202,7 +202,7 @@ pub enum TagFault {
 }
 
 /// Judges bytes as those of a tag: visible characters, then spaces alone.
-pub fn judge(bytes: &[u8]) -> Result<(), TagFault> {
+pub fn check(bytes: &[u8]) -> Result<(), TagFault> {
     let visible = |byte: u8| (0x21..=0x7E).contains(&byte);
     for (at, byte) in bytes.iter().enumerate() {
         match bytes[..at].last() {

@@ -118,7 +118,7 @@ fn read(words: &[&[u8]]) -> Answer {
 
 fn tag(words: &[&[u8]]) -> Answer {
     let bytes = bytes(words, 4)?;
-    let verdict = match exact::judge(&bytes) {
+    let verdict = match exact::check(&bytes) {
         _ if bytes == [b' '; 4] => "length".into(),
         Ok(()) => "valid".into(),
         Err(TagFault::Byte(at)) => format!("byte {at}"),

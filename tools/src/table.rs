@@ -181,7 +181,7 @@ fn matrix(words: &[&str]) -> String {
 fn tag(digits: &str) -> String {
     let byte = |at: usize| u8::from_str_radix(&digits[at..at + 2], 16).unwrap();
     let bytes: Vec<u8> = (0..digits.len()).step_by(2).map(byte).collect();
-    let fault = exact::judge(&bytes);
+    let fault = exact::check(&bytes);
     let made = match fault {
         _ if bytes.is_empty() || bytes.len() > 4 => (1, KEPT),
         Err(_) => (2, KEPT),
@@ -192,7 +192,7 @@ fn tag(digits: &str) -> String {
             }),
         ),
     };
-    let judged = match fault {
+    let checked = match fault {
         _ if bytes.len() != 4 || bytes == [b' '; 4] => (1, KEPT),
         Ok(()) => (0, KEPT),
         Err(TagFault::Byte(at)) => (2, at as i128),
@@ -202,7 +202,7 @@ fn tag(digits: &str) -> String {
         4 => exact::tag_text(&bytes).replace(' ', "_"),
         _ => "none".into(),
     };
-    format!("{} {} {} {} {text}", made.0, made.1, judged.0, judged.1)
+    format!("{} {} {} {} {text}", made.0, made.1, checked.0, checked.1)
 }
 
 // The status of a number that is stored if it fits, and what is then in the place.
