@@ -18,13 +18,15 @@ use text::Text;
 const INPUTS: usize = 1024;
 const ROUNDS: usize = 300;
 
-/// What the loops go over: numbers of any magnitude, decimals of them, two of 5,000 digits, and four
-/// bytes.
+/// What the loops go over: numbers of any magnitude, decimals of them, two of 5,000 digits, four
+/// bytes, and sorted tables of 64, 512 and 4096 big-endian `u16`, as arrays and as slices of fields.
 struct Inputs {
     bits: [[i32; 14]; INPUTS],
     texts: Vec<String>,
     long: [String; 2],
     tags: [[u8; 4]; INPUTS],
+    arrays: [font_types_proved::ScalarArray<'static, u16>; 3],
+    slices: [&'static [font_types::BigEndian<u16>]; 3],
 }
 
 fn inputs() -> Inputs {
@@ -41,11 +43,18 @@ fn inputs() -> Inputs {
     let tags =
         std::array::from_fn(|_| *[b"wght", b"cvt ", b"kern", b"a\x07bc"][next() as usize % 4]);
     let long = ["0.", "-12345."].map(|front| format!("{front}{}", "12345".repeat(1000)));
+    let table: Vec<u8> = (0..4096u16).flat_map(|n| (16 * n).to_be_bytes()).collect();
+    let fields: Vec<_> = (0..4096u16).map(|n| (16 * n).into()).collect();
+    let (table, fields) = (&*table.leak(), &*fields.leak());
+    let array = |len| font_types_proved::ScalarArray::new(&table[..2 * len]).expect("even");
+    let lens = [64, 512, 4096];
     Inputs {
         bits,
         texts,
         long,
         tags,
+        arrays: lens.map(array),
+        slices: lens.map(|len| &fields[..len]),
     }
 }
 
@@ -53,6 +62,12 @@ fn inputs() -> Inputs {
 #[inline(always)]
 fn few<const N: usize>(inputs: &Inputs, n: usize) -> [i32; N] {
     black_box(std::array::from_fn(|place| inputs.bits[n][place]))
+}
+
+/// A key that is anywhere in the table.
+#[inline(always)]
+fn key(inputs: &Inputs, n: usize) -> u16 {
+    black_box((inputs.bits[n][0].wrapping_mul(0x9E37_79B1_u32 as i32) >> 16) as u16)
 }
 
 fn printed(value: impl Display) -> usize {
@@ -89,10 +104,26 @@ macro_rules! sides {
     };
 }
 
-/// The crates, each with a reader of decimals.
+/// The crates, each with a reader of decimals, and calls on the first elements of the table, which
+/// there are a slice of fields.
 mod sides {
     pub mod here {
+        use crate::Inputs;
         pub use font_types_proved::*;
+        use std::hint::black_box;
+
+        pub fn search(inputs: &Inputs, table: usize, key: u16) -> Result<usize, usize> {
+            black_box(inputs.arrays[table]).binary_search(&key)
+        }
+
+        pub fn summed(inputs: &Inputs) -> u32 {
+            black_box(inputs.arrays[1]).iter().map(u32::from).sum()
+        }
+
+        pub fn summed_by_get(inputs: &Inputs) -> u32 {
+            let array = black_box(inputs.arrays[1]);
+            (0..512).map(|n| array.get(n).map_or(0, u32::from)).sum()
+        }
 
         pub fn read(text: &str) -> i32 {
             Fixed::from_decimal(text).map_or(0, Fixed::to_bits)
@@ -100,7 +131,25 @@ mod sides {
     }
 
     pub mod there {
+        use crate::Inputs;
         pub use font_types::*;
+        use std::hint::black_box;
+
+        pub fn search(inputs: &Inputs, table: usize, key: u16) -> Result<usize, usize> {
+            black_box(inputs.slices[table]).binary_search_by_key(&key, BigEndian::get)
+        }
+
+        pub fn summed(inputs: &Inputs) -> u32 {
+            let fields = black_box(inputs.slices[1]).iter();
+            fields.map(|field| u32::from(field.get())).sum()
+        }
+
+        pub fn summed_by_get(inputs: &Inputs) -> u32 {
+            let fields = black_box(inputs.slices[1]);
+            (0..512)
+                .map(|n| fields.get(n).map_or(0, |field| field.get().into()))
+                .sum()
+        }
 
         pub fn read(text: &str) -> i32 {
             text.parse().map_or(0, |x| Fixed::from_f64(x).to_bits())
@@ -153,6 +202,11 @@ sides! {
         let wanted = BigEndian::from(black_box(i.bits[n][13]) as u32);
         black_box(&fields).iter().position(|field| *field == wanted)
     };
+    search_64(i, n) "a search in 64 elements" search(i, 0, key(i, n) >> 6);
+    search_512(i, n) "a search in 512 elements" search(i, 1, key(i, n) >> 3);
+    search_4096(i, n) "a search in 4096 elements" search(i, 2, key(i, n));
+    scan(i, _n) "512 elements, summed" summed(i);
+    scan_by_get(i, _n) "512 elements, summed by get" summed_by_get(i);
     predefined(_i, _n) "NameId::predefined, summed" {
         NameId::predefined().map(|id| u32::from(black_box(id).to_u16())).sum::<u32>()
     };
