@@ -399,7 +399,9 @@ fn deltas_applied(rt: HostRuntime) {
         (0, i64::MIN, i64::MIN),
         (-1, 0, -65536),
     ] {
-        let (mut units, mut narrow, mut fixed) = (7, 7, 7);
+        let mut units = 7;
+        let mut narrow = 7;
+        let mut fixed = 7;
         assert!(rt;
             font_fword_apply_delta(base, delta, &mut units) == 0,
             "font units, {base}"
