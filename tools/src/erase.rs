@@ -64,7 +64,7 @@ const KEPT: &str = "allow cold deprecated doc inline must_use non_exhaustive rep
 const PRELUDE: [&str; 4] = ["HostRuntime", "String", "Vec", "hex"];
 
 /// Modules of `std` that Rattle has in another form than Rust. The program has its own.
-const RATTLE_STD: [&str; 2] = ["alloc", "io"];
+const RATTLE_STD: [&str; 3] = ["alloc", "io", "simd"];
 
 /// Returns a slice of bytes unchanged; its contract says that each element is below 256.
 const IDENTITY: &str = "each_is_byte";

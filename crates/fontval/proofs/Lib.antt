@@ -1,5 +1,6 @@
 pub mod WordByWord
 pub mod Commands
 pub mod Writes
+pub mod Search
 pub mod Lines
 pub mod Hexadecimal

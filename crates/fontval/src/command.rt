@@ -68,6 +68,7 @@ pub enum FixedType {
 
 impl Command {
     /// Returns the command that a word names.
+    #[inline(always)]
     pub fn named(word: &[u8]) -> Result<Command, Refusal>
         ensures { IsNamed word.now result }
     {

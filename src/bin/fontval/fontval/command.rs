@@ -63,6 +63,7 @@ pub enum FixedType {
 
 impl Command {
     /// Returns the command that a word names.
+    #[inline(always)]
     pub fn named(word: &[u8]) -> Result<Command, Refusal> {
         Ok(match word {
             b"uint8" => Command::Integer(IntegerType::Uint8),
