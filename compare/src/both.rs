@@ -3,19 +3,52 @@
 
 use crate::text::Text;
 use font_types_proved::{self as here, DecimalFault, Pad};
-use std::fmt::{self, Write};
+use std::fmt::{self, Write as _};
 
-/// The other side.
+/// The other side, with what it has not.
 pub mod there {
-    use crate::exact::Number;
+    pub use crate::exact::F2Dot30;
     pub use font_types::*;
 
-    // What `font-types` has not, by its bytes and its bits of fraction.
-    pub type F2Dot30 = Number<4, 30>;
+    pub mod laws {
+        use font_types::{Fixed, Matrix, Point};
+
+        pub fn composed(a: Matrix<Fixed>, b: Matrix<Fixed>, p: Point<Fixed>) -> Point<Fixed> {
+            (a * b) * p
+        }
+
+        pub fn in_turn(a: Matrix<Fixed>, b: Matrix<Fixed>, p: Point<Fixed>) -> Point<Fixed> {
+            a * (b * p)
+        }
+    }
 }
 
-/// What both sides give, as bits: here, and there.
-pub type Answers = [Option<i64>; 2];
+/// What the same calls of both sides give: here, and there.
+macro_rules! sides {
+    ($side:ident => $call:expr) => {
+        [
+            {
+                use font_types_proved as $side;
+                $call
+            },
+            {
+                use crate::both::there as $side;
+                $call
+            },
+        ]
+    };
+}
+
+/// Compares the same calls of both sides, as one answer.
+macro_rules! alike {
+    ($tally:ident, $row:expr, $example:expr, $side:ident => $call:expr) => {
+        let [here, there] = sides!($side => $call);
+        $tally.check($row, here == there, $example);
+    };
+}
+
+/// Writes a number by `{}`.
+type Write = fn(i64, &mut Text) -> fmt::Result;
 
 /// The calls of a number type of both crates. A number is given by its low bits.
 pub struct Both {
@@ -26,14 +59,12 @@ pub struct Both {
     pub from_f64: fn(f64) -> i64,
     /// The number's bits.
     pub bits: fn(i64) -> i64,
-    /// Writes the number by `{}`, here and there.
-    pub write: fn(i64, &mut Text) -> fmt::Result,
-    pub write_there: fn(i64, &mut Text) -> fmt::Result,
+    pub write: [Write; 2],
     pub read: fn(&str) -> Result<i64, DecimalFault>,
     /// `round`, `floor`, `fract`, `abs`, `-`, and the bytes as a number.
-    pub unary: fn(i64) -> [Answers; 6],
+    pub unary: fn(i64) -> [[i64; 6]; 2],
     /// `+`, `-`, `wrapping_add`, `wrapping_sub`, `saturating_add`, `saturating_sub`, `checked_add`.
-    pub sums: fn(i64, i64) -> [Answers; 7],
+    pub sums: fn(i64, i64) -> [[Option<i64>; 7]; 2],
     pub write_padded: fn(i64, &mut [u8], &Pad) -> Option<usize>,
     /// The number there, with width, fill, alignment, sign and zeros.
     pub padded_there: fn(i64) -> [String; 6],
@@ -47,38 +78,29 @@ macro_rules! both {
             fraction_bits: $f,
             from_f64: |x| there::$Type::from_f64(x).to_bits().into(),
             bits: |bits| (bits as $bits).into(),
-            write: |bits, text| write!(text, "{}", here::$Type::from_bits(bits as $bits)),
-            write_there: |bits, text| write!(text, "{}", there::$Type::from_bits(bits as $bits)),
+            write: sides!(s => |bits, text| {
+                write!(text, "{}", s::$Type::from_bits(bits as $bits))
+            }),
             read: |text| here::$Type::from_decimal(text).map(|x| x.to_bits().into()),
-            unary: |bits| {
-                let x = here::$Type::from_bits(bits as $bits);
-                let y = there::$Type::from_bits(bits as $bits);
-                let bytes = |bytes| Some($bits::from_be_bytes(bytes).into());
-                [
-                    both!(@bits x.round(), y.round()),
-                    both!(@bits x.floor(), y.floor()),
-                    both!(@bits x.fract(), y.fract()),
-                    both!(@bits x.abs(), y.abs()),
-                    both!(@bits -x, -y),
-                    [bytes(x.to_be_bytes()), bytes(y.to_be_bytes())],
-                ]
-            },
-            sums: |a, b| {
-                let [x, y] = [a, b].map(|bits| here::$Type::from_bits(bits as $bits));
-                let [v, w] = [a, b].map(|bits| there::$Type::from_bits(bits as $bits));
-                [
-                    both!(@bits x + y, v + w),
-                    both!(@bits x - y, v - w),
-                    both!(@bits x.wrapping_add(y), v.wrapping_add(w)),
-                    both!(@bits x.wrapping_sub(y), v.wrapping_sub(w)),
-                    both!(@bits x.saturating_add(y), v.saturating_add(w)),
-                    both!(@bits x.saturating_sub(y), v.saturating_sub(w)),
-                    [
-                        x.checked_add(y).map(|sum| sum.to_bits().into()),
-                        v.checked_add(w).map(|sum| sum.to_bits().into()),
-                    ],
-                ]
-            },
+            unary: |bits| sides!(s => {
+                let x = s::$Type::from_bits(bits as $bits);
+                let bytes = s::$Type::from_bits($bits::from_be_bytes(x.to_be_bytes()));
+                let all = [x.round(), x.floor(), x.fract(), x.abs(), -x, bytes];
+                all.map(|x| x.to_bits().into())
+            }),
+            sums: |a, b| sides!(s => {
+                let [x, y] = [a, b].map(|bits| s::$Type::from_bits(bits as $bits));
+                let all = [
+                    Some(x + y),
+                    Some(x - y),
+                    Some(x.wrapping_add(y)),
+                    Some(x.wrapping_sub(y)),
+                    Some(x.saturating_add(y)),
+                    Some(x.saturating_sub(y)),
+                    x.checked_add(y),
+                ];
+                all.map(|sum| Some(sum?.to_bits().into()))
+            }),
             write_padded: |bits, out, pad| {
                 here::$Type::from_bits(bits as $bits).write_padded(out, pad)
             },
@@ -94,9 +116,6 @@ macro_rules! both {
                 ]
             },
         }
-    };
-    (@bits $here:expr, $there:expr) => {
-        [Some($here.to_bits().into()), Some($there.to_bits().into())]
     };
 }
 

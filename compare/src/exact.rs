@@ -35,47 +35,45 @@ impl fmt::Display for Exact {
     }
 }
 
-/// A number of so many bytes and bits of fraction.
+const ONE: i128 = 1 << 30;
+
+/// A number of 30 bits of fraction, as the types of `font-types` are.
 #[derive(Clone, Copy, PartialEq, Eq)]
-pub struct Number<const BYTES: usize, const FRACTION: u32>(i128);
+pub struct F2Dot30(i128);
 
-impl<const BYTES: usize, const FRACTION: u32> Number<BYTES, FRACTION> {
-    const WIDTH: u32 = 8 * BYTES as u32;
-    const ONE: i128 = 1 << FRACTION;
-
-    pub fn from_bits(bits: impl Into<i128>) -> Self {
+impl F2Dot30 {
+    pub fn from_bits(bits: i32) -> Self {
         Self(bits.into())
     }
 
-    pub fn to_bits(self) -> i64 {
-        self.0 as i64
+    pub fn to_bits(self) -> i32 {
+        self.0 as i32
     }
 
     pub fn from_f64(x: f64) -> Self {
-        Self::clamped((x * Self::ONE as f64).round() as i128)
+        Self::clamped((x * ONE as f64).round() as i128)
     }
 
     // The number with these bits, wrapped.
     fn wrapped(bits: i128) -> Self {
-        Self(wrap(Self::WIDTH, bits))
+        Self(wrap(32, bits))
     }
 
     // The same, or the nearest end.
     fn clamped(bits: i128) -> Self {
-        let half = 1 << (Self::WIDTH - 1);
-        Self(bits.clamp(-half, half - 1))
+        Self(bits.clamp(i32::MIN.into(), i32::MAX.into()))
     }
 
     pub fn round(self) -> Self {
-        Self::wrapped(up(self.0, Self::ONE) * Self::ONE)
+        Self::wrapped(up(self.0, ONE) * ONE)
     }
 
     pub fn floor(self) -> Self {
-        Self::wrapped(self.0.div_euclid(Self::ONE) * Self::ONE)
+        Self::wrapped(self.0.div_euclid(ONE) * ONE)
     }
 
     pub fn fract(self) -> Self {
-        Self::wrapped(self.0.rem_euclid(Self::ONE))
+        Self::wrapped(self.0.rem_euclid(ONE))
     }
 
     pub fn abs(self) -> Self {
@@ -100,17 +98,15 @@ impl<const BYTES: usize, const FRACTION: u32> Number<BYTES, FRACTION> {
 
     pub fn checked_add(self, other: Self) -> Option<Self> {
         let sum = self.0 + other.0;
-        fits(Self::WIDTH, sum).then_some(Self(sum))
+        fits(32, sum).then_some(Self(sum))
     }
 
-    /// The bytes of the number modulo a power of 256, highest first.
-    pub fn to_be_bytes(self) -> [u8; BYTES] {
-        let steps = |at| 1i128 << (8 * (BYTES - 1 - at));
-        std::array::from_fn(|at| self.0.div_euclid(steps(at)).rem_euclid(256) as u8)
+    pub fn to_be_bytes(self) -> [u8; 4] {
+        self.to_bits().to_be_bytes()
     }
 }
 
-impl<const BYTES: usize, const FRACTION: u32> Add for Number<BYTES, FRACTION> {
+impl Add for F2Dot30 {
     type Output = Self;
 
     fn add(self, other: Self) -> Self {
@@ -118,7 +114,7 @@ impl<const BYTES: usize, const FRACTION: u32> Add for Number<BYTES, FRACTION> {
     }
 }
 
-impl<const BYTES: usize, const FRACTION: u32> Sub for Number<BYTES, FRACTION> {
+impl Sub for F2Dot30 {
     type Output = Self;
 
     fn sub(self, other: Self) -> Self {
@@ -126,7 +122,7 @@ impl<const BYTES: usize, const FRACTION: u32> Sub for Number<BYTES, FRACTION> {
     }
 }
 
-impl<const BYTES: usize, const FRACTION: u32> Neg for Number<BYTES, FRACTION> {
+impl Neg for F2Dot30 {
     type Output = Self;
 
     fn neg(self) -> Self {
@@ -134,9 +130,9 @@ impl<const BYTES: usize, const FRACTION: u32> Neg for Number<BYTES, FRACTION> {
     }
 }
 
-impl<const BYTES: usize, const FRACTION: u32> fmt::Display for Number<BYTES, FRACTION> {
+impl fmt::Display for F2Dot30 {
     fn fmt(&self, f: &mut fmt::Formatter<'_>) -> fmt::Result {
-        let text = shortest(self.0, FRACTION);
+        let text = shortest(self.0, 30);
         f.pad_integral(self.0 >= 0, "", text.trim_start_matches('-'))
     }
 }

@@ -16,6 +16,7 @@
 //! README.md says what is compared with what.
 #![cfg_attr(not(font_c), forbid(unsafe_code))]
 
+#[macro_use]
 mod both;
 #[cfg(font_c)]
 mod c;
@@ -63,11 +64,9 @@ fn main() -> ExitCode {
     match parse(&arguments) {
         Ok((mut work, parts)) => {
             parts.iter().for_each(|(_, part)| part(&mut work));
-            println!(
-                "{} comparisons, {} different",
-                work.compared, work.different
-            );
-            ExitCode::from(u8::from(work.different > 0 || work.compared == 0))
+            let (compared, different) = (work.compared, work.different);
+            println!("{compared} comparisons, {different} different");
+            ExitCode::from(u8::from(different > 0 || compared == 0))
         }
         Err(fault) => {
             eprintln!("{fault}");
@@ -80,10 +79,7 @@ fn parse(arguments: &[String]) -> Result<(Work, Vec<Part>), String> {
     let mut work = Work {
         threads: thread::available_parallelism().map_or(1, usize::from),
         seed: 1,
-        random: None,
-        is_small: false,
-        compared: 0,
-        different: 0,
+        ..Work::default()
     };
     let mut parts = Vec::new();
     let mut rest = arguments.iter();

@@ -1,57 +1,11 @@
 //! Random matrices, points and boxes of `Fixed`, and sums of deltas.
 
+use crate::both::there;
 use crate::random::Random;
 use crate::tally::Tally;
 use crate::work::Work;
-use font_types_proved::laws::{composed, in_turn};
-use font_types_proved::{checked_delta_sum, delta_sum, vary};
-
-/// A side, with calls from bits to bits.
-macro_rules! side {
-    ($name:ident $side:ident) => {
-        mod $name {
-            pub use $side::*;
-
-            pub fn matrix(bits: &[i32]) -> Matrix<Fixed> {
-                Matrix::from_elements(std::array::from_fn(|n| Fixed::from_bits(bits[n])))
-            }
-
-            pub fn point(bits: &[i32]) -> Point<Fixed> {
-                Point::new(Fixed::from_bits(bits[0]), Fixed::from_bits(bits[1]))
-            }
-
-            pub fn elements(m: Matrix<Fixed>) -> [i32; 6] {
-                m.elements().map(Fixed::to_bits)
-            }
-
-            pub fn coordinates(p: Point<Fixed>) -> [i32; 2] {
-                [p.x, p.y].map(Fixed::to_bits)
-            }
-
-            pub fn points(bits: &[i32]) -> [[i32; 2]; 7] {
-                let (p, q, n) = (point(bits), point(&bits[2..]), Fixed::from_bits(bits[4]));
-                [p + q, p - q, p * q, p / q, -p, p * n, p / n].map(coordinates)
-            }
-
-            pub fn boxes(bits: &[i32]) -> ([[i32; 4]; 3], bool) {
-                let side = |n: usize| Fixed::from_bits(bits[n]);
-                let of = BoundingBox {
-                    x_min: side(0),
-                    y_min: side(1),
-                    x_max: side(2),
-                    y_max: side(3),
-                };
-                let scaled = of.scale(side(4));
-                let boxes = [of.normalize(), scaled, scaled.normalize()];
-                let sides = boxes.map(|b| [b.x_min, b.y_min, b.x_max, b.y_max].map(Fixed::to_bits));
-                (sides, of.is_normalized())
-            }
-        }
-    };
-}
-
-side!(here font_types_proved);
-side!(there font_types);
+use font_types_proved::{FWord, Fixed, checked_delta_sum, delta_sum, vary};
+use std::array::from_fn;
 
 /// Matrices, points and boxes.
 pub fn compare(work: &mut Work) {
@@ -63,31 +17,34 @@ pub fn compare(work: &mut Work) {
         "points",
         "boxes",
     ];
-    work.go_over_random("Matrices, random", &names, 50_000_000, |random, tally| {
-        let bits: [i32; 14] = std::array::from_fn(|_| random.bits_32());
-        let (a, b, p) = (
-            here::matrix(&bits),
-            here::matrix(&bits[6..]),
-            here::point(&bits[12..]),
-        );
-        let (c, d) = (there::matrix(&bits), there::matrix(&bits[6..]));
-        let q = there::point(&bits[12..]);
-        let example = || format!("bits {bits:?}");
-        tally.check(0, here::elements(a * b) == there::elements(c * d), example);
-        let images = [
-            [here::coordinates(a * p), there::coordinates(c * q)],
-            [
-                here::coordinates(composed(a, b, p)),
-                there::coordinates((c * d) * q),
-            ],
-            [
-                here::coordinates(in_turn(a, b, p)),
-                there::coordinates(c * (d * q)),
-            ],
-        ];
-        tally.judge_each(1, images, example);
-        tally.check(4, here::points(&bits) == there::points(&bits), example);
-        tally.check(5, here::boxes(&bits) == there::boxes(&bits), example);
+    work.go_over_random("Matrices, random", &names, 50_000_000, of_numbers);
+}
+
+fn of_numbers(random: &mut Random, tally: &mut Tally) {
+    let bits: [i32; 14] = from_fn(|_| random.bits_32());
+    let example = || format!("bits {bits:?}");
+    let [(product, images), there] = sides!(s => {
+        let x = bits.map(s::Fixed::from_bits);
+        let [a, b] = [0, 6].map(|at| s::Matrix::from_elements(from_fn(|n| x[at + n])));
+        let p = s::Point::new(x[12], x[13]);
+        let images = [a * p, s::laws::composed(a, b, p), s::laws::in_turn(a, b, p)];
+        ((a * b).elements().map(s::Fixed::to_bits), images.map(|p| [p.x, p.y].map(s::Fixed::to_bits)))
+    });
+    tally.check(0, product == there.0, example);
+    tally.check_each(1, [images, there.1], example);
+    alike!(tally, 4, example, s => {
+        let [a, b, c, d, n] = from_fn(|n| s::Fixed::from_bits(bits[n]));
+        let (p, q) = (s::Point::new(a, b), s::Point::new(c, d));
+        let points = [p + q, p - q, p * q, p / q, -p, p * n, p / n];
+        points.map(|p| [p.x, p.y].map(s::Fixed::to_bits))
+    });
+    alike!(tally, 5, example, s => {
+        let [x_min, y_min, x_max, y_max, n] = from_fn(|n| s::Fixed::from_bits(bits[n]));
+        let of = s::BoundingBox { x_min, y_min, x_max, y_max };
+        let scaled = of.scale(n);
+        let boxes = [of.normalize(), scaled, scaled.normalize()];
+        let sides = boxes.map(|b| [b.x_min, b.y_min, b.x_max, b.y_max].map(s::Fixed::to_bits));
+        (sides, of.is_normalized())
     });
 }
 
@@ -104,12 +61,10 @@ pub fn sums(work: &mut Work) {
 
 fn sum(random: &mut Random, tally: &mut Tally) {
     let length = random.below(17) as usize;
-    let bits: [[i32; 2]; 16] = std::array::from_fn(|_| [some_number(random), some_number(random)]);
+    let bits: [[i32; 2]; 16] = from_fn(|_| [some_number(random), some_number(random)]);
     let (bits, base) = (&bits[..length], random.next() as i16);
     let example = || format!("bits {bits:?}");
-    let terms = bits
-        .iter()
-        .map(|[x, delta]| (here::Fixed::from_bits(*x), *delta));
+    let terms = bits.iter().map(|[x, delta]| (Fixed::from_bits(*x), *delta));
     let terms: Vec<_> = terms.collect();
     let of_term = |[x, delta]: &[i32; 2]| i128::from(*x) * i128::from(*delta);
     let exact: i128 = bits.iter().map(of_term).sum();
@@ -117,17 +72,14 @@ fn sum(random: &mut Random, tally: &mut Tally) {
     for [x, delta] in bits {
         wrapping += there::Fixed::from_bits(*x).mul_i32(*delta);
     }
-    tally.check(
-        0,
-        delta_sum(&terms).to_bits() == wrapping.to_bits(),
-        example,
-    );
+    let sum = delta_sum(&terms).to_bits();
+    tally.check(0, sum == wrapping.to_bits(), example);
     let checked = checked_delta_sum(&terms).map(|sum| i128::from(sum.to_bits()));
     let in_range = Some(exact).filter(|sum| i64::try_from(*sum).is_ok());
     let row = if in_range.is_some() { 1 } else { 2 };
     tally.check(row, checked == in_range, example);
     let varied = in_range.map(|sum| i128::from(base) * 65536 + sum);
-    tally.check(3, vary(here::FWord::new(base), &terms) == varied, example);
+    tally.check(3, vary(FWord::new(base), &terms) == varied, example);
 }
 
 // Every other number is an end, so that many sums leave 64 bits.

@@ -1,11 +1,11 @@
 //! Numbers one by one and in pairs: texts, padding, rounding, sums, products and conversions.
 
-use crate::both::{ALL, Both, there};
+use crate::both::{ALL, Both};
 use crate::random::Random;
 use crate::tally::Tally;
 use crate::text::Text;
 use crate::work::Work;
-use font_types_proved::{self as here, Align, Pad};
+use font_types_proved::{Align, F2Dot14, F48Dot16, FWord, Fixed, Pad, UfWord};
 use font_types_tools::exact;
 
 const ROWS: [&str; 10] = [
@@ -40,10 +40,10 @@ pub fn compare(work: &mut Work, of: &Both) {
 // One value, printed by `{}` with neither a width nor a precision.
 fn value(of: &Both, bits: i64, is_chosen: bool, tally: &mut Tally) {
     let example = || format!("bits {bits}");
-    let [text, other] = [of.write, of.write_there].map(|write| Text::of(|text| write(bits, text)));
+    let [text, other] = of.write.map(|write| Text::of(|text| write(bits, text)));
     tally.check(0, text.as_str() == other.as_str(), example);
     tally.check(2, (of.read)(text.as_str()) == Ok(bits), example);
-    tally.judge_each(4, (of.unary)(bits), example);
+    tally.check_each(4, (of.unary)(bits), example);
     if is_chosen {
         let shortest = exact::shortest(bits.into(), of.fraction_bits);
         tally.check(1, text.as_str() == shortest, example);
@@ -108,7 +108,7 @@ fn sums(work: &mut Work, of: &Both) {
     let edges = edges(of.width);
     let n = edges.len() as u64;
     let check = |x: i64, y: i64, tally: &mut Tally| {
-        tally.judge_each(0, (of.sums)(x, y), || format!("bits {x} and {y}"));
+        tally.check_each(0, (of.sums)(x, y), || format!("bits {x} and {y}"));
     };
     let title = format!("{}, sums of edges", of.name);
     work.go_over(&title, &SUMS, n * n, |index, tally| {
@@ -150,19 +150,19 @@ pub fn products(work: &mut Work) {
 }
 
 fn of_three(bits: [i32; 3], tally: &mut Tally) {
-    let [x, y, z] = bits.map(here::Fixed::from_bits);
-    let [u, v, w] = bits.map(there::Fixed::from_bits);
-    let fixed = [[x * y, x / y, x.mul_div(y, z)].map(here::Fixed::to_bits)];
-    let other = [[u * v, u / v, u.mul_div(v, w)].map(there::Fixed::to_bits)];
-    let example = || format!("bits {bits:?}");
-    let pairs = fixed.into_iter().flatten().zip(other.into_iter().flatten());
-    tally.judge_each(0, pairs.map(|(x, y)| [x, y]), example);
-    let (sum, other) = (x.mul_i32(bits[1]).to_bits(), u.mul_i32(bits[1]).to_bits());
-    tally.check(3, sum == other, example);
-    let [x, y, _] = bits.map(here::F26Dot6::from_bits);
-    let [u, v, _] = bits.map(there::F26Dot6::from_bits);
-    tally.check(4, (x * y).to_bits() == (u * v).to_bits(), example);
-    tally.check(5, (x / y).to_bits() == (u / v).to_bits(), example);
+    let answers = sides!(s => {
+        let [x, y, z] = bits.map(s::Fixed::from_bits);
+        let [v, w, _] = bits.map(s::F26Dot6::from_bits);
+        [
+            (x * y).to_bits().into(),
+            (x / y).to_bits().into(),
+            x.mul_div(y, z).to_bits().into(),
+            x.mul_i32(bits[1]).to_bits(),
+            (v * w).to_bits().into(),
+            (v / w).to_bits().into(),
+        ]
+    });
+    tally.check_each(0, answers, || format!("bits {bits:?}"));
 }
 
 /// Conversions of every value of `Fixed` and `F26Dot6`, and of random values of the others.
@@ -179,39 +179,20 @@ pub fn conversions(work: &mut Work) {
     ];
     work.go_over_all("Conversions of 32 bits", &names, 32, |index, tally| {
         let bits = index as i32;
-        let (x, y) = (here::Fixed::from_bits(bits), there::Fixed::from_bits(bits));
-        let (u, v) = (
-            here::F26Dot6::from_bits(bits),
-            there::F26Dot6::from_bits(bits),
-        );
-        let half = bits as i16;
-        let (p, q) = (
-            here::F2Dot14::from_bits(half),
-            there::F2Dot14::from_bits(half),
-        );
-        let answers = [
-            [x.to_i32(), y.to_i32()],
-            [x.to_f26dot6().to_bits(), y.to_f26dot6().to_bits()],
+        let answers = sides!(s => {
+            let x = s::Fixed::from_bits(bits);
             [
+                x.to_i32(),
+                x.to_f26dot6().to_bits(),
                 x.to_f2dot14().to_bits().into(),
-                y.to_f2dot14().to_bits().into(),
-            ],
-            [
                 x.to_f48dot16().to_bits() as i32,
-                y.to_f48dot16().to_bits() as i32,
-            ],
-            [
-                here::Fixed::from_i32(bits).to_bits(),
-                there::Fixed::from_i32(bits).to_bits(),
-            ],
-            [u.to_i32(), v.to_i32()],
-            [
-                here::F26Dot6::from_i32(bits).to_bits(),
-                there::F26Dot6::from_i32(bits).to_bits(),
-            ],
-            [p.to_fixed().to_bits(), q.to_fixed().to_bits()],
-        ];
-        tally.judge_each(0, answers, || format!("bits {bits}"));
+                s::Fixed::from_i32(bits).to_bits(),
+                s::F26Dot6::from_bits(bits).to_i32(),
+                s::F26Dot6::from_i32(bits).to_bits(),
+                s::F2Dot14::from_bits(bits as i16).to_fixed().to_bits(),
+            ]
+        });
+        tally.check_each(0, answers, || format!("bits {bits}"));
     });
     let names = [
         "to_i64",
@@ -225,30 +206,25 @@ pub fn conversions(work: &mut Work) {
 }
 
 fn of_48_dot_16(random: &mut Random, tally: &mut Tally) {
-    use here::F48Dot16 as Here;
-    use there::F48Dot16 as There;
     let (bits, base) = (random.bits_64(), random.bits_32());
-    let (x, y) = (Here::from_bits(bits), There::from_bits(bits));
-    let answers = [
-        [x.to_i64(), y.to_i64()],
-        [x.to_i32().into(), y.to_i32().into()],
-        [x.to_fixed().to_bits().into(), y.to_fixed().to_bits().into()],
+    let answers = sides!(s => {
+        let x = s::F48Dot16::from_bits(bits);
         [
-            Here::from_i64(bits).to_bits(),
-            There::from_i64(bits).to_bits(),
-        ],
-        [
-            Here::from_i32(base).to_bits(),
-            There::from_i32(base).to_bits(),
-        ],
-    ];
+            x.to_i64(),
+            x.to_i32().into(),
+            x.to_fixed().to_bits().into(),
+            s::F48Dot16::from_i64(bits).to_bits(),
+            s::F48Dot16::from_i32(base).to_bits(),
+        ]
+    });
     let example = || format!("bits {bits}, base {base}");
-    tally.judge_each(0, answers, example);
+    tally.check_each(0, answers, example);
+    let x = F48Dot16::from_bits(bits);
     let moved = |base: i64| i128::from(base) * 65536 + i128::from(bits);
     let half = base as i16;
-    let is_exact = here::Fixed::from_bits(base).apply_delta(x) == moved(base.into())
-        && here::F2Dot14::from_bits(half).apply_delta(x) == moved(half.into())
-        && here::FWord::new(half).apply_delta(x) == moved(half.into())
-        && here::UfWord::new(half as u16).apply_delta(x) == moved((half as u16).into());
+    let is_exact = Fixed::from_bits(base).apply_delta(x) == moved(base.into())
+        && F2Dot14::from_bits(half).apply_delta(x) == moved(half.into())
+        && FWord::new(half).apply_delta(x) == moved(half.into())
+        && UfWord::new(half as u16).apply_delta(x) == moved((half as u16).into());
     tally.check(5, is_exact, example);
 }

@@ -1,23 +1,6 @@
 //! Integers of 24 bits, font units, ids, versions, dates and offsets, and fields over their bytes.
 
-use crate::both::there;
 use crate::work::Work;
-use font_types_proved as here;
-
-/// The same calls of both sides, as one answer that can be compared and shown.
-macro_rules! alike {
-    ($tally:ident, $row:expr, $example:expr, $side:ident => $call:expr) => {{
-        let answer = {
-            use here as $side;
-            $call
-        };
-        let other = {
-            use there as $side;
-            $call
-        };
-        $tally.check($row, answer == other, $example);
-    }};
-}
 
 /// All of it.
 pub fn compare(work: &mut Work) {

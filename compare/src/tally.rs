@@ -38,15 +38,15 @@ impl Tally {
         }
     }
 
-    /// Counts a comparison for each of the rows from this one on.
-    pub fn judge_each<T: PartialEq>(
+    /// Counts a comparison for each of the rows from this one on, of what is here and there.
+    pub fn check_each<T: PartialEq, const N: usize>(
         &mut self,
         first: usize,
-        answers: impl IntoIterator<Item = [T; 2]>,
+        [here, there]: [[T; N]; 2],
         example: impl Fn() -> String,
     ) {
-        for (row, [here, there]) in (first..).zip(answers) {
-            self.check(row, here == there, &example);
+        for (n, (here, there)) in here.into_iter().zip(there).enumerate() {
+            self.check(first + n, here == there, &example);
         }
     }
 

@@ -6,6 +6,7 @@ use std::thread;
 use std::time::Instant;
 
 /// How the work is done.
+#[derive(Default)]
 pub struct Work {
     pub threads: usize,
     pub seed: u64,
@@ -90,11 +91,7 @@ mod tests {
     fn counted(inputs: u64, wrong: u64) -> (u64, u64) {
         let mut work = Work {
             threads: 3,
-            seed: 1,
-            random: None,
-            is_small: false,
-            compared: 0,
-            different: 0,
+            ..Work::default()
         };
         work.go_over("a part", &["one", "two"], inputs, |index, tally| {
             tally.check(0, true, String::new);
