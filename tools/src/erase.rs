@@ -412,10 +412,8 @@ impl<'a> Eraser<'a> {
     // `let _name = x.as_slice();`
     fn unused(&mut self, at: usize) -> Result<usize, Error> {
         let end = self.item_end(at)?;
-        let call = self.words[at..end]
-            .iter()
-            .rposition(|word| *word == "as_slice");
-        if call.is_none() || self.words[at..end].contains(&"?") {
+        let item = &self.words[at..end];
+        if !item.contains(&"as_slice") || item.contains(&"?") {
             return self.error(at, "a `let _name` of something else than a slice");
         }
         Ok(self.leave_out_with_comments(at..end))
@@ -486,10 +484,8 @@ impl<'a> Eraser<'a> {
     fn text(&self, words: &Range<usize>) -> String {
         let (first, last) = (self.places[words.start], self.places[words.end - 1]);
         let pieces = self.tokens[first..=last].iter().map(|token| token.text);
-        let indentation = self.indentation(first);
-        pieces
-            .collect::<String>()
-            .replace(&format!("\n{indentation}"), "\n")
+        let text: String = pieces.collect();
+        text.replace(&format!("\n{}", self.indentation(first)), "\n")
     }
 
     // The spaces before a token that begins a line.

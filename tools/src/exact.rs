@@ -23,10 +23,8 @@ include!("types.in");
 
 impl Type {
     pub fn named(name: &[u8]) -> Option<Self> {
-        TYPES
-            .iter()
-            .copied()
-            .find(|kind| kind.name.as_bytes() == name)
+        let mut types = TYPES.iter().copied();
+        types.find(|kind| kind.name.as_bytes() == name)
     }
 }
 
@@ -52,11 +50,7 @@ pub fn wrap(width: u32, number: i128) -> i128 {
 /// The whole number nearest to `n / d`, ties away from zero.
 pub fn near(n: i128, d: i128) -> i128 {
     let magnitude = (2 * n.abs() + d.abs()) / (2 * d.abs());
-    if (n < 0) == (d < 0) {
-        magnitude
-    } else {
-        -magnitude
-    }
+    magnitude * n.signum() * d.signum()
 }
 
 /// The whole number nearest to `n / d`, ties towards plus infinity.
@@ -93,25 +87,15 @@ pub fn read(text: &[u8], kind: Type) -> Result<i128, Fault> {
     let half_steps = magnitude + half_steps(fraction, kind.fraction + 1);
     let steps = (half_steps + 1) / 2;
     let bits = if negative { -steps } else { steps };
-    if fits(kind.width, bits) {
-        Ok(bits)
-    } else {
-        Err(Fault::OutOfRange)
-    }
+    let in_range = fits(kind.width, bits).then_some(bits);
+    in_range.ok_or(Fault::OutOfRange)
 }
 
 /// The number that digits are, where it has at most 20 of them behind its zeros in front.
 pub fn number(digits: &[u8]) -> Option<i128> {
-    let first = digits
-        .iter()
-        .position(|digit| *digit != b'0')
-        .unwrap_or(digits.len());
-    let digits = &digits[first..];
-    (digits.len() <= 20).then(|| {
-        digits
-            .iter()
-            .fold(0, |n, digit| n * 10 + i128::from(digit - b'0'))
-    })
+    let digits: Vec<&u8> = digits.iter().skip_while(|digit| **digit == b'0').collect();
+    let number = |n, digit: &&u8| 10 * n + i128::from(**digit - b'0');
+    (digits.len() <= 20).then(|| digits.iter().fold(0, number))
 }
 
 // The first `places` binary digits of a decimal fraction, by doubling it so many times.

@@ -4,17 +4,10 @@ use crate::exact::{self, Fault, TagFault, Type};
 
 /// All answers to an input.
 pub fn answers(input: &[u8]) -> Vec<u8> {
-    let input = input
-        .strip_suffix(b"\n")
-        .map_or_else(|| (!input.is_empty()).then_some(input), Some);
-    let Some(input) = input else {
-        return Vec::new();
-    };
-    let lines = input.split(|byte| *byte == b'\n');
-    lines
-        .map(|line| answer(line).unwrap_or_else(|n| format!("error {n}")) + "\n")
-        .collect::<String>()
-        .into()
+    let lines = input.split_inclusive(|byte| *byte == b'\n');
+    let lines = lines.map(|line| line.strip_suffix(b"\n").unwrap_or(line));
+    let answers = lines.map(|line| answer(line).unwrap_or_else(|n| format!("error {n}")) + "\n");
+    answers.collect::<String>().into()
 }
 
 type Answer = Result<String, u8>;
@@ -26,9 +19,8 @@ const RANGE: u8 = 5;
 const WHOLE: u8 = 6;
 
 fn answer(line: &[u8]) -> Answer {
-    let mut words = line
-        .split(|byte| b" \t\r".contains(byte))
-        .filter(|word| !word.is_empty());
+    let words = line.split(|byte| b" \t\r".contains(byte));
+    let mut words = words.filter(|word| !word.is_empty());
     let command = words.next().ok_or(COMMAND)?;
     let words: Vec<&[u8]> = words.collect();
     match command {
@@ -43,30 +35,22 @@ fn answer(line: &[u8]) -> Answer {
 
 fn number(command: &[u8], words: &[&[u8]]) -> Answer {
     if let Some(kind) = Type::named(command) {
-        return Ok(exact::shortest(
-            signed(&bytes(words, kind.width as usize / 8)?),
-            kind.fraction,
-        ));
+        let bits = signed(&bytes(words, kind.width as usize / 8)?);
+        return Ok(exact::shortest(bits, kind.fraction));
     }
-    let (is_signed, bits) = match command {
-        b"uint8" => (false, 8),
-        b"int8" => (true, 8),
-        b"uint16" => (false, 16),
-        b"int16" => (true, 16),
-        b"uint24" => (false, 24),
-        b"int24" => (true, 24),
-        b"uint32" => (false, 32),
-        b"int32" => (true, 32),
-        b"int64" => (true, 64),
+    let (number, bits): (fn(&[u8]) -> i128, _) = match command {
+        b"uint8" => (unsigned, 8),
+        b"int8" => (signed, 8),
+        b"uint16" => (unsigned, 16),
+        b"int16" => (signed, 16),
+        b"uint24" => (unsigned, 24),
+        b"int24" => (signed, 24),
+        b"uint32" => (unsigned, 32),
+        b"int32" => (signed, 32),
+        b"int64" => (signed, 64),
         _ => return Err(COMMAND),
     };
-    let bytes = bytes(words, bits / 8)?;
-    Ok(if is_signed {
-        signed(&bytes)
-    } else {
-        unsigned(&bytes)
-    }
-    .to_string())
+    Ok(number(&bytes(words, bits / 8)?).to_string())
 }
 
 fn unsigned(bytes: &[u8]) -> i128 {
@@ -81,18 +65,11 @@ fn signed(bytes: &[u8]) -> i128 {
 fn bytes(words: &[&[u8]], count: usize) -> Result<Vec<u8>, u8> {
     let [word] = words else { return Err(COUNT) };
     let digit = |byte: &u8| char::from(*byte).to_digit(16).map(|digit| digit as u8);
-    let digits: Vec<u8> = word
-        .iter()
-        .map(digit)
-        .collect::<Option<_>>()
-        .ok_or(HEXADECIMAL)?;
-    if digits.len() != 2 * count {
-        return Err(HEXADECIMAL);
-    }
-    Ok(digits
-        .chunks(2)
-        .map(|pair| 16 * pair[0] + pair[1])
-        .collect())
+    let digits: Option<Vec<u8>> = word.iter().map(digit).collect();
+    let digits = digits.filter(|digits| digits.len() == 2 * count);
+    let digits = digits.ok_or(HEXADECIMAL)?;
+    let pairs = digits.chunks(2);
+    Ok(pairs.map(|pair| 16 * pair[0] + pair[1]).collect())
 }
 
 fn bits(word: &[u8], kind: Type) -> Result<i128, u8> {
@@ -131,19 +108,14 @@ fn image(words: &[&[u8]]) -> Answer {
     if words.len() != 14 {
         return Err(COUNT);
     }
-    let numbers: Vec<i128> = words
-        .iter()
-        .map(|word| fixed(word))
-        .collect::<Result<_, _>>()?;
+    let numbers = words.iter().map(|word| fixed(word));
+    let numbers: Vec<i128> = numbers.collect::<Result<_, _>>()?;
     let matrix = |at: usize| exact::Matrix::try_from(&numbers[at..at + 6]).unwrap();
     let (a, b, p) = (matrix(0), matrix(6), [numbers[12], numbers[13]]);
     let composed = exact::image(exact::composed(a, b), p);
     let in_turn = exact::image(a, exact::image(b, p));
-    let texts: Vec<String> = [composed, in_turn]
-        .iter()
-        .flatten()
-        .map(|bits| exact::shortest(*bits, 16))
-        .collect();
+    let images = [composed, in_turn].concat().into_iter();
+    let texts: Vec<String> = images.map(|bits| exact::shortest(bits, 16)).collect();
     Ok(texts.join(" "))
 }
 
@@ -154,16 +126,13 @@ fn whole(word: &[u8], width: u32) -> Result<i128, u8> {
         return Err(WHOLE);
     }
     let magnitude = exact::number(digits).ok_or(RANGE)?;
-    let number = if digits.len() < word.len() {
-        -magnitude
-    } else {
-        magnitude
-    };
-    if exact::fits(width, number) {
-        Ok(number)
-    } else {
-        Err(RANGE)
-    }
+    let is_negative = digits.len() < word.len();
+    let number = if is_negative { -magnitude } else { magnitude };
+    in_range(width, number)
+}
+
+fn in_range(width: u32, number: i128) -> Result<i128, u8> {
+    exact::fits(width, number).then_some(number).ok_or(RANGE)
 }
 
 // The exact sum of pairs, in units of 2^-16.
@@ -172,11 +141,7 @@ fn exact_sum(words: &[&[u8]]) -> Result<i128, u8> {
     for pair in words.chunks(2) {
         sum += fixed(pair[0])? * whole(pair[1], 32)?;
     }
-    if exact::fits(64, sum) {
-        Ok(sum)
-    } else {
-        Err(RANGE)
-    }
+    in_range(64, sum)
 }
 
 fn sum(words: &[&[u8]]) -> Answer {

@@ -22,11 +22,8 @@ pub fn files(folder: &str, ending: &str) -> Vec<String> {
     };
     for entry in entries.flatten() {
         let name = entry.file_name().into_string().unwrap();
-        let path = if folder.is_empty() {
-            name.clone()
-        } else {
-            format!("{folder}/{name}")
-        };
+        let path = format!("{folder}/{name}");
+        let path = path.trim_start_matches('/').to_string();
         match entry.file_type() {
             Ok(kind) if kind.is_dir() && !["out", "target", ".git"].contains(&name.as_str()) => {
                 found.extend(files(&path, ending));

@@ -32,10 +32,7 @@ pub fn row(line: &str) -> String {
         "from_f2dot14" => (2, (number(1) << 16).to_string()),
         "narrow_f2dot30" => (2, narrow(number(1), &[(32, 14), (16, 16)])),
         "product" => (4, product(kind(words[1]), number(2), number(3))),
-        "mul_div" => (
-            4,
-            format!("{}", exact::mul_div(32, number(1), number(2), number(3))),
-        ),
+        "mul_div" => (4, mul_div([1, 2, 3].map(number)).to_string()),
         "narrow" => (2, narrow(number(1), &[(16, 16), (22, 10), (16, 2)])),
         "matrix" => (15, matrix(&words[1..15])),
         "tag" => (2, tag(words[1])),
@@ -56,11 +53,8 @@ fn kind(name: &str) -> Type {
 }
 
 fn spaced(numbers: &[i128]) -> String {
-    numbers
-        .iter()
-        .map(i128::to_string)
-        .collect::<Vec<_>>()
-        .join(" ")
+    let texts: Vec<String> = numbers.iter().map(i128::to_string).collect();
+    texts.join(" ")
 }
 
 fn read(name: &str, text: &str) -> String {
@@ -77,18 +71,11 @@ fn pad(words: &[&str]) -> String {
     if fill >= 0x80 || align > 2 {
         return "refused".into();
     }
-    let text = exact::padded(
-        &text,
-        width,
-        char::from(fill as u8),
-        align as u32,
-        plus != 0,
-        zeros != 0,
-    );
-    if text.len() > BUFFER {
-        "refused".into()
-    } else {
-        text
+    let (fill, align) = (char::from(fill as u8), align as u32);
+    let text = exact::padded(&text, width, fill, align, plus != 0, zeros != 0);
+    match text.len() {
+        ..=BUFFER => text,
+        _ => "refused".into(),
     }
 }
 
@@ -101,15 +88,11 @@ fn whole(kind: Type, bits: i128) -> String {
 fn add(width: u32, x: i128, y: i128) -> String {
     let half = 1i128 << (width - 1);
     let nearest = |number: i128| number.clamp(-half, half - 1);
-    let (status, place) = stored(width, x + y);
-    spaced(&[
-        exact::wrap(width, x + y),
-        exact::wrap(width, x - y),
-        status,
-        place,
-        nearest(x + y),
-        nearest(x - y),
-    ])
+    let [sum, difference] = [x + y, x - y];
+    let wrapped = [sum, difference].map(|number| exact::wrap(width, number));
+    let (status, place) = stored(width, sum);
+    let others = [status, place, nearest(sum), nearest(difference)];
+    spaced(&[&wrapped[..], &others].concat())
 }
 
 // The opposite, the magnitude and the fractional part.
@@ -128,17 +111,11 @@ fn field(name: &str, digits: &str, offset: i128) -> String {
     let width: u32 = width.parse().unwrap();
     let start = usize::try_from(2 * offset).unwrap_or(usize::MAX);
     let end = start.saturating_add(width as usize / 4);
-    let value = digits
-        .get(start..end)
-        .map(|digits| i128::from_str_radix(digits, 16).unwrap());
-    let value = value.map(|value| {
-        if signed == "i" {
-            exact::wrap(width, value)
-        } else {
-            value
-        }
-    });
-    spaced_pair(value.map_or((1, KEPT), |value| (0, value)))
+    let value = |digits| match (signed, i128::from_str_radix(digits, 16).unwrap()) {
+        ("i", value) => (0, exact::wrap(width, value)),
+        (_, value) => (0, value),
+    };
+    spaced_pair(digits.get(start..end).map_or((1, KEPT), value))
 }
 
 // The status of the nearest integer, half up, in 16 bits.
@@ -154,7 +131,11 @@ fn units(name: &str, steps: i128) -> String {
 fn product(kind: Type, x: i128, y: i128) -> String {
     let one = 1i128 << kind.fraction;
     let product = exact::wrap(32, exact::near(x * y, one));
-    spaced(&[product, exact::mul_div(32, x, one, y)])
+    spaced(&[product, mul_div([x, one, y])])
+}
+
+fn mul_div([x, a, c]: [i128; 3]) -> i128 {
+    exact::mul_div(32, x, a, c)
 }
 
 // The bits with fewer places, ties upwards, each wrapped to a width.
@@ -182,14 +163,13 @@ fn tag(digits: &str) -> String {
     let byte = |at: usize| u8::from_str_radix(&digits[at..at + 2], 16).unwrap();
     let bytes: Vec<u8> = (0..digits.len()).step_by(2).map(byte).collect();
     let fault = exact::check(&bytes);
+    let padded = bytes.iter().copied().chain([b' '; 4]);
     let made = match fault {
         _ if bytes.is_empty() || bytes.len() > 4 => (1, KEPT),
         Err(_) => (2, KEPT),
         Ok(()) => (
             0,
-            (0..4).fold(0, |n, at| {
-                256 * n + i128::from(*bytes.get(at).unwrap_or(&b' '))
-            }),
+            padded.take(4).fold(0, |n, byte| 256 * n + i128::from(byte)),
         ),
     };
     let checked = match fault {
@@ -241,9 +221,8 @@ fn set(words: &[&str]) -> String {
         let value = i128::from_str_radix(digits, 16).ok()?;
         Some(exact::wrap(width as u32, value))
     };
-    let products = (0..)
-        .zip(scalars)
-        .map(|(i, x)| Some(integer(x) * delta(i)?));
+    let terms = (0..).zip(scalars);
+    let products = terms.map(|(i, x)| Some(integer(x) * delta(i)?));
     let whole = digits.len() as i128 == 2 * (count + scalars.len() as i128);
     let sum = products.sum::<Option<i128>>();
     match sum.filter(|_| whole && count <= scalars.len() as i128) {
@@ -254,16 +233,10 @@ fn set(words: &[&str]) -> String {
 
 fn vary(words: &[&str]) -> String {
     let sum = sum_of(&words[5..]);
-    let moved = 65536 * integer(words[1]) + sum;
-    let moved = if exact::fits(64, sum) {
-        moved
-    } else {
-        i128::MAX
+    let moved = match exact::fits(64, sum) {
+        true => stored(64, 65536 * integer(words[1]) + sum),
+        false => (2, KEPT),
     };
-    let (status, moved) = stored(64, moved);
-    format!(
-        "vary {} {status} {moved} {}",
-        words[1],
-        words[4..].join(" ")
-    )
+    let (base, moved) = (words[1], spaced_pair(moved));
+    format!("vary {base} {moved} {}", words[4..].join(" "))
 }

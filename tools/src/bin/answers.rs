@@ -21,9 +21,6 @@ fn main() -> ExitCode {
     ];
     let count = rows.iter().filter(|row| !row.starts_with('#')).count();
     println!("{lines} lines and {count} rows worked out");
-    if kept == [true, true] && lines > 0 && count > 0 {
-        ExitCode::SUCCESS
-    } else {
-        ExitCode::FAILURE
-    }
+    let is_right = kept == [true, true] && lines > 0 && count > 0;
+    ExitCode::from(u8::from(!is_right))
 }

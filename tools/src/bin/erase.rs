@@ -8,9 +8,7 @@ use std::fs;
 use std::process::ExitCode;
 
 fn main() -> ExitCode {
-    let is_check = std::env::args()
-        .nth(1)
-        .is_some_and(|word| word == "--check");
+    let is_check = std::env::args().any(|word| word == "--check");
     let files = match tree() {
         Ok(files) => files,
         Err(error) => {

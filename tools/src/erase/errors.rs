@@ -4,10 +4,8 @@
 /// `derive`, to the end of the type.
 pub fn impls(words: &[&str]) -> Result<String, &'static str> {
     let is_kind = |word: &&str| matches!(*word, "struct" | "enum");
-    let kind = words
-        .iter()
-        .position(is_kind)
-        .ok_or("an error that is no type")?;
+    let kind = words.iter().position(is_kind);
+    let kind = kind.ok_or("an error that is no type")?;
     let name = words[kind + 1];
     if words[kind + 2..].first() == Some(&"<") {
         return Err("an error with parameters");

@@ -48,10 +48,8 @@ pub fn tree() -> Result<BTreeMap<String, String>, String> {
             left_out: left_out.map_or(&[], |library| library.1),
         };
         let root = ["lib", "main"][usize::from(target == Target::Program)];
-        let (from, to) = (
-            format!("crates/{name}/src"),
-            format!("{}/{name}", target.folder()),
-        );
+        let from = format!("crates/{name}/src");
+        let to = format!("{}/{name}", target.folder());
         add_file(&mut files, &of, [&from, root], [&to, "mod"])?;
     }
     files.insert(CONTRACTS.into(), laid_out(&contracts())?);
@@ -61,9 +59,8 @@ pub fn tree() -> Result<BTreeMap<String, String>, String> {
 /// The paths from the root of the files that are in the folders of generated files.
 pub fn there() -> Vec<String> {
     let folders = crates().map(|(name, target)| format!("{}/{name}", target.folder()));
-    folders
-        .flat_map(|folder| repository::files(&folder, ""))
-        .collect()
+    let files = folders.flat_map(|folder| repository::files(&folder, ""));
+    files.collect()
 }
 
 fn crates() -> impl Iterator<Item = (&'static str, Target)> {
@@ -93,12 +90,8 @@ fn add_file(
         _ => format!("{folder}/{file}"),
     };
     for inner in erased.modules {
-        add_file(
-            files,
-            of,
-            [&below(from, name), inner],
-            [&below(to, module), inner],
-        )?;
+        let (from, to) = (below(from, name), below(to, module));
+        add_file(files, of, [&from, inner], [&to, inner])?;
     }
     Ok(())
 }
@@ -107,11 +100,8 @@ fn add_file(
 fn laid_out(text: &str) -> Result<String, String> {
     let told = |error: std::io::Error| format!("rustfmt: {error}");
     let mut rustfmt = Command::new("rustfmt");
-    rustfmt
-        .arg("--edition=2024")
-        .stdin(Stdio::piped())
-        .stdout(Stdio::piped());
-    let mut running = rustfmt.spawn().map_err(told)?;
+    let rustfmt = rustfmt.arg("--edition=2024").stdin(Stdio::piped());
+    let mut running = rustfmt.stdout(Stdio::piped()).spawn().map_err(told)?;
     let mut input = running.stdin.take().expect("it is piped");
     input.write_all(text.as_bytes()).map_err(told)?;
     drop(input);
@@ -130,11 +120,8 @@ fn contracts() -> String {
         for path in repository::files(&format!("crates/{name}/specs"), ".antt") {
             let (_, file) = path.split_once("/specs/").expect("it is in that folder");
             let module = file.trim_end_matches(".antt").replace('/', "_");
-            let first = file
-                .split(['/', '.'])
-                .next()
-                .unwrap_or_default()
-                .to_lowercase();
+            let first = file.split(['/', '.']).next().unwrap_or_default();
+            let first = first.to_lowercase();
             if file == "Lib.antt" || left_out.contains(&&*first) {
                 continue;
             }
