@@ -1,5 +1,5 @@
 -- What a linter reports.
-use Rattle.std.specs.Prelude.{ℕ, ◌<◌, Bool, false, ◌||◌, ◌==◌, List, [], ◌∷◌, length}
+use Rattle.std.specs.Prelude.{◌<◌, Bool, false, ◌||◌, ◌==◌, List, [], ◌∷◌, length}
 use Rattle.std.specs.Prelude.{Err}
 use Rattle.std.specs.List.{AllWithin, HoldsAt}
 use Rattle.font_types.specs.declared.NameId.{NameId}

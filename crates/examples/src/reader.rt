@@ -168,8 +168,8 @@ pub fn scalar_at<T: Scalar>(bytes: &[u8], offset: usize) -> Option<T>
 
 // ---- `head`
 
-/// Returns the field of a header at an offset.
-pub fn field_at<T: Scalar>(bytes: &[u8], offset: usize) -> BigEndian<T>
+// Returns the field of a header at an offset.
+fn field_at<T: Scalar>(bytes: &[u8], offset: usize) -> BigEndian<T>
     requires { offset + T.RAW_BYTE_LEN ≤ length bytes.now }
     ensures { T.Raw.bytes (raw_value result) ≡ take T.RAW_BYTE_LEN (drop offset bytes.now) }
 {

@@ -80,11 +80,11 @@ pub fn slant(point: Point<Fixed>, slope: Fixed) -> Point<Fixed>
     Matrix::from_elements([one, zero, slope, one, zero, zero]) * point
 }
 
-/// Transforms a point by `place` and then by `scale`, with one matrix composed of both.
-///
-/// Each coordinate is within `(|x| + |y|) / 65536 + 2` raw values of the exact one. `laws::in_turn`
-/// has the bound of two matrices applied in turn.
-pub fn composed(scale: Matrix<Fixed>, place: Matrix<Fixed>, point: Point<Fixed>) -> Point<Fixed>
+// Transforms a point by `place` and then by `scale`, with one matrix composed of both.
+//
+// Each coordinate is within `(|x| + |y|) / 65536 + 2` raw values of the exact one. `laws::in_turn`
+// has the bound of two matrices applied in turn.
+fn composed(scale: Matrix<Fixed>, place: Matrix<Fixed>, point: Point<Fixed>) -> Point<Fixed>
     requires { FitsComposed (matrix_bits scale) (matrix_bits place) (point_bits point) }
     ensures { IsCloseComposed (matrix_bits scale) (matrix_bits place) (point_bits point)
         (point_bits result) }

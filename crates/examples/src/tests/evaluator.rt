@@ -1,5 +1,8 @@
 //! An evaluator of variations.
 
+ghost use Rattle.std.specs.Prelude.{◌≡◌};
+ghost use Rattle.font_types.specs.Fixed.{fixed_bits};
+
 use crate::evaluator::{
     AxisValueMap, Setting, SettingError, clamp, delta_width, deltas_in_run, lerp, map_coordinate,
     normalize, read_run, read_setting, region_terms, segment_end, to_stored, vary_and_round,
@@ -35,7 +38,11 @@ fn settings(rt: HostRuntime) {
     }
 }
 
-fn weight(min: i32, default: i32, max: i32) -> VariationAxisRecord {
+fn weight(min: i32, default: i32, max: i32) -> VariationAxisRecord
+    ensures min { fixed_bits result.min_value ≡ min }
+    ensures default { fixed_bits result.default_value ≡ default }
+    ensures max { fixed_bits result.max_value ≡ max }
+{
     VariationAxisRecord {
         axis_tag: Tag::new(b"wght"),
         min_value: Fixed::from_bits(min),

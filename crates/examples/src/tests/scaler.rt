@@ -1,8 +1,8 @@
 //! A scaler of outlines.
 
 use crate::scaler::{
-    Component, PlacedGlyph, composed, cross_product, last_point, line_width, round_to_grid,
-    scale_component, slant, transform,
+    Component, PlacedGlyph, cross_product, last_point, line_width, round_to_grid, scale_component,
+    slant, transform,
 };
 use font_types::{F26Dot6, Fixed, Matrix, Point};
 use std::test::Fail;
@@ -45,13 +45,17 @@ fn points_transformed(rt: HostRuntime) -> Result<(), Fail> {
 
 #[test]
 fn components_scaled(rt: HostRuntime) {
+    let (half, zero, point) = (
+        Fixed::from_bits(0x8000),
+        Fixed::ZERO,
+        Point::broadcast(Fixed::ONE),
+    );
+    let scale = Matrix::from_elements([half, zero, zero, half, half, half]);
     let component = Component {
         glyph: 36,
-        transform: matrix_of_halves([2, 0, 0, 2, 10, -6]),
+        transform: Matrix::identity(),
     };
-    let half = matrix_of_halves([1, 0, 0, 1, 0, 0]);
-    assert!(rt; scale_component(half, component, point(7, 9)) == point(6, 3));
-    assert!(rt; composed(half, component.transform, point(7, 9)) == point(6, 3));
+    assert!(rt; scale_component(scale, component, point) == point);
 }
 
 #[test]
