@@ -4,34 +4,52 @@
 #[derive(Debug)]
 pub struct FromHexError;
 
+const DIGITS: &[u8; 16] = b"0123456789abcdef";
+
 /// Writes two lower-case digits for each byte.
 pub fn encode_to_slice(bytes: &[u8], digits: &mut [u8]) -> Result<(), FromHexError> {
     if digits.len() != 2 * bytes.len() {
         return Err(FromHexError);
     }
     for (pair, byte) in digits.chunks_exact_mut(2).zip(bytes) {
-        pair[0] = b"0123456789abcdef"[usize::from(byte >> 4)];
-        pair[1] = b"0123456789abcdef"[usize::from(byte & 15)];
+        pair[0] = DIGITS[usize::from(byte >> 4)];
+        pair[1] = DIGITS[usize::from(byte & 15)];
     }
     Ok(())
 }
 
 /// Reads each byte from two digits of either case.
+#[inline]
 pub fn decode_to_slice(digits: &[u8], bytes: &mut [u8]) -> Result<(), FromHexError> {
     if digits.len() != 2 * bytes.len() {
         return Err(FromHexError);
     }
     for (byte, pair) in bytes.iter_mut().zip(digits.chunks_exact(2)) {
-        *byte = 16 * value(pair[0])? + value(pair[1])?;
+        let [high, low] = [pair[0], pair[1]].map(|digit| VALUES[usize::from(digit)]);
+        if high | low > 15 {
+            return Err(FromHexError);
+        }
+        *byte = 16 * high + low;
     }
     Ok(())
 }
 
-fn value(digit: u8) -> Result<u8, FromHexError> {
+/// The value of each byte as a digit, or more than 15 if it is not one.
+static VALUES: [u8; 256] = {
+    let mut values = [0; 256];
+    let mut byte = 0;
+    while byte < 256 {
+        values[byte] = value(byte as u8);
+        byte += 1;
+    }
+    values
+};
+
+const fn value(digit: u8) -> u8 {
     match digit {
-        b'0'..=b'9' => Ok(digit - b'0'),
-        b'a'..=b'f' => Ok(digit - b'a' + 10),
-        b'A'..=b'F' => Ok(digit - b'A' + 10),
-        _ => Err(FromHexError),
+        b'0'..=b'9' => digit - b'0',
+        b'a'..=b'f' => digit - b'a' + 10,
+        b'A'..=b'F' => digit - b'A' + 10,
+        _ => u8::MAX,
     }
 }
