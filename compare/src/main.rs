@@ -40,10 +40,8 @@ type Part = (&'static str, fn(&mut Work));
 macro_rules! of_fixed_point_types {
     ($($name:ident $Type:ident $bits:ident $f:literal;)*) => {
         const PARTS: &[Part] = &[
-            $((stringify!($name), |work| {
-                numbers::compare(work, both::named(stringify!($Type)));
-            }),)*
-            ("sums", numbers::all_sums),
+            $((stringify!($name), numbers::$name),)*
+            ("sums", numbers::sums),
             ("products", numbers::products),
             ("conversions", numbers::conversions),
             ("reading", reading::compare),

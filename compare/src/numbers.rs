@@ -1,58 +1,81 @@
 //! Numbers one by one and in pairs: texts, padding, rounding, sums, products and conversions.
 
-use crate::both::{ALL, Both};
+use crate::both::there;
 use crate::random::Random;
 use crate::tally::Tally;
 use crate::text::Text;
 use crate::work::Work;
-use font_types_proved::{Align, F2Dot14, F48Dot16, FWord, Fixed, Pad, UfWord};
+use font_types_proved::{self as here, Align, F2Dot14, F48Dot16, FWord, Fixed, Pad, UfWord};
 use font_types_tools::exact;
+use std::array::from_fn;
+use std::fmt::{Display, Write};
 
-const ROWS: [&str; 10] = [
-    "text",
-    "text by whole numbers, of some",
-    "text is read back",
-    "padded text, of some",
-    "round",
-    "floor",
-    "fract",
-    "abs",
-    "-",
-    "to_be_bytes",
-];
+macro_rules! of_fixed_point_types {
+    ($($name:ident $Type:ident $bits:ident $f:literal;)*) => {
+        $(
+            /// Every value of a type of 16 or 32 bits, random values of one of 64 bits.
+            pub fn $name(work: &mut Work) {
+                let title = stringify!($Type);
+                let (rows, compare) = table! {
+                    s { let x = s::$Type::from_bits(bits); }, |input: ($bits, bool)| {
+                        let (bits, is_chosen) = input;
+                        let (x, y) = (here::$Type::from_bits(bits), there::$Type::from_bits(bits));
+                        let text = Text::of(|text| write!(text, "{x}"));
+                        let other = Text::of(|text| write!(text, "{y}"));
+                        let text = text.as_str();
+                        let shortest = || exact::shortest(bits.into(), $f);
+                    } bits;
+                    "text": text == other.as_str();
+                    "text by whole numbers, of some": is_chosen.then(|| text == shortest());
+                    "text is read back": here::$Type::from_decimal(text) == Ok(x);
+                    "padded text, of some":
+                        is_chosen.then(|| padded_alike(y, |out, pad| x.write_padded(out, pad)));
+                    "round" => x.round().to_bits();
+                    "floor" => x.floor().to_bits();
+                    "fract" => x.fract().to_bits();
+                    "abs" => x.abs().to_bits();
+                    "-" => (-x).to_bits();
+                    "to_be_bytes" => x.to_be_bytes();
+                };
+                if $bits::BITS == 64 {
+                    let compare = |mut random: Random, tally: &mut Tally| {
+                        compare((random.bits_64() as $bits, random.below(64) == 0), tally);
+                    };
+                    work.go_over_random(&format!("{title}, random"), 50_000_000, (rows, compare));
+                } else {
+                    let compare = |index, tally: &mut Tally| {
+                        compare((index as $bits, $bits::BITS == 16 || index % 1024 == 0), tally);
+                    };
+                    work.go_over_all(title, $bits::BITS, (rows, compare));
+                }
+            }
+        )*
 
-/// Every value of a type of 16 or 32 bits, random values of one of 64 bits.
-pub fn compare(work: &mut Work, of: &Both) {
-    if of.width == 64 {
-        let title = format!("{}, random", of.name);
-        work.go_over_random(&title, &ROWS, 50_000_000, |random, tally| {
-            let bits = random.bits_64();
-            value(of, bits, random.below(64) == 0, tally);
-        });
-    } else {
-        work.go_over_all(of.name, &ROWS, of.width, |index, tally| {
-            let is_chosen = of.width == 16 || index % 1024 == 0;
-            value(of, (of.bits)(index as i64), is_chosen, tally);
-        });
-    }
+        /// Sums of pairs of edges, and of random pairs, of each type.
+        pub fn sums(work: &mut Work) {
+            $(
+                let titles = ["sums of edges", "sums of random pairs"];
+                let titles = titles.map(|title| format!("{}, {title}", stringify!($Type)));
+                go_over_arrays(work, titles, $bits::BITS, (10_000_000, Random::bits_64), table! {
+                    s { let [x, y] = bits.map(|bits| s::$Type::from_bits(bits as $bits)); },
+                    |bits: [i64; 2]| {} bits;
+                    "+" => (x + y).to_bits();
+                    "-" => (x - y).to_bits();
+                    "wrapping_add" => x.wrapping_add(y).to_bits();
+                    "wrapping_sub" => x.wrapping_sub(y).to_bits();
+                    "saturating_add" => x.saturating_add(y).to_bits();
+                    "saturating_sub" => x.saturating_sub(y).to_bits();
+                    "checked_add" => x.checked_add(y).map(|sum| sum.to_bits());
+                });
+            )*
+        }
+    };
 }
 
-// One value, printed by `{}` with neither a width nor a precision.
-fn value(of: &Both, bits: i64, is_chosen: bool, tally: &mut Tally) {
-    let example = || format!("bits {bits}");
-    let [text, other] = of.write.map(|write| Text::of(|text| write(bits, text)));
-    tally.check(0, text.as_str() == other.as_str(), example);
-    tally.check(2, (of.read)(text.as_str()) == Ok(bits), example);
-    tally.check_each(4, (of.unary)(bits), example);
-    if is_chosen {
-        let shortest = exact::shortest(bits.into(), of.fraction_bits);
-        tally.check(1, text.as_str() == shortest, example);
-        tally.check(3, padded_alike(of, bits), example);
-    }
-}
+include!("../../tools/src/types.in");
 
-// The flags that both have: width, fill, alignment, sign and zeros.
-fn padded_alike(of: &Both, bits: i64) -> bool {
+/// Compares the flags that both have: width, fill, alignment, sign and zeros.
+fn padded_alike(there: impl Display, write: impl Fn(&mut [u8], &Pad) -> Option<usize>) -> bool {
     let pad = |width, fill, align| Pad {
         fill,
         align,
@@ -60,20 +83,19 @@ fn padded_alike(of: &Both, bits: i64) -> bool {
     };
     let signed = |pad| Pad { plus: true, ..pad };
     let filled = |pad| Pad { zeros: true, ..pad };
-    let pads = [
-        Pad::new(12),
-        pad(9, b'*', Align::Left),
-        pad(13, b'_', Align::Center),
-        signed(Pad::new(0)),
-        filled(pad(8, b'*', Align::Left)),
-        filled(signed(Pad::new(12))),
+    let rows = [
+        (Pad::new(12), format!("{there:>12}")),
+        (pad(9, b'*', Align::Left), format!("{there:*<9}")),
+        (pad(13, b'_', Align::Center), format!("{there:_^13}")),
+        (signed(Pad::new(0)), format!("{there:+}")),
+        (filled(pad(8, b'*', Align::Left)), format!("{there:08}")),
+        (filled(signed(Pad::new(12))), format!("{there:+012}")),
     ];
-    let texts = (of.padded_there)(bits);
-    pads.iter().zip(&texts).all(|(pad, text)| {
+    rows.iter().all(|(pad, text)| {
         let mut out = [b'~'; 32];
-        let length = (of.write_padded)(bits, &mut out[..text.len()], pad);
+        let length = write(&mut out[..text.len()], pad);
         let mut short = [b'~'; 32];
-        let refused = (of.write_padded)(bits, &mut short[..text.len() - 1], pad);
+        let refused = write(&mut short[..text.len() - 1], pad);
         let is_written = length == Some(text.len()) && out[..text.len()] == *text.as_bytes();
         is_written && out[text.len()] == b'~' && refused.is_none() && short == [b'~'; 32]
     })
@@ -89,142 +111,82 @@ fn edges(bits: u32) -> Vec<i64> {
     edges
 }
 
-const SUMS: [&str; 7] = [
-    "+",
-    "-",
-    "wrapping_add",
-    "wrapping_sub",
-    "saturating_add",
-    "saturating_sub",
-    "checked_add",
-];
-
-/// Sums of pairs of edges, and of random pairs, of each type.
-pub fn all_sums(work: &mut Work) {
-    ALL.iter().for_each(|of| sums(work, of));
-}
-
-fn sums(work: &mut Work, of: &Both) {
-    let edges = edges(of.width);
+/// Goes over every array of edges, and over so many arrays of random numbers.
+fn go_over_arrays<const N: usize>(
+    work: &mut Work,
+    [of_edges, of_random]: [String; 2],
+    bits: u32,
+    (usual, number): (u64, impl Fn(&mut Random) -> i64 + Sync),
+    (rows, compare): (&[&'static str], impl Fn([i64; N], &mut Tally) + Sync),
+) {
+    let edges = edges(bits);
     let n = edges.len() as u64;
-    let check = |x: i64, y: i64, tally: &mut Tally| {
-        tally.check_each(0, (of.sums)(x, y), || format!("bits {x} and {y}"));
+    let each = |index: u64, tally: &mut Tally| {
+        let edge = |place| edges[(index / n.pow(place as u32) % n) as usize];
+        compare(from_fn(edge), tally);
     };
-    let title = format!("{}, sums of edges", of.name);
-    work.go_over(&title, &SUMS, n * n, |index, tally| {
-        check(
-            edges[(index / n) as usize],
-            edges[(index % n) as usize],
-            tally,
-        );
-    });
-    let title = format!("{}, sums of random pairs", of.name);
-    work.go_over_random(&title, &SUMS, 10_000_000, |random, tally| {
-        check(random.bits_64(), random.bits_64(), tally);
-    });
+    work.go_over(&of_edges, n.pow(N as u32), (rows, each));
+    let some = |mut random: Random, tally: &mut Tally| {
+        compare(from_fn(|_| number(&mut random)), tally);
+    };
+    work.go_over_random(&of_random, usual, (rows, some));
 }
-
-const PRODUCTS: [&str; 6] = [
-    "Fixed: *",
-    "Fixed: /",
-    "Fixed: mul_div",
-    "Fixed: mul_i32",
-    "F26Dot6: *",
-    "F26Dot6: /",
-];
 
 /// Products and quotients of triples of edges, and of random triples.
 pub fn products(work: &mut Work) {
-    let edges = edges(32);
-    let n = edges.len() as u64;
-    let edge = |index: u64| edges[(index % n) as usize] as i32;
-    work.go_over("Triples of edges", &PRODUCTS, n * n * n, |index, tally| {
-        of_three([edge(index / n / n), edge(index / n), edge(index)], tally);
-    });
-    work.go_over_random("Random triples", &PRODUCTS, 500_000_000, |random, tally| {
-        of_three(
-            [random.bits_32(), random.bits_32(), random.bits_32()],
-            tally,
-        );
-    });
-}
-
-fn of_three(bits: [i32; 3], tally: &mut Tally) {
-    let answers = sides!(s => {
-        let [x, y, z] = bits.map(s::Fixed::from_bits);
-        let [v, w, _] = bits.map(s::F26Dot6::from_bits);
-        [
-            (x * y).to_bits().into(),
-            (x / y).to_bits().into(),
-            x.mul_div(y, z).to_bits().into(),
-            x.mul_i32(bits[1]).to_bits(),
-            (v * w).to_bits().into(),
-            (v / w).to_bits().into(),
-        ]
-    });
-    tally.check_each(0, answers, || format!("bits {bits:?}"));
+    let titles = ["Triples of edges", "Random triples"].map(String::from);
+    let number = |random: &mut Random| random.bits_32().into();
+    go_over_arrays(
+        work,
+        titles,
+        32,
+        (500_000_000, number),
+        table! {
+            s {
+                let [x, y, z] = bits.map(|bits| s::Fixed::from_bits(bits as i32));
+                let [v, w, _] = bits.map(|bits| s::F26Dot6::from_bits(bits as i32));
+            }, |bits: [i64; 3]| {} bits;
+            "Fixed: *" => (x * y).to_bits();
+            "Fixed: /" => (x / y).to_bits();
+            "Fixed: mul_div" => x.mul_div(y, z).to_bits();
+            "Fixed: mul_i32" => x.mul_i32(bits[1] as i32).to_bits();
+            "F26Dot6: *" => (v * w).to_bits();
+            "F26Dot6: /" => (v / w).to_bits();
+        },
+    );
 }
 
 /// Conversions of every value of `Fixed` and `F26Dot6`, and of random values of the others.
 pub fn conversions(work: &mut Work) {
-    let names = [
-        "Fixed::to_i32",
-        "Fixed::to_f26dot6",
-        "Fixed::to_f2dot14",
-        "Fixed::to_f48dot16",
-        "Fixed::from_i32",
-        "F26Dot6::to_i32",
-        "F26Dot6::from_i32",
-        "F2Dot14::to_fixed",
-    ];
-    work.go_over_all("Conversions of 32 bits", &names, 32, |index, tally| {
-        let bits = index as i32;
-        let answers = sides!(s => {
-            let x = s::Fixed::from_bits(bits);
-            [
-                x.to_i32(),
-                x.to_f26dot6().to_bits(),
-                x.to_f2dot14().to_bits().into(),
-                x.to_f48dot16().to_bits() as i32,
-                s::Fixed::from_i32(bits).to_bits(),
-                s::F26Dot6::from_bits(bits).to_i32(),
-                s::F26Dot6::from_i32(bits).to_bits(),
-                s::F2Dot14::from_bits(bits as i16).to_fixed().to_bits(),
-            ]
-        });
-        tally.check_each(0, answers, || format!("bits {bits}"));
+    work.go_over_all("Conversions of 32 bits", 32, table! {
+        s { let x = s::Fixed::from_bits(bits); }, |index: u64| { let bits = index as i32; } bits;
+        "Fixed::to_i32" => x.to_i32();
+        "Fixed::to_f26dot6" => x.to_f26dot6().to_bits();
+        "Fixed::to_f2dot14" => x.to_f2dot14().to_bits();
+        "Fixed::to_f48dot16" => x.to_f48dot16().to_bits();
+        "Fixed::from_i32" => s::Fixed::from_i32(bits).to_bits();
+        "F26Dot6::to_i32" => s::F26Dot6::from_bits(bits).to_i32();
+        "F26Dot6::from_i32" => s::F26Dot6::from_i32(bits).to_bits();
+        "F2Dot14::to_fixed" => s::F2Dot14::from_bits(bits as i16).to_fixed().to_bits();
     });
-    let names = [
-        "to_i64",
-        "to_i32",
-        "to_fixed",
-        "from_i64",
-        "from_i32",
-        "apply_delta, exactly",
-    ];
-    work.go_over_random("Conversions of 48.16", &names, 50_000_000, of_48_dot_16);
-}
-
-fn of_48_dot_16(random: &mut Random, tally: &mut Tally) {
-    let (bits, base) = (random.bits_64(), random.bits_32());
-    let answers = sides!(s => {
-        let x = s::F48Dot16::from_bits(bits);
-        [
-            x.to_i64(),
-            x.to_i32().into(),
-            x.to_fixed().to_bits().into(),
-            s::F48Dot16::from_i64(bits).to_bits(),
-            s::F48Dot16::from_i32(base).to_bits(),
-        ]
-    });
-    let example = || format!("bits {bits}, base {base}");
-    tally.check_each(0, answers, example);
-    let x = F48Dot16::from_bits(bits);
-    let moved = |base: i64| i128::from(base) * 65536 + i128::from(bits);
-    let half = base as i16;
-    let is_exact = Fixed::from_bits(base).apply_delta(x) == moved(base.into())
-        && F2Dot14::from_bits(half).apply_delta(x) == moved(half.into())
-        && FWord::new(half).apply_delta(x) == moved(half.into())
-        && UfWord::new(half as u16).apply_delta(x) == moved((half as u16).into());
-    tally.check(5, is_exact, example);
+    work.go_over_random(
+        "Conversions of 48.16",
+        50_000_000,
+        table! {
+            s { let x = s::F48Dot16::from_bits(bits); }, |random: Random| {
+                let (bits, base) = (random.bits_64(), random.bits_32());
+                let moved = |base: i64| i128::from(base) * 65536 + i128::from(bits);
+                let (x, half) = (F48Dot16::from_bits(bits), base as i16);
+            } (bits, base);
+            "to_i64" => x.to_i64();
+            "to_i32" => x.to_i32();
+            "to_fixed" => x.to_fixed().to_bits();
+            "from_i64" => s::F48Dot16::from_i64(bits).to_bits();
+            "from_i32" => s::F48Dot16::from_i32(base).to_bits();
+            "apply_delta, exactly": Fixed::from_bits(base).apply_delta(x) == moved(base.into())
+                && F2Dot14::from_bits(half).apply_delta(x) == moved(half.into())
+                && FWord::new(half).apply_delta(x) == moved(half.into())
+                && UfWord::new(half as u16).apply_delta(x) == moved((half as u16).into());
+        },
+    );
 }

@@ -1,10 +1,12 @@
 //! Counts of what agrees and what does not.
 
-use std::fmt;
+use std::fmt::{self, Debug};
 
 /// A row for each thing that is compared.
 pub struct Tally {
     rows: Vec<Row>,
+    /// The row that is checked next.
+    next: usize,
 }
 
 #[derive(Default)]
@@ -18,36 +20,36 @@ struct Row {
 
 impl Tally {
     pub fn new(names: &[&'static str]) -> Self {
-        let row = |name: &&'static str| Row {
+        let row = |&name| Row {
             name,
             ..Row::default()
         };
         Self {
             rows: names.iter().map(row).collect(),
+            next: 0,
         }
     }
 
-    /// Counts one comparison. `example` is called for the first difference of the row.
-    pub fn check(&mut self, row: usize, agree: bool, example: impl FnOnce() -> String) {
-        let row = &mut self.rows[row];
-        if agree {
-            row.same += 1;
-        } else {
-            row.different += 1;
-            row.example.get_or_insert_with(example);
+    /// Counts a comparison in the next row, or passes the row over if it is `None`. An input of
+    /// which the sides differ is kept as the row's example.
+    #[inline]
+    pub fn check(&mut self, agree: impl Into<Option<bool>>, input: impl Debug) {
+        let row = &mut self.rows[self.next];
+        self.next += 1;
+        match agree.into() {
+            Some(true) => row.same += 1,
+            Some(false) => {
+                row.different += 1;
+                row.example.get_or_insert_with(|| format!("{input:?}"));
+            }
+            None => {}
         }
     }
 
-    /// Counts a comparison for each of the rows from this one on, of what is here and there.
-    pub fn check_each<T: PartialEq, const N: usize>(
-        &mut self,
-        first: usize,
-        [here, there]: [[T; N]; 2],
-        example: impl Fn() -> String,
-    ) {
-        for (n, (here, there)) in here.into_iter().zip(there).enumerate() {
-            self.check(first + n, here == there, &example);
-        }
+    /// Goes back to the first row, after an input of which every row was checked.
+    pub fn end_input(&mut self) {
+        assert_eq!(self.next, self.rows.len(), "an input checks every row");
+        self.next = 0;
     }
 
     pub fn add(&mut self, other: Self) {
@@ -72,17 +74,12 @@ impl Tally {
 
 impl fmt::Display for Tally {
     fn fmt(&self, f: &mut fmt::Formatter<'_>) -> fmt::Result {
-        for Row {
-            name,
-            same,
-            different,
-            example,
-        } in &self.rows
-        {
+        for row in &self.rows {
+            let (name, same, different) = (row.name, row.same, row.different);
             write!(f, "  {name:<44}{same:>14} same {different:>10} different")?;
-            match example {
+            match &row.example {
                 Some(example) => writeln!(f, ", as {example}")?,
-                None if *same == 0 => writeln!(f, ": NOTHING WAS COMPARED")?,
+                None if same == 0 => writeln!(f, ": NOTHING WAS COMPARED")?,
                 None => writeln!(f)?,
             }
         }

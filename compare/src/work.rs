@@ -20,13 +20,13 @@ pub struct Work {
 }
 
 impl Work {
-    /// Goes over the inputs 0 to `count - 1`, and prints the counts.
+    /// Goes over the inputs 0 to `count - 1` with a table's names and its function, and prints the
+    /// counts.
     pub fn go_over(
         &mut self,
         title: &str,
-        names: &[&'static str],
         count: u64,
-        compare: impl Fn(u64, &mut Tally) + Sync,
+        (names, compare): (&[&'static str], impl Fn(u64, &mut Tally) + Sync),
     ) {
         let start = Instant::now();
         let (threads, compare) = (self.threads, &compare);
@@ -35,8 +35,10 @@ impl Work {
             let worker = |first: usize| {
                 scope.spawn(move || {
                     let mut tally = Tally::new(names);
-                    let inputs = (first as u64..count).step_by(threads);
-                    inputs.for_each(|index| compare(index, &mut tally));
+                    for index in (first as u64..count).step_by(threads) {
+                        compare(index, &mut tally);
+                        tally.end_input();
+                    }
                     tally
                 })
             };
@@ -55,15 +57,12 @@ impl Work {
     pub fn go_over_all(
         &mut self,
         title: &str,
-        names: &[&'static str],
         bits: u32,
-        compare: impl Fn(u64, &mut Tally) + Sync,
+        (names, compare): (&[&'static str], impl Fn(u64, &mut Tally) + Sync),
     ) {
         let step = if self.is_small && bits > 16 { 4099 } else { 1 };
-        let count = (1u64 << bits).div_ceil(step);
-        self.go_over(title, names, count, |index, tally| {
-            compare(index * step, tally)
-        });
+        let compare = |index, tally: &mut Tally| compare(index * step, tally);
+        self.go_over(title, (1u64 << bits).div_ceil(step), (names, compare));
     }
 
     /// Goes over random inputs, so many where nothing else was said, and in `small` one of a
@@ -71,15 +70,13 @@ impl Work {
     pub fn go_over_random(
         &mut self,
         title: &str,
-        names: &[&'static str],
         usual: u64,
-        compare: impl Fn(&mut Random, &mut Tally) + Sync,
+        (names, compare): (&[&'static str], impl Fn(Random, &mut Tally) + Sync),
     ) {
         let usual = if self.is_small { usual / 100 } else { usual };
         let (count, seed) = (self.random.unwrap_or(usual), self.seed);
-        self.go_over(title, names, count, |index, tally| {
-            compare(&mut Random::of_input(seed, index), tally);
-        });
+        let compare = |index, tally: &mut Tally| compare(Random::of_input(seed, index), tally);
+        self.go_over(title, count, (names, compare));
     }
 }
 
@@ -93,10 +90,11 @@ mod tests {
             threads: 3,
             ..Work::default()
         };
-        work.go_over("a part", &["one", "two"], inputs, |index, tally| {
-            tally.check(0, true, String::new);
-            tally.check(1, index != wrong, || format!("{index}"));
-        });
+        let compare = |index, tally: &mut Tally| {
+            tally.check(true, index);
+            tally.check(index != wrong, index);
+        };
+        work.go_over("a part", inputs, (&["one", "two"], compare));
         (work.compared, work.different)
     }
 
