@@ -27,26 +27,14 @@ fn table(len: usize, fields: &[(usize, &[u16])]) -> Vec<u8> {
 /// Two encodings: the specification's example of format 4, with its last segment by an array of
 /// glyphs, and a group of format 12.
 fn cmap() -> Vec<u8> {
+    // Its deltas are -9, -18, 7 and 1.
     let format_4 = [
-        &[
-            4, 52, 0, 8, 8, 2, 0, 20, 90, 154, 0xFFFF, 0, 10, 30, 153, 0xFFFF,
-        ][..],
-        &[
-            9u16.wrapping_neg(),
-            18u16.wrapping_neg(),
-            7,
-            1,
-            0,
-            0,
-            4,
-            0,
-            100,
-            0,
-        ],
+        4, 52, 0, 8, 8, 2, 0, 20, 90, 154, 0xFFFF, 0, 10, 30, 153, 0xFFFF, 0xFFF7, 0xFFEE, 7, 1, 0,
+        0, 4, 0, 100, 0,
     ];
     let format_12 = [12, 0, 0, 28, 0, 0, 0, 1, 1, 0xF600, 1, 0xF610, 0, 500];
     let encodings = [0, 2, 0, 3, 0, 20, 0, 10, 0, 20 + 52];
-    words(&[&encodings[..], &format_4.concat(), &format_12].concat())
+    words(&[&encodings[..], &format_4, &format_12].concat())
 }
 
 /// Two regions of one axis, and two delta sets: one of a word and a byte, by a map of glyphs.
@@ -71,35 +59,22 @@ fn name(text: &str) -> Vec<u8> {
 }
 
 fn font() -> Vec<u8> {
+    let os2 = table(78, &[(4, &[400]), (58, &[0x5445, 0x5354]), (68, &[800])]);
+    let avar = [
+        1, 0, 0, 1, 4, 0xC000, 0xC000, 0, 0, 0x2000, 0x1000, 0x4000, 0x4000,
+    ];
+    let axes = words(&[1, 0, 16, 2, 1, 20, 0, 8]);
+    let axis = words(&[100, 0, 400, 0, 900, 0, 0, 256]);
+    let head: [(_, &[u16]); 3] = [(0, &[1, 0, 2, 0x8000]), (18, &[1000]), (36, &[0xFFF6])];
+    let hhea = table(36, &[(4, &[800, 0xFF38, 0, 620]), (34, &[2])]);
     let tables: [(&[u8; 4], Vec<u8>); 10] = [
         (b"HVAR", hvar()),
-        (
-            b"OS/2",
-            table(78, &[(4, &[400]), (58, &[0x5445, 0x5354]), (68, &[800])]),
-        ),
-        (
-            b"avar",
-            words(&[
-                1, 0, 0, 1, 4, 0xC000, 0xC000, 0, 0, 0x2000, 0x1000, 0x4000, 0x4000,
-            ]),
-        ),
+        (b"OS/2", os2),
+        (b"avar", words(&avar)),
         (b"cmap", cmap()),
-        (b"fvar", {
-            let header = words(&[1, 0, 16, 2, 1, 20, 0, 8]);
-            let axis = words(&[100, 0, 400, 0, 900, 0, 0, 256]);
-            [&header[..], b"wght", &axis].concat()
-        }),
-        (
-            b"head",
-            table(
-                54,
-                &[(0, &[1, 0, 2, 0x8000]), (18, &[1000]), (36, &[0xFFF6])],
-            ),
-        ),
-        (
-            b"hhea",
-            table(36, &[(4, &[800, 0xFF38, 0, 620]), (34, &[2])]),
-        ),
+        (b"fvar", [&axes[..], b"wght", &axis].concat()),
+        (b"head", table(54, &head)),
+        (b"hhea", hhea),
         (b"hmtx", words(&[500, 7, 620, 0xFFF0, 9])),
         (b"maxp", words(&[1, 0, 3])),
         (b"name", name("Ütest")),

@@ -16,11 +16,9 @@ const TABLE: &str = include_str!("../crates/font_c/callers/values.txt");
 
 /// The words of each line of a kind, without the first.
 fn lines(kind: &str) -> Vec<Vec<&'static str>> {
-    let words = TABLE
-        .lines()
-        .map(|line| line.split(' ').collect::<Vec<_>>());
-    let of_kind = words.filter(|words| words[0] == kind);
-    let lines: Vec<_> = of_kind.map(|words| words[1..].to_vec()).collect();
+    let words = TABLE.lines().map(|line| line.split(' '));
+    let of_kind = words.filter_map(|mut words| (words.next()? == kind).then_some(words));
+    let lines: Vec<Vec<_>> = of_kind.map(Iterator::collect).collect();
     assert!(!lines.is_empty(), "{kind}");
     lines
 }
@@ -28,6 +26,19 @@ fn lines(kind: &str) -> Vec<Vec<&'static str>> {
 fn numbers<const N: usize, T: FromStr<Err: Debug> + Debug>(words: &[&str]) -> [T; N] {
     let numbers: Vec<T> = words.iter().map(|word| word.parse().unwrap()).collect();
     numbers.try_into().unwrap()
+}
+
+/// The number of a line whose first word says that there is one, by a 0.
+fn stored<T: FromStr<Err: Debug>>(words: &[&str]) -> Option<T> {
+    (words[0] == "0").then(|| words[1].parse().unwrap())
+}
+
+/// The scalars and deltas of a sum.
+fn terms(words: &[&str]) -> Vec<(Fixed, i32)> {
+    let terms = words.chunks(2).map(numbers);
+    terms
+        .map(|[x, delta]| (Fixed::from_bits(x), delta))
+        .collect()
 }
 
 /// How a line pads, or `None` where no `Pad` says it.
@@ -80,7 +91,7 @@ macro_rules! of_fixed_point_types {
                 let [x, y] = [1, 2].map(|at| number(words[at]));
                 let sums = [x + y, x - y, x.saturating_add(y), x.saturating_sub(y)];
                 assert_eq!(sums, [3, 4, 7, 8].map(|at| number(words[at])), "{words:?}");
-                let exact = (words[5] == "0").then(|| number(words[6]));
+                let exact = stored(&words[5..]).map($Type::from_bits);
                 assert_eq!(x.checked_add(y), exact, "{words:?}");
             }
             for words in of("sign") {
@@ -102,45 +113,30 @@ macro_rules! of_fixed_point_types {
 
 include!("../tools/src/types.in");
 
-/// Goes over the lines of a kind, whose first numbers ask and whose others answer.
-fn answers<const Q: usize, const A: usize, N, R>(kind: &str, answer: impl Fn([N; Q]) -> [R; A])
-where
-    N: FromStr<Err: Debug> + Debug,
-    R: FromStr<Err: Debug> + Debug + PartialEq,
-{
-    for words in lines(kind) {
-        let asked = numbers(&words[..Q]);
-        assert_eq!(answer(asked), numbers(&words[Q..]), "{kind} {words:?}");
-    }
+/// Goes over the lines of kinds, whose first numbers ask and whose others answer.
+macro_rules! answers {
+    ($($kind:literal: |$($asked:ident),*| $($answer:expr),*;)*) => {$(
+        for words in lines($kind) {
+            let mut numbers = words.iter();
+            $(let $asked = numbers.next().unwrap().parse().unwrap();)*
+            let wanted: Vec<i64> = numbers.map(|word| word.parse().unwrap()).collect();
+            assert_eq!([$(i64::from($answer)),*], *wanted, "{} {words:?}", $kind);
+        }
+    )*};
 }
 
 #[test]
 fn numbers_of_32_bits() {
-    let fixed = Fixed::from_bits;
-    let f2dot14 = |bits: i32| F2Dot14::from_bits(bits as i16);
-    answers("to_fixed", |[x]| [f2dot14(x).to_fixed().to_bits()]);
-    answers(
-        "from_fixed",
-        |[x]| [F2Dot30::from_fixed(fixed(x)).to_bits()],
-    );
-    answers("from_f2dot14", |[x]| {
-        [F2Dot30::from_f2dot14(f2dot14(x)).to_bits()]
-    });
-    answers("narrow_f2dot30", |[x]| {
-        let x = F2Dot30::from_bits(x);
-        [x.to_fixed().to_bits(), x.to_f2dot14().to_bits().into()]
-    });
-    answers("mul_div", |[x, a, c]| {
-        [fixed(x).mul_div(fixed(a), fixed(c)).to_bits()]
-    });
-    answers("narrow", |[x]| {
-        let x = fixed(x);
-        [
-            x.to_i32(),
-            x.to_f26dot6().to_bits(),
-            x.to_f2dot14().to_bits().into(),
-        ]
-    });
+    let (fixed, f2dot14, f2dot30) = (Fixed::from_bits, F2Dot14::from_bits, F2Dot30::from_bits);
+    answers! {
+        "to_fixed": |x| f2dot14(x).to_fixed().to_bits();
+        "from_fixed": |x| F2Dot30::from_fixed(fixed(x)).to_bits();
+        "from_f2dot14": |x| F2Dot30::from_f2dot14(f2dot14(x)).to_bits();
+        "narrow_f2dot30": |x| f2dot30(x).to_fixed().to_bits(), f2dot30(x).to_f2dot14().to_bits();
+        "mul_div": |x, a, c| fixed(x).mul_div(fixed(a), fixed(c)).to_bits();
+        "narrow": |x|
+            fixed(x).to_i32(), fixed(x).to_f26dot6().to_bits(), fixed(x).to_f2dot14().to_bits();
+    }
     for words in lines("product") {
         let [x, y, product, quotient] = numbers(&words[1..]);
         let ([a, b], [c, d]) = ([x, y].map(fixed), [x, y].map(F26Dot6::from_bits));
@@ -154,32 +150,27 @@ fn numbers_of_32_bits() {
 
 #[test]
 fn matrices() {
-    answers("matrix", |bits: [i32; 14]| {
-        let bits = bits.map(Fixed::from_bits);
-        let matrix = |at| Matrix::from_elements(std::array::from_fn(|n| bits[at + n]));
-        let (a, b, p) = (matrix(0), matrix(6), Point::new(bits[12], bits[13]));
-        let linear = Matrix {
-            dx: Fixed::ZERO,
-            dy: Fixed::ZERO,
-            ..a
-        };
+    for words in lines("matrix") {
+        let bits: [i32; 28] = numbers(&words);
+        let x = bits.map(Fixed::from_bits);
+        let matrix = |at| Matrix::from_elements(std::array::from_fn(|n| x[at + n]));
+        let (a, b, p) = (matrix(0), matrix(6), Point::new(x[12], x[13]));
+        let linear = Matrix::from_elements([a.xx, a.yx, a.xy, a.yy, Fixed::ZERO, Fixed::ZERO]);
         let moved = [a * p, composed(a, b, p), in_turn(a, b, p), linear * p];
-        let moved = moved.iter().flat_map(|point| [point.x, point.y]);
-        let all: Vec<i32> = (a * b)
-            .elements()
-            .into_iter()
-            .chain(moved)
-            .map(Fixed::to_bits)
-            .collect();
-        <[i32; 14]>::try_from(all).unwrap()
-    });
+        let moved = moved.map(|point| [point.x, point.y]).concat();
+        let found = [&(a * b).elements()[..], &moved].concat();
+        assert_eq!(found, x[14..], "{words:?}");
+    }
 }
 
 fn bytes(digits: &str) -> Vec<u8> {
     let pairs = (0..digits.len()).step_by(2).map(|at| &digits[at..at + 2]);
-    pairs
-        .map(|pair| u8::from_str_radix(pair, 16).unwrap())
-        .collect()
+    let bytes = pairs.map(|pair| u8::from_str_radix(pair, 16).unwrap());
+    bytes.collect()
+}
+
+fn of_byte(pos: usize, byte: u8) -> InvalidTag {
+    InvalidTag::InvalidByte { pos, byte }
 }
 
 #[test]
@@ -204,10 +195,7 @@ fn tags() {
         let checked = match words[3] {
             "0" => Ok(()),
             "1" => Err(InvalidTag::InvalidLength(0)),
-            "2" => Err(InvalidTag::InvalidByte {
-                pos,
-                byte: four[pos],
-            }),
+            "2" => Err(of_byte(pos, four[pos])),
             _ => Err(InvalidTag::ByteAfterSpace { pos }),
         };
         assert_eq!(tag.validate(), checked, "{words:?}");
@@ -217,12 +205,8 @@ fn tags() {
 #[test]
 fn sums() {
     for words in lines("sum") {
-        let terms = words[3..].chunks(2).map(numbers);
-        let terms: Vec<_> = terms
-            .map(|[x, delta]| (Fixed::from_bits(x), delta))
-            .collect();
-        let sum = (words[0] == "0").then(|| F48Dot16::from_bits(words[1].parse().unwrap()));
-        assert_eq!(checked_delta_sum(&terms), sum, "{words:?}");
+        let sum = stored(&words).map(F48Dot16::from_bits);
+        assert_eq!(checked_delta_sum(&terms(&words[3..])), sum, "{words:?}");
     }
 }
 
@@ -237,14 +221,13 @@ fn integers() {
         };
         assert_eq!(bits.to_string(), words[2], "{words:?}");
     }
-    answers("narrow_f26dot6", |[x]| [F26Dot6::from_bits(x).to_i32()]);
-    answers("narrow_f48dot16", |[x]| {
-        let x = F48Dot16::from_bits(x);
-        [x.to_i64(), x.to_i32().into(), x.to_fixed().to_bits().into()]
-    });
-    answers("mul_i32", |[x, n]| {
-        [Fixed::from_bits(x).mul_i32(n).to_bits()]
-    });
+    let f48dot16 = F48Dot16::from_bits;
+    answers! {
+        "narrow_f26dot6": |x| F26Dot6::from_bits(x).to_i32();
+        "narrow_f48dot16": |x|
+            f48dot16(x).to_i64(), f48dot16(x).to_i32(), f48dot16(x).to_fixed().to_bits();
+        "mul_i32": |x, n| Fixed::from_bits(x).mul_i32(n).to_bits();
+    }
 }
 
 #[test]
@@ -257,8 +240,7 @@ fn deltas() {
             "fixed" => Fixed::from_bits(words[1].parse().unwrap()).apply_delta(delta),
             _ => F2Dot14::from_bits(words[1].parse().unwrap()).apply_delta(delta),
         };
-        let wanted = (words[3] == "0").then(|| words[4].parse().unwrap());
-        assert_eq!(i64::try_from(moved).ok(), wanted, "{words:?}");
+        assert_eq!(i64::try_from(moved).ok(), stored(&words[3..]), "{words:?}");
     }
     for words in lines("units") {
         let steps = words[1].parse().unwrap();
@@ -266,8 +248,7 @@ fn deltas() {
             "fword" => FWord::round_steps(steps).map(|word| i32::from(word.to_i16())),
             _ => UfWord::round_steps(steps).map(|word| i32::from(word.to_u16())),
         };
-        let wanted = (words[2] == "0").then(|| words[3].parse().unwrap());
-        assert_eq!(units, wanted, "{words:?}");
+        assert_eq!(units, stored(&words[2..]), "{words:?}");
     }
 }
 
@@ -276,26 +257,20 @@ fn deltas() {
 fn moved_quantities() {
     for words in lines("vary") {
         let base = FWord::new(words[0].parse().unwrap());
-        let terms = words[4..].chunks(2).map(numbers);
-        let terms: Vec<_> = terms
-            .map(|[x, delta]| (Fixed::from_bits(x), delta))
-            .collect();
-        let moved = vary(base, &terms).and_then(|moved| i64::try_from(moved).ok());
-        let wanted = (words[1] == "0").then(|| words[2].parse().unwrap());
-        assert_eq!(moved, wanted, "{words:?}");
+        let moved = vary(base, &terms(&words[4..])).and_then(|moved| i64::try_from(moved).ok());
+        assert_eq!(moved, stored(&words[1..]), "{words:?}");
     }
 }
 
 #[test]
 fn texts_of_errors() {
     let glyph = GlyphId16::try_from(GlyphId::new(65536)).unwrap_err();
-    let byte = |pos, byte| InvalidTag::InvalidByte { pos, byte }.to_string();
     let texts = [
         DecimalFault::Syntax.to_string(),
         DecimalFault::OutOfRange.to_string(),
         InvalidTag::InvalidLength(5).to_string(),
-        byte(3, 7),
-        byte(1, 0x1F),
+        of_byte(3, 7).to_string(),
+        of_byte(1, 0x1F).to_string(),
         InvalidTag::ByteAfterSpace { pos: 2 }.to_string(),
         glyph.to_string(),
         Uint24::try_from(1usize << 24).unwrap_err().to_string(),
@@ -324,9 +299,7 @@ fn broken_preconditions() {
             let text = catch_unwind(|| {
                 let shortest = Shortest::new(bits, f);
                 assert!(shortest.as_str().is_ascii());
-                std::str::from_utf8(shortest.as_str().as_bytes())
-                    .unwrap()
-                    .to_string()
+                String::from_utf8(shortest.as_str().into()).unwrap()
             });
             returned += usize::from(text.is_ok());
             let text = text.unwrap_or("1.5".into());

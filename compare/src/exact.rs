@@ -41,6 +41,16 @@ const ONE: i128 = 1 << 30;
 #[derive(Clone, Copy, PartialEq, Eq)]
 pub struct F2Dot30(i128);
 
+// The number with these bits, wrapped.
+fn wrapped(bits: i128) -> F2Dot30 {
+    F2Dot30(wrap(32, bits))
+}
+
+// The number with these bits, or the nearest end.
+fn clamped(bits: i128) -> F2Dot30 {
+    F2Dot30(bits.clamp(i32::MIN.into(), i32::MAX.into()))
+}
+
 impl F2Dot30 {
     pub fn from_bits(bits: i32) -> Self {
         Self(bits.into())
@@ -51,49 +61,7 @@ impl F2Dot30 {
     }
 
     pub fn from_f64(x: f64) -> Self {
-        Self::clamped((x * ONE as f64).round() as i128)
-    }
-
-    // The number with these bits, wrapped.
-    fn wrapped(bits: i128) -> Self {
-        Self(wrap(32, bits))
-    }
-
-    // The same, or the nearest end.
-    fn clamped(bits: i128) -> Self {
-        Self(bits.clamp(i32::MIN.into(), i32::MAX.into()))
-    }
-
-    pub fn round(self) -> Self {
-        Self::wrapped(up(self.0, ONE) * ONE)
-    }
-
-    pub fn floor(self) -> Self {
-        Self::wrapped(self.0.div_euclid(ONE) * ONE)
-    }
-
-    pub fn fract(self) -> Self {
-        Self::wrapped(self.0.rem_euclid(ONE))
-    }
-
-    pub fn abs(self) -> Self {
-        Self::wrapped(self.0.abs())
-    }
-
-    pub fn wrapping_add(self, other: Self) -> Self {
-        Self::wrapped(self.0 + other.0)
-    }
-
-    pub fn wrapping_sub(self, other: Self) -> Self {
-        Self::wrapped(self.0 - other.0)
-    }
-
-    pub fn saturating_add(self, other: Self) -> Self {
-        Self::clamped(self.0 + other.0)
-    }
-
-    pub fn saturating_sub(self, other: Self) -> Self {
-        Self::clamped(self.0 - other.0)
+        clamped((x * ONE as f64).round() as i128)
     }
 
     pub fn checked_add(self, other: Self) -> Option<Self> {
@@ -104,6 +72,30 @@ impl F2Dot30 {
     pub fn to_be_bytes(self) -> [u8; 4] {
         self.to_bits().to_be_bytes()
     }
+}
+
+/// Methods of numbers, each with the number that it gives.
+macro_rules! methods {
+    ($($name:ident($x:ident $(, $y:ident)?) = $number:expr;)*) => {
+        impl F2Dot30 {$(
+            pub fn $name(self $(, $y: Self)?) -> Self {
+                let $x = self.0;
+                $(let $y = $y.0;)?
+                $number
+            }
+        )*}
+    };
+}
+
+methods! {
+    round(x) = wrapped(up(x, ONE) * ONE);
+    floor(x) = wrapped(x.div_euclid(ONE) * ONE);
+    fract(x) = wrapped(x.rem_euclid(ONE));
+    abs(x) = wrapped(x.abs());
+    wrapping_add(x, y) = wrapped(x + y);
+    wrapping_sub(x, y) = wrapped(x - y);
+    saturating_add(x, y) = clamped(x + y);
+    saturating_sub(x, y) = clamped(x - y);
 }
 
 impl Add for F2Dot30 {
@@ -126,7 +118,7 @@ impl Neg for F2Dot30 {
     type Output = Self;
 
     fn neg(self) -> Self {
-        Self::wrapped(-self.0)
+        wrapped(-self.0)
     }
 }
 

@@ -15,9 +15,8 @@ fn nearest(x: f64) -> i64 {
 /// Raw values of a type, with the ends and those around powers of two.
 fn raws(width: u32) -> impl Iterator<Item = i64> {
     let near = |power: u32| [-2, -1, 0, 1, 2].map(|near| (1i64 << power).wrapping_add(near));
-    let raws = (0..width)
-        .flat_map(near)
-        .flat_map(|raw| [raw, raw.wrapping_neg()]);
+    let raws = (0..width).flat_map(near);
+    let raws = raws.flat_map(|raw| [raw, raw.wrapping_neg()]);
     raws.map(move |raw| raw << (64 - width) >> (64 - width))
 }
 
@@ -83,35 +82,25 @@ fn deltas() {
     for raw in raws(20) {
         let delta = here::F48Dot16::from_bits(raw);
         let other = there::F48Dot16::from_bits(raw);
-        let units = here::FWord::new(500).apply_delta(delta);
-        let rows = [
-            (units, 16, there::FWord::new(500).apply_delta(other)),
-            (
-                here::UfWord::new(500).apply_delta(delta),
-                16,
-                there::UfWord::new(500).apply_delta(other),
-            ),
-            (
-                here::Fixed::ONE.apply_delta(delta),
-                32,
-                there::Fixed::ONE.apply_delta(other),
-            ),
-            (
-                here::F2Dot14::ONE.apply_delta(delta),
-                30,
-                there::F2Dot14::ONE.apply_delta(other),
-            ),
+        let moved = [
+            here::FWord::new(500).apply_delta(delta),
+            here::UfWord::new(500).apply_delta(delta),
+            here::Fixed::ONE.apply_delta(delta),
+            here::F2Dot14::ONE.apply_delta(delta),
         ];
-        for (here, power, there) in rows {
-            let here = here as f64 / step(power);
-            assert!(
-                (here - f64::from(there)).abs() < 1e-4,
-                "{raw}: {here} {there}"
-            );
+        let wanted = [
+            (16, there::FWord::new(500).apply_delta(other)),
+            (16, there::UfWord::new(500).apply_delta(other)),
+            (32, there::Fixed::ONE.apply_delta(other)),
+            (30, there::F2Dot14::ONE.apply_delta(other)),
+        ];
+        for (here, (power, there)) in moved.into_iter().zip(wanted) {
+            let far = here as f64 / step(power) - f64::from(there);
+            assert!(far.abs() < 1e-4, "{raw}: {here} {there}");
         }
         // Rounded once, and not to an f32 first.
-        let rounded = (units as f64 / step(16) + 0.5).floor() as i16;
-        let here = here::FWord::round_steps(units).map(here::FWord::to_i16);
+        let rounded = (moved[0] as f64 / step(16) + 0.5).floor() as i16;
+        let here = here::FWord::round_steps(moved[0]).map(here::FWord::to_i16);
         assert_eq!(here, Some(rounded), "{raw}");
     }
 }
@@ -131,10 +120,8 @@ fn sums() {
 fn arrays() {
     let bytes = [0, 1, 0, 4, 0xFF, 0xFE];
     let array = ScalarArray::<u16>::new(&bytes).unwrap();
-    let fields: Vec<there::BigEndian<u16>> = bytes
-        .chunks(2)
-        .map(|bytes| there::BigEndian::from_slice(bytes).unwrap())
-        .collect();
+    let field = |bytes| there::BigEndian::from_slice(bytes).unwrap();
+    let fields: Vec<there::BigEndian<u16>> = bytes.chunks(2).map(field).collect();
     assert!(array.iter().eq(fields.iter().map(|field| field.get())));
     for value in 0..6 {
         let place = fields.binary_search_by_key(&value, |field| field.get());
@@ -222,8 +209,8 @@ impl here::MatrixElement for Float {
 #[test]
 fn own_elements() {
     let bits = [1.5, -2.0, 0.25, 3.0, 10.0, 20.0];
-    let here =
-        here::Matrix::from_elements(bits.map(Float)) * here::Point::new(Float(2.0), Float(4.0));
+    let point = here::Point::new(Float(2.0), Float(4.0));
+    let here = here::Matrix::from_elements(bits.map(Float)) * point;
     let there = there::Matrix::from_elements(bits) * there::Point::new(2.0, 4.0);
     assert_eq!([here.x.0, here.y.0], [there.x, there.y]);
 }
