@@ -12,11 +12,8 @@ mod font;
 const WEIGHT: Tag = Tag::new(b"wght");
 const WIDTH: Tag = Tag::from_be_bytes(*b"wdth");
 const HALF: Fixed = Fixed::from_bits(0x8000);
-const BITS: i32 = Fixed::from_i32(3)
-    .wrapping_sub(HALF)
-    .round()
-    .abs()
-    .to_bits();
+const DIFFERENCE: Fixed = Fixed::from_i32(3).wrapping_sub(HALF);
+const BITS: i32 = DIFFERENCE.round().abs().to_bits();
 const WHOLE: i32 = HALF.saturating_add(HALF).floor().to_i32();
 const SHIFT: Matrix<Fixed> = Matrix::from_elements(Matrix::<Fixed>::identity().elements());
 const ORIGIN: Point<Fixed> = Point::broadcast(Fixed::ZERO);

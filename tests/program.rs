@@ -34,19 +34,12 @@ fn stored_lines() {
     let run = fontval(File::open(LINES).unwrap(), Stdio::piped());
     assert!(run.status.success() && run.stderr.is_empty(), "{run:?}");
     let answers = fs::read(ANSWERS).unwrap();
-    let lines = |bytes: &[u8]| bytes.split(|byte| *byte == b'\n').count();
-    assert!(lines(&answers) > 4400);
-    for (made, stored) in run
-        .stdout
-        .split(|b| *b == b'\n')
-        .zip(answers.split(|b| *b == b'\n'))
-    {
-        assert_eq!(
-            String::from_utf8_lossy(made),
-            String::from_utf8_lossy(stored)
-        );
+    let [made, stored] = [&run.stdout, &answers].map(|bytes| String::from_utf8_lossy(bytes));
+    assert!(stored.lines().count() > 4400);
+    for (made, stored) in made.lines().zip(stored.lines()) {
+        assert_eq!(made, stored);
     }
-    assert_eq!(run.stdout.len(), answers.len());
+    assert!(run.stdout == answers);
 }
 
 #[test]
@@ -88,10 +81,9 @@ fn refused_writes() {
 #[cfg(unix)]
 fn limited(script: &str) -> Option<Output> {
     let mut shell = Command::new("sh");
-    let words = ["-c", script, env!("CARGO_BIN_EXE_fontval"), LINES];
-    runner()
-        .is_none()
-        .then(|| shell.args(words).output().unwrap())
+    shell.args(["-c", script, env!("CARGO_BIN_EXE_fontval"), LINES]);
+    let is_native = runner().is_none();
+    is_native.then(|| shell.output().unwrap())
 }
 
 // A file takes all of the answers but the last bytes, fewer than 512.

@@ -57,11 +57,8 @@ fn compared_bytes() {
         for y in 0..=u8::MAX {
             let bytes: [u8; 16] = std::array::from_fn(|i| if i % 3 == 0 { x } else { y });
             let eight: [u8; 8] = std::array::from_fn(|i| bytes[i + 5]);
-            let mask = |bytes: &[u8]| {
-                let bits = bytes.iter().enumerate();
-                bits.map(|(i, byte)| u64::from(*byte == x) << i)
-                    .sum::<u64>()
-            };
+            let bit = |(i, byte): (usize, &u8)| u64::from(*byte == x) << i;
+            let mask = |bytes: &[u8]| bytes.iter().enumerate().map(bit).sum::<u64>();
             let of_16 = simd::prelude::u8x16::from_array(bytes);
             let of_8 = simd::prelude::u8x8::from_array(eight);
             let equal = of_16.simd_eq(simd::prelude::u8x16::splat(x)).to_bitmask();

@@ -35,10 +35,8 @@ fn stored<T: FromStr<Err: Debug>>(words: &[&str]) -> Option<T> {
 
 /// The scalars and deltas of a sum.
 fn terms(words: &[&str]) -> Vec<(Fixed, i32)> {
-    let terms = words.chunks(2).map(numbers);
-    terms
-        .map(|[x, delta]| (Fixed::from_bits(x), delta))
-        .collect()
+    let term = |[x, delta]: [i32; 2]| (Fixed::from_bits(x), delta);
+    words.chunks(2).map(numbers).map(term).collect()
 }
 
 /// How a line pads, or `None` where no `Pad` says it.

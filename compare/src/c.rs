@@ -199,12 +199,7 @@ macro_rules! of_fixed_point_types {
                         #[link_name = concat!("font_", stringify!($name), "_to_decimal")]
                         fn to_decimal(bits: $bits, out: *mut u8, room: usize) -> usize;
                         #[link_name = concat!("font_", stringify!($name), "_write_padded")]
-                        fn write_padded(
-                            bits: $bits,
-                            pad: &FontPad,
-                            out: *mut u8,
-                            room: usize,
-                        ) -> usize;
+                        fn write_padded(x: $bits, pad: &FontPad, out: *mut u8, len: usize) -> usize;
                     }
                     let bits = random.any() as $bits;
                     let number = $Type::from_bits(bits);

@@ -31,15 +31,13 @@ mod tally;
 mod text;
 mod work;
 
-use std::process::ExitCode;
+use std::process::{ExitCode, exit};
 use std::thread;
 use work::Work;
 
-type Part = (&'static str, fn(&mut Work));
-
 macro_rules! of_fixed_point_types {
     ($($name:ident $Type:ident $bits:ident $f:literal;)*) => {
-        const PARTS: &[Part] = &[
+        const PARTS: &[(&str, fn(&mut Work))] = &[
             $((stringify!($name), numbers::$name),)*
             ("sums", numbers::sums),
             ("products", numbers::products),
@@ -58,47 +56,39 @@ macro_rules! of_fixed_point_types {
 include!("../../tools/src/types.in");
 
 fn main() -> ExitCode {
-    let arguments: Vec<String> = std::env::args().skip(1).collect();
-    match parse(&arguments) {
-        Ok((mut work, parts)) => {
-            parts.iter().for_each(|(_, part)| part(&mut work));
-            let (compared, different) = (work.compared, work.different);
-            println!("{compared} comparisons, {different} different");
-            ExitCode::from(u8::from(different > 0 || compared == 0))
-        }
-        Err(fault) => {
-            eprintln!("{fault}");
-            ExitCode::from(2)
-        }
-    }
-}
-
-fn parse(arguments: &[String]) -> Result<(Work, Vec<Part>), String> {
     let mut work = Work {
         threads: thread::available_parallelism().map_or(1, usize::from),
         seed: 1,
         ..Work::default()
     };
     let mut parts = Vec::new();
-    let mut rest = arguments.iter();
+    let mut rest = std::env::args().skip(1);
     while let Some(word) = rest.next() {
         let mut number = || {
             let number = rest.next().and_then(|number| number.parse().ok());
-            number.ok_or(format!("{word} takes a number"))
+            number.unwrap_or_else(|| refuse(format!("{word} takes a number")))
         };
         match word.as_str() {
-            "--seed" => work.seed = number()?,
-            "--threads" => work.threads = number()?.max(1) as usize,
-            "--random" => work.random = Some(number()?),
+            "--seed" => work.seed = number(),
+            "--threads" => work.threads = number().max(1) as usize,
+            "--random" => work.random = Some(number()),
             "small" => work.is_small = true,
-            name => match PARTS.iter().find(|part| part.0 == name) {
-                Some(part) => parts.push(*part),
-                None => return Err(format!("unknown part {name}")),
-            },
+            name => {
+                let part = PARTS.iter().find(|part| part.0 == name);
+                parts.push(part.unwrap_or_else(|| refuse(format!("unknown part {name}"))));
+            }
         }
     }
     if parts.is_empty() {
         parts.extend(PARTS);
     }
-    Ok((work, parts))
+    parts.iter().for_each(|(_, part)| part(&mut work));
+    let (compared, different) = (work.compared, work.different);
+    println!("{compared} comparisons, {different} different");
+    ExitCode::from(u8::from(different > 0 || compared == 0))
+}
+
+fn refuse(fault: String) -> ! {
+    eprintln!("{fault}");
+    exit(2)
 }

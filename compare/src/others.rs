@@ -170,10 +170,8 @@ macro_rules! field {
         set.set(y.get());
         let from = $side::BigEndian::<$Type>::from_slice(&first);
         let from = from.map(|field| field.get() == x.get());
-        let bytes = (
-            set.be_bytes().to_vec(),
-            $side::BigEndian::from(x.get()).be_bytes().to_vec(),
-        );
+        let made = $side::BigEndian::from(x.get());
+        let bytes = [set, made].map(|field| field.be_bytes().to_vec());
         (read, short, x == y, x == x.get(), bytes, from, LEN)
     }};
 }

@@ -57,13 +57,11 @@ impl Random {
     /// The text, or one near it, or one of another form.
     #[cfg(font_c)]
     pub fn near_text(&mut self, text: &str) -> Vec<u8> {
+        const BYTES: &[u8; 26] = b"0123456789.-0123456789 +e\xFF";
         let mut text = text.as_bytes().to_vec();
         for _ in 0..self.below(4) {
             let at = self.below(text.len() as u64 + 1) as usize;
-            text.insert(
-                at,
-                b"0123456789.-0123456789 +e\xFF"[self.below(26) as usize],
-            );
+            text.insert(at, BYTES[self.below(26) as usize]);
         }
         if self.below(40) == 0 {
             text.extend((0..self.below(5000)).map(|_| b'0' + self.below(10) as u8));

@@ -170,9 +170,7 @@ fn other_form(random: &mut Random) -> String {
 // An optional `-`, digits, and then nothing, or a point and digits.
 fn is_decimal(text: &str) -> bool {
     let text = text.strip_prefix('-').unwrap_or(text);
-    let is_digit = |byte: u8| byte.is_ascii_digit();
+    let are_digits = |text: &str| !text.is_empty() && text.bytes().all(|b| b.is_ascii_digit());
     let (whole, fraction) = text.split_once('.').unwrap_or((text, "0"));
-    [whole, fraction]
-        .iter()
-        .all(|text| !text.is_empty() && text.bytes().all(is_digit))
+    are_digits(whole) && are_digits(fraction)
 }

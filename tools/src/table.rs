@@ -1,6 +1,6 @@
 //! What the rows of the table for callers in C answer.
 
-use crate::exact::{self, Fault, TagFault, Type};
+use crate::exact::{self, TagFault, Type};
 
 // What stands in a place that a refused call leaves as it was.
 const KEPT: i128 = 7;
@@ -14,9 +14,9 @@ pub fn row(line: &str) -> String {
     let number = |at: usize| integer(words[at]);
     // How many words ask, and what is answered to them.
     let (questions, answer) = match words[0] {
-        "read" => (3, read(words[1], words[2])),
+        "read" => (3, stored(read(words[1], words[2]))),
         "write" => (3, exact::shortest(number(2), kind(words[1]).fraction)),
-        "pad" => (8, pad(&words)),
+        "pad" => (8, pad(&words).unwrap_or("refused".into())),
         "whole" => (3, whole(kind(words[1]), number(2))),
         "add" => (4, add(kind(words[1]).width, number(2), number(3))),
         "sign" => (3, sign(kind(words[1]), number(2))),
@@ -24,15 +24,18 @@ pub fn row(line: &str) -> String {
         "mul_i32" => (3, exact::wrap(64, number(1) * number(2)).to_string()),
         "narrow_f26dot6" => (2, narrow(number(1), &[(26, 6)])),
         "narrow_f48dot16" => (2, narrow(number(1), &[(48, 16), (32, 16), (32, 0)])),
-        "field" => (4, field(words[1], words[2], number(3))),
-        "apply" => (4, spaced_pair(stored(64, 65536 * number(2) + number(3)))),
-        "units" => (3, units(words[1], number(2))),
+        "field" => (4, stored(field(words[1], words[2], number(3)))),
+        "apply" => (4, stored(in_range(64, 65536 * number(2) + number(3)))),
+        "units" => (3, stored(units(words[1], number(2)))),
         "to_fixed" => (2, (4 * number(1)).to_string()),
         "from_fixed" => (2, exact::wrap(32, number(1) << 14).to_string()),
         "from_f2dot14" => (2, (number(1) << 16).to_string()),
         "narrow_f2dot30" => (2, narrow(number(1), &[(32, 14), (16, 16)])),
         "product" => (4, product(kind(words[1]), number(2), number(3))),
-        "mul_div" => (4, mul_div([1, 2, 3].map(number)).to_string()),
+        "mul_div" => (
+            4,
+            exact::mul_div(32, number(1), number(2), number(3)).to_string(),
+        ),
         "narrow" => (2, narrow(number(1), &[(16, 16), (22, 10), (16, 2)])),
         "matrix" => (15, matrix(&words[1..15])),
         "tag" => (2, tag(words[1])),
@@ -57,26 +60,31 @@ fn spaced(numbers: &[i128]) -> String {
     texts.join(" ")
 }
 
-fn read(name: &str, text: &str) -> String {
-    match exact::read(text.as_bytes(), kind(name)) {
-        Ok(bits) => format!("0 {bits}"),
-        Err(Fault::Syntax) => format!("1 {KEPT}"),
-        Err(Fault::OutOfRange) => format!("2 {KEPT}"),
+// The status of a call, and what is then in the place of its result.
+fn stored(found: Result<i128, u8>) -> String {
+    match found {
+        Ok(number) => format!("0 {number}"),
+        Err(status) => format!("{status} {KEPT}"),
     }
 }
 
-fn pad(words: &[&str]) -> String {
+fn in_range(width: u32, number: i128) -> Result<i128, u8> {
+    exact::fits(width, number).then_some(number).ok_or(2)
+}
+
+fn read(name: &str, text: &str) -> Result<i128, u8> {
+    exact::read(text.as_bytes(), kind(name)).map_err(|fault| fault as u8)
+}
+
+fn pad(words: &[&str]) -> Option<String> {
     let text = exact::shortest(integer(words[2]), kind(words[1]).fraction);
     let [width, fill, align, plus, zeros] = [3, 4, 5, 6, 7].map(|at| integer(words[at]) as usize);
     if fill >= 0x80 || align > 2 {
-        return "refused".into();
+        return None;
     }
     let (fill, align) = (char::from(fill as u8), align as u32);
     let text = exact::padded(&text, width, fill, align, plus != 0, zeros != 0);
-    match text.len() {
-        ..=BUFFER => text,
-        _ => "refused".into(),
-    }
+    (text.len() <= BUFFER).then_some(text)
 }
 
 fn whole(kind: Type, bits: i128) -> String {
@@ -88,11 +96,10 @@ fn whole(kind: Type, bits: i128) -> String {
 fn add(width: u32, x: i128, y: i128) -> String {
     let half = 1i128 << (width - 1);
     let nearest = |number: i128| number.clamp(-half, half - 1);
-    let [sum, difference] = [x + y, x - y];
-    let wrapped = [sum, difference].map(|number| exact::wrap(width, number));
-    let (status, place) = stored(width, sum);
-    let others = [status, place, nearest(sum), nearest(difference)];
-    spaced(&[&wrapped[..], &others].concat())
+    let results = [x + y, x - y];
+    let wrapped = spaced(&results.map(|number| exact::wrap(width, number)));
+    let saturated = spaced(&results.map(nearest));
+    format!("{wrapped} {} {saturated}", stored(in_range(width, x + y)))
 }
 
 // The opposite, the magnitude and the fractional part.
@@ -105,37 +112,33 @@ fn integer_bits(kind: Type, number: i128) -> i128 {
     exact::wrap(kind.width, number << kind.fraction)
 }
 
-// The status of a big-endian field at an offset, and its value.
-fn field(name: &str, digits: &str, offset: i128) -> String {
+// The value of a big-endian field at an offset.
+fn field(name: &str, digits: &str, offset: i128) -> Result<i128, u8> {
     let (signed, width) = name.split_at(1);
     let width: u32 = width.parse().unwrap();
     let start = usize::try_from(2 * offset).unwrap_or(usize::MAX);
     let end = start.saturating_add(width as usize / 4);
-    let value = |digits| match (signed, i128::from_str_radix(digits, 16).unwrap()) {
-        ("i", value) => (0, exact::wrap(width, value)),
-        (_, value) => (0, value),
-    };
-    spaced_pair(digits.get(start..end).map_or((1, KEPT), value))
+    let value = i128::from_str_radix(digits.get(start..end).ok_or(1)?, 16).unwrap();
+    Ok(match signed {
+        "i" => exact::wrap(width, value),
+        _ => value,
+    })
 }
 
-// The status of the nearest integer, half up, in 16 bits.
-fn units(name: &str, steps: i128) -> String {
+// The nearest integer, half up, in 16 bits.
+fn units(name: &str, steps: i128) -> Result<i128, u8> {
     let nearest = exact::up(steps, 1 << 16);
     let fits = match name {
         "fword" => exact::fits(16, nearest),
         _ => (0..1 << 16).contains(&nearest),
     };
-    spaced_pair(if fits { (0, nearest) } else { (2, KEPT) })
+    fits.then_some(nearest).ok_or(2)
 }
 
 fn product(kind: Type, x: i128, y: i128) -> String {
     let one = 1i128 << kind.fraction;
     let product = exact::wrap(32, exact::near(x * y, one));
-    spaced(&[product, mul_div([x, one, y])])
-}
-
-fn mul_div([x, a, c]: [i128; 3]) -> i128 {
-    exact::mul_div(32, x, a, c)
+    spaced(&[product, exact::mul_div(32, x, one, y)])
 }
 
 // The bits with fewer places, ties upwards, each wrapped to a width.
@@ -163,16 +166,13 @@ fn tag(digits: &str) -> String {
     let byte = |at: usize| u8::from_str_radix(&digits[at..at + 2], 16).unwrap();
     let bytes: Vec<u8> = (0..digits.len()).step_by(2).map(byte).collect();
     let fault = exact::check(&bytes);
-    let padded = bytes.iter().copied().chain([b' '; 4]);
+    let padded = bytes.iter().copied().chain([b' '; 4]).take(4);
     let made = match fault {
-        _ if bytes.is_empty() || bytes.len() > 4 => (1, KEPT),
-        Err(_) => (2, KEPT),
-        Ok(()) => (
-            0,
-            padded.take(4).fold(0, |n, byte| 256 * n + i128::from(byte)),
-        ),
+        _ if bytes.is_empty() || bytes.len() > 4 => Err(1),
+        Err(_) => Err(2),
+        Ok(()) => Ok(padded.fold(0, |n, byte| 256 * n + i128::from(byte))),
     };
-    let checked = match fault {
+    let (status, place) = match fault {
         _ if bytes.len() != 4 || bytes == [b' '; 4] => (1, KEPT),
         Ok(()) => (0, KEPT),
         Err(TagFault::Byte(at)) => (2, at as i128),
@@ -182,19 +182,7 @@ fn tag(digits: &str) -> String {
         4 => exact::tag_text(&bytes).replace(' ', "_"),
         _ => "none".into(),
     };
-    format!("{} {} {} {} {text}", made.0, made.1, checked.0, checked.1)
-}
-
-// The status of a number that is stored if it fits, and what is then in the place.
-fn stored(width: u32, number: i128) -> (i128, i128) {
-    match exact::fits(width, number) {
-        true => (0, number),
-        false => (2, KEPT),
-    }
-}
-
-fn spaced_pair((status, number): (i128, i128)) -> String {
-    spaced(&[status, number])
+    format!("{} {status} {place} {text}", stored(made))
 }
 
 fn sum_of(terms: &[&str]) -> i128 {
@@ -203,15 +191,14 @@ fn sum_of(terms: &[&str]) -> i128 {
 }
 
 fn sum(words: &[&str]) -> String {
-    let sum = sum_of(&words[4..]);
-    let (status, sum) = stored(64, sum);
-    format!("sum {status} {sum} {}", words[3..].join(" "))
+    let sum = stored(in_range(64, sum_of(&words[4..])));
+    format!("sum {sum} {}", words[3..].join(" "))
 }
 
 // The set is hexadecimal: deltas of four digits, as many as words, and then of two.
 fn set(words: &[&str]) -> String {
-    let (asked, scalars) = (words[3..].join(" "), &words[6..]);
-    let (digits, count) = (words[4].trim_matches('-'), integer(words[3]));
+    let (digits, scalars) = (words[4].trim_matches('-'), &words[6..]);
+    let (count, n) = (integer(words[3]), scalars.len() as i128);
     let delta = |index: i128| {
         let (start, width) = match index < count {
             true => (4 * index, 16),
@@ -222,21 +209,16 @@ fn set(words: &[&str]) -> String {
         Some(exact::wrap(width as u32, value))
     };
     let terms = (0..).zip(scalars);
-    let products = terms.map(|(i, x)| Some(integer(x) * delta(i)?));
-    let whole = digits.len() as i128 == 2 * (count + scalars.len() as i128);
-    let sum = products.sum::<Option<i128>>();
-    match sum.filter(|_| whole && count <= scalars.len() as i128) {
-        Some(sum) => format!("set {} {asked}", spaced_pair(stored(64, sum))),
-        None => format!("set 1 {KEPT} {asked}"),
-    }
+    let sum: Option<i128> = terms.map(|(i, x)| Some(integer(x) * delta(i)?)).sum();
+    let is_right = count <= n && digits.len() as i128 == 2 * (count + n);
+    let sum = sum.filter(|_| is_right).ok_or(1);
+    let sum = stored(sum.and_then(|sum| in_range(64, sum)));
+    format!("set {sum} {}", words[3..].join(" "))
 }
 
 fn vary(words: &[&str]) -> String {
-    let sum = sum_of(&words[5..]);
-    let moved = match exact::fits(64, sum) {
-        true => stored(64, 65536 * integer(words[1]) + sum),
-        false => (2, KEPT),
-    };
-    let (base, moved) = (words[1], spaced_pair(moved));
+    let sum = in_range(64, sum_of(&words[5..]));
+    let moved = sum.and_then(|sum| in_range(64, 65536 * integer(words[1]) + sum));
+    let (base, moved) = (words[1], stored(moved));
     format!("vary {base} {moved} {}", words[4..].join(" "))
 }

@@ -38,9 +38,7 @@ fn leaves(of: &Crate, rows: &str) {
 
 #[test]
 fn clauses_and_ghost_items() {
-    leaves(
-        &LIBRARY,
-        r#"
+    let rows = r#"
 fn f(x: u8)¶ requires { x < 9 }¶ ensures a { g "}" x¶ }¶{ x } => fn f(x: u8) { x }
 fn f<T>() where T: Copy, ensures { ⊤ } {} => fn f<T>() where T: Copy, {}
 fn f()¶ ensures a { ⊤ }; => fn f() ;
@@ -50,15 +48,13 @@ struct S { pub(crate) ghost a: { ⊤ }, pub(crate) b: u8 } => struct S { pub(cra
 trait T {¶// what it is¶ghost a: { ℕ } = { 0 };¶fn f(); } => trait T {¶fn f(); }
 // A.¶fn f() // B.¶ // C.¶ requires { a }¶{} => // A.¶fn f() // B.¶ {}
 // A.¶¶/// B.¶ghost use A.{B};¶// D.¶mod json;¶// E.¶mod c; => // A.¶// E.¶mod c;
-"#,
-    );
+"#;
+    leaves(&LIBRARY, rows);
 }
 
 #[test]
 fn rust_stays_as_it_is() {
-    leaves(
-        &LIBRARY,
-        r#"
+    let rows = r#"
 const A: &str = "requires { ghost"; => same
 // ensures { }¶const A: char = '{'; => same
 /// ghost a = { };¶const A: u8 = b'}'; => same
@@ -67,15 +63,13 @@ const A: &'static str = '\''; // λ => same
 #[must_use]¶#[doc(hidden)]¶#[cold]¶#[inline(always)]¶fn f() {} => same
 #[allow(dead_code)]¶#[non_exhaustive]¶#[deprecated]¶#[repr(C)]¶struct S; => same
 const A: u8 = x.std(a::std::B); => same
-"#,
-    );
+"#;
+    leaves(&LIBRARY, rows);
 }
 
 #[test]
 fn attributes_imports_and_paths() {
-    leaves(
-        &LIBRARY,
-        r#"
+    let rows = r#"
 #![tactic(auto)]¶#[tactic(auto)]¶ghost use A;¶mod c; => mod c;
 #[derive(a::B, Drop, Eq,)] struct S; => #[derive(a::B, Eq)] struct S;
 #[derive(Clone)] pub enum Align {} => #[derive(Clone, Debug, PartialEq, Eq, Hash)] pub enum Align {}
@@ -83,8 +77,8 @@ fn attributes_imports_and_paths() {
 use crate::a::B;¶use std::fmt;¶pub use font_base::{A}; => use crate::font_geom::a::B;¶use core::fmt;¶pub use crate::font_base::{A};
 mod json;¶pub use json::{A, B};¶pub use crate::json::C;¶mod a; => mod a;
 use thiserror::Error;¶use std::alloc::AllocError;¶use a::B; => use a::B;
-"#,
-    );
+"#;
+    leaves(&LIBRARY, rows);
     // In a file below the root, a module of that name is another.
     let nested = erase("mod json;\nuse json::A;", &LIBRARY, false).unwrap();
     assert_eq!(nested.rust, "mod json;\nuse json::A;");
@@ -93,9 +87,7 @@ use thiserror::Error;¶use std::alloc::AllocError;¶use a::B; => use a::B;
 
 #[test]
 fn functions() {
-    leaves(
-        &LIBRARY,
-        r#"
+    let rows = r#"
 fn f<W: fmt::Write>(f: &mut fmt::Formatter<W>) {} => fn f(f: &mut fmt::Formatter<'_>) {}
 fn clone(&self) -> Result<S<T, U>, AllocError> { Ok(S(1)) } => fn clone(&self) -> S<T, U> { S(1) }
 trait T<Rhs>: Sized {} => trait T<Rhs = Self>: Sized {}
@@ -105,20 +97,18 @@ use a::{A, each_is_byte};¶fn f() { each_is_byte(&x[0]) + 1 } => use a::{A};¶fn
 // A.¶#[inline]¶fn each_is_byte(slice: &[u8]) -> &[u8] ensures { a } { slice }¶fn g() {} => fn g() {}
 pub fn new_checked() {}¶pub(crate) const fn g() {} => pub const fn new_checked() {}¶pub(crate) const fn g() {}
 fn new(a: A) -> BigEndian<T> { a } => fn new(a: A) -> BigEndian<T> { const { assert!(T::RAW_BYTE_LEN == <T::Raw as crate::font_base::BeByteArray>::LEN) }; a }
-"#,
-    );
+"#;
+    leaves(&LIBRARY, rows);
 }
 
 #[test]
 fn documentation() {
-    leaves(
-        &LIBRARY,
-        r#"
+    let rows = r#"
 /// use font_types::Tag; => /// use font_types_proved::Tag;
 ghost use Rattle.font_base.specs.Bytes.Laws.{a, b as c};¶/// D.¶#[inline]¶pub fn f(x: u8)¶ ensures { c x }¶{ x } => /// D.¶///¶/// <details><summary>Contract</summary>¶///¶/// ```text¶/// ensures { c x }¶/// ```¶///¶/// Defined:¶/// [`c`](crate::contracts::font_base::Bytes_Laws).¶/// [How to read it](crate::contracts).¶///¶/// </details>¶#[inline]¶pub fn f(x: u8) { x }
 /// D.¶impl Add for S {¶ ghost add_gives = { λ x. x };¶¶ ghost cmp = { a };¶} => /// D.¶///¶/// <details><summary>Contract</summary>¶///¶/// ```text¶/// add_gives = { λ x. x }¶/// ```¶///¶/// [How to read it](crate::contracts).¶///¶/// </details>¶impl Add for S { }
-"#,
-    );
+"#;
+    leaves(&LIBRARY, rows);
 }
 
 #[test]
@@ -143,20 +133,16 @@ fn derived_errors() {
 
 #[test]
 fn program_and_exports() {
-    leaves(
-        &PROGRAM,
-        r#"
+    let rows = r#"
 //! A.¶¶mod b;¶use std::alloc::AllocError;¶fn main(rt: HostRuntime) {} => //! A.¶¶mod b;¶use crate::rattle::{HostRuntime};¶use crate::rattle::alloc::AllocError;¶pub fn main(rt: HostRuntime) {}
 use std::fmt;¶use font_types::Tag; => use std::fmt;¶use font_types_proved::Tag;
-"#,
-    );
-    leaves(
-        &EXPORTS,
-        r#"
+"#;
+    leaves(&PROGRAM, rows);
+    let rows = r#"
 pub extern "C" fn f(a: &[u8], b: &mut [S], c: &mut u8) -> u32¶ensures { ⊤ }¶{ 5 } => pub unsafe extern "C" fn f(a: *const u8, a_len: usize, b: *mut S, b_len: usize, c: &mut u8) -> u32 { let a = unsafe { crate::slice(a, a_len) }; let b = unsafe { crate::slice_mut(b, b_len) }; 5 }
 pub extern "C" fn f(a: u8) {} => same
-"#,
-    );
+"#;
+    leaves(&EXPORTS, rows);
 }
 
 // A row is a source, the line of the error, and a part of its message.
