@@ -3,23 +3,17 @@
 
 use font_types_tools::erase::{Crate, Target, erase};
 
-const LIBRARY: Crate = Crate {
-    name: "font_geom",
-    target: Target::Library,
-    left_out: &["json"],
-};
+const fn named(name: &'static str, target: Target) -> Crate<'static> {
+    Crate {
+        name,
+        target,
+        left_out: &["json"],
+    }
+}
 
-const PROGRAM: Crate = Crate {
-    name: "fontval",
-    target: Target::Program,
-    ..LIBRARY
-};
-
-const EXPORTS: Crate = Crate {
-    name: "font_c",
-    target: Target::Exports,
-    ..LIBRARY
-};
+const LIBRARY: Crate = named("font_geom", Target::Library);
+const PROGRAM: Crate = named("fontval", Target::Program);
+const EXPORTS: Crate = named("font_c", Target::Exports);
 
 #[track_caller]
 fn leaves(of: &Crate, rows: &str) {
