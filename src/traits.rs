@@ -67,6 +67,19 @@ impl<T: Scalar + Debug> Debug for ScalarArray<'_, T> {
     }
 }
 
+impl<T: Scalar> ScalarArrayIter<'_, T> {
+    /// Collects the elements, as [`Iterator::collect`], but into a `Vec` in the time of a slice: std
+    /// relies on the length of its own iterators only.
+    pub fn collect<B: FromIterator<T>>(self) -> B {
+        let fields = self
+            .as_array()
+            .as_bytes()
+            .chunks_exact(T::RAW_BYTE_LEN.max(1));
+        let read = |bytes| T::read(bytes).expect("an element of this length");
+        fields.map(read).collect()
+    }
+}
+
 impl<T: Scalar + Debug> Debug for ScalarArrayIter<'_, T> {
     fn fmt(&self, f: &mut Formatter<'_>) -> Result {
         f.debug_list().entries(self.clone()).finish()

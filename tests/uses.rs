@@ -48,6 +48,8 @@ fn each_use_of_our_own() {
         words.as_bytes().len() == 6;
         words.len() == 3 && !words.is_empty() && words.get(2) == Some(9) && words.get(3).is_none();
         words.iter().rev().eq([9, 4, 1]) && words.into_iter().len() == 3 && words.iter().fuse().sum::<u16>() == 14;
+        words.iter().step_by(2).eq([1, 9]) && words.iter().rev().step_by(2).eq([9, 1]) && words.iter().nth(3).is_none();
+        words.iter().collect::<Vec<_>>() == [1, 4, 9] && words.iter().as_array().last() == Some(9);
         words.binary_search(&4) == Ok(1) && words.binary_search(&5) == Err(2);
         words.binary_search_by_key(&18, |word| word * 2) == Ok(2);
         format!("{words:?} {:?}", words.iter()) == "[1, 4, 9] [1, 4, 9]" && is_copy::<ScalarArray<'_, Tag>>();
@@ -60,7 +62,7 @@ fn each_use_of_our_own() {
         F2Dot30::from(F2Dot14::MIN) == F2Dot30::MIN && F2Dot30::MAX.to_fixed().to_bits() == 131072;
         Fixed::from_steps(3) == Some(Fixed::from_bits(3)) && Fixed::from_steps(1 << 31).is_none();
     };
-    assert_eq!(count, 37);
+    assert_eq!(count, 39);
 }
 
 // What `font-types` has not as a `const` of any type, beside what it has of its own types.

@@ -312,6 +312,27 @@ pub struct ScalarArrayIter<'a, T: Scalar> {
     rest: ScalarArray<'a, T>,
 }
 
+impl<'a, T: Scalar> ScalarArrayIter<'a, T> {
+    /// Returns the elements that are left, as an array.
+    ///
+    /// <details><summary>Contract</summary>
+    ///
+    /// ```text
+    /// ensures { array_elements result ≡ elements_left self.now }
+    /// ```
+    ///
+    /// Defined:
+    /// [`array_elements`](crate::contracts::font_base::Array),
+    /// [`elements_left`](crate::contracts::font_base::Array).
+    /// [How to read it](crate::contracts).
+    ///
+    /// </details>
+    #[must_use]
+    pub fn as_array(&self) -> ScalarArray<'a, T> {
+        self.rest
+    }
+}
+
 /// <details><summary>Contract</summary>
 ///
 /// ```text
@@ -342,6 +363,35 @@ impl<'a, T: Scalar> Iterator for ScalarArrayIter<'a, T> {
         let left = self.rest.len();
         (left, Some(left))
     }
+
+    /// Skips `n` elements and returns the next, as `Iterator::nth`, in one step.
+    ///
+    /// <details><summary>Contract</summary>
+    ///
+    /// ```text
+    /// ensures { YieldsAfter n self.old result self.new }
+    /// ```
+    ///
+    /// Defined:
+    /// [`YieldsAfter`](crate::contracts::font_base::Array).
+    /// [How to read it](crate::contracts).
+    ///
+    /// </details>
+    fn nth(&mut self, n: usize) -> Option<T> {
+        if n >= self.rest.len() {
+            self.rest = ScalarArray {
+                data: &[],
+                scalar: PhantomData,
+            };
+            return None;
+        }
+        let (_, others) = self.rest.data.split_at(n * T::RAW_BYTE_LEN);
+        self.rest = ScalarArray {
+            data: others,
+            scalar: PhantomData,
+        };
+        self.next()
+    }
 }
 
 /// <details><summary>Contract</summary>
@@ -364,6 +414,37 @@ impl<'a, T: Scalar> DoubleEndedIterator for ScalarArrayIter<'a, T> {
             scalar: PhantomData,
         };
         T::read(last)
+    }
+
+    /// Skips `n` elements from the back and returns the one before them, as
+    /// `DoubleEndedIterator::nth_back`, in one step.
+    ///
+    /// <details><summary>Contract</summary>
+    ///
+    /// ```text
+    /// ensures { YieldsBefore n self.old result self.new }
+    /// ```
+    ///
+    /// Defined:
+    /// [`YieldsBefore`](crate::contracts::font_base::Array).
+    /// [How to read it](crate::contracts).
+    ///
+    /// </details>
+    fn nth_back(&mut self, n: usize) -> Option<T> {
+        let left = self.rest.len().saturating_sub(n);
+        if left == 0 {
+            self.rest = ScalarArray {
+                data: &[],
+                scalar: PhantomData,
+            };
+            return None;
+        }
+        let (others, _) = self.rest.data.split_at(left * T::RAW_BYTE_LEN);
+        self.rest = ScalarArray {
+            data: others,
+            scalar: PhantomData,
+        };
+        self.next_back()
     }
 }
 

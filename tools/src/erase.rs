@@ -18,7 +18,9 @@
 //! - `clone(&self) -> Result<T, AllocError>` of a `Copy` type, which returns the value of its `Ok`;
 //! - a trait's parameter `Rhs`, which defaults to `Self`, as of Rust's operators;
 //! - a slice parameter of an `extern "C"` function, which becomes a pointer and a length;
-//! - the program's `fn main`, which becomes `pub`, and `Tag::new_checked`, which becomes `const`.
+//! - the program's `fn main`, which becomes `pub`, and `Tag::new_checked`, which becomes `const`;
+//! - an `impl` that begins with `nth` or `nth_back`, which Rattle's traits of iterators have as final:
+//!   its function becomes one of the trait's `impl` before it.
 //!
 //! These are added: derives that Rust's users expect, imports of what Rattle has in scope everywhere, `Display` and `Error` of a type
 //! that derives `Error`, an assertion when it is compiled where a field or a view of scalars is made,
@@ -71,6 +73,9 @@ const IDENTITY: &str = "each_is_byte";
 
 /// The function that is `const` in Rust alone: it calls functions of std that are not in Rattle.
 const CONSTANT: &str = "new_checked";
+
+/// What an iterator has of its own in Rattle, and as a part of `Iterator` in Rust.
+const OF_ITERATORS: [&str; 2] = ["nth", "nth_back"];
 
 /// What types derive in Rust beside what they derive in Rattle.
 const DERIVED: [(&str, &str); 7] = [
@@ -335,6 +340,9 @@ impl<'a> Eraser<'a> {
         if name == CONSTANT {
             self.put(at, "const ");
         }
+        if OF_ITERATORS.contains(&name) {
+            self.join(at)?;
+        }
         self.assert_length(at)?;
         match self.words[at + 1..] {
             [IDENTITY, ..] => self.leave_out_identity(at),
@@ -342,6 +350,20 @@ impl<'a> Eraser<'a> {
             ["clone", "(", "&", "self", ")", "-", ">", "Result", "<", ..] => self.clone_of_copy(at),
             _ => Ok(at + 2),
         }
+    }
+
+    // Joins the `impl` that begins with this public function to the one before.
+    fn join(&mut self, at: usize) -> Result<(), Error> {
+        let is_open = |word: &&str| *word == "{";
+        let start = self.impl_start.filter(|start| *start > 0);
+        let open = start.and_then(|start| self.words[start..at].iter().position(is_open));
+        let (Some(start), Some(open)) = (start, open) else {
+            return self.error(at, "a method of an iterator with no `impl` before");
+        };
+        self.put(start - 1, "\n");
+        self.leave_out(start - 1..start + open + 1);
+        self.leave_out(at - 1..at);
+        Ok(())
     }
 
     // A constructor of a field or of a view asserts, when it is compiled, what Rattle proves of each

@@ -5,7 +5,7 @@
 use font_types_tools::{erase::LIBRARY, repository};
 
 /// What is changed: in Rust, and in the source. `CRATE` is any crate of the library.
-const CHANGES: [(&str, &str); 7] = [
+const CHANGES: [(&str, &str); 9] = [
     ("crate::CRATE::", "CRATE::"),
     ("core::", "std::"),
     ("Formatter<'_>", "Formatter<W>"),
@@ -13,6 +13,14 @@ const CHANGES: [(&str, &str); 7] = [
     ("pub const fn new_checked", "pub fn new_checked"),
     ("pub fn main", "fn main"),
     ("pub unsafe extern", "pub extern"),
+    (
+        "fn nth(",
+        "} impl<'a, T: Scalar> ScalarArrayIter<'a, T> { pub fn nth(",
+    ),
+    (
+        "fn nth_back(",
+        "} impl<'a, T: Scalar> ScalarArrayIter<'a, T> { pub fn nth_back(",
+    ),
 ];
 
 /// What is left out beside clauses, ghost items, attributes of proofs, and the results of `clone`.

@@ -125,6 +125,23 @@ mod sides {
             (0..512).map(|n| array.get(n).map_or(0, u32::from)).sum()
         }
 
+        pub fn elements(inputs: &Inputs) -> ScalarArrayIter<'static, u16> {
+            black_box(inputs.arrays[2]).iter()
+        }
+
+        pub fn collected(inputs: &Inputs) -> Vec<u16> {
+            elements(inputs).collect()
+        }
+
+        pub fn both_ends(inputs: &Inputs) -> [Option<u16>; 2] {
+            let array = black_box(inputs.arrays[2]);
+            [array.first(), array.last()]
+        }
+
+        pub fn value(element: u16) -> u32 {
+            element.into()
+        }
+
         pub fn read(text: &str) -> i32 {
             Fixed::from_decimal(text).map_or(0, Fixed::to_bits)
         }
@@ -149,6 +166,23 @@ mod sides {
             (0..512)
                 .map(|n| fields.get(n).map_or(0, |field| field.get().into()))
                 .sum()
+        }
+
+        pub fn elements(inputs: &Inputs) -> std::slice::Iter<'static, BigEndian<u16>> {
+            black_box(inputs.slices[2]).iter()
+        }
+
+        pub fn collected(inputs: &Inputs) -> Vec<u16> {
+            elements(inputs).map(BigEndian::get).collect()
+        }
+
+        pub fn both_ends(inputs: &Inputs) -> [Option<u16>; 2] {
+            let fields = black_box(inputs.slices[2]);
+            [fields.first(), fields.last()].map(|field| field.map(BigEndian::get))
+        }
+
+        pub fn value(field: &BigEndian<u16>) -> u32 {
+            field.get().into()
         }
 
         pub fn read(text: &str) -> i32 {
@@ -207,6 +241,17 @@ sides! {
     search_4096(i, n) "a search in 4096 elements" search(i, 2, key(i, n));
     scan(i, _n) "512 elements, summed" summed(i);
     scan_by_get(i, _n) "512 elements, summed by get" summed_by_get(i);
+    scan_for(i, _n) "4096 elements, in a loop" {
+        let mut sum = 0;
+        for element in elements(i) {
+            sum += value(element);
+        }
+        sum
+    };
+    skips(i, _n) "each 100th of 4096 elements" elements(i).step_by(100).map(value).sum::<u32>();
+    skips_back(i, _n) "each 100th, from the back" elements(i).rev().step_by(100).map(value).sum::<u32>();
+    collect(i, _n) "4096 elements, collected" collected(i);
+    ends(i, _n) "the first and the last element" both_ends(i);
     predefined(_i, _n) "NameId::predefined, summed" {
         NameId::predefined().map(|id| u32::from(black_box(id).to_u16())).sum::<u32>()
     };

@@ -7,7 +7,7 @@ use Rattle.std.specs.Int.{from_bool}
 use Rattle.std.proofs.Math.Nat.{div-zero, div-eq-sub-div, div-eq_of_lt, div-mul-le_self, mul-div_cancel, mul-mod_left}
 use Rattle.std.proofs.Math.Nat.{mod-eq-sub-div-mul, add-mul}
 use Rattle.std.proofs.lemmas.Bool.{cases_lt}
-use Rattle.std.proofs.lemmas.List.{length-drop, length-take-le, drop-drop, drop-take, take-take, take_all}
+use Rattle.std.proofs.lemmas.List.{length-drop, length-take-le, drop-drop, drop-take, drop_all, take-take, take_all}
 use Rattle.std.specs.Ordering.{ordering_index, is_gt, is_eq, is_lt}
 use Rattle.std.specs.declared.cmp.Ordering.{Ordering}
 use Rattle.std.specs.declared.cmp.Ordering.TheVariants.{Less, Equal, Greater}
@@ -28,7 +28,7 @@ one_fits size len some = elim (cases_lt len size) [
   | inr long ↦ omega arith
 ]
 
--- one element fewer behind the first
+-- after the first there is one element fewer
 pub one_less : (size len : ℕ) → 0 < len / size → len / size ≡ (len - size) / size + 1
 one_less size len some = div-eq-sub-div (sized size len some) (one_fits size len some)
 
@@ -54,7 +54,7 @@ next_times : (n size : ℕ) → size + n * size ≡ suc n * size
 next_times n size =
     let next : suc n ≡ n + 1 = omega arith in omega (arith, ap (λ k. k * size) next, add-mul n 1 size)
 
--- the last element behind the others
+-- the others, and then the last element
 others_and_last : (size n : ℕ) (bytes : List ℕ)
     → elements size (suc n) bytes ≡ elements size n bytes ++ element size bytes n ∷ []
 others_and_last size zero bytes =
@@ -64,7 +64,7 @@ others_and_last size (suc n) bytes =
     ∙ ap (λ rest. elements size n (drop size bytes) ++ take size rest ∷ []) (drop-drop (n * size) size bytes
     ∙ ap (λ k. drop k bytes) (next_times n size)))
 
--- the bytes behind so many elements do not count
+-- bytes after n elements do not count
 elements-take : (size n : ℕ) (bytes : List ℕ) → elements size n (take (n * size) bytes) ≡ elements size n bytes
 elements-take size zero bytes = refl
 elements-take size (suc n) bytes =
@@ -98,7 +98,7 @@ pub front_many : (size m : ℕ) (bytes : List ℕ) → length bytes % size ≡ 0
 front_many size m bytes whole many = rw (front_length size m bytes whole many)
     (mul-div_cancel m (sized size (length bytes) (omega arith)))
 
--- and behind it the last element is left
+-- and the last element is left
 pub last_element_length : (size m : ℕ) (bytes : List ℕ) → length bytes % size ≡ 0 → length bytes / size ≡ m + 1
     → length (drop (m * size) bytes) ≡ size
 last_element_length size m bytes whole many = let all = whole_bytes size m bytes whole many in
@@ -115,6 +115,98 @@ last_and_others size m bytes whole many =
 
 pub ruleset element_rules = (length-elements, one_fits, one_less, first_and_others, none_left)
 
+-- ---- some elements skipped
+
+-- their bytes and those of the others
+parted : (size n many : ℕ) → n ≤ many → many * size ≡ n * size + (many - n) * size
+parted size n many within =
+    let all : many ≡ n + (many - n) = omega arith in
+    ap (λ k. k * size) all ∙ add-mul n (many - n) size
+
+pub part_fits : (size len n : ℕ) → n ≤ len / size → n * size ≤ len
+part_fits size len n within = omega (arith, parted size n (len / size) within, div-mul-le_self len size)
+
+-- n elements of this size are n, where there are any
+many_of : (size n len : ℕ) → n ≤ len / size → n * size / size ≡ n
+many_of zero n len within = let none = div-zero len in let zero_is = div-zero (n * zero) in omega arith
+many_of (suc size) n len within = mul-div_cancel n (omega arith)
+
+others_length : (size n : ℕ) (bytes : List ℕ) → length bytes % size ≡ 0 → n ≤ length bytes / size
+    → length (drop (n * size) bytes) ≡ (length bytes / size - n) * size
+others_length size n bytes whole within = length-drop (n * size) bytes ∙ omega (arith,
+    parted size n (length bytes / size) within, div-mul-le_self (length bytes) size,
+    mod-eq-sub-div-mul (length bytes) size)
+
+front_part_length : (size n : ℕ) (bytes : List ℕ) → n ≤ length bytes / size
+    → length (take (n * size) bytes) ≡ n * size
+front_part_length size n bytes within = length-take-le (n * size) bytes (part_fits size (length bytes) n within)
+
+-- the others are an array
+pub others_whole : (size n : ℕ) (bytes : List ℕ) → length bytes % size ≡ 0 → n ≤ length bytes / size
+    → length (drop (n * size) bytes) % size ≡ 0
+others_whole size n bytes whole within = rw (others_length size n bytes whole within)
+    (mul-mod_left (length bytes / size - n) size)
+
+pub part_whole : (size n : ℕ) (bytes : List ℕ) → n ≤ length bytes / size → length (take (n * size) bytes) % size ≡ 0
+part_whole size n bytes within = rw (front_part_length size n bytes within) (mul-mod_left n size)
+
+elements-drop : (size n m : ℕ) (bytes : List ℕ) → n ≤ m
+    → drop n (elements size m bytes) ≡ elements size (m - n) (drop (n * size) bytes)
+elements-drop size zero m bytes within =
+    let all : m ≡ m - 0 = omega arith in let none : 0 ≡ 0 * size = omega arith in
+    ap (λ k. elements size k bytes) all ∙ ap (λ k. elements size (m - 0) (drop k bytes)) none
+elements-drop size (suc n) zero bytes within = absurd (omega arith)
+elements-drop size (suc n) (suc m) bytes within =
+    let others : m - n ≡ suc m - suc n = omega arith in
+    elements-drop size n m (drop size bytes) (omega arith)
+    ∙ ap (λ k. elements size k (drop (n * size) (drop size bytes))) others
+    ∙ ap (elements size (suc m - suc n)) (drop-drop (n * size) size bytes ∙ ap (λ k. drop k bytes) (next_times n size))
+
+take-elements : (size n m : ℕ) (bytes : List ℕ) → n ≤ m → take n (elements size m bytes) ≡ elements size n bytes
+take-elements size zero m bytes within = refl
+take-elements size (suc n) zero bytes within = absurd (omega arith)
+take-elements size (suc n) (suc m) bytes within =
+    ap (λ xs. take size bytes ∷ xs) (take-elements size n m (drop size bytes) (omega arith))
+
+-- what is left after the first n elements
+pub left_after : (size n : ℕ) (bytes : List ℕ) → length bytes % size ≡ 0 → n < length bytes / size
+    → elements size (length (drop (n * size) bytes) / size) (drop (n * size) bytes)
+    ≡ drop n (elements size (length bytes / size) bytes)
+left_after size n bytes whole some =
+    let many = length bytes / size in
+    let within : n ≤ many = omega arith in
+    ap (λ k. elements size (k / size) (drop (n * size) bytes)) (others_length size n bytes whole within)
+    ∙ ap (λ k. elements size k (drop (n * size) bytes)) (many_of size (many - n) (length bytes) (omega arith))
+    ∙ sym (elements-drop size n many bytes within)
+
+pub none_after : (size n : ℕ) (bytes : List ℕ) → length bytes / size ≤ n
+    → drop n (elements size (length bytes / size) bytes) ≡ []
+none_after size n bytes none = drop_all n (elements size (length bytes / size) bytes)
+    (omega (arith, length-elements size (length bytes / size) bytes))
+
+-- what is left before the last n elements
+pub left_before : (size n : ℕ) (bytes : List ℕ)
+    → elements size (length (take ((length bytes / size - n) * size) bytes) / size)
+    (take ((length bytes / size - n) * size) bytes)
+    ≡ take (length (elements size (length bytes / size) bytes) - n) (elements size (length bytes / size) bytes)
+left_before size n bytes =
+    let many = length bytes / size in
+    let within : many - n ≤ many = omega arith in
+    ap (λ k. elements size (k / size) (take ((many - n) * size) bytes)) (front_part_length size (many - n) bytes within)
+    ∙ ap (λ k. elements size k (take ((many - n) * size) bytes)) (many_of size (many - n) (length bytes) within)
+    ∙ elements-take size (many - n) bytes
+    ∙ sym (take-elements size (many - n) many bytes within)
+    ∙ ap (λ k. take (k - n) (elements size many bytes)) (sym (length-elements size many bytes))
+
+pub none_before : (size n : ℕ) (bytes : List ℕ) → length bytes / size - n ≡ 0
+    → take (length (elements size (length bytes / size) bytes) - n) (elements size (length bytes / size) bytes) ≡ []
+none_before size n bytes none = ap (λ k. take k (elements size (length bytes / size) bytes))
+    (ap (λ k. k - n) (length-elements size (length bytes / size) bytes) ∙ none)
+
+pub ruleset nth_rules = (part_fits, others_whole, left_after, none_after)
+
+pub ruleset nth_back_rules = (part_fits, part_whole, left_before, none_before)
+
 pub ruleset back_rules = (length-elements, front_whole, front_many, last_element_length, last_and_others, none_left)
 
 -- ---- searches
@@ -130,7 +222,7 @@ high_greater Equal high = absurd (omega arith)
 high_greater Greater high = refl
 
 -- What the loop of a search keeps of the elements from `low` up to `high`, where the answers do not fall: the first of
--- them is the first of all or no `Greater`, and all behind them are `Greater`.
+-- them is the first of all or no `Greater`, and all after them are `Greater`.
 pub record Narrows {V : Type 0} (is_scalar : V → Bool) (stored : V → List ℕ) (answer : V → Ordering)
     (at : ℕ → List ℕ) (n low high : ℕ) : Type 0 where
   pub first : (v : V) → 0 < low → IsStored is_scalar stored (at low) v → answer v ≢ Greater
@@ -146,21 +238,21 @@ equal_no_greater same =
 
 module _ {V : Type 0} (is_scalar : V → Bool) (stored : V → List ℕ) (answer : V → Ordering) (at : ℕ → List ℕ)
     (n : ℕ) where
-  -- behind an element that is greater all are
-  greater_behind : (middle : ℕ) (w : V) → IsStored is_scalar stored (at middle) w → answer w ≡ Greater
+  -- after an element that is greater, every element is
+  greater_after : (middle : ℕ) (w : V) → IsStored is_scalar stored (at middle) w → answer w ≡ Greater
       → Rises is_scalar stored answer at n → (k : ℕ) (v : V) → middle ≤ k → k < n
       → IsStored is_scalar stored (at k) v → answer v ≡ Greater
-  greater_behind middle w is greater rises k v from within is_v = high_greater (answer v)
+  greater_after middle w is greater rises k v from within is_v = high_greater (answer v)
       (subst (λ o. ordering_index o ≤ ordering_index (answer v)) greater
       (rises.keeps middle k w v from within is is_v))
 
-  -- what is left after a look at the element `half` behind the first: what is behind that is greater, or it is the first
+  -- after a look at the element `half` after the first, those after that are greater, or that is the first
   narrows_up : (low high middle : ℕ) (w : V) → middle < n → IsStored is_scalar stored (at middle) w
       → answer w ≢ Greater → Rises is_scalar stored answer at n → Narrows is_scalar stored answer at n low high
       → Narrows is_scalar stored answer at n middle high
   narrows_up low high middle w within is not_greater rises left = record {
     first = λ v _ is_v greater.
-        not_greater (greater_behind middle v is_v greater rises middle w (omega arith) within is);
+        not_greater (greater_after middle v is_v greater rises middle w (omega arith) within is);
     greater = left.greater;
   }
 
@@ -169,7 +261,7 @@ module _ {V : Type 0} (is_scalar : V → Bool) (stored : V → List ℕ) (answer
       → Narrows is_scalar stored answer at n low end
   narrows_down low high middle end w before is greater rises left = record {
     first = left.first;
-    greater = λ k v from. greater_behind middle w is greater rises k v (omega arith);
+    greater = λ k v from. greater_after middle w is greater rises k v (omega arith);
   }
 
   pub narrows_half : (o : Ordering) (low size half next : ℕ) (w : V) → half ≤ size - half → low + size ≤ n
@@ -203,7 +295,7 @@ module _ {V : Type 0} (is_scalar : V → Bool) (stored : V → List ℕ) (answer
   splits_at_one Greater low high place w one within other here is_greater is rises left =
       let end : place ≡ low = omega (arith, here) in rw end (record {
         less = λ k v before _. absurd (left.first w (omega arith) is is_greater);
-        greater = greater_behind low w is is_greater rises;
+        greater = greater_after low w is is_greater rises;
       })
 
 -- the place that a step of the search keeps, and what is left from there on, are in the array

@@ -1,5 +1,6 @@
 -- Arrays of scalars (OpenType, the tables' formats: arrays of numbers and of records).
-use Rattle.std.specs.Prelude.{◌≡◌, ℕ, ◌/◌, ◌<◌, ◌≤◌, List, length, Result, MatchResult}
+use Rattle.std.specs.Prelude.{◌≡◌, ℕ, ◌-◌, ◌/◌, ◌<◌, ◌≤◌, List, [], ◌∷◌, ◌++◌, length, take, drop}
+use Rattle.std.specs.Prelude.{Option, MatchOption, Result, MatchResult}
 use Rattle.std.specs.declared.cmp.Ordering.{Ordering}
 use Rattle.std.specs.declared.cmp.Ordering.TheVariants.{Equal}
 use Rattle.font_base.specs.declared.raw.BeByteArray as BeByteArray
@@ -29,6 +30,19 @@ module _ {T X : Type 0} {scalar : Scalar.Ghosts T X} {size : FixedSize.Ghosts T}
   -- the bytes of each element that an iterator has left, in order
   abbrev pub elements_left : ScalarArrayIter T X scalar size x → List (List ℕ)
   elements_left iter = array_elements iter.rest
+
+  -- the element after the next n was yielded, and those after it are left; or there was none, and none is left
+  abbrev pub YieldsAfter : ℕ → ScalarArrayIter T X scalar size x → Option T → ScalarArrayIter T X scalar size x → Type 0
+  YieldsAfter n old result new = MatchOption result
+      ((drop n (elements_left old) ≡ []) × (elements_left new ≡ []))
+      (λ v. drop n (elements_left old) ≡ x.bytes (scalar.raw_of v) ∷ elements_left new)
+
+  -- the same from the back
+  abbrev pub YieldsBefore : ℕ → ScalarArrayIter T X scalar size x → Option T → ScalarArrayIter T X scalar size x
+      → Type 0
+  YieldsBefore n old result new = let others = take (length (elements_left old) - n) (elements_left old) in
+      MatchOption result ((others ≡ []) × (elements_left new ≡ []))
+      (λ v. others ≡ elements_left new ++ x.bytes (scalar.raw_of v) ∷ [])
 
   -- the comparisons are sorted: `Less`, then `Equal`, then `Greater`
   abbrev pub RisesAlong : ScalarArray T X scalar size x → (T → Ordering) → Type 0

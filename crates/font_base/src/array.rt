@@ -219,6 +219,18 @@ pub struct ScalarArrayIter<'a, T: Scalar> {
     rest: ScalarArray<'a, T>,
 }
 
+impl<'a, T: Scalar> ScalarArrayIter<'a, T> {
+    ghost use Rattle.font_base.specs.Array.{array_elements, elements_left};
+
+    /// Returns the elements that are left, as an array.
+    #[must_use]
+    pub fn as_array(&self) -> ScalarArray<'a, T>
+        ensures { array_elements result ≡ elements_left self.now }
+    {
+        self.rest
+    }
+}
+
 impl<'a, T: Scalar> Iterator for ScalarArrayIter<'a, T> {
     ghost use Rattle.font_base.specs.Array.{elements_left};
 
@@ -252,6 +264,30 @@ impl<'a, T: Scalar> Iterator for ScalarArrayIter<'a, T> {
     }
 }
 
+impl<'a, T: Scalar> ScalarArrayIter<'a, T> {
+    ghost use Rattle.font_base.specs.Array.{YieldsAfter};
+
+    /// Skips `n` elements and returns the next, as `Iterator::nth`, in one step.
+    #[tactic(auto, using(crate::proofs::Elements::nth_rules))]
+    pub fn nth(&mut self, n: usize) -> Option<T>
+        ensures { YieldsAfter n self.old result self.new }
+    {
+        if n >= self.rest.len() {
+            self.rest = ScalarArray {
+                data: &[],
+                scalar: PhantomData,
+            };
+            return None;
+        }
+        let (_, others) = self.rest.data.split_at(n * T::RAW_BYTE_LEN);
+        self.rest = ScalarArray {
+            data: others,
+            scalar: PhantomData,
+        };
+        self.next()
+    }
+}
+
 impl<'a, T: Scalar> DoubleEndedIterator for ScalarArrayIter<'a, T> {
     ghost use Rattle.font_base.specs.Array.{elements_left};
 
@@ -266,6 +302,32 @@ impl<'a, T: Scalar> DoubleEndedIterator for ScalarArrayIter<'a, T> {
             scalar: PhantomData,
         };
         T::read(last)
+    }
+}
+
+impl<'a, T: Scalar> ScalarArrayIter<'a, T> {
+    ghost use Rattle.font_base.specs.Array.{YieldsBefore};
+
+    /// Skips `n` elements from the back and returns the one before them, as
+    /// `DoubleEndedIterator::nth_back`, in one step.
+    #[tactic(auto, using(crate::proofs::Elements::nth_back_rules))]
+    pub fn nth_back(&mut self, n: usize) -> Option<T>
+        ensures { YieldsBefore n self.old result self.new }
+    {
+        let left = self.rest.len().saturating_sub(n);
+        if left == 0 {
+            self.rest = ScalarArray {
+                data: &[],
+                scalar: PhantomData,
+            };
+            return None;
+        }
+        let (others, _) = self.rest.data.split_at(left * T::RAW_BYTE_LEN);
+        self.rest = ScalarArray {
+            data: others,
+            scalar: PhantomData,
+        };
+        self.next_back()
     }
 }
 

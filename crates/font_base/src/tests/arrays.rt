@@ -67,6 +67,25 @@ fn walks_both_ways(rt: HostRuntime) -> Result<(), Fail> {
 }
 
 #[test]
+fn skips_elements(rt: HostRuntime) -> Result<(), Fail> {
+    let array = ScalarArray::<u16>::new(&[0, 1, 0, 2, 0, 3]).ok_or("six bytes")?;
+    for &(n, first, last, left) in &[
+        (0, Some(1), Some(3), 2),
+        (1, Some(2), Some(2), 1),
+        (2, Some(3), Some(1), 0),
+        (3, None, None, 0),
+        (usize::MAX, None, None, 0),
+    ] {
+        let (mut forth, mut back) = (array.iter(), array.iter());
+        assert!(rt; forth.nth(n) == first && forth.as_array().len() == left, "{n}");
+        assert!(rt; back.nth_back(n) == last && back.as_array().len() == left, "{n}");
+    }
+    let mut iter = array.iter();
+    assert!(rt; iter.nth(1) == Some(2) && iter.as_array().as_bytes() == [0, 3].as_slice());
+    Ok(())
+}
+
+#[test]
 fn finds_by_binary_search(rt: HostRuntime) -> Result<(), Fail> {
     let array = ScalarArray::<u16>::new(&[0, 12, 0, 25, 0, 31, 1, 0]).ok_or("eight bytes")?;
     let found = [(12, 0), (25, 1), (31, 2), (256, 3)];
