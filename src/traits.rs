@@ -70,6 +70,11 @@ impl<T: Scalar + Debug> Debug for ScalarArray<'_, T> {
 impl<T: Scalar> ScalarArrayIter<'_, T> {
     /// Collects the elements, as [`Iterator::collect`], but into a `Vec` in the time of a slice: std
     /// relies on the length of its own iterators only.
+    ///
+    /// # Panics
+    ///
+    /// If `T::read` refuses `RAW_BYTE_LEN` bytes, against the laws of its traits.
+    #[must_use]
     pub fn collect<B: FromIterator<T>>(self) -> B {
         let fields = self
             .as_array()

@@ -15,7 +15,7 @@ pub fn split_sign(text: &[u8]) -> (bool, &[u8]) {
 // Returns the fraction, without its point: empty, or one byte or more after a point.
 #[must_use]
 #[inline]
-pub fn behind_point(text: &[u8]) -> Option<&[u8]> {
+pub fn after_point(text: &[u8]) -> Option<&[u8]> {
     match text {
         [] => Some(text),
         [b'.', fraction @ ..] if !fraction.is_empty() => Some(fraction),

@@ -2,7 +2,7 @@
 
 //! Parsing a decimal as the nearest fixed-point number.
 
-use crate::font_decimal::grammar::{are_digits, behind_point, split_sign};
+use crate::font_decimal::grammar::{after_point, are_digits, split_sign};
 
 /// Why a text was not parsed.
 ///
@@ -109,7 +109,7 @@ fn nearest_steps(digits: &[u8], f: u32) -> Option<u64> {
     if len == 0 {
         return None;
     }
-    let half_steps = half_steps(behind_point(&digits[len..])?, f)?;
+    let half_steps = half_steps(after_point(&digits[len..])?, f)?;
     Some((whole << f) + (half_steps + 1) / 2)
 }
 

@@ -282,7 +282,7 @@ const fn first_fault(bytes: &[u8]) -> Option<usize> {
     if run == 0 {
         return Some(0);
     }
-    let pos = behind_spaces(bytes, run);
+    let pos = after_spaces(bytes, run);
     if pos < bytes.len() { Some(pos) } else { None }
 }
 
@@ -298,7 +298,7 @@ const fn visible_run(bytes: &[u8]) -> usize {
 
 // Returns the index after the spaces that start at `from`.
 #[inline]
-const fn behind_spaces(bytes: &[u8], from: usize) -> usize {
+const fn after_spaces(bytes: &[u8], from: usize) -> usize {
     let mut pos = from;
     while pos < bytes.len() && bytes[pos] == b' ' {
         pos += 1;

@@ -14,12 +14,12 @@ const CHANGES: [(&str, &str); 9] = [
     ("pub fn main", "fn main"),
     ("pub unsafe extern", "pub extern"),
     (
-        "fn nth(",
-        "} impl<'a, T: Scalar> ScalarArrayIter<'a, T> { pub fn nth(",
+        "} fn nth(",
+        "}} impl<'a, T: Scalar> ScalarArrayIter<'a, T> { pub fn nth(",
     ),
     (
-        "fn nth_back(",
-        "} impl<'a, T: Scalar> ScalarArrayIter<'a, T> { pub fn nth_back(",
+        "} fn nth_back(",
+        "}} impl<'a, T: Scalar> ScalarArrayIter<'a, T> { pub fn nth_back(",
     ),
 ];
 

@@ -59,7 +59,8 @@ pub record IsLerp (coordinate : Fixed) (start end : AxisValueMap) (result : Fixe
 
 -- the mapping at k, and past the end the one of zero to zero
 abbrev pub mapping_at : List AxisValueMap → ℕ → AxisValueMap
-mapping_at map k = slice_index_or map k (record { from_coordinate = fixed_of (pos 0); to_coordinate = fixed_of (pos 0) })
+mapping_at map k = slice_index_or map k
+    (record { from_coordinate = fixed_of (pos 0); to_coordinate = fixed_of (pos 0) })
 
 -- the bits are in the segment that ends at the mapping k: at or above the mapping before, and below this one
 abbrev pub IsInSegment : ℤ → List AxisValueMap → ℕ → Type 0
@@ -100,7 +101,7 @@ abbrev pub run_delta : ℕ → List ℕ → ℕ → ℤ
 run_delta width run index =
     if nat_eq width 0 then pos 0 else signed_numeral width (take width (drop (index * width) run))
 
--- the bytes of the run behind its control byte
+-- the bytes of the run after its control byte
 abbrev pub run_bytes : List ℕ → ℕ
 run_bytes packed = run_count (slice_index packed 0) * run_width (slice_index packed 0)
 

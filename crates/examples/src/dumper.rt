@@ -30,7 +30,8 @@ use std::alloc::{AllocError, Global};
 pub fn row(numbers: &[Fixed], width: usize, alloc: Global) -> Result<Vec<u8>, AllocError>
     requires { width ≤ 32 }
     ensures { IfOk result (λ row.
-        row.items ≡ flat_map (λ number. padded_text (fixed_text number) (column width)) numbers.now) }
+        row.items ≡ flat_map (λ number. padded_text (fixed_text number) (column width))
+        numbers.now) }
 {
     let mut row = Vec::new(alloc);
     for number in numbers {

@@ -291,7 +291,7 @@ fn read_deltas(
     Ok(deltas)
 }
 
-/// Reads the first run, and returns its deltas and the bytes behind it, or `None` if bytes are
+/// Reads the first run, and returns its deltas and the bytes after it, or `None` if bytes are
 /// missing.
 pub fn read_run(packed: &[u8], alloc: Global) -> Result<Option<(Vec<i16>, &[u8])>, AllocError>
     ensures end { IfOk result (λ read. IsSome read ↔

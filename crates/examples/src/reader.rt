@@ -140,18 +140,18 @@ pub fn read_axis(cursor: &mut Cursor<'_>) -> Option<VariationAxisRecord>
 
 /// Reads a variation selector and the offset of its default mappings, the first seven bytes of a
 /// record of `cmap`, format 14; returns `None` if there are fewer.
-pub fn read_selector(record: &[u8]) -> Option<(Uint24, Offset32)>
-    ensures end { IsSome result ↔ (7 ≤ length record.now) }
+pub fn read_selector(bytes: &[u8]) -> Option<(Uint24, Offset32)>
+    ensures end { IsSome result ↔ (7 ≤ length bytes.now) }
     ensures selector { IfSome result (λ found.
-        uint24_number found.0 ≡ numeral (take 3 record.now)) }
+        uint24_number found.0 ≡ numeral (take 3 bytes.now)) }
     ensures offset { IfSome result (λ found.
-        offset32_number found.1 ≡ numeral (take 4 (drop 3 record.now))) }
+        offset32_number found.1 ≡ numeral (take 4 (drop 3 bytes.now))) }
 {
-    let mut cursor = Cursor { rest: record };
+    let mut cursor = Cursor { rest: bytes };
     Some((cursor.read()?, cursor.read()?))
 }
 
-/// Returns the scalar at an offset, or `None` if it ends behind the bytes.
+/// Returns the scalar at an offset, or `None` if too few bytes are left.
 ///
 /// Two `split_at_checked`, since `offset + T::RAW_BYTE_LEN` may be too large for a `usize`.
 pub fn scalar_at<T: Scalar>(bytes: &[u8], offset: usize) -> Option<T>

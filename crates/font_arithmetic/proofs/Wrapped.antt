@@ -51,7 +51,7 @@ low_bits-wrap w m r is =
     ∙ sym (wrap_same (bits w) (pos m) (pos (m % 2 ^ bits w)) (pos (m / 2 ^ bits w)) (bits_positive w)
     (omega (arith, ints, div-add-mod' m (2 ^ bits w))))
 
--- the rest behind the greatest multiple that is not above
+-- the remainder after the greatest multiple that is not greater
 pub rem_euclid_is_fract : (w : Width) (f d : ℕ) (x r : ℤ) → d ≡ 2 ^ f → 2 ^ f ≤ 2 ^ hbits w → SFits w x
     → r ≡ int_rem_euclid (to_z w (of_z w x)) (pos d) → IsFract f x (to_z w (of_z w r))
 unfolding fract_of

@@ -1,5 +1,5 @@
-//! Fixed-point arithmetic, once for all types, over every width and number of fraction bits: parsing
-//! to raw bits, and 32-bit products and quotients.
+//! Fixed-point arithmetic, once for all types, over every width and number of fraction bits:
+//! parsing to raw bits, and 32-bit products and quotients.
 //!
 //! A fixed-point number with `w` bits and `f` fraction bits is a raw value `b` from `-2^(w-1)` to
 //! `2^(w-1) - 1`, and means `b / 2^f`. The contracts of all types use these definitions.

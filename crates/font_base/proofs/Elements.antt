@@ -133,9 +133,12 @@ many_of (suc size) n len within = mul-div_cancel n (omega arith)
 
 others_length : (size n : ℕ) (bytes : List ℕ) → length bytes % size ≡ 0 → n ≤ length bytes / size
     → length (drop (n * size) bytes) ≡ (length bytes / size - n) * size
-others_length size n bytes whole within = length-drop (n * size) bytes ∙ omega (arith,
-    parted size n (length bytes / size) within, div-mul-le_self (length bytes) size,
-    mod-eq-sub-div-mul (length bytes) size)
+others_length size n bytes whole within = length-drop (n * size) bytes ∙ omega (
+  arith,
+  parted size n (length bytes / size) within,
+  div-mul-le_self (length bytes) size,
+  mod-eq-sub-div-mul (length bytes) size,
+)
 
 front_part_length : (size n : ℕ) (bytes : List ℕ) → n ≤ length bytes / size
     → length (take (n * size) bytes) ≡ n * size

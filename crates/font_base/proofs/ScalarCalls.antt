@@ -55,7 +55,7 @@ absent number_of xs n (Err place) sorted searched =
     let equal : Equal ≡ nat_cmp (number_of (get_or xs k d)) n = nat_cmp_is (number_of (get_or xs k d)) n Equal same in
     elim (cases_lt k place) [
       | inl before ↦ let less = sides.0 k d (omega arith) before in cc
-      | inr behind ↦ let greater = sides.1 k d behind within in cc
+      | inr after ↦ let greater = sides.1 k d after within in cc
     ]
 
 -- ---- searches in arrays
@@ -67,7 +67,7 @@ module _ {V : Type 0} (is_scalar : V → Bool) (stored : V → List ℕ) (answer
       → Splits is_scalar stored answer at n i i) → k < n → IsStored is_scalar stored (at k) v → answer v ≢ Equal
   nowhere i k v rises splits within is same = elim (cases_lt k i) [
     | inl before ↦ let less = (splits rises).less k v before is in cc
-    | inr behind ↦ let greater = (splits rises).greater k v behind within is in cc
+    | inr after ↦ let greater = (splits rises).greater k v after within is in cc
   ]
 
   -- the answers do not fall where numbers are compared that do not

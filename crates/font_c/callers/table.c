@@ -141,7 +141,7 @@ static bool is_written(const char *out, size_t length, const char *text) {
 }
 
 /* write TYPE BITS TEXT, in a room that is just enough, in one that is not, and in the one for every
-   decimal, with a zero byte behind it */
+   decimal, with a zero byte after it */
 static bool write_line(const words *line) {
     const number_type *type = type_named(line->word[1]);
     const char *text = line->word[3];
@@ -427,7 +427,7 @@ static bool tag_line(const words *line) {
     return strcmp(shown, text) == 0;
 }
 
-/* The terms of a line: how many, at a place, and behind it a scalar and a delta of each. */
+/* The terms of a line: how many, at a place, and after it a scalar and a delta of each. */
 static size_t terms(const words *line, int at, int32_t *scalars, int32_t *deltas) {
     size_t count = (size_t)number(line, at);
     for (size_t i = 0; i < count; i++) {

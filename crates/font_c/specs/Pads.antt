@@ -38,8 +38,8 @@ pad_of pad = record {
   zeros = flag_of pad.zeros;
 }
 
--- the padded shortest decimal of b / 2^f is written, for which 22 bytes, or the width if that is more, are enough; if the
--- padding is invalid, n is 0 and the bytes are unchanged
+-- the padded shortest decimal of b / 2^f is written, for which 22 bytes, or the width if that is more, are enough; if
+-- the padding is invalid, n is 0 and the bytes are unchanged
 pub record WritesPadded (b : ℤ) (f : ℕ) (pad : FontPad) (n : ℕ) (old new : List ℕ) : Type 0 where
   pub text : IsPad pad → WritesText (padded_text (shortest_text b f) (pad_of pad)) n old new
   pub enough : IsPad pad → max 22 pad.width ≤ length old → n ≢ 0

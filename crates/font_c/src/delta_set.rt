@@ -7,9 +7,9 @@ use crate::field::value_at;
 use crate::sum::{OTHER_LENGTH, SUM_OUT_OF_RANGE, SUMMED};
 use font_types::Fixed;
 
-/// Adds up the products of 16.16 scalars and the deltas of a delta set, which has `word_count` deltas
-/// of 16 bits, followed by deltas of 8 bits: 0 and the 48.16 sum in `sum`, 1 if there are not as many
-/// deltas as scalars, or 2 if 64 bits do not hold the sum.
+/// Adds up the products of 16.16 scalars and the deltas of a delta set, which has `word_count`
+/// deltas of 16 bits, followed by deltas of 8 bits: 0 and the 48.16 sum in `sum`, 1 if there are
+/// not as many deltas as scalars, or 2 if 64 bits do not hold the sum.
 #[unsafe(no_mangle)]
 pub extern "C" fn font_delta_set_sum(
     scalars: &[i32],

@@ -151,8 +151,8 @@ pub extern "C" fn font_fixed_div(x: i32, y: i32) -> i32
     (Fixed::from_bits(x) / Fixed::from_bits(y)).to_bits()
 }
 
-/// Returns `x * a / c`, rounded once, half away from zero, wrapping on overflow. If `c` is zero, the
-/// result is the largest value, negated if exactly one of `x` and `a` is negative.
+/// Returns `x * a / c`, rounded once, half away from zero, wrapping on overflow. If `c` is zero,
+/// the result is the largest value, negated if exactly one of `x` and `a` is negative.
 #[unsafe(no_mangle)]
 pub extern "C" fn font_fixed_mul_div(x: i32, a: i32, c: i32) -> i32
     ensures { IsMulDiv 32 x a c result }

@@ -8,8 +8,8 @@ ghost use Rattle.font_c.specs.Matrices.{linear_part, TransformsEach};
 
 use font_types::{Fixed, Matrix, Point, laws};
 
-/// A matrix of raw 16.16 values: it transforms `(x, y)` to `(xx * x + xy * y + dx, yx * x + yy * y +
-/// dy)`.
+/// A matrix of raw 16.16 values: it transforms `(x, y)` to
+/// `(xx * x + xy * y + dx, yx * x + yy * y + dy)`.
 #[repr(C)]
 #[derive(Clone, Copy)]
 pub struct FontMatrix {
@@ -118,8 +118,8 @@ pub extern "C" fn font_matrix_images(m: &FontMatrix, points: &mut [FontPoint])
 
 /// Transforms a point by the product of `a` and `b`.
 ///
-/// If no element of the product and no coordinate of the result overflows 32 bits, each coordinate is
-/// at most `(|x| + |y|) / 65536 + 2` from the exact one, all as raw values.
+/// If no element of the product and no coordinate of the result overflows 32 bits, each coordinate
+/// is at most `(|x| + |y|) / 65536 + 2` from the exact one, all as raw values.
 #[unsafe(no_mangle)]
 pub extern "C" fn font_matrix_composed(a: FontMatrix, b: FontMatrix, p: FontPoint) -> FontPoint
     ensures value { coordinates result
@@ -132,8 +132,8 @@ pub extern "C" fn font_matrix_composed(a: FontMatrix, b: FontMatrix, p: FontPoin
 
 /// Transforms a point by `b`, and the result by `a`.
 ///
-/// If no coordinate of either overflows 32 bits, `x` is at most `(|a.xx| + |a.xy|) / 65536 + 1` from
-/// the exact one, and `y` at most `(|a.yx| + |a.yy|) / 65536 + 1`, all as raw values.
+/// If no coordinate of either overflows 32 bits, `x` is at most `(|a.xx| + |a.xy|) / 65536 + 1`
+/// from the exact one, and `y` at most `(|a.yx| + |a.yy|) / 65536 + 1`, all as raw values.
 #[unsafe(no_mangle)]
 pub extern "C" fn font_matrix_in_turn(a: FontMatrix, b: FontMatrix, p: FontPoint) -> FontPoint
     ensures value { coordinates result

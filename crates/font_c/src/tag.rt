@@ -21,8 +21,8 @@ const BAD_BYTE: u32 = 2;
 /// A printable byte follows a space.
 const AFTER_SPACE: u32 = 3;
 
-/// Creates a valid tag from one to four bytes, padding with spaces: 0 and the tag in `tag`, 1 unless
-/// there are one to four bytes, or 2 if a byte is not allowed where it is.
+/// Creates a valid tag from one to four bytes, padding with spaces: 0 and the tag in `tag`, 1
+/// unless there are one to four bytes, or 2 if a byte is not allowed where it is.
 #[unsafe(no_mangle)]
 pub extern "C" fn font_tag_new(text: &[u8], tag: &mut u32) -> u32
     ensures made { IsMade text.now result tag.new }
@@ -39,8 +39,8 @@ pub extern "C" fn font_tag_new(text: &[u8], tag: &mut u32) -> u32
     }
 }
 
-/// Checks the four bytes of a tag: 0 if valid, 1 if there are not four bytes or only spaces, 2 if the
-/// byte at `position` is not allowed there, or 3 if it is printable but follows a space.
+/// Checks the four bytes of a tag: 0 if valid, 1 if there are not four bytes or only spaces, 2 if
+/// the byte at `position` is not allowed there, or 3 if it is printable but follows a space.
 #[unsafe(no_mangle)]
 pub extern "C" fn font_tag_validate(bytes: &[u8], position: &mut u32) -> u32
     ensures judged { IsJudged bytes.now result position.new }

@@ -50,7 +50,7 @@ impl TagText {
         }
     }
 
-    // Puts what a byte is shown as behind the text.
+    // Appends what a byte is shown as.
     fn push(&mut self, byte: u8)
         requires { length (made_text self.old) + 6 ≤ 24 }
         ensures text { made_text self.new ≡ made_text self.old ++ byte_text byte }
@@ -70,7 +70,7 @@ impl TagText {
         }
     }
 
-    // Puts bytes behind the text.
+    // Appends bytes.
     fn put(&mut self, bytes: &[u8])
         requires { length (made_text self.old) + length bytes.now ≤ 24 }
         ensures { made_text self.new ≡ made_text self.old ++ bytes.now }

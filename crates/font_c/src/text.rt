@@ -96,7 +96,8 @@ pub fn put_padded(bits: i64, f: u32, pad: &FontPad, out: &mut [u8]) -> usize
     }
 }
 
-// Writes a padded decimal to the start of `out`, and returns its length, or 0 if `out` is too short.
+// Writes a padded decimal to the start of `out`, and returns its length, or 0 if `out` is too
+// short.
 #[tactic(auto, using(crate::proofs::Texts::text_calls))]
 fn put_padded_text(text: &str, pad: &Pad, out: &mut [u8]) -> usize
     requires decimal { IsDecimal text.now }

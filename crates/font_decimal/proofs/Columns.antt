@@ -44,7 +44,7 @@ spaces_trimmed n text ascii visible =
     (chars-IsAscii (replicate n 32 ++ text) (IsAscii-append _ _ (ascii_spaces n) ascii))
     ∙ ap encode_utf8_all (skipped n text visible) ∙ encodes-IsAscii text ascii
 
--- the sign that a text has and what stands behind it are the text
+-- the sign of a text and the rest are the text
 sign_and_body : (text : List ℕ) → shown_sign false text ++ unsigned_body text ≡ text
 sign_and_body [] = refl
 sign_and_body (c ∷ cs) = grind (arith, nat_tests)

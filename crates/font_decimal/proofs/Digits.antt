@@ -36,7 +36,7 @@ digits_parts zero xs p = (tt, p)
 digits_parts (suc n) [] p = (tt, tt)
 digits_parts (suc n) (x ∷ xs) p = let rest = digits_parts n xs p.1 in ((p.0, rest.0), rest.1)
 
--- and digits behind digits are digits
+-- and digits after digits are digits
 pub digits-append : (xs ys : List ℕ) → AllDigits 10 xs → AllDigits 10 ys → AllDigits 10 (xs ++ ys)
 digits-append [] ys p q = q
 digits-append (x ∷ xs) ys p q = (p.0, digits-append xs ys p.1 q)

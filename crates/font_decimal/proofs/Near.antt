@@ -13,7 +13,7 @@ pub record IsNearMagnitude (n d q : ℕ) : Type 0 where
   pub low : 2 * (q * d) ≤ 2 * n + d
   pub high : 2 * n + d < 2 * (q * d) + 2 * d
 
--- the products of two whole numbers stand apart by at least the factor
+-- the products of two different integers differ by at least the factor
 pub next_product : (q r d : ℕ) → q < r → q * d + d ≤ r * d
 next_product q r d h = grind arith
 

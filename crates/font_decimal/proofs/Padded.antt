@@ -42,17 +42,17 @@ padded_length text pad =
     let body = unsigned_body text in
     omega (arith, laid_length pad sign body (pad.width - (length sign + length body)))
 
--- bytes that are put behind the front
-pub put_behind : {done old out new : List ℕ} {at n end : ℕ} (bytes : List ℕ) → FillsFront done at old out
+-- bytes that are appended
+pub put_after : {done old out new : List ℕ} {at n end : ℕ} (bytes : List ℕ) → FillsFront done at old out
     → length bytes ≡ n → end ≡ at + n
     → new ≡ take at out ++ (bytes ++ drop (at + n) out) → FillsFront (done ++ bytes) end old new
-put_behind {done = done} {old = old} {out = out} {at = at} {n = n} bytes front long last e =
+put_after {done = done} {old = old} {out = out} {at = at} {n = n} bytes front long last e =
     let count = front.count in
     let taken : take at out ≡ done = rw front.bytes (take_at _ _ _ (sym count)) in
-    let behind : drop at out ≡ drop at old = rw front.bytes (drop_at _ _ _ (sym count)) in
+    let after : drop at out ≡ drop at old = rw front.bytes (drop_at _ _ _ (sym count)) in
     record {
       count = omega (arith, length-append done bytes);
-      bytes = e ∙ rw (taken, ← drop-drop n at out, behind, drop-drop n at old, last, append_assoc done bytes);
+      bytes = e ∙ rw (taken, ← drop-drop n at out, after, drop-drop n at old, last, append_assoc done bytes);
     }
 
 pub nothing_yet : (old : List ℕ) → FillsFront [] 0 old old

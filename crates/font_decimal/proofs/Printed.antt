@@ -52,7 +52,7 @@ last_value (suc p) n =
     rw (digits, last_length p n, glyph_value (m % 10) (omega arith), pow-suc 10 p, ← div-div-eq-div-mul n (10 ^ p) 10)
     (omega (arith, last_value p n, ap (λ k. k * 10 ^ p) (div-add-mod' m 10)))
 
--- the digits in front of the point and behind it write the numeral
+-- the digits in front of the point and after it write the numeral
 written_decimal : (s : Bool) (p n : ℕ) → n / 10 ^ p < 2 ^ 64 → Decimal (sign_text s ++ decimal_text n p) (signed s n) p
 written_decimal s p n small = record {
   negative = s;
@@ -173,15 +173,15 @@ pub left_more : (left n p : ℕ) → left ≡ n / 10 ^ p → left / 10 ≡ n / 1
 left_more left n p e = rw (e, add-one, pow-suc 10 p) (div-div-eq-div-mul n (10 ^ p) 10)
 
 -- digits further in front change nothing
-last_behind : (p w n : ℕ) → last_digits p (n + 10 ^ p * w) ≡ last_digits p n
-last_behind zero w n = refl
-last_behind (suc p) w n =
+last_after : (p w n : ℕ) → last_digits p (n + 10 ^ p * w) ≡ last_digits p n
+last_after zero w n = refl
+last_after (suc p) w n =
     let split : n + 10 ^ suc p * w ≡ n + 10 ^ p * (w * 10) = rw (pow-suc 10 p) (omega arith) in
     rw (
       split,
       add-mul-div_left n (w * 10) (ten_pos p),
       add-mul-mod_self_right (n / 10 ^ p) w 10,
-      last_behind p (w * 10) n,
+      last_after p (w * 10) n,
     )
 
 -- ---- what the writer makes of a magnitude, and that there is room for it
@@ -196,7 +196,7 @@ module _ (m f whole fraction places : ℕ) (few : places ≡ fewest_places m f)
   fraction_is : last_digits places fraction ≡ last_digits places (nearest_numeral m f places)
   fraction_is =
       let turned : whole * 10 ^ places + fraction ≡ fraction + 10 ^ places * whole = omega arith in
-      rw (← nearest, turned) (sym (last_behind places whole fraction))
+      rw (← nearest, turned) (sym (last_after places whole fraction))
 
   pub text_is : (b : ℤ) → m ≡ unsigned_abs b
       → sign_text (is_negative b) ++ (decimal whole ++ (fraction_text (last_digits places fraction) ++ []))

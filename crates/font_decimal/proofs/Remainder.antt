@@ -1,4 +1,4 @@
--- What is left of a value m / 2^f behind its first p places.
+-- What is left of a value m / 2^f after its first p places.
 use Rattle.std.proofs.Common.{◌≡◌, ℕ, ◌+◌, ◌-◌, ◌*◌, ◌/◌, ◌%◌, ◌^◌, ◌<◌, ◌≤◌, inl, inr, false}
 use Rattle.std.proofs.Common.{arith, add-one, min, lt-ltb, le-ltb, pow_pos}
 use Rattle.std.specs.Int.{abs_diff}
@@ -43,7 +43,7 @@ pub fails_here : {m f p q rest : ℕ} → HasRest m f p q rest → 10 ^ p ≤ mi
 unfolding reads_back
 fails_here h far = le-ltb _ _ (omega (arith, distance h))
 
--- the numeral with one digit more behind the same whole digits
+-- the numeral with one digit more after the same whole digits
 pub next_numeral : {m f p rest unit : ℕ} (w n : ℕ) → HasRest m f p (w * 10 ^ p + n) rest → unit ≡ 2 * 2 ^ f
     → HasRest m f (p + 1) (w * 10 ^ (p + 1) + (10 * n + 10 * rest / unit)) (10 * rest % unit)
 next_numeral {f = f} {p = p} {rest = rest} w n h is =

@@ -62,7 +62,7 @@ half_steps_of_kept {places = places} {numeral = numeral} {e = e} {kept = kept} b
 full_steps : (f : ℕ) → f ≤ 30 → 2 ^ (63 - f) * 2 ^ f ≡ 2 ^ 63
 full_steps f few = let e : 63 - f + f ≡ 63 = omega arith in rw (← pow-add 2 (63 - f) f, e)
 
--- Whole steps that are cut to one more than 2^(63-f) of them stand for any greater number: either way the number of
+-- Whole steps that are cut to one more than 2^(63-f) of them act as any greater number: either way the number of
 -- steps is above 2^63.
 pub steps_capped : (f v whole r : ℕ) → f ≤ 30 → whole ≡ min v (2 ^ (63 - f) + 1)
     → (whole * 2 ^ f + r ≡ v * 2 ^ f + r) ⊎ ((2 ^ 63 < whole * 2 ^ f + r) × (2 ^ 63 < v * 2 ^ f + r))

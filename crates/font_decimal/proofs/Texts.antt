@@ -1,4 +1,4 @@
--- A decimal text has its parts in one way only, and so stands for one number.
+-- A decimal text has its parts in one way only, and so means one number.
 use Rattle.std.proofs.Common.{◌≡◌, ℕ, ◌<◌, Bool, true, false, List, [], ◌∷◌, ◌++◌, length, ℤ, refl, sym, ap, arith}
 use Rattle.std.specs.Fmt.{sign_text}
 use Rattle.std.specs.Str.{IsAscii, IsUtf8}
@@ -47,7 +47,7 @@ same_parts {s = false} {t = true} x y = absurd (no_minus x y.written)
 same_parts {s = true} {t = false} x y = absurd (no_minus y x.written)
 same_parts {s = true} {t = true} x y = same_split true _ _ _ _ x.whole_digits.1 y.whole_digits.1 cc
 
--- a text stands for one number with one number of places
+-- a text means one number with one number of places
 pub record SameDecimal (n m : ℤ) (j k : ℕ) : Type 0 where
   pub numeral : n ≡ m
   pub places : j ≡ k
@@ -55,7 +55,7 @@ pub record SameDecimal (n m : ℤ) (j k : ℕ) : Type 0 where
 pub decimal_unique : (text : List ℕ) (n m : ℤ) (j k : ℕ) → Decimal text n j → Decimal text m k → SameDecimal n m j k
 decimal_unique text n m j k x y = let same = same_parts x.parts y.parts in record { numeral = cc; places = cc }
 
--- a text that has these parts stands for their number
+-- a text that has these parts means their number
 pub decimal_of : {text : List ℕ} {s : Bool} {w e : List ℕ} → HasParts text s w e
     → Decimal text (signed s (digits_value 10 (w ++ e))) (length e)
 decimal_of p = record { negative = _; whole = _; fraction = _; parts = p; numeral = refl; places = refl }

@@ -10,7 +10,7 @@ ghost use Rattle.font_decimal.specs.Near.{signed};
 ghost use Rattle.font_decimal.specs.Grammar.{HasParts, IsNoDecimal};
 ghost use Rattle.font_decimal.specs.Reading.{Rounds, Reads, IsOutOfRange, IsReading};
 
-use crate::grammar::{are_digits, behind_point, split_sign};
+use crate::grammar::{after_point, are_digits, split_sign};
 use thiserror::Error;
 
 /// Why a text was not parsed.
@@ -94,7 +94,7 @@ fn nearest_steps(digits: &[u8], f: u32) -> Option<u64>
     if len == 0 {
         return None;
     }
-    let half_steps = half_steps(behind_point(&digits[len..])?, f)?;
+    let half_steps = half_steps(after_point(&digits[len..])?, f)?;
     Some((whole << f) + (half_steps + 1) / 2)
 }
 

@@ -396,14 +396,14 @@ fn pads_any_decimal(rt: HostRuntime) {
 
 #[test]
 fn pads_to_a_great_width(rt: HostRuntime) -> Result<(), Fail> {
-    for &(align, zeros, front, behind) in &[
+    for &(align, zeros, front, after) in &[
         (Align::Right, false, "", "1.5"),
         (Align::Right, true, "", "1.5"),
         (Align::Left, false, "1.5", ""),
     ] {
         let mut room = [b'#'; 5000];
         let fill = if zeros { "0" } else { "*" }.repeat(rt.alloc(), 4197)?;
-        let want = format!(in rt.alloc(); "{front}{fill}{behind}#")?;
+        let want = format!(in rt.alloc(); "{front}{fill}{after}#")?;
         let pad = pad(4200, b'*', align, false, zeros);
         let written = is_padded("1.5", &pad, &mut room, want.as_bytes());
         assert!(rt;

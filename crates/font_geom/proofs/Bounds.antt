@@ -1,5 +1,5 @@
--- How far rounding moves a point from its exact image, where no entry and no coordinate leaves 32 bits; and what callers
--- name once of matrices whose entries are not too large: nothing leaves 32 bits.
+-- How far rounding moves a point from its exact image, where no entry and no coordinate leaves 32 bits; and what
+-- callers name once of matrices whose entries are not too large: nothing leaves 32 bits.
 use Rattle.std.proofs.Common.{◌≡◌, ◌∙◌, ap, ℕ, ◌+◌, ◌*◌, ◌^◌, ◌<◌, ◌≤◌, ℤ, pos, ◌+ℤ◌, ◌-ℤ◌, ◌*ℤ◌, ◌≤ℤ◌, unsigned_abs}
 use Rattle.std.proofs.Common.{lit<, arith, ◌/◌, ◌&&◌, IsTrue, nat_lt}
 use Rattle.std.proofs.lemmas.Int.{unsigned_abs-mul, ints}

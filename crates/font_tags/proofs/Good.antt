@@ -41,7 +41,7 @@ pub fault_not_good : (bytes : List ℕ) (index : ℕ) → IsFault bytes index �
 fault_not_good bytes index fault good = let to = to_good bytes good in
     fault.fails (good_to bytes _ _ (shorter bytes _ _ (index + 1) to (omega arith) (omega (arith, fault.within))))
 
--- ---- a run of visible bytes that ends at n, and spaces behind it that end at m
+-- ---- a run of visible bytes that ends at n, and spaces after it that end at m
 
 run_to : (bytes : List ℕ) (n m : ℕ) → n ≢ 0 → ((i : ℕ) → i < n → IsVisible (get_or bytes i 0)) → n ≤ m
     → m ≤ length bytes → ((i : ℕ) → n ≤ i → i < m → get_or bytes i 0 ≡ 0x20) → GoodTo bytes n m

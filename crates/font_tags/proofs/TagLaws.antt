@@ -79,15 +79,15 @@ same_glyph c d small_c small_d same = grind (arith, nat_tests)
 no_brace : (d : ℕ) → d < 16 → digit_glyph true d ≢ 123
 no_brace d small = grind (arith, nat_tests)
 
--- characters that are no braces stand for bytes that are shown as they are
-plain_behind : (bytes plain text : List ℕ) → AllByRecursion (λ c. c ≢ 123) plain → tag_text bytes ≡ plain ++ text
+-- characters other than braces are bytes that are shown as they are
+plain_after : (bytes plain text : List ℕ) → AllByRecursion (λ c. c ≢ 123) plain → tag_text bytes ≡ plain ++ text
     → length plain ≤ length bytes
-plain_behind bytes [] text all is = omega arith
-plain_behind [] (c ∷ plain) text all is = absurd (cc)
-plain_behind (byte ∷ bytes) (c ∷ plain) text all is = elim (shown_or_hidden byte) [
+plain_after bytes [] text all is = omega arith
+plain_after [] (c ∷ plain) text all is = absurd (cc)
+plain_after (byte ∷ bytes) (c ∷ plain) text all is = elim (shown_or_hidden byte) [
   | inl shown ↦
       let whole = rw (byte_text-shown byte shown) at is in
-      omega (arith, plain_behind bytes plain text all.1 (cc))
+      omega (arith, plain_after bytes plain text all.1 (cc))
   | inr hidden ↦ let whole = rw (byte_text-hidden byte hidden) at is in absurd (all.0 (cc))
 ]
 
@@ -97,9 +97,9 @@ shown_not_hidden : (x y : ℕ) (xs ys : List ℕ) → IsShown x → IsHidden y �
 shown_not_hidden x y xs ys shown hidden small few same =
     let whole = rw (byte_text-shown x shown, byte_text-hidden y hidden) at same in
     let plain = 48 ∷ 120 ∷ digit_glyph true (y / 16) ∷ digit_glyph true (y % 16) ∷ [] in
-    omega (arith, plain_behind xs plain (125 ∷ tag_text ys) (search (rules, no_brace)) (cc))
+    omega (arith, plain_after xs plain (125 ∷ tag_text ys) (search (rules, no_brace)) (cc))
 
--- so few bytes are told from one another by how they are shown
+-- at most four bytes are known by how they are shown
 same_bytes : (xs ys : List ℕ) → length xs ≤ 4 → length xs ≡ length ys
     → ((i : ℕ) → get_or xs i 0 < 256) → ((i : ℕ) → get_or ys i 0 < 256) → tag_text xs ≡ tag_text ys → xs ≡ ys
 same_bytes [] [] few many bytes_x bytes_y same = refl

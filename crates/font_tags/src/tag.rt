@@ -183,7 +183,7 @@ const fn first_fault(bytes: &[u8]) -> Option<usize>
     if run == 0 {
         return Some(0);
     }
-    let pos = behind_spaces(bytes, run);
+    let pos = after_spaces(bytes, run);
     if pos < bytes.len() { Some(pos) } else { None }
 }
 
@@ -203,7 +203,7 @@ const fn visible_run(bytes: &[u8]) -> usize
 
 // Returns the index after the spaces that start at `from`.
 #[inline]
-const fn behind_spaces(bytes: &[u8], from: usize) -> usize
+const fn after_spaces(bytes: &[u8], from: usize) -> usize
     requires { from ≤ length bytes.now }
     ensures within { (from ≤ result) × (result ≤ length bytes.now) }
     ensures spaces { (i : ℕ) → from ≤ i → i < result → slice_index bytes.now i ≡ 32 }

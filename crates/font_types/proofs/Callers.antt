@@ -1,5 +1,5 @@
--- What callers of this crate cite of all below it: the ruleset `calls`, which a crate names once at its head, and lemmas
--- for answers of their own.
+-- What callers of this crate cite of all below it: the ruleset `calls`, which a crate names once at its head, and
+-- lemmas for answers of their own.
 use Rattle.font_base.proofs.ScalarCalls.{scalar_calls}
 use Rattle.font_arithmetic.proofs.Calls.{calls_16, calls_64}
 use Rattle.font_fixed.proofs.NarrowCalls.{narrow_calls, quarter_neg_one}

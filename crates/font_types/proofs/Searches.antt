@@ -1,5 +1,5 @@
--- What searches say, in the form that the goals of their callers have: in an array of glyph ids, and among records in the
--- order of a number.
+-- What searches say, in the form that the goals of their callers have: in an array of glyph ids, and among records in
+-- the order of a number.
 use Rattle.std.proofs.Common.{◌≡◌, ◌≢◌, ◌<◌, ◌≤◌, ◌^◌, ℕ, pos, nat_lt, refl, subst, List, get_or}
 use Rattle.std.proofs.Common.{Result, Ok, Err, IfOk, IfErr, IfSome, IfNone, MatchResult}
 use Rattle.std.specs.Cmp.{ranks}

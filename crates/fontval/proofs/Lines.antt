@@ -15,7 +15,7 @@ use Rattle.std.proofs.lemmas.Option.{cond_some}
 one_more_and_one : (n : ℕ) → suc n + 1 ≡ suc (n + 1)
 one_more_and_one n = omega arith
 
--- no line stands in an empty input
+-- an empty input has no line
 pub no_lines : (input : List ℕ) → length input ≡ 0 → lines_of input ≡ []
 unfolding lines_of
 no_lines [] none = refl
@@ -49,15 +49,15 @@ pub ruleset line_steps = (first_line, no_lines)
 
 -- ---- the first word
 -- blanks in front change no word
-words_behind_blanks : (line : List ℕ) → words_of line ≡ words_of (from_first (λ byte. not (is_blank byte)) line)
+words_after_blanks : (line : List ℕ) → words_of line ≡ words_of (from_first (λ byte. not (is_blank byte)) line)
 unfolding words_of
-words_behind_blanks [] = refl
-words_behind_blanks (byte ∷ rest) = elim (cases_Bool (is_blank byte)) [
-  | inl blank ↦ rw (blank, one-add (position_or_len (λ c. not (is_blank c)) rest)) (words_behind_blanks rest)
+words_after_blanks [] = refl
+words_after_blanks (byte ∷ rest) = elim (cases_Bool (is_blank byte)) [
+  | inl blank ↦ rw (blank, one-add (position_or_len (λ c. not (is_blank c)) rest)) (words_after_blanks rest)
   | inr word ↦ rw (word, word) refl
 ]
 
--- what stands before the first blank is a word, unless it is empty, and the others stand behind the blank
+-- the text before the first blank is a word, unless it is empty, and the others are after the blank
 first_part : (text : List ℕ) → words_of text
     ≡ filter is_nonempty (before_first is_blank text ∷ slice_split is_blank (after_first is_blank text))
 unfolding words_of
@@ -71,13 +71,13 @@ first_part text = elim (cases_lt (position_or_len is_blank text) (length text)) 
       ) refl
 ]
 
--- the first word of a line that has one, and the words behind it
+-- the first word of a line that has one, and the words after it
 pub first_word : (line : List ℕ) (start : ℕ) → position (λ byte. not (is_blank byte)) line ≡ Some start
     → words_of line ≡ before_first is_blank (drop start line) ∷ words_of (after_first is_blank (drop start line))
 unfolding words_of
 first_word line start found =
     let at = position-Some (λ byte. not (is_blank byte)) line start 0 found in
-    words_behind_blanks line ∙ rw ((cond_some _ _ _ found).1) (first_part (drop start line) ∙ rw (
+    words_after_blanks line ∙ rw ((cond_some _ _ _ found).1) (first_part (drop start line) ∙ rw (
       drop-cons line start 0 at.0,
       not-true _ at.1,
       one-add (position_or_len is_blank (drop (suc start) line)),
@@ -88,7 +88,7 @@ pub no_words : (line : List ℕ) → position (λ byte. not (is_blank byte)) lin
 unfolding words_of
 no_words line absent =
     let past : length line ≤ position_or_len (λ byte. not (is_blank byte)) line = grind (arith, common_steps) in
-    words_behind_blanks line ∙ rw (drop_all _ line past) refl
+    words_after_blanks line ∙ rw (drop_all _ line past) refl
 
 -- there is at most one word more than bytes
 pub words_fit : (line : List ℕ) → length (words_of line) ≤ length line + 1

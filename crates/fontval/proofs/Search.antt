@@ -12,7 +12,7 @@ use lib.Lanes.{mask_l, top, zip2}
 use lib.Count.{count_trailing_zeros}
 use Rattle.fontval.specs.Text.{is_blank}
 
--- no byte in front of `rest` passes, and so many stand there
+-- no byte before `rest` passes, and there are so many
 pub record IsPassed (test : ℕ → Bool) (input rest : List ℕ) (passed : ℕ) : Type 0 where
   pub long : length input ≡ passed + length rest
   pub first : position_or_len test input ≡ passed + position_or_len test rest
@@ -21,7 +21,7 @@ pub none_passed : (test : ℕ → Bool) (input : List ℕ) → IsPassed test inp
 none_passed test input = record { long = omega arith; first = omega arith }
 
 module _ (test : ℕ → Bool) where
-  -- how many bytes stand in front of the first that passes
+  -- how many bytes are before the first that passes
   abbrev before : List ℕ → ℕ
   before bytes = position_or_len test bytes
 
@@ -33,10 +33,10 @@ module _ (test : ℕ → Bool) where
       ap before (sym (take-append-drop n bytes))
       ∙ prefix_len-append (λ byte. not (test byte)) (take n bytes) (drop n bytes)
 
-  pub more_passed : (n : ℕ) (input rest behind : List ℕ) (passed : ℕ) → IsPassed test input rest passed
+  pub more_passed : (n : ℕ) (input rest after : List ℕ) (passed : ℕ) → IsPassed test input rest passed
       → position test (take n rest) ≡ None
-      → length behind + n ≡ length rest → behind ≡ drop n rest → IsPassed test input behind (passed + n)
-  more_passed n input rest behind passed so_far none long is = record {
+      → length after + n ≡ length rest → after ≡ drop n rest → IsPassed test input after (passed + n)
+  more_passed n input rest after passed so_far none long is = record {
     long = omega (arith, so_far.long);
     first = grind (
       arith,
@@ -47,14 +47,14 @@ module _ (test : ℕ → Bool) where
     );
   }
 
-  pub found_behind : (n : ℕ) (input rest : List ℕ) (passed at : ℕ) → IsPassed test input rest passed
+  pub found_after : (n : ℕ) (input rest : List ℕ) (passed at : ℕ) → IsPassed test input rest passed
       → position test (take n rest) ≡ Some at → Some (passed + at) ≡ position test input
-  found_behind n input rest passed at so_far found =
+  found_after n input rest passed at so_far found =
       grind (arith, common_steps, in_front n rest, so_far.first, so_far.long)
 
-  pub none_behind : (input rest : List ℕ) (passed : ℕ) → IsPassed test input rest passed → position test rest ≡ None
+  pub none_after : (input rest : List ℕ) (passed : ℕ) → IsPassed test input rest passed → position test rest ≡ None
       → None ≡ position test input
-  none_behind input rest passed so_far none = grind (arith, common_steps, so_far.first, so_far.long)
+  none_after input rest passed so_far none = grind (arith, common_steps, so_far.first, so_far.long)
 
   -- a bit for each byte: whether it passes
   abbrev marks : List ℕ → ℕ
@@ -101,4 +101,4 @@ blanks_marked bytes eight =
     ap (λ l. mask_l l % 2 ^ 64) (ap (map (top 7)) lanes ∙ tops_are_blank bytes)
     ∙ mask_l-mod (map is_blank bytes) 64 (omega (arith, eight, length-map bytes is_blank))
 
-pub ruleset search_steps = (none_passed, more_passed, found_behind, none_behind)
+pub ruleset search_steps = (none_passed, more_passed, found_after, none_after)

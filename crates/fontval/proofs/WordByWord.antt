@@ -54,7 +54,7 @@ module _ {W T : Type 0} (reads : W → Result T Refusal → Type 0) (words : Lis
     all_read values' none same = rw (append-nil values ∙ same) at (so_far.completes [] (rw none refl))
 
 -- ---- just so many numbers
--- the words of a text are read as numbers up to those of another, and the numbers stand in the first places of a list
+-- the words of a text are read as numbers up to those of another, and the numbers are the first of a list
 -- of n
 pub record AreNumbersUpTo (n : ℕ) (text left : List ℕ) (numbers : List Fixed) (at : ℕ) : Type 0 where
   pub read : IsReadUpTo ReadsFixed (words_of text) (words_of left) (take at numbers)
@@ -82,7 +82,7 @@ module _ (n : ℕ) (text left : List ℕ) (numbers : List Fixed) (at : ℕ)
           whole = length-set numbers at number ∙ so_far.whole;
         }
 
-    -- a word is refused, and with those behind it there are n
+    -- a word is refused, and with those after it there are n
     pub refused_after_numbers : (refusal : Refusal) → at + 1 + length (words_of left') ≡ n
         → ReadsFixed word (Err refusal) → ReadsJust n (words_of text) (Err refusal)
     refused_after_numbers refusal just one =

@@ -7,7 +7,7 @@ use Rattle.std.specs.Io.KnownBytes.{Appends, Keeps}
 use Rattle.std.proofs.KnownBytes.{Appends-kept, Appends-nil, Appends-trans}
 use Rattle.fontval.specs.Serve.{WritesInPart}
 
--- what stands before `rest` in the bytes was written
+-- the bytes before `rest` were written
 pub record IsWrittenUpTo (taken taken' : Option (List ℕ)) (bytes rest : List ℕ) : Type 0 where
   pub output : List ℕ
   pub parts : bytes ≡ output ++ rest

@@ -1,6 +1,6 @@
--- The commands of the program: the word that names each, and what it answers to the words behind
+-- The commands of the program: the word that names each, and what it answers to the words after
 -- it.
--- All of it is the program's own rule, but for what the bytes of a type stand for.
+-- All of it is the program's own rule, but for what the bytes of a type mean.
 use Rattle.std.specs.Prelude.{◌≡◌, ◌≢◌, ℕ, ℤ, pos, ◌/◌, Bool, true, false, if◌then◌else◌, List, [], ◌∷◌, ◌++◌, codes}
 use Rattle.std.specs.Prelude.{decimal, Result, Ok, Err, MatchResult}
 use Rattle.std.specs.Fmt.{signed_decimal}
@@ -49,7 +49,7 @@ integer_row Int32 = (codes "int32", 4, signed_bytes)
 integer_row Int64 = (codes "int64", 8, signed_bytes)
 
 -- the fixed-point types: the word that names each, how many bits it has, and how many of them
--- stand behind the point
+-- are its fraction
 -- (OpenType, data types: Fixed is 16.16 and F2DOT14 is 2.14)
 abbrev pub fixed_row : FixedType → List ℕ × ℕ × ℕ
 fixed_row types.F2Dot14 = (codes "f2dot14", 16, 14)
@@ -82,7 +82,7 @@ IsNamedType word (Ok type) = (fixed_row type).0 ≡ word
 IsNamedType word (Err refusal) =
     (refusal ≡ UnknownCommand) × ((type : FixedType) → (fixed_row type).0 ≢ word)
 
--- ---- what a command answers to the words behind it
+-- ---- what a command answers to the words after it
 
 -- the word of a command that takes one
 abbrev pub only_word : List (List ℕ) → Result (List ℕ) Refusal
@@ -104,12 +104,12 @@ abbrev pub two_words : List (List ℕ) → Result (List ℕ × List ℕ) Refusal
 two_words (first ∷ second ∷ []) = Ok (first, second)
 two_words words = Err WordCount
 
--- the number that n bytes stand for: their base-256 numeral, highest byte first, in two's
+-- the number that n bytes encode: their base-256 numeral, highest byte first, in two's
 -- complement where they have a sign
 abbrev pub number_of : ℕ → Bool → List ℕ → ℤ
 number_of n sign bytes = if sign then signed_numeral n bytes else pos (numeral bytes)
 
--- the number of an integer type that the bytes of a word stand for
+-- the number of an integer type that the bytes of a word encode
 abbrev pub integer : IntegerType → List (List ℕ) → Result ℤ Refusal
 integer type words =
     let n = (integer_row type).1 in
@@ -147,7 +147,7 @@ pub record JudgesTag (bytes : List ℕ) (answer : Answer) : Type 0 where
   pub judged : IsValidated bytes verdict
   pub shows : answer ≡ Ok (tag_text bytes ++ verdict_text verdict)
 
--- What a command answers to the words behind it. Their number is judged first, and then each of
+-- What a command answers to the words after it. Their number is judged first, and then each of
 -- them from left to right.
 abbrev pub AnswersWords : List (List ℕ) → Command → Answer → Type 0
 AnswersWords words (Integer type) answer =

@@ -47,13 +47,13 @@ abbrev pub ReadsJust : ℕ → List (List ℕ) → Result (List Fixed) Refusal �
 ReadsJust n words result =
     MatchBool (length words == n) (ReadsEach ReadsFixed words result) (result ≡ Err WordCount)
 
--- the bytes of a word behind its `-`, or all of them
-abbrev pub behind_minus : List ℕ → List ℕ
-behind_minus word = if starts_with_minus word then drop 1 word else word
+-- the bytes of a word after its `-`, or all of them
+abbrev pub after_minus : List ℕ → List ℕ
+after_minus word = if starts_with_minus word then drop 1 word else word
 
 -- the word is a whole number: an optional `-`, and one or more digits
 abbrev pub IsWhole : List ℕ → Type 0
-IsWhole word = IsNumeral 10 (behind_minus word)
+IsWhole word = IsNumeral 10 (after_minus word)
 
 -- the whole number of w bits that a word is read as
 abbrev pub ReadsWhole : ℕ → List ℕ → Result ℤ Refusal → Type 0

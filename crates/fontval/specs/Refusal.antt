@@ -39,7 +39,7 @@ pub record Grows (IsRight : Answer → Type 0) (old new : List ℕ) : Type 0 whe
   pub grown : new ≡ old ++ text
 
 -- How a command ends that gives a right answer: the output has grown by its text, or there was no
--- memory for it. A refusal is told, and leaves the output as it was.
+-- memory for it. A refusal is returned, and leaves the output unchanged.
 abbrev pub IsGiven : (Answer → Type 0) → List ℕ → List ℕ → Result (Unit {0}) Unanswered → Type 0
 IsGiven IsRight old new (Ok done) = Grows IsRight old new
 IsGiven IsRight old new (Err Memory) = ⊤

@@ -6,14 +6,14 @@ use Rattle.std.specs.List.{onto_first, position_or_len, slice_split}
 abbrev pub is_line_feed : ℕ → Bool
 is_line_feed byte = byte == 10
 
--- The lines of an input, without their line feeds. The last line may lack its line feed, and behind
+-- The lines of an input, without their line feeds. The last line may lack its line feed, and after
 -- the last line feed there is no line.
 unfoldable pub lines_of : List ℕ → List (List ℕ)
 lines_of [] = []
 lines_of (byte ∷ rest) =
     if is_line_feed byte then [] ∷ lines_of rest else onto_first byte (lines_of rest)
 
--- whether a byte stands between words: a space, a tab or a carriage return
+-- whether a byte separates words: a space, a tab or a carriage return
 abbrev pub is_blank : ℕ → Bool
 is_blank byte = byte == 32 || byte == 9 || byte == 13
 

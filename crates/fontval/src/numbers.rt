@@ -4,7 +4,7 @@ ghost use Rattle.std.specs.Prelude.{◌≡◌, ◌%◌, ◌^◌, ◌==◌, Ok, E
 ghost use Rattle.std.specs.Prelude.{MatchOption, MatchResult};
 ghost use Rattle.std.specs.Str.Parse.{IsNumeral, digits_value, starts_with_minus};
 ghost use Rattle.fontval.specs.Numbers.{ReadsFixed, ReadsJust, ReadsTerm, ReadsTerms, ReadsWhole};
-ghost use Rattle.fontval.specs.Numbers.{behind_minus};
+ghost use Rattle.fontval.specs.Numbers.{after_minus};
 ghost use Rattle.fontval.specs.Refusal.{OnRefused};
 ghost use Rattle.fontval.specs.Text.{words_of};
 
@@ -120,7 +120,7 @@ pub fn whole_number_16(word: &[u8]) -> Result<i16, Refusal>
 // Splits off a leading `-`.
 fn split_minus(word: &[u8]) -> (bool, &[u8])
     ensures minus { result.0 ≡ starts_with_minus word.now }
-    ensures rest { result.1.now ≡ behind_minus word.now }
+    ensures rest { result.1.now ≡ after_minus word.now }
 {
     match word {
         [b'-', rest @ ..] => (true, rest),

@@ -10,7 +10,7 @@ use std::simd::prelude::*;
 /// The lines of an input, first to last, each without its line feed. The last line may lack one.
 #[derive(Drop)]
 pub struct Lines<'a> {
-    /// The input behind the lines returned so far.
+    /// The input after the lines returned so far.
     pub rest: &'a [u8],
 }
 
@@ -60,12 +60,12 @@ fn line_feed_at(input: &[u8]) -> Option<usize>
 {
     let mut passed = 0;
     let mut rest = input;
-    while let Some((block, behind)) = rest.split_first_chunk::<16>() {
+    while let Some((block, after)) = rest.split_first_chunk::<16>() {
         if let Some(at) = line_feed_among(block) {
             return Some(passed + at);
         }
         passed += 16;
-        rest = behind;
+        rest = after;
     }
     Some(passed + line_feed_in(rest)?)
 }
@@ -93,7 +93,7 @@ fn line_feed_in(bytes: &[u8]) -> Option<usize>
 /// The words of a line, first to last.
 #[derive(Drop)]
 pub struct Words<'a> {
-    /// The line behind the words returned so far.
+    /// The line after the words returned so far.
     pub rest: &'a [u8],
 }
 
@@ -155,12 +155,12 @@ fn blank_at(text: &[u8]) -> Option<usize>
 {
     let mut passed = 0;
     let mut rest = text;
-    while let Some((block, behind)) = rest.split_first_chunk::<8>() {
+    while let Some((block, after)) = rest.split_first_chunk::<8>() {
         if let Some(at) = blank_among(block) {
             return Some(passed + at);
         }
         passed += 8;
-        rest = behind;
+        rest = after;
     }
     Some(passed + blank_in(rest)?)
 }

@@ -77,8 +77,14 @@ fn skips_elements(rt: HostRuntime) -> Result<(), Fail> {
         (usize::MAX, None, None, 0),
     ] {
         let (mut forth, mut back) = (array.iter(), array.iter());
-        assert!(rt; forth.nth(n) == first && forth.as_array().len() == left, "{n}");
-        assert!(rt; back.nth_back(n) == last && back.as_array().len() == left, "{n}");
+        assert!(rt;
+            forth.nth(n) == first && forth.as_array().len() == left,
+            "{n}"
+        );
+        assert!(rt;
+            back.nth_back(n) == last && back.as_array().len() == left,
+            "{n}"
+        );
     }
     let mut iter = array.iter();
     assert!(rt; iter.nth(1) == Some(2) && iter.as_array().as_bytes() == [0, 3].as_slice());

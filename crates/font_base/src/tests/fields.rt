@@ -125,7 +125,7 @@ fn header_in_front_of_a_table(rt: HostRuntime) -> Result<(), Fail> {
 }
 
 #[test]
-fn table_split_behind_its_header(rt: HostRuntime) -> Result<(), Fail> {
+fn table_split_after_its_header(rt: HostRuntime) -> Result<(), Fail> {
     let bytes = [0x00, 0x01, 0x00, 0x00, 0x00, 0x02, 0xFF, 0xFE];
     for len in 6..9 {
         let table = TableDataRef::<SampleHeader>::new(&bytes[..len]).ok_or("long enough")?;
@@ -140,7 +140,7 @@ fn table_split_behind_its_header(rt: HostRuntime) -> Result<(), Fail> {
 }
 
 #[test]
-fn header_behind_a_cut(rt: HostRuntime) -> Result<(), Fail> {
+fn header_after_a_cut(rt: HostRuntime) -> Result<(), Fail> {
     let bytes = [0xFF, 0x00, 0x03, 0x00, 0x00, 0x00, 0x04];
     let header = TableDataRef::<SampleHeader>::new(&bytes[1..])
         .ok_or("long enough")?
@@ -156,7 +156,7 @@ fn header_wants_its_length(rt: HostRuntime) {
     assert!(rt; TableDataRef::<SampleHeader>::new(&bytes).is_some());
 }
 
-/// A header of no fields, which stands in no bytes.
+/// A header of no fields, and no bytes.
 #[derive(Drop)]
 struct EmptyHeader;
 

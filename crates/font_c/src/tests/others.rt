@@ -49,7 +49,7 @@ fn vectors_and_arrays(rt: HostRuntime) {
 }
 
 #[test]
-fn a_turn_behind_a_stretch(rt: HostRuntime) {
+fn a_turn_after_a_stretch(rt: HostRuntime) {
     // the point is (3, 1/2): stretched (7, 1/2), and then turned (1/2, 9); turned (1/2, 5), and
     // then stretched (2, 5)
     let stretch = FontMatrix {

@@ -136,7 +136,7 @@ fn parts(rt: HostRuntime) {
     assert!(rt; parts.map(F48Dot16::to_bits) == [-0x2_0000, 0x7FFF, 0x1_8001]);
 }
 
-// The sums and differences that are assigned stand in `ends.rt`.
+// `+=` and `-=` are tested in `ends.rt`.
 #[test]
 fn assigning(rt: HostRuntime) {
     for &(x, y, product, quotient) in &[

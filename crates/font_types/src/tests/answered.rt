@@ -29,7 +29,7 @@ fn numbers(alloc: Global) -> Result<Vec<u16>, AllocError>
     NameId::predefined().map(NameId::to_u16).collect(alloc)
 }
 
-// What stands in a cell, without the spaces in front.
+// The text of a cell, without the spaces in front.
 fn text_of_cell(cell: &str) -> &str
     ensures { (number : Fixed) (pad : Pad) → FitsBits 32 (fixed_bits number)
         → pad.fill ≡ 32 → pad.align ≡ Align.Right → pad.plus ≡ false → pad.zeros ≡ false
@@ -38,7 +38,7 @@ fn text_of_cell(cell: &str) -> &str
     cell.trim_start()
 }
 
-// The number that stands in a cell.
+// The number of a cell.
 fn number_of_cell(cell: &str) -> Result<Fixed, DecimalFault>
     ensures { (number : Fixed) (pad : Pad) → FitsBits 32 (fixed_bits number)
         → pad.fill ≡ 32 → pad.align ≡ Align.Right → pad.plus ≡ false → pad.zeros ≡ false

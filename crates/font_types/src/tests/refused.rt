@@ -32,8 +32,7 @@ fn faults_in_numbers(rt: HostRuntime) {
     assert!(rt; JsonFault::MissingMember as u8 == 7);
 }
 
-// A fault is copied by `clone`, compared, shown and told as an error, and has no order, hash or
-// default.
+// A fault is `Clone`, `Eq`, `Debug`, `Display` and an `Error`, and has no order, hash or default.
 fn is_error<F: Clone + Eq + fmt::Debug + Error + Drop>(fault: F, other: F) -> bool {
     match fault.clone() {
         Ok(copy) => copy == fault && fault != other,

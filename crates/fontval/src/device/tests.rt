@@ -6,7 +6,7 @@ use super::{FromRead, FromWrite, Sink, Source};
 use std::io;
 use std::io::{ErrorKind, Read, Write};
 
-/// A device whose first call is interrupted. Those behind it pass, and move what they can.
+/// A device whose first call is interrupted. Those after it pass, and move what they can.
 #[derive(Drop)]
 struct InterruptedOnce {
     calls: usize,

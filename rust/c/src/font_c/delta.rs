@@ -32,8 +32,8 @@ pub unsafe extern "C" fn font_ufword_apply_delta(base: u16, delta: i64, moved: &
     )
 }
 
-/// Adds a delta in units of `2^-32` to a 16.16 value: 0 and the result in those units in `moved`, or
-/// 2 on overflow.
+/// Adds a delta in units of `2^-32` to a 16.16 value: 0 and the result in those units in `moved`,
+/// or 2 on overflow.
 #[unsafe(no_mangle)]
 pub unsafe extern "C" fn font_fixed_apply_delta(base: i32, delta: i64, moved: &mut i64) -> u32 {
     store(
@@ -63,8 +63,8 @@ pub unsafe extern "C" fn font_fword_round(bits: i64, units: &mut i16) -> u32 {
     SUMMED
 }
 
-/// Rounds a 48.16 value to the nearest unsigned font unit, half up: 0 and the result in `units`, or 2
-/// if it is out of range.
+/// Rounds a 48.16 value to the nearest unsigned font unit, half up: 0 and the result in `units`, or
+/// 2 if it is out of range.
 #[unsafe(no_mangle)]
 pub unsafe extern "C" fn font_ufword_round(bits: i64, units: &mut u16) -> u32 {
     let Some(nearest) = UfWord::round_steps(i128::from(bits)) else {

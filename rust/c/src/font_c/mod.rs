@@ -2,9 +2,10 @@
 
 //! The library for C: fixed-point numbers, matrices, fields, tags and sums of deltas.
 //!
-//! Exports have no preconditions, because C callers are not checked. An export that fails leaves all
-//! memory unchanged, except that `font_tag_validate` writes the index of the invalid byte. Nothing is
-//! kept between calls, and nothing is allocated. `include/font_types.h` declares the exports.
+//! Exports have no preconditions, because C callers are not checked. An export that fails leaves
+//! all memory unchanged, except that `font_tag_validate` writes the index of the invalid byte.
+//! Nothing is kept between calls, and nothing is allocated. `include/font_types.h` declares the
+//! exports.
 
 mod delta;
 mod delta_set;

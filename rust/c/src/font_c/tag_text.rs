@@ -38,7 +38,7 @@ impl TagText {
         }
     }
 
-    // Puts what a byte is shown as behind the text.
+    // Appends what a byte is shown as.
     fn push(&mut self, byte: u8) {
         match byte {
             0x20..=0x7E => self.put(&[byte]),
@@ -53,7 +53,7 @@ impl TagText {
         }
     }
 
-    // Puts bytes behind the text.
+    // Appends bytes.
     fn put(&mut self, bytes: &[u8]) {
         let end = self.len + bytes.len();
         self.bytes[self.len..end].copy_from_slice(bytes);

@@ -76,7 +76,8 @@ pub fn put_padded(bits: i64, f: u32, pad: &FontPad, out: &mut [u8]) -> usize {
     }
 }
 
-// Writes a padded decimal to the start of `out`, and returns its length, or 0 if `out` is too short.
+// Writes a padded decimal to the start of `out`, and returns its length, or 0 if `out` is too
+// short.
 fn put_padded_text(text: &str, pad: &Pad, out: &mut [u8]) -> usize {
     match crate::font_types::write_padded(text, out, pad) {
         Some(len) => len,

@@ -6,7 +6,7 @@ use crate::rattle::simd::prelude::*;
 
 /// The lines of an input, first to last, each without its line feed. The last line may lack one.
 pub struct Lines<'a> {
-    /// The input behind the lines returned so far.
+    /// The input after the lines returned so far.
     pub rest: &'a [u8],
 }
 
@@ -43,12 +43,12 @@ fn split_line(input: &[u8]) -> (&[u8], &[u8]) {
 fn line_feed_at(input: &[u8]) -> Option<usize> {
     let mut passed = 0;
     let mut rest = input;
-    while let Some((block, behind)) = rest.split_first_chunk::<16>() {
+    while let Some((block, after)) = rest.split_first_chunk::<16>() {
         if let Some(at) = line_feed_among(block) {
             return Some(passed + at);
         }
         passed += 16;
-        rest = behind;
+        rest = after;
     }
     Some(passed + line_feed_in(rest)?)
 }
@@ -71,7 +71,7 @@ fn line_feed_in(bytes: &[u8]) -> Option<usize> {
 
 /// The words of a line, first to last.
 pub struct Words<'a> {
-    /// The line behind the words returned so far.
+    /// The line after the words returned so far.
     pub rest: &'a [u8],
 }
 
@@ -115,12 +115,12 @@ fn split_word(text: &[u8]) -> (&[u8], &[u8]) {
 fn blank_at(text: &[u8]) -> Option<usize> {
     let mut passed = 0;
     let mut rest = text;
-    while let Some((block, behind)) = rest.split_first_chunk::<8>() {
+    while let Some((block, after)) = rest.split_first_chunk::<8>() {
         if let Some(at) = blank_among(block) {
             return Some(passed + at);
         }
         passed += 8;
-        rest = behind;
+        rest = after;
     }
     Some(passed + blank_in(rest)?)
 }

@@ -14,11 +14,11 @@ whole_digits-whole-requires c =
     (omega (arith, c.requires)) in
     rw (one_shl (63 - c.args.f) 64 (omega arith)) (omega arith)
 
-pub returns-in_err-behind_point-clause-none : goal.returns-in_err-behind_point-clause-none
-returns-in_err-behind_point-clause-none c =
+pub returns-in_err-after_point-clause-none : goal.returns-in_err-after_point-clause-none
+returns-in_err-after_point-clause-none c =
     let whole = c.whole_digits-whole in
     rw c.from_residual.ensures
-    (λ w e parts. c.in_err-behind_point.ensures e (take_rest c.args.digits.now whole.result.1
+    (λ w e parts. c.in_err-after_point.ensures e (take_rest c.args.digits.now whole.result.1
     ∙ fraction_found whole.result.1 parts whole.ensures.digits whole.ensures.within whole.ensures.end))
 
 pub returns-in_err-half_steps-clause-none : goal.returns-in_err-half_steps-clause-none
@@ -27,7 +27,7 @@ returns-in_err-half_steps-clause-none c =
     rw c.from_residual-in_err-half_steps.ensures (λ w e parts.
     let same = same_point _ _
     (sym (fraction_found whole.result.1 parts whole.ensures.digits whole.ensures.within whole.ensures.end)
-    ∙ sym (take_rest c.args.digits.now whole.result.1) ∙ c.in_ok-behind_point.ensures) in
+    ∙ sym (take_rest c.args.digits.now whole.result.1) ∙ c.in_ok-after_point.ensures) in
     c.in_err-half_steps.ensures (rw same at parts.fraction_digits))
 
 fit : (c : goal.In_ok-half_steps) → StepsFit c.args.f c.whole_digits-whole.result.0 c.in_ok-half_steps.half_steps
@@ -46,7 +46,7 @@ returns-clause-some c =
     let whole = c.whole_digits-whole in
     let digits = c.args.digits.now in
     let halves = c.in_ok-half_steps.ensures in
-    let rest = sym (take_rest digits whole.result.1) ∙ c.in_ok-behind_point.ensures in
+    let rest = sym (take_rest digits whole.result.1) ∙ c.in_ok-after_point.ensures in
     let cap = rw (one_shl (63 - c.args.f) 64 (omega arith)) at whole.ensures.number in
     rw (fit c).shifted (
       _,

@@ -8,8 +8,8 @@ use Rattle.font_arithmetic.proofs.Shifts.{shr_low, shr_high, shr_fits}
 use Rattle.font_fixed2.proofs.f2dot30.F2Dot30.to_fixed.Goals as goal
 
 halves_up : (n : ℤ) → SFits w32 n
-    → to_z w32 (of_z w32 (shr_z (to_z w32 (of_z w32 (to_z w32 (of_z w32 (shr_z (to_z w32 (of_z w32 n)) 8192)) +ℤ pos 1))) 2))
-    ≡ up n 16384
+    → to_z w32 (of_z w32 (shr_z (to_z w32 (of_z w32
+    (to_z w32 (of_z w32 (shr_z (to_z w32 (of_z w32 n)) 8192)) +ℤ pos 1))) 2)) ≡ up n 16384
 halves_up n fits =
     let halves = shr_z n 8192 in
     let low = shr_low n 8192 (lit< tt) in

@@ -17,10 +17,10 @@ returns c =
     let rest = c.unwrap.result.1.now in
     let last = c.unwrap-2.result.1.now in
     let a : take 6 c.args.numbers ≡ elements_of c.from_elements.result = search rules in
-    let behind : drop 6 c.args.numbers ≡ rest = search rules in
+    let after : drop 6 c.args.numbers ≡ rest = search rules in
     let b : take 6 rest ≡ elements_of c.from_elements-2.result = search rules in
     let end : drop 6 rest ≡ last = search rules in
     let two : length last ≡ 2 = search rules in
     let p : last ≡ c.new.result.x ∷ c.new.result.y ∷ [] = just_two last (fixed_of (pos 0)) two ∙ search rules in
-    sym (take-append-drop 6 c.args.numbers) ∙ rw (a, behind)
+    sym (take-append-drop 6 c.args.numbers) ∙ rw (a, after)
     (ap (λ more. elements_of c.from_elements.result ++ more) (sym (take-append-drop 6 rest) ∙ rw (b, end, p) refl))

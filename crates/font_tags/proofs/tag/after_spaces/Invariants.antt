@@ -1,5 +1,5 @@
 use Rattle.std.proofs.Common.{◌≡◌, ◌-◌, ◌<◌, ◌≤◌, ℕ, slice_index, length}
-use Rattle.font_tags.proofs.tag.behind_spaces.Given as goal
+use Rattle.font_tags.proofs.tag.after_spaces.Given as goal
 
 abbrev pub invariant-loop-pos : goal.invariant-loop-pos
 invariant-loop-pos l = record {
