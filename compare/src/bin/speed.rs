@@ -104,42 +104,23 @@ macro_rules! sides {
     };
 }
 
-/// The crates, each with a reader of decimals, and calls on the first elements of the table, which
-/// there are a slice of fields.
+/// The crates, each with a sorted table, what an element of it is, and a reader of decimals.
 mod sides {
     pub mod here {
         use crate::Inputs;
         pub use font_types_proved::*;
         use std::hint::black_box;
 
-        pub fn search(inputs: &Inputs, table: usize, key: u16) -> Result<usize, usize> {
-            black_box(inputs.arrays[table]).binary_search(&key)
+        pub fn table(inputs: &Inputs, n: usize) -> ScalarArray<'static, u16> {
+            black_box(inputs.arrays[n])
         }
 
-        pub fn summed(inputs: &Inputs) -> u32 {
-            black_box(inputs.arrays[1]).iter().map(u32::from).sum()
-        }
-
-        pub fn summed_by_get(inputs: &Inputs) -> u32 {
-            let array = black_box(inputs.arrays[1]);
-            (0..512).map(|n| array.get(n).map_or(0, u32::from)).sum()
-        }
-
-        pub fn elements(inputs: &Inputs) -> ScalarArrayIter<'static, u16> {
-            black_box(inputs.arrays[2]).iter()
+        pub fn get(element: u16) -> u16 {
+            element
         }
 
         pub fn collected(inputs: &Inputs) -> Vec<u16> {
-            elements(inputs).collect()
-        }
-
-        pub fn both_ends(inputs: &Inputs) -> [Option<u16>; 2] {
-            let array = black_box(inputs.arrays[2]);
-            [array.first(), array.last()]
-        }
-
-        pub fn value(element: u16) -> u32 {
-            element.into()
+            table(inputs, 2).iter().collect()
         }
 
         pub fn read(text: &str) -> i32 {
@@ -152,37 +133,16 @@ mod sides {
         pub use font_types::*;
         use std::hint::black_box;
 
-        pub fn search(inputs: &Inputs, table: usize, key: u16) -> Result<usize, usize> {
-            black_box(inputs.slices[table]).binary_search_by_key(&key, BigEndian::get)
+        pub fn table(inputs: &Inputs, n: usize) -> &'static [BigEndian<u16>] {
+            black_box(inputs.slices[n])
         }
 
-        pub fn summed(inputs: &Inputs) -> u32 {
-            let fields = black_box(inputs.slices[1]).iter();
-            fields.map(|field| u32::from(field.get())).sum()
-        }
-
-        pub fn summed_by_get(inputs: &Inputs) -> u32 {
-            let fields = black_box(inputs.slices[1]);
-            (0..512)
-                .map(|n| fields.get(n).map_or(0, |field| field.get().into()))
-                .sum()
-        }
-
-        pub fn elements(inputs: &Inputs) -> std::slice::Iter<'static, BigEndian<u16>> {
-            black_box(inputs.slices[2]).iter()
+        pub fn get(field: &BigEndian<u16>) -> u16 {
+            field.get()
         }
 
         pub fn collected(inputs: &Inputs) -> Vec<u16> {
-            elements(inputs).map(BigEndian::get).collect()
-        }
-
-        pub fn both_ends(inputs: &Inputs) -> [Option<u16>; 2] {
-            let fields = black_box(inputs.slices[2]);
-            [fields.first(), fields.last()].map(|field| field.map(BigEndian::get))
-        }
-
-        pub fn value(field: &BigEndian<u16>) -> u32 {
-            field.get().into()
+            table(inputs, 2).iter().map(get).collect()
         }
 
         pub fn read(text: &str) -> i32 {
@@ -236,22 +196,38 @@ sides! {
         let wanted = BigEndian::from(black_box(i.bits[n][13]) as u32);
         black_box(&fields).iter().position(|field| *field == wanted)
     };
-    search_64(i, n) "a search in 64 elements" search(i, 0, key(i, n) >> 6);
-    search_512(i, n) "a search in 512 elements" search(i, 1, key(i, n) >> 3);
-    search_4096(i, n) "a search in 4096 elements" search(i, 2, key(i, n));
-    scan(i, _n) "512 elements, summed" summed(i);
-    scan_by_get(i, _n) "512 elements, summed by get" summed_by_get(i);
+    search_64(i, n) "a search in 64 elements" {
+        table(i, 0).binary_search_by_key(&(key(i, n) >> 6), get)
+    };
+    search_512(i, n) "a search in 512 elements" {
+        table(i, 1).binary_search_by_key(&(key(i, n) >> 3), get)
+    };
+    search_4096(i, n) "a search in 4096 elements" {
+        table(i, 2).binary_search_by_key(&key(i, n), get)
+    };
+    scan(i, _n) "512 elements, summed" table(i, 1).iter().map(get).map(u32::from).sum::<u32>();
+    scan_by_get(i, _n) "512 elements, summed by get" {
+        let table = table(i, 1);
+        (0..512).map(|n| table.get(n).map_or(0, get)).map(u32::from).sum::<u32>()
+    };
     scan_for(i, _n) "4096 elements, in a loop" {
         let mut sum = 0;
-        for element in elements(i) {
-            sum += value(element);
+        for element in table(i, 2).iter() {
+            sum += u32::from(get(element));
         }
         sum
     };
-    skips(i, _n) "each 100th of 4096 elements" elements(i).step_by(100).map(value).sum::<u32>();
-    skips_back(i, _n) "each 100th, from the back" elements(i).rev().step_by(100).map(value).sum::<u32>();
+    skips(i, _n) "each 100th of 4096 elements" {
+        table(i, 2).iter().step_by(100).map(get).map(u32::from).sum::<u32>()
+    };
+    skips_back(i, _n) "each 100th, from the back" {
+        table(i, 2).iter().rev().step_by(100).map(get).map(u32::from).sum::<u32>()
+    };
     collect(i, _n) "4096 elements, collected" collected(i);
-    ends(i, _n) "the first and the last element" both_ends(i);
+    ends(i, _n) "the first and the last element" {
+        let table = table(i, 2);
+        [table.first().map(get), table.last().map(get)]
+    };
     predefined(_i, _n) "NameId::predefined, summed" {
         NameId::predefined().map(|id| u32::from(black_box(id).to_u16())).sum::<u32>()
     };
