@@ -132,7 +132,6 @@ impl Uint24 {
     #[must_use]
     #[inline]
     pub const fn from_be_bytes(bytes: [u8; 3]) -> Uint24 {
-        let bytes = &bytes;
         let value = bytes[0] as u32 * 0x1_0000 + bytes[1] as u32 * 0x100 + bytes[2] as u32;
         Uint24 { value }
     }

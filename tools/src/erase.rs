@@ -7,8 +7,8 @@
 //! - `#[tactic(..)]`, `#[cfg(test)] mod tests;`, and the bound `+ Drop`;
 //! - `Drop` and `Error` in a `derive(..)`, and `#[error(..)]`;
 //! - `use thiserror::Error;`, and `use std::alloc::AllocError;` in the library;
-//! - modules that need Rattle's libraries, and what is imported from them;
-//! - what only a proof uses: a `let _name` of a slice, and the identity function `each_is_byte`;
+//! - modules of facts or that need Rattle's libraries, and what is imported from them;
+//! - what only a proof uses: a `let _name` of a slice or of a fact;
 //! - the comments above a clause or an item that is left out.
 //!
 //! These are changed, and nothing else:
@@ -67,9 +67,6 @@ const PRELUDE: [&str; 4] = ["HostRuntime", "String", "Vec", "hex"];
 
 /// Modules of `std` that Rattle has in another form than Rust. The program has its own.
 const RATTLE_STD: [&str; 3] = ["alloc", "io", "simd"];
-
-/// Returns a slice of bytes unchanged; its contract says that each element is below 256.
-const IDENTITY: &str = "each_is_byte";
 
 /// The function that is `const` in Rust alone: it calls functions of std that are not in Rattle.
 const CONSTANT: &str = "new_checked";
@@ -180,7 +177,6 @@ impl<'a> Eraser<'a> {
                 Ok(at + 1)
             }
             ["let", name, ..] if name.starts_with('_') && name.len() > 1 => self.unused(at),
-            [IDENTITY, ..] => self.identity(at),
             ["Formatter", "<", "W", ">", ..] => Ok(self.replace(at + 2, "'_")),
             ["trait", ..] => {
                 self.impl_start = None;
@@ -345,7 +341,6 @@ impl<'a> Eraser<'a> {
         }
         self.assert_length(at)?;
         match self.words[at + 1..] {
-            [IDENTITY, ..] => self.leave_out_identity(at),
             [_, "<", "W", ":", "fmt", "::", "Write", ">", ..] => Ok(self.leave_out(at + 2..at + 9)),
             ["clone", "(", "&", "self", ")", "-", ">", "Result", "<", ..] => self.clone_of_copy(at),
             _ => Ok(at + 2),
@@ -431,41 +426,15 @@ impl<'a> Eraser<'a> {
         Ok(at + 10)
     }
 
-    // `let _name = x.as_slice();`
+    // `let _name = x.as_slice();` or `let _name = each_is_byte(x);`
     fn unused(&mut self, at: usize) -> Result<usize, Error> {
         let end = self.item_end(at)?;
         let item = &self.words[at..end];
-        if !item.contains(&"as_slice") || item.contains(&"?") {
-            return self.error(at, "a `let _name` of something else than a slice");
+        let is_fact = |word: &&str| matches!(*word, "as_slice" | "each_is_byte");
+        if !item.iter().any(is_fact) || item.contains(&"?") {
+            return self.error(at, "a `let _name` of something else than a slice or a fact");
         }
         Ok(self.leave_out_with_comments(at..end))
-    }
-
-    // The identity function, which has to be one.
-    fn leave_out_identity(&mut self, at: usize) -> Result<usize, Error> {
-        let (_, body) = self.clauses(at + 2)?;
-        let is_identity = |body: &usize| self.words[*body..].starts_with(&["{", "slice", "}"]);
-        let Some(body) = body.filter(is_identity) else {
-            return self.error(at, "another body than its argument");
-        };
-        let mut start = at;
-        while !matches!(self.words[..start], [] | [.., "}" | ";"]) {
-            start -= 1;
-        }
-        Ok(self.leave_out_with_comments(start..body + 3))
-    }
-
-    // A call of the identity function, or its name in an import.
-    fn identity(&mut self, at: usize) -> Result<usize, Error> {
-        match self.words[at - 1..] {
-            [",", _, "}", ..] => Ok(self.leave_out(at - 1..at + 1)),
-            [_, _, "(", ..] => {
-                let end = self.group_end(at + 1)?;
-                self.leave_out(end - 1..end);
-                Ok(self.leave_out(at..at + 2))
-            }
-            _ => self.error(at, "the identity function elsewhere than in a call"),
-        }
     }
 
     // ---- contracts in documentation

@@ -87,8 +87,8 @@ fn clone(&self) -> Result<S<T, U>, AllocError> { Ok(S(1)) } => fn clone(&self) -
 trait T<Rhs>: Sized {} => trait T<Rhs = Self>: Sized {}
 fn f<T: A + Drop>() {} => fn f<T: A >() {}
 fn f() {¶// A.¶let _bytes = x.as_slice();¶x } => fn f() {¶x }
-use a::{A, each_is_byte};¶fn f() { each_is_byte(&x[0]) + 1 } => use a::{A};¶fn f() { &x[0] + 1 }
-// A.¶#[inline]¶fn each_is_byte(slice: &[u8]) -> &[u8] ensures { a } { slice }¶fn g() {} => fn g() {}
+fn f() {¶let _bytes = each_is_byte(x);¶x } => fn f() {¶x }
+impl A for I {¶fn next() {}¶}¶¶impl I {¶ghost use B;¶/// D.¶pub fn nth() {}¶} => impl A for I {¶fn next() {}¶¶/// D.¶fn nth() {}¶}
 pub fn new_checked() {}¶pub(crate) const fn g() {} => pub const fn new_checked() {}¶pub(crate) const fn g() {}
 fn new(a: A) -> BigEndian<T> { a } => fn new(a: A) -> BigEndian<T> { const { assert!(T::RAW_BYTE_LEN == <T::Raw as crate::font_base::BeByteArray>::LEN) }; a }
 "#;
@@ -166,8 +166,7 @@ fn clone(&self) -> Result<S, AllocError> { S } => 1 a `clone` of another form
 fn clone(&self) -> Result<S, AllocError> { Ok(S)?; Ok(S) } => 1 of another body
 fn f() {¶let _a = g(); } => 2 than a slice
 fn f() {¶let _a = g()?.as_slice(); } => 2 than a slice
-fn each_is_byte(slice: &[u8]) -> &[u8] { &slice[1..] } => 1 another body
-fn f() { g(each_is_byte) } => 1 elsewhere than in a call
+pub fn nth_back() {} => 1 with no `impl` before
 a¶b /* c */ => 2 a comment in
 "a¶ => 1 a text that does not end
 c"a" => 1 before a quote

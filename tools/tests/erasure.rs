@@ -24,11 +24,13 @@ const CHANGES: [(&str, &str); 9] = [
 ];
 
 /// What is left out beside clauses, ghost items, attributes of proofs, and the results of `clone`.
-const LEFT_OUT: [&str; 6] = [
+const LEFT_OUT: [&str; 8] = [
     "#[cfg(test)] mod tests;",
+    "mod facts;",
     "mod json;",
     "+ Drop",
     "<W: fmt::Write>",
+    "let _bytes = each_is_byte(self);",
     "let _bytes = raw.as_slice();",
     "let _bytes = font_base::BeByteArray::as_slice(&self.0);",
 ];
@@ -79,15 +81,6 @@ fn kept<'a>(mut t: &[&'a str]) -> Vec<&'a str> {
             }
             ["#", "!", "[", "tactic", ..] => 2 + group(&t[2..]),
             ["#", "[", "tactic" | "error" | "derive", ..] => 1 + group(&t[1..]),
-            // The identity function, and calls of it.
-            ["each_is_byte", "(", "slice", ":", ..] => {
-                kept.truncate(kept.len() - 10);
-                1 + t.windows(2).position(|t| t == ["slice", "}"]).unwrap() + 1
-            }
-            ["each_is_byte", "(", ..] => {
-                kept.extend(&t[2..group(rest)]);
-                1 + group(rest)
-            }
             // The result of `clone`.
             ["Result", "<", ..] if function == "clone" => 2,
             [",", "AllocError", ">", "{", "Ok", "(", ..] if function == "clone" => {

@@ -1,12 +1,14 @@
 -- The integers of 24 bits and the four bytes of std's integers of 32 bits.
 use Rattle.std.proofs.Common.{◌≡◌, ◌∙◌, sym, ap, refl, subst, ℕ, ◌+◌, ◌*◌, ℤ, pos, ◌*ℤ◌, neg_ℤ, List, ◌^◌, ◌<◌, lit<}
 use Rattle.std.proofs.Common.{[], ◌∷◌, length, get_or, arith, IsTrue, SFits, to_z, of_z}
+use Rattle.std.proofs.Common.{lt-ltb}
 use Rattle.std.proofs.lemmas.Int.{ints, to_z-of_z}
+use Rattle.std.specs.Cmp.Derive.{both_true}
 use Rattle.std.specs.Int.{w32, to_be_bytes}
 use Rattle.font_base.specs.Bytes.{numeral, signed_numeral, are_bytes, bytes_of, IsBytesOf}
 use Rattle.font_base.specs.Wrap.{FitsBits}
 use Rattle.font_base.proofs.StdBytes.{turns_of, of_z-turned}
-use Rattle.font_base.specs.Bytes.Laws.{are_bytes-length, IsBytesOf-numeral, IsBytesOf-high_first, IsBytesOf-apart}
+use Rattle.font_base.specs.Bytes.Laws.{IsBytesOf-numeral, IsBytesOf-high_first, IsBytesOf-apart}
 use Rattle.font_base.specs.Bytes.Laws.{numeral-bytes_of, signed_numeral-bytes_of}
 
 -- the last three of the four bytes of a number
@@ -23,23 +25,18 @@ last_three_signed z bytes fits is =
     (omega (arith, ints, of_z-turned w32 z fits))
     (last_three (of_z w32 z) bytes (is ∙ ap (λ y. to_be_bytes w32 (of_z w32 y)) (to_z-of_z w32 z fits)))
 
--- a list of three is its elements
-three : (bytes : List ℕ) → length bytes ≡ 3 → bytes ≡ get_or bytes 0 0 ∷ get_or bytes 1 0 ∷ get_or bytes 2 0 ∷ []
-three [] many = absurd (omega arith)
-three (a ∷ []) many = absurd (omega arith)
-three (a ∷ b ∷ []) many = absurd (omega arith)
-three (a ∷ b ∷ c ∷ []) many = refl
-three (a ∷ b ∷ c ∷ d ∷ rest) many = absurd (omega arith)
-
--- the number of three bytes, read from a slice of them
-pub from_three : (bytes slice : List ℕ) (a b c : ℕ) → IsTrue (are_bytes 3 bytes) → slice ≡ bytes
-    → a ≡ get_or slice 0 0 → b ≡ get_or slice 1 0 → c ≡ get_or slice 2 0
-    → IsBytesOf 3 (pos (a * 65536 + b * 256 + c)) bytes
-from_three bytes slice a b c are same first second third =
-    let list : slice ≡ a ∷ b ∷ c ∷ [] = rw (first, second, third)
-    (three slice (ap length same ∙ are_bytes-length 3 bytes are)) in
-    let number : numeral bytes ≡ a * 65536 + b * 256 + c = ap numeral (sym same) ∙ rw list (omega arith) in
-    subst (λ (n : ℕ). IsBytesOf 3 (pos n) bytes) number (IsBytesOf-numeral 3 bytes are)
+-- the number of three bytes
+pub from_three : (bytes : List ℕ) → length bytes ≡ 3
+    → get_or bytes 0 0 < 256 → get_or bytes 1 0 < 256 → get_or bytes 2 0 < 256
+    → IsBytesOf 3 (pos (get_or bytes 0 0 * 65536 + get_or bytes 1 0 * 256 + get_or bytes 2 0)) bytes
+from_three [] many first second third = absurd (omega arith)
+from_three (a ∷ []) many first second third = absurd (omega arith)
+from_three (a ∷ b ∷ []) many first second third = absurd (omega arith)
+from_three (a ∷ b ∷ c ∷ []) many first second third =
+    let number : numeral (a ∷ b ∷ c ∷ []) ≡ a * 65536 + b * 256 + c = omega arith in
+    let are = both_true (lt-ltb a 256 first) (both_true (lt-ltb b 256 second) (both_true (lt-ltb c 256 third) refl)) in
+    subst (λ (n : ℕ). IsBytesOf 3 (pos n) (a ∷ b ∷ c ∷ [])) number (IsBytesOf-numeral 3 _ are)
+from_three (a ∷ b ∷ c ∷ d ∷ rest) many first second third = absurd (omega arith)
 
 -- an unsigned number of three bytes is their numeral
 pub uint24_numeral : (n : ℕ) (bytes : List ℕ) → n < 2 ^ 24 → bytes ≡ bytes_of 3 (pos n) → n ≡ numeral bytes

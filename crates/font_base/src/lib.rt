@@ -9,6 +9,7 @@
 
 mod array;
 mod big_endian;
+mod facts;
 mod int24;
 mod raw;
 mod table_data;

@@ -12,6 +12,8 @@ ghost use Rattle.font_base.specs.Bytes.{are_bytes, numeral, bytes_of, signed_num
 ghost use Rattle.font_base.specs.Scalar.{ScalarLaws, IsValueOf};
 ghost use Rattle.font_base.specs.Scalar.Laws.{unsigned_laws, signed_laws};
 
+use crate::facts::each_is_byte;
+
 /// A fixed-size big-endian byte array.
 ///
 /// # Laws
@@ -64,15 +66,6 @@ pub trait BeByteArray: Copy {
         → a ≡ b };
 }
 
-// Returns the slice itself; its contract adds that every element is below 256.
-#[inline]
-pub(crate) const fn each_is_byte(slice: &[u8]) -> &[u8]
-    ensures same { result.now ≡ slice.now }
-    ensures bytes { IsTrue (are_bytes (length slice.now) slice.now) }
-{
-    slice
-}
-
 impl<const N: usize> BeByteArray for [u8; N] {
     const LEN: usize = N;
 
@@ -91,7 +84,8 @@ impl<const N: usize> BeByteArray for [u8; N] {
     }
 
     fn as_slice(&self) -> &[u8] {
-        each_is_byte(self)
+        let _bytes = each_is_byte(self);
+        self
     }
 
     fn eq_array(&self, other: &[u8; N]) -> bool {

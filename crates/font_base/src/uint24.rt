@@ -4,7 +4,7 @@ ghost use Rattle.std.specs.Prelude.{◌≡◌, ◌≤◌, ◌<◌, ◌^◌, ◌�
 ghost use Rattle.std.specs.Prelude.{MatchResult};
 ghost use Rattle.std.specs.Fmt.{decimal};
 
-use crate::raw::{FixedSize, IdentityEq, Scalar, each_is_byte};
+use crate::raw::{FixedSize, IdentityEq, Scalar};
 use std::fmt;
 use thiserror::Error;
 
@@ -84,7 +84,6 @@ impl Uint24 {
         ensures bytes { bytes ≡ bytes_of 3 (pos (uint24_number result)) }
         ensures number { uint24_number result ≡ numeral bytes }
     {
-        let bytes = each_is_byte(&bytes);
         let value = bytes[0] as u32 * 0x1_0000 + bytes[1] as u32 * 0x100 + bytes[2] as u32;
         Uint24 { value }
     }

@@ -6,10 +6,10 @@ use std::collections::BTreeMap;
 use std::io::Write;
 use std::process::{Command, Stdio};
 
-/// The crates of the library, lowest first, and of each the modules that need Rattle's libraries.
+/// The crates of the library, lowest first, and of each the modules that are left out.
 pub const LIBRARY: [(&str, &[&str]); 10] = [
     ("font_decimal", &[]),
-    ("font_base", &[]),
+    ("font_base", &["facts"]),
     ("font_arithmetic", &[]),
     ("font_f26", &[]),
     ("font_fixed", &[]),
