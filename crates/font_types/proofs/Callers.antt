@@ -7,7 +7,7 @@ use Rattle.font_tags.proofs.TagLaws.{tag_calls}
 use Rattle.font_tags.proofs.VersionLaws.{compatible_calls}
 use Rattle.font_geom.proofs.Bounds.{bound_calls}
 use Rattle.font_types.proofs.Searches.{search_calls}
-use Rattle.font_types.proofs.SumCalls.{sum_calls_from, sum_calls_16, delta_sum_calls}
+use Rattle.font_types.proofs.SumCalls.{sum_calls_from, sum_calls_16, sum_calls_32, delta_sum_calls}
 use Rattle.font_types.proofs.StoredBytes.{stored_calls}
 use Rattle.font_types.proofs.ShortProducts.{short_product_calls}
 pub use Rattle.font_base.proofs.ScalarCalls.{absent, nowhere, rises_by}
@@ -46,6 +46,7 @@ pub ruleset calls = (
   quarter_neg_one,
   sum_calls_from,
   sum_calls_16,
+  sum_calls_32,
   delta_sum_calls,
   short_product_calls,
   bound_calls,

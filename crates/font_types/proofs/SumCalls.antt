@@ -96,6 +96,17 @@ pub sum_onto_16 : (m : ℕ) (y : ℤ) → m < 65536 → SFits w16 y
     → to_z w16 ((m + of_z w16 y) % 65536) ≡ wrap 16 (to_z w16 m +ℤ y)
 sum_onto_16 m y below fits = wrapping_add_onto w16 m y below fits ∙ int_wrap-wrap w16 (to_z w16 m +ℤ y)
 
+-- the same of 32 bits
+pub none_32 : wrap 32 (pos 0) ≡ pos 0
+none_32 = wrap-fits 32 (pos 0) (lit< tt) (record { low = omega (arith, ints); high = omega (arith, ints) })
+
+pub running_32 : IsRunning 32 (λ (n : ℤ). n)
+running_32 xs i d within = running_total 32 (λ n. n) xs i d (lit< tt) within
+
+pub sum_onto_32 : (m : ℕ) (y : ℤ) → m < 4294967296 → SFits w32 y
+    → to_z w32 ((m + of_z w32 y) % 4294967296) ≡ wrap 32 (to_z w32 m +ℤ y)
+sum_onto_32 m y below fits = wrapping_add_onto w32 m y below fits ∙ int_wrap-wrap w32 (to_z w32 m +ℤ y)
+
 -- ---- 128 bits, which 64 are cut from
 
 pub added_128 : (x y : ℤ) → SFits w128 x → SFits w128 y
@@ -153,3 +164,5 @@ pub ruleset delta_sum_calls = (
 )
 
 pub ruleset sum_calls_16 = (wrapping_add-wrap, bytes_moved, running_words, none_16, running_16, sum_onto_16)
+
+pub ruleset sum_calls_32 = (none_32, running_32, sum_onto_32)
