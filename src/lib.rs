@@ -7,8 +7,8 @@
 //! | fixed-point numbers of 16 bits | [`F2Dot14`], [`F4Dot12`], [`F6Dot10`] |
 //! | of 32 and of 64 bits | [`Fixed`], [`F26Dot6`], [`F2Dot30`], [`F48Dot16`] |
 //! | integers of 24 bits | [`Uint24`], [`Int24`] |
-//! | arrays in a font file | [`ScalarArray`], [`ScalarArrayIter`] |
-//! | fields in a font file | [`Scalar`], [`BigEndian`], [`FixedSize`], [`BeByteArray`], [`IdentityEq`] |
+//! | stored arrays | [`ScalarArray`], [`ScalarArrayIter`] |
+//! | stored fields | [`Scalar`], [`BigEndian`], [`FixedSize`], [`BeByteArray`], [`IdentityEq`] |
 //! | headers of tables | [`TableHeader`], [`TableDataRef`], [`SampleHeader`] |
 //! | tags and dates | [`Tag`], [`LongDateTime`] |
 //! | versions | [`MajorMinor`], [`Version16Dot16`], [`Compatible`] |
@@ -37,8 +37,7 @@
     clippy::missing_panics_doc
 )]
 #![warn(clippy::undocumented_unsafe_blocks)]
-// The source is written for its proofs: a law divides a number by itself, and arithmetic and loops
-// are as they are proved.
+// The generated source is written for its proofs: a law divides a number by itself, for example.
 #![allow(
     clippy::eq_op,
     clippy::manual_checked_ops,

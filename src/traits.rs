@@ -1,5 +1,5 @@
-//! Traits that Rust's users expect and the proved source does not have, over its calls; and a
-//! constant that Rattle has as a function.
+//! Traits that Rust users expect and the proved source does not have, implemented by its calls; a
+//! constant that Rattle has as a function; and a faster `collect`.
 
 use crate::{Matrix, MatrixElement, Predefined, Scalar, ScalarArray, ScalarArrayIter};
 use crate::{Shortest, TableDataRef, TableHeader};
@@ -68,12 +68,12 @@ impl<T: Scalar + Debug> Debug for ScalarArray<'_, T> {
 }
 
 impl<T: Scalar> ScalarArrayIter<'_, T> {
-    /// Collects the elements, as [`Iterator::collect`], but into a `Vec` in the time of a slice: std
-    /// relies on the length of its own iterators only.
+    /// Collects the elements, as [`Iterator::collect`] does, which would be slower for a `Vec`,
+    /// because std relies only on the lengths of its own iterators.
     ///
     /// # Panics
     ///
-    /// If `T::read` refuses `RAW_BYTE_LEN` bytes, against the laws of its traits.
+    /// If `T::read` returns `None` for `RAW_BYTE_LEN` bytes, against the laws of its traits.
     #[must_use]
     pub fn collect<B: FromIterator<T>>(self) -> B {
         let fields = self

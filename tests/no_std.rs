@@ -1,5 +1,5 @@
 //! Code with no `std`, which has the names of `font-types`: constants made by calls, a `match` on a
-//! tag, and what the examples read of a font. That it compiles shows that nothing of `std` is needed.
+//! tag, and what the examples read of a font. That it compiles shows that it needs no `std`.
 #![no_std]
 
 use font_types::{F2Dot14, Fixed, Matrix, Point, Tag};

@@ -7,7 +7,7 @@ use std::process::{Command, Output, Stdio};
 const LINES: &str = concat!(env!("CARGO_MANIFEST_DIR"), "/crates/fontval/stdin");
 const ANSWERS: &str = concat!(env!("CARGO_MANIFEST_DIR"), "/crates/fontval/stdout");
 
-/// What runs a program of another machine, where Cargo was told of it.
+/// Returns the runner that Cargo uses for another target, if it has one.
 fn runner() -> Option<String> {
     let machine = format!("CARGO_TARGET_{}_", std::env::consts::ARCH.to_uppercase());
     let is_runner = |name: &str| name.starts_with(&machine) && name.ends_with("_RUNNER");
@@ -77,7 +77,8 @@ fn refused_writes() {
     }
 }
 
-/// The program below a shell that has set a limit, which one of another machine does not bear.
+/// Runs the program in a shell that has set a limit, unless a runner is needed, which the limit
+/// would break.
 #[cfg(unix)]
 fn limited(script: &str) -> Option<Output> {
     let mut shell = Command::new("sh");

@@ -27,7 +27,7 @@ fn encoded_bytes() {
     }
 }
 
-// Every pair of bytes, where just the digits of either case are taken.
+// All pairs of bytes: only hexadecimal digits are accepted, in either case.
 #[test]
 fn decoded_digits() {
     let value = |digit: u8| char::from(digit).to_digit(16).map(|value| value as u8);
@@ -73,13 +73,13 @@ fn compared_bytes() {
 
 // ---- memory
 
-/// No more than a megabyte at once.
+/// An allocator that fails if a megabyte is exceeded at once.
 struct Refusing;
 
 #[global_allocator]
 static ALLOCATOR: Refusing = Refusing;
 
-// SAFETY: it is the system's allocator, or it refuses.
+// SAFETY: it calls the system's allocator, or returns null.
 unsafe impl GlobalAlloc for Refusing {
     unsafe fn alloc(&self, layout: Layout) -> *mut u8 {
         if layout.size() > 1 << 20 {
@@ -93,7 +93,7 @@ unsafe impl GlobalAlloc for Refusing {
     }
 }
 
-/// How often something is done until it is refused.
+/// Returns how many calls succeed before one fails.
 fn until_refused<E>(mut done: impl FnMut() -> Result<(), E>) -> usize {
     let mut count = 0;
     while done().is_ok() {
@@ -103,7 +103,7 @@ fn until_refused<E>(mut done: impl FnMut() -> Result<(), E>) -> usize {
     count
 }
 
-// A refusal is told, and what was there is kept.
+// A failure is returned, and the contents stay as they were.
 #[test]
 fn refused_vectors() {
     assert!(Vec::<u64, _>::with_capacity(Global, usize::MAX).is_err());
@@ -135,13 +135,13 @@ fn refused_strings() {
 
 // ---- streams
 
-// Where no file can be had, each call is refused.
+// Without a file, each call fails.
 #[test]
 #[cfg(unix)]
 fn missing_streams() {
     use io::{Read, Write};
     use std::os::fd::BorrowedFd;
-    // SAFETY: nothing is asked of it but a copy, which is refused.
+    // SAFETY: it is only duplicated, which fails.
     let missing = unsafe { BorrowedFd::borrow_raw(1 << 20) };
     let mut stream = io::Stream::over(missing);
     assert!(stream.read(&mut [0; 9]).is_err());

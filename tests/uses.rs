@@ -1,6 +1,6 @@
 //! What users of `font-types` write, line by line, with these names in place of that crate's. The
-//! comparison holds that each line is one of `font-types` too.
-// A line says what a user might write, and not how it is best said.
+//! comparison compiles and runs each line with `font-types` too.
+// A line is what a user might write, not the best way to write it.
 #![allow(clippy::all)]
 
 use font_types::*;
@@ -13,7 +13,7 @@ fn each_use() {
     assert_eq!(all_uses(), 397);
 }
 
-// What `font-types` has not, or not as a `const`.
+// What `font-types` does not have, or not as a `const`.
 #[test]
 fn each_use_of_our_own() {
     const IDENTITY: Matrix<Fixed> = Matrix::<Fixed>::identity();
@@ -65,7 +65,7 @@ fn each_use_of_our_own() {
     assert_eq!(count, 39);
 }
 
-// What `font-types` has not as a `const` of any type, beside what it has of its own types.
+// What `font-types` does not have as a `const` of any type, and what it has of its own types.
 macro_rules! of_fixed_point_types {
     ($($name:ident $Type:ident $bits:ident $f:literal;)*) => {
         #[test]

@@ -1,5 +1,5 @@
-//! The table of values, whose calls C and C++ make too; the texts of errors; and what becomes of a
-//! call that does not give what its function asks.
+//! The table of values, with which C and C++ are tested too; the texts of errors; and calls that
+//! break a precondition.
 
 use font_types_proved::laws::{composed, in_turn};
 use font_types_proved::{
@@ -28,7 +28,7 @@ fn numbers<const N: usize, T: FromStr<Err: Debug> + Debug>(words: &[&str]) -> [T
     numbers.try_into().unwrap()
 }
 
-/// The number of a line whose first word says that there is one, by a 0.
+/// Returns the number of a line whose first word is 0.
 fn stored<T: FromStr<Err: Debug>>(words: &[&str]) -> Option<T> {
     (words[0] == "0").then(|| words[1].parse().unwrap())
 }
@@ -39,7 +39,7 @@ fn terms(words: &[&str]) -> Vec<(Fixed, i32)> {
     words.chunks(2).map(numbers).map(term).collect()
 }
 
-/// How a line pads, or `None` where no `Pad` says it.
+/// Returns the padding of a line, or `None` if no valid `Pad` has it.
 fn pad(words: &[&str]) -> Option<Pad> {
     let [width, fill, align, plus, zeros]: [i32; 5] = numbers(words);
     let aligns = [Align::Left, Align::Center, Align::Right];
@@ -111,7 +111,7 @@ macro_rules! of_fixed_point_types {
 
 include!("../tools/src/types.in");
 
-/// Goes over the lines of kinds, whose first numbers ask and whose others answer.
+/// Checks the lines of each kind, whose first numbers are arguments and whose others are results.
 macro_rules! answers {
     ($($kind:literal: |$($asked:ident),*| $($answer:expr),*;)*) => {$(
         for words in lines($kind) {
@@ -285,8 +285,8 @@ failed to convert usize value into Uint24.";
     assert_eq!(texts.join("\n"), wanted);
 }
 
-/// A call with another number of fraction bits than its precondition asks for panics or returns; the
-/// text is ASCII, so that the unsafe line is right.
+/// A call that breaks the precondition on fraction bits panics or returns; the text is ASCII, so
+/// that the unsafe line is right.
 #[test]
 fn broken_preconditions() {
     std::panic::set_hook(Box::new(|_| {}));

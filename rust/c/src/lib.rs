@@ -64,8 +64,8 @@ fn panic(_: &core::panic::PanicInfo<'_>) -> ! {
     abort()
 }
 
-// Objects of the compiler's own library in the archive refer to this function of Rust's unwinding.
-// Nothing here unwinds, so nothing calls it.
+// Objects of the compiler's library in the archive refer to this function of Rust's unwinding. It
+// is never called, because nothing here unwinds.
 #[cfg(all(target_os = "linux", panic = "abort"))]
 core::arch::global_asm!(
     ".weak rust_eh_personality",
