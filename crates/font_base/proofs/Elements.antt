@@ -187,19 +187,23 @@ pub none_after : (size n : ℕ) (bytes : List ℕ) → length bytes / size ≤ n
 none_after size n bytes none = drop_all n (elements size (length bytes / size) bytes)
     (omega (arith, length-elements size (length bytes / size) bytes))
 
--- what is left before the last n elements
-pub left_before : (size n : ℕ) (bytes : List ℕ)
-    → elements size (length (take ((length bytes / size - n) * size) bytes) / size)
-    (take ((length bytes / size - n) * size) bytes)
-    ≡ take (length (elements size (length bytes / size) bytes) - n) (elements size (length bytes / size) bytes)
-left_before size n bytes =
+-- the last element before the last n, and those before it
+pub left_before : (size n front : ℕ) (bytes : List ℕ) → n < length bytes / size
+    → front ≡ length bytes / size - n - 1
+    → take (length (elements size (length bytes / size) bytes) - n) (elements size (length bytes / size) bytes)
+    ≡ elements size (length (take (front * size) bytes) / size) (take (front * size) bytes)
+    ++ element size bytes front ∷ []
+left_before size n front bytes some is =
     let many = length bytes / size in
-    let within : many - n ≤ many = omega arith in
-    ap (λ k. elements size (k / size) (take ((many - n) * size) bytes)) (front_part_length size (many - n) bytes within)
-    ∙ ap (λ k. elements size k (take ((many - n) * size) bytes)) (many_of size (many - n) (length bytes) within)
-    ∙ elements-take size (many - n) bytes
-    ∙ sym (take-elements size (many - n) many bytes within)
-    ∙ ap (λ k. take (k - n) (elements size many bytes)) (sym (length-elements size many bytes))
+    let within : front ≤ many = omega (arith, is) in
+    let next : many - n ≡ suc front = omega (arith, is) in
+    ap (λ k. take (k - n) (elements size many bytes)) (length-elements size many bytes)
+    ∙ take-elements size (many - n) many bytes (omega arith)
+    ∙ ap (λ k. elements size k bytes) next
+    ∙ others_and_last size front bytes
+    ∙ ap (λ xs. xs ++ element size bytes front ∷ []) (sym (elements-take size front bytes)
+    ∙ ap (λ k. elements size k (take (front * size) bytes)) (sym (many_of size front (length bytes) within))
+    ∙ ap (λ k. elements size (k / size) (take (front * size) bytes)) (sym (front_part_length size front bytes within)))
 
 pub none_before : (size n : ℕ) (bytes : List ℕ) → length bytes / size - n ≡ 0
     → take (length (elements size (length bytes / size) bytes) - n) (elements size (length bytes / size) bytes) ≡ []

@@ -181,6 +181,8 @@ impl<'a, T: Scalar> ScalarArray<'a, T> {
         while size > 1 {
             let half = size / 2;
             let middle = base + half;
+            // SAFETY: `base + size` is at most `len()`, and `half` is less than `size`.
+            unsafe { assert_unchecked(middle < self.len()) };
             let Some(value) = self.get(middle) else {
                 return Err(base);
             };
@@ -314,20 +316,20 @@ impl<'a, T: Scalar> ScalarArrayIter<'a, T> {
     pub fn nth_back(&mut self, n: usize) -> Option<T>
         ensures { YieldsBefore n self.old result self.new }
     {
-        let left = self.rest.len().saturating_sub(n);
-        if left == 0 {
+        if n >= self.rest.len() {
             self.rest = ScalarArray {
                 data: &[],
                 scalar: PhantomData,
             };
             return None;
         }
-        let (others, _) = self.rest.data.split_at(left * T::RAW_BYTE_LEN);
+        let front = self.rest.len() - n - 1;
+        let element = self.rest.get(front);
         self.rest = ScalarArray {
-            data: others,
+            data: &self.rest.data[..front * T::RAW_BYTE_LEN],
             scalar: PhantomData,
         };
-        self.next_back()
+        element
     }
 }
 
