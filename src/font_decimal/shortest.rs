@@ -30,8 +30,8 @@ pub struct Shortest {
 impl Shortest {
     /// Formats the raw value `bits` with `f` fraction bits.
     ///
-    /// Of all decimals that parse back to `bits`, this is the nearest with the fewest fractional
-    /// digits. `f` must be from 6 to 30.
+    /// Of the decimals with the fewest fractional digits that parse back to `bits`, this is the
+    /// nearest, and of two the one farther from zero. `f` must be from 6 to 30.
     ///
     /// <details><summary>Contract</summary>
     ///

@@ -8,7 +8,7 @@ use crate::font_ids::FWord;
 /// An accumulator for products of scalars and deltas.
 ///
 /// The sum is a 16.16 raw value in 128 bits, enough for any `2^65 - 1` terms in any order; beyond
-/// that it wraps.
+/// that it may wrap.
 ///
 /// ```
 /// use font_types_proved::{DeltaSum, Fixed};

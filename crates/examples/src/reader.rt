@@ -378,9 +378,9 @@ pub fn vert_origin_y(records: &[VertOriginYMetrics], default: i16, glyph: GlyphI
 
 /// A size in pixels per em, as in `gasp` and `hdmx`.
 ///
-/// A newtype round a number takes four ghost lines. Every bit pattern has to be a value, since
-/// `read` refuses nothing but a wrong length. Signed numbers have `signed_newtype 2 (lit< tt)`,
-/// `signed_identity`, `signed_numeral 2` and `fits_bits 16` instead.
+/// A newtype of a number takes five ghost items, and a sixth for `IdentityEq`. Every bit pattern
+/// has to be a value, because `read` fails only for a wrong length. Signed numbers have
+/// `signed_newtype 2 (lit< tt)`, `signed_identity`, `signed_numeral 2` and `fits_bits 16` instead.
 #[derive(Clone, Copy, PartialEq, Eq, PartialOrd, Ord)]
 pub struct Ppem(pub u16);
 

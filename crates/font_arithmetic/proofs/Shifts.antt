@@ -1,5 +1,6 @@
 -- What a shift to the right gives: the greatest multiple that is not above.
-use Rattle.std.proofs.Common.{◌≡◌, lit<, ℕ, ◌<◌, ℤ, pos, negsuc, ◌+ℤ◌, ◌*ℤ◌, ◌≤ℤ◌, ◌<ℤ◌, arith, div-add-mod', SFits, to_z, of_z}
+use Rattle.std.proofs.Common.{◌≡◌, lit<, ℕ, ◌<◌, ℤ, pos, negsuc, ◌+ℤ◌, ◌*ℤ◌, ◌≤ℤ◌, ◌<ℤ◌, arith}
+use Rattle.std.proofs.Common.{div-add-mod', SFits, to_z, of_z}
 use Rattle.std.proofs.lemmas.Int.{ints, to_z-of_z}
 use Rattle.std.proofs.Math.Nat.{mod-lt, div-le_self, lt_of_le_of_lt as le_lt_trans}
 use Rattle.std.specs.Int.{Width, w128}

@@ -1,7 +1,8 @@
 //! Big-endian fields at byte offsets.
 #![tactic(auto, using(font_types::proofs::Callers::calls))]
 
-ghost use Rattle.std.specs.Prelude.{◌≡◌, ◌↔◌, ◌+◌, ◌<◌, ◌≤◌, pos, length, take, drop, IsSome, IfSome};
+ghost use Rattle.std.specs.Prelude.{◌≡◌, ◌↔◌, ◌+◌, ◌<◌, ◌≤◌, pos, length, take, drop};
+ghost use Rattle.std.specs.Prelude.{IsSome, IfSome};
 ghost use Rattle.font_types.specs.Bytes.{numeral, signed_numeral};
 ghost use Rattle.font_types.specs.Scalar.{IsValueOf};
 ghost use Rattle.font_c.specs.Fields.{ReadsField};

@@ -46,8 +46,8 @@ pub struct Matrix<T> {
 ///
 /// # Laws
 ///
-/// None that Rattle proves either: that `ZERO` and `ONE` are neutral, so that the identity matrix
-/// is one, is a law of [`RingElement`](crate::RingElement).
+/// None. That `ZERO` and `ONE` are neutral, so that the identity matrix is neutral, is a law of
+/// [`RingElement`](crate::RingElement).
 pub trait MatrixElement: Copy + Add<Output = Self> + Mul<Output = Self> {
     /// The value 0.
     const ZERO: Self;

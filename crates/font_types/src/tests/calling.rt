@@ -3,7 +3,8 @@
 
 ghost use Rattle.std.specs.Int.{w32};
 ghost use Rattle.std.specs.List.{list_any};
-ghost use Rattle.std.specs.Prelude.{◌≡◌, ◌==◌, ◌≤◌, ◌^◌, ◌+ℤ◌, ◌*ℤ◌, pos, unsigned_abs, IfSome, map};
+ghost use Rattle.std.specs.Prelude.{◌≡◌, ◌==◌, ◌≤◌, ◌^◌, ◌+ℤ◌, ◌*ℤ◌, pos, unsigned_abs};
+ghost use Rattle.std.specs.Prelude.{IfSome, map};
 ghost use Rattle.font_types.specs.Bytes.{bytes_of};
 ghost use Rattle.font_types.specs.GlyphId.{glyph16_number};
 ghost use Rattle.font_types.specs.Near.{near};
