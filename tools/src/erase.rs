@@ -19,12 +19,12 @@
 //! - a trait's parameter `Rhs`, which defaults to `Self`, as of Rust's operators;
 //! - a slice parameter of an `extern "C"` function, which becomes a pointer and a length;
 //! - the program's `fn main`, which becomes `pub`, and `Tag::new_checked`, which becomes `const`;
-//! - an `impl` that begins with `nth` or `nth_back`, which Rattle's traits of iterators have as final:
-//!   its function becomes one of the trait's `impl` before it.
+//! - an `impl` that begins with `nth` or `nth_back`, which are final in Rattle's traits: its function
+//!   becomes one of the trait's `impl` before it.
 //!
-//! These are added: derives that Rust's users expect, imports of what Rattle has in scope everywhere, `Display` and `Error` of a type
-//! that derives `Error`, an assertion when it is compiled where a field or a view of scalars is made,
-//! and in documentation the contract of a public function and the package's name in examples.
+//! These are added: derives that Rust's users expect, imports of what Rattle has in scope, `Display`
+//! and `Error` of a type that derives `Error`, a `const` assertion where a field or a view of scalars
+//! is made, and in documentation the contract of a public function and the package's name.
 //!
 //! Anything else that Rust does not have is an [`Error`].
 
@@ -361,8 +361,7 @@ impl<'a> Eraser<'a> {
         Ok(())
     }
 
-    // A constructor of a field or of a view asserts, when it is compiled, what Rattle proves of each
-    // `impl Scalar`.
+    // A constructor of a field or of a view asserts what Rattle proves of each `impl Scalar`.
     fn assert_length(&mut self, at: usize) -> Result<(), Error> {
         let (_, body) = self.clauses(at + 2)?;
         let is_made = |word: &&str| matches!(*word, "BigEndian" | "ScalarArray");

@@ -1,5 +1,5 @@
-//! What the programs of this folder share: the eraser, exact answers by whole numbers and with no use
-//! of the library, and the files of the repository.
+//! What the programs of this folder share: the eraser, exact answers by whole numbers and with no
+//! use of the library, and the files of the repository.
 
 pub mod erase;
 pub mod exact;

@@ -1,5 +1,5 @@
-//! What the eraser leaves of pieces of Rattle, and what stops it. A row is a source, `=>` and what is
-//! left, white space aside; `¶` is a line break, and of `same` all is left.
+//! What the eraser leaves of pieces of Rattle, and what stops it. A row is a source, `=>` and what
+//! is left, white space aside; `¶` is a line break, and of `same` all is left.
 
 use font_types_tools::erase::{Crate, Target, erase};
 

@@ -1,6 +1,6 @@
-//! A second reader, which shares nothing with the eraser: the tokens of each generated file are those
-//! of its source in order, less what is left out, except for the changes listed here. It does not
-//! read comments, imports, derives, and a comma at the end of a list.
+//! A second reader, which shares nothing with the eraser: the tokens of each generated file are
+//! those of its source in order, less what is left out, except for the changes listed here. It does
+//! not read comments, imports, derives, and a comma at the end of a list.
 
 use font_types_tools::{erase::LIBRARY, repository};
 

@@ -19,7 +19,7 @@ const INPUTS: usize = 1024;
 const ROUNDS: usize = 300;
 
 /// What the loops go over: numbers of any magnitude, decimals of them, two of 5,000 digits, four
-/// bytes, and sorted tables of 64, 512 and 4096 big-endian `u16`, as arrays and as slices of fields.
+/// bytes, and sorted tables of 64, 512 and 4096 big-endian `u16`, as arrays and slices of fields.
 struct Inputs {
     bits: [[i32; 14]; INPUTS],
     texts: Vec<String>,

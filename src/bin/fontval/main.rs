@@ -1,5 +1,5 @@
-//! The program `fontval`: the proved source of `crates/fontval`, over the module `rattle`, which has
-//! what Rattle's std has in another form than Rust's.
+//! The program `fontval`: the proved source of `crates/fontval`, over the module `rattle`, which
+//! has what Rattle's std has in another form than Rust's.
 
 mod rattle;
 

@@ -1,8 +1,8 @@
 //! Standard input and output that report every error, and standard error.
 //!
-//! Those of std do not: a descriptor that is not open for reading counts as an empty input, one that
-//! is not open for writing takes everything, and output is buffered. A file over the same descriptor
-//! passes each call on.
+//! Those of std do not: a descriptor that is not open for reading counts as an empty input, one
+//! that is not open for writing takes everything, and output is buffered. A file over the same
+//! descriptor passes each call on.
 
 use super::HostRuntime;
 use core::fmt;
