@@ -2,8 +2,8 @@
 use Rattle.std.proofs.Common.{◌≡◌, ◌≢◌, ◌^◌, ◌<◌, ◌≤◌, ℕ, ℤ, List, Result, Ok, Err, refl}
 use Rattle.std.specs.Int.{Width}
 use mir.Val.{bits, hbits}
-use Rattle.font_decimal.specs.declared.reader.DecimalFault.{DecimalFault}
-use Rattle.font_arithmetic.specs.Operations.{ReadingGives}
+use Rattle.font_types.specs.DecimalFault.{DecimalFault}
+use Rattle.font_types.specs.Operations.{ReadingGives}
 use Rattle.font_arithmetic.proofs.Texts.{as_bits, reads_by}
 use Rattle.font_c.specs.Readings.{ReadsInto, reading_of}
 

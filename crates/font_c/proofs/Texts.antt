@@ -4,10 +4,10 @@ use Rattle.std.proofs.Common.{length-append, ◌==◌, if◌then◌else◌, slic
 use Rattle.std.specs.Int.{w64}
 use borrow.Author.Differences.{ints, abs_is}
 use Rattle.std.specs.Fmt.{sign_text}
-use Rattle.font_decimal.specs.Grammar.{IsDecimal, fraction_text}
-use Rattle.font_decimal.specs.Padding.{padded_text, unsigned_body}
-use Rattle.font_decimal.specs.declared.padding.Pad.{Pad}
-use Rattle.font_decimal.specs.Shortest.{shortest_text}
+use Rattle.font_types.specs.Grammar.{IsDecimal, fraction_text}
+use Rattle.font_types.specs.Padding.{padded_text, unsigned_body}
+use Rattle.font_types.specs.declared.Pad.{Pad}
+use Rattle.font_types.specs.Shortest.{shortest_text}
 use Rattle.font_decimal.proofs.Padded.{padded_length, padded_fits}
 use Rattle.font_decimal.proofs.Printed.{length-shortest_body-lt, shortest_is_decimal}
 

@@ -1,6 +1,6 @@
 -- Delta sets of item variation stores. (OpenType, item variation stores: a delta set has `wordDeltaCount` deltas of 16
 -- bits, followed by deltas of 8 bits.) The statuses are the project's own.
-use Rattle.std.specs.Prelude.{◌≡◌, ◌+◌, ◌*◌, ◌<◌, ◌≤◌, ℕ, zero, suc, ℤ, pos, ◌+ℤ◌, ◌*ℤ◌, List, length, take, drop}
+use Rattle.std.specs.Prelude.{◌≡◌, ◌+◌, ◌*◌, ◌≤◌, ℕ, zero, suc, ℤ, pos, ◌+ℤ◌, ◌*ℤ◌, List, length, take, drop}
 use Rattle.std.specs.Prelude.{nat_lt, if◌then◌else◌, slice_index_or}
 use Rattle.font_types.specs.Bytes.{signed_numeral}
 use Rattle.font_types.specs.Wrap.{FitsBits}

@@ -2,9 +2,9 @@
 use Rattle.std.specs.Prelude.{◌≡◌, ◌≢◌, ◌<◌, ◌≤◌, ℕ, zero, suc, ℤ, List, length, max, Bool, true, false}
 use Rattle.font_types.specs.Padding.{padded_text}
 use Rattle.font_types.specs.Shortest.{shortest_text}
-use Rattle.font_decimal.specs.declared.padding.Align.{Align}
-use Rattle.font_decimal.specs.declared.padding.Align.TheVariants.{Left, Center, Right}
-use Rattle.font_decimal.specs.declared.padding.Pad.{Pad}
+use Rattle.font_types.specs.declared.Align.{Align}
+use Rattle.font_types.specs.declared.Align.TheVariants.{Left, Center, Right}
+use Rattle.font_types.specs.declared.Pad.{Pad}
 use Rattle.font_c.specs.declared.text.FontPad.{FontPad}
 use Rattle.font_c.specs.Texts.{WritesText}
 

@@ -3,7 +3,7 @@ use Rattle.std.specs.Prelude.{◌≡◌, ◌≢◌, ◌<◌, ℕ, zero, suc, ℤ
 use Rattle.std.specs.Int.{Width}
 use Rattle.font_types.specs.DecimalFault.{DecimalFault}
 use Rattle.font_types.specs.DecimalFault.TheVariants.{Syntax, OutOfRange}
-use Rattle.font_arithmetic.specs.Reading.{ReadsBy}
+use Rattle.font_types.specs.NumberReading.{ReadsBy}
 
 -- the result that a status and the place mean: 0 the value in the place, 1 not a decimal, and 2 out of range
 abbrev pub reading_of : {T : Type 0} → ℕ → T → Result T DecimalFault

@@ -81,7 +81,7 @@ impl From<FontPoint> for Point<Fixed> {
 /// Returns the matrix that applies `b` first, then `a`. Products round and sums wrap, as of 16.16
 /// values.
 #[unsafe(no_mangle)]
-#[tactic(auto, using(font_geom::proofs::FixedCalls::product_value))]
+#[tactic(auto, using(font_types::proofs::Callers::product_value))]
 pub extern "C" fn font_matrix_product(a: FontMatrix, b: FontMatrix) -> FontMatrix
     ensures { entries result ≡ fixed_matrix_product (entries a) (entries b) }
 {
@@ -90,7 +90,7 @@ pub extern "C" fn font_matrix_product(a: FontMatrix, b: FontMatrix) -> FontMatri
 
 /// Transforms a point.
 #[unsafe(no_mangle)]
-#[tactic(auto, using(font_geom::proofs::FixedCalls::image_value))]
+#[tactic(auto, using(font_types::proofs::Callers::image_value))]
 pub extern "C" fn font_matrix_image(m: FontMatrix, p: FontPoint) -> FontPoint
     ensures { coordinates result ≡ fixed_image (entries m) (coordinates p) }
 {
@@ -99,7 +99,7 @@ pub extern "C" fn font_matrix_image(m: FontMatrix, p: FontPoint) -> FontPoint
 
 /// Transforms a vector: as `font_matrix_image`, without the translation.
 #[unsafe(no_mangle)]
-#[tactic(auto, using(font_geom::proofs::FixedCalls::image_value))]
+#[tactic(auto, using(font_types::proofs::Callers::image_value))]
 pub extern "C" fn font_matrix_vector(m: FontMatrix, v: FontPoint) -> FontPoint
     ensures { coordinates result ≡ fixed_image (linear_part (entries m)) (coordinates v) }
 {

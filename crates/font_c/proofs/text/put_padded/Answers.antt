@@ -1,6 +1,6 @@
 use Rattle.std.proofs.Common.{rules, ◌<◌, length}
-use Rattle.font_decimal.specs.Padding.{unsigned_body}
-use Rattle.font_decimal.specs.Shortest.{shortest_text}
+use Rattle.font_types.specs.Padding.{unsigned_body}
+use Rattle.font_types.specs.Shortest.{shortest_text}
 use Rattle.font_c.proofs.Texts.{printed_is_short}
 use Rattle.font_c.proofs.text.put_padded.Goals as goal
 
