@@ -167,48 +167,28 @@ pub mod font_base {
     pub mod Wrap_Laws {}
 }
 
-/// The definitions of `crates/font_arithmetic/specs`.
-pub mod font_arithmetic {
-    /// `crates/font_arithmetic/specs/NumberLaws.antt`
-    ///
-    /// ```text
-    #[doc = include_str!("../crates/font_arithmetic/specs/NumberLaws.antt")]
-    /// ```
-    pub mod NumberLaws {}
-
-    /// `crates/font_arithmetic/specs/Operations.antt`
-    ///
-    /// ```text
-    #[doc = include_str!("../crates/font_arithmetic/specs/Operations.antt")]
-    /// ```
-    pub mod Operations {}
-
-    /// `crates/font_arithmetic/specs/Reading.antt`
-    ///
-    /// ```text
-    #[doc = include_str!("../crates/font_arithmetic/specs/Reading.antt")]
-    /// ```
-    pub mod Reading {}
-}
-
-/// The definitions of `crates/font_f26/specs`.
-pub mod font_f26 {
-    /// `crates/font_f26/specs/F26Dot6.antt`
-    ///
-    /// ```text
-    #[doc = include_str!("../crates/font_f26/specs/F26Dot6.antt")]
-    /// ```
-    pub mod F26Dot6 {}
-}
-
 /// The definitions of `crates/font_fixed/specs`.
 pub mod font_fixed {
+    /// `crates/font_fixed/specs/F26Dot6.antt`
+    ///
+    /// ```text
+    #[doc = include_str!("../crates/font_fixed/specs/F26Dot6.antt")]
+    /// ```
+    pub mod F26Dot6 {}
+
     /// `crates/font_fixed/specs/F2Dot14.antt`
     ///
     /// ```text
     #[doc = include_str!("../crates/font_fixed/specs/F2Dot14.antt")]
     /// ```
     pub mod F2Dot14 {}
+
+    /// `crates/font_fixed/specs/F2Dot30.antt`
+    ///
+    /// ```text
+    #[doc = include_str!("../crates/font_fixed/specs/F2Dot30.antt")]
+    /// ```
+    pub mod F2Dot30 {}
 
     /// `crates/font_fixed/specs/F48Dot16.antt`
     ///
@@ -217,37 +197,79 @@ pub mod font_fixed {
     /// ```
     pub mod F48Dot16 {}
 
+    /// `crates/font_fixed/specs/F4Dot12.antt`
+    ///
+    /// ```text
+    #[doc = include_str!("../crates/font_fixed/specs/F4Dot12.antt")]
+    /// ```
+    pub mod F4Dot12 {}
+
+    /// `crates/font_fixed/specs/F6Dot10.antt`
+    ///
+    /// ```text
+    #[doc = include_str!("../crates/font_fixed/specs/F6Dot10.antt")]
+    /// ```
+    pub mod F6Dot10 {}
+
     /// `crates/font_fixed/specs/Fixed.antt`
     ///
     /// ```text
     #[doc = include_str!("../crates/font_fixed/specs/Fixed.antt")]
     /// ```
     pub mod Fixed {}
+
+    /// `crates/font_fixed/specs/FixedI16.antt`
+    ///
+    /// ```text
+    #[doc = include_str!("../crates/font_fixed/specs/FixedI16.antt")]
+    /// ```
+    pub mod FixedI16 {}
+
+    /// `crates/font_fixed/specs/FixedI32.antt`
+    ///
+    /// ```text
+    #[doc = include_str!("../crates/font_fixed/specs/FixedI32.antt")]
+    /// ```
+    pub mod FixedI32 {}
+
+    /// `crates/font_fixed/specs/FixedI64.antt`
+    ///
+    /// ```text
+    #[doc = include_str!("../crates/font_fixed/specs/FixedI64.antt")]
+    /// ```
+    pub mod FixedI64 {}
+
+    /// `crates/font_fixed/specs/Longest.antt`
+    ///
+    /// ```text
+    #[doc = include_str!("../crates/font_fixed/specs/Longest.antt")]
+    /// ```
+    pub mod Longest {}
+
+    /// `crates/font_fixed/specs/NumberLaws.antt`
+    ///
+    /// ```text
+    #[doc = include_str!("../crates/font_fixed/specs/NumberLaws.antt")]
+    /// ```
+    pub mod NumberLaws {}
+
+    /// `crates/font_fixed/specs/Operations.antt`
+    ///
+    /// ```text
+    #[doc = include_str!("../crates/font_fixed/specs/Operations.antt")]
+    /// ```
+    pub mod Operations {}
+
+    /// `crates/font_fixed/specs/Reading.antt`
+    ///
+    /// ```text
+    #[doc = include_str!("../crates/font_fixed/specs/Reading.antt")]
+    /// ```
+    pub mod Reading {}
 }
 
 /// The definitions of `crates/font_fixed2/specs`.
-pub mod font_fixed2 {
-    /// `crates/font_fixed2/specs/F2Dot30.antt`
-    ///
-    /// ```text
-    #[doc = include_str!("../crates/font_fixed2/specs/F2Dot30.antt")]
-    /// ```
-    pub mod F2Dot30 {}
-
-    /// `crates/font_fixed2/specs/F4Dot12.antt`
-    ///
-    /// ```text
-    #[doc = include_str!("../crates/font_fixed2/specs/F4Dot12.antt")]
-    /// ```
-    pub mod F4Dot12 {}
-
-    /// `crates/font_fixed2/specs/F6Dot10.antt`
-    ///
-    /// ```text
-    #[doc = include_str!("../crates/font_fixed2/specs/F6Dot10.antt")]
-    /// ```
-    pub mod F6Dot10 {}
-}
+pub mod font_fixed2 {}
 
 /// The definitions of `crates/font_tags/specs`.
 pub mod font_tags {

@@ -2,6 +2,5 @@
 
 //! Laws of arithmetic, as contracts of functions.
 
+pub mod f26dot6;
 pub mod fixed;
-
-pub use crate::font_f26::laws::f26dot6;

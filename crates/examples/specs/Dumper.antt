@@ -7,7 +7,7 @@ use Rattle.serde_json.specs.Find.{of_integer, get}
 use Rattle.font_types.specs.declared.Pad.{Pad}
 use Rattle.font_types.specs.declared.Align.TheVariants.{Right}
 use Rattle.font_types.specs.Fixed.{fixed_bits, fixed_text}
-use Rattle.font_types.specs.declared.Fixed.{Fixed}
+use Rattle.font_types.specs.Fixed.{Fixed}
 use Rattle.font_types.specs.declared.FWord.{FWord}
 use Rattle.font_types.specs.declared.LongDateTime.{LongDateTime}
 use Rattle.font_types.specs.declared.JsonFault.{JsonFault}

@@ -10,7 +10,7 @@ use Rattle.font_types.specs.NumberReading.{ReadsBy}
 use Rattle.font_types.specs.Operations.{IsMulDiv}
 use Rattle.font_types.specs.Fixed.{fixed_bits, fixed_of}
 use Rattle.font_types.specs.Tag.{IsChecked, IsAcceptable}
-use Rattle.font_types.specs.declared.Fixed.{Fixed}
+use Rattle.font_types.specs.Fixed.{Fixed}
 use Rattle.examples.specs.declared.evaluator.Setting.{Setting}
 use Rattle.examples.specs.declared.evaluator.SettingError.{SettingError}
 use Rattle.examples.specs.declared.evaluator.SettingError.TheVariants.{NoValue, Axis, Value}

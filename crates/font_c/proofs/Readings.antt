@@ -4,7 +4,7 @@ use Rattle.std.specs.Int.{Width}
 use mir.Val.{bits, hbits}
 use Rattle.font_types.specs.DecimalFault.{DecimalFault}
 use Rattle.font_types.specs.Operations.{ReadingGives}
-use Rattle.font_arithmetic.proofs.Texts.{as_bits, reads_by}
+use Rattle.font_fixed.proofs.Texts.{as_bits, reads_by}
 use Rattle.font_c.specs.Readings.{ReadsInto, reading_of}
 
 same_bits : (result : Result ℤ DecimalFault) → as_bits (λ number. number) result ≡ result

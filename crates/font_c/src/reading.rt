@@ -4,7 +4,7 @@ ghost use Rattle.std.specs.Prelude.{◌≡◌, ◌≢◌, ◌<◌, ◌≤◌};
 ghost use Rattle.std.specs.Int.{w16, w32, w64};
 ghost use Rattle.font_c.specs.Readings.{reading_of, ReadsInto};
 
-use font_arithmetic::{read_bits_16, read_bits_32, read_bits_64};
+use font_fixed::{read_bits_16, read_bits_32, read_bits_64};
 use font_types::DecimalFault;
 
 // The value was stored.

@@ -8,10 +8,10 @@ use Rattle.font_base.proofs.Widths.{signed_fits}
 use Rattle.font_base.specs.Wrap.{wrap, FitsBits}
 use Rattle.font_base.specs.Wrap.Laws.{wrap-add_right, wrap-wrap}
 use Rattle.font_decimal.specs.Near.{near}
-use Rattle.font_arithmetic.specs.Operations.{IsQuotient, IsMulDiv, floor_of, fract_of}
-use Rattle.font_arithmetic.proofs.Calls.{near-times, near-times_left, near-times_zero, near-zero_times, add_zero}
-use Rattle.font_arithmetic.proofs.Calls.{fits_32, calls_32}
-use Rattle.font_arithmetic.proofs.Laws.{itself, mul_div_exact, mul_div_between, quotient_between}
+use Rattle.font_fixed.specs.Operations.{IsQuotient, IsMulDiv, floor_of, fract_of}
+use Rattle.font_fixed.proofs.Calls.{near-times, near-times_left, near-times_zero, near-zero_times, add_zero}
+use Rattle.font_fixed.proofs.Calls.{fits_32, calls_32}
+use Rattle.font_fixed.proofs.NumberLaws.{itself, mul_div_exact, mul_div_between, quotient_between}
 
 pub mul_one : (x : ℤ) → near (x *ℤ pos 65536) 65536 ≡ x
 mul_one x = near-times x 65536 (lit< tt)

@@ -1,2 +1,15 @@
+pub mod Wrapped
+pub mod Sums
+pub mod Shifts
+pub mod Narrowing
+pub mod Quotients
+pub mod Steps
+pub mod Texts
+pub mod NumberLaws
+pub mod Group
+pub mod Calls
+pub mod Small
+pub mod Rules
+pub mod Fractions
 pub mod FixedCalls
 pub mod NarrowCalls

@@ -9,9 +9,9 @@ use Rattle.font_base.specs.Wrap.Laws.{wrap-fits, wrap_is, wrap_same}
 use Rattle.font_decimal.specs.Near.{Up, up}
 use Rattle.font_decimal.proofs.Integers.{neg-times}
 use Rattle.font_decimal.proofs.Near.{up_is, up_monotone, up_whole, up-times}
-use Rattle.font_arithmetic.specs.Operations.{least, greatest, narrowed}
-use Rattle.font_arithmetic.proofs.Calls.{fits_32}
-use Rattle.font_arithmetic.proofs.Sums.{sums}
+use Rattle.font_fixed.specs.Operations.{least, greatest, narrowed}
+use Rattle.font_fixed.proofs.Calls.{fits_32}
+use Rattle.font_fixed.proofs.Sums.{sums}
 use Rattle.font_fixed.proofs.FixedCalls.{fixed_calls}
 
 -- ---- of any width

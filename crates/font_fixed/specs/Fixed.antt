@@ -1,7 +1,11 @@
 -- 16.16 fixed-point numbers (OpenType, data types: Fixed, "32-bit signed fixed-point number (16.16)").
-use Rattle.std.specs.Prelude.{ℕ, ℤ, List}
+use Rattle.std.specs.Prelude.{ℕ, ℤ, List, pos, neg_ℤ, ◌-◌, ◌^◌}
 use Rattle.font_decimal.specs.Shortest.{shortest_text}
-use Rattle.font_fixed.specs.declared.fixed.Fixed.{Fixed}
+use Rattle.font_fixed.specs.declared.fixed_i32.FixedI32.{FixedI32}
+
+-- a `Fixed`
+abbrev pub Fixed : Type 0
+Fixed = FixedI32 16
 
 -- the raw value of a `Fixed`, its value times 2^16
 abbrev pub fixed_bits : Fixed → ℤ
@@ -14,3 +18,22 @@ fixed_of bits = record { 0 = bits }
 -- the printed text of a `Fixed`: its shortest decimal
 abbrev pub fixed_text : Fixed → List ℕ
 fixed_text x = shortest_text (fixed_bits x) 16
+
+-- the constants of the type, as clauses name them after `ghost use` of this module: `Fixed.ONE`
+abbrev pub MIN : Fixed
+MIN = fixed_of (neg_ℤ (pos (2 ^ 31)))
+
+abbrev pub MAX : Fixed
+MAX = fixed_of (pos (2 ^ 31 - 1))
+
+abbrev pub EPSILON : Fixed
+EPSILON = fixed_of (pos 1)
+
+abbrev pub ZERO : Fixed
+ZERO = fixed_of (pos 0)
+
+abbrev pub ONE : Fixed
+ONE = fixed_of (pos (2 ^ 16))
+
+abbrev pub NEG_ONE : Fixed
+NEG_ONE = fixed_of (neg_ℤ (pos (2 ^ 16)))

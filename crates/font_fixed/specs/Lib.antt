@@ -1,5 +1,16 @@
+pub mod Operations
+pub mod NumberLaws
+pub mod Reading
+pub mod FixedI16
+pub mod FixedI32
+pub mod FixedI64
+pub mod Longest
 pub mod Fixed
 pub mod F2Dot14
+pub mod F4Dot12
+pub mod F6Dot10
+pub mod F26Dot6
+pub mod F2Dot30
 pub mod F48Dot16
 pub use Rattle.font_base.specs.Wrap
 pub use Rattle.font_base.specs.Bytes
@@ -7,6 +18,3 @@ pub use Rattle.font_decimal.specs.Grammar
 pub use Rattle.font_decimal.specs.Padding
 pub use Rattle.font_decimal.specs.Near
 pub use Rattle.font_decimal.specs.Shortest
-pub use Rattle.font_arithmetic.specs.Operations
-pub use Rattle.font_arithmetic.specs.NumberLaws
-pub use Rattle.font_f26.specs.F26Dot6

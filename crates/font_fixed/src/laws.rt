@@ -1,5 +1,4 @@
 //! Laws of arithmetic, as contracts of functions.
 
+pub mod f26dot6;
 pub mod fixed;
-
-pub use font_f26::laws::f26dot6;

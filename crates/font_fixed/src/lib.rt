@@ -1,5 +1,5 @@
-//! `Fixed` (16.16), `F2Dot14` (2.14) and `F48Dot16` (48.16), with `F26Dot6` (26.6) of `font_f26`:
-//! the types that convert to one another.
+//! Fixed-point numbers: [`FixedI16`], [`FixedI32`] and [`FixedI64`] over any number of fraction
+//! bits, and the formats of fonts, which are names for seven of them.
 //!
 //! ```text
 //! let half = Fixed::from_decimal("0.5")?;
@@ -8,15 +8,20 @@
 //! ```
 #![tactic(auto)]
 
-mod f2dot14;
-mod f48dot16;
-mod fixed;
+mod fixed_i16;
+mod fixed_i32;
+mod fixed_i64;
+mod formats;
 pub mod laws;
+mod products;
+mod reading;
 
-pub use f2dot14::F2Dot14;
-pub use f48dot16::F48Dot16;
-pub use fixed::Fixed;
-pub use font_f26::F26Dot6;
+pub use fixed_i16::{F2Dot14, F4Dot12, F6Dot10, FixedI16};
+pub use fixed_i32::{F2Dot30, F26Dot6, Fixed, FixedI32};
+pub use fixed_i64::{F48Dot16, FixedI64};
+pub use formats::{Format, Formats};
+pub use products::{low_bits, mul_div, product};
+pub use reading::{read_bits_16, read_bits_32, read_bits_64};
 
 #[cfg(test)]
 mod tests;

@@ -3,6 +3,9 @@
 mod arithmetic;
 mod calling;
 mod conversions;
+mod f26dot6_arithmetic;
+mod f26dot6_texts;
 mod padded;
+mod products;
 mod sampled;
 mod texts;

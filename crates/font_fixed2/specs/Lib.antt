@@ -1,10 +1,3 @@
-pub mod F4Dot12
-pub mod F6Dot10
-pub mod F2Dot30
-pub use Rattle.font_base.specs.Wrap
-pub use Rattle.font_base.specs.Bytes
-pub use Rattle.font_decimal.specs.Grammar
-pub use Rattle.font_decimal.specs.Padding
-pub use Rattle.font_decimal.specs.Near
-pub use Rattle.font_decimal.specs.Shortest
-pub use Rattle.font_arithmetic.specs.Operations
+pub use Rattle.font_fixed.specs.F4Dot12
+pub use Rattle.font_fixed.specs.F6Dot10
+pub use Rattle.font_fixed.specs.F2Dot30

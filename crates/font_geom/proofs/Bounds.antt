@@ -8,7 +8,7 @@ use Rattle.std.proofs.Math.Nat.{mul-le-mul_right, mul-le-mul, le_trans}
 use Rattle.font_base.specs.Integers.{sum-times, product-times}
 use Rattle.font_base.specs.Wrap.Laws.{wrap-fits, wrap-add_left, wrap-add_right}
 use Rattle.font_decimal.proofs.Near.{near_is}
-use Rattle.font_arithmetic.proofs.Sums.{sums}
+use Rattle.font_fixed.proofs.Sums.{sums}
 use Rattle.font_geom.specs.declared.matrix.Matrix.{Matrix}
 use Rattle.font_geom.specs.declared.point.Point.{Point}
 use Rattle.font_geom.specs.Matrix.{linear_form, affine_form, image_of, matrix_product, FitsEach}

@@ -1,8 +1,8 @@
 -- What calls on matrices of `Fixed` give, over their bits.
 use Rattle.std.proofs.Common.{◌≡◌, ◌+ℤ◌}
 use Rattle.font_base.specs.Wrap.{wrap}
-use Rattle.font_arithmetic.specs.Operations.{IsProduct}
-use Rattle.font_fixed.specs.declared.fixed.Fixed.{Fixed}
+use Rattle.font_fixed.specs.Operations.{IsProduct}
+use Rattle.font_fixed.specs.Fixed.{Fixed}
 use Rattle.font_fixed.specs.Fixed.{fixed_bits}
 use Rattle.font_geom.specs.declared.matrix.Matrix.{Matrix}
 use Rattle.font_geom.specs.declared.point.Point.{Point}

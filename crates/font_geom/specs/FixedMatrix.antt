@@ -5,7 +5,7 @@ use Rattle.std.specs.Prelude.{◌≡◌, ℕ, ◌+◌, ◌*◌, ◌/◌, ◌^◌
 use Rattle.std.specs.Prelude.{unsigned_abs}
 use Rattle.font_base.specs.Wrap.{FitsBits, wrap}
 use Rattle.font_decimal.specs.Near.{near}
-use Rattle.font_fixed.specs.declared.fixed.Fixed.{Fixed}
+use Rattle.font_fixed.specs.Fixed.{Fixed}
 use Rattle.font_fixed.specs.Fixed.{fixed_bits, fixed_of}
 use Rattle.font_geom.specs.declared.matrix.Matrix.{Matrix}
 use Rattle.font_geom.specs.declared.point.Point.{Point}

@@ -19,7 +19,7 @@ use std::fmt;
 
 // Rounds a 16.16 raw value to the nearest integer, half up.
 #[inline]
-#[tactic(auto, using(font_arithmetic::proofs::Shifts::halves_up_128))]
+#[tactic(auto, using(font_fixed::proofs::Shifts::halves_up_128))]
 fn nearest_whole(steps: i128) -> i128
     ensures { result ≡ nearest_unit steps }
 {

@@ -1,7 +1,7 @@
 -- What callers of this crate cite of all below it: the ruleset `calls`, which a crate names once at its head, and
 -- lemmas for answers of their own.
 use Rattle.font_base.proofs.ScalarCalls.{scalar_calls}
-use Rattle.font_arithmetic.proofs.Calls.{calls_16, calls_64}
+use Rattle.font_fixed.proofs.Calls.{calls_16, calls_64}
 use Rattle.font_fixed.proofs.NarrowCalls.{narrow_calls, quarter_neg_one}
 use Rattle.font_tags.proofs.TagLaws.{tag_calls}
 use Rattle.font_tags.proofs.VersionLaws.{compatible_calls}
@@ -22,9 +22,9 @@ pub use Rattle.font_decimal.proofs.Printed.{shortest_is}
 pub use Rattle.font_decimal.proofs.Printed.{printed_is_read, printed_reads_once, same_value, printed_is_not_minus_zero}
 pub use Rattle.font_decimal.proofs.Printed.{zero_ends_no_fraction}
 pub use Rattle.font_decimal.proofs.Columns.{trimmed_column}
-pub use Rattle.font_arithmetic.proofs.Small.{product_near, mul_div_near}
-pub use Rattle.font_arithmetic.proofs.Group
-pub use Rattle.font_arithmetic.proofs.Laws
+pub use Rattle.font_fixed.proofs.Small.{product_near, mul_div_near}
+pub use Rattle.font_fixed.proofs.Group
+pub use Rattle.font_fixed.proofs.NumberLaws as Laws
 pub use Rattle.font_tags.proofs.TagLaws.{validated_good, good_is_utf8}
 pub use Rattle.font_tags.proofs.TagLaws
 pub use Rattle.font_geom.proofs.FixedCalls.{product_value, image_value}

@@ -2,7 +2,7 @@
 -- (OpenType, item variation stores: an interpolated delta is the sum of the scaled deltas of all regions)
 use Rattle.std.specs.Prelude.{List, fold, Option, Some, None, option_map, if◌then◌else◌, ℤ, pos, ◌+ℤ◌, ◌*ℤ◌}
 use Rattle.font_base.specs.Wrap.{fits_bits}
-use Rattle.font_fixed.specs.declared.fixed.Fixed.{Fixed}
+use Rattle.font_fixed.specs.Fixed.{Fixed}
 use Rattle.font_fixed.specs.Fixed.{fixed_bits}
 
 -- the exact sum of an integer for each element of a list

@@ -6,7 +6,7 @@ use Rattle.std.specs.Result.{result_map_both}
 use Rattle.serde_json.specs.Data.{Data, object, member, no_members, number, unsigned}
 use Rattle.serde_json.specs.Find.{as_number, as_integer, as_object, as_str, get, of_integer}
 use Rattle.font_decimal.specs.Grammar.{IsNoDecimal}
-use Rattle.font_arithmetic.specs.Operations.{ReadsAs, IsTooFar, least, greatest}
+use Rattle.font_fixed.specs.Operations.{ReadsAs, IsTooFar, least, greatest}
 use Rattle.font_decimal.specs.declared.reader.DecimalFault.{DecimalFault}
 use Rattle.font_tags.specs.declared.tag.Tag.{Tag}
 use Rattle.font_tags.specs.declared.version.MajorMinor.{MajorMinor}

@@ -17,16 +17,16 @@ pub use Rattle.font_decimal.specs.Reading
 pub use Rattle.font_decimal.specs.Shortest
 pub use Rattle.font_decimal.specs.Shown
 pub use Rattle.font_decimal.specs.Padding
-pub use Rattle.font_arithmetic.specs.Operations
-pub use Rattle.font_arithmetic.specs.NumberLaws
-pub use Rattle.font_arithmetic.specs.Reading as NumberReading
-pub use Rattle.font_f26.specs.F26Dot6
+pub use Rattle.font_fixed.specs.Operations
+pub use Rattle.font_fixed.specs.NumberLaws
+pub use Rattle.font_fixed.specs.Reading as NumberReading
+pub use Rattle.font_fixed.specs.F26Dot6
 pub use Rattle.font_fixed.specs.Fixed
 pub use Rattle.font_fixed.specs.F2Dot14
 pub use Rattle.font_fixed.specs.F48Dot16
-pub use Rattle.font_fixed2.specs.F4Dot12
-pub use Rattle.font_fixed2.specs.F6Dot10
-pub use Rattle.font_fixed2.specs.F2Dot30
+pub use Rattle.font_fixed.specs.F4Dot12
+pub use Rattle.font_fixed.specs.F6Dot10
+pub use Rattle.font_fixed.specs.F2Dot30
 pub use Rattle.font_tags.specs.Tag
 pub use Rattle.font_tags.specs.Version
 pub use Rattle.font_tags.specs.LongDateTime
@@ -41,6 +41,8 @@ pub use Rattle.font_geom.specs.Ring
 pub use Rattle.font_geom.specs.FixedMatrix
 pub use Rattle.font_decimal.specs.declared.reader.DecimalFault
 pub use Rattle.font_tags.specs.declared.tag.InvalidTag
-pub use Rattle.font_fixed.specs.declared.fixed
+pub use Rattle.font_fixed.specs.declared.fixed_i16
+pub use Rattle.font_fixed.specs.declared.fixed_i32
+pub use Rattle.font_fixed.specs.declared.fixed_i64
 pub use Rattle.font_geom.specs.declared.matrix
 pub use Rattle.font_geom.specs.declared.point

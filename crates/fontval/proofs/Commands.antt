@@ -21,7 +21,7 @@ use Rattle.fontval.specs.Numbers.{ReadsJust, ReadsTerms, ReadsWhole, ReadsEach, 
 use Rattle.fontval.specs.Numbers.{AndThen, pairs_of}
 use Rattle.fontval.specs.Deltas.{varied_answer, Varies, sum_of}
 use Rattle.fontval.specs.Images.{images_text, ShowsImages}
-use Rattle.font_types.specs.fixed.Fixed.{Fixed}
+use Rattle.font_types.specs.Fixed.{Fixed}
 use Rattle.font_types.specs.matrix.Matrix.{Matrix}
 use Rattle.font_types.specs.point.Point.{Point}
 use Rattle.font_types.specs.Matrix.{elements_of}

@@ -6,7 +6,7 @@ use Rattle.fontval.specs.Numbers.{ReadsEach, ReadsFixed, ReadsJust, ReadsTerm, R
 use Rattle.fontval.specs.declared.refusal.Refusal.{Refusal}
 use Rattle.std.proofs.lemmas.List.{take_more_set}
 use Rattle.std.proofs.Math.Seq.{take-length}
-use Rattle.font_types.specs.fixed.Fixed.{Fixed}
+use Rattle.font_types.specs.Fixed.{Fixed}
 use Rattle.fontval.specs.Text.{words_of}
 use Rattle.fontval.specs.declared.refusal.Refusal.TheVariants.{WordCount}
 use Rattle.std.specs.Char.{IsAsciiDigit}

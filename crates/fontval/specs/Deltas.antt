@@ -5,7 +5,7 @@ use Rattle.std.specs.Fmt.{signed_decimal}
 use Rattle.std.specs.Option.{ok_or}
 use Rattle.font_types.specs.Delta.{sum_in_range, varied}
 use Rattle.font_types.specs.Shortest.{shortest_text}
-use Rattle.font_types.specs.fixed.Fixed.{Fixed}
+use Rattle.font_types.specs.Fixed.{Fixed}
 use Rattle.fontval.specs.Numbers.{AndThen, ReadsTerms, ReadsWhole}
 use Rattle.fontval.specs.Refusal.{Answer}
 use Rattle.fontval.specs.declared.refusal.Refusal.TheVariants.{WordCount, OutOfRange}

@@ -1,7 +1,7 @@
 -- Where a point goes by two matrices, composed and in turn, as text.
 use Rattle.std.specs.Prelude.{◌≡◌, ℕ, ℤ, List, [], ◌∷◌, ◌++◌, codes, Ok}
 use Rattle.font_types.specs.Shortest.{shortest_text}
-use Rattle.font_types.specs.fixed.Fixed.{Fixed}
+use Rattle.font_types.specs.Fixed.{Fixed}
 use Rattle.font_types.specs.matrix.Matrix.{Matrix}
 use Rattle.font_types.specs.point.Point.{Point}
 use Rattle.font_types.specs.Matrix.{elements_of, image_of, matrix_product}

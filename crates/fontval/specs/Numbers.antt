@@ -8,7 +8,7 @@ use Rattle.std.specs.Result.{result_map_both}
 use Rattle.std.specs.Str.Parse.{IsNumeral, starts_with_minus, signed_digits_value}
 use Rattle.font_types.specs.DecimalFault.{DecimalFault}
 use Rattle.font_types.specs.Fixed.{fixed_of}
-use Rattle.font_types.specs.fixed.Fixed.{Fixed}
+use Rattle.font_types.specs.Fixed.{Fixed}
 use Rattle.font_types.specs.Operations.{ReadingGives}
 use Rattle.font_types.specs.Wrap.{FitsBits}
 use Rattle.fontval.specs.Refusal.{refusal_of}

@@ -20,9 +20,9 @@ use crate::font_fixed::Fixed;
 ///
 /// Defined:
 /// [`fixed_bits`](crate::contracts::font_fixed::Fixed),
-/// [`OnFour`](crate::contracts::font_arithmetic::NumberLaws),
-/// [`ProductLaws`](crate::contracts::font_arithmetic::NumberLaws),
-/// [`ProductInOneStep`](crate::contracts::font_arithmetic::NumberLaws).
+/// [`OnFour`](crate::contracts::font_fixed::NumberLaws),
+/// [`ProductLaws`](crate::contracts::font_fixed::NumberLaws),
+/// [`ProductInOneStep`](crate::contracts::font_fixed::NumberLaws).
 /// [How to read it](crate::contracts).
 ///
 /// </details>
@@ -50,9 +50,9 @@ pub fn product_laws(x: Fixed, y: Fixed) -> [Fixed; 4] {
 ///
 /// Defined:
 /// [`fixed_bits`](crate::contracts::font_fixed::Fixed),
-/// [`OnFour`](crate::contracts::font_arithmetic::NumberLaws),
-/// [`QuotientLaws`](crate::contracts::font_arithmetic::NumberLaws),
-/// [`QuotientInOneStep`](crate::contracts::font_arithmetic::NumberLaws).
+/// [`OnFour`](crate::contracts::font_fixed::NumberLaws),
+/// [`QuotientLaws`](crate::contracts::font_fixed::NumberLaws),
+/// [`QuotientInOneStep`](crate::contracts::font_fixed::NumberLaws).
 /// [How to read it](crate::contracts).
 ///
 /// </details>

@@ -7,11 +7,9 @@ use std::io::Write;
 use std::process::{Command, Stdio};
 
 /// The crates of the library, lowest first, and of each the modules that are left out.
-pub const LIBRARY: [(&str, &[&str]); 10] = [
+pub const LIBRARY: [(&str, &[&str]); 8] = [
     ("font_decimal", &[]),
     ("font_base", &["facts"]),
-    ("font_arithmetic", &[]),
-    ("font_f26", &[]),
     ("font_fixed", &[]),
     ("font_fixed2", &[]),
     ("font_tags", &[]),

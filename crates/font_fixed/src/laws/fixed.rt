@@ -1,8 +1,8 @@
 //! Laws of [`Fixed`], as contracts of functions.
 
 ghost use Rattle.font_fixed.specs.Fixed.{fixed_bits};
-ghost use Rattle.font_arithmetic.specs.NumberLaws.{OnFour, ProductLaws, ProductInOneStep};
-ghost use Rattle.font_arithmetic.specs.NumberLaws.{QuotientLaws, QuotientInOneStep};
+ghost use Rattle.font_fixed.specs.NumberLaws.{OnFour, ProductLaws, ProductInOneStep};
+ghost use Rattle.font_fixed.specs.NumberLaws.{QuotientLaws, QuotientInOneStep};
 
 use crate::Fixed;
 

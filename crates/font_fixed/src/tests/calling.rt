@@ -2,8 +2,9 @@
 
 ghost use Rattle.std.specs.Prelude.{◌≡◌, ◌≢◌, ◌≤◌, ◌<◌, pos, ◌≤ℤ◌, ◌*ℤ◌, Ok, IfOk, IfSome, length};
 ghost use Rattle.std.specs.Int.{w32};
-ghost use Rattle.font_arithmetic.specs.Reading.{ReadsBy};
+ghost use Rattle.font_fixed.specs.Reading.{ReadsBy};
 ghost use Rattle.font_fixed.specs.F2Dot14.{f2dot14_bits};
+ghost use Rattle.font_fixed.specs.Fixed;
 ghost use Rattle.font_fixed.specs.Fixed.{fixed_bits, fixed_text};
 ghost use Rattle.font_decimal.specs.Padding.{padded_text, FillsFront};
 

@@ -9,8 +9,8 @@ use Rattle.font_base.specs.Wrap.{fits_bits}
 use Rattle.font_base.specs.Wrap.Laws.{fits_bits-true}
 use Rattle.font_decimal.specs.Shortest.{shortest_text}
 use Rattle.font_decimal.proofs.Readings.{rounds_unique, not_outside}
-use Rattle.font_arithmetic.specs.Operations.{ReadsAs, least, greatest}
-use Rattle.font_arithmetic.proofs.Texts.{printed_reads}
+use Rattle.font_fixed.specs.Operations.{ReadsAs, least, greatest}
+use Rattle.font_fixed.proofs.Texts.{printed_reads}
 use Rattle.font_types.specs.declared.json.JsonFault.{JsonFault}
 use Rattle.font_types.specs.declared.json.JsonFault.TheVariants.{Memory, WrongKind, OutOfRange, Syntax, NotUtf8}
 use Rattle.font_types.specs.declared.json.JsonFault.TheVariants.{InvalidTag, MissingMember}

@@ -2,7 +2,7 @@
 //! printed column.
 
 ghost use Rattle.std.specs.Prelude.{◌≡◌, false, Ok, IfOk, map, filter, nat_le};
-ghost use Rattle.font_types.specs.Fixed.{fixed_bits, fixed_text};
+ghost use Rattle.font_types.specs.Fixed.{Fixed, fixed_bits, fixed_text};
 ghost use Rattle.font_types.specs.NameId.{name_number, name_id_of, predefined_numbers};
 ghost use Rattle.font_types.specs.Padding.{padded_text};
 ghost use Rattle.font_types.specs.Wrap.{FitsBits};

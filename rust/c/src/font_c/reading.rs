@@ -2,7 +2,7 @@
 
 //! Decimals parsed for C.
 
-use crate::font_arithmetic::{read_bits_16, read_bits_32, read_bits_64};
+use crate::font_fixed::{read_bits_16, read_bits_32, read_bits_64};
 use crate::font_types::DecimalFault;
 
 // The value was stored.

@@ -1,6 +1,6 @@
 use Rattle.std.proofs.Common.{◌∙◌, lit≤, rules, w64}
 use Rattle.std.specs.Int.{w128}
-use Rattle.font_arithmetic.proofs.Wrapped.{rem_euclid-wrap}
+use Rattle.font_fixed.proofs.Wrapped.{rem_euclid-wrap}
 use Rattle.font_types.proofs.delta.DeltaSum.finish.Goals as goal
 
 pub returns : goal.returns

@@ -1,9 +1,0 @@
-use Rattle.std.proofs.Common.{rules, lit<}
-use Rattle.std.specs.Int.{w32}
-use Rattle.font_base.proofs.Widths.{signed_fits}
-use Rattle.font_arithmetic.proofs.Laws.{product_laws_hold}
-use Rattle.font_f26.proofs.laws.f26dot6.product_laws.Goals as goal
-
-pub returns : goal.returns
-returns c = product_laws_hold 32 6 _ _ _ _ _ (lit< tt)
-    (signed_fits w32 c.args.x.0 (search rules)) c.mul.ensures c.mul-2.ensures c.mul-3.ensures

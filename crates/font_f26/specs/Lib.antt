@@ -1,9 +1,0 @@
-pub mod F26Dot6
-pub use Rattle.font_base.specs.Wrap
-pub use Rattle.font_base.specs.Bytes
-pub use Rattle.font_decimal.specs.Grammar
-pub use Rattle.font_decimal.specs.Padding
-pub use Rattle.font_decimal.specs.Near
-pub use Rattle.font_decimal.specs.Shortest
-pub use Rattle.font_arithmetic.specs.Operations
-pub use Rattle.font_arithmetic.specs.NumberLaws

@@ -1,3 +1,0 @@
-//! Laws of arithmetic, as contracts of functions.
-
-pub mod f26dot6;

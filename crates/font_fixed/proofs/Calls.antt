@@ -1,0 +1,83 @@
+-- What callers know of sums and products with 0 and with 1, as equations of the words `wrap` and `near`.
+use Rattle.std.proofs.Common.{◌≡◌, sym, ℕ, ◌<◌, ℤ, pos, neg_ℤ, ◌+ℤ◌, ◌-ℤ◌, ◌*ℤ◌, arith, w16, w32, w64}
+use Rattle.std.proofs.lemmas.Int.{ints}
+use Rattle.std.proofs.Math.IntN.{*ℤ_comm, +ℤ-neg_ℤ_cancel, -ℤ-+ℤ_cancel}
+use Rattle.std.specs.Int.{Width}
+use mir.Val.{SFits, bits}
+use Rattle.font_base.specs.Wrap.{wrap}
+use Rattle.font_base.specs.Wrap.Laws.{wrap-fits, wrap-add_left}
+use Rattle.font_base.proofs.Widths.{signed_fits, bits_positive}
+use Rattle.font_decimal.specs.Near.{near}
+use Rattle.font_decimal.proofs.Near.{near_gives}
+use Rattle.font_fixed.proofs.NumberLaws.{near_exact}
+
+-- wrapping leaves what fits
+pub wrap-signed_fits : (w : Width) (z : ℤ) → SFits w z → wrap (bits w) z ≡ z
+wrap-signed_fits w z fits = wrap-fits (bits w) z (bits_positive w) (signed_fits w z fits)
+
+-- a sum with 0, and a difference
+pub add_zero : (z : ℤ) → (z +ℤ pos 0) ≡ z
+add_zero z = omega (arith, ints)
+
+pub zero_add : (z : ℤ) → (pos 0 +ℤ z) ≡ z
+zero_add z = omega (arith, ints)
+
+pub sub_zero : (z : ℤ) → (z -ℤ pos 0) ≡ z
+sub_zero z = omega (arith, ints)
+
+-- what is added and taken away again, and the other way round
+pub wrap-add_sub_cancel : (w : Width) (a b : ℤ) → SFits w a → wrap (bits w) (wrap (bits w) (a +ℤ b) -ℤ b) ≡ a
+wrap-add_sub_cancel w a b fits =
+    rw (wrap-add_left (bits w) (a +ℤ b) (neg_ℤ b) (bits_positive w), +ℤ-neg_ℤ_cancel) (wrap-signed_fits w a fits)
+
+pub wrap-sub_add_cancel : (w : Width) (a b : ℤ) → SFits w a → wrap (bits w) (wrap (bits w) (a -ℤ b) +ℤ b) ≡ a
+wrap-sub_add_cancel w a b fits =
+    rw (wrap-add_left (bits w) (a -ℤ b) b (bits_positive w), -ℤ-+ℤ_cancel) (wrap-signed_fits w a fits)
+
+-- at each width, for callers to name once: a sum with zero, what is added and taken away, and wrapping of what fits
+pub fits_16 : (z : ℤ) → SFits w16 z → wrap 16 z ≡ z
+fits_16 = wrap-signed_fits w16
+
+pub add_sub_cancel_16 : (a b : ℤ) → SFits w16 a → wrap 16 (wrap 16 (a +ℤ b) -ℤ b) ≡ a
+add_sub_cancel_16 = wrap-add_sub_cancel w16
+
+pub sub_add_cancel_16 : (a b : ℤ) → SFits w16 a → wrap 16 (wrap 16 (a -ℤ b) +ℤ b) ≡ a
+sub_add_cancel_16 = wrap-sub_add_cancel w16
+
+pub fits_32 : (z : ℤ) → SFits w32 z → wrap 32 z ≡ z
+fits_32 = wrap-signed_fits w32
+
+pub add_sub_cancel_32 : (a b : ℤ) → SFits w32 a → wrap 32 (wrap 32 (a +ℤ b) -ℤ b) ≡ a
+add_sub_cancel_32 = wrap-add_sub_cancel w32
+
+pub sub_add_cancel_32 : (a b : ℤ) → SFits w32 a → wrap 32 (wrap 32 (a -ℤ b) +ℤ b) ≡ a
+sub_add_cancel_32 = wrap-sub_add_cancel w32
+
+pub fits_64 : (z : ℤ) → SFits w64 z → wrap 64 z ≡ z
+fits_64 = wrap-signed_fits w64
+
+pub add_sub_cancel_64 : (a b : ℤ) → SFits w64 a → wrap 64 (wrap 64 (a +ℤ b) -ℤ b) ≡ a
+add_sub_cancel_64 = wrap-add_sub_cancel w64
+
+pub sub_add_cancel_64 : (a b : ℤ) → SFits w64 a → wrap 64 (wrap 64 (a -ℤ b) +ℤ b) ≡ a
+sub_add_cancel_64 = wrap-sub_add_cancel w64
+
+pub ruleset calls_16 = (fits_16, add_zero, zero_add, sub_zero, add_sub_cancel_16, sub_add_cancel_16)
+
+pub ruleset calls_32 = (fits_32, add_zero, zero_add, sub_zero, add_sub_cancel_32, sub_add_cancel_32)
+
+pub ruleset calls_64 = (fits_64, add_zero, zero_add, sub_zero, add_sub_cancel_64, sub_add_cancel_64)
+
+-- a whole number of steps needs no rounding
+pub near-times : (q : ℤ) (d : ℕ) → 0 < d → near (q *ℤ pos d) d ≡ q
+near-times q d some = sym (near_gives (q *ℤ pos d) d q some (near_exact q d some))
+
+pub near-times_left : (q : ℤ) (d : ℕ) → 0 < d → near (pos d *ℤ q) d ≡ q
+near-times_left q d some = rw (*ℤ_comm (pos d) q) (near-times q d some)
+
+pub near-times_zero : (q : ℤ) (d : ℕ) → 0 < d → near (q *ℤ pos 0) d ≡ pos 0
+near-times_zero q d some = let none : (q *ℤ pos 0) ≡ (pos 0 *ℤ pos d) = omega (arith, ints) in
+    rw none (near-times (pos 0) d some)
+
+pub near-zero_times : (q : ℤ) (d : ℕ) → 0 < d → near (pos 0 *ℤ q) d ≡ pos 0
+near-zero_times q d some = rw (*ℤ_comm (pos 0) q) (near-times_zero q d some)

@@ -1,0 +1,155 @@
+-- Numbers rounded with ties upwards, as code has it: half a step is added, and what lies above the greatest multiple of
+-- a step is dropped.
+use Rattle.std.proofs.Common.{◌≡◌, ◌∙◌, ap, refl, ℕ, ◌+◌, ◌-◌, ◌*◌, ◌/◌, ◌^◌, ◌<◌, ◌≤◌, Bool, ℤ, pos, neg_ℤ, ◌+ℤ◌, ◌*ℤ◌}
+use Rattle.std.proofs.Common.{◌-ℤ◌, ◌≤ℤ◌, ◌<ℤ◌, arith, IsTrue, nat_lt, ◌&&◌, ◌==◌, pow_pos, SFits, to_z, of_z}
+use Rattle.std.proofs.lemmas.Int.{ints, by_lt_z, to_z-of_z}
+use Rattle.std.proofs.lemmas.Bool.Decides.{nat_tests}
+use Rattle.std.specs.Int.{Width}
+use mir.Val.{bits, hbits}
+use lib.Signed.{shr_z}
+use Rattle.font_base.specs.Integers.{sum-times, product-times}
+use Rattle.font_base.specs.Wrap.{half_range, wrap, FitsBits}
+use Rattle.font_base.specs.Wrap.Laws.{wrap_is, wrap_gives, wrap-wrap}
+use Rattle.font_base.proofs.Widths.{bits_positive, half_range-bits}
+use Rattle.font_decimal.specs.Near.{Up, up}
+use Rattle.font_decimal.proofs.Integers.{neg-times, times-next, times_monotone}
+use Rattle.font_decimal.proofs.Near.{up_gives}
+use Rattle.font_fixed.specs.Operations.{IsNarrowed, IsNearestWhole, IsFloor, IsFract}
+use Rattle.font_fixed.proofs.Shifts.{shr_low, shr_high, shr_fits}
+use Rattle.font_fixed.proofs.Sums.{sums}
+
+-- where s lies within h * d of zero, the greatest q with q * d not above s lies within h
+fits_low : (d h : ℕ) (s q : ℤ) → neg_ℤ (pos (h * d)) ≤ℤ s → s <ℤ ((q *ℤ pos d) +ℤ pos d) → neg_ℤ (pos h) ≤ℤ q
+fits_low d h s q low below = by_lt_z q (neg_ℤ (pos h)) (λ less.
+    let scaled = times_monotone (q +ℤ pos 1) (neg_ℤ (pos h)) d (omega (arith, sums, less)) in
+    absurd (omega (arith, sums, low, below, scaled, times-next q d, neg-times (pos h) d))) (λ more. more)
+
+fits_high : (d h : ℕ) (s q : ℤ) → s <ℤ pos (h * d) → (q *ℤ pos d) ≤ℤ s → q <ℤ pos h
+fits_high d h s q high low = by_lt_z q (pos h) (λ less. less)
+    (λ more. absurd (omega (arith, sums, high, low, times_monotone (pos h) q d more)))
+
+-- a floor is at least a whole number that the number is at least
+floor_at_least : (f h : ℕ) (x r : ℤ) → neg_ℤ (pos (h * 2 ^ f)) ≤ℤ x → IsFloor f x r → neg_ℤ (pos (h * 2 ^ f)) ≤ℤ r
+floor_at_least f h x r low floor =
+    let above : x <ℤ ((floor.whole *ℤ pos (2 ^ f)) +ℤ pos (2 ^ f)) = rw (← floor.bits) floor.high in
+    let scaled = times_monotone (neg_ℤ (pos h)) floor.whole (2 ^ f) (fits_low (2 ^ f) h x floor.whole low above) in
+    omega (arith, sums, floor.bits, scaled, neg-times (pos h) (2 ^ f))
+
+-- numbers of w bits are v bits of whole numbers, each of d steps, and a half step above is `half` of these
+abbrev pub is_width_split : ℕ → ℕ → ℕ → ℕ → Bool
+is_width_split w v d half = nat_lt 0 v &&
+    ((d == half + half) && ((2 ^ w == 2 ^ v * d) && (half_range w == half_range v * d)))
+
+record WidthSplit (w v d half : ℕ) : Type 0 where
+  some : 0 < v
+  steps : 0 < d
+  halves : d ≡ half + half
+  whole : 2 ^ w ≡ 2 ^ v * d
+  top : half_range w ≡ half_range v * d
+
+width_split : (w v d half : ℕ) → IsTrue (is_width_split w v d half) → WidthSplit w v d half
+width_split w v d half test = record {
+  some = grind (arith, nat_tests);
+  steps = grind (arith, nat_tests, pow_pos w);
+  halves = grind (arith, nat_tests);
+  whole = grind (arith, nat_tests);
+  top = grind (arith, nat_tests);
+}
+
+-- x and half a step, s, wrapped to w bits, and the greatest multiple of d not above: so x / d is rounded to v bits
+is_narrowed : (w v d half : ℕ) (x s q : ℤ) → WidthSplit w v d half → 0 < w → s ≡ wrap w (x +ℤ pos half)
+    → (q *ℤ pos d) ≤ℤ s → s <ℤ ((q *ℤ pos d) +ℤ pos d) → IsNarrowed v x d q
+is_narrowed w v d half x s q it wide is low high =
+    let given = wrap_is w (x +ℤ pos half) wide in
+    let turns : ℤ = given.turns *ℤ pos (2 ^ v) in
+    let apart : (turns *ℤ pos d) ≡ (given.turns *ℤ pos (2 ^ w)) = rw it.whole
+    (product-times given.turns (pos (2 ^ v)) (pos d)) in
+    let next = times-next (q +ℤ turns) d in
+    let nearest : Up x d (q +ℤ turns) =
+    omega (arith, sums, it.halves, is, low, high, apart, given.differs, sum-times q turns (pos d), next) in
+    let fits : FitsBits v q = record {
+      low = fits_low d (half_range v) s q (rw (is, ← it.top) given.fits.low) high;
+      high = fits_high d (half_range v) s q (rw (is, ← it.top) given.fits.high) low;
+    } in
+    let wrapped = wrap_gives v (q +ℤ turns) q it.some (record { fits = fits; turns = given.turns; differs = refl }) in
+    record {
+      exact = q +ℤ turns;
+      nearest = nearest;
+      wrapped = wrapped;
+      is = wrapped ∙ ap (wrap v) (up_gives x d (q +ℤ turns) it.steps nearest);
+    }
+
+-- wrapping whole numbers, and then taking so many steps
+wrap-times : (w v d half : ℕ) (z : ℤ) → WidthSplit w v d half → 0 < w → (wrap v z *ℤ pos d) ≡ wrap w (z *ℤ pos d)
+wrap-times w v d half z it wide =
+    let given = wrap_is v z it.some in
+    let low = times_monotone (neg_ℤ (pos (half_range v))) (wrap v z) d given.fits.low in
+    let high = times_monotone (wrap v z +ℤ pos 1) (pos (half_range v)) d (omega (arith, sums, given.fits.high)) in
+    let next = times-next (wrap v z) d in
+    let apart = product-times given.turns (pos (2 ^ v)) (pos d) in
+    wrap_gives w (z *ℤ pos d) (wrap v z *ℤ pos d) wide (record {
+      fits = omega (arith, sums, it.top, it.steps, low, high, neg-times (pos (half_range v)) d, next);
+      turns = given.turns;
+      differs = ap (λ n. n *ℤ pos d) given.differs ∙ sum-times (wrap v z) (given.turns *ℤ pos (2 ^ v)) (pos d)
+          ∙ rw it.whole (ap (λ n. (wrap v z *ℤ pos d) +ℤ n) apart);
+    })
+
+-- the same where the bits of the whole number are kept
+pub floor_is_nearest_whole : (w f : ℕ) (x s r : ℤ) → s ≡ wrap w (x +ℤ pos (2 ^ f / 2)) → IsFloor f s r
+    → IsTrue (is_width_split w (w - f) (2 ^ f) (2 ^ f / 2)) → 0 < w → IsNearestWhole w f x r
+floor_is_nearest_whole w f x s r is floor test wide =
+    let it = width_split w (w - f) (2 ^ f) (2 ^ f / 2) test in
+    let narrow = is_narrowed w (w - f) (2 ^ f) (2 ^ f / 2) x s floor.whole it wide is (rw (← floor.bits) floor.low)
+    (rw (← floor.bits) floor.high) in
+    let steps = λ (z : ℤ). wrap-times w (w - f) (2 ^ f) (2 ^ f / 2) z it wide in
+    record {
+      whole = narrow.exact;
+      nearest = narrow.nearest;
+      wrapped = floor.bits ∙ ap (λ n. n *ℤ pos (2 ^ f)) narrow.wrapped ∙ steps narrow.exact;
+      is = floor.bits ∙ ap (λ n. n *ℤ pos (2 ^ f)) narrow.is ∙ steps (up x (2 ^ f));
+    }
+
+-- a number without what it has above its floor
+pub sub_fract_fits : (w : Width) (f : ℕ) (x m : ℤ) → IsFract f x m → SFits w x → SFits w m
+    → IsTrue (is_width_split (bits w) (bits w - f) (2 ^ f) (2 ^ f / 2))
+    → SFits w (to_z w (of_z w x) -ℤ to_z w (of_z w m))
+sub_fract_fits w f x m fract fits small test =
+    let it = width_split (bits w) (bits w - f) (2 ^ f) (2 ^ f / 2) test in
+    let half = half_range-bits w in
+    let low : neg_ℤ (pos (half_range (bits w - f) * 2 ^ f)) ≤ℤ x =
+    rw (← it.top) (omega (arith, ints, fits, half, pow_pos (hbits w))) in
+    let least = floor_at_least f (half_range (bits w - f)) x fract.floor low fract.is_floor in
+    let most = fract.is_floor.low in
+    rw (to_z-of_z w x fits, to_z-of_z w m small)
+    (omega (arith, ints, fits, half, it.top, fract.rest, least, most))
+
+pub sub_fract_is_floor : (w : Width) (f : ℕ) (x m : ℤ) → IsFract f x m → SFits w x → SFits w m
+    → IsTrue (is_width_split (bits w) (bits w - f) (2 ^ f) (2 ^ f / 2))
+    → IsFloor f x (to_z w (of_z w (to_z w (of_z w x) -ℤ to_z w (of_z w m))))
+sub_fract_is_floor w f x m fract fits small test =
+    let same : (x -ℤ m) ≡ fract.floor = omega (arith, ints, fract.rest) in
+    rw (to_z-of_z w _ (sub_fract_fits w f x m fract fits small test), to_z-of_z w x fits, to_z-of_z w m small, same)
+    fract.is_floor
+
+-- a half step is added, and the sum shifted to the right
+pub shr_is_narrowed : (w : Width) (v d half : ℕ) (x s : ℤ) → SFits w s → s ≡ wrap (bits w) (x +ℤ pos half)
+    → IsTrue (is_width_split (bits w) v d half) → IsNarrowed v x d (to_z w (of_z w (shr_z (to_z w (of_z w s)) d)))
+shr_is_narrowed w v d half x s fits is test =
+    let it = width_split (bits w) v d half test in
+    rw (to_z-of_z w s fits, to_z-of_z w (shr_z s d) (shr_fits w s d fits))
+    (is_narrowed (bits w) v d half x s (shr_z s d) it (bits_positive w) is (shr_low s d it.steps)
+    (shr_high s d it.steps))
+
+-- the last bits of a narrowed number, as code has them: so fewer bits are kept
+pub narrowed_low_bits : (w u : Width) (v : ℕ) (x : ℤ) (d : ℕ) (q l r : ℤ) → 0 < d → bits u ≤ v → IsNarrowed v x d q
+    → SFits w q → l ≡ wrap (bits u) (to_z w (of_z w q)) → SFits u l
+    → r ≡ to_z u (of_z u l) → IsNarrowed (bits u) x d r
+narrowed_low_bits w u v x d q l r some less given fits is narrow same =
+    let wrapped = same ∙ to_z-of_z u l narrow ∙ is ∙ ap (wrap (bits u)) (to_z-of_z w q fits ∙ given.wrapped)
+    ∙ wrap-wrap (bits u) v given.exact (bits_positive u) less in
+    record {
+      exact = given.exact;
+      nearest = given.nearest;
+      wrapped = wrapped;
+      is = wrapped ∙ ap (wrap (bits u)) (up_gives x d given.exact some given.nearest);
+    }

@@ -1,0 +1,119 @@
+-- The laws of products and quotients, from what the calls give.
+use Rattle.std.proofs.Common.{◌≡◌, ◌≢◌, ◌∙◌, sym, ap, refl, ℕ, zero, suc, ◌*◌, ◌^◌, ◌<◌, ◌≤◌, ℤ, pos, negsuc, ◌*ℤ◌}
+use Rattle.std.proofs.Common.{◌≤ℤ◌, false, inl, inr, arith, pow_pos}
+use Rattle.std.proofs.lemmas.Bool.{cases_lt}
+use Rattle.std.proofs.lemmas.Int.{ints}
+use Rattle.std.proofs.Math.IntN.{*ℤ_comm, *ℤ-negsuc, neg_ℤ-neg_ℤ}
+use Rattle.std.proofs.Math.Nat.{mul-le-mul_left}
+use Rattle.font_base.specs.Wrap.{wrap, FitsBits}
+use Rattle.font_base.specs.Wrap.Laws.{wrap-fits}
+use Rattle.font_decimal.specs.Near.{Near}
+use Rattle.font_decimal.proofs.Near.{IsNearMagnitude, near_to, near_gives, next_product}
+use Rattle.font_fixed.specs.Operations.{IsWrappedNear, wrapped_near, IsProduct, IsQuotient, IsMulDiv}
+use Rattle.font_fixed.specs.NumberLaws.{ProductLaws, ProductInOneStep, QuotientLaws, QuotientInOneStep}
+
+-- a whole number needs no rounding
+pub near_exact : (q : ℤ) (d : ℕ) → 0 < d → Near (q *ℤ pos d) d q
+near_exact q d some = omega (arith, ints)
+
+pub rounded_exact : (w : ℕ) (q : ℤ) (d : ℕ) (r : ℤ) → 0 < w → 0 < d → FitsBits w q → IsWrappedNear w (q *ℤ pos d) d r
+    → r ≡ q
+rounded_exact w q d r wide some fits a =
+    a.is ∙ ap (wrap w) (sym (near_gives (q *ℤ pos d) d q some (near_exact q d some))) ∙ wrap-fits w q wide fits
+
+mul_div_unique : (w : ℕ) (x a c q r : ℤ) → IsMulDiv w x a c q → IsMulDiv w x a c r → q ≡ r
+mul_div_unique w x a (pos zero) q r p s = p ∙ sym s
+mul_div_unique w x a (pos (suc c)) q r p s = p.is ∙ sym s.is
+mul_div_unique w x a (negsuc c) q r p s = p.is ∙ sym s.is
+
+-- a positive divisor
+mul_div_rounded : (w : ℕ) (x a : ℤ) (d : ℕ) (r : ℤ) → 0 < d → IsMulDiv w x a (pos d) r → IsWrappedNear w (x *ℤ a) d r
+mul_div_rounded w x a zero r some p = absurd (omega arith)
+mul_div_rounded w x a (suc d) r some p = p
+
+pub product_laws_hold : (w f : ℕ) (x y product flipped by_one : ℤ) → 0 < w → FitsBits w x → IsProduct w f x y product
+    → IsProduct w f y x flipped
+    → IsProduct w f x (pos (2 ^ f)) by_one → ProductLaws w f x y product flipped by_one
+product_laws_hold w f x y product flipped by_one wide fits p q r = record {
+  is_product = p;
+  is_flipped = q;
+  is_by_one = r;
+  commutes = q.is ∙ ap (λ n. wrapped_near w n (2 ^ f)) (*ℤ_comm y x) ∙ sym p.is;
+  one_is_neutral = rounded_exact w x (2 ^ f) by_one wide (pow_pos f) fits r;
+}
+
+pub product_in_one_step : (w f : ℕ) (x y product in_one_step : ℤ) → IsProduct w f x y product
+    → IsMulDiv w x y (pos (2 ^ f)) in_one_step → ProductInOneStep w f x y product in_one_step
+product_in_one_step w f x y product in_one_step p s = record {
+  is_in_one_step = s;
+  steps_agree = (mul_div_rounded w x y (2 ^ f) in_one_step (pow_pos f) s).is ∙ sym p.is;
+}
+
+-- where x * a is q times the divisor, the answer is q
+pub mul_div_exact : (w : ℕ) (q x a c r : ℤ) → 0 < w → FitsBits w q → (x *ℤ a) ≡ (q *ℤ c) → IsMulDiv w x a c r
+    → c ≢ pos 0 → r ≡ q
+mul_div_exact w q x a (pos zero) r wide fits same given other = absurd (other refl)
+mul_div_exact w q x a (pos (suc n)) r wide fits same given other =
+    rounded_exact w q (suc n) r wide (omega arith) fits (rw same at given)
+mul_div_exact w q x a (negsuc n) r wide fits same given other =
+    rounded_exact w q (suc n) r wide (omega arith) fits (rw (same, *ℤ-negsuc q n, neg_ℤ-neg_ℤ) at given)
+
+mul_div_comm : (w : ℕ) (x a c r : ℤ) → c ≢ pos 0 → IsMulDiv w x a c r → IsMulDiv w a x c r
+mul_div_comm w x a (pos zero) r other given = absurd (other refl)
+mul_div_comm w x a (pos (suc n)) r other given = rw (*ℤ_comm x a) at given
+mul_div_comm w x a (negsuc n) r other given = rw (*ℤ_comm x a) at given
+
+-- a number over itself is 1
+pub itself : (w f : ℕ) (x r : ℤ) → 0 < w → FitsBits w (pos (2 ^ f)) → IsQuotient w f x x r → x ≢ pos 0 → r ≡ pos (2 ^ f)
+itself w f x r wide fits p other =
+    mul_div_exact w (pos (2 ^ f)) x (pos (2 ^ f)) x r wide fits (*ℤ_comm x (pos (2 ^ f))) p other
+
+-- the share of x that a is in d is at most x
+share_at_most : (x a d m : ℕ) → a ≤ d → IsNearMagnitude (x * a) d m → m ≤ x
+share_at_most x a d m within rounded = elim (cases_lt x m) [
+  | inl more ↦ absurd (omega (arith, rounded, next_product x m d more, mul-le-mul_left x within))
+  | inr less ↦ less
+]
+
+-- and not negative: for a from 0 to c, x * a / c lies between 0 and x
+pub mul_div_between : (w : ℕ) (x a c r : ℤ) → 0 < w → FitsBits w x → IsMulDiv w x a c r → pos 0 ≤ℤ x → pos 0 ≤ℤ a
+    → a ≤ℤ c → c ≢ pos 0
+    → (pos 0 ≤ℤ r) × (r ≤ℤ x)
+mul_div_between w (negsuc x) a c r wide fits given low from to other = absurd (omega (arith, ints))
+mul_div_between w x (negsuc a) c r wide fits given low from to other = absurd (omega (arith, ints))
+mul_div_between w x (pos a) (negsuc c) r wide fits given low from to other = absurd (omega (arith, ints))
+mul_div_between w x a (pos zero) r wide fits given low from to other = absurd (other refl)
+mul_div_between w (pos x) (pos a) (pos (suc d)) r wide fits given low from to other =
+    let rounded = near_to false (x * a) (suc d) given.exact (omega arith) given.nearest in
+    let bound = share_at_most x a (suc d) rounded.magnitude (omega (arith, ints)) rounded.rounded in
+    let inside : FitsBits w (pos rounded.magnitude) = omega (arith, ints, bound, fits.high) in
+    let same = given.wrapped ∙ ap (wrap w) rounded.is ∙ wrap-fits w (pos rounded.magnitude) wide inside in
+    omega (arith, ints, same, bound)
+
+-- and a part of a whole, over the whole, between 0 and 1
+pub quotient_between : (w f : ℕ) (x y r : ℤ) → 0 < w → FitsBits w (pos (2 ^ f)) → IsQuotient w f x y r → pos 0 ≤ℤ x
+    → x ≤ℤ y → y ≢ pos 0
+    → (pos 0 ≤ℤ r) × (r ≤ℤ pos (2 ^ f))
+quotient_between w f x y r wide fits given low high other =
+    mul_div_between w (pos (2 ^ f)) x y r wide fits (mul_div_comm w x (pos (2 ^ f)) y r other given) (omega
+    (arith, ints)) low high other
+
+pub quotient_laws_hold : (w f : ℕ) (x y quotient by_one by_itself : ℤ) → 0 < w → FitsBits w x → FitsBits w (pos (2 ^ f))
+    → IsQuotient w f x y quotient
+    → IsQuotient w f x (pos (2 ^ f)) by_one → IsQuotient w f x x by_itself
+    → QuotientLaws w f x y quotient by_one by_itself
+quotient_laws_hold w f x y quotient by_one by_itself wide fits one p r s = record {
+  is_quotient = p;
+  is_by_one = r;
+  is_by_itself = s;
+  one_is_neutral = rounded_exact w x (2 ^ f) by_one wide (pow_pos f) fits
+      (mul_div_rounded w x (pos (2 ^ f)) (2 ^ f) by_one (pow_pos f) r);
+  itself_gives_one = itself w f x by_itself wide one s;
+}
+
+pub quotient_in_one_step : (w f : ℕ) (x y quotient in_one_step : ℤ) → IsQuotient w f x y quotient
+    → IsMulDiv w x (pos (2 ^ f)) y in_one_step → QuotientInOneStep w f x y quotient in_one_step
+quotient_in_one_step w f x y quotient in_one_step p q = record {
+  is_in_one_step = q;
+  steps_agree = mul_div_unique w x (pos (2 ^ f)) y in_one_step quotient q p;
+}

@@ -1,0 +1,88 @@
+-- Quotients rounded with ties away from zero, as code has it: on magnitudes, with the sign put back and 32 bits kept.
+use Rattle.std.proofs.Common.{◌≡◌, ◌∙◌, sym, ap, refl, ℕ, zero, suc, ◌-◌, ◌*◌, ◌%◌, ◌^◌, ◌<◌, Bool, true, false}
+use Rattle.std.proofs.Common.{not, ℤ, pos, negsuc, neg_ℤ, ◌*ℤ◌, unsigned_abs, arith, lit<}
+use Rattle.std.proofs.Math.IntN.{neg_ℤ-neg_ℤ}
+use Rattle.std.proofs.lemmas.Int.{ints, to_z-of_z}
+use Rattle.std.specs.Int.{w32, is_negative}
+use borrow.Author.Differences.{false_is_lt}
+use mir.Val.{SFits, to_z, of_z, bits}
+use Rattle.font_base.specs.Wrap.{wrap, FitsBits}
+use Rattle.font_base.specs.Wrap.Laws.{wrap-fits, wrap-neg}
+use Rattle.font_decimal.specs.Near.{signed, Near, near, near_magnitude}
+use Rattle.font_decimal.proofs.Near.{rounded_is, near_from, near_gives}
+use mathlib.Core.Bool.{beq}
+use Rattle.font_fixed.proofs.Wrapped.{low_bits-wrap}
+use Rattle.font_fixed.specs.Operations.{IsWrappedNear, differ_in_sign, IsMulDiv}
+
+not_negative : (m : ℕ) → is_negative (pos m) ≡ false
+not_negative m = sym (false_is_lt (pos m) (pos 0) (omega arith))
+
+-- the sign of a product
+pub product_signed : (x y : ℤ) → (x *ℤ y) ≡ signed (differ_in_sign x y) (unsigned_abs x * unsigned_abs y)
+product_signed (pos m) (pos n) = rw (not_negative m, not_negative n) refl
+product_signed (pos m) (negsuc n) = rw (not_negative m) refl
+product_signed (negsuc m) (pos n) = rw (not_negative n) refl
+product_signed (negsuc m) (negsuc n) = refl
+
+pub wrapped_near_from : (w : ℕ) (n : ℤ) (d : ℕ) (exact r : ℤ) → 0 < d → Near n d exact → r ≡ wrap w exact
+    → IsWrappedNear w n d r
+wrapped_near_from w n d exact r some nearest wrapped =
+    record {
+      exact = exact;
+      nearest = nearest;
+      wrapped = wrapped;
+      is = wrapped ∙ ap (wrap w) (near_gives n d exact some nearest);
+    }
+
+-- a magnitude that is rounded, with its sign, and wrapped
+signed_is_near : (w : ℕ) (s : Bool) (n d m : ℕ) (r : ℤ) → 0 < d → m ≡ near_magnitude n d → r ≡ wrap w (signed s m)
+    → IsWrappedNear w (signed s n) d r
+signed_is_near w s n d m r some near is = wrapped_near_from w (signed s n) d (signed s m) r some
+    (near_from s n d m some (rw near (rounded_is n d some))) is
+
+signed_not : (s : Bool) (n : ℕ) → neg_ℤ (signed s n) ≡ signed (not s) n
+signed_not false n = refl
+signed_not true n = neg_ℤ-neg_ℤ (pos n)
+
+ends_fit : (t : Bool) → FitsBits 32 (signed t (2 ^ 31 - 1))
+ends_fit true = omega (arith, ints)
+ends_fit false = omega (arith, ints)
+
+-- two flags differ
+differ_false : (t : Bool) → not (beq t false) ≡ t
+differ_false true = refl
+differ_false false = refl
+
+differ_true : (t : Bool) → not (beq t true) ≡ not t
+differ_true true = refl
+differ_true false = refl
+
+-- from the signs and magnitudes as the code has them
+pub signed_is_mul_div : (x a c r : ℤ) (s t : Bool) (m i j k : ℕ) → s ≡ differ_in_sign x a → t ≡ is_negative c
+    → i ≡ unsigned_abs x → j ≡ unsigned_abs a → k ≡ unsigned_abs c
+    → (0 < k → m ≡ near_magnitude (i * j) k) → (k ≡ 0 → m ≡ 2 ^ 31 - 1) → r ≡ wrap 32 (signed (not (beq s t)) m)
+    → IsMulDiv 32 x a c r
+signed_is_mul_div x a (pos zero) r s t m i j k both one first second third near by_zero is =
+    is ∙ rw (one, differ_false s, by_zero third, both)
+    (wrap-fits 32 (signed (differ_in_sign x a) (2 ^ 31 - 1)) (lit< tt) (ends_fit (differ_in_sign x a)))
+signed_is_mul_div x a (pos (suc c)) r s t m i j k both one first second third near by_zero is =
+    rw (product_signed x a) (signed_is_near 32 (differ_in_sign x a) (unsigned_abs x * unsigned_abs a) (suc c) m r
+    (omega arith) (near (omega (arith, third)) ∙ rw (first, second, third)) (cc (not_negative (suc c), differ_false s)))
+signed_is_mul_div x a (negsuc c) r s t m i j k both one first second third near by_zero is =
+    rw (product_signed x a, signed_not (differ_in_sign x a) (unsigned_abs x * unsigned_abs a))
+    (signed_is_near 32 (not (differ_in_sign x a)) (unsigned_abs x * unsigned_abs a) (suc c) m r (omega arith)
+    (near (omega (arith, third)) ∙ rw (first, second, third)) (cc (differ_true s)))
+
+-- ---- a magnitude of which 32 bits are kept, and its sign
+
+pub low_bits-signed : (s : Bool) (m : ℕ) (r : ℤ) → s ≡ false → SFits w32 r → r ≡ to_z w32 (m % 2 ^ 32)
+    → to_z w32 (of_z w32 r) ≡ wrap 32 (signed s m)
+low_bits-signed s m r plain fits is = to_z-of_z w32 r fits ∙ low_bits-wrap w32 m r is ∙ rw plain refl
+
+pub low_bits-negated : (s : Bool) (m : ℕ) (bits r : ℤ) → s ≡ true → SFits w32 bits → bits ≡ to_z w32 (m % 2 ^ 32)
+    → r ≡ wrap 32 (neg_ℤ (to_z w32 (of_z w32 bits))) → r ≡ wrap 32 (signed s m)
+low_bits-negated s m bits r minus fits is opposite =
+    opposite ∙ ap (λ y. wrap 32 (neg_ℤ y)) (to_z-of_z w32 bits fits ∙ low_bits-wrap w32 m bits is) ∙ wrap-neg 32 (pos m)
+    (lit< tt) ∙ rw minus refl
+
+pub ruleset signed_code = (low_bits-signed, low_bits-negated)

@@ -1,0 +1,36 @@
+-- What the file of a fixed-point type names once, so that its calls need no answers: what std's calls and steps of code
+-- give, at each width and over every fraction, in the form that goals have.
+use Rattle.std.proofs.Common.{w16, w32, w64}
+use Rattle.font_decimal.proofs.Printed.{shortest_is_decimal}
+use Rattle.font_fixed.proofs.Texts.{HasRoom, padded_has_room}
+use Rattle.font_fixed.proofs.Wrapped.{wrapping_add-wrap, wrapping_sub-wrap, wrapping_neg-wrap, wrapping_abs-wrap}
+use Rattle.font_fixed.proofs.Wrapped.{wrapping_mul-wrap, rem_euclid_is_fract}
+use Rattle.font_fixed.proofs.Narrowing.{sub_fract_fits, sub_fract_is_floor, floor_is_nearest_whole}
+use Rattle.font_fixed.proofs.Narrowing.{shr_is_narrowed}
+
+-- `search` finds the width of a column nowhere in its goal
+pub cell_16 : HasRoom w16
+cell_16 = padded_has_room w16
+
+pub cell_32 : HasRoom w32
+cell_32 = padded_has_room w32
+
+pub cell_64 : HasRoom w64
+cell_64 = padded_has_room w64
+
+pub ruleset number_code = (
+  wrapping_add-wrap,
+  wrapping_sub-wrap,
+  wrapping_neg-wrap,
+  wrapping_abs-wrap,
+  wrapping_mul-wrap,
+  rem_euclid_is_fract,
+  sub_fract_fits,
+  sub_fract_is_floor,
+  floor_is_nearest_whole,
+  shr_is_narrowed,
+  cell_16,
+  cell_32,
+  cell_64,
+  shortest_is_decimal,
+)

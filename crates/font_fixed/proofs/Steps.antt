@@ -1,0 +1,93 @@
+-- Products rounded with ties away from zero, as code has it: half a step is added, less one where the product is
+-- negative, and the sum is shifted.
+use Rattle.std.proofs.Common.{◌≡◌, ◌∙◌, ap, ℕ, suc, ◌+◌, ◌-◌, ◌*◌, ◌%◌, ◌^◌, ◌<◌, ◌≤◌, ℤ, pos, ◌+ℤ◌, ◌-ℤ◌, ◌*ℤ◌, ◌≤ℤ◌}
+use Rattle.std.proofs.Common.{◌<ℤ◌, unsigned_abs, arith, lit<, ◌⊎◌, pow_pos, SFits, to_z, of_z}
+use Rattle.std.specs.Int.{w32, w64}
+use mir.Val.{bool_byte}
+use lib.Signed.{shr_z, lt_z}
+use Rattle.font_base.specs.Wrap.{wrap}
+use Rattle.font_decimal.specs.Near.{Near, near}
+use Rattle.font_decimal.proofs.Near.{near_is, near_gives}
+use Rattle.font_fixed.specs.Operations.{IsWrappedNear}
+use Rattle.std.proofs.lemmas.Int.{ints, to_z-of_z, unsigned_abs-mul}
+use Rattle.std.proofs.Math.Nat.{mul-le-mul, pow-le-pow_right, two-pow-succ}
+use Rattle.font_fixed.proofs.Shifts.{shr_low, shr_high, shr_fits}
+use Rattle.font_fixed.proofs.Quotients.{wrapped_near_from}
+
+-- the product of two numbers of 32 bits
+pub products_fit : (x y : ℤ) → SFits w32 x → SFits w32 y → SFits w64 (x *ℤ y)
+products_fit x y f g =
+    let small : unsigned_abs x * unsigned_abs y ≤ 2 ^ 31 * 2 ^ 31 =
+    mul-le-mul {n₁ = unsigned_abs x} {m₁ = unsigned_abs y} {n₂ = 2 ^ 31} {m₂ = 2 ^ 31}
+    (omega (arith, ints)) (omega (arith, ints)) in
+    omega (arith, ints, unsigned_abs-mul x y, small)
+
+-- a number of 32 bits that code has widened to 64
+widened : (x a : ℤ) → SFits w32 x → a ≡ to_z w32 (of_z w32 x) → to_z w64 (of_z w64 a) ≡ x
+widened x a fits is = omega (arith, ints)
+
+-- 1 where n is negative, else 0, as code has it
+sign_step : (n e : ℤ) → e ≡ pos (bool_byte (lt_z n (pos 0)))
+    → ((e ≡ pos 1) × (n <ℤ pos 0)) ⊎ ((e ≡ pos 0) × (pos 0 ≤ℤ n))
+sign_step n e is = grind (arith, ints)
+
+-- q * d is the greatest multiple of d that is not above n and half a step, less one where n is negative
+near_of_sum : (n e q : ℤ) (d half : ℕ) → d ≡ half + half → 0 < half
+    → ((e ≡ pos 1) × (n <ℤ pos 0)) ⊎ ((e ≡ pos 0) × (pos 0 ≤ℤ n)) → (q *ℤ pos d) ≤ℤ ((n +ℤ pos half) -ℤ e)
+    → ((n +ℤ pos half) -ℤ e) <ℤ ((q *ℤ pos d) +ℤ pos d) → Near n d q
+near_of_sum n e q d half halves some step low high = omega (arith, ints, unsigned_abs-mul q (pos d))
+
+-- the wrapped answer is a rounded one
+pub near_is_wrapped_near : (w : ℕ) (n : ℤ) (d : ℕ) (r : ℤ) → 0 < d → r ≡ wrap w (near n d) → IsWrappedNear w n d r
+near_is_wrapped_near w n d r some is = wrapped_near_from w n d (near n d) r some (near_is n d some) is
+
+-- ---- a shift by f bits of fraction
+
+-- half a step as code has it: 1 << (f - 1)
+abbrev half_code : ℕ → ℕ
+half_code f = 1 * 2 ^ (f - 1) % 18446744073709551616
+
+half_small : (f : ℕ) → f ≤ 30 → 2 ^ (f - 1) ≤ 2 ^ 30
+half_small f few = pow-le-pow_right {n = 2} (lit< tt) {i = f - 1} {j = 30} (omega (arith, few))
+
+half_is : (f : ℕ) → f ≤ 30 → to_z w64 (half_code f) ≡ pos (2 ^ (f - 1))
+half_is f few = omega (arith, ints, half_small f few)
+
+halves : (f : ℕ) → 6 ≤ f → 2 ^ f ≡ 2 ^ (f - 1) + 2 ^ (f - 1)
+halves f many = let is : f ≡ suc (f - 1) = omega (arith, many) in ap (λ n. 2 ^ n) is ∙ two-pow-succ (f - 1)
+
+-- e is 1 where n is negative, else 0
+pub shifted_is_near : (n e : ℤ) (f : ℕ) → SFits w64 n → unsigned_abs n ≤ 2 ^ 62 → 6 ≤ f → f ≤ 30
+    → e ≡ pos (bool_byte (lt_z (to_z w64 (of_z w64 n)) (pos 0)))
+    → to_z w64 (of_z w64 (shr_z
+    (to_z w64 (of_z w64 (to_z w64
+    (of_z w64 (to_z w64 (of_z w64 n) +ℤ to_z w64 (1 * 2 ^ (f - 1) % 18446744073709551616))) -ℤ to_z w64
+    (of_z w64 e)))) (2 ^ f)))
+    ≡ near n (2 ^ f)
+shifted_is_near n e f fits small many few is =
+    let half : ℕ = 2 ^ (f - 1) in
+    let bound : half ≤ 2 ^ 30 = half_small f few in
+    let step = sign_step n e (rw (to_z-of_z w64 n fits) at is) in
+    let sum : SFits w64 ((n +ℤ pos half) -ℤ e) = omega (arith, ints) in
+    let q : ℤ = shr_z ((n +ℤ pos half) -ℤ e) (2 ^ f) in
+    rw (
+      half_is f few,
+      to_z-of_z w64 n fits,
+      to_z-of_z w64 (n +ℤ pos half) (omega (arith, ints)),
+      to_z-of_z w64 e (omega (arith, ints)),
+      to_z-of_z w64 ((n +ℤ pos half) -ℤ e) sum,
+      to_z-of_z w64 q (shr_fits w64 _ (2 ^ f) sum),
+    )
+    (near_gives n (2 ^ f) q (pow_pos f) (near_of_sum n e q (2 ^ f) half (halves f many) (pow_pos (f - 1)) step
+    (shr_low _ (2 ^ f) (pow_pos f)) (shr_high _ (2 ^ f) (pow_pos f))))
+
+-- ---- the product as code has it: rounded in 64 bits, of which 32 are kept
+
+pub product_32 : (x y a b m l : ℤ) (d : ℕ) → SFits w32 x → SFits w32 y → l ≡ wrap 32 (to_z w64 (of_z w64 m))
+    → m ≡ near (to_z w64 (of_z w64 (to_z w64 (of_z w64 a) *ℤ to_z w64 (of_z w64 b)))) d
+    → a ≡ to_z w32 (of_z w32 x) → b ≡ to_z w32 (of_z w32 y) → SFits w64 m → SFits w32 l → 0 < d
+    → IsWrappedNear 32 (x *ℤ y) d (to_z w32 (of_z w32 l))
+product_32 x y a b m l d f g is rounded first second wide narrow some =
+    let product = to_z-of_z w64 (x *ℤ y) (products_fit x y f g) in
+    near_is_wrapped_near 32 (x *ℤ y) d _ some (to_z-of_z w32 l narrow ∙ is
+    ∙ ap (wrap 32) (to_z-of_z w64 m wide ∙ rounded ∙ rw (widened x a f first, widened y b g second, product)))

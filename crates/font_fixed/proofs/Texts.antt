@@ -1,0 +1,110 @@
+-- What a decimal text is read as, from the number that the reader gives.
+use Rattle.std.proofs.Common.{◌≡◌, ◌∙◌, sym, ap, ℕ, ◌+◌, ◌*◌, ◌/◌, ◌^◌, ◌<◌, ◌≤◌, List, ℤ, ◌-◌, length, max}
+use Rattle.std.proofs.Common.{unsigned_abs, Option, IsSome, Result, Ok, Err, IfOk, ◌↔◌, arith, Bool, IsTrue, nat_lt}
+use Rattle.std.proofs.Common.{◌&&◌, pow_pos, SFits, to_z, of_z}
+use Rattle.std.proofs.lemmas.Int.{ints, to_z-of_z}
+use Rattle.std.proofs.lemmas.Bool.Decides.{nat_tests}
+use Rattle.std.specs.Int.{Width, w64}
+use mir.Val.{bits, hbits}
+use Rattle.font_base.proofs.Widths.{half_range-bits, signed_fits}
+use Rattle.font_base.specs.Wrap.{FitsBits}
+use Rattle.std.specs.Result.{result_map_both}
+use Rattle.font_decimal.specs.Reading.{Reads}
+use Rattle.font_decimal.specs.Shortest.{shortest_text}
+use Rattle.font_decimal.specs.declared.reader.DecimalFault.{DecimalFault}
+use Rattle.font_decimal.specs.declared.reader.DecimalFault.TheVariants.{Syntax, OutOfRange}
+use Rattle.font_decimal.specs.Padding.{padded_text}
+use Rattle.font_decimal.specs.declared.padding.Pad.{Pad}
+use Rattle.font_decimal.proofs.Padded.{padded_fits}
+use Rattle.font_decimal.proofs.Printed.{length-shortest_body-le, printed_rounds}
+use Rattle.font_decimal.proofs.Readings.{answers_as}
+use Rattle.font_fixed.specs.Operations.{least, greatest, ReadsAs, ReadingGives}
+use Rattle.font_fixed.specs.Reading.{ReadsBy}
+
+-- the number is cast to the type of the bits
+pub cast_reads : (w : Width) (f : ℕ) (text : List ℕ) (b min max : ℤ) → 2 ^ hbits w ≤ 2 ^ 63 → min ≡ least (bits w)
+    → max ≡ greatest (bits w) → Reads text f min max b
+    → ReadsAs (bits w) f text (to_z w (of_z w (to_z w64 (of_z w64 b))))
+cast_reads w f text b min max room low high reads =
+    let above = rw low at reads.low in
+    let below = rw high at reads.high in
+    let narrow : SFits w b = omega (arith, ints, above, below, half_range-bits w, pow_pos (hbits w)) in
+    let wide : SFits w64 b = omega (arith, ints, narrow, room) in
+    rw (to_z-of_z w64 b wide, to_z-of_z w b narrow) (record { rounds = reads.rounds; low = above; high = below })
+
+-- the printed text of a number is read as that number
+pub printed_reads : (w f : ℕ) (b : ℤ) → 2 ^ (w - 1) ≤ 2 ^ 63 → FitsBits w b → ReadsAs w f (shortest_text b f) b
+printed_reads w f b room fits =
+    let below : unsigned_abs b ≤ 2 ^ 63 = omega (arith, ints) in
+    record { rounds = printed_rounds b f below; low = fits.low; high = omega (arith, ints, fits.high) }
+
+-- no number shows more places: three for each ten bits of fraction, and one
+abbrev pub most_places : ℕ → ℕ
+most_places f = f * 3 / 10 + 1
+
+-- so many bytes are room for each number of h bits beside its sign, f of them fraction, where no width asks for more:
+-- beside a sign, a point and the places there are enough for the digits of the whole part
+abbrev pub is_room : ℕ → ℕ → ℕ → Bool
+is_room h f room =
+    nat_lt (2 ^ f) (10 ^ most_places f) && (nat_lt (2 ^ h) (10 ^ (room - (most_places f + 2)) * 2 ^ f)
+    && nat_lt (most_places f + 2) room)
+
+room_parts : (h f room : ℕ) → IsTrue (is_room h f room) → (2 ^ f < 10 ^ most_places f)
+    × (2 ^ h < 10 ^ (room - (most_places f + 2)) * 2 ^ f)
+    × (most_places f + 2 < room)
+room_parts h f room test = grind (arith, nat_tests)
+
+-- so a column of so many bytes, or of the width that is asked for, is not refused
+abbrev pub HasRoom : Width → Type 0
+HasRoom w = (b : ℤ) (f room : ℕ) (pad : Pad) (old : List ℕ) (result : Option ℕ)
+    → IsSome result ↔ (length (padded_text (shortest_text b f) pad) ≤ length old) → SFits w b
+    → max room pad.width ≤ length old → IsTrue (is_room (hbits w) f room) → 2 ^ hbits w ≤ 2 ^ 63 → IsSome result
+
+pub padded_has_room : (w : Width) → HasRoom w
+padded_has_room w b f room pad old result long fits enough test small =
+    let p : ℕ = most_places f in
+    let parts = room_parts (hbits w) f room test in
+    let magnitude : unsigned_abs b ≤ 2 ^ hbits w = omega (arith, ints, fits) in
+    let body = length-shortest_body-le b f (room - (p + 2)) p (omega (arith, magnitude, small)) (omega (arith, parts))
+    (omega (arith, magnitude, parts)) parts.0 in
+    long.1 (padded_fits (shortest_text b f) pad room (length old) (omega (arith, body, parts)) enough)
+
+-- ---- in the words of a type of its own: a result with the bits of its number in place of the number
+
+abbrev pub as_bits : {T : Type 0} → (T → ℤ) → Result T DecimalFault → Result ℤ DecimalFault
+as_bits bits_of result = result_map_both bits_of (λ fault. fault) result
+
+same_result : {T : Type 0} (bits_of : T → ℤ) (of_bits : ℤ → T) → ((x : T) → of_bits (bits_of x) ≡ x)
+    → (q r : Result T DecimalFault)
+    → as_bits bits_of q ≡ as_bits bits_of r → q ≡ r
+same_result bits_of of_bits back (Ok x) (Ok y) same = ap Ok (sym (back x) ∙ ap of_bits (cc) ∙ back y)
+same_result bits_of of_bits back (Ok x) (Err d) same = cc
+same_result bits_of of_bits back (Err c) (Ok y) same = cc
+same_result bits_of of_bits back (Err c) (Err d) same = cc
+
+if_ok_reads : {T : Type 0} (w f : ℕ) (bits_of : T → ℤ) (text : List ℕ) (q : Result T DecimalFault)
+    → ReadingGives w f text (as_bits bits_of q)
+    → IfOk q (λ x. ReadsAs w f text (bits_of x))
+if_ok_reads w f bits_of text (Ok x) gives = gives
+if_ok_reads w f bits_of text (Err fault) gives = tt
+
+-- all that callers know of a reading, from what it comes to in bits
+pub reads_by : {T : Type 0} (w : Width) (f : ℕ) (bits_of : T → ℤ) (of_bits : ℤ → T) (text : List ℕ)
+    (q : Result T DecimalFault)
+    → ((x : T) → of_bits (bits_of x) ≡ x) → 2 ^ hbits w ≤ 2 ^ 63 → ReadingGives (bits w) f text (as_bits bits_of q)
+    → ReadsBy w f bits_of text q
+reads_by {T} w f bits_of of_bits text q back room gives =
+    let half : 2 ^ (bits w - 1) ≤ 2 ^ 63 = rw (half_range-bits w) room in
+    let only : (r : Result T DecimalFault) → (q ≡ r) ↔ ReadingGives (bits w) f text (as_bits bits_of r)
+    = λ r. let answer = answers_as text f (least (bits w)) (greatest (bits w)) (as_bits bits_of q)
+    (as_bits bits_of r) gives in
+    (λ same. answer.0 (ap (as_bits bits_of) same), λ other. same_result bits_of of_bits back q r (answer.1 other)) in
+    record {
+      ok = λ x. only (Ok x);
+      reads = if_ok_reads (bits w) f bits_of text q gives;
+      gives = gives;
+      printed = λ x fits same. (only (Ok x)).1
+          (rw same (printed_reads (bits w) f (bits_of x) half (signed_fits w (bits_of x) fits)));
+      out_of_range = only (Err OutOfRange);
+      syntax = only (Err Syntax);
+    }

@@ -1,0 +1,92 @@
+-- What std's calls on the bits of a number give, in the words of `wrap`. Goals have the bits n of a width, and m = 2^n,
+-- as literals.
+use Rattle.std.proofs.Common.{◌≡◌, ◌∙◌, sym, refl, ℕ, ◌+◌, ◌-◌, ◌*◌, ◌/◌, ◌%◌, ◌^◌, ◌<◌, ◌≤◌, ℤ, pos, neg_ℤ, ◌+ℤ◌, ◌-ℤ◌}
+use Rattle.std.proofs.Common.{◌*ℤ◌, unsigned_abs, arith, pow_pos, div-add-mod', SFits, to_z, of_z}
+use Rattle.std.proofs.lemmas.Int.{ints, to_z-of_z, wrapping_add_is, wrapping_sub_is, wrapping_mul_onto, wrapping_neg_is}
+use Rattle.std.proofs.Math.Nat.{mod-lt}
+use Rattle.std.proofs.Math.Facts.{Fits-of_z, Fits-of_lt, sfits_to_z}
+use Rattle.std.specs.Int.{Width, int_wrapping_neg, int_rem_euclid}
+use mir.Val.{bits, hbits}
+use Rattle.font_base.specs.Wrap.{wrap}
+use Rattle.font_base.specs.Wrap.Laws.{wrap_same, two_halves, remainder}
+use Rattle.font_base.proofs.Widths.{half_range-bits, int_wrap-wrap, to_z-wrap, bits_positive}
+use Rattle.font_fixed.specs.Operations.{IsFract, fract_of}
+
+-- a sum that wraps
+pub wrapping_add-wrap : (w : Width) (n m : ℕ) (x y : ℤ) → n ≡ bits w → m ≡ 2 ^ n → SFits w x → SFits w y
+    → to_z w ((of_z w x + of_z w y) % m) ≡ wrap n (x +ℤ y)
+wrapping_add-wrap w n m x y is all f g = rw (all, is) (wrapping_add_is w x y f g ∙ int_wrap-wrap w (x +ℤ y))
+
+pub wrapping_sub-wrap : (w : Width) (n m : ℕ) (x y : ℤ) → n ≡ bits w → m ≡ 2 ^ n → SFits w x → SFits w y
+    → to_z w ((of_z w x + (m - of_z w y)) % m) ≡ wrap n (x -ℤ y)
+wrapping_sub-wrap w n m x y is all f g = rw (all, is) (wrapping_sub_is w x y f g ∙ int_wrap-wrap w (x -ℤ y))
+
+-- a negated number that wraps
+pub wrapping_neg-wrap : (w : Width) (n : ℕ) (x r : ℤ) → n ≡ bits w → SFits w x → SFits w r
+    → r ≡ int_wrapping_neg w (to_z w (of_z w x)) → to_z w (of_z w r) ≡ wrap n (neg_ℤ x)
+wrapping_neg-wrap w n x r all f g is =
+    rw (to_z-of_z w r g, is, to_z-of_z w x f, all) (wrapping_neg_is w x f ∙ int_wrap-wrap w (neg_ℤ x))
+
+-- a magnitude that is read as a signed number
+pub wrapping_abs-wrap : (w : Width) (n : ℕ) (x r : ℤ) → n ≡ bits w → SFits w x
+    → r ≡ to_z w (unsigned_abs (to_z w (of_z w x))) → to_z w (of_z w r) ≡ wrap n (pos (unsigned_abs x))
+wrapping_abs-wrap w n x r all f is =
+    let half = half_range-bits w in
+    let whole = two_halves (bits w) (bits_positive w) in
+    let below : unsigned_abs x < 2 ^ bits w = omega (arith, ints, pow_pos (hbits w)) in
+    rw (is, to_z-of_z w x f, to_z-of_z w (to_z w (unsigned_abs x)) (sfits_to_z (Fits-of_lt below)), all)
+    (to_z-wrap w (unsigned_abs x) below)
+
+-- a number times a constant
+pub wrapping_mul-wrap : (w : Width) (n m : ℕ) (x : ℤ) (d : ℕ) → n ≡ bits w → m ≡ 2 ^ n → SFits w x → SFits w (pos d)
+    → to_z w (of_z w x * d % m) ≡ wrap n (x *ℤ pos d)
+wrapping_mul-wrap w n m x d is all f g =
+    rw (all, is, wrapping_mul_onto w (of_z w x) (pos d) (Fits-of_z f).fits g, to_z-of_z w x f)
+    (int_wrap-wrap w (x *ℤ pos d))
+
+-- the low bits of a magnitude
+pub low_bits-wrap : (w : Width) (m : ℕ) (r : ℤ) → r ≡ to_z w (m % 2 ^ bits w) → r ≡ wrap (bits w) (pos m)
+low_bits-wrap w m r is =
+    is ∙ to_z-wrap w (m % 2 ^ bits w) (mod-lt m (pow_pos (bits w)))
+    ∙ sym (wrap_same (bits w) (pos m) (pos (m % 2 ^ bits w)) (pos (m / 2 ^ bits w)) (bits_positive w)
+    (omega (arith, ints, div-add-mod' m (2 ^ bits w))))
+
+-- the remainder after the greatest multiple that is not greater
+pub rem_euclid_is_fract : (w : Width) (f d : ℕ) (x r : ℤ) → d ≡ 2 ^ f → 2 ^ f ≤ 2 ^ hbits w → SFits w x
+    → r ≡ int_rem_euclid (to_z w (of_z w x)) (pos d) → IsFract f x (to_z w (of_z w r))
+unfolding fract_of
+rem_euclid_is_fract w f d x r step room fits is =
+    let parts = remainder x (2 ^ f) (pow_pos f) in
+    let below = parts.below in
+    let small : SFits w (pos parts.rest) = omega (arith, ints) in
+    rw (is, to_z-of_z w x fits, step, parts.is, to_z-of_z w (pos parts.rest) small) (record {
+      floor = parts.turns *ℤ pos (2 ^ f);
+      is_floor = record {
+        whole = parts.turns;
+        bits = refl;
+        low = omega (arith, ints, parts.parts);
+        high = omega (arith, ints, parts.parts, below);
+        is = omega (arith, ints, parts.parts, parts.is);
+      };
+      rest = omega (arith, ints, parts.parts);
+      is = sym parts.is;
+    })
+
+-- the last bits of a number, by the remainder
+pub rem_euclid-wrap : (v w : Width) (n e r : ℤ) → 2 ^ bits v ≤ 2 ^ hbits w → SFits w n
+    → e ≡ int_rem_euclid (to_z w (of_z w n)) (pos (2 ^ bits v))
+    → r ≡ to_z v (unsigned_abs (to_z w (of_z w e))) → to_z v (of_z v r) ≡ wrap (bits v) n
+rem_euclid-wrap v w n e r room fits is cast =
+    let parts = remainder n (2 ^ bits v) (pow_pos (bits v)) in
+    let below = parts.below in
+    let small : SFits w (pos parts.rest) = omega (arith, ints) in
+    rw (
+      cast,
+      is,
+      to_z-of_z w n fits,
+      parts.is,
+      to_z-of_z w (pos parts.rest) small,
+      to_z-of_z v (to_z v parts.rest) (sfits_to_z (Fits-of_lt below)),
+    )
+    (to_z-wrap v parts.rest below
+    ∙ sym (wrap_same (bits v) n (pos parts.rest) parts.turns (bits_positive v) parts.parts))

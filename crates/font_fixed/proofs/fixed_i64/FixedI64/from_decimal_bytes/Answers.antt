@@ -1,0 +1,9 @@
+use Rattle.std.proofs.Common.{refl, lit≤, rules}
+use Rattle.std.specs.Int.{w64}
+use Rattle.font_fixed.proofs.Texts.{reads_by}
+use Rattle.font_fixed.specs.FixedI64.{bits_of, of_bits}
+use Rattle.font_fixed.proofs.fixed_i64.FixedI64.from_decimal_bytes.Goals as goal
+
+pub returns : goal.returns
+returns g c =
+    reads_by w64 g.row.F bits_of of_bits c.args.text.now _ (λ _. refl) (lit≤ tt) (search rules)

@@ -1,0 +1,329 @@
+//! 16-bit fixed-point numbers.
+#![tactic(auto, using(crate::proofs::Rules::number_code))]
+
+ghost use Rattle.std.specs.Prelude.{◌≡◌, ◌<◌, ◌≤◌, ◌↔◌, ℤ, pos, neg_ℤ, ◌+ℤ◌, ◌-ℤ◌, Some};
+ghost use Rattle.std.specs.Prelude.{IsSome, IfSome, IfNone, refl, length, max, unsigned_abs};
+ghost use Rattle.std.proofs.Common.{lit<};
+ghost use Rattle.std.specs.Int.{w16};
+ghost use Rattle.font_base.specs.Wrap.{FitsBits, fits_bits, wrap};
+ghost use Rattle.font_base.specs.Bytes.{bytes_of, signed_numeral};
+ghost use Rattle.font_base.specs.Scalar.Laws.{signed_newtype, signed_identity};
+ghost use Rattle.font_decimal.specs.Padding.{padded_text, FillsFront};
+ghost use Rattle.font_decimal.specs.Shortest.{IsShortest};
+ghost use Rattle.font_decimal.specs.Shown.{shown};
+ghost use Rattle.font_fixed.specs.Operations.{IsNearestWhole, IsFloor, IsFract, clamp};
+ghost use Rattle.font_fixed.specs.Reading.{ReadsBy};
+ghost use Rattle.font_fixed.specs.declared.fixed_i16.FixedI16.{FixedI16};
+ghost use Rattle.font_fixed.specs.FixedI16.{bits_of, of_bits, text_of};
+ghost use Rattle.font_fixed.specs.Longest.{longest};
+
+use crate::formats::{Format, Formats};
+use crate::read_bits_16;
+use font_base::{FixedSize, IdentityEq, Scalar};
+use font_decimal::{DecimalFault, Pad, Shortest};
+use std::fmt;
+use std::ops::{Add, AddAssign, Neg, Sub, SubAssign};
+use std::str::FromStr;
+
+mod f2dot14;
+mod f4dot12;
+mod f6dot10;
+
+pub use f2dot14::F2Dot14;
+pub use f4dot12::F4Dot12;
+pub use f6dot10::F6Dot10;
+
+/// A signed fixed-point number of 16 bits, `F` of them fraction bits.
+///
+/// The raw value is an `i16` in units of `1 / 2^F`. Sums wrap on overflow.
+#[derive(Clone, Copy, PartialEq, Eq, PartialOrd, Ord, Hash, Default)]
+pub struct FixedI16<const F: u32>(i16);
+
+impl<const F: u32> FixedI16<F> {
+    /// Creates a value from its raw bits.
+    #[must_use]
+    #[inline]
+    pub const fn from_bits(bits: i16) -> Self
+        ensures { bits_of result ≡ bits }
+    {
+        Self(bits)
+    }
+
+    /// Returns the raw bits.
+    #[must_use]
+    #[inline]
+    pub const fn to_bits(self) -> i16
+        ensures { result ≡ bits_of self.entry }
+    {
+        self.0
+    }
+
+    /// Returns the absolute value; wraps: `MIN.abs()` is `MIN`.
+    #[must_use]
+    #[inline]
+    pub const fn abs(self) -> Self
+        ensures { bits_of result ≡ wrap 16 (pos (unsigned_abs (bits_of self.entry))) }
+    {
+        Self(self.0.wrapping_abs())
+    }
+
+    /// Returns `self + other`, wrapping on overflow.
+    #[must_use]
+    #[inline]
+    pub const fn wrapping_add(self, other: Self) -> Self
+        ensures { bits_of result ≡ wrap 16 (bits_of self.entry +ℤ bits_of other.entry) }
+    {
+        Self(self.0.wrapping_add(other.0))
+    }
+
+    /// Returns `self - other`, wrapping on overflow.
+    #[must_use]
+    #[inline]
+    pub const fn wrapping_sub(self, other: Self) -> Self
+        ensures { bits_of result ≡ wrap 16 (bits_of self.entry -ℤ bits_of other.entry) }
+    {
+        Self(self.0.wrapping_sub(other.0))
+    }
+
+    /// Returns `self + other`, saturating at `MIN` and `MAX`.
+    #[must_use]
+    #[inline]
+    pub const fn saturating_add(self, other: Self) -> Self
+        ensures { bits_of result ≡ clamp 16 (bits_of self.entry +ℤ bits_of other.entry) }
+    {
+        Self(self.0.saturating_add(other.0))
+    }
+
+    /// Returns `self - other`, saturating at `MIN` and `MAX`.
+    #[must_use]
+    #[inline]
+    pub const fn saturating_sub(self, other: Self) -> Self
+        ensures { bits_of result ≡ clamp 16 (bits_of self.entry -ℤ bits_of other.entry) }
+    {
+        Self(self.0.saturating_sub(other.0))
+    }
+
+    /// Returns `self + other`, or `None` on overflow.
+    #[must_use]
+    #[inline]
+    pub fn checked_add(self, other: Self) -> Option<Self>
+        ensures variant { IsSome result ↔ FitsBits 16 (bits_of self.entry +ℤ bits_of other.entry) }
+        ensures value { IfSome result (λ sum. bits_of sum ≡ (bits_of self.entry +ℤ bits_of other.entry)) }
+    {
+        Some(Self(self.0.checked_add(other.0)?))
+    }
+
+    /// Returns the raw bits as big-endian bytes.
+    #[must_use]
+    #[inline]
+    #[tactic(auto, using(font_base::proofs::StdBytes::std_bytes))]
+    pub const fn to_be_bytes(self) -> [u8; 2]
+        ensures { result ≡ bytes_of 2 (bits_of self.entry) }
+    {
+        self.0.to_be_bytes()
+    }
+}
+
+impl<const F: u32> FixedI16<F>
+where
+    Formats: Format<16, F>,
+{
+    /// Rounds to the nearest integer, half up; wraps: `MAX.round()` is `MIN`.
+    #[must_use]
+    #[inline]
+    pub const fn round(self) -> Self
+        ensures { IsNearestWhole 16 F (bits_of self.entry) (bits_of result) }
+    {
+        self.wrapping_add(Self(1 << (F - 1))).floor()
+    }
+
+    /// Returns the largest integer less than or equal to `self`.
+    #[must_use]
+    #[inline]
+    pub const fn floor(self) -> Self
+        ensures { IsFloor F (bits_of self.entry) (bits_of result) }
+    {
+        Self(self.0 - self.fract().0)
+    }
+
+    /// Returns the fractional part, `self - self.floor()`, at least 0 and less than 1.
+    #[must_use]
+    #[inline]
+    pub const fn fract(self) -> Self
+        ensures { IsFract F (bits_of self.entry) (bits_of result) }
+    {
+        Self(self.0.rem_euclid(1 << F))
+    }
+
+    /// Parses a decimal as the nearest value, rounding half away from zero.
+    ///
+    /// # Errors
+    ///
+    /// Returns `Syntax` if the text is not a decimal, and `OutOfRange` if its nearest value is out
+    /// of range.
+    #[inline]
+    pub fn from_decimal(text: &str) -> Result<Self, DecimalFault>
+        ensures { ReadsBy w16 F bits_of text.now result }
+    {
+        Self::from_decimal_bytes(text.as_bytes())
+    }
+
+    /// Parses a decimal from bytes, as `from_decimal` does.
+    ///
+    /// # Errors
+    ///
+    /// Those of `from_decimal`; bytes that are not UTF-8 are `Syntax`.
+    #[inline]
+    pub fn from_decimal_bytes(text: &[u8]) -> Result<Self, DecimalFault>
+        ensures { ReadsBy w16 F bits_of text.now result }
+    {
+        Ok(Self(read_bits_16(text, F)?))
+    }
+
+    /// Writes the padded decimal to the start of `out` and returns its length, or returns `None`
+    /// and leaves `out` unchanged if it is too short. A sign, the digits of `MIN`, a
+    /// point and `3 F / 10 + 1` places are always room enough, or `pad.width` if that is more.
+    /// `pad.fill` must be ASCII.
+    #[inline]
+    pub fn write_padded(self, out: &mut [u8], pad: &Pad) -> Option<usize>
+        requires { pad.now.fill < 128 }
+        ensures written { IfSome result
+            (λ n. FillsFront (padded_text (text_of self.entry) pad.now) n out.old out.new) }
+        ensures room { IsSome result
+            ↔ (length (padded_text (text_of self.entry) pad.now) ≤ length out.old) }
+        ensures cell { max (longest 16 F) pad.now.width ≤ length out.old → IsSome result }
+        ensures fills { length out.old ≤ pad.now.width
+            → IfSome result (λ _. out.new ≡ padded_text (text_of self.entry) pad.now) }
+        ensures untouched { IfNone result (out.new ≡ out.old) }
+    {
+        font_decimal::write_padded(self.shortest().as_str(), out, pad)
+    }
+
+    #[inline]
+    fn shortest(self) -> Shortest
+        ensures shortest { IsShortest (bits_of self.entry) F (shown result) }
+        ensures text { shown result ≡ text_of self.entry }
+    {
+        Shortest::new(i64::from(self.0), F)
+    }
+}
+
+impl<const F: u32> Add for FixedI16<F> {
+    type Output = FixedI16<F>;
+
+    ghost add_gives = { λ x y sum. bits_of sum ≡ wrap 16 (bits_of x +ℤ bits_of y) };
+
+    #[inline]
+    fn add(self, other: FixedI16<F>) -> FixedI16<F> {
+        self.wrapping_add(other)
+    }
+}
+
+impl<const F: u32> AddAssign for FixedI16<F> {
+    ghost add_assign_gives = { λ x y sum. bits_of sum ≡ wrap 16 (bits_of x +ℤ bits_of y) };
+
+    #[inline]
+    fn add_assign(&mut self, other: FixedI16<F>) {
+        *self = *self + other;
+    }
+}
+
+impl<const F: u32> Sub for FixedI16<F> {
+    type Output = FixedI16<F>;
+
+    ghost sub_gives = { λ x y rest. bits_of rest ≡ wrap 16 (bits_of x -ℤ bits_of y) };
+
+    #[inline]
+    fn sub(self, other: FixedI16<F>) -> FixedI16<F> {
+        self.wrapping_sub(other)
+    }
+}
+
+impl<const F: u32> SubAssign for FixedI16<F> {
+    ghost sub_assign_gives = { λ x y rest. bits_of rest ≡ wrap 16 (bits_of x -ℤ bits_of y) };
+
+    #[inline]
+    fn sub_assign(&mut self, other: FixedI16<F>) {
+        *self = *self - other;
+    }
+}
+
+impl<const F: u32> Neg for FixedI16<F> {
+    type Output = FixedI16<F>;
+
+    ghost neg_gives = { λ x opposite. bits_of opposite ≡ wrap 16 (neg_ℤ (bits_of x)) };
+
+    #[inline]
+    fn neg(self) -> FixedI16<F> {
+        Self(self.0.wrapping_neg())
+    }
+}
+
+/// Parses as `from_decimal` does: `"1.5".parse()`.
+impl<const F: u32> FromStr for FixedI16<F>
+where
+    Formats: Format<16, F>,
+{
+    type Err = DecimalFault;
+
+    ghost from_str_gives = { λ text result. ReadsBy w16 F bits_of text result };
+
+    #[inline]
+    fn from_str(text: &str) -> Result<Self, DecimalFault> {
+        Self::from_decimal(text)
+    }
+}
+
+impl<const F: u32> fmt::Display for FixedI16<F>
+where
+    Formats: Format<16, F>,
+{
+    ghost output = { λ x. Some (text_of x) };
+
+    fn fmt<W: fmt::Write>(&self, f: &mut fmt::Formatter<W>) -> fmt::Result {
+        fmt::Display::fmt(&self.shortest(), f)
+    }
+}
+
+impl<const F: u32> fmt::Debug for FixedI16<F>
+where
+    Formats: Format<16, F>,
+{
+    ghost debug_output = { λ x. Some (text_of x) };
+
+    fn fmt<W: fmt::Write>(&self, f: &mut fmt::Formatter<W>) -> fmt::Result {
+        fmt::Display::fmt(&self.shortest(), f)
+    }
+}
+
+impl<const F: u32> FixedSize for FixedI16<F> {
+    const RAW_BYTE_LEN: usize = 2;
+
+    ghost RAW_BYTE_LEN = { 2 };
+}
+
+impl<const F: u32> Scalar for FixedI16<F> {
+    type Raw = [u8; 2];
+
+    ghost is_scalar = { λ x. fits_bits 16 (bits_of x) };
+
+    ghost of_raw = { λ bytes. of_bits (signed_numeral 2 bytes) };
+
+    ghost raw_of = { λ x. bytes_of 2 (bits_of x) };
+
+    ghost laws = { signed_newtype 2 (lit< tt) bits_of of_bits (λ _. refl) (λ _. refl) };
+
+    #[inline]
+    fn from_raw(raw: [u8; 2]) -> FixedI16<F> {
+        Self(i16::from_raw(raw))
+    }
+
+    #[inline]
+    fn to_raw(self) -> [u8; 2] {
+        self.0.to_raw()
+    }
+}
+
+impl<const F: u32> IdentityEq for FixedI16<F> {
+    ghost identity = { signed_identity bits_of of_bits (λ _. refl) };
+}

@@ -1,0 +1,72 @@
+//! 2.14 fixed-point numbers.
+#![tactic(auto, using(crate::proofs::Rules::number_code))]
+
+ghost use Rattle.std.proofs.Common.{lit≤};
+ghost use Rattle.std.specs.Prelude.{◌≡◌, ℤ, pos, ◌+ℤ◌, ◌*ℤ◌};
+ghost use Rattle.font_fixed.specs.F2Dot14.{f2dot14_bits as bits_of};
+ghost use Rattle.font_fixed.specs.Fixed.{fixed_bits};
+ghost use Rattle.font_fixed.specs.F48Dot16.{f48dot16_bits};
+
+use super::FixedI16;
+use crate::formats::{Format, Formats};
+use crate::{F48Dot16, Fixed};
+
+/// A signed 2.14 fixed-point number, such as a coordinate of a normalized design space.
+///
+/// The raw value is an `i16` in units of `1 / 16384`. Sums wrap on overflow.
+///
+/// ```
+/// use font_types::F2Dot14;
+/// let number = F2Dot14::from_bits(0x6000);
+/// assert_eq!(number.to_string(), "1.5");
+/// assert_eq!("1.5".parse(), Ok(number));
+/// ```
+pub type F2Dot14 = FixedI16<14>;
+
+impl Format<16, 14> for Formats {
+    ghost least = { lit≤ tt };
+
+    ghost most = { lit≤ tt };
+
+    ghost whole = { lit≤ tt };
+}
+
+impl F2Dot14 {
+    /// The smallest value, -2.
+    pub const MIN: Self = Self(-0x8000);
+
+    /// The largest value, `2 - 1 / 16384`.
+    pub const MAX: Self = Self(0x7FFF);
+
+    /// The smallest positive value, `1 / 16384`.
+    pub const EPSILON: Self = Self(1);
+
+    /// The value 0.
+    pub const ZERO: Self = Self(0);
+
+    /// The value 1.
+    pub const ONE: Self = Self(0x4000);
+
+    /// The value -1.
+    pub const NEG_ONE: Self = Self(-0x4000);
+
+    /// Converts to [`Fixed`], exactly.
+    #[must_use]
+    #[inline]
+    pub const fn to_fixed(self) -> Fixed
+        ensures { fixed_bits result ≡ (bits_of self *ℤ pos 4) }
+    {
+        Fixed::from_bits(self.0 as i32 * 4)
+    }
+
+    /// Adds a sum of deltas, exactly. The result is in units of `2^-30`.
+    ///
+    /// A delta of 1 is one unit of the raw value, `1 / 16384`.
+    #[must_use]
+    #[inline]
+    pub fn apply_delta(self, delta: F48Dot16) -> i128
+        ensures { result ≡ (bits_of self *ℤ pos 65536 +ℤ f48dot16_bits delta) }
+    {
+        i128::from(self.0) * 0x1_0000 + i128::from(delta.to_bits())
+    }
+}

@@ -1,0 +1,116 @@
+//! 26.6 fixed-point numbers.
+#![tactic(auto, using(crate::proofs::Rules::number_code))]
+
+ghost use Rattle.std.proofs.Common.{lit≤};
+ghost use Rattle.std.specs.Prelude.{◌≡◌, ◌^◌, ℤ, pos, ◌*ℤ◌};
+ghost use Rattle.font_base.specs.Wrap.{wrap};
+ghost use Rattle.font_fixed.specs.Operations.{IsNarrowed, IsProduct, IsQuotient};
+ghost use Rattle.font_fixed.specs.F26Dot6.{f26dot6_bits as bits_of};
+
+use super::FixedI32;
+use crate::formats::{Format, Formats};
+use crate::{mul_div, product};
+use std::ops::{Div, DivAssign, Mul, MulAssign};
+
+/// A signed 26.6 fixed-point number, the unit of scaled outlines.
+///
+/// The raw value is an `i32` in units of `1 / 64`. Sums, products and quotients wrap on overflow.
+///
+/// ```
+/// use font_types::F26Dot6;
+/// let number = F26Dot6::from_bits(96);
+/// assert_eq!(number.to_string(), "1.5");
+/// assert_eq!("1.5".parse(), Ok(number));
+/// ```
+pub type F26Dot6 = FixedI32<6>;
+
+impl Format<32, 6> for Formats {
+    ghost least = { lit≤ tt };
+
+    ghost most = { lit≤ tt };
+
+    ghost whole = { lit≤ tt };
+}
+
+impl F26Dot6 {
+    /// The smallest value, -33554432.
+    pub const MIN: Self = Self(-0x8000_0000);
+
+    /// The largest value, `33554432 - 1 / 64`.
+    pub const MAX: Self = Self(0x7FFF_FFFF);
+
+    /// The smallest positive value, `1 / 64`.
+    pub const EPSILON: Self = Self(1);
+
+    /// The value 0.
+    pub const ZERO: Self = Self(0);
+
+    /// The value 1.
+    pub const ONE: Self = Self(64);
+
+    /// The value -1.
+    pub const NEG_ONE: Self = Self(-64);
+
+    /// Converts an integer, wrapping on overflow.
+    #[must_use]
+    #[inline]
+    pub const fn from_i32(number: i32) -> Self
+        ensures { bits_of result ≡ wrap 32 (number *ℤ pos (2 ^ 6)) }
+    {
+        Self(number.wrapping_mul(64))
+    }
+
+    /// Rounds to the nearest integer, half up, wrapped to 26 bits: `F26Dot6::MAX` gives -33554432.
+    #[must_use]
+    #[inline]
+    pub const fn to_i32(self) -> i32
+        ensures { IsNarrowed 26 (bits_of self) (2 ^ 6) result }
+    {
+        self.wrapping_add(Self(32)).0 >> 6
+    }
+}
+
+impl Mul for F26Dot6 {
+    type Output = F26Dot6;
+
+    ghost mul_gives = { λ x y product.
+        IsProduct 32 6 (bits_of x) (bits_of y) (bits_of product) };
+
+    #[inline]
+    fn mul(self, other: F26Dot6) -> F26Dot6 {
+        Self(product(self.0, other.0, 6))
+    }
+}
+
+impl MulAssign for F26Dot6 {
+    ghost mul_assign_gives = { λ x y product.
+        IsProduct 32 6 (bits_of x) (bits_of y) (bits_of product) };
+
+    #[inline]
+    fn mul_assign(&mut self, other: F26Dot6) {
+        *self = *self * other;
+    }
+}
+
+/// Division by zero gives [`F26Dot6::MAX`], or `-F26Dot6::MAX` if the dividend is negative.
+impl Div for F26Dot6 {
+    type Output = F26Dot6;
+
+    ghost div_gives = { λ x y quotient.
+        IsQuotient 32 6 (bits_of x) (bits_of y) (bits_of quotient) };
+
+    #[inline]
+    fn div(self, other: F26Dot6) -> F26Dot6 {
+        Self(mul_div(self.0, Self::ONE.0, other.0))
+    }
+}
+
+impl DivAssign for F26Dot6 {
+    ghost div_assign_gives = { λ x y quotient.
+        IsQuotient 32 6 (bits_of x) (bits_of y) (bits_of quotient) };
+
+    #[inline]
+    fn div_assign(&mut self, other: F26Dot6) {
+        *self = *self / other;
+    }
+}

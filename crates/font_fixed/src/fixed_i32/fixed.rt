@@ -1,0 +1,262 @@
+//! 16.16 fixed-point numbers.
+#![tactic(auto, using(crate::proofs::Rules::number_code))]
+
+ghost use Rattle.std.specs.Prelude.{◌≡◌, ◌^◌, ◌↔◌, ℤ, pos, ◌+ℤ◌, ◌*ℤ◌, Some, IsSome, IfSome, refl};
+ghost use Rattle.std.proofs.Common.{lit<, lit≤};
+ghost use Rattle.font_base.specs.Wrap.{FitsBits, fits_bits, wrap};
+ghost use Rattle.font_base.specs.Bytes.{bytes_of, signed_numeral};
+ghost use Rattle.font_base.specs.Scalar.Laws.{signed_newtype, signed_identity};
+ghost use Rattle.font_fixed.specs.Operations.{IsNarrowed, IsProduct, IsQuotient, IsMulDiv};
+ghost use Rattle.font_fixed.specs.Fixed.{fixed_bits as bits_of, fixed_of as of_bits};
+ghost use Rattle.font_fixed.specs.F2Dot14.{f2dot14_bits};
+ghost use Rattle.font_fixed.specs.F26Dot6.{f26dot6_bits};
+ghost use Rattle.font_fixed.specs.F48Dot16.{f48dot16_bits};
+
+use super::FixedI32;
+use crate::formats::{Format, Formats};
+use crate::{F2Dot14, F26Dot6, F48Dot16, mul_div, product};
+use font_base::{FixedSize, IdentityEq, Scalar};
+use std::ops::{Div, DivAssign, Mul, MulAssign};
+
+/// A signed 16.16 fixed-point number.
+///
+/// The raw value is an `i32` in units of `1 / 65536`. Sums, products and quotients wrap on
+/// overflow.
+///
+/// ```
+/// use font_types::Fixed;
+/// let number = Fixed::from_bits(0x18000);
+/// assert_eq!(number.to_string(), "1.5");
+/// assert_eq!("1.5".parse(), Ok(number));
+/// ```
+pub type Fixed = FixedI32<16>;
+
+impl Format<32, 16> for Formats {
+    ghost least = { lit≤ tt };
+
+    ghost most = { lit≤ tt };
+
+    ghost whole = { lit≤ tt };
+}
+
+impl Fixed {
+    /// The smallest value, -32768.
+    pub const MIN: Self = Self(-0x8000_0000);
+
+    /// The largest value, `32768 - 1 / 65536`.
+    pub const MAX: Self = Self(0x7FFF_FFFF);
+
+    /// The smallest positive value, `1 / 65536`.
+    pub const EPSILON: Self = Self(1);
+
+    /// The value 0.
+    pub const ZERO: Self = Self(0);
+
+    /// The value 1.
+    pub const ONE: Self = Self(0x1_0000);
+
+    /// The value -1.
+    pub const NEG_ONE: Self = Self(-0x1_0000);
+
+    /// Returns `self * a / c`, rounded once, half away from zero, wrapping on overflow.
+    ///
+    /// If `c` is zero, the result is [`Fixed::MAX`], negated if exactly one of `self` and `a` is
+    /// negative.
+    #[must_use]
+    #[inline]
+    pub const fn mul_div(&self, a: Self, c: Self) -> Self
+        ensures { IsMulDiv 32 (bits_of self.now) (bits_of a) (bits_of c)
+            (bits_of result) }
+    {
+        Self(mul_div(self.0, a.0, c.0))
+    }
+
+    /// Converts an integer, wrapping on overflow.
+    #[must_use]
+    #[inline]
+    pub const fn from_i32(number: i32) -> Self
+        ensures { bits_of result ≡ wrap 32 (number *ℤ pos (2 ^ 16)) }
+    {
+        Self(number.wrapping_mul(0x1_0000))
+    }
+
+    /// Rounds to the nearest integer, half up, wrapped to 16 bits: [`Fixed::MAX`] gives -32768.
+    #[must_use]
+    #[inline]
+    pub const fn to_i32(self) -> i32
+        ensures { IsNarrowed 16 (bits_of self) (2 ^ 16) result }
+    {
+        self.wrapping_add(Self(0x8000)).0 >> 16
+    }
+
+    /// Rounds to the nearest [`F26Dot6`], half up, its raw bits wrapped to 22 bits.
+    #[must_use]
+    #[inline]
+    pub const fn to_f26dot6(self) -> F26Dot6
+        ensures { IsNarrowed 22 (bits_of self) (2 ^ 10) (f26dot6_bits result) }
+    {
+        F26Dot6::from_bits(self.wrapping_add(Self(0x200)).0 >> 10)
+    }
+
+    /// Rounds to the nearest [`F2Dot14`], half up, wrapping on overflow.
+    #[must_use]
+    #[inline]
+    pub const fn to_f2dot14(self) -> F2Dot14
+        ensures { IsNarrowed 16 (bits_of self) 4 (f2dot14_bits result) }
+    {
+        F2Dot14::from_bits(low_half(self.quarter()))
+    }
+
+    /// Converts to [`F48Dot16`], exactly.
+    #[must_use]
+    #[inline]
+    pub const fn to_f48dot16(self) -> F48Dot16
+        ensures { f48dot16_bits result ≡ bits_of self }
+    {
+        F48Dot16::from_bits(self.0 as i64)
+    }
+
+    /// Returns the exact product with an integer.
+    #[must_use]
+    #[inline]
+    pub const fn mul_i32(self, number: i32) -> F48Dot16
+        ensures { f48dot16_bits result ≡ (bits_of self *ℤ number) }
+    {
+        F48Dot16::from_bits(self.0 as i64 * number as i64)
+    }
+
+    /// Creates a value from a 16.16 raw value, or returns `None` if 32 bits do not hold it.
+    ///
+    /// `FWord::apply_delta` and `UfWord::apply_delta` return such a raw value.
+    #[must_use]
+    #[inline]
+    pub fn from_steps(steps: i128) -> Option<Fixed>
+        ensures variant { IsSome result ↔ FitsBits 32 steps }
+        ensures value { IfSome result (λ number. bits_of number ≡ steps) }
+    {
+        Some(Self(i32::try_from(steps).ok()?))
+    }
+
+    /// Adds a sum of deltas, exactly. The result is in units of `2^-32`.
+    ///
+    /// A delta of 1 is one unit of the raw value, `1 / 65536`.
+    #[must_use]
+    #[inline]
+    pub fn apply_delta(self, delta: F48Dot16) -> i128
+        ensures { result ≡ (bits_of self *ℤ pos 65536 +ℤ f48dot16_bits delta) }
+    {
+        i128::from(self.0) * 0x1_0000 + i128::from(delta.to_bits())
+    }
+
+    // A quarter of the raw bits, rounded half up, wrapped to 30 bits.
+    #[inline]
+    const fn quarter(self) -> i32
+        ensures { IsNarrowed 30 (bits_of self) 4 result }
+    {
+        self.wrapping_add(Self(2)).0 >> 2
+    }
+}
+
+// Truncates to the low 16 bits.
+#[inline]
+const fn low_half(n: i32) -> i16
+    ensures { result ≡ wrap 16 n }
+{
+    (n.rem_euclid(0x1_0000) as u16).cast_signed()
+}
+
+impl Mul for Fixed {
+    type Output = Fixed;
+
+    ghost mul_gives = { λ x y product.
+        IsProduct 32 16 (bits_of x) (bits_of y) (bits_of product) };
+
+    #[inline]
+    fn mul(self, other: Fixed) -> Fixed {
+        Self(product(self.0, other.0, 16))
+    }
+}
+
+impl MulAssign for Fixed {
+    ghost mul_assign_gives = { λ x y product.
+        IsProduct 32 16 (bits_of x) (bits_of y) (bits_of product) };
+
+    #[inline]
+    fn mul_assign(&mut self, other: Fixed) {
+        *self = *self * other;
+    }
+}
+
+/// Division by zero gives [`Fixed::MAX`], or `-Fixed::MAX` if the dividend is negative.
+impl Div for Fixed {
+    type Output = Fixed;
+
+    ghost div_gives = { λ x y quotient.
+        IsQuotient 32 16 (bits_of x) (bits_of y) (bits_of quotient) };
+
+    #[inline]
+    fn div(self, other: Fixed) -> Fixed {
+        self.mul_div(Self::ONE, other)
+    }
+}
+
+impl DivAssign for Fixed {
+    ghost div_assign_gives = { λ x y quotient.
+        IsQuotient 32 16 (bits_of x) (bits_of y) (bits_of quotient) };
+
+    #[inline]
+    fn div_assign(&mut self, other: Fixed) {
+        *self = *self / other;
+    }
+}
+
+impl From<i32> for Fixed {
+    ghost from_gives = { λ number fixed. bits_of fixed ≡ wrap 32 (number *ℤ pos (2 ^ 16)) };
+
+    #[inline]
+    fn from(number: i32) -> Fixed {
+        Fixed::from_i32(number)
+    }
+}
+
+/// Converts exactly, as `to_fixed` does.
+impl From<F2Dot14> for Fixed {
+    ghost from_gives = { λ number fixed. bits_of fixed ≡ (f2dot14_bits number *ℤ pos 4) };
+
+    #[inline]
+    fn from(number: F2Dot14) -> Fixed {
+        number.to_fixed()
+    }
+}
+
+impl FixedSize for Fixed {
+    const RAW_BYTE_LEN: usize = 4;
+
+    ghost RAW_BYTE_LEN = { 4 };
+}
+
+impl Scalar for Fixed {
+    type Raw = [u8; 4];
+
+    ghost is_scalar = { λ x. fits_bits 32 (bits_of x) };
+
+    ghost of_raw = { λ bytes. of_bits (signed_numeral 4 bytes) };
+
+    ghost raw_of = { λ x. bytes_of 4 (bits_of x) };
+
+    ghost laws = { signed_newtype 4 (lit< tt) bits_of of_bits (λ _. refl) (λ _. refl) };
+
+    #[inline]
+    fn from_raw(raw: [u8; 4]) -> Fixed {
+        Self(i32::from_raw(raw))
+    }
+
+    #[inline]
+    fn to_raw(self) -> [u8; 4] {
+        self.0.to_raw()
+    }
+}
+
+impl IdentityEq for Fixed {
+    ghost identity = { signed_identity bits_of of_bits (λ _. refl) };
+}

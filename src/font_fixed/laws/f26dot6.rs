@@ -1,0 +1,52 @@
+// @generated from crates/font_fixed/src/laws/f26dot6.rt by tools/src/bin/erase.rs
+
+//! Laws of [`F26Dot6`], as contracts of functions.
+
+use crate::font_fixed::F26Dot6;
+
+/// Returns `x * y`, `y * x` and `x * ONE`: the first two are equal, and the third is `x`.
+///
+/// <details><summary>Contract</summary>
+///
+/// ```text
+/// ensures { OnThree result (λ product flipped by_one.
+///     ProductLaws 32 6 (f26dot6_bits x) (f26dot6_bits y)
+///     (f26dot6_bits product) (f26dot6_bits flipped) (f26dot6_bits by_one)) }
+/// ```
+///
+/// Defined:
+/// [`f26dot6_bits`](crate::contracts::font_fixed::F26Dot6),
+/// [`OnThree`](crate::contracts::font_fixed::NumberLaws),
+/// [`ProductLaws`](crate::contracts::font_fixed::NumberLaws).
+/// [How to read it](crate::contracts).
+///
+/// </details>
+#[must_use]
+#[inline]
+pub fn product_laws(x: F26Dot6, y: F26Dot6) -> [F26Dot6; 3] {
+    [x * y, y * x, x * F26Dot6::ONE]
+}
+
+/// Returns `x / y`, `x / ONE` and `x / x`: the second is `x`, and the last is `ONE` unless `x` is
+/// zero.
+///
+/// <details><summary>Contract</summary>
+///
+/// ```text
+/// ensures { OnThree result (λ quotient by_one by_itself.
+///     QuotientLaws 32 6 (f26dot6_bits x) (f26dot6_bits y)
+///     (f26dot6_bits quotient) (f26dot6_bits by_one) (f26dot6_bits by_itself)) }
+/// ```
+///
+/// Defined:
+/// [`f26dot6_bits`](crate::contracts::font_fixed::F26Dot6),
+/// [`OnThree`](crate::contracts::font_fixed::NumberLaws),
+/// [`QuotientLaws`](crate::contracts::font_fixed::NumberLaws).
+/// [How to read it](crate::contracts).
+///
+/// </details>
+#[must_use]
+#[inline]
+pub fn quotient_laws(x: F26Dot6, y: F26Dot6) -> [F26Dot6; 3] {
+    [x / y, x / F26Dot6::ONE, x / x]
+}
