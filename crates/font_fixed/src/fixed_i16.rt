@@ -17,7 +17,7 @@ ghost use Rattle.font_fixed.specs.declared.fixed_i16.FixedI16.{FixedI16};
 ghost use Rattle.font_fixed.specs.FixedI16.{bits_of, of_bits, text_of};
 ghost use Rattle.font_fixed.specs.Longest.{longest};
 
-use crate::formats::{Format, Formats};
+use crate::formats::Format;
 use crate::read_bits_16;
 use font_base::{FixedSize, IdentityEq, Scalar};
 use font_decimal::{DecimalFault, Pad, Shortest};
@@ -36,6 +36,13 @@ pub use f6dot10::F6Dot10;
 /// A signed fixed-point number of 16 bits, `F` of them fraction bits.
 ///
 /// The raw value is an `i16` in units of `1 / 2^F`. Sums wrap on overflow.
+///
+/// The formats of fonts are [`F2Dot14`], [`F4Dot12`] and [`F6Dot10`]. Rounding, parsing and printing are for these formats alone:
+///
+/// ```compile_fail,E0599
+/// use font_types::FixedI16;
+/// FixedI16::<3>::from_bits(12).round();
+/// ```
 #[derive(Clone, Copy, PartialEq, Eq, PartialOrd, Ord, Hash, Default)]
 pub struct FixedI16<const F: u32>(i16);
 
@@ -126,7 +133,7 @@ impl<const F: u32> FixedI16<F> {
 
 impl<const F: u32> FixedI16<F>
 where
-    Formats: Format<16, F>,
+    Self: Format<16, F>,
 {
     /// Rounds to the nearest integer, half up; wraps: `MAX.round()` is `MIN`.
     #[must_use]
@@ -262,7 +269,7 @@ impl<const F: u32> Neg for FixedI16<F> {
 /// Parses as `from_decimal` does: `"1.5".parse()`.
 impl<const F: u32> FromStr for FixedI16<F>
 where
-    Formats: Format<16, F>,
+    Self: Format<16, F>,
 {
     type Err = DecimalFault;
 
@@ -276,7 +283,7 @@ where
 
 impl<const F: u32> fmt::Display for FixedI16<F>
 where
-    Formats: Format<16, F>,
+    Self: Format<16, F>,
 {
     ghost output = { λ x. Some (text_of x) };
 
@@ -287,7 +294,7 @@ where
 
 impl<const F: u32> fmt::Debug for FixedI16<F>
 where
-    Formats: Format<16, F>,
+    Self: Format<16, F>,
 {
     ghost debug_output = { λ x. Some (text_of x) };
 

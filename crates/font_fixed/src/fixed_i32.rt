@@ -15,7 +15,7 @@ ghost use Rattle.font_fixed.specs.declared.fixed_i32.FixedI32.{FixedI32};
 ghost use Rattle.font_fixed.specs.FixedI32.{bits_of, text_of};
 ghost use Rattle.font_fixed.specs.Longest.{longest};
 
-use crate::formats::{Format, Formats};
+use crate::formats::Format;
 use crate::read_bits_32;
 use font_decimal::{DecimalFault, Pad, Shortest};
 use std::fmt;
@@ -33,6 +33,13 @@ pub use fixed::Fixed;
 /// A signed fixed-point number of 32 bits, `F` of them fraction bits.
 ///
 /// The raw value is an `i32` in units of `1 / 2^F`. Sums wrap on overflow.
+///
+/// The formats of fonts are [`Fixed`], [`F26Dot6`] and [`F2Dot30`]. Rounding, parsing and printing are for these formats alone:
+///
+/// ```compile_fail,E0599
+/// use font_types::FixedI32;
+/// FixedI32::<3>::from_bits(12).round();
+/// ```
 #[derive(Clone, Copy, PartialEq, Eq, PartialOrd, Ord, Hash, Default)]
 pub struct FixedI32<const F: u32>(i32);
 
@@ -123,7 +130,7 @@ impl<const F: u32> FixedI32<F> {
 
 impl<const F: u32> FixedI32<F>
 where
-    Formats: Format<32, F>,
+    Self: Format<32, F>,
 {
     /// Rounds to the nearest integer, half up; wraps: `MAX.round()` is `MIN`.
     #[must_use]
@@ -259,7 +266,7 @@ impl<const F: u32> Neg for FixedI32<F> {
 /// Parses as `from_decimal` does: `"1.5".parse()`.
 impl<const F: u32> FromStr for FixedI32<F>
 where
-    Formats: Format<32, F>,
+    Self: Format<32, F>,
 {
     type Err = DecimalFault;
 
@@ -273,7 +280,7 @@ where
 
 impl<const F: u32> fmt::Display for FixedI32<F>
 where
-    Formats: Format<32, F>,
+    Self: Format<32, F>,
 {
     ghost output = { λ x. Some (text_of x) };
 
@@ -284,7 +291,7 @@ where
 
 impl<const F: u32> fmt::Debug for FixedI32<F>
 where
-    Formats: Format<32, F>,
+    Self: Format<32, F>,
 {
     ghost debug_output = { λ x. Some (text_of x) };
 

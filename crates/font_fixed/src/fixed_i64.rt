@@ -15,7 +15,7 @@ ghost use Rattle.font_fixed.specs.declared.fixed_i64.FixedI64.{FixedI64};
 ghost use Rattle.font_fixed.specs.FixedI64.{bits_of, text_of};
 ghost use Rattle.font_fixed.specs.Longest.{longest};
 
-use crate::formats::{Format, Formats};
+use crate::formats::Format;
 use crate::read_bits_64;
 use font_decimal::{DecimalFault, Pad, Shortest};
 use std::fmt;
@@ -29,6 +29,13 @@ pub use f48dot16::F48Dot16;
 /// A signed fixed-point number of 64 bits, `F` of them fraction bits.
 ///
 /// The raw value is an `i64` in units of `1 / 2^F`. Sums wrap on overflow.
+///
+/// The format of fonts is [`F48Dot16`]. Rounding, parsing and printing are for this format alone:
+///
+/// ```compile_fail,E0599
+/// use font_types::FixedI64;
+/// FixedI64::<3>::from_bits(12).round();
+/// ```
 #[derive(Clone, Copy, PartialEq, Eq, PartialOrd, Ord, Hash, Default)]
 pub struct FixedI64<const F: u32>(i64);
 
@@ -119,7 +126,7 @@ impl<const F: u32> FixedI64<F> {
 
 impl<const F: u32> FixedI64<F>
 where
-    Formats: Format<64, F>,
+    Self: Format<64, F>,
 {
     /// Rounds to the nearest integer, half up; wraps: `MAX.round()` is `MIN`.
     #[must_use]
@@ -255,7 +262,7 @@ impl<const F: u32> Neg for FixedI64<F> {
 /// Parses as `from_decimal` does: `"1.5".parse()`.
 impl<const F: u32> FromStr for FixedI64<F>
 where
-    Formats: Format<64, F>,
+    Self: Format<64, F>,
 {
     type Err = DecimalFault;
 
@@ -269,7 +276,7 @@ where
 
 impl<const F: u32> fmt::Display for FixedI64<F>
 where
-    Formats: Format<64, F>,
+    Self: Format<64, F>,
 {
     ghost output = { λ x. Some (text_of x) };
 
@@ -280,7 +287,7 @@ where
 
 impl<const F: u32> fmt::Debug for FixedI64<F>
 where
-    Formats: Format<64, F>,
+    Self: Format<64, F>,
 {
     ghost debug_output = { λ x. Some (text_of x) };
 

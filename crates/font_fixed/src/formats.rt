@@ -2,7 +2,9 @@
 
 ghost use Rattle.std.specs.Prelude.{◌+◌, ◌≤◌};
 
-/// That numbers of `W` bits may have `F` fraction bits, as [`Formats`] says.
+/// A fixed-point type of `W` bits with `F` fraction bits that rounds, parses and prints.
+///
+/// The seven formats of fonts implement it. No other crate can, because the types are of this one.
 pub trait Format<const W: u32, const F: u32> {
     ghost least: { 6 ≤ F };
 
@@ -10,7 +12,3 @@ pub trait Format<const W: u32, const F: u32> {
 
     ghost whole: { F + 2 ≤ W };
 }
-
-/// The formats that have names.
-#[derive(Clone, Copy, Debug)]
-pub struct Formats;

@@ -1,11 +1,6 @@
-//! Values from the definitions of the numbers and from the original crate.
+//! Rows of the specification and of the original crate, and every value of 16 bits.
 
 mod arithmetic;
-mod calling;
 mod conversions;
-mod f26dot6_arithmetic;
-mod f26dot6_texts;
 mod padded;
-mod products;
-mod sampled;
 mod texts;

@@ -3,5 +3,3 @@
 
 pub use font_fixed::{F2Dot30, F4Dot12, F6Dot10};
 
-#[cfg(test)]
-mod tests;

@@ -21,9 +21,7 @@ pub use font_base::{
 pub use font_decimal::{
     Align, DecimalFault, Pad, Shortest, read_decimal, read_decimal_bytes, write_padded,
 };
-pub use font_fixed::{
-    F2Dot14, F26Dot6, F48Dot16, Fixed, FixedI16, FixedI32, FixedI64, Format, Formats,
-};
+pub use font_fixed::{F2Dot14, F26Dot6, F48Dot16, Fixed, FixedI16, FixedI32, FixedI64, Format};
 pub use font_fixed2::{F2Dot30, F4Dot12, F6Dot10};
 pub use font_geom::{BoundingBox, Matrix, MatrixElement, Point, RingElement};
 pub use font_ids::{

@@ -8,7 +8,7 @@ ghost use Rattle.font_fixed.specs.Fixed.{fixed_bits};
 ghost use Rattle.font_fixed.specs.F48Dot16.{f48dot16_bits};
 
 use super::FixedI16;
-use crate::formats::{Format, Formats};
+use crate::formats::Format;
 use crate::{F48Dot16, Fixed};
 
 /// A signed 2.14 fixed-point number, such as a coordinate of a normalized design space.
@@ -23,7 +23,7 @@ use crate::{F48Dot16, Fixed};
 /// ```
 pub type F2Dot14 = FixedI16<14>;
 
-impl Format<16, 14> for Formats {
+impl Format<16, 14> for F2Dot14 {
     ghost least = { lit≤ tt };
 
     ghost most = { lit≤ tt };

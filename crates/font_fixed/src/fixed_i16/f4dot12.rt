@@ -3,7 +3,7 @@
 ghost use Rattle.std.proofs.Common.{lit≤};
 
 use super::FixedI16;
-use crate::formats::{Format, Formats};
+use crate::formats::Format;
 
 /// A signed 4.12 fixed-point number.
 ///
@@ -17,7 +17,7 @@ use crate::formats::{Format, Formats};
 /// ```
 pub type F4Dot12 = FixedI16<12>;
 
-impl Format<16, 12> for Formats {
+impl Format<16, 12> for F4Dot12 {
     ghost least = { lit≤ tt };
 
     ghost most = { lit≤ tt };

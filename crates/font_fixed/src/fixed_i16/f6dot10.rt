@@ -3,7 +3,7 @@
 ghost use Rattle.std.proofs.Common.{lit≤};
 
 use super::FixedI16;
-use crate::formats::{Format, Formats};
+use crate::formats::Format;
 
 /// A signed 6.10 fixed-point number.
 ///
@@ -17,7 +17,7 @@ use crate::formats::{Format, Formats};
 /// ```
 pub type F6Dot10 = FixedI16<10>;
 
-impl Format<16, 10> for Formats {
+impl Format<16, 10> for F6Dot10 {
     ghost least = { lit≤ tt };
 
     ghost most = { lit≤ tt };

@@ -8,7 +8,7 @@ ghost use Rattle.font_fixed.specs.Operations.{IsNarrowed, IsProduct, IsQuotient}
 ghost use Rattle.font_fixed.specs.F26Dot6.{f26dot6_bits as bits_of};
 
 use super::FixedI32;
-use crate::formats::{Format, Formats};
+use crate::formats::Format;
 use crate::{mul_div, product};
 use std::ops::{Div, DivAssign, Mul, MulAssign};
 
@@ -24,7 +24,7 @@ use std::ops::{Div, DivAssign, Mul, MulAssign};
 /// ```
 pub type F26Dot6 = FixedI32<6>;
 
-impl Format<32, 6> for Formats {
+impl Format<32, 6> for F26Dot6 {
     ghost least = { lit≤ tt };
 
     ghost most = { lit≤ tt };

@@ -13,7 +13,7 @@ ghost use Rattle.font_fixed.specs.Fixed.{fixed_bits};
 ghost use Rattle.font_fixed.specs.F2Dot30.{f2dot30_bits as bits_of, f2dot30_of as of_bits};
 
 use super::FixedI32;
-use crate::formats::{Format, Formats};
+use crate::formats::Format;
 use crate::{F2Dot14, Fixed};
 use font_base::{FixedSize, IdentityEq, Scalar};
 
@@ -29,7 +29,7 @@ use font_base::{FixedSize, IdentityEq, Scalar};
 /// ```
 pub type F2Dot30 = FixedI32<30>;
 
-impl Format<32, 30> for Formats {
+impl Format<32, 30> for F2Dot30 {
     ghost least = { lit≤ tt };
 
     ghost most = { lit≤ tt };

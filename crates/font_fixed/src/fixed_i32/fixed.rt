@@ -13,7 +13,7 @@ ghost use Rattle.font_fixed.specs.F26Dot6.{f26dot6_bits};
 ghost use Rattle.font_fixed.specs.F48Dot16.{f48dot16_bits};
 
 use super::FixedI32;
-use crate::formats::{Format, Formats};
+use crate::formats::Format;
 use crate::{F2Dot14, F26Dot6, F48Dot16, mul_div, product};
 use font_base::{FixedSize, IdentityEq, Scalar};
 use std::ops::{Div, DivAssign, Mul, MulAssign};
@@ -31,7 +31,7 @@ use std::ops::{Div, DivAssign, Mul, MulAssign};
 /// ```
 pub type Fixed = FixedI32<16>;
 
-impl Format<32, 16> for Formats {
+impl Format<32, 16> for Fixed {
     ghost least = { lit≤ tt };
 
     ghost most = { lit≤ tt };

@@ -9,7 +9,7 @@ ghost use Rattle.font_fixed.specs.F48Dot16.{f48dot16_bits as bits_of};
 ghost use Rattle.font_fixed.specs.Fixed.{fixed_bits};
 
 use super::FixedI64;
-use crate::formats::{Format, Formats};
+use crate::formats::Format;
 use crate::{Fixed, low_bits};
 
 /// A signed 48.16 fixed-point number, such as a sum of deltas.
@@ -24,7 +24,7 @@ use crate::{Fixed, low_bits};
 /// ```
 pub type F48Dot16 = FixedI64<16>;
 
-impl Format<64, 16> for Formats {
+impl Format<64, 16> for F48Dot16 {
     ghost least = { lit≤ tt };
 
     ghost most = { lit≤ tt };

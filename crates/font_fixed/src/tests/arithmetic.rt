@@ -1,171 +1,249 @@
-//! Sums, products, quotients, roundings and stored bytes.
+//! Sums, products, quotients, rounding and bytes.
 
-use crate::laws::fixed::{product_laws, quotient_laws};
-use crate::{F2Dot14, F48Dot16, Fixed};
+use crate::laws::{f26dot6, fixed};
+use crate::*;
 use font_base::{BigEndian, Scalar};
-use std::test::Fail;
+use font_decimal::DecimalFault;
 
-#[test]
-fn sums(rt: HostRuntime) -> Result<(), Fail> {
-    let (half, step) = (Fixed::from_bits(0x8000), Fixed::EPSILON);
-    assert!(rt; [half + step, step - half].map(Fixed::to_bits) == [0x8001, -0x7FFF]);
-    assert!(rt; half.checked_add(half) == Some(Fixed::ONE));
-    assert!(rt; Fixed::ONE.max(Fixed::NEG_ONE) == Fixed::ONE.clone()?);
-    Ok(())
+/// Checks a format's constants and default, by its raw type and the raw value of 1.
+macro_rules! check_constants {
+    ($rt:ident, $Number:ident, $Raw:ident, $one:literal) => {
+        let limits = [$Number::MIN, $Number::MAX, $Number::EPSILON].map($Number::to_bits);
+        assert!($rt; limits == [$Raw::MIN, $Raw::MAX, 1], "limits of {}", $Number::ONE);
+        let zeros = [$Number::ZERO, $Number::default()].map($Number::to_bits);
+        let ones = [$Number::ONE, $Number::NEG_ONE].map($Number::to_bits);
+        assert!($rt; zeros == [0, 0] && ones == [$one, -$one], "ones of {}", $Number::MAX);
+    };
 }
 
 #[test]
-fn products(rt: HostRuntime) {
+fn constants(rt: HostRuntime) {
+    check_constants!(rt, F2Dot14, i16, 0x4000);
+    check_constants!(rt, F4Dot12, i16, 0x1000);
+    check_constants!(rt, F6Dot10, i16, 0x400);
+    check_constants!(rt, Fixed, i32, 0x1_0000);
+    check_constants!(rt, F26Dot6, i32, 64);
+    check_constants!(rt, F2Dot30, i32, 0x4000_0000);
+    check_constants!(rt, F48Dot16, i64, 0x1_0000);
+}
+
+#[test]
+fn sums_at_the_limits(rt: HostRuntime) {
+    let (max, step) = (Fixed::MAX, Fixed::EPSILON);
+    assert!(rt; [max.saturating_add(step), max + step] == [max, Fixed::MIN]);
+    assert!(rt; max.checked_add(step).is_none() && max.wrapping_add(step) == Fixed::MIN);
+    assert!(rt; Fixed::MIN.saturating_sub(step) == Fixed::MIN && Fixed::MIN - step == max);
+    assert!(rt; [Fixed::MIN.abs(), -Fixed::MIN] == [Fixed::MIN; 2]);
+    let half = Fixed::from_bits(0x8000);
+    assert!(rt; half.checked_add(half) == Some(Fixed::ONE) && half.max(step) == half);
+}
+
+#[test]
+fn sums_of_each_width(rt: HostRuntime) {
+    let (mut narrow, mut long, mut wide) = (F2Dot14::MAX, F26Dot6::MAX, F48Dot16::MAX);
+    narrow += F2Dot14::EPSILON;
+    long += F26Dot6::EPSILON;
+    wide += F48Dot16::EPSILON;
+    assert!(rt; narrow == F2Dot14::MIN && long == F26Dot6::MIN && wide == F48Dot16::MIN);
+    narrow -= F2Dot14::EPSILON;
+    long -= F26Dot6::EPSILON;
+    wide -= F48Dot16::EPSILON;
+    assert!(rt; narrow == F2Dot14::MAX && long == F26Dot6::MAX && wide == F48Dot16::MAX);
+    assert!(rt; [-F2Dot14::MIN, F2Dot14::MIN.abs()] == [F2Dot14::MIN; 2]);
+    assert!(rt; [-F48Dot16::ONE, F48Dot16::NEG_ONE] == [F48Dot16::NEG_ONE; 2]);
+}
+
+#[test]
+fn products_of_16_16(rt: HostRuntime) {
     for &(x, y, product) in &[
         (-1, 0x8000, -1),
         (1, 0x8000, 1),
         (0x8000, 0x8000, 0x4000),
         (1, 0x4000, 0),
-        (-0x8000_0000, -0x1_0000, -0x8000_0000),
-        (-0x8000_0000, -0x8000_0000, 0),
+        (i32::MIN, -0x1_0000, i32::MIN),
+        (i32::MIN, i32::MIN, 0),
     ] {
-        let answers = product_laws(Fixed::from_bits(x), Fixed::from_bits(y));
+        let products = fixed::product_laws(Fixed::from_bits(x), Fixed::from_bits(y));
         assert!(rt;
-            [answers[0], answers[3]].map(Fixed::to_bits) == [product; 2],
+            products.map(Fixed::to_bits) == [product, product, x, product],
             "{x} * {y}"
         );
     }
 }
 
 #[test]
-fn products_do_not_associate(rt: HostRuntime) {
-    let (step, half) = (Fixed::from_bits(1), Fixed::from_bits(0x8000));
+fn products_of_16_16_do_not_associate(rt: HostRuntime) {
+    let (step, half) = (Fixed::EPSILON, Fixed::from_bits(0x8000));
     assert!(rt; step * half * half == step && step * (half * half) == Fixed::ZERO);
 }
 
 #[test]
-fn quotients(rt: HostRuntime) {
+fn quotients_of_16_16(rt: HostRuntime) {
     for &(x, y, quotient) in &[
-        (-0x8000_0000, -1, 0),
-        (0, 0, 0x7FFF_FFFF),
-        (-0x1_0000, 0, -0x7FFF_FFFF),
-        (-0x8000_0000, -0x8000_0000, 0x1_0000),
-        (-0x8000_0000, 0x1_0000, -0x8000_0000),
-        (-0x8000_0000, -0x1_0000, -0x8000_0000),
-        (-6062080, 185, -0x8000_0000),
+        (i32::MIN, -1, 0),
+        (0, 0, i32::MAX),
+        (-0x1_0000, 0, -i32::MAX),
+        (i32::MIN, i32::MIN, 0x1_0000),
+        (i32::MIN, -0x1_0000, i32::MIN),
+        (-6062080, 185, i32::MIN),
     ] {
-        let answers = quotient_laws(Fixed::from_bits(x), Fixed::from_bits(y));
+        let [over, same, itself, _] = fixed::quotient_laws(
+            Fixed::from_bits(x),
+            Fixed::from_bits(y),
+        );
         assert!(rt;
-            [answers[0], answers[1]].map(Fixed::to_bits) == [quotient; 2],
+            [over, same, itself].map(Fixed::to_bits) == [quotient, quotient, x],
             "{x} / {y}"
         );
     }
 }
 
 #[test]
-fn products_and_quotients_in_one_step(rt: HostRuntime) {
+fn products_over_quotients_of_16_16(rt: HostRuntime) {
     let by_zero = Fixed::ZERO.mul_div(Fixed::NEG_ONE, Fixed::ZERO);
     let of_max = Fixed::MAX.mul_div(Fixed::MAX, Fixed::EPSILON);
     let of_min = Fixed::MIN.mul_div(Fixed::MIN, Fixed::from_bits(-1));
-    assert!(rt; [by_zero, of_max, of_min].map(Fixed::to_bits) == [-0x7FFF_FFFF, 1, 0]);
+    assert!(rt; [by_zero, of_max, of_min].map(Fixed::to_bits) == [-i32::MAX, 1, 0]);
 }
 
 #[test]
-fn rounded(rt: HostRuntime) {
-    for &(bits, rounded) in &[
-        (0x1_7FFF, 0x1_0000),
-        (0x1_8000, 0x2_0000),
-        (0x7FFF_FFFF, -0x8000_0000),
-        (-0x1_8000, -0x1_0000),
-        (-0x1_8001, -0x2_0000),
+fn products_and_quotients_of_26_6(rt: HostRuntime) {
+    for &(x, y, product, quotient) in &[
+        (32, -154, -77, -13),
+        (1, 32, 1, 2),
+        (-1, 32, -1, -2),
+        (64, 0, 0, i32::MAX),
+        (-64, 0, 0, -i32::MAX),
+        (0, 0, 0, i32::MAX),
+        (i32::MIN, -64, i32::MIN, i32::MIN),
+        (i32::MIN, -1, 0x200_0000, 0),
     ] {
+        let [x, y] = [x, y].map(F26Dot6::from_bits);
+        let [times, swapped, _] = f26dot6::product_laws(x, y);
+        let [over, by_one, _] = f26dot6::quotient_laws(x, y);
+        let (mut assigned, mut divided) = (x, x);
+        assigned *= y;
+        divided /= y;
         assert!(rt;
-            Fixed::from_bits(bits).round().to_bits() == rounded,
-            "{bits}"
+            [times, swapped, assigned].map(F26Dot6::to_bits) == [product; 3],
+            "{x} * {y}"
+        );
+        assert!(rt;
+            [over, divided].map(F26Dot6::to_bits) == [quotient; 2] && by_one == x,
+            "{x} / {y}"
         );
     }
-    let narrow = [0x7000, 0x1FFF, 0x2000, -0x2000, -0x2001, -0x6000].map(F2Dot14::from_bits);
-    assert!(rt;
-        narrow.map(F2Dot14::round).map(F2Dot14::to_bits)
-            == [-0x8000, 0, 0x4000, 0, -0x4000, -0x4000]
-    );
 }
 
 #[test]
-fn whole_numbers(rt: HostRuntime) {
-    let numbers = [0x1_8000, 0x7FFF, -0x1_8000, -0x8001, 0x7FFF_FFFF].map(Fixed::from_bits);
-    assert!(rt; numbers.map(Fixed::to_i32) == [2, 0, -1, -1, -32768]);
-    assert!(rt; Fixed::from_i32(-1) == Fixed::NEG_ONE && Fixed::from(1) == Fixed::ONE);
-}
-
-#[test]
-fn wide_whole_numbers(rt: HostRuntime) {
-    for &(bits, rounded, whole, narrow) in &[
-        (-0x1_8000, -0x1_0000, -1, -1),
-        (-0x1_8001, -0x2_0000, -2, -2),
-        (0x1_8000, 0x2_0000, 2, 2),
-        (0x7FFF, 0, 0, 0),
-        (i64::MAX, i64::MIN, -140737488355328, 0),
-        (0x8000_0000_0000, 0x8000_0000_0000, 2147483648, i32::MIN),
-        (0x100_0000_0000_4000, 1 << 56, 1 << 40, 0),
-    ] {
-        let number = F48Dot16::from_bits(bits);
-        assert!(rt;
-            [number.round().to_bits(), number.to_i64()] == [rounded, whole],
-            "{bits}"
-        );
-        assert!(rt; number.to_i32() == narrow, "to_i32 of {bits}");
-    }
-    assert!(rt;
-        [
-            F48Dot16::from_i64(1 << 40),
-            F48Dot16::from_i64(1 << 47),
-            F48Dot16::from_i32(i32::MIN)
-        ] == [
-            F48Dot16::from_bits(1 << 56),
-            F48Dot16::MIN,
-            F48Dot16::from_bits(-0x8000_0000_0000)
-        ]
-    );
-}
-
-#[test]
-fn parts(rt: HostRuntime) {
-    let number = Fixed::from_bits(-0x1_8000);
-    assert!(rt; [number.floor(), number.fract()].map(Fixed::to_bits) == [-0x2_0000, 0x8000]);
-    let narrow = F2Dot14::from_bits(-0x6000);
-    let parts = [narrow.floor(), narrow.fract(), narrow.abs()];
-    assert!(rt; parts.map(F2Dot14::to_bits) == [-0x8000, 0x2000, 0x6000]);
-    let wide = F48Dot16::from_bits(-0x1_8001);
-    let parts = [wide.floor(), wide.fract(), wide.abs()];
-    assert!(rt; parts.map(F48Dot16::to_bits) == [-0x2_0000, 0x7FFF, 0x1_8001]);
-}
-
-// `+=` and `-=` are tested in `ends.rt`.
-#[test]
-fn assigning(rt: HostRuntime) {
+fn assigned_products_of_16_16(rt: HostRuntime) {
     for &(x, y, product, quotient) in &[
         (0x3_0000, 0x2_0000, 0x6_0000, 0x1_8000),
         (-0x1_8000, 0x8000, -0xC000, -0x3_0000),
-        (i32::MIN, -0x1_0000, i32::MIN, i32::MIN),
         (i32::MAX, 1, 0x8000, -0x1_0000),
     ] {
         let [x, y] = [x, y].map(Fixed::from_bits);
-        let mut numbers = [x; 2];
-        numbers[0] *= y;
-        numbers[1] /= y;
+        let (mut times, mut over) = (x, x);
+        times *= y;
+        over /= y;
         assert!(rt;
-            numbers.map(Fixed::to_bits) == [product, quotient],
-            "assigned {y} to {x}"
+            [times, over].map(Fixed::to_bits) == [product, quotient],
+            "{x} and {y}"
         );
+    }
+}
+
+#[test]
+fn rounding_of_16_bits(rt: HostRuntime) {
+    for &(bits, round, floor, fract) in &[
+        (0x7000, -0x8000, 0x4000, 0x3000),
+        (0x1FFF, 0, 0, 0x1FFF),
+        (0x2000, 0x4000, 0, 0x2000),
+        (-0x2000, 0, -0x4000, 0x2000),
+        (-0x2001, -0x4000, -0x4000, 0x1FFF),
+        (-0x6000, -0x4000, -0x8000, 0x2000),
+    ] {
+        let x = F2Dot14::from_bits(bits);
+        let parts = [x.round(), x.floor(), x.fract()].map(F2Dot14::to_bits);
+        assert!(rt; parts == [round, floor, fract], "{x}");
+    }
+    let ties = [
+        F4Dot12::from_bits(-0x1800).round(),
+        F4Dot12::from_bits(0x1800).round(),
+    ];
+    assert!(rt; ties.map(F4Dot12::to_bits) == [-0x1000, 0x2000], "4.12");
+    let ties = [
+        F6Dot10::from_bits(-0x600).round(),
+        F6Dot10::from_bits(0x600).round(),
+    ];
+    assert!(rt; ties.map(F6Dot10::to_bits) == [-0x400, 0x800], "6.10");
+}
+
+#[test]
+fn rounding_of_32_bits(rt: HostRuntime) {
+    for &(bits, round, floor, fract) in &[
+        (0x1_7FFF, 0x1_0000, 0x1_0000, 0x7FFF),
+        (0x1_8000, 0x2_0000, 0x1_0000, 0x8000),
+        (i32::MAX, i32::MIN, 0x7FFF_0000, 0xFFFF),
+        (-0x1_8000, -0x1_0000, -0x2_0000, 0x8000),
+        (-0x1_8001, -0x2_0000, -0x2_0000, 0x7FFF),
+    ] {
+        let x = Fixed::from_bits(bits);
+        let parts = [x.round(), x.floor(), x.fract()].map(Fixed::to_bits);
+        assert!(rt; parts == [round, floor, fract], "{x}");
+    }
+    let parts = [
+        F26Dot6::from_bits(-96).round(),
+        F26Dot6::from_bits(-97).floor(),
+    ];
+    assert!(rt; parts.map(F26Dot6::to_bits) == [-64, -128], "26.6");
+    let parts = [
+        F2Dot30::from_bits(0x6000_0000).round(),
+        F2Dot30::from_bits(-1).fract(),
+    ];
+    assert!(rt;
+        parts.map(F2Dot30::to_bits) == [i32::MIN, 0x3FFF_FFFF],
+        "2.30"
+    );
+}
+
+#[test]
+fn rounding_of_64_bits(rt: HostRuntime) {
+    for &(bits, round, floor, fract) in &[
+        (-0x1_8000, -0x1_0000, -0x2_0000, 0x8000),
+        (-0x1_8001, -0x2_0000, -0x2_0000, 0x7FFF),
+        (i64::MAX, i64::MIN, 0x7FFF_FFFF_FFFF_0000, 0xFFFF),
+    ] {
+        let x = F48Dot16::from_bits(bits);
+        let parts = [x.round(), x.floor(), x.fract()].map(F48Dot16::to_bits);
+        assert!(rt; parts == [round, floor, fract], "{x}");
     }
 }
 
 #[test]
 fn bytes(rt: HostRuntime) {
-    let (number, narrow) = (Fixed::from_bits(0x1_8000), F2Dot14::from_bits(-10139));
-    assert!(rt; (-number).to_be_bytes() == [0xFF, 0xFE, 0x80, 0x00]);
-    assert!(rt; Fixed::read(&[0x00, 0x01, 0x80, 0x00]) == Some(number));
+    let (number, narrow) = (Fixed::from_bits(-0x1_8000), F2Dot14::from_bits(-10139));
+    assert!(rt; number.to_be_bytes() == [0xFF, 0xFE, 0x80, 0x00]);
+    assert!(rt; Fixed::read(&number.to_raw()) == Some(number));
+    assert!(rt; F2Dot14::read(&[0xD8, 0x65]) == Some(narrow) && narrow.to_be_bytes()[0] == 0xD8);
+    assert!(rt; F4Dot12::read(&[0x10, 0x00]) == Some(F4Dot12::ONE));
+    assert!(rt; F6Dot10::read(&[0x04, 0x00]) == Some(F6Dot10::ONE));
+    assert!(rt; F2Dot30::read(&[0xC0, 0x00, 0x00, 0x00]) == Some(F2Dot30::NEG_ONE));
+    assert!(rt; F26Dot6::from_bits(-97).to_be_bytes() == [0xFF, 0xFF, 0xFF, 0x9F]);
     assert!(rt;
-        narrow.to_be_bytes() == [0xD8, 0x65] && F2Dot14::read(&[0xD8, 0x65]) == Some(narrow)
+        F48Dot16::from_bits(-2).to_be_bytes() == [0xFF, 0xFF, 0xFF, 0xFF, 0xFF, 0xFF, 0xFF, 0xFE]
     );
-    let wide = F48Dot16::from_bits(-0x1_8001).to_be_bytes();
-    assert!(rt; wide == [0xFF, 0xFF, 0xFF, 0xFF, 0xFF, 0xFE, 0x7F, 0xFF]);
-    assert!(rt; BigEndian::from(Fixed::NEG_ONE) < BigEndian::from(Fixed::default()));
-    assert!(rt; BigEndian::from(F2Dot14::NEG_ONE) < BigEndian::from(F2Dot14::ZERO));
+    assert!(rt; BigEndian::from(Fixed::NEG_ONE) < BigEndian::from(Fixed::ZERO));
+    assert!(rt; BigEndian::from(F2Dot30::NEG_ONE) < BigEndian::from(F2Dot30::ZERO));
+}
+
+#[test]
+fn functions_of_raw_values(rt: HostRuntime) {
+    assert!(rt; [product(-1, 0x8000, 16), product(32, -154, 6)] == [-1, -77]);
+    assert!(rt; product(0x6000_0000, 0x6000_0000, 30) == -0x7000_0000);
+    assert!(rt; [mul_div(32, 64, -154), mul_div(0, -1, 0)] == [-13, -i32::MAX]);
+    assert!(rt; [2147483648, -2147483649, -1].map(low_bits) == [i32::MIN, i32::MAX, -1]);
+    assert!(rt; read_bits_16(b"1.99997", 14) == Err(DecimalFault::OutOfRange));
+    assert!(rt; read_bits_32(b"-32768.000007", 16) == Ok(i32::MIN));
+    assert!(rt; read_bits_64(b"1.", 16) == Err(DecimalFault::Syntax));
 }

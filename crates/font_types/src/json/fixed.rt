@@ -5,13 +5,13 @@ ghost use Rattle.std.proofs.Common.{lit≤};
 ghost use Rattle.font_types.specs.Json.Laws.{fixed_form};
 
 use super::{JsonFault, JsonScalar, text_or_fault};
-use font_fixed::{FixedI16, FixedI32, FixedI64, Format, Formats};
+use font_fixed::{FixedI16, FixedI32, FixedI64, Format};
 use serde_json::Value;
 use std::alloc::Global;
 
 impl<const F: u32> JsonScalar for FixedI16<F>
 where
-    Formats: Format<16, F>,
+    Self: Format<16, F>,
 {
     ghost use Rattle.font_fixed.specs.FixedI16.{bits_of, of_bits};
 
@@ -28,7 +28,7 @@ where
 
 impl<const F: u32> JsonScalar for FixedI32<F>
 where
-    Formats: Format<32, F>,
+    Self: Format<32, F>,
 {
     ghost use Rattle.font_fixed.specs.FixedI32.{bits_of, of_bits};
 
@@ -45,7 +45,7 @@ where
 
 impl<const F: u32> JsonScalar for FixedI64<F>
 where
-    Formats: Format<64, F>,
+    Self: Format<64, F>,
 {
     ghost use Rattle.font_fixed.specs.FixedI64.{bits_of, of_bits};
 
