@@ -1,13 +1,8 @@
-//! What the fixed-point types share, JSON forms, sums and what users name, by values from the
-//! definitions and from the original crate.
+//! JSON forms, their errors, and sums of deltas.
 
-mod answered;
-mod calling;
 mod deltas;
-mod ends;
+mod errors;
 mod fixed;
 mod memory;
 mod numbers;
-mod refused;
-mod steps;
 mod tags;

@@ -1,155 +1,106 @@
-//! Fixed-point numbers as texts.
+//! JSON strings of the seven fixed-point formats.
 
 use crate::*;
-use serde_json::{Value, json};
+use serde_json::Value;
 use std::alloc::Global;
 use std::test::Fail;
 
-// The first text that is not the form of its number, or from which its number is not read back.
-fn misread<T: JsonScalar + Copy + PartialEq>(
-    alloc: Global,
-    rows: &[(T, &'static str)],
-) -> Option<&'static str> {
-    for &(number, text) in rows {
-        let Ok(shown) = number.to_json(alloc) else {
-            return Some(text);
-        };
-        if shown.as_str() != Some(text) || T::from_json(&shown) != Ok(number) {
-            return Some(text);
-        }
+/// Returns whether `number` converts to the string `text`, and back.
+fn converts<T>(alloc: Global, number: T, text: &str) -> Result<bool, JsonFault>
+where
+    T: JsonScalar + Copy + PartialEq,
+{
+    let form = number.to_json(alloc)?;
+    Ok(form.as_str() == Some(text) && T::from_json(&form) == Ok(number))
+}
+
+/// Returns whether the value of a format with this raw value converts to the string `text`.
+fn has_form(alloc: Global, format: &str, bits: i64, text: &str) -> Result<bool, JsonFault> {
+    match (format, i16::try_from(bits), i32::try_from(bits)) {
+        ("2.14", Ok(bits), _) => converts(alloc, F2Dot14::from_bits(bits), text),
+        ("4.12", Ok(bits), _) => converts(alloc, F4Dot12::from_bits(bits), text),
+        ("6.10", Ok(bits), _) => converts(alloc, F6Dot10::from_bits(bits), text),
+        ("16.16", _, Ok(bits)) => converts(alloc, Fixed::from_bits(bits), text),
+        ("26.6", _, Ok(bits)) => converts(alloc, F26Dot6::from_bits(bits), text),
+        ("2.30", _, Ok(bits)) => converts(alloc, F2Dot30::from_bits(bits), text),
+        ("48.16", _, _) => converts(alloc, F48Dot16::from_bits(bits), text),
+        _ => Ok(false),
     }
-    None
-}
-
-// Whether a number is read from none of the texts of 1 with a blank.
-fn refuses_blanks<T: JsonScalar + Drop>(alloc: Global) -> Result<bool, Fail> {
-    for &text in &[" 1", "1 "] {
-        let read = T::from_json(&Value::String(String::from_str(alloc, text)?));
-        if read.err() != Some(JsonFault::Syntax) {
-            return Ok(false);
-        }
-    }
-    Ok(true)
 }
 
 #[test]
-fn texts_of_2_14(rt: HostRuntime) -> Result<(), Fail> {
-    let rows = [
-        (19661, "1.2"),
-        (9830, "0.6"),
-        (-10139, "-0.61884"),
-        (1, "0.00006"),
-        (-1, "-0.00006"),
-        (i16::MIN, "-2"),
-        (i16::MAX, "1.99994"),
-    ]
-    .map(|row| (F2Dot14::from_bits(row.0), row.1));
-    assert_eq!(rt; misread(rt.alloc(), &rows), None);
-    assert!(rt; refuses_blanks::<F2Dot14>(rt.alloc())?);
-    assert!(rt; "1.5".parse() == Ok(F2Dot14::from_bits(24576)));
-    Ok(())
-}
-
-#[test]
-fn texts_of_4_12(rt: HostRuntime) -> Result<(), Fail> {
-    let rows = [(F4Dot12::MIN, "-8"), (F4Dot12::MAX, "7.9998")];
-    assert_eq!(rt; misread(rt.alloc(), &rows), None);
-    assert!(rt; refuses_blanks::<F4Dot12>(rt.alloc())?);
-    assert!(rt; "1.5".parse() == Ok(F4Dot12::from_bits(6144)));
-    Ok(())
-}
-
-#[test]
-fn texts_of_6_10(rt: HostRuntime) -> Result<(), Fail> {
-    let rows = [(F6Dot10::MIN, "-32"), (F6Dot10::MAX, "31.999")];
-    assert_eq!(rt; misread(rt.alloc(), &rows), None);
-    assert!(rt; refuses_blanks::<F6Dot10>(rt.alloc())?);
-    assert!(rt; "1.5".parse() == Ok(F6Dot10::from_bits(1536)));
-    Ok(())
-}
-
-#[test]
-fn texts_of_16_16(rt: HostRuntime) -> Result<(), Fail> {
-    let rows = [
-        (Fixed::from_bits(34177024), "521.5"),
-        (Fixed::MAX, "32767.99998"),
-        (Fixed::MIN, "-32768"),
-        (Fixed::ZERO, "0"),
-        (Fixed::EPSILON, "0.00002"),
-    ];
-    assert_eq!(rt; misread(rt.alloc(), &rows), None);
-    assert!(rt; refuses_blanks::<Fixed>(rt.alloc())?);
-    assert!(rt; "1.5".parse() == Ok(Fixed::from_bits(98304)));
-    Ok(())
-}
-
-#[test]
-fn texts_of_26_6(rt: HostRuntime) -> Result<(), Fail> {
-    let rows = [
-        (-64070, "-1001.1"),
-        (1, "0.02"),
-        (-3, "-0.05"),
-        (32, "0.5"),
-        (65, "1.02"),
-        (-96, "-1.5"),
-        (6416, "100.25"),
-        (i32::MIN, "-33554432"),
-        (i32::MAX, "33554431.98"),
-    ]
-    .map(|row| (F26Dot6::from_bits(row.0), row.1));
-    assert_eq!(rt; misread(rt.alloc(), &rows), None);
-    assert!(rt; refuses_blanks::<F26Dot6>(rt.alloc())?);
-    assert!(rt; "1.5".parse() == Ok(F26Dot6::from_bits(96)));
-    Ok(())
-}
-
-#[test]
-fn texts_of_48_16(rt: HostRuntime) -> Result<(), Fail> {
-    let rows = [
-        (F48Dot16::from_bits(72057594037927936), "1099511627776"),
-        (F48Dot16::MIN, "-140737488355328"),
-        (F48Dot16::MAX, "140737488355327.99998"),
-    ];
-    assert_eq!(rt; misread(rt.alloc(), &rows), None);
-    assert!(rt; refuses_blanks::<F48Dot16>(rt.alloc())?);
-    assert!(rt; "1.5".parse() == Ok(F48Dot16::from_bits(98304)));
-    Ok(())
-}
-
-#[test]
-fn texts_of_2_30(rt: HostRuntime) -> Result<(), Fail> {
-    let rows = [
-        (F2Dot30::MIN, "-2"),
-        (F2Dot30::MAX, "1.999999999"),
-        (F2Dot30::from_bits(1), "0.000000001"),
-        (F2Dot30::from_bits(7), "0.0000000065"),
-        (F2Dot30::from_bits(0x2666_6666), "0.6"),
-    ];
-    assert_eq!(rt; misread(rt.alloc(), &rows), None);
-    assert!(rt; refuses_blanks::<F2Dot30>(rt.alloc())?);
-    assert!(rt; "1.5".parse() == Ok(F2Dot30::from_bits(1610612736)));
-    Ok(())
-}
-
-#[test]
-fn refused(rt: HostRuntime) -> Result<(), Fail> {
-    for &(text, ref fault) in &[
-        ("1e3", JsonFault::Syntax),
-        ("", JsonFault::Syntax),
-        ("32768", JsonFault::OutOfRange),
-        ("-32768.00001", JsonFault::OutOfRange),
+fn fixed_point_strings(rt: HostRuntime) -> Result<(), Fail> {
+    for &(format, bits, text) in &[
+        ("2.14", 19661, "1.2"),
+        ("2.14", 9830, "0.6"),
+        ("2.14", -10139, "-0.61884"),
+        ("2.14", 1, "0.00006"),
+        ("2.14", -1, "-0.00006"),
+        ("2.14", -0x8000, "-2"),
+        ("2.14", 0x7FFF, "1.99994"),
+        ("4.12", -0x8000, "-8"),
+        ("4.12", 0x7FFF, "7.9998"),
+        ("6.10", -0x8000, "-32"),
+        ("6.10", 0x7FFF, "31.999"),
+        ("16.16", 98304, "1.5"),
+        ("16.16", 34177024, "521.5"),
+        ("16.16", -0x8000_0000, "-32768"),
+        ("16.16", 0x7FFF_FFFF, "32767.99998"),
+        ("26.6", -64070, "-1001.1"),
+        ("26.6", 1, "0.02"),
+        ("26.6", -3, "-0.05"),
+        ("26.6", 32, "0.5"),
+        ("26.6", 65, "1.02"),
+        ("26.6", -96, "-1.5"),
+        ("26.6", 6416, "100.25"),
+        ("26.6", -0x8000_0000, "-33554432"),
+        ("26.6", 0x7FFF_FFFF, "33554431.98"),
+        ("2.30", -0x8000_0000, "-2"),
+        ("2.30", 0x7FFF_FFFF, "1.999999999"),
+        ("48.16", 1 << 56, "1099511627776"),
+        ("48.16", i64::MIN, "-140737488355328"),
+        ("48.16", i64::MAX, "140737488355327.99998"),
     ] {
-        let read = Fixed::from_json(&Value::String(String::from_str(rt.alloc(), text)?));
-        assert!(rt; read.err().as_ref() == Some(fault), "{text}");
+        assert!(rt;
+            has_form(rt.alloc(), format, bits, text)?,
+            "{format}: {text}"
+        );
     }
     Ok(())
 }
 
+/// Returns the first JSON text that does not fail to convert with its error.
+fn converted<T: JsonScalar + Drop>(alloc: Global) -> Result<Option<&'static str>, Fail> {
+    for &(text, ref fault) in &[
+        ("null", JsonFault::WrongKind),
+        ("1", JsonFault::WrongKind),
+        (r#"["1"]"#, JsonFault::WrongKind),
+        (r#""1e3""#, JsonFault::Syntax),
+        (r#""""#, JsonFault::Syntax),
+        (r#"" 1""#, JsonFault::Syntax),
+        (r#""1 ""#, JsonFault::Syntax),
+        (r#""999999999999999""#, JsonFault::OutOfRange),
+    ] {
+        if T::from_json(&Value::from_str(alloc, text)?).err().as_ref() != Some(fault) {
+            return Ok(Some(text));
+        }
+    }
+    Ok(None)
+}
+
 #[test]
-fn wrong_kinds(rt: HostRuntime) -> Result<(), Fail> {
-    let (number, array) = (json!(in rt.alloc(); 1)?, json!(in rt.alloc(); ["1"])?);
-    assert!(rt; Fixed::from_json(&Value::Null) == Err(JsonFault::WrongKind));
-    assert!(rt; Fixed::from_json(&number) == Err(JsonFault::WrongKind));
-    assert!(rt; F2Dot14::from_json(&array) == Err(JsonFault::WrongKind));
+fn no_fixed_point_strings(rt: HostRuntime) -> Result<(), Fail> {
+    let alloc = rt.alloc();
+    let narrow = [converted::<F2Dot14>(alloc)?, converted::<F4Dot12>(alloc)?];
+    let others = [converted::<F6Dot10>(alloc)?, converted::<F26Dot6>(alloc)?];
+    let long = [converted::<Fixed>(alloc)?, converted::<F2Dot30>(alloc)?];
+    assert_eq!(rt; narrow, [None; 2]);
+    assert_eq!(rt; others, [None; 2]);
+    assert_eq!(rt; long, [None; 2]);
+    assert_eq!(rt; converted::<F48Dot16>(alloc)?, None);
+    for &text in &["32768", "-32768.00001"] {
+        let read = Fixed::from_json(&Value::String(String::from_str(alloc, text)?));
+        assert!(rt; read == Err(JsonFault::OutOfRange), "{text}");
+    }
     Ok(())
 }

@@ -1,4 +1,4 @@
-//! The faults in words and numbers.
+//! Texts, discriminants and traits of `JsonFault`.
 
 use crate::JsonFault;
 use std::error::Error;
