@@ -1,4 +1,4 @@
-//! Worked values, and what no clause says: texts of faults, and that long texts are read.
+//! Fractions that no format has, long padding, and texts of errors.
 ghost use Rattle.std.specs.Prelude.{◌≡◌, ◌<◌, ◌≤◌, ◌≤ℤ◌, pos};
 
 use crate::laws::reads_in_order;
@@ -71,58 +71,12 @@ fn reads_bytes_as_it_reads_texts(rt: HostRuntime) {
 }
 
 #[test]
-fn reads_the_nearest_value(rt: HostRuntime) {
-    let wrong = misread(
-        LEAST,
-        GREATEST,
-        &[
-            ("1.5", 16, Ok(98304)),
-            ("-1.5", 16, Ok(-98304)),
-            ("0.6", 16, Ok(0x999A)),
-            ("00012.50", 16, Ok(819200)),
-            ("-0.000", 16, Ok(0)),
-            ("0.00000762939453125", 16, Ok(1)),
-            ("-0.00000762939453125", 16, Ok(-1)),
-            ("0.00000762939453124", 16, Ok(0)),
-            ("32767.99998", 16, Ok(GREATEST)),
-            ("32767.99999", 16, Ok(GREATEST)),
-            ("-32768", 16, Ok(LEAST)),
-            ("-32768.000007", 16, Ok(LEAST)),
-            ("0.12", 6, Ok(8)),
-            ("0.13", 6, Ok(8)),
-            ("0.0078125", 6, Ok(1)),
-            ("-0.61884", 14, Ok(-10139)),
-            ("0.0001220703125", 12, Ok(1)),
-            ("-0.00048828125", 10, Ok(-1)),
-            ("1.99996", 14, Ok(32767)),
-            ("-2.00003", 14, Ok(-32768)),
-        ],
-    );
-    assert_eq!(rt; wrong, None);
-}
-
-#[test]
 fn refuses_by_grammar_then_by_range(rt: HostRuntime) {
     for &text in &[
         "", "-", ".5", "5.", "+1", "1e3", "1.2.3", " 1", "1 ", "--1", "-.5", "1_0",
     ] {
         assert!(rt; fixed(text) == Err(DecimalFault::Syntax), "'{text}'");
     }
-    let wrong = misread(
-        LEAST,
-        GREATEST,
-        &[
-            ("32768", 16, TOO_FAR),
-            ("32767.999993", 16, TOO_FAR),
-            ("32767.99999237060546875", 16, TOO_FAR),
-            ("-32768.00000762939453125", 16, TOO_FAR),
-            ("4294967296", 16, TOO_FAR),
-            ("18446744073709551616", 16, TOO_FAR),
-            ("-18446744073709551616.5", 16, TOO_FAR),
-            ("33554431.9921875", 6, TOO_FAR),
-        ],
-    );
-    assert_eq!(rt; wrong, None);
 }
 
 #[test]
@@ -175,83 +129,6 @@ fn reads_long_fractions(rt: HostRuntime) {
 }
 
 #[test]
-fn reads_values_of_16_bits(rt: HostRuntime) {
-    let wrong = misread(
-        -32768,
-        32767,
-        &[
-            ("0.0001220703125", 12, Ok(1)),
-            ("-0.00048828125", 10, Ok(-1)),
-            ("-0.00048828124", 10, Ok(0)),
-            ("7.9999", 12, TOO_FAR),
-            ("-8.0001", 12, Ok(-32768)),
-            ("1.99997", 14, TOO_FAR),
-            ("-2.00004", 14, TOO_FAR),
-        ],
-    );
-    assert_eq!(rt; wrong, None);
-}
-
-#[test]
-fn reads_texts_of_any_length(rt: HostRuntime) -> Result<(), Fail> {
-    for &(head, digit, count, tail, f, ref want) in &[
-        ("0.00000762939453124", "9", 3000, "", 16, Ok(0)),
-        ("0.0078124", "9", 3000, "", 6, Ok(0)),
-        ("", "0", 5000, "12.5", 16, Ok(819200)),
-        ("0.", "0", 5000, "1", 16, Ok(0)),
-        ("-0.", "0", 5000, "1", 16, Ok(0)),
-        ("1", "0", 4999, "", 16, Err(DecimalFault::OutOfRange)),
-        ("", "9", 4999, "x", 16, Err(DecimalFault::Syntax)),
-        ("0.5", "0", 4999, "x", 16, Err(DecimalFault::Syntax)),
-        ("32767.99999237060546874", "9", 3000, "", 16, Ok(GREATEST)),
-        ("-32768.00000762939453124", "9", 3000, "", 16, Ok(LEAST)),
-    ] {
-        let text = text_of_parts(rt.alloc(), head, digit, count, tail)?;
-        let is_known = f == 6 || f == 16;
-        assert!(rt;
-            is_known && read_decimal(text.as_str(), f, LEAST, GREATEST) == *want,
-            "{head}{digit}..{tail}"
-        );
-    }
-    Ok(())
-}
-
-#[test]
-fn prints_the_shortest_decimal(rt: HostRuntime) {
-    let wrong = misprinted(&[
-        (GREATEST, 16, "32767.99998"),
-        (LEAST, 16, "-32768"),
-        (1, 16, "0.00002"),
-        (-1, 16, "-0.00002"),
-        (0, 16, "0"),
-        (-32768, 14, "-2"),
-        (32767, 14, "1.99994"),
-        (9830, 14, "0.6"),
-        (-10139, 14, "-0.61884"),
-        (1, 14, "0.00006"),
-        (-1, 14, "-0.00006"),
-        (-32768, 12, "-8"),
-        (32767, 12, "7.9998"),
-        (-32768, 10, "-32"),
-        (32767, 10, "31.999"),
-        (LEAST, 6, "-33554432"),
-        (GREATEST, 6, "33554431.98"),
-        (8, 6, "0.13"),
-        (1, 6, "0.02"),
-        (-3, 6, "-0.05"),
-        (32, 6, "0.5"),
-        (65, 6, "1.02"),
-        (-96, 6, "-1.5"),
-        (6416, 6, "100.25"),
-        (i64::MIN, 16, "-140737488355328"),
-        (i64::MAX, 16, "140737488355327.99998"),
-        (i64::MIN + 1, 16, "-140737488355327.99998"),
-        (1 << 56, 16, "1099511627776"),
-    ]);
-    assert_eq!(rt; wrong, None);
-}
-
-#[test]
 fn prints_up_to_ten_places(rt: HostRuntime) {
     let wrong = misprinted(&[
         (1, 30, "0.000000001"),
@@ -268,57 +145,6 @@ fn prints_up_to_ten_places(rt: HostRuntime) {
     assert_eq!(rt; wrong, None);
 }
 
-// A plain reader of four fractional digits.
-#[test]
-fn reads_as_a_slow_reader_does(rt: HostRuntime) -> Result<(), Fail> {
-    for n in 0..3000u64 {
-        let (whole, fraction) = (n / 97, n * 3);
-        let text = format!(in rt.alloc(); "{whole}.{fraction:04}")?;
-        let numeral = whole * 10_000 + fraction;
-        let bits = (2 * numeral * 65536 + 10_000) / 20_000;
-        assert!(rt; fixed(text.as_str()) == Ok(bits as i64), "{text}");
-    }
-    Ok(())
-}
-
-// The first number of places whose nearest decimal is nearest to the value again.
-fn slow_places(bits: u64, f: u32) -> usize
-    requires { (6 ≤ f) × (f ≤ 16) }
-{
-    let step = 1u64 << f;
-    let mut unit = 1u64;
-    for places in 0..16 {
-        let numeral = bits.wrapping_mul(unit).wrapping_mul(2).wrapping_add(step) / (2 * step);
-        let back = numeral
-            .wrapping_mul(step)
-            .wrapping_mul(2)
-            .wrapping_add(unit)
-            .checked_div(unit.wrapping_mul(2));
-        if back == Some(bits) {
-            return places;
-        }
-        unit = unit.wrapping_mul(10);
-    }
-    16
-}
-
-#[test]
-fn prints_as_few_places_as_a_slow_writer(rt: HostRuntime) {
-    for f in 6..17u32 {
-        for n in 0..500u64 {
-            let bits = n * 131;
-            let shown = Shortest::new(bits as i64, f);
-            let places = match shown.as_str().split_once('.') {
-                Some((_, fraction)) => fraction.len(),
-                None => 0,
-            };
-            assert!(rt; places == slow_places(bits, f), "at {bits}, {f}");
-            let read = read_decimal(shown.as_str(), f, i64::MIN, i64::MAX);
-            assert!(rt; read == Ok(bits as i64), "read back at {bits}, {f}");
-        }
-    }
-}
-
 fn pad(width: usize, fill: u8, align: Align, plus: bool, zeros: bool) -> Pad
     ensures { result.fill ≡ fill }
 {
@@ -328,32 +154,6 @@ fn pad(width: usize, fill: u8, align: Align, plus: bool, zeros: bool) -> Pad
         align,
         plus,
         zeros,
-    }
-}
-
-#[test]
-fn pads_to_a_width(rt: HostRuntime) {
-    for &(bits, f, width, fill, align, plus, zeros, want) in &[
-        (9830, 14, 9, b'*', Align::Center, false, false, "***0.6***"),
-        (9830, 14, 8, b'*', Align::Center, false, false, "**0.6***"),
-        (9830, 14, 8, b' ', Align::Left, false, false, "0.6     "),
-        (9830, 14, 8, b' ', Align::Right, false, false, "     0.6"),
-        (9830, 14, 8, b' ', Align::Left, false, true, "000000.6"),
-        (9830, 14, 0, b' ', Align::Left, true, false, "+0.6"),
-        (0, 14, 0, b' ', Align::Left, true, false, "+0"),
-        (9830, 14, 8, b'*', Align::Center, false, true, "000000.6"),
-        (-24576, 14, 8, b' ', Align::Left, false, true, "-00001.5"),
-        (-24576, 14, 9, b' ', Align::Left, true, true, "-000001.5"),
-        (16384, 14, 9, b' ', Align::Left, true, true, "+00000001"),
-        (-614, 10, 0, b' ', Align::Left, false, false, "-0.6"),
-    ] {
-        let mut out = [b'#'; 12];
-        let shown = Shortest::new(bits, f);
-        let pad = pad(width, fill, align, plus, zeros);
-        assert!(rt; fill < 128, "fill at {want}");
-        let written = write_padded(shown.as_str(), &mut out, &pad);
-        let holds = out.starts_with(want.as_bytes()) && out.ends_with(b"###");
-        assert!(rt; written == Some(want.len()) && holds, "at {want}");
     }
 }
 
@@ -426,14 +226,6 @@ fn pads_a_long_text(rt: HostRuntime) -> Result<(), Fail> {
 }
 
 #[test]
-fn refuses_to_pad_into_too_little_room(rt: HostRuntime) {
-    let mut short = [b'#'; 7];
-    let shown = Shortest::new(-24576, 14);
-    let zeros = pad(8, b' ', Align::Left, false, true);
-    assert!(rt; write_padded(shown.as_str(), &mut short, &zeros).is_none() && short == *b"#######");
-}
-
-#[test]
 fn texts_and_numbers_of_faults(rt: HostRuntime) -> Result<(), Fail> {
     let (syntax, range) = (DecimalFault::Syntax, DecimalFault::OutOfRange);
     let text = format!(in rt.alloc(); "{syntax} {syntax:?}, {range} {range:?}")?;
@@ -460,19 +252,5 @@ fn shown_and_read_in_order(rt: HostRuntime) -> Result<(), Fail> {
     let shown = format!(in rt.alloc(); "{}", Shortest::new(-10139, 14))?;
     assert!(rt; shown.as_str() == "-0.61884");
     assert!(rt; reads_in_order("0.5", "-1", 6, -64, 64) == (Ok(32), Ok(-64)));
-    Ok(())
-}
-
-// Whether a number is printed as a text under any flags, which it does not hear.
-fn is_printed(alloc: Global, number: Shortest, text: &str) -> Result<bool, AllocError> {
-    let forms = format!(in alloc; "{number:8}|{number:.0}|{number:+}")?;
-    let texts = format!(in alloc; "{text}|{text}|{text}")?;
-    Ok(forms == texts)
-}
-
-#[test]
-fn prints_without_flags(rt: HostRuntime) -> Result<(), Fail> {
-    assert!(rt; is_printed(rt.alloc(), Shortest::new(9830, 14), "0.6")?);
-    assert!(rt; is_printed(rt.alloc(), Shortest::new(-98304, 16), "-1.5")?);
     Ok(())
 }
