@@ -1,6 +1,5 @@
 pub mod WordByWord
 pub mod Commands
 pub mod Writes
-pub mod Search
 pub mod Lines
 pub mod Hexadecimal

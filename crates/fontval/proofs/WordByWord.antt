@@ -1,4 +1,4 @@
--- Reading one word after another: just so many numbers, or terms of two words. A whole number is read digit by digit.
+-- Reading one word after another: exactly n numbers, or terms of two words; and an integer, digit by digit.
 use Rattle.std.proofs.Common.{◌≡◌, List, [], ◌∷◌, ◌++◌, Result, Ok, Err, refl, ◌∙◌, append_assoc, append-nil, ◌≢◌, ℕ, ℤ}
 use Rattle.std.proofs.Common.{◌+◌, ◌<◌, ◌≤◌, arith, length, take, set, ap, length-set, eq-eqb, ne_eqb, ◌%◌, Bool, true}
 use Rattle.std.proofs.Common.{false, ◌==◌, ◌-◌, ◌*◌, min, get_or}
@@ -53,112 +53,105 @@ module _ {W T : Type 0} (reads : W → Result T Refusal → Type 0) (words : Lis
     pub all_read : (values' : List T) → left ≡ [] → values ≡ values' → ReadsEach reads words (Ok values')
     all_read values' none same = rw (append-nil values ∙ same) at (so_far.completes [] (rw none refl))
 
--- ---- just so many numbers
--- the words of a text are read as numbers up to those of another, and the numbers are the first of a list
--- of n
-pub record AreNumbersUpTo (n : ℕ) (text left : List ℕ) (numbers : List Fixed) (at : ℕ) : Type 0 where
-  pub read : IsReadUpTo ReadsFixed (words_of text) (words_of left) (take at numbers)
-  pub count : at + length (words_of left) ≡ length (words_of text)
-  pub within : at ≤ n
+-- ---- exactly n numbers
+-- n words up to `left` are read as numbers, which are the first of a list of n
+pub record AreNumbersUpTo (n : ℕ) (words left : List (List ℕ)) (numbers : List Fixed) (at : ℕ) : Type 0 where
+  pub read : IsReadUpTo ReadsFixed words left (take at numbers)
+  pub count : length words ≡ n
+  pub rest : at + length left ≡ n
   pub whole : length numbers ≡ n
 
-pub no_number : (n : ℕ) (text : List ℕ) (numbers : List Fixed) → length numbers ≡ n
-    → AreNumbersUpTo n text text numbers 0
-no_number n text numbers whole =
-    record { read = none_read ReadsFixed (words_of text); count = omega arith; within = omega arith; whole = whole }
+pub no_number : (n : ℕ) (words : List (List ℕ)) (numbers : List Fixed) → length words ≡ n → length numbers ≡ n
+    → AreNumbersUpTo n words words numbers 0
+no_number n words numbers count whole =
+    record { read = none_read ReadsFixed words; count = count; rest = omega (arith, count); whole = whole }
 
-module _ (n : ℕ) (text left : List ℕ) (numbers : List Fixed) (at : ℕ)
-    (so_far : AreNumbersUpTo n text left numbers at) where
-  module _ (left' word : List ℕ) (next : words_of left ≡ word ∷ words_of left') where
-    pub one_more_number : (number : Fixed) → at ≢ n → ReadsFixed word (Ok number)
-        → AreNumbersUpTo n text left' (set numbers at number) (at + 1)
-    one_more_number number room one =
-        let inside : at < length numbers = omega (arith, so_far.within, so_far.whole) in
+-- another number of words is an error
+pub other_count : (n : ℕ) (words : List (List ℕ)) → length words ≢ n → ReadsJust n words (Err WordCount)
+other_count n words other = rw (ne_eqb (length words) n other) refl
+
+module _ (n : ℕ) (words left : List (List ℕ)) (numbers : List Fixed) (at : ℕ)
+    (so_far : AreNumbersUpTo n words left numbers at) where
+  module _ (left' : List (List ℕ)) (word : List ℕ) (next : left ≡ word ∷ left') where
+    pub room_for_number : at < n
+    room_for_number = omega (arith, so_far.rest, ap length next)
+
+    pub one_more_number : (number : Fixed) → ReadsFixed word (Ok number)
+        → AreNumbersUpTo n words left' (set numbers at number) (at + 1)
+    one_more_number number one =
+        let inside : at < length numbers = omega (arith, room_for_number, so_far.whole) in
         record {
-          read = one_more_read ReadsFixed _ _ _ so_far.read _ word _ number next one
+          read = one_more_read ReadsFixed _ _ _ so_far.read left' word _ number next one
               (take_more_set numbers at number inside);
-          count = omega (arith, so_far.count, ap length next);
-          within = omega (arith, so_far.within);
+          count = so_far.count;
+          rest = omega (arith, so_far.rest, ap length next);
           whole = length-set numbers at number ∙ so_far.whole;
         }
 
-    -- a word is refused, and with those after it there are n
-    pub refused_after_numbers : (refusal : Refusal) → at + 1 + length (words_of left') ≡ n
-        → ReadsFixed word (Err refusal) → ReadsJust n (words_of text) (Err refusal)
-    refused_after_numbers refusal just one =
-        rw (eq-eqb (length (words_of text)) n (omega (arith, so_far.count, ap length next)))
-        (one_refused ReadsFixed _ _ _ so_far.read _ word refusal next one)
+    pub refused_number : (refusal : Refusal) → ReadsFixed word (Err refusal) → ReadsJust n words (Err refusal)
+    refused_number refusal one =
+        rw (eq-eqb (length words) n so_far.count) (one_refused ReadsFixed _ _ _ so_far.read left' word refusal next one)
 
-  pub all_numbers : words_of left ≡ [] → n ≤ at → ReadsJust n (words_of text) (Ok numbers)
-  all_numbers none full =
-      let whole : at ≡ length numbers = omega (arith, so_far.within, so_far.whole) in
-      rw (eq-eqb (length (words_of text)) n (omega (arith, so_far.count, so_far.within, ap length none)))
+  pub all_numbers : left ≡ [] → ReadsJust n words (Ok numbers)
+  all_numbers none =
+      let whole : at ≡ length numbers = omega (arith, so_far.rest, so_far.whole, ap length none) in
+      rw (eq-eqb (length words) n so_far.count)
       (all_read ReadsFixed _ _ _ so_far.read numbers none (rw whole (take-length numbers)))
 
-  -- there are not n words
-  pub other_count : at + length (words_of left) ≢ n → ReadsJust n (words_of text) (Err WordCount)
-  other_count other = rw (ne_eqb (length (words_of text)) n (λ same. other (so_far.count ∙ same))) refl
-
-pub ruleset number_steps = (no_number, one_more_number, all_numbers, refused_after_numbers, other_count)
+pub ruleset number_steps = (no_number, other_count, room_for_number, one_more_number, refused_number, all_numbers)
 
 -- ---- terms, two words at a time
--- whether a number of words can be taken two by two
-abbrev pub is_even : ℕ → Bool
-is_even n = n % 2 == 0
+-- an even number of words up to `left` are read as terms
+pub record AreTermsUpTo (words left : List (List ℕ)) (terms : List (Fixed × ℤ)) : Type 0 where
+  pub read : IsReadUpTo ReadsTerm (pairs_of words) (pairs_of left) terms
+  pub count : length words % 2 ≡ 0
+  pub rest : length left % 2 ≡ 0
 
--- the words of a text are read as terms, two by two, up to those of another
-pub record AreTermsUpTo (text left : List ℕ) (terms : List (Fixed × ℤ)) : Type 0 where
-  pub read : IsReadUpTo ReadsTerm (pairs_of (words_of text)) (pairs_of (words_of left)) terms
-  pub even : is_even (length (words_of text)) ≡ is_even (length (words_of left))
+pub no_term : (words : List (List ℕ)) → (length words % 2 == 0) ≡ true → AreTermsUpTo words words []
+no_term words even =
+    let count : length words % 2 ≡ 0 = grind (arith, even) in
+    record { read = none_read ReadsTerm (pairs_of words); count = count; rest = count }
 
-pub no_term : (text : List ℕ) → AreTermsUpTo text text []
-no_term text = record { read = none_read ReadsTerm (pairs_of (words_of text)); even = refl }
+-- an odd number of words is an error
+pub odd_words : (words : List (List ℕ)) → (length words % 2 == 0) ≡ false → ReadsTerms words (Err WordCount)
+odd_words words odd = rw odd refl
 
-module _ (text left middle left' scalar delta : List ℕ) (terms : List (Fixed × ℤ))
-    (so_far : AreTermsUpTo text left terms)
-    (first : words_of left ≡ scalar ∷ words_of middle) (second : words_of middle ≡ delta ∷ words_of left') where
-  two : words_of left ≡ scalar ∷ delta ∷ words_of left'
-  two = first ∙ ap (λ words. scalar ∷ words) second
-
-  still_even : is_even (length (words_of text)) ≡ is_even (length (words_of left'))
-  still_even =
-      let same : length (words_of left) % 2 ≡ length (words_of left') % 2 = omega (arith, ap length two) in
-      so_far.even ∙ ap (λ rest. rest == 0) same
+module _ (words left middle left' : List (List ℕ)) (scalar delta : List ℕ) (terms : List (Fixed × ℤ))
+    (so_far : AreTermsUpTo words left terms)
+    (first : left ≡ scalar ∷ middle) (second : middle ≡ delta ∷ left') where
+  two : left ≡ scalar ∷ delta ∷ left'
+  two = first ∙ ap (λ rest. scalar ∷ rest) second
 
   pub one_more_term : (term : Fixed × ℤ) (terms' : List (Fixed × ℤ)) → ReadsTerm (scalar, delta) (Ok term)
-      → terms' ≡ terms ++ term ∷ [] → AreTermsUpTo text left' terms'
-  one_more_term term terms' one grown =
-      record {
-        read = one_more_read ReadsTerm _ _ _ so_far.read _ (scalar, delta) terms' term (ap pairs_of two) one
-            grown;
-        even = still_even;
-      }
+      → terms' ≡ terms ++ term ∷ [] → AreTermsUpTo words left' terms'
+  one_more_term term terms' one grown = record {
+    read = one_more_read ReadsTerm _ _ _ so_far.read _ (scalar, delta) terms' term (ap pairs_of two) one grown;
+    count = so_far.count;
+    rest = omega (arith, so_far.rest, ap length two);
+  }
 
-  pub refused_term : (refusal : Refusal) → ReadsTerm (scalar, delta) (Err refusal) → is_even (length (words_of left'))
-      ≡ true → ReadsTerms (words_of text) (Err refusal)
-  refused_term refusal one even =
-      rw (still_even ∙ even) (one_refused ReadsTerm _ _ _ so_far.read _ (scalar, delta) refusal (ap pairs_of two) one)
+  pub refused_term : (refusal : Refusal) → ReadsTerm (scalar, delta) (Err refusal) → ReadsTerms words (Err refusal)
+  refused_term refusal one = rw (eq-eqb _ 0 so_far.count)
+      (one_refused ReadsTerm _ _ _ so_far.read _ (scalar, delta) refusal (ap pairs_of two) one)
 
-  pub odd_words : is_even (length (words_of left')) ≡ false → ReadsTerms (words_of text) (Err WordCount)
-  odd_words odd = rw (still_even ∙ odd) refl
+-- no word is left
+pub all_terms : (words left : List (List ℕ)) (terms : List (Fixed × ℤ)) → AreTermsUpTo words left terms → left ≡ []
+    → ReadsTerms words (Ok terms)
+all_terms words left terms so_far none =
+    rw (eq-eqb _ 0 so_far.count) (all_read ReadsTerm _ _ _ so_far.read terms (ap pairs_of none) refl)
 
--- one word is left
-pub odd_word : (text left middle scalar : List ℕ) (terms : List (Fixed × ℤ)) → AreTermsUpTo text left terms
-    → words_of left ≡ scalar ∷ words_of middle → words_of middle ≡ [] → ReadsTerms (words_of text) (Err WordCount)
-odd_word text left middle scalar terms so_far first none = rw (so_far.even, first, none) refl
+-- one word cannot be left
+pub no_half_term : (words left middle : List (List ℕ)) (scalar : List ℕ) (terms : List (Fixed × ℤ))
+    → AreTermsUpTo words left terms → left ≡ scalar ∷ middle → middle ≢ []
+no_half_term words left middle scalar terms so_far first none =
+    omega (arith, so_far.rest, ap length first, ap length none)
 
--- no word is left, and all terms are read
-pub all_terms : (text left : List ℕ) (terms : List (Fixed × ℤ)) → AreTermsUpTo text left terms → words_of left ≡ []
-    → ReadsTerms (words_of text) (Ok terms)
-all_terms text left terms so_far none =
-    rw (so_far.even, none) (all_read ReadsTerm _ _ _ so_far.read terms (ap pairs_of none) refl)
-
--- words that are read as terms can be taken two by two
+-- words that are read as terms are even in number
 pub terms_are_even : (words : List (List ℕ)) (terms : List (Fixed × ℤ)) → ReadsTerms words (Ok terms)
-    → is_even (length words) ≡ true
+    → (length words % 2 == 0) ≡ true
 terms_are_even words terms read = grind (arith, read)
 
-pub ruleset term_steps = (no_term, one_more_term, refused_term, odd_words, odd_word, all_terms)
+pub ruleset term_steps = (no_term, odd_words, one_more_term, refused_term, all_terms, no_half_term)
 
 -- ---- a whole number, digit by digit
 -- one digit more, where a number above `most` is cut to it

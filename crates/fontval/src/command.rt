@@ -265,13 +265,8 @@ fn append_varied<A: Allocator>(
         (string_bytes output.old) (string_bytes output.new) result }
 {
     let base = words.next().ok_or(Refusal::WordCount)?;
-    let units = match whole_number_16(base) {
-        Ok(units) => units,
-        Err(refusal) => {
-            in_pairs(&words)?;
-            return Err(refusal.into());
-        }
-    };
+    in_pairs(&words)?;
+    let units = whole_number_16(base)?;
     let terms = terms(alloc, words)?;
     append_units(units, &terms, output)
 }

@@ -18,33 +18,24 @@ const FEW_TERMS: usize = 16;
 
 /// Reads exactly `N` words as numbers.
 ///
-/// A wrong number of words is reported before a wrong word. Since the words are read one by one,
-/// they are counted only if one of them is refused.
+/// The words are counted first: a wrong number of words is reported before a wrong word.
 #[tactic(auto, using(crate::proofs::WordByWord::number_steps))]
-pub fn fixed_numbers<const N: usize>(mut words: Words<'_>) -> Result<[Fixed; N], Refusal>
+pub fn fixed_numbers<const N: usize>(words: Words<'_>) -> Result<[Fixed; N], Refusal>
     ensures { ReadsJust N (words_of words.entry.rest.now) result }
 {
+    if words.left() != N {
+        return Err(Refusal::WordCount);
+    }
     let mut numbers = [Fixed::ZERO; N];
     let mut at = 0;
-    while let Some(word) = words.next() {
-        if at == N {
-            return Err(Refusal::WordCount);
-        }
-        match fixed_number(word) {
-            Ok(number) => numbers[at] = number,
-            Err(refusal) if words.left() == N - at - 1 => return Err(refusal),
-            Err(_) => return Err(Refusal::WordCount),
-        }
+    for word in words {
+        numbers[at] = fixed_number(word)?;
         at += 1;
-    }
-    if at < N {
-        return Err(Refusal::WordCount);
     }
     Ok(numbers)
 }
 
 // Reads a word as a `Fixed`.
-#[inline(always)]
 fn fixed_number(word: &[u8]) -> Result<Fixed, Refusal>
     ensures { ReadsFixed word.now result }
 {
@@ -53,7 +44,7 @@ fn fixed_number(word: &[u8]) -> Result<Fixed, Refusal>
 
 /// Reads words as terms, two by two: a scalar, and a delta in font units.
 ///
-/// The words are counted only if one of them is refused, as in `fixed_numbers`.
+/// The words are counted first, as in `fixed_numbers`.
 #[tactic(auto, using(crate::proofs::WordByWord::term_steps))]
 pub fn terms<A: Allocator>(
     alloc: A,
@@ -64,16 +55,12 @@ pub fn terms<A: Allocator>(
         (λ reason. OnRefused reason
         (λ refusal. ReadsTerms (words_of words.entry.rest.now) (Err refusal))) }
 {
+    in_pairs(&words)?;
     let mut terms = Vec::with_capacity(alloc, FEW_TERMS)?;
-    while let Some(scalar) = words.next() {
-        let delta = words.next().ok_or(Refusal::WordCount)?;
-        match term(scalar, delta) {
-            Ok(term) => terms.push(term).map_err(|_| Unanswered::Memory)?,
-            Err(refusal) => {
-                in_pairs(&words)?;
-                return Err(refusal.into());
-            }
-        }
+    while let (Some(scalar), Some(delta)) = (words.next(), words.next()) {
+        terms
+            .push(term(scalar, delta)?)
+            .map_err(|_| Unanswered::Memory)?;
     }
     Ok(terms)
 }
@@ -93,7 +80,6 @@ pub fn in_pairs(words: &Words<'_>) -> Result<(), Refusal>
 }
 
 // Reads two words as a term.
-#[inline(always)]
 fn term(scalar: &[u8], delta: &[u8]) -> Result<(Fixed, i32), Refusal>
     ensures { ReadsTerm (scalar.now, delta.now) result }
 {

@@ -45,6 +45,6 @@ fn append_bytes<A: Allocator>(bytes: &[u8], output: &mut String<A>) -> Result<()
     let mut room = [0; 16];
     let digits = &mut room[..2 * bytes.len()];
     hex::encode_to_slice(bytes, digits).unwrap();
-    output.push_str(unsafe { str::from_utf8_unchecked(digits) })?;
+    output.push_str(str::from_utf8(digits).unwrap())?;
     Ok(())
 }

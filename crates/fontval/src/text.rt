@@ -5,8 +5,6 @@ ghost use Rattle.std.specs.Iterator.{YieldsFirstRef, item_count};
 ghost use Rattle.std.specs.List.{before_first, after_first};
 ghost use Rattle.fontval.specs.Text.{is_line_feed, lines_of, is_blank, words_of};
 
-use std::simd::prelude::*;
-
 /// The lines of an input, first to last, each without its line feed. The last line may lack one.
 #[derive(Drop)]
 pub struct Lines<'a> {
@@ -52,42 +50,11 @@ fn split_line(input: &[u8]) -> (&[u8], &[u8])
     }
 }
 
-// Returns the index of the first line feed. Blocks of sixteen bytes save up to a third of the
-// instructions of a line.
-#[tactic(auto, using(crate::proofs::Search::search_steps))]
+// Returns the index of the first line feed.
 fn line_feed_at(input: &[u8]) -> Option<usize>
     ensures { result ≡ position is_line_feed input.now }
 {
-    let mut passed = 0;
-    let mut rest = input;
-    while let Some((block, after)) = rest.split_first_chunk::<16>() {
-        if let Some(at) = line_feed_among(block) {
-            return Some(passed + at);
-        }
-        passed += 16;
-        rest = after;
-    }
-    Some(passed + line_feed_in(rest)?)
-}
-
-// The same of sixteen bytes, compared at once.
-fn line_feed_among(block: &[u8; 16]) -> Option<usize>
-    ensures { result ≡ position is_line_feed block.now }
-{
-    let feeds = u8x16::from_array(*block)
-        .simd_eq(u8x16::splat(b'\n'))
-        .to_bitmask();
-    if feeds == 0 {
-        None
-    } else {
-        Some(feeds.trailing_zeros() as usize)
-    }
-}
-
-fn line_feed_in(bytes: &[u8]) -> Option<usize>
-    ensures { result ≡ position is_line_feed bytes.now }
-{
-    bytes.iter().position(|byte| *byte == b'\n')
+    input.iter().position(|byte| *byte == b'\n')
 }
 
 /// The words of a line, first to last.
@@ -148,43 +115,11 @@ fn split_word(text: &[u8]) -> (&[u8], &[u8])
     }
 }
 
-// Returns the index of the first blank, in blocks of eight bytes.
-#[tactic(auto, using(crate::proofs::Search::search_steps))]
+// Returns the index of the first blank.
 fn blank_at(text: &[u8]) -> Option<usize>
     ensures { result ≡ position is_blank text.now }
 {
-    let mut passed = 0;
-    let mut rest = text;
-    while let Some((block, after)) = rest.split_first_chunk::<8>() {
-        if let Some(at) = blank_among(block) {
-            return Some(passed + at);
-        }
-        passed += 8;
-        rest = after;
-    }
-    Some(passed + blank_in(rest)?)
-}
-
-// The same of eight bytes, compared at once.
-fn blank_among(block: &[u8; 8]) -> Option<usize>
-    ensures { result ≡ position is_blank block.now }
-{
-    let bytes = u8x8::from_array(*block);
-    let spaces = bytes.simd_eq(u8x8::splat(b' '));
-    let tabs = bytes.simd_eq(u8x8::splat(b'\t'));
-    let returns = bytes.simd_eq(u8x8::splat(b'\r'));
-    let blanks = (spaces | tabs | returns).to_bitmask();
-    if blanks == 0 {
-        None
-    } else {
-        Some(blanks.trailing_zeros() as usize)
-    }
-}
-
-fn blank_in(bytes: &[u8]) -> Option<usize>
-    ensures { result ≡ position is_blank bytes.now }
-{
-    bytes.iter().position(|byte| is_blank(*byte))
+    text.iter().position(|byte| is_blank(*byte))
 }
 
 // Returns whether a byte separates words.

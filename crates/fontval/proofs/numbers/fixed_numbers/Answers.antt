@@ -3,9 +3,6 @@ use Rattle.fontval.proofs.WordByWord.{one_more_number}
 use Rattle.fontval.proofs.numbers.fixed_numbers.Goals as goal
 
 pub loop-word-preserved : goal.loop-word-preserved
-loop-word-preserved g c = (
-  tt,
-  tt,
-  one_more_number g.row.N _ _ _ _ c.loop-word.invariant.2 _ c.in-Some.word.now
-      (search rules) c.in-Ok.number c.if-at.false (search rules),
-)
+loop-word-preserved g c =
+    one_more_number g.row.N _ _ _ _ c.loop-word.invariant _ c.in-Some.word.now (search rules) c.in_ok-numbers.field-0
+    (search rules)
