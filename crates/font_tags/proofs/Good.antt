@@ -1,9 +1,10 @@
 -- Good bytes, index by index, and where others go wrong.
 use Rattle.std.proofs.Common.{◌≡◌, ◌≢◌, ap, ℕ, ◌+◌, ◌-◌, ◌<◌, ◌≤◌, List, ◌++◌, length, take, replicate, get_or, arith}
-use Rattle.std.proofs.Common.{min, drop, rules, take_all}
+use Rattle.std.proofs.Common.{[], ◌∷◌, refl}
+use Rattle.std.proofs.Common.{min, rules, take_all}
 use Rattle.std.proofs.Common.{append_assoc}
 use Rattle.std.proofs.lemmas.Grind.{elements}
-use Rattle.std.proofs.lemmas.List.{places, drop-replicate, replicate-append-replicate}
+use Rattle.std.proofs.lemmas.List.{places, replicate-append-replicate}
 use Rattle.std.proofs.lemmas.List.Elements.{All-from_get_or}
 use Rattle.font_tags.specs.Tag.{IsVisible, IsGood, IsFault, four_spaces, filled}
 
@@ -85,15 +86,39 @@ filled_good bytes k good = record {
   whole = rw good.whole (simp (append_assoc, replicate-append-replicate));
 }
 
--- what is filled byte by byte
-pub filled_is : (bytes copied : List ℕ) → copied ≡ bytes → length bytes ≤ 4 → copied ++ drop (length bytes) four_spaces
-    ≡ filled bytes
-filled_is bytes copied same few = rw same (ap (λ back. bytes ++ back) (drop-replicate (length bytes) 4 0x20))
+pub filled_valid : (bytes tag : List ℕ) → tag ≡ filled bytes → IsGood bytes → IsGood tag
+filled_valid bytes tag is good = rw is (filled_good bytes (4 - length bytes) good)
 
-pub filled_valid : (bytes copied : List ℕ) → copied ≡ bytes → length bytes ≤ 4 → IsGood bytes
-    → IsGood (copied ++ drop (length bytes) four_spaces)
-filled_valid bytes copied same few good = rw (filled_is bytes copied same few)
-    (filled_good bytes (4 - length bytes) good)
+-- bytes filled one by one
+pub filled_one : (xs : List ℕ) → length xs ≡ 1
+    → get_or xs 0 0 ∷ 0x20 ∷ 0x20 ∷ 0x20 ∷ [] ≡ filled xs
+filled_one [] is = absurd (omega (arith, is))
+filled_one (_ ∷ []) is = refl
+filled_one (_ ∷ _ ∷ _) is = absurd (omega (arith, is))
+
+pub filled_two : (xs : List ℕ) → length xs ≡ 2
+    → get_or xs 0 0 ∷ get_or xs 1 0 ∷ 0x20 ∷ 0x20 ∷ [] ≡ filled xs
+filled_two [] is = absurd (omega (arith, is))
+filled_two (_ ∷ []) is = absurd (omega (arith, is))
+filled_two (_ ∷ _ ∷ []) is = refl
+filled_two (_ ∷ _ ∷ _ ∷ _) is = absurd (omega (arith, is))
+
+pub filled_three : (xs : List ℕ) → length xs ≡ 3
+    → get_or xs 0 0 ∷ get_or xs 1 0 ∷ get_or xs 2 0 ∷ 0x20 ∷ [] ≡ filled xs
+filled_three [] is = absurd (omega (arith, is))
+filled_three (_ ∷ []) is = absurd (omega (arith, is))
+filled_three (_ ∷ _ ∷ []) is = absurd (omega (arith, is))
+filled_three (_ ∷ _ ∷ _ ∷ []) is = refl
+filled_three (_ ∷ _ ∷ _ ∷ _ ∷ _) is = absurd (omega (arith, is))
+
+pub filled_four : (xs : List ℕ) → length xs ≡ 4
+    → get_or xs 0 0 ∷ get_or xs 1 0 ∷ get_or xs 2 0 ∷ get_or xs 3 0 ∷ [] ≡ filled xs
+filled_four [] is = absurd (omega (arith, is))
+filled_four (_ ∷ []) is = absurd (omega (arith, is))
+filled_four (_ ∷ _ ∷ []) is = absurd (omega (arith, is))
+filled_four (_ ∷ _ ∷ _ ∷ []) is = absurd (omega (arith, is))
+filled_four (_ ∷ _ ∷ _ ∷ _ ∷ []) is = refl
+filled_four (_ ∷ _ ∷ _ ∷ _ ∷ _ ∷ _) is = absurd (omega (arith, is))
 
 -- what the judges of tags rest on
-pub ruleset tag_judgements = (fault_not_good, spaces_not_good, filled_is, filled_valid)
+pub ruleset tag_judgements = (fault_not_good, spaces_not_good, filled_valid)

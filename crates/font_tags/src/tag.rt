@@ -32,6 +32,8 @@ pub const TTC_HEADER_TAG: Tag = Tag([0x74, 0x74, 0x63, 0x66]);
 /// assert_eq!(Tag::new_checked(b"cvt").unwrap(), Tag::new(b"cvt "));
 /// assert_eq!(Tag::new_checked(b"glyph"), Err(InvalidTag::InvalidLength(5)));
 /// ```
+///
+/// The source and its contracts: `crates/font_tags/src/tag.rt`.
 #[derive(Clone, Copy, PartialEq, Eq, Hash)]
 pub struct Tag([u8; 4]);
 
@@ -55,22 +57,24 @@ impl Tag {
     /// `InvalidByte`, including a printable byte after a space.
     #[inline]
     #[tactic(auto, using(crate::proofs::Good::tag_judgements))]
-    pub fn new_checked(src: &[u8]) -> Result<Self, InvalidTag>
+    pub const fn new_checked(src: &[u8]) -> Result<Self, InvalidTag>
         ensures judged { IsChecked src.now result }
         ensures ok { IsOk result ↔ IsAcceptable src.now }
         ensures valid { IfOk result (λ tag. IsGood (tag_bytes tag)) }
     {
-        if src.is_empty() || src.len() > 4 {
-            return Err(InvalidTag::InvalidLength(src.len()));
-        }
+        let bytes = match *src {
+            [a] => [a, b' ', b' ', b' '],
+            [a, b] => [a, b, b' ', b' '],
+            [a, b, c] => [a, b, c, b' '],
+            [a, b, c, d] => [a, b, c, d],
+            _ => return Err(InvalidTag::InvalidLength(src.len())),
+        };
         if let Some(pos) = first_fault(src) {
             return Err(InvalidTag::InvalidByte {
                 pos,
                 byte: src[pos],
             });
         }
-        let mut bytes = [b' '; 4];
-        bytes.split_at_mut(src.len()).0.copy_from_slice(src);
         Ok(Self(bytes))
     }
 
@@ -217,6 +221,16 @@ const fn after_spaces(bytes: &[u8], from: usize) -> usize
 }
 
 /// Why a tag is invalid.
+///
+/// ```
+/// use font_types::{InvalidTag, Tag};
+/// let tag = Tag::new_checked(b"a\tb");
+/// assert_eq!(tag, Err(InvalidTag::InvalidByte { pos: 1, byte: b'\t' }));
+/// assert_eq!(tag.unwrap_err().to_string(), "Invalid byte 0x9 at index 1");
+/// assert_eq!(Tag::new(b"a b ").validate(), Err(InvalidTag::ByteAfterSpace { pos: 2 }));
+/// ```
+///
+/// The source and its contracts: `crates/font_tags/src/tag.rt`.
 #[derive(Clone, Debug, PartialEq, Eq, Drop, Error)]
 pub enum InvalidTag {
     /// There are not one to four bytes; a tag of four spaces has length 0.
