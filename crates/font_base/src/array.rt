@@ -6,7 +6,7 @@ ghost use Rattle.std.specs.Iterator.{YieldsFirstBy, YieldsLastBy, UpTo, item_cou
 ghost use Rattle.std.specs.Iterator.SizeHint.{IsWithinCount};
 ghost use Rattle.font_base.specs.Scalar.{IsValueOf};
 
-use crate::raw::Scalar;
+use crate::raw::{BeByteArray, Scalar};
 use std::alloc::AllocError;
 use std::hint::{assert_unchecked, select_unpredictable};
 use std::iter::FusedIterator;
@@ -44,6 +44,7 @@ impl<'a, T: Scalar> ScalarArray<'a, T> {
         ensures whole { IsSome result ↔ (length «data».now % T.RAW_BYTE_LEN ≡ 0) }
         ensures bytes { IfSome result (λ array. array_bytes array ≡ «data».now) }
     {
+        prove!(T::RAW_BYTE_LEN == <T::Raw as BeByteArray>::LEN);
         // A remainder by 0 is the number itself.
         let left = data
             .len()

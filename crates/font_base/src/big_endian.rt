@@ -27,6 +27,8 @@ use std::marker::PhantomData;
 /// let field = BigEndian::<FWord>::from_slice(&[0xFF, 0xFE]).unwrap();
 /// assert_eq!(field.get(), FWord::new(-2));
 /// ```
+///
+/// The source and its contracts: `crates/font_base/src/big_endian.rt`.
 pub struct BigEndian<T: Scalar, R: BeByteArray = <T as Scalar>::Raw> {
     raw: R,
     scalar: PhantomData<T>,
@@ -38,9 +40,11 @@ impl<T: Scalar> BigEndian<T> {
 
     /// Creates a field from its raw bytes.
     #[must_use]
+    #[inline]
     pub fn new(raw: T::Raw) -> BigEndian<T>
         ensures { raw_value result ≡ raw }
     {
+        prove!(T::RAW_BYTE_LEN == <T::Raw as BeByteArray>::LEN);
         // Its contract says that the array is a value, which the field keeps.
         let _bytes = raw.as_slice();
         BigEndian {
@@ -51,10 +55,12 @@ impl<T: Scalar> BigEndian<T> {
 
     /// Creates a field from a slice, or returns `None` unless its length is `RAW_BYTE_LEN`.
     #[must_use]
+    #[inline]
     pub fn from_slice(slice: &[u8]) -> Option<BigEndian<T>>
         ensures length { IsSome result ↔ (length slice.now ≡ T.RAW_BYTE_LEN) }
         ensures bytes { IfSome result (λ field. T.Raw.bytes (raw_value field) ≡ slice.now) }
     {
+        prove!(T::RAW_BYTE_LEN == <T::Raw as BeByteArray>::LEN);
         let raw = T::Raw::from_slice(slice)?;
         Some(BigEndian {
             raw,
@@ -64,6 +70,7 @@ impl<T: Scalar> BigEndian<T> {
 
     /// Decodes the value.
     #[must_use]
+    #[inline(always)]
     pub fn get(&self) -> T
         ensures value { result ≡ T.of_raw (raw_value self.now) }
         ensures back { T.raw_of result ≡ raw_value self.now }
@@ -72,6 +79,7 @@ impl<T: Scalar> BigEndian<T> {
     }
 
     /// Overwrites the field with the bytes of `value`.
+    #[inline]
     pub fn set(&mut self, value: T)
         ensures bytes { raw_value self.new ≡ T.raw_of value }
         ensures back { T.of_raw (raw_value self.new) ≡ value }
@@ -81,6 +89,7 @@ impl<T: Scalar> BigEndian<T> {
 
     /// Returns the raw big-endian bytes.
     #[must_use]
+    #[inline]
     pub fn be_bytes(&self) -> &[u8]
         ensures { result.now ≡ T.Raw.bytes (raw_value self.now) }
     {
@@ -89,6 +98,7 @@ impl<T: Scalar> BigEndian<T> {
 
     /// Returns `true` if the decoded value equals `other`.
     #[must_use]
+    #[inline]
     pub fn eq_value(&self, other: &T) -> bool
     where
         T: Copy + PartialEq,
@@ -103,6 +113,7 @@ impl<T: Scalar, R: BeByteArray> Clone for BigEndian<T, R> {
 
     ghost is_infallible = { λ _. ⊤ };
 
+    #[inline]
     fn clone(&self) -> Result<BigEndian<T, R>, AllocError> {
         Ok(BigEndian {
             raw: self.raw,
@@ -125,6 +136,7 @@ impl<T: Scalar> From<T> for BigEndian<T> {
     ghost from_gives = { λ value field. (raw_value field ≡ T.raw_of value)
         × (T.of_raw (raw_value field) ≡ value) };
 
+    #[inline]
     fn from(value: T) -> BigEndian<T> {
         BigEndian::new(value.to_raw())
     }
@@ -138,6 +150,7 @@ impl<T: Scalar> PartialEq for BigEndian<T> {
     ghost laws = { on_per
         (λ field. T.Raw.bytes (raw_value field)) (partial_equiv_from_equiv nat_list_eq_equiv) };
 
+    #[inline]
     fn eq(&self, other: &BigEndian<T>) -> bool {
         self.raw.eq_array(&other.raw)
     }
@@ -156,6 +169,7 @@ impl<T: Scalar> Hash for BigEndian<T> {
 
     ghost respects_eq = { Prim.search (hashing, rules) };
 
+    #[inline]
     fn hash<H: Hasher>(&self, state: &mut H) {
         self.be_bytes().hash(state);
     }
@@ -178,6 +192,7 @@ impl<T: Scalar + Copy + Ord + IdentityEq> PartialOrd for BigEndian<T> {
         (λ same. ap T.Raw.bytes (sym (T.Scalar.laws.forth (raw_value a) a.value) ∙ ap T.raw_of same
         ∙ T.Scalar.laws.forth (raw_value b) b.value))) };
 
+    #[inline]
     fn partial_cmp(&self, other: &BigEndian<T>) -> Option<Ordering> {
         Some(self.cmp(other))
     }
@@ -200,6 +215,7 @@ impl<T: Scalar + Copy + Ord + IdentityEq> Ord for BigEndian<T> {
         (λ same. ap T.Raw.bytes (sym (T.Scalar.laws.forth (raw_value a) a.value) ∙ ap T.raw_of same
         ∙ T.Scalar.laws.forth (raw_value b) b.value)) };
 
+    #[inline]
     fn cmp(&self, other: &BigEndian<T>) -> Ordering {
         self.get().cmp(&other.get())
     }
@@ -210,6 +226,7 @@ impl<T: Scalar + Default> Default for BigEndian<T> {
 
     ghost is_default = { λ field. T.is_default (T.of_raw (raw_value field)) };
 
+    #[inline]
     fn default() -> BigEndian<T> {
         BigEndian::from(T::default())
     }

@@ -13,6 +13,34 @@ use std::marker::PhantomData;
 /// Rattle proves this of every implementation; rustc does not check it.
 ///
 /// - `decode` returns a header for any `BYTE_LEN` bytes: it does not panic.
+///
+/// ```
+/// use font_types::{Scalar, TableDataRef, TableHeader, Version16Dot16};
+///
+/// /// The header of the table `maxp`.
+/// struct MaxpHeader {
+///     version: Version16Dot16,
+///     glyph_count: u16,
+/// }
+///
+/// impl TableHeader for MaxpHeader {
+///     const BYTE_LEN: usize = 6;
+///
+///     fn decode(bytes: &[u8]) -> Self {
+///         Self {
+///             version: Scalar::read(&bytes[..4]).expect("four bytes"),
+///             glyph_count: Scalar::read(&bytes[4..]).expect("two bytes"),
+///         }
+///     }
+/// }
+///
+/// let maxp = TableDataRef::<MaxpHeader>::new(&[0, 0, 0x50, 0, 1, 4]).unwrap();
+/// assert_eq!(maxp.header().version, Version16Dot16::VERSION_0_5);
+/// assert_eq!(maxp.header().glyph_count, 260);
+/// assert!(TableDataRef::<MaxpHeader>::new(&[0, 0, 0x50, 0, 1]).is_none());
+/// ```
+///
+/// The source and its contracts: `crates/font_base/src/table_data.rt`.
 pub trait TableHeader: Sized {
     /// The size of the header, in bytes.
     const BYTE_LEN: usize;
@@ -38,6 +66,8 @@ pub trait TableHeader: Sized {
 /// let table = TableDataRef::<SampleHeader>::new(&[0, 1, 0, 0, 0, 2, 9]).unwrap();
 /// assert_eq!(table.header().b.get(), 2);
 /// ```
+///
+/// The source and its contracts: `crates/font_base/src/table_data.rt`.
 pub struct TableDataRef<'a, H: TableHeader> {
     data: &'a [u8],
     header: PhantomData<H>,
@@ -49,6 +79,7 @@ impl<'a, H: TableHeader> TableDataRef<'a, H> {
 
     /// Creates a table over `data`, or returns `None` if it is too short for the header.
     #[must_use]
+    #[inline(always)]
     pub fn new(data: &'a [u8]) -> Option<TableDataRef<'a, H>>
         ensures long { IsSome result ↔ (H.BYTE_LEN ≤ length «data».now) }
         ensures bytes { IfSome result (λ table. table_bytes table ≡ «data».now) }
@@ -64,6 +95,7 @@ impl<'a, H: TableHeader> TableDataRef<'a, H> {
 
     /// Decodes the header from the first `BYTE_LEN` bytes.
     #[must_use]
+    #[inline(always)]
     pub fn header(&self) -> H
         ensures { H.decodes (take H.BYTE_LEN (table_bytes self.now)) result }
     {
@@ -72,6 +104,7 @@ impl<'a, H: TableHeader> TableDataRef<'a, H> {
 
     /// Returns all the bytes, including the header.
     #[must_use]
+    #[inline(always)]
     pub fn data(&self) -> &'a [u8]
         ensures { result.now ≡ table_bytes self.now }
     {
@@ -80,6 +113,7 @@ impl<'a, H: TableHeader> TableDataRef<'a, H> {
 
     /// Returns the bytes after the header.
     #[must_use]
+    #[inline]
     pub fn rest(&self) -> &'a [u8]
         ensures { result.now ≡ drop H.BYTE_LEN (table_bytes self.now) }
     {
@@ -88,6 +122,7 @@ impl<'a, H: TableHeader> TableDataRef<'a, H> {
 
     /// Returns the header and the bytes after it.
     #[must_use]
+    #[inline]
     pub fn split(&self) -> (H, &'a [u8])
         ensures header { H.decodes (take H.BYTE_LEN (table_bytes self.now)) result.0 }
         ensures rest { result.1.now ≡ drop H.BYTE_LEN (table_bytes self.now) }
@@ -103,6 +138,7 @@ impl<'a, H: TableHeader> Clone for TableDataRef<'a, H> {
 
     ghost is_infallible = { λ _. ⊤ };
 
+    #[inline]
     fn clone(&self) -> Result<TableDataRef<'a, H>, AllocError> {
         Ok(TableDataRef {
             data: self.data,
@@ -114,6 +150,9 @@ impl<'a, H: TableHeader> Clone for TableDataRef<'a, H> {
 impl<'a, H: TableHeader> Copy for TableDataRef<'a, H> {}
 
 /// An example of a header, with two fields.
+///
+/// The source and its contracts: `crates/font_base/src/table_data.rt`.
+#[doc(hidden)]
 #[derive(Drop)]
 pub struct SampleHeader {
     /// Bytes 0 and 1.

@@ -24,6 +24,8 @@ struct Digits {
 /// use font_types::Shortest;
 /// assert_eq!(Shortest::new(9830, 14).as_str(), "0.6");
 /// ```
+///
+/// The source and its contracts: `crates/font_decimal/src/shortest.rt`.
 #[derive(Clone, Copy)]
 pub struct Shortest {
     // The text ends at the end of the buffer, because it is written from its last byte.

@@ -37,19 +37,22 @@ pub use f6dot10::F6Dot10;
 ///
 /// The raw value is an `i16` in units of `1 / 2^F`. Sums wrap on overflow.
 ///
-/// The formats of fonts are [`F2Dot14`], [`F4Dot12`] and [`F6Dot10`]. Rounding, parsing and printing are for these formats alone:
+/// The formats of fonts are [`F2Dot14`], [`F4Dot12`] and [`F6Dot10`]. Rounding, parsing and
+/// printing are for these alone:
 ///
 /// ```compile_fail,E0599
 /// use font_types::FixedI16;
 /// FixedI16::<3>::from_bits(12).round();
 /// ```
+///
+/// The source and its contracts: `crates/font_fixed/src/fixed_i16.rt`.
 #[derive(Clone, Copy, PartialEq, Eq, PartialOrd, Ord, Hash, Default)]
 pub struct FixedI16<const F: u32>(i16);
 
 impl<const F: u32> FixedI16<F> {
     /// Creates a value from its raw bits.
     #[must_use]
-    #[inline]
+    #[inline(always)]
     pub const fn from_bits(bits: i16) -> Self
         ensures { bits_of result ≡ bits }
     {
@@ -58,7 +61,7 @@ impl<const F: u32> FixedI16<F> {
 
     /// Returns the raw bits.
     #[must_use]
-    #[inline]
+    #[inline(always)]
     pub const fn to_bits(self) -> i16
         ensures { result ≡ bits_of self.entry }
     {
@@ -67,7 +70,7 @@ impl<const F: u32> FixedI16<F> {
 
     /// Returns the absolute value; wraps: `MIN.abs()` is `MIN`.
     #[must_use]
-    #[inline]
+    #[inline(always)]
     pub const fn abs(self) -> Self
         ensures { bits_of result ≡ wrap 16 (pos (unsigned_abs (bits_of self.entry))) }
     {
@@ -76,7 +79,7 @@ impl<const F: u32> FixedI16<F> {
 
     /// Returns `self + other`, wrapping on overflow.
     #[must_use]
-    #[inline]
+    #[inline(always)]
     pub const fn wrapping_add(self, other: Self) -> Self
         ensures { bits_of result ≡ wrap 16 (bits_of self.entry +ℤ bits_of other.entry) }
     {
@@ -85,7 +88,7 @@ impl<const F: u32> FixedI16<F> {
 
     /// Returns `self - other`, wrapping on overflow.
     #[must_use]
-    #[inline]
+    #[inline(always)]
     pub const fn wrapping_sub(self, other: Self) -> Self
         ensures { bits_of result ≡ wrap 16 (bits_of self.entry -ℤ bits_of other.entry) }
     {
@@ -94,7 +97,7 @@ impl<const F: u32> FixedI16<F> {
 
     /// Returns `self + other`, saturating at `MIN` and `MAX`.
     #[must_use]
-    #[inline]
+    #[inline(always)]
     pub const fn saturating_add(self, other: Self) -> Self
         ensures { bits_of result ≡ clamp 16 (bits_of self.entry +ℤ bits_of other.entry) }
     {
@@ -103,7 +106,7 @@ impl<const F: u32> FixedI16<F> {
 
     /// Returns `self - other`, saturating at `MIN` and `MAX`.
     #[must_use]
-    #[inline]
+    #[inline(always)]
     pub const fn saturating_sub(self, other: Self) -> Self
         ensures { bits_of result ≡ clamp 16 (bits_of self.entry -ℤ bits_of other.entry) }
     {
@@ -112,7 +115,7 @@ impl<const F: u32> FixedI16<F> {
 
     /// Returns `self + other`, or `None` on overflow.
     #[must_use]
-    #[inline]
+    #[inline(always)]
     pub fn checked_add(self, other: Self) -> Option<Self>
         ensures variant { IsSome result ↔ FitsBits 16 (bits_of self.entry +ℤ bits_of other.entry) }
         ensures value { IfSome result (λ sum. bits_of sum ≡ (bits_of self.entry +ℤ bits_of other.entry)) }
@@ -122,7 +125,7 @@ impl<const F: u32> FixedI16<F> {
 
     /// Returns the raw bits as big-endian bytes.
     #[must_use]
-    #[inline]
+    #[inline(always)]
     #[tactic(auto, using(font_base::proofs::StdBytes::std_bytes))]
     pub const fn to_be_bytes(self) -> [u8; 2]
         ensures { result ≡ bytes_of 2 (bits_of self.entry) }
@@ -137,7 +140,7 @@ where
 {
     /// Rounds to the nearest integer, half up; wraps: `MAX.round()` is `MIN`.
     #[must_use]
-    #[inline]
+    #[inline(always)]
     pub const fn round(self) -> Self
         ensures { IsNearestWhole 16 F (bits_of self.entry) (bits_of result) }
     {
@@ -146,7 +149,7 @@ where
 
     /// Returns the largest integer less than or equal to `self`.
     #[must_use]
-    #[inline]
+    #[inline(always)]
     pub const fn floor(self) -> Self
         ensures { IsFloor F (bits_of self.entry) (bits_of result) }
     {
@@ -155,7 +158,7 @@ where
 
     /// Returns the fractional part, `self - self.floor()`, at least 0 and less than 1.
     #[must_use]
-    #[inline]
+    #[inline(always)]
     pub const fn fract(self) -> Self
         ensures { IsFract F (bits_of self.entry) (bits_of result) }
     {
@@ -220,7 +223,7 @@ impl<const F: u32> Add for FixedI16<F> {
 
     ghost add_gives = { λ x y sum. bits_of sum ≡ wrap 16 (bits_of x +ℤ bits_of y) };
 
-    #[inline]
+    #[inline(always)]
     fn add(self, other: FixedI16<F>) -> FixedI16<F> {
         self.wrapping_add(other)
     }
@@ -229,7 +232,7 @@ impl<const F: u32> Add for FixedI16<F> {
 impl<const F: u32> AddAssign for FixedI16<F> {
     ghost add_assign_gives = { λ x y sum. bits_of sum ≡ wrap 16 (bits_of x +ℤ bits_of y) };
 
-    #[inline]
+    #[inline(always)]
     fn add_assign(&mut self, other: FixedI16<F>) {
         *self = *self + other;
     }
@@ -240,7 +243,7 @@ impl<const F: u32> Sub for FixedI16<F> {
 
     ghost sub_gives = { λ x y rest. bits_of rest ≡ wrap 16 (bits_of x -ℤ bits_of y) };
 
-    #[inline]
+    #[inline(always)]
     fn sub(self, other: FixedI16<F>) -> FixedI16<F> {
         self.wrapping_sub(other)
     }
@@ -249,7 +252,7 @@ impl<const F: u32> Sub for FixedI16<F> {
 impl<const F: u32> SubAssign for FixedI16<F> {
     ghost sub_assign_gives = { λ x y rest. bits_of rest ≡ wrap 16 (bits_of x -ℤ bits_of y) };
 
-    #[inline]
+    #[inline(always)]
     fn sub_assign(&mut self, other: FixedI16<F>) {
         *self = *self - other;
     }
@@ -260,7 +263,7 @@ impl<const F: u32> Neg for FixedI16<F> {
 
     ghost neg_gives = { λ x opposite. bits_of opposite ≡ wrap 16 (neg_ℤ (bits_of x)) };
 
-    #[inline]
+    #[inline(always)]
     fn neg(self) -> FixedI16<F> {
         Self(self.0.wrapping_neg())
     }
@@ -320,12 +323,12 @@ impl<const F: u32> Scalar for FixedI16<F> {
 
     ghost laws = { signed_newtype 2 (lit< tt) bits_of of_bits (λ _. refl) (λ _. refl) };
 
-    #[inline]
+    #[inline(always)]
     fn from_raw(raw: [u8; 2]) -> FixedI16<F> {
         Self(i16::from_raw(raw))
     }
 
-    #[inline]
+    #[inline(always)]
     fn to_raw(self) -> [u8; 2] {
         self.0.to_raw()
     }

@@ -34,19 +34,22 @@ pub use fixed::Fixed;
 ///
 /// The raw value is an `i32` in units of `1 / 2^F`. Sums wrap on overflow.
 ///
-/// The formats of fonts are [`Fixed`], [`F26Dot6`] and [`F2Dot30`]. Rounding, parsing and printing are for these formats alone:
+/// The formats of fonts are [`Fixed`], [`F26Dot6`] and [`F2Dot30`]. Rounding, parsing and printing
+/// are for these alone:
 ///
 /// ```compile_fail,E0599
 /// use font_types::FixedI32;
 /// FixedI32::<3>::from_bits(12).round();
 /// ```
+///
+/// The source and its contracts: `crates/font_fixed/src/fixed_i32.rt`.
 #[derive(Clone, Copy, PartialEq, Eq, PartialOrd, Ord, Hash, Default)]
 pub struct FixedI32<const F: u32>(i32);
 
 impl<const F: u32> FixedI32<F> {
     /// Creates a value from its raw bits.
     #[must_use]
-    #[inline]
+    #[inline(always)]
     pub const fn from_bits(bits: i32) -> Self
         ensures { bits_of result ≡ bits }
     {
@@ -55,7 +58,7 @@ impl<const F: u32> FixedI32<F> {
 
     /// Returns the raw bits.
     #[must_use]
-    #[inline]
+    #[inline(always)]
     pub const fn to_bits(self) -> i32
         ensures { result ≡ bits_of self.entry }
     {
@@ -64,7 +67,7 @@ impl<const F: u32> FixedI32<F> {
 
     /// Returns the absolute value; wraps: `MIN.abs()` is `MIN`.
     #[must_use]
-    #[inline]
+    #[inline(always)]
     pub const fn abs(self) -> Self
         ensures { bits_of result ≡ wrap 32 (pos (unsigned_abs (bits_of self.entry))) }
     {
@@ -73,7 +76,7 @@ impl<const F: u32> FixedI32<F> {
 
     /// Returns `self + other`, wrapping on overflow.
     #[must_use]
-    #[inline]
+    #[inline(always)]
     pub const fn wrapping_add(self, other: Self) -> Self
         ensures { bits_of result ≡ wrap 32 (bits_of self.entry +ℤ bits_of other.entry) }
     {
@@ -82,7 +85,7 @@ impl<const F: u32> FixedI32<F> {
 
     /// Returns `self - other`, wrapping on overflow.
     #[must_use]
-    #[inline]
+    #[inline(always)]
     pub const fn wrapping_sub(self, other: Self) -> Self
         ensures { bits_of result ≡ wrap 32 (bits_of self.entry -ℤ bits_of other.entry) }
     {
@@ -91,7 +94,7 @@ impl<const F: u32> FixedI32<F> {
 
     /// Returns `self + other`, saturating at `MIN` and `MAX`.
     #[must_use]
-    #[inline]
+    #[inline(always)]
     pub const fn saturating_add(self, other: Self) -> Self
         ensures { bits_of result ≡ clamp 32 (bits_of self.entry +ℤ bits_of other.entry) }
     {
@@ -100,7 +103,7 @@ impl<const F: u32> FixedI32<F> {
 
     /// Returns `self - other`, saturating at `MIN` and `MAX`.
     #[must_use]
-    #[inline]
+    #[inline(always)]
     pub const fn saturating_sub(self, other: Self) -> Self
         ensures { bits_of result ≡ clamp 32 (bits_of self.entry -ℤ bits_of other.entry) }
     {
@@ -109,7 +112,7 @@ impl<const F: u32> FixedI32<F> {
 
     /// Returns `self + other`, or `None` on overflow.
     #[must_use]
-    #[inline]
+    #[inline(always)]
     pub fn checked_add(self, other: Self) -> Option<Self>
         ensures variant { IsSome result ↔ FitsBits 32 (bits_of self.entry +ℤ bits_of other.entry) }
         ensures value { IfSome result (λ sum. bits_of sum ≡ (bits_of self.entry +ℤ bits_of other.entry)) }
@@ -119,7 +122,7 @@ impl<const F: u32> FixedI32<F> {
 
     /// Returns the raw bits as big-endian bytes.
     #[must_use]
-    #[inline]
+    #[inline(always)]
     #[tactic(auto, using(font_base::proofs::StdBytes::std_bytes))]
     pub const fn to_be_bytes(self) -> [u8; 4]
         ensures { result ≡ bytes_of 4 (bits_of self.entry) }
@@ -134,7 +137,7 @@ where
 {
     /// Rounds to the nearest integer, half up; wraps: `MAX.round()` is `MIN`.
     #[must_use]
-    #[inline]
+    #[inline(always)]
     pub const fn round(self) -> Self
         ensures { IsNearestWhole 32 F (bits_of self.entry) (bits_of result) }
     {
@@ -143,7 +146,7 @@ where
 
     /// Returns the largest integer less than or equal to `self`.
     #[must_use]
-    #[inline]
+    #[inline(always)]
     pub const fn floor(self) -> Self
         ensures { IsFloor F (bits_of self.entry) (bits_of result) }
     {
@@ -152,7 +155,7 @@ where
 
     /// Returns the fractional part, `self - self.floor()`, at least 0 and less than 1.
     #[must_use]
-    #[inline]
+    #[inline(always)]
     pub const fn fract(self) -> Self
         ensures { IsFract F (bits_of self.entry) (bits_of result) }
     {
@@ -217,7 +220,7 @@ impl<const F: u32> Add for FixedI32<F> {
 
     ghost add_gives = { λ x y sum. bits_of sum ≡ wrap 32 (bits_of x +ℤ bits_of y) };
 
-    #[inline]
+    #[inline(always)]
     fn add(self, other: FixedI32<F>) -> FixedI32<F> {
         self.wrapping_add(other)
     }
@@ -226,7 +229,7 @@ impl<const F: u32> Add for FixedI32<F> {
 impl<const F: u32> AddAssign for FixedI32<F> {
     ghost add_assign_gives = { λ x y sum. bits_of sum ≡ wrap 32 (bits_of x +ℤ bits_of y) };
 
-    #[inline]
+    #[inline(always)]
     fn add_assign(&mut self, other: FixedI32<F>) {
         *self = *self + other;
     }
@@ -237,7 +240,7 @@ impl<const F: u32> Sub for FixedI32<F> {
 
     ghost sub_gives = { λ x y rest. bits_of rest ≡ wrap 32 (bits_of x -ℤ bits_of y) };
 
-    #[inline]
+    #[inline(always)]
     fn sub(self, other: FixedI32<F>) -> FixedI32<F> {
         self.wrapping_sub(other)
     }
@@ -246,7 +249,7 @@ impl<const F: u32> Sub for FixedI32<F> {
 impl<const F: u32> SubAssign for FixedI32<F> {
     ghost sub_assign_gives = { λ x y rest. bits_of rest ≡ wrap 32 (bits_of x -ℤ bits_of y) };
 
-    #[inline]
+    #[inline(always)]
     fn sub_assign(&mut self, other: FixedI32<F>) {
         *self = *self - other;
     }
@@ -257,7 +260,7 @@ impl<const F: u32> Neg for FixedI32<F> {
 
     ghost neg_gives = { λ x opposite. bits_of opposite ≡ wrap 32 (neg_ℤ (bits_of x)) };
 
-    #[inline]
+    #[inline(always)]
     fn neg(self) -> FixedI32<F> {
         Self(self.0.wrapping_neg())
     }

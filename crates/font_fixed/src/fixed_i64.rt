@@ -30,19 +30,21 @@ pub use f48dot16::F48Dot16;
 ///
 /// The raw value is an `i64` in units of `1 / 2^F`. Sums wrap on overflow.
 ///
-/// The format of fonts is [`F48Dot16`]. Rounding, parsing and printing are for this format alone:
+/// The format of fonts is [`F48Dot16`]. Rounding, parsing and printing are for it alone:
 ///
 /// ```compile_fail,E0599
 /// use font_types::FixedI64;
 /// FixedI64::<3>::from_bits(12).round();
 /// ```
+///
+/// The source and its contracts: `crates/font_fixed/src/fixed_i64.rt`.
 #[derive(Clone, Copy, PartialEq, Eq, PartialOrd, Ord, Hash, Default)]
 pub struct FixedI64<const F: u32>(i64);
 
 impl<const F: u32> FixedI64<F> {
     /// Creates a value from its raw bits.
     #[must_use]
-    #[inline]
+    #[inline(always)]
     pub const fn from_bits(bits: i64) -> Self
         ensures { bits_of result ≡ bits }
     {
@@ -51,7 +53,7 @@ impl<const F: u32> FixedI64<F> {
 
     /// Returns the raw bits.
     #[must_use]
-    #[inline]
+    #[inline(always)]
     pub const fn to_bits(self) -> i64
         ensures { result ≡ bits_of self.entry }
     {
@@ -60,7 +62,7 @@ impl<const F: u32> FixedI64<F> {
 
     /// Returns the absolute value; wraps: `MIN.abs()` is `MIN`.
     #[must_use]
-    #[inline]
+    #[inline(always)]
     pub const fn abs(self) -> Self
         ensures { bits_of result ≡ wrap 64 (pos (unsigned_abs (bits_of self.entry))) }
     {
@@ -69,7 +71,7 @@ impl<const F: u32> FixedI64<F> {
 
     /// Returns `self + other`, wrapping on overflow.
     #[must_use]
-    #[inline]
+    #[inline(always)]
     pub const fn wrapping_add(self, other: Self) -> Self
         ensures { bits_of result ≡ wrap 64 (bits_of self.entry +ℤ bits_of other.entry) }
     {
@@ -78,7 +80,7 @@ impl<const F: u32> FixedI64<F> {
 
     /// Returns `self - other`, wrapping on overflow.
     #[must_use]
-    #[inline]
+    #[inline(always)]
     pub const fn wrapping_sub(self, other: Self) -> Self
         ensures { bits_of result ≡ wrap 64 (bits_of self.entry -ℤ bits_of other.entry) }
     {
@@ -87,7 +89,7 @@ impl<const F: u32> FixedI64<F> {
 
     /// Returns `self + other`, saturating at `MIN` and `MAX`.
     #[must_use]
-    #[inline]
+    #[inline(always)]
     pub const fn saturating_add(self, other: Self) -> Self
         ensures { bits_of result ≡ clamp 64 (bits_of self.entry +ℤ bits_of other.entry) }
     {
@@ -96,7 +98,7 @@ impl<const F: u32> FixedI64<F> {
 
     /// Returns `self - other`, saturating at `MIN` and `MAX`.
     #[must_use]
-    #[inline]
+    #[inline(always)]
     pub const fn saturating_sub(self, other: Self) -> Self
         ensures { bits_of result ≡ clamp 64 (bits_of self.entry -ℤ bits_of other.entry) }
     {
@@ -105,7 +107,7 @@ impl<const F: u32> FixedI64<F> {
 
     /// Returns `self + other`, or `None` on overflow.
     #[must_use]
-    #[inline]
+    #[inline(always)]
     pub fn checked_add(self, other: Self) -> Option<Self>
         ensures variant { IsSome result ↔ FitsBits 64 (bits_of self.entry +ℤ bits_of other.entry) }
         ensures value { IfSome result (λ sum. bits_of sum ≡ (bits_of self.entry +ℤ bits_of other.entry)) }
@@ -115,7 +117,7 @@ impl<const F: u32> FixedI64<F> {
 
     /// Returns the raw bits as big-endian bytes.
     #[must_use]
-    #[inline]
+    #[inline(always)]
     #[tactic(auto, using(font_base::proofs::StdBytes::std_bytes))]
     pub const fn to_be_bytes(self) -> [u8; 8]
         ensures { result ≡ bytes_of 8 (bits_of self.entry) }
@@ -130,7 +132,7 @@ where
 {
     /// Rounds to the nearest integer, half up; wraps: `MAX.round()` is `MIN`.
     #[must_use]
-    #[inline]
+    #[inline(always)]
     pub const fn round(self) -> Self
         ensures { IsNearestWhole 64 F (bits_of self.entry) (bits_of result) }
     {
@@ -139,7 +141,7 @@ where
 
     /// Returns the largest integer less than or equal to `self`.
     #[must_use]
-    #[inline]
+    #[inline(always)]
     pub const fn floor(self) -> Self
         ensures { IsFloor F (bits_of self.entry) (bits_of result) }
     {
@@ -148,7 +150,7 @@ where
 
     /// Returns the fractional part, `self - self.floor()`, at least 0 and less than 1.
     #[must_use]
-    #[inline]
+    #[inline(always)]
     pub const fn fract(self) -> Self
         ensures { IsFract F (bits_of self.entry) (bits_of result) }
     {
@@ -213,7 +215,7 @@ impl<const F: u32> Add for FixedI64<F> {
 
     ghost add_gives = { λ x y sum. bits_of sum ≡ wrap 64 (bits_of x +ℤ bits_of y) };
 
-    #[inline]
+    #[inline(always)]
     fn add(self, other: FixedI64<F>) -> FixedI64<F> {
         self.wrapping_add(other)
     }
@@ -222,7 +224,7 @@ impl<const F: u32> Add for FixedI64<F> {
 impl<const F: u32> AddAssign for FixedI64<F> {
     ghost add_assign_gives = { λ x y sum. bits_of sum ≡ wrap 64 (bits_of x +ℤ bits_of y) };
 
-    #[inline]
+    #[inline(always)]
     fn add_assign(&mut self, other: FixedI64<F>) {
         *self = *self + other;
     }
@@ -233,7 +235,7 @@ impl<const F: u32> Sub for FixedI64<F> {
 
     ghost sub_gives = { λ x y rest. bits_of rest ≡ wrap 64 (bits_of x -ℤ bits_of y) };
 
-    #[inline]
+    #[inline(always)]
     fn sub(self, other: FixedI64<F>) -> FixedI64<F> {
         self.wrapping_sub(other)
     }
@@ -242,7 +244,7 @@ impl<const F: u32> Sub for FixedI64<F> {
 impl<const F: u32> SubAssign for FixedI64<F> {
     ghost sub_assign_gives = { λ x y rest. bits_of rest ≡ wrap 64 (bits_of x -ℤ bits_of y) };
 
-    #[inline]
+    #[inline(always)]
     fn sub_assign(&mut self, other: FixedI64<F>) {
         *self = *self - other;
     }
@@ -253,7 +255,7 @@ impl<const F: u32> Neg for FixedI64<F> {
 
     ghost neg_gives = { λ x opposite. bits_of opposite ≡ wrap 64 (neg_ℤ (bits_of x)) };
 
-    #[inline]
+    #[inline(always)]
     fn neg(self) -> FixedI64<F> {
         Self(self.0.wrapping_neg())
     }

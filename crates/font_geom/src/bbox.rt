@@ -15,6 +15,8 @@ use std::ops::Mul;
 /// assert_eq!(region.normalize(), BoundingBox { x_min: 1, y_min: 0, x_max: 3, y_max: 2 });
 /// assert_eq!(region.scale(2).y_max, 4);
 /// ```
+///
+/// The source and its contracts: `crates/font_geom/src/bbox.rt`.
 #[derive(Clone, Copy, PartialEq, Eq, Default, Debug)]
 pub struct BoundingBox<T> {
     /// The minimum x coordinate.
@@ -32,6 +34,7 @@ impl<T: Mul<Output = T> + Copy> BoundingBox<T> {
     ///
     /// A negative factor swaps minimum and maximum: call `normalize` afterwards.
     #[must_use]
+    #[inline]
     pub fn scale(&self, factor: T) -> Self
         requires { CanScale T.can_mul self.now factor }
         ensures { IsScaled T.mul_gives self.now factor result }
@@ -48,6 +51,7 @@ impl<T: Mul<Output = T> + Copy> BoundingBox<T> {
 impl<T: PartialOrd + Copy> BoundingBox<T> {
     /// Returns `true` if `x_min <= x_max` and `y_min <= y_max`.
     #[must_use]
+    #[inline]
     pub fn is_normalized(&self) -> bool
         ensures { result ≡ is_normalized (partial_le T.partial_cmp) self.now }
     {
@@ -58,6 +62,7 @@ impl<T: PartialOrd + Copy> BoundingBox<T> {
     ///
     /// A pair that does not compare is swapped too, and then the box is not normalized.
     #[must_use]
+    #[inline]
     pub fn normalize(&self) -> Self
         ensures value { result ≡ normalized_box (partial_le T.partial_cmp) self.now }
         ensures pairs { HasSamePairs self.now result }

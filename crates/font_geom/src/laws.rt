@@ -12,6 +12,7 @@ use font_fixed::Fixed;
 
 /// Returns `(a * b) * c` and `a * (b * c)`, which are equal.
 #[must_use]
+#[inline]
 pub fn associative<T: RingElement>(
     a: Matrix<T>,
     b: Matrix<T>,
@@ -27,6 +28,7 @@ pub fn associative<T: RingElement>(
 
 /// Returns `(a * b) * p` and `a * (b * p)`, which are equal.
 #[must_use]
+#[inline]
 pub fn action<T: RingElement>(a: Matrix<T>, b: Matrix<T>, p: Point<T>) -> (Point<T>, Point<T>)
     ensures first { result.0 ≡ image_of T.plus T.times (matrix_product T.plus T.times a b) p }
     ensures second { result.1 ≡ image_of T.plus T.times a (image_of T.plus T.times b p) }
@@ -37,6 +39,7 @@ pub fn action<T: RingElement>(a: Matrix<T>, b: Matrix<T>, p: Point<T>) -> (Point
 
 /// Returns the identity times `a`, and `a` times the identity: both are `a`.
 #[must_use]
+#[inline]
 pub fn identity_neutral<T: RingElement>(a: Matrix<T>) -> (Matrix<T>, Matrix<T>)
     ensures first { result.0 ≡ matrix_product T.plus T.times (identity_matrix T.ZERO T.ONE) a }
     ensures second { result.1 ≡ matrix_product T.plus T.times a (identity_matrix T.ZERO T.ONE) }

@@ -26,6 +26,8 @@ use std::ops::{Add, Mul, MulAssign};
 /// let shrink = Matrix { xx: half, yy: half, ..Matrix::identity() };
 /// assert_eq!(shrink * Point::new(Fixed::ONE, half), Point::new(half, half * half));
 /// ```
+///
+/// The source and its contracts: `crates/font_geom/src/matrix.rt`.
 #[derive(Clone, Copy, PartialEq, Eq, Debug)]
 pub struct Matrix<T> {
     /// The factor of x in x.
@@ -48,6 +50,41 @@ pub struct Matrix<T> {
 ///
 /// None. That `ZERO` and `ONE` are neutral, so that the identity matrix is neutral, is a law of
 /// [`RingElement`](crate::RingElement).
+///
+/// ```
+/// use core::ops::{Add, Mul};
+/// use font_types::{Matrix, MatrixElement, Point};
+///
+/// /// An integer that wraps.
+/// #[derive(Clone, Copy, Debug, PartialEq)]
+/// struct Units(i32);
+///
+/// impl Add for Units {
+///     type Output = Self;
+///
+///     fn add(self, other: Self) -> Self {
+///         Self(self.0.wrapping_add(other.0))
+///     }
+/// }
+///
+/// impl Mul for Units {
+///     type Output = Self;
+///
+///     fn mul(self, other: Self) -> Self {
+///         Self(self.0.wrapping_mul(other.0))
+///     }
+/// }
+///
+/// impl MatrixElement for Units {
+///     const ZERO: Self = Self(0);
+///     const ONE: Self = Self(1);
+/// }
+///
+/// let shift = Matrix { dx: Units(5), ..Matrix::identity() };
+/// assert_eq!(shift * Point::new(Units(1), Units(2)), Point::new(Units(6), Units(2)));
+/// ```
+///
+/// The source and its contracts: `crates/font_geom/src/matrix.rt`.
 pub trait MatrixElement: Copy + Add<Output = Self> + Mul<Output = Self> {
     /// The value 0.
     const ZERO: Self;
@@ -73,6 +110,7 @@ impl MatrixElement for Fixed {
 impl<T: Copy> Matrix<T> {
     /// Creates a matrix from its elements in the order `[xx, yx, xy, yy, dx, dy]`.
     #[must_use]
+    #[inline]
     pub const fn from_elements(elements: [T; 6]) -> Self
         ensures { elements_of result ≡ elements }
     {
@@ -89,6 +127,7 @@ impl<T: Copy> Matrix<T> {
 
     /// Returns the elements in the order `[xx, yx, xy, yy, dx, dy]`.
     #[must_use]
+    #[inline]
     pub const fn elements(&self) -> [T; 6]
         ensures { result ≡ elements_of self.now }
     {
@@ -97,6 +136,7 @@ impl<T: Copy> Matrix<T> {
 
     /// Applies a function to each element, in the order of `elements`.
     #[must_use]
+    #[inline(always)]
     pub fn map<U: Copy, F: FnMut(T) -> U>(self, mut f: F) -> Matrix<U>
         requires { CanCallEach F.pre F.step f (elements_of self) }
         ensures { CallsEach F.step f (elements_of self) (elements_of result) }
@@ -115,6 +155,7 @@ impl<T: Copy> Matrix<T> {
 impl<T: MatrixElement> Matrix<T> {
     /// Returns the identity matrix.
     #[must_use]
+    #[inline]
     pub const fn identity() -> Self
         ensures { result ≡ identity_matrix T.ZERO T.ONE }
     {
@@ -130,6 +171,7 @@ impl<T: MatrixElement> Matrix<T> {
 
     /// Transforms the point `(x, y)`.
     #[must_use]
+    #[inline]
     pub fn transform(&self, x: T, y: T) -> (T, T)
         requires { CanTransform T.can_mul T.mul_gives T.can_add T.add_gives self.now x y }
         ensures { IsTransformed T.mul_gives T.add_gives self.now x y result.0 result.1 }
@@ -144,6 +186,7 @@ impl<T: MatrixElement> Matrix<T> {
 impl<T: MatrixElement> Default for Matrix<T> {
     ghost is_default = { λ matrix. matrix ≡ identity_matrix T.ZERO T.ONE };
 
+    #[inline]
     fn default() -> Matrix<T> {
         Self::identity()
     }
@@ -156,6 +199,7 @@ impl<T: MatrixElement> Mul for Matrix<T> {
 
     ghost mul_gives = { IsProductOf T.mul_gives T.add_gives };
 
+    #[inline]
     fn mul(self, rhs: Matrix<T>) -> Matrix<T> {
         Matrix {
             xx: self.xx * rhs.xx + self.xy * rhs.yx,
@@ -173,6 +217,7 @@ impl<T: MatrixElement> MulAssign for Matrix<T> {
 
     ghost mul_assign_gives = { IsProductOf T.mul_gives T.add_gives };
 
+    #[inline]
     fn mul_assign(&mut self, rhs: Matrix<T>) {
         *self = *self * rhs;
     }
@@ -187,6 +232,7 @@ impl<T: MatrixElement> Mul<Point<T>> for Matrix<T> {
     ghost mul_gives = { λ matrix p moved.
         IsTransformed T.mul_gives T.add_gives matrix p.x p.y moved.x moved.y };
 
+    #[inline]
     fn mul(self, rhs: Point<T>) -> Point<T> {
         let (x, y) = self.transform(rhs.x, rhs.y);
         Point::new(x, y)

@@ -11,6 +11,8 @@ use std::ops::{Add, AddAssign, Div, DivAssign, Mul, MulAssign, Neg, Sub, SubAssi
 /// use font_types::Point;
 /// assert_eq!(Point::new(3, 4) - Point::broadcast(1), Point::new(2, 3));
 /// ```
+///
+/// The source and its contracts: `crates/font_geom/src/point.rt`.
 #[derive(Clone, Copy, PartialEq, Eq, Default, Debug)]
 pub struct Point<T> {
     /// The x coordinate.
@@ -22,6 +24,7 @@ pub struct Point<T> {
 impl<T> Point<T> {
     /// Creates a point.
     #[must_use]
+    #[inline(always)]
     pub const fn new(x: T, y: T) -> Self
         ensures { result ≡ record { x = x; y = y } }
     {
@@ -30,6 +33,7 @@ impl<T> Point<T> {
 
     /// Creates a point with both coordinates equal to `xy`.
     #[must_use]
+    #[inline]
     pub const fn broadcast(xy: T) -> Self
     where
         T: Copy,
@@ -42,6 +46,7 @@ impl<T> Point<T> {
     ///
     /// `point.map(|n| n / 2)` halves both.
     #[must_use]
+    #[inline(always)]
     pub fn map<U, F: FnMut(T) -> U>(self, mut f: F) -> Point<U>
         requires { CanCallEach F.pre F.step f (self.x ∷ self.y ∷ []) }
         ensures { CallsEach F.step f (self.x ∷ self.y ∷ []) (result.x ∷ result.y ∷ []) }
@@ -60,6 +65,7 @@ impl<T: Add<Output = T>> Add for Point<T> {
 
     ghost add_gives = { λ p q sum. T.add_gives p.x q.x sum.x × T.add_gives p.y q.y sum.y };
 
+    #[inline(always)]
     fn add(self, rhs: Point<T>) -> Point<T> {
         Point {
             x: self.x + rhs.x,
@@ -74,6 +80,7 @@ impl<T: AddAssign> AddAssign for Point<T> {
     ghost add_assign_gives = { λ p q sum. T.add_assign_gives p.x q.x sum.x
         × T.add_assign_gives p.y q.y sum.y };
 
+    #[inline(always)]
     fn add_assign(&mut self, rhs: Point<T>) {
         self.x += rhs.x;
         self.y += rhs.y;
@@ -87,6 +94,7 @@ impl<T: Sub<Output = T>> Sub for Point<T> {
 
     ghost sub_gives = { λ p q rest. T.sub_gives p.x q.x rest.x × T.sub_gives p.y q.y rest.y };
 
+    #[inline(always)]
     fn sub(self, rhs: Point<T>) -> Point<T> {
         Point {
             x: self.x - rhs.x,
@@ -101,6 +109,7 @@ impl<T: SubAssign> SubAssign for Point<T> {
     ghost sub_assign_gives = { λ p q rest. T.sub_assign_gives p.x q.x rest.x
         × T.sub_assign_gives p.y q.y rest.y };
 
+    #[inline(always)]
     fn sub_assign(&mut self, rhs: Point<T>) {
         self.x -= rhs.x;
         self.y -= rhs.y;
@@ -115,6 +124,7 @@ impl<T: Mul<Output = T>> Mul for Point<T> {
     ghost mul_gives = { λ p q product. T.mul_gives p.x q.x product.x
         × T.mul_gives p.y q.y product.y };
 
+    #[inline(always)]
     fn mul(self, rhs: Point<T>) -> Point<T> {
         Point {
             x: self.x * rhs.x,
@@ -131,6 +141,7 @@ impl<T: Mul<Output = T> + Copy> Mul<T> for Point<T> {
     ghost mul_gives = { λ p factor product. T.mul_gives p.x factor product.x
         × T.mul_gives p.y factor product.y };
 
+    #[inline(always)]
     fn mul(self, rhs: T) -> Point<T> {
         Point {
             x: self.x * rhs,
@@ -145,6 +156,7 @@ impl<T: MulAssign> MulAssign for Point<T> {
     ghost mul_assign_gives = { λ p q product. T.mul_assign_gives p.x q.x product.x
         × T.mul_assign_gives p.y q.y product.y };
 
+    #[inline(always)]
     fn mul_assign(&mut self, rhs: Point<T>) {
         self.x *= rhs.x;
         self.y *= rhs.y;
@@ -158,6 +170,7 @@ impl<T: MulAssign + Copy> MulAssign<T> for Point<T> {
     ghost mul_assign_gives = { λ p factor product. T.mul_assign_gives p.x factor product.x
         × T.mul_assign_gives p.y factor product.y };
 
+    #[inline(always)]
     fn mul_assign(&mut self, rhs: T) {
         self.x *= rhs;
         self.y *= rhs;
@@ -172,6 +185,7 @@ impl<T: Div<Output = T>> Div for Point<T> {
     ghost div_gives = { λ p q quotient. T.div_gives p.x q.x quotient.x
         × T.div_gives p.y q.y quotient.y };
 
+    #[inline(always)]
     fn div(self, rhs: Point<T>) -> Point<T> {
         Point {
             x: self.x / rhs.x,
@@ -188,6 +202,7 @@ impl<T: Div<Output = T> + Copy> Div<T> for Point<T> {
     ghost div_gives = { λ p divisor quotient. T.div_gives p.x divisor quotient.x
         × T.div_gives p.y divisor quotient.y };
 
+    #[inline(always)]
     fn div(self, rhs: T) -> Point<T> {
         Point {
             x: self.x / rhs,
@@ -202,6 +217,7 @@ impl<T: DivAssign> DivAssign for Point<T> {
     ghost div_assign_gives = { λ p q quotient. T.div_assign_gives p.x q.x quotient.x
         × T.div_assign_gives p.y q.y quotient.y };
 
+    #[inline(always)]
     fn div_assign(&mut self, rhs: Point<T>) {
         self.x /= rhs.x;
         self.y /= rhs.y;
@@ -215,6 +231,7 @@ impl<T: DivAssign + Copy> DivAssign<T> for Point<T> {
     ghost div_assign_gives = { λ p divisor quotient. T.div_assign_gives p.x divisor quotient.x
         × T.div_assign_gives p.y divisor quotient.y };
 
+    #[inline(always)]
     fn div_assign(&mut self, rhs: T) {
         self.x /= rhs;
         self.y /= rhs;
@@ -228,6 +245,7 @@ impl<T: Neg<Output = T>> Neg for Point<T> {
 
     ghost neg_gives = { λ p opposite. T.neg_gives p.x opposite.x × T.neg_gives p.y opposite.y };
 
+    #[inline]
     fn neg(self) -> Point<T> {
         Point {
             x: -self.x,

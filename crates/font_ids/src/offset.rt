@@ -20,6 +20,8 @@ use font_base::{FixedSize, IdentityEq, Scalar, Uint24};
 /// let offset = Offset16::new(7);
 /// assert!(!offset.is_null() && offset.to_u32() == 7);
 /// ```
+///
+/// The source and its contracts: `crates/font_ids/src/offset.rt`.
 #[derive(Clone, Copy, Debug, PartialEq, Eq, PartialOrd, Ord)]
 pub struct Offset16(u16);
 
@@ -100,6 +102,8 @@ impl IdentityEq for Offset16 {
 /// let offset = Offset24::new(Uint24::new(7));
 /// assert!(!offset.is_null() && offset.to_u32() == 7);
 /// ```
+///
+/// The source and its contracts: `crates/font_ids/src/offset.rt`.
 #[derive(Clone, Copy, Debug, PartialEq, Eq, PartialOrd, Ord)]
 pub struct Offset24(Uint24);
 
@@ -182,6 +186,8 @@ impl IdentityEq for Offset24 {
 /// let offset = Offset32::new(7);
 /// assert!(!offset.is_null() && offset.to_u32() == 7);
 /// ```
+///
+/// The source and its contracts: `crates/font_ids/src/offset.rt`.
 #[derive(Clone, Copy, Debug, PartialEq, Eq, PartialOrd, Ord)]
 pub struct Offset32(u32);
 
@@ -262,6 +268,8 @@ impl IdentityEq for Offset32 {
 /// Rattle proves this of every implementation; rustc does not check it.
 ///
 /// - `NULL.value_u32()` is 0.
+///
+/// The source and its contracts: `crates/font_ids/src/offset.rt`.
 pub trait OffsetValue: Copy {
     /// The null offset, 0.
     const NULL: Self;
@@ -331,12 +339,15 @@ impl OffsetValue for Offset32 {
 /// use font_types::{Nullable, Offset16, Scalar};
 /// assert!(Nullable::<Offset16>::read(&[0, 0]).unwrap().is_null());
 /// ```
+///
+/// The source and its contracts: `crates/font_ids/src/offset.rt`.
 #[derive(Clone, Copy, Debug, PartialEq, Eq)]
 pub struct Nullable<T>(T);
 
 impl<T> Nullable<T> {
     /// Returns the offset, whether null or not.
     #[must_use]
+    #[inline]
     pub fn offset(&self) -> &T
         ensures { result.now ≡ nullable_offset self.now }
     {
@@ -347,6 +358,7 @@ impl<T> Nullable<T> {
 impl<T: OffsetValue> Nullable<T> {
     /// Returns `true` if the offset is zero.
     #[must_use]
+    #[inline]
     pub fn is_null(&self) -> bool
         ensures { IsTrue result ↔ (T.number_of (nullable_offset self.now) ≡ 0) }
     {
@@ -355,6 +367,7 @@ impl<T: OffsetValue> Nullable<T> {
 
     /// Returns `true` if the offset is this number.
     #[must_use]
+    #[inline]
     pub fn eq_u32(&self, other: &u32) -> bool
         ensures { IsTrue result ↔ (T.number_of (nullable_offset self.now) ≡ other.now) }
     {
@@ -366,6 +379,7 @@ impl<T: OffsetValue> Nullable<T> {
 impl<T: OffsetValue> Default for Nullable<T> {
     ghost is_default = { λ nullable. nullable_offset nullable ≡ T.NULL };
 
+    #[inline]
     fn default() -> Nullable<T> {
         Nullable(T::NULL)
     }
@@ -388,10 +402,12 @@ impl<T: Scalar> Scalar for Nullable<T> {
 
     ghost laws = { newtype_laws nullable_offset nullable_of (λ _. refl) (λ _. refl) T.Scalar.laws };
 
+    #[inline]
     fn from_raw(raw: T::Raw) -> Nullable<T> {
         Nullable(T::from_raw(raw))
     }
 
+    #[inline]
     fn to_raw(self) -> T::Raw {
         T::to_raw(self.0)
     }

@@ -23,7 +23,9 @@ use font_ids::FWord;
 /// sum.add(Fixed::NEG_ONE, 2);
 /// assert_eq!(sum.finish().to_string(), "-0.5");
 /// ```
-#[derive(Clone, Copy, Debug, Drop)]
+///
+/// The source and its contracts: `crates/font_types/src/delta.rt`.
+#[derive(Clone, Copy, Debug, PartialEq, Eq, Drop)]
 pub struct DeltaSum {
     steps: i128,
 }

@@ -21,6 +21,8 @@ use crate::{F48Dot16, Fixed};
 /// assert_eq!(number.to_string(), "1.5");
 /// assert_eq!("1.5".parse(), Ok(number));
 /// ```
+///
+/// The source and its contracts: `crates/font_fixed/src/fixed_i16/f2dot14.rt`.
 pub type F2Dot14 = FixedI16<14>;
 
 impl Format<16, 14> for F2Dot14 {
@@ -52,7 +54,7 @@ impl F2Dot14 {
 
     /// Converts to [`Fixed`], exactly.
     #[must_use]
-    #[inline]
+    #[inline(always)]
     pub const fn to_fixed(self) -> Fixed
         ensures { fixed_bits result ≡ (bits_of self *ℤ pos 4) }
     {

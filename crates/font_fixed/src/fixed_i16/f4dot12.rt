@@ -15,6 +15,8 @@ use crate::formats::Format;
 /// assert_eq!(number.to_string(), "1.5");
 /// assert_eq!("1.5".parse(), Ok(number));
 /// ```
+///
+/// The source and its contracts: `crates/font_fixed/src/fixed_i16/f4dot12.rt`.
 pub type F4Dot12 = FixedI16<12>;
 
 impl Format<16, 12> for F4Dot12 {

@@ -15,6 +15,8 @@ use crate::formats::Format;
 /// assert_eq!(number.to_string(), "1.5");
 /// assert_eq!("1.5".parse(), Ok(number));
 /// ```
+///
+/// The source and its contracts: `crates/font_fixed/src/fixed_i16/f6dot10.rt`.
 pub type F6Dot10 = FixedI16<10>;
 
 impl Format<16, 10> for F6Dot10 {

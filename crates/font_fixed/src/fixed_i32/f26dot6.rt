@@ -22,6 +22,8 @@ use std::ops::{Div, DivAssign, Mul, MulAssign};
 /// assert_eq!(number.to_string(), "1.5");
 /// assert_eq!("1.5".parse(), Ok(number));
 /// ```
+///
+/// The source and its contracts: `crates/font_fixed/src/fixed_i32/f26dot6.rt`.
 pub type F26Dot6 = FixedI32<6>;
 
 impl Format<32, 6> for F26Dot6 {
@@ -53,7 +55,7 @@ impl F26Dot6 {
 
     /// Converts an integer, wrapping on overflow.
     #[must_use]
-    #[inline]
+    #[inline(always)]
     pub const fn from_i32(number: i32) -> Self
         ensures { bits_of result ≡ wrap 32 (number *ℤ pos (2 ^ 6)) }
     {
@@ -62,7 +64,7 @@ impl F26Dot6 {
 
     /// Rounds to the nearest integer, half up, wrapped to 26 bits: `F26Dot6::MAX` gives -33554432.
     #[must_use]
-    #[inline]
+    #[inline(always)]
     pub const fn to_i32(self) -> i32
         ensures { IsNarrowed 26 (bits_of self) (2 ^ 6) result }
     {
@@ -76,7 +78,7 @@ impl Mul for F26Dot6 {
     ghost mul_gives = { λ x y product.
         IsProduct 32 6 (bits_of x) (bits_of y) (bits_of product) };
 
-    #[inline]
+    #[inline(always)]
     fn mul(self, other: F26Dot6) -> F26Dot6 {
         Self(product(self.0, other.0, 6))
     }
@@ -86,7 +88,7 @@ impl MulAssign for F26Dot6 {
     ghost mul_assign_gives = { λ x y product.
         IsProduct 32 6 (bits_of x) (bits_of y) (bits_of product) };
 
-    #[inline]
+    #[inline(always)]
     fn mul_assign(&mut self, other: F26Dot6) {
         *self = *self * other;
     }
@@ -109,7 +111,7 @@ impl DivAssign for F26Dot6 {
     ghost div_assign_gives = { λ x y quotient.
         IsQuotient 32 6 (bits_of x) (bits_of y) (bits_of quotient) };
 
-    #[inline]
+    #[inline(always)]
     fn div_assign(&mut self, other: F26Dot6) {
         *self = *self / other;
     }

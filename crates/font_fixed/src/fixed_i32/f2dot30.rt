@@ -27,6 +27,8 @@ use font_base::{FixedSize, IdentityEq, Scalar};
 /// assert_eq!(number.to_string(), "1.5");
 /// assert_eq!("1.5".parse(), Ok(number));
 /// ```
+///
+/// The source and its contracts: `crates/font_fixed/src/fixed_i32/f2dot30.rt`.
 pub type F2Dot30 = FixedI32<30>;
 
 impl Format<32, 30> for F2Dot30 {
@@ -76,7 +78,7 @@ impl F2Dot30 {
 
     /// Rounds to the nearest [`Fixed`], half up.
     #[must_use]
-    #[inline]
+    #[inline(always)]
     pub const fn to_fixed(self) -> Fixed
         ensures { fixed_bits result ≡ up (bits_of self) (2 ^ 14) }
     {
@@ -85,7 +87,7 @@ impl F2Dot30 {
 
     /// Rounds to the nearest [`F2Dot14`], half up, wrapping on overflow.
     #[must_use]
-    #[inline]
+    #[inline(always)]
     pub const fn to_f2dot14(self) -> F2Dot14
         ensures { IsNarrowed 16 (bits_of self) (2 ^ 16) (f2dot14_bits result) }
     {
@@ -120,12 +122,12 @@ impl Scalar for F2Dot30 {
 
     ghost laws = { signed_newtype 4 (lit< tt) bits_of of_bits (λ _. refl) (λ _. refl) };
 
-    #[inline]
+    #[inline(always)]
     fn from_raw(raw: [u8; 4]) -> F2Dot30 {
         Self(i32::from_raw(raw))
     }
 
-    #[inline]
+    #[inline(always)]
     fn to_raw(self) -> [u8; 4] {
         self.0.to_raw()
     }

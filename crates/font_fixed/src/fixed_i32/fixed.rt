@@ -29,6 +29,8 @@ use std::ops::{Div, DivAssign, Mul, MulAssign};
 /// assert_eq!(number.to_string(), "1.5");
 /// assert_eq!("1.5".parse(), Ok(number));
 /// ```
+///
+/// The source and its contracts: `crates/font_fixed/src/fixed_i32/fixed.rt`.
 pub type Fixed = FixedI32<16>;
 
 impl Format<32, 16> for Fixed {
@@ -73,7 +75,7 @@ impl Fixed {
 
     /// Converts an integer, wrapping on overflow.
     #[must_use]
-    #[inline]
+    #[inline(always)]
     pub const fn from_i32(number: i32) -> Self
         ensures { bits_of result ≡ wrap 32 (number *ℤ pos (2 ^ 16)) }
     {
@@ -82,7 +84,7 @@ impl Fixed {
 
     /// Rounds to the nearest integer, half up, wrapped to 16 bits: [`Fixed::MAX`] gives -32768.
     #[must_use]
-    #[inline]
+    #[inline(always)]
     pub const fn to_i32(self) -> i32
         ensures { IsNarrowed 16 (bits_of self) (2 ^ 16) result }
     {
@@ -91,7 +93,7 @@ impl Fixed {
 
     /// Rounds to the nearest [`F26Dot6`], half up, its raw bits wrapped to 22 bits.
     #[must_use]
-    #[inline]
+    #[inline(always)]
     pub const fn to_f26dot6(self) -> F26Dot6
         ensures { IsNarrowed 22 (bits_of self) (2 ^ 10) (f26dot6_bits result) }
     {
@@ -100,7 +102,7 @@ impl Fixed {
 
     /// Rounds to the nearest [`F2Dot14`], half up, wrapping on overflow.
     #[must_use]
-    #[inline]
+    #[inline(always)]
     pub const fn to_f2dot14(self) -> F2Dot14
         ensures { IsNarrowed 16 (bits_of self) 4 (f2dot14_bits result) }
     {
@@ -109,7 +111,7 @@ impl Fixed {
 
     /// Converts to [`F48Dot16`], exactly.
     #[must_use]
-    #[inline]
+    #[inline(always)]
     pub const fn to_f48dot16(self) -> F48Dot16
         ensures { f48dot16_bits result ≡ bits_of self }
     {
@@ -118,7 +120,7 @@ impl Fixed {
 
     /// Returns the exact product with an integer.
     #[must_use]
-    #[inline]
+    #[inline(always)]
     pub const fn mul_i32(self, number: i32) -> F48Dot16
         ensures { f48dot16_bits result ≡ (bits_of self *ℤ number) }
     {
@@ -171,7 +173,7 @@ impl Mul for Fixed {
     ghost mul_gives = { λ x y product.
         IsProduct 32 16 (bits_of x) (bits_of y) (bits_of product) };
 
-    #[inline]
+    #[inline(always)]
     fn mul(self, other: Fixed) -> Fixed {
         Self(product(self.0, other.0, 16))
     }
@@ -181,7 +183,7 @@ impl MulAssign for Fixed {
     ghost mul_assign_gives = { λ x y product.
         IsProduct 32 16 (bits_of x) (bits_of y) (bits_of product) };
 
-    #[inline]
+    #[inline(always)]
     fn mul_assign(&mut self, other: Fixed) {
         *self = *self * other;
     }
@@ -204,7 +206,7 @@ impl DivAssign for Fixed {
     ghost div_assign_gives = { λ x y quotient.
         IsQuotient 32 16 (bits_of x) (bits_of y) (bits_of quotient) };
 
-    #[inline]
+    #[inline(always)]
     fn div_assign(&mut self, other: Fixed) {
         *self = *self / other;
     }
@@ -246,12 +248,12 @@ impl Scalar for Fixed {
 
     ghost laws = { signed_newtype 4 (lit< tt) bits_of of_bits (λ _. refl) (λ _. refl) };
 
-    #[inline]
+    #[inline(always)]
     fn from_raw(raw: [u8; 4]) -> Fixed {
         Self(i32::from_raw(raw))
     }
 
-    #[inline]
+    #[inline(always)]
     fn to_raw(self) -> [u8; 4] {
         self.0.to_raw()
     }

@@ -22,6 +22,8 @@ use crate::{Fixed, low_bits};
 /// assert_eq!(number.to_string(), "1.5");
 /// assert_eq!("1.5".parse(), Ok(number));
 /// ```
+///
+/// The source and its contracts: `crates/font_fixed/src/fixed_i64/f48dot16.rt`.
 pub type F48Dot16 = FixedI64<16>;
 
 impl Format<64, 16> for F48Dot16 {
@@ -53,7 +55,7 @@ impl F48Dot16 {
 
     /// Converts an integer, wrapping on overflow.
     #[must_use]
-    #[inline]
+    #[inline(always)]
     pub const fn from_i64(number: i64) -> Self
         ensures { bits_of result ≡ wrap 64 (number *ℤ pos (2 ^ 16)) }
     {
@@ -62,7 +64,7 @@ impl F48Dot16 {
 
     /// Converts an integer, exactly.
     #[must_use]
-    #[inline]
+    #[inline(always)]
     pub const fn from_i32(number: i32) -> Self
         ensures { bits_of result ≡ (number *ℤ pos (2 ^ 16)) }
     {
@@ -71,7 +73,7 @@ impl F48Dot16 {
 
     /// Rounds to the nearest integer, half up, wrapped to 48 bits.
     #[must_use]
-    #[inline]
+    #[inline(always)]
     pub const fn to_i64(self) -> i64
         ensures { IsNarrowed 48 (bits_of self) (2 ^ 16) result }
     {
@@ -80,7 +82,7 @@ impl F48Dot16 {
 
     /// Rounds to the nearest integer, half up, wrapped to 32 bits.
     #[must_use]
-    #[inline]
+    #[inline(always)]
     pub const fn to_i32(self) -> i32
         ensures { IsNarrowed 32 (bits_of self) (2 ^ 16) result }
     {
@@ -89,7 +91,7 @@ impl F48Dot16 {
 
     /// Converts to [`Fixed`], wrapping on overflow.
     #[must_use]
-    #[inline]
+    #[inline(always)]
     pub const fn to_fixed(self) -> Fixed
         ensures { fixed_bits result ≡ wrap 32 (bits_of self) }
     {
