@@ -9,7 +9,7 @@
 //! | integers of 24 bits | [`Uint24`], [`Int24`] |
 //! | stored arrays | [`ScalarArray`], [`ScalarArrayIter`] |
 //! | stored fields | [`Scalar`], [`BigEndian`], [`FixedSize`], [`BeByteArray`], [`IdentityEq`] |
-//! | headers of tables | [`TableHeader`], [`TableDataRef`], [`SampleHeader`] |
+//! | headers of tables | [`TableHeader`], [`TableDataRef`] |
 //! | tags and dates | [`Tag`], [`LongDateTime`] |
 //! | versions | [`MajorMinor`], [`Version16Dot16`], [`Compatible`] |
 //! | ids | [`GlyphId`], [`GlyphId16`], [`GlyphId24`], [`NameId`], [`Predefined`] |
@@ -49,23 +49,25 @@
 #[cfg(target_pointer_width = "16")]
 compile_error!("the source is proved for a `usize` of 64 bits, and relies on one of 32 or more");
 
-mod font_arithmetic;
+#[path = "generated/font_base/mod.rs"]
 mod font_base;
+#[path = "generated/font_decimal/mod.rs"]
 mod font_decimal;
-mod font_f26;
+#[path = "generated/font_fixed/mod.rs"]
 mod font_fixed;
+#[path = "generated/font_fixed2/mod.rs"]
 mod font_fixed2;
+#[path = "generated/font_geom/mod.rs"]
 mod font_geom;
+#[path = "generated/font_ids/mod.rs"]
 mod font_ids;
+#[path = "generated/font_tags/mod.rs"]
 mod font_tags;
+#[path = "generated/font_types/mod.rs"]
 mod font_types;
 
 mod compared;
 mod traits;
-
-#[cfg(doc)]
-#[doc = include_str!("contracts.md")]
-pub mod contracts;
 
 // The code of that page is compiled and run.
 #[cfg(doctest)]

@@ -1,8 +1,10 @@
-//! Traits that Rust users expect and the proved source does not have, implemented by its calls; a
-//! constant that Rattle has as a function; and a faster `collect`.
+//! What Rust users expect and the proved source does not have, implemented by its calls: traits, a
+//! constant that Rattle has as a function, and an iterator that `collect` and its like know as
+//! they know a slice's.
 
+use crate::{Align, DecimalFault, InvalidTag, Pad, TryFromGlyphIdError, TryFromUint24Error};
 use crate::{Matrix, MatrixElement, Predefined, Scalar, ScalarArray, ScalarArrayIter};
-use crate::{Shortest, TableDataRef, TableHeader};
+use crate::{SampleHeader, Shortest, TableDataRef, TableHeader};
 use core::fmt::{Debug, Formatter, Result};
 use core::hash::{Hash, Hasher};
 use core::iter::FusedIterator;
@@ -53,7 +55,34 @@ impl ExactSizeIterator for Predefined {}
 
 impl FusedIterator for Predefined {}
 
-// ---- tables and errors
+// ---- arrays and tables
+
+impl<'a, T: Scalar> ScalarArray<'a, T> {
+    /// Returns an iterator over the elements that `collect`, `extend`, `rev` and `zip` treat as
+    /// they treat a slice's, because it is made of iterators of std. [`iter`](Self::iter) has a
+    /// name, is proved, and yields the same elements.
+    ///
+    /// ```
+    /// # use font_types_proved::ScalarArray;
+    /// let words = ScalarArray::<u16>::new(&[0, 1, 0, 4, 0, 9]).unwrap();
+    /// let doubled: Vec<u16> = words.values().rev().map(|word| 2 * word).collect();
+    /// assert_eq!(doubled, [18, 8, 2]);
+    /// ```
+    ///
+    /// # Panics
+    ///
+    /// The iterator panics if `T::read` returns `None` for `RAW_BYTE_LEN` bytes, against the laws
+    /// of its traits.
+    #[inline]
+    #[must_use]
+    pub fn values(
+        self,
+    ) -> impl ExactSizeIterator<Item = T> + DoubleEndedIterator + FusedIterator + Clone + 'a {
+        // An array of a scalar of no bytes is empty, and `chunks_exact` panics at 0.
+        let fields = self.as_bytes().chunks_exact(T::RAW_BYTE_LEN.max(1));
+        fields.map(|field| T::read(field).expect("an element of this length"))
+    }
+}
 
 impl<H: TableHeader> Debug for TableDataRef<'_, H> {
     fn fmt(&self, f: &mut Formatter<'_>) -> Result {
@@ -67,26 +96,119 @@ impl<T: Scalar + Debug> Debug for ScalarArray<'_, T> {
     }
 }
 
-impl<T: Scalar> ScalarArrayIter<'_, T> {
-    /// Collects the elements, as [`Iterator::collect`] does, which would be slower for a `Vec`,
-    /// because std relies only on the lengths of its own iterators.
-    ///
-    /// # Panics
-    ///
-    /// If `T::read` returns `None` for `RAW_BYTE_LEN` bytes, against the laws of its traits.
-    #[must_use]
-    pub fn collect<B: FromIterator<T>>(self) -> B {
-        let fields = self
-            .as_array()
-            .as_bytes()
-            .chunks_exact(T::RAW_BYTE_LEN.max(1));
-        let read = |bytes| T::read(bytes).expect("an element of this length");
-        fields.map(read).collect()
-    }
-}
-
 impl<T: Scalar + Debug> Debug for ScalarArrayIter<'_, T> {
     fn fmt(&self, f: &mut Formatter<'_>) -> Result {
         f.debug_list().entries(self.clone()).finish()
     }
 }
+
+impl Clone for SampleHeader {
+    fn clone(&self) -> Self {
+        *self
+    }
+}
+
+impl Copy for SampleHeader {}
+
+impl Debug for SampleHeader {
+    fn fmt(&self, f: &mut Formatter<'_>) -> Result {
+        let mut fields = f.debug_struct("SampleHeader");
+        fields.field("a", &self.a).field("b", &self.b).finish()
+    }
+}
+
+// ---- padding
+
+impl Debug for Align {
+    fn fmt(&self, f: &mut Formatter<'_>) -> Result {
+        f.write_str(match self {
+            Self::Left => "Left",
+            Self::Center => "Center",
+            Self::Right => "Right",
+        })
+    }
+}
+
+impl PartialEq for Align {
+    fn eq(&self, other: &Self) -> bool {
+        *self as u8 == *other as u8
+    }
+}
+
+impl Eq for Align {}
+
+impl Hash for Align {
+    fn hash<H: Hasher>(&self, state: &mut H) {
+        (*self as u8).hash(state);
+    }
+}
+
+impl Pad {
+    // Every field, for equality and hashes.
+    fn fields(&self) -> (usize, u8, Align, bool, bool) {
+        let Self {
+            width,
+            fill,
+            align,
+            plus,
+            zeros,
+        } = *self;
+        (width, fill, align, plus, zeros)
+    }
+}
+
+impl Debug for Pad {
+    fn fmt(&self, f: &mut Formatter<'_>) -> Result {
+        f.debug_struct("Pad")
+            .field("width", &self.width)
+            .field("fill", &self.fill)
+            .field("align", &self.align)
+            .field("plus", &self.plus)
+            .field("zeros", &self.zeros)
+            .finish()
+    }
+}
+
+impl PartialEq for Pad {
+    fn eq(&self, other: &Self) -> bool {
+        self.fields() == other.fields()
+    }
+}
+
+impl Eq for Pad {}
+
+impl Hash for Pad {
+    fn hash<H: Hasher>(&self, state: &mut H) {
+        self.fields().hash(state);
+    }
+}
+
+// ---- errors
+
+impl Copy for DecimalFault {}
+
+impl Copy for InvalidTag {}
+
+impl Clone for TryFromGlyphIdError {
+    fn clone(&self) -> Self {
+        *self
+    }
+}
+
+impl Copy for TryFromGlyphIdError {}
+
+impl PartialEq for TryFromGlyphIdError {
+    fn eq(&self, other: &Self) -> bool {
+        self.value() == other.value()
+    }
+}
+
+impl Eq for TryFromGlyphIdError {}
+
+impl Clone for TryFromUint24Error {
+    fn clone(&self) -> Self {
+        *self
+    }
+}
+
+impl Copy for TryFromUint24Error {}

@@ -1,11 +1,11 @@
 //! What the program uses in place of Rattle's std: what its source relies on, and what fails.
 #![allow(dead_code)]
 
-#[path = "../src/bin/fontval/rattle/mod.rs"]
-mod rattle;
+#[path = "../src/bin/fontval/host/mod.rs"]
+mod host;
 
-use rattle::alloc::{Global, String, Vec};
-use rattle::{hex, io, simd};
+use host::alloc::{Global, String, Vec};
+use host::{hex, io, simd};
 use std::alloc::{GlobalAlloc, Layout, System};
 
 // ---- hexadecimal digits

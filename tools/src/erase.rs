@@ -5,7 +5,7 @@
 //! - clauses: `requires` and `ensures` before a function's body;
 //! - ghost items: `ghost use ..;`, and `ghost NAME`, what it is, and its `,` or `;`;
 //! - `#[tactic(..)]`, `#[cfg(test)] mod tests;`, and the bound `+ Drop`;
-//! - `Drop` and `Error` in a `derive(..)`, and `#[error(..)]`;
+//! - `Drop` and `Error` at the end of a `derive(..)`, and `#[error(..)]`;
 //! - `use thiserror::Error;`, and `use std::alloc::AllocError;` in the library;
 //! - modules of facts or that need Rattle's libraries, and what is imported from them;
 //! - what only a proof uses: a `let _name` of a slice or of a fact;
@@ -13,27 +13,24 @@
 //!
 //! These are changed, and nothing else:
 //!
-//! - paths: crates become modules of one crate, and `std` becomes `core` or the module `rattle`;
+//! - paths: crates become modules of one crate, and `std` becomes `core` or the module `host`;
 //! - `fmt<W: fmt::Write>` over a `Formatter<W>`, which in Rust has no such parameter;
 //! - `clone(&self) -> Result<T, AllocError>` of a `Copy` type, which returns the value of its `Ok`;
 //! - a trait's parameter `Rhs`, which defaults to `Self`, as of Rust's operators;
 //! - a slice parameter of an `extern "C"` function, which becomes a pointer and a length;
-//! - the program's `fn main`, which becomes `pub`, and `Tag::new_checked`, which becomes `const`;
-//! - an `impl` that begins with `nth` or `nth_back`, which are final in Rattle's traits: its function
-//!   becomes one of the trait's `impl` before it.
+//! - `prove!(..)`, which becomes `const { assert!(..) }`: rustc checks it of each type;
+//! - the program's `fn main`, which becomes `pub`;
+//! - in documentation the package's name.
 //!
-//! These are added: derives that Rust's users expect, imports of what Rattle has in scope, `Display`
-//! and `Error` of a type that derives `Error`, a `const` assertion where a field or a view of scalars
-//! is made, and in documentation the contract of a public function and the package's name.
+//! `Display` and `Error` of a type that derives `Error` are added, and in each file of the program
+//! the import of what Rattle has in scope.
 //!
-//! Anything else that Rust does not have is an [`Error`].
+//! Anything else that Rust does not have is an [`Error`], or one of rustc.
 
-mod contracts;
 mod errors;
 mod tokens;
 mod tree;
 
-use contracts::Words;
 use std::ops::Range;
 use tokens::{Kind, Token, tokens};
 
@@ -59,31 +56,8 @@ pub struct Crate<'a> {
     pub left_out: &'a [&'a str],
 }
 
-/// Attributes that stay. Of `unsafe` that is `unsafe(no_mangle)`.
-const KEPT: &str = "allow cold deprecated doc inline must_use non_exhaustive repr unsafe";
-
-/// What Rattle has in scope in every file, and the program imports.
-const PRELUDE: [&str; 4] = ["HostRuntime", "String", "Vec", "hex"];
-
 /// Modules of `std` that Rattle has in another form than Rust. The program has its own.
 const RATTLE_STD: [&str; 3] = ["alloc", "io", "simd"];
-
-/// The function that is `const` in Rust alone: it calls functions of std that are not in Rattle.
-const CONSTANT: &str = "new_checked";
-
-/// What an iterator has of its own in Rattle, and as a part of `Iterator` in Rust.
-const OF_ITERATORS: [&str; 2] = ["nth", "nth_back"];
-
-/// What types derive in Rust beside what they derive in Rattle.
-const DERIVED: [(&str, &str); 7] = [
-    ("Align", "Debug, PartialEq, Eq, Hash"),
-    ("Pad", "Debug, PartialEq, Eq, Hash"),
-    ("SampleHeader", "Clone, Copy, Debug"),
-    ("DecimalFault", "Copy"),
-    ("InvalidTag", "Copy"),
-    ("TryFromGlyphIdError", "Clone, Copy, PartialEq, Eq"),
-    ("TryFromUint24Error", "Clone, Copy"),
-];
 
 /// The Rust of a file, and the modules that it declares.
 pub struct Erased<'a> {
@@ -100,18 +74,19 @@ pub fn erase<'a>(source: &'a str, of: &'a Crate, is_root: bool) -> Result<Erased
     let mut eraser = Eraser {
         kept: vec![true; tokens.len()],
         put: vec![String::new(); tokens.len() + 1],
-        defined: Words::imported(&words),
         words,
         tokens,
         places,
         of,
         is_root,
-        attributes_end: usize::MAX,
-        error_end: 0,
-        impl_start: None,
         modules: Vec::new(),
     };
-    let mut at = eraser.head()?;
+    if of.target == Target::Program {
+        let is_first = |token: &Token| !matches!(token.kind, Kind::Space | Kind::Head);
+        let first = eraser.tokens.iter().position(is_first).unwrap_or(0);
+        eraser.put[first].push_str("use crate::host::*;\n\n");
+    }
+    let mut at = 0;
     while at < eraser.words.len() {
         at = eraser.step(at)?;
     }
@@ -132,33 +107,10 @@ struct Eraser<'a> {
     put: Vec<String>,
     of: &'a Crate<'a>,
     is_root: bool,
-    defined: Words<'a>,
-    // The end of the last attributes of which one stays.
-    attributes_end: usize,
-    // The end of the last type that derives `Error`.
-    error_end: usize,
-    impl_start: Option<usize>,
     modules: Vec<&'a str>,
 }
 
 impl<'a> Eraser<'a> {
-    // The attributes of the file itself, and then the imports of the program.
-    fn head(&mut self) -> Result<usize, Error> {
-        let mut at = 0;
-        while self.words[at..].starts_with(&["#", "!"]) {
-            at = self.attribute(at, at + 2)?;
-        }
-        let is_used = |name: &&&str| self.words.contains(name);
-        let names: Vec<&str> = PRELUDE.iter().filter(is_used).copied().collect();
-        if self.of.target == Target::Program && !names.is_empty() {
-            let import = format!("use crate::rattle::{{{}}};\n", names.join(", "));
-            let is_import = |n: &usize| self.words[*n] == "use" && self.words[n - 1] != "ghost";
-            let first = (at + 1..self.words.len()).find(is_import).unwrap_or(at);
-            self.put(first, import);
-        }
-        Ok(at)
-    }
-
     // Decides on the words at this place, and returns the place of the next.
     fn step(&mut self, at: usize) -> Result<usize, Error> {
         match self.words[at..] {
@@ -170,23 +122,24 @@ impl<'a> Eraser<'a> {
             ["#", ..] => self.attribute(at, at + 1),
             ["pub" | "ghost" | "mod" | "use", ..] => self.item(at),
             ["fn", name, ..] if name != "(" => self.function(at),
-            ["impl", ..] => {
-                if matches!(self.words[..at], [] | [.., "}" | ";" | "]"]) {
-                    self.impl_start = Some(at);
-                }
-                Ok(at + 1)
-            }
             ["let", name, ..] if name.starts_with('_') && name.len() > 1 => self.unused(at),
-            ["Formatter", "<", "W", ">", ..] => Ok(self.replace(at + 2, "'_")),
+            ["Formatter", "<", "W", ">", ..] => {
+                self.replace(at + 2, "'_");
+                Ok(at + 3)
+            }
             ["trait", ..] => {
-                self.impl_start = None;
                 if let ["<", "Rhs", ">", ..] = self.words[at + 2..] {
                     self.put(at + 4, " = Self");
                 }
                 Ok(at + 1)
             }
             ["+", "Drop", ..] => Ok(self.leave_out(at..at + 2)),
-            ["prove", "!", ..] => self.error(at, "`prove!`"),
+            ["prove", "!", "(", ..] => {
+                let end = self.group_end(at + 2)?;
+                self.put[self.places[end - 1] + 1].push_str(" }");
+                self.replace(at, "const { assert");
+                Ok(at + 1)
+            }
             [name, "::", next, ..] => {
                 if at == 0 || !matches!(self.words[at - 1], "::" | ".") {
                     self.path(at, name, next);
@@ -201,21 +154,11 @@ impl<'a> Eraser<'a> {
     fn path(&mut self, at: usize, name: &str, next: &str) {
         let is_program = self.of.target == Target::Program;
         match name {
-            "crate" => {
-                self.put(at + 2, format!("{}::", self.of.name));
-            }
-            "std" if is_program && RATTLE_STD.contains(&next) => {
-                self.replace(at, "crate::rattle");
-            }
-            "std" if !is_program => {
-                self.replace(at, "core");
-            }
-            "font_types" if is_program => {
-                self.replace(at, "font_types_proved");
-            }
-            _ if LIBRARY.iter().any(|(library, _)| *library == name) => {
-                self.put(at, "crate::");
-            }
+            "crate" => self.put(at + 2, format!("{}::", self.of.name)),
+            "std" if is_program && RATTLE_STD.contains(&next) => self.replace(at, "crate::host"),
+            "std" if !is_program => self.replace(at, "core"),
+            "font_types" if is_program => self.replace(at, "font_types_proved"),
+            _ if LIBRARY.iter().any(|(library, _)| *library == name) => self.put(at, "crate::"),
             _ => {}
         }
     }
@@ -229,13 +172,7 @@ impl<'a> Eraser<'a> {
         };
         let end = match self.words[item..] {
             ["ghost", "use", ..] => self.item_end(item)?,
-            ["ghost", name, ..] => {
-                let end = self.ghost_end(item)?;
-                if contracts::is_of_trait(name) {
-                    self.show_contract_of_impl(item, end);
-                }
-                end
-            }
+            ["ghost", ..] => self.ghost_end(item)?,
             ["mod" | "use", ..] if self.is_left_out(item) => self.item_end(item)?,
             ["mod", name, ";", ..] if item == at => {
                 self.modules.push(name);
@@ -243,7 +180,7 @@ impl<'a> Eraser<'a> {
             }
             _ => return Ok(at + 1),
         };
-        self.leave_out_item(at..end)
+        Ok(self.leave_out_with_comments(at..end))
     }
 
     // A module of the root that is left out, what is imported from one, and names that Rust does
@@ -263,83 +200,51 @@ impl<'a> Eraser<'a> {
     // An attribute, whose bracket opens at the second place.
     fn attribute(&mut self, at: usize, open: usize) -> Result<usize, Error> {
         let end = self.group_end(open)?;
-        let name = self.words[open + 1];
-        let is_kept = KEPT.split(' ').any(|kept| kept == name);
-        if open == at + 1 && (is_kept || name != "cfg" && self.attributes_end == at) {
-            self.attributes_end = end;
-        }
-        match self.words[open + 1..end] {
-            ["tactic", ..] => Ok(self.leave_out(at..end)),
-            ["error", ..] if at < self.error_end => Ok(self.leave_out(at..end)),
-            ["error", ..] => self.error(at, "the text of an error that is not derived"),
-            ["derive", "(", ..] => self.derive(at, end),
+        let is_kept = match self.words[open + 1..end] {
+            ["tactic" | "error", ..] => false,
             ["cfg", "(", "test", ")", "]"] => match self.words[end..] {
-                ["mod", "tests", ";", ..] => self.leave_out_item(at..end + 3),
-                _ => self.error(at, "tests elsewhere than in `mod tests;`"),
+                ["mod", "tests", ";", ..] => return Ok(self.leave_out_with_comments(at..end + 3)),
+                _ => return self.error(at, "tests elsewhere than in `mod tests;`"),
             },
-            _ if is_kept => Ok(end),
-            _ => self.error(at, "an unknown attribute"),
-        }
-    }
-
-    // `#[derive(..)]` without `Drop` and `Error`.
-    fn derive(&mut self, at: usize, end: usize) -> Result<usize, Error> {
-        let names = self.words[at + 4..end - 2].split(|word| *word == ",");
-        let names: Vec<String> = names.map(|name| name.concat()).collect();
-        let is_kept = |name: &&String| !matches!(name.as_str(), "Drop" | "Error" | "");
-        let mut kept: Vec<&str> = names.iter().filter(is_kept).map(|name| &**name).collect();
-        let is_kind = |word: &&str| matches!(*word, "struct" | "enum");
-        let kind = self.words[end..].iter().position(is_kind);
-        let name = kind.and_then(|kind| self.words.get(end + kind + 1));
-        let more = DERIVED.iter().find(|more| Some(&more.0) == name);
-        kept.extend(more.map(|more| more.1));
-        if names.iter().any(|name| name == "Error") {
-            self.derive_error(end)?;
-        }
-        if kept.is_empty() {
+            ["derive", "(", ..] => self.derive(open + 3, end)?,
+            _ => true,
+        };
+        if !is_kept {
             self.leave_out(at..end);
-        } else if kept.len() < names.len() || more.is_some() {
-            self.put(at + 4, kept.join(", "));
-            self.leave_out(at + 4..end - 2);
         }
         Ok(end)
     }
 
-    // Writes `Error` and `Display` of the type at this place after it.
-    fn derive_error(&mut self, at: usize) -> Result<(), Error> {
-        let mut end = at;
-        while !matches!(self.words.get(end), Some(&("{" | ";"))) {
-            end = self.group_end(end)?;
+    // Leaves `Drop` and `Error` out of a `derive`, where they are last, and returns whether others
+    // are left. `Error` and `Display` are written after the type.
+    fn derive(&mut self, first: usize, end: usize) -> Result<bool, Error> {
+        let names = &self.words[first..end - 2];
+        let is_out = |word: &&&str| matches!(**word, "Drop" | "Error" | ",");
+        let kept = names.len() - names.iter().rev().take_while(is_out).count();
+        if kept == names.len() {
+            return Ok(true);
         }
-        self.error_end = self.group_end(end)?;
-        match errors::impls(&self.words[at..self.error_end]) {
-            Ok(impls) => self.put[self.places[self.error_end - 1] + 1].push_str(&impls),
-            Err(what) => return self.error(at, what),
+        if names.ends_with(&["Error"]) {
+            let mut body = end;
+            while !matches!(self.words.get(body), Some(&("{" | ";"))) {
+                body = self.group_end(body)?;
+            }
+            let after = self.group_end(body)?;
+            let impls = errors::impls(&self.words[end..after]);
+            self.put[self.places[after - 1] + 1].push_str(&impls);
         }
-        Ok(())
+        self.leave_out(first + kept..end - 2);
+        Ok(kept > 0)
     }
 
     // `fn` and a name.
     fn function(&mut self, at: usize) -> Result<usize, Error> {
-        let name = self.words[at + 1];
-        match self.words[..at] {
-            [.., "extern", "\"C\""] => return self.export(at),
-            [] | [.., "{" | "}" | ";" | "]" | ")" | "pub" | "const"] => {}
-            _ => return self.error(at, "a function of another form"),
+        if let [.., "extern", "\"C\""] = self.words[..at] {
+            return self.export(at);
         }
-        if self.of.target == Target::Library {
-            self.show_contract(at)?;
-        }
-        if self.is_root && self.of.target == Target::Program && name == "main" {
+        if self.is_root && self.of.target == Target::Program && self.words[at + 1] == "main" {
             self.put(at, "pub ");
         }
-        if name == CONSTANT {
-            self.put(at, "const ");
-        }
-        if OF_ITERATORS.contains(&name) {
-            self.join(at)?;
-        }
-        self.assert_length(at)?;
         match self.words[at + 1..] {
             [_, "<", "W", ":", "fmt", "::", "Write", ">", ..] => Ok(self.leave_out(at + 2..at + 9)),
             ["clone", "(", "&", "self", ")", "-", ">", "Result", "<", ..] => self.clone_of_copy(at),
@@ -347,42 +252,11 @@ impl<'a> Eraser<'a> {
         }
     }
 
-    // Joins the `impl` that begins with this public function to the one before.
-    fn join(&mut self, at: usize) -> Result<(), Error> {
-        let is_open = |word: &&str| *word == "{";
-        let start = self.impl_start.filter(|start| *start > 0);
-        let open = start.and_then(|start| self.words[start..at].iter().position(is_open));
-        let (Some(start), Some(open)) = (start, open) else {
-            return self.error(at, "a method of an iterator with no `impl` before");
-        };
-        self.put(start - 1, "\n");
-        self.leave_out(start - 1..start + open + 1);
-        self.leave_out(at - 1..at);
-        Ok(())
-    }
-
-    // A constructor of a field or of a view asserts what Rattle proves of each `impl Scalar`.
-    fn assert_length(&mut self, at: usize) -> Result<(), Error> {
-        let (_, body) = self.clauses(at + 2)?;
-        let is_made = |word: &&str| matches!(*word, "BigEndian" | "ScalarArray");
-        let header = &self.words[at..body.unwrap_or(at)];
-        let is_constructor = matches!(self.words[at + 1], "new" | "from_slice");
-        if let Some(body) = body
-            && is_constructor
-            && header.iter().any(is_made)
-        {
-            self.put[self.places[body] + 1].push_str(
-                "\nconst { assert!(T::RAW_BYTE_LEN == <T::Raw as crate::font_base::BeByteArray>::LEN) };",
-            );
-        }
-        Ok(())
-    }
-
     // `extern "C" fn f(x: &[T]) { .. }` becomes `extern "C" fn f(x: *const T, x_len: usize) { let x
     // = unsafe { slice(x, x_len) }; .. }`, and is unsafe.
     fn export(&mut self, at: usize) -> Result<usize, Error> {
         let end = self.group_end(at + 2)?;
-        let (_, Some(body)) = self.clauses(end)? else {
+        let Some(body) = self.body(end)? else {
             return self.error(at, "an export with no body");
         };
         let mut slices = String::new();
@@ -434,54 +308,6 @@ impl<'a> Eraser<'a> {
             return self.error(at, "a `let _name` of something else than a slice or a fact");
         }
         Ok(self.leave_out_with_comments(at..end))
-    }
-
-    // ---- contracts in documentation
-
-    // Adds the clauses of the function at this place to its documentation.
-    fn show_contract(&mut self, at: usize) -> Result<(), Error> {
-        let (clauses, _) = self.clauses(at + 2)?;
-        let mut token = self.places[at];
-        while token > 0 && !matches!(self.tokens[token - 1].text, "{" | "}" | ";") {
-            token -= 1;
-            if self.tokens[token].kind == Kind::Doc {
-                let texts: Vec<String> = clauses.iter().map(|clause| self.text(clause)).collect();
-                let shown = self.defined.details(&texts, self.indentation(token));
-                self.put[token + 1].push_str(&shown);
-                break;
-            }
-        }
-        Ok(())
-    }
-
-    // Adds a ghost item to the documentation of the `impl` that it is in.
-    fn show_contract_of_impl(&mut self, item: usize, end: usize) {
-        let is_library = self.of.target == Target::Library;
-        let Some(start) = self.impl_start.filter(|_| is_library) else {
-            return;
-        };
-        let text = self.text(&(item..end - 1)).replace("ghost ", "");
-        let shown = self.defined.details(&[text], "");
-        let place = self.places[start];
-        let is_documented = place > 1 && self.tokens[place - 2].kind == Kind::Doc;
-        let shown = shown.strip_prefix("\n///").unwrap_or(&shown);
-        let shown = shown.strip_prefix('\n').unwrap_or(shown);
-        let blank = if is_documented { "///\n" } else { "" };
-        self.put[place].push_str(&format!("{blank}{shown}\n"));
-    }
-
-    // The text of words, its lines indented as the first.
-    fn text(&self, words: &Range<usize>) -> String {
-        let (first, last) = (self.places[words.start], self.places[words.end - 1]);
-        let pieces = self.tokens[first..=last].iter().map(|token| token.text);
-        let text: String = pieces.collect();
-        text.replace(&format!("\n{}", self.indentation(first)), "\n")
-    }
-
-    // The spaces before a token that begins a line.
-    fn indentation(&self, token: usize) -> &'a str {
-        let before = token.checked_sub(1).map_or("", |at| self.tokens[at].text);
-        before.rsplit('\n').next().unwrap_or("")
     }
 
     // ---- where it ends
@@ -546,18 +372,14 @@ impl<'a> Eraser<'a> {
         Ok(end + usize::from(matches!(self.words[end..], ["," | ";", ..])))
     }
 
-    // The clauses of the function whose header is here, and the place of its body if it has one.
-    fn clauses(&self, at: usize) -> Result<(Vec<Range<usize>>, Option<usize>), Error> {
-        let (mut at, mut clauses) = (at, Vec::new());
+    // The place of the body of the function whose header is here, if it has one.
+    fn body(&self, at: usize) -> Result<Option<usize>, Error> {
+        let mut at = at;
         loop {
             at = match self.words[at..] {
-                ["{", ..] => return Ok((clauses, Some(at))),
-                [";", ..] => return Ok((clauses, None)),
-                ["requires" | "ensures", ..] => {
-                    let end = self.clause_end(at)?;
-                    clauses.push(at..end);
-                    end
-                }
+                ["{", ..] => return Ok(Some(at)),
+                [";", ..] => return Ok(None),
+                ["requires" | "ensures", ..] => self.clause_end(at)?,
                 ["ghost", ..] => self.ghost_end(at)?,
                 _ => self.group_end(at)?,
             };
@@ -594,14 +416,6 @@ impl<'a> Eraser<'a> {
         words.end
     }
 
-    // The same of an item, which has no attribute that would go to the next.
-    fn leave_out_item(&mut self, words: Range<usize>) -> Result<usize, Error> {
-        if self.attributes_end == words.start {
-            return self.error(words.start, "an attribute of what is left out");
-        }
-        Ok(self.leave_out_with_comments(words))
-    }
-
     // The same with the comments and the documentation above, each on lines of its own.
     fn leave_out_with_comments(&mut self, words: Range<usize>) -> usize {
         let breaks = |token: &Token| token.text.matches('\n').count();
@@ -618,27 +432,22 @@ impl<'a> Eraser<'a> {
         self.leave_out(words)
     }
 
-    // Writes a text before a word, and returns the place of that.
-    fn put(&mut self, at: usize, text: impl AsRef<str>) -> usize {
+    // Writes a text before a word.
+    fn put(&mut self, at: usize, text: impl AsRef<str>) {
         self.put[self.places[at]].push_str(text.as_ref());
-        at
     }
 
-    // Writes a text in place of a word, and returns the place after it.
-    fn replace(&mut self, at: usize, text: &str) -> usize {
+    // Writes a text in place of a word.
+    fn replace(&mut self, at: usize, text: &str) {
         self.put(at, text);
-        self.leave_out(at..at + 1)
+        self.leave_out(at..at + 1);
     }
 
-    // The line of a word, or the last.
-    fn line(&self, at: usize) -> usize {
-        let token = self.places.get(at).map(|at| self.tokens[*at]);
-        let token = token.or(self.tokens.last().copied());
-        token.map_or(1, |token| token.line)
-    }
-
+    // An error at a word, or at the end of the file.
     fn error<T>(&self, at: usize, what: impl Into<String>) -> Result<T, Error> {
-        let (line, what) = (self.line(at), what.into());
+        let place = self.places.get(at).copied();
+        let token = &self.tokens[place.unwrap_or(self.tokens.len() - 1)];
+        let (line, what) = (token.line, what.into());
         Err(Error { line, what })
     }
 }

@@ -1,26 +1,17 @@
 //! A second reader, which shares nothing with the eraser: the tokens of each generated file are
 //! those of its source in order, less what is left out, except for the changes listed here. It does
-//! not read comments, imports, derives, and a comma at the end of a list.
+//! not read comments, imports, and a comma at the end of a list.
 
 use font_types_tools::{erase::LIBRARY, repository};
 
 /// What is changed: in Rust, and in the source. `CRATE` is any crate of the library.
-const CHANGES: [(&str, &str); 9] = [
+const CHANGES: [(&str, &str); 6] = [
     ("crate::CRATE::", "CRATE::"),
     ("core::", "std::"),
     ("Formatter<'_>", "Formatter<W>"),
     ("<Rhs = Self>", "<Rhs>"),
-    ("pub const fn new_checked", "pub fn new_checked"),
     ("pub fn main", "fn main"),
     ("pub unsafe extern", "pub extern"),
-    (
-        "} fn nth(",
-        "}} impl<'a, T: Scalar> ScalarArrayIter<'a, T> { pub fn nth(",
-    ),
-    (
-        "} fn nth_back(",
-        "}} impl<'a, T: Scalar> ScalarArrayIter<'a, T> { pub fn nth_back(",
-    ),
 ];
 
 /// What is left out beside clauses, ghost items, attributes of proofs, and the results of `clone`.
@@ -80,7 +71,14 @@ fn kept<'a>(mut t: &[&'a str]) -> Vec<&'a str> {
                 len + usize::from(matches!(t[len], "," | ";"))
             }
             ["#", "!", "[", "tactic", ..] => 2 + group(&t[2..]),
-            ["#", "[", "tactic" | "error" | "derive", ..] => 1 + group(&t[1..]),
+            ["#", "[", "tactic" | "error", ..] => 1 + group(&t[1..]),
+            // The traits that Rust can derive.
+            ["#", "[", "derive", ..] => {
+                let len = 1 + group(&t[1..]);
+                let is_of_rust = |word: &&str| !matches!(*word, "Drop" | "Error" | ",");
+                kept.extend(t[4..len - 2].iter().copied().filter(is_of_rust));
+                len
+            }
             // The result of `clone`.
             ["Result", "<", ..] if function == "clone" => 2,
             [",", "AllocError", ">", "{", "Ok", "(", ..] if function == "clone" => {
@@ -90,8 +88,11 @@ fn kept<'a>(mut t: &[&'a str]) -> Vec<&'a str> {
             }
             // The impls of an error.
             ["impl", "core", _, _, "error", ..] => body(t) + body(&t[body(t)..]),
-            // An assertion on a scalar's length.
-            ["const", "{", "assert", ..] => through(t, ";"),
+            ["const", "{", "assert", ..] => {
+                kept.push("prove");
+                kept.extend(&t[3..4 + group(&t[4..])]);
+                5 + group(&t[4..])
+            }
             // A slice that an export takes.
             [name, ":", "*", kind, item, ",", len, ":", "usize", ..] => {
                 assert_eq!(*len, format!("{name}_len"));

@@ -6,25 +6,21 @@
 
 use core::slice::{from_raw_parts, from_raw_parts_mut};
 
-#[path = "../../../src/font_arithmetic/mod.rs"]
-mod font_arithmetic;
-#[path = "../../../src/font_base/mod.rs"]
+#[path = "../../../src/generated/font_base/mod.rs"]
 mod font_base;
-#[path = "../../../src/font_decimal/mod.rs"]
+#[path = "../../../src/generated/font_decimal/mod.rs"]
 mod font_decimal;
-#[path = "../../../src/font_f26/mod.rs"]
-mod font_f26;
-#[path = "../../../src/font_fixed/mod.rs"]
+#[path = "../../../src/generated/font_fixed/mod.rs"]
 mod font_fixed;
-#[path = "../../../src/font_fixed2/mod.rs"]
+#[path = "../../../src/generated/font_fixed2/mod.rs"]
 mod font_fixed2;
-#[path = "../../../src/font_geom/mod.rs"]
+#[path = "../../../src/generated/font_geom/mod.rs"]
 mod font_geom;
-#[path = "../../../src/font_ids/mod.rs"]
+#[path = "../../../src/generated/font_ids/mod.rs"]
 mod font_ids;
-#[path = "../../../src/font_tags/mod.rs"]
+#[path = "../../../src/generated/font_tags/mod.rs"]
 mod font_tags;
-#[path = "../../../src/font_types/mod.rs"]
+#[path = "../../../src/generated/font_types/mod.rs"]
 mod font_types;
 
 pub mod font_c;

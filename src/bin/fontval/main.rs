@@ -1,19 +1,20 @@
-//! The program `fontval`: the proved source of `crates/fontval`, over the module `rattle`, which
-//! has what Rattle's std has in another form than Rust's.
+//! The program `fontval`: the proved source of `crates/fontval`, over the module `host`, which has
+//! what Rattle's std has in another form than Rust's.
 
-mod rattle;
+mod host;
 
 /// Writes to standard error, and returns an error if that fails.
 macro_rules! eprint {
     ($rt:expr; $($text:tt)*) => {
-        $crate::rattle::io::complain(&$rt, format_args!($($text)*))
+        $crate::host::io::complain(&$rt, format_args!($($text)*))
     };
 }
 
-// `has_failed` is there for contracts.
-#[allow(dead_code)]
+// `has_failed` is there for contracts, and not every file needs what Rattle has in scope.
+#[allow(dead_code, unused_imports)]
+#[path = "generated/mod.rs"]
 mod fontval;
 
 fn main() -> std::process::ExitCode {
-    fontval::main(rattle::HostRuntime)
+    fontval::main(host::HostRuntime)
 }

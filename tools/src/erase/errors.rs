@@ -1,57 +1,36 @@
 //! `Error` and `Display` of a type, from the texts in its `#[error(..)]`.
 
-/// What `derive(Error)` makes of a type, or what is unknown about it. The words are those after the
-/// `derive`, to the end of the type.
-pub fn impls(words: &[&str]) -> Result<String, &'static str> {
+/// What `derive(Error)` makes of a type. The words are those after the `derive`, to the end of the
+/// type. A text of another form than a text that shows fields is an error of rustc.
+pub fn impls(words: &[&str]) -> String {
     let is_kind = |word: &&str| matches!(*word, "struct" | "enum");
-    let kind = words.iter().position(is_kind);
-    let kind = kind.ok_or("an error that is no type")?;
+    let kind = words.iter().position(is_kind).expect("a type");
     let name = words[kind + 1];
-    if words[kind + 2..].first() == Some(&"<") {
-        return Err("an error with parameters");
-    }
     let mut arms = String::new();
     for at in 0..words.len() {
-        let (text, after) = match words[at..] {
-            ["#", "[", "error", "(", text, ")", "]", ref after @ ..] => (text, after),
-            ["#", "[", "error", ..] => return Err("an error's text of another form"),
-            _ => continue,
+        let ["#", "[", "error", "(", text, ")", "]", ref after @ ..] = words[at..] else {
+            continue;
         };
-        let (variant, shape) = match (words[kind], after) {
-            ("enum", [name, shape, ..]) if at > kind => (format!("Self::{name}"), *shape),
-            ("struct", _) if at < kind => ("Self".into(), words[kind + 2]),
-            _ => return Err("an error's text in another place"),
+        let (variant, shape) = match at > kind {
+            true => (format!("Self::{}", after[0]), after[1]),
+            false => ("Self".into(), words[kind + 2]),
         };
-        let pattern = match (shape, &shown(text)?[..]) {
-            (_, []) if shape != "{" && shape != "(" => String::new(),
-            ("{", names) => format!(" {{ {}, .. }}", names.join(", ")).replace("{ ,", "{"),
-            ("(", []) => "(..)".into(),
-            ("(", ["0"]) => "(field_0, ..)".into(),
-            _ => return Err("an error's text that shows another field"),
-        };
+        // A field without a name is shown by its number.
         let text = text.replace("{0", "{field_0");
+        let pieces = text.split('{').skip(1);
+        let shown = pieces.filter_map(|piece| piece.split([':', '}']).next());
+        let shown: String = shown.map(|field| format!("{field}, ")).collect();
+        let pattern = match shape {
+            "{" => format!(" {{ {shown}.. }}"),
+            "(" => format!("({shown}..)"),
+            _ => String::new(),
+        };
         arms += &format!("{variant}{pattern} => write!(f, {text}),\n");
     }
-    if arms.is_empty() {
-        return Err("an error with no text");
-    }
-    Ok(format!(
+    format!(
         "\n\nimpl core::error::Error for {name} {{}}\n\n\
          impl core::fmt::Display for {name} {{\n\
          fn fmt(&self, f: &mut core::fmt::Formatter<'_>) -> core::fmt::Result {{\n\
          match self {{ {arms} }}\n}}\n}}\n"
-    ))
-}
-
-// The fields that a text shows, each once and in order.
-fn shown(text: &str) -> Result<Vec<&str>, &'static str> {
-    let pieces = text.split('{').skip(1);
-    let names = pieces.map(|piece| piece.split([':', '}']).next().unwrap_or_default());
-    let mut names: Vec<&str> = names.collect();
-    names.sort();
-    names.dedup();
-    match names.iter().any(|name| name.is_empty()) {
-        true => Err("an error's text that shows something else than a field"),
-        false => Ok(names),
-    }
+    )
 }

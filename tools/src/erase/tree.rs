@@ -21,17 +21,12 @@ pub const LIBRARY: [(&str, &[&str]); 8] = [
 /// The crates above the library.
 const ABOVE: [(&str, Target); 2] = [("fontval", Target::Program), ("font_c", Target::Exports)];
 
-/// The modules of documentation with the definitions that contracts name.
-const CONTRACTS: &str = "src/contracts.rs";
-
-impl Target {
-    // The folder with a folder for each of its crates.
-    fn folder(self) -> &'static str {
-        match self {
-            Self::Library => "src",
-            Self::Program => "src/bin/fontval",
-            Self::Exports => "rust/c/src",
-        }
+// The folder of the files of a crate.
+fn folder(name: &str, target: Target) -> String {
+    match target {
+        Target::Library => format!("src/generated/{name}"),
+        Target::Program => "src/bin/fontval/generated".into(),
+        Target::Exports => format!("rust/c/src/{name}"),
     }
 }
 
@@ -47,16 +42,15 @@ pub fn tree() -> Result<BTreeMap<String, String>, String> {
         };
         let root = ["lib", "main"][usize::from(target == Target::Program)];
         let from = format!("crates/{name}/src");
-        let to = format!("{}/{name}", target.folder());
+        let to = folder(name, target);
         add_file(&mut files, &of, [&from, root], [&to, "mod"])?;
     }
-    files.insert(CONTRACTS.into(), laid_out(&contracts())?);
     Ok(files)
 }
 
 /// The paths from the root of the files that are in the folders of generated files.
 pub fn there() -> Vec<String> {
-    let folders = crates().map(|(name, target)| format!("{}/{name}", target.folder()));
+    let folders = crates().map(|(name, target)| folder(name, target));
     let files = folders.flat_map(|folder| repository::files(&folder, ""));
     files.collect()
 }
@@ -108,27 +102,4 @@ fn laid_out(text: &str) -> Result<String, String> {
         return Err("rustfmt does not read what is left".into());
     }
     String::from_utf8(output.stdout).map_err(|error| error.to_string())
-}
-
-// Modules of documentation, one for each file of definitions of the library.
-fn contracts() -> String {
-    let mut text = "// @generated from crates/*/specs by tools/src/bin/erase.rs\n".to_string();
-    for (name, left_out) in LIBRARY {
-        text += &format!("\n/// The definitions of `crates/{name}/specs`.\npub mod {name} {{\n");
-        for path in repository::files(&format!("crates/{name}/specs"), ".antt") {
-            let (_, file) = path.split_once("/specs/").expect("it is in that folder");
-            let module = file.trim_end_matches(".antt").replace('/', "_");
-            let first = file.split(['/', '.']).next().unwrap_or_default();
-            let first = first.to_lowercase();
-            if file == "Lib.antt" || left_out.contains(&&*first) {
-                continue;
-            }
-            text += &format!(
-                "/// `{path}`\n///\n/// ```text\n#[doc = include_str!(\"../{path}\")]\n\
-                 /// ```\npub mod {module} {{}}\n\n"
-            );
-        }
-        text += "}\n";
-    }
-    text
 }

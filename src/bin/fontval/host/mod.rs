@@ -1,4 +1,5 @@
-//! What the program uses of Rattle's std.
+//! What the program uses of Rattle's std. Each of its files imports everything here, which Rattle
+//! has in scope.
 
 pub mod alloc;
 pub mod hex;
