@@ -26,7 +26,7 @@ macro_rules! of_each_type {
         #[test]
         fn floats() {
             const STEP: [f64; 5] = [-0.5, -0.25, 0.0, 0.25, 0.5];
-            $(for raw in raws($bits::BITS).filter(|raw| raw.abs() < 1 << 50) {
+            $(for raw in raws($bits::BITS).filter(|raw| raw.unsigned_abs() < 1 << 50) {
                 let x = here::$Type::from_bits(raw as $bits);
                 let one = f64::from(1 << $f);
                 // `from_f64(v)`, `from_f32(v)`.

@@ -1,0 +1,60 @@
+//! Matrices, points and boxes of `Fixed`.
+
+use compare::{Random, assert_same};
+use font_types_proved::{Fixed, Matrix, Point, laws};
+use std::array::from_fn;
+
+#[test]
+fn matrices() {
+    let mut random = Random::new(1);
+    for _ in 0..1_000_000 {
+        let bits = [0; 14].map(|_| random.i32());
+        assert_same!(bits, |k| {
+            let x = bits.map(k::Fixed::from_bits);
+            let [a, b] = [0, 6].map(|at| k::Matrix::from_elements(from_fn(|n| x[at + n])));
+            let p = k::Point::new(x[12], x[13]);
+            let images = [a * p, (a * b) * p, a * (b * p)];
+            let images = images.map(|p| [p.x, p.y].map(k::Fixed::to_bits));
+            ((a * b).elements().map(k::Fixed::to_bits), images)
+        });
+        let x = bits.map(Fixed::from_bits);
+        let [a, b] = [0, 6].map(|at| Matrix::from_elements(from_fn(|n| x[at + n])));
+        let p = Point::new(x[12], x[13]);
+        assert_eq!(laws::composed(a, b, p), (a * b) * p, "{bits:?}");
+        assert_eq!(laws::in_turn(a, b, p), a * (b * p), "{bits:?}");
+    }
+}
+
+#[test]
+fn points() {
+    let mut random = Random::new(2);
+    for _ in 0..500_000 {
+        let bits = [0; 5].map(|_| random.i32());
+        assert_same!(bits, |k| {
+            let [a, b, c, d, n] = bits.map(k::Fixed::from_bits);
+            let (p, q) = (k::Point::new(a, b), k::Point::new(c, d));
+            let points = [p + q, p - q, p * q, p / q, -p, p * n, p / n];
+            points.map(|p| [p.x, p.y].map(k::Fixed::to_bits))
+        });
+    }
+}
+
+#[test]
+fn boxes() {
+    let mut random = Random::new(3);
+    for _ in 0..500_000 {
+        let bits = [0; 5].map(|_| random.i32());
+        assert_same!(bits, |k| {
+            let [x_min, y_min, x_max, y_max, n] = bits.map(k::Fixed::from_bits);
+            let of = k::BoundingBox {
+                x_min,
+                y_min,
+                x_max,
+                y_max,
+            };
+            let boxes = [of.normalize(), of.scale(n), of.scale(n).normalize()];
+            let sides = boxes.map(|b| [b.x_min, b.y_min, b.x_max, b.y_max].map(k::Fixed::to_bits));
+            (sides, of.is_normalized())
+        });
+    }
+}

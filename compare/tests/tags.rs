@@ -1,0 +1,90 @@
+//! Tags: both checks, text and order.
+
+use compare::{Random, assert_same, sampled};
+
+fn checked(bytes: &[u8]) {
+    assert_same!(bytes, |k| {
+        let tag = k::Tag::new_checked(bytes).map(k::Tag::to_be_bytes);
+        tag.map_err(|error| format!("{error:?}"))
+    });
+}
+
+fn of_four_bytes(number: u32) {
+    let bytes = number.to_be_bytes();
+    checked(&bytes);
+    assert_same!(bytes, |k| {
+        k::Tag::new(&bytes)
+            .validate()
+            .map_err(|error| format!("{error:?}"))
+    });
+}
+
+#[test]
+fn four_bytes() {
+    sampled().for_each(of_four_bytes);
+    // Tags are good only where all bytes are visible characters or spaces.
+    let mut random = Random::new(1);
+    for _ in 0..1_000_000 {
+        let bytes = [0; 4].map(|_| match random.below(8) {
+            0 => b' ',
+            1 => random.u64() as u8,
+            _ => b'!' + random.below(94) as u8,
+        });
+        of_four_bytes(u32::from_be_bytes(bytes));
+    }
+}
+
+#[test]
+#[ignore = "all of 2^32 values"]
+fn every_four_bytes() {
+    (0..=u32::MAX).for_each(of_four_bytes);
+}
+
+#[test]
+fn other_lengths() {
+    for length in 0..=2 {
+        (0..1u32 << (8 * length)).for_each(|n| checked(&n.to_le_bytes()[..length]));
+    }
+    let mut random = Random::new(2);
+    for _ in 0..500_000 {
+        let bytes = random.u64().to_le_bytes();
+        checked(&bytes[..3]);
+        checked(&bytes[..5]);
+    }
+}
+
+#[test]
+#[ignore = "all of 2^24 values"]
+fn every_three_bytes() {
+    (0..1u32 << 24).for_each(|n| checked(&n.to_le_bytes()[..3]));
+}
+
+#[test]
+fn parsing() {
+    let mut random = Random::new(3);
+    for _ in 0..500_000 {
+        let bytes = [0; 6].map(|_| b' ' + random.below(95) as u8);
+        let text = str::from_utf8(&bytes[..random.below(7) as usize]).expect("ASCII");
+        assert_same!(text, |k| {
+            let tag = text.parse::<k::Tag>().map(k::Tag::to_be_bytes);
+            tag.map_err(|error| format!("{error:?}"))
+        });
+    }
+}
+
+#[test]
+fn text_order_and_numbers() {
+    let mut random = Random::new(4);
+    for _ in 0..500_000 {
+        let [a, b] = [0; 2].map(|_| random.u64() as u32);
+        assert_same!((a, b), |k| {
+            let [x, y] = [a, b].map(|n| k::Tag::new(&n.to_be_bytes()));
+            (
+                x.to_string(),
+                format!("{x:?}"),
+                x.cmp(&y),
+                k::Tag::from_u32(a).into_bytes(),
+            )
+        });
+    }
+}
