@@ -48,6 +48,20 @@ fn no_lines() {
     assert!(run.status.success() && run.stdout.is_empty() && run.stderr.is_empty());
 }
 
+// More than a buffer of 16 MiB holds.
+#[test]
+#[cfg_attr(debug_assertions, ignore = "half a minute without optimization")]
+fn many_empty_lines() {
+    let file = std::env::temp_dir().join(format!("fontval-empty-{}", std::process::id()));
+    fs::write(&file, vec![b'\n'; 17 << 20]).unwrap();
+    let run = fontval(File::open(&file).unwrap(), Stdio::piped());
+    fs::remove_file(file).unwrap();
+    assert!(run.status.success() && run.stderr.is_empty());
+    let mut answers = run.stdout.chunks(8);
+    assert_eq!(answers.len(), 17 << 20);
+    assert!(answers.all(|answer| answer == b"error 1\n"));
+}
+
 #[test]
 #[cfg(unix)]
 fn refused_reads() {

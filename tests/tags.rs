@@ -1,0 +1,173 @@
+//! Tags: both checks, at each place of a fault; text, order and comparisons.
+
+use font_types_proved::InvalidTag::{ByteAfterSpace, InvalidByte, InvalidLength};
+use font_types_proved::*;
+use std::collections::{BTreeMap, HashMap};
+
+/// Bytes that are no tag, and why.
+fn faults() -> Vec<(Vec<u8>, InvalidTag)> {
+    let mut faults = vec![
+        (b"".to_vec(), InvalidLength(0)),
+        (b"abcde".to_vec(), InvalidLength(5)),
+        (b"abcdef".to_vec(), InvalidLength(6)),
+        (vec![b'a'; 300], InvalidLength(300)),
+    ];
+    for byte in [0x00, 0x09, 0x1F, 0x7F, 0x80, 0xFF] {
+        for len in 1..=4 {
+            for pos in 0..len {
+                let mut bytes = b"abcd"[..len].to_vec();
+                bytes[pos] = byte;
+                faults.push((bytes, InvalidByte { pos, byte }));
+            }
+        }
+    }
+    for (bytes, fault) in [
+        // A tag may end with spaces, and not begin with one.
+        (" ", InvalidByte { pos: 0, byte: b' ' }),
+        ("    ", InvalidByte { pos: 0, byte: b' ' }),
+        (" abc", InvalidByte { pos: 0, byte: b' ' }),
+        ("a b", InvalidByte { pos: 2, byte: b'b' }),
+        ("a b ", InvalidByte { pos: 2, byte: b'b' }),
+        ("a  d", InvalidByte { pos: 3, byte: b'd' }),
+        ("ab d", InvalidByte { pos: 3, byte: b'd' }),
+        (
+            "a \n ",
+            InvalidByte {
+                pos: 2,
+                byte: b'\n',
+            },
+        ),
+    ] {
+        faults.push((bytes.into(), fault));
+    }
+    faults
+}
+
+#[test]
+fn checked() {
+    for (bytes, tag) in [
+        ("a", b"a   "),
+        ("ab", b"ab  "),
+        ("cvt", b"cvt "),
+        ("GPOS", b"GPOS"),
+        ("!~0 ", b"!~0 "),
+        ("a   ", b"a   "),
+    ] {
+        assert_eq!(
+            Tag::new_checked(bytes.as_bytes()),
+            Ok(Tag::new(tag)),
+            "{bytes}"
+        );
+        assert_eq!(bytes.parse(), Ok(Tag::new(tag)), "{bytes}");
+        assert_eq!(Tag::new(tag).validate(), Ok(()), "{bytes}");
+    }
+    for (bytes, fault) in faults() {
+        assert_eq!(Tag::new_checked(&bytes), Err(fault), "{bytes:?}");
+        if let Ok(text) = str::from_utf8(&bytes) {
+            assert_eq!(text.parse::<Tag>(), Err(fault), "{text:?}");
+        }
+    }
+}
+
+// `validate` names a printable byte after a space, and a tag of four spaces has length 0.
+#[test]
+fn validated() {
+    for (bytes, fault) in faults() {
+        let Ok(bytes) = <[u8; 4]>::try_from(&bytes[..]) else {
+            continue;
+        };
+        let right = match fault {
+            _ if bytes == *b"    " => InvalidLength(0),
+            InvalidByte {
+                pos,
+                byte: 0x21..=0x7E,
+            } => ByteAfterSpace { pos },
+            fault => fault,
+        };
+        assert_eq!(Tag::new(&bytes).validate(), Err(right), "{bytes:?}");
+    }
+}
+
+#[test]
+fn texts() {
+    for (bytes, text) in [
+        (*b"kern", "kern"),
+        (*b"cvt ", "cvt "),
+        (*b"a\0b ", "a{0x00}b "),
+        (*b"\x1F ~\x7F", "{0x1F} ~{0x7F}"),
+        ([0x80, b'{', 0xFF, b'}'], "{0x80}{{0xFF}}"),
+    ] {
+        let tag = Tag::new(&bytes);
+        assert_eq!(format!("{tag} {tag:?}"), format!("{text} Tag({text})"));
+        assert_eq!(
+            (tag.to_be_bytes(), tag.into_bytes(), tag.as_bytes()),
+            (bytes, bytes, &bytes)
+        );
+        assert_eq!(
+            (
+                Tag::from_be_bytes(bytes),
+                Tag::from_u32(u32::from_be_bytes(bytes))
+            ),
+            (tag, tag)
+        );
+    }
+    for (fault, text) in [
+        (InvalidLength(9), "Invalid length (9)"),
+        (
+            InvalidByte { pos: 3, byte: 0xAB },
+            "Invalid byte 0xAB at index 3",
+        ),
+        (
+            ByteAfterSpace { pos: 2 },
+            "Non-space character after first space",
+        ),
+    ] {
+        assert_eq!(fault.to_string(), text);
+    }
+    assert_eq!(
+        format!("{:?}", ByteAfterSpace { pos: 2 }),
+        "ByteAfterSpace { pos: 2 }"
+    );
+    assert_eq!(
+        (Tag::default(), TTC_HEADER_TAG),
+        (Tag::new(b"    "), Tag::new(b"ttcf"))
+    );
+    let versions = [TT_SFNT_VERSION, TRUE_SFNT_VERSION, CFF_SFNT_VERSION].map(u32::to_be_bytes);
+    assert_eq!(versions, [[0, 1, 0, 0], *b"true", *b"OTTO"]);
+}
+
+#[test]
+fn compared() {
+    let kern = Tag::new(b"kern");
+    for (text, is_equal) in [
+        ("kern", true),
+        ("kerm", false),
+        ("Kern", false),
+        ("ker", false),
+        ("kern ", false),
+        ("", false),
+    ] {
+        assert_eq!(
+            (kern == *text, kern == text),
+            (is_equal, is_equal),
+            "{text}"
+        );
+        assert_eq!(kern == text.as_bytes(), is_equal, "{text}");
+        if let Ok(bytes) = <[u8; 4]>::try_from(text.as_bytes()) {
+            assert_eq!(
+                (kern == bytes, kern == Tag::new(&bytes)),
+                (is_equal, is_equal),
+                "{text}"
+            );
+        }
+    }
+    assert!(Tag::new(b"cvt ") == "cvt " && Tag::new(b"cvt ") != "cvt" && Tag::default() != "");
+    assert!(
+        kern < Tag::new(b"kerx")
+            && kern > Tag::new(b"Kern")
+            && Tag::new(b"a\xFF  ") < Tag::new(b"b   ")
+    );
+    assert_eq!(BTreeMap::from([(kern, 1)]).get(b"kern"), Some(&1));
+    assert_eq!(HashMap::from([(kern, 1)]).get(b"kern"), Some(&1));
+    assert_eq!(AsRef::<[u8]>::as_ref(&kern), b"kern");
+}
