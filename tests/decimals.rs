@@ -173,9 +173,11 @@ macro_rules! of_fixed_point_types {
                 assert_eq!(text.parse(), Ok(x));
                 assert_eq!($Type::from_decimal_bytes(text.as_bytes()), Ok(x), "{text}");
                 assert_eq!($Type::from_decimal(&format!("{text} ")), Err(DecimalFault::Syntax), "{text}");
-                let mut out = [b'~'; 40];
-                let len = x.write_padded(&mut out, &Pad::new(0));
-                assert_eq!(len.map(|len| &out[..len]), Some(text.as_bytes()));
+                for (width, len) in [(0, 40), (text.len(), text.len())] {
+                    let mut out = vec![b'~'; len];
+                    let end = x.write_padded(&mut out, &Pad::new(width));
+                    assert_eq!(end.map(|end| &out[..end]), Some(text.as_bytes()), "{width}");
+                }
             }
             let rounded = rows(ROUNDED, stringify!($Type));
             assert_eq!(rounded.len(), 9);

@@ -219,11 +219,24 @@ fn boxes() {
         assert_eq!(of(sides).normalize(), of(normalized), "{sides:?}");
     }
     // A pair that does not compare is swapped too.
-    let swapped = of([1., f64::NAN, 2., 3.]).normalize();
-    assert!(
-        (swapped.x_min, swapped.y_min, swapped.x_max) == (1., 3., 2.) && swapped.y_max.is_nan()
-    );
-    assert!(!of([f64::NAN, 1., 2., 3.]).is_normalized() && !swapped.is_normalized());
+    for (sides, swapped) in [
+        ([f64::NAN, 1., 2., 3.], [2., 1., f64::NAN, 3.]),
+        ([0., 1., f64::NAN, 3.], [f64::NAN, 1., 0., 3.]),
+        ([1., f64::NAN, 2., 3.], [1., 3., 2., f64::NAN]),
+        ([1., 2., 2., f64::NAN], [1., f64::NAN, 2., 2.]),
+    ] {
+        let found = of(sides).normalize();
+        assert!(
+            !of(sides).is_normalized() && !found.is_normalized(),
+            "{sides:?}"
+        );
+        let found = [found.x_min, found.y_min, found.x_max, found.y_max];
+        assert_eq!(
+            found.map(f64::to_bits),
+            swapped.map(f64::to_bits),
+            "{sides:?}"
+        );
+    }
     let scaled = BoundingBox {
         x_min: A,
         y_min: B,
