@@ -42,7 +42,8 @@ pub fn axes<'a>(font: &Font<'a>) -> Option<ScalarArray<'a, Axis>> {
 /// The coordinate of a value of the axis of this index, from -1 to 1.
 pub fn normalized(font: &Font<'_>, index: usize, value: Fixed) -> Option<F2Dot14> {
     let axis = axes(font)?.get(index)?;
-    let value = value.clamp(axis.min, axis.max);
+    // Not `clamp`, which panics if a font has these the wrong way round.
+    let value = value.max(axis.min).min(axis.max);
     let side = match value < axis.default {
         true => axis.default - axis.min,
         false => axis.max - axis.default,
@@ -94,6 +95,11 @@ fn scalar(region: &ScalarArray<'_, RegionAxis>, coordinates: &[F2Dot14]) -> Fixe
     scalars.fold(Fixed::ONE, |product, scalar| product * scalar)
 }
 
+/// The place of a row, or `None` if a `usize` cannot hold it.
+fn row(start: usize, len: usize, index: usize) -> Option<usize> {
+    len.checked_mul(index)?.checked_add(start)
+}
+
 /// The advance of a glyph at these coordinates, rounded.
 pub fn advance(font: &Font<'_>, glyph: GlyphId16, coordinates: &[F2Dot14]) -> Option<UfWord> {
     let base = font.advance(glyph)?;
@@ -103,32 +109,46 @@ pub fn advance(font: &Font<'_>, glyph: GlyphId16, coordinates: &[F2Dot14]) -> Op
         true => (0, glyph.into()),
         false => delta_set(at_offset(hvar, 8)?, glyph.into())?,
     };
-    let data = at_offset(store, 8 + 4 * outer)?;
+    let data = at_offset(store, row(8, 4, outer)?)?;
     let regions = at_offset(store, 2)?;
     let axis_count = usize::from(field::<u16>(regions, 0)?);
-    let (words, count) = (field::<u16>(data, 2)?, field::<u16>(data, 4)?);
-    let row = 6 + 2 * usize::from(count) + inner * usize::from(words + count);
+    let count = usize::from(field::<u16>(data, 4)?);
     let mut sum = DeltaSum::new();
-    for (n, index) in array::<u16>(data, 6, count.into())?.iter().enumerate() {
-        let wide = n.min(words.into());
-        let delta = match n < words.into() {
-            true => field::<i16>(data, row + 2 * n)?.into(),
-            false => field::<i8>(data, row + n + wide)?.into(),
-        };
-        let region = array(regions, 4 + 6 * axis_count * usize::from(index), axis_count)?;
-        sum.add(scalar(&region, coordinates), delta);
+    for (n, index) in array::<u16>(data, 6, count)?.values().enumerate() {
+        let place = row(4, 6 * axis_count, index.into())?;
+        let region = array(regions, place, axis_count)?;
+        sum.add(scalar(&region, coordinates), delta(data, count, inner, n)?);
     }
     UfWord::round_steps(base.apply_delta(sum.checked_finish()?))
 }
 
-/// The outer and the inner index of a delta set, by a map of bytes. The last entry counts for all
-/// that follow.
+/// The delta of a column in a set of `count`. The first columns are wide: 16 bits, and the others
+/// 8, or twice as many in a table of long words.
+fn delta(data: &[u8], count: usize, set: usize, column: usize) -> Option<i32> {
+    let words = field::<u16>(data, 2)?;
+    let (is_long, words) = (words & 0x8000 != 0, usize::from(words & 0x7FFF));
+    let unit = if is_long { 2 } else { 1 };
+    let set = row(6 + 2 * count, unit * (count + words), set)?;
+    let place = set.checked_add(unit * (column + column.min(words)))?;
+    match (is_long, column < words) {
+        (true, true) => field::<i32>(data, place),
+        (true, false) | (false, true) => field::<i16>(data, place).map(i32::from),
+        (false, false) => field::<i8>(data, place).map(i32::from),
+    }
+}
+
+/// The outer and the inner index of a delta set, by a map of format 0 or 1. The last entry counts
+/// for all that follow.
 fn delta_set(map: &[u8], index: usize) -> Option<(usize, usize)> {
+    let (count, start) = match field::<u8>(map, 0)? {
+        0 => (u32::from(field::<u16>(map, 2)?), 4),
+        1 => (field::<u32>(map, 2)?, 6),
+        _ => return None,
+    };
     let format = field::<u8>(map, 1)?;
-    let count = usize::from(field::<u16>(map, 2)?);
     let len = usize::from(format >> 4 & 3) + 1;
-    let start = 4 + len * index.min(count.checked_sub(1)?);
-    let bytes = map.get(start..)?.get(..len)?;
+    let last = usize::try_from(count.checked_sub(1)?).ok()?;
+    let bytes = map.get(row(start, len, index.min(last))?..)?.get(..len)?;
     let entry = bytes
         .iter()
         .fold(0, |entry, byte| entry << 8 | usize::from(*byte));

@@ -51,6 +51,16 @@ fn hvar() -> Vec<u8> {
     table
 }
 
+/// The same regions, and one delta set of a long word and a word, by a map of format 1.
+fn long_hvar() -> Vec<u8> {
+    let header = [1, 0, 0, 20, 0, 64, 0, 0, 0, 0];
+    let store = [1, 0, 12, 1, 0, 28];
+    let regions = [1, 2, 0, 0x4000, 0x4000, 0, 0x1000, 0x4000];
+    let data = [1, 0x8001, 2, 0, 1, 0, 60000, -300i16 as u16];
+    let map = [0x0100, 0, 2, 0];
+    words(&[&header[..], &store, &regions, &data, &map].concat())
+}
+
 /// A name for Windows.
 fn name(text: &str) -> Vec<u8> {
     let units: Vec<u16> = text.encode_utf16().collect();
@@ -58,7 +68,7 @@ fn name(text: &str) -> Vec<u8> {
     words(&[&record[..], &units].concat())
 }
 
-fn font() -> Vec<u8> {
+fn font(hvar: Vec<u8>) -> Vec<u8> {
     let os2 = table(78, &[(4, &[400]), (58, &[0x5445, 0x5354]), (68, &[800])]);
     let avar = [
         1, 0, 0, 1, 4, 0xC000, 0xC000, 0, 0, 0x2000, 0x1000, 0x4000, 0x4000,
@@ -68,7 +78,7 @@ fn font() -> Vec<u8> {
     let head: [(_, &[u16]); 3] = [(0, &[1, 0, 2, 0x8000]), (18, &[1000]), (36, &[0xFFF6])];
     let hhea = table(36, &[(4, &[800, 0xFF38, 0, 620]), (34, &[2])]);
     let tables: [(&[u8; 4], Vec<u8>); 10] = [
-        (b"HVAR", hvar()),
+        (b"HVAR", hvar),
         (b"OS/2", os2),
         (b"avar", words(&avar)),
         (b"cmap", cmap()),
@@ -94,7 +104,7 @@ fn font() -> Vec<u8> {
 
 #[test]
 fn dumps_a_font() {
-    let bytes = font();
+    let bytes = font(hvar());
     let font = dump::font::Font::new(&bytes).unwrap();
     let mut text = String::new();
     dump(&font, "\n\u{15}\u{99}\u{9A}😀a", &mut text).unwrap();
@@ -129,9 +139,67 @@ a: no glyph
     }
 }
 
+/// Calls of both examples over any bytes.
+fn reads(bytes: &[u8]) -> Option<()> {
+    let places = [Fixed::MIN, Fixed::ZERO, Fixed::from_i32(650), Fixed::MAX];
+    let font = dump::font::Font::new(bytes)?;
+    dump(&font, "\n\u{15}\u{99}\u{9A}😀a", &mut String::new()).unwrap();
+    let font = instance::font::Font::new(bytes)?;
+    for place in places {
+        let at = |index| normalized(&font, index, place).unwrap_or_default();
+        let coordinates = [at(0), at(1)];
+        for glyph in [0, 1, 2, 500, u16::MAX] {
+            let _ = advance(&font, GlyphId16::new(glyph), &coordinates);
+        }
+    }
+    Some(())
+}
+
+// The examples do not panic, whatever the bytes are.
+#[test]
+fn mutated_fonts() {
+    let fonts = [font(hvar()), font(long_hvar())];
+    let mut state = 1u64;
+    let mut random = |below: usize| {
+        state = state
+            .wrapping_mul(6364136223846793005)
+            .wrapping_add(1442695040888963407);
+        (state >> 33) as usize % below
+    };
+    for n in 0..3000 {
+        let mut bytes = fonts[n % 2].clone();
+        for _ in 0..=random(4) {
+            let place = random(bytes.len());
+            bytes[place] = [0, 0x7F, 0x80, 0xFF, random(256) as u8][random(5)];
+        }
+        reads(&bytes);
+    }
+    assert_eq!(fonts.map(|font| reads(&font)), [Some(()); 2]);
+}
+
+#[test]
+fn long_words_and_a_map_of_format_1() {
+    let bytes = font(long_hvar());
+    let font = instance::font::Font::new(&bytes).unwrap();
+    for (at, glyph, moved) in [
+        (0, 0, 500),
+        (0x4000, 0, 60500),
+        (0x4000, 2, 60620),
+        (0x1000, 0, 15200),
+    ] {
+        let at = F2Dot14::from_bits(at);
+        let moved = Some(UfWord::new(moved));
+        assert_eq!(
+            advance(&font, GlyphId16::new(glyph), &[at]),
+            moved,
+            "{at} {glyph}"
+        );
+    }
+}
+
 #[test]
 fn instances_follow_the_axis() {
-    let bytes = font();
+    let bytes = font(hvar());
     let font = instance::font::Font::new(&bytes).unwrap();
     assert_eq!(axes(&font).unwrap().first().unwrap().tag, Tag::new(b"wght"));
     for (place, coordinate, moved) in [

@@ -12,7 +12,8 @@ pub fn field<T: Scalar>(table: &[u8], offset: usize) -> Option<T> {
 
 /// An array of `count` elements at an offset.
 pub fn array<T: Scalar>(table: &[u8], offset: usize, count: usize) -> Option<ScalarArray<'_, T>> {
-    ScalarArray::new(table.get(offset..)?.get(..count * T::RAW_BYTE_LEN)?)
+    let len = count.checked_mul(T::RAW_BYTE_LEN)?;
+    ScalarArray::new(table.get(offset..)?.get(..len)?)
 }
 
 /// What an [`Offset32`] at an offset points to, from the start of the table.
@@ -142,6 +143,6 @@ fn of_format_12(subtable: &[u8], code: u32) -> Option<GlyphId16> {
     let groups = array::<Group>(subtable, 16, field::<u32>(subtable, 12)? as usize)?;
     let place = groups.binary_search_by_key(&code, |group| group.end);
     let group = groups.get(place.unwrap_or_else(|after| after))?;
-    let glyph = group.glyph + code.checked_sub(group.start)?;
+    let glyph = group.glyph.wrapping_add(code.checked_sub(group.start)?);
     u16::try_from(glyph).ok().map(GlyphId16::new)
 }
