@@ -147,6 +147,7 @@ impl From<Uint24> for usize {
 #[error("failed to convert usize value into Uint24.")]
 pub struct TryFromUint24Error;
 
+/// Fails if the number exceeds `MAX`.
 impl TryFrom<usize> for Uint24 {
     ghost use Rattle.font_base.specs.Uint24.{UINT24_MAX, uint24_number};
 

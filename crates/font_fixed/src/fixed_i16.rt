@@ -218,6 +218,7 @@ where
     }
 }
 
+/// Wraps on overflow.
 impl<const F: u32> Add for FixedI16<F> {
     type Output = FixedI16<F>;
 
@@ -229,6 +230,7 @@ impl<const F: u32> Add for FixedI16<F> {
     }
 }
 
+/// Wraps on overflow.
 impl<const F: u32> AddAssign for FixedI16<F> {
     ghost add_assign_gives = { λ x y sum. bits_of sum ≡ wrap 16 (bits_of x +ℤ bits_of y) };
 
@@ -238,6 +240,7 @@ impl<const F: u32> AddAssign for FixedI16<F> {
     }
 }
 
+/// Wraps on overflow.
 impl<const F: u32> Sub for FixedI16<F> {
     type Output = FixedI16<F>;
 
@@ -249,6 +252,7 @@ impl<const F: u32> Sub for FixedI16<F> {
     }
 }
 
+/// Wraps on overflow.
 impl<const F: u32> SubAssign for FixedI16<F> {
     ghost sub_assign_gives = { λ x y rest. bits_of rest ≡ wrap 16 (bits_of x -ℤ bits_of y) };
 
@@ -258,6 +262,7 @@ impl<const F: u32> SubAssign for FixedI16<F> {
     }
 }
 
+/// Wraps: `-MIN` is `MIN`.
 impl<const F: u32> Neg for FixedI16<F> {
     type Output = FixedI16<F>;
 

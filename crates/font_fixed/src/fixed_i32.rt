@@ -215,6 +215,7 @@ where
     }
 }
 
+/// Wraps on overflow.
 impl<const F: u32> Add for FixedI32<F> {
     type Output = FixedI32<F>;
 
@@ -226,6 +227,7 @@ impl<const F: u32> Add for FixedI32<F> {
     }
 }
 
+/// Wraps on overflow.
 impl<const F: u32> AddAssign for FixedI32<F> {
     ghost add_assign_gives = { λ x y sum. bits_of sum ≡ wrap 32 (bits_of x +ℤ bits_of y) };
 
@@ -235,6 +237,7 @@ impl<const F: u32> AddAssign for FixedI32<F> {
     }
 }
 
+/// Wraps on overflow.
 impl<const F: u32> Sub for FixedI32<F> {
     type Output = FixedI32<F>;
 
@@ -246,6 +249,7 @@ impl<const F: u32> Sub for FixedI32<F> {
     }
 }
 
+/// Wraps on overflow.
 impl<const F: u32> SubAssign for FixedI32<F> {
     ghost sub_assign_gives = { λ x y rest. bits_of rest ≡ wrap 32 (bits_of x -ℤ bits_of y) };
 
@@ -255,6 +259,7 @@ impl<const F: u32> SubAssign for FixedI32<F> {
     }
 }
 
+/// Wraps: `-MIN` is `MIN`.
 impl<const F: u32> Neg for FixedI32<F> {
     type Output = FixedI32<F>;
 

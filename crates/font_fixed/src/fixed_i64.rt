@@ -210,6 +210,7 @@ where
     }
 }
 
+/// Wraps on overflow.
 impl<const F: u32> Add for FixedI64<F> {
     type Output = FixedI64<F>;
 
@@ -221,6 +222,7 @@ impl<const F: u32> Add for FixedI64<F> {
     }
 }
 
+/// Wraps on overflow.
 impl<const F: u32> AddAssign for FixedI64<F> {
     ghost add_assign_gives = { λ x y sum. bits_of sum ≡ wrap 64 (bits_of x +ℤ bits_of y) };
 
@@ -230,6 +232,7 @@ impl<const F: u32> AddAssign for FixedI64<F> {
     }
 }
 
+/// Wraps on overflow.
 impl<const F: u32> Sub for FixedI64<F> {
     type Output = FixedI64<F>;
 
@@ -241,6 +244,7 @@ impl<const F: u32> Sub for FixedI64<F> {
     }
 }
 
+/// Wraps on overflow.
 impl<const F: u32> SubAssign for FixedI64<F> {
     ghost sub_assign_gives = { λ x y rest. bits_of rest ≡ wrap 64 (bits_of x -ℤ bits_of y) };
 
@@ -250,6 +254,7 @@ impl<const F: u32> SubAssign for FixedI64<F> {
     }
 }
 
+/// Wraps: `-MIN` is `MIN`.
 impl<const F: u32> Neg for FixedI64<F> {
     type Output = FixedI64<F>;
 

@@ -10,7 +10,7 @@ ghost use Rattle.font_fixed.specs.Operations.{differ_in_sign, IsProduct, IsMulDi
 /// Multiplies two numbers with `f` fraction bits, rounding half away from zero and wrapping on
 /// overflow.
 #[must_use]
-#[inline]
+#[inline(always)]
 pub fn product(x: i32, y: i32, f: u32) -> i32
     requires { (6 ≤ f) × (f ≤ 30) }
     ensures { IsProduct 32 f x y result }
@@ -33,7 +33,7 @@ pub const fn mul_div(x: i32, a: i32, c: i32) -> i32
 
 /// Truncates to the low 32 bits.
 #[must_use]
-#[inline]
+#[inline(always)]
 pub const fn low_bits(n: i64) -> i32
     ensures { result ≡ wrap 32 n }
 {
@@ -41,7 +41,7 @@ pub const fn low_bits(n: i64) -> i32
 }
 
 // Returns `n / 2^f`, rounded half away from zero.
-#[inline]
+#[inline(always)]
 fn rounded_shift(n: i64, f: u32) -> i64
     requires fraction { (6 ≤ f) × (f ≤ 30) }
     requires room { unsigned_abs n ≤ 2 ^ 62 }

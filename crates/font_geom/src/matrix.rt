@@ -153,7 +153,7 @@ impl<T: Copy> Matrix<T> {
 }
 
 impl<T: MatrixElement> Matrix<T> {
-    /// Returns the identity matrix.
+    /// Returns the identity matrix: `ONE` in `xx` and `yy`, and `ZERO` elsewhere.
     #[must_use]
     #[inline]
     pub const fn identity() -> Self
@@ -169,7 +169,7 @@ impl<T: MatrixElement> Matrix<T> {
         }
     }
 
-    /// Transforms the point `(x, y)`.
+    /// Returns `(xx * x + xy * y + dx, yx * x + yy * y + dy)`, the image of the point `(x, y)`.
     #[must_use]
     #[inline]
     pub fn transform(&self, x: T, y: T) -> (T, T)
@@ -192,6 +192,10 @@ impl<T: MatrixElement> Default for Matrix<T> {
     }
 }
 
+/// Returns the matrix that transforms by `rhs` first, and then by `self`.
+///
+/// Its `xx` is `self.xx * rhs.xx + self.xy * rhs.yx`, and its `dx` is
+/// `self.xx * rhs.dx + self.xy * rhs.dy + self.dx`.
 impl<T: MatrixElement> Mul for Matrix<T> {
     type Output = Matrix<T>;
 
@@ -212,6 +216,7 @@ impl<T: MatrixElement> Mul for Matrix<T> {
     }
 }
 
+/// Multiplies as `*` does.
 impl<T: MatrixElement> MulAssign for Matrix<T> {
     ghost can_mul_assign = { CanMultiply T.can_mul T.mul_gives T.can_add T.add_gives };
 
@@ -223,6 +228,7 @@ impl<T: MatrixElement> MulAssign for Matrix<T> {
     }
 }
 
+/// Transforms a point, as `transform` does.
 impl<T: MatrixElement> Mul<Point<T>> for Matrix<T> {
     type Output = Point<T>;
 

@@ -58,6 +58,7 @@ impl<T> Point<T> {
     }
 }
 
+/// Adds coordinate by coordinate.
 impl<T: Add<Output = T>> Add for Point<T> {
     type Output = Point<T>;
 
@@ -74,6 +75,7 @@ impl<T: Add<Output = T>> Add for Point<T> {
     }
 }
 
+/// Adds coordinate by coordinate.
 impl<T: AddAssign> AddAssign for Point<T> {
     ghost can_add_assign = { λ p q. T.can_add_assign p.x q.x × T.can_add_assign p.y q.y };
 
@@ -87,6 +89,7 @@ impl<T: AddAssign> AddAssign for Point<T> {
     }
 }
 
+/// Subtracts coordinate by coordinate.
 impl<T: Sub<Output = T>> Sub for Point<T> {
     type Output = Point<T>;
 
@@ -103,6 +106,7 @@ impl<T: Sub<Output = T>> Sub for Point<T> {
     }
 }
 
+/// Subtracts coordinate by coordinate.
 impl<T: SubAssign> SubAssign for Point<T> {
     ghost can_sub_assign = { λ p q. T.can_sub_assign p.x q.x × T.can_sub_assign p.y q.y };
 
@@ -116,6 +120,7 @@ impl<T: SubAssign> SubAssign for Point<T> {
     }
 }
 
+/// Multiplies coordinate by coordinate.
 impl<T: Mul<Output = T>> Mul for Point<T> {
     type Output = Point<T>;
 
@@ -133,6 +138,7 @@ impl<T: Mul<Output = T>> Mul for Point<T> {
     }
 }
 
+/// Multiplies each coordinate by a number.
 impl<T: Mul<Output = T> + Copy> Mul<T> for Point<T> {
     type Output = Point<T>;
 
@@ -150,6 +156,7 @@ impl<T: Mul<Output = T> + Copy> Mul<T> for Point<T> {
     }
 }
 
+/// Multiplies coordinate by coordinate.
 impl<T: MulAssign> MulAssign for Point<T> {
     ghost can_mul_assign = { λ p q. T.can_mul_assign p.x q.x × T.can_mul_assign p.y q.y };
 
@@ -163,6 +170,7 @@ impl<T: MulAssign> MulAssign for Point<T> {
     }
 }
 
+/// Multiplies each coordinate by a number.
 impl<T: MulAssign + Copy> MulAssign<T> for Point<T> {
     ghost can_mul_assign = { λ p factor. T.can_mul_assign p.x factor
         × T.can_mul_assign p.y factor };
@@ -177,6 +185,7 @@ impl<T: MulAssign + Copy> MulAssign<T> for Point<T> {
     }
 }
 
+/// Divides coordinate by coordinate.
 impl<T: Div<Output = T>> Div for Point<T> {
     type Output = Point<T>;
 
@@ -194,6 +203,7 @@ impl<T: Div<Output = T>> Div for Point<T> {
     }
 }
 
+/// Divides each coordinate by a number.
 impl<T: Div<Output = T> + Copy> Div<T> for Point<T> {
     type Output = Point<T>;
 
@@ -211,6 +221,7 @@ impl<T: Div<Output = T> + Copy> Div<T> for Point<T> {
     }
 }
 
+/// Divides coordinate by coordinate.
 impl<T: DivAssign> DivAssign for Point<T> {
     ghost can_div_assign = { λ p q. T.can_div_assign p.x q.x × T.can_div_assign p.y q.y };
 
@@ -224,6 +235,7 @@ impl<T: DivAssign> DivAssign for Point<T> {
     }
 }
 
+/// Divides each coordinate by a number.
 impl<T: DivAssign + Copy> DivAssign<T> for Point<T> {
     ghost can_div_assign = { λ p divisor. T.can_div_assign p.x divisor
         × T.can_div_assign p.y divisor };
@@ -238,6 +250,7 @@ impl<T: DivAssign + Copy> DivAssign<T> for Point<T> {
     }
 }
 
+/// Negates each coordinate.
 impl<T: Neg<Output = T>> Neg for Point<T> {
     type Output = Point<T>;
 

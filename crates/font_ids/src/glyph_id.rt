@@ -122,6 +122,7 @@ impl From<GlyphId16> for usize {
     }
 }
 
+/// Fails if the number exceeds 65535.
 impl TryFrom<GlyphId> for GlyphId16 {
     type Error = TryFromGlyphIdError;
 
@@ -261,6 +262,7 @@ impl From<GlyphId24> for usize {
     }
 }
 
+/// Fails if the number exceeds 16777215.
 impl TryFrom<GlyphId> for GlyphId24 {
     type Error = TryFromGlyphIdError;
 

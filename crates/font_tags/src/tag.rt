@@ -54,7 +54,8 @@ impl Tag {
     /// # Errors
     ///
     /// Returns `InvalidLength` unless there are one to four bytes. Any other error is
-    /// `InvalidByte`, including a printable byte after a space.
+    /// `InvalidByte` at the first byte that cannot be there: a space at the start, a byte that is
+    /// not printable ASCII, or a printable byte after a space.
     #[inline]
     #[tactic(auto, using(crate::proofs::Good::tag_judgements))]
     pub const fn new_checked(src: &[u8]) -> Result<Self, InvalidTag>
@@ -155,8 +156,9 @@ impl Tag {
     ///
     /// # Errors
     ///
-    /// Returns `InvalidLength(0)` for four spaces, `ByteAfterSpace` for a printable byte after a
-    /// space, and otherwise `InvalidByte`.
+    /// Returns `InvalidLength(0)` for four spaces. Otherwise the error is of the first byte that
+    /// cannot be there: `ByteAfterSpace` for a printable byte after a space, and `InvalidByte` for a
+    /// space at the start or a byte that is not printable ASCII.
     #[inline]
     #[tactic(auto, using(crate::proofs::Good::tag_judgements))]
     pub fn validate(self) -> Result<(), InvalidTag>
@@ -278,6 +280,7 @@ impl Ord for Tag {
     }
 }
 
+/// Parses as `new_checked` does, of the bytes of the text.
 impl FromStr for Tag {
     type Err = InvalidTag;
 

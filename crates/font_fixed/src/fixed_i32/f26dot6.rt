@@ -72,6 +72,7 @@ impl F26Dot6 {
     }
 }
 
+/// Rounds half away from zero, and wraps on overflow.
 impl Mul for F26Dot6 {
     type Output = F26Dot6;
 
@@ -84,6 +85,7 @@ impl Mul for F26Dot6 {
     }
 }
 
+/// Rounds half away from zero, and wraps on overflow.
 impl MulAssign for F26Dot6 {
     ghost mul_assign_gives = { λ x y product.
         IsProduct 32 6 (bits_of x) (bits_of y) (bits_of product) };
@@ -94,6 +96,8 @@ impl MulAssign for F26Dot6 {
     }
 }
 
+/// Rounds half away from zero, and wraps on overflow.
+///
 /// Division by zero gives [`F26Dot6::MAX`], or `-F26Dot6::MAX` if the dividend is negative.
 impl Div for F26Dot6 {
     type Output = F26Dot6;
@@ -107,6 +111,7 @@ impl Div for F26Dot6 {
     }
 }
 
+/// Divides as `/` does.
 impl DivAssign for F26Dot6 {
     ghost div_assign_gives = { λ x y quotient.
         IsQuotient 32 6 (bits_of x) (bits_of y) (bits_of quotient) };

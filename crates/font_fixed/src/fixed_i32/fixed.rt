@@ -167,6 +167,7 @@ const fn low_half(n: i32) -> i16
     (n.rem_euclid(0x1_0000) as u16).cast_signed()
 }
 
+/// Rounds half away from zero, and wraps on overflow.
 impl Mul for Fixed {
     type Output = Fixed;
 
@@ -179,6 +180,7 @@ impl Mul for Fixed {
     }
 }
 
+/// Rounds half away from zero, and wraps on overflow.
 impl MulAssign for Fixed {
     ghost mul_assign_gives = { λ x y product.
         IsProduct 32 16 (bits_of x) (bits_of y) (bits_of product) };
@@ -189,6 +191,8 @@ impl MulAssign for Fixed {
     }
 }
 
+/// Rounds half away from zero, and wraps on overflow.
+///
 /// Division by zero gives [`Fixed::MAX`], or `-Fixed::MAX` if the dividend is negative.
 impl Div for Fixed {
     type Output = Fixed;
@@ -202,6 +206,7 @@ impl Div for Fixed {
     }
 }
 
+/// Divides as `/` does.
 impl DivAssign for Fixed {
     ghost div_assign_gives = { λ x y quotient.
         IsQuotient 32 16 (bits_of x) (bits_of y) (bits_of quotient) };
@@ -212,6 +217,7 @@ impl DivAssign for Fixed {
     }
 }
 
+/// Converts as `from_i32` does, wrapping on overflow.
 impl From<i32> for Fixed {
     ghost from_gives = { λ number fixed. bits_of fixed ≡ wrap 32 (number *ℤ pos (2 ^ 16)) };
 
