@@ -2,7 +2,8 @@
 
 use font_types_proved::*;
 
-/// A type, a raw value, and the shortest decimal that parses back to it.
+/// A type, a raw value, and the shortest decimal that parses back to it; of two as near, the one
+/// farther from zero.
 const TEXTS: &str = "\
 F2Dot14 0 0
 F2Dot14 1 0.00006
@@ -48,6 +49,9 @@ F26Dot6 0 0
 F26Dot6 1 0.02
 F26Dot6 -1 -0.02
 F26Dot6 32 0.5
+F26Dot6 24 0.38
+F26Dot6 -24 -0.38
+F26Dot6 2062335288 32223988.88
 F26Dot6 64 1
 F26Dot6 -65 -1.02
 F26Dot6 -2147483648 -33554432

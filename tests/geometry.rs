@@ -162,6 +162,15 @@ fn laws_of_matrices() {
     assert_eq!(fixed_identity(a), (a, a));
     assert_eq!(laws::composed(a, b, p), (a * b) * p);
     assert_eq!(laws::in_turn(a, b, p), a * (b * p));
+    // A quarter of the least step is zero, and half of half of it is the step.
+    let (half, step) = (Fixed::from_bits(0x8000), Point::broadcast(Fixed::EPSILON));
+    let halves = Matrix {
+        xx: half,
+        yy: half,
+        ..Matrix::identity()
+    };
+    assert_eq!(laws::composed(halves, halves, step), Point::default());
+    assert_eq!(laws::in_turn(halves, halves, step), step);
     // Integers modulo 2^32 obey the laws of a ring.
     let ring = |n: u32| Matrix::from_elements([n, n + 1, n * n, 7, n << 30, !n].map(Wrapping));
     let (a, b, c) = (ring(3), ring(5), ring(9));
