@@ -304,6 +304,56 @@ fn a_scalar_of_no_bytes() {
     assert_eq!(Empty::read(&[]), Some(Empty));
 }
 
+/// Raw bytes of a caller's own.
+#[derive(Clone, Copy)]
+struct Five([u8; 5]);
+
+impl BeByteArray for Five {
+    const LEN: usize = 5;
+
+    fn from_slice(slice: &[u8]) -> Option<Self> {
+        slice.try_into().ok().map(Self)
+    }
+
+    fn as_slice(&self) -> &[u8] {
+        &self.0
+    }
+}
+
+/// A scalar of these bytes.
+#[derive(Clone, Copy, PartialEq, Debug)]
+struct Record([u8; 5]);
+
+impl FixedSize for Record {
+    const RAW_BYTE_LEN: usize = 5;
+}
+
+impl Scalar for Record {
+    type Raw = Five;
+
+    fn from_raw(raw: Five) -> Self {
+        Self(raw.0)
+    }
+
+    fn to_raw(self) -> Five {
+        Five(self.0)
+    }
+}
+
+#[test]
+fn raw_bytes_of_a_caller() {
+    stored(Record(*b"abcde"), b"abcde");
+    for n in 0..5 {
+        let mut other = *b"abcde";
+        other[n] = 0;
+        assert_ne!(
+            BigEndian::from(Record(*b"abcde")),
+            BigEndian::from(Record(other)),
+            "{n}"
+        );
+    }
+}
+
 #[test]
 fn headers() {
     let bytes = [0, 1, 0, 0, 0, 2, 7, 8];
