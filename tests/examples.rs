@@ -143,7 +143,12 @@ a: no glyph
 fn reads(bytes: &[u8]) -> Option<()> {
     let places = [Fixed::MIN, Fixed::ZERO, Fixed::from_i32(650), Fixed::MAX];
     let font = dump::font::Font::new(bytes)?;
-    dump(&font, "\n\u{15}\u{99}\u{9A}😀a", &mut String::new()).unwrap();
+    dump(
+        &font,
+        "\n\u{15}\u{99}\u{9A}😀\u{1F610}a",
+        &mut String::new(),
+    )
+    .unwrap();
     let font = instance::font::Font::new(bytes)?;
     for place in places {
         let at = |index| normalized(&font, index, place).unwrap_or_default();
@@ -168,9 +173,15 @@ fn mutated_fonts() {
     };
     for n in 0..3000 {
         let mut bytes = fonts[n % 2].clone();
+        // Runs of a few bytes, so that whole numbers become extreme.
         for _ in 0..=random(4) {
-            let place = random(bytes.len());
-            bytes[place] = [0, 0x7F, 0x80, 0xFF, random(256) as u8][random(5)];
+            let (place, len) = (random(bytes.len()), 1 + random(8));
+            let byte = [0, 0x7F, 0x80, 0xFF, random(256) as u8][random(5)];
+            bytes
+                .iter_mut()
+                .skip(place)
+                .take(len)
+                .for_each(|old| *old = byte);
         }
         reads(&bytes);
     }
