@@ -1,4 +1,4 @@
-//! Each link of a page to a file of the repository leads to one.
+//! Each link of a page to a file of the repository leads to one, and each type names its own.
 
 use font_types_tools::repository::{files, root, text};
 
@@ -17,4 +17,19 @@ fn links_lead_to_files() {
         }
     }
     assert!(count > 0 && broken.is_empty(), "{broken:#?}");
+}
+
+/// The documentation of each type names the file that it is in.
+#[test]
+fn types_name_their_source() {
+    let mut count = 0;
+    for path in files("crates", ".rt") {
+        for line in text(&path).lines() {
+            if let Some(named) = line.strip_prefix("/// The source and its contracts: ") {
+                assert_eq!(named, format!("`{path}`."));
+                count += 1;
+            }
+        }
+    }
+    assert!(count > 0);
 }
