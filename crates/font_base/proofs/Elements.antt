@@ -7,11 +7,11 @@ use Rattle.std.specs.Int.{from_bool}
 use Rattle.std.proofs.Math.Nat.{div-zero, div-eq-sub-div, div-eq_of_lt, div-mul-le_self, mul-div_cancel, mul-mod_left}
 use Rattle.std.proofs.Math.Nat.{mod-eq-sub-div-mul, add-mul}
 use Rattle.std.proofs.lemmas.Bool.{cases_lt}
-use Rattle.std.proofs.lemmas.List.{length-drop, length-take-le, drop-drop, drop-take, drop_all, take-take, take_all}
+use Rattle.std.proofs.lemmas.List.{length-drop, length-take-le, drop-drop, drop-take, take-take, take_all}
 use Rattle.std.specs.Ordering.{ordering_index, is_gt, is_eq, is_lt}
 use Rattle.std.specs.declared.cmp.Ordering.{Ordering}
 use Rattle.std.specs.declared.cmp.Ordering.TheVariants.{Less, Equal, Greater}
-use Rattle.font_base.specs.Elements.{element, elements, IsStored, Rises, Splits}
+use Rattle.font_base.specs.Elements.{element, elements, IsStored, Rises, Splits, side}
 
 pub length-elements : (size n : ℕ) (bytes : List ℕ) → length (elements size n bytes) ≡ n
 length-elements size zero bytes = refl
@@ -115,7 +115,7 @@ last_and_others size m bytes whole many =
 
 pub ruleset element_rules = (length-elements, one_fits, one_less, first_and_others, none_left)
 
--- ---- some elements skipped
+-- ---- some of the elements
 
 -- their bytes and those of the others
 parted : (size n many : ℕ) → n ≤ many → many * size ≡ n * size + (many - n) * size
@@ -126,32 +126,23 @@ parted size n many within =
 pub part_fits : (size len n : ℕ) → n ≤ len / size → n * size ≤ len
 part_fits size len n within = omega (arith, parted size n (len / size) within, div-mul-le_self len size)
 
--- n elements of this size are n, where there are any
-many_of : (size n len : ℕ) → n ≤ len / size → n * size / size ≡ n
-many_of zero n len within = let none = div-zero len in let zero_is = div-zero (n * zero) in omega arith
-many_of (suc size) n len within = mul-div_cancel n (omega arith)
+-- so many elements are in the front, of bytes that hold them
+pub front_of : (size n : ℕ) (bytes : List ℕ) → n * size ≤ length bytes → length (take (n * size) bytes) % size ≡ 0
+front_of size n bytes fits = rw (length-take-le (n * size) bytes fits) (mul-mod_left n size)
 
-others_length : (size n : ℕ) (bytes : List ℕ) → length bytes % size ≡ 0 → n ≤ length bytes / size
-    → length (drop (n * size) bytes) ≡ (length bytes / size - n) * size
-others_length size n bytes whole within = length-drop (n * size) bytes ∙ omega (
+pub count_of : (size n : ℕ) (bytes : List ℕ) → 0 < size → n * size ≤ length bytes
+    → length (take (n * size) bytes) / size ≡ n
+count_of size n bytes some fits = rw (length-take-le (n * size) bytes fits) (mul-div_cancel n some)
+
+-- those from `start` up to `end`
+pub middle_fits : (size start end : ℕ) (bytes : List ℕ) → start ≤ end → end ≤ length bytes / size
+    → (end - start) * size ≤ length (drop (start * size) bytes)
+middle_fits size start end bytes order within = omega (
   arith,
-  parted size n (length bytes / size) within,
-  div-mul-le_self (length bytes) size,
-  mod-eq-sub-div-mul (length bytes) size,
+  parted size start end order,
+  part_fits size (length bytes) end within,
+  length-drop (start * size) bytes,
 )
-
-front_part_length : (size n : ℕ) (bytes : List ℕ) → n ≤ length bytes / size
-    → length (take (n * size) bytes) ≡ n * size
-front_part_length size n bytes within = length-take-le (n * size) bytes (part_fits size (length bytes) n within)
-
--- the others are an array
-pub others_whole : (size n : ℕ) (bytes : List ℕ) → length bytes % size ≡ 0 → n ≤ length bytes / size
-    → length (drop (n * size) bytes) % size ≡ 0
-others_whole size n bytes whole within = rw (others_length size n bytes whole within)
-    (mul-mod_left (length bytes / size - n) size)
-
-pub part_whole : (size n : ℕ) (bytes : List ℕ) → n ≤ length bytes / size → length (take (n * size) bytes) % size ≡ 0
-part_whole size n bytes within = rw (front_part_length size n bytes within) (mul-mod_left n size)
 
 elements-drop : (size n m : ℕ) (bytes : List ℕ) → n ≤ m
     → drop n (elements size m bytes) ≡ elements size (m - n) (drop (n * size) bytes)
@@ -171,48 +162,30 @@ take-elements size (suc n) zero bytes within = absurd (omega arith)
 take-elements size (suc n) (suc m) bytes within =
     ap (λ xs. take size bytes ∷ xs) (take-elements size n m (drop size bytes) (omega arith))
 
--- what is left after the first n elements
-pub left_after : (size n : ℕ) (bytes : List ℕ) → length bytes % size ≡ 0 → n < length bytes / size
-    → elements size (length (drop (n * size) bytes) / size) (drop (n * size) bytes)
-    ≡ drop n (elements size (length bytes / size) bytes)
-left_after size n bytes whole some =
+-- n elements of this size are n, where there are any
+many_of : (size n len : ℕ) → n ≤ len / size → n * size / size ≡ n
+many_of zero n len within = let none = div-zero len in let zero_is = div-zero (n * zero) in omega arith
+many_of (suc size) n len within = mul-div_cancel n (omega arith)
+
+pub middle_elements : (size start end : ℕ) (bytes : List ℕ) → start ≤ end → end ≤ length bytes / size
+    → elements size (length (take ((end - start) * size) (drop (start * size) bytes)) / size)
+    (take ((end - start) * size) (drop (start * size) bytes))
+    ≡ take (end - start) (drop start (elements size (length bytes / size) bytes))
+middle_elements size start end bytes order within =
+    let n = end - start in
+    let rest = drop (start * size) bytes in
     let many = length bytes / size in
-    let within : n ≤ many = omega arith in
-    ap (λ k. elements size (k / size) (drop (n * size) bytes)) (others_length size n bytes whole within)
-    ∙ ap (λ k. elements size k (drop (n * size) bytes)) (many_of size (many - n) (length bytes) (omega arith))
-    ∙ sym (elements-drop size n many bytes within)
+    let after : n ≤ many - start = omega arith in
+    ap (λ k. elements size (k / size) (take (n * size) rest))
+    (length-take-le (n * size) rest (middle_fits size start end bytes order within))
+    ∙ ap (λ k. elements size k (take (n * size) rest)) (many_of size n (length bytes) (omega arith))
+    ∙ elements-take size n rest
+    ∙ sym (take-elements size n (many - start) rest after)
+    ∙ ap (take n) (sym (elements-drop size start many bytes (omega arith)))
 
-pub none_after : (size n : ℕ) (bytes : List ℕ) → length bytes / size ≤ n
-    → drop n (elements size (length bytes / size) bytes) ≡ []
-none_after size n bytes none = drop_all n (elements size (length bytes / size) bytes)
-    (omega (arith, length-elements size (length bytes / size) bytes))
+pub ruleset part_rules = (front_of, count_of)
 
--- the last element before the last n, and those before it
-pub left_before : (size n front : ℕ) (bytes : List ℕ) → n < length bytes / size
-    → front ≡ length bytes / size - n - 1
-    → take (length (elements size (length bytes / size) bytes) - n) (elements size (length bytes / size) bytes)
-    ≡ elements size (length (take (front * size) bytes) / size) (take (front * size) bytes)
-    ++ element size bytes front ∷ []
-left_before size n front bytes some is =
-    let many = length bytes / size in
-    let within : front ≤ many = omega (arith, is) in
-    let next : many - n ≡ suc front = omega (arith, is) in
-    ap (λ k. take (k - n) (elements size many bytes)) (length-elements size many bytes)
-    ∙ take-elements size (many - n) many bytes (omega arith)
-    ∙ ap (λ k. elements size k bytes) next
-    ∙ others_and_last size front bytes
-    ∙ ap (λ xs. xs ++ element size bytes front ∷ []) (sym (elements-take size front bytes)
-    ∙ ap (λ k. elements size k (take (front * size) bytes)) (sym (many_of size front (length bytes) within))
-    ∙ ap (λ k. elements size (k / size) (take (front * size) bytes)) (sym (front_part_length size front bytes within)))
-
-pub none_before : (size n : ℕ) (bytes : List ℕ) → length bytes / size - n ≡ 0
-    → take (length (elements size (length bytes / size) bytes) - n) (elements size (length bytes / size) bytes) ≡ []
-none_before size n bytes none = ap (λ k. take k (elements size (length bytes / size) bytes))
-    (ap (λ k. k - n) (length-elements size (length bytes / size) bytes) ∙ none)
-
-pub ruleset nth_rules = (part_fits, others_whole, left_after, none_after)
-
-pub ruleset nth_back_rules = (part_fits, part_whole, left_before, none_before)
+pub ruleset slice_rules = (part_fits, front_of, middle_fits, middle_elements)
 
 pub ruleset back_rules = (length-elements, front_whole, front_many, last_element_length, last_and_others, none_left)
 
@@ -238,6 +211,10 @@ pub record Narrows {V : Type 0} (is_scalar : V → Bool) (stored : V → List �
 less_no_greater : Less ≢ Greater
 less_no_greater same =
     let index : ordering_index Less ≡ ordering_index Greater = ap ordering_index same in omega (arith, index)
+
+less_no_equal : Less ≢ Equal
+less_no_equal same =
+    let index : ordering_index Less ≡ ordering_index Equal = ap ordering_index same in omega (arith, index)
 
 equal_no_greater : Equal ≢ Greater
 equal_no_greater same =
@@ -304,6 +281,11 @@ module _ {V : Type 0} (is_scalar : V → Bool) (stored : V → List ℕ) (answer
         less = λ k v before _. absurd (left.first w (omega arith) is is_greater);
         greater = greater_after low w is is_greater rises;
       })
+
+-- no element of a partitioned array compares as equal
+pub no_side : (before : Bool) → side before ≢ Equal
+no_side true same = less_no_equal same
+no_side false same = equal_no_greater (sym same)
 
 -- the place that a step of the search keeps, and what is left from there on, are in the array
 pub half_fits : (greater : Bool) (low size half next n : ℕ) → next ≡ (if greater then low else low + half)

@@ -1,6 +1,5 @@
 -- Arrays of scalars (OpenType, the tables' formats: arrays of numbers and of records).
-use Rattle.std.specs.Prelude.{◌≡◌, ℕ, ◌-◌, ◌/◌, ◌<◌, ◌≤◌, List, [], ◌∷◌, ◌++◌, length, take, drop}
-use Rattle.std.specs.Prelude.{Option, MatchOption, Result, MatchResult}
+use Rattle.std.specs.Prelude.{◌≡◌, ℕ, ◌/◌, ◌<◌, ◌≤◌, List, length, Bool, Result, MatchResult}
 use Rattle.std.specs.declared.cmp.Ordering.{Ordering}
 use Rattle.std.specs.declared.cmp.Ordering.TheVariants.{Equal}
 use Rattle.font_base.specs.declared.raw.BeByteArray as BeByteArray
@@ -8,7 +7,7 @@ use Rattle.font_base.specs.declared.raw.FixedSize as FixedSize
 use Rattle.font_base.specs.declared.raw.Scalar as Scalar
 use Rattle.font_base.specs.declared.array.ScalarArray.{ScalarArray}
 use Rattle.font_base.specs.declared.array.ScalarArrayIter.{ScalarArrayIter}
-use Rattle.font_base.specs.Elements.{element, elements, StoresOne, Rises, Splits}
+use Rattle.font_base.specs.Elements.{element, elements, StoresOne, Rises, Splits, side}
 
 module _ {T X : Type 0} {scalar : Scalar.Ghosts T X} {size : FixedSize.Ghosts T} {x : BeByteArray.Ghosts X} where
   -- the bytes of an array
@@ -31,19 +30,6 @@ module _ {T X : Type 0} {scalar : Scalar.Ghosts T X} {size : FixedSize.Ghosts T}
   abbrev pub elements_left : ScalarArrayIter T X scalar size x → List (List ℕ)
   elements_left iter = array_elements iter.rest
 
-  -- the element after the next n was yielded, and those after it are left; or there was none, and none is left
-  abbrev pub YieldsAfter : ℕ → ScalarArrayIter T X scalar size x → Option T → ScalarArrayIter T X scalar size x → Type 0
-  YieldsAfter n old result new = MatchOption result
-      ((drop n (elements_left old) ≡ []) × (elements_left new ≡ []))
-      (λ v. drop n (elements_left old) ≡ x.bytes (scalar.raw_of v) ∷ elements_left new)
-
-  -- the same from the back
-  abbrev pub YieldsBefore : ℕ → ScalarArrayIter T X scalar size x → Option T → ScalarArrayIter T X scalar size x
-      → Type 0
-  YieldsBefore n old result new = let others = take (length (elements_left old) - n) (elements_left old) in
-      MatchOption result ((others ≡ []) × (elements_left new ≡ []))
-      (λ v. others ≡ elements_left new ++ x.bytes (scalar.raw_of v) ∷ [])
-
   -- the comparisons are sorted: `Less`, then `Equal`, then `Greater`
   abbrev pub RisesAlong : ScalarArray T X scalar size x → (T → Ordering) → Type 0
   RisesAlong array answer = Rises scalar.is_scalar (λ v. x.bytes (scalar.raw_of v)) answer
@@ -61,3 +47,9 @@ module _ {T X : Type 0} {scalar : Scalar.Ghosts T X} {size : FixedSize.Ghosts T}
       (λ i. (i < array_len array)
       × StoresOne scalar.is_scalar (λ v. x.bytes (scalar.raw_of v)) (element_bytes array i) (λ v. answer v ≡ Equal))
       (λ i. (i ≤ array_len array) × (RisesAlong array answer → SplitsArray array answer i i))
+
+  -- the index of the first element for which the test fails, or the length: if elements for which it holds are all
+  -- before those for which it fails, it holds of every element before the index, and of none from there on
+  abbrev pub IsPartitionPoint : ScalarArray T X scalar size x → (T → Bool) → ℕ → Type 0
+  IsPartitionPoint array before place = (place ≤ array_len array)
+      × (RisesAlong array (λ v. side (before v)) → SplitsArray array (λ v. side (before v)) place place)

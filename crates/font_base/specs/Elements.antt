@@ -1,6 +1,6 @@
 -- Consecutive elements of equal size.
 -- (OpenType, the tables' formats: arrays, as of `uint16` in `cmap` and of records in the table directory)
-use Rattle.std.specs.Prelude.{◌≡◌, ℕ, zero, suc, ◌*◌, ◌<◌, ◌≤◌, List, [], ◌∷◌, take, drop, Bool, IsTrue}
+use Rattle.std.specs.Prelude.{◌≡◌, ℕ, zero, suc, ◌*◌, ◌<◌, ◌≤◌, List, [], ◌∷◌, take, drop, Bool, IsTrue, if◌then◌else◌}
 use Rattle.std.specs.declared.cmp.Ordering.{Ordering}
 use Rattle.std.specs.declared.cmp.Ordering.TheVariants.{Less, Greater}
 use Rattle.std.specs.Ordering.{ordering_index}
@@ -32,6 +32,10 @@ pub record Rises {V : Type 0} (is_scalar : V → Bool) (stored : V → List ℕ)
     (at : ℕ → List ℕ) (n : ℕ) : Type 0 where
   pub keeps : (i j : ℕ) (v w : V) → i ≤ j → j < n → IsStored is_scalar stored (at i) v
       → IsStored is_scalar stored (at j) w → ordering_index (answer v) ≤ ordering_index (answer w)
+
+-- how an element compares in a search for the first one for which a test fails
+abbrev pub side : Bool → Ordering
+side before = if before then Less else Greater
 
 -- elements before `low` compare as `Less`, and those from `high` on as `Greater`
 pub record Splits {V : Type 0} (is_scalar : V → Bool) (stored : V → List ℕ) (answer : V → Ordering)

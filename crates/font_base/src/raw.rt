@@ -2,7 +2,7 @@
 #![tactic(auto, using(crate::proofs::StdBytes::std_bytes))]
 
 ghost use Rattle.std.specs.Prelude.{◌≡◌, ℕ, pos, Bool, List, IsTrue, IsSome, IfSome, ◌↔◌, ◌^◌};
-ghost use Rattle.std.specs.Prelude.{nat_eq, nat_lt, length};
+ghost use Rattle.std.specs.Prelude.{◌+◌, ◌≤◌, nat_eq, nat_lt, length, take, drop};
 ghost use Rattle.std.proofs.Common.{rules, lit<};
 ghost use Rattle.std.specs.Bool.{Decides};
 ghost use Rattle.std.specs.Cmp.{signed_Decides, unsigned_Decides};
@@ -79,15 +79,18 @@ impl<const N: usize> BeByteArray for [u8; N] {
 
     ghost same_bytes = { λ a b _ _ same. same };
 
+    #[inline]
     fn from_slice(slice: &[u8]) -> Option<[u8; N]> {
         slice.try_into().ok()
     }
 
+    #[inline]
     fn as_slice(&self) -> &[u8] {
         let _bytes = each_is_byte(self);
         self
     }
 
+    #[inline]
     fn eq_array(&self, other: &[u8; N]) -> bool {
         self == other
     }
@@ -163,6 +166,30 @@ pub trait Scalar: FixedSize {
     {
         let raw = Self::Raw::from_slice(slice)?;
         Some(Self::from_raw(raw))
+    }
+
+    /// Reads the value at `offset`, or returns `None` if fewer than `RAW_BYTE_LEN` bytes are left
+    /// there.
+    ///
+    /// ```
+    /// use font_types::{Scalar, Tag};
+    /// let head = b"\x00\x01\x00\x00head";
+    /// assert_eq!(Tag::read_at(head, 4), Some(Tag::new(b"head")));
+    /// assert_eq!(Tag::read_at(head, 5), None);
+    /// ```
+    #[must_use]
+    #[inline]
+    fn read_at(bytes: &[u8], offset: usize) -> Option<Self>
+        ensures end { IsSome result ↔ (offset + Self.RAW_BYTE_LEN ≤ length bytes.now) }
+        ensures bytes { IfSome result (λ v.
+            Self.Raw.bytes (raw_of v) ≡ take Self.RAW_BYTE_LEN (drop offset bytes.now)) }
+        ensures reads { IfSome result (λ v.
+            IsValueOf Self.Raw.bytes of_raw (take Self.RAW_BYTE_LEN (drop offset bytes.now)) v) }
+        ensures value { IfSome result (λ v. IsTrue (is_scalar v)) }
+    {
+        let (_, rest) = bytes.split_at_checked(offset)?;
+        let (front, _) = rest.split_at_checked(Self::RAW_BYTE_LEN)?;
+        Self::read(front)
     }
 
     // Encoding and decoding are inverse, and the encoded size is `RAW_BYTE_LEN`.

@@ -1,6 +1,6 @@
 //! Arrays of scalars over bytes.
 
-use crate::{Int24, ScalarArray};
+use crate::{Int24, Scalar, ScalarArray};
 use std::test::Fail;
 
 #[test]
@@ -67,27 +67,68 @@ fn walks_both_ways(rt: HostRuntime) -> Result<(), Fail> {
 }
 
 #[test]
-fn skips_elements(rt: HostRuntime) -> Result<(), Fail> {
-    let array = ScalarArray::<u16>::new(&[0, 1, 0, 2, 0, 3]).ok_or("six bytes")?;
-    for &(n, first, last, left) in &[
-        (0, Some(1), Some(3), 2),
-        (1, Some(2), Some(2), 1),
-        (2, Some(3), Some(1), 0),
-        (3, None, None, 0),
-        (usize::MAX, None, None, 0),
+fn scalars_at_offsets(rt: HostRuntime) {
+    let bytes = [0, 1, 0xFF, 0xFE, 0x80];
+    for &(offset, short, long) in &[
+        (0, Some(1), Some(511)),
+        (1, Some(511), Some(131070)),
+        (2, Some(-2), Some(-384)),
+        (3, Some(-384), None),
+        (4, None, None),
+        (5, None, None),
+        (6, None, None),
+        (usize::MAX, None, None),
     ] {
-        let (mut forth, mut back) = (array.iter(), array.iter());
+        let read = i16::read_at(&bytes, offset);
+        assert!(rt; read == short, "two bytes at {offset}");
+        let read = Int24::read_at(&bytes, offset).map(Int24::to_i32);
+        assert!(rt; read == long, "three bytes at {offset}");
+    }
+}
+
+#[test]
+fn arrays_at_offsets(rt: HostRuntime) {
+    let bytes = [9, 0, 1, 0, 2, 0, 3, 9];
+    for &(offset, count, ends) in &[
+        (1, 3, Some((1, 3))),
+        (3, 2, Some((2, 3))),
+        (0, 4, Some((0x0900, 0x0309))),
+        (8, 0, Some((0, 0))),
+        (1, 4, None),
+        (9, 0, None),
+        (1, usize::MAX, None),
+        (usize::MAX, 1, None),
+    ] {
+        let array = ScalarArray::<u16>::read_at(&bytes, offset, count);
+        let found = array.map(|array| (array.first().unwrap_or(0), array.last().unwrap_or(0)));
+        assert!(rt; found == ends, "{count} at {offset}");
         assert!(rt;
-            forth.nth(n) == first && forth.as_array().len() == left,
-            "{n}"
-        );
-        assert!(rt;
-            back.nth_back(n) == last && back.as_array().len() == left,
-            "{n}"
+            array.is_none() || array.map(|array| array.len()) == Some(count),
+            "{count}"
         );
     }
-    let mut iter = array.iter();
-    assert!(rt; iter.nth(1) == Some(2) && iter.as_array().as_bytes() == [0, 3].as_slice());
+}
+
+#[test]
+fn slices(rt: HostRuntime) -> Result<(), Fail> {
+    let array = ScalarArray::<u16>::new(&[0, 1, 0, 2, 0, 3]).ok_or("six bytes")?;
+    for &(start, end, ends) in &[
+        (0, 3, Some((1, 3))),
+        (1, 2, Some((2, 2))),
+        (2, 3, Some((3, 3))),
+        (1, 1, Some((0, 0))),
+        (3, 3, Some((0, 0))),
+        (2, 1, None),
+        (0, 4, None),
+        (4, 4, None),
+        (0, usize::MAX, None),
+    ] {
+        let part = array.slice(start, end);
+        let found = part.map(|part| (part.first().unwrap_or(0), part.last().unwrap_or(0)));
+        assert!(rt; found == ends, "{start} to {end}");
+    }
+    assert!(rt; array.slice(1, 2) == ScalarArray::new(&[0, 2]) && array.slice(1, 2) != Some(array));
+    assert!(rt; array.slice(1, 1) == Some(ScalarArray::default()));
     Ok(())
 }
 
@@ -130,6 +171,26 @@ fn finds_by_a_key(rt: HostRuntime) -> Result<(), Fail> {
     for &(key, place) in &rows {
         let found = array.binary_search_by_key(&key, |number| number / 10);
         assert!(rt; found == place, "{key} tens");
+    }
+    Ok(())
+}
+
+#[test]
+fn finds_by_a_comparison(rt: HostRuntime) -> Result<(), Fail> {
+    let array = ScalarArray::<u16>::new(&[0, 12, 0, 25, 0, 31, 1, 0]).ok_or("eight bytes")?;
+    for &(key, place) in &[
+        (12, Ok(0)),
+        (256, Ok(3)),
+        (0, Err(0)),
+        (26, Err(2)),
+        (300, Err(4)),
+    ] {
+        let found = array.binary_search_by(|number| number.cmp(&key));
+        assert!(rt; found == place, "{key}");
+    }
+    for &(limit, place) in &[(0, 0), (12, 0), (13, 1), (256, 3), (257, 4)] {
+        let found = array.partition_point(|number| number < limit);
+        assert!(rt; found == place, "below {limit}");
     }
     Ok(())
 }

@@ -1,6 +1,9 @@
 //! The traits of each type, by functions with bounds.
 
-use crate::{BigEndian, FixedSize, IdentityEq, Int24, SampleHeader, Scalar, TableDataRef, Uint24};
+use crate::{
+    BigEndian, FixedSize, IdentityEq, Int24, SampleHeader, Scalar, ScalarArray, TableDataRef,
+    Uint24,
+};
 use std::fmt::{Debug, Display};
 use std::hash::Hash;
 
@@ -10,6 +13,8 @@ fn is_field<T: Copy + Ord + Hash + Default + Display + Debug + FixedSize>() {}
 
 fn is_view<T: Copy>() {}
 
+fn is_array<T: Copy + Default + Eq>() {}
+
 #[test]
 fn traits(_rt: HostRuntime) {
     is_integer::<Uint24>();
@@ -17,4 +22,5 @@ fn traits(_rt: HostRuntime) {
     is_field::<BigEndian<u16>>();
     is_field::<BigEndian<Int24>>();
     is_view::<TableDataRef<SampleHeader>>();
+    is_array::<ScalarArray<u16>>();
 }
