@@ -70,7 +70,7 @@ pub extern "C" fn font_f2dot14_apply_delta(base: i16, delta: i64, moved: &mut i6
 pub extern "C" fn font_fword_round(bits: i64, units: &mut i16) -> u32
     ensures { StoresExact 16 (nearest_unit bits) result units.old units.new }
 {
-    let Some(nearest) = FWord::round_steps(i128::from(bits)) else {
+    let Some(nearest) = FWord::round_delta(i128::from(bits)) else {
         return SUM_OUT_OF_RANGE;
     };
     *units = nearest.to_i16();
@@ -86,7 +86,7 @@ pub extern "C" fn font_ufword_round(bits: i64, units: &mut u16) -> u32
     ensures known { result ≢ 0 → result ≡ 2 }
     ensures kept { result ≢ 0 → units.new ≡ units.old }
 {
-    let Some(nearest) = UfWord::round_steps(i128::from(bits)) else {
+    let Some(nearest) = UfWord::round_delta(i128::from(bits)) else {
         return SUM_OUT_OF_RANGE;
     };
     *units = nearest.to_u16();

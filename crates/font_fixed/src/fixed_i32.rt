@@ -28,7 +28,7 @@ mod fixed;
 
 pub use f2dot30::F2Dot30;
 pub use f26dot6::F26Dot6;
-pub use fixed::Fixed;
+pub use fixed::{Fixed, nearest_step};
 
 /// A signed fixed-point number of 32 bits, `F` of them fraction bits.
 ///

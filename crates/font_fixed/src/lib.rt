@@ -17,7 +17,7 @@ mod products;
 mod reading;
 
 pub use fixed_i16::{F2Dot14, F4Dot12, F6Dot10, FixedI16};
-pub use fixed_i32::{F2Dot30, F26Dot6, Fixed, FixedI32};
+pub use fixed_i32::{F2Dot30, F26Dot6, Fixed, FixedI32, nearest_step};
 pub use fixed_i64::{F48Dot16, FixedI64};
 pub use formats::Format;
 pub use products::{low_bits, mul_div, product};

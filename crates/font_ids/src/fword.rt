@@ -14,17 +14,8 @@ ghost use Rattle.font_ids.specs.FWord.{fword_number, fword_of, ufword_number, uf
 ghost use Rattle.font_ids.specs.FWord.{nearest_unit};
 
 use font_base::{FixedSize, IdentityEq, Scalar};
-use font_fixed::{F48Dot16, Fixed};
+use font_fixed::{F48Dot16, Fixed, nearest_step};
 use std::fmt;
-
-// Rounds a 16.16 raw value to the nearest integer, half up.
-#[inline]
-#[tactic(auto, using(font_fixed::proofs::Shifts::halves_up_128))]
-fn nearest_whole(steps: i128) -> i128
-    ensures { result ≡ nearest_unit steps }
-{
-    ((steps >> 15) + 1) >> 1
-}
 
 /// A signed 16-bit quantity in font design units.
 ///
@@ -76,21 +67,21 @@ impl FWord {
         i128::from(self.to_i16()) * 0x1_0000 + i128::from(delta.to_bits())
     }
 
-    /// Rounds a 16.16 raw value, such as the result of `apply_delta`, to the nearest font unit,
-    /// half up, or returns `None` if that is out of range.
+    /// Rounds a 16.16 raw value, such as the result of `apply_delta` or `vary`, to the nearest font
+    /// unit, half up, or returns `None` if that is out of range.
     ///
     /// ```
     /// use font_types::{FWord, Fixed, vary};
     /// let moved = vary(FWord::new(100), &[(Fixed::from_bits(0x8000), 3)]).unwrap();
-    /// assert_eq!(FWord::round_steps(moved), Some(FWord::new(102)));
+    /// assert_eq!(FWord::round_delta(moved), Some(FWord::new(102)));
     /// ```
     #[must_use]
     #[inline]
-    pub fn round_steps(steps: i128) -> Option<FWord>
-        ensures variant { IsSome result ↔ FitsBits 16 (nearest_unit steps) }
-        ensures value { IfSome result (λ word. fword_number word ≡ nearest_unit steps) }
+    pub fn round_delta(moved: i128) -> Option<FWord>
+        ensures variant { IsSome result ↔ FitsBits 16 (nearest_unit moved) }
+        ensures value { IfSome result (λ word. fword_number word ≡ nearest_unit moved) }
     {
-        Some(FWord::new(i16::try_from(nearest_whole(steps)).ok()?))
+        Some(FWord::new(i16::try_from(nearest_step(moved)).ok()?))
     }
 
     /// Returns the big-endian bytes.
@@ -127,6 +118,15 @@ impl From<FWord> for i16 {
     #[inline]
     fn from(word: FWord) -> i16 {
         word.0
+    }
+}
+
+impl From<FWord> for i32 {
+    ghost from_gives = { λ word number. number ≡ fword_number word };
+
+    #[inline]
+    fn from(word: FWord) -> i32 {
+        i32::from(word.0)
     }
 }
 
@@ -214,12 +214,12 @@ impl UfWord {
     /// half up, or returns `None` if that is out of range.
     #[must_use]
     #[inline]
-    pub fn round_steps(steps: i128) -> Option<UfWord>
+    pub fn round_delta(moved: i128) -> Option<UfWord>
         ensures variant { IsSome result
-            ↔ ((pos 0 ≤ℤ nearest_unit steps) × (nearest_unit steps <ℤ pos 65536)) }
-        ensures value { IfSome result (λ word. pos (ufword_number word) ≡ nearest_unit steps) }
+            ↔ ((pos 0 ≤ℤ nearest_unit moved) × (nearest_unit moved <ℤ pos 65536)) }
+        ensures value { IfSome result (λ word. pos (ufword_number word) ≡ nearest_unit moved) }
     {
-        Some(UfWord::new(u16::try_from(nearest_whole(steps)).ok()?))
+        Some(UfWord::new(u16::try_from(nearest_step(moved)).ok()?))
     }
 
     /// Returns the big-endian bytes.

@@ -104,6 +104,15 @@ impl From<u16> for GlyphId16 {
     }
 }
 
+impl From<GlyphId16> for u16 {
+    ghost from_gives = { λ id number. number ≡ glyph16_number id };
+
+    #[inline]
+    fn from(id: GlyphId16) -> u16 {
+        id.0
+    }
+}
+
 impl From<GlyphId16> for u32 {
     ghost from_gives = { λ id number. number ≡ glyph16_number id };
 

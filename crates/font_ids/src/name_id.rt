@@ -192,6 +192,15 @@ impl From<u16> for NameId {
     }
 }
 
+impl From<NameId> for u16 {
+    ghost from_gives = { λ id number. number ≡ name_number id };
+
+    #[inline]
+    fn from(id: NameId) -> u16 {
+        id.0
+    }
+}
+
 /// Writes the name of the constant, or [`NameId`] and the number.
 impl fmt::Debug for NameId {
     ghost debug_output = { λ id. Some (name_text (name_number id)) };

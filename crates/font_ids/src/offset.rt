@@ -63,6 +63,15 @@ impl Offset16 {
     }
 }
 
+impl From<Offset16> for usize {
+    ghost from_gives = { λ offset number. number ≡ offset16_number offset };
+
+    #[inline]
+    fn from(offset: Offset16) -> usize {
+        usize::from(offset.0)
+    }
+}
+
 impl FixedSize for Offset16 {
     const RAW_BYTE_LEN: usize = 2;
 
@@ -180,6 +189,8 @@ impl IdentityEq for Offset24 {
 }
 
 /// A 32-bit offset to a table. Zero means null, that is, no table, if the field allows that.
+///
+/// A `usize` of 32 bits or more holds each; take `usize::try_from(offset.to_u32())`.
 ///
 /// ```
 /// use font_types::Offset32;

@@ -2,14 +2,16 @@
 #![tactic(auto, using(crate::proofs::Rules::number_code))]
 
 ghost use Rattle.std.proofs.Common.{lit≤};
-ghost use Rattle.std.specs.Prelude.{◌≡◌, ℤ, pos, ◌+ℤ◌, ◌*ℤ◌};
+ghost use Rattle.std.specs.Prelude.{◌≡◌, ◌↔◌, ℤ, pos, ◌+ℤ◌, ◌*ℤ◌, IsSome, IfSome};
+ghost use Rattle.font_base.specs.Wrap.{FitsBits};
+ghost use Rattle.font_decimal.specs.Near.{up};
 ghost use Rattle.font_fixed.specs.F2Dot14.{f2dot14_bits as bits_of};
 ghost use Rattle.font_fixed.specs.Fixed.{fixed_bits};
 ghost use Rattle.font_fixed.specs.F48Dot16.{f48dot16_bits};
 
 use super::FixedI16;
 use crate::formats::Format;
-use crate::{F48Dot16, Fixed};
+use crate::{F48Dot16, Fixed, nearest_step};
 
 /// A signed 2.14 fixed-point number, such as a coordinate of a normalized design space.
 ///
@@ -70,5 +72,21 @@ impl F2Dot14 {
         ensures { result ≡ (bits_of self *ℤ pos 65536 +ℤ f48dot16_bits delta) }
     {
         i128::from(self.0) * 0x1_0000 + i128::from(delta.to_bits())
+    }
+    /// Rounds a result of `apply_delta` to a value, half up, or returns `None` if that is out of
+    /// range.
+    ///
+    /// ```
+    /// use font_types::{F2Dot14, F48Dot16};
+    /// let moved = F2Dot14::ONE.apply_delta(F48Dot16::from_i32(-3));
+    /// assert_eq!(F2Dot14::round_delta(moved), Some(F2Dot14::from_bits(0x3FFD)));
+    /// ```
+    #[must_use]
+    #[inline]
+    pub fn round_delta(moved: i128) -> Option<Self>
+        ensures variant { IsSome result ↔ FitsBits 16 (up moved 65536) }
+        ensures value { IfSome result (λ number. bits_of number ≡ up moved 65536) }
+    {
+        Some(Self(i16::try_from(nearest_step(moved)).ok()?))
     }
 }

@@ -6,6 +6,7 @@ ghost use Rattle.std.proofs.Common.{lit<, lit≤};
 ghost use Rattle.font_base.specs.Wrap.{FitsBits, fits_bits, wrap};
 ghost use Rattle.font_base.specs.Bytes.{bytes_of, signed_numeral};
 ghost use Rattle.font_base.specs.Scalar.Laws.{signed_newtype, signed_identity};
+ghost use Rattle.font_decimal.specs.Near.{up};
 ghost use Rattle.font_fixed.specs.Operations.{IsNarrowed, IsProduct, IsQuotient, IsMulDiv};
 ghost use Rattle.font_fixed.specs.Fixed.{fixed_bits as bits_of, fixed_of as of_bits};
 ghost use Rattle.font_fixed.specs.F2Dot14.{f2dot14_bits};
@@ -127,18 +128,6 @@ impl Fixed {
         F48Dot16::from_bits(self.0 as i64 * number as i64)
     }
 
-    /// Creates a value from a 16.16 raw value, or returns `None` if 32 bits do not hold it.
-    ///
-    /// `FWord::apply_delta` and `UfWord::apply_delta` return such a raw value.
-    #[must_use]
-    #[inline]
-    pub fn from_steps(steps: i128) -> Option<Fixed>
-        ensures variant { IsSome result ↔ FitsBits 32 steps }
-        ensures value { IfSome result (λ number. bits_of number ≡ steps) }
-    {
-        Some(Self(i32::try_from(steps).ok()?))
-    }
-
     /// Adds a sum of deltas, exactly. The result is in units of `2^-32`.
     ///
     /// A delta of 1 is one unit of the raw value, `1 / 65536`.
@@ -150,6 +139,23 @@ impl Fixed {
         i128::from(self.0) * 0x1_0000 + i128::from(delta.to_bits())
     }
 
+    /// Rounds a result of `apply_delta` to a value, half up, or returns `None` if that is out of
+    /// range.
+    ///
+    /// ```
+    /// use font_types::{F48Dot16, Fixed};
+    /// let moved = Fixed::ONE.apply_delta(F48Dot16::from_i32(3));
+    /// assert_eq!(Fixed::round_delta(moved), Some(Fixed::from_bits(0x1_0003)));
+    /// ```
+    #[must_use]
+    #[inline]
+    pub fn round_delta(moved: i128) -> Option<Self>
+        ensures variant { IsSome result ↔ FitsBits 32 (up moved 65536) }
+        ensures value { IfSome result (λ number. bits_of number ≡ up moved 65536) }
+    {
+        Some(Self(i32::try_from(nearest_step(moved)).ok()?))
+    }
+
     // A quarter of the raw bits, rounded half up, wrapped to 30 bits.
     #[inline]
     const fn quarter(self) -> i32
@@ -157,6 +163,16 @@ impl Fixed {
     {
         self.wrapping_add(Self(2)).0 >> 2
     }
+}
+
+/// Returns `moved / 65536`, rounded to the nearest integer, half up.
+#[must_use]
+#[inline]
+#[tactic(auto, using(crate::proofs::Shifts::halves_up_128))]
+pub fn nearest_step(moved: i128) -> i128
+    ensures { result ≡ up moved 65536 }
+{
+    ((moved >> 15) + 1) >> 1
 }
 
 // Truncates to the low 16 bits.

@@ -134,6 +134,34 @@ fn from_others(rt: HostRuntime) {
 }
 
 #[test]
+fn rounded_from_deltas(rt: HostRuntime) {
+    for &(moved, long, short) in &[
+        (0, Some(0), Some(0)),
+        (32767, Some(0), Some(0)),
+        (32768, Some(1), Some(1)),
+        (-32768, Some(0), Some(0)),
+        (-32769, Some(-1), Some(-1)),
+        (2147450879, Some(32767), Some(32767)),
+        (2147450880, Some(32768), None),
+        (-2147516416, Some(-32768), Some(-32768)),
+        (-2147516417, Some(-32769), None),
+        (140737488322559, Some(i32::MAX), None),
+        (140737488322560, None, None),
+        (-140737488388096, Some(i32::MIN), None),
+        (-140737488388097, None, None),
+        (i128::MAX, None, None),
+        (i128::MIN, None, None),
+    ] {
+        let rounded = (Fixed::round_delta(moved), F2Dot14::round_delta(moved));
+        assert!(rt; rounded.0.map(Fixed::to_bits) == long, "{moved}");
+        assert!(rt;
+            rounded.1.map(|number| i32::from(number.to_bits())) == short,
+            "{moved}"
+        );
+    }
+}
+
+#[test]
 fn deltas(rt: HostRuntime) {
     let moved = [
         Fixed::from_bits(0x1_8000).apply_delta(F48Dot16::from_bits(65536)),

@@ -49,6 +49,7 @@ fn converted_to_numbers(rt: HostRuntime) {
     assert!(rt; u32::from(narrow) == 7 && u32::from(middle) == 7);
     assert!(rt; usize::from(narrow) == 7 && usize::from(middle) == 7);
     assert!(rt; usize::from(GlyphId24::new(70000)) == 70000 && narrow.to_u16() == 7);
+    assert!(rt; u16::from(narrow) == 7);
     assert!(rt; u32::from(GlyphId::new(4294967295)) == 4294967295);
     assert!(rt; narrow.to_u32() == GlyphId::new(7).to_u32());
 }

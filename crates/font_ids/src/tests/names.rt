@@ -124,6 +124,7 @@ fn added(rt: HostRuntime) {
 
 #[test]
 fn stored(rt: HostRuntime) {
+    assert!(rt; u16::from(NameId::from(0x0102)) == 0x0102);
     assert!(rt; NameId::from(0x0102).to_be_bytes() == [1, 2] && NameId::RAW_BYTE_LEN == 2);
     assert!(rt; NameId::read(&[0xFF, 0xFF]) == Some(NameId::default()));
     assert!(rt; NameId::FAMILY_NAME < NameId::SUBFAMILY_NAME);

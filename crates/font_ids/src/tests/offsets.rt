@@ -16,6 +16,7 @@ fn null(rt: HostRuntime) {
 #[test]
 fn numbers(rt: HostRuntime) {
     let greatest = Offset24::new(Uint24::MAX);
+    assert!(rt; usize::from(Offset16::new(65535)) == 65535);
     assert!(rt; Offset16::new(65535).to_u32() == 65535 && greatest.to_u32() == 16777215);
     assert!(rt; Offset32::new(4294967295).value_u32() == 4294967295);
     assert!(rt; Offset16::new(7).value_u32() == 7);

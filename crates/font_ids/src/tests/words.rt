@@ -46,7 +46,7 @@ fn moved_by_deltas(rt: HostRuntime) {
 }
 
 #[test]
-fn rounded_from_steps(rt: HostRuntime) {
+fn rounded_from_deltas(rt: HostRuntime) {
     let rows = [
         (0, Some(0), Some(0)),
         (32767, Some(0), Some(0)),
@@ -63,14 +63,14 @@ fn rounded_from_steps(rt: HostRuntime) {
         (i128::MAX, None, None),
         (i128::MIN, None, None),
     ];
-    for &(steps, signed, unsigned) in &rows {
+    for &(moved, signed, unsigned) in &rows {
         assert!(rt;
-            FWord::round_steps(steps) == signed.map(FWord::new),
-            "{steps} steps"
+            FWord::round_delta(moved) == signed.map(FWord::new),
+            "{moved}"
         );
         assert!(rt;
-            UfWord::round_steps(steps) == unsigned.map(UfWord::new),
-            "{steps} steps"
+            UfWord::round_delta(moved) == unsigned.map(UfWord::new),
+            "{moved}"
         );
     }
 }
@@ -78,7 +78,7 @@ fn rounded_from_steps(rt: HostRuntime) {
 #[test]
 fn converted(rt: HostRuntime) {
     let (signed, unsigned) = (FWord::from(-7), UfWord::from(7));
-    assert!(rt; i16::from(signed) == -7 && u16::from(unsigned) == 7);
+    assert!(rt; i16::from(signed) == -7 && i32::from(signed) == -7 && u16::from(unsigned) == 7);
     assert!(rt; signed.to_i16() == -7 && unsigned.to_u16() == 7);
     assert!(rt; FWord::default() == FWord::new(0) && UfWord::default() == UfWord::new(0));
 }
