@@ -119,7 +119,7 @@ pub fn advance(font: &Font<'_>, glyph: GlyphId16, coordinates: &[F2Dot14]) -> Op
         let region = array(regions, place, axis_count)?;
         sum.add(scalar(&region, coordinates), delta(data, count, inner, n)?);
     }
-    UfWord::round_steps(base.apply_delta(sum.checked_finish()?))
+    UfWord::round_delta(base.apply_delta(sum.checked_finish()?))
 }
 
 /// The delta of a column in a set of `count`. The first columns are wide: 16 bits, and the others

@@ -243,8 +243,8 @@ fn deltas() {
     for words in lines("units") {
         let steps = words[1].parse().unwrap();
         let units = match words[0] {
-            "fword" => FWord::round_steps(steps).map(|word| i32::from(word.to_i16())),
-            _ => UfWord::round_steps(steps).map(|word| i32::from(word.to_u16())),
+            "fword" => FWord::round_delta(steps).map(|word| i32::from(word.to_i16())),
+            _ => UfWord::round_delta(steps).map(|word| i32::from(word.to_u16())),
         };
         assert_eq!(units, stored(&words[2..]), "{words:?}");
     }

@@ -100,7 +100,7 @@ fn deltas() {
         }
         // Rounded once, and not to an f32 first.
         let rounded = (moved[0] as f64 / step(16) + 0.5).floor() as i16;
-        let here = here::FWord::round_steps(moved[0]).map(here::FWord::to_i16);
+        let here = here::FWord::round_delta(moved[0]).map(here::FWord::to_i16);
         assert_eq!(here, Some(rounded), "{raw}");
     }
 }
