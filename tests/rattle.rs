@@ -5,7 +5,7 @@
 mod host;
 
 use host::alloc::{Global, String, Vec};
-use host::{hex, io, simd};
+use host::{hex, io};
 use std::alloc::{GlobalAlloc, Layout, System};
 
 // ---- hexadecimal digits
@@ -46,28 +46,6 @@ fn decoded_digits() {
     assert_eq!(bytes, [0, 0x12, 0xFF, 0xA9]);
     for len in (0..12).filter(|len| *len != 8) {
         assert!(hex::decode_to_slice(&[b'0'; 12][..len], &mut bytes).is_err());
-    }
-}
-
-// ---- bytes that are compared at once
-
-#[test]
-fn compared_bytes() {
-    for x in 0..=u8::MAX {
-        for y in 0..=u8::MAX {
-            let bytes: [u8; 16] = std::array::from_fn(|i| if i % 3 == 0 { x } else { y });
-            let eight: [u8; 8] = std::array::from_fn(|i| bytes[i + 5]);
-            let bit = |(i, byte): (usize, &u8)| u64::from(*byte == x) << i;
-            let mask = |bytes: &[u8]| bytes.iter().enumerate().map(bit).sum::<u64>();
-            let of_16 = simd::prelude::u8x16::from_array(bytes);
-            let of_8 = simd::prelude::u8x8::from_array(eight);
-            let equal = of_16.simd_eq(simd::prelude::u8x16::splat(x)).to_bitmask();
-            assert_eq!(equal, mask(&bytes), "{x} {y}");
-            let equal = of_8.simd_eq(simd::prelude::u8x8::splat(x));
-            assert_eq!(equal.to_bitmask(), mask(&eight), "{x} {y}");
-            let none = of_8.simd_eq(simd::prelude::u8x8::splat(!x & !y));
-            assert_eq!((equal | none).to_bitmask() & mask(&eight), mask(&eight));
-        }
     }
 }
 

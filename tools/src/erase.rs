@@ -57,7 +57,7 @@ pub struct Crate<'a> {
 }
 
 /// Modules of `std` that Rattle has in another form than Rust. The program has its own.
-const RATTLE_STD: [&str; 3] = ["alloc", "io", "simd"];
+const RATTLE_STD: [&str; 2] = ["alloc", "io"];
 
 /// The Rust of a file, and the modules that it declares.
 pub struct Erased<'a> {

@@ -56,7 +56,7 @@ pub unsafe extern "C" fn font_f2dot14_apply_delta(base: i16, delta: i64, moved: 
 /// if it is out of range.
 #[unsafe(no_mangle)]
 pub unsafe extern "C" fn font_fword_round(bits: i64, units: &mut i16) -> u32 {
-    let Some(nearest) = FWord::round_steps(i128::from(bits)) else {
+    let Some(nearest) = FWord::round_delta(i128::from(bits)) else {
         return SUM_OUT_OF_RANGE;
     };
     *units = nearest.to_i16();
@@ -67,7 +67,7 @@ pub unsafe extern "C" fn font_fword_round(bits: i64, units: &mut i16) -> u32 {
 /// 2 if it is out of range.
 #[unsafe(no_mangle)]
 pub unsafe extern "C" fn font_ufword_round(bits: i64, units: &mut u16) -> u32 {
-    let Some(nearest) = UfWord::round_steps(i128::from(bits)) else {
+    let Some(nearest) = UfWord::round_delta(i128::from(bits)) else {
         return SUM_OUT_OF_RANGE;
     };
     *units = nearest.to_u16();

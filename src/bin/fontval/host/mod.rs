@@ -4,7 +4,6 @@
 pub mod alloc;
 pub mod hex;
 pub mod io;
-pub mod simd;
 
 #[allow(unused_imports)]
 pub use alloc::{String, Vec};

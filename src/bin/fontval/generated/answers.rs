@@ -1,0 +1,46 @@
+// @generated from crates/fontval/src/answers.rt by tools/src/bin/erase.rs
+
+//! The answers to the lines of an input.
+
+use crate::host::*;
+
+use crate::fontval::command::Command;
+use crate::fontval::refusal::{Refusal, Unanswered};
+use crate::fontval::text::{Lines, Words};
+use crate::host::alloc::{AllocError, Allocator};
+
+/// Returns the answers to the lines of an input, each followed by a line feed.
+pub fn answers<A: Allocator + Copy>(alloc: A, input: &[u8]) -> Result<String<A>, AllocError> {
+    let mut output = String::new(alloc);
+    for line in Lines::new(input) {
+        append_answer(alloc, line, &mut output)?;
+        output.push_str("\n")?;
+    }
+    Ok(output)
+}
+
+// Appends the answer to a line.
+#[inline(always)]
+fn append_answer<A: Allocator>(
+    alloc: A,
+    line: &[u8],
+    output: &mut String<A>,
+) -> Result<(), AllocError> {
+    match append_text(alloc, line, output) {
+        Ok(()) => Ok(()),
+        Err(Unanswered::Memory) => Err(AllocError),
+        Err(Unanswered::Refused(refusal)) => write!(output, "error {}", refusal as u8),
+    }
+}
+
+// Appends the answer to a line, unless it is refused.
+#[inline(always)]
+fn append_text<A: Allocator>(
+    alloc: A,
+    line: &[u8],
+    output: &mut String<A>,
+) -> Result<(), Unanswered> {
+    let mut words = Words::new(line);
+    let name = words.next().ok_or(Refusal::UnknownCommand)?;
+    Command::named(name)?.answer(alloc, words, output)
+}

@@ -1,0 +1,244 @@
+// @generated from crates/fontval/src/command.rt by tools/src/bin/erase.rs
+
+//! The commands and their answers.
+
+use crate::host::*;
+
+use crate::fontval::images::Images;
+use crate::fontval::judgement::Judgement;
+use crate::fontval::numbers::{fixed_numbers, in_pairs, terms, whole_number_16};
+use crate::fontval::output::{append, append_read};
+use crate::fontval::parse::{hexadecimal, two_words};
+use crate::fontval::refusal::{Refusal, Unanswered};
+use crate::fontval::text::Words;
+use crate::host::alloc::Allocator;
+use font_types_proved::{
+    F2Dot14, F2Dot30, F4Dot12, F6Dot10, F26Dot6, F48Dot16, FWord, Fixed, Int24, Scalar, Tag,
+    Uint24, checked_delta_sum, vary,
+};
+
+/// A command.
+#[derive(Clone, Copy)]
+pub enum Command {
+    /// Prints the integer whose bytes a word has in hexadecimal.
+    Integer(IntegerType),
+    /// Prints the fixed-point number whose bytes a word has in hexadecimal.
+    FixedPoint(FixedType),
+    /// Reads a decimal text as a number of a fixed-point type, and prints its bytes.
+    Read,
+    /// Prints the tag of four bytes, and whether it is valid.
+    Tag,
+    /// Prints the images of a point under two matrices.
+    Image,
+    /// Prints the sum of the products of scalars and deltas.
+    Sum,
+    /// Prints a value in font units varied by such a sum.
+    Vary,
+}
+
+/// The integer types of OpenType.
+#[derive(Clone, Copy)]
+pub enum IntegerType {
+    Uint8,
+    Int8,
+    Uint16,
+    Int16,
+    Uint24,
+    Int24,
+    Uint32,
+    Int32,
+    Int64,
+}
+
+/// The seven fixed-point types.
+#[derive(Clone, Copy)]
+pub enum FixedType {
+    F2Dot14,
+    F4Dot12,
+    F6Dot10,
+    Fixed,
+    F26Dot6,
+    F48Dot16,
+    F2Dot30,
+}
+
+impl Command {
+    /// Returns the command that a word names.
+    #[inline(always)]
+    pub fn named(word: &[u8]) -> Result<Command, Refusal> {
+        Ok(match word {
+            b"uint8" => Command::Integer(IntegerType::Uint8),
+            b"int8" => Command::Integer(IntegerType::Int8),
+            b"uint16" => Command::Integer(IntegerType::Uint16),
+            b"int16" => Command::Integer(IntegerType::Int16),
+            b"uint24" => Command::Integer(IntegerType::Uint24),
+            b"int24" => Command::Integer(IntegerType::Int24),
+            b"uint32" => Command::Integer(IntegerType::Uint32),
+            b"int32" => Command::Integer(IntegerType::Int32),
+            b"int64" => Command::Integer(IntegerType::Int64),
+            b"f2dot14" => Command::FixedPoint(FixedType::F2Dot14),
+            b"f4dot12" => Command::FixedPoint(FixedType::F4Dot12),
+            b"f6dot10" => Command::FixedPoint(FixedType::F6Dot10),
+            b"fixed" => Command::FixedPoint(FixedType::Fixed),
+            b"f26dot6" => Command::FixedPoint(FixedType::F26Dot6),
+            b"f48dot16" => Command::FixedPoint(FixedType::F48Dot16),
+            b"f2dot30" => Command::FixedPoint(FixedType::F2Dot30),
+            b"read" => Command::Read,
+            b"tag" => Command::Tag,
+            b"image" => Command::Image,
+            b"sum" => Command::Sum,
+            b"vary" => Command::Vary,
+            _ => return Err(Refusal::UnknownCommand),
+        })
+    }
+
+    /// Appends the answer of the command to the words that follow it.
+    #[inline(always)]
+    pub fn answer<A: Allocator>(
+        self,
+        alloc: A,
+        words: Words<'_>,
+        output: &mut String<A>,
+    ) -> Result<(), Unanswered> {
+        match self {
+            Command::Integer(kind) => append(kind.number(words)?, output),
+            Command::FixedPoint(kind) => kind.show(words, output),
+            Command::Read => read(words, output),
+            Command::Tag => append_judgement(Tag::from_be_bytes(hexadecimal(words)?), output),
+            Command::Image => image(words, output),
+            Command::Sum => sum(alloc, words, output),
+            Command::Vary => append_varied(alloc, words, output),
+        }
+    }
+}
+
+impl IntegerType {
+    // Returns the integer whose bytes the only word has.
+    fn number(self, words: Words<'_>) -> Result<i64, Refusal> {
+        Ok(match self {
+            IntegerType::Uint8 => i64::from(u8::from_raw(hexadecimal(words)?)),
+            IntegerType::Int8 => i64::from(i8::from_raw(hexadecimal(words)?)),
+            IntegerType::Uint16 => i64::from(u16::from_raw(hexadecimal(words)?)),
+            IntegerType::Int16 => i64::from(i16::from_raw(hexadecimal(words)?)),
+            IntegerType::Uint24 => i64::from(Uint24::from_be_bytes(hexadecimal(words)?).to_u32()),
+            IntegerType::Int24 => i64::from(Int24::from_be_bytes(hexadecimal(words)?).to_i32()),
+            IntegerType::Uint32 => i64::from(u32::from_raw(hexadecimal(words)?)),
+            IntegerType::Int32 => i64::from(i32::from_raw(hexadecimal(words)?)),
+            IntegerType::Int64 => i64::from_raw(hexadecimal(words)?),
+        })
+    }
+}
+
+impl FixedType {
+    // Returns the fixed-point type that a word names.
+    fn named(word: &[u8]) -> Result<FixedType, Refusal> {
+        match Command::named(word)? {
+            Command::FixedPoint(kind) => Ok(kind),
+            _ => Err(Refusal::UnknownCommand),
+        }
+    }
+
+    // Appends the number whose bytes the only word has.
+    fn show<A: Allocator>(
+        self,
+        words: Words<'_>,
+        output: &mut String<A>,
+    ) -> Result<(), Unanswered> {
+        match self {
+            FixedType::F2Dot14 => append(F2Dot14::from_raw(hexadecimal(words)?), output),
+            FixedType::F4Dot12 => append(F4Dot12::from_raw(hexadecimal(words)?), output),
+            FixedType::F6Dot10 => append(F6Dot10::from_raw(hexadecimal(words)?), output),
+            FixedType::Fixed => append(Fixed::from_raw(hexadecimal(words)?), output),
+            FixedType::F26Dot6 => append(
+                F26Dot6::from_bits(i32::from_raw(hexadecimal(words)?)),
+                output,
+            ),
+            FixedType::F48Dot16 => append(
+                F48Dot16::from_bits(i64::from_raw(hexadecimal(words)?)),
+                output,
+            ),
+            FixedType::F2Dot30 => append(F2Dot30::from_raw(hexadecimal(words)?), output),
+        }
+    }
+
+    // Appends the bytes of the number that a word is read as.
+    fn read<A: Allocator>(self, word: &[u8], output: &mut String<A>) -> Result<(), Unanswered> {
+        match self {
+            FixedType::F2Dot14 => append_read(F2Dot14::from_decimal_bytes(word), output),
+            FixedType::F4Dot12 => append_read(F4Dot12::from_decimal_bytes(word), output),
+            FixedType::F6Dot10 => append_read(F6Dot10::from_decimal_bytes(word), output),
+            FixedType::Fixed => append_read(Fixed::from_decimal_bytes(word), output),
+            FixedType::F26Dot6 => append_read(
+                F26Dot6::from_decimal_bytes(word).map(F26Dot6::to_bits),
+                output,
+            ),
+            FixedType::F48Dot16 => append_read(
+                F48Dot16::from_decimal_bytes(word).map(F48Dot16::to_bits),
+                output,
+            ),
+            FixedType::F2Dot30 => append_read(F2Dot30::from_decimal_bytes(word), output),
+        }
+    }
+}
+
+// Appends the bytes of the number that the second word is read as, of the type that the first
+// names.
+#[inline(never)]
+fn read<A: Allocator>(words: Words<'_>, output: &mut String<A>) -> Result<(), Unanswered> {
+    let (name, word) = two_words(words)?;
+    FixedType::named(name)?.read(word, output)
+}
+
+// Appends a tag and its validation.
+#[inline(never)]
+fn append_judgement<A: Allocator>(tag: Tag, output: &mut String<A>) -> Result<(), Unanswered> {
+    let verdict = tag.validate();
+    append(Judgement { tag, verdict }, output)
+}
+
+// Appends the images of a point under two matrices.
+#[inline(never)]
+fn image<A: Allocator>(words: Words<'_>, output: &mut String<A>) -> Result<(), Unanswered> {
+    append(Images::from(fixed_numbers(words)?), output)
+}
+
+// Appends the sum of terms.
+#[inline(never)]
+fn sum<A: Allocator>(alloc: A, words: Words<'_>, output: &mut String<A>) -> Result<(), Unanswered> {
+    let terms = terms(alloc, words)?;
+    append_sum(&terms, output)
+}
+
+// Appends the sum of these terms.
+fn append_sum<A: Allocator>(
+    terms: &[(Fixed, i32)],
+    output: &mut String<A>,
+) -> Result<(), Unanswered> {
+    append(checked_delta_sum(terms).ok_or(Refusal::OutOfRange)?, output)
+}
+
+// Appends a value in font units varied by the sum of terms.
+#[inline(never)]
+fn append_varied<A: Allocator>(
+    alloc: A,
+    mut words: Words<'_>,
+    output: &mut String<A>,
+) -> Result<(), Unanswered> {
+    let base = words.next().ok_or(Refusal::WordCount)?;
+    in_pairs(&words)?;
+    let units = whole_number_16(base)?;
+    let terms = terms(alloc, words)?;
+    append_units(units, &terms, output)
+}
+
+// Appends a value in font units varied by the sum of these terms.
+fn append_units<A: Allocator>(
+    units: i16,
+    terms: &[(Fixed, i32)],
+    output: &mut String<A>,
+) -> Result<(), Unanswered> {
+    append(
+        vary(FWord::new(units), terms).ok_or(Refusal::OutOfRange)?,
+        output,
+    )
+}

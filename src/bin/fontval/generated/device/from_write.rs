@@ -1,0 +1,41 @@
+// @generated from crates/fontval/src/device/from_write.rt by tools/src/bin/erase.rs
+
+//! A writer as a sink.
+
+use crate::host::*;
+
+use super::{Failed, Sink};
+use crate::host::io::Write;
+
+/// A sink over a writer. Each error of the writer is a failure, an interrupted call too, and so
+/// is a write of a nonempty slice that takes no byte.
+pub struct FromWrite<W> {
+    writer: W,
+    failed: bool,
+}
+
+impl<W: Write> FromWrite<W> {
+    /// A sink that has not failed yet.
+    pub fn new(writer: W) -> Self {
+        FromWrite {
+            writer,
+            failed: false,
+        }
+    }
+}
+
+impl<W: Write> Sink for FromWrite<W> {
+    fn write(&mut self, buf: &[u8]) -> Result<usize, Failed> {
+        match self.writer.write(buf) {
+            Ok(n) if n > 0 || buf.is_empty() => Ok(n),
+            _ => {
+                self.failed = true;
+                Err(Failed)
+            }
+        }
+    }
+
+    fn has_failed(&self) -> bool {
+        self.failed
+    }
+}

@@ -1,0 +1,18 @@
+// @generated from crates/fontval/src/ending.rt by tools/src/bin/erase.rs
+
+//! The exit status.
+
+use crate::host::*;
+
+use crate::fontval::serve::ServeFault;
+use std::process::ExitCode;
+
+/// Returns the exit status, and the text for standard error.
+pub fn ending(served: Result<(), ServeFault>) -> (ExitCode, &'static str) {
+    match served {
+        Ok(()) => (ExitCode::SUCCESS, ""),
+        Err(ServeFault::Memory) => (ExitCode::FAILURE, "fontval: memory\n"),
+        Err(ServeFault::Read) => (ExitCode::FAILURE, "fontval: read\n"),
+        Err(ServeFault::Write) => (ExitCode::FAILURE, "fontval: write\n"),
+    }
+}

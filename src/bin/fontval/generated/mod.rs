@@ -1,0 +1,34 @@
+// @generated from crates/fontval/src/main.rt by tools/src/bin/erase.rs
+
+//! `fontval` reads lines of commands from standard input to its end, and writes an answer to each
+//! on standard output. It takes no arguments.
+use crate::host::*;
+
+mod answers;
+mod command;
+mod device;
+mod ending;
+mod images;
+mod judgement;
+mod numbers;
+mod output;
+mod parse;
+mod refusal;
+mod serve;
+mod text;
+
+use crate::host::io;
+use device::{FromRead, FromWrite};
+use ending::ending;
+use serve::serve;
+use std::process::ExitCode;
+
+// No clause can say what the standard streams read and wrote. If standard error fails, its text is
+// lost, and the status stays.
+pub fn main(rt: HostRuntime) -> ExitCode {
+    let mut source = FromRead::new(rt.stdin());
+    let mut sink = FromWrite::new(io::writer(&rt));
+    let (status, complaint) = ending(serve(rt.alloc(), &mut source, &mut sink));
+    let _ = eprint!(rt; "{complaint}");
+    status
+}

@@ -1,0 +1,37 @@
+// @generated from crates/fontval/src/parse.rt by tools/src/bin/erase.rs
+
+//! Reads the words of a command.
+
+use crate::host::*;
+
+use crate::fontval::refusal::Refusal;
+use crate::fontval::text::Words;
+
+// Returns the word of a command that takes one.
+fn only_word(mut words: Words<'_>) -> Result<&[u8], Refusal> {
+    match (words.next(), words.next()) {
+        (Some(word), None) => Ok(word),
+        _ => Err(Refusal::WordCount),
+    }
+}
+
+/// Returns the words of a command that takes two.
+pub fn two_words(mut words: Words<'_>) -> Result<(&[u8], &[u8]), Refusal> {
+    match (words.next(), words.next(), words.next()) {
+        (Some(first), Some(second), None) => Ok((first, second)),
+        _ => Err(Refusal::WordCount),
+    }
+}
+
+/// Returns the bytes of the only word, of hexadecimal digits of either case.
+pub fn hexadecimal<const N: usize>(words: Words<'_>) -> Result<[u8; N], Refusal> {
+    decoded(only_word(words)?)
+}
+
+// Decodes a text of hexadecimal digits.
+#[inline(never)]
+fn decoded<const N: usize>(text: &[u8]) -> Result<[u8; N], Refusal> {
+    let mut bytes = [0; N];
+    hex::decode_to_slice(text, &mut bytes).map_err(|_| Refusal::NotHexadecimal)?;
+    Ok(bytes)
+}

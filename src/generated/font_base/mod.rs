@@ -1,0 +1,23 @@
+// @generated from crates/font_base/src/lib.rt by tools/src/bin/erase.rs
+
+//! Big-endian scalars, arrays and table headers, and 24-bit integers.
+//!
+//! ```text
+//! u16::read(&[0x01, 0x00])                              // Some(256)
+//! Int24::new(-2).to_be_bytes()                          // [0xFF, 0xFF, 0xFE]
+//! TableDataRef::<SampleHeader>::new(bytes)?.header()    // decoded from the first six bytes
+//! ```
+
+mod array;
+mod big_endian;
+mod int24;
+mod raw;
+mod table_data;
+mod uint24;
+
+pub use array::{ScalarArray, ScalarArrayIter};
+pub use big_endian::BigEndian;
+pub use int24::Int24;
+pub use raw::{BeByteArray, FixedSize, IdentityEq, Scalar};
+pub use table_data::{SampleHeader, TableDataRef, TableHeader};
+pub use uint24::{TryFromUint24Error, Uint24};

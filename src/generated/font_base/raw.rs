@@ -1,0 +1,271 @@
+// @generated from crates/font_base/src/raw.rt by tools/src/bin/erase.rs
+
+//! Scalars and their big-endian bytes.
+
+/// A fixed-size big-endian byte array.
+///
+/// # Laws
+///
+/// Rattle proves these of every implementation; rustc checks none of them.
+///
+/// - `from_slice` accepts exactly the slices of `LEN` bytes.
+/// - `as_slice` returns `LEN` bytes, those that `from_slice` was given.
+/// - Arrays with equal bytes are the same value.
+pub trait BeByteArray: Copy {
+    /// The number of bytes.
+    const LEN: usize;
+
+    /// Copies a slice, or returns `None` unless its length is `LEN`.
+    #[must_use]
+    fn from_slice(slice: &[u8]) -> Option<Self>;
+
+    /// Returns the bytes as a slice.
+    #[must_use]
+    fn as_slice(&self) -> &[u8];
+
+    /// Returns `true` if both arrays have the same bytes.
+    #[must_use]
+    #[inline]
+    fn eq_array(&self, other: &Self) -> bool {
+        self.as_slice() == other.as_slice()
+    }
+}
+
+impl<const N: usize> BeByteArray for [u8; N] {
+    const LEN: usize = N;
+
+    #[inline]
+    fn from_slice(slice: &[u8]) -> Option<[u8; N]> {
+        slice.try_into().ok()
+    }
+
+    #[inline]
+    fn as_slice(&self) -> &[u8] {
+        self
+    }
+
+    #[inline]
+    fn eq_array(&self, other: &[u8; N]) -> bool {
+        self == other
+    }
+}
+
+/// A type with a fixed encoded size.
+///
+/// ```
+/// use font_types_proved::{FixedSize, Offset24};
+/// assert_eq!(Offset24::RAW_BYTE_LEN, 3);
+/// ```
+///
+/// # Laws
+///
+/// Rattle proves this of every [`Scalar`]; rustc does not check it.
+///
+/// - A value has `RAW_BYTE_LEN` raw bytes.
+pub trait FixedSize: Sized {
+    /// The encoded size, in bytes.
+    const RAW_BYTE_LEN: usize;
+}
+
+/// A type that is encoded as a fixed number of big-endian bytes.
+///
+/// A value and its raw bytes determine each other.
+///
+/// ```
+/// use font_types_proved::Scalar;
+/// assert_eq!(u16::read(&[0x01, 0x00]), Some(256));
+/// assert_eq!(u16::read(&[0x01]), None);
+/// ```
+///
+/// # Laws
+///
+/// Rattle proves these of every implementation; rustc checks none of them.
+///
+/// - `from_raw(value.to_raw())` is `value`, and `from_raw(raw).to_raw()` is `raw`.
+/// - `Raw::LEN` equals `RAW_BYTE_LEN`.
+pub trait Scalar: FixedSize {
+    /// The raw bytes.
+    type Raw: BeByteArray;
+
+    /// Decodes a value from its raw bytes.
+    #[must_use]
+    fn from_raw(raw: Self::Raw) -> Self;
+
+    /// Encodes the value as raw bytes.
+    #[must_use]
+    fn to_raw(self) -> Self::Raw;
+
+    /// Reads a value from a slice, or returns `None` unless its length is `RAW_BYTE_LEN`.
+    #[must_use]
+    #[inline]
+    fn read(slice: &[u8]) -> Option<Self> {
+        let raw = Self::Raw::from_slice(slice)?;
+        Some(Self::from_raw(raw))
+    }
+
+    /// Reads the value at `offset`, or returns `None` if fewer than `RAW_BYTE_LEN` bytes are left
+    /// there.
+    ///
+    /// ```
+    /// use font_types_proved::{Scalar, Tag};
+    /// let head = b"\x00\x01\x00\x00head";
+    /// assert_eq!(Tag::read_at(head, 4), Some(Tag::new(b"head")));
+    /// assert_eq!(Tag::read_at(head, 5), None);
+    /// ```
+    #[must_use]
+    #[inline]
+    fn read_at(bytes: &[u8], offset: usize) -> Option<Self> {
+        let (_, rest) = bytes.split_at_checked(offset)?;
+        let (front, _) = rest.split_at_checked(Self::RAW_BYTE_LEN)?;
+        Self::read(front)
+    }
+}
+
+/// A scalar whose `==` is identity.
+///
+/// # Laws
+///
+/// Rattle proves this of every implementation; rustc does not check it.
+///
+/// - `a == b` if and only if they are the same value, with the same raw bytes.
+pub trait IdentityEq: Eq {}
+
+impl FixedSize for u8 {
+    const RAW_BYTE_LEN: usize = 1;
+}
+
+impl Scalar for u8 {
+    type Raw = [u8; 1];
+
+    #[inline]
+    fn from_raw(raw: [u8; 1]) -> u8 {
+        u8::from_be_bytes(raw)
+    }
+
+    #[inline]
+    fn to_raw(self) -> [u8; 1] {
+        self.to_be_bytes()
+    }
+}
+
+impl IdentityEq for u8 {}
+
+impl FixedSize for u16 {
+    const RAW_BYTE_LEN: usize = 2;
+}
+
+impl Scalar for u16 {
+    type Raw = [u8; 2];
+
+    #[inline]
+    fn from_raw(raw: [u8; 2]) -> u16 {
+        u16::from_be_bytes(raw)
+    }
+
+    #[inline]
+    fn to_raw(self) -> [u8; 2] {
+        self.to_be_bytes()
+    }
+}
+
+impl IdentityEq for u16 {}
+
+impl FixedSize for u32 {
+    const RAW_BYTE_LEN: usize = 4;
+}
+
+impl Scalar for u32 {
+    type Raw = [u8; 4];
+
+    #[inline]
+    fn from_raw(raw: [u8; 4]) -> u32 {
+        u32::from_be_bytes(raw)
+    }
+
+    #[inline]
+    fn to_raw(self) -> [u8; 4] {
+        self.to_be_bytes()
+    }
+}
+
+impl IdentityEq for u32 {}
+
+impl FixedSize for i8 {
+    const RAW_BYTE_LEN: usize = 1;
+}
+
+impl Scalar for i8 {
+    type Raw = [u8; 1];
+
+    #[inline]
+    fn from_raw(raw: [u8; 1]) -> i8 {
+        u8::from_be_bytes(raw).cast_signed()
+    }
+
+    #[inline]
+    fn to_raw(self) -> [u8; 1] {
+        self.to_be_bytes()
+    }
+}
+
+impl IdentityEq for i8 {}
+
+impl FixedSize for i16 {
+    const RAW_BYTE_LEN: usize = 2;
+}
+
+impl Scalar for i16 {
+    type Raw = [u8; 2];
+
+    #[inline]
+    fn from_raw(raw: [u8; 2]) -> i16 {
+        u16::from_be_bytes(raw).cast_signed()
+    }
+
+    #[inline]
+    fn to_raw(self) -> [u8; 2] {
+        self.to_be_bytes()
+    }
+}
+
+impl IdentityEq for i16 {}
+
+impl FixedSize for i32 {
+    const RAW_BYTE_LEN: usize = 4;
+}
+
+impl Scalar for i32 {
+    type Raw = [u8; 4];
+
+    #[inline]
+    fn from_raw(raw: [u8; 4]) -> i32 {
+        u32::from_be_bytes(raw).cast_signed()
+    }
+
+    #[inline]
+    fn to_raw(self) -> [u8; 4] {
+        self.to_be_bytes()
+    }
+}
+
+impl IdentityEq for i32 {}
+
+impl FixedSize for i64 {
+    const RAW_BYTE_LEN: usize = 8;
+}
+
+impl Scalar for i64 {
+    type Raw = [u8; 8];
+
+    #[inline]
+    fn from_raw(raw: [u8; 8]) -> i64 {
+        u64::from_be_bytes(raw).cast_signed()
+    }
+
+    #[inline]
+    fn to_raw(self) -> [u8; 8] {
+        self.to_be_bytes()
+    }
+}
+
+impl IdentityEq for i64 {}

@@ -1,0 +1,144 @@
+// @generated from crates/font_base/src/table_data.rt by tools/src/bin/erase.rs
+
+//! Table data with a fixed-size header.
+
+use crate::font_base::big_endian::BigEndian;
+use core::marker::PhantomData;
+
+/// A fixed-size header at the start of a table.
+///
+/// # Laws
+///
+/// Rattle proves this of every implementation; rustc does not check it.
+///
+/// - `decode` returns a header for any `BYTE_LEN` bytes: it does not panic.
+///
+/// ```
+/// use font_types_proved::{Scalar, TableDataRef, TableHeader, Version16Dot16};
+///
+/// /// The header of the table `maxp`.
+/// struct MaxpHeader {
+///     version: Version16Dot16,
+///     glyph_count: u16,
+/// }
+///
+/// impl TableHeader for MaxpHeader {
+///     const BYTE_LEN: usize = 6;
+///
+///     fn decode(bytes: &[u8]) -> Self {
+///         Self {
+///             version: Scalar::read(&bytes[..4]).expect("four bytes"),
+///             glyph_count: Scalar::read(&bytes[4..]).expect("two bytes"),
+///         }
+///     }
+/// }
+///
+/// let maxp = TableDataRef::<MaxpHeader>::new(&[0, 0, 0x50, 0, 1, 4]).unwrap();
+/// assert_eq!(maxp.header().version, Version16Dot16::VERSION_0_5);
+/// assert_eq!(maxp.header().glyph_count, 260);
+/// assert!(TableDataRef::<MaxpHeader>::new(&[0, 0, 0x50, 0, 1]).is_none());
+/// ```
+///
+/// The source and its contracts: `crates/font_base/src/table_data.rt`.
+pub trait TableHeader: Sized {
+    /// The size of the header, in bytes.
+    const BYTE_LEN: usize;
+
+    /// Decodes a header from exactly `BYTE_LEN` bytes. May panic at any other length.
+    #[must_use]
+    fn decode(bytes: &[u8]) -> Self;
+}
+
+/// The bytes of a table that starts with a header of type `H`.
+///
+/// The length is checked once, by `new`.
+///
+/// ```
+/// use font_types_proved::{SampleHeader, TableDataRef};
+/// let table = TableDataRef::<SampleHeader>::new(&[0, 1, 0, 0, 0, 2, 9]).unwrap();
+/// assert_eq!(table.header().b.get(), 2);
+/// ```
+///
+/// The source and its contracts: `crates/font_base/src/table_data.rt`.
+pub struct TableDataRef<'a, H: TableHeader> {
+    data: &'a [u8],
+    header: PhantomData<H>,
+}
+
+impl<'a, H: TableHeader> TableDataRef<'a, H> {
+    /// Creates a table over `data`, or returns `None` if it is too short for the header.
+    #[must_use]
+    #[inline(always)]
+    pub fn new(data: &'a [u8]) -> Option<TableDataRef<'a, H>> {
+        if data.len() < H::BYTE_LEN {
+            return None;
+        }
+        Some(TableDataRef {
+            data,
+            header: PhantomData,
+        })
+    }
+
+    /// Decodes the header from the first `BYTE_LEN` bytes.
+    #[must_use]
+    #[inline(always)]
+    pub fn header(&self) -> H {
+        H::decode(&self.data[..H::BYTE_LEN])
+    }
+
+    /// Returns all the bytes, including the header.
+    #[must_use]
+    #[inline(always)]
+    pub fn data(&self) -> &'a [u8] {
+        self.data
+    }
+
+    /// Returns the bytes after the header.
+    #[must_use]
+    #[inline]
+    pub fn rest(&self) -> &'a [u8] {
+        &self.data[H::BYTE_LEN..]
+    }
+
+    /// Returns the header and the bytes after it.
+    #[must_use]
+    #[inline]
+    pub fn split(&self) -> (H, &'a [u8]) {
+        (self.header(), self.rest())
+    }
+}
+
+impl<'a, H: TableHeader> Clone for TableDataRef<'a, H> {
+    #[inline]
+    fn clone(&self) -> TableDataRef<'a, H> {
+        TableDataRef {
+            data: self.data,
+            header: PhantomData,
+        }
+    }
+}
+
+impl<'a, H: TableHeader> Copy for TableDataRef<'a, H> {}
+
+/// An example of a header, with two fields.
+///
+/// The source and its contracts: `crates/font_base/src/table_data.rt`.
+#[doc(hidden)]
+pub struct SampleHeader {
+    /// Bytes 0 and 1.
+    pub a: BigEndian<u16>,
+    /// Bytes 2 to 5.
+    pub b: BigEndian<u32>,
+}
+
+impl TableHeader for SampleHeader {
+    const BYTE_LEN: usize = 6;
+
+    #[inline]
+    fn decode(bytes: &[u8]) -> SampleHeader {
+        SampleHeader {
+            a: BigEndian::from_slice(&bytes[..2]).unwrap(),
+            b: BigEndian::from_slice(&bytes[2..]).unwrap(),
+        }
+    }
+}

@@ -1,0 +1,35 @@
+// @generated from crates/font_decimal/src/grammar.rt by tools/src/bin/erase.rs
+
+//! The parts of a decimal.
+
+// Splits off a leading `-`.
+#[must_use]
+#[inline]
+pub fn split_sign(text: &[u8]) -> (bool, &[u8]) {
+    match text {
+        [b'-', rest @ ..] => (true, rest),
+        _ => (false, text),
+    }
+}
+
+// Returns the fraction, without its point: empty, or one byte or more after a point.
+#[must_use]
+#[inline]
+pub fn after_point(text: &[u8]) -> Option<&[u8]> {
+    match text {
+        [] => Some(text),
+        [b'.', fraction @ ..] if !fraction.is_empty() => Some(fraction),
+        _ => None,
+    }
+}
+
+// No early exit, so that it vectorizes.
+#[must_use]
+#[inline]
+pub fn are_digits(text: &[u8]) -> bool {
+    let mut all = true;
+    for byte in text {
+        all &= byte.is_ascii_digit();
+    }
+    all
+}

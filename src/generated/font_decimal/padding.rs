@@ -1,0 +1,120 @@
+// @generated from crates/font_decimal/src/padding.rt by tools/src/bin/erase.rs
+
+//! Padding a decimal to a width.
+
+/// The alignment of text that is shorter than the width.
+///
+/// The source and its contracts: `crates/font_decimal/src/padding.rt`.
+#[derive(Clone, Copy)]
+pub enum Align {
+    /// Left-aligned, with the fill on the right.
+    Left,
+    /// Centered; an odd fill byte goes on the right.
+    Center,
+    /// Right-aligned, with the fill on the left.
+    Right,
+}
+
+/// How to pad a decimal.
+///
+/// ```
+/// use font_types_proved::{Align, Fixed, Pad};
+/// let mut pad = Pad::new(6);
+/// pad.align = Align::Left;
+/// pad.fill = b'.';
+/// let mut out = [0; 6];
+/// assert_eq!(Fixed::ONE.write_padded(&mut out, &pad), Some(6));
+/// assert_eq!(&out, b"1.....");
+/// ```
+///
+/// The source and its contracts: `crates/font_decimal/src/padding.rt`.
+#[derive(Clone, Copy)]
+pub struct Pad {
+    /// The minimum width in bytes; 0 means none.
+    pub width: usize,
+    /// The fill byte, below 0x80.
+    pub fill: u8,
+    /// The alignment.
+    pub align: Align,
+    /// Writes a `+` unless the text starts with `-`.
+    pub plus: bool,
+    /// Pads with zeros after the sign, ignoring `fill` and `align`.
+    pub zeros: bool,
+}
+
+impl Pad {
+    /// Creates a padding of at least `width` bytes, right-aligned, filled with spaces.
+    ///
+    /// The fields are public: `Pad { plus: true, ..Pad::new(8) }` also writes a plus sign.
+    #[must_use]
+    #[inline]
+    pub const fn new(width: usize) -> Self {
+        Self {
+            width,
+            fill: b' ',
+            align: Align::Right,
+            plus: false,
+            zeros: false,
+        }
+    }
+}
+
+/// Writes a padded decimal to the start of `out` and returns its length, or returns `None` and
+/// leaves `out` unchanged if it is too short.
+///
+/// The text must be a decimal, in range or not, and `pad.fill` must be below 0x80.
+#[inline]
+pub fn write_padded(text: &str, out: &mut [u8], pad: &Pad) -> Option<usize> {
+    let (sign, body) = shown_parts(text, pad.plus);
+    let len = sign.len() + body.len();
+    let shown_len = len.max(pad.width);
+    if out.len() < shown_len {
+        return None;
+    }
+    let (front, zeros, back) = spread(shown_len - len, pad);
+    let at = put_fill(out, 0, pad.fill, front);
+    let at = put(out, at, sign.as_bytes());
+    let at = put_fill(out, at, b'0', zeros);
+    let at = put(out, at, body.as_bytes());
+    Some(put_fill(out, at, pad.fill, back))
+}
+
+// Returns the sign to write, and the text without its own sign.
+#[inline]
+fn shown_parts(text: &str, plus: bool) -> (&'static str, &str) {
+    match text.strip_prefix('-') {
+        Some(body) => ("-", body),
+        None if plus => ("+", text),
+        None => ("", text),
+    }
+}
+
+// Splits the padding into fill on the left, zeros after the sign, and fill on the right.
+#[inline]
+fn spread(spare: usize, pad: &Pad) -> (usize, usize, usize) {
+    if pad.zeros {
+        return (0, spare, 0);
+    }
+    let front = match pad.align {
+        Align::Left => 0,
+        Align::Center => spare / 2,
+        Align::Right => spare,
+    };
+    (front, 0, spare - front)
+}
+
+// Writes bytes at index `at`, and returns the index after them.
+#[inline]
+fn put(out: &mut [u8], at: usize, bytes: &[u8]) -> usize {
+    let end = at + bytes.len();
+    out[at..end].copy_from_slice(bytes);
+    end
+}
+
+// Writes a byte `count` times at index `at`, and returns the index after them.
+#[inline]
+fn put_fill(out: &mut [u8], at: usize, byte: u8, count: usize) -> usize {
+    let end = at + count;
+    out[at..end].fill(byte);
+    end
+}

@@ -1,0 +1,72 @@
+// @generated from crates/font_fixed/src/fixed_i16/f2dot14.rt by tools/src/bin/erase.rs
+
+//! 2.14 fixed-point numbers.
+
+use super::FixedI16;
+use crate::font_fixed::formats::Format;
+use crate::font_fixed::{F48Dot16, Fixed, nearest_step};
+
+/// A signed 2.14 fixed-point number, such as a coordinate of a normalized design space.
+///
+/// The raw value is an `i16` in units of `1 / 16384`. Sums wrap on overflow.
+///
+/// ```
+/// use font_types_proved::F2Dot14;
+/// let number = F2Dot14::from_bits(0x6000);
+/// assert_eq!(number.to_string(), "1.5");
+/// assert_eq!("1.5".parse(), Ok(number));
+/// ```
+///
+/// The source and its contracts: `crates/font_fixed/src/fixed_i16/f2dot14.rt`.
+pub type F2Dot14 = FixedI16<14>;
+
+impl Format<16, 14> for F2Dot14 {}
+
+impl F2Dot14 {
+    /// The smallest value, -2.
+    pub const MIN: Self = Self(-0x8000);
+
+    /// The largest value, `2 - 1 / 16384`.
+    pub const MAX: Self = Self(0x7FFF);
+
+    /// The smallest positive value, `1 / 16384`.
+    pub const EPSILON: Self = Self(1);
+
+    /// The value 0.
+    pub const ZERO: Self = Self(0);
+
+    /// The value 1.
+    pub const ONE: Self = Self(0x4000);
+
+    /// The value -1.
+    pub const NEG_ONE: Self = Self(-0x4000);
+
+    /// Converts to [`Fixed`], exactly.
+    #[must_use]
+    #[inline(always)]
+    pub const fn to_fixed(self) -> Fixed {
+        Fixed::from_bits(self.0 as i32 * 4)
+    }
+
+    /// Adds a sum of deltas, exactly. The result is in units of `2^-30`.
+    ///
+    /// A delta of 1 is one unit of the raw value, `1 / 16384`.
+    #[must_use]
+    #[inline]
+    pub fn apply_delta(self, delta: F48Dot16) -> i128 {
+        i128::from(self.0) * 0x1_0000 + i128::from(delta.to_bits())
+    }
+    /// Rounds a result of `apply_delta` to a value, half up, or returns `None` if that is out of
+    /// range.
+    ///
+    /// ```
+    /// use font_types_proved::{F2Dot14, F48Dot16};
+    /// let moved = F2Dot14::ONE.apply_delta(F48Dot16::from_i32(-3));
+    /// assert_eq!(F2Dot14::round_delta(moved), Some(F2Dot14::from_bits(0x3FFD)));
+    /// ```
+    #[must_use]
+    #[inline]
+    pub fn round_delta(moved: i128) -> Option<Self> {
+        Some(Self(i16::try_from(nearest_step(moved)).ok()?))
+    }
+}

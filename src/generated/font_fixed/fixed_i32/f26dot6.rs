@@ -1,0 +1,96 @@
+// @generated from crates/font_fixed/src/fixed_i32/f26dot6.rt by tools/src/bin/erase.rs
+
+//! 26.6 fixed-point numbers.
+
+use super::FixedI32;
+use crate::font_fixed::formats::Format;
+use crate::font_fixed::{mul_div, product};
+use core::ops::{Div, DivAssign, Mul, MulAssign};
+
+/// A signed 26.6 fixed-point number, the unit of scaled outlines.
+///
+/// The raw value is an `i32` in units of `1 / 64`. Sums, products and quotients wrap on overflow.
+///
+/// ```
+/// use font_types_proved::F26Dot6;
+/// let number = F26Dot6::from_bits(96);
+/// assert_eq!(number.to_string(), "1.5");
+/// assert_eq!("1.5".parse(), Ok(number));
+/// ```
+///
+/// The source and its contracts: `crates/font_fixed/src/fixed_i32/f26dot6.rt`.
+pub type F26Dot6 = FixedI32<6>;
+
+impl Format<32, 6> for F26Dot6 {}
+
+impl F26Dot6 {
+    /// The smallest value, -33554432.
+    pub const MIN: Self = Self(-0x8000_0000);
+
+    /// The largest value, `33554432 - 1 / 64`.
+    pub const MAX: Self = Self(0x7FFF_FFFF);
+
+    /// The smallest positive value, `1 / 64`.
+    pub const EPSILON: Self = Self(1);
+
+    /// The value 0.
+    pub const ZERO: Self = Self(0);
+
+    /// The value 1.
+    pub const ONE: Self = Self(64);
+
+    /// The value -1.
+    pub const NEG_ONE: Self = Self(-64);
+
+    /// Converts an integer, wrapping on overflow.
+    #[must_use]
+    #[inline(always)]
+    pub const fn from_i32(number: i32) -> Self {
+        Self(number.wrapping_mul(64))
+    }
+
+    /// Rounds to the nearest integer, half up, wrapped to 26 bits: `F26Dot6::MAX` gives -33554432.
+    #[must_use]
+    #[inline(always)]
+    pub const fn to_i32(self) -> i32 {
+        self.wrapping_add(Self(32)).0 >> 6
+    }
+}
+
+/// Rounds half away from zero, and wraps on overflow.
+impl Mul for F26Dot6 {
+    type Output = F26Dot6;
+
+    #[inline(always)]
+    fn mul(self, other: F26Dot6) -> F26Dot6 {
+        Self(product(self.0, other.0, 6))
+    }
+}
+
+/// Rounds half away from zero, and wraps on overflow.
+impl MulAssign for F26Dot6 {
+    #[inline(always)]
+    fn mul_assign(&mut self, other: F26Dot6) {
+        *self = *self * other;
+    }
+}
+
+/// Rounds half away from zero, and wraps on overflow.
+///
+/// Division by zero gives [`F26Dot6::MAX`], or `-F26Dot6::MAX` if the dividend is negative.
+impl Div for F26Dot6 {
+    type Output = F26Dot6;
+
+    #[inline]
+    fn div(self, other: F26Dot6) -> F26Dot6 {
+        Self(mul_div(self.0, Self::ONE.0, other.0))
+    }
+}
+
+/// Divides as `/` does.
+impl DivAssign for F26Dot6 {
+    #[inline(always)]
+    fn div_assign(&mut self, other: F26Dot6) {
+        *self = *self / other;
+    }
+}

@@ -1,0 +1,100 @@
+// @generated from crates/font_fixed/src/fixed_i32/f2dot30.rt by tools/src/bin/erase.rs
+
+//! 2.30 fixed-point numbers.
+
+use super::FixedI32;
+use crate::font_base::{FixedSize, IdentityEq, Scalar};
+use crate::font_fixed::formats::Format;
+use crate::font_fixed::{F2Dot14, Fixed};
+
+/// A signed 2.30 fixed-point number.
+///
+/// The raw value is an `i32` in units of `1 / 2^30`. Sums wrap on overflow.
+///
+/// ```
+/// use font_types_proved::F2Dot30;
+/// let number = F2Dot30::from_bits(0x6000_0000);
+/// assert_eq!(number.to_string(), "1.5");
+/// assert_eq!("1.5".parse(), Ok(number));
+/// ```
+///
+/// The source and its contracts: `crates/font_fixed/src/fixed_i32/f2dot30.rt`.
+pub type F2Dot30 = FixedI32<30>;
+
+impl Format<32, 30> for F2Dot30 {}
+
+impl F2Dot30 {
+    /// The smallest value, -2.
+    pub const MIN: Self = Self(-0x8000_0000);
+
+    /// The largest value, `2 - 1 / 2^30`.
+    pub const MAX: Self = Self(0x7FFF_FFFF);
+
+    /// The smallest positive value, `1 / 2^30`.
+    pub const EPSILON: Self = Self(1);
+
+    /// The value 0.
+    pub const ZERO: Self = Self(0);
+
+    /// The value 1.
+    pub const ONE: Self = Self(0x4000_0000);
+
+    /// The value -1.
+    pub const NEG_ONE: Self = Self(-0x4000_0000);
+
+    /// Converts from [`Fixed`], wrapping on overflow: exact from -2 up to but not including 2.
+    #[must_use]
+    #[inline]
+    pub const fn from_fixed(number: Fixed) -> Self {
+        Self(number.to_bits().wrapping_mul(0x4000))
+    }
+
+    /// Converts from [`F2Dot14`], exactly.
+    #[must_use]
+    #[inline]
+    pub const fn from_f2dot14(number: F2Dot14) -> Self {
+        Self(number.to_bits() as i32 * 0x1_0000)
+    }
+
+    /// Rounds to the nearest [`Fixed`], half up.
+    #[must_use]
+    #[inline(always)]
+    pub const fn to_fixed(self) -> Fixed {
+        Fixed::from_bits(((self.0 >> 13) + 1) >> 1)
+    }
+
+    /// Rounds to the nearest [`F2Dot14`], half up, wrapping on overflow.
+    #[must_use]
+    #[inline(always)]
+    pub const fn to_f2dot14(self) -> F2Dot14 {
+        F2Dot14::from_bits((self.wrapping_add(Self(0x8000)).0 >> 16) as i16)
+    }
+}
+
+/// Converts exactly, as `from_f2dot14` does.
+impl From<F2Dot14> for F2Dot30 {
+    #[inline]
+    fn from(number: F2Dot14) -> F2Dot30 {
+        F2Dot30::from_f2dot14(number)
+    }
+}
+
+impl FixedSize for F2Dot30 {
+    const RAW_BYTE_LEN: usize = 4;
+}
+
+impl Scalar for F2Dot30 {
+    type Raw = [u8; 4];
+
+    #[inline(always)]
+    fn from_raw(raw: [u8; 4]) -> F2Dot30 {
+        Self(i32::from_raw(raw))
+    }
+
+    #[inline(always)]
+    fn to_raw(self) -> [u8; 4] {
+        self.0.to_raw()
+    }
+}
+
+impl IdentityEq for F2Dot30 {}

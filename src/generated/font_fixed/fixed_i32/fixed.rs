@@ -1,0 +1,214 @@
+// @generated from crates/font_fixed/src/fixed_i32/fixed.rt by tools/src/bin/erase.rs
+
+//! 16.16 fixed-point numbers.
+
+use super::FixedI32;
+use crate::font_base::{FixedSize, IdentityEq, Scalar};
+use crate::font_fixed::formats::Format;
+use crate::font_fixed::{F2Dot14, F26Dot6, F48Dot16, mul_div, product};
+use core::ops::{Div, DivAssign, Mul, MulAssign};
+
+/// A signed 16.16 fixed-point number.
+///
+/// The raw value is an `i32` in units of `1 / 65536`. Sums, products and quotients wrap on
+/// overflow.
+///
+/// ```
+/// use font_types_proved::Fixed;
+/// let number = Fixed::from_bits(0x18000);
+/// assert_eq!(number.to_string(), "1.5");
+/// assert_eq!("1.5".parse(), Ok(number));
+/// ```
+///
+/// The source and its contracts: `crates/font_fixed/src/fixed_i32/fixed.rt`.
+pub type Fixed = FixedI32<16>;
+
+impl Format<32, 16> for Fixed {}
+
+impl Fixed {
+    /// The smallest value, -32768.
+    pub const MIN: Self = Self(-0x8000_0000);
+
+    /// The largest value, `32768 - 1 / 65536`.
+    pub const MAX: Self = Self(0x7FFF_FFFF);
+
+    /// The smallest positive value, `1 / 65536`.
+    pub const EPSILON: Self = Self(1);
+
+    /// The value 0.
+    pub const ZERO: Self = Self(0);
+
+    /// The value 1.
+    pub const ONE: Self = Self(0x1_0000);
+
+    /// The value -1.
+    pub const NEG_ONE: Self = Self(-0x1_0000);
+
+    /// Returns `self * a / c`, rounded once, half away from zero, wrapping on overflow.
+    ///
+    /// If `c` is zero, the result is [`Fixed::MAX`], negated if exactly one of `self` and `a` is
+    /// negative.
+    #[must_use]
+    #[inline]
+    pub const fn mul_div(&self, a: Self, c: Self) -> Self {
+        Self(mul_div(self.0, a.0, c.0))
+    }
+
+    /// Converts an integer, wrapping on overflow.
+    #[must_use]
+    #[inline(always)]
+    pub const fn from_i32(number: i32) -> Self {
+        Self(number.wrapping_mul(0x1_0000))
+    }
+
+    /// Rounds to the nearest integer, half up, wrapped to 16 bits: [`Fixed::MAX`] gives -32768.
+    #[must_use]
+    #[inline(always)]
+    pub const fn to_i32(self) -> i32 {
+        self.wrapping_add(Self(0x8000)).0 >> 16
+    }
+
+    /// Rounds to the nearest [`F26Dot6`], half up, its raw bits wrapped to 22 bits.
+    #[must_use]
+    #[inline(always)]
+    pub const fn to_f26dot6(self) -> F26Dot6 {
+        F26Dot6::from_bits(self.wrapping_add(Self(0x200)).0 >> 10)
+    }
+
+    /// Rounds to the nearest [`F2Dot14`], half up, wrapping on overflow.
+    #[must_use]
+    #[inline(always)]
+    pub const fn to_f2dot14(self) -> F2Dot14 {
+        F2Dot14::from_bits(low_half(self.quarter()))
+    }
+
+    /// Converts to [`F48Dot16`], exactly.
+    #[must_use]
+    #[inline(always)]
+    pub const fn to_f48dot16(self) -> F48Dot16 {
+        F48Dot16::from_bits(self.0 as i64)
+    }
+
+    /// Returns the exact product with an integer.
+    #[must_use]
+    #[inline(always)]
+    pub const fn mul_i32(self, number: i32) -> F48Dot16 {
+        F48Dot16::from_bits(self.0 as i64 * number as i64)
+    }
+
+    /// Adds a sum of deltas, exactly. The result is in units of `2^-32`.
+    ///
+    /// A delta of 1 is one unit of the raw value, `1 / 65536`.
+    #[must_use]
+    #[inline]
+    pub fn apply_delta(self, delta: F48Dot16) -> i128 {
+        i128::from(self.0) * 0x1_0000 + i128::from(delta.to_bits())
+    }
+
+    /// Rounds a result of `apply_delta` to a value, half up, or returns `None` if that is out of
+    /// range.
+    ///
+    /// ```
+    /// use font_types_proved::{F48Dot16, Fixed};
+    /// let moved = Fixed::ONE.apply_delta(F48Dot16::from_i32(3));
+    /// assert_eq!(Fixed::round_delta(moved), Some(Fixed::from_bits(0x1_0003)));
+    /// ```
+    #[must_use]
+    #[inline]
+    pub fn round_delta(moved: i128) -> Option<Self> {
+        Some(Self(i32::try_from(nearest_step(moved)).ok()?))
+    }
+
+    // A quarter of the raw bits, rounded half up, wrapped to 30 bits.
+    #[inline]
+    const fn quarter(self) -> i32 {
+        self.wrapping_add(Self(2)).0 >> 2
+    }
+}
+
+/// Returns `moved / 65536`, rounded to the nearest integer, half up.
+#[must_use]
+#[inline]
+pub fn nearest_step(moved: i128) -> i128 {
+    ((moved >> 15) + 1) >> 1
+}
+
+// Truncates to the low 16 bits.
+#[inline]
+const fn low_half(n: i32) -> i16 {
+    (n.rem_euclid(0x1_0000) as u16).cast_signed()
+}
+
+/// Rounds half away from zero, and wraps on overflow.
+impl Mul for Fixed {
+    type Output = Fixed;
+
+    #[inline(always)]
+    fn mul(self, other: Fixed) -> Fixed {
+        Self(product(self.0, other.0, 16))
+    }
+}
+
+/// Rounds half away from zero, and wraps on overflow.
+impl MulAssign for Fixed {
+    #[inline(always)]
+    fn mul_assign(&mut self, other: Fixed) {
+        *self = *self * other;
+    }
+}
+
+/// Rounds half away from zero, and wraps on overflow.
+///
+/// Division by zero gives [`Fixed::MAX`], or `-Fixed::MAX` if the dividend is negative.
+impl Div for Fixed {
+    type Output = Fixed;
+
+    #[inline]
+    fn div(self, other: Fixed) -> Fixed {
+        self.mul_div(Self::ONE, other)
+    }
+}
+
+/// Divides as `/` does.
+impl DivAssign for Fixed {
+    #[inline(always)]
+    fn div_assign(&mut self, other: Fixed) {
+        *self = *self / other;
+    }
+}
+
+/// Converts as `from_i32` does, wrapping on overflow.
+impl From<i32> for Fixed {
+    #[inline]
+    fn from(number: i32) -> Fixed {
+        Fixed::from_i32(number)
+    }
+}
+
+/// Converts exactly, as `to_fixed` does.
+impl From<F2Dot14> for Fixed {
+    #[inline]
+    fn from(number: F2Dot14) -> Fixed {
+        number.to_fixed()
+    }
+}
+
+impl FixedSize for Fixed {
+    const RAW_BYTE_LEN: usize = 4;
+}
+
+impl Scalar for Fixed {
+    type Raw = [u8; 4];
+
+    #[inline(always)]
+    fn from_raw(raw: [u8; 4]) -> Fixed {
+        Self(i32::from_raw(raw))
+    }
+
+    #[inline(always)]
+    fn to_raw(self) -> [u8; 4] {
+        self.0.to_raw()
+    }
+}
+
+impl IdentityEq for Fixed {}

@@ -1,0 +1,232 @@
+// @generated from crates/font_fixed/src/fixed_i64.rt by tools/src/bin/erase.rs
+
+//! 64-bit fixed-point numbers.
+
+use crate::font_decimal::{DecimalFault, Pad, Shortest};
+use crate::font_fixed::formats::Format;
+use crate::font_fixed::read_bits_64;
+use core::fmt;
+use core::ops::{Add, AddAssign, Neg, Sub, SubAssign};
+use core::str::FromStr;
+
+mod f48dot16;
+
+pub use f48dot16::F48Dot16;
+
+/// A signed fixed-point number of 64 bits, `F` of them fraction bits.
+///
+/// The raw value is an `i64` in units of `1 / 2^F`. Sums wrap on overflow.
+///
+/// The format of fonts is [`F48Dot16`]. Rounding, parsing and printing are for it alone:
+///
+/// ```compile_fail,E0599
+/// use font_types_proved::FixedI64;
+/// FixedI64::<3>::from_bits(12).round();
+/// ```
+///
+/// The source and its contracts: `crates/font_fixed/src/fixed_i64.rt`.
+#[derive(Clone, Copy, PartialEq, Eq, PartialOrd, Ord, Hash, Default)]
+pub struct FixedI64<const F: u32>(i64);
+
+impl<const F: u32> FixedI64<F> {
+    /// Creates a value from its raw bits.
+    #[must_use]
+    #[inline(always)]
+    pub const fn from_bits(bits: i64) -> Self {
+        Self(bits)
+    }
+
+    /// Returns the raw bits.
+    #[must_use]
+    #[inline(always)]
+    pub const fn to_bits(self) -> i64 {
+        self.0
+    }
+
+    /// Returns the absolute value; wraps: `MIN.abs()` is `MIN`.
+    #[must_use]
+    #[inline(always)]
+    pub const fn abs(self) -> Self {
+        Self(self.0.wrapping_abs())
+    }
+
+    /// Returns `self + other`, wrapping on overflow.
+    #[must_use]
+    #[inline(always)]
+    pub const fn wrapping_add(self, other: Self) -> Self {
+        Self(self.0.wrapping_add(other.0))
+    }
+
+    /// Returns `self - other`, wrapping on overflow.
+    #[must_use]
+    #[inline(always)]
+    pub const fn wrapping_sub(self, other: Self) -> Self {
+        Self(self.0.wrapping_sub(other.0))
+    }
+
+    /// Returns `self + other`, saturating at `MIN` and `MAX`.
+    #[must_use]
+    #[inline(always)]
+    pub const fn saturating_add(self, other: Self) -> Self {
+        Self(self.0.saturating_add(other.0))
+    }
+
+    /// Returns `self - other`, saturating at `MIN` and `MAX`.
+    #[must_use]
+    #[inline(always)]
+    pub const fn saturating_sub(self, other: Self) -> Self {
+        Self(self.0.saturating_sub(other.0))
+    }
+
+    /// Returns `self + other`, or `None` on overflow.
+    #[must_use]
+    #[inline(always)]
+    pub fn checked_add(self, other: Self) -> Option<Self> {
+        Some(Self(self.0.checked_add(other.0)?))
+    }
+
+    /// Returns the raw bits as big-endian bytes.
+    #[must_use]
+    #[inline(always)]
+    pub const fn to_be_bytes(self) -> [u8; 8] {
+        self.0.to_be_bytes()
+    }
+}
+
+impl<const F: u32> FixedI64<F>
+where
+    Self: Format<64, F>,
+{
+    /// Rounds to the nearest integer, half up; wraps: `MAX.round()` is `MIN`.
+    #[must_use]
+    #[inline(always)]
+    pub const fn round(self) -> Self {
+        self.wrapping_add(Self(1 << (F - 1))).floor()
+    }
+
+    /// Returns the largest integer less than or equal to `self`.
+    #[must_use]
+    #[inline(always)]
+    pub const fn floor(self) -> Self {
+        Self(self.0 - self.fract().0)
+    }
+
+    /// Returns the fractional part, `self - self.floor()`, at least 0 and less than 1.
+    #[must_use]
+    #[inline(always)]
+    pub const fn fract(self) -> Self {
+        Self(self.0.rem_euclid(1 << F))
+    }
+
+    /// Parses a decimal as the nearest value, rounding half away from zero.
+    ///
+    /// # Errors
+    ///
+    /// Returns `Syntax` if the text is not a decimal, and `OutOfRange` if its nearest value is out
+    /// of range.
+    #[inline]
+    pub fn from_decimal(text: &str) -> Result<Self, DecimalFault> {
+        Self::from_decimal_bytes(text.as_bytes())
+    }
+
+    /// Parses a decimal from bytes, as `from_decimal` does.
+    ///
+    /// # Errors
+    ///
+    /// Those of `from_decimal`; bytes that are not UTF-8 are `Syntax`.
+    #[inline]
+    pub fn from_decimal_bytes(text: &[u8]) -> Result<Self, DecimalFault> {
+        Ok(Self(read_bits_64(text, F)?))
+    }
+
+    /// Writes the padded decimal to the start of `out` and returns its length, or returns `None`
+    /// and leaves `out` unchanged if it is too short. A sign, the digits of `MIN`, a
+    /// point and `3 F / 10 + 1` places are always room enough, or `pad.width` if that is more.
+    /// `pad.fill` must be ASCII.
+    #[inline]
+    pub fn write_padded(self, out: &mut [u8], pad: &Pad) -> Option<usize> {
+        crate::font_decimal::write_padded(self.shortest().as_str(), out, pad)
+    }
+
+    #[inline]
+    fn shortest(self) -> Shortest {
+        Shortest::new(self.0, F)
+    }
+}
+
+/// Wraps on overflow.
+impl<const F: u32> Add for FixedI64<F> {
+    type Output = FixedI64<F>;
+
+    #[inline(always)]
+    fn add(self, other: FixedI64<F>) -> FixedI64<F> {
+        self.wrapping_add(other)
+    }
+}
+
+/// Wraps on overflow.
+impl<const F: u32> AddAssign for FixedI64<F> {
+    #[inline(always)]
+    fn add_assign(&mut self, other: FixedI64<F>) {
+        *self = *self + other;
+    }
+}
+
+/// Wraps on overflow.
+impl<const F: u32> Sub for FixedI64<F> {
+    type Output = FixedI64<F>;
+
+    #[inline(always)]
+    fn sub(self, other: FixedI64<F>) -> FixedI64<F> {
+        self.wrapping_sub(other)
+    }
+}
+
+/// Wraps on overflow.
+impl<const F: u32> SubAssign for FixedI64<F> {
+    #[inline(always)]
+    fn sub_assign(&mut self, other: FixedI64<F>) {
+        *self = *self - other;
+    }
+}
+
+/// Wraps: `-MIN` is `MIN`.
+impl<const F: u32> Neg for FixedI64<F> {
+    type Output = FixedI64<F>;
+
+    #[inline(always)]
+    fn neg(self) -> FixedI64<F> {
+        Self(self.0.wrapping_neg())
+    }
+}
+
+/// Parses as `from_decimal` does: `"1.5".parse()`.
+impl<const F: u32> FromStr for FixedI64<F>
+where
+    Self: Format<64, F>,
+{
+    type Err = DecimalFault;
+
+    #[inline]
+    fn from_str(text: &str) -> Result<Self, DecimalFault> {
+        Self::from_decimal(text)
+    }
+}
+
+impl<const F: u32> fmt::Display for FixedI64<F>
+where
+    Self: Format<64, F>,
+{
+    fn fmt(&self, f: &mut fmt::Formatter<'_>) -> fmt::Result {
+        fmt::Display::fmt(&self.shortest(), f)
+    }
+}
+
+impl<const F: u32> fmt::Debug for FixedI64<F>
+where
+    Self: Format<64, F>,
+{
+    fn fmt(&self, f: &mut fmt::Formatter<'_>) -> fmt::Result {
+        fmt::Display::fmt(&self.shortest(), f)
+    }
+}

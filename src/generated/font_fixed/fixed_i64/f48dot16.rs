@@ -1,0 +1,78 @@
+// @generated from crates/font_fixed/src/fixed_i64/f48dot16.rt by tools/src/bin/erase.rs
+
+//! 48.16 fixed-point numbers.
+
+use super::FixedI64;
+use crate::font_fixed::formats::Format;
+use crate::font_fixed::{Fixed, low_bits};
+
+/// A signed 48.16 fixed-point number, such as a sum of deltas.
+///
+/// The raw value is an `i64` in units of `1 / 65536`. Sums wrap on overflow.
+///
+/// ```
+/// use font_types_proved::F48Dot16;
+/// let number = F48Dot16::from_bits(0x18000);
+/// assert_eq!(number.to_string(), "1.5");
+/// assert_eq!("1.5".parse(), Ok(number));
+/// ```
+///
+/// The source and its contracts: `crates/font_fixed/src/fixed_i64/f48dot16.rt`.
+pub type F48Dot16 = FixedI64<16>;
+
+impl Format<64, 16> for F48Dot16 {}
+
+impl F48Dot16 {
+    /// The smallest value, -140737488355328.
+    pub const MIN: Self = Self(-0x8000_0000_0000_0000);
+
+    /// The largest value, `140737488355328 - 1 / 65536`.
+    pub const MAX: Self = Self(0x7FFF_FFFF_FFFF_FFFF);
+
+    /// The smallest positive value, `1 / 65536`.
+    pub const EPSILON: Self = Self(1);
+
+    /// The value 0.
+    pub const ZERO: Self = Self(0);
+
+    /// The value 1.
+    pub const ONE: Self = Self(0x1_0000);
+
+    /// The value -1.
+    pub const NEG_ONE: Self = Self(-0x1_0000);
+
+    /// Converts an integer, wrapping on overflow.
+    #[must_use]
+    #[inline(always)]
+    pub const fn from_i64(number: i64) -> Self {
+        Self(number.wrapping_mul(0x1_0000))
+    }
+
+    /// Converts an integer, exactly.
+    #[must_use]
+    #[inline(always)]
+    pub const fn from_i32(number: i32) -> Self {
+        Self(number as i64 * 0x1_0000)
+    }
+
+    /// Rounds to the nearest integer, half up, wrapped to 48 bits.
+    #[must_use]
+    #[inline(always)]
+    pub const fn to_i64(self) -> i64 {
+        self.wrapping_add(Self(0x8000)).0 >> 16
+    }
+
+    /// Rounds to the nearest integer, half up, wrapped to 32 bits.
+    #[must_use]
+    #[inline(always)]
+    pub const fn to_i32(self) -> i32 {
+        low_bits(self.to_i64())
+    }
+
+    /// Converts to [`Fixed`], wrapping on overflow.
+    #[must_use]
+    #[inline(always)]
+    pub const fn to_fixed(self) -> Fixed {
+        Fixed::from_bits(low_bits(self.0))
+    }
+}

@@ -1,0 +1,6 @@
+// @generated from crates/font_fixed/src/laws.rt by tools/src/bin/erase.rs
+
+//! Laws of arithmetic, as contracts of functions.
+
+pub mod f26dot6;
+pub mod fixed;

@@ -1,0 +1,25 @@
+// @generated from crates/font_fixed/src/lib.rt by tools/src/bin/erase.rs
+
+//! Fixed-point numbers: [`FixedI16`], [`FixedI32`] and [`FixedI64`] over any number of fraction
+//! bits, and the formats of fonts, which are names for seven of them.
+//!
+//! ```text
+//! let half = Fixed::from_decimal("0.5")?;
+//! half * half                           // 0.25
+//! half.to_f2dot14().to_be_bytes()       // [0x20, 0x00]
+//! ```
+
+mod fixed_i16;
+mod fixed_i32;
+mod fixed_i64;
+mod formats;
+pub mod laws;
+mod products;
+mod reading;
+
+pub use fixed_i16::{F2Dot14, F4Dot12, F6Dot10, FixedI16};
+pub use fixed_i32::{F2Dot30, F26Dot6, Fixed, FixedI32, nearest_step};
+pub use fixed_i64::{F48Dot16, FixedI64};
+pub use formats::Format;
+pub use products::{low_bits, mul_div, product};
+pub use reading::{read_bits_16, read_bits_32, read_bits_64};

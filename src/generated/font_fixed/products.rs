@@ -1,0 +1,64 @@
+// @generated from crates/font_fixed/src/products.rt by tools/src/bin/erase.rs
+
+//! Products and quotients of 32-bit fixed-point numbers, over their raw bits.
+
+/// Multiplies two numbers with `f` fraction bits, rounding half away from zero and wrapping on
+/// overflow.
+#[must_use]
+#[inline(always)]
+pub fn product(x: i32, y: i32, f: u32) -> i32 {
+    low_bits(rounded_shift(i64::from(x) * i64::from(y), f))
+}
+
+/// Returns `x * a / c`, rounded once, half away from zero, wrapping on overflow.
+///
+/// If `c` is zero, the result is `i32::MAX`, negated if exactly one of `x` and `a` is negative.
+#[must_use]
+#[inline]
+pub const fn mul_div(x: i32, a: i32, c: i32) -> i32 {
+    let product = magnitude(x) * magnitude(a);
+    let negative = differs_in_sign(x, a) != c.is_negative();
+    with_sign(negative, rounded_quotient(product, magnitude(c)))
+}
+
+/// Truncates to the low 32 bits.
+#[must_use]
+#[inline(always)]
+pub const fn low_bits(n: i64) -> i32 {
+    (n.rem_euclid(1 << 32) as u32).cast_signed()
+}
+
+// Returns `n / 2^f`, rounded half away from zero.
+#[inline(always)]
+fn rounded_shift(n: i64, f: u32) -> i64 {
+    let half = 1 << (f - 1);
+    (n + half - i64::from(n < 0)) >> f
+}
+
+// Returns `n / d`, rounded half away from zero, or `i32::MAX` if `d` is zero.
+#[inline]
+const fn rounded_quotient(n: u64, d: u64) -> u64 {
+    if d == 0 { 0x7FFF_FFFF } else { (n + d / 2) / d }
+}
+
+// Applies a sign to a magnitude, wrapping on overflow.
+#[inline]
+const fn with_sign(negative: bool, magnitude: u64) -> i32 {
+    let number = ((magnitude % (1 << 32)) as u32).cast_signed();
+    if negative {
+        number.wrapping_neg()
+    } else {
+        number
+    }
+}
+
+#[inline]
+const fn differs_in_sign(x: i32, y: i32) -> bool {
+    x.is_negative() != y.is_negative()
+}
+
+// Returns the absolute value.
+#[inline]
+const fn magnitude(x: i32) -> u64 {
+    x.unsigned_abs() as u64
+}

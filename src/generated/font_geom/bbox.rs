@@ -1,0 +1,76 @@
+// @generated from crates/font_geom/src/bbox.rt by tools/src/bin/erase.rs
+
+//! Axis-aligned bounding boxes.
+
+use core::ops::Mul;
+
+/// The minimum and maximum coordinates of a region.
+///
+/// ```
+/// use font_types_proved::BoundingBox;
+/// let region = BoundingBox { x_min: 3, y_min: 0, x_max: 1, y_max: 2 };
+/// assert_eq!(region.normalize(), BoundingBox { x_min: 1, y_min: 0, x_max: 3, y_max: 2 });
+/// assert_eq!(region.scale(2).y_max, 4);
+/// ```
+///
+/// The source and its contracts: `crates/font_geom/src/bbox.rt`.
+#[derive(Clone, Copy, PartialEq, Eq, Default, Debug)]
+pub struct BoundingBox<T> {
+    /// The minimum x coordinate.
+    pub x_min: T,
+    /// The minimum y coordinate.
+    pub y_min: T,
+    /// The maximum x coordinate.
+    pub x_max: T,
+    /// The maximum y coordinate.
+    pub y_max: T,
+}
+
+impl<T: Mul<Output = T> + Copy> BoundingBox<T> {
+    /// Multiplies each coordinate by `factor`.
+    ///
+    /// A negative factor swaps minimum and maximum: call `normalize` afterwards.
+    #[must_use]
+    #[inline]
+    pub fn scale(&self, factor: T) -> Self {
+        Self {
+            x_min: self.x_min * factor,
+            y_min: self.y_min * factor,
+            x_max: self.x_max * factor,
+            y_max: self.y_max * factor,
+        }
+    }
+}
+
+impl<T: PartialOrd + Copy> BoundingBox<T> {
+    /// Returns `true` if `x_min <= x_max` and `y_min <= y_max`.
+    #[must_use]
+    #[inline]
+    pub fn is_normalized(&self) -> bool {
+        self.x_min <= self.x_max && self.y_min <= self.y_max
+    }
+
+    /// Swaps each pair unless `min <= max`.
+    ///
+    /// A pair that does not compare is swapped too, and then the box is not normalized.
+    #[must_use]
+    #[inline]
+    pub fn normalize(&self) -> Self {
+        let (x_min, x_max) = if self.x_min <= self.x_max {
+            (self.x_min, self.x_max)
+        } else {
+            (self.x_max, self.x_min)
+        };
+        let (y_min, y_max) = if self.y_min <= self.y_max {
+            (self.y_min, self.y_max)
+        } else {
+            (self.y_max, self.y_min)
+        };
+        Self {
+            x_min,
+            y_min,
+            x_max,
+            y_max,
+        }
+    }
+}

@@ -1,0 +1,206 @@
+// @generated from crates/font_geom/src/matrix.rt by tools/src/bin/erase.rs
+
+//! Affine matrices.
+
+use crate::font_fixed::Fixed;
+use crate::font_geom::Point;
+use core::ops::{Add, Mul, MulAssign};
+
+/// An affine transformation: a 2 by 2 matrix and a translation.
+///
+/// ```none
+/// | xx xy dx |
+/// | yx yy dy |
+/// ```
+///
+/// Transforms `(x, y)` to `(xx * x + xy * y + dx, yx * x + yy * y + dy)`. The product `a * b`
+/// applies `b` first, then `a`. For [`Fixed`], the translation is in the unit of the points.
+///
+/// ```
+/// use font_types_proved::{Fixed, Matrix, Point};
+/// let half = Fixed::from_bits(0x8000);
+/// let shrink = Matrix { xx: half, yy: half, ..Matrix::identity() };
+/// assert_eq!(shrink * Point::new(Fixed::ONE, half), Point::new(half, half * half));
+/// ```
+///
+/// The source and its contracts: `crates/font_geom/src/matrix.rt`.
+#[derive(Clone, Copy, PartialEq, Eq, Debug)]
+pub struct Matrix<T> {
+    /// The factor of x in x.
+    pub xx: T,
+    /// The factor of x in y.
+    pub yx: T,
+    /// The factor of y in x.
+    pub xy: T,
+    /// The factor of y in y.
+    pub yy: T,
+    /// The translation along x.
+    pub dx: T,
+    /// The translation along y.
+    pub dy: T,
+}
+
+/// A type of matrix elements.
+///
+/// # Laws
+///
+/// None. That `ZERO` and `ONE` are neutral, so that the identity matrix is neutral, is a law of
+/// [`RingElement`](crate::RingElement).
+///
+/// ```
+/// use core::ops::{Add, Mul};
+/// use font_types_proved::{Matrix, MatrixElement, Point};
+///
+/// /// An integer that wraps.
+/// #[derive(Clone, Copy, Debug, PartialEq)]
+/// struct Units(i32);
+///
+/// impl Add for Units {
+///     type Output = Self;
+///
+///     fn add(self, other: Self) -> Self {
+///         Self(self.0.wrapping_add(other.0))
+///     }
+/// }
+///
+/// impl Mul for Units {
+///     type Output = Self;
+///
+///     fn mul(self, other: Self) -> Self {
+///         Self(self.0.wrapping_mul(other.0))
+///     }
+/// }
+///
+/// impl MatrixElement for Units {
+///     const ZERO: Self = Self(0);
+///     const ONE: Self = Self(1);
+/// }
+///
+/// let shift = Matrix { dx: Units(5), ..Matrix::identity() };
+/// assert_eq!(shift * Point::new(Units(1), Units(2)), Point::new(Units(6), Units(2)));
+/// ```
+///
+/// The source and its contracts: `crates/font_geom/src/matrix.rt`.
+pub trait MatrixElement: Copy + Add<Output = Self> + Mul<Output = Self> {
+    /// The value 0.
+    const ZERO: Self;
+
+    /// The value 1.
+    const ONE: Self;
+}
+
+impl MatrixElement for Fixed {
+    const ZERO: Self = Fixed::ZERO;
+
+    const ONE: Self = Fixed::ONE;
+}
+
+impl<T: Copy> Matrix<T> {
+    /// Creates a matrix from its elements in the order `[xx, yx, xy, yy, dx, dy]`.
+    #[must_use]
+    #[inline]
+    pub const fn from_elements(elements: [T; 6]) -> Self {
+        let [xx, yx, xy, yy, dx, dy] = elements;
+        Self {
+            xx,
+            yx,
+            xy,
+            yy,
+            dx,
+            dy,
+        }
+    }
+
+    /// Returns the elements in the order `[xx, yx, xy, yy, dx, dy]`.
+    #[must_use]
+    #[inline]
+    pub const fn elements(&self) -> [T; 6] {
+        [self.xx, self.yx, self.xy, self.yy, self.dx, self.dy]
+    }
+
+    /// Applies a function to each element, in the order of `elements`.
+    #[must_use]
+    #[inline(always)]
+    pub fn map<U: Copy, F: FnMut(T) -> U>(self, mut f: F) -> Matrix<U> {
+        Matrix {
+            xx: f(self.xx),
+            yx: f(self.yx),
+            xy: f(self.xy),
+            yy: f(self.yy),
+            dx: f(self.dx),
+            dy: f(self.dy),
+        }
+    }
+}
+
+impl<T: MatrixElement> Matrix<T> {
+    /// Returns the identity matrix: `ONE` in `xx` and `yy`, and `ZERO` elsewhere.
+    #[must_use]
+    #[inline]
+    pub const fn identity() -> Self {
+        Self {
+            xx: T::ONE,
+            yx: T::ZERO,
+            xy: T::ZERO,
+            yy: T::ONE,
+            dx: T::ZERO,
+            dy: T::ZERO,
+        }
+    }
+
+    /// Returns `(xx * x + xy * y + dx, yx * x + yy * y + dy)`, the image of the point `(x, y)`.
+    #[must_use]
+    #[inline]
+    pub fn transform(&self, x: T, y: T) -> (T, T) {
+        (
+            self.xx * x + self.xy * y + self.dx,
+            self.yx * x + self.yy * y + self.dy,
+        )
+    }
+}
+
+impl<T: MatrixElement> Default for Matrix<T> {
+    #[inline]
+    fn default() -> Matrix<T> {
+        Self::identity()
+    }
+}
+
+/// Returns the matrix that transforms by `rhs` first, and then by `self`.
+///
+/// Its `xx` is `self.xx * rhs.xx + self.xy * rhs.yx`, and its `dx` is
+/// `self.xx * rhs.dx + self.xy * rhs.dy + self.dx`.
+impl<T: MatrixElement> Mul for Matrix<T> {
+    type Output = Matrix<T>;
+
+    #[inline]
+    fn mul(self, rhs: Matrix<T>) -> Matrix<T> {
+        Matrix {
+            xx: self.xx * rhs.xx + self.xy * rhs.yx,
+            yx: self.yx * rhs.xx + self.yy * rhs.yx,
+            xy: self.xx * rhs.xy + self.xy * rhs.yy,
+            yy: self.yx * rhs.xy + self.yy * rhs.yy,
+            dx: self.xx * rhs.dx + self.xy * rhs.dy + self.dx,
+            dy: self.yx * rhs.dx + self.yy * rhs.dy + self.dy,
+        }
+    }
+}
+
+/// Multiplies as `*` does.
+impl<T: MatrixElement> MulAssign for Matrix<T> {
+    #[inline]
+    fn mul_assign(&mut self, rhs: Matrix<T>) {
+        *self = *self * rhs;
+    }
+}
+
+/// Transforms a point, as `transform` does.
+impl<T: MatrixElement> Mul<Point<T>> for Matrix<T> {
+    type Output = Point<T>;
+
+    #[inline]
+    fn mul(self, rhs: Point<T>) -> Point<T> {
+        let (x, y) = self.transform(rhs.x, rhs.y);
+        Point::new(x, y)
+    }
+}

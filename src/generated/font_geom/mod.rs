@@ -1,0 +1,19 @@
+// @generated from crates/font_geom/src/lib.rt by tools/src/bin/erase.rs
+
+//! Points, boxes and matrices over any element.
+//!
+//! ```text
+//! let turned = Matrix::from_elements([a, b, c, d, e, f]);
+//! (turned * point, Matrix::identity() * point)          // a point moved, and left where it is
+//! ```
+
+mod bbox;
+pub mod laws;
+mod matrix;
+mod point;
+mod ring;
+
+pub use bbox::BoundingBox;
+pub use matrix::{Matrix, MatrixElement};
+pub use point::Point;
+pub use ring::RingElement;

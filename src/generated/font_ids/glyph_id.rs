@@ -1,0 +1,355 @@
+// @generated from crates/font_ids/src/glyph_id.rt by tools/src/bin/erase.rs
+
+//! Glyph ids.
+
+use crate::font_base::{FixedSize, IdentityEq, Scalar, Uint24};
+use core::cmp::Ordering;
+use core::fmt;
+
+/// A 16-bit glyph id.
+///
+/// ```
+/// use font_types_proved::{GlyphId, GlyphId16};
+/// assert_eq!(GlyphId16::try_from(GlyphId::new(7)).unwrap(), GlyphId16::new(7));
+/// ```
+///
+/// The source and its contracts: `crates/font_ids/src/glyph_id.rt`.
+#[derive(Clone, Copy, Debug, Default, PartialEq, Eq, PartialOrd, Ord, Hash)]
+pub struct GlyphId16(u16);
+
+impl GlyphId16 {
+    /// `.notdef`, glyph 0.
+    pub const NOTDEF: Self = Self(0);
+
+    /// Creates a glyph id.
+    #[must_use]
+    #[inline]
+    pub const fn new(raw: u16) -> Self {
+        Self(raw)
+    }
+
+    /// Returns the number.
+    #[must_use]
+    #[inline]
+    pub const fn to_u16(self) -> u16 {
+        self.0
+    }
+
+    /// Returns the number.
+    #[must_use]
+    #[inline]
+    pub const fn to_u32(self) -> u32 {
+        self.0 as u32
+    }
+
+    /// Returns the big-endian bytes.
+    #[must_use]
+    #[inline]
+    pub const fn to_be_bytes(self) -> [u8; 2] {
+        self.0.to_be_bytes()
+    }
+
+    /// Returns `true` if both are the same glyph.
+    #[must_use]
+    #[inline]
+    pub fn eq_gid(&self, other: &GlyphId) -> bool {
+        GlyphId::from(*self) == *other
+    }
+
+    /// Compares the two numbers.
+    #[must_use]
+    #[inline]
+    pub fn cmp_gid(&self, other: &GlyphId) -> Ordering {
+        GlyphId::from(*self).cmp(other)
+    }
+}
+
+impl fmt::Display for GlyphId16 {
+    fn fmt(&self, f: &mut fmt::Formatter<'_>) -> fmt::Result {
+        write!(f, "GID_{}", self.0)
+    }
+}
+
+impl From<u16> for GlyphId16 {
+    #[inline]
+    fn from(number: u16) -> GlyphId16 {
+        GlyphId16(number)
+    }
+}
+
+impl From<GlyphId16> for u16 {
+    #[inline]
+    fn from(id: GlyphId16) -> u16 {
+        id.0
+    }
+}
+
+impl From<GlyphId16> for u32 {
+    #[inline]
+    fn from(id: GlyphId16) -> u32 {
+        id.to_u32()
+    }
+}
+
+impl From<GlyphId16> for usize {
+    #[inline]
+    fn from(id: GlyphId16) -> usize {
+        usize::from(id.0)
+    }
+}
+
+/// Fails if the number exceeds 65535.
+impl TryFrom<GlyphId> for GlyphId16 {
+    type Error = TryFromGlyphIdError;
+
+    #[inline]
+    fn try_from(id: GlyphId) -> Result<GlyphId16, TryFromGlyphIdError> {
+        match u16::try_from(id.0) {
+            Ok(number) => Ok(GlyphId16(number)),
+            Err(_) => Err(TryFromGlyphIdError(id.0)),
+        }
+    }
+}
+
+impl FixedSize for GlyphId16 {
+    const RAW_BYTE_LEN: usize = 2;
+}
+
+impl Scalar for GlyphId16 {
+    type Raw = [u8; 2];
+
+    #[inline]
+    fn from_raw(raw: [u8; 2]) -> GlyphId16 {
+        GlyphId16(u16::from_raw(raw))
+    }
+
+    #[inline]
+    fn to_raw(self) -> [u8; 2] {
+        self.0.to_raw()
+    }
+}
+
+impl IdentityEq for GlyphId16 {}
+
+/// A 24-bit glyph id.
+///
+/// ```
+/// use font_types_proved::GlyphId24;
+/// assert_eq!(GlyphId24::checked_new(0x01_0000).unwrap().to_be_bytes(), [1, 0, 0]);
+/// ```
+///
+/// The source and its contracts: `crates/font_ids/src/glyph_id.rt`.
+#[derive(Clone, Copy, Debug, Default, PartialEq, Eq, PartialOrd, Ord, Hash)]
+pub struct GlyphId24(Uint24);
+
+impl GlyphId24 {
+    /// `.notdef`, glyph 0.
+    pub const NOTDEF: Self = Self(Uint24::MIN);
+
+    /// Creates a glyph id, saturating at 16777215.
+    #[must_use]
+    #[inline]
+    pub const fn new(raw: u32) -> Self {
+        Self(Uint24::new(raw))
+    }
+
+    /// Creates a glyph id, or returns `None` if the number exceeds 16777215.
+    #[must_use]
+    #[inline]
+    pub const fn checked_new(raw: u32) -> Option<Self> {
+        match Uint24::checked_new(raw) {
+            Some(number) => Some(Self(number)),
+            None => None,
+        }
+    }
+
+    /// Returns the number.
+    #[must_use]
+    #[inline]
+    pub const fn to_u32(self) -> u32 {
+        self.0.to_u32()
+    }
+
+    /// Returns the big-endian bytes.
+    #[must_use]
+    #[inline]
+    pub const fn to_be_bytes(self) -> [u8; 3] {
+        self.0.to_be_bytes()
+    }
+
+    /// Creates a glyph id from big-endian bytes.
+    #[must_use]
+    #[inline]
+    pub const fn from_be_bytes(bytes: [u8; 3]) -> Self {
+        Self(Uint24::from_be_bytes(bytes))
+    }
+}
+
+impl fmt::Display for GlyphId24 {
+    fn fmt(&self, f: &mut fmt::Formatter<'_>) -> fmt::Result {
+        write!(f, "GID_{}", self.to_u32())
+    }
+}
+
+impl From<GlyphId24> for u32 {
+    #[inline]
+    fn from(id: GlyphId24) -> u32 {
+        id.to_u32()
+    }
+}
+
+impl From<GlyphId24> for usize {
+    #[inline]
+    fn from(id: GlyphId24) -> usize {
+        usize::from(id.0)
+    }
+}
+
+/// Fails if the number exceeds 16777215.
+impl TryFrom<GlyphId> for GlyphId24 {
+    type Error = TryFromGlyphIdError;
+
+    #[inline]
+    fn try_from(id: GlyphId) -> Result<GlyphId24, TryFromGlyphIdError> {
+        match Uint24::checked_new(id.0) {
+            Some(number) => Ok(GlyphId24(number)),
+            None => Err(TryFromGlyphIdError(id.0)),
+        }
+    }
+}
+
+impl FixedSize for GlyphId24 {
+    const RAW_BYTE_LEN: usize = 3;
+}
+
+impl Scalar for GlyphId24 {
+    type Raw = [u8; 3];
+
+    #[inline]
+    fn from_raw(raw: [u8; 3]) -> GlyphId24 {
+        GlyphId24(Uint24::from_raw(raw))
+    }
+
+    #[inline]
+    fn to_raw(self) -> [u8; 3] {
+        self.0.to_raw()
+    }
+}
+
+impl IdentityEq for GlyphId24 {}
+
+/// A 32-bit glyph id, to which 16-bit and 24-bit ids convert.
+///
+/// ```
+/// use font_types_proved::{GlyphId, GlyphId16};
+/// assert_eq!(GlyphId::from(GlyphId16::new(7)).to_u32(), 7);
+/// ```
+///
+/// The source and its contracts: `crates/font_ids/src/glyph_id.rt`.
+#[derive(Clone, Copy, Debug, Default, PartialEq, Eq, PartialOrd, Ord, Hash)]
+pub struct GlyphId(u32);
+
+impl GlyphId {
+    /// `.notdef`, glyph 0.
+    pub const NOTDEF: Self = Self(0);
+
+    /// Creates a glyph id.
+    #[must_use]
+    #[inline]
+    pub const fn new(raw: u32) -> Self {
+        Self(raw)
+    }
+
+    /// Returns the number.
+    #[must_use]
+    #[inline]
+    pub const fn to_u32(self) -> u32 {
+        self.0
+    }
+
+    /// Returns `true` if both are the same glyph.
+    #[must_use]
+    #[inline]
+    pub fn eq_gid16(&self, other: &GlyphId16) -> bool {
+        *self == GlyphId::from(*other)
+    }
+
+    /// Compares the two numbers.
+    #[must_use]
+    #[inline]
+    pub fn cmp_gid16(&self, other: &GlyphId16) -> Ordering {
+        self.cmp(&GlyphId::from(*other))
+    }
+}
+
+impl fmt::Display for GlyphId {
+    fn fmt(&self, f: &mut fmt::Formatter<'_>) -> fmt::Result {
+        write!(f, "GID_{}", self.0)
+    }
+}
+
+impl From<u16> for GlyphId {
+    #[inline]
+    fn from(number: u16) -> GlyphId {
+        GlyphId(u32::from(number))
+    }
+}
+
+impl From<u32> for GlyphId {
+    #[inline]
+    fn from(number: u32) -> GlyphId {
+        GlyphId(number)
+    }
+}
+
+impl From<GlyphId16> for GlyphId {
+    #[inline]
+    fn from(narrow: GlyphId16) -> GlyphId {
+        GlyphId(narrow.to_u32())
+    }
+}
+
+impl From<GlyphId24> for GlyphId {
+    #[inline]
+    fn from(narrow: GlyphId24) -> GlyphId {
+        GlyphId(narrow.to_u32())
+    }
+}
+
+impl From<GlyphId> for u32 {
+    #[inline]
+    fn from(id: GlyphId) -> u32 {
+        id.0
+    }
+}
+
+/// The error of a conversion of a glyph id that is too large for the target type.
+///
+/// ```
+/// use font_types_proved::{GlyphId, GlyphId16};
+/// let error = GlyphId16::try_from(GlyphId::new(65536)).unwrap_err();
+/// assert_eq!(error.value(), 65536);
+/// ```
+///
+/// The source and its contracts: `crates/font_ids/src/glyph_id.rt`.
+#[derive(Debug)]
+pub struct TryFromGlyphIdError(u32);
+
+impl core::error::Error for TryFromGlyphIdError {}
+
+impl core::fmt::Display for TryFromGlyphIdError {
+    fn fmt(&self, f: &mut core::fmt::Formatter<'_>) -> core::fmt::Result {
+        match self {
+            Self(field_0, ..) => write!(f, "glyph identifier {field_0} too large for conversion"),
+        }
+    }
+}
+
+impl TryFromGlyphIdError {
+    /// Returns the number that was too large.
+    #[must_use]
+    #[inline]
+    pub fn value(&self) -> u32 {
+        self.0
+    }
+}

@@ -1,0 +1,307 @@
+// @generated from crates/font_ids/src/offset.rt by tools/src/bin/erase.rs
+
+//! Offsets to tables.
+
+use crate::font_base::{FixedSize, IdentityEq, Scalar, Uint24};
+
+/// A 16-bit offset to a table. Zero means null, that is, no table, if the field allows that.
+///
+/// ```
+/// use font_types_proved::Offset16;
+/// let offset = Offset16::new(7);
+/// assert!(!offset.is_null() && offset.to_u32() == 7);
+/// ```
+///
+/// The source and its contracts: `crates/font_ids/src/offset.rt`.
+#[derive(Clone, Copy, Debug, PartialEq, Eq, PartialOrd, Ord)]
+pub struct Offset16(u16);
+
+impl Offset16 {
+    /// Creates an offset.
+    #[must_use]
+    #[inline]
+    pub const fn new(raw: u16) -> Self {
+        Self(raw)
+    }
+
+    /// Returns `true` if the offset is zero.
+    #[must_use]
+    #[inline]
+    pub fn is_null(self) -> bool {
+        self == Offset16::NULL
+    }
+
+    /// Returns the number.
+    #[must_use]
+    #[inline]
+    pub fn to_u32(self) -> u32 {
+        u32::from(self.0)
+    }
+
+    /// Returns `true` if the offset is this number.
+    #[must_use]
+    #[inline]
+    pub fn eq_u32(&self, other: &u32) -> bool {
+        self.to_u32() == *other
+    }
+}
+
+impl From<Offset16> for usize {
+    #[inline]
+    fn from(offset: Offset16) -> usize {
+        usize::from(offset.0)
+    }
+}
+
+impl FixedSize for Offset16 {
+    const RAW_BYTE_LEN: usize = 2;
+}
+
+impl Scalar for Offset16 {
+    type Raw = [u8; 2];
+
+    #[inline]
+    fn from_raw(raw: [u8; 2]) -> Offset16 {
+        Offset16(u16::from_raw(raw))
+    }
+
+    #[inline]
+    fn to_raw(self) -> [u8; 2] {
+        self.0.to_raw()
+    }
+}
+
+impl IdentityEq for Offset16 {}
+
+/// A 24-bit offset to a table. Zero means null, that is, no table, if the field allows that.
+///
+/// ```
+/// use font_types_proved::{Offset24, Uint24};
+/// let offset = Offset24::new(Uint24::new(7));
+/// assert!(!offset.is_null() && offset.to_u32() == 7);
+/// ```
+///
+/// The source and its contracts: `crates/font_ids/src/offset.rt`.
+#[derive(Clone, Copy, Debug, PartialEq, Eq, PartialOrd, Ord)]
+pub struct Offset24(Uint24);
+
+impl Offset24 {
+    /// Creates an offset.
+    #[must_use]
+    #[inline]
+    pub const fn new(raw: Uint24) -> Self {
+        Self(raw)
+    }
+
+    /// Returns `true` if the offset is zero.
+    #[must_use]
+    #[inline]
+    pub fn is_null(self) -> bool {
+        self == Offset24::NULL
+    }
+
+    /// Returns the number.
+    #[must_use]
+    #[inline]
+    pub const fn to_u32(self) -> u32 {
+        self.0.to_u32()
+    }
+
+    /// Returns `true` if the offset is this number.
+    #[must_use]
+    #[inline]
+    pub fn eq_u32(&self, other: &u32) -> bool {
+        self.to_u32() == *other
+    }
+}
+
+impl FixedSize for Offset24 {
+    const RAW_BYTE_LEN: usize = 3;
+}
+
+impl Scalar for Offset24 {
+    type Raw = [u8; 3];
+
+    #[inline]
+    fn from_raw(raw: [u8; 3]) -> Offset24 {
+        Offset24(Uint24::from_raw(raw))
+    }
+
+    #[inline]
+    fn to_raw(self) -> [u8; 3] {
+        self.0.to_raw()
+    }
+}
+
+impl IdentityEq for Offset24 {}
+
+/// A 32-bit offset to a table. Zero means null, that is, no table, if the field allows that.
+///
+/// A `usize` of 32 bits or more holds each; take `usize::try_from(offset.to_u32())`.
+///
+/// ```
+/// use font_types_proved::Offset32;
+/// let offset = Offset32::new(7);
+/// assert!(!offset.is_null() && offset.to_u32() == 7);
+/// ```
+///
+/// The source and its contracts: `crates/font_ids/src/offset.rt`.
+#[derive(Clone, Copy, Debug, PartialEq, Eq, PartialOrd, Ord)]
+pub struct Offset32(u32);
+
+impl Offset32 {
+    /// Creates an offset.
+    #[must_use]
+    #[inline]
+    pub const fn new(raw: u32) -> Self {
+        Self(raw)
+    }
+
+    /// Returns `true` if the offset is zero.
+    #[must_use]
+    #[inline]
+    pub fn is_null(self) -> bool {
+        self == Offset32::NULL
+    }
+
+    /// Returns the number.
+    #[must_use]
+    #[inline]
+    pub const fn to_u32(self) -> u32 {
+        self.0
+    }
+
+    /// Returns `true` if the offset is this number.
+    #[must_use]
+    #[inline]
+    pub fn eq_u32(&self, other: &u32) -> bool {
+        self.to_u32() == *other
+    }
+}
+
+impl FixedSize for Offset32 {
+    const RAW_BYTE_LEN: usize = 4;
+}
+
+impl Scalar for Offset32 {
+    type Raw = [u8; 4];
+
+    #[inline]
+    fn from_raw(raw: [u8; 4]) -> Offset32 {
+        Offset32(u32::from_raw(raw))
+    }
+
+    #[inline]
+    fn to_raw(self) -> [u8; 4] {
+        self.0.to_raw()
+    }
+}
+
+impl IdentityEq for Offset32 {}
+
+/// An offset that can be [`Nullable`].
+///
+/// # Laws
+///
+/// Rattle proves this of every implementation; rustc does not check it.
+///
+/// - `NULL.value_u32()` is 0.
+///
+/// The source and its contracts: `crates/font_ids/src/offset.rt`.
+pub trait OffsetValue: Copy {
+    /// The null offset, 0.
+    const NULL: Self;
+
+    /// Returns the number.
+    #[must_use]
+    fn value_u32(&self) -> u32;
+}
+
+impl OffsetValue for Offset16 {
+    const NULL: Offset16 = Offset16(0);
+
+    #[inline]
+    fn value_u32(&self) -> u32 {
+        self.to_u32()
+    }
+}
+
+impl OffsetValue for Offset24 {
+    const NULL: Offset24 = Offset24(Uint24::MIN);
+
+    #[inline]
+    fn value_u32(&self) -> u32 {
+        self.to_u32()
+    }
+}
+
+impl OffsetValue for Offset32 {
+    const NULL: Offset32 = Offset32(0);
+
+    #[inline]
+    fn value_u32(&self) -> u32 {
+        self.to_u32()
+    }
+}
+
+/// An offset that may be null, that is, refer to no table.
+///
+/// ```
+/// use font_types_proved::{Nullable, Offset16, Scalar};
+/// assert!(Nullable::<Offset16>::read(&[0, 0]).unwrap().is_null());
+/// ```
+///
+/// The source and its contracts: `crates/font_ids/src/offset.rt`.
+#[derive(Clone, Copy, Debug, PartialEq, Eq)]
+pub struct Nullable<T>(T);
+
+impl<T> Nullable<T> {
+    /// Returns the offset, whether null or not.
+    #[must_use]
+    #[inline]
+    pub fn offset(&self) -> &T {
+        &self.0
+    }
+}
+
+impl<T: OffsetValue> Nullable<T> {
+    /// Returns `true` if the offset is zero.
+    #[must_use]
+    #[inline]
+    pub fn is_null(&self) -> bool {
+        self.0.value_u32() == 0
+    }
+
+    /// Returns `true` if the offset is this number.
+    #[must_use]
+    #[inline]
+    pub fn eq_u32(&self, other: &u32) -> bool {
+        self.0.value_u32() == *other
+    }
+}
+
+/// Null.
+impl<T: OffsetValue> Default for Nullable<T> {
+    #[inline]
+    fn default() -> Nullable<T> {
+        Nullable(T::NULL)
+    }
+}
+
+impl<T: FixedSize> FixedSize for Nullable<T> {
+    const RAW_BYTE_LEN: usize = T::RAW_BYTE_LEN;
+}
+
+impl<T: Scalar> Scalar for Nullable<T> {
+    type Raw = T::Raw;
+
+    #[inline]
+    fn from_raw(raw: T::Raw) -> Nullable<T> {
+        Nullable(T::from_raw(raw))
+    }
+
+    #[inline]
+    fn to_raw(self) -> T::Raw {
+        T::to_raw(self.0)
+    }
+}

@@ -1,0 +1,246 @@
+// @generated from crates/font_tags/src/version.rt by tools/src/bin/erase.rs
+
+//! Table versions.
+
+use crate::font_base::{FixedSize, IdentityEq, Scalar};
+use core::fmt;
+
+/// A packed 32-bit version, as in `maxp`, `post` and `vhea`: the major number in the high 16 bits
+/// and the minor number in the next four.
+///
+/// Equality compares all 32 bits.
+///
+/// ```
+/// use font_types_proved::{Compatible, Version16Dot16};
+/// let version = Version16Dot16::new(0, 5);
+/// assert_eq!(version.to_be_bytes(), [0, 0, 0x50, 0]);
+/// assert!(version.compatible((0, 5)));
+/// ```
+///
+/// The source and its contracts: `crates/font_tags/src/version.rt`.
+#[derive(Clone, Copy, Default, PartialEq, Eq, PartialOrd, Ord, Hash)]
+pub struct Version16Dot16(u32);
+
+impl Version16Dot16 {
+    /// Version 0.5.
+    pub const VERSION_0_5: Self = Self(0x0000_5000);
+
+    /// Version 1.0.
+    pub const VERSION_1_0: Self = Self(0x0001_0000);
+
+    /// Version 1.1.
+    pub const VERSION_1_1: Self = Self(0x0001_1000);
+
+    /// Version 2.0.
+    pub const VERSION_2_0: Self = Self(0x0002_0000);
+
+    /// Version 2.5.
+    pub const VERSION_2_5: Self = Self(0x0002_5000);
+
+    /// Version 3.0.
+    pub const VERSION_3_0: Self = Self(0x0003_0000);
+
+    /// Creates a version. A minor number above 9 counts as 9.
+    #[must_use]
+    #[inline]
+    pub const fn new(major: u16, minor: u16) -> Self {
+        let minor = if minor > 9 { 9 } else { minor };
+        Self(major as u32 * 0x1_0000 + minor as u32 * 0x1000)
+    }
+
+    /// Returns the major and minor numbers. The minor number can be up to 15 unless the version was
+    /// created by `new`.
+    #[must_use]
+    #[inline]
+    pub const fn to_major_minor(self) -> (u16, u16) {
+        (
+            (self.0 / 0x1_0000) as u16,
+            (self.0 % 0x1_0000 / 0x1000) as u16,
+        )
+    }
+
+    /// Returns the big-endian bytes.
+    #[must_use]
+    #[inline]
+    pub const fn to_be_bytes(self) -> [u8; 4] {
+        self.0.to_be_bytes()
+    }
+}
+
+impl fmt::Display for Version16Dot16 {
+    fn fmt(&self, f: &mut fmt::Formatter<'_>) -> fmt::Result {
+        let (major, minor) = self.to_major_minor();
+        write!(f, "{major}.{minor}")
+    }
+}
+
+impl fmt::Debug for Version16Dot16 {
+    fn fmt(&self, f: &mut fmt::Formatter<'_>) -> fmt::Result {
+        write!(f, "Version16Dot16({:08x})", self.0)
+    }
+}
+
+impl FixedSize for Version16Dot16 {
+    const RAW_BYTE_LEN: usize = 4;
+}
+
+impl Scalar for Version16Dot16 {
+    type Raw = [u8; 4];
+
+    #[inline]
+    fn from_raw(raw: [u8; 4]) -> Version16Dot16 {
+        Version16Dot16(u32::from_raw(raw))
+    }
+
+    #[inline]
+    fn to_raw(self) -> [u8; 4] {
+        self.0.to_raw()
+    }
+}
+
+impl IdentityEq for Version16Dot16 {}
+
+/// A version with 16-bit major and minor numbers.
+///
+/// ```
+/// use font_types_proved::{Compatible, MajorMinor};
+/// let version = MajorMinor::new(1, 2);
+/// assert!(version.compatible((1, 0)) && !version.compatible((1, 3)));
+/// ```
+///
+/// The source and its contracts: `crates/font_tags/src/version.rt`.
+#[derive(Clone, Copy, Debug, Default, PartialEq, Eq, PartialOrd, Ord, Hash)]
+pub struct MajorMinor {
+    /// The major number.
+    pub major: u16,
+    /// The minor number.
+    pub minor: u16,
+}
+
+impl MajorMinor {
+    /// Version 1.0.
+    pub const VERSION_1_0: Self = MajorMinor { major: 1, minor: 0 };
+
+    /// Version 1.1.
+    pub const VERSION_1_1: Self = MajorMinor { major: 1, minor: 1 };
+
+    /// Version 1.2.
+    pub const VERSION_1_2: Self = MajorMinor { major: 1, minor: 2 };
+
+    /// Version 1.3.
+    pub const VERSION_1_3: Self = MajorMinor { major: 1, minor: 3 };
+
+    /// Version 2.0.
+    pub const VERSION_2_0: Self = MajorMinor { major: 2, minor: 0 };
+
+    /// Creates a version.
+    #[must_use]
+    #[inline]
+    pub const fn new(major: u16, minor: u16) -> Self {
+        MajorMinor { major, minor }
+    }
+
+    /// Returns the big-endian bytes, the major number first.
+    #[must_use]
+    #[inline]
+    pub const fn to_be_bytes(self) -> [u8; 4] {
+        let [a, b] = self.major.to_be_bytes();
+        let [c, d] = self.minor.to_be_bytes();
+        [a, b, c, d]
+    }
+}
+
+impl fmt::Display for MajorMinor {
+    fn fmt(&self, f: &mut fmt::Formatter<'_>) -> fmt::Result {
+        let MajorMinor { major, minor } = self;
+        write!(f, "{major}.{minor}")
+    }
+}
+
+impl FixedSize for MajorMinor {
+    const RAW_BYTE_LEN: usize = 4;
+}
+
+impl Scalar for MajorMinor {
+    type Raw = [u8; 4];
+
+    #[inline]
+    fn from_raw(raw: [u8; 4]) -> MajorMinor {
+        let [a, b, c, d] = raw;
+        MajorMinor {
+            major: u16::from_raw([a, b]),
+            minor: u16::from_raw([c, d]),
+        }
+    }
+
+    #[inline]
+    fn to_raw(self) -> [u8; 4] {
+        let [a, b] = self.major.to_raw();
+        let [c, d] = self.minor.to_raw();
+        [a, b, c, d]
+    }
+}
+
+impl IdentityEq for MajorMinor {}
+
+/// Compatibility of table versions.
+///
+/// # Laws
+///
+/// Rattle proves this of every implementation; rustc does not check it.
+///
+/// - `compatible` returns `true` if and only if the two versions are compatible as the
+///   implementation defines it, and it does not panic.
+///
+/// ```
+/// use font_types_proved::{Compatible, MajorMinor};
+/// let version = MajorMinor::new(1, 2);
+/// assert!(version.compatible((1, 1)) && version.compatible(MajorMinor::VERSION_1_2));
+/// assert!(!version.compatible((1, 3)) && !version.compatible((0, 2)));
+/// ```
+///
+/// The source and its contracts: `crates/font_tags/src/version.rt`.
+pub trait Compatible<Rhs = Self>: Sized {
+    /// Returns `true` if the major numbers are equal and this minor number is at least the other's.
+    #[must_use]
+    fn compatible(&self, other: Rhs) -> bool;
+}
+
+impl Compatible<Version16Dot16> for Version16Dot16 {
+    #[inline]
+    fn compatible(&self, other: Version16Dot16) -> bool {
+        let (major, minor) = self.to_major_minor();
+        let (other_major, other_minor) = other.to_major_minor();
+        major == other_major && minor >= other_minor
+    }
+}
+
+/// A minor number above 9 counts as 9.
+impl Compatible<(u16, u16)> for Version16Dot16 {
+    #[inline]
+    fn compatible(&self, other: (u16, u16)) -> bool {
+        self.compatible(Version16Dot16::new(other.0, other.1))
+    }
+}
+
+impl Compatible<MajorMinor> for MajorMinor {
+    #[inline]
+    fn compatible(&self, other: MajorMinor) -> bool {
+        self.major == other.major && self.minor >= other.minor
+    }
+}
+
+impl Compatible<(u16, u16)> for MajorMinor {
+    #[inline]
+    fn compatible(&self, other: (u16, u16)) -> bool {
+        self.compatible(MajorMinor::new(other.0, other.1))
+    }
+}
+
+/// A version of one number is compatible if it is at least the other.
+impl Compatible<u16> for u16 {
+    #[inline]
+    fn compatible(&self, other: u16) -> bool {
+        *self >= other
+    }
+}

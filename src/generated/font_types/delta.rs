@@ -1,0 +1,126 @@
+// @generated from crates/font_types/src/delta.rt by tools/src/bin/erase.rs
+
+//! Sums of deltas.
+
+use crate::font_fixed::{F48Dot16, Fixed};
+use crate::font_ids::FWord;
+
+/// An accumulator for products of scalars and deltas.
+///
+/// The sum is a 16.16 raw value in 128 bits, enough for any `2^65 - 1` terms in any order; beyond
+/// that it may wrap.
+///
+/// ```
+/// use font_types_proved::{DeltaSum, Fixed};
+/// let mut sum = DeltaSum::new();
+/// sum.add(Fixed::from_bits(0x8000), 3);
+/// sum.add(Fixed::NEG_ONE, 2);
+/// assert_eq!(sum.finish().to_string(), "-0.5");
+/// ```
+///
+/// The source and its contracts: `crates/font_types/src/delta.rt`.
+#[derive(Clone, Copy, Debug, PartialEq, Eq)]
+pub struct DeltaSum {
+    steps: i128,
+}
+
+impl DeltaSum {
+    /// Creates an empty sum, 0.
+    #[must_use]
+    #[inline]
+    pub const fn new() -> DeltaSum {
+        DeltaSum { steps: 0 }
+    }
+
+    /// Adds the product of a scalar and a delta in font units.
+    #[inline]
+    pub fn add(&mut self, scalar: Fixed, delta: i32) {
+        let product = scalar.mul_i32(delta);
+        self.steps = self.steps.wrapping_add(i128::from(product.to_bits()));
+    }
+
+    // Adds the product of a term.
+    #[inline]
+    fn add_term(&mut self, term: &(Fixed, i32)) {
+        let (scalar, delta) = *term;
+        self.add(scalar, delta);
+    }
+
+    /// Returns the sum, wrapped to 64 bits.
+    #[must_use]
+    #[inline]
+    pub const fn finish(self) -> F48Dot16 {
+        F48Dot16::from_bits((self.steps.rem_euclid(1 << 64) as u64).cast_signed())
+    }
+
+    /// Returns the sum, or `None` if it does not fit in 64 bits.
+    #[must_use]
+    #[inline]
+    pub fn checked_finish(self) -> Option<F48Dot16> {
+        let bits = i64::try_from(self.steps).ok()?;
+        Some(F48Dot16::from_bits(bits))
+    }
+}
+
+impl Default for DeltaSum {
+    #[inline]
+    fn default() -> DeltaSum {
+        DeltaSum::new()
+    }
+}
+
+/// Returns the sum of scalar times delta over all terms, in font units, wrapped to 64 bits.
+///
+/// The sum is exact if it fits in 64 bits, even if partial sums do not. The empty list gives zero.
+///
+/// ```
+/// use font_types_proved::{Fixed, delta_sum};
+/// let half = Fixed::from_bits(0x8000);
+/// assert_eq!(delta_sum(&[(half, 3), (Fixed::NEG_ONE, 2)]).to_string(), "-0.5");
+/// ```
+#[must_use]
+#[inline]
+pub fn delta_sum(terms: &[(Fixed, i32)]) -> F48Dot16 {
+    let mut sum = DeltaSum::new();
+    for term in terms {
+        sum.add_term(term);
+    }
+    sum.finish()
+}
+
+/// Returns the exact sum of scalar times delta over all terms, in font units, or `None` if it does
+/// not fit in 64 bits.
+///
+/// Partial sums may have any size. The empty list gives zero. Half of 3 font units is 1.5:
+///
+/// ```
+/// use font_types_proved::{Fixed, checked_delta_sum};
+/// let sum = checked_delta_sum(&[(Fixed::from_bits(0x8000), 3)]).unwrap();
+/// assert_eq!(sum.to_bits(), 98304);
+/// ```
+#[must_use]
+#[inline]
+pub fn checked_delta_sum(terms: &[(Fixed, i32)]) -> Option<F48Dot16> {
+    // A list has fewer than 2^64 terms, so every partial sum fits in 128 bits.
+    let mut exact = DeltaSum::new();
+    for term in terms {
+        exact.add_term(term);
+    }
+    exact.checked_finish()
+}
+
+/// Adds the exact sum of deltas to a quantity in font units, and returns the 16.16 raw value, or
+/// `None` if `checked_delta_sum` does.
+///
+/// 100 font units and half of 3 are 101.5:
+///
+/// ```
+/// use font_types_proved::{FWord, Fixed, vary};
+/// assert_eq!(vary(FWord::new(100), &[(Fixed::from_bits(0x8000), 3)]), Some(6651904));
+/// ```
+#[must_use]
+#[inline]
+pub fn vary(base: FWord, terms: &[(Fixed, i32)]) -> Option<i128> {
+    let sum = checked_delta_sum(terms)?;
+    Some(base.apply_delta(sum))
+}
