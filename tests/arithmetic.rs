@@ -311,3 +311,29 @@ fn sums_of_deltas() {
         }
     }
 }
+
+// 16.16 raw values rounded to font units, half up.
+#[test]
+fn font_units() {
+    for (steps, signed, unsigned) in [
+        (0x7FFF, Some(0), Some(0)),
+        (0x8000, Some(1), Some(1)),
+        (-0x8000, Some(0), Some(0)),
+        (-0x8001, Some(-1), None),
+        (0x7FFF_7FFF, Some(32767), Some(32767)),
+        (0x7FFF_8000, None, Some(32768)),
+        (-0x8000_8000, Some(-32768), None),
+        (-0x8000_8001, None, None),
+        (0xFFFF_7FFF, None, Some(65535)),
+        (0xFFFF_8000, None, None),
+        (i128::MAX, None, None),
+        (i128::MIN, None, None),
+    ] {
+        assert_eq!(FWord::round_steps(steps), signed.map(FWord::new), "{steps}");
+        assert_eq!(
+            UfWord::round_steps(steps),
+            unsigned.map(UfWord::new),
+            "{steps}"
+        );
+    }
+}
