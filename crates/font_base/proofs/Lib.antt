@@ -3,5 +3,5 @@ pub mod StdBytes
 pub mod ScalarCalls
 mod ThreeBytes
 mod Rows
-mod Elements
+pub mod Elements
 pub mod Moved

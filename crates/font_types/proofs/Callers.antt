@@ -7,9 +7,12 @@ use Rattle.font_tags.proofs.TagLaws.{tag_calls}
 use Rattle.font_tags.proofs.VersionLaws.{compatible_calls}
 use Rattle.font_geom.proofs.Bounds.{bound_calls}
 use Rattle.font_types.proofs.Searches.{search_calls}
-use Rattle.font_types.proofs.SumCalls.{sum_calls_from, sum_calls_16, sum_calls_32, delta_sum_calls}
+use Rattle.font_types.proofs.SumCalls.{sum_calls_from, sum_calls_16, sum_calls_32, delta_sum_calls, exact_sum_calls}
 use Rattle.font_types.proofs.StoredBytes.{stored_calls}
 use Rattle.font_types.proofs.ShortProducts.{short_product_calls}
+use Rattle.font_types.proofs.Parts.{part_calls, lerp_calls}
+use Rattle.font_types.proofs.ArrayNumbers.{array_number_calls}
+use Rattle.font_types.proofs.Below.{below_calls, text_calls}
 pub use Rattle.font_base.proofs.ScalarCalls.{absent, nowhere, rises_by}
 pub use Rattle.font_base.proofs.Moved.{bytes_moved}
 pub use Rattle.font_base.specs.Wrap.Laws.{wrap_is, wrap_unique, wrap-fits}
@@ -53,4 +56,14 @@ pub ruleset calls = (
   tag_calls,
   compatible_calls,
   shortest_is,
+  array_number_calls,
+  part_calls,
+  below_calls,
+  text_calls,
 )
+
+-- for a number between two others, `a + (b - a) * t`
+pub ruleset lerps = (lerp_calls)
+
+-- for an exact sum of 48.16
+pub ruleset exact_sums = (exact_sum_calls)

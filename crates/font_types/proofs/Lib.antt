@@ -3,4 +3,7 @@ pub mod SumCalls
 pub mod StoredBytes
 pub mod Searches
 pub mod ShortProducts
+pub mod Parts
+pub mod ArrayNumbers
+pub mod Below
 pub mod Callers

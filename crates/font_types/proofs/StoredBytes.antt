@@ -1,10 +1,13 @@
--- What a caller's `==` says of stored bytes: they are those of a number.
-use Rattle.std.proofs.Common.{◌≡◌, ◌∙◌, ℕ, ℤ, sym, Bool, List}
+-- What callers know of stored bytes: that `==` finds those of a number, and the shortest text of the number just read.
+use Rattle.std.proofs.Common.{◌≡◌, ◌∙◌, ℕ, ℤ, sym, lit<, arith, Bool, List}
+use Rattle.std.proofs.lemmas.Int.{ints}
 use Rattle.std.specs.Prelude.{IsTrue}
 use Rattle.std.specs.Str.{bytes_eq}
 use Rattle.std.proofs.lemmas.Slice.Eq.{bytes_eq-Decides}
-use Rattle.font_base.specs.Bytes.{bytes_of, IsBytesOf}
-use Rattle.font_base.specs.Bytes.Laws.{bytes_of_is, bytes_of_are, bytes_unique}
+use Rattle.font_base.specs.Bytes.{bytes_of, signed_numeral, IsBytesOf}
+use Rattle.font_base.specs.Bytes.Laws.{bytes_of_is, bytes_of_are, bytes_unique, FitsBits-signed_numeral}
+use Rattle.font_decimal.specs.Shortest.{IsShortest, shortest_text}
+use Rattle.font_decimal.proofs.Printed.{shortest_is}
 
 -- bytes that equal those of a number are its bytes, and no others do
 module _ (k : ℕ) (z : ℤ) (stored bytes : List ℕ) (same : Bool) where
@@ -16,4 +19,15 @@ module _ (k : ℕ) (z : ℤ) (stored bytes : List ℕ) (same : Bool) where
   equals_stored compared is given =
       compared ∙ (bytes_eq-Decides stored bytes).1 (is ∙ bytes_unique k z _ _ (bytes_of_is k z) given)
 
-pub ruleset stored_calls = (is_stored, equals_stored)
+-- the shortest text of the number that four bytes or two are read as
+pub shortest_read_4 : (f : ℕ) (bytes : List ℕ)
+    → IsShortest (signed_numeral 4 bytes) f (shortest_text (signed_numeral 4 bytes) f)
+shortest_read_4 f bytes = let fits = FitsBits-signed_numeral 4 bytes (lit< tt) in
+    shortest_is (signed_numeral 4 bytes) f (omega (arith, ints, fits.low, fits.high))
+
+pub shortest_read_2 : (f : ℕ) (bytes : List ℕ)
+    → IsShortest (signed_numeral 2 bytes) f (shortest_text (signed_numeral 2 bytes) f)
+shortest_read_2 f bytes = let fits = FitsBits-signed_numeral 2 bytes (lit< tt) in
+    shortest_is (signed_numeral 2 bytes) f (omega (arith, ints, fits.low, fits.high))
+
+pub ruleset stored_calls = (is_stored, equals_stored, shortest_read_4, shortest_read_2)

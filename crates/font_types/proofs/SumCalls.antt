@@ -1,6 +1,6 @@
 -- What callers name once of sums that wrap at each step: each is the exact sum, wrapped.
 use Rattle.std.proofs.Common.{◌≡◌, ◌∙◌, sym, ap, ℕ, ◌+◌, ◌<◌, List, length, take, get_or, ℤ, pos, ◌+ℤ◌, lit<, arith}
-use Rattle.std.proofs.Common.{◌≤◌, ◌*ℤ◌, ◌%◌, ◌^◌, w16, w32, SFits, to_z, of_z, refl, lit≤, unsigned_abs}
+use Rattle.std.proofs.Common.{◌≤◌, ◌*ℤ◌, ◌%◌, ◌^◌, w16, w32, w64, SFits, to_z, of_z, refl, lit≤, unsigned_abs}
 use Rattle.std.specs.Int.{w128}
 use Rattle.std.proofs.Math.IntN.{+ℤ_assoc}
 use Rattle.std.proofs.lemmas.Int.{ints, unsigned_abs-mul, wrapping_add_onto}
@@ -15,6 +15,8 @@ use Rattle.font_fixed.proofs.Calls.{fits_16, fits_64}
 use Rattle.font_fixed.proofs.Wrapped.{wrapping_add-wrap}
 use Rattle.font_fixed.specs.Fixed.{Fixed}
 use Rattle.font_fixed.specs.Fixed.{fixed_bits}
+use Rattle.font_fixed.specs.F26Dot6.{f26dot6_bits}
+use Rattle.font_fixed.specs.F48Dot16.{f48dot16_bits}
 use Rattle.font_fixed.proofs.FixedCalls.{fixed_calls}
 use Rattle.font_geom.specs.declared.point.Point.{Point}
 use Rattle.font_ids.specs.FWord.{fword_number}
@@ -49,7 +51,38 @@ running_x xs i d within = running_total 32 (λ p. fixed_bits p.x) xs i d (lit< t
 pub running_y : IsRunning 32 (λ (p : Point Fixed). fixed_bits p.y)
 running_y xs i d within = running_total 32 (λ p. fixed_bits p.y) xs i d (lit< tt) within
 
-pub ruleset sum_calls = (fixed_calls, fits_64, running_sum, running_delta_sum, running_x, running_y)
+-- 48.16 and 26.6, and `Fixed` summed in 64 bits
+pub running_48dot16 : IsRunning 64 f48dot16_bits
+running_48dot16 xs i d within = running_total 64 f48dot16_bits xs i d (lit< tt) within
+
+pub running_fixed_64 : IsRunning 64 fixed_bits
+running_fixed_64 xs i d within = running_total 64 fixed_bits xs i d (lit< tt) within
+
+pub running_26dot6 : IsRunning 32 f26dot6_bits
+running_26dot6 xs i d within = running_total 32 f26dot6_bits xs i d (lit< tt) within
+
+pub ruleset sum_calls = (
+  fixed_calls,
+  fits_64,
+  running_sum,
+  running_delta_sum,
+  running_x,
+  running_y,
+  running_48dot16,
+  running_fixed_64,
+  running_26dot6,
+)
+
+-- ---- exact sums in 64 bits of few enough numbers of 32, one more
+
+pub exact_fixed : (xs : List Fixed) (i : ℕ) (d : Fixed) → i < length xs
+    → (total fixed_bits (take i xs) +ℤ fixed_bits (get_or xs i d)) ≡ total fixed_bits (take (i + 1) xs)
+exact_fixed xs i d within = sym (fold_more (λ sum x. sum +ℤ fixed_bits x) (pos 0) xs i d within)
+
+pub fits_sum : (z : ℤ) → SFits w64 z → wrap 64 z ≡ z
+fits_sum = fits_64
+
+pub ruleset exact_sum_calls = (fits_sum, exact_fixed)
 
 -- ---- sums that start somewhere, and sums of sums
 

@@ -1,6 +1,7 @@
 -- Sums of deltas: each term is the product of a scalar, a `Fixed`, and a delta in font units.
 -- (OpenType, item variation stores: an interpolated delta is the sum of the scaled deltas of all regions)
-use Rattle.std.specs.Prelude.{List, fold, Option, Some, None, option_map, if◌then◌else◌, ℤ, pos, ◌+ℤ◌, ◌*ℤ◌}
+use Rattle.std.specs.Prelude.{ℕ, zero, suc, List, fold, Option, Some, None, option_map, if◌then◌else◌}
+use Rattle.std.specs.Prelude.{ℤ, pos, ◌+ℤ◌, ◌*ℤ◌}
 use Rattle.font_base.specs.Wrap.{fits_bits}
 use Rattle.font_fixed.specs.Fixed.{Fixed}
 use Rattle.font_fixed.specs.Fixed.{fixed_bits}
@@ -8,6 +9,11 @@ use Rattle.font_fixed.specs.Fixed.{fixed_bits}
 -- the exact sum of an integer for each element of a list
 abbrev pub total : {T : Type 0} → (T → ℤ) → List T → ℤ
 total number_of xs = fold (λ sum x. sum +ℤ number_of x) (pos 0) xs
+
+-- the exact sum of an integer for each index below n, as of the products of two slices
+unfoldable pub total_below : (ℕ → ℤ) → ℕ → ℤ
+total_below number_at zero = pos 0
+total_below number_at (suc n) = total_below number_at n +ℤ number_at n
 
 -- the exact product of a term, as a 16.16 raw value
 abbrev pub term_product : Fixed × ℤ → ℤ

@@ -1,0 +1,67 @@
+-- Sums over an index, and sums of the numbers that texts are read as: the empty sum, and one term more.
+use Rattle.std.proofs.Common.{◌≡◌, ◌∙◌, sym, ap, refl, lit<, arith, ℕ, zero, suc, ◌+◌, ◌<◌, ℤ, pos, ◌+ℤ◌, add-one}
+use Rattle.std.proofs.Common.{List, [], ◌∷◌, ◌++◌, length, take, get_or, map}
+use Rattle.std.proofs.lemmas.Int.{ints}
+use Rattle.std.proofs.Math.IntN.{+ℤ_assoc}
+use denote.Bor.{Bor}
+use Rattle.font_base.specs.Wrap.{wrap}
+use Rattle.font_base.specs.Wrap.Laws.{wrap-add_left}
+use Rattle.font_fixed.specs.Operations.{ReadsAs}
+use Rattle.font_types.specs.Delta.{total_below}
+use Rattle.font_types.specs.Texts.{ReadsTotal}
+
+pub none_below : (number_at : ℕ → ℤ) → total_below number_at 0 ≡ pos 0
+unfolding total_below
+none_below number_at = refl
+
+pub one_more_below : (number_at : ℕ → ℤ) (n : ℕ)
+    → total_below number_at (n + 1) ≡ (total_below number_at n +ℤ number_at n)
+unfolding total_below
+one_more_below number_at n = rw (add-one n) refl
+
+-- the same if each sum wraps; the left side is a loop's next sum, which a goal shows
+pub running_below_32 : (base : ℤ) (number_at : ℕ → ℤ) (n : ℕ)
+    → wrap 32 (base +ℤ total_below number_at (n + 1))
+    ≡ wrap 32 (wrap 32 (base +ℤ total_below number_at n) +ℤ number_at n)
+running_below_32 base number_at n = ap (λ t. wrap 32 (base +ℤ t)) (one_more_below number_at n)
+    ∙ ap (wrap 32) (sym (+ℤ_assoc base (total_below number_at n) (number_at n)))
+    ∙ sym (wrap-add_left 32 (base +ℤ total_below number_at n) (number_at n) (lit< tt))
+
+pub running_below_64 : (base : ℤ) (number_at : ℕ → ℤ) (n : ℕ)
+    → wrap 64 (base +ℤ total_below number_at (n + 1))
+    ≡ wrap 64 (wrap 64 (base +ℤ total_below number_at n) +ℤ number_at n)
+running_below_64 base number_at n = ap (λ t. wrap 64 (base +ℤ t)) (one_more_below number_at n)
+    ∙ ap (wrap 64) (sym (+ℤ_assoc base (total_below number_at n) (number_at n)))
+    ∙ sym (wrap-add_left 64 (base +ℤ total_below number_at n) (number_at n) (lit< tt))
+
+pub ruleset below_calls = (none_below, one_more_below, running_below_32, running_below_64)
+
+-- ---- sums of texts
+
+pub total_of_none : (w f : ℕ) → ReadsTotal w f [] (pos 0)
+unfolding ReadsTotal
+total_of_none w f = refl
+
+total_appended : (w f : ℕ) (texts : List (List ℕ)) (text : List ℕ) (s a : ℤ) → ReadsTotal w f texts s
+    → ReadsAs w f text a → ReadsTotal w f (texts ++ text ∷ []) (s +ℤ a)
+unfolding ReadsTotal
+total_appended w f [] text s a total reads = (a, pos 0, reads, refl, omega (arith, ints, total))
+total_appended w f (t ∷ ts) text s a total reads =
+    (total.0, total.1 +ℤ a, total.2, total_appended w f ts text total.1 a total.3 reads, omega (arith, ints, total.4))
+
+map_take_more : {X : Type 0} (g : X → List ℕ) (xs : List X) (i : ℕ) (d : X) → i < length xs
+    → map g (take i xs) ++ g (get_or xs i d) ∷ [] ≡ map g (take (i + 1) xs)
+map_take_more g [] i d within = absurd (omega arith)
+map_take_more g (x ∷ xs) zero d within = refl
+map_take_more g (x ∷ xs) (suc i) d within =
+    let next : suc i + 1 ≡ suc (i + 1) = omega arith in
+    rw next (ap (λ ys. g x ∷ ys) (map_take_more g xs i d (omega arith)))
+
+pub total_one_more : (w f : ℕ) (texts : List (Bor (List ℕ))) (i : ℕ) (d : Bor (List ℕ)) (r s a : ℤ)
+    → i < length texts → ReadsTotal w f (map (λ t. t.now) (take i texts)) s → ReadsAs w f (get_or texts i d).now a → r ≡ (s +ℤ a)
+    → ReadsTotal w f (map (λ t. t.now) (take (i + 1) texts)) r
+total_one_more w f texts i d r s a within total reads is =
+    rw (is, ← map_take_more (λ t. t.now) texts i d within)
+    (total_appended w f (map (λ t. t.now) (take i texts)) (get_or texts i d).now s a total reads)
+
+pub ruleset text_calls = (total_of_none, total_one_more)
