@@ -3,3 +3,4 @@ pub mod Head
 pub mod Evaluator
 pub mod Linter
 pub mod Dumper
+pub mod Start

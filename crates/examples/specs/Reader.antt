@@ -1,15 +1,9 @@
 -- What a reader finds in tables.
 use Rattle.std.specs.Prelude.{◌≡◌, ◌≢◌, ◌⊎◌, ℕ, ℤ, ◌-◌, ◌*◌, ◌<◌, min}
-use Rattle.std.specs.Prelude.{List, length, take, drop, All}
+use Rattle.std.specs.Prelude.{List, length, All}
 use Rattle.std.specs.List.{HoldsAt}
-use Rattle.font_types.specs.Scalar.{IsValueOf}
 use Rattle.font_types.specs.GlyphId.{glyph16_number}
 use Rattle.examples.specs.declared.reader.VertOriginYMetrics.{VertOriginYMetrics}
-
--- the first n of a list are the values stored in the bytes, `size` bytes each
-abbrev pub AreValuesOf : {V R : Type 0} → (R → List ℕ) → (R → V) → ℕ → List ℕ → ℕ → List V → Type 0
-AreValuesOf bytes_of of_raw size bytes n values = (k : ℕ) → k < n
-    → HoldsAt (λ v. IsValueOf bytes_of of_raw (take size (drop (k * size) bytes)) v) values k
 
 -- (OpenType, hmtx: "hMetrics", an advance width and a left side bearing each, then "leftSideBearings" for the other
 -- glyphs, whose advance width is that of the last metric)

@@ -13,11 +13,12 @@ ghost use Rattle.font_types.specs.Fixed.{fixed_bits, fixed_text};
 ghost use Rattle.font_types.specs.GlyphId.{glyph16_number};
 ghost use Rattle.font_types.specs.Padding.{padded_text};
 ghost use Rattle.font_types.specs.Shortest.{IsShortest};
-ghost use Rattle.examples.specs.declared.dumper.Summary.{Summary};
-ghost use Rattle.examples.specs.Dumper.{column, eight_digits, five_digits, IsSummary, summary_form};
-ghost use Rattle.examples.specs.Dumper.{IsMemberRead, IsSummaryRead};
+ghost use Rattle.font_types.specs.Tag.{tag_bytes, IsGood};
+ghost use Rattle.examples.specs.declared.dumper.Axis.{Axis};
+ghost use Rattle.examples.specs.Dumper.{column, eight_digits, five_digits, IsAxis, axis_form};
+ghost use Rattle.examples.specs.Dumper.{IsMemberRead, IsAxisRead};
 
-use font_types::{FWord, Fixed, GlyphId16, JsonFault, JsonScalar, LongDateTime, Pad, Scalar};
+use font_types::{Fixed, GlyphId16, JsonFault, JsonScalar, NameId, Pad, Scalar, Tag};
 use serde_json::{Value, json};
 use std::alloc::{AllocError, Global};
 
@@ -71,25 +72,30 @@ pub fn glyph_name(glyph: GlyphId16, alloc: Global) -> Result<String, AllocError>
 
 // ---- JSON
 
-/// What a dump shows of `head`.
+/// What a dump shows of an axis.
 #[derive(Clone, Copy, PartialEq, Debug)]
-pub struct Summary {
-    pub revision: Fixed,
-    pub created: LongDateTime,
-    pub x_min: FWord,
+pub struct Axis {
+    pub tag: Tag,
+    pub default: Fixed,
+    pub name: NameId,
 }
 
-impl Summary {
+impl Axis {
     /// Returns an object with a member for each field. `json!` gets a function of its own.
+    ///
+    /// # Errors
+    ///
+    /// Returns an error if memory is refused, or if the bytes of the tag are not UTF-8.
     pub fn to_json(self, alloc: Global) -> Result<Value, JsonFault>
-        ensures form { IfOk result (λ value. view value ≡ summary_form self) }
-        ensures value { IfOk result (λ _. IsSummary self) }
-        ensures refused { IfErr result (λ fault. fault ≡ JsonFault.Memory) }
+        ensures form { IfOk result (λ value. view value ≡ axis_form self) }
+        ensures refused { IsGood (tag_bytes self.tag)
+            → IfErr result (λ fault. fault ≡ JsonFault.Memory) }
+        ensures value { IfOk result (λ _. IsAxis self) }
     {
-        let revision = self.revision.to_json(alloc)?;
-        let created = self.created.to_json(alloc)?;
-        let x_min = self.x_min.to_json(alloc)?;
-        Ok(object_of(&revision, &created, &x_min, alloc)?)
+        let tag = self.tag.to_json(alloc)?;
+        let default = self.default.to_json(alloc)?;
+        let name = self.name.to_json(alloc)?;
+        Ok(object_of(&tag, &default, &name, alloc)?)
     }
 
     /// Reads the members of an object.
@@ -97,36 +103,30 @@ impl Summary {
     /// # Errors
     ///
     /// Returns the first error in the order of the fields; further members are ignored.
-    pub fn from_json(value: &Value) -> Result<Summary, JsonFault>
-        ensures back { (summary : Summary) → IsSummary summary
-            → view value.now ≡ summary_form summary → result ≡ Ok summary }
-        ensures read { IsSummaryRead
-            (IsMemberRead ⟦<Fixed as JsonScalar>⟧.form.reads (codes "revision") (view value.now))
-            (IsMemberRead ⟦<LongDateTime as JsonScalar>⟧.form.reads (codes "created")
-            (view value.now))
-            (IsMemberRead ⟦<FWord as JsonScalar>⟧.form.reads (codes "x_min") (view value.now))
+    pub fn from_json(value: &Value) -> Result<Axis, JsonFault>
+        ensures back { (axis : Axis) → IsAxis axis → IsGood (tag_bytes axis.tag)
+            → view value.now ≡ axis_form axis → result ≡ Ok axis }
+        ensures read { IsAxisRead
+            (IsMemberRead ⟦<Tag as JsonScalar>⟧.form.reads (codes "tag") (view value.now))
+            (IsMemberRead ⟦<Fixed as JsonScalar>⟧.form.reads (codes "default") (view value.now))
+            (IsMemberRead ⟦<NameId as JsonScalar>⟧.form.reads (codes "name") (view value.now))
             result }
     {
-        Ok(Summary {
-            revision: Fixed::from_json(member_of(value, "revision")?)?,
-            created: LongDateTime::from_json(member_of(value, "created")?)?,
-            x_min: FWord::from_json(member_of(value, "x_min")?)?,
+        Ok(Axis {
+            tag: Tag::from_json(member_of(value, "tag")?)?,
+            default: Fixed::from_json(member_of(value, "default")?)?,
+            name: NameId::from_json(member_of(value, "name")?)?,
         })
     }
 }
 
 // Returns the object of these members.
-fn object_of(
-    revision: &Value,
-    created: &Value,
-    x_min: &Value,
-    alloc: Global,
-) -> Result<Value, AllocError>
-    ensures { IfOk result (λ value. view value ≡ object (member (codes "created") (view created.now)
-        (member (codes "revision") (view revision.now)
-        (member (codes "x_min") (view x_min.now) no_members)))) }
+fn object_of(tag: &Value, default: &Value, name: &Value, alloc: Global) -> Result<Value, AllocError>
+    ensures { IfOk result (λ value. view value ≡ object (member (codes "default") (view default.now)
+        (member (codes "name") (view name.now)
+        (member (codes "tag") (view tag.now) no_members)))) }
 {
-    json!(in alloc; { "revision": revision, "created": created, "x_min": x_min })
+    json!(in alloc; { "tag": tag, "default": default, "name": name })
 }
 
 // Returns the member of that name.
@@ -138,11 +138,12 @@ fn member_of<'a>(value: &'a Value, name: &str) -> Result<&'a Value, JsonFault>
     value.get(name).ok_or(JsonFault::MissingMember)
 }
 
-/// Returns the summary itself, unless memory is refused.
-pub fn round_trip(summary: Summary, alloc: Global) -> Result<Summary, JsonFault>
-    ensures back { IfOk result (λ back. back ≡ summary) }
-    ensures refused { IfErr result (λ fault. fault ≡ JsonFault.Memory) }
+/// Returns an axis with a good tag itself, unless memory is refused.
+pub fn round_trip(axis: Axis, alloc: Global) -> Result<Axis, JsonFault>
+    ensures back { IsGood (tag_bytes axis.tag) → IfOk result (λ back. back ≡ axis) }
+    ensures refused { IsGood (tag_bytes axis.tag)
+        → IfErr result (λ fault. fault ≡ JsonFault.Memory) }
 {
-    let value = summary.to_json(alloc)?;
-    Summary::from_json(&value)
+    let value = axis.to_json(alloc)?;
+    Axis::from_json(&value)
 }

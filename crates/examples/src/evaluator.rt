@@ -17,8 +17,8 @@ ghost use Rattle.examples.specs.Evaluator.{value_start, AreParts, IsSettingRead,
 ghost use Rattle.examples.specs.Evaluator.{IsFirstEnd, IsMapped};
 ghost use Rattle.examples.specs.Evaluator.{run_count, run_width, run_delta, run_bytes, region_term};
 
-use crate::reader::{VariationAxisRecord, scalar_at};
-use font_types::{DecimalFault, F2Dot14, FWord, Fixed, InvalidTag, Tag, vary};
+use crate::reader::VariationAxisRecord;
+use font_types::{DecimalFault, F2Dot14, FWord, Fixed, InvalidTag, Scalar, Tag, vary};
 use std::alloc::{AllocError, Global};
 
 // ---- settings
@@ -268,8 +268,8 @@ fn delta_at(run: &[u8], width: usize, index: usize) -> i16
 {
     match width {
         0 => 0,
-        1 => i16::from(scalar_at::<i8>(run, index).unwrap()),
-        _ => scalar_at(run, index * 2).unwrap(),
+        1 => i16::from(i8::read_at(run, index).unwrap()),
+        _ => i16::read_at(run, index * 2).unwrap(),
     }
 }
 
@@ -344,5 +344,5 @@ pub fn vary_and_round(base: FWord, terms: &[(Fixed, i32)]) -> Option<FWord>
     ensures value { IfSome result (λ word. fword_number word
         ≡ nearest_unit (fword_number base *ℤ pos 65536 +ℤ exact_sum terms.now)) }
 {
-    FWord::round_steps(vary(base, terms)?)
+    FWord::round_delta(vary(base, terms)?)
 }

@@ -1,6 +1,7 @@
 //! Callers of `font_types`: one file for each kind of program that builds on it. Each function is
 //! proved against the contract that its caller wants, and run by a test.
 //!
+//! - `start`: a first caller, which docs/CALLING.md shows.
 //! - `reader`: tables, as `head`, `hmtx`, `fvar`, coverage and `VORG`.
 //! - `evaluator`: variations, from `wght=650` to a varied advance, by `avar` and packed deltas.
 //! - `scaler`: outlines through a chain of matrices.
@@ -13,5 +14,6 @@ pub mod evaluator;
 pub mod linter;
 pub mod reader;
 pub mod scaler;
+pub mod start;
 #[cfg(test)]
 mod tests;

@@ -1,15 +1,17 @@
 //! A linter of tags, names, versions and the records of a table directory.
 
 ghost use Rattle.std.specs.List.Sorted.{IsPermutation, IsSortedByKey};
-ghost use Rattle.std.specs.List.{AllAdjacentBelow};
+ghost use Rattle.std.specs.List.{AllAdjacentBelow, sum_by};
 ghost use Rattle.std.specs.Prelude.{◌≡◌, ◌↔◌, ◌<◌, ◌%◌, ◌^◌, All, IsTrue, MatchResult};
 ghost use Rattle.std.specs.Prelude.{IsSome, IfSome, length, sum, map};
+ghost use Rattle.font_types.specs.Array.{array_elements};
+ghost use Rattle.font_types.specs.Bytes.{numeral};
 ghost use Rattle.font_types.specs.NameId.{name_id_of, predefined_numbers};
 ghost use Rattle.font_types.specs.Tag.{tag_bytes, IsGood};
 ghost use Rattle.font_types.specs.Version.{IsCompatible};
 ghost use Rattle.examples.specs.Linter.{IsFirstBad, is_among};
 
-use font_types::{Compatible, InvalidTag, MajorMinor, NameId, Offset32, Tag};
+use font_types::{Compatible, InvalidTag, MajorMinor, NameId, Offset32, ScalarArray, Tag};
 use std::cmp::Ordering;
 use thiserror::Error;
 
@@ -69,14 +71,16 @@ pub fn sort_by_tag(records: &mut [TableRecord])
 }
 
 /// Returns the checksum of a table, the sum of its words modulo 2^32.
-pub fn checksum(words: &[u32]) -> u32
-    ensures { result ≡ sum words.now % 2 ^ 32 }
+///
+/// The invariant of its loop says that the sum so far and the words that are left make the sum.
+pub fn checksum(words: ScalarArray<'_, u32>) -> u32
+    ensures { result ≡ sum_by numeral (array_elements words.entry) % 2 ^ 32 }
 {
-    let mut checksum = 0u32;
+    let mut total = 0u32;
     for word in words {
-        checksum = checksum.wrapping_add(*word);
+        total = total.wrapping_add(word);
     }
-    checksum
+    total
 }
 
 /// Returns the length of all tables together, or `None` if it does not fit 32 bits.

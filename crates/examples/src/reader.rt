@@ -1,4 +1,4 @@
-//! A reader of tables: scalars one after the other, `head`, `hmtx`, arrays and records.
+//! A reader of tables: records, `head`, `hmtx`, arrays and searches.
 
 ghost use Rattle.std.specs.Prelude.{◌≡◌, ◌≢◌, ◌↔◌, ◌≤◌, ◌<◌, ◌+◌, ◌*◌, ◌/◌, ◌%◌, ◌^◌, ◌&&◌, ◌++◌};
 ghost use Rattle.std.specs.Prelude.{ℕ, pos, nat_lt, refl};
@@ -22,79 +22,14 @@ ghost use Rattle.font_types.specs.NameId.{name_number};
 ghost use Rattle.font_types.specs.Offset.{offset32_number};
 ghost use Rattle.font_types.specs.Tag.{tag_bytes};
 ghost use Rattle.font_types.specs.Uint24.{uint24_number};
-ghost use Rattle.examples.specs.Reader.{AreValuesOf, advance_offset, IsVertOrigin};
+ghost use Rattle.examples.specs.Reader.{advance_offset, IsVertOrigin};
 
 use font_types::{
     BigEndian, FWord, Fixed, FixedSize, GlyphId16, IdentityEq, LongDateTime, NameId, Offset32,
     Scalar, ScalarArray, TableDataRef, TableHeader, Tag, UfWord, Uint24,
 };
-use std::alloc::{AllocError, Global};
 
-// ---- scalars one after the other
-
-/// Reads scalars from the front of bytes.
-#[derive(Drop)]
-pub struct Cursor<'a> {
-    /// The bytes that are left.
-    pub rest: &'a [u8],
-}
-
-impl Cursor<'_> {
-    /// Reads the next scalar, or returns `None` and stays if too few bytes are left.
-    ///
-    /// At a concrete type `IsValueOf` gives callers the number, the tag or the date; the 24-bit
-    /// types need the clause `stored` as well.
-    pub fn read<T: Scalar>(&mut self) -> Option<T>
-        ensures end { IsSome result ↔ (T.RAW_BYTE_LEN ≤ length self.old.rest.now) }
-        ensures value { IfSome result (λ v.
-            IsValueOf T.Raw.bytes T.of_raw (take T.RAW_BYTE_LEN self.old.rest.now) v) }
-        ensures stored { IfSome result (λ v.
-            T.Raw.bytes (T.raw_of v) ≡ take T.RAW_BYTE_LEN self.old.rest.now) }
-        ensures moved { IsSome result →
-            self.new.rest.now ≡ drop T.RAW_BYTE_LEN self.old.rest.now }
-        ensures stays { IfNone result (self.new.rest.now ≡ self.old.rest.now) }
-    {
-        let (front, rest) = self.rest.split_at_checked(T::RAW_BYTE_LEN)?;
-        let value = T::read(front)?;
-        self.rest = rest;
-        Some(value)
-    }
-
-    /// Reads `count` scalars, or returns `None` and stays if there are fewer.
-    ///
-    /// The loop has an invariant in `proofs/reader/Cursor/read_array`: the scalars read so far.
-    ///
-    /// # Errors
-    ///
-    /// Stays and returns the error if memory for the scalars is refused.
-    pub fn read_array<T: Scalar + Drop>(
-        &mut self,
-        count: usize,
-        alloc: Global,
-    ) -> Result<Option<Vec<T>>, AllocError>
-        ensures end { IfOk result (λ read.
-            IsSome read ↔ (count * T.RAW_BYTE_LEN ≤ length self.old.rest.now)) }
-        ensures count { IfOk result (λ read. IfSome read (λ values. vec_len values ≡ count)) }
-        ensures each { IfOk result (λ read. IfSome read (λ values. AreValuesOf T.Raw.bytes T.of_raw
-            T.RAW_BYTE_LEN self.old.rest.now count values.items)) }
-        ensures moved { IfOk result (λ read. IsSome read →
-            self.new.rest.now ≡ drop (count * T.RAW_BYTE_LEN) self.old.rest.now) }
-        ensures stays { IfOk result (λ read. IfNone read
-            (self.new.rest.now ≡ self.old.rest.now)) }
-        ensures refused { IfErr result (λ _. self.new.rest.now ≡ self.old.rest.now) }
-    {
-        let mut ahead = Cursor { rest: self.rest };
-        let mut values = Vec::new(alloc);
-        for _ in 0..count {
-            let Some(value) = ahead.read::<T>() else {
-                return Ok(None);
-            };
-            values.push(value)?;
-        }
-        self.rest = ahead.rest;
-        Ok(Some(values))
-    }
-}
+// ---- records, field by field
 
 /// A variation axis, a record of `fvar`.
 #[derive(Clone, Copy)]
@@ -107,35 +42,30 @@ pub struct VariationAxisRecord {
     pub axis_name_id: NameId,
 }
 
-/// Reads the next axis record, or returns `None` and stays if fewer than 20 bytes are left.
-pub fn read_axis(cursor: &mut Cursor<'_>) -> Option<VariationAxisRecord>
-    ensures end { IsSome result ↔ (20 ≤ length cursor.old.rest.now) }
-    ensures axis_tag { IfSome result (λ axis.
-        tag_bytes axis.axis_tag ≡ take 4 cursor.old.rest.now) }
+/// Reads an axis record, or returns `None` if there are fewer than 20 bytes.
+///
+/// At a concrete type the clauses of `read_at` give callers the number, the tag or the date.
+pub fn read_axis(bytes: &[u8]) -> Option<VariationAxisRecord>
+    ensures end { IsSome result ↔ (20 ≤ length bytes.now) }
+    ensures axis_tag { IfSome result (λ axis. tag_bytes axis.axis_tag ≡ take 4 bytes.now) }
     ensures min_value { IfSome result (λ axis.
-        fixed_bits axis.min_value ≡ signed_numeral 4 (take 4 (drop 4 cursor.old.rest.now))) }
+        fixed_bits axis.min_value ≡ signed_numeral 4 (take 4 (drop 4 bytes.now))) }
     ensures default_value { IfSome result (λ axis.
-        fixed_bits axis.default_value ≡ signed_numeral 4 (take 4 (drop 8 cursor.old.rest.now))) }
+        fixed_bits axis.default_value ≡ signed_numeral 4 (take 4 (drop 8 bytes.now))) }
     ensures max_value { IfSome result (λ axis.
-        fixed_bits axis.max_value ≡ signed_numeral 4 (take 4 (drop 12 cursor.old.rest.now))) }
-    ensures flags { IfSome result (λ axis.
-        axis.flags ≡ numeral (take 2 (drop 16 cursor.old.rest.now))) }
+        fixed_bits axis.max_value ≡ signed_numeral 4 (take 4 (drop 12 bytes.now))) }
+    ensures flags { IfSome result (λ axis. axis.flags ≡ numeral (take 2 (drop 16 bytes.now))) }
     ensures axis_name_id { IfSome result (λ axis.
-        name_number axis.axis_name_id ≡ numeral (take 2 (drop 18 cursor.old.rest.now))) }
-    ensures moved { IsSome result → cursor.new.rest.now ≡ drop 20 cursor.old.rest.now }
-    ensures stays { IfNone result (cursor.new.rest.now ≡ cursor.old.rest.now) }
+        name_number axis.axis_name_id ≡ numeral (take 2 (drop 18 bytes.now))) }
 {
-    let mut ahead = Cursor { rest: cursor.rest };
-    let axis = VariationAxisRecord {
-        axis_tag: ahead.read()?,
-        min_value: ahead.read()?,
-        default_value: ahead.read()?,
-        max_value: ahead.read()?,
-        flags: ahead.read()?,
-        axis_name_id: ahead.read()?,
-    };
-    cursor.rest = ahead.rest;
-    Some(axis)
+    Some(VariationAxisRecord {
+        axis_tag: Tag::read_at(bytes, 0)?,
+        min_value: Fixed::read_at(bytes, 4)?,
+        default_value: Fixed::read_at(bytes, 8)?,
+        max_value: Fixed::read_at(bytes, 12)?,
+        flags: u16::read_at(bytes, 16)?,
+        axis_name_id: NameId::read_at(bytes, 18)?,
+    })
 }
 
 /// Reads a variation selector and the offset of its default mappings, the first seven bytes of a
@@ -147,23 +77,7 @@ pub fn read_selector(bytes: &[u8]) -> Option<(Uint24, Offset32)>
     ensures offset { IfSome result (λ found.
         offset32_number found.1 ≡ numeral (take 4 (drop 3 bytes.now))) }
 {
-    let mut cursor = Cursor { rest: bytes };
-    Some((cursor.read()?, cursor.read()?))
-}
-
-/// Returns the scalar at an offset, or `None` if too few bytes are left.
-///
-/// Two `split_at_checked`, since `offset + T::RAW_BYTE_LEN` may be too large for a `usize`.
-pub fn scalar_at<T: Scalar>(bytes: &[u8], offset: usize) -> Option<T>
-    ensures end { IsSome result ↔ (offset + T.RAW_BYTE_LEN ≤ length bytes.now) }
-    ensures value { IfSome result (λ v.
-        IsValueOf T.Raw.bytes T.of_raw (take T.RAW_BYTE_LEN (drop offset bytes.now)) v) }
-    ensures stored { IfSome result (λ v.
-        T.Raw.bytes (T.raw_of v) ≡ take T.RAW_BYTE_LEN (drop offset bytes.now)) }
-{
-    let (_, rest) = bytes.split_at_checked(offset)?;
-    let (front, _) = rest.split_at_checked(T::RAW_BYTE_LEN)?;
-    T::read(front)
+    Some((Uint24::read_at(bytes, 0)?, Offset32::read_at(bytes, 3)?))
 }
 
 // ---- `head`
@@ -321,7 +235,7 @@ pub fn advance_width(hmtx: &[u8], count: u16, glyph: GlyphId16) -> Option<UfWord
         ≡ numeral (take 2 (drop (advance_offset count (glyph16_number glyph)) hmtx.now))) }
 {
     let last = usize::from(count) - 1;
-    scalar_at(hmtx, 4 * usize::from(glyph.to_u16()).min(last))
+    UfWord::read_at(hmtx, 4 * usize::from(glyph.to_u16()).min(last))
 }
 
 // ---- searches

@@ -8,6 +8,7 @@ ghost use Rattle.font_types.specs.Fixed.{fixed_bits};
 ghost use Rattle.font_types.specs.FixedMatrix.{matrix_bits, point_bits, exact_image};
 ghost use Rattle.font_types.specs.FixedMatrix.{wrapped_sum, wrapped_product};
 ghost use Rattle.font_types.specs.FixedMatrix.{FitsComposed, IsCloseComposed};
+ghost use Rattle.font_types.specs.FixedMatrix.{FitsInTurn, IsCloseInTurn};
 ghost use Rattle.font_types.specs.FixedMatrix.{IsBounded, IsBoundedPoint, IsWithin};
 ghost use Rattle.font_types.specs.Matrix.{image_of};
 ghost use Rattle.font_types.specs.Operations.{IsNearestWhole};
@@ -82,14 +83,26 @@ pub fn slant(point: Point<Fixed>, slope: Fixed) -> Point<Fixed>
 
 // Transforms a point by `place` and then by `scale`, with one matrix composed of both.
 //
-// Each coordinate is within `(|x| + |y|) / 65536 + 2` raw values of the exact one. `laws::in_turn`
-// has the bound of two matrices applied in turn.
+// Each coordinate is within `(|x| + |y|) / 65536 + 2` raw values of the exact one. `in_turn` has the
+// bound of two matrices applied one after the other.
 fn composed(scale: Matrix<Fixed>, place: Matrix<Fixed>, point: Point<Fixed>) -> Point<Fixed>
     requires { FitsComposed (matrix_bits scale) (matrix_bits place) (point_bits point) }
     ensures { IsCloseComposed (matrix_bits scale) (matrix_bits place) (point_bits point)
         (point_bits result) }
 {
     laws::composed(scale, place, point)
+}
+
+/// Transforms a point by `place` and then by `scale`, one after the other.
+///
+/// Each coordinate is within `(|a| + |b|) / 65536 + 1` raw values of the exact one, with `a` and
+/// `b` the entries of `scale` that it is multiplied by.
+pub fn in_turn(scale: Matrix<Fixed>, place: Matrix<Fixed>, point: Point<Fixed>) -> Point<Fixed>
+    requires { FitsInTurn (matrix_bits scale) (matrix_bits place) (point_bits point) }
+    ensures { IsCloseInTurn (matrix_bits scale) (matrix_bits place) (point_bits point)
+        (point_bits result) }
+{
+    laws::in_turn(scale, place, point)
 }
 
 /// A component of a composite glyph.

@@ -5,3 +5,4 @@ mod evaluator;
 mod linter;
 mod reader;
 mod scaler;
+mod start;

@@ -1,8 +1,8 @@
 //! A dumper of font values.
 
-use crate::dumper::{Summary, glyph_name, printed, raw_and_number, round_trip, row};
-use font_types::JsonFault::{MissingMember, OutOfRange, Syntax, WrongKind};
-use font_types::{FWord, Fixed, GlyphId16, LongDateTime};
+use crate::dumper::{Axis, glyph_name, printed, raw_and_number, round_trip, row};
+use font_types::JsonFault::{InvalidTag, MissingMember, OutOfRange, Syntax, WrongKind};
+use font_types::{Fixed, GlyphId16, NameId, Tag};
 use serde_json::Value;
 use std::test::Fail;
 
@@ -38,32 +38,38 @@ fn texts(rt: HostRuntime) -> Result<(), Fail> {
 }
 
 #[test]
-fn summaries_come_back(rt: HostRuntime) -> Result<(), Fail> {
-    let summary = Summary {
-        revision: Fixed::from_bits(0x1_8000),
-        created: LongDateTime::new(3082844800),
-        x_min: FWord::new(-512),
+fn axes_come_back(rt: HostRuntime) -> Result<(), Fail> {
+    let axis = Axis {
+        tag: Tag::new(b"wght"),
+        default: Fixed::from_bits(0x1_8000),
+        name: NameId::new(256),
     };
-    let text = summary.to_json(rt.alloc())?.to_string(rt.alloc())?;
-    let json = r#"{"created":3082844800,"revision":"1.5","x_min":-512}"#;
-    assert!(rt; text.as_str() == json && round_trip(summary, rt.alloc()) == Ok(summary));
+    let text = axis.to_json(rt.alloc())?.to_string(rt.alloc())?;
+    let json = r#"{"default":"1.5","name":256,"tag":"wght"}"#;
+    assert!(rt; text.as_str() == json && round_trip(axis, rt.alloc()) == Ok(axis));
+    let other = Axis {
+        tag: Tag::new(b"w\x00\x00\x00"),
+        ..axis
+    };
+    assert!(rt; round_trip(other, rt.alloc()) == Err(InvalidTag));
     Ok(())
 }
 
 // The first error counts, in the order of the fields.
 #[test]
-fn summaries_refused(rt: HostRuntime) -> Result<(), Fail> {
+fn axes_refused(rt: HostRuntime) -> Result<(), Fail> {
     for (error, text) in &[
-        (MissingMember, r#"{"revision":"1.5","created":0}"#),
-        (Syntax, r#"{"revision":"x","created":"x"}"#),
-        (WrongKind, r#"{"x_min":40000,"created":"x","revision":"1"}"#),
-        (OutOfRange, r#"{"x_min":40000,"created":0,"revision":"1"}"#),
-        (WrongKind, r#"{"x_min":null,"created":0,"revision":"1"}"#),
-        (WrongKind, r#"{"x_min":0,"created":null,"revision":"1"}"#),
-        (WrongKind, r#"{"x_min":0,"created":0,"revision":null}"#),
+        (MissingMember, r#"{"default":"1.5","name":0}"#),
+        (InvalidTag, r#"{"tag":"wg ht","default":"x"}"#),
+        (Syntax, r#"{"tag":"wght","default":"x","name":"x"}"#),
+        (OutOfRange, r#"{"tag":"wght","default":"32768","name":0}"#),
+        (WrongKind, r#"{"tag":"wght","default":1.5,"name":0}"#),
+        (WrongKind, r#"{"tag":null,"default":"1","name":0}"#),
+        (WrongKind, r#"{"tag":"wght","default":"1","name":null}"#),
+        (OutOfRange, r#"{"tag":"wght","default":"1","name":65536}"#),
         (MissingMember, "[]"),
     ] {
-        let read = Summary::from_json(&Value::from_str(rt.alloc(), text)?);
+        let read = Axis::from_json(&Value::from_str(rt.alloc(), text)?);
         assert!(rt; read.err().as_ref() == Some(error), "{text}");
     }
     Ok(())

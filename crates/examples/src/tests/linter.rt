@@ -4,7 +4,7 @@ use crate::linter::{
     BadTag, TableRecord, checksum, is_ascending, is_predefined, is_supported, sort_by_tag,
     total_length, validate,
 };
-use font_types::{InvalidTag, MajorMinor, NameId, Offset32, Tag};
+use font_types::{InvalidTag, MajorMinor, NameId, Offset32, ScalarArray, Tag};
 use std::test::Fail;
 
 #[test]
@@ -48,17 +48,21 @@ fn records_sorted(rt: HostRuntime) {
 
 #[test]
 fn sums_of_words(rt: HostRuntime) {
-    for &(words, sum, total) in &[
-        (&[] as &[u32], 0, Some(0)),
-        (&[0x0001_0000, 0x7472_7565], 0x7473_7565, Some(0x7473_7565)),
-        (&[u32::MAX, 1], 0, None),
-        (&[u32::MAX, u32::MAX, 5], 3, None),
-        (&[u32::MAX, 0], u32::MAX, Some(u32::MAX)),
+    for &(table, sum) in &[
+        (b"" as &[u8], Some(0)),
+        (b"\x00\x01\x00\x00true", Some(0x7473_7565)),
+        (b"\xFF\xFF\xFF\xFF\x00\x00\x00\x03", Some(2)),
+        (b"\x00\x00\x01", None),
     ] {
-        assert!(rt;
-            checksum(words) == sum && total_length(words) == total,
-            "{words:?}"
-        );
+        let found = ScalarArray::new(table).map(checksum);
+        assert!(rt; found == sum, "{table:?}");
+    }
+    for &(words, total) in &[
+        (&[] as &[u32], Some(0)),
+        (&[u32::MAX, 1], None),
+        (&[u32::MAX - 5, 2, 3], Some(u32::MAX)),
+    ] {
+        assert!(rt; total_length(words) == total, "{words:?}");
     }
 }
 

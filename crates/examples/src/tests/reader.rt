@@ -1,45 +1,23 @@
 //! A reader of tables.
 
 use crate::reader::{
-    Cursor, Head, Ppem, VertOriginYMetrics, advance_width, coverage_index, metric, origin_index,
-    read_axis, read_selector, scalar_at, units_per_em, vert_origin_y,
+    Head, Ppem, VertOriginYMetrics, advance_width, coverage_index, metric, origin_index, read_axis,
+    read_selector, units_per_em, vert_origin_y,
 };
 use font_types::{
-    BigEndian, FWord, Fixed, GlyphId16, Int24, LongDateTime, NameId, Scalar, ScalarArray,
-    TableDataRef, Tag, UfWord, Uint24,
+    BigEndian, FWord, Fixed, GlyphId16, LongDateTime, NameId, Scalar, ScalarArray, TableDataRef,
+    Tag, UfWord, Uint24,
 };
 use std::test::Fail;
 
 #[test]
-fn scalars_in_turn(rt: HostRuntime) -> Result<(), Fail> {
-    let mut cursor = Cursor {
-        rest: &[0xFF, 0xFE, 0x1D, 0xC0, 0x00, 0x05, 0x09],
-    };
-    let first = cursor
-        .read_array::<Int24>(1, rt.alloc())?
-        .ok_or("three bytes")?;
-    assert!(rt; first.len() == 1 && first[0].to_i32() == -483);
-    let rest = cursor
-        .read_array::<u16>(2, rt.alloc())?
-        .ok_or("four bytes")?;
-    assert!(rt; rest.as_slice() == [49152, 1289].as_slice() && cursor.rest.is_empty());
-    assert!(rt; cursor.read_array::<u16>(1, rt.alloc())?.is_none());
-    assert!(rt; cursor.read::<u8>().is_none());
-    let bytes = [0x00, 0x01, 0x80, 0x00, 0xFF, 0xFF];
-    assert!(rt; scalar_at::<i16>(&bytes, 4) == Some(-1) && scalar_at::<i16>(&bytes, 5).is_none());
-    Ok(())
-}
-
-#[test]
 fn axis_records(rt: HostRuntime) -> Result<(), Fail> {
     let bytes = *b"wght\x00\x64\x00\x00\x01\x90\x00\x00\x03\x84\x00\x00\x00\x01\x01\x00\x07";
-    let mut cursor = Cursor { rest: &bytes };
-    let axis = read_axis(&mut cursor).ok_or("20 bytes")?;
+    let axis = read_axis(&bytes).ok_or("20 bytes")?;
     assert!(rt; axis.axis_tag == Tag::new(b"wght") && axis.min_value == Fixed::from_i32(100));
     assert!(rt; axis.default_value == Fixed::from_i32(400));
     assert!(rt; axis.max_value == Fixed::from_i32(900) && axis.flags == 1);
-    assert!(rt; axis.axis_name_id == NameId::new(256) && cursor.rest == [7].as_slice());
-    assert!(rt; read_axis(&mut cursor).is_none() && cursor.rest == [7].as_slice());
+    assert!(rt; axis.axis_name_id == NameId::new(256) && read_axis(&bytes[2..]).is_none());
     let (selector, offset) = read_selector(&[0, 0xFE, 0x0F, 0, 0, 1, 4]).ok_or("7 bytes")?;
     assert!(rt; selector == Uint24::new(0xFE0F) && offset.to_u32() == 260);
     assert!(rt; read_selector(&[0; 6]).is_none());

@@ -1,8 +1,8 @@
 //! A scaler of outlines.
 
 use crate::scaler::{
-    Component, PlacedGlyph, cross_product, last_point, line_width, round_to_grid, scale_component,
-    slant, transform,
+    Component, PlacedGlyph, cross_product, in_turn, last_point, line_width, round_to_grid,
+    scale_component, slant, transform,
 };
 use font_types::{F26Dot6, Fixed, Matrix, Point};
 use std::test::Fail;
@@ -56,6 +56,7 @@ fn components_scaled(rt: HostRuntime) {
         transform: Matrix::identity(),
     };
     assert!(rt; scale_component(scale, component, point) == point);
+    assert!(rt; in_turn(scale, component.transform, point) == point);
 }
 
 #[test]
