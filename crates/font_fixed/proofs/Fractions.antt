@@ -1,7 +1,7 @@
 -- Numbers of w bits with f bits of fraction, for every f in range: the steps and halves that code has, and the room of a
 -- text.
 use Rattle.std.proofs.Common.{◌≡◌, ◌∙◌, ap, refl, ℕ, zero, suc, ◌+◌, ◌-◌, ◌*◌, ◌/◌, ◌%◌, ◌^◌, ◌<◌, ◌≤◌, ◌&&◌, Bool, true}
-use Rattle.std.proofs.Common.{IsTrue, nat_lt, inl, inr, arith, rules, lit<, pow_pos, ℤ, pos, ◌+ℤ◌, SFits, to_z, of_z, w16, w32, w64}
+use Rattle.std.proofs.Common.{IsTrue, nat_lt, inl, inr, arith, lit<, pow_pos, ℤ, pos, ◌+ℤ◌, SFits, to_z, of_z, w16, w32, w64}
 use Rattle.std.proofs.lemmas.Bool.{cases_lt}
 use Rattle.std.proofs.lemmas.Bool.Decides.{nat_tests}
 use Rattle.std.proofs.lemmas.Nat.{pow-add}
@@ -21,6 +21,9 @@ step_below m f few = pow-le-pow_right {n = 2} (lit< tt) {i = f} {j = m} few
 halves : (f : ℕ) → 6 ≤ f → 2 ^ f ≡ 2 ^ (f - 1) + 2 ^ (f - 1)
 halves f many = let is : f ≡ suc (f - 1) = omega (arith, many) in ap (λ n. 2 ^ n) is ∙ two-pow-succ (f - 1)
 
+pub two_halves : (f : ℕ) → 6 ≤ f → 2 ^ f ≡ 2 ^ f / 2 + 2 ^ f / 2
+two_halves f many = omega (arith, halves f many)
+
 -- ---- w bits are w - f bits of whole numbers and f of fraction
 
 whole : (w f : ℕ) → f ≤ w → 2 ^ w ≡ 2 ^ (w - f) * 2 ^ f
@@ -39,7 +42,7 @@ split_at w f many few =
 step_16 : (f : ℕ) → f + 2 ≤ 16 → to_z w16 (1 * 2 ^ f % 65536) ≡ pos (2 ^ f)
 step_16 f few = omega (arith, ints, step_below 14 f (omega (arith, few)))
 
-half_16 : (f : ℕ) → 6 ≤ f → f + 2 ≤ 16 → to_z w16 (1 * 2 ^ (f - 1) % 65536) ≡ pos (2 ^ f / 2)
+pub half_16 : (f : ℕ) → 6 ≤ f → f + 2 ≤ 16 → to_z w16 (1 * 2 ^ (f - 1) % 65536) ≡ pos (2 ^ f / 2)
 half_16 f many few = omega (arith, ints, halves f many, step_below 14 (f - 1) (omega (arith, few)))
 
 pub fract_16 : (f : ℕ) (x r : ℤ) → f + 2 ≤ 16 → SFits w16 x
@@ -55,7 +58,7 @@ round_16 f x s r many few is floor =
 step_32 : (f : ℕ) → f + 2 ≤ 32 → to_z w32 (1 * 2 ^ f % 4294967296) ≡ pos (2 ^ f)
 step_32 f few = omega (arith, ints, step_below 30 f (omega (arith, few)))
 
-half_32 : (f : ℕ) → 6 ≤ f → f + 2 ≤ 32 → to_z w32 (1 * 2 ^ (f - 1) % 4294967296) ≡ pos (2 ^ f / 2)
+pub half_32 : (f : ℕ) → 6 ≤ f → f + 2 ≤ 32 → to_z w32 (1 * 2 ^ (f - 1) % 4294967296) ≡ pos (2 ^ f / 2)
 half_32 f many few = omega (arith, ints, halves f many, step_below 30 (f - 1) (omega (arith, few)))
 
 pub fract_32 : (f : ℕ) (x r : ℤ) → f + 2 ≤ 32 → SFits w32 x
@@ -71,7 +74,7 @@ round_32 f x s r many few is floor =
 step_64 : (f : ℕ) → f + 2 ≤ 64 → to_z w64 (1 * 2 ^ f % 18446744073709551616) ≡ pos (2 ^ f)
 step_64 f few = omega (arith, ints, step_below 62 f (omega (arith, few)))
 
-half_64 : (f : ℕ) → 6 ≤ f → f + 2 ≤ 64 → to_z w64 (1 * 2 ^ (f - 1) % 18446744073709551616) ≡ pos (2 ^ f / 2)
+pub half_64 : (f : ℕ) → 6 ≤ f → f + 2 ≤ 64 → to_z w64 (1 * 2 ^ (f - 1) % 18446744073709551616) ≡ pos (2 ^ f / 2)
 half_64 f many few = omega (arith, ints, halves f many, step_below 62 (f - 1) (omega (arith, few)))
 
 pub fract_64 : (f : ℕ) (x r : ℤ) → f + 2 ≤ 64 → SFits w64 x

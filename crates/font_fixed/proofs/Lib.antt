@@ -13,3 +13,4 @@ pub mod Rules
 pub mod Fractions
 pub mod FixedCalls
 pub mod NarrowCalls
+pub mod Rounds

@@ -1,6 +1,7 @@
 pub mod Operations
 pub mod NumberLaws
 pub mod Reading
+pub mod Rounding
 pub mod FixedI16
 pub mod FixedI32
 pub mod FixedI64

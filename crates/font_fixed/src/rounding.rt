@@ -1,0 +1,72 @@
+//! Rounding the raw bits of fixed-point numbers to integers.
+
+ghost use Rattle.std.specs.Prelude.{◌≡◌, ◌↔◌, ◌+◌, ◌≤◌, IsSome, IfSome};
+ghost use Rattle.font_base.specs.Wrap.{FitsBits};
+ghost use Rattle.font_fixed.specs.Operations.{IsFloor};
+ghost use Rattle.font_fixed.specs.Rounding.{rounded};
+
+/// Returns the raw value of the largest integer less than or equal to a 16-bit value with `f`
+/// fraction bits.
+#[inline(always)]
+pub const fn floor_bits_16(bits: i16, f: u32) -> i16
+    requires { f + 2 ≤ 16 }
+    ensures { IsFloor f bits result }
+{
+    (bits >> f) << f
+}
+
+/// Returns the raw value of the largest integer less than or equal to a 32-bit value with `f`
+/// fraction bits.
+#[inline(always)]
+pub const fn floor_bits_32(bits: i32, f: u32) -> i32
+    requires { f + 2 ≤ 32 }
+    ensures { IsFloor f bits result }
+{
+    (bits >> f) << f
+}
+
+/// Returns the raw value of the largest integer less than or equal to a 64-bit value with `f`
+/// fraction bits.
+#[inline(always)]
+pub const fn floor_bits_64(bits: i64, f: u32) -> i64
+    requires { f + 2 ≤ 64 }
+    ensures { IsFloor f bits result }
+{
+    (bits >> f) << f
+}
+
+/// Returns the raw value of the integer nearest to a 16-bit value with `f` fraction bits, half up,
+/// or `None` if it does not fit in 16 bits.
+#[inline(always)]
+pub fn round_bits_16(bits: i16, f: u32) -> Option<i16>
+    requires { (6 ≤ f) × (f + 2 ≤ 16) }
+    ensures variant { IsSome result ↔ FitsBits 16 (rounded f bits) }
+    ensures value { IfSome result (λ whole. whole ≡ rounded f bits) }
+{
+    let moved = bits.checked_add(1 << (f - 1))?;
+    Some(floor_bits_16(moved, f))
+}
+
+/// Returns the raw value of the integer nearest to a 32-bit value with `f` fraction bits, half up,
+/// or `None` if it does not fit in 32 bits.
+#[inline(always)]
+pub fn round_bits_32(bits: i32, f: u32) -> Option<i32>
+    requires { (6 ≤ f) × (f + 2 ≤ 32) }
+    ensures variant { IsSome result ↔ FitsBits 32 (rounded f bits) }
+    ensures value { IfSome result (λ whole. whole ≡ rounded f bits) }
+{
+    let moved = bits.checked_add(1 << (f - 1))?;
+    Some(floor_bits_32(moved, f))
+}
+
+/// Returns the raw value of the integer nearest to a 64-bit value with `f` fraction bits, half up,
+/// or `None` if it does not fit in 64 bits.
+#[inline(always)]
+pub fn round_bits_64(bits: i64, f: u32) -> Option<i64>
+    requires { (6 ≤ f) × (f + 2 ≤ 64) }
+    ensures variant { IsSome result ↔ FitsBits 64 (rounded f bits) }
+    ensures value { IfSome result (λ whole. whole ≡ rounded f bits) }
+{
+    let moved = bits.checked_add(1 << (f - 1))?;
+    Some(floor_bits_64(moved, f))
+}
