@@ -99,7 +99,7 @@ const CVT: Tag = Tag::new(b"cvt ");
 fn the_library_has_no_std() {
     for root in [
         include_str!("../src/lib.rs"),
-        include_str!("../rust/c/src/lib.rs"),
+        include_str!("../c/src/lib.rs"),
     ] {
         assert!(root.lines().any(|line| line == "#![no_std]"));
         assert!(!root.contains("extern crate"));

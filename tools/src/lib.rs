@@ -5,4 +5,3 @@ pub mod erase;
 pub mod exact;
 pub mod program;
 pub mod repository;
-pub mod table;

@@ -1,4 +1,4 @@
 pub mod Texts
-mod Readings
 mod Sums
 mod DeltaSets
+pub mod Units

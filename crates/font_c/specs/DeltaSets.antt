@@ -1,9 +1,9 @@
 -- Delta sets of item variation stores. (OpenType, item variation stores: a delta set has `wordDeltaCount` deltas of 16
 -- bits, followed by deltas of 8 bits.) The statuses are the project's own.
-use Rattle.std.specs.Prelude.{◌≡◌, ◌+◌, ◌*◌, ◌≤◌, ℕ, zero, suc, ℤ, pos, ◌+ℤ◌, ◌*ℤ◌, List, length, take, drop}
+use Rattle.std.specs.Prelude.{◌≡◌, ◌+◌, ◌*◌, ◌^◌, ◌<◌, ◌≤◌, ℕ, zero, suc, ℤ, pos, ◌+ℤ◌, ◌*ℤ◌, List, length, take, drop}
 use Rattle.std.specs.Prelude.{nat_lt, if◌then◌else◌, slice_index_or}
 use Rattle.font_types.specs.Bytes.{signed_numeral}
-use Rattle.font_types.specs.Wrap.{FitsBits}
+use Rattle.font_c.specs.Status.{long_words, other_count, too_many}
 
 -- the delta at an index of a delta set with so many words
 abbrev pub delta_at : ℕ → List ℕ → ℕ → ℤ
@@ -25,9 +25,12 @@ set_sum words set scalars = first_products words set scalars (length scalars)
 abbrev pub IsSet : ℕ → List ℕ → ℕ → Type 0
 IsSet words set count = (words ≤ count) × (length set ≡ count + words)
 
--- what a status and a sum mean: 0 the exact sum, 1 another number of deltas, and 2 a sum that does not fit in 64 bits
-abbrev pub IsSetSummed : ℕ → List ℕ → List ℤ → ℕ → ℤ → Type 0
-IsSetSummed words set scalars zero sum = IsSet words set (length scalars) × (sum ≡ set_sum words set scalars)
-IsSetSummed words set scalars (suc zero) sum = ¬ IsSet words set (length scalars)
-IsSetSummed words set scalars (suc (suc n)) sum =
-    IsSet words set (length scalars) × (¬ FitsBits 64 (set_sum words set scalars))
+-- the exact sum is stored if all deltas have 8 or 16 bits, there are at most as many as a font can have, and as many
+-- as scalars; otherwise the status says which is not so, in this order
+pub record StoresSetSum (words : ℕ) (set : List ℕ) (scalars : List ℤ) (status : ℕ) (old new : ℤ) : Type 0 where
+  pub sum : words < 2 ^ 15 → length scalars < 2 ^ 16 → IsSet words set (length scalars)
+      → (status ≡ 0) × (new ≡ set_sum words set scalars)
+  pub other : words < 2 ^ 15 → length scalars < 2 ^ 16 → ¬ IsSet words set (length scalars)
+      → (status ≡ other_count) × (new ≡ old)
+  pub many : words < 2 ^ 15 → 2 ^ 16 ≤ length scalars → (status ≡ too_many) × (new ≡ old)
+  pub long : 2 ^ 15 ≤ words → (status ≡ long_words) × (new ≡ old)

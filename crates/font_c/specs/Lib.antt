@@ -1,3 +1,4 @@
+pub mod Status
 pub mod Texts
 pub mod Readings
 pub mod Pads
@@ -5,6 +6,5 @@ pub mod Tags
 pub mod TagText
 pub mod Matrices
 pub mod Sums
-pub mod Exact
 pub mod Fields
 pub mod DeltaSets

@@ -1,11 +1,12 @@
 -- Padding requested by C. The project's own.
-use Rattle.std.specs.Prelude.{◌≡◌, ◌≢◌, ◌<◌, ◌≤◌, ℕ, zero, suc, ℤ, List, length, max, Bool, true, false}
+use Rattle.std.specs.Prelude.{◌≡◌, ◌<◌, ◌≤◌, ℕ, zero, suc, ℤ, List, length, max, Bool, true, false}
 use Rattle.font_types.specs.Padding.{padded_text}
 use Rattle.font_types.specs.Shortest.{shortest_text}
 use Rattle.font_types.specs.declared.Align.{Align}
 use Rattle.font_types.specs.declared.Align.TheVariants.{Left, Center, Right}
 use Rattle.font_types.specs.declared.Pad.{Pad}
-use Rattle.font_c.specs.declared.text.FontPad.{FontPad}
+use Rattle.font_c.specs.declared.format.FontPad.{FontPad}
+use Rattle.font_c.specs.Status.{bad_pad}
 use Rattle.font_c.specs.Texts.{WritesText}
 
 -- the alignment is one of three, and the fill is ASCII
@@ -39,9 +40,9 @@ pad_of pad = record {
 }
 
 -- the padded shortest decimal of b / 2^f is written, for which 22 bytes, or the width if that is more, are enough; if
--- the padding is invalid, n is 0 and the bytes are unchanged
-pub record WritesPadded (b : ℤ) (f : ℕ) (pad : FontPad) (n : ℕ) (old new : List ℕ) : Type 0 where
-  pub text : IsPad pad → WritesText (padded_text (shortest_text b f) (pad_of pad)) n old new
-  pub enough : IsPad pad → max 22 pad.width ≤ length old → n ≢ 0
-  pub refused : ¬ IsPad pad → n ≡ 0
-  pub kept : ¬ IsPad pad → new ≡ old
+-- the padding is invalid, the status says so, and all is unchanged
+pub record WritesPadded (b : ℤ) (f : ℕ) (pad : FontPad) (status old_count new_count : ℕ) (old new : List ℕ) : Type 0 where
+  pub text : IsPad pad → WritesText (padded_text (shortest_text b f) (pad_of pad)) status old_count new_count old new
+  pub enough : IsPad pad → max 22 pad.width ≤ length old → status ≡ 0
+  pub refused : ¬ IsPad pad → status ≡ bad_pad
+  pub kept : ¬ IsPad pad → (new_count ≡ old_count) × (new ≡ old)

@@ -1,6 +1,7 @@
 -- Tags of C: 32-bit numbers with the big-endian bytes of the tag. (OpenType, data types: a Tag is an array of four
 -- uint8s.) The statuses are the project's own.
-use Rattle.std.specs.Prelude.{◌≡◌, ◌≢◌, ℕ, zero, suc, pos, ◌⊎◌, List, length, slice_index}
+use Rattle.std.specs.Prelude.{◌≡◌, ◌≢◌, ℕ, pos, ◌⊎◌, List, length, slice_index}
+use Rattle.font_c.specs.Status.{tag_length, tag_byte, tag_after_space}
 use Rattle.font_types.specs.Bytes.{numeral, bytes_of}
 use Rattle.font_types.specs.Tag.{IsAcceptable, IsTagLength, IsGood, IsFault, IsVisible, filled, four_spaces}
 
@@ -8,20 +9,23 @@ use Rattle.font_types.specs.Tag.{IsAcceptable, IsTagLength, IsGood, IsFault, IsV
 abbrev pub number_bytes : ℕ → List ℕ
 number_bytes tag = bytes_of 4 (pos tag)
 
--- what a status and a number mean for a tag of bytes: 0 the number is the tag, 1 there are not one to four bytes, and
--- 2 the bytes are not valid
-abbrev pub IsMade : List ℕ → ℕ → ℕ → Type 0
-IsMade bytes zero tag = IsAcceptable bytes × (tag ≡ numeral (filled bytes))
-IsMade bytes (suc zero) tag = ¬ IsTagLength (length bytes)
-IsMade bytes (suc (suc n)) tag = IsTagLength (length bytes) × (¬ IsGood bytes)
+-- the tag of one to four bytes is stored and the status is 0 if they are valid; otherwise it says whether the number of
+-- bytes is wrong, or a byte
+pub record StoresTag (bytes : List ℕ) (status old new : ℕ) : Type 0 where
+  pub made : status ≡ 0 → IsAcceptable bytes × (new ≡ numeral (filled bytes))
+  pub count : status ≡ tag_length → ¬ IsTagLength (length bytes)
+  pub byte : status ≡ tag_byte → IsTagLength (length bytes) × (¬ IsGood bytes)
+  pub known : (status ≡ 0) ⊎ ((status ≡ tag_length) ⊎ (status ≡ tag_byte))
+  pub kept : status ≢ 0 → new ≡ old
 
--- what a status and a position mean for bytes: 0 a valid tag, 1 not four bytes or four spaces, 2 the first invalid byte
--- is not visible, and 3 it is, and follows a space
-abbrev pub IsJudged : List ℕ → ℕ → ℕ → Type 0
-IsJudged bytes zero position = (length bytes ≡ 4) × IsGood bytes
-IsJudged bytes (suc zero) position = (length bytes ≢ 4) ⊎ (bytes ≡ four_spaces)
-IsJudged bytes (suc (suc zero)) position =
-    (length bytes ≡ 4) × (bytes ≢ four_spaces) × IsFault bytes position
-    × (¬ IsVisible (slice_index bytes position))
-IsJudged bytes (suc (suc (suc n))) position =
-    (length bytes ≡ 4) × IsFault bytes position × IsVisible (slice_index bytes position)
+-- the status is 0 for a valid tag, and otherwise says whether there are not four bytes, or only spaces; the first
+-- invalid byte, whose index is stored, is not visible; or it is, and follows a space
+pub record JudgesTag (bytes : List ℕ) (status old new : ℕ) : Type 0 where
+  pub good : status ≡ 0 → (length bytes ≡ 4) × IsGood bytes
+  pub count : status ≡ tag_length → (length bytes ≢ 4) ⊎ (bytes ≡ four_spaces)
+  pub byte : status ≡ tag_byte
+      → (length bytes ≡ 4) × (bytes ≢ four_spaces) × IsFault bytes new × (¬ IsVisible (slice_index bytes new))
+  pub after_space : status ≡ tag_after_space
+      → (length bytes ≡ 4) × IsFault bytes new × IsVisible (slice_index bytes new)
+  pub known : (status ≡ 0) ⊎ ((status ≡ tag_length) ⊎ ((status ≡ tag_byte) ⊎ (status ≡ tag_after_space)))
+  pub kept : (status ≡ 0) ⊎ (status ≡ tag_length) → new ≡ old

@@ -1,94 +1,89 @@
-//! Deltas added to quantities, and rounding to font units.
+//! Sums of deltas, and what they move.
 
-ghost use Rattle.std.specs.Prelude.{◌≡◌, ◌≢◌, ◌↔◌, pos, ◌+ℤ◌, ◌*ℤ◌, ◌≤ℤ◌, ◌<ℤ◌};
+ghost use Rattle.std.specs.Prelude.{◌≡◌, ◌≢◌, ◌↔◌, IsSome, IfSome, length, pos, ◌+ℤ◌, ◌*ℤ◌};
+ghost use Rattle.std.specs.Prelude.{neg_ℤ, ◌≤ℤ◌, ◌<ℤ◌};
+ghost use Rattle.font_types.specs.F48Dot16.{f48dot16_bits};
 ghost use Rattle.font_types.specs.FWord.{nearest_unit};
-ghost use Rattle.font_c.specs.Exact.{StoresExact};
+ghost use Rattle.font_types.specs.Wrap.{FitsBits};
+ghost use Rattle.font_c.specs.Sums.{moved_by, StoresSum, sum_of_products};
+ghost use Rattle.font_c.specs.Status.{out_of_range};
 
-use crate::sum::{SUM_OUT_OF_RANGE, SUMMED};
-use font_types::{F2Dot14, F48Dot16, FWord, Fixed, UfWord};
+use crate::status::{OTHER_COUNT, OUT_OF_RANGE, STORED};
+use font_types::{DeltaSum, F48Dot16, Fixed};
 
-// Stores an exact number, unless it overflows 64 bits, and returns the status.
-fn store(exact: i128, place: &mut i64) -> u32
-    ensures { StoresExact 64 exact result place.old place.new }
+/// Adds up the products of 16.16 scalars and deltas, item by item, in 48.16.
+#[unsafe(no_mangle)]
+pub extern "C" fn font_delta_sum(scalars: &[i32], deltas: &[i32], sum: &mut i64) -> u32
+    ensures { StoresSum scalars.now deltas.now result sum.old sum.new }
 {
-    let Ok(number) = i64::try_from(exact) else {
-        return SUM_OUT_OF_RANGE;
+    if scalars.len() != deltas.len() {
+        return OTHER_COUNT;
+    }
+    let Some(exact) = sum_in_range(scalars, deltas) else {
+        return OUT_OF_RANGE;
     };
-    *place = number;
-    SUMMED
+    *sum = exact.to_bits();
+    STORED
 }
 
-/// Adds a 48.16 delta to signed font units: 0 and the 48.16 result in `moved`, or 2 on overflow.
+/// Adds a 48.16 delta to signed font units, and rounds to the nearest font unit, half up.
 #[unsafe(no_mangle)]
-pub extern "C" fn font_fword_apply_delta(base: i16, delta: i64, moved: &mut i64) -> u32
-    ensures { StoresExact 64 (base *ℤ pos 65536 +ℤ delta) result moved.old moved.new }
-{
-    store(
-        FWord::new(base).apply_delta(F48Dot16::from_bits(delta)),
-        moved,
-    )
-}
-
-/// Adds a 48.16 delta to unsigned font units: 0 and the 48.16 result in `moved`, or 2 on overflow.
-#[unsafe(no_mangle)]
-pub extern "C" fn font_ufword_apply_delta(base: u16, delta: i64, moved: &mut i64) -> u32
-    ensures { StoresExact 64 (pos base *ℤ pos 65536 +ℤ delta) result moved.old moved.new }
-{
-    store(
-        UfWord::new(base).apply_delta(F48Dot16::from_bits(delta)),
-        moved,
-    )
-}
-
-/// Adds a delta in units of `2^-32` to a 16.16 value: 0 and the result in those units in `moved`,
-/// or 2 on overflow.
-#[unsafe(no_mangle)]
-pub extern "C" fn font_fixed_apply_delta(base: i32, delta: i64, moved: &mut i64) -> u32
-    ensures { StoresExact 64 (base *ℤ pos 65536 +ℤ delta) result moved.old moved.new }
-{
-    store(
-        Fixed::from_bits(base).apply_delta(F48Dot16::from_bits(delta)),
-        moved,
-    )
-}
-
-/// Adds a delta in units of `2^-30` to a 2.14 value: 0 and the result in those units in `moved`, or
-/// 2 on overflow.
-#[unsafe(no_mangle)]
-pub extern "C" fn font_f2dot14_apply_delta(base: i16, delta: i64, moved: &mut i64) -> u32
-    ensures { StoresExact 64 (base *ℤ pos 65536 +ℤ delta) result moved.old moved.new }
-{
-    store(
-        F2Dot14::from_bits(base).apply_delta(F48Dot16::from_bits(delta)),
-        moved,
-    )
-}
-
-/// Rounds a 48.16 value to the nearest signed font unit, half up: 0 and the result in `units`, or 2
-/// if it is out of range.
-#[unsafe(no_mangle)]
-pub extern "C" fn font_fword_round(bits: i64, units: &mut i16) -> u32
-    ensures { StoresExact 16 (nearest_unit bits) result units.old units.new }
-{
-    let Some(nearest) = FWord::round_delta(i128::from(bits)) else {
-        return SUM_OUT_OF_RANGE;
-    };
-    *units = nearest.to_i16();
-    SUMMED
-}
-
-/// Rounds a 48.16 value to the nearest unsigned font unit, half up: 0 and the result in `units`, or
-/// 2 if it is out of range.
-#[unsafe(no_mangle)]
-pub extern "C" fn font_ufword_round(bits: i64, units: &mut u16) -> u32
-    ensures fits { (result ≡ 0) ↔ ((pos 0 ≤ℤ nearest_unit bits) × (nearest_unit bits <ℤ pos 65536)) }
-    ensures stored { result ≡ 0 → pos units.new ≡ nearest_unit bits }
-    ensures known { result ≢ 0 → result ≡ 2 }
+#[tactic(auto, using(crate::proofs::Units::far_units))]
+pub extern "C" fn font_apply_delta_i16(base: i16, delta: i64, units: &mut i16) -> u32
+    ensures fits { (result ≡ 0) ↔ ((neg_ℤ (pos 32768) ≤ℤ moved_by base delta)
+        × (moved_by base delta <ℤ pos 32768)) }
+    ensures stored { result ≡ 0 → units.new ≡ moved_by base delta }
+    ensures known { result ≢ 0 → result ≡ out_of_range }
     ensures kept { result ≢ 0 → units.new ≡ units.old }
 {
-    let Some(nearest) = UfWord::round_delta(i128::from(bits)) else {
-        return SUM_OUT_OF_RANGE;
+    let Some(moved) = (i64::from(base) * 0x1_0000).checked_add(delta) else {
+        return OUT_OF_RANGE;
     };
-    *units = nearest.to_u16();
-    SUMMED
+    let Ok(nearest) = i16::try_from(whole_units(moved)) else {
+        return OUT_OF_RANGE;
+    };
+    *units = nearest;
+    STORED
+}
+
+/// Adds a 48.16 delta to unsigned font units, as advances are, and rounds in the same way.
+#[unsafe(no_mangle)]
+#[tactic(auto, using(crate::proofs::Units::far_units))]
+pub extern "C" fn font_apply_delta_u16(base: u16, delta: i64, units: &mut u16) -> u32
+    ensures fits { (result ≡ 0) ↔ ((pos 0 ≤ℤ moved_by (pos base) delta)
+        × (moved_by (pos base) delta <ℤ pos 65536)) }
+    ensures stored { result ≡ 0 → pos units.new ≡ moved_by (pos base) delta }
+    ensures known { result ≢ 0 → result ≡ out_of_range }
+    ensures kept { result ≢ 0 → units.new ≡ units.old }
+{
+    let Some(moved) = (i64::from(base) * 0x1_0000).checked_add(delta) else {
+        return OUT_OF_RANGE;
+    };
+    let Ok(nearest) = u16::try_from(whole_units(moved)) else {
+        return OUT_OF_RANGE;
+    };
+    *units = nearest;
+    STORED
+}
+
+// Rounds a 48.16 value to the nearest font unit, half up.
+#[tactic(auto, using(crate::proofs::Units::halves_up_64))]
+fn whole_units(bits: i64) -> i64
+    ensures { result ≡ nearest_unit bits }
+{
+    ((bits >> 15) + 1) >> 1
+}
+
+// Returns the exact sum of the products, item by item, or `None` if it does not fit in 64 bits.
+fn sum_in_range(scalars: &[i32], deltas: &[i32]) -> Option<F48Dot16>
+    requires { length scalars.now ≡ length deltas.now }
+    ensures variant { IsSome result ↔ FitsBits 64 (sum_of_products scalars.now deltas.now) }
+    ensures value { IfSome result (λ sum.
+        f48dot16_bits sum ≡ sum_of_products scalars.now deltas.now) }
+{
+    let mut sum = DeltaSum::new();
+    for i in 0..scalars.len() {
+        sum.add(Fixed::from_bits(scalars[i]), deltas[i]);
+    }
+    sum.checked_finish()
 }

@@ -1,64 +1,85 @@
 //! Sums over delta sets of item variation stores.
 
-ghost use Rattle.std.specs.Prelude.{◌≡◌, ◌≢◌, ◌+◌, ◌<◌, ◌*ℤ◌, length};
-ghost use Rattle.font_c.specs.DeltaSets.{delta_at, IsSet, IsSetSummed, set_sum};
+ghost use Rattle.std.specs.Prelude.{◌≡◌, ◌+◌, ◌*◌, ◌^◌, ◌<◌, ◌≤◌, ◌*ℤ◌, length, take, drop};
+ghost use Rattle.std.specs.Prelude.{unsigned_abs};
+ghost use Rattle.font_types.specs.Bytes.{signed_numeral};
+ghost use Rattle.font_c.specs.DeltaSets.{IsSet, set_sum, StoresSetSum};
 
 use crate::field::value_at;
-use crate::sum::{OTHER_LENGTH, SUM_OUT_OF_RANGE, SUMMED};
-use font_types::Fixed;
+use crate::status::{LONG_WORDS, OTHER_COUNT, STORED, TOO_MANY};
+use font_types::Scalar;
 
-/// Adds up the products of 16.16 scalars and the deltas of a delta set, which has `word_count`
-/// deltas of 16 bits, followed by deltas of 8 bits: 0 and the 48.16 sum in `sum`, 1 if there are
-/// not as many deltas as scalars, or 2 if 64 bits do not hold the sum.
+// A font counts the regions of a delta set in 16 bits.
+const MOST_SCALARS: usize = 0xFFFF;
+
+// The bit of a word count that is set if the deltas have 32 and 16 bits, not 16 and 8.
+const LONG_WORDS_FLAG: u16 = 0x8000;
+
+/// Adds up the products of 16.16 scalars and the deltas of a delta set, in 48.16. The set has
+/// `word_count` deltas of 16 bits, followed by deltas of 8 bits.
 #[unsafe(no_mangle)]
 pub extern "C" fn font_delta_set_sum(
     scalars: &[i32],
     set: &[u8],
-    word_count: usize,
+    word_count: u16,
     sum: &mut i64,
 ) -> u32
-    ensures summed { IsSetSummed word_count set.now scalars.now result sum.new }
-    ensures known { result < 3 }
-    ensures kept { result ≢ 0 → sum.new ≡ sum.old }
+    ensures { StoresSetSum word_count set.now scalars.now result sum.old sum.new }
 {
-    if word_count > scalars.len() || set.len() - word_count.min(set.len()) != scalars.len() {
-        return OTHER_LENGTH;
+    if word_count >= LONG_WORDS_FLAG {
+        return LONG_WORDS;
     }
-    let Ok(units) = i64::try_from(summed(scalars, set, word_count)) else {
-        return SUM_OUT_OF_RANGE;
-    };
-    *sum = units;
-    SUMMED
+    if scalars.len() > MOST_SCALARS {
+        return TOO_MANY;
+    }
+    let words = usize::from(word_count);
+    if words > scalars.len() || set.len() != scalars.len() + words {
+        return OTHER_COUNT;
+    }
+    *sum = exact_sum(scalars, set, words);
+    STORED
 }
 
 // The exact sum of the products.
-fn summed(scalars: &[i32], set: &[u8], word_count: usize) -> i128
-    requires { IsSet word_count set.now (length scalars.now) }
-    ensures { result ≡ set_sum word_count set.now scalars.now }
+fn exact_sum(scalars: &[i32], set: &[u8], words: usize) -> i64
+    requires set { IsSet words set.now (length scalars.now) }
+    requires few { length scalars.now < 2 ^ 16 }
+    ensures { result ≡ set_sum words set.now scalars.now }
 {
-    let mut sum = 0i128;
-    for i in 0..scalars.len() {
-        sum += i128::from(exact_product(scalars[i], delta(set, word_count, i)));
+    let (of_words, of_bytes) = scalars.split_at(words);
+    let (wide, narrow) = set.split_at(2 * words);
+    let mut sum = 0i64;
+    for i in 0..of_words.len() {
+        sum += product(of_words[i], word_at(wide, i));
+    }
+    for i in 0..of_bytes.len() {
+        sum += product(of_bytes[i], i16::from(byte_at(narrow, i)));
     }
     sum
 }
 
 // The exact product of a 16.16 scalar and a delta, in 48.16.
-fn exact_product(scalar: i32, delta: i32) -> i64
-    ensures { result ≡ (scalar *ℤ delta) }
+fn product(scalar: i32, delta: i16) -> i64
+    ensures value { result ≡ (scalar *ℤ delta) }
+    ensures bound { unsigned_abs result ≤ 2 ^ 46 }
 {
-    Fixed::from_bits(scalar).mul_i32(delta).to_bits()
+    i64::from(scalar) * i64::from(delta)
 }
 
-// The delta at an index.
+// The delta of 16 bits at an index.
 #[tactic(auto, using(font_types::proofs::Callers::calls))]
-fn delta(set: &[u8], word_count: usize, index: usize) -> i32
-    requires { word_count + index < length set.now }
-    ensures { result ≡ delta_at word_count set.now index }
+fn word_at(set: &[u8], index: usize) -> i16
+    requires { 2 * index + 2 ≤ length set.now }
+    ensures { result ≡ signed_numeral 2 (take 2 (drop (2 * index) set.now)) }
 {
-    if index < word_count {
-        i32::from(value_at::<i16>(set, 2 * index).unwrap())
-    } else {
-        i32::from(value_at::<i8>(set, word_count + index).unwrap())
-    }
+    value_at::<i16>(set, 2 * index).unwrap()
+}
+
+// The delta of 8 bits at an index.
+#[tactic(auto, using(crate::proofs::DeltaSets::one_byte))]
+fn byte_at(set: &[u8], index: usize) -> i8
+    requires { index < length set.now }
+    ensures { result ≡ signed_numeral 1 (take 1 (drop index set.now)) }
+{
+    i8::from_raw([set[index]])
 }

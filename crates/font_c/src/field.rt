@@ -7,13 +7,8 @@ ghost use Rattle.font_types.specs.Bytes.{numeral, signed_numeral};
 ghost use Rattle.font_types.specs.Scalar.{IsValueOf};
 ghost use Rattle.font_c.specs.Fields.{ReadsField};
 
+use crate::status::{OUT_OF_BOUNDS, STORED};
 use font_types::{BeByteArray, Int24, Scalar, Uint24};
-
-// The field was read.
-const IN_BOUNDS: u32 = 0;
-
-// The field is not within the bytes.
-const OUT_OF_BOUNDS: u32 = 1;
 
 /// The value at a byte offset, or `None` if it is out of bounds.
 pub fn value_at<T: Scalar>(bytes: &[u8], offset: usize) -> Option<T>
@@ -36,9 +31,34 @@ fn three_bytes_at(bytes: &[u8], offset: usize) -> Option<[u8; 3]>
     <[u8; 3]>::from_slice(field)
 }
 
-/// Reads a `uint16` at a byte offset: 0 and the number in `value`, or 1 if it is out of bounds.
+/// Reads a `uint8` at a byte offset.
 #[unsafe(no_mangle)]
-pub extern "C" fn font_u16_at(bytes: &[u8], offset: usize, value: &mut u16) -> u32
+pub extern "C" fn font_read_u8(bytes: &[u8], offset: usize, value: &mut u8) -> u32
+    ensures { ReadsField 1 (λ field. pos (numeral field)) bytes.now offset result
+        (pos value.old) (pos value.new) }
+{
+    let Some(number) = value_at(bytes, offset) else {
+        return OUT_OF_BOUNDS;
+    };
+    *value = number;
+    STORED
+}
+
+/// Reads an `int8` at a byte offset.
+#[unsafe(no_mangle)]
+pub extern "C" fn font_read_i8(bytes: &[u8], offset: usize, value: &mut i8) -> u32
+    ensures { ReadsField 1 (signed_numeral 1) bytes.now offset result value.old value.new }
+{
+    let Some(number) = value_at(bytes, offset) else {
+        return OUT_OF_BOUNDS;
+    };
+    *value = number;
+    STORED
+}
+
+/// Reads a `uint16` at a byte offset.
+#[unsafe(no_mangle)]
+pub extern "C" fn font_read_u16(bytes: &[u8], offset: usize, value: &mut u16) -> u32
     ensures { ReadsField 2 (λ field. pos (numeral field)) bytes.now offset result
         (pos value.old) (pos value.new) }
 {
@@ -46,24 +66,24 @@ pub extern "C" fn font_u16_at(bytes: &[u8], offset: usize, value: &mut u16) -> u
         return OUT_OF_BOUNDS;
     };
     *value = number;
-    IN_BOUNDS
+    STORED
 }
 
-/// Reads an `int16` at a byte offset: 0 and the number in `value`, or 1 if it is out of bounds.
+/// Reads an `int16` at a byte offset.
 #[unsafe(no_mangle)]
-pub extern "C" fn font_i16_at(bytes: &[u8], offset: usize, value: &mut i16) -> u32
+pub extern "C" fn font_read_i16(bytes: &[u8], offset: usize, value: &mut i16) -> u32
     ensures { ReadsField 2 (signed_numeral 2) bytes.now offset result value.old value.new }
 {
     let Some(number) = value_at(bytes, offset) else {
         return OUT_OF_BOUNDS;
     };
     *value = number;
-    IN_BOUNDS
+    STORED
 }
 
-/// Reads a `uint24` at a byte offset: 0 and the number in `value`, or 1 if it is out of bounds.
+/// Reads a `uint24` at a byte offset.
 #[unsafe(no_mangle)]
-pub extern "C" fn font_u24_at(bytes: &[u8], offset: usize, value: &mut u32) -> u32
+pub extern "C" fn font_read_u24(bytes: &[u8], offset: usize, value: &mut u32) -> u32
     ensures { ReadsField 3 (λ field. pos (numeral field)) bytes.now offset result
         (pos value.old) (pos value.new) }
 {
@@ -71,24 +91,24 @@ pub extern "C" fn font_u24_at(bytes: &[u8], offset: usize, value: &mut u32) -> u
         return OUT_OF_BOUNDS;
     };
     *value = Uint24::from_be_bytes(field).to_u32();
-    IN_BOUNDS
+    STORED
 }
 
-/// Reads an `int24` at a byte offset: 0 and the number in `value`, or 1 if it is out of bounds.
+/// Reads an `int24` at a byte offset.
 #[unsafe(no_mangle)]
-pub extern "C" fn font_i24_at(bytes: &[u8], offset: usize, value: &mut i32) -> u32
+pub extern "C" fn font_read_i24(bytes: &[u8], offset: usize, value: &mut i32) -> u32
     ensures { ReadsField 3 (signed_numeral 3) bytes.now offset result value.old value.new }
 {
     let Some(field) = three_bytes_at(bytes, offset) else {
         return OUT_OF_BOUNDS;
     };
     *value = Int24::from_be_bytes(field).to_i32();
-    IN_BOUNDS
+    STORED
 }
 
-/// Reads a `uint32` at a byte offset: 0 and the number in `value`, or 1 if it is out of bounds.
+/// Reads a `uint32` at a byte offset.
 #[unsafe(no_mangle)]
-pub extern "C" fn font_u32_at(bytes: &[u8], offset: usize, value: &mut u32) -> u32
+pub extern "C" fn font_read_u32(bytes: &[u8], offset: usize, value: &mut u32) -> u32
     ensures { ReadsField 4 (λ field. pos (numeral field)) bytes.now offset result
         (pos value.old) (pos value.new) }
 {
@@ -96,29 +116,29 @@ pub extern "C" fn font_u32_at(bytes: &[u8], offset: usize, value: &mut u32) -> u
         return OUT_OF_BOUNDS;
     };
     *value = number;
-    IN_BOUNDS
+    STORED
 }
 
-/// Reads an `int32` at a byte offset: 0 and the number in `value`, or 1 if it is out of bounds.
+/// Reads an `int32` at a byte offset.
 #[unsafe(no_mangle)]
-pub extern "C" fn font_i32_at(bytes: &[u8], offset: usize, value: &mut i32) -> u32
+pub extern "C" fn font_read_i32(bytes: &[u8], offset: usize, value: &mut i32) -> u32
     ensures { ReadsField 4 (signed_numeral 4) bytes.now offset result value.old value.new }
 {
     let Some(number) = value_at(bytes, offset) else {
         return OUT_OF_BOUNDS;
     };
     *value = number;
-    IN_BOUNDS
+    STORED
 }
 
-/// Reads an `int64` at a byte offset: 0 and the number in `value`, or 1 if it is out of bounds.
+/// Reads an `int64` at a byte offset.
 #[unsafe(no_mangle)]
-pub extern "C" fn font_i64_at(bytes: &[u8], offset: usize, value: &mut i64) -> u32
+pub extern "C" fn font_read_i64(bytes: &[u8], offset: usize, value: &mut i64) -> u32
     ensures { ReadsField 8 (signed_numeral 8) bytes.now offset result value.old value.new }
 {
     let Some(number) = value_at(bytes, offset) else {
         return OUT_OF_BOUNDS;
     };
     *value = number;
-    IN_BOUNDS
+    STORED
 }

@@ -1,12 +1,11 @@
 //! Matrices and points of 16.16 values.
 
 ghost use Rattle.std.specs.Prelude.{◌≡◌};
-ghost use Rattle.font_types.specs.FixedMatrix.{matrix_bits, point_bits, FitsComposed, FitsInTurn};
-ghost use Rattle.font_types.specs.FixedMatrix.{IsCloseComposed, IsCloseInTurn};
+ghost use Rattle.font_types.specs.FixedMatrix.{matrix_bits, point_bits};
 ghost use Rattle.font_c.specs.Matrices.{entries, coordinates, fixed_matrix_product, fixed_image};
 ghost use Rattle.font_c.specs.Matrices.{linear_part, TransformsEach};
 
-use font_types::{Fixed, Matrix, Point, laws};
+use font_types::{Fixed, Matrix, Point};
 
 /// A matrix of raw 16.16 values: it transforms `(x, y)` to
 /// `(xx * x + xy * y + dx, yx * x + yy * y + dy)`.
@@ -114,32 +113,4 @@ pub extern "C" fn font_matrix_images(m: &FontMatrix, points: &mut [FontPoint])
     for p in points.iter_mut() {
         *p = font_matrix_image(*m, *p);
     }
-}
-
-/// Transforms a point by the product of `a` and `b`.
-///
-/// If no element of the product and no coordinate of the result overflows 32 bits, each coordinate
-/// is at most `(|x| + |y|) / 65536 + 2` from the exact one, all as raw values.
-#[unsafe(no_mangle)]
-pub extern "C" fn font_matrix_composed(a: FontMatrix, b: FontMatrix, p: FontPoint) -> FontPoint
-    ensures value { coordinates result
-        ≡ fixed_image (fixed_matrix_product (entries a) (entries b)) (coordinates p) }
-    ensures close { FitsComposed (entries a) (entries b) (coordinates p)
-        → IsCloseComposed (entries a) (entries b) (coordinates p) (coordinates result) }
-{
-    laws::composed(a.into(), b.into(), p.into()).into()
-}
-
-/// Transforms a point by `b`, and the result by `a`.
-///
-/// If no coordinate of either overflows 32 bits, `x` is at most `(|a.xx| + |a.xy|) / 65536 + 1`
-/// from the exact one, and `y` at most `(|a.yx| + |a.yy|) / 65536 + 1`, all as raw values.
-#[unsafe(no_mangle)]
-pub extern "C" fn font_matrix_in_turn(a: FontMatrix, b: FontMatrix, p: FontPoint) -> FontPoint
-    ensures value { coordinates result
-        ≡ fixed_image (entries a) (fixed_image (entries b) (coordinates p)) }
-    ensures close { FitsInTurn (entries a) (entries b) (coordinates p)
-        → IsCloseInTurn (entries a) (entries b) (coordinates p) (coordinates result) }
-{
-    laws::in_turn(a.into(), b.into(), p.into()).into()
 }

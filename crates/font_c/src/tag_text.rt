@@ -22,8 +22,7 @@ impl TagText {
 
     /// The text of a tag.
     pub fn new(tag: Tag) -> Self
-        ensures text { made_text result ≡ tag_text (tag_bytes tag) }
-        ensures some { 0 < length (made_text result) }
+        ensures { made_text result ≡ tag_text (tag_bytes tag) }
     {
         let [first, second, third, fourth] = tag.to_be_bytes();
         let mut text = Self::empty();
@@ -54,7 +53,6 @@ impl TagText {
     fn push(&mut self, byte: u8)
         requires { length (made_text self.old) + 6 ≤ 24 }
         ensures text { made_text self.new ≡ made_text self.old ++ byte_text byte }
-        ensures longer { length (made_text self.old) < length (made_text self.new) }
         ensures bound { length (made_text self.new) ≤ length (made_text self.old) + 6 }
     {
         match byte {

@@ -26,7 +26,7 @@ fn folder(name: &str, target: Target) -> String {
     match target {
         Target::Library => format!("src/generated/{name}"),
         Target::Program => "src/bin/fontval/generated".into(),
-        Target::Exports => format!("rust/c/src/{name}"),
+        Target::Exports => format!("c/src/generated/{name}"),
     }
 }
 

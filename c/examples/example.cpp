@@ -1,0 +1,61 @@
+// The library from C++: a type for 16.16 numbers, with operators, and sums of deltas over vectors.
+#include "font_types.h"
+
+#include <cstdint>
+#include <iostream>
+#include <stdexcept>
+#include <string>
+#include <vector>
+
+class Fixed {
+public:
+    static Fixed parse(const std::string &text) {
+        std::int32_t bits = 0;
+        const font_status status = font_fixed_parse(text.data(), text.size(), &bits);
+        if (status != FONT_OK)
+            throw std::invalid_argument(text + ": " + font_status_text(status));
+        return Fixed(bits);
+    }
+
+    explicit Fixed(std::int32_t bits) : bits_(bits) {}
+
+    std::int32_t bits() const { return bits_; }
+
+    std::string text() const {
+        char out[FONT_DECIMAL_ROOM];
+        std::size_t length = 0;
+        if (font_fixed_format(bits_, out, sizeof out, &length) != FONT_OK)
+            throw std::logic_error("the room is enough for each decimal");
+        return std::string(out, length);
+    }
+
+    friend Fixed operator*(Fixed x, Fixed y) { return Fixed(font_fixed_mul(x.bits_, y.bits_)); }
+
+    friend Fixed operator/(Fixed x, Fixed y) { return Fixed(font_fixed_div(x.bits_, y.bits_)); }
+
+private:
+    std::int32_t bits_;
+};
+
+// The exact sum of the products, as a raw value of 48.16. An empty vector may give null.
+static std::int64_t delta_sum(const std::vector<std::int32_t> &scalars,
+                              const std::vector<std::int32_t> &deltas) {
+    std::int64_t sum = 0;
+    const font_status status =
+        font_delta_sum(scalars.data(), scalars.size(), deltas.data(), deltas.size(), &sum);
+    if (status != FONT_OK)
+        throw std::invalid_argument(font_status_text(status));
+    return sum;
+}
+
+int main() {
+    const Fixed width = Fixed::parse("1.5");
+    std::cout << (width * width).text() << ' ' << (width / Fixed::parse("-4")).text() << ' '
+              << delta_sum({}, {}) << ' '
+              << delta_sum({width.bits(), -65536}, {100, 30}) / 65536 << '\n';
+    try {
+        Fixed::parse("1e3");
+    } catch (const std::invalid_argument &fault) {
+        std::cout << fault.what() << '\n';
+    }
+}

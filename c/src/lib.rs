@@ -1,0 +1,71 @@
+//! The library for C: the proved source of `crates/font_c`, and of the crates that it uses. An
+//! export takes a slice as a pointer and a length, as `font_types.h` declares it.
+#![no_std]
+// The exports call a part of the library.
+#![allow(dead_code, unused_imports, clippy::all)]
+
+use core::slice::{from_raw_parts, from_raw_parts_mut};
+
+#[path = "../../src/generated/font_base/mod.rs"]
+mod font_base;
+#[path = "../../src/generated/font_decimal/mod.rs"]
+mod font_decimal;
+#[path = "../../src/generated/font_fixed/mod.rs"]
+mod font_fixed;
+#[path = "../../src/generated/font_fixed2/mod.rs"]
+mod font_fixed2;
+#[path = "../../src/generated/font_geom/mod.rs"]
+mod font_geom;
+#[path = "../../src/generated/font_ids/mod.rs"]
+mod font_ids;
+#[path = "../../src/generated/font_tags/mod.rs"]
+mod font_tags;
+#[path = "../../src/generated/font_types/mod.rs"]
+mod font_types;
+
+#[path = "generated/font_c/mod.rs"]
+pub mod font_c;
+
+/// The values that a caller in C passes. If there are none, the pointer may be null.
+///
+/// # Safety
+///
+/// If there are any, the pointer is valid for so many values as long as they are used.
+unsafe fn slice<'a, T>(values: *const T, len: usize) -> &'a [T] {
+    match len {
+        0 => &[],
+        _ => unsafe { from_raw_parts(values, len) },
+    }
+}
+
+/// The values that a caller in C wants to be written. If there are none, the pointer may be null.
+///
+/// # Safety
+///
+/// If there are any, the pointer is valid for so many values as long as they are used, and nothing
+/// else accesses these.
+unsafe fn slice_mut<'a, T>(values: *mut T, len: usize) -> &'a mut [T] {
+    match len {
+        0 => &mut [],
+        _ => unsafe { from_raw_parts_mut(values, len) },
+    }
+}
+
+unsafe extern "C" {
+    safe fn abort() -> !;
+}
+
+// No export panics for a caller that keeps to the header.
+#[panic_handler]
+fn panic(_: &core::panic::PanicInfo<'_>) -> ! {
+    abort()
+}
+
+// Objects of the compiler's library in the archive refer to this function of Rust's unwinding. It
+// is never called, because nothing here unwinds.
+#[cfg(all(target_os = "linux", panic = "abort"))]
+core::arch::global_asm!(
+    ".weak rust_eh_personality",
+    ".hidden rust_eh_personality",
+    "rust_eh_personality:",
+);

@@ -1,0 +1,72 @@
+/*
+ * Compares the library, and the lines of README.md for FT_CeilFix and FT_RoundFix, with
+ * FreeType over a million random inputs a function. FreeType's FT_Long has 64 bits on
+ * most systems, so results are compared modulo 2^32.
+ */
+#include "font_types.h"
+
+#include <freetype/freetype.h>
+#include <freetype/ftglyph.h>
+#include <stdio.h>
+#include <stdlib.h>
+
+enum { ROUNDS = 1000000 };
+
+static uint64_t state = 1;
+
+/* A number of random length, so that small ones, ties and ends are frequent. */
+static int32_t any(void) {
+    state ^= state << 13;
+    state ^= state >> 7;
+    state ^= state << 17;
+    switch (state % 16) {
+    case 0: return INT32_MIN;
+    case 1: return INT32_MAX;
+    case 2: return 0;
+    case 3: return (int32_t)(state >> 32 & 0xFFFF8000);
+    default: return (int32_t)(state >> 32) >> (state >> 8) % 32;
+    }
+}
+
+static int failed;
+
+static void check(const char *name, int32_t ours, FT_Long theirs, int32_t x, int32_t y, int32_t z) {
+    if (ours != (int32_t)theirs && failed++ < 10)
+        printf("%s(%d, %d, %d): %d, not %d\n", name, (int)x, (int)y, (int)z, (int)ours,
+               (int)theirs);
+}
+
+int main(void) {
+    for (int i = 0; i < ROUNDS; i++) {
+        int32_t x = any(), y = any(), z = any();
+        check("mul", font_fixed_mul(x, y), FT_MulFix(x, y), x, y, 0);
+        check("div", font_fixed_div(x, y), FT_DivFix(x, y), x, y, 0);
+        check("mul_div", font_fixed_mul_div(x, y, z), FT_MulDiv(x, y, z), x, y, z);
+#include "freetype.inc"
+        check("ceil", ceiling, FT_CeilFix(x), x, 0, 0);
+        check("round", rounded, FT_RoundFix(x), x, 0, 0);
+        int32_t floor;
+        if (font_fixed_floor(x, &floor) == FONT_OK)
+            check("floor", floor, FT_FloorFix(x), x, 0, 0);
+        FT_Matrix a = {any(), any(), any(), any()}, b = {any(), any(), any(), any()};
+        font_matrix m = {(int32_t)a.xx, (int32_t)a.yx, (int32_t)a.xy, (int32_t)a.yy, 0, 0};
+        font_matrix n = {(int32_t)b.xx, (int32_t)b.yx, (int32_t)b.xy, (int32_t)b.yy, 0, 0};
+        font_matrix c = font_matrix_product(m, n);
+        FT_Matrix_Multiply(&a, &b);
+        check("product.xx", c.xx, b.xx, x, y, z);
+        check("product.yx", c.yx, b.yx, x, y, z);
+        check("product.xy", c.xy, b.xy, x, y, z);
+        check("product.yy", c.yy, b.yy, x, y, z);
+        FT_Vector v = {x, y};
+        font_point p = font_matrix_vector(m, (font_point){x, y});
+        FT_Vector_Transform(&v, &a);
+        check("vector.x", p.x, v.x, x, y, z);
+        check("vector.y", p.y, v.y, x, y, z);
+        font_point points[] = {{x, y}};
+        font_matrix_images(&m, points, 1);
+        check("images.x", points[0].x, v.x, x, y, z);
+        check("images.y", points[0].y, v.y, x, y, z);
+    }
+    printf("beside FreeType: %d rounds, %d different\n", ROUNDS, failed);
+    return failed == 0 ? 0 : 1;
+}

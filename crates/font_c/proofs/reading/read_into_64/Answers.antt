@@ -1,9 +1,0 @@
-use Rattle.std.proofs.Common.{rules, lit≤}
-use Rattle.std.specs.Int.{w64}
-use Rattle.font_c.proofs.Readings.{reads_into}
-use Rattle.font_c.proofs.reading.read_into_64.Goals as goal
-
-pub returns : goal.returns
-returns c =
-    let status = c.store_reading.ensures in
-    reads_into w64 (lit≤ tt) (search rules) status.known status.kept

@@ -1,0 +1,68 @@
+//! Decimals parsed to raw values.
+
+ghost use Rattle.std.specs.Prelude.{◌≡◌, ◌≢◌, ◌<◌};
+ghost use Rattle.std.specs.Int.{w16, w32, w64};
+ghost use Rattle.font_c.specs.Readings.{reading_of, ReadsInto};
+ghost use Rattle.font_c.specs.Status.{bad_fraction, IsFraction};
+
+use crate::status::{BAD_FRACTION, NO_DECIMAL, OUT_OF_RANGE, STORED, is_fraction};
+use font_fixed::{read_bits_16, read_bits_32, read_bits_64};
+use font_types::DecimalFault;
+
+/// Parses a decimal as the nearest 16-bit raw value, rounding half away from zero.
+#[unsafe(no_mangle)]
+pub extern "C" fn font_parse_i16(text: &[u8], fraction_bits: u32, bits: &mut i16) -> u32
+    ensures parsed { IsFraction 16 fraction_bits
+        → ReadsInto w16 fraction_bits text.now result bits.old bits.new }
+    ensures refused { ¬ IsFraction 16 fraction_bits
+        → (result ≡ bad_fraction) × (bits.new ≡ bits.old) }
+{
+    if !is_fraction(16, fraction_bits) {
+        return BAD_FRACTION;
+    }
+    store_reading(read_bits_16(text, fraction_bits), bits)
+}
+
+/// Parses a decimal as the nearest 32-bit raw value, rounding half away from zero.
+#[unsafe(no_mangle)]
+pub extern "C" fn font_parse_i32(text: &[u8], fraction_bits: u32, bits: &mut i32) -> u32
+    ensures parsed { IsFraction 32 fraction_bits
+        → ReadsInto w32 fraction_bits text.now result bits.old bits.new }
+    ensures refused { ¬ IsFraction 32 fraction_bits
+        → (result ≡ bad_fraction) × (bits.new ≡ bits.old) }
+{
+    if !is_fraction(32, fraction_bits) {
+        return BAD_FRACTION;
+    }
+    store_reading(read_bits_32(text, fraction_bits), bits)
+}
+
+/// Parses a decimal as the nearest 64-bit raw value, rounding half away from zero.
+#[unsafe(no_mangle)]
+pub extern "C" fn font_parse_i64(text: &[u8], fraction_bits: u32, bits: &mut i64) -> u32
+    ensures parsed { IsFraction 64 fraction_bits
+        → ReadsInto w64 fraction_bits text.now result bits.old bits.new }
+    ensures refused { ¬ IsFraction 64 fraction_bits
+        → (result ≡ bad_fraction) × (bits.new ≡ bits.old) }
+{
+    if !is_fraction(64, fraction_bits) {
+        return BAD_FRACTION;
+    }
+    store_reading(read_bits_64(text, fraction_bits), bits)
+}
+
+// Stores a parsed value, and returns the status.
+fn store_reading<T: Copy>(reading: Result<T, DecimalFault>, place: &mut T) -> u32
+    ensures reading { reading_of result place.new ≡ reading }
+    ensures known { result < 3 }
+    ensures kept { result ≢ 0 → place.new ≡ place.old }
+{
+    match reading {
+        Ok(number) => {
+            *place = number;
+            STORED
+        }
+        Err(DecimalFault::Syntax) => NO_DECIMAL,
+        Err(DecimalFault::OutOfRange) => OUT_OF_RANGE,
+    }
+}
