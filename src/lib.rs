@@ -53,6 +53,8 @@ compile_error!("the source is proved for a `usize` of 64 bits, and relies on one
 mod font_base;
 #[path = "generated/font_decimal/mod.rs"]
 mod font_decimal;
+// The library for C uses more of it.
+#[allow(dead_code, unused_imports)]
 #[path = "generated/font_fixed/mod.rs"]
 mod font_fixed;
 #[path = "generated/font_fixed2/mod.rs"]

@@ -329,9 +329,9 @@ fn font_units() {
         (i128::MAX, None, None),
         (i128::MIN, None, None),
     ] {
-        assert_eq!(FWord::round_steps(steps), signed.map(FWord::new), "{steps}");
+        assert_eq!(FWord::round_delta(steps), signed.map(FWord::new), "{steps}");
         assert_eq!(
-            UfWord::round_steps(steps),
+            UfWord::round_delta(steps),
             unsigned.map(UfWord::new),
             "{steps}"
         );

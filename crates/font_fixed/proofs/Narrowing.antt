@@ -28,13 +28,6 @@ fits_high : (d h : ℕ) (s q : ℤ) → s <ℤ pos (h * d) → (q *ℤ pos d) �
 fits_high d h s q high low = by_lt_z q (pos h) (λ less. less)
     (λ more. absurd (omega (arith, sums, high, low, times_monotone (pos h) q d more)))
 
--- a floor is at least a whole number that the number is at least
-floor_at_least : (f h : ℕ) (x r : ℤ) → neg_ℤ (pos (h * 2 ^ f)) ≤ℤ x → IsFloor f x r → neg_ℤ (pos (h * 2 ^ f)) ≤ℤ r
-floor_at_least f h x r low floor =
-    let above : x <ℤ ((floor.whole *ℤ pos (2 ^ f)) +ℤ pos (2 ^ f)) = rw (← floor.bits) floor.high in
-    let scaled = times_monotone (neg_ℤ (pos h)) floor.whole (2 ^ f) (fits_low (2 ^ f) h x floor.whole low above) in
-    omega (arith, sums, floor.bits, scaled, neg-times (pos h) (2 ^ f))
-
 -- numbers of w bits are v bits of whole numbers, each of d steps, and a half step above is `half` of these
 abbrev pub is_width_split : ℕ → ℕ → ℕ → ℕ → Bool
 is_width_split w v d half = nat_lt 0 v &&
@@ -108,28 +101,6 @@ floor_is_nearest_whole w f x s r is floor test wide =
       wrapped = floor.bits ∙ ap (λ n. n *ℤ pos (2 ^ f)) narrow.wrapped ∙ steps narrow.exact;
       is = floor.bits ∙ ap (λ n. n *ℤ pos (2 ^ f)) narrow.is ∙ steps (up x (2 ^ f));
     }
-
--- a number without what it has above its floor
-pub sub_fract_fits : (w : Width) (f : ℕ) (x m : ℤ) → IsFract f x m → SFits w x → SFits w m
-    → IsTrue (is_width_split (bits w) (bits w - f) (2 ^ f) (2 ^ f / 2))
-    → SFits w (to_z w (of_z w x) -ℤ to_z w (of_z w m))
-sub_fract_fits w f x m fract fits small test =
-    let it = width_split (bits w) (bits w - f) (2 ^ f) (2 ^ f / 2) test in
-    let half = half_range-bits w in
-    let low : neg_ℤ (pos (half_range (bits w - f) * 2 ^ f)) ≤ℤ x =
-    rw (← it.top) (omega (arith, ints, fits, half, pow_pos (hbits w))) in
-    let least = floor_at_least f (half_range (bits w - f)) x fract.floor low fract.is_floor in
-    let most = fract.is_floor.low in
-    rw (to_z-of_z w x fits, to_z-of_z w m small)
-    (omega (arith, ints, fits, half, it.top, fract.rest, least, most))
-
-pub sub_fract_is_floor : (w : Width) (f : ℕ) (x m : ℤ) → IsFract f x m → SFits w x → SFits w m
-    → IsTrue (is_width_split (bits w) (bits w - f) (2 ^ f) (2 ^ f / 2))
-    → IsFloor f x (to_z w (of_z w (to_z w (of_z w x) -ℤ to_z w (of_z w m))))
-sub_fract_is_floor w f x m fract fits small test =
-    let same : (x -ℤ m) ≡ fract.floor = omega (arith, ints, fract.rest) in
-    rw (to_z-of_z w _ (sub_fract_fits w f x m fract fits small test), to_z-of_z w x fits, to_z-of_z w m small, same)
-    fract.is_floor
 
 -- a half step is added, and the sum shifted to the right
 pub shr_is_narrowed : (w : Width) (v d half : ℕ) (x s : ℤ) → SFits w s → s ≡ wrap (bits w) (x +ℤ pos half)

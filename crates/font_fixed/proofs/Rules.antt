@@ -5,8 +5,7 @@ use Rattle.font_decimal.proofs.Printed.{shortest_is_decimal}
 use Rattle.font_fixed.proofs.Texts.{HasRoom, padded_has_room}
 use Rattle.font_fixed.proofs.Wrapped.{wrapping_add-wrap, wrapping_sub-wrap, wrapping_neg-wrap, wrapping_abs-wrap}
 use Rattle.font_fixed.proofs.Wrapped.{wrapping_mul-wrap, rem_euclid_is_fract}
-use Rattle.font_fixed.proofs.Narrowing.{sub_fract_fits, sub_fract_is_floor, floor_is_nearest_whole}
-use Rattle.font_fixed.proofs.Narrowing.{shr_is_narrowed}
+use Rattle.font_fixed.proofs.Narrowing.{floor_is_nearest_whole, shr_is_narrowed}
 
 -- `search` finds the width of a column nowhere in its goal
 pub cell_16 : HasRoom w16
@@ -25,8 +24,6 @@ pub ruleset number_code = (
   wrapping_abs-wrap,
   wrapping_mul-wrap,
   rem_euclid_is_fract,
-  sub_fract_fits,
-  sub_fract_is_floor,
   floor_is_nearest_whole,
   shr_is_narrowed,
   cell_16,

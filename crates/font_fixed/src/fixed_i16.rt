@@ -18,7 +18,7 @@ ghost use Rattle.font_fixed.specs.FixedI16.{bits_of, of_bits, text_of};
 ghost use Rattle.font_fixed.specs.Longest.{longest};
 
 use crate::formats::Format;
-use crate::read_bits_16;
+use crate::{floor_bits_16, read_bits_16};
 use font_base::{FixedSize, IdentityEq, Scalar};
 use font_decimal::{DecimalFault, Pad, Shortest};
 use std::fmt;
@@ -153,7 +153,7 @@ where
     pub const fn floor(self) -> Self
         ensures { IsFloor F (bits_of self.entry) (bits_of result) }
     {
-        Self(self.0 - self.fract().0)
+        Self(floor_bits_16(self.0, F))
     }
 
     /// Returns the fractional part, `self - self.floor()`, at least 0 and less than 1.

@@ -16,7 +16,7 @@ ghost use Rattle.font_fixed.specs.FixedI32.{bits_of, text_of};
 ghost use Rattle.font_fixed.specs.Longest.{longest};
 
 use crate::formats::Format;
-use crate::read_bits_32;
+use crate::{floor_bits_32, read_bits_32};
 use font_decimal::{DecimalFault, Pad, Shortest};
 use std::fmt;
 use std::ops::{Add, AddAssign, Neg, Sub, SubAssign};
@@ -150,7 +150,7 @@ where
     pub const fn floor(self) -> Self
         ensures { IsFloor F (bits_of self.entry) (bits_of result) }
     {
-        Self(self.0 - self.fract().0)
+        Self(floor_bits_32(self.0, F))
     }
 
     /// Returns the fractional part, `self - self.floor()`, at least 0 and less than 1.

@@ -4,7 +4,7 @@
 
 use crate::font_decimal::{DecimalFault, Pad, Shortest};
 use crate::font_fixed::formats::Format;
-use crate::font_fixed::read_bits_32;
+use crate::font_fixed::{floor_bits_32, read_bits_32};
 use core::fmt;
 use core::ops::{Add, AddAssign, Neg, Sub, SubAssign};
 use core::str::FromStr;
@@ -113,7 +113,7 @@ where
     #[must_use]
     #[inline(always)]
     pub const fn floor(self) -> Self {
-        Self(self.0 - self.fract().0)
+        Self(floor_bits_32(self.0, F))
     }
 
     /// Returns the fractional part, `self - self.floor()`, at least 0 and less than 1.

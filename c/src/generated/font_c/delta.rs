@@ -1,0 +1,67 @@
+// @generated from crates/font_c/src/delta.rt by tools/src/bin/erase.rs
+
+//! Sums of deltas, and what they move.
+
+use crate::font_c::status::{OTHER_COUNT, OUT_OF_RANGE, STORED};
+use crate::font_types::{DeltaSum, F48Dot16, Fixed};
+
+/// Adds up the products of 16.16 scalars and deltas, item by item, in 48.16.
+#[unsafe(no_mangle)]
+pub unsafe extern "C" fn font_delta_sum(
+    scalars: *const i32,
+    scalars_len: usize,
+    deltas: *const i32,
+    deltas_len: usize,
+    sum: &mut i64,
+) -> u32 {
+    let scalars = unsafe { crate::slice(scalars, scalars_len) };
+    let deltas = unsafe { crate::slice(deltas, deltas_len) };
+    if scalars.len() != deltas.len() {
+        return OTHER_COUNT;
+    }
+    let Some(exact) = sum_in_range(scalars, deltas) else {
+        return OUT_OF_RANGE;
+    };
+    *sum = exact.to_bits();
+    STORED
+}
+
+/// Adds a 48.16 delta to signed font units, and rounds to the nearest font unit, half up.
+#[unsafe(no_mangle)]
+pub unsafe extern "C" fn font_apply_delta_i16(base: i16, delta: i64, units: &mut i16) -> u32 {
+    let Some(moved) = (i64::from(base) * 0x1_0000).checked_add(delta) else {
+        return OUT_OF_RANGE;
+    };
+    let Ok(nearest) = i16::try_from(whole_units(moved)) else {
+        return OUT_OF_RANGE;
+    };
+    *units = nearest;
+    STORED
+}
+
+/// Adds a 48.16 delta to unsigned font units, as advances are, and rounds in the same way.
+#[unsafe(no_mangle)]
+pub unsafe extern "C" fn font_apply_delta_u16(base: u16, delta: i64, units: &mut u16) -> u32 {
+    let Some(moved) = (i64::from(base) * 0x1_0000).checked_add(delta) else {
+        return OUT_OF_RANGE;
+    };
+    let Ok(nearest) = u16::try_from(whole_units(moved)) else {
+        return OUT_OF_RANGE;
+    };
+    *units = nearest;
+    STORED
+}
+
+// Rounds a 48.16 value to the nearest font unit, half up.
+fn whole_units(bits: i64) -> i64 {
+    ((bits >> 15) + 1) >> 1
+}
+
+// Returns the exact sum of the products, item by item, or `None` if it does not fit in 64 bits.
+fn sum_in_range(scalars: &[i32], deltas: &[i32]) -> Option<F48Dot16> {
+    let mut sum = DeltaSum::new();
+    for i in 0..scalars.len() {
+        sum.add(Fixed::from_bits(scalars[i]), deltas[i]);
+    }
+    sum.checked_finish()
+}

@@ -1,0 +1,69 @@
+// @generated from crates/font_c/src/delta_set.rt by tools/src/bin/erase.rs
+
+//! Sums over delta sets of item variation stores.
+
+use crate::font_c::field::value_at;
+use crate::font_c::status::{LONG_WORDS, OTHER_COUNT, STORED, TOO_MANY};
+use crate::font_types::Scalar;
+
+// A font counts the regions of a delta set in 16 bits.
+const MOST_SCALARS: usize = 0xFFFF;
+
+// The bit of a word count that is set if the deltas have 32 and 16 bits, not 16 and 8.
+const LONG_WORDS_FLAG: u16 = 0x8000;
+
+/// Adds up the products of 16.16 scalars and the deltas of a delta set, in 48.16. The set has
+/// `word_count` deltas of 16 bits, followed by deltas of 8 bits.
+#[unsafe(no_mangle)]
+pub unsafe extern "C" fn font_delta_set_sum(
+    scalars: *const i32,
+    scalars_len: usize,
+    set: *const u8,
+    set_len: usize,
+    word_count: u16,
+    sum: &mut i64,
+) -> u32 {
+    let scalars = unsafe { crate::slice(scalars, scalars_len) };
+    let set = unsafe { crate::slice(set, set_len) };
+    if word_count >= LONG_WORDS_FLAG {
+        return LONG_WORDS;
+    }
+    if scalars.len() > MOST_SCALARS {
+        return TOO_MANY;
+    }
+    let words = usize::from(word_count);
+    if words > scalars.len() || set.len() != scalars.len() + words {
+        return OTHER_COUNT;
+    }
+    *sum = exact_sum(scalars, set, words);
+    STORED
+}
+
+// The exact sum of the products.
+fn exact_sum(scalars: &[i32], set: &[u8], words: usize) -> i64 {
+    let (of_words, of_bytes) = scalars.split_at(words);
+    let (wide, narrow) = set.split_at(2 * words);
+    let mut sum = 0i64;
+    for i in 0..of_words.len() {
+        sum += product(of_words[i], word_at(wide, i));
+    }
+    for i in 0..of_bytes.len() {
+        sum += product(of_bytes[i], i16::from(byte_at(narrow, i)));
+    }
+    sum
+}
+
+// The exact product of a 16.16 scalar and a delta, in 48.16.
+fn product(scalar: i32, delta: i16) -> i64 {
+    i64::from(scalar) * i64::from(delta)
+}
+
+// The delta of 16 bits at an index.
+fn word_at(set: &[u8], index: usize) -> i16 {
+    value_at::<i16>(set, 2 * index).unwrap()
+}
+
+// The delta of 8 bits at an index.
+fn byte_at(set: &[u8], index: usize) -> i8 {
+    i8::from_raw([set[index]])
+}

@@ -1,0 +1,64 @@
+// @generated from crates/font_c/src/parse.rt by tools/src/bin/erase.rs
+
+//! Decimals parsed to raw values.
+
+use crate::font_c::status::{BAD_FRACTION, NO_DECIMAL, OUT_OF_RANGE, STORED, is_fraction};
+use crate::font_fixed::{read_bits_16, read_bits_32, read_bits_64};
+use crate::font_types::DecimalFault;
+
+/// Parses a decimal as the nearest 16-bit raw value, rounding half away from zero.
+#[unsafe(no_mangle)]
+pub unsafe extern "C" fn font_parse_i16(
+    text: *const u8,
+    text_len: usize,
+    fraction_bits: u32,
+    bits: &mut i16,
+) -> u32 {
+    let text = unsafe { crate::slice(text, text_len) };
+    if !is_fraction(16, fraction_bits) {
+        return BAD_FRACTION;
+    }
+    store_reading(read_bits_16(text, fraction_bits), bits)
+}
+
+/// Parses a decimal as the nearest 32-bit raw value, rounding half away from zero.
+#[unsafe(no_mangle)]
+pub unsafe extern "C" fn font_parse_i32(
+    text: *const u8,
+    text_len: usize,
+    fraction_bits: u32,
+    bits: &mut i32,
+) -> u32 {
+    let text = unsafe { crate::slice(text, text_len) };
+    if !is_fraction(32, fraction_bits) {
+        return BAD_FRACTION;
+    }
+    store_reading(read_bits_32(text, fraction_bits), bits)
+}
+
+/// Parses a decimal as the nearest 64-bit raw value, rounding half away from zero.
+#[unsafe(no_mangle)]
+pub unsafe extern "C" fn font_parse_i64(
+    text: *const u8,
+    text_len: usize,
+    fraction_bits: u32,
+    bits: &mut i64,
+) -> u32 {
+    let text = unsafe { crate::slice(text, text_len) };
+    if !is_fraction(64, fraction_bits) {
+        return BAD_FRACTION;
+    }
+    store_reading(read_bits_64(text, fraction_bits), bits)
+}
+
+// Stores a parsed value, and returns the status.
+fn store_reading<T: Copy>(reading: Result<T, DecimalFault>, place: &mut T) -> u32 {
+    match reading {
+        Ok(number) => {
+            *place = number;
+            STORED
+        }
+        Err(DecimalFault::Syntax) => NO_DECIMAL,
+        Err(DecimalFault::OutOfRange) => OUT_OF_RANGE,
+    }
+}

@@ -1,0 +1,47 @@
+// @generated from crates/font_c/src/status.rt by tools/src/bin/erase.rs
+
+//! What the exports report: `font_status` of the header.
+
+/// The result was stored.
+pub const STORED: u32 = 0;
+
+/// The text is not a decimal.
+pub const NO_DECIMAL: u32 = 1;
+
+/// The result does not fit in the type that it is stored in.
+pub const OUT_OF_RANGE: u32 = 2;
+
+/// Values of this width do not have so many fraction bits, or so few.
+pub const BAD_FRACTION: u32 = 3;
+
+/// The buffer is shorter than the text.
+pub const NO_ROOM: u32 = 4;
+
+/// The padding is invalid.
+pub const BAD_PAD: u32 = 5;
+
+/// The field is not within the bytes.
+pub const OUT_OF_BOUNDS: u32 = 6;
+
+/// The number of scalars differs from the number of deltas.
+pub const OTHER_COUNT: u32 = 7;
+
+/// There are more scalars than a font can have.
+pub const TOO_MANY: u32 = 8;
+
+/// The delta set has deltas of 32 bits.
+pub const LONG_WORDS: u32 = 9;
+
+/// A tag has a wrong number of bytes, or only spaces.
+pub const TAG_LENGTH: u32 = 10;
+
+/// A byte is not allowed in a tag, or not where it is.
+pub const TAG_BYTE: u32 = 11;
+
+/// A printable byte follows a space in a tag.
+pub const TAG_AFTER_SPACE: u32 = 12;
+
+/// Returns `true` if values of `width` bits may have `fraction_bits`.
+pub fn is_fraction(width: u32, fraction_bits: u32) -> bool {
+    6 <= fraction_bits && fraction_bits <= 30 && fraction_bits + 2 <= width
+}

@@ -1,0 +1,9 @@
+// @generated from crates/font_c/src/version.rt by tools/src/bin/erase.rs
+
+//! The version of the library.
+
+/// Returns the version as `major << 16 | minor << 8 | patch`.
+#[unsafe(no_mangle)]
+pub extern "C" fn font_types_version() -> u32 {
+    0x00_0400
+}
