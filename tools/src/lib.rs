@@ -1,7 +1,5 @@
-//! What the programs of this folder share: the eraser, exact answers by whole numbers and with no
-//! use of the library, and the files of the repository.
+//! The eraser, an exact-arithmetic oracle that does not use the library, and file helpers.
 
 pub mod erase;
 pub mod exact;
-pub mod program;
 pub mod repository;

@@ -8,13 +8,13 @@ pub fn root() -> PathBuf {
     Path::new(env!("CARGO_MANIFEST_DIR")).join("..")
 }
 
-/// What stands in a file, by its path from the root.
+/// Reads a file, by its path from the root.
 pub fn text(path: &str) -> String {
     let path = root().join(path);
     fs::read_to_string(&path).unwrap_or_else(|error| panic!("{}: {error}", path.display()))
 }
 
-/// The files with this ending in a folder and below it, by their paths from the root, in order.
+/// Lists the files with this ending in a folder and below it, sorted, by their paths from the root.
 pub fn files(folder: &str, ending: &str) -> Vec<String> {
     let mut found = Vec::new();
     let Ok(entries) = fs::read_dir(root().join(folder)) else {
@@ -36,8 +36,8 @@ pub fn files(folder: &str, ending: &str) -> Vec<String> {
     found
 }
 
-/// Writes a file where `write` is set, or compares it; whether it is as it should be then.
-pub fn keep(path: &str, right: &[u8], write: bool) -> bool {
+/// Writes a file, or only checks it; returns `true` if it is up to date then.
+pub fn write_or_check(path: &str, right: &[u8], write: bool) -> bool {
     let file = root().join(path);
     if fs::read(&file).is_ok_and(|bytes| bytes == right) {
         return true;

@@ -26,7 +26,7 @@ fn main() -> ExitCode {
     }
     let kept = files
         .iter()
-        .filter(|(path, text)| !repository::keep(path, text.as_bytes(), !is_check));
+        .filter(|(path, text)| !repository::write_or_check(path, text.as_bytes(), !is_check));
     let count = stale.len() + kept.count();
     println!("{} files, {count} stale", files.len());
     ExitCode::from(u8::from(is_check && count > 0))
