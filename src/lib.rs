@@ -1,4 +1,4 @@
-#![doc = include_str!("../rust/README.md")]
+#![doc = include_str!("README.md")]
 //!
 //! # Types
 //!
