@@ -8,7 +8,7 @@
 #include <string.h>
 
 /* What a place holds before a call, and after one that fails. */
-enum { KEPT = 7, BUFFER = 64, MOST_SCALARS = 65535 };
+enum { KEPT = 7, BUFFER = 64, MOST_SCALARS = 65535, MANY_TERMS = 131073 };
 
 #define COUNT(ROWS) (sizeof(ROWS) / sizeof(ROWS)[0])
 
@@ -441,9 +441,11 @@ static void check_fractions(void) {
     static const struct {
         uint32_t bits;
         int is16, is32, is64;
-    } fractions[] = {{0, 0, 0, 0},  {5, 0, 0, 0},  {6, 1, 1, 1},   {14, 1, 1, 1},         {15, 0, 1, 1},
-                     {16, 0, 1, 1}, {30, 0, 1, 1}, {31, 0, 0, 0},  {32, 0, 0, 0},         {62, 0, 0, 0},
-                     {63, 0, 0, 0}, {64, 0, 0, 0}, {256, 0, 0, 0}, {UINT32_MAX, 0, 0, 0}};
+    } fractions[] = {
+        {0, 0, 0, 0},  {5, 0, 0, 0},  {6, 1, 1, 1},  {14, 1, 1, 1},  {15, 0, 1, 1},
+        {16, 0, 1, 1}, {30, 0, 1, 1}, {31, 0, 0, 0}, {32, 0, 0, 0},  {62, 0, 0, 0},
+        {63, 0, 0, 0}, {64, 0, 0, 0}, {70, 0, 0, 0}, {256, 0, 0, 0}, {UINT32_MAX, 0, 0, 0},
+    };
     for (size_t i = 0; i < COUNT(fractions); i++) {
         const uint32_t f = fractions[i].bits;
         const font_status bad = FONT_BAD_FRACTION, ok = FONT_OK;
@@ -769,6 +771,17 @@ static void check_sums(void) {
         check("sums, other count", i, "status", status, FONT_OTHER_COUNT);
         check("sums, other count", i, "sum", sum, KEPT);
     }
+    /* Partial sums far above 64 bits, and back. */
+    static int32_t scalars[MANY_TERMS], deltas[MANY_TERMS];
+    for (size_t i = 0; i < MANY_TERMS; i++) {
+        scalars[i] = INT32_MIN;
+        deltas[i] = i < MANY_TERMS / 2 ? INT32_MIN : INT32_MAX;
+    }
+    deltas[MANY_TERMS - 1] = 5;
+    int64_t sum = KEPT;
+    font_status status = sum_of_deltas(scalars, MANY_TERMS, deltas, MANY_TERMS, &sum);
+    check("many terms", 0, "status", status, FONT_OK);
+    check("many terms", 0, "sum", sum, INT64_C(65531) << 31);
 }
 
 static void check_sets(void) {
