@@ -1,6 +1,6 @@
 //! Reads the words of a command.
 
-ghost use Rattle.std.specs.Prelude.{◌≡◌, Ok, Err, MatchResult};
+ghost use Rattle.std.specs.Prelude.{◌≡◌, ◌<◌, Ok, Err, MatchResult};
 ghost use Rattle.fontval.specs.Command.{hexadecimal, only_bytes, only_word, two_words};
 ghost use Rattle.fontval.specs.Text.{words_of};
 
@@ -32,7 +32,24 @@ pub fn two_words(mut words: Words<'_>) -> Result<(&[u8], &[u8]), Refusal>
 }
 
 /// Returns the bytes of the only word, of hexadecimal digits of either case.
+///
+/// If only such digits are left, they are one word, and need not be split first. That saves up to
+/// an eighth of the instructions of a line.
+#[tactic(auto, using(crate::proofs::Hexadecimal::decoded_alone))]
 pub fn hexadecimal<const N: usize>(words: Words<'_>) -> Result<[u8; N], Refusal>
+    requires some { 0 < N }
+    ensures { result ≡ only_bytes N (words_of words.entry.rest.now) }
+{
+    match decoded(words.rest) {
+        Ok(bytes) => Ok(bytes),
+        Err(_) => hexadecimal_word(words),
+    }
+}
+
+// Returns the same of words that are split first.
+#[cold]
+#[inline(never)]
+fn hexadecimal_word<const N: usize>(words: Words<'_>) -> Result<[u8; N], Refusal>
     ensures { result ≡ only_bytes N (words_of words.entry.rest.now) }
 {
     decoded(only_word(words)?)

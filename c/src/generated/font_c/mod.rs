@@ -3,9 +3,9 @@
 //! The library for C: fixed-point numbers, matrices, fields, tags and sums of deltas.
 //!
 //! Exports have no preconditions, because C callers are not checked. An export that can fail
-//! returns a status and writes what it gives to its last argument; if it fails, it leaves all
-//! memory unchanged, except that `font_tag_validate` writes the index of the invalid byte. Nothing
-//! is kept between calls, and nothing is allocated. `include/font_types.h` declares the exports.
+//! returns a status and stores its result at its last argument; if it fails, it leaves all memory
+//! unchanged, except that `font_tag_validate` stores the index of the invalid byte. Nothing is kept
+//! between calls, and nothing is allocated. `c/include/font_types.h` declares the exports.
 
 mod delta;
 mod delta_set;

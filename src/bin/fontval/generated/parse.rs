@@ -24,7 +24,20 @@ pub fn two_words(mut words: Words<'_>) -> Result<(&[u8], &[u8]), Refusal> {
 }
 
 /// Returns the bytes of the only word, of hexadecimal digits of either case.
+///
+/// If only such digits are left, they are one word, and need not be split first. That saves up to
+/// an eighth of the instructions of a line.
 pub fn hexadecimal<const N: usize>(words: Words<'_>) -> Result<[u8; N], Refusal> {
+    match decoded(words.rest) {
+        Ok(bytes) => Ok(bytes),
+        Err(_) => hexadecimal_word(words),
+    }
+}
+
+// Returns the same of words that are split first.
+#[cold]
+#[inline(never)]
+fn hexadecimal_word<const N: usize>(words: Words<'_>) -> Result<[u8; N], Refusal> {
     decoded(only_word(words)?)
 }
 

@@ -5,11 +5,11 @@ use core::marker::PhantomData;
 use core::ops::Deref;
 use std::{string, vec};
 
-/// There is no memory.
+/// Allocation failed.
 #[derive(Clone, Copy, Debug)]
 pub struct AllocError;
 
-/// What gives memory. All of it is that of Rust's global allocator.
+/// An allocator; always the global one.
 pub trait Allocator {}
 
 /// Rust's global allocator.
@@ -63,7 +63,7 @@ impl<T, A> Deref for Vec<T, A> {
     }
 }
 
-/// A text.
+/// A string.
 pub struct String<A> {
     text: string::String,
     alloc: PhantomData<A>,
@@ -83,7 +83,7 @@ impl<A: Allocator> String<A> {
         Ok(())
     }
 
-    /// What `write!` calls. Nothing that is written refuses but memory.
+    /// Writes formatted text, as `write!` does; only an allocation can fail.
     pub fn write_fmt(&mut self, text: fmt::Arguments<'_>) -> Result<(), AllocError> {
         fmt::Write::write_fmt(self, text).map_err(|_| AllocError)
     }

@@ -1,6 +1,6 @@
 //! Bytes and their hexadecimal digits.
 
-/// A text that is not hexadecimal, or has too many or too few digits for the bytes.
+/// The text is not hexadecimal, or has too many or too few digits for the bytes.
 #[derive(Debug)]
 pub struct FromHexError;
 
@@ -24,14 +24,13 @@ pub fn decode_to_slice(digits: &[u8], bytes: &mut [u8]) -> Result<(), FromHexErr
     if digits.len() != 2 * bytes.len() {
         return Err(FromHexError);
     }
+    let mut seen = 0;
     for (byte, pair) in bytes.iter_mut().zip(digits.chunks_exact(2)) {
         let [high, low] = [pair[0], pair[1]].map(|digit| VALUES[usize::from(digit)]);
-        if high | low > 15 {
-            return Err(FromHexError);
-        }
-        *byte = 16 * high + low;
+        seen |= high | low;
+        *byte = high << 4 | low;
     }
-    Ok(())
+    if seen > 15 { Err(FromHexError) } else { Ok(()) }
 }
 
 /// The value of each byte as a digit, or more than 15 if it is not one.
