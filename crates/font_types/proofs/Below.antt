@@ -34,7 +34,18 @@ running_below_64 base number_at n = ap (λ t. wrap 64 (base +ℤ t)) (one_more_b
     ∙ ap (wrap 64) (sym (+ℤ_assoc base (total_below number_at n) (number_at n)))
     ∙ sym (wrap-add_left 64 (base +ℤ total_below number_at n) (number_at n) (lit< tt))
 
-pub ruleset below_calls = (none_below, one_more_below, running_below_32, running_below_64)
+-- the same from 0
+pub running_32 : (number_at : ℕ → ℤ) (n : ℕ)
+    → wrap 32 (total_below number_at (n + 1)) ≡ wrap 32 (wrap 32 (total_below number_at n) +ℤ number_at n)
+running_32 number_at n = ap (wrap 32) (one_more_below number_at n)
+    ∙ sym (wrap-add_left 32 (total_below number_at n) (number_at n) (lit< tt))
+
+pub running_64 : (number_at : ℕ → ℤ) (n : ℕ)
+    → wrap 64 (total_below number_at (n + 1)) ≡ wrap 64 (wrap 64 (total_below number_at n) +ℤ number_at n)
+running_64 number_at n = ap (wrap 64) (one_more_below number_at n)
+    ∙ sym (wrap-add_left 64 (total_below number_at n) (number_at n) (lit< tt))
+
+pub ruleset below_calls = (none_below, one_more_below, running_below_32, running_below_64, running_32, running_64)
 
 -- ---- sums of texts
 
