@@ -1,0 +1,16 @@
+//! docs/CALLING.md shows files of the crate `examples`, which are proved.
+
+use font_types_tools::repository::text;
+
+#[test]
+fn calling_shows_proved_files() {
+    let page = text("docs/CALLING.md");
+    for file in [
+        "src/start.rt",
+        "specs/Start.antt",
+        "proofs/start/line_width/Invariants.antt",
+    ] {
+        let shown = text(&format!("crates/examples/{file}"));
+        assert!(page.contains(&format!("\n{shown}```\n")), "{file}");
+    }
+}
