@@ -145,3 +145,21 @@ fn generated_files_are_their_sources() {
     }
     assert!(counts.iter().all(|count| *count > 0), "{counts:?}");
 }
+
+#[test]
+fn exports_of_pointers_are_unsafe() {
+    let mut count = 0;
+    for path in repository::files("rust/c/src", ".rs") {
+        let rust = repository::text(&path);
+        let t = tokens(&rust);
+        for at in 1..t.len() {
+            if let ["extern", "\"", "C", "\"", "fn", name, ..] = t[at..] {
+                let parameters = &t[at + 6..][..group(&t[at + 6..])];
+                let has_pointer = parameters.iter().any(|t| matches!(*t, "&" | "*"));
+                assert_eq!(t[at - 1] == "unsafe", has_pointer, "{path}: {name}");
+                count += 1;
+            }
+        }
+    }
+    assert!(count > 0);
+}
