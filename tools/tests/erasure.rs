@@ -149,7 +149,7 @@ fn generated_files_are_their_sources() {
 #[test]
 fn exports_of_pointers_are_unsafe() {
     let mut count = 0;
-    for path in repository::files("rust/c/src", ".rs") {
+    for path in repository::files("c/src", ".rs") {
         let rust = repository::text(&path);
         let t = tokens(&rust);
         for at in 1..t.len() {
