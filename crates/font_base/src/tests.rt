@@ -1,7 +1,6 @@
 //! Values from the OpenType data types and from the original crate's tests.
 
 mod arrays;
-mod calling;
 mod fields;
 mod numbers;
 mod traits;

@@ -3,7 +3,6 @@
 mod boxes;
 mod images;
 mod matrices;
-mod ordered;
 mod points;
 mod ring;
 mod traits;

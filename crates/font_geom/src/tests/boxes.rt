@@ -1,4 +1,4 @@
-//! Boxes of whole numbers.
+//! Boxes of integers, and of elements that do not all compare.
 
 ghost use Rattle.std.specs.Prelude.{◌≡◌, ◌&&◌, nat_le};
 ghost use Rattle.font_geom.specs.BoundingBox.Laws.{is_tied, order_of, equality_laws, order_laws};
@@ -19,7 +19,7 @@ pub(super) fn sides(x_min: i32, y_min: i32, x_max: i32, y_max: i32) -> BoundingB
 }
 
 #[test]
-fn turned_round_by_a_negative_factor(rt: HostRuntime) {
+fn scaled_by_a_negative_factor(rt: HostRuntime) {
     let turned = sides(5, 5, 10, 10).scale(-2);
     assert!(rt; turned == sides(-10, -10, -20, -20) && !turned.is_normalized());
     assert!(rt; turned.normalize() == sides(-20, -20, -10, -10));
@@ -47,7 +47,7 @@ fn normalized_by_pairs(rt: HostRuntime) {
     assert!(rt; BoundingBox::<i32>::default() == sides(0, 0, 0, 0));
 }
 
-/// A corner, which is at most another where no coordinate is greater.
+/// A corner, less than or equal to another if neither coordinate is greater.
 #[derive(Clone, Copy)]
 struct Corner {
     x: u8,
@@ -90,7 +90,7 @@ impl PartialOrd for Corner {
 }
 
 #[test]
-fn a_pair_that_does_not_compare_is_swapped(rt: HostRuntime) {
+fn pairs_that_do_not_compare_are_swapped(rt: HostRuntime) {
     let (left, right) = (Corner { x: 1, y: 2 }, Corner { x: 2, y: 1 });
     assert!(rt; left.partial_cmp(&right).is_none());
     let odd = BoundingBox {

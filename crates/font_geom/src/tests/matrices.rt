@@ -1,10 +1,9 @@
-//! Matrices of `Fixed`, used as scalers of outlines use them.
+//! Matrices of `Fixed`.
 
 ghost use Rattle.std.specs.Prelude.{pos};
 
 use crate::{Matrix, MatrixElement, Point};
 use font_fixed::Fixed;
-use std::test::Fail;
 
 pub(super) fn whole(elements: [i32; 6]) -> Matrix<Fixed> {
     Matrix::from_elements(elements).map(|n| Fixed::from_i32(n))
@@ -15,7 +14,7 @@ pub(super) fn at(x: i32, y: i32) -> Point<Fixed> {
 }
 
 #[test]
-fn moves_points(rt: HostRuntime) {
+fn images_of_points(rt: HostRuntime) {
     let (scale, shift) = (whole([2, 0, 0, 3, 0, 0]), whole([1, 0, 0, 1, 10, 20]));
     let p = at(5, -22);
     assert!(rt; shift * p == at(15, -2) && scale * p == at(10, -66));
@@ -23,14 +22,14 @@ fn moves_points(rt: HostRuntime) {
 }
 
 #[test]
-fn applies_the_second_first(rt: HostRuntime) {
+fn products_apply_the_second_factor_first(rt: HostRuntime) {
     let (scale, shift) = (whole([2, 0, 0, 3, 0, 0]), whole([1, 0, 0, 1, 10, 20]));
     assert!(rt; scale * shift == whole([2, 0, 0, 3, 20, 60]));
     assert!(rt; shift * scale == whole([2, 0, 0, 3, 10, 20]));
 }
 
 #[test]
-fn each_entry_in_its_place(rt: HostRuntime) {
+fn products_and_images_of_unequal_entries(rt: HostRuntime) {
     let a = whole([2, 3, 5, 7, 11, 13]);
     assert!(rt; a * whole([17, 19, 23, 29, 31, 37]) == whole([129, 184, 191, 272, 258, 365]));
     let image = (Fixed::from_i32(140), Fixed::from_i32(197));
@@ -47,7 +46,7 @@ fn unequal_in_one_element(rt: HostRuntime) {
 }
 
 #[test]
-fn assigning(rt: HostRuntime) {
+fn assigned_products(rt: HostRuntime) {
     let mut m = Matrix::default();
     assert!(rt; m == Matrix::identity());
     m *= whole([2, 0, 0, 3, 0, 0]);
@@ -74,39 +73,6 @@ fn mapped_in_order(rt: HostRuntime) {
     assert!(rt; order.elements().map(|entry| entry.1) == [1, 2, 3, 4, 5, 6]);
 }
 
-/// What a scaler keeps of a glyph.
-#[derive(Clone, Copy)]
-struct Placement {
-    matrix: Matrix<Fixed>,
-    origin: Point<Fixed>,
-}
-
-fn place(placement: Placement, p: Point<Fixed>) -> Point<Fixed> {
-    placement.matrix * p + placement.origin
-}
-
-#[test]
-fn used_by_a_scaler(rt: HostRuntime) -> Result<(), Fail> {
-    let placement = Placement {
-        matrix: whole([0, 1, -1, 0, 3, 4]),
-        origin: at(100, 0),
-    };
-    assert!(rt; place(placement, at(1, 2)) == at(101, 5));
-    assert!(rt; place(placement.clone()?, at(0, 0)) == at(103, 4));
-    Ok(())
-}
-
-#[test]
-fn images_added_up(rt: HostRuntime) {
-    let m = whole([0, 1, -1, 0, 3, 4]);
-    assert!(rt; m * at(0, 0) == at(3, 4) && m * at(1, 0) == at(3, 5));
-    let mut sum = Point::default();
-    for &p in &[at(0, 0), at(1, 0), at(1, 2)] {
-        sum += m * p;
-    }
-    assert!(rt; sum == at(7, 14));
-}
-
 impl MatrixElement for i32 {
     const ZERO: Self = 0;
 
@@ -118,7 +84,7 @@ impl MatrixElement for i32 {
 }
 
 #[test]
-fn of_elements_that_must_not_overflow(rt: HostRuntime) {
+fn images_by_std_integers(rt: HostRuntime) {
     let m = Matrix {
         xx: 2,
         yx: 0,

@@ -1,4 +1,4 @@
-//! Points of whole numbers and of `Fixed`.
+//! Points of integers and of `Fixed`.
 
 use crate::Point;
 use font_fixed::Fixed;

@@ -1,4 +1,4 @@
-//! A ring of the author of some other geometry: whole numbers that wrap.
+//! A user-defined `RingElement`: `u32` modulo `2^32`.
 
 ghost use Rattle.std.specs.Prelude.{◌≡◌, ◌+◌, ◌*◌, ◌%◌, ◌^◌, ◌<◌, refl};
 ghost use Rattle.std.proofs.Common.{lit<};
@@ -96,7 +96,7 @@ fn products_associate(rt: HostRuntime) {
 }
 
 #[test]
-fn points_move_alike(rt: HostRuntime) {
+fn products_act_on_points(rt: HostRuntime) {
     let a = turns([2, 3, 5, 7, 11, 13]);
     let b = turns([0x8000_0000, 1, 0xFFFF_FFFF, 4, 5, 6]);
     let (p, image) = (Point::new(1, 0xFFFF_FFFF), Point::new(38, 0x8000_0034));
