@@ -134,7 +134,8 @@ typedef struct font_pad {
 FONT_FALLIBLE font_format_padded(int64_t bits, uint32_t fraction_bits, const font_pad *pad,
                                  char *out, size_t room, size_t *length) FONT_API_NOEXCEPT;
 
-/* ---- rounding to integers, as raw values; FONT_OUT_OF_RANGE if the result does not fit ---- */
+/* ---- rounding to integers, as raw values: FONT_OUT_OF_RANGE if the nearest integer does not
+ *      fit, where the Rust types, and 0.3, wrap ---- */
 
 /** Rounds a 16-bit raw value to the nearest integer, half up. */
 FONT_FALLIBLE font_round_i16(int16_t bits, uint32_t fraction_bits,
