@@ -32,22 +32,6 @@ fn empty_without_elements(rt: HostRuntime) -> Result<(), Fail> {
 }
 
 #[test]
-fn element_of_an_index(rt: HostRuntime) -> Result<(), Fail> {
-    let array = ScalarArray::<i16>::new(&[0, 1, 0xFF, 0xFE, 0x80, 0]).ok_or("six bytes")?;
-    for &(index, value) in &[
-        (0, Some(1)),
-        (1, Some(-2)),
-        (2, Some(-32768)),
-        (3, None),
-        (usize::MAX, None),
-    ] {
-        assert!(rt; array.get(index) == value, "{index}");
-    }
-    assert!(rt; array.first() == Some(1) && array.last() == Some(-32768));
-    Ok(())
-}
-
-#[test]
 fn walks_both_ways(rt: HostRuntime) -> Result<(), Fail> {
     let array = ScalarArray::<u16>::new(&[0, 1, 0, 2, 0, 3]).ok_or("six bytes")?;
     let mut iter = array.iter();
@@ -142,16 +126,6 @@ fn finds_by_binary_search(rt: HostRuntime) -> Result<(), Fail> {
     let absent = [(11, 0), (13, 1), (26, 2), (32, 3), (257, 4)];
     for &(key, place) in &absent {
         assert!(rt; array.binary_search(&key) == Err(place), "{key}");
-    }
-    Ok(())
-}
-
-#[test]
-fn finds_one_of_equal_elements(rt: HostRuntime) -> Result<(), Fail> {
-    let array = ScalarArray::<u8>::new(&[1, 3, 3, 3, 5]).ok_or("five bytes")?;
-    for &(key, least, most) in &[(1, 0, 0), (3, 1, 3), (5, 4, 4)] {
-        let found = array.binary_search(&key).map_err(|_| "no place")?;
-        assert!(rt; least <= found && found <= most, "{key}");
     }
     Ok(())
 }

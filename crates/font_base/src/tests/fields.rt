@@ -7,8 +7,6 @@ ghost use Rattle.font_base.specs.Bytes.{are_bytes};
 use crate::{
     BeByteArray, BigEndian, FixedSize, Int24, SampleHeader, TableDataRef, TableHeader, Uint24,
 };
-use std::collections::HashSet;
-use std::hash::{DefaultHasher, Hash, Hasher};
 use std::test::Fail;
 
 #[test]
@@ -34,15 +32,6 @@ fn equal_by_bytes(rt: HostRuntime) -> Result<(), Fail> {
     assert!(rt; BigEndian::from_slice(&[1, 2, 3, 4]) == Some(field.clone()?));
     assert!(rt; BigEndian::<u32>::from_slice(&[1, 2, 3]).is_none());
     assert!(rt; BigEndian::<Uint24>::RAW_BYTE_LEN == 3);
-    Ok(())
-}
-
-#[test]
-fn hashed_by_bytes(rt: HostRuntime) -> Result<(), Fail> {
-    let mut set = HashSet::new(rt.alloc());
-    set.insert(BigEndian::<u32>::from(4))?;
-    assert!(rt; set.contains(&BigEndian::new([0, 0, 0, 4])));
-    assert!(rt; !set.contains(&BigEndian::new([4, 0, 0, 0])));
     Ok(())
 }
 
@@ -82,22 +71,6 @@ fn equal_arrays(rt: HostRuntime) {
         );
     }
     assert!(rt; Pair::from_slice(&[1, 2, 3]).is_none());
-}
-
-/// The number that a field is hashed to.
-fn hashed(bytes: [u8; 4]) -> u64 {
-    let mut state = DefaultHasher::new();
-    BigEndian::<u32>::new(bytes).hash(&mut state);
-    state.finish()
-}
-
-#[test]
-fn hashed_by_each_byte(rt: HostRuntime) {
-    let number = hashed([1, 2, 3, 4]);
-    assert!(rt; hashed([1, 2, 3, 4]) == number);
-    for &other in &[[0, 2, 3, 4], [1, 0, 3, 4], [1, 2, 0, 4], [1, 2, 3, 0]] {
-        assert!(rt; hashed(other) != number, "{other:?}");
-    }
 }
 
 #[test]

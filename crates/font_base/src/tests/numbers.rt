@@ -1,7 +1,6 @@
 //! The integers and their bytes.
 
-use crate::{BeByteArray, FixedSize, Int24, Scalar, Uint24};
-use std::collections::HashSet;
+use crate::{BeByteArray, Int24, Scalar, Uint24};
 use std::test::Fail;
 
 #[test]
@@ -18,23 +17,6 @@ fn signed_bytes_of_24_bits(rt: HostRuntime) {
             Int24::new(number).to_be_bytes() == bytes && read == number,
             "{number}"
         );
-    }
-}
-
-// Each pair of upper bytes, with a lower one that varies with both: 65,536 numbers of both signs.
-#[test]
-fn signed_bytes_of_many_numbers(rt: HostRuntime) {
-    for high in 0..=255u8 {
-        for middle in 0..=255u8 {
-            let bytes = [high, middle, high ^ middle];
-            let sign = if high < 0x80 { 0 } else { 0xFF };
-            let number = i32::from_be_bytes([sign, high, middle, high ^ middle]);
-            let read = Int24::from_be_bytes(bytes).to_i32();
-            assert!(rt;
-                Int24::new(number).to_be_bytes() == bytes && read == number,
-                "{number}"
-            );
-        }
     }
 }
 
@@ -70,15 +52,6 @@ fn ends_of_unsigned_24_bits(rt: HostRuntime) {
 }
 
 #[test]
-fn conversions_of_24_bits(rt: HostRuntime) -> Result<(), Fail> {
-    assert!(rt; i32::from(Int24::MIN) == -8388608 && i32::from(Int24::MAX) == 8388607);
-    assert!(rt; u32::from(Uint24::MAX) == 16777215 && usize::from(Uint24::default()) == 0);
-    let number = Uint24::try_from(16777215usize)?;
-    assert!(rt; number == Uint24::MAX && usize::from(number) == 16777215);
-    Ok(())
-}
-
-#[test]
 fn text_of_24_bits(rt: HostRuntime) -> Result<(), Fail> {
     for &(number, unsigned, text) in &[
         (0, 0, "0 Uint24(0), 0 Int24(0)"),
@@ -105,50 +78,6 @@ fn text_with_flags(rt: HostRuntime) -> Result<(), Fail> {
     let text = format!(in rt.alloc(); "{number:4}|{number:<3}|{negative:04}")?;
     assert!(rt; text.as_str() == "   5|5  |-005");
     Ok(())
-}
-
-#[test]
-fn compared_and_hashed(rt: HostRuntime) -> Result<(), Fail> {
-    assert!(rt; Uint24::new(256) > Uint24::new(255).clone()?);
-    assert!(rt; Int24::new(-256) < Int24::new(255).clone()?);
-    let mut set = HashSet::new(rt.alloc());
-    set.insert(Int24::new(-1))?;
-    assert!(rt; set.contains(&Int24::from_be_bytes([0xFF, 0xFF, 0xFF])));
-    assert!(rt; !set.contains(&Int24::MAX));
-    Ok(())
-}
-
-#[test]
-fn raw_bytes(rt: HostRuntime) {
-    assert!(rt; u8::from_raw([200]) == 200 && 200u8.to_raw() == [200]);
-    assert!(rt; i8::from_raw([200]) == -56 && (-56i8).to_raw() == [200]);
-    assert!(rt; u16::from_raw([1, 2]) == 258 && 258u16.to_raw() == [1, 2]);
-    assert!(rt; i16::from_raw([255, 2]) == -254 && (-254i16).to_raw() == [255, 2]);
-}
-
-#[test]
-fn raw_bytes_of_wide_numbers(rt: HostRuntime) {
-    assert!(rt; u32::from_raw([1, 2, 3, 4]) == 16909060 && 16909060u32.to_raw() == [1, 2, 3, 4]);
-    assert!(rt;
-        i32::from_raw([255, 2, 3, 4]) == -16645372 && (-16645372i32).to_raw() == [255, 2, 3, 4]
-    );
-    assert!(rt;
-        Uint24::from_raw([1, 2, 3]) == Uint24::new(66051)
-            && Uint24::new(66051).to_raw() == [1, 2, 3]
-    );
-    assert!(rt;
-        Int24::from_raw([255, 2, 3]) == Int24::new(-65021)
-            && Int24::new(-65021).to_raw() == [255, 2, 3]
-    );
-}
-
-#[test]
-fn lengths(rt: HostRuntime) {
-    assert!(rt; <[u8; 4]>::from_slice(&BYTES[..4]) == Some([0xFF, 0xFE, 0xFD, 0xFC]));
-    assert!(rt; <[u8; 4] as BeByteArray>::LEN == 4);
-    assert!(rt; u8::RAW_BYTE_LEN == 1 && i8::RAW_BYTE_LEN == 1 && u16::RAW_BYTE_LEN == 2);
-    assert!(rt; i16::RAW_BYTE_LEN == 2 && Uint24::RAW_BYTE_LEN == 3 && Int24::RAW_BYTE_LEN == 3);
-    assert!(rt; u32::RAW_BYTE_LEN == 4 && i32::RAW_BYTE_LEN == 4 && i64::RAW_BYTE_LEN == 8);
 }
 
 #[test]

@@ -1,7 +1,6 @@
 //! Name identifiers.
 
 use crate::NameId;
-use font_base::{FixedSize, Scalar};
 use std::alloc::{AllocError, Global};
 use std::test::Fail;
 
@@ -101,12 +100,6 @@ fn predefined_again(rt: HostRuntime) -> Result<(), Fail> {
 }
 
 #[test]
-fn reserved(rt: HostRuntime) {
-    let reserved = [0, 255, 256, 65535].map(|number| NameId::new(number).is_reserved());
-    assert!(rt; reserved == [true, true, false, false]);
-}
-
-#[test]
 fn added(rt: HostRuntime) {
     for &(number, more, sum) in &[
         (40000, 0, None),
@@ -120,12 +113,4 @@ fn added(rt: HostRuntime) {
             "{number} + {more}"
         );
     }
-}
-
-#[test]
-fn stored(rt: HostRuntime) {
-    assert!(rt; u16::from(NameId::from(0x0102)) == 0x0102);
-    assert!(rt; NameId::from(0x0102).to_be_bytes() == [1, 2] && NameId::RAW_BYTE_LEN == 2);
-    assert!(rt; NameId::read(&[0xFF, 0xFF]) == Some(NameId::default()));
-    assert!(rt; NameId::FAMILY_NAME < NameId::SUBFAMILY_NAME);
 }

@@ -1,7 +1,6 @@
 //! Quantities in font units.
 
 use crate::{FWord, UfWord};
-use font_base::{BigEndian, FixedSize, Scalar};
 use font_fixed::F48Dot16;
 use std::test::Fail;
 
@@ -43,58 +42,6 @@ fn moved_by_deltas(rt: HostRuntime) {
             "{number} by {bits}"
         );
     }
-}
-
-#[test]
-fn rounded_from_deltas(rt: HostRuntime) {
-    let rows = [
-        (0, Some(0), Some(0)),
-        (32767, Some(0), Some(0)),
-        (32768, Some(1), Some(1)),
-        (-32768, Some(0), Some(0)),
-        (-32769, Some(-1), None),
-        (-98304, Some(-1), None),
-        (2147450879, Some(32767), Some(32767)),
-        (2147450880, None, Some(32768)),
-        (4294934527, None, Some(65535)),
-        (4294934528, None, None),
-        (-2147516416, Some(-32768), None),
-        (-2147516417, None, None),
-        (i128::MAX, None, None),
-        (i128::MIN, None, None),
-    ];
-    for &(moved, signed, unsigned) in &rows {
-        assert!(rt;
-            FWord::round_delta(moved) == signed.map(FWord::new),
-            "{moved}"
-        );
-        assert!(rt;
-            UfWord::round_delta(moved) == unsigned.map(UfWord::new),
-            "{moved}"
-        );
-    }
-}
-
-#[test]
-fn converted(rt: HostRuntime) {
-    let (signed, unsigned) = (FWord::from(-7), UfWord::from(7));
-    assert!(rt; i16::from(signed) == -7 && i32::from(signed) == -7 && u16::from(unsigned) == 7);
-    assert!(rt; signed.to_i16() == -7 && unsigned.to_u16() == 7);
-    assert!(rt; FWord::default() == FWord::new(0) && UfWord::default() == UfWord::new(0));
-}
-
-#[test]
-fn stored(rt: HostRuntime) {
-    assert!(rt; FWord::new(-2).to_be_bytes() == [0xFF, 0xFE]);
-    assert!(rt; UfWord::new(0xFFFE).to_be_bytes() == [0xFF, 0xFE]);
-    assert!(rt; FWord::read(&[0xFF, 0xFE]) == Some(FWord::new(-2)));
-    assert!(rt; UfWord::read(&[0xFF]).is_none() && FWord::RAW_BYTE_LEN + UfWord::RAW_BYTE_LEN == 4);
-}
-
-#[test]
-fn ordered_by_value(rt: HostRuntime) {
-    assert!(rt; BigEndian::from(FWord::new(-1)) < BigEndian::from(FWord::new(1)));
-    assert!(rt; BigEndian::from(UfWord::new(0xFFFF)) > BigEndian::from(UfWord::new(1)));
 }
 
 #[test]

@@ -1,7 +1,6 @@
 //! Tags made, judged, printed and stored.
 
-use crate::{InvalidTag, TTC_HEADER_TAG, Tag};
-use font_base::{BigEndian, FixedSize, Scalar};
+use crate::{InvalidTag, Tag};
 use std::alloc::{AllocError, Global};
 use std::str::FromStr;
 use std::test::Fail;
@@ -90,36 +89,6 @@ fn printed(rt: HostRuntime) -> Result<(), Fail> {
 }
 
 #[test]
-fn compared_with_bytes(rt: HostRuntime) {
-    let tag = TTC_HEADER_TAG;
-    assert!(rt; tag.eq_bytes(b"ttcf") && !tag.eq_bytes(b"ttcg"));
-    assert!(rt; tag.eq_str("ttcf") && !tag.eq_str("ttc"));
-    assert!(rt; tag.eq_slice(b"ttcf") && !tag.eq_slice(b"ttcf "));
-    assert!(rt; tag.as_bytes() == &[0x74, 0x74, 0x63, 0x66]);
-    let filled = Tag::new(b"cvt ");
-    for &(text, equal) in &[
-        ("cvt ", true),
-        ("cvt", false),
-        ("cvt  ", false),
-        ("cvt\0", false),
-    ] {
-        assert!(rt; filled.eq_str(text) == equal, "{text}");
-        assert!(rt;
-            filled.eq_slice(text.as_bytes()) == equal,
-            "bytes of {text}"
-        );
-    }
-}
-
-#[test]
-fn stored(rt: HostRuntime) {
-    let tag = Tag::from_be_bytes([0x68, 0x65, 0x61, 0x64]);
-    assert!(rt; tag.to_be_bytes() == *b"head" && tag.into_bytes() == *b"head");
-    assert!(rt; Tag::read(b"head") == Some(tag) && Tag::read(b"heads").is_none());
-    assert!(rt; BigEndian::from(tag).be_bytes() == b"head".as_slice() && Tag::RAW_BYTE_LEN == 4);
-}
-
-#[test]
 fn ordered_by_bytes(rt: HostRuntime) -> Result<(), Fail> {
     assert!(rt; Tag::new(b"OS/2") < Tag::new(b"cmap") && Tag::new(b"abc ") < Tag::new(b"abcd"));
     let default = Tag::default();
@@ -148,30 +117,6 @@ fn texts_of_faults(rt: HostRuntime) -> Result<(), Fail> {
             "{text}"
         );
         assert!(rt; &fault.clone()? == fault, "copy: {text}");
-    }
-    Ok(())
-}
-
-/// What a byte of a tag is printed as.
-fn text_of_byte(alloc: Global, byte: u8) -> Result<String, AllocError> {
-    match byte {
-        0x20..=0x7E => format!(in alloc; "{}", char::from(byte)),
-        _ => format!(in alloc; "{{0x{byte:02X}}}"),
-    }
-}
-
-#[test]
-fn every_byte_printed_at_each_place(rt: HostRuntime) -> Result<(), Fail> {
-    for byte in 0..=255u8 {
-        let shown = text_of_byte(rt.alloc(), byte)?;
-        for place in 0..4usize {
-            let mut bytes = *b"abcd";
-            bytes[place] = byte;
-            let (front, back) = ("abcd".split_at(place).0, "abcd".split_at(place + 1).1);
-            let text = format!(in rt.alloc(); "{front}{shown}{back}")?;
-            let tag = format!(in rt.alloc(); "{}", Tag::new(&bytes))?;
-            assert!(rt; tag.as_str() == text.as_str(), "{byte} at {place}");
-        }
     }
     Ok(())
 }

@@ -2,14 +2,7 @@
 
 use crate::{Compatible, LongDateTime, MajorMinor, Version16Dot16};
 use font_base::{FixedSize, Scalar};
-use std::hash::{DefaultHasher, Hash, Hasher};
 use std::test::Fail;
-
-fn hash_of<T: Hash>(value: &T) -> u64 {
-    let mut state = DefaultHasher::new();
-    value.hash(&mut state);
-    state.finish()
-}
 
 #[test]
 fn packed(rt: HostRuntime) {
@@ -70,14 +63,6 @@ fn pairs(rt: HostRuntime) {
 }
 
 #[test]
-fn bytes_of_pairs(rt: HostRuntime) {
-    let version = MajorMinor::new(0x0102, 0x0304);
-    assert!(rt; version.to_be_bytes() == [1, 2, 3, 4] && MajorMinor::RAW_BYTE_LEN == 4);
-    assert!(rt; MajorMinor::read(&[1, 2, 3, 4]) == Some(version));
-    assert!(rt; MajorMinor::read(&[1, 2]).is_none());
-}
-
-#[test]
 fn packed_versions_compatible(rt: HostRuntime) {
     for &(major, minor, other, compatible) in &[
         (1, 9, (1, 9), true),
@@ -135,11 +120,6 @@ fn minor_numbers_compatible(rt: HostRuntime) {
         let is = Compatible::<u16>::compatible(&number, other);
         assert!(rt; is == compatible, "{number} for {other}");
     }
-}
-
-#[test]
-fn hashed(rt: HostRuntime) {
-    assert!(rt; hash_of(&MajorMinor::VERSION_1_0) != hash_of(&MajorMinor::VERSION_1_1));
 }
 
 #[test]
