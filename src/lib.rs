@@ -57,10 +57,10 @@ mod font_decimal;
 #[allow(dead_code, unused_imports)]
 #[path = "generated/font_fixed/mod.rs"]
 mod font_fixed;
-#[path = "generated/font_fixed2/mod.rs"]
-mod font_fixed2;
 #[path = "generated/font_geom/mod.rs"]
 mod font_geom;
+// It passes on what is in `font_tags`.
+#[allow(unused_imports)]
 #[path = "generated/font_ids/mod.rs"]
 mod font_ids;
 #[path = "generated/font_tags/mod.rs"]

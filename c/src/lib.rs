@@ -12,8 +12,6 @@ mod font_base;
 mod font_decimal;
 #[path = "../../src/generated/font_fixed/mod.rs"]
 mod font_fixed;
-#[path = "../../src/generated/font_fixed2/mod.rs"]
-mod font_fixed2;
 #[path = "../../src/generated/font_geom/mod.rs"]
 mod font_geom;
 #[path = "../../src/generated/font_ids/mod.rs"]

@@ -15,7 +15,7 @@
 //!
 //! - paths: crates become modules of one crate, and `std` becomes `core` or the module `host`;
 //! - `fmt<W: fmt::Write>` over a `Formatter<W>`, which in Rust has no such parameter;
-//! - `clone(&self) -> Result<T, AllocError>` of a `Copy` type, which returns the value of its `Ok`;
+//! - `clone(&self) -> Result<T, AllocError>`, which returns the value of its `Ok`;
 //! - a trait's parameter `Rhs`, which defaults to `Self`, as of Rust's operators;
 //! - a slice parameter of an `extern "C"` function, which becomes a pointer and a length;
 //! - `prove!(..)`, which becomes `const { assert!(..) }`: rustc checks it of each type;

@@ -21,14 +21,16 @@ pub use crate::font_decimal::{
     Align, DecimalFault, Pad, Shortest, read_decimal, read_decimal_bytes, write_padded,
 };
 pub use crate::font_fixed::{
-    F2Dot14, F26Dot6, F48Dot16, Fixed, FixedI16, FixedI32, FixedI64, Format,
+    F2Dot14, F2Dot30, F4Dot12, F6Dot10, F26Dot6, F48Dot16, Fixed, FixedI16, FixedI32, FixedI64,
+    Format,
 };
-pub use crate::font_fixed2::{F2Dot30, F4Dot12, F6Dot10};
 pub use crate::font_geom::{BoundingBox, Matrix, MatrixElement, Point, RingElement};
 pub use crate::font_ids::{
-    Compatible, FWord, GlyphId, GlyphId16, GlyphId24, InvalidTag, LongDateTime, MajorMinor, NameId,
-    Nullable, Offset16, Offset24, Offset32, OffsetValue, Predefined, TTC_HEADER_TAG, Tag,
-    TryFromGlyphIdError, UfWord, Version16Dot16,
+    FWord, GlyphId, GlyphId16, GlyphId24, NameId, Nullable, Offset16, Offset24, Offset32,
+    OffsetValue, Predefined, TryFromGlyphIdError, UfWord,
+};
+pub use crate::font_tags::{
+    Compatible, InvalidTag, LongDateTime, MajorMinor, TTC_HEADER_TAG, Tag, Version16Dot16,
 };
 pub use delta::{DeltaSum, checked_delta_sum, delta_sum, vary};
 

@@ -7,11 +7,10 @@ use std::io::Write;
 use std::process::{Command, Stdio};
 
 /// The crates of the library, lowest first, and of each the modules that are left out.
-pub const LIBRARY: [(&str, &[&str]); 8] = [
+pub const LIBRARY: [(&str, &[&str]); 7] = [
     ("font_decimal", &[]),
     ("font_base", &["facts"]),
     ("font_fixed", &[]),
-    ("font_fixed2", &[]),
     ("font_tags", &[]),
     ("font_ids", &[]),
     ("font_geom", &[]),

@@ -19,9 +19,9 @@ ghost use Rattle.font_types.specs.Json.Laws.{unsigned_form, signed_form};
 use super::{JsonFault, JsonScalar, natural, number_within};
 use font_base::{Int24, Scalar, Uint24};
 use font_ids::{
-    FWord, GlyphId, GlyphId16, GlyphId24, LongDateTime, NameId, Offset16, Offset24, Offset32,
-    UfWord, Version16Dot16,
+    FWord, GlyphId, GlyphId16, GlyphId24, NameId, Offset16, Offset24, Offset32, UfWord,
 };
+use font_tags::{LongDateTime, Version16Dot16};
 use serde_json::Value;
 use std::alloc::Global;
 

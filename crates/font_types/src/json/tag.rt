@@ -10,7 +10,7 @@ ghost use Rattle.font_types.specs.Json.Laws.{tag_form};
 
 use super::{JsonFault, JsonScalar, text_or_fault};
 use font_base::Scalar;
-use font_ids::Tag;
+use font_tags::Tag;
 use serde_json::Value;
 use std::alloc::Global;
 

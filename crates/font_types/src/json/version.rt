@@ -8,7 +8,7 @@ ghost use Rattle.font_types.specs.Json.Laws.{version_form_of};
 ghost use Rattle.font_types.specs.declared.json.JsonFault.TheVariants.{Memory};
 
 use super::{JsonFault, JsonScalar, natural};
-use font_ids::MajorMinor;
+use font_tags::MajorMinor;
 use serde_json::{Value, json};
 use std::alloc::Global;
 

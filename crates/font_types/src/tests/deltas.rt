@@ -1,6 +1,9 @@
 //! Sums of deltas.
 
-use crate::{CFF_SFNT_VERSION, DeltaSum, F48Dot16, FWord, Fixed, TRUE_SFNT_VERSION, TT_SFNT_VERSION, checked_delta_sum, delta_sum, vary};
+use crate::{
+    CFF_SFNT_VERSION, DeltaSum, F48Dot16, FWord, Fixed, TRUE_SFNT_VERSION, TT_SFNT_VERSION,
+    checked_delta_sum, delta_sum, vary,
+};
 use std::test::Fail;
 
 /// The greatest product of a scalar and a delta.

@@ -1,6 +1,9 @@
 //! Whole numbers as numbers.
 
-use crate::{FWord, GlyphId, GlyphId16, GlyphId24, Int24, JsonFault, JsonScalar, LongDateTime, NameId, Offset16, Offset24, Offset32, UfWord, Uint24, Version16Dot16};
+use crate::{
+    FWord, GlyphId, GlyphId16, GlyphId24, Int24, JsonFault, JsonScalar, LongDateTime, NameId,
+    Offset16, Offset24, Offset32, UfWord, Uint24, Version16Dot16,
+};
 use serde_json::{Value, json};
 use std::alloc::Global;
 use std::test::Fail;

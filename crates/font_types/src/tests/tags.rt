@@ -1,7 +1,7 @@
 //! Tags as texts, and versions as objects.
 
 use crate::laws::round_trip;
-use crate::{JsonFault, MajorMinor, Tag};
+use crate::{JsonFault, JsonScalar, MajorMinor, Tag};
 use serde_json::{Value, json};
 use std::test::Fail;
 

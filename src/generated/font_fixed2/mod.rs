@@ -1,5 +1,0 @@
-// @generated from crates/font_fixed2/src/lib.rt by tools/src/bin/erase.rs
-
-//! `F4Dot12` (4.12), `F6Dot10` (6.10) and `F2Dot30` (2.30), of `font_fixed`.
-
-pub use crate::font_fixed::{F2Dot30, F4Dot12, F6Dot10};
