@@ -1,13 +1,14 @@
-//! Prints what some tables of a font say, and the glyphs of characters:
+//! Prints fields of some tables of a font, and the glyphs of characters:
 //! `cargo run --example dump -- FONT [TEXT]`.
 
 #[macro_use]
 pub mod font;
 
 use core::fmt::{self, Write};
-use font::{Font, array, field};
+use font::Font;
 use font_types_proved::{
-    FWord, Fixed, LongDateTime, MajorMinor, NameId, Scalar, Tag, UfWord, Version16Dot16,
+    FWord, Fixed, LongDateTime, MajorMinor, NameId, Scalar, ScalarArray, Tag, UfWord,
+    Version16Dot16,
 };
 
 record! { NameRecord 12:
@@ -59,7 +60,7 @@ fn line<T: Scalar + fmt::Debug>(
     table: &[u8],
     offset: usize,
 ) -> fmt::Result {
-    match field::<T>(table, offset) {
+    match T::read_at(table, offset) {
         Some(value) => writeln!(out, "{what}: {value:?}"),
         None => Ok(()),
     }
@@ -68,18 +69,15 @@ fn line<T: Scalar + fmt::Debug>(
 /// Writes the names for Windows, which are UTF-16.
 fn names(font: &Font<'_>, out: &mut impl Write) -> fmt::Result {
     let records = font.table(b"name").and_then(|name| {
-        let records = array::<NameRecord>(name, 6, field::<u16>(name, 2)?.into())?;
-        Some((records, name.get(field::<u16>(name, 4)?.into()..)?))
+        let records = ScalarArray::<NameRecord>::read_at(name, 6, u16::read_at(name, 2)?.into())?;
+        Some((records, name.get(u16::read_at(name, 4)?.into()..)?))
     });
     let Some((records, storage)) = records else {
         return Ok(());
     };
     for record in records.iter().filter(|record| record.platform == 3) {
-        let units = array::<u16>(
-            storage,
-            record.offset.into(),
-            usize::from(record.length / 2),
-        );
+        let (start, len) = (record.offset.into(), usize::from(record.length / 2));
+        let units = ScalarArray::<u16>::read_at(storage, start, len);
         write!(out, "{}: ", record.name)?;
         for unit in char::decode_utf16(units.iter().flat_map(|units| units.iter())) {
             out.write_char(unit.unwrap_or(char::REPLACEMENT_CHARACTER))?;
@@ -91,12 +89,9 @@ fn names(font: &Font<'_>, out: &mut impl Write) -> fmt::Result {
 
 #[allow(dead_code)]
 fn main() -> Result<(), Box<dyn std::error::Error>> {
+    let usage = "cargo run --example dump -- FONT [TEXT]";
     let mut words = std::env::args().skip(1);
-    let bytes = std::fs::read(
-        words
-            .next()
-            .ok_or("cargo run --example dump -- FONT [TEXT]")?,
-    )?;
+    let bytes = std::fs::read(words.next().ok_or(usage)?)?;
     let font = Font::new(&bytes).ok_or("no font of one face")?;
     let mut text = String::new();
     dump(&font, &words.next().unwrap_or_default(), &mut text)?;

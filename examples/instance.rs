@@ -4,9 +4,9 @@
 #[macro_use]
 pub mod font;
 
-use font::{Font, array, at_offset, field};
+use font::{Font, at_offset};
 use font_types_proved::{
-    DeltaSum, F2Dot14, Fixed, GlyphId16, NameId, Offset32, ScalarArray, Tag, UfWord,
+    DeltaSum, F2Dot14, Fixed, GlyphId16, NameId, Offset32, Scalar, ScalarArray, Tag, UfWord,
 };
 
 record! { Axis 20:
@@ -32,11 +32,8 @@ record! { RegionAxis 6:
 /// The axes of a font.
 pub fn axes<'a>(font: &Font<'a>) -> Option<ScalarArray<'a, Axis>> {
     let fvar = font.table(b"fvar")?;
-    array(
-        fvar,
-        field::<u16>(fvar, 4)?.into(),
-        field::<u16>(fvar, 8)?.into(),
-    )
+    let (start, count) = (u16::read_at(fvar, 4)?, u16::read_at(fvar, 8)?);
+    ScalarArray::read_at(fvar, start.into(), count.into())
 }
 
 /// The coordinate of a value of the axis of this index, from -1 to 1.
@@ -62,9 +59,9 @@ pub fn normalized(font: &Font<'_>, index: usize, value: Fixed) -> Option<F2Dot14
 fn segment_map(avar: &[u8], index: usize) -> Option<ScalarArray<'_, AxisMap>> {
     let mut start = 8;
     for _ in 0..index {
-        start += 2 + 4 * usize::from(field::<u16>(avar, start)?);
+        start += 2 + 4 * usize::from(u16::read_at(avar, start)?);
     }
-    array(avar, start + 2, field::<u16>(avar, start)?.into())
+    ScalarArray::read_at(avar, start + 2, u16::read_at(avar, start)?.into())
 }
 
 /// A coordinate, interpolated between two records of a map.
@@ -105,18 +102,19 @@ pub fn advance(font: &Font<'_>, glyph: GlyphId16, coordinates: &[F2Dot14]) -> Op
     let base = font.advance(glyph)?;
     let hvar = font.table(b"HVAR")?;
     let store = at_offset(hvar, 4)?;
-    let (outer, inner) = match field::<Offset32>(hvar, 8)?.is_null() {
+    let (outer, inner) = match Offset32::read_at(hvar, 8)?.is_null() {
         true => (0, glyph.into()),
         false => delta_set(at_offset(hvar, 8)?, glyph.into())?,
     };
     let data = at_offset(store, row(8, 4, outer)?)?;
     let regions = at_offset(store, 2)?;
-    let axis_count = usize::from(field::<u16>(regions, 0)?);
-    let count = usize::from(field::<u16>(data, 4)?);
+    let axis_count = usize::from(u16::read_at(regions, 0)?);
+    let count = usize::from(u16::read_at(data, 4)?);
     let mut sum = DeltaSum::new();
-    for (n, index) in array::<u16>(data, 6, count)?.values().enumerate() {
+    let indices = ScalarArray::<u16>::read_at(data, 6, count)?;
+    for (n, index) in indices.values().enumerate() {
         let place = row(4, 6 * axis_count, index.into())?;
-        let region = array(regions, place, axis_count)?;
+        let region = ScalarArray::read_at(regions, place, axis_count)?;
         sum.add(scalar(&region, coordinates), delta(data, count, inner, n)?);
     }
     UfWord::round_delta(base.apply_delta(sum.checked_finish()?))
@@ -125,27 +123,27 @@ pub fn advance(font: &Font<'_>, glyph: GlyphId16, coordinates: &[F2Dot14]) -> Op
 /// The delta of a column in a set of `count`. The first columns are wide: 16 bits, and the others
 /// 8, or twice as many in a table of long words.
 fn delta(data: &[u8], count: usize, set: usize, column: usize) -> Option<i32> {
-    let words = field::<u16>(data, 2)?;
+    let words = u16::read_at(data, 2)?;
     let (is_long, words) = (words & 0x8000 != 0, usize::from(words & 0x7FFF));
     let unit = if is_long { 2 } else { 1 };
     let set = row(6 + 2 * count, unit * (count + words), set)?;
     let place = set.checked_add(unit * (column + column.min(words)))?;
     match (is_long, column < words) {
-        (true, true) => field::<i32>(data, place),
-        (true, false) | (false, true) => field::<i16>(data, place).map(i32::from),
-        (false, false) => field::<i8>(data, place).map(i32::from),
+        (true, true) => i32::read_at(data, place),
+        (true, false) | (false, true) => i16::read_at(data, place).map(i32::from),
+        (false, false) => i8::read_at(data, place).map(i32::from),
     }
 }
 
 /// The outer and the inner index of a delta set, by a map of format 0 or 1. The last entry counts
 /// for all that follow.
 fn delta_set(map: &[u8], index: usize) -> Option<(usize, usize)> {
-    let (count, start) = match field::<u8>(map, 0)? {
-        0 => (u32::from(field::<u16>(map, 2)?), 4),
-        1 => (field::<u32>(map, 2)?, 6),
+    let (count, start) = match u8::read_at(map, 0)? {
+        0 => (u32::from(u16::read_at(map, 2)?), 4),
+        1 => (u32::read_at(map, 2)?, 6),
         _ => return None,
     };
-    let format = field::<u8>(map, 1)?;
+    let format = u8::read_at(map, 1)?;
     let len = usize::from(format >> 4 & 3) + 1;
     let last = usize::try_from(count.checked_sub(1)?).ok()?;
     let bytes = map.get(row(start, len, index.min(last))?..)?.get(..len)?;

@@ -1,24 +1,13 @@
-//! What the examples read of a font, without `std` and without allocation.
+//! Reads fonts, without `std` and without allocation.
 #![allow(dead_code)]
 
 use font_types_proved::{
     FWord, GlyphId16, Offset32, Scalar, ScalarArray, TableDataRef, TableHeader, Tag, UfWord,
 };
 
-/// The field at an offset, or `None` past the end.
-pub fn field<T: Scalar>(table: &[u8], offset: usize) -> Option<T> {
-    T::read(table.get(offset..)?.get(..T::RAW_BYTE_LEN)?)
-}
-
-/// An array of `count` elements at an offset.
-pub fn array<T: Scalar>(table: &[u8], offset: usize, count: usize) -> Option<ScalarArray<'_, T>> {
-    let len = count.checked_mul(T::RAW_BYTE_LEN)?;
-    ScalarArray::new(table.get(offset..)?.get(..len)?)
-}
-
-/// What an [`Offset32`] at an offset points to, from the start of the table.
+/// Returns the bytes from where an [`Offset32`] at `offset` points, or `None` past the end.
 pub fn at_offset(table: &[u8], offset: usize) -> Option<&[u8]> {
-    table.get(field::<Offset32>(table, offset)?.to_u32() as usize..)
+    table.get(Offset32::read_at(table, offset)?.to_u32() as usize..)
 }
 
 /// A record of fields, which can be an element of an array.
@@ -69,7 +58,7 @@ impl TableHeader for Header {
     const BYTE_LEN: usize = 12;
 
     fn decode(bytes: &[u8]) -> Self {
-        Self(field(bytes, 4).expect("12 bytes"))
+        Self(u16::read_at(bytes, 4).expect("12 bytes"))
     }
 }
 
@@ -82,7 +71,7 @@ pub struct Font<'a> {
 impl<'a> Font<'a> {
     pub fn new(data: &'a [u8]) -> Option<Self> {
         let (Header(count), rest) = TableDataRef::<Header>::new(data)?.split();
-        let tables = array(rest, 0, count.into())?;
+        let tables = ScalarArray::read_at(rest, 0, count.into())?;
         Some(Self { data, tables })
     }
 
@@ -97,8 +86,8 @@ impl<'a> Font<'a> {
 
     /// The advance of a glyph. Glyphs past the last metric have its advance.
     pub fn advance(&self, glyph: GlyphId16) -> Option<UfWord> {
-        let count = field::<u16>(self.table(b"hhea")?, 34)?;
-        let metrics = array::<LongMetric>(self.table(b"hmtx")?, 0, count.into())?;
+        let count = u16::read_at(self.table(b"hhea")?, 34)?;
+        let metrics = ScalarArray::<LongMetric>::read_at(self.table(b"hmtx")?, 0, count.into())?;
         let metric = metrics.get(glyph.into()).or(metrics.last())?;
         Some(metric.advance)
     }
@@ -106,9 +95,9 @@ impl<'a> Font<'a> {
     /// The glyph of a character, by the first subtable of format 4 or 12 that has it.
     pub fn glyph(&self, character: char) -> Option<GlyphId16> {
         let cmap = self.table(b"cmap")?;
-        let encodings = 0..field::<u16>(cmap, 2)?;
+        let encodings = 0..u16::read_at(cmap, 2)?;
         let mut subtables = encodings.filter_map(|n| at_offset(cmap, 4 + 8 * usize::from(n) + 4));
-        subtables.find_map(|subtable| match field::<u16>(subtable, 0)? {
+        subtables.find_map(|subtable| match u16::read_at(subtable, 0)? {
             4 => of_format_4(subtable, u16::try_from(u32::from(character)).ok()?),
             12 => of_format_12(subtable, character.into()),
             _ => None,
@@ -117,8 +106,9 @@ impl<'a> Font<'a> {
 }
 
 fn of_format_4(subtable: &[u8], code: u16) -> Option<GlyphId16> {
-    let count = usize::from(field::<u16>(subtable, 6)? / 2);
-    let column = |n: usize| array::<u16>(subtable, 14 + 2 * n * count + 2 * n.min(1), count);
+    let count = usize::from(u16::read_at(subtable, 6)? / 2);
+    let start = |n: usize| 14 + 2 * n * count + 2 * n.min(1);
+    let column = |n| ScalarArray::<u16>::read_at(subtable, start(n), count);
     let [ends, starts, deltas, offsets] = [column(0)?, column(1)?, column(2)?, column(3)?];
     let segment = ends.binary_search(&code).unwrap_or_else(|after| after);
     let place = usize::from(code.checked_sub(starts.get(segment)?)?);
@@ -127,7 +117,7 @@ fn of_format_4(subtable: &[u8], code: u16) -> Option<GlyphId16> {
         // From the place of the offset itself.
         offset => {
             let start = 16 + 2 * (3 * count + segment) + usize::from(offset);
-            field::<u16>(subtable, start + 2 * place).filter(|glyph| *glyph != 0)?
+            u16::read_at(subtable, start + 2 * place).filter(|glyph| *glyph != 0)?
         }
     };
     Some(GlyphId16::new(glyph.wrapping_add(deltas.get(segment)?)))
@@ -140,7 +130,7 @@ record! { Group 12:
 }
 
 fn of_format_12(subtable: &[u8], code: u32) -> Option<GlyphId16> {
-    let groups = array::<Group>(subtable, 16, field::<u32>(subtable, 12)? as usize)?;
+    let groups = ScalarArray::<Group>::read_at(subtable, 16, u32::read_at(subtable, 12)? as usize)?;
     let place = groups.binary_search_by_key(&code, |group| group.end);
     let group = groups.get(place.unwrap_or_else(|after| after))?;
     let glyph = group.glyph.wrapping_add(code.checked_sub(group.start)?);
