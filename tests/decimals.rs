@@ -1,39 +1,34 @@
-//! Decimal text of each fixed-point type, by tables of exact values.
+//! Parsing, printing and padding of decimals, against exact values.
 
 use font_types_proved::*;
 
 /// A type, a raw value, and the shortest decimal that parses back to it; of two as near, the one
 /// farther from zero.
 const TEXTS: &str = "\
-F2Dot14 0 0
 F2Dot14 1 0.00006
 F2Dot14 8192 0.5
 F2Dot14 -32768 -2
 F2Dot14 32767 1.99994
 F2Dot14 -17299 -1.05585
 F2Dot14 -806 -0.0492
-F4Dot12 0 0
 F4Dot12 1 0.0002
 F4Dot12 2048 0.5
 F4Dot12 -32768 -8
 F4Dot12 32767 7.9998
 F4Dot12 -26007 -6.3494
 F4Dot12 906 0.2212
-F6Dot10 0 0
 F6Dot10 1 0.001
 F6Dot10 512 0.5
 F6Dot10 -32768 -32
 F6Dot10 32767 31.999
 F6Dot10 -6812 -6.652
 F6Dot10 -87 -0.085
-Fixed 0 0
 Fixed 1 0.00002
 Fixed 32768 0.5
 Fixed -2147483648 -32768
 Fixed 2147483647 32767.99998
 Fixed -1481882790 -22611.73691
 Fixed -110031627 -1678.94939
-F26Dot6 0 0
 F26Dot6 1 0.02
 F26Dot6 32 0.5
 F26Dot6 24 0.38
@@ -43,7 +38,6 @@ F26Dot6 -2147483648 -33554432
 F26Dot6 2147483647 33554431.98
 F26Dot6 -1861803471 -29090679.23
 F26Dot6 -128898095 -2014032.73
-F48Dot16 0 0
 F48Dot16 1 0.00002
 F48Dot16 32768 0.5
 F48Dot16 -9223372036854775808 -140737488355328
@@ -51,7 +45,6 @@ F48Dot16 9223372036854775807 140737488355327.99998
 F48Dot16 -9223372036854775807 -140737488355327.99998
 F48Dot16 911303164702927670 13905382762190.6688
 F48Dot16 -242833230327189088 -3705341038928.05615
-F2Dot30 0 0
 F2Dot30 1 0.000000001
 F2Dot30 536870912 0.5
 F2Dot30 -2147483648 -2
@@ -60,156 +53,109 @@ F2Dot30 1290433023 1.201809405
 F2Dot30 131540037 0.122506206
 ";
 
-/// A type, a decimal next to a tie or to an end, and its raw value, rounded half away from zero.
-const ROUNDED: &str = "\
-F2Dot14 0.000030517578125 1
-F2Dot14 -0.000030517578125 -1
-F2Dot14 0.000030517578124 0
-F2Dot14 0.0000305175781249999 0
-F2Dot14 1.999969482421875 out
-F2Dot14 1.999969482421874 32767
-F2Dot14 -2.000030517578125 out
-F2Dot14 -2.000030517578124 -32768
-F4Dot12 0.0001220703125 1
-F4Dot12 -0.0001220703125 -1
-F4Dot12 0.0001220703124 0
-F4Dot12 0.00012207031249999 0
-F4Dot12 7.9998779296875 out
-F4Dot12 7.9998779296874 32767
-F4Dot12 -8.0001220703125 out
-F4Dot12 -8.0001220703124 -32768
-F6Dot10 0.00048828125 1
-F6Dot10 -0.00048828125 -1
-F6Dot10 0.00048828124 0
-F6Dot10 0.000488281249999 0
-F6Dot10 31.99951171875 out
-F6Dot10 31.99951171874 32767
-F6Dot10 -32.00048828125 out
-F6Dot10 -32.00048828124 -32768
-Fixed 0.00000762939453125 1
-Fixed -0.00000762939453125 -1
-Fixed 0.00000762939453124 0
-Fixed 0.000007629394531249999 0
-Fixed 32767.99999237060546875 out
-Fixed 32767.99999237060546874 2147483647
-Fixed -32768.00000762939453125 out
-Fixed -32768.00000762939453124 -2147483648
-F26Dot6 0.0078125 1
-F26Dot6 -0.0078125 -1
-F26Dot6 0.0078124 0
-F26Dot6 0.00781249999 0
-F26Dot6 33554431.9921875 out
-F26Dot6 33554431.9921874 2147483647
-F26Dot6 -33554432.0078125 out
-F26Dot6 -33554432.0078124 -2147483648
-F48Dot16 0.00000762939453125 1
-F48Dot16 -0.00000762939453125 -1
-F48Dot16 0.00000762939453124 0
-F48Dot16 0.000007629394531249999 0
-F48Dot16 140737488355327.99999237060546875 out
-F48Dot16 140737488355327.99999237060546874 9223372036854775807
-F48Dot16 -140737488355328.00000762939453125 out
-F48Dot16 -140737488355328.00000762939453124 -9223372036854775808
-F2Dot30 0.0000000004656612873077392578125 1
-F2Dot30 -0.0000000004656612873077392578125 -1
-F2Dot30 0.0000000004656612873077392578124 0
-F2Dot30 0.00000000046566128730773925781249999 0
-F2Dot30 1.9999999995343387126922607421875 out
-F2Dot30 1.9999999995343387126922607421874 2147483647
-F2Dot30 -2.0000000004656612873077392578125 out
-F2Dot30 -2.0000000004656612873077392578124 -2147483648
-";
-
-/// Texts that are no decimals.
-const NO_DECIMALS: &[&str] = &[
+/// Texts that are not decimals.
+const NOT_DECIMALS: &[&str] = &[
     "", "-", "+1", " 1", "1 ", ".5", "-.5", "1.", "1.-5", "1.5.", "1..5", "--1", "1e5", "0x1",
     "1_0", "1,5", "NaN", "\u{661}", "1\0", "\n1", "1.5a", "a", "1/", "1:", "1./", "1.:",
 ];
 
-/// The rows of a type, less its name.
-fn rows<'a>(table: &'a str, kind: &str) -> Vec<(&'a str, &'a str)> {
-    let of_kind = table
-        .lines()
-        .filter_map(|row| row.strip_prefix(kind)?.strip_prefix(' '));
-    of_kind
-        .map(|row| row.split_once(' ').expect("two words"))
-        .collect()
+/// Returns the exact decimal of `halves / 2^(f + 1)`, which is `f + 1` places long.
+fn decimal(halves: i128, f: u32) -> String {
+    let (numeral, ten) = (halves.abs() * 5i128.pow(f + 1), 10i128.pow(f + 1));
+    let (sign, places) = (if halves < 0 { "-" } else { "" }, f as usize + 1);
+    format!("{sign}{}.{:0places$}", numeral / ten, numeral % ten)
 }
 
-macro_rules! of_fixed_point_types {
+/// Returns the text with the last digit, which is 5, one less.
+fn below(tie: &str) -> String {
+    format!("{}4", tie.strip_suffix('5').unwrap())
+}
+
+macro_rules! fixed_point_types {
     ($($name:ident $Type:ident $bits:ident $f:literal;)*) => {$(
         #[test]
         fn $name() {
-            let texts = rows(TEXTS, stringify!($Type));
-            assert!(texts.len() >= 7);
-            for (raw, text) in texts {
-                let x = $Type::from_bits(raw.parse().unwrap());
-                assert_eq!(x.to_string(), text);
-                assert_eq!(format!("{x:?}"), text);
+            let name = concat!(stringify!($Type), " ");
+            let rows = TEXTS.lines().filter_map(|row| row.strip_prefix(name));
+            let mut count = 0;
+            for (bits, text) in rows.map(|row| row.split_once(' ').unwrap()).chain([("0", "0")]) {
+                let x = $Type::from_bits(bits.parse().unwrap());
+                assert_eq!(format!("{x} {x:?}"), format!("{text} {text}"));
                 assert_eq!(Shortest::new(x.to_bits().into(), $f).as_str(), text);
                 assert_eq!(text.parse(), Ok(x));
                 assert_eq!($Type::from_decimal_bytes(text.as_bytes()), Ok(x), "{text}");
-                assert_eq!($Type::from_decimal(&format!("{text} ")), Err(DecimalFault::Syntax), "{text}");
                 for (width, len) in [(0, 40), (text.len(), text.len())] {
                     let mut out = vec![b'~'; len];
                     let end = x.write_padded(&mut out, &Pad::new(width));
                     assert_eq!(end.map(|end| &out[..end]), Some(text.as_bytes()), "{width}");
                 }
+                count += 1;
             }
-            let rounded = rows(ROUNDED, stringify!($Type));
-            assert_eq!(rounded.len(), 8);
-            for (text, raw) in rounded {
-                let right = match raw {
-                    "out" => Err(DecimalFault::OutOfRange),
-                    raw => Ok($Type::from_bits(raw.parse().unwrap())),
-                };
-                assert_eq!($Type::from_decimal(text), right, "{text}");
+            assert!(count >= 7);
+            // At ties, half away from zero, and out of range; next to them, the nearest value.
+            let (min, max) = (i128::from($bits::MIN), i128::from($bits::MAX));
+            for (n, away) in [(0, 1), (0, -1), (max, 1), (min, -1)] {
+                let of = |n: i128| $bits::try_from(n).map($Type::from_bits);
+                let of = |n| of(n).or(Err(DecimalFault::OutOfRange));
+                let tie = decimal(2 * n + away, $f);
+                assert_eq!($Type::from_decimal(&tie), of(n + away), "{tie}");
+                for text in [below(&tie), below(&tie) + "99"] {
+                    assert_eq!($Type::from_decimal(&text), of(n), "{text}");
+                }
             }
-            for text in NO_DECIMALS {
+            for text in NOT_DECIMALS {
                 assert_eq!(text.parse::<$Type>(), Err(DecimalFault::Syntax), "{text:?}");
             }
-            let far = "9".repeat(40);
-            assert_eq!($Type::from_decimal(&far), Err(DecimalFault::OutOfRange));
-            assert_eq!($Type::from_decimal(&format!("-{far}.{far}")), Err(DecimalFault::OutOfRange));
+            for text in ["9".repeat(40), format!("-{0}.{0}", "9".repeat(40))] {
+                assert_eq!($Type::from_decimal(&text), Err(DecimalFault::OutOfRange));
+            }
             assert_eq!("-0".parse(), Ok($Type::ZERO));
         }
     )*};
 }
 
-include!("../tools/src/types.in");
+fixed_point_types! {
+    f2dot14 F2Dot14 i16 14;
+    f4dot12 F4Dot12 i16 12;
+    f6dot10 F6Dot10 i16 10;
+    fixed Fixed i32 16;
+    f26dot6 F26Dot6 i32 6;
+    f48dot16 F48Dot16 i64 16;
+    f2dot30 F2Dot30 i32 30;
+}
 
 #[test]
 fn long_texts() {
     let (before, after) = ("0".repeat(70_000), "0".repeat(6_000));
-    assert_eq!(
-        Fixed::from_decimal(&format!("-{before}1.{after}")),
-        Ok(Fixed::NEG_ONE)
-    );
-    // A digit after a tie decides, however late it comes.
-    let tie = "0.000007629394531249";
-    assert_eq!(
-        Fixed::from_decimal(&format!("{tie}{}", "9".repeat(5_000))),
-        Ok(Fixed::ZERO)
-    );
-    assert_eq!(
-        Fixed::from_decimal(&format!("{tie}{after}a")),
-        Err(DecimalFault::Syntax)
-    );
-    assert_eq!(read_decimal_bytes(b"1.5", 6, -100, 96), Ok(96));
-    assert_eq!(
-        read_decimal_bytes(b"1.5", 6, -100, 95),
-        Err(DecimalFault::OutOfRange)
-    );
-    assert_eq!(read_decimal("-1.5", 6, -96, 100), Ok(-96));
-    assert_eq!(
-        read_decimal("-1.5", 6, -95, 100),
-        Err(DecimalFault::OutOfRange)
-    );
+    let (tie, nines) = ("0.000007629394531249", "9".repeat(5_000));
+    for (text, right) in [
+        (format!("-{before}1.{after}"), Ok(Fixed::NEG_ONE)),
+        // The last digit decides on which side of the tie it is, however late it comes.
+        (format!("{tie}{nines}"), Ok(Fixed::ZERO)),
+        (format!("{tie}{after}a"), Err(DecimalFault::Syntax)),
+    ] {
+        assert_eq!(Fixed::from_decimal(&text), right, "{} bytes", text.len());
+    }
 }
 
 #[test]
-fn padded() {
-    let pad = |width, fill, align, plus, zeros| Pad {
+fn limits_of_a_caller() {
+    let out = Err(DecimalFault::OutOfRange);
+    for (text, min, max, right) in [
+        ("1.5", -100, 96, Ok(96)),
+        ("1.5", -100, 95, out),
+        ("-1.5", -96, 100, Ok(-96)),
+        ("-1.5", -95, 100, out),
+    ] {
+        assert_eq!(read_decimal(text, 6, min, max), right, "{text} {min} {max}");
+        let found = read_decimal_bytes(text.as_bytes(), 6, min, max);
+        assert_eq!(found, right, "{text} {min} {max}");
+    }
+}
+
+#[test]
+fn padding() {
+    let pad = |width, fill, align, [plus, zeros]: [bool; 2]| Pad {
         width,
         fill,
         align,
@@ -220,44 +166,30 @@ fn padded() {
     for (text, pad, padded) in [
         ("1.5", Pad::new(0), "1.5"),
         ("1.5", Pad::new(6), "   1.5"),
-        ("1.5", pad(6, b'*', left, false, false), "1.5***"),
-        ("1.5", pad(6, b'_', center, false, false), "_1.5__"),
-        ("-1.5", pad(7, b'_', center, true, false), "_-1.5__"),
-        ("1.5", pad(6, b'*', right, true, false), "**+1.5"),
-        ("1.5", pad(3, b'*', right, false, true), "1.5"),
-        ("1.5", pad(7, b'*', left, true, true), "+0001.5"),
-        ("-1.5", pad(6, b'*', center, false, true), "-001.5"),
-        ("0", pad(1, b'*', left, true, false), "+0"),
-        ("-0", pad(0, b' ', right, true, false), "-0"),
+        ("1.5", pad(6, b'*', left, [false, false]), "1.5***"),
+        ("1.5", pad(6, b'_', center, [false, false]), "_1.5__"),
+        ("-1.5", pad(7, b'_', center, [true, false]), "_-1.5__"),
+        ("1.5", pad(6, b'*', right, [true, false]), "**+1.5"),
+        ("1.5", pad(3, b'*', right, [false, true]), "1.5"),
+        ("1.5", pad(7, b'*', left, [true, true]), "+0001.5"),
+        ("-1.5", pad(6, b'*', center, [false, true]), "-001.5"),
+        ("0", pad(1, b'*', left, [true, false]), "+0"),
+        ("-0", pad(0, b' ', right, [true, false]), "-0"),
         ("", Pad::new(0), ""),
     ] {
         let mut out = [b'~'; 9];
         let length = write_padded(text, &mut out, &pad);
         assert_eq!(length, Some(padded.len()), "{text} {pad:?}");
-        assert_eq!(
-            str::from_utf8(&out[..padded.len()]),
-            Ok(padded),
-            "{text} {pad:?}"
-        );
-        assert!(
-            out[padded.len()..].iter().all(|byte| *byte == b'~'),
-            "{text} {pad:?}"
-        );
+        assert_eq!(out, *format!("{padded:~<9}").as_bytes(), "{text} {pad:?}");
         if let Some(short) = padded.len().checked_sub(1) {
             let mut out = [b'~'; 9];
-            assert_eq!(
-                write_padded(text, &mut out[..short], &pad),
-                None,
-                "{text} {pad:?}"
-            );
-            assert_eq!(out, [b'~'; 9], "{text} {pad:?}");
+            let length = write_padded(text, &mut out[..short], &pad);
+            assert_eq!((length, out), (None, [b'~'; 9]), "{text} {pad:?}");
         }
     }
     let mut out = [0; 5000];
-    assert_eq!(
-        Fixed::NEG_ONE.write_padded(&mut out, &Pad::new(5000)),
-        Some(5000)
-    );
+    let length = Fixed::NEG_ONE.write_padded(&mut out, &Pad::new(5000));
+    assert_eq!(length, Some(5000));
     assert!(out.ends_with(b" -1") && out[..4998].iter().all(|byte| *byte == b' '));
     assert_eq!(Fixed::NEG_ONE.write_padded(&mut out, &Pad::new(5001)), None);
 }

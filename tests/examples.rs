@@ -200,11 +200,8 @@ fn long_words_and_a_map_of_format_1() {
     ] {
         let at = F2Dot14::from_bits(at);
         let moved = Some(UfWord::new(moved));
-        assert_eq!(
-            advance(&font, GlyphId16::new(glyph), &[at]),
-            moved,
-            "{at} {glyph}"
-        );
+        let found = advance(&font, GlyphId16::new(glyph), &[at]);
+        assert_eq!(found, moved, "{at} {glyph}");
     }
 }
 

@@ -1,4 +1,4 @@
-//! Scalars as they are stored: bytes, fields, arrays, headers, and the integers of 24 bits.
+//! Scalars in bytes, fields, arrays and headers, and 24-bit integers.
 
 use font_types_proved::*;
 use std::collections::HashSet;
@@ -12,15 +12,17 @@ fn hash_of(value: impl Hash) -> u64 {
     hasher.finish()
 }
 
-/// A value and its bytes, as a scalar, a field and an array.
-fn stored<T: Scalar + Copy + PartialEq + Debug>(value: T, bytes: &[u8]) {
+/// Asserts that the value has these bytes, as a scalar, a field and an element of an array.
+fn assert_stored<T: Scalar + Copy + PartialEq + Debug>(value: T, bytes: &[u8]) {
     assert_eq!(T::RAW_BYTE_LEN, bytes.len(), "{value:?}");
     assert_eq!(value.to_raw().as_slice(), bytes, "{value:?}");
     assert_eq!(T::from_raw(value.to_raw()), value, "{value:?}");
-    assert_eq!(T::read(bytes), Some(value));
-    assert_eq!(T::read(&bytes[1..]), None, "{value:?}");
     let longer = [bytes, &[7]].concat();
-    assert_eq!(T::read(&longer), None, "{value:?}");
+    let found = [bytes, &longer, &bytes[1..]].map(T::read);
+    assert_eq!(found, [Some(value), None, None], "{value:?}");
+    let after = [&[7], bytes].concat();
+    let found = [1, 2, usize::MAX].map(|offset| T::read_at(&after, offset));
+    assert_eq!(found, [Some(value), None, None], "{value:?}");
     let zero = T::read(&vec![0; bytes.len()]).unwrap();
     for field in [
         BigEndian::new(value.to_raw()),
@@ -47,147 +49,97 @@ fn stored<T: Scalar + Copy + PartialEq + Debug>(value: T, bytes: &[u8]) {
         assert_eq!(array.values().clone().collect::<Vec<T>>(), right);
         assert_eq!(array.values().nth(len), None);
     }
-    assert_eq!(
-        ScalarArray::<T>::new(&longer).is_some(),
-        bytes.len() == 1,
-        "{value:?}"
-    );
+    let found = ScalarArray::<T>::new(&longer).is_some();
+    assert_eq!(found, bytes.len() == 1, "{value:?}");
 }
 
 #[test]
 fn each_scalar() {
-    stored(0x87u8, &[0x87]);
-    stored(-2i8, &[0xFE]);
-    stored(0x1234u16, &[0x12, 0x34]);
-    stored(-2i16, &[0xFF, 0xFE]);
-    stored(0x1234_5678u32, &[0x12, 0x34, 0x56, 0x78]);
-    stored(-0x1234i32, &[0xFF, 0xFF, 0xED, 0xCC]);
-    stored(
-        -0x1234i64,
-        &[0xFF, 0xFF, 0xFF, 0xFF, 0xFF, 0xFF, 0xED, 0xCC],
-    );
-    stored(Uint24::new(0x12_3456), &[0x12, 0x34, 0x56]);
-    stored(Int24::new(-0x12_3456), &[0xED, 0xCB, 0xAA]);
-    stored(F2Dot14::from_bits(-2), &[0xFF, 0xFE]);
-    stored(F4Dot12::from_bits(-2), &[0xFF, 0xFE]);
-    stored(F6Dot10::from_bits(-2), &[0xFF, 0xFE]);
-    stored(Fixed::from_bits(-0x1234), &[0xFF, 0xFF, 0xED, 0xCC]);
-    stored(F2Dot30::from_bits(-0x1234), &[0xFF, 0xFF, 0xED, 0xCC]);
-    stored(FWord::new(-2), &[0xFF, 0xFE]);
-    stored(UfWord::new(0xFFFE), &[0xFF, 0xFE]);
-    stored(GlyphId16::new(0x1234), &[0x12, 0x34]);
-    stored(GlyphId24::new(0x12_3456), &[0x12, 0x34, 0x56]);
-    stored(NameId::new(0x1234), &[0x12, 0x34]);
-    stored(Offset16::new(0x1234), &[0x12, 0x34]);
-    stored(Offset24::new(Uint24::new(0x12_3456)), &[0x12, 0x34, 0x56]);
-    stored(Offset32::new(0x1234_5678), &[0x12, 0x34, 0x56, 0x78]);
-    stored(
-        Nullable::<Offset16>::read(&[0x12, 0x34]).unwrap(),
-        &[0x12, 0x34],
-    );
-    stored(
-        LongDateTime::new(-2),
-        &[0xFF, 0xFF, 0xFF, 0xFF, 0xFF, 0xFF, 0xFF, 0xFE],
-    );
-    stored(Version16Dot16::new(0x1234, 5), &[0x12, 0x34, 0x50, 0]);
-    stored(MajorMinor::new(0x1234, 0x5678), &[0x12, 0x34, 0x56, 0x78]);
-    stored(Tag::new(b"GPOS"), b"GPOS");
+    assert_stored(0x87u8, &[0x87]);
+    assert_stored(-2i8, &[0xFE]);
+    assert_stored(0x1234u16, &[0x12, 0x34]);
+    assert_stored(-2i16, &[0xFF, 0xFE]);
+    assert_stored(0x1234_5678u32, &[0x12, 0x34, 0x56, 0x78]);
+    assert_stored(-0x1234i32, &[0xFF, 0xFF, 0xED, 0xCC]);
+    assert_stored(Uint24::new(0x12_3456), &[0x12, 0x34, 0x56]);
+    assert_stored(Int24::new(-0x12_3456), &[0xED, 0xCB, 0xAA]);
+    assert_stored(F2Dot14::from_bits(-2), &[0xFF, 0xFE]);
+    assert_stored(F4Dot12::from_bits(-2), &[0xFF, 0xFE]);
+    assert_stored(F6Dot10::from_bits(-2), &[0xFF, 0xFE]);
+    assert_stored(Fixed::from_bits(-0x1234), &[0xFF, 0xFF, 0xED, 0xCC]);
+    assert_stored(F2Dot30::from_bits(-0x1234), &[0xFF, 0xFF, 0xED, 0xCC]);
+    assert_stored(FWord::new(-2), &[0xFF, 0xFE]);
+    assert_stored(UfWord::new(0xFFFE), &[0xFF, 0xFE]);
+    assert_stored(GlyphId16::new(0x1234), &[0x12, 0x34]);
+    assert_stored(GlyphId24::new(0x12_3456), &[0x12, 0x34, 0x56]);
+    assert_stored(NameId::new(0x1234), &[0x12, 0x34]);
+    assert_stored(Offset16::new(0x1234), &[0x12, 0x34]);
+    assert_stored(Offset24::new(Uint24::new(0x12_3456)), &[0x12, 0x34, 0x56]);
+    assert_stored(Offset32::new(0x1234_5678), &[0x12, 0x34, 0x56, 0x78]);
+    let nullable = Nullable::<Offset16>::read(&[0x12, 0x34]).unwrap();
+    assert_stored(nullable, &[0x12, 0x34]);
+    let bytes = [0xFF, 0xFF, 0xFF, 0xFF, 0xFF, 0xFF, 0xED, 0xCC];
+    assert_stored(LongDateTime::new(-0x1234), &bytes);
+    assert_stored(-0x1234i64, &bytes);
+    assert_stored(Version16Dot16::new(0x1234, 5), &[0x12, 0x34, 0x50, 0]);
+    assert_stored(MajorMinor::new(0x1234, 0x5678), &[0x12, 0x34, 0x56, 0x78]);
+    assert_stored(Tag::new(b"GPOS"), b"GPOS");
 }
 
 #[test]
-fn integers_of_24_bits() {
+fn uint24() {
     let max = 0xFF_FFFF;
     for n in [0, 1, 0xFFFF, 0x1_0000, max - 1, max, max + 1, u32::MAX] {
-        let (new, is_in_range) = (Uint24::new(n), n <= max);
-        assert_eq!((new.to_u32(), u32::from(new)), (n.min(max), n.min(max)));
-        assert_eq!(usize::from(new), n.min(max) as usize);
-        assert_eq!(Uint24::checked_new(n), is_in_range.then_some(new), "{n}");
-        assert_eq!(
-            Uint24::try_from(n as usize).ok(),
-            is_in_range.then_some(new),
-            "{n}"
-        );
-        assert_eq!(
-            format!("{new} {new:?}"),
-            format!("{0} Uint24({0})", n.min(max))
-        );
-        let [_, bytes @ ..] = n.min(max).to_be_bytes();
-        assert_eq!(
-            (new.to_be_bytes(), Uint24::from_be_bytes(bytes)),
-            (bytes, new)
-        );
+        let (new, right) = (Uint24::new(n), n.min(max));
+        assert_eq!([new.to_u32(), new.into()], [right; 2]);
+        assert_eq!(usize::from(new), right as usize);
+        let checked = (n == right).then_some(new);
+        assert_eq!(Uint24::checked_new(n), checked, "{n}");
+        assert_eq!(Uint24::try_from(n as usize).ok(), checked, "{n}");
+        assert_eq!(format!("{new} {new:?}"), format!("{right} Uint24({right})"));
+        let [_, bytes @ ..] = right.to_be_bytes();
+        assert_eq!(new.to_be_bytes(), bytes, "{n}");
+        assert_eq!(Uint24::from_be_bytes(bytes), new);
     }
-    for n in [
-        0,
-        1,
-        -1,
-        0x7F_FFFE,
-        0x7F_FFFF,
-        0x80_0000,
-        -0x80_0000,
-        -0x80_0001,
-        i32::MIN,
-    ] {
-        let right = n.clamp(-0x80_0000, 0x7F_FFFF);
-        let new = Int24::new(n);
-        assert_eq!((new.to_i32(), i32::from(new)), (right, right));
+    assert_eq!([Uint24::MIN, Uint24::MAX], [0, max].map(Uint24::new));
+    assert_eq!(Uint24::default(), Uint24::MIN);
+    let error = Uint24::try_from(1usize << 24).unwrap_err();
+    let right = "failed to convert usize value into Uint24. TryFromUint24Error";
+    assert_eq!(format!("{error} {error:?}"), right);
+    assert_eq!(format!("{0:>4}{0:02}", Uint24::new(7)), "   707");
+}
+
+#[test]
+fn int24() {
+    let (min, max) = (-0x80_0000, 0x7F_FFFF);
+    for n in [0, 1, -1, max - 1, max, max + 1, min, min - 1, i32::MIN] {
+        let (new, right) = (Int24::new(n), n.clamp(min, max));
+        assert_eq!([new.to_i32(), new.into()], [right; 2]);
         assert_eq!(Int24::checked_new(n), (right == n).then_some(new), "{n}");
         assert_eq!(format!("{new} {new:?}"), format!("{right} Int24({right})"));
         let [_, bytes @ ..] = right.to_be_bytes();
-        assert_eq!(
-            (new.to_be_bytes(), Int24::from_be_bytes(bytes)),
-            (bytes, new)
-        );
+        assert_eq!(new.to_be_bytes(), bytes, "{n}");
+        assert_eq!(Int24::from_be_bytes(bytes), new);
     }
-    assert_eq!(
-        (
-            Uint24::MIN.to_u32(),
-            Uint24::MAX.to_u32(),
-            Uint24::default()
-        ),
-        (0, max, Uint24::MIN)
-    );
-    assert_eq!(
-        (Int24::MIN, Int24::MAX),
-        (Int24::new(i32::MIN), Int24::new(i32::MAX))
-    );
+    assert_eq!([Int24::MIN, Int24::MAX], [min, max].map(Int24::new));
     assert!(Int24::default() == Int24::new(0) && Int24::new(-1) < Int24::default());
-    assert_eq!(
-        format!(
-            "{:>4}{:02}{:+}",
-            Uint24::new(7),
-            Uint24::new(7),
-            Int24::new(7)
-        ),
-        "   707+7"
-    );
-    let error = Uint24::try_from(1usize << 24).unwrap_err();
-    assert_eq!(
-        format!("{error} {error:?}"),
-        "failed to convert usize value into Uint24. TryFromUint24Error"
-    );
+    assert_eq!(format!("{:+}", Int24::new(7)), "+7");
 }
 
 #[test]
-fn fields_are_ordered_by_value() {
+fn order_and_equality_of_fields() {
     let field = BigEndian::<i16>::from;
     assert!(field(-1) < field(0) && field(0xFF) < field(0x100) && field(2) == field(2));
     assert!(field(-1) == -1 && field(-1) != 255 && field(-1) != field(0x00FF) && field(0x100) != 0);
-    assert_ne!(
-        hash_of(BigEndian::<u16>::from(0x100)),
-        hash_of(BigEndian::<u16>::from(0x200))
-    );
+    let found = hash_of(BigEndian::<u16>::from(0x100));
+    assert_ne!(found, hash_of(BigEndian::<u16>::from(0x200)));
     assert_ne!(BigEndian::<i64>::from(1), BigEndian::from(2));
-    assert_ne!(
-        BigEndian::<u32>::from(0x1234_5678),
-        BigEndian::from(0x1234_5679)
-    );
+    let found = BigEndian::<u32>::from(0x1234_5678);
+    assert_ne!(found, BigEndian::from(0x1234_5679));
     assert_eq!(field(256).cmp(&field(1)), std::cmp::Ordering::Greater);
     assert_eq!(BigEndian::<NameId>::default().get(), NameId::new(0xFFFF));
-    assert_eq!(
-        format!("{} {:?}", field(-2), BigEndian::from(Tag::new(b"cvt "))),
-        "-2 Tag(cvt )"
-    );
+    let found = format!("{} {:?}", field(-2), BigEndian::from(Tag::new(b"cvt ")));
+    assert_eq!(found, "-2 Tag(cvt )");
     assert_eq!(HashSet::from([field(1), field(1), field(256)]).len(), 2);
 }
 
@@ -195,73 +147,42 @@ fn fields_are_ordered_by_value() {
 fn arrays() {
     let bytes = [0, 1, 0, 4, 0, 9, 0, 16];
     let array = ScalarArray::<u16>::new(&bytes).unwrap();
-    assert_eq!(
-        (array.len(), array.is_empty(), array.as_bytes()),
-        (4, false, &bytes[..])
-    );
-    assert_eq!(
-        (array.first(), array.last(), array.get(2), array.get(4)),
-        (Some(1), Some(16), Some(9), None)
-    );
+    assert_eq!((array.len(), array.is_empty()), (4, false));
+    assert_eq!(array.as_bytes(), bytes);
+    let found = (array.first(), array.last(), array.get(2), array.get(4));
+    assert_eq!(found, (Some(1), Some(16), Some(9), None));
     let none = ScalarArray::<u16>::new(&[]).unwrap();
-    assert_eq!(
-        (none.len(), none.is_empty(), none.first(), none.last()),
-        (0, true, None, None)
-    );
-    assert_eq!(
-        (
-            none.iter().next(),
-            none.iter().next_back(),
-            none.binary_search(&1)
-        ),
-        (None, None, Err(0))
-    );
+    let found = (none.len(), none.is_empty(), none.first(), none.last());
+    assert_eq!(found, (0, true, None, None));
+    let [first, last] = [none.iter().next(), none.iter().next_back()];
+    assert_eq!((first, last, none.binary_search(&1)), (None, None, Err(0)));
     assert!(ScalarArray::<u16>::new(&bytes[1..]).is_none());
     let mut ends = array.iter();
     assert_eq!((ends.size_hint(), ends.len()), ((4, Some(4)), 4));
     assert_eq!((ends.next(), ends.next_back()), (Some(1), Some(16)));
-    assert_eq!(
-        (ends.as_array().as_bytes(), ends.clone().count()),
-        (&bytes[2..6], 2)
-    );
-    assert_eq!(
-        (ends.next_back(), ends.next(), ends.next(), ends.next_back()),
-        (Some(9), Some(4), None, None)
-    );
+    let found = (ends.as_array().as_bytes(), ends.clone().count());
+    assert_eq!(found, (&bytes[2..6], 2));
+    let found = (ends.next_back(), ends.next(), ends.next(), ends.next_back());
+    assert_eq!(found, (Some(9), Some(4), None, None));
     assert!((&array).into_iter().eq([1, 4, 9, 16]) && array.into_iter().rev().eq([16, 9, 4, 1]));
-    assert_eq!(
-        format!("{array:?} {:?}", array.iter()),
-        "[1, 4, 9, 16] [1, 4, 9, 16]"
-    );
-    for (key, found) in [
-        (0, Err(0)),
-        (1, Ok(0)),
-        (5, Err(2)),
-        (9, Ok(2)),
-        (16, Ok(3)),
-        (17, Err(4)),
-    ] {
-        assert_eq!(array.binary_search(&key), found, "{key}");
-        assert_eq!(
-            array.binary_search_by_key(&(2 * key), |n| 2 * n),
-            found,
-            "{key}"
-        );
+    let found = format!("{array:?} {:?}", array.iter());
+    assert_eq!(found, "[1, 4, 9, 16] [1, 4, 9, 16]");
+    for key in [0, 1, 5, 9, 16, 17] {
+        let right = [1, 4, 9, 16].binary_search(&key);
+        assert_eq!(array.binary_search(&key), right, "{key}");
+        let found = array.binary_search_by_key(&(2 * key), |n| 2 * n);
+        assert_eq!(found, right, "{key}");
     }
 }
 
 #[test]
-fn a_long_array() {
+fn long_array() {
     let bytes: Vec<u8> = (0..70_000u32).flat_map(u32::to_be_bytes).collect();
     let array = ScalarArray::<u32>::new(&bytes).unwrap();
-    assert_eq!(
-        (array.len(), array.iter().len(), array.as_bytes().len()),
-        (70_000, 70_000, 280_000)
-    );
-    assert_eq!(
-        (array.get(66_000), array.iter().next_back()),
-        (Some(66_000), Some(69_999))
-    );
+    let found = (array.len(), array.iter().len(), array.as_bytes().len());
+    assert_eq!(found, (70_000, 70_000, 280_000));
+    let found = (array.get(66_000), array.iter().next_back());
+    assert_eq!(found, (Some(66_000), Some(69_999)));
     for n in (0..70_000).step_by(4321) {
         assert_eq!(array.binary_search(&n), Ok(n as usize));
     }
@@ -269,7 +190,7 @@ fn a_long_array() {
     assert_eq!(array.values().map(u64::from).sum::<u64>(), 69_999 * 35_000);
 }
 
-/// A scalar of no bytes: only an empty array has such elements.
+/// A scalar of zero bytes; only an empty array has such elements.
 #[derive(Clone, Copy, PartialEq, Debug)]
 struct Empty;
 
@@ -290,21 +211,17 @@ impl Scalar for Empty {
 }
 
 #[test]
-fn a_scalar_of_no_bytes() {
+fn zero_byte_scalar() {
     assert!(ScalarArray::<Empty>::new(&[1]).is_none());
     let array = ScalarArray::<Empty>::new(&[]).unwrap();
-    assert_eq!(
-        (array.len(), array.get(0), array.iter().next()),
-        (0, None, None)
-    );
-    assert_eq!(
-        (array.values().len(), array.values().next_back()),
-        (0, None)
-    );
+    let found = (array.len(), array.get(0), array.iter().next());
+    assert_eq!(found, (0, None, None));
+    let found = (array.values().len(), array.values().next_back());
+    assert_eq!(found, (0, None));
     assert_eq!(Empty::read(&[]), Some(Empty));
 }
 
-/// Raw bytes of a caller's own.
+/// Raw bytes of a caller's scalar.
 #[derive(Clone, Copy)]
 struct Five([u8; 5]);
 
@@ -320,7 +237,7 @@ impl BeByteArray for Five {
     }
 }
 
-/// A scalar of these bytes.
+/// A caller's scalar.
 #[derive(Clone, Copy, PartialEq, Debug)]
 struct Record([u8; 5]);
 
@@ -341,16 +258,13 @@ impl Scalar for Record {
 }
 
 #[test]
-fn raw_bytes_of_a_caller() {
-    stored(Record(*b"abcde"), b"abcde");
+fn caller_defined_raw_bytes() {
+    assert_stored(Record(*b"abcde"), b"abcde");
     for n in 0..5 {
         let mut other = *b"abcde";
         other[n] = 0;
-        assert_ne!(
-            BigEndian::from(Record(*b"abcde")),
-            BigEndian::from(Record(other)),
-            "{n}"
-        );
+        let found = BigEndian::from(Record(*b"abcde"));
+        assert_ne!(found, BigEndian::from(Record(other)), "{n}");
     }
 }
 
@@ -359,18 +273,12 @@ fn headers() {
     let bytes = [0, 1, 0, 0, 0, 2, 7, 8];
     let table = TableDataRef::<SampleHeader>::new(&bytes).unwrap();
     let header = table.header();
-    assert_eq!(
-        (header.a.get(), header.b.get(), table.data()),
-        (1, 2, &bytes[..])
-    );
-    assert_eq!(
-        (table.rest(), table.split().1, table.split().0.b.get()),
-        (&[7, 8][..], &[7, 8][..], 2)
-    );
+    assert_eq!((header.a.get(), header.b.get()), (1, 2));
+    assert_eq!(table.data(), bytes);
+    let (header, rest) = table.split();
+    assert_eq!((header.b.get(), rest, table.rest()), (2, &[7, 8][..], rest));
     assert!(TableDataRef::<SampleHeader>::new(&bytes[..5]).is_none());
     let exact = TableDataRef::<SampleHeader>::new(&bytes[..6]).unwrap();
-    assert_eq!(
-        format!("{exact:?} {:?}", exact.header()),
-        "TableDataRef([0, 1, 0, 0, 0, 2]) SampleHeader { a: 1, b: 2 }"
-    );
+    let right = "TableDataRef([0, 1, 0, 0, 0, 2]) SampleHeader { a: 1, b: 2 }";
+    assert_eq!(format!("{exact:?} {:?}", exact.header()), right);
 }

@@ -16,81 +16,46 @@ fn glyph_ids() {
         u32::MAX,
     ] {
         let wide = GlyphId::new(n);
-        assert_eq!(
-            (wide.to_u32(), u32::from(wide), GlyphId::from(n)),
-            (n, n, wide)
-        );
-        let (is_16, is_24) = (n <= 0xFFFF, n <= 0xFF_FFFF);
-        let narrow = GlyphId16::try_from(wide);
-        assert_eq!(
-            narrow.map_err(|error| error.value()),
-            if is_16 {
-                Ok(GlyphId16::new(n as u16))
-            } else {
-                Err(n)
-            }
-        );
-        let middle = GlyphId24::try_from(wide);
-        assert_eq!(
-            middle.map_err(|error| error.value()),
-            if is_24 { Ok(GlyphId24::new(n)) } else { Err(n) }
-        );
-        assert_eq!(
-            GlyphId24::checked_new(n),
-            is_24.then_some(GlyphId24::new(n)),
-            "{n}"
-        );
-        assert_eq!(GlyphId24::new(n).to_u32(), n.min(0xFF_FFFF));
-        if let Ok(id) = middle {
-            assert_eq!(
-                (u32::from(id), usize::from(id), GlyphId::from(id)),
-                (n, n as usize, wide)
-            );
-            assert_eq!(GlyphId24::from_be_bytes(id.to_be_bytes()), id);
-            assert_eq!(
-                format!("{id} {id:?}"),
-                format!("GID_{n} GlyphId24(Uint24({n}))")
-            );
-        }
-        if let Ok(id) = narrow {
-            let numbers = (
-                id.to_u16(),
-                id.to_u32(),
-                u32::from(id),
-                usize::from(id),
-                GlyphId::from(id),
-            );
-            assert_eq!(numbers, (n as u16, n, n, n as usize, wide));
-            assert_eq!(
-                (GlyphId16::from(n as u16), GlyphId::from(n as u16)),
-                (id, wide)
-            );
-            assert_eq!(
-                (id.to_be_bytes(), id.to_string()),
-                ((n as u16).to_be_bytes(), format!("GID_{n}"))
-            );
-        }
+        assert_eq!([wide.to_u32(), u32::from(wide)], [n; 2]);
+        assert_eq!(GlyphId::from(n), wide);
         assert_eq!(format!("{wide} {wide:?}"), format!("GID_{n} GlyphId({n})"));
+        let narrow = GlyphId16::try_from(wide).map_err(|error| error.value());
+        let short = u16::try_from(n);
+        assert_eq!(narrow, short.map(GlyphId16::new).or(Err(n)));
+        if let (Ok(id), Ok(short)) = (narrow, short) {
+            let found = [id.to_u16(), u16::from_be_bytes(id.to_be_bytes())];
+            assert_eq!(found, [short; 2]);
+            assert_eq!([id.to_u32(), u32::from(id)], [n; 2]);
+            let found = (usize::from(id), id.to_string());
+            assert_eq!(found, (n as usize, format!("GID_{n}")));
+            assert_eq!([GlyphId::from(id), GlyphId::from(short)], [wide; 2]);
+            assert_eq!(GlyphId16::from(short), id);
+        }
+        let (saturated, is_24) = (GlyphId24::new(n), n <= 0xFF_FFFF);
+        assert_eq!(saturated.to_u32(), n.min(0xFF_FFFF));
+        assert_eq!(GlyphId24::checked_new(n), is_24.then_some(saturated), "{n}");
+        let middle = GlyphId24::try_from(wide).map_err(|error| error.value());
+        assert_eq!(middle, is_24.then_some(saturated).ok_or(n));
+        if let Ok(id) = middle {
+            assert_eq!((u32::from(id), usize::from(id)), (n, n as usize));
+            assert_eq!(GlyphId::from(id), wide);
+            assert_eq!(GlyphId24::from_be_bytes(id.to_be_bytes()), id);
+            let found = format!("{id} {id:?}");
+            assert_eq!(found, format!("GID_{n} GlyphId24(Uint24({n}))"));
+        }
     }
     let error = GlyphId16::try_from(GlyphId::new(65536)).unwrap_err();
     let text = "glyph identifier 65536 too large for conversion TryFromGlyphIdError(65536)";
     assert_eq!(format!("{error} {error:?}"), text);
-    assert_eq!(
-        (GlyphId::NOTDEF, GlyphId::default()),
-        (GlyphId::new(0), GlyphId::NOTDEF)
-    );
-    assert_eq!(
-        (GlyphId16::NOTDEF, GlyphId16::default()),
-        (GlyphId16::new(0), GlyphId16::NOTDEF)
-    );
-    assert_eq!(
-        (GlyphId24::NOTDEF, GlyphId24::default()),
-        (GlyphId24::new(0), GlyphId24::NOTDEF)
-    );
+    assert_eq!([GlyphId::NOTDEF, GlyphId::default()], [GlyphId::new(0); 2]);
+    let found = [GlyphId16::NOTDEF, GlyphId16::default()];
+    assert_eq!(found, [GlyphId16::new(0); 2]);
+    let found = [GlyphId24::NOTDEF, GlyphId24::default()];
+    assert_eq!(found, [GlyphId24::new(0); 2]);
 }
 
 #[test]
-fn glyph_ids_across_widths() {
+fn glyph_ids_of_different_widths() {
     let rows: [(u32, u16, Ordering); 6] = [
         (6, 5, Greater),
         (5, 6, Less),
@@ -101,17 +66,11 @@ fn glyph_ids_across_widths() {
     ];
     for (wide, narrow, order) in rows {
         let (wide, narrow) = (GlyphId::new(wide), GlyphId16::new(narrow));
-        assert_eq!(wide.partial_cmp(&narrow), Some(order), "{wide} {narrow}");
-        assert_eq!(
-            narrow.partial_cmp(&wide),
-            Some(order.reverse()),
-            "{wide} {narrow}"
-        );
-        assert_eq!(
-            (wide == narrow, narrow == wide),
-            (order == Equal, order == Equal),
-            "{wide} {narrow}"
-        );
+        let found = (wide.partial_cmp(&narrow), narrow.partial_cmp(&wide));
+        let right = (Some(order), Some(order.reverse()));
+        assert_eq!(found, right, "{wide} {narrow}");
+        let found = [wide == narrow, narrow == wide];
+        assert_eq!(found, [order == Equal; 2], "{wide} {narrow}");
     }
 }
 
@@ -119,27 +78,18 @@ fn glyph_ids_across_widths() {
 fn font_units() {
     for n in [0, 1, -1, i16::MAX, i16::MIN] {
         let (x, y, word) = (FWord::new(n), UfWord::new(n as u16), n as u16);
-        assert_eq!((x.to_i16(), i16::from(x), FWord::from(n)), (n, n, x));
-        assert_eq!(
-            (y.to_u16(), u16::from(y), UfWord::from(word)),
-            (word, word, y)
-        );
-        assert_eq!(x.to_fixed().to_bits(), i32::from(n) << 16);
-        assert_eq!(y.to_fixed().to_bits(), i32::from(n) << 16);
-        assert_eq!(
-            (x.to_be_bytes(), y.to_be_bytes()),
-            (n.to_be_bytes(), n.to_be_bytes())
-        );
-        assert_eq!(
-            format!("{x} {y} {x:?} {y:?}"),
-            format!("{n} {word} FWord({n}) UfWord({word})")
-        );
+        assert_eq!((FWord::from(n), UfWord::from(word)), (x, y));
+        assert_eq!([x.to_i16(), x.into()], [n; 2]);
+        assert_eq!([y.to_u16(), y.into()], [word; 2]);
+        let found = [x.to_fixed(), y.to_fixed()];
+        assert_eq!(found, [Fixed::from_bits(i32::from(n) << 16); 2]);
+        assert_eq!([x.to_be_bytes(), y.to_be_bytes()], [n.to_be_bytes(); 2]);
+        let texts = format!("{n} {word} FWord({n}) UfWord({word})");
+        assert_eq!(format!("{x} {y} {x:?} {y:?}"), texts);
     }
     assert!(FWord::new(-1) < FWord::default() && UfWord::default() < UfWord::new(0xFFFF));
-    assert_eq!(
-        format!("{:+} {:>3}", FWord::new(5), UfWord::new(7)),
-        "+5   7"
-    );
+    let found = format!("{:+} {:>3}", FWord::new(5), UfWord::new(7));
+    assert_eq!(found, "+5   7");
 }
 
 /// The names of the predefined ids, 0 to 25 without 15.
@@ -151,21 +101,20 @@ const NAMES: &str = "COPYRIGHT_NOTICE FAMILY_NAME SUBFAMILY_NAME UNIQUE_ID FULL_
     VARIATIONS_POSTSCRIPT_NAME_PREFIX";
 
 #[test]
-fn name_ids() {
-    let ids: Vec<NameId> = NameId::predefined().collect();
-    let numbers: Vec<u16> = ids.iter().map(|id| id.to_u16()).collect();
-    assert_eq!(numbers, (0..26).filter(|n| *n != 15).collect::<Vec<u16>>());
-    let names: Vec<String> = ids.iter().map(NameId::to_string).collect();
-    assert_eq!(names, NAMES.split(' ').collect::<Vec<_>>());
+fn predefined_name_ids() {
+    let ids = NameId::predefined();
+    let expected = (0..26).filter(|n| *n != 15).map(NameId::new);
+    assert!(ids.clone().eq(expected), "{ids:?}");
+    assert!(ids.map(|id| id.to_string()).eq(NAMES.split(' ')));
     let mut left = NameId::predefined();
-    assert_eq!(
-        (left.size_hint(), left.nth(15)),
-        ((25, Some(25)), Some(NameId::new(16)))
-    );
-    assert_eq!(
-        (left.size_hint(), left.len(), left.last()),
-        ((9, Some(9)), 9, Some(NameId::new(25)))
-    );
+    assert_eq!(left.size_hint(), (25, Some(25)));
+    assert_eq!(left.nth(15), Some(NameId::new(16)));
+    assert_eq!((left.size_hint(), left.len()), ((9, Some(9)), 9));
+    assert_eq!(left.last(), Some(NameId::new(25)));
+}
+
+#[test]
+fn name_ids() {
     for (n, more, sum) in [
         (1, 1, Some(2)),
         (32766, 1, Some(32767)),
@@ -175,11 +124,8 @@ fn name_ids() {
         (65535, 0, None),
         (65535, 2, None),
     ] {
-        assert_eq!(
-            NameId::new(n).checked_add(more),
-            sum.map(NameId::new),
-            "{n} {more}"
-        );
+        let found = NameId::new(n).checked_add(more);
+        assert_eq!(found, sum.map(NameId::new), "{n} {more}");
     }
     for (n, is_reserved) in [
         (0, true),
@@ -196,67 +142,63 @@ fn name_ids() {
         assert_eq!(id.to_be_bytes(), n.to_be_bytes());
     }
     assert_eq!(format!("{:?}", NameId::FULL_NAME), "FULL_NAME");
-    let ends = [
-        NameId::LAST_RESERVED_NAME_ID,
-        NameId::LAST_ALLOWED_NAME_ID,
-        NameId::default(),
-    ];
-    assert_eq!(ends.map(NameId::to_u16), [255, 32767, 65535]);
+    let ends = [NameId::LAST_RESERVED_NAME_ID, NameId::LAST_ALLOWED_NAME_ID];
+    assert_eq!(ends.map(NameId::to_u16), [255, 32767]);
+    assert_eq!(NameId::default().to_u16(), 65535);
 }
 
+/// Offsets of each width with the low bytes of a number, or the largest of 24 bits.
 #[test]
 fn offsets() {
+    let null = Nullable::<Offset32>::default();
     for n in [
         0, 7, 0xFFFF, 0x1_0000, 0x1_0007, 0xFF_FFFF, 0x100_0000, 0x100_0007,
     ] {
         let narrow = Offset16::new(n as u16);
         let middle = Offset24::new(Uint24::new(n));
         let wide = Offset32::new(n);
-        let numbers = [narrow.to_u32(), middle.to_u32(), wide.to_u32()];
-        assert_eq!(numbers, [n & 0xFFFF, n.min(0xFF_FFFF), n]);
-        let [x, y, z] = numbers;
-        assert_eq!(
-            [narrow.is_null(), middle.is_null(), wide.is_null()],
-            [x == 0, y == 0, z == 0]
-        );
-        let of_narrow = Nullable::<Offset16>::read(&narrow.to_raw()).unwrap();
-        let of_middle = Nullable::<Offset24>::read(&middle.to_raw()).unwrap();
-        let of_wide = Nullable::<Offset32>::read(&wide.to_raw()).unwrap();
-        let nulls = [of_narrow.is_null(), of_middle.is_null(), of_wide.is_null()];
-        assert_eq!(nulls, [x == 0, y == 0, z == 0], "{n:#X}");
-        assert_eq!(
-            (*of_narrow.offset(), *of_middle.offset(), *of_wide.offset()),
-            (narrow, middle, wide)
-        );
+        let numbers = [n & 0xFFFF, n.min(0xFF_FFFF), n];
+        assert_eq!([narrow.to_u32(), middle.to_u32(), wide.to_u32()], numbers);
+        let nullable_16 = Nullable::<Offset16>::read(&narrow.to_raw()).unwrap();
+        let nullable_24 = Nullable::<Offset24>::read(&middle.to_raw()).unwrap();
+        let nullable_32 = Nullable::<Offset32>::read(&wide.to_raw()).unwrap();
+        let found = (*nullable_16.offset(), *nullable_24.offset());
+        assert_eq!(found, (narrow, middle));
+        assert_eq!(*nullable_32.offset(), wide);
+        let nulls = numbers.map(|number| number == 0);
+        let found = [narrow.is_null(), middle.is_null(), wide.is_null()];
+        assert_eq!(found, nulls, "{n:#X}");
+        let found = [
+            nullable_16.is_null(),
+            nullable_24.is_null(),
+            nullable_32.is_null(),
+        ];
+        assert_eq!(found, nulls, "{n:#X}");
+        assert_eq!(nullable_32 == null, n == 0, "{n:#X}");
         for other in [0, 7, 8, 0xFFFF, 0x1_0000, 0x1_0007, 0x100_0007, u32::MAX] {
-            let right = [x == other, y == other, z == other];
-            assert_eq!(
-                [narrow == other, middle == other, wide == other],
-                right,
-                "{n:#X} {other:#X}"
-            );
-            let found = [of_narrow == other, of_middle == other, of_wide == other];
+            let right = numbers.map(|number| number == other);
+            let found = [narrow == other, middle == other, wide == other];
+            assert_eq!(found, right, "{n:#X} {other:#X}");
+            let found = [
+                nullable_16 == other,
+                nullable_24 == other,
+                nullable_32 == other,
+            ];
             assert_eq!(found, right, "{n:#X} {other:#X}");
         }
+        assert_eq!(narrow.cmp(&Offset16::new(7)), numbers[0].cmp(&7));
+        let found = middle.cmp(&Offset24::new(Uint24::new(7)));
+        assert_eq!(found, numbers[1].cmp(&7));
         assert_eq!(wide.cmp(&Offset32::new(0x1_0000)), n.cmp(&0x1_0000));
-        assert_eq!(narrow.cmp(&Offset16::new(7)), x.cmp(&7));
-        assert_eq!(middle.cmp(&Offset24::new(Uint24::new(7))), y.cmp(&7));
     }
     assert!(Nullable::<Offset16>::default().is_null() && Nullable::<Offset24>::default().is_null());
-    assert_ne!(
-        Nullable::<Offset32>::default(),
-        Nullable::read(&[0, 1, 0, 0]).unwrap()
-    );
-    let texts = format!(
-        "{:?} {:?}",
-        Offset24::new(Uint24::new(5)),
-        Nullable::<Offset16>::default()
-    );
-    assert_eq!(texts, "Offset24(Uint24(5)) Nullable(Offset16(0))");
+    let found = format!("{:?}", Offset24::new(Uint24::new(5)));
+    assert_eq!(found, "Offset24(Uint24(5))");
+    assert_eq!(format!("{null:?}"), "Nullable(Offset32(0))");
 }
 
 #[test]
-fn versions() {
+fn version16dot16() {
     for (major, minor, number, text) in [
         (0, 5, 0x0000_5000u32, "0.5"),
         (2, 5, 0x0002_5000, "2.5"),
@@ -265,22 +207,49 @@ fn versions() {
         (65535, 65535, 0xFFFF_9000, "65535.9"),
     ] {
         let version = Version16Dot16::new(major, minor);
-        assert_eq!(
-            version.to_be_bytes(),
-            number.to_be_bytes(),
-            "{major} {minor}"
-        );
+        let found = version.to_be_bytes();
+        assert_eq!(found, number.to_be_bytes(), "{major} {minor}");
         assert_eq!(version.to_major_minor(), (major, minor.min(9)));
-        assert_eq!(
-            format!("{version} {version:?}"),
-            format!("{text} Version16Dot16({number:08x})")
-        );
+        let debug = format!("Version16Dot16({number:08x})");
+        assert_eq!(format!("{version} {version:?}"), format!("{text} {debug}"));
     }
     let other = Version16Dot16::from_raw([0, 1, 0xF0, 7]);
-    assert_eq!(
-        (other.to_major_minor(), other.to_string()),
-        ((1, 15), "1.15".into())
-    );
+    let found = (other.to_major_minor(), &*other.to_string());
+    assert_eq!(found, ((1, 15), "1.15"));
+    let named = [
+        Version16Dot16::VERSION_0_5,
+        Version16Dot16::VERSION_1_0,
+        Version16Dot16::VERSION_1_1,
+        Version16Dot16::VERSION_2_0,
+        Version16Dot16::VERSION_2_5,
+        Version16Dot16::VERSION_3_0,
+    ];
+    let numbers = named.map(|version| u32::from_be_bytes(version.to_be_bytes()));
+    let right = [0x5000, 0x1_0000, 0x1_1000, 0x2_0000, 0x2_5000, 0x3_0000];
+    assert_eq!(numbers, right);
+    assert!(named.is_sorted());
+}
+
+#[test]
+fn major_minor() {
+    let pair = MajorMinor::new(1, 10);
+    let found = (pair.major, pair.minor, pair.to_be_bytes());
+    assert_eq!(found, (1, 10, [0, 1, 0, 10]));
+    let found = format!("{pair} {pair:?}");
+    assert_eq!(found, "1.10 MajorMinor { major: 1, minor: 10 }");
+    let named = [
+        MajorMinor::VERSION_1_0,
+        MajorMinor::VERSION_1_1,
+        MajorMinor::VERSION_1_2,
+        MajorMinor::VERSION_1_3,
+        MajorMinor::VERSION_2_0,
+    ];
+    let numbers = named.map(|version| (version.major, version.minor));
+    assert_eq!(numbers, [(1, 0), (1, 1), (1, 2), (1, 3), (2, 0)]);
+}
+
+#[test]
+fn compatible_versions() {
     for (version, other, is_compatible) in [
         ((2, 5), (2, 0), true),
         ((2, 5), (2, 5), true),
@@ -297,66 +266,23 @@ fn versions() {
             pair.compatible(other),
         ];
         assert_eq!(found, [is_compatible; 4], "{version:?} {other:?}");
-        assert_eq!(
-            pair.cmp(&MajorMinor::from_raw([0, 2, 0, 5])),
-            version.cmp(&(2, 5))
-        );
-        assert_eq!((pair.major, pair.minor), version);
+        assert_eq!(pair.cmp(&MajorMinor::new(2, 5)), version.cmp(&(2, 5)));
     }
     // A minor number above 9 counts as 9 in the packed form, and not in a pair.
     let packed = Version16Dot16::new(1, 9);
     assert!(packed.compatible((1, 10)) && packed.compatible((1, 65535)));
-    assert!(
-        MajorMinor::new(1, 12).compatible((1, 11)) && !MajorMinor::new(1, 9).compatible((1, 10))
-    );
-    assert!(
-        200u16.compatible(3)
-            && 3u16.compatible(3)
-            && !3u16.compatible(200)
-            && !200u16.compatible(0x8000)
-    );
-    assert_eq!(MajorMinor::new(1, 2).to_be_bytes(), [0, 1, 0, 2]);
-    assert_eq!(
-        format!("{} {0:?}", MajorMinor::new(1, 10)),
-        "1.10 MajorMinor { major: 1, minor: 10 }"
-    );
-    let named = [
-        MajorMinor::VERSION_1_0,
-        MajorMinor::VERSION_1_1,
-        MajorMinor::VERSION_1_2,
-    ];
-    assert_eq!(
-        named.map(|version| (version.major, version.minor)),
-        [(1, 0), (1, 1), (1, 2)]
-    );
-    assert_eq!(
-        (MajorMinor::VERSION_1_3, MajorMinor::VERSION_2_0),
-        (MajorMinor::new(1, 3), MajorMinor::new(2, 0))
-    );
-    let packed = [
-        Version16Dot16::VERSION_0_5,
-        Version16Dot16::VERSION_1_0,
-        Version16Dot16::VERSION_1_1,
-        Version16Dot16::VERSION_2_0,
-        Version16Dot16::VERSION_2_5,
-        Version16Dot16::VERSION_3_0,
-    ];
-    let numbers = packed.map(|version| u32::from_be_bytes(version.to_be_bytes()));
-    assert_eq!(
-        numbers,
-        [0x5000, 0x1_0000, 0x1_1000, 0x2_0000, 0x2_5000, 0x3_0000]
-    );
-    assert!(packed.is_sorted());
+    let [nine, twelve] = [9, 12].map(|minor| MajorMinor::new(1, minor));
+    assert!(twelve.compatible((1, 11)) && !nine.compatible((1, 10)));
+    assert!(200u16.compatible(3) && 3u16.compatible(3));
+    assert!(!3u16.compatible(200) && !200u16.compatible(0x8000));
 }
 
 #[test]
 fn dates() {
     for secs in [0, 1, -1, i64::MAX, i64::MIN] {
         let date = LongDateTime::new(secs);
-        assert_eq!(
-            (date.as_secs(), date.to_be_bytes()),
-            (secs, secs.to_be_bytes())
-        );
+        let found = (date.as_secs(), date.to_be_bytes());
+        assert_eq!(found, (secs, secs.to_be_bytes()));
         assert_eq!(date.cmp(&LongDateTime::default()), secs.cmp(&0));
         assert_eq!(format!("{date:?}"), format!("LongDateTime({secs})"));
     }

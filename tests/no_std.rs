@@ -1,5 +1,5 @@
-//! Code with no `std`, which has the names of `font-types`: constants made by calls, a `match` on a
-//! tag, and what the examples read of a font. That it compiles shows that it needs no `std`.
+//! Code without `std`, under the name of `font-types`: constants, a `match` on a tag, and the
+//! examples' reader of fonts. That it compiles shows that it needs no `std`.
 #![no_std]
 
 use font_types::*;
@@ -14,7 +14,7 @@ const WIDTH: Tag = Tag::from_be_bytes(*b"wdth");
 const HALF: Fixed = Fixed::from_bits(0x8000);
 const DIFFERENCE: Fixed = Fixed::from_i32(3).wrapping_sub(HALF);
 const BITS: i32 = DIFFERENCE.round().abs().to_bits();
-const WHOLE: i32 = HALF.saturating_add(HALF).floor().to_i32();
+const INTEGER: i32 = HALF.saturating_add(HALF).floor().to_i32();
 const SHIFT: Matrix<Fixed> = Matrix::from_elements(Matrix::<Fixed>::identity().elements());
 const ORIGIN: Point<Fixed> = Point::broadcast(Fixed::ZERO);
 
@@ -27,15 +27,14 @@ fn constants() {
     };
     assert_eq!((name(Tag::new(b"wght")), name(WIDTH)), ("weight", "width"));
     assert_eq!(name(Tag::default()), "other");
-    assert_eq!((BITS, WHOLE), (0x3_0000, 1));
+    assert_eq!((BITS, INTEGER), (0x3_0000, 1));
     assert_eq!(SHIFT * ORIGIN, ORIGIN);
     const { assert!(F2Dot14::from_bits(-1).fract().to_bits() == 0x3FFF) };
 }
 
-// A constant of a type can be a pattern, and each of its functions that is `const` in `font-types`
-// can make one.
-macro_rules! of_fixed_point_types {
-    ($($name:ident $Type:ident $bits:ident $f:literal;)*) => {$(
+// Constants of a type are patterns, and each function that is `const` in `font-types` is `const`.
+macro_rules! fixed_point_types {
+    ($($Type:ident)*) => {$(
         const _: () = {
             let x = $Type::from_bits(3).wrapping_add($Type::ONE).wrapping_sub($Type::ONE);
             let same = x.saturating_add($Type::ZERO).saturating_sub($Type::ZERO).abs();
@@ -45,7 +44,7 @@ macro_rules! of_fixed_point_types {
     )*};
 }
 
-include!("../tools/src/types.in");
+fixed_point_types! { F2Dot14 F4Dot12 F6Dot10 Fixed F26Dot6 F48Dot16 F2Dot30 }
 
 const _: () = {
     let one = Fixed::ONE.mul_div(Fixed::ONE, Fixed::ONE);
@@ -94,13 +93,14 @@ const _: () = {
 
 const CVT: Tag = Tag::new(b"cvt ");
 
-/// This file links whatever the library links; that it links no `std` is at its head.
+// This file links what the library links, so that the library's attribute is read.
 #[test]
-fn the_library_has_no_std() {
-    for root in [
+fn library_is_no_std() {
+    let roots = [
         include_str!("../src/lib.rs"),
         include_str!("../c/src/lib.rs"),
-    ] {
+    ];
+    for root in roots {
         assert!(root.lines().any(|line| line == "#![no_std]"));
         assert!(!root.contains("extern crate"));
     }

@@ -1,4 +1,4 @@
-//! The program as Cargo builds it: the stored lines, and reads, writes and memory that are refused.
+//! The program as Cargo builds it: the stored lines, I/O errors, and out of memory.
 
 use std::fs::{self, File};
 use std::path::Path;
@@ -14,7 +14,7 @@ fn runner() -> Option<String> {
     std::env::vars().find_map(|(name, runner)| is_runner(&name).then_some(runner))
 }
 
-/// The program over these streams.
+/// Runs the program over these streams.
 fn fontval(input: impl Into<Stdio>, output: impl Into<Stdio>) -> Output {
     let program = env!("CARGO_BIN_EXE_fontval");
     let mut command = Command::new(runner().as_deref().unwrap_or(program));
@@ -24,8 +24,8 @@ fn fontval(input: impl Into<Stdio>, output: impl Into<Stdio>) -> Output {
 }
 
 #[track_caller]
-fn refuses(run: &Output, complaint: &str) {
-    assert_eq!(String::from_utf8_lossy(&run.stderr), complaint);
+fn assert_fails(run: &Output, message: &str) {
+    assert_eq!(String::from_utf8_lossy(&run.stderr), message);
     assert_eq!(run.status.code(), Some(1));
 }
 
@@ -42,12 +42,12 @@ fn stored_lines() {
 }
 
 #[test]
-fn no_lines() {
+fn empty_input() {
     let run = fontval(Stdio::null(), Stdio::piped());
     assert!(run.status.success() && run.stdout.is_empty() && run.stderr.is_empty());
 }
 
-// More than a buffer of 16 MiB holds.
+// More than fit in a buffer of 16 MiB.
 #[test]
 #[cfg_attr(debug_assertions, ignore = "half a minute without optimization")]
 fn many_empty_lines() {
@@ -63,34 +63,34 @@ fn many_empty_lines() {
 
 #[test]
 #[cfg(unix)]
-fn refused_reads() {
+fn read_errors() {
     let folder = File::open(env!("CARGO_MANIFEST_DIR")).unwrap();
     let only_written = File::create("/dev/null").unwrap();
     for input in [folder, only_written] {
         let run = fontval(input, Stdio::piped());
-        refuses(&run, "fontval: read\n");
+        assert_fails(&run, "fontval: read\n");
         assert!(run.stdout.is_empty());
     }
 }
 
 #[test]
 #[cfg(unix)]
-fn refused_writes() {
+fn write_errors() {
     let lines = || File::open(LINES).unwrap();
     let only_read = File::open("/dev/null").unwrap();
-    refuses(&fontval(lines(), only_read), "fontval: write\n");
-    // Its reader has gone away.
+    assert_fails(&fontval(lines(), only_read), "fontval: write\n");
+    // The reader has closed its end.
     let (here, there) = std::os::unix::net::UnixStream::pair().unwrap();
     drop(there);
     let gone: std::os::fd::OwnedFd = here.into();
-    refuses(&fontval(lines(), gone), "fontval: write\n");
+    assert_fails(&fontval(lines(), gone), "fontval: write\n");
     if Path::new("/dev/full").exists() {
         let full = File::create("/dev/full").unwrap();
-        refuses(&fontval(lines(), full), "fontval: write\n");
+        assert_fails(&fontval(lines(), full), "fontval: write\n");
     }
 }
 
-/// Runs the program in a shell that has set a limit, unless a runner is needed, which the limit
+/// Runs the program in a shell that has set a limit, unless Cargo has a runner, which the limit
 /// would break.
 #[cfg(unix)]
 fn limited(script: &str) -> Option<Output> {
@@ -100,40 +100,40 @@ fn limited(script: &str) -> Option<Output> {
     is_native.then(|| shell.output().unwrap())
 }
 
-// A file takes all of the answers but the last bytes, fewer than 512.
+// A file takes all of the answers except the last bytes, fewer than 512.
 #[test]
 #[cfg(target_os = "linux")]
-fn file_with_a_limit() {
+fn file_size_limit() {
     let answers = fs::read(ANSWERS).unwrap();
     let blocks = (answers.len() - 1) / 512;
     let file = std::env::temp_dir().join(format!("fontval-{}", std::process::id()));
     let file_name = file.display();
     let script = format!("trap '' XFSZ; ulimit -f {blocks}; \"$0\" <\"$1\" >'{file_name}'");
     if let Some(run) = limited(&script) {
-        refuses(&run, "fontval: write\n");
+        assert_fails(&run, "fontval: write\n");
         assert_eq!(fs::read(&file).unwrap(), answers[..512 * blocks]);
         fs::remove_file(file).unwrap();
     }
 }
 
-// There is no descriptor left for a file over standard output.
+// No descriptor is left for a file over standard output.
 #[test]
 #[cfg(target_os = "linux")]
-fn refused_descriptors() {
+fn no_descriptor_left() {
     if let Some(run) = limited("exec <\"$1\" 3<&-; ulimit -n 4; exec \"$0\"") {
-        refuses(&run, "fontval: write\n");
+        assert_fails(&run, "fontval: write\n");
         assert!(run.stdout.is_empty());
     }
 }
 
-// There is no room for the input, or for the answers, which are eight times as long.
+// The input does not fit in memory, or the answers do not, which are eight times as long.
 #[test]
 #[cfg(target_os = "linux")]
-fn refused_memory() {
+fn out_of_memory() {
     for input in ["head -c 20000000 /dev/zero", "yes '' | head -c 1200000"] {
         let script = format!("ulimit -v 16000; {input} | \"$0\"");
         if let Some(run) = limited(&script) {
-            refuses(&run, "fontval: memory\n");
+            assert_fails(&run, "fontval: memory\n");
             assert!(run.stdout.is_empty());
         }
     }

@@ -1,4 +1,4 @@
-//! What the program uses in place of Rattle's std: what its source relies on, and what fails.
+//! The program's replacement of Rattle's std: results that its source relies on, and errors.
 #![allow(dead_code)]
 
 #[path = "../src/bin/fontval/host/mod.rs"]
@@ -11,7 +11,7 @@ use std::alloc::{GlobalAlloc, Layout, System};
 // ---- hexadecimal digits
 
 #[test]
-fn encoded_bytes() {
+fn hex_encoding() {
     for byte in 0..=u8::MAX {
         let mut digits = [0; 2];
         hex::encode_to_slice(&[byte], &mut digits).unwrap();
@@ -29,7 +29,7 @@ fn encoded_bytes() {
 
 // All pairs of bytes: only hexadecimal digits are accepted, in either case.
 #[test]
-fn decoded_digits() {
+fn hex_decoding() {
     let value = |digit: u8| char::from(digit).to_digit(16).map(|value| value as u8);
     for high in 0..=u8::MAX {
         for low in 0..=u8::MAX {
@@ -51,14 +51,14 @@ fn decoded_digits() {
 
 // ---- memory
 
-/// An allocator that fails if a megabyte is exceeded at once.
-struct Refusing;
+/// An allocator that fails if more than a megabyte is requested.
+struct Limited;
 
 #[global_allocator]
-static ALLOCATOR: Refusing = Refusing;
+static ALLOCATOR: Limited = Limited;
 
 // SAFETY: it calls the system's allocator, or returns null.
-unsafe impl GlobalAlloc for Refusing {
+unsafe impl GlobalAlloc for Limited {
     unsafe fn alloc(&self, layout: Layout) -> *mut u8 {
         if layout.size() > 1 << 20 {
             return std::ptr::null_mut();
@@ -72,7 +72,7 @@ unsafe impl GlobalAlloc for Refusing {
 }
 
 /// Returns how many calls succeed before one fails.
-fn until_refused<E>(mut done: impl FnMut() -> Result<(), E>) -> usize {
+fn count_until_error<E>(mut done: impl FnMut() -> Result<(), E>) -> usize {
     let mut count = 0;
     while done().is_ok() {
         count += 1;
@@ -81,39 +81,39 @@ fn until_refused<E>(mut done: impl FnMut() -> Result<(), E>) -> usize {
     count
 }
 
-// A failure is returned, and the contents stay as they were.
+// An error leaves the contents unchanged.
 #[test]
-fn refused_vectors() {
+fn vector_allocation_errors() {
     assert!(Vec::<u64, _>::with_capacity(Global, usize::MAX).is_err());
     assert!(Vec::<u64, _>::with_capacity(Global, 1 << 17).is_ok());
     assert!(Vec::<u64, _>::with_capacity(Global, (1 << 17) + 1).is_err());
     let mut vec = Vec::new(Global);
-    let pushed = until_refused(|| vec.push(7u64));
+    let pushed = count_until_error(|| vec.push(7u64));
     assert_eq!(*vec, std::vec![7; pushed]);
     assert_eq!(pushed, 1 << 17);
     let mut vec = Vec::new(Global);
-    let pushed = until_refused(|| vec.extend_from_slice(&[1u8, 2, 3]));
+    let pushed = count_until_error(|| vec.extend_from_slice(&[1u8, 2, 3]));
     assert_eq!(*vec, [1, 2, 3].repeat(pushed));
     assert!(pushed > 1 << 17);
 }
 
 #[test]
-fn refused_strings() {
+fn string_allocation_errors() {
     let mut text = String::new(Global);
-    let pushed = until_refused(|| text.push_str("a ä"));
+    let pushed = count_until_error(|| text.push_str("a ä"));
     assert_eq!(*text, "a ä".repeat(pushed));
     assert!(pushed > 1 << 17);
     let mut text = String::new(Global);
-    let written = until_refused(|| write!(text, "{:?}", (5, "b")));
+    let written = count_until_error(|| write!(text, "{:?}", (5, "b")));
     assert!(text.starts_with("(5, \"b\")(5, \"b\")") && written > 1 << 16);
     let mut text = String::new(Global);
-    let written = until_refused(|| (&mut text as &mut dyn std::fmt::Write).write_str("ab"));
+    let written = count_until_error(|| (&mut text as &mut dyn std::fmt::Write).write_str("ab"));
     assert_eq!(text.len(), 2 * written);
 }
 
 // ---- streams
 
-// Without a file, each call fails.
+// Without a descriptor, each call fails.
 #[test]
 #[cfg(unix)]
 fn missing_streams() {

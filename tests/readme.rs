@@ -1,4 +1,4 @@
-//! The example of README.md, run.
+//! Runs the example of README.md.
 
 use font_types::{BigEndian, FWord, Fixed, MajorMinor, Matrix, Point, Scalar, Uint24, delta_sum};
 use font_types_proved as font_types;
@@ -25,7 +25,7 @@ fn example() -> Result<(), Box<dyn std::error::Error>> {
 }
 
 #[test]
-fn the_page_has_the_example() {
+fn readme_shows_the_example() {
     let squeezed = |text: &str| text.split_whitespace().collect::<String>();
     let source = squeezed(include_str!("readme.rs")).replace(",]", "]");
     let [start, end] = ["letversion", "lettext"].map(|word| source.find(word).unwrap());

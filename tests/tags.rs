@@ -1,12 +1,12 @@
-//! Tags: both checks, at each place of a fault; text, order and comparisons.
+//! Tags: `new_checked` and `validate`, with an error at each index; text, order and comparisons.
 
 use font_types_proved::InvalidTag::{ByteAfterSpace, InvalidByte, InvalidLength};
 use font_types_proved::*;
 use std::collections::{BTreeMap, HashMap};
 
-/// Bytes that are no tag, and why.
-fn faults() -> Vec<(Vec<u8>, InvalidTag)> {
-    let mut faults = vec![
+/// Returns invalid bytes, and the error of `new_checked`.
+fn invalid() -> Vec<(Vec<u8>, InvalidTag)> {
+    let mut invalid = vec![
         (b"".to_vec(), InvalidLength(0)),
         (b"abcde".to_vec(), InvalidLength(5)),
         (b"abcdef".to_vec(), InvalidLength(6)),
@@ -17,34 +17,29 @@ fn faults() -> Vec<(Vec<u8>, InvalidTag)> {
             for pos in 0..len {
                 let mut bytes = b"abcd"[..len].to_vec();
                 bytes[pos] = byte;
-                faults.push((bytes, InvalidByte { pos, byte }));
+                invalid.push((bytes, InvalidByte { pos, byte }));
             }
         }
     }
-    for (bytes, fault) in [
-        // A tag may end with spaces, and not begin with one.
-        (" ", InvalidByte { pos: 0, byte: b' ' }),
-        ("    ", InvalidByte { pos: 0, byte: b' ' }),
-        (" abc", InvalidByte { pos: 0, byte: b' ' }),
-        ("a b", InvalidByte { pos: 2, byte: b'b' }),
-        ("a b ", InvalidByte { pos: 2, byte: b'b' }),
-        ("a  d", InvalidByte { pos: 3, byte: b'd' }),
-        ("ab d", InvalidByte { pos: 3, byte: b'd' }),
-        (
-            "a \n ",
-            InvalidByte {
-                pos: 2,
-                byte: b'\n',
-            },
-        ),
+    // A tag may end with spaces, but not begin with one.
+    for (bytes, pos) in [
+        (" ", 0),
+        ("    ", 0),
+        (" abc", 0),
+        ("a b", 2),
+        ("a b ", 2),
+        ("a  d", 3),
+        ("ab d", 3),
+        ("a \n ", 2),
     ] {
-        faults.push((bytes.into(), fault));
+        let byte = bytes.as_bytes()[pos];
+        invalid.push((bytes.into(), InvalidByte { pos, byte }));
     }
-    faults
+    invalid
 }
 
 #[test]
-fn checked() {
+fn new_checked_and_parse() {
     for (bytes, tag) in [
         ("a", b"a   "),
         ("ab", b"ab  "),
@@ -53,15 +48,12 @@ fn checked() {
         ("!~0 ", b"!~0 "),
         ("a   ", b"a   "),
     ] {
-        assert_eq!(
-            Tag::new_checked(bytes.as_bytes()),
-            Ok(Tag::new(tag)),
-            "{bytes}"
-        );
+        let found = Tag::new_checked(bytes.as_bytes());
+        assert_eq!(found, Ok(Tag::new(tag)), "{bytes}");
         assert_eq!(bytes.parse(), Ok(Tag::new(tag)), "{bytes}");
         assert_eq!(Tag::new(tag).validate(), Ok(()), "{bytes}");
     }
-    for (bytes, fault) in faults() {
+    for (bytes, fault) in invalid() {
         assert_eq!(Tag::new_checked(&bytes), Err(fault), "{bytes:?}");
         if let Ok(text) = str::from_utf8(&bytes) {
             assert_eq!(text.parse::<Tag>(), Err(fault), "{text:?}");
@@ -69,10 +61,10 @@ fn checked() {
     }
 }
 
-// `validate` names a printable byte after a space, and a tag of four spaces has length 0.
+// `validate` has an error for a printable byte after a space, and four spaces have length 0.
 #[test]
-fn validated() {
-    for (bytes, fault) in faults() {
+fn validate() {
+    for (bytes, fault) in invalid() {
         let Ok(bytes) = <[u8; 4]>::try_from(&bytes[..]) else {
             continue;
         };
@@ -89,7 +81,7 @@ fn validated() {
 }
 
 #[test]
-fn texts() {
+fn display_and_debug() {
     for (bytes, text) in [
         (*b"kern", "kern"),
         (*b"cvt ", "cvt "),
@@ -99,10 +91,8 @@ fn texts() {
     ] {
         let tag = Tag::new(&bytes);
         assert_eq!(format!("{tag} {tag:?}"), format!("{text} Tag({text})"));
-        assert_eq!(
-            (tag.to_be_bytes(), tag.into_bytes(), tag.as_bytes()),
-            (bytes, bytes, &bytes)
-        );
+        let found = (tag.to_be_bytes(), tag.into_bytes(), tag.as_bytes());
+        assert_eq!(found, (bytes, bytes, &bytes));
         assert_eq!(
             (
                 Tag::from_be_bytes(bytes),
@@ -124,20 +114,16 @@ fn texts() {
     ] {
         assert_eq!(fault.to_string(), text);
     }
-    assert_eq!(
-        format!("{:?}", ByteAfterSpace { pos: 2 }),
-        "ByteAfterSpace { pos: 2 }"
-    );
-    assert_eq!(
-        (Tag::default(), TTC_HEADER_TAG),
-        (Tag::new(b"    "), Tag::new(b"ttcf"))
-    );
+    let found = format!("{:?}", ByteAfterSpace { pos: 2 });
+    assert_eq!(found, "ByteAfterSpace { pos: 2 }");
+    let found = (Tag::default(), TTC_HEADER_TAG);
+    assert_eq!(found, (Tag::new(b"    "), Tag::new(b"ttcf")));
     let versions = [TT_SFNT_VERSION, TRUE_SFNT_VERSION, CFF_SFNT_VERSION].map(u32::to_be_bytes);
     assert_eq!(versions, [[0, 1, 0, 0], *b"true", *b"OTTO"]);
 }
 
 #[test]
-fn compared() {
+fn comparisons() {
     let kern = Tag::new(b"kern");
     for (text, is_equal) in [
         ("kern", true),
@@ -147,18 +133,12 @@ fn compared() {
         ("kern ", false),
         ("", false),
     ] {
-        assert_eq!(
-            (kern == *text, kern == text),
-            (is_equal, is_equal),
-            "{text}"
-        );
+        let found = (kern == *text, kern == text);
+        assert_eq!(found, (is_equal, is_equal), "{text}");
         assert_eq!(kern == text.as_bytes(), is_equal, "{text}");
         if let Ok(bytes) = <[u8; 4]>::try_from(text.as_bytes()) {
-            assert_eq!(
-                (kern == bytes, kern == Tag::new(&bytes)),
-                (is_equal, is_equal),
-                "{text}"
-            );
+            let found = (kern == bytes, kern == Tag::new(&bytes));
+            assert_eq!(found, (is_equal, is_equal), "{text}");
         }
     }
     assert!(Tag::new(b"cvt ") == "cvt " && Tag::new(b"cvt ") != "cvt" && Tag::default() != "");

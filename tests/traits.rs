@@ -1,5 +1,5 @@
-//! What `src/traits.rs` and `src/compared.rs` add to the proved source, case by case, beside the
-//! comparisons in `ids.rs` and `tags.rs` and `values` in `fields.rs`.
+//! The impls of `src/traits.rs` and `src/compared.rs`. Comparisons are in `ids.rs` and `tags.rs`, and
+//! `values` is in `fields.rs`.
 
 use font_types_proved::*;
 use std::collections::HashSet;
@@ -8,40 +8,29 @@ use std::fmt::Debug;
 use std::hash::Hash;
 use std::iter::FusedIterator;
 
-/// The texts and the hashes of values that all differ.
-fn distinct<T: Clone + Eq + Hash + Debug>(values: &[T], texts: &[&str]) {
+/// Asserts that the values have these texts, and that all of them and their hashes differ.
+fn assert_distinct<T: Clone + Eq + Hash + Debug>(values: &[T], texts: &[&str]) {
     let printed: Vec<String> = values.iter().map(|value| format!("{value:?}")).collect();
     assert_eq!(printed, texts);
     let set: HashSet<T> = values.iter().chain(values).cloned().collect();
     assert_eq!(set.len(), values.len(), "{values:?}");
     for (n, value) in values.iter().enumerate() {
-        assert_eq!(
-            values.iter().position(|other| other == value),
-            Some(n),
-            "{value:?}"
-        );
+        let found = values.iter().position(|other| other == value);
+        assert_eq!(found, Some(n), "{value:?}");
     }
 }
 
 #[test]
-fn text_and_padding() {
-    distinct(
-        &[Align::Left, Align::Center, Align::Right],
-        &["Left", "Center", "Right"],
-    );
-    let pad = Pad::new(3);
-    distinct(
-        &[
-            pad,
-            Pad::new(4),
-            Pad { fill: b'*', ..pad },
-            Pad {
-                align: Align::Left,
-                ..pad
-            },
-            Pad { plus: true, ..pad },
-            Pad { zeros: true, ..pad },
-        ],
+fn debug_and_hash_of_padding() {
+    let aligns = [Align::Left, Align::Center, Align::Right];
+    assert_distinct(&aligns, &["Left", "Center", "Right"]);
+    let [mut filled, mut left, mut plus, mut zeros] = [Pad::new(3); 4];
+    filled.fill = b'*';
+    left.align = Align::Left;
+    plus.plus = true;
+    zeros.zeros = true;
+    assert_distinct(
+        &[Pad::new(3), Pad::new(4), filled, left, plus, zeros],
         &[
             "Pad { width: 3, fill: 32, align: Right, plus: false, zeros: false }",
             "Pad { width: 4, fill: 32, align: Right, plus: false, zeros: false }",
@@ -51,24 +40,18 @@ fn text_and_padding() {
             "Pad { width: 3, fill: 32, align: Right, plus: false, zeros: true }",
         ],
     );
+}
+
+#[test]
+fn debug_and_hash_of_shortest() {
     let texts = [3, 96, 95].map(|bits| Shortest::new(bits, 6));
-    distinct(
-        &texts,
-        &[
-            "Shortest(\"0.05\")",
-            "Shortest(\"1.5\")",
-            "Shortest(\"1.48\")",
-        ],
-    );
-    assert_eq!(
-        (texts[0].as_ref() as &str, texts[1].to_string()),
-        ("0.05", "1.5".into())
-    );
-    // Texts are equal if their numbers differ in nothing but the type.
-    assert_eq!(
-        HashSet::from([Shortest::new(64, 6), Shortest::new(0x1_0000, 16)]).len(),
-        1
-    );
+    assert_eq!(texts[0].as_ref() as &str, "0.05");
+    assert_eq!(texts[1].to_string(), "1.5");
+    let debug = ["0.05", "1.5", "1.48"].map(|text| format!("Shortest({text:?})"));
+    assert_distinct(&texts, &debug.each_ref().map(|text| &**text));
+    // Equal texts are equal, whatever the type of their numbers.
+    let ones = [Shortest::new(64, 6), Shortest::new(0x1_0000, 16)];
+    assert_eq!(HashSet::from(ones).len(), 1);
 }
 
 #[test]
@@ -80,59 +63,38 @@ fn iterators() {
     let names = is_exact(NameId::predefined());
     assert!(names.starts_with("[COPYRIGHT_NOTICE, FAMILY_NAME, ") && names.ends_with("_PREFIX]"));
     let array = ScalarArray::<u16>::new(&[0, 1, 0, 4]).unwrap();
-    assert_eq!(
-        (is_exact(array.iter()), format!("{array:?}")),
-        ("[1, 4]".into(), "[1, 4]".into())
-    );
+    assert_eq!(is_exact(array.iter()), "[1, 4]");
+    assert_eq!(format!("{array:?}"), "[1, 4]");
     let mut ended = NameId::predefined();
-    assert_eq!(
-        (ended.nth(25), ended.next(), ended.next()),
-        (None, None, None)
-    );
+    let found = [ended.nth(25), ended.next(), ended.next()];
+    assert_eq!(found, [None; 3]);
 }
 
 #[test]
-fn errors_are_values() {
-    fn is_error<T: Error + Copy + Send + Sync + 'static>(error: T) -> String {
-        let boxed: Box<dyn Error> = Box::new(error);
-        boxed.to_string()
+fn errors() {
+    fn text<T: Error + Copy + Send + Sync + 'static>(error: T) -> String {
+        Box::<dyn Error>::from(error).to_string()
     }
-    let [one, other] =
-        [70_000, 70_001].map(|id| GlyphId16::try_from(GlyphId::new(id)).unwrap_err());
-    assert!(one == one && one != other);
-    assert_eq!(
-        is_error(one),
-        "glyph identifier 70000 too large for conversion"
-    );
-    let uint24 = Uint24::try_from(1usize << 24).unwrap_err();
-    assert_eq!(
-        is_error(uint24),
-        "failed to convert usize value into Uint24."
-    );
-    assert_eq!(is_error(DecimalFault::Syntax), "not a decimal number");
-    assert_eq!(is_error(DecimalFault::OutOfRange), "number out of range");
-    assert_eq!(is_error(InvalidTag::InvalidLength(9)), "Invalid length (9)");
-    assert_eq!(
-        (DecimalFault::Syntax as i32, DecimalFault::OutOfRange as i32),
-        (1, 2)
-    );
+    let error = |id| GlyphId16::try_from(GlyphId::new(id)).unwrap_err();
+    assert!(error(70_000) == error(70_000) && error(70_000) != error(70_001));
+    let found = text(error(70_000));
+    assert_eq!(found, "glyph identifier 70000 too large for conversion");
+    let found = text(Uint24::try_from(1usize << 24).unwrap_err());
+    assert_eq!(found, "failed to convert usize value into Uint24.");
+    assert_eq!(text(DecimalFault::Syntax), "not a decimal number");
+    assert_eq!(text(DecimalFault::OutOfRange), "number out of range");
+    assert_eq!(text(InvalidTag::InvalidLength(9)), "Invalid length (9)");
+    let found = [DecimalFault::Syntax, DecimalFault::OutOfRange];
+    assert_eq!(found.map(|fault| fault as i32), [1, 2]);
 }
 
 #[test]
-fn copies() {
+fn copy_send_and_sync() {
     fn is_copy<T: Copy + Send + Sync>(_: T) {}
+    let table = TableDataRef::<SampleHeader>::new(&[0; 6]).unwrap();
+    is_copy((table, table.header()));
     is_copy(ScalarArray::<Tag>::new(&[]).unwrap());
-    is_copy(TableDataRef::<SampleHeader>::new(&[0; 6]).unwrap());
-    is_copy(TableDataRef::<SampleHeader>::new(&[0; 6]).unwrap().header());
-    is_copy((
-        Nullable::<Offset24>::default(),
-        BigEndian::<i64>::from(0),
-        Matrix::<Fixed>::default(),
-    ));
-    is_copy((
-        Point::new(0i32, 0),
-        BoundingBox::<i16>::default(),
-        DeltaSum::new(),
-        Pad::new(0),
-    ));
+    is_copy((Nullable::<Offset24>::default(), BigEndian::<i64>::from(0)));
+    is_copy((Matrix::<Fixed>::default(), Point::new(0i32, 0)));
+    is_copy((BoundingBox::<i16>::default(), DeltaSum::new(), Pad::new(0)));
 }
