@@ -1,4 +1,4 @@
-//! The examples, over a font that is built here.
+//! The examples, over fonts built here.
 #![allow(clippy::duplicate_mod)]
 
 #[path = "../examples/dump.rs"]
@@ -10,12 +10,12 @@ use dump::dump;
 use font_types_proved::{F2Dot14, Fixed, GlyphId16, Tag, UfWord};
 use instance::{advance, axes, normalized};
 
-/// Numbers of 16 bits, big-endian.
+/// Returns the bytes of 16-bit integers, big-endian.
 fn words(words: &[u16]) -> Vec<u8> {
     words.iter().flat_map(|word| word.to_be_bytes()).collect()
 }
 
-/// Bytes with these words at these offsets, and zeros elsewhere.
+/// Returns a table with these words at these offsets, and zeros elsewhere.
 fn table(len: usize, fields: &[(usize, &[u16])]) -> Vec<u8> {
     let mut table = vec![0; len];
     for (offset, numbers) in fields {
@@ -103,7 +103,7 @@ fn font(hvar: Vec<u8>) -> Vec<u8> {
 }
 
 #[test]
-fn dumps_a_font() {
+fn dump_of_a_font() {
     let bytes = font(hvar());
     let font = dump::font::Font::new(&bytes).unwrap();
     let mut text = String::new();
@@ -131,7 +131,7 @@ FAMILY_NAME: Ütest
 a: no glyph
 ";
     assert_eq!(text, wanted);
-    // Cut off anywhere, it is read as far as it goes.
+    // A truncated font is read as far as it goes.
     for len in 0..bytes.len() {
         if let Some(font) = dump::font::Font::new(&bytes[..len]) {
             dump(&font, "\n", &mut text).unwrap();
@@ -139,8 +139,8 @@ a: no glyph
     }
 }
 
-/// Calls of both examples over any bytes.
-fn reads(bytes: &[u8]) -> Option<()> {
+/// Calls both examples over any bytes.
+fn read(bytes: &[u8]) -> Option<()> {
     let places = [Fixed::MIN, Fixed::ZERO, Fixed::from_i32(650), Fixed::MAX];
     let font = dump::font::Font::new(bytes)?;
     dump(
@@ -160,7 +160,7 @@ fn reads(bytes: &[u8]) -> Option<()> {
     Some(())
 }
 
-// The examples do not panic, whatever the bytes are.
+// The examples do not panic on any bytes.
 #[test]
 fn mutated_fonts() {
     let fonts = [font(hvar()), font(long_hvar())];
@@ -173,7 +173,7 @@ fn mutated_fonts() {
     };
     for n in 0..3000 {
         let mut bytes = fonts[n % 2].clone();
-        // Runs of a few bytes, so that whole numbers become extreme.
+        // Runs of a few bytes, so that integers become extreme.
         for _ in 0..=random(4) {
             let (place, len) = (random(bytes.len()), 1 + random(8));
             let byte = [0, 0x7F, 0x80, 0xFF, random(256) as u8][random(5)];
@@ -183,13 +183,13 @@ fn mutated_fonts() {
                 .take(len)
                 .for_each(|old| *old = byte);
         }
-        reads(&bytes);
+        read(&bytes);
     }
-    assert_eq!(fonts.map(|font| reads(&font)), [Some(()); 2]);
+    assert_eq!(fonts.map(|font| read(&font)), [Some(()); 2]);
 }
 
 #[test]
-fn long_words_and_a_map_of_format_1() {
+fn advances_by_long_deltas_and_a_map_of_format_1() {
     let bytes = font(long_hvar());
     let font = instance::font::Font::new(&bytes).unwrap();
     for (at, glyph, moved) in [
@@ -206,7 +206,7 @@ fn long_words_and_a_map_of_format_1() {
 }
 
 #[test]
-fn instances_follow_the_axis() {
+fn coordinates_and_advances_along_an_axis() {
     let bytes = font(hvar());
     let font = instance::font::Font::new(&bytes).unwrap();
     assert_eq!(axes(&font).unwrap().first().unwrap().tag, Tag::new(b"wght"));
@@ -224,7 +224,7 @@ fn instances_follow_the_axis() {
         assert_eq!(normalized(&font, 0, place), Some(at), "{place}");
         let advance = |glyph| advance(&font, GlyphId16::new(glyph), &[at]);
         assert_eq!(advance(0), Some(UfWord::new(moved)), "{place}");
-        // The map's last entry counts for all that follow.
+        // The last entry of the map is that of all later glyphs.
         assert_eq!(advance(1), Some(UfWord::new(620)), "{place}");
         assert_eq!(advance(2), Some(UfWord::new(620)), "{place}");
     }

@@ -24,7 +24,7 @@ static wide saturate(int width, wide number) {
     return number < -end ? -end : number >= end ? end - 1 : number;
 }
 
-/* A number less its floor, with so many fraction bits. */
+/* The fractional part of a number with this many fraction bits. */
 static wide fract(int fraction_bits, wide number) {
     const wide one = (wide)1 << fraction_bits;
     return (number % one + one) % one;

@@ -67,6 +67,6 @@ int main(void) {
         check("images.x", points[0].x, v.x, x, y, z);
         check("images.y", points[0].y, v.y, x, y, z);
     }
-    printf("beside FreeType: %d rounds, %d different\n", ROUNDS, failed);
+    printf("compared with FreeType: %d rounds, %d differences\n", ROUNDS, failed);
     return failed == 0 ? 0 : 1;
 }

@@ -7,7 +7,7 @@
 #include <stdio.h>
 #include <string.h>
 
-/* What a place holds before a call, and after one that fails. */
+/* The sentinel that a failing call must leave in an out-parameter. */
 enum { KEPT = 7, BUFFER = 64, MOST_SCALARS = 65535, MANY_TERMS = 131073 };
 
 #define COUNT(ROWS) (sizeof(ROWS) / sizeof(ROWS)[0])

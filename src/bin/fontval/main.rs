@@ -1,5 +1,5 @@
-//! The program `fontval`: the proved source of `crates/fontval`, over the module `host`, which has
-//! what Rattle's std has in another form than Rust's.
+//! The program `fontval`: the proved source of `crates/fontval`, over the module `host`, which
+//! replaces the parts of Rattle's std that differ from Rust's.
 
 mod host;
 
@@ -10,7 +10,7 @@ macro_rules! eprint {
     };
 }
 
-// `has_failed` is there for contracts, and not every file needs what Rattle has in scope.
+// `has_failed` is for contracts, and not every file needs the names that Rattle has in scope.
 #[allow(dead_code, unused_imports)]
 #[path = "generated/mod.rs"]
 mod fontval;

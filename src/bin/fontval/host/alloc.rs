@@ -1,4 +1,4 @@
-//! Fallible vectors and strings over std's, which abort if there is no memory.
+//! Fallible vectors and strings over std's, which abort if allocation fails.
 
 use core::fmt;
 use core::marker::PhantomData;

@@ -1,8 +1,8 @@
 //! Standard input and output that report every error, and standard error.
 //!
-//! Those of std do not: a descriptor that is not open for reading counts as an empty input, one
-//! that is not open for writing takes everything, and output is buffered. A file over the same
-//! descriptor passes each call on.
+//! Std's do not: a descriptor that is not open for reading is an empty input, one that is not open
+//! for writing accepts everything, and output is buffered. A file over the same descriptor passes
+//! each call on.
 
 use super::HostRuntime;
 use core::fmt;
@@ -16,11 +16,11 @@ use std::os::windows::io::AsHandle as AsOwned;
 
 pub use std::io::{Read, Result, Write};
 
-/// A stream, if the program has it.
+/// A stream, or an error in each call if the descriptor is not open.
 pub struct Stream(Option<File>);
 
 impl Stream {
-    /// A file over the same descriptor.
+    /// Opens a file over the same descriptor.
     pub fn over(stream: impl AsOwned) -> Self {
         #[cfg(not(windows))]
         let copy = stream.as_fd().try_clone_to_owned();
@@ -60,7 +60,7 @@ pub fn writer(_rt: &HostRuntime) -> Stream {
     Stream::over(io::stdout())
 }
 
-/// Writes to standard error. That of Rust serves: the program does not ask what became of it.
+/// Writes to std's standard error; the caller ignores the result.
 pub fn complain(_rt: &HostRuntime, text: fmt::Arguments<'_>) -> Result<()> {
     io::stderr().write_fmt(text)
 }

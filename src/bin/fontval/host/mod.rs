@@ -1,5 +1,5 @@
-//! What the program uses of Rattle's std. Each of its files imports everything here, which Rattle
-//! has in scope.
+//! The part of Rattle's std that the program uses. Each of its files imports everything here, as
+//! Rattle has it in scope.
 
 pub mod alloc;
 pub mod hex;
@@ -8,7 +8,7 @@ pub mod io;
 #[allow(unused_imports)]
 pub use alloc::{String, Vec};
 
-/// The right to what is outside the program.
+/// A handle to the host's standard streams and allocator.
 pub struct HostRuntime;
 
 impl HostRuntime {
