@@ -47,9 +47,9 @@ typedef font_status parse_32(const char *, size_t, uint32_t, int32_t *);
 typedef font_status parse_64(const char *, size_t, uint32_t, int64_t *);
 typedef font_status format_text(int64_t, uint32_t, char *, size_t, size_t *);
 typedef font_status pad_text(int64_t, uint32_t, const font_pad *, char *, size_t, size_t *);
-typedef font_status whole_16(int16_t, uint32_t, int16_t *);
-typedef font_status whole_32(int32_t, uint32_t, int32_t *);
-typedef font_status whole_64(int64_t, uint32_t, int64_t *);
+typedef font_status round_16(int16_t, uint32_t, int16_t *);
+typedef font_status round_32(int32_t, uint32_t, int32_t *);
+typedef font_status round_64(int64_t, uint32_t, int64_t *);
 typedef int32_t of_two(int32_t, int32_t);
 typedef int32_t of_three(int32_t, int32_t, int32_t);
 typedef int32_t narrow_32(int32_t);
@@ -64,9 +64,9 @@ static parse_32 *const parse_i32 = font_parse_i32;
 static parse_64 *const parse_i64 = font_parse_i64;
 static format_text *const format = font_format;
 static pad_text *const format_padded = font_format_padded;
-static whole_16 *const whole_i16[] = {font_round_i16, font_floor_i16};
-static whole_32 *const whole_i32[] = {font_round_i32, font_floor_i32};
-static whole_64 *const whole_i64[] = {font_round_i64, font_floor_i64};
+static round_16 *const rounding_i16[] = {font_round_i16, font_floor_i16};
+static round_32 *const rounding_i32[] = {font_round_i32, font_floor_i32};
+static round_64 *const rounding_i64[] = {font_round_i64, font_floor_i64};
 static of_two *const fixed_products[] = {font_fixed_mul, font_fixed_div};
 static of_two *const f26dot6_products[] = {font_f26dot6_mul, font_f26dot6_div};
 static of_three *const mul_div = font_fixed_mul_div;
@@ -118,7 +118,7 @@ struct type {
     font_status (*parse)(const char *, size_t, int64_t *);
     font_status (*format)(int64_t, char *, size_t, size_t *);
     font_status (*format_padded)(int64_t, const font_pad *, char *, size_t, size_t *);
-    font_status (*whole[2])(int64_t, int64_t *);
+    font_status (*rounding[2])(int64_t, int64_t *);
 };
 
 #define TYPE(NAME, WIDTH)                                                                      \
@@ -135,16 +135,16 @@ struct type {
                                      size_t room, size_t *length) {                            \
         return font_##NAME##_format_padded((int##WIDTH##_t)bits, pad, out, room, length);      \
     }                                                                                          \
-    static font_status NAME##_round(int64_t bits, int64_t *whole) {                            \
+    static font_status NAME##_round(int64_t bits, int64_t *integer) {                          \
         int##WIDTH##_t place = KEPT;                                                           \
         font_status status = font_##NAME##_round((int##WIDTH##_t)bits, &place);                \
-        *whole = place;                                                                        \
+        *integer = place;                                                                      \
         return status;                                                                         \
     }                                                                                          \
-    static font_status NAME##_floor(int64_t bits, int64_t *whole) {                            \
+    static font_status NAME##_floor(int64_t bits, int64_t *integer) {                          \
         int##WIDTH##_t place = KEPT;                                                           \
         font_status status = font_##NAME##_floor((int##WIDTH##_t)bits, &place);                \
-        *whole = place;                                                                        \
+        *integer = place;                                                                      \
         return status;                                                                         \
     }                                                                                          \
     static const struct type NAME = {#NAME, NAME##_parse, NAME##_format, NAME##_padded,        \
@@ -427,10 +427,10 @@ static void check_padded(void) {
 static void check_rounded(void) {
     for (size_t i = 0; i < COUNT(rounded); i++) {
         int64_t nearest, floor;
-        font_status status = rounded[i].type->whole[0](rounded[i].bits, &nearest);
+        font_status status = rounded[i].type->rounding[0](rounded[i].bits, &nearest);
         check("rounded", i, "status", status, rounded[i].status);
         check("rounded", i, "nearest", nearest, rounded[i].nearest);
-        status = rounded[i].type->whole[1](rounded[i].bits, &floor);
+        status = rounded[i].type->rounding[1](rounded[i].bits, &floor);
         check("rounded", i, "status of floor", status, FONT_OK);
         check("rounded", i, "floor", floor, rounded[i].floor);
     }
@@ -458,9 +458,9 @@ static void check_fractions(void) {
         check("fractions", i, "parse_i32", parse_i32("0", 1, f, &y), wanted[1]);
         check("fractions", i, "parse_i64", parse_i64("0", 1, f, &z), wanted[2]);
         for (int k = 0; k < 2; k++) {
-            check("fractions", i, "whole_i16", whole_i16[k](0, f, &x), wanted[0]);
-            check("fractions", i, "whole_i32", whole_i32[k](0, f, &y), wanted[1]);
-            check("fractions", i, "whole_i64", whole_i64[k](0, f, &z), wanted[2]);
+            check("fractions", i, "rounding_i16", rounding_i16[k](0, f, &x), wanted[0]);
+            check("fractions", i, "rounding_i32", rounding_i32[k](0, f, &y), wanted[1]);
+            check("fractions", i, "rounding_i64", rounding_i64[k](0, f, &z), wanted[2]);
         }
         check("fractions", i, "16 bits", x, fractions[i].is16 ? 0 : KEPT);
         check("fractions", i, "32 bits", y, fractions[i].is32 ? 0 : KEPT);

@@ -35,9 +35,9 @@ use std::ops::Range;
 use tokens::{Kind, Token, tokens};
 
 pub use tokens::Error;
-pub use tree::{LIBRARY, there, tree};
+pub use tree::{LIBRARY, generated_files, tree};
 
-/// What a crate becomes part of.
+/// The product that a crate becomes part of.
 #[derive(Clone, Copy, PartialEq, Eq)]
 pub enum Target {
     /// The library, with a module for each crate.
@@ -388,7 +388,7 @@ impl<'a> Eraser<'a> {
 
     // ---- what is written
 
-    // What is kept. A line of which nothing is kept is not written.
+    // Returns the text that is kept. A line of which nothing is kept is not written.
     fn written(&self) -> String {
         const GONE: char = '\0';
         let mut rust = String::new();
@@ -416,7 +416,7 @@ impl<'a> Eraser<'a> {
         words.end
     }
 
-    // The same with the comments and the documentation above, each on lines of its own.
+    // Also leaves out the comments and docs on the lines above.
     fn leave_out_with_comments(&mut self, words: Range<usize>) -> usize {
         let breaks = |token: &Token| token.text.matches('\n').count();
         let mut first = self.places[words.start];

@@ -1,31 +1,10 @@
 //! Reference fixed-point arithmetic on `i128`, and decimals digit by digit.
 
-/// A fixed-point type: its name, its bits, and its bits of fraction.
+/// The width and the fraction bits of a fixed-point type.
 #[derive(Clone, Copy)]
 pub struct Type {
-    pub name: &'static str,
     pub width: u32,
     pub fraction: u32,
-}
-
-macro_rules! of_fixed_point_types {
-    ($($name:ident $Type:ident $bits:ident $f:literal;)*) => {
-        /// The fixed-point types.
-        pub const TYPES: &[Type] = &[$(Type {
-            name: stringify!($name),
-            width: $bits::BITS,
-            fraction: $f,
-        }),*];
-    };
-}
-
-include!("types.in");
-
-impl Type {
-    pub fn named(name: &[u8]) -> Option<Self> {
-        let mut types = TYPES.iter().copied();
-        types.find(|kind| kind.name.as_bytes() == name)
-    }
 }
 
 /// An error of parsing.

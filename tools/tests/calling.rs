@@ -1,9 +1,9 @@
-//! docs/CALLING.md shows files of the crate `examples`, which are proved.
+//! docs/CALLING.md shows files of the crate `examples`.
 
 use font_types_tools::repository::text;
 
 #[test]
-fn calling_shows_proved_files() {
+fn calling_shows_files_of_the_examples() {
     let page = text("docs/CALLING.md");
     for file in [
         "src/start.rt",

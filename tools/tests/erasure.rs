@@ -1,10 +1,10 @@
-//! A second reader, which shares nothing with the eraser: the tokens of each generated file are
-//! those of its source in order, less what is left out, except for the changes listed here. It does
-//! not read comments, imports, and a comma at the end of a list.
+//! An independent check of the eraser's output: the tokens of each generated file are those of its
+//! source in order, without those that are left out, except for the changes listed here. Comments,
+//! imports and trailing commas are ignored.
 
 use font_types_tools::{erase::LIBRARY, repository};
 
-/// What is changed: in Rust, and in the source. `CRATE` is any crate of the library.
+/// The changes, as Rust and as source. `CRATE` is any crate of the library.
 const CHANGES: [(&str, &str); 6] = [
     ("crate::CRATE::", "CRATE::"),
     ("core::", "std::"),
@@ -14,7 +14,7 @@ const CHANGES: [(&str, &str); 6] = [
     ("pub unsafe extern", "pub extern"),
 ];
 
-/// What is left out beside clauses, ghost items, attributes of proofs, and the results of `clone`.
+/// Left out, as are clauses, ghost items, attributes of proofs, and the results of `clone`.
 const LEFT_OUT: [&str; 8] = [
     "#[cfg(test)] mod tests;",
     "mod facts;",
@@ -26,7 +26,7 @@ const LEFT_OUT: [&str; 8] = [
     "let _bytes = font_base::BeByteArray::as_slice(&self.0);",
 ];
 
-/// The words and signs of a text, without comments.
+/// Returns the words and signs of a text, without comments.
 fn tokens(text: &str) -> Vec<&str> {
     let is_sign = |c: char| !c.is_alphanumeric() && c != '_';
     let code = text.lines().map(|line| line.split("//").next().unwrap());
@@ -37,12 +37,12 @@ fn tokens(text: &str) -> Vec<&str> {
     words.filter(|word| !word.is_empty()).collect()
 }
 
-/// The number of tokens up to and with this one.
+/// Returns the number of tokens up to and including this one.
 fn through(t: &[&str], end: &str) -> usize {
     1 + t.iter().position(|token| *token == end).expect(end)
 }
 
-/// The number of tokens of the group that opens first.
+/// Returns the number of tokens up to the end of the first group.
 fn group(t: &[&str]) -> usize {
     let mut depth = 0;
     let ends = |token: &&str| {
@@ -53,7 +53,7 @@ fn group(t: &[&str]) -> usize {
     1 + t.iter().position(ends).expect("a closed bracket")
 }
 
-/// The tokens less what is left out of a source, and less what is added to Rust.
+/// Returns the tokens without those left out of a source or added to Rust.
 fn kept<'a>(mut t: &[&'a str]) -> Vec<&'a str> {
     let lines = LEFT_OUT.map(tokens);
     let (mut kept, mut function) = (Vec::new(), "");
@@ -114,7 +114,7 @@ fn kept<'a>(mut t: &[&'a str]) -> Vec<&'a str> {
     kept
 }
 
-/// The tokens without commas at the end of a list.
+/// Joins the tokens, without trailing commas.
 fn without_last_commas(t: &[&str]) -> String {
     let mut text = t.join(" ");
     for end in [")", "]", "}", ">"] {

@@ -1,4 +1,4 @@
-//! Each link of a page to a file of the repository leads to one, and each type names its own.
+//! Each relative link of a page leads to a file, and the docs of each type name their own file.
 
 use font_types_tools::repository::{files, root, text};
 
@@ -19,7 +19,7 @@ fn links_lead_to_files() {
     assert!(count > 0 && broken.is_empty(), "{broken:#?}");
 }
 
-/// The documentation of each type names the file that it is in.
+/// The docs of a type name the file that defines it.
 #[test]
 fn types_name_their_source() {
     let mut count = 0;

@@ -1,4 +1,4 @@
-//! Each mutant names the clause that it breaks, and none that the specification names is missing.
+//! Each mutant names the clause that it breaks, and each that the specification names exists.
 
 use font_types_tools::repository;
 

@@ -1,7 +1,7 @@
 //! Writes the Rust of the crates that cargo compiles: `cargo run --bin erase`. With `-- --check` it
 //! writes nothing, and fails if a committed file differs.
 
-use font_types_tools::erase::{there, tree};
+use font_types_tools::erase::{generated_files, tree};
 use font_types_tools::repository;
 use std::collections::BTreeSet;
 use std::fs;
@@ -16,10 +16,10 @@ fn main() -> ExitCode {
             return ExitCode::FAILURE;
         }
     };
-    let mut stale: BTreeSet<String> = there().into_iter().collect();
+    let mut stale: BTreeSet<String> = generated_files().into_iter().collect();
     stale.retain(|path| !files.contains_key(path));
     for path in &stale {
-        println!("{path}: made of no file");
+        println!("{path}: stale, no source");
         if !is_check {
             let _ = fs::remove_file(repository::root().join(path));
         }

@@ -1,38 +1,38 @@
 //! The tokens of a Rattle source file: those of Rust, and the symbols of clauses.
 
-/// Something in a source file that is not known here.
+/// An unsupported form in a source file.
 #[derive(Debug)]
 pub struct Error {
-    /// Its line, from 1 on.
+    /// The line, starting at 1.
     pub line: usize,
     pub what: String,
 }
 
-/// What a token is.
+/// The kind of a token.
 #[derive(Clone, Copy, PartialEq, Eq, Debug)]
 pub enum Kind {
     /// White space.
     Space,
-    /// A comment that is no documentation.
+    /// A comment that is not documentation.
     Comment,
-    /// Documentation of what it is in.
+    /// Inner documentation, `//!`.
     Head,
-    /// Documentation of what follows.
+    /// Outer documentation, `///`.
     Doc,
-    /// A name, a keyword, a number, a text, a lifetime, or any other character by itself.
+    /// A name, keyword, number, literal, lifetime, or any other single character.
     Code,
 }
 
-/// A piece of a file; one after the other they are the whole of it.
+/// A token. The concatenated tokens are the file.
 #[derive(Clone, Copy, Debug)]
 pub struct Token<'a> {
     pub kind: Kind,
     pub text: &'a str,
-    /// The line on which it begins, from 1 on.
+    /// The line on which it begins, starting at 1.
     pub line: usize,
 }
 
-/// The tokens of a file.
+/// Splits a file into tokens.
 pub fn tokens(source: &str) -> Result<Vec<Token<'_>>, Error> {
     let mut tokens = Vec::new();
     let mut line = 1;
@@ -51,7 +51,7 @@ pub fn tokens(source: &str) -> Result<Vec<Token<'_>>, Error> {
     Ok(tokens)
 }
 
-// The kind and the length of the first token, which begins with `first`.
+// Returns the kind and the length of the first token, which begins with `first`.
 fn first_token(rest: &str, first: char) -> Result<(Kind, usize), &'static str> {
     let run = |is: fn(char) -> bool| rest.find(|c| !is(c)).unwrap_or(rest.len());
     if first.is_whitespace() {
@@ -80,7 +80,7 @@ fn is_of_name(c: char) -> bool {
     c == '_' || c.is_alphanumeric()
 }
 
-// The length of a word of `len` bytes, or of the text that it begins, as in `b"abc"`.
+// Returns the length of a word of `len` bytes, or of the literal that it begins, as in `b"abc"`.
 fn word_or_text(rest: &str, len: usize) -> Result<usize, &'static str> {
     let (word, after) = rest.split_at(len);
     match (word, after.chars().next()) {
@@ -90,7 +90,7 @@ fn word_or_text(rest: &str, len: usize) -> Result<usize, &'static str> {
     }
 }
 
-// The length of a quoted text, with its quotes.
+// Returns the length of a quoted literal, with its quotes.
 fn quoted(rest: &str, quote: char) -> Result<usize, &'static str> {
     let mut escaped = false;
     for (at, c) in rest.char_indices().skip(1) {
@@ -102,7 +102,7 @@ fn quoted(rest: &str, quote: char) -> Result<usize, &'static str> {
             _ => {}
         }
     }
-    Err("a text that does not end")
+    Err("an unterminated literal")
 }
 
 fn lifetime_or_character(rest: &str) -> Result<usize, &'static str> {

@@ -6,7 +6,7 @@ use std::collections::BTreeMap;
 use std::io::Write;
 use std::process::{Command, Stdio};
 
-/// The crates of the library, lowest first, and of each the modules that are left out.
+/// The crates of the library in order of dependency, and the modules of each that are left out.
 pub const LIBRARY: [(&str, &[&str]); 7] = [
     ("font_decimal", &[]),
     ("font_base", &["facts"]),
@@ -29,7 +29,7 @@ fn folder(name: &str, target: Target) -> String {
     }
 }
 
-/// Every generated file, by its path from the root.
+/// Returns each generated file, by its path from the root.
 pub fn tree() -> Result<BTreeMap<String, String>, String> {
     let mut files = BTreeMap::new();
     for (name, target) in crates() {
@@ -47,8 +47,8 @@ pub fn tree() -> Result<BTreeMap<String, String>, String> {
     Ok(files)
 }
 
-/// The paths from the root of the files that are in the folders of generated files.
-pub fn there() -> Vec<String> {
+/// Lists the files in the folders of generated files, by their paths from the root.
+pub fn generated_files() -> Vec<String> {
     let folders = crates().map(|(name, target)| folder(name, target));
     let files = folders.flat_map(|folder| repository::files(&folder, ""));
     files.collect()
@@ -59,7 +59,7 @@ fn crates() -> impl Iterator<Item = (&'static str, Target)> {
     library.chain(ABOVE)
 }
 
-// Adds a file, which is the root of a crate or is not, and the modules that it declares.
+// Adds a file and the modules that it declares.
 fn add_file(
     files: &mut BTreeMap<String, String>,
     of: &Crate,
@@ -73,9 +73,9 @@ fn add_file(
         format!("{source}:{line}: {what}: see tools/src/erase.rs")
     })?;
     let head = format!("// @generated from {source} by tools/src/bin/erase.rs\n\n");
-    let rust = laid_out(&(head + &erased.rust)).map_err(|error| format!("{source}: {error}"))?;
+    let rust = formatted(&(head + &erased.rust)).map_err(|error| format!("{source}: {error}"))?;
     files.insert(format!("{to}/{module}.rs"), rust);
-    // A module of the root is beside it, and one of another file below it.
+    // A module of the root is in the same folder, and one of another file in a folder of its name.
     let below = |folder: &str, file: &str| match module {
         "mod" => folder.to_string(),
         _ => format!("{folder}/{file}"),
@@ -87,18 +87,18 @@ fn add_file(
     Ok(())
 }
 
-// The text as rustfmt lays it out.
-fn laid_out(text: &str) -> Result<String, String> {
-    let told = |error: std::io::Error| format!("rustfmt: {error}");
+// Formats the text with rustfmt.
+fn formatted(text: &str) -> Result<String, String> {
+    let message = |error: std::io::Error| format!("rustfmt: {error}");
     let mut rustfmt = Command::new("rustfmt");
     let rustfmt = rustfmt.arg("--edition=2024").stdin(Stdio::piped());
-    let mut running = rustfmt.stdout(Stdio::piped()).spawn().map_err(told)?;
+    let mut running = rustfmt.stdout(Stdio::piped()).spawn().map_err(message)?;
     let mut input = running.stdin.take().expect("it is piped");
-    input.write_all(text.as_bytes()).map_err(told)?;
+    input.write_all(text.as_bytes()).map_err(message)?;
     drop(input);
-    let output = running.wait_with_output().map_err(told)?;
+    let output = running.wait_with_output().map_err(message)?;
     if !output.status.success() {
-        return Err("rustfmt does not read what is left".into());
+        return Err("rustfmt cannot parse the erased text".into());
     }
     String::from_utf8(output.stdout).map_err(|error| error.to_string())
 }
