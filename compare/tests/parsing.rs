@@ -6,6 +6,7 @@ use font_types_proved::DecimalFault;
 use font_types_tools::exact::{self, Fault};
 
 struct Type {
+    name: &'static str,
     exact: exact::Type,
     parse: fn(&str) -> Result<i128, DecimalFault>,
     /// That of `font-types`.
@@ -14,9 +15,13 @@ struct Type {
 
 fn types() -> [Type; 7] {
     macro_rules! of {
-        ($name:literal $Type:ident $from_f64:expr) => {
+        ($Type:ident $width:literal $fraction:literal $from_f64:expr) => {
             Type {
-                exact: exact::Type::named($name).expect("a type"),
+                name: stringify!($Type),
+                exact: exact::Type {
+                    width: $width,
+                    fraction: $fraction,
+                },
                 parse: |text| {
                     let x = font_types_proved::$Type::from_decimal(text)?;
                     Ok(x.to_bits().into())
@@ -26,14 +31,14 @@ fn types() -> [Type; 7] {
         };
     }
     [
-        of!(b"f2dot14" F2Dot14 |x| font_types::F2Dot14::from_f64(x).to_bits().into()),
-        of!(b"f4dot12" F4Dot12 |x| font_types::F4Dot12::from_f64(x).to_bits().into()),
-        of!(b"f6dot10" F6Dot10 |x| font_types::F6Dot10::from_f64(x).to_bits().into()),
-        of!(b"fixed" Fixed |x| font_types::Fixed::from_f64(x).to_bits().into()),
-        of!(b"f26dot6" F26Dot6 |x| font_types::F26Dot6::from_f64(x).to_bits().into()),
-        of!(b"f48dot16" F48Dot16 |x| font_types::F48Dot16::from_f64(x).to_bits().into()),
+        of!(F2Dot14 16 14 |x| font_types::F2Dot14::from_f64(x).to_bits().into()),
+        of!(F4Dot12 16 12 |x| font_types::F4Dot12::from_f64(x).to_bits().into()),
+        of!(F6Dot10 16 10 |x| font_types::F6Dot10::from_f64(x).to_bits().into()),
+        of!(Fixed 32 16 |x| font_types::Fixed::from_f64(x).to_bits().into()),
+        of!(F26Dot6 32 6 |x| font_types::F26Dot6::from_f64(x).to_bits().into()),
+        of!(F48Dot16 64 16 |x| font_types::F48Dot16::from_f64(x).to_bits().into()),
         // `font-types` lacks this type.
-        of!(b"f2dot30" F2Dot30 |x| (x * f64::from(1 << 30)).round() as i128),
+        of!(F2Dot30 32 30 |x| (x * f64::from(1 << 30)).round() as i128),
     ]
 }
 
@@ -43,14 +48,14 @@ impl Type {
             Fault::Syntax => DecimalFault::Syntax,
             Fault::OutOfRange => DecimalFault::OutOfRange,
         });
-        assert_eq!((self.parse)(text), expected, "{} {text}", self.exact.name);
+        assert_eq!((self.parse)(text), expected, "{} {text}", self.name);
     }
 
     fn check_with_f64(&self, text: &str) {
         self.check(text);
         if let Ok(ours) = (self.parse)(text) {
             let theirs = (self.from_f64)(text.parse().expect("a decimal"));
-            assert_eq!(ours, theirs, "{} {text}", self.exact.name);
+            assert_eq!(ours, theirs, "{} {text}", self.name);
         }
     }
 

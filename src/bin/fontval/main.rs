@@ -11,7 +11,7 @@ macro_rules! eprint {
 }
 
 // `has_failed` is for contracts, and not every file needs the names that Rattle has in scope.
-#[allow(dead_code, unused_imports)]
+#[allow(dead_code, unused_imports, clippy::explicit_counter_loop)]
 #[path = "generated/mod.rs"]
 mod fontval;
 
