@@ -23,7 +23,7 @@ fn row(name: &str, mut ours: impl FnMut(), mut theirs: impl FnMut()) {
     );
 }
 
-/// Prints the ratio of a call over each input. `k` stands for the crate.
+/// Prints the ratio of a call over each input. `k` names the crate.
 macro_rules! row {
     ($name:literal, |$k:ident, $x:ident in $inputs:ident| $call:expr) => {
         row(

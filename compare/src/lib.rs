@@ -1,6 +1,6 @@
 //! Helpers of the tests in `tests/`, which compare `font-types-proved` with `font-types`.
 
-/// Asserts that a call gives the same value with both crates, for which `k` stands:
+/// Asserts that a call returns the same with both crates, where `k` names the crate:
 /// `assert_same!(bits, |k| k::Fixed::from_bits(bits).round().to_bits())`.
 #[macro_export]
 macro_rules! assert_same {
@@ -38,7 +38,7 @@ impl Random {
         self.u64() % n
     }
 
-    /// A signed integer of `width` bits, of any magnitude; one in eight is the least or the greatest,
+    /// Returns a signed integer of `width` bits, of any magnitude; one in eight is `MIN` or `MAX`,
     /// and one in eight is next to a power of two.
     pub fn signed(&mut self, width: u32) -> i64 {
         let greatest = i64::MAX >> (64 - width);
@@ -59,12 +59,12 @@ impl Random {
     }
 }
 
-/// Every 4,099th 32-bit integer.
+/// Iterates over each 4,099th 32-bit integer.
 pub fn sampled() -> impl Iterator<Item = u32> {
     (0..=u32::MAX).step_by(4099)
 }
 
-/// The integers next to zero, to the ends and to the powers of two.
+/// Returns the integers next to zero, to the limits and to the powers of two.
 pub fn edges(width: u32) -> Vec<i64> {
     let near = |power: u32| [-1, 0, 1].map(|near| (1i64 << power).wrapping_add(near));
     let positive = (0..width).flat_map(near);

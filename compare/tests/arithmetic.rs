@@ -39,9 +39,10 @@ fn conversions_of(bits: i32) {
     assert_same!(bits, |k| k::Fixed::from_i32(bits).to_bits());
     assert_same!(bits, |k| k::F26Dot6::from_bits(bits).to_i32());
     assert_same!(bits, |k| k::F26Dot6::from_i32(bits).to_bits());
-    assert_same!(bits, |k| k::F2Dot14::from_bits(bits as i16)
-        .to_fixed()
-        .to_bits());
+    assert_same!(bits, |k| {
+        let x = k::F2Dot14::from_bits(bits as i16);
+        x.to_fixed().to_bits()
+    });
 }
 
 #[test]
@@ -82,27 +83,14 @@ fn applied_deltas() {
         let (base, delta) = (random.i32(), random.signed(64));
         let (x, half) = (F48Dot16::from_bits(delta), base as i16);
         let exact = |base: i64| i128::from(base) * 65536 + i128::from(delta);
-        assert_eq!(
+        let found = [
             Fixed::from_bits(base).apply_delta(x),
-            exact(base.into()),
-            "{base} {delta}"
-        );
-        assert_eq!(
             F2Dot14::from_bits(half).apply_delta(x),
-            exact(half.into()),
-            "{base} {delta}"
-        );
-        assert_eq!(
             FWord::new(half).apply_delta(x),
-            exact(half.into()),
-            "{base} {delta}"
-        );
-        let word = half as u16;
-        assert_eq!(
-            UfWord::new(word).apply_delta(x),
-            exact(word.into()),
-            "{base} {delta}"
-        );
+            UfWord::new(half as u16).apply_delta(x),
+        ];
+        let bases = [base.into(), half.into(), half.into(), (half as u16).into()];
+        assert_eq!(found, bases.map(exact), "{base} {delta}");
     }
 }
 
@@ -127,9 +115,8 @@ fn sums_of_deltas() {
             wrapping += font_types::Fixed::from_bits(x).mul_i32(delta);
         }
         assert_eq!(delta_sum(&terms).to_bits(), wrapping.to_bits(), "{pairs:?}");
-        let products = pairs
-            .iter()
-            .map(|&[x, delta]| i128::from(x) * i128::from(delta));
+        let product = |&[x, delta]: &[i32; 2]| i128::from(x) * i128::from(delta);
+        let products = pairs.iter().map(product);
         let exact = Some(products.sum()).filter(|sum: &i128| i64::try_from(*sum).is_ok());
         let checked = checked_delta_sum(&terms).map(|sum| i128::from(sum.to_bits()));
         assert_eq!(checked, exact, "{pairs:?}");

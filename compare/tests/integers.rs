@@ -1,8 +1,8 @@
-//! Integers of 24 bits, font units, ids, versions, dates and offsets.
+//! 24-bit integers, font units, ids, versions, dates and offsets.
 
 use compare::{Random, assert_same, sampled};
 
-fn of_24_bits(n: u32) {
+fn assert_same_24_bits(n: u32) {
     let (i, [_, b, c, d]) = (n as i32, n.to_be_bytes());
     assert_same!(n, |k| {
         let x = k::Uint24::from_be_bytes([b, c, d]);
@@ -20,9 +20,8 @@ fn of_24_bits(n: u32) {
     assert_same!(n, |k| {
         let new = k::GlyphId24::new(n);
         let checked = k::GlyphId24::checked_new(n).map(|id| id.to_u32());
-        let narrowed = k::GlyphId24::try_from(k::GlyphId::new(n))
-            .ok()
-            .map(u32::from);
+        let narrowed = k::GlyphId24::try_from(k::GlyphId::new(n)).ok();
+        let narrowed = narrowed.map(u32::from);
         (new.to_u32(), new.to_be_bytes(), checked, narrowed)
     });
     assert_same!(n, |k| {
@@ -38,16 +37,11 @@ fn integers_of_24_bits() {
         .chain(ends.into_iter().flatten())
         .chain(0..300)
         .chain(u32::MAX - 300..=u32::MAX);
-    numbers.for_each(of_24_bits);
+    numbers.for_each(assert_same_24_bits);
     for n in sampled().step_by(8).chain((1 << 23) - 300..(1 << 23) + 300) {
         assert_same!(n, |k| {
             let (x, y) = (k::Uint24::new(n), k::Int24::new(n as i32));
-            (
-                x.to_string(),
-                y.to_string(),
-                format!("{x:?}"),
-                format!("{y:>12}"),
-            )
+            format!("{x} {y} {x:?} {y:>12}")
         });
     }
 }
@@ -55,7 +49,7 @@ fn integers_of_24_bits() {
 #[test]
 #[ignore = "all of 2^32 values"]
 fn every_integer() {
-    (0..=u32::MAX).for_each(of_24_bits);
+    (0..=u32::MAX).for_each(assert_same_24_bits);
 }
 
 #[test]
@@ -64,21 +58,13 @@ fn ids_and_units_of_16_bits() {
         let i = n as i16;
         assert_same!(n, |k| {
             let x = k::FWord::new(i);
-            (
-                x.to_i16(),
-                i16::from(x),
-                x.to_fixed().to_bits(),
-                x.to_be_bytes(),
-            )
+            let numbers = (x.to_i16(), i16::from(x), x.to_fixed().to_bits());
+            (numbers, x.to_be_bytes())
         });
         assert_same!(n, |k| {
             let x = k::UfWord::new(n);
-            (
-                x.to_u16(),
-                u16::from(x),
-                x.to_fixed().to_bits(),
-                x.to_be_bytes(),
-            )
+            let numbers = (x.to_u16(), u16::from(x), x.to_fixed().to_bits());
+            (numbers, x.to_be_bytes())
         });
         assert_same!(n, |k| {
             let id = k::GlyphId16::new(n);
@@ -94,22 +80,13 @@ fn ids_and_units_of_16_bits() {
         });
         assert_same!(n, |k| {
             let offset = k::Offset16::new(n);
-            (
-                offset.to_u32(),
-                offset.is_null(),
-                offset == 7,
-                offset < k::Offset16::new(300),
-            )
+            let order = (offset == 7, offset < k::Offset16::new(300));
+            (offset.to_u32(), offset.is_null(), order)
         });
         assert_same!(n, |k| {
             let (x, y) = (k::FWord::new(i), k::UfWord::new(n));
             let (id, name) = (k::GlyphId16::new(n), k::NameId::new(n));
-            (
-                format!("{x} {x:+} {y:>7}"),
-                id.to_string(),
-                name.to_string(),
-                format!("{name:?}"),
-            )
+            format!("{x} {x:+} {y:>7} {id} {name} {name:?}")
         });
     }
 }
@@ -126,13 +103,8 @@ fn versions_ids_and_dates() {
             let of = |n: u32| <k::Version16Dot16 as k::Scalar>::from_raw(n.to_be_bytes());
             let [x, y] = [m, n].map(of);
             let new = k::Version16Dot16::new(a, b);
-            (
-                x.to_major_minor(),
-                x.to_be_bytes(),
-                x == y,
-                x.cmp(&y),
-                new.to_be_bytes(),
-            )
+            let bytes = (x.to_be_bytes(), new.to_be_bytes());
+            (x.to_major_minor(), bytes, x == y, x.cmp(&y))
         });
         assert_same!((m, n), |k| {
             use k::Compatible;
@@ -140,12 +112,8 @@ fn versions_ids_and_dates() {
             let (x, y) = (k::Version16Dot16::new(a, b), k::Version16Dot16::new(c, d));
             let (v, w) = (k::MajorMinor::new(a, b), k::MajorMinor::new(c, d));
             let packed = (x.compatible(y), x.compatible((c, d)));
-            (
-                packed,
-                v.compatible(w),
-                v.compatible((c, d)),
-                a.compatible(c),
-            )
+            let pairs = (v.compatible(w), v.compatible((c, d)));
+            (packed, pairs, a.compatible(c))
         });
         assert_same!((m, n), |k| {
             let (v, w) = (k::MajorMinor::new(a, b), k::MajorMinor::new(c, d));
@@ -154,32 +122,24 @@ fn versions_ids_and_dates() {
         assert_same!((m, n), |k| {
             let (wide, narrow) = (k::GlyphId::new(m), k::GlyphId16::new(d));
             let narrowed = k::GlyphId16::try_from(wide).map_err(|error| error.to_string());
-            let order = (
-                wide.partial_cmp(&narrow),
-                narrow.partial_cmp(&wide),
+            let order = (wide.partial_cmp(&narrow), narrow.partial_cmp(&wide));
+            (
+                narrowed.map(|id| id.to_u16()),
+                order,
                 wide == narrow,
-            );
-            (narrowed.map(|id| id.to_u16()), order, u32::from(wide))
+                u32::from(wide),
+            )
         });
         assert_same!((m, n), |k| {
             let [x, y] = [m, n].map(k::Offset32::new);
             let null = <k::Nullable<k::Offset32> as k::Scalar>::from_raw([0, 0, 0, (a % 2) as u8]);
-            (
-                x.to_u32(),
-                x.is_null(),
-                x == n,
-                x.cmp(&y),
-                null.is_null(),
-                null == 1,
-            )
+            let nullable = (null.is_null(), null == 1);
+            (x.to_u32(), x.is_null(), x == n, x.cmp(&y), nullable)
         });
         assert_same!(seconds, |k| {
             let date = k::LongDateTime::new(seconds);
-            (
-                date.as_secs(),
-                date.to_be_bytes(),
-                date.cmp(&k::LongDateTime::new(0)),
-            )
+            let order = date.cmp(&k::LongDateTime::new(0));
+            (date.as_secs(), date.to_be_bytes(), order)
         });
         assert_same!((m, n), |k| {
             let (x, v) = (k::Version16Dot16::new(a, b), k::MajorMinor::new(c, d));

@@ -9,7 +9,7 @@ struct Type {
     name: &'static str,
     exact: exact::Type,
     parse: fn(&str) -> Result<i128, DecimalFault>,
-    /// That of `font-types`.
+    /// The conversion of `font-types`.
     from_f64: fn(f64) -> i128,
 }
 
@@ -59,13 +59,13 @@ impl Type {
         }
     }
 
-    /// The decimal half a step above this raw value.
+    /// Returns the tie between this raw value and the next, as a numeral and its places.
     fn tie_above(&self, bits: i64) -> (i128, u32) {
         let places = self.exact.fraction + 1;
         ((2 * i128::from(bits) + 1) * 5i128.pow(places), places)
     }
 
-    /// A raw value, one in eight at an end or beyond it.
+    /// Returns a raw value; one in eight is at a limit or next to it.
     fn some_bits(&self, random: &mut Random) -> i64 {
         let greatest = i64::MAX >> (64 - self.exact.width);
         match random.below(32) {
@@ -78,7 +78,7 @@ impl Type {
     }
 }
 
-/// The text of `numeral / 10^places`, with every place.
+/// Returns the text of `numeral / 10^places`, with every place.
 fn decimal(numeral: i128, places: u32) -> String {
     let sign = if numeral < 0 { "-" } else { "" };
     let places = places as usize;
@@ -113,7 +113,7 @@ fn decimals_of_up_to_30_places() {
 fn ties() {
     let mut random = Random::new(3);
     for of in types() {
-        // One more on each side, beyond the ends.
+        // One more on each side, out of range.
         let every = (-(1 << 15) - 1..=1 << 15).filter(|_| of.exact.width == 16);
         let some: Vec<i64> = (0..60_000).map(|_| of.some_bits(&mut random)).collect();
         for bits in every.chain(some) {

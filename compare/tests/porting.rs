@@ -1,18 +1,18 @@
-//! What docs/PORTING.md says to write in place of calls of `font-types`, beside these calls, with
-//! each type that has them.
+//! The replacements of calls of `font-types` in docs/PORTING.md, against these calls, for each type
+//! that has them.
 
 use font_types as there;
 use font_types_proved as here;
 use here::{DeltaSum, IdentityEq, InvalidTag, Pad, ScalarArray};
 
-/// The nearest integer, half away from zero, with no `std`.
+/// Returns the nearest integer, half away from zero, without `std`.
 fn nearest(x: f64) -> i64 {
-    let whole = x as i64;
-    let rest = x - whole as f64;
-    whole + i64::from(rest >= 0.5) - i64::from(rest <= -0.5)
+    let integer = x as i64;
+    let rest = x - integer as f64;
+    integer + i64::from(rest >= 0.5) - i64::from(rest <= -0.5)
 }
 
-/// Raw values of a type, with the ends and those around powers of two.
+/// Returns the raw values near the limits, zero and the powers of two.
 fn raws(width: u32) -> impl Iterator<Item = i64> {
     let near = |power: u32| [-2, -1, 0, 1, 2].map(|near| (1i64 << power).wrapping_add(near));
     let raws = (0..width).flat_map(near);
@@ -20,7 +20,7 @@ fn raws(width: u32) -> impl Iterator<Item = i64> {
     raws.map(move |raw| raw << (64 - width) >> (64 - width))
 }
 
-/// Rows on fixed-point numbers: each type, its raw value, and its fraction bits.
+/// The rows about fixed-point numbers, for each type, with its raw integer and its fraction bits.
 macro_rules! of_each_type {
     ($($Type:ident $bits:ident $f:literal;)*) => {
         #[test]
@@ -52,7 +52,7 @@ macro_rules! of_each_type {
             $(for raw in raws($bits::BITS) {
                 let x = here::$Type::from_bits(raw as $bits);
                 let y = there::$Type::from_bits(raw as $bits);
-                // They change nothing here, silently.
+                // Here flags are ignored.
                 assert_eq!(format!("{x:+} {x:50} {x:.2}"), format!("{x} {x} {x}"));
                 // `{:30}` and `{:+030}`.
                 let zeros = Pad { plus: true, zeros: true, ..Pad::new(30) };
@@ -75,7 +75,7 @@ of_each_type! {
     F48Dot16 i64 16;
 }
 
-/// What `apply_delta` counts depends on the type: 2^-16 of a font unit, 2^-32 and 2^-30 of 1.
+/// The unit of `apply_delta` depends on the type: 2^-16 of a font unit, 2^-32 and 2^-30 of 1.
 #[test]
 fn deltas() {
     let step = |power: u32| (1u64 << power) as f64;
@@ -148,7 +148,7 @@ fn errors() {
     }
 }
 
-/// A scalar of one's own. `font-types` has `FixedSize` of each, and orders fields by `Ord`.
+/// A caller's scalar. `font-types` has `FixedSize` of each, and orders fields by `Ord`.
 #[derive(Clone, Copy, Debug, PartialEq, Eq, PartialOrd, Ord)]
 struct Selector(u32);
 
@@ -177,13 +177,13 @@ impl here::FixedSize for Selector {
 impl IdentityEq for Selector {}
 
 #[test]
-fn own_scalars() {
+fn caller_defined_scalars() {
     let [x, y] = [Selector(1), Selector(256)];
     assert!(here::BigEndian::from(x) < here::BigEndian::from(y));
     assert!(there::BigEndian::from(x) < there::BigEndian::from(y));
 }
 
-/// An element of a matrix of one's own.
+/// A caller's element of a matrix.
 #[derive(Clone, Copy)]
 struct Float(f32);
 
@@ -207,7 +207,7 @@ impl here::MatrixElement for Float {
 }
 
 #[test]
-fn own_elements() {
+fn caller_defined_elements() {
     let bits = [1.5, -2.0, 0.25, 3.0, 10.0, 20.0];
     let point = here::Point::new(Float(2.0), Float(4.0));
     let here = here::Matrix::from_elements(bits.map(Float)) * point;

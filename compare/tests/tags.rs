@@ -2,27 +2,26 @@
 
 use compare::{Random, assert_same, sampled};
 
-fn checked(bytes: &[u8]) {
+fn assert_same_check(bytes: &[u8]) {
     assert_same!(bytes, |k| {
         let tag = k::Tag::new_checked(bytes).map(k::Tag::to_be_bytes);
         tag.map_err(|error| format!("{error:?}"))
     });
 }
 
-fn of_four_bytes(number: u32) {
+fn assert_same_tag(number: u32) {
     let bytes = number.to_be_bytes();
-    checked(&bytes);
+    assert_same_check(&bytes);
     assert_same!(bytes, |k| {
-        k::Tag::new(&bytes)
-            .validate()
-            .map_err(|error| format!("{error:?}"))
+        let valid = k::Tag::new(&bytes).validate();
+        valid.map_err(|error| format!("{error:?}"))
     });
 }
 
 #[test]
 fn four_bytes() {
-    sampled().for_each(of_four_bytes);
-    // Tags are good only where all bytes are visible characters or spaces.
+    sampled().for_each(assert_same_tag);
+    // Most bytes are visible characters or spaces, as in a valid tag.
     let mut random = Random::new(1);
     for _ in 0..1_000_000 {
         let bytes = [0; 4].map(|_| match random.below(8) {
@@ -30,33 +29,33 @@ fn four_bytes() {
             1 => random.u64() as u8,
             _ => b'!' + random.below(94) as u8,
         });
-        of_four_bytes(u32::from_be_bytes(bytes));
+        assert_same_tag(u32::from_be_bytes(bytes));
     }
 }
 
 #[test]
 #[ignore = "all of 2^32 values"]
 fn every_four_bytes() {
-    (0..=u32::MAX).for_each(of_four_bytes);
+    (0..=u32::MAX).for_each(assert_same_tag);
 }
 
 #[test]
 fn other_lengths() {
     for length in 0..=2 {
-        (0..1u32 << (8 * length)).for_each(|n| checked(&n.to_le_bytes()[..length]));
+        (0..1u32 << (8 * length)).for_each(|n| assert_same_check(&n.to_le_bytes()[..length]));
     }
     let mut random = Random::new(2);
     for _ in 0..500_000 {
         let bytes = random.u64().to_le_bytes();
-        checked(&bytes[..3]);
-        checked(&bytes[..5]);
+        assert_same_check(&bytes[..3]);
+        assert_same_check(&bytes[..5]);
     }
 }
 
 #[test]
 #[ignore = "all of 2^24 values"]
 fn every_three_bytes() {
-    (0..1u32 << 24).for_each(|n| checked(&n.to_le_bytes()[..3]));
+    (0..1u32 << 24).for_each(|n| assert_same_check(&n.to_le_bytes()[..3]));
 }
 
 #[test]
@@ -79,12 +78,8 @@ fn text_order_and_numbers() {
         let [a, b] = [0; 2].map(|_| random.u64() as u32);
         assert_same!((a, b), |k| {
             let [x, y] = [a, b].map(|n| k::Tag::new(&n.to_be_bytes()));
-            (
-                x.to_string(),
-                format!("{x:?}"),
-                x.cmp(&y),
-                k::Tag::from_u32(a).into_bytes(),
-            )
+            let bytes = k::Tag::from_u32(a).into_bytes();
+            (format!("{x} {x:?}"), x.cmp(&y), bytes)
         });
     }
 }

@@ -1,7 +1,7 @@
 //! `Error` and `Display` of a type, from the texts in its `#[error(..)]`.
 
-/// Returns the impls that `derive(Error)` expands to. The words are those after the `derive`, to the
-/// end of the type. Texts of another form are errors of rustc.
+/// Returns the impls that `derive(Error)` expands to. The words are those after the `derive`, to
+/// the end of the type. Texts of another form are errors of rustc.
 pub fn impls(words: &[&str]) -> String {
     let is_kind = |word: &&str| matches!(*word, "struct" | "enum");
     let kind = words.iter().position(is_kind).expect("a type");
