@@ -83,8 +83,8 @@ pub fn slant(point: Point<Fixed>, slope: Fixed) -> Point<Fixed>
 
 // Transforms a point by `place` and then by `scale`, with one matrix composed of both.
 //
-// Each coordinate is within `(|x| + |y|) / 65536 + 2` raw values of the exact one. `in_turn` has the
-// bound of two matrices applied one after the other.
+// Each coordinate is within `(|x| + |y|) / 65536 + 2` raw values of the exact one. `in_turn` has
+// the bound of two matrices applied one after the other.
 fn composed(scale: Matrix<Fixed>, place: Matrix<Fixed>, point: Point<Fixed>) -> Point<Fixed>
     requires { FitsComposed (matrix_bits scale) (matrix_bits place) (point_bits point) }
     ensures { IsCloseComposed (matrix_bits scale) (matrix_bits place) (point_bits point)

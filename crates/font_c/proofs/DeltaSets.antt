@@ -1,5 +1,6 @@
 -- The sum over a delta set, product by product.
-use Rattle.std.proofs.Common.{◌≡◌, ◌∙◌, ap, ◌+◌, ◌-◌, ◌*◌, ◌<◌, ℕ, zero, List, [], ◌∷◌, ℤ, pos, ◌+ℤ◌, ◌*ℤ◌, get_or, refl, suc, arith}
+use Rattle.std.proofs.Common.{◌≡◌, ◌∙◌, ap, ◌+◌, ◌-◌, ◌*◌, ◌<◌, ℕ, zero, List, [], ◌∷◌, ℤ, pos, ◌+ℤ◌, ◌*ℤ◌}
+use Rattle.std.proofs.Common.{get_or, refl, suc, arith}
 use Rattle.std.proofs.Common.{length, take, drop}
 use Rattle.std.proofs.lemmas.List.{drop-drop, drop-take, get_or-drop, get_or-take, take-take}
 use Rattle.font_types.specs.Bytes.{signed_numeral}

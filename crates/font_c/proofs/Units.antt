@@ -3,18 +3,8 @@ use Rattle.std.proofs.Common.{◌≡◌, lit<, ℤ, pos, neg_ℤ, ◌+ℤ◌, �
 use Rattle.std.proofs.lemmas.Int.{ints, to_z-of_z}
 use lib.Signed.{shr_z}
 use Rattle.font_decimal.specs.Near.{up}
-use Rattle.font_decimal.proofs.Near.{up_gives, up_is}
-use Rattle.font_fixed.proofs.Shifts.{shr_low, shr_high, shr_fits}
-
-halves_up : (n : ℤ) → shr_z (shr_z n 32768 +ℤ pos 1) 2 ≡ up n 65536
-halves_up n =
-    let halves = shr_z n 32768 in
-    up_gives n 65536 (shr_z (halves +ℤ pos 1) 2) (lit< tt)
-    (let low = shr_low n 32768 (lit< tt) in
-    let high = shr_high n 32768 (lit< tt) in
-    let low_half = shr_low (halves +ℤ pos 1) 2 (lit< tt) in
-    let high_half = shr_high (halves +ℤ pos 1) 2 (lit< tt) in
-    record { low = omega (arith, ints, low, low_half); high = omega (arith, ints, high, high_half) })
+use Rattle.font_decimal.proofs.Near.{up_is}
+use Rattle.font_fixed.proofs.Shifts.{shr_low, shr_high, shr_fits, halves_up}
 
 pub halves_up_64 : (n : ℤ) → SFits w64 n
     → to_z w64 (of_z w64 (shr_z (to_z w64 (of_z w64

@@ -41,7 +41,8 @@ pad_of pad = record {
 
 -- the padded shortest decimal of b / 2^f is written, for which 22 bytes, or the width if that is more, are enough; if
 -- the padding is invalid, the status says so, and all is unchanged
-pub record WritesPadded (b : ℤ) (f : ℕ) (pad : FontPad) (status old_count new_count : ℕ) (old new : List ℕ) : Type 0 where
+pub record WritesPadded (b : ℤ) (f : ℕ) (pad : FontPad) (status old_count new_count : ℕ)
+    (old new : List ℕ) : Type 0 where
   pub text : IsPad pad → WritesText (padded_text (shortest_text b f) (pad_of pad)) status old_count new_count old new
   pub enough : IsPad pad → max 22 pad.width ≤ length old → status ≡ 0
   pub refused : ¬ IsPad pad → status ≡ bad_pad

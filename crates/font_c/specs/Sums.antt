@@ -1,6 +1,6 @@
--- Sums of deltas, over a list of scalars and one of deltas. The exact product of a 16.16 number and a whole number has the
--- product of their bits as its bits, so the sum of these is the sum of deltas (OpenType, item variation stores), in units
--- of 2^-16.
+-- Sums of deltas, over a list of scalars and one of deltas. The exact product of a 16.16 number and an integer has the
+-- product of their bits as its bits, so the sum of these is the sum of deltas (OpenType, item variation stores), in
+-- units of 2^-16.
 use Rattle.std.specs.Prelude.{◌≡◌, ◌≢◌, ℕ, List, length, ℤ, pos, ◌+ℤ◌, ◌*ℤ◌}
 use Rattle.std.specs.List.{zip}
 use Rattle.font_types.specs.Delta.{total}

@@ -67,8 +67,8 @@ pub extern "C" fn font_format(
     out: &mut [u8],
     written: &mut usize,
 ) -> u32
-    ensures text { IsFraction 64 fraction_bits → WritesText (shortest_text bits fraction_bits) result
-        written.old written.new out.old out.new }
+    ensures text { IsFraction 64 fraction_bits → WritesText (shortest_text bits fraction_bits)
+        result written.old written.new out.old out.new }
     ensures enough { IsFraction 64 fraction_bits → 22 ≤ length out.old → result ≡ 0 }
     ensures refused { ¬ IsFraction 64 fraction_bits
         → (result ≡ bad_fraction) × (written.new ≡ written.old) × (out.new ≡ out.old) }

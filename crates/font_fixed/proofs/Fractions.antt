@@ -1,7 +1,8 @@
--- Numbers of w bits with f bits of fraction, for every f in range: the steps and halves that code has, and the room of a
--- text.
-use Rattle.std.proofs.Common.{◌≡◌, ◌∙◌, ap, refl, ℕ, zero, suc, ◌+◌, ◌-◌, ◌*◌, ◌/◌, ◌%◌, ◌^◌, ◌<◌, ◌≤◌, ◌&&◌, Bool, true}
-use Rattle.std.proofs.Common.{IsTrue, nat_lt, inl, inr, arith, lit<, pow_pos, ℤ, pos, ◌+ℤ◌, SFits, to_z, of_z, w16, w32, w64}
+-- Numbers of w bits with f bits of fraction, for every f in range: the steps and halves that code has, and the room of
+-- a text.
+use Rattle.std.proofs.Common.{◌≡◌, ◌∙◌, ap, refl, ℕ, zero, suc, ◌+◌, ◌-◌, ◌*◌, ◌/◌, ◌%◌, ◌^◌, ◌<◌, ◌≤◌, ◌&&◌}
+use Rattle.std.proofs.Common.{Bool, true, IsTrue, nat_lt, inl, inr, arith, lit<, pow_pos, ℤ, pos, ◌+ℤ◌, SFits}
+use Rattle.std.proofs.Common.{to_z, of_z, w16, w32, w64}
 use Rattle.std.proofs.lemmas.Bool.{cases_lt}
 use Rattle.std.proofs.lemmas.Bool.Decides.{nat_tests}
 use Rattle.std.proofs.lemmas.Nat.{pow-add}
@@ -62,7 +63,8 @@ pub half_32 : (f : ℕ) → 6 ≤ f → f + 2 ≤ 32 → to_z w32 (1 * 2 ^ (f - 
 half_32 f many few = omega (arith, ints, halves f many, step_below 30 (f - 1) (omega (arith, few)))
 
 pub fract_32 : (f : ℕ) (x r : ℤ) → f + 2 ≤ 32 → SFits w32 x
-    → r ≡ int_rem_euclid (to_z w32 (of_z w32 x)) (to_z w32 (1 * 2 ^ f % 4294967296)) → IsFract f x (to_z w32 (of_z w32 r))
+    → r ≡ int_rem_euclid (to_z w32 (of_z w32 x)) (to_z w32 (1 * 2 ^ f % 4294967296))
+    → IsFract f x (to_z w32 (of_z w32 r))
 fract_32 f x r few fits is =
     rem_euclid_is_fract w32 f (2 ^ f) x r refl (step_below 31 f (omega (arith, few))) fits (rw (step_32 f few) at is)
 
@@ -78,11 +80,13 @@ pub half_64 : (f : ℕ) → 6 ≤ f → f + 2 ≤ 64 → to_z w64 (1 * 2 ^ (f - 
 half_64 f many few = omega (arith, ints, halves f many, step_below 62 (f - 1) (omega (arith, few)))
 
 pub fract_64 : (f : ℕ) (x r : ℤ) → f + 2 ≤ 64 → SFits w64 x
-    → r ≡ int_rem_euclid (to_z w64 (of_z w64 x)) (to_z w64 (1 * 2 ^ f % 18446744073709551616)) → IsFract f x (to_z w64 (of_z w64 r))
+    → r ≡ int_rem_euclid (to_z w64 (of_z w64 x)) (to_z w64 (1 * 2 ^ f % 18446744073709551616))
+    → IsFract f x (to_z w64 (of_z w64 r))
 fract_64 f x r few fits is =
     rem_euclid_is_fract w64 f (2 ^ f) x r refl (step_below 63 f (omega (arith, few))) fits (rw (step_64 f few) at is)
 
-pub round_64 : (f : ℕ) (x s r : ℤ) → 6 ≤ f → f + 2 ≤ 64 → s ≡ wrap 64 (x +ℤ to_z w64 (1 * 2 ^ (f - 1) % 18446744073709551616))
+pub round_64 : (f : ℕ) (x s r : ℤ) → 6 ≤ f → f + 2 ≤ 64
+    → s ≡ wrap 64 (x +ℤ to_z w64 (1 * 2 ^ (f - 1) % 18446744073709551616))
     → IsFloor f s r → IsNearestWhole 64 f x r
 round_64 f x s r many few is floor =
     floor_is_nearest_whole 64 f x s r (rw (half_64 f many few) at is) floor (split_at 64 f many few) (lit< tt)

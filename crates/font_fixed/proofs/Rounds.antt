@@ -52,7 +52,8 @@ shr_is_floor f x =
 
 -- the bits above the fraction
 steps : (w : Width) (f : ℕ) → f ≤ hbits w → 2 ^ hbits w ≡ 2 ^ (hbits w - f) * 2 ^ f
-steps w f few = let is : hbits w ≡ (hbits w - f) + f = omega (arith, few) in ap (λ n. 2 ^ n) is ∙ pow-add 2 (hbits w - f) f
+steps w f few =
+    let is : hbits w ≡ (hbits w - f) + f = omega (arith, few) in ap (λ n. 2 ^ n) is ∙ pow-add 2 (hbits w - f) f
 
 pub floor_fits : (w : Width) (f : ℕ) (x r : ℤ) → f ≤ hbits w → SFits w x → IsFloor f x r → SFits w r
 floor_fits w f x r few fits floor =

@@ -21,7 +21,7 @@ shr_fits w (pos n) d fits = record { sfits = le_lt_trans (div-le_self n d) fits.
 shr_fits w (negsuc n) d fits = record { sfits = le_lt_trans (div-le_self n d) fits.sfits }
 
 -- a half more, of which the floor is taken, in two steps that leave no range
-halves_up : (n : ℤ) → shr_z (shr_z n 32768 +ℤ pos 1) 2 ≡ up n 65536
+pub halves_up : (n : ℤ) → shr_z (shr_z n 32768 +ℤ pos 1) 2 ≡ up n 65536
 halves_up n =
     let halves = shr_z n 32768 in
     up_gives n 65536 (shr_z (halves +ℤ pos 1) 2) (lit< tt)

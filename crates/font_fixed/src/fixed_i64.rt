@@ -110,7 +110,8 @@ impl<const F: u32> FixedI64<F> {
     #[inline(always)]
     pub fn checked_add(self, other: Self) -> Option<Self>
         ensures variant { IsSome result ↔ FitsBits 64 (bits_of self.entry +ℤ bits_of other.entry) }
-        ensures value { IfSome result (λ sum. bits_of sum ≡ (bits_of self.entry +ℤ bits_of other.entry)) }
+        ensures value { IfSome result
+            (λ sum. bits_of sum ≡ (bits_of self.entry +ℤ bits_of other.entry)) }
     {
         Some(Self(self.0.checked_add(other.0)?))
     }

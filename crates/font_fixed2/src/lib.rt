@@ -2,4 +2,3 @@
 #![tactic(auto)]
 
 pub use font_fixed::{F2Dot30, F4Dot12, F6Dot10};
-

@@ -157,8 +157,8 @@ impl Tag {
     /// # Errors
     ///
     /// Returns `InvalidLength(0)` for four spaces. Otherwise the error is of the first byte that
-    /// cannot be there: `ByteAfterSpace` for a printable byte after a space, and `InvalidByte` for a
-    /// space at the start or a byte that is not printable ASCII.
+    /// cannot be there: `ByteAfterSpace` for a printable byte after a space, and `InvalidByte` for
+    /// a space at the start or a byte that is not printable ASCII.
     #[inline]
     #[tactic(auto, using(crate::proofs::Good::tag_judgements))]
     pub fn validate(self) -> Result<(), InvalidTag>

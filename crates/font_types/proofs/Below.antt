@@ -69,7 +69,8 @@ map_take_more g (x ∷ xs) (suc i) d within =
     rw next (ap (λ ys. g x ∷ ys) (map_take_more g xs i d (omega arith)))
 
 pub total_one_more : (w f : ℕ) (texts : List (Bor (List ℕ))) (i : ℕ) (d : Bor (List ℕ)) (r s a : ℤ)
-    → i < length texts → ReadsTotal w f (map (λ t. t.now) (take i texts)) s → ReadsAs w f (get_or texts i d).now a → r ≡ (s +ℤ a)
+    → i < length texts → ReadsTotal w f (map (λ t. t.now) (take i texts)) s → ReadsAs w f (get_or texts i d).now a
+    → r ≡ (s +ℤ a)
     → ReadsTotal w f (map (λ t. t.now) (take (i + 1) texts)) r
 total_one_more w f texts i d r s a within total reads is =
     rw (is, ← map_take_more (λ t. t.now) texts i d within)

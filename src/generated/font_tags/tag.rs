@@ -122,8 +122,8 @@ impl Tag {
     /// # Errors
     ///
     /// Returns `InvalidLength(0)` for four spaces. Otherwise the error is of the first byte that
-    /// cannot be there: `ByteAfterSpace` for a printable byte after a space, and `InvalidByte` for a
-    /// space at the start or a byte that is not printable ASCII.
+    /// cannot be there: `ByteAfterSpace` for a printable byte after a space, and `InvalidByte` for
+    /// a space at the start or a byte that is not printable ASCII.
     #[inline]
     pub fn validate(self) -> Result<(), InvalidTag> {
         if self.eq_bytes(&[b' '; 4]) {

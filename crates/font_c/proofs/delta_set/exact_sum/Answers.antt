@@ -28,7 +28,8 @@ loop-i-2-preserved c =
     let xs = c.args.scalars.now in
     let i = c.loop-i-2.i in
     let result = c.product-sum-in-loop-i-2.result in
-    let term = byte_product words i set _ xs _ result c.split_at.ensures.back c.split_at-2.ensures.back (search rules) in
+    let term =
+    byte_product words i set _ xs _ result c.split_at.ensures.back c.split_at-2.ensures.back (search rules) in
     let product : result ≡ (get_or xs (words + i) (pos 0) *ℤ delta_at words set (words + i)) = search (rules, term) in
     let more = next_product words set xs (words + i) in
     let next : (c.loop-i-2.sum +ℤ result) ≡ first_products words set xs (words + (i + 1)) =

@@ -8,7 +8,8 @@ value : (c : goal.After-floor_bits_16) → c.floor_bits_16.result ≡ rounded c.
 value c =
     let f = c.args.f in
     let half = half_16 f c.requires.0 c.requires.1 in
-    let moved : to_z w16 (of_z w16 c.in_ok-moved.moved) ≡ (c.args.bits +ℤ to_z w16 (1 * 2 ^ (f - 1) % 65536)) = search rules in
+    let moved : to_z w16 (of_z w16 c.in_ok-moved.moved)
+    ≡ (c.args.bits +ℤ to_z w16 (1 * 2 ^ (f - 1) % 65536)) = search rules in
     floor_is_rounded f _ c.args.bits _ _ (two_halves f c.requires.0) (rw half at moved) c.floor_bits_16.ensures
 
 pub returns-in_err-moved-clause-variant : goal.returns-in_err-moved-clause-variant

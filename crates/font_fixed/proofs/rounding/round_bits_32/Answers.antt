@@ -8,7 +8,8 @@ value : (c : goal.After-floor_bits_32) → c.floor_bits_32.result ≡ rounded c.
 value c =
     let f = c.args.f in
     let half = half_32 f c.requires.0 c.requires.1 in
-    let moved : to_z w32 (of_z w32 c.in_ok-moved.moved) ≡ (c.args.bits +ℤ to_z w32 (1 * 2 ^ (f - 1) % 4294967296)) = search rules in
+    let moved : to_z w32 (of_z w32 c.in_ok-moved.moved)
+    ≡ (c.args.bits +ℤ to_z w32 (1 * 2 ^ (f - 1) % 4294967296)) = search rules in
     floor_is_rounded f _ c.args.bits _ _ (two_halves f c.requires.0) (rw half at moved) c.floor_bits_32.ensures
 
 pub returns-in_err-moved-clause-variant : goal.returns-in_err-moved-clause-variant

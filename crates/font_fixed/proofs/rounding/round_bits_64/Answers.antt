@@ -8,7 +8,8 @@ value : (c : goal.After-floor_bits_64) → c.floor_bits_64.result ≡ rounded c.
 value c =
     let f = c.args.f in
     let half = half_64 f c.requires.0 c.requires.1 in
-    let moved : to_z w64 (of_z w64 c.in_ok-moved.moved) ≡ (c.args.bits +ℤ to_z w64 (1 * 2 ^ (f - 1) % 18446744073709551616)) = search rules in
+    let moved : to_z w64 (of_z w64 c.in_ok-moved.moved)
+    ≡ (c.args.bits +ℤ to_z w64 (1 * 2 ^ (f - 1) % 18446744073709551616)) = search rules in
     floor_is_rounded f _ c.args.bits _ _ (two_halves f c.requires.0) (rw half at moved) c.floor_bits_64.ensures
 
 pub returns-in_err-moved-clause-variant : goal.returns-in_err-moved-clause-variant
