@@ -1,7 +1,7 @@
 -- 48.16 fixed-point numbers: wide enough for sums of deltas, and not stored in any table.
 use Rattle.std.specs.Prelude.{ℕ, ℤ, List}
+use Rattle.font_decimal.specs.Shortest.{shortest_text}
 use Rattle.font_fixed.specs.declared.fixed_i64.FixedI64.{FixedI64}
-use Rattle.font_fixed.specs.FixedI64.{bits_of, of_bits, text_of}
 
 -- an `F48Dot16`
 abbrev pub F48Dot16 : Type 0
@@ -9,12 +9,12 @@ F48Dot16 = FixedI64 16
 
 -- the raw value of an `F48Dot16`, its value times 2^16
 abbrev pub f48dot16_bits : F48Dot16 → ℤ
-f48dot16_bits x = bits_of x
+f48dot16_bits x = x.0
 
 -- the `F48Dot16` with this raw value
 abbrev pub f48dot16_of : ℤ → F48Dot16
-f48dot16_of bits = of_bits bits
+f48dot16_of bits = record { 0 = bits }
 
 -- the printed text of an `F48Dot16`: its shortest decimal
 abbrev pub f48dot16_text : F48Dot16 → List ℕ
-f48dot16_text x = text_of x
+f48dot16_text x = shortest_text (f48dot16_bits x) 16
