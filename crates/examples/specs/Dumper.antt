@@ -1,4 +1,4 @@
--- What a dump shows.
+-- Dumps of font values.
 use Rattle.std.specs.Prelude.{◌≡◌, ◌⊎◌, ℕ, ◌-◌, ◌^◌, pos, false, List, [], IsTrue, Option, Some, None, Result, Ok, Err}
 use Rattle.std.specs.Fmt.{digits, decimal, padded_integral, format_spec}
 use lib.Chars.{codes}
@@ -44,17 +44,17 @@ axis_form axis =
     (member (codes "name") (number (of_integer (pos (name_number axis.name))))
     (member (codes "tag") (string (tag_bytes axis.tag)) no_members)))
 
--- what a member is read as, if there is one
+-- the result of converting a member, if there is one
 abbrev IsRead : {T : Type 0} → (Data → Result T JsonFault → Type 0) → Option Data → Result T JsonFault → Type 0
 IsRead reads None result = result ≡ Err MissingMember
 IsRead reads (Some d) result = reads d result
 
--- what the member of that name is read as
+-- the result of converting the member of that name
 abbrev pub IsMemberRead : {T : Type 0} → (Data → Result T JsonFault → Type 0) → List ℕ → Data → Result T JsonFault
     → Type 0
 IsMemberRead reads name d result = IsRead reads (get name d) result
 
--- what an axis is read as, by what its members are: all three fields, or the first error
+-- the result of converting an axis, from its members: all three fields, or the first error
 abbrev pub IsAxisRead : (Result Tag JsonFault → Type 0) → (Result Fixed JsonFault → Type 0)
     → (Result NameId JsonFault → Type 0) → Result Axis JsonFault → Type 0
 IsAxisRead tag default name (Ok axis) = tag (Ok axis.tag) × default (Ok axis.default) × name (Ok axis.name)

@@ -1,4 +1,4 @@
--- What an evaluator of variations computes.
+-- Values of an evaluator of variations.
 use Rattle.std.specs.Prelude.{◌≡◌, ◌⊎◌, ℕ, ◌+◌, ◌-◌, ◌*◌, ◌%◌, ◌<◌, ℤ, pos, ◌+ℤ◌, ◌-ℤ◌, ◌≤ℤ◌, ◌<ℤ◌, ◌==◌}
 use Rattle.std.specs.Prelude.{List, length, take, drop, slice_index, slice_index_or, Result, Ok, Err}
 use Rattle.std.specs.Prelude.{nat_le, nat_eq, if◌then◌else◌}

@@ -1,4 +1,4 @@
--- What a linter reports.
+-- Reports of a linter.
 use Rattle.std.specs.Prelude.{◌<◌, Bool, false, ◌||◌, ◌==◌, List, [], ◌∷◌, length}
 use Rattle.std.specs.Prelude.{Err}
 use Rattle.std.specs.List.{AllWithin, HoldsAt}

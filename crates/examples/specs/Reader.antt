@@ -1,4 +1,4 @@
--- What a reader finds in tables.
+-- Fields of tables that a reader finds.
 use Rattle.std.specs.Prelude.{◌≡◌, ◌≢◌, ◌⊎◌, ℕ, ℤ, ◌-◌, ◌*◌, ◌<◌, min}
 use Rattle.std.specs.Prelude.{List, length, All}
 use Rattle.std.specs.List.{HoldsAt}

@@ -72,7 +72,7 @@ pub fn glyph_name(glyph: GlyphId16, alloc: Global) -> Result<String, AllocError>
 
 // ---- JSON
 
-/// What a dump shows of an axis.
+/// The fields of an axis that a dump shows.
 #[derive(Clone, Copy, PartialEq, Debug)]
 pub struct Axis {
     pub tag: Tag,

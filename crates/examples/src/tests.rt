@@ -1,4 +1,4 @@
-//! Each example at work, with values from OpenType and from arithmetic by hand.
+//! Calls of each example, with values from OpenType and from arithmetic by hand.
 
 mod dumper;
 mod evaluator;

@@ -21,7 +21,7 @@ pub sum_of_all : (xs ys : List ℤ) (n : ℕ) → length xs ≡ length ys → le
 sum_of_all xs ys n same all =
     ap (fold plus_product (pos 0)) (take_all n (zip xs ys) (omega (arith, length-zip xs ys)))
 
--- 128 bits hold the sum with one product more
+-- the sum with one product more fits in 128 bits
 pub sum_grows : (xs ys : List ℤ) (n : ℕ) (sum term next : ℤ) → length xs ≡ length ys → n < length xs → n < 2 ^ 64
     → (sum ≡ sum_of_first n xs ys) × (unsigned_abs sum ≤ n * 2 ^ 62)
     → term ≡ (get_or xs n (pos 0) *ℤ get_or ys n (pos 0)) → unsigned_abs term ≤ 2 ^ 62

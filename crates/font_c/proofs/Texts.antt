@@ -1,4 +1,4 @@
--- What room is enough for a decimal.
+-- Buffers that are long enough for a decimal.
 use Rattle.std.proofs.Common.{ℕ, ◌<◌, ◌≤◌, ℤ, max, List, length, arith}
 use Rattle.std.proofs.Common.{SFits}
 use Rattle.std.specs.Int.{w64}
@@ -9,11 +9,11 @@ use Rattle.font_types.specs.Shortest.{shortest_text}
 use Rattle.font_decimal.proofs.Padded.{padded_fits}
 use Rattle.font_decimal.proofs.Printed.{length-shortest_body-lt, shortest_is_decimal}
 
--- what is printed of 64 bits has less than 22 bytes beside its `-`
+-- the text of a 64-bit number has fewer than 22 bytes after its `-`
 pub printed_is_short : (b : ℤ) (f : ℕ) → SFits w64 b → f ≤ 30 → length (unsigned_body (shortest_text b f)) < 22
 printed_is_short b f fits few = length-shortest_body-lt b f (omega (arith, ints, fits, abs_is b)) few
 
--- such a text fits a room of 22 bytes, padded, where no width asks for more
+-- padded, it fits in 22 bytes, unless the width is greater
 pub short_text_fits : (text : List ℕ) (pad : Pad) (n : ℕ) → length (unsigned_body text) < 22
     → max 22 pad.width ≤ n → length (padded_text text pad) ≤ n
 short_text_fits text pad n short enough = padded_fits text pad 22 n short enough

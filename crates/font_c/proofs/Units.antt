@@ -1,4 +1,4 @@
--- The nearest font unit, by two shifts of 64 bits; and that none is near what 64 bits do not hold.
+-- The nearest font unit by two 64-bit shifts, and that no font unit is near a number that does not fit in 64 bits.
 use Rattle.std.proofs.Common.{◌≡◌, lit<, ℤ, pos, neg_ℤ, ◌+ℤ◌, ◌≤ℤ◌, ◌<ℤ◌, arith, w16, w64, SFits, to_z, of_z}
 use Rattle.std.proofs.lemmas.Int.{ints, to_z-of_z}
 use lib.Signed.{shr_z}

@@ -1,4 +1,4 @@
-//! The text of a tag, which needs no memory but its own.
+//! The text of a tag, in a buffer of its own.
 
 ghost use Rattle.std.specs.Prelude.{◌≡◌, ◌+◌, ◌<◌, ◌≤◌, ◌++◌, [], length, true};
 ghost use Rattle.std.specs.Fmt.{digit_glyph};
@@ -6,7 +6,7 @@ ghost use Rattle.font_types.specs.Tag.{byte_text, tag_bytes, tag_text};
 
 use font_types::Tag;
 
-// A byte that is not shown as it is takes six: `{0xFF}`.
+// A byte that is not printable takes six: `{0xFF}`.
 const LEN: usize = 24;
 
 /// The text of a tag, as far as it is made.
@@ -49,7 +49,7 @@ impl TagText {
         }
     }
 
-    // Appends what a byte is shown as.
+    // Appends the text of a byte.
     fn push(&mut self, byte: u8)
         requires { length (made_text self.old) + 6 ≤ 24 }
         ensures text { made_text self.new ≡ made_text self.old ++ byte_text byte }
@@ -79,7 +79,7 @@ impl TagText {
     }
 }
 
-// The digit that is shown for a number below 16.
+// Returns the hexadecimal digit of a number below 16.
 fn hexadecimal_digit(n: u8) -> u8
     requires { n < 16 }
     ensures { result ≡ digit_glyph true n }

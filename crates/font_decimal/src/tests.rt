@@ -1,4 +1,4 @@
-//! Fractions that no format has, long padding, and texts of errors.
+//! Fraction bits that no format has, long padding, and texts of errors.
 ghost use Rattle.std.specs.Prelude.{◌≡◌, ◌<◌, ◌≤◌, ◌≤ℤ◌, pos};
 
 use crate::laws::reads_in_order;
@@ -11,17 +11,17 @@ const LEAST: i64 = -0x8000_0000;
 
 const GREATEST: i64 = 0x7FFF_FFFF;
 
-// A reading as a 32-bit number with 16 bits of fraction.
+// Parses as a 32-bit number with 16 fraction bits.
 fn fixed(text: &str) -> Result<i64, DecimalFault> {
     read_decimal(text, 16, LEAST, GREATEST)
 }
 
-/// A text, the bits of fraction, and what it is to be read as.
+/// A text, the fraction bits, and the expected result.
 type Reading = (&'static str, u32, Result<i64, DecimalFault>);
 
 const TOO_FAR: Result<i64, DecimalFault> = Err(DecimalFault::OutOfRange);
 
-// The first text that is read as something else.
+// Returns the first text whose result is another.
 fn misread(least: i64, greatest: i64, readings: &[Reading]) -> Option<&'static str>
     requires { (least ≤ℤ pos 0) × (pos 0 ≤ℤ greatest) }
 {
@@ -33,7 +33,7 @@ fn misread(least: i64, greatest: i64, readings: &[Reading]) -> Option<&'static s
     None
 }
 
-// The first text that is not what its number is printed as, or not read as it again.
+// Returns the first text that its number does not print as and parse from.
 fn misprinted(numbers: &[(i64, u32, &'static str)]) -> Option<&'static str> {
     for (bits, f, text) in numbers {
         let is_known = *f >= 6 && *f <= 30;
@@ -99,8 +99,8 @@ fn reads_to_the_ends_of_64_bits(rt: HostRuntime) {
     assert_eq!(rt; wrong, None);
 }
 
-// Half a step of 1 / 2^30 has 31 digits, and half a step of 1 / 2^19 is the first whose 20 digits
-// do not fit 64 bits.
+// Half a step of 2^-30 has 31 digits, and half a step of 2^-19 is the first whose 20 digits do not
+// fit in 64 bits.
 #[test]
 fn reads_long_fractions(rt: HostRuntime) {
     let wrong = misread(
@@ -157,8 +157,8 @@ fn pad(width: usize, fill: u8, align: Align, plus: bool, zeros: bool) -> Pad
     }
 }
 
-// The length of a text padded into a room of `#`, which then begins with this; `None` where the
-// text is no decimal or the room is too short.
+// Returns the length of a text padded into a buffer of `#`, which then begins with `front`; or
+// `None` if the text is not a decimal or the buffer is too short.
 fn is_padded(text: &str, pad: &Pad, room: &mut [u8], front: &[u8]) -> Option<usize>
     requires { pad.now.fill < 128 }
 {
@@ -173,7 +173,7 @@ fn is_padded(text: &str, pad: &Pad, room: &mut [u8], front: &[u8]) -> Option<usi
     }
 }
 
-// A leading `-` is the sign, also of zero.
+// A leading `-` is the sign, even of zero.
 #[test]
 fn pads_any_decimal(rt: HostRuntime) {
     for &(text, width, plus, zeros, want) in &[

@@ -20,7 +20,7 @@ left_from-step n small other = elim (or_cases _ _ (agree_below_at is_step (λ _.
   | inr gap ↦ absurd (other (eqb-true n 15 gap))
 ]
 
--- the number that comes next: the one that is reached, or the one after the gap
+-- the next number: the one that is reached, or the one after the gap
 pub left_from-next : (n k : ℕ) → ((n ≡ 15) × (k ≡ 16)) ⊎ ((n ≢ 15) × (k ≡ n)) → k ≤ 25
     → left_from n ≡ k ∷ left_from (k + 1)
 left_from-next n k (inl gap) small = ap left_from gap.0 ∙ left_from-step 16 (omega arith) (λ same. omega (arith, same))
@@ -28,7 +28,7 @@ left_from-next n k (inl gap) small = ap left_from gap.0 ∙ left_from-step 16 (o
 left_from-next n k (inr plain) small = left_from-step n (omega (arith, plain.1)) plain.0 ∙ sym
     (ap (λ m. m ∷ left_from (m + 1)) plain.1)
 
--- how many are left: before the gap, after it, and after the last
+-- the number of those left: before the gap, after it, and after the last
 pub left_from-low : (n : ℕ) → n ≤ 15 → length (left_from n) ≡ 25 - n
 left_from-low n low =
     eqb-true _ _ (agree_below_at (λ m. length (left_from m) == 25 - m) (λ _. true) 16 n refl (omega arith))

@@ -1,4 +1,4 @@
--- Sums over an index, and sums of the numbers that texts are read as: the empty sum, and one term more.
+-- Sums over an index, and sums of numbers parsed from texts: the empty sum, and one term more.
 use Rattle.std.proofs.Common.{◌≡◌, ◌∙◌, sym, ap, refl, lit<, arith, ℕ, zero, suc, ◌+◌, ◌<◌, ℤ, pos, ◌+ℤ◌, add-one}
 use Rattle.std.proofs.Common.{List, [], ◌∷◌, ◌++◌, length, take, get_or, map}
 use Rattle.std.proofs.lemmas.Int.{ints}

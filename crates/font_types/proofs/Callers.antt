@@ -1,5 +1,5 @@
--- What callers of this crate cite of all below it: the ruleset `calls`, which a crate names once at its head, and
--- lemmas for answers of their own.
+-- Lemmas of this crate and those below for its callers: the ruleset `calls`, which a crate names once at its head, and
+-- lemmas for answers.
 use Rattle.font_base.proofs.ScalarCalls.{scalar_calls}
 use Rattle.font_fixed.proofs.Calls.{calls_16, calls_64}
 use Rattle.font_fixed.proofs.NarrowCalls.{narrow_calls, quarter_neg_one}
@@ -38,7 +38,7 @@ pub use Rattle.font_types.proofs.Searches.{found_by_number}
 pub use Rattle.font_types.proofs.SumCalls.{running_total, running_total_from}
 pub use Rattle.font_types.specs.Json.Laws.{fixed_form, signed_form, unsigned_form, tag_form, version_form_of}
 
--- all that functions of callers prove by
+-- the rules by which functions of callers prove
 pub ruleset calls = (
   scalar_calls,
   search_calls,

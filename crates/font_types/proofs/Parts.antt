@@ -13,7 +13,7 @@ use Rattle.font_fixed.proofs.NumberLaws.{mul_div_between}
 nonzero : pos 65536 ≢ pos 0
 nonzero same = absurd (omega (arith, ints, same))
 
--- two parts: stated of the term that `*` gives, since a rule's conclusion has to show all its variables
+-- two parts: stated of the term of `*`, because a rule's conclusion has to show all its variables
 module _ (x y : ℤ) (from_x : pos 0 ≤ℤ x) (to_x : x ≤ℤ pos 65536) (from : pos 0 ≤ℤ y) (to : y ≤ℤ pos 65536) where
   between : (pos 0 ≤ℤ wrap 32 (near (x *ℤ y) 65536)) × (wrap 32 (near (x *ℤ y) 65536) ≤ℤ x)
   between = mul_div_between 32 x y (pos 65536) (wrap 32 (near (x *ℤ y) 65536)) (lit< tt)

@@ -1,5 +1,5 @@
--- What searches say, in the form that the goals of their callers have: in an array of glyph ids, and among records in
--- the order of a number.
+-- The results of searches, in the form of their callers' goals: in an array of glyph ids, and among records sorted by
+-- a number.
 use Rattle.std.proofs.Common.{◌≡◌, ◌≢◌, ◌<◌, ◌≤◌, ◌^◌, ℕ, pos, nat_lt, refl, subst, List, get_or}
 use Rattle.std.proofs.Common.{Result, Ok, Err, IfOk, IfErr, IfSome, IfNone, MatchResult}
 use Rattle.std.specs.Cmp.{ranks}
@@ -41,7 +41,7 @@ module _ (bytes : List ℕ) (n : ℕ) (key : GlyphId16) (result : Result ℕ ℕ
       → IfErr result (λ _. (k : ℕ) → k < n → element 2 bytes k ≢ bytes_of 2 (pos (glyph16_number key)))
   glyph_absent = number_absent glyph16_number 2 n (glyph16_number key) (element 2 bytes) key result refl
 
--- the same of the place alone, as `ok` gives it
+-- the same of the index alone, as `ok` returns it
 found_some : (P : ℕ → Type 0) (result : Result ℕ ℕ) → IfOk result P → IfSome (result_ok result) P
 found_some P (Ok i) found = found
 found_some P (Err i) found = tt
@@ -83,7 +83,7 @@ pub ruleset search_calls = (
   word_absent_none,
 )
 
--- where elements are in the order of their numbers, a search answers a place that has the number, or none has it
+-- if elements are sorted by their numbers, a search returns the index of one with the number, or no element has it
 pub found_by_number : {X : Type 0} (number_of : X → ℕ) (xs : List X) (n : ℕ) (result : Result ℕ ℕ)
     → IsSortedByKey number_of nat_cmp xs → IsBinarySearchResult (λ x. nat_cmp (number_of x) n) xs result
     → MatchResult result (HoldsAt (λ x. number_of x ≡ n) xs) (λ _. All (λ x. number_of x ≢ n) xs)

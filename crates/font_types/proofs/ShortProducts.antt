@@ -1,4 +1,4 @@
--- Products of two numbers of 16 bits: how large they are, so that sums and differences of them fit too.
+-- Products of two 16-bit numbers: bounds, so that sums and differences of them fit too.
 use Rattle.std.proofs.Common.{◌≤◌, ◌^◌, ℤ, pos, neg_ℤ, ◌*ℤ◌, ◌≤ℤ◌, arith, w16, w32, w64, SFits}
 use Rattle.std.proofs.Common.{unsigned_abs}
 use Rattle.std.proofs.Math.Nat.{mul-le-mul}

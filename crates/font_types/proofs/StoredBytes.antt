@@ -1,4 +1,4 @@
--- What callers know of stored bytes: that `==` finds those of a number, and the shortest text of the number just read.
+-- Stored bytes: `==` compares those of numbers, and a number just read has a shortest text.
 use Rattle.std.proofs.Common.{◌≡◌, ◌∙◌, ℕ, ℤ, sym, lit<, arith, Bool, List}
 use Rattle.std.proofs.lemmas.Int.{ints}
 use Rattle.std.specs.Prelude.{IsTrue}
@@ -9,7 +9,7 @@ use Rattle.font_base.specs.Bytes.Laws.{bytes_of_is, bytes_of_are, bytes_unique, 
 use Rattle.font_decimal.specs.Shortest.{IsShortest, shortest_text}
 use Rattle.font_decimal.proofs.Printed.{shortest_is}
 
--- bytes that equal those of a number are its bytes, and no others do
+-- bytes compare equal to those of a number if and only if they are its bytes
 module _ (k : ℕ) (z : ℤ) (stored bytes : List ℕ) (same : Bool) where
   pub is_stored : same ≡ bytes_eq stored bytes → stored ≡ bytes_of k z → IsTrue same → IsBytesOf k z bytes
   is_stored compared is test =

@@ -1,4 +1,4 @@
--- What callers name once of sums that wrap at each step: each is the exact sum, wrapped.
+-- Sums that wrap at each step: each is the exact sum, wrapped.
 use Rattle.std.proofs.Common.{◌≡◌, ◌∙◌, sym, ap, ℕ, ◌+◌, ◌<◌, List, length, take, get_or, ℤ, pos, ◌+ℤ◌, lit<, arith}
 use Rattle.std.proofs.Common.{◌≤◌, ◌*ℤ◌, ◌%◌, ◌^◌, w16, w32, w64, SFits, to_z, of_z, refl, lit≤, unsigned_abs}
 use Rattle.std.specs.Int.{w128}
@@ -32,7 +32,7 @@ running_total w number_of xs i d some within =
       fold_more (λ sum x. sum +ℤ number_of x) (pos 0) xs i d within,
     )
 
--- the same of numbers seen in one way, since `search` does not find the general one
+-- the same for each kind of number, because `search` does not find the general one
 abbrev pub IsRunning : {T : Type 0} → ℕ → (T → ℤ) → Type 0
 IsRunning {T} w number_of = (xs : List T) (i : ℕ) (d : T) → i < length xs
     → wrap w (wrap w (total number_of (take i xs)) +ℤ number_of (get_or xs i d)) ≡ wrap w
@@ -113,7 +113,7 @@ sum_of_sums_64 a b = wrap-add_left 64 a (wrap 64 b) (lit< tt) ∙ wrap-add_right
 
 pub ruleset sum_calls_from = (sum_calls, running_x_from, running_y_from, sum_of_sums_64)
 
--- ---- quantities in design units, of 16 bits
+-- ---- 16-bit quantities in font design units
 
 pub running_words : IsRunning 16 fword_number
 running_words xs i d within = running_total 16 fword_number xs i d (lit< tt) within
@@ -121,7 +121,7 @@ running_words xs i d within = running_total 16 fword_number xs i d (lit< tt) wit
 pub none_16 : wrap 16 (pos 0) ≡ pos 0
 none_16 = fits_16 (pos 0) (omega (arith, ints))
 
--- whole numbers of 16 bits, where the sum is a variable of the code
+-- 16-bit integers, if the sum is a variable of the code
 pub running_16 : IsRunning 16 (λ (n : ℤ). n)
 running_16 xs i d within = running_total 16 (λ n. n) xs i d (lit< tt) within
 
@@ -140,7 +140,7 @@ pub sum_onto_32 : (m : ℕ) (y : ℤ) → m < 4294967296 → SFits w32 y
     → to_z w32 ((m + of_z w32 y) % 4294967296) ≡ wrap 32 (to_z w32 m +ℤ y)
 sum_onto_32 m y below fits = wrapping_add_onto w32 m y below fits ∙ int_wrap-wrap w32 (to_z w32 m +ℤ y)
 
--- ---- 128 bits, which 64 are cut from
+-- ---- 128 bits, wrapped to 64
 
 pub added_128 : (x y : ℤ) → SFits w128 x → SFits w128 y
     → to_z w128 ((of_z w128 x + of_z w128 y) % 2 ^ 128) ≡ wrap 128 (x +ℤ y)
@@ -152,7 +152,7 @@ fits_128 z fits = wrap-fits 128 z (lit< tt) fits
 pub cut_to_64 : (z : ℤ) → wrap 64 (wrap 128 z) ≡ wrap 64 z
 cut_to_64 z = wrap-wrap 64 128 z (lit< tt) (lit≤ tt)
 
--- a product of 32 bits each
+-- a product of two 32-bit numbers
 pub term_bound : (x y : ℤ) → SFits w32 x → SFits w32 y → unsigned_abs (x *ℤ y) ≤ 2 ^ 62
 term_bound x y fits_x fits_y =
     let low : unsigned_abs x ≤ 2 ^ 31 = omega (arith, ints, fits_x) in
@@ -164,7 +164,7 @@ term_bound x y fits_x fits_y =
           {m₂ = 2 ^ 31} low high,
     )
 
--- a term more, where the sum is far from the ends of 128 bits
+-- one term more, if the sum is far from the limits of 128 bits
 pub exact_term : (sum term next : ℤ) → unsigned_abs sum ≤ 2 ^ 126 → unsigned_abs term ≤ 2 ^ 62
     → (FitsBits 128 (sum +ℤ term) → next ≡ (sum +ℤ term)) → next ≡ (sum +ℤ term)
 exact_term sum term next far small exact =

@@ -114,7 +114,7 @@ fn glyphs_found(rt: HostRuntime) -> Result<(), Fail> {
     Ok(())
 }
 
-// A scalar of one's own is stored as its number is, and its fields compare by their values.
+// A user-defined scalar is stored as its number is, and its fields compare by their values.
 #[test]
 fn sizes_in_fields(rt: HostRuntime) {
     for &(size, other) in &[(0x0102, 0x0103), (255, 256), (0x7FFF, 0x8000)] {

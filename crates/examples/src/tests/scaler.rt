@@ -7,7 +7,7 @@ use crate::scaler::{
 use font_types::{F26Dot6, Fixed, Matrix, Point};
 use std::test::Fail;
 
-// A matrix of whole numbers and halves, given twice as large.
+// Returns the matrix of half these numbers.
 fn matrix_of_halves(twice: [i32; 6]) -> Matrix<Fixed> {
     Matrix::from_elements(twice).map(|number| Fixed::from_bits(number.wrapping_mul(0x8000)))
 }

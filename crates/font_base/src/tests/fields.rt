@@ -35,7 +35,7 @@ fn equal_by_bytes(rt: HostRuntime) -> Result<(), Fail> {
     Ok(())
 }
 
-/// An array of one's own, whose comparison is the trait's.
+/// A user-defined array, which compares by the trait's default method.
 #[derive(Clone, Copy)]
 struct Pair([u8; 2]);
 
@@ -129,7 +129,7 @@ fn header_wants_its_length(rt: HostRuntime) {
     assert!(rt; TableDataRef::<SampleHeader>::new(&bytes).is_some());
 }
 
-/// A header of no fields, and no bytes.
+/// A header of no fields and no bytes.
 #[derive(Drop)]
 struct EmptyHeader;
 

@@ -19,7 +19,7 @@ fn traits(_rt: HostRuntime) {
     is_element::<Fixed>();
 }
 
-// Whether a shape is shown by this text, and is equal to its clone.
+// Returns whether a shape has this `{:?}`, and is equal to its clone.
 fn is_shown<T: Copy + Eq + Debug>(alloc: Global, shape: T, text: &str) -> Result<bool, AllocError> {
     Ok(format!(in alloc; "{shape:?}")?.as_str() == text && shape.clone()? == shape)
 }

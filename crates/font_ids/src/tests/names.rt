@@ -4,7 +4,7 @@ use crate::NameId;
 use std::alloc::{AllocError, Global};
 use std::test::Fail;
 
-// The constants, each with its number, and the text that both forms show.
+// The constants, each with its number and its text, of `{}` and `{:?}`.
 macro_rules! named {
     ($($name:ident $number:literal)*) => {
         [$((NameId::$name, $number, stringify!($name)),)*]

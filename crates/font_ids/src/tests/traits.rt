@@ -33,7 +33,7 @@ fn traits(_rt: HostRuntime) {
     is_nullable::<Nullable<Offset24>>();
 }
 
-// Whether a set of a value has an equal one, and not another.
+// Returns whether a set of one value has an equal value, and not another.
 fn is_found<T: Copy + Eq + Hash + Drop>(
     alloc: Global,
     value: T,

@@ -1,4 +1,4 @@
-//! Tags made, judged, printed and stored.
+//! Tags: creation, validation, texts and bytes.
 
 use crate::{InvalidTag, Tag};
 use std::alloc::{AllocError, Global};
@@ -67,7 +67,7 @@ fn invalid(rt: HostRuntime) {
     }
 }
 
-/// Whether a tag shows the text under any flags, which it does not hear.
+/// Returns whether a tag has this text with any flags, which it ignores.
 fn is_printed(alloc: Global, tag: Tag, text: &str) -> Result<bool, AllocError> {
     let forms = format!(in alloc; "{tag}|{tag:8}|{tag:>10}|{tag:.0}|{tag:?}")?;
     let texts = format!(in alloc; "{text}|{text}|{text}|{text}|Tag({text})")?;

@@ -9,7 +9,7 @@ use std::hash::Hash;
 use std::str::FromStr;
 use std::test::Fail;
 
-/// Whether a set that a value is put into has its equal, and not another.
+/// Returns whether a set of one value has an equal value, and not another.
 fn is_scalar<T>(alloc: Global, value: T, equal: T, other: T) -> Result<bool, AllocError>
 where
     T: Copy + Ord + Hash + Default + Debug + Scalar + IdentityEq,
@@ -25,13 +25,13 @@ fn is_version<T: Display + Compatible<T> + Compatible<(u16, u16)>>() {}
 
 fn is_read<T: FromStr>() {}
 
-fn is_told<T: Clone + Eq + Debug + Display>() {}
+fn is_error<T: Clone + Eq + Debug + Display>() {}
 
 #[test]
 fn traits(rt: HostRuntime) -> Result<(), Fail> {
     is_shown::<Tag>();
     is_read::<Tag>();
-    is_told::<InvalidTag>();
+    is_error::<InvalidTag>();
     is_version::<Version16Dot16>();
     is_version::<MajorMinor>();
     let alloc = rt.alloc();

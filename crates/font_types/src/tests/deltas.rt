@@ -54,7 +54,7 @@ fn greatest_sum(rt: HostRuntime) {
     assert!(rt; checked_delta_sum(&[GREATEST, GREATEST, back, step]).is_none());
 }
 
-/// The sums of the first two of these terms and of all three, wrapped and checked.
+/// Three terms, and the sums of the first two and of all three, wrapped and checked.
 const TERM_ROWS: [([(Fixed, i32); 3], i64, Option<i64>, i64, Option<i64>); 3] = [
     (
         [GREATEST, GREATEST, BACK],
@@ -108,7 +108,7 @@ fn quantities_moved(rt: HostRuntime) {
     assert!(rt; vary(least, &[GREATEST]) == Some(4611686016279904256));
 }
 
-// The sum is the greatest or the least of 64 bits, and what is moved by it lies outside of them.
+// The sum is the greatest or the least of 64 bits, and the quantity plus the sum does not fit.
 #[test]
 fn quantities_moved_beyond_64_bits(rt: HostRuntime) {
     let greatest = [GREATEST, GREATEST, (Fixed::EPSILON, -1)];

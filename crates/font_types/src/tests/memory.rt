@@ -5,13 +5,13 @@
 use crate::*;
 use std::alloc::Global;
 
-// Whether the form is this text.
+// Returns whether the form is this string.
 fn shows<T: JsonScalar>(value: T, alloc: Global, text: &str) -> Result<bool, JsonFault> {
     let form = value.to_json(alloc)?;
     Ok(form.as_str() == Some(text))
 }
 
-// The same, by a second call where memory for the first was refused.
+// The same, with a second conversion if memory for the first was refused.
 fn shows_at_last<T: JsonScalar + Copy>(value: T, alloc: Global, text: &str) -> bool {
     match shows(value, alloc, text) {
         Err(JsonFault::Memory) => shows(value, alloc, text) == Ok(true),
@@ -19,7 +19,7 @@ fn shows_at_last<T: JsonScalar + Copy>(value: T, alloc: Global, text: &str) -> b
     }
 }
 
-// The version that its form is read back as.
+// Converts a version to JSON and back.
 fn read_back(version: MajorMinor, alloc: Global) -> Result<MajorMinor, JsonFault> {
     let form = version.to_json(alloc)?;
     MajorMinor::from_json(&form)

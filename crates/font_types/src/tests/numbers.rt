@@ -1,4 +1,4 @@
-//! Whole numbers as numbers.
+//! Integers as JSON numbers.
 
 use crate::{
     FWord, GlyphId, GlyphId16, GlyphId24, Int24, JsonFault, JsonScalar, LongDateTime, NameId,
@@ -8,8 +8,8 @@ use serde_json::{Value, json};
 use std::alloc::Global;
 use std::test::Fail;
 
-// The first number that is not the form of its value, or from which its value is not read back, or
-// the first of those beyond the ends that is not out of range.
+// Returns the first number that its value does not convert to and from, or the first number beyond
+// the range that is not an error.
 fn misread<T: JsonScalar + Copy + PartialEq>(
     alloc: Global,
     rows: &[(T, i64)],
