@@ -59,7 +59,7 @@ fn text_of_parts(
 }
 
 #[test]
-fn reads_bytes_as_it_reads_texts(rt: HostRuntime) {
+fn parse_bytes(rt: HostRuntime) {
     for (bytes, want) in &[
         (b"-1.5", Ok(-98304)),
         (b"1.5\xFF", Err(DecimalFault::Syntax)),
@@ -71,7 +71,7 @@ fn reads_bytes_as_it_reads_texts(rt: HostRuntime) {
 }
 
 #[test]
-fn refuses_by_grammar_then_by_range(rt: HostRuntime) {
+fn syntax_errors(rt: HostRuntime) {
     for &text in &[
         "", "-", ".5", "5.", "+1", "1e3", "1.2.3", " 1", "1 ", "--1", "-.5", "1_0",
     ] {
@@ -80,7 +80,7 @@ fn refuses_by_grammar_then_by_range(rt: HostRuntime) {
 }
 
 #[test]
-fn reads_to_the_ends_of_64_bits(rt: HostRuntime) {
+fn parse_limits_of_64_bits(rt: HostRuntime) {
     let wrong = misread(
         i64::MIN,
         i64::MAX,
@@ -102,7 +102,7 @@ fn reads_to_the_ends_of_64_bits(rt: HostRuntime) {
 // Half a step of 2^-30 has 31 digits, and half a step of 2^-19 is the first whose 20 digits do not
 // fit in 64 bits.
 #[test]
-fn reads_long_fractions(rt: HostRuntime) {
+fn parse_long_fractions(rt: HostRuntime) {
     let wrong = misread(
         LEAST,
         GREATEST,
@@ -129,7 +129,7 @@ fn reads_long_fractions(rt: HostRuntime) {
 }
 
 #[test]
-fn prints_up_to_ten_places(rt: HostRuntime) {
+fn print_up_to_ten_places(rt: HostRuntime) {
     let wrong = misprinted(&[
         (1, 30, "0.000000001"),
         (7, 30, "0.0000000065"),
@@ -159,7 +159,7 @@ fn pad(width: usize, fill: u8, align: Align, plus: bool, zeros: bool) -> Pad
 
 // Returns the length of a text padded into a buffer of `#`, which then begins with `front`; or
 // `None` if the text is not a decimal or the buffer is too short.
-fn is_padded(text: &str, pad: &Pad, room: &mut [u8], front: &[u8]) -> Option<usize>
+fn padded_len(text: &str, pad: &Pad, room: &mut [u8], front: &[u8]) -> Option<usize>
     requires { pad.now.fill < 128 }
 {
     if read_decimal(text, 6, LEAST, GREATEST).is_err() {
@@ -175,7 +175,7 @@ fn is_padded(text: &str, pad: &Pad, room: &mut [u8], front: &[u8]) -> Option<usi
 
 // A leading `-` is the sign, even of zero.
 #[test]
-fn pads_any_decimal(rt: HostRuntime) {
+fn pad_signs_and_leading_zeros(rt: HostRuntime) {
     for &(text, width, plus, zeros, want) in &[
         ("-0", 0, true, false, "-0##"),
         ("-0", 4, true, false, "-0**"),
@@ -188,14 +188,14 @@ fn pads_any_decimal(rt: HostRuntime) {
         let pad = pad(width, b'*', Align::Left, plus, zeros);
         let len = want.trim_end_matches('#').len();
         assert!(rt;
-            is_padded(text, &pad, &mut room, want.as_bytes()) == Some(len),
+            padded_len(text, &pad, &mut room, want.as_bytes()) == Some(len),
             "at {want}"
         );
     }
 }
 
 #[test]
-fn pads_to_a_great_width(rt: HostRuntime) -> Result<(), Fail> {
+fn pad_to_a_large_width(rt: HostRuntime) -> Result<(), Fail> {
     for &(align, zeros, front, after) in &[
         (Align::Right, false, "", "1.5"),
         (Align::Right, true, "", "1.5"),
@@ -205,7 +205,7 @@ fn pads_to_a_great_width(rt: HostRuntime) -> Result<(), Fail> {
         let fill = if zeros { "0" } else { "*" }.repeat(rt.alloc(), 4197)?;
         let want = format!(in rt.alloc(); "{front}{fill}{after}#")?;
         let pad = pad(4200, b'*', align, false, zeros);
-        let written = is_padded("1.5", &pad, &mut room, want.as_bytes());
+        let written = padded_len("1.5", &pad, &mut room, want.as_bytes());
         assert!(rt;
             written == Some(4200) && room.ends_with(&[b'#'; 800]),
             "'{front}', zeros {zeros}"
@@ -215,18 +215,18 @@ fn pads_to_a_great_width(rt: HostRuntime) -> Result<(), Fail> {
 }
 
 #[test]
-fn pads_a_long_text(rt: HostRuntime) -> Result<(), Fail> {
+fn pad_a_long_text(rt: HostRuntime) -> Result<(), Fail> {
     let text = text_of_parts(rt.alloc(), "1.", "0", 70_000, "5")?;
     let want = format!(in rt.alloc(); "+{text}##")?;
     let mut room = "#".repeat(rt.alloc(), 70_006)?.into_bytes();
     let plus = pad(0, b'*', Align::Left, true, false);
-    let written = is_padded(text.as_str(), &plus, &mut room, want.as_bytes());
+    let written = padded_len(text.as_str(), &plus, &mut room, want.as_bytes());
     assert!(rt; written == Some(70_004), "a text of 70,003 bytes");
     Ok(())
 }
 
 #[test]
-fn texts_and_numbers_of_faults(rt: HostRuntime) -> Result<(), Fail> {
+fn error_texts_and_discriminants(rt: HostRuntime) -> Result<(), Fail> {
     let (syntax, range) = (DecimalFault::Syntax, DecimalFault::OutOfRange);
     let text = format!(in rt.alloc(); "{syntax} {syntax:?}, {range} {range:?}")?;
     assert!(rt; text.as_str() == "not a decimal number Syntax, number out of range OutOfRange");
@@ -235,20 +235,20 @@ fn texts_and_numbers_of_faults(rt: HostRuntime) -> Result<(), Fail> {
     Ok(())
 }
 
-fn is_fault<T: Clone + Eq + Debug + Display>() {}
+fn is_error<T: Clone + Eq + Debug + Display>() {}
 
-fn is_copied<T: Copy>() {}
+fn is_copy<T: Copy>() {}
 
 #[test]
 fn traits(_rt: HostRuntime) {
-    is_fault::<DecimalFault>();
-    is_copied::<Shortest>();
-    is_copied::<Pad>();
-    is_copied::<Align>();
+    is_error::<DecimalFault>();
+    is_copy::<Shortest>();
+    is_copy::<Pad>();
+    is_copy::<Align>();
 }
 
 #[test]
-fn shown_and_read_in_order(rt: HostRuntime) -> Result<(), Fail> {
+fn shortest_text_and_order(rt: HostRuntime) -> Result<(), Fail> {
     let shown = format!(in rt.alloc(); "{}", Shortest::new(-10139, 14))?;
     assert!(rt; shown.as_str() == "-0.61884");
     assert!(rt; reads_in_order("0.5", "-1", 6, -64, 64) == (Ok(32), Ok(-64)));

@@ -16,7 +16,7 @@ fn rows_of_columns(rt: HostRuntime) -> Result<(), Fail> {
 }
 
 #[test]
-fn texts(rt: HostRuntime) -> Result<(), Fail> {
+fn number_and_glyph_texts(rt: HostRuntime) -> Result<(), Fail> {
     for &(bits, number, text) in &[
         (0x1_8000, "1.5", "00018000 1.5"),
         (-0x1_0000, "-1", "ffff0000 -1"),
@@ -38,7 +38,7 @@ fn texts(rt: HostRuntime) -> Result<(), Fail> {
 }
 
 #[test]
-fn axes_come_back(rt: HostRuntime) -> Result<(), Fail> {
+fn axis_round_trip(rt: HostRuntime) -> Result<(), Fail> {
     let axis = Axis {
         tag: Tag::new(b"wght"),
         default: Fixed::from_bits(0x1_8000),
@@ -57,7 +57,7 @@ fn axes_come_back(rt: HostRuntime) -> Result<(), Fail> {
 
 // The first error counts, in the order of the fields.
 #[test]
-fn axes_refused(rt: HostRuntime) -> Result<(), Fail> {
+fn invalid_axes(rt: HostRuntime) -> Result<(), Fail> {
     for (error, text) in &[
         (MissingMember, r#"{"default":"1.5","name":0}"#),
         (InvalidTag, r#"{"tag":"wg ht","default":"x"}"#),

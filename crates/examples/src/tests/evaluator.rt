@@ -12,7 +12,7 @@ use font_types::{DecimalFault, F2Dot14, FWord, Fixed, InvalidTag, NameId, Tag};
 use std::test::Fail;
 
 #[test]
-fn settings(rt: HostRuntime) {
+fn read_settings(rt: HostRuntime) {
     for &(text, axis, bits) in &[
         ("wght=650", b"wght", 650 << 16),
         ("x=-0.5", b"x   ", -0x8000),
@@ -161,7 +161,7 @@ fn control_bytes(rt: HostRuntime) {
 }
 
 #[test]
-fn runs_in_turn(rt: HostRuntime) -> Result<(), Fail> {
+fn packed_runs(rt: HostRuntime) -> Result<(), Fail> {
     let (bytes, words) = ([10, -105, 0, -58], [4130, -1228]);
     let (deltas, rest) = read_run(&PACKED, rt.alloc())?.unwrap();
     assert!(rt; deltas.as_slice() == bytes.as_slice() && rest == &PACKED[5..]);

@@ -60,7 +60,7 @@ fn components_scaled(rt: HostRuntime) {
 }
 
 #[test]
-fn lines(rt: HostRuntime) {
+fn line_widths_and_grid(rt: HostRuntime) {
     for &(bits, width) in &[(0x1_0000, 0x1_0001), (i32::MAX, i32::MIN)] {
         let line = [(7, bits), (8, 1)].map(|(glyph, bits)| PlacedGlyph {
             glyph,

@@ -4,7 +4,7 @@ use crate::{Int24, Scalar, ScalarArray};
 use std::test::Fail;
 
 #[test]
-fn wants_a_multiple_of_the_size(rt: HostRuntime) {
+fn new_requires_a_multiple_of_the_element_size(rt: HostRuntime) {
     let bytes = [0; 7];
     for &(len, count) in &[
         (0, Some(0)),
@@ -21,7 +21,7 @@ fn wants_a_multiple_of_the_size(rt: HostRuntime) {
 }
 
 #[test]
-fn empty_without_elements(rt: HostRuntime) -> Result<(), Fail> {
+fn empty_array(rt: HostRuntime) -> Result<(), Fail> {
     let none = ScalarArray::<u16>::new(&[]).ok_or("no bytes")?;
     let one = ScalarArray::<u16>::new(&[0, 7]).ok_or("two bytes")?;
     assert!(rt; none.is_empty() && !one.is_empty() && one.as_bytes() == [0, 7].as_slice());
@@ -32,7 +32,7 @@ fn empty_without_elements(rt: HostRuntime) -> Result<(), Fail> {
 }
 
 #[test]
-fn walks_both_ways(rt: HostRuntime) -> Result<(), Fail> {
+fn iteration_from_both_ends(rt: HostRuntime) -> Result<(), Fail> {
     let array = ScalarArray::<u16>::new(&[0, 1, 0, 2, 0, 3]).ok_or("six bytes")?;
     let mut iter = array.iter();
     assert!(rt; iter.len() == 3 && iter.size_hint() == (3, Some(3)));
@@ -51,7 +51,7 @@ fn walks_both_ways(rt: HostRuntime) -> Result<(), Fail> {
 }
 
 #[test]
-fn scalars_at_offsets(rt: HostRuntime) {
+fn scalar_read_at(rt: HostRuntime) {
     let bytes = [0, 1, 0xFF, 0xFE, 0x80];
     for &(offset, short, long) in &[
         (0, Some(1), Some(511)),
@@ -71,7 +71,7 @@ fn scalars_at_offsets(rt: HostRuntime) {
 }
 
 #[test]
-fn arrays_at_offsets(rt: HostRuntime) {
+fn array_read_at(rt: HostRuntime) {
     let bytes = [9, 0, 1, 0, 2, 0, 3, 9];
     for &(offset, count, ends) in &[
         (1, 3, Some((1, 3))),
@@ -94,7 +94,7 @@ fn arrays_at_offsets(rt: HostRuntime) {
 }
 
 #[test]
-fn slices(rt: HostRuntime) -> Result<(), Fail> {
+fn slice(rt: HostRuntime) -> Result<(), Fail> {
     let array = ScalarArray::<u16>::new(&[0, 1, 0, 2, 0, 3]).ok_or("six bytes")?;
     for &(start, end, ends) in &[
         (0, 3, Some((1, 3))),
@@ -117,7 +117,7 @@ fn slices(rt: HostRuntime) -> Result<(), Fail> {
 }
 
 #[test]
-fn finds_by_binary_search(rt: HostRuntime) -> Result<(), Fail> {
+fn binary_search(rt: HostRuntime) -> Result<(), Fail> {
     let array = ScalarArray::<u16>::new(&[0, 12, 0, 25, 0, 31, 1, 0]).ok_or("eight bytes")?;
     let found = [(12, 0), (25, 1), (31, 2), (256, 3)];
     for &(key, place) in &found {
@@ -131,7 +131,7 @@ fn finds_by_binary_search(rt: HostRuntime) -> Result<(), Fail> {
 }
 
 #[test]
-fn finds_by_a_key(rt: HostRuntime) -> Result<(), Fail> {
+fn binary_search_by_key(rt: HostRuntime) -> Result<(), Fail> {
     let array = ScalarArray::<u16>::new(&[0, 12, 0, 25, 0, 31, 1, 0]).ok_or("eight bytes")?;
     let rows = [
         (1, Ok(0)),
@@ -150,7 +150,7 @@ fn finds_by_a_key(rt: HostRuntime) -> Result<(), Fail> {
 }
 
 #[test]
-fn finds_by_a_comparison(rt: HostRuntime) -> Result<(), Fail> {
+fn binary_search_by_and_partition_point(rt: HostRuntime) -> Result<(), Fail> {
     let array = ScalarArray::<u16>::new(&[0, 12, 0, 25, 0, 31, 1, 0]).ok_or("eight bytes")?;
     for &(key, place) in &[
         (12, Ok(0)),

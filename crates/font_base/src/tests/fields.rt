@@ -10,14 +10,14 @@ use crate::{
 use std::test::Fail;
 
 #[test]
-fn ordered_by_value(rt: HostRuntime) {
+fn field_order(rt: HostRuntime) {
     let below = BigEndian::<i16>::new([0xFF, 0xFF]);
     let above = BigEndian::<i16>::new([0x00, 0x01]);
     assert!(rt; below < above && below.get() == -1 && below.eq_value(&-1));
 }
 
 #[test]
-fn sorted_by_value(rt: HostRuntime) -> Result<(), Fail> {
+fn sorted_fields(rt: HostRuntime) -> Result<(), Fail> {
     let mut fields = [7, -8, 1].map(BigEndian::<i16>::from).to_vec(rt.alloc())?;
     fields.sort()?;
     assert!(rt; fields.as_slice() == [-8, 1, 7].map(BigEndian::from).as_slice());
@@ -25,7 +25,7 @@ fn sorted_by_value(rt: HostRuntime) -> Result<(), Fail> {
 }
 
 #[test]
-fn equal_by_bytes(rt: HostRuntime) -> Result<(), Fail> {
+fn field_bytes(rt: HostRuntime) -> Result<(), Fail> {
     let mut field = BigEndian::<u32>::default();
     field.set(0x0102_0304);
     assert!(rt; field.be_bytes() == [1, 2, 3, 4].as_slice());
@@ -62,7 +62,7 @@ impl BeByteArray for Pair {
 }
 
 #[test]
-fn equal_arrays(rt: HostRuntime) {
+fn eq_array(rt: HostRuntime) {
     for &(other, equal) in &[([1, 2], true), ([0, 2], false), ([1, 0], false)] {
         let own = Pair([1, 2]).eq_array(&Pair(other));
         assert!(rt;
@@ -74,7 +74,7 @@ fn equal_arrays(rt: HostRuntime) {
 }
 
 #[test]
-fn printed_by_value(rt: HostRuntime) -> Result<(), Fail> {
+fn field_text(rt: HostRuntime) -> Result<(), Fail> {
     let field = BigEndian::<Int24>::new([0xFF, 0xFF, 0xFB]);
     let text = format!(in rt.alloc(); "{field} {field:?}")?;
     assert!(rt; text.as_str() == "-5 Int24(-5)");
@@ -89,7 +89,7 @@ fn printed_by_value(rt: HostRuntime) -> Result<(), Fail> {
 }
 
 #[test]
-fn header_in_front_of_a_table(rt: HostRuntime) -> Result<(), Fail> {
+fn header_and_data(rt: HostRuntime) -> Result<(), Fail> {
     let bytes = [0x00, 0x01, 0x00, 0x00, 0x00, 0x02, 0xFF];
     let table = TableDataRef::<SampleHeader>::new(&bytes).ok_or("long enough")?;
     let header = table.clone()?.header();
@@ -98,7 +98,7 @@ fn header_in_front_of_a_table(rt: HostRuntime) -> Result<(), Fail> {
 }
 
 #[test]
-fn table_split_after_its_header(rt: HostRuntime) -> Result<(), Fail> {
+fn split_and_rest(rt: HostRuntime) -> Result<(), Fail> {
     let bytes = [0x00, 0x01, 0x00, 0x00, 0x00, 0x02, 0xFF, 0xFE];
     for len in 6..9 {
         let table = TableDataRef::<SampleHeader>::new(&bytes[..len]).ok_or("long enough")?;
@@ -113,7 +113,7 @@ fn table_split_after_its_header(rt: HostRuntime) -> Result<(), Fail> {
 }
 
 #[test]
-fn header_after_a_cut(rt: HostRuntime) -> Result<(), Fail> {
+fn header_of_a_subslice(rt: HostRuntime) -> Result<(), Fail> {
     let bytes = [0xFF, 0x00, 0x03, 0x00, 0x00, 0x00, 0x04];
     let header = TableDataRef::<SampleHeader>::new(&bytes[1..])
         .ok_or("long enough")?
@@ -123,7 +123,7 @@ fn header_after_a_cut(rt: HostRuntime) -> Result<(), Fail> {
 }
 
 #[test]
-fn header_wants_its_length(rt: HostRuntime) {
+fn header_requires_its_length(rt: HostRuntime) {
     let bytes = [0x00, 0x01, 0x00, 0x00, 0x00, 0x02];
     assert!(rt; TableDataRef::<SampleHeader>::new(&bytes[..5]).is_none());
     assert!(rt; TableDataRef::<SampleHeader>::new(&bytes).is_some());
@@ -146,7 +146,7 @@ impl TableHeader for EmptyHeader {
 }
 
 #[test]
-fn reads_a_header_of_no_bytes(rt: HostRuntime) -> Result<(), Fail> {
+fn header_of_no_bytes(rt: HostRuntime) -> Result<(), Fail> {
     let table = TableDataRef::<EmptyHeader>::new(&[]).ok_or("long enough")?;
     let EmptyHeader = table.header();
     let longer = TableDataRef::<EmptyHeader>::new(&[7]).ok_or("long enough")?;

@@ -4,7 +4,7 @@ use crate::{BeByteArray, Int24, Scalar, Uint24};
 use std::test::Fail;
 
 #[test]
-fn signed_bytes_of_24_bits(rt: HostRuntime) {
+fn int24_bytes(rt: HostRuntime) {
     for &(number, bytes) in &[
         (0, [0x00, 0x00, 0x00]),
         (123456, [0x01, 0xE2, 0x40]),
@@ -21,7 +21,7 @@ fn signed_bytes_of_24_bits(rt: HostRuntime) {
 }
 
 #[test]
-fn unsigned_bytes_of_24_bits(rt: HostRuntime) {
+fn uint24_bytes(rt: HostRuntime) {
     for &(number, bytes) in &[
         (16755404, [0xFF, 0xAA, 0xCC]),
         (16777215, [0xFF, 0xFF, 0xFF]),
@@ -36,7 +36,7 @@ fn unsigned_bytes_of_24_bits(rt: HostRuntime) {
 }
 
 #[test]
-fn ends_of_signed_24_bits(rt: HostRuntime) {
+fn int24_range(rt: HostRuntime) {
     let ends = [8388608, 8388607, -8388608, -8388609];
     let (least, greatest) = (Some(Int24::MIN), Some(Int24::MAX));
     assert!(rt; ends.map(Int24::checked_new) == [None, greatest, least, None]);
@@ -45,14 +45,14 @@ fn ends_of_signed_24_bits(rt: HostRuntime) {
 }
 
 #[test]
-fn ends_of_unsigned_24_bits(rt: HostRuntime) {
+fn uint24_range(rt: HostRuntime) {
     let ends = [16777216, 16777215, 0];
     assert!(rt; ends.map(Uint24::checked_new) == [None, Some(Uint24::MAX), Some(Uint24::MIN)]);
     assert!(rt; Uint24::new(16777216) == Uint24::MAX && Uint24::try_from(16777216usize).is_err());
 }
 
 #[test]
-fn text_of_24_bits(rt: HostRuntime) -> Result<(), Fail> {
+fn text_of_24_bit_integers(rt: HostRuntime) -> Result<(), Fail> {
     for &(number, unsigned, text) in &[
         (0, 0, "0 Uint24(0), 0 Int24(0)"),
         (-5, 5, "5 Uint24(5), -5 Int24(-5)"),
@@ -81,7 +81,7 @@ fn text_with_flags(rt: HostRuntime) -> Result<(), Fail> {
 }
 
 #[test]
-fn text_of_a_number_too_large(rt: HostRuntime) -> Result<(), Fail> {
+fn conversion_error(rt: HostRuntime) -> Result<(), Fail> {
     let fault = Uint24::try_from(16777216usize).err().ok_or("refused")?;
     let text = format!(in rt.alloc(); "{fault} {fault:?}")?;
     assert!(rt; text.as_str() == "failed to convert usize value into Uint24. TryFromUint24Error");
@@ -91,7 +91,7 @@ fn text_of_a_number_too_large(rt: HostRuntime) -> Result<(), Fail> {
 const BYTES: [u8; 9] = [0xFF, 0xFE, 0xFD, 0xFC, 0xFB, 0xFA, 0xF9, 0xF8, 0xF7];
 
 #[test]
-fn reads_numbers(rt: HostRuntime) {
+fn scalar_read(rt: HostRuntime) {
     assert!(rt; u8::read(&BYTES[..1]) == Some(255) && i8::read(&BYTES[..1]) == Some(-1));
     assert!(rt; u16::read(&BYTES[..2]) == Some(65534) && i16::read(&BYTES[..2]) == Some(-2));
     assert!(rt; Uint24::read(&BYTES[..3]) == Some(Uint24::new(16776957)));
@@ -102,7 +102,7 @@ fn reads_numbers(rt: HostRuntime) {
 }
 
 #[test]
-fn reads_exactly_its_length(rt: HostRuntime) {
+fn read_requires_the_exact_length(rt: HostRuntime) {
     assert!(rt; u16::read(&BYTES[..1]).is_none() && u16::read(&BYTES[..3]).is_none());
     assert!(rt; <[u8; 4]>::from_slice(&BYTES).is_none());
     assert!(rt; BeByteArray::as_slice(&(-283686952306184i64).to_raw()) == &BYTES[..8]);

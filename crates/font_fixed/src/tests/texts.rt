@@ -145,7 +145,7 @@ fn text_out_of_range(rt: HostRuntime) {
 }
 
 #[test]
-fn no_decimals(rt: HostRuntime) {
+fn syntax_errors(rt: HostRuntime) {
     let formats = ["2.14", "4.12", "6.10", "16.16", "26.6", "2.30", "48.16"];
     for &text in &["", "-", ".5", "5.", "+1", "1e3", "1.2.3", " 1", "1 "] {
         let parsed = formats

@@ -19,26 +19,26 @@ pub(super) fn sides(x_min: i32, y_min: i32, x_max: i32, y_max: i32) -> BoundingB
 }
 
 #[test]
-fn scaled_by_a_negative_factor(rt: HostRuntime) {
+fn scale_by_a_negative_factor(rt: HostRuntime) {
     let turned = sides(5, 5, 10, 10).scale(-2);
     assert!(rt; turned == sides(-10, -10, -20, -20) && !turned.is_normalized());
     assert!(rt; turned.normalize() == sides(-20, -20, -10, -10));
 }
 
 #[test]
-fn each_side_scaled(rt: HostRuntime) {
+fn scale_each_side(rt: HostRuntime) {
     assert!(rt; sides(1, 2, 3, 4).scale(5) == sides(5, 10, 15, 20));
 }
 
 #[test]
-fn unequal_in_one_side(rt: HostRuntime) {
+fn equality(rt: HostRuntime) {
     let one = sides(1, 2, 3, 4);
     assert!(rt; one != sides(0, 2, 3, 4) && one != sides(1, 0, 3, 4));
     assert!(rt; one != sides(1, 2, 0, 4) && one != sides(1, 2, 3, 0));
 }
 
 #[test]
-fn normalized_by_pairs(rt: HostRuntime) {
+fn normalize(rt: HostRuntime) {
     let (one, y_swapped, x_swapped) = (sides(1, 2, 3, 4), sides(1, 4, 3, 2), sides(3, 2, 1, 4));
     assert!(rt; one.is_normalized() && !sides(3, 4, 1, 2).is_normalized());
     assert!(rt; !y_swapped.is_normalized() && y_swapped.normalize() == one);
@@ -90,7 +90,7 @@ impl PartialOrd for Corner {
 }
 
 #[test]
-fn pairs_that_do_not_compare_are_swapped(rt: HostRuntime) {
+fn normalize_incomparable_sides(rt: HostRuntime) {
     let (left, right) = (Corner { x: 1, y: 2 }, Corner { x: 2, y: 1 });
     assert!(rt; left.partial_cmp(&right).is_none());
     let odd = BoundingBox {

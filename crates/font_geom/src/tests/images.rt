@@ -6,7 +6,7 @@ use crate::{Matrix, Point};
 use font_fixed::Fixed;
 
 #[test]
-fn images_by_integers(rt: HostRuntime) {
+fn images_of_integers(rt: HostRuntime) {
     for &(a, b, p, image) in &[
         // Nothing is rounded.
         ([2, 0, 0, 3, 0, 0], [1, 0, 0, 1, 10, 20], (5, -22), (30, -6)),
@@ -30,7 +30,7 @@ fn images_by_integers(rt: HostRuntime) {
 }
 
 #[test]
-fn images_where_a_product_is_rounded(rt: HostRuntime) {
+fn images_with_rounding(rt: HostRuntime) {
     let (mut a, mut b, p) = (Matrix::identity(), Matrix::identity(), at(100, 0));
     (a.xx, b.xx) = (Fixed::from_bits(0x8000), Fixed::EPSILON);
     assert!(rt; composed(a, b, p) == Point::new(Fixed::from_bits(100), Fixed::ZERO));

@@ -29,7 +29,7 @@ fn products_apply_the_second_factor_first(rt: HostRuntime) {
 }
 
 #[test]
-fn products_and_images_of_unequal_entries(rt: HostRuntime) {
+fn products_and_images_of_distinct_elements(rt: HostRuntime) {
     let a = whole([2, 3, 5, 7, 11, 13]);
     assert!(rt; a * whole([17, 19, 23, 29, 31, 37]) == whole([129, 184, 191, 272, 258, 365]));
     let image = (Fixed::from_i32(140), Fixed::from_i32(197));
@@ -37,7 +37,7 @@ fn products_and_images_of_unequal_entries(rt: HostRuntime) {
 }
 
 #[test]
-fn unequal_in_one_element(rt: HostRuntime) {
+fn equality(rt: HostRuntime) {
     for place in 0..6usize {
         let mut elements = [1, 2, 3, 4, 5, 6];
         elements[place] = 0;
@@ -46,7 +46,7 @@ fn unequal_in_one_element(rt: HostRuntime) {
 }
 
 #[test]
-fn assigned_products(rt: HostRuntime) {
+fn mul_assign(rt: HostRuntime) {
     let mut m = Matrix::default();
     assert!(rt; m == Matrix::identity());
     m *= whole([2, 0, 0, 3, 0, 0]);
@@ -55,7 +55,7 @@ fn assigned_products(rt: HostRuntime) {
 }
 
 #[test]
-fn elements_in_order(rt: HostRuntime) {
+fn elements(rt: HostRuntime) {
     let (m, one, zero) = (whole([1, 2, 3, 4, 5, 6]), Fixed::ONE, Fixed::ZERO);
     assert!(rt; Matrix::from_elements(m.elements()) == m);
     assert!(rt; Matrix::<Fixed>::identity().elements() == [one, zero, zero, one, zero, zero]);
@@ -63,7 +63,7 @@ fn elements_in_order(rt: HostRuntime) {
 }
 
 #[test]
-fn mapped_in_order(rt: HostRuntime) {
+fn map_order(rt: HostRuntime) {
     let mut calls = 0u8;
     let order = Matrix::from_elements(*b"abcdef").map(|letter| {
         calls = calls.wrapping_add(1);
@@ -84,7 +84,7 @@ impl MatrixElement for i32 {
 }
 
 #[test]
-fn images_by_std_integers(rt: HostRuntime) {
+fn images_over_i32(rt: HostRuntime) {
     let m = Matrix {
         xx: 2,
         yx: 0,

@@ -111,6 +111,6 @@ fn identity_is_neutral(rt: HostRuntime) {
 }
 
 #[test]
-fn products_that_do_not_associate(rt: HostRuntime) {
+fn fixed_products_do_not_associate(rt: HostRuntime) {
     assert!(rt; step_and_halves() == (Fixed::EPSILON, Fixed::ZERO));
 }

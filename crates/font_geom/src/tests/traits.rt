@@ -20,16 +20,20 @@ fn traits(_rt: HostRuntime) {
 }
 
 // Returns whether a shape has this `{:?}`, and is equal to its clone.
-fn is_shown<T: Copy + Eq + Debug>(alloc: Global, shape: T, text: &str) -> Result<bool, AllocError> {
+fn has_debug_text<T: Copy + Eq + Debug>(
+    alloc: Global,
+    shape: T,
+    text: &str,
+) -> Result<bool, AllocError> {
     Ok(format!(in alloc; "{shape:?}")?.as_str() == text && shape.clone()? == shape)
 }
 
 #[test]
-fn shown_and_cloned(rt: HostRuntime) -> Result<(), Fail> {
+fn debug_and_clone(rt: HostRuntime) -> Result<(), Fail> {
     let text = "BoundingBox { x_min: 0, y_min: 1, x_max: 2, y_max: 3 }";
-    assert!(rt; is_shown(rt.alloc(), sides(0, 1, 2, 3), text)?);
+    assert!(rt; has_debug_text(rt.alloc(), sides(0, 1, 2, 3), text)?);
     let text = "Matrix { xx: 1, yx: 0, xy: 0, yy: 1, dx: 0, dy: 0 }";
-    assert!(rt; is_shown(rt.alloc(), Matrix::<Fixed>::identity(), text)?);
-    assert!(rt; is_shown(rt.alloc(), Point::new(1, -2), "Point { x: 1, y: -2 }")?);
+    assert!(rt; has_debug_text(rt.alloc(), Matrix::<Fixed>::identity(), text)?);
+    assert!(rt; has_debug_text(rt.alloc(), Point::new(1, -2), "Point { x: 1, y: -2 }")?);
     Ok(())
 }

@@ -26,7 +26,7 @@ fn compared_across_widths(rt: HostRuntime) {
 }
 
 #[test]
-fn narrowed(rt: HostRuntime) {
+fn try_from_wider_ids(rt: HostRuntime) {
     assert!(rt; GlyphId16::try_from(GlyphId::new(65535)).ok() == Some(GlyphId16::new(65535)));
     assert!(rt; GlyphId24::try_from(GlyphId::new(16777215)).ok() == Some(GlyphId24::new(16777215)));
     let refused = GlyphId24::try_from(GlyphId::new(16777216));
@@ -34,7 +34,7 @@ fn narrowed(rt: HostRuntime) {
 }
 
 #[test]
-fn too_large(rt: HostRuntime) -> Result<(), Fail> {
+fn conversion_error(rt: HostRuntime) -> Result<(), Fail> {
     let wide = GlyphId::new(65536);
     let error = GlyphId16::try_from(wide).err().ok_or("refused")?;
     let text = format!(in rt.alloc(); "{error}; {error:?}")?;
@@ -44,7 +44,7 @@ fn too_large(rt: HostRuntime) -> Result<(), Fail> {
 }
 
 #[test]
-fn printed(rt: HostRuntime) -> Result<(), Fail> {
+fn glyph_id_texts(rt: HostRuntime) -> Result<(), Fail> {
     let (narrow, middle, wide) = (GlyphId16::new(5), GlyphId24::new(5), GlyphId::new(5));
     let text = format!(in rt.alloc(); "{narrow} {middle} {wide} {narrow:?} {middle:?} {wide:?}")?;
     let printed = "GID_5 GID_5 GID_5 GlyphId16(5) GlyphId24(Uint24(5)) GlyphId(5)";

@@ -59,7 +59,7 @@ fn named(rt: HostRuntime) -> Result<(), Fail> {
 }
 
 #[test]
-fn unnamed(rt: HostRuntime) -> Result<(), Fail> {
+fn texts_of_other_numbers(rt: HostRuntime) -> Result<(), Fail> {
     assert!(rt; is_shown(rt.alloc(), NameId::new(15), "NameId 15")?);
     assert!(rt; is_shown(rt.alloc(), NameId::new(26), "NameId 26")?);
     assert!(rt; is_shown(rt.alloc(), NameId::default(), "NameId 65535")?);
@@ -88,7 +88,7 @@ fn predefined(rt: HostRuntime) -> Result<(), Fail> {
 
 #[test]
 #[tactic(auto, unfolding(crate::specs::NameId::predefined_left))]
-fn predefined_again(rt: HostRuntime) -> Result<(), Fail> {
+fn predefined_clone(rt: HostRuntime) -> Result<(), Fail> {
     let mut ids = NameId::predefined();
     for _ in 0..15 {
         let _ = ids.next();
@@ -100,7 +100,7 @@ fn predefined_again(rt: HostRuntime) -> Result<(), Fail> {
 }
 
 #[test]
-fn added(rt: HostRuntime) {
+fn checked_add(rt: HostRuntime) {
     for &(number, more, sum) in &[
         (40000, 0, None),
         (32766, 1, Some(32767)),

@@ -16,7 +16,7 @@ fn nullable(rt: HostRuntime) -> Result<(), Fail> {
 }
 
 #[test]
-fn printed(rt: HostRuntime) -> Result<(), Fail> {
+fn offset_texts(rt: HostRuntime) -> Result<(), Fail> {
     let (short, middle) = (Offset16::new(5), Offset24::new(Uint24::new(5)));
     let null = Nullable::<Offset16>::default();
     let text = format!(in rt.alloc(); "{short:?} {middle:?} {:?} {null:?}", Offset32::new(5))?;

@@ -46,7 +46,7 @@ fn is_found<T: Copy + Eq + Hash + Drop>(
 }
 
 #[test]
-fn hashed(rt: HostRuntime) -> Result<(), Fail> {
+fn hash(rt: HostRuntime) -> Result<(), Fail> {
     let (alloc, wide) = (rt.alloc(), GlyphId24::new(70000));
     assert!(rt;
         is_found(

@@ -5,7 +5,7 @@ use font_fixed::F48Dot16;
 use std::test::Fail;
 
 #[test]
-fn as_fixed(rt: HostRuntime) {
+fn to_fixed(rt: HostRuntime) {
     for &(number, bits) in &[
         (0, 0),
         (1, 65536),
@@ -25,7 +25,7 @@ fn as_fixed(rt: HostRuntime) {
 }
 
 #[test]
-fn moved_by_deltas(rt: HostRuntime) {
+fn apply_delta(rt: HostRuntime) {
     for &(number, bits, moved) in &[
         (100, 163840, 6717440),
         (-100, -16384, -6569984),
@@ -45,7 +45,7 @@ fn moved_by_deltas(rt: HostRuntime) {
 }
 
 #[test]
-fn printed(rt: HostRuntime) -> Result<(), Fail> {
+fn font_unit_texts(rt: HostRuntime) -> Result<(), Fail> {
     let (signed, unsigned) = (FWord::new(-32768), UfWord::new(65535));
     let text = format!(in rt.alloc(); "{signed} {signed:?} {unsigned} {unsigned:?}")?;
     assert!(rt; text.as_str() == "-32768 FWord(-32768) 65535 UfWord(65535)");

@@ -5,13 +5,17 @@ ghost use Rattle.std.specs.Prelude.{◌≡◌, true};
 
 use crate::{Compatible, MajorMinor, Version16Dot16};
 
-fn packed_with_itself(version: Version16Dot16) -> bool
+fn packed_is_reflexive(version: Version16Dot16) -> bool
     ensures { result ≡ true }
 {
     version.compatible(version)
 }
 
-fn packed_in_turn(first: Version16Dot16, second: Version16Dot16, third: Version16Dot16) -> bool
+fn packed_is_transitive(
+    first: Version16Dot16,
+    second: Version16Dot16,
+    third: Version16Dot16,
+) -> bool
     ensures { result ≡ true }
 {
     if first.compatible(second) && second.compatible(third) {
@@ -21,13 +25,13 @@ fn packed_in_turn(first: Version16Dot16, second: Version16Dot16, third: Version1
     }
 }
 
-fn pair_with_itself(version: MajorMinor) -> bool
+fn pair_is_reflexive(version: MajorMinor) -> bool
     ensures { result ≡ true }
 {
     version.compatible(version)
 }
 
-fn pairs_in_turn(first: MajorMinor, second: MajorMinor, third: MajorMinor) -> bool
+fn pair_is_transitive(first: MajorMinor, second: MajorMinor, third: MajorMinor) -> bool
     ensures { result ≡ true }
 {
     if first.compatible(second) && second.compatible(third) {
@@ -37,13 +41,13 @@ fn pairs_in_turn(first: MajorMinor, second: MajorMinor, third: MajorMinor) -> bo
     }
 }
 
-fn number_with_itself(number: u16) -> bool
+fn number_is_reflexive(number: u16) -> bool
     ensures { result ≡ true }
 {
     number.compatible(number)
 }
 
-fn numbers_in_turn(first: u16, second: u16, third: u16) -> bool
+fn number_is_transitive(first: u16, second: u16, third: u16) -> bool
     ensures { result ≡ true }
 {
     if first.compatible(second) && second.compatible(third) {
@@ -54,15 +58,15 @@ fn numbers_in_turn(first: u16, second: u16, third: u16) -> bool
 }
 
 #[test]
-fn compatible_with_themselves(rt: HostRuntime) {
-    assert!(rt; packed_with_itself(Version16Dot16::VERSION_1_1));
-    assert!(rt; pair_with_itself(MajorMinor::VERSION_1_2) && number_with_itself(3));
+fn compatible_is_reflexive(rt: HostRuntime) {
+    assert!(rt; packed_is_reflexive(Version16Dot16::VERSION_1_1));
+    assert!(rt; pair_is_reflexive(MajorMinor::VERSION_1_2) && number_is_reflexive(3));
 }
 
 #[test]
-fn compatible_in_turn(rt: HostRuntime) {
+fn compatible_is_transitive(rt: HostRuntime) {
     let [packed, lower, lowest] = [9, 5, 1].map(|minor| Version16Dot16::new(1, minor));
-    assert!(rt; packed_in_turn(packed, lower, lowest) && numbers_in_turn(3, 2, 1));
+    assert!(rt; packed_is_transitive(packed, lower, lowest) && number_is_transitive(3, 2, 1));
     let [pair, lower, lowest] = [3, 2, 1].map(|minor| MajorMinor::new(1, minor));
-    assert!(rt; pairs_in_turn(pair, lower, lowest));
+    assert!(rt; pair_is_transitive(pair, lower, lowest));
 }

@@ -6,7 +6,7 @@ use std::str::FromStr;
 use std::test::Fail;
 
 #[test]
-fn accepted(rt: HostRuntime) {
+fn valid_texts(rt: HostRuntime) {
     let texts = ["a", "bc", "cv1", "head", "!", "~ "];
     let tags = [b"a   ", b"bc  ", b"cv1 ", b"head", b"!   ", b"~   "].map(|tag| Ok(Tag::new(tag)));
     assert!(rt; texts.map(|text| Tag::new_checked(text.as_bytes())) == tags);
@@ -14,7 +14,7 @@ fn accepted(rt: HostRuntime) {
 }
 
 #[test]
-fn refused_at_a_byte(rt: HostRuntime) {
+fn invalid_bytes(rt: HostRuntime) {
     for &(text, pos, byte) in &[
         ("b c", 2, 0x63),
         ("    ", 0, 0x20),
@@ -32,7 +32,7 @@ fn refused_at_a_byte(rt: HostRuntime) {
 }
 
 #[test]
-fn refused_at_a_length(rt: HostRuntime) {
+fn invalid_lengths(rt: HostRuntime) {
     for &(text, len) in &[("", 0), ("abcde", 5), ("a\0cde", 5), ("abc\u{e9}", 5)] {
         let fault = Err(InvalidTag::InvalidLength(len));
         assert!(rt;
@@ -43,14 +43,14 @@ fn refused_at_a_length(rt: HostRuntime) {
 }
 
 #[test]
-fn valid(rt: HostRuntime) {
+fn validate_valid_tags(rt: HostRuntime) {
     for tag in &[b"head", b"a   ", b"ab  ", b"abc ", b"!333", b"~333"] {
         assert!(rt; Tag::new(tag).validate().is_ok(), "{}", Tag::new(tag));
     }
 }
 
 #[test]
-fn invalid(rt: HostRuntime) {
+fn validate_invalid_tags(rt: HostRuntime) {
     for &(tag, ref fault) in &[
         (b"    ", InvalidTag::InvalidLength(0)),
         (b"b cc", InvalidTag::ByteAfterSpace { pos: 2 }),
@@ -75,7 +75,7 @@ fn is_printed(alloc: Global, tag: Tag, text: &str) -> Result<bool, AllocError> {
 }
 
 #[test]
-fn printed(rt: HostRuntime) -> Result<(), Fail> {
+fn tag_texts(rt: HostRuntime) -> Result<(), Fail> {
     for &(tag, text) in &[
         (0x197A_407F, "{0x19}z@{0x7F}"),
         (0x6376_7420, "cvt "),
@@ -89,7 +89,7 @@ fn printed(rt: HostRuntime) -> Result<(), Fail> {
 }
 
 #[test]
-fn ordered_by_bytes(rt: HostRuntime) -> Result<(), Fail> {
+fn order_and_default(rt: HostRuntime) -> Result<(), Fail> {
     assert!(rt; Tag::new(b"OS/2") < Tag::new(b"cmap") && Tag::new(b"abc ") < Tag::new(b"abcd"));
     let default = Tag::default();
     assert!(rt; default == Tag::new(b"    ") && default.clone()? == default);
@@ -97,7 +97,7 @@ fn ordered_by_bytes(rt: HostRuntime) -> Result<(), Fail> {
 }
 
 #[test]
-fn texts_of_faults(rt: HostRuntime) -> Result<(), Fail> {
+fn error_texts(rt: HostRuntime) -> Result<(), Fail> {
     for &(ref fault, text) in &[
         (
             InvalidTag::InvalidLength(5),

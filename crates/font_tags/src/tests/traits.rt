@@ -19,18 +19,18 @@ where
     Ok(set.contains(&equal) && !set.contains(&other))
 }
 
-fn is_shown<T: Display>() {}
+fn is_display<T: Display>() {}
 
 fn is_version<T: Display + Compatible<T> + Compatible<(u16, u16)>>() {}
 
-fn is_read<T: FromStr>() {}
+fn is_from_str<T: FromStr>() {}
 
 fn is_error<T: Clone + Eq + Debug + Display>() {}
 
 #[test]
 fn traits(rt: HostRuntime) -> Result<(), Fail> {
-    is_shown::<Tag>();
-    is_read::<Tag>();
+    is_display::<Tag>();
+    is_from_str::<Tag>();
     is_error::<InvalidTag>();
     is_version::<Version16Dot16>();
     is_version::<MajorMinor>();

@@ -5,7 +5,7 @@ use font_base::{FixedSize, Scalar};
 use std::test::Fail;
 
 #[test]
-fn packed(rt: HostRuntime) {
+fn version16dot16_numbers(rt: HostRuntime) {
     for &(major, minor, version) in &[
         (0, 5, Version16Dot16::VERSION_0_5),
         (1, 0, Version16Dot16::VERSION_1_0),
@@ -25,7 +25,7 @@ fn packed(rt: HostRuntime) {
 }
 
 #[test]
-fn bytes_of_packed(rt: HostRuntime) {
+fn version16dot16_bytes(rt: HostRuntime) {
     let default = Version16Dot16::default();
     assert!(rt; Version16Dot16::VERSION_2_5.to_be_bytes() == [0x00, 0x02, 0x50, 0x00]);
     assert!(rt; Version16Dot16::from_raw([0, 1, 0xF0, 0]).to_major_minor() == (1, 15));
@@ -35,7 +35,7 @@ fn bytes_of_packed(rt: HostRuntime) {
 }
 
 #[test]
-fn printed(rt: HostRuntime) -> Result<(), Fail> {
+fn version_texts(rt: HostRuntime) -> Result<(), Fail> {
     let [odd, high] = [[0, 1, 0xF0, 0xAB], [0, 1, 0xF0, 0]].map(Version16Dot16::from_raw);
     let text = format!(in rt.alloc(); "{high} {odd} {odd:?}")?;
     assert!(rt; text.as_str() == "1.15 1.15 Version16Dot16(0001f0ab)");
@@ -46,7 +46,7 @@ fn printed(rt: HostRuntime) -> Result<(), Fail> {
 }
 
 #[test]
-fn pairs(rt: HostRuntime) {
+fn major_minor_constants(rt: HostRuntime) {
     for &(major, minor, version) in &[
         (1, 0, MajorMinor::VERSION_1_0),
         (1, 1, MajorMinor::VERSION_1_1),
@@ -63,7 +63,7 @@ fn pairs(rt: HostRuntime) {
 }
 
 #[test]
-fn packed_versions_compatible(rt: HostRuntime) {
+fn version16dot16_compatible(rt: HostRuntime) {
     for &(major, minor, other, compatible) in &[
         (1, 9, (1, 9), true),
         (1, 9, (1, 1), true),
@@ -83,7 +83,7 @@ fn packed_versions_compatible(rt: HostRuntime) {
 }
 
 #[test]
-fn pairs_compatible(rt: HostRuntime) {
+fn major_minor_compatible(rt: HostRuntime) {
     for &(major, minor, other, compatible) in &[
         (1, 3, (1, 3), true),
         (1, 3, (1, 2), true),
@@ -103,7 +103,7 @@ fn pairs_compatible(rt: HostRuntime) {
 }
 
 #[test]
-fn minor_numbers_compatible(rt: HostRuntime) {
+fn u16_compatible(rt: HostRuntime) {
     for &(number, other, compatible) in &[
         (3, 2, true),
         (3, 3, true),
@@ -123,7 +123,7 @@ fn minor_numbers_compatible(rt: HostRuntime) {
 }
 
 #[test]
-fn dates(rt: HostRuntime) -> Result<(), Fail> {
+fn long_date_time(rt: HostRuntime) -> Result<(), Fail> {
     let (date, before) = (LongDateTime::new(1234569101), LongDateTime::new(-1));
     assert!(rt; date.as_secs() == 1234569101 && before < LongDateTime::default());
     assert!(rt; date.to_be_bytes() == [0, 0, 0, 0, 0x49, 0x96, 0x07, 0x8D]);

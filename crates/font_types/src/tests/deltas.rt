@@ -17,7 +17,7 @@ fn quarters() -> [(Fixed, i32); 3] {
 }
 
 #[test]
-fn summed(rt: HostRuntime) -> Result<(), Fail> {
+fn sum_of_terms(rt: HostRuntime) -> Result<(), Fail> {
     let text = format!(in rt.alloc(); "{}", delta_sum(&quarters()))?;
     assert!(rt; text.as_str() == "-15.75" && delta_sum(&[]) == F48Dot16::ZERO);
     Ok(())
@@ -30,7 +30,7 @@ fn partial_sums_out_of_range(rt: HostRuntime) {
 }
 
 #[test]
-fn refused_out_of_range(rt: HostRuntime) {
+fn checked_sum_out_of_range(rt: HostRuntime) {
     assert!(rt; checked_delta_sum(&[GREATEST; 3]).is_none());
     assert!(rt; checked_delta_sum(&[GREATEST; 2]).is_none());
     let sum = checked_delta_sum(&[GREATEST, GREATEST, BACK]);
@@ -39,7 +39,7 @@ fn refused_out_of_range(rt: HostRuntime) {
 }
 
 #[test]
-fn least_sum(rt: HostRuntime) {
+fn minimum_sum(rt: HostRuntime) {
     let (half, rest) = ((Fixed::MAX, i32::MIN), (Fixed::MIN, 2));
     let step = (Fixed::EPSILON, -1);
     assert!(rt; checked_delta_sum(&[half, half, rest]) == Some(F48Dot16::MIN));
@@ -48,7 +48,7 @@ fn least_sum(rt: HostRuntime) {
 }
 
 #[test]
-fn greatest_sum(rt: HostRuntime) {
+fn maximum_sum(rt: HostRuntime) {
     let (step, back) = ((Fixed::EPSILON, 1), (Fixed::EPSILON, -1));
     assert!(rt; checked_delta_sum(&[GREATEST, GREATEST, back]) == Some(F48Dot16::MAX));
     assert!(rt; checked_delta_sum(&[GREATEST, GREATEST, back, step]).is_none());
@@ -84,7 +84,7 @@ const TERM_ROWS: [([(Fixed, i32); 3], i64, Option<i64>, i64, Option<i64>); 3] = 
 ];
 
 #[test]
-fn summed_term_by_term(rt: HostRuntime) {
+fn accumulator(rt: HostRuntime) {
     for &(terms, two, checked_two, three, checked_three) in &TERM_ROWS {
         let mut sum = DeltaSum::default();
         sum.add(terms[0].0, terms[0].1);
@@ -100,7 +100,7 @@ fn summed_term_by_term(rt: HostRuntime) {
 }
 
 #[test]
-fn quantities_moved(rt: HostRuntime) {
+fn vary_font_units(rt: HostRuntime) {
     let (quantity, least) = (FWord::new(100), FWord::new(-32768));
     assert!(rt; vary(quantity, &quarters()) == Some(5521408));
     assert!(rt; vary(quantity, &[]) == Some(6553600));
@@ -110,7 +110,7 @@ fn quantities_moved(rt: HostRuntime) {
 
 // The sum is the greatest or the least of 64 bits, and the quantity plus the sum does not fit.
 #[test]
-fn quantities_moved_beyond_64_bits(rt: HostRuntime) {
+fn vary_beyond_64_bits(rt: HostRuntime) {
     let greatest = [GREATEST, GREATEST, (Fixed::EPSILON, -1)];
     let least = [
         (Fixed::MAX, i32::MIN),

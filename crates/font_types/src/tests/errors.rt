@@ -6,7 +6,7 @@ use std::fmt;
 use std::test::Fail;
 
 #[test]
-fn faults_in_words(rt: HostRuntime) -> Result<(), Fail> {
+fn error_texts(rt: HostRuntime) -> Result<(), Fail> {
     for (fault, text) in &[
         (JsonFault::Memory, "out of memory Memory"),
         (JsonFault::WrongKind, "wrong kind of value WrongKind"),
@@ -25,7 +25,7 @@ fn faults_in_words(rt: HostRuntime) -> Result<(), Fail> {
 }
 
 #[test]
-fn faults_in_numbers(rt: HostRuntime) {
+fn error_discriminants(rt: HostRuntime) {
     assert!(rt; JsonFault::Memory as u8 == 1 && JsonFault::WrongKind as u8 == 2);
     assert!(rt; JsonFault::OutOfRange as u8 == 3 && JsonFault::Syntax as u8 == 4);
     assert!(rt; JsonFault::NotUtf8 as u8 == 5 && JsonFault::InvalidTag as u8 == 6);
@@ -41,7 +41,7 @@ fn is_error<F: Clone + Eq + fmt::Debug + Error + Drop>(fault: F, other: F) -> bo
 }
 
 #[test]
-fn faults_as_errors(rt: HostRuntime) {
+fn error_traits(rt: HostRuntime) {
     assert!(rt; is_error(JsonFault::NotUtf8, JsonFault::InvalidTag));
     assert!(rt; is_error(JsonFault::WrongKind, JsonFault::OutOfRange));
 }

@@ -70,7 +70,7 @@ fn fixed_point_strings(rt: HostRuntime) -> Result<(), Fail> {
 }
 
 /// Returns the first JSON text that does not fail to convert with its error.
-fn converted<T: JsonScalar + Drop>(alloc: Global) -> Result<Option<&'static str>, Fail> {
+fn not_rejected<T: JsonScalar + Drop>(alloc: Global) -> Result<Option<&'static str>, Fail> {
     for &(text, ref fault) in &[
         ("null", JsonFault::WrongKind),
         ("1", JsonFault::WrongKind),
@@ -89,15 +89,24 @@ fn converted<T: JsonScalar + Drop>(alloc: Global) -> Result<Option<&'static str>
 }
 
 #[test]
-fn no_fixed_point_strings(rt: HostRuntime) -> Result<(), Fail> {
+fn fixed_point_errors(rt: HostRuntime) -> Result<(), Fail> {
     let alloc = rt.alloc();
-    let narrow = [converted::<F2Dot14>(alloc)?, converted::<F4Dot12>(alloc)?];
-    let others = [converted::<F6Dot10>(alloc)?, converted::<F26Dot6>(alloc)?];
-    let long = [converted::<Fixed>(alloc)?, converted::<F2Dot30>(alloc)?];
+    let narrow = [
+        not_rejected::<F2Dot14>(alloc)?,
+        not_rejected::<F4Dot12>(alloc)?,
+    ];
+    let others = [
+        not_rejected::<F6Dot10>(alloc)?,
+        not_rejected::<F26Dot6>(alloc)?,
+    ];
+    let long = [
+        not_rejected::<Fixed>(alloc)?,
+        not_rejected::<F2Dot30>(alloc)?,
+    ];
     assert_eq!(rt; narrow, [None; 2]);
     assert_eq!(rt; others, [None; 2]);
     assert_eq!(rt; long, [None; 2]);
-    assert_eq!(rt; converted::<F48Dot16>(alloc)?, None);
+    assert_eq!(rt; not_rejected::<F48Dot16>(alloc)?, None);
     for &text in &["32768", "-32768.00001"] {
         let read = Fixed::from_json(&Value::String(String::from_str(alloc, text)?));
         assert!(rt; read == Err(JsonFault::OutOfRange), "{text}");

@@ -6,7 +6,7 @@ use serde_json::{Value, json};
 use std::test::Fail;
 
 #[test]
-fn tags(rt: HostRuntime) -> Result<(), Fail> {
+fn tag_strings(rt: HostRuntime) -> Result<(), Fail> {
     let alloc = rt.alloc();
     for &(bytes, text) in &[(b"head", "head"), (b"cvt ", "cvt ")] {
         let tag = Tag::new(bytes);
@@ -21,7 +21,7 @@ fn tags(rt: HostRuntime) -> Result<(), Fail> {
 }
 
 #[test]
-fn texts_that_are_no_tag(rt: HostRuntime) -> Result<(), Fail> {
+fn invalid_tag_strings(rt: HostRuntime) -> Result<(), Fail> {
     let alloc = rt.alloc();
     for &text in &["", "abcde", "abcd ", " abc", "b cc", "\u{7F}abc"] {
         let read = Tag::from_json(&Value::String(String::from_str(alloc, text)?));
@@ -32,7 +32,7 @@ fn texts_that_are_no_tag(rt: HostRuntime) -> Result<(), Fail> {
 }
 
 #[test]
-fn tags_that_are_no_text_and_no_tag(rt: HostRuntime) -> Result<(), Fail> {
+fn tags_without_a_form(rt: HostRuntime) -> Result<(), Fail> {
     let alloc = rt.alloc();
     let no_text = Tag::new(&[0x03, 0xF4, 0x00, 0xDD]);
     assert!(rt; matches!(no_text.to_json(alloc), Err(JsonFault::NotUtf8)));
@@ -43,7 +43,7 @@ fn tags_that_are_no_text_and_no_tag(rt: HostRuntime) -> Result<(), Fail> {
 }
 
 #[test]
-fn versions(rt: HostRuntime) -> Result<(), Fail> {
+fn version_objects(rt: HostRuntime) -> Result<(), Fail> {
     let version = MajorMinor::new(10, 5);
     let value = version.to_json(rt.alloc())?;
     let text = value.to_string(rt.alloc())?;
@@ -53,7 +53,7 @@ fn versions(rt: HostRuntime) -> Result<(), Fail> {
 }
 
 #[test]
-fn objects_that_are_no_version(rt: HostRuntime) -> Result<(), Fail> {
+fn invalid_version_objects(rt: HostRuntime) -> Result<(), Fail> {
     let alloc = rt.alloc();
     for &(text, ref fault) in &[
         ("[1,0]", JsonFault::WrongKind),
