@@ -5,7 +5,6 @@ ghost use Rattle.std.specs.Prelude.{unsigned_abs};
 ghost use Rattle.font_types.specs.Bytes.{signed_numeral};
 ghost use Rattle.font_c.specs.DeltaSets.{IsSet, set_sum, StoresSetSum};
 
-use crate::field::value_at;
 use crate::status::{LONG_WORDS, OTHER_COUNT, STORED, TOO_MANY};
 use font_types::Scalar;
 
@@ -72,7 +71,7 @@ fn word_at(set: &[u8], index: usize) -> i16
     requires { 2 * index + 2 ≤ length set.now }
     ensures { result ≡ signed_numeral 2 (take 2 (drop (2 * index) set.now)) }
 {
-    value_at::<i16>(set, 2 * index).unwrap()
+    i16::read_at(set, 2 * index).unwrap()
 }
 
 // The delta of 8 bits at an index.

@@ -1,6 +1,6 @@
 //! The results of the exports: `font_status` of the header.
 
-ghost use Rattle.std.specs.Prelude.{◌↔◌, ◌≤◌, ◌+◌, IsTrue};
+ghost use Rattle.std.specs.Prelude.{◌≡◌, ◌↔◌, ◌≤◌, ◌+◌, IsTrue, IfSome, IfNone};
 ghost use Rattle.font_c.specs.Status.{IsFraction};
 
 /// The result was stored.
@@ -12,7 +12,7 @@ pub const NO_DECIMAL: u32 = 1;
 /// The result does not fit in the type that it is stored in.
 pub const OUT_OF_RANGE: u32 = 2;
 
-/// Values of this width do not have so many fraction bits, or so few.
+/// Values of this width do not have this number of fraction bits.
 pub const BAD_FRACTION: u32 = 3;
 
 /// The buffer is shorter than the text.
@@ -47,4 +47,16 @@ pub fn is_fraction(width: u32, fraction_bits: u32) -> bool
     ensures { IsTrue result ↔ IsFraction width fraction_bits }
 {
     6 <= fraction_bits && fraction_bits <= 30 && fraction_bits + 2 <= width
+}
+
+/// Stores a value and returns `STORED`, or returns `otherwise` if there is none.
+pub fn store<T: Copy>(value: Option<T>, otherwise: u32, place: &mut T) -> u32
+    ensures stored { IfSome value (λ stored. (result ≡ 0) × (place.new ≡ stored)) }
+    ensures kept { IfNone value ((result ≡ otherwise) × (place.new ≡ place.old)) }
+{
+    let Some(value) = value else {
+        return otherwise;
+    };
+    *place = value;
+    STORED
 }
