@@ -1,12 +1,12 @@
 -- What an array of elements is made of, and where a search in it ends.
-use Rattle.std.proofs.Common.{◌≡◌, ◌≢◌, ◌∙◌, sym, ap, refl, subst, ℕ, zero, suc}
+use Rattle.std.proofs.lemmas.Bool.Decides.{nat_tests}
+use Rattle.std.proofs.Common.{◌≡◌, ◌≢◌, ◌∙◌, ap, refl, ℕ, zero, suc}
 use Rattle.std.proofs.Common.{◌+◌, ◌-◌, ◌*◌, ◌/◌, ◌%◌, ◌<◌, ◌≤◌}
-use Rattle.std.proofs.Common.{Bool, true, false, if◌then◌else◌, IsFalse, List, [], ◌∷◌, ◌++◌, length, take, drop}
-use Rattle.std.proofs.Common.{arith, rules, inl, inr}
+use Rattle.std.proofs.Common.{Bool, if◌then◌else◌, IsFalse, List, [], ◌∷◌, ◌++◌, length, take, drop}
+use Rattle.std.proofs.Common.{arith, rules, add-one}
 use Rattle.std.specs.Int.{from_bool}
-use Rattle.std.proofs.Math.Nat.{div-zero, div-eq-sub-div, div-eq_of_lt, div-mul-le_self, mul-div_cancel, mul-mod_left}
-use Rattle.std.proofs.Math.Nat.{mod-eq-sub-div-mul, add-mul}
-use Rattle.std.proofs.lemmas.Bool.{cases_lt}
+use Rattle.std.proofs.Math.Nat.{div-eq-sub-div, div-mul-le_self, mul-div_cancel, mul-mod_left}
+use Rattle.std.proofs.Math.Nat.{suc-mul, zero-mul}
 use Rattle.std.proofs.lemmas.List.{length-drop, length-take-le, drop-drop, drop-take, take-take, take_all}
 use Rattle.std.specs.Ordering.{ordering_index, is_gt, is_eq, is_lt}
 use Rattle.std.specs.declared.cmp.Ordering.{Ordering}
@@ -19,30 +19,19 @@ length-elements size (suc n) bytes = ap suc (length-elements size n (drop size b
 
 -- where there is an element, its size is not 0, and the bytes are as many at least
 sized : (size len : ℕ) → 0 < len / size → 0 < size
-sized zero len some = let none = div-zero len in omega arith
-sized (suc size) len some = omega arith
+sized size len some = grind (arith, nat_tests)
 
 pub one_fits : (size len : ℕ) → 0 < len / size → size ≤ len
-one_fits size len some = elim (cases_lt len size) [
-  | inl short ↦ let none : len / size ≡ 0 = div-eq_of_lt short in omega arith
-  | inr long ↦ omega arith
-]
+one_fits size len some = grind (arith, nat_tests)
 
 -- after the first there is one element fewer
 pub one_less : (size len : ℕ) → 0 < len / size → len / size ≡ (len - size) / size + 1
 one_less size len some = div-eq-sub-div (sized size len some) (one_fits size len some)
 
-one_more : (size n : ℕ) (bytes : List ℕ)
-    → elements size (n + 1) bytes ≡ take size bytes ∷ elements size n (drop size bytes)
-one_more size n bytes = let next : n + 1 ≡ suc n = omega arith in ap (λ m. elements size m bytes) next
-
 pub first_and_others : (size : ℕ) (bytes : List ℕ) → 0 < length bytes / size
     → elements size (length bytes / size) bytes
     ≡ take size bytes ∷ elements size (length (drop size bytes) / size) (drop size bytes)
-first_and_others size bytes some =
-    ap (λ n. elements size n bytes) (one_less size (length bytes) some)
-    ∙ one_more size ((length bytes - size) / size) bytes
-    ∙ ap (λ n. take size bytes ∷ elements size (n / size) (drop size bytes)) (sym (length-drop size bytes))
+first_and_others size bytes some = rw (one_less size (length bytes) some, add-one, length-drop size bytes)
 
 -- no element: no bytes are left to show
 pub none_left : (size : ℕ) (bytes : List ℕ) → length bytes / size ≡ 0 → elements size (length bytes / size) bytes ≡ []
@@ -51,37 +40,29 @@ none_left size bytes none = rw none refl
 -- ---- from the back
 
 next_times : (n size : ℕ) → size + n * size ≡ suc n * size
-next_times n size =
-    let next : suc n ≡ n + 1 = omega arith in omega (arith, ap (λ k. k * size) next, add-mul n 1 size)
+next_times n size = omega (arith, suc-mul n size)
 
 -- the others, and then the last element
 others_and_last : (size n : ℕ) (bytes : List ℕ)
     → elements size (suc n) bytes ≡ elements size n bytes ++ element size bytes n ∷ []
-others_and_last size zero bytes =
-    let none : 0 ≡ 0 * size = omega arith in ap (λ k. take size (drop k bytes) ∷ []) none
+others_and_last size zero bytes = rw (zero-mul size)
 others_and_last size (suc n) bytes =
-    ap (λ xs. take size bytes ∷ xs) (others_and_last size n (drop size bytes)
-    ∙ ap (λ rest. elements size n (drop size bytes) ++ take size rest ∷ []) (drop-drop (n * size) size bytes
-    ∙ ap (λ k. drop k bytes) (next_times n size)))
+    rw (others_and_last size n (drop size bytes), drop-drop (n * size) size bytes, next_times n size)
 
 -- bytes after n elements do not count
 elements-take : (size n : ℕ) (bytes : List ℕ) → elements size n (take (n * size) bytes) ≡ elements size n bytes
 elements-take size zero bytes = refl
-elements-take size (suc n) bytes =
-    ap (λ k. elements size (suc n) (take k bytes)) (sym (next_times n size))
-    ∙ ap (λ xs. xs ∷ elements size n (drop size (take (size + n * size) bytes)))
-    (take-take size (size + n * size) bytes (omega arith))
-    ∙ ap (λ xs. take size bytes ∷ xs) (ap (elements size n) (drop-take size (n * size) bytes)
-    ∙ elements-take size n (drop size bytes))
+elements-take size (suc n) bytes = rw (
+  ← next_times n size,
+  take-take size (size + n * size) bytes (omega arith),
+  drop-take size (n * size) bytes,
+  elements-take size n (drop size bytes),
+)
 
 -- what is an array of n + 1 elements has their bytes, and no others
 whole_bytes : (size m : ℕ) (bytes : List ℕ) → length bytes % size ≡ 0 → length bytes / size ≡ m + 1
     → length bytes ≡ m * size + size
-whole_bytes size m bytes whole many =
-    let rest = mod-eq-sub-div-mul (length bytes) size in
-    let less = div-mul-le_self (length bytes) size in
-    let product = ap (λ n. n * size) many in
-    omega (arith, rest, less, product, add-mul m 1 size)
+whole_bytes size m bytes whole many = grind (arith, nat_tests)
 
 -- its front part is an array of n
 pub front_length : (size m : ℕ) (bytes : List ℕ) → length bytes % size ≡ 0 → length bytes / size ≡ m + 1
@@ -108,10 +89,9 @@ pub last_and_others : (size m : ℕ) (bytes : List ℕ) → length bytes % size 
     → elements size (length bytes / size) bytes
     ≡ elements size (length (take (m * size) bytes) / size) (take (m * size) bytes) ++ drop (m * size) bytes ∷ []
 last_and_others size m bytes whole many =
-    let next : m + 1 ≡ suc m = omega arith in
     let last = take_all size (drop (m * size) bytes) (omega (arith, last_element_length size m bytes whole many)) in
-    ap (λ n. elements size n bytes) (many ∙ next) ∙ others_and_last size m bytes
-    ∙ rw (last, front_many size m bytes whole many, elements-take size m bytes) refl
+    rw (front_many size m bytes whole many, many, add-one, elements-take size m bytes)
+    (others_and_last size m bytes ∙ rw last)
 
 pub ruleset element_rules = (length-elements, one_fits, one_less, first_and_others, none_left)
 
@@ -119,9 +99,7 @@ pub ruleset element_rules = (length-elements, one_fits, one_less, first_and_othe
 
 -- their bytes and those of the others
 parted : (size n many : ℕ) → n ≤ many → many * size ≡ n * size + (many - n) * size
-parted size n many within =
-    let all : many ≡ n + (many - n) = omega arith in
-    ap (λ k. k * size) all ∙ add-mul n (many - n) size
+parted size n many within = grind (arith, nat_tests)
 
 pub part_fits : (size len n : ℕ) → n ≤ len / size → n * size ≤ len
 part_fits size len n within = omega (arith, parted size n (len / size) within, div-mul-le_self len size)
@@ -146,26 +124,21 @@ middle_fits size start end bytes order within = omega (
 
 elements-drop : (size n m : ℕ) (bytes : List ℕ) → n ≤ m
     → drop n (elements size m bytes) ≡ elements size (m - n) (drop (n * size) bytes)
-elements-drop size zero m bytes within =
-    let all : m ≡ m - 0 = omega arith in let none : 0 ≡ 0 * size = omega arith in
-    ap (λ k. elements size k bytes) all ∙ ap (λ k. elements size (m - 0) (drop k bytes)) none
+elements-drop size zero m bytes within = let all : m - 0 ≡ m = omega arith in rw (all, zero-mul size)
 elements-drop size (suc n) zero bytes within = absurd (omega arith)
 elements-drop size (suc n) (suc m) bytes within =
-    let others : m - n ≡ suc m - suc n = omega arith in
-    elements-drop size n m (drop size bytes) (omega arith)
-    ∙ ap (λ k. elements size k (drop (n * size) (drop size bytes))) others
-    ∙ ap (elements size (suc m - suc n)) (drop-drop (n * size) size bytes ∙ ap (λ k. drop k bytes) (next_times n size))
+    let others : suc m - suc n ≡ m - n = omega arith in
+    rw (others, ← next_times n size, ← drop-drop (n * size) size bytes)
+    (elements-drop size n m (drop size bytes) (omega arith))
 
 take-elements : (size n m : ℕ) (bytes : List ℕ) → n ≤ m → take n (elements size m bytes) ≡ elements size n bytes
 take-elements size zero m bytes within = refl
 take-elements size (suc n) zero bytes within = absurd (omega arith)
-take-elements size (suc n) (suc m) bytes within =
-    ap (λ xs. take size bytes ∷ xs) (take-elements size n m (drop size bytes) (omega arith))
+take-elements size (suc n) (suc m) bytes within = rw (take-elements size n m (drop size bytes) (omega arith))
 
 -- n elements of this size are n, where there are any
 many_of : (size n len : ℕ) → n ≤ len / size → n * size / size ≡ n
-many_of zero n len within = let none = div-zero len in let zero_is = div-zero (n * zero) in omega arith
-many_of (suc size) n len within = mul-div_cancel n (omega arith)
+many_of size n len within = grind (arith, nat_tests)
 
 pub middle_elements : (size start end : ℕ) (bytes : List ℕ) → start ≤ end → end ≤ length bytes / size
     → elements size (length (take ((end - start) * size) (drop (start * size) bytes)) / size)
@@ -175,13 +148,13 @@ middle_elements size start end bytes order within =
     let n = end - start in
     let rest = drop (start * size) bytes in
     let many = length bytes / size in
-    let after : n ≤ many - start = omega arith in
-    ap (λ k. elements size (k / size) (take (n * size) rest))
-    (length-take-le (n * size) rest (middle_fits size start end bytes order within))
-    ∙ ap (λ k. elements size k (take (n * size) rest)) (many_of size n (length bytes) (omega arith))
-    ∙ elements-take size n rest
-    ∙ sym (take-elements size n (many - start) rest after)
-    ∙ ap (take n) (sym (elements-drop size start many bytes (omega arith)))
+    rw (
+      length-take-le (n * size) rest (middle_fits size start end bytes order within),
+      many_of size n (length bytes) (omega arith),
+      elements-take size n rest,
+      elements-drop size start many bytes (omega arith),
+      take-elements size n (many - start) rest (omega arith),
+    )
 
 pub ruleset part_rules = (front_of, count_of)
 
@@ -192,14 +165,10 @@ pub ruleset back_rules = (length-elements, front_whole, front_many, last_element
 -- ---- searches
 
 low_less : (o : Ordering) → ordering_index o ≤ ordering_index Less → o ≡ Less
-low_less Less low = refl
-low_less Equal low = absurd (omega arith)
-low_less Greater low = absurd (omega arith)
+low_less o low = grind (arith, nat_tests)
 
 high_greater : (o : Ordering) → ordering_index Greater ≤ ordering_index o → o ≡ Greater
-high_greater Less high = absurd (omega arith)
-high_greater Equal high = absurd (omega arith)
-high_greater Greater high = refl
+high_greater o high = grind (arith, nat_tests)
 
 -- What the loop of a search keeps of the elements from `low` up to `high`, where the answers do not fall: the first of
 -- them is the first of all or no `Greater`, and all after them are `Greater`.
@@ -208,29 +177,16 @@ pub record Narrows {V : Type 0} (is_scalar : V → Bool) (stored : V → List �
   pub first : (v : V) → 0 < low → IsStored is_scalar stored (at low) v → answer v ≢ Greater
   pub greater : (k : ℕ) (v : V) → high ≤ k → k < n → IsStored is_scalar stored (at k) v → answer v ≡ Greater
 
-less_no_greater : Less ≢ Greater
-less_no_greater same =
-    let index : ordering_index Less ≡ ordering_index Greater = ap ordering_index same in omega (arith, index)
-
-less_no_equal : Less ≢ Equal
-less_no_equal same =
-    let index : ordering_index Less ≡ ordering_index Equal = ap ordering_index same in omega (arith, index)
-
-equal_no_greater : Equal ≢ Greater
-equal_no_greater same =
-    let index : ordering_index Equal ≡ ordering_index Greater = ap ordering_index same in omega (arith, index)
-
 module _ {V : Type 0} (is_scalar : V → Bool) (stored : V → List ℕ) (answer : V → Ordering) (at : ℕ → List ℕ)
     (n : ℕ) where
   -- after an element that is greater, every element is
   greater_after : (middle : ℕ) (w : V) → IsStored is_scalar stored (at middle) w → answer w ≡ Greater
       → Rises is_scalar stored answer at n → (k : ℕ) (v : V) → middle ≤ k → k < n
       → IsStored is_scalar stored (at k) v → answer v ≡ Greater
-  greater_after middle w is greater rises k v from within is_v = high_greater (answer v)
-      (subst (λ o. ordering_index o ≤ ordering_index (answer v)) greater
-      (rises.keeps middle k w v from within is is_v))
+  greater_after middle w is greater rises k v from within is_v =
+      high_greater (answer v) (rw greater at (rises.keeps middle k w v from within is is_v))
 
-  -- after a look at the element `half` after the first, those after that are greater, or that is the first
+  -- an element that is not greater is the first, and what was greater stays so
   narrows_up : (low high middle : ℕ) (w : V) → middle < n → IsStored is_scalar stored (at middle) w
       → answer w ≢ Greater → Rises is_scalar stored answer at n → Narrows is_scalar stored answer at n low high
       → Narrows is_scalar stored answer at n middle high
@@ -240,14 +196,7 @@ module _ {V : Type 0} (is_scalar : V → Bool) (stored : V → List ℕ) (answer
     greater = left.greater;
   }
 
-  narrows_down : (low high middle end : ℕ) (w : V) → middle ≤ end → IsStored is_scalar stored (at middle) w
-      → answer w ≡ Greater → Rises is_scalar stored answer at n → Narrows is_scalar stored answer at n low high
-      → Narrows is_scalar stored answer at n low end
-  narrows_down low high middle end w before is greater rises left = record {
-    first = left.first;
-    greater = λ k v from. greater_after middle w is greater rises k v (omega arith);
-  }
-
+  -- after a look at the element `half` after the first, those after that are greater, or that is the first
   pub narrows_half : (o : Ordering) (low size half next : ℕ) (w : V) → half ≤ size - half → low + size ≤ n
       → low + half < n → next ≡ (if is_gt o then low else low + half) → answer w ≡ o
       → IsStored is_scalar stored (at (low + half)) w → Rises is_scalar stored answer at n
@@ -255,15 +204,14 @@ module _ {V : Type 0} (is_scalar : V → Bool) (stored : V → List ℕ) (answer
       → Narrows is_scalar stored answer at n next (next + (size - half))
   narrows_half Less low size half next w halved fits within chosen is_less is rises left =
       let end : next + (size - half) ≡ low + size = omega (arith, chosen) in
-      rw (end, chosen) (narrows_up low (low + size) (low + half) w within is
-      (λ greater. less_no_greater (sym is_less ∙ greater)) rises left)
+      rw (end, chosen) (narrows_up low (low + size) (low + half) w within is (λ greater. cc) rises left)
   narrows_half Equal low size half next w halved fits within chosen is_equal is rises left =
       let end : next + (size - half) ≡ low + size = omega (arith, chosen) in
-      rw (end, chosen) (narrows_up low (low + size) (low + half) w within is
-      (λ greater. equal_no_greater (sym is_equal ∙ greater)) rises left)
-  narrows_half Greater low size half next w halved fits within chosen is_greater is rises left =
-      rw chosen (narrows_down low (low + size) (low + half) (low + (size - half)) w (omega arith) is is_greater rises
-      left)
+      rw (end, chosen) (narrows_up low (low + size) (low + half) w within is (λ greater. cc) rises left)
+  narrows_half Greater low size half next w halved fits within chosen is_greater is rises left = rw chosen (record {
+    first = left.first;
+    greater = λ k v from. greater_after (low + half) w is is_greater rises k v (omega arith);
+  })
 
   -- where one element is left, and it is not equal, its answer says where the array is split
   pub splits_at_one : (o : Ordering) (low high place : ℕ) (w : V) → high ≤ low + 1 → low < n → IsFalse (is_eq o)
@@ -271,8 +219,7 @@ module _ {V : Type 0} (is_scalar : V → Bool) (stored : V → List ℕ) (answer
       → Rises is_scalar stored answer at n → Narrows is_scalar stored answer at n low high
       → Splits is_scalar stored answer at n place place
   splits_at_one Less low high place w one within other here is_less is rises left = rw here (record {
-    less = λ k v before is_v. low_less (answer v) (subst (λ o. ordering_index (answer v) ≤ ordering_index o) is_less
-        (rises.keeps k low v w (omega arith) within is_v is));
+    less = λ k v before is_v. low_less (answer v) (rw is_less at (rises.keeps k low v w (omega arith) within is_v is));
     greater = λ k v from. left.greater k v (omega arith);
   })
   splits_at_one Equal low high place w one within other here is_equal is rises left = absurd (search (rules, other))
@@ -284,11 +231,9 @@ module _ {V : Type 0} (is_scalar : V → Bool) (stored : V → List ℕ) (answer
 
 -- no element of a partitioned array compares as equal
 pub no_side : (before : Bool) → side before ≢ Equal
-no_side true same = less_no_equal same
-no_side false same = equal_no_greater (sym same)
+no_side before same = grind (arith, nat_tests)
 
 -- the place that a step of the search keeps, and what is left from there on, are in the array
 pub half_fits : (greater : Bool) (low size half next n : ℕ) → next ≡ (if greater then low else low + half)
     → half ≤ size → low + size ≤ n → next + (size - half) ≤ n
-half_fits true low size half next n chosen some fits = omega (arith, chosen)
-half_fits false low size half next n chosen some fits = omega (arith, chosen)
+half_fits greater low size half next n chosen some fits = grind (arith, nat_tests)

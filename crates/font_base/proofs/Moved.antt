@@ -1,24 +1,18 @@
 -- A number of 16 bits that is moved by a signed one: the bytes of the sum.
-use Rattle.std.proofs.Common.{◌≡◌, ◌∙◌, ap, ℕ, ◌+◌, ◌-◌, ◌<◌, ◌%◌, ℤ, pos, negsuc, neg_ℤ, ◌+ℤ◌, arith, inl, inr}
+use Rattle.std.proofs.Common.{◌≡◌, ◌∙◌, ap, ℕ, ◌+◌, ◌-◌, ◌<◌, ◌%◌, ℤ, pos, negsuc, neg_ℤ, ◌+ℤ◌, ◌-ℤ◌, ◌/◌, arith}
 use Rattle.std.proofs.Common.{SFits, of_z, w16}
 use Rattle.std.proofs.lemmas.Int.{ints}
-use Rattle.std.proofs.lemmas.Bool.{cases_lt}
 use Rattle.font_base.specs.Bytes.{bytes_of}
 use Rattle.font_base.specs.Bytes.Laws.{bytes_of-same}
 
 -- moved up by d, and down by d + 1: either wraps once at most
 moved_up : (m d : ℕ) → m < 65536 → d < 65536 → bytes_of 2 (pos ((m + d) % 65536)) ≡ bytes_of 2 (pos m +ℤ pos d)
-moved_up m d below small = elim (cases_lt (m + d) 65536) [
-  | inl fits ↦ bytes_of-same 2 _ _ (pos 0) (omega (arith, ints, fits))
-  | inr over ↦ bytes_of-same 2 _ _ (neg_ℤ (pos 1)) (omega (arith, ints, over, below, small))
-]
+moved_up m d below small = bytes_of-same 2 _ _ (neg_ℤ (pos ((m + d) / 65536))) (omega (arith, ints))
 
 moved_down : (m d : ℕ) → m < 65536 → d < 65536
     → bytes_of 2 (pos ((m + (65535 - d)) % 65536)) ≡ bytes_of 2 (pos m +ℤ negsuc d)
-moved_down m d below small = elim (cases_lt d m) [
-  | inl fits ↦ bytes_of-same 2 _ _ (pos 0) (omega (arith, ints, fits, below, small))
-  | inr over ↦ bytes_of-same 2 _ _ (pos 1) (omega (arith, ints, over, below, small))
-]
+moved_down m d below small =
+    bytes_of-same 2 _ _ (pos 1 -ℤ pos ((m + (65535 - d)) / 65536)) (omega (arith, ints, below, small))
 
 -- what `wrapping_add_signed` gives
 pub bytes_moved : (m : ℕ) (y : ℤ) → m < 65536 → SFits w16 y

@@ -1,15 +1,16 @@
 -- What callers of scalars and fields cite: the number of a 24-bit integer whose stored bytes are known, and a search
 -- that found no place.
 use Rattle.std.proofs.Common.{◌≡◌, ◌≢◌, ◌∙◌, sym, ap, refl, arith, rules, ℕ, ◌^◌, ◌<◌, ◌≤◌, Bool, List, get_or}
-use Rattle.std.proofs.Common.{inl, inr, pos, nat_lt, Result, Ok, Err, IfOk, IfErr, MatchResult}
+use Rattle.std.proofs.Common.{pos, nat_lt, Result, Ok, Err, IfOk, IfErr, MatchResult}
 use Rattle.std.proofs.lemmas.Bool.{cases_lt}
+use Rattle.std.proofs.lemmas.Bool.Decides.{nat_tests}
 use Rattle.std.proofs.lemmas.List.Sorted.{searchable_from_sorted}
-use Rattle.std.specs.Cmp.{nat_cmp_is, nat_cmp_total, ranks, ranked}
+use Rattle.std.specs.Cmp.{nat_cmp_is, nat_cmp_total}
 use Rattle.std.specs.List.{All}
 use Rattle.std.specs.List.Sorted.{IsSortedByKey, IsBinarySearchResult}
-use Rattle.std.specs.Ordering.{nat_cmp, ordering_index, MatchOrdering}
+use Rattle.std.specs.Ordering.{nat_cmp, ordering_index}
 use Rattle.std.specs.declared.cmp.Ordering.{Ordering}
-use Rattle.std.specs.declared.cmp.Ordering.TheVariants.{Less, Equal, Greater}
+use Rattle.std.specs.declared.cmp.Ordering.TheVariants.{Equal}
 use Rattle.font_base.specs.Bytes.{numeral, signed_numeral, bytes_of}
 use Rattle.font_base.specs.Bytes.Laws.{unsigned_back}
 use Rattle.font_base.specs.Elements.{element, IsStored, StoresOne, Rises, Splits}
@@ -30,19 +31,7 @@ pub ruleset scalar_calls = (uint24_of_stored, int24_of_stored)
 
 -- a greater number is not answered less
 nat_cmp_rises : (x y key : ℕ) → x ≤ y → ordering_index (nat_cmp x key) ≤ ordering_index (nat_cmp y key)
-nat_cmp_rises x y key less = rise _ _ (ranks x key) (ranks y key)
-  where
-    rise : (r s : Ordering) → MatchOrdering r (x < key) (x ≡ key) (key < x)
-        → MatchOrdering s (y < key) (y ≡ key) (key < y) → ordering_index r ≤ ordering_index s
-    rise Less Less p q = omega arith
-    rise Less Equal p q = omega arith
-    rise Less Greater p q = omega arith
-    rise Equal Less p q = absurd (omega (arith, less, p, q))
-    rise Equal Equal p q = omega arith
-    rise Equal Greater p q = omega arith
-    rise Greater Less p q = absurd (omega (arith, less, p, q))
-    rise Greater Equal p q = absurd (omega (arith, less, p, q))
-    rise Greater Greater p q = omega arith
+nat_cmp_rises x y key less = grind (arith, nat_tests)
 
 -- where elements are in the order of their numbers, and a binary search answers no place, none has the number
 pub absent : {X : Type 0} (number_of : X → ℕ) (xs : List X) (n : ℕ) (result : Result ℕ ℕ)
@@ -53,10 +42,7 @@ absent number_of xs n (Err place) sorted searched =
     let sides = searched (searchable_from_sorted nat_cmp_total number_of xs n sorted) in
     λ k d within same.
     let equal : Equal ≡ nat_cmp (number_of (get_or xs k d)) n = nat_cmp_is (number_of (get_or xs k d)) n Equal same in
-    elim (cases_lt k place) [
-      | inl before ↦ let less = sides.0 k d (omega arith) before in cc
-      | inr after ↦ let greater = sides.1 k d after within in cc
-    ]
+    grind (arith, cases_lt k place, sides.0 k d (omega arith), sides.1 k d)
 
 -- ---- searches in arrays
 
@@ -65,19 +51,14 @@ module _ {V : Type 0} (is_scalar : V → Bool) (stored : V → List ℕ) (answer
   -- what a search does not find is nowhere, where the answers do not fall along the array
   pub nowhere : (i k : ℕ) (v : V) → Rises is_scalar stored answer at n → (Rises is_scalar stored answer at n
       → Splits is_scalar stored answer at n i i) → k < n → IsStored is_scalar stored (at k) v → answer v ≢ Equal
-  nowhere i k v rises splits within is same = elim (cases_lt k i) [
-    | inl before ↦ let less = (splits rises).less k v before is in cc
-    | inr after ↦ let greater = (splits rises).greater k v after within is in cc
-  ]
+  nowhere i k v rises splits within is same =
+      let sides = splits rises in grind (arith, cases_lt k i, sides.less k v, sides.greater k v)
 
   -- the answers do not fall where numbers are compared that do not
   pub rises_by : (number_of : V → ℕ) (key : ℕ) → ((v : V) → answer v ≡ nat_cmp (number_of v) key)
       → ((i j : ℕ) (v w : V) → i ≤ j → j < n → IsStored is_scalar stored (at i) v → IsStored is_scalar stored (at j) w
       → number_of v ≤ number_of w) → Rises is_scalar stored answer at n
-  rises_by number_of key compares sorted = record {
-    keeps = λ i j v w from within is_v is_w. rw (compares v, compares w)
-        (nat_cmp_rises (number_of v) (number_of w) key (sorted i j v w from within is_v is_w));
-  }
+  rises_by number_of key compares sorted = grind (arith, nat_tests)
 
 -- the same of unsigned numbers of so many bytes, and of what is one, by their numerals
 module _ {V : Type 0} (number_of : V → ℕ) (size n key : ℕ) (at : ℕ → List ℕ) where
@@ -95,8 +76,7 @@ module _ {V : Type 0} (number_of : V → ℕ) (size n key : ℕ) (at : ℕ → L
   numerals_rise sorted = rises_by is_number number_bytes (λ v. nat_cmp (number_of v) key) at n number_of key
       (λ v. refl)
       (λ i j v w from within is_v is_w.
-      let less = sorted i j from within in
-      omega (arith, less, numeral_stored i v is_v, numeral_stored j w is_w))
+      omega (arith, sorted i j from within, numeral_stored i v is_v, numeral_stored j w is_w))
 
   abbrev pub IsNumberSearched : Result ℕ ℕ → Type 0
   IsNumberSearched result = MatchResult result
@@ -106,19 +86,12 @@ module _ {V : Type 0} (number_of : V → ℕ) (size n key : ℕ) (at : ℕ → L
 
   pub number_found : (result : Result ℕ ℕ) → IsNumberSearched result
       → IfOk result (λ i. (i < n) × (at i ≡ bytes_of size (pos key)))
-  number_found (Ok i) found =
-      let is = found.1.is_stored.bytes_are in
-      let same = ranked (number_of found.1.value) key Equal (sym found.1.holds) in
-      (found.0, sym is ∙ ap (λ m. bytes_of size (pos m)) same)
-  number_found (Err i) found = tt
+  number_found result found = grind (arith, nat_tests)
 
   -- the same said by the numeral of the bytes
   pub numeral_found : (result : Result ℕ ℕ) → IsNumberSearched result
       → IfOk result (λ i. (i < n) × (numeral (at i) ≡ key))
-  numeral_found (Ok i) found =
-      let same = ranked (number_of found.1.value) key Equal (sym found.1.holds) in
-      (found.0, sym (numeral_stored i found.1.value found.1.is_stored) ∙ same)
-  numeral_found (Err i) found = tt
+  numeral_found result found = grind (arith, nat_tests, numeral_stored)
 
   pub number_absent : (v : V) (result : Result ℕ ℕ) → number_of v ≡ key → key < 256 ^ size
       → ((i j : ℕ) → i ≤ j → j < n → numeral (at i) ≤ numeral (at j)) → IsNumberSearched result
@@ -132,12 +105,7 @@ module _ {V : Type 0} (number_of : V → ℕ) (size n key : ℕ) (at : ℕ → L
 -- a search in an array of 16-bit numbers, seen in the form that the goals of its callers have
 module _ (bytes : List ℕ) (n key : ℕ) (result : Result ℕ ℕ) where
   abbrev pub IsSearchedWord : Type 0
-  IsSearchedWord = MatchResult result
-      (λ i. (i < n) × StoresOne (λ (m : ℕ). nat_lt m (2 ^ 16)) (λ m. bytes_of 2 (pos m)) (element 2 bytes i)
-      (λ m. nat_cmp m key ≡ Equal))
-      (λ i. (i ≤ n)
-      × (Rises (λ (m : ℕ). nat_lt m (2 ^ 16)) (λ m. bytes_of 2 (pos m)) (λ m. nat_cmp m key) (element 2 bytes) n
-      → Splits (λ (m : ℕ). nat_lt m (2 ^ 16)) (λ m. bytes_of 2 (pos m)) (λ m. nat_cmp m key) (element 2 bytes) n i i))
+  IsSearchedWord = IsNumberSearched (λ (m : ℕ). m) 2 n key (element 2 bytes) result
 
   pub word_found : IsSearchedWord → IfOk result (λ i. (i < n) × (element 2 bytes i ≡ bytes_of 2 (pos key)))
   word_found = number_found (λ m. m) 2 n key (element 2 bytes) result

@@ -1,11 +1,12 @@
 -- The bytes that std reads and writes, in the words of numerals.
+use Rattle.std.proofs.lemmas.Bool.Decides.{nat_tests}
 use Rattle.std.proofs.Common.{◌≡◌, ◌∙◌, sym, ap, refl, ℕ, zero, suc, ◌*◌, ◌^◌, ◌<◌, ◌≤◌, ℤ, pos, negsuc, ◌+ℤ◌}
 use Rattle.std.proofs.Common.{◌*ℤ◌, List, [], ◌∷◌, length, get_or, drop, ◌≢◌, Option, Result, Ok, Err, MatchResult}
-use Rattle.std.proofs.Common.{IfSome, arith, IsTrue, lit≤}
-use Rattle.std.proofs.lemmas.Int.{ints, to_z-of_z}
+use Rattle.std.proofs.Common.{IfSome, arith, IsTrue}
+use Rattle.std.proofs.lemmas.Int.{to_z-of_z}
 use Rattle.std.proofs.Math.Nat.{mod-eq_of_lt}
 use Rattle.std.proofs.Math.Facts.{Fits-of_z, Fits-of_lt, sfits_to_z}
-use Rattle.std.specs.Int.{Width, w8, w16, w32, w64, w128, byte_len, bytes_high_first, to_be_bytes, from_be_bytes}
+use Rattle.std.specs.Int.{Width, w8, w16, w32, w64, w128, byte_len, to_be_bytes, from_be_bytes}
 use Rattle.std.specs.Result.{result_ok}
 use Rattle.std.specs.Array.{IsWholeChunk}
 use mir.Val.{SFits, to_z, of_z, bits, hbits}
@@ -17,17 +18,11 @@ use Rattle.font_base.proofs.Widths.{to_z-wrap}
 -- the bits of a width, its bytes and its half range
 width_facts : (w : Width)
     → (256 ^ byte_len w ≡ 2 ^ bits w) × (bits w ≡ 8 * byte_len w) × (2 ^ hbits w ≤ 2 ^ bits w)
-width_facts w8 = (refl, refl, lit≤ tt)
-width_facts w16 = (refl, refl, lit≤ tt)
-width_facts w32 = (refl, refl, lit≤ tt)
-width_facts w64 = (refl, refl, lit≤ tt)
-width_facts w128 = (refl, refl, lit≤ tt)
+width_facts w = grind (arith, nat_tests)
 
 pub to_be_bytes-bytes_of : (w : Width) (n : ℕ) → n < 2 ^ bits w → to_be_bytes w n ≡ bytes_of (byte_len w) (pos n)
 unfolding bytes_of
-to_be_bytes-bytes_of w n below =
-    let small : n < 256 ^ byte_len w = rw (width_facts w).0 below in
-    ap (λ m. bytes_high_first (byte_len w) m) (sym (mod-eq_of_lt small))
+to_be_bytes-bytes_of w n below = grind (arith, nat_tests)
 
 -- a number and its two's complement are some turns of the width apart
 abbrev pub turns_of : ℤ → ℤ
@@ -35,8 +30,7 @@ turns_of (pos n) = pos 0
 turns_of (negsuc n) = pos 1
 
 pub of_z-turned : (w : Width) (z : ℤ) → SFits w z → pos (of_z w z) ≡ (z +ℤ (turns_of z *ℤ pos (2 ^ bits w)))
-of_z-turned w (pos n) fits = omega (arith, ints)
-of_z-turned w (negsuc n) fits = omega (arith, ints, fits, (width_facts w).2)
+of_z-turned w z fits = grind (arith, nat_tests)
 
 pub to_be_bytes-signed : (w : Width) (z : ℤ) → SFits w z → to_be_bytes w (of_z w z) ≡ bytes_of (byte_len w) z
 to_be_bytes-signed w z fits =

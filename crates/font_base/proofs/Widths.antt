@@ -1,27 +1,20 @@
 -- Wrapping at the widths of std's number types, in the words of std.
-use Rattle.std.proofs.Common.{◌≡◌, ◌∙◌, sym, ap, refl, ℕ, suc, ◌-◌, ◌^◌, ◌<◌, ℤ, pos, negsuc, lit<, inl, inr, arith}
+use Rattle.std.proofs.lemmas.Bool.Decides.{nat_tests}
+use Rattle.std.proofs.Common.{◌≡◌, ◌∙◌, sym, ap, ℕ, suc, ◌-◌, ◌^◌, ◌<◌, ℤ, pos, negsuc, inl, inr, arith}
 use Rattle.std.proofs.Common.{pow_pos, SFits, to_z}
 use Rattle.std.proofs.lemmas.Int.{ints, to_z_pos}
 use Rattle.std.proofs.lemmas.Bool.{cases_lt}
 use Rattle.std.proofs.Math.Facts.{to_z-neg}
-use Rattle.std.specs.Int.{int_wrap, Width, w8, w16, w32, w64, w128}
+use Rattle.std.specs.Int.{int_wrap, Width}
 use mir.Val.{bits, hbits}
 use Rattle.font_base.specs.Wrap.{half_range, FitsBits, wrap}
 use Rattle.font_base.specs.Wrap.Laws.{two_halves, remainder, wrap_gives, wrap_same}
 
 pub half_range-bits : (w : Width) → half_range (bits w) ≡ 2 ^ hbits w
-half_range-bits w8 = refl
-half_range-bits w16 = refl
-half_range-bits w32 = refl
-half_range-bits w64 = refl
-half_range-bits w128 = refl
+half_range-bits w = grind (arith, nat_tests)
 
 pub bits_positive : (w : Width) → 0 < bits w
-bits_positive w8 = lit< tt
-bits_positive w16 = lit< tt
-bits_positive w32 = lit< tt
-bits_positive w64 = lit< tt
-bits_positive w128 = lit< tt
+bits_positive w = grind (arith, nat_tests)
 
 -- a value of a signed type fits its bits, and the other way
 pub signed_fits : (w : Width) (z : ℤ) → SFits w z → FitsBits (bits w) z
