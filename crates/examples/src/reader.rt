@@ -82,17 +82,9 @@ pub fn read_selector(bytes: &[u8]) -> Option<(Uint24, Offset32)>
 
 // ---- `head`
 
-// Returns the field of a header at an offset.
-fn field_at<T: Scalar>(bytes: &[u8], offset: usize) -> BigEndian<T>
-    requires { offset + T.RAW_BYTE_LEN ≤ length bytes.now }
-    ensures { T.Raw.bytes (raw_value result) ≡ take T.RAW_BYTE_LEN (drop offset bytes.now) }
-{
-    BigEndian::from_slice(&bytes[offset..offset + T::RAW_BYTE_LEN]).unwrap()
-}
-
 /// The table `head`, 54 bytes.
 ///
-/// `IsHead` in `specs/` has a line for each field. Each is filled by `field_at`: one that went to
+/// `IsHead` in `specs/` has a line for each field. Each is filled by `read_at`: one that went to
 /// the end of the bytes, as `&bytes[52..]`, would stop the search in a header of many fields.
 #[derive(Drop)]
 pub struct Head {
@@ -127,24 +119,24 @@ impl TableHeader for Head {
 
     fn decode(bytes: &[u8]) -> Head {
         Head {
-            major_version: field_at(bytes, 0),
-            minor_version: field_at(bytes, 2),
-            font_revision: field_at(bytes, 4),
-            checksum_adjustment: field_at(bytes, 8),
-            magic_number: field_at(bytes, 12),
-            flags: field_at(bytes, 16),
-            units_per_em: field_at(bytes, 18),
-            created: field_at(bytes, 20),
-            modified: field_at(bytes, 28),
-            x_min: field_at(bytes, 36),
-            y_min: field_at(bytes, 38),
-            x_max: field_at(bytes, 40),
-            y_max: field_at(bytes, 42),
-            mac_style: field_at(bytes, 44),
-            lowest_rec_ppem: field_at(bytes, 46),
-            font_direction_hint: field_at(bytes, 48),
-            index_to_loc_format: field_at(bytes, 50),
-            glyph_data_format: field_at(bytes, 52),
+            major_version: BigEndian::read_at(bytes, 0).unwrap(),
+            minor_version: BigEndian::read_at(bytes, 2).unwrap(),
+            font_revision: BigEndian::read_at(bytes, 4).unwrap(),
+            checksum_adjustment: BigEndian::read_at(bytes, 8).unwrap(),
+            magic_number: BigEndian::read_at(bytes, 12).unwrap(),
+            flags: BigEndian::read_at(bytes, 16).unwrap(),
+            units_per_em: BigEndian::read_at(bytes, 18).unwrap(),
+            created: BigEndian::read_at(bytes, 20).unwrap(),
+            modified: BigEndian::read_at(bytes, 28).unwrap(),
+            x_min: BigEndian::read_at(bytes, 36).unwrap(),
+            y_min: BigEndian::read_at(bytes, 38).unwrap(),
+            x_max: BigEndian::read_at(bytes, 40).unwrap(),
+            y_max: BigEndian::read_at(bytes, 42).unwrap(),
+            mac_style: BigEndian::read_at(bytes, 44).unwrap(),
+            lowest_rec_ppem: BigEndian::read_at(bytes, 46).unwrap(),
+            font_direction_hint: BigEndian::read_at(bytes, 48).unwrap(),
+            index_to_loc_format: BigEndian::read_at(bytes, 50).unwrap(),
+            glyph_data_format: BigEndian::read_at(bytes, 52).unwrap(),
         }
     }
 }

@@ -156,7 +156,22 @@ middle_elements size start end bytes order within =
       take-elements size n (many - start) rest (omega arith),
     )
 
-pub ruleset part_rules = (front_of, count_of)
+-- an element of an array that begins at an offset, in the bytes that it was read from
+pub element_of : (size n i offset : ℕ) (bytes : List ℕ) → i < n
+    → take size (drop (i * size) (take (n * size) (drop offset bytes))) ≡ take size (drop (offset + i * size) bytes)
+element_of size n i offset bytes within =
+    let after : ℕ = n - suc i in
+    let as_parts : n ≡ i + suc after = omega (arith, within) in
+    let parts : n * size ≡ i * size + (size + after * size) = ap (λ k. k * size) as_parts ∙ times i after size in
+    ap (λ m. take size (drop (i * size) (take m (drop offset bytes)))) parts
+    ∙ ap (take size) (drop-take (i * size) (size + after * size) (drop offset bytes))
+    ∙ take-take size (size + after * size) (drop (i * size) (drop offset bytes)) (omega arith)
+    ∙ ap (take size) (drop-drop (i * size) offset bytes)
+  where
+    times : (i k m : ℕ) → (i + suc k) * m ≡ i * m + (m + k * m)
+    times i k m = grind arith
+
+pub ruleset part_rules = (front_of, count_of, element_of)
 
 pub ruleset slice_rules = (part_fits, front_of, middle_fits, middle_elements)
 

@@ -1,7 +1,7 @@
 //! Borrowed arrays of big-endian scalars.
 
 ghost use Rattle.std.specs.Prelude.{◌≡◌, ⊤, ◌↔◌, ◌+◌, ◌-◌, ◌*◌, ◌%◌, ◌<◌, ◌≤◌, Bool, IsTrue};
-ghost use Rattle.std.specs.Prelude.{IsSome, IfSome, IfOk, IfErr, [], length, take, drop, nat_eq};
+ghost use Rattle.std.specs.Prelude.{IsSome, IfSome, IfOk, IfErr, [], length, take, drop, nat_eq, ℕ};
 ghost use Rattle.std.specs.Ordering.{on};
 ghost use Rattle.std.specs.Cmp.{on_per, on_equiv, partial_equiv_from_equiv};
 ghost use Rattle.std.specs.Cmp.Lexicographic.{nat_list_eq_equiv, pointwise};
@@ -83,6 +83,8 @@ impl<'a, T: Scalar> ScalarArray<'a, T> {
         ensures bytes { IfSome result (λ array.
             array_bytes array ≡ take (count * T.RAW_BYTE_LEN) (drop offset bytes.now)) }
         ensures len { 0 < T.RAW_BYTE_LEN → IfSome result (λ array. array_len array ≡ count) }
+        ensures elements { IfSome result (λ array. (i : ℕ) → i < count → element_bytes array i
+            ≡ take T.RAW_BYTE_LEN (drop (offset + i * T.RAW_BYTE_LEN) bytes.now)) }
     {
         let len = count.checked_mul(T::RAW_BYTE_LEN)?;
         let (_, rest) = bytes.split_at_checked(offset)?;

@@ -1,7 +1,7 @@
 //! Big-endian fields.
 
 ghost use Rattle.std.specs.Prelude.{◌≡◌, ⊤, nat_eq, Some, IsTrue, IsSome, IfSome, ◌↔◌, length};
-ghost use Rattle.std.specs.Prelude.{refl};
+ghost use Rattle.std.specs.Prelude.{◌+◌, ◌≤◌, take, drop, refl};
 ghost use Rattle.std.proofs.Common.{rules, ap, sym, ◌∙◌};
 ghost use Rattle.std.specs.Ordering.{on};
 ghost use Rattle.std.specs.Cmp.{on_per, on_equiv, on_total, partial_equiv_from_equiv};
@@ -66,6 +66,27 @@ impl<T: Scalar> BigEndian<T> {
             raw,
             scalar: PhantomData,
         })
+    }
+
+    /// Reads the field at `offset`, or returns `None` if fewer than `RAW_BYTE_LEN` bytes are left
+    /// there.
+    ///
+    /// ```
+    /// use font_types::BigEndian;
+    /// let field = BigEndian::<u16>::read_at(&[9, 1, 2], 1).unwrap();
+    /// assert_eq!(field.get(), 0x0102);
+    /// assert!(BigEndian::<u16>::read_at(&[9, 1, 2], 2).is_none());
+    /// ```
+    #[must_use]
+    #[inline]
+    pub fn read_at(bytes: &[u8], offset: usize) -> Option<BigEndian<T>>
+        ensures end { IsSome result ↔ (offset + T.RAW_BYTE_LEN ≤ length bytes.now) }
+        ensures bytes { IfSome result (λ field.
+            T.Raw.bytes (raw_value field) ≡ take T.RAW_BYTE_LEN (drop offset bytes.now)) }
+    {
+        let (_, rest) = bytes.split_at_checked(offset)?;
+        let (front, _) = rest.split_at_checked(T::RAW_BYTE_LEN)?;
+        BigEndian::from_slice(front)
     }
 
     /// Decodes the value.

@@ -31,6 +31,9 @@ fn field_bytes(rt: HostRuntime) -> Result<(), Fail> {
     assert!(rt; field.be_bytes() == [1, 2, 3, 4].as_slice());
     assert!(rt; BigEndian::from_slice(&[1, 2, 3, 4]) == Some(field.clone()?));
     assert!(rt; BigEndian::<u32>::from_slice(&[1, 2, 3]).is_none());
+    assert!(rt; BigEndian::read_at(&[9, 1, 2, 3, 4], 1) == Some(field.clone()?));
+    assert!(rt; BigEndian::<u32>::read_at(&[9, 1, 2, 3, 4], 2).is_none());
+    assert!(rt; BigEndian::<u32>::read_at(&[1, 2, 3, 4], usize::MAX).is_none());
     assert!(rt; BigEndian::<Uint24>::RAW_BYTE_LEN == 3);
     Ok(())
 }
