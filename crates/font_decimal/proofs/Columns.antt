@@ -46,8 +46,7 @@ spaces_trimmed n text ascii visible =
 
 -- the sign of a text and the rest are the text
 sign_and_body : (text : List ℕ) → shown_sign false text ++ unsigned_body text ≡ text
-sign_and_body [] = refl
-sign_and_body (c ∷ cs) = grind (arith, nat_tests)
+sign_and_body text = grind (arith, nat_tests)
 
 -- a text that is padded by spaces in front of it
 spaces_in_front : (text : List ℕ) (pad : Pad) → pad.fill ≡ 32 → pad.align ≡ Right → pad.plus ≡ false → pad.zeros ≡ false

@@ -1,11 +1,11 @@
 -- The fewest places at which a value m / 2^f has a decimal that reads back.
+use Rattle.std.proofs.lemmas.Bool.Decides.{nat_tests}
 use Rattle.std.proofs.Common.{◌≡◌, ◌≢◌, ℕ, zero, suc, ◌+◌, ◌-◌, ◌*◌, ◌/◌, ◌%◌, ◌^◌, ◌<◌, ◌≤◌, inl, inr, true}
-use Rattle.std.proofs.Common.{false, ℤ, pos, negsuc, refl, sym, ap, ◌∙◌, arith, below_more}
+use Rattle.std.proofs.Common.{false, ℤ, pos, refl, sym, ap, ◌∙◌, arith, below_more}
 use Rattle.std.specs.Prelude.{◌*ℤ◌, unsigned_abs}
 use Rattle.std.specs.Int.{abs_diff}
 use Rattle.std.proofs.Math.Nat.{mul-sub, pow-suc, eq_of_mul-eq-mul_left}
 use Rattle.std.proofs.lemmas.Bool.{cases_lt, cases_order, cond_both, lt-ltb, ltb-true, ltb-false}
-use Rattle.std.proofs.lemmas.Int.{ints}
 use Rattle.std.proofs.lemmas.Nat.{pow_pos, pow-add, mul-pow}
 use Rattle.font_decimal.specs.Near.{Near}
 use Rattle.font_decimal.specs.Shortest.{nearest_numeral, reads_back, places_from, fewest_places}
@@ -13,10 +13,7 @@ use Rattle.font_decimal.proofs.Near.{IsNearMagnitude, rounded_is, next_product}
 
 -- no other multiple is nearer than the rounded one
 nearest_distance : {n d q : ℕ} (m : ℕ) → IsNearMagnitude n d q → abs_diff (q * d) n ≤ abs_diff (m * d) n
-nearest_distance {d = d} {q = q} m r = elim (cases_order m q) [
-  | inl e ↦ rw e (omega arith)
-  | inr order ↦ grind (arith, order, next_product m q d, next_product q m d)
-]
+nearest_distance {d = d} {q = q} m r = grind (arith, cases_order m q, next_product m q d, next_product q m d)
 
 abs_diff_times : (k a b : ℕ) → abs_diff (k * a) (k * b) ≡ k * abs_diff a b
 abs_diff_times k a b = rw (sym (mul-sub k a b), sym (mul-sub k b a)) (omega arith)
@@ -119,10 +116,7 @@ zero_drops {m = m} {f = f} {p = p} fewest e =
 -- a decimal of any sign that rounds to a value of any sign
 pub magnitudes_close : (f j : ℕ) (n b : ℤ) → Near (n *ℤ pos (2 ^ f)) (10 ^ j) b → 2 * abs_diff (unsigned_abs n * 2 ^ f)
     (unsigned_abs b * 10 ^ j) ≤ 10 ^ j
-magnitudes_close f j (pos n) (pos b) near = omega (arith, ints)
-magnitudes_close f j (pos n) (negsuc b) near = omega (arith, ints)
-magnitudes_close f j (negsuc n) (pos b) near = omega (arith, ints)
-magnitudes_close f j (negsuc n) (negsuc b) near = omega (arith, ints)
+magnitudes_close f j n b near = grind (arith, nat_tests)
 
 -- no number with fewer places rounds to the value
 pub none_fewer : {f p : ℕ} {b : ℤ} (j : ℕ) (n : ℤ) → IsFewest (unsigned_abs b) f p → j < p

@@ -1,13 +1,12 @@
 -- Products of whole numbers, which std lacks: with an opposite, with the next number, in order, and by two factors.
-use Rattle.std.proofs.Common.{◌≡◌, ℕ, zero, suc, ◌*◌, ℤ, pos, negsuc, refl, sym, arith, neg_ℤ, ◌+ℤ◌, ◌*ℤ◌, ◌≤ℤ◌}
-use Rattle.std.proofs.Math.IntN.{neg_ℤ-neg_ℤ, +ℤ_one, suc_ℤ-*ℤ}
-use Rattle.std.proofs.Math.Nat.{mul-le-mul_right, zero-mul}
+use Rattle.std.proofs.lemmas.Bool.Decides.{nat_tests}
+use Rattle.std.proofs.Common.{◌≡◌, ℕ, suc, ◌*◌, ℤ, pos, negsuc, arith, neg_ℤ, ◌+ℤ◌, ◌*ℤ◌, ◌≤ℤ◌}
+use Rattle.std.proofs.Math.IntN.{+ℤ_one, suc_ℤ-*ℤ}
+use Rattle.std.proofs.Math.Nat.{mul-le-mul_right}
 use Rattle.std.proofs.lemmas.Int.{ints}
 
 pub neg-times : (q : ℤ) (d : ℕ) → neg_ℤ q *ℤ pos d ≡ neg_ℤ (q *ℤ pos d)
-neg-times (pos zero) d = rw zero-mul
-neg-times (pos (suc n)) d = refl
-neg-times (negsuc n) d = sym (neg_ℤ-neg_ℤ (pos (suc n * d)))
+neg-times q d = grind (arith, nat_tests)
 
 pub times-next : (q : ℤ) (d : ℕ) → (q +ℤ pos 1) *ℤ pos d ≡ q *ℤ pos d +ℤ pos d
 times-next q d = rw +ℤ_one (suc_ℤ-*ℤ q (pos d))

@@ -1,8 +1,8 @@
 -- Each fraction n / d with 0 < d has one nearest whole number, by either rule for ties.
-use Rattle.std.proofs.Common.{◌≡◌, ℕ, suc, ◌+◌, ◌*◌, ◌/◌, ◌<◌, ◌≤◌, Bool, true, false, ℤ, pos, negsuc, refl, sym, ap}
-use Rattle.std.proofs.Common.{◌∙◌, arith, neg_ℤ, ◌+ℤ◌, ◌*ℤ◌, ◌≤ℤ◌, unsigned_abs, le-ltb}
+use Rattle.std.proofs.lemmas.Bool.Decides.{nat_tests}
+use Rattle.std.proofs.Common.{◌≡◌, ℕ, suc, ◌+◌, ◌*◌, ◌/◌, ◌<◌, ◌≤◌, Bool, true, false, ℤ, pos, negsuc, sym}
+use Rattle.std.proofs.Common.{arith, neg_ℤ, ◌+ℤ◌, ◌*ℤ◌, ◌≤ℤ◌, unsigned_abs}
 use Rattle.std.specs.Int.{is_negative}
-use Rattle.std.proofs.Math.IntN.{neg_ℤ-neg_ℤ}
 use Rattle.std.proofs.Math.Nat.{mul-le-mul_right, mul-lt-mul_of_pos_right, suc-mul}
 use Rattle.std.proofs.lemmas.Int.{ints, by_lt_z}
 use Rattle.font_decimal.specs.Near.{signed, Near, near, near_magnitude, Up, up}
@@ -22,38 +22,21 @@ rounded_monotone {d = d} {q = q} {e = e} {r = r} h x y order =
     grind (arith, next_product r q (d * e), mul-le-mul_right e x.low, mul-lt-mul_of_pos_right y.high h)
 
 pub near_magnitude_unique : {n d q r : ℕ} → 0 < d → IsNearMagnitude n d q → IsNearMagnitude n d r → q ≡ r
-near_magnitude_unique h x y =
-    omega (arith, rounded_monotone h x y (omega arith), rounded_monotone h y x (omega arith))
+near_magnitude_unique h x y = grind (arith, nat_tests)
 
 pub rounded_is : (n d : ℕ) → 0 < d → IsNearMagnitude n d (near_magnitude n d)
 rounded_is n d h = omega arith
 
 -- a sign stays outside of a product
 pub signed_times : (s : Bool) (n d : ℕ) → signed s n *ℤ pos d ≡ signed s (n * d)
-signed_times false n d = refl
-signed_times true n d = neg-times (pos n) d
-
-same_abs : (x : ℤ) → unsigned_abs (neg_ℤ x) ≡ unsigned_abs x
-same_abs x = omega (arith, ints)
-
--- rounding is the same on both sides of zero
-pub near_opposite : (n : ℤ) (d : ℕ) (q : ℤ) → Near n d q → Near (neg_ℤ n) d (neg_ℤ q)
-near_opposite n d q h = record {
-  close = rw (neg-times q d) (omega (arith, ints));
-  away = rw (neg-times q d, same_abs n, same_abs q) (omega (arith, ints));
-}
+signed_times s n d = grind (arith, nat_tests)
 
 pub sign_and_magnitude : (n : ℤ) → n ≡ signed (is_negative n) (unsigned_abs n)
-sign_and_magnitude (pos n) = rw (le-ltb n 0 (omega arith))
-sign_and_magnitude (negsuc n) = refl
-
-near_positive : {n d q : ℕ} → IsNearMagnitude n d q → Near (pos n) d (pos q)
-near_positive r = omega (arith, ints)
+sign_and_magnitude n = grind (arith, nat_tests)
 
 -- a magnitude that is rounded, with its sign
 pub near_from : (s : Bool) (n d q : ℕ) → 0 < d → IsNearMagnitude n d q → Near (signed s n) d (signed s q)
-near_from false n d q h r = near_positive r
-near_from true n d q h r = near_opposite (pos n) d (pos q) (near_positive r)
+near_from s n d q h r = grind (arith, nat_tests)
 
 -- q has the sign s, and its magnitude is that of n / d, rounded
 pub record HasMagnitude (s : Bool) (n d : ℕ) (q : ℤ) : Type 0 where
@@ -61,15 +44,8 @@ pub record HasMagnitude (s : Bool) (n d : ℕ) (q : ℤ) : Type 0 where
   pub is : q ≡ signed s magnitude
   pub rounded : IsNearMagnitude n d magnitude
 
-magnitude_positive : (n d : ℕ) (q : ℤ) → 0 < d → Near (pos n) d q → HasMagnitude false n d q
-magnitude_positive n d (pos q) h r = record { magnitude = q; is = refl; rounded = grind (arith, ints) }
-magnitude_positive n d (negsuc q) h r = absurd (omega (arith, ints, suc-mul q d))
-
 pub near_to : (s : Bool) (n d : ℕ) (q : ℤ) → 0 < d → Near (signed s n) d q → HasMagnitude s n d q
-near_to false n d q h r = magnitude_positive n d q h r
-near_to true n d q h r =
-    let m = magnitude_positive n d (neg_ℤ q) h (rw neg_ℤ-neg_ℤ at (near_opposite (neg_ℤ (pos n)) d q r)) in
-    record { magnitude = m.magnitude; is = sym (neg_ℤ-neg_ℤ q) ∙ ap neg_ℤ m.is; rounded = m.rounded }
+near_to s n d q h r = grind (arith, nat_tests)
 
 -- of two fractions the greater one is never rounded to the lesser number
 pub near_monotone : {n m : ℤ} {d e : ℕ} {q r : ℤ} → 0 < d → 0 < e → Near n d q → Near m e r

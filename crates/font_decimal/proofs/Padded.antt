@@ -1,37 +1,32 @@
 -- A padded text, piece by piece.
+use Rattle.std.proofs.lemmas.Bool.Decides.{nat_tests}
 use Rattle.std.proofs.Common.{◌≡◌, ◌≢◌, ℕ, ◌+◌, ◌-◌, ◌<◌, ◌≤◌, Bool, false, List, [], ◌∷◌, ◌++◌, length, get_or, take}
-use Rattle.std.proofs.Common.{drop, refl, sym, ap, ◌∙◌, arith, append_assoc, length-append, length-drop, max, ◌==◌}
-use Rattle.std.proofs.Common.{None, ne_eqb, append-nil, take_at, drop_at, drop-drop}
+use Rattle.std.proofs.Common.{drop, refl, sym, ◌∙◌, arith, append_assoc, length-append, max}
+use Rattle.std.proofs.Common.{None, append-nil, take_at, drop_at, drop-drop}
 use Rattle.std.specs.Str.Pattern.{FindsCharPrefix}
-use Rattle.std.proofs.lemmas.Bool.{cond_both}
 use Rattle.std.proofs.lemmas.List.{drop_all, length-replicate}
 use Rattle.std.proofs.lemmas.Str.Pattern.{strip_prefix_char}
 use Rattle.std.proofs.Math.Dec.{eqb}
 use Rattle.font_decimal.specs.Padding.{shown_sign, unsigned_body, spare_in_front, laid_out, padded_text, FillsFront}
 use Rattle.font_decimal.specs.declared.padding.Align.{Align}
-use Rattle.font_decimal.specs.declared.padding.Align.TheVariants.{Left, Right, Center}
 use Rattle.font_decimal.specs.declared.padding.Pad.{Pad}
 
 -- a text that does not begin with `-`
 no_minus_test : (text : List ℕ) → ((rest : List ℕ) → text ≢ 45 ∷ rest) → eqb (get_or text 0 0) 45 ≡ false
 no_minus_test [] h = refl
-no_minus_test (c ∷ cs) h = ne_eqb c 45 (λ e. h cs (ap (λ x. x ∷ cs) e))
+no_minus_test (c ∷ cs) h = grind (arith, nat_tests, h cs)
 
 pub no_minus_found : (text : List ℕ) → FindsCharPrefix 45 text None → eqb (get_or text 0 0) 45 ≡ false
 no_minus_found text none = no_minus_test text (strip_prefix_char 45 text None none (omega arith))
 
 front_within : (align : Align) (spare : ℕ) → spare_in_front align spare ≤ spare
-front_within Left spare = omega arith
-front_within Right spare = omega arith
-front_within Center spare = omega arith
+front_within align spare = grind (arith, nat_tests)
 
 laid_length : (pad : Pad) (sign body : List ℕ) (spare : ℕ) → length (laid_out pad sign body spare) ≡ length sign
     + length body + spare
 laid_length pad sign body spare =
     let within = front_within pad.align spare in
-    cond_both pad.zeros _ _ (λ xs. length xs ≡ length sign + length body + spare)
-    (λ _. simp (length-append, length-replicate) (omega arith))
-    (λ _. simp (length-append, length-replicate) (omega arith))
+    grind (arith, nat_tests, length-append {A = ℕ}, length-replicate {A = ℕ})
 
 -- a padded text has the width that is asked for, or the text's own length where that is greater
 pub padded_length : (text : List ℕ) (pad : Pad) → length (padded_text text pad) ≡ max
@@ -59,13 +54,7 @@ pub nothing_yet : (old : List ℕ) → FillsFront [] 0 old old
 nothing_yet old = record { count = refl; bytes = refl }
 
 shown_sign_length : (plus : Bool) (text : List ℕ) → length (shown_sign plus text) ≤ 1
-shown_sign_length plus text = cond_both (get_or text 0 0 == 45) _ _ (λ xs. length xs ≤ 1) (λ _. omega arith)
-    (λ _. cond_both plus _ _ (λ xs. length xs ≤ 1) (λ _. omega arith) (λ _. omega arith))
-
-pub length-unsigned_body-le : (text : List ℕ) → length (unsigned_body text) ≤ length text
-length-unsigned_body-le text =
-    cond_both (get_or text 0 0 == 45) _ _ (λ xs. length xs ≤ length text) (λ _. omega (arith, length-drop 1 text))
-    (λ _. omega arith)
+shown_sign_length plus text = grind (arith, nat_tests)
 
 -- a text whose body is shorter than a cell fits it, padded, where the cell is as wide as is asked for: no sign has more
 -- than a byte

@@ -1,4 +1,5 @@
 -- The parts of a text, as they are found from its front.
+use Rattle.std.proofs.lemmas.Bool.Decides.{nat_tests}
 use Rattle.std.proofs.Common.{◌≡◌, ◌≢◌, ℕ, zero, suc, ◌<◌, ◌≤◌, Bool, true, false, List, [], ◌∷◌, ◌++◌, length, get_or}
 use Rattle.std.proofs.Common.{take, drop, refl, arith, take-append-drop, length-take-le}
 use Rattle.std.specs.Str.Parse.{AllDigits}
@@ -19,8 +20,7 @@ rest_found (c ∷ w) rest (suc len) p q digits within end = rest_found w rest le
 
 -- what follows the whole digits does not begin with one
 no_digit : (e : List ℕ) → 10 ≤ digit_value (get_or (fraction_text e) 0 0)
-no_digit [] = omega arith
-no_digit (d ∷ e) = omega arith
+no_digit e = grind (arith, nat_tests)
 
 -- so a text with such parts has its fraction where its first digits end
 pub fraction_found : {text w e : List ℕ} (len : ℕ) → HasParts text false w e → AllDigits 10 (take len text)

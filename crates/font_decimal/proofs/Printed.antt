@@ -1,8 +1,9 @@
 -- The text of the shortest decimal is what it says: plain, nearest, read back, with the fewest places, and at most 22
 -- bytes long. And what callers rely on of printed texts.
-use Rattle.std.proofs.Common.{◌≡◌, ℕ, zero, suc, ◌+◌, ◌-◌, ◌*◌, ◌/◌, ◌%◌, ◌^◌, ◌<◌, ◌≤◌, inl, inr, Bool, true≢false, []}
-use Rattle.std.proofs.Common.{◌∷◌, ◌++◌, length, get_or, ℤ, pos, negsuc, refl, sym, ap, subst, ◌∙◌, arith, add-one}
-use Rattle.std.proofs.Common.{◌*ℤ◌, ◌<ℤ◌, ◌↔◌, IsTrue, unsigned_abs, le-ltb, pow_pos, pow-add, append-nil, ◌≢◌, true}
+use Rattle.std.proofs.lemmas.Bool.Decides.{nat_tests}
+use Rattle.std.proofs.Common.{◌≡◌, ℕ, zero, suc, ◌+◌, ◌-◌, ◌*◌, ◌/◌, ◌%◌, ◌^◌, ◌<◌, ◌≤◌, Bool, []}
+use Rattle.std.proofs.Common.{◌∷◌, ◌++◌, length, get_or, lit<, ℤ, pos, refl, sym, ap, subst, ◌∙◌, arith, add-one}
+use Rattle.std.proofs.Common.{◌*ℤ◌, ◌<ℤ◌, ◌↔◌, IsTrue, unsigned_abs, pow_pos, pow-add, append-nil, ◌≢◌, true}
 use Rattle.std.proofs.Common.{false, List, append_assoc, length-append, ◌≤ℤ◌, Result, Ok}
 use Rattle.std.specs.Int.{is_negative, abs_diff}
 use Rattle.std.specs.Fmt.{decimal, sign_text}
@@ -11,7 +12,6 @@ use Rattle.std.specs.Char.{digit_value}
 use Rattle.std.proofs.Math.Nat.{mul-le-mul_right, pow-suc, div-div-eq-div-mul, div-mul-le_self, div-add-mod'}
 use Rattle.std.proofs.Math.Nat.{le-mul_of_pos_right, mul-le-mul_left, pow-le-pow_right, lt_of_mul-lt-mul_right}
 use Rattle.std.proofs.Math.Nat.{add-mul-div_left, add-mul-mod_self_right, div-one, lt_of_le_of_lt}
-use Rattle.std.proofs.lemmas.Bool.{cases_lt}
 use Rattle.std.proofs.lemmas.Int.{ints}
 use Rattle.std.proofs.lemmas.Nat.{div-mul-add}
 use Rattle.std.proofs.lemmas.Str.{digit_value_digit}
@@ -31,7 +31,6 @@ use Rattle.font_decimal.specs.Reading.{Rounds, IsReading}
 use Rattle.font_decimal.specs.Padding.{unsigned_body}
 use Rattle.font_decimal.specs.declared.reader.DecimalFault.{DecimalFault}
 use Rattle.font_decimal.proofs.Texts.{same_parts, decimal_unique, decimal_of}
-use Rattle.font_decimal.proofs.Padded.{length-unsigned_body-le}
 
 pub last_length : (p n : ℕ) → length (last_digits p n) ≡ p
 last_length zero n = refl
@@ -68,10 +67,7 @@ written_decimal s p n small = record {
 }
 
 no_zero_in_front : (n : ℕ) → n < 2 ^ 64 → get_or (decimal n) 0 0 ≡ 48 → length (decimal n) ≡ 1
-no_zero_in_front n small e = elim (cases_lt 0 n) [
-  | inl some ↦ absurd (omega (arith, first_decimal n some small))
-  | inr none ↦ ap length (decimal_digit n (omega arith))
-]
+no_zero_in_front n small e = grind (arith, first_decimal n, decimal_digit n)
 
 -- the numeral that is shown is zero only where the value is
 not_zero : (m d t ten : ℕ) → 2 * abs_diff (d * t) (m * ten) < ten → d ≡ 0 → m ≡ 0
@@ -79,10 +75,7 @@ not_zero m d t ten close e = grind (arith, ap (λ k. k * t) e, mul-le-mul_right 
 
 minus_shown : (b : ℤ) (d : ℕ) → (d ≡ 0 → unsigned_abs b ≡ 0)
     → IsTrue (is_negative b) ↔ (signed (is_negative b) d <ℤ pos 0)
-minus_shown (pos n) d h = rw (le-ltb n 0 (omega arith))
-    (λ t. absurd (true≢false (sym t)), λ less. absurd (omega (arith, ints)))
-minus_shown (negsuc n) zero h = absurd (omega (arith, h refl))
-minus_shown (negsuc n) (suc d) h = (λ _. omega (arith, ints), λ _. refl)
+minus_shown b d h = grind (arith, nat_tests)
 
 -- the whole part that is shown is at most the value's own
 whole_within : (m t ten d w : ℕ) → 2 * abs_diff (d * t) (m * ten) < ten → w * ten ≤ d → w * t ≤ m
@@ -143,11 +136,9 @@ point_length (suc p) n = omega (arith, last_length p n)
 
 -- with steps wider than `1 / 10 ^ places`
 pub few_places : (m f places : ℕ) → 2 ^ f < 10 ^ places → fewest_places m f ≤ places
-few_places m f places steps = elim (cases_lt places (fewest_places m f)) [
-  | inl more ↦ absurd
-      (omega (arith, pow-suc 10 places, unit_is_below m f, pow-le-pow_right {n = 10} (omega arith) more))
-  | inr less ↦ less
-]
+few_places m f places steps =
+    let powers = pow-le-pow_right {n = 10} (lit< tt) {i = suc places} {j = fewest_places m f} in
+    grind (arith, powers, pow-suc 10 places, unit_is_below m f)
 
 -- room for at most 20 digits in all
 pub digits_fit : (m f : ℕ) → m ≤ 2 ^ 63 → f ≤ 30 → length (decimal (shown_whole m f)) + fewest_places m f ≤ 20
@@ -277,8 +268,7 @@ zero_ends_no_fraction b f i front small e =
 
 -- ---- how long a printed text is without its `-`
 length-signed_body-le : (s : Bool) (body : List ℕ) → length (unsigned_body (sign_text s ++ body)) ≤ length body
-length-signed_body-le true body = omega arith
-length-signed_body-le false body = length-unsigned_body-le body
+length-signed_body-le s body = grind (arith, nat_tests)
 
 -- at most 21 bytes, whatever the fraction
 pub length-shortest_body-lt : (b : ℤ) (f : ℕ) → unsigned_abs b ≤ 2 ^ 63 → f ≤ 30

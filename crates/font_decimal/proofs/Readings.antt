@@ -1,12 +1,13 @@
 -- Each text has just one reading: a value, out of range, or no decimal.
-use Rattle.std.proofs.Common.{◌≡◌, ℕ, ◌+◌, ◌*◌, ◌/◌, ◌^◌, ◌<◌, ◌↔◌, ◌⊎◌, inl, inr, Bool, true, false, List}
+use Rattle.std.proofs.lemmas.Bool.Decides.{nat_tests}
+use Rattle.std.proofs.Common.{◌≡◌, ℕ, ◌+◌, ◌*◌, ◌/◌, ◌^◌, ◌<◌, ◌↔◌, ◌⊎◌, Bool, List}
 use Rattle.std.proofs.Common.{◌++◌, length, min, ℤ, refl, ap, ◌∙◌, arith}
-use Rattle.std.specs.Prelude.{Option, Some, None, Result, Ok, Err, SomeIff, FitsSigned, ◌≤ℤ◌}
+use Rattle.std.specs.Prelude.{Option, Result, Ok, Err, SomeIff, FitsSigned, ◌≤ℤ◌}
 use Rattle.std.specs.Str.Parse.{digits_value}
 use Rattle.std.specs.Option.{ok_or}
 use Rattle.std.specs.Int.{w64}
 use Rattle.std.proofs.Math.Nat.{one-le-pow}
-use Rattle.std.proofs.lemmas.Int.{ints, by_lt_z}
+use Rattle.std.proofs.lemmas.Int.{ints}
 use Rattle.std.proofs.lemmas.Nat.{pow-add, mul-pow}
 use Rattle.font_decimal.specs.Near.{signed}
 use Rattle.font_decimal.specs.Grammar.{HasParts}
@@ -46,8 +47,7 @@ rounds_by {s = s} {w = w} {e = e} f parts =
 -- what is read is in range, and no other number is read
 pub not_outside : (f : ℕ) (text : List ℕ) (min max b : ℤ) → Reads text f min max b → IsOutOfRange text f min max → ⊥
 not_outside f text min max b x y =
-    let same = rounds_unique text f b y.nearest x.rounds y.rounds in
-    elim y.outside [ inl below ↦ omega (arith, ints) | inr above ↦ omega (arith, ints) ]
+    let same = rounds_unique text f b y.nearest x.rounds y.rounds in grind (arith, ints)
 
 -- a text has one reading
 pub reading_unique : (text : List ℕ) (f : ℕ) (min max : ℤ) (q r : Result ℤ DecimalFault) → IsReading text f min max q
@@ -68,23 +68,8 @@ pub answers_as : (text : List ℕ) (f : ℕ) (min max : ℤ) (q r : Result ℤ D
 answers_as text f min max q r x =
     (λ e. rw e at x, λ y. reading_unique text f min max q r x y)
 
--- two numbers of steps, which are equal or both above 2^63, are equal where one of them is in the range
-same_steps : (s : Bool) (n steps k : ℕ) (min max : ℤ) → FitsSigned w64 min → FitsSigned w64 max
-    → (n ≡ steps) ⊎ ((2 ^ 63 < n) × (2 ^ 63 < steps)) → (k ≡ n) ⊎ (k ≡ steps) → min ≤ℤ signed s k → signed s k ≤ℤ max
-    → n ≡ steps
-same_steps true n steps k min max least most same is low high = omega (arith, ints, same, is)
-same_steps false n steps k min max least most same is low high = omega (arith, ints, same, is)
-
--- and so the range may judge either of them
+-- the range may judge either of two numbers of steps, if they are equal or both above 2^63
 pub judged_by_range : {text : List ℕ} {f : ℕ} (s : Bool) (n steps : ℕ) (min max : ℤ) (r : Option ℤ) → FitsSigned w64 min
     → FitsSigned w64 max → (n ≡ steps) ⊎ ((2 ^ 63 < n) × (2 ^ 63 < steps)) → Rounds text f (signed s steps)
     → SomeIff r ((min ≤ℤ signed s n) × (signed s n ≤ℤ max)) (signed s n) → IsReading text f min max (ok_or r OutOfRange)
-judged_by_range s n steps min max None least most same rounds none = record {
-  nearest = signed s steps;
-  rounds = rounds;
-  outside = by_lt_z (signed s steps) min inl (λ low. by_lt_z max (signed s steps) inr (λ high. absurd
-      (none (rw (same_steps s n steps steps min max least most same (inr refl) low high) (low, high)))));
-}
-judged_by_range s n steps min max (Some c) least most same rounds some =
-    let e = same_steps s n steps n min max least most same (inl refl) some.0.0 some.0.1 in
-    rw (some.1, e) (record { rounds = rounds; low = rw e at some.0.0; high = rw e at some.0.1 })
+judged_by_range s n steps min max r least most same rounds given = grind (arith, nat_tests)

@@ -1,5 +1,5 @@
 -- What is left of a value m / 2^f after its first p places.
-use Rattle.std.proofs.Common.{◌≡◌, ℕ, ◌+◌, ◌-◌, ◌*◌, ◌/◌, ◌%◌, ◌^◌, ◌<◌, ◌≤◌, inl, inr, false}
+use Rattle.std.proofs.Common.{◌≡◌, ℕ, ◌+◌, ◌-◌, ◌*◌, ◌/◌, ◌%◌, ◌^◌, ◌<◌, ◌≤◌, false}
 use Rattle.std.proofs.Common.{arith, add-one, min, lt-ltb, le-ltb, pow_pos}
 use Rattle.std.specs.Int.{abs_diff}
 use Rattle.std.proofs.Math.Nat.{pow-suc, div-add-mod', mul-le-mul_right}
@@ -25,10 +25,7 @@ rounded_up {m = m} {f = f} {p = p} h high = near_magnitude_unique (pow_pos f) (r
 -- the distance of the nearest numeral from the value, in the same parts of the last place
 distance : {m f p q rest : ℕ} → HasRest m f p q rest → 2 * abs_diff (nearest_numeral m f p * 2 ^ f) (m * 10 ^ p)
     ≡ min rest (2 * 2 ^ f - rest)
-distance {f = f} {rest = rest} h = elim (cases_lt rest (2 ^ f)) [
-  | inl low ↦ rw (rounded_down h low) (omega arith)
-  | inr high ↦ rw (rounded_up h high) (omega arith)
-]
+distance {f = f} {rest = rest} h = grind (arith, cases_lt rest (2 ^ f), rounded_down h, rounded_up h)
 
 -- half a step is 10^p such parts: the first places within it are the fewest
 pub stopped : {m f p q rest : ℕ} → HasRest m f p q rest → min rest (2 * 2 ^ f - rest) < 10 ^ p → p ≤ f

@@ -1,4 +1,5 @@
 -- A decimal text has its parts in one way only, and so means one number.
+use Rattle.std.proofs.lemmas.Bool.Decides.{nat_tests}
 use Rattle.std.proofs.Common.{◌≡◌, ℕ, ◌<◌, Bool, true, false, List, [], ◌∷◌, ◌++◌, length, ℤ, refl, sym, ap, arith}
 use Rattle.std.specs.Fmt.{sign_text}
 use Rattle.std.specs.Str.{IsAscii, IsUtf8}
@@ -12,14 +13,10 @@ use Rattle.font_decimal.specs.Grammar.{fraction_text, HasParts, Decimal}
 
 -- a fraction is known from how it is written
 pub same_point : (e g : List ℕ) → fraction_text e ≡ fraction_text g → e ≡ g
-same_point [] [] h = refl
-same_point [] (d ∷ g) h = cc
-same_point (c ∷ e) [] h = cc
-same_point (c ∷ e) (d ∷ g) h = cc
+same_point e g h = grind (arith, nat_tests)
 
 no_point : (c : ℕ) (w e g : List ℕ) → digit_value c < 10 → fraction_text e ≡ c ∷ (w ++ fraction_text g) → ⊥
-no_point c w [] g small h = cc
-no_point c w (d ∷ e) g small h = let point : 46 ≡ c = cc in omega (arith, ap digit_value point)
+no_point c w e g small h = grind (arith, nat_tests)
 
 pub record SameParts (s t : Bool) (v w e g : List ℕ) : Type 0 where
   pub negative : s ≡ t
@@ -32,9 +29,7 @@ same_split : (s : Bool) (v w e g : List ℕ) → AllDigits 10 v → AllDigits 10
 same_split s [] [] e g p q h = record { negative = refl; whole = refl; fraction = same_point e g h }
 same_split s [] (c ∷ w) e g p q h = absurd (no_point c w e g q.0 h)
 same_split s (c ∷ v) [] e g p q h = absurd (no_point c v g e p.0 (sym h))
-same_split s (c ∷ v) (d ∷ w) e g p q h =
-    let same = same_split s v w e g p.1 q.1 cc in
-    record { negative = refl; whole = cc; fraction = same.fraction }
+same_split s (c ∷ v) (d ∷ w) e g p q h = grind (arith, same_split s v w e g p.1 q.1)
 
 pub no_minus : {text w e rest : List ℕ} → HasParts text false w e → text ≡ 45 ∷ rest → ⊥
 no_minus {w = []} p h = omega (arith, p.whole_digits.0)
@@ -65,8 +60,7 @@ ascii_point [] p = IsAscii-nil
 ascii_point (d ∷ e) p = IsAscii-cons 46 (d ∷ e) (omega arith) (IsAscii-from_digits (d ∷ e) p)
 
 ascii_sign : (s : Bool) → IsAscii (sign_text s)
-ascii_sign true = IsAscii-cons 45 [] (omega arith) IsAscii-nil
-ascii_sign false = IsAscii-nil
+ascii_sign s = grind (arith, nat_tests)
 
 -- each byte of a decimal text is ASCII, so that bytes which are no text are no decimal either
 pub decimal_is_ascii : (text : List ℕ) (n : ℤ) (k : ℕ) → Decimal text n k → IsAscii text
