@@ -1,16 +1,13 @@
 -- What an array of elements is made of, and where a search in it ends.
+use Rattle.std.proofs.Common.{◌≡◌, ◌≢◌, ◌∙◌, ap, refl, ℕ, zero, suc, ◌+◌, ◌-◌, ◌*◌, ◌/◌, ◌%◌, ◌<◌, ◌≤◌, Bool}
+use Rattle.std.proofs.Common.{if◌then◌else◌, IsFalse, List, [], ◌∷◌, ◌++◌, length, take, drop, arith, rules, add-one}
+use Rattle.std.proofs.Common.{div-mul-le_self, mul-div_cancel, suc-mul, zero-mul, length-drop, length-take-le}
+use Rattle.std.proofs.Common.{drop-drop, take-take, take_all, is_gt, is_eq, is_lt, Ordering, Less, Equal, Greater}
 use Rattle.std.proofs.lemmas.Bool.Decides.{nat_tests}
-use Rattle.std.proofs.Common.{◌≡◌, ◌≢◌, ◌∙◌, ap, refl, ℕ, zero, suc}
-use Rattle.std.proofs.Common.{◌+◌, ◌-◌, ◌*◌, ◌/◌, ◌%◌, ◌<◌, ◌≤◌}
-use Rattle.std.proofs.Common.{Bool, if◌then◌else◌, IsFalse, List, [], ◌∷◌, ◌++◌, length, take, drop}
-use Rattle.std.proofs.Common.{arith, rules, add-one}
 use Rattle.std.specs.Int.{from_bool}
-use Rattle.std.proofs.Math.Nat.{div-eq-sub-div, div-mul-le_self, mul-div_cancel, mul-mod_left}
-use Rattle.std.proofs.Math.Nat.{suc-mul, zero-mul}
-use Rattle.std.proofs.lemmas.List.{length-drop, length-take-le, drop-drop, drop-take, take-take, take_all}
-use Rattle.std.specs.Ordering.{ordering_index, is_gt, is_eq, is_lt}
-use Rattle.std.specs.declared.cmp.Ordering.{Ordering}
-use Rattle.std.specs.declared.cmp.Ordering.TheVariants.{Less, Equal, Greater}
+use Rattle.std.proofs.Math.Nat.{div-eq-sub-div, mul-mod_left}
+use Rattle.std.proofs.lemmas.List.{drop-take}
+use Rattle.std.specs.Ordering.{ordering_index}
 use Rattle.font_base.specs.Elements.{element, elements, IsStored, Rises, Splits, side}
 
 pub length-elements : (size n : ℕ) (bytes : List ℕ) → length (elements size n bytes) ≡ n

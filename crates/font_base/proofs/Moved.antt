@@ -1,6 +1,6 @@
 -- A number of 16 bits that is moved by a signed one: the bytes of the sum.
-use Rattle.std.proofs.Common.{◌≡◌, ◌∙◌, ap, ℕ, ◌+◌, ◌-◌, ◌<◌, ◌%◌, ℤ, pos, negsuc, neg_ℤ, ◌+ℤ◌, ◌-ℤ◌, ◌/◌, arith}
-use Rattle.std.proofs.Common.{SFits, of_z, w16}
+use Rattle.std.proofs.Common.{◌≡◌, ◌∙◌, ap, ℕ, ◌+◌, ◌-◌, ◌<◌, ◌%◌, ℤ, pos, negsuc, neg_ℤ, ◌+ℤ◌, ◌-ℤ◌, ◌/◌, arith, SFits}
+use Rattle.std.proofs.Common.{of_z, w16}
 use Rattle.std.proofs.lemmas.Int.{ints}
 use Rattle.font_base.specs.Bytes.{bytes_of}
 use Rattle.font_base.specs.Bytes.Laws.{bytes_of-same}

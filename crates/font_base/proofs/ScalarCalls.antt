@@ -1,16 +1,14 @@
 -- What callers of scalars and fields cite: the number of a 24-bit integer whose stored bytes are known, and a search
 -- that found no place.
-use Rattle.std.proofs.Common.{◌≡◌, ◌≢◌, ◌∙◌, sym, ap, refl, arith, rules, ℕ, ◌^◌, ◌<◌, ◌≤◌, Bool, List, get_or}
-use Rattle.std.proofs.Common.{pos, nat_lt, Result, Ok, Err, IfOk, IfErr, MatchResult}
+use Rattle.std.proofs.Common.{◌≡◌, ◌≢◌, ◌∙◌, sym, ap, refl, arith, rules, ℕ, ◌^◌, ◌<◌, ◌≤◌, Bool, List, get_or, pos}
+use Rattle.std.proofs.Common.{nat_lt, Result, Ok, Err, IfOk, IfErr, MatchResult, All, IsSortedByKey, nat_cmp, Ordering}
+use Rattle.std.proofs.Common.{Equal}
 use Rattle.std.proofs.lemmas.Bool.{cases_lt}
 use Rattle.std.proofs.lemmas.Bool.Decides.{nat_tests}
 use Rattle.std.proofs.lemmas.List.Sorted.{searchable_from_sorted}
 use Rattle.std.specs.Cmp.{nat_cmp_is, nat_cmp_total}
-use Rattle.std.specs.List.{All}
-use Rattle.std.specs.List.Sorted.{IsSortedByKey, IsBinarySearchResult}
-use Rattle.std.specs.Ordering.{nat_cmp, ordering_index}
-use Rattle.std.specs.declared.cmp.Ordering.{Ordering}
-use Rattle.std.specs.declared.cmp.Ordering.TheVariants.{Equal}
+use Rattle.std.specs.List.Sorted.{IsBinarySearchResult}
+use Rattle.std.specs.Ordering.{ordering_index}
 use Rattle.font_base.specs.Bytes.{numeral, signed_numeral, bytes_of}
 use Rattle.font_base.specs.Bytes.Laws.{unsigned_back}
 use Rattle.font_base.specs.Elements.{element, IsStored, StoresOne, Rises, Splits}

@@ -1,15 +1,14 @@
 -- The bytes that std reads and writes, in the words of numerals.
-use Rattle.std.proofs.lemmas.Bool.Decides.{nat_tests}
-use Rattle.std.proofs.Common.{◌≡◌, ◌∙◌, sym, ap, refl, ℕ, zero, suc, ◌*◌, ◌^◌, ◌<◌, ◌≤◌, ℤ, pos, negsuc, ◌+ℤ◌}
-use Rattle.std.proofs.Common.{◌*ℤ◌, List, [], ◌∷◌, length, get_or, drop, ◌≢◌, Option, Result, Ok, Err, MatchResult}
-use Rattle.std.proofs.Common.{IfSome, arith, IsTrue}
+use Rattle.std.proofs.Common.{◌≡◌, ◌∙◌, sym, ap, refl, ℕ, zero, suc, ◌*◌, ◌^◌, ◌<◌, ◌≤◌, ℤ, pos, negsuc, ◌+ℤ◌, ◌*ℤ◌}
+use Rattle.std.proofs.Common.{List, [], ◌∷◌, length, get_or, drop, ◌≢◌, Option, Result, Ok, Err, MatchResult, IfSome}
+use Rattle.std.proofs.Common.{arith, IsTrue, mod-eq_of_lt, w8, w16, w32, w64, SFits, to_z, of_z}
 use Rattle.std.proofs.lemmas.Int.{to_z-of_z}
-use Rattle.std.proofs.Math.Nat.{mod-eq_of_lt}
+use Rattle.std.proofs.lemmas.Bool.Decides.{nat_tests}
 use Rattle.std.proofs.Math.Facts.{Fits-of_z, Fits-of_lt, sfits_to_z}
-use Rattle.std.specs.Int.{Width, w8, w16, w32, w64, w128, byte_len, to_be_bytes, from_be_bytes}
+use Rattle.std.specs.Int.{Width, w128, byte_len, to_be_bytes, from_be_bytes}
 use Rattle.std.specs.Result.{result_ok}
 use Rattle.std.specs.Array.{IsWholeChunk}
-use mir.Val.{SFits, to_z, of_z, bits, hbits}
+use mir.Val.{bits, hbits}
 use Rattle.font_base.specs.Wrap.{wrap}
 use Rattle.font_base.specs.Bytes.{numeral, are_bytes, bytes_of, signed_numeral}
 use Rattle.font_base.specs.Bytes.Laws.{are_bytes_in, bytes_of-same}

@@ -1,14 +1,14 @@
 -- The integers of 24 bits and the four bytes of std's integers of 32 bits.
 use Rattle.std.proofs.Common.{◌≡◌, ◌∙◌, sym, ap, refl, subst, ℕ, ◌+◌, ◌*◌, ℤ, pos, ◌*ℤ◌, neg_ℤ, List, ◌^◌, ◌<◌, lit<}
-use Rattle.std.proofs.Common.{[], ◌∷◌, length, get_or, arith, SFits, to_z, of_z, lt-ltb}
+use Rattle.std.proofs.Common.{[], ◌∷◌, length, get_or, arith, SFits, to_z, of_z, lt-ltb, w32}
 use Rattle.std.proofs.lemmas.Int.{ints, to_z-of_z}
 use Rattle.std.specs.Cmp.Derive.{both_true}
-use Rattle.std.specs.Int.{w32, to_be_bytes}
+use Rattle.std.specs.Int.{to_be_bytes}
 use Rattle.font_base.specs.Bytes.{numeral, signed_numeral, bytes_of, IsBytesOf}
 use Rattle.font_base.specs.Wrap.{FitsBits}
 use Rattle.font_base.proofs.StdBytes.{turns_of, of_z-turned}
-use Rattle.font_base.specs.Bytes.Laws.{IsBytesOf-numeral, IsBytesOf-high_first, IsBytesOf-apart}
-use Rattle.font_base.specs.Bytes.Laws.{numeral-bytes_of, signed_numeral-bytes_of}
+use Rattle.font_base.specs.Bytes.Laws.{IsBytesOf-numeral, IsBytesOf-high_first, IsBytesOf-apart, numeral-bytes_of}
+use Rattle.font_base.specs.Bytes.Laws.{signed_numeral-bytes_of}
 
 -- the last three of the four bytes of a number
 pub last_three : (m : ℕ) (bytes : List ℕ) → bytes ≡ to_be_bytes w32 m

@@ -1,7 +1,7 @@
 -- Wrapping at the widths of std's number types, in the words of std.
+use Rattle.std.proofs.Common.{◌≡◌, ◌∙◌, sym, ap, ℕ, suc, ◌-◌, ◌^◌, ◌<◌, ℤ, pos, negsuc, inl, inr, arith, pow_pos, SFits}
+use Rattle.std.proofs.Common.{to_z}
 use Rattle.std.proofs.lemmas.Bool.Decides.{nat_tests}
-use Rattle.std.proofs.Common.{◌≡◌, ◌∙◌, sym, ap, ℕ, suc, ◌-◌, ◌^◌, ◌<◌, ℤ, pos, negsuc, inl, inr, arith}
-use Rattle.std.proofs.Common.{pow_pos, SFits, to_z}
 use Rattle.std.proofs.lemmas.Int.{ints, to_z_pos}
 use Rattle.std.proofs.lemmas.Bool.{cases_lt}
 use Rattle.std.proofs.Math.Facts.{to_z-neg}

@@ -1,8 +1,8 @@
 -- What is left of a text in a column when the spaces in front of it are taken away.
-use Rattle.std.proofs.Common.{◌≡◌, ◌∙◌, ap, refl, ℕ, zero, suc, ◌+◌, ◌-◌, ◌<◌, ◌^◌, ◌≤◌, Bool, true, false}
-use Rattle.std.proofs.Common.{List, [], ◌∷◌, ◌++◌, length, get_or, arith, ℤ, append-nil, cond}
-use Rattle.std.specs.Prelude.{replicate, unsigned_abs, encode_utf8_all}
-use Rattle.std.specs.Str.{IsAscii, trim_start, skip_leading_whitespace}
+use Rattle.std.proofs.Common.{◌≡◌, ◌∙◌, ap, refl, ℕ, zero, suc, ◌+◌, ◌-◌, ◌<◌, ◌^◌, ◌≤◌, Bool, true, false, List, []}
+use Rattle.std.proofs.Common.{◌∷◌, ◌++◌, length, get_or, arith, ℤ, append-nil, cond, replicate, unsigned_abs}
+use Rattle.std.proofs.Common.{encode_utf8_all, IsAscii}
+use Rattle.std.specs.Str.{trim_start, skip_leading_whitespace}
 use Rattle.std.specs.Char.{is_whitespace, digit_value}
 use Rattle.std.proofs.lemmas.Str.{IsAscii-append, chars-IsAscii, encodes-IsAscii}
 use Rattle.std.proofs.lemmas.Str.Ascii.{IsAscii-cons, IsAscii-nil}

@@ -1,11 +1,12 @@
 -- The number that digits write, where they are joined and cut.
 use Rattle.std.proofs.Common.{◌≡◌, ℕ, zero, suc, ◌+◌, ◌-◌, ◌*◌, ◌%◌, ◌^◌, ◌<◌, ◌≤◌, inl, inr, List, [], ◌∷◌, ◌++◌}
 use Rattle.std.proofs.Common.{length, take, drop, refl, sym, ap, ◌∙◌, arith, rules, length-append, length-drop, get_or}
-use Rattle.std.proofs.Common.{true, pow-add, take-append-drop, length-take}
+use Rattle.std.proofs.Common.{true, pow-add, take-append-drop, length-take, pow-suc, mul-lt-mul_of_pos_right}
+use Rattle.std.proofs.Common.{mod-eq_of_lt}
 use Rattle.std.specs.Str.Parse.{digits_value, digits_value_after, AllDigits}
 use Rattle.std.specs.Char.{digit_value, is_ascii_digit, IsAsciiDigit}
 use Rattle.std.specs.List.{list_all}
-use Rattle.std.proofs.Math.Nat.{pow-suc, mul-lt-mul_of_pos_right, one-le-pow, pow-le-pow_right, mod-eq_of_lt}
+use Rattle.std.proofs.Math.Nat.{one-le-pow, pow-le-pow_right}
 use Rattle.std.proofs.lemmas.Bool.{cases_lt}
 use Rattle.std.proofs.lemmas.Nat.{mul-pow}
 use Rattle.std.proofs.lemmas.Int.Digits.{digits_value-lt, digits_value_more}

@@ -1,12 +1,11 @@
 -- A padded text, piece by piece.
-use Rattle.std.proofs.lemmas.Bool.Decides.{nat_tests}
 use Rattle.std.proofs.Common.{◌≡◌, ◌≢◌, ℕ, ◌+◌, ◌-◌, ◌<◌, ◌≤◌, Bool, false, List, [], ◌∷◌, ◌++◌, length, get_or, take}
-use Rattle.std.proofs.Common.{drop, refl, sym, ◌∙◌, arith, append_assoc, length-append, max}
-use Rattle.std.proofs.Common.{None, append-nil, take_at, drop_at, drop-drop}
+use Rattle.std.proofs.Common.{drop, refl, sym, ◌∙◌, arith, append_assoc, length-append, max, None, append-nil, take_at}
+use Rattle.std.proofs.Common.{drop_at, drop-drop, eqb}
+use Rattle.std.proofs.lemmas.Bool.Decides.{nat_tests}
 use Rattle.std.specs.Str.Pattern.{FindsCharPrefix}
 use Rattle.std.proofs.lemmas.List.{drop_all, length-replicate}
 use Rattle.std.proofs.lemmas.Str.Pattern.{strip_prefix_char}
-use Rattle.std.proofs.Math.Dec.{eqb}
 use Rattle.font_decimal.specs.Padding.{shown_sign, unsigned_body, spare_in_front, laid_out, padded_text, FillsFront}
 use Rattle.font_decimal.specs.declared.padding.Align.{Align}
 use Rattle.font_decimal.specs.declared.padding.Pad.{Pad}

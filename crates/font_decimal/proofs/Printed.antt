@@ -1,17 +1,17 @@
 -- The text of the shortest decimal is what it says: plain, nearest, read back, with the fewest places, and at most 22
 -- bytes long. And what callers rely on of printed texts.
+use Rattle.std.proofs.Common.{◌≡◌, ℕ, zero, suc, ◌+◌, ◌-◌, ◌*◌, ◌/◌, ◌%◌, ◌^◌, ◌<◌, ◌≤◌, Bool, [], ◌∷◌, ◌++◌, length}
+use Rattle.std.proofs.Common.{get_or, lit<, ℤ, pos, refl, sym, ap, subst, ◌∙◌, arith, add-one, ◌*ℤ◌, ◌<ℤ◌, ◌↔◌, IsTrue}
+use Rattle.std.proofs.Common.{unsigned_abs, pow_pos, pow-add, append-nil, ◌≢◌, true, false, List, append_assoc}
+use Rattle.std.proofs.Common.{length-append, ◌≤ℤ◌, Result, Ok, decimal, mul-le-mul_right, pow-suc, div-mul-le_self}
+use Rattle.std.proofs.Common.{div-add-mod', le-mul_of_pos_right, mul-le-mul_left, lt_of_mul-lt-mul_right, div-one}
+use Rattle.std.proofs.Common.{lt_of_le_of_lt}
 use Rattle.std.proofs.lemmas.Bool.Decides.{nat_tests}
-use Rattle.std.proofs.Common.{◌≡◌, ℕ, zero, suc, ◌+◌, ◌-◌, ◌*◌, ◌/◌, ◌%◌, ◌^◌, ◌<◌, ◌≤◌, Bool, []}
-use Rattle.std.proofs.Common.{◌∷◌, ◌++◌, length, get_or, lit<, ℤ, pos, refl, sym, ap, subst, ◌∙◌, arith, add-one}
-use Rattle.std.proofs.Common.{◌*ℤ◌, ◌<ℤ◌, ◌↔◌, IsTrue, unsigned_abs, pow_pos, pow-add, append-nil, ◌≢◌, true}
-use Rattle.std.proofs.Common.{false, List, append_assoc, length-append, ◌≤ℤ◌, Result, Ok}
 use Rattle.std.specs.Int.{is_negative, abs_diff}
-use Rattle.std.specs.Fmt.{decimal, sign_text}
+use Rattle.std.specs.Fmt.{sign_text}
 use Rattle.std.specs.Str.Parse.{digits_value, AllDigits}
 use Rattle.std.specs.Char.{digit_value}
-use Rattle.std.proofs.Math.Nat.{mul-le-mul_right, pow-suc, div-div-eq-div-mul, div-mul-le_self, div-add-mod'}
-use Rattle.std.proofs.Math.Nat.{le-mul_of_pos_right, mul-le-mul_left, pow-le-pow_right, lt_of_mul-lt-mul_right}
-use Rattle.std.proofs.Math.Nat.{add-mul-div_left, add-mul-mod_self_right, div-one, lt_of_le_of_lt}
+use Rattle.std.proofs.Math.Nat.{div-div-eq-div-mul, pow-le-pow_right, add-mul-div_left, add-mul-mod_self_right}
 use Rattle.std.proofs.lemmas.Int.{ints}
 use Rattle.std.proofs.lemmas.Nat.{div-mul-add}
 use Rattle.std.proofs.lemmas.Str.{digit_value_digit}

@@ -1,14 +1,11 @@
 -- Each text has just one reading: a value, out of range, or no decimal.
+use Rattle.std.proofs.Common.{◌≡◌, ℕ, ◌+◌, ◌*◌, ◌/◌, ◌^◌, ◌<◌, ◌↔◌, ◌⊎◌, Bool, List, ◌++◌, length, min, ℤ, refl, ap}
+use Rattle.std.proofs.Common.{◌∙◌, arith, Option, Result, Ok, Err, SomeIff, FitsSigned, ◌≤ℤ◌, ok_or, w64, pow-add}
 use Rattle.std.proofs.lemmas.Bool.Decides.{nat_tests}
-use Rattle.std.proofs.Common.{◌≡◌, ℕ, ◌+◌, ◌*◌, ◌/◌, ◌^◌, ◌<◌, ◌↔◌, ◌⊎◌, Bool, List}
-use Rattle.std.proofs.Common.{◌++◌, length, min, ℤ, refl, ap, ◌∙◌, arith}
-use Rattle.std.specs.Prelude.{Option, Result, Ok, Err, SomeIff, FitsSigned, ◌≤ℤ◌}
 use Rattle.std.specs.Str.Parse.{digits_value}
-use Rattle.std.specs.Option.{ok_or}
-use Rattle.std.specs.Int.{w64}
 use Rattle.std.proofs.Math.Nat.{one-le-pow}
 use Rattle.std.proofs.lemmas.Int.{ints}
-use Rattle.std.proofs.lemmas.Nat.{pow-add, mul-pow}
+use Rattle.std.proofs.lemmas.Nat.{mul-pow}
 use Rattle.font_decimal.specs.Near.{signed}
 use Rattle.font_decimal.specs.Grammar.{HasParts}
 use Rattle.font_decimal.specs.Reading.{Rounds, Reads, IsOutOfRange, IsReading}

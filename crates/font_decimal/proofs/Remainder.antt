@@ -1,8 +1,7 @@
 -- What is left of a value m / 2^f after its first p places.
-use Rattle.std.proofs.Common.{◌≡◌, ℕ, ◌+◌, ◌-◌, ◌*◌, ◌/◌, ◌%◌, ◌^◌, ◌<◌, ◌≤◌, false}
-use Rattle.std.proofs.Common.{arith, add-one, min, lt-ltb, le-ltb, pow_pos}
+use Rattle.std.proofs.Common.{◌≡◌, ℕ, ◌+◌, ◌-◌, ◌*◌, ◌/◌, ◌%◌, ◌^◌, ◌<◌, ◌≤◌, false, arith, add-one, min, lt-ltb}
+use Rattle.std.proofs.Common.{le-ltb, pow_pos, pow-suc, div-add-mod', mul-le-mul_right}
 use Rattle.std.specs.Int.{abs_diff}
-use Rattle.std.proofs.Math.Nat.{pow-suc, div-add-mod', mul-le-mul_right}
 use Rattle.std.proofs.lemmas.Bool.{cases_lt}
 use Rattle.std.proofs.lemmas.Nat.{div_below}
 use Rattle.font_decimal.specs.Shortest.{nearest_numeral, reads_back}

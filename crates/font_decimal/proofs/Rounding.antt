@@ -1,9 +1,9 @@
 -- The first digits of a fraction decide how it is rounded.
 use Rattle.std.proofs.Common.{◌≡◌, ℕ, ◌+◌, ◌-◌, ◌*◌, ◌/◌, ◌%◌, ◌^◌, ◌<◌, ◌≤◌, ◌⊎◌, inl, inr, List, ◌++◌, length, take}
-use Rattle.std.proofs.Common.{min, ap, ◌∙◌, arith, length-take-le, pow-add, pow_pos}
-use Rattle.std.proofs.Math.Nat.{mul-le-mul_left, mul-le-mul_right, min_comm, le_of_mul-le-mul_left}
-use Rattle.std.proofs.Math.Nat.{lt_of_mul-lt-mul_left, mul-div-mul_right, one-le-pow, pow-le-pow_left, pow-le-pow_right}
-use Rattle.std.proofs.Math.Nat.{mod-eq_of_lt}
+use Rattle.std.proofs.Common.{min, ap, ◌∙◌, arith, length-take-le, pow-add, pow_pos, mul-le-mul_left, mul-le-mul_right}
+use Rattle.std.proofs.Common.{mod-eq_of_lt}
+use Rattle.std.proofs.Math.Nat.{min_comm, le_of_mul-le-mul_left, lt_of_mul-lt-mul_left, mul-div-mul_right, one-le-pow}
+use Rattle.std.proofs.Math.Nat.{pow-le-pow_left, pow-le-pow_right}
 use Rattle.std.specs.Str.Parse.{AllDigits}
 use Rattle.std.proofs.lemmas.List.{take_min}
 use Rattle.std.proofs.lemmas.Nat.{mul-pow, div_below}

@@ -1,9 +1,9 @@
 -- What callers know of sums and products with 0 and with 1, as equations of the words `wrap` and `near`.
-use Rattle.std.proofs.Common.{◌≡◌, sym, ℕ, ◌<◌, ℤ, pos, neg_ℤ, ◌+ℤ◌, ◌-ℤ◌, ◌*ℤ◌, arith, w16, w32, w64}
+use Rattle.std.proofs.Common.{◌≡◌, sym, ℕ, ◌<◌, ℤ, pos, neg_ℤ, ◌+ℤ◌, ◌-ℤ◌, ◌*ℤ◌, arith, w16, w32, w64, SFits}
 use Rattle.std.proofs.lemmas.Int.{ints}
 use Rattle.std.proofs.Math.IntN.{*ℤ_comm, +ℤ-neg_ℤ_cancel, -ℤ-+ℤ_cancel}
 use Rattle.std.specs.Int.{Width}
-use mir.Val.{SFits, bits}
+use mir.Val.{bits}
 use Rattle.font_base.specs.Wrap.{wrap}
 use Rattle.font_base.specs.Wrap.Laws.{wrap-fits, wrap-add_left}
 use Rattle.font_base.proofs.Widths.{signed_fits, bits_positive}

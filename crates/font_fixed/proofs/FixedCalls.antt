@@ -1,7 +1,7 @@
 -- What callers of `Fixed` name once: products and quotients by 0, by 1 and by -1, sums with 0, differences, a number
 -- over itself, a part of a whole, one number times another over a third, and wrapping of what fits.
-use Rattle.std.proofs.Common.{◌≡◌, ◌≢◌, ◌∙◌, sym, ap, refl, arith, lit<, lit≤, ℤ, pos, negsuc, neg_ℤ, ◌+ℤ◌, ◌-ℤ◌}
-use Rattle.std.proofs.Common.{◌*ℤ◌, ◌≤ℤ◌, w32, SFits}
+use Rattle.std.proofs.Common.{◌≡◌, ◌≢◌, ◌∙◌, sym, ap, refl, arith, lit<, lit≤, ℤ, pos, negsuc, neg_ℤ, ◌+ℤ◌, ◌-ℤ◌, ◌*ℤ◌}
+use Rattle.std.proofs.Common.{◌≤ℤ◌, w32, SFits}
 use Rattle.std.proofs.lemmas.Int.{ints}
 use Rattle.std.proofs.Math.IntN.{*ℤ_comm}
 use Rattle.font_base.proofs.Widths.{signed_fits}
@@ -9,8 +9,8 @@ use Rattle.font_base.specs.Wrap.{wrap, FitsBits}
 use Rattle.font_base.specs.Wrap.Laws.{wrap-add_right, wrap-wrap}
 use Rattle.font_decimal.specs.Near.{near}
 use Rattle.font_fixed.specs.Operations.{IsQuotient, IsMulDiv, floor_of, fract_of}
-use Rattle.font_fixed.proofs.Calls.{near-times, near-times_left, near-times_zero, near-zero_times, add_zero}
-use Rattle.font_fixed.proofs.Calls.{fits_32, calls_32}
+use Rattle.font_fixed.proofs.Calls.{near-times, near-times_left, near-times_zero, near-zero_times, add_zero, fits_32}
+use Rattle.font_fixed.proofs.Calls.{calls_32}
 use Rattle.font_fixed.proofs.NumberLaws.{itself, mul_div_exact, mul_div_between, quotient_between}
 
 pub mul_one : (x : ℤ) → near (x *ℤ pos 65536) 65536 ≡ x

@@ -1,5 +1,6 @@
 -- What callers rely on of sums and floors, over the bits of numbers with w bits and f bits of fraction.
 use Rattle.std.proofs.Common.{◌≡◌, ◌∙◌, sym, ap, ℕ, ◌^◌, ◌<◌, ℤ, pos, neg_ℤ, ◌+ℤ◌, ◌≤ℤ◌, ◌<ℤ◌, arith}
+use Rattle.std.proofs.lemmas.Bool.Decides.{nat_tests}
 use Rattle.std.proofs.Math.IntN.{+ℤ_comm, +ℤ_idr}
 use Rattle.std.proofs.lemmas.Int.{ints}
 use Rattle.font_base.specs.Wrap.{wrap, FitsBits}
@@ -27,5 +28,4 @@ pub floor_and_fract : (f : ℕ) (b p r : ℤ) → IsFloor f b p → IsFract f b 
 floor_and_fract f b p r floor fract = omega (arith, ints, floor.is ∙ sym fract.is_floor.is, fract.rest)
 
 pub fract_is_below_one : (f : ℕ) (b r : ℤ) → IsFract f b r → (pos 0 ≤ℤ r) × (r <ℤ pos (2 ^ f))
-fract_is_below_one f b r fract = let floor = fract.is_floor in
-    omega (arith, ints, fract.rest, floor.low, floor.high)
+fract_is_below_one f b r fract = grind (arith, nat_tests)

@@ -10,7 +10,6 @@ pub mod Group
 pub mod Calls
 pub mod Small
 pub mod Rules
-pub mod Fractions
 pub mod FixedCalls
 pub mod NarrowCalls
 pub mod Rounds

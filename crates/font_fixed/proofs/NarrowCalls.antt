@@ -1,7 +1,7 @@
 -- What callers name once of narrowings: what lies from -1 to 1 stays there, and a whole number, or a widened one, comes
 -- back. Widened numbers of 16 bits have exact differences.
-use Rattle.std.proofs.Common.{◌≡◌, ◌∙◌, ap, refl, lit<, ℕ, ◌-◌, ◌*◌, ◌^◌, ◌<◌, ℤ, pos, neg_ℤ, ◌+ℤ◌, ◌*ℤ◌, ◌-ℤ◌}
-use Rattle.std.proofs.Common.{◌≤ℤ◌, ◌<ℤ◌, arith, w16, w32, w64, pow_pos, SFits, to_z, of_z}
+use Rattle.std.proofs.Common.{◌≡◌, ◌∙◌, ap, refl, lit<, ℕ, ◌-◌, ◌*◌, ◌^◌, ◌<◌, ℤ, pos, neg_ℤ, ◌+ℤ◌, ◌*ℤ◌, ◌-ℤ◌, ◌≤ℤ◌}
+use Rattle.std.proofs.Common.{◌<ℤ◌, arith, w16, w32, w64, pow_pos, SFits, to_z, of_z}
 use Rattle.std.proofs.lemmas.Int.{ints, to_z-of_z}
 use Rattle.font_base.specs.Integers.{sum-times, product-times}
 use Rattle.font_base.specs.Wrap.{wrap, FitsBits}

@@ -18,11 +18,11 @@ use Rattle.font_fixed.specs.Operations.{IsNarrowed, IsNearestWhole, IsFloor}
 use Rattle.font_fixed.proofs.Shifts.{shr_low, shr_high, shr_fits}
 use Rattle.font_fixed.proofs.Sums.{sums}
 
--- where s lies within h * d of zero, the greatest q with q * d not above s lies within h
-fits_low : (d h : ℕ) (s q : ℤ) → neg_ℤ (pos (h * d)) ≤ℤ s → s <ℤ ((q *ℤ pos d) +ℤ pos d) → neg_ℤ (pos h) ≤ℤ q
-fits_low d h s q low below = by_lt_z q (neg_ℤ (pos h)) (λ less.
-    let scaled = times_monotone (q +ℤ pos 1) (neg_ℤ (pos h)) d (omega (arith, sums, less)) in
-    absurd (omega (arith, sums, low, below, scaled, times-next q d, neg-times (pos h) d))) (λ more. more)
+-- where s is at least h * d, the greatest q with q * d not above s is at least h
+pub fits_low : (d : ℕ) (h s q : ℤ) → (h *ℤ pos d) ≤ℤ s → s <ℤ ((q *ℤ pos d) +ℤ pos d) → h ≤ℤ q
+fits_low d h s q low below = by_lt_z q h (λ less.
+    let scaled = times_monotone (q +ℤ pos 1) h d (omega (arith, sums, less)) in
+    absurd (omega (arith, sums, low, below, scaled, times-next q d))) (λ more. more)
 
 fits_high : (d h : ℕ) (s q : ℤ) → s <ℤ pos (h * d) → (q *ℤ pos d) ≤ℤ s → q <ℤ pos h
 fits_high d h s q high low = by_lt_z q (pos h) (λ less. less)
@@ -61,7 +61,8 @@ is_narrowed w v d half x s q it wide is low high =
     let nearest : Up x d (q +ℤ turns) =
     omega (arith, sums, it.halves, is, low, high, apart, given.differs, sum-times q turns (pos d), next) in
     let fits : FitsBits v q = record {
-      low = fits_low d (half_range v) s q (rw (is, ← it.top) given.fits.low) high;
+      low = fits_low d (neg_ℤ (pos (half_range v))) s q
+          (rw (neg-times (pos (half_range v)) d, is, ← it.top) given.fits.low) high;
       high = fits_high d (half_range v) s q (rw (is, ← it.top) given.fits.high) low;
     } in
     let wrapped = wrap_gives v (q +ℤ turns) q it.some (record { fits = fits; turns = given.turns; differs = refl }) in

@@ -1,14 +1,13 @@
 -- The laws of products and quotients, from what the calls give.
 use Rattle.std.proofs.Common.{◌≡◌, ◌≢◌, ◌∙◌, sym, ap, refl, ℕ, zero, suc, ◌*◌, ◌^◌, ◌<◌, ◌≤◌, ℤ, pos, negsuc, ◌*ℤ◌}
-use Rattle.std.proofs.Common.{◌≤ℤ◌, false, inl, inr, arith, pow_pos}
-use Rattle.std.proofs.lemmas.Bool.{cases_lt}
+use Rattle.std.proofs.Common.{◌≤ℤ◌, false, arith, pow_pos}
+use Rattle.std.proofs.lemmas.Bool.Decides.{nat_tests}
 use Rattle.std.proofs.lemmas.Int.{ints}
 use Rattle.std.proofs.Math.IntN.{*ℤ_comm, *ℤ-negsuc, neg_ℤ-neg_ℤ}
-use Rattle.std.proofs.Math.Nat.{mul-le-mul_left}
 use Rattle.font_base.specs.Wrap.{wrap, FitsBits}
 use Rattle.font_base.specs.Wrap.Laws.{wrap-fits}
 use Rattle.font_decimal.specs.Near.{Near}
-use Rattle.font_decimal.proofs.Near.{IsNearMagnitude, near_to, near_gives, next_product}
+use Rattle.font_decimal.proofs.Near.{IsNearMagnitude, near_to, near_gives}
 use Rattle.font_fixed.specs.Operations.{IsWrappedNear, wrapped_near, IsProduct, IsQuotient, IsMulDiv}
 use Rattle.font_fixed.specs.NumberLaws.{ProductLaws, ProductInOneStep, QuotientLaws, QuotientInOneStep}
 
@@ -21,15 +20,9 @@ pub rounded_exact : (w : ℕ) (q : ℤ) (d : ℕ) (r : ℤ) → 0 < w → 0 < d 
 rounded_exact w q d r wide some fits a =
     a.is ∙ ap (wrap w) (sym (near_gives (q *ℤ pos d) d q some (near_exact q d some))) ∙ wrap-fits w q wide fits
 
-mul_div_unique : (w : ℕ) (x a c q r : ℤ) → IsMulDiv w x a c q → IsMulDiv w x a c r → q ≡ r
-mul_div_unique w x a (pos zero) q r p s = p ∙ sym s
-mul_div_unique w x a (pos (suc c)) q r p s = p.is ∙ sym s.is
-mul_div_unique w x a (negsuc c) q r p s = p.is ∙ sym s.is
-
 -- a positive divisor
 mul_div_rounded : (w : ℕ) (x a : ℤ) (d : ℕ) (r : ℤ) → 0 < d → IsMulDiv w x a (pos d) r → IsWrappedNear w (x *ℤ a) d r
-mul_div_rounded w x a zero r some p = absurd (omega arith)
-mul_div_rounded w x a (suc d) r some p = p
+mul_div_rounded w x a d r some p = grind (arith, nat_tests)
 
 pub product_laws_hold : (w f : ℕ) (x y product flipped by_one : ℤ) → 0 < w → FitsBits w x → IsProduct w f x y product
     → IsProduct w f y x flipped
@@ -44,10 +37,7 @@ product_laws_hold w f x y product flipped by_one wide fits p q r = record {
 
 pub product_in_one_step : (w f : ℕ) (x y product in_one_step : ℤ) → IsProduct w f x y product
     → IsMulDiv w x y (pos (2 ^ f)) in_one_step → ProductInOneStep w f x y product in_one_step
-product_in_one_step w f x y product in_one_step p s = record {
-  is_in_one_step = s;
-  steps_agree = (mul_div_rounded w x y (2 ^ f) in_one_step (pow_pos f) s).is ∙ sym p.is;
-}
+product_in_one_step w f x y product in_one_step p s = grind (arith, nat_tests)
 
 -- where x * a is q times the divisor, the answer is q
 pub mul_div_exact : (w : ℕ) (q x a c r : ℤ) → 0 < w → FitsBits w q → (x *ℤ a) ≡ (q *ℤ c) → IsMulDiv w x a c r
@@ -59,9 +49,7 @@ mul_div_exact w q x a (negsuc n) r wide fits same given other =
     rounded_exact w q (suc n) r wide (omega arith) fits (rw (same, *ℤ-negsuc q n, neg_ℤ-neg_ℤ) at given)
 
 mul_div_comm : (w : ℕ) (x a c r : ℤ) → c ≢ pos 0 → IsMulDiv w x a c r → IsMulDiv w a x c r
-mul_div_comm w x a (pos zero) r other given = absurd (other refl)
-mul_div_comm w x a (pos (suc n)) r other given = rw (*ℤ_comm x a) at given
-mul_div_comm w x a (negsuc n) r other given = rw (*ℤ_comm x a) at given
+mul_div_comm w x a c r other given = grind (arith, nat_tests)
 
 -- a number over itself is 1
 pub itself : (w f : ℕ) (x r : ℤ) → 0 < w → FitsBits w (pos (2 ^ f)) → IsQuotient w f x x r → x ≢ pos 0 → r ≡ pos (2 ^ f)
@@ -70,10 +58,7 @@ itself w f x r wide fits p other =
 
 -- the share of x that a is in d is at most x
 share_at_most : (x a d m : ℕ) → a ≤ d → IsNearMagnitude (x * a) d m → m ≤ x
-share_at_most x a d m within rounded = elim (cases_lt x m) [
-  | inl more ↦ absurd (omega (arith, rounded, next_product x m d more, mul-le-mul_left x within))
-  | inr less ↦ less
-]
+share_at_most x a d m within rounded = grind (arith, nat_tests)
 
 -- and not negative: for a from 0 to c, x * a / c lies between 0 and x
 pub mul_div_between : (w : ℕ) (x a c r : ℤ) → 0 < w → FitsBits w x → IsMulDiv w x a c r → pos 0 ≤ℤ x → pos 0 ≤ℤ a
@@ -113,7 +98,4 @@ quotient_laws_hold w f x y quotient by_one by_itself wide fits one p r s = recor
 
 pub quotient_in_one_step : (w f : ℕ) (x y quotient in_one_step : ℤ) → IsQuotient w f x y quotient
     → IsMulDiv w x (pos (2 ^ f)) y in_one_step → QuotientInOneStep w f x y quotient in_one_step
-quotient_in_one_step w f x y quotient in_one_step p q = record {
-  is_in_one_step = q;
-  steps_agree = mul_div_unique w x (pos (2 ^ f)) y in_one_step quotient q p;
-}
+quotient_in_one_step w f x y quotient in_one_step p q = grind (arith, nat_tests)

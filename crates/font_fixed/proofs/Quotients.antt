@@ -1,11 +1,11 @@
 -- Quotients rounded with ties away from zero, as code has it: on magnitudes, with the sign put back and 32 bits kept.
-use Rattle.std.proofs.Common.{◌≡◌, ◌∙◌, sym, ap, refl, ℕ, zero, suc, ◌-◌, ◌*◌, ◌%◌, ◌^◌, ◌<◌, Bool, true, false}
-use Rattle.std.proofs.Common.{not, ℤ, pos, negsuc, neg_ℤ, ◌*ℤ◌, unsigned_abs, arith, lit<}
-use Rattle.std.proofs.Math.IntN.{neg_ℤ-neg_ℤ}
-use Rattle.std.proofs.lemmas.Int.{ints, to_z-of_z}
-use Rattle.std.specs.Int.{w32, is_negative}
+use Rattle.std.proofs.Common.{◌≡◌, ◌∙◌, sym, ap, refl, ℕ, zero, suc, ◌-◌, ◌*◌, ◌%◌, ◌^◌, ◌<◌, Bool, true, false, not, ℤ}
+use Rattle.std.proofs.Common.{pos, negsuc, neg_ℤ, ◌*ℤ◌, unsigned_abs, arith, lit<, w32, SFits, to_z, of_z}
+use Rattle.std.proofs.lemmas.Bool.Decides.{nat_tests}
+use Rattle.std.proofs.lemmas.Int.{to_z-of_z}
+use Rattle.std.specs.Int.{is_negative}
 use borrow.Author.Differences.{false_is_lt}
-use mir.Val.{SFits, to_z, of_z, bits}
+use mir.Val.{bits}
 use Rattle.font_base.specs.Wrap.{wrap, FitsBits}
 use Rattle.font_base.specs.Wrap.Laws.{wrap-fits, wrap-neg}
 use Rattle.font_decimal.specs.Near.{signed, Near, near, near_magnitude}
@@ -19,10 +19,7 @@ not_negative m = sym (false_is_lt (pos m) (pos 0) (omega arith))
 
 -- the sign of a product
 pub product_signed : (x y : ℤ) → (x *ℤ y) ≡ signed (differ_in_sign x y) (unsigned_abs x * unsigned_abs y)
-product_signed (pos m) (pos n) = rw (not_negative m, not_negative n) refl
-product_signed (pos m) (negsuc n) = rw (not_negative m) refl
-product_signed (negsuc m) (pos n) = rw (not_negative n) refl
-product_signed (negsuc m) (negsuc n) = refl
+product_signed x y = grind (arith, nat_tests)
 
 pub wrapped_near_from : (w : ℕ) (n : ℤ) (d : ℕ) (exact r : ℤ) → 0 < d → Near n d exact → r ≡ wrap w exact
     → IsWrappedNear w n d r
@@ -41,21 +38,17 @@ signed_is_near w s n d m r some near is = wrapped_near_from w (signed s n) d (si
     (near_from s n d m some (rw near (rounded_is n d some))) is
 
 signed_not : (s : Bool) (n : ℕ) → neg_ℤ (signed s n) ≡ signed (not s) n
-signed_not false n = refl
-signed_not true n = neg_ℤ-neg_ℤ (pos n)
+signed_not s n = grind (arith, nat_tests)
 
 ends_fit : (t : Bool) → FitsBits 32 (signed t (2 ^ 31 - 1))
-ends_fit true = omega (arith, ints)
-ends_fit false = omega (arith, ints)
+ends_fit t = grind (arith, nat_tests)
 
 -- two flags differ
 differ_false : (t : Bool) → not (beq t false) ≡ t
-differ_false true = refl
-differ_false false = refl
+differ_false t = grind (arith, nat_tests)
 
 differ_true : (t : Bool) → not (beq t true) ≡ not t
-differ_true true = refl
-differ_true false = refl
+differ_true t = grind (arith, nat_tests)
 
 -- from the signs and magnitudes as the code has them
 pub signed_is_mul_div : (x a c r : ℤ) (s t : Bool) (m i j k : ℕ) → s ≡ differ_in_sign x a → t ≡ is_negative c

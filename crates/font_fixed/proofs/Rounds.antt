@@ -1,87 +1,111 @@
--- Floors by shifts, and the nearest integer as the floor of half a step more.
-use Rattle.std.proofs.Common.{◌≡◌, ◌∙◌, ap, refl, ℕ, suc, ◌+◌, ◌-◌, ◌*◌, ◌%◌, ◌^◌, ◌<◌, ◌≤◌, ℤ, pos, neg_ℤ, ◌+ℤ◌, ◌*ℤ◌}
-use Rattle.std.proofs.Common.{◌≤ℤ◌, ◌<ℤ◌, arith, lit<, pow_pos, SFits, to_z, of_z}
-use Rattle.std.proofs.lemmas.Int.{ints, by_lt_z, to_z-of_z}
-use Rattle.std.proofs.lemmas.Nat.{pow-add}
+-- Numbers of w bits with f bits of fraction, for every f in range: the steps and halves that code has, floors by shifts,
+-- and the nearest integer as the floor of half a step more.
+use Rattle.std.proofs.Common.{◌≡◌, ◌∙◌, ap, refl, ℕ, suc, ◌+◌, ◌-◌, ◌*◌, ◌/◌, ◌%◌, ◌^◌, ◌<◌, ◌≤◌, ℤ, pos, negsuc, neg_ℤ}
+use Rattle.std.proofs.Common.{◌+ℤ◌, ◌*ℤ◌, arith, lit<, pow_pos, div-add-mod', IsTrue, SFits, to_z, of_z, pow-add}
+use Rattle.std.proofs.Common.{mod-lt}
+use Rattle.std.proofs.lemmas.Int.{ints, by_lt_z, to_z_pos, to_z-of_z}
+use Rattle.std.proofs.lemmas.Bool.Decides.{nat_tests}
+use Rattle.std.proofs.lemmas.Nat.{one_shl}
 use Rattle.std.proofs.Math.Nat.{two-pow-succ, pow-le-pow_right}
-use Rattle.std.specs.Int.{Width}
+use Rattle.std.specs.Int.{Width, int_rem_euclid}
 use mir.Val.{bits, hbits}
 use lib.Signed.{shr_z}
-use Rattle.font_base.specs.Wrap.{FitsBits}
-use Rattle.font_base.specs.Wrap.Laws.{remainder, wrap-fits}
+use Rattle.font_base.specs.Wrap.{wrap, FitsBits}
+use Rattle.font_base.specs.Wrap.Laws.{wrap-fits}
 use Rattle.font_base.proofs.Widths.{bits_positive, half_range-bits}
 use Rattle.font_decimal.specs.Near.{Up, up}
 use Rattle.font_decimal.proofs.Integers.{neg-times, times-next, times_monotone}
 use Rattle.font_decimal.proofs.Near.{up_gives, up_is}
-use Rattle.font_fixed.specs.Operations.{IsFloor, fract_of}
-use Rattle.font_fixed.proofs.Shifts.{shr_fits, shr_high, shr_low}
-use Rattle.font_fixed.proofs.Wrapped.{wrapping_mul-wrap}
+use Rattle.font_fixed.specs.Operations.{IsFract, IsFloor, IsNearestWhole, fract_of, floor_of}
 use Rattle.font_fixed.specs.Rounding.{rounded}
+use Rattle.font_fixed.proofs.Narrowing.{is_width_split, floor_is_nearest_whole, fits_low}
+use Rattle.font_fixed.proofs.Shifts.{shr_fits, shr_high, shr_low}
+use Rattle.font_fixed.proofs.Wrapped.{wrapping_mul-wrap, rem_euclid_is_fract}
 
--- the greatest multiple that is not above is one
-same_multiple : (d : ℕ) (q t x : ℤ) → (q *ℤ pos d) ≤ℤ x → x <ℤ ((q *ℤ pos d) +ℤ pos d) → (t *ℤ pos d) ≤ℤ x
-    → x <ℤ ((t *ℤ pos d) +ℤ pos d) → q ≡ t
-same_multiple d q t x low high least most =
-    by_lt_z q t
-    (λ less.
-    let scaled = times_monotone (q +ℤ pos 1) t d (omega (arith, ints, less)) in
-    absurd (omega (arith, ints, high, least, scaled, times-next q d)))
-    (λ more. by_lt_z t q
-    (λ less.
-    let scaled = times_monotone (t +ℤ pos 1) q d (omega (arith, ints, less)) in
-    absurd (omega (arith, ints, most, low, scaled, times-next t d)))
-    (λ same. omega (arith, ints, more, same)))
+halves : (f : ℕ) → 6 ≤ f → 2 ^ f ≡ 2 ^ (f - 1) + 2 ^ (f - 1)
+halves f many = let is : f ≡ suc (f - 1) = omega (arith, many) in ap (λ n. 2 ^ n) is ∙ two-pow-succ (f - 1)
+
+two_halves : (f : ℕ) → 6 ≤ f → 2 ^ f ≡ 2 ^ f / 2 + 2 ^ f / 2
+two_halves f many = omega (arith, halves f many)
+
+-- ---- w bits are w - f bits of integers and f of fraction
+
+whole : (w f : ℕ) → f ≤ w → 2 ^ w ≡ 2 ^ (w - f) * 2 ^ f
+whole w f few = let is : w ≡ (w - f) + f = omega (arith, few) in ap (λ n. 2 ^ n) is ∙ pow-add 2 (w - f) f
+
+top : (w f : ℕ) → f + 2 ≤ w → 2 ^ (w - 1) ≡ 2 ^ (w - f - 1) * 2 ^ f
+top w f few = let is : w - 1 ≡ (w - f - 1) + f = omega (arith, few) in ap (λ n. 2 ^ n) is ∙ pow-add 2 (w - f - 1) f
+
+split_at : (w f : ℕ) → 6 ≤ f → f + 2 ≤ w → IsTrue (is_width_split w (w - f) (2 ^ f) (2 ^ f / 2))
+split_at w f many few =
+    let some : 0 < w - f = omega (arith, few) in
+    grind (arith, nat_tests, some, halves f many, whole w f (omega (arith, few)), top w f few)
+
+-- ---- what code gives that has a step as `1 << f`, and half of it as `1 << (f - 1)`; m is 2^w, a literal in goals
+
+step_below : (w : Width) (f : ℕ) → f + 2 ≤ bits w → 2 ^ f < 2 ^ hbits w
+step_below w f few = omega (
+  arith,
+  half_range-bits w,
+  two-pow-succ f,
+  pow_pos f,
+  pow-le-pow_right {n = 2} (lit< tt) {i = suc f} {j = bits w - 1} (omega (arith, few)),
+)
+
+step_is : (w : Width) (m f : ℕ) → m ≡ 2 ^ bits w → f + 2 ≤ bits w → to_z w (1 * 2 ^ f % m) ≡ pos (2 ^ f)
+step_is w m f is few = rw (is, one_shl f (bits w) (omega (arith, few))) (to_z_pos w (2 ^ f) (step_below w f few))
+
+half_is : (w : Width) (m f : ℕ) → m ≡ 2 ^ bits w → 6 ≤ f → f + 2 ≤ bits w
+    → to_z w (1 * 2 ^ (f - 1) % m) ≡ pos (2 ^ f / 2)
+half_is w m f is many few =
+    let half : 2 ^ f / 2 ≡ 2 ^ (f - 1) = omega (arith, halves f many) in
+    rw half (step_is w m (f - 1) is (omega (arith, few)))
+
+pub fract_is : (w : Width) (m f : ℕ) (x r : ℤ) → m ≡ 2 ^ bits w → f + 2 ≤ bits w → SFits w x
+    → r ≡ int_rem_euclid (to_z w (of_z w x)) (to_z w (1 * 2 ^ f % m)) → IsFract f x (to_z w (of_z w r))
+fract_is w m f x r all few fits is = rem_euclid_is_fract w f (2 ^ f) x r refl
+    (omega (arith, step_below w f few)) fits (rw (step_is w m f all few) at is)
+
+pub whole_is : (w : Width) (m f : ℕ) (x s r : ℤ) → m ≡ 2 ^ bits w → 6 ≤ f → f + 2 ≤ bits w
+    → s ≡ wrap (bits w) (x +ℤ to_z w (1 * 2 ^ (f - 1) % m)) → IsFloor f s r → IsNearestWhole (bits w) f x r
+whole_is w m f x s r all many few is floor = floor_is_nearest_whole (bits w) f x s r
+    (rw (half_is w m f all many few) at is) floor (split_at (bits w) f many few) (bits_positive w)
+
+-- ---- floors by shifts
+
+-- the rest above the greatest multiple
+shr_rest : (f : ℕ) (x : ℤ) → (shr_z x (2 ^ f) *ℤ pos (2 ^ f)) ≡ floor_of f x
+unfolding fract_of
+shr_rest f (pos n) = omega (arith, ints, div-add-mod' n (2 ^ f))
+shr_rest f (negsuc n) = omega (arith, ints, div-add-mod' n (2 ^ f), mod-lt n (pow_pos f))
 
 shr_is_floor : (f : ℕ) (x : ℤ) → IsFloor f x (shr_z x (2 ^ f) *ℤ pos (2 ^ f))
-unfolding fract_of
-shr_is_floor f x =
-    let d : ℕ = 2 ^ f in
-    let low = shr_low x d (pow_pos f) in
-    let high = shr_high x d (pow_pos f) in
-    let parts = remainder x d (pow_pos f) in
-    let below = parts.below in
-    let same = same_multiple d (shr_z x d) parts.turns x low high (omega (arith, ints, parts.parts))
-    (omega (arith, ints, parts.parts, below)) in
-    record {
-      whole = shr_z x d;
-      bits = refl;
-      low = low;
-      high = high;
-      is = rw same (omega (arith, ints, parts.parts, parts.is));
-    }
+shr_is_floor f x = record {
+  whole = shr_z x (2 ^ f);
+  bits = refl;
+  low = shr_low x (2 ^ f) (pow_pos f);
+  high = shr_high x (2 ^ f) (pow_pos f);
+  is = shr_rest f x;
+}
 
--- the bits above the fraction
-steps : (w : Width) (f : ℕ) → f ≤ hbits w → 2 ^ hbits w ≡ 2 ^ (hbits w - f) * 2 ^ f
-steps w f few =
-    let is : hbits w ≡ (hbits w - f) + f = omega (arith, few) in ap (λ n. 2 ^ n) is ∙ pow-add 2 (hbits w - f) f
-
-pub floor_fits : (w : Width) (f : ℕ) (x r : ℤ) → f ≤ hbits w → SFits w x → IsFloor f x r → SFits w r
+floor_fits : (w : Width) (f : ℕ) (x r : ℤ) → f + 2 ≤ bits w → SFits w x → IsFloor f x r → SFits w r
 floor_fits w f x r few fits floor =
-    let h : ℕ = 2 ^ (hbits w - f) in
-    let split = steps w f few in
-    let least = neg-times (pos h) (2 ^ f) in
-    let low = floor.low in
-    let high = floor.high in
-    let is = floor.bits in
-    by_lt_z floor.whole (neg_ℤ (pos h))
-    (λ less.
-    let scaled = times_monotone (floor.whole +ℤ pos 1) (neg_ℤ (pos h)) (2 ^ f) (omega (arith, ints, less)) in
-    absurd (omega (arith, ints, fits, split, is, high, scaled, times-next floor.whole (2 ^ f), least)))
-    (λ more.
-    let scaled = times_monotone (neg_ℤ (pos h)) floor.whole (2 ^ f) more in
-    omega (arith, ints, fits, split, is, low, scaled, least))
+    let least : ℤ = neg_ℤ (pos (2 ^ (bits w - f - 1))) in
+    let split = top (bits w) f few in
+    let range = half_range-bits w in
+    let times = neg-times (pos (2 ^ (bits w - f - 1))) (2 ^ f) in
+    let within = fits_low (2 ^ f) least x floor.whole (omega (arith, ints)) (omega (arith, ints)) in
+    omega (arith, ints, times_monotone least floor.whole (2 ^ f) within)
 
 -- what `(x >> f) << f` gives
-pub shifted_is_floor : (w : Width) (n m f : ℕ) (x : ℤ) → n ≡ bits w → m ≡ 2 ^ n → SFits w x → f < hbits w
+pub shifted_is_floor : (w : Width) (n m f : ℕ) (x : ℤ) → n ≡ bits w → m ≡ 2 ^ n → SFits w x → f + 2 ≤ bits w
     → IsFloor f x (to_z w (of_z w (shr_z (to_z w (of_z w x)) (2 ^ f)) * 2 ^ f % m))
 shifted_is_floor w n m f x is all fits few =
     let d : ℕ = 2 ^ f in
     let floor = shr_is_floor f x in
-    let fit = floor_fits w f x (shr_z x d *ℤ pos d) (omega (arith, few)) fits floor in
-    let more = pow-le-pow_right {n = 2} (lit< tt) {i = suc f} {j = hbits w} (omega (arith, few)) in
-    let step : SFits w (pos d) = omega (arith, ints, more, two-pow-succ f, pow_pos f) in
-    let half = half_range-bits w in
-    let kept : FitsBits (bits w) (shr_z x d *ℤ pos d) = omega (arith, ints, fit, half) in
+    let fit = floor_fits w f x (shr_z x d *ℤ pos d) few fits floor in
+    let step : SFits w (pos d) = omega (arith, ints, step_below w f few) in
+    let kept : FitsBits (bits w) (shr_z x d *ℤ pos d) = omega (arith, ints, fit, half_range-bits w) in
     rw (
       to_z-of_z w x fits,
       wrapping_mul-wrap w n m (shr_z x d) d is all (shr_fits w x d fits) step,
@@ -89,38 +113,32 @@ shifted_is_floor w n m f x is all fits few =
       wrap-fits (bits w) (shr_z x d *ℤ pos d) (bits_positive w) kept,
     ) floor
 
--- the floor of a half more is the nearest integer
-pub floor_is_rounded : (f half : ℕ) (x s r : ℤ) → 2 ^ f ≡ half + half → s ≡ (x +ℤ pos half) → IsFloor f s r
-    → r ≡ rounded f x
-floor_is_rounded f half x s r two is floor =
-    let low = floor.low in
-    let high = floor.high in
-    let bits = floor.bits in
-    let nearest : Up x (2 ^ f) floor.whole = record {
-      low = omega (arith, ints, two, is, low, bits);
-      high = omega (arith, ints, two, is, high, bits, times-next floor.whole (2 ^ f));
-    } in
-    bits ∙ ap (λ z. z *ℤ pos (2 ^ f)) (up_gives x (2 ^ f) floor.whole (pow_pos f) nearest)
+-- ---- the nearest integer
 
--- if a half more is too large, so is the nearest integer
-rounded_too_large : (w : Width) (f half : ℕ) (x : ℤ) → 2 ^ f ≡ half + half → f ≤ hbits w
-    → pos (2 ^ hbits w) ≤ℤ (x +ℤ pos half) → pos (2 ^ hbits w) ≤ℤ rounded f x
-rounded_too_large w f half x two few large =
-    let h : ℕ = 2 ^ (hbits w - f) in
-    let split = steps w f few in
-    let whole = up x (2 ^ f) in
-    let high = (up_is x (2 ^ f) (pow_pos f)).high in
-    by_lt_z whole (pos h)
-    (λ less.
-    let scaled = times_monotone (whole +ℤ pos 1) (pos h) (2 ^ f) (omega (arith, ints, less)) in
-    absurd (omega (arith, ints, large, split, two, high, scaled)))
-    (λ more. let scaled = times_monotone (pos h) whole (2 ^ f) more in omega (arith, ints, split, scaled))
+-- the floor of half a step more, where that fits
+pub nearest_is : (w : Width) (m f : ℕ) (x s r : ℤ) → m ≡ 2 ^ bits w → 6 ≤ f → f + 2 ≤ bits w
+    → s ≡ (x +ℤ to_z w (1 * 2 ^ (f - 1) % m)) → IsFloor f s r → r ≡ rounded f x
+nearest_is w m f x s r all many few is floor =
+    let moved = rw (half_is w m f all many few) at is in
+    let two = two_halves f many in
+    let next = times-next floor.whole (2 ^ f) in
+    let nearest : Up x (2 ^ f) floor.whole = record { low = omega (arith, ints); high = omega (arith, ints) } in
+    floor.bits ∙ ap (λ z. z *ℤ pos (2 ^ f)) (up_gives x (2 ^ f) floor.whole (pow_pos f) nearest)
 
--- if a half more does not fit, neither does the nearest integer
-pub nothing_nearest : (w : Width) (f half : ℕ) (x : ℤ) → 2 ^ f ≡ half + half → f ≤ hbits w → SFits w x
-    → (SFits w (x +ℤ pos half) → ⊥) → FitsBits (bits w) (rounded f x) → ⊥
-nothing_nearest w f half x two few fits far near =
+-- if half a step more does not fit, neither does the nearest integer
+pub no_nearest : (w : Width) (m f : ℕ) (x : ℤ) → m ≡ 2 ^ bits w → 6 ≤ f → f + 2 ≤ bits w → SFits w x
+    → (SFits w (x +ℤ to_z w (1 * 2 ^ (f - 1) % m)) → ⊥) → FitsBits (bits w) (rounded f x) → ⊥
+no_nearest w m f x all many few fits far near =
+    let half : ℕ = 2 ^ f / 2 in
+    let too_far = rw (half_is w m f all many few) at far in
+    let two = two_halves f many in
+    let split = top (bits w) f few in
     let range = half_range-bits w in
     by_lt_z (x +ℤ pos half) (pos (2 ^ hbits w))
-    (λ less. absurd (far (omega (arith, ints, fits, less))))
-    (λ more. absurd (omega (arith, ints, near, range, rounded_too_large w f half x two few more)))
+    (λ less. too_far (omega (arith, ints, fits, less)))
+    (λ more.
+    let most : ℤ = pos (2 ^ (bits w - f - 1)) in
+    let high = (up_is x (2 ^ f) (pow_pos f)).high in
+    let next = times-next (up x (2 ^ f)) (2 ^ f) in
+    let above = fits_low (2 ^ f) most (x +ℤ pos half) (up x (2 ^ f)) (omega (arith, ints, more)) (omega (arith, ints)) in
+    omega (arith, ints, times_monotone most (up x (2 ^ f)) (2 ^ f) above))

@@ -1,24 +1,20 @@
 -- What a shift to the right gives: the greatest multiple that is not above.
-use Rattle.std.proofs.Common.{◌≡◌, lit<, ℕ, ◌<◌, ℤ, pos, negsuc, ◌+ℤ◌, ◌*ℤ◌, ◌≤ℤ◌, ◌<ℤ◌, arith}
-use Rattle.std.proofs.Common.{div-add-mod', SFits, to_z, of_z}
+use Rattle.std.proofs.Common.{◌≡◌, lit<, ℕ, ◌<◌, ℤ, pos, ◌+ℤ◌, ◌*ℤ◌, ◌≤ℤ◌, ◌<ℤ◌, arith, SFits, to_z, of_z}
+use Rattle.std.proofs.lemmas.Bool.Decides.{nat_tests}
 use Rattle.std.proofs.lemmas.Int.{ints, to_z-of_z}
-use Rattle.std.proofs.Math.Nat.{mod-lt, div-le_self, lt_of_le_of_lt as le_lt_trans}
 use Rattle.std.specs.Int.{Width, w128}
 use lib.Signed.{shr_z}
 use Rattle.font_decimal.specs.Near.{up}
 use Rattle.font_decimal.proofs.Near.{up_gives}
 
 pub shr_low : (z : ℤ) (d : ℕ) → 0 < d → (shr_z z d *ℤ pos d) ≤ℤ z
-shr_low (pos n) d some = omega (arith, ints, div-add-mod' n d)
-shr_low (negsuc n) d some = omega (arith, ints, div-add-mod' n d, mod-lt n some)
+shr_low z d some = grind (arith, nat_tests)
 
 pub shr_high : (z : ℤ) (d : ℕ) → 0 < d → z <ℤ ((shr_z z d *ℤ pos d) +ℤ pos d)
-shr_high (pos n) d some = omega (arith, ints, div-add-mod' n d, mod-lt n some)
-shr_high (negsuc n) d some = omega (arith, ints, div-add-mod' n d)
+shr_high z d some = grind (arith, nat_tests)
 
 pub shr_fits : (w : Width) (z : ℤ) (d : ℕ) → SFits w z → SFits w (shr_z z d)
-shr_fits w (pos n) d fits = record { sfits = le_lt_trans (div-le_self n d) fits.sfits }
-shr_fits w (negsuc n) d fits = record { sfits = le_lt_trans (div-le_self n d) fits.sfits }
+shr_fits w z d fits = grind (arith, nat_tests)
 
 -- a half more, of which the floor is taken, in two steps that leave no range
 pub halves_up : (n : ℤ) → shr_z (shr_z n 32768 +ℤ pos 1) 2 ≡ up n 65536

@@ -1,8 +1,7 @@
 -- Results that are known to be small: nothing wraps, so that they are the nearest numbers themselves.
-use Rattle.std.proofs.Common.{◌≡◌, ◌∙◌, ℕ, zero, suc, ◌*◌, ◌^◌, ◌<◌, ◌≤◌, ℤ, pos, neg_ℤ, unsigned_abs}
-use Rattle.std.proofs.Common.{◌*ℤ◌, ◌≤ℤ◌, arith, pow_pos}
+use Rattle.std.proofs.Common.{◌≡◌, ◌∙◌, ℕ, zero, suc, ◌*◌, ◌^◌, ◌<◌, ◌≤◌, ℤ, pos, neg_ℤ, unsigned_abs, ◌*ℤ◌, ◌≤ℤ◌}
+use Rattle.std.proofs.Common.{arith, pow_pos, mul-le-mul}
 use Rattle.std.proofs.lemmas.Int.{ints, unsigned_abs-mul}
-use Rattle.std.proofs.Math.Nat.{mul-le-mul}
 use Rattle.font_base.specs.Wrap.{FitsBits, half_range}
 use Rattle.font_base.specs.Wrap.Laws.{wrap-fits}
 use Rattle.font_decimal.specs.Near.{near}

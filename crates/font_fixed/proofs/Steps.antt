@@ -1,16 +1,15 @@
 -- Products rounded with ties away from zero, as code has it: half a step is added, less one where the product is
 -- negative, and the sum is shifted.
 use Rattle.std.proofs.Common.{◌≡◌, ◌∙◌, ap, ℕ, suc, ◌+◌, ◌-◌, ◌*◌, ◌%◌, ◌^◌, ◌<◌, ◌≤◌, ℤ, pos, ◌+ℤ◌, ◌-ℤ◌, ◌*ℤ◌, ◌≤ℤ◌}
-use Rattle.std.proofs.Common.{◌<ℤ◌, unsigned_abs, arith, lit<, ◌⊎◌, pow_pos, SFits, to_z, of_z}
-use Rattle.std.specs.Int.{w32, w64}
+use Rattle.std.proofs.Common.{◌<ℤ◌, unsigned_abs, arith, lit<, ◌⊎◌, pow_pos, SFits, to_z, of_z, w32, w64, mul-le-mul}
 use mir.Val.{bool_byte}
 use lib.Signed.{shr_z, lt_z}
 use Rattle.font_base.specs.Wrap.{wrap}
 use Rattle.font_decimal.specs.Near.{Near, near}
 use Rattle.font_decimal.proofs.Near.{near_is, near_gives}
 use Rattle.font_fixed.specs.Operations.{IsWrappedNear}
-use Rattle.std.proofs.lemmas.Int.{ints, to_z-of_z, unsigned_abs-mul}
-use Rattle.std.proofs.Math.Nat.{mul-le-mul, pow-le-pow_right, two-pow-succ}
+use Rattle.std.proofs.lemmas.Int.{ints, unsigned_abs-mul, to_z-of_z}
+use Rattle.std.proofs.Math.Nat.{pow-le-pow_right, two-pow-succ}
 use Rattle.font_fixed.proofs.Shifts.{shr_low, shr_high, shr_fits}
 use Rattle.font_fixed.proofs.Quotients.{wrapped_near_from}
 

@@ -1,10 +1,12 @@
 -- What a decimal text is read as, from the number that the reader gives.
-use Rattle.std.proofs.Common.{◌≡◌, ◌∙◌, sym, ap, ℕ, ◌+◌, ◌*◌, ◌/◌, ◌^◌, ◌<◌, ◌≤◌, List, ℤ, ◌-◌, length, max}
-use Rattle.std.proofs.Common.{unsigned_abs, Option, IsSome, Result, Ok, Err, IfOk, ◌↔◌, arith, Bool, IsTrue, nat_lt}
-use Rattle.std.proofs.Common.{◌&&◌, pow_pos, SFits, to_z, of_z}
-use Rattle.std.proofs.lemmas.Int.{ints, to_z-of_z}
+use Rattle.std.proofs.Common.{◌≡◌, ◌∙◌, ap, ℕ, ◌+◌, ◌*◌, ◌/◌, ◌^◌, ◌<◌, ◌≤◌, List, ℤ, ◌-◌, length, max, unsigned_abs}
+use Rattle.std.proofs.Common.{Option, IsSome, Result, Ok, Err, IfOk, ◌↔◌, arith, Bool, IsTrue, nat_lt, ◌&&◌, pow_pos}
+use Rattle.std.proofs.Common.{SFits, to_z, of_z, refl, zero, suc, true, inl, inr, pow-add, mul-lt-mul_of_pos_right, w64}
+use Rattle.std.proofs.lemmas.Bool.{cases_lt}
+use Rattle.font_fixed.specs.Longest.{longest}
+use Rattle.std.proofs.lemmas.Int.{ints}
 use Rattle.std.proofs.lemmas.Bool.Decides.{nat_tests}
-use Rattle.std.specs.Int.{Width, w64}
+use Rattle.std.specs.Int.{Width}
 use mir.Val.{bits, hbits}
 use Rattle.font_base.proofs.Widths.{half_range-bits, signed_fits}
 use Rattle.font_base.specs.Wrap.{FitsBits}
@@ -25,12 +27,7 @@ use Rattle.font_fixed.specs.Reading.{ReadsBy}
 pub cast_reads : (w : Width) (f : ℕ) (text : List ℕ) (b min max : ℤ) → 2 ^ hbits w ≤ 2 ^ 63 → min ≡ least (bits w)
     → max ≡ greatest (bits w) → Reads text f min max b
     → ReadsAs (bits w) f text (to_z w (of_z w (to_z w64 (of_z w64 b))))
-cast_reads w f text b min max room low high reads =
-    let above = rw low at reads.low in
-    let below = rw high at reads.high in
-    let narrow : SFits w b = omega (arith, ints, above, below, half_range-bits w, pow_pos (hbits w)) in
-    let wide : SFits w64 b = omega (arith, ints, narrow, room) in
-    rw (to_z-of_z w64 b wide, to_z-of_z w b narrow) (record { rounds = reads.rounds; low = above; high = below })
+cast_reads w f text b min max room low high reads = grind (arith, nat_tests)
 
 -- the printed text of a number is read as that number
 pub printed_reads : (w f : ℕ) (b : ℤ) → 2 ^ (w - 1) ≤ 2 ^ 63 → FitsBits w b → ReadsAs w f (shortest_text b f) b
@@ -69,6 +66,38 @@ padded_has_room w b f room pad old result long fits enough test small =
     (omega (arith, magnitude, parts)) parts.0 in
     long.1 (padded_fits (shortest_text b f) pad room (length old) (omega (arith, body, parts)) enough)
 
+-- ---- the longest text
+
+-- so many decimal digits are enough for n bits
+abbrev enough : ℕ → Bool
+enough n = nat_lt (2 ^ n) (10 ^ (n * 3 / 10 + 1))
+
+abbrev enough_below : ℕ → Bool
+enough_below zero = true
+enough_below (suc n) = enough n && enough_below n
+
+is_enough : (m n : ℕ) → IsTrue (enough_below m) → n < m → IsTrue (enough n)
+is_enough zero n test less = absurd (omega (arith, less))
+is_enough (suc m) n test less = elim (cases_lt n m) [
+  | inl below ↦ is_enough m n (grind (arith, nat_tests, test)) below
+  | inr above ↦ let is : n ≡ m = omega (arith, less, above) in rw is (grind (arith, nat_tests, test))
+]
+
+digits : (n : ℕ) → n < 64 → 2 ^ n < 10 ^ (n * 3 / 10 + 1)
+digits n small = grind (arith, nat_tests, is_enough 64 n refl small)
+
+pub has_room : (w f : ℕ) → f + 2 ≤ w → w ≤ 64 → IsTrue (is_room (w - 1) f (longest w f))
+has_room w f few small =
+    let n : ℕ = w - 1 - f in
+    let parts : 2 ^ (w - 1) ≡ 2 ^ n * 2 ^ f =
+    let is : w - 1 ≡ n + f = omega (arith, few) in ap (λ m. 2 ^ m) is ∙ pow-add 2 n f in
+    let places = digits f (omega (arith, few, small)) in
+    let more = mul-lt-mul_of_pos_right {k = 2 ^ f} (digits n (omega (arith, few, small))) (pow_pos f) in
+    let rest : longest w f - (most_places f + 2) ≡ n * 3 / 10 + 1 = omega arith in
+    let over : most_places f + 2 < longest w f = omega arith in
+    let both : 2 ^ (w - 1) < 10 ^ (longest w f - (most_places f + 2)) * 2 ^ f = rw (rest, parts) more in
+    grind (arith, nat_tests, places, both, over)
+
 -- ---- in the words of a type of its own: a result with the bits of its number in place of the number
 
 abbrev pub as_bits : {T : Type 0} → (T → ℤ) → Result T DecimalFault → Result ℤ DecimalFault
@@ -77,16 +106,12 @@ as_bits bits_of result = result_map_both bits_of (λ fault. fault) result
 same_result : {T : Type 0} (bits_of : T → ℤ) (of_bits : ℤ → T) → ((x : T) → of_bits (bits_of x) ≡ x)
     → (q r : Result T DecimalFault)
     → as_bits bits_of q ≡ as_bits bits_of r → q ≡ r
-same_result bits_of of_bits back (Ok x) (Ok y) same = ap Ok (sym (back x) ∙ ap of_bits (cc) ∙ back y)
-same_result bits_of of_bits back (Ok x) (Err d) same = cc
-same_result bits_of of_bits back (Err c) (Ok y) same = cc
-same_result bits_of of_bits back (Err c) (Err d) same = cc
+same_result bits_of of_bits back q r same = grind (arith, nat_tests)
 
 if_ok_reads : {T : Type 0} (w f : ℕ) (bits_of : T → ℤ) (text : List ℕ) (q : Result T DecimalFault)
     → ReadingGives w f text (as_bits bits_of q)
     → IfOk q (λ x. ReadsAs w f text (bits_of x))
-if_ok_reads w f bits_of text (Ok x) gives = gives
-if_ok_reads w f bits_of text (Err fault) gives = tt
+if_ok_reads w f bits_of text q gives = grind (arith, nat_tests)
 
 -- all that callers know of a reading, from what it comes to in bits
 pub reads_by : {T : Type 0} (w : Width) (f : ℕ) (bits_of : T → ℤ) (of_bits : ℤ → T) (text : List ℕ)

@@ -2,8 +2,7 @@
 use Rattle.std.proofs.Common.{◌≡◌, ◌+ℤ◌}
 use Rattle.font_base.specs.Wrap.{wrap}
 use Rattle.font_fixed.specs.Operations.{IsProduct}
-use Rattle.font_fixed.specs.Fixed.{Fixed}
-use Rattle.font_fixed.specs.Fixed.{fixed_bits}
+use Rattle.font_fixed.specs.Fixed.{Fixed, fixed_bits}
 use Rattle.font_geom.specs.declared.matrix.Matrix.{Matrix}
 use Rattle.font_geom.specs.declared.point.Point.{Point}
 use Rattle.font_geom.specs.Matrix.{IsTransformed, IsProductOf, image_of, matrix_product}

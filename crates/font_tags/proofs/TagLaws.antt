@@ -1,7 +1,7 @@
 -- Laws of tags: the two judges agree, and a printed text is that of one tag alone.
-use Rattle.std.proofs.Common.{◌≡◌, ◌≢◌, sym, ap, refl, ℕ, suc, ◌-◌, ◌/◌, ◌%◌, ◌<◌, ◌≤◌, ◌⊎◌, inl, inr}
-use Rattle.std.proofs.Common.{true, IsTrue, List, [], ◌∷◌, ◌++◌, length, get_or, Result, Ok, Err, IsOk, ◌↔◌, nat_lt}
-use Rattle.std.proofs.Common.{◌==◌, IsUtf8, arith, rules}
+use Rattle.std.proofs.Common.{◌≡◌, ◌≢◌, sym, ap, refl, ℕ, suc, ◌-◌, ◌/◌, ◌%◌, ◌<◌, ◌≤◌, ◌⊎◌, inl, inr, true, IsTrue}
+use Rattle.std.proofs.Common.{List, [], ◌∷◌, ◌++◌, length, get_or, Result, Ok, Err, IsOk, ◌↔◌, nat_lt, ◌==◌, IsUtf8}
+use Rattle.std.proofs.Common.{arith, rules}
 use Rattle.std.proofs.lemmas.Bool.{and_parts}
 use Rattle.std.proofs.lemmas.Bool.Decides.{nat_tests}
 use Rattle.std.proofs.lemmas.List.{get_or_past}

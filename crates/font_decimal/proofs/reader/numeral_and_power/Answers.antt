@@ -1,5 +1,5 @@
-use Rattle.std.proofs.Common.{arith, add-one}
-use Rattle.std.proofs.Math.Nat.{pow-suc, pow-le-pow_right}
+use Rattle.std.proofs.Common.{arith, add-one, pow-suc}
+use Rattle.std.proofs.Math.Nat.{pow-le-pow_right}
 use Rattle.std.proofs.lemmas.Int.Digits.{digits_more}
 use Rattle.std.proofs.lemmas.Str.Parse.{digit_at}
 use Rattle.font_decimal.proofs.Digits.{one_digit_more, few_digits}

@@ -1,10 +1,9 @@
-use Rattle.std.proofs.Common.{◌≡◌, ℕ, ◌+◌, ◌*◌, ◌%◌, ◌^◌, ◌≤◌, false, arith, sym, ◌∙◌, add-one, below_more}
-use Rattle.std.proofs.Math.Nat.{pow-suc}
+use Rattle.std.proofs.Common.{◌≡◌, ℕ, ◌+◌, ◌*◌, ◌%◌, ◌^◌, ◌≤◌, false, arith, sym, ◌∙◌, add-one, below_more, pow-suc}
 use Rattle.std.proofs.lemmas.Nat.{one_shl}
 use Rattle.font_decimal.specs.Shortest.{reads_back}
 use Rattle.font_decimal.proofs.Fewest.{IsFewest, place_left, places_are}
-use Rattle.font_decimal.proofs.Remainder.{stopped, fails_here, rounded_up, rounded_down, next_numeral}
-use Rattle.font_decimal.proofs.Remainder.{next_below, fraction_below}
+use Rattle.font_decimal.proofs.Remainder.{stopped, fails_here, rounded_up, rounded_down, next_numeral, next_below}
+use Rattle.font_decimal.proofs.Remainder.{fraction_below}
 use Rattle.font_decimal.proofs.shortest.shortest_digits.Goals as goal
 use Rattle.font_decimal.proofs.shortest.shortest_digits.Goals.{After-loop-margin}
 

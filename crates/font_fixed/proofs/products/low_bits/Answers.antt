@@ -1,5 +1,4 @@
-use Rattle.std.proofs.Common.{lit≤}
-use Rattle.std.specs.Int.{w32, w64}
+use Rattle.std.proofs.Common.{lit≤, w32, w64}
 use Rattle.font_fixed.proofs.Wrapped.{rem_euclid-wrap}
 use Rattle.font_fixed.proofs.products.low_bits.Goals as goal
 

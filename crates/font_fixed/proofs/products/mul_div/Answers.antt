@@ -1,5 +1,4 @@
-use Rattle.std.proofs.Common.{rules}
-use Rattle.std.specs.Int.{w32}
+use Rattle.std.proofs.Common.{rules, w32}
 use Rattle.std.proofs.lemmas.Int.{to_z-of_z}
 use Rattle.font_fixed.proofs.Quotients.{signed_is_mul_div}
 use Rattle.font_fixed.proofs.products.mul_div.Goals as goal

@@ -1,5 +1,4 @@
-use Rattle.std.proofs.Common.{refl, lit≤, rules}
-use Rattle.std.specs.Int.{w16}
+use Rattle.std.proofs.Common.{refl, lit≤, rules, w16}
 use Rattle.font_fixed.proofs.Texts.{reads_by, cast_reads}
 use Rattle.font_fixed.proofs.reading.read_bits_16.Goals as goal
 

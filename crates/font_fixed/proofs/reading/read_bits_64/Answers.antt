@@ -1,5 +1,4 @@
-use Rattle.std.proofs.Common.{refl, lit≤, rules}
-use Rattle.std.specs.Int.{w64}
+use Rattle.std.proofs.Common.{refl, lit≤, rules, w64}
 use Rattle.font_fixed.proofs.Texts.{reads_by}
 use Rattle.font_fixed.proofs.reading.read_bits_64.Goals as goal
 

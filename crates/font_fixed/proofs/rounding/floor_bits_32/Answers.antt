@@ -1,6 +1,6 @@
-use Rattle.std.proofs.Common.{refl, arith, w32}
+use Rattle.std.proofs.Common.{refl, w32}
 use Rattle.font_fixed.proofs.Rounds.{shifted_is_floor}
 use Rattle.font_fixed.proofs.rounding.floor_bits_32.Goals as goal
 
 pub returns : goal.returns
-returns c = shifted_is_floor w32 32 _ c.args.f c.args.bits refl refl c.ranges.bits (omega (arith, c.requires))
+returns c = shifted_is_floor w32 32 _ c.args.f c.args.bits refl refl c.ranges.bits c.requires

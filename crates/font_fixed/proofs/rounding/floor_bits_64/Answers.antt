@@ -1,6 +1,6 @@
-use Rattle.std.proofs.Common.{refl, arith, w64}
+use Rattle.std.proofs.Common.{refl, w64}
 use Rattle.font_fixed.proofs.Rounds.{shifted_is_floor}
 use Rattle.font_fixed.proofs.rounding.floor_bits_64.Goals as goal
 
 pub returns : goal.returns
-returns c = shifted_is_floor w64 64 _ c.args.f c.args.bits refl refl c.ranges.bits (omega (arith, c.requires))
+returns c = shifted_is_floor w64 64 _ c.args.f c.args.bits refl refl c.ranges.bits c.requires

@@ -1,24 +1,15 @@
-use Rattle.std.proofs.Common.{rules, arith, ◌≡◌, ◌+ℤ◌, ◌-◌, ◌*◌, ◌%◌, ◌^◌, w64, SFits, to_z, of_z}
-use Rattle.font_fixed.proofs.Fractions.{half_64, two_halves}
-use Rattle.font_fixed.proofs.Rounds.{floor_is_rounded, nothing_nearest}
+use Rattle.std.proofs.Common.{rules, refl, ◌≡◌, w64}
+use Rattle.font_fixed.proofs.Rounds.{nearest_is, no_nearest}
 use Rattle.font_fixed.specs.Rounding.{rounded}
 use Rattle.font_fixed.proofs.rounding.round_bits_64.Goals as goal
 
 value : (c : goal.After-floor_bits_64) → c.floor_bits_64.result ≡ rounded c.args.f c.args.bits
-value c =
-    let f = c.args.f in
-    let half = half_64 f c.requires.0 c.requires.1 in
-    let moved : to_z w64 (of_z w64 c.in_ok-moved.moved)
-    ≡ (c.args.bits +ℤ to_z w64 (1 * 2 ^ (f - 1) % 18446744073709551616)) = search rules in
-    floor_is_rounded f _ c.args.bits _ _ (two_halves f c.requires.0) (rw half at moved) c.floor_bits_64.ensures
+value c = nearest_is w64 _ c.args.f c.args.bits _ _ refl c.requires.0 c.requires.1
+    (search rules) c.floor_bits_64.ensures
 
 pub returns-in_err-moved-clause-variant : goal.returns-in_err-moved-clause-variant
 returns-in_err-moved-clause-variant c =
-    let f = c.args.f in
-    let half = half_64 f c.requires.0 c.requires.1 in
-    let far : SFits w64 (c.args.bits +ℤ to_z w64 (1 * 2 ^ (f - 1) % 18446744073709551616)) → ⊥ = search rules in
-    let none = nothing_nearest w64 f _ c.args.bits (two_halves f c.requires.0) (omega (arith, c.requires.1))
-    c.ranges.bits (rw half at far) in
+    let none = no_nearest w64 _ c.args.f c.args.bits refl c.requires.0 c.requires.1 c.ranges.bits (search rules) in
     search (rules, none)
 
 pub returns-clause-variant : goal.returns-clause-variant

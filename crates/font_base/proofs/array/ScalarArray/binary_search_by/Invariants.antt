@@ -1,5 +1,4 @@
-use Rattle.std.proofs.Common.{◌≡◌, ◌<◌, ◌≤◌, ◌+◌}
-use Rattle.std.specs.declared.cmp.Ordering.{Ordering}
+use Rattle.std.proofs.Common.{◌≡◌, ◌<◌, ◌≤◌, ◌+◌, Ordering}
 use Rattle.font_base.specs.Array.{array_len, element_bytes, RisesAlong}
 use Rattle.font_base.proofs.Elements.{Narrows}
 use Rattle.font_base.proofs.array.ScalarArray.binary_search_by.Given as goal

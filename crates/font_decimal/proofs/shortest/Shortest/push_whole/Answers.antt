@@ -1,6 +1,5 @@
 use Rattle.std.proofs.Common.{◌≡◌, ℕ, ◌<◌, ◌≤◌, ◌+◌, ◌^◌, ◌/◌, ◌%◌, List, ◌++◌, ◌∷◌, length, arith, length-append}
-use Rattle.std.proofs.Common.{append_assoc, ap, ◌∙◌}
-use Rattle.std.specs.Fmt.{decimal}
+use Rattle.std.proofs.Common.{append_assoc, ap, ◌∙◌, decimal}
 use Rattle.std.proofs.lemmas.Fmt.{decimal_step, decimal_digit, decimal_nonempty}
 use Rattle.font_decimal.proofs.shortest.Shortest.push_whole.Goals as goal
 

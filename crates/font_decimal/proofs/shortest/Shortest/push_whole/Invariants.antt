@@ -1,5 +1,4 @@
-use Rattle.std.proofs.Common.{◌≡◌, ◌++◌}
-use Rattle.std.specs.Fmt.{decimal}
+use Rattle.std.proofs.Common.{◌≡◌, ◌++◌, decimal}
 use Rattle.font_decimal.specs.Shown.{shown}
 use Rattle.font_decimal.proofs.shortest.Shortest.push_whole.Given as goal
 

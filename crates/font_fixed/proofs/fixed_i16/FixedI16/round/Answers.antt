@@ -1,5 +1,6 @@
-use Rattle.font_fixed.proofs.Fractions.{round_16}
+use Rattle.std.proofs.Common.{refl, w16}
+use Rattle.font_fixed.proofs.Rounds.{whole_is}
 use Rattle.font_fixed.proofs.fixed_i16.FixedI16.round.Goals as goal
 
 pub returns : goal.returns
-returns g c = round_16 g.row.F _ _ _ g.bound-1.least g.bound-1.whole c.wrapping_add.ensures c.floor.ensures
+returns g c = whole_is w16 _ g.row.F _ _ _ refl g.bound-1.least g.bound-1.whole c.wrapping_add.ensures c.floor.ensures

@@ -1,5 +1,4 @@
-use Rattle.std.proofs.Common.{refl, lit≤, rules}
-use Rattle.std.specs.Int.{w32}
+use Rattle.std.proofs.Common.{refl, lit≤, rules, w32}
 use Rattle.font_fixed.proofs.Texts.{reads_by}
 use Rattle.font_fixed.specs.FixedI32.{bits_of, of_bits}
 use Rattle.font_fixed.proofs.fixed_i32.FixedI32.from_decimal_bytes.Goals as goal

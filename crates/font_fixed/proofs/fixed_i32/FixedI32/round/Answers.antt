@@ -1,5 +1,6 @@
-use Rattle.font_fixed.proofs.Fractions.{round_32}
+use Rattle.std.proofs.Common.{refl, w32}
+use Rattle.font_fixed.proofs.Rounds.{whole_is}
 use Rattle.font_fixed.proofs.fixed_i32.FixedI32.round.Goals as goal
 
 pub returns : goal.returns
-returns g c = round_32 g.row.F _ _ _ g.bound-1.least g.bound-1.whole c.wrapping_add.ensures c.floor.ensures
+returns g c = whole_is w32 _ g.row.F _ _ _ refl g.bound-1.least g.bound-1.whole c.wrapping_add.ensures c.floor.ensures

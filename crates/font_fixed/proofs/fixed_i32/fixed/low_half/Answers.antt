@@ -1,5 +1,4 @@
-use Rattle.std.proofs.Common.{lit≤}
-use Rattle.std.specs.Int.{w16, w32}
+use Rattle.std.proofs.Common.{lit≤, w16, w32}
 use Rattle.font_fixed.proofs.Wrapped.{rem_euclid-wrap}
 use Rattle.font_fixed.proofs.fixed_i32.fixed.low_half.Goals as goal
 

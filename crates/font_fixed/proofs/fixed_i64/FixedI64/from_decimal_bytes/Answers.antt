@@ -1,5 +1,4 @@
-use Rattle.std.proofs.Common.{refl, lit≤, rules}
-use Rattle.std.specs.Int.{w64}
+use Rattle.std.proofs.Common.{refl, lit≤, rules, w64}
 use Rattle.font_fixed.proofs.Texts.{reads_by}
 use Rattle.font_fixed.specs.FixedI64.{bits_of, of_bits}
 use Rattle.font_fixed.proofs.fixed_i64.FixedI64.from_decimal_bytes.Goals as goal

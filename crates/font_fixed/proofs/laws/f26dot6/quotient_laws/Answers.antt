@@ -1,5 +1,4 @@
-use Rattle.std.proofs.Common.{rules, lit<, pos}
-use Rattle.std.specs.Int.{w32}
+use Rattle.std.proofs.Common.{rules, lit<, pos, w32}
 use Rattle.font_base.proofs.Widths.{signed_fits}
 use Rattle.font_fixed.proofs.NumberLaws.{quotient_laws_hold}
 use Rattle.font_fixed.proofs.laws.f26dot6.quotient_laws.Goals as goal

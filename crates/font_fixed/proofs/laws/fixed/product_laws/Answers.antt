@@ -1,5 +1,4 @@
-use Rattle.std.proofs.Common.{rules, lit<}
-use Rattle.std.specs.Int.{w32}
+use Rattle.std.proofs.Common.{rules, lit<, w32}
 use Rattle.font_base.proofs.Widths.{signed_fits}
 use Rattle.font_fixed.proofs.NumberLaws.{product_laws_hold, product_in_one_step}
 use Rattle.font_fixed.proofs.laws.fixed.product_laws.Goals as goal

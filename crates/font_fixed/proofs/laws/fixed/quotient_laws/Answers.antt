@@ -1,5 +1,4 @@
-use Rattle.std.proofs.Common.{rules, lit<, pos}
-use Rattle.std.specs.Int.{w32}
+use Rattle.std.proofs.Common.{rules, lit<, pos, w32}
 use Rattle.font_base.proofs.Widths.{signed_fits}
 use Rattle.font_fixed.proofs.NumberLaws.{quotient_laws_hold, quotient_in_one_step}
 use Rattle.font_fixed.proofs.laws.fixed.quotient_laws.Goals as goal

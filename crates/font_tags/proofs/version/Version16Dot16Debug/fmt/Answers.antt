@@ -1,4 +1,4 @@
-use lib.Chars.{codes}
+use Rattle.std.proofs.Common.{codes}
 use Rattle.font_tags.specs.Version.{version_bits}
 use Rattle.font_tags.proofs.VersionText.{bits_written}
 use Rattle.font_tags.proofs.version.Version16Dot16Debug.fmt.Goals as goal

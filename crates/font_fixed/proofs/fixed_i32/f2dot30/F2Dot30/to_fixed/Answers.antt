@@ -1,6 +1,5 @@
-use Rattle.std.proofs.Common.{rules, ◌≡◌, ◌∙◌, lit<, ℤ, pos, ◌+ℤ◌, arith, SFits, to_z, of_z}
+use Rattle.std.proofs.Common.{rules, ◌≡◌, ◌∙◌, lit<, ℤ, pos, ◌+ℤ◌, arith, SFits, to_z, of_z, w32}
 use Rattle.std.proofs.lemmas.Int.{ints, to_z-of_z}
-use Rattle.std.specs.Int.{w32}
 use lib.Signed.{shr_z}
 use Rattle.font_decimal.specs.Near.{up}
 use Rattle.font_decimal.proofs.Near.{up_gives}

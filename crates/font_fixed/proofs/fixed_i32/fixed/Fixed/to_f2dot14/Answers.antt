@@ -1,5 +1,4 @@
-use Rattle.std.proofs.Common.{rules, lit<, lit≤}
-use Rattle.std.specs.Int.{w16, w32}
+use Rattle.std.proofs.Common.{rules, lit<, lit≤, w16, w32}
 use Rattle.font_fixed.proofs.Narrowing.{narrowed_low_bits}
 use Rattle.font_fixed.proofs.fixed_i32.fixed.Fixed.to_f2dot14.Goals as goal
 

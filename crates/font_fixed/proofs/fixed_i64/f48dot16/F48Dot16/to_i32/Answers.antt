@@ -1,5 +1,4 @@
-use Rattle.std.proofs.Common.{rules, lit<, lit≤, refl}
-use Rattle.std.specs.Int.{w32, w64}
+use Rattle.std.proofs.Common.{rules, lit<, lit≤, refl, w32, w64}
 use Rattle.font_fixed.proofs.Narrowing.{narrowed_low_bits}
 use Rattle.font_fixed.proofs.fixed_i64.f48dot16.F48Dot16.to_i32.Goals as goal
 
