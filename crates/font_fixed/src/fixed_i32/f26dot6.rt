@@ -3,7 +3,7 @@
 
 ghost use Rattle.std.proofs.Common.{lit≤};
 ghost use Rattle.std.specs.Prelude.{◌≡◌, ◌^◌, ℤ, pos, ◌*ℤ◌};
-ghost use Rattle.font_base.specs.Wrap.{wrap};
+ghost use Rattle.font_base.specs.Wrap.{FitsBits, wrap};
 ghost use Rattle.font_fixed.specs.Operations.{IsNarrowed, IsProduct, IsQuotient};
 ghost use Rattle.font_fixed.specs.F26Dot6.{f26dot6_bits as bits_of};
 
@@ -57,7 +57,8 @@ impl F26Dot6 {
     #[must_use]
     #[inline(always)]
     pub const fn from_i32(number: i32) -> Self
-        ensures { bits_of result ≡ wrap 32 (number *ℤ pos (2 ^ 6)) }
+        ensures wrapped { bits_of result ≡ wrap 32 (number *ℤ pos (2 ^ 6)) }
+        ensures exact { FitsBits 26 number → bits_of result ≡ (number *ℤ pos (2 ^ 6)) }
     {
         Self(number.wrapping_mul(64))
     }

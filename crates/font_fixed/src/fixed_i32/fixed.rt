@@ -78,7 +78,8 @@ impl Fixed {
     #[must_use]
     #[inline(always)]
     pub const fn from_i32(number: i32) -> Self
-        ensures { bits_of result ≡ wrap 32 (number *ℤ pos (2 ^ 16)) }
+        ensures wrapped { bits_of result ≡ wrap 32 (number *ℤ pos (2 ^ 16)) }
+        ensures exact { FitsBits 16 number → bits_of result ≡ (number *ℤ pos (2 ^ 16)) }
     {
         Self(number.wrapping_mul(0x1_0000))
     }
