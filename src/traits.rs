@@ -1,6 +1,6 @@
-//! What Rust users expect and the proved source does not have, implemented by its calls: traits, a
-//! constant that Rattle has as a function, and an iterator that `collect` and its like know as
-//! they know a slice's.
+//! Traits that Rust users expect beyond the proved source, and that call it; a constant that is a
+//! function in Rattle; and an iterator that `collect`, `extend`, `rev` and `zip` treat as a
+//! slice's.
 
 use crate::{Align, DecimalFault, InvalidTag, Pad, TryFromGlyphIdError, TryFromUint24Error};
 use crate::{Matrix, MatrixElement, Predefined, Scalar, ScalarArray, ScalarArrayIter};
