@@ -82,11 +82,11 @@ static void check_64(int64_t x, int64_t y) {
 }
 
 int main(void) {
-    static const int64_t ends[] = {INT64_MIN,  INT64_MIN + 1, INT32_MIN, INT32_MIN + 1, INT16_MIN,
-                                   -98304,     -65536,        -32769,    -32767,        -1,
-                                   0,          1,             16384,     32767,         32768,
-                                   65535,      98304,         INT32_MAX, INT32_MAX - 1, INT64_MAX - 1,
-                                   INT64_MAX};
+    static const int64_t ends[] = {
+        INT64_MIN, INT64_MIN + 1, INT32_MIN, INT32_MIN + 1, INT16_MIN, -98304, -65536,
+        -32769,    -32767,        -1,        0,             1,         16384,  32767,
+        32768,     65535,         98304,     INT32_MAX - 1, INT32_MAX, INT64_MAX - 1, INT64_MAX,
+    };
     const size_t count = sizeof ends / sizeof ends[0];
     for (size_t i = 0; i < count; i++) {
         for (size_t j = 0; j < count; j++) {
