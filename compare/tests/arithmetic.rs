@@ -1,9 +1,7 @@
 //! Products, quotients, conversions and sums of deltas.
 
 use compare::{Random, assert_same, edges, sampled};
-use font_types_proved::{
-    F2Dot14, F48Dot16, FWord, Fixed, UfWord, checked_delta_sum, delta_sum, vary,
-};
+use font_types_proved::{DeltaSum, F2Dot14, F48Dot16, FWord, Fixed, UfWord, vary};
 
 fn products_of(a: i32, b: i32, c: i32) {
     assert_same!((a, b, c), |k| {
@@ -110,15 +108,16 @@ fn sums_of_deltas() {
         let base = random.u64() as i16;
         let terms = pairs.iter().map(|&[x, delta]| (Fixed::from_bits(x), delta));
         let terms: Vec<(Fixed, i32)> = terms.collect();
-        let mut wrapping = font_types::F48Dot16::ZERO;
+        let (mut sum, mut wrapping) = (DeltaSum::new(), font_types::F48Dot16::ZERO);
         for &[x, delta] in pairs {
+            sum.add(Fixed::from_bits(x), delta);
             wrapping += font_types::Fixed::from_bits(x).mul_i32(delta);
         }
-        assert_eq!(delta_sum(&terms).to_bits(), wrapping.to_bits(), "{pairs:?}");
+        assert_eq!(sum.finish().to_bits(), wrapping.to_bits(), "{pairs:?}");
         let product = |&[x, delta]: &[i32; 2]| i128::from(x) * i128::from(delta);
         let products = pairs.iter().map(product);
         let exact = Some(products.sum()).filter(|sum: &i128| i64::try_from(*sum).is_ok());
-        let checked = checked_delta_sum(&terms).map(|sum| i128::from(sum.to_bits()));
+        let checked = sum.checked_finish().map(|sum| i128::from(sum.to_bits()));
         assert_eq!(checked, exact, "{pairs:?}");
         let varied = exact.map(|sum| i128::from(base) * 65536 + sum);
         assert_eq!(vary(FWord::new(base), &terms), varied, "{base} {pairs:?}");

@@ -8,27 +8,31 @@ macro_rules! each_scalar {
         fn fields() {
             let mut random = Random::new(1);
             for _ in 0..50_000 {
-                let first = random.u64().to_be_bytes();
-                // One pair in four is equal.
-                let pair = [first, if random.below(4) == 0 { first } else { random.u64().to_be_bytes() }];
+                let pair = pair(&mut random);
                 $(assert_same!((stringify!($Type), pair), |k| {
                     #[allow(unused_imports)]
                     use k::*;
                     const LEN: usize = <$Type as k::FixedSize>::RAW_BYTE_LEN;
-                    let [first, second] = pair.map(|bytes| *bytes.first_chunk::<LEN>().expect("8 bytes"));
+                    let [first, second] = pair.map(|bytes| *bytes.first_chunk::<LEN>().unwrap());
                     let read = <$Type as k::Scalar>::read(&first).map(k::Scalar::to_raw);
                     let is_short = <$Type as k::Scalar>::read(&first[1..]).is_none();
                     let [x, y] = [first, second].map(k::BigEndian::<$Type>::new);
                     let mut set = x;
                     set.set(y.get());
-                    let bytes = [set, x.get().into()].map(|field| field.be_bytes().to_vec());
-                    let of_slice = k::BigEndian::<$Type>::from_slice(&first);
-                    let of_slice = of_slice.map(|field| field.be_bytes().to_vec());
-                    (LEN, read, is_short, x == y, x == x.get(), bytes, of_slice)
+                    let of_slice = k::BigEndian::<$Type>::from_slice(&first).unwrap();
+                    let fields = [set, x.get().into(), of_slice];
+                    let bytes = fields.map(|field| field.be_bytes().to_vec());
+                    (LEN, read, is_short, x == y, x == x.get(), bytes)
                 });)*
             }
         }
     };
+}
+
+/// Returns the bytes of two values; one pair in four is equal.
+fn pair(random: &mut Random) -> [[u8; 8]; 2] {
+    let [first, second] = [random.u64(), random.u64()].map(u64::to_be_bytes);
+    [first, if random.below(4) == 0 { first } else { second }]
 }
 
 each_scalar! {

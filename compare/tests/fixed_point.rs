@@ -136,12 +136,9 @@ fn sixty_four_bits() {
 
 #[test]
 #[ignore = "all of 2^32 values"]
-fn every_fixed() {
-    (i32::MIN..=i32::MAX).for_each(fixed::text_and_rounding);
-}
-
-#[test]
-#[ignore = "all of 2^32 values"]
-fn every_f26dot6() {
-    (i32::MIN..=i32::MAX).for_each(f26dot6::text_and_rounding);
+fn every_value_of_32_bits() {
+    for bits in i32::MIN..=i32::MAX {
+        fixed::text_and_rounding(bits);
+        f26dot6::text_and_rounding(bits);
+    }
 }

@@ -1,7 +1,6 @@
 //! Matrices, points and boxes of `Fixed`.
 
 use compare::{Random, assert_same};
-use font_types_proved::{Fixed, Matrix, Point, laws};
 use std::array::from_fn;
 
 #[test]
@@ -17,11 +16,6 @@ fn matrices() {
             let images = images.map(|p| [p.x, p.y].map(k::Fixed::to_bits));
             ((a * b).elements().map(k::Fixed::to_bits), images)
         });
-        let x = bits.map(Fixed::from_bits);
-        let [a, b] = [0, 6].map(|at| Matrix::from_elements(from_fn(|n| x[at + n])));
-        let p = Point::new(x[12], x[13]);
-        assert_eq!(laws::composed(a, b, p), (a * b) * p, "{bits:?}");
-        assert_eq!(laws::in_turn(a, b, p), a * (b * p), "{bits:?}");
     }
 }
 

@@ -57,14 +57,10 @@ fn ids_and_units_of_16_bits() {
     for n in 0..=u16::MAX {
         let i = n as i16;
         assert_same!(n, |k| {
-            let x = k::FWord::new(i);
-            let numbers = (x.to_i16(), i16::from(x), x.to_fixed().to_bits());
-            (numbers, x.to_be_bytes())
-        });
-        assert_same!(n, |k| {
-            let x = k::UfWord::new(n);
-            let numbers = (x.to_u16(), u16::from(x), x.to_fixed().to_bits());
-            (numbers, x.to_be_bytes())
+            let (x, y) = (k::FWord::new(i), k::UfWord::new(n));
+            let numbers = (x.to_i16(), i16::from(x), y.to_u16(), u16::from(y));
+            let fixed = [x.to_fixed(), y.to_fixed()].map(k::Fixed::to_bits);
+            (numbers, fixed, x.to_be_bytes(), y.to_be_bytes())
         });
         assert_same!(n, |k| {
             let id = k::GlyphId16::new(n);

@@ -89,20 +89,11 @@ fn decimal(numeral: i128, places: u32) -> String {
 }
 
 #[test]
-fn decimals_of_few_places() {
+fn decimals_of_up_to_30_places() {
     let mut random = Random::new(1);
     for of in types() {
         for _ in 0..100_000 {
             of.check_with_f64(&decimal(random.i32().into(), random.below(6) as u32));
-        }
-    }
-}
-
-#[test]
-fn decimals_of_up_to_30_places() {
-    let mut random = Random::new(2);
-    for of in types() {
-        for _ in 0..100_000 {
             let numeral = i128::from(random.signed(64)) << 30 ^ i128::from(random.i32());
             of.check(&decimal(numeral, random.below(31) as u32));
         }
@@ -111,7 +102,7 @@ fn decimals_of_up_to_30_places() {
 
 #[test]
 fn ties() {
-    let mut random = Random::new(3);
+    let mut random = Random::new(2);
     for of in types() {
         // One more on each side, out of range.
         let every = (-(1 << 15) - 1..=1 << 15).filter(|_| of.exact.width == 16);
@@ -131,7 +122,7 @@ fn ties() {
 /// Ties and the decimals next to them, with zeros in front.
 #[test]
 fn texts_of_up_to_5000_digits() {
-    let mut random = Random::new(4);
+    let mut random = Random::new(3);
     for of in types() {
         for _ in 0..500 {
             let (numeral, places) = of.tie_above(of.some_bits(&mut random));
@@ -155,7 +146,7 @@ fn texts_of_up_to_5000_digits() {
 #[test]
 fn texts_with_characters_replaced() {
     const PIECES: [&str; 10] = ["", ".", "-", "+", "e", " ", "0", "7", "_", "\u{660}"];
-    let mut random = Random::new(5);
+    let mut random = Random::new(4);
     for of in types() {
         for _ in 0..100_000 {
             let numeral = i128::from(random.i32() >> 16);

@@ -1,9 +1,10 @@
 //! The replacements of calls of `font-types` in docs/PORTING.md, against these calls, for each type
 //! that has them.
 
+use compare::edges;
 use font_types as there;
 use font_types_proved as here;
-use here::{DeltaSum, IdentityEq, InvalidTag, Pad, ScalarArray};
+use here::{IdentityEq, InvalidTag, Pad, ScalarArray};
 
 /// Returns the nearest integer, half away from zero, without `std`.
 fn nearest(x: f64) -> i64 {
@@ -12,12 +13,10 @@ fn nearest(x: f64) -> i64 {
     integer + i64::from(rest >= 0.5) - i64::from(rest <= -0.5)
 }
 
-/// Returns the raw values near the limits, zero and the powers of two.
-fn raws(width: u32) -> impl Iterator<Item = i64> {
-    let near = |power: u32| [-2, -1, 0, 1, 2].map(|near| (1i64 << power).wrapping_add(near));
-    let raws = (0..width).flat_map(near);
-    let raws = raws.flat_map(|raw| [raw, raw.wrapping_neg()]);
-    raws.map(move |raw| raw << (64 - width) >> (64 - width))
+/// Returns the raw values of `edges` that an f64 holds with two more binary places.
+fn exact_floats(width: u32) -> impl Iterator<Item = i64> {
+    let edges = edges(width).into_iter();
+    edges.filter(|raw| raw.unsigned_abs() < 1 << 50)
 }
 
 /// The rows about fixed-point numbers, for each type, with its raw integer and its fraction bits.
@@ -26,7 +25,7 @@ macro_rules! of_each_type {
         #[test]
         fn floats() {
             const STEP: [f64; 5] = [-0.5, -0.25, 0.0, 0.25, 0.5];
-            $(for raw in raws($bits::BITS).filter(|raw| raw.unsigned_abs() < 1 << 50) {
+            $(for raw in exact_floats($bits::BITS) {
                 let x = here::$Type::from_bits(raw as $bits);
                 let one = f64::from(1 << $f);
                 // `from_f64(v)`, `from_f32(v)`.
@@ -49,16 +48,17 @@ macro_rules! of_each_type {
 
         #[test]
         fn flags() {
-            $(for raw in raws($bits::BITS) {
+            $(for raw in edges($bits::BITS) {
                 let x = here::$Type::from_bits(raw as $bits);
                 let y = there::$Type::from_bits(raw as $bits);
                 // Here flags are ignored.
                 assert_eq!(format!("{x:+} {x:50} {x:.2}"), format!("{x} {x} {x}"));
                 // `{:30}` and `{:+030}`.
                 let zeros = Pad { plus: true, zeros: true, ..Pad::new(30) };
-                for (pad, text) in [(Pad::new(30), format!("{y:30}")), (zeros, format!("{y:+030}"))] {
+                let texts = [format!("{y:30}"), format!("{y:+030}")];
+                for (pad, text) in [Pad::new(30), zeros].iter().zip(texts) {
                     let mut out = [0; 30];
-                    assert_eq!(x.write_padded(&mut out, &pad), Some(30));
+                    assert_eq!(x.write_padded(&mut out, pad), Some(30));
                     assert_eq!(out, *text.as_bytes());
                 }
             })*
@@ -79,7 +79,7 @@ of_each_type! {
 #[test]
 fn deltas() {
     let step = |power: u32| (1u64 << power) as f64;
-    for raw in raws(20) {
+    for raw in edges(20) {
         let delta = here::F48Dot16::from_bits(raw);
         let other = there::F48Dot16::from_bits(raw);
         let moved = [
@@ -103,17 +103,6 @@ fn deltas() {
         let here = here::FWord::round_delta(moved[0]).map(here::FWord::to_i16);
         assert_eq!(here, Some(rounded), "{raw}");
     }
-}
-
-#[test]
-fn sums() {
-    let (mut here, mut there) = (DeltaSum::new(), there::F48Dot16::ZERO);
-    for (raw, delta) in [(0x18000, 100), (-0x10000, 30), (i32::MIN, i32::MIN)] {
-        here.add(here::Fixed::from_bits(raw), delta);
-        there += there::Fixed::from_bits(raw).mul_i32(delta);
-    }
-    assert_eq!(here.finish().to_bits(), there.to_bits());
-    assert_eq!(here.checked_finish(), Some(here.finish()));
 }
 
 #[test]

@@ -1,4 +1,4 @@
-//! Tags: both checks, text and order.
+//! Tags: checks, parsing, text and order.
 
 use compare::{Random, assert_same, sampled};
 
@@ -7,6 +7,12 @@ fn assert_same_check(bytes: &[u8]) {
         let tag = k::Tag::new_checked(bytes).map(k::Tag::to_be_bytes);
         tag.map_err(|error| format!("{error:?}"))
     });
+    if let Ok(text) = str::from_utf8(bytes) {
+        assert_same!(text, |k| {
+            let tag = text.parse::<k::Tag>().map(k::Tag::to_be_bytes);
+            tag.map_err(|error| format!("{error:?}"))
+        });
+    }
 }
 
 fn assert_same_tag(number: u32) {
@@ -59,21 +65,8 @@ fn every_three_bytes() {
 }
 
 #[test]
-fn parsing() {
-    let mut random = Random::new(3);
-    for _ in 0..500_000 {
-        let bytes = [0; 6].map(|_| b' ' + random.below(95) as u8);
-        let text = str::from_utf8(&bytes[..random.below(7) as usize]).expect("ASCII");
-        assert_same!(text, |k| {
-            let tag = text.parse::<k::Tag>().map(k::Tag::to_be_bytes);
-            tag.map_err(|error| format!("{error:?}"))
-        });
-    }
-}
-
-#[test]
 fn text_order_and_numbers() {
-    let mut random = Random::new(4);
+    let mut random = Random::new(3);
     for _ in 0..500_000 {
         let [a, b] = [0; 2].map(|_| random.u64() as u32);
         assert_same!((a, b), |k| {
