@@ -256,24 +256,20 @@ fn sums_of_deltas() {
 
 #[test]
 fn applied_deltas() {
-    for (base, delta) in [
-        (i16::MIN, i64::MIN),
-        (-1, 0),
-        (-1, -1),
-        (0, 0),
-        (i16::MAX, i64::MAX),
-    ] {
-        let x = F48Dot16::from_bits(delta);
-        let exact = |base: i128| base * 0x1_0000 + i128::from(delta);
-        let (signed, unsigned) = (exact(base.into()), exact((base as u16).into()));
-        assert_eq!(FWord::new(base).apply_delta(x), signed, "{base} {delta}");
-        let found = F2Dot14::from_bits(base).apply_delta(x);
-        assert_eq!(found, signed, "{base} {delta}");
-        let found = UfWord::new(base as u16).apply_delta(x);
-        assert_eq!(found, unsigned, "{base} {delta}");
-        let fixed = i32::from(base) << 16;
-        let found = Fixed::from_bits(fixed).apply_delta(x);
-        assert_eq!(found, exact(fixed.into()), "{base} {delta}");
+    for base in [i16::MIN, -1, 0, i16::MAX] {
+        let (unsigned, fixed) = (base as u16, i32::from(base) << 16);
+        for delta in [i64::MIN, -1, 0, i64::MAX] {
+            let x = F48Dot16::from_bits(delta);
+            let found = [
+                FWord::new(base).apply_delta(x),
+                F2Dot14::from_bits(base).apply_delta(x),
+                UfWord::new(unsigned).apply_delta(x),
+                Fixed::from_bits(fixed).apply_delta(x),
+            ];
+            let bases = [base.into(), base.into(), unsigned.into(), i128::from(fixed)];
+            let exact = bases.map(|base| base * 0x1_0000 + i128::from(delta));
+            assert_eq!(found, exact, "{base} {delta}");
+        }
     }
 }
 

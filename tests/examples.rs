@@ -37,28 +37,28 @@ fn cmap() -> Vec<u8> {
     words(&[&encodings[..], &format_4, &format_12].concat())
 }
 
-/// Two regions of one axis, and two delta sets: one of a word and a byte, by a map of glyphs.
-fn hvar() -> Vec<u8> {
-    let header = [1, 0, 0, 20, 0, 66, 0, 0, 0, 0];
+/// The words of a table of two regions of one axis, followed by a delta set. The map of glyphs is
+/// at an offset.
+fn variations(map: u16, data: &[u16]) -> Vec<u16> {
+    let header = [1, 0, 0, 20, 0, map, 0, 0, 0, 0];
     let store = [1, 0, 12, 1, 0, 28];
     let regions = [1, 2, 0, 0x4000, 0x4000, 0, 0x1000, 0x4000];
-    let data = [2, 1, 2, 0, 1, 300, 0x0A14, 0, 0];
-    let mut table = words(&[&header[..], &store, &regions, &data].concat());
+    [&header[..], &store, &regions, data].concat()
+}
+
+/// Two delta sets, each of a word and a byte, and a map of format 0.
+fn hvar() -> Vec<u8> {
+    let mut table = words(&variations(66, &[2, 1, 2, 0, 1]));
     // Rows of a word and a byte.
-    table.truncate(20 + 28 + 10);
     table.extend([0, 100, -30i8 as u8, 0, 0, 0, 0, 0]);
     table.extend([0, 0, 0, 2, 0, 1]);
     table
 }
 
-/// The same regions, and one delta set of a long word and a word, by a map of format 1.
+/// One delta set of a long word and a word, and a map of format 1.
 fn long_hvar() -> Vec<u8> {
-    let header = [1, 0, 0, 20, 0, 64, 0, 0, 0, 0];
-    let store = [1, 0, 12, 1, 0, 28];
-    let regions = [1, 2, 0, 0x4000, 0x4000, 0, 0x1000, 0x4000];
     let data = [1, 0x8001, 2, 0, 1, 0, 60000, -300i16 as u16];
-    let map = [0x0100, 0, 2, 0];
-    words(&[&header[..], &store, &regions, &data, &map].concat())
+    words(&[variations(64, &data), vec![0x0100, 0, 2, 0]].concat())
 }
 
 /// A name for Windows.
@@ -143,12 +143,8 @@ a: no glyph
 fn read(bytes: &[u8]) -> Option<()> {
     let places = [Fixed::MIN, Fixed::ZERO, Fixed::from_i32(650), Fixed::MAX];
     let font = dump::font::Font::new(bytes)?;
-    dump(
-        &font,
-        "\n\u{15}\u{99}\u{9A}😀\u{1F610}a",
-        &mut String::new(),
-    )
-    .unwrap();
+    let characters = "\n\u{15}\u{99}\u{9A}😀\u{1F610}a";
+    dump(&font, characters, &mut String::new()).unwrap();
     let font = instance::font::Font::new(bytes)?;
     for place in places {
         let at = |index| normalized(&font, index, place).unwrap_or_default();
@@ -166,9 +162,7 @@ fn mutated_fonts() {
     let fonts = [font(hvar()), font(long_hvar())];
     let mut state = 1u64;
     let mut random = |below: usize| {
-        state = state
-            .wrapping_mul(6364136223846793005)
-            .wrapping_add(1442695040888963407);
+        state = state.wrapping_mul(6364136223846793005).wrapping_add(1);
         (state >> 33) as usize % below
     };
     for n in 0..3000 {
@@ -177,11 +171,8 @@ fn mutated_fonts() {
         for _ in 0..=random(4) {
             let (place, len) = (random(bytes.len()), 1 + random(8));
             let byte = [0, 0x7F, 0x80, 0xFF, random(256) as u8][random(5)];
-            bytes
-                .iter_mut()
-                .skip(place)
-                .take(len)
-                .for_each(|old| *old = byte);
+            let end = bytes.len().min(place + len);
+            bytes[place..end].fill(byte);
         }
         read(&bytes);
     }

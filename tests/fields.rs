@@ -103,9 +103,6 @@ fn uint24() {
     }
     assert_eq!([Uint24::MIN, Uint24::MAX], [0, max].map(Uint24::new));
     assert_eq!(Uint24::default(), Uint24::MIN);
-    let error = Uint24::try_from(1usize << 24).unwrap_err();
-    let right = "failed to convert usize value into Uint24. TryFromUint24Error";
-    assert_eq!(format!("{error} {error:?}"), right);
     assert_eq!(format!("{0:>4}{0:02}", Uint24::new(7)), "   707");
 }
 
@@ -190,43 +187,12 @@ fn long_array() {
     assert_eq!(array.values().map(u64::from).sum::<u64>(), 69_999 * 35_000);
 }
 
-/// A scalar of zero bytes; only an empty array has such elements.
-#[derive(Clone, Copy, PartialEq, Debug)]
-struct Empty;
-
-impl FixedSize for Empty {
-    const RAW_BYTE_LEN: usize = 0;
-}
-
-impl Scalar for Empty {
-    type Raw = [u8; 0];
-
-    fn from_raw(_: [u8; 0]) -> Self {
-        Self
-    }
-
-    fn to_raw(self) -> [u8; 0] {
-        []
-    }
-}
-
-#[test]
-fn zero_byte_scalar() {
-    assert!(ScalarArray::<Empty>::new(&[1]).is_none());
-    let array = ScalarArray::<Empty>::new(&[]).unwrap();
-    let found = (array.len(), array.get(0), array.iter().next());
-    assert_eq!(found, (0, None, None));
-    let found = (array.values().len(), array.values().next_back());
-    assert_eq!(found, (0, None));
-    assert_eq!(Empty::read(&[]), Some(Empty));
-}
-
 /// Raw bytes of a caller's scalar.
 #[derive(Clone, Copy)]
-struct Five([u8; 5]);
+struct Bytes<const N: usize>([u8; N]);
 
-impl BeByteArray for Five {
-    const LEN: usize = 5;
+impl<const N: usize> BeByteArray for Bytes<N> {
+    const LEN: usize = N;
 
     fn from_slice(slice: &[u8]) -> Option<Self> {
         slice.try_into().ok().map(Self)
@@ -237,28 +203,28 @@ impl BeByteArray for Five {
     }
 }
 
-/// A caller's scalar.
+/// A caller's scalar of any number of bytes.
 #[derive(Clone, Copy, PartialEq, Debug)]
-struct Record([u8; 5]);
+struct Record<const N: usize>([u8; N]);
 
-impl FixedSize for Record {
-    const RAW_BYTE_LEN: usize = 5;
+impl<const N: usize> FixedSize for Record<N> {
+    const RAW_BYTE_LEN: usize = N;
 }
 
-impl Scalar for Record {
-    type Raw = Five;
+impl<const N: usize> Scalar for Record<N> {
+    type Raw = Bytes<N>;
 
-    fn from_raw(raw: Five) -> Self {
+    fn from_raw(raw: Bytes<N>) -> Self {
         Self(raw.0)
     }
 
-    fn to_raw(self) -> Five {
-        Five(self.0)
+    fn to_raw(self) -> Bytes<N> {
+        Bytes(self.0)
     }
 }
 
 #[test]
-fn caller_defined_raw_bytes() {
+fn caller_defined_scalar() {
     assert_stored(Record(*b"abcde"), b"abcde");
     for n in 0..5 {
         let mut other = *b"abcde";
@@ -266,6 +232,18 @@ fn caller_defined_raw_bytes() {
         let found = BigEndian::from(Record(*b"abcde"));
         assert_ne!(found, BigEndian::from(Record(other)), "{n}");
     }
+}
+
+// Only an empty array has elements of zero bytes.
+#[test]
+fn zero_byte_scalar() {
+    assert!(ScalarArray::<Record<0>>::new(&[1]).is_none());
+    let array = ScalarArray::<Record<0>>::new(&[]).unwrap();
+    let found = (array.len(), array.get(0), array.iter().next());
+    assert_eq!(found, (0, None, None));
+    let found = (array.values().len(), array.values().next_back());
+    assert_eq!(found, (0, None));
+    assert_eq!(Record::<0>::read(&[]), Some(Record([])));
 }
 
 #[test]

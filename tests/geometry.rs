@@ -15,28 +15,28 @@ fn mark(left: Mark, operator: u64, right: Mark) -> Mark {
 }
 
 macro_rules! operators {
-    ($($Trait:ident $method:ident $Assign:ident $assign:ident $operator:literal;)*) => {$(
-        impl $Trait for Mark {
+    ($Element:ident: $($Trait:ident $method:ident $Assign:ident $assign:ident $call:expr;)*) => {$(
+        impl $Trait for $Element {
             type Output = Self;
 
             fn $method(self, other: Self) -> Self {
-                mark(self, $operator, other)
+                $call(self, other)
             }
         }
 
-        impl $Assign for Mark {
+        impl $Assign for $Element {
             fn $assign(&mut self, other: Self) {
-                *self = mark(*self, $operator, other);
+                *self = $call(*self, other);
             }
         }
     )*};
 }
 
-operators! {
-    Add add AddAssign add_assign 1;
-    Sub sub SubAssign sub_assign 2;
-    Mul mul MulAssign mul_assign 3;
-    Div div DivAssign div_assign 4;
+operators! { Mark:
+    Add add AddAssign add_assign |x, y| mark(x, 1, y);
+    Sub sub SubAssign sub_assign |x, y| mark(x, 2, y);
+    Mul mul MulAssign mul_assign |x, y| mark(x, 3, y);
+    Div div DivAssign div_assign |x, y| mark(x, 4, y);
 }
 
 impl Neg for Mark {
@@ -163,20 +163,9 @@ fn laws_of_matrices() {
 #[derive(Clone, Copy, PartialEq, Debug)]
 struct Wrapping(u32);
 
-impl Add for Wrapping {
-    type Output = Self;
-
-    fn add(self, other: Self) -> Self {
-        Self(self.0.wrapping_add(other.0))
-    }
-}
-
-impl Mul for Wrapping {
-    type Output = Self;
-
-    fn mul(self, other: Self) -> Self {
-        Self(self.0.wrapping_mul(other.0))
-    }
+operators! { Wrapping:
+    Add add AddAssign add_assign |x: Self, y: Self| Self(x.0.wrapping_add(y.0));
+    Mul mul MulAssign mul_assign |x: Self, y: Self| Self(x.0.wrapping_mul(y.0));
 }
 
 impl MatrixElement for Wrapping {

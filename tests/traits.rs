@@ -72,20 +72,31 @@ fn iterators() {
 
 #[test]
 fn errors() {
-    fn text<T: Error + Copy + Send + Sync + 'static>(error: T) -> String {
-        Box::<dyn Error>::from(error).to_string()
+    fn texts<T: Error + Copy + Send + Sync + 'static>(error: T) -> String {
+        format!("{} {error:?}", Box::<dyn Error>::from(error))
     }
     let error = |id| GlyphId16::try_from(GlyphId::new(id)).unwrap_err();
     assert!(error(70_000) == error(70_000) && error(70_000) != error(70_001));
-    let found = text(error(70_000));
-    assert_eq!(found, "glyph identifier 70000 too large for conversion");
-    let found = text(Uint24::try_from(1usize << 24).unwrap_err());
-    assert_eq!(found, "failed to convert usize value into Uint24.");
-    assert_eq!(text(DecimalFault::Syntax), "not a decimal number");
-    assert_eq!(text(DecimalFault::OutOfRange), "number out of range");
-    assert_eq!(text(InvalidTag::InvalidLength(9)), "Invalid length (9)");
-    let found = [DecimalFault::Syntax, DecimalFault::OutOfRange];
-    assert_eq!(found.map(|fault| fault as i32), [1, 2]);
+    let found = [
+        texts(error(70_000)),
+        texts(Uint24::try_from(1usize << 24).unwrap_err()),
+        texts(DecimalFault::Syntax),
+        texts(DecimalFault::OutOfRange),
+        texts(InvalidTag::InvalidLength(9)),
+        texts(InvalidTag::InvalidByte { pos: 3, byte: 0xAB }),
+        texts(InvalidTag::ByteAfterSpace { pos: 2 }),
+    ];
+    let right = "\
+glyph identifier 70000 too large for conversion TryFromGlyphIdError(70000)
+failed to convert usize value into Uint24. TryFromUint24Error
+not a decimal number Syntax
+number out of range OutOfRange
+Invalid length (9) InvalidLength(9)
+Invalid byte 0xAB at index 3 InvalidByte { pos: 3, byte: 171 }
+Non-space character after first space ByteAfterSpace { pos: 2 }";
+    assert_eq!(found.join("\n"), right);
+    let codes = [DecimalFault::Syntax, DecimalFault::OutOfRange];
+    assert_eq!(codes.map(|fault| fault as i32), [1, 2]);
 }
 
 #[test]
