@@ -11,11 +11,17 @@ fn nearest(n: i128, d: i128) -> i128 {
     (2 * n.abs() + d.abs()) / (2 * d.abs()) * n.signum() * d.signum()
 }
 
-/// Returns the raw values next to the limits of a type, to zero, one half and one.
-fn edges(min: i128, max: i128, one: i128) -> Vec<i128> {
-    let near = [min, -one, -one / 2, 0, one / 2, one, max].map(|n| [n - 1, n, n + 1]);
-    let edges = near.into_iter().flatten();
-    edges.filter(|n| (min..=max).contains(n)).collect()
+/// Returns the signed integer of a width that is `n` modulo 2^width.
+fn wrapped(n: i128, width: u32) -> i128 {
+    n << (128 - width) >> (128 - width)
+}
+
+/// Returns the integers of a width next to zero, to the limits and to the powers of two: one, one
+/// half, and the ties of conversions are among them.
+fn integers(width: u32) -> impl Iterator<Item = i128> {
+    let near = |power: u32| [-1, 0, 1].map(|near| (1i128 << power) + near);
+    let integers = (0..width).flat_map(near).flat_map(|n| [n, -n]);
+    integers.filter(move |n| wrapped(*n, width) == *n)
 }
 
 macro_rules! fixed_point_types {
@@ -27,13 +33,13 @@ macro_rules! fixed_point_types {
             let ends = [$Type::MIN, $Type::MAX, $Type::EPSILON, $Type::ZERO, $Type::NEG_ONE];
             assert_eq!(ends, [min, max, 1, 0, -one].map(of));
             assert_eq!([$Type::ONE, $Type::default()], [of(one), $Type::ZERO]);
-            for x in edges(min, max, one) {
+            for x in integers($bits::BITS) {
                 let rounded = (x + one / 2).div_euclid(one) * one;
                 let right = [rounded, x.div_euclid(one) * one, x.rem_euclid(one), x.abs(), -x];
                 let found = [of(x).round(), of(x).floor(), of(x).fract(), of(x).abs(), -of(x)];
                 assert_eq!(found, right.map(of), "round, floor, fract, abs, - of {x}");
                 assert_eq!(of(x).to_be_bytes(), (x as $bits).to_be_bytes(), "{x}");
-                for y in edges(min, max, one) {
+                for y in integers($bits::BITS) {
                     let [mut sum, mut difference] = [of(x); 2];
                     sum += of(y);
                     difference -= of(y);
@@ -76,11 +82,12 @@ fn mul_div(x: i32, a: i32, c: i32) -> i32 {
 }
 
 /// Returns the raw values whose products and quotients are tested.
-fn factors() -> Vec<i32> {
-    let edges = edges(i32::MIN.into(), i32::MAX.into(), 1 << 16);
-    let edges = edges.into_iter().map(|n| n as i32);
-    let more = [3, 7, 64, 65, 0x4000_0001, 0x2000_0003, 0x1234_5678];
-    edges.chain(more).chain(more.map(|n| -n)).collect()
+fn factors() -> impl Iterator<Item = i32> {
+    let factors = [
+        0, 3, 7, 64, 0x7FFF, 0x8000, 0xFFFF, 0x1_0000, 0x123_4567, 0x20000003, 0x40000001,
+    ];
+    let factors = factors.into_iter().chain([i32::MAX]);
+    factors.flat_map(|n| [n, -n, !n])
 }
 
 fn assert_products<T>(of: fn(i32) -> T, f: u32)
@@ -126,96 +133,55 @@ fn mul_div_and_mul_i32() {
     assert_eq!(step_and_halves(), (Fixed::EPSILON, Fixed::ZERO));
 }
 
-// Rounding wraps: the half is added before the shift, as in `font-types`.
+/// Returns the integer nearest to `n / d`, half up, wrapped to a width.
+fn half_up(n: i128, d: i128, width: u32) -> i128 {
+    wrapped((2 * n + d).div_euclid(2 * d), width)
+}
+
 #[test]
-fn fixed_to_narrower() {
-    for (bits, integer, f26dot6, f2dot14) in [
-        (0x1_8000, 2, 0x60, 0x6000),
-        (-0x1_8000, -1, -0x60, -0x6000),
-        (0x7FFF, 0, 0x20, 0x2000),
-        (0x8000, 1, 0x20, 0x2000),
-        (0x200, 0, 1, 0x80),
-        (0x1FF, 0, 0, 0x80),
-        (2, 0, 0, 1),
-        (1, 0, 0, 0),
-        (-2, 0, 0, 0),
-        (-3, 0, 0, -1),
-        (-0x8001, -1, -0x20, -0x2000),
-        (i32::MAX, -0x8000, -0x20_0000, 0),
-        (i32::MIN, -0x8000, -0x20_0000, 0),
-    ] {
+fn conversions_to_fewer_bits() {
+    for n in integers(32) {
+        let bits = n as i32;
+        let exact = |d: i128, width: u32| half_up(n, d, width) as i32;
         let x = Fixed::from_bits(bits);
-        assert_eq!(x.to_i32(), integer, "{bits}");
-        assert_eq!(x.to_f26dot6().to_bits(), f26dot6, "{bits}");
-        assert_eq!(x.to_f2dot14().to_bits(), f2dot14, "{bits}");
-        assert_eq!(x.to_f48dot16().to_bits(), bits.into());
-    }
-}
-
-#[test]
-fn integers_to_fixed_point() {
-    for n in [-1, 0x8000, -0x8001, 1 << 25, i32::MAX, i32::MIN] {
-        let found = [Fixed::from_i32(n).to_bits(), F26Dot6::from_i32(n).to_bits()];
-        assert_eq!(found, [0x1_0000, 64].map(|one| n.wrapping_mul(one)), "{n}");
-        assert_eq!(Fixed::from(n), Fixed::from_i32(n));
-        let (exact, far) = (i64::from(n) << 16, i64::from(n) << 31);
-        assert_eq!(F48Dot16::from_i32(n).to_bits(), exact, "{n}");
-        assert_eq!(F48Dot16::from_i64(far).to_bits(), far << 16, "{far}");
-    }
-}
-
-#[test]
-fn fixed_point_to_integers() {
-    for (bits, integer) in [
-        (95, 1),
-        (96, 2),
-        (-96, -1),
-        (-97, -2),
-        (i32::MAX, -0x200_0000),
-    ] {
-        assert_eq!(F26Dot6::from_bits(bits).to_i32(), integer, "{bits}");
-    }
-    for (bits, integer) in [
-        (0x7FFF, 0),
-        (0x8000, 1),
-        (-0x8000, 0),
-        (-0x8001, -1),
-        (0x8000_0000_8000, 0x8000_0001),
-        (i64::MAX, -0x8000_0000_0000),
-    ] {
-        let x = F48Dot16::from_bits(bits);
-        let found = (x.to_i64(), x.to_i32());
-        assert_eq!(found, (integer, integer as i32), "{bits}");
-        assert_eq!(x.to_fixed().to_bits(), bits as i32, "{bits}");
-    }
-}
-
-#[test]
-fn f2dot14_and_f2dot30() {
-    for bits in [1, -1, 0x2000, i16::MAX, i16::MIN] {
-        let (x, wide) = (F2Dot14::from_bits(bits), i32::from(bits));
-        assert_eq!(x.to_fixed(), Fixed::from_bits(4 * wide), "{bits}");
-        assert_eq!(Fixed::from(x), x.to_fixed(), "{bits}");
-        let longer = F2Dot30::from_f2dot14(x);
-        let found = [longer, x.into()];
-        assert_eq!(found, [F2Dot30::from_bits(wide << 16); 2], "{bits}");
-    }
-    for (bits, fixed, f2dot14) in [
-        (0x2000, 1, 0),
-        (0x1FFF, 0, 0),
-        (-0x2000, 0, 0),
-        (-0x2001, -1, 0),
-        (0x8000, 2, 1),
-        (i32::MAX, 0x2_0000, i16::MIN),
-        (i32::MIN, -0x2_0000, i16::MIN),
-    ] {
+        assert_eq!(x.to_i32(), exact(1 << 16, 16), "{bits}");
+        assert_eq!(x.to_f26dot6().to_bits(), exact(1 << 10, 22), "{bits}");
+        assert_eq!(i32::from(x.to_f2dot14().to_bits()), exact(4, 16), "{bits}");
+        assert_eq!(F26Dot6::from_bits(bits).to_i32(), exact(64, 26), "{bits}");
         let x = F2Dot30::from_bits(bits);
-        let found = (x.to_fixed().to_bits(), x.to_f2dot14().to_bits());
-        assert_eq!(found, (fixed, f2dot14), "{bits}");
+        assert_eq!(x.to_fixed().to_bits(), exact(1 << 14, 32), "{bits}");
+        assert_eq!(
+            i32::from(x.to_f2dot14().to_bits()),
+            exact(1 << 16, 16),
+            "{bits}"
+        );
     }
-    for (bits, longer) in [(1, 1 << 14), (0x1_FFFF, 0x7FFF_C000), (0x2_0000, i32::MIN)] {
-        let x = F2Dot30::from_fixed(Fixed::from_bits(bits));
-        assert_eq!(x.to_bits(), longer, "{bits}");
+    for n in integers(64) {
+        let x = F48Dot16::from_bits(n as i64);
+        let integer = half_up(n, 1 << 16, 48) as i64;
+        assert_eq!((x.to_i64(), x.to_i32()), (integer, integer as i32), "{n}");
+        assert_eq!(x.to_fixed().to_bits(), n as i32, "{n}");
+    }
+}
+
+#[test]
+fn conversions_to_more_bits() {
+    for n in integers(16) {
+        let (x, wide) = (F2Dot14::from_bits(n as i16), n as i32);
+        assert_eq!([x.to_fixed(), x.into()], [Fixed::from_bits(4 * wide); 2]);
+        let found = [F2Dot30::from_f2dot14(x), x.into()];
+        assert_eq!(found, [F2Dot30::from_bits(wide << 16); 2], "{n}");
+    }
+    for n in integers(32).map(|n| n as i32) {
+        let (integer, x, wide) = (Fixed::from_i32(n), Fixed::from_bits(n), i64::from(n));
+        assert_eq!([integer, n.into()], [Fixed::from_bits(n << 16); 2]);
+        assert_eq!(F26Dot6::from_i32(n).to_bits(), n << 6, "{n}");
+        assert_eq!(F2Dot30::from_fixed(x).to_bits(), n << 14, "{n}");
+        assert_eq!(x.to_f48dot16().to_bits(), wide, "{n}");
+        assert_eq!(F48Dot16::from_i32(n).to_bits(), wide << 16, "{n}");
+    }
+    for n in integers(64).map(|n| n as i64) {
+        assert_eq!(F48Dot16::from_i64(n).to_bits(), n << 16, "{n}");
     }
 }
 
