@@ -60,29 +60,26 @@ fn ids_and_units_of_16_bits() {
             let (x, y) = (k::FWord::new(i), k::UfWord::new(n));
             let numbers = (x.to_i16(), i16::from(x), y.to_u16(), u16::from(y));
             let fixed = [x.to_fixed(), y.to_fixed()].map(k::Fixed::to_bits);
-            (numbers, fixed, x.to_be_bytes(), y.to_be_bytes())
+            let bytes = [x.to_be_bytes(), y.to_be_bytes()];
+            (numbers, fixed, bytes, format!("{x} {x:+} {y:>7}"))
         });
         assert_same!(n, |k| {
             let id = k::GlyphId16::new(n);
             let wide = (id.to_u32(), usize::from(id), k::GlyphId::from(id) == id);
-            (id.to_u16(), wide, id.to_be_bytes())
+            (id.to_u16(), wide, id.to_be_bytes(), id.to_string())
         });
         assert_same!(n, |k| {
             let id = k::NameId::new(n);
             let sums = [0, 1, n, 32767 - n % 32768, u16::MAX];
             let sums = sums.map(|more| id.checked_add(more).map(k::NameId::to_u16));
             let place = k::NameId::predefined().position(|other| other == id);
-            (id.to_u16(), id.is_reserved(), sums, id.to_be_bytes(), place)
+            let number = (id.to_u16(), id.is_reserved(), id.to_be_bytes());
+            (number, sums, place, format!("{id} {id:?}"))
         });
         assert_same!(n, |k| {
             let offset = k::Offset16::new(n);
             let order = (offset == 7, offset < k::Offset16::new(300));
             (offset.to_u32(), offset.is_null(), order)
-        });
-        assert_same!(n, |k| {
-            let (x, y) = (k::FWord::new(i), k::UfWord::new(n));
-            let (id, name) = (k::GlyphId16::new(n), k::NameId::new(n));
-            format!("{x} {x:+} {y:>7} {id} {name} {name:?}")
         });
     }
 }
@@ -100,7 +97,8 @@ fn versions_ids_and_dates() {
             let [x, y] = [m, n].map(of);
             let new = k::Version16Dot16::new(a, b);
             let bytes = (x.to_be_bytes(), new.to_be_bytes());
-            (x.to_major_minor(), bytes, x == y, x.cmp(&y))
+            let text = format!("{new} {new:?}");
+            (x.to_major_minor(), bytes, x == y, x.cmp(&y), text)
         });
         assert_same!((m, n), |k| {
             use k::Compatible;
@@ -113,18 +111,15 @@ fn versions_ids_and_dates() {
         });
         assert_same!((m, n), |k| {
             let (v, w) = (k::MajorMinor::new(a, b), k::MajorMinor::new(c, d));
-            (v.major, v.minor, v.to_be_bytes(), v == w, v.cmp(&w))
+            let numbers = (v.major, v.minor, v.to_be_bytes());
+            (numbers, v == w, v.cmp(&w), format!("{v} {v:?}"))
         });
         assert_same!((m, n), |k| {
             let (wide, narrow) = (k::GlyphId::new(m), k::GlyphId16::new(d));
-            let narrowed = k::GlyphId16::try_from(wide).map_err(|error| error.to_string());
             let order = (wide.partial_cmp(&narrow), narrow.partial_cmp(&wide));
-            (
-                narrowed.map(|id| id.to_u16()),
-                order,
-                wide == narrow,
-                u32::from(wide),
-            )
+            let narrowed = k::GlyphId16::try_from(wide).map(u32::from);
+            let narrowed = narrowed.map_err(|error| error.to_string());
+            (narrowed, order, wide == narrow, wide.to_string())
         });
         assert_same!((m, n), |k| {
             let [x, y] = [m, n].map(k::Offset32::new);
@@ -136,11 +131,6 @@ fn versions_ids_and_dates() {
             let date = k::LongDateTime::new(seconds);
             let order = date.cmp(&k::LongDateTime::new(0));
             (date.as_secs(), date.to_be_bytes(), order)
-        });
-        assert_same!((m, n), |k| {
-            let (x, v) = (k::Version16Dot16::new(a, b), k::MajorMinor::new(c, d));
-            let (id, other) = (k::GlyphId::new(m), k::GlyphId24::new(n));
-            format!("{x} {x:?} {v} {v:?} {id} {other:?}")
         });
     }
 }

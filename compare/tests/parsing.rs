@@ -64,18 +64,6 @@ impl Type {
         let places = self.exact.fraction + 1;
         ((2 * i128::from(bits) + 1) * 5i128.pow(places), places)
     }
-
-    /// Returns a raw value; one in eight is at a limit or next to it.
-    fn some_bits(&self, random: &mut Random) -> i64 {
-        let greatest = i64::MAX >> (64 - self.exact.width);
-        match random.below(32) {
-            0 => greatest - 1,
-            1 => greatest,
-            2 => !greatest,
-            3 => (!greatest).saturating_sub(1),
-            _ => random.signed(self.exact.width),
-        }
-    }
 }
 
 /// Returns the text of `numeral / 10^places`, with every place.
@@ -106,7 +94,7 @@ fn ties() {
     for of in types() {
         // One more on each side, out of range.
         let every = (-(1 << 15) - 1..=1 << 15).filter(|_| of.exact.width == 16);
-        let some: Vec<i64> = (0..60_000).map(|_| of.some_bits(&mut random)).collect();
+        let some: Vec<i64> = (0..60_000).map(|_| random.signed(of.exact.width)).collect();
         for bits in every.chain(some) {
             let (numeral, places) = of.tie_above(bits);
             let text = decimal(numeral, places);
@@ -125,7 +113,7 @@ fn texts_of_up_to_5000_digits() {
     let mut random = Random::new(3);
     for of in types() {
         for _ in 0..500 {
-            let (numeral, places) = of.tie_above(of.some_bits(&mut random));
+            let (numeral, places) = of.tie_above(random.signed(of.exact.width));
             let (zeros, digits) = (random.below(100) as usize, random.below(4850) as usize);
             let (zeros, filler) = ("0".repeat(zeros), "0".repeat(digits));
             let tie = decimal(numeral, places);
