@@ -204,9 +204,9 @@ fn sums_of_deltas() {
     ] {
         let mut sum = DeltaSum::default();
         assert_eq!(sum, DeltaSum::new());
-        terms
-            .iter()
-            .for_each(|(scalar, delta)| sum.add(*scalar, *delta));
+        for (scalar, delta) in terms {
+            sum.add(*scalar, *delta);
+        }
         let wrapped = F48Dot16::from_bits(exact as i64);
         assert_eq!([sum.finish(), delta_sum(terms)], [wrapped; 2], "{terms:?}");
         let checked = i64::try_from(exact).ok().map(F48Dot16::from_bits);

@@ -76,12 +76,6 @@ typedef char values[FONT_OK == 0 && FONT_NO_DECIMAL == 1 && FONT_OUT_OF_RANGE ==
                         ? 1
                         : -1];
 
-typedef font_status parse_i16(const char *, size_t, uint32_t, int16_t *);
-typedef font_status parse_i32(const char *, size_t, uint32_t, int32_t *);
-typedef font_status parse_i64(const char *, size_t, uint32_t, int64_t *);
-typedef font_status round_i16(int16_t, uint32_t, int16_t *);
-typedef font_status round_i32(int32_t, uint32_t, int32_t *);
-typedef font_status round_i64(int64_t, uint32_t, int64_t *);
 typedef font_status pad_text(int64_t, uint32_t, const font_pad *, char *, size_t, size_t *);
 typedef font_status sum_deltas(const int32_t *, size_t, const int32_t *, size_t, int64_t *);
 typedef font_status sum_set(const int32_t *, size_t, const uint8_t *, size_t, uint16_t, int64_t *);
@@ -323,9 +317,10 @@ static void check_rounded(void) {
 /* ---- the fraction bits that values of a width may have ---- */
 
 #define ZERO(WIDTH, BITS)                                                                      \
-    static parse_i##WIDTH *const parse_##WIDTH = font_parse_i##WIDTH;                          \
-    static round_i##WIDTH *const round_##WIDTH = font_round_i##WIDTH;                          \
-    static round_i##WIDTH *const floor_##WIDTH = font_floor_i##WIDTH;                          \
+    static font_status (*const parse_##WIDTH)(const char *, size_t, uint32_t, BITS *) =        \
+        font_parse_i##WIDTH;                                                                   \
+    static font_status (*const round_##WIDTH)(BITS, uint32_t, BITS *) = font_round_i##WIDTH;   \
+    static font_status (*const floor_##WIDTH)(BITS, uint32_t, BITS *) = font_floor_i##WIDTH;   \
     RESULT(zero_parsed_##WIDTH, BITS, (uint32_t f), parse_##WIDTH("0", 1, f, &place))          \
     RESULT(zero_rounded_##WIDTH, BITS, (uint32_t f), round_##WIDTH(0, f, &place))              \
     RESULT(zero_floor_##WIDTH, BITS, (uint32_t f), floor_##WIDTH(0, f, &place))

@@ -13,19 +13,13 @@ fn nearest(x: f64) -> i64 {
     integer + i64::from(rest >= 0.5) - i64::from(rest <= -0.5)
 }
 
-/// Returns the raw values of `edges` that an f64 holds with two more binary places.
-fn exact_floats(width: u32) -> impl Iterator<Item = i64> {
-    let edges = edges(width).into_iter();
-    edges.filter(|raw| raw.unsigned_abs() < 1 << 50)
-}
-
 /// The rows about fixed-point numbers, for each type, with its raw integer and its fraction bits.
 macro_rules! of_each_type {
     ($($Type:ident $bits:ident $f:literal;)*) => {
         #[test]
         fn floats() {
             const STEP: [f64; 5] = [-0.5, -0.25, 0.0, 0.25, 0.5];
-            $(for raw in exact_floats($bits::BITS) {
+            $(for raw in edges($bits::BITS).into_iter().filter(|raw| raw.unsigned_abs() < 1 << 50) {
                 let x = here::$Type::from_bits(raw as $bits);
                 let one = f64::from(1 << $f);
                 // `from_f64(v)`, `from_f32(v)`.
