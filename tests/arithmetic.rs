@@ -16,8 +16,8 @@ fn wrapped(n: i128, width: u32) -> i128 {
     n << (128 - width) >> (128 - width)
 }
 
-/// Returns the integers of a width next to zero, to the limits and to the powers of two: one, one
-/// half, and the ties of conversions are among them.
+/// Returns the integers of a width that are next to zero, to a limit or to a power of two. Ties of
+/// rounding are among them.
 fn integers(width: u32) -> impl Iterator<Item = i128> {
     let near = |power: u32| [-1, 0, 1].map(|near| (1i128 << power) + near);
     let integers = (0..width).flat_map(near).flat_map(|n| [n, -n]);

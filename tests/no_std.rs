@@ -93,7 +93,7 @@ const _: () = {
 
 const CVT: Tag = Tag::new(b"cvt ");
 
-// This file links what the library links, so that the library's attribute is read.
+// The test harness links `std`, so the attributes are read from the sources.
 #[test]
 fn library_is_no_std() {
     let roots = [

@@ -24,11 +24,11 @@ mod font_types;
 #[path = "generated/font_c/mod.rs"]
 pub mod font_c;
 
-/// The values that a caller in C passes. If there are none, the pointer may be null.
+/// Returns the values that a caller in C passes. If `len` is zero, the pointer may be null.
 ///
 /// # Safety
 ///
-/// If there are any, the pointer is valid for so many values as long as they are used.
+/// Unless `len` is zero, the pointer is valid for `len` values as long as the slice is used.
 unsafe fn slice<'a, T>(values: *const T, len: usize) -> &'a [T] {
     match len {
         0 => &[],
@@ -36,12 +36,13 @@ unsafe fn slice<'a, T>(values: *const T, len: usize) -> &'a [T] {
     }
 }
 
-/// The values that a caller in C wants to be written. If there are none, the pointer may be null.
+/// Returns the values that a caller in C passes to be written. If `len` is zero, the pointer may be
+/// null.
 ///
 /// # Safety
 ///
-/// If there are any, the pointer is valid for so many values as long as they are used, and nothing
-/// else accesses these.
+/// Unless `len` is zero, the pointer is valid for `len` values as long as the slice is used, and
+/// nothing else accesses them.
 unsafe fn slice_mut<'a, T>(values: *mut T, len: usize) -> &'a mut [T] {
     match len {
         0 => &mut [],

@@ -1,4 +1,4 @@
-/* Runs the lines of README.md for what 0.3 exported, at the ends of their ranges. */
+/* Runs the lines of README.md in place of exports of 0.3, at the limits of their types. */
 #include "font_types.h"
 
 #include <stdio.h>
@@ -7,10 +7,10 @@ __extension__ typedef __int128 wide;
 
 static int checks, failures;
 
-static void check(const char *what, wide found, wide wanted) {
+static void check(const char *name, wide found, wide expected) {
     checks++;
-    if (found != wanted && failures++ < 20)
-        printf("%s: %lld, not %lld\n", what, (long long)found, (long long)wanted);
+    if (found != expected && failures++ < 20)
+        printf("%s: %lld, not %lld\n", name, (long long)found, (long long)expected);
 }
 
 /* A number modulo 2^width, in two's complement. */

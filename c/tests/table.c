@@ -14,19 +14,20 @@ enum { KEPT = 7, BUFFER = 64, MOST_SCALARS = 65535, MANY_TERMS = 131073 };
 
 static int checks, failures;
 
-static void check(const char *table, size_t row, const char *what, int64_t found, int64_t wanted) {
+static void check(const char *table, size_t row, const char *name, int64_t found,
+                  int64_t expected) {
     checks++;
-    if (found != wanted && failures++ < 20)
-        printf("%s, row %zu: %s is %lld, not %lld\n", table, row, what, (long long)found,
-               (long long)wanted);
+    if (found != expected && failures++ < 20)
+        printf("%s, row %zu: %s is %lld, not %lld\n", table, row, name, (long long)found,
+               (long long)expected);
 }
 
 static void check_text(const char *table, size_t row, const char *found, size_t length,
-                       const char *wanted) {
-    int same = length == strlen(wanted) && memcmp(found, wanted, length) == 0;
+                       const char *expected) {
+    int same = length == strlen(expected) && memcmp(found, expected, length) == 0;
     checks++;
     if (!same && failures++ < 20)
-        printf("%s, row %zu: %.*s, not %s\n", table, row, (int)length, found, wanted);
+        printf("%s, row %zu: %.*s, not %s\n", table, row, (int)length, found, expected);
 }
 
 /* The status of a call, and the value at its out-parameter. */
@@ -36,21 +37,21 @@ struct result {
 };
 
 static void check_result(const char *table, size_t row, struct result found,
-                         struct result wanted) {
-    check(table, row, "status", found.status, wanted.status);
-    check(table, row, "value", found.value, wanted.value);
+                         struct result expected) {
+    check(table, row, "status", found.status, expected.status);
+    check(table, row, "value", found.value, expected.value);
 }
 
 /* Checks that a call succeeded, and stored a value. */
 static void check_value(const char *table, size_t row, struct result found, int64_t value) {
-    const struct result wanted = {FONT_OK, value};
-    check_result(table, row, found, wanted);
+    const struct result expected = {FONT_OK, value};
+    check_result(table, row, found, expected);
 }
 
 /* Checks that a call returned an error, and stored nothing. */
 static void check_error(const char *table, size_t row, struct result found, font_status status) {
-    const struct result wanted = {status, KEPT};
-    check_result(table, row, found, wanted);
+    const struct result expected = {status, KEPT};
+    check_result(table, row, found, expected);
 }
 
 /* Defines a function that returns the result of a call with the out-parameter `&place`. */
@@ -179,7 +180,7 @@ static const struct {
 static const struct {
     const struct type *type;
     const char *text;
-    struct result wanted;
+    struct result expected;
 } parsed[] = {
     {&fixed, "-0", {FONT_OK, 0}},
     {&fixed, "-0.00000762939453125", {FONT_OK, -1}},
@@ -281,7 +282,7 @@ static void check_parsed(void) {
     }
     for (size_t i = 0; i < COUNT(parsed); i++) {
         const char *text = parsed[i].text;
-        check_result("parsed", i, parsed[i].type->parse(text, strlen(text)), parsed[i].wanted);
+        check_result("parsed", i, parsed[i].type->parse(text, strlen(text)), parsed[i].expected);
     }
     char digits[302] = "-";
     memset(digits + 1, '0', 299);
@@ -373,7 +374,7 @@ static void check_fractions(void) {
 
 static const struct {
     int32_t (*call)(int32_t, int32_t);
-    int32_t x, y, wanted;
+    int32_t x, y, expected;
 } products[] = {
     {font_fixed_mul, -1, 32768, -1},
     {font_fixed_mul, INT32_MIN, INT32_MAX, 32768},
@@ -402,7 +403,7 @@ static const int32_t mul_divs[][4] = {
 static void check_products(void) {
     for (size_t i = 0; i < COUNT(products); i++)
         check("products", i, "result", products[i].call(products[i].x, products[i].y),
-              products[i].wanted);
+              products[i].expected);
     for (size_t i = 0; i < COUNT(mul_divs); i++) {
         const int32_t *row = mul_divs[i];
         check("mul_divs", i, "result", mul_div(row[0], row[1], row[2]), row[3]);
@@ -426,7 +427,7 @@ NARROWED(f2dot30_to_f2dot14, int32_t, int16_t)
 
 static const struct {
     int64_t (*call)(int64_t);
-    int64_t bits, wanted;
+    int64_t bits, expected;
 } narrowed[] = {
     {fixed_to_i32, -98304, -1},
     {fixed_to_i32, INT32_MAX, -32768},
@@ -448,7 +449,7 @@ static const struct {
 
 static void check_narrowed(void) {
     for (size_t i = 0; i < COUNT(narrowed); i++)
-        check("narrowed", i, "result", narrowed[i].call(narrowed[i].bits), narrowed[i].wanted);
+        check("narrowed", i, "result", narrowed[i].call(narrowed[i].bits), narrowed[i].expected);
 }
 
 /* ---- matrices ---- */
@@ -474,21 +475,21 @@ static const struct {
      {49155, -98302}},
 };
 
-static void check_point(const char *table, size_t row, font_point found, font_point wanted) {
-    check(table, row, "x", found.x, wanted.x);
-    check(table, row, "y", found.y, wanted.y);
+static void check_point(const char *table, size_t row, font_point found, font_point expected) {
+    check(table, row, "x", found.x, expected.x);
+    check(table, row, "y", found.y, expected.y);
 }
 
 static void check_matrices(void) {
     for (size_t i = 0; i < COUNT(matrices); i++) {
-        const font_matrix wanted = matrices[i].product;
+        const font_matrix expected = matrices[i].product;
         const font_matrix found = product(matrices[i].a, matrices[i].b);
-        check("products", i, "xx", found.xx, wanted.xx);
-        check("products", i, "yx", found.yx, wanted.yx);
-        check("products", i, "xy", found.xy, wanted.xy);
-        check("products", i, "yy", found.yy, wanted.yy);
-        check("products", i, "dx", found.dx, wanted.dx);
-        check("products", i, "dy", found.dy, wanted.dy);
+        check("products", i, "xx", found.xx, expected.xx);
+        check("products", i, "yx", found.yx, expected.yx);
+        check("products", i, "xy", found.xy, expected.xy);
+        check("products", i, "yy", found.yy, expected.yy);
+        check("products", i, "dx", found.dx, expected.dx);
+        check("products", i, "dy", found.dy, expected.dy);
         check_point("images", i, image(matrices[i].a, matrices[i].p), matrices[i].image);
         check_point("vectors", i, vector_image(matrices[i].a, matrices[i].p), matrices[i].vector);
     }
@@ -518,7 +519,7 @@ RESULT(applied_u16, uint16_t, (int32_t base, int64_t delta),
        apply_u16((uint16_t)base, delta, &place))
 
 static const struct {
-    struct result wanted;
+    struct result expected;
     size_t count;
     int32_t scalars[4], deltas[4];
 } sums[] = {
@@ -536,7 +537,7 @@ static const struct {
     const char *set;
     size_t length, count;
     int32_t scalars[5];
-    struct result wanted;
+    struct result expected;
 } sets[] = {
     {0, "\xFF\x80", 2, 2, {65536, -65536}, {FONT_OK, 8323072}},
     {1, "\x01\x2C\xFD", 3, 2, {65536, 32768}, {FONT_OK, 19562496}},
@@ -576,7 +577,7 @@ static void check_sums(void) {
     for (size_t i = 0; i < COUNT(sums); i++) {
         const int32_t *scalars = sums[i].scalars, *deltas = sums[i].deltas;
         const size_t count = sums[i].count;
-        check_result("sums", i, sum_of_deltas(scalars, count, deltas, count), sums[i].wanted);
+        check_result("sums", i, sum_of_deltas(scalars, count, deltas, count), sums[i].expected);
         check_error("fewer deltas", i, sum_of_deltas(scalars, count, deltas, count - 1),
                     FONT_OTHER_COUNT);
         check_error("fewer scalars", i, sum_of_deltas(scalars, count - 1, deltas, count),
@@ -597,7 +598,7 @@ static void check_sets(void) {
     for (size_t i = 0; i < COUNT(sets); i++) {
         const uint8_t *set = (const uint8_t *)sets[i].set;
         check_result("sets", i, sum_of_set(sets[i].scalars, sets[i].count, set, sets[i].length,
-                                           sets[i].word_count), sets[i].wanted);
+                                           sets[i].word_count), sets[i].expected);
     }
     /* As many scalars as a font can have, each with the least delta, and one more. */
     static int32_t scalars[MOST_SCALARS + 1];

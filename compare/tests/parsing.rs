@@ -71,9 +71,9 @@ fn decimal(numeral: i128, places: u32) -> String {
     let sign = if numeral < 0 { "-" } else { "" };
     let places = places as usize;
     let digits = format!("{:0>width$}", numeral.unsigned_abs(), width = places + 1);
-    let (whole, fraction) = digits.split_at(digits.len() - places);
+    let (integer, fraction) = digits.split_at(digits.len() - places);
     let point = if places > 0 { "." } else { "" };
-    format!("{sign}{whole}{point}{fraction}")
+    format!("{sign}{integer}{point}{fraction}")
 }
 
 #[test]
