@@ -58,21 +58,17 @@ macro_rules! fixed_point_types {
         fn $name() {
             let name = concat!(stringify!($Type), " ");
             let rows = TEXTS.lines().filter_map(|row| row.strip_prefix(name));
-            let mut count = 0;
+            assert!(rows.clone().count() >= 3);
             for (bits, text) in rows.map(|row| row.split_once(' ').unwrap()).chain([("0", "0")]) {
                 let x = $Type::from_bits(bits.parse().unwrap());
                 assert_eq!(format!("{x} {x:?}"), format!("{text} {text}"));
                 assert_eq!(Shortest::new(x.to_bits().into(), $f).as_str(), text);
                 assert_eq!(text.parse(), Ok(x));
                 assert_eq!($Type::from_decimal_bytes(text.as_bytes()), Ok(x), "{text}");
-                for (width, len) in [(0, 40), (text.len(), text.len())] {
-                    let mut out = vec![b'~'; len];
-                    let end = x.write_padded(&mut out, &Pad::new(width));
-                    assert_eq!(end.map(|end| &out[..end]), Some(text.as_bytes()), "{width}");
-                }
-                count += 1;
+                let mut out = [b'~'; 24];
+                let end = x.write_padded(&mut out, &Pad::new(0));
+                assert_eq!(end.map(|end| &out[..end]), Some(text.as_bytes()));
             }
-            assert!(count >= 4);
             // At ties, half away from zero, and out of range; next to them, the nearest value.
             let (min, max) = (i128::from($bits::MIN), i128::from($bits::MAX));
             for (n, away) in [(0, 1), (0, -1), (max, 1), (min, -1)] {

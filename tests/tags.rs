@@ -42,7 +42,6 @@ fn invalid() -> Vec<(Vec<u8>, InvalidTag)> {
 fn new_checked_and_parse() {
     for (bytes, tag) in [
         ("a", b"a   "),
-        ("ab", b"ab  "),
         ("cvt", b"cvt "),
         ("GPOS", b"GPOS"),
         ("!~0 ", b"!~0 "),

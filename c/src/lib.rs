@@ -36,8 +36,7 @@ unsafe fn slice<'a, T>(values: *const T, len: usize) -> &'a [T] {
     }
 }
 
-/// Returns the values that a caller in C passes to be written. If `len` is zero, the pointer may be
-/// null.
+/// Returns the values that a call writes. If `len` is zero, the pointer may be null.
 ///
 /// # Safety
 ///

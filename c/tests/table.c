@@ -387,7 +387,6 @@ static const struct {
     {font_f26dot6_mul, INT32_MIN, -1, 33554432},
     {font_f26dot6_div, -18824, 1450175, -1},
     {font_f26dot6_div, INT32_MAX, 3, -1431655787},
-    {font_f26dot6_div, 0, 0, INT32_MAX},
     {font_f26dot6_div, -5, 0, -2147483647},
 };
 

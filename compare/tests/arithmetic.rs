@@ -37,10 +37,8 @@ fn conversions_of(bits: i32) {
     assert_same!(bits, |k| k::Fixed::from_i32(bits).to_bits());
     assert_same!(bits, |k| k::F26Dot6::from_bits(bits).to_i32());
     assert_same!(bits, |k| k::F26Dot6::from_i32(bits).to_bits());
-    assert_same!(bits, |k| {
-        let x = k::F2Dot14::from_bits(bits as i16);
-        x.to_fixed().to_bits()
-    });
+    let half = bits as i16;
+    assert_same!(half, |k| k::F2Dot14::from_bits(half).to_fixed().to_bits());
 }
 
 #[test]

@@ -30,8 +30,6 @@ macro_rules! each_type {
                     format!("{theirs:>12}"),
                     format!("{theirs:*<9}"),
                     format!("{theirs:_^13}"),
-                    format!("{theirs:+}"),
-                    format!("{theirs:08}"),
                     format!("{theirs:+012}"),
                 ];
                 for (pad, text) in pads().iter().zip(texts) {
@@ -79,21 +77,21 @@ each_type! {
     f48dot16 F48Dot16 i64 16;
 }
 
-fn pads() -> [Pad; 6] {
+fn pads() -> [Pad; 4] {
     let pad = |width, fill, align| Pad {
         fill,
         align,
         ..Pad::new(width)
     };
-    let signed = |pad| Pad { plus: true, ..pad };
-    let zeros = |pad| Pad { zeros: true, ..pad };
     [
         Pad::new(12),
         pad(9, b'*', Align::Left),
         pad(13, b'_', Align::Center),
-        signed(Pad::new(0)),
-        zeros(pad(8, b'*', Align::Left)),
-        zeros(signed(Pad::new(12))),
+        Pad {
+            plus: true,
+            zeros: true,
+            ..Pad::new(12)
+        },
     ]
 }
 
