@@ -125,7 +125,6 @@ fn name_ids() {
         assert_eq!(format!("{id} {id:?}"), format!("NameId {n} NameId {n}"));
         assert_eq!(id.to_be_bytes(), n.to_be_bytes());
     }
-    assert_eq!(format!("{:?}", NameId::FULL_NAME), "FULL_NAME");
     let ends = [NameId::LAST_RESERVED_NAME_ID, NameId::LAST_ALLOWED_NAME_ID];
     assert_eq!(ends.map(NameId::to_u16), [255, 32767]);
     assert_eq!(NameId::default().to_u16(), 65535);
