@@ -221,7 +221,7 @@ fn sums_of_deltas() {
 }
 
 #[test]
-fn applied_deltas() {
+fn apply_delta() {
     for base in [i16::MIN, -1, 0, i16::MAX] {
         let (unsigned, fixed) = (base as u16, i32::from(base) << 16);
         for delta in [i64::MIN, -1, 0, i64::MAX] {
@@ -241,7 +241,7 @@ fn applied_deltas() {
 
 // 16.16 raw values rounded to font units, half up.
 #[test]
-fn rounded_deltas() {
+fn round_delta() {
     for (bits, signed, unsigned) in [
         (0x7FFF, Some(0), Some(0)),
         (0x8000, Some(1), Some(1)),

@@ -102,7 +102,7 @@ fixed_point_types! {
 }
 
 #[test]
-fn long_texts() {
+fn from_decimal_of_long_texts() {
     let (before, after) = ("0".repeat(70_000), "0".repeat(6_000));
     let (tie, nines) = ("0.000007629394531249", "9".repeat(5_000));
     for (text, right) in [
@@ -116,7 +116,7 @@ fn long_texts() {
 }
 
 #[test]
-fn limits_of_a_caller() {
+fn read_decimal_between_limits() {
     let out = Err(DecimalFault::OutOfRange);
     for (text, min, max, right) in [
         ("1.5", -100, 96, Ok(96)),
@@ -131,7 +131,7 @@ fn limits_of_a_caller() {
 }
 
 #[test]
-fn padding() {
+fn write_padded_texts() {
     let pad = |width, fill, align, [plus, zeros]: [bool; 2]| Pad {
         width,
         fill,

@@ -54,7 +54,7 @@ fn assert_stored<T: Scalar + Copy + PartialEq + Debug>(value: T, bytes: &[u8]) {
 }
 
 #[test]
-fn each_scalar() {
+fn scalars_in_bytes_fields_and_arrays() {
     assert_stored(0x87u8, &[0x87]);
     assert_stored(-2i8, &[0xFE]);
     assert_stored(0x1234u16, &[0x12, 0x34]);
@@ -122,7 +122,7 @@ fn int24() {
 }
 
 #[test]
-fn order_and_equality_of_fields() {
+fn compare_hash_and_print_fields() {
     let field = BigEndian::<i16>::from;
     assert!(field(-1) < field(0) && field(0xFF) < field(0x100) && field(2) == field(2));
     assert!(field(-1) == -1 && field(-1) != 255 && field(-1) != field(0x00FF) && field(0x100) != 0);

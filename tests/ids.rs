@@ -47,7 +47,7 @@ fn glyph_ids() {
 }
 
 #[test]
-fn glyph_ids_of_different_widths() {
+fn compare_glyph_ids_of_different_widths() {
     let rows: [(u32, u16, Ordering); 6] = [
         (6, 5, Greater),
         (5, 6, Less),

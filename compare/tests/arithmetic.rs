@@ -73,7 +73,7 @@ fn conversions_of_f48dot16() {
 
 /// `font-types` returns a float, so the reference is the exact sum.
 #[test]
-fn applied_deltas() {
+fn apply_delta() {
     let mut random = Random::new(3);
     for _ in 0..1_000_000 {
         let (base, delta) = (random.i32(), random.signed(64));

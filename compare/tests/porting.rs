@@ -61,7 +61,7 @@ of_each_type! {
 
 /// The unit of `apply_delta` depends on the type: 2^-16 of a font unit, 2^-32 and 2^-30 of 1.
 #[test]
-fn deltas() {
+fn apply_delta() {
     let step = |power: u32| (1u64 << power) as f64;
     for raw in edges(20) {
         let delta = here::F48Dot16::from_bits(raw);
@@ -90,7 +90,7 @@ fn deltas() {
 }
 
 #[test]
-fn arrays() {
+fn array_in_place_of_a_slice_of_fields() {
     let bytes = [0, 1, 0, 4, 0xFF, 0xFE];
     let array = ScalarArray::<u16>::new(&bytes).unwrap();
     let field = |bytes| there::BigEndian::from_slice(bytes).unwrap();
