@@ -21,8 +21,11 @@ fn assert_stored<T: Scalar + Copy + PartialEq + Debug>(value: T, bytes: &[u8]) {
     let found = [bytes, &longer, &bytes[1..]].map(T::read);
     assert_eq!(found, [Some(value), None, None], "{value:?}");
     let after = [&[7], bytes].concat();
-    let found = [1, 2, usize::MAX].map(|offset| T::read_at(&after, offset));
-    assert_eq!(found, [Some(value), None, None], "{value:?}");
+    for (offset, read) in [(1, Some(value)), (2, None), (usize::MAX, None)] {
+        assert_eq!(T::read_at(&after, offset), read, "{value:?} at {offset}");
+        let field = BigEndian::<T>::read_at(&after, offset);
+        assert_eq!(field.map(|field| field.get()), read, "{value:?} at {offset}");
+    }
     let zero = T::read(&vec![0; bytes.len()]).unwrap();
     for field in [
         BigEndian::new(value.to_raw()),

@@ -49,6 +49,23 @@ impl<T: Scalar> BigEndian<T> {
         })
     }
 
+    /// Reads the field at `offset`, or returns `None` if fewer than `RAW_BYTE_LEN` bytes are left
+    /// there.
+    ///
+    /// ```
+    /// use font_types_proved::BigEndian;
+    /// let field = BigEndian::<u16>::read_at(&[9, 1, 2], 1).unwrap();
+    /// assert_eq!(field.get(), 0x0102);
+    /// assert!(BigEndian::<u16>::read_at(&[9, 1, 2], 2).is_none());
+    /// ```
+    #[must_use]
+    #[inline]
+    pub fn read_at(bytes: &[u8], offset: usize) -> Option<BigEndian<T>> {
+        let (_, rest) = bytes.split_at_checked(offset)?;
+        let (front, _) = rest.split_at_checked(T::RAW_BYTE_LEN)?;
+        BigEndian::from_slice(front)
+    }
+
     /// Decodes the value.
     #[must_use]
     #[inline(always)]

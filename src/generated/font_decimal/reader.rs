@@ -57,7 +57,7 @@ pub fn read_decimal(text: &str, f: u32, min: i64, max: i64) -> Result<i64, Decim
 ///
 /// # Errors
 ///
-/// Those of `read_decimal`; bytes that are not UTF-8 are `Syntax`.
+/// Returns the errors of `read_decimal`, and `Syntax` if the bytes are not UTF-8.
 #[inline(always)]
 pub fn read_decimal_bytes(text: &[u8], f: u32, min: i64, max: i64) -> Result<i64, DecimalFault> {
     let (negative, digits) = split_sign(text);

@@ -139,15 +139,15 @@ where
     ///
     /// # Errors
     ///
-    /// Those of `from_decimal`; bytes that are not UTF-8 are `Syntax`.
+    /// Returns the errors of `from_decimal`, and `Syntax` if the bytes are not UTF-8.
     #[inline]
     pub fn from_decimal_bytes(text: &[u8]) -> Result<Self, DecimalFault> {
         Ok(Self(read_bits_16(text, F)?))
     }
 
     /// Writes the padded decimal to the start of `out` and returns its length, or returns `None`
-    /// and leaves `out` unchanged if it is too short. A sign, the digits of `MIN`, a
-    /// point and `3 F / 10 + 1` places are always room enough, or `pad.width` if that is more.
+    /// and leaves `out` unchanged if it is too short. A buffer that holds a sign, the digits of
+    /// `MIN`, a point and `3 F / 10 + 1` places, and at least `pad.width` bytes, is long enough.
     /// `pad.fill` must be ASCII.
     #[inline]
     pub fn write_padded(self, out: &mut [u8], pad: &Pad) -> Option<usize> {

@@ -4,7 +4,7 @@
 //!
 //! ```text
 //! format!(in alloc; "{}", NameId::FAMILY_NAME)          // "FAMILY_NAME"
-//! GlyphId16::try_from(GlyphId::new(65536))              // refused, and the error has the number
+//! GlyphId16::try_from(GlyphId::new(65536))              // an error, which has the number
 //! ```
 
 mod fword;

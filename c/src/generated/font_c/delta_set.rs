@@ -2,7 +2,6 @@
 
 //! Sums over delta sets of item variation stores.
 
-use crate::font_c::field::value_at;
 use crate::font_c::status::{LONG_WORDS, OTHER_COUNT, STORED, TOO_MANY};
 use crate::font_types::Scalar;
 
@@ -60,7 +59,7 @@ fn product(scalar: i32, delta: i16) -> i64 {
 
 // The delta of 16 bits at an index.
 fn word_at(set: &[u8], index: usize) -> i16 {
-    value_at::<i16>(set, 2 * index).unwrap()
+    i16::read_at(set, 2 * index).unwrap()
 }
 
 // The delta of 8 bits at an index.

@@ -2,22 +2,8 @@
 
 //! Big-endian fields at byte offsets.
 
-use crate::font_c::status::{OUT_OF_BOUNDS, STORED};
-use crate::font_types::{BeByteArray, Int24, Scalar, Uint24};
-
-/// The value at a byte offset, or `None` if it is out of bounds.
-pub fn value_at<T: Scalar>(bytes: &[u8], offset: usize) -> Option<T> {
-    let (_, rest) = bytes.split_at_checked(offset)?;
-    let (field, _) = rest.split_at_checked(T::RAW_BYTE_LEN)?;
-    T::read(field)
-}
-
-// The three bytes at an offset, or `None` if they are out of bounds.
-fn three_bytes_at(bytes: &[u8], offset: usize) -> Option<[u8; 3]> {
-    let (_, rest) = bytes.split_at_checked(offset)?;
-    let (field, _) = rest.split_at_checked(3)?;
-    <[u8; 3]>::from_slice(field)
-}
+use crate::font_c::status::{OUT_OF_BOUNDS, store};
+use crate::font_types::{Int24, Scalar, Uint24};
 
 /// Reads a `uint8` at a byte offset.
 #[unsafe(no_mangle)]
@@ -28,11 +14,7 @@ pub unsafe extern "C" fn font_read_u8(
     value: &mut u8,
 ) -> u32 {
     let bytes = unsafe { crate::slice(bytes, bytes_len) };
-    let Some(number) = value_at(bytes, offset) else {
-        return OUT_OF_BOUNDS;
-    };
-    *value = number;
-    STORED
+    store(u8::read_at(bytes, offset), OUT_OF_BOUNDS, value)
 }
 
 /// Reads an `int8` at a byte offset.
@@ -44,11 +26,7 @@ pub unsafe extern "C" fn font_read_i8(
     value: &mut i8,
 ) -> u32 {
     let bytes = unsafe { crate::slice(bytes, bytes_len) };
-    let Some(number) = value_at(bytes, offset) else {
-        return OUT_OF_BOUNDS;
-    };
-    *value = number;
-    STORED
+    store(i8::read_at(bytes, offset), OUT_OF_BOUNDS, value)
 }
 
 /// Reads a `uint16` at a byte offset.
@@ -60,11 +38,7 @@ pub unsafe extern "C" fn font_read_u16(
     value: &mut u16,
 ) -> u32 {
     let bytes = unsafe { crate::slice(bytes, bytes_len) };
-    let Some(number) = value_at(bytes, offset) else {
-        return OUT_OF_BOUNDS;
-    };
-    *value = number;
-    STORED
+    store(u16::read_at(bytes, offset), OUT_OF_BOUNDS, value)
 }
 
 /// Reads an `int16` at a byte offset.
@@ -76,11 +50,7 @@ pub unsafe extern "C" fn font_read_i16(
     value: &mut i16,
 ) -> u32 {
     let bytes = unsafe { crate::slice(bytes, bytes_len) };
-    let Some(number) = value_at(bytes, offset) else {
-        return OUT_OF_BOUNDS;
-    };
-    *value = number;
-    STORED
+    store(i16::read_at(bytes, offset), OUT_OF_BOUNDS, value)
 }
 
 /// Reads a `uint24` at a byte offset.
@@ -92,11 +62,8 @@ pub unsafe extern "C" fn font_read_u24(
     value: &mut u32,
 ) -> u32 {
     let bytes = unsafe { crate::slice(bytes, bytes_len) };
-    let Some(field) = three_bytes_at(bytes, offset) else {
-        return OUT_OF_BOUNDS;
-    };
-    *value = Uint24::from_be_bytes(field).to_u32();
-    STORED
+    let number = Uint24::read_at(bytes, offset).map(Uint24::to_u32);
+    store(number, OUT_OF_BOUNDS, value)
 }
 
 /// Reads an `int24` at a byte offset.
@@ -108,11 +75,8 @@ pub unsafe extern "C" fn font_read_i24(
     value: &mut i32,
 ) -> u32 {
     let bytes = unsafe { crate::slice(bytes, bytes_len) };
-    let Some(field) = three_bytes_at(bytes, offset) else {
-        return OUT_OF_BOUNDS;
-    };
-    *value = Int24::from_be_bytes(field).to_i32();
-    STORED
+    let number = Int24::read_at(bytes, offset).map(Int24::to_i32);
+    store(number, OUT_OF_BOUNDS, value)
 }
 
 /// Reads a `uint32` at a byte offset.
@@ -124,11 +88,7 @@ pub unsafe extern "C" fn font_read_u32(
     value: &mut u32,
 ) -> u32 {
     let bytes = unsafe { crate::slice(bytes, bytes_len) };
-    let Some(number) = value_at(bytes, offset) else {
-        return OUT_OF_BOUNDS;
-    };
-    *value = number;
-    STORED
+    store(u32::read_at(bytes, offset), OUT_OF_BOUNDS, value)
 }
 
 /// Reads an `int32` at a byte offset.
@@ -140,11 +100,7 @@ pub unsafe extern "C" fn font_read_i32(
     value: &mut i32,
 ) -> u32 {
     let bytes = unsafe { crate::slice(bytes, bytes_len) };
-    let Some(number) = value_at(bytes, offset) else {
-        return OUT_OF_BOUNDS;
-    };
-    *value = number;
-    STORED
+    store(i32::read_at(bytes, offset), OUT_OF_BOUNDS, value)
 }
 
 /// Reads an `int64` at a byte offset.
@@ -156,9 +112,5 @@ pub unsafe extern "C" fn font_read_i64(
     value: &mut i64,
 ) -> u32 {
     let bytes = unsafe { crate::slice(bytes, bytes_len) };
-    let Some(number) = value_at(bytes, offset) else {
-        return OUT_OF_BOUNDS;
-    };
-    *value = number;
-    STORED
+    store(i64::read_at(bytes, offset), OUT_OF_BOUNDS, value)
 }

@@ -2,7 +2,7 @@
 
 //! Raw values rounded to integers, as raw values.
 
-use crate::font_c::status::{BAD_FRACTION, OUT_OF_RANGE, STORED, is_fraction};
+use crate::font_c::status::{BAD_FRACTION, OUT_OF_RANGE, STORED, is_fraction, store};
 use crate::font_fixed::{
     floor_bits_16, floor_bits_32, floor_bits_64, round_bits_16, round_bits_32, round_bits_64,
 };
@@ -13,11 +13,7 @@ pub unsafe extern "C" fn font_round_i16(bits: i16, fraction_bits: u32, whole: &m
     if !is_fraction(16, fraction_bits) {
         return BAD_FRACTION;
     }
-    let Some(nearest) = round_bits_16(bits, fraction_bits) else {
-        return OUT_OF_RANGE;
-    };
-    *whole = nearest;
-    STORED
+    store(round_bits_16(bits, fraction_bits), OUT_OF_RANGE, whole)
 }
 
 /// Rounds a 32-bit raw value to the nearest integer, half up.
@@ -26,11 +22,7 @@ pub unsafe extern "C" fn font_round_i32(bits: i32, fraction_bits: u32, whole: &m
     if !is_fraction(32, fraction_bits) {
         return BAD_FRACTION;
     }
-    let Some(nearest) = round_bits_32(bits, fraction_bits) else {
-        return OUT_OF_RANGE;
-    };
-    *whole = nearest;
-    STORED
+    store(round_bits_32(bits, fraction_bits), OUT_OF_RANGE, whole)
 }
 
 /// Rounds a 64-bit raw value to the nearest integer, half up.
@@ -39,11 +31,7 @@ pub unsafe extern "C" fn font_round_i64(bits: i64, fraction_bits: u32, whole: &m
     if !is_fraction(64, fraction_bits) {
         return BAD_FRACTION;
     }
-    let Some(nearest) = round_bits_64(bits, fraction_bits) else {
-        return OUT_OF_RANGE;
-    };
-    *whole = nearest;
-    STORED
+    store(round_bits_64(bits, fraction_bits), OUT_OF_RANGE, whole)
 }
 
 /// Finds the largest integer less than or equal to a 16-bit raw value.

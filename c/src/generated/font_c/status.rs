@@ -1,6 +1,6 @@
 // @generated from crates/font_c/src/status.rt by tools/src/bin/erase.rs
 
-//! What the exports report: `font_status` of the header.
+//! The results of the exports: `font_status` of the header.
 
 /// The result was stored.
 pub const STORED: u32 = 0;
@@ -11,7 +11,7 @@ pub const NO_DECIMAL: u32 = 1;
 /// The result does not fit in the type that it is stored in.
 pub const OUT_OF_RANGE: u32 = 2;
 
-/// Values of this width do not have so many fraction bits, or so few.
+/// Values of this width do not have this number of fraction bits.
 pub const BAD_FRACTION: u32 = 3;
 
 /// The buffer is shorter than the text.
@@ -44,4 +44,13 @@ pub const TAG_AFTER_SPACE: u32 = 12;
 /// Returns `true` if values of `width` bits may have `fraction_bits`.
 pub fn is_fraction(width: u32, fraction_bits: u32) -> bool {
     6 <= fraction_bits && fraction_bits <= 30 && fraction_bits + 2 <= width
+}
+
+/// Stores a value and returns `STORED`, or returns `otherwise` if there is none.
+pub fn store<T: Copy>(value: Option<T>, otherwise: u32, place: &mut T) -> u32 {
+    let Some(value) = value else {
+        return otherwise;
+    };
+    *place = value;
+    STORED
 }

@@ -1,10 +1,10 @@
 // @generated from crates/font_c/src/tag_text.rt by tools/src/bin/erase.rs
 
-//! The text of a tag, which needs no memory but its own.
+//! The text of a tag, in a buffer of its own.
 
 use crate::font_types::Tag;
 
-// A byte that is not shown as it is takes six: `{0xFF}`.
+// A byte that is not printable takes six: `{0xFF}`.
 const LEN: usize = 24;
 
 /// The text of a tag, as far as it is made.
@@ -38,7 +38,7 @@ impl TagText {
         }
     }
 
-    // Appends what a byte is shown as.
+    // Appends the text of a byte.
     fn push(&mut self, byte: u8) {
         match byte {
             0x20..=0x7E => self.put(&[byte]),
@@ -61,7 +61,7 @@ impl TagText {
     }
 }
 
-// The digit that is shown for a number below 16.
+// Returns the hexadecimal digit of a number below 16.
 fn hexadecimal_digit(n: u8) -> u8 {
     if n < 10 { b'0' + n } else { b'A' + (n - 10) }
 }
