@@ -24,7 +24,11 @@ fn assert_stored<T: Scalar + Copy + PartialEq + Debug>(value: T, bytes: &[u8]) {
     for (offset, read) in [(1, Some(value)), (2, None), (usize::MAX, None)] {
         assert_eq!(T::read_at(&after, offset), read, "{value:?} at {offset}");
         let field = BigEndian::<T>::read_at(&after, offset);
-        assert_eq!(field.map(|field| field.get()), read, "{value:?} at {offset}");
+        assert_eq!(
+            field.map(|field| field.get()),
+            read,
+            "{value:?} at {offset}"
+        );
     }
     let zero = T::read(&vec![0; bytes.len()]).unwrap();
     for field in [
