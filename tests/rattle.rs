@@ -1,12 +1,26 @@
-//! The program's replacement of Rattle's std: results that its source relies on, and errors.
+//! The program's replacement of Rattle's std: results that its source relies on, and errors, also
+//! those of the program if an allocation fails.
 #![allow(dead_code)]
 
 #[path = "../src/bin/fontval/host/mod.rs"]
 mod host;
 
+macro_rules! eprint {
+    ($rt:expr; $($text:tt)*) => {
+        io::complain(&$rt, format_args!($($text)*))
+    };
+}
+
+#[allow(unused_imports, clippy::explicit_counter_loop)]
+#[path = "../src/bin/fontval/generated/mod.rs"]
+mod fontval;
+
+use fontval::device::{FromRead, FromWrite};
+use fontval::serve::{ServeFault, serve};
 use host::alloc::{Global, String, Vec};
 use host::{hex, io};
 use std::alloc::{GlobalAlloc, Layout, System};
+use std::cell::Cell;
 
 // ---- hexadecimal digits
 
@@ -51,7 +65,12 @@ fn hex_decoding() {
 
 // ---- memory
 
-/// An allocator that fails if more than a megabyte is requested.
+thread_local! {
+    /// The number of allocations of this thread before one that fails.
+    static PASSES: Cell<usize> = const { Cell::new(usize::MAX) };
+}
+
+/// An allocator that fails if more than a megabyte is requested, and once after `PASSES` calls.
 struct Limited;
 
 #[global_allocator]
@@ -60,7 +79,8 @@ static ALLOCATOR: Limited = Limited;
 // SAFETY: it calls the system's allocator, or returns null.
 unsafe impl GlobalAlloc for Limited {
     unsafe fn alloc(&self, layout: Layout) -> *mut u8 {
-        if layout.size() > 1 << 20 {
+        let passes = PASSES.replace(PASSES.get().wrapping_sub(1));
+        if passes == 0 || layout.size() > 1 << 20 {
             return std::ptr::null_mut();
         }
         unsafe { System.alloc(layout) }
@@ -109,6 +129,38 @@ fn string_allocation_errors() {
     let mut text = String::new(Global);
     let written = count_until_error(|| (&mut text as &mut dyn std::fmt::Write).write_str("ab"));
     assert_eq!(text.len(), 2 * written);
+}
+
+/// A reader that reads one byte a call.
+struct Drip<'a>(&'a [u8]);
+
+impl io::Read for Drip<'_> {
+    fn read(&mut self, bytes: &mut [u8]) -> io::Result<usize> {
+        self.0.read(&mut bytes[..1])
+    }
+}
+
+// Each allocation of a run over the stored lines fails in turn, until none is left that could.
+#[test]
+fn serve_allocation_errors() {
+    const LINES: &[u8] = include_bytes!("../crates/fontval/stdin");
+    const ANSWERS: &[u8] = include_bytes!("../crates/fontval/stdout");
+    for passes in 0.. {
+        let mut source = FromRead::new(Drip(LINES));
+        let mut taken = [0; ANSWERS.len()];
+        let mut sink = FromWrite::new(taken.as_mut_slice());
+        PASSES.set(passes);
+        let result = serve(Global, &mut source, &mut sink);
+        if PASSES.replace(usize::MAX) <= passes {
+            assert!(
+                result.is_ok() && taken == ANSWERS && passes > 40,
+                "{passes}"
+            );
+            break;
+        }
+        let is_memory = matches!(result, Err(ServeFault::Memory));
+        assert!(is_memory && taken == [0; ANSWERS.len()], "{passes}");
+    }
 }
 
 // ---- streams

@@ -4,7 +4,7 @@
 
 mod answers;
 mod command;
-mod device;
+pub mod device;
 mod ending;
 mod images;
 mod judgement;
@@ -12,7 +12,7 @@ mod numbers;
 mod output;
 mod parse;
 mod refusal;
-mod serve;
+pub mod serve;
 mod text;
 
 use device::{FromRead, FromWrite};

@@ -6,7 +6,7 @@ use crate::host::*;
 
 mod answers;
 mod command;
-mod device;
+pub mod device;
 mod ending;
 mod images;
 mod judgement;
@@ -14,7 +14,7 @@ mod numbers;
 mod output;
 mod parse;
 mod refusal;
-mod serve;
+pub mod serve;
 mod text;
 
 use crate::host::io;
