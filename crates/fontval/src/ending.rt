@@ -7,9 +7,6 @@ ghost use Rattle.fontval.specs.Serve.{complaint_of, status_of};
 use crate::serve::ServeFault;
 use std::process::ExitCode;
 
-#[cfg(test)]
-mod tests;
-
 /// Returns the exit status, and the text for standard error.
 pub fn ending(served: Result<(), ServeFault>) -> (ExitCode, &'static str)
     ensures status { exit_status result.0 ≡ status_of served }

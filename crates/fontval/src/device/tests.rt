@@ -1,4 +1,4 @@
-//! The adapters over std's readers and writers.
+//! Tests the source over a reader and the sink over a writer.
 
 ghost use Rattle.std.specs.Prelude.{◌≡◌, IfOk};
 
@@ -6,7 +6,7 @@ use super::{FromRead, FromWrite, Sink, Source};
 use std::io;
 use std::io::{ErrorKind, Read, Write};
 
-/// A device whose first call is interrupted. Those after it pass, and move what they can.
+/// A device whose first call is interrupted. Later calls move all bytes of the buffer.
 #[derive(Drop)]
 struct InterruptedOnce {
     calls: usize,
@@ -41,15 +41,6 @@ impl Write for InterruptedOnce {
     }
 }
 
-#[test]
-fn reads_to_the_end(rt: HostRuntime) {
-    let mut source = FromRead::new(b"abc".as_slice());
-    let mut buf = [0; 2];
-    assert!(rt; matches!(source.read(&mut buf), Ok(2)) && buf == *b"ab");
-    assert!(rt; matches!(source.read(&mut buf), Ok(1)) && matches!(source.read(&mut buf), Ok(0)));
-    assert!(rt; !source.has_failed());
-}
-
 // An interrupted call is a failure, and is not tried again.
 #[test]
 fn an_interrupted_read_fails(rt: HostRuntime) {
@@ -65,7 +56,7 @@ fn an_interrupted_write_fails(rt: HostRuntime) {
     assert!(rt; matches!(sink.write(b"ab"), Ok(2)) && sink.has_failed());
 }
 
-// A write of no byte fails where there was one to take.
+// A write of no byte is a failure, unless the slice is empty.
 #[test]
 fn a_write_of_no_byte_fails(rt: HostRuntime) {
     let mut room = [0; 2];
