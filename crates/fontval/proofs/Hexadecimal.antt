@@ -31,7 +31,7 @@ digits_are_one_word (byte ∷ rest) some all =
     rw (slice_split_none is_blank (byte ∷ rest)
     (λ i d within. digit_is_not_blank (get_or (byte ∷ rest) i d) (all i d within))) refl
 
--- what is decoded is the only word
+-- a text that is decoded is the only word
 pub decoded_alone : (n : ℕ) (text bytes : List ℕ) → 0 < n → Ok bytes ≡ hexadecimal n text
     → Ok bytes ≡ only_bytes n (words_of text)
 decoded_alone n text bytes some found =

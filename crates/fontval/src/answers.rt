@@ -45,7 +45,6 @@ fn append_answer<A: Allocator>(
 
 // Appends the answer to a line, unless it is refused.
 #[inline(always)]
-#[tactic(auto, using(crate::proofs::Commands::given_refusal))]
 fn append_text<A: Allocator>(
     alloc: A,
     line: &[u8],

@@ -100,7 +100,6 @@ impl Command {
 
     /// Appends the answer of the command to the words that follow it.
     #[inline(always)]
-    #[tactic(auto, using(crate::proofs::Commands::given))]
     pub fn answer<A: Allocator>(
         self,
         alloc: A,
@@ -154,7 +153,6 @@ impl FixedType {
     }
 
     // Appends the number whose bytes the only word has.
-    #[tactic(auto, using(crate::proofs::Commands::given))]
     fn show<A: Allocator>(self, words: Words<'_>, output: &mut String<A>) -> Result<(), Unanswered>
         ensures { GivesAnswer (λ answer. answer ≡ fixed_point self (words_of words.entry.rest.now))
             (string_bytes output.old) (string_bytes output.new) result }
@@ -203,7 +201,6 @@ impl FixedType {
 // Appends the bytes of the number that the second word is read as, of the type that the first
 // names.
 #[inline(never)]
-#[tactic(auto, using(crate::proofs::Commands::reading_given))]
 fn read<A: Allocator>(words: Words<'_>, output: &mut String<A>) -> Result<(), Unanswered>
     ensures { GivesAnswer (AnswersWords (words_of words.entry.rest.now) Command.Read)
         (string_bytes output.old) (string_bytes output.new) result }
@@ -214,7 +211,6 @@ fn read<A: Allocator>(words: Words<'_>, output: &mut String<A>) -> Result<(), Un
 
 // Appends a tag and its validation.
 #[inline(never)]
-#[tactic(auto, using(crate::proofs::Commands::judged_tag))]
 fn append_judgement<A: Allocator>(tag: Tag, output: &mut String<A>) -> Result<(), Unanswered>
     ensures { GivesAnswer (JudgesTag (tag_bytes tag))
         (string_bytes output.old) (string_bytes output.new) result }
@@ -225,7 +221,6 @@ fn append_judgement<A: Allocator>(tag: Tag, output: &mut String<A>) -> Result<()
 
 // Appends the images of a point under two matrices.
 #[inline(never)]
-#[tactic(auto, using(crate::proofs::Commands::images_given))]
 fn image<A: Allocator>(words: Words<'_>, output: &mut String<A>) -> Result<(), Unanswered>
     ensures { GivesAnswer (AnswersWords (words_of words.entry.rest.now) Command.Image)
         (string_bytes output.old) (string_bytes output.new) result }
@@ -240,18 +235,8 @@ fn sum<A: Allocator>(alloc: A, words: Words<'_>, output: &mut String<A>) -> Resu
         (string_bytes output.old) (string_bytes output.new) result }
 {
     let terms = terms(alloc, words)?;
-    append_sum(&terms, output)
-}
-
-// Appends the sum of these terms.
-fn append_sum<A: Allocator>(
-    terms: &[(Fixed, i32)],
-    output: &mut String<A>,
-) -> Result<(), Unanswered>
-    ensures { GivesAnswer (λ answer. answer ≡ sum_of terms.now)
-        (string_bytes output.old) (string_bytes output.new) result }
-{
-    append(checked_delta_sum(terms).ok_or(Refusal::OutOfRange)?, output)
+    let sum = checked_delta_sum(&terms).ok_or(Refusal::OutOfRange)?;
+    append(sum, output)
 }
 
 // Appends a value in font units varied by the sum of terms.
@@ -268,20 +253,6 @@ fn append_varied<A: Allocator>(
     in_pairs(&words)?;
     let units = whole_number_16(base)?;
     let terms = terms(alloc, words)?;
-    append_units(units, &terms, output)
-}
-
-// Appends a value in font units varied by the sum of these terms.
-fn append_units<A: Allocator>(
-    units: i16,
-    terms: &[(Fixed, i32)],
-    output: &mut String<A>,
-) -> Result<(), Unanswered>
-    ensures { GivesAnswer (λ answer. answer ≡ varied_answer units terms.now)
-        (string_bytes output.old) (string_bytes output.new) result }
-{
-    append(
-        vary(FWord::new(units), terms).ok_or(Refusal::OutOfRange)?,
-        output,
-    )
+    let varied = vary(FWord::new(units), &terms).ok_or(Refusal::OutOfRange)?;
+    append(varied, output)
 }

@@ -45,7 +45,6 @@ fn fixed_number(word: &[u8]) -> Result<Fixed, Refusal>
 /// Reads words as terms, two by two: a scalar, and a delta in font units.
 ///
 /// The words are counted first, as in `fixed_numbers`.
-#[tactic(auto, using(crate::proofs::WordByWord::term_steps))]
 pub fn terms<A: Allocator>(
     alloc: A,
     mut words: Words<'_>,

@@ -5,7 +5,7 @@ ghost use Rattle.hex.specs.Hex.{encode_lower};
 ghost use Rattle.fontval.specs.Command.{ShowsBytes};
 ghost use Rattle.fontval.specs.Refusal.{GivesAnswer};
 
-use crate::refusal::Unanswered;
+use crate::refusal::{Refusal, Unanswered};
 use font_types::{DecimalFault, Scalar};
 use std::alloc::Allocator;
 use std::fmt::Display;
@@ -24,7 +24,6 @@ pub fn append<T: Display + Drop, A: Allocator>(
 }
 
 /// Appends the bytes of a number that was read, or returns why it was not.
-#[tactic(auto, using(crate::proofs::Commands::given))]
 pub fn append_read<T: Scalar<Raw = [u8; N]> + Drop, const N: usize, A: Allocator>(
     number: Result<T, DecimalFault>,
     output: &mut String<A>,
@@ -33,7 +32,8 @@ pub fn append_read<T: Scalar<Raw = [u8; N]> + Drop, const N: usize, A: Allocator
     ensures { GivesAnswer (ShowsBytes T.raw_of number)
         (string_bytes output.old) (string_bytes output.new) result }
 {
-    append_bytes(number?.to_raw().as_slice(), output)
+    let number = number.map_err(Refusal::from)?;
+    append_bytes(number.to_raw().as_slice(), output)
 }
 
 // Appends at most eight bytes in lower-case hexadecimal digits.

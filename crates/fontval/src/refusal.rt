@@ -30,7 +30,7 @@ pub enum Refusal {
     #[error("number out of range")]
     OutOfRange = 5,
     /// A word that is not an integer: an optional `-`, and one or more digits.
-    #[error("not a whole number")]
+    #[error("not an integer")]
     NotWhole = 6,
 }
 
@@ -69,13 +69,5 @@ impl From<Refusal> for Unanswered {
 
     fn from(refusal: Refusal) -> Unanswered {
         Unanswered::Refused(refusal)
-    }
-}
-
-impl From<DecimalFault> for Unanswered {
-    ghost from_gives = { λ fault reason. reason ≡ Unanswered.Refused (refusal_of fault) };
-
-    fn from(fault: DecimalFault) -> Unanswered {
-        Unanswered::Refused(fault.into())
     }
 }

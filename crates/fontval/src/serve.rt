@@ -94,7 +94,7 @@ fn read_all<A: Allocator, S: Source>(alloc: A, source: &mut S) -> Result<Vec<u8,
 }
 
 // Writes all bytes.
-#[tactic(auto, using(crate::proofs::Writes::write_steps))]
+#[tactic(auto, using(crate::proofs::Writes::written_more))]
 fn write_all<K: Sink>(sink: &mut K, bytes: &[u8]) -> Result<(), ServeFault>
     requires { K.failed sink.old ≡ false }
     ensures ok { OnOk result (Appends (K.taken sink.old) (K.taken sink.new) bytes.now) }

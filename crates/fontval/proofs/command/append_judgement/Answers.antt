@@ -1,6 +1,6 @@
-use Rattle.font_types.specs.Tag.{tag_bytes}
-use Rattle.fontval.proofs.Commands.{judged_tag}
+use Rattle.fontval.proofs.Commands.{given_as}
 use Rattle.fontval.proofs.command.append_judgement.Goals as goal
 
 pub returns : goal.returns
-returns g c = judged_tag _ _ _ (tag_bytes c.args.tag) _ c.append.ensures c.validate-verdict.ensures.judged
+returns g c = given_as _ _ _ _ _
+    (λ answer is. record { verdict = _; judged = c.validate-verdict.ensures.judged; shows = is }) c.append.ensures
