@@ -134,7 +134,7 @@ ShowsReading type text answer =
     let w = (fixed_row type).1 in
     ReadsNumber w (fixed_row type).2 (λ b. encode_lower (bytes_of (w / 8) b)) text answer
 
--- what is said of a tag: that it is good, or the fault that it has and where it has it
+-- the text after a tag: that it is valid, or the fault that it has, and where it has it
 abbrev pub verdict_text : Result (Unit {0}) InvalidTag → List ℕ
 verdict_text (Ok good) = codes " valid"
 verdict_text (Err (InvalidLength n)) = codes " length"
@@ -147,7 +147,7 @@ pub record JudgesTag (bytes : List ℕ) (answer : Answer) : Type 0 where
   pub judged : IsValidated bytes verdict
   pub shows : answer ≡ Ok (tag_text bytes ++ verdict_text verdict)
 
--- What a command answers to the words after it. Their number is judged first, and then each of
+-- The answer of a command to the words after it. Their number is checked first, and then each of
 -- them from left to right.
 abbrev pub AnswersWords : List (List ℕ) → Command → Answer → Type 0
 AnswersWords words (Integer type) answer =
@@ -165,7 +165,7 @@ AnswersWords words Image answer = AndThen (ReadsJust 14 words) ShowsImages answe
 AnswersWords words Sum answer = AndThen (ReadsTerms words) ShowsSum answer
 AnswersWords words Vary answer = Varies words answer
 
--- what is answered to the words of a line: the first of them names the command
+-- the answer to the words of a line: the first of them names the command
 abbrev pub IsAnswer : List (List ℕ) → Answer → Type 0
 IsAnswer [] answer = answer ≡ Err UnknownCommand
 IsAnswer (name ∷ words) answer = AndThen (IsNamed name) (AnswersWords words) answer

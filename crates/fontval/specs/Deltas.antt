@@ -1,4 +1,4 @@
--- Sums of deltas, as text. Each term is a scalar and a whole number of font units.
+-- Sums of deltas, as text. Each term is a scalar and an integer of font units.
 use Rattle.std.specs.Prelude.{◌≡◌, ℕ, ◌%◌, ◌==◌, List, [], ◌∷◌, length, ℤ, option_map, Err}
 use Rattle.std.specs.Bool.{MatchBool}
 use Rattle.std.specs.Fmt.{signed_decimal}
@@ -14,16 +14,16 @@ use Rattle.fontval.specs.declared.refusal.Refusal.TheVariants.{WordCount, OutOfR
 abbrev pub sum_of : List (Fixed × ℤ) → Answer
 sum_of terms = ok_or (option_map (λ bits. shortest_text bits 16) (sum_in_range terms)) OutOfRange
 
--- so many font units moved by that sum, in units of 2^-16
+-- a number of font units varied by that sum, in units of 2^-16
 abbrev pub varied_answer : ℤ → List (Fixed × ℤ) → Answer
 varied_answer units terms = ok_or (option_map signed_decimal (varied units terms)) OutOfRange
 
--- what is answered to terms
+-- the answer to terms
 abbrev pub ShowsSum : List (Fixed × ℤ) → Answer → Type 0
 ShowsSum terms answer = answer ≡ sum_of terms
 
--- what is answered to a whole number of 16 bits and the words of terms: the count of the words is
--- judged first
+-- the answer to an integer of 16 bits and the words of terms: the number of the words is checked
+-- first
 abbrev pub Varies : List (List ℕ) → Answer → Type 0
 Varies [] answer = answer ≡ Err WordCount
 Varies (base ∷ words) answer =

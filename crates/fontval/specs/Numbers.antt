@@ -15,7 +15,7 @@ use Rattle.fontval.specs.Refusal.{refusal_of}
 use Rattle.fontval.specs.declared.refusal.Refusal.{Refusal}
 use Rattle.fontval.specs.declared.refusal.Refusal.TheVariants.{WordCount, NotWhole, OutOfRange}
 
--- what is read first decides how it goes on; where it is refused, so is the whole
+-- the value that is read first decides how reading goes on; if it is refused, so is the result
 pub record AndThen {A B : Type 0} (IsFirst : Result A Refusal → Type 0)
     (GoesOn : A → Result B Refusal → Type 0) (result : Result B Refusal) : Type 0 where
   pub first : Result A Refusal
@@ -51,11 +51,11 @@ ReadsJust n words result =
 abbrev pub after_minus : List ℕ → List ℕ
 after_minus word = if starts_with_minus word then drop 1 word else word
 
--- the word is a whole number: an optional `-`, and one or more digits
+-- the word is an integer: an optional `-`, and one or more digits
 abbrev pub IsWhole : List ℕ → Type 0
 IsWhole word = IsNumeral 10 (after_minus word)
 
--- the whole number of w bits that a word is read as
+-- the integer of w bits that a word is read as
 abbrev pub ReadsWhole : ℕ → List ℕ → Result ℤ Refusal → Type 0
 ReadsWhole w word (Ok n) = IsWhole word × (n ≡ signed_digits_value 10 word) × FitsBits w n
 ReadsWhole w word (Err NotWhole) = ¬ (IsWhole word)
@@ -68,7 +68,7 @@ pairs_of [] = []
 pairs_of (last ∷ []) = []
 pairs_of (first ∷ second ∷ words) = (first, second) ∷ pairs_of words
 
--- the term that two words are read as: a scalar, and a whole number of 32 bits
+-- the term that two words are read as: a scalar, and an integer of 32 bits
 abbrev pub ReadsTerm : List ℕ × List ℕ → Result (Fixed × ℤ) Refusal → Type 0
 ReadsTerm words result =
     AndThen (ReadsFixed words.0)

@@ -1,5 +1,5 @@
--- What is answered to a line, by the program's own rule: a text, or a refusal, which is shown by
--- its number.
+-- The answer to a line, by the program's own rule: a text, or a refusal, which is shown by its
+-- number.
 use Rattle.std.specs.Prelude.{◌≡◌, ℕ, List, ◌++◌, codes, decimal, Result, Ok, Err, ⊤}
 use Rattle.font_types.specs.DecimalFault.{DecimalFault}
 use Rattle.font_types.specs.DecimalFault.TheVariants.{Syntax, OutOfRange as TooFar}
@@ -9,7 +9,7 @@ use Rattle.fontval.specs.declared.refusal.Refusal.TheVariants.{OutOfRange, NotWh
 use Rattle.fontval.specs.declared.refusal.Unanswered.{Unanswered}
 use Rattle.fontval.specs.declared.refusal.Unanswered.TheVariants.{Memory, Refused}
 
--- what is answered: a text, or why there is none
+-- an answer: a text, or why there is none
 abbrev pub Answer : Type 0
 Answer = Result (List ℕ) Refusal
 

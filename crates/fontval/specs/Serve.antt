@@ -1,4 +1,4 @@
--- What it means that a source has been served.
+-- The results of serving a source.
 use Rattle.std.specs.Prelude.{◌≡◌, ◌≢◌, ℕ, Bool, true, false, List, [], ◌∷◌, ◌++◌, codes, Option, Result, Ok, Err}
 use Rattle.std.specs.Io.KnownBytes.{Appends, Consumes, IsAtEnd}
 use Rattle.fontval.specs.declared.serve.ServeFault.{ServeFault}
@@ -50,7 +50,7 @@ abbrev pub status_of : Result (Unit {0}) ServeFault → ℕ
 status_of (Ok done) = 0
 status_of (Err fault) = 1
 
--- what it says on standard error: nothing, or its name and the fault
+-- the text on standard error: nothing, or the name of the program and the fault
 abbrev pub complaint_of : Result (Unit {0}) ServeFault → List ℕ
 complaint_of (Ok done) = []
 complaint_of (Err Memory) = codes "fontval: memory" ++ 10 ∷ []

@@ -13,7 +13,7 @@ pub struct FromRead<R> {
 }
 
 impl<R: Read> FromRead<R> {
-    /// A source that has not failed yet.
+    /// Creates a source that has not failed.
     pub fn new(reader: R) -> Self
         ensures left { ⟦<FromRead<R> as Source>⟧.left result ≡ R.remaining reader }
         ensures sound { ⟦<FromRead<R> as Source>⟧.failed result ≡ false }

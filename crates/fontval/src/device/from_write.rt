@@ -6,7 +6,7 @@ use super::{Failed, Sink};
 use std::io::Write;
 
 /// A sink over a writer. Each error of the writer is a failure, an interrupted call too, and so
-/// is a write of a nonempty slice that takes no byte.
+/// is a write that takes no byte of a nonempty slice.
 #[derive(Drop)]
 pub struct FromWrite<W> {
     writer: W,
@@ -14,7 +14,7 @@ pub struct FromWrite<W> {
 }
 
 impl<W: Write> FromWrite<W> {
-    /// A sink that has not failed yet.
+    /// Creates a sink that has not failed.
     pub fn new(writer: W) -> Self
         ensures taken { ⟦<FromWrite<W> as Sink>⟧.taken result ≡ W.contents writer }
         ensures sound { ⟦<FromWrite<W> as Sink>⟧.failed result ≡ false }

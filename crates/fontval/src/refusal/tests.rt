@@ -1,10 +1,10 @@
-//! The texts of refusals.
+//! Tests the texts and numbers of refusals.
 
 use super::{Refusal, Unanswered};
 use std::test::Fail;
 
 #[test]
-fn refusals_in_words(rt: HostRuntime) -> Result<(), Fail> {
+fn refusal_texts(rt: HostRuntime) -> Result<(), Fail> {
     for &(refusal, number, text) in &[
         (Refusal::UnknownCommand, 1, "unknown command"),
         (Refusal::WordCount, 2, "wrong number of words"),
@@ -15,11 +15,11 @@ fn refusals_in_words(rt: HostRuntime) -> Result<(), Fail> {
         ),
         (Refusal::NotDecimal, 4, "not a decimal number"),
         (Refusal::OutOfRange, 5, "number out of range"),
-        (Refusal::NotWhole, 6, "not a whole number"),
+        (Refusal::NotWhole, 6, "not an integer"),
     ] {
-        let told = Unanswered::Refused(refusal).to_string(rt.alloc())?;
+        let unanswered = Unanswered::Refused(refusal).to_string(rt.alloc())?;
         assert!(rt;
-            told.as_str().strip_prefix("refused: ") == Some(text),
+            unanswered.as_str().strip_prefix("refused: ") == Some(text),
             "{text}"
         );
         assert!(rt;
