@@ -6,44 +6,30 @@ use Rattle.std.specs.List.{position_or_len, before_first, after_first, onto_firs
 use Rattle.std.proofs.lemmas.Bool.{cases_Bool, cases_lt, not-true}
 use Rattle.fontval.specs.Text.{is_line_feed, lines_of, is_blank, is_nonempty, from_first, words_of}
 use Rattle.std.proofs.lemmas.Grind.{common_steps}
-use Rattle.std.proofs.lemmas.List.{drop_all}
+use Rattle.std.proofs.lemmas.List.{drop_all, nil_from_length}
 use Rattle.std.proofs.lemmas.List.Quantifiers.{position-Some}
 use Rattle.std.proofs.lemmas.List.Splits.{length-slice_split, slice_split_first, slice_split_none}
 use Rattle.std.proofs.lemmas.List.Sums.{length-filter, fails_before_first}
 use Rattle.std.proofs.lemmas.Option.{cond_some}
 
-one_more_and_one : (n : ℕ) → suc n + 1 ≡ suc (n + 1)
-one_more_and_one n = omega arith
-
 -- an empty input has no line
 pub no_lines : (input : List ℕ) → length input ≡ 0 → lines_of input ≡ []
 unfolding lines_of
-no_lines [] none = refl
-no_lines (byte ∷ rest) none = absurd (omega arith)
+no_lines input none = rw (nil_from_length input none) refl
 
 -- the first line, with one byte more in front
 longer_line : (byte : ℕ) (rest : List ℕ) → onto_first byte (lines_of rest)
     ≡ (byte ∷ before_first is_line_feed rest) ∷ lines_of (after_first is_line_feed rest)
 unfolding lines_of
 longer_line byte [] = refl
-longer_line byte (next ∷ rest) = elim (cases_Bool (is_line_feed next)) [
-  | inl feed ↦ rw feed refl
-  | inr other ↦
-      let n = position_or_len is_line_feed rest in
-      rw (other, one-add n, one_more_and_one n) (ap (onto_first byte) (longer_line next rest))
-]
+longer_line byte (next ∷ rest) = grind (arith, one-add, longer_line next rest)
 
 -- an input that is not empty has a first line, which ends before the first line feed
 pub first_line : (input : List ℕ) → 0 < length input
     → lines_of input ≡ before_first is_line_feed input ∷ lines_of (after_first is_line_feed input)
 unfolding lines_of
 first_line [] some = absurd (omega arith)
-first_line (byte ∷ rest) some = elim (cases_Bool (is_line_feed byte)) [
-  | inl feed ↦ rw feed refl
-  | inr other ↦
-      let n = position_or_len is_line_feed rest in
-      rw (other, one-add n, one_more_and_one n) (longer_line byte rest)
-]
+first_line (byte ∷ rest) some = grind (arith, one-add, longer_line byte rest)
 
 pub ruleset line_steps = (first_line, no_lines)
 

@@ -86,7 +86,7 @@ module _ (words left middle left' : List (List ℕ)) (scalar delta : List ℕ) (
     (so_far : AreTermsUpTo words left terms)
     (first : left ≡ scalar ∷ middle) (second : middle ≡ delta ∷ left') where
   two : left ≡ scalar ∷ delta ∷ left'
-  two = first ∙ ap (λ rest. scalar ∷ rest) second
+  two = cc
 
   pub one_more_term : (term : Fixed × ℤ) (terms' : List (Fixed × ℤ)) → ReadsTerm (scalar, delta) (Ok term)
       → terms' ≡ terms ++ term ∷ [] → AreTermsUpTo words left' terms'
