@@ -1,5 +1,5 @@
 -- The bytes that std reads and writes, in the words of numerals.
-use Rattle.std.proofs.Common.{◌≡◌, ◌∙◌, sym, ap, refl, ℕ, zero, suc, ◌*◌, ◌^◌, ◌<◌, ◌≤◌, ℤ, pos, negsuc, ◌+ℤ◌, ◌*ℤ◌}
+use Rattle.std.proofs.Common.{◌≡◌, ◌∙◌, ◌+◌, drop-cons, drop_of_length-le, sym, ap, ℕ, zero, suc, ◌*◌, ◌^◌, ◌<◌, ◌≤◌, ℤ, pos, negsuc, ◌+ℤ◌, ◌*ℤ◌}
 use Rattle.std.proofs.Common.{List, [], ◌∷◌, length, get_or, drop, ◌≢◌, Option, Result, Ok, Err, MatchResult, IfSome}
 use Rattle.std.proofs.Common.{arith, IsTrue, mod-eq_of_lt, w8, w16, w32, w64, SFits, to_z, of_z}
 use Rattle.std.proofs.lemmas.Int.{to_z-of_z}
@@ -36,26 +36,23 @@ to_be_bytes-signed w z fits =
     to_be_bytes-bytes_of w (of_z w z) (Fits-of_z fits).fits ∙ bytes_of-same (byte_len w) (pos (of_z w z)) z
     (turns_of z) (rw (width_facts w).0 (of_z-turned w z fits))
 
--- the first n elements of a list, one by one
-items : ℕ → List ℕ → List ℕ
-items zero bytes = []
-items (suc n) bytes = get_or bytes 0 0 ∷ items n (drop 1 bytes)
+-- n elements of a list from an index on, one by one
+abbrev pub items : ℕ → ℕ → List ℕ → List ℕ
+items zero i bytes = []
+items (suc n) i bytes = get_or bytes i 0 ∷ items n (suc i) bytes
 
-items_are : (n : ℕ) (bytes : List ℕ) → length bytes ≡ n → bytes ≡ items n bytes
-unfolding items
-items_are zero [] many = refl
-items_are zero (b ∷ bs) many = absurd (omega arith)
-items_are (suc n) [] many = absurd (omega arith)
-items_are (suc n) (b ∷ bs) many = ap (λ xs. b ∷ xs) (items_are n bs (omega arith))
+pub items_are : (n i : ℕ) (bytes : List ℕ) → length bytes ≡ i + n → drop i bytes ≡ items n i bytes
+items_are zero i bytes many = drop_of_length-le bytes (omega arith)
+items_are (suc n) i bytes many =
+    drop-cons bytes i 0 (omega arith) ∙ ap (λ xs. get_or bytes i 0 ∷ xs) (items_are n (suc i) bytes (omega arith))
 
 pub from_be_bytes-numeral : (w : Width) (bytes : List ℕ) → length bytes ≡ byte_len w
     → from_be_bytes w bytes ≡ numeral bytes
-unfolding items
 from_be_bytes-numeral w bytes many =
-    let e = items_are (byte_len w) bytes many in
+    let e = items_are (byte_len w) 0 bytes (omega arith) in
     ap (from_be_bytes w) e ∙ same w ∙ sym (ap numeral e)
   where
-    same : (w : Width) → from_be_bytes w (items (byte_len w) bytes) ≡ numeral (items (byte_len w) bytes)
+    same : (w : Width) → from_be_bytes w (items (byte_len w) 0 bytes) ≡ numeral (items (byte_len w) 0 bytes)
     same w8 = omega arith
     same w16 = omega arith
     same w32 = omega arith

@@ -15,11 +15,7 @@ use Rattle.font_fixed.proofs.Quotients.{wrapped_near_from}
 
 -- the product of two numbers of 32 bits
 pub products_fit : (x y : ℤ) → SFits w32 x → SFits w32 y → SFits w64 (x *ℤ y)
-products_fit x y f g =
-    let small : unsigned_abs x * unsigned_abs y ≤ 2 ^ 31 * 2 ^ 31 =
-    mul-le-mul {n₁ = unsigned_abs x} {m₁ = unsigned_abs y} {n₂ = 2 ^ 31} {m₂ = 2 ^ 31}
-    (omega (arith, ints)) (omega (arith, ints)) in
-    omega (arith, ints, unsigned_abs-mul x y, small)
+products_fit x y f g = grind (arith, ints)
 
 -- a number of 32 bits that code has widened to 64
 widened : (x a : ℤ) → SFits w32 x → a ≡ to_z w32 (of_z w32 x) → to_z w64 (of_z w64 a) ≡ x

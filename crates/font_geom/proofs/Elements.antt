@@ -1,4 +1,5 @@
 -- Where sums and products of elements have one answer, so have images and products of matrices.
+use Rattle.std.proofs.Common.{arith}
 use Rattle.std.proofs.Common.{◌≡◌}
 use Rattle.font_geom.specs.declared.matrix.Matrix.{Matrix}
 use Rattle.font_geom.specs.declared.point.Point.{Point}
@@ -22,8 +23,7 @@ module _ {T V : Type 0} {product sum : T → T → T → Type 0} {shown : T → 
     (one : HasOneAnswer product sum shown plus times) where
   linear_is : {p x q y r : T} → IsLinearForm product sum p x q y r → shown r ≡ linear_form plus times (shown p)
       (shown x) (shown q) (shown y)
-  linear_is it = cc
-      (one.sum_is _ _ _ it.is_sum, one.product_is _ _ _ it.is_first, one.product_is _ _ _ it.is_second)
+  linear_is it = grind arith
 
   affine_is : {p x q y d r : T} → IsAffineForm product sum p x q y d r → shown r ≡ affine_form plus times (shown p)
       (shown x) (shown q) (shown y) (shown d)
@@ -35,11 +35,4 @@ module _ {T V : Type 0} {product sum : T → T → T → Type 0} {shown : T → 
 
   pub matrix_product_is : {a b c : Matrix T} → IsProductOf product sum a b c
       → map_matrix shown c ≡ matrix_product plus times (map_matrix shown a) (map_matrix shown b)
-  matrix_product_is it = λ i. record {
-    xx = linear_is it.xx i;
-    yx = linear_is it.yx i;
-    xy = linear_is it.xy i;
-    yy = linear_is it.yy i;
-    dx = affine_is it.dx i;
-    dy = affine_is it.dy i;
-  }
+  matrix_product_is it = grind arith

@@ -1,9 +1,10 @@
 -- Good bytes, index by index, and where others go wrong.
-use Rattle.std.proofs.Common.{◌≡◌, ◌≢◌, ap, ℕ, ◌+◌, ◌-◌, ◌<◌, ◌≤◌, List, ◌++◌, length, take, replicate, get_or, arith}
-use Rattle.std.proofs.Common.{[], ◌∷◌, refl, min, rules, take_all, append_assoc}
+use Rattle.std.proofs.Common.{◌≡◌, ◌≢◌, sym, ap, ℕ, ◌+◌, ◌-◌, ◌<◌, ◌≤◌, List, ◌++◌, length, take, replicate, get_or, arith}
+use Rattle.std.proofs.Common.{[], ◌∷◌, min, rules, take_all, append_assoc}
 use Rattle.std.proofs.lemmas.Grind.{elements}
 use Rattle.std.proofs.lemmas.List.{places, replicate-append-replicate}
 use Rattle.std.proofs.lemmas.List.Elements.{All-from_get_or}
+use Rattle.font_base.proofs.StdBytes.{items_are}
 use Rattle.font_tags.specs.Tag.{IsVisible, IsGood, IsFault, four_spaces, filled}
 
 -- the first m bytes are good, and their run of visible bytes has length n
@@ -44,13 +45,7 @@ fault_not_good bytes index fault good = let to = to_good bytes good in
 
 run_to : (bytes : List ℕ) (n m : ℕ) → n ≢ 0 → ((i : ℕ) → i < n → IsVisible (get_or bytes i 0)) → n ≤ m
     → m ≤ length bytes → ((i : ℕ) → n ≤ i → i < m → get_or bytes i 0 ≡ 0x20) → GoodTo bytes n m
-run_to bytes n m some visible from room spaces = record {
-  nonempty = omega (arith, some);
-  run_within = from;
-  within = room;
-  visible = visible;
-  spaces = spaces;
-}
+run_to bytes n m some visible from room spaces = grind arith
 
 pub run_good : (bytes : List ℕ) (n m : ℕ) → n ≢ 0 → ((i : ℕ) → i < n → IsVisible (get_or bytes i 0)) → n ≤ m
     → m ≤ length bytes → ((i : ℕ) → n ≤ i → i < m → get_or bytes i 0 ≡ 0x20) → length bytes ≤ m → IsGood bytes
@@ -88,35 +83,18 @@ pub filled_valid : (bytes tag : List ℕ) → tag ≡ filled bytes → IsGood by
 filled_valid bytes tag is good = rw is (filled_good bytes (4 - length bytes) good)
 
 -- bytes filled one by one
-pub filled_one : (xs : List ℕ) → length xs ≡ 1
-    → get_or xs 0 0 ∷ 0x20 ∷ 0x20 ∷ 0x20 ∷ [] ≡ filled xs
-filled_one [] is = absurd (omega (arith, is))
-filled_one (_ ∷ []) is = refl
-filled_one (_ ∷ _ ∷ _) is = absurd (omega (arith, is))
+pub filled_one : (xs : List ℕ) → length xs ≡ 1 → get_or xs 0 0 ∷ 0x20 ∷ 0x20 ∷ 0x20 ∷ [] ≡ filled xs
+filled_one xs is = sym (ap filled (items_are 1 0 xs is))
 
-pub filled_two : (xs : List ℕ) → length xs ≡ 2
-    → get_or xs 0 0 ∷ get_or xs 1 0 ∷ 0x20 ∷ 0x20 ∷ [] ≡ filled xs
-filled_two [] is = absurd (omega (arith, is))
-filled_two (_ ∷ []) is = absurd (omega (arith, is))
-filled_two (_ ∷ _ ∷ []) is = refl
-filled_two (_ ∷ _ ∷ _ ∷ _) is = absurd (omega (arith, is))
+pub filled_two : (xs : List ℕ) → length xs ≡ 2 → get_or xs 0 0 ∷ get_or xs 1 0 ∷ 0x20 ∷ 0x20 ∷ [] ≡ filled xs
+filled_two xs is = sym (ap filled (items_are 2 0 xs is))
 
-pub filled_three : (xs : List ℕ) → length xs ≡ 3
-    → get_or xs 0 0 ∷ get_or xs 1 0 ∷ get_or xs 2 0 ∷ 0x20 ∷ [] ≡ filled xs
-filled_three [] is = absurd (omega (arith, is))
-filled_three (_ ∷ []) is = absurd (omega (arith, is))
-filled_three (_ ∷ _ ∷ []) is = absurd (omega (arith, is))
-filled_three (_ ∷ _ ∷ _ ∷ []) is = refl
-filled_three (_ ∷ _ ∷ _ ∷ _ ∷ _) is = absurd (omega (arith, is))
+pub filled_three : (xs : List ℕ) → length xs ≡ 3 → get_or xs 0 0 ∷ get_or xs 1 0 ∷ get_or xs 2 0 ∷ 0x20 ∷ [] ≡ filled xs
+filled_three xs is = sym (ap filled (items_are 3 0 xs is))
 
 pub filled_four : (xs : List ℕ) → length xs ≡ 4
     → get_or xs 0 0 ∷ get_or xs 1 0 ∷ get_or xs 2 0 ∷ get_or xs 3 0 ∷ [] ≡ filled xs
-filled_four [] is = absurd (omega (arith, is))
-filled_four (_ ∷ []) is = absurd (omega (arith, is))
-filled_four (_ ∷ _ ∷ []) is = absurd (omega (arith, is))
-filled_four (_ ∷ _ ∷ _ ∷ []) is = absurd (omega (arith, is))
-filled_four (_ ∷ _ ∷ _ ∷ _ ∷ []) is = refl
-filled_four (_ ∷ _ ∷ _ ∷ _ ∷ _ ∷ _) is = absurd (omega (arith, is))
+filled_four xs is = sym (ap filled (items_are 4 0 xs is))
 
 -- what the judges of tags rest on
 pub ruleset tag_judgements = (fault_not_good, spaces_not_good, filled_valid)

@@ -1,6 +1,6 @@
 -- Versions are compatible with themselves, and with those with which a compatible one is: over the two numbers that
 -- each `impl` of `Compatible` speaks of.
-use Rattle.std.proofs.Common.{◌∙◌, refl, ℕ, arith}
+use Rattle.std.proofs.Common.{refl, ℕ, arith}
 use Rattle.font_tags.specs.Version.{IsCompatible}
 
 pub compatible_with_itself : (major minor : ℕ) → IsCompatible major minor major minor
@@ -9,9 +9,6 @@ compatible_with_itself major minor = record { same_major = refl; minor_at_least 
 pub compatible_in_turn : (major minor middle_major middle_minor last_major last_minor : ℕ)
     → IsCompatible major minor middle_major middle_minor
     → IsCompatible middle_major middle_minor last_major last_minor → IsCompatible major minor last_major last_minor
-compatible_in_turn major minor middle_major middle_minor last_major last_minor first second = record {
-  same_major = first.same_major ∙ second.same_major;
-  minor_at_least = omega (arith, first.minor_at_least, second.minor_at_least);
-}
+compatible_in_turn major minor middle_major middle_minor last_major last_minor first second = grind arith
 
 pub ruleset compatible_calls = (compatible_with_itself, compatible_in_turn)
