@@ -53,10 +53,7 @@ spaces_in_front : (text : List ℕ) (pad : Pad) → pad.fill ≡ 32 → pad.alig
     → padded_text text pad
     ≡ replicate (pad.width - (length (shown_sign false text) + length (unsigned_body text))) 32 ++ text
 unfolding padded_text
-spaces_in_front text pad fill align plus zeros =
-    let spare = pad.width - (length (shown_sign false text) + length (unsigned_body text)) in
-    let none : spare - spare ≡ 0 = omega arith in
-    rw (zeros, plus, align, fill, none, append-nil) (ap (λ xs. replicate spare 32 ++ xs) (sign_and_body text))
+spaces_in_front text pad fill align plus zeros = grind (arith, nat_tests, append-nil, sign_and_body)
 
 -- a printed text is what is left of it, padded by spaces in front, without white space there
 pub trimmed_column : (b : ℤ) (f : ℕ) (pad : Pad) → unsigned_abs b ≤ 2 ^ 63 → pad.fill ≡ 32 → pad.align ≡ Right

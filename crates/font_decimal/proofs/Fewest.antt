@@ -83,10 +83,7 @@ places_are {m = m} {f = f} fewest = omega (arith, not_above fewest (fewest_is m 
 
 -- while all places so far fail, there is one more to try
 pub place_left : (m f p : ℕ) → p ≤ f → reads_back m f p ≡ false → p < f
-place_left m f p h fails =
-    let exact = exact_reads_back m f in
-    let other : p ≢ f = λ same. cc in
-    omega arith
+place_left m f p h fails = grind (arith, nat_tests, exact_reads_back)
 
 -- and a unit of the last place that fails is at most a step
 fails_wide : (m f p : ℕ) → reads_back m f p ≡ false → 10 ^ p ≤ 2 ^ f

@@ -11,11 +11,7 @@ pub times-next : (q : ℤ) (d : ℕ) → (q +ℤ pos 1) *ℤ pos d ≡ q *ℤ po
 times-next q d = rw +ℤ_one (suc_ℤ-*ℤ q (pos d))
 
 pub times_monotone : (a b : ℤ) (d : ℕ) → a ≤ℤ b → (a *ℤ pos d) ≤ℤ (b *ℤ pos d)
-times_monotone (pos a) (pos b) d h = omega (arith, ints, mul-le-mul_right {m = a} {n = b} d (omega (arith, ints)))
-times_monotone (pos a) (negsuc b) d h = omega (arith, ints)
-times_monotone (negsuc a) (pos b) d h = omega (arith, ints)
-times_monotone (negsuc a) (negsuc b) d h = omega
-    (arith, ints, mul-le-mul_right {m = suc b} {n = suc a} d (omega (arith, ints)))
+times_monotone a b d h = grind (arith, ints, mul-le-mul_right)
 
 pub swap_factors : (n : ℤ) (t k : ℕ) → n *ℤ pos t *ℤ pos k ≡ n *ℤ pos k *ℤ pos t
 swap_factors (pos n) t k = omega (arith, ints)

@@ -1,6 +1,6 @@
 -- A padded text, piece by piece.
-use Rattle.std.proofs.Common.{◌≡◌, ◌≢◌, ℕ, ◌+◌, ◌-◌, ◌<◌, ◌≤◌, Bool, false, List, [], ◌∷◌, ◌++◌, length, get_or, take}
-use Rattle.std.proofs.Common.{drop, refl, sym, ◌∙◌, arith, append_assoc, length-append, max, None, append-nil, take_at}
+use Rattle.std.proofs.Common.{◌≡◌, ◌≢◌, ℕ, ◌+◌, ◌<◌, ◌≤◌, Bool, false, List, [], ◌∷◌, ◌++◌, length, get_or, take, drop}
+use Rattle.std.proofs.Common.{refl, sym, ◌∙◌, arith, append_assoc, length-append, max, None, append-nil, take_at}
 use Rattle.std.proofs.Common.{drop_at, drop-drop, eqb}
 use Rattle.std.proofs.lemmas.Bool.Decides.{nat_tests}
 use Rattle.std.specs.Str.Pattern.{FindsCharPrefix}
@@ -23,18 +23,13 @@ front_within align spare = grind (arith, nat_tests)
 
 laid_length : (pad : Pad) (sign body : List ℕ) (spare : ℕ) → length (laid_out pad sign body spare) ≡ length sign
     + length body + spare
-laid_length pad sign body spare =
-    let within = front_within pad.align spare in
-    grind (arith, nat_tests, length-append {A = ℕ}, length-replicate {A = ℕ})
+laid_length pad sign body spare = grind (arith, nat_tests, front_within, length-append, length-replicate)
 
 -- a padded text has the width that is asked for, or the text's own length where that is greater
 pub padded_length : (text : List ℕ) (pad : Pad) → length (padded_text text pad) ≡ max
     (length (shown_sign pad.plus text) + length (unsigned_body text)) pad.width
 unfolding padded_text
-padded_length text pad =
-    let sign = shown_sign pad.plus text in
-    let body = unsigned_body text in
-    omega (arith, laid_length pad sign body (pad.width - (length sign + length body)))
+padded_length text pad = grind (arith, nat_tests, laid_length)
 
 -- bytes that are appended
 pub put_after : {done old out new : List ℕ} {at n end : ℕ} (bytes : List ℕ) → FillsFront done at old out

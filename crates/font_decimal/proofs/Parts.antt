@@ -26,19 +26,13 @@ no_digit e = grind (arith, nat_tests)
 pub fraction_found : {text w e : List ℕ} (len : ℕ) → HasParts text false w e → AllDigits 10 (take len text)
     → len ≤ length text → 10 ≤ digit_value (get_or text len 0) → drop len text ≡ fraction_text e
 fraction_found {text = text} {w = w} {e = e} len parts digits within end =
-    let is : text ≡ w ++ fraction_text e = parts.written in
-    rw is (rest_found _ _ len parts.whole_digits.1 (no_digit e) (rw is at digits) (rw is at within)
-    (rw is at end))
+    grind (arith, nat_tests, rest_found, no_digit)
 
 -- what is found from the front are parts of the text
 pub parts_found : (text e : List ℕ) (len : ℕ) (s : Bool) → AllDigits 10 (take len text) → 0 < len → len ≤ length text
     → drop len text ≡ fraction_text e → AllDigits 10 e
     → HasParts (sign_text s ++ text) s (take len text) e
-parts_found text e len s digits some within rest fraction = record {
-  written = rw (← rest, take-append-drop len text);
-  whole_digits = (rw (length-take-le len text within) some, digits);
-  fraction_digits = fraction;
-}
+parts_found text e len s digits some within rest fraction = grind (arith, nat_tests, take-append-drop, length-take-le)
 
 -- a text is no decimal where what follows its sign has no such parts
 pub no_decimal : (text digits : List ℕ) (s : Bool) → text ≡ sign_text s ++ digits

@@ -2,10 +2,9 @@
 -- bytes long. And what callers rely on of printed texts.
 use Rattle.std.proofs.Common.{◌≡◌, ℕ, zero, suc, ◌+◌, ◌-◌, ◌*◌, ◌/◌, ◌%◌, ◌^◌, ◌<◌, ◌≤◌, Bool, [], ◌∷◌, ◌++◌, length}
 use Rattle.std.proofs.Common.{get_or, lit<, ℤ, pos, refl, sym, ap, subst, ◌∙◌, arith, add-one, ◌*ℤ◌, ◌<ℤ◌, ◌↔◌, IsTrue}
-use Rattle.std.proofs.Common.{unsigned_abs, pow_pos, pow-add, append-nil, ◌≢◌, true, false, List, append_assoc}
-use Rattle.std.proofs.Common.{length-append, ◌≤ℤ◌, Result, Ok, decimal, mul-le-mul_right, pow-suc, div-mul-le_self}
-use Rattle.std.proofs.Common.{div-add-mod', le-mul_of_pos_right, mul-le-mul_left, lt_of_mul-lt-mul_right, div-one}
-use Rattle.std.proofs.Common.{lt_of_le_of_lt}
+use Rattle.std.proofs.Common.{unsigned_abs, pow_pos, pow-add, append-nil, ◌≢◌, true, List, append_assoc, length-append}
+use Rattle.std.proofs.Common.{◌≤ℤ◌, Result, Ok, decimal, mul-le-mul_right, pow-suc, div-mul-le_self, div-add-mod'}
+use Rattle.std.proofs.Common.{le-mul_of_pos_right, mul-le-mul_left, lt_of_mul-lt-mul_right, div-one, lt_of_le_of_lt}
 use Rattle.std.proofs.lemmas.Bool.Decides.{nat_tests}
 use Rattle.std.specs.Int.{is_negative, abs_diff}
 use Rattle.std.specs.Fmt.{sign_text}
@@ -243,9 +242,7 @@ no_point_at (c ∷ cs) zero h e = omega (arith, digit_from_value c h.0)
 no_point_at (c ∷ cs) (suc i) h e = no_point_at cs i h.1 e
 
 no_point_signed : (s : Bool) (ds : List ℕ) (i : ℕ) → AllDigits 10 ds → get_or (sign_text s ++ (ds ++ [])) i 0 ≢ 46
-no_point_signed true ds zero h e = omega arith
-no_point_signed true ds (suc i) h e = no_point_at ds i h (rw append-nil at e)
-no_point_signed false ds i h e = no_point_at ds i h (rw append-nil at e)
+no_point_signed s ds i h e = grind (arith, nat_tests, no_point_at, append-nil)
 
 last_byte : (s : Bool) (whole : List ℕ) (p n : ℕ) (front : List ℕ)
     → sign_text s ++ (whole ++ fraction_text (last_digits (suc p) n)) ≡ front ++ (48 ∷ []) → n % 10 ≡ 0
@@ -275,14 +272,7 @@ pub length-shortest_body-lt : (b : ℤ) (f : ℕ) → unsigned_abs b ≤ 2 ^ 63 
     → length (unsigned_body (shortest_text b f)) < 22
 unfolding shortest_text
 length-shortest_body-lt b f small few =
-    let m = unsigned_abs b in
-    omega (
-      arith,
-      digits_fit m f small few,
-      point_length (fewest_places m f) (shown_numeral m f),
-      length-signed_body-le (is_negative b),
-      length-append {A = ℕ},
-    )
+    grind (arith, nat_tests, digits_fit, point_length, length-signed_body-le, length-append)
 
 -- where the whole part is below `10 ^ digits` and a step is wider than `1 / 10 ^ places`: the digits, a point, and the
 -- places

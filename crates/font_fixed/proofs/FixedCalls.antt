@@ -37,19 +37,13 @@ pub wrap_twice : (x : ℤ) → wrap 32 (wrap 32 x) ≡ wrap 32 x
 wrap_twice x = wrap-wrap 32 32 x (lit< tt) (lit≤ tt)
 
 pub floor_plus_fract : (b : ℤ) → SFits w32 b → wrap 32 (floor_of 16 b +ℤ fract_of 16 b) ≡ b
-floor_plus_fract b fits = ap (wrap 32) (ends b (fract_of 16 b)) ∙ fits_32 b fits
-  where
-    ends : (x m : ℤ) → ((x -ℤ m) +ℤ m) ≡ x
-    ends x m = omega (arith, ints)
+floor_plus_fract b fits = grind (arith, ints, fits_32)
 
 -- ---- differences
 
 -- a difference that is added back: a + (b - a) is b
 pub add_sub_cancel : (a b : ℤ) → SFits w32 b → wrap 32 (a +ℤ wrap 32 (b -ℤ a)) ≡ b
-add_sub_cancel a b fits = wrap-add_right 32 a (b -ℤ a) (lit< tt) ∙ ap (wrap 32) (ends a b) ∙ fits_32 b fits
-  where
-    ends : (x y : ℤ) → (x +ℤ (y -ℤ x)) ≡ y
-    ends x y = omega (arith, ints)
+add_sub_cancel a b fits = grind (arith, ints, wrap-add_right, fits_32)
 
 -- a number less itself is 0
 pub sub_self : (a : ℤ) → wrap 32 (a -ℤ a) ≡ pos 0

@@ -1,7 +1,7 @@
 -- What callers name once of narrowings: what lies from -1 to 1 stays there, and a whole number, or a widened one, comes
 -- back. Widened numbers of 16 bits have exact differences.
-use Rattle.std.proofs.Common.{◌≡◌, ◌∙◌, ap, refl, lit<, ℕ, ◌-◌, ◌*◌, ◌^◌, ◌<◌, ℤ, pos, neg_ℤ, ◌+ℤ◌, ◌*ℤ◌, ◌-ℤ◌, ◌≤ℤ◌}
-use Rattle.std.proofs.Common.{◌<ℤ◌, arith, w16, w32, w64, pow_pos, SFits, to_z, of_z}
+use Rattle.std.proofs.Common.{◌≡◌, ◌∙◌, refl, lit<, ℕ, ◌-◌, ◌*◌, ◌^◌, ◌<◌, ℤ, pos, neg_ℤ, ◌+ℤ◌, ◌*ℤ◌, ◌-ℤ◌, ◌≤ℤ◌, ◌<ℤ◌}
+use Rattle.std.proofs.Common.{arith, w16, w32, w64, pow_pos, SFits, to_z, of_z}
 use Rattle.std.proofs.lemmas.Int.{ints, to_z-of_z}
 use Rattle.font_base.specs.Integers.{sum-times, product-times}
 use Rattle.font_base.specs.Wrap.{wrap, FitsBits}
@@ -77,9 +77,7 @@ quarter_back z fits = narrowed-times 16 4 z (lit< tt) (lit< tt) (omega (arith, i
 -- the difference of two widened numbers is exact
 pub quarter_difference : (a b : ℤ) → SFits w16 a → SFits w16 b
     → wrap 32 ((b *ℤ pos 4) -ℤ (a *ℤ pos 4)) ≡ ((b -ℤ a) *ℤ pos 4)
-quarter_difference a b fits_a fits_b =
-    let spread : ((b *ℤ pos 4) -ℤ (a *ℤ pos 4)) ≡ ((b -ℤ a) *ℤ pos 4) = omega (arith, ints) in
-    ap (wrap 32) spread ∙ fits_32 ((b -ℤ a) *ℤ pos 4) (omega (arith, ints))
+quarter_difference a b fits_a fits_b = grind (arith, ints, fits_32)
 
 -- ---- whole numbers
 

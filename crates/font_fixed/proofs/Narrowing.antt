@@ -41,13 +41,7 @@ record WidthSplit (w v d half : ℕ) : Type 0 where
   top : half_range w ≡ half_range v * d
 
 width_split : (w v d half : ℕ) → IsTrue (is_width_split w v d half) → WidthSplit w v d half
-width_split w v d half test = record {
-  some = grind (arith, nat_tests);
-  steps = grind (arith, nat_tests, pow_pos w);
-  halves = grind (arith, nat_tests);
-  whole = grind (arith, nat_tests);
-  top = grind (arith, nat_tests);
-}
+width_split w v d half test = grind (arith, nat_tests, pow_pos)
 
 -- x and half a step, s, wrapped to w bits, and the greatest multiple of d not above: so x / d is rounded to v bits
 is_narrowed : (w v d half : ℕ) (x s q : ℤ) → WidthSplit w v d half → 0 < w → s ≡ wrap w (x +ℤ pos half)
@@ -117,11 +111,4 @@ pub narrowed_low_bits : (w u : Width) (v : ℕ) (x : ℤ) (d : ℕ) (q l r : ℤ
     → SFits w q → l ≡ wrap (bits u) (to_z w (of_z w q)) → SFits u l
     → r ≡ to_z u (of_z u l) → IsNarrowed (bits u) x d r
 narrowed_low_bits w u v x d q l r some less given fits is narrow same =
-    let wrapped = same ∙ to_z-of_z u l narrow ∙ is ∙ ap (wrap (bits u)) (to_z-of_z w q fits ∙ given.wrapped)
-    ∙ wrap-wrap (bits u) v given.exact (bits_positive u) less in
-    record {
-      exact = given.exact;
-      nearest = given.nearest;
-      wrapped = wrapped;
-      is = wrapped ∙ ap (wrap (bits u)) (up_gives x d given.exact some given.nearest);
-    }
+    grind (arith, nat_tests, to_z-of_z, wrap-wrap, bits_positive, up_gives)

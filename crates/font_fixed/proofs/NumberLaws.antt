@@ -1,6 +1,5 @@
 -- The laws of products and quotients, from what the calls give.
-use Rattle.std.proofs.Common.{◌≡◌, ◌≢◌, ◌∙◌, sym, ap, refl, ℕ, zero, suc, ◌*◌, ◌^◌, ◌<◌, ◌≤◌, ℤ, pos, negsuc, ◌*ℤ◌}
-use Rattle.std.proofs.Common.{◌≤ℤ◌, false, arith, pow_pos}
+use Rattle.std.proofs.Common.{◌≡◌, ◌≢◌, ◌∙◌, sym, ap, ℕ, ◌*◌, ◌^◌, ◌<◌, ◌≤◌, ℤ, pos, ◌*ℤ◌, ◌≤ℤ◌, arith, pow_pos}
 use Rattle.std.proofs.lemmas.Bool.Decides.{nat_tests}
 use Rattle.std.proofs.lemmas.Int.{ints}
 use Rattle.std.proofs.Math.IntN.{*ℤ_comm, *ℤ-negsuc, neg_ℤ-neg_ℤ}
@@ -42,11 +41,7 @@ product_in_one_step w f x y product in_one_step p s = grind (arith, nat_tests)
 -- where x * a is q times the divisor, the answer is q
 pub mul_div_exact : (w : ℕ) (q x a c r : ℤ) → 0 < w → FitsBits w q → (x *ℤ a) ≡ (q *ℤ c) → IsMulDiv w x a c r
     → c ≢ pos 0 → r ≡ q
-mul_div_exact w q x a (pos zero) r wide fits same given other = absurd (other refl)
-mul_div_exact w q x a (pos (suc n)) r wide fits same given other =
-    rounded_exact w q (suc n) r wide (omega arith) fits (rw same at given)
-mul_div_exact w q x a (negsuc n) r wide fits same given other =
-    rounded_exact w q (suc n) r wide (omega arith) fits (rw (same, *ℤ-negsuc q n, neg_ℤ-neg_ℤ) at given)
+mul_div_exact w q x a c r wide fits same given other = grind (arith, nat_tests, rounded_exact, *ℤ-negsuc, neg_ℤ-neg_ℤ)
 
 mul_div_comm : (w : ℕ) (x a c r : ℤ) → c ≢ pos 0 → IsMulDiv w x a c r → IsMulDiv w a x c r
 mul_div_comm w x a c r other given = grind (arith, nat_tests)
@@ -64,37 +59,20 @@ share_at_most x a d m within rounded = grind (arith, nat_tests)
 pub mul_div_between : (w : ℕ) (x a c r : ℤ) → 0 < w → FitsBits w x → IsMulDiv w x a c r → pos 0 ≤ℤ x → pos 0 ≤ℤ a
     → a ≤ℤ c → c ≢ pos 0
     → (pos 0 ≤ℤ r) × (r ≤ℤ x)
-mul_div_between w (negsuc x) a c r wide fits given low from to other = absurd (omega (arith, ints))
-mul_div_between w x (negsuc a) c r wide fits given low from to other = absurd (omega (arith, ints))
-mul_div_between w x (pos a) (negsuc c) r wide fits given low from to other = absurd (omega (arith, ints))
-mul_div_between w x a (pos zero) r wide fits given low from to other = absurd (other refl)
-mul_div_between w (pos x) (pos a) (pos (suc d)) r wide fits given low from to other =
-    let rounded = near_to false (x * a) (suc d) given.exact (omega arith) given.nearest in
-    let bound = share_at_most x a (suc d) rounded.magnitude (omega (arith, ints)) rounded.rounded in
-    let inside : FitsBits w (pos rounded.magnitude) = omega (arith, ints, bound, fits.high) in
-    let same = given.wrapped ∙ ap (wrap w) rounded.is ∙ wrap-fits w (pos rounded.magnitude) wide inside in
-    omega (arith, ints, same, bound)
+mul_div_between w x a c r wide fits given low from to other = grind (arith, ints, near_to, share_at_most, wrap-fits)
 
 -- and a part of a whole, over the whole, between 0 and 1
 pub quotient_between : (w f : ℕ) (x y r : ℤ) → 0 < w → FitsBits w (pos (2 ^ f)) → IsQuotient w f x y r → pos 0 ≤ℤ x
     → x ≤ℤ y → y ≢ pos 0
     → (pos 0 ≤ℤ r) × (r ≤ℤ pos (2 ^ f))
-quotient_between w f x y r wide fits given low high other =
-    mul_div_between w (pos (2 ^ f)) x y r wide fits (mul_div_comm w x (pos (2 ^ f)) y r other given) (omega
-    (arith, ints)) low high other
+quotient_between w f x y r wide fits given low high other = grind (arith, ints, mul_div_between, mul_div_comm)
 
 pub quotient_laws_hold : (w f : ℕ) (x y quotient by_one by_itself : ℤ) → 0 < w → FitsBits w x → FitsBits w (pos (2 ^ f))
     → IsQuotient w f x y quotient
     → IsQuotient w f x (pos (2 ^ f)) by_one → IsQuotient w f x x by_itself
     → QuotientLaws w f x y quotient by_one by_itself
-quotient_laws_hold w f x y quotient by_one by_itself wide fits one p r s = record {
-  is_quotient = p;
-  is_by_one = r;
-  is_by_itself = s;
-  one_is_neutral = rounded_exact w x (2 ^ f) by_one wide (pow_pos f) fits
-      (mul_div_rounded w x (pos (2 ^ f)) (2 ^ f) by_one (pow_pos f) r);
-  itself_gives_one = itself w f x by_itself wide one s;
-}
+quotient_laws_hold w f x y quotient by_one by_itself wide fits one p r s =
+    grind (arith, nat_tests, rounded_exact, pow_pos, mul_div_rounded, itself)
 
 pub quotient_in_one_step : (w f : ℕ) (x y quotient in_one_step : ℤ) → IsQuotient w f x y quotient
     → IsMulDiv w x (pos (2 ^ f)) y in_one_step → QuotientInOneStep w f x y quotient in_one_step

@@ -1,6 +1,6 @@
 -- Quotients rounded with ties away from zero, as code has it: on magnitudes, with the sign put back and 32 bits kept.
-use Rattle.std.proofs.Common.{◌≡◌, ◌∙◌, sym, ap, refl, ℕ, zero, suc, ◌-◌, ◌*◌, ◌%◌, ◌^◌, ◌<◌, Bool, true, false, not, ℤ}
-use Rattle.std.proofs.Common.{pos, negsuc, neg_ℤ, ◌*ℤ◌, unsigned_abs, arith, lit<, w32, SFits, to_z, of_z}
+use Rattle.std.proofs.Common.{◌≡◌, ◌∙◌, sym, ap, refl, ℕ, ◌-◌, ◌*◌, ◌%◌, ◌^◌, ◌<◌, Bool, true, false, not, ℤ, pos}
+use Rattle.std.proofs.Common.{neg_ℤ, ◌*ℤ◌, unsigned_abs, arith, lit<, w32, SFits, to_z, of_z}
 use Rattle.std.proofs.lemmas.Bool.Decides.{nat_tests}
 use Rattle.std.proofs.lemmas.Int.{to_z-of_z}
 use Rattle.std.specs.Int.{is_negative}
@@ -23,13 +23,7 @@ product_signed x y = grind (arith, nat_tests)
 
 pub wrapped_near_from : (w : ℕ) (n : ℤ) (d : ℕ) (exact r : ℤ) → 0 < d → Near n d exact → r ≡ wrap w exact
     → IsWrappedNear w n d r
-wrapped_near_from w n d exact r some nearest wrapped =
-    record {
-      exact = exact;
-      nearest = nearest;
-      wrapped = wrapped;
-      is = wrapped ∙ ap (wrap w) (near_gives n d exact some nearest);
-    }
+wrapped_near_from w n d exact r some nearest wrapped = grind (arith, nat_tests, near_gives)
 
 -- a magnitude that is rounded, with its sign, and wrapped
 signed_is_near : (w : ℕ) (s : Bool) (n d m : ℕ) (r : ℤ) → 0 < d → m ≡ near_magnitude n d → r ≡ wrap w (signed s m)
@@ -55,16 +49,8 @@ pub signed_is_mul_div : (x a c r : ℤ) (s t : Bool) (m i j k : ℕ) → s ≡ d
     → i ≡ unsigned_abs x → j ≡ unsigned_abs a → k ≡ unsigned_abs c
     → (0 < k → m ≡ near_magnitude (i * j) k) → (k ≡ 0 → m ≡ 2 ^ 31 - 1) → r ≡ wrap 32 (signed (not (beq s t)) m)
     → IsMulDiv 32 x a c r
-signed_is_mul_div x a (pos zero) r s t m i j k both one first second third near by_zero is =
-    is ∙ rw (one, differ_false s, by_zero third, both)
-    (wrap-fits 32 (signed (differ_in_sign x a) (2 ^ 31 - 1)) (lit< tt) (ends_fit (differ_in_sign x a)))
-signed_is_mul_div x a (pos (suc c)) r s t m i j k both one first second third near by_zero is =
-    rw (product_signed x a) (signed_is_near 32 (differ_in_sign x a) (unsigned_abs x * unsigned_abs a) (suc c) m r
-    (omega arith) (near (omega (arith, third)) ∙ rw (first, second, third)) (cc (not_negative (suc c), differ_false s)))
-signed_is_mul_div x a (negsuc c) r s t m i j k both one first second third near by_zero is =
-    rw (product_signed x a, signed_not (differ_in_sign x a) (unsigned_abs x * unsigned_abs a))
-    (signed_is_near 32 (not (differ_in_sign x a)) (unsigned_abs x * unsigned_abs a) (suc c) m r (omega arith)
-    (near (omega (arith, third)) ∙ rw (first, second, third)) (cc (differ_true s)))
+signed_is_mul_div x a c r s t m i j k both one first second third near by_zero is =
+    grind (arith, nat_tests, differ_false, wrap-fits, ends_fit, product_signed, signed_is_near, not_negative, signed_not, differ_true)
 
 -- ---- a magnitude of which 32 bits are kept, and its sign
 

@@ -1,8 +1,7 @@
 -- Numbers of w bits with f bits of fraction, for every f in range: the steps and halves that code has, floors by shifts,
 -- and the nearest integer as the floor of half a step more.
 use Rattle.std.proofs.Common.{◌≡◌, ◌∙◌, ap, refl, ℕ, suc, ◌+◌, ◌-◌, ◌*◌, ◌/◌, ◌%◌, ◌^◌, ◌<◌, ◌≤◌, ℤ, pos, negsuc, neg_ℤ}
-use Rattle.std.proofs.Common.{◌+ℤ◌, ◌*ℤ◌, arith, lit<, pow_pos, div-add-mod', IsTrue, SFits, to_z, of_z, pow-add}
-use Rattle.std.proofs.Common.{mod-lt}
+use Rattle.std.proofs.Common.{◌+ℤ◌, ◌*ℤ◌, arith, pow_pos, div-add-mod', IsTrue, SFits, to_z, of_z, pow-add, mod-lt}
 use Rattle.std.proofs.lemmas.Int.{ints, by_lt_z, to_z_pos, to_z-of_z}
 use Rattle.std.proofs.lemmas.Bool.Decides.{nat_tests}
 use Rattle.std.proofs.lemmas.Nat.{one_shl}
@@ -37,29 +36,19 @@ top : (w f : ℕ) → f + 2 ≤ w → 2 ^ (w - 1) ≡ 2 ^ (w - f - 1) * 2 ^ f
 top w f few = let is : w - 1 ≡ (w - f - 1) + f = omega (arith, few) in ap (λ n. 2 ^ n) is ∙ pow-add 2 (w - f - 1) f
 
 split_at : (w f : ℕ) → 6 ≤ f → f + 2 ≤ w → IsTrue (is_width_split w (w - f) (2 ^ f) (2 ^ f / 2))
-split_at w f many few =
-    let some : 0 < w - f = omega (arith, few) in
-    grind (arith, nat_tests, some, halves f many, whole w f (omega (arith, few)), top w f few)
+split_at w f many few = grind (arith, nat_tests, halves, whole, top)
 
 -- ---- what code gives that has a step as `1 << f`, and half of it as `1 << (f - 1)`; m is 2^w, a literal in goals
 
 step_below : (w : Width) (f : ℕ) → f + 2 ≤ bits w → 2 ^ f < 2 ^ hbits w
-step_below w f few = omega (
-  arith,
-  half_range-bits w,
-  two-pow-succ f,
-  pow_pos f,
-  pow-le-pow_right {n = 2} (lit< tt) {i = suc f} {j = bits w - 1} (omega (arith, few)),
-)
+step_below w f few = grind (arith, nat_tests, half_range-bits, two-pow-succ, pow_pos, pow-le-pow_right)
 
 step_is : (w : Width) (m f : ℕ) → m ≡ 2 ^ bits w → f + 2 ≤ bits w → to_z w (1 * 2 ^ f % m) ≡ pos (2 ^ f)
 step_is w m f is few = rw (is, one_shl f (bits w) (omega (arith, few))) (to_z_pos w (2 ^ f) (step_below w f few))
 
 half_is : (w : Width) (m f : ℕ) → m ≡ 2 ^ bits w → 6 ≤ f → f + 2 ≤ bits w
     → to_z w (1 * 2 ^ (f - 1) % m) ≡ pos (2 ^ f / 2)
-half_is w m f is many few =
-    let half : 2 ^ f / 2 ≡ 2 ^ (f - 1) = omega (arith, halves f many) in
-    rw half (step_is w m (f - 1) is (omega (arith, few)))
+half_is w m f is many few = grind (arith, nat_tests, halves, step_is)
 
 pub fract_is : (w : Width) (m f : ℕ) (x r : ℤ) → m ≡ 2 ^ bits w → f + 2 ≤ bits w → SFits w x
     → r ≡ int_rem_euclid (to_z w (of_z w x)) (to_z w (1 * 2 ^ f % m)) → IsFract f x (to_z w (of_z w r))
@@ -80,13 +69,7 @@ shr_rest f (pos n) = omega (arith, ints, div-add-mod' n (2 ^ f))
 shr_rest f (negsuc n) = omega (arith, ints, div-add-mod' n (2 ^ f), mod-lt n (pow_pos f))
 
 shr_is_floor : (f : ℕ) (x : ℤ) → IsFloor f x (shr_z x (2 ^ f) *ℤ pos (2 ^ f))
-shr_is_floor f x = record {
-  whole = shr_z x (2 ^ f);
-  bits = refl;
-  low = shr_low x (2 ^ f) (pow_pos f);
-  high = shr_high x (2 ^ f) (pow_pos f);
-  is = shr_rest f x;
-}
+shr_is_floor f x = grind (arith, nat_tests, shr_low, pow_pos, shr_high, shr_rest)
 
 floor_fits : (w : Width) (f : ℕ) (x r : ℤ) → f + 2 ≤ bits w → SFits w x → IsFloor f x r → SFits w r
 floor_fits w f x r few fits floor =

@@ -31,14 +31,4 @@ halves_up n =
 pub halves_up_128 : (n : ℤ) → SFits w128 n
     → to_z w128 (of_z w128 (shr_z (to_z w128 (of_z w128
     (to_z w128 (of_z w128 (shr_z (to_z w128 (of_z w128 n)) 32768)) +ℤ pos 1))) 2)) ≡ up n 65536
-halves_up_128 n fits =
-    let halves = shr_z n 32768 in
-    let low = shr_low n 32768 (lit< tt) in
-    let high = shr_high n 32768 (lit< tt) in
-    let more : SFits w128 (halves +ℤ pos 1) = omega (arith, ints, fits, low, high) in
-    rw (
-      to_z-of_z w128 n fits,
-      to_z-of_z w128 halves (shr_fits w128 n 32768 fits),
-      to_z-of_z w128 (halves +ℤ pos 1) more,
-      to_z-of_z w128 (shr_z (halves +ℤ pos 1) 2) (shr_fits w128 (halves +ℤ pos 1) 2 more),
-    ) (halves_up n)
+halves_up_128 n fits = grind (arith, ints, shr_low, shr_high, to_z-of_z, shr_fits, halves_up)

@@ -1,6 +1,7 @@
 -- Results that are known to be small: nothing wraps, so that they are the nearest numbers themselves.
 use Rattle.std.proofs.Common.{◌≡◌, ◌∙◌, ℕ, zero, suc, ◌*◌, ◌^◌, ◌<◌, ◌≤◌, ℤ, pos, neg_ℤ, unsigned_abs, ◌*ℤ◌, ◌≤ℤ◌}
 use Rattle.std.proofs.Common.{arith, pow_pos, mul-le-mul}
+use Rattle.std.proofs.lemmas.Bool.Decides.{nat_tests}
 use Rattle.std.proofs.lemmas.Int.{ints, unsigned_abs-mul}
 use Rattle.font_base.specs.Wrap.{FitsBits, half_range}
 use Rattle.font_base.specs.Wrap.Laws.{wrap-fits}
@@ -27,10 +28,7 @@ small_near w m d n r wide some given room small =
 
 factors_small : (u v k : ℕ) (x a : ℤ) → unsigned_abs x ≤ u → unsigned_abs a ≤ v → u * v ≤ k
     → unsigned_abs (x *ℤ a) ≤ k
-factors_small u v k x a xs bs room =
-    let product : unsigned_abs x * unsigned_abs a ≤ u * v =
-    mul-le-mul {n₁ = unsigned_abs x} {m₁ = unsigned_abs a} {n₂ = u} {m₂ = v} xs bs in
-    omega (arith, product, unsigned_abs-mul x a, room)
+factors_small u v k x a xs bs room = grind (arith, nat_tests, mul-le-mul, unsigned_abs-mul)
 
 -- the product of numbers of at most u and v, in steps
 pub product_near : (w f u v m : ℕ) (x y r : ℤ) → 0 < w → IsProduct w f x y r → unsigned_abs x ≤ u

@@ -1,7 +1,8 @@
 -- Products rounded with ties away from zero, as code has it: half a step is added, less one where the product is
 -- negative, and the sum is shifted.
 use Rattle.std.proofs.Common.{◌≡◌, ◌∙◌, ap, ℕ, suc, ◌+◌, ◌-◌, ◌*◌, ◌%◌, ◌^◌, ◌<◌, ◌≤◌, ℤ, pos, ◌+ℤ◌, ◌-ℤ◌, ◌*ℤ◌, ◌≤ℤ◌}
-use Rattle.std.proofs.Common.{◌<ℤ◌, unsigned_abs, arith, lit<, ◌⊎◌, pow_pos, SFits, to_z, of_z, w32, w64, mul-le-mul}
+use Rattle.std.proofs.Common.{◌<ℤ◌, unsigned_abs, arith, lit<, ◌⊎◌, pow_pos, SFits, to_z, of_z, w32, w64}
+use Rattle.std.proofs.lemmas.Bool.Decides.{nat_tests}
 use mir.Val.{bool_byte}
 use lib.Signed.{shr_z, lt_z}
 use Rattle.font_base.specs.Wrap.{wrap}
@@ -83,6 +84,4 @@ pub product_32 : (x y a b m l : ℤ) (d : ℕ) → SFits w32 x → SFits w32 y �
     → a ≡ to_z w32 (of_z w32 x) → b ≡ to_z w32 (of_z w32 y) → SFits w64 m → SFits w32 l → 0 < d
     → IsWrappedNear 32 (x *ℤ y) d (to_z w32 (of_z w32 l))
 product_32 x y a b m l d f g is rounded first second wide narrow some =
-    let product = to_z-of_z w64 (x *ℤ y) (products_fit x y f g) in
-    near_is_wrapped_near 32 (x *ℤ y) d _ some (to_z-of_z w32 l narrow ∙ is
-    ∙ ap (wrap 32) (to_z-of_z w64 m wide ∙ rounded ∙ rw (widened x a f first, widened y b g second, product)))
+    grind (arith, nat_tests, to_z-of_z, products_fit, near_is_wrapped_near, widened)

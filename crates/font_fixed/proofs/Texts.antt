@@ -1,7 +1,7 @@
 -- What a decimal text is read as, from the number that the reader gives.
-use Rattle.std.proofs.Common.{◌≡◌, ◌∙◌, ap, ℕ, ◌+◌, ◌*◌, ◌/◌, ◌^◌, ◌<◌, ◌≤◌, List, ℤ, ◌-◌, length, max, unsigned_abs}
-use Rattle.std.proofs.Common.{Option, IsSome, Result, Ok, Err, IfOk, ◌↔◌, arith, Bool, IsTrue, nat_lt, ◌&&◌, pow_pos}
-use Rattle.std.proofs.Common.{SFits, to_z, of_z, refl, zero, suc, true, inl, inr, pow-add, mul-lt-mul_of_pos_right, w64}
+use Rattle.std.proofs.Common.{◌≡◌, ap, ℕ, ◌+◌, ◌*◌, ◌/◌, ◌^◌, ◌<◌, ◌≤◌, List, ℤ, ◌-◌, length, max, unsigned_abs, Option}
+use Rattle.std.proofs.Common.{IsSome, Result, Ok, Err, IfOk, ◌↔◌, arith, Bool, IsTrue, nat_lt, ◌&&◌, pow_pos, SFits}
+use Rattle.std.proofs.Common.{to_z, of_z, refl, zero, suc, true, inl, inr, pow-add, mul-lt-mul_of_pos_right, w64}
 use Rattle.std.proofs.lemmas.Bool.{cases_lt}
 use Rattle.font_fixed.specs.Longest.{longest}
 use Rattle.std.proofs.lemmas.Int.{ints}
@@ -31,9 +31,7 @@ cast_reads w f text b min max room low high reads = grind (arith, nat_tests)
 
 -- the printed text of a number is read as that number
 pub printed_reads : (w f : ℕ) (b : ℤ) → 2 ^ (w - 1) ≤ 2 ^ 63 → FitsBits w b → ReadsAs w f (shortest_text b f) b
-printed_reads w f b room fits =
-    let below : unsigned_abs b ≤ 2 ^ 63 = omega (arith, ints) in
-    record { rounds = printed_rounds b f below; low = fits.low; high = omega (arith, ints, fits.high) }
+printed_reads w f b room fits = grind (arith, ints, printed_rounds)
 
 -- no number shows more places: three for each ten bits of fraction, and one
 abbrev pub most_places : ℕ → ℕ
@@ -87,16 +85,7 @@ digits : (n : ℕ) → n < 64 → 2 ^ n < 10 ^ (n * 3 / 10 + 1)
 digits n small = grind (arith, nat_tests, is_enough 64 n refl small)
 
 pub has_room : (w f : ℕ) → f + 2 ≤ w → w ≤ 64 → IsTrue (is_room (w - 1) f (longest w f))
-has_room w f few small =
-    let n : ℕ = w - 1 - f in
-    let parts : 2 ^ (w - 1) ≡ 2 ^ n * 2 ^ f =
-    let is : w - 1 ≡ n + f = omega (arith, few) in ap (λ m. 2 ^ m) is ∙ pow-add 2 n f in
-    let places = digits f (omega (arith, few, small)) in
-    let more = mul-lt-mul_of_pos_right {k = 2 ^ f} (digits n (omega (arith, few, small))) (pow_pos f) in
-    let rest : longest w f - (most_places f + 2) ≡ n * 3 / 10 + 1 = omega arith in
-    let over : most_places f + 2 < longest w f = omega arith in
-    let both : 2 ^ (w - 1) < 10 ^ (longest w f - (most_places f + 2)) * 2 ^ f = rw (rest, parts) more in
-    grind (arith, nat_tests, places, both, over)
+has_room w f few small = grind (arith, nat_tests, pow-add, digits, mul-lt-mul_of_pos_right, pow_pos)
 
 -- ---- in the words of a type of its own: a result with the bits of its number in place of the number
 

@@ -1,6 +1,6 @@
 -- Good bytes, index by index, and where others go wrong.
-use Rattle.std.proofs.Common.{◌≡◌, ◌≢◌, sym, ap, ℕ, ◌+◌, ◌-◌, ◌<◌, ◌≤◌, List, ◌++◌, length, take, replicate, get_or, arith}
-use Rattle.std.proofs.Common.{[], ◌∷◌, min, rules, take_all, append_assoc}
+use Rattle.std.proofs.Common.{◌≡◌, ◌≢◌, sym, ap, ℕ, ◌+◌, ◌-◌, ◌<◌, ◌≤◌, List, ◌++◌, length, take, replicate, get_or}
+use Rattle.std.proofs.Common.{arith, [], ◌∷◌, min, rules, take_all, append_assoc}
 use Rattle.std.proofs.lemmas.Grind.{elements}
 use Rattle.std.proofs.lemmas.List.{places, replicate-append-replicate}
 use Rattle.std.proofs.lemmas.List.Elements.{All-from_get_or}

@@ -1,15 +1,11 @@
-use Rattle.std.proofs.Common.{◌≡◌, ◌+◌, ◌-◌, length, arith, refl, sym, ◌∙◌, append_assoc}
+use Rattle.std.proofs.Common.{◌≡◌, ◌+◌, ◌-◌, length, arith, refl, append_assoc}
 use Rattle.std.proofs.lemmas.List.{length-replicate}
 use Rattle.font_decimal.specs.Padding.{padded_text}
 use Rattle.font_decimal.proofs.Padded.{padded_length, put_after, nothing_yet, fills_all}
 use Rattle.font_decimal.proofs.padding.write_padded.Goals as goal
 
 pub returns-then-out-shown_len-clause-room : goal.returns-then-out-shown_len-clause-room
-returns-then-out-shown_len-clause-room c =
-    let long : length (padded_text c.args.text.now c.args.pad.now) ≡ c.max-shown_len.result =
-    padded_length _ _ ∙ rw (← c.shown_parts.ensures.sign, ← c.shown_parts.ensures.body)
-    (sym c.max-shown_len.ensures) in
-    (λ never. cc, λ fits. absurd (omega arith))
+returns-then-out-shown_len-clause-room c = grind (arith, padded_length)
 
 pub returns-clause-written : goal.returns-clause-written
 unfolding padded_text
@@ -36,8 +32,4 @@ pub returns-clause-fills : goal.returns-clause-fills
 returns-clause-fills c narrow = fills_all _ _ (returns-clause-written c) narrow
 
 pub returns-clause-room : goal.returns-clause-room
-returns-clause-room c =
-    let long : length (padded_text c.args.text.now c.args.pad.now) ≡ c.max-shown_len.result =
-    padded_length _ _ ∙ rw (← c.shown_parts.ensures.sign, ← c.shown_parts.ensures.body)
-    (sym c.max-shown_len.ensures) in
-    (λ _. omega arith, λ _. refl)
+returns-clause-room c = grind (arith, padded_length)

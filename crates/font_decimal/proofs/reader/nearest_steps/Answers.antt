@@ -15,20 +15,10 @@ whole_digits-whole-requires c =
     rw (one_shl (63 - c.args.f) 64 (omega arith)) (omega arith)
 
 pub returns-in_err-after_point-clause-none : goal.returns-in_err-after_point-clause-none
-returns-in_err-after_point-clause-none c =
-    let whole = c.whole_digits-whole in
-    rw c.from_residual.ensures
-    (λ w e parts. c.in_err-after_point.ensures e (take_rest c.args.digits.now whole.result.1
-    ∙ fraction_found whole.result.1 parts whole.ensures.digits whole.ensures.within whole.ensures.end))
+returns-in_err-after_point-clause-none c = grind (arith, take_rest, fraction_found)
 
 pub returns-in_err-half_steps-clause-none : goal.returns-in_err-half_steps-clause-none
-returns-in_err-half_steps-clause-none c =
-    let whole = c.whole_digits-whole in
-    rw c.from_residual-in_err-half_steps.ensures (λ w e parts.
-    let same = same_point _ _
-    (sym (fraction_found whole.result.1 parts whole.ensures.digits whole.ensures.within whole.ensures.end)
-    ∙ sym (take_rest c.args.digits.now whole.result.1) ∙ c.in_ok-after_point.ensures) in
-    c.in_err-half_steps.ensures (rw same at parts.fraction_digits))
+returns-in_err-half_steps-clause-none c = grind (arith, same_point, fraction_found, take_rest)
 
 fit : (c : goal.In_ok-half_steps) → StepsFit c.args.f c.whole_digits-whole.result.0 c.in_ok-half_steps.half_steps
 fit c = steps_fit c.args.f _ _ _

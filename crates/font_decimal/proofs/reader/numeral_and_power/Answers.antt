@@ -14,16 +14,10 @@ overflow_mul-numeral c =
     omega (arith, c.loop-digit.invariant.numeral, few_digits _ _ c.loop-digit.invariant.judged (omega arith))
 
 pub overflow_add-numeral : goal.overflow_add-numeral
-overflow_add-numeral c =
-    let small = few_digits _ _ c.loop-digit.invariant.judged (omega arith) in
-    omega (arith, c.loop-digit.invariant.numeral, c.if-not-is_ascii_digit.ensures.cases, c.from.ensures)
+overflow_add-numeral c = grind (arith, few_digits)
 
 pub overflow_mul-power_of_five : goal.overflow_mul-power_of_five
-overflow_mul-power_of_five c = omega (
-  arith,
-  c.loop-digit.invariant.power_of_five,
-  pow-le-pow_right {n = 5} (omega arith) {i = c.loop-digit.digit-index} {j = 18} (omega arith),
-)
+overflow_mul-power_of_five c = grind (arith, pow-le-pow_right)
 
 pub loop-digit-preserved : goal.loop-digit-preserved
 loop-digit-preserved c =

@@ -31,9 +31,7 @@ loop-margin-preserved c =
     }
 
 fewest : (c : After-loop-margin) → IsFewest c.args.magnitude c.args.f c.loop-margin.places
-fewest c =
-    let l = c.loop-margin.invariant in
-    stopped l.rest (omega (arith, c.min.ensures, unit_is c.args.f c.requires)) l.within l.fail
+fewest c = grind (arith, stopped, unit_is)
 
 -- where the last digit is raised
 pub returns-then-rest-unit-clause-places : goal.returns-then-rest-unit-clause-places

@@ -1,4 +1,4 @@
-use Rattle.std.proofs.Common.{◌-◌, ◌≤◌, length, drop, arith, length-drop, ◌∙◌, take_all}
+use Rattle.std.proofs.Common.{◌-◌, ◌≤◌, length, drop, arith, length-drop, take_all}
 use Rattle.std.proofs.lemmas.Str.{IsUtf8-from_ascii, IsAscii-drop}
 use Rattle.font_decimal.specs.Shown.{shown}
 use Rattle.font_decimal.proofs.shortest.Shortest.as_str.Goals as goal
@@ -12,8 +12,4 @@ from_utf8_unchecked-requires c =
 
 pub returns-clause-text : goal.returns-clause-text
 unfolding shown
-returns-clause-text c =
-    let s = c.args.self.now in
-    let rest = drop s.start s.bytes in
-    let long : length rest ≤ 22 - s.start = omega (arith, length-drop s.start s.bytes) in
-    c.from_utf8_unchecked.ensures ∙ take_all (22 - s.start) rest long
+returns-clause-text c = grind (arith, length-drop, take_all)

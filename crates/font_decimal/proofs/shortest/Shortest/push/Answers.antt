@@ -1,4 +1,4 @@
-use Rattle.std.proofs.Common.{◌≡◌, ◌-◌, ◌+◌, arith, length-drop}
+use Rattle.std.proofs.Common.{arith, length-drop}
 use Rattle.std.proofs.lemmas.List.{drop-set}
 use Rattle.font_decimal.specs.Shown.{shown}
 use Rattle.font_decimal.proofs.shortest.Shortest.push.Goals as goal
@@ -9,8 +9,4 @@ overflow_sub-self c = omega (arith, c.requires.1, length-drop c.args.self.now.st
 
 pub returns : goal.returns
 unfolding shown
-returns c =
-    let s = c.args.self.now in
-    let small = length-drop s.start s.bytes in
-    let e : s.start - 1 + 1 ≡ s.start = omega (arith, c.requires.1) in
-    rw (drop-set s.bytes (s.start - 1) c.args.byte (omega arith), e)
+returns c = grind (arith, length-drop, drop-set)

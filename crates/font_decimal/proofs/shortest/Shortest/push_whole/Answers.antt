@@ -1,5 +1,5 @@
 use Rattle.std.proofs.Common.{◌≡◌, ℕ, ◌<◌, ◌≤◌, ◌+◌, ◌^◌, ◌/◌, ◌%◌, List, ◌++◌, ◌∷◌, length, arith, length-append}
-use Rattle.std.proofs.Common.{append_assoc, ap, ◌∙◌, decimal}
+use Rattle.std.proofs.Common.{append_assoc, ap, decimal}
 use Rattle.std.proofs.lemmas.Fmt.{decimal_step, decimal_digit, decimal_nonempty}
 use Rattle.font_decimal.proofs.shortest.Shortest.push_whole.Goals as goal
 
@@ -13,9 +13,7 @@ digit_pushed : (left : ℕ) (text next all : List ℕ) → 10 ≤ left → left 
 digit_pushed left text next all low high e whole = rw (decimal_step left low high, append_assoc, ← e) at whole
 
 pub push-requires : goal.push-requires
-push-requires c =
-    let l = c.loop-left in
-    (omega arith, digits_fit_buffer _ _ _ _ l.auto.left-fits.fits l.invariant c.requires)
+push-requires c = grind (arith, digits_fit_buffer)
 
 pub loop-left-preserved : goal.loop-left-preserved
 loop-left-preserved c =
@@ -23,11 +21,7 @@ loop-left-preserved c =
     digit_pushed _ _ _ _ c.loop-left-test.true l.auto.left-fits.fits c.push.ensures l.invariant
 
 pub push-requires-2 : goal.push-requires-2
-push-requires-2 c =
-    let l = c.loop-left in
-    (omega arith, digits_fit_buffer _ _ _ _ l.auto.left-fits.fits l.invariant c.requires)
+push-requires-2 c = grind (arith, digits_fit_buffer)
 
 pub returns : goal.returns
-returns c =
-    let l = c.loop-left in
-    c.push-2.ensures ∙ (rw (decimal_digit l.left c.loop-left-test.false) at l.invariant)
+returns c = grind (arith, decimal_digit)
