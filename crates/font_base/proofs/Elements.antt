@@ -86,9 +86,7 @@ pub last_and_others : (size m : ℕ) (bytes : List ℕ) → length bytes % size 
     → elements size (length bytes / size) bytes
     ≡ elements size (length (take (m * size) bytes) / size) (take (m * size) bytes) ++ drop (m * size) bytes ∷ []
 last_and_others size m bytes whole many =
-    let last = take_all size (drop (m * size) bytes) (omega (arith, last_element_length size m bytes whole many)) in
-    rw (front_many size m bytes whole many, many, add-one, elements-take size m bytes)
-    (others_and_last size m bytes ∙ rw last)
+    grind (arith, nat_tests, take_all, last_element_length, front_many, add-one, elements-take, others_and_last)
 
 pub ruleset element_rules = (length-elements, one_fits, one_less, first_and_others, none_left)
 
@@ -112,12 +110,7 @@ count_of size n bytes some fits = rw (length-take-le (n * size) bytes fits) (mul
 -- those from `start` up to `end`
 pub middle_fits : (size start end : ℕ) (bytes : List ℕ) → start ≤ end → end ≤ length bytes / size
     → (end - start) * size ≤ length (drop (start * size) bytes)
-middle_fits size start end bytes order within = omega (
-  arith,
-  parted size start end order,
-  part_fits size (length bytes) end within,
-  length-drop (start * size) bytes,
-)
+middle_fits size start end bytes order within = grind (arith, nat_tests, parted, part_fits, length-drop)
 
 elements-drop : (size n m : ℕ) (bytes : List ℕ) → n ≤ m
     → drop n (elements size m bytes) ≡ elements size (m - n) (drop (n * size) bytes)
@@ -142,16 +135,7 @@ pub middle_elements : (size start end : ℕ) (bytes : List ℕ) → start ≤ en
     (take ((end - start) * size) (drop (start * size) bytes))
     ≡ take (end - start) (drop start (elements size (length bytes / size) bytes))
 middle_elements size start end bytes order within =
-    let n = end - start in
-    let rest = drop (start * size) bytes in
-    let many = length bytes / size in
-    rw (
-      length-take-le (n * size) rest (middle_fits size start end bytes order within),
-      many_of size n (length bytes) (omega arith),
-      elements-take size n rest,
-      elements-drop size start many bytes (omega arith),
-      take-elements size n (many - start) rest (omega arith),
-    )
+    grind (arith, nat_tests, length-take-le, middle_fits, many_of, elements-take, elements-drop, take-elements)
 
 -- an element of an array that begins at an offset, in the bytes that it was read from
 pub element_of : (size n i offset : ℕ) (bytes : List ℕ) → i < n
@@ -202,11 +186,7 @@ module _ {V : Type 0} (is_scalar : V → Bool) (stored : V → List ℕ) (answer
   narrows_up : (low high middle : ℕ) (w : V) → middle < n → IsStored is_scalar stored (at middle) w
       → answer w ≢ Greater → Rises is_scalar stored answer at n → Narrows is_scalar stored answer at n low high
       → Narrows is_scalar stored answer at n middle high
-  narrows_up low high middle w within is not_greater rises left = record {
-    first = λ v _ is_v greater.
-        not_greater (greater_after middle v is_v greater rises middle w (omega arith) within is);
-    greater = left.greater;
-  }
+  narrows_up low high middle w within is not_greater rises left = grind (arith, nat_tests, greater_after)
 
   -- after a look at the element `half` after the first, those after that are greater, or that is the first
   pub narrows_half : (o : Ordering) (low size half next : ℕ) (w : V) → half ≤ size - half → low + size ≤ n
@@ -214,16 +194,8 @@ module _ {V : Type 0} (is_scalar : V → Bool) (stored : V → List ℕ) (answer
       → IsStored is_scalar stored (at (low + half)) w → Rises is_scalar stored answer at n
       → Narrows is_scalar stored answer at n low (low + size)
       → Narrows is_scalar stored answer at n next (next + (size - half))
-  narrows_half Less low size half next w halved fits within chosen is_less is rises left =
-      let end : next + (size - half) ≡ low + size = omega (arith, chosen) in
-      rw (end, chosen) (narrows_up low (low + size) (low + half) w within is (λ greater. cc) rises left)
-  narrows_half Equal low size half next w halved fits within chosen is_equal is rises left =
-      let end : next + (size - half) ≡ low + size = omega (arith, chosen) in
-      rw (end, chosen) (narrows_up low (low + size) (low + half) w within is (λ greater. cc) rises left)
-  narrows_half Greater low size half next w halved fits within chosen is_greater is rises left = rw chosen (record {
-    first = left.first;
-    greater = λ k v from. greater_after (low + half) w is is_greater rises k v (omega arith);
-  })
+  narrows_half o low size half next w halved fits within chosen is_less is rises left =
+      grind (arith, nat_tests, narrows_up, greater_after)
 
   -- where one element is left, and it is not equal, its answer says where the array is split
   pub splits_at_one : (o : Ordering) (low high place : ℕ) (w : V) → high ≤ low + 1 → low < n → IsFalse (is_eq o)

@@ -1,11 +1,10 @@
 -- The bytes that std reads and writes, in the words of numerals.
 use Rattle.std.proofs.Common.{◌≡◌, ◌∙◌, ◌+◌, drop-cons, drop_of_length-le, sym, ap, ℕ, zero, suc, ◌*◌, ◌^◌, ◌<◌, ◌≤◌, ℤ}
-use Rattle.std.proofs.Common.{pos, negsuc, ◌+ℤ◌, ◌*ℤ◌, List, [], ◌∷◌, length, get_or, drop, ◌≢◌, Option, Result, Ok}
-use Rattle.std.proofs.Common.{Err, MatchResult, IfSome, arith, IsTrue, mod-eq_of_lt, w8, w16, w32, w64, SFits, to_z}
-use Rattle.std.proofs.Common.{of_z}
+use Rattle.std.proofs.Common.{pos, negsuc, ◌+ℤ◌, ◌*ℤ◌, List, [], ◌∷◌, length, get_or, drop, ◌≢◌, Option, Result}
+use Rattle.std.proofs.Common.{MatchResult, IfSome, arith, IsTrue, mod-eq_of_lt, w8, w16, w32, w64, SFits, to_z, of_z}
 use Rattle.std.proofs.lemmas.Int.{to_z-of_z}
 use Rattle.std.proofs.lemmas.Bool.Decides.{nat_tests}
-use Rattle.std.proofs.Math.Facts.{Fits-of_z, Fits-of_lt, sfits_to_z}
+use Rattle.std.proofs.Math.Facts.{Fits-of_z, sfits_to_z}
 use Rattle.std.specs.Int.{Width, w128, byte_len, to_be_bytes, from_be_bytes}
 use Rattle.std.specs.Result.{result_ok}
 use Rattle.std.specs.Array.{IsWholeChunk}
@@ -71,18 +70,14 @@ to_z-signed_numeral w bytes below =
 pub chunk_is_bytes : {E : Type 0} (n : ℕ) (slice : List ℕ) (array : Result (List ℕ) E) (found : Option (List ℕ))
     → MatchResult array (λ bytes. IsWholeChunk slice bytes n) (λ _. length slice ≢ n) → found ≡ result_ok array
     → ((i : ℕ) → get_or slice i 0 < 256) → IfSome found (λ bytes. IsTrue (are_bytes n bytes))
-chunk_is_bytes n slice (Ok bytes) found chunk is each =
-    rw (is, chunk.same) (are_bytes_in n slice chunk.long each)
-chunk_is_bytes n slice (Err e) found chunk is each = rw is tt
+chunk_is_bytes n slice array found chunk is each = grind (arith, nat_tests, are_bytes_in)
 
 -- ---- what std's calls read and write, in the form that the goals of `from_raw` and `to_raw` have
 
 pub signed_read : (w : Width) (bytes : List ℕ) (n : ℕ) (z : ℤ) → length bytes ≡ byte_len w → n < 2 ^ bits w
     → n ≡ from_be_bytes w bytes → z ≡ to_z w n → to_z w (of_z w z) ≡ signed_numeral (byte_len w) bytes
 signed_read w bytes n z many below is cast =
-    let number : n ≡ numeral bytes = is ∙ from_be_bytes-numeral w bytes many in
-    let fits : SFits w z = rw cast (sfits_to_z (Fits-of_lt below)) in
-    to_z-of_z w z fits ∙ cast ∙ ap (to_z w) number ∙ to_z-signed_numeral w bytes (rw (← number) below)
+    grind (arith, nat_tests, from_be_bytes-numeral, sfits_to_z, to_z-of_z, to_z-signed_numeral)
 
 signed_written : (w : Width) (z : ℤ) (bytes : List ℕ) → SFits w z → bytes ≡ to_be_bytes w (of_z w (to_z w (of_z w z)))
     → bytes ≡ bytes_of (byte_len w) z

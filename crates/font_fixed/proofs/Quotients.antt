@@ -50,7 +50,18 @@ pub signed_is_mul_div : (x a c r : ℤ) (s t : Bool) (m i j k : ℕ) → s ≡ d
     → (0 < k → m ≡ near_magnitude (i * j) k) → (k ≡ 0 → m ≡ 2 ^ 31 - 1) → r ≡ wrap 32 (signed (not (beq s t)) m)
     → IsMulDiv 32 x a c r
 signed_is_mul_div x a c r s t m i j k both one first second third near by_zero is =
-    grind (arith, nat_tests, differ_false, wrap-fits, ends_fit, product_signed, signed_is_near, not_negative, signed_not, differ_true)
+    grind (
+      arith,
+      nat_tests,
+      wrap-fits,
+      ends_fit,
+      product_signed,
+      signed_is_near,
+      signed_not,
+      not_negative,
+      differ_false,
+      differ_true,
+    )
 
 -- ---- a magnitude of which 32 bits are kept, and its sign
 

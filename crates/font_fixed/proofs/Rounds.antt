@@ -1,5 +1,5 @@
--- Numbers of w bits with f bits of fraction, for every f in range: the steps and halves that code has, floors by shifts,
--- and the nearest integer as the floor of half a step more.
+-- Numbers of w bits with f bits of fraction, for every f in range: the steps and halves that code has, floors by
+-- shifts, and the nearest integer as the floor of half a step more.
 use Rattle.std.proofs.Common.{◌≡◌, ◌∙◌, ap, refl, ℕ, suc, ◌+◌, ◌-◌, ◌*◌, ◌/◌, ◌%◌, ◌^◌, ◌<◌, ◌≤◌, ℤ, pos, negsuc, neg_ℤ}
 use Rattle.std.proofs.Common.{◌+ℤ◌, ◌*ℤ◌, arith, pow_pos, div-add-mod', IsTrue, SFits, to_z, of_z, pow-add, mod-lt}
 use Rattle.std.proofs.lemmas.Int.{ints, by_lt_z, to_z_pos, to_z-of_z}
@@ -123,5 +123,5 @@ no_nearest w m f x all many few fits far near =
     let most : ℤ = pos (2 ^ (bits w - f - 1)) in
     let high = (up_is x (2 ^ f) (pow_pos f)).high in
     let next = times-next (up x (2 ^ f)) (2 ^ f) in
-    let above = fits_low (2 ^ f) most (x +ℤ pos half) (up x (2 ^ f)) (omega (arith, ints, more)) (omega (arith, ints)) in
+    let above = fits_low (2 ^ f) most (x +ℤ pos half) _ (omega (arith, ints, more)) (omega (arith, ints)) in
     omega (arith, ints, times_monotone most (up x (2 ^ f)) (2 ^ f) above))

@@ -118,33 +118,13 @@ pub composed_is_close : (a b : Matrix ℤ) (p moved : Point ℤ) → moved ≡ i
     (matrix_product wrapped_sum wrapped_product a b) p
     → FitsComposed a b p → IsCloseComposed a b p moved
 composed_is_close a b p moved value fits =
-    let first = fits.product in
-    let last = fits.image in
-    let exact : moved ≡ image_of ◌+ℤ◌ rounded_product (matrix_product ◌+ℤ◌ rounded_product a b) p = value ∙ simp (
-      wrap-add_left,
-      wrap-add_right,
-      wrap-fits,
-      some_bits,
-      first.xx,
-      first.yx,
-      first.xy,
-      first.yy,
-      first.dx,
-      first.dy,
-      last.x,
-      last.y,
-    ) in
-    rw exact (record { x = composed_close a.xx a.xy a.dx b p; y = composed_close a.yx a.yy a.dy b p })
+    grind (arith, nat_tests, wrap-add_left, wrap-add_right, wrap-fits, some_bits, composed_close)
 
 pub in_turn_is_close : (a b : Matrix ℤ) (p moved : Point ℤ) → moved ≡ image_of wrapped_sum wrapped_product a
     (image_of wrapped_sum wrapped_product b p)
     → FitsInTurn a b p → IsCloseInTurn a b p moved
 in_turn_is_close a b p moved value fits =
-    let first = fits.first in
-    let last = fits.image in
-    let exact : moved ≡ image_of ◌+ℤ◌ rounded_product a (image_of ◌+ℤ◌ rounded_product b p) = value ∙ simp
-    (wrap-add_left, wrap-add_right, wrap-fits, some_bits, first.x, first.y, last.x, last.y) in
-    rw exact (record { x = in_turn_close a.xx a.xy a.dx b p; y = in_turn_close a.yx a.yy a.dy b p })
+    grind (arith, nat_tests, wrap-add_left, wrap-add_right, wrap-fits, some_bits, in_turn_close)
 
 -- ---- entries that are not too large
 product_bound : (u v : ℕ) (x y : ℤ) → unsigned_abs x ≤ u → unsigned_abs y ≤ v

@@ -1,6 +1,7 @@
 -- Good bytes, index by index, and where others go wrong.
 use Rattle.std.proofs.Common.{◌≡◌, ◌≢◌, sym, ap, ℕ, ◌+◌, ◌-◌, ◌<◌, ◌≤◌, List, ◌++◌, length, take, replicate, get_or}
 use Rattle.std.proofs.Common.{arith, [], ◌∷◌, min, rules, take_all, append_assoc}
+use Rattle.std.proofs.lemmas.Bool.Decides.{nat_tests}
 use Rattle.std.proofs.lemmas.Grind.{elements}
 use Rattle.std.proofs.lemmas.List.{places, replicate-append-replicate}
 use Rattle.std.proofs.lemmas.List.Elements.{All-from_get_or}
@@ -25,13 +26,7 @@ good_to bytes n m to = record {
 }
 
 pub to_good : (bytes : List ℕ) (good : IsGood bytes) → GoodTo bytes (length good.run) (length bytes)
-to_good bytes good = record {
-  nonempty = good.nonempty;
-  run_within = search (rules, places, good.whole);
-  within = omega arith;
-  visible = λ i below. grind (arith, elements, good);
-  spaces = λ i from below. grind (arith, elements, good);
-}
+to_good bytes good = grind (arith, nat_tests, places)
 
 shorter : (bytes : List ℕ) (n m k : ℕ) → GoodTo bytes n m → 0 < k → k ≤ m → GoodTo bytes (min n k) k
 shorter bytes n m k to some room = omega (arith, to)
@@ -71,13 +66,7 @@ spaces_not_good bytes same good = let to = to_good bytes good in
 
 -- spaces fill good bytes
 pub filled_good : (bytes : List ℕ) (k : ℕ) → IsGood bytes → IsGood (bytes ++ replicate k 0x20)
-filled_good bytes k good = record {
-  run = good.run;
-  spaces = good.spaces + k;
-  nonempty = good.nonempty;
-  visible = good.visible;
-  whole = rw good.whole (simp (append_assoc, replicate-append-replicate));
-}
+filled_good bytes k good = grind (arith, nat_tests, append_assoc, replicate-append-replicate)
 
 pub filled_valid : (bytes tag : List ℕ) → tag ≡ filled bytes → IsGood bytes → IsGood tag
 filled_valid bytes tag is good = rw is (filled_good bytes (4 - length bytes) good)

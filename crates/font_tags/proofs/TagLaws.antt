@@ -1,7 +1,7 @@
 -- Laws of tags: the two judges agree, and a printed text is that of one tag alone.
-use Rattle.std.proofs.Common.{◌≡◌, ◌≢◌, sym, ap, refl, ℕ, suc, ◌-◌, ◌/◌, ◌%◌, ◌<◌, ◌≤◌, ◌⊎◌, inl, inr, true, IsTrue}
-use Rattle.std.proofs.Common.{List, [], ◌∷◌, ◌++◌, length, get_or, Result, Ok, Err, IsOk, ◌↔◌, nat_lt, ◌==◌, IsUtf8}
-use Rattle.std.proofs.Common.{arith, rules}
+use Rattle.std.proofs.Common.{◌≡◌, ◌≢◌, sym, ap, refl, ℕ, suc, ◌/◌, ◌%◌, ◌<◌, ◌≤◌, ◌⊎◌, inl, inr, true, IsTrue, List}
+use Rattle.std.proofs.Common.{[], ◌∷◌, ◌++◌, length, get_or, Result, Ok, Err, IsOk, ◌↔◌, nat_lt, ◌==◌, IsUtf8, arith}
+use Rattle.std.proofs.Common.{rules}
 use Rattle.std.proofs.lemmas.Bool.{and_parts}
 use Rattle.std.proofs.lemmas.Bool.Decides.{nat_tests}
 use Rattle.std.proofs.lemmas.List.{get_or_past}
@@ -31,10 +31,7 @@ validated_good bytes (Err (ByteAfterSpace index)) judged = search (rules, tag_ju
 -- so does the other, of as many bytes as a tag may have
 pub checked_good : (bytes : List ℕ) (checked : Result Tag InvalidTag) → 0 < length bytes → length bytes ≤ 4
     → IsChecked bytes checked → IsOk checked ↔ IsGood bytes
-checked_good bytes (Ok tag) some few judged = search (rules, tag_judgements)
-checked_good bytes (Err (InvalidLength n)) some few judged = absurd (judged.0 (some, few))
-checked_good bytes (Err (InvalidByte index byte)) some few judged = search (rules, tag_judgements, judged)
-checked_good bytes (Err (ByteAfterSpace index)) some few judged = absurd judged
+checked_good bytes checked some few judged = grind (arith, nat_tests, tag_judgements)
 
 -- a tag validates exactly where its four bytes are accepted
 pub validates_where_checked : (tag : Tag) (checked : Result Tag InvalidTag) (validated : Result (Unit {0}) InvalidTag)
@@ -49,9 +46,7 @@ validates_where_checked tag checked validated are first second =
 -- a tag that was made of accepted bytes validates
 pub checked_validates : (bytes : List ℕ) (tag : Tag) (validated : Result (Unit {0}) InvalidTag)
     → IsChecked bytes (Ok tag) → IsValidated (tag_bytes tag) validated → IsOk validated
-checked_validates bytes tag validated checked judged =
-    (validated_good (tag_bytes tag) validated judged).1
-    (rw checked.1 (filled_good bytes (4 - length bytes) checked.0.1))
+checked_validates bytes tag validated checked judged = grind (arith, nat_tests, validated_good, filled_good)
 
 -- ---- good bytes are text: each is below 0x80
 
