@@ -8,7 +8,6 @@ use Rattle.std.proofs.lemmas.Bool.Decides.{nat_tests}
 use Rattle.std.proofs.lemmas.List.Sorted.{searchable_from_sorted}
 use Rattle.std.specs.Cmp.{nat_cmp_is, nat_cmp_total}
 use Rattle.std.specs.List.Sorted.{IsBinarySearchResult}
-use Rattle.std.specs.Ordering.{ordering_index}
 use Rattle.font_base.specs.Bytes.{numeral, signed_numeral, bytes_of}
 use Rattle.font_base.specs.Bytes.Laws.{unsigned_back}
 use Rattle.font_base.specs.Elements.{element, IsStored, StoresOne, Rises, Splits}
@@ -26,10 +25,6 @@ int24_of_stored n bytes stored =
     int24_numeral (int24_number n) bytes (record { low = n.low; high = n.high }) (sym stored)
 
 pub ruleset scalar_calls = (uint24_of_stored, int24_of_stored)
-
--- a greater number is not answered less
-nat_cmp_rises : (x y key : ℕ) → x ≤ y → ordering_index (nat_cmp x key) ≤ ordering_index (nat_cmp y key)
-nat_cmp_rises x y key less = grind (arith, nat_tests)
 
 -- where elements are in the order of their numbers, and a binary search answers no place, none has the number
 pub absent : {X : Type 0} (number_of : X → ℕ) (xs : List X) (n : ℕ) (result : Result ℕ ℕ)
