@@ -206,15 +206,8 @@ fn image<A: Allocator>(words: Words<'_>, output: &mut String<A>) -> Result<(), U
 #[inline(never)]
 fn sum<A: Allocator>(alloc: A, words: Words<'_>, output: &mut String<A>) -> Result<(), Unanswered> {
     let terms = terms(alloc, words)?;
-    append_sum(&terms, output)
-}
-
-// Appends the sum of these terms.
-fn append_sum<A: Allocator>(
-    terms: &[(Fixed, i32)],
-    output: &mut String<A>,
-) -> Result<(), Unanswered> {
-    append(checked_delta_sum(terms).ok_or(Refusal::OutOfRange)?, output)
+    let sum = checked_delta_sum(&terms).ok_or(Refusal::OutOfRange)?;
+    append(sum, output)
 }
 
 // Appends a value in font units varied by the sum of terms.
@@ -228,17 +221,6 @@ fn append_varied<A: Allocator>(
     in_pairs(&words)?;
     let units = whole_number_16(base)?;
     let terms = terms(alloc, words)?;
-    append_units(units, &terms, output)
-}
-
-// Appends a value in font units varied by the sum of these terms.
-fn append_units<A: Allocator>(
-    units: i16,
-    terms: &[(Fixed, i32)],
-    output: &mut String<A>,
-) -> Result<(), Unanswered> {
-    append(
-        vary(FWord::new(units), terms).ok_or(Refusal::OutOfRange)?,
-        output,
-    )
+    let varied = vary(FWord::new(units), &terms).ok_or(Refusal::OutOfRange)?;
+    append(varied, output)
 }

@@ -4,7 +4,7 @@
 
 use crate::host::*;
 
-use crate::fontval::refusal::Unanswered;
+use crate::fontval::refusal::{Refusal, Unanswered};
 use crate::host::alloc::Allocator;
 use font_types_proved::{DecimalFault, Scalar};
 use std::fmt::Display;
@@ -23,7 +23,8 @@ pub fn append_read<T: Scalar<Raw = [u8; N]>, const N: usize, A: Allocator>(
     number: Result<T, DecimalFault>,
     output: &mut String<A>,
 ) -> Result<(), Unanswered> {
-    append_bytes(number?.to_raw().as_slice(), output)
+    let number = number.map_err(Refusal::from)?;
+    append_bytes(number.to_raw().as_slice(), output)
 }
 
 // Appends at most eight bytes in lower-case hexadecimal digits.

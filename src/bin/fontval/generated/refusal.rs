@@ -34,7 +34,7 @@ impl core::fmt::Display for Refusal {
             Self::NotHexadecimal => write!(f, "not hexadecimal bytes of the type"),
             Self::NotDecimal => write!(f, "not a decimal number"),
             Self::OutOfRange => write!(f, "number out of range"),
-            Self::NotWhole => write!(f, "not a whole number"),
+            Self::NotWhole => write!(f, "not an integer"),
         }
     }
 }
@@ -77,11 +77,5 @@ impl From<AllocError> for Unanswered {
 impl From<Refusal> for Unanswered {
     fn from(refusal: Refusal) -> Unanswered {
         Unanswered::Refused(refusal)
-    }
-}
-
-impl From<DecimalFault> for Unanswered {
-    fn from(fault: DecimalFault) -> Unanswered {
-        Unanswered::Refused(fault.into())
     }
 }

@@ -14,7 +14,7 @@ pub struct FromRead<R> {
 }
 
 impl<R: Read> FromRead<R> {
-    /// A source that has not failed yet.
+    /// Creates a source that has not failed.
     pub fn new(reader: R) -> Self {
         FromRead {
             reader,

@@ -8,14 +8,14 @@ use super::{Failed, Sink};
 use crate::host::io::Write;
 
 /// A sink over a writer. Each error of the writer is a failure, an interrupted call too, and so
-/// is a write of a nonempty slice that takes no byte.
+/// is a write that takes no byte of a nonempty slice.
 pub struct FromWrite<W> {
     writer: W,
     failed: bool,
 }
 
 impl<W: Write> FromWrite<W> {
-    /// A sink that has not failed yet.
+    /// Creates a sink that has not failed.
     pub fn new(writer: W) -> Self {
         FromWrite {
             writer,
