@@ -1,4 +1,4 @@
--- Products of whole numbers, which std lacks: with an opposite, with the next number, in order, and by two factors.
+-- Products of integers, which std lacks: with an opposite, with the next number, in order, and by two factors.
 use Rattle.std.proofs.Common.{◌≡◌, ℕ, suc, ◌*◌, ℤ, pos, negsuc, arith, neg_ℤ, ◌+ℤ◌, ◌*ℤ◌, ◌≤ℤ◌, mul-le-mul_right}
 use Rattle.std.proofs.lemmas.Bool.Decides.{nat_tests}
 use Rattle.std.proofs.Math.IntN.{+ℤ_one, suc_ℤ-*ℤ}

@@ -1,4 +1,4 @@
--- Each fraction n / d with 0 < d has one nearest whole number, by either rule for ties.
+-- Each fraction n / d with 0 < d has one nearest integer, by either rule for ties.
 use Rattle.std.proofs.Common.{◌≡◌, ℕ, suc, ◌+◌, ◌*◌, ◌/◌, ◌<◌, ◌≤◌, Bool, true, false, ℤ, pos, negsuc, sym, arith}
 use Rattle.std.proofs.Common.{neg_ℤ, ◌+ℤ◌, ◌*ℤ◌, ◌≤ℤ◌, unsigned_abs, mul-le-mul_right, mul-lt-mul_of_pos_right, suc-mul}
 use Rattle.std.proofs.lemmas.Bool.Decides.{nat_tests}
@@ -63,7 +63,7 @@ near_monotone {n = negsuc n} {m = negsuc m} h k x y order =
     let second = near_to true (suc m) _ _ k y in
     omega (arith, ints, rounded_monotone k second.rounded first.rounded (omega (arith, ints)))
 
--- each fraction has just one nearest whole number
+-- each fraction has just one nearest integer
 pub near_unique : (n : ℤ) (d : ℕ) (q r : ℤ) → 0 < d → Near n d q → Near n d r → q ≡ r
 near_unique n d q r h x y =
     omega (arith, ints, near_monotone h h x y (omega (arith, ints)), near_monotone h h y x (omega (arith, ints)))
@@ -98,7 +98,7 @@ up_gives n d q h x =
     let same : n ≤ℤ n = omega (arith, ints) in
     omega (arith, ints, up_monotone x (up_is n d h) same, up_monotone (up_is n d h) x same)
 
--- a whole number is its own
+-- an integer rounds to itself
 pub up_whole : (z : ℤ) (d : ℕ) → 0 < d → Up (z *ℤ pos d) d z
 up_whole z d h = record { low = omega (arith, ints); high = rw (times-next z d) (omega (arith, ints)) }
 

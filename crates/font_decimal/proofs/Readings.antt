@@ -65,7 +65,7 @@ pub answers_as : (text : List ℕ) (f : ℕ) (min max : ℤ) (q r : Result ℤ D
 answers_as text f min max q r x =
     (λ e. rw e at x, λ y. reading_unique text f min max q r x y)
 
--- the range may judge either of two numbers of steps, if they are equal or both above 2^63
+-- the test of the range holds of both of two numbers of steps that are equal or both above 2^63, or of neither
 pub judged_by_range : {text : List ℕ} {f : ℕ} (s : Bool) (n steps : ℕ) (min max : ℤ) (r : Option ℤ) → FitsSigned w64 min
     → FitsSigned w64 max → (n ≡ steps) ⊎ ((2 ^ 63 < n) × (2 ^ 63 < steps)) → Rounds text f (signed s steps)
     → SomeIff r ((min ≤ℤ signed s n) × (signed s n ≤ℤ max)) (signed s n) → IsReading text f min max (ok_or r OutOfRange)

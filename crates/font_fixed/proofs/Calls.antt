@@ -68,7 +68,7 @@ pub ruleset calls_32 = (fits_32, add_zero, zero_add, sub_zero, add_sub_cancel_32
 
 pub ruleset calls_64 = (fits_64, add_zero, zero_add, sub_zero, add_sub_cancel_64, sub_add_cancel_64)
 
--- a whole number of steps needs no rounding
+-- an integral number of steps needs no rounding
 pub near-times : (q : ℤ) (d : ℕ) → 0 < d → near (q *ℤ pos d) d ≡ q
 near-times q d some = sym (near_gives (q *ℤ pos d) d q some (near_exact q d some))
 

@@ -1,4 +1,4 @@
--- What callers name once of narrowings: what lies from -1 to 1 stays there, and a whole number, or a widened one, comes
+-- What callers name once of narrowings: what lies from -1 to 1 stays there, and an integer, or a widened one, comes
 -- back. Widened numbers of 16 bits have exact differences.
 use Rattle.std.proofs.Common.{◌≡◌, ◌∙◌, refl, lit<, ℕ, ◌-◌, ◌*◌, ◌^◌, ◌<◌, ℤ, pos, neg_ℤ, ◌+ℤ◌, ◌*ℤ◌, ◌-ℤ◌, ◌≤ℤ◌, ◌<ℤ◌}
 use Rattle.std.proofs.Common.{arith, w16, w32, w64, pow_pos, SFits, to_z, of_z}
@@ -26,7 +26,7 @@ narrowed_near v d n wide some low high =
     let fits : FitsBits v (up n d) = omega (arith, ints, from, to, pow_pos (v - 1)) in
     rw (wrap-fits v (up n d) wide fits) nearest
 
--- a whole number of steps comes back
+-- an integral number of steps comes back
 narrowed-times : (v d : ℕ) (z : ℤ) → 0 < v → 0 < d → FitsBits v z → wrap v (up (z *ℤ pos d) d) ≡ z
 narrowed-times v d z wide some fits = rw (up-times z d some) (wrap-fits v z wide fits)
 
@@ -79,7 +79,7 @@ pub quarter_difference : (a b : ℤ) → SFits w16 a → SFits w16 b
     → wrap 32 ((b *ℤ pos 4) -ℤ (a *ℤ pos 4)) ≡ ((b -ℤ a) *ℤ pos 4)
 quarter_difference a b fits_a fits_b = grind (arith, ints, fits_32)
 
--- ---- whole numbers
+-- ---- integers
 
 -- of 16 bits, in 16.16
 pub whole_16_back : (z : ℤ) → SFits w16 z → wrap 16 (up (z *ℤ pos 65536) 65536) ≡ z

@@ -28,7 +28,7 @@ fits_high : (d h : ℕ) (s q : ℤ) → s <ℤ pos (h * d) → (q *ℤ pos d) �
 fits_high d h s q high low = by_lt_z q (pos h) (λ less. less)
     (λ more. absurd (omega (arith, sums, high, low, times_monotone (pos h) q d more)))
 
--- numbers of w bits are v bits of whole numbers, each of d steps, and a half step above is `half` of these
+-- numbers of w bits are v bits of integers, each of d steps, and a half step above is `half` of these
 abbrev pub is_width_split : ℕ → ℕ → ℕ → ℕ → Bool
 is_width_split w v d half = nat_lt 0 v &&
     ((d == half + half) && ((2 ^ w == 2 ^ v * d) && (half_range w == half_range v * d)))
@@ -67,7 +67,7 @@ is_narrowed w v d half x s q it wide is low high =
       is = wrapped ∙ ap (wrap v) (up_gives x d (q +ℤ turns) it.steps nearest);
     }
 
--- wrapping whole numbers, and then taking so many steps
+-- wrapping integers, and then taking so many steps
 wrap-times : (w v d half : ℕ) (z : ℤ) → WidthSplit w v d half → 0 < w → (wrap v z *ℤ pos d) ≡ wrap w (z *ℤ pos d)
 wrap-times w v d half z it wide =
     let given = wrap_is v z it.some in
@@ -82,7 +82,7 @@ wrap-times w v d half z it wide =
           ∙ rw it.whole (ap (λ n. (wrap v z *ℤ pos d) +ℤ n) apart);
     })
 
--- the same where the bits of the whole number are kept
+-- the same where the bits of the integer are kept
 pub floor_is_nearest_whole : (w f : ℕ) (x s r : ℤ) → s ≡ wrap w (x +ℤ pos (2 ^ f / 2)) → IsFloor f s r
     → IsTrue (is_width_split w (w - f) (2 ^ f) (2 ^ f / 2)) → 0 < w → IsNearestWhole w f x r
 floor_is_nearest_whole w f x s r is floor test wide =

@@ -10,7 +10,7 @@ use Rattle.font_decimal.proofs.Near.{IsNearMagnitude, near_to, near_gives}
 use Rattle.font_fixed.specs.Operations.{IsWrappedNear, wrapped_near, IsProduct, IsQuotient, IsMulDiv}
 use Rattle.font_fixed.specs.NumberLaws.{ProductLaws, ProductInOneStep, QuotientLaws, QuotientInOneStep}
 
--- a whole number needs no rounding
+-- an integer needs no rounding
 pub near_exact : (q : ℤ) (d : ℕ) → 0 < d → Near (q *ℤ pos d) d q
 near_exact q d some = omega (arith, ints)
 

@@ -1,4 +1,4 @@
--- For `omega`, to which products of two variables are unknowns here: sums of whole numbers, and products with literals.
+-- For `omega`, to which products of two variables are unknowns here: sums of integers, and products with literals.
 use Rattle.std.proofs.Common.{◌≡◌, ℕ, ◌*◌, ℤ, pos, ◌*ℤ◌, arith}
 use borrow.Author.Differences.{up, down, same_in, same_out, below_in, at_most_in, lt_out, le_out, sum_is_lem, neg_is}
 use borrow.Author.Differences.{abs_is, product_is}

@@ -49,7 +49,7 @@ room_parts : (h f room : ℕ) → IsTrue (is_room h f room) → (2 ^ f < 10 ^ mo
     × (most_places f + 2 < room)
 room_parts h f room test = grind (arith, nat_tests)
 
--- so a column of so many bytes, or of the width that is asked for, is not refused
+-- so a column of so many bytes, or of the width that is asked for, is not rejected
 abbrev pub HasRoom : Width → Type 0
 HasRoom w = (b : ℤ) (f room : ℕ) (pad : Pad) (old : List ℕ) (result : Option ℕ)
     → IsSome result ↔ (length (padded_text (shortest_text b f) pad) ≤ length old) → SFits w b

@@ -85,5 +85,5 @@ pub filled_four : (xs : List ℕ) → length xs ≡ 4
     → get_or xs 0 0 ∷ get_or xs 1 0 ∷ get_or xs 2 0 ∷ get_or xs 3 0 ∷ [] ≡ filled xs
 filled_four xs is = sym (ap filled (items_are 4 0 xs is))
 
--- what the judges of tags rest on
+-- the lemmas that validation cites
 pub ruleset tag_judgements = (fault_not_good, spaces_not_good, filled_valid)

@@ -1,4 +1,4 @@
--- Laws of tags: the two judges agree, and a printed text is that of one tag alone.
+-- Laws of tags: `validate` and `new_checked` agree, and a printed text is that of one tag alone.
 use Rattle.std.proofs.Common.{◌≡◌, ◌≢◌, sym, ap, refl, ℕ, suc, ◌/◌, ◌%◌, ◌<◌, ◌≤◌, ◌⊎◌, inl, inr, true, IsTrue, List}
 use Rattle.std.proofs.Common.{[], ◌∷◌, ◌++◌, length, get_or, Result, Ok, Err, IsOk, ◌↔◌, nat_lt, ◌==◌, IsUtf8, arith}
 use Rattle.std.proofs.Common.{rules}
@@ -18,9 +18,9 @@ use Rattle.font_tags.specs.Tag.{tag_bytes, tag_of, IsGood, IsChecked, IsValidate
 use Rattle.font_tags.proofs.Good.{tag_judgements, spaces_not_good, filled_good, to_good}
 use Rattle.font_tags.proofs.TagText.{IsHidden, byte_text-hidden}
 
--- ---- the judges
+-- ---- validation
 
--- the judge of tags says yes exactly to good bytes
+-- `validate` accepts exactly good bytes
 pub validated_good : (bytes : List ℕ) (validated : Result (Unit {0}) InvalidTag) → IsValidated bytes validated
     → IsOk validated ↔ IsGood bytes
 validated_good bytes (Ok u) judged = search (rules, tag_judgements)
@@ -28,7 +28,7 @@ validated_good bytes (Err (InvalidLength n)) judged = search (rules, spaces_not_
 validated_good bytes (Err (InvalidByte index byte)) judged = search (rules, tag_judgements, judged)
 validated_good bytes (Err (ByteAfterSpace index)) judged = search (rules, tag_judgements, judged)
 
--- so does the other, of as many bytes as a tag may have
+-- and so does `new_checked`, of as many bytes as a tag may have
 pub checked_good : (bytes : List ℕ) (checked : Result Tag InvalidTag) → 0 < length bytes → length bytes ≤ 4
     → IsChecked bytes checked → IsOk checked ↔ IsGood bytes
 checked_good bytes checked some few judged = grind (arith, nat_tests, tag_judgements)
