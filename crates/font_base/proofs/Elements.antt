@@ -1,4 +1,4 @@
--- What an array of elements is made of, and where a search in it ends.
+-- Elements of an array, from either end and by index, and binary search.
 use Rattle.std.proofs.Common.{◌≡◌, ◌≢◌, ◌∙◌, ap, refl, ℕ, zero, suc, ◌+◌, ◌-◌, ◌*◌, ◌/◌, ◌%◌, ◌<◌, ◌≤◌, Bool}
 use Rattle.std.proofs.Common.{if◌then◌else◌, IsFalse, List, [], ◌∷◌, ◌++◌, length, take, drop, arith, rules, add-one}
 use Rattle.std.proofs.Common.{div-mul-le_self, mul-div_cancel, suc-mul, zero-mul, length-drop, length-take-le}
@@ -14,7 +14,7 @@ pub length-elements : (size n : ℕ) (bytes : List ℕ) → length (elements siz
 length-elements size zero bytes = refl
 length-elements size (suc n) bytes = ap suc (length-elements size n (drop size bytes))
 
--- where there is an element, its size is not 0, and the bytes are as many at least
+-- if there is an element, its size is not 0, and at most the number of bytes
 sized : (size len : ℕ) → 0 < len / size → 0 < size
 sized size len some = grind (arith, nat_tests)
 
@@ -46,7 +46,7 @@ others_and_last size zero bytes = rw (zero-mul size)
 others_and_last size (suc n) bytes =
     rw (others_and_last size n (drop size bytes), drop-drop (n * size) size bytes, next_times n size)
 
--- bytes after n elements do not count
+-- n elements do not depend on the bytes after them
 elements-take : (size n : ℕ) (bytes : List ℕ) → elements size n (take (n * size) bytes) ≡ elements size n bytes
 elements-take size zero bytes = refl
 elements-take size (suc n) bytes = rw (
@@ -56,7 +56,7 @@ elements-take size (suc n) bytes = rw (
   elements-take size n (drop size bytes),
 )
 
--- what is an array of n + 1 elements has their bytes, and no others
+-- the bytes of an array of n + 1 elements are those of its elements
 whole_bytes : (size m : ℕ) (bytes : List ℕ) → length bytes % size ≡ 0 → length bytes / size ≡ m + 1
     → length bytes ≡ m * size + size
 whole_bytes size m bytes whole many = grind (arith, nat_tests)
@@ -99,7 +99,7 @@ parted size n many within = grind (arith, nat_tests)
 pub part_fits : (size len n : ℕ) → n ≤ len / size → n * size ≤ len
 part_fits size len n within = omega (arith, parted size n (len / size) within, div-mul-le_self len size)
 
--- so many elements are in the front, of bytes that hold them
+-- n elements in front of bytes that are long enough
 pub front_of : (size n : ℕ) (bytes : List ℕ) → n * size ≤ length bytes → length (take (n * size) bytes) % size ≡ 0
 front_of size n bytes fits = rw (length-take-le (n * size) bytes fits) (mul-mod_left n size)
 
@@ -126,7 +126,7 @@ take-elements size zero m bytes within = refl
 take-elements size (suc n) zero bytes within = absurd (omega arith)
 take-elements size (suc n) (suc m) bytes within = rw (take-elements size n m (drop size bytes) (omega arith))
 
--- n elements of this size are n, where there are any
+-- the bytes of n elements make n elements, unless there are none
 many_of : (size n len : ℕ) → n ≤ len / size → n * size / size ≡ n
 many_of size n len within = grind (arith, nat_tests)
 
@@ -166,8 +166,8 @@ low_less o low = grind (arith, nat_tests)
 high_greater : (o : Ordering) → ordering_index Greater ≤ ordering_index o → o ≡ Greater
 high_greater o high = grind (arith, nat_tests)
 
--- What the loop of a search keeps of the elements from `low` up to `high`, where the answers do not fall: the first of
--- them is the first of all or no `Greater`, and all after them are `Greater`.
+-- The invariant of a search from `low` up to `high`, if the comparisons are sorted: the first of these elements is the
+-- first of all or not `Greater`, and all after them are `Greater`.
 pub record Narrows {V : Type 0} (is_scalar : V → Bool) (stored : V → List ℕ) (answer : V → Ordering)
     (at : ℕ → List ℕ) (n low high : ℕ) : Type 0 where
   pub first : (v : V) → 0 < low → IsStored is_scalar stored (at low) v → answer v ≢ Greater
@@ -182,7 +182,7 @@ module _ {V : Type 0} (is_scalar : V → Bool) (stored : V → List ℕ) (answer
   greater_after middle w is greater rises k v from within is_v =
       high_greater (answer v) (rw greater at (rises.keeps middle k w v from within is is_v))
 
-  -- an element that is not greater is the first, and what was greater stays so
+  -- an element that is not greater is the first, and greater elements stay greater
   narrows_up : (low high middle : ℕ) (w : V) → middle < n → IsStored is_scalar stored (at middle) w
       → answer w ≢ Greater → Rises is_scalar stored answer at n → Narrows is_scalar stored answer at n low high
       → Narrows is_scalar stored answer at n middle high
@@ -197,7 +197,7 @@ module _ {V : Type 0} (is_scalar : V → Bool) (stored : V → List ℕ) (answer
   narrows_half o low size half next w halved fits within chosen is_less is rises left =
       grind (arith, nat_tests, narrows_up, greater_after)
 
-  -- where one element is left, and it is not equal, its answer says where the array is split
+  -- if one element is left and it is not equal, its comparison says where the array is split
   pub splits_at_one : (o : Ordering) (low high place : ℕ) (w : V) → high ≤ low + 1 → low < n → IsFalse (is_eq o)
       → place ≡ low + from_bool (is_lt o) → answer w ≡ o → IsStored is_scalar stored (at low) w
       → Rises is_scalar stored answer at n → Narrows is_scalar stored answer at n low high
@@ -217,7 +217,7 @@ module _ {V : Type 0} (is_scalar : V → Bool) (stored : V → List ℕ) (answer
 pub no_side : (before : Bool) → side before ≢ Equal
 no_side before same = grind (arith, nat_tests)
 
--- the place that a step of the search keeps, and what is left from there on, are in the array
+-- the index that a step of the search keeps, and the elements that are left, are in the array
 pub half_fits : (greater : Bool) (low size half next n : ℕ) → next ≡ (if greater then low else low + half)
     → half ≤ size → low + size ≤ n → next + (size - half) ≤ n
 half_fits greater low size half next n chosen some fits = grind (arith, nat_tests)

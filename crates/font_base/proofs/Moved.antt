@@ -1,4 +1,4 @@
--- A number of 16 bits that is moved by a signed one: the bytes of the sum.
+-- The bytes of the sum of an unsigned and a signed 16-bit number.
 use Rattle.std.proofs.Common.{◌≡◌, ◌∙◌, ap, ℕ, ◌+◌, ◌-◌, ◌<◌, ◌%◌, ℤ, pos, negsuc, neg_ℤ, ◌+ℤ◌, ◌-ℤ◌, ◌/◌, arith, SFits}
 use Rattle.std.proofs.Common.{of_z, w16}
 use Rattle.std.proofs.lemmas.Int.{ints}
@@ -14,7 +14,7 @@ moved_down : (m d : ℕ) → m < 65536 → d < 65536
 moved_down m d below small =
     bytes_of-same 2 _ _ (pos 1 -ℤ pos ((m + (65535 - d)) / 65536)) (omega (arith, ints, below, small))
 
--- what `wrapping_add_signed` gives
+-- the result of `wrapping_add_signed`
 pub bytes_moved : (m : ℕ) (y : ℤ) → m < 65536 → SFits w16 y
     → bytes_of 2 (pos ((m + of_z w16 y) % 65536)) ≡ bytes_of 2 (pos m +ℤ y)
 bytes_moved m (pos d) below fits = moved_up m d below (omega (arith, ints, fits))

@@ -1,4 +1,4 @@
--- Values that the definitions give, worked out by hand: that they mean what they should.
+-- Values of the definitions, worked out by hand.
 use Rattle.std.proofs.Common.{◌≡◌, refl, [], ◌∷◌, pos, neg_ℤ}
 use Rattle.font_base.specs.Wrap.{wrap}
 use Rattle.font_base.specs.Bytes.{numeral, bytes_of, signed_numeral}

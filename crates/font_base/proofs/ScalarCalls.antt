@@ -1,5 +1,5 @@
--- What callers of scalars and fields cite: the number of a 24-bit integer whose stored bytes are known, and a search
--- that found no place.
+-- Lemmas for callers of scalars and fields: the number of a 24-bit integer whose bytes are known, and a search that
+-- found nothing.
 use Rattle.std.proofs.Common.{◌≡◌, ◌≢◌, ◌∙◌, sym, ap, refl, arith, rules, ℕ, ◌^◌, ◌<◌, ◌≤◌, Bool, List, get_or, pos}
 use Rattle.std.proofs.Common.{nat_lt, Result, Ok, Err, IfOk, IfErr, MatchResult, All, IsSortedByKey, nat_cmp, Ordering}
 use Rattle.std.proofs.Common.{Equal}
@@ -26,7 +26,7 @@ int24_of_stored n bytes stored =
 
 pub ruleset scalar_calls = (uint24_of_stored, int24_of_stored)
 
--- where elements are in the order of their numbers, and a binary search answers no place, none has the number
+-- if elements are sorted by their numbers, and a binary search returns no index, none has the number
 pub absent : {X : Type 0} (number_of : X → ℕ) (xs : List X) (n : ℕ) (result : Result ℕ ℕ)
     → IsSortedByKey number_of nat_cmp xs
     → IsBinarySearchResult (λ x. nat_cmp (number_of x) n) xs result → IfErr result (λ _. All (λ x. number_of x ≢ n) xs)
@@ -41,19 +41,19 @@ absent number_of xs n (Err place) sorted searched =
 
 module _ {V : Type 0} (is_scalar : V → Bool) (stored : V → List ℕ) (answer : V → Ordering) (at : ℕ → List ℕ)
     (n : ℕ) where
-  -- what a search does not find is nowhere, where the answers do not fall along the array
+  -- a search finds every element that compares as equal, if the comparisons are sorted
   pub nowhere : (i k : ℕ) (v : V) → Rises is_scalar stored answer at n → (Rises is_scalar stored answer at n
       → Splits is_scalar stored answer at n i i) → k < n → IsStored is_scalar stored (at k) v → answer v ≢ Equal
   nowhere i k v rises splits within is same =
       let sides = splits rises in grind (arith, cases_lt k i, sides.less k v, sides.greater k v)
 
-  -- the answers do not fall where numbers are compared that do not
+  -- comparisons with a key are sorted if the numbers are
   pub rises_by : (number_of : V → ℕ) (key : ℕ) → ((v : V) → answer v ≡ nat_cmp (number_of v) key)
       → ((i j : ℕ) (v w : V) → i ≤ j → j < n → IsStored is_scalar stored (at i) v → IsStored is_scalar stored (at j) w
       → number_of v ≤ number_of w) → Rises is_scalar stored answer at n
   rises_by number_of key compares sorted = grind (arith, nat_tests)
 
--- the same of unsigned numbers of so many bytes, and of what is one, by their numerals
+-- the same for unsigned numbers of `size` bytes, and for types that are such a number, by their numerals
 module _ {V : Type 0} (number_of : V → ℕ) (size n key : ℕ) (at : ℕ → List ℕ) where
   abbrev is_number : V → Bool
   is_number v = nat_lt (number_of v) (256 ^ size)
@@ -81,7 +81,7 @@ module _ {V : Type 0} (number_of : V → ℕ) (size n key : ℕ) (at : ℕ → L
       → IfOk result (λ i. (i < n) × (at i ≡ bytes_of size (pos key)))
   number_found result found = grind (arith, nat_tests)
 
-  -- the same said by the numeral of the bytes
+  -- the same, stated by the numeral of the bytes
   pub numeral_found : (result : Result ℕ ℕ) → IsNumberSearched result
       → IfOk result (λ i. (i < n) × (numeral (at i) ≡ key))
   numeral_found result found = grind (arith, nat_tests, numeral_stored)
@@ -95,7 +95,7 @@ module _ {V : Type 0} (number_of : V → ℕ) (size n key : ℕ) (at : ℕ → L
       (record { bytes_are = ap (λ m. bytes_of size (pos m)) has ∙ sym same; is_value = rw has (search (rules, below)) })
       (sym (nat_cmp_is (number_of v) key Equal has))
 
--- a search in an array of 16-bit numbers, seen in the form that the goals of its callers have
+-- a search in an array of 16-bit numbers, in the form of its callers' goals
 module _ (bytes : List ℕ) (n key : ℕ) (result : Result ℕ ℕ) where
   abbrev pub IsSearchedWord : Type 0
   IsSearchedWord = IsNumberSearched (λ (m : ℕ). m) 2 n key (element 2 bytes) result

@@ -1,4 +1,4 @@
--- The bytes that std reads and writes, in the words of numerals.
+-- The bytes that std reads and writes, as numerals.
 use Rattle.std.proofs.Common.{◌≡◌, ◌∙◌, ◌+◌, drop-cons, drop_of_length-le, sym, ap, ℕ, zero, suc, ◌*◌, ◌^◌, ◌<◌, ◌≤◌, ℤ}
 use Rattle.std.proofs.Common.{pos, negsuc, ◌+ℤ◌, ◌*ℤ◌, List, [], ◌∷◌, length, get_or, drop, ◌≢◌, Option, Result}
 use Rattle.std.proofs.Common.{MatchResult, IfSome, arith, IsTrue, mod-eq_of_lt, w8, w16, w32, w64, SFits, to_z, of_z}
@@ -66,13 +66,13 @@ unfolding signed_numeral
 to_z-signed_numeral w bytes below =
     to_z-wrap w (numeral bytes) below ∙ ap (λ k. wrap k (pos (numeral bytes))) (width_facts w).1
 
--- what a slice of the right length is converted to
+-- the conversion of a slice of the right length
 pub chunk_is_bytes : {E : Type 0} (n : ℕ) (slice : List ℕ) (array : Result (List ℕ) E) (found : Option (List ℕ))
     → MatchResult array (λ bytes. IsWholeChunk slice bytes n) (λ _. length slice ≢ n) → found ≡ result_ok array
     → ((i : ℕ) → get_or slice i 0 < 256) → IfSome found (λ bytes. IsTrue (are_bytes n bytes))
 chunk_is_bytes n slice array found chunk is each = grind (arith, nat_tests, are_bytes_in)
 
--- ---- what std's calls read and write, in the form that the goals of `from_raw` and `to_raw` have
+-- ---- std's calls, in the form of the goals of `from_raw` and `to_raw`
 
 pub signed_read : (w : Width) (bytes : List ℕ) (n : ℕ) (z : ℤ) → length bytes ≡ byte_len w → n < 2 ^ bits w
     → n ≡ from_be_bytes w bytes → z ≡ to_z w n → to_z w (of_z w z) ≡ signed_numeral (byte_len w) bytes

@@ -15,7 +15,7 @@ pub last_three : (m : ℕ) (bytes : List ℕ) → bytes ≡ to_be_bytes w32 m
     → IsBytesOf 3 (pos m) (get_or bytes 1 0 ∷ get_or bytes 2 0 ∷ get_or bytes 3 0 ∷ [])
 last_three m bytes is = rw is (IsBytesOf-high_first 3 m)
 
--- the same where the number is negative
+-- the same if the number is negative
 pub last_three_signed : (z : ℤ) (bytes : List ℕ) → SFits w32 z
     → bytes ≡ to_be_bytes w32 (of_z w32 (to_z w32 (of_z w32 z)))
     → IsBytesOf 3 z (get_or bytes 1 0 ∷ get_or bytes 2 0 ∷ get_or bytes 3 0 ∷ [])
@@ -41,6 +41,6 @@ from_three (a ∷ b ∷ c ∷ d ∷ rest) many first second third = absurd (omeg
 pub uint24_numeral : (n : ℕ) (bytes : List ℕ) → n < 2 ^ 24 → bytes ≡ bytes_of 3 (pos n) → n ≡ numeral bytes
 uint24_numeral n bytes below given = sym (ap numeral given ∙ numeral-bytes_of 3 n below)
 
--- a signed number of three bytes is what they say in two's complement
+-- a signed number of three bytes is their numeral in two's complement
 pub int24_numeral : (z : ℤ) (bytes : List ℕ) → FitsBits 24 z → bytes ≡ bytes_of 3 z → z ≡ signed_numeral 3 bytes
 int24_numeral z bytes fits given = sym (ap (signed_numeral 3) given ∙ signed_numeral-bytes_of 3 z (lit< tt) fits)

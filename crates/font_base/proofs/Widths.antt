@@ -1,4 +1,4 @@
--- Wrapping at the widths of std's number types, in the words of std.
+-- Wrapping at the widths of std's number types, in std's terms.
 use Rattle.std.proofs.Common.{◌≡◌, ◌∙◌, sym, ap, ℕ, suc, ◌-◌, ◌^◌, ◌<◌, ℤ, pos, negsuc, inl, inr, arith, pow_pos, SFits}
 use Rattle.std.proofs.Common.{to_z}
 use Rattle.std.proofs.lemmas.Bool.Decides.{nat_tests}
@@ -16,7 +16,7 @@ half_range-bits w = grind (arith, nat_tests)
 pub bits_positive : (w : Width) → 0 < bits w
 bits_positive w = grind (arith, nat_tests)
 
--- a value of a signed type fits its bits, and the other way
+-- a number is a value of a signed type if and only if it fits in its bits
 pub signed_fits : (w : Width) (z : ℤ) → SFits w z → FitsBits (bits w) z
 signed_fits w z fits = omega (arith, ints, fits, half_range-bits w)
 

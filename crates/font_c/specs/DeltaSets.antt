@@ -5,7 +5,7 @@ use Rattle.std.specs.Prelude.{nat_lt, if◌then◌else◌, slice_index_or}
 use Rattle.font_types.specs.Bytes.{signed_numeral}
 use Rattle.font_c.specs.Status.{long_words, other_count, too_many}
 
--- the delta at an index of a delta set with so many words
+-- the delta at an index of a delta set with this number of words
 abbrev pub delta_at : ℕ → List ℕ → ℕ → ℤ
 delta_at words set index =
     if nat_lt index words then signed_numeral 2 (take 2 (drop (2 * index) set))

@@ -1,4 +1,4 @@
--- What is left of a text in a column when the spaces in front of it are taken away.
+-- Texts in columns, without the spaces before them.
 use Rattle.std.proofs.Common.{◌≡◌, ◌∙◌, ap, refl, ℕ, zero, suc, ◌+◌, ◌-◌, ◌<◌, ◌^◌, ◌≤◌, Bool, true, false, List, []}
 use Rattle.std.proofs.Common.{◌∷◌, ◌++◌, length, get_or, arith, ℤ, append-nil, cond, replicate, unsigned_abs}
 use Rattle.std.proofs.Common.{encode_utf8_all, IsAscii}
@@ -16,7 +16,7 @@ use Rattle.font_decimal.specs.declared.padding.Pad.{Pad}
 use Rattle.font_decimal.proofs.Texts.{decimal_is_ascii}
 use Rattle.font_decimal.proofs.Printed.{shortest_is}
 
--- spaces are white space, and a digit or a sign is none
+-- spaces are white space, and digits and signs are not
 digit_is_visible : (c : ℕ) → digit_value c < 10 → is_whitespace c ≡ false
 digit_is_visible c small = let digit = digit_from_value c small in grind (arith, nat_tests)
 
@@ -55,7 +55,7 @@ spaces_in_front : (text : List ℕ) (pad : Pad) → pad.fill ≡ 32 → pad.alig
 unfolding padded_text
 spaces_in_front text pad fill align plus zeros = grind (arith, nat_tests, append-nil, sign_and_body)
 
--- a printed text is what is left of it, padded by spaces in front, without white space there
+-- trimming the spaces before a printed text gives the text
 pub trimmed_column : (b : ℤ) (f : ℕ) (pad : Pad) → unsigned_abs b ≤ 2 ^ 63 → pad.fill ≡ 32 → pad.align ≡ Right
     → pad.plus ≡ false → pad.zeros ≡ false → trim_start (padded_text (shortest_text b f) pad) ≡ shortest_text b f
 trimmed_column b f pad small fill align plus zeros =

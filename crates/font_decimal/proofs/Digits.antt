@@ -1,4 +1,4 @@
--- The number that digits write, where they are joined and cut.
+-- The number of digits that are joined or split.
 use Rattle.std.proofs.Common.{◌≡◌, ℕ, zero, suc, ◌+◌, ◌-◌, ◌*◌, ◌%◌, ◌^◌, ◌<◌, ◌≤◌, inl, inr, List, [], ◌∷◌, ◌++◌}
 use Rattle.std.proofs.Common.{length, take, drop, refl, sym, ap, ◌∙◌, arith, rules, length-append, length-drop, get_or}
 use Rattle.std.proofs.Common.{true, pow-add, take-append-drop, length-take, pow-suc, mul-lt-mul_of_pos_right}
@@ -13,14 +13,14 @@ use Rattle.std.proofs.lemmas.Int.Digits.{digits_value-lt, digits_value_more}
 use Rattle.std.proofs.lemmas.Str.{digit_value_digit}
 use Rattle.std.proofs.lemmas.Str.Parse.{IsNumeralModel, numerals_by_value, tells_digits, digits_value_short}
 
--- digits that follow a number move it up by their count
+-- digits after a number multiply it by ten for each digit
 pub after_is : (n : ℕ) (cs : List ℕ) → digits_value_after 10 n cs ≡ n * 10 ^ length cs + digits_value 10 cs
 after_is n [] = omega arith
 after_is n (c ∷ cs) =
     rw (after_is (n * 10 + digit_value c) cs, after_is (0 * 10 + digit_value c) cs, pow-suc 10 (length cs))
     (omega arith)
 
--- digits are read in two goes as in one
+-- digits can be read in two parts
 after-append : (n : ℕ) (xs ys : List ℕ) → digits_value_after 10 n (xs ++ ys) ≡ digits_value_after 10
     (digits_value_after 10 n xs) ys
 after-append n [] ys = refl
@@ -31,7 +31,7 @@ pub digits_value-append : (xs ys : List ℕ) → digits_value 10 (xs ++ ys) ≡ 
     + digits_value 10 ys
 digits_value-append xs ys = after-append 0 xs ys ∙ after_is (digits_value 10 xs) ys
 
--- what is left of digits, from either end, is digits
+-- digits without some from either end are digits
 pub digits_parts : (n : ℕ) (xs : List ℕ) → AllDigits 10 xs → AllDigits 10 (take n xs) × AllDigits 10 (drop n xs)
 digits_parts zero xs p = (tt, p)
 digits_parts (suc n) [] p = (tt, tt)
@@ -42,7 +42,7 @@ pub digits-append : (xs ys : List ℕ) → AllDigits 10 xs → AllDigits 10 ys �
 digits-append [] ys p q = q
 digits-append (x ∷ xs) ys p q = (p.0, digits-append xs ys p.1 q)
 
--- a test of each byte tells digits
+-- digits are recognized by a test of each byte
 pub by_test : IsNumeralModel (λ ds. list_all is_ascii_digit ds ≡ true) (digits_value 10)
 by_test = numerals_by_value _ (search rules)
 
@@ -51,7 +51,7 @@ pub one_digit_more : (xs : List ℕ) (i : ℕ) → i < length xs → IsAsciiDigi
     → digits_value 10 (take (i + 1) xs) ≡ digits_value 10 (take i xs) * 10 + (get_or xs i 0 - 48)
 one_digit_more xs i low ascii = omega (arith, digits_value_more 10 xs i low, digit_value_digit (get_or xs i 0) ascii)
 
--- at most 18 digits write a number below 10^18
+-- at most 18 digits are a number below 10^18
 pub few_digits : (xs : List ℕ) (i : ℕ) → AllDigits 10 (take i xs) → i ≤ 18 → digits_value 10 (take i xs) < 10 ^ 18
 few_digits xs i h few =
     digits_value_short (numerals_by_value _ tells_digits) (take i xs) 18 h (omega (arith, length-take i xs))

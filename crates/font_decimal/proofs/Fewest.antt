@@ -1,4 +1,4 @@
--- The fewest places at which a value m / 2^f has a decimal that reads back.
+-- The fewest places at which a value m / 2^f has a decimal that parses back.
 use Rattle.std.proofs.Common.{◌≡◌, ◌≢◌, ℕ, zero, suc, ◌+◌, ◌-◌, ◌*◌, ◌/◌, ◌%◌, ◌^◌, ◌<◌, ◌≤◌, inl, inr, true, false, ℤ}
 use Rattle.std.proofs.Common.{pos, refl, sym, ap, ◌∙◌, arith, below_more, ◌*ℤ◌, unsigned_abs, pow-suc, lt-ltb, ltb-true}
 use Rattle.std.proofs.Common.{ltb-false, pow_pos, pow-add}
@@ -37,20 +37,20 @@ no_tie m f j n h tie =
 pub rounded_at : (m f p : ℕ) → IsNearMagnitude (m * 10 ^ p) (2 ^ f) (nearest_numeral m f p)
 rounded_at m f p = rounded_is (m * 10 ^ p) (2 ^ f) (pow_pos f)
 
--- where any decimal of so many places is within half a step, the nearest one reads back
+-- if any decimal of p places is within half a step, the nearest one parses back
 pub nearest_reads_back : (m f p n : ℕ) → p ≤ f → 2 * abs_diff (n * 2 ^ f) (m * 10 ^ p) ≤ 10 ^ p
     → reads_back m f p ≡ true
 unfolding reads_back
 nearest_reads_back m f p n h close =
     lt-ltb _ _ (omega (arith, nearest_distance n (rounded_at m f p), no_tie m f p (nearest_numeral m f p) h))
 
--- with f places a value has a decimal of its own
+-- with f places a value has an exact decimal
 pub exact_reads_back : (m f : ℕ) → reads_back m f f ≡ true
 exact_reads_back m f =
     let ten : 10 ^ f ≡ 2 ^ f * 5 ^ f = mul-pow 2 5 f in
     nearest_reads_back m f f (m * 5 ^ f) (omega arith) (rw ten (omega arith))
 
--- p places read back, and no fewer do
+-- p places parse back, and no fewer do
 pub record IsFewest (m f p : ℕ) : Type 0 where
   pub few : p ≤ f
   pub reads : reads_back m f p ≡ true
@@ -77,11 +77,11 @@ fewest_is m f = fewest_from m f f 0 (omega arith) (λ j h. absurd (omega arith))
 not_above : {m f p q : ℕ} → IsFewest m f p → IsFewest m f q → p ≤ q
 not_above {p = p} {q = q} x y = elim (cases_lt q p) [ inl less ↦ cc (y.reads, x.before q less) | inr more ↦ more ]
 
--- and these are the places that the definition gives
+-- and these are the places of the definition
 pub places_are : {m f p : ℕ} → IsFewest m f p → p ≡ fewest_places m f
 places_are {m = m} {f = f} fewest = omega (arith, not_above fewest (fewest_is m f), not_above (fewest_is m f) fewest)
 
--- while all places so far fail, there is one more to try
+-- if all places so far fail, there is one more to try
 pub place_left : (m f p : ℕ) → p ≤ f → reads_back m f p ≡ false → p < f
 place_left m f p h fails = grind (arith, nat_tests, exact_reads_back)
 
@@ -104,7 +104,7 @@ tenth d t m ten tenfold e power close =
     let tens : d ≡ 10 * (d / 10) = omega arith in
     omega (arith, ap (λ n. n * t) tens, ap (λ n. m * n) power)
 
--- a numeral that ends in 0 would read back with one place fewer
+-- a numeral that ends in 0 would parse back with one place fewer
 pub zero_drops : {m f p : ℕ} → IsFewest m f (suc p) → nearest_numeral m f (suc p) % 10 ≢ 0
 zero_drops {m = m} {f = f} {p = p} fewest e =
     let closer = tenth _ _ _ _ _ e (pow-suc 10 p) (within_half fewest) in

@@ -1,4 +1,4 @@
--- Reading keeps the order.
+-- Parsing preserves order.
 use Rattle.std.proofs.Common.{◌≡◌, ℕ, ◌^◌, List, ℤ, ◌≤ℤ◌, Result, Ok}
 use Rattle.font_decimal.specs.Reading.{Rounds, IsReading, IsAtMost}
 use Rattle.font_decimal.specs.declared.reader.DecimalFault.{DecimalFault}
@@ -7,7 +7,7 @@ use Rattle.font_decimal.proofs.Near.{near_monotone}
 use Rattle.font_decimal.proofs.Texts.{decimal_unique}
 use Rattle.font_decimal.proofs.Readings.{ten_pos}
 
--- of two texts the one of greater decimal value is never read as the lesser number
+-- of two texts, the one of greater decimal value never parses as the smaller number
 pub rounds_in_order : {s t : List ℕ} {f : ℕ} {a b : ℤ} → IsAtMost s t → Rounds s f a → Rounds t f b → a ≤ℤ b
 rounds_in_order {f = f} most x y =
     let first = decimal_unique _ _ _ _ _ most.first x.decimal in

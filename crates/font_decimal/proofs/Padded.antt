@@ -25,7 +25,7 @@ laid_length : (pad : Pad) (sign body : List ℕ) (spare : ℕ) → length (laid_
     + length body + spare
 laid_length pad sign body spare = grind (arith, nat_tests, front_within, length-append, length-replicate)
 
--- a padded text has the width that is asked for, or the text's own length where that is greater
+-- a padded text has the requested width, or the text's length if that is greater
 pub padded_length : (text : List ℕ) (pad : Pad) → length (padded_text text pad) ≡ max
     (length (shown_sign pad.plus text) + length (unsigned_body text)) pad.width
 unfolding padded_text
@@ -50,13 +50,13 @@ nothing_yet old = record { count = refl; bytes = refl }
 shown_sign_length : (plus : Bool) (text : List ℕ) → length (shown_sign plus text) ≤ 1
 shown_sign_length plus text = grind (arith, nat_tests)
 
--- a text whose body is shorter than a cell fits it, padded, where the cell is as wide as is asked for: no sign has more
--- than a byte
+-- a text whose body is shorter than a buffer fits in it, padded, if the buffer has the requested width: a sign has one
+-- byte
 pub padded_fits : (text : List ℕ) (pad : Pad) (room n : ℕ) → length (unsigned_body text) < room → max room pad.width ≤ n
     → length (padded_text text pad) ≤ n
 padded_fits text pad room n short enough = omega (arith, padded_length text pad, shown_sign_length pad.plus text)
 
--- a list no longer than the width that is filled by a padded text is that text
+-- a list no longer than the width that a padded text fills is that text
 pub fills_all : {n : ℕ} {old new : List ℕ} (text : List ℕ) (pad : Pad) → FillsFront (padded_text text pad) n old new
     → length old ≤ pad.width → new ≡ padded_text text pad
 fills_all {n = n} {old = old} text pad front narrow =

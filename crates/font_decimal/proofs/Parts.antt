@@ -1,4 +1,4 @@
--- The parts of a text, as they are found from its front.
+-- The parts of a text, found from its start.
 use Rattle.std.proofs.Common.{◌≡◌, ◌≢◌, ℕ, zero, suc, ◌<◌, ◌≤◌, Bool, true, false, List, [], ◌∷◌, ◌++◌, length, get_or}
 use Rattle.std.proofs.Common.{take, drop, refl, arith, take-append-drop, length-take-le}
 use Rattle.std.proofs.lemmas.Bool.Decides.{nat_tests}
@@ -8,7 +8,7 @@ use Rattle.std.specs.Fmt.{sign_text}
 use Rattle.font_decimal.specs.Grammar.{fraction_text, HasParts, IsNoDecimal}
 use Rattle.font_decimal.proofs.Texts.{no_minus}
 
--- what follows the digits that a text begins with, as far as they are found
+-- the text after the digits that have been found at its start
 rest_found : (w rest : List ℕ) (len : ℕ) → AllDigits 10 w → 10 ≤ digit_value (get_or rest 0 0)
     → AllDigits 10 (take len (w ++ rest)) → len ≤ length (w ++ rest)
     → 10 ≤ digit_value (get_or (w ++ rest) len 0) → drop len (w ++ rest) ≡ rest
@@ -18,7 +18,7 @@ rest_found [] (c ∷ rest) (suc len) p q digits within end = absurd (omega (arit
 rest_found (c ∷ w) rest zero p q digits within end = absurd (omega (arith, p.0))
 rest_found (c ∷ w) rest (suc len) p q digits within end = rest_found w rest len p.1 q digits.1 (omega arith) end
 
--- what follows the whole digits does not begin with one
+-- the text after the digits of the integer does not begin with a digit
 no_digit : (e : List ℕ) → 10 ≤ digit_value (get_or (fraction_text e) 0 0)
 no_digit e = grind (arith, nat_tests)
 
@@ -28,13 +28,13 @@ pub fraction_found : {text w e : List ℕ} (len : ℕ) → HasParts text false w
 fraction_found {text = text} {w = w} {e = e} len parts digits within end =
     grind (arith, nat_tests, rest_found, no_digit)
 
--- what is found from the front are parts of the text
+-- the parts found from the start are parts of the text
 pub parts_found : (text e : List ℕ) (len : ℕ) (s : Bool) → AllDigits 10 (take len text) → 0 < len → len ≤ length text
     → drop len text ≡ fraction_text e → AllDigits 10 e
     → HasParts (sign_text s ++ text) s (take len text) e
 parts_found text e len s digits some within rest fraction = grind (arith, nat_tests, take-append-drop, length-take-le)
 
--- a text is no decimal where what follows its sign has no such parts
+-- a text is not a decimal if the text after its sign has no such parts
 pub no_decimal : (text digits : List ℕ) (s : Bool) → text ≡ sign_text s ++ digits
     → (s ≡ false → (rest : List ℕ) → text ≢ 45 ∷ rest)
     → ((w e : List ℕ) → ¬ (HasParts digits false w e)) → IsNoDecimal text

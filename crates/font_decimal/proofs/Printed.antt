@@ -1,5 +1,5 @@
--- The text of the shortest decimal is what it says: plain, nearest, read back, with the fewest places, and at most 22
--- bytes long. And what callers rely on of printed texts.
+-- The text of the shortest decimal: in the grammar, nearest, parsed back, with the fewest places, and at most 22 bytes
+-- long; and lemmas on printed texts for callers.
 use Rattle.std.proofs.Common.{◌≡◌, ℕ, zero, suc, ◌+◌, ◌-◌, ◌*◌, ◌/◌, ◌%◌, ◌^◌, ◌<◌, ◌≤◌, Bool, [], ◌∷◌, ◌++◌, length}
 use Rattle.std.proofs.Common.{get_or, lit<, ℤ, pos, refl, sym, ap, subst, ◌∙◌, arith, add-one, ◌*ℤ◌, ◌<ℤ◌, ◌↔◌, IsTrue}
 use Rattle.std.proofs.Common.{unsigned_abs, pow_pos, pow-add, append-nil, ◌≢◌, true, List, append_assoc, length-append}
@@ -50,7 +50,7 @@ last_value (suc p) n =
     rw (digits, last_length p n, glyph_value (m % 10) (omega arith), pow-suc 10 p, ← div-div-eq-div-mul n (10 ^ p) 10)
     (omega (arith, last_value p n, ap (λ k. k * 10 ^ p) (div-add-mod' m 10)))
 
--- the digits in front of the point and after it write the numeral
+-- the digits before the point and after it are the numeral's
 written_decimal : (s : Bool) (p n : ℕ) → n / 10 ^ p < 2 ^ 64 → Decimal (sign_text s ++ decimal_text n p) (signed s n) p
 written_decimal s p n small = record {
   negative = s;
@@ -68,7 +68,7 @@ written_decimal s p n small = record {
 no_zero_in_front : (n : ℕ) → n < 2 ^ 64 → get_or (decimal n) 0 0 ≡ 48 → length (decimal n) ≡ 1
 no_zero_in_front n small e = grind (arith, first_decimal n, decimal_digit n)
 
--- the numeral that is shown is zero only where the value is
+-- the numeral that is printed is zero only if the value is
 not_zero : (m d t ten : ℕ) → 2 * abs_diff (d * t) (m * ten) < ten → d ≡ 0 → m ≡ 0
 not_zero m d t ten close e = grind (arith, ap (λ k. k * t) e, mul-le-mul_right {m = 1} {n = m} ten)
 
@@ -76,14 +76,14 @@ minus_shown : (b : ℤ) (d : ℕ) → (d ≡ 0 → unsigned_abs b ≡ 0)
     → IsTrue (is_negative b) ↔ (signed (is_negative b) d <ℤ pos 0)
 minus_shown b d h = grind (arith, nat_tests)
 
--- the whole part that is shown is at most the value's own
+-- the integer that is printed is at most the value's
 whole_within : (m t ten d w : ℕ) → 2 * abs_diff (d * t) (m * ten) < ten → w * ten ≤ d → w * t ≤ m
 whole_within m t ten d w close low =
     let scaled : w * ten * t ≤ d * t = mul-le-mul_right t low in
     let below : 2 * (w * t) * ten < (2 * m + 1) * ten = omega arith in
     omega (arith, lt_of_mul-lt-mul_right ten below)
 
--- the numeral of the shortest decimal, and its whole part
+-- the numeral of the shortest decimal, and its integer
 abbrev pub shown_numeral : ℕ → ℕ → ℕ
 shown_numeral m f = nearest_numeral m f (fewest_places m f)
 
@@ -128,7 +128,7 @@ shortest_is b f small =
       fewest = λ j n. none_fewer j n fewest;
     }
 
--- ---- how long the text is
+-- ---- the length of the text
 pub point_length : (p n : ℕ) → length (fraction_text (last_digits p n)) ≤ p + 1
 point_length zero n = omega arith
 point_length (suc p) n = omega (arith, last_length p n)
@@ -174,7 +174,7 @@ last_after (suc p) w n =
       last_after p (w * 10) n,
     )
 
--- ---- what the writer makes of a magnitude, and that there is room for it
+-- ---- the text of a magnitude, for which the buffer is long enough
 module _ (m f whole fraction places : ℕ) (few : places ≡ fewest_places m f)
     (nearest : whole * 10 ^ places + fraction ≡ nearest_numeral m f places) (below : fraction < 10 ^ places) where
   whole_is : whole ≡ nearest_numeral m f places / 10 ^ places
@@ -194,12 +194,12 @@ module _ (m f whole fraction places : ℕ) (few : places ≡ fewest_places m f)
   unfolding shortest_text
   text_is b size = rw (fraction_is, whole_is, append-nil, few, size)
 
--- ---- what callers rely on
+-- ---- for callers
 -- a shortest text is in the grammar
 pub shortest_is_decimal : (b : ℤ) (f : ℕ) (text : List ℕ) → IsShortest b f text → IsDecimal text
 shortest_is_decimal b f text s = record { numeral = s.numeral; places = s.places; decimal = s.plain.decimal }
 
--- a printed text is read as its value and as no other
+-- a printed text parses as its value and no other
 pub printed_rounds : (b : ℤ) (f : ℕ) → unsigned_abs b ≤ 2 ^ 63 → Rounds (shortest_text b f) f b
 printed_rounds b f small = (shortest_is b f small).rounds
 
@@ -263,7 +263,7 @@ unfolding shortest_text
 zero_ends_no_fraction b f i front small e =
     ends_or_whole (is_negative b) _ _ _ i front (fewest_is _ f) (whole_fits _ f small) e
 
--- ---- how long a printed text is without its `-`
+-- ---- the length of a printed text without its `-`
 length-signed_body-le : (s : Bool) (body : List ℕ) → length (unsigned_body (sign_text s ++ body)) ≤ length body
 length-signed_body-le s body = grind (arith, nat_tests)
 
@@ -274,8 +274,7 @@ unfolding shortest_text
 length-shortest_body-lt b f small few =
     grind (arith, nat_tests, digits_fit, point_length, length-signed_body-le, length-append)
 
--- where the whole part is below `10 ^ digits` and a step is wider than `1 / 10 ^ places`: the digits, a point, and the
--- places
+-- if the integer is below `10 ^ digits` and a step is wider than `1 / 10 ^ places`: the digits, a point, and the places
 pub length-shortest_body-le : (b : ℤ) (f digits places : ℕ) → unsigned_abs b ≤ 2 ^ 63 → 0 < digits
     → unsigned_abs b < 10 ^ digits * 2 ^ f → 2 ^ f < 10 ^ places
     → length (unsigned_body (shortest_text b f)) ≤ digits + places + 1

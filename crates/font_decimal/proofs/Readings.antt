@@ -1,4 +1,4 @@
--- Each text has just one reading: a value, out of range, or no decimal.
+-- Each text has exactly one result: a value, out of range, or not a decimal.
 use Rattle.std.proofs.Common.{◌≡◌, ℕ, ◌+◌, ◌*◌, ◌/◌, ◌^◌, ◌<◌, ◌↔◌, ◌⊎◌, Bool, List, ◌++◌, length, min, ℤ, refl, ap}
 use Rattle.std.proofs.Common.{◌∙◌, arith, Option, Result, Ok, Err, SomeIff, FitsSigned, ◌≤ℤ◌, ok_or, w64, pow-add}
 use Rattle.std.proofs.lemmas.Bool.Decides.{nat_tests}
@@ -41,12 +41,12 @@ rounds_by {s = s} {w = w} {e = e} f parts =
       nearest = rw (digits_value-append w e, signed_times) (near_from s _ _ _ (ten_pos k) (omega arith));
     }
 
--- what is read is in range, and no other number is read
+-- the number that is read is in range, and no other number is read
 pub not_outside : (f : ℕ) (text : List ℕ) (min max b : ℤ) → Reads text f min max b → IsOutOfRange text f min max → ⊥
 not_outside f text min max b x y =
     let same = rounds_unique text f b y.nearest x.rounds y.rounds in grind (arith, ints)
 
--- a text has one reading
+-- a text has one result
 pub reading_unique : (text : List ℕ) (f : ℕ) (min max : ℤ) (q r : Result ℤ DecimalFault) → IsReading text f min max q
     → IsReading text f min max r → q ≡ r
 reading_unique text f _ _ (Ok b) (Ok c) x y = ap Ok (rounds_unique text f b c x.rounds y.rounds)
@@ -59,7 +59,7 @@ reading_unique _ _ _ _ (Err OutOfRange) (Ok c) x y = absurd (not_outside _ _ _ _
 reading_unique _ _ _ _ (Err OutOfRange) (Err Syntax) x y = absurd (y _ _ x.rounds.decimal)
 reading_unique _ _ _ _ (Err OutOfRange) (Err OutOfRange) x y = refl
 
--- and so the answer that is a reading tells which one it is
+-- and so the result determines whether it is a value
 pub answers_as : (text : List ℕ) (f : ℕ) (min max : ℤ) (q r : Result ℤ DecimalFault) → IsReading text f min max q
     → (q ≡ r) ↔ IsReading text f min max r
 answers_as text f min max q r x =

@@ -1,4 +1,4 @@
--- What is left of a value m / 2^f after its first p places.
+-- The remainder of a value m / 2^f after its first p places.
 use Rattle.std.proofs.Common.{◌≡◌, ℕ, ◌+◌, ◌-◌, ◌*◌, ◌/◌, ◌%◌, ◌^◌, ◌<◌, ◌≤◌, false, arith, add-one, min, lt-ltb}
 use Rattle.std.proofs.Common.{le-ltb, pow_pos, pow-suc, div-add-mod', mul-le-mul_right}
 use Rattle.std.specs.Int.{abs_diff}
@@ -13,11 +13,11 @@ pub record HasRest (m f p q rest : ℕ) : Type 0 where
   pub value : 2 * (m * 10 ^ p) ≡ 2 * (q * 2 ^ f) + rest
   pub below : rest < 2 * 2 ^ f
 
--- the nearest numeral is the one cut off where less than half of the last place is left
+-- the nearest numeral is the truncated one if less than half of the last place is left
 pub rounded_down : {m f p q rest : ℕ} → HasRest m f p q rest → rest < 2 ^ f → nearest_numeral m f p ≡ q
 rounded_down {m = m} {f = f} {p = p} h low = near_magnitude_unique (pow_pos f) (rounded_at m f p) (omega arith)
 
--- one more where half of the last place or more is left
+-- one more if half of the last place or more is left
 pub rounded_up : {m f p q rest : ℕ} → HasRest m f p q rest → 2 ^ f ≤ rest → nearest_numeral m f p ≡ q + 1
 rounded_up {m = m} {f = f} {p = p} h high = near_magnitude_unique (pow_pos f) (rounded_at m f p) (omega arith)
 
@@ -33,7 +33,7 @@ unfolding reads_back
 stopped h close few fails =
     record { few = few; reads = lt-ltb _ _ (omega (arith, distance h)); before = fails }
 
--- and past it the nearest decimal does not read back
+-- and beyond it the nearest decimal does not parse back
 pub fails_here : {m f p q rest : ℕ} → HasRest m f p q rest → 10 ^ p ≤ min rest (2 * 2 ^ f - rest)
     → reads_back m f p ≡ false
 unfolding reads_back
@@ -57,7 +57,7 @@ next_below n ten rest unit low less = omega (arith, div_below (10 * rest) unit 1
 below_whole : (m w t ten n : ℕ) → m < (w + 1) * t → 2 * abs_diff ((w * ten + n) * t) (m * ten) < ten → n < ten
 below_whole m w t ten n below close = grind (arith, mul-le-mul_right ten below, mul-le-mul_right {m = ten} {n = n} t)
 
--- where the nearest decimal reads back, its fraction is below one: raising the last digit carries into no whole digit
+-- if the nearest decimal parses back, its fraction is below one: raising the last digit does not carry into the integer
 pub fraction_below : {m f p : ℕ} (n : ℕ) → IsFewest m f p → nearest_numeral m f p ≡ m / 2 ^ f * 10 ^ p + n → n < 10 ^ p
 fraction_below {m = m} {f = f} {p = p} n fewest split = below_whole m _ _ _ n
     (omega (arith, pow_pos f)) (rw split at (within_half fewest))

@@ -11,8 +11,8 @@ use Rattle.std.proofs.lemmas.Bool.{cases_lt}
 use Rattle.font_decimal.proofs.Near.{IsNearMagnitude}
 use Rattle.font_decimal.proofs.Digits.{digits-append, kept_below, kept_numeral, HasNumeral}
 
--- Half of a fraction's half steps of 1 / (2 t), rounded up, is the nearest number of steps: what is kept of it is in
--- units of 1 / (2 t five), and the rest is below one unit.
+-- Half of a fraction's half steps of 1 / (2 t), rounded up, is the nearest number of steps: the digits that are kept
+-- are in units of 1 / (2 t five), and the rest is below one unit.
 pub half_steps_halved : (value kept rest k t five : ℕ) → 0 < five → value * (2 * t * five) ≡ kept * k + rest → rest < k
     → IsNearMagnitude (value * t) k ((kept / five + 1) / 2)
 half_steps_halved value kept rest k t five some is below =
@@ -26,13 +26,13 @@ half_steps_halved value kept rest k t five some is below =
     let high : five * (2 * (value * t) + k) < five * (2 * (q * k) + 2 * k) = omega (arith, mul-le-mul_right k to) in
     record { low = le_of_mul-le-mul_left low some; high = lt_of_mul-lt-mul_left five high }
 
--- where zeros are missing, their fives are left out on both sides of the division
+-- if zeros are missing, their fives are left out on both sides of the division
 fives_left_out : (numeral places k : ℕ) → numeral * 2 ^ k / 5 ^ places ≡ numeral * 10 ^ k / 5 ^ (places + k)
 fives_left_out numeral places k =
     let above : numeral * 10 ^ k ≡ numeral * 2 ^ k * 5 ^ k = rw (mul-pow 2 5 k) (omega arith) in
     rw (above, pow-add 5 places k, mul-div-mul_right (numeral * 2 ^ k) (5 ^ places) (one-le-pow k 5 (omega arith)))
 
--- the half steps of digits, as the code finds them from the first p of these and with the late ones judged
+-- the half steps of digits, found from the first p, if the later ones are digits too
 abbrev pub HasHalfSteps : ℕ → List ℕ → ℕ → Type 0
 HasHalfSteps p e halves = AllDigits 10 e × (halves ≡ kept_numeral p e / 5 ^ p)
 
@@ -58,12 +58,12 @@ half_steps_of_kept {places = places} {numeral = numeral} {e = e} {kept = kept} b
     mod-eq_of_lt (omega (arith, below, mul-le-mul_left numeral (pow-le-pow_left {n = 2} {m = 10} (omega arith) k))) in
     (digits, rw (whole, first.2, count, fives_left_out numeral places k, filled, missing, ← taken, ← first.1))
 
--- 2^(63-f) whole steps are 2^63 steps
+-- 2^(63-f) times 2^f steps are 2^63 steps
 full_steps : (f : ℕ) → f ≤ 30 → 2 ^ (63 - f) * 2 ^ f ≡ 2 ^ 63
 full_steps f few = let e : 63 - f + f ≡ 63 = omega arith in rw (← pow-add 2 (63 - f) f, e)
 
--- Whole steps that are cut to one more than 2^(63-f) of them act as any greater number: either way the number of
--- steps is above 2^63.
+-- Integers that are cut to one more than 2^(63-f) act as any greater number: either way the number of steps is above
+-- 2^63.
 pub steps_capped : (f v whole r : ℕ) → f ≤ 30 → whole ≡ min v (2 ^ (63 - f) + 1)
     → (whole * 2 ^ f + r ≡ v * 2 ^ f + r) ⊎ ((2 ^ 63 < whole * 2 ^ f + r) × (2 ^ 63 < v * 2 ^ f + r))
 steps_capped f v whole r few cut = elim (cases_lt (2 ^ (63 - f)) v) [
@@ -74,7 +74,7 @@ steps_capped f v whole r few cut = elim (cases_lt (2 ^ (63 - f)) v) [
   | inr small ↦ inl (ap (λ n. n * 2 ^ f + r) (omega arith))
 ]
 
--- and all that is computed from these and the half steps of a fraction fits 64 bits
+-- and all results computed from these and the half steps of a fraction fit in 64 bits
 pub record StepsFit (f whole halves : ℕ) : Type 0 where
   pub shifted : whole * 2 ^ f % 2 ^ 64 ≡ whole * 2 ^ f
   pub one_more : halves + 1 < 2 ^ 64

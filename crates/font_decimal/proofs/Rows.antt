@@ -1,4 +1,4 @@
--- Values that the definitions give, worked out by hand: that they mean what they should.
+-- Values of the definitions, worked out by hand.
 use Rattle.std.proofs.Common.{◌≡◌, refl, pos, neg_ℤ}
 use Rattle.font_decimal.specs.Near.{near, up}
 use Rattle.font_decimal.specs.Shortest.{fewest_places, nearest_numeral, reads_back}

@@ -1,4 +1,4 @@
--- A decimal text has its parts in one way only, and so means one number.
+-- A decimal text has its parts in one way only, and so is one number.
 use Rattle.std.proofs.Common.{◌≡◌, ℕ, ◌<◌, Bool, true, false, List, [], ◌∷◌, ◌++◌, length, ℤ, refl, sym, ap, arith}
 use Rattle.std.proofs.Common.{IsAscii, IsUtf8}
 use Rattle.std.proofs.lemmas.Bool.Decides.{nat_tests}
@@ -11,7 +11,7 @@ use Rattle.std.proofs.lemmas.Fmt.{IsAscii-from_digits}
 use Rattle.font_decimal.specs.Near.{signed}
 use Rattle.font_decimal.specs.Grammar.{fraction_text, HasParts, Decimal}
 
--- a fraction is known from how it is written
+-- a fraction is determined by its text
 pub same_point : (e g : List ℕ) → fraction_text e ≡ fraction_text g → e ≡ g
 same_point e g h = grind (arith, nat_tests)
 
@@ -42,7 +42,7 @@ same_parts {s = false} {t = true} x y = absurd (no_minus x y.written)
 same_parts {s = true} {t = false} x y = absurd (no_minus y x.written)
 same_parts {s = true} {t = true} x y = same_split true _ _ _ _ x.whole_digits.1 y.whole_digits.1 cc
 
--- a text means one number with one number of places
+-- a text is one number with one number of places
 pub record SameDecimal (n m : ℤ) (j k : ℕ) : Type 0 where
   pub numeral : n ≡ m
   pub places : j ≡ k
@@ -50,7 +50,7 @@ pub record SameDecimal (n m : ℤ) (j k : ℕ) : Type 0 where
 pub decimal_unique : (text : List ℕ) (n m : ℤ) (j k : ℕ) → Decimal text n j → Decimal text m k → SameDecimal n m j k
 decimal_unique text n m j k x y = let same = same_parts x.parts y.parts in record { numeral = cc; places = cc }
 
--- a text that has these parts means their number
+-- a text that has these parts is their number
 pub decimal_of : {text : List ℕ} {s : Bool} {w e : List ℕ} → HasParts text s w e
     → Decimal text (signed s (digits_value 10 (w ++ e))) (length e)
 decimal_of p = record { negative = _; whole = _; fraction = _; parts = p; numeral = refl; places = refl }
@@ -62,7 +62,7 @@ ascii_point (d ∷ e) p = IsAscii-cons 46 (d ∷ e) (omega arith) (IsAscii-from_
 ascii_sign : (s : Bool) → IsAscii (sign_text s)
 ascii_sign s = grind (arith, nat_tests)
 
--- each byte of a decimal text is ASCII, so that bytes which are no text are no decimal either
+-- each byte of a decimal text is ASCII, so bytes that are not UTF-8 are not a decimal
 pub decimal_is_ascii : (text : List ℕ) (n : ℤ) (k : ℕ) → Decimal text n k → IsAscii text
 decimal_is_ascii text n k d =
     let p = d.parts in

@@ -1,4 +1,4 @@
--- What callers know of sums and products with 0 and with 1, as equations of the words `wrap` and `near`.
+-- Sums and products with 0 and with 1, for callers, as equations of `wrap` and `near`.
 use Rattle.std.proofs.Common.{◌≡◌, sym, ℕ, ◌<◌, ℤ, pos, neg_ℤ, ◌+ℤ◌, ◌-ℤ◌, ◌*ℤ◌, arith, w16, w32, w64, SFits}
 use Rattle.std.proofs.lemmas.Int.{ints}
 use Rattle.std.proofs.Math.IntN.{*ℤ_comm, +ℤ-neg_ℤ_cancel, -ℤ-+ℤ_cancel}
@@ -11,7 +11,7 @@ use Rattle.font_decimal.specs.Near.{near}
 use Rattle.font_decimal.proofs.Near.{near_gives}
 use Rattle.font_fixed.proofs.NumberLaws.{near_exact}
 
--- wrapping leaves what fits
+-- wrapping does not change a number that fits
 pub wrap-signed_fits : (w : Width) (z : ℤ) → SFits w z → wrap (bits w) z ≡ z
 wrap-signed_fits w z fits = wrap-fits (bits w) z (bits_positive w) (signed_fits w z fits)
 
@@ -25,7 +25,7 @@ zero_add z = omega (arith, ints)
 pub sub_zero : (z : ℤ) → (z -ℤ pos 0) ≡ z
 sub_zero z = omega (arith, ints)
 
--- what is added and taken away again, and the other way round
+-- adding and then subtracting a number, and the other way round
 pub wrap-add_sub_cancel : (w : Width) (a b : ℤ) → SFits w a → wrap (bits w) (wrap (bits w) (a +ℤ b) -ℤ b) ≡ a
 wrap-add_sub_cancel w a b fits =
     rw (wrap-add_left (bits w) (a +ℤ b) (neg_ℤ b) (bits_positive w), +ℤ-neg_ℤ_cancel) (wrap-signed_fits w a fits)
@@ -34,7 +34,7 @@ pub wrap-sub_add_cancel : (w : Width) (a b : ℤ) → SFits w a → wrap (bits w
 wrap-sub_add_cancel w a b fits =
     rw (wrap-add_left (bits w) (a -ℤ b) b (bits_positive w), -ℤ-+ℤ_cancel) (wrap-signed_fits w a fits)
 
--- at each width, for callers to name once: a sum with zero, what is added and taken away, and wrapping of what fits
+-- rules at each width: a sum with zero, a number added and subtracted, and wrapping of a number that fits
 pub fits_16 : (z : ℤ) → SFits w16 z → wrap 16 z ≡ z
 fits_16 = wrap-signed_fits w16
 

@@ -1,5 +1,5 @@
--- What callers of `Fixed` name once: products and quotients by 0, by 1 and by -1, sums with 0, differences, a number
--- over itself, a part of a whole, one number times another over a third, and wrapping of what fits.
+-- Rules for callers of `Fixed`: products and quotients by 0, by 1 and by -1, sums with 0, differences, a number over
+-- itself, a part of a whole, `mul_div`, and wrapping of a number that fits.
 use Rattle.std.proofs.Common.{◌≡◌, ◌≢◌, ◌∙◌, sym, ap, refl, arith, lit<, lit≤, ℤ, pos, negsuc, neg_ℤ, ◌+ℤ◌, ◌-ℤ◌, ◌*ℤ◌}
 use Rattle.std.proofs.Common.{◌≤ℤ◌, w32, SFits}
 use Rattle.std.proofs.lemmas.Int.{ints}
@@ -50,7 +50,7 @@ pub sub_self : (a : ℤ) → wrap 32 (a -ℤ a) ≡ pos 0
 sub_self a = let none : (a -ℤ a) ≡ pos 0 = omega (arith, ints) in ap (wrap 32) none ∙ fits_32 (pos 0)
     (omega (arith, ints))
 
--- numbers that differ have a difference that is not 0
+-- different numbers have a difference that is not 0
 pub difference_is_not_zero : (a b : ℤ) → SFits w32 a → SFits w32 b → a ≢ b → wrap 32 (b -ℤ a) ≢ pos 0
 difference_is_not_zero a b fits_a fits_b other none =
     other (sym (ap (wrap 32) (add_zero a) ∙ fits_32 a fits_a) ∙ ap (λ n. wrap 32 (a +ℤ n)) (sym none)
@@ -73,7 +73,7 @@ pub part_is_at_most_one : (x y r : ℤ) → IsQuotient 32 16 x y r → pos 0 ≤
 part_is_at_most_one x y r quotient low high some =
     (quotient_between 32 16 x y r (lit< tt) one_fits quotient low high some).1
 
--- ---- one number times another over a third
+-- ---- `mul_div`
 
 zero_in_range : FitsBits 32 (pos 0)
 zero_in_range = signed_fits w32 (pos 0) (omega (arith, ints))

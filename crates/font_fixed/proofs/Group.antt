@@ -1,4 +1,4 @@
--- What callers rely on of sums and floors, over the bits of numbers with w bits and f bits of fraction.
+-- Laws of sums and floors, by the raw values of numbers with w bits and f fraction bits.
 use Rattle.std.proofs.Common.{◌≡◌, ◌∙◌, sym, ap, ℕ, ◌^◌, ◌<◌, ℤ, pos, neg_ℤ, ◌+ℤ◌, ◌≤ℤ◌, ◌<ℤ◌, arith}
 use Rattle.std.proofs.lemmas.Bool.Decides.{nat_tests}
 use Rattle.std.proofs.Math.IntN.{+ℤ_comm, +ℤ_idr}
@@ -22,7 +22,7 @@ zero_is_neutral w a some fits = rw +ℤ_idr (wrap-fits w a some fits)
 pub opposite_is_inverse : (w : ℕ) (a : ℤ) → 0 < w → wrap w (a +ℤ wrap w (neg_ℤ a)) ≡ wrap w (pos 0)
 opposite_is_inverse w a some = wrap-add_right w a (neg_ℤ a) some ∙ ap (wrap w) (omega (arith, ints))
 
--- ---- the floor and what is above it make the number, and the latter is from 0 to a step below 1
+-- ---- the floor and the fractional part make the number, and the latter is at least 0 and below 1
 
 pub floor_and_fract : (f : ℕ) (b p r : ℤ) → IsFloor f b p → IsFract f b r → (p +ℤ r) ≡ b
 floor_and_fract f b p r floor fract = omega (arith, ints, floor.is ∙ sym fract.is_floor.is, fract.rest)

@@ -1,5 +1,5 @@
--- What callers name once of narrowings: what lies from -1 to 1 stays there, and an integer, or a widened one, comes
--- back. Widened numbers of 16 bits have exact differences.
+-- Rules for callers of narrowings: numbers from -1 to 1 stay in that range, and integers and widened numbers come back.
+-- Widened 16-bit numbers have exact differences.
 use Rattle.std.proofs.Common.{◌≡◌, ◌∙◌, refl, lit<, ℕ, ◌-◌, ◌*◌, ◌^◌, ◌<◌, ℤ, pos, neg_ℤ, ◌+ℤ◌, ◌*ℤ◌, ◌-ℤ◌, ◌≤ℤ◌, ◌<ℤ◌}
 use Rattle.std.proofs.Common.{arith, w16, w32, w64, pow_pos, SFits, to_z, of_z}
 use Rattle.std.proofs.lemmas.Int.{ints, to_z-of_z}
@@ -16,7 +16,7 @@ use Rattle.font_fixed.proofs.FixedCalls.{fixed_calls}
 
 -- ---- of any width
 
--- from the least number of v bits to the greatest nothing is wrapped
+-- from the least number of v bits to the greatest, nothing wraps
 pub narrowed_near : (v d : ℕ) (n : ℤ) → 0 < v → 0 < d → (least v *ℤ pos d) ≤ℤ n → n ≤ℤ (greatest v *ℤ pos d)
     → Up n d (narrowed v n d)
 narrowed_near v d n wide some low high =
@@ -52,7 +52,7 @@ narrowed-wrapped_times u v d z long wide split some fits =
 quarter : (b : ℤ) → neg_ℤ (pos 131072) ≤ℤ b → b ≤ℤ pos 131068 → Up b 4 (wrap 16 (up b 4))
 quarter b low high = narrowed_near 16 4 b (lit< tt) (lit< tt) low high
 
--- what lies from -1 to 1 stays there, and what is not negative
+-- numbers from -1 to 1 stay in that range, and those from 0 to 1 in theirs
 pub quarter_at_least : (b : ℤ) → neg_ℤ (pos 65536) ≤ℤ b → b ≤ℤ pos 65536 → neg_ℤ (pos 16384) ≤ℤ wrap 16 (up b 4)
 quarter_at_least b low high = omega (arith, ints, quarter b (omega (arith, ints)) (omega (arith, ints)))
 
@@ -97,7 +97,7 @@ pub whole_as_26_6_wrapped : (z : ℤ) → SFits w16 z → wrap 22 (up (wrap 32 (
 whole_as_26_6_wrapped z fits = rw (steps_of_64 z)
     (narrowed-wrapped_times 32 22 1024 (z *ℤ pos 64) (lit< tt) (lit< tt) refl (lit< tt) (omega (arith, ints)))
 
--- the same where 16.16 was exact
+-- the same if 16.16 was exact
 pub whole_as_26_6 : (z : ℤ) → SFits w16 z → wrap 22 (up (z *ℤ pos 65536) 1024) ≡ (z *ℤ pos 64)
 whole_as_26_6 z fits =
     rw (steps_of_64 z) (narrowed-times 22 1024 (z *ℤ pos 64) (lit< tt) (lit< tt) (omega (arith, ints)))
@@ -127,7 +127,7 @@ pub whole_48_back_wrapped : (z : ℤ) → neg_ℤ (pos 140737488355328) ≤ℤ z
 whole_48_back_wrapped z low high =
     narrowed-wrapped_times 64 48 65536 z (lit< tt) (lit< tt) refl (lit< tt) (record { low = low; high = high })
 
--- ---- font units without a sign, from 32768 on, in 16.16
+-- ---- unsigned font units from 32768 on, in 16.16
 
 pub wrapped_once_32 : (z : ℤ) → pos 2147483648 ≤ℤ z → z <ℤ pos 6442450944 → wrap 32 z ≡ (z -ℤ pos 4294967296)
 wrapped_once_32 z low high =

@@ -1,5 +1,5 @@
--- Numbers rounded with ties upwards, as code has it: half a step is added, and what lies above the greatest multiple of
--- a step is dropped.
+-- Numbers rounded half up, as code computes it: half a step is added, and the remainder of the division by a step is
+-- dropped.
 use Rattle.std.proofs.Common.{◌≡◌, ◌∙◌, ap, refl, ℕ, ◌+◌, ◌-◌, ◌*◌, ◌/◌, ◌^◌, ◌<◌, ◌≤◌, Bool, ℤ, pos, neg_ℤ, ◌+ℤ◌, ◌*ℤ◌}
 use Rattle.std.proofs.Common.{◌≤ℤ◌, ◌<ℤ◌, arith, IsTrue, nat_lt, ◌&&◌, ◌==◌, pow_pos, SFits, to_z, of_z}
 use Rattle.std.proofs.lemmas.Int.{by_lt_z, to_z-of_z}
@@ -18,7 +18,7 @@ use Rattle.font_fixed.specs.Operations.{IsNarrowed, IsNearestWhole, IsFloor}
 use Rattle.font_fixed.proofs.Shifts.{shr_low, shr_high, shr_fits}
 use Rattle.font_fixed.proofs.Sums.{sums}
 
--- where s is at least h * d, the greatest q with q * d not above s is at least h
+-- if s is at least h * d, the greatest q with q * d <= s is at least h
 pub fits_low : (d : ℕ) (h s q : ℤ) → (h *ℤ pos d) ≤ℤ s → s <ℤ ((q *ℤ pos d) +ℤ pos d) → h ≤ℤ q
 fits_low d h s q low below = by_lt_z q h (λ less.
     let scaled = times_monotone (q +ℤ pos 1) h d (omega (arith, sums, less)) in
@@ -28,7 +28,7 @@ fits_high : (d h : ℕ) (s q : ℤ) → s <ℤ pos (h * d) → (q *ℤ pos d) �
 fits_high d h s q high low = by_lt_z q (pos h) (λ less. less)
     (λ more. absurd (omega (arith, sums, high, low, times_monotone (pos h) q d more)))
 
--- numbers of w bits are v bits of integers, each of d steps, and a half step above is `half` of these
+-- numbers of w bits are integers of v bits, each of d steps, and half an integer is `half` steps
 abbrev pub is_width_split : ℕ → ℕ → ℕ → ℕ → Bool
 is_width_split w v d half = nat_lt 0 v &&
     ((d == half + half) && ((2 ^ w == 2 ^ v * d) && (half_range w == half_range v * d)))
@@ -67,7 +67,7 @@ is_narrowed w v d half x s q it wide is low high =
       is = wrapped ∙ ap (wrap v) (up_gives x d (q +ℤ turns) it.steps nearest);
     }
 
--- wrapping integers, and then taking so many steps
+-- wrapping an integer, and then multiplying it by the steps
 wrap-times : (w v d half : ℕ) (z : ℤ) → WidthSplit w v d half → 0 < w → (wrap v z *ℤ pos d) ≡ wrap w (z *ℤ pos d)
 wrap-times w v d half z it wide =
     let given = wrap_is v z it.some in
@@ -82,7 +82,7 @@ wrap-times w v d half z it wide =
           ∙ rw it.whole (ap (λ n. (wrap v z *ℤ pos d) +ℤ n) apart);
     })
 
--- the same where the bits of the integer are kept
+-- the same if the bits of the integer are kept
 pub floor_is_nearest_whole : (w f : ℕ) (x s r : ℤ) → s ≡ wrap w (x +ℤ pos (2 ^ f / 2)) → IsFloor f s r
     → IsTrue (is_width_split w (w - f) (2 ^ f) (2 ^ f / 2)) → 0 < w → IsNearestWhole w f x r
 floor_is_nearest_whole w f x s r is floor test wide =
@@ -106,7 +106,7 @@ shr_is_narrowed w v d half x s fits is test =
     (is_narrowed (bits w) v d half x s (shr_z s d) it (bits_positive w) is (shr_low s d it.steps)
     (shr_high s d it.steps))
 
--- the last bits of a narrowed number, as code has them: so fewer bits are kept
+-- the low bits of a narrowed number, as code computes them
 pub narrowed_low_bits : (w u : Width) (v : ℕ) (x : ℤ) (d : ℕ) (q l r : ℤ) → 0 < d → bits u ≤ v → IsNarrowed v x d q
     → SFits w q → l ≡ wrap (bits u) (to_z w (of_z w q)) → SFits u l
     → r ≡ to_z u (of_z u l) → IsNarrowed (bits u) x d r

@@ -1,4 +1,4 @@
--- The laws of products and quotients, from what the calls give.
+-- The laws of products and quotients, from the contracts of the calls.
 use Rattle.std.proofs.Common.{◌≡◌, ◌≢◌, ◌∙◌, sym, ap, ℕ, ◌*◌, ◌^◌, ◌<◌, ◌≤◌, ℤ, pos, ◌*ℤ◌, ◌≤ℤ◌, arith, pow_pos}
 use Rattle.std.proofs.lemmas.Bool.Decides.{nat_tests}
 use Rattle.std.proofs.lemmas.Int.{ints}
@@ -38,7 +38,7 @@ pub product_in_one_step : (w f : ℕ) (x y product in_one_step : ℤ) → IsProd
     → IsMulDiv w x y (pos (2 ^ f)) in_one_step → ProductInOneStep w f x y product in_one_step
 product_in_one_step w f x y product in_one_step p s = grind (arith, nat_tests)
 
--- where x * a is q times the divisor, the answer is q
+-- if x * a is q times the divisor, the result is q
 pub mul_div_exact : (w : ℕ) (q x a c r : ℤ) → 0 < w → FitsBits w q → (x *ℤ a) ≡ (q *ℤ c) → IsMulDiv w x a c r
     → c ≢ pos 0 → r ≡ q
 mul_div_exact w q x a c r wide fits same given other = grind (arith, nat_tests, rounded_exact, *ℤ-negsuc, neg_ℤ-neg_ℤ)
@@ -51,7 +51,7 @@ pub itself : (w f : ℕ) (x r : ℤ) → 0 < w → FitsBits w (pos (2 ^ f)) → 
 itself w f x r wide fits p other =
     mul_div_exact w (pos (2 ^ f)) x (pos (2 ^ f)) x r wide fits (*ℤ_comm x (pos (2 ^ f))) p other
 
--- the share of x that a is in d is at most x
+-- x * a / d is at most x, for a from 0 to d
 share_at_most : (x a d m : ℕ) → a ≤ d → IsNearMagnitude (x * a) d m → m ≤ x
 share_at_most x a d m within rounded = grind (arith, nat_tests)
 

@@ -1,4 +1,5 @@
--- Quotients rounded with ties away from zero, as code has it: on magnitudes, with the sign put back and 32 bits kept.
+-- Quotients rounded half away from zero, as code computes them: by magnitudes, with the sign set at the end and 32 bits
+-- kept.
 use Rattle.std.proofs.Common.{◌≡◌, ◌∙◌, sym, ap, refl, ℕ, ◌-◌, ◌*◌, ◌%◌, ◌^◌, ◌<◌, Bool, true, false, not, ℤ, pos}
 use Rattle.std.proofs.Common.{neg_ℤ, ◌*ℤ◌, unsigned_abs, arith, lit<, w32, SFits, to_z, of_z}
 use Rattle.std.proofs.lemmas.Bool.Decides.{nat_tests}
@@ -44,7 +45,7 @@ differ_false t = grind (arith, nat_tests)
 differ_true : (t : Bool) → not (beq t true) ≡ not t
 differ_true t = grind (arith, nat_tests)
 
--- from the signs and magnitudes as the code has them
+-- from the signs and magnitudes of the code
 pub signed_is_mul_div : (x a c r : ℤ) (s t : Bool) (m i j k : ℕ) → s ≡ differ_in_sign x a → t ≡ is_negative c
     → i ≡ unsigned_abs x → j ≡ unsigned_abs a → k ≡ unsigned_abs c
     → (0 < k → m ≡ near_magnitude (i * j) k) → (k ≡ 0 → m ≡ 2 ^ 31 - 1) → r ≡ wrap 32 (signed (not (beq s t)) m)

@@ -1,5 +1,5 @@
--- Numbers of w bits with f bits of fraction, for every f in range: the steps and halves that code has, floors by
--- shifts, and the nearest integer as the floor of half a step more.
+-- Numbers of w bits with f fraction bits, for every f in range: the steps and halves of code, floors by shifts, and the
+-- nearest integer as the floor of half a step more.
 use Rattle.std.proofs.Common.{◌≡◌, ◌∙◌, ap, refl, ℕ, suc, ◌+◌, ◌-◌, ◌*◌, ◌/◌, ◌%◌, ◌^◌, ◌<◌, ◌≤◌, ℤ, pos, negsuc, neg_ℤ}
 use Rattle.std.proofs.Common.{◌+ℤ◌, ◌*ℤ◌, arith, pow_pos, div-add-mod', IsTrue, SFits, to_z, of_z, pow-add, mod-lt}
 use Rattle.std.proofs.lemmas.Int.{ints, by_lt_z, to_z_pos, to_z-of_z}
@@ -38,7 +38,7 @@ top w f few = let is : w - 1 ≡ (w - f - 1) + f = omega (arith, few) in ap (λ 
 split_at : (w f : ℕ) → 6 ≤ f → f + 2 ≤ w → IsTrue (is_width_split w (w - f) (2 ^ f) (2 ^ f / 2))
 split_at w f many few = grind (arith, nat_tests, halves, whole, top)
 
--- ---- what code gives that has a step as `1 << f`, and half of it as `1 << (f - 1)`; m is 2^w, a literal in goals
+-- ---- results of code with the step `1 << f` and the half step `1 << (f - 1)`; m is 2^w, a literal in goals
 
 step_below : (w : Width) (f : ℕ) → f + 2 ≤ bits w → 2 ^ f < 2 ^ hbits w
 step_below w f few = grind (arith, nat_tests, half_range-bits, two-pow-succ, pow_pos, pow-le-pow_right)
@@ -80,7 +80,7 @@ floor_fits w f x r few fits floor =
     let within = fits_low (2 ^ f) least x floor.whole (omega (arith, ints)) (omega (arith, ints)) in
     omega (arith, ints, times_monotone least floor.whole (2 ^ f) within)
 
--- what `(x >> f) << f` gives
+-- the result of `(x >> f) << f`
 pub shifted_is_floor : (w : Width) (n m f : ℕ) (x : ℤ) → n ≡ bits w → m ≡ 2 ^ n → SFits w x → f + 2 ≤ bits w
     → IsFloor f x (to_z w (of_z w (shr_z (to_z w (of_z w x)) (2 ^ f)) * 2 ^ f % m))
 shifted_is_floor w n m f x is all fits few =
@@ -98,7 +98,7 @@ shifted_is_floor w n m f x is all fits few =
 
 -- ---- the nearest integer
 
--- the floor of half a step more, where that fits
+-- the floor of half a step more, if that fits
 pub nearest_is : (w : Width) (m f : ℕ) (x s r : ℤ) → m ≡ 2 ^ bits w → 6 ≤ f → f + 2 ≤ bits w
     → s ≡ (x +ℤ to_z w (1 * 2 ^ (f - 1) % m)) → IsFloor f s r → r ≡ rounded f x
 nearest_is w m f x s r all many few is floor =

@@ -1,5 +1,5 @@
--- What the file of a fixed-point type names once, so that its calls need no answers: what std's calls and steps of code
--- give, at each width and over every fraction, in the form that goals have.
+-- The rules that the file of a fixed-point type names, so that its functions need no answers: the results of std's
+-- calls and of steps of code, at each width and every fraction, in the form of goals.
 use Rattle.std.proofs.Common.{w16, w32, w64}
 use Rattle.font_decimal.proofs.Printed.{shortest_is_decimal}
 use Rattle.font_fixed.proofs.Texts.{HasRoom, padded_has_room}

@@ -1,4 +1,4 @@
--- What a shift to the right gives: the greatest multiple that is not above.
+-- Shifts to the right: the greatest multiple that is not greater.
 use Rattle.std.proofs.Common.{◌≡◌, lit<, ℕ, ◌<◌, ℤ, pos, ◌+ℤ◌, ◌*ℤ◌, ◌≤ℤ◌, ◌<ℤ◌, arith, SFits, to_z, of_z}
 use Rattle.std.proofs.lemmas.Bool.Decides.{nat_tests}
 use Rattle.std.proofs.lemmas.Int.{ints, to_z-of_z}
@@ -16,7 +16,7 @@ shr_high z d some = grind (arith, nat_tests)
 pub shr_fits : (w : Width) (z : ℤ) (d : ℕ) → SFits w z → SFits w (shr_z z d)
 shr_fits w z d fits = grind (arith, nat_tests)
 
--- a half more, of which the floor is taken, in two steps that leave no range
+-- the floor of half more, in two shifts that do not overflow
 pub halves_up : (n : ℤ) → shr_z (shr_z n 32768 +ℤ pos 1) 2 ≡ up n 65536
 halves_up n =
     let halves = shr_z n 32768 in
@@ -27,7 +27,7 @@ halves_up n =
     let high_half = shr_high (halves +ℤ pos 1) 2 (lit< tt) in
     record { low = omega (arith, ints, low, low_half); high = omega (arith, ints, high, high_half) })
 
--- the same in the form that the goal of code over 128 bits has
+-- the same in the form of the goals of 128-bit code
 pub halves_up_128 : (n : ℤ) → SFits w128 n
     → to_z w128 (of_z w128 (shr_z (to_z w128 (of_z w128
     (to_z w128 (of_z w128 (shr_z (to_z w128 (of_z w128 n)) 32768)) +ℤ pos 1))) 2)) ≡ up n 65536

@@ -1,4 +1,4 @@
--- Results that are known to be small: nothing wraps, so that they are the nearest numbers themselves.
+-- Small results, which do not wrap and so are the nearest numbers.
 use Rattle.std.proofs.Common.{◌≡◌, ◌∙◌, ℕ, zero, suc, ◌*◌, ◌^◌, ◌<◌, ◌≤◌, ℤ, pos, neg_ℤ, unsigned_abs, ◌*ℤ◌, ◌≤ℤ◌}
 use Rattle.std.proofs.Common.{arith, pow_pos, mul-le-mul}
 use Rattle.std.proofs.lemmas.Bool.Decides.{nat_tests}
@@ -11,7 +11,7 @@ use Rattle.font_decimal.proofs.Integers.{neg-times, times_monotone}
 use Rattle.font_fixed.proofs.NumberLaws.{near_exact}
 use Rattle.font_fixed.specs.Operations.{IsWrappedNear, IsProduct, IsMulDiv}
 
--- a quotient of at most m does not leave w bits
+-- a quotient of at most m fits in w bits
 pub small_near : (w m d : ℕ) (n r : ℤ) → 0 < w → 0 < d → IsWrappedNear w n d r → unsigned_abs n ≤ m * d
     → m < half_range w → r ≡ near n d
 small_near w m d n r wide some given room small =

@@ -1,4 +1,4 @@
--- Products rounded with ties away from zero, as code has it: half a step is added, less one where the product is
+-- Products rounded half away from zero, as code computes them: half a step is added, less one if the product is
 -- negative, and the sum is shifted.
 use Rattle.std.proofs.Common.{◌≡◌, ◌∙◌, ap, ℕ, suc, ◌+◌, ◌-◌, ◌*◌, ◌%◌, ◌^◌, ◌<◌, ◌≤◌, ℤ, pos, ◌+ℤ◌, ◌-ℤ◌, ◌*ℤ◌, ◌≤ℤ◌}
 use Rattle.std.proofs.Common.{◌<ℤ◌, unsigned_abs, arith, lit<, ◌⊎◌, pow_pos, SFits, to_z, of_z, w32, w64}
@@ -22,12 +22,12 @@ products_fit x y f g = grind (arith, ints)
 widened : (x a : ℤ) → SFits w32 x → a ≡ to_z w32 (of_z w32 x) → to_z w64 (of_z w64 a) ≡ x
 widened x a fits is = omega (arith, ints)
 
--- 1 where n is negative, else 0, as code has it
+-- 1 if n is negative, else 0, as code computes it
 sign_step : (n e : ℤ) → e ≡ pos (bool_byte (lt_z n (pos 0)))
     → ((e ≡ pos 1) × (n <ℤ pos 0)) ⊎ ((e ≡ pos 0) × (pos 0 ≤ℤ n))
 sign_step n e is = grind (arith, ints)
 
--- q * d is the greatest multiple of d that is not above n and half a step, less one where n is negative
+-- q * d is the greatest multiple of d that is at most n and half a step, less one if n is negative
 near_of_sum : (n e q : ℤ) (d half : ℕ) → d ≡ half + half → 0 < half
     → ((e ≡ pos 1) × (n <ℤ pos 0)) ⊎ ((e ≡ pos 0) × (pos 0 ≤ℤ n)) → (q *ℤ pos d) ≤ℤ ((n +ℤ pos half) -ℤ e)
     → ((n +ℤ pos half) -ℤ e) <ℤ ((q *ℤ pos d) +ℤ pos d) → Near n d q
@@ -39,7 +39,7 @@ near_is_wrapped_near w n d r some is = wrapped_near_from w n d (near n d) r some
 
 -- ---- a shift by f bits of fraction
 
--- half a step as code has it: 1 << (f - 1)
+-- half a step in code: 1 << (f - 1)
 abbrev half_code : ℕ → ℕ
 half_code f = 1 * 2 ^ (f - 1) % 18446744073709551616
 
@@ -52,7 +52,7 @@ half_is f few = omega (arith, ints, half_small f few)
 halves : (f : ℕ) → 6 ≤ f → 2 ^ f ≡ 2 ^ (f - 1) + 2 ^ (f - 1)
 halves f many = let is : f ≡ suc (f - 1) = omega (arith, many) in ap (λ n. 2 ^ n) is ∙ two-pow-succ (f - 1)
 
--- e is 1 where n is negative, else 0
+-- e is 1 if n is negative, else 0
 pub shifted_is_near : (n e : ℤ) (f : ℕ) → SFits w64 n → unsigned_abs n ≤ 2 ^ 62 → 6 ≤ f → f ≤ 30
     → e ≡ pos (bool_byte (lt_z (to_z w64 (of_z w64 n)) (pos 0)))
     → to_z w64 (of_z w64 (shr_z
@@ -77,7 +77,7 @@ shifted_is_near n e f fits small many few is =
     (near_gives n (2 ^ f) q (pow_pos f) (near_of_sum n e q (2 ^ f) half (halves f many) (pow_pos (f - 1)) step
     (shr_low _ (2 ^ f) (pow_pos f)) (shr_high _ (2 ^ f) (pow_pos f))))
 
--- ---- the product as code has it: rounded in 64 bits, of which 32 are kept
+-- ---- the product in code: rounded in 64 bits, of which 32 are kept
 
 pub product_32 : (x y a b m l : ℤ) (d : ℕ) → SFits w32 x → SFits w32 y → l ≡ wrap 32 (to_z w64 (of_z w64 m))
     → m ≡ near (to_z w64 (of_z w64 (to_z w64 (of_z w64 a) *ℤ to_z w64 (of_z w64 b)))) d

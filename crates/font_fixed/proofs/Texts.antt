@@ -1,4 +1,4 @@
--- What a decimal text is read as, from the number that the reader gives.
+-- The result of parsing a decimal, from the number of the reader.
 use Rattle.std.proofs.Common.{◌≡◌, ap, ℕ, ◌+◌, ◌*◌, ◌/◌, ◌^◌, ◌<◌, ◌≤◌, List, ℤ, ◌-◌, length, max, unsigned_abs, Option}
 use Rattle.std.proofs.Common.{IsSome, Result, Ok, Err, IfOk, ◌↔◌, arith, Bool, IsTrue, nat_lt, ◌&&◌, pow_pos, SFits}
 use Rattle.std.proofs.Common.{to_z, of_z, refl, zero, suc, true, inl, inr, pow-add, mul-lt-mul_of_pos_right, w64}
@@ -29,16 +29,16 @@ pub cast_reads : (w : Width) (f : ℕ) (text : List ℕ) (b min max : ℤ) → 2
     → ReadsAs (bits w) f text (to_z w (of_z w (to_z w64 (of_z w64 b))))
 cast_reads w f text b min max room low high reads = grind (arith, nat_tests)
 
--- the printed text of a number is read as that number
+-- the printed text of a number parses as that number
 pub printed_reads : (w f : ℕ) (b : ℤ) → 2 ^ (w - 1) ≤ 2 ^ 63 → FitsBits w b → ReadsAs w f (shortest_text b f) b
 printed_reads w f b room fits = grind (arith, ints, printed_rounds)
 
--- no number shows more places: three for each ten bits of fraction, and one
+-- the greatest number of places that is printed: three for each ten fraction bits, and one
 abbrev pub most_places : ℕ → ℕ
 most_places f = f * 3 / 10 + 1
 
--- so many bytes are room for each number of h bits beside its sign, f of them fraction, where no width asks for more:
--- beside a sign, a point and the places there are enough for the digits of the whole part
+-- `room` bytes hold the text of each number of h bits and a sign, f of them fraction bits, unless a width asks for
+-- more: besides a sign, a point and the places, there is room for the digits of the integer
 abbrev pub is_room : ℕ → ℕ → ℕ → Bool
 is_room h f room =
     nat_lt (2 ^ f) (10 ^ most_places f) && (nat_lt (2 ^ h) (10 ^ (room - (most_places f + 2)) * 2 ^ f)
@@ -49,7 +49,7 @@ room_parts : (h f room : ℕ) → IsTrue (is_room h f room) → (2 ^ f < 10 ^ mo
     × (most_places f + 2 < room)
 room_parts h f room test = grind (arith, nat_tests)
 
--- so a column of so many bytes, or of the width that is asked for, is not rejected
+-- a buffer of `room` bytes, or of the requested width, is long enough
 abbrev pub HasRoom : Width → Type 0
 HasRoom w = (b : ℤ) (f room : ℕ) (pad : Pad) (old : List ℕ) (result : Option ℕ)
     → IsSome result ↔ (length (padded_text (shortest_text b f) pad) ≤ length old) → SFits w b
@@ -66,7 +66,7 @@ padded_has_room w b f room pad old result long fits enough test small =
 
 -- ---- the longest text
 
--- so many decimal digits are enough for n bits
+-- n * 3 / 10 + 1 decimal digits are enough for n bits
 abbrev enough : ℕ → Bool
 enough n = nat_lt (2 ^ n) (10 ^ (n * 3 / 10 + 1))
 
@@ -87,7 +87,7 @@ digits n small = grind (arith, nat_tests, is_enough 64 n refl small)
 pub has_room : (w f : ℕ) → f + 2 ≤ w → w ≤ 64 → IsTrue (is_room (w - 1) f (longest w f))
 has_room w f few small = grind (arith, nat_tests, pow-add, digits, mul-lt-mul_of_pos_right, pow_pos)
 
--- ---- in the words of a type of its own: a result with the bits of its number in place of the number
+-- ---- for a type: a result with the raw value in place of the number
 
 abbrev pub as_bits : {T : Type 0} → (T → ℤ) → Result T DecimalFault → Result ℤ DecimalFault
 as_bits bits_of result = result_map_both bits_of (λ fault. fault) result
@@ -102,7 +102,7 @@ if_ok_reads : {T : Type 0} (w f : ℕ) (bits_of : T → ℤ) (text : List ℕ) (
     → IfOk q (λ x. ReadsAs w f text (bits_of x))
 if_ok_reads w f bits_of text q gives = grind (arith, nat_tests)
 
--- all that callers know of a reading, from what it comes to in bits
+-- the contract of parsing, from the result as a raw value
 pub reads_by : {T : Type 0} (w : Width) (f : ℕ) (bits_of : T → ℤ) (of_bits : ℤ → T) (text : List ℕ)
     (q : Result T DecimalFault)
     → ((x : T) → of_bits (bits_of x) ≡ x) → 2 ^ hbits w ≤ 2 ^ 63 → ReadingGives (bits w) f text (as_bits bits_of q)

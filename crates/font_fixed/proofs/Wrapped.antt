@@ -1,5 +1,5 @@
--- What std's calls on the bits of a number give, in the words of `wrap`. Goals have the bits n of a width, and m = 2^n,
--- as literals.
+-- The results of std's calls on the bits of a number, by `wrap`. Goals have the bits n of a width, and m = 2^n, as
+-- literals.
 use Rattle.std.proofs.Common.{◌≡◌, ◌∙◌, sym, refl, ℕ, ◌+◌, ◌-◌, ◌*◌, ◌/◌, ◌%◌, ◌^◌, ◌<◌, ◌≤◌, ℤ, pos, neg_ℤ, ◌+ℤ◌, ◌-ℤ◌}
 use Rattle.std.proofs.Common.{◌*ℤ◌, unsigned_abs, arith, pow_pos, div-add-mod', SFits, to_z, of_z, mod-lt}
 use Rattle.std.proofs.lemmas.Int.{ints, wrapping_add_is, wrapping_sub_is, wrapping_mul_onto, wrapping_neg_is, to_z-of_z}

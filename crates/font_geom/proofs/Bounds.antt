@@ -1,5 +1,5 @@
--- How far rounding moves a point from its exact image, where no entry and no coordinate leaves 32 bits; and what
--- callers name once of matrices whose entries are not too large: nothing leaves 32 bits.
+-- The distance of a point from its exact image, if all entries and coordinates fit in 32 bits; and lemmas for callers
+-- on matrices whose entries are small enough for that.
 use Rattle.std.proofs.Common.{◌≡◌, ◌∙◌, ap, ℕ, ◌+◌, ◌*◌, ◌^◌, ◌<◌, ◌≤◌, ℤ, pos, ◌+ℤ◌, ◌-ℤ◌, ◌*ℤ◌, ◌≤ℤ◌, unsigned_abs}
 use Rattle.std.proofs.Common.{lit<, arith, ◌/◌, ◌&&◌, IsTrue, nat_lt, mul-le-mul_right, mul-le-mul, le_trans}
 use Rattle.std.proofs.lemmas.Int.{unsigned_abs-mul, ints}
@@ -109,7 +109,7 @@ in_turn_close p q d b at =
     (affine_close b.yx at.x b.yy at.y b.dy) none in
     rw (*ℤ_comm p u, *ℤ_comm q v, *ℤ_comm p fine_u, *ℤ_comm q fine_v) (omega (arith, sums, close))
 
--- ---- what the calls give: wrapping on the way changes nothing where the exact sums fit 32 bits
+-- ---- results of the calls: wrapping changes nothing if the exact sums fit in 32 bits
 
 some_bits : 0 < 32
 some_bits = lit< tt
@@ -126,7 +126,7 @@ pub in_turn_is_close : (a b : Matrix ℤ) (p moved : Point ℤ) → moved ≡ im
 in_turn_is_close a b p moved value fits =
     grind (arith, nat_tests, wrap-add_left, wrap-add_right, wrap-fits, some_bits, in_turn_close)
 
--- ---- entries that are not too large
+-- ---- small entries
 product_bound : (u v : ℕ) (x y : ℤ) → unsigned_abs x ≤ u → unsigned_abs y ≤ v
     → unsigned_abs (rounded_product x y) ≤ u * v / 65536 + 1
 product_bound u v x y low high =
@@ -188,7 +188,7 @@ fits_in_turn m d m' d' n a b p s t q test =
     let moved = image_bounded m' d' n b p t q in
     record { first = fits_point _ _ room.0 moved; image = fits_point _ _ room.1 (image_bounded m d _ a _ s moved) }
 
--- a lesser distance is within a greater one
+-- a bound may be replaced by a greater one
 pub within_more : (d e : ℕ) (exact moved : ℤ) → IsWithin d exact moved → d ≤ e → IsWithin e exact moved
 within_more d e exact moved close less = le_trans close less
 

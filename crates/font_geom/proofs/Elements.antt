@@ -1,18 +1,18 @@
--- Where sums and products of elements have one answer, so have images and products of matrices.
+-- If sums and products of elements have one result, so have images and products of matrices.
 use Rattle.std.proofs.Common.{arith, ◌≡◌}
 use Rattle.font_geom.specs.declared.matrix.Matrix.{Matrix}
 use Rattle.font_geom.specs.declared.point.Point.{Point}
 use Rattle.font_geom.specs.Matrix.{IsLinearForm, IsAffineForm, IsTransformed, IsProductOf, linear_form, affine_form}
 use Rattle.font_geom.specs.Matrix.{image_of, matrix_product}
 
--- the matrix and the point of what a function gives at each element
+-- the matrix and the point of a function's results at each element
 abbrev pub map_matrix : {T V : Type 0} → (T → V) → Matrix T → Matrix V
 map_matrix f m = record { xx = f m.xx; yx = f m.yx; xy = f m.xy; yy = f m.yy; dx = f m.dx; dy = f m.dy }
 
 abbrev pub map_point : {T V : Type 0} → (T → V) → Point T → Point V
 map_point f p = record { x = f p.x; y = f p.y }
 
--- the elements are seen by `shown`, and over what is shown products and sums are these functions
+-- elements are described by `shown`, by which products and sums are these functions
 pub record HasOneAnswer {T V : Type 0} (product sum : T → T → T → Type 0) (shown : T → V)
     (plus times : V → V → V) : Type 0 where
   pub product_is : (x y r : T) → product x y r → shown r ≡ times (shown x) (shown y)

@@ -1,4 +1,4 @@
--- What calls on matrices of `Fixed` give, over their bits.
+-- Results of calls on matrices of `Fixed`, by their raw values.
 use Rattle.std.proofs.Common.{◌≡◌, ◌+ℤ◌}
 use Rattle.font_base.specs.Wrap.{wrap}
 use Rattle.font_fixed.specs.Operations.{IsProduct}
@@ -9,7 +9,7 @@ use Rattle.font_geom.specs.Matrix.{IsTransformed, IsProductOf, image_of, matrix_
 use Rattle.font_geom.specs.FixedMatrix.{matrix_bits, point_bits, wrapped_product, wrapped_sum}
 use Rattle.font_geom.proofs.Elements.{HasOneAnswer, image_is, matrix_product_is}
 
--- what `*` and `+` promise
+-- the contracts of `*` and `+`
 abbrev Product : Fixed → Fixed → Fixed → Type 0
 Product x y r = IsProduct 32 16 (fixed_bits x) (fixed_bits y) (fixed_bits r)
 
@@ -19,7 +19,7 @@ Sum x y r = fixed_bits r ≡ wrap 32 (fixed_bits x +ℤ fixed_bits y)
 fixed_has_one_answer : HasOneAnswer Product Sum fixed_bits wrapped_sum wrapped_product
 fixed_has_one_answer = record { product_is = λ x y r given. given.is; sum_is = λ x y r given. given }
 
--- the bits of a product, and of a point that was moved
+-- the raw values of a product, and of a transformed point
 pub product_value : {a b ab : Matrix Fixed} → IsProductOf Product Sum a b ab
     → matrix_bits ab ≡ matrix_product wrapped_sum wrapped_product (matrix_bits a) (matrix_bits b)
 product_value given = matrix_product_is fixed_has_one_answer given

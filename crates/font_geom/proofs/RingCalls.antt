@@ -1,4 +1,4 @@
--- What calls on matrices over a ring give.
+-- Results of calls on matrices over a ring.
 use Rattle.std.proofs.Common.{◌≡◌, ◌∙◌, sym, ap}
 use Rattle.font_geom.specs.declared.matrix.Matrix.{Matrix}
 use Rattle.font_geom.specs.declared.point.Point.{Point}

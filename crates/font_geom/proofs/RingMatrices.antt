@@ -1,4 +1,4 @@
--- That matrices over a ring multiply as its elements do: products associate, and a product moves a point as its factors
+-- Matrices over a ring multiply as its elements do: products associate, and a product transforms a point as its factors
 -- do in turn.
 use Rattle.std.proofs.Common.{◌≡◌}
 use Rattle.font_geom.specs.declared.matrix.Matrix.{Matrix}

@@ -1,4 +1,4 @@
--- Good bytes, index by index, and where others go wrong.
+-- Good bytes, index by index, and the first error of others.
 use Rattle.std.proofs.Common.{◌≡◌, ◌≢◌, sym, ap, ℕ, ◌+◌, ◌-◌, ◌<◌, ◌≤◌, List, ◌++◌, length, take, replicate, get_or}
 use Rattle.std.proofs.Common.{arith, [], ◌∷◌, min, rules, take_all, append_assoc}
 use Rattle.std.proofs.lemmas.Bool.Decides.{nat_tests}
@@ -31,7 +31,7 @@ to_good bytes good = grind (arith, nat_tests, places)
 shorter : (bytes : List ℕ) (n m k : ℕ) → GoodTo bytes n m → 0 < k → k ≤ m → GoodTo bytes (min n k) k
 shorter bytes n m k to some room = omega (arith, to)
 
--- good bytes have no fault
+-- good bytes have no error
 pub fault_not_good : (bytes : List ℕ) (index : ℕ) → IsFault bytes index → IsGood bytes → ⊥
 fault_not_good bytes index fault good = let to = to_good bytes good in
     fault.fails (good_to bytes _ _ (shorter bytes _ _ (index + 1) to (omega arith) (omega (arith, fault.within))))

@@ -33,7 +33,7 @@ pub checked_good : (bytes : List ℕ) (checked : Result Tag InvalidTag) → 0 < 
     → IsChecked bytes checked → IsOk checked ↔ IsGood bytes
 checked_good bytes checked some few judged = grind (arith, nat_tests, tag_judgements)
 
--- a tag validates exactly where its four bytes are accepted
+-- a tag validates if and only if its four bytes are accepted
 pub validates_where_checked : (tag : Tag) (checked : Result Tag InvalidTag) (validated : Result (Unit {0}) InvalidTag)
     → IsTrue (are_bytes 4 (tag_bytes tag))
     → IsChecked (tag_bytes tag) checked → IsValidated (tag_bytes tag) validated → IsOk validated ↔ IsOk checked
@@ -43,7 +43,7 @@ validates_where_checked tag checked validated are first second =
     let right = checked_good (tag_bytes tag) checked (omega (arith, many)) (omega (arith, many)) first in
     search (left.0, left.1, right.0, right.1)
 
--- a tag that was made of accepted bytes validates
+-- a tag created from accepted bytes validates
 pub checked_validates : (bytes : List ℕ) (tag : Tag) (validated : Result (Unit {0}) InvalidTag)
     → IsChecked bytes (Ok tag) → IsValidated (tag_bytes tag) validated → IsOk validated
 checked_validates bytes tag validated checked judged = grind (arith, nat_tests, validated_good, filled_good)
@@ -67,14 +67,14 @@ shown_or_hidden byte = grind arith
 byte_text-shown : (byte : ℕ) → IsShown byte → byte_text byte ≡ byte ∷ []
 byte_text-shown byte shown = grind (arith, nat_tests)
 
--- two hexadecimal digits are equal where their glyphs are, and neither is a brace
+-- two hexadecimal digits are equal if their glyphs are, and neither glyph is a brace
 same_glyph : (c d : ℕ) → c < 16 → d < 16 → digit_glyph true c ≡ digit_glyph true d → c ≡ d
 same_glyph c d small_c small_d same = grind (arith, nat_tests)
 
 no_brace : (d : ℕ) → d < 16 → digit_glyph true d ≢ 123
 no_brace d small = grind (arith, nat_tests)
 
--- characters other than braces are bytes that are shown as they are
+-- characters other than braces are printable bytes
 plain_after : (bytes plain text : List ℕ) → AllByRecursion (λ c. c ≢ 123) plain → tag_text bytes ≡ plain ++ text
     → length plain ≤ length bytes
 plain_after bytes [] text all is = omega arith
@@ -86,7 +86,7 @@ plain_after (byte ∷ bytes) (c ∷ plain) text all is = elim (shown_or_hidden b
   | inr hidden ↦ let whole = rw (byte_text-hidden byte hidden) at is in absurd (all.0 (cc))
 ]
 
--- a byte shown as it is, before so few bytes, is not what a hidden byte is shown as
+-- a printable byte before few bytes is not the text of a byte that is not printable
 shown_not_hidden : (x y : ℕ) (xs ys : List ℕ) → IsShown x → IsHidden y → y < 256 → length xs ≤ 3
     → tag_text (x ∷ xs) ≡ tag_text (y ∷ ys) → ⊥
 shown_not_hidden x y xs ys shown hidden small few same =
@@ -94,7 +94,7 @@ shown_not_hidden x y xs ys shown hidden small few same =
     let plain = 48 ∷ 120 ∷ digit_glyph true (y / 16) ∷ digit_glyph true (y % 16) ∷ [] in
     omega (arith, plain_after xs plain (125 ∷ tag_text ys) (search (rules, no_brace)) (cc))
 
--- at most four bytes are known by how they are shown
+-- at most four bytes are determined by their text
 same_bytes : (xs ys : List ℕ) → length xs ≤ 4 → length xs ≡ length ys
     → ((i : ℕ) → get_or xs i 0 < 256) → ((i : ℕ) → get_or ys i 0 < 256) → tag_text xs ≡ tag_text ys → xs ≡ ys
 same_bytes [] [] few many bytes_x bytes_y same = refl
@@ -131,7 +131,7 @@ each_byte n bytes are i =
     let all = AllPass-from_list_all (λ byte. nat_lt byte 256) bytes (and_parts (length bytes == n) _ are).1 in
     grind (arith, nat_tests, all i 0, get_or_past bytes i 0)
 
--- two tags with one printed text are one tag
+-- two tags with the same printed text are equal
 pub printed_once : (a b : Tag) → IsTrue (are_bytes 4 (tag_bytes a)) → IsTrue (are_bytes 4 (tag_bytes b))
     → tag_text (tag_bytes a) ≡ tag_text (tag_bytes b) → a ≡ b
 printed_once a b are_a are_b same =

@@ -1,4 +1,4 @@
--- How tags are printed.
+-- The printed text of tags.
 use Rattle.std.proofs.Common.{◌≡◌, ℕ, ◌/◌, ◌%◌, ◌<◌, ◌⊎◌, true, arith, Some, List, [], ◌∷◌}
 use Rattle.std.proofs.lemmas.Fmt.{hex_byte}
 use Rattle.std.proofs.lemmas.Bool.Decides.{nat_tests}

@@ -1,5 +1,4 @@
--- Versions are compatible with themselves, and with those with which a compatible one is: over the two numbers that
--- each `impl` of `Compatible` speaks of.
+-- Compatibility of versions is reflexive and transitive, over the two numbers of each `impl` of `Compatible`.
 use Rattle.std.proofs.Common.{refl, ℕ, arith}
 use Rattle.font_tags.specs.Version.{IsCompatible}
 

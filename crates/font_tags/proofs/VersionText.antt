@@ -1,4 +1,4 @@
--- How the bits of a version are printed.
+-- The printed bits of a version.
 use Rattle.std.proofs.Common.{◌≡◌, ap, ℕ, ◌-◌, false, Some, List, [], ◌++◌, length, replicate, arith, append-nil}
 use Rattle.std.specs.Fmt.{digits, digits_output, styled_digits_output, format_spec, padded_integral, char_count}
 use Rattle.std.specs.Fmt.{WritesOnOk, DisplaysOnOk, ◌++?◌}

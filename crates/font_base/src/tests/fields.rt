@@ -1,4 +1,4 @@
-//! Fields laid over bytes, and headers made of them.
+//! Fields, and headers of fields.
 
 ghost use Rattle.std.specs.Prelude.{◌≡◌, length};
 ghost use Rattle.std.proofs.Common.{ap, rules};

@@ -33,7 +33,7 @@ loop-margin-preserved c =
 fewest : (c : After-loop-margin) → IsFewest c.args.magnitude c.args.f c.loop-margin.places
 fewest c = grind (arith, stopped, unit_is)
 
--- where the last digit is raised
+-- if the last digit is raised
 pub returns-then-rest-unit-clause-places : goal.returns-then-rest-unit-clause-places
 returns-then-rest-unit-clause-places c = places_are (fewest c.before)
 
@@ -47,7 +47,7 @@ returns-then-rest-unit-clause-below c =
     ∙ rw (one_shl c.args.f 64 (omega arith)) (omega arith) in
     fraction_below _ (fewest c.before) split
 
--- where it is not
+-- if it is not
 pub returns-else-rest-unit-clause-places : goal.returns-else-rest-unit-clause-places
 returns-else-rest-unit-clause-places c = places_are (fewest c.before)
 
