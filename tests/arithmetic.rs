@@ -220,44 +220,64 @@ fn sums_of_deltas() {
     }
 }
 
+// Sums in units of 2^-16 of a font unit, or of a raw value, for each type that has the base.
 #[test]
 fn apply_delta() {
-    for base in [i16::MIN, -1, 0, i16::MAX] {
-        let (unsigned, fixed) = (base as u16, i32::from(base) << 16);
-        for delta in [i64::MIN, -1, 0, i64::MAX] {
-            let x = F48Dot16::from_bits(delta);
-            let found = [
-                FWord::new(base).apply_delta(x),
-                F2Dot14::from_bits(base).apply_delta(x),
-                UfWord::new(unsigned).apply_delta(x),
-                Fixed::from_bits(fixed).apply_delta(x),
-            ];
-            let bases = [base.into(), base.into(), unsigned.into(), i128::from(fixed)];
-            let exact = bases.map(|base| base * 0x1_0000 + i128::from(delta));
-            assert_eq!(found, exact, "{base} {delta}");
-        }
+    for (base, delta, moved) in [
+        (100, 0x2_8000, 0x66_8000),
+        (-1, 1, -0xFFFF),
+        (0xFFFF, -1, 0xFFFE_FFFF),
+        (0x7FFF, i64::MAX, 0x8000_0000_7FFE_FFFF),
+        (0xFFFF, i64::MAX, 0x8000_0000_FFFE_FFFF),
+        (-0x8000, i64::MIN, -0x8000_0000_8000_0000),
+        (i32::MAX, i64::MAX, 0x8000_7FFF_FFFE_FFFF),
+        (i32::MIN, i64::MIN, -0x8000_8000_0000_0000),
+    ] {
+        let (x, short) = (F48Dot16::from_bits(delta), i16::try_from(base).ok());
+        let found = [
+            Some(Fixed::from_bits(base).apply_delta(x)),
+            short.map(|base| FWord::new(base).apply_delta(x)),
+            short.map(|base| F2Dot14::from_bits(base).apply_delta(x)),
+            u16::try_from(base)
+                .ok()
+                .map(|base| UfWord::new(base).apply_delta(x)),
+        ];
+        let mut values = found.iter().flatten();
+        assert!(
+            values.all(|value| *value == moved),
+            "{base} {delta}: {found:?}"
+        );
     }
 }
 
-// 16.16 raw values rounded to font units, half up.
+// Results of `apply_delta`, and the nearest integers of font units or raw values, half up.
 #[test]
 fn round_delta() {
-    for (bits, signed, unsigned) in [
-        (0x7FFF, Some(0), Some(0)),
-        (0x8000, Some(1), Some(1)),
-        (-0x8000, Some(0), Some(0)),
-        (-0x8001, Some(-1), None),
-        (0x7FFF_7FFF, Some(32767), Some(32767)),
-        (0x7FFF_8000, None, Some(32768)),
-        (-0x8000_8000, Some(-32768), None),
-        (-0x8000_8001, None, None),
-        (0xFFFF_7FFF, None, Some(65535)),
-        (0xFFFF_8000, None, None),
-        (i128::MAX, None, None),
-        (i128::MIN, None, None),
+    for (moved, nearest) in [
+        (0x7FFF, 0i128),
+        (0x8000, 1),
+        (-0x8000, 0),
+        (-0x8001, -1),
+        (0x7FFF_7FFF, 0x7FFF),
+        (0x7FFF_8000, 0x8000),
+        (-0x8000_8000, -0x8000),
+        (-0x8000_8001, -0x8001),
+        (0xFFFF_7FFF, 0xFFFF),
+        (0xFFFF_8000, 0x1_0000),
+        (0x7FFF_FFFF_7FFF, 0x7FFF_FFFF),
+        (0x7FFF_FFFF_8000, 0x8000_0000),
+        (-0x8000_0000_8000, -0x8000_0000),
+        (-0x8000_0000_8001, -0x8000_0001),
+        (i128::MAX, 1 << 111),
+        (i128::MIN, -1 << 111),
     ] {
-        assert_eq!(FWord::round_delta(bits), signed.map(FWord::new), "{bits}");
-        let found = UfWord::round_delta(bits);
-        assert_eq!(found, unsigned.map(UfWord::new), "{bits}");
+        let long = i32::try_from(nearest).ok().map(Fixed::from_bits);
+        assert_eq!(Fixed::round_delta(moved), long, "{moved}");
+        let short = i16::try_from(nearest).ok();
+        let found = (FWord::round_delta(moved), F2Dot14::round_delta(moved));
+        let right = (short.map(FWord::new), short.map(F2Dot14::from_bits));
+        assert_eq!(found, right, "{moved}");
+        let unsigned = u16::try_from(nearest).ok().map(UfWord::new);
+        assert_eq!(UfWord::round_delta(moved), unsigned, "{moved}");
     }
 }

@@ -87,6 +87,16 @@ macro_rules! fixed_point_types {
                 assert_eq!($Type::from_decimal(&text), Err(DecimalFault::OutOfRange));
             }
             assert_eq!("-0".parse(), Ok($Type::ZERO));
+            let zeros = Pad { plus: true, zeros: true, ..Pad::new(9) };
+            let center = Pad { fill: b'*', align: Align::Center, ..Pad::new(9) };
+            for (x, pad, text) in [
+                ($Type::ONE, zeros, b"+00000001"),
+                ($Type::NEG_ONE, center, b"***-1****"),
+            ] {
+                let mut out = [b'~'; 9];
+                assert_eq!(x.write_padded(&mut out, &pad), Some(9), "{pad:?}");
+                assert_eq!(&out, text, "{pad:?}");
+            }
         }
     )*};
 }

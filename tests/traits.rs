@@ -29,8 +29,12 @@ fn debug_and_hash_of_padding() {
     left.align = Align::Left;
     plus.plus = true;
     zeros.zeros = true;
+    let both = Pad {
+        plus: true,
+        ..zeros
+    };
     assert_distinct(
-        &[Pad::new(3), Pad::new(4), filled, left, plus, zeros],
+        &[Pad::new(3), Pad::new(4), filled, left, plus, zeros, both],
         &[
             "Pad { width: 3, fill: 32, align: Right, plus: false, zeros: false }",
             "Pad { width: 4, fill: 32, align: Right, plus: false, zeros: false }",
@@ -38,20 +42,29 @@ fn debug_and_hash_of_padding() {
             "Pad { width: 3, fill: 32, align: Left, plus: false, zeros: false }",
             "Pad { width: 3, fill: 32, align: Right, plus: true, zeros: false }",
             "Pad { width: 3, fill: 32, align: Right, plus: false, zeros: true }",
+            "Pad { width: 3, fill: 32, align: Right, plus: true, zeros: true }",
         ],
     );
 }
 
 #[test]
 fn debug_and_hash_of_shortest() {
-    let texts = [3, 96, 95].map(|bits| Shortest::new(bits, 6));
-    assert_eq!(texts[0].as_ref() as &str, "0.05");
+    let texts = [-3, 96, 95].map(|bits| Shortest::new(bits, 6));
+    assert_eq!(texts[0].as_ref() as &str, "-0.05");
     assert_eq!(texts[1].to_string(), "1.5");
-    let debug = ["0.05", "1.5", "1.48"].map(|text| format!("Shortest({text:?})"));
+    let debug = ["-0.05", "1.5", "1.48"].map(|text| format!("Shortest({text:?})"));
     assert_distinct(&texts, &debug.each_ref().map(|text| &**text));
     // Equal texts are equal, whatever the type of their numbers.
     let ones = [Shortest::new(64, 6), Shortest::new(0x1_0000, 16)];
     assert_eq!(HashSet::from(ones).len(), 1);
+}
+
+#[test]
+fn debug_and_hash_of_numbers() {
+    assert_distinct(&[F2Dot14::MIN, F2Dot14::MAX], &["-2", "1.99994"]);
+    assert_distinct(&[Fixed::MIN, Fixed::MAX], &["-32768", "32767.99998"]);
+    let texts = ["-140737488355328", "140737488355327.99998"];
+    assert_distinct(&[F48Dot16::MIN, F48Dot16::MAX], &texts);
 }
 
 #[test]
@@ -64,6 +77,8 @@ fn iterators() {
     assert!(names.starts_with("[COPYRIGHT_NOTICE, FAMILY_NAME, ") && names.ends_with("_PREFIX]"));
     let array = ScalarArray::<u16>::new(&[0, 1, 0, 4]).unwrap();
     assert_eq!(is_exact(array.iter()), "[1, 4]");
+    fn is_fused(_: impl ExactSizeIterator + DoubleEndedIterator + FusedIterator + Clone) {}
+    is_fused(array.values());
     assert_eq!(format!("{array:?}"), "[1, 4]");
     let mut ended = NameId::predefined();
     let found = [ended.nth(25), ended.next(), ended.next()];
@@ -76,7 +91,9 @@ fn errors() {
         format!("{} {error:?}", Box::<dyn Error>::from(error))
     }
     let error = |id| GlyphId16::try_from(GlyphId::new(id)).unwrap_err();
-    assert!(error(70_000) == error(70_000) && error(70_000) != error(70_001));
+    for other in [70_001, 70_000 + 0x1_0000] {
+        assert!(error(70_000) == error(70_000) && error(70_000) != error(other));
+    }
     let found = [
         texts(error(70_000)),
         texts(Uint24::try_from(1usize << 24).unwrap_err()),
