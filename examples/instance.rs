@@ -46,13 +46,15 @@ pub fn normalized(font: &Font<'_>, index: usize, value: Fixed) -> Option<F2Dot14
         false => axis.max - axis.default,
     };
     let coordinate = match value == axis.default {
-        true => F2Dot14::ZERO,
-        false => ((value - axis.default) / side).to_f2dot14(),
+        true => Fixed::ZERO,
+        false => (value - axis.default) / side,
     };
-    match font.table(b"avar") {
-        Some(avar) => mapped(&segment_map(avar, index)?, coordinate),
-        None => Some(coordinate),
-    }
+    let coordinate = match font.table(b"avar") {
+        // An axis that is not remapped has no records.
+        Some(avar) => mapped(&segment_map(avar, index)?, coordinate).unwrap_or(coordinate),
+        None => coordinate,
+    };
+    Some(coordinate.to_f2dot14())
 }
 
 /// The segment map of an axis. Maps are of different lengths.
@@ -64,25 +66,27 @@ fn segment_map(avar: &[u8], index: usize) -> Option<ScalarArray<'_, AxisMap>> {
     ScalarArray::read_at(avar, start + 2, u16::read_at(avar, start)?.into())
 }
 
-/// A coordinate, interpolated between two records of a map.
-fn mapped(map: &ScalarArray<'_, AxisMap>, coordinate: F2Dot14) -> Option<F2Dot14> {
-    let above = match map.binary_search_by_key(&coordinate, |record| record.from) {
-        Ok(place) => return Some(map.get(place)?.to),
+/// A coordinate, interpolated between two records of a map, or `None` outside of them.
+fn mapped(map: &ScalarArray<'_, AxisMap>, x: Fixed) -> Option<Fixed> {
+    let above = match map.binary_search_by_key(&x, |record| record.from.to_fixed()) {
+        Ok(place) => return Some(map.get(place)?.to.to_fixed()),
         Err(place) => place,
     };
     let (low, high) = (map.get(above.checked_sub(1)?)?, map.get(above)?);
-    let [from, to, x] = [low.from, low.to, coordinate].map(F2Dot14::to_fixed);
+    let [from, to] = [low.from, low.to].map(F2Dot14::to_fixed);
     let (run, rise) = (high.from.to_fixed() - from, high.to.to_fixed() - to);
-    Some((to + (x - from).mul_div(rise, run)).to_f2dot14())
+    Some(to + (x - from).mul_div(rise, run))
 }
 
 /// How much a region's deltas count at these coordinates.
 fn scalar(region: &ScalarArray<'_, RegionAxis>, coordinates: &[F2Dot14]) -> Fixed {
     let of_axis = |(axis, x): (RegionAxis, &F2Dot14)| {
-        let [start, peak, end] = [axis.start, axis.peak, axis.end].map(F2Dot14::to_fixed);
-        let x = x.to_fixed();
+        let [start, peak, end, x] = [axis.start, axis.peak, axis.end, *x].map(F2Dot14::to_fixed);
+        // An axis whose range is out of order or on both sides of zero is ignored.
+        let is_on_one_side = start >= Fixed::ZERO || end <= Fixed::ZERO;
+        let is_valid = (start..=end).contains(&peak) && is_on_one_side;
         match x {
-            _ if x == peak || peak == Fixed::ZERO => Fixed::ONE,
+            _ if x == peak || peak == Fixed::ZERO || !is_valid => Fixed::ONE,
             _ if x <= start || x >= end => Fixed::ZERO,
             _ if x < peak => (x - start) / (peak - start),
             _ => (end - x) / (end - peak),

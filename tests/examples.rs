@@ -9,6 +9,7 @@ mod instance;
 use dump::dump;
 use font_types_proved::{F2Dot14, Fixed, GlyphId16, Tag, UfWord};
 use instance::{advance, axes, normalized};
+use std::collections::BTreeMap;
 
 /// Returns the bytes of 16-bit integers, big-endian.
 fn words(words: &[u16]) -> Vec<u8> {
@@ -25,14 +26,16 @@ fn table(len: usize, fields: &[(usize, &[u16])]) -> Vec<u8> {
 }
 
 /// Two encodings: the specification's example of format 4, with its last segment by an array of
-/// glyphs, and a group of format 12.
+/// glyphs, and two groups of format 12, the last with a glyph above 65535.
 fn cmap() -> Vec<u8> {
     // Its deltas are -9, -18, 7 and 1.
     let format_4 = [
         4, 52, 0, 8, 8, 2, 0, 20, 90, 154, 0xFFFF, 0, 10, 30, 153, 0xFFFF, 0xFFF7, 0xFFEE, 7, 1, 0,
         0, 4, 0, 100, 0,
     ];
-    let format_12 = [12, 0, 0, 28, 0, 0, 0, 1, 1, 0xF600, 1, 0xF610, 0, 500];
+    let format_12 = [
+        12, 0, 0, 40, 0, 0, 0, 2, 1, 0xF600, 1, 0xF60F, 0, 500, 1, 0xF610, 1, 0xF611, 0, 0xFFFF,
+    ];
     let encodings = [0, 2, 0, 3, 0, 20, 0, 10, 0, 20 + 52];
     words(&[&encodings[..], &format_4, &format_12].concat())
 }
@@ -61,34 +64,49 @@ fn long_hvar() -> Vec<u8> {
     words(&[variations(64, &data), vec![0x0100, 0, 2, 0]].concat())
 }
 
-/// A name for Windows.
+/// A name for Unicode, and the same for Windows.
 fn name(text: &str) -> Vec<u8> {
     let units: Vec<u16> = text.encode_utf16().collect();
-    let record = [0, 1, 18, 3, 1, 0x409, 1, 2 * units.len() as u16, 0];
-    words(&[&record[..], &units].concat())
+    let len = 2 * units.len() as u16;
+    let records = [0, 2, 30, 0, 3, 0, 1, len, 0, 3, 1, 0x409, 1, len, 0];
+    words(&[&records[..], &units].concat())
 }
 
+/// Axes with a tag, a minimum, a default and a maximum.
+fn fvar(axes: &[(&[u8; 4], [u16; 3])]) -> Vec<u8> {
+    let mut table = words(&[1, 0, 16, 2, axes.len() as u16, 20, 0, 8]);
+    for (tag, [min, default, max]) in axes {
+        table.extend(*tag);
+        table.extend(words(&[*min, 0, *default, 0, *max, 0, 0, 256]));
+    }
+    table
+}
+
+/// The segment map of a font of one axis. It has the place of half of the axis at a quarter.
+const MAP: [u16; 9] = [4, 0xC000, 0xC000, 0, 0, 0x2000, 0x1000, 0x4000, 0x4000];
+
+/// A font of one axis.
 fn font(hvar: Vec<u8>) -> Vec<u8> {
+    let avar = words(&[&[1, 0, 0, 1], &MAP[..]].concat());
+    let fvar = fvar(&[(b"wght", [100, 400, 900])]);
+    font_of([(b"HVAR", hvar), (b"avar", avar), (b"fvar", fvar)])
+}
+
+/// A font with these tables and those that all fonts here have.
+fn font_of<const N: usize>(variations: [(&[u8; 4], Vec<u8>); N]) -> Vec<u8> {
     let os2 = table(78, &[(4, &[400]), (58, &[0x5445, 0x5354]), (68, &[800])]);
-    let avar = [
-        1, 0, 0, 1, 4, 0xC000, 0xC000, 0, 0, 0x2000, 0x1000, 0x4000, 0x4000,
-    ];
-    let axes = words(&[1, 0, 16, 2, 1, 20, 0, 8]);
-    let axis = words(&[100, 0, 400, 0, 900, 0, 0, 256]);
     let head: [(_, &[u16]); 3] = [(0, &[1, 0, 2, 0x8000]), (18, &[1000]), (36, &[0xFFF6])];
     let hhea = table(36, &[(4, &[800, 0xFF38, 0, 620]), (34, &[2])]);
-    let tables: [(&[u8; 4], Vec<u8>); 10] = [
-        (b"HVAR", hvar),
+    let mut tables = BTreeMap::from(variations);
+    tables.extend([
         (b"OS/2", os2),
-        (b"avar", words(&avar)),
         (b"cmap", cmap()),
-        (b"fvar", [&axes[..], b"wght", &axis].concat()),
         (b"head", table(54, &head)),
         (b"hhea", hhea),
         (b"hmtx", words(&[500, 7, 620, 0xFFF0, 9])),
-        (b"maxp", words(&[1, 0, 3])),
+        (b"maxp", words(&[0, 0x5000, 3])),
         (b"name", name("Ütest")),
-    ];
+    ]);
     let mut font = words(&[1, 0, tables.len() as u16, 0, 0, 0]);
     let mut offset = 12 + 16 * tables.len();
     for (tag, table) in &tables {
@@ -98,8 +116,37 @@ fn font(hvar: Vec<u8>) -> Vec<u8> {
         }
         offset += table.len();
     }
-    font.extend(tables.iter().flat_map(|(_, table)| table));
+    font.extend(tables.into_values().flatten());
     font
+}
+
+/// Two tables of delta sets over two axes, the second of regions in which the first axis is
+/// ignored; then a map of glyphs, or none.
+fn hvar_of_two_axes(map: &[u16]) -> Vec<u8> {
+    let map_offset = if map.is_empty() { 0 } else { 132 };
+    let header = [1, 0, 0, 20, 0, map_offset, 0, 0, 0, 0];
+    let store = [1, 0, 16, 2, 0, 80, 0, 94];
+    let whole = [0, 0x4000, 0x4000];
+    let regions = [
+        [whole, [0; 3]],
+        [whole, whole],
+        // On both sides of zero, with a peak below the start, and with one above the end.
+        [[0xC000, 0x2000, 0x4000], whole],
+        [[0x2000, 0x1000, 0x4000], whole],
+        [[0, 0x4000, 0x2000], whole],
+    ];
+    let regions = regions.into_iter().flatten().flatten();
+    let regions = [2, 5].into_iter().chain(regions).collect::<Vec<u16>>();
+    let mut table = words(&[&header[..], &store, &regions, &[2, 0, 2, 0, 1]].concat());
+    table.extend([10, 20, 30, 40]);
+    table.extend(words(&[2, 0, 3, 2, 3, 4]));
+    table.extend([16, 32, 64, 8, 24, 72]);
+    table.extend(words(map));
+    table
+}
+
+fn two_axes() -> Vec<u8> {
+    fvar(&[(b"wght", [100, 400, 900]), (b"wdth", [50, 100, 200])])
 }
 
 #[test]
@@ -107,7 +154,7 @@ fn dump_of_a_font() {
     let bytes = font(hvar());
     let font = dump::font::Font::new(&bytes).unwrap();
     let mut text = String::new();
-    dump(&font, "\n\u{15}\u{99}\u{9A}😀a", &mut text).unwrap();
+    dump(&font, "\n\u{15}\u{99}\u{9A}😀😐😑a", &mut text).unwrap();
     let wanted = "\
 head version: MajorMinor { major: 1, minor: 0 }
 font revision: 2.5
@@ -117,7 +164,7 @@ x min: FWord(-10)
 ascender: FWord(800)
 descender: FWord(-200)
 widest advance: UfWord(620)
-maxp version: Version16Dot16(00010000)
+maxp version: Version16Dot16(00005000)
 glyphs: 3
 weight class: 400
 vendor: Tag(TEST)
@@ -128,6 +175,8 @@ FAMILY_NAME: Ütest
 \u{99}: glyph 107
 \u{9A}: no glyph
 😀: glyph 500
+😐: glyph 65535
+😑: no glyph
 a: no glyph
 ";
     assert_eq!(text, wanted);
@@ -159,24 +208,29 @@ fn read(bytes: &[u8]) -> Option<()> {
 // The examples do not panic on any bytes.
 #[test]
 fn mutated_fonts() {
-    let fonts = [font(hvar()), font(long_hvar())];
+    let hvar_of_two_axes = hvar_of_two_axes(&[0x0018, 3, 0x0001, 0x0200, 0x0201]);
+    let font_of_two_axes = font_of([(b"HVAR", hvar_of_two_axes), (b"fvar", two_axes())]);
+    let fonts = [font(hvar()), font(long_hvar()), font_of_two_axes];
     let mut state = 1u64;
     let mut random = |below: usize| {
         state = state.wrapping_mul(6364136223846793005).wrapping_add(1);
         (state >> 33) as usize % below
     };
     for n in 0..3000 {
-        let mut bytes = fonts[n % 2].clone();
+        let mut bytes = fonts[n % fonts.len()].clone();
         // Runs of a few bytes, so that integers become extreme.
+        let mut changes = Vec::new();
         for _ in 0..=random(4) {
             let (place, len) = (random(bytes.len()), 1 + random(8));
             let byte = [0, 0x7F, 0x80, 0xFF, random(256) as u8][random(5)];
             let end = bytes.len().min(place + len);
             bytes[place..end].fill(byte);
+            changes.push((place..end, byte));
         }
-        read(&bytes);
+        let result = std::panic::catch_unwind(|| read(&bytes));
+        assert!(result.is_ok(), "{n}: {changes:?}");
     }
-    assert_eq!(fonts.map(|font| read(&font)), [Some(()); 2]);
+    assert_eq!(fonts.map(|font| read(&font)), [Some(()); 3]);
 }
 
 #[test]
@@ -218,5 +272,60 @@ fn coordinates_and_advances_along_an_axis() {
         // The last entry of the map is that of all later glyphs.
         assert_eq!(advance(1), Some(UfWord::new(620)), "{place}");
         assert_eq!(advance(2), Some(UfWord::new(620)), "{place}");
+    }
+}
+
+// fontTools 4.38 gives these numbers, by these lines, where `index` is the glyph if there is no map:
+// store = VarStoreInstancer(hvar.VarStore, font["fvar"].axes, {"wght": .., "wdth": ..})
+// index = hvar.AdvWidthMap.mapping[glyph]
+// otRound(font["hmtx"][glyph][0] + store[index])
+#[test]
+fn advances_along_two_axes() {
+    // Entries of two bytes with an inner index of 9 bits: one of the first table, two of the second.
+    let map = [0x0018, 3, 0x0001, 0x0200, 0x0201];
+    let rows: [(&[u16], _, &[u16]); 7] = [
+        (&[], [0x2000, 0x2000], &[510, 645]),
+        (&[], [0x3000, 0x2000], &[515, 658]),
+        (&[], [-0x2000, 0x3000], &[500, 620]),
+        (&map, [0x2000, 0x2000], &[525, 676, 672]),
+        (&map, [0x3000, 0x2000], &[538, 676, 672]),
+        (&map, [0x1000, 0x4000], &[518, 732, 724]),
+        (&map, [-0x2000, 0x3000], &[500, 704, 698]),
+    ];
+    for (map, at, advances) in rows {
+        let bytes = font_of([(b"HVAR", hvar_of_two_axes(map)), (b"fvar", two_axes())]);
+        let font = instance::font::Font::new(&bytes).unwrap();
+        let at = at.map(F2Dot14::from_bits);
+        for (glyph, moved) in (0..).zip(advances) {
+            let found = advance(&font, GlyphId16::new(glyph), &at);
+            assert_eq!(found, Some(UfWord::new(*moved)), "{map:?} {at:?} {glyph}");
+        }
+    }
+}
+
+// fontTools 4.38 gives these numbers, by these lines, the second if there is a table `avar`:
+// x = normalizeValue(value, (axis.minValue, axis.defaultValue, axis.maxValue))
+// x = piecewiseLinearMap(x, font["avar"].segments[axis.axisTag])
+// floatToFixed(x, 14)
+#[test]
+fn coordinates_of_two_axes() {
+    let (one, map) = (&[1, 0, 0, 2][..], &MAP[..]);
+    for (avar, coordinates) in [
+        (None, [15204, 8192]),
+        // Maps with no records.
+        (Some([one, map, &[0]].concat()), [14615, 8192]),
+        (Some([one, &[0], map].concat()), [15204, 4096]),
+    ] {
+        let fvar = (b"fvar", two_axes());
+        let bytes = match &avar {
+            Some(avar) => font_of([fvar, (b"avar", words(avar))]),
+            None => font_of([fvar]),
+        };
+        let font = instance::font::Font::new(&bytes).unwrap();
+        let found = [(0, 864), (1, 150)].map(|(axis, value)| {
+            let coordinate = normalized(&font, axis, Fixed::from_i32(value));
+            coordinate.map(F2Dot14::to_bits)
+        });
+        assert_eq!(found, coordinates.map(Some), "{avar:?}");
     }
 }
