@@ -4,6 +4,7 @@ use crate::{
     FWord, GlyphId, GlyphId16, GlyphId24, Int24, JsonFault, JsonScalar, LongDateTime, NameId,
     Offset16, Offset24, Offset32, UfWord, Uint24, Version16Dot16,
 };
+use font_base::Scalar;
 use serde_json::{Value, json};
 use std::alloc::Global;
 use std::test::Fail;
@@ -72,19 +73,22 @@ fn range_of_offsets(rt: HostRuntime) {
 fn range_of_names_and_versions(rt: HostRuntime) {
     let names = [(NameId::COPYRIGHT_NOTICE, 0), (NameId::new(65535), 65535)];
     let (version, greatest) = (Version16Dot16::VERSION_2_5, Version16Dot16::new(65535, 9));
-    let versions = [(version, 151552), (greatest, 4294938624)];
+    let no_version = Version16Dot16::from_raw([255; 4]);
+    let versions = [
+        (version, 151552),
+        (greatest, 4294938624),
+        (no_version, 4294967295),
+    ];
     assert_eq!(rt; unexpected(rt.alloc(), &names, &[-1, 65536]), None);
     assert_eq!(rt; unexpected(rt.alloc(), &versions, &[-1, 4294967296]), None);
 }
 
 #[test]
 fn range_of_dates(rt: HostRuntime) {
-    let (date, least) = (LongDateTime::new(1234569101), LongDateTime::new(i64::MIN));
+    let [date, least, greatest] = [1234569101, i64::MIN, i64::MAX].map(LongDateTime::new);
     let above = Value::from(9223372036854775808u64);
-    assert_eq!(rt;
-        unexpected(rt.alloc(), &[(date, 1234569101), (least, i64::MIN)], &[]),
-        None
-    );
+    let dates = [(date, 1234569101), (least, i64::MIN), (greatest, i64::MAX)];
+    assert_eq!(rt; unexpected(rt.alloc(), &dates, &[]), None);
     assert!(rt; LongDateTime::from_json(&above) == Err(JsonFault::OutOfRange));
 }
 

@@ -49,6 +49,8 @@ fn version_objects(rt: HostRuntime) -> Result<(), Fail> {
     let text = value.to_string(rt.alloc())?;
     assert!(rt; text.as_str() == r#"{"major":10,"minor":5}"#);
     assert!(rt; MajorMinor::from_json(&value) == Ok(version));
+    let greatest = MajorMinor::new(65535, 65535);
+    assert!(rt; round_trip(greatest, rt.alloc())? == Ok(greatest));
     Ok(())
 }
 
