@@ -97,7 +97,8 @@ fn predefined_name_ids() {
     let ids = NameId::predefined();
     let expected = (0..26).filter(|n| *n != 15).map(NameId::new);
     assert!(ids.clone().eq(expected), "{ids:?}");
-    assert!(ids.map(|id| id.to_string()).eq(NAMES.split(' ')));
+    let names: Vec<String> = ids.map(|id| id.to_string()).collect();
+    assert_eq!(names.join(" "), NAMES);
     let mut left = NameId::predefined();
     assert_eq!(left.size_hint(), (25, Some(25)));
     assert_eq!(left.nth(15), Some(NameId::new(16)));

@@ -3,9 +3,11 @@
 use std::fs::{self, File};
 use std::path::Path;
 use std::process::{Command, Output, Stdio};
+use stored::{ANSWERS, assert_answers};
+
+mod stored;
 
 const LINES: &str = concat!(env!("CARGO_MANIFEST_DIR"), "/crates/fontval/stdin");
-const ANSWERS: &str = concat!(env!("CARGO_MANIFEST_DIR"), "/crates/fontval/stdout");
 
 /// Returns the runner that Cargo uses for another target, if it has one.
 fn runner() -> Option<String> {
@@ -33,12 +35,24 @@ fn assert_fails(run: &Output, message: &str) {
 fn stored_lines() {
     let run = fontval(File::open(LINES).unwrap(), Stdio::piped());
     assert!(run.status.success() && run.stderr.is_empty(), "{run:?}");
-    let answers = fs::read(ANSWERS).unwrap();
-    let [made, stored] = [&run.stdout, &answers].map(|bytes| String::from_utf8_lossy(bytes));
-    for (made, stored) in made.lines().zip(stored.lines()) {
-        assert_eq!(made, stored);
-    }
-    assert!(run.stdout == answers);
+    assert_answers(&run.stdout, ANSWERS);
+}
+
+// Each row begins with a line, and its second cell with the answer.
+#[test]
+fn answers_of_the_readme() {
+    let rows = include_str!("../README.md").lines().filter_map(|row| {
+        let (line, answer) = row.strip_prefix("| `")?.split_once(" | `")?;
+        Some((line.split('`').next()?, answer.split('`').next()?))
+    });
+    let (lines, answers): (Vec<&str>, Vec<&str>) = rows.unzip();
+    let file = std::env::temp_dir().join(format!("fontval-readme-{}", std::process::id()));
+    fs::write(&file, lines.join("\n")).unwrap();
+    let run = fontval(File::open(&file).unwrap(), Stdio::piped());
+    fs::remove_file(file).unwrap();
+    let found = String::from_utf8(run.stdout).unwrap();
+    assert_eq!(found.lines().collect::<Vec<_>>(), answers, "{lines:?}");
+    assert_eq!(answers.len(), 6);
 }
 
 #[test]
@@ -104,14 +118,13 @@ fn limited(script: &str) -> Option<Output> {
 #[test]
 #[cfg(target_os = "linux")]
 fn file_size_limit() {
-    let answers = fs::read(ANSWERS).unwrap();
-    let blocks = (answers.len() - 1) / 512;
+    let blocks = (ANSWERS.len() - 1) / 512;
     let file = std::env::temp_dir().join(format!("fontval-{}", std::process::id()));
     let file_name = file.display();
     let script = format!("trap '' XFSZ; ulimit -f {blocks}; \"$0\" <\"$1\" >'{file_name}'");
     if let Some(run) = limited(&script) {
         assert_fails(&run, "fontval: write\n");
-        assert_eq!(fs::read(&file).unwrap(), answers[..512 * blocks]);
+        assert_answers(&fs::read(&file).unwrap(), &ANSWERS[..512 * blocks]);
         fs::remove_file(file).unwrap();
     }
 }

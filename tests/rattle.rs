@@ -4,6 +4,7 @@
 
 #[path = "../src/bin/fontval/host/mod.rs"]
 mod host;
+mod stored;
 
 macro_rules! eprint {
     ($rt:expr; $($text:tt)*) => {
@@ -21,6 +22,7 @@ use host::alloc::{Global, String, Vec};
 use host::{hex, io};
 use std::alloc::{GlobalAlloc, Layout, System};
 use std::cell::Cell;
+use stored::{ANSWERS, LINES, assert_answers};
 
 // ---- hexadecimal digits
 
@@ -143,8 +145,6 @@ impl io::Read for Drip<'_> {
 // Each allocation of a run over the stored lines fails in turn, until none is left that could.
 #[test]
 fn serve_allocation_errors() {
-    const LINES: &[u8] = include_bytes!("../crates/fontval/stdin");
-    const ANSWERS: &[u8] = include_bytes!("../crates/fontval/stdout");
     for passes in 0.. {
         let mut source = FromRead::new(Drip(LINES));
         let mut taken = [0; ANSWERS.len()];
@@ -152,10 +152,8 @@ fn serve_allocation_errors() {
         PASSES.set(passes);
         let result = serve(Global, &mut source, &mut sink);
         if PASSES.replace(usize::MAX) <= passes {
-            assert!(
-                result.is_ok() && taken == ANSWERS && passes > 40,
-                "{passes}"
-            );
+            assert_answers(&taken, ANSWERS);
+            assert!(result.is_ok() && passes > 40, "{passes}");
             break;
         }
         let is_memory = matches!(result, Err(ServeFault::Memory));
