@@ -1,7 +1,7 @@
 //! Products, quotients, conversions and sums of deltas.
 
 use compare::{Random, assert_same, edges, sampled};
-use font_types_proved::{DeltaSum, F2Dot14, F48Dot16, FWord, Fixed, UfWord, vary};
+use font_types_proved::{DeltaSum, FWord, Fixed, vary};
 
 fn products_of(a: i32, b: i32, c: i32) {
     assert_same!((a, b, c), |k| {
@@ -68,25 +68,6 @@ fn conversions_of_f48dot16() {
         assert_same!(bits, |k| k::F48Dot16::from_bits(bits).to_fixed().to_bits());
         assert_same!(bits, |k| k::F48Dot16::from_i64(bits).to_bits());
         assert_same!(bits, |k| k::F48Dot16::from_i32(bits as i32).to_bits());
-    }
-}
-
-/// `font-types` returns a float, so the reference is the exact sum.
-#[test]
-fn apply_delta() {
-    let mut random = Random::new(3);
-    for _ in 0..1_000_000 {
-        let (base, delta) = (random.i32(), random.signed(64));
-        let (x, half) = (F48Dot16::from_bits(delta), base as i16);
-        let exact = |base: i64| i128::from(base) * 65536 + i128::from(delta);
-        let found = [
-            Fixed::from_bits(base).apply_delta(x),
-            F2Dot14::from_bits(half).apply_delta(x),
-            FWord::new(half).apply_delta(x),
-            UfWord::new(half as u16).apply_delta(x),
-        ];
-        let bases = [base.into(), half.into(), half.into(), (half as u16).into()];
-        assert_eq!(found, bases.map(exact), "{base} {delta}");
     }
 }
 

@@ -66,6 +66,36 @@ impl Type {
     }
 }
 
+#[test]
+fn checks_find_differences() {
+    let [right, ..] = types();
+    let zero = Type {
+        parse: |_| Ok(0),
+        ..right
+    };
+    let refused = Type {
+        parse: |_| Err(DecimalFault::Syntax),
+        ..right
+    };
+    let other = Type {
+        from_f64: |_| 0,
+        ..right
+    };
+    type Check = fn(&Type, &str);
+    let rows: [(&Type, Check, &str); 6] = [
+        (&zero, Type::check, "1.5"),
+        (&zero, Type::check, "1e5"),
+        (&zero, Type::check, "2"),
+        (&refused, Type::check, "1.5"),
+        (&refused, Type::check, "2"),
+        (&other, Type::check_with_f64, "1.5"),
+    ];
+    for (n, (of, check, text)) in rows.into_iter().enumerate() {
+        let result = std::panic::catch_unwind(|| check(of, text));
+        assert!(result.is_err(), "{n} {text}");
+    }
+}
+
 /// Returns the text of `numeral / 10^places`, with every place.
 fn decimal(numeral: i128, places: u32) -> String {
     let sign = if numeral < 0 { "-" } else { "" };

@@ -4,7 +4,7 @@
 use compare::edges;
 use font_types as there;
 use font_types_proved as here;
-use here::{IdentityEq, InvalidTag, ScalarArray};
+use here::{IdentityEq, ScalarArray};
 
 /// Returns the nearest integer, half away from zero, without `std`.
 fn nearest(x: f64) -> i64 {
@@ -59,33 +59,65 @@ of_each_type! {
     F48Dot16 i64 16;
 }
 
-/// The unit of `apply_delta` depends on the type: 2^-16 of a font unit, 2^-32 and 2^-30 of 1.
+/// Returns the power of two in the table of units, by which a result of `apply_delta` is divided.
+fn power(name: &str) -> u32 {
+    let rows = include_str!("../../docs/PORTING.md").lines();
+    let mut rows = rows.filter_map(|row| row.split_once(" | `2^-"));
+    let row = rows.find_map(|(types, row)| types.contains(name).then_some(row));
+    let (power, row) = row.and_then(|row| row.split_once('`')).expect(name);
+    assert!(row.contains(&format!("divide by `2^{power}`")), "{row}");
+    power.parse().expect(name)
+}
+
+/// The low bits are those of a wrapping sum of `font-types`, and the value is near its float, whose
+/// terms are rounded to 24 bits.
+fn check_apply_delta(base: i16, raw: i64) {
+    let (ours, theirs) = (
+        here::F48Dot16::from_bits(raw),
+        there::F48Dot16::from_bits(raw),
+    );
+    macro_rules! moved {
+        ($($Type:ident::$new:ident($base:expr)),*) => {
+            [$((
+                concat!("`", stringify!($Type), "`"),
+                i64::from($base),
+                here::$Type::$new($base).apply_delta(ours),
+                there::$Type::$new($base).apply_delta(theirs),
+            )),*]
+        };
+    }
+    let fixed = i32::from(base) << 16;
+    for (name, base, moved, float) in moved![
+        FWord::new(base),
+        UfWord::new(base as u16),
+        Fixed::from_bits(fixed),
+        F2Dot14::from_bits(base)
+    ] {
+        let sum = there::F48Dot16::from_i64(base) + theirs;
+        assert_eq!(moved as i64, sum.to_bits(), "{name} {base} {raw}");
+        let far = moved as f64 - f64::from(float) * (1u64 << power(name)) as f64;
+        let terms = base.unsigned_abs() as f64 * 65536.0 + raw.unsigned_abs() as f64;
+        assert!(
+            far.abs() <= terms / f64::from(1 << 22),
+            "{name} {base} {raw}: {moved} {float}"
+        );
+    }
+}
+
 #[test]
 fn apply_delta() {
-    let step = |power: u32| (1u64 << power) as f64;
-    for raw in edges(20) {
-        let delta = here::F48Dot16::from_bits(raw);
-        let other = there::F48Dot16::from_bits(raw);
-        let moved = [
-            here::FWord::new(500).apply_delta(delta),
-            here::UfWord::new(500).apply_delta(delta),
-            here::Fixed::ONE.apply_delta(delta),
-            here::F2Dot14::ONE.apply_delta(delta),
-        ];
-        let wanted = [
-            (16, there::FWord::new(500).apply_delta(other)),
-            (16, there::UfWord::new(500).apply_delta(other)),
-            (32, there::Fixed::ONE.apply_delta(other)),
-            (30, there::F2Dot14::ONE.apply_delta(other)),
-        ];
-        for (here, (power, there)) in moved.into_iter().zip(wanted) {
-            let far = here as f64 / step(power) - f64::from(there);
-            assert!(far.abs() < 1e-4, "{raw}: {here} {there}");
+    for raw in edges(64) {
+        for base in [i16::MIN, -1, 0, 500, i16::MAX] {
+            check_apply_delta(base, raw);
         }
-        // Rounded once, and not to an f32 first.
-        let rounded = (moved[0] as f64 / step(16) + 0.5).floor() as i16;
-        let here = here::FWord::round_delta(moved[0]).map(here::FWord::to_i16);
-        assert_eq!(here, Some(rounded), "{raw}");
+    }
+    // Rounded once, and not to an f32 first.
+    for raw in edges(20) {
+        let moved = here::FWord::new(500).apply_delta(here::F48Dot16::from_bits(raw));
+        let exact = 500.0 + there::F48Dot16::from_bits(raw).to_f64();
+        let rounded = (exact + 0.5).floor() as i16;
+        let ours = here::FWord::round_delta(moved).map(here::FWord::to_i16);
+        assert_eq!(ours, Some(rounded), "{raw}");
     }
 }
 
@@ -105,13 +137,19 @@ fn array_in_place_of_a_slice_of_fields() {
 // `font-types` requires an arm `_`.
 #[test]
 fn exhaustive_match_of_errors() {
-    for (bytes, expected) in [(b"    ", (1, 0)), (b"a\x07bc", (2, 1)), (b"a bc", (3, 2))] {
-        let found = match here::Tag::new(bytes).validate().unwrap_err() {
-            InvalidTag::InvalidLength(length) => (1, length),
-            InvalidTag::InvalidByte { pos, .. } => (2, pos),
-            InvalidTag::ByteAfterSpace { pos } => (3, pos),
+    for bytes in [b"    ", b" abc", b"a\x07bc", b"abc\x7F", b"a bc", b"ab c"] {
+        let ours = match here::Tag::new(bytes).validate().unwrap_err() {
+            here::InvalidTag::InvalidLength(length) => [1, length, 0],
+            here::InvalidTag::InvalidByte { pos, byte } => [2, pos, byte.into()],
+            here::InvalidTag::ByteAfterSpace { pos } => [3, pos, 0],
         };
-        assert_eq!(found, expected);
+        let theirs = match there::Tag::new(bytes).validate().unwrap_err() {
+            there::InvalidTag::InvalidLength(length) => [1, length, 0],
+            there::InvalidTag::InvalidByte { pos, byte } => [2, pos, byte.into()],
+            there::InvalidTag::ByteAfterSpace { pos } => [3, pos, 0],
+            _ => unreachable!(),
+        };
+        assert_eq!(ours, theirs, "{bytes:?}");
     }
 }
 
