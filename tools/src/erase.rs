@@ -18,6 +18,7 @@
 //! - `clone(&self) -> Result<T, AllocError>`, which returns the value of its `Ok`;
 //! - a trait's parameter `Rhs`, which defaults to `Self`, as of Rust's operators;
 //! - a slice parameter of an `extern "C"` function, which becomes a pointer and a length;
+//! - an `extern "C"` function with a slice or a reference, which becomes `unsafe`;
 //! - `prove!(..)`, which becomes `const { assert!(..) }`: rustc checks it of each type;
 //! - the program's `fn main`, which becomes `pub`;
 //! - in documentation the package's name.
@@ -134,6 +135,8 @@ impl<'a> Eraser<'a> {
                 Ok(at + 1)
             }
             ["+", "Drop", ..] => Ok(self.leave_out(at..at + 2)),
+            // If it named a number, `n + Drop` would be erased to `n`.
+            ["Drop", ..] => self.error(at, "`Drop` elsewhere than in a bound or a `derive`"),
             ["prove", "!", "(", ..] => {
                 let end = self.group_end(at + 2)?;
                 self.put[self.places[end - 1] + 1].push_str(" }");
@@ -201,6 +204,9 @@ impl<'a> Eraser<'a> {
     fn attribute(&mut self, at: usize, open: usize) -> Result<usize, Error> {
         let end = self.group_end(open)?;
         let is_kept = match self.words[open + 1..end] {
+            ["error", "(", text, ..] if text.contains("{{") => {
+                return self.error(open + 3, "`{{` in the text of an error");
+            }
             ["tactic" | "error", ..] => false,
             ["cfg", "(", "test", ")", "]"] => match self.words[end..] {
                 ["mod", "tests", ";", ..] => return Ok(self.leave_out_with_comments(at..end + 3)),

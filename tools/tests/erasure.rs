@@ -2,7 +2,8 @@
 //! source in order, without those that are left out, except for the changes listed here. Comments,
 //! imports and trailing commas are ignored.
 
-use font_types_tools::{erase::LIBRARY, repository};
+use font_types_tools::erase::{Crate, LIBRARY, Target, erase, generated_files, tree};
+use font_types_tools::repository;
 
 /// The changes, as Rust and as source. `CRATE` is any crate of the library.
 const CHANGES: [(&str, &str); 6] = [
@@ -147,6 +148,19 @@ fn generated_files_are_their_sources() {
 }
 
 #[test]
+fn generated_files_are_up_to_date() {
+    let mut files = tree().unwrap();
+    for path in generated_files() {
+        let rust = files.remove(&path);
+        assert!(
+            rust.is_some_and(|rust| rust == repository::text(&path)),
+            "{path}"
+        );
+    }
+    assert!(files.is_empty(), "not written: {:?}", files.keys());
+}
+
+#[test]
 fn exports_of_pointers_are_unsafe() {
     let mut count = 0;
     for path in repository::files("c/src", ".rs") {
@@ -162,4 +176,31 @@ fn exports_of_pointers_are_unsafe() {
         }
     }
     assert!(count > 0);
+}
+
+#[test]
+fn unsupported_sources() {
+    let of = Crate {
+        name: "font_base",
+        target: Target::Library,
+        left_out: &[],
+    };
+    for (line, at, source) in [
+        (
+            1,
+            "`Drop`",
+            "const Drop: u32 = 3;\nfn f(n: u32) -> u32 { n + Drop }",
+        ),
+        (
+            2,
+            "`{{`",
+            "#[derive(Error)]\n#[error(\"{{0, 1}}\")]\nstruct Fault;",
+        ),
+        (2, "`/* */`", "fn f() {\n/* a comment */ }"),
+        (1, "tests", "#[cfg(test)]\nmod others;"),
+    ] {
+        let error = erase(source, &of, false).err().expect(source);
+        let is_named = error.line == line && error.what.contains(at);
+        assert!(is_named, "{source}: {error:?}");
+    }
 }
