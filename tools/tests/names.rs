@@ -1,0 +1,109 @@
+//! Names and paths in the pages are those of the source.
+
+use font_types_tools::repository::{files, text};
+use std::collections::HashSet;
+
+/// Names of std, of other crates and of earlier versions.
+const OTHERS: &str =
+    "bytemuck cast_slice size_of type_name bit_and round_steps from_steps scalar_at";
+
+fn is_of_name(c: char) -> bool {
+    c.is_ascii_alphanumeric() || c == '_'
+}
+
+/// Returns the words of a text, each once.
+fn words(text: &str) -> HashSet<&str> {
+    text.split(|c| !is_of_name(c)).collect()
+}
+
+/// Returns what is between backquotes in a page, without its blocks of code.
+fn quoted(page: &str) -> impl Iterator<Item = &str> {
+    let texts = page.split("```").step_by(2);
+    texts.flat_map(|text| text.split('`').skip(1).step_by(2))
+}
+
+/// Returns the names with `_` or `::` in a page.
+fn names(page: &str) -> impl Iterator<Item = &str> {
+    let is_name = |name: &&str| name.chars().all(|c| is_of_name(c) || c == ':');
+    let is_long = |name: &&str| name.contains("::") || name.contains('_');
+    quoted(page).filter(is_name).filter(is_long)
+}
+
+/// Returns the paths of source files in a page, but those with a word in capitals for any name.
+fn paths(page: &str) -> impl Iterator<Item = &str> {
+    let is_path = |path: &&str| {
+        path.chars()
+            .all(|c| is_of_name(c) || matches!(c, '/' | '.'))
+    };
+    let is_source = |path: &&str| matches!(path.rsplit_once('.'), Some((_, "rt" | "antt" | "rs")));
+    let is_any = |word: &str| word.chars().all(|c| c.is_ascii_uppercase());
+    let is_one = move |path: &&str| !path.split(['/', '.']).any(is_any);
+    quoted(page)
+        .filter(is_path)
+        .filter(is_source)
+        .filter(is_one)
+}
+
+#[test]
+fn names_and_paths_of_the_pages() {
+    let files: Vec<String> = files("", "")
+        .iter()
+        .map(|path| format!("/{path}"))
+        .collect();
+    let mut source = files.join(" ") + " " + OTHERS;
+    for file in &files {
+        if matches!(
+            file.rsplit_once('.'),
+            Some((_, "rt" | "antt" | "rs" | "h" | "txt"))
+        ) {
+            source += &text(&file[1..]);
+        }
+    }
+    let (source, mut unknown) = (words(&source), Vec::new());
+    for page in files.iter().filter(|file| file.ends_with(".md")) {
+        if ["/CHANGELOG.md", "/c/README.md"].contains(&&**page) {
+            continue;
+        }
+        let text = text(&page[1..]);
+        let is_unknown = |name: &&str| !name.split("::").all(|word| source.contains(word));
+        let is_no_file = |path: &&str| {
+            let end = format!("/{path}");
+            !files.iter().any(|file| file.ends_with(&end))
+        };
+        let found = names(&text).filter(is_unknown);
+        let found = found.chain(paths(&text).filter(is_no_file));
+        unknown.extend(found.map(|name| format!("{page}: {name}")));
+    }
+    assert!(unknown.is_empty(), "{unknown:#?}");
+}
+
+/// Returns whether the header declares a name: itself, or by `font_##NAME##_parse(`.
+fn is_declared(name: &str, header: &str) -> bool {
+    let declared = words(header);
+    let parts = name
+        .strip_prefix("font_")
+        .and_then(|rest| rest.split_once('_'));
+    let is_pasted = parts.is_some_and(|(format, rest)| {
+        declared.contains(format) && header.contains(&format!("##_{rest}("))
+    });
+    is_pasted || declared.contains(name)
+}
+
+// Names of earlier versions are in the first cells of tables.
+#[test]
+fn names_of_the_library_for_c() {
+    let (header, page) = (text("c/include/font_types.h"), text("c/README.md"));
+    let mut count = 0;
+    for line in page.lines() {
+        let row = line.strip_prefix("| ").and_then(|row| row.split_once('|'));
+        for name in words(row.map_or(line, |(_, row)| row)) {
+            let lower = name.to_lowercase();
+            let is_file = lower.starts_with("font_types") || lower == "font_c";
+            if lower.starts_with("font_") && !is_file {
+                assert!(is_declared(name, &header), "{name}");
+                count += 1;
+            }
+        }
+    }
+    assert!(count > 20, "{count}");
+}

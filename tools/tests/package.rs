@@ -1,0 +1,62 @@
+//! The Cargo package: its files, its version and its first page.
+
+use font_types_tools::repository::{files, root, text};
+use std::collections::BTreeSet;
+use std::process::Command;
+
+#[test]
+fn files_of_the_package() {
+    let mut cargo = Command::new(env!("CARGO"));
+    let cargo = cargo.args(["package", "--list", "--allow-dirty", "--offline"]);
+    let output = cargo.current_dir(root()).output().unwrap();
+    let packed = String::from_utf8(output.stdout).unwrap();
+    let source = files("src", "").into_iter();
+    let source = source.filter(|path| !path.starts_with("src/bin/"));
+    let others = [
+        "Cargo.toml",
+        "LICENSE-APACHE",
+        "LICENSE-MIT",
+        "docs/PORTING.md",
+    ];
+    let expected: BTreeSet<String> = source.chain(others.map(String::from)).collect();
+    // Cargo adds these.
+    let is_ours = |path: &&str| {
+        !path.ends_with(".orig") && !matches!(*path, "Cargo.lock" | ".cargo_vcs_info.json")
+    };
+    let found: BTreeSet<String> = packed.lines().filter(is_ours).map(String::from).collect();
+    assert_eq!(found, expected);
+}
+
+#[test]
+fn versions_are_alike() {
+    let version = |path: &str, before: &str| {
+        let text = text(path);
+        let (_, after) = text.split_once(before).expect(path);
+        after.split('"').next().unwrap().to_string()
+    };
+    let header = version("c/include/font_types.h", "#define FONT_TYPES_VERSION \"");
+    for path in [
+        "Cargo.toml",
+        "c/Cargo.toml",
+        "compare/Cargo.toml",
+        "tools/Cargo.toml",
+    ] {
+        assert_eq!(version(path, "\nversion = \""), header, "{path}");
+    }
+}
+
+// The formats of a width, what tests of headers use and a constant are elsewhere.
+#[test]
+fn first_page_has_the_public_names() {
+    let (page, exports) = (text("src/lib.rs"), text("src/generated/font_types/mod.rs"));
+    let lists = exports.split("pub use ").skip(1);
+    let lists = lists.filter_map(|item| item.split(['{', '}']).nth(1));
+    let names = lists.flat_map(|list| list.split(',')).map(str::trim);
+    let names = names.filter(|name| !name.is_empty() && !page.contains(&format!("[`{name}`]")));
+    let elsewhere = "SampleHeader FixedI16 FixedI32 FixedI64 Format TTC_HEADER_TAG";
+    assert!(
+        names.clone().eq(elsewhere.split(' ')),
+        "{:?}",
+        names.collect::<Vec<_>>()
+    );
+}
