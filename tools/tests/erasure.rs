@@ -124,27 +124,41 @@ fn without_last_commas(t: &[&str]) -> String {
     text + " "
 }
 
+/// Asserts that generated Rust has the tokens of its source, and returns how often it has each of
+/// the changes.
+fn assert_same(rust: &str, source: &str, path: &str) -> [usize; CHANGES.len()] {
+    let mut made = without_last_commas(&kept(&tokens(rust)));
+    let counts = CHANGES.map(|(into, from)| {
+        let mut count = 0;
+        for name in LIBRARY.map(|(name, _)| name) {
+            let put = |t: &str| format!(" {} ", tokens(&t.replace("CRATE", name)).join(" "));
+            count += made.matches(&put(into)).count();
+            made = made.replace(&put(into), &put(from));
+        }
+        count
+    });
+    assert_eq!(made, without_last_commas(&kept(&tokens(source))), "{path}");
+    counts
+}
+
 #[test]
 fn generated_files_are_their_sources() {
-    let mut counts = [0; CHANGES.len()];
+    let mut sums = [0; CHANGES.len()];
     for path in repository::files("", ".rs") {
         let rust = repository::text(&path);
         let source = rust.strip_prefix("// @generated from ").unwrap_or("");
-        let Some((source, _)) = source.split_once(".rt ") else {
-            continue;
-        };
-        let mut made = without_last_commas(&kept(&tokens(&rust)));
-        for ((into, from), count) in CHANGES.iter().zip(&mut counts) {
-            for name in LIBRARY.map(|(name, _)| name) {
-                let put = |t: &str| format!(" {} ", tokens(&t.replace("CRATE", name)).join(" "));
-                *count += made.matches(&put(into)).count();
-                made = made.replace(&put(into), &put(from));
-            }
+        if let Some((source, _)) = source.split_once(".rt ") {
+            let counts = assert_same(&rust, &repository::text(&format!("{source}.rt")), &path);
+            sums = std::array::from_fn(|n| sums[n] + counts[n]);
         }
-        let text = repository::text(&format!("{source}.rt"));
-        assert_eq!(made, without_last_commas(&kept(&tokens(&text))), "{path}");
     }
-    assert!(counts.iter().all(|count| *count > 0), "{counts:?}");
+    assert!(sums.iter().all(|count| *count > 0), "{sums:?}");
+}
+
+#[test]
+#[should_panic = "other.rs"]
+fn other_tokens_are_found() {
+    assert_same("fn f() -> u32 { 1 }", "fn f() -> u32 { 2 }", "other.rs");
 }
 
 #[test]
