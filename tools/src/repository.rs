@@ -35,19 +35,3 @@ pub fn files(folder: &str, ending: &str) -> Vec<String> {
     found.sort();
     found
 }
-
-/// Writes a file, or only checks it; returns `true` if it is up to date then.
-pub fn write_or_check(path: &str, right: &[u8], write: bool) -> bool {
-    let file = root().join(path);
-    if fs::read(&file).is_ok_and(|bytes| bytes == right) {
-        return true;
-    }
-    if write {
-        fs::create_dir_all(file.parent().unwrap()).unwrap();
-        fs::write(&file, right).unwrap();
-        println!("written: {path}");
-    } else {
-        println!("stale: {path}");
-    }
-    write
-}

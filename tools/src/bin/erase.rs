@@ -1,33 +1,26 @@
-//! Writes the Rust of the crates that cargo compiles: `cargo run --bin erase`. With `-- --check` it
-//! writes nothing, and fails if a committed file differs.
+//! Writes the Rust of the crates that cargo compiles: `cargo run --bin erase`. A test compares the
+//! committed files with it.
 
 use font_types_tools::erase::{generated_files, tree};
-use font_types_tools::repository;
-use std::collections::BTreeSet;
+use font_types_tools::repository::root;
+use std::error::Error;
 use std::fs;
-use std::process::ExitCode;
 
-fn main() -> ExitCode {
-    let is_check = std::env::args().any(|word| word == "--check");
-    let files = match tree() {
-        Ok(files) => files,
-        Err(error) => {
-            eprintln!("{error}");
-            return ExitCode::FAILURE;
-        }
-    };
-    let mut stale: BTreeSet<String> = generated_files().into_iter().collect();
-    stale.retain(|path| !files.contains_key(path));
-    for path in &stale {
-        println!("{path}: stale, no source");
-        if !is_check {
-            let _ = fs::remove_file(repository::root().join(path));
+fn main() -> Result<(), Box<dyn Error>> {
+    let files = tree()?;
+    let mut old = generated_files();
+    old.retain(|path| !files.contains_key(path));
+    for path in old {
+        fs::remove_file(root().join(&path))?;
+        println!("removed: {path}");
+    }
+    for (path, rust) in &files {
+        let file = root().join(path);
+        if !fs::read_to_string(&file).is_ok_and(|text| text == *rust) {
+            fs::create_dir_all(file.parent().expect("a folder"))?;
+            fs::write(file, rust)?;
+            println!("written: {path}");
         }
     }
-    let kept = files
-        .iter()
-        .filter(|(path, text)| !repository::write_or_check(path, text.as_bytes(), !is_check));
-    let count = stale.len() + kept.count();
-    println!("{} files, {count} stale", files.len());
-    ExitCode::from(u8::from(is_check && count > 0))
+    Ok(())
 }
