@@ -32,21 +32,26 @@ fn has_form(alloc: Global, format: &str, bits: i64, text: &str) -> Result<bool, 
 fn fixed_point_strings(rt: HostRuntime) -> Result<(), Fail> {
     for &(format, bits, text) in &[
         ("2.14", 19661, "1.2"),
+        ("2.14", 0x4000, "1"),
         ("2.14", 9830, "0.6"),
         ("2.14", -10139, "-0.61884"),
         ("2.14", 1, "0.00006"),
         ("2.14", -1, "-0.00006"),
         ("2.14", -0x8000, "-2"),
         ("2.14", 0x7FFF, "1.99994"),
+        ("4.12", 0x1000, "1"),
         ("4.12", -0x8000, "-8"),
         ("4.12", 0x7FFF, "7.9998"),
+        ("6.10", 0x400, "1"),
         ("6.10", -0x8000, "-32"),
         ("6.10", 0x7FFF, "31.999"),
+        ("16.16", 0x1_0000, "1"),
         ("16.16", 98304, "1.5"),
         ("16.16", 34177024, "521.5"),
         ("16.16", -0x8000_0000, "-32768"),
         ("16.16", 0x7FFF_FFFF, "32767.99998"),
         ("26.6", -64070, "-1001.1"),
+        ("26.6", 64, "1"),
         ("26.6", 1, "0.02"),
         ("26.6", -3, "-0.05"),
         ("26.6", 32, "0.5"),
@@ -66,6 +71,30 @@ fn fixed_point_strings(rt: HostRuntime) -> Result<(), Fail> {
             "{format}: {text}"
         );
     }
+    Ok(())
+}
+
+/// Returns the raw value of the first number that does not convert to its text, and back.
+fn not_converted<const F: u32>(alloc: Global) -> Result<Option<i16>, Fail>
+where
+    FixedI16<F>: Format<16, F>,
+{
+    for bits in i16::MIN..=i16::MAX {
+        let number = FixedI16::<F>::from_bits(bits);
+        let text = format!(in alloc; "{number}")?;
+        if !converts(alloc, number, text.as_str())? {
+            return Ok(Some(bits));
+        }
+    }
+    Ok(None)
+}
+
+#[test]
+fn every_string_of_16_bits(rt: HostRuntime) -> Result<(), Fail> {
+    let alloc = rt.alloc();
+    assert!(rt; not_converted::<14>(alloc)?.is_none(), "2.14");
+    assert!(rt; not_converted::<12>(alloc)?.is_none(), "4.12");
+    assert!(rt; not_converted::<10>(alloc)?.is_none(), "6.10");
     Ok(())
 }
 
