@@ -2,4 +2,5 @@
 
 pub mod erase;
 pub mod exact;
+pub mod mutants;
 pub mod repository;
