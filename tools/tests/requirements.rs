@@ -155,9 +155,12 @@ fn literals_are_in_tests_that_the_gate_runs() {
 #[test]
 fn sections_keep_their_rows() {
     let page = text("docs/REQUIREMENTS.md");
-    let sections = page.split("\n## ").skip(1);
-    let counts = sections.map(|section| (section.lines().next().unwrap(), cells(section).count()));
-    assert_eq!(counts.collect::<Vec<_>>(), ROWS);
+    let sections: Vec<&str> = page.split("\n## ").skip(1).collect();
+    assert_eq!(sections.len(), ROWS.len());
+    for (section, (title, rows)) in sections.iter().zip(ROWS) {
+        assert_eq!(section.lines().next(), Some(title));
+        assert_eq!(cells(section).count(), rows, "rows of {title}");
+    }
 }
 
 /// The mutants of the page are those whose second line names it.
@@ -166,12 +169,15 @@ fn mutants_name_the_page() {
     let page = text("docs/REQUIREMENTS.md");
     let of_page = all_places(&page).filter(|place| place.label.is_empty());
     let mut of_page: Vec<_> = of_page.map(|place| place.literal).collect();
-    let edits = files("crates", ".edit").into_iter();
-    let required =
-        edits.filter(|path| text(path).contains("\n# required by docs/REQUIREMENTS.md\n"));
-    let names = required.map(|path| path.rsplit('/').next().unwrap().replace(".edit", ""));
-    let mut names: Vec<_> = names.collect();
-    names.sort();
-    of_page.sort();
-    assert_eq!(of_page, names);
+    for path in files("crates", ".edit") {
+        let name = path.rsplit('/').next().unwrap().trim_end_matches(".edit");
+        let is_required = text(&path).contains("\n# required by docs/REQUIREMENTS.md\n");
+        assert_eq!(
+            is_required,
+            of_page.iter().any(|other| other == name),
+            "{path}"
+        );
+        of_page.retain(|other| other != name);
+    }
+    assert!(of_page.is_empty(), "missing: {of_page:?}");
 }
