@@ -42,46 +42,47 @@ impl<'a> Rejection<'a> {
         name(next).or_else(|| before.iter().rev().find_map(name))
     }
 
-    /// Returns whether the goal is of a clause of this name, if it is of any.
-    fn is_of(&self, clauses: &[&str]) -> bool {
-        match self.goal.split_once("clause-") {
+    /// Returns whether the goal is in the function, or one of an `impl`, and is of one of the
+    /// clauses, if it is of any.
+    fn is_of(&self, folder: &str, function: &str, clauses: &[&str]) -> bool {
+        if function.contains(" for ") {
+            return clauses.contains(&self.goal.split('-').next().unwrap());
+        }
+        let is_clause = match self.goal.split_once("clause-") {
             Some((_, clause)) => clauses.contains(&clause.split('-').next().unwrap()),
             None => true,
-        }
+        };
+        is_clause && self.function(folder).as_deref() == function.rsplit("::").next()
     }
 }
 
-/// Returns what is wrong with each mutant that `rt` does not reject where its first line says, by
-/// the output of `rt ci` or `rt must-fail`.
+/// Returns a message for each mutant that `rt` does not reject where its first line says, by the
+/// output of `rt ci` or `rt must-fail`.
 pub fn misnamed(output: &str) -> Vec<String> {
-    let edits = files("crates", ".edit").into_iter();
+    let edits = files("crates", ".edit");
     edits
-        .filter_map(|path| {
-            let named = text(&path).lines().next()?.to_string();
-            let (folder, name) = path.split_once("/must-fail/")?;
-            let start = format!(
-                "rt: must-fail {}/{name}: ",
-                folder.trim_start_matches("crates/")
-            );
-            let Some(message) = output.lines().find_map(|line| line.strip_prefix(&start)) else {
-                return Some(format!("{path}: not in the output"));
-            };
-            let message = message
-                .strip_prefix("refused, as it must be: ")
-                .unwrap_or(message);
-            let (function, clauses) = named.strip_prefix("# clause: ")?.split_once(", ")?;
-            let function = function.rsplit("::").next().unwrap();
-            let clauses: Vec<_> = clauses.split(", ").collect();
-            match Rejection::new(message) {
-                None => Some(format!("{path}: no goal in {message}")),
-                Some(found) if found.function(folder).as_deref() != Some(function) => {
-                    Some(format!("{path}: {named}, in {:?}", found.function(folder)))
-                }
-                Some(found) if !found.is_of(&clauses) => {
-                    Some(format!("{path}: {named}, at {}", found.goal))
-                }
-                Some(_) => None,
-            }
-        })
+        .iter()
+        .filter_map(|path| misnamed_by(output, path))
         .collect()
+}
+
+fn misnamed_by(output: &str, path: &str) -> Option<String> {
+    let (folder, name) = path.split_once("/must-fail/")?;
+    let name = format!("{}/{name}", folder.trim_start_matches("crates/"));
+    let edit = text(path);
+    let first = edit.lines().next()?.strip_prefix("# clause: ");
+    let Some((function, clauses)) = first.and_then(|first| first.split_once(", ")) else {
+        return Some(format!(
+            "{name}: its first line is not `# clause: FUNCTION, CLAUSE`"
+        ));
+    };
+    let start = format!("rt: must-fail {name}: refused, as it must be: ");
+    let message = output.lines().find_map(|line| line.strip_prefix(&start));
+    let Some(found) = message.and_then(Rejection::new) else {
+        return Some(format!("{name}: no goal is read"));
+    };
+    let clauses: Vec<_> = clauses.split(", ").collect();
+    let is_of = found.is_of(folder, function, &clauses);
+    let Rejection { path, line, goal } = found;
+    (!is_of).then(|| format!("{name}: not {function}, {clauses:?}: {goal} at {path}:{line}"))
 }
