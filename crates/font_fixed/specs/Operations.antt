@@ -104,3 +104,8 @@ IsMulDiv w x a (negsuc c) r = IsWrappedNear w (neg_ℤ (x *ℤ a)) (suc c) r
 -- r is the quotient of the raw values x and y: x * 2^f / y, rounded and wrapped
 abbrev pub IsQuotient : ℕ → ℕ → ℤ → ℤ → ℤ → Type 0
 IsQuotient w f x y r = IsMulDiv w x (pos (2 ^ f)) y r
+
+-- x * a / c of raw values, rounded once, half away from zero, for c other than 0
+abbrev pub rounded_mul_div : ℤ → ℤ → ℤ → ℤ
+rounded_mul_div x a (pos c) = near (x *ℤ a) c
+rounded_mul_div x a (negsuc c) = near (neg_ℤ (x *ℤ a)) (suc c)

@@ -13,12 +13,13 @@ ghost use Rattle.font_decimal.specs.Shortest.{IsShortest};
 ghost use Rattle.font_decimal.specs.Shown.{shown};
 ghost use Rattle.font_fixed.specs.Operations.{IsNearestWhole, IsFloor, IsFract, clamp};
 ghost use Rattle.font_fixed.specs.Reading.{ReadsBy};
+ghost use Rattle.font_fixed.specs.Rounding.{rounded};
 ghost use Rattle.font_fixed.specs.declared.fixed_i16.FixedI16.{FixedI16};
 ghost use Rattle.font_fixed.specs.FixedI16.{bits_of, of_bits, text_of};
 ghost use Rattle.font_fixed.specs.Longest.{longest};
 
 use crate::formats::Format;
-use crate::{floor_bits_16, read_bits_16};
+use crate::{floor_bits_16, read_bits_16, round_bits_16};
 use font_base::{FixedSize, IdentityEq, Scalar};
 use font_decimal::{DecimalFault, Pad, Shortest};
 use std::fmt;
@@ -124,6 +125,38 @@ impl<const F: u32> FixedI16<F> {
         Some(Self(self.0.checked_add(other.0)?))
     }
 
+    /// Returns `self - other`, or `None` on overflow.
+    #[must_use]
+    #[inline(always)]
+    pub fn checked_sub(self, other: Self) -> Option<Self>
+        ensures variant { IsSome result ↔ FitsBits 16 (bits_of self.entry -ℤ bits_of other.entry) }
+        ensures value { IfSome result
+            (λ difference. bits_of difference ≡ (bits_of self.entry -ℤ bits_of other.entry)) }
+    {
+        Some(Self(self.0.checked_sub(other.0)?))
+    }
+
+    /// Returns `-self`, or `None` on overflow, that is, for `MIN`.
+    #[must_use]
+    #[inline(always)]
+    pub fn checked_neg(self) -> Option<Self>
+        ensures variant { IsSome result ↔ FitsBits 16 (neg_ℤ (bits_of self.entry)) }
+        ensures value { IfSome result (λ negated. bits_of negated ≡ neg_ℤ (bits_of self.entry)) }
+    {
+        Some(Self(self.0.checked_neg()?))
+    }
+
+    /// Returns the absolute value, or `None` on overflow, that is, for `MIN`.
+    #[must_use]
+    #[inline(always)]
+    pub fn checked_abs(self) -> Option<Self>
+        ensures variant { IsSome result ↔ FitsBits 16 (pos (unsigned_abs (bits_of self.entry))) }
+        ensures value { IfSome result
+            (λ magnitude. bits_of magnitude ≡ pos (unsigned_abs (bits_of self.entry))) }
+    {
+        Some(Self(self.0.checked_abs()?))
+    }
+
     /// Returns the raw bits as big-endian bytes.
     #[must_use]
     #[inline(always)]
@@ -146,6 +179,16 @@ where
         ensures { IsNearestWhole 16 F (bits_of self.entry) (bits_of result) }
     {
         self.wrapping_add(Self(1 << (F - 1))).floor()
+    }
+
+    /// Rounds to the nearest integer, half up, or returns `None` on overflow.
+    #[must_use]
+    #[inline(always)]
+    pub fn checked_round(self) -> Option<Self>
+        ensures variant { IsSome result ↔ FitsBits 16 (rounded F (bits_of self.entry)) }
+        ensures value { IfSome result (λ whole. bits_of whole ≡ rounded F (bits_of self.entry)) }
+    {
+        Some(Self(round_bits_16(self.0, F)?))
     }
 
     /// Returns the largest integer less than or equal to `self`.

@@ -11,12 +11,13 @@ ghost use Rattle.font_decimal.specs.Shortest.{IsShortest};
 ghost use Rattle.font_decimal.specs.Shown.{shown};
 ghost use Rattle.font_fixed.specs.Operations.{IsNearestWhole, IsFloor, IsFract, clamp};
 ghost use Rattle.font_fixed.specs.Reading.{ReadsBy};
+ghost use Rattle.font_fixed.specs.Rounding.{rounded};
 ghost use Rattle.font_fixed.specs.declared.fixed_i64.FixedI64.{FixedI64};
 ghost use Rattle.font_fixed.specs.FixedI64.{bits_of, text_of};
 ghost use Rattle.font_fixed.specs.Longest.{longest};
 
 use crate::formats::Format;
-use crate::{floor_bits_64, read_bits_64};
+use crate::{floor_bits_64, read_bits_64, round_bits_64};
 use font_decimal::{DecimalFault, Pad, Shortest};
 use std::fmt;
 use std::ops::{Add, AddAssign, Neg, Sub, SubAssign};
@@ -116,6 +117,38 @@ impl<const F: u32> FixedI64<F> {
         Some(Self(self.0.checked_add(other.0)?))
     }
 
+    /// Returns `self - other`, or `None` on overflow.
+    #[must_use]
+    #[inline(always)]
+    pub fn checked_sub(self, other: Self) -> Option<Self>
+        ensures variant { IsSome result ↔ FitsBits 64 (bits_of self.entry -ℤ bits_of other.entry) }
+        ensures value { IfSome result
+            (λ difference. bits_of difference ≡ (bits_of self.entry -ℤ bits_of other.entry)) }
+    {
+        Some(Self(self.0.checked_sub(other.0)?))
+    }
+
+    /// Returns `-self`, or `None` on overflow, that is, for `MIN`.
+    #[must_use]
+    #[inline(always)]
+    pub fn checked_neg(self) -> Option<Self>
+        ensures variant { IsSome result ↔ FitsBits 64 (neg_ℤ (bits_of self.entry)) }
+        ensures value { IfSome result (λ negated. bits_of negated ≡ neg_ℤ (bits_of self.entry)) }
+    {
+        Some(Self(self.0.checked_neg()?))
+    }
+
+    /// Returns the absolute value, or `None` on overflow, that is, for `MIN`.
+    #[must_use]
+    #[inline(always)]
+    pub fn checked_abs(self) -> Option<Self>
+        ensures variant { IsSome result ↔ FitsBits 64 (pos (unsigned_abs (bits_of self.entry))) }
+        ensures value { IfSome result
+            (λ magnitude. bits_of magnitude ≡ pos (unsigned_abs (bits_of self.entry))) }
+    {
+        Some(Self(self.0.checked_abs()?))
+    }
+
     /// Returns the raw bits as big-endian bytes.
     #[must_use]
     #[inline(always)]
@@ -138,6 +171,16 @@ where
         ensures { IsNearestWhole 64 F (bits_of self.entry) (bits_of result) }
     {
         self.wrapping_add(Self(1 << (F - 1))).floor()
+    }
+
+    /// Rounds to the nearest integer, half up, or returns `None` on overflow.
+    #[must_use]
+    #[inline(always)]
+    pub fn checked_round(self) -> Option<Self>
+        ensures variant { IsSome result ↔ FitsBits 64 (rounded F (bits_of self.entry)) }
+        ensures value { IfSome result (λ whole. bits_of whole ≡ rounded F (bits_of self.entry)) }
+    {
+        Some(Self(round_bits_64(self.0, F)?))
     }
 
     /// Returns the largest integer less than or equal to `self`.

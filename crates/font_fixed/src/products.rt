@@ -1,11 +1,12 @@
 //! Products and quotients of 32-bit fixed-point numbers, over their raw bits.
-#![tactic(auto, using(crate::proofs::Rules::number_code, crate::proofs::Quotients::signed_code))]
+#![tactic(auto, using(crate::proofs::Rules::number_code))]
 
-ghost use Rattle.std.specs.Prelude.{◌≡◌, ◌-◌, ◌^◌, ◌<◌, ◌≤◌, unsigned_abs};
+ghost use Rattle.std.specs.Prelude.{◌≡◌, ◌≢◌, ◌-◌, ◌^◌, ◌<◌, ◌≤◌, pos, ◌*ℤ◌, unsigned_abs};
 ghost use Rattle.std.specs.Int.{is_negative};
 ghost use Rattle.font_base.specs.Wrap.{wrap};
 ghost use Rattle.font_decimal.specs.Near.{signed, near, near_magnitude};
 ghost use Rattle.font_fixed.specs.Operations.{differ_in_sign, IsProduct, IsMulDiv};
+ghost use Rattle.font_fixed.specs.Operations.{rounded_mul_div};
 
 /// Multiplies two numbers with `f` fraction bits, rounding half away from zero and wrapping on
 /// overflow.
@@ -15,7 +16,7 @@ pub fn product(x: i32, y: i32, f: u32) -> i32
     requires { (6 ≤ f) × (f ≤ 30) }
     ensures { IsProduct 32 f x y result }
 {
-    low_bits(rounded_shift(i64::from(x) * i64::from(y), f))
+    low_bits(exact_product(x, y, f))
 }
 
 /// Returns `x * a / c`, rounded once, half away from zero, wrapping on overflow.
@@ -26,9 +27,7 @@ pub fn product(x: i32, y: i32, f: u32) -> i32
 pub const fn mul_div(x: i32, a: i32, c: i32) -> i32
     ensures { IsMulDiv 32 x a c result }
 {
-    let product = magnitude(x) * magnitude(a);
-    let negative = differs_in_sign(x, a) != c.is_negative();
-    with_sign(negative, rounded_quotient(product, magnitude(c)))
+    low_bits(exact_mul_div(x, a, c))
 }
 
 /// Truncates to the low 32 bits.
@@ -38,6 +37,15 @@ pub const fn low_bits(n: i64) -> i32
     ensures { result ≡ wrap 32 n }
 {
     (n.rem_euclid(1 << 32) as u32).cast_signed()
+}
+
+/// Multiplies two numbers with `f` fraction bits, rounding half away from zero.
+#[inline(always)]
+pub(crate) fn exact_product(x: i32, y: i32, f: u32) -> i64
+    requires { (6 ≤ f) × (f ≤ 30) }
+    ensures { result ≡ near (x *ℤ y) (2 ^ f) }
+{
+    rounded_shift(i64::from(x) * i64::from(y), f)
 }
 
 // Returns `n / 2^f`, rounded half away from zero.
@@ -51,26 +59,39 @@ fn rounded_shift(n: i64, f: u32) -> i64
     (n + half - i64::from(n < 0)) >> f
 }
 
+/// Returns `x * a / c`, rounded half away from zero, or, if `c` is zero, `i32::MAX`, negated if
+/// exactly one of `x` and `a` is negative.
+#[inline]
+pub(crate) const fn exact_mul_div(x: i32, a: i32, c: i32) -> i64
+    ensures nearest { c ≢ pos 0 → result ≡ rounded_mul_div x a c }
+    ensures zero { c ≡ pos 0 → result ≡ signed (differ_in_sign x a) (2 ^ 31 - 1) }
+{
+    let product = magnitude(x) * magnitude(a);
+    let negative = differs_in_sign(x, a) != c.is_negative();
+    with_sign(negative, rounded_quotient(product, magnitude(c)))
+}
+
 // Returns `n / d`, rounded half away from zero, or `i32::MAX` if `d` is zero.
 #[inline]
 const fn rounded_quotient(n: u64, d: u64) -> u64
     requires { (n ≤ 2 ^ 62) × (d ≤ 2 ^ 31) }
     ensures quotient { 0 < d → result ≡ near_magnitude n d }
     ensures zero { d ≡ 0 → result ≡ 2 ^ 31 - 1 }
+    ensures bound { result ≤ 2 ^ 62 }
 {
     if d == 0 { 0x7FFF_FFFF } else { (n + d / 2) / d }
 }
 
-// Applies a sign to a magnitude, wrapping on overflow.
+// Applies a sign to a magnitude.
 #[inline]
-const fn with_sign(negative: bool, magnitude: u64) -> i32
-    ensures { result ≡ wrap 32 (signed negative magnitude) }
+const fn with_sign(negative: bool, magnitude: u64) -> i64
+    requires { magnitude ≤ 2 ^ 62 }
+    ensures { result ≡ signed negative magnitude }
 {
-    let number = ((magnitude % (1 << 32)) as u32).cast_signed();
     if negative {
-        number.wrapping_neg()
+        -(magnitude as i64)
     } else {
-        number
+        magnitude as i64
     }
 }
 

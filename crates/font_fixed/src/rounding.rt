@@ -1,7 +1,8 @@
 //! Rounding the raw bits of fixed-point numbers to integers.
 
-ghost use Rattle.std.specs.Prelude.{◌≡◌, ◌↔◌, ◌+◌, ◌≤◌, IsSome, IfSome};
+ghost use Rattle.std.specs.Prelude.{◌≡◌, ◌↔◌, ◌+◌, ◌^◌, ◌≤◌, IsSome, IfSome};
 ghost use Rattle.font_base.specs.Wrap.{FitsBits};
+ghost use Rattle.font_decimal.specs.Near.{up};
 ghost use Rattle.font_fixed.specs.Operations.{IsFloor};
 ghost use Rattle.font_fixed.specs.Rounding.{rounded};
 
@@ -69,4 +70,24 @@ pub fn round_bits_64(bits: i64, f: u32) -> Option<i64>
 {
     let moved = bits.checked_add(1 << (f - 1))?;
     Some(floor_bits_64(moved, f))
+}
+
+/// Returns `n / 2^f`, rounded half up.
+#[inline(always)]
+#[tactic(auto, using(crate::proofs::Shifts::half_up))]
+pub(crate) const fn half_up_32(n: i32, f: u32) -> i32
+    requires { (2 ≤ f) × (f ≤ 30) }
+    ensures { result ≡ up n (2 ^ f) }
+{
+    ((n >> (f - 1)) + 1) >> 1
+}
+
+/// Returns `n / 2^f`, rounded half up.
+#[inline(always)]
+#[tactic(auto, using(crate::proofs::Shifts::half_up))]
+pub(crate) const fn half_up_64(n: i64, f: u32) -> i64
+    requires { (2 ≤ f) × (f ≤ 30) }
+    ensures { result ≡ up n (2 ^ f) }
+{
+    ((n >> (f - 1)) + 1) >> 1
 }

@@ -2,14 +2,15 @@
 #![tactic(auto, using(crate::proofs::Rules::number_code))]
 
 ghost use Rattle.std.proofs.Common.{lit≤};
-ghost use Rattle.std.specs.Prelude.{◌≡◌, ◌^◌, ℤ, pos, ◌*ℤ◌};
+ghost use Rattle.std.specs.Prelude.{◌≡◌, ◌≢◌, ◌^◌, ◌↔◌, ℤ, pos, ◌*ℤ◌, IsSome, IfSome};
 ghost use Rattle.font_base.specs.Wrap.{FitsBits, wrap};
-ghost use Rattle.font_fixed.specs.Operations.{IsNarrowed, IsProduct, IsQuotient};
+ghost use Rattle.font_decimal.specs.Near.{near};
+ghost use Rattle.font_fixed.specs.Operations.{IsNarrowed, IsProduct, IsQuotient, rounded_mul_div};
 ghost use Rattle.font_fixed.specs.F26Dot6.{f26dot6_bits as bits_of};
 
 use super::FixedI32;
 use crate::formats::Format;
-use crate::{mul_div, product};
+use crate::{exact_mul_div, exact_product, mul_div, product};
 use std::ops::{Div, DivAssign, Mul, MulAssign};
 
 /// A signed 26.6 fixed-point number, the unit of scaled outlines.
@@ -53,6 +54,33 @@ impl F26Dot6 {
     /// The value -1.
     pub const NEG_ONE: Self = Self(-64);
 
+    /// Returns `self * other`, rounded half away from zero, or `None` on overflow.
+    #[must_use]
+    #[inline]
+    pub fn checked_mul(self, other: Self) -> Option<Self>
+        ensures variant { IsSome result
+            ↔ FitsBits 32 (near (bits_of self *ℤ bits_of other) (2 ^ 6)) }
+        ensures value { IfSome result
+            (λ product. bits_of product ≡ near (bits_of self *ℤ bits_of other) (2 ^ 6)) }
+    {
+        Some(Self(i32::try_from(exact_product(self.0, other.0, 6)).ok()?))
+    }
+
+    /// Returns `self / other`, rounded half away from zero, or `None` on overflow or division by zero.
+    #[must_use]
+    #[inline]
+    pub fn checked_div(self, other: Self) -> Option<Self>
+        ensures variant { IsSome result ↔ ((bits_of other ≢ pos 0)
+            × FitsBits 32 (rounded_mul_div (bits_of self) (pos (2 ^ 6)) (bits_of other))) }
+        ensures value { IfSome result (λ quotient. bits_of quotient
+            ≡ rounded_mul_div (bits_of self) (pos (2 ^ 6)) (bits_of other)) }
+    {
+        if other.0 == 0 {
+            return None;
+        }
+        Some(Self(i32::try_from(exact_mul_div(self.0, Self::ONE.0, other.0)).ok()?))
+    }
+
     /// Converts an integer, wrapping on overflow.
     #[must_use]
     #[inline(always)]
@@ -61,6 +89,16 @@ impl F26Dot6 {
         ensures exact { FitsBits 26 number → bits_of result ≡ (number *ℤ pos (2 ^ 6)) }
     {
         Self(number.wrapping_mul(64))
+    }
+
+    /// Converts an integer, or returns `None` on overflow.
+    #[must_use]
+    #[inline]
+    pub fn checked_from_i32(number: i32) -> Option<Self>
+        ensures variant { IsSome result ↔ FitsBits 32 (number *ℤ pos (2 ^ 6)) }
+        ensures value { IfSome result (λ long. bits_of long ≡ (number *ℤ pos (2 ^ 6))) }
+    {
+        Some(Self(number.checked_mul(64)?))
     }
 
     /// Rounds to the nearest integer, half up, wrapped to 26 bits: `F26Dot6::MAX` gives -33554432.

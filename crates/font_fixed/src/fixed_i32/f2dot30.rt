@@ -1,9 +1,9 @@
 //! 2.30 fixed-point numbers.
 #![tactic(auto, using(crate::proofs::Rules::number_code))]
 
-ghost use Rattle.std.specs.Prelude.{◌≡◌, ◌^◌, ℤ, pos, ◌*ℤ◌, refl};
+ghost use Rattle.std.specs.Prelude.{◌≡◌, ◌^◌, ◌↔◌, ℤ, pos, ◌*ℤ◌, IsSome, IfSome, refl};
 ghost use Rattle.std.proofs.Common.{lit<, lit≤};
-ghost use Rattle.font_base.specs.Wrap.{fits_bits, wrap};
+ghost use Rattle.font_base.specs.Wrap.{FitsBits, fits_bits, wrap};
 ghost use Rattle.font_base.specs.Bytes.{bytes_of, signed_numeral};
 ghost use Rattle.font_base.specs.Scalar.Laws.{signed_newtype, signed_identity};
 ghost use Rattle.font_decimal.specs.Near.{up};
@@ -14,7 +14,7 @@ ghost use Rattle.font_fixed.specs.F2Dot30.{f2dot30_bits as bits_of, f2dot30_of a
 
 use super::FixedI32;
 use crate::formats::Format;
-use crate::{F2Dot14, Fixed};
+use crate::{F2Dot14, Fixed, half_up_32};
 use font_base::{FixedSize, IdentityEq, Scalar};
 
 /// A signed 2.30 fixed-point number.
@@ -67,6 +67,17 @@ impl F2Dot30 {
         Self(number.to_bits().wrapping_mul(0x4000))
     }
 
+    /// Converts from [`Fixed`], or returns `None` on overflow.
+    #[must_use]
+    #[inline]
+    pub fn checked_from_fixed(number: Fixed) -> Option<Self>
+        ensures variant { IsSome result ↔ FitsBits 32 (fixed_bits number *ℤ pos (2 ^ 14)) }
+        ensures value { IfSome result
+            (λ long. bits_of long ≡ (fixed_bits number *ℤ pos (2 ^ 14))) }
+    {
+        Some(Self(number.to_bits().checked_mul(0x4000)?))
+    }
+
     /// Converts from [`F2Dot14`], exactly.
     #[must_use]
     #[inline]
@@ -82,7 +93,7 @@ impl F2Dot30 {
     pub const fn to_fixed(self) -> Fixed
         ensures { fixed_bits result ≡ up (bits_of self) (2 ^ 14) }
     {
-        Fixed::from_bits(((self.0 >> 13) + 1) >> 1)
+        Fixed::from_bits(half_up_32(self.0, 14))
     }
 
     /// Rounds to the nearest [`F2Dot14`], half up, wrapping on overflow.
@@ -92,6 +103,16 @@ impl F2Dot30 {
         ensures { IsNarrowed 16 (bits_of self) (2 ^ 16) (f2dot14_bits result) }
     {
         F2Dot14::from_bits((self.wrapping_add(Self(0x8000)).0 >> 16) as i16)
+    }
+
+    /// Rounds to the nearest [`F2Dot14`], half up, or returns `None` on overflow.
+    #[must_use]
+    #[inline]
+    pub fn checked_to_f2dot14(self) -> Option<F2Dot14>
+        ensures variant { IsSome result ↔ FitsBits 16 (up (bits_of self) (2 ^ 16)) }
+        ensures value { IfSome result (λ narrow. f2dot14_bits narrow ≡ up (bits_of self) (2 ^ 16)) }
+    {
+        Some(F2Dot14::from_bits(i16::try_from(half_up_32(self.0, 16)).ok()?))
     }
 }
 

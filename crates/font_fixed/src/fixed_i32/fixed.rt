@@ -1,13 +1,15 @@
 //! 16.16 fixed-point numbers.
 #![tactic(auto, using(crate::proofs::Rules::number_code))]
 
-ghost use Rattle.std.specs.Prelude.{◌≡◌, ◌^◌, ◌↔◌, ℤ, pos, ◌+ℤ◌, ◌*ℤ◌, Some, IsSome, IfSome, refl};
+ghost use Rattle.std.specs.Prelude.{◌≡◌, ◌≢◌, ◌^◌, ◌↔◌, ℤ, pos, ◌+ℤ◌, ◌*ℤ◌, refl};
+ghost use Rattle.std.specs.Prelude.{Some, IsSome, IfSome};
 ghost use Rattle.std.proofs.Common.{lit<, lit≤};
 ghost use Rattle.font_base.specs.Wrap.{FitsBits, fits_bits, wrap};
 ghost use Rattle.font_base.specs.Bytes.{bytes_of, signed_numeral};
 ghost use Rattle.font_base.specs.Scalar.Laws.{signed_newtype, signed_identity};
-ghost use Rattle.font_decimal.specs.Near.{up};
+ghost use Rattle.font_decimal.specs.Near.{near, up};
 ghost use Rattle.font_fixed.specs.Operations.{IsNarrowed, IsProduct, IsQuotient, IsMulDiv};
+ghost use Rattle.font_fixed.specs.Operations.{rounded_mul_div};
 ghost use Rattle.font_fixed.specs.Fixed.{fixed_bits as bits_of, fixed_of as of_bits};
 ghost use Rattle.font_fixed.specs.F2Dot14.{f2dot14_bits};
 ghost use Rattle.font_fixed.specs.F26Dot6.{f26dot6_bits};
@@ -15,7 +17,9 @@ ghost use Rattle.font_fixed.specs.F48Dot16.{f48dot16_bits};
 
 use super::FixedI32;
 use crate::formats::Format;
-use crate::{F2Dot14, F26Dot6, F48Dot16, mul_div, product};
+use crate::{
+    F2Dot14, F26Dot6, F48Dot16, exact_mul_div, exact_product, half_up_32, mul_div, product,
+};
 use font_base::{FixedSize, IdentityEq, Scalar};
 use std::ops::{Div, DivAssign, Mul, MulAssign};
 
@@ -74,6 +78,46 @@ impl Fixed {
         Self(mul_div(self.0, a.0, c.0))
     }
 
+    /// Returns `self * other`, rounded half away from zero, or `None` on overflow.
+    #[must_use]
+    #[inline]
+    pub fn checked_mul(self, other: Self) -> Option<Self>
+        ensures variant { IsSome result
+            ↔ FitsBits 32 (near (bits_of self *ℤ bits_of other) (2 ^ 16)) }
+        ensures value { IfSome result
+            (λ product. bits_of product ≡ near (bits_of self *ℤ bits_of other) (2 ^ 16)) }
+    {
+        Some(Self(i32::try_from(exact_product(self.0, other.0, 16)).ok()?))
+    }
+
+    /// Returns `self / other`, rounded half away from zero, or `None` on overflow or division by zero.
+    #[must_use]
+    #[inline]
+    pub fn checked_div(self, other: Self) -> Option<Self>
+        ensures variant { IsSome result ↔ ((bits_of other ≢ pos 0)
+            × FitsBits 32 (rounded_mul_div (bits_of self) (pos (2 ^ 16)) (bits_of other))) }
+        ensures value { IfSome result (λ quotient. bits_of quotient
+            ≡ rounded_mul_div (bits_of self) (pos (2 ^ 16)) (bits_of other)) }
+    {
+        self.checked_mul_div(Self::ONE, other)
+    }
+
+    /// Returns `self * a / c`, rounded once, half away from zero, or `None` on overflow or if `c` is
+    /// zero.
+    #[must_use]
+    #[inline]
+    pub fn checked_mul_div(self, a: Self, c: Self) -> Option<Self>
+        ensures variant { IsSome result ↔ ((bits_of c ≢ pos 0)
+            × FitsBits 32 (rounded_mul_div (bits_of self) (bits_of a) (bits_of c))) }
+        ensures value { IfSome result (λ quotient. bits_of quotient
+            ≡ rounded_mul_div (bits_of self) (bits_of a) (bits_of c)) }
+    {
+        if c.0 == 0 {
+            return None;
+        }
+        Some(Self(i32::try_from(exact_mul_div(self.0, a.0, c.0)).ok()?))
+    }
+
     /// Converts an integer, wrapping on overflow.
     #[must_use]
     #[inline(always)]
@@ -82,6 +126,16 @@ impl Fixed {
         ensures exact { FitsBits 16 number → bits_of result ≡ (number *ℤ pos (2 ^ 16)) }
     {
         Self(number.wrapping_mul(0x1_0000))
+    }
+
+    /// Converts an integer, or returns `None` on overflow.
+    #[must_use]
+    #[inline]
+    pub fn checked_from_i32(number: i32) -> Option<Self>
+        ensures variant { IsSome result ↔ FitsBits 32 (number *ℤ pos (2 ^ 16)) }
+        ensures value { IfSome result (λ fixed. bits_of fixed ≡ (number *ℤ pos (2 ^ 16))) }
+    {
+        Some(Self(number.checked_mul(0x1_0000)?))
     }
 
     /// Rounds to the nearest integer, half up, wrapped to 16 bits: [`Fixed::MAX`] gives -32768.
@@ -109,6 +163,16 @@ impl Fixed {
         ensures { IsNarrowed 16 (bits_of self) 4 (f2dot14_bits result) }
     {
         F2Dot14::from_bits(low_half(self.quarter()))
+    }
+
+    /// Rounds to the nearest [`F2Dot14`], half up, or returns `None` on overflow.
+    #[must_use]
+    #[inline]
+    pub fn checked_to_f2dot14(self) -> Option<F2Dot14>
+        ensures variant { IsSome result ↔ FitsBits 16 (up (bits_of self) 4) }
+        ensures value { IfSome result (λ narrow. f2dot14_bits narrow ≡ up (bits_of self) 4) }
+    {
+        Some(F2Dot14::from_bits(i16::try_from(half_up_32(self.0, 2)).ok()?))
     }
 
     /// Converts to [`F48Dot16`], exactly.

@@ -2,15 +2,16 @@
 #![tactic(auto, using(crate::proofs::Rules::number_code))]
 
 ghost use Rattle.std.proofs.Common.{lit≤};
-ghost use Rattle.std.specs.Prelude.{◌≡◌, ◌^◌, ℤ, pos, ◌*ℤ◌};
-ghost use Rattle.font_base.specs.Wrap.{wrap};
+ghost use Rattle.std.specs.Prelude.{◌≡◌, ◌^◌, ◌↔◌, ℤ, pos, ◌*ℤ◌, IsSome, IfSome};
+ghost use Rattle.font_base.specs.Wrap.{FitsBits, wrap};
+ghost use Rattle.font_decimal.specs.Near.{up};
 ghost use Rattle.font_fixed.specs.Operations.{IsNarrowed};
 ghost use Rattle.font_fixed.specs.F48Dot16.{f48dot16_bits as bits_of};
 ghost use Rattle.font_fixed.specs.Fixed.{fixed_bits};
 
 use super::FixedI64;
 use crate::formats::Format;
-use crate::{Fixed, low_bits};
+use crate::{Fixed, half_up_64, low_bits};
 
 /// A signed 48.16 fixed-point number, such as a sum of deltas.
 ///
@@ -62,6 +63,16 @@ impl F48Dot16 {
         Self(number.wrapping_mul(0x1_0000))
     }
 
+    /// Converts an integer, or returns `None` on overflow.
+    #[must_use]
+    #[inline]
+    pub fn checked_from_i64(number: i64) -> Option<Self>
+        ensures variant { IsSome result ↔ FitsBits 64 (number *ℤ pos (2 ^ 16)) }
+        ensures value { IfSome result (λ wide. bits_of wide ≡ (number *ℤ pos (2 ^ 16))) }
+    {
+        Some(Self(number.checked_mul(0x1_0000)?))
+    }
+
     /// Converts an integer, exactly.
     #[must_use]
     #[inline(always)]
@@ -87,6 +98,26 @@ impl F48Dot16 {
         ensures { IsNarrowed 32 (bits_of self) (2 ^ 16) result }
     {
         low_bits(self.to_i64())
+    }
+
+    /// Rounds to the nearest integer, half up, or returns `None` on overflow.
+    #[must_use]
+    #[inline]
+    pub fn checked_to_i32(self) -> Option<i32>
+        ensures variant { IsSome result ↔ FitsBits 32 (up (bits_of self) (2 ^ 16)) }
+        ensures value { IfSome result (λ number. number ≡ up (bits_of self) (2 ^ 16)) }
+    {
+        i32::try_from(half_up_64(self.0, 16)).ok()
+    }
+
+    /// Converts to [`Fixed`], or returns `None` on overflow.
+    #[must_use]
+    #[inline]
+    pub fn checked_to_fixed(self) -> Option<Fixed>
+        ensures variant { IsSome result ↔ FitsBits 32 (bits_of self) }
+        ensures value { IfSome result (λ fixed. fixed_bits fixed ≡ bits_of self) }
+    {
+        Some(Fixed::from_bits(i32::try_from(self.0).ok()?))
     }
 
     /// Converts to [`Fixed`], wrapping on overflow.

@@ -1,6 +1,7 @@
-use Rattle.std.proofs.Common.{rules, pow_pos}
-use Rattle.font_fixed.proofs.Steps.{product_32}
+use Rattle.std.proofs.Common.{arith, pow_pos}
+use Rattle.std.proofs.lemmas.Int.{to_z-of_z}
+use Rattle.font_fixed.proofs.Steps.{near_is_wrapped_near}
 use Rattle.font_fixed.proofs.products.product.Goals as goal
 
 pub returns : goal.returns
-returns c = search (rules, product_32, pow_pos)
+returns c = grind (arith, to_z-of_z, near_is_wrapped_near, pow_pos)
