@@ -39,6 +39,9 @@ macro_rules! fixed_point_types {
                 let found = [of(x).round(), of(x).floor(), of(x).fract(), of(x).abs(), -of(x)];
                 assert_eq!(found, right.map(of), "round, floor, fract, abs, - of {x}");
                 assert_eq!(of(x).to_be_bytes(), (x as $bits).to_be_bytes(), "{x}");
+                let checked = |n: i128| $bits::try_from(n).ok().map($Type::from_bits);
+                let found = [of(x).checked_round(), of(x).checked_abs(), of(x).checked_neg()];
+                assert_eq!(found, [rounded, x.abs(), -x].map(checked), "{x}, checked");
                 for y in integers($bits::BITS) {
                     let [mut sum, mut difference] = [of(x); 2];
                     sum += of(y);
@@ -50,8 +53,8 @@ macro_rules! fixed_point_types {
                     let clamped = [x + y, x - y].map(|n| of(n.clamp(min, max)));
                     let found = [of(x).saturating_add(of(y)), of(x).saturating_sub(of(y))];
                     assert_eq!(found, clamped, "{x}, {y}, saturating");
-                    let exact = Some(x + y).filter(|sum| (min..=max).contains(sum));
-                    assert_eq!(of(x).checked_add(of(y)), exact.map(of), "{x}, {y}, checked");
+                    let found = [of(x).checked_add(of(y)), of(x).checked_sub(of(y))];
+                    assert_eq!(found, [x + y, x - y].map(checked), "{x}, {y}, checked");
                     assert_eq!(of(x).cmp(&of(y)), x.cmp(&y), "{x}, {y}");
                     assert_eq!(of(x) == of(y), x == y, "{x}, {y}");
                 }
@@ -78,6 +81,21 @@ fn mul_div(x: i32, a: i32, c: i32) -> i32 {
         0 if is_negative => -i32::MAX,
         0 => i32::MAX,
         _ => nearest(x * a, c) as i32,
+    }
+}
+
+/// Returns the integer if it fits in 32 bits.
+fn fitting(n: i128) -> Option<i32> {
+    i32::try_from(n).ok()
+}
+
+/// Returns `x * a / c` of raw values if it fits, and `None` if `c` is zero.
+fn checked_mul_div(x: i32, a: i32, c: i32) -> Option<i32> {
+    let [x, a, c] = [x, a, c].map(i128::from);
+    if c == 0 {
+        None
+    } else {
+        fitting(nearest(x * a, c))
     }
 }
 
@@ -118,6 +136,22 @@ fn products_and_quotients() {
 }
 
 #[test]
+fn checked_products_and_quotients() {
+    for x in factors() {
+        for y in factors() {
+            let [a, b] = [x, y].map(Fixed::from_bits);
+            let found = [a.checked_mul(b), a.checked_div(b)].map(|n| n.map(Fixed::to_bits));
+            let exact = fitting(nearest(i128::from(x) * i128::from(y), 1 << 16));
+            assert_eq!(found, [exact, checked_mul_div(x, 1 << 16, y)], "{x}, {y}");
+            let [a, b] = [x, y].map(F26Dot6::from_bits);
+            let found = [a.checked_mul(b), a.checked_div(b)].map(|n| n.map(F26Dot6::to_bits));
+            let exact = fitting(nearest(i128::from(x) * i128::from(y), 1 << 6));
+            assert_eq!(found, [exact, checked_mul_div(x, 1 << 6, y)], "{x}, {y}");
+        }
+    }
+}
+
+#[test]
 fn mul_div_and_mul_i32() {
     for x in factors() {
         let a = Fixed::from_bits(x);
@@ -125,17 +159,57 @@ fn mul_div_and_mul_i32() {
             let exact = i64::from(x) * i64::from(y);
             assert_eq!(a.mul_i32(y).to_bits(), exact, "{x} {y}");
             for z in factors() {
-                let found = a.mul_div(Fixed::from_bits(y), Fixed::from_bits(z));
-                assert_eq!(found.to_bits(), mul_div(x, y, z), "{x} * {y} / {z}");
+                let [b, c] = [y, z].map(Fixed::from_bits);
+                assert_eq!(
+                    a.mul_div(b, c).to_bits(),
+                    mul_div(x, y, z),
+                    "{x} * {y} / {z}"
+                );
+                let found = a.checked_mul_div(b, c).map(Fixed::to_bits);
+                assert_eq!(found, checked_mul_div(x, y, z), "{x} * {y} / {z}");
             }
         }
     }
     assert_eq!(step_and_halves(), (Fixed::EPSILON, Fixed::ZERO));
 }
 
+/// Returns the integer nearest to `n / d`, half up.
+fn exact_half_up(n: i128, d: i128) -> i128 {
+    (2 * n + d).div_euclid(2 * d)
+}
+
 /// Returns the integer nearest to `n / d`, half up, wrapped to a width.
 fn half_up(n: i128, d: i128, width: u32) -> i128 {
-    wrapped((2 * n + d).div_euclid(2 * d), width)
+    wrapped(exact_half_up(n, d), width)
+}
+
+#[test]
+fn checked_conversions() {
+    let narrow = |n: i128| i16::try_from(n).ok().map(F2Dot14::from_bits);
+    for n in integers(32) {
+        let (x, integer) = (Fixed::from_bits(n as i32), n as i32);
+        assert_eq!(x.checked_to_f2dot14(), narrow(exact_half_up(n, 4)), "{n}");
+        let long = F2Dot30::from_bits(n as i32);
+        let right = narrow(exact_half_up(n, 1 << 16));
+        assert_eq!(long.checked_to_f2dot14(), right, "{n}");
+        let found = F2Dot30::checked_from_fixed(x).map(F2Dot30::to_bits);
+        assert_eq!(found, fitting(n << 14), "{n}");
+        let found = Fixed::checked_from_i32(integer).map(Fixed::to_bits);
+        assert_eq!(found, fitting(n << 16), "{n}");
+        let found = F26Dot6::checked_from_i32(integer).map(F26Dot6::to_bits);
+        assert_eq!(found, fitting(n << 6), "{n}");
+    }
+    for n in integers(64) {
+        let x = F48Dot16::from_bits(n as i64);
+        assert_eq!(
+            x.checked_to_i32(),
+            fitting(exact_half_up(n, 1 << 16)),
+            "{n}"
+        );
+        assert_eq!(x.checked_to_fixed().map(Fixed::to_bits), fitting(n), "{n}");
+        let found = F48Dot16::checked_from_i64(n as i64).map(F48Dot16::to_bits);
+        assert_eq!(found, i64::try_from(n << 16).ok(), "{n}");
+    }
 }
 
 #[test]

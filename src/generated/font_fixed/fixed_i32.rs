@@ -4,7 +4,7 @@
 
 use crate::font_decimal::{DecimalFault, Pad, Shortest};
 use crate::font_fixed::formats::Format;
-use crate::font_fixed::{floor_bits_32, read_bits_32};
+use crate::font_fixed::{floor_bits_32, read_bits_32, round_bits_32};
 use core::fmt;
 use core::ops::{Add, AddAssign, Neg, Sub, SubAssign};
 use core::str::FromStr;
@@ -90,6 +90,27 @@ impl<const F: u32> FixedI32<F> {
         Some(Self(self.0.checked_add(other.0)?))
     }
 
+    /// Returns `self - other`, or `None` on overflow.
+    #[must_use]
+    #[inline(always)]
+    pub fn checked_sub(self, other: Self) -> Option<Self> {
+        Some(Self(self.0.checked_sub(other.0)?))
+    }
+
+    /// Returns `-self`, or `None` on overflow, that is, for `MIN`.
+    #[must_use]
+    #[inline(always)]
+    pub fn checked_neg(self) -> Option<Self> {
+        Some(Self(self.0.checked_neg()?))
+    }
+
+    /// Returns the absolute value, or `None` on overflow, that is, for `MIN`.
+    #[must_use]
+    #[inline(always)]
+    pub fn checked_abs(self) -> Option<Self> {
+        Some(Self(self.0.checked_abs()?))
+    }
+
     /// Returns the raw bits as big-endian bytes.
     #[must_use]
     #[inline(always)]
@@ -107,6 +128,13 @@ where
     #[inline(always)]
     pub const fn round(self) -> Self {
         self.wrapping_add(Self(1 << (F - 1))).floor()
+    }
+
+    /// Rounds to the nearest integer, half up, or returns `None` on overflow.
+    #[must_use]
+    #[inline(always)]
+    pub fn checked_round(self) -> Option<Self> {
+        Some(Self(round_bits_32(self.0, F)?))
     }
 
     /// Returns the largest integer less than or equal to `self`.

@@ -7,7 +7,7 @@
 #[must_use]
 #[inline(always)]
 pub fn product(x: i32, y: i32, f: u32) -> i32 {
-    low_bits(rounded_shift(i64::from(x) * i64::from(y), f))
+    low_bits(exact_product(x, y, f))
 }
 
 /// Returns `x * a / c`, rounded once, half away from zero, wrapping on overflow.
@@ -16,9 +16,7 @@ pub fn product(x: i32, y: i32, f: u32) -> i32 {
 #[must_use]
 #[inline]
 pub const fn mul_div(x: i32, a: i32, c: i32) -> i32 {
-    let product = magnitude(x) * magnitude(a);
-    let negative = differs_in_sign(x, a) != c.is_negative();
-    with_sign(negative, rounded_quotient(product, magnitude(c)))
+    low_bits(exact_mul_div(x, a, c))
 }
 
 /// Truncates to the low 32 bits.
@@ -28,11 +26,26 @@ pub const fn low_bits(n: i64) -> i32 {
     (n.rem_euclid(1 << 32) as u32).cast_signed()
 }
 
+/// Multiplies two numbers with `f` fraction bits, rounding half away from zero.
+#[inline(always)]
+pub(crate) fn exact_product(x: i32, y: i32, f: u32) -> i64 {
+    rounded_shift(i64::from(x) * i64::from(y), f)
+}
+
 // Returns `n / 2^f`, rounded half away from zero.
 #[inline(always)]
 fn rounded_shift(n: i64, f: u32) -> i64 {
     let half = 1 << (f - 1);
     (n + half - i64::from(n < 0)) >> f
+}
+
+/// Returns `x * a / c`, rounded half away from zero, or, if `c` is zero, `i32::MAX`, negated if
+/// exactly one of `x` and `a` is negative.
+#[inline]
+pub(crate) const fn exact_mul_div(x: i32, a: i32, c: i32) -> i64 {
+    let product = magnitude(x) * magnitude(a);
+    let negative = differs_in_sign(x, a) != c.is_negative();
+    with_sign(negative, rounded_quotient(product, magnitude(c)))
 }
 
 // Returns `n / d`, rounded half away from zero, or `i32::MAX` if `d` is zero.
@@ -41,14 +54,13 @@ const fn rounded_quotient(n: u64, d: u64) -> u64 {
     if d == 0 { 0x7FFF_FFFF } else { (n + d / 2) / d }
 }
 
-// Applies a sign to a magnitude, wrapping on overflow.
+// Applies a sign to a magnitude.
 #[inline]
-const fn with_sign(negative: bool, magnitude: u64) -> i32 {
-    let number = ((magnitude % (1 << 32)) as u32).cast_signed();
+const fn with_sign(negative: bool, magnitude: u64) -> i64 {
     if negative {
-        number.wrapping_neg()
+        -(magnitude as i64)
     } else {
-        number
+        magnitude as i64
     }
 }
 

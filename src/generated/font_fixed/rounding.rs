@@ -46,3 +46,15 @@ pub fn round_bits_64(bits: i64, f: u32) -> Option<i64> {
     let moved = bits.checked_add(1 << (f - 1))?;
     Some(floor_bits_64(moved, f))
 }
+
+/// Returns `n / 2^f`, rounded half up.
+#[inline(always)]
+pub(crate) const fn half_up_32(n: i32, f: u32) -> i32 {
+    ((n >> (f - 1)) + 1) >> 1
+}
+
+/// Returns `n / 2^f`, rounded half up.
+#[inline(always)]
+pub(crate) const fn half_up_64(n: i64, f: u32) -> i64 {
+    ((n >> (f - 1)) + 1) >> 1
+}

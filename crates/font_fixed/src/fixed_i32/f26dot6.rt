@@ -101,7 +101,8 @@ impl F26Dot6 {
         Some(Self(number.checked_mul(64)?))
     }
 
-    /// Rounds to the nearest integer, half up, wrapped to 26 bits: `F26Dot6::MAX` gives -33554432.
+    /// Rounds to the nearest integer, half up, wrapped to 26 bits: from 33554431.5 on it gives
+    /// -33554432.
     #[must_use]
     #[inline(always)]
     pub const fn to_i32(self) -> i32

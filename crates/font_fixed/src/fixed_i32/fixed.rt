@@ -138,7 +138,7 @@ impl Fixed {
         Some(Self(number.checked_mul(0x1_0000)?))
     }
 
-    /// Rounds to the nearest integer, half up, wrapped to 16 bits: [`Fixed::MAX`] gives -32768.
+    /// Rounds to the nearest integer, half up, wrapped to 16 bits: from 32767.5 on it gives -32768.
     #[must_use]
     #[inline(always)]
     pub const fn to_i32(self) -> i32
@@ -147,7 +147,8 @@ impl Fixed {
         self.wrapping_add(Self(0x8000)).0 >> 16
     }
 
-    /// Rounds to the nearest [`F26Dot6`], half up, its raw bits wrapped to 22 bits.
+    /// Rounds to the nearest [`F26Dot6`], half up, its raw bits wrapped to 22 bits: from
+    /// `32768 - 1 / 128` on it gives -32768.
     #[must_use]
     #[inline(always)]
     pub const fn to_f26dot6(self) -> F26Dot6

@@ -82,7 +82,8 @@ impl F48Dot16 {
         Self(number as i64 * 0x1_0000)
     }
 
-    /// Rounds to the nearest integer, half up, wrapped to 48 bits.
+    /// Rounds to the nearest integer, half up, wrapped to 48 bits: from `2^47 - 1 / 2` on it gives
+    /// `-2^47`.
     #[must_use]
     #[inline(always)]
     pub const fn to_i64(self) -> i64

@@ -54,6 +54,24 @@ fn sums_of_each_width(rt: HostRuntime) {
 }
 
 #[test]
+fn checked_at_the_limits(rt: HostRuntime) {
+    let (step, max) = (Fixed::EPSILON, Fixed::MAX);
+    assert!(rt;
+        Fixed::MIN.checked_sub(step).is_none() && max.checked_sub(max) == Some(Fixed::ZERO)
+    );
+    assert!(rt; F2Dot14::MIN.checked_neg().is_none() && F2Dot14::MIN.checked_abs().is_none());
+    assert!(rt; F2Dot14::MAX.checked_round().is_none() && max.checked_round().is_none());
+    assert!(rt; F48Dot16::MIN.checked_round() == Some(F48Dot16::MIN));
+    assert!(rt; Fixed::MIN.checked_mul(Fixed::NEG_ONE).is_none());
+    assert!(rt; max.checked_mul(Fixed::NEG_ONE) == Some(-max));
+    assert!(rt; max.checked_div(Fixed::ZERO).is_none() && max.checked_div(max) == Some(Fixed::ONE));
+    assert!(rt; max.checked_mul_div(max, step).is_none());
+    assert!(rt; max.checked_mul_div(max, max) == Some(max));
+    let (long, one) = (F26Dot6::MIN, F26Dot6::NEG_ONE);
+    assert!(rt; long.checked_mul(one).is_none() && long.checked_div(one).is_none());
+}
+
+#[test]
 fn products_of_16_16(rt: HostRuntime) {
     for &(x, y, product) in &[
         (-1, 0x8000, -1),

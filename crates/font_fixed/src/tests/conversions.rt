@@ -134,6 +134,26 @@ fn from_others(rt: HostRuntime) {
 }
 
 #[test]
+fn checked_conversions(rt: HostRuntime) {
+    let ends = [32767, 32768, -32768, -32769].map(Fixed::checked_from_i32);
+    assert!(rt; ends.map(|end| end.is_some()) == [true, false, true, false]);
+    let ends = [0x1FF_FFFF, 0x200_0000].map(F26Dot6::checked_from_i32);
+    assert!(rt; ends.map(|end| end.is_some()) == [true, false]);
+    let ends = [0x1_FFFD, 0x1_FFFE].map(|bits| Fixed::from_bits(bits).checked_to_f2dot14());
+    assert!(rt; ends == [Some(F2Dot14::MAX), None]);
+    let ends = [0x7FFF_7FFF, 0x7FFF_8000].map(|bits| F2Dot30::from_bits(bits).checked_to_f2dot14());
+    assert!(rt; ends == [Some(F2Dot14::MAX), None]);
+    let ends = [131071, 131072].map(|bits| F2Dot30::checked_from_fixed(Fixed::from_bits(bits)));
+    assert!(rt; ends == [Some(F2Dot30::from_bits(0x7FFF_C000)), None]);
+    let ends = [0x7FFF_FFFF_7FFF, 0x7FFF_FFFF_8000].map(F48Dot16::from_bits);
+    assert!(rt; ends.map(F48Dot16::checked_to_i32) == [Some(i32::MAX), None]);
+    let ends = [2147483647, 2147483648].map(F48Dot16::from_bits);
+    assert!(rt; ends.map(F48Dot16::checked_to_fixed) == [Some(Fixed::MAX), None]);
+    let ends = [-1 << 47, 1 << 47].map(F48Dot16::checked_from_i64);
+    assert!(rt; ends == [Some(F48Dot16::MIN), None]);
+}
+
+#[test]
 fn rounded_from_deltas(rt: HostRuntime) {
     for &(moved, long, short) in &[
         (0, Some(0), Some(0)),

@@ -4,7 +4,7 @@
 
 use super::FixedI32;
 use crate::font_fixed::formats::Format;
-use crate::font_fixed::{mul_div, product};
+use crate::font_fixed::{exact_mul_div, exact_product, mul_div, product};
 use core::ops::{Div, DivAssign, Mul, MulAssign};
 
 /// A signed 26.6 fixed-point number, the unit of scaled outlines.
@@ -42,6 +42,25 @@ impl F26Dot6 {
     /// The value -1.
     pub const NEG_ONE: Self = Self(-64);
 
+    /// Returns `self * other`, rounded half away from zero, or `None` on overflow.
+    #[must_use]
+    #[inline]
+    pub fn checked_mul(self, other: Self) -> Option<Self> {
+        Some(Self(i32::try_from(exact_product(self.0, other.0, 6)).ok()?))
+    }
+
+    /// Returns `self / other`, rounded half away from zero, or `None` on overflow or division by zero.
+    #[must_use]
+    #[inline]
+    pub fn checked_div(self, other: Self) -> Option<Self> {
+        if other.0 == 0 {
+            return None;
+        }
+        Some(Self(
+            i32::try_from(exact_mul_div(self.0, Self::ONE.0, other.0)).ok()?,
+        ))
+    }
+
     /// Converts an integer, wrapping on overflow.
     #[must_use]
     #[inline(always)]
@@ -49,7 +68,15 @@ impl F26Dot6 {
         Self(number.wrapping_mul(64))
     }
 
-    /// Rounds to the nearest integer, half up, wrapped to 26 bits: `F26Dot6::MAX` gives -33554432.
+    /// Converts an integer, or returns `None` on overflow.
+    #[must_use]
+    #[inline]
+    pub fn checked_from_i32(number: i32) -> Option<Self> {
+        Some(Self(number.checked_mul(64)?))
+    }
+
+    /// Rounds to the nearest integer, half up, wrapped to 26 bits: from 33554431.5 on it gives
+    /// -33554432.
     #[must_use]
     #[inline(always)]
     pub const fn to_i32(self) -> i32 {

@@ -5,7 +5,7 @@
 use super::FixedI32;
 use crate::font_base::{FixedSize, IdentityEq, Scalar};
 use crate::font_fixed::formats::Format;
-use crate::font_fixed::{F2Dot14, Fixed};
+use crate::font_fixed::{F2Dot14, Fixed, half_up_32};
 
 /// A signed 2.30 fixed-point number.
 ///
@@ -49,6 +49,13 @@ impl F2Dot30 {
         Self(number.to_bits().wrapping_mul(0x4000))
     }
 
+    /// Converts from [`Fixed`], or returns `None` on overflow.
+    #[must_use]
+    #[inline]
+    pub fn checked_from_fixed(number: Fixed) -> Option<Self> {
+        Some(Self(number.to_bits().checked_mul(0x4000)?))
+    }
+
     /// Converts from [`F2Dot14`], exactly.
     #[must_use]
     #[inline]
@@ -60,7 +67,7 @@ impl F2Dot30 {
     #[must_use]
     #[inline(always)]
     pub const fn to_fixed(self) -> Fixed {
-        Fixed::from_bits(((self.0 >> 13) + 1) >> 1)
+        Fixed::from_bits(half_up_32(self.0, 14))
     }
 
     /// Rounds to the nearest [`F2Dot14`], half up, wrapping on overflow.
@@ -68,6 +75,15 @@ impl F2Dot30 {
     #[inline(always)]
     pub const fn to_f2dot14(self) -> F2Dot14 {
         F2Dot14::from_bits((self.wrapping_add(Self(0x8000)).0 >> 16) as i16)
+    }
+
+    /// Rounds to the nearest [`F2Dot14`], half up, or returns `None` on overflow.
+    #[must_use]
+    #[inline]
+    pub fn checked_to_f2dot14(self) -> Option<F2Dot14> {
+        Some(F2Dot14::from_bits(
+            i16::try_from(half_up_32(self.0, 16)).ok()?,
+        ))
     }
 }
 

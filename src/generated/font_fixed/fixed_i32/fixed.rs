@@ -5,7 +5,9 @@
 use super::FixedI32;
 use crate::font_base::{FixedSize, IdentityEq, Scalar};
 use crate::font_fixed::formats::Format;
-use crate::font_fixed::{F2Dot14, F26Dot6, F48Dot16, mul_div, product};
+use crate::font_fixed::{
+    F2Dot14, F26Dot6, F48Dot16, exact_mul_div, exact_product, half_up_32, mul_div, product,
+};
 use core::ops::{Div, DivAssign, Mul, MulAssign};
 
 /// A signed 16.16 fixed-point number.
@@ -54,6 +56,33 @@ impl Fixed {
         Self(mul_div(self.0, a.0, c.0))
     }
 
+    /// Returns `self * other`, rounded half away from zero, or `None` on overflow.
+    #[must_use]
+    #[inline]
+    pub fn checked_mul(self, other: Self) -> Option<Self> {
+        Some(Self(
+            i32::try_from(exact_product(self.0, other.0, 16)).ok()?,
+        ))
+    }
+
+    /// Returns `self / other`, rounded half away from zero, or `None` on overflow or division by zero.
+    #[must_use]
+    #[inline]
+    pub fn checked_div(self, other: Self) -> Option<Self> {
+        self.checked_mul_div(Self::ONE, other)
+    }
+
+    /// Returns `self * a / c`, rounded once, half away from zero, or `None` on overflow or if `c` is
+    /// zero.
+    #[must_use]
+    #[inline]
+    pub fn checked_mul_div(self, a: Self, c: Self) -> Option<Self> {
+        if c.0 == 0 {
+            return None;
+        }
+        Some(Self(i32::try_from(exact_mul_div(self.0, a.0, c.0)).ok()?))
+    }
+
     /// Converts an integer, wrapping on overflow.
     #[must_use]
     #[inline(always)]
@@ -61,14 +90,22 @@ impl Fixed {
         Self(number.wrapping_mul(0x1_0000))
     }
 
-    /// Rounds to the nearest integer, half up, wrapped to 16 bits: [`Fixed::MAX`] gives -32768.
+    /// Converts an integer, or returns `None` on overflow.
+    #[must_use]
+    #[inline]
+    pub fn checked_from_i32(number: i32) -> Option<Self> {
+        Some(Self(number.checked_mul(0x1_0000)?))
+    }
+
+    /// Rounds to the nearest integer, half up, wrapped to 16 bits: from 32767.5 on it gives -32768.
     #[must_use]
     #[inline(always)]
     pub const fn to_i32(self) -> i32 {
         self.wrapping_add(Self(0x8000)).0 >> 16
     }
 
-    /// Rounds to the nearest [`F26Dot6`], half up, its raw bits wrapped to 22 bits.
+    /// Rounds to the nearest [`F26Dot6`], half up, its raw bits wrapped to 22 bits: from
+    /// `32768 - 1 / 128` on it gives -32768.
     #[must_use]
     #[inline(always)]
     pub const fn to_f26dot6(self) -> F26Dot6 {
@@ -80,6 +117,15 @@ impl Fixed {
     #[inline(always)]
     pub const fn to_f2dot14(self) -> F2Dot14 {
         F2Dot14::from_bits(low_half(self.quarter()))
+    }
+
+    /// Rounds to the nearest [`F2Dot14`], half up, or returns `None` on overflow.
+    #[must_use]
+    #[inline]
+    pub fn checked_to_f2dot14(self) -> Option<F2Dot14> {
+        Some(F2Dot14::from_bits(
+            i16::try_from(half_up_32(self.0, 2)).ok()?,
+        ))
     }
 
     /// Converts to [`F48Dot16`], exactly.

@@ -4,7 +4,7 @@
 
 use super::FixedI64;
 use crate::font_fixed::formats::Format;
-use crate::font_fixed::{Fixed, low_bits};
+use crate::font_fixed::{Fixed, half_up_64, low_bits};
 
 /// A signed 48.16 fixed-point number, such as a sum of deltas.
 ///
@@ -48,6 +48,13 @@ impl F48Dot16 {
         Self(number.wrapping_mul(0x1_0000))
     }
 
+    /// Converts an integer, or returns `None` on overflow.
+    #[must_use]
+    #[inline]
+    pub fn checked_from_i64(number: i64) -> Option<Self> {
+        Some(Self(number.checked_mul(0x1_0000)?))
+    }
+
     /// Converts an integer, exactly.
     #[must_use]
     #[inline(always)]
@@ -55,7 +62,8 @@ impl F48Dot16 {
         Self(number as i64 * 0x1_0000)
     }
 
-    /// Rounds to the nearest integer, half up, wrapped to 48 bits.
+    /// Rounds to the nearest integer, half up, wrapped to 48 bits: from `2^47 - 1 / 2` on it gives
+    /// `-2^47`.
     #[must_use]
     #[inline(always)]
     pub const fn to_i64(self) -> i64 {
@@ -67,6 +75,20 @@ impl F48Dot16 {
     #[inline(always)]
     pub const fn to_i32(self) -> i32 {
         low_bits(self.to_i64())
+    }
+
+    /// Rounds to the nearest integer, half up, or returns `None` on overflow.
+    #[must_use]
+    #[inline]
+    pub fn checked_to_i32(self) -> Option<i32> {
+        i32::try_from(half_up_64(self.0, 16)).ok()
+    }
+
+    /// Converts to [`Fixed`], or returns `None` on overflow.
+    #[must_use]
+    #[inline]
+    pub fn checked_to_fixed(self) -> Option<Fixed> {
+        Some(Fixed::from_bits(i32::try_from(self.0).ok()?))
     }
 
     /// Converts to [`Fixed`], wrapping on overflow.
