@@ -4,7 +4,7 @@
 use font_types_tools::repository::{files, root, text};
 use std::collections::HashMap;
 
-const ROWS: [(&str, usize); 18] = [
+const ROWS: [(&str, usize); 19] = [
     ("Bytes", 8),
     ("Fields and headers", 7),
     ("Decimals parsed", 16),
@@ -20,6 +20,7 @@ const ROWS: [(&str, usize); 18] = [
     ("The program", 11),
     ("Memory", 6),
     ("Texts of errors and of `Debug`", 11),
+    ("Traits and constants", 9),
     ("Misuse", 6),
     ("Wrong bodies", 28),
     ("The tests of font-types", 43),
