@@ -58,9 +58,9 @@ impl FusedIterator for Predefined {}
 // ---- arrays and tables
 
 impl<'a, T: Scalar> ScalarArray<'a, T> {
-    /// Returns an iterator over the elements that `collect`, `extend`, `rev` and `zip` treat as
-    /// they treat a slice's, because it is made of iterators of std. [`iter`](Self::iter) has a
-    /// name, is proved, and yields the same elements.
+    /// Returns std's iterator over [`as_raw`](Self::as_raw), decoded: `collect`, `extend`, `map`,
+    /// `rev` and `zip` treat it as they treat a slice's. [`iter`](Self::iter) has a name, is
+    /// proved, and yields the same elements; it is for loops.
     ///
     /// ```
     /// # use font_types_proved::ScalarArray;
@@ -68,19 +68,12 @@ impl<'a, T: Scalar> ScalarArray<'a, T> {
     /// let doubled: Vec<u16> = words.values().rev().map(|word| 2 * word).collect();
     /// assert_eq!(doubled, [18, 8, 2]);
     /// ```
-    ///
-    /// # Panics
-    ///
-    /// The iterator panics if `T::read` returns `None` for `RAW_BYTE_LEN` bytes, against the laws
-    /// of its traits.
     #[inline]
     #[must_use]
     pub fn values(
         self,
     ) -> impl ExactSizeIterator<Item = T> + DoubleEndedIterator + FusedIterator + Clone + 'a {
-        // An array of a scalar of no bytes is empty, and `chunks_exact` panics at 0.
-        let fields = self.as_bytes().chunks_exact(T::RAW_BYTE_LEN.max(1));
-        fields.map(|field| T::read(field).expect("an element of this length"))
+        self.as_raw().iter().map(|raw| T::from_raw(*raw))
     }
 }
 

@@ -13,7 +13,10 @@ fn hash_of(value: impl Hash) -> u64 {
 }
 
 /// Asserts that the value has these bytes, as a scalar, a field and an element of an array.
-fn assert_stored<T: Scalar + Copy + PartialEq + Debug>(value: T, bytes: &[u8]) {
+fn assert_stored<T: Scalar + Copy + PartialEq + Debug>(value: T, bytes: &[u8])
+where
+    T::Raw: ByteChunks,
+{
     assert_eq!(T::RAW_BYTE_LEN, bytes.len(), "{value:?}");
     assert_eq!(value.to_raw().as_slice(), bytes, "{value:?}");
     assert_eq!(T::from_raw(value.to_raw()), value, "{value:?}");
@@ -175,6 +178,16 @@ fn arrays() {
         let found = array.binary_search_by_key(&(2 * key), |n| 2 * n);
         assert_eq!(found, right, "{key}");
     }
+    let found = array.binary_search_by_key(&String::from("09"), |n| format!("{n:02}"));
+    assert_eq!(found, Ok(2));
+    let mut seen = Vec::new();
+    let place = array.as_raw().partition_point(|raw| {
+        seen.push(u16::from_raw(*raw));
+        seen.last() < Some(&9)
+    });
+    assert_eq!((place, array.partition_point(|n| n < 9)), (2, 2));
+    assert!(seen.contains(&9), "{seen:?}");
+    assert_eq!(array.as_raw(), [[0, 1], [0, 4], [0, 9], [0, 16]]);
 }
 
 #[test]
@@ -217,14 +230,14 @@ impl<const N: usize> FixedSize for Record<N> {
 }
 
 impl<const N: usize> Scalar for Record<N> {
-    type Raw = Bytes<N>;
+    type Raw = [u8; N];
 
-    fn from_raw(raw: Bytes<N>) -> Self {
-        Self(raw.0)
+    fn from_raw(raw: [u8; N]) -> Self {
+        Self(raw)
     }
 
-    fn to_raw(self) -> Bytes<N> {
-        Bytes(self.0)
+    fn to_raw(self) -> [u8; N] {
+        self.0
     }
 }
 
@@ -248,7 +261,42 @@ fn zero_byte_scalar() {
     assert_eq!(found, (0, None, None));
     let found = (array.values().len(), array.values().next_back());
     assert_eq!(found, (0, None));
+    let read = |offset, count| {
+        let array = ScalarArray::<Record<0>>::read_at(&[1, 2], offset, count);
+        array.map(|array| array.len())
+    };
+    assert_eq!(
+        [read(1, 0), read(2, 9), read(3, 0)],
+        [Some(0), Some(0), None]
+    );
     assert_eq!(Record::<0>::read(&[]), Some(Record([])));
+}
+
+/// A caller's scalar with raw bytes of its own: a field, but no array.
+#[derive(Clone, Copy, PartialEq, Debug)]
+struct Own([u8; 2]);
+
+impl FixedSize for Own {
+    const RAW_BYTE_LEN: usize = 2;
+}
+
+impl Scalar for Own {
+    type Raw = Bytes<2>;
+
+    fn from_raw(raw: Bytes<2>) -> Self {
+        Self(raw.0)
+    }
+
+    fn to_raw(self) -> Bytes<2> {
+        Bytes(self.0)
+    }
+}
+
+#[test]
+fn caller_defined_bytes() {
+    let field = BigEndian::from(Own(*b"ab"));
+    assert_eq!((field.be_bytes(), field.get()), (&b"ab"[..], Own(*b"ab")));
+    assert_ne!(field, BigEndian::from(Own(*b"ac")));
 }
 
 #[test]

@@ -1,141 +1,18 @@
--- Elements of an array, from either end and by index, and binary search.
-use Rattle.std.proofs.Common.{◌≡◌, ◌≢◌, ◌∙◌, ap, refl, ℕ, zero, suc, ◌+◌, ◌-◌, ◌*◌, ◌/◌, ◌%◌, ◌<◌, ◌≤◌, Bool}
-use Rattle.std.proofs.Common.{if◌then◌else◌, IsFalse, List, [], ◌∷◌, ◌++◌, length, take, drop, arith, rules, add-one}
-use Rattle.std.proofs.Common.{div-mul-le_self, mul-div_cancel, suc-mul, zero-mul, length-drop, length-take-le}
-use Rattle.std.proofs.Common.{drop-drop, take-take, take_all, is_gt, is_eq, is_lt, Ordering, Less, Equal, Greater}
+-- Elements of an array, and the byte arrays that they are.
+use Rattle.std.proofs.Common.{◌≡◌, ◌∙◌, sym, ap, refl, ℕ, zero, suc, ◌+◌, ◌-◌, ◌*◌, ◌/◌, ◌%◌, ◌<◌, ◌≤◌, Bool, IsTrue}
+use Rattle.std.proofs.Common.{List, [], ◌∷◌, ◌++◌, map, length, take, drop, get_or, flat_map, arith, ◌&&◌, ◌==◌}
+use Rattle.std.proofs.Common.{length-append, length-drop, suc-mul, zero-mul, drop-drop, take_all, take-take}
+use Rattle.std.proofs.Math.Seq.{take-append_seam, drop-append_seam, take-append-add, drop-append-add}
 use Rattle.std.proofs.lemmas.Bool.Decides.{nat_tests}
-use Rattle.std.specs.Int.{from_bool}
-use Rattle.std.proofs.Math.Nat.{div-eq-sub-div, mul-mod_left}
-use Rattle.std.proofs.lemmas.List.{drop-take}
-use Rattle.std.specs.Ordering.{ordering_index}
-use Rattle.font_base.specs.Elements.{element, elements, IsStored, Rises, Splits, side}
+use Rattle.std.proofs.lemmas.Grind.{common_steps}
+use Rattle.std.proofs.lemmas.List.{take-append-le}
+use Rattle.std.specs.List.{list_all}
+use Rattle.std.proofs.lemmas.List.{take-map, drop-map, drop-take}
+use Rattle.font_base.specs.Elements.{element, elements, AreRaw}
 
 pub length-elements : (size n : ℕ) (bytes : List ℕ) → length (elements size n bytes) ≡ n
 length-elements size zero bytes = refl
 length-elements size (suc n) bytes = ap suc (length-elements size n (drop size bytes))
-
--- if there is an element, its size is not 0, and at most the number of bytes
-sized : (size len : ℕ) → 0 < len / size → 0 < size
-sized size len some = grind (arith, nat_tests)
-
-pub one_fits : (size len : ℕ) → 0 < len / size → size ≤ len
-one_fits size len some = grind (arith, nat_tests)
-
--- after the first there is one element fewer
-pub one_less : (size len : ℕ) → 0 < len / size → len / size ≡ (len - size) / size + 1
-one_less size len some = div-eq-sub-div (sized size len some) (one_fits size len some)
-
-pub first_and_others : (size : ℕ) (bytes : List ℕ) → 0 < length bytes / size
-    → elements size (length bytes / size) bytes
-    ≡ take size bytes ∷ elements size (length (drop size bytes) / size) (drop size bytes)
-first_and_others size bytes some = rw (one_less size (length bytes) some, add-one, length-drop size bytes)
-
--- no element: no bytes are left to show
-pub none_left : (size : ℕ) (bytes : List ℕ) → length bytes / size ≡ 0 → elements size (length bytes / size) bytes ≡ []
-none_left size bytes none = rw none refl
-
--- ---- from the back
-
-next_times : (n size : ℕ) → size + n * size ≡ suc n * size
-next_times n size = omega (arith, suc-mul n size)
-
--- the others, and then the last element
-others_and_last : (size n : ℕ) (bytes : List ℕ)
-    → elements size (suc n) bytes ≡ elements size n bytes ++ element size bytes n ∷ []
-others_and_last size zero bytes = rw (zero-mul size)
-others_and_last size (suc n) bytes =
-    rw (others_and_last size n (drop size bytes), drop-drop (n * size) size bytes, next_times n size)
-
--- n elements do not depend on the bytes after them
-elements-take : (size n : ℕ) (bytes : List ℕ) → elements size n (take (n * size) bytes) ≡ elements size n bytes
-elements-take size zero bytes = refl
-elements-take size (suc n) bytes = rw (
-  ← next_times n size,
-  take-take size (size + n * size) bytes (omega arith),
-  drop-take size (n * size) bytes,
-  elements-take size n (drop size bytes),
-)
-
--- the bytes of an array of n + 1 elements are those of its elements
-whole_bytes : (size m : ℕ) (bytes : List ℕ) → length bytes % size ≡ 0 → length bytes / size ≡ m + 1
-    → length bytes ≡ m * size + size
-whole_bytes size m bytes whole many = grind (arith, nat_tests)
-
--- its front part is an array of n
-pub front_length : (size m : ℕ) (bytes : List ℕ) → length bytes % size ≡ 0 → length bytes / size ≡ m + 1
-    → length (take (m * size) bytes) ≡ m * size
-front_length size m bytes whole many = let all = whole_bytes size m bytes whole many in
-    length-take-le (m * size) bytes (omega arith)
-
-pub front_whole : (size m : ℕ) (bytes : List ℕ) → length bytes % size ≡ 0 → length bytes / size ≡ m + 1
-    → length (take (m * size) bytes) % size ≡ 0
-front_whole size m bytes whole many = rw (front_length size m bytes whole many) (mul-mod_left m size)
-
-pub front_many : (size m : ℕ) (bytes : List ℕ) → length bytes % size ≡ 0 → length bytes / size ≡ m + 1
-    → length (take (m * size) bytes) / size ≡ m
-front_many size m bytes whole many = rw (front_length size m bytes whole many)
-    (mul-div_cancel m (sized size (length bytes) (omega arith)))
-
--- and the last element is left
-pub last_element_length : (size m : ℕ) (bytes : List ℕ) → length bytes % size ≡ 0 → length bytes / size ≡ m + 1
-    → length (drop (m * size) bytes) ≡ size
-last_element_length size m bytes whole many = let all = whole_bytes size m bytes whole many in
-    length-drop (m * size) bytes ∙ omega arith
-
-pub last_and_others : (size m : ℕ) (bytes : List ℕ) → length bytes % size ≡ 0 → length bytes / size ≡ m + 1
-    → elements size (length bytes / size) bytes
-    ≡ elements size (length (take (m * size) bytes) / size) (take (m * size) bytes) ++ drop (m * size) bytes ∷ []
-last_and_others size m bytes whole many =
-    grind (arith, nat_tests, take_all, last_element_length, front_many, add-one, elements-take, others_and_last)
-
-pub ruleset element_rules = (length-elements, one_fits, one_less, first_and_others, none_left)
-
--- ---- some of the elements
-
--- their bytes and those of the others
-parted : (size n many : ℕ) → n ≤ many → many * size ≡ n * size + (many - n) * size
-parted size n many within = grind (arith, nat_tests)
-
-pub part_fits : (size len n : ℕ) → n ≤ len / size → n * size ≤ len
-part_fits size len n within = omega (arith, parted size n (len / size) within, div-mul-le_self len size)
-
--- n elements in front of bytes that are long enough
-pub front_of : (size n : ℕ) (bytes : List ℕ) → n * size ≤ length bytes → length (take (n * size) bytes) % size ≡ 0
-front_of size n bytes fits = rw (length-take-le (n * size) bytes fits) (mul-mod_left n size)
-
-pub count_of : (size n : ℕ) (bytes : List ℕ) → 0 < size → n * size ≤ length bytes
-    → length (take (n * size) bytes) / size ≡ n
-count_of size n bytes some fits = rw (length-take-le (n * size) bytes fits) (mul-div_cancel n some)
-
--- those from `start` up to `end`
-pub middle_fits : (size start end : ℕ) (bytes : List ℕ) → start ≤ end → end ≤ length bytes / size
-    → (end - start) * size ≤ length (drop (start * size) bytes)
-middle_fits size start end bytes order within = grind (arith, nat_tests, parted, part_fits, length-drop)
-
-elements-drop : (size n m : ℕ) (bytes : List ℕ) → n ≤ m
-    → drop n (elements size m bytes) ≡ elements size (m - n) (drop (n * size) bytes)
-elements-drop size zero m bytes within = let all : m - 0 ≡ m = omega arith in rw (all, zero-mul size)
-elements-drop size (suc n) zero bytes within = absurd (omega arith)
-elements-drop size (suc n) (suc m) bytes within =
-    let others : suc m - suc n ≡ m - n = omega arith in
-    rw (others, ← next_times n size, ← drop-drop (n * size) size bytes)
-    (elements-drop size n m (drop size bytes) (omega arith))
-
-take-elements : (size n m : ℕ) (bytes : List ℕ) → n ≤ m → take n (elements size m bytes) ≡ elements size n bytes
-take-elements size zero m bytes within = refl
-take-elements size (suc n) zero bytes within = absurd (omega arith)
-take-elements size (suc n) (suc m) bytes within = rw (take-elements size n m (drop size bytes) (omega arith))
-
--- the bytes of n elements make n elements, unless there are none
-many_of : (size n len : ℕ) → n ≤ len / size → n * size / size ≡ n
-many_of size n len within = grind (arith, nat_tests)
-
-pub middle_elements : (size start end : ℕ) (bytes : List ℕ) → start ≤ end → end ≤ length bytes / size
-    → elements size (length (take ((end - start) * size) (drop (start * size) bytes)) / size)
-    (take ((end - start) * size) (drop (start * size) bytes))
-    ≡ take (end - start) (drop start (elements size (length bytes / size) bytes))
-middle_elements size start end bytes order within =
-    grind (arith, nat_tests, length-take-le, middle_fits, many_of, elements-take, elements-drop, take-elements)
 
 -- an element of an array that begins at an offset, in the bytes that it was read from
 pub element_of : (size n i offset : ℕ) (bytes : List ℕ) → i < n
@@ -152,72 +29,167 @@ element_of size n i offset bytes within =
     times : (i k m : ℕ) → (i + suc k) * m ≡ i * m + (m + k * m)
     times i k m = grind arith
 
-pub ruleset part_rules = (front_of, count_of, element_of)
+module _ {R : Type 0} (is_value : R → Bool) (bytes : R → List ℕ) (size : ℕ) where
+  abbrev pub Are : List R → Type 0
+  Are = AreRaw is_value bytes size
 
-pub ruleset slice_rules = (part_fits, front_of, middle_fits, middle_elements)
+  abbrev pub Each : List R → Type 0
+  Each xs = IsTrue (list_all (λ a. is_value a && (length (bytes a) == size)) xs)
 
-pub ruleset back_rules = (length-elements, front_whole, front_many, last_element_length, last_and_others, none_left)
+  head_long : (x : R) (xs : List R) → Each (x ∷ xs) → length (bytes x) ≡ size
+  head_long x xs each = grind (arith, nat_tests)
 
--- ---- searches
+  tail_each : (x : R) (xs : List R) → Each (x ∷ xs) → Each xs
+  tail_each x xs each = grind (arith, nat_tests)
 
-low_less : (o : Ordering) → ordering_index o ≤ ordering_index Less → o ≡ Less
-low_less o low = grind (arith, nat_tests)
+  -- the bytes of the first n + 1 are those of the first and of n others
+  next_bytes : (n : ℕ) (x : R) (xs : List R) → Each (x ∷ xs) → suc n * size ≡ length (bytes x) + n * size
+  next_bytes n x xs each = omega (arith, head_long x xs each, suc-mul n size)
 
-high_greater : (o : Ordering) → ordering_index Greater ≤ ordering_index o → o ≡ Greater
-high_greater o high = grind (arith, nat_tests)
+  long : (xs : List R) → Each xs → length (flat_map bytes xs) ≡ length xs * size
+  long [] each = rw (zero-mul size)
+  long (x ∷ xs) each = length-append (bytes x) (flat_map bytes xs)
+      ∙ omega (arith, long xs (tail_each x xs each), next_bytes (length xs) x xs each)
 
--- The invariant of a search from `low` up to `high`, if the comparisons are sorted: the first of these elements is the
--- first of all or not `Greater`, and all after them are `Greater`.
-pub record Narrows {V : Type 0} (is_scalar : V → Bool) (stored : V → List ℕ) (answer : V → Ordering)
-    (at : ℕ → List ℕ) (n low high : ℕ) : Type 0 where
-  pub first : (v : V) → 0 < low → IsStored is_scalar stored (at low) v → answer v ≢ Greater
-  pub greater : (k : ℕ) (v : V) → high ≤ k → k < n → IsStored is_scalar stored (at k) v → answer v ≡ Greater
+  pub all_long : (xs : List R) → Are xs → length (flat_map bytes xs) ≡ length xs * size
+  all_long xs are = long xs are.each
 
-module _ {V : Type 0} (is_scalar : V → Bool) (stored : V → List ℕ) (answer : V → Ordering) (at : ℕ → List ℕ)
-    (n : ℕ) where
-  -- after an element that is greater, every element is
-  greater_after : (middle : ℕ) (w : V) → IsStored is_scalar stored (at middle) w → answer w ≡ Greater
-      → Rises is_scalar stored answer at n → (k : ℕ) (v : V) → middle ≤ k → k < n
-      → IsStored is_scalar stored (at k) v → answer v ≡ Greater
-  greater_after middle w is greater rises k v from within is_v =
-      high_greater (answer v) (rw greater at (rises.keeps middle k w v from within is is_v))
+  pub counted : (xs : List R) → Are xs → length xs ≡ length (flat_map bytes xs) / size
+  counted xs are = grind (arith, nat_tests, all_long)
 
-  -- an element that is not greater is the first, and greater elements stay greater
-  narrows_up : (low high middle : ℕ) (w : V) → middle < n → IsStored is_scalar stored (at middle) w
-      → answer w ≢ Greater → Rises is_scalar stored answer at n → Narrows is_scalar stored answer at n low high
-      → Narrows is_scalar stored answer at n middle high
-  narrows_up low high middle w within is not_greater rises left = grind (arith, nat_tests, greater_after)
+  -- ---- parts
 
-  -- after a look at the element `half` after the first, those after that are greater, or that is the first
-  pub narrows_half : (o : Ordering) (low size half next : ℕ) (w : V) → half ≤ size - half → low + size ≤ n
-      → low + half < n → next ≡ (if is_gt o then low else low + half) → answer w ≡ o
-      → IsStored is_scalar stored (at (low + half)) w → Rises is_scalar stored answer at n
-      → Narrows is_scalar stored answer at n low (low + size)
-      → Narrows is_scalar stored answer at n next (next + (size - half))
-  narrows_half o low size half next w halved fits within chosen is_less is rises left =
-      grind (arith, nat_tests, narrows_up, greater_after)
+  each_take : (n : ℕ) (xs : List R) → Each xs → Each (take n xs)
+  each_take zero xs each = refl
+  each_take (suc n) [] each = refl
+  each_take (suc n) (x ∷ xs) each = let others = each_take n xs (tail_each x xs each) in grind (arith, nat_tests)
 
-  -- if one element is left and it is not equal, its comparison says where the array is split
-  pub splits_at_one : (o : Ordering) (low high place : ℕ) (w : V) → high ≤ low + 1 → low < n → IsFalse (is_eq o)
-      → place ≡ low + from_bool (is_lt o) → answer w ≡ o → IsStored is_scalar stored (at low) w
-      → Rises is_scalar stored answer at n → Narrows is_scalar stored answer at n low high
-      → Splits is_scalar stored answer at n place place
-  splits_at_one Less low high place w one within other here is_less is rises left = rw here (record {
-    less = λ k v before is_v. low_less (answer v) (rw is_less at (rises.keeps k low v w (omega arith) within is_v is));
-    greater = λ k v from. left.greater k v (omega arith);
-  })
-  splits_at_one Equal low high place w one within other here is_equal is rises left = absurd (search (rules, other))
-  splits_at_one Greater low high place w one within other here is_greater is rises left =
-      let end : place ≡ low = omega (arith, here) in rw end (record {
-        less = λ k v before _. absurd (left.first w (omega arith) is is_greater);
-        greater = greater_after low w is is_greater rises;
-      })
+  each_drop : (n : ℕ) (xs : List R) → Each xs → Each (drop n xs)
+  each_drop zero xs each = each
+  each_drop (suc n) [] each = refl
+  each_drop (suc n) (x ∷ xs) each = each_drop n xs (tail_each x xs each)
 
--- no element of a partitioned array compares as equal
-pub no_side : (before : Bool) → side before ≢ Equal
-no_side before same = grind (arith, nat_tests)
+  pub are_take : (n : ℕ) (xs : List R) → Are xs → Are (take n xs)
+  are_take n xs are = record {
+    each = each_take n xs are.each;
+    none = λ empty. grind (arith, common_steps, are.none empty);
+  }
 
--- the index that a step of the search keeps, and the elements that are left, are in the array
-pub half_fits : (greater : Bool) (low size half next n : ℕ) → next ≡ (if greater then low else low + half)
-    → half ≤ size → low + size ≤ n → next + (size - half) ≤ n
-half_fits greater low size half next n chosen some fits = grind (arith, nat_tests)
+  pub are_drop : (n : ℕ) (xs : List R) → Are xs → Are (drop n xs)
+  are_drop n xs are = record {
+    each = each_drop n xs are.each;
+    none = λ empty. grind (arith, common_steps, are.none empty);
+  }
+
+  flat_take : (n : ℕ) (xs : List R) → Each xs → flat_map bytes (take n xs) ≡ take (n * size) (flat_map bytes xs)
+  flat_take zero xs each = rw (zero-mul size)
+  flat_take (suc n) [] each = grind (arith, common_steps)
+  flat_take (suc n) (x ∷ xs) each =
+      rw (next_bytes n x xs each, take-append-add (bytes x) (flat_map bytes xs) (n * size))
+      (ap (λ l. bytes x ++ l) (flat_take n xs (tail_each x xs each)))
+
+  flat_drop : (n : ℕ) (xs : List R) → Each xs → flat_map bytes (drop n xs) ≡ drop (n * size) (flat_map bytes xs)
+  flat_drop zero xs each = rw (zero-mul size)
+  flat_drop (suc n) [] each = grind (arith, common_steps)
+  flat_drop (suc n) (x ∷ xs) each =
+      rw (next_bytes n x xs each, drop-append-add (bytes x) (flat_map bytes xs) (n * size))
+      (flat_drop n xs (tail_each x xs each))
+
+  -- ---- an element
+
+  first_is : (x : R) (xs : List R) → Each (x ∷ xs) → take size (flat_map bytes (x ∷ xs)) ≡ bytes x
+  first_is x xs each = rw (← head_long x xs each) (take-append_seam (bytes x) (flat_map bytes xs))
+
+  pub element_at : (i : ℕ) (xs : List R) (d : R) → Each xs → i < length xs
+      → element size (flat_map bytes xs) i ≡ bytes (get_or xs i d)
+  element_at i [] d each within = absurd (omega arith)
+  element_at zero (x ∷ xs) d each within = rw (zero-mul size) (first_is x xs each)
+  element_at (suc i) (x ∷ xs) d each within =
+      rw (next_bytes i x xs each, drop-append-add (bytes x) (flat_map bytes xs) (i * size))
+      (element_at i xs d (tail_each x xs each) (omega arith))
+
+  pub value_at : (i : ℕ) (xs : List R) (d : R) → Each xs → i < length xs → IsTrue (is_value (get_or xs i d))
+  value_at i [] d each within = absurd (omega arith)
+  value_at zero (x ∷ xs) d each within = grind (arith, nat_tests)
+  value_at (suc i) (x ∷ xs) d each within = value_at i xs d (tail_each x xs each) (omega arith)
+
+  pub element_is : (i : ℕ) (xs : List R) (x : R) → Are xs → i < length xs → x ≡ get_or xs i x
+      → bytes x ≡ element size (flat_map bytes xs) i
+  element_is i xs x are within here = ap bytes here ∙ sym (element_at i xs x are.each within)
+
+  pub value_is : (i : ℕ) (xs : List R) (x : R) → Are xs → i < length xs → x ≡ get_or xs i x → IsTrue (is_value x)
+  value_is i xs x are within here = rw here (value_at i xs x are.each within)
+
+  elements_are : (xs : List R) → Each xs → elements size (length xs) (flat_map bytes xs) ≡ map bytes xs
+  elements_are [] each = refl
+  elements_are (x ∷ xs) each =
+      let rest : drop size (flat_map bytes (x ∷ xs)) ≡ flat_map bytes xs =
+      rw (← head_long x xs each) (drop-append_seam (bytes x) (flat_map bytes xs)) in
+      rw (first_is x xs each, rest, elements_are xs (tail_each x xs each))
+
+  -- the elements of an array
+  pub all_elements : (xs : List R) → Are xs
+      → elements size (length (flat_map bytes xs) / size) (flat_map bytes xs) ≡ map bytes xs
+  all_elements xs are = rw (← counted xs are) (elements_are xs are.each)
+
+  -- ---- parts of an array
+
+  -- the first n of the arrays that bytes begin with, after which `left` is too short for one
+  part_bytes : (n : ℕ) (xs : List R) (all left : List ℕ) → Are xs → n ≤ length xs
+      → flat_map bytes xs ++ left ≡ all → flat_map bytes (take n xs) ≡ take (n * size) all
+  part_bytes n xs all left are within is =
+      let fits : n * size ≤ length (flat_map bytes xs) = grind (arith, nat_tests, all_long xs are) in
+      rw (← is, take-append-le (n * size) (flat_map bytes xs) left fits) (flat_take n xs are.each)
+
+  pub part_many : (n : ℕ) (xs : List R) (all left : List ℕ) → Are xs → 0 < size
+      → flat_map bytes xs ++ left ≡ all → length left ≡ length all % size
+      → (n ≤ length xs → n * size ≤ length all) × (n * size ≤ length all → n ≤ length xs)
+  part_many n xs all left are some is short =
+      let whole : length all ≡ length xs * size + length left =
+      ap length (sym is) ∙ length-append (flat_map bytes xs) left ∙ ap (λ k. k + length left) (all_long xs are) in
+      (λ within. grind (arith, nat_tests), λ fits. grind (arith, nat_tests))
+
+  -- the elements from `start` up to `end`
+  pub middle_bytes : (start end : ℕ) (xs part : List R) → Are xs → part ≡ take (end - start) (drop start xs)
+      → flat_map bytes part ≡ take ((end - start) * size) (drop (start * size) (flat_map bytes xs))
+  middle_bytes start end xs part are is =
+      rw is (flat_take (end - start) (drop start xs) (each_drop start xs are.each)
+      ∙ ap (take ((end - start) * size)) (flat_drop start xs are.each))
+
+  pub middle_elements : (start end : ℕ) (xs part : List R) → Are xs → Are part
+      → part ≡ take (end - start) (drop start xs)
+      → elements size (length (flat_map bytes part) / size) (flat_map bytes part)
+      ≡ take (end - start) (drop start (elements size (length (flat_map bytes xs) / size) (flat_map bytes xs)))
+  middle_elements start end xs part are part_are is =
+      rw (
+        all_elements part part_are,
+        all_elements xs are,
+        is,
+        drop-map bytes start xs,
+        take-map bytes (end - start) (drop start xs),
+      )
+
+  -- those that begin at an offset
+  pub read_bytes : (n offset : ℕ) (xs part : List R) (file all left : List ℕ) → Are xs → n ≤ length xs
+      → flat_map bytes xs ++ left ≡ all → all ≡ take (length file - offset) (drop offset file)
+      → part ≡ take (n - 0) xs → flat_map bytes part ≡ take (n * size) (drop offset file)
+  read_bytes n offset xs part file all left are within is from part_is =
+      let n_is : n - 0 ≡ n = omega arith in
+      let whole : all ≡ drop offset file =
+      from ∙ take_all (length file - offset) (drop offset file) (omega (arith, length-drop offset file)) in
+      rw (part_is, n_is) (part_bytes n xs all left are within is ∙ ap (take (n * size)) whole)
+
+  pub read_elements : (n offset : ℕ) (part : List R) (file : List ℕ)
+      → flat_map bytes part ≡ take (n * size) (drop offset file) → (i : ℕ) → i < n
+      → element size (flat_map bytes part) i ≡ take size (drop (offset + i * size) file)
+  read_elements n offset part file is i within = rw is (element_of size n i offset file within)
+
+pub ruleset len_rules = (all_long, counted)
+
+pub ruleset element_rules = (counted, element_is, value_is)
+
+pub ruleset part_rules = (all_long, counted, are_take, part_many, read_bytes, read_elements)
+
+pub ruleset slice_rules = (counted, are_take, are_drop, middle_bytes, middle_elements)
+
+pub ruleset iter_rules = (length-elements, all_elements)

@@ -4,4 +4,6 @@ pub mod ScalarCalls
 mod ThreeBytes
 mod Rows
 pub mod Elements
+mod Chunks
+mod Searched
 pub mod Moved

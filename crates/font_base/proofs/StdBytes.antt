@@ -1,13 +1,11 @@
 -- The bytes that std reads and writes, as numerals.
 use Rattle.std.proofs.Common.{◌≡◌, ◌∙◌, ◌+◌, drop-cons, drop_of_length-le, sym, ap, ℕ, zero, suc, ◌*◌, ◌^◌, ◌<◌, ◌≤◌, ℤ}
-use Rattle.std.proofs.Common.{pos, negsuc, ◌+ℤ◌, ◌*ℤ◌, List, [], ◌∷◌, length, get_or, drop, ◌≢◌, Option, Result}
-use Rattle.std.proofs.Common.{MatchResult, IfSome, arith, IsTrue, mod-eq_of_lt, w8, w16, w32, w64, SFits, to_z, of_z}
+use Rattle.std.proofs.Common.{pos, negsuc, ◌+ℤ◌, ◌*ℤ◌, List, [], ◌∷◌, length, get_or, take, drop, take_all}
+use Rattle.std.proofs.Common.{arith, IsTrue, mod-eq_of_lt, w8, w16, w32, w64, SFits, to_z, of_z}
 use Rattle.std.proofs.lemmas.Int.{to_z-of_z}
 use Rattle.std.proofs.lemmas.Bool.Decides.{nat_tests}
 use Rattle.std.proofs.Math.Facts.{Fits-of_z, sfits_to_z}
 use Rattle.std.specs.Int.{Width, w128, byte_len, to_be_bytes, from_be_bytes}
-use Rattle.std.specs.Result.{result_ok}
-use Rattle.std.specs.Array.{IsWholeChunk}
 use mir.Val.{bits, hbits}
 use Rattle.font_base.specs.Wrap.{wrap}
 use Rattle.font_base.specs.Bytes.{numeral, are_bytes, bytes_of, signed_numeral}
@@ -66,11 +64,11 @@ unfolding signed_numeral
 to_z-signed_numeral w bytes below =
     to_z-wrap w (numeral bytes) below ∙ ap (λ k. wrap k (pos (numeral bytes))) (width_facts w).1
 
--- the conversion of a slice of the right length
-pub chunk_is_bytes : {E : Type 0} (n : ℕ) (slice : List ℕ) (array : Result (List ℕ) E) (found : Option (List ℕ))
-    → MatchResult array (λ bytes. IsWholeChunk slice bytes n) (λ _. length slice ≢ n) → found ≡ result_ok array
-    → ((i : ℕ) → get_or slice i 0 < 256) → IfSome found (λ bytes. IsTrue (are_bytes n bytes))
-chunk_is_bytes n slice array found chunk is each = grind (arith, nat_tests, are_bytes_in)
+-- the first n bytes of a slice of n bytes
+pub chunk_is_bytes : (n : ℕ) (slice array : List ℕ) → length slice ≡ n → array ≡ take n slice
+    → ((i : ℕ) → get_or slice i 0 < 256) → IsTrue (are_bytes n array)
+chunk_is_bytes n slice array many is each =
+    rw (is, take_all n slice (omega (arith, many))) (are_bytes_in n slice many each)
 
 -- ---- std's calls, in the form of the goals of `from_raw` and `to_raw`
 

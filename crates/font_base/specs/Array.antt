@@ -1,7 +1,8 @@
 -- Arrays of scalars (OpenType, the tables' formats: arrays of numbers and of records).
-use Rattle.std.specs.Prelude.{◌≡◌, ℕ, ◌/◌, ◌<◌, ◌≤◌, List, length, Bool, Result, MatchResult}
+use Rattle.std.specs.Prelude.{◌≡◌, ℕ, ◌/◌, ◌<◌, ◌≤◌, List, length, map, flat_map, Bool, Result, MatchResult}
 use Rattle.std.specs.declared.cmp.Ordering.{Ordering}
 use Rattle.std.specs.declared.cmp.Ordering.TheVariants.{Equal}
+use Rattle.std.specs.Slice.Iter.{iter_rest}
 use Rattle.font_base.specs.declared.raw.BeByteArray as BeByteArray
 use Rattle.font_base.specs.declared.raw.FixedSize as FixedSize
 use Rattle.font_base.specs.declared.raw.Scalar as Scalar
@@ -12,7 +13,7 @@ use Rattle.font_base.specs.Elements.{element, elements, StoresOne, Rises, Splits
 module _ {T X : Type 0} {scalar : Scalar.Ghosts T X} {size : FixedSize.Ghosts T} {x : BeByteArray.Ghosts X} where
   -- the bytes of an array
   abbrev pub array_bytes : ScalarArray T X scalar size x → List ℕ
-  array_bytes array = array.data.now
+  array_bytes array = flat_map x.bytes array.raw.now
 
   -- the number of elements
   abbrev pub array_len : ScalarArray T X scalar size x → ℕ
@@ -28,7 +29,7 @@ module _ {T X : Type 0} {scalar : Scalar.Ghosts T X} {size : FixedSize.Ghosts T}
 
   -- the bytes of each element that an iterator has left, in order
   abbrev pub elements_left : ScalarArrayIter T X scalar size x → List (List ℕ)
-  elements_left iter = array_elements iter.rest
+  elements_left iter = map x.bytes (iter_rest iter.rest)
 
   -- the comparisons are sorted: `Less`, then `Equal`, then `Greater`
   abbrev pub RisesAlong : ScalarArray T X scalar size x → (T → Ordering) → Type 0

@@ -1,9 +1,11 @@
 -- Consecutive elements of equal size.
 -- (OpenType, the tables' formats: arrays, as of `uint16` in `cmap` and of records in the table directory)
-use Rattle.std.specs.Prelude.{◌≡◌, ℕ, zero, suc, ◌*◌, ◌<◌, ◌≤◌, List, [], ◌∷◌, take, drop, Bool, IsTrue, if◌then◌else◌}
+use Rattle.std.specs.Prelude.{◌≡◌, ℕ, zero, suc, ◌*◌, ◌<◌, ◌≤◌, List, [], ◌∷◌, take, drop, length}
+use Rattle.std.specs.Prelude.{Bool, IsTrue, ◌&&◌, ◌==◌, if◌then◌else◌}
 use Rattle.std.specs.declared.cmp.Ordering.{Ordering}
 use Rattle.std.specs.declared.cmp.Ordering.TheVariants.{Less, Greater}
 use Rattle.std.specs.Ordering.{ordering_index}
+use Rattle.std.specs.List.{list_all}
 
 -- the bytes of the element at an index, if each element has `size` bytes
 abbrev pub element : ℕ → List ℕ → ℕ → List ℕ
@@ -13,6 +15,12 @@ element size bytes i = take size (drop (i * size) bytes)
 abbrev pub elements : ℕ → ℕ → List ℕ → List (List ℕ)
 elements size zero bytes = []
 elements size (suc n) bytes = take size bytes ∷ elements size n (drop size bytes)
+
+-- The raw bytes of the elements of an array: each is a value of `size` bytes, and there are none if that is 0.
+-- (own: bytes alone do not say how many elements of no bytes they hold)
+pub record AreRaw {R : Type 0} (is_value : R → Bool) (bytes : R → List ℕ) (size : ℕ) (raw : List R) : Type 0 where
+  pub each : IsTrue (list_all (λ a. is_value a && (length (bytes a) == size)) raw)
+  pub none : size ≡ 0 → length raw ≡ 0
 
 -- v is a value of its type, encoded as these bytes
 pub record IsStored {V : Type 0} (is_scalar : V → Bool) (stored : V → List ℕ) (bytes : List ℕ) (v : V) : Type 0 where

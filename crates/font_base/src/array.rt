@@ -1,26 +1,26 @@
 //! Borrowed arrays of big-endian scalars.
 
 ghost use Rattle.std.specs.Prelude.{◌≡◌, ⊤, ◌↔◌, ◌+◌, ◌-◌, ◌*◌, ◌%◌, ◌<◌, ◌≤◌, Bool, IsTrue};
-ghost use Rattle.std.specs.Prelude.{IsSome, IfSome, IfOk, IfErr, [], length, take, drop, nat_eq, ℕ};
+ghost use Rattle.std.specs.Prelude.{IsSome, IfSome, IfOk, IfErr, [], length, take, drop, map, nat_eq, ℕ};
 ghost use Rattle.std.specs.Ordering.{on};
 ghost use Rattle.std.specs.Cmp.{on_per, on_equiv, partial_equiv_from_equiv};
 ghost use Rattle.std.specs.Cmp.Lexicographic.{nat_list_eq_equiv, pointwise};
 ghost use Rattle.std.specs.Iterator.{YieldsFirstBy, YieldsLastBy, UpTo, item_count};
 ghost use Rattle.std.specs.Iterator.SizeHint.{IsWithinCount};
+ghost use Rattle.std.specs.Slice.Iter.{iter_rest};
 ghost use Rattle.font_base.specs.Scalar.{IsValueOf};
-ghost use Rattle.font_base.specs.Elements.{side};
+ghost use Rattle.font_base.specs.Elements.{AreRaw};
 
-use crate::raw::{BeByteArray, Scalar};
+use crate::raw::{BeByteArray, ByteChunks, Scalar};
 use std::alloc::AllocError;
 use std::cmp::Ordering;
-use std::hint::{assert_unchecked, select_unpredictable};
 use std::iter::FusedIterator;
-use std::marker::PhantomData;
+use std::slice::Iter;
 
 /// A borrowed, big-endian array of scalars.
 ///
 /// The length is checked once, by `new`; elements are decoded on access. A record type that
-/// implements [`Scalar`] can be an element too.
+/// implements [`Scalar`] can be an element too, if its raw bytes are a `[u8; N]`.
 ///
 /// ```
 /// use font_types::ScalarArray;
@@ -31,9 +31,8 @@ use std::marker::PhantomData;
 /// assert!(ScalarArray::<u16>::new(&[0x00]).is_none());
 /// ```
 pub struct ScalarArray<'a, T: Scalar> {
-    data: &'a [u8],
-    scalar: PhantomData<T>,
-    ghost whole: { length «data».now % T.RAW_BYTE_LEN ≡ 0 },
+    raw: &'a [T::Raw],
+    ghost are_raw: { AreRaw T.Raw.is_value T.Raw.bytes T.RAW_BYTE_LEN raw.now },
 }
 
 impl<'a, T: Scalar> ScalarArray<'a, T> {
@@ -47,22 +46,17 @@ impl<'a, T: Scalar> ScalarArray<'a, T> {
     #[must_use]
     #[inline]
     pub fn new(data: &'a [u8]) -> Option<ScalarArray<'a, T>>
+    where
+        T::Raw: ByteChunks,
         ensures whole { IsSome result ↔ (length «data».now % T.RAW_BYTE_LEN ≡ 0) }
         ensures bytes { IfSome result (λ array. array_bytes array ≡ «data».now) }
     {
         prove!(T::RAW_BYTE_LEN == <T::Raw as BeByteArray>::LEN);
-        // A remainder by 0 is the number itself.
-        let left = data
-            .len()
-            .checked_rem(T::RAW_BYTE_LEN)
-            .unwrap_or(data.len());
-        if left != 0 {
+        let (raw, left) = T::Raw::as_chunks(data);
+        if !left.is_empty() {
             return None;
         }
-        Some(ScalarArray {
-            data,
-            scalar: PhantomData,
-        })
+        Some(ScalarArray { raw })
     }
 
     /// Reads an array of `count` elements at `offset`, or returns `None` if the bytes end before it
@@ -79,6 +73,8 @@ impl<'a, T: Scalar> ScalarArray<'a, T> {
     #[inline]
     #[tactic(auto, using(crate::proofs::Elements::part_rules))]
     pub fn read_at(bytes: &'a [u8], offset: usize, count: usize) -> Option<ScalarArray<'a, T>>
+    where
+        T::Raw: ByteChunks,
         ensures end { IsSome result ↔ (offset + count * T.RAW_BYTE_LEN ≤ length bytes.now) }
         ensures bytes { IfSome result (λ array.
             array_bytes array ≡ take (count * T.RAW_BYTE_LEN) (drop offset bytes.now)) }
@@ -86,23 +82,26 @@ impl<'a, T: Scalar> ScalarArray<'a, T> {
         ensures elements { IfSome result (λ array. (i : ℕ) → i < count → element_bytes array i
             ≡ take T.RAW_BYTE_LEN (drop (offset + i * T.RAW_BYTE_LEN) bytes.now)) }
     {
-        let len = count.checked_mul(T::RAW_BYTE_LEN)?;
-        let (_, rest) = bytes.split_at_checked(offset)?;
-        let (data, _) = rest.split_at_checked(len)?;
+        prove!(T::RAW_BYTE_LEN == <T::Raw as BeByteArray>::LEN);
+        let (raw, _) = T::Raw::as_chunks(bytes.get(offset..)?);
+        // Scalars of no bytes make an empty array, whatever their number.
+        if T::RAW_BYTE_LEN == 0 {
+            return Some(ScalarArray { raw });
+        }
         Some(ScalarArray {
-            data,
-            scalar: PhantomData,
+            raw: raw.get(..count)?,
         })
     }
 
     /// Returns the number of elements.
     #[must_use]
     #[inline]
+    #[tactic(auto, using(crate::proofs::Elements::len_rules))]
     pub fn len(&self) -> usize
         ensures value { result ≡ array_len self.now }
         ensures bytes { result * T.RAW_BYTE_LEN ≡ length (array_bytes self.now) }
     {
-        self.data.len().checked_div(T::RAW_BYTE_LEN).unwrap_or(0)
+        self.raw.len()
     }
 
     /// Returns `true` if the array has no elements.
@@ -118,14 +117,36 @@ impl<'a, T: Scalar> ScalarArray<'a, T> {
     #[must_use]
     #[inline]
     pub fn as_bytes(&self) -> &'a [u8]
+    where
+        T::Raw: ByteChunks,
         ensures { result.now ≡ array_bytes self.now }
     {
-        self.data
+        T::Raw::as_flattened(self.raw)
+    }
+
+    /// Returns the raw bytes of each element, as a slice, which has the iterators and searches of
+    /// std.
+    ///
+    /// ```
+    /// use font_types::{Scalar, ScalarArray};
+    /// let ends = ScalarArray::<u16>::new(&[0x00, 0x5A, 0x00, 0x7A, 0xFF, 0xFF]).unwrap();
+    /// assert_eq!(ends.as_raw()[1], [0x00, 0x7A]);
+    /// let ends = ends.as_raw().iter().map(|raw| u16::from_raw(*raw));
+    /// assert!(ends.rev().eq([0xFFFF, 0x7A, 0x5A]));
+    /// ```
+    #[must_use]
+    #[inline]
+    #[tactic(auto, using(crate::proofs::Elements::iter_rules))]
+    pub fn as_raw(&self) -> &'a [T::Raw]
+        ensures { map T.Raw.bytes result.now ≡ array_elements self.now }
+    {
+        self.raw
     }
 
     /// Returns the element at `index`, or `None` if out of bounds.
     #[must_use]
     #[inline]
+    #[tactic(auto, using(crate::proofs::Elements::element_rules))]
     pub fn get(&self, index: usize) -> Option<T>
         ensures end { IsSome result ↔ (index < array_len self.now) }
         ensures stored { IfSome result (λ v.
@@ -134,14 +155,8 @@ impl<'a, T: Scalar> ScalarArray<'a, T> {
             IsValueOf T.Raw.bytes T.of_raw (element_bytes self.now index) v) }
         ensures value { IfSome result (λ v. IsTrue (T.is_scalar v)) }
     {
-        if index >= self.len() {
-            return None;
-        }
-        let start = index * T::RAW_BYTE_LEN;
-        let end = start + T::RAW_BYTE_LEN;
-        // SAFETY: `data` holds `len()` elements, and `index` is less than that.
-        unsafe { assert_unchecked(end <= self.data.len()) };
-        T::read(&self.data[start..end])
+        let raw = self.raw.get(index)?;
+        Some(T::from_raw(*raw))
     }
 
     /// Returns the first element, or `None` if there is none.
@@ -192,28 +207,24 @@ impl<'a, T: Scalar> ScalarArray<'a, T> {
             ≡ take ((end - start) * T.RAW_BYTE_LEN)
             (drop (start * T.RAW_BYTE_LEN) (array_bytes self.now))) }
     {
-        let count = end.checked_sub(start)?;
-        if end > self.len() {
-            return None;
-        }
-        let (_, rest) = self.data.split_at(start * T::RAW_BYTE_LEN);
-        let (data, _) = rest.split_at(count * T::RAW_BYTE_LEN);
         Some(ScalarArray {
-            data,
-            scalar: PhantomData,
+            raw: self.raw.get(start..end)?,
         })
     }
 
     /// Returns an iterator over the elements, from either end.
     ///
-    /// It suits a `for` loop. In Rust take `values` to collect, to extend a `Vec`, and before
-    /// `map`, `rev` or `zip`: it compiles to the code of a slice's iterator.
+    /// It is for loops. Before `map`, `rev`, `zip` and `collect`, use `values` in Rust, which is
+    /// the iterator of [`as_raw`](Self::as_raw), decoded.
     #[must_use]
     #[inline]
+    #[tactic(auto, using(crate::proofs::Elements::iter_rules))]
     pub fn iter(&self) -> ScalarArrayIter<'a, T>
         ensures { elements_left result ≡ array_elements self.now }
     {
-        ScalarArrayIter { rest: *self }
+        ScalarArrayIter {
+            rest: self.raw.iter(),
+        }
     }
 }
 
@@ -226,10 +237,7 @@ impl<'a, T: Scalar> Clone for ScalarArray<'a, T> {
 
     #[inline]
     fn clone(&self) -> Result<ScalarArray<'a, T>, AllocError> {
-        Ok(ScalarArray {
-            data: self.data,
-            scalar: PhantomData,
-        })
+        Ok(ScalarArray { raw: self.raw })
     }
 }
 
@@ -243,15 +251,16 @@ impl<'a, T: Scalar> Default for ScalarArray<'a, T> {
 
     #[inline]
     fn default() -> ScalarArray<'a, T> {
-        ScalarArray {
-            data: &[],
-            scalar: PhantomData,
-        }
+        prove!(T::RAW_BYTE_LEN == <T::Raw as BeByteArray>::LEN);
+        ScalarArray { raw: &[] }
     }
 }
 
 /// Two arrays are equal if their bytes are.
-impl<'a, T: Scalar> PartialEq for ScalarArray<'a, T> {
+impl<'a, T: Scalar> PartialEq for ScalarArray<'a, T>
+where
+    T::Raw: ByteChunks,
+{
     ghost use Rattle.font_base.specs.Array.{array_bytes};
 
     ghost eq = { on array_bytes (pointwise nat_eq) };
@@ -260,11 +269,14 @@ impl<'a, T: Scalar> PartialEq for ScalarArray<'a, T> {
 
     #[inline]
     fn eq(&self, other: &ScalarArray<'a, T>) -> bool {
-        self.data == other.data
+        self.as_bytes() == other.as_bytes()
     }
 }
 
-impl<'a, T: Scalar> Eq for ScalarArray<'a, T> {
+impl<'a, T: Scalar> Eq for ScalarArray<'a, T>
+where
+    T::Raw: ByteChunks,
+{
     ghost use Rattle.font_base.specs.Array.{array_bytes};
 
     ghost laws = { on_equiv array_bytes nat_list_eq_equiv };
@@ -297,29 +309,7 @@ impl<'a, T: Scalar> ScalarArray<'a, T> {
             → ((v : T) (o : Ordering) → F.post compare v o → o ≡ answer v)
             → IsSearched self.now answer result }
     {
-        // As in std: a number of steps that the length alone decides, and no branch on an element.
-        let mut base = 0;
-        let mut size = self.len();
-        while size > 1 {
-            let half = size / 2;
-            let middle = base + half;
-            // SAFETY: `base + size` is at most `len()`, and `half` is less than `size`.
-            unsafe { assert_unchecked(middle < self.len()) };
-            let Some(value) = self.get(middle) else {
-                return Err(base);
-            };
-            let is_greater = compare(value).is_gt();
-            base = select_unpredictable(is_greater, base, middle);
-            size -= half;
-        }
-        let Some(value) = self.get(base) else {
-            return Err(base);
-        };
-        let order = compare(value);
-        if order.is_eq() {
-            return Ok(base);
-        }
-        Err(base + usize::from(order.is_lt()))
+        self.raw.binary_search_by(|raw| compare(T::from_raw(*raw)))
     }
 
     /// Searches an array that is sorted by a key, and returns the index of an element with that
@@ -329,7 +319,7 @@ impl<'a, T: Scalar> ScalarArray<'a, T> {
     ///
     /// If there is none, returns the index at which it could be inserted.
     #[inline]
-    pub fn binary_search_by_key<K: Ord + Copy, F: Fn(T) -> K>(
+    pub fn binary_search_by_key<K: Ord + Drop, F: Fn(T) -> K>(
         &self,
         key: &K,
         key_of: F,
@@ -340,7 +330,8 @@ impl<'a, T: Scalar> ScalarArray<'a, T> {
         ensures place { (of : T → K) → ((v : T) (k : K) → F.post key_of v k → k ≡ of v)
             → IsSearched self.now (λ v. K.cmp (of v) key.now) result }
     {
-        self.binary_search_by(|value| key_of(value).cmp(key))
+        self.raw
+            .binary_search_by_key(key, |raw| key_of(T::from_raw(*raw)))
     }
 
     /// Returns the number of elements at the front for which `is_before` returns `true`. The array
@@ -353,6 +344,7 @@ impl<'a, T: Scalar> ScalarArray<'a, T> {
     /// ```
     #[must_use]
     #[inline]
+    #[tactic(auto, using(crate::proofs::Elements::len_rules))]
     pub fn partition_point<F: Fn(T) -> bool>(&self, is_before: F) -> usize
         requires { F.IsAlwaysCallable is_before }
         ensures within { result ≤ array_len self.now }
@@ -360,9 +352,7 @@ impl<'a, T: Scalar> ScalarArray<'a, T> {
             → ((v : T) (b : Bool) → F.post is_before v b → b ≡ before v)
             → IsPartitionPoint self.now before result }
     {
-        match self.binary_search_by(|value| order_of(is_before(value))) {
-            Ok(place) | Err(place) => place,
-        }
+        self.raw.partition_point(|raw| is_before(T::from_raw(*raw)))
     }
 
     /// Searches a sorted array, and returns the index of an element equal to `key`. If there are
@@ -381,22 +371,11 @@ impl<'a, T: Scalar> ScalarArray<'a, T> {
     }
 }
 
-// How an element compares in the search for a partition point.
-#[inline]
-const fn order_of(is_before: bool) -> Ordering
-    ensures { result ≡ side is_before }
-{
-    if is_before {
-        Ordering::Less
-    } else {
-        Ordering::Greater
-    }
-}
-
 /// An iterator over the elements of a [`ScalarArray`].
 #[derive(Drop)]
 pub struct ScalarArrayIter<'a, T: Scalar> {
-    rest: ScalarArray<'a, T>,
+    rest: Iter<'a, T::Raw>,
+    ghost are_raw: { AreRaw T.Raw.is_value T.Raw.bytes T.RAW_BYTE_LEN (iter_rest rest) },
 }
 
 impl<'a, T: Scalar> ScalarArrayIter<'a, T> {
@@ -405,10 +384,13 @@ impl<'a, T: Scalar> ScalarArrayIter<'a, T> {
     /// Returns the elements that are left, as an array.
     #[must_use]
     #[inline]
+    #[tactic(auto, using(crate::proofs::Elements::iter_rules))]
     pub fn as_array(&self) -> ScalarArray<'a, T>
         ensures { array_elements result ≡ elements_left self.now }
     {
-        self.rest
+        ScalarArray {
+            raw: self.rest.as_slice(),
+        }
     }
 }
 
@@ -422,21 +404,12 @@ impl<'a, T: Scalar> Iterator for ScalarArrayIter<'a, T> {
     ghost remaining = { item_count elements_left };
 
     #[inline]
-    #[tactic(auto, using(crate::proofs::Elements::element_rules))]
     fn next(&mut self) -> Option<T> {
-        if self.rest.is_empty() {
-            return None;
-        }
-        let (first, others) = self.rest.data.split_at(T::RAW_BYTE_LEN);
-        self.rest = ScalarArray {
-            data: others,
-            scalar: PhantomData,
-        };
-        T::read(first)
+        let raw = self.rest.next()?;
+        Some(T::from_raw(*raw))
     }
 
     #[inline]
-    #[tactic(auto, using(crate::proofs::Elements::element_rules))]
     fn size_hint(&self) -> (usize, Option<usize>)
         ensures lower { IsWithinCount result.0 (item_count elements_left self.now) }
         ensures upper { IfSome result.1 (UpTo (item_count elements_left self.now)) }
@@ -453,21 +426,14 @@ impl<'a, T: Scalar> DoubleEndedIterator for ScalarArrayIter<'a, T> {
     ghost next_back_gives = { YieldsLastBy (λ v. T.Raw.bytes (T.raw_of v)) elements_left };
 
     #[inline]
-    #[tactic(auto, using(crate::proofs::Elements::back_rules))]
     fn next_back(&mut self) -> Option<T> {
-        let front = self.rest.len().checked_sub(1)?;
-        let (others, last) = self.rest.data.split_at(front * T::RAW_BYTE_LEN);
-        self.rest = ScalarArray {
-            data: others,
-            scalar: PhantomData,
-        };
-        T::read(last)
+        let raw = self.rest.next_back()?;
+        Some(T::from_raw(*raw))
     }
 }
 
 impl<'a, T: Scalar> ExactSizeIterator for ScalarArrayIter<'a, T> {
     #[inline]
-    #[tactic(auto, using(crate::proofs::Elements::element_rules))]
     fn len(&self) -> usize {
         self.rest.len()
     }
@@ -484,7 +450,9 @@ impl<'a, T: Scalar> Clone for ScalarArrayIter<'a, T> {
 
     #[inline]
     fn clone(&self) -> Result<ScalarArrayIter<'a, T>, AllocError> {
-        Ok(ScalarArrayIter { rest: self.rest })
+        Ok(ScalarArrayIter {
+            rest: self.rest.as_slice().iter(),
+        })
     }
 }
 

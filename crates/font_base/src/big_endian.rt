@@ -84,9 +84,7 @@ impl<T: Scalar> BigEndian<T> {
         ensures bytes { IfSome result (λ field.
             T.Raw.bytes (raw_value field) ≡ take T.RAW_BYTE_LEN (drop offset bytes.now)) }
     {
-        let (_, rest) = bytes.split_at_checked(offset)?;
-        let (front, _) = rest.split_at_checked(T::RAW_BYTE_LEN)?;
-        BigEndian::from_slice(front)
+        BigEndian::from_slice(bytes.get(offset..)?.get(..T::RAW_BYTE_LEN)?)
     }
 
     /// Decodes the value.

@@ -2,13 +2,14 @@
 #![tactic(auto, using(crate::proofs::StdBytes::std_bytes))]
 
 ghost use Rattle.std.specs.Prelude.{◌≡◌, ℕ, pos, Bool, List, IsTrue, IsSome, IfSome, ◌↔◌, ◌^◌};
-ghost use Rattle.std.specs.Prelude.{◌+◌, ◌≤◌, nat_eq, nat_lt, length, take, drop};
+ghost use Rattle.std.specs.Prelude.{◌+◌, ◌%◌, ◌++◌, ◌≤◌, nat_eq, nat_lt, length, take, drop, flat_map};
 ghost use Rattle.std.proofs.Common.{rules, lit<};
 ghost use Rattle.std.specs.Bool.{Decides};
 ghost use Rattle.std.specs.Cmp.{signed_Decides, unsigned_Decides};
 ghost use Rattle.std.specs.Cmp.Lexicographic.{pointwise};
 ghost use Rattle.font_base.specs.Wrap.{fits_bits};
 ghost use Rattle.font_base.specs.Bytes.{are_bytes, numeral, bytes_of, signed_numeral};
+ghost use Rattle.font_base.specs.Elements.{AreRaw};
 ghost use Rattle.font_base.specs.Scalar.{ScalarLaws, IsValueOf};
 ghost use Rattle.font_base.specs.Scalar.Laws.{unsigned_laws, signed_laws};
 
@@ -81,7 +82,10 @@ impl<const N: usize> BeByteArray for [u8; N] {
 
     #[inline]
     fn from_slice(slice: &[u8]) -> Option<[u8; N]> {
-        slice.try_into().ok()
+        if slice.len() != N {
+            return None;
+        }
+        Some(*slice.first_chunk()?)
     }
 
     #[inline]
@@ -93,6 +97,58 @@ impl<const N: usize> BeByteArray for [u8; N] {
     #[inline]
     fn eq_array(&self, other: &[u8; N]) -> bool {
         self == other
+    }
+}
+
+/// Byte arrays that a slice of bytes can be split into, without a copy: `[u8; N]`.
+///
+/// A [`ScalarArray`](crate::ScalarArray) is made of bytes, compared and shown as bytes if the raw
+/// bytes of its scalar are such arrays. Generic functions that do so name the bound.
+///
+/// ```
+/// use font_types::{ByteChunks, Scalar, ScalarArray};
+/// fn first<T: Scalar>(data: &[u8]) -> Option<T>
+/// where
+///     T::Raw: ByteChunks,
+/// {
+///     ScalarArray::<T>::new(data)?.first()
+/// }
+/// assert_eq!(first::<u16>(&[1, 0, 2, 0]), Some(256));
+/// ```
+///
+/// # Laws
+///
+/// Rattle proves these of every implementation; rustc checks none of them.
+///
+/// - `as_chunks` splits a slice into as many arrays as it has bytes for, and the bytes after them.
+///   If `LEN` is 0, there are no arrays, and all bytes are left.
+/// - `as_flattened` returns the bytes of the arrays, in order.
+pub trait ByteChunks: BeByteArray {
+    /// Splits a slice into arrays, from its start, and the bytes that are left.
+    #[must_use]
+    fn as_chunks(bytes: &[u8]) -> (&[Self], &[u8])
+        ensures are_raw { AreRaw Self.is_value Self.bytes Self.LEN result.0.now }
+        ensures bytes { flat_map Self.bytes result.0.now ++ result.1.now ≡ bytes.now }
+        ensures left { length result.1.now ≡ length bytes.now % Self.LEN };
+
+    /// Returns the bytes of the arrays.
+    #[must_use]
+    fn as_flattened(arrays: &[Self]) -> &[u8]
+        ensures { result.now ≡ flat_map Self.bytes arrays.now };
+}
+
+impl<const N: usize> ByteChunks for [u8; N] {
+    #[inline]
+    fn as_chunks(bytes: &[u8]) -> (&[[u8; N]], &[u8]) {
+        if N == 0 {
+            return (&[], bytes);
+        }
+        bytes.as_chunks()
+    }
+
+    #[inline]
+    fn as_flattened(arrays: &[[u8; N]]) -> &[u8] {
+        arrays.as_flattened()
     }
 }
 
@@ -187,9 +243,7 @@ pub trait Scalar: FixedSize {
             IsValueOf Self.Raw.bytes of_raw (take Self.RAW_BYTE_LEN (drop offset bytes.now)) v) }
         ensures value { IfSome result (λ v. IsTrue (is_scalar v)) }
     {
-        let (_, rest) = bytes.split_at_checked(offset)?;
-        let (front, _) = rest.split_at_checked(Self::RAW_BYTE_LEN)?;
-        Self::read(front)
+        Self::read(bytes.get(offset..)?.get(..Self::RAW_BYTE_LEN)?)
     }
 
     // Encoding and decoding are inverse, and the encoded size is `RAW_BYTE_LEN`.

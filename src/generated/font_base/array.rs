@@ -2,16 +2,15 @@
 
 //! Borrowed arrays of big-endian scalars.
 
-use crate::font_base::raw::{BeByteArray, Scalar};
+use crate::font_base::raw::{BeByteArray, ByteChunks, Scalar};
 use core::cmp::Ordering;
-use core::hint::{assert_unchecked, select_unpredictable};
 use core::iter::FusedIterator;
-use core::marker::PhantomData;
+use core::slice::Iter;
 
 /// A borrowed, big-endian array of scalars.
 ///
 /// The length is checked once, by `new`; elements are decoded on access. A record type that
-/// implements [`Scalar`] can be an element too.
+/// implements [`Scalar`] can be an element too, if its raw bytes are a `[u8; N]`.
 ///
 /// ```
 /// use font_types_proved::ScalarArray;
@@ -22,8 +21,7 @@ use core::marker::PhantomData;
 /// assert!(ScalarArray::<u16>::new(&[0x00]).is_none());
 /// ```
 pub struct ScalarArray<'a, T: Scalar> {
-    data: &'a [u8],
-    scalar: PhantomData<T>,
+    raw: &'a [T::Raw],
 }
 
 impl<'a, T: Scalar> ScalarArray<'a, T> {
@@ -33,20 +31,16 @@ impl<'a, T: Scalar> ScalarArray<'a, T> {
     /// If `RAW_BYTE_LEN` is 0, only empty data is an array, and it is empty.
     #[must_use]
     #[inline]
-    pub fn new(data: &'a [u8]) -> Option<ScalarArray<'a, T>> {
+    pub fn new(data: &'a [u8]) -> Option<ScalarArray<'a, T>>
+    where
+        T::Raw: ByteChunks,
+    {
         const { assert!(T::RAW_BYTE_LEN == <T::Raw as BeByteArray>::LEN) };
-        // A remainder by 0 is the number itself.
-        let left = data
-            .len()
-            .checked_rem(T::RAW_BYTE_LEN)
-            .unwrap_or(data.len());
-        if left != 0 {
+        let (raw, left) = T::Raw::as_chunks(data);
+        if !left.is_empty() {
             return None;
         }
-        Some(ScalarArray {
-            data,
-            scalar: PhantomData,
-        })
+        Some(ScalarArray { raw })
     }
 
     /// Reads an array of `count` elements at `offset`, or returns `None` if the bytes end before it
@@ -61,13 +55,18 @@ impl<'a, T: Scalar> ScalarArray<'a, T> {
     /// ```
     #[must_use]
     #[inline]
-    pub fn read_at(bytes: &'a [u8], offset: usize, count: usize) -> Option<ScalarArray<'a, T>> {
-        let len = count.checked_mul(T::RAW_BYTE_LEN)?;
-        let (_, rest) = bytes.split_at_checked(offset)?;
-        let (data, _) = rest.split_at_checked(len)?;
+    pub fn read_at(bytes: &'a [u8], offset: usize, count: usize) -> Option<ScalarArray<'a, T>>
+    where
+        T::Raw: ByteChunks,
+    {
+        const { assert!(T::RAW_BYTE_LEN == <T::Raw as BeByteArray>::LEN) };
+        let (raw, _) = T::Raw::as_chunks(bytes.get(offset..)?);
+        // Scalars of no bytes make an empty array, whatever their number.
+        if T::RAW_BYTE_LEN == 0 {
+            return Some(ScalarArray { raw });
+        }
         Some(ScalarArray {
-            data,
-            scalar: PhantomData,
+            raw: raw.get(..count)?,
         })
     }
 
@@ -75,7 +74,7 @@ impl<'a, T: Scalar> ScalarArray<'a, T> {
     #[must_use]
     #[inline]
     pub fn len(&self) -> usize {
-        self.data.len().checked_div(T::RAW_BYTE_LEN).unwrap_or(0)
+        self.raw.len()
     }
 
     /// Returns `true` if the array has no elements.
@@ -88,22 +87,35 @@ impl<'a, T: Scalar> ScalarArray<'a, T> {
     /// Returns the underlying bytes.
     #[must_use]
     #[inline]
-    pub fn as_bytes(&self) -> &'a [u8] {
-        self.data
+    pub fn as_bytes(&self) -> &'a [u8]
+    where
+        T::Raw: ByteChunks,
+    {
+        T::Raw::as_flattened(self.raw)
+    }
+
+    /// Returns the raw bytes of each element, as a slice, which has the iterators and searches of
+    /// std.
+    ///
+    /// ```
+    /// use font_types_proved::{Scalar, ScalarArray};
+    /// let ends = ScalarArray::<u16>::new(&[0x00, 0x5A, 0x00, 0x7A, 0xFF, 0xFF]).unwrap();
+    /// assert_eq!(ends.as_raw()[1], [0x00, 0x7A]);
+    /// let ends = ends.as_raw().iter().map(|raw| u16::from_raw(*raw));
+    /// assert!(ends.rev().eq([0xFFFF, 0x7A, 0x5A]));
+    /// ```
+    #[must_use]
+    #[inline]
+    pub fn as_raw(&self) -> &'a [T::Raw] {
+        self.raw
     }
 
     /// Returns the element at `index`, or `None` if out of bounds.
     #[must_use]
     #[inline]
     pub fn get(&self, index: usize) -> Option<T> {
-        if index >= self.len() {
-            return None;
-        }
-        let start = index * T::RAW_BYTE_LEN;
-        let end = start + T::RAW_BYTE_LEN;
-        // SAFETY: `data` holds `len()` elements, and `index` is less than that.
-        unsafe { assert_unchecked(end <= self.data.len()) };
-        T::read(&self.data[start..end])
+        let raw = self.raw.get(index)?;
+        Some(T::from_raw(*raw))
     }
 
     /// Returns the first element, or `None` if there is none.
@@ -132,36 +144,28 @@ impl<'a, T: Scalar> ScalarArray<'a, T> {
     #[must_use]
     #[inline]
     pub fn slice(&self, start: usize, end: usize) -> Option<ScalarArray<'a, T>> {
-        let count = end.checked_sub(start)?;
-        if end > self.len() {
-            return None;
-        }
-        let (_, rest) = self.data.split_at(start * T::RAW_BYTE_LEN);
-        let (data, _) = rest.split_at(count * T::RAW_BYTE_LEN);
         Some(ScalarArray {
-            data,
-            scalar: PhantomData,
+            raw: self.raw.get(start..end)?,
         })
     }
 
     /// Returns an iterator over the elements, from either end.
     ///
-    /// It suits a `for` loop. In Rust take `values` to collect, to extend a `Vec`, and before
-    /// `map`, `rev` or `zip`: it compiles to the code of a slice's iterator.
+    /// It is for loops. Before `map`, `rev`, `zip` and `collect`, use `values` in Rust, which is
+    /// the iterator of [`as_raw`](Self::as_raw), decoded.
     #[must_use]
     #[inline]
     pub fn iter(&self) -> ScalarArrayIter<'a, T> {
-        ScalarArrayIter { rest: *self }
+        ScalarArrayIter {
+            rest: self.raw.iter(),
+        }
     }
 }
 
 impl<'a, T: Scalar> Clone for ScalarArray<'a, T> {
     #[inline]
     fn clone(&self) -> ScalarArray<'a, T> {
-        ScalarArray {
-            data: self.data,
-            scalar: PhantomData,
-        }
+        ScalarArray { raw: self.raw }
     }
 }
 
@@ -171,22 +175,23 @@ impl<'a, T: Scalar> Copy for ScalarArray<'a, T> {}
 impl<'a, T: Scalar> Default for ScalarArray<'a, T> {
     #[inline]
     fn default() -> ScalarArray<'a, T> {
-        ScalarArray {
-            data: &[],
-            scalar: PhantomData,
-        }
+        const { assert!(T::RAW_BYTE_LEN == <T::Raw as BeByteArray>::LEN) };
+        ScalarArray { raw: &[] }
     }
 }
 
 /// Two arrays are equal if their bytes are.
-impl<'a, T: Scalar> PartialEq for ScalarArray<'a, T> {
+impl<'a, T: Scalar> PartialEq for ScalarArray<'a, T>
+where
+    T::Raw: ByteChunks,
+{
     #[inline]
     fn eq(&self, other: &ScalarArray<'a, T>) -> bool {
-        self.data == other.data
+        self.as_bytes() == other.as_bytes()
     }
 }
 
-impl<'a, T: Scalar> Eq for ScalarArray<'a, T> {}
+impl<'a, T: Scalar> Eq for ScalarArray<'a, T> where T::Raw: ByteChunks {}
 
 impl<'a, T: Scalar> ScalarArray<'a, T> {
     /// Searches an array by a comparison of each element with the wanted place: elements that
@@ -206,29 +211,7 @@ impl<'a, T: Scalar> ScalarArray<'a, T> {
     /// If there is none, returns the index at which it could be inserted.
     #[inline]
     pub fn binary_search_by<F: Fn(T) -> Ordering>(&self, compare: F) -> Result<usize, usize> {
-        // As in std: a number of steps that the length alone decides, and no branch on an element.
-        let mut base = 0;
-        let mut size = self.len();
-        while size > 1 {
-            let half = size / 2;
-            let middle = base + half;
-            // SAFETY: `base + size` is at most `len()`, and `half` is less than `size`.
-            unsafe { assert_unchecked(middle < self.len()) };
-            let Some(value) = self.get(middle) else {
-                return Err(base);
-            };
-            let is_greater = compare(value).is_gt();
-            base = select_unpredictable(is_greater, base, middle);
-            size -= half;
-        }
-        let Some(value) = self.get(base) else {
-            return Err(base);
-        };
-        let order = compare(value);
-        if order.is_eq() {
-            return Ok(base);
-        }
-        Err(base + usize::from(order.is_lt()))
+        self.raw.binary_search_by(|raw| compare(T::from_raw(*raw)))
     }
 
     /// Searches an array that is sorted by a key, and returns the index of an element with that
@@ -238,12 +221,13 @@ impl<'a, T: Scalar> ScalarArray<'a, T> {
     ///
     /// If there is none, returns the index at which it could be inserted.
     #[inline]
-    pub fn binary_search_by_key<K: Ord + Copy, F: Fn(T) -> K>(
+    pub fn binary_search_by_key<K: Ord, F: Fn(T) -> K>(
         &self,
         key: &K,
         key_of: F,
     ) -> Result<usize, usize> {
-        self.binary_search_by(|value| key_of(value).cmp(key))
+        self.raw
+            .binary_search_by_key(key, |raw| key_of(T::from_raw(*raw)))
     }
 
     /// Returns the number of elements at the front for which `is_before` returns `true`. The array
@@ -257,9 +241,7 @@ impl<'a, T: Scalar> ScalarArray<'a, T> {
     #[must_use]
     #[inline]
     pub fn partition_point<F: Fn(T) -> bool>(&self, is_before: F) -> usize {
-        match self.binary_search_by(|value| order_of(is_before(value))) {
-            Ok(place) | Err(place) => place,
-        }
+        self.raw.partition_point(|raw| is_before(T::from_raw(*raw)))
     }
 
     /// Searches a sorted array, and returns the index of an element equal to `key`. If there are
@@ -277,19 +259,9 @@ impl<'a, T: Scalar> ScalarArray<'a, T> {
     }
 }
 
-// How an element compares in the search for a partition point.
-#[inline]
-const fn order_of(is_before: bool) -> Ordering {
-    if is_before {
-        Ordering::Less
-    } else {
-        Ordering::Greater
-    }
-}
-
 /// An iterator over the elements of a [`ScalarArray`].
 pub struct ScalarArrayIter<'a, T: Scalar> {
-    rest: ScalarArray<'a, T>,
+    rest: Iter<'a, T::Raw>,
 }
 
 impl<'a, T: Scalar> ScalarArrayIter<'a, T> {
@@ -297,7 +269,9 @@ impl<'a, T: Scalar> ScalarArrayIter<'a, T> {
     #[must_use]
     #[inline]
     pub fn as_array(&self) -> ScalarArray<'a, T> {
-        self.rest
+        ScalarArray {
+            raw: self.rest.as_slice(),
+        }
     }
 }
 
@@ -306,15 +280,8 @@ impl<'a, T: Scalar> Iterator for ScalarArrayIter<'a, T> {
 
     #[inline]
     fn next(&mut self) -> Option<T> {
-        if self.rest.is_empty() {
-            return None;
-        }
-        let (first, others) = self.rest.data.split_at(T::RAW_BYTE_LEN);
-        self.rest = ScalarArray {
-            data: others,
-            scalar: PhantomData,
-        };
-        T::read(first)
+        let raw = self.rest.next()?;
+        Some(T::from_raw(*raw))
     }
 
     #[inline]
@@ -327,13 +294,8 @@ impl<'a, T: Scalar> Iterator for ScalarArrayIter<'a, T> {
 impl<'a, T: Scalar> DoubleEndedIterator for ScalarArrayIter<'a, T> {
     #[inline]
     fn next_back(&mut self) -> Option<T> {
-        let front = self.rest.len().checked_sub(1)?;
-        let (others, last) = self.rest.data.split_at(front * T::RAW_BYTE_LEN);
-        self.rest = ScalarArray {
-            data: others,
-            scalar: PhantomData,
-        };
-        T::read(last)
+        let raw = self.rest.next_back()?;
+        Some(T::from_raw(*raw))
     }
 }
 
@@ -349,7 +311,9 @@ impl<'a, T: Scalar> FusedIterator for ScalarArrayIter<'a, T> {}
 impl<'a, T: Scalar> Clone for ScalarArrayIter<'a, T> {
     #[inline]
     fn clone(&self) -> ScalarArrayIter<'a, T> {
-        ScalarArrayIter { rest: self.rest }
+        ScalarArrayIter {
+            rest: self.rest.as_slice().iter(),
+        }
     }
 }
 

@@ -61,9 +61,7 @@ impl<T: Scalar> BigEndian<T> {
     #[must_use]
     #[inline]
     pub fn read_at(bytes: &[u8], offset: usize) -> Option<BigEndian<T>> {
-        let (_, rest) = bytes.split_at_checked(offset)?;
-        let (front, _) = rest.split_at_checked(T::RAW_BYTE_LEN)?;
-        BigEndian::from_slice(front)
+        BigEndian::from_slice(bytes.get(offset..)?.get(..T::RAW_BYTE_LEN)?)
     }
 
     /// Decodes the value.

@@ -36,7 +36,10 @@ impl<const N: usize> BeByteArray for [u8; N] {
 
     #[inline]
     fn from_slice(slice: &[u8]) -> Option<[u8; N]> {
-        slice.try_into().ok()
+        if slice.len() != N {
+            return None;
+        }
+        Some(*slice.first_chunk()?)
     }
 
     #[inline]
@@ -47,6 +50,54 @@ impl<const N: usize> BeByteArray for [u8; N] {
     #[inline]
     fn eq_array(&self, other: &[u8; N]) -> bool {
         self == other
+    }
+}
+
+/// Byte arrays that a slice of bytes can be split into, without a copy: `[u8; N]`.
+///
+/// A [`ScalarArray`](crate::ScalarArray) is made of bytes, compared and shown as bytes if the raw
+/// bytes of its scalar are such arrays. Generic functions that do so name the bound.
+///
+/// ```
+/// use font_types_proved::{ByteChunks, Scalar, ScalarArray};
+/// fn first<T: Scalar>(data: &[u8]) -> Option<T>
+/// where
+///     T::Raw: ByteChunks,
+/// {
+///     ScalarArray::<T>::new(data)?.first()
+/// }
+/// assert_eq!(first::<u16>(&[1, 0, 2, 0]), Some(256));
+/// ```
+///
+/// # Laws
+///
+/// Rattle proves these of every implementation; rustc checks none of them.
+///
+/// - `as_chunks` splits a slice into as many arrays as it has bytes for, and the bytes after them.
+///   If `LEN` is 0, there are no arrays, and all bytes are left.
+/// - `as_flattened` returns the bytes of the arrays, in order.
+pub trait ByteChunks: BeByteArray {
+    /// Splits a slice into arrays, from its start, and the bytes that are left.
+    #[must_use]
+    fn as_chunks(bytes: &[u8]) -> (&[Self], &[u8]);
+
+    /// Returns the bytes of the arrays.
+    #[must_use]
+    fn as_flattened(arrays: &[Self]) -> &[u8];
+}
+
+impl<const N: usize> ByteChunks for [u8; N] {
+    #[inline]
+    fn as_chunks(bytes: &[u8]) -> (&[[u8; N]], &[u8]) {
+        if N == 0 {
+            return (&[], bytes);
+        }
+        bytes.as_chunks()
+    }
+
+    #[inline]
+    fn as_flattened(arrays: &[[u8; N]]) -> &[u8] {
+        arrays.as_flattened()
     }
 }
 
@@ -115,9 +166,7 @@ pub trait Scalar: FixedSize {
     #[must_use]
     #[inline]
     fn read_at(bytes: &[u8], offset: usize) -> Option<Self> {
-        let (_, rest) = bytes.split_at_checked(offset)?;
-        let (front, _) = rest.split_at_checked(Self::RAW_BYTE_LEN)?;
-        Self::read(front)
+        Self::read(bytes.get(offset..)?.get(..Self::RAW_BYTE_LEN)?)
     }
 }
 

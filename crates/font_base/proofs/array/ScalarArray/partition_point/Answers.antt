@@ -1,15 +1,14 @@
 use Rattle.std.proofs.Common.{rules}
-use Rattle.font_base.specs.Elements.{side}
-use Rattle.font_base.proofs.Elements.{no_side}
-use Rattle.font_base.proofs.array.ScalarArray.partition_point.Goals.{in-Ok, in-Ok-2}
+use Rattle.std.proofs.lemmas.Fn.{always_returns_same}
+use Rattle.font_base.proofs.Searched.{parted}
 use Rattle.font_base.proofs.array.ScalarArray.partition_point.Goals as goal
 
 pub returns-clause-place : goal.returns-clause-place
 returns-clause-place g c = λ before computes.
-    elim c.match-binary_search_by.branch [
-      | in-Ok w ↦
-          let found = (w.in-Ok.ensures.place (λ v. side (before v)) (λ v o post. search (rules, computes, post))).1 in
-          absurd (no_side (before found.value) found.holds)
-      | in-Ok-2 w ↦ rw w.result-is
-          (w.in-Ok.ensures.place (λ v. side (before v)) (λ v o post. search (rules, computes, post)))
-    ]
+    let std = c.partition_point in
+    let scalar = g.T.Scalar in
+    let raw = g.T.Raw.BeByteArray in
+    parted scalar.is_scalar raw.is_value scalar.of_raw scalar.raw_of raw.bytes raw.LEN g.T.FixedSize.RAW_BYTE_LEN
+    g.met.T.Scalar.laws g.met.T.Raw.BeByteArray.same_bytes c.args.self.now.raw.now c.args.self.now.are_raw
+    before std.result std.ensures.bound (std.ensures.partitioned (λ raw. before (g.T.Scalar.of_raw raw))
+    (always_returns_same _ _ _ (λ a r f' k. search (rules, computes, k))))
