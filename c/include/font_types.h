@@ -1,9 +1,11 @@
-/*
- * Fixed-point numbers, matrices, fields, tags and sums of deltas of OpenType fonts.
+/**
+ * @file
+ * Fixed-point numbers, matrices, tags, sums of deltas and big-endian fields of OpenType fonts.
  * For C99 and later, and for C++11 and later. Link with libfont_types.
  *
- * Each function that the library exports has a contract that is proved; the comments
- * below state it.
+ * Each function that the library exports, in the first part below, has a contract that is
+ * proved; its comment states it. The static inline functions in the second part, which read
+ * fields and round to integers, are C: they are tested, not proved.
  *
  * A number is a raw value with a number of fraction bits f: the int32_t 98304 is
  * 98304 / 2^16 = 1.5 in 16.16, for which f is 16. f is from 6 to 30, and at most the
@@ -13,16 +15,18 @@
  * of its type, or as many as the comment says. "Half up" rounds ties toward positive
  * infinity; "half away from zero" to the greater magnitude.
  *
- * A function that can fail returns a font_status, and stores its result at its last
- * argument. If it fails, it leaves all memory unchanged, except that
- * font_tag_validate stores the index of the invalid byte.
+ * A function that can fail returns a font_status, and stores its result where its last
+ * argument points; what writes text stores the text at `out`, and its length there. If
+ * two errors apply, the status is the first that the comment lists. If a function fails,
+ * it leaves all memory unchanged, except that font_tag_validate stores the index of the
+ * invalid byte.
  *
  * Pointers must be valid for the length that goes with them (1 for a single value),
  * aligned, and not null, even if the call fails. A pointer whose length is 0 may be
  * null (this is tested, not proved). What a call writes must not overlap its other
- * arguments. Strings are bytes with a length: a terminating NUL is neither needed
- * nor written. Functions allocate nothing, keep nothing between calls and may be
- * called from any thread.
+ * arguments. Strings are bytes with a length: a terminating NUL is not needed, and none
+ * is written, so print them by "%.*s". Functions allocate nothing, keep nothing between
+ * calls and may be called from any thread.
  */
 #ifndef FONT_TYPES_H
 #define FONT_TYPES_H
@@ -31,10 +35,10 @@
 #include <stdint.h>
 
 /** The version of this header. */
-#define FONT_TYPES_VERSION "0.4.0"
+#define FONT_TYPES_VERSION "0.5.0"
 
 /** The same as a number, major << 16 | minor << 8 | patch: later versions are greater. */
-#define FONT_TYPES_VERSION_NUMBER 0x000400
+#define FONT_TYPES_VERSION_NUMBER 0x000500
 
 #ifdef __cplusplus
 #define FONT_API_NOEXCEPT noexcept
@@ -48,9 +52,10 @@
 #define FONT_API_CONST
 #define FONT_API_MUST_USE
 #endif
-/* A function of its arguments alone, and one that can fail. */
-#define FONT_PURE(RESULT) FONT_API_MUST_USE FONT_API_CONST RESULT
-#define FONT_FALLIBLE FONT_API_MUST_USE font_status
+/* A function of its arguments alone, one that can fail, and one in C. */
+#define FONT_PURE FONT_API_MUST_USE FONT_API_CONST
+#define FONT_FALLIBLE FONT_API_MUST_USE
+#define FONT_INLINE static inline
 
 #ifdef __cplusplus
 extern "C" {
@@ -58,22 +63,26 @@ extern "C" {
 
 /** The result of a call that can fail. */
 typedef enum font_status {
-    FONT_OK = 0,            /**< the result was stored */
+    FONT_OK = 0,            /**< success: the result was stored */
     FONT_NO_DECIMAL = 1,    /**< the text is not a decimal */
     FONT_OUT_OF_RANGE = 2,  /**< the result does not fit in its type */
     FONT_BAD_FRACTION = 3,  /**< fraction bits below 6, above 30, or above the width less 2 */
     FONT_NO_ROOM = 4,       /**< the buffer is shorter than the text */
     FONT_BAD_PAD = 5,       /**< `fill` is 0x80 or above, or `align` is not a font_align */
-    FONT_OUT_OF_BOUNDS = 6, /**< the field is not within the bytes */
+    FONT_OUT_OF_BOUNDS = 6, /**< the field, or the array, is not within the bytes */
     FONT_OTHER_COUNT = 7,   /**< the number of scalars differs from the number of deltas */
     FONT_TOO_MANY = 8,      /**< more than 65,535 scalars for a delta set */
-    FONT_LONG_WORDS = 9,    /**< the delta set has deltas of 32 bits */
-    FONT_TAG_LENGTH = 10,   /**< wrong number of bytes; for validate, also four spaces */
-    FONT_TAG_BYTE = 11,     /**< a byte outside 0x20 to 0x7E, or a leading space */
-    FONT_TAG_AFTER_SPACE = 12 /**< for validate only: a printable byte after a space */
+    /* 9 was the status of delta sets with deltas of 32 bits until 0.4 */
+    FONT_TAG_LENGTH = 10,   /**< not 1 to 4 bytes; from font_tag_validate: four spaces */
+    FONT_TAG_BYTE = 11,     /**< a byte outside 0x20 to 0x7E, or a leading space; from
+                                 font_tag_new also a printable byte after a space */
+    FONT_TAG_AFTER_SPACE = 12 /**< from font_tag_validate: a printable byte after a space */
 } font_status;
 
-/** Fraction bits of the formats of OpenType, for int16_t, int32_t or int64_t. */
+/**
+ * Fraction bits of formats that fonts and their tools use. OpenType has data types for 16.16
+ * (Fixed) and 2.14 (F2DOT14).
+ */
 enum {
     FONT_F2DOT14_BITS = 14, /**< 2.14, int16_t */
     FONT_F4DOT12_BITS = 12, /**< 4.12, int16_t */
@@ -85,31 +94,41 @@ enum {
 };
 
 /** The version of the linked library, as FONT_TYPES_VERSION_NUMBER. */
-FONT_PURE(uint32_t) font_types_version(void) FONT_API_NOEXCEPT;
+FONT_PURE uint32_t font_types_version(void) FONT_API_NOEXCEPT;
 
 /* ---- decimal text: `-` if negative, digits, and optionally a point and digits ---- */
 
-/** Parses a decimal of any length as the nearest 16-bit raw value, half away from zero. */
-FONT_FALLIBLE font_parse_i16(const char *text, size_t length, uint32_t fraction_bits,
-                             int16_t *bits) FONT_API_NOEXCEPT;
+/**
+ * Parses a decimal of any length as the nearest 16-bit raw value, half away from zero.
+ * Fails by FONT_BAD_FRACTION, FONT_NO_DECIMAL, FONT_OUT_OF_RANGE.
+ */
+FONT_FALLIBLE font_status font_parse_i16(const char *text, size_t length, uint32_t fraction_bits,
+                                         int16_t *bits) FONT_API_NOEXCEPT;
 
-/** Parses a decimal of any length as the nearest 32-bit raw value, half away from zero. */
-FONT_FALLIBLE font_parse_i32(const char *text, size_t length, uint32_t fraction_bits,
-                             int32_t *bits) FONT_API_NOEXCEPT;
+/**
+ * Parses a decimal of any length as the nearest 32-bit raw value, half away from zero.
+ * Fails by FONT_BAD_FRACTION, FONT_NO_DECIMAL, FONT_OUT_OF_RANGE.
+ */
+FONT_FALLIBLE font_status font_parse_i32(const char *text, size_t length, uint32_t fraction_bits,
+                                         int32_t *bits) FONT_API_NOEXCEPT;
 
-/** Parses a decimal of any length as the nearest 64-bit raw value, half away from zero. */
-FONT_FALLIBLE font_parse_i64(const char *text, size_t length, uint32_t fraction_bits,
-                             int64_t *bits) FONT_API_NOEXCEPT;
+/**
+ * Parses a decimal of any length as the nearest 64-bit raw value, half away from zero.
+ * Fails by FONT_BAD_FRACTION, FONT_NO_DECIMAL, FONT_OUT_OF_RANGE.
+ */
+FONT_FALLIBLE font_status font_parse_i64(const char *text, size_t length, uint32_t fraction_bits,
+                                         int64_t *bits) FONT_API_NOEXCEPT;
 
-/** Room for a decimal, which has at most 22 bytes, and a NUL. */
+/** Room for a decimal, which has at most 22 bytes, and for a NUL, which is not written. */
 enum { FONT_DECIMAL_ROOM = 24 };
 
 /**
  * Writes the shortest decimal that parses back to the raw value; of these, the
- * nearest, and of two, the one farther from zero. Stores its length.
+ * nearest, and of two, the one farther from zero. The raw value may have any width.
+ * Fails by FONT_BAD_FRACTION, FONT_NO_ROOM.
  */
-FONT_FALLIBLE font_format(int64_t bits, uint32_t fraction_bits, char *out, size_t room,
-                          size_t *length) FONT_API_NOEXCEPT;
+FONT_FALLIBLE font_status font_format(int64_t bits, uint32_t fraction_bits, char *out,
+                                      size_t room, size_t *length) FONT_API_NOEXCEPT;
 
 /** The alignment of padded text. */
 typedef enum font_align {
@@ -130,83 +149,59 @@ typedef struct font_pad {
 /** Right-aligned in `WIDTH` bytes, filled with spaces. */
 #define FONT_PAD_INIT(WIDTH) {(WIDTH), ' ', FONT_RIGHT, 0, 0}
 
-/** As font_format, padded. Room for `width` bytes is enough, or for 22 if that is more. */
-FONT_FALLIBLE font_format_padded(int64_t bits, uint32_t fraction_bits, const font_pad *pad,
-                                 char *out, size_t room, size_t *length) FONT_API_NOEXCEPT;
-
-/* ---- rounding to integers, as raw values: FONT_OUT_OF_RANGE if the nearest integer does not
- *      fit, where the Rust types, and 0.3, wrap ---- */
-
-/** Rounds a 16-bit raw value to the nearest integer, half up. */
-FONT_FALLIBLE font_round_i16(int16_t bits, uint32_t fraction_bits,
-                             int16_t *whole) FONT_API_NOEXCEPT;
-
-/** Rounds a 32-bit raw value to the nearest integer, half up. */
-FONT_FALLIBLE font_round_i32(int32_t bits, uint32_t fraction_bits,
-                             int32_t *whole) FONT_API_NOEXCEPT;
-
-/** Rounds a 64-bit raw value to the nearest integer, half up. */
-FONT_FALLIBLE font_round_i64(int64_t bits, uint32_t fraction_bits,
-                             int64_t *whole) FONT_API_NOEXCEPT;
-
-/** Finds the largest integer less than or equal to a 16-bit raw value; it always fits. */
-FONT_FALLIBLE font_floor_i16(int16_t bits, uint32_t fraction_bits,
-                             int16_t *whole) FONT_API_NOEXCEPT;
-
-/** Finds the largest integer less than or equal to a 32-bit raw value; it always fits. */
-FONT_FALLIBLE font_floor_i32(int32_t bits, uint32_t fraction_bits,
-                             int32_t *whole) FONT_API_NOEXCEPT;
-
-/** Finds the largest integer less than or equal to a 64-bit raw value; it always fits. */
-FONT_FALLIBLE font_floor_i64(int64_t bits, uint32_t fraction_bits,
-                             int64_t *whole) FONT_API_NOEXCEPT;
+/**
+ * As font_format, padded. Room for `width` bytes is enough, or for 22 if that is more.
+ * Fails by FONT_BAD_FRACTION, FONT_BAD_PAD, FONT_NO_ROOM.
+ */
+FONT_FALLIBLE font_status font_format_padded(int64_t bits, uint32_t fraction_bits,
+                                             const font_pad *pad, char *out, size_t room,
+                                             size_t *length) FONT_API_NOEXCEPT;
 
 /* ---- products ---- */
 
 /** x * y in 16.16, half away from zero; wraps. */
-FONT_PURE(int32_t) font_fixed_mul(int32_t x, int32_t y) FONT_API_NOEXCEPT;
+FONT_PURE int32_t font_fixed_mul(int32_t x, int32_t y) FONT_API_NOEXCEPT;
 
 /** x / y in 16.16, half away from zero; wraps. If y is 0, INT32_MAX, negated if x is negative. */
-FONT_PURE(int32_t) font_fixed_div(int32_t x, int32_t y) FONT_API_NOEXCEPT;
+FONT_PURE int32_t font_fixed_div(int32_t x, int32_t y) FONT_API_NOEXCEPT;
 
 /**
  * x * a / c, rounded once, half away from zero; wraps. If c is 0, INT32_MAX, negated
  * if exactly one of x and a is negative.
  */
-FONT_PURE(int32_t) font_fixed_mul_div(int32_t x, int32_t a, int32_t c) FONT_API_NOEXCEPT;
+FONT_PURE int32_t font_fixed_mul_div(int32_t x, int32_t a, int32_t c) FONT_API_NOEXCEPT;
 
 /** x * y in 26.6, half away from zero; wraps. */
-FONT_PURE(int32_t) font_f26dot6_mul(int32_t x, int32_t y) FONT_API_NOEXCEPT;
+FONT_PURE int32_t font_f26dot6_mul(int32_t x, int32_t y) FONT_API_NOEXCEPT;
 
 /** x / y in 26.6, half away from zero; wraps. If y is 0, INT32_MAX, negated if x is negative. */
-FONT_PURE(int32_t) font_f26dot6_div(int32_t x, int32_t y) FONT_API_NOEXCEPT;
+FONT_PURE int32_t font_f26dot6_div(int32_t x, int32_t y) FONT_API_NOEXCEPT;
 
-/* ---- conversions to fewer bits, half up; those to more are products in C, as `bits * 4`
- *      from 2.14 to 16.16, and `units * INT64_C(65536)` from font units to 48.16 ---- */
+/* ---- conversions to fewer fraction bits, half up. A nearest integer is an integer here, not a
+ *      raw value: of 1.5, which is 98304 in 16.16, it is 2. Conversions to as many or more fraction
+ *      bits are C, as `bits * 4` from 2.14 to 16.16, `(int32_t)bits` from 48.16 to 16.16, and
+ *      `units * INT64_C(65536)` from font units to 48.16 ---- */
 
 /** 16.16 to the nearest integer; wraps to 16 bits. */
-FONT_PURE(int32_t) font_fixed_to_i32(int32_t bits) FONT_API_NOEXCEPT;
+FONT_PURE int32_t font_fixed_to_i32(int32_t bits) FONT_API_NOEXCEPT;
 
 /** 16.16 to the nearest 26.6; wraps to 22 bits. */
-FONT_PURE(int32_t) font_fixed_to_f26dot6(int32_t bits) FONT_API_NOEXCEPT;
+FONT_PURE int32_t font_fixed_to_f26dot6(int32_t bits) FONT_API_NOEXCEPT;
 
 /** 16.16 to the nearest 2.14; wraps. */
-FONT_PURE(int16_t) font_fixed_to_f2dot14(int32_t bits) FONT_API_NOEXCEPT;
+FONT_PURE int16_t font_fixed_to_f2dot14(int32_t bits) FONT_API_NOEXCEPT;
 
 /** 26.6 to the nearest integer; wraps to 26 bits. */
-FONT_PURE(int32_t) font_f26dot6_to_i32(int32_t bits) FONT_API_NOEXCEPT;
+FONT_PURE int32_t font_f26dot6_to_i32(int32_t bits) FONT_API_NOEXCEPT;
 
 /** 48.16 to the nearest integer; wraps to 48 bits. */
-FONT_PURE(int64_t) font_f48dot16_to_i64(int64_t bits) FONT_API_NOEXCEPT;
-
-/** 48.16 to 16.16, which has as many fraction bits; wraps. */
-FONT_PURE(int32_t) font_f48dot16_to_fixed(int64_t bits) FONT_API_NOEXCEPT;
+FONT_PURE int64_t font_f48dot16_to_i64(int64_t bits) FONT_API_NOEXCEPT;
 
 /** 2.30 to the nearest 16.16. */
-FONT_PURE(int32_t) font_f2dot30_to_fixed(int32_t bits) FONT_API_NOEXCEPT;
+FONT_PURE int32_t font_f2dot30_to_fixed(int32_t bits) FONT_API_NOEXCEPT;
 
 /** 2.30 to the nearest 2.14; wraps. */
-FONT_PURE(int16_t) font_f2dot30_to_f2dot14(int32_t bits) FONT_API_NOEXCEPT;
+FONT_PURE int16_t font_f2dot30_to_f2dot14(int32_t bits) FONT_API_NOEXCEPT;
 
 /* ---- matrices and points of 16.16 values: products are font_fixed_mul, sums wrap ---- */
 
@@ -227,83 +222,54 @@ typedef struct font_point {
 /**
  * The matrix that applies b first, then a. If neither an element of the product nor a
  * coordinate of the image of p by the product overflows, each coordinate of that image
- * is at most (|p.x| + |p.y|) / 65536 + 2 from the exact one, all as raw values.
+ * is at most (|p.x| + |p.y|) / 65536 + 2 from the exact one, all as raw values. (This is
+ * proved of the two calls: `composed` of crates/font_c.)
  */
-FONT_PURE(font_matrix) font_matrix_product(font_matrix a, font_matrix b) FONT_API_NOEXCEPT;
+FONT_PURE font_matrix font_matrix_product(font_matrix a, font_matrix b) FONT_API_NOEXCEPT;
 
 /**
  * Transforms a point. If a point is transformed by b, and the result by a, and no
  * coordinate of either overflows, x is at most (|a.xx| + |a.xy|) / 65536 + 1 from the
- * exact one, and y at most (|a.yx| + |a.yy|) / 65536 + 1, all as raw values.
+ * exact one, and y at most (|a.yx| + |a.yy|) / 65536 + 1, all as raw values. (This is
+ * proved of the two calls: `in_turn` of crates/font_c.)
  */
-FONT_PURE(font_point) font_matrix_image(font_matrix m, font_point p) FONT_API_NOEXCEPT;
+FONT_PURE font_point font_matrix_image(font_matrix m, font_point p) FONT_API_NOEXCEPT;
 
 /** Transforms a vector, without the translation. */
-FONT_PURE(font_point) font_matrix_vector(font_matrix m, font_point v) FONT_API_NOEXCEPT;
+FONT_PURE font_point font_matrix_vector(font_matrix m, font_point v) FONT_API_NOEXCEPT;
 
 /** Transforms points in place, each as font_matrix_image does. */
-void font_matrix_images(const font_matrix *m, font_point *points, size_t count) FONT_API_NOEXCEPT;
+void font_matrix_images(const font_matrix *m, font_point *points,
+                        size_t count) FONT_API_NOEXCEPT;
 
 /* ---- sums of deltas: scalars are 16.16, deltas font units, sums 48.16 ---- */
 
-/** The exact sum of scalar times delta over all items, even if partial sums overflow. */
-FONT_FALLIBLE font_delta_sum(const int32_t *scalars, size_t scalar_count, const int32_t *deltas,
-                             size_t delta_count, int64_t *sum) FONT_API_NOEXCEPT;
+/**
+ * The exact sum of scalar times delta over all items, even if partial sums overflow.
+ * Fails by FONT_OTHER_COUNT, FONT_OUT_OF_RANGE.
+ */
+FONT_FALLIBLE font_status font_delta_sum(const int32_t *scalars, size_t scalar_count,
+                                         const int32_t *deltas, size_t delta_count,
+                                         int64_t *sum) FONT_API_NOEXCEPT;
 
 /**
- * The same over a delta set of an item variation store, which fits in 64 bits: the set
- * has `word_count` deltas of 16 bits, followed by deltas of 8 bits, in as many bytes as
- * these take. `word_count` is the field of the font; if its bit 0x8000 is set, the
- * deltas have 32 and 16 bits, and the status is FONT_LONG_WORDS.
+ * The same over a delta set of an item variation store. `word_count` is the field of the
+ * font: the set has as many deltas of 16 bits as its low 15 bits say, followed by deltas
+ * of 8 bits, or of 32 and of 16 bits if its bit 0x8000 is set. The set has exactly the
+ * bytes that these take, for as many deltas as there are scalars.
+ * Fails by FONT_TOO_MANY, FONT_OTHER_COUNT, and FONT_OUT_OF_RANGE if bit 0x8000 is set.
  */
-FONT_FALLIBLE font_delta_set_sum(const int32_t *scalars, size_t scalar_count, const uint8_t *set,
-                                 size_t set_length, uint16_t word_count,
-                                 int64_t *sum) FONT_API_NOEXCEPT;
+FONT_FALLIBLE font_status font_delta_set_sum(const int32_t *scalars, size_t scalar_count,
+                                             const uint8_t *set, size_t set_length,
+                                             uint16_t word_count, int64_t *sum) FONT_API_NOEXCEPT;
 
-/** Font units plus a 48.16 delta, rounded to the nearest font unit, half up. */
-FONT_FALLIBLE font_apply_delta_i16(int16_t base, int64_t delta, int16_t *units) FONT_API_NOEXCEPT;
+/** Font units plus a 48.16 delta, to the nearest font unit, half up, or FONT_OUT_OF_RANGE. */
+FONT_FALLIBLE font_status font_apply_delta_i16(int16_t base, int64_t delta,
+                                               int16_t *units) FONT_API_NOEXCEPT;
 
 /** Unsigned font units, as advances are, plus a 48.16 delta, rounded in the same way. */
-FONT_FALLIBLE font_apply_delta_u16(uint16_t base, int64_t delta,
-                                   uint16_t *units) FONT_API_NOEXCEPT;
-
-/* ---- big-endian fields at a byte offset ---- */
-
-/** Reads a uint8. */
-FONT_FALLIBLE font_read_u8(const uint8_t *bytes, size_t length, size_t offset,
-                           uint8_t *value) FONT_API_NOEXCEPT;
-
-/** Reads an int8. */
-FONT_FALLIBLE font_read_i8(const uint8_t *bytes, size_t length, size_t offset,
-                           int8_t *value) FONT_API_NOEXCEPT;
-
-/** Reads a uint16. */
-FONT_FALLIBLE font_read_u16(const uint8_t *bytes, size_t length, size_t offset,
-                            uint16_t *value) FONT_API_NOEXCEPT;
-
-/** Reads an int16. */
-FONT_FALLIBLE font_read_i16(const uint8_t *bytes, size_t length, size_t offset,
-                            int16_t *value) FONT_API_NOEXCEPT;
-
-/** Reads a uint24. */
-FONT_FALLIBLE font_read_u24(const uint8_t *bytes, size_t length, size_t offset,
-                            uint32_t *value) FONT_API_NOEXCEPT;
-
-/** Reads an int24. */
-FONT_FALLIBLE font_read_i24(const uint8_t *bytes, size_t length, size_t offset,
-                            int32_t *value) FONT_API_NOEXCEPT;
-
-/** Reads a uint32. */
-FONT_FALLIBLE font_read_u32(const uint8_t *bytes, size_t length, size_t offset,
-                            uint32_t *value) FONT_API_NOEXCEPT;
-
-/** Reads an int32. */
-FONT_FALLIBLE font_read_i32(const uint8_t *bytes, size_t length, size_t offset,
-                            int32_t *value) FONT_API_NOEXCEPT;
-
-/** Reads an int64. */
-FONT_FALLIBLE font_read_i64(const uint8_t *bytes, size_t length, size_t offset,
-                            int64_t *value) FONT_API_NOEXCEPT;
+FONT_FALLIBLE font_status font_apply_delta_u16(uint16_t base, int64_t delta,
+                                               uint16_t *units) FONT_API_NOEXCEPT;
 
 /* ---- tags, as numbers with the big-endian bytes of the tag ---- */
 
@@ -312,65 +278,240 @@ FONT_FALLIBLE font_read_i64(const uint8_t *bytes, size_t length, size_t offset,
     ((uint32_t)(uint8_t)(A) << 24 | (uint32_t)(uint8_t)(B) << 16 | (uint32_t)(uint8_t)(C) << 8 \
      | (uint32_t)(uint8_t)(D))
 
-/** Room for the text of a tag, which has at most 24 bytes, and a NUL. */
+/** Room for the text of a tag, which has at most 24 bytes, and for a NUL, which is not written. */
 enum { FONT_TAG_ROOM = 25 };
 
-/** Creates a valid tag from one to four bytes, padding with spaces. */
-FONT_FALLIBLE font_tag_new(const char *text, size_t length, uint32_t *tag) FONT_API_NOEXCEPT;
+/**
+ * Creates a valid tag from one to four bytes, padding with spaces.
+ * Fails by FONT_TAG_LENGTH, FONT_TAG_BYTE.
+ */
+FONT_FALLIBLE font_status font_tag_new(const char *text, size_t length,
+                                       uint32_t *tag) FONT_API_NOEXCEPT;
 
-/** Checks the four bytes of a tag. Stores the index of the first invalid byte, if one is. */
-FONT_FALLIBLE font_tag_validate(const char *text, size_t length,
-                                uint32_t *position) FONT_API_NOEXCEPT;
+/**
+ * Checks a tag, and stores nothing if it is valid. Fails by FONT_TAG_LENGTH for four
+ * spaces; else by FONT_TAG_BYTE or FONT_TAG_AFTER_SPACE, by what is wrong with the first
+ * invalid byte, whose index, 0 to 3, is stored.
+ */
+FONT_FALLIBLE font_status font_tag_validate(uint32_t tag, uint32_t *position) FONT_API_NOEXCEPT;
 
-/** Writes the text of a tag, and stores its length: bytes 0x20 to 0x7E as they are, else {0xNN}. */
-FONT_FALLIBLE font_tag_to_text(uint32_t tag, char *out, size_t room,
-                               size_t *length) FONT_API_NOEXCEPT;
+/** Writes the text of a tag: bytes 0x20 to 0x7E as they are, else {0xNN}; or FONT_NO_ROOM. */
+FONT_FALLIBLE font_status font_tag_to_text(uint32_t tag, char *out, size_t room,
+                                           size_t *length) FONT_API_NOEXCEPT;
 
 #ifdef __cplusplus
 }
 #endif
 
-/* ---- what the library does not export ---- */
+/* ---- the second part, in C: tested, not proved ---- */
 
-/*
- * The functions of one format, with its type and fraction bits:
- * font_NAME_parse(text, length, &bits), font_NAME_format(bits, out, room, &length),
- * font_NAME_format_padded(bits, &pad, out, room, &length), font_NAME_round(bits, &whole)
- * and font_NAME_floor(bits, &whole).
+/* ---- big-endian fields at a byte offset, or FONT_OUT_OF_BOUNDS ---- */
+
+/* Whether an array of items is within bytes, from an offset on. */
+static inline int font_api_within(size_t length, size_t offset, size_t count, size_t size) {
+    return offset <= length && count <= (length - offset) / size;
+}
+
+/* The number of two bytes, and of four. */
+static inline uint32_t font_api_two(const uint8_t *at) { return (uint32_t)at[0] << 8 | at[1]; }
+
+static inline uint32_t font_api_four(const uint8_t *at) {
+    return (uint32_t)at[0] << 24 | (uint32_t)at[1] << 16 | (uint32_t)at[2] << 8 | at[3];
+}
+
+/**
+ * Stores a pointer to an array of `count` items of `size` bytes, or to `count` bytes if
+ * `size` is 1. `size` must not be 0. The pointer is null if `bytes` is, and `count` is 0.
  */
-#define FONT_API_FORMAT(NAME, WIDTH, FRACTION_BITS)                                     \
-    static inline FONT_FALLIBLE font_##NAME##_parse(                                    \
-        const char *text, size_t length, int##WIDTH##_t *bits) FONT_API_NOEXCEPT {      \
-        return font_parse_i##WIDTH(text, length, FRACTION_BITS, bits);                  \
-    }                                                                                   \
-    static inline FONT_FALLIBLE font_##NAME##_format(                                   \
-        int##WIDTH##_t bits, char *out, size_t room, size_t *length) FONT_API_NOEXCEPT {\
-        return font_format(bits, FRACTION_BITS, out, room, length);                     \
-    }                                                                                   \
-    static inline FONT_FALLIBLE font_##NAME##_format_padded(                            \
-        int##WIDTH##_t bits, const font_pad *pad, char *out, size_t room,               \
-        size_t *length) FONT_API_NOEXCEPT {                                             \
-        return font_format_padded(bits, FRACTION_BITS, pad, out, room, length);         \
-    }                                                                                   \
-    static inline FONT_FALLIBLE font_##NAME##_round(                                    \
-        int##WIDTH##_t bits, int##WIDTH##_t *whole) FONT_API_NOEXCEPT {                 \
-        return font_round_i##WIDTH(bits, FRACTION_BITS, whole);                         \
-    }                                                                                   \
-    static inline FONT_FALLIBLE font_##NAME##_floor(                                    \
-        int##WIDTH##_t bits, int##WIDTH##_t *whole) FONT_API_NOEXCEPT {                 \
-        return font_floor_i##WIDTH(bits, FRACTION_BITS, whole);                         \
-    }
+FONT_INLINE FONT_FALLIBLE font_status font_read_array(
+    const uint8_t *bytes, size_t length, size_t offset, size_t count, size_t size,
+    const uint8_t **items) FONT_API_NOEXCEPT {
+    if (!font_api_within(length, offset, count, size))
+        return FONT_OUT_OF_BOUNDS;
+    *items = bytes == NULL ? NULL : bytes + offset;
+    return FONT_OK;
+}
 
-FONT_API_FORMAT(f2dot14, 16, FONT_F2DOT14_BITS)
-FONT_API_FORMAT(f4dot12, 16, FONT_F4DOT12_BITS)
-FONT_API_FORMAT(f6dot10, 16, FONT_F6DOT10_BITS)
-FONT_API_FORMAT(fixed, 32, FONT_FIXED_BITS)
-FONT_API_FORMAT(f26dot6, 32, FONT_F26DOT6_BITS)
-FONT_API_FORMAT(f2dot30, 32, FONT_F2DOT30_BITS)
-FONT_API_FORMAT(f48dot16, 64, FONT_F48DOT16_BITS)
+/** Reads a uint8. */
+FONT_INLINE FONT_FALLIBLE font_status font_read_u8(
+    const uint8_t *bytes, size_t length, size_t offset, uint8_t *value) FONT_API_NOEXCEPT {
+    if (!font_api_within(length, offset, 1, 1))
+        return FONT_OUT_OF_BOUNDS;
+    *value = bytes[offset];
+    return FONT_OK;
+}
+
+/** Reads an int8. */
+FONT_INLINE FONT_FALLIBLE font_status font_read_i8(
+    const uint8_t *bytes, size_t length, size_t offset, int8_t *value) FONT_API_NOEXCEPT {
+    if (!font_api_within(length, offset, 1, 1))
+        return FONT_OUT_OF_BOUNDS;
+    *value = (int8_t)bytes[offset];
+    return FONT_OK;
+}
+
+/** Reads a uint16. */
+FONT_INLINE FONT_FALLIBLE font_status font_read_u16(
+    const uint8_t *bytes, size_t length, size_t offset, uint16_t *value) FONT_API_NOEXCEPT {
+    if (!font_api_within(length, offset, 1, 2))
+        return FONT_OUT_OF_BOUNDS;
+    *value = (uint16_t)font_api_two(bytes + offset);
+    return FONT_OK;
+}
+
+/** Reads an int16. */
+FONT_INLINE FONT_FALLIBLE font_status font_read_i16(
+    const uint8_t *bytes, size_t length, size_t offset, int16_t *value) FONT_API_NOEXCEPT {
+    if (!font_api_within(length, offset, 1, 2))
+        return FONT_OUT_OF_BOUNDS;
+    *value = (int16_t)font_api_two(bytes + offset);
+    return FONT_OK;
+}
+
+/** Reads a uint24. */
+FONT_INLINE FONT_FALLIBLE font_status font_read_u24(
+    const uint8_t *bytes, size_t length, size_t offset, uint32_t *value) FONT_API_NOEXCEPT {
+    if (!font_api_within(length, offset, 1, 3))
+        return FONT_OUT_OF_BOUNDS;
+    *value = font_api_two(bytes + offset) << 8 | bytes[offset + 2];
+    return FONT_OK;
+}
+
+/** Reads an int24. */
+FONT_INLINE FONT_FALLIBLE font_status font_read_i24(
+    const uint8_t *bytes, size_t length, size_t offset, int32_t *value) FONT_API_NOEXCEPT {
+    if (!font_api_within(length, offset, 1, 3))
+        return FONT_OUT_OF_BOUNDS;
+    *value = (int16_t)font_api_two(bytes + offset) * 256 + bytes[offset + 2];
+    return FONT_OK;
+}
+
+/** Reads a uint32. */
+FONT_INLINE FONT_FALLIBLE font_status font_read_u32(
+    const uint8_t *bytes, size_t length, size_t offset, uint32_t *value) FONT_API_NOEXCEPT {
+    if (!font_api_within(length, offset, 1, 4))
+        return FONT_OUT_OF_BOUNDS;
+    *value = font_api_four(bytes + offset);
+    return FONT_OK;
+}
+
+/** Reads an int32. */
+FONT_INLINE FONT_FALLIBLE font_status font_read_i32(
+    const uint8_t *bytes, size_t length, size_t offset, int32_t *value) FONT_API_NOEXCEPT {
+    if (!font_api_within(length, offset, 1, 4))
+        return FONT_OUT_OF_BOUNDS;
+    *value = (int32_t)font_api_four(bytes + offset);
+    return FONT_OK;
+}
+
+/** Reads an int64. */
+FONT_INLINE FONT_FALLIBLE font_status font_read_i64(
+    const uint8_t *bytes, size_t length, size_t offset, int64_t *value) FONT_API_NOEXCEPT {
+    if (!font_api_within(length, offset, 1, 8))
+        return FONT_OUT_OF_BOUNDS;
+    const uint64_t high = font_api_four(bytes + offset);
+    *value = (int64_t)(high << 32 | font_api_four(bytes + offset + 4));
+    return FONT_OK;
+}
+
+/* ---- rounding to integers, half up. The result is a raw value too: of 1.5, which is 98304 in
+ *      16.16, it is 131072. Fails by FONT_BAD_FRACTION, or by FONT_OUT_OF_RANGE if the nearest
+ *      integer does not fit, where the Rust types wrap ---- */
+
+/** Rounds a 16-bit raw value to the raw value of the nearest integer. */
+FONT_INLINE FONT_FALLIBLE font_status font_round_i16(
+    int16_t bits, uint32_t fraction_bits, int16_t *whole) FONT_API_NOEXCEPT {
+    if (fraction_bits < 6 || fraction_bits > 14)
+        return FONT_BAD_FRACTION;
+    const int32_t half = INT32_C(1) << (fraction_bits - 1);
+    if (bits > INT16_MAX - half)
+        return FONT_OUT_OF_RANGE;
+    *whole = (int16_t)((bits + half) & -2 * half);
+    return FONT_OK;
+}
+
+/** Rounds a 32-bit raw value to the raw value of the nearest integer. */
+FONT_INLINE FONT_FALLIBLE font_status font_round_i32(
+    int32_t bits, uint32_t fraction_bits, int32_t *whole) FONT_API_NOEXCEPT {
+    if (fraction_bits < 6 || fraction_bits > 30)
+        return FONT_BAD_FRACTION;
+    const int32_t half = INT32_C(1) << (fraction_bits - 1);
+    if (bits > INT32_MAX - half)
+        return FONT_OUT_OF_RANGE;
+    *whole = (bits + half) & -2 * half;
+    return FONT_OK;
+}
+
+/** Rounds a 64-bit raw value to the raw value of the nearest integer. */
+FONT_INLINE FONT_FALLIBLE font_status font_round_i64(
+    int64_t bits, uint32_t fraction_bits, int64_t *whole) FONT_API_NOEXCEPT {
+    if (fraction_bits < 6 || fraction_bits > 30)
+        return FONT_BAD_FRACTION;
+    const int64_t half = INT64_C(1) << (fraction_bits - 1);
+    if (bits > INT64_MAX - half)
+        return FONT_OUT_OF_RANGE;
+    *whole = (bits + half) & -2 * half;
+    return FONT_OK;
+}
+
+/* ---- the functions of three formats, with their types and fraction bits ---- */
+
+/** font_parse_i32 of 16.16. */
+FONT_INLINE FONT_FALLIBLE font_status font_fixed_parse(
+    const char *text, size_t length, int32_t *bits) FONT_API_NOEXCEPT {
+    return font_parse_i32(text, length, FONT_FIXED_BITS, bits);
+}
+
+/** font_format of 16.16. */
+FONT_INLINE FONT_FALLIBLE font_status font_fixed_format(
+    int32_t bits, char *out, size_t room, size_t *length) FONT_API_NOEXCEPT {
+    return font_format(bits, FONT_FIXED_BITS, out, room, length);
+}
+
+/** font_format_padded of 16.16. */
+FONT_INLINE FONT_FALLIBLE font_status font_fixed_format_padded(
+    int32_t bits, const font_pad *pad, char *out, size_t room, size_t *length) FONT_API_NOEXCEPT {
+    return font_format_padded(bits, FONT_FIXED_BITS, pad, out, room, length);
+}
+
+/** font_parse_i16 of 2.14. */
+FONT_INLINE FONT_FALLIBLE font_status font_f2dot14_parse(
+    const char *text, size_t length, int16_t *bits) FONT_API_NOEXCEPT {
+    return font_parse_i16(text, length, FONT_F2DOT14_BITS, bits);
+}
+
+/** font_format of 2.14. */
+FONT_INLINE FONT_FALLIBLE font_status font_f2dot14_format(
+    int16_t bits, char *out, size_t room, size_t *length) FONT_API_NOEXCEPT {
+    return font_format(bits, FONT_F2DOT14_BITS, out, room, length);
+}
+
+/** font_format_padded of 2.14. */
+FONT_INLINE FONT_FALLIBLE font_status font_f2dot14_format_padded(
+    int16_t bits, const font_pad *pad, char *out, size_t room, size_t *length) FONT_API_NOEXCEPT {
+    return font_format_padded(bits, FONT_F2DOT14_BITS, pad, out, room, length);
+}
+
+/** font_parse_i32 of 26.6. */
+FONT_INLINE FONT_FALLIBLE font_status font_f26dot6_parse(
+    const char *text, size_t length, int32_t *bits) FONT_API_NOEXCEPT {
+    return font_parse_i32(text, length, FONT_F26DOT6_BITS, bits);
+}
+
+/** font_format of 26.6. */
+FONT_INLINE FONT_FALLIBLE font_status font_f26dot6_format(
+    int32_t bits, char *out, size_t room, size_t *length) FONT_API_NOEXCEPT {
+    return font_format(bits, FONT_F26DOT6_BITS, out, room, length);
+}
+
+/** font_format_padded of 26.6. */
+FONT_INLINE FONT_FALLIBLE font_status font_f26dot6_format_padded(
+    int32_t bits, const font_pad *pad, char *out, size_t room, size_t *length) FONT_API_NOEXCEPT {
+    return font_format_padded(bits, FONT_F26DOT6_BITS, pad, out, room, length);
+}
 
 /** The meaning of a status, in words. */
-static inline const char *font_status_text(font_status status) FONT_API_NOEXCEPT {
+FONT_INLINE const char *font_status_text(font_status status) FONT_API_NOEXCEPT {
     switch (status) {
     case FONT_OK: return "done";
     case FONT_NO_DECIMAL: return "not a decimal number";
@@ -381,7 +522,6 @@ static inline const char *font_status_text(font_status status) FONT_API_NOEXCEPT
     case FONT_OUT_OF_BOUNDS: return "field out of bounds";
     case FONT_OTHER_COUNT: return "different numbers of scalars and deltas";
     case FONT_TOO_MANY: return "too many scalars";
-    case FONT_LONG_WORDS: return "delta set with deltas of 32 bits";
     case FONT_TAG_LENGTH: return "wrong length of a tag";
     case FONT_TAG_BYTE: return "invalid byte in a tag";
     case FONT_TAG_AFTER_SPACE: return "printable byte after a space in a tag";
@@ -403,11 +543,11 @@ FONT_API_ASSERT(offsetof(font_pad, fill) == sizeof(size_t));
 #undef FONT_API_ASSERT
 #endif
 
-#undef FONT_API_FORMAT
 #undef FONT_API_NOEXCEPT
 #undef FONT_API_CONST
 #undef FONT_API_MUST_USE
 #undef FONT_PURE
 #undef FONT_FALLIBLE
+#undef FONT_INLINE
 
 #endif

@@ -1,4 +1,4 @@
-/* Runs the lines of README.md in place of exports of 0.3, at the limits of their types. */
+/* Runs the lines of README.md for sums and conversions, at the limits of their types. */
 #include "font_types.h"
 
 #include <stdio.h>
@@ -38,6 +38,7 @@ static wide fract(int fraction_bits, wide number) {
     check("opposite", opposite, wrap(WIDTH, -(wide)x));                     \
     check("magnitude", magnitude, wrap(WIDTH, x < 0 ? -(wide)x : x));       \
     check("fraction", fraction, fract(FRACTION_BITS, x));                   \
+    check("largest", largest, (wide)x - fract(FRACTION_BITS, x));           \
     check("fits", fits, total == wrap(WIDTH, total));                       \
     check("most", most, saturate(WIDTH, total));                            \
     check("least", least, saturate(WIDTH, left))
@@ -66,6 +67,7 @@ static void check_64(int64_t x, int64_t y) {
 #include "lines_64.inc"
     CHECK_EACH(64, 16);
     check("number", number, wrap(64, (wide)x * 65536));
+    check("in_16_16", in_16_16, wrap(32, x));
     check("integer", integer, wrap(32, ((wide)x + 32768 - fract(16, (wide)x + 32768)) / 65536));
 }
 

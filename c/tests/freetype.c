@@ -7,6 +7,7 @@
 
 #include <freetype/freetype.h>
 #include <freetype/ftglyph.h>
+#include <freetype/ftoutln.h>
 #include <stdio.h>
 #include <stdlib.h>
 
@@ -36,7 +37,25 @@ static void check(const char *name, int32_t ours, FT_Long theirs, int32_t x, int
                (int)theirs);
 }
 
-int main(void) {
+/* Two points by a random matrix, as FT_Outline_Transform and font_matrix_images move them. */
+static void check_outline(int32_t x, int32_t y) {
+    const FT_Matrix a = {any(), any(), any(), any()};
+    const font_matrix m = {(int32_t)a.xx, (int32_t)a.yx, (int32_t)a.xy, (int32_t)a.yy, 0, 0};
+    FT_Vector vectors[] = {{x, y}, {y, x}};
+    font_point points[] = {{x, y}, {y, x}};
+    FT_Outline outline = {0, 2, vectors, NULL, NULL, 0};
+    FT_Outline_Transform(&outline, &a);
+    font_matrix_images(&m, points, 2);
+    for (int i = 0; i < 2; i++) {
+        check("images.x", points[i].x, vectors[i].x, x, y, i);
+        check("images.y", points[i].y, vectors[i].y, x, y, i);
+    }
+}
+
+int main(int count, char **arguments) {
+    /* With an argument, a value that is wrong. */
+    if (count > 1)
+        check(arguments[1], 1, 2, 0, 0, 0);
     for (int i = 0; i < ROUNDS; i++) {
         int32_t x = any(), y = any(), z = any();
         check("mul", font_fixed_mul(x, y), FT_MulFix(x, y), x, y, 0);
@@ -45,9 +64,8 @@ int main(void) {
 #include "freetype.inc"
         check("ceil", ceiling, FT_CeilFix(x), x, 0, 0);
         check("round", rounded, FT_RoundFix(x), x, 0, 0);
-        int32_t floor;
-        if (font_fixed_floor(x, &floor) == FONT_OK)
-            check("floor", floor, FT_FloorFix(x), x, 0, 0);
+        check("floor", largest, FT_FloorFix(x), x, 0, 0);
+        check_outline(x, y);
         FT_Matrix a = {any(), any(), any(), any()}, b = {any(), any(), any(), any()};
         font_matrix m = {(int32_t)a.xx, (int32_t)a.yx, (int32_t)a.xy, (int32_t)a.yy, 0, 0};
         font_matrix n = {(int32_t)b.xx, (int32_t)b.yx, (int32_t)b.xy, (int32_t)b.yy, 0, 0};
@@ -62,10 +80,6 @@ int main(void) {
         FT_Vector_Transform(&v, &a);
         check("vector.x", p.x, v.x, x, y, z);
         check("vector.y", p.y, v.y, x, y, z);
-        font_point points[] = {{x, y}};
-        font_matrix_images(&m, points, 1);
-        check("images.x", points[0].x, v.x, x, y, z);
-        check("images.y", points[0].y, v.y, x, y, z);
     }
     printf("compared with FreeType: %d rounds, %d differences\n", ROUNDS, failed);
     return failed == 0 ? 0 : 1;

@@ -1,6 +1,7 @@
 /*
- * Calls each export, in C and in C++. Expected values are exact: rational arithmetic,
- * rounded and wrapped as font_types.h says.
+ * Calls each export, and each inline function of three formats, in C and in C++. Expected
+ * values are exact: rational arithmetic, rounded and wrapped as font_types.h says.
+ * header.c calls the other inline functions.
  */
 #include "font_types.h"
 
@@ -69,10 +70,10 @@ static void check_error(const char *table, size_t row, struct result found, font
 typedef char values[FONT_OK == 0 && FONT_NO_DECIMAL == 1 && FONT_OUT_OF_RANGE == 2
                             && FONT_BAD_FRACTION == 3 && FONT_NO_ROOM == 4 && FONT_BAD_PAD == 5
                             && FONT_OUT_OF_BOUNDS == 6 && FONT_OTHER_COUNT == 7
-                            && FONT_TOO_MANY == 8 && FONT_LONG_WORDS == 9 && FONT_TAG_LENGTH == 10
+                            && FONT_TOO_MANY == 8 && FONT_TAG_LENGTH == 10
                             && FONT_TAG_BYTE == 11 && FONT_TAG_AFTER_SPACE == 12 && FONT_LEFT == 0
                             && FONT_CENTER == 1 && FONT_RIGHT == 2 && FONT_DECIMAL_ROOM == 24
-                            && FONT_TAG_ROOM == 25 && FONT_TYPES_VERSION_NUMBER == 0x000400
+                            && FONT_TAG_ROOM == 25 && FONT_TYPES_VERSION_NUMBER == 0x000500
                             && FONT_TAG('c', 'v', 't', ' ') == 0x63767420
                         ? 1
                         : -1];
@@ -93,7 +94,8 @@ static sum_deltas *const delta_sum = font_delta_sum;
 static sum_set *const delta_set_sum = font_delta_set_sum;
 static font_status (*const apply_i16)(int16_t, int64_t, int16_t *) = font_apply_delta_i16;
 static font_status (*const apply_u16)(uint16_t, int64_t, uint16_t *) = font_apply_delta_u16;
-static make_tag *const tag_new = font_tag_new, *const tag_validate = font_tag_validate;
+static make_tag *const tag_new = font_tag_new;
+static font_status (*const tag_validate)(uint32_t, uint32_t *) = font_tag_validate;
 static font_status (*const tag_to_text)(uint32_t, char *, size_t, size_t *) = font_tag_to_text;
 static uint32_t (*const version)(void) = font_types_version;
 
@@ -102,7 +104,7 @@ static void check_header(void) {
         "done", "not a decimal number", "result out of range",
         "unsupported number of fraction bits", "buffer too small", "invalid padding",
         "field out of bounds", "different numbers of scalars and deltas", "too many scalars",
-        "delta set with deltas of 32 bits", "wrong length of a tag", "invalid byte in a tag",
+        "unknown status", "wrong length of a tag", "invalid byte in a tag",
         "printable byte after a space in a tag", "unknown status",
     };
     for (size_t i = 0; i < COUNT(texts); i++) {
@@ -116,41 +118,69 @@ static void check_header(void) {
     check("FONT_PAD_INIT", 0, "plus", pad.plus, 0);
     check("FONT_PAD_INIT", 0, "zeros", pad.zeros, 0);
     check("version", 0, "number", version(), FONT_TYPES_VERSION_NUMBER);
-    check_text("version", 0, FONT_TYPES_VERSION, strlen(FONT_TYPES_VERSION), "0.4.0");
+    check_text("version", 0, FONT_TYPES_VERSION, strlen(FONT_TYPES_VERSION), "0.5.0");
 }
 
-/* ---- fixed-point types, by the functions of the header that have the name of one ---- */
+/* ---- fixed-point types: a width, and fraction bits ---- */
+
+static font_status (*const parse_16)(const char *, size_t, uint32_t, int16_t *) = font_parse_i16;
+static font_status (*const parse_32)(const char *, size_t, uint32_t, int32_t *) = font_parse_i32;
+static font_status (*const parse_64)(const char *, size_t, uint32_t, int64_t *) = font_parse_i64;
+
+#define PARSED(WIDTH)                                                                          \
+    RESULT(parsed_##WIDTH, int##WIDTH##_t, (const char *text, size_t length, uint32_t f),      \
+           parse_##WIDTH(text, length, f, &place))
+
+PARSED(16)
+PARSED(32)
+PARSED(64)
 
 struct type {
+    int width;
+    uint32_t fraction_bits;
+};
+
+static const struct type f2dot14 = {16, FONT_F2DOT14_BITS}, f4dot12 = {16, FONT_F4DOT12_BITS},
+                         f6dot10 = {16, FONT_F6DOT10_BITS}, fixed = {32, FONT_FIXED_BITS},
+                         f26dot6 = {32, FONT_F26DOT6_BITS}, f2dot30 = {32, FONT_F2DOT30_BITS},
+                         f48dot16 = {64, FONT_F48DOT16_BITS};
+
+static struct result parse(const struct type *type, const char *text, size_t length) {
+    return type->width == 16   ? parsed_16(text, length, type->fraction_bits)
+           : type->width == 32 ? parsed_32(text, length, type->fraction_bits)
+                               : parsed_64(text, length, type->fraction_bits);
+}
+
+/* The functions of the header that have the name of a format. */
+struct named {
+    const struct type *type;
     struct result (*parse)(const char *, size_t);
     font_status (*format)(int64_t, char *, size_t, size_t *);
     font_status (*format_padded)(int64_t, const font_pad *, char *, size_t, size_t *);
-    struct result (*round)(int64_t);
-    struct result (*floor)(int64_t);
 };
 
-#define TYPE(NAME, BITS)                                                                       \
-    RESULT(NAME##_parse, BITS, (const char *text, size_t length),                              \
-           font_##NAME##_parse(text, length, &place))                                          \
-    RESULT(NAME##_round, BITS, (int64_t bits), font_##NAME##_round((BITS)bits, &place))        \
-    RESULT(NAME##_floor, BITS, (int64_t bits), font_##NAME##_floor((BITS)bits, &place))        \
+#define NAMED(NAME, BITS, PARSE, FORMAT, FORMAT_PADDED)                                        \
+    RESULT(NAME##_parse, BITS, (const char *text, size_t length), PARSE(text, length, &place)) \
     static font_status NAME##_format(int64_t bits, char *out, size_t room, size_t *length) {   \
-        return font_##NAME##_format((BITS)bits, out, room, length);                            \
+        return FORMAT((BITS)bits, out, room, length);                                          \
     }                                                                                          \
     static font_status NAME##_padded(int64_t bits, const font_pad *pad, char *out,             \
                                      size_t room, size_t *length) {                            \
-        return font_##NAME##_format_padded((BITS)bits, pad, out, room, length);                \
+        return FORMAT_PADDED((BITS)bits, pad, out, room, length);                              \
     }                                                                                          \
-    static const struct type NAME = {NAME##_parse, NAME##_format, NAME##_padded, NAME##_round, \
-                                     NAME##_floor};
+    static const struct named named_##NAME = {&NAME, NAME##_parse, NAME##_format, NAME##_padded};
 
-TYPE(f2dot14, int16_t)
-TYPE(f4dot12, int16_t)
-TYPE(f6dot10, int16_t)
-TYPE(fixed, int32_t)
-TYPE(f26dot6, int32_t)
-TYPE(f2dot30, int32_t)
-TYPE(f48dot16, int64_t)
+NAMED(fixed, int32_t, font_fixed_parse, font_fixed_format, font_fixed_format_padded)
+NAMED(f2dot14, int16_t, font_f2dot14_parse, font_f2dot14_format, font_f2dot14_format_padded)
+NAMED(f26dot6, int32_t, font_f26dot6_parse, font_f26dot6_format, font_f26dot6_format_padded)
+
+/* The named functions of a type, or null. */
+static const struct named *named_as(const struct type *type) {
+    return type == &fixed     ? &named_fixed
+           : type == &f2dot14 ? &named_f2dot14
+           : type == &f26dot6 ? &named_f26dot6
+                              : NULL;
+}
 
 /* Raw values, and the text that each is formatted as, and that is parsed as it. */
 static const struct {
@@ -218,44 +248,17 @@ static const struct {
     {&f48dot16, INT64_MIN, {12, '.', FONT_RIGHT, 0, 0}, "-140737488355328"},
 };
 
-/* Raw values, rounded to the nearest integer, and down. */
-static const struct {
-    const struct type *type;
-    int64_t bits;
-    struct result nearest;
-    int64_t floor;
-} rounded[] = {
-    {&f2dot14, 8192, {FONT_OK, 16384}, 0},
-    {&f4dot12, 2048, {FONT_OK, 4096}, 0},
-    {&f6dot10, 512, {FONT_OK, 1024}, 0},
-    {&fixed, 32768, {FONT_OK, 65536}, 0},
-    {&f26dot6, 32, {FONT_OK, 64}, 0},
-    {&f2dot30, 536870912, {FONT_OK, 1073741824}, 0},
-    {&f48dot16, 32768, {FONT_OK, 65536}, 0},
-    {&f2dot14, -8192, {FONT_OK, 0}, -16384},
-    {&f2dot14, -32768, {FONT_OK, -32768}, -32768},
-    {&f2dot14, 24575, {FONT_OK, 16384}, 16384},
-    {&f2dot14, 24576, {FONT_OUT_OF_RANGE, KEPT}, 16384},
-    {&fixed, -32768, {FONT_OK, 0}, -65536},
-    {&fixed, INT32_MIN, {FONT_OK, INT32_MIN}, INT32_MIN},
-    {&fixed, 2147450879, {FONT_OK, 2147418112}, 2147418112},
-    {&fixed, 2147450880, {FONT_OUT_OF_RANGE, KEPT}, 2147418112},
-    {&f48dot16, -32768, {FONT_OK, 0}, -65536},
-    {&f48dot16, INT64_MIN, {FONT_OK, INT64_MIN}, INT64_MIN},
-    {&f48dot16, INT64_C(9223372036854743039), {FONT_OK, INT64_C(9223372036854710272)},
-     INT64_C(9223372036854710272)},
-    {&f48dot16, INT64_C(9223372036854743040), {FONT_OUT_OF_RANGE, KEPT},
-     INT64_C(9223372036854710272)},
-};
-
 /* Writes a decimal, padded if `pad` is not null, or the text of a tag if `type` is null. */
 static font_status write_text(const struct type *type, int64_t bits, const font_pad *pad,
                               char *out, size_t room, size_t *length) {
     if (type == NULL)
         return tag_to_text((uint32_t)bits, out, room, length);
+    const struct named *named = named_as(type);
     if (pad == NULL)
-        return type->format(bits, out, room, length);
-    return type->format_padded(bits, pad, out, room, length);
+        return named == NULL ? format(bits, type->fraction_bits, out, room, length)
+                             : named->format(bits, out, room, length);
+    return named == NULL ? format_padded(bits, type->fraction_bits, pad, out, room, length)
+                         : named->format_padded(bits, pad, out, room, length);
 }
 
 /* Checks the text that write_text writes to a buffer of its length, and the error of one less. */
@@ -278,16 +281,20 @@ static void check_parsed(void) {
         const char *text = formatted[i].text;
         const struct type *type = formatted[i].type;
         check_written("formatted", i, type, formatted[i].bits, NULL, text);
-        check_value("formatted", i, type->parse(text, strlen(text)), formatted[i].bits);
+        check_value("formatted", i, parse(type, text, strlen(text)), formatted[i].bits);
+        if (named_as(type) != NULL)
+            check_value("formatted, by name", i, named_as(type)->parse(text, strlen(text)),
+                        formatted[i].bits);
     }
     for (size_t i = 0; i < COUNT(parsed); i++) {
         const char *text = parsed[i].text;
-        check_result("parsed", i, parsed[i].type->parse(text, strlen(text)), parsed[i].expected);
+        const struct type *type = parsed[i].type;
+        check_result("parsed", i, parse(type, text, strlen(text)), parsed[i].expected);
     }
     char digits[302] = "-";
     memset(digits + 1, '0', 299);
     digits[300] = '1';
-    check_value("parsed, long", 0, fixed.parse(digits, 301), -65536);
+    check_value("parsed, long", 0, parse(&fixed, digits, 301), -65536);
 }
 
 /* A buffer for calls that must leave it unchanged if they fail. */
@@ -299,6 +306,15 @@ RESULT(padded_zero, size_t, (const font_pad *pad, uint32_t fraction_bits),
 static void check_padded(void) {
     for (size_t i = 0; i < COUNT(padded); i++)
         check_written("padded", i, padded[i].type, padded[i].bits, &padded[i].pad, padded[i].text);
+    /* By the names of the members. */
+    font_pad members[4] = {FONT_PAD_INIT(6), FONT_PAD_INIT(6), FONT_PAD_INIT(6), FONT_PAD_INIT(6)};
+    members[0].plus = 1;
+    members[1].zeros = 1;
+    members[2].align = FONT_LEFT;
+    members[3].fill = '*';
+    static const char *const texts[] = {"  +1.5", "0001.5", "1.5   ", "***1.5"};
+    for (size_t i = 0; i < COUNT(members); i++)
+        check_written("members of a pad", i, &fixed, 98304, &members[i], texts[i]);
     static const font_pad invalid[] = {
         {4, 0x80, 0, 0, 0}, {4, 0xFF, 2, 0, 0}, {4, ' ', 3, 0, 0}, {4, ' ', 255, 0, 0}};
     for (size_t i = 0; i < COUNT(invalid); i++) {
@@ -308,27 +324,11 @@ static void check_padded(void) {
     }
 }
 
-static void check_rounded(void) {
-    for (size_t i = 0; i < COUNT(rounded); i++) {
-        check_result("nearest", i, rounded[i].type->round(rounded[i].bits), rounded[i].nearest);
-        check_value("floor", i, rounded[i].type->floor(rounded[i].bits), rounded[i].floor);
-    }
-}
-
 /* ---- the fraction bits that values of a width may have ---- */
 
-#define ZERO(WIDTH, BITS)                                                                      \
-    static font_status (*const parse_##WIDTH)(const char *, size_t, uint32_t, BITS *) =        \
-        font_parse_i##WIDTH;                                                                   \
-    static font_status (*const round_##WIDTH)(BITS, uint32_t, BITS *) = font_round_i##WIDTH;   \
-    static font_status (*const floor_##WIDTH)(BITS, uint32_t, BITS *) = font_floor_i##WIDTH;   \
-    RESULT(zero_parsed_##WIDTH, BITS, (uint32_t f), parse_##WIDTH("0", 1, f, &place))          \
-    RESULT(zero_rounded_##WIDTH, BITS, (uint32_t f), round_##WIDTH(0, f, &place))              \
-    RESULT(zero_floor_##WIDTH, BITS, (uint32_t f), floor_##WIDTH(0, f, &place))
-
-ZERO(16, int16_t)
-ZERO(32, int32_t)
-ZERO(64, int64_t)
+static struct result zero_parsed_16(uint32_t f) { return parsed_16("0", 1, f); }
+static struct result zero_parsed_32(uint32_t f) { return parsed_32("0", 1, f); }
+static struct result zero_parsed_64(uint32_t f) { return parsed_64("0", 1, f); }
 static const font_pad three_bytes = FONT_PAD_INIT(3);
 RESULT(zero_formatted, size_t, (uint32_t f), format(0, f, written, BUFFER, &place))
 static struct result zero_padded(uint32_t f) {
@@ -341,9 +341,7 @@ static const struct {
     int width;
     int64_t value;
 } zeros[] = {
-    {zero_parsed_16, 16, 0}, {zero_rounded_16, 16, 0}, {zero_floor_16, 16, 0},
-    {zero_parsed_32, 32, 0}, {zero_rounded_32, 32, 0}, {zero_floor_32, 32, 0},
-    {zero_parsed_64, 64, 0}, {zero_rounded_64, 64, 0}, {zero_floor_64, 64, 0},
+    {zero_parsed_16, 16, 0}, {zero_parsed_32, 32, 0}, {zero_parsed_64, 64, 0},
     {zero_formatted, 64, 1}, {zero_padded, 64, 3},
 };
 
@@ -367,6 +365,51 @@ static void check_fractions(void) {
                 check("other fractions", i, "buffer", written[0], KEPT);
             }
         }
+    }
+}
+
+/* The greatest values of each width, with 6 fraction bits and more. */
+static const char *const greatest_16[] = {
+    "511.98", "255.99", "127.996", "63.998", "31.999", "15.9995", "7.9998", "3.9999", "1.99994",
+};
+static const char *const greatest_32[] = {
+    "33554431.98", "16777215.99", "8388607.996", "4194303.998", "2097151.999", "1048575.9995",
+    "524287.9998", "262143.9999", "131071.99994", "65535.99997", "32767.99998", "16383.99999",
+    "8191.999996", "4095.999998", "2047.999999", "1023.9999995", "511.9999998", "255.9999999",
+    "127.99999994", "63.99999997", "31.99999999", "15.99999999", "7.999999996", "3.999999998",
+    "1.999999999",
+};
+static const char *const greatest_64[] = {
+    "144115188075855871.98", "72057594037927935.99", "36028797018963967.996",
+    "18014398509481983.998", "9007199254740991.999", "4503599627370495.9995",
+    "2251799813685247.9998", "1125899906842623.9999", "562949953421311.99994",
+    "281474976710655.99997", "140737488355327.99998", "70368744177663.99999",
+    "35184372088831.999996", "17592186044415.999998", "8796093022207.999999",
+    "4398046511103.9999995", "2199023255551.9999998", "1099511627775.9999999",
+    "549755813887.99999994", "274877906943.99999997", "137438953471.99999999",
+    "68719476735.99999999", "34359738367.999999996", "17179869183.999999998",
+    "8589934591.999999999",
+};
+
+/* With each number of fraction bits: 1.5, its negative, and both ends. */
+static void check_ends(int width, uint32_t most, const char *const *greatest) {
+    for (uint32_t f = 6; f <= most; f++) {
+        const struct type type = {width, f};
+        const int64_t half = INT64_C(1) << (f - 1), top = INT64_MAX >> (64 - width);
+        char least[BUFFER];
+        snprintf(least, sizeof least, "-%lld", (long long)(top >> f) + 1);
+        const struct {
+            int64_t bits;
+            const char *text;
+        } rows[] = {
+            {3 * half, "1.5"}, {-3 * half, "-1.5"}, {-1 - top, least}, {top, greatest[f - 6]}};
+        for (size_t i = 0; i < COUNT(rows); i++) {
+            const char *text = rows[i].text;
+            check_value("ends", f, parse(&type, text, strlen(text)), rows[i].bits);
+            check_written("ends", f, &type, rows[i].bits, NULL, text);
+        }
+        check_error("above the end", f, parse(&type, least + 1, strlen(least + 1)),
+                    FONT_OUT_OF_RANGE);
     }
 }
 
@@ -420,7 +463,6 @@ NARROWED(fixed_to_f26dot6, int32_t, int32_t)
 NARROWED(fixed_to_f2dot14, int32_t, int16_t)
 NARROWED(f26dot6_to_i32, int32_t, int32_t)
 NARROWED(f48dot16_to_i64, int64_t, int64_t)
-NARROWED(f48dot16_to_fixed, int64_t, int32_t)
 NARROWED(f2dot30_to_fixed, int32_t, int32_t)
 NARROWED(f2dot30_to_f2dot14, int32_t, int16_t)
 
@@ -438,7 +480,6 @@ static const struct {
     {f26dot6_to_i32, INT32_MAX, -33554432},
     {f48dot16_to_i64, -32768, 0},
     {f48dot16_to_i64, INT64_MAX, INT64_C(-140737488355328)},
-    {f48dot16_to_fixed, INT64_MAX, -1},
     {f2dot30_to_fixed, -8192, 0},
     {f2dot30_to_fixed, 2147475456, 131072},
     {f2dot30_to_f2dot14, -32768, 0},
@@ -492,6 +533,12 @@ static void check_matrices(void) {
         check_point("images", i, image(matrices[i].a, matrices[i].p), matrices[i].image);
         check_point("vectors", i, vector_image(matrices[i].a, matrices[i].p), matrices[i].vector);
     }
+    /* By the names of the members. */
+    font_matrix members = {0, 0, 0, 0, 0, 0};
+    members.xx = 65536, members.yx = 131072, members.xy = 196608, members.yy = 262144;
+    members.dx = 5, members.dy = 7;
+    const font_point of_members = {10, 100}, right = {315, 427};
+    check_point("members of a matrix", 0, image(members, of_members), right);
     font_matrix slanted = {65536, 0, 0, 65536, 10, -10};
     slanted.xy = 32768;
     font_point points[71];
@@ -546,8 +593,25 @@ static const struct {
     {1, "\x01\x2C\xFD", 3, 3, {65536, 32768, 1}, {FONT_OTHER_COUNT, KEPT}},
     {1, "\x01\x2C\xFD\x05", 4, 2, {65536, 32768}, {FONT_OTHER_COUNT, KEPT}},
     {2, "\x01\x2C\xFD", 3, 1, {65536}, {FONT_OTHER_COUNT, KEPT}},
-    {0x8000, "\x00\x01", 2, 1, {65536}, {FONT_LONG_WORDS, KEPT}},
-    {0xffff, "", 0, 0, {0}, {FONT_LONG_WORDS, KEPT}},
+    {0, "", 0, 0, {0}, {FONT_OK, 0}},
+    /* long words */
+    {0x8000, "\x00\x01", 2, 1, {65536}, {FONT_OK, 65536}},
+    {0x8001, "\x80\x00\x00\x00\xFF\xFD", 6, 2, {1, 65536}, {FONT_OK, -INT64_C(0x80030000)}},
+    {0x8002, "\x00\x01\x86\xA0\xFF\xFE\x79\x60\x80\x00\x7F\xFF", 12, 4,
+     {65536, 32768, 65536, -1}, {FONT_OK, INT64_C(1129283585)}},
+    {0x8002, "\x80\x00\x00\x00\x80\x00\x00\x00", 8, 2, {INT32_MIN, INT32_MIN},
+     {FONT_OUT_OF_RANGE, KEPT}},
+    {0x8003, "\x80\x00\x00\x00\x80\x00\x00\x00\xFF\xFF\xFF\xFF", 12, 3,
+     {INT32_MIN, INT32_MIN, 1}, {FONT_OK, INT64_MAX}},
+    {0x8002, "\x80\x00\x00\x00\x80\x00\x00\x00\x00\x02", 10, 3, {INT32_MAX, INT32_MAX, INT32_MIN},
+     {FONT_OK, INT64_MIN}},
+    {0x8002, "\x80\x00\x00\x00\x80\x00\x00\x00\x00\x02\xFF\xFF", 12, 4,
+     {INT32_MAX, INT32_MAX, INT32_MIN, 1}, {FONT_OUT_OF_RANGE, KEPT}},
+    {0x8001, "\x00\x00\x01", 3, 1, {65536}, {FONT_OTHER_COUNT, KEPT}},
+    {0x8001, "\x00\x00\x00\x01\x02", 5, 1, {65536}, {FONT_OTHER_COUNT, KEPT}},
+    {0x8001, "\x00\x01\x02", 3, 2, {65536, 1}, {FONT_OTHER_COUNT, KEPT}},
+    {0x8002, "\x00\x00\x00\x01", 4, 1, {65536}, {FONT_OTHER_COUNT, KEPT}},
+    {0xffff, "", 0, 0, {0}, {FONT_OTHER_COUNT, KEPT}},
 };
 
 /* A base in font units, plus a delta. */
@@ -601,7 +665,7 @@ static void check_sets(void) {
     }
     /* As many scalars as a font can have, each with the least delta, and one more. */
     static int32_t scalars[MOST_SCALARS + 1];
-    static uint8_t bytes[MOST_SCALARS + 1 + 0x7FFF];
+    static uint8_t bytes[2 * (MOST_SCALARS + 1)];
     for (size_t i = 0; i < COUNT(scalars); i++)
         scalars[i] = INT32_MIN;
     memset(bytes, 0x80, sizeof bytes);
@@ -612,6 +676,12 @@ static void check_sets(void) {
                 (INT64_C(0x7FFF) * 0x7F80 + INT64_C(0x8000) * 0x80) << 31);
     check_error("many scalars", 2,
                 sum_of_set(scalars, MOST_SCALARS + 1, bytes, MOST_SCALARS + 1, 0), FONT_TOO_MANY);
+    check_error("many scalars", 3,
+                sum_of_set(scalars, MOST_SCALARS + 1, bytes, 2 * (MOST_SCALARS + 1), 0x8000),
+                FONT_TOO_MANY);
+    check_value("many scalars", 4,
+                sum_of_set(scalars, MOST_SCALARS, bytes, 2 * MOST_SCALARS, 0x8000),
+                INT64_C(65535) * 0x7F80 << 31);
 }
 
 static void check_applied(void) {
@@ -620,69 +690,12 @@ static void check_applied(void) {
                      applied[i].units);
 }
 
-/* ---- fields ---- */
-
-typedef struct result read_field(const uint8_t *, size_t, size_t);
-
-#define READ(NAME, VALUE)                                                                      \
-    static font_status (*const export_##NAME)(const uint8_t *, size_t, size_t, VALUE *) =      \
-        font_read_##NAME;                                                                      \
-    RESULT(read_##NAME, VALUE, (const uint8_t *bytes, size_t length, size_t offset),           \
-           export_##NAME(bytes, length, offset, &place))
-
-READ(u8, uint8_t)
-READ(i8, int8_t)
-READ(u16, uint16_t)
-READ(i16, int16_t)
-READ(u24, uint32_t)
-READ(i24, int32_t)
-READ(u32, uint32_t)
-READ(i32, int32_t)
-READ(i64, int64_t)
-
-/* Bytes at the offsets 65 and 256, and the fields there. */
-static const char at_65[] = "\xE3\x06\x29\x4C\x6F\x92\xB5\xD8";
-static const char at_256[] = "\x01\x24\x47\x6A\x8D\xB0\xD3\xF6";
-static const struct {
-    read_field *read;
-    size_t length;
-    int64_t at_65, at_256;
-} fields[] = {
-    {read_u8, 1, 0xE3, 0x01},
-    {read_i8, 1, 0xE3 - 0x100, 0x01},
-    {read_u16, 2, 0xE306, 0x0124},
-    {read_i16, 2, 0xE306 - 0x10000, 0x0124},
-    {read_u24, 3, 0xE30629, 0x012447},
-    {read_i24, 3, 0xE30629 - 0x1000000, 0x012447},
-    {read_u32, 4, 0xE306294C, 0x0124476A},
-    {read_i32, 4, 0xE306294C - INT64_C(0x100000000), 0x0124476A},
-    {read_i64, 8, -INT64_C(0x1CF9D6B3906D4A28), INT64_C(0x0124476A8DB0D3F6)},
-};
-
-static void check_fields(void) {
-    uint8_t bytes[264] = {0};
-    memcpy(bytes + 65, at_65, 8);
-    memcpy(bytes + 256, at_256, 8);
-    for (size_t i = 0; i < COUNT(fields); i++) {
-        const size_t length = fields[i].length;
-        read_field *const read = fields[i].read;
-        check_value("fields at 65", i, read(bytes, 65 + length, 65), fields[i].at_65);
-        check_value("fields at 256", i, read(bytes, 256 + length, 256), fields[i].at_256);
-        check_error("one byte less", i, read(bytes, 255 + length, 256), FONT_OUT_OF_BOUNDS);
-        check_error("no byte", i, read(bytes, 12, 12), FONT_OUT_OF_BOUNDS);
-        check_error("after the end", i, read(bytes, 12, 13), FONT_OUT_OF_BOUNDS);
-        check_error("end above SIZE_MAX", i, read(bytes, 8, SIZE_MAX - length / 2),
-                    FONT_OUT_OF_BOUNDS);
-        check_error("null", i, read(NULL, 0, 0), FONT_OUT_OF_BOUNDS);
-    }
-}
-
 /* ---- tags ---- */
 
 RESULT(new_tag, uint32_t, (const char *text, size_t length), tag_new(text, length, &place))
-RESULT(validated, uint32_t, (const char *text, size_t length), tag_validate(text, length, &place))
+RESULT(validated, uint32_t, (uint32_t tag), tag_validate(tag, &place))
 
-/* The tag that is created; the index that validation stores; and the text of four bytes. */
+/* The tag that is created; the index that validation of four bytes stores; and their text. */
 static const struct {
     const char *bytes;
     size_t length;
@@ -691,9 +704,9 @@ static const struct {
 } tags[] = {
     {"cvt ", 4, {FONT_OK, 0x63767420}, {FONT_OK, KEPT}, "cvt "},
     {"~~~~", 4, {FONT_OK, 0x7E7E7E7E}, {FONT_OK, KEPT}, "~~~~"},
-    {"a", 1, {FONT_OK, 0x61202020}, {FONT_TAG_LENGTH, KEPT}, NULL},
-    {"  ", 2, {FONT_TAG_BYTE, KEPT}, {FONT_TAG_LENGTH, KEPT}, NULL},
-    {"GSUB ", 5, {FONT_TAG_LENGTH, KEPT}, {FONT_TAG_LENGTH, KEPT}, NULL},
+    {"a", 1, {FONT_OK, 0x61202020}, {FONT_OK, 0}, NULL},
+    {"  ", 2, {FONT_TAG_BYTE, KEPT}, {FONT_OK, 0}, NULL},
+    {"GSUB ", 5, {FONT_TAG_LENGTH, KEPT}, {FONT_OK, 0}, NULL},
     {"    ", 4, {FONT_TAG_BYTE, KEPT}, {FONT_TAG_LENGTH, KEPT}, "    "},
     {" ABC", 4, {FONT_TAG_BYTE, KEPT}, {FONT_TAG_BYTE, 0}, " ABC"},
     {"cvt\012", 4, {FONT_TAG_BYTE, KEPT}, {FONT_TAG_BYTE, 3}, "cvt{0x0A}"},
@@ -707,10 +720,10 @@ static void check_tags(void) {
     for (size_t i = 0; i < COUNT(tags); i++) {
         const char *bytes = tags[i].bytes;
         check_result("created tags", i, new_tag(bytes, tags[i].length), tags[i].created);
-        check_result("validated tags", i, validated(bytes, tags[i].length), tags[i].validated);
         if (tags[i].text == NULL)
             continue;
         const uint32_t tag = FONT_TAG(bytes[0], bytes[1], bytes[2], bytes[3]);
+        check_result("validated tags", i, validated(tag), tags[i].validated);
         check_written("tags", i, NULL, tag, NULL, tags[i].text);
     }
 }
@@ -723,7 +736,7 @@ static void check_nulls(void) {
     size_t length = KEPT;
     static const struct type *const types[] = {&f2dot14, &fixed, &f48dot16};
     for (size_t i = 0; i < COUNT(types); i++)
-        check_error("null text", i, types[i]->parse(NULL, 0), FONT_NO_DECIMAL);
+        check_error("null text", i, parse(types[i], NULL, 0), FONT_NO_DECIMAL);
     check("nulls", 0, "format", write_text(&fixed, 0, NULL, NULL, 0, &length), FONT_NO_ROOM);
     check("nulls", 0, "padded", write_text(&fixed, 0, &pad, NULL, 0, &length), FONT_NO_ROOM);
     check("nulls", 0, "tag", write_text(NULL, 0, NULL, NULL, 0, &length), FONT_NO_ROOM);
@@ -732,22 +745,37 @@ static void check_nulls(void) {
     check_value("null set", 0, sum_of_set(NULL, 0, NULL, 0, 0), 0);
     images(&identity, NULL, 0);
     check_error("null tag", 0, new_tag(NULL, 0), FONT_TAG_LENGTH);
-    check_error("null tag", 1, validated(NULL, 0), FONT_TAG_LENGTH);
 }
 
-int main(void) {
+/* Values that are wrong, in one way each, so that a check of them has to fail. */
+static void check_wrong(int way) {
+    const struct result stored = {FONT_NO_ROOM, 0};
+    switch (way) {
+    case 1: check("wrong", 1, "value", 1, 2); break;
+    case 2: check("wrong", 2, "value", 2, 1); break;
+    case 3: check_text("wrong", 3, "1.4", 3, "1.5"); break;
+    case 4: check_text("wrong", 4, "1.6", 3, "1.5"); break;
+    case 5: check_text("wrong", 5, "1.5", 3, "1.50"); break;
+    default: check_error("wrong", 6, stored, FONT_NO_ROOM);
+    }
+}
+
+int main(int count, char **arguments) {
+    if (count > 1)
+        check_wrong(arguments[1][0] - '0');
     check_header();
     check_parsed();
     check_padded();
-    check_rounded();
     check_fractions();
+    check_ends(16, 14, greatest_16);
+    check_ends(32, 30, greatest_32);
+    check_ends(64, 30, greatest_64);
     check_products();
     check_narrowed();
     check_matrices();
     check_sums();
     check_sets();
     check_applied();
-    check_fields();
     check_tags();
     check_nulls();
     printf("%d checks, %d failed\n", checks, failures);

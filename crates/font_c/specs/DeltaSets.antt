@@ -1,36 +1,42 @@
--- Delta sets of item variation stores. (OpenType, item variation stores: a delta set has `wordDeltaCount` deltas of 16
--- bits, followed by deltas of 8 bits.) The statuses are the project's own.
-use Rattle.std.specs.Prelude.{◌≡◌, ◌+◌, ◌*◌, ◌^◌, ◌<◌, ◌≤◌, ℕ, zero, suc, ℤ, pos, ◌+ℤ◌, ◌*ℤ◌, List, length, take, drop}
-use Rattle.std.specs.Prelude.{nat_lt, if◌then◌else◌, slice_index_or}
+-- Delta sets of item variation stores. (OpenType, item variation stores: a delta set has as many deltas of 16 bits as
+-- the low 15 bits of `wordDeltaCount` say, followed by deltas of 8 bits; or of 32 and of 16 bits, if its bit 0x8000 is
+-- set.) The statuses are the project's own.
+use Rattle.std.specs.Prelude.{◌≡◌, ◌+◌, ◌-◌, ◌*◌, ◌^◌, ◌<◌, ◌≤◌, ℕ, zero, suc, ℤ, pos, ◌+ℤ◌, ◌*ℤ◌, List, length}
+use Rattle.std.specs.Prelude.{nat_lt, if◌then◌else◌, slice_index_or, take, drop}
 use Rattle.font_types.specs.Bytes.{signed_numeral}
-use Rattle.font_c.specs.Status.{long_words, other_count, too_many}
+use Rattle.font_c.specs.Status.{other_count, too_many, StoresExact}
 
--- the delta at an index of a delta set with this number of words
-abbrev pub delta_at : ℕ → List ℕ → ℕ → ℤ
-delta_at words set index =
-    if nat_lt index words then signed_numeral 2 (take 2 (drop (2 * index) set))
-    else signed_numeral 1 (take 1 (drop (words + index) set))
+-- the delta at an index of a delta set whose first deltas, as many as `words`, have `wide` bytes, and the others
+-- `narrow`
+abbrev pub delta_at : ℕ → ℕ → ℕ → List ℕ → ℕ → ℤ
+delta_at wide narrow words set index =
+    if nat_lt index words then signed_numeral wide (take wide (drop (wide * index) set))
+    else signed_numeral narrow (take narrow (drop (wide * words + narrow * (index - words)) set))
 
 -- the exact sum of the first n products of scalars and deltas
-unfoldable pub first_products : ℕ → List ℕ → List ℤ → ℕ → ℤ
-first_products words set scalars zero = pos 0
-first_products words set scalars (suc n) =
-    first_products words set scalars n +ℤ (slice_index_or scalars n (pos 0) *ℤ delta_at words set n)
+unfoldable pub first_products : ℕ → ℕ → ℕ → List ℕ → List ℤ → ℕ → ℤ
+first_products wide narrow words set scalars zero = pos 0
+first_products wide narrow words set scalars (suc n) =
+    first_products wide narrow words set scalars n
+    +ℤ (slice_index_or scalars n (pos 0) *ℤ delta_at wide narrow words set n)
 
 -- the exact sum of all products of scalars and deltas
-abbrev pub set_sum : ℕ → List ℕ → List ℤ → ℤ
-set_sum words set scalars = first_products words set scalars (length scalars)
+abbrev pub set_sum : ℕ → ℕ → ℕ → List ℕ → List ℤ → ℤ
+set_sum wide narrow words set scalars = first_products wide narrow words set scalars (length scalars)
 
 -- the set has as many deltas as there are scalars
-abbrev pub IsSet : ℕ → List ℕ → ℕ → Type 0
-IsSet words set count = (words ≤ count) × (length set ≡ count + words)
+abbrev pub IsSet : ℕ → ℕ → ℕ → List ℕ → ℕ → Type 0
+IsSet wide narrow words set count = (words ≤ count) × (length set ≡ wide * words + narrow * (count - words))
 
--- the exact sum is stored if all deltas have 8 or 16 bits, there are at most as many as a font can have, and as many
--- as scalars; otherwise the status says which is not so, in this order
-pub record StoresSetSum (words : ℕ) (set : List ℕ) (scalars : List ℤ) (status : ℕ) (old new : ℤ) : Type 0 where
-  pub sum : words < 2 ^ 15 → length scalars < 2 ^ 16 → IsSet words set (length scalars)
-      → (status ≡ 0) × (new ≡ set_sum words set scalars)
-  pub other : words < 2 ^ 15 → length scalars < 2 ^ 16 → ¬ IsSet words set (length scalars)
+-- the exact sum is stored, if there are at most as many scalars as a font can have, and as many deltas, and if 64 bits
+-- hold it, as they always do for deltas of 16 and 8 bits; otherwise the status says which is not so, in this order
+pub record StoresSetSum (field : ℕ) (set : List ℕ) (scalars : List ℤ) (status : ℕ) (old new : ℤ) : Type 0 where
+  pub many : 2 ^ 16 ≤ length scalars → (status ≡ too_many) × (new ≡ old)
+  pub sum : field < 2 ^ 15 → length scalars < 2 ^ 16 → IsSet 2 1 field set (length scalars)
+      → (status ≡ 0) × (new ≡ set_sum 2 1 field set scalars)
+  pub other : field < 2 ^ 15 → length scalars < 2 ^ 16 → ¬ IsSet 2 1 field set (length scalars)
       → (status ≡ other_count) × (new ≡ old)
-  pub many : words < 2 ^ 15 → 2 ^ 16 ≤ length scalars → (status ≡ too_many) × (new ≡ old)
-  pub long : 2 ^ 15 ≤ words → (status ≡ long_words) × (new ≡ old)
+  pub long : 2 ^ 15 ≤ field → length scalars < 2 ^ 16 → IsSet 4 2 (field - 2 ^ 15) set (length scalars)
+      → StoresExact 64 (set_sum 4 2 (field - 2 ^ 15) set scalars) status old new
+  pub long_other : 2 ^ 15 ≤ field → length scalars < 2 ^ 16 → ¬ IsSet 4 2 (field - 2 ^ 15) set (length scalars)
+      → (status ≡ other_count) × (new ≡ old)

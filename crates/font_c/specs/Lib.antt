@@ -6,5 +6,4 @@ pub mod Tags
 pub mod TagText
 pub mod Matrices
 pub mod Sums
-pub mod Fields
 pub mod DeltaSets

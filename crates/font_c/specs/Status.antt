@@ -14,17 +14,11 @@ no_room = 4
 abbrev pub bad_pad : ℕ
 bad_pad = 5
 
-abbrev pub out_of_bounds : ℕ
-out_of_bounds = 6
-
 abbrev pub other_count : ℕ
 other_count = 7
 
 abbrev pub too_many : ℕ
 too_many = 8
-
-abbrev pub long_words : ℕ
-long_words = 9
 
 abbrev pub tag_length : ℕ
 tag_length = 10

@@ -18,14 +18,13 @@ pub record StoresTag (bytes : List ℕ) (status old new : ℕ) : Type 0 where
   pub known : (status ≡ 0) ⊎ ((status ≡ tag_length) ⊎ (status ≡ tag_byte))
   pub kept : status ≢ 0 → new ≡ old
 
--- the status is 0 for a valid tag, and otherwise says whether there are not four bytes, or only spaces; the first
--- invalid byte, whose index is stored, is not visible; or it is, and follows a space
+-- the status is 0 for a valid tag, and otherwise says whether all four bytes are spaces; the first invalid byte, whose
+-- index is stored, is not visible; or it is, and follows a space
 pub record JudgesTag (bytes : List ℕ) (status old new : ℕ) : Type 0 where
-  pub good : status ≡ 0 → (length bytes ≡ 4) × IsGood bytes
-  pub count : status ≡ tag_length → (length bytes ≢ 4) ⊎ (bytes ≡ four_spaces)
+  pub good : status ≡ 0 → IsGood bytes
+  pub count : status ≡ tag_length → bytes ≡ four_spaces
   pub byte : status ≡ tag_byte
-      → (length bytes ≡ 4) × (bytes ≢ four_spaces) × IsFault bytes new × (¬ IsVisible (slice_index bytes new))
-  pub after_space : status ≡ tag_after_space
-      → (length bytes ≡ 4) × IsFault bytes new × IsVisible (slice_index bytes new)
+      → (bytes ≢ four_spaces) × IsFault bytes new × (¬ IsVisible (slice_index bytes new))
+  pub after_space : status ≡ tag_after_space → IsFault bytes new × IsVisible (slice_index bytes new)
   pub known : (status ≡ 0) ⊎ ((status ≡ tag_length) ⊎ ((status ≡ tag_byte) ⊎ (status ≡ tag_after_space)))
   pub kept : (status ≡ 0) ⊎ (status ≡ tag_length) → new ≡ old

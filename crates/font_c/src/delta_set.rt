@@ -1,21 +1,25 @@
 //! Sums over delta sets of item variation stores.
 
-ghost use Rattle.std.specs.Prelude.{◌≡◌, ◌+◌, ◌*◌, ◌^◌, ◌<◌, ◌≤◌, ◌*ℤ◌, length, take, drop};
-ghost use Rattle.std.specs.Prelude.{unsigned_abs};
+ghost use Rattle.std.specs.Prelude.{◌≡◌, ◌↔◌, ◌+◌, ◌*◌, ◌^◌, ◌<◌, ◌≤◌, ◌*ℤ◌, length, take, drop};
+ghost use Rattle.std.specs.Prelude.{unsigned_abs, IsSome, IfSome};
 ghost use Rattle.font_types.specs.Bytes.{signed_numeral};
+ghost use Rattle.font_types.specs.F48Dot16.{f48dot16_bits};
+ghost use Rattle.font_types.specs.Wrap.{FitsBits};
 ghost use Rattle.font_c.specs.DeltaSets.{IsSet, set_sum, StoresSetSum};
+ghost use Rattle.font_c.specs.Status.{other_count, StoresExact};
 
-use crate::status::{LONG_WORDS, OTHER_COUNT, STORED, TOO_MANY};
-use font_types::Scalar;
+use crate::status::{OTHER_COUNT, OUT_OF_RANGE, STORED, TOO_MANY};
+use font_types::{DeltaSum, F48Dot16, Fixed, Scalar};
 
 // A font counts the regions of a delta set in 16 bits.
 const MOST_SCALARS: usize = 0xFFFF;
 
 // The bit of a word count that is set if the deltas have 32 and 16 bits, not 16 and 8.
-const LONG_WORDS_FLAG: u16 = 0x8000;
+const LONG_WORDS: u16 = 0x8000;
 
 /// Adds up the products of 16.16 scalars and the deltas of a delta set, in 48.16. The set has
-/// `word_count` deltas of 16 bits, followed by deltas of 8 bits.
+/// `word_count` deltas of 16 bits, followed by deltas of 8 bits; or if the bit 0x8000 of
+/// `word_count` is set, as many as its other bits say of 32 bits, followed by deltas of 16 bits.
 #[unsafe(no_mangle)]
 pub extern "C" fn font_delta_set_sum(
     scalars: &[i32],
@@ -25,11 +29,11 @@ pub extern "C" fn font_delta_set_sum(
 ) -> u32
     ensures { StoresSetSum word_count set.now scalars.now result sum.old sum.new }
 {
-    if word_count >= LONG_WORDS_FLAG {
-        return LONG_WORDS;
-    }
     if scalars.len() > MOST_SCALARS {
         return TOO_MANY;
+    }
+    if word_count >= LONG_WORDS {
+        return store_long_sum(scalars, set, usize::from(word_count - LONG_WORDS), sum);
     }
     let words = usize::from(word_count);
     if words > scalars.len() || set.len() != scalars.len() + words {
@@ -39,11 +43,30 @@ pub extern "C" fn font_delta_set_sum(
     STORED
 }
 
-// The exact sum of the products.
-fn exact_sum(scalars: &[i32], set: &[u8], words: usize) -> i64
-    requires set { IsSet words set.now (length scalars.now) }
+// Stores the sum over a set of long words.
+fn store_long_sum(scalars: &[i32], set: &[u8], words: usize, sum: &mut i64) -> u32
     requires few { length scalars.now < 2 ^ 16 }
-    ensures { result ≡ set_sum words set.now scalars.now }
+    requires words { words < 2 ^ 15 }
+    ensures sum { IsSet 4 2 words set.now (length scalars.now)
+        → StoresExact 64 (set_sum 4 2 words set.now scalars.now) result sum.old sum.new }
+    ensures other { ¬ IsSet 4 2 words set.now (length scalars.now)
+        → (result ≡ other_count) × (sum.new ≡ sum.old) }
+{
+    if words > scalars.len() || set.len() != 2 * (scalars.len() + words) {
+        return OTHER_COUNT;
+    }
+    let Some(exact) = long_sum(scalars, set, words) else {
+        return OUT_OF_RANGE;
+    };
+    *sum = exact.to_bits();
+    STORED
+}
+
+// The exact sum of the products with deltas of 16 and 8 bits, which fits in 64 bits.
+fn exact_sum(scalars: &[i32], set: &[u8], words: usize) -> i64
+    requires set { IsSet 2 1 words set.now (length scalars.now) }
+    requires few { length scalars.now < 2 ^ 16 }
+    ensures { result ≡ set_sum 2 1 words set.now scalars.now }
 {
     let (of_words, of_bytes) = scalars.split_at(words);
     let (wide, narrow) = set.split_at(2 * words);
@@ -57,12 +80,41 @@ fn exact_sum(scalars: &[i32], set: &[u8], words: usize) -> i64
     sum
 }
 
+// The exact sum of the products with deltas of 32 and 16 bits, or `None` if it does not fit in 64.
+fn long_sum(scalars: &[i32], set: &[u8], words: usize) -> Option<F48Dot16>
+    requires set { IsSet 4 2 words set.now (length scalars.now) }
+    requires few { length scalars.now < 2 ^ 16 }
+    ensures variant { IsSome result ↔ FitsBits 64 (set_sum 4 2 words set.now scalars.now) }
+    ensures value { IfSome result (λ sum.
+        f48dot16_bits sum ≡ set_sum 4 2 words set.now scalars.now) }
+{
+    let (of_long, of_words) = scalars.split_at(words);
+    let (wide, narrow) = set.split_at(4 * words);
+    let mut sum = DeltaSum::new();
+    for i in 0..of_long.len() {
+        sum.add(Fixed::from_bits(of_long[i]), long_at(wide, i));
+    }
+    for i in 0..of_words.len() {
+        sum.add(Fixed::from_bits(of_words[i]), i32::from(word_at(narrow, i)));
+    }
+    sum.checked_finish()
+}
+
 // The exact product of a 16.16 scalar and a delta, in 48.16.
 fn product(scalar: i32, delta: i16) -> i64
     ensures value { result ≡ (scalar *ℤ delta) }
     ensures bound { unsigned_abs result ≤ 2 ^ 46 }
 {
     i64::from(scalar) * i64::from(delta)
+}
+
+// The delta of 32 bits at an index.
+#[tactic(auto, using(font_types::proofs::Callers::calls))]
+fn long_at(set: &[u8], index: usize) -> i32
+    requires { 4 * index + 4 ≤ length set.now }
+    ensures { result ≡ signed_numeral 4 (take 4 (drop (4 * index) set.now)) }
+{
+    i32::read_at(set, 4 * index).unwrap()
 }
 
 // The delta of 16 bits at an index.

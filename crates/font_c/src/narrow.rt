@@ -3,7 +3,6 @@
 ghost use Rattle.std.specs.Prelude.{◌≡◌, ◌^◌};
 ghost use Rattle.font_types.specs.Near.{up};
 ghost use Rattle.font_types.specs.Operations.{IsNarrowed};
-ghost use Rattle.font_types.specs.Wrap.{wrap};
 
 use font_types::{F2Dot30, F26Dot6, F48Dot16, Fixed};
 
@@ -45,14 +44,6 @@ pub extern "C" fn font_f48dot16_to_i64(bits: i64) -> i64
     ensures { IsNarrowed 48 bits (2 ^ 16) result }
 {
     F48Dot16::from_bits(bits).to_i64()
-}
-
-/// Converts a 48.16 value to 16.16, wrapping on overflow.
-#[unsafe(no_mangle)]
-pub extern "C" fn font_f48dot16_to_fixed(bits: i64) -> i32
-    ensures { result ≡ wrap 32 bits }
-{
-    F48Dot16::from_bits(bits).to_fixed().to_bits()
 }
 
 /// Rounds a 2.30 value to the nearest 16.16 value, half up.

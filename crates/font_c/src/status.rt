@@ -1,6 +1,6 @@
 //! The results of the exports: `font_status` of the header.
 
-ghost use Rattle.std.specs.Prelude.{◌≡◌, ◌↔◌, ◌≤◌, ◌+◌, IsTrue, IfSome, IfNone};
+ghost use Rattle.std.specs.Prelude.{◌↔◌, ◌≤◌, ◌+◌, IsTrue};
 ghost use Rattle.font_c.specs.Status.{IsFraction};
 
 /// The result was stored.
@@ -21,17 +21,11 @@ pub const NO_ROOM: u32 = 4;
 /// The padding is invalid.
 pub const BAD_PAD: u32 = 5;
 
-/// The field is not within the bytes.
-pub const OUT_OF_BOUNDS: u32 = 6;
-
 /// The number of scalars differs from the number of deltas.
 pub const OTHER_COUNT: u32 = 7;
 
 /// There are more scalars than a font can have.
 pub const TOO_MANY: u32 = 8;
-
-/// The delta set has deltas of 32 bits.
-pub const LONG_WORDS: u32 = 9;
 
 /// A tag has a wrong number of bytes, or only spaces.
 pub const TAG_LENGTH: u32 = 10;
@@ -47,16 +41,4 @@ pub fn is_fraction(width: u32, fraction_bits: u32) -> bool
     ensures { IsTrue result ↔ IsFraction width fraction_bits }
 {
     6 <= fraction_bits && fraction_bits <= 30 && fraction_bits + 2 <= width
-}
-
-/// Stores a value and returns `STORED`, or returns `otherwise` if there is none.
-pub fn store<T: Copy>(value: Option<T>, otherwise: u32, place: &mut T) -> u32
-    ensures stored { IfSome value (λ stored. (result ≡ 0) × (place.new ≡ stored)) }
-    ensures kept { IfNone value ((result ≡ otherwise) × (place.new ≡ place.old)) }
-{
-    let Some(value) = value else {
-        return otherwise;
-    };
-    *place = value;
-    STORED
 }

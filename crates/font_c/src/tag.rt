@@ -25,16 +25,12 @@ pub extern "C" fn font_tag_new(text: &[u8], tag: &mut u32) -> u32
     }
 }
 
-/// Checks the four bytes of a tag. If a byte is not allowed where it is, stores the index of the
-/// first in `position`.
+/// Checks a tag. If a byte is not allowed where it is, stores the index of the first in `position`.
 #[unsafe(no_mangle)]
-pub extern "C" fn font_tag_validate(bytes: &[u8], position: &mut u32) -> u32
-    ensures { JudgesTag bytes.now result position.old position.new }
+pub extern "C" fn font_tag_validate(tag: u32, position: &mut u32) -> u32
+    ensures { JudgesTag (number_bytes tag) result position.old position.new }
 {
-    let Ok(bytes) = bytes.try_into() else {
-        return TAG_LENGTH;
-    };
-    match Tag::new(bytes).validate() {
+    match Tag::from_be_bytes(tag.to_raw()).validate() {
         Ok(()) => STORED,
         Err(InvalidTag::InvalidLength(_)) => TAG_LENGTH,
         Err(InvalidTag::InvalidByte { pos, .. }) => {

@@ -2,18 +2,17 @@
 
 use crate::delta::*;
 use crate::delta_set::*;
-use crate::field::*;
 use crate::format::*;
+use crate::laws::{composed, in_turn};
 use crate::matrix::*;
 use crate::narrow::*;
 use crate::parse::*;
 use crate::product::*;
-use crate::round::*;
 use crate::tag::*;
 use crate::version::font_types_version;
 
 #[test]
-fn text_and_rounding(rt: HostRuntime) {
+fn text(rt: HostRuntime) {
     let (mut x, mut y, mut z, mut len, mut out) = (7i16, 7i32, 7i64, 0usize, *b"......");
     let stars = FontPad {
         width: 6,
@@ -27,22 +26,16 @@ fn text_and_rounding(rt: HostRuntime) {
     assert!(rt; font_parse_i64(b"-1.5", 16, &mut z) == 0 && z == -98304);
     assert!(rt; font_format(z, 16, &mut out, &mut len) == 0 && len == 4 && out == *b"-1.5..");
     assert!(rt; font_format_padded(z, 16, &stars, &mut out, &mut len) == 0 && out == *b"**-1.5");
-    assert!(rt; font_floor_i16(24576, 14, &mut x) == 0 && x == 16384);
-    assert!(rt; font_round_i16(24575, 14, &mut x) == 0 && x == 16384);
-    assert!(rt; font_floor_i32(98304, 16, &mut y) == 0 && y == 65536);
-    assert!(rt; font_round_i32(98304, 16, &mut y) == 0 && y == 131072);
-    assert!(rt; font_floor_i64(-98304, 16, &mut z) == 0 && z == -131072);
-    assert!(rt; font_round_i64(-98304, 16, &mut z) == 0 && z == -65536);
 }
 
 #[test]
 fn numbers(rt: HostRuntime) {
     assert!(rt; font_fixed_mul(98304, 98304) == 147456 && font_fixed_div(1, 3) == 21845);
     assert!(rt; font_f26dot6_mul(96, 96) == 144 && font_f26dot6_div(96, 128) == 48);
-    assert!(rt; font_fixed_mul_div(7, 5, 2) == 18 && font_types_version() == 0x400);
+    assert!(rt; font_fixed_mul_div(7, 5, 2) == 18 && font_types_version() == 0x500);
     assert!(rt; font_fixed_to_i32(98304) == 2 && font_fixed_to_f26dot6(98304) == 96);
     assert!(rt; font_fixed_to_f2dot14(98304) == 24576 && font_f26dot6_to_i32(96) == 2);
-    assert!(rt; font_f48dot16_to_i64(98304) == 2 && font_f48dot16_to_fixed(98304) == 98304);
+    assert!(rt; font_f48dot16_to_i64(98304) == 2);
     assert!(rt; font_f2dot30_to_fixed(1 << 29) == 32768);
     assert!(rt; font_f2dot30_to_f2dot14(1 << 29) == 8192);
 }
@@ -70,6 +63,11 @@ fn matrices(rt: HostRuntime) {
     );
     assert!(rt; image.x == 65535 && image.y == 131075 && vector.x == -1 && vector.y == 3);
     assert!(rt; font_matrix_product(turn, stretch).dx == -65536);
+    let (once, twice) = (
+        composed(turn, stretch, points[0]),
+        in_turn(turn, stretch, points[0]),
+    );
+    assert!(rt; once.x == -65539 && once.y == 196614 && twice.x == once.x && twice.y == once.y);
     font_matrix_images(&turn, &mut points);
     assert!(rt; points[0].x == 65535 && points[0].y == 131075);
 }
@@ -80,30 +78,17 @@ fn deltas(rt: HostRuntime) {
     assert!(rt; font_delta_sum(&[98304, -65536], &[100, 30], &mut sum) == 0 && sum == 120 << 16);
     assert!(rt; font_delta_set_sum(&[65536, 32768], &[1, 44, 253], 1, &mut sum) == 0);
     assert!(rt; sum == 19562496);
-    assert!(rt; font_apply_delta_i16(-100, sum, &mut moved) == 0 && moved == 199);
-    assert!(rt; font_apply_delta_u16(65000, -sum, &mut advance) == 0 && advance == 64702);
-}
-
-#[test]
-fn fields(rt: HostRuntime) {
-    let bytes = [0xFF, 1, 2, 3, 4, 5, 6, 7];
-    let (mut b, mut c, mut d, mut e) = (0u8, 0i8, 0u16, 0i16);
-    assert!(rt; font_read_u8(&bytes, 0, &mut b) == 0 && b == 255);
-    assert!(rt; font_read_i8(&bytes, 0, &mut c) == 0 && c == -1);
-    assert!(rt; font_read_u16(&bytes, 6, &mut d) == 0 && d == 0x607);
-    assert!(rt; font_read_i16(&bytes, 0, &mut e) == 0 && e == -255);
-    let (mut f, mut g, mut h) = (0u32, 0i32, 0i64);
-    assert!(rt; font_read_u24(&bytes, 0, &mut f) == 0 && f == 0xFF_0102);
-    assert!(rt; font_read_u32(&bytes, 4, &mut f) == 0 && f == 0x405_0607);
-    assert!(rt; font_read_i24(&bytes, 0, &mut g) == 0 && g == -0xFEFE);
-    assert!(rt; font_read_i32(&bytes, 4, &mut g) == 0 && g == 0x405_0607);
-    assert!(rt; font_read_i64(&bytes, 0, &mut h) == 0 && h == -0xFE_FDFC_FBFA_F9F9);
+    let long = [0x80, 0, 0, 0, 0xFF, 0xFD];
+    assert!(rt; font_delta_set_sum(&[1, 65536], &long, 0x8001, &mut sum) == 0);
+    assert!(rt; sum == -0x8003_0000);
+    assert!(rt; font_apply_delta_i16(-100, 299 << 16, &mut moved) == 0 && moved == 199);
+    assert!(rt; font_apply_delta_u16(65000, -299 << 16, &mut advance) == 0 && advance == 64701);
 }
 
 #[test]
 fn tags(rt: HostRuntime) {
     let (mut tag, mut position, mut len, mut out) = (7u32, 7u32, 0usize, *b"....");
     assert!(rt; font_tag_new(b"cvt", &mut tag) == 0 && tag == 0x6376_7420);
-    assert!(rt; font_tag_validate(b"a b ", &mut position) == 12 && position == 2);
+    assert!(rt; font_tag_validate(0x6120_6220, &mut position) == 12 && position == 2);
     assert!(rt; font_tag_to_text(tag, &mut out, &mut len) == 0 && len == 4 && out == *b"cvt ");
 }

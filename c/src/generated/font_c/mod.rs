@@ -1,21 +1,21 @@
 // @generated from crates/font_c/src/lib.rt by tools/src/bin/erase.rs
 
-//! The library for C: fixed-point numbers, matrices, fields, tags and sums of deltas.
+//! The library for C: fixed-point numbers, matrices, tags and sums of deltas.
 //!
 //! Exports have no preconditions, because C callers are not checked. An export that can fail
 //! returns a status and stores its result at its last argument; if it fails, it leaves all memory
 //! unchanged, except that `font_tag_validate` stores the index of the invalid byte. Nothing is kept
-//! between calls, and nothing is allocated. `c/include/font_types.h` declares the exports.
+//! between calls, and nothing is allocated. `c/include/font_types.h` declares the exports, and has
+//! fields and rounding to integers as functions in C.
 
 mod delta;
 mod delta_set;
-mod field;
 mod format;
+pub mod laws;
 mod matrix;
 mod narrow;
 mod parse;
 mod product;
-mod round;
 mod status;
 mod tag;
 mod tag_text;

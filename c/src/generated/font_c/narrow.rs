@@ -34,12 +34,6 @@ pub extern "C" fn font_f48dot16_to_i64(bits: i64) -> i64 {
     F48Dot16::from_bits(bits).to_i64()
 }
 
-/// Converts a 48.16 value to 16.16, wrapping on overflow.
-#[unsafe(no_mangle)]
-pub extern "C" fn font_f48dot16_to_fixed(bits: i64) -> i32 {
-    F48Dot16::from_bits(bits).to_fixed().to_bits()
-}
-
 /// Rounds a 2.30 value to the nearest 16.16 value, half up.
 #[unsafe(no_mangle)]
 pub extern "C" fn font_f2dot30_to_fixed(bits: i32) -> i32 {

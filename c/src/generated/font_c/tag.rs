@@ -21,19 +21,10 @@ pub unsafe extern "C" fn font_tag_new(text: *const u8, text_len: usize, tag: &mu
     }
 }
 
-/// Checks the four bytes of a tag. If a byte is not allowed where it is, stores the index of the
-/// first in `position`.
+/// Checks a tag. If a byte is not allowed where it is, stores the index of the first in `position`.
 #[unsafe(no_mangle)]
-pub unsafe extern "C" fn font_tag_validate(
-    bytes: *const u8,
-    bytes_len: usize,
-    position: &mut u32,
-) -> u32 {
-    let bytes = unsafe { crate::slice(bytes, bytes_len) };
-    let Ok(bytes) = bytes.try_into() else {
-        return TAG_LENGTH;
-    };
-    match Tag::new(bytes).validate() {
+pub unsafe extern "C" fn font_tag_validate(tag: u32, position: &mut u32) -> u32 {
+    match Tag::from_be_bytes(tag.to_raw()).validate() {
         Ok(()) => STORED,
         Err(InvalidTag::InvalidLength(_)) => TAG_LENGTH,
         Err(InvalidTag::InvalidByte { pos, .. }) => {

@@ -1,0 +1,36 @@
+//! The bounds of matrices, as contracts of functions that make two calls of exports.
+
+ghost use Rattle.std.specs.Prelude.{◌≡◌};
+ghost use Rattle.font_types.specs.FixedMatrix.{FitsComposed, IsCloseComposed};
+ghost use Rattle.font_types.specs.FixedMatrix.{FitsInTurn, IsCloseInTurn};
+ghost use Rattle.font_c.specs.Matrices.{coordinates, entries, fixed_image, fixed_matrix_product};
+
+use crate::matrix::{FontMatrix, FontPoint, font_matrix_image, font_matrix_product};
+
+/// Transforms a point by the product of `a` and `b`.
+///
+/// If no element of the product and no coordinate of the result overflows, each coordinate is at
+/// most `(|p.x| + |p.y|) / 65536 + 2` from the exact one, all as raw values.
+#[must_use]
+pub fn composed(a: FontMatrix, b: FontMatrix, p: FontPoint) -> FontPoint
+    ensures value { coordinates result
+        ≡ fixed_image (fixed_matrix_product (entries a) (entries b)) (coordinates p) }
+    ensures close { FitsComposed (entries a) (entries b) (coordinates p)
+        → IsCloseComposed (entries a) (entries b) (coordinates p) (coordinates result) }
+{
+    font_matrix_image(font_matrix_product(a, b), p)
+}
+
+/// Transforms a point by `b`, and the result by `a`.
+///
+/// If no coordinate of either image overflows, `x` is at most `(|a.xx| + |a.xy|) / 65536 + 1` from
+/// the exact one, and `y` at most `(|a.yx| + |a.yy|) / 65536 + 1`, all as raw values.
+#[must_use]
+pub fn in_turn(a: FontMatrix, b: FontMatrix, p: FontPoint) -> FontPoint
+    ensures value { coordinates result
+        ≡ fixed_image (entries a) (fixed_image (entries b) (coordinates p)) }
+    ensures close { FitsInTurn (entries a) (entries b) (coordinates p)
+        → IsCloseInTurn (entries a) (entries b) (coordinates p) (coordinates result) }
+{
+    font_matrix_image(a, font_matrix_image(b, p))
+}
