@@ -1,5 +1,10 @@
 //! Prints results of the proved Rust, with which `c/tests/header.c` compares the functions that the
-//! header has in C: raw values rounded to integers, and fields of 16 bytes.
+//! header has in C: raw values rounded to integers, and fields of 16 bytes. `rows FONT LONG` writes
+//! two fonts that `dump` reads, with delta sets of short and of long words.
+#[path = "../../tests/built/mod.rs"]
+mod built;
+
+use built::{font, variations, words};
 use font_types_proved::{
     F2Dot14, F2Dot30, F4Dot12, F6Dot10, F26Dot6, F48Dot16, Fixed, Int24, Scalar, Uint24,
 };
@@ -57,7 +62,20 @@ fn raw_values() -> impl Iterator<Item = i64> {
     some.chain(near_ends.into_iter().flatten()).chain(random)
 }
 
+/// Delta sets of two glyphs, each of two deltas.
+fn hvar(word_count: u16, sets: &[u8]) -> Vec<u8> {
+    [&words(&variations(0, &[2, word_count, 2, 0, 1])), sets].concat()
+}
+
 fn main() {
+    let paths: Vec<_> = std::env::args_os().skip(1).collect();
+    if let [short, long] = &paths[..] {
+        let sets = [0, 100, 226, 1, 44, 253];
+        std::fs::write(short, font(hvar(1, &sets))).expect("a new file");
+        let sets = [0, 0, 0, 0, 0, 0, 0, 1, 134, 160, 252, 24];
+        std::fs::write(long, font(hvar(0x8001, &sets))).expect("a new file");
+        return;
+    }
     round!(F2Dot14, 16, 14, i16::MIN..=i16::MAX);
     round!(F4Dot12, 16, 12, i16::MIN..=i16::MAX);
     round!(F6Dot10, 16, 10, i16::MIN..=i16::MAX);

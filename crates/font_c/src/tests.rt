@@ -28,6 +28,78 @@ fn text(rt: HostRuntime) {
     assert!(rt; font_format_padded(z, 16, &stars, &mut out, &mut len) == 0 && out == *b"**-1.5");
 }
 
+// -1.5 with each number of fraction bits, and the greatest value with some.
+#[test]
+fn fractions(rt: HostRuntime) {
+    for &(f, bits) in &[
+        (6, -96),
+        (7, -192),
+        (8, -384),
+        (9, -768),
+        (10, -1536),
+        (11, -3072),
+        (12, -6144),
+        (13, -12288),
+        (14, -24576),
+    ] {
+        let mut x = 7i16;
+        assert!(rt; font_parse_i16(b"-1.5", f, &mut x) == 0 && x == bits, "{f}");
+    }
+    for &(f, bits) in &[
+        (6, -96),
+        (7, -192),
+        (8, -384),
+        (9, -768),
+        (10, -1536),
+        (11, -3072),
+        (12, -6144),
+        (13, -12288),
+        (14, -24576),
+        (15, -49152),
+        (16, -98304),
+        (17, -196608),
+        (18, -393216),
+        (19, -786432),
+        (20, -1572864),
+        (21, -3145728),
+        (22, -6291456),
+        (23, -12582912),
+        (24, -25165824),
+        (25, -50331648),
+        (26, -100663296),
+        (27, -201326592),
+        (28, -402653184),
+        (29, -805306368),
+        (30, -1610612736),
+    ] {
+        let (mut y, mut z, mut len, mut out) = (7i32, 7i64, 0usize, *b"....");
+        assert!(rt; font_parse_i32(b"-1.5", f, &mut y) == 0 && y == bits, "{f}");
+        assert!(rt;
+            font_parse_i64(b"-1.5", f, &mut z) == 0 && z == i64::from(bits),
+            "{f}"
+        );
+        assert!(rt;
+            font_format(z, f, &mut out, &mut len) == 0 && out == *b"-1.5",
+            "{f}"
+        );
+    }
+    for &(f, text) in &[
+        (6, "144115188075855871.98"),
+        (7, "72057594037927935.99"),
+        (15, "281474976710655.99997"),
+        (16, "140737488355327.99998"),
+        (17, "70368744177663.99999"),
+        (29, "17179869183.999999998"),
+        (30, "8589934591.999999999"),
+    ] {
+        let mut z = 7i64;
+        assert!(rt;
+            font_parse_i64(text.as_bytes(), f, &mut z) == 0 && z == i64::MAX,
+            "{f}"
+        );
+    }
+}
+
 #[test]
 fn numbers(rt: HostRuntime) {
     assert!(rt; font_fixed_mul(98304, 98304) == 147456 && font_fixed_div(1, 3) == 21845);

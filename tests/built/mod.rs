@@ -1,0 +1,142 @@
+//! A font, built table by table.
+#![allow(dead_code)]
+
+use std::collections::BTreeMap;
+
+/// Returns the bytes of 16-bit integers, big-endian.
+pub fn words(words: &[u16]) -> Vec<u8> {
+    words.iter().flat_map(|word| word.to_be_bytes()).collect()
+}
+
+/// Returns a table with these words at these offsets, and zeros elsewhere.
+pub fn table(len: usize, fields: &[(usize, &[u16])]) -> Vec<u8> {
+    let mut table = vec![0; len];
+    for (offset, numbers) in fields {
+        table[*offset..][..2 * numbers.len()].copy_from_slice(&words(numbers));
+    }
+    table
+}
+
+/// Two encodings: the specification's example of format 4, with its last segment by an array of
+/// glyphs, and two groups of format 12, the last with a glyph above 65535.
+pub fn cmap() -> Vec<u8> {
+    // Its deltas are -9, -18, 7 and 1.
+    let format_4 = [
+        4, 52, 0, 8, 8, 2, 0, 20, 90, 154, 0xFFFF, 0, 10, 30, 153, 0xFFFF, 0xFFF7, 0xFFEE, 7, 1, 0,
+        0, 4, 0, 100, 0,
+    ];
+    let format_12 = [
+        12, 0, 0, 40, 0, 0, 0, 2, 1, 0xF600, 1, 0xF60F, 0, 500, 1, 0xF610, 1, 0xF611, 0, 0xFFFF,
+    ];
+    let encodings = [0, 2, 0, 3, 0, 20, 0, 10, 0, 20 + 52];
+    words(&[&encodings[..], &format_4, &format_12].concat())
+}
+
+/// The words of a table of two regions of one axis, followed by a delta set. The map of glyphs is
+/// at an offset.
+pub fn variations(map: u16, data: &[u16]) -> Vec<u16> {
+    let header = [1, 0, 0, 20, 0, map, 0, 0, 0, 0];
+    let store = [1, 0, 12, 1, 0, 28];
+    let regions = [1, 2, 0, 0x4000, 0x4000, 0, 0x1000, 0x4000];
+    [&header[..], &store, &regions, data].concat()
+}
+
+/// Two delta sets, each of a word and a byte, and a map of format 0.
+pub fn hvar() -> Vec<u8> {
+    let mut table = words(&variations(66, &[2, 1, 2, 0, 1]));
+    // Rows of a word and a byte.
+    table.extend([0, 100, -30i8 as u8, 0, 0, 0, 0, 0]);
+    table.extend([0, 0, 0, 2, 0, 1]);
+    table
+}
+
+/// One delta set of a long word and a word, and a map of format 1.
+pub fn long_hvar() -> Vec<u8> {
+    let data = [1, 0x8001, 2, 0, 1, 0, 60000, -300i16 as u16];
+    words(&[variations(64, &data), vec![0x0100, 0, 2, 0]].concat())
+}
+
+/// A name for Unicode, and the same for Windows.
+pub fn name(text: &str) -> Vec<u8> {
+    let units: Vec<u16> = text.encode_utf16().collect();
+    let len = 2 * units.len() as u16;
+    let records = [0, 2, 30, 0, 3, 0, 1, len, 0, 3, 1, 0x409, 1, len, 0];
+    words(&[&records[..], &units].concat())
+}
+
+/// Axes with a tag, a minimum, a default and a maximum.
+pub fn fvar(axes: &[(&[u8; 4], [u16; 3])]) -> Vec<u8> {
+    let mut table = words(&[1, 0, 16, 2, axes.len() as u16, 20, 0, 8]);
+    for (tag, [min, default, max]) in axes {
+        table.extend(*tag);
+        table.extend(words(&[*min, 0, *default, 0, *max, 0, 0, 256]));
+    }
+    table
+}
+
+/// The segment map of a font of one axis. It has the place of half of the axis at a quarter.
+pub const MAP: [u16; 9] = [4, 0xC000, 0xC000, 0, 0, 0x2000, 0x1000, 0x4000, 0x4000];
+
+/// A font of one axis.
+pub fn font(hvar: Vec<u8>) -> Vec<u8> {
+    let avar = words(&[&[1, 0, 0, 1], &MAP[..]].concat());
+    let fvar = fvar(&[(b"wght", [100, 400, 900])]);
+    font_of([(b"HVAR", hvar), (b"avar", avar), (b"fvar", fvar)])
+}
+
+/// A font with these tables and those that all fonts here have.
+pub fn font_of<const N: usize>(variations: [(&[u8; 4], Vec<u8>); N]) -> Vec<u8> {
+    let os2 = table(78, &[(4, &[400]), (58, &[0x5445, 0x5354]), (68, &[800])]);
+    let head: [(_, &[u16]); 3] = [(0, &[1, 0, 2, 0x8000]), (18, &[1000]), (36, &[0xFFF6])];
+    let hhea = table(36, &[(4, &[800, 0xFF38, 0, 620]), (34, &[2])]);
+    let mut tables = BTreeMap::from(variations);
+    tables.extend([
+        (b"OS/2", os2),
+        (b"cmap", cmap()),
+        (b"head", table(54, &head)),
+        (b"hhea", hhea),
+        (b"hmtx", words(&[500, 7, 620, 0xFFF0, 9])),
+        (b"maxp", words(&[0, 0x5000, 3])),
+        (b"name", name("Ütest")),
+    ]);
+    let mut font = words(&[1, 0, tables.len() as u16, 0, 0, 0]);
+    let mut offset = 12 + 16 * tables.len();
+    for (tag, table) in &tables {
+        font.extend(*tag);
+        for number in [0, offset, table.len()] {
+            font.extend((number as u32).to_be_bytes());
+        }
+        offset += table.len();
+    }
+    font.extend(tables.into_values().flatten());
+    font
+}
+
+/// Two tables of delta sets over two axes, the second of regions in which the first axis is
+/// ignored; then a map of glyphs, or none.
+pub fn hvar_of_two_axes(map: &[u16]) -> Vec<u8> {
+    let map_offset = if map.is_empty() { 0 } else { 132 };
+    let header = [1, 0, 0, 20, 0, map_offset, 0, 0, 0, 0];
+    let store = [1, 0, 16, 2, 0, 80, 0, 94];
+    let whole = [0, 0x4000, 0x4000];
+    let regions = [
+        [whole, [0; 3]],
+        [whole, whole],
+        // On both sides of zero, with a peak below the start, and with one above the end.
+        [[0xC000, 0x2000, 0x4000], whole],
+        [[0x2000, 0x1000, 0x4000], whole],
+        [[0, 0x4000, 0x2000], whole],
+    ];
+    let regions = regions.into_iter().flatten().flatten();
+    let regions = [2, 5].into_iter().chain(regions).collect::<Vec<u16>>();
+    let mut table = words(&[&header[..], &store, &regions, &[2, 0, 2, 0, 1]].concat());
+    table.extend([10, 20, 30, 40]);
+    table.extend(words(&[2, 0, 3, 2, 3, 4]));
+    table.extend([16, 32, 64, 8, 24, 72]);
+    table.extend(words(map));
+    table
+}
+
+pub fn two_axes() -> Vec<u8> {
+    fvar(&[(b"wght", [100, 400, 900]), (b"wdth", [50, 100, 200])])
+}
