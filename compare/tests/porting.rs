@@ -13,6 +13,13 @@ fn nearest(x: f64) -> i64 {
     integer + i64::from(rest >= 0.5) - i64::from(rest <= -0.5)
 }
 
+#[test]
+fn just_below_a_half_step() {
+    let step = 0.49999999999999994;
+    assert_eq!(there::Fixed::from_f64(step / 65536.0).to_bits(), 1);
+    assert_eq!(nearest(step), 0);
+}
+
 /// The rows about fixed-point numbers, for each type, with its raw integer and its fraction bits.
 macro_rules! of_each_type {
     ($($Type:ident $bits:ident $f:literal;)*) => {

@@ -203,6 +203,9 @@ where
 
     /// Parses a decimal as the nearest value, rounding half away from zero.
     ///
+    /// A decimal is an optional `-`, one or more digits, and optionally a point followed by one or
+    /// more digits, of any length: `+1`, `.5`, `1.` and `1e3` are none.
+    ///
     /// # Errors
     ///
     /// Returns `Syntax` if the text is not a decimal, and `OutOfRange` if its nearest value is out
@@ -310,7 +313,7 @@ impl<const F: u32> Neg for FixedI64<F> {
     }
 }
 
-/// Parses as `from_decimal` does: `"1.5".parse()`.
+/// Parses a decimal as `from_decimal` does: `"1.5".parse()`; not `+1`, `.5`, `1.` or `1e3`.
 impl<const F: u32> FromStr for FixedI64<F>
 where
     Self: Format<64, F>,
