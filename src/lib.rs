@@ -6,6 +6,7 @@
 //! |---|---|
 //! | fixed-point numbers of 16 bits | [`F2Dot14`], [`F4Dot12`], [`F6Dot10`] |
 //! | of 32 and of 64 bits | [`Fixed`], [`F26Dot6`], [`F2Dot30`], [`F48Dot16`] |
+//! | of another number of fraction bits | [`FixedI16`], [`FixedI32`], [`FixedI64`]; those that round: [`Format`] |
 //! | integers of 24 bits | [`Uint24`], [`Int24`] |
 //! | stored arrays | [`ScalarArray`], [`ScalarArrayIter`] |
 //! | stored fields | [`Scalar`], [`BigEndian`], [`FixedSize`], [`BeByteArray`], [`IdentityEq`] |

@@ -114,8 +114,13 @@ impl<T: Scalar> BigEndian<T> {
     {
         self.raw.as_slice()
     }
+}
 
-    /// Returns `true` if the decoded value equals `other`.
+/// The named form of `==` across types, which Rattle needs.
+impl<T: Scalar> BigEndian<T> {
+    ghost use Rattle.font_base.specs.BigEndian.{raw_value};
+
+    /// Returns `true` if the decoded value equals `other`, as `==` does.
     #[must_use]
     #[inline]
     pub fn eq_value(&self, other: &T) -> bool

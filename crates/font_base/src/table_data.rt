@@ -62,9 +62,22 @@ pub trait TableHeader: Sized {
 /// The length is checked once, by `new`.
 ///
 /// ```
-/// use font_types::{SampleHeader, TableDataRef};
-/// let table = TableDataRef::<SampleHeader>::new(&[0, 1, 0, 0, 0, 2, 9]).unwrap();
-/// assert_eq!(table.header().b.get(), 2);
+/// use font_types::{Scalar, TableDataRef, TableHeader};
+///
+/// /// The number of glyphs, in the table `maxp` after its version.
+/// struct GlyphCount(u16);
+///
+/// impl TableHeader for GlyphCount {
+///     const BYTE_LEN: usize = 6;
+///
+///     fn decode(bytes: &[u8]) -> Self {
+///         Self(Scalar::read(&bytes[4..]).expect("two bytes"))
+///     }
+/// }
+///
+/// let maxp = TableDataRef::<GlyphCount>::new(&[0, 1, 0, 0, 1, 4, 0, 9]).unwrap();
+/// assert_eq!(maxp.header().0, 260);
+/// assert_eq!(maxp.rest(), [0, 9]);
 /// ```
 ///
 /// The source and its contracts: `crates/font_base/src/table_data.rt`.

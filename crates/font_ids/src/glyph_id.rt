@@ -67,8 +67,11 @@ impl GlyphId16 {
     {
         self.0.to_be_bytes()
     }
+}
 
-    /// Returns `true` if both are the same glyph.
+/// The named forms of `==` and `<` across types, which Rattle needs.
+impl GlyphId16 {
+    /// Returns `true` if both are the same glyph, as `==` does.
     #[must_use]
     #[inline]
     pub fn eq_gid(&self, other: &GlyphId) -> bool
@@ -77,7 +80,7 @@ impl GlyphId16 {
         GlyphId::from(*self) == *other
     }
 
-    /// Compares the two numbers.
+    /// Compares the two numbers, as `<` and `>` do.
     #[must_use]
     #[inline]
     pub fn cmp_gid(&self, other: &GlyphId) -> Ordering
@@ -352,8 +355,11 @@ impl GlyphId {
     {
         self.0
     }
+}
 
-    /// Returns `true` if both are the same glyph.
+/// The named forms of `==` and `<` across types, which Rattle needs.
+impl GlyphId {
+    /// Returns `true` if both are the same glyph, as `==` does.
     #[must_use]
     #[inline]
     pub fn eq_gid16(&self, other: &GlyphId16) -> bool
@@ -362,7 +368,7 @@ impl GlyphId {
         *self == GlyphId::from(*other)
     }
 
-    /// Compares the two numbers.
+    /// Compares the two numbers, as `<` and `>` do.
     #[must_use]
     #[inline]
     pub fn cmp_gid16(&self, other: &GlyphId16) -> Ordering

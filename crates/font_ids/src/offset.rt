@@ -52,8 +52,11 @@ impl Offset16 {
     {
         u32::from(self.0)
     }
+}
 
-    /// Returns `true` if the offset is this number.
+/// The named form of `==` across types, which Rattle needs.
+impl Offset16 {
+    /// Returns `true` if the offset is this number, as `==` does.
     #[must_use]
     #[inline]
     pub fn eq_u32(&self, other: &u32) -> bool
@@ -143,8 +146,11 @@ impl Offset24 {
     {
         self.0.to_u32()
     }
+}
 
-    /// Returns `true` if the offset is this number.
+/// The named form of `==` across types, which Rattle needs.
+impl Offset24 {
+    /// Returns `true` if the offset is this number, as `==` does.
     #[must_use]
     #[inline]
     pub fn eq_u32(&self, other: &u32) -> bool
@@ -229,8 +235,11 @@ impl Offset32 {
     {
         self.0
     }
+}
 
-    /// Returns `true` if the offset is this number.
+/// The named form of `==` across types, which Rattle needs.
+impl Offset32 {
+    /// Returns `true` if the offset is this number, as `==` does.
     #[must_use]
     #[inline]
     pub fn eq_u32(&self, other: &u32) -> bool
@@ -375,8 +384,11 @@ impl<T: OffsetValue> Nullable<T> {
     {
         self.0.value_u32() == 0
     }
+}
 
-    /// Returns `true` if the offset is this number.
+/// The named form of `==` across types, which Rattle needs.
+impl<T: OffsetValue> Nullable<T> {
+    /// Returns `true` if the offset is this number, as `==` does.
     #[must_use]
     #[inline]
     pub fn eq_u32(&self, other: &u32) -> bool

@@ -125,33 +125,6 @@ impl Tag {
         &self.0
     }
 
-    /// Returns `true` if the tag has these bytes.
-    #[must_use]
-    #[inline]
-    pub fn eq_bytes(&self, other: &[u8; 4]) -> bool
-        ensures { IsTrue result ↔ (tag_bytes self.now ≡ other.now) }
-    {
-        self.0 == *other
-    }
-
-    /// Returns `true` if the tag has the bytes of this string.
-    #[must_use]
-    #[inline]
-    pub fn eq_str(&self, other: &str) -> bool
-        ensures { IsTrue result ↔ (tag_bytes self.now ≡ other.now) }
-    {
-        self.eq_slice(other.as_bytes())
-    }
-
-    /// Returns `true` if the tag has the bytes of this slice.
-    #[must_use]
-    #[inline]
-    pub fn eq_slice(&self, other: &[u8]) -> bool
-        ensures { IsTrue result ↔ (tag_bytes self.now ≡ other.now) }
-    {
-        self.0.as_slice() == other
-    }
-
     /// Checks that the tag is valid: printable characters, followed only by spaces.
     ///
     /// # Errors
@@ -176,6 +149,36 @@ impl Tag {
                 byte: self.0[pos],
             }),
         }
+    }
+}
+
+/// The named forms of `==` across types, which Rattle needs.
+impl Tag {
+    /// Returns `true` if the tag has these bytes, as `==` does.
+    #[must_use]
+    #[inline]
+    pub fn eq_bytes(&self, other: &[u8; 4]) -> bool
+        ensures { IsTrue result ↔ (tag_bytes self.now ≡ other.now) }
+    {
+        self.0 == *other
+    }
+
+    /// Returns `true` if the tag has the bytes of this string, as `==` does.
+    #[must_use]
+    #[inline]
+    pub fn eq_str(&self, other: &str) -> bool
+        ensures { IsTrue result ↔ (tag_bytes self.now ≡ other.now) }
+    {
+        self.eq_slice(other.as_bytes())
+    }
+
+    /// Returns `true` if the tag has the bytes of this slice, as `==` does.
+    #[must_use]
+    #[inline]
+    pub fn eq_slice(&self, other: &[u8]) -> bool
+        ensures { IsTrue result ↔ (tag_bytes self.now ≡ other.now) }
+    {
+        self.0.as_slice() == other
     }
 }
 

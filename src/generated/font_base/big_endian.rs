@@ -83,8 +83,11 @@ impl<T: Scalar> BigEndian<T> {
     pub fn be_bytes(&self) -> &[u8] {
         self.raw.as_slice()
     }
+}
 
-    /// Returns `true` if the decoded value equals `other`.
+/// The named form of `==` across types, which Rattle needs.
+impl<T: Scalar> BigEndian<T> {
+    /// Returns `true` if the decoded value equals `other`, as `==` does.
     #[must_use]
     #[inline]
     pub fn eq_value(&self, other: &T) -> bool

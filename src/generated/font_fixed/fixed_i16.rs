@@ -22,8 +22,8 @@ pub use f6dot10::F6Dot10;
 ///
 /// The raw value is an `i16` in units of `1 / 2^F`. Sums wrap on overflow.
 ///
-/// The formats of fonts are [`F2Dot14`], [`F4Dot12`] and [`F6Dot10`]. Rounding, parsing and
-/// printing are for these alone:
+/// The formats [`F2Dot14`], [`F4Dot12`] and [`F6Dot10`] also round, parse and print, and have
+/// constants. With other fraction bits there are only raw bits, bytes, comparisons and sums:
 ///
 /// ```compile_fail,E0599
 /// use font_types_proved::FixedI16;

@@ -21,8 +21,8 @@ pub use fixed::{Fixed, nearest_step};
 ///
 /// The raw value is an `i32` in units of `1 / 2^F`. Sums wrap on overflow.
 ///
-/// The formats of fonts are [`Fixed`], [`F26Dot6`] and [`F2Dot30`]. Rounding, parsing and printing
-/// are for these alone:
+/// The formats [`Fixed`], [`F26Dot6`] and [`F2Dot30`] also round, parse and print, and have
+/// constants. With other fraction bits there are only raw bits, bytes, comparisons and sums:
 ///
 /// ```compile_fail,E0599
 /// use font_types_proved::FixedI32;

@@ -17,7 +17,8 @@ pub use f48dot16::F48Dot16;
 ///
 /// The raw value is an `i64` in units of `1 / 2^F`. Sums wrap on overflow.
 ///
-/// The format of fonts is [`F48Dot16`]. Rounding, parsing and printing are for it alone:
+/// The format [`F48Dot16`] also rounds, parses and prints, and has constants. With other fraction
+/// bits there are only raw bits, bytes, comparisons and sums:
 ///
 /// ```compile_fail,E0599
 /// use font_types_proved::FixedI64;

@@ -48,15 +48,18 @@ impl GlyphId16 {
     pub const fn to_be_bytes(self) -> [u8; 2] {
         self.0.to_be_bytes()
     }
+}
 
-    /// Returns `true` if both are the same glyph.
+/// The named forms of `==` and `<` across types, which Rattle needs.
+impl GlyphId16 {
+    /// Returns `true` if both are the same glyph, as `==` does.
     #[must_use]
     #[inline]
     pub fn eq_gid(&self, other: &GlyphId) -> bool {
         GlyphId::from(*self) == *other
     }
 
-    /// Compares the two numbers.
+    /// Compares the two numbers, as `<` and `>` do.
     #[must_use]
     #[inline]
     pub fn cmp_gid(&self, other: &GlyphId) -> Ordering {
@@ -266,15 +269,18 @@ impl GlyphId {
     pub const fn to_u32(self) -> u32 {
         self.0
     }
+}
 
-    /// Returns `true` if both are the same glyph.
+/// The named forms of `==` and `<` across types, which Rattle needs.
+impl GlyphId {
+    /// Returns `true` if both are the same glyph, as `==` does.
     #[must_use]
     #[inline]
     pub fn eq_gid16(&self, other: &GlyphId16) -> bool {
         *self == GlyphId::from(*other)
     }
 
-    /// Compares the two numbers.
+    /// Compares the two numbers, as `<` and `>` do.
     #[must_use]
     #[inline]
     pub fn cmp_gid16(&self, other: &GlyphId16) -> Ordering {

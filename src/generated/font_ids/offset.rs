@@ -37,8 +37,11 @@ impl Offset16 {
     pub fn to_u32(self) -> u32 {
         u32::from(self.0)
     }
+}
 
-    /// Returns `true` if the offset is this number.
+/// The named form of `==` across types, which Rattle needs.
+impl Offset16 {
+    /// Returns `true` if the offset is this number, as `==` does.
     #[must_use]
     #[inline]
     pub fn eq_u32(&self, other: &u32) -> bool {
@@ -106,8 +109,11 @@ impl Offset24 {
     pub const fn to_u32(self) -> u32 {
         self.0.to_u32()
     }
+}
 
-    /// Returns `true` if the offset is this number.
+/// The named form of `==` across types, which Rattle needs.
+impl Offset24 {
+    /// Returns `true` if the offset is this number, as `==` does.
     #[must_use]
     #[inline]
     pub fn eq_u32(&self, other: &u32) -> bool {
@@ -170,8 +176,11 @@ impl Offset32 {
     pub const fn to_u32(self) -> u32 {
         self.0
     }
+}
 
-    /// Returns `true` if the offset is this number.
+/// The named form of `==` across types, which Rattle needs.
+impl Offset32 {
+    /// Returns `true` if the offset is this number, as `==` does.
     #[must_use]
     #[inline]
     pub fn eq_u32(&self, other: &u32) -> bool {
@@ -271,8 +280,11 @@ impl<T: OffsetValue> Nullable<T> {
     pub fn is_null(&self) -> bool {
         self.0.value_u32() == 0
     }
+}
 
-    /// Returns `true` if the offset is this number.
+/// The named form of `==` across types, which Rattle needs.
+impl<T: OffsetValue> Nullable<T> {
+    /// Returns `true` if the offset is this number, as `==` does.
     #[must_use]
     #[inline]
     pub fn eq_u32(&self, other: &u32) -> bool {
