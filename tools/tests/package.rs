@@ -4,24 +4,61 @@ use font_types_tools::repository::{files, root, text};
 use std::collections::BTreeSet;
 use std::process::Command;
 
-#[test]
-fn files_of_the_package() {
+/// Lists the files that cargo packs, except those that it adds.
+fn packed() -> BTreeSet<String> {
     let mut cargo = Command::new(env!("CARGO"));
     let cargo = cargo.args(["package", "--list", "--allow-dirty", "--offline"]);
     let output = cargo.current_dir(root()).output().unwrap();
     let packed = String::from_utf8(output.stdout).unwrap();
-    let source = files("src", "").into_iter();
-    let source = source.filter(|path| !path.starts_with("src/bin/"));
-    let others = "Cargo.toml LICENSE-APACHE LICENSE-MIT docs/PORTING.md";
-    let expected = source.chain(others.split(' ').map(String::from));
-    let expected: BTreeSet<String> = expected.collect();
-    // Cargo adds these.
     let is_ours = |path: &&str| {
         !path.ends_with(".orig") && !matches!(*path, "Cargo.lock" | ".cargo_vcs_info.json")
     };
-    let found: BTreeSet<String> = packed.lines().filter(is_ours).map(String::from).collect();
+    packed.lines().filter(is_ours).map(String::from).collect()
+}
+
+/// The package has the Rust, the source that it is made from, and the words of its contracts.
+#[test]
+fn files_of_the_package() {
+    let source = files("src", "").into_iter();
+    let source = source.filter(|path| !path.starts_with("src/bin/"));
+    let crates = "base decimal fixed geom ids tags types".split(' ');
+    let contracts = crates.flat_map(|name| {
+        let folder = format!("crates/font_{name}");
+        let code = files(&format!("{folder}/src"), ".rt").into_iter();
+        let code = code.filter(|path| !path.contains("/tests"));
+        code.chain(files(&format!("{folder}/specs"), ".antt"))
+    });
+    let others = "CHANGELOG.md Cargo.toml LICENSE-APACHE LICENSE-MIT docs/PORTING.md";
+    let expected = source.chain(contracts);
+    let expected = expected
+        .chain(others.split(' ').map(String::from))
+        .collect();
+    let found = packed();
     let wrong: Vec<&String> = found.symmetric_difference(&expected).collect();
     assert!(wrong.is_empty(), "{wrong:?}");
+}
+
+#[test]
+fn source_that_the_package_names_is_in_it() {
+    let (packed, mut count) = (packed(), 0);
+    for path in packed.iter().filter(|path| path.starts_with("src/")) {
+        let text = text(path);
+        let named = text
+            .split("crates/")
+            .skip(1)
+            .map(|rest| rest.split_once(".rt"));
+        for (name, _) in named
+            .flatten()
+            .filter(|(name, _)| !name.contains(['*', ' ']))
+        {
+            assert!(
+                packed.contains(&format!("crates/{name}.rt")),
+                "{path}: {name}"
+            );
+            count += 1;
+        }
+    }
+    assert!(count > 50, "{count}");
 }
 
 #[test]

@@ -20,6 +20,8 @@ use core::slice::Iter;
 /// assert_eq!(ends.iter().next_back(), Some(0xFFFF));
 /// assert!(ScalarArray::<u16>::new(&[0x00]).is_none());
 /// ```
+///
+/// The source and its contracts: `crates/font_base/src/array.rt`.
 pub struct ScalarArray<'a, T: Scalar> {
     raw: &'a [T::Raw],
 }
@@ -260,6 +262,8 @@ impl<'a, T: Scalar> ScalarArray<'a, T> {
 }
 
 /// An iterator over the elements of a [`ScalarArray`].
+///
+/// The source and its contracts: `crates/font_base/src/array.rt`.
 pub struct ScalarArrayIter<'a, T: Scalar> {
     rest: Iter<'a, T::Raw>,
 }

@@ -11,6 +11,8 @@
 /// - `from_slice` accepts exactly the slices of `LEN` bytes.
 /// - `as_slice` returns `LEN` bytes, those that `from_slice` was given.
 /// - Arrays with equal bytes are the same value.
+///
+/// The source and its contracts: `crates/font_base/src/raw.rt`.
 pub trait BeByteArray: Copy {
     /// The number of bytes.
     const LEN: usize;
@@ -113,6 +115,8 @@ impl<const N: usize> ByteChunks for [u8; N] {
 /// Rattle proves this of every [`Scalar`]; rustc does not check it.
 ///
 /// - A value has `RAW_BYTE_LEN` raw bytes.
+///
+/// The source and its contracts: `crates/font_base/src/raw.rt`.
 pub trait FixedSize: Sized {
     /// The encoded size, in bytes.
     const RAW_BYTE_LEN: usize;
@@ -134,6 +138,8 @@ pub trait FixedSize: Sized {
 ///
 /// - `from_raw(value.to_raw())` is `value`, and `from_raw(raw).to_raw()` is `raw`.
 /// - `Raw::LEN` equals `RAW_BYTE_LEN`.
+///
+/// The source and its contracts: `crates/font_base/src/raw.rt`.
 pub trait Scalar: FixedSize {
     /// The raw bytes.
     type Raw: BeByteArray;
@@ -177,6 +183,8 @@ pub trait Scalar: FixedSize {
 /// Rattle proves this of every implementation; rustc does not check it.
 ///
 /// - `a == b` if and only if they are the same value, with the same raw bytes.
+///
+/// The source and its contracts: `crates/font_base/src/raw.rt`.
 pub trait IdentityEq: Eq {}
 
 impl FixedSize for u8 {
