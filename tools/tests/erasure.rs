@@ -118,7 +118,7 @@ fn kept<'a>(mut t: &[&'a str]) -> Vec<&'a str> {
 /// Joins the tokens, without trailing commas.
 fn without_last_commas(t: &[&str]) -> String {
     let mut text = t.join(" ");
-    for end in [")", "]", "}", ">"] {
+    for end in [")", "]", "}", ">", "{"] {
         text = text.replace(&format!(" , {end}"), &format!(" {end}"));
     }
     text + " "

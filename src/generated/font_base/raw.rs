@@ -78,6 +78,8 @@ impl<const N: usize> BeByteArray for [u8; N] {
 /// - `as_chunks` splits a slice into as many arrays as it has bytes for, and the bytes after them.
 ///   If `LEN` is 0, there are no arrays, and all bytes are left.
 /// - `as_flattened` returns the bytes of the arrays, in order.
+///
+/// The source and its contracts: `crates/font_base/src/raw.rt`.
 pub trait ByteChunks: BeByteArray {
     /// Splits a slice into arrays, from its start, and the bytes that are left.
     #[must_use]
