@@ -8,7 +8,7 @@
 //! | of 32 and of 64 bits | [`Fixed`], [`F26Dot6`], [`F2Dot30`], [`F48Dot16`] |
 //! | of another number of fraction bits | [`FixedI16`], [`FixedI32`], [`FixedI64`]; those that round: [`Format`] |
 //! | integers of 24 bits | [`Uint24`], [`Int24`] |
-//! | stored arrays | [`ScalarArray`], [`ScalarArrayIter`] |
+//! | stored arrays | [`ScalarArray`], [`ScalarArrayIter`], [`ByteChunks`] |
 //! | stored fields | [`Scalar`], [`BigEndian`], [`FixedSize`], [`BeByteArray`], [`IdentityEq`] |
 //! | headers of tables | [`TableHeader`], [`TableDataRef`] |
 //! | tags and dates | [`Tag`], [`LongDateTime`] |
