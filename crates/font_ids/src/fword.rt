@@ -130,6 +130,16 @@ impl From<FWord> for i32 {
     }
 }
 
+/// Converts as `to_fixed` does, exactly.
+impl From<FWord> for Fixed {
+    ghost from_gives = { λ word x. fixed_bits x ≡ (fword_number word *ℤ pos (2 ^ 16)) };
+
+    #[inline]
+    fn from(word: FWord) -> Fixed {
+        word.to_fixed()
+    }
+}
+
 impl FixedSize for FWord {
     const RAW_BYTE_LEN: usize = 2;
 
@@ -256,6 +266,15 @@ impl From<UfWord> for u16 {
     #[inline]
     fn from(word: UfWord) -> u16 {
         word.0
+    }
+}
+
+impl From<UfWord> for i32 {
+    ghost from_gives = { λ word number. number ≡ pos (ufword_number word) };
+
+    #[inline]
+    fn from(word: UfWord) -> i32 {
+        i32::from(word.0)
     }
 }
 

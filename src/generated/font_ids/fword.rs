@@ -96,6 +96,14 @@ impl From<FWord> for i32 {
     }
 }
 
+/// Converts as `to_fixed` does, exactly.
+impl From<FWord> for Fixed {
+    #[inline]
+    fn from(word: FWord) -> Fixed {
+        word.to_fixed()
+    }
+}
+
 impl FixedSize for FWord {
     const RAW_BYTE_LEN: usize = 2;
 }
@@ -189,6 +197,13 @@ impl From<UfWord> for u16 {
     #[inline]
     fn from(word: UfWord) -> u16 {
         word.0
+    }
+}
+
+impl From<UfWord> for i32 {
+    #[inline]
+    fn from(word: UfWord) -> i32 {
+        i32::from(word.0)
     }
 }
 

@@ -1,7 +1,7 @@
 //! Quantities in font units.
 
 use crate::{FWord, UfWord};
-use font_fixed::F48Dot16;
+use font_fixed::{F48Dot16, Fixed};
 use std::test::Fail;
 
 #[test]
@@ -20,8 +20,18 @@ fn to_fixed(rt: HostRuntime) {
         );
     }
     for &(number, bits) in &[(-32768, -2147483648), (-1, -65536), (100, 6553600)] {
-        assert!(rt; FWord::new(number).to_fixed().to_bits() == bits, "{number}");
+        let word = FWord::new(number);
+        assert!(rt;
+            [word.to_fixed(), Fixed::from(word)] == [Fixed::from_bits(bits); 2],
+            "{number}"
+        );
     }
+}
+
+#[test]
+fn to_i32(rt: HostRuntime) {
+    assert!(rt; i32::from(FWord::new(-32768)) == -32768);
+    assert!(rt; i32::from(UfWord::new(65535)) == 65535);
 }
 
 #[test]
