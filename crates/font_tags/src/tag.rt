@@ -178,7 +178,10 @@ impl Tag {
     pub fn eq_slice(&self, other: &[u8]) -> bool
         ensures { IsTrue result ↔ (tag_bytes self.now ≡ other.now) }
     {
-        self.0.as_slice() == other
+        match *other {
+            [a, b, c, d] => self.eq_bytes(&[a, b, c, d]),
+            _ => false,
+        }
     }
 }
 

@@ -139,7 +139,10 @@ impl Tag {
     #[must_use]
     #[inline]
     pub fn eq_slice(&self, other: &[u8]) -> bool {
-        self.0.as_slice() == other
+        match *other {
+            [a, b, c, d] => self.eq_bytes(&[a, b, c, d]),
+            _ => false,
+        }
     }
 }
 
