@@ -237,10 +237,44 @@ where
         Ok(Self(read_bits_16(text, F)?))
     }
 
+    /// Returns the shortest decimal that parses back to the value, the text of `{}`, in a buffer.
+    ///
+    /// ```
+    /// use font_types::F2Dot14;
+    /// let value: F2Dot14 = "-0.3".parse().unwrap();
+    /// assert_eq!(value.to_decimal().as_str(), "-0.3");
+    /// ```
+    #[must_use]
+    #[inline]
+    pub fn to_decimal(self) -> Shortest
+        ensures shortest { IsShortest (bits_of self.entry) F (shown result) }
+        ensures text { shown result ≡ text_of self.entry }
+    {
+        Shortest::new(i64::from(self.0), F)
+    }
+
+    /// Returns the length of the longest text of the format: a sign, a point, and the digits before
+    /// and after it.
+    #[must_use]
+    #[inline]
+    pub const fn max_text_len() -> usize
+        ensures { result ≡ longest 16 F }
+    {
+        let (whole, places) = ((15 - F) * 3 / 10 + 1, F * 3 / 10 + 1);
+        (places + 2 + whole) as usize
+    }
+
     /// Writes the padded decimal to the start of `out` and returns its length, or returns `None`
-    /// and leaves `out` unchanged if it is too short. A buffer that holds a sign, the digits of
-    /// `MIN`, a point and `3 F / 10 + 1` places, and at least `pad.width` bytes, is long enough.
-    /// `pad.fill` must be ASCII.
+    /// and leaves `out` unchanged if it is too short. A buffer of `max_text_len()` bytes, and of at
+    /// least `pad.width`, is long enough. `pad.fill` must be ASCII.
+    ///
+    /// ```
+    /// use font_types::{F2Dot14, Pad};
+    /// let mut out = [0; F2Dot14::max_text_len()];
+    /// let len = F2Dot14::MIN.write_padded(&mut out, &Pad::new(0)).unwrap();
+    /// assert_eq!(out[..len], *F2Dot14::MIN.to_string().as_bytes());
+    /// ```
+    #[must_use]
     #[inline]
     pub fn write_padded(self, out: &mut [u8], pad: &Pad) -> Option<usize>
         requires { pad.now.fill < 128 }
@@ -253,15 +287,7 @@ where
             → IfSome result (λ _. out.new ≡ padded_text (text_of self.entry) pad.now) }
         ensures untouched { IfNone result (out.new ≡ out.old) }
     {
-        font_decimal::write_padded(self.shortest().as_str(), out, pad)
-    }
-
-    #[inline]
-    fn shortest(self) -> Shortest
-        ensures shortest { IsShortest (bits_of self.entry) F (shown result) }
-        ensures text { shown result ≡ text_of self.entry }
-    {
-        Shortest::new(i64::from(self.0), F)
+        font_decimal::write_padded(self.to_decimal().as_str(), out, pad)
     }
 }
 
@@ -343,7 +369,7 @@ where
     ghost output = { λ x. Some (text_of x) };
 
     fn fmt<W: fmt::Write>(&self, f: &mut fmt::Formatter<W>) -> fmt::Result {
-        fmt::Display::fmt(&self.shortest(), f)
+        fmt::Display::fmt(&self.to_decimal(), f)
     }
 }
 
@@ -354,7 +380,7 @@ where
     ghost debug_output = { λ x. Some (text_of x) };
 
     fn fmt<W: fmt::Write>(&self, f: &mut fmt::Formatter<W>) -> fmt::Result {
-        fmt::Display::fmt(&self.shortest(), f)
+        fmt::Display::fmt(&self.to_decimal(), f)
     }
 }
 

@@ -63,6 +63,7 @@ impl Pad {
 /// leaves `out` unchanged if it is too short.
 ///
 /// The text must be a decimal, in range or not, and `pad.fill` must be below 0x80.
+#[must_use]
 #[inline]
 pub fn write_padded(text: &str, out: &mut [u8], pad: &Pad) -> Option<usize> {
     let (sign, body) = shown_parts(text, pad.plus);

@@ -175,18 +175,42 @@ where
         Ok(Self(read_bits_32(text, F)?))
     }
 
-    /// Writes the padded decimal to the start of `out` and returns its length, or returns `None`
-    /// and leaves `out` unchanged if it is too short. A buffer that holds a sign, the digits of
-    /// `MIN`, a point and `3 F / 10 + 1` places, and at least `pad.width` bytes, is long enough.
-    /// `pad.fill` must be ASCII.
+    /// Returns the shortest decimal that parses back to the value, the text of `{}`, in a buffer.
+    ///
+    /// ```
+    /// use font_types_proved::Fixed;
+    /// let value: Fixed = "0.1".parse().unwrap();
+    /// assert_eq!(value.to_decimal().as_str(), "0.1");
+    /// ```
+    #[must_use]
     #[inline]
-    pub fn write_padded(self, out: &mut [u8], pad: &Pad) -> Option<usize> {
-        crate::font_decimal::write_padded(self.shortest().as_str(), out, pad)
+    pub fn to_decimal(self) -> Shortest {
+        Shortest::new(i64::from(self.0), F)
     }
 
+    /// Returns the length of the longest text of the format: a sign, a point, and the digits before
+    /// and after it.
+    #[must_use]
     #[inline]
-    fn shortest(self) -> Shortest {
-        Shortest::new(i64::from(self.0), F)
+    pub const fn max_text_len() -> usize {
+        let (whole, places) = ((31 - F) * 3 / 10 + 1, F * 3 / 10 + 1);
+        (places + 2 + whole) as usize
+    }
+
+    /// Writes the padded decimal to the start of `out` and returns its length, or returns `None`
+    /// and leaves `out` unchanged if it is too short. A buffer of `max_text_len()` bytes, and of at
+    /// least `pad.width`, is long enough. `pad.fill` must be ASCII.
+    ///
+    /// ```
+    /// use font_types_proved::{Fixed, Pad};
+    /// let mut out = [0; Fixed::max_text_len()];
+    /// let len = Fixed::MIN.write_padded(&mut out, &Pad::new(0)).unwrap();
+    /// assert_eq!(out[..len], *Fixed::MIN.to_string().as_bytes());
+    /// ```
+    #[must_use]
+    #[inline]
+    pub fn write_padded(self, out: &mut [u8], pad: &Pad) -> Option<usize> {
+        crate::font_decimal::write_padded(self.to_decimal().as_str(), out, pad)
     }
 }
 
@@ -254,7 +278,7 @@ where
     Self: Format<32, F>,
 {
     fn fmt(&self, f: &mut fmt::Formatter<'_>) -> fmt::Result {
-        fmt::Display::fmt(&self.shortest(), f)
+        fmt::Display::fmt(&self.to_decimal(), f)
     }
 }
 
@@ -263,6 +287,6 @@ where
     Self: Format<32, F>,
 {
     fn fmt(&self, f: &mut fmt::Formatter<'_>) -> fmt::Result {
-        fmt::Display::fmt(&self.shortest(), f)
+        fmt::Display::fmt(&self.to_decimal(), f)
     }
 }
