@@ -177,12 +177,11 @@ FONT_PURE int32_t font_f26dot6_mul(int32_t x, int32_t y) FONT_API_NOEXCEPT;
 /** x / y in 26.6, half away from zero; wraps. If y is 0, INT32_MAX, negated if x is negative. */
 FONT_PURE int32_t font_f26dot6_div(int32_t x, int32_t y) FONT_API_NOEXCEPT;
 
-/* ---- conversions to fewer fraction bits, half up. A nearest integer is an integer here, not a
- *      raw value: of 1.5, which is 98304 in 16.16, it is 2. Conversions to as many or more fraction
- *      bits are C, as `bits * 4` from 2.14 to 16.16, `(int32_t)bits` from 48.16 to 16.16, and
- *      `units * INT64_C(65536)` from font units to 48.16 ---- */
+/* ---- conversions to fewer fraction bits, half up; those to as many or more are C, as `bits * 4`
+ *      from 2.14 to 16.16, `(int32_t)bits` from 48.16 to 16.16, and `units * INT64_C(65536)` from
+ *      font units to 48.16 ---- */
 
-/** 16.16 to the nearest integer; wraps to 16 bits. */
+/** 16.16 to the nearest integer, which is no raw value: 98304 to 2; wraps to 16 bits. */
 FONT_PURE int32_t font_fixed_to_i32(int32_t bits) FONT_API_NOEXCEPT;
 
 /** 16.16 to the nearest 26.6; wraps to 22 bits. */
@@ -191,10 +190,10 @@ FONT_PURE int32_t font_fixed_to_f26dot6(int32_t bits) FONT_API_NOEXCEPT;
 /** 16.16 to the nearest 2.14; wraps. */
 FONT_PURE int16_t font_fixed_to_f2dot14(int32_t bits) FONT_API_NOEXCEPT;
 
-/** 26.6 to the nearest integer; wraps to 26 bits. */
+/** 26.6 to the nearest integer, which is no raw value: 96 to 2; wraps to 26 bits. */
 FONT_PURE int32_t font_f26dot6_to_i32(int32_t bits) FONT_API_NOEXCEPT;
 
-/** 48.16 to the nearest integer; wraps to 48 bits. */
+/** 48.16 to the nearest integer, which is no raw value: 98304 to 2; wraps to 48 bits. */
 FONT_PURE int64_t font_f48dot16_to_i64(int64_t bits) FONT_API_NOEXCEPT;
 
 /** 2.30 to the nearest 16.16. */
@@ -307,9 +306,9 @@ FONT_FALLIBLE font_status font_tag_to_text(uint32_t tag, char *out, size_t room,
 
 /* ---- big-endian fields at a byte offset, or FONT_OUT_OF_BOUNDS ---- */
 
-/* Whether an array of items is within bytes, from an offset on. */
-static inline int font_api_within(size_t length, size_t offset, size_t count, size_t size) {
-    return offset <= length && count <= (length - offset) / size;
+/* Whether a field of this size is within bytes, at an offset. */
+static inline int font_api_within(size_t length, size_t offset, size_t size) {
+    return size <= length && offset <= length - size;
 }
 
 /* The number of two bytes, and of four. */
@@ -321,104 +320,106 @@ static inline uint32_t font_api_four(const uint8_t *at) {
 
 /**
  * Stores a pointer to an array of `count` items of `size` bytes, or to `count` bytes if
- * `size` is 1. `size` must not be 0. The pointer is null if `bytes` is, and `count` is 0.
+ * `size` is 1; or fails by FONT_OUT_OF_BOUNDS. `size` must not be 0. If `bytes` is null,
+ * the pointer is.
  */
 FONT_INLINE FONT_FALLIBLE font_status font_read_array(
     const uint8_t *bytes, size_t length, size_t offset, size_t count, size_t size,
     const uint8_t **items) FONT_API_NOEXCEPT {
-    if (!font_api_within(length, offset, count, size))
+    if (offset > length || count > (length - offset) / size)
         return FONT_OUT_OF_BOUNDS;
     *items = bytes == NULL ? NULL : bytes + offset;
     return FONT_OK;
 }
 
-/** Reads a uint8. */
+/** Reads a uint8, or fails by FONT_OUT_OF_BOUNDS. */
 FONT_INLINE FONT_FALLIBLE font_status font_read_u8(
     const uint8_t *bytes, size_t length, size_t offset, uint8_t *value) FONT_API_NOEXCEPT {
-    if (!font_api_within(length, offset, 1, 1))
+    if (!font_api_within(length, offset, 1))
         return FONT_OUT_OF_BOUNDS;
     *value = bytes[offset];
     return FONT_OK;
 }
 
-/** Reads an int8. */
+/** Reads an int8, or fails by FONT_OUT_OF_BOUNDS. */
 FONT_INLINE FONT_FALLIBLE font_status font_read_i8(
     const uint8_t *bytes, size_t length, size_t offset, int8_t *value) FONT_API_NOEXCEPT {
-    if (!font_api_within(length, offset, 1, 1))
+    if (!font_api_within(length, offset, 1))
         return FONT_OUT_OF_BOUNDS;
     *value = (int8_t)bytes[offset];
     return FONT_OK;
 }
 
-/** Reads a uint16. */
+/** Reads a uint16, or fails by FONT_OUT_OF_BOUNDS. */
 FONT_INLINE FONT_FALLIBLE font_status font_read_u16(
     const uint8_t *bytes, size_t length, size_t offset, uint16_t *value) FONT_API_NOEXCEPT {
-    if (!font_api_within(length, offset, 1, 2))
+    if (!font_api_within(length, offset, 2))
         return FONT_OUT_OF_BOUNDS;
     *value = (uint16_t)font_api_two(bytes + offset);
     return FONT_OK;
 }
 
-/** Reads an int16. */
+/** Reads an int16, or fails by FONT_OUT_OF_BOUNDS. */
 FONT_INLINE FONT_FALLIBLE font_status font_read_i16(
     const uint8_t *bytes, size_t length, size_t offset, int16_t *value) FONT_API_NOEXCEPT {
-    if (!font_api_within(length, offset, 1, 2))
+    if (!font_api_within(length, offset, 2))
         return FONT_OUT_OF_BOUNDS;
     *value = (int16_t)font_api_two(bytes + offset);
     return FONT_OK;
 }
 
-/** Reads a uint24. */
+/** Reads a uint24, or fails by FONT_OUT_OF_BOUNDS. */
 FONT_INLINE FONT_FALLIBLE font_status font_read_u24(
     const uint8_t *bytes, size_t length, size_t offset, uint32_t *value) FONT_API_NOEXCEPT {
-    if (!font_api_within(length, offset, 1, 3))
+    if (!font_api_within(length, offset, 3))
         return FONT_OUT_OF_BOUNDS;
     *value = font_api_two(bytes + offset) << 8 | bytes[offset + 2];
     return FONT_OK;
 }
 
-/** Reads an int24. */
+/** Reads an int24, or fails by FONT_OUT_OF_BOUNDS. */
 FONT_INLINE FONT_FALLIBLE font_status font_read_i24(
     const uint8_t *bytes, size_t length, size_t offset, int32_t *value) FONT_API_NOEXCEPT {
-    if (!font_api_within(length, offset, 1, 3))
+    if (!font_api_within(length, offset, 3))
         return FONT_OUT_OF_BOUNDS;
     *value = (int16_t)font_api_two(bytes + offset) * 256 + bytes[offset + 2];
     return FONT_OK;
 }
 
-/** Reads a uint32. */
+/** Reads a uint32, or fails by FONT_OUT_OF_BOUNDS. */
 FONT_INLINE FONT_FALLIBLE font_status font_read_u32(
     const uint8_t *bytes, size_t length, size_t offset, uint32_t *value) FONT_API_NOEXCEPT {
-    if (!font_api_within(length, offset, 1, 4))
+    if (!font_api_within(length, offset, 4))
         return FONT_OUT_OF_BOUNDS;
     *value = font_api_four(bytes + offset);
     return FONT_OK;
 }
 
-/** Reads an int32. */
+/** Reads an int32, or fails by FONT_OUT_OF_BOUNDS. */
 FONT_INLINE FONT_FALLIBLE font_status font_read_i32(
     const uint8_t *bytes, size_t length, size_t offset, int32_t *value) FONT_API_NOEXCEPT {
-    if (!font_api_within(length, offset, 1, 4))
+    if (!font_api_within(length, offset, 4))
         return FONT_OUT_OF_BOUNDS;
     *value = (int32_t)font_api_four(bytes + offset);
     return FONT_OK;
 }
 
-/** Reads an int64. */
+/** Reads an int64, or fails by FONT_OUT_OF_BOUNDS. */
 FONT_INLINE FONT_FALLIBLE font_status font_read_i64(
     const uint8_t *bytes, size_t length, size_t offset, int64_t *value) FONT_API_NOEXCEPT {
-    if (!font_api_within(length, offset, 1, 8))
+    if (!font_api_within(length, offset, 8))
         return FONT_OUT_OF_BOUNDS;
     const uint64_t high = font_api_four(bytes + offset);
     *value = (int64_t)(high << 32 | font_api_four(bytes + offset + 4));
     return FONT_OK;
 }
 
-/* ---- rounding to integers, half up. The result is a raw value too: of 1.5, which is 98304 in
- *      16.16, it is 131072. Fails by FONT_BAD_FRACTION, or by FONT_OUT_OF_RANGE if the nearest
- *      integer does not fit, where the Rust types wrap ---- */
+/* ---- rounding to integers, half up; the result is a raw value too ---- */
 
-/** Rounds a 16-bit raw value to the raw value of the nearest integer. */
+/**
+ * Rounds a 16-bit raw value to that of the nearest integer, half up: of 1.5, that of 2.
+ * Fails by FONT_BAD_FRACTION, FONT_OUT_OF_RANGE. (The Rust types wrap.)
+ */
 FONT_INLINE FONT_FALLIBLE font_status font_round_i16(
     int16_t bits, uint32_t fraction_bits, int16_t *whole) FONT_API_NOEXCEPT {
     if (fraction_bits < 6 || fraction_bits > 14)
@@ -430,7 +431,10 @@ FONT_INLINE FONT_FALLIBLE font_status font_round_i16(
     return FONT_OK;
 }
 
-/** Rounds a 32-bit raw value to the raw value of the nearest integer. */
+/**
+ * Rounds a 32-bit raw value to that of the nearest integer, half up: of 1.5, that of 2.
+ * Fails by FONT_BAD_FRACTION, FONT_OUT_OF_RANGE. (The Rust types wrap.)
+ */
 FONT_INLINE FONT_FALLIBLE font_status font_round_i32(
     int32_t bits, uint32_t fraction_bits, int32_t *whole) FONT_API_NOEXCEPT {
     if (fraction_bits < 6 || fraction_bits > 30)
@@ -442,7 +446,10 @@ FONT_INLINE FONT_FALLIBLE font_status font_round_i32(
     return FONT_OK;
 }
 
-/** Rounds a 64-bit raw value to the raw value of the nearest integer. */
+/**
+ * Rounds a 64-bit raw value to that of the nearest integer, half up: of 1.5, that of 2.
+ * Fails by FONT_BAD_FRACTION, FONT_OUT_OF_RANGE. (The Rust types wrap.)
+ */
 FONT_INLINE FONT_FALLIBLE font_status font_round_i64(
     int64_t bits, uint32_t fraction_bits, int64_t *whole) FONT_API_NOEXCEPT {
     if (fraction_bits < 6 || fraction_bits > 30)
