@@ -92,7 +92,7 @@ fn scalar(region: &ScalarArray<'_, RegionAxis>, coordinates: &[F2Dot14]) -> Fixe
             _ => (end - x) / (end - peak),
         }
     };
-    let scalars = region.iter().zip(coordinates).map(of_axis);
+    let scalars = region.values().zip(coordinates).map(of_axis);
     scalars.fold(Fixed::ONE, |product, scalar| product * scalar)
 }
 
@@ -167,7 +167,7 @@ fn main() -> Result<(), Box<dyn std::error::Error>> {
     let settings: Vec<String> = words.collect();
     let font = Font::new(&bytes).ok_or("no font of one face")?;
     let mut coordinates = Vec::new();
-    for (n, axis) in axes(&font).ok_or("no axes")?.iter().enumerate() {
+    for (n, axis) in axes(&font).ok_or("no axes")?.values().enumerate() {
         let value = settings
             .iter()
             .find_map(|word| word.strip_prefix(&format!("{}=", axis.tag)));

@@ -190,6 +190,29 @@ fn arrays() {
     assert_eq!(array.as_raw(), [[0, 1], [0, 4], [0, 9], [0, 16]]);
 }
 
+/// A borrowed array, and its iterator, can be taken for those of a shorter borrow.
+fn shortened<'a>(
+    array: ScalarArray<'static, u16>,
+    _borrow: &'a [u8],
+) -> (ScalarArray<'a, u16>, ScalarArrayIter<'a, u16>) {
+    (array, array.iter())
+}
+
+#[test]
+fn lifetimes() {
+    let local = vec![0, 2];
+    let array = ScalarArray::new(&[0, 1]).unwrap();
+    let mut arrays = [
+        shortened(array, &local).0,
+        ScalarArray::new(&local).unwrap(),
+    ];
+    arrays.reverse();
+    assert_eq!(arrays.map(|array| array.get(0)), [Some(2), Some(1)]);
+    assert_eq!(shortened(array, &local).1.next(), Some(1));
+    fn is_shared<T: Copy + Send + Sync + Unpin + std::panic::UnwindSafe>(_: T) {}
+    is_shared(array);
+}
+
 #[test]
 fn long_array() {
     let bytes: Vec<u8> = (0..70_000u32).flat_map(u32::to_be_bytes).collect();

@@ -25,6 +25,7 @@ fn empty_array(rt: HostRuntime) -> Result<(), Fail> {
     let none = ScalarArray::<u16>::new(&[]).ok_or("no bytes")?;
     let one = ScalarArray::<u16>::new(&[0, 7]).ok_or("two bytes")?;
     assert!(rt; none.is_empty() && !one.is_empty() && one.as_bytes() == [0, 7].as_slice());
+    assert!(rt; none.as_raw().is_empty() && one.as_raw() == [[0, 7]].as_slice());
     assert!(rt; none.first().is_none() && none.last().is_none());
     assert!(rt; none.binary_search(&7) == Err(0) && none.iter().size_hint() == (0, Some(0)));
     assert!(rt; one.first() == Some(7) && one.last() == Some(7));
