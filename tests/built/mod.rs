@@ -89,13 +89,17 @@ pub fn font_of<const N: usize>(variations: [(&[u8; 4], Vec<u8>); N]) -> Vec<u8> 
     let os2 = table(78, &[(4, &[400]), (58, &[0x5445, 0x5354]), (68, &[800])]);
     let head: [(_, &[u16]); 3] = [(0, &[1, 0, 2, 0x8000]), (18, &[1000]), (36, &[0xFFF6])];
     let hhea = table(36, &[(4, &[800, 0xFF38, 0, 620]), (34, &[2])]);
+    // The outline of glyph 1 has this box.
+    let glyf = words(&[1, 0xFFF6, 0xFF38, 590, 700, 0]);
     let mut tables = BTreeMap::from(variations);
     tables.extend([
         (b"OS/2", os2),
         (b"cmap", cmap()),
+        (b"glyf", glyf),
         (b"head", table(54, &head)),
         (b"hhea", hhea),
         (b"hmtx", words(&[500, 7, 620, 0xFFF0, 9])),
+        (b"loca", words(&[0, 0, 6, 6])),
         (b"maxp", words(&[0, 0x5000, 3])),
         (b"name", name("Ütest")),
     ]);
