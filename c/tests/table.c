@@ -545,13 +545,13 @@ static void check_matrices(void) {
     check_point("members of a matrix", 0, image(members, of_members), right);
     font_matrix slanted = {65536, 0, 0, 65536, 10, -10};
     slanted.xy = 32768;
-    font_point points[71];
-    for (int32_t i = 0; i < 71; i++)
+    font_point points[301];
+    for (int32_t i = 0; i < 301; i++)
         points[i].x = 2 * i, points[i].y = -2 * i;
-    images(&slanted, points, 70);
-    for (int32_t i = 0; i < 71; i++) {
+    images(&slanted, points, 300);
+    for (int32_t i = 0; i < 301; i++) {
         const font_point moved = {i + 10, -2 * i - 10}, kept = {2 * i, -2 * i};
-        check_point("70 points", (size_t)i, points[i], i < 70 ? moved : kept);
+        check_point("300 points", (size_t)i, points[i], i < 300 ? moved : kept);
     }
 }
 
@@ -709,6 +709,7 @@ static const struct {
     {"cvt ", 4, {FONT_OK, 0x63767420}, {FONT_OK, KEPT}, "cvt "},
     {"~~~~", 4, {FONT_OK, 0x7E7E7E7E}, {FONT_OK, KEPT}, "~~~~"},
     {"a", 1, {FONT_OK, 0x61202020}, {FONT_OK, 0}, NULL},
+    {"cvt", 3, {FONT_OK, 0x63767420}, {FONT_OK, 0}, NULL},
     {"  ", 2, {FONT_TAG_BYTE, KEPT}, {FONT_OK, 0}, NULL},
     {"GSUB ", 5, {FONT_TAG_LENGTH, KEPT}, {FONT_OK, 0}, NULL},
     {"    ", 4, {FONT_TAG_BYTE, KEPT}, {FONT_TAG_LENGTH, KEPT}, "    "},
