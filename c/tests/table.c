@@ -686,6 +686,10 @@ static void check_sets(void) {
     check_value("many scalars", 4,
                 sum_of_set(scalars, MOST_SCALARS, bytes, 2 * MOST_SCALARS, 0x8000),
                 INT64_C(65535) * 0x7F80 << 31);
+    check_error("many scalars", 5, sum_of_set(scalars, 0x7FFF, bytes, 4 * 0x7FFF, 0xFFFF),
+                FONT_OUT_OF_RANGE);
+    check_error("many scalars", 6, sum_of_set(scalars, 0x7FFF, bytes, 4 * 0x7FFE, 0xFFFF),
+                FONT_OTHER_COUNT);
 }
 
 static void check_applied(void) {
