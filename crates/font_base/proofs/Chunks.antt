@@ -22,6 +22,12 @@ byte_take (suc n) [] each i = omega arith
 byte_take (suc n) (b ∷ bytes) each zero = each 0
 byte_take (suc n) (b ∷ bytes) each (suc i) = byte_take n bytes (λ j. each (suc j)) i
 
+-- the first n bytes are an array
+pub front_is_bytes : (n : ℕ) (bytes front : List ℕ) → n ≤ length bytes → front ≡ take n bytes → ByteAt bytes
+    → IsTrue (are_bytes n front)
+front_is_bytes n bytes front fits is each =
+    rw is (are_bytes_in n (take n bytes) (length-take-le n bytes fits) (byte_take n bytes each))
+
 next_fits : (n k : ℕ) (bytes : List ℕ) → suc k * n ≤ length bytes → k * n ≤ length (drop n bytes)
 next_fits n k bytes fits = omega (arith, fits, length-drop n bytes, suc-mul k n)
 

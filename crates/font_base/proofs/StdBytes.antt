@@ -1,6 +1,6 @@
 -- The bytes that std reads and writes, as numerals.
 use Rattle.std.proofs.Common.{◌≡◌, ◌∙◌, ◌+◌, drop-cons, drop_of_length-le, sym, ap, ℕ, zero, suc, ◌*◌, ◌^◌, ◌<◌, ◌≤◌, ℤ}
-use Rattle.std.proofs.Common.{pos, negsuc, ◌+ℤ◌, ◌*ℤ◌, List, [], ◌∷◌, length, get_or, take, drop, take_all}
+use Rattle.std.proofs.Common.{pos, negsuc, ◌+ℤ◌, ◌*ℤ◌, List, [], ◌∷◌, length, get_or, drop}
 use Rattle.std.proofs.Common.{arith, IsTrue, mod-eq_of_lt, w8, w16, w32, w64, SFits, to_z, of_z}
 use Rattle.std.proofs.lemmas.Int.{to_z-of_z}
 use Rattle.std.proofs.lemmas.Bool.Decides.{nat_tests}
@@ -9,7 +9,7 @@ use Rattle.std.specs.Int.{Width, w128, byte_len, to_be_bytes, from_be_bytes}
 use mir.Val.{bits, hbits}
 use Rattle.font_base.specs.Wrap.{wrap}
 use Rattle.font_base.specs.Bytes.{numeral, are_bytes, bytes_of, signed_numeral}
-use Rattle.font_base.specs.Bytes.Laws.{are_bytes_in, bytes_of-same}
+use Rattle.font_base.specs.Bytes.Laws.{bytes_of-same}
 use Rattle.font_base.proofs.Widths.{to_z-wrap}
 
 -- the bits of a width, its bytes and its half range
@@ -63,12 +63,6 @@ pub to_z-signed_numeral : (w : Width) (bytes : List ℕ) → numeral bytes < 2 ^
 unfolding signed_numeral
 to_z-signed_numeral w bytes below =
     to_z-wrap w (numeral bytes) below ∙ ap (λ k. wrap k (pos (numeral bytes))) (width_facts w).1
-
--- the first n bytes of a slice of n bytes
-pub chunk_is_bytes : (n : ℕ) (slice array : List ℕ) → length slice ≡ n → array ≡ take n slice
-    → ((i : ℕ) → get_or slice i 0 < 256) → IsTrue (are_bytes n array)
-chunk_is_bytes n slice array many is each =
-    rw (is, take_all n slice (omega (arith, many))) (are_bytes_in n slice many each)
 
 -- ---- std's calls, in the form of the goals of `from_raw` and `to_raw`
 
