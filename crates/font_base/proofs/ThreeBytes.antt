@@ -1,11 +1,14 @@
 -- The integers of 24 bits and the four bytes of std's integers of 32 bits.
 use Rattle.std.proofs.Common.{◌≡◌, ◌∙◌, sym, ap, refl, subst, ℕ, ◌+◌, ◌*◌, ℤ, pos, ◌*ℤ◌, neg_ℤ, List, ◌^◌, ◌<◌, lit<}
 use Rattle.std.proofs.Common.{[], ◌∷◌, length, get_or, arith, SFits, to_z, of_z, lt-ltb, w32}
-use Rattle.std.proofs.lemmas.Int.{ints, to_z-of_z}
+use Rattle.std.proofs.lemmas.Int.{ints, to_z-of_z, to_z_pos}
+use Rattle.std.proofs.Math.Facts.{to_z-neg}
+use Rattle.std.proofs.lemmas.Bool.Decides.{nat_tests}
+use Rattle.std.specs.Int.Signed.{quot_z}
 use Rattle.std.specs.Cmp.Derive.{both_true}
 use Rattle.std.specs.Int.{to_be_bytes}
 use Rattle.font_base.specs.Bytes.{numeral, signed_numeral, bytes_of, IsBytesOf}
-use Rattle.font_base.specs.Wrap.{FitsBits}
+use Rattle.font_base.specs.Wrap.{FitsBits, IsWrapped}
 use Rattle.font_base.proofs.StdBytes.{turns_of, of_z-turned}
 use Rattle.font_base.specs.Bytes.Laws.{IsBytesOf-numeral, IsBytesOf-high_first, IsBytesOf-apart, numeral-bytes_of}
 use Rattle.font_base.specs.Bytes.Laws.{signed_numeral-bytes_of}
@@ -25,9 +28,12 @@ last_three_signed z bytes fits is =
     (last_three (of_z w32 z) bytes (is ∙ ap (λ y. to_be_bytes w32 (of_z w32 y)) (to_z-of_z w32 z fits)))
 
 -- the number of three bytes
+abbrev pub three : List ℕ → ℕ
+three bytes = get_or bytes 0 0 * 65536 + get_or bytes 1 0 * 256 + get_or bytes 2 0
+
 pub from_three : (bytes : List ℕ) → length bytes ≡ 3
     → get_or bytes 0 0 < 256 → get_or bytes 1 0 < 256 → get_or bytes 2 0 < 256
-    → IsBytesOf 3 (pos (get_or bytes 0 0 * 65536 + get_or bytes 1 0 * 256 + get_or bytes 2 0)) bytes
+    → IsBytesOf 3 (pos (three bytes)) bytes
 from_three [] many first second third = absurd (omega arith)
 from_three (a ∷ []) many first second third = absurd (omega arith)
 from_three (a ∷ b ∷ []) many first second third = absurd (omega arith)
@@ -36,6 +42,24 @@ from_three (a ∷ b ∷ c ∷ []) many first second third =
     let are = both_true (lt-ltb a 256 first) (both_true (lt-ltb b 256 second) (both_true (lt-ltb c 256 third) refl)) in
     subst (λ (n : ℕ). IsBytesOf 3 (pos n) (a ∷ b ∷ c ∷ [])) number (IsBytesOf-numeral 3 _ are)
 from_three (a ∷ b ∷ c ∷ d ∷ rest) many first second third = absurd (omega arith)
+
+-- a number of 24 bits in the upper bits of 32, divided by 256
+upper_bits : (m : ℕ) → m < 2 ^ 24 → IsWrapped 24 (pos m) (quot_z (to_z w32 (m * 256)) (pos 256))
+upper_bits m below = record {
+  fits = grind (arith, nat_tests, to_z_pos, to_z-neg);
+  turns = turns_of (to_z w32 (m * 256));
+  differs = grind (arith, nat_tests, to_z_pos, to_z-neg);
+}
+
+-- the same, as `i32::from_be_bytes(..) / 0x100` computes it
+pub upper_bits_read : (m : ℕ) (r : ℤ) → m < 2 ^ 24 → r ≡ to_z w32 (m * 256)
+    → IsWrapped 24 (pos m) (to_z w32 (of_z w32 (quot_z (to_z w32 (of_z w32 r)) (pos 256))))
+upper_bits_read m r below is =
+    let wrapped = upper_bits m below in
+    let quotient = quot_z (to_z w32 (m * 256)) (pos 256) in
+    let fits : SFits w32 quotient = grind (arith, nat_tests, wrapped.fits) in
+    let read : to_z w32 (of_z w32 r) ≡ to_z w32 (m * 256) = grind (arith, nat_tests, is, to_z-of_z) in
+    rw read (rw (to_z-of_z w32 quotient fits) wrapped)
 
 -- an unsigned number of three bytes is their numeral
 pub uint24_numeral : (n : ℕ) (bytes : List ℕ) → n < 2 ^ 24 → bytes ≡ bytes_of 3 (pos n) → n ≡ numeral bytes

@@ -5,7 +5,6 @@ ghost use Rattle.std.specs.Int.{int_min, int_max};
 ghost use Rattle.std.specs.Fmt.{signed_decimal};
 
 use crate::raw::{FixedSize, IdentityEq, Scalar};
-use crate::uint24::Uint24;
 use std::fmt;
 
 /// A 24-bit signed integer.
@@ -89,12 +88,8 @@ impl Int24 {
         ensures bytes { bytes ≡ bytes_of 3 (int24_number result) }
         ensures number { int24_number result ≡ signed_numeral 3 bytes }
     {
-        let unsigned = Uint24::from_be_bytes(bytes).to_u32() as i32;
-        let value = if unsigned > Self::MAX.value {
-            unsigned - 0x100_0000
-        } else {
-            unsigned
-        };
+        let [high, middle, low] = bytes;
+        let value = i32::from_be_bytes([high, middle, low, 0]) / 0x100;
         Int24 { value }
     }
 }

@@ -86,7 +86,8 @@ impl Uint24 {
         ensures bytes { bytes ≡ bytes_of 3 (pos (uint24_number result)) }
         ensures number { uint24_number result ≡ numeral bytes }
     {
-        let value = bytes[0] as u32 * 0x1_0000 + bytes[1] as u32 * 0x100 + bytes[2] as u32;
+        let [high, middle, low] = bytes;
+        let value = u32::from_be_bytes([high, middle, low, 0]) / 0x100;
         Uint24 { value }
     }
 }

@@ -3,7 +3,6 @@
 //! 24-bit signed integers.
 
 use crate::font_base::raw::{FixedSize, IdentityEq, Scalar};
-use crate::font_base::uint24::Uint24;
 use core::fmt;
 
 /// A 24-bit signed integer.
@@ -70,12 +69,8 @@ impl Int24 {
     #[must_use]
     #[inline]
     pub const fn from_be_bytes(bytes: [u8; 3]) -> Int24 {
-        let unsigned = Uint24::from_be_bytes(bytes).to_u32() as i32;
-        let value = if unsigned > Self::MAX.value {
-            unsigned - 0x100_0000
-        } else {
-            unsigned
-        };
+        let [high, middle, low] = bytes;
+        let value = i32::from_be_bytes([high, middle, low, 0]) / 0x100;
         Int24 { value }
     }
 }

@@ -67,7 +67,8 @@ impl Uint24 {
     #[must_use]
     #[inline]
     pub const fn from_be_bytes(bytes: [u8; 3]) -> Uint24 {
-        let value = bytes[0] as u32 * 0x1_0000 + bytes[1] as u32 * 0x100 + bytes[2] as u32;
+        let [high, middle, low] = bytes;
+        let value = u32::from_be_bytes([high, middle, low, 0]) / 0x100;
         Uint24 { value }
     }
 }
