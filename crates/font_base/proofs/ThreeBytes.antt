@@ -28,12 +28,9 @@ last_three_signed z bytes fits is =
     (last_three (of_z w32 z) bytes (is ∙ ap (λ y. to_be_bytes w32 (of_z w32 y)) (to_z-of_z w32 z fits)))
 
 -- the number of three bytes
-abbrev pub three : List ℕ → ℕ
-three bytes = get_or bytes 0 0 * 65536 + get_or bytes 1 0 * 256 + get_or bytes 2 0
-
 pub from_three : (bytes : List ℕ) → length bytes ≡ 3
     → get_or bytes 0 0 < 256 → get_or bytes 1 0 < 256 → get_or bytes 2 0 < 256
-    → IsBytesOf 3 (pos (three bytes)) bytes
+    → IsBytesOf 3 (pos (get_or bytes 0 0 * 65536 + get_or bytes 1 0 * 256 + get_or bytes 2 0)) bytes
 from_three [] many first second third = absurd (omega arith)
 from_three (a ∷ []) many first second third = absurd (omega arith)
 from_three (a ∷ b ∷ []) many first second third = absurd (omega arith)
@@ -51,14 +48,17 @@ upper_bits m below = record {
   differs = grind (arith, nat_tests, to_z_pos, to_z-neg);
 }
 
--- the same, as `i32::from_be_bytes(..) / 0x100` computes it
-pub upper_bits_read : (m : ℕ) (r : ℤ) → m < 2 ^ 24 → r ≡ to_z w32 (m * 256)
-    → IsWrapped 24 (pos m) (to_z w32 (of_z w32 (quot_z (to_z w32 (of_z w32 r)) (pos 256))))
-upper_bits_read m r below is =
-    let wrapped = upper_bits m below in
+-- the same, as `i32::from_be_bytes([a, b, c, 0]) / 0x100` computes it
+pub upper_bits_read : (a b c : ℕ) (r : ℤ) → a < 256 → b < 256 → c < 256
+    → r ≡ to_z w32 (a * 16777216 + b * 65536 + c * 256 + 0)
+    → IsWrapped 24 (pos (a * 65536 + b * 256 + c)) (to_z w32 (of_z w32 (quot_z (to_z w32 (of_z w32 r)) (pos 256))))
+upper_bits_read a b c r first second third is =
+    let m = a * 65536 + b * 256 + c in
+    let wrapped = upper_bits m (omega arith) in
     let quotient = quot_z (to_z w32 (m * 256)) (pos 256) in
     let fits : SFits w32 quotient = grind (arith, nat_tests, wrapped.fits) in
-    let read : to_z w32 (of_z w32 r) ≡ to_z w32 (m * 256) = grind (arith, nat_tests, is, to_z-of_z) in
+    let value : r ≡ to_z w32 (m * 256) = is ∙ ap (to_z w32) (omega arith) in
+    let read : to_z w32 (of_z w32 r) ≡ to_z w32 (m * 256) = grind (arith, nat_tests, value, to_z-of_z) in
     rw read (rw (to_z-of_z w32 quotient fits) wrapped)
 
 -- an unsigned number of three bytes is their numeral
