@@ -1,4 +1,4 @@
-//! docs/CALLING.md shows files of the crate `examples`.
+//! The pages show files of the crate `examples`, and contracts as the source has them.
 
 use font_types_tools::repository::text;
 
@@ -13,4 +13,26 @@ fn calling_shows_files_of_the_examples() {
         assert_eq!(shown, text(&format!("crates/examples/{file}")), "{file}");
     }
     assert_eq!(links.count(), 3);
+}
+
+/// Returns a text without white space, so that its layout does not count.
+fn squeezed(text: &str) -> String {
+    text.split_whitespace().collect()
+}
+
+#[test]
+fn pages_show_contracts_of_the_source() {
+    let source = squeezed(&text("crates/font_fixed/src/fixed_i32.rt"));
+    for (page, start) in [
+        ("README.md", "pub fn checked_add"),
+        ("src/guide.md", "pub const fn floor"),
+    ] {
+        let page_text = text(page);
+        let block = page_text
+            .split("```")
+            .find(|block| block.contains(start))
+            .expect(page);
+        let (_, shown) = block.split_once('\n').unwrap();
+        assert!(source.contains(&squeezed(shown)), "{page}");
+    }
 }

@@ -2,10 +2,8 @@
 use Rattle.std.proofs.Common.{◌≡◌, ◌∙◌, ap, ◌+◌, ◌-◌, ◌*◌, ◌^◌, ◌<◌, ◌≤◌, ℕ, zero, List, [], ◌∷◌, ℤ, pos, ◌+ℤ◌, ◌*ℤ◌}
 use Rattle.std.proofs.Common.{get_or, refl, suc, arith, unsigned_abs}
 use Rattle.std.proofs.Common.{length, take, drop}
-use Rattle.std.proofs.lemmas.Int.{ints}
 use Rattle.std.proofs.lemmas.List.{drop-drop, drop-take, get_or-drop, get_or-take, take-take}
 use Rattle.font_types.specs.Bytes.{signed_numeral}
-use Rattle.font_types.specs.Wrap.{FitsBits}
 use Rattle.font_c.specs.DeltaSets.{delta_at, first_products}
 
 pub no_products : (wide narrow words : ℕ) (set : List ℕ) (scalars : List ℤ)
@@ -30,13 +28,13 @@ next_product wide narrow words set scalars n =
 
 -- an accumulator of 128 bits holds a sum with one product more
 pub sum_grows : (n : ℕ) (first product sum term next : ℤ) → n < 2 ^ 64
-    → (sum ≡ first) × (unsigned_abs sum ≤ n * 2 ^ 62) → term ≡ product → unsigned_abs term ≤ 2 ^ 62
-    → (FitsBits 128 (sum +ℤ term) → next ≡ (sum +ℤ term))
+    → (sum ≡ first) × (unsigned_abs sum ≤ n * 2 ^ 62) → term ≡ product
+    → (unsigned_abs sum ≤ 2 ^ 126 → (next ≡ (sum +ℤ term)) × (unsigned_abs next ≤ unsigned_abs sum + 2 ^ 62))
     → (next ≡ (first +ℤ product)) × (unsigned_abs next ≤ (n + 1) * 2 ^ 62)
-sum_grows n first product sum term next few so_far is small exact =
+sum_grows n first product sum term next few so_far is small =
     let far = so_far.1 in
-    let added = exact (record { low = omega (arith, ints, far, small); high = omega (arith, ints, far, small) }) in
-    (added ∙ ap (λ z. z +ℤ term) so_far.0 ∙ ap (λ z. first +ℤ z) is, omega (arith, ints, far, small, added))
+    let added = small (omega (arith, far)) in
+    (added.0 ∙ ap (λ z. z +ℤ term) so_far.0 ∙ ap (λ z. first +ℤ z) is, omega (arith, far, added.1))
 
 -- ---- the scalars and the bytes at either end
 

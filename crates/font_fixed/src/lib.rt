@@ -1,5 +1,5 @@
 //! Fixed-point numbers: [`FixedI16`], [`FixedI32`] and [`FixedI64`] over any number of fraction
-//! bits, and the formats of fonts, which are names for seven of them.
+//! bits, and seven formats, which are names for some of them.
 //!
 //! ```text
 //! let half = Fixed::from_decimal("0.5")?;

@@ -1,6 +1,6 @@
 -- Sums of the numbers of an array: one element more, by its index; and those that an iterator has left.
 use Rattle.std.proofs.Common.{◌≡◌, ◌∙◌, ap, lit<, arith, ℕ, zero, suc, ◌+◌, ◌*◌, ◌<◌, ◌≤◌, ℤ, pos, w16, w32, SFits}
-use Rattle.std.proofs.Common.{List, [], ◌∷◌, length, take, drop, get_or}
+use Rattle.std.proofs.Common.{List, [], ◌∷◌, take, drop, get_or}
 use Rattle.std.proofs.lemmas.List.{drop-drop, take_all}
 use Rattle.std.proofs.lemmas.List.Sums.{sum_by-cons, sum_by_more}
 use Rattle.std.specs.List.{sum_by}

@@ -164,12 +164,6 @@ term_bound x y fits_x fits_y =
           {m₂ = 2 ^ 31} low high,
     )
 
--- one term more, if the sum is far from the limits of 128 bits
-pub exact_term : (sum term next : ℤ) → unsigned_abs sum ≤ 2 ^ 126 → unsigned_abs term ≤ 2 ^ 62
-    → (FitsBits 128 (sum +ℤ term) → next ≡ (sum +ℤ term)) → next ≡ (sum +ℤ term)
-exact_term sum term next far small exact =
-    exact (record { low = omega (arith, ints, far, small); high = omega (arith, ints, far, small) })
-
 -- a sum that wraps at 128 bits, one term more, and at its end
 pub sum_starts : pos 0 ≡ wrap 128 (pos 0)
 sum_starts = sym (fits_128 (pos 0) (record { low = omega (arith, ints); high = omega (arith, ints) }))
@@ -190,7 +184,6 @@ pub ruleset delta_sum_calls = (
   fits_128,
   cut_to_64,
   term_bound,
-  exact_term,
   sum_starts,
   sum_goes_on,
   sum_ends,

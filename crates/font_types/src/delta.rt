@@ -1,6 +1,6 @@
 //! Sums of deltas.
 
-ghost use Rattle.std.specs.Prelude.{◌≡◌, ◌↔◌, ◌≤◌, ◌^◌, ◌+ℤ◌, ◌*ℤ◌, pos, unsigned_abs};
+ghost use Rattle.std.specs.Prelude.{◌≡◌, ◌↔◌, ◌≤◌, ◌+◌, ◌^◌, ◌+ℤ◌, ◌*ℤ◌, pos, unsigned_abs};
 ghost use Rattle.std.specs.Prelude.{IsSome, IfSome, option_map};
 ghost use Rattle.font_base.specs.Wrap.{wrap, FitsBits};
 ghost use Rattle.font_fixed.specs.Fixed.{fixed_bits};
@@ -50,7 +50,9 @@ impl DeltaSum {
             ≡ wrap 128 (steps_of self.old +ℤ fixed_bits scalar *ℤ delta) }
         ensures exact { FitsBits 128 (steps_of self.old +ℤ fixed_bits scalar *ℤ delta)
             → steps_of self.new ≡ (steps_of self.old +ℤ fixed_bits scalar *ℤ delta) }
-        ensures bound { unsigned_abs (fixed_bits scalar *ℤ delta) ≤ 2 ^ 62 }
+        ensures small { unsigned_abs (steps_of self.old) ≤ 2 ^ 126
+            → (steps_of self.new ≡ (steps_of self.old +ℤ fixed_bits scalar *ℤ delta))
+            × (unsigned_abs (steps_of self.new) ≤ unsigned_abs (steps_of self.old) + 2 ^ 62) }
     {
         let product = scalar.mul_i32(delta);
         self.steps = self.steps.wrapping_add(i128::from(product.to_bits()));
@@ -61,9 +63,9 @@ impl DeltaSum {
     fn add_term(&mut self, term: &(Fixed, i32))
         ensures wrapped { steps_of self.new
             ≡ wrap 128 (steps_of self.old +ℤ term_product term.now) }
-        ensures exact { FitsBits 128 (steps_of self.old +ℤ term_product term.now)
-            → steps_of self.new ≡ (steps_of self.old +ℤ term_product term.now) }
-        ensures bound { unsigned_abs (term_product term.now) ≤ 2 ^ 62 }
+        ensures small { unsigned_abs (steps_of self.old) ≤ 2 ^ 126
+            → (steps_of self.new ≡ (steps_of self.old +ℤ term_product term.now))
+            × (unsigned_abs (steps_of self.new) ≤ unsigned_abs (steps_of self.old) + 2 ^ 62) }
     {
         let (scalar, delta) = *term;
         self.add(scalar, delta);

@@ -9,8 +9,8 @@ use core::slice::Iter;
 
 /// A borrowed, big-endian array of scalars.
 ///
-/// The length is checked once, by `new`; elements are decoded on access. A record type that
-/// implements [`Scalar`] can be an element too, if its raw bytes are a `[u8; N]`.
+/// Elements are decoded on access. A record type that implements [`Scalar`] can be an element too,
+/// if its raw bytes are a `[u8; N]`.
 ///
 /// ```
 /// use font_types_proved::ScalarArray;
@@ -47,6 +47,8 @@ impl<'a, T: Scalar> ScalarArray<'a, T> {
 
     /// Reads an array of `count` elements at `offset`, or returns `None` if the bytes end before it
     /// does.
+    ///
+    /// If `RAW_BYTE_LEN` is 0, the array is empty.
     ///
     /// ```
     /// use font_types_proved::ScalarArray;
