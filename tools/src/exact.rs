@@ -53,9 +53,9 @@ pub fn read(text: &[u8], kind: Type) -> Result<i128, Fault> {
         return Err(Fault::Syntax);
     }
     let magnitude = number(whole).ok_or(Fault::OutOfRange)? << (kind.fraction + 1);
-    let half_steps = magnitude + half_steps(fraction, kind.fraction + 1);
-    let steps = (half_steps + 1) / 2;
-    let bits = if negative { -steps } else { steps };
+    let half_units = magnitude + half_units(fraction, kind.fraction + 1);
+    let units = (half_units + 1) / 2;
+    let bits = if negative { -units } else { units };
     let in_range = fits(kind.width, bits).then_some(bits);
     in_range.ok_or(Fault::OutOfRange)
 }
@@ -68,7 +68,7 @@ pub fn number(digits: &[u8]) -> Option<i128> {
 }
 
 // Returns the first `places` binary digits of a decimal fraction, by doubling it `places` times.
-fn half_steps(fraction: &[u8], places: u32) -> i128 {
+fn half_units(fraction: &[u8], places: u32) -> i128 {
     let mut digits: Vec<u8> = fraction.iter().map(|digit| digit - b'0').collect();
     let mut found = 0;
     for _ in 0..places {

@@ -73,31 +73,31 @@ pub fn read_decimal_bytes(text: &[u8], f: u32, min: i64, max: i64) -> Result<i64
     ensures { IsReading text.now f min max result }
 {
     let (negative, digits) = split_sign(text);
-    let Some(steps) = nearest_steps(digits, f) else {
+    let Some(magnitude) = nearest_raw(digits, f) else {
         return Err(DecimalFault::Syntax);
     };
-    in_range(negative, steps, min, max).ok_or(DecimalFault::OutOfRange)
+    in_range(negative, magnitude, min, max).ok_or(DecimalFault::OutOfRange)
 }
 
 // Returns the raw value nearest to a decimal without a sign, or, if that exceeds 2^63, some number
 // that does.
 #[inline(always)]
-fn nearest_steps(digits: &[u8], f: u32) -> Option<u64>
+fn nearest_raw(digits: &[u8], f: u32) -> Option<u64>
     requires { (6 ≤ f) × (f ≤ 30) }
     ensures none { IfNone result ((whole fraction : List ℕ)
         → ¬ (HasParts digits.now false whole fraction)) }
-    ensures some { IfSome result (λ n. (steps : ℕ)
-        × ((n ≡ steps) ⊎ ((2 ^ 63 < n) × (2 ^ 63 < steps)))
+    ensures some { IfSome result (λ n. (magnitude : ℕ)
+        × ((n ≡ magnitude) ⊎ ((2 ^ 63 < n) × (2 ^ 63 < magnitude)))
         × ((negative : Bool)
-        → Rounds (sign_text negative ++ digits.now) f (signed negative steps))) }
+        → Rounds (sign_text negative ++ digits.now) f (signed negative magnitude))) }
 {
     // An integer part that exceeds 2^63 raw units is out of every range.
     let (whole, len) = whole_digits(digits, (1 << (63 - f)) + 1);
     if len == 0 {
         return None;
     }
-    let half_steps = half_steps(after_point(&digits[len..])?, f)?;
-    Some((whole << f) + (half_steps + 1) / 2)
+    let half_units = half_units(after_point(&digits[len..])?, f)?;
+    Some((whole << f) + (half_units + 1) / 2)
 }
 
 // Returns the value of the leading digits, or `too_large` if it is greater, and how many digits
@@ -125,7 +125,7 @@ fn whole_digits(text: &[u8], too_large: u64) -> (u64, usize)
 // places, so later digits do not count; if there are fewer digits, the power of five is smaller as
 // well.
 #[inline(always)]
-fn half_steps(fraction: &[u8], f: u32) -> Option<u64>
+fn half_units(fraction: &[u8], f: u32) -> Option<u64>
     requires { f ≤ 30 }
     ensures { MatchOption result (¬ (AllDigits 10 fraction.now)) (λ n. AllDigits 10 fraction.now
         × (n ≡ digits_value 10 (take (f + 1) fraction.now) * 10 ^ (f + 1 - length fraction.now)
@@ -183,14 +183,14 @@ fn long_numeral_and_power(digits: &[u8]) -> Option<(u128, u128)>
 
 // Returns the signed raw value, or `None` if it is out of range.
 #[inline(always)]
-fn in_range(negative: bool, steps: u64, min: i64, max: i64) -> Option<i64>
-    ensures { let number = signed negative steps in
+fn in_range(negative: bool, magnitude: u64, min: i64, max: i64) -> Option<i64>
+    ensures { let number = signed negative magnitude in
         SomeIff result ((min ≤ℤ number) × (number ≤ℤ max)) number }
 {
     let number = if negative {
-        0i64.checked_sub_unsigned(steps)?
+        0i64.checked_sub_unsigned(magnitude)?
     } else {
-        0i64.checked_add_unsigned(steps)?
+        0i64.checked_add_unsigned(magnitude)?
     };
     if number < min || number > max {
         return None;

@@ -61,23 +61,23 @@ pub fn read_decimal(text: &str, f: u32, min: i64, max: i64) -> Result<i64, Decim
 #[inline(always)]
 pub fn read_decimal_bytes(text: &[u8], f: u32, min: i64, max: i64) -> Result<i64, DecimalFault> {
     let (negative, digits) = split_sign(text);
-    let Some(steps) = nearest_steps(digits, f) else {
+    let Some(magnitude) = nearest_raw(digits, f) else {
         return Err(DecimalFault::Syntax);
     };
-    in_range(negative, steps, min, max).ok_or(DecimalFault::OutOfRange)
+    in_range(negative, magnitude, min, max).ok_or(DecimalFault::OutOfRange)
 }
 
 // Returns the raw value nearest to a decimal without a sign, or, if that exceeds 2^63, some number
 // that does.
 #[inline(always)]
-fn nearest_steps(digits: &[u8], f: u32) -> Option<u64> {
+fn nearest_raw(digits: &[u8], f: u32) -> Option<u64> {
     // An integer part that exceeds 2^63 raw units is out of every range.
     let (whole, len) = whole_digits(digits, (1 << (63 - f)) + 1);
     if len == 0 {
         return None;
     }
-    let half_steps = half_steps(after_point(&digits[len..])?, f)?;
-    Some((whole << f) + (half_steps + 1) / 2)
+    let half_units = half_units(after_point(&digits[len..])?, f)?;
+    Some((whole << f) + (half_units + 1) / 2)
 }
 
 // Returns the value of the leading digits, or `too_large` if it is greater, and how many digits
@@ -99,7 +99,7 @@ fn whole_digits(text: &[u8], too_large: u64) -> (u64, usize) {
 // places, so later digits do not count; if there are fewer digits, the power of five is smaller as
 // well.
 #[inline(always)]
-fn half_steps(fraction: &[u8], f: u32) -> Option<u64> {
+fn half_units(fraction: &[u8], f: u32) -> Option<u64> {
     let places = fraction.len().min(f as usize + 1);
     let (kept, late) = fraction.split_at(places);
     if !are_digits(late) {
@@ -144,11 +144,11 @@ fn long_numeral_and_power(digits: &[u8]) -> Option<(u128, u128)> {
 
 // Returns the signed raw value, or `None` if it is out of range.
 #[inline(always)]
-fn in_range(negative: bool, steps: u64, min: i64, max: i64) -> Option<i64> {
+fn in_range(negative: bool, magnitude: u64, min: i64, max: i64) -> Option<i64> {
     let number = if negative {
-        0i64.checked_sub_unsigned(steps)?
+        0i64.checked_sub_unsigned(magnitude)?
     } else {
-        0i64.checked_add_unsigned(steps)?
+        0i64.checked_add_unsigned(magnitude)?
     };
     if number < min || number > max {
         return None;

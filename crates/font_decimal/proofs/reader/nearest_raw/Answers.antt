@@ -4,9 +4,9 @@ use Rattle.std.proofs.lemmas.List.{take_rest}
 use Rattle.std.proofs.lemmas.Nat.{one_shl}
 use Rattle.font_decimal.proofs.Texts.{same_point}
 use Rattle.font_decimal.proofs.Parts.{fraction_found, parts_found}
-use Rattle.font_decimal.proofs.Rounding.{half_steps_below, steps_fit, StepsFit, steps_capped}
+use Rattle.font_decimal.proofs.Rounding.{half_units_below, units_fit, UnitsFit, units_capped}
 use Rattle.font_decimal.proofs.Readings.{rounds_by}
-use Rattle.font_decimal.proofs.reader.nearest_steps.Goals as goal
+use Rattle.font_decimal.proofs.reader.nearest_raw.Goals as goal
 
 pub whole_digits-whole-requires : goal.whole_digits-whole-requires
 whole_digits-whole-requires c =
@@ -17,13 +17,13 @@ whole_digits-whole-requires c =
 pub returns-in_err-after_point-clause-none : goal.returns-in_err-after_point-clause-none
 returns-in_err-after_point-clause-none c = grind (arith, take_rest, fraction_found)
 
-pub returns-in_err-half_steps-clause-none : goal.returns-in_err-half_steps-clause-none
-returns-in_err-half_steps-clause-none c = grind (arith, same_point, fraction_found, take_rest)
+pub returns-in_err-half_units-clause-none : goal.returns-in_err-half_units-clause-none
+returns-in_err-half_units-clause-none c = grind (arith, same_point, fraction_found, take_rest)
 
-fit : (c : goal.In_ok-half_steps) → StepsFit c.args.f c.whole_digits-whole.result.0 c.in_ok-half_steps.half_steps
-fit c = steps_fit c.args.f _ _ _
+fit : (c : goal.In_ok-half_units) → UnitsFit c.args.f c.whole_digits-whole.result.0 c.in_ok-half_units.half_units
+fit c = units_fit c.args.f _ _ _
     (omega (arith, c.requires)) (rw (one_shl (63 - c.args.f) 64 (omega arith)) at c.whole_digits-whole.ensures.number)
-    (half_steps_below (c.args.f + 1) _ c.in_ok-half_steps.ensures)
+    (half_units_below (c.args.f + 1) _ c.in_ok-half_units.ensures)
 
 pub overflow_add-result : goal.overflow_add-result
 overflow_add-result c = omega (arith, (fit c).one_more)
@@ -35,12 +35,12 @@ pub returns-clause-some : goal.returns-clause-some
 returns-clause-some c =
     let whole = c.whole_digits-whole in
     let digits = c.args.digits.now in
-    let halves = c.in_ok-half_steps.ensures in
+    let halves = c.in_ok-half_units.ensures in
     let rest = sym (take_rest digits whole.result.1) ∙ c.in_ok-after_point.ensures in
     let cap = rw (one_shl (63 - c.args.f) 64 (omega arith)) at whole.ensures.number in
     rw (fit c).shifted (
       _,
-      steps_capped c.args.f _ _ _ (omega (arith, c.requires)) cap,
+      units_capped c.args.f _ _ _ (omega (arith, c.requires)) cap,
       λ s. rw halves.1 (rounds_by c.args.f (parts_found _ _ _ s
           whole.ensures.digits (omega (arith, c.if-len-eq0.false)) whole.ensures.within rest halves.0)),
     )
