@@ -3,9 +3,9 @@
 use Rattle.std.proofs.Common.{◌≡◌, ◌≢◌, ℕ, List, refl, sym, Result, rules, [], ◌∷◌, ◌++◌, Ok, ◌∙◌, ℤ, ◌/◌}
 use Rattle.std.proofs.Common.{Bool, arith, get_or}
 use Rattle.std.proofs.Common.{append_assoc, append-nil}
-use Rattle.fontval.specs.Refusal.{Answer, GivesAnswer}
-use Rattle.fontval.specs.declared.refusal.Refusal.{Refusal}
-use Rattle.fontval.specs.declared.refusal.Unanswered.{Unanswered}
+use Rattle.fontval.specs.Error.{Answer, GivesAnswer}
+use Rattle.fontval.specs.declared.error.LineError.{LineError}
+use Rattle.fontval.specs.declared.error.CommandError.{CommandError}
 use Rattle.std.specs.Result.{result_map_both}
 use Rattle.font_types.specs.Bytes.{bytes_of}
 use Rattle.font_types.specs.DecimalFault.{DecimalFault}
@@ -13,7 +13,7 @@ use Rattle.font_types.specs.NumberReading.{ReadsBy}
 use Rattle.std.specs.Int.{Width}
 use mir.Val.{bits}
 use Rattle.font_types.specs.Tag.{IsValidated, IsFault, IsVisible, four_spaces}
-use Rattle.fontval.specs.Command.{AnswersWords, JudgesTag, IsNamedType, ShowsReading, fixed_row, name_of}
+use Rattle.fontval.specs.Command.{AnswersWords, ReportsTag, IsNamedType, ShowsReading, fixed_row, name_of}
 use Rattle.fontval.specs.Command.{IsAnswer, IsNamed, ShowsBytes}
 use Rattle.fontval.specs.Numbers.{ReadsJust, ReadsTerms, ReadsWhole, ReadsEach, ReadsFixed, ReadsNumber, ReadsTerm}
 use Rattle.fontval.specs.Numbers.{AndThen, pairs_of}
@@ -30,14 +30,14 @@ use Rattle.fontval.specs.Answers.{Answers, AnswersLine, AnswersLines, AppendsAns
 use Rattle.fontval.specs.Text.{lines_of, words_of}
 
 -- an answer that is right by one rule is right by another
-pub given_as : (IsRight IsMeant : Answer → Type 0) (old new : List ℕ) (outcome : Result (Unit {0}) Unanswered)
+pub given_as : (IsRight IsMeant : Answer → Type 0) (old new : List ℕ) (outcome : Result (Unit {0}) CommandError)
     → ((answer : Answer) → IsRight answer → IsMeant answer) → GivesAnswer IsRight old new outcome
     → GivesAnswer IsMeant old new outcome
 given_as IsRight IsMeant old new outcome means given = record { is_given = search rules }
 
 -- the bytes of the number that a text is read as
 pub given_number : {T U : Type 0} (type : FixedType) {text old new : List ℕ} {f : ℕ} {w : Width}
-    {outcome : Result (Unit {0}) Unanswered} {bits_of : T → ℤ} {raw_of : U → List ℕ} {read : Result T DecimalFault}
+    {outcome : Result (Unit {0}) CommandError} {bits_of : T → ℤ} {raw_of : U → List ℕ} {read : Result T DecimalFault}
     {number : Result U DecimalFault}
     → GivesAnswer (ShowsBytes raw_of number) old new outcome → ReadsBy w f bits_of text read
     → result_map_both raw_of (λ fault. fault) number
@@ -64,8 +64,8 @@ module _ {T : Type 0} (P Q : T → Type 0) where
   one_either : (b : Bool) → IsOne P → IsOne Q → IsOne (λ x. MatchBool b (P x) (Q x))
   one_either b p q x y = search rules
 
-module _ {A B : Type 0} (GoesOn : A → Result B Refusal → Type 0) (one : (value : A) → IsOne (GoesOn value)) where
-  one_then : (IsFirst : Result A Refusal → Type 0) → IsOne IsFirst → IsOne (AndThen IsFirst GoesOn)
+module _ {A B : Type 0} (GoesOn : A → Result B LineError → Type 0) (one : (value : A) → IsOne (GoesOn value)) where
+  one_then : (IsFirst : Result A LineError → Type 0) → IsOne IsFirst → IsOne (AndThen IsFirst GoesOn)
   one_then IsFirst one_first x y p q =
       let same = one_first p.first q.first p.is_first q.is_first in grind arith
 
@@ -76,7 +76,7 @@ one_number w f value text x y p q =
 one_whole : (w : ℕ) (word : List ℕ) → IsOne (ReadsWhole w word)
 one_whole w word x y p q = grind arith
 
-one_each : {W T : Type 0} (reads : W → Result T Refusal → Type 0) → ((word : W) → IsOne (reads word)) → (words : List W)
+one_each : {W T : Type 0} (reads : W → Result T LineError → Type 0) → ((word : W) → IsOne (reads word)) → (words : List W)
     → IsOne (ReadsEach reads words)
 one_each reads one [] = one_value (Ok [])
 one_each reads one (word ∷ words) = search (rules, one_then, one_value, one_each reads one words)
@@ -112,12 +112,12 @@ spaces_hidden : (i : ℕ) → ¬ (IsVisible (get_or four_spaces i 0))
 spaces_hidden i visible = grind arith
 
 module _ (bytes : List ℕ) where
-  one_verdict : IsOne (IsValidated bytes)
-  one_verdict x y p q =
+  one_validation : IsOne (IsValidated bytes)
+  one_validation x y p q =
       grind (arith, one_fault bytes, spaces_hidden, validated_good bytes x p, validated_good bytes y q)
 
-  one_judgement : IsOne (JudgesTag bytes)
-  one_judgement x y p q = let same = one_verdict p.verdict q.verdict p.judged q.judged in cc
+  one_report : IsOne (ReportsTag bytes)
+  one_report x y p q = let same = one_validation p.validation q.validation p.is_validation q.is_validation in cc
 
 one_images : (numbers : List Fixed) → IsOne (ShowsImages numbers)
 one_images numbers x y p q = let same = sym p.are ∙ q.are in cc
@@ -131,7 +131,7 @@ one_answer_of : (words : List (List ℕ)) (command : Command) → IsOne (Answers
 one_answer_of words (Integer type) = one_value _
 one_answer_of words (FixedPoint type) = one_value _
 one_answer_of words Read = search (rules, one_then, one_number, one_named_type)
-one_answer_of words Tag = search (rules, one_judgement)
+one_answer_of words Tag = search (rules, one_report)
 one_answer_of words Image = one_then _ one_images (ReadsJust 14 words) (one_just 14 words)
 one_answer_of words Sum = one_then _ (λ terms. one_value _) _ (one_terms words)
 one_answer_of words Vary = one_vary words

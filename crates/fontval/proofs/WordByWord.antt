@@ -3,7 +3,7 @@ use Rattle.std.proofs.Common.{◌≡◌, List, [], ◌∷◌, ◌++◌, Result, 
 use Rattle.std.proofs.Common.{◌+◌, ◌<◌, arith, length, take, set, ap, length-set, eq-eqb, ◌%◌}
 use Rattle.std.proofs.Common.{◌-◌, ◌*◌, min, get_or}
 use Rattle.fontval.specs.Numbers.{ReadsEach, ReadsFixed, ReadsJust, ReadsTerm, ReadsTerms, pairs_of}
-use Rattle.fontval.specs.declared.refusal.Refusal.{Refusal}
+use Rattle.fontval.specs.declared.error.LineError.{LineError}
 use Rattle.std.proofs.lemmas.List.{take_more_set}
 use Rattle.std.proofs.Math.Seq.{take-length}
 use Rattle.font_types.specs.Fixed.{Fixed}
@@ -13,12 +13,12 @@ use Rattle.std.proofs.lemmas.Int.Digits.{digits_value_more}
 use Rattle.std.proofs.lemmas.Str.{digit_value_digit}
 
 -- the words before `left` are read as these values, and the values of `left` complete them
-pub record IsReadUpTo {W T : Type 0} (reads : W → Result T Refusal → Type 0) (words left : List W)
+pub record IsReadUpTo {W T : Type 0} (reads : W → Result T LineError → Type 0) (words left : List W)
     (values : List T) : Type 0 where
   pub completes : (more : List T) → ReadsEach reads left (Ok more) → ReadsEach reads words (Ok (values ++ more))
-  pub refuses : (refusal : Refusal) → ReadsEach reads left (Err refusal) → ReadsEach reads words (Err refusal)
+  pub fails : (error : LineError) → ReadsEach reads left (Err error) → ReadsEach reads words (Err error)
 
-module _ {W T : Type 0} (reads : W → Result T Refusal → Type 0) (words : List W) where
+module _ {W T : Type 0} (reads : W → Result T LineError → Type 0) (words : List W) where
   module _ (left : List W) (values : List T) (so_far : IsReadUpTo reads words left values) where
     -- one word more is read
     pub one_more_read : (left' : List W) (word : W) (values' : List T) (value : T)
@@ -30,10 +30,10 @@ module _ {W T : Type 0} (reads : W → Result T Refusal → Type 0) (words : Lis
         is_first = one;
         goes_on = record { first = Ok more; is_first = read; goes_on = refl };
       })));
-      refuses = λ refusal read. so_far.refuses refusal (rw next (record {
+      fails = λ error read. so_far.fails error (rw next (record {
         first = Ok value;
         is_first = one;
-        goes_on = record { first = Err refusal; is_first = read; goes_on = refl };
+        goes_on = record { first = Err error; is_first = read; goes_on = refl };
       }));
     }
 

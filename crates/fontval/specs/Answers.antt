@@ -1,7 +1,7 @@
 -- The program's output for an input, by the program's own rule.
 use Rattle.std.specs.Prelude.{◌≡◌, ℕ, List, [], ◌∷◌, ◌++◌}
 use Rattle.fontval.specs.Command.{IsAnswer}
-use Rattle.fontval.specs.Refusal.{Answer, answer_text}
+use Rattle.fontval.specs.Error.{Answer, answer_text}
 use Rattle.fontval.specs.Text.{lines_of, words_of}
 
 -- the text answers the line: it shows what is answered to the line's words

@@ -12,7 +12,7 @@ use Rattle.font_types.specs.Shortest.{shortest_text}
 use Rattle.font_types.specs.Tag.{IsValidated, tag_text}
 use Rattle.font_types.specs.InvalidTag.{InvalidTag}
 use Rattle.font_types.specs.InvalidTag.TheVariants.{InvalidLength, InvalidByte, ByteAfterSpace}
-use Rattle.fontval.specs.Refusal.{Answer, refusal_of}
+use Rattle.fontval.specs.Error.{Answer, line_error_of}
 use Rattle.fontval.specs.Numbers.{AndThen, ReadsJust, ReadsNumber, ReadsTerms}
 use Rattle.fontval.specs.Deltas.{ShowsSum, Varies}
 use Rattle.fontval.specs.Images.{ShowsImages}
@@ -23,8 +23,8 @@ use Rattle.fontval.specs.declared.command.FixedType.TheVariants as types
 use Rattle.fontval.specs.declared.command.IntegerType.{IntegerType}
 use Rattle.fontval.specs.declared.command.IntegerType.TheVariants.{Uint8, Int8, Uint16, Int16, Uint24, Int24, Uint32}
 use Rattle.fontval.specs.declared.command.IntegerType.TheVariants.{Int32, Int64}
-use Rattle.fontval.specs.declared.refusal.Refusal.{Refusal}
-use Rattle.fontval.specs.declared.refusal.Refusal.TheVariants.{UnknownCommand, WordCount, NotHexadecimal}
+use Rattle.fontval.specs.declared.error.LineError.{LineError}
+use Rattle.fontval.specs.declared.error.LineError.TheVariants.{UnknownCommand, WordCount, NotHexadecimal}
 
 -- ---- the commands
 
@@ -70,37 +70,37 @@ name_of Image = codes "image"
 name_of Sum = codes "sum"
 name_of Vary = codes "vary"
 
--- the command is the one that a word names, or there is none and the word is refused
-abbrev pub IsNamed : List ℕ → Result Command Refusal → Type 0
+-- the command is the one that a word names, or there is none
+abbrev pub IsNamed : List ℕ → Result Command LineError → Type 0
 IsNamed word (Ok command) = name_of command ≡ word
-IsNamed word (Err refusal) =
-    (refusal ≡ UnknownCommand) × ((command : Command) → name_of command ≢ word)
+IsNamed word (Err error) =
+    (error ≡ UnknownCommand) × ((command : Command) → name_of command ≢ word)
 
 -- the same of the fixed-point types
-abbrev pub IsNamedType : List ℕ → Result FixedType Refusal → Type 0
+abbrev pub IsNamedType : List ℕ → Result FixedType LineError → Type 0
 IsNamedType word (Ok type) = (fixed_row type).0 ≡ word
-IsNamedType word (Err refusal) =
-    (refusal ≡ UnknownCommand) × ((type : FixedType) → (fixed_row type).0 ≢ word)
+IsNamedType word (Err error) =
+    (error ≡ UnknownCommand) × ((type : FixedType) → (fixed_row type).0 ≢ word)
 
 -- ---- what a command answers to the words after it
 
 -- the word of a command that takes one
-abbrev pub only_word : List (List ℕ) → Result (List ℕ) Refusal
+abbrev pub only_word : List (List ℕ) → Result (List ℕ) LineError
 only_word (word ∷ []) = Ok word
 only_word words = Err WordCount
 
 -- the n bytes that a word writes in hexadecimal digits of either case
-abbrev pub hexadecimal : ℕ → List ℕ → Result (List ℕ) Refusal
+abbrev pub hexadecimal : ℕ → List ℕ → Result (List ℕ) LineError
 hexadecimal n word =
     result_map_both (λ bytes. bytes) (λ fault. NotHexadecimal) (decode_sized word n)
 
 -- the n bytes that the only word writes
-abbrev pub only_bytes : ℕ → List (List ℕ) → Result (List ℕ) Refusal
+abbrev pub only_bytes : ℕ → List (List ℕ) → Result (List ℕ) LineError
 only_bytes n words =
-    result_flatten (result_map_both (hexadecimal n) (λ refusal. refusal) (only_word words))
+    result_flatten (result_map_both (hexadecimal n) (λ error. error) (only_word words))
 
 -- the two words of a command that takes two
-abbrev pub two_words : List (List ℕ) → Result (List ℕ × List ℕ) Refusal
+abbrev pub two_words : List (List ℕ) → Result (List ℕ × List ℕ) LineError
 two_words (first ∷ second ∷ []) = Ok (first, second)
 two_words words = Err WordCount
 
@@ -110,10 +110,10 @@ abbrev pub number_of : ℕ → Bool → List ℕ → ℤ
 number_of n sign bytes = if sign then signed_numeral n bytes else pos (numeral bytes)
 
 -- the number of an integer type that the bytes of a word encode
-abbrev pub integer : IntegerType → List (List ℕ) → Result ℤ Refusal
+abbrev pub integer : IntegerType → List (List ℕ) → Result ℤ LineError
 integer type words =
     let n = (integer_row type).1 in
-    result_map_both (number_of n (integer_row type).2) (λ refusal. refusal) (only_bytes n words)
+    result_map_both (number_of n (integer_row type).2) (λ error. error) (only_bytes n words)
 
 -- the text of the fixed-point number whose bits the bytes of a word are
 abbrev pub fixed_point : FixedType → List (List ℕ) → Answer
@@ -121,12 +121,12 @@ fixed_point type words =
     let n = (fixed_row type).1 / 8 in
     let text : List ℕ → List ℕ =
     λ bytes. shortest_text (signed_numeral n bytes) (fixed_row type).2 in
-    result_map_both text (λ refusal. refusal) (only_bytes n words)
+    result_map_both text (λ error. error) (only_bytes n words)
 
 -- the answer is the bytes, in hexadecimal digits, of a number that was read
 pub record ShowsBytes {T : Type 0} (raw_of : T → List ℕ) (number : Result T DecimalFault)
     (answer : Answer) : Type 0 where
-  pub is : answer ≡ result_map_both (λ value. encode_lower (raw_of value)) refusal_of number
+  pub is : answer ≡ result_map_both (λ value. encode_lower (raw_of value)) line_error_of number
 
 -- the answer is the bytes, in hexadecimal digits, of the number of a type that the text is read as
 abbrev pub ShowsReading : FixedType → List ℕ → Answer → Type 0
@@ -135,32 +135,32 @@ ShowsReading type text answer =
     ReadsNumber w (fixed_row type).2 (λ b. encode_lower (bytes_of (w / 8) b)) text answer
 
 -- the text after a tag: that it is valid, or the fault that it has, and where it has it
-abbrev pub verdict_text : Result (Unit {0}) InvalidTag → List ℕ
-verdict_text (Ok good) = codes " valid"
-verdict_text (Err (InvalidLength n)) = codes " length"
-verdict_text (Err (InvalidByte index byte)) = codes " byte " ++ decimal index
-verdict_text (Err (ByteAfterSpace index)) = codes " space " ++ decimal index
+abbrev pub validation_text : Result (Unit {0}) InvalidTag → List ℕ
+validation_text (Ok good) = codes " valid"
+validation_text (Err (InvalidLength n)) = codes " length"
+validation_text (Err (InvalidByte index byte)) = codes " byte " ++ decimal index
+validation_text (Err (ByteAfterSpace index)) = codes " space " ++ decimal index
 
--- the answer is the text of the tag of four bytes, and what is said of it
-pub record JudgesTag (bytes : List ℕ) (answer : Answer) : Type 0 where
-  pub verdict : Result (Unit {0}) InvalidTag
-  pub judged : IsValidated bytes verdict
-  pub shows : answer ≡ Ok (tag_text bytes ++ verdict_text verdict)
+-- the answer is the text of the tag of four bytes, and the result of its validation
+pub record ReportsTag (bytes : List ℕ) (answer : Answer) : Type 0 where
+  pub validation : Result (Unit {0}) InvalidTag
+  pub is_validation : IsValidated bytes validation
+  pub shows : answer ≡ Ok (tag_text bytes ++ validation_text validation)
 
 -- The answer of a command to the words after it. Their number is checked first, and then each of
 -- them from left to right.
 abbrev pub AnswersWords : List (List ℕ) → Command → Answer → Type 0
 AnswersWords words (Integer type) answer =
-    answer ≡ result_map_both signed_decimal (λ refusal. refusal) (integer type words)
+    answer ≡ result_map_both signed_decimal (λ error. error) (integer type words)
 AnswersWords words (FixedPoint type) answer = answer ≡ fixed_point type words
 AnswersWords words Read answer =
     MatchResult (two_words words)
     (λ pair. AndThen (IsNamedType pair.0) (λ type. ShowsReading type pair.1) answer)
-    (λ refusal. answer ≡ Err refusal)
+    (λ error. answer ≡ Err error)
 AnswersWords words Tag answer =
     MatchResult (only_bytes 4 words)
-    (λ bytes. JudgesTag bytes answer)
-    (λ refusal. answer ≡ Err refusal)
+    (λ bytes. ReportsTag bytes answer)
+    (λ error. answer ≡ Err error)
 AnswersWords words Image answer = AndThen (ReadsJust 14 words) ShowsImages answer
 AnswersWords words Sum answer = AndThen (ReadsTerms words) ShowsSum answer
 AnswersWords words Vary answer = Varies words answer

@@ -7,8 +7,8 @@ use Rattle.font_types.specs.Delta.{sum_in_range, varied}
 use Rattle.font_types.specs.Shortest.{shortest_text}
 use Rattle.font_types.specs.Fixed.{Fixed}
 use Rattle.fontval.specs.Numbers.{AndThen, ReadsTerms, ReadsWhole}
-use Rattle.fontval.specs.Refusal.{Answer}
-use Rattle.fontval.specs.declared.refusal.Refusal.TheVariants.{WordCount, OutOfRange}
+use Rattle.fontval.specs.Error.{Answer}
+use Rattle.fontval.specs.declared.error.LineError.TheVariants.{WordCount, OutOfRange}
 
 -- the exact sum of terms, as it is printed
 abbrev pub sum_of : List (Fixed × ℤ) → Answer

@@ -1,6 +1,6 @@
 pub mod Device
 pub mod Text
-pub mod Refusal
+pub mod Error
 pub mod Numbers
 pub mod Images
 pub mod Deltas

@@ -1,5 +1,4 @@
--- The numbers that the words of a line are read as, one after another: the first word that is
--- refused decides.
+-- The numbers that the words of a line are read as, one after another: the first error is the result.
 -- All of it is the program's own rule, but for what a decimal text is read as.
 use Rattle.std.specs.Prelude.{◌≡◌, ℕ, ◌%◌, ◌==◌, if◌then◌else◌, List, [], ◌∷◌, length, drop, ℤ, Result, Ok, Err}
 use Rattle.std.specs.Prelude.{MatchResult}
@@ -11,20 +10,20 @@ use Rattle.font_types.specs.Fixed.{fixed_of}
 use Rattle.font_types.specs.Fixed.{Fixed}
 use Rattle.font_types.specs.Operations.{ReadingGives}
 use Rattle.font_types.specs.Wrap.{FitsBits}
-use Rattle.fontval.specs.Refusal.{refusal_of}
-use Rattle.fontval.specs.declared.refusal.Refusal.{Refusal}
-use Rattle.fontval.specs.declared.refusal.Refusal.TheVariants.{WordCount, NotWhole, OutOfRange}
+use Rattle.fontval.specs.Error.{line_error_of}
+use Rattle.fontval.specs.declared.error.LineError.{LineError}
+use Rattle.fontval.specs.declared.error.LineError.TheVariants.{WordCount, NotWhole, OutOfRange}
 
--- the value that is read first decides how reading goes on; if it is refused, so is the result
-pub record AndThen {A B : Type 0} (IsFirst : Result A Refusal → Type 0)
-    (GoesOn : A → Result B Refusal → Type 0) (result : Result B Refusal) : Type 0 where
-  pub first : Result A Refusal
+-- the value that is read first decides how reading goes on; if it is an error, that is the result
+pub record AndThen {A B : Type 0} (IsFirst : Result A LineError → Type 0)
+    (GoesOn : A → Result B LineError → Type 0) (result : Result B LineError) : Type 0 where
+  pub first : Result A LineError
   pub is_first : IsFirst first
-  pub goes_on : MatchResult first (λ value. GoesOn value result) (λ refusal. result ≡ Err refusal)
+  pub goes_on : MatchResult first (λ value. GoesOn value result) (λ error. result ≡ Err error)
 
 -- the values of a list, each read in turn
-abbrev pub ReadsEach : {W T : Type 0} → (W → Result T Refusal → Type 0) → List W
-    → Result (List T) Refusal → Type 0
+abbrev pub ReadsEach : {W T : Type 0} → (W → Result T LineError → Type 0) → List W
+    → Result (List T) LineError → Type 0
 ReadsEach reads [] result = result ≡ Ok []
 ReadsEach reads (word ∷ words) result =
     AndThen (reads word)
@@ -33,17 +32,17 @@ ReadsEach reads (word ∷ words) result =
 -- the text is read as a number of w bits with f bits of fraction, and gives what `value` makes of
 -- its bits
 pub record ReadsNumber {T : Type 0} (w f : ℕ) (value : ℤ → T) (text : List ℕ)
-    (result : Result T Refusal) : Type 0 where
+    (result : Result T LineError) : Type 0 where
   pub bits : Result ℤ DecimalFault
   pub read : ReadingGives w f text bits
-  pub gives : result ≡ result_map_both value refusal_of bits
+  pub gives : result ≡ result_map_both value line_error_of bits
 
 -- the `Fixed` that a word is read as
-abbrev pub ReadsFixed : List ℕ → Result Fixed Refusal → Type 0
+abbrev pub ReadsFixed : List ℕ → Result Fixed LineError → Type 0
 ReadsFixed word result = ReadsNumber 32 16 fixed_of word result
 
--- just n numbers: another count of words is refused before any of them
-abbrev pub ReadsJust : ℕ → List (List ℕ) → Result (List Fixed) Refusal → Type 0
+-- exactly n numbers: a wrong count is reported before any word
+abbrev pub ReadsJust : ℕ → List (List ℕ) → Result (List Fixed) LineError → Type 0
 ReadsJust n words result =
     MatchBool (length words == n) (ReadsEach ReadsFixed words result) (result ≡ Err WordCount)
 
@@ -56,7 +55,7 @@ abbrev pub IsWhole : List ℕ → Type 0
 IsWhole word = IsNumeral 10 (after_minus word)
 
 -- the integer of w bits that a word is read as
-abbrev pub ReadsWhole : ℕ → List ℕ → Result ℤ Refusal → Type 0
+abbrev pub ReadsWhole : ℕ → List ℕ → Result ℤ LineError → Type 0
 ReadsWhole w word (Ok n) = IsWhole word × (n ≡ signed_digits_value 10 word) × FitsBits w n
 ReadsWhole w word (Err NotWhole) = ¬ (IsWhole word)
 ReadsWhole w word (Err OutOfRange) = IsWhole word × ¬ (FitsBits w (signed_digits_value 10 word))
@@ -69,13 +68,13 @@ pairs_of (last ∷ []) = []
 pairs_of (first ∷ second ∷ words) = (first, second) ∷ pairs_of words
 
 -- the term that two words are read as: a scalar, and an integer of 32 bits
-abbrev pub ReadsTerm : List ℕ × List ℕ → Result (Fixed × ℤ) Refusal → Type 0
+abbrev pub ReadsTerm : List ℕ × List ℕ → Result (Fixed × ℤ) LineError → Type 0
 ReadsTerm words result =
     AndThen (ReadsFixed words.0)
     (λ scalar. AndThen (ReadsWhole 32 words.1) (λ delta term. term ≡ Ok (scalar, delta))) result
 
--- the terms that words are read as: an odd count of words is refused before any of them
-abbrev pub ReadsTerms : List (List ℕ) → Result (List (Fixed × ℤ)) Refusal → Type 0
+-- the terms that words are read as: an odd count is reported before any word
+abbrev pub ReadsTerms : List (List ℕ) → Result (List (Fixed × ℤ)) LineError → Type 0
 ReadsTerms words result =
     MatchBool (length words % 2 == 0)
     (ReadsEach ReadsTerm (pairs_of words) result)

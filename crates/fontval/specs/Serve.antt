@@ -1,4 +1,4 @@
--- The results of serving a source.
+-- The contract of a run.
 use Rattle.std.specs.Prelude.{◌≡◌, ◌≢◌, ℕ, Bool, true, false, List, [], ◌∷◌, ◌++◌, codes, Option, Result, Ok, Err}
 use Rattle.std.specs.Io.KnownBytes.{Appends, Consumes, IsAtEnd}
 use Rattle.fontval.specs.declared.serve.ServeFault.{ServeFault}
@@ -39,20 +39,20 @@ pub record WritesInPart (taken taken' : Option (List ℕ)) (bytes : List ℕ) : 
   pub partial : unwritten ≢ []
   pub written : Appends taken taken' output
 
--- a fault of reading: memory, where no read has failed, or a read that has
+-- out of memory with no failed read, or a failed read
 abbrev pub ReadFails : ServeFault → Bool → Type 0
 ReadFails Memory failed = failed ≡ false
 ReadFails Read failed = failed ≡ true
 ReadFails Write failed = ⊥
 
--- the status that the program ends with
+-- the exit status
 abbrev pub status_of : Result (Unit {0}) ServeFault → ℕ
 status_of (Ok done) = 0
 status_of (Err fault) = 1
 
--- the text on standard error: nothing, or the name of the program and the fault
-abbrev pub complaint_of : Result (Unit {0}) ServeFault → List ℕ
-complaint_of (Ok done) = []
-complaint_of (Err Memory) = codes "fontval: memory" ++ 10 ∷ []
-complaint_of (Err Read) = codes "fontval: read" ++ 10 ∷ []
-complaint_of (Err Write) = codes "fontval: write" ++ 10 ∷ []
+-- the text on standard error: nothing, or the names of the program and of the fault
+abbrev pub message_of : Result (Unit {0}) ServeFault → List ℕ
+message_of (Ok done) = []
+message_of (Err Memory) = codes "fontval: memory" ++ 10 ∷ []
+message_of (Err Read) = codes "fontval: read" ++ 10 ∷ []
+message_of (Err Write) = codes "fontval: write" ++ 10 ∷ []

@@ -3,11 +3,11 @@
 ghost use Rattle.std.specs.Prelude.{◌≡◌, ℕ, List, string_bytes, IfOk, OnOk};
 ghost use Rattle.fontval.specs.Answers.{AppendsAnswer, Answers};
 ghost use Rattle.fontval.specs.Command.{IsAnswer};
-ghost use Rattle.fontval.specs.Refusal.{GivesAnswer};
+ghost use Rattle.fontval.specs.Error.{GivesAnswer};
 ghost use Rattle.fontval.specs.Text.{words_of};
 
 use crate::command::Command;
-use crate::refusal::{Refusal, Unanswered};
+use crate::error::{CommandError, LineError};
 use crate::text::{Lines, Words};
 use std::alloc::{AllocError, Allocator};
 
@@ -38,22 +38,22 @@ fn append_answer<A: Allocator>(
 {
     match append_text(alloc, line, output) {
         Ok(()) => Ok(()),
-        Err(Unanswered::Memory) => Err(AllocError),
-        Err(Unanswered::Refused(refusal)) => write!(output, "error {}", refusal as u8),
+        Err(CommandError::Memory) => Err(AllocError),
+        Err(CommandError::Line(error)) => write!(output, "error {}", error as u8),
     }
 }
 
-// Appends the answer to a line, unless it is refused.
+// Appends the answer to a line, unless it is an error.
 #[inline(always)]
 fn append_text<A: Allocator>(
     alloc: A,
     line: &[u8],
     output: &mut String<A>,
-) -> Result<(), Unanswered>
+) -> Result<(), CommandError>
     ensures { GivesAnswer (IsAnswer (words_of line.now))
         (string_bytes output.old) (string_bytes output.new) result }
 {
     let mut words = Words::new(line);
-    let name = words.next().ok_or(Refusal::UnknownCommand)?;
+    let name = words.next().ok_or(LineError::UnknownCommand)?;
     Command::named(name)?.answer(alloc, words, output)
 }

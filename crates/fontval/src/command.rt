@@ -2,18 +2,18 @@
 
 ghost use Rattle.std.specs.Prelude.{◌≡◌, string_bytes};
 ghost use Rattle.font_types.specs.Tag.{tag_bytes};
-ghost use Rattle.fontval.specs.Command.{AnswersWords, IsNamed, IsNamedType, JudgesTag};
+ghost use Rattle.fontval.specs.Command.{AnswersWords, IsNamed, IsNamedType, ReportsTag};
 ghost use Rattle.fontval.specs.Command.{ShowsReading, fixed_point, integer};
 ghost use Rattle.fontval.specs.Deltas.{sum_of, varied_answer};
-ghost use Rattle.fontval.specs.Refusal.{GivesAnswer};
+ghost use Rattle.fontval.specs.Error.{GivesAnswer};
 ghost use Rattle.fontval.specs.Text.{words_of};
 
+use crate::error::{CommandError, LineError};
 use crate::images::Images;
-use crate::judgement::Judgement;
 use crate::numbers::{fixed_numbers, in_pairs, terms, whole_number_16};
 use crate::output::{append, append_read};
 use crate::parse::{hexadecimal, two_words};
-use crate::refusal::{Refusal, Unanswered};
+use crate::report::TagReport;
 use crate::text::Words;
 use font_types::{
     F2Dot14, F2Dot30, F4Dot12, F6Dot10, F26Dot6, F48Dot16, FWord, Fixed, Int24, Scalar, Tag,
@@ -69,7 +69,7 @@ pub enum FixedType {
 impl Command {
     /// Returns the command that a word names.
     #[inline(always)]
-    pub fn named(word: &[u8]) -> Result<Command, Refusal>
+    pub fn named(word: &[u8]) -> Result<Command, LineError>
         ensures { IsNamed word.now result }
     {
         Ok(match word {
@@ -94,7 +94,7 @@ impl Command {
             b"image" => Command::Image,
             b"sum" => Command::Sum,
             b"vary" => Command::Vary,
-            _ => return Err(Refusal::UnknownCommand),
+            _ => return Err(LineError::UnknownCommand),
         })
     }
 
@@ -105,7 +105,7 @@ impl Command {
         alloc: A,
         words: Words<'_>,
         output: &mut String<A>,
-    ) -> Result<(), Unanswered>
+    ) -> Result<(), CommandError>
         ensures { GivesAnswer (AnswersWords (words_of words.entry.rest.now) self)
             (string_bytes output.old) (string_bytes output.new) result }
     {
@@ -113,7 +113,7 @@ impl Command {
             Command::Integer(kind) => append(kind.number(words)?, output),
             Command::FixedPoint(kind) => kind.show(words, output),
             Command::Read => read(words, output),
-            Command::Tag => append_judgement(Tag::from_be_bytes(hexadecimal(words)?), output),
+            Command::Tag => append_tag(Tag::from_be_bytes(hexadecimal(words)?), output),
             Command::Image => image(words, output),
             Command::Sum => sum(alloc, words, output),
             Command::Vary => append_varied(alloc, words, output),
@@ -123,7 +123,7 @@ impl Command {
 
 impl IntegerType {
     // Returns the integer whose bytes the only word has.
-    fn number(self, words: Words<'_>) -> Result<i64, Refusal>
+    fn number(self, words: Words<'_>) -> Result<i64, LineError>
         ensures { result ≡ integer self (words_of words.entry.rest.now) }
     {
         Ok(match self {
@@ -143,17 +143,21 @@ impl IntegerType {
 impl FixedType {
     // Returns the fixed-point type that a word names.
     #[tactic(auto, using(crate::proofs::Commands::no_type_named))]
-    fn named(word: &[u8]) -> Result<FixedType, Refusal>
+    fn named(word: &[u8]) -> Result<FixedType, LineError>
         ensures { IsNamedType word.now result }
     {
         match Command::named(word)? {
             Command::FixedPoint(kind) => Ok(kind),
-            _ => Err(Refusal::UnknownCommand),
+            _ => Err(LineError::UnknownCommand),
         }
     }
 
     // Appends the number whose bytes the only word has.
-    fn show<A: Allocator>(self, words: Words<'_>, output: &mut String<A>) -> Result<(), Unanswered>
+    fn show<A: Allocator>(
+        self,
+        words: Words<'_>,
+        output: &mut String<A>,
+    ) -> Result<(), CommandError>
         ensures { GivesAnswer (λ answer. answer ≡ fixed_point self (words_of words.entry.rest.now))
             (string_bytes output.old) (string_bytes output.new) result }
     {
@@ -176,7 +180,7 @@ impl FixedType {
 
     // Appends the bytes of the number that a word is read as.
     #[tactic(auto, using(crate::proofs::Commands::given_number))]
-    fn read<A: Allocator>(self, word: &[u8], output: &mut String<A>) -> Result<(), Unanswered>
+    fn read<A: Allocator>(self, word: &[u8], output: &mut String<A>) -> Result<(), CommandError>
         ensures { GivesAnswer (ShowsReading self word.now)
             (string_bytes output.old) (string_bytes output.new) result }
     {
@@ -201,7 +205,7 @@ impl FixedType {
 // Appends the bytes of the number that the second word is read as, of the type that the first
 // names.
 #[inline(never)]
-fn read<A: Allocator>(words: Words<'_>, output: &mut String<A>) -> Result<(), Unanswered>
+fn read<A: Allocator>(words: Words<'_>, output: &mut String<A>) -> Result<(), CommandError>
     ensures { GivesAnswer (AnswersWords (words_of words.entry.rest.now) Command.Read)
         (string_bytes output.old) (string_bytes output.new) result }
 {
@@ -211,17 +215,17 @@ fn read<A: Allocator>(words: Words<'_>, output: &mut String<A>) -> Result<(), Un
 
 // Appends a tag and its validation.
 #[inline(never)]
-fn append_judgement<A: Allocator>(tag: Tag, output: &mut String<A>) -> Result<(), Unanswered>
-    ensures { GivesAnswer (JudgesTag (tag_bytes tag))
+fn append_tag<A: Allocator>(tag: Tag, output: &mut String<A>) -> Result<(), CommandError>
+    ensures { GivesAnswer (ReportsTag (tag_bytes tag))
         (string_bytes output.old) (string_bytes output.new) result }
 {
-    let verdict = tag.validate();
-    append(Judgement { tag, verdict }, output)
+    let validation = tag.validate();
+    append(TagReport { tag, validation }, output)
 }
 
 // Appends the images of a point under two matrices.
 #[inline(never)]
-fn image<A: Allocator>(words: Words<'_>, output: &mut String<A>) -> Result<(), Unanswered>
+fn image<A: Allocator>(words: Words<'_>, output: &mut String<A>) -> Result<(), CommandError>
     ensures { GivesAnswer (AnswersWords (words_of words.entry.rest.now) Command.Image)
         (string_bytes output.old) (string_bytes output.new) result }
 {
@@ -230,12 +234,12 @@ fn image<A: Allocator>(words: Words<'_>, output: &mut String<A>) -> Result<(), U
 
 // Appends the sum of terms.
 #[inline(never)]
-fn sum<A: Allocator>(alloc: A, words: Words<'_>, output: &mut String<A>) -> Result<(), Unanswered>
+fn sum<A: Allocator>(alloc: A, words: Words<'_>, output: &mut String<A>) -> Result<(), CommandError>
     ensures { GivesAnswer (AnswersWords (words_of words.entry.rest.now) Command.Sum)
         (string_bytes output.old) (string_bytes output.new) result }
 {
     let terms = terms(alloc, words)?;
-    let sum = checked_delta_sum(&terms).ok_or(Refusal::OutOfRange)?;
+    let sum = checked_delta_sum(&terms).ok_or(LineError::OutOfRange)?;
     append(sum, output)
 }
 
@@ -245,14 +249,14 @@ fn append_varied<A: Allocator>(
     alloc: A,
     mut words: Words<'_>,
     output: &mut String<A>,
-) -> Result<(), Unanswered>
+) -> Result<(), CommandError>
     ensures { GivesAnswer (AnswersWords (words_of words.entry.rest.now) Command.Vary)
         (string_bytes output.old) (string_bytes output.new) result }
 {
-    let base = words.next().ok_or(Refusal::WordCount)?;
+    let base = words.next().ok_or(LineError::WordCount)?;
     in_pairs(&words)?;
     let units = whole_number_16(base)?;
     let terms = terms(alloc, words)?;
-    let varied = vary(FWord::new(units), &terms).ok_or(Refusal::OutOfRange)?;
+    let varied = vary(FWord::new(units), &terms).ok_or(LineError::OutOfRange)?;
     append(varied, output)
 }

@@ -5,18 +5,18 @@
 mod answers;
 mod command;
 pub mod device;
-mod ending;
+mod error;
+mod exit;
 mod images;
-mod judgement;
 mod numbers;
 mod output;
 mod parse;
-mod refusal;
+mod report;
 pub mod serve;
 mod text;
 
 use device::{FromRead, FromWrite};
-use ending::ending;
+use exit::exit;
 use serve::serve;
 use std::io;
 use std::process::ExitCode;
@@ -26,7 +26,7 @@ use std::process::ExitCode;
 fn main(rt: HostRuntime) -> ExitCode {
     let mut source = FromRead::new(rt.stdin());
     let mut sink = FromWrite::new(io::writer(&rt));
-    let (status, complaint) = ending(serve(rt.alloc(), &mut source, &mut sink));
-    let _ = eprint!(rt; "{complaint}");
+    let (status, message) = exit(serve(rt.alloc(), &mut source, &mut sink));
+    let _ = eprint!(rt; "{message}");
     status
 }

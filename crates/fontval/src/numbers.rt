@@ -5,10 +5,10 @@ ghost use Rattle.std.specs.Prelude.{MatchOption, MatchResult};
 ghost use Rattle.std.specs.Str.Parse.{IsNumeral, digits_value, starts_with_minus};
 ghost use Rattle.fontval.specs.Numbers.{ReadsFixed, ReadsJust, ReadsTerm, ReadsTerms, ReadsWhole};
 ghost use Rattle.fontval.specs.Numbers.{after_minus};
-ghost use Rattle.fontval.specs.Refusal.{OnRefused};
+ghost use Rattle.fontval.specs.Error.{OnLineError};
 ghost use Rattle.fontval.specs.Text.{words_of};
 
-use crate::refusal::{Refusal, Unanswered};
+use crate::error::{CommandError, LineError};
 use crate::text::Words;
 use font_types::Fixed;
 use std::alloc::Allocator;
@@ -20,11 +20,11 @@ const FEW_TERMS: usize = 16;
 ///
 /// The words are counted first: a wrong number of words is reported before a wrong word.
 #[tactic(auto, using(crate::proofs::WordByWord::number_steps))]
-pub fn fixed_numbers<const N: usize>(words: Words<'_>) -> Result<[Fixed; N], Refusal>
+pub fn fixed_numbers<const N: usize>(words: Words<'_>) -> Result<[Fixed; N], LineError>
     ensures { ReadsJust N (words_of words.entry.rest.now) result }
 {
     if words.left() != N {
-        return Err(Refusal::WordCount);
+        return Err(LineError::WordCount);
     }
     let mut numbers = [Fixed::ZERO; N];
     let mut at = 0;
@@ -36,7 +36,7 @@ pub fn fixed_numbers<const N: usize>(words: Words<'_>) -> Result<[Fixed; N], Ref
 }
 
 // Reads a word as a `Fixed`.
-fn fixed_number(word: &[u8]) -> Result<Fixed, Refusal>
+fn fixed_number(word: &[u8]) -> Result<Fixed, LineError>
     ensures { ReadsFixed word.now result }
 {
     Ok(Fixed::from_decimal_bytes(word)?)
@@ -48,58 +48,58 @@ fn fixed_number(word: &[u8]) -> Result<Fixed, Refusal>
 pub fn terms<A: Allocator>(
     alloc: A,
     mut words: Words<'_>,
-) -> Result<Vec<(Fixed, i32), A>, Unanswered>
+) -> Result<Vec<(Fixed, i32), A>, CommandError>
     ensures { MatchResult result
         (λ terms. ReadsTerms (words_of words.entry.rest.now) (Ok terms.items))
-        (λ reason. OnRefused reason
-        (λ refusal. ReadsTerms (words_of words.entry.rest.now) (Err refusal))) }
+        (λ reason. OnLineError reason
+        (λ error. ReadsTerms (words_of words.entry.rest.now) (Err error))) }
 {
     in_pairs(&words)?;
     let mut terms = Vec::with_capacity(alloc, FEW_TERMS)?;
     while let (Some(scalar), Some(delta)) = (words.next(), words.next()) {
         terms
             .push(term(scalar, delta)?)
-            .map_err(|_| Unanswered::Memory)?;
+            .map_err(|_| CommandError::Memory)?;
     }
     Ok(terms)
 }
 
 /// Returns an error if the number of words is odd.
-pub fn in_pairs(words: &Words<'_>) -> Result<(), Refusal>
+pub fn in_pairs(words: &Words<'_>) -> Result<(), LineError>
     ensures { MatchResult result
         (λ _. (length (words_of words.now.rest.now) % 2 == 0) ≡ true)
-        (λ refusal. ((length (words_of words.now.rest.now) % 2 == 0) ≡ false)
-        × (refusal ≡ Refusal.WordCount)) }
+        (λ error. ((length (words_of words.now.rest.now) % 2 == 0) ≡ false)
+        × (error ≡ LineError.WordCount)) }
 {
     if words.left().is_multiple_of(2) {
         Ok(())
     } else {
-        Err(Refusal::WordCount)
+        Err(LineError::WordCount)
     }
 }
 
 // Reads two words as a term.
-fn term(scalar: &[u8], delta: &[u8]) -> Result<(Fixed, i32), Refusal>
+fn term(scalar: &[u8], delta: &[u8]) -> Result<(Fixed, i32), LineError>
     ensures { ReadsTerm (scalar.now, delta.now) result }
 {
     Ok((fixed_number(scalar)?, whole_number(delta)?))
 }
 
 /// Reads a word as an `i32`.
-pub fn whole_number(word: &[u8]) -> Result<i32, Refusal>
+pub fn whole_number(word: &[u8]) -> Result<i32, LineError>
     ensures { ReadsWhole 32 word.now result }
 {
     let (negative, digits) = split_minus(word);
-    let magnitude = magnitude_of_digits(digits).ok_or(Refusal::NotWhole)?;
+    let magnitude = magnitude_of_digits(digits).ok_or(LineError::NotWhole)?;
     let number = if negative { -magnitude } else { magnitude };
-    i32::try_from(number).map_err(|_| Refusal::OutOfRange)
+    i32::try_from(number).map_err(|_| LineError::OutOfRange)
 }
 
 /// Reads a word as an `i16`.
-pub fn whole_number_16(word: &[u8]) -> Result<i16, Refusal>
+pub fn whole_number_16(word: &[u8]) -> Result<i16, LineError>
     ensures { ReadsWhole 16 word.now result }
 {
-    i16::try_from(whole_number(word)?).map_err(|_| Refusal::OutOfRange)
+    i16::try_from(whole_number(word)?).map_err(|_| LineError::OutOfRange)
 }
 
 // Splits off a leading `-`.

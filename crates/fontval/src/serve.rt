@@ -13,7 +13,7 @@ use thiserror::Error;
 /// Why a run failed.
 #[derive(Debug, Drop, Error)]
 pub enum ServeFault {
-    /// Memory for the input or for the answers was refused.
+    /// Out of memory for the input or for the answers.
     #[error("memory")]
     Memory = 1,
     /// A read failed.
@@ -48,7 +48,7 @@ pub fn serve<A: Allocator + Copy, S: Source, K: Sink>(
         (S.left source.old) (S.left source.new) (K.taken sink.old) (K.taken sink.new)) }
     ensures ok_works { OnOk result ((S.failed source.new ≡ false) × (K.failed sink.new ≡ false)) }
 
-    // If memory is refused or a read fails, nothing was written.
+    // If an allocation or a read fails, nothing was written.
     ensures memory { result ≡ Err ServeFault.Memory → Keeps (K.taken sink.old) (K.taken sink.new) }
     ensures memory_works { result ≡ Err ServeFault.Memory
         → (S.failed source.new ≡ false) × (K.failed sink.new ≡ false) }

@@ -5,7 +5,7 @@
 use crate::host::*;
 
 use crate::fontval::command::Command;
-use crate::fontval::refusal::{Refusal, Unanswered};
+use crate::fontval::error::{CommandError, LineError};
 use crate::fontval::text::{Lines, Words};
 use crate::host::alloc::{AllocError, Allocator};
 
@@ -28,19 +28,19 @@ fn append_answer<A: Allocator>(
 ) -> Result<(), AllocError> {
     match append_text(alloc, line, output) {
         Ok(()) => Ok(()),
-        Err(Unanswered::Memory) => Err(AllocError),
-        Err(Unanswered::Refused(refusal)) => write!(output, "error {}", refusal as u8),
+        Err(CommandError::Memory) => Err(AllocError),
+        Err(CommandError::Line(error)) => write!(output, "error {}", error as u8),
     }
 }
 
-// Appends the answer to a line, unless it is refused.
+// Appends the answer to a line, unless it is an error.
 #[inline(always)]
 fn append_text<A: Allocator>(
     alloc: A,
     line: &[u8],
     output: &mut String<A>,
-) -> Result<(), Unanswered> {
+) -> Result<(), CommandError> {
     let mut words = Words::new(line);
-    let name = words.next().ok_or(Refusal::UnknownCommand)?;
+    let name = words.next().ok_or(LineError::UnknownCommand)?;
     Command::named(name)?.answer(alloc, words, output)
 }

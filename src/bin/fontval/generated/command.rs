@@ -4,12 +4,12 @@
 
 use crate::host::*;
 
+use crate::fontval::error::{CommandError, LineError};
 use crate::fontval::images::Images;
-use crate::fontval::judgement::Judgement;
 use crate::fontval::numbers::{fixed_numbers, in_pairs, terms, whole_number_16};
 use crate::fontval::output::{append, append_read};
 use crate::fontval::parse::{hexadecimal, two_words};
-use crate::fontval::refusal::{Refusal, Unanswered};
+use crate::fontval::report::TagReport;
 use crate::fontval::text::Words;
 use crate::host::alloc::Allocator;
 use font_types_proved::{
@@ -65,7 +65,7 @@ pub enum FixedType {
 impl Command {
     /// Returns the command that a word names.
     #[inline(always)]
-    pub fn named(word: &[u8]) -> Result<Command, Refusal> {
+    pub fn named(word: &[u8]) -> Result<Command, LineError> {
         Ok(match word {
             b"uint8" => Command::Integer(IntegerType::Uint8),
             b"int8" => Command::Integer(IntegerType::Int8),
@@ -88,7 +88,7 @@ impl Command {
             b"image" => Command::Image,
             b"sum" => Command::Sum,
             b"vary" => Command::Vary,
-            _ => return Err(Refusal::UnknownCommand),
+            _ => return Err(LineError::UnknownCommand),
         })
     }
 
@@ -99,12 +99,12 @@ impl Command {
         alloc: A,
         words: Words<'_>,
         output: &mut String<A>,
-    ) -> Result<(), Unanswered> {
+    ) -> Result<(), CommandError> {
         match self {
             Command::Integer(kind) => append(kind.number(words)?, output),
             Command::FixedPoint(kind) => kind.show(words, output),
             Command::Read => read(words, output),
-            Command::Tag => append_judgement(Tag::from_be_bytes(hexadecimal(words)?), output),
+            Command::Tag => append_tag(Tag::from_be_bytes(hexadecimal(words)?), output),
             Command::Image => image(words, output),
             Command::Sum => sum(alloc, words, output),
             Command::Vary => append_varied(alloc, words, output),
@@ -114,7 +114,7 @@ impl Command {
 
 impl IntegerType {
     // Returns the integer whose bytes the only word has.
-    fn number(self, words: Words<'_>) -> Result<i64, Refusal> {
+    fn number(self, words: Words<'_>) -> Result<i64, LineError> {
         Ok(match self {
             IntegerType::Uint8 => i64::from(u8::from_raw(hexadecimal(words)?)),
             IntegerType::Int8 => i64::from(i8::from_raw(hexadecimal(words)?)),
@@ -131,10 +131,10 @@ impl IntegerType {
 
 impl FixedType {
     // Returns the fixed-point type that a word names.
-    fn named(word: &[u8]) -> Result<FixedType, Refusal> {
+    fn named(word: &[u8]) -> Result<FixedType, LineError> {
         match Command::named(word)? {
             Command::FixedPoint(kind) => Ok(kind),
-            _ => Err(Refusal::UnknownCommand),
+            _ => Err(LineError::UnknownCommand),
         }
     }
 
@@ -143,7 +143,7 @@ impl FixedType {
         self,
         words: Words<'_>,
         output: &mut String<A>,
-    ) -> Result<(), Unanswered> {
+    ) -> Result<(), CommandError> {
         match self {
             FixedType::F2Dot14 => append(F2Dot14::from_raw(hexadecimal(words)?), output),
             FixedType::F4Dot12 => append(F4Dot12::from_raw(hexadecimal(words)?), output),
@@ -162,7 +162,7 @@ impl FixedType {
     }
 
     // Appends the bytes of the number that a word is read as.
-    fn read<A: Allocator>(self, word: &[u8], output: &mut String<A>) -> Result<(), Unanswered> {
+    fn read<A: Allocator>(self, word: &[u8], output: &mut String<A>) -> Result<(), CommandError> {
         match self {
             FixedType::F2Dot14 => append_read(F2Dot14::from_decimal_bytes(word), output),
             FixedType::F4Dot12 => append_read(F4Dot12::from_decimal_bytes(word), output),
@@ -184,29 +184,33 @@ impl FixedType {
 // Appends the bytes of the number that the second word is read as, of the type that the first
 // names.
 #[inline(never)]
-fn read<A: Allocator>(words: Words<'_>, output: &mut String<A>) -> Result<(), Unanswered> {
+fn read<A: Allocator>(words: Words<'_>, output: &mut String<A>) -> Result<(), CommandError> {
     let (name, word) = two_words(words)?;
     FixedType::named(name)?.read(word, output)
 }
 
 // Appends a tag and its validation.
 #[inline(never)]
-fn append_judgement<A: Allocator>(tag: Tag, output: &mut String<A>) -> Result<(), Unanswered> {
-    let verdict = tag.validate();
-    append(Judgement { tag, verdict }, output)
+fn append_tag<A: Allocator>(tag: Tag, output: &mut String<A>) -> Result<(), CommandError> {
+    let validation = tag.validate();
+    append(TagReport { tag, validation }, output)
 }
 
 // Appends the images of a point under two matrices.
 #[inline(never)]
-fn image<A: Allocator>(words: Words<'_>, output: &mut String<A>) -> Result<(), Unanswered> {
+fn image<A: Allocator>(words: Words<'_>, output: &mut String<A>) -> Result<(), CommandError> {
     append(Images::from(fixed_numbers(words)?), output)
 }
 
 // Appends the sum of terms.
 #[inline(never)]
-fn sum<A: Allocator>(alloc: A, words: Words<'_>, output: &mut String<A>) -> Result<(), Unanswered> {
+fn sum<A: Allocator>(
+    alloc: A,
+    words: Words<'_>,
+    output: &mut String<A>,
+) -> Result<(), CommandError> {
     let terms = terms(alloc, words)?;
-    let sum = checked_delta_sum(&terms).ok_or(Refusal::OutOfRange)?;
+    let sum = checked_delta_sum(&terms).ok_or(LineError::OutOfRange)?;
     append(sum, output)
 }
 
@@ -216,11 +220,11 @@ fn append_varied<A: Allocator>(
     alloc: A,
     mut words: Words<'_>,
     output: &mut String<A>,
-) -> Result<(), Unanswered> {
-    let base = words.next().ok_or(Refusal::WordCount)?;
+) -> Result<(), CommandError> {
+    let base = words.next().ok_or(LineError::WordCount)?;
     in_pairs(&words)?;
     let units = whole_number_16(base)?;
     let terms = terms(alloc, words)?;
-    let varied = vary(FWord::new(units), &terms).ok_or(Refusal::OutOfRange)?;
+    let varied = vary(FWord::new(units), &terms).ok_or(LineError::OutOfRange)?;
     append(varied, output)
 }

@@ -7,19 +7,19 @@ use crate::host::*;
 mod answers;
 mod command;
 pub mod device;
-mod ending;
+mod error;
+mod exit;
 mod images;
-mod judgement;
 mod numbers;
 mod output;
 mod parse;
-mod refusal;
+mod report;
 pub mod serve;
 mod text;
 
 use crate::host::io;
 use device::{FromRead, FromWrite};
-use ending::ending;
+use exit::exit;
 use serve::serve;
 use std::process::ExitCode;
 
@@ -28,7 +28,7 @@ use std::process::ExitCode;
 pub fn main(rt: HostRuntime) -> ExitCode {
     let mut source = FromRead::new(rt.stdin());
     let mut sink = FromWrite::new(io::writer(&rt));
-    let (status, complaint) = ending(serve(rt.alloc(), &mut source, &mut sink));
-    let _ = eprint!(rt; "{complaint}");
+    let (status, message) = exit(serve(rt.alloc(), &mut source, &mut sink));
+    let _ = eprint!(rt; "{message}");
     status
 }

@@ -4,7 +4,7 @@
 
 use crate::host::*;
 
-use crate::fontval::refusal::{Refusal, Unanswered};
+use crate::fontval::error::{CommandError, LineError};
 use crate::fontval::text::Words;
 use crate::host::alloc::Allocator;
 use font_types_proved::Fixed;
@@ -15,9 +15,9 @@ const FEW_TERMS: usize = 16;
 /// Reads exactly `N` words as numbers.
 ///
 /// The words are counted first: a wrong number of words is reported before a wrong word.
-pub fn fixed_numbers<const N: usize>(words: Words<'_>) -> Result<[Fixed; N], Refusal> {
+pub fn fixed_numbers<const N: usize>(words: Words<'_>) -> Result<[Fixed; N], LineError> {
     if words.left() != N {
-        return Err(Refusal::WordCount);
+        return Err(LineError::WordCount);
     }
     let mut numbers = [Fixed::ZERO; N];
     let mut at = 0;
@@ -29,7 +29,7 @@ pub fn fixed_numbers<const N: usize>(words: Words<'_>) -> Result<[Fixed; N], Ref
 }
 
 // Reads a word as a `Fixed`.
-fn fixed_number(word: &[u8]) -> Result<Fixed, Refusal> {
+fn fixed_number(word: &[u8]) -> Result<Fixed, LineError> {
     Ok(Fixed::from_decimal_bytes(word)?)
 }
 
@@ -39,42 +39,42 @@ fn fixed_number(word: &[u8]) -> Result<Fixed, Refusal> {
 pub fn terms<A: Allocator>(
     alloc: A,
     mut words: Words<'_>,
-) -> Result<Vec<(Fixed, i32), A>, Unanswered> {
+) -> Result<Vec<(Fixed, i32), A>, CommandError> {
     in_pairs(&words)?;
     let mut terms = Vec::with_capacity(alloc, FEW_TERMS)?;
     while let (Some(scalar), Some(delta)) = (words.next(), words.next()) {
         terms
             .push(term(scalar, delta)?)
-            .map_err(|_| Unanswered::Memory)?;
+            .map_err(|_| CommandError::Memory)?;
     }
     Ok(terms)
 }
 
 /// Returns an error if the number of words is odd.
-pub fn in_pairs(words: &Words<'_>) -> Result<(), Refusal> {
+pub fn in_pairs(words: &Words<'_>) -> Result<(), LineError> {
     if words.left().is_multiple_of(2) {
         Ok(())
     } else {
-        Err(Refusal::WordCount)
+        Err(LineError::WordCount)
     }
 }
 
 // Reads two words as a term.
-fn term(scalar: &[u8], delta: &[u8]) -> Result<(Fixed, i32), Refusal> {
+fn term(scalar: &[u8], delta: &[u8]) -> Result<(Fixed, i32), LineError> {
     Ok((fixed_number(scalar)?, whole_number(delta)?))
 }
 
 /// Reads a word as an `i32`.
-pub fn whole_number(word: &[u8]) -> Result<i32, Refusal> {
+pub fn whole_number(word: &[u8]) -> Result<i32, LineError> {
     let (negative, digits) = split_minus(word);
-    let magnitude = magnitude_of_digits(digits).ok_or(Refusal::NotWhole)?;
+    let magnitude = magnitude_of_digits(digits).ok_or(LineError::NotWhole)?;
     let number = if negative { -magnitude } else { magnitude };
-    i32::try_from(number).map_err(|_| Refusal::OutOfRange)
+    i32::try_from(number).map_err(|_| LineError::OutOfRange)
 }
 
 /// Reads a word as an `i16`.
-pub fn whole_number_16(word: &[u8]) -> Result<i16, Refusal> {
-    i16::try_from(whole_number(word)?).map_err(|_| Refusal::OutOfRange)
+pub fn whole_number_16(word: &[u8]) -> Result<i16, LineError> {
+    i16::try_from(whole_number(word)?).map_err(|_| LineError::OutOfRange)
 }
 
 // Splits off a leading `-`.

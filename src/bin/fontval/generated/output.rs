@@ -4,7 +4,7 @@
 
 use crate::host::*;
 
-use crate::fontval::refusal::{Refusal, Unanswered};
+use crate::fontval::error::{CommandError, LineError};
 use crate::host::alloc::Allocator;
 use font_types_proved::{DecimalFault, Scalar};
 use std::fmt::Display;
@@ -13,7 +13,7 @@ use std::fmt::Display;
 pub fn append<T: Display, A: Allocator>(
     value: T,
     output: &mut String<A>,
-) -> Result<(), Unanswered> {
+) -> Result<(), CommandError> {
     write!(output, "{value}")?;
     Ok(())
 }
@@ -22,13 +22,13 @@ pub fn append<T: Display, A: Allocator>(
 pub fn append_read<T: Scalar<Raw = [u8; N]>, const N: usize, A: Allocator>(
     number: Result<T, DecimalFault>,
     output: &mut String<A>,
-) -> Result<(), Unanswered> {
-    let number = number.map_err(Refusal::from)?;
+) -> Result<(), CommandError> {
+    let number = number.map_err(LineError::from)?;
     append_bytes(number.to_raw().as_slice(), output)
 }
 
 // Appends at most eight bytes in lower-case hexadecimal digits.
-fn append_bytes<A: Allocator>(bytes: &[u8], output: &mut String<A>) -> Result<(), Unanswered> {
+fn append_bytes<A: Allocator>(bytes: &[u8], output: &mut String<A>) -> Result<(), CommandError> {
     let mut room = [0; 16];
     let digits = &mut room[..2 * bytes.len()];
     hex::encode_to_slice(bytes, digits).unwrap();

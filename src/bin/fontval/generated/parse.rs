@@ -4,22 +4,22 @@
 
 use crate::host::*;
 
-use crate::fontval::refusal::Refusal;
+use crate::fontval::error::LineError;
 use crate::fontval::text::Words;
 
 // Returns the word of a command that takes one.
-fn only_word(mut words: Words<'_>) -> Result<&[u8], Refusal> {
+fn only_word(mut words: Words<'_>) -> Result<&[u8], LineError> {
     match (words.next(), words.next()) {
         (Some(word), None) => Ok(word),
-        _ => Err(Refusal::WordCount),
+        _ => Err(LineError::WordCount),
     }
 }
 
 /// Returns the words of a command that takes two.
-pub fn two_words(mut words: Words<'_>) -> Result<(&[u8], &[u8]), Refusal> {
+pub fn two_words(mut words: Words<'_>) -> Result<(&[u8], &[u8]), LineError> {
     match (words.next(), words.next(), words.next()) {
         (Some(first), Some(second), None) => Ok((first, second)),
-        _ => Err(Refusal::WordCount),
+        _ => Err(LineError::WordCount),
     }
 }
 
@@ -27,7 +27,7 @@ pub fn two_words(mut words: Words<'_>) -> Result<(&[u8], &[u8]), Refusal> {
 ///
 /// If only such digits are left, they are one word, and need not be split first. That saves up to
 /// an eighth of the instructions of a line.
-pub fn hexadecimal<const N: usize>(words: Words<'_>) -> Result<[u8; N], Refusal> {
+pub fn hexadecimal<const N: usize>(words: Words<'_>) -> Result<[u8; N], LineError> {
     match decoded(words.rest) {
         Ok(bytes) => Ok(bytes),
         Err(_) => hexadecimal_word(words),
@@ -37,14 +37,14 @@ pub fn hexadecimal<const N: usize>(words: Words<'_>) -> Result<[u8; N], Refusal>
 // Returns the same of words that are split first.
 #[cold]
 #[inline(never)]
-fn hexadecimal_word<const N: usize>(words: Words<'_>) -> Result<[u8; N], Refusal> {
+fn hexadecimal_word<const N: usize>(words: Words<'_>) -> Result<[u8; N], LineError> {
     decoded(only_word(words)?)
 }
 
 // Decodes a text of hexadecimal digits.
 #[inline(never)]
-fn decoded<const N: usize>(text: &[u8]) -> Result<[u8; N], Refusal> {
+fn decoded<const N: usize>(text: &[u8]) -> Result<[u8; N], LineError> {
     let mut bytes = [0; N];
-    hex::decode_to_slice(text, &mut bytes).map_err(|_| Refusal::NotHexadecimal)?;
+    hex::decode_to_slice(text, &mut bytes).map_err(|_| LineError::NotHexadecimal)?;
     Ok(bytes)
 }

@@ -11,7 +11,7 @@ use crate::host::alloc::Allocator;
 /// Why a run failed.
 #[derive(Debug)]
 pub enum ServeFault {
-    /// Memory for the input or for the answers was refused.
+    /// Out of memory for the input or for the answers.
     Memory = 1,
     /// A read failed.
     Read = 2,

@@ -1,16 +1,16 @@
-//! The exit status.
+//! The exit status and the message.
 
 ghost use Rattle.std.specs.Prelude.{◌≡◌};
 ghost use Rattle.std.specs.Process.{exit_status};
-ghost use Rattle.fontval.specs.Serve.{complaint_of, status_of};
+ghost use Rattle.fontval.specs.Serve.{message_of, status_of};
 
 use crate::serve::ServeFault;
 use std::process::ExitCode;
 
 /// Returns the exit status, and the text for standard error.
-pub fn ending(served: Result<(), ServeFault>) -> (ExitCode, &'static str)
+pub fn exit(served: Result<(), ServeFault>) -> (ExitCode, &'static str)
     ensures status { exit_status result.0 ≡ status_of served }
-    ensures complaint { result.1.now ≡ complaint_of served }
+    ensures message { result.1.now ≡ message_of served }
 {
     match served {
         Ok(()) => (ExitCode::SUCCESS, ""),

@@ -1,28 +1,28 @@
-//! The answer to a tag.
+//! The answer about a tag.
 
 ghost use Rattle.std.specs.Prelude.{◌++◌, Some};
 ghost use Rattle.font_types.specs.Tag.{tag_bytes, tag_text};
-ghost use Rattle.fontval.specs.Command.{verdict_text};
+ghost use Rattle.fontval.specs.Command.{validation_text};
 
 use font_types::{InvalidTag, Tag};
 use std::fmt;
 
 /// A tag and its validation.
 #[derive(Drop)]
-pub struct Judgement {
+pub struct TagReport {
     /// The tag.
     pub tag: Tag,
     /// The result of `validate`.
-    pub verdict: Result<(), InvalidTag>,
+    pub validation: Result<(), InvalidTag>,
 }
 
-impl fmt::Display for Judgement {
-    ghost output = { λ judged.
-        Some (tag_text (tag_bytes judged.tag) ++ verdict_text judged.verdict) };
+impl fmt::Display for TagReport {
+    ghost output = { λ report.
+        Some (tag_text (tag_bytes report.tag) ++ validation_text report.validation) };
 
     fn fmt<W: fmt::Write>(&self, f: &mut fmt::Formatter<W>) -> fmt::Result {
         write!(f, "{}", self.tag)?;
-        match &self.verdict {
+        match &self.validation {
             Ok(()) => write!(f, " valid"),
             Err(InvalidTag::InvalidLength(_)) => write!(f, " length"),
             Err(InvalidTag::InvalidByte { pos, .. }) => write!(f, " byte {pos}"),

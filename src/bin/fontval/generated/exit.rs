@@ -1,6 +1,6 @@
-// @generated from crates/fontval/src/ending.rt by tools/src/bin/erase.rs
+// @generated from crates/fontval/src/exit.rt by tools/src/bin/erase.rs
 
-//! The exit status.
+//! The exit status and the message.
 
 use crate::host::*;
 
@@ -8,7 +8,7 @@ use crate::fontval::serve::ServeFault;
 use std::process::ExitCode;
 
 /// Returns the exit status, and the text for standard error.
-pub fn ending(served: Result<(), ServeFault>) -> (ExitCode, &'static str) {
+pub fn exit(served: Result<(), ServeFault>) -> (ExitCode, &'static str) {
     match served {
         Ok(()) => (ExitCode::SUCCESS, ""),
         Err(ServeFault::Memory) => (ExitCode::FAILURE, "fontval: memory\n"),

@@ -1,4 +1,4 @@
-// @generated from crates/fontval/src/refusal.rt by tools/src/bin/erase.rs
+// @generated from crates/fontval/src/error.rt by tools/src/bin/erase.rs
 
 //! The errors of lines and of commands.
 
@@ -7,16 +7,16 @@ use crate::host::*;
 use crate::host::alloc::AllocError;
 use font_types_proved::DecimalFault;
 
-/// Why a line is refused. Its answer has the number.
+/// Why a line has no result. Its answer has the number.
 #[derive(Clone, Copy, Debug)]
-pub enum Refusal {
+pub enum LineError {
     /// No word, or a first word that names no command.
     UnknownCommand = 1,
     /// Too few words or too many.
     WordCount = 2,
     /// A word that is not hexadecimal, or has another number of bytes.
     NotHexadecimal = 3,
-    /// A word outside the grammar of decimal texts.
+    /// A word that is not a decimal.
     NotDecimal = 4,
     /// A number outside the range of its type.
     OutOfRange = 5,
@@ -24,9 +24,9 @@ pub enum Refusal {
     NotWhole = 6,
 }
 
-impl core::error::Error for Refusal {}
+impl core::error::Error for LineError {}
 
-impl core::fmt::Display for Refusal {
+impl core::fmt::Display for LineError {
     fn fmt(&self, f: &mut core::fmt::Formatter<'_>) -> core::fmt::Result {
         match self {
             Self::UnknownCommand => write!(f, "unknown command"),
@@ -39,43 +39,43 @@ impl core::fmt::Display for Refusal {
     }
 }
 
-impl From<DecimalFault> for Refusal {
-    fn from(fault: DecimalFault) -> Refusal {
+impl From<DecimalFault> for LineError {
+    fn from(fault: DecimalFault) -> LineError {
         match fault {
-            DecimalFault::Syntax => Refusal::NotDecimal,
-            DecimalFault::OutOfRange => Refusal::OutOfRange,
+            DecimalFault::Syntax => LineError::NotDecimal,
+            DecimalFault::OutOfRange => LineError::OutOfRange,
         }
     }
 }
 
-/// Why a command appends nothing.
+/// Why a command appends no answer.
 #[derive(Clone, Copy, Debug)]
-pub enum Unanswered {
-    /// Memory for the answer was refused.
+pub enum CommandError {
+    /// Out of memory for the answer.
     Memory,
-    /// The line is refused.
-    Refused(Refusal),
+    /// The line has an error.
+    Line(LineError),
 }
 
-impl core::error::Error for Unanswered {}
+impl core::error::Error for CommandError {}
 
-impl core::fmt::Display for Unanswered {
+impl core::fmt::Display for CommandError {
     fn fmt(&self, f: &mut core::fmt::Formatter<'_>) -> core::fmt::Result {
         match self {
             Self::Memory => write!(f, "memory"),
-            Self::Refused(field_0, ..) => write!(f, "refused: {field_0}"),
+            Self::Line(field_0, ..) => write!(f, "{field_0}"),
         }
     }
 }
 
-impl From<AllocError> for Unanswered {
-    fn from(_error: AllocError) -> Unanswered {
-        Unanswered::Memory
+impl From<AllocError> for CommandError {
+    fn from(_error: AllocError) -> CommandError {
+        CommandError::Memory
     }
 }
 
-impl From<Refusal> for Unanswered {
-    fn from(refusal: Refusal) -> Unanswered {
-        Unanswered::Refused(refusal)
+impl From<LineError> for CommandError {
+    fn from(error: LineError) -> CommandError {
+        CommandError::Line(error)
     }
 }

@@ -1,6 +1,6 @@
-// @generated from crates/fontval/src/judgement.rt by tools/src/bin/erase.rs
+// @generated from crates/fontval/src/report.rt by tools/src/bin/erase.rs
 
-//! The answer to a tag.
+//! The answer about a tag.
 
 use crate::host::*;
 
@@ -8,17 +8,17 @@ use font_types_proved::{InvalidTag, Tag};
 use std::fmt;
 
 /// A tag and its validation.
-pub struct Judgement {
+pub struct TagReport {
     /// The tag.
     pub tag: Tag,
     /// The result of `validate`.
-    pub verdict: Result<(), InvalidTag>,
+    pub validation: Result<(), InvalidTag>,
 }
 
-impl fmt::Display for Judgement {
+impl fmt::Display for TagReport {
     fn fmt(&self, f: &mut fmt::Formatter<'_>) -> fmt::Result {
         write!(f, "{}", self.tag)?;
-        match &self.verdict {
+        match &self.validation {
             Ok(()) => write!(f, " valid"),
             Err(InvalidTag::InvalidLength(_)) => write!(f, " length"),
             Err(InvalidTag::InvalidByte { pos, .. }) => write!(f, " byte {pos}"),
