@@ -1,6 +1,6 @@
 -- The bytes that a read number gives, and that an input has one output: each definition on the way from a line to its
 -- text has one result.
-use Rattle.std.proofs.Common.{◌≡◌, ◌≢◌, ℕ, List, refl, sym, Result, rules, [], ◌∷◌, ◌++◌, Ok, ◌∙◌, ℤ, ◌/◌}
+use Rattle.std.proofs.Common.{◌≡◌, ℕ, List, refl, sym, Result, rules, [], ◌∷◌, ◌++◌, Ok, ◌∙◌, ℤ, ◌/◌}
 use Rattle.std.proofs.Common.{Bool, arith, get_or}
 use Rattle.std.proofs.Common.{append_assoc, append-nil}
 use Rattle.fontval.specs.Error.{Answer, GivesAnswer}
@@ -13,7 +13,7 @@ use Rattle.font_types.specs.NumberReading.{ReadsBy}
 use Rattle.std.specs.Int.{Width}
 use mir.Val.{bits}
 use Rattle.font_types.specs.Tag.{IsValidated, IsFault, IsVisible, four_spaces}
-use Rattle.fontval.specs.Command.{AnswersWords, ReportsTag, IsNamedType, ShowsReading, fixed_row, name_of}
+use Rattle.fontval.specs.Command.{AnswersWords, ReportsTag, IsNamedType, ShowsReading, fixed_row}
 use Rattle.fontval.specs.Command.{IsAnswer, IsNamed, ShowsBytes}
 use Rattle.fontval.specs.Numbers.{ReadsJust, ReadsTerms, ReadsWhole, ReadsEach, ReadsFixed, ReadsNumber, ReadsTerm}
 use Rattle.fontval.specs.Numbers.{AndThen, pairs_of}
@@ -91,12 +91,6 @@ one_just : (n : ℕ) (words : List (List ℕ)) → IsOne (ReadsJust n words)
 one_just n words = one_either _ _ _ (one_each ReadsFixed (one_number 32 16 fixed_of) words) (one_value _)
 
 -- ---- names
-
--- a word that names no command names no type
-pub no_type_named : (word : List ℕ) → ((command : Command) → name_of command ≢ word)
-    → (type : FixedType) → (fixed_row type).0 ≢ word
-no_type_named word none type = none (FixedPoint type)
-
 one_named : (word : List ℕ) → IsOne (IsNamed word)
 one_named word x y p q = search rules
 

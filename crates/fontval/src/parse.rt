@@ -1,7 +1,7 @@
 //! Reads the words of a command.
 
-ghost use Rattle.std.specs.Prelude.{◌≡◌, ◌<◌, Ok, Err, MatchResult};
-ghost use Rattle.fontval.specs.Command.{hexadecimal, only_bytes, only_word, two_words};
+ghost use Rattle.std.specs.Prelude.{◌≡◌, Ok, Err, MatchResult};
+ghost use Rattle.fontval.specs.Command.{only_bytes, only_word, two_words};
 ghost use Rattle.fontval.specs.Text.{words_of};
 
 use crate::error::LineError;
@@ -32,35 +32,11 @@ pub fn two_words(mut words: Words<'_>) -> Result<(&[u8], &[u8]), LineError>
 }
 
 /// Returns the bytes of the only word, of hexadecimal digits of either case.
-///
-/// If only such digits are left, they are one word, and need not be split first. That saves up to
-/// an eighth of the instructions of a line.
-#[tactic(auto, using(crate::proofs::Hexadecimal::decoded_alone))]
 pub fn hexadecimal<const N: usize>(words: Words<'_>) -> Result<[u8; N], LineError>
-    requires some { 0 < N }
     ensures { result ≡ only_bytes N (words_of words.entry.rest.now) }
 {
-    match decoded(words.rest) {
-        Ok(bytes) => Ok(bytes),
-        Err(_) => hexadecimal_word(words),
-    }
-}
-
-// Returns the same of words that are split first.
-#[cold]
-#[inline(never)]
-fn hexadecimal_word<const N: usize>(words: Words<'_>) -> Result<[u8; N], LineError>
-    ensures { result ≡ only_bytes N (words_of words.entry.rest.now) }
-{
-    decoded(only_word(words)?)
-}
-
-// Decodes a text of hexadecimal digits.
-#[inline(never)]
-fn decoded<const N: usize>(text: &[u8]) -> Result<[u8; N], LineError>
-    ensures { result ≡ hexadecimal N text.now }
-{
+    let word = only_word(words)?;
     let mut bytes = [0; N];
-    hex::decode_to_slice(text, &mut bytes).map_err(|_| LineError::NotHexadecimal)?;
+    hex::decode_to_slice(word, &mut bytes).map_err(|_| LineError::NotHexadecimal)?;
     Ok(bytes)
 }

@@ -66,6 +66,9 @@ impl Command {
     /// Returns the command that a word names.
     #[inline(always)]
     pub fn named(word: &[u8]) -> Result<Command, LineError> {
+        if let Ok(kind) = FixedType::named(word) {
+            return Ok(Command::FixedPoint(kind));
+        }
         Ok(match word {
             b"uint8" => Command::Integer(IntegerType::Uint8),
             b"int8" => Command::Integer(IntegerType::Int8),
@@ -76,13 +79,6 @@ impl Command {
             b"uint32" => Command::Integer(IntegerType::Uint32),
             b"int32" => Command::Integer(IntegerType::Int32),
             b"int64" => Command::Integer(IntegerType::Int64),
-            b"f2dot14" => Command::FixedPoint(FixedType::F2Dot14),
-            b"f4dot12" => Command::FixedPoint(FixedType::F4Dot12),
-            b"f6dot10" => Command::FixedPoint(FixedType::F6Dot10),
-            b"fixed" => Command::FixedPoint(FixedType::Fixed),
-            b"f26dot6" => Command::FixedPoint(FixedType::F26Dot6),
-            b"f48dot16" => Command::FixedPoint(FixedType::F48Dot16),
-            b"f2dot30" => Command::FixedPoint(FixedType::F2Dot30),
             b"read" => Command::Read,
             b"tag" => Command::Tag,
             b"image" => Command::Image,
@@ -132,10 +128,16 @@ impl IntegerType {
 impl FixedType {
     // Returns the fixed-point type that a word names.
     fn named(word: &[u8]) -> Result<FixedType, LineError> {
-        match Command::named(word)? {
-            Command::FixedPoint(kind) => Ok(kind),
-            _ => Err(LineError::UnknownCommand),
-        }
+        Ok(match word {
+            b"f2dot14" => FixedType::F2Dot14,
+            b"f4dot12" => FixedType::F4Dot12,
+            b"f6dot10" => FixedType::F6Dot10,
+            b"fixed" => FixedType::Fixed,
+            b"f26dot6" => FixedType::F26Dot6,
+            b"f48dot16" => FixedType::F48Dot16,
+            b"f2dot30" => FixedType::F2Dot30,
+            _ => return Err(LineError::UnknownCommand),
+        })
     }
 
     // Appends the number whose bytes the only word has.
@@ -189,7 +191,7 @@ fn read<A: Allocator>(words: Words<'_>, output: &mut String<A>) -> Result<(), Co
     FixedType::named(name)?.read(word, output)
 }
 
-// Appends a tag and its validation.
+// Appends a tag and the result of its validation.
 #[inline(never)]
 fn append_tag<A: Allocator>(tag: Tag, output: &mut String<A>) -> Result<(), CommandError> {
     let validation = tag.validate();
