@@ -20,7 +20,7 @@ pub record StoresTag (bytes : List ℕ) (status old new : ℕ) : Type 0 where
 
 -- the status is 0 for a valid tag, and otherwise says whether all four bytes are spaces; the first invalid byte, whose
 -- index is stored, is not visible; or it is, and follows a space
-pub record JudgesTag (bytes : List ℕ) (status old new : ℕ) : Type 0 where
+pub record ValidatesTag (bytes : List ℕ) (status old new : ℕ) : Type 0 where
   pub good : status ≡ 0 → IsGood bytes
   pub count : status ≡ tag_length → bytes ≡ four_spaces
   pub byte : status ≡ tag_byte

@@ -8,7 +8,7 @@ ghost use Rattle.font_types.specs.Wrap.{FitsBits};
 ghost use Rattle.font_c.specs.Sums.{moved_by, StoresSum, sum_of_products};
 ghost use Rattle.font_c.specs.Status.{out_of_range};
 
-use crate::status::{OTHER_COUNT, OUT_OF_RANGE, STORED};
+use crate::status::{OK, OTHER_COUNT, OUT_OF_RANGE};
 use font_types::{DeltaSum, F48Dot16, Fixed};
 
 /// Adds up the products of 16.16 scalars and deltas, item by item, in 48.16.
@@ -23,7 +23,7 @@ pub extern "C" fn font_delta_sum(scalars: &[i32], deltas: &[i32], sum: &mut i64)
         return OUT_OF_RANGE;
     };
     *sum = exact.to_bits();
-    STORED
+    OK
 }
 
 /// Adds a 48.16 delta to signed font units, and rounds to the nearest font unit, half up.
@@ -43,7 +43,7 @@ pub extern "C" fn font_apply_delta_i16(base: i16, delta: i64, units: &mut i16) -
         return OUT_OF_RANGE;
     };
     *units = nearest;
-    STORED
+    OK
 }
 
 /// Adds a 48.16 delta to unsigned font units, as advances are, and rounds in the same way.
@@ -63,7 +63,7 @@ pub extern "C" fn font_apply_delta_u16(base: u16, delta: i64, units: &mut u16) -
         return OUT_OF_RANGE;
     };
     *units = nearest;
-    STORED
+    OK
 }
 
 // Rounds a 48.16 value to the nearest font unit, half up.

@@ -8,7 +8,7 @@ ghost use Rattle.font_types.specs.Wrap.{FitsBits};
 ghost use Rattle.font_c.specs.DeltaSets.{IsSet, set_sum, StoresSetSum};
 ghost use Rattle.font_c.specs.Status.{other_count, StoresExact};
 
-use crate::status::{OTHER_COUNT, OUT_OF_RANGE, STORED, TOO_MANY};
+use crate::status::{OK, OTHER_COUNT, OUT_OF_RANGE, TOO_MANY};
 use font_types::{DeltaSum, F48Dot16, Fixed, Scalar};
 
 // A font counts the regions of a delta set in 16 bits.
@@ -40,7 +40,7 @@ pub extern "C" fn font_delta_set_sum(
         return OTHER_COUNT;
     }
     *sum = exact_sum(scalars, set, words);
-    STORED
+    OK
 }
 
 // Stores the sum over a set of long words.
@@ -59,7 +59,7 @@ fn store_long_sum(scalars: &[i32], set: &[u8], words: usize, sum: &mut i64) -> u
         return OUT_OF_RANGE;
     };
     *sum = exact.to_bits();
-    STORED
+    OK
 }
 
 // The exact sum of the products with deltas of 16 and 8 bits, which fits in 64 bits.

@@ -8,7 +8,7 @@ ghost use Rattle.font_c.specs.Texts.{WritesText};
 ghost use Rattle.font_c.specs.Pads.{IsPad, pad_of, WritesPadded};
 ghost use Rattle.font_c.specs.Status.{bad_fraction, IsFraction};
 
-use crate::status::{BAD_FRACTION, BAD_PAD, NO_ROOM, STORED, is_fraction};
+use crate::status::{BAD_FRACTION, BAD_PAD, NO_ROOM, OK, is_fraction};
 use font_types::{Align, Pad, Shortest};
 
 /// How to pad a decimal.
@@ -29,23 +29,23 @@ pub struct FontPad {
 
 /// The error of an invalid `FontPad`.
 #[derive(Clone, Copy)]
-pub struct NoPad;
+pub struct InvalidPad;
 
 impl TryFrom<FontPad> for Pad {
-    type Error = NoPad;
+    type Error = InvalidPad;
 
     ghost try_from_gives = { λ given result. MatchResult result
         (λ pad. IsPad given × (pad ≡ pad_of given)) (λ _. ¬ IsPad given) };
 
-    fn try_from(given: FontPad) -> Result<Self, NoPad> {
+    fn try_from(given: FontPad) -> Result<Self, InvalidPad> {
         if given.fill >= 0x80 {
-            return Err(NoPad);
+            return Err(InvalidPad);
         }
         let align = match given.align {
             0 => Align::Left,
             1 => Align::Center,
             2 => Align::Right,
-            _ => return Err(NoPad),
+            _ => return Err(InvalidPad),
         };
         Ok(Self {
             width: given.width,
@@ -120,7 +120,7 @@ pub fn put_text(text: &[u8], out: &mut [u8], written: &mut usize) -> u32
     }
     out[..text.len()].copy_from_slice(text);
     *written = text.len();
-    STORED
+    OK
 }
 
 // Writes a padded decimal in the same way.
@@ -136,7 +136,7 @@ fn put_padded(text: &str, pad: &Pad, out: &mut [u8], written: &mut usize) -> u32
     match font_types::write_padded(text, out, pad) {
         Some(len) => {
             *written = len;
-            STORED
+            OK
         }
         None => NO_ROOM,
     }

@@ -5,7 +5,7 @@ ghost use Rattle.std.specs.Int.{w16, w32, w64};
 ghost use Rattle.font_c.specs.Readings.{reading_of, ReadsInto};
 ghost use Rattle.font_c.specs.Status.{bad_fraction, IsFraction};
 
-use crate::status::{BAD_FRACTION, NO_DECIMAL, OUT_OF_RANGE, STORED, is_fraction};
+use crate::status::{BAD_FRACTION, NO_DECIMAL, OK, OUT_OF_RANGE, is_fraction};
 use font_fixed::{read_bits_16, read_bits_32, read_bits_64};
 use font_types::DecimalFault;
 
@@ -60,7 +60,7 @@ fn store_reading<T: Copy>(reading: Result<T, DecimalFault>, place: &mut T) -> u3
     match reading {
         Ok(number) => {
             *place = number;
-            STORED
+            OK
         }
         Err(DecimalFault::Syntax) => NO_DECIMAL,
         Err(DecimalFault::OutOfRange) => OUT_OF_RANGE,

@@ -3,8 +3,8 @@
 ghost use Rattle.std.specs.Prelude.{◌↔◌, ◌≤◌, ◌+◌, IsTrue};
 ghost use Rattle.font_c.specs.Status.{IsFraction};
 
-/// The result was stored.
-pub const STORED: u32 = 0;
+/// Success: the result was stored.
+pub const OK: u32 = 0;
 
 /// The text is not a decimal.
 pub const NO_DECIMAL: u32 = 1;

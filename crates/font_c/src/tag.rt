@@ -2,11 +2,11 @@
 
 ghost use Rattle.std.specs.Prelude.{◌≡◌, ◌≤◌, length};
 ghost use Rattle.font_types.specs.Tag.{tag_text};
-ghost use Rattle.font_c.specs.Tags.{JudgesTag, StoresTag, number_bytes};
+ghost use Rattle.font_c.specs.Tags.{ValidatesTag, StoresTag, number_bytes};
 ghost use Rattle.font_c.specs.Texts.{WritesText};
 
 use crate::format::put_text;
-use crate::status::{STORED, TAG_AFTER_SPACE, TAG_BYTE, TAG_LENGTH};
+use crate::status::{OK, TAG_AFTER_SPACE, TAG_BYTE, TAG_LENGTH};
 use crate::tag_text::TagText;
 use font_types::{InvalidTag, Scalar, Tag};
 
@@ -18,7 +18,7 @@ pub extern "C" fn font_tag_new(text: &[u8], tag: &mut u32) -> u32
     match Tag::new_checked(text) {
         Ok(good) => {
             *tag = u32::from_raw(good.to_be_bytes());
-            STORED
+            OK
         }
         Err(InvalidTag::InvalidLength(_)) => TAG_LENGTH,
         Err(_) => TAG_BYTE,
@@ -28,10 +28,10 @@ pub extern "C" fn font_tag_new(text: &[u8], tag: &mut u32) -> u32
 /// Checks a tag. If a byte is not allowed where it is, stores the index of the first in `position`.
 #[unsafe(no_mangle)]
 pub extern "C" fn font_tag_validate(tag: u32, position: &mut u32) -> u32
-    ensures { JudgesTag (number_bytes tag) result position.old position.new }
+    ensures { ValidatesTag (number_bytes tag) result position.old position.new }
 {
     match Tag::from_be_bytes(tag.to_raw()).validate() {
-        Ok(()) => STORED,
+        Ok(()) => OK,
         Err(InvalidTag::InvalidLength(_)) => TAG_LENGTH,
         Err(InvalidTag::InvalidByte { pos, .. }) => {
             *position = pos as u32;

@@ -2,7 +2,7 @@
 
 //! Sums of deltas, and what they move.
 
-use crate::font_c::status::{OTHER_COUNT, OUT_OF_RANGE, STORED};
+use crate::font_c::status::{OK, OTHER_COUNT, OUT_OF_RANGE};
 use crate::font_types::{DeltaSum, F48Dot16, Fixed};
 
 /// Adds up the products of 16.16 scalars and deltas, item by item, in 48.16.
@@ -23,7 +23,7 @@ pub unsafe extern "C" fn font_delta_sum(
         return OUT_OF_RANGE;
     };
     *sum = exact.to_bits();
-    STORED
+    OK
 }
 
 /// Adds a 48.16 delta to signed font units, and rounds to the nearest font unit, half up.
@@ -36,7 +36,7 @@ pub unsafe extern "C" fn font_apply_delta_i16(base: i16, delta: i64, units: &mut
         return OUT_OF_RANGE;
     };
     *units = nearest;
-    STORED
+    OK
 }
 
 /// Adds a 48.16 delta to unsigned font units, as advances are, and rounds in the same way.
@@ -49,7 +49,7 @@ pub unsafe extern "C" fn font_apply_delta_u16(base: u16, delta: i64, units: &mut
         return OUT_OF_RANGE;
     };
     *units = nearest;
-    STORED
+    OK
 }
 
 // Rounds a 48.16 value to the nearest font unit, half up.

@@ -2,7 +2,7 @@
 
 //! Sums over delta sets of item variation stores.
 
-use crate::font_c::status::{OTHER_COUNT, OUT_OF_RANGE, STORED, TOO_MANY};
+use crate::font_c::status::{OK, OTHER_COUNT, OUT_OF_RANGE, TOO_MANY};
 use crate::font_types::{DeltaSum, F48Dot16, Fixed, Scalar};
 
 // A font counts the regions of a delta set in 16 bits.
@@ -36,7 +36,7 @@ pub unsafe extern "C" fn font_delta_set_sum(
         return OTHER_COUNT;
     }
     *sum = exact_sum(scalars, set, words);
-    STORED
+    OK
 }
 
 // Stores the sum over a set of long words.
@@ -48,7 +48,7 @@ fn store_long_sum(scalars: &[i32], set: &[u8], words: usize, sum: &mut i64) -> u
         return OUT_OF_RANGE;
     };
     *sum = exact.to_bits();
-    STORED
+    OK
 }
 
 // The exact sum of the products with deltas of 16 and 8 bits, which fits in 64 bits.

@@ -2,8 +2,8 @@
 
 //! The results of the exports: `font_status` of the header.
 
-/// The result was stored.
-pub const STORED: u32 = 0;
+/// Success: the result was stored.
+pub const OK: u32 = 0;
 
 /// The text is not a decimal.
 pub const NO_DECIMAL: u32 = 1;

@@ -3,7 +3,7 @@
 //! Tags, as 32-bit numbers with their big-endian bytes.
 
 use crate::font_c::format::put_text;
-use crate::font_c::status::{STORED, TAG_AFTER_SPACE, TAG_BYTE, TAG_LENGTH};
+use crate::font_c::status::{OK, TAG_AFTER_SPACE, TAG_BYTE, TAG_LENGTH};
 use crate::font_c::tag_text::TagText;
 use crate::font_types::{InvalidTag, Scalar, Tag};
 
@@ -14,7 +14,7 @@ pub unsafe extern "C" fn font_tag_new(text: *const u8, text_len: usize, tag: &mu
     match Tag::new_checked(text) {
         Ok(good) => {
             *tag = u32::from_raw(good.to_be_bytes());
-            STORED
+            OK
         }
         Err(InvalidTag::InvalidLength(_)) => TAG_LENGTH,
         Err(_) => TAG_BYTE,
@@ -25,7 +25,7 @@ pub unsafe extern "C" fn font_tag_new(text: *const u8, text_len: usize, tag: &mu
 #[unsafe(no_mangle)]
 pub unsafe extern "C" fn font_tag_validate(tag: u32, position: &mut u32) -> u32 {
     match Tag::from_be_bytes(tag.to_raw()).validate() {
-        Ok(()) => STORED,
+        Ok(()) => OK,
         Err(InvalidTag::InvalidLength(_)) => TAG_LENGTH,
         Err(InvalidTag::InvalidByte { pos, .. }) => {
             *position = pos as u32;
