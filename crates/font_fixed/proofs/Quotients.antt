@@ -1,18 +1,16 @@
 -- Quotients rounded half away from zero, as code computes them: by magnitudes, with the sign set at the end and 32 bits
 -- kept.
 use Rattle.std.proofs.Common.{◌≡◌, ◌≢◌, sym, refl, ℕ, zero, suc, ◌-◌, ◌*◌, ◌^◌, ◌<◌, Bool, true, false, not, ℤ, pos, negsuc}
-use Rattle.std.proofs.Common.{neg_ℤ, ◌*ℤ◌, unsigned_abs, arith, lit<, w32, SFits, to_z, of_z}
+use Rattle.std.proofs.Common.{neg_ℤ, ◌*ℤ◌, unsigned_abs, arith, lit<}
 use Rattle.std.proofs.lemmas.Bool.Decides.{nat_tests}
 use Rattle.std.proofs.lemmas.Int.{ints}
 use Rattle.std.specs.Int.{is_negative}
 use borrow.Author.Differences.{false_is_lt}
-use mir.Val.{bits}
 use Rattle.font_base.specs.Wrap.{wrap, FitsBits}
-use Rattle.font_base.specs.Wrap.Laws.{wrap-fits, wrap-neg}
+use Rattle.font_base.specs.Wrap.Laws.{wrap-fits}
 use Rattle.font_decimal.specs.Near.{signed, Near, near, near_magnitude}
 use Rattle.font_decimal.proofs.Near.{rounded_is, near_from, near_is, near_gives}
 use mathlib.Core.Bool.{beq}
-use Rattle.font_fixed.proofs.Wrapped.{low_bits-wrap}
 use Rattle.font_fixed.specs.Operations.{IsWrappedNear, differ_in_sign, IsMulDiv, rounded_mul_div}
 
 not_negative : (m : ℕ) → is_negative (pos m) ≡ false

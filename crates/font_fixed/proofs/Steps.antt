@@ -1,8 +1,7 @@
 -- Products rounded half away from zero, as code computes them: half a step is added, less one if the product is
 -- negative, and the sum is shifted.
 use Rattle.std.proofs.Common.{◌≡◌, ◌∙◌, ap, ℕ, suc, ◌+◌, ◌-◌, ◌*◌, ◌%◌, ◌^◌, ◌<◌, ◌≤◌, ℤ, pos, ◌+ℤ◌, ◌-ℤ◌, ◌*ℤ◌, ◌≤ℤ◌}
-use Rattle.std.proofs.Common.{◌<ℤ◌, unsigned_abs, arith, lit<, ◌⊎◌, pow_pos, SFits, to_z, of_z, w32, w64}
-use Rattle.std.proofs.lemmas.Bool.Decides.{nat_tests}
+use Rattle.std.proofs.Common.{◌<ℤ◌, unsigned_abs, arith, lit<, ◌⊎◌, pow_pos, SFits, to_z, of_z, w64}
 use mir.Val.{bool_byte}
 use lib.Signed.{shr_z, lt_z}
 use Rattle.font_base.specs.Wrap.{wrap}
@@ -13,14 +12,6 @@ use Rattle.std.proofs.lemmas.Int.{ints, unsigned_abs-mul, to_z-of_z}
 use Rattle.std.proofs.Math.Nat.{pow-le-pow_right, two-pow-succ}
 use Rattle.font_fixed.proofs.Shifts.{shr_low, shr_high, shr_fits}
 use Rattle.font_fixed.proofs.Quotients.{wrapped_near_from}
-
--- the product of two numbers of 32 bits
-pub products_fit : (x y : ℤ) → SFits w32 x → SFits w32 y → SFits w64 (x *ℤ y)
-products_fit x y f g = grind (arith, ints)
-
--- a number of 32 bits that code has widened to 64
-widened : (x a : ℤ) → SFits w32 x → a ≡ to_z w32 (of_z w32 x) → to_z w64 (of_z w64 a) ≡ x
-widened x a fits is = omega (arith, ints)
 
 -- 1 if n is negative, else 0, as code computes it
 sign_step : (n e : ℤ) → e ≡ pos (bool_byte (lt_z n (pos 0)))
@@ -76,12 +67,3 @@ shifted_is_near n e f fits small many few is =
     )
     (near_gives n (2 ^ f) q (pow_pos f) (near_of_sum n e q (2 ^ f) half (halves f many) (pow_pos (f - 1)) step
     (shr_low _ (2 ^ f) (pow_pos f)) (shr_high _ (2 ^ f) (pow_pos f))))
-
--- ---- the product in code: rounded in 64 bits, of which 32 are kept
-
-pub product_32 : (x y a b m l : ℤ) (d : ℕ) → SFits w32 x → SFits w32 y → l ≡ wrap 32 (to_z w64 (of_z w64 m))
-    → m ≡ near (to_z w64 (of_z w64 (to_z w64 (of_z w64 a) *ℤ to_z w64 (of_z w64 b)))) d
-    → a ≡ to_z w32 (of_z w32 x) → b ≡ to_z w32 (of_z w32 y) → SFits w64 m → SFits w32 l → 0 < d
-    → IsWrappedNear 32 (x *ℤ y) d (to_z w32 (of_z w32 l))
-product_32 x y a b m l d f g is rounded first second wide narrow some =
-    grind (arith, nat_tests, to_z-of_z, products_fit, near_is_wrapped_near, widened)

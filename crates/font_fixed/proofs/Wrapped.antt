@@ -1,7 +1,7 @@
 -- The results of std's calls on the bits of a number, by `wrap`. Goals have the bits n of a width, and m = 2^n, as
 -- literals.
-use Rattle.std.proofs.Common.{◌≡◌, ◌∙◌, sym, refl, ℕ, ◌+◌, ◌-◌, ◌*◌, ◌/◌, ◌%◌, ◌^◌, ◌<◌, ◌≤◌, ℤ, pos, neg_ℤ, ◌+ℤ◌, ◌-ℤ◌}
-use Rattle.std.proofs.Common.{◌*ℤ◌, unsigned_abs, arith, pow_pos, div-add-mod', SFits, to_z, of_z, mod-lt}
+use Rattle.std.proofs.Common.{◌≡◌, ◌∙◌, sym, refl, ℕ, ◌+◌, ◌-◌, ◌*◌, ◌%◌, ◌^◌, ◌<◌, ◌≤◌, ℤ, pos, neg_ℤ, ◌+ℤ◌, ◌-ℤ◌}
+use Rattle.std.proofs.Common.{◌*ℤ◌, unsigned_abs, arith, pow_pos, SFits, to_z, of_z}
 use Rattle.std.proofs.lemmas.Int.{ints, wrapping_add_is, wrapping_sub_is, wrapping_mul_onto, wrapping_neg_is, to_z-of_z}
 use Rattle.std.proofs.Math.Facts.{Fits-of_z, Fits-of_lt, sfits_to_z}
 use Rattle.std.specs.Int.{Width, int_wrapping_neg, int_rem_euclid}
@@ -42,13 +42,6 @@ pub wrapping_mul-wrap : (w : Width) (n m : ℕ) (x : ℤ) (d : ℕ) → n ≡ bi
 wrapping_mul-wrap w n m x d is all f g =
     rw (all, is, wrapping_mul_onto w (of_z w x) (pos d) (Fits-of_z f).fits g, to_z-of_z w x f)
     (int_wrap-wrap w (x *ℤ pos d))
-
--- the low bits of a magnitude
-pub low_bits-wrap : (w : Width) (m : ℕ) (r : ℤ) → r ≡ to_z w (m % 2 ^ bits w) → r ≡ wrap (bits w) (pos m)
-low_bits-wrap w m r is =
-    is ∙ to_z-wrap w (m % 2 ^ bits w) (mod-lt m (pow_pos (bits w)))
-    ∙ sym (wrap_same (bits w) (pos m) (pos (m % 2 ^ bits w)) (pos (m / 2 ^ bits w)) (bits_positive w)
-    (omega (arith, ints, div-add-mod' m (2 ^ bits w))))
 
 -- the remainder after the greatest multiple that is not greater
 pub rem_euclid_is_fract : (w : Width) (f d : ℕ) (x r : ℤ) → d ≡ 2 ^ f → 2 ^ f ≤ 2 ^ hbits w → SFits w x

@@ -1,6 +1,6 @@
 -- Sums that wrap at each step: each is the exact sum, wrapped.
 use Rattle.std.proofs.Common.{◌≡◌, ◌∙◌, sym, ap, ℕ, ◌+◌, ◌<◌, List, length, take, get_or, ℤ, pos, ◌+ℤ◌, lit<, arith}
-use Rattle.std.proofs.Common.{◌≤◌, ◌*ℤ◌, ◌%◌, ◌^◌, w16, w32, w64, SFits, to_z, of_z, refl, lit≤, unsigned_abs}
+use Rattle.std.proofs.Common.{◌≤◌, ◌*ℤ◌, ◌%◌, ◌^◌, w16, w32, SFits, to_z, of_z, refl, lit≤, unsigned_abs}
 use Rattle.std.specs.Int.{w128}
 use Rattle.std.proofs.Math.IntN.{+ℤ_assoc}
 use Rattle.std.proofs.lemmas.Int.{ints, unsigned_abs-mul, wrapping_add_onto}
@@ -79,10 +79,7 @@ pub exact_fixed : (xs : List Fixed) (i : ℕ) (d : Fixed) → i < length xs
     → (total fixed_bits (take i xs) +ℤ fixed_bits (get_or xs i d)) ≡ total fixed_bits (take (i + 1) xs)
 exact_fixed xs i d within = sym (fold_more (λ sum x. sum +ℤ fixed_bits x) (pos 0) xs i d within)
 
-pub fits_sum : (z : ℤ) → SFits w64 z → wrap 64 z ≡ z
-fits_sum = fits_64
-
-pub ruleset exact_sum_calls = (fits_sum, exact_fixed)
+pub ruleset exact_sum_calls = (fits_64, exact_fixed)
 
 -- ---- sums that start somewhere, and sums of sums
 

@@ -58,10 +58,6 @@ abbrev pub ReadsWholeNumber : {T : Type 0} → ℤ → ℤ → (T → ℤ) → D
 ReadsWholeNumber min max number_of d result = result_map_both number_of (λ fault. fault) result
     ≡ number_within min max d
 
--- an integer fits in w bits in two's complement (decidable)
-abbrev pub is_within_signed : ℕ → ℤ → Bool
-is_within_signed w z = is_within (least w) (greatest w) z
-
 -- an integer fits in w unsigned bits (decidable)
 abbrev pub is_unsigned : ℕ → ℕ → Bool
 is_unsigned w n = is_within (pos 0) (pos (2 ^ w - 1)) (pos n)

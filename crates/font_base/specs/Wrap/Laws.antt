@@ -110,11 +110,6 @@ wrap-add_right w a b some =
     let given = wrap_is w b some in
     sym (wrap_same w (a +ℤ b) (a +ℤ wrap w b) given.turns some (omega (arith, ints, given.differs)))
 
-pub wrap-neg : (w : ℕ) (z : ℤ) → 0 < w → wrap w (neg_ℤ (wrap w z)) ≡ wrap w (neg_ℤ z)
-wrap-neg w z some =
-    let given = wrap_is w z some in
-    wrap_same w (neg_ℤ (wrap w z)) (neg_ℤ z) given.turns some (omega (arith, ints, given.differs))
-
 -- wrapping to v bits and then to fewer is wrapping to fewer
 pub wrap-wrap : (u v : ℕ) (z : ℤ) → 0 < u → u ≤ v → wrap u (wrap v z) ≡ wrap u z
 wrap-wrap u v z some less =
