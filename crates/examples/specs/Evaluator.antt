@@ -1,16 +1,16 @@
 -- Values of an evaluator of variations.
-use Rattle.std.specs.Prelude.{◌≡◌, ◌⊎◌, ℕ, ◌+◌, ◌-◌, ◌*◌, ◌%◌, ◌<◌, ℤ, pos, ◌+ℤ◌, ◌-ℤ◌, ◌≤ℤ◌, ◌<ℤ◌, ◌==◌}
-use Rattle.std.specs.Prelude.{List, length, take, drop, slice_index, slice_index_or, Result, Ok, Err}
-use Rattle.std.specs.Prelude.{nat_le, nat_eq, if◌then◌else◌}
+use Rattle.std.specs.Prelude.{◌≡◌, ◌≢◌, ◌⊎◌, ℕ, ◌-◌, ◌<◌, ℤ, pos, neg_ℤ, ◌+ℤ◌, ◌-ℤ◌, ◌≤ℤ◌, ◌<ℤ◌, ◌==◌}
+use Rattle.std.specs.Prelude.{List, length, slice_index_or, Result, Ok, Err}
 use Rattle.std.specs.Int.{w32}
 use Rattle.std.specs.List.{position_or_len, before_first, after_first}
-use Rattle.font_types.specs.Bytes.{signed_numeral}
-use Rattle.font_types.specs.Wrap.{wrap}
+use Rattle.font_types.specs.Wrap.{wrap, FitsBits}
 use Rattle.font_types.specs.NumberReading.{ReadsBy}
-use Rattle.font_types.specs.Operations.{IsMulDiv}
+use Rattle.font_types.specs.Operations.{IsMulDiv, IsNarrowed, rounded_mul_div}
 use Rattle.font_types.specs.Fixed.{fixed_bits, fixed_of}
+use Rattle.font_types.specs.Fixed.{Fixed, ONE, NEG_ONE}
+use Rattle.font_types.specs.F2Dot14.{f2dot14_bits}
+use Rattle.font_types.specs.F2Dot14.{F2Dot14}
 use Rattle.font_types.specs.Tag.{IsChecked, IsAcceptable}
-use Rattle.font_types.specs.Fixed.{Fixed}
 use Rattle.examples.specs.declared.evaluator.Setting.{Setting}
 use Rattle.examples.specs.declared.evaluator.SettingError.{SettingError}
 use Rattle.examples.specs.declared.evaluator.SettingError.TheVariants.{NoValue, Axis, Value}
@@ -48,65 +48,74 @@ IsSettingRead text (Err (Value fault)) = (value_start text < length text) × IsA
 
 -- ---- segment maps (OpenType, avar: linear between two mappings)
 
--- the start's coordinate and, of the rise to the end's, the share that the coordinate has of the distance, rounded half
--- away from zero; sums and differences wrap to 32 bits
+-- the distance of the coordinate from the start, that of the end, and the rise between their coordinates
+abbrev pub lerp_part : Fixed → AxisValueMap → ℤ
+lerp_part coordinate start = fixed_bits coordinate -ℤ fixed_bits start.from_coordinate
+
+abbrev pub lerp_whole : AxisValueMap → AxisValueMap → ℤ
+lerp_whole start end = fixed_bits end.from_coordinate -ℤ fixed_bits start.from_coordinate
+
+abbrev pub lerp_rise : AxisValueMap → AxisValueMap → ℤ
+lerp_rise start end = fixed_bits end.to_coordinate -ℤ fixed_bits start.to_coordinate
+
+-- the value at the coordinate on the line through both mappings: the start's coordinate and, of the rise, the share that
+-- the part has of the whole, rounded once, half away from zero
+abbrev pub on_line : Fixed → AxisValueMap → AxisValueMap → ℤ
+on_line coordinate start end = fixed_bits start.to_coordinate
+    +ℤ rounded_mul_div (lerp_rise start end) (lerp_part coordinate start) (lerp_whole start end)
+
+-- nothing overflows: the differences fit in 32 bits, and so does the value
+pub record FitsLerp (coordinate : Fixed) (start end : AxisValueMap) : Type 0 where
+  pub part : FitsBits 32 (lerp_part coordinate start)
+  pub whole : FitsBits 32 (lerp_whole start end)
+  pub rise : FitsBits 32 (lerp_rise start end)
+  pub value : FitsBits 32 (on_line coordinate start end)
+
+-- the value on the line, if nothing overflows; else each difference, the share and the sum wrap to 32 bits
 pub record IsLerp (coordinate : Fixed) (start end : AxisValueMap) (result : Fixed) : Type 0 where
-  pub rise : ℤ
-  pub is_share : IsMulDiv 32 (wrap 32 (fixed_bits end.to_coordinate -ℤ fixed_bits start.to_coordinate))
-      (wrap 32 (fixed_bits coordinate -ℤ fixed_bits start.from_coordinate))
-      (wrap 32 (fixed_bits end.from_coordinate -ℤ fixed_bits start.from_coordinate)) rise
-  pub is_sum : fixed_bits result ≡ wrap 32 (fixed_bits start.to_coordinate +ℤ rise)
+  pub exact : FitsLerp coordinate start end → fixed_bits result ≡ on_line coordinate start end
+  pub share : ℤ
+  pub is_share : IsMulDiv 32 (wrap 32 (lerp_rise start end)) (wrap 32 (lerp_part coordinate start))
+      (wrap 32 (lerp_whole start end)) share
+  pub is_sum : fixed_bits result ≡ wrap 32 (fixed_bits start.to_coordinate +ℤ share)
 
 -- the mapping at k, and past the end the one of zero to zero
 abbrev pub mapping_at : List AxisValueMap → ℕ → AxisValueMap
 mapping_at map k = slice_index_or map k
     (record { from_coordinate = fixed_of (pos 0); to_coordinate = fixed_of (pos 0) })
 
--- the bits are in the segment that ends at the mapping k: at or above the mapping before, and below this one
-abbrev pub IsInSegment : ℤ → List AxisValueMap → ℕ → Type 0
-IsInSegment bits map k = (fixed_bits (mapping_at map (k - 1)).from_coordinate ≤ℤ bits)
-    × (bits <ℤ fixed_bits (mapping_at map k).from_coordinate)
+-- the first n mappings are below the bits
+abbrev pub AreBelow : List AxisValueMap → ℕ → ℤ → Type 0
+AreBelow map n bits = (k : ℕ) → k < n → fixed_bits (mapping_at map k).from_coordinate <ℤ bits
 
--- they are in no segment that ends before the mapping n
-abbrev pub IsOutside : ℤ → List AxisValueMap → ℕ → Type 0
-IsOutside bits map n = (k : ℕ) → 0 < k → k < n → ¬ IsInSegment bits map k
-
--- the first mapping that ends a segment with them in it
-pub record IsFirstEnd (bits : ℤ) (map : List AxisValueMap) (end : ℕ) : Type 0 where
-  pub starts : 0 < end
+-- the mapping that ends the segment of the bits: the first at or above them
+pub record IsSegmentEnd (bits : ℤ) (map : List AxisValueMap) (end : ℕ) : Type 0 where
   pub within : end < length map
-  pub before : IsOutside bits map end
-  pub there : IsInSegment bits map end
+  pub before : AreBelow map end bits
+  pub there : bits ≤ℤ fixed_bits (mapping_at map end).from_coordinate
 
--- the coordinate interpolated in the first segment that it is in, or itself outside all of them
+-- the coordinate by that mapping: at it, what it is mapped to; else linear from the mapping before, or itself if none is
+pub record IsMappedIn (coordinate : Fixed) (map : List AxisValueMap) (end : ℕ) (result : Fixed) : Type 0 where
+  pub at : coordinate ≡ (mapping_at map end).from_coordinate → result ≡ (mapping_at map end).to_coordinate
+  pub between : coordinate ≢ (mapping_at map end).from_coordinate → 0 < end
+      → IsLerp coordinate (mapping_at map (end - 1)) (mapping_at map end) result
+  pub outside : coordinate ≢ (mapping_at map end).from_coordinate → end ≡ 0 → result ≡ coordinate
+
+-- the coordinate by the segment that it is in, or itself above all mappings, as of an empty map
 abbrev pub IsMapped : Fixed → List AxisValueMap → Fixed → Type 0
 IsMapped coordinate map result =
-    (IsOutside (fixed_bits coordinate) map (length map) × (result ≡ coordinate))
-    ⊎ ((end : ℕ) × IsFirstEnd (fixed_bits coordinate) map end
-    × IsLerp coordinate (mapping_at map (end - 1)) (mapping_at map end) result)
+    (AreBelow map (length map) (fixed_bits coordinate) × (result ≡ coordinate))
+    ⊎ ((end : ℕ) × IsSegmentEnd (fixed_bits coordinate) map end × IsMappedIn coordinate map end result)
 
--- ---- packed deltas (OpenType, font variations common table formats: "Packed Deltas")
+-- ---- coordinates as they are stored (OpenType, coordinate scales and normalization: converted to 2.14 at the end)
 
--- the low six bits of the control byte are one less than the number of deltas
-abbrev pub run_count : ℕ → ℕ
-run_count control = control % 0x40 + 1
+-- the coordinate clamped to -1..1, and then rounded half up to 2.14
+pub record IsStored (coordinate : Fixed) (stored : F2Dot14) : Type 0 where
+  pub inside : fixed_bits NEG_ONE ≤ℤ fixed_bits coordinate → fixed_bits coordinate ≤ℤ fixed_bits ONE
+      → IsNarrowed 16 (fixed_bits coordinate) 4 (f2dot14_bits stored)
+  pub below : fixed_bits coordinate ≤ℤ fixed_bits NEG_ONE → f2dot14_bits stored ≡ neg_ℤ (pos 16384)
+  pub above : fixed_bits ONE ≤ℤ fixed_bits coordinate → f2dot14_bits stored ≡ pos 16384
 
--- the bytes of each delta: none if the highest bit is set (DELTAS_ARE_ZERO), two if the next one is (DELTAS_ARE_WORDS),
--- else one
-abbrev pub run_width : ℕ → ℕ
-run_width control = if nat_le 0x80 control then 0 else if nat_le 0x40 control then 2 else 1
-
--- the delta at an index of a run: zero if deltas take no bytes, else the signed number stored there
-abbrev pub run_delta : ℕ → List ℕ → ℕ → ℤ
-run_delta width run index =
-    if nat_eq width 0 then pos 0 else signed_numeral width (take width (drop (index * width) run))
-
--- the bytes of the run after its control byte
-abbrev pub run_bytes : List ℕ → ℕ
-run_bytes packed = run_count (slice_index packed 0) * run_width (slice_index packed 0)
-
--- ---- regions (OpenType, item variation stores: a scalar and a delta for each region)
-
--- the scalar and the delta of a region
-abbrev pub region_term : List Fixed → List ℤ → ℕ → Fixed × ℤ
-region_term scalars deltas k = (slice_index_or scalars k (fixed_of (pos 0)), slice_index_or deltas k (pos 0))
+-- the coordinate mapped, and only then rounded
+abbrev pub IsFinal : Fixed → List AxisValueMap → F2Dot14 → Type 0
+IsFinal coordinate map stored = (mapped : Fixed) × IsMapped coordinate map mapped × IsStored mapped stored

@@ -4,3 +4,5 @@ pub mod Evaluator
 pub mod Linter
 pub mod Dumper
 pub mod Start
+pub mod Packed
+pub mod Variations

@@ -1,25 +1,20 @@
-//! An evaluator of variations: from `wght=650` to a varied advance, by `fvar`, `avar`, packed
-//! deltas and sums of deltas.
+//! An evaluator of variations: settings, `fvar`, `avar` and sums of deltas.
 
-ghost use Rattle.std.specs.Prelude.{◌≡◌, ◌≢◌, ◌↔◌, ◌<◌, ◌≤◌, ◌+◌, ◌*◌, ◌^◌, ℕ};
-ghost use Rattle.std.specs.Prelude.{[], pos, neg_ℤ, ◌≤ℤ◌, ◌<ℤ◌, ◌+ℤ◌, ◌-ℤ◌, ◌*ℤ◌};
-ghost use Rattle.std.specs.Prelude.{IsSome, IfSome, IfOk, MatchOption};
-ghost use Rattle.std.specs.Prelude.{length, drop, slice_index, slice_index_or, vec_len};
+ghost use Rattle.std.specs.Prelude.{◌≡◌, ◌≢◌, ◌↔◌, pos, neg_ℤ, ◌≤ℤ◌, ◌<ℤ◌, ◌+ℤ◌, ◌-ℤ◌, ◌*ℤ◌};
+ghost use Rattle.std.specs.Prelude.{IsSome, IfSome, MatchOption, length};
 ghost use Rattle.font_types.specs.Wrap.{FitsBits};
-ghost use Rattle.font_types.specs.Operations.{IsQuotient, IsNarrowed};
+ghost use Rattle.font_types.specs.Operations.{IsQuotient};
 ghost use Rattle.font_types.specs.Fixed;
 ghost use Rattle.font_types.specs.Fixed.{fixed_bits};
 ghost use Rattle.font_types.specs.F2Dot14;
 ghost use Rattle.font_types.specs.F2Dot14.{f2dot14_bits};
 ghost use Rattle.font_types.specs.FWord.{fword_number, nearest_unit};
 ghost use Rattle.font_types.specs.Delta.{exact_sum};
-ghost use Rattle.examples.specs.Evaluator.{value_start, AreParts, IsSettingRead, IsLerp, IsOutside};
-ghost use Rattle.examples.specs.Evaluator.{IsFirstEnd, IsMapped};
-ghost use Rattle.examples.specs.Evaluator.{run_count, run_width, run_delta, run_bytes, region_term};
+ghost use Rattle.examples.specs.Evaluator.{value_start, AreParts, IsSettingRead, IsLerp, AreBelow};
+ghost use Rattle.examples.specs.Evaluator.{IsSegmentEnd, IsMappedIn, IsMapped, IsStored, IsFinal};
 
 use crate::reader::VariationAxisRecord;
-use font_types::{DecimalFault, F2Dot14, FWord, Fixed, InvalidTag, Scalar, Tag, vary};
-use std::alloc::{AllocError, Global};
+use font_types::{DecimalFault, F2Dot14, FWord, Fixed, InvalidTag, Tag, vary};
 
 // ---- settings
 
@@ -85,8 +80,8 @@ fn distance(from: Fixed, to: Fixed) -> Fixed
     to - from
 }
 
-// A part over its whole, from 0 to 1.
-fn ratio(part: Fixed, whole: Fixed) -> Fixed
+/// Returns a part over its whole, from 0 to 1.
+pub fn ratio(part: Fixed, whole: Fixed) -> Fixed
     requires part { (pos 0 ≤ℤ fixed_bits part) × (fixed_bits part ≤ℤ fixed_bits whole) }
     requires whole { whole ≢ Fixed.ZERO }
     ensures value { IsQuotient 32 16 (fixed_bits part) (fixed_bits whole) (fixed_bits result) }
@@ -184,11 +179,7 @@ fn normalize_clamped(value: Fixed, axis: VariationAxisRecord) -> Fixed
 
 /// Clamps a coordinate to -1..1 and narrows it, as `avar` and tuples store it.
 pub fn to_stored(coordinate: Fixed) -> F2Dot14
-    ensures narrowed { fixed_bits Fixed.NEG_ONE ≤ℤ fixed_bits coordinate
-        → fixed_bits coordinate ≤ℤ fixed_bits Fixed.ONE
-        → IsNarrowed 16 (fixed_bits coordinate) 4 (f2dot14_bits result) }
-    ensures below { fixed_bits coordinate ≤ℤ fixed_bits Fixed.NEG_ONE → result ≡ F2Dot14.NEG_ONE }
-    ensures above { fixed_bits Fixed.ONE ≤ℤ fixed_bits coordinate → result ≡ F2Dot14.ONE }
+    ensures value { IsStored coordinate result }
     ensures low { f2dot14_bits F2Dot14.NEG_ONE ≤ℤ f2dot14_bits result }
     ensures high { f2dot14_bits result ≤ℤ f2dot14_bits F2Dot14.ONE }
 {
@@ -215,126 +206,53 @@ pub fn lerp(coordinate: Fixed, start: AxisValueMap, end: AxisValueMap) -> Fixed
     to + (end.to_coordinate - to).mul_div(coordinate - from, end.from_coordinate - from)
 }
 
-/// Returns the index of the first mapping that ends a segment with the coordinate in it.
+/// Returns the index of the mapping that ends the segment of a coordinate: the first at or above.
 pub fn segment_end(coordinate: Fixed, map: &[AxisValueMap]) -> Option<usize>
     ensures { MatchOption result
-        (IsOutside (fixed_bits coordinate) map.now (length map.now))
-        (λ end. IsFirstEnd (fixed_bits coordinate) map.now end) }
+        (AreBelow map.now (length map.now) (fixed_bits coordinate))
+        (λ end. IsSegmentEnd (fixed_bits coordinate) map.now end) }
 {
-    for end in 1..map.len() {
-        let (start, stop) = (map[end - 1].from_coordinate, map[end].from_coordinate);
-        if start <= coordinate && coordinate < stop {
+    for end in 0..map.len() {
+        if coordinate <= map[end].from_coordinate {
             return Some(end);
         }
     }
     None
 }
 
-/// Maps a coordinate by its segment, and leaves one outside all segments.
+// Maps a coordinate by the mapping that ends its segment, and the one before.
+fn map_in_segment(coordinate: Fixed, map: &[AxisValueMap], end: usize) -> Fixed
+    requires { IsSegmentEnd (fixed_bits coordinate) map.now end }
+    ensures { IsMappedIn coordinate map.now end result }
+{
+    let mapping = map[end];
+    if mapping.from_coordinate == coordinate {
+        mapping.to_coordinate
+    } else if end == 0 {
+        coordinate
+    } else {
+        lerp(coordinate, map[end - 1], mapping)
+    }
+}
+
+/// Maps a coordinate by a segment map, and leaves one below or above all mappings.
 pub fn map_coordinate(coordinate: Fixed, map: &[AxisValueMap]) -> Fixed
     ensures { IsMapped coordinate map.now result }
 {
     match segment_end(coordinate, map) {
-        Some(end) => lerp(coordinate, map[end - 1], map[end]),
+        Some(end) => map_in_segment(coordinate, map, end),
         None => coordinate,
     }
 }
 
-// ---- packed deltas
-
-/// Returns the number of deltas in a run, by its control byte.
-pub fn deltas_in_run(control: u8) -> usize
-    ensures { result ≡ run_count control }
+/// Maps a coordinate as `normalize` gives it, and rounds it to 2.14 after that.
+pub fn final_coordinate(coordinate: Fixed, map: &[AxisValueMap]) -> F2Dot14
+    ensures { IsFinal coordinate map.now result }
 {
-    usize::from(control % 0x40) + 1
-}
-
-/// Returns the number of bytes of each delta in a run: 0 if all are zero.
-pub fn delta_width(control: u8) -> usize
-    ensures { result ≡ run_width control }
-{
-    match control {
-        0x80.. => 0,
-        0x40.. => 2,
-        _ => 1,
-    }
-}
-
-// Returns the delta at an index of a run.
-fn delta_at(run: &[u8], width: usize, index: usize) -> i16
-    requires width { width ≤ 2 }
-    requires within { (index + 1) * width ≤ length run.now }
-    ensures { result ≡ run_delta width run.now index }
-{
-    match width {
-        0 => 0,
-        1 => i16::from(i8::read_at(run, index).unwrap()),
-        _ => i16::read_at(run, index * 2).unwrap(),
-    }
-}
-
-// Reads the deltas of a run.
-fn read_deltas(
-    run: &[u8],
-    width: usize,
-    count: usize,
-    alloc: Global,
-) -> Result<Vec<i16>, AllocError>
-    requires width { width ≤ 2 }
-    requires within { count * width ≤ length run.now }
-    ensures count { IfOk result (λ deltas. vec_len deltas ≡ count) }
-    ensures each { IfOk result (λ deltas. (k : ℕ) → k < count →
-        slice_index_or deltas.items k (pos 0) ≡ run_delta width run.now k) }
-{
-    let mut deltas = Vec::new(alloc);
-    for index in 0..count {
-        deltas.push(delta_at(run, width, index))?;
-    }
-    Ok(deltas)
-}
-
-/// Reads the first run, and returns its deltas and the bytes after it, or `None` if bytes are
-/// missing.
-pub fn read_run(packed: &[u8], alloc: Global) -> Result<Option<(Vec<i16>, &[u8])>, AllocError>
-    ensures end { IfOk result (λ read. IsSome read ↔
-        ((0 < length packed.now) × (1 + run_bytes packed.now ≤ length packed.now))) }
-    ensures count { IfOk result (λ read. IfSome read (λ run.
-        vec_len run.0 ≡ run_count (slice_index packed.now 0))) }
-    ensures each { IfOk result (λ read. IfSome read (λ run. (k : ℕ)
-        → k < run_count (slice_index packed.now 0) → slice_index_or run.0.items k (pos 0)
-        ≡ run_delta (run_width (slice_index packed.now 0)) (drop 1 packed.now) k)) }
-    ensures rest { IfOk result (λ read. IfSome read (λ run.
-        run.1.now ≡ drop (1 + run_bytes packed.now) packed.now)) }
-{
-    let Some((&control, data)) = packed.split_first() else {
-        return Ok(None);
-    };
-    let (count, width) = (deltas_in_run(control), delta_width(control));
-    let Some((_, rest)) = data.split_at_checked(count * width) else {
-        return Ok(None);
-    };
-    Ok(Some((read_deltas(data, width, count, alloc)?, rest)))
+    to_stored(map_coordinate(coordinate, map))
 }
 
 // ---- sums of deltas
-
-/// Pairs the scalar of each region with its delta.
-pub fn region_terms(
-    scalars: &[Fixed],
-    deltas: &[i16],
-    alloc: Global,
-) -> Result<Vec<(Fixed, i32)>, AllocError>
-    requires { length scalars.now ≡ length deltas.now }
-    ensures count { IfOk result (λ terms. vec_len terms ≡ length deltas.now) }
-    ensures each { IfOk result (λ terms. (k : ℕ) → k < length deltas.now →
-        slice_index_or terms.items k (region_term [] [] 0) ≡ region_term scalars.now deltas.now k) }
-{
-    let mut terms = Vec::new(alloc);
-    for index in 0..deltas.len() {
-        terms.push((scalars[index], i32::from(deltas[index])))?;
-    }
-    Ok(terms)
-}
 
 /// Varies a value in font units by the exact sum of its terms, and rounds once, half up; returns
 /// `None` if the sum does not fit 64 bits or the result is out of range.

@@ -3,7 +3,9 @@
 //!
 //! - `start`: a first caller, which docs/CALLING.md shows.
 //! - `reader`: tables, as `head`, `hmtx`, `fvar`, coverage and `VORG`.
-//! - `evaluator`: variations, from `wght=650` to a varied advance, by `avar` and packed deltas.
+//! - `evaluator`, `variations`: from `wght=650` to a varied advance, by `fvar`, `avar` and item
+//!   variation stores.
+//! - `packed`: packed deltas, as in `gvar` and `cvar`.
 //! - `scaler`: outlines through a chain of matrices.
 //! - `linter`: tags, names, versions and the records of a table directory.
 //! - `dumper`: numbers in columns, raw values in hexadecimal, JSON.
@@ -12,8 +14,10 @@
 pub mod dumper;
 pub mod evaluator;
 pub mod linter;
+pub mod packed;
 pub mod reader;
 pub mod scaler;
 pub mod start;
 #[cfg(test)]
 mod tests;
+pub mod variations;

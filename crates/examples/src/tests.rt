@@ -3,6 +3,8 @@
 mod dumper;
 mod evaluator;
 mod linter;
+mod packed;
 mod reader;
 mod scaler;
 mod start;
+mod variations;

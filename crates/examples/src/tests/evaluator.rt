@@ -4,12 +4,11 @@ ghost use Rattle.std.specs.Prelude.{◌≡◌};
 ghost use Rattle.font_types.specs.Fixed.{fixed_bits};
 
 use crate::evaluator::{
-    AxisValueMap, Setting, SettingError, clamp, delta_width, deltas_in_run, lerp, map_coordinate,
-    normalize, read_run, read_setting, region_terms, segment_end, to_stored, vary_and_round,
+    AxisValueMap, Setting, SettingError, clamp, final_coordinate, lerp, map_coordinate, normalize,
+    read_setting, segment_end, to_stored, vary_and_round,
 };
 use crate::reader::VariationAxisRecord;
 use font_types::{DecimalFault, F2Dot14, FWord, Fixed, InvalidTag, NameId, Tag};
-use std::test::Fail;
 
 #[test]
 fn read_settings(rt: HostRuntime) {
@@ -111,16 +110,16 @@ fn coordinates_mapped(rt: HostRuntime) {
         to_coordinate: Fixed::from_bits(to),
     });
     for &(bits, mapped, end) in &[
-        (-0x1_0001, -0x1_0001, None),
-        (-0x1_0000, -0x1_0000, Some(1)),
+        (-0x1_0001, -0x1_0001, Some(0)),
+        (-0x1_0000, -0x1_0000, Some(0)),
         (-0x4000, -0x4000, Some(1)),
-        (0, 0, Some(2)),
+        (0, 0, Some(1)),
         (0x4000, 0x2000, Some(2)),
         (0x7FFF, 0x4000, Some(2)),
-        (0x8000, 0x4000, Some(3)),
+        (0x8000, 0x4000, Some(2)),
         (0x8001, 0x4002, Some(3)),
         (0xC000, 0xA000, Some(3)),
-        (0x1_0000, 0x1_0000, None),
+        (0x1_0000, 0x1_0000, Some(3)),
         (0x1_0001, 0x1_0001, None),
     ] {
         let coordinate = Fixed::from_bits(bits);
@@ -130,58 +129,23 @@ fn coordinates_mapped(rt: HostRuntime) {
             "{bits}"
         );
         assert!(rt;
-            map_coordinate(coordinate, &map[..1]) == coordinate,
-            "{bits} by one"
+            map_coordinate(coordinate, &map[..0]) == coordinate,
+            "{bits} by none"
         );
+    }
+    // 43691 is mapped to 32768.5, which is rounded to 32769 and then to 8192 of 2.14; from 10923 of
+    // 2.14 on, the map would give 32770 and 8193.
+    for &(bits, stored) in &[(43691, 8192), (0x2_0000, 0x4000), (0x4000, 0x800)] {
+        let coordinate = final_coordinate(Fixed::from_bits(bits), &map);
+        assert!(rt; coordinate == F2Dot14::from_bits(stored), "{bits} stored");
     }
     assert!(rt; lerp(Fixed::ONE, map[1], map[2]) == Fixed::from_bits(0x8000));
 }
 
-// (OpenType, font variations common table formats: the example of packed deltas)
-const PACKED: [u8; 16] = [
-    0x03, 0x0A, 0x97, 0x00, 0xC6, 0x87, 0x41, 0x10, 0x22, 0xFB, 0x34, 0x40, 0x80, 0x00, 0x01, 0x7F,
-];
-
 #[test]
-fn control_bytes(rt: HostRuntime) {
-    for &(control, count, width) in &[
-        (0x00, 1, 1),
-        (0x3F, 64, 1),
-        (0x40, 1, 2),
-        (0x7F, 64, 2),
-        (0x80, 1, 0),
-        (0xBF, 64, 0),
-        (0xFF, 64, 0),
-    ] {
-        assert!(rt;
-            deltas_in_run(control) == count && delta_width(control) == width,
-            "{control}"
-        );
-    }
-}
-
-#[test]
-fn packed_runs(rt: HostRuntime) -> Result<(), Fail> {
-    let (bytes, words) = ([10, -105, 0, -58], [4130, -1228]);
-    let (deltas, rest) = read_run(&PACKED, rt.alloc())?.unwrap();
-    assert!(rt; deltas.as_slice() == bytes.as_slice() && rest == &PACKED[5..]);
-    let (deltas, rest) = read_run(rest, rt.alloc())?.unwrap();
-    assert!(rt; deltas.as_slice() == [0; 8].as_slice() && rest == &PACKED[6..]);
-    let (deltas, rest) = read_run(rest, rt.alloc())?.unwrap();
-    assert!(rt; deltas.as_slice() == words.as_slice() && rest == &PACKED[11..]);
-    let (deltas, rest) = read_run(rest, rt.alloc())?.unwrap();
-    assert!(rt; deltas.as_slice() == [-0x8000].as_slice() && rest == &PACKED[14..]);
-    for packed in [&[][..], &[0x00], &[0x01, 0x01], &[0x40, 0x01]] {
-        assert!(rt; read_run(packed, rt.alloc())?.is_none(), "{}", packed.len());
-    }
-    Ok(())
-}
-
-#[test]
-fn values_varied(rt: HostRuntime) -> Result<(), Fail> {
-    let (half, base) = (Fixed::from_bits(0x8000), FWord::new(100));
-    let terms = region_terms(&[half, Fixed::ONE], &[3, -2], rt.alloc())?;
-    assert!(rt; terms.as_slice() == [(half, 3), (Fixed::ONE, -2)].as_slice());
+fn values_varied(rt: HostRuntime) {
+    let base = FWord::new(100);
+    let terms = [(Fixed::from_bits(0x8000), 3), (Fixed::ONE, -2)];
     assert!(rt; vary_and_round(base, &terms) == Some(FWord::new(100)));
     for &(bits, delta, varied) in &[
         (0x8000, 3, Some(102)),
@@ -198,5 +162,4 @@ fn values_varied(rt: HostRuntime) -> Result<(), Fail> {
     }
     let largest = (Fixed::MIN, i32::MIN);
     assert!(rt; vary_and_round(base, &[largest, largest]).is_none());
-    Ok(())
 }

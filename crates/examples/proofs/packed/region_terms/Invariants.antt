@@ -1,6 +1,6 @@
 use Rattle.std.proofs.Common.{◌≡◌, ℕ, ◌<◌, [], get_or, vec_len}
-use Rattle.examples.specs.Evaluator.{region_term}
-use Rattle.examples.proofs.evaluator.region_terms.Given as goal
+use Rattle.examples.specs.Packed.{region_term}
+use Rattle.examples.proofs.packed.region_terms.Given as goal
 
 abbrev pub invariant-loop-index : goal.invariant-loop-index
 invariant-loop-index l = (vec_len l.terms ≡ l.index)

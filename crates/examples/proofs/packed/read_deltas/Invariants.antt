@@ -1,6 +1,6 @@
 use Rattle.std.proofs.Common.{◌≡◌, ℕ, ◌<◌, pos, get_or, vec_len}
-use Rattle.examples.specs.Evaluator.{run_delta}
-use Rattle.examples.proofs.evaluator.read_deltas.Given as goal
+use Rattle.examples.specs.Packed.{run_delta}
+use Rattle.examples.proofs.packed.read_deltas.Given as goal
 
 abbrev pub invariant-loop-index : goal.invariant-loop-index
 invariant-loop-index l = (vec_len l.deltas ≡ l.index)
