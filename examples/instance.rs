@@ -29,6 +29,9 @@ record! { RegionAxis 6:
     end: F2Dot14, 4..6;
 }
 
+/// The outer and the inner index of an item without variation data.
+const NO_VARIATION: (usize, usize) = (0xFFFF, 0xFFFF);
+
 /// The axes of a font.
 pub fn axes<'a>(font: &Font<'a>) -> Option<ScalarArray<'a, Axis>> {
     let fvar = font.table(b"fvar")?;
@@ -54,6 +57,7 @@ pub fn normalized(font: &Font<'_>, index: usize, value: Fixed) -> Option<F2Dot14
         Some(avar) => mapped(&segment_map(avar, index)?, coordinate).unwrap_or(coordinate),
         None => coordinate,
     };
+    let coordinate = coordinate.clamp(Fixed::NEG_ONE, Fixed::ONE);
     Some(coordinate.to_f2dot14())
 }
 
@@ -66,13 +70,17 @@ fn segment_map(avar: &[u8], index: usize) -> Option<ScalarArray<'_, AxisMap>> {
     ScalarArray::read_at(avar, start + 2, u16::read_at(avar, start)?.into())
 }
 
-/// A coordinate, interpolated between two records of a map, or `None` outside of them.
+/// A coordinate by the first record at or above it, interpolated from the record before, or `None`
+/// outside of the map.
 fn mapped(map: &ScalarArray<'_, AxisMap>, x: Fixed) -> Option<Fixed> {
-    let above = match map.binary_search_by_key(&x, |record| record.from.to_fixed()) {
-        Ok(place) => return Some(map.get(place)?.to.to_fixed()),
-        Err(place) => place,
-    };
-    let (low, high) = (map.get(above.checked_sub(1)?)?, map.get(above)?);
+    let above = map
+        .values()
+        .position(|record| record.from.to_fixed() >= x)?;
+    let high = map.get(above)?;
+    if high.from.to_fixed() == x {
+        return Some(high.to.to_fixed());
+    }
+    let low = map.get(above.checked_sub(1)?)?;
     let [from, to] = [low.from, low.to].map(F2Dot14::to_fixed);
     let (run, rise) = (high.from.to_fixed() - from, high.to.to_fixed() - to);
     Some(to + (x - from).mul_div(rise, run))
@@ -92,6 +100,8 @@ fn scalar(region: &ScalarArray<'_, RegionAxis>, coordinates: &[F2Dot14]) -> Fixe
             _ => (end - x) / (end - peak),
         }
     };
+    // Axes without a coordinate are at their default.
+    let coordinates = coordinates.iter().chain(std::iter::repeat(&F2Dot14::ZERO));
     let scalars = region.values().zip(coordinates).map(of_axis);
     scalars.fold(Fixed::ONE, |product, scalar| product * scalar)
 }
@@ -99,6 +109,13 @@ fn scalar(region: &ScalarArray<'_, RegionAxis>, coordinates: &[F2Dot14]) -> Fixe
 /// The place of a row, or `None` if a `usize` cannot hold it.
 fn row(start: usize, len: usize, index: usize) -> Option<usize> {
     len.checked_mul(index)?.checked_add(start)
+}
+
+/// The region of this index, in a list of regions.
+fn region(regions: &[u8], index: u16) -> Option<ScalarArray<'_, RegionAxis>> {
+    let (axes, count) = (u16::read_at(regions, 0)?, u16::read_at(regions, 2)?);
+    let place = row(4, 6 * usize::from(axes), index.into())?;
+    ScalarArray::read_at(regions, place, axes.into()).filter(|_| index < count)
 }
 
 /// The advance of a glyph at these coordinates, rounded.
@@ -110,16 +127,21 @@ pub fn advance(font: &Font<'_>, glyph: GlyphId16, coordinates: &[F2Dot14]) -> Op
         true => (0, glyph.into()),
         false => delta_set(at_offset(hvar, 8)?, glyph.into())?,
     };
+    if (outer, inner) == NO_VARIATION {
+        return Some(base);
+    }
     let data = at_offset(store, row(8, 4, outer)?)?;
+    let (tables, sets) = (u16::read_at(store, 6)?, u16::read_at(data, 0)?);
+    if outer >= tables.into() || inner >= sets.into() {
+        return None;
+    }
     let regions = at_offset(store, 2)?;
-    let axis_count = usize::from(u16::read_at(regions, 0)?);
     let count = usize::from(u16::read_at(data, 4)?);
     let mut sum = DeltaSum::new();
     let indices = ScalarArray::<u16>::read_at(data, 6, count)?;
-    for (n, index) in indices.values().enumerate() {
-        let place = row(4, 6 * axis_count, index.into())?;
-        let region = ScalarArray::read_at(regions, place, axis_count)?;
-        sum.add(scalar(&region, coordinates), delta(data, count, inner, n)?);
+    for (column, index) in indices.values().enumerate() {
+        let scalar = scalar(&region(regions, index)?, coordinates);
+        sum.add(scalar, delta(data, count, inner, column)?);
     }
     UfWord::round_delta(base.apply_delta(sum.checked_finish()?))
 }

@@ -7,8 +7,9 @@ mod dump;
 mod instance;
 
 mod built;
+mod proved;
 
-use built::{MAP, font, font_of, hvar, hvar_of_two_axes, long_hvar, two_axes, words};
+use built::{MAP, MAPS, font, font_of, hvar, hvar_of_two_axes, long_hvar, two_axes, words};
 use dump::dump;
 use font_types_proved::{F2Dot14, Fixed, GlyphId16, Tag, UfWord};
 use instance::{advance, axes, normalized};
@@ -69,12 +70,71 @@ fn read(bytes: &[u8]) -> Option<()> {
     Some(())
 }
 
-// The examples do not panic on any bytes.
+/// Compares `instance` with what is proved, and returns how many coordinates and advances it
+/// compared.
+fn compare(bytes: &[u8], row: &str) -> [usize; 2] {
+    let font = instance::font::Font::new(bytes).expect(row);
+    let mut counts = [0; 2];
+    for index in 0..2 {
+        let axis = proved::axis(bytes, index);
+        let found = axes(&font).and_then(|axes| axes.get(index));
+        assert_eq!(found.is_some(), axis.is_some(), "{row}: axis {index}");
+        // The values of an invalid axis have no coordinates.
+        if axis.is_some_and(|axis| proved::is_valid(&axis)) {
+            for value in [i32::MIN, 99, 250, 399, 400, 401, 864, i32::MAX] {
+                let value = Fixed::from_bits(value.saturating_mul(0x1_0000));
+                let found = normalized(&font, index, value);
+                let proved = proved::coordinate(bytes, index, value);
+                assert_eq!(found, proved, "{row}: axis {index} at {value}");
+                counts[0] += 1;
+            }
+        }
+    }
+    let places = [-0x4000, -0x1555, 0, 1, 0x2000, 0x2FFF, 0x4000];
+    for (n, x) in places.into_iter().enumerate() {
+        for setting in [n, n + 1, n + 4].map(|m| [x, places[m % places.len()]]) {
+            let setting = setting.map(F2Dot14::from_bits);
+            // The second axis is at its default if it has no coordinate.
+            let setting = if n == 0 { &setting[..1] } else { &setting };
+            for glyph in [0, 1, 2, u16::MAX] {
+                let found = advance(&font, GlyphId16::new(glyph), setting);
+                let proved = proved::advance(bytes, glyph, setting);
+                assert_eq!(found, proved, "{row}: glyph {glyph} at {setting:?}");
+                counts[1] += 1;
+            }
+        }
+    }
+    counts
+}
+
+/// Fonts of one axis and of two, with each kind of region, map, and width of deltas, and one
+/// without `avar`.
+fn fonts() -> Vec<Vec<u8>> {
+    let one = [1, 0, 0, 2];
+    let avar = words(&[&one[..], &MAP, &[0]].concat());
+    let of_two_axes = |map| {
+        let hvar = (b"HVAR", hvar_of_two_axes(map));
+        font_of([hvar, (b"fvar", two_axes()), (b"avar", avar.clone())])
+    };
+    let hvar_alone = (b"HVAR", hvar_of_two_axes(MAPS[2]));
+    let without_avar = font_of([hvar_alone, (b"fvar", two_axes())]);
+    let others = [font(hvar()), font(long_hvar()), without_avar];
+    others.into_iter().chain(MAPS.map(of_two_axes)).collect()
+}
+
+#[test]
+fn instances_of_built_fonts() {
+    for (n, font) in fonts().iter().enumerate() {
+        let axes = if n < 2 { 1 } else { 2 };
+        assert_eq!(compare(font, &format!("font {n}")), [8 * axes, 84]);
+    }
+}
+
+// The examples do not panic on any bytes, and `instance` gives what is proved unless the directory
+// of tables is another.
 #[test]
 fn mutated_fonts() {
-    let hvar_of_two_axes = hvar_of_two_axes(&[0x0018, 3, 0x0001, 0x0200, 0x0201]);
-    let font_of_two_axes = font_of([(b"HVAR", hvar_of_two_axes), (b"fvar", two_axes())]);
-    let fonts = [font(hvar()), font(long_hvar()), font_of_two_axes];
+    let fonts = fonts();
     let mut state = 1u64;
     let mut random = |below: usize| {
         state = state.wrapping_mul(6364136223846793005).wrapping_add(1);
@@ -93,8 +153,12 @@ fn mutated_fonts() {
         }
         let result = std::panic::catch_unwind(|| read(&bytes));
         assert!(result.is_ok(), "{n}: {changes:?}");
+        let directory = 12 + 16 * usize::from(bytes[5]);
+        if changes.iter().all(|(place, _)| place.start >= directory) {
+            compare(&bytes, &format!("{n}: {changes:?}"));
+        }
     }
-    assert_eq!(fonts.map(|font| read(&font)), [Some(()); 3]);
+    assert!(fonts.iter().all(|font| read(font).is_some()));
 }
 
 #[test]
@@ -139,30 +203,65 @@ fn coordinates_and_advances_along_an_axis() {
     }
 }
 
-// fontTools 4.38 gives these numbers, by these lines, where `index` is the glyph if there is no map:
+// fontTools 4.38 gives these numbers, by these lines, where `index` is the glyph if there is no map;
+// the map of format 1, which it does not read, is written in format 0 for it:
 // store = VarStoreInstancer(hvar.VarStore, font["fvar"].axes, {"wght": .., "wdth": ..})
 // index = hvar.AdvWidthMap.mapping[glyph]
 // otRound(font["hmtx"][glyph][0] + store[index])
 #[test]
 fn advances_along_two_axes() {
-    // Entries of two bytes with an inner index of 9 bits: one of the first table, two of the second.
-    let map = [0x0018, 3, 0x0001, 0x0200, 0x0201];
-    let rows: [(&[u16], _, &[u16]); 7] = [
-        (&[], [0x2000, 0x2000], &[510, 645]),
-        (&[], [0x3000, 0x2000], &[515, 658]),
-        (&[], [-0x2000, 0x3000], &[500, 620]),
-        (&map, [0x2000, 0x2000], &[525, 676, 672]),
-        (&map, [0x3000, 0x2000], &[538, 676, 672]),
-        (&map, [0x1000, 0x4000], &[518, 732, 724]),
-        (&map, [-0x2000, 0x3000], &[500, 704, 698]),
+    let settings = [
+        [0x2000, 0x2000],
+        [0x3000, 0x2000],
+        [-0x2000, 0x3000],
+        [0x1000, 0x4000],
+        [-0x3000, 0x1555],
+        [0x2800, -0x1800],
+        [0x1001, -0x2000],
+        [0x3000, -0x1001],
     ];
-    for (map, at, advances) in rows {
+    // Of glyphs 0, 1 and 2; without a map, glyph 2 has no delta set.
+    let rows: [[[u16; 8]; 3]; 6] = [
+        [
+            [510, 515, 500, 508, 500, 506, 503, 508],
+            [645, 658, 620, 638, 620, 639, 628, 643],
+            [0; 8],
+        ],
+        [
+            [525, 538, 500, 518, 500, 519, 508, 523],
+            [676, 676, 704, 732, 657, 620, 620, 620],
+            [672, 672, 698, 724, 655, 620, 620, 620],
+        ],
+        [
+            [556, 556, 584, 612, 537, 500, 500, 500],
+            [623, 624, 572, 623, 588, 570, 620, 620],
+            [618, 616, 668, 618, 652, 695, 620, 620],
+        ],
+        [
+            [500, 500, 23000, 500, 15499, 425, 500, 500],
+            [623, 624, 572, 623, 588, 570, 620, 620],
+            [618, 616, 668, 618, 652, 695, 620, 620],
+        ],
+        [
+            [498, 496, 548, 498, 532, 575, 500, 500],
+            [620, 620, 23120, 620, 15619, 545, 620, 620],
+            [645, 658, 620, 638, 620, 639, 628, 643],
+        ],
+        [
+            [500; 8],
+            [620, 620, 23120, 620, 15619, 545, 620, 620],
+            [620, 620, 23120, 620, 15619, 545, 620, 620],
+        ],
+    ];
+    for (map, row) in MAPS.into_iter().zip(rows) {
         let bytes = font_of([(b"HVAR", hvar_of_two_axes(map)), (b"fvar", two_axes())]);
         let font = instance::font::Font::new(&bytes).unwrap();
-        let at = at.map(F2Dot14::from_bits);
-        for (glyph, moved) in (0..).zip(advances) {
-            let found = advance(&font, GlyphId16::new(glyph), &at);
-            assert_eq!(found, Some(UfWord::new(*moved)), "{map:?} {at:?} {glyph}");
+        for (glyph, advances) in (0..).zip(row) {
+            for (at, wanted) in settings.into_iter().zip(advances) {
+                let wanted = (wanted != 0).then_some(UfWord::new(wanted));
+                let found = advance(&font, GlyphId16::new(glyph), &at.map(F2Dot14::from_bits));
+                assert_eq!(found, wanted, "{map:?}, glyph {glyph} at {at:?}");
+            }
         }
     }
 }

@@ -116,30 +116,67 @@ pub fn font_of<const N: usize>(variations: [(&[u8; 4], Vec<u8>); N]) -> Vec<u8> 
     font
 }
 
-/// Two tables of delta sets over two axes, the second of regions in which the first axis is
-/// ignored; then a map of glyphs, or none.
+/// The regions of `hvar_of_two_axes`: start, peak and end of each axis.
+const REGIONS: [[[u16; 3]; 2]; 7] = [
+    [[0, 0x4000, 0x4000], [0; 3]],
+    [[0, 0x4000, 0x4000]; 2],
+    // The first axis is ignored: on both sides of zero, a peak below the start, one above the end.
+    [[0xC000, 0x2000, 0x4000], [0, 0x4000, 0x4000]],
+    [[0x2000, 0x1000, 0x4000], [0, 0x4000, 0x4000]],
+    [[0, 0x4000, 0x2000], [0, 0x4000, 0x4000]],
+    // Below zero, and between two other coordinates than these.
+    [[0xC000, 0xC000, 0], [0, 0x4000, 0x4000]],
+    [[0x1000, 0x2000, 0x3001], [0xD000, 0xE000, 0xF000]],
+];
+
+/// Four tables of delta sets over two axes, of bytes, of a word and bytes, and of long words; then
+/// a map of glyphs, or none.
 pub fn hvar_of_two_axes(map: &[u16]) -> Vec<u8> {
-    let map_offset = if map.is_empty() { 0 } else { 132 };
-    let header = [1, 0, 0, 20, 0, map_offset, 0, 0, 0, 0];
-    let store = [1, 0, 16, 2, 0, 80, 0, 94];
-    let whole = [0, 0x4000, 0x4000];
-    let regions = [
-        [whole, [0; 3]],
-        [whole, whole],
-        // On both sides of zero, with a peak below the start, and with one above the end.
-        [[0xC000, 0x2000, 0x4000], whole],
-        [[0x2000, 0x1000, 0x4000], whole],
-        [[0, 0x4000, 0x2000], whole],
+    let tables: [(&[u16], &[u8]); 4] = [
+        (&[2, 0, 2, 0, 1], &[10, 20, 30, 40]),
+        (&[2, 0, 3, 2, 3, 4], &[16, 32, 64, 8, 24, 72]),
+        (&[1, 0x8001, 2, 5, 6], &[0, 0, 0xEA, 0x60, 0xFE, 0xD4]),
+        (
+            &[2, 1, 3, 6, 1, 5],
+            &[0xFF, 0x38, 10, 0x80, 1, 0x2C, 0xF6, 127],
+        ),
     ];
-    let regions = regions.into_iter().flatten().flatten();
-    let regions = [2, 5].into_iter().chain(regions).collect::<Vec<u16>>();
-    let mut table = words(&[&header[..], &store, &regions, &[2, 0, 2, 0, 1]].concat());
-    table.extend([10, 20, 30, 40]);
-    table.extend(words(&[2, 0, 3, 2, 3, 4]));
-    table.extend([16, 32, 64, 8, 24, 72]);
-    table.extend(words(map));
-    table
+    let regions = REGIONS.concat().concat();
+    let list = words(&[&[2, REGIONS.len() as u16][..], &regions].concat());
+    // The tables are after the list of regions.
+    let mut offset = 24 + list.len();
+    let mut store = words(&[1, 0, 24, 4]);
+    for (head, sets) in tables {
+        store.extend((offset as u32).to_be_bytes());
+        offset += 2 * head.len() + sets.len();
+    }
+    store.extend(list);
+    for (head, sets) in tables {
+        store.extend(words(head));
+        store.extend(sets);
+    }
+    let map_offset = if map.is_empty() {
+        0
+    } else {
+        20 + offset as u16
+    };
+    let header = words(&[1, 0, 0, 20, 0, map_offset, 0, 0, 0, 0]);
+    [header, store, words(map)].concat()
 }
+
+/// The maps of a font of two axes: none, and entries of two, one, three, four and four bytes.
+pub const MAPS: [&[u16]; 6] = [
+    &[],
+    // An inner index of 9 bits: one of the first table, two of the second.
+    &[0x0018, 3, 0x0001, 0x0200, 0x0201],
+    // Of one bit, and the last byte is not used.
+    &[0x0000, 3, 0x0206, 0x0700],
+    // Of 16 bits, the second in format 1.
+    &[0x002F, 3, 0x0200, 0x0003, 0x0000, 0x0300, 0x0100],
+    &[0x013F, 0, 3, 3, 1, 2, 0, 0, 1],
+    // Of no delta set, and of one for all other glyphs.
+    &[0x013F, 0, 2, 0xFFFF, 0xFFFF, 2, 0],
+];
 
 pub fn two_axes() -> Vec<u8> {
     fvar(&[(b"wght", [100, 400, 900]), (b"wdth", [50, 100, 200])])

@@ -13,7 +13,8 @@
 //!
 //! These are changed, and nothing else:
 //!
-//! - paths: crates become modules of one crate, and `std` becomes `core` or the module `host`;
+//! - paths: crates become modules of one crate, `std` becomes `core` or the module `host`, and in
+//!   examples that tests run `crate` becomes `super`;
 //! - `fmt<W: fmt::Write>` over a `Formatter<W>`, which in Rust has no such parameter;
 //! - `clone(&self) -> Result<T, AllocError>`, which returns the value of its `Ok`;
 //! - a trait's parameter `Rhs`, which defaults to `Self`, as of Rust's operators;
@@ -47,6 +48,8 @@ pub enum Target {
     Exports,
     /// The program, which depends on the library.
     Program,
+    /// Examples that tests run, which depend on the library and may be in any module.
+    Tests,
 }
 
 /// A crate of Rattle.
@@ -156,11 +159,13 @@ impl<'a> Eraser<'a> {
     // The start of a path.
     fn path(&mut self, at: usize, name: &str, next: &str) {
         let is_program = self.of.target == Target::Program;
+        let is_test = self.of.target == Target::Tests;
         match name {
+            "crate" if is_test => self.replace(at, "super"),
             "crate" => self.put(at + 2, format!("{}::", self.of.name)),
             "std" if is_program && RATTLE_STD.contains(&next) => self.replace(at, "crate::host"),
             "std" if !is_program => self.replace(at, "core"),
-            "font_types" if is_program => self.replace(at, "font_types_proved"),
+            "font_types" if is_program || is_test => self.replace(at, "font_types_proved"),
             _ if LIBRARY.iter().any(|(library, _)| *library == name) => self.put(at, "crate::"),
             _ => {}
         }

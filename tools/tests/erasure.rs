@@ -16,10 +16,15 @@ const CHANGES: [(&str, &str); 6] = [
 ];
 
 /// Left out, as are clauses, ghost items, attributes of proofs, and the results of `clone`.
-const LEFT_OUT: [&str; 8] = [
+const LEFT_OUT: [&str; 13] = [
     "#[cfg(test)] mod tests;",
     "mod facts;",
     "mod json;",
+    "pub mod dumper;",
+    "pub mod linter;",
+    "pub mod packed;",
+    "pub mod scaler;",
+    "pub mod start;",
     "+ Drop",
     "<W: fmt::Write>",
     "let _bytes = each_is_byte(self);",

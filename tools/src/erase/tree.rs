@@ -17,8 +17,16 @@ pub const LIBRARY: [(&str, &[&str]); 7] = [
     ("font_types", &["json"]),
 ];
 
-/// The crates above the library.
-const ABOVE: [(&str, Target); 2] = [("fontval", Target::Program), ("font_c", Target::Exports)];
+/// The crates above the library, and the modules of each that are left out.
+const ABOVE: [(&str, Target, &[&str]); 3] = [
+    ("fontval", Target::Program, &[]),
+    ("font_c", Target::Exports, &[]),
+    (
+        "examples",
+        Target::Tests,
+        &["dumper", "linter", "packed", "scaler", "start"],
+    ),
+];
 
 // The folder of the files of a crate.
 fn folder(name: &str, target: Target) -> String {
@@ -26,18 +34,18 @@ fn folder(name: &str, target: Target) -> String {
         Target::Library => format!("src/generated/{name}"),
         Target::Program => "src/bin/fontval/generated".into(),
         Target::Exports => format!("c/src/generated/{name}"),
+        Target::Tests => "tests/proved/generated".into(),
     }
 }
 
 /// Returns each generated file, by its path from the root.
 pub fn tree() -> Result<BTreeMap<String, String>, String> {
     let mut files = BTreeMap::new();
-    for (name, target) in crates() {
-        let left_out = LIBRARY.iter().find(|library| library.0 == name);
+    for (name, target, left_out) in crates() {
         let of = Crate {
             name,
             target,
-            left_out: left_out.map_or(&[], |library| library.1),
+            left_out,
         };
         let root = ["lib", "main"][usize::from(target == Target::Program)];
         let from = format!("crates/{name}/src");
@@ -49,14 +57,14 @@ pub fn tree() -> Result<BTreeMap<String, String>, String> {
 
 /// Lists the files in the folders of generated files, by their paths from the root.
 pub fn generated_files() -> Vec<String> {
-    let folders = crates().map(|(name, target)| folder(name, target));
+    let folders = crates().map(|(name, target, _)| folder(name, target));
     let files = folders.flat_map(|folder| repository::files(&folder, ""));
     files.collect()
 }
 
-fn crates() -> impl Iterator<Item = (&'static str, Target)> {
-    let library = LIBRARY.iter().map(|(name, _)| (*name, Target::Library));
-    library.chain(ABOVE)
+fn crates() -> impl Iterator<Item = (&'static str, Target, &'static [&'static str])> {
+    let library = LIBRARY.map(|(name, left_out)| (name, Target::Library, left_out));
+    library.into_iter().chain(ABOVE)
 }
 
 // Adds a file and the modules that it declares.

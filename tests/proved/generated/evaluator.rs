@@ -1,0 +1,151 @@
+// @generated from crates/examples/src/evaluator.rt by tools/src/bin/erase.rs
+
+//! An evaluator of variations: settings, `fvar`, `avar` and sums of deltas.
+
+use super::reader::VariationAxisRecord;
+use font_types_proved::{DecimalFault, F2Dot14, FWord, Fixed, InvalidTag, Tag, vary};
+
+// ---- settings
+
+/// A user's value on an axis.
+#[derive(Clone, Copy, PartialEq, Debug)]
+pub struct Setting {
+    pub axis: Tag,
+    pub value: Fixed,
+}
+
+/// Why a text is not a setting.
+#[derive(Clone, PartialEq, Debug)]
+pub enum SettingError {
+    /// It has no `=`.
+    NoValue,
+    /// The part before the `=` is not a tag.
+    Axis(InvalidTag),
+    /// The part after it is not a decimal number in range.
+    Value(DecimalFault),
+}
+
+// Splits a text at its first `=`.
+fn split_setting(text: &str) -> Option<(&str, &str)> {
+    text.split_once('=')
+}
+
+/// Reads a setting such as `wght=650` or `wdth=87.5`.
+pub fn read_setting(text: &str) -> Result<Setting, SettingError> {
+    let (axis, value) = split_setting(text).ok_or(SettingError::NoValue)?;
+    let axis = Tag::new_checked(axis.as_bytes()).map_err(SettingError::Axis)?;
+    let value = Fixed::from_decimal(value).map_err(SettingError::Value)?;
+    Ok(Setting { axis, value })
+}
+
+// ---- `fvar`: normalized coordinates
+
+/// Clamps a value to a range.
+///
+/// `clamp` gets a function of its own: in a body that goes on to compute, no clause is proved.
+pub fn clamp(value: Fixed, min: Fixed, max: Fixed) -> Fixed {
+    value.clamp(min, max)
+}
+
+// The exact difference `to - from`.
+fn distance(from: Fixed, to: Fixed) -> Fixed {
+    to - from
+}
+
+/// Returns a part over its whole, from 0 to 1.
+pub fn ratio(part: Fixed, whole: Fixed) -> Fixed {
+    part / whole
+}
+
+// The same, negated.
+fn negated_ratio(part: Fixed, whole: Fixed) -> Fixed {
+    negate(ratio(part, whole))
+}
+
+// Negates a number that is not below 0, which cannot wrap.
+fn negate(number: Fixed) -> Fixed {
+    -number
+}
+
+/// Normalizes a value of an axis to -1..1: clamps it to the axis, and divides its distance from the
+/// default by that of the end on its side.
+///
+/// The clauses give the bits, since those are what the check can compute with.
+pub fn normalize(value: Fixed, axis: VariationAxisRecord) -> Fixed {
+    normalize_clamped(clamp(value, axis.min_value, axis.max_value), axis)
+}
+
+// The same of a value within the axis.
+fn normalize_clamped(value: Fixed, axis: VariationAxisRecord) -> Fixed {
+    let default = axis.default_value;
+    if value < default {
+        negated_ratio(distance(value, default), distance(axis.min_value, default))
+    } else if default < value {
+        ratio(distance(default, value), distance(default, axis.max_value))
+    } else {
+        Fixed::ZERO
+    }
+}
+
+/// Clamps a coordinate to -1..1 and narrows it, as `avar` and tuples store it.
+pub fn to_stored(coordinate: Fixed) -> F2Dot14 {
+    coordinate.clamp(Fixed::NEG_ONE, Fixed::ONE).to_f2dot14()
+}
+
+// ---- `avar`: segment maps
+
+/// A mapping of a segment map, widened.
+#[derive(Clone, Copy, PartialEq, Debug)]
+pub struct AxisValueMap {
+    pub from_coordinate: Fixed,
+    pub to_coordinate: Fixed,
+}
+
+/// Interpolates between two mappings, and returns their coordinates at both ends.
+pub fn lerp(coordinate: Fixed, start: AxisValueMap, end: AxisValueMap) -> Fixed {
+    let (from, to) = (start.from_coordinate, start.to_coordinate);
+    to + (end.to_coordinate - to).mul_div(coordinate - from, end.from_coordinate - from)
+}
+
+/// Returns the index of the mapping that ends the segment of a coordinate: the first at or above.
+pub fn segment_end(coordinate: Fixed, map: &[AxisValueMap]) -> Option<usize> {
+    for end in 0..map.len() {
+        if coordinate <= map[end].from_coordinate {
+            return Some(end);
+        }
+    }
+    None
+}
+
+// Maps a coordinate by the mapping that ends its segment, and the one before.
+fn map_in_segment(coordinate: Fixed, map: &[AxisValueMap], end: usize) -> Fixed {
+    let mapping = map[end];
+    if mapping.from_coordinate == coordinate {
+        mapping.to_coordinate
+    } else if end == 0 {
+        coordinate
+    } else {
+        lerp(coordinate, map[end - 1], mapping)
+    }
+}
+
+/// Maps a coordinate by a segment map, and leaves one below or above all mappings.
+pub fn map_coordinate(coordinate: Fixed, map: &[AxisValueMap]) -> Fixed {
+    match segment_end(coordinate, map) {
+        Some(end) => map_in_segment(coordinate, map, end),
+        None => coordinate,
+    }
+}
+
+/// Maps a coordinate as `normalize` gives it, and rounds it to 2.14 after that.
+pub fn final_coordinate(coordinate: Fixed, map: &[AxisValueMap]) -> F2Dot14 {
+    to_stored(map_coordinate(coordinate, map))
+}
+
+// ---- sums of deltas
+
+/// Varies a value in font units by the exact sum of its terms, and rounds once, half up; returns
+/// `None` if the sum does not fit 64 bits or the result is out of range.
+pub fn vary_and_round(base: FWord, terms: &[(Fixed, i32)]) -> Option<FWord> {
+    FWord::round_delta(vary(base, terms)?)
+}

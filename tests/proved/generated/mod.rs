@@ -1,0 +1,17 @@
+// @generated from crates/examples/src/lib.rt by tools/src/bin/erase.rs
+
+//! Callers of `font_types`: one file for each kind of program that builds on it. Each function is
+//! proved against the contract that its caller wants, and run by a test.
+//!
+//! - `start`: a first caller, which docs/CALLING.md shows.
+//! - `reader`: tables, as `head`, `hmtx`, `fvar`, coverage and `VORG`.
+//! - `evaluator`, `variations`: from `wght=650` to a varied advance, by `fvar`, `avar` and item
+//!   variation stores.
+//! - `packed`: packed deltas, as in `gvar` and `cvar`.
+//! - `scaler`: outlines through a chain of matrices.
+//! - `linter`: tags, names, versions and the records of a table directory.
+//! - `dumper`: numbers in columns, raw values in hexadecimal, JSON.
+
+pub mod evaluator;
+pub mod reader;
+pub mod variations;
