@@ -7,7 +7,7 @@
 //! - `#[tactic(..)]`, `#[cfg(test)] mod tests;`, and the bound `+ Drop`;
 //! - `Drop` and `Error` at the end of a `derive(..)`, and `#[error(..)]`;
 //! - `use thiserror::Error;`, and `use std::alloc::AllocError;` in the library;
-//! - modules of facts or that need Rattle's libraries, and what is imported from them;
+//! - the modules that `tree.rs` lists for a crate, and what is imported from them;
 //! - what only a proof uses: a `let _name` of a slice or of a fact;
 //! - the comments above a clause or an item that is left out.
 //!
