@@ -5,7 +5,8 @@
  *
  * Each function that the library exports, in the first part below, has a contract that is
  * proved; its comment states it. The static inline functions in the second part, which read
- * fields and round to integers, are C: they are tested, not proved.
+ * fields, round to integers, parse and print by the name of a format, and give the text of a
+ * status, are C: they are tested, not proved.
  *
  * A number is a raw value with a number of fraction bits f: the int32_t 98304 is
  * 98304 / 2^16 = 1.5 in 16.16, for which f is 16. f is from 6 to 30, and at most the
