@@ -136,6 +136,33 @@ fn products_and_quotients() {
 }
 
 #[test]
+fn laws_of_products_and_quotients() {
+    for x in factors() {
+        for y in factors() {
+            let [a, b] = [x, y].map(Fixed::from_bits);
+            let found = [
+                laws::fixed::product_laws(a, b),
+                laws::fixed::quotient_laws(a, b),
+            ];
+            let by_itself = if x == 0 { a / a } else { Fixed::ONE };
+            let right = [[a * b, a * b, a, a * b], [a / b, a / b, a, by_itself]];
+            assert_eq!(found, right, "{x}, {y}");
+            let [a, b] = [x, y].map(F26Dot6::from_bits);
+            let found = [
+                laws::f26dot6::product_laws(a, b),
+                laws::f26dot6::quotient_laws(a, b),
+            ];
+            let by_itself = if x == 0 { a / a } else { F26Dot6::ONE };
+            assert_eq!(
+                found,
+                [[a * b, a * b, a], [a / b, a, by_itself]],
+                "{x}, {y}"
+            );
+        }
+    }
+}
+
+#[test]
 fn checked_products_and_quotients() {
     for x in factors() {
         for y in factors() {

@@ -53,16 +53,18 @@ fn below(tie: &str) -> String {
 }
 
 macro_rules! fixed_point_types {
-    ($($name:ident $Type:ident $bits:ident $f:literal;)*) => {$(
+    ($($name:ident $Type:ident $bits:ident $f:literal $longest:literal;)*) => {$(
         #[test]
         fn $name() {
             let name = concat!(stringify!($Type), " ");
             let rows = TEXTS.lines().filter_map(|row| row.strip_prefix(name));
-            assert!(rows.clone().count() >= 3);
+            assert!(rows.clone().count() >= 3, "{name}: fewer than 3 rows in TEXTS");
+            assert_eq!($Type::max_text_len(), $longest);
             for (bits, text) in rows.map(|row| row.split_once(' ').unwrap()).chain([("0", "0")]) {
                 let x = $Type::from_bits(bits.parse().unwrap());
                 assert_eq!(format!("{x} {x:?}"), format!("{text} {text}"));
-                assert_eq!(Shortest::new(x.to_bits().into(), $f).as_str(), text);
+                let printed = [x.to_decimal(), Shortest::new(x.to_bits().into(), $f)];
+                assert_eq!(printed.each_ref().map(Shortest::as_str), [text; 2]);
                 assert_eq!(text.parse(), Ok(x));
                 assert_eq!($Type::from_decimal_bytes(text.as_bytes()), Ok(x), "{text}");
                 let mut out = [b'~'; 24];
@@ -83,8 +85,9 @@ macro_rules! fixed_point_types {
             for text in NOT_DECIMALS {
                 assert_eq!(text.parse::<$Type>(), Err(DecimalFault::Syntax), "{text:?}");
             }
-            for text in ["9".repeat(40), format!("-{0}.{0}", "9".repeat(40))] {
-                assert_eq!($Type::from_decimal(&text), Err(DecimalFault::OutOfRange));
+            let long = ["9".repeat(40), format!("-{0}.{0}", "9".repeat(40))];
+            for text in long.into_iter().chain([((min >> $f) - 1).to_string()]) {
+                assert_eq!($Type::from_decimal(&text), Err(DecimalFault::OutOfRange), "{text}");
             }
             assert_eq!("-0".parse(), Ok($Type::ZERO));
             let zeros = Pad { plus: true, zeros: true, ..Pad::new(9) };
@@ -102,13 +105,13 @@ macro_rules! fixed_point_types {
 }
 
 fixed_point_types! {
-    f2dot14 F2Dot14 i16 14;
-    f4dot12 F4Dot12 i16 12;
-    f6dot10 F6Dot10 i16 10;
-    fixed Fixed i32 16;
-    f26dot6 F26Dot6 i32 6;
-    f48dot16 F48Dot16 i64 16;
-    f2dot30 F2Dot30 i32 30;
+    f2dot14 F2Dot14 i16 14 8;
+    f4dot12 F4Dot12 i16 12 7;
+    f6dot10 F6Dot10 i16 10 8;
+    fixed Fixed i32 16 12;
+    f26dot6 F26Dot6 i32 6 12;
+    f48dot16 F48Dot16 i64 16 22;
+    f2dot30 F2Dot30 i32 30 13;
 }
 
 #[test]
@@ -125,6 +128,44 @@ fn from_decimal_of_long_texts() {
     }
 }
 
+/// A raw value, fraction bits that no format has among them, and the shortest decimal.
+const NUMBERS: [(i64, u32, &str); 10] = [
+    (1, 30, "0.000000001"),
+    (7, 30, "0.0000000065"),
+    (22, 30, "0.0000000205"),
+    (-2147483641, 30, "-1.9999999935"),
+    (i64::MIN + 7, 30, "-8589934591.9999999935"),
+    (i64::MAX, 24, "549755813887.99999994"),
+    (i64::MIN, 24, "-549755813888"),
+    (1, 20, "0.000001"),
+    (i64::MAX, 7, "72057594037927935.99"),
+    (i64::MAX, 6, "144115188075855871.98"),
+];
+
+#[test]
+fn any_fraction_bits() {
+    for (bits, f, text) in NUMBERS {
+        assert_eq!(Shortest::new(bits, f).as_str(), text, "{bits} of {f}");
+        let found = read_decimal(text, f, i64::MIN, i64::MAX);
+        assert_eq!(found, Ok(bits), "{text} of {f}");
+    }
+    // Half a unit of 18 fraction bits is the last whose digits are read in 64 bits.
+    for (text, f, bits) in [
+        ("0.00000095367431640625", 19, 1),
+        ("0.00000095367431640624", 19, 0),
+        ("0.0000019073486328125", 18, 1),
+        ("0.0000019073486328124", 18, 0),
+        ("0.9999999999999999999", 18, 1 << 18),
+        ("0.99999999999999999999", 19, 1 << 19),
+        ("0.9999999999999999999999999999999", 30, 1 << 30),
+    ] {
+        let found = read_decimal(text, f, i64::MIN, i64::MAX);
+        assert_eq!(found, Ok(bits), "{text} of {f}");
+    }
+    let found = laws::reads_in_order("0.5", "-1", 6, -64, 64);
+    assert_eq!(found, (Ok(32), Ok(-64)));
+}
+
 #[test]
 fn read_decimal_between_limits() {
     let out = Err(DecimalFault::OutOfRange);
@@ -137,6 +178,10 @@ fn read_decimal_between_limits() {
         assert_eq!(read_decimal(text, 6, min, max), right, "{text} {min} {max}");
         let found = read_decimal_bytes(text.as_bytes(), 6, min, max);
         assert_eq!(found, right, "{text} {min} {max}");
+    }
+    for bytes in [&b"1.5\xFF"[..], b"\xC3\xA9.5"] {
+        let found = read_decimal_bytes(bytes, 16, i64::MIN, i64::MAX);
+        assert_eq!(found, Err(DecimalFault::Syntax), "{bytes:?}");
     }
 }
 
@@ -162,6 +207,9 @@ fn write_padded_texts() {
         ("-1.5", pad(6, b'*', center, [false, true]), "-001.5"),
         ("0", pad(1, b'*', left, [true, false]), "+0"),
         ("-0", pad(0, b' ', right, [true, false]), "-0"),
+        ("-0", pad(4, b'*', left, [true, true]), "-000"),
+        ("007", pad(5, b'*', left, [true, true]), "+0007"),
+        ("-00.50", pad(0, b'*', left, [true, false]), "-00.50"),
         ("", Pad::new(0), ""),
     ] {
         let mut out = [b'~'; 9];
@@ -179,4 +227,8 @@ fn write_padded_texts() {
     assert_eq!(length, Some(5000));
     assert!(out.ends_with(b" -1") && out[..4998].iter().all(|byte| *byte == b' '));
     assert_eq!(Fixed::NEG_ONE.write_padded(&mut out, &Pad::new(5001)), None);
+    let (text, mut out) = (format!("1.{}5", "0".repeat(70_000)), [0; 70_004]);
+    let plus = pad(0, b' ', left, [true, false]);
+    assert_eq!(write_padded(&text, &mut out, &plus), Some(70_004));
+    assert!(out[0] == b'+' && out[1..] == *text.as_bytes());
 }

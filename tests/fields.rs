@@ -137,7 +137,9 @@ fn compare_hash_and_print_fields() {
     assert!(field(-1) < field(0) && field(0xFF) < field(0x100) && field(2) == field(2));
     assert!(field(-1) == -1 && field(-1) != 255 && field(-1) != field(0x00FF) && field(0x100) != 0);
     let found = hash_of(BigEndian::<u16>::from(0x100));
-    assert_ne!(found, hash_of(BigEndian::<u16>::from(0x200)));
+    for other in [0x200, 0x101] {
+        assert_ne!(found, hash_of(BigEndian::<u16>::from(other)), "{other}");
+    }
     assert_ne!(BigEndian::<i64>::from(1), BigEndian::from(2));
     let found = BigEndian::<u32>::from(0x1234_5678);
     assert_ne!(found, BigEndian::from(0x1234_5679));
@@ -180,6 +182,8 @@ fn arrays() {
     }
     let found = array.binary_search_by_key(&String::from("09"), |n| format!("{n:02}"));
     assert_eq!(found, Ok(2));
+    let found = [9, 10, 17].map(|key| array.binary_search_by(|n| n.cmp(&key)));
+    assert_eq!(found, [Ok(2), Err(3), Err(4)]);
     let mut seen = Vec::new();
     let place = array.as_raw().partition_point(|raw| {
         seen.push(u16::from_raw(*raw));
@@ -188,6 +192,46 @@ fn arrays() {
     assert_eq!((place, array.partition_point(|n| n < 9)), (2, 2));
     assert!(seen.contains(&9), "{seen:?}");
     assert_eq!(array.as_raw(), [[0, 1], [0, 4], [0, 9], [0, 16]]);
+}
+
+#[test]
+fn parts_of_arrays() {
+    let bytes = [9, 0, 1, 0, 2, 0, 3, 9];
+    for (offset, count, numbers) in [
+        (1, 3, Some(&[1, 2, 3][..])),
+        (3, 2, Some(&[2, 3])),
+        (0, 4, Some(&[0x0900, 0x0100, 0x0200, 0x0309])),
+        (8, 0, Some(&[])),
+        (1, 4, None),
+        (9, 0, None),
+        (1, usize::MAX, None),
+        (usize::MAX, 1, None),
+    ] {
+        let array = ScalarArray::<u16>::read_at(&bytes, offset, count);
+        let found = array.map(|array| array.iter().collect::<Vec<_>>());
+        assert_eq!(found.as_deref(), numbers, "{count} at {offset}");
+    }
+    let array = ScalarArray::<u16>::new(&bytes[1..7]).unwrap();
+    for (start, end, bytes) in [
+        (0, 3, Some(&[0, 1, 0, 2, 0, 3][..])),
+        (1, 2, Some(&[0, 2])),
+        (2, 3, Some(&[0, 3])),
+        (1, 1, Some(&[])),
+        (3, 3, Some(&[])),
+        (2, 1, None),
+        (0, 4, None),
+        (4, 4, None),
+        (0, usize::MAX, None),
+    ] {
+        let part = array.slice(start, end);
+        assert_eq!(part.map(|part| part.as_bytes().to_vec()).as_deref(), bytes);
+        assert_eq!(part, bytes.and_then(ScalarArray::new), "{start} to {end}");
+    }
+    let (chunks, rest) = <[u8; 2] as ByteChunks>::as_chunks(&bytes[..5]);
+    assert_eq!((chunks, rest), (&[[9, 0], [1, 0]][..], &[2][..]));
+    assert!(
+        array.slice(0, 1) != array.slice(1, 2) && array.slice(0, 0) == Some(ScalarArray::default())
+    );
 }
 
 /// A borrowed array, and its iterator, can be taken for those of a shorter borrow.

@@ -211,6 +211,10 @@ fn boxes() {
         let right = swapped.map(f64::to_bits);
         assert_eq!(found.map(f64::to_bits), right, "{sides:?}");
     }
+    // Sides that are equal stay, as these zeros show.
+    let found = bounding_box([0., -0., -0., 0.]).normalize();
+    let signs = [found.x_min, found.y_min, found.x_max, found.y_max].map(f64::is_sign_negative);
+    assert_eq!(signs, [false, true, true, false]);
     let scaled = bounding_box([A, B, C, D]).scale(X);
     assert_eq!(scaled, bounding_box([A * X, B * X, C * X, D * X]));
     assert_eq!(BoundingBox::default(), bounding_box([0; 4]));

@@ -158,7 +158,7 @@ where
 #[test]
 fn offsets() {
     for n in [
-        0, 7, 0xFFFF, 0x1_0000, 0x1_0007, 0xFF_FFFF, 0x100_0000, 0x100_0007,
+        0, 1, 7, 0xFFFF, 0x1_0000, 0x1_0007, 0xFF_FFFF, 0x100_0000, 0x100_0007,
     ] {
         let narrow = Offset16::new(n as u16);
         let middle = Offset24::new(Uint24::new(n));

@@ -42,6 +42,7 @@ fn invalid() -> Vec<(Vec<u8>, InvalidTag)> {
 fn new_checked_and_parse() {
     for (bytes, tag) in [
         ("a", b"a   "),
+        ("bc", b"bc  "),
         ("cvt", b"cvt "),
         ("GPOS", b"GPOS"),
         ("!~0 ", b"!~0 "),

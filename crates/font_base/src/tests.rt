@@ -1,6 +1,6 @@
-//! Values from the OpenType data types and from the original crate's tests.
+//! Values of OpenType and font-types, impls of callers, traits and texts. `tests/fields.rs` and
+//! `tests/traits.rs` have the results, which cargo runs.
 
-mod arrays;
 mod fields;
 mod numbers;
 mod traits;

@@ -1,4 +1,5 @@
-//! Values from the definitions of points, boxes and matrices, and from the original crate.
+//! Values of the specification, and impls of callers. `tests/geometry.rs` has the results over an
+//! element that shows the order of operands, which cargo runs.
 
 mod boxes;
 mod images;

@@ -1,4 +1,5 @@
-//! Values from the OpenType data types and from the original crate.
+//! Values of OpenType and font-types, an impl of a caller, traits and texts. `tests/ids.rs` has the
+//! results, which cargo runs.
 
 mod glyphs;
 mod headers;

@@ -1,4 +1,5 @@
-//! Values from the OpenType data types and from the original crate.
+//! Values of OpenType and font-types, traits and texts. `tests/tags.rs` and `tests/ids.rs` have the
+//! results, which cargo runs.
 
 mod compatible;
 mod tags;

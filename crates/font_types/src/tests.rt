@@ -1,4 +1,4 @@
-//! JSON forms, their errors, and sums of deltas.
+//! JSON forms and their errors, also if memory fails, and sums of deltas of the specification.
 
 mod deltas;
 mod errors;

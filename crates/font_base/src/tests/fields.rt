@@ -1,12 +1,11 @@
-//! Fields, and headers of fields.
+//! Impls of callers, which cargo cannot compile: an array of bytes and a header. Also whether
+//! fields and headers have the values of the specification, and texts, which no clause says.
 
 ghost use Rattle.std.specs.Prelude.{◌≡◌, length};
 ghost use Rattle.std.proofs.Common.{ap, rules};
 ghost use Rattle.font_base.specs.Bytes.{are_bytes};
 
-use crate::{
-    BeByteArray, BigEndian, FixedSize, Int24, SampleHeader, TableDataRef, TableHeader, Uint24,
-};
+use crate::{BeByteArray, BigEndian, Int24, SampleHeader, TableDataRef, TableHeader};
 use std::test::Fail;
 
 #[test]
@@ -14,28 +13,6 @@ fn field_order(rt: HostRuntime) {
     let below = BigEndian::<i16>::new([0xFF, 0xFF]);
     let above = BigEndian::<i16>::new([0x00, 0x01]);
     assert!(rt; below < above && below.get() == -1 && below.eq_value(&-1));
-}
-
-#[test]
-fn sorted_fields(rt: HostRuntime) -> Result<(), Fail> {
-    let mut fields = [7, -8, 1].map(BigEndian::<i16>::from).to_vec(rt.alloc())?;
-    fields.sort()?;
-    assert!(rt; fields.as_slice() == [-8, 1, 7].map(BigEndian::from).as_slice());
-    Ok(())
-}
-
-#[test]
-fn field_bytes(rt: HostRuntime) -> Result<(), Fail> {
-    let mut field = BigEndian::<u32>::default();
-    field.set(0x0102_0304);
-    assert!(rt; field.be_bytes() == [1, 2, 3, 4].as_slice());
-    assert!(rt; BigEndian::from_slice(&[1, 2, 3, 4]) == Some(field.clone()?));
-    assert!(rt; BigEndian::<u32>::from_slice(&[1, 2, 3]).is_none());
-    assert!(rt; BigEndian::read_at(&[9, 1, 2, 3, 4], 1) == Some(field.clone()?));
-    assert!(rt; BigEndian::<u32>::read_at(&[9, 1, 2, 3, 4], 2).is_none());
-    assert!(rt; BigEndian::<u32>::read_at(&[1, 2, 3, 4], usize::MAX).is_none());
-    assert!(rt; BigEndian::<Uint24>::RAW_BYTE_LEN == 3);
-    Ok(())
 }
 
 /// A user-defined array, which compares by the trait's default method.
@@ -97,21 +74,6 @@ fn header_and_data(rt: HostRuntime) -> Result<(), Fail> {
     let table = TableDataRef::<SampleHeader>::new(&bytes).ok_or("long enough")?;
     let header = table.clone()?.header();
     assert!(rt; header.a.get() == 1 && header.b.get() == 2 && table.data().len() == 7);
-    Ok(())
-}
-
-#[test]
-fn split_and_rest(rt: HostRuntime) -> Result<(), Fail> {
-    let bytes = [0x00, 0x01, 0x00, 0x00, 0x00, 0x02, 0xFF, 0xFE];
-    for len in 6..9 {
-        let table = TableDataRef::<SampleHeader>::new(&bytes[..len]).ok_or("long enough")?;
-        let (header, rest) = table.split();
-        assert!(rt;
-            rest == &bytes[6..len] && rest == table.rest(),
-            "{len} bytes"
-        );
-        assert!(rt; header.a.get() == 1 && header.b.get() == 2, "{len} bytes");
-    }
     Ok(())
 }
 

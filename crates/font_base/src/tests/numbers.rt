@@ -1,4 +1,5 @@
-//! The integers and their bytes.
+//! Whether the definitions of bytes give the values of OpenType and of font-types, and what no
+//! clause says: texts with flags, and of the error.
 
 use crate::{BeByteArray, Int24, Scalar, Uint24};
 use std::test::Fail;

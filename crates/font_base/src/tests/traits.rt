@@ -1,4 +1,4 @@
-//! The traits of each type, by functions with bounds.
+//! What no clause says: the traits of each type, by functions with bounds.
 
 use crate::{
     BigEndian, FixedSize, IdentityEq, Int24, SampleHeader, Scalar, ScalarArray, TableDataRef,

@@ -1,4 +1,5 @@
-//! Conversions between formats, and deltas.
+//! Whether the definitions of conversions and of deltas give the values of the specification and of
+//! font-types.
 
 use crate::*;
 
@@ -66,34 +67,6 @@ fn narrowed_26_6(rt: HostRuntime) {
 }
 
 #[test]
-fn narrowed_2_30(rt: HostRuntime) {
-    for &(bits, fixed, narrow) in &[
-        (0x2000, 1, 0),
-        (0x1FFF, 0, 0),
-        (-0x2000, 0, 0),
-        (-0x2001, -1, 0),
-        (0x8000, 2, 1),
-        (0x7FFF, 2, 0),
-        (-0x8000, -2, 0),
-        (-0x8001, -2, -1),
-        (0x7FFF_7FFF, 131070, 32767),
-        (0x7FFF_8000, 131070, -32768),
-        (i32::MAX, 131072, -32768),
-        (i32::MIN, -131072, -32768),
-    ] {
-        let x = F2Dot30::from_bits(bits);
-        assert!(rt;
-            x.to_fixed() == Fixed::from_bits(fixed),
-            "to_fixed of {bits}"
-        );
-        assert!(rt;
-            x.to_f2dot14() == F2Dot14::from_bits(narrow),
-            "to_f2dot14 of {bits}"
-        );
-    }
-}
-
-#[test]
 fn widened(rt: HostRuntime) {
     let half = F2Dot14::from_bits(-0x2000);
     assert!(rt; [half.to_fixed(), Fixed::from(half)] == [Fixed::from_bits(-0x8000); 2]);
@@ -130,54 +103,6 @@ fn from_others(rt: HostRuntime) {
     ] {
         let x = F2Dot30::from_fixed(Fixed::from_bits(bits));
         assert!(rt; x == F2Dot30::from_bits(long), "from_fixed of {bits}");
-    }
-}
-
-#[test]
-fn checked_conversions(rt: HostRuntime) {
-    let ends = [32767, 32768, -32768, -32769].map(Fixed::checked_from_i32);
-    assert!(rt; ends.map(|end| end.is_some()) == [true, false, true, false]);
-    let ends = [0x1FF_FFFF, 0x200_0000].map(F26Dot6::checked_from_i32);
-    assert!(rt; ends.map(|end| end.is_some()) == [true, false]);
-    let ends = [0x1_FFFD, 0x1_FFFE].map(|bits| Fixed::from_bits(bits).checked_to_f2dot14());
-    assert!(rt; ends == [Some(F2Dot14::MAX), None]);
-    let ends = [0x7FFF_7FFF, 0x7FFF_8000].map(|bits| F2Dot30::from_bits(bits).checked_to_f2dot14());
-    assert!(rt; ends == [Some(F2Dot14::MAX), None]);
-    let ends = [131071, 131072].map(|bits| F2Dot30::checked_from_fixed(Fixed::from_bits(bits)));
-    assert!(rt; ends == [Some(F2Dot30::from_bits(0x7FFF_C000)), None]);
-    let ends = [0x7FFF_FFFF_7FFF, 0x7FFF_FFFF_8000].map(F48Dot16::from_bits);
-    assert!(rt; ends.map(F48Dot16::checked_to_i32) == [Some(i32::MAX), None]);
-    let ends = [2147483647, 2147483648].map(F48Dot16::from_bits);
-    assert!(rt; ends.map(F48Dot16::checked_to_fixed) == [Some(Fixed::MAX), None]);
-    let ends = [-1 << 47, 1 << 47].map(F48Dot16::checked_from_i64);
-    assert!(rt; ends == [Some(F48Dot16::MIN), None]);
-}
-
-#[test]
-fn rounded_from_deltas(rt: HostRuntime) {
-    for &(moved, long, short) in &[
-        (0, Some(0), Some(0)),
-        (32767, Some(0), Some(0)),
-        (32768, Some(1), Some(1)),
-        (-32768, Some(0), Some(0)),
-        (-32769, Some(-1), Some(-1)),
-        (2147450879, Some(32767), Some(32767)),
-        (2147450880, Some(32768), None),
-        (-2147516416, Some(-32768), Some(-32768)),
-        (-2147516417, Some(-32769), None),
-        (140737488322559, Some(i32::MAX), None),
-        (140737488322560, None, None),
-        (-140737488388096, Some(i32::MIN), None),
-        (-140737488388097, None, None),
-        (i128::MAX, None, None),
-        (i128::MIN, None, None),
-    ] {
-        let rounded = (Fixed::round_delta(moved), F2Dot14::round_delta(moved));
-        assert!(rt; rounded.0.map(Fixed::to_bits) == long, "{moved}");
-        assert!(rt;
-            rounded.1.map(|number| i32::from(number.to_bits())) == short,
-            "{moved}"
-        );
     }
 }
 

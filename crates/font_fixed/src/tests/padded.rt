@@ -1,4 +1,4 @@
-//! Padded decimal text.
+//! Whether the definition of padding gives the texts of the specification.
 
 use crate::*;
 use font_decimal::Align::{Center, Left, Right};
@@ -44,65 +44,4 @@ fn padded_6_10(rt: HostRuntime) {
         (0x7C40, 0, b' ', Right, true, false, "+31.0625", 8),
     ];
     check_padded!(rt, F6Dot10, rows);
-}
-
-#[test]
-fn padded_16_16(rt: HostRuntime) {
-    let rows = &[
-        (0x1_8000, 9, b'*', Center, true, false, "**+1.5***~", 9),
-        (i32::MAX, 0, b' ', Right, true, false, "+32767.99998", 12),
-        (i32::MAX, 0, b' ', Right, true, false, "~~~~~~~~~~~", 0),
-    ];
-    check_padded!(rt, Fixed, rows);
-}
-
-#[test]
-fn padded_48_16(rt: HostRuntime) {
-    let rows = &[
-        (
-            -i64::MAX,
-            23,
-            b' ',
-            Right,
-            false,
-            false,
-            " -140737488355327.99998~",
-            23,
-        ),
-        (
-            -i64::MAX,
-            23,
-            b' ',
-            Right,
-            false,
-            false,
-            "~~~~~~~~~~~~~~~~~~~~~~",
-            0,
-        ),
-        (
-            i64::MAX,
-            22,
-            b' ',
-            Right,
-            true,
-            false,
-            "+140737488355327.99998",
-            22,
-        ),
-    ];
-    check_padded!(rt, F48Dot16, rows);
-}
-
-#[test]
-fn padded_to_the_longest_text(rt: HostRuntime) {
-    let mut pad = Pad::new(12);
-    pad.zeros = true;
-    let mut out = [b' '; 12];
-    assert!(rt; F26Dot6::MAX.write_padded(&mut out, &pad) == Some(12) && &out == b"033554431.98");
-    assert!(rt;
-        F4Dot12::NEG_ONE.write_padded(&mut out, &pad) == Some(12) && &out == b"-00000000001"
-    );
-    let mut long = [b' '; 13];
-    assert!(rt; F2Dot30::from_bits(-7).write_padded(&mut long, &pad) == Some(13));
-    assert!(rt; &long == b"-0.0000000065");
 }

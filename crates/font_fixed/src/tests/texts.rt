@@ -1,4 +1,5 @@
-//! Decimal text of the seven formats: printed and parsed.
+//! Whether the definitions of decimals give the texts of the specification and of font-types, and
+//! what no clause says: that printing ignores flags.
 
 use crate::*;
 use font_decimal::DecimalFault;
@@ -90,30 +91,6 @@ fn printed_text(rt: HostRuntime) -> Result<(), Fail> {
         );
     }
     Ok(())
-}
-
-#[test]
-fn text_in_a_buffer(rt: HostRuntime) {
-    assert!(rt; F2Dot14::from_bits(9830).to_decimal().as_str() == "0.6");
-    assert!(rt; F26Dot6::from_bits(-1).to_decimal().as_str() == "-0.02");
-    assert!(rt; F48Dot16::MIN.to_decimal().as_str() == "-140737488355328");
-}
-
-#[test]
-fn longest_text(rt: HostRuntime) {
-    let of_16_bits = [
-        F2Dot14::max_text_len(),
-        F4Dot12::max_text_len(),
-        F6Dot10::max_text_len(),
-    ];
-    let of_32_bits = [
-        Fixed::max_text_len(),
-        F26Dot6::max_text_len(),
-        F2Dot30::max_text_len(),
-    ];
-    assert!(rt; of_16_bits == [8, 7, 8]);
-    assert!(rt; of_32_bits == [12, 12, 13]);
-    assert!(rt; F48Dot16::max_text_len() == 22);
 }
 
 /// Returns the raw value that `text` parses as in a format.

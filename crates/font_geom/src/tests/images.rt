@@ -1,7 +1,7 @@
-//! Images of points under two matrices: composed, and by each in turn.
+//! Whether the definitions of images, composed and in turn, give the values of the specification.
 
 use super::matrices::{at, whole};
-use crate::laws::{composed, fixed_identity, in_turn};
+use crate::laws::{composed, in_turn};
 use crate::{Matrix, Point};
 use font_fixed::Fixed;
 
@@ -35,12 +35,4 @@ fn images_with_rounding(rt: HostRuntime) {
     (a.xx, b.xx) = (Fixed::from_bits(0x8000), Fixed::EPSILON);
     assert!(rt; composed(a, b, p) == Point::new(Fixed::from_bits(100), Fixed::ZERO));
     assert!(rt; in_turn(a, b, p) == Point::new(Fixed::from_bits(50), Fixed::ZERO));
-}
-
-#[test]
-fn identity_is_neutral_at_the_limits(rt: HostRuntime) {
-    for &end in &[Fixed::MIN, Fixed::MAX, Fixed::EPSILON] {
-        let m = Matrix::from_elements([end; 6]);
-        assert!(rt; fixed_identity(m) == (m, m), "{end}");
-    }
 }

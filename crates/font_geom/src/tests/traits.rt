@@ -1,4 +1,4 @@
-//! The traits of each type, by functions with bounds.
+//! What no clause says: the traits of each type, by functions with bounds, and texts of `Debug`.
 
 use super::boxes::sides;
 use crate::{BoundingBox, Matrix, MatrixElement, Point};

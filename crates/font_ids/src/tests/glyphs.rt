@@ -1,4 +1,5 @@
-//! Glyph identifiers.
+//! Whether ids of different widths compare as the specification says, and what no clause says:
+//! texts.
 
 use crate::{GlyphId, GlyphId16, GlyphId24};
 use std::cmp::Ordering;
@@ -23,14 +24,6 @@ fn compared_across_widths(rt: HostRuntime) {
             "{wide} and {narrow}"
         );
     }
-}
-
-#[test]
-fn try_from_wider_ids(rt: HostRuntime) {
-    assert!(rt; GlyphId16::try_from(GlyphId::new(65535)).ok() == Some(GlyphId16::new(65535)));
-    assert!(rt; GlyphId24::try_from(GlyphId::new(16777215)).ok() == Some(GlyphId24::new(16777215)));
-    let refused = GlyphId24::try_from(GlyphId::new(16777216));
-    assert!(rt; refused.is_err_and(|error| error.value() == 16777216));
 }
 
 #[test]

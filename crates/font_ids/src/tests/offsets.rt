@@ -1,4 +1,4 @@
-//! Offsets, null or not; and fields of offsets, tags and versions.
+//! Whether three zero bytes are a null offset, and what no clause says: texts of `Debug`.
 
 use crate::{Nullable, Offset16, Offset24, Offset32};
 use font_base::{FixedSize, Scalar, Uint24};

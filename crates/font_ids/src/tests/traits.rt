@@ -1,4 +1,5 @@
-//! The traits of each type, by functions with bounds.
+//! What no clause says: the traits of each type, by functions with bounds, and that a set finds
+//! equal values.
 
 use crate::{
     FWord, GlyphId, GlyphId16, GlyphId24, NameId, Nullable, Offset16, Offset24, Offset32,

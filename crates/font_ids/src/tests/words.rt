@@ -1,4 +1,5 @@
-//! Quantities in font units.
+//! Whether font units as 16.16 and moved by deltas are those of font-types, and what no clause
+//! says: texts of `Debug`.
 
 use crate::{FWord, UfWord};
 use font_fixed::{F48Dot16, Fixed};
@@ -26,12 +27,6 @@ fn to_fixed(rt: HostRuntime) {
             "{number}"
         );
     }
-}
-
-#[test]
-fn to_i32(rt: HostRuntime) {
-    assert!(rt; i32::from(FWord::new(-32768)) == -32768);
-    assert!(rt; i32::from(UfWord::new(65535)) == 65535);
 }
 
 #[test]

@@ -1,4 +1,5 @@
-//! Compatible versions: each type with itself, and in turn, proved of what its `impl` promises.
+//! What no clause of one call says: `compatible` is reflexive and transitive, proved of the
+//! contract of each impl.
 #![tactic(auto, using(crate::proofs::VersionLaws::compatible_calls))]
 
 ghost use Rattle.std.specs.Prelude.{◌≡◌, true};

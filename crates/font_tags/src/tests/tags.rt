@@ -1,4 +1,5 @@
-//! Tags: creation, validation, texts and bytes.
+//! Whether the definitions of tags give the results of font-types, and what no clause says: texts
+//! with flags, and of errors.
 
 use crate::{InvalidTag, Tag};
 use std::alloc::{AllocError, Global};
@@ -85,14 +86,6 @@ fn tag_texts(rt: HostRuntime) -> Result<(), Fail> {
     ] {
         assert!(rt; is_printed(rt.alloc(), Tag::from_u32(tag), text)?, "{text}");
     }
-    Ok(())
-}
-
-#[test]
-fn order_and_default(rt: HostRuntime) -> Result<(), Fail> {
-    assert!(rt; Tag::new(b"OS/2") < Tag::new(b"cmap") && Tag::new(b"abc ") < Tag::new(b"abcd"));
-    let default = Tag::default();
-    assert!(rt; default == Tag::new(b"    ") && default.clone()? == default);
     Ok(())
 }
 

@@ -1,4 +1,5 @@
-//! The traits of each type, by functions with bounds.
+//! What no clause says: the traits of each type, by functions with bounds, and that a set finds
+//! equal values.
 
 use crate::{Compatible, InvalidTag, LongDateTime, MajorMinor, Tag, Version16Dot16};
 use font_base::{IdentityEq, Scalar};

@@ -1,4 +1,5 @@
-//! Versions and dates.
+//! Whether versions and dates have the numbers of OpenType and of font-types, and what no clause
+//! says: texts of `Debug`.
 
 use crate::{Compatible, LongDateTime, MajorMinor, Version16Dot16};
 use font_base::{FixedSize, Scalar};
@@ -79,46 +80,6 @@ fn version16dot16_compatible(rt: HostRuntime) {
             version.compatible(other) == compatible && packed == compatible,
             "{version} for {other:?}"
         );
-    }
-}
-
-#[test]
-fn major_minor_compatible(rt: HostRuntime) {
-    for &(major, minor, other, compatible) in &[
-        (1, 3, (1, 3), true),
-        (1, 3, (1, 2), true),
-        (10, 65535, (10, 12), true),
-        (1, 9, (1, 12), false),
-        (1, 9, (2, 0), false),
-        (2, 0, (1, 0), false),
-        (2, 3, (1, 3), false),
-    ] {
-        let version = MajorMinor::new(major, minor);
-        let pair = version.compatible(MajorMinor::new(other.0, other.1));
-        assert!(rt;
-            version.compatible(other) == compatible && pair == compatible,
-            "{version} for {other:?}"
-        );
-    }
-}
-
-#[test]
-fn u16_compatible(rt: HostRuntime) {
-    for &(number, other, compatible) in &[
-        (3, 2, true),
-        (3, 3, true),
-        (2, 3, false),
-        (0, 0, true),
-        (100, 100, true),
-        (100, 99, true),
-        (99, 100, false),
-        (0x7FFF, 0x8000, false),
-        (0x8000, 0x7FFF, true),
-        (0xFFFF, 0x8000, true),
-        (0x8000, 0xFFFF, false),
-    ] {
-        let is = Compatible::<u16>::compatible(&number, other);
-        assert!(rt; is == compatible, "{number} for {other}");
     }
 }
 

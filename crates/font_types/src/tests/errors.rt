@@ -1,4 +1,4 @@
-//! Texts, discriminants and traits of `JsonFault`.
+//! What no clause says: texts, discriminants and traits of `JsonFault`.
 
 use crate::JsonFault;
 use std::error::Error;

@@ -1,4 +1,4 @@
-//! JSON strings of the seven fixed-point formats.
+//! JSON strings of the seven fixed-point formats: cargo compiles no JSON.
 
 use crate::*;
 use serde_json::Value;

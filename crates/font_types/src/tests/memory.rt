@@ -1,6 +1,6 @@
-//! JSON forms where an allocation may be refused. These tests pass with ample memory, and whichever
-//! one allocation of a run is refused: that answer is the fault, and the next one is the usual
-//! form.
+//! JSON forms where an allocation may fail, which no clause forbids. These tests pass with ample
+//! memory, and whichever one allocation of a run is refused: that answer is the fault, and the next
+//! one is the usual form.
 
 use crate::*;
 use std::alloc::Global;

@@ -1,4 +1,4 @@
-//! Integers as JSON numbers.
+//! Integers as JSON numbers: cargo compiles no JSON.
 
 use crate::{
     FWord, GlyphId, GlyphId16, GlyphId24, Int24, JsonFault, JsonScalar, LongDateTime, NameId,

@@ -1,4 +1,4 @@
-//! Tags as JSON strings, and versions as objects.
+//! Tags as JSON strings, and versions as objects: cargo compiles no JSON.
 
 use crate::laws::round_trip;
 use crate::{JsonFault, JsonScalar, MajorMinor, Tag};

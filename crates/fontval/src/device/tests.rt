@@ -1,4 +1,4 @@
-//! Tests the source over a reader and the sink over a writer.
+//! What no clause says: interrupted calls, and writes of no byte, of std's devices.
 
 ghost use Rattle.std.specs.Prelude.{◌≡◌, IfOk};
 

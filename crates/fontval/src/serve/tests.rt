@@ -1,4 +1,5 @@
-//! Tests a run over inputs in memory, with devices that fail, and with a refused allocation.
+//! Runs that no clause requires: with memory and devices that work, a run succeeds. Also devices
+//! that fail at each call, a failed allocation, and texts of errors.
 
 ghost use Rattle.std.specs.Prelude.{◌≡◌, false, min, nat_lt};
 
