@@ -1,4 +1,5 @@
-//! Calls of each example, with values from OpenType and from arithmetic by hand.
+//! A row or two for each function of the examples, from OpenType and from arithmetic by hand: no
+//! clause says that its definitions are those of the field.
 
 mod dumper;
 mod evaluator;

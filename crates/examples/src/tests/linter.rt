@@ -25,12 +25,8 @@ fn tags_validated(rt: HostRuntime) -> Result<(), Fail> {
 #[test]
 fn tags_in_order(rt: HostRuntime) {
     let (cmap, os2) = (Tag::new(b"cmap"), Tag::new(b"OS/2"));
-    let tags = [os2, cmap, Tag::new(b"cvt "), Tag::new(b"glyf")];
-    assert!(rt; is_ascending(&tags) && is_ascending(&[]));
-    let others = [cmap, os2, cmap, os2];
-    assert!(rt; !is_ascending(&others));
-    let equal = [os2, cmap, cmap];
-    assert!(rt; !is_ascending(&equal));
+    assert!(rt; is_ascending(&[os2, cmap, Tag::new(b"cvt ")]));
+    assert!(rt; !is_ascending(&[os2, cmap, cmap]));
 }
 
 #[test]
@@ -49,17 +45,14 @@ fn records_sorted(rt: HostRuntime) {
 #[test]
 fn sums_of_words(rt: HostRuntime) {
     for &(table, sum) in &[
-        (b"" as &[u8], Some(0)),
-        (b"\x00\x01\x00\x00true", Some(0x7473_7565)),
+        (b"\x00\x01\x00\x00true" as &[u8], Some(0x7473_7565)),
         (b"\xFF\xFF\xFF\xFF\x00\x00\x00\x03", Some(2)),
-        (b"\x00\x00\x01", None),
     ] {
         let found = ScalarArray::new(table).map(checksum);
         assert!(rt; found == sum, "{table:?}");
     }
     for &(words, total) in &[
-        (&[] as &[u32], Some(0)),
-        (&[u32::MAX, 1], None),
+        (&[u32::MAX, 1] as &[u32], None),
         (&[u32::MAX - 5, 2, 3], Some(u32::MAX)),
     ] {
         assert!(rt; total_length(words) == total, "{words:?}");
@@ -68,14 +61,9 @@ fn sums_of_words(rt: HostRuntime) {
 
 #[test]
 fn names_and_versions(rt: HostRuntime) {
-    let are = [0, 14, 15, 16, 25, 26].map(|number| is_predefined(NameId::new(number)));
-    assert!(rt; are == [true, true, false, true, true, false]);
-    for &(table, supported, is) in &[
-        ((1, 2), (1, 1), true),
-        ((1, 1), (1, 1), true),
-        ((1, 0), (1, 1), false),
-        ((2, 1), (1, 1), false),
-    ] {
+    let are = [14, 15].map(|number| is_predefined(NameId::new(number)));
+    assert!(rt; are == [true, false]);
+    for &(table, supported, is) in &[((1, 2), (1, 1), true), ((2, 1), (1, 1), false)] {
         let table = MajorMinor::new(table.0, table.1);
         let supported = MajorMinor::new(supported.0, supported.1);
         assert!(rt; is_supported(table, supported) == is, "{table} {supported}");
