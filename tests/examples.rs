@@ -203,8 +203,8 @@ fn coordinates_and_advances_along_an_axis() {
     }
 }
 
-// fontTools 4.38 gives these numbers, by these lines, where `index` is the glyph if there is no map;
-// the map of format 1, which it does not read, is written in format 0 for it:
+// fontTools 4.38 gives these numbers, by these lines; `index` is the glyph if there is no map. It
+// does not read a map of format 1, which is written in format 0 for it:
 // store = VarStoreInstancer(hvar.VarStore, font["fvar"].axes, {"wght": .., "wdth": ..})
 // index = hvar.AdvWidthMap.mapping[glyph]
 // otRound(font["hmtx"][glyph][0] + store[index])

@@ -1,5 +1,5 @@
-//! Text and rounding of `F2Dot30`, which `font-types` lacks, against exact integers. Its other calls
-//! are those of `Fixed`, for any number of fraction bits.
+//! Text and rounding of `F2Dot30`, which `font-types` lacks, against exact integers. Its other
+//! calls are those of `Fixed`, for any number of fraction bits.
 
 use compare::{edges, sampled};
 use font_types_proved::F2Dot30;

@@ -1,6 +1,7 @@
 -- Searches of std, as searches of an array.
 use Rattle.std.proofs.Common.{◌≡◌, ◌∙◌, sym, ap, ℕ, ◌/◌, ◌<◌, ◌≤◌, Bool, true, false, IsTrue, arith}
-use Rattle.std.proofs.Common.{List, [], ◌∷◌, length, get_or, flat_map, Result, Ok, Err, MatchResult, IfOk, IfErr, Ordering}
+use Rattle.std.proofs.Common.{List, [], ◌∷◌, length, get_or, flat_map, Result, Ok, Err, MatchResult, IfOk, IfErr}
+use Rattle.std.proofs.Common.{Ordering}
 use Rattle.std.proofs.Common.{Less, Equal, Greater}
 use Rattle.std.proofs.lemmas.Bool.Decides.{nat_tests}
 use Rattle.std.specs.List.{AllWithin}

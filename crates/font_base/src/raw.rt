@@ -2,7 +2,8 @@
 #![tactic(auto, using(crate::proofs::StdBytes::std_bytes))]
 
 ghost use Rattle.std.specs.Prelude.{◌≡◌, ℕ, pos, Bool, List, IsTrue, IsSome, IfSome, ◌↔◌, ◌^◌};
-ghost use Rattle.std.specs.Prelude.{◌+◌, ◌%◌, ◌++◌, ◌≤◌, nat_eq, nat_lt, length, take, drop, flat_map};
+ghost use Rattle.std.specs.Prelude.{◌+◌, ◌%◌, ◌++◌, ◌≤◌, nat_eq, nat_lt, length, take, drop};
+ghost use Rattle.std.specs.Prelude.{flat_map};
 ghost use Rattle.std.proofs.Common.{rules, lit<};
 ghost use Rattle.std.specs.Bool.{Decides};
 ghost use Rattle.std.specs.Cmp.{signed_Decides, unsigned_Decides};

@@ -1,7 +1,7 @@
 -- Quotients rounded half away from zero, as code computes them: by magnitudes, with the sign set at the end and 32 bits
 -- kept.
-use Rattle.std.proofs.Common.{◌≡◌, ◌≢◌, sym, refl, ℕ, zero, suc, ◌-◌, ◌*◌, ◌^◌, ◌<◌, Bool, true, false, not, ℤ, pos, negsuc}
-use Rattle.std.proofs.Common.{neg_ℤ, ◌*ℤ◌, unsigned_abs, arith, lit<}
+use Rattle.std.proofs.Common.{◌≡◌, ◌≢◌, sym, refl, ℕ, zero, suc, ◌-◌, ◌*◌, ◌^◌, ◌<◌, Bool, true, false, not, ℤ, pos}
+use Rattle.std.proofs.Common.{negsuc, neg_ℤ, ◌*ℤ◌, unsigned_abs, arith, lit<}
 use Rattle.std.proofs.lemmas.Bool.Decides.{nat_tests}
 use Rattle.std.proofs.lemmas.Int.{ints}
 use Rattle.std.specs.Int.{is_negative}
@@ -54,6 +54,8 @@ pub wrapped_is_mul_div : (x a c q : ℤ) → (c ≢ pos 0 → q ≡ rounded_mul_
 wrapped_is_mul_div x a (pos zero) q nearest by_zero =
     rw (by_zero refl) (wrap-fits 32 _ (lit< tt) (ends_fit (differ_in_sign x a)))
 wrapped_is_mul_div x a (pos (suc c)) q nearest by_zero =
-    wrapped_near_from 32 (x *ℤ a) (suc c) q _ (omega arith) (rw (nearest (λ is. absurd (omega (arith, ints, is)))) (near_is _ _ (omega arith))) refl
+    wrapped_near_from 32 (x *ℤ a) (suc c) q _ (omega arith)
+    (rw (nearest (λ is. absurd (omega (arith, ints, is)))) (near_is _ _ (omega arith))) refl
 wrapped_is_mul_div x a (negsuc c) q nearest by_zero =
-    wrapped_near_from 32 (neg_ℤ (x *ℤ a)) (suc c) q _ (omega arith) (rw (nearest (λ is. absurd (omega (arith, ints, is)))) (near_is _ _ (omega arith))) refl
+    wrapped_near_from 32 (neg_ℤ (x *ℤ a)) (suc c) q _ (omega arith)
+    (rw (nearest (λ is. absurd (omega (arith, ints, is)))) (near_is _ _ (omega arith))) refl

@@ -76,8 +76,8 @@ one_number w f value text x y p q =
 one_whole : (w : ℕ) (word : List ℕ) → IsOne (ReadsWhole w word)
 one_whole w word x y p q = grind arith
 
-one_each : {W T : Type 0} (reads : W → Result T LineError → Type 0) → ((word : W) → IsOne (reads word)) → (words : List W)
-    → IsOne (ReadsEach reads words)
+one_each : {W T : Type 0} (reads : W → Result T LineError → Type 0) → ((word : W) → IsOne (reads word))
+    → (words : List W) → IsOne (ReadsEach reads words)
 one_each reads one [] = one_value (Ok [])
 one_each reads one (word ∷ words) = search (rules, one_then, one_value, one_each reads one words)
 

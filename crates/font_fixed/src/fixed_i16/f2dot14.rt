@@ -73,6 +73,7 @@ impl F2Dot14 {
     {
         i128::from(self.0) * 0x1_0000 + i128::from(delta.to_bits())
     }
+
     /// Rounds a result of `apply_delta` to a value, half up, or returns `None` if that is out of
     /// range.
     ///

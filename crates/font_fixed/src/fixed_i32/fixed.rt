@@ -90,7 +90,8 @@ impl Fixed {
         Some(Self(i32::try_from(exact_product(self.0, other.0, 16)).ok()?))
     }
 
-    /// Returns `self / other`, rounded half away from zero, or `None` on overflow or division by zero.
+    /// Returns `self / other`, rounded half away from zero, or `None` on overflow or division by
+    /// zero.
     #[must_use]
     #[inline]
     pub fn checked_div(self, other: Self) -> Option<Self>
@@ -102,8 +103,8 @@ impl Fixed {
         self.checked_mul_div(Self::ONE, other)
     }
 
-    /// Returns `self * a / c`, rounded once, half away from zero, or `None` on overflow or if `c` is
-    /// zero.
+    /// Returns `self * a / c`, rounded once, half away from zero, or `None` on overflow or if `c`
+    /// is zero.
     #[must_use]
     #[inline]
     pub fn checked_mul_div(self, a: Self, c: Self) -> Option<Self>

@@ -56,6 +56,7 @@ impl F2Dot14 {
     pub fn apply_delta(self, delta: F48Dot16) -> i128 {
         i128::from(self.0) * 0x1_0000 + i128::from(delta.to_bits())
     }
+
     /// Rounds a result of `apply_delta` to a value, half up, or returns `None` if that is out of
     /// range.
     ///

@@ -49,7 +49,8 @@ impl F26Dot6 {
         Some(Self(i32::try_from(exact_product(self.0, other.0, 6)).ok()?))
     }
 
-    /// Returns `self / other`, rounded half away from zero, or `None` on overflow or division by zero.
+    /// Returns `self / other`, rounded half away from zero, or `None` on overflow or division by
+    /// zero.
     #[must_use]
     #[inline]
     pub fn checked_div(self, other: Self) -> Option<Self> {

@@ -65,15 +65,16 @@ impl Fixed {
         ))
     }
 
-    /// Returns `self / other`, rounded half away from zero, or `None` on overflow or division by zero.
+    /// Returns `self / other`, rounded half away from zero, or `None` on overflow or division by
+    /// zero.
     #[must_use]
     #[inline]
     pub fn checked_div(self, other: Self) -> Option<Self> {
         self.checked_mul_div(Self::ONE, other)
     }
 
-    /// Returns `self * a / c`, rounded once, half away from zero, or `None` on overflow or if `c` is
-    /// zero.
+    /// Returns `self * a / c`, rounded once, half away from zero, or `None` on overflow or if `c`
+    /// is zero.
     #[must_use]
     #[inline]
     pub fn checked_mul_div(self, a: Self, c: Self) -> Option<Self> {
