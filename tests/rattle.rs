@@ -8,7 +8,7 @@ mod stored;
 
 macro_rules! eprint {
     ($rt:expr; $($text:tt)*) => {
-        io::complain(&$rt, format_args!($($text)*))
+        io::eprint(&$rt, format_args!($($text)*))
     };
 }
 

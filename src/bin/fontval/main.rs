@@ -6,7 +6,7 @@ mod host;
 /// Writes to standard error, and returns an error if that fails.
 macro_rules! eprint {
     ($rt:expr; $($text:tt)*) => {
-        $crate::host::io::complain(&$rt, format_args!($($text)*))
+        $crate::host::io::eprint(&$rt, format_args!($($text)*))
     };
 }
 

@@ -181,9 +181,9 @@ fn a_failed_write_keeps_what_passed(rt: HostRuntime) {
     }
 }
 
-// The test passes with ample memory, and whichever one allocation of its run is refused.
+// The test passes with ample memory, and whichever one allocation of its run fails.
 #[test]
-fn a_refused_allocation_writes_nothing(rt: HostRuntime) {
+fn a_failed_allocation_writes_nothing(rt: HostRuntime) {
     let rows: &[(&str, &[u8], &[u8])] = &[
         ("lines", LINES, ANSWERS),
         ("a sum", SUM, b"15.5\n"),

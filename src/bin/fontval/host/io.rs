@@ -61,6 +61,6 @@ pub fn writer(_rt: &HostRuntime) -> Stream {
 }
 
 /// Writes to std's standard error; the caller ignores the result.
-pub fn complain(_rt: &HostRuntime, text: fmt::Arguments<'_>) -> Result<()> {
+pub fn eprint(_rt: &HostRuntime, text: fmt::Arguments<'_>) -> Result<()> {
     io::stderr().write_fmt(text)
 }

@@ -15,6 +15,6 @@ loop-digit-preserved c = record {
       ∙ bounded_digit_more c.args.digits.now c.loop-digit.digit-index c.loop-digit.number c.from.result
       (2 ^ 40) c.loop-digit-test.true
       c.if-not-is_ascii_digit.ensures.cases c.loop-digit.invariant.number c.from.ensures;
-  judged = digits_more 10 c.args.digits.now c.loop-digit.digit-index c.loop-digit-test.true
-      c.loop-digit.invariant.judged c.if-not-is_ascii_digit.ensures.bound;
+  valid = digits_more 10 c.args.digits.now c.loop-digit.digit-index c.loop-digit-test.true
+      c.loop-digit.invariant.valid c.if-not-is_ascii_digit.ensures.bound;
 }

@@ -5,5 +5,5 @@ use Rattle.fontval.proofs.numbers.magnitude_of_digits.Given as goal
 abbrev pub invariant-loop-digit : goal.invariant-loop-digit
 invariant-loop-digit l = record {
   number : l.number ≡ min (digits_value 10 (take l.digit-index l.digits)) (2 ^ 40);
-  judged : AllDigits 10 (take l.digit-index l.digits);
+  valid : AllDigits 10 (take l.digit-index l.digits);
 }
