@@ -16,7 +16,7 @@ const CHANGES: [(&str, &str); 6] = [
 ];
 
 /// Left out, as are clauses, ghost items, attributes of proofs, and the results of `clone`.
-const LEFT_OUT: [&str; 13] = [
+const LEFT_OUT: [&str; 15] = [
     "#[cfg(test)] mod tests;",
     "mod facts;",
     "mod json;",
@@ -28,6 +28,8 @@ const LEFT_OUT: [&str; 13] = [
     "+ Drop",
     "<W: fmt::Write>",
     "let _bytes = each_is_byte(self);",
+    "let _bytes = each_is_byte(slice);",
+    "let _bytes = each_is_byte(raw.as_slice());",
     "let _bytes = raw.as_slice();",
     "let _bytes = font_base::BeByteArray::as_slice(&self.0);",
 ];

@@ -12,6 +12,7 @@ ghost use Rattle.std.specs.Slice.Iter.{iter_rest};
 ghost use Rattle.font_base.specs.Scalar.{IsValueOf};
 ghost use Rattle.font_base.specs.Elements.{AreRaw};
 
+use crate::facts::each_is_byte;
 use crate::raw::{BeByteArray, ByteChunks, Scalar};
 use std::alloc::AllocError;
 use std::cmp::Ordering;
@@ -161,6 +162,7 @@ impl<'a, T: Scalar> ScalarArray<'a, T> {
         ensures value { IfSome result (λ v. IsTrue (T.is_scalar v)) }
     {
         let raw = self.raw.get(index)?;
+        let _bytes = each_is_byte(raw.as_slice());
         Some(T::from_raw(*raw))
     }
 

@@ -229,6 +229,7 @@ pub trait Scalar: FixedSize {
         ensures reads { IfSome result (λ v. IsValueOf Self.Raw.bytes of_raw slice.now v) }
         ensures value { IfSome result (λ v. IsTrue (is_scalar v)) }
     {
+        let _bytes = each_is_byte(slice);
         let raw = Self::Raw::from_slice(slice)?;
         Some(Self::from_raw(raw))
     }

@@ -1,11 +1,17 @@
--- Stored bytes: `==` compares those of numbers, and a number just read has a shortest text.
-use Rattle.std.proofs.Common.{◌≡◌, ◌∙◌, ℕ, ℤ, sym, lit<, arith, Bool, List}
+-- Stored bytes: `==` compares those of numbers; a number just read has a shortest text; and the numbers of 24-bit
+-- integers.
+use Rattle.std.proofs.Common.{◌≡◌, ◌∙◌, ℕ, ◌≤◌, ℤ, sym, lit<, arith, Bool, List, length}
+use Rattle.std.proofs.Math.Nat.{pow-le-pow_right}
 use Rattle.std.proofs.lemmas.Int.{ints}
 use Rattle.std.specs.Prelude.{IsTrue}
 use Rattle.std.specs.Str.{bytes_eq}
 use Rattle.std.proofs.lemmas.Slice.Eq.{bytes_eq-Decides}
-use Rattle.font_base.specs.Bytes.{bytes_of, signed_numeral, IsBytesOf}
-use Rattle.font_base.specs.Bytes.Laws.{bytes_of_is, bytes_of_are, bytes_unique, FitsBits-signed_numeral}
+use Rattle.font_base.specs.Bytes.{are_bytes, bytes_of, numeral, signed_numeral, IsBytesOf}
+use Rattle.font_base.specs.Bytes.Laws.{bytes_of_is, bytes_of_are, bytes_unique, numeral_below, FitsBits-signed_numeral}
+use Rattle.font_base.specs.Int24.{int24_number, int24_of}
+use Rattle.font_base.specs.Int24.Laws.{int24_number-of}
+use Rattle.font_base.specs.Uint24.{uint24_number, uint24_of}
+use Rattle.font_base.specs.Uint24.Laws.{uint24_number-of}
 use Rattle.font_decimal.specs.Shortest.{IsShortest, shortest_text}
 use Rattle.font_decimal.proofs.Printed.{shortest_is}
 
@@ -30,4 +36,14 @@ pub shortest_read_2 : (f : ℕ) (bytes : List ℕ)
 shortest_read_2 f bytes = let fits = FitsBits-signed_numeral 2 bytes (lit< tt) in
     shortest_is (signed_numeral 2 bytes) f (omega (arith, ints, fits.low, fits.high))
 
-pub ruleset stored_calls = (is_stored, equals_stored, shortest_read_4, shortest_read_2)
+-- ---- 24-bit integers, by what they are read as
+
+pub uint24_of_read : (bytes : List ℕ) → IsTrue (are_bytes (length bytes) bytes) → length bytes ≤ 3
+    → uint24_number (uint24_of (numeral bytes)) ≡ numeral bytes
+uint24_of_read bytes are short = uint24_number-of (numeral bytes)
+    (omega (arith, numeral_below (length bytes) bytes are, pow-le-pow_right {n = 256} (lit< tt) short))
+
+pub int24_of_read : (bytes : List ℕ) → int24_number (int24_of (signed_numeral 3 bytes)) ≡ signed_numeral 3 bytes
+int24_of_read bytes = int24_number-of (signed_numeral 3 bytes) (FitsBits-signed_numeral 3 bytes (lit< tt))
+
+pub ruleset stored_calls = (is_stored, equals_stored, shortest_read_4, shortest_read_2, uint24_of_read, int24_of_read)
