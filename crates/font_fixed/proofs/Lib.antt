@@ -7,6 +7,7 @@ pub mod Steps
 pub mod Texts
 pub mod NumberLaws
 pub mod Group
+pub mod Integral
 pub mod Calls
 pub mod Small
 pub mod Rules

@@ -41,6 +41,11 @@ pub record IsNearestWhole (w f : ℕ) (b r : ℤ) : Type 0 where
   pub wrapped : r ≡ wrap w (whole *ℤ pos (2 ^ f))
   pub is : r ≡ nearest_whole w f b
 
+-- b is the raw value of an integer, with f fraction bits
+pub record IsIntegral (f : ℕ) (b : ℤ) : Type 0 where
+  pub number : ℤ
+  pub is : b ≡ (number *ℤ pos (2 ^ f))
+
 -- the raw values of the fractional part of b / 2^f, and of its floor
 unfoldable pub fract_of : ℕ → ℤ → ℤ
 fract_of f b = int_rem_euclid b (pos (2 ^ f))

@@ -1,7 +1,8 @@
 //! 64-bit fixed-point numbers.
 #![tactic(auto, using(crate::proofs::Rules::number_code))]
 
-ghost use Rattle.std.specs.Prelude.{◌≡◌, ◌<◌, ◌≤◌, ◌↔◌, ℤ, pos, neg_ℤ, ◌+ℤ◌, ◌-ℤ◌, Some};
+ghost use Rattle.std.specs.Prelude.{◌≡◌, ◌<◌, ◌≤◌, ◌↔◌, ◌/◌, ◌^◌, ℤ, pos, neg_ℤ, ◌+ℤ◌, ◌-ℤ◌};
+ghost use Rattle.std.specs.Prelude.{◌≤ℤ◌, ◌<ℤ◌, Some};
 ghost use Rattle.std.specs.Prelude.{IsSome, IfSome, IfNone, length, max, unsigned_abs};
 ghost use Rattle.std.specs.Int.{w64};
 ghost use Rattle.font_base.specs.Wrap.{FitsBits, wrap};
@@ -9,7 +10,7 @@ ghost use Rattle.font_base.specs.Bytes.{bytes_of};
 ghost use Rattle.font_decimal.specs.Padding.{padded_text, FillsFront};
 ghost use Rattle.font_decimal.specs.Shortest.{IsShortest};
 ghost use Rattle.font_decimal.specs.Shown.{shown};
-ghost use Rattle.font_fixed.specs.Operations.{IsNearestWhole, IsFloor, IsFract, clamp};
+ghost use Rattle.font_fixed.specs.Operations.{IsNearestWhole, IsIntegral, IsFloor, IsFract, clamp};
 ghost use Rattle.font_fixed.specs.Reading.{ReadsBy};
 ghost use Rattle.font_fixed.specs.Rounding.{rounded};
 ghost use Rattle.font_fixed.specs.declared.fixed_i64.FixedI64.{FixedI64};
@@ -169,7 +170,11 @@ where
     #[must_use]
     #[inline(always)]
     pub const fn round(self) -> Self
-        ensures { IsNearestWhole 64 F (bits_of self.entry) (bits_of result) }
+        ensures nearest { IsNearestWhole 64 F (bits_of self.entry) (bits_of result) }
+        ensures whole { IsIntegral F (bits_of result) }
+        ensures exact { FitsBits 64 (bits_of self.entry +ℤ pos (2 ^ F / 2))
+            → (bits_of result ≤ℤ (bits_of self.entry +ℤ pos (2 ^ F / 2)))
+            × ((bits_of self.entry +ℤ pos (2 ^ F / 2)) <ℤ (bits_of result +ℤ pos (2 ^ F))) }
     {
         self.wrapping_add(Self(1 << (F - 1))).floor()
     }

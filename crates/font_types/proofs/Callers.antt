@@ -2,6 +2,7 @@
 -- lemmas for answers.
 use Rattle.font_base.proofs.ScalarCalls.{scalar_calls}
 use Rattle.font_fixed.proofs.Calls.{calls_16, calls_64}
+use Rattle.font_fixed.proofs.Integral.{integral_calls}
 use Rattle.font_fixed.proofs.NarrowCalls.{narrow_calls, quarter_neg_one}
 use Rattle.font_tags.proofs.TagLaws.{tag_calls}
 use Rattle.font_tags.proofs.VersionLaws.{compatible_calls}
@@ -45,6 +46,7 @@ pub ruleset calls = (
   stored_calls,
   calls_16,
   calls_64,
+  integral_calls,
   narrow_calls,
   quarter_neg_one,
   sum_calls_from,

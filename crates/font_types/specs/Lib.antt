@@ -20,6 +20,7 @@ pub use Rattle.font_decimal.specs.Shown
 pub use Rattle.font_decimal.specs.Padding
 pub use Rattle.font_fixed.specs.Operations
 pub use Rattle.font_fixed.specs.NumberLaws
+pub use Rattle.font_fixed.specs.Rounding
 pub use Rattle.font_fixed.specs.Reading as NumberReading
 pub use Rattle.font_fixed.specs.F26Dot6
 pub use Rattle.font_fixed.specs.Fixed

@@ -1,0 +1,56 @@
+-- Raw values of integers: constants, sums and differences, and what wraps.
+use Rattle.std.proofs.Common.{◌≡◌, ◌∙◌, sym, ap, ℕ, ◌+◌, ◌-◌, ◌*◌, ◌/◌, ◌%◌, ◌^◌, ◌<◌, ℤ, pos, neg_ℤ, ◌+ℤ◌, ◌-ℤ◌, ◌*ℤ◌}
+use Rattle.std.proofs.Common.{arith, div-add-mod', pow-add}
+use Rattle.std.proofs.lemmas.Int.{ints}
+use Rattle.font_base.specs.Integers.{sum-times, product-times}
+use Rattle.font_base.specs.Wrap.{wrap}
+use Rattle.font_base.specs.Wrap.Laws.{wrap_is}
+use Rattle.font_decimal.proofs.Integers.{neg-times}
+use Rattle.font_fixed.specs.Operations.{IsIntegral}
+
+module _ (f : ℕ) where
+  pub constant_is_integral : (n : ℕ) → n % 2 ^ f ≡ 0 → IsIntegral f (pos n)
+  constant_is_integral n divides = record {
+    number = pos (n / 2 ^ f);
+    is = omega (arith, ints, div-add-mod' n (2 ^ f), divides);
+  }
+
+  pub sum_is_integral : (a b : ℤ) → IsIntegral f a → IsIntegral f b → IsIntegral f (a +ℤ b)
+  sum_is_integral a b is_a is_b = record {
+    number = is_a.number +ℤ is_b.number;
+    is = omega (arith, ints, is_a.is, is_b.is, sum-times is_a.number is_b.number (pos (2 ^ f)));
+  }
+
+  pub negated_is_integral : (a : ℤ) → IsIntegral f a → IsIntegral f (neg_ℤ a)
+  negated_is_integral a is_a = record {
+    number = neg_ℤ is_a.number;
+    is = omega (arith, ints, is_a.is, neg-times is_a.number (2 ^ f));
+  }
+
+  pub difference_is_integral : (a b : ℤ) → IsIntegral f a → IsIntegral f b → IsIntegral f (a -ℤ b)
+  difference_is_integral a b is_a is_b = sum_is_integral a (neg_ℤ b) is_a (negated_is_integral b is_b)
+
+  pub wrapped_is_integral : (w : ℕ) (a : ℤ) → f < w → IsIntegral f a → IsIntegral f (wrap w a)
+  wrapped_is_integral w a few is_a =
+      let whole = wrap_is w a (omega (arith, few)) in
+      let split : w ≡ (w - f) + f = omega (arith, few) in
+      let power : 2 ^ w ≡ 2 ^ (w - f) * 2 ^ f = ap (λ n. 2 ^ n) split ∙ pow-add 2 (w - f) f in
+      let turned : (whole.turns *ℤ pos (2 ^ w)) ≡ ((whole.turns *ℤ pos (2 ^ (w - f))) *ℤ pos (2 ^ f)) =
+      rw power (sym (product-times whole.turns (pos (2 ^ (w - f))) (pos (2 ^ f)))) in
+      let turns : IsIntegral f (whole.turns *ℤ pos (2 ^ w)) =
+      record { number = whole.turns *ℤ pos (2 ^ (w - f)); is = turned } in
+      let unwound : wrap w a ≡ (a -ℤ (whole.turns *ℤ pos (2 ^ w))) = omega (arith, ints, whole.differs) in
+      rw unwound (difference_is_integral a _ is_a turns)
+
+  -- rules: of a sum and a difference that a hypothesis has
+  pub wrapped_sum_is_integral : (w : ℕ) (a b r : ℤ) → r ≡ wrap w (a +ℤ b) → f < w → IsIntegral f a → IsIntegral f b
+      → IsIntegral f r
+  wrapped_sum_is_integral w a b r is few is_a is_b =
+      rw is (wrapped_is_integral w (a +ℤ b) few (sum_is_integral a b is_a is_b))
+
+  pub wrapped_difference_is_integral : (w : ℕ) (a b r : ℤ) → r ≡ wrap w (a -ℤ b) → f < w → IsIntegral f a
+      → IsIntegral f b → IsIntegral f r
+  wrapped_difference_is_integral w a b r is few is_a is_b =
+      rw is (wrapped_is_integral w (a -ℤ b) few (difference_is_integral a b is_a is_b))
+
+pub ruleset integral_calls = (constant_is_integral, wrapped_sum_is_integral, wrapped_difference_is_integral)
