@@ -1,33 +1,243 @@
--- Products of `Fixed` by a part of a whole, a number from 0 to 1, and products by a widened 2.14 factor.
-use Rattle.std.proofs.Common.{◌≡◌, ◌≢◌, ◌∙◌, sym, ap, refl, lit<, arith, ℤ, pos, ◌+ℤ◌, ◌*ℤ◌, ◌≤ℤ◌, w32}
+-- Products of `Fixed` by a part of a whole, a number from 0 to 1, numbers between two others, and products by a widened
+-- 2.14 factor.
+use Rattle.std.proofs.Common.{◌≡◌, ◌∙◌, sym, ap, lit<, arith, ℕ, ◌+◌, ◌-◌, ℤ, pos, negsuc, ◌+ℤ◌, ◌-ℤ◌, ◌*ℤ◌, ◌≤ℤ◌}
+use Rattle.std.proofs.Common.{w32, SFits}
 use Rattle.std.proofs.lemmas.Int.{ints}
 use Rattle.std.proofs.Math.IntN.{*ℤ_comm}
-use Rattle.font_base.proofs.Widths.{signed_fits}
-use Rattle.font_base.specs.Integers.{product-times}
+use Rattle.font_base.specs.Integers.{product-times, sum-times}
 use Rattle.font_base.specs.Wrap.{wrap, FitsBits}
 use Rattle.font_base.specs.Wrap.Laws.{wrap-add_left, wrap-add_right, wrap-fits}
-use Rattle.font_decimal.specs.Near.{near}
-use Rattle.font_decimal.proofs.Near.{near_is, near_gives}
-use Rattle.font_fixed.proofs.NumberLaws.{mul_div_between}
+use Rattle.font_decimal.specs.Near.{Near, near}
+use Rattle.font_decimal.proofs.Integers.{times_monotone}
+use Rattle.font_decimal.proofs.Near.{near_is, near_gives, near_monotone}
+use Rattle.font_fixed.proofs.Calls.{fits_32}
+use Rattle.font_fixed.proofs.NumberLaws.{near_exact}
 
-nonzero : pos 65536 ≢ pos 0
-nonzero same = absurd (omega (arith, ints, same))
+-- a product by a number from 0 to 65536 lies between 0 and 65536 times the other number
+whole_is_parts : (x : ℤ) (k d : ℕ) → k + d ≡ 65536 → ((x *ℤ pos k) +ℤ (x *ℤ pos d)) ≡ (x *ℤ pos 65536)
+whole_is_parts x k d is =
+    rw (*ℤ_comm x (pos k), *ℤ_comm x (pos d), *ℤ_comm x (pos 65536), ← sum-times (pos k) (pos d) x)
+    (ap (λ n. pos n *ℤ x) is)
 
--- two parts: stated of the term of `*`, because a rule's conclusion has to show all its variables
-module _ (x y : ℤ) (from_x : pos 0 ≤ℤ x) (to_x : x ≤ℤ pos 65536) (from : pos 0 ≤ℤ y) (to : y ≤ℤ pos 65536) where
-  between : (pos 0 ≤ℤ wrap 32 (near (x *ℤ y) 65536)) × (wrap 32 (near (x *ℤ y) 65536) ≤ℤ x)
-  between = mul_div_between 32 x y (pos 65536) (wrap 32 (near (x *ℤ y) 65536)) (lit< tt)
-      (signed_fits w32 x (omega (arith, ints, from_x, to_x)))
-      (record { exact = near (x *ℤ y) 65536; nearest = near_is (x *ℤ y) 65536 (lit< tt); wrapped = refl; is = refl })
-      from_x from to nonzero
+rises : (x y : ℤ) → pos 0 ≤ℤ x → pos 0 ≤ℤ y → y ≤ℤ pos 65536 → (pos 0 ≤ℤ (x *ℤ y)) × ((x *ℤ y) ≤ℤ (x *ℤ pos 65536))
+rises x (pos k) from_x from to =
+    let parts = whole_is_parts x k (65536 - k) (omega (arith, ints, to)) in
+    let low = times_monotone (pos 0) x k from_x in
+    let rest = times_monotone (pos 0) x (65536 - k) from_x in
+    (omega (arith, ints, low), omega (arith, ints, parts, rest))
+rises x (negsuc k) from_x from to = absurd (omega (arith, ints, from))
 
-  pub product_of_parts_is_not_negative : pos 0 ≤ℤ wrap 32 (near (x *ℤ y) 65536)
-  product_of_parts_is_not_negative = between.0
+falls : (x y : ℤ) → x ≤ℤ pos 0 → pos 0 ≤ℤ y → y ≤ℤ pos 65536 → ((x *ℤ y) ≤ℤ pos 0) × ((x *ℤ pos 65536) ≤ℤ (x *ℤ y))
+falls x (pos k) to_x from to =
+    let parts = whole_is_parts x k (65536 - k) (omega (arith, ints, to)) in
+    let high = times_monotone x (pos 0) k to_x in
+    let rest = times_monotone x (pos 0) (65536 - k) to_x in
+    (omega (arith, ints, high), omega (arith, ints, parts, rest))
+falls x (negsuc k) to_x from to = absurd (omega (arith, ints, from))
 
-  pub product_of_parts_is_at_most_one : wrap 32 (near (x *ℤ y) 65536) ≤ℤ pos 65536
-  product_of_parts_is_at_most_one = omega (arith, ints, between.1, to_x)
+-- rules: stated of the term of `*`, because a rule's conclusion has to show all its variables
+module _ (x y : ℤ) (fits : SFits w32 x) (from : pos 0 ≤ℤ y) (to : y ≤ℤ pos 65536) where
+  nearest : Near (x *ℤ y) 65536 (near (x *ℤ y) 65536)
+  nearest = near_is (x *ℤ y) 65536 (lit< tt)
 
-pub ruleset part_calls = (product_of_parts_is_not_negative, product_of_parts_is_at_most_one)
+  not_negative : pos 0 ≤ℤ x → pos 0 ≤ℤ near (x *ℤ y) 65536
+  not_negative from_x = near_monotone (lit< tt) (lit< tt) (near_exact (pos 0) 65536 (lit< tt)) nearest
+      (omega (arith, ints, (rises x y from_x from to).0))
+
+  at_most : pos 0 ≤ℤ x → near (x *ℤ y) 65536 ≤ℤ x
+  at_most from_x = near_monotone (lit< tt) (lit< tt) nearest (near_exact x 65536 (lit< tt))
+      (omega (arith, ints, (rises x y from_x from to).1))
+
+  not_positive : x ≤ℤ pos 0 → near (x *ℤ y) 65536 ≤ℤ pos 0
+  not_positive to_x = near_monotone (lit< tt) (lit< tt) nearest (near_exact (pos 0) 65536 (lit< tt))
+      (omega (arith, ints, (falls x y to_x from to).0))
+
+  at_least : x ≤ℤ pos 0 → x ≤ℤ near (x *ℤ y) 65536
+  at_least to_x = near_monotone (lit< tt) (lit< tt) (near_exact x 65536 (lit< tt)) nearest
+      (omega (arith, ints, (falls x y to_x from to).1))
+
+  kept_up : pos 0 ≤ℤ x → wrap 32 (near (x *ℤ y) 65536) ≡ near (x *ℤ y) 65536
+  kept_up from_x = fits_32 (near (x *ℤ y) 65536) (omega (arith, ints, fits, not_negative from_x, at_most from_x))
+
+  kept_down : x ≤ℤ pos 0 → wrap 32 (near (x *ℤ y) 65536) ≡ near (x *ℤ y) 65536
+  kept_down to_x = fits_32 (near (x *ℤ y) 65536) (omega (arith, ints, fits, at_least to_x, not_positive to_x))
+
+  -- the product of a number by a part lies between 0 and the number
+  pub product_by_part_is_not_negative : pos 0 ≤ℤ x → pos 0 ≤ℤ wrap 32 (near (x *ℤ y) 65536)
+  product_by_part_is_not_negative from_x = rw (kept_up from_x) (not_negative from_x)
+
+  pub product_by_part_is_at_most : pos 0 ≤ℤ x → wrap 32 (near (x *ℤ y) 65536) ≤ℤ x
+  product_by_part_is_at_most from_x = rw (kept_up from_x) (at_most from_x)
+
+  pub product_by_part_is_not_positive : x ≤ℤ pos 0 → wrap 32 (near (x *ℤ y) 65536) ≤ℤ pos 0
+  product_by_part_is_not_positive to_x = rw (kept_down to_x) (not_positive to_x)
+
+  pub product_by_part_is_at_least : x ≤ℤ pos 0 → x ≤ℤ wrap 32 (near (x *ℤ y) 65536)
+  product_by_part_is_at_least to_x = rw (kept_down to_x) (at_least to_x)
+
+  -- and that of two parts between 0 and 1
+  pub product_of_parts_is_at_most_one : pos 0 ≤ℤ x → x ≤ℤ pos 65536 → wrap 32 (near (x *ℤ y) 65536) ≤ℤ pos 65536
+  product_of_parts_is_at_most_one from_x to_x = omega (arith, ints, product_by_part_is_at_most from_x, to_x)
+
+-- the same with the part first
+module _ (x y : ℤ) (fits : SFits w32 x) (from : pos 0 ≤ℤ y) (to : y ≤ℤ pos 65536) where
+  pub part_by_product_is_not_negative : pos 0 ≤ℤ x → pos 0 ≤ℤ wrap 32 (near (y *ℤ x) 65536)
+  part_by_product_is_not_negative from_x = rw (*ℤ_comm y x) (product_by_part_is_not_negative x y fits from to from_x)
+
+  pub part_by_product_is_at_most : pos 0 ≤ℤ x → wrap 32 (near (y *ℤ x) 65536) ≤ℤ x
+  part_by_product_is_at_most from_x = rw (*ℤ_comm y x) (product_by_part_is_at_most x y fits from to from_x)
+
+  pub part_by_product_is_not_positive : x ≤ℤ pos 0 → wrap 32 (near (y *ℤ x) 65536) ≤ℤ pos 0
+  part_by_product_is_not_positive to_x = rw (*ℤ_comm y x) (product_by_part_is_not_positive x y fits from to to_x)
+
+  pub part_by_product_is_at_least : x ≤ℤ pos 0 → x ≤ℤ wrap 32 (near (y *ℤ x) 65536)
+  part_by_product_is_at_least to_x = rw (*ℤ_comm y x) (product_by_part_is_at_least x y fits from to to_x)
+
+-- a part that was widened from 2.14
+module _ (x t : ℤ) (fits : SFits w32 x) (from : pos 0 ≤ℤ t) (to : t ≤ℤ pos 16384) where
+  pub product_by_widened_is_not_negative : pos 0 ≤ℤ x → pos 0 ≤ℤ wrap 32 (near (x *ℤ (t *ℤ pos 4)) 65536)
+  product_by_widened_is_not_negative from_x = product_by_part_is_not_negative x (t *ℤ pos 4) fits
+      (omega (arith, ints, from)) (omega (arith, ints, to)) from_x
+
+  pub product_by_widened_is_at_most : pos 0 ≤ℤ x → wrap 32 (near (x *ℤ (t *ℤ pos 4)) 65536) ≤ℤ x
+  product_by_widened_is_at_most from_x = product_by_part_is_at_most x (t *ℤ pos 4) fits
+      (omega (arith, ints, from)) (omega (arith, ints, to)) from_x
+
+  pub product_by_widened_is_not_positive : x ≤ℤ pos 0 → wrap 32 (near (x *ℤ (t *ℤ pos 4)) 65536) ≤ℤ pos 0
+  product_by_widened_is_not_positive to_x = product_by_part_is_not_positive x (t *ℤ pos 4) fits
+      (omega (arith, ints, from)) (omega (arith, ints, to)) to_x
+
+  pub product_by_widened_is_at_least : x ≤ℤ pos 0 → x ≤ℤ wrap 32 (near (x *ℤ (t *ℤ pos 4)) 65536)
+  product_by_widened_is_at_least to_x = product_by_part_is_at_least x (t *ℤ pos 4) fits
+      (omega (arith, ints, from)) (omega (arith, ints, to)) to_x
+
+-- two parts that were widened from 2.14
+module _ (a b : ℤ) (from_a : pos 0 ≤ℤ a) (to_a : a ≤ℤ pos 16384) (from : pos 0 ≤ℤ b) (to : b ≤ℤ pos 16384) where
+  pub product_of_widened_is_not_negative : pos 0 ≤ℤ wrap 32 (near ((a *ℤ pos 4) *ℤ (b *ℤ pos 4)) 65536)
+  product_of_widened_is_not_negative = product_by_part_is_not_negative (a *ℤ pos 4) (b *ℤ pos 4)
+      (omega (arith, ints, from_a, to_a)) (omega (arith, ints, from)) (omega (arith, ints, to))
+      (omega (arith, ints, from_a))
+
+  pub product_of_widened_is_at_most_one : wrap 32 (near ((a *ℤ pos 4) *ℤ (b *ℤ pos 4)) 65536) ≤ℤ pos 65536
+  product_of_widened_is_at_most_one = product_of_parts_is_at_most_one (a *ℤ pos 4) (b *ℤ pos 4)
+      (omega (arith, ints, from_a, to_a)) (omega (arith, ints, from)) (omega (arith, ints, to))
+      (omega (arith, ints, from_a)) (omega (arith, ints, to_a))
+
+pub ruleset part_calls = (
+  product_by_part_is_not_negative,
+  product_by_part_is_at_most,
+  product_by_part_is_not_positive,
+  product_by_part_is_at_least,
+  part_by_product_is_not_negative,
+  part_by_product_is_at_most,
+  part_by_product_is_not_positive,
+  part_by_product_is_at_least,
+  product_by_widened_is_not_negative,
+  product_by_widened_is_at_most,
+  product_by_widened_is_not_positive,
+  product_by_widened_is_at_least,
+  product_of_parts_is_at_most_one,
+  product_of_widened_is_not_negative,
+  product_of_widened_is_at_most_one,
+)
+
+-- ---- `a + (b - a) * t`, for a part t: it lies between a and b if their difference fits
+
+module _ (a b r : ℤ) (fits_a : SFits w32 a) (fits_b : SFits w32 b) where
+  sum_up : (pos 0 ≤ℤ r) × (r ≤ℤ (b -ℤ a)) → (a ≤ℤ wrap 32 (a +ℤ r)) × (wrap 32 (a +ℤ r) ≤ℤ b)
+  sum_up share = let sum = fits_32 (a +ℤ r) (omega (arith, ints, share, fits_a, fits_b)) in
+      (omega (arith, ints, share, sum), omega (arith, ints, share, sum))
+
+  sum_down : (r ≤ℤ pos 0) × ((b -ℤ a) ≤ℤ r) → (b ≤ℤ wrap 32 (a +ℤ r)) × (wrap 32 (a +ℤ r) ≤ℤ a)
+  sum_down share = let sum = fits_32 (a +ℤ r) (omega (arith, ints, share, fits_a, fits_b)) in
+      (omega (arith, ints, share, sum), omega (arith, ints, share, sum))
+
+module _ (a b t : ℤ) (fits_a : SFits w32 a) (fits_b : SFits w32 b) (fits : FitsBits 32 (b -ℤ a))
+    (from : pos 0 ≤ℤ t) (to : t ≤ℤ pos 65536) where
+  abbrev rise : ℤ
+  rise = wrap 32 (near (wrap 32 (b -ℤ a) *ℤ t) 65536)
+
+  exact : wrap 32 (b -ℤ a) ≡ (b -ℤ a)
+  exact = wrap-fits 32 (b -ℤ a) (lit< tt) fits
+
+  difference_fits : SFits w32 (b -ℤ a)
+  difference_fits = omega (arith, ints, fits.low, fits.high)
+
+  upward : a ≤ℤ b → (pos 0 ≤ℤ rise) × (rise ≤ℤ (b -ℤ a))
+  upward order = rw exact (
+    product_by_part_is_not_negative (b -ℤ a) t difference_fits from to (omega (arith, ints, order)),
+    product_by_part_is_at_most (b -ℤ a) t difference_fits from to (omega (arith, ints, order)),
+  )
+
+  downward : b ≤ℤ a → (rise ≤ℤ pos 0) × ((b -ℤ a) ≤ℤ rise)
+  downward order = rw exact (
+    product_by_part_is_not_positive (b -ℤ a) t difference_fits from to (omega (arith, ints, order)),
+    product_by_part_is_at_least (b -ℤ a) t difference_fits from to (omega (arith, ints, order)),
+  )
+
+  pub between_from_low : a ≤ℤ b → a ≤ℤ wrap 32 (a +ℤ wrap 32 (near (wrap 32 (b -ℤ a) *ℤ t) 65536))
+  between_from_low order = (sum_up a b rise fits_a fits_b (upward order)).0
+
+  pub between_to_high : a ≤ℤ b → wrap 32 (a +ℤ wrap 32 (near (wrap 32 (b -ℤ a) *ℤ t) 65536)) ≤ℤ b
+  between_to_high order = (sum_up a b rise fits_a fits_b (upward order)).1
+
+  pub between_to_low : b ≤ℤ a → b ≤ℤ wrap 32 (a +ℤ wrap 32 (near (wrap 32 (b -ℤ a) *ℤ t) 65536))
+  between_to_low order = (sum_down a b rise fits_a fits_b (downward order)).0
+
+  pub between_from_high : b ≤ℤ a → wrap 32 (a +ℤ wrap 32 (near (wrap 32 (b -ℤ a) *ℤ t) 65536)) ≤ℤ a
+  between_from_high order = (sum_down a b rise fits_a fits_b (downward order)).1
+
+  -- the same with the part first
+  abbrev flipped : wrap 32 (near (t *ℤ wrap 32 (b -ℤ a)) 65536) ≡ rise
+  flipped = ap (λ n. wrap 32 (near n 65536)) (*ℤ_comm t (wrap 32 (b -ℤ a)))
+
+  pub part_between_from_low : a ≤ℤ b → a ≤ℤ wrap 32 (a +ℤ wrap 32 (near (t *ℤ wrap 32 (b -ℤ a)) 65536))
+  part_between_from_low order = rw flipped (between_from_low order)
+
+  pub part_between_to_high : a ≤ℤ b → wrap 32 (a +ℤ wrap 32 (near (t *ℤ wrap 32 (b -ℤ a)) 65536)) ≤ℤ b
+  part_between_to_high order = rw flipped (between_to_high order)
+
+  pub part_between_to_low : b ≤ℤ a → b ≤ℤ wrap 32 (a +ℤ wrap 32 (near (t *ℤ wrap 32 (b -ℤ a)) 65536))
+  part_between_to_low order = rw flipped (between_to_low order)
+
+  pub part_between_from_high : b ≤ℤ a → wrap 32 (a +ℤ wrap 32 (near (t *ℤ wrap 32 (b -ℤ a)) 65536)) ≤ℤ a
+  part_between_from_high order = rw flipped (between_from_high order)
+
+-- a part that was widened from 2.14
+module _ (a b t : ℤ) (fits_a : SFits w32 a) (fits_b : SFits w32 b) (fits : FitsBits 32 (b -ℤ a))
+    (from : pos 0 ≤ℤ t) (to : t ≤ℤ pos 16384) where
+  not_negative_4 : pos 0 ≤ℤ (t *ℤ pos 4)
+  not_negative_4 = omega (arith, ints, from)
+
+  at_most_4 : (t *ℤ pos 4) ≤ℤ pos 65536
+  at_most_4 = omega (arith, ints, to)
+
+  pub widened_from_low : a ≤ℤ b → a ≤ℤ wrap 32 (a +ℤ wrap 32 (near (wrap 32 (b -ℤ a) *ℤ (t *ℤ pos 4)) 65536))
+  widened_from_low = between_from_low a b (t *ℤ pos 4) fits_a fits_b fits not_negative_4 at_most_4
+
+  pub widened_to_high : a ≤ℤ b → wrap 32 (a +ℤ wrap 32 (near (wrap 32 (b -ℤ a) *ℤ (t *ℤ pos 4)) 65536)) ≤ℤ b
+  widened_to_high = between_to_high a b (t *ℤ pos 4) fits_a fits_b fits not_negative_4 at_most_4
+
+  pub widened_to_low : b ≤ℤ a → b ≤ℤ wrap 32 (a +ℤ wrap 32 (near (wrap 32 (b -ℤ a) *ℤ (t *ℤ pos 4)) 65536))
+  widened_to_low = between_to_low a b (t *ℤ pos 4) fits_a fits_b fits not_negative_4 at_most_4
+
+  pub widened_from_high : b ≤ℤ a → wrap 32 (a +ℤ wrap 32 (near (wrap 32 (b -ℤ a) *ℤ (t *ℤ pos 4)) 65536)) ≤ℤ a
+  widened_from_high = between_from_high a b (t *ℤ pos 4) fits_a fits_b fits not_negative_4 at_most_4
+
+pub ruleset between_calls = (
+  between_from_low,
+  between_to_high,
+  between_to_low,
+  between_from_high,
+  part_between_from_low,
+  part_between_to_high,
+  part_between_to_low,
+  part_between_from_high,
+  widened_from_low,
+  widened_to_high,
+  widened_to_low,
+  widened_from_high,
+)
 
 -- ---- a 2.14 factor that was widened: the product is rounded as by the factor itself
 
