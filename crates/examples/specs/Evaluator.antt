@@ -58,8 +58,8 @@ lerp_whole start end = fixed_bits end.from_coordinate -ℤ fixed_bits start.from
 abbrev pub lerp_rise : AxisValueMap → AxisValueMap → ℤ
 lerp_rise start end = fixed_bits end.to_coordinate -ℤ fixed_bits start.to_coordinate
 
--- the value at the coordinate on the line through both mappings: the start's coordinate and, of the rise, the share that
--- the part has of the whole, rounded once, half away from zero
+-- the value at the coordinate on the line through both mappings: the start's coordinate and, of the rise, the share
+-- that the part has of the whole, rounded once, half away from zero
 abbrev pub on_line : Fixed → AxisValueMap → AxisValueMap → ℤ
 on_line coordinate start end = fixed_bits start.to_coordinate
     +ℤ rounded_mul_div (lerp_rise start end) (lerp_part coordinate start) (lerp_whole start end)
@@ -94,7 +94,8 @@ pub record IsSegmentEnd (bits : ℤ) (map : List AxisValueMap) (end : ℕ) : Typ
   pub before : AreBelow map end bits
   pub there : bits ≤ℤ fixed_bits (mapping_at map end).from_coordinate
 
--- the coordinate by that mapping: at it, what it is mapped to; else linear from the mapping before, or itself if none is
+-- the coordinate by that mapping: at it, what it is mapped to; else linear from the mapping before, or itself if there
+-- is none
 pub record IsMappedIn (coordinate : Fixed) (map : List AxisValueMap) (end : ℕ) (result : Fixed) : Type 0 where
   pub at : coordinate ≡ (mapping_at map end).from_coordinate → result ≡ (mapping_at map end).to_coordinate
   pub between : coordinate ≢ (mapping_at map end).from_coordinate → 0 < end

@@ -10,7 +10,8 @@ use Rattle.font_types.specs.F2Dot14.{f2dot14_bits, f2dot14_of}
 use Rattle.font_types.specs.FWord.{nearest_unit}
 use Rattle.font_types.specs.F2Dot14.{F2Dot14}
 
--- ---- the scalar of an axis ("Algorithm for interpolation of instance values"; 2.14 raw values, and of the scalar 16.16)
+-- ---- the scalar of an axis ("Algorithm for interpolation of instance values"): coordinates are raw values of 2.14,
+-- and the scalar is one of 16.16
 
 -- the axis is ignored: start, peak and end are out of order, or on both sides of zero, or the peak is zero
 abbrev pub IsIgnored : ℤ → ℤ → ℤ → Type 0
@@ -153,7 +154,8 @@ IsSumThrough regions subtable coordinates set (suc n) sum = (before product : �
 
 -- the exact sum of all columns
 abbrev pub IsSetSum : List ℕ → List ℕ → List F2Dot14 → ℕ → ℤ → Type 0
-IsSetSum regions subtable coordinates set sum = IsSumThrough regions subtable coordinates set (region_index_count subtable) sum
+IsSetSum regions subtable coordinates set sum =
+    IsSumThrough regions subtable coordinates set (region_index_count subtable) sum
 
 -- the set is in the subtable, and so is each of its columns, with a region
 pub record HasSet (regions subtable : List ℕ) (set : ℕ) : Type 0 where

@@ -17,7 +17,8 @@ ghost use Rattle.examples.specs.Variations.{coordinate_bits, IsScalarAlong, IsSc
 ghost use Rattle.examples.specs.Variations.{IsRegionScalar, narrow_width, delta_width, delta_place};
 ghost use Rattle.examples.specs.Variations.{HasDelta, delta_of, HasTerm, IsTerm, IsTermProduct};
 ghost use Rattle.examples.specs.Variations.{IsSumThrough, IsSetSum, HasSet, HasEntry, entry_of};
-ghost use Rattle.examples.specs.Variations.{IsNoVariation, inner_bits, moved, IsAdvance, IsVaried, HasNoVaried};
+ghost use Rattle.examples.specs.Variations.{IsNoVariation, inner_bits, moved, IsAdvance, IsVaried};
+ghost use Rattle.examples.specs.Variations.{HasNoVaried};
 
 use crate::evaluator::ratio;
 use font_types::{F2Dot14, F48Dot16, Fixed, Scalar, UfWord, Uint24};

@@ -1,7 +1,8 @@
 -- Numbers of w bits with f fraction bits, for every f in range: the steps and halves of code, floors by shifts, and the
 -- nearest integer as the floor of half a step more.
 use Rattle.std.proofs.Common.{◌≡◌, ◌∙◌, ap, refl, ℕ, suc, ◌+◌, ◌-◌, ◌*◌, ◌/◌, ◌%◌, ◌^◌, ◌<◌, ◌≤◌, ℤ, pos, negsuc, neg_ℤ}
-use Rattle.std.proofs.Common.{◌+ℤ◌, ◌*ℤ◌, ◌≤ℤ◌, ◌<ℤ◌, arith, pow_pos, div-add-mod', IsTrue, SFits, to_z, of_z, pow-add, mod-lt}
+use Rattle.std.proofs.Common.{◌+ℤ◌, ◌*ℤ◌, ◌≤ℤ◌, ◌<ℤ◌, arith, pow_pos, div-add-mod', IsTrue, SFits, to_z, of_z}
+use Rattle.std.proofs.Common.{pow-add, mod-lt}
 use Rattle.std.proofs.lemmas.Int.{ints, by_lt_z, to_z_pos, to_z-of_z}
 use Rattle.std.proofs.lemmas.Bool.Decides.{nat_tests}
 use Rattle.std.proofs.lemmas.Nat.{one_shl}
@@ -65,7 +66,8 @@ pub nearest_kept : (w : Width) (m f : ℕ) (x s r : ℤ) → m ≡ 2 ^ bits w �
     → s ≡ wrap (bits w) (x +ℤ to_z w (1 * 2 ^ (f - 1) % m)) → IsFloor f s r → FitsBits (bits w) (x +ℤ pos (2 ^ f / 2))
     → (r ≤ℤ (x +ℤ pos (2 ^ f / 2))) × ((x +ℤ pos (2 ^ f / 2)) <ℤ (r +ℤ pos (2 ^ f)))
 nearest_kept w m f x s r all many few is floor fits =
-    let same = rw (half_is w m f all many few) at is ∙ wrap-fits (bits w) (x +ℤ pos (2 ^ f / 2)) (bits_positive w) fits in
+    let same = rw (half_is w m f all many few) at is
+    ∙ wrap-fits (bits w) (x +ℤ pos (2 ^ f / 2)) (bits_positive w) fits in
     (rw same at floor.low, rw same at floor.high)
 
 -- ---- floors by shifts
