@@ -298,6 +298,7 @@ fn sums_of_deltas() {
         (&[min], square),
         (&[min, min], 2 * square),
         (&[min, max], 1 << 31),
+        (&[min, min, max], 4611686020574871552),
         (&[max, max, down, down], -2 * square),
         (&[min, min, up], 2 * square - 1),
         (&[min; 3], 3 * square),
@@ -319,20 +320,32 @@ fn sums_of_deltas() {
         other.add(Fixed::EPSILON, 1);
         assert_ne!(sum, other);
     }
+    let wrapped = delta_sum(&[min; 3]).to_bits();
+    assert_eq!(wrapped, -0x4000_0000_0000_0000);
+    assert_eq!(checked_delta_sum(&[min; 3]), None);
+    let quarters = [("1", 100), ("0.5", -250), ("0.25", 37)];
+    let quarters = quarters.map(|(scalar, delta)| (scalar.parse().unwrap(), delta));
+    assert_eq!(delta_sum(&quarters).to_string(), "-15.75");
+    let found = [&quarters[..], &[]].map(|terms| vary(FWord::new(100), terms));
+    assert_eq!(found, [Some(5521408), Some(6553600)]);
 }
 
 // Sums in units of 2^-16 of a font unit, or of a raw value, for each type that has the base.
 #[test]
 fn apply_delta() {
     for (base, delta, moved) in [
-        (100, 0x2_8000, 0x66_8000),
+        (100, 163840, 6717440),
+        (-100, -16384, -6569984),
+        (1000, -98304, 65437696),
+        (32767, i64::MAX, 9223372039002193919),
+        (0x1_8000, 65536, 6442516480),
+        (0x2000, -32768, 536838144),
+        (i32::MIN, i64::MIN, -9223512774343131136),
         (-1, 1, -0xFFFF),
         (0xFFFF, -1, 0xFFFE_FFFF),
-        (0x7FFF, i64::MAX, 0x8000_0000_7FFE_FFFF),
         (0xFFFF, i64::MAX, 0x8000_0000_FFFE_FFFF),
         (-0x8000, i64::MIN, -0x8000_0000_8000_0000),
         (i32::MAX, i64::MAX, 0x8000_7FFF_FFFE_FFFF),
-        (i32::MIN, i64::MIN, -0x8000_8000_0000_0000),
     ] {
         let (x, short) = (F48Dot16::from_bits(delta), i16::try_from(base).ok());
         let found = [

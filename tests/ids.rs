@@ -48,7 +48,8 @@ fn glyph_ids() {
 
 #[test]
 fn compare_glyph_ids_of_different_widths() {
-    let rows: [(u32, u16, Ordering); 6] = [
+    let rows: [(u32, u16, Ordering); 7] = [
+        (65536, 65535, Greater),
         (6, 5, Greater),
         (5, 6, Less),
         (6, 6, Equal),
@@ -79,6 +80,7 @@ fn font_units() {
         let texts = format!("{n} {word} FWord({n}) UfWord({word})");
         assert_eq!(format!("{x} {y} {x:?} {y:?}"), texts);
     }
+    assert_eq!(UfWord::new(40000).to_fixed().to_bits(), -1673527296);
     assert!(FWord::new(-1) < FWord::default() && UfWord::default() < UfWord::new(0xFFFF));
     let found = format!("{:+} {:>3}", FWord::new(5), UfWord::new(7));
     assert_eq!(found, "+5   7");
@@ -114,6 +116,7 @@ fn name_ids() {
         (32767, 0, Some(32767)),
         (32767, 1, None),
         (0, 32768, None),
+        (40000, 0, None),
         (65535, 0, None),
         (65535, 2, None),
     ] {
@@ -251,7 +254,7 @@ fn compatible_versions() {
     }
     // A minor number above 9 counts as 9 in the packed form, and not in a pair.
     let packed = Version16Dot16::new(1, 9);
-    assert!(packed.compatible((1, 10)) && packed.compatible((1, 65535)));
+    assert!(packed.compatible((1, 12)) && packed.compatible((1, 65535)));
     let [nine, twelve] = [9, 12].map(|minor| MajorMinor::new(1, minor));
     assert!(twelve.compatible((1, 11)) && !nine.compatible((1, 10)));
     assert!(200u16.compatible(3) && 3u16.compatible(3));

@@ -1,6 +1,6 @@
-//! JSON forms and their errors, also if memory fails, and sums of deltas of the specification.
+//! JSON forms and their errors, also if memory fails. Sums of deltas are in `tests/arithmetic.rs`,
+//! which cargo runs.
 
-mod deltas;
 mod errors;
 mod fixed;
 mod memory;

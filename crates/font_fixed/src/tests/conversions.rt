@@ -1,5 +1,4 @@
-//! Whether the definitions of conversions and of deltas give the values of the specification and of
-//! font-types.
+//! Whether the definitions of conversions give the values of the specification and of font-types.
 
 use crate::*;
 
@@ -104,14 +103,4 @@ fn from_others(rt: HostRuntime) {
         let x = F2Dot30::from_fixed(Fixed::from_bits(bits));
         assert!(rt; x == F2Dot30::from_bits(long), "from_fixed of {bits}");
     }
-}
-
-#[test]
-fn deltas(rt: HostRuntime) {
-    let moved = [
-        Fixed::from_bits(0x1_8000).apply_delta(F48Dot16::from_bits(65536)),
-        F2Dot14::from_bits(0x2000).apply_delta(F48Dot16::from_bits(-32768)),
-        Fixed::MIN.apply_delta(F48Dot16::MIN),
-    ];
-    assert!(rt; moved == [6442516480, 536838144, -9223512774343131136]);
 }

@@ -1,30 +1,7 @@
-//! Whether ids of different widths compare as the specification says, and what no clause says:
-//! texts.
+//! What no clause says: texts of glyph ids, and of the error.
 
 use crate::{GlyphId, GlyphId16, GlyphId24};
-use std::cmp::Ordering;
 use std::test::Fail;
-
-#[test]
-fn compared_across_widths(rt: HostRuntime) {
-    for &(wide, narrow, order) in &[
-        (65536, 65535, Ordering::Greater),
-        (65535, 65535, Ordering::Equal),
-        (65536, 0, Ordering::Greater),
-        (3, 4, Ordering::Less),
-    ] {
-        let (id, id16) = (GlyphId::new(wide), GlyphId16::new(narrow));
-        let equal = order == Ordering::Equal;
-        assert!(rt;
-            id.cmp_gid16(&id16) == order && id16.cmp_gid(&id) == order.reverse(),
-            "order of {wide} and {narrow}"
-        );
-        assert!(rt;
-            id.eq_gid16(&id16) == equal && id16.eq_gid(&id) == equal,
-            "{wide} and {narrow}"
-        );
-    }
-}
 
 #[test]
 fn conversion_error(rt: HostRuntime) -> Result<(), Fail> {

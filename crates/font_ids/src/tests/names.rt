@@ -85,19 +85,3 @@ fn predefined(rt: HostRuntime) -> Result<(), Fail> {
     }
     Ok(())
 }
-
-#[test]
-fn checked_add(rt: HostRuntime) {
-    for &(number, more, sum) in &[
-        (40000, 0, None),
-        (32766, 1, Some(32767)),
-        (32767, 1, None),
-        (1, 65535, None),
-        (0, 0, Some(0)),
-    ] {
-        assert!(rt;
-            NameId::new(number).checked_add(more) == sum.map(NameId::new),
-            "{number} + {more}"
-        );
-    }
-}

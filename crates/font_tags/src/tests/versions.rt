@@ -1,7 +1,7 @@
 //! Whether versions and dates have the numbers of OpenType and of font-types, and what no clause
 //! says: texts of `Debug`.
 
-use crate::{Compatible, LongDateTime, MajorMinor, Version16Dot16};
+use crate::{LongDateTime, MajorMinor, Version16Dot16};
 use font_base::{FixedSize, Scalar};
 use std::test::Fail;
 
@@ -61,26 +61,6 @@ fn major_minor_constants(rt: HostRuntime) {
     assert!(rt;
         default == MajorMinor::new(0, 0) && MajorMinor::VERSION_1_3 < MajorMinor::VERSION_2_0
     );
-}
-
-#[test]
-fn version16dot16_compatible(rt: HostRuntime) {
-    for &(major, minor, other, compatible) in &[
-        (1, 9, (1, 9), true),
-        (1, 9, (1, 1), true),
-        (1, 9, (1, 12), true),
-        (1, 8, (1, 9), false),
-        (1, 9, (2, 0), false),
-        (2, 0, (1, 0), false),
-        (3, 0, (2, 0), false),
-    ] {
-        let version = Version16Dot16::new(major, minor);
-        let packed = version.compatible(Version16Dot16::new(other.0, other.1));
-        assert!(rt;
-            version.compatible(other) == compatible && packed == compatible,
-            "{version} for {other:?}"
-        );
-    }
 }
 
 #[test]
