@@ -7,8 +7,8 @@ use Rattle.font_types.specs.Operations.{IsProduct, IsQuotient}
 use Rattle.font_types.specs.Fixed.{fixed_bits}
 use Rattle.font_types.specs.Fixed.{Fixed}
 use Rattle.font_types.specs.F2Dot14.{f2dot14_bits, f2dot14_of}
-use Rattle.font_types.specs.FWord.{nearest_unit}
 use Rattle.font_types.specs.F2Dot14.{F2Dot14}
+use Rattle.font_types.specs.FWord.{nearest_unit}
 
 -- ---- the scalar of an axis ("Algorithm for interpolation of instance values"): coordinates are raw values of 2.14,
 -- and the scalar is one of 16.16
@@ -17,12 +17,12 @@ use Rattle.font_types.specs.F2Dot14.{F2Dot14}
 abbrev pub IsIgnored : ℤ → ℤ → ℤ → Type 0
 IsIgnored start peak end = (peak <ℤ start) ⊎ ((end <ℤ peak) ⊎ (((start <ℤ pos 0) × (pos 0 <ℤ end)) ⊎ (peak ≡ pos 0)))
 
--- the coordinate is at the start or the end of the region, or beyond
+-- the coordinate is at the start or the end of the region, where the part of the way is 0, or beyond
 abbrev pub IsOutOfRange : ℤ → ℤ → ℤ → Type 0
 IsOutOfRange start end coordinate = (coordinate ≤ℤ start) ⊎ (end ≤ℤ coordinate)
 
 -- 1 if the axis is ignored, and at the peak; else 0 if the coordinate is out of range; else the part of the way from
--- the start up to the peak, or from the end down to it, rounded
+-- the start up to the peak, or from the end down to it, rounded to 16.16 (OpenType sets no precision)
 pub record IsAxisScalar (start peak end coordinate scalar : ℤ) : Type 0 where
   pub ignored : IsIgnored start peak end → scalar ≡ pos 65536
   pub at_peak : coordinate ≡ peak → scalar ≡ pos 65536
