@@ -6,3 +6,4 @@ pub mod Dumper
 pub mod Start
 pub mod Packed
 pub mod Variations
+pub mod Hinting

@@ -7,12 +7,14 @@
 //!   variation stores.
 //! - `packed`: packed deltas, as in `gvar` and `cvar`.
 //! - `scaler`: outlines through a chain of matrices.
+//! - `hinting`: extents of outlines, and positions between two others.
 //! - `linter`: tags, names, versions and the records of a table directory.
 //! - `dumper`: numbers in columns, raw values in hexadecimal, JSON.
 #![tactic(auto, using(font_types::proofs::Callers::calls))]
 
 pub mod dumper;
 pub mod evaluator;
+pub mod hinting;
 pub mod linter;
 pub mod packed;
 pub mod reader;

@@ -3,6 +3,7 @@
 
 mod dumper;
 mod evaluator;
+mod hinting;
 mod linter;
 mod packed;
 mod reader;

@@ -1,7 +1,7 @@
 //! A first caller.
 
-use crate::start::{advance_at, line_width};
-use font_types::{Fixed, UfWord};
+use crate::start::{advance_at, line_width, snap_stem};
+use font_types::{F26Dot6, Fixed, UfWord};
 
 #[test]
 fn advances(rt: HostRuntime) {
@@ -15,4 +15,17 @@ fn advances(rt: HostRuntime) {
     let advances = [0x1_8000, -0x8000, i32::MAX].map(Fixed::from_bits);
     assert!(rt; line_width(&advances) == Fixed::from_bits(-0x7FFF_0001));
     assert!(rt; line_width(&[]) == Fixed::ZERO);
+}
+
+#[test]
+fn stems(rt: HostRuntime) {
+    let snapped = [
+        snap_stem(F26Dot6::from_bits(-200)),
+        snap_stem(F26Dot6::from_bits(31)),
+        snap_stem(F26Dot6::from_bits(32)),
+        snap_stem(F26Dot6::from_bits(95)),
+        snap_stem(F26Dot6::from_bits(96)),
+        snap_stem(F26Dot6::from_bits(i32::MAX - 32)),
+    ];
+    assert!(rt; snapped == [64, 64, 64, 64, 128, 0x7FFF_FFC0].map(F26Dot6::from_bits));
 }

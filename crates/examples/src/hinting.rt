@@ -1,0 +1,163 @@
+//! A hinter: the extents of outlines, positions between two others, a setting, and names.
+
+ghost use Rattle.std.specs.Prelude.{◌≡◌, ◌≢◌, ◌↔◌, ◌<◌, ◌++◌, pos, ◌+ℤ◌, ◌-ℤ◌, ◌*ℤ◌, ◌≤ℤ◌};
+ghost use Rattle.std.specs.Prelude.{ℕ, List, length, Some, IsTrue, IsSome, IfSome};
+ghost use lib.Chars.{codes};
+ghost use Rattle.font_types.specs.Fixed;
+ghost use Rattle.font_types.specs.Fixed.{Fixed, fixed_bits};
+ghost use Rattle.font_types.specs.F2Dot14;
+ghost use Rattle.font_types.specs.F2Dot14.{f2dot14_bits};
+ghost use Rattle.font_types.specs.NameId.{name_number};
+ghost use Rattle.font_types.specs.FixedMatrix.{wrapped_sum, wrapped_product};
+ghost use Rattle.font_types.specs.Operations.{IsMulDiv, ReadsAs};
+ghost use Rattle.font_types.specs.Wrap.{FitsBits, wrap};
+ghost use Rattle.examples.specs.Hinting.{IsLeast, IsGreatest};
+
+use font_types::{BoundingBox, F2Dot14, Fixed, NameId};
+
+// ---- extents
+
+/// Returns the smallest coordinate.
+pub fn least(coordinates: &[Fixed]) -> Fixed
+    requires { 0 < length coordinates.now }
+    ensures { IsLeast coordinates.now result }
+{
+    let mut least = coordinates[0];
+    for x in coordinates {
+        least = least.min(*x);
+    }
+    least
+}
+
+/// Returns the largest coordinate.
+pub fn greatest(coordinates: &[Fixed]) -> Fixed
+    requires { 0 < length coordinates.now }
+    ensures { IsGreatest coordinates.now result }
+{
+    let mut greatest = coordinates[0];
+    for x in coordinates {
+        greatest = greatest.max(*x);
+    }
+    greatest
+}
+
+/// Returns the box of an outline, by the coordinates of its points.
+///
+/// Each edge has its loop, and its clause: four edges in one loop stay open.
+pub fn bounds(xs: &[Fixed], ys: &[Fixed]) -> BoundingBox<Fixed>
+    requires xs { 0 < length xs.now }
+    requires ys { 0 < length ys.now }
+    ensures left { IsLeast xs.now result.x_min }
+    ensures right { IsGreatest xs.now result.x_max }
+    ensures bottom { IsLeast ys.now result.y_min }
+    ensures top { IsGreatest ys.now result.y_max }
+{
+    BoundingBox {
+        x_min: least(xs),
+        y_min: least(ys),
+        x_max: greatest(xs),
+        y_max: greatest(ys),
+    }
+}
+
+// ---- positions between two others
+
+/// Interpolates between the values of two masters, whose difference has to fit.
+pub fn interpolate(a: Fixed, b: Fixed, t: F2Dot14) -> Fixed
+    requires width { FitsBits 32 (fixed_bits b -ℤ fixed_bits a) }
+    requires part { (pos 0 ≤ℤ f2dot14_bits t) × (f2dot14_bits t ≤ℤ f2dot14_bits F2Dot14.ONE) }
+    ensures value { fixed_bits result ≡ wrapped_sum (fixed_bits a)
+        (wrapped_product (wrap 32 (fixed_bits b -ℤ fixed_bits a)) (f2dot14_bits t *ℤ pos 4)) }
+    ensures low { fixed_bits a ≤ℤ fixed_bits b → fixed_bits a ≤ℤ fixed_bits result }
+    ensures high { fixed_bits a ≤ℤ fixed_bits b → fixed_bits result ≤ℤ fixed_bits b }
+    ensures fall_low { fixed_bits b ≤ℤ fixed_bits a → fixed_bits b ≤ℤ fixed_bits result }
+    ensures fall_high { fixed_bits b ≤ℤ fixed_bits a → fixed_bits result ≤ℤ fixed_bits a }
+{
+    a + (b - a) * t.to_fixed()
+}
+
+// A sum that fits.
+fn moved(number: Fixed, distance: Fixed) -> Fixed
+    requires { FitsBits 32 (fixed_bits number +ℤ fixed_bits distance) }
+    ensures { fixed_bits result ≡ (fixed_bits number +ℤ fixed_bits distance) }
+{
+    number + distance
+}
+
+// A part of a distance, from 0 to the whole.
+fn part_of(distance: Fixed, part: Fixed, whole: Fixed) -> Fixed
+    requires distance { pos 0 ≤ℤ fixed_bits distance }
+    requires part { (pos 0 ≤ℤ fixed_bits part) × (fixed_bits part ≤ℤ fixed_bits whole) }
+    requires whole { whole ≢ Fixed.ZERO }
+    ensures value { IsMulDiv 32 (fixed_bits distance) (fixed_bits part) (fixed_bits whole)
+        (fixed_bits result) }
+    ensures low { pos 0 ≤ℤ fixed_bits result }
+    ensures high { fixed_bits result ≤ℤ fixed_bits distance }
+{
+    distance.mul_div(part, whole)
+}
+
+/// Moves a point between two touched points, as `IUP` does: by its share of their distance.
+///
+/// `moved` requires that the sum itself fits: a bound on its parts is not enough.
+pub fn between(low: Fixed, distance: Fixed, part: Fixed, whole: Fixed) -> Fixed
+    requires distance { pos 0 ≤ℤ fixed_bits distance }
+    requires end { FitsBits 32 (fixed_bits low +ℤ fixed_bits distance) }
+    requires part { (pos 0 ≤ℤ fixed_bits part) × (fixed_bits part ≤ℤ fixed_bits whole) }
+    requires whole { whole ≢ Fixed.ZERO }
+    ensures value { IsMulDiv 32 (fixed_bits distance) (fixed_bits part) (fixed_bits whole)
+        (fixed_bits result -ℤ fixed_bits low) }
+    ensures low { fixed_bits low ≤ℤ fixed_bits result }
+    ensures high { fixed_bits result ≤ℤ (fixed_bits low +ℤ fixed_bits distance) }
+{
+    moved(low, part_of(distance, part, whole))
+}
+
+// ---- settings
+
+// The text after `scale=`.
+fn after_scale(text: &str) -> Option<&str>
+    ensures rest { IfSome result (λ rest. text.now ≡ codes "scale=" ++ rest.now) }
+    ensures some { (rest : List ℕ) → text.now ≡ codes "scale=" ++ rest → IsSome result }
+    ensures back { (rest : List ℕ) → text.now ≡ codes "scale=" ++ rest
+        → IfSome result (λ found. found.now ≡ rest) }
+{
+    text.strip_prefix("scale=")
+}
+
+// The number of a text.
+fn number_of(text: &str) -> Option<Fixed>
+    ensures read { IfSome result (λ x. ReadsAs 32 16 text.now (fixed_bits x)) }
+    ensures back { (x : Fixed) → FitsBits 32 (fixed_bits x)
+        → ReadsAs 32 16 text.now (fixed_bits x) → result ≡ Some x }
+{
+    Fixed::from_decimal(text).ok()
+}
+
+/// Reads a setting such as `scale=1.5`.
+pub fn read_scale(text: &str) -> Option<Fixed>
+    ensures read { IfSome result (λ x. (rest : List ℕ) × (text.now ≡ codes "scale=" ++ rest)
+        × ReadsAs 32 16 rest (fixed_bits x)) }
+    ensures back { (rest : List ℕ) (x : Fixed) → text.now ≡ codes "scale=" ++ rest
+        → FitsBits 32 (fixed_bits x) → ReadsAs 32 16 rest (fixed_bits x) → result ≡ Some x }
+{
+    number_of(after_scale(text)?)
+}
+
+// ---- `name`
+
+/// A record of `name`, without its string.
+#[derive(Clone, Copy)]
+pub struct NameRecord {
+    pub platform: u16,
+    pub language: u16,
+    pub name: NameId,
+}
+
+/// Returns `true` if a record has the name in American English for Windows.
+pub fn is_windows_name(entry: NameRecord, name: NameId) -> bool
+    ensures { IsTrue result ↔ ((entry.platform ≡ 3) × (entry.language ≡ 0x409)
+        × (name_number entry.name ≡ name_number name)) }
+{
+    entry.platform == 3 && entry.language == 0x409 && entry.name == name
+}

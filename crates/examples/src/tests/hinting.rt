@@ -1,0 +1,80 @@
+//! A hinter.
+
+use crate::hinting::{NameRecord, between, bounds, interpolate, is_windows_name, read_scale};
+use font_types::{BoundingBox, F2Dot14, Fixed, NameId};
+
+#[test]
+fn extents(rt: HostRuntime) {
+    let outline = bounds(
+        &[50, -20, 400].map(Fixed::from_i32),
+        &[0, 700, -10].map(Fixed::from_i32),
+    );
+    let edges = [-20, -10, 400, 700].map(Fixed::from_i32);
+    assert!(rt; [outline.x_min, outline.y_min, outline.x_max, outline.y_max] == edges);
+    let point = [Fixed::ONE];
+    let one = Fixed::ONE;
+    assert!(rt;
+        bounds(&point, &point)
+            == BoundingBox {
+                x_min: one,
+                y_min: one,
+                x_max: one,
+                y_max: one
+            }
+    );
+}
+
+#[test]
+fn positions(rt: HostRuntime) {
+    let (light, bold) = (Fixed::from_bits(0x32_0000), Fixed::from_bits(0x96_0000));
+    let quarter = F2Dot14::from_bits(0x1000);
+    let found = [
+        interpolate(light, bold, F2Dot14::ZERO),
+        interpolate(light, bold, quarter),
+        interpolate(light, bold, F2Dot14::ONE),
+        interpolate(bold, light, quarter),
+    ];
+    assert!(rt; found == [0x32_0000, 0x4B_0000, 0x96_0000, 0x7D_0000].map(Fixed::from_bits));
+    let (low, distance) = (Fixed::from_bits(0x0A_0000), Fixed::from_bits(0x1E_0000));
+    let third = between(
+        low,
+        distance,
+        Fixed::from_bits(0x1_0000),
+        Fixed::from_bits(0x3_0000),
+    );
+    assert!(rt; third == Fixed::from_bits(0x14_0000));
+}
+
+#[test]
+fn settings(rt: HostRuntime) {
+    for &(text, bits) in &[
+        ("scale=1.5", Some(0x1_8000)),
+        ("scale=-0.25", Some(-0x4000)),
+        ("scale=", None),
+        ("scale=40000", None),
+        ("size=1.5", None),
+        ("scale", None),
+    ] {
+        assert!(rt; read_scale(text) == bits.map(Fixed::from_bits), "{text}");
+    }
+}
+
+#[test]
+fn names(rt: HostRuntime) {
+    for &(platform, language, name, is) in &[
+        (3, 0x409, 1, true),
+        (1, 0x409, 1, false),
+        (3, 0x407, 1, false),
+        (3, 0x409, 2, false),
+    ] {
+        let entry = NameRecord {
+            platform,
+            language,
+            name: NameId::new(name),
+        };
+        assert!(rt;
+            is_windows_name(entry, NameId::FAMILY_NAME) == is,
+            "{platform} {language} {name}"
+        );
+    }
+}
