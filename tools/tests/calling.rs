@@ -12,7 +12,7 @@ fn calling_shows_files_of_the_examples() {
         let (_, shown) = block.split_once('\n').unwrap();
         assert_eq!(shown, text(&format!("crates/examples/{file}")), "{file}");
     }
-    assert_eq!(links.count(), 3);
+    assert_eq!(links.count(), 2);
 }
 
 /// Returns a text without white space, so that its layout does not count.
