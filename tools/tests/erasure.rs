@@ -16,11 +16,12 @@ const CHANGES: [(&str, &str); 6] = [
 ];
 
 /// Left out, as are clauses, ghost items, attributes of proofs, and the results of `clone`.
-const LEFT_OUT: [&str; 15] = [
+const LEFT_OUT: [&str; 16] = [
     "#[cfg(test)] mod tests;",
     "mod facts;",
     "mod json;",
     "pub mod dumper;",
+    "pub mod hinting;",
     "pub mod linter;",
     "pub mod packed;",
     "pub mod scaler;",

@@ -9,6 +9,7 @@
 //!   variation stores.
 //! - `packed`: packed deltas, as in `gvar` and `cvar`.
 //! - `scaler`: outlines through a chain of matrices.
+//! - `hinting`: extents of outlines, and positions between two others.
 //! - `linter`: tags, names, versions and the records of a table directory.
 //! - `dumper`: numbers in columns, raw values in hexadecimal, JSON.
 

@@ -24,7 +24,7 @@ const ABOVE: [(&str, Target, &[&str]); 3] = [
     (
         "examples",
         Target::Tests,
-        &["dumper", "linter", "packed", "scaler", "start"],
+        &["dumper", "hinting", "linter", "packed", "scaler", "start"],
     ),
 ];
 
