@@ -1,19 +1,20 @@
 //! A hinter: the extents of outlines, positions between two others, a setting, and names.
 
-ghost use Rattle.std.specs.Prelude.{◌≡◌, ◌≢◌, ◌↔◌, ◌<◌, ◌++◌, pos, ◌+ℤ◌, ◌-ℤ◌, ◌*ℤ◌, ◌≤ℤ◌};
-ghost use Rattle.std.specs.Prelude.{ℕ, List, length, Some, IsTrue, IsSome, IfSome};
+ghost use Rattle.std.specs.Prelude.{◌≡◌, ◌≢◌, ◌↔◌, ◌<◌, ◌++◌, pos, ◌+ℤ◌, ◌-ℤ◌, ◌*ℤ◌};
+ghost use Rattle.std.specs.Prelude.{◌≤ℤ◌, ◌<ℤ◌, ℕ, List, length, Some, IsTrue, IsSome, IfSome};
 ghost use lib.Chars.{codes};
 ghost use Rattle.font_types.specs.Fixed;
 ghost use Rattle.font_types.specs.Fixed.{Fixed, fixed_bits};
+ghost use Rattle.font_types.specs.F26Dot6.{f26dot6_bits};
 ghost use Rattle.font_types.specs.F2Dot14;
 ghost use Rattle.font_types.specs.F2Dot14.{f2dot14_bits};
 ghost use Rattle.font_types.specs.NameId.{name_number};
 ghost use Rattle.font_types.specs.FixedMatrix.{wrapped_sum, wrapped_product};
-ghost use Rattle.font_types.specs.Operations.{IsMulDiv, ReadsAs};
+ghost use Rattle.font_types.specs.Operations.{IsIntegral, IsMulDiv, ReadsAs};
 ghost use Rattle.font_types.specs.Wrap.{FitsBits, wrap};
 ghost use Rattle.examples.specs.Hinting.{IsLeast, IsGreatest};
 
-use font_types::{BoundingBox, F2Dot14, Fixed, NameId};
+use font_types::{BoundingBox, F2Dot14, F26Dot6, Fixed, NameId};
 
 // ---- extents
 
@@ -58,6 +59,21 @@ pub fn bounds(xs: &[Fixed], ys: &[Fixed]) -> BoundingBox<Fixed>
         x_max: greatest(xs),
         y_max: greatest(ys),
     }
+}
+
+// ---- the grid
+
+/// Returns the first grid line above a coordinate in pixels.
+///
+/// The integer and the constant that is added to it take the ruleset `integers`.
+#[tactic(auto, using(font_types::proofs::Callers::integers))]
+pub fn line_above(y: F26Dot6) -> F26Dot6
+    requires { FitsBits 32 (f26dot6_bits y +ℤ pos 64) }
+    ensures whole { IsIntegral 6 (f26dot6_bits result) }
+    ensures above { f26dot6_bits y <ℤ f26dot6_bits result }
+    ensures near { f26dot6_bits result ≤ℤ (f26dot6_bits y +ℤ pos 64) }
+{
+    y.floor() + F26Dot6::ONE
 }
 
 // ---- positions between two others

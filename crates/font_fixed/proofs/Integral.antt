@@ -1,11 +1,13 @@
 -- Raw values of integers: constants, sums and differences, and what wraps.
 use Rattle.std.proofs.Common.{◌≡◌, ◌∙◌, sym, ap, ℕ, ◌+◌, ◌-◌, ◌*◌, ◌/◌, ◌%◌, ◌^◌, ◌<◌, ℤ, pos, neg_ℤ, ◌+ℤ◌, ◌-ℤ◌, ◌*ℤ◌}
-use Rattle.std.proofs.Common.{arith, div-add-mod', pow-add}
+use Rattle.std.proofs.Common.{arith, div-add-mod', pow-add, Bool, true, false, cond}
 use Rattle.std.proofs.lemmas.Int.{ints}
 use Rattle.font_base.specs.Integers.{sum-times, product-times}
 use Rattle.font_base.specs.Wrap.{wrap}
 use Rattle.font_base.specs.Wrap.Laws.{wrap_is}
 use Rattle.font_decimal.proofs.Integers.{neg-times}
+use Rattle.font_fixed.specs.declared.fixed_i32.FixedI32.{FixedI32}
+use Rattle.font_fixed.specs.FixedI32.{bits_of}
 use Rattle.font_fixed.specs.Operations.{IsIntegral}
 
 module _ (f : ℕ) where
@@ -53,4 +55,12 @@ module _ (f : ℕ) where
   wrapped_difference_is_integral w a b r is few is_a is_b =
       rw is (wrapped_is_integral w (a -ℤ b) few (difference_is_integral a b is_a is_b))
 
+  -- the greater of two numbers, or the lesser
+  pub chosen_is_integral : {F : ℕ} (first : Bool) (a b r : FixedI32 F) → r ≡ cond first a b → IsIntegral f (bits_of a)
+      → IsIntegral f (bits_of b) → IsIntegral f (bits_of r)
+  chosen_is_integral true a b r is is_a is_b = rw is is_a
+  chosen_is_integral false a b r is is_a is_b = rw is is_b
+
 pub ruleset integral_calls = (constant_is_integral, wrapped_sum_is_integral, wrapped_difference_is_integral)
+
+pub ruleset integral_rules = (integral_calls, chosen_is_integral)

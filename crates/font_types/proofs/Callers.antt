@@ -1,8 +1,8 @@
 -- Lemmas of this crate and those below for its callers: the ruleset `calls`, which a crate names once at its head, and
 -- lemmas for answers.
 use Rattle.font_base.proofs.ScalarCalls.{scalar_calls}
-use Rattle.font_fixed.proofs.Calls.{calls_16, calls_64}
-use Rattle.font_fixed.proofs.Integral.{integral_calls}
+use Rattle.font_fixed.proofs.Calls.{calls_16, calls_32, calls_64}
+use Rattle.font_fixed.proofs.Integral.{integral_calls, integral_rules}
 use Rattle.font_fixed.proofs.NarrowCalls.{narrow_calls, quarter_neg_one}
 use Rattle.font_tags.proofs.TagLaws.{tag_calls}
 use Rattle.font_tags.proofs.VersionLaws.{compatible_calls}
@@ -65,8 +65,11 @@ pub ruleset calls = (
   text_calls,
 )
 
--- for a number between two others, `a + (b - a) * t`
+-- for the value of `a + (b - a) * t`, as one formula
 pub ruleset lerps = (lerp_calls)
+
+-- for `IsIntegral` of the greater of two integers, or of a sum with a constant
+pub ruleset integers = (integral_rules, calls_32)
 
 -- for an exact sum of 48.16
 pub ruleset exact_sums = (exact_sum_calls)

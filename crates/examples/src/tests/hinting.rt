@@ -1,7 +1,9 @@
 //! A hinter.
 
-use crate::hinting::{NameRecord, between, bounds, interpolate, is_windows_name, read_scale};
-use font_types::{BoundingBox, F2Dot14, Fixed, NameId};
+use crate::hinting::{
+    NameRecord, between, bounds, interpolate, is_windows_name, line_above, read_scale,
+};
+use font_types::{BoundingBox, F2Dot14, F26Dot6, Fixed, NameId};
 
 #[test]
 fn extents(rt: HostRuntime) {
@@ -22,6 +24,17 @@ fn extents(rt: HostRuntime) {
                 y_max: one
             }
     );
+}
+
+#[test]
+fn lines_of_the_grid(rt: HostRuntime) {
+    let lines = [
+        line_above(F26Dot6::from_bits(-1)),
+        line_above(F26Dot6::from_bits(0)),
+        line_above(F26Dot6::from_bits(63)),
+        line_above(F26Dot6::from_bits(64)),
+    ];
+    assert!(rt; lines == [0, 64, 64, 128].map(F26Dot6::from_bits));
 }
 
 #[test]
