@@ -8,13 +8,14 @@ ghost use Rattle.font_types.specs.Fixed.{Fixed, fixed_bits};
 ghost use Rattle.font_types.specs.F26Dot6.{f26dot6_bits};
 ghost use Rattle.font_types.specs.F2Dot14;
 ghost use Rattle.font_types.specs.F2Dot14.{f2dot14_bits};
+ghost use Rattle.font_types.specs.FWord.{fword_number};
 ghost use Rattle.font_types.specs.NameId.{name_number};
 ghost use Rattle.font_types.specs.FixedMatrix.{wrapped_sum, wrapped_product};
 ghost use Rattle.font_types.specs.Operations.{IsIntegral, IsMulDiv, ReadsAs};
 ghost use Rattle.font_types.specs.Wrap.{FitsBits, wrap};
 ghost use Rattle.examples.specs.Hinting.{IsLeast, IsGreatest};
 
-use font_types::{BoundingBox, F2Dot14, F26Dot6, Fixed, NameId};
+use font_types::{BoundingBox, F2Dot14, F26Dot6, FWord, Fixed, NameId};
 
 // ---- extents
 
@@ -90,6 +91,15 @@ pub fn interpolate(a: Fixed, b: Fixed, t: F2Dot14) -> Fixed
     ensures fall_high { fixed_bits b ≤ℤ fixed_bits a → fixed_bits result ≤ℤ fixed_bits a }
 {
     a + (b - a) * t.to_fixed()
+}
+
+/// Returns a distance in font units times a factor from 0 to 1, which is exact.
+pub fn scaled_units(distance: FWord, factor: F2Dot14) -> Fixed
+    requires { (pos 0 ≤ℤ f2dot14_bits factor)
+        × (f2dot14_bits factor ≤ℤ f2dot14_bits F2Dot14.ONE) }
+    ensures { fixed_bits result ≡ (fword_number distance *ℤ (f2dot14_bits factor *ℤ pos 4)) }
+{
+    distance.to_fixed() * factor.to_fixed()
 }
 
 // A sum that fits.

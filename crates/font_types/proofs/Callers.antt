@@ -11,7 +11,7 @@ use Rattle.font_types.proofs.Searches.{search_calls}
 use Rattle.font_types.proofs.SumCalls.{sum_calls_from, sum_calls_16, sum_calls_32, delta_sum_calls, exact_sum_calls}
 use Rattle.font_types.proofs.StoredBytes.{stored_calls}
 use Rattle.font_types.proofs.ShortProducts.{short_product_calls}
-use Rattle.font_types.proofs.Parts.{part_calls, between_calls, lerp_calls}
+use Rattle.font_types.proofs.Parts.{part_calls, unit_calls, between_calls, lerp_calls}
 use Rattle.font_types.proofs.ArrayNumbers.{array_number_calls}
 use Rattle.font_types.proofs.Below.{below_calls, text_calls}
 pub use Rattle.font_base.proofs.ScalarCalls.{absent, nowhere, rises_by}
@@ -60,6 +60,7 @@ pub ruleset calls = (
   shortest_is,
   array_number_calls,
   part_calls,
+  unit_calls,
   between_calls,
   below_calls,
   text_calls,

@@ -1,7 +1,7 @@
 -- Products of `Fixed` by a part of a whole, a number from 0 to 1, numbers between two others, and products by a widened
 -- 2.14 factor.
 use Rattle.std.proofs.Common.{◌≡◌, ◌∙◌, sym, ap, lit<, arith, ℕ, ◌+◌, ◌-◌, ℤ, pos, negsuc, ◌+ℤ◌, ◌-ℤ◌, ◌*ℤ◌, ◌≤ℤ◌}
-use Rattle.std.proofs.Common.{w32, SFits}
+use Rattle.std.proofs.Common.{w16, w32, SFits}
 use Rattle.std.proofs.lemmas.Int.{ints}
 use Rattle.std.proofs.Math.IntN.{*ℤ_comm}
 use Rattle.font_base.specs.Integers.{product-times, sum-times}
@@ -139,6 +139,42 @@ pub ruleset part_calls = (
   product_of_parts_is_at_most_one,
   product_of_widened_is_not_negative,
   product_of_widened_is_at_most_one,
+)
+
+-- ---- a product of an integer of 16 bits, as of font units, and a part: it is exact
+
+units_by_part_fit : (a y : ℤ) → SFits w16 a → pos 0 ≤ℤ y → y ≤ℤ pos 65536 → SFits w32 (a *ℤ y)
+units_by_part_fit (pos n) y fits from to =
+    let up = rises (pos n) y (omega (arith, ints)) from to in omega (arith, ints, fits, up.0, up.1)
+units_by_part_fit (negsuc n) y fits from to =
+    let down = falls (negsuc n) y (omega (arith, ints)) from to in omega (arith, ints, fits, down.0, down.1)
+
+module _ (a y : ℤ) (fits : SFits w16 a) (from : pos 0 ≤ℤ y) (to : y ≤ℤ pos 65536) where
+  pub units_by_part_is_exact : wrap 32 (near ((a *ℤ pos 65536) *ℤ y) 65536) ≡ (a *ℤ y)
+  units_by_part_is_exact =
+      let moved : ((a *ℤ pos 65536) *ℤ y) ≡ ((a *ℤ y) *ℤ pos 65536) = product-times a (pos 65536) y
+      ∙ ap (λ z. a *ℤ z) (*ℤ_comm (pos 65536) y) ∙ sym (product-times a y (pos 65536)) in
+      let rounded = near_gives ((a *ℤ y) *ℤ pos 65536) 65536 (a *ℤ y) (lit< tt) (near_exact (a *ℤ y) 65536 (lit< tt)) in
+      rw (moved, ← rounded) (fits_32 (a *ℤ y) (units_by_part_fit a y fits from to))
+
+  pub part_by_units_is_exact : wrap 32 (near (y *ℤ (a *ℤ pos 65536)) 65536) ≡ (a *ℤ y)
+  part_by_units_is_exact = rw (*ℤ_comm y (a *ℤ pos 65536)) units_by_part_is_exact
+
+-- the same by a part that was widened from 2.14
+module _ (a t : ℤ) (fits : SFits w16 a) (from : pos 0 ≤ℤ t) (to : t ≤ℤ pos 16384) where
+  pub units_by_widened_is_exact : wrap 32 (near ((a *ℤ pos 65536) *ℤ (t *ℤ pos 4)) 65536) ≡ (a *ℤ (t *ℤ pos 4))
+  units_by_widened_is_exact =
+      units_by_part_is_exact a (t *ℤ pos 4) fits (omega (arith, ints, from)) (omega (arith, ints, to))
+
+  pub widened_by_units_is_exact : wrap 32 (near ((t *ℤ pos 4) *ℤ (a *ℤ pos 65536)) 65536) ≡ (a *ℤ (t *ℤ pos 4))
+  widened_by_units_is_exact =
+      part_by_units_is_exact a (t *ℤ pos 4) fits (omega (arith, ints, from)) (omega (arith, ints, to))
+
+pub ruleset unit_calls = (
+  units_by_part_is_exact,
+  part_by_units_is_exact,
+  units_by_widened_is_exact,
+  widened_by_units_is_exact,
 )
 
 -- ---- `a + (b - a) * t`, for a part t: it lies between a and b if their difference fits

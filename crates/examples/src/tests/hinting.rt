@@ -1,9 +1,9 @@
 //! A hinter.
 
 use crate::hinting::{
-    NameRecord, between, bounds, interpolate, is_windows_name, line_above, read_scale,
+    NameRecord, between, bounds, interpolate, is_windows_name, line_above, read_scale, scaled_units,
 };
-use font_types::{BoundingBox, F2Dot14, F26Dot6, Fixed, NameId};
+use font_types::{BoundingBox, F2Dot14, F26Dot6, FWord, Fixed, NameId};
 
 #[test]
 fn extents(rt: HostRuntime) {
@@ -56,6 +56,12 @@ fn positions(rt: HostRuntime) {
         Fixed::from_bits(0x3_0000),
     );
     assert!(rt; third == Fixed::from_bits(0x14_0000));
+    let least = FWord::new(i16::MIN);
+    let scaled = [
+        scaled_units(FWord::new(3), quarter),
+        scaled_units(least, F2Dot14::ONE),
+    ];
+    assert!(rt; scaled == [Fixed::from_bits(0xC000), Fixed::MIN]);
 }
 
 #[test]
