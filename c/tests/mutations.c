@@ -1,4 +1,5 @@
-/* Reads 1,000 mutations of fonts as examples/dump.c does. A sanitizer sees a read out of bounds. */
+/* Reads each font, and 999 mutations of it, as examples/dump.c does. A sanitizer sees a read out
+ * of bounds. */
 #define main dump_main
 #include "../examples/dump.c"
 #undef main

@@ -24,10 +24,9 @@ use std::alloc::{AllocError, Global};
 
 // ---- columns
 
-/// Returns numbers in columns of one width, aligned to the right; a longer number takes the room
-/// that it needs.
+/// Returns numbers in columns of one width, aligned to the right; a longer number is wider.
 ///
-/// `write_padded` never refuses a cell of 32 bytes, since no `Fixed` is longer than 12.
+/// `write_padded` always succeeds with 32 bytes, since no `Fixed` is longer than 12.
 pub fn row(numbers: &[Fixed], width: usize, alloc: Global) -> Result<Vec<u8>, AllocError>
     requires { width ≤ 32 }
     ensures { IfOk result (λ row.
@@ -81,11 +80,11 @@ pub struct Axis {
 }
 
 impl Axis {
-    /// Returns an object with a member for each field. `json!` gets a function of its own.
+    /// Returns an object with a member for each field. `json!` is in a separate function.
     ///
     /// # Errors
     ///
-    /// Returns an error if memory is refused, or if the bytes of the tag are not UTF-8.
+    /// Returns an error if out of memory, or if the bytes of the tag are not UTF-8.
     pub fn to_json(self, alloc: Global) -> Result<Value, JsonFault>
         ensures form { IfOk result (λ value. view value ≡ axis_form self) }
         ensures refused { IsGood (tag_bytes self.tag)
@@ -138,7 +137,7 @@ fn member_of<'a>(value: &'a Value, name: &str) -> Result<&'a Value, JsonFault>
     value.get(name).ok_or(JsonFault::MissingMember)
 }
 
-/// Returns an axis with a good tag itself, unless memory is refused.
+/// Converts an axis with a valid tag and back, which gives the axis, unless out of memory.
 pub fn round_trip(axis: Axis, alloc: Global) -> Result<Axis, JsonFault>
     ensures back { IsGood (tag_bytes axis.tag) → IfOk result (λ back. back ≡ axis) }
     ensures refused { IsGood (tag_bytes axis.tag)

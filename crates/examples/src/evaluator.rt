@@ -59,7 +59,8 @@ pub fn read_setting(text: &str) -> Result<Setting, SettingError>
 
 /// Clamps a value to a range.
 ///
-/// `clamp` gets a function of its own: in a body that goes on to compute, no clause is proved.
+/// `clamp` is called in a separate function: in a body that goes on to compute, no clause is
+/// proved.
 pub fn clamp(value: Fixed, min: Fixed, max: Fixed) -> Fixed
     requires { fixed_bits min ≤ℤ fixed_bits max }
     ensures low { fixed_bits min ≤ℤ fixed_bits result }
@@ -72,7 +73,7 @@ pub fn clamp(value: Fixed, min: Fixed, max: Fixed) -> Fixed
     value.clamp(min, max)
 }
 
-// The exact difference `to - from`.
+// Returns the exact difference `to - from`.
 fn distance(from: Fixed, to: Fixed) -> Fixed
     requires { FitsBits 32 (fixed_bits to -ℤ fixed_bits from) }
     ensures { fixed_bits result ≡ (fixed_bits to -ℤ fixed_bits from) }
@@ -93,7 +94,7 @@ pub fn ratio(part: Fixed, whole: Fixed) -> Fixed
     part / whole
 }
 
-// The same, negated.
+// Returns the same, negated.
 fn negated_ratio(part: Fixed, whole: Fixed) -> Fixed
     requires part { (pos 0 ≤ℤ fixed_bits part) × (fixed_bits part ≤ℤ fixed_bits whole) }
     requires whole { whole ≢ Fixed.ZERO }
@@ -118,7 +119,7 @@ fn negate(number: Fixed) -> Fixed
 /// Normalizes a value of an axis to -1..1: clamps it to the axis, and divides its distance from the
 /// default by that of the end on its side.
 ///
-/// The clauses give the bits, since those are what the check can compute with.
+/// The clauses state raw values, with which the checker computes.
 pub fn normalize(value: Fixed, axis: VariationAxisRecord) -> Fixed
     requires order { (fixed_bits axis.min_value ≤ℤ fixed_bits axis.default_value)
         × (fixed_bits axis.default_value ≤ℤ fixed_bits axis.max_value) }
@@ -146,7 +147,7 @@ pub fn normalize(value: Fixed, axis: VariationAxisRecord) -> Fixed
     normalize_clamped(clamp(value, axis.min_value, axis.max_value), axis)
 }
 
-// The same of a value within the axis.
+// Normalizes a value within the axis.
 fn normalize_clamped(value: Fixed, axis: VariationAxisRecord) -> Fixed
     requires order { (fixed_bits axis.min_value ≤ℤ fixed_bits axis.default_value)
         × (fixed_bits axis.default_value ≤ℤ fixed_bits axis.max_value) }
@@ -177,7 +178,7 @@ fn normalize_clamped(value: Fixed, axis: VariationAxisRecord) -> Fixed
     }
 }
 
-/// Clamps a coordinate to -1..1 and narrows it, as `avar` and tuples store it.
+/// Clamps a coordinate to -1..1, and rounds it half up to 2.14, as `avar` and tuples store it.
 pub fn to_stored(coordinate: Fixed) -> F2Dot14
     ensures value { IsStored coordinate result }
     ensures low { f2dot14_bits F2Dot14.NEG_ONE ≤ℤ f2dot14_bits result }
@@ -195,7 +196,7 @@ pub struct AxisValueMap {
     pub to_coordinate: Fixed,
 }
 
-/// Interpolates between two mappings, and returns their coordinates at both ends.
+/// Interpolates linearly between two mappings; at either end the result is that end's coordinate.
 pub fn lerp(coordinate: Fixed, start: AxisValueMap, end: AxisValueMap) -> Fixed
     requires { start.from_coordinate ≢ end.from_coordinate }
     ensures value { IsLerp coordinate start end result }

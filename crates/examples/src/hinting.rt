@@ -102,7 +102,7 @@ pub fn scaled_units(distance: FWord, factor: F2Dot14) -> Fixed
     distance.to_fixed() * factor.to_fixed()
 }
 
-// A sum that fits.
+// Returns a sum that fits.
 fn moved(number: Fixed, distance: Fixed) -> Fixed
     requires { FitsBits 32 (fixed_bits number +ℤ fixed_bits distance) }
     ensures { fixed_bits result ≡ (fixed_bits number +ℤ fixed_bits distance) }
@@ -110,15 +110,16 @@ fn moved(number: Fixed, distance: Fixed) -> Fixed
     number + distance
 }
 
-// A part of a distance, from 0 to the whole.
+// Returns a part of a distance of either sign, from 0 to the whole.
 fn part_of(distance: Fixed, part: Fixed, whole: Fixed) -> Fixed
-    requires distance { pos 0 ≤ℤ fixed_bits distance }
     requires part { (pos 0 ≤ℤ fixed_bits part) × (fixed_bits part ≤ℤ fixed_bits whole) }
     requires whole { whole ≢ Fixed.ZERO }
     ensures value { IsMulDiv 32 (fixed_bits distance) (fixed_bits part) (fixed_bits whole)
         (fixed_bits result) }
-    ensures low { pos 0 ≤ℤ fixed_bits result }
-    ensures high { fixed_bits result ≤ℤ fixed_bits distance }
+    ensures low { pos 0 ≤ℤ fixed_bits distance → pos 0 ≤ℤ fixed_bits result }
+    ensures high { pos 0 ≤ℤ fixed_bits distance → fixed_bits result ≤ℤ fixed_bits distance }
+    ensures fall_low { fixed_bits distance ≤ℤ pos 0 → fixed_bits distance ≤ℤ fixed_bits result }
+    ensures fall_high { fixed_bits distance ≤ℤ pos 0 → fixed_bits result ≤ℤ pos 0 }
 {
     distance.mul_div(part, whole)
 }
@@ -126,22 +127,25 @@ fn part_of(distance: Fixed, part: Fixed, whole: Fixed) -> Fixed
 /// Moves a point between two touched points, as `IUP` does: by its share of their distance.
 ///
 /// `moved` requires that the sum itself fits: a bound on its parts is not enough.
-pub fn between(low: Fixed, distance: Fixed, part: Fixed, whole: Fixed) -> Fixed
-    requires distance { pos 0 ≤ℤ fixed_bits distance }
-    requires end { FitsBits 32 (fixed_bits low +ℤ fixed_bits distance) }
+pub fn between(start: Fixed, distance: Fixed, part: Fixed, whole: Fixed) -> Fixed
+    requires end { FitsBits 32 (fixed_bits start +ℤ fixed_bits distance) }
     requires part { (pos 0 ≤ℤ fixed_bits part) × (fixed_bits part ≤ℤ fixed_bits whole) }
     requires whole { whole ≢ Fixed.ZERO }
     ensures value { IsMulDiv 32 (fixed_bits distance) (fixed_bits part) (fixed_bits whole)
-        (fixed_bits result -ℤ fixed_bits low) }
-    ensures low { fixed_bits low ≤ℤ fixed_bits result }
-    ensures high { fixed_bits result ≤ℤ (fixed_bits low +ℤ fixed_bits distance) }
+        (fixed_bits result -ℤ fixed_bits start) }
+    ensures low { pos 0 ≤ℤ fixed_bits distance → fixed_bits start ≤ℤ fixed_bits result }
+    ensures high { pos 0 ≤ℤ fixed_bits distance
+        → fixed_bits result ≤ℤ (fixed_bits start +ℤ fixed_bits distance) }
+    ensures fall_low { fixed_bits distance ≤ℤ pos 0
+        → (fixed_bits start +ℤ fixed_bits distance) ≤ℤ fixed_bits result }
+    ensures fall_high { fixed_bits distance ≤ℤ pos 0 → fixed_bits result ≤ℤ fixed_bits start }
 {
-    moved(low, part_of(distance, part, whole))
+    moved(start, part_of(distance, part, whole))
 }
 
 // ---- settings
 
-// The text after `scale=`.
+// Returns the text after `scale=`.
 fn after_scale(text: &str) -> Option<&str>
     ensures rest { IfSome result (λ rest. text.now ≡ codes "scale=" ++ rest.now) }
     ensures some { (rest : List ℕ) → text.now ≡ codes "scale=" ++ rest → IsSome result }
@@ -151,7 +155,7 @@ fn after_scale(text: &str) -> Option<&str>
     text.strip_prefix("scale=")
 }
 
-// The number of a text.
+// Parses the number of a text.
 fn number_of(text: &str) -> Option<Fixed>
     ensures read { IfSome result (λ x. ReadsAs 32 16 text.now (fixed_bits x)) }
     ensures back { (x : Fixed) → FitsBits 32 (fixed_bits x)

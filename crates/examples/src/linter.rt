@@ -99,8 +99,8 @@ pub fn total_length(lengths: &[u32]) -> Option<u32>
 
 /// Returns whether OpenType defines a name id.
 ///
-/// `is_among` recurs over the 25 predefined ids. It is `unfoldable`, since a word that is opened at
-/// each of them would stop the search.
+/// `is_among` recurs over the 25 predefined ids. It is `unfoldable`, since unfolding it at each of
+/// them would stop the search.
 #[tactic(auto, unfolding(crate::specs::Linter::is_among))]
 pub fn is_predefined(id: NameId) -> bool
     ensures { IsTrue result ↔ IsTrue (is_among id (map name_id_of predefined_numbers)) }

@@ -143,7 +143,7 @@ impl TableHeader for Head {
 
 /// Returns the units per em, or `None` if `head` has fewer than 54 bytes.
 ///
-/// A clause on a field speaks of the header's bytes, the first 54 of the table's.
+/// A clause on a field is about the header's bytes, the first 54 of the table's.
 pub fn units_per_em(head: &[u8]) -> Option<u16>
     ensures there { IsSome result ↔ (54 ≤ length head.now) }
     ensures value { IfSome result (λ units. units ≡ numeral (take 2 (drop 18 (take 54 head.now)))) }

@@ -44,7 +44,8 @@ pub fn cross_product(first: Point<i16>, second: Point<i16>) -> i64
     product(first.x, second.y) - product(first.y, second.x)
 }
 
-// The product of two coordinates, with its bounds: a sum of products stays open as one expression.
+// Returns the product of two coordinates, with its bounds: a sum of products stays open as one
+// expression.
 fn product(a: i16, b: i16) -> i64
     ensures value { result ≡ (a *ℤ b) }
     ensures low { neg_ℤ (pos (2 ^ 30)) ≤ℤ result }

@@ -60,7 +60,7 @@ pub fn axis_scalar(axis: RegionAxisCoordinates, coordinate: F2Dot14) -> Fixed
     }
 }
 
-// The same of an axis that is not ignored, at another coordinate than the peak.
+// Returns the same for an axis that is not ignored, at another coordinate than the peak.
 fn scalar_off_peak(axis: RegionAxisCoordinates, coordinate: F2Dot14) -> Fixed
     requires order { (f2dot14_bits axis.start_coord ≤ℤ f2dot14_bits axis.peak_coord)
         × (f2dot14_bits axis.peak_coord ≤ℤ f2dot14_bits axis.end_coord) }
@@ -90,14 +90,14 @@ fn scalar_off_peak(axis: RegionAxisCoordinates, coordinate: F2Dot14) -> Fixed
     }
 }
 
-// The exact difference `to - from`.
+// Returns the exact difference `to - from`.
 fn widened(from: F2Dot14, to: F2Dot14) -> Fixed
     ensures { fixed_bits result ≡ ((f2dot14_bits to -ℤ f2dot14_bits from) *ℤ pos 4) }
 {
     to.to_fixed() - from.to_fixed()
 }
 
-// A product of numbers from 0 to 1.
+// Returns a product of numbers from 0 to 1.
 fn scaled(scalar: Fixed, along: Fixed) -> Fixed
     requires scalar { (pos 0 ≤ℤ fixed_bits scalar)
         × (fixed_bits scalar ≤ℤ fixed_bits Fixed.ONE) }
@@ -109,7 +109,7 @@ fn scaled(scalar: Fixed, along: Fixed) -> Fixed
     scalar * along
 }
 
-// The coordinate along an axis, by default 0.
+// Returns the coordinate along an axis, by default 0.
 fn coordinate_along(coordinates: &[F2Dot14], axis: u16) -> F2Dot14
     ensures { f2dot14_bits result ≡ coordinate_bits coordinates.now axis }
 {
@@ -119,7 +119,7 @@ fn coordinate_along(coordinates: &[F2Dot14], axis: u16) -> F2Dot14
     }
 }
 
-// The extent of a region along an axis.
+// Reads the extent of a region along an axis.
 fn axis_of(region: &[u8], axis: u16) -> RegionAxisCoordinates
     requires { 6 * axis + 6 ≤ length region.now }
     ensures start { f2dot14_bits result.start_coord ≡ stored_bits region.now (6 * axis) }
@@ -134,7 +134,7 @@ fn axis_of(region: &[u8], axis: u16) -> RegionAxisCoordinates
     }
 }
 
-// The scalar of a region along an axis.
+// Returns the scalar of a region along an axis.
 fn scalar_along(region: &[u8], coordinates: &[F2Dot14], axis: u16) -> Fixed
     requires { 6 * axis + 6 ≤ length region.now }
     ensures value { IsScalarAlong region.now coordinates.now axis (fixed_bits result) }
@@ -144,7 +144,7 @@ fn scalar_along(region: &[u8], coordinates: &[F2Dot14], axis: u16) -> Fixed
     axis_scalar(axis_of(region, axis), coordinate_along(coordinates, axis))
 }
 
-// The product of the scalars along all axes.
+// Returns the product of the scalars along all axes.
 #[tactic(auto, using(font_types::proofs::Callers::calls, crate::proofs::Stores::scalar_rules))]
 fn product_of_scalars(region: &[u8], axes: u16, coordinates: &[F2Dot14]) -> Fixed
     requires { 6 * axes ≤ length region.now }
@@ -159,7 +159,7 @@ fn product_of_scalars(region: &[u8], axes: u16, coordinates: &[F2Dot14]) -> Fixe
     scalar
 }
 
-// The bytes of a region.
+// Returns the bytes of a region.
 fn find_region(regions: &[u8], region: u16) -> Option<&[u8]>
     ensures there { IsSome result ↔ HasRegion regions.now region }
     ensures value { IfSome result (λ bytes. bytes.now ≡ region_bytes regions.now region) }
@@ -203,7 +203,7 @@ pub fn read_delta(subtable: &[u8], set: u16, column: u16) -> Option<i32>
     read_signed(subtable, offset, width_of(words, column))
 }
 
-// The bytes of a narrow delta, by the count of wide columns.
+// Returns the size of a narrow delta, by the count of wide columns.
 fn narrow_width_of(words: u16) -> usize
     ensures value { result ≡ narrow_width words }
     ensures small { result ≤ 2 }
@@ -211,7 +211,7 @@ fn narrow_width_of(words: u16) -> usize
     if words >= 0x8000 { 2 } else { 1 }
 }
 
-// The bytes of a delta.
+// Returns the size of a delta.
 fn width_of(words: u16, column: u16) -> usize
     ensures value { result ≡ delta_width words column }
     ensures known { (result ≡ 1) ⊎ ((result ≡ 2) ⊎ (result ≡ 4)) }
@@ -270,7 +270,7 @@ pub fn column_term(
     Some((region_scalar(regions, region, coordinates)?, delta))
 }
 
-// The exact product of a scalar from 0 to 1 and a delta.
+// Returns the exact product of a scalar from 0 to 1 and a delta.
 fn product_of(scalar: Fixed, delta: i32) -> F48Dot16
     requires { (pos 0 ≤ℤ fixed_bits scalar) × (fixed_bits scalar ≤ℤ fixed_bits Fixed.ONE) }
     ensures value { f48dot16_bits result ≡ (fixed_bits scalar *ℤ delta) }
@@ -279,7 +279,7 @@ fn product_of(scalar: Fixed, delta: i32) -> F48Dot16
     scalar.mul_i32(delta)
 }
 
-// The product of a column's term.
+// Returns the product of a column's term.
 fn column_product(
     regions: &[u8],
     subtable: &[u8],
@@ -296,7 +296,7 @@ fn column_product(
     Some(product_of(scalar, delta))
 }
 
-// The exact sum of a sum of `_column` products and one more.
+// Adds one product to the sum of `_column` products, exactly.
 fn added(sum: F48Dot16, product: F48Dot16, _column: u16) -> F48Dot16
     requires few { _column < 65535 }
     requires sum { unsigned_abs (f48dot16_bits sum) ≤ _column * 2 ^ 47 }
@@ -307,7 +307,7 @@ fn added(sum: F48Dot16, product: F48Dot16, _column: u16) -> F48Dot16
     plus(sum, product)
 }
 
-// A sum that fits.
+// Returns a sum that fits.
 fn plus(sum: F48Dot16, product: F48Dot16) -> F48Dot16
     requires { FitsBits 64 (f48dot16_bits sum +ℤ f48dot16_bits product) }
     ensures { f48dot16_bits result ≡ (f48dot16_bits sum +ℤ f48dot16_bits product) }
@@ -315,7 +315,7 @@ fn plus(sum: F48Dot16, product: F48Dot16) -> F48Dot16
     sum + product
 }
 
-// The sum through one more column.
+// Returns the sum through one more column.
 #[tactic(auto, using(font_types::proofs::Callers::calls, crate::proofs::Stores::sum_rules))]
 fn next_sum(
     regions: &[u8],

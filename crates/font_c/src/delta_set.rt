@@ -62,7 +62,7 @@ fn store_long_sum(scalars: &[i32], set: &[u8], words: usize, sum: &mut i64) -> u
     OK
 }
 
-// The exact sum of the products with deltas of 16 and 8 bits, which fits in 64 bits.
+// Returns the exact sum of the products with deltas of 16 and 8 bits, which fits in 64 bits.
 fn exact_sum(scalars: &[i32], set: &[u8], words: usize) -> i64
     requires set { IsSet 2 1 words set.now (length scalars.now) }
     requires few { length scalars.now < 2 ^ 16 }
@@ -80,7 +80,8 @@ fn exact_sum(scalars: &[i32], set: &[u8], words: usize) -> i64
     sum
 }
 
-// The exact sum of the products with deltas of 32 and 16 bits, or `None` if it does not fit in 64.
+// Returns the exact sum of the products with deltas of 32 and 16 bits, or `None` if it does not fit
+// in 64.
 fn long_sum(scalars: &[i32], set: &[u8], words: usize) -> Option<F48Dot16>
     requires set { IsSet 4 2 words set.now (length scalars.now) }
     requires few { length scalars.now < 2 ^ 16 }
@@ -100,7 +101,7 @@ fn long_sum(scalars: &[i32], set: &[u8], words: usize) -> Option<F48Dot16>
     sum.checked_finish()
 }
 
-// The exact product of a 16.16 scalar and a delta, in 48.16.
+// Returns the exact product of a 16.16 scalar and a delta, in 48.16.
 fn product(scalar: i32, delta: i16) -> i64
     ensures value { result ≡ (scalar *ℤ delta) }
     ensures bound { unsigned_abs result ≤ 2 ^ 46 }
@@ -108,7 +109,7 @@ fn product(scalar: i32, delta: i16) -> i64
     i64::from(scalar) * i64::from(delta)
 }
 
-// The delta of 32 bits at an index.
+// Reads the delta of 32 bits at an index.
 #[tactic(auto, using(font_types::proofs::Callers::calls))]
 fn long_at(set: &[u8], index: usize) -> i32
     requires { 4 * index + 4 ≤ length set.now }
@@ -117,7 +118,7 @@ fn long_at(set: &[u8], index: usize) -> i32
     i32::read_at(set, 4 * index).unwrap()
 }
 
-// The delta of 16 bits at an index.
+// Reads the delta of 16 bits at an index.
 #[tactic(auto, using(font_types::proofs::Callers::calls))]
 fn word_at(set: &[u8], index: usize) -> i16
     requires { 2 * index + 2 ≤ length set.now }
@@ -126,7 +127,7 @@ fn word_at(set: &[u8], index: usize) -> i16
     i16::read_at(set, 2 * index).unwrap()
 }
 
-// The delta of 8 bits at an index.
+// Reads the delta of 8 bits at an index.
 #[tactic(auto, using(crate::proofs::DeltaSets::one_byte))]
 fn byte_at(set: &[u8], index: usize) -> i8
     requires { index < length set.now }

@@ -1,14 +1,18 @@
--- Sums over an index, and sums of numbers parsed from texts: the empty sum, and one term more.
+-- Sums over an index, and sums of numbers parsed from texts: the empty sum, and one term more; and hexadecimal text.
 use Rattle.std.proofs.Common.{◌≡◌, ◌∙◌, sym, ap, refl, lit<, arith, ℕ, zero, suc, ◌+◌, ◌<◌, ℤ, pos, ◌+ℤ◌, add-one}
-use Rattle.std.proofs.Common.{List, [], ◌∷◌, ◌++◌, length, take, get_or, map}
+use Rattle.std.proofs.Common.{List, [], ◌∷◌, ◌++◌, length, take, get_or, map, ◌-◌, false, replicate}
 use Rattle.std.proofs.lemmas.Int.{ints}
+use Rattle.std.proofs.lemmas.List.{append-nil}
 use Rattle.std.proofs.Math.IntN.{+ℤ_assoc}
+use Rattle.std.specs.Fmt.{char_count, padded_integral, format_spec, digits}
+use native.Mathlib.Numerals.{unary_clauses}
 use denote.Bor.{Bor}
 use Rattle.font_base.specs.Wrap.{wrap}
 use Rattle.font_base.specs.Wrap.Laws.{wrap-add_left}
 use Rattle.font_fixed.specs.Operations.{ReadsAs}
 use Rattle.font_types.specs.Delta.{total_below}
 use Rattle.font_types.specs.Texts.{ReadsTotal}
+use Rattle.font_types.specs.Version.{hex_text}
 
 pub none_below : (number_at : ℕ → ℤ) → total_below number_at 0 ≡ pos 0
 unfolding total_below
@@ -77,3 +81,11 @@ total_one_more w f texts i d r s a within total reads is =
     (total_appended w f (map (λ t. t.now) (take i texts)) (get_or texts i d).now s a total reads)
 
 pub ruleset text_calls = (total_of_none, total_one_more)
+
+-- what `{:08x}` writes, as a version prints itself
+pub hex_padded : (n : ℕ)
+    → padded_integral (format_spec 32 0 4 8 18446744073709551615) false [] (digits 16 false n) ≡ hex_text n
+unfolding padded_integral char_count
+hex_padded n =
+    let zeros = replicate (8 - length (digits 16 false n)) 48 in
+    simp unary_clauses (ap (λ tail. zeros ++ tail) (append-nil (digits 16 false n)))

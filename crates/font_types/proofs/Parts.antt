@@ -1,7 +1,7 @@
 -- Products of `Fixed` by a part of a whole, a number from 0 to 1, numbers between two others, and products by a widened
 -- 2.14 factor.
-use Rattle.std.proofs.Common.{◌≡◌, ◌∙◌, sym, ap, lit<, arith, ℕ, ◌+◌, ◌-◌, ℤ, pos, negsuc, ◌+ℤ◌, ◌-ℤ◌, ◌*ℤ◌, ◌≤ℤ◌}
-use Rattle.std.proofs.Common.{w16, w32, SFits}
+use Rattle.std.proofs.Common.{◌≡◌, ◌≢◌, ◌∙◌, sym, ap, refl, lit<, arith, ℕ, zero, suc, ◌+◌, ◌-◌, ℤ, pos, negsuc}
+use Rattle.std.proofs.Common.{◌+ℤ◌, ◌-ℤ◌, ◌*ℤ◌, ◌≤ℤ◌, w16, w32, SFits}
 use Rattle.std.proofs.lemmas.Int.{ints}
 use Rattle.std.proofs.Math.IntN.{*ℤ_comm}
 use Rattle.font_base.specs.Integers.{product-times, sum-times}
@@ -11,29 +11,29 @@ use Rattle.font_decimal.specs.Near.{Near, near}
 use Rattle.font_decimal.proofs.Integers.{times_monotone}
 use Rattle.font_decimal.proofs.Near.{near_is, near_gives, near_monotone}
 use Rattle.font_fixed.proofs.Calls.{fits_32}
+use Rattle.font_fixed.specs.Operations.{IsMulDiv}
 use Rattle.font_fixed.proofs.NumberLaws.{near_exact}
 
--- a product by a number from 0 to 65536 lies between 0 and 65536 times the other number
-whole_is_parts : (x : ℤ) (k d : ℕ) → k + d ≡ 65536 → ((x *ℤ pos k) +ℤ (x *ℤ pos d)) ≡ (x *ℤ pos 65536)
-whole_is_parts x k d is =
-    rw (*ℤ_comm x (pos k), *ℤ_comm x (pos d), *ℤ_comm x (pos 65536), ← sum-times (pos k) (pos d) x)
+-- a product by a number from 0 to m lies between 0 and m times the other number
+parts_of : (x : ℤ) (k d m : ℕ) → k + d ≡ m → ((x *ℤ pos k) +ℤ (x *ℤ pos d)) ≡ (x *ℤ pos m)
+parts_of x k d m is = rw (*ℤ_comm x (pos k), *ℤ_comm x (pos d), *ℤ_comm x (pos m), ← sum-times (pos k) (pos d) x)
     (ap (λ n. pos n *ℤ x) is)
 
-rises : (x y : ℤ) → pos 0 ≤ℤ x → pos 0 ≤ℤ y → y ≤ℤ pos 65536 → (pos 0 ≤ℤ (x *ℤ y)) × ((x *ℤ y) ≤ℤ (x *ℤ pos 65536))
-rises x (pos k) from_x from to =
-    let parts = whole_is_parts x k (65536 - k) (omega (arith, ints, to)) in
+rises : (x y : ℤ) (m : ℕ) → pos 0 ≤ℤ x → pos 0 ≤ℤ y → y ≤ℤ pos m → (pos 0 ≤ℤ (x *ℤ y)) × ((x *ℤ y) ≤ℤ (x *ℤ pos m))
+rises x (pos k) m from_x from to =
+    let parts = parts_of x k (m - k) m (omega (arith, ints, to)) in
     let low = times_monotone (pos 0) x k from_x in
-    let rest = times_monotone (pos 0) x (65536 - k) from_x in
+    let rest = times_monotone (pos 0) x (m - k) from_x in
     (omega (arith, ints, low), omega (arith, ints, parts, rest))
-rises x (negsuc k) from_x from to = absurd (omega (arith, ints, from))
+rises x (negsuc k) m from_x from to = absurd (omega (arith, ints, from))
 
-falls : (x y : ℤ) → x ≤ℤ pos 0 → pos 0 ≤ℤ y → y ≤ℤ pos 65536 → ((x *ℤ y) ≤ℤ pos 0) × ((x *ℤ pos 65536) ≤ℤ (x *ℤ y))
-falls x (pos k) to_x from to =
-    let parts = whole_is_parts x k (65536 - k) (omega (arith, ints, to)) in
+falls : (x y : ℤ) (m : ℕ) → x ≤ℤ pos 0 → pos 0 ≤ℤ y → y ≤ℤ pos m → ((x *ℤ y) ≤ℤ pos 0) × ((x *ℤ pos m) ≤ℤ (x *ℤ y))
+falls x (pos k) m to_x from to =
+    let parts = parts_of x k (m - k) m (omega (arith, ints, to)) in
     let high = times_monotone x (pos 0) k to_x in
-    let rest = times_monotone x (pos 0) (65536 - k) to_x in
+    let rest = times_monotone x (pos 0) (m - k) to_x in
     (omega (arith, ints, high), omega (arith, ints, parts, rest))
-falls x (negsuc k) to_x from to = absurd (omega (arith, ints, from))
+falls x (negsuc k) m to_x from to = absurd (omega (arith, ints, from))
 
 -- rules: stated of the term of `*`, because a rule's conclusion has to show all its variables
 module _ (x y : ℤ) (fits : SFits w32 x) (from : pos 0 ≤ℤ y) (to : y ≤ℤ pos 65536) where
@@ -42,19 +42,19 @@ module _ (x y : ℤ) (fits : SFits w32 x) (from : pos 0 ≤ℤ y) (to : y ≤ℤ
 
   not_negative : pos 0 ≤ℤ x → pos 0 ≤ℤ near (x *ℤ y) 65536
   not_negative from_x = near_monotone (lit< tt) (lit< tt) (near_exact (pos 0) 65536 (lit< tt)) nearest
-      (omega (arith, ints, (rises x y from_x from to).0))
+      (omega (arith, ints, (rises x y 65536 from_x from to).0))
 
   at_most : pos 0 ≤ℤ x → near (x *ℤ y) 65536 ≤ℤ x
   at_most from_x = near_monotone (lit< tt) (lit< tt) nearest (near_exact x 65536 (lit< tt))
-      (omega (arith, ints, (rises x y from_x from to).1))
+      (omega (arith, ints, (rises x y 65536 from_x from to).1))
 
   not_positive : x ≤ℤ pos 0 → near (x *ℤ y) 65536 ≤ℤ pos 0
   not_positive to_x = near_monotone (lit< tt) (lit< tt) nearest (near_exact (pos 0) 65536 (lit< tt))
-      (omega (arith, ints, (falls x y to_x from to).0))
+      (omega (arith, ints, (falls x y 65536 to_x from to).0))
 
   at_least : x ≤ℤ pos 0 → x ≤ℤ near (x *ℤ y) 65536
   at_least to_x = near_monotone (lit< tt) (lit< tt) (near_exact x 65536 (lit< tt)) nearest
-      (omega (arith, ints, (falls x y to_x from to).1))
+      (omega (arith, ints, (falls x y 65536 to_x from to).1))
 
   kept_up : pos 0 ≤ℤ x → wrap 32 (near (x *ℤ y) 65536) ≡ near (x *ℤ y) 65536
   kept_up from_x = fits_32 (near (x *ℤ y) 65536) (omega (arith, ints, fits, not_negative from_x, at_most from_x))
@@ -123,7 +123,33 @@ module _ (a b : ℤ) (from_a : pos 0 ≤ℤ a) (to_a : a ≤ℤ pos 16384) (from
       (omega (arith, ints, from_a, to_a)) (omega (arith, ints, from)) (omega (arith, ints, to))
       (omega (arith, ints, from_a)) (omega (arith, ints, to_a))
 
+-- `mul_div` of a number that is not positive, by a part and its whole
+falling_share : (x a c r : ℤ) → IsMulDiv 32 x a c r → SFits w32 x → x ≤ℤ pos 0 → pos 0 ≤ℤ a → a ≤ℤ c → c ≢ pos 0
+    → (r ≤ℤ pos 0) × (x ≤ℤ r)
+falling_share x a (pos zero) r given fits to_x from to some = absurd (some refl)
+falling_share x a (negsuc d) r given fits to_x from to some = absurd (omega (arith, ints, from, to))
+falling_share x a (pos (suc d)) r given fits to_x from to some =
+    let down = falls x a (suc d) to_x from to in
+    let share : ℤ = near (x *ℤ a) (suc d) in
+    let nearest = near_is (x *ℤ a) (suc d) (omega arith) in
+    let high : share ≤ℤ pos 0 = near_monotone (omega arith) (omega arith) nearest
+    (near_exact (pos 0) (suc d) (omega arith))
+    (omega (arith, ints, times_monotone (x *ℤ a) (pos 0) (suc d) down.0)) in
+    let low : x ≤ℤ share = near_monotone (omega arith) (omega arith) (near_exact x (suc d) (omega arith)) nearest
+    (times_monotone (x *ℤ pos (suc d)) (x *ℤ a) (suc d) down.1) in
+    let is : r ≡ share = given.is ∙ fits_32 share (omega (arith, ints, fits, low, high)) in
+    (rw is high, rw is low)
+
+module _ (x a c r : ℤ) (given : IsMulDiv 32 x a c r) (fits : SFits w32 x) where
+  pub mul_div_is_not_positive : x ≤ℤ pos 0 → pos 0 ≤ℤ a → a ≤ℤ c → c ≢ pos 0 → r ≤ℤ pos 0
+  mul_div_is_not_positive to_x from to some = (falling_share x a c r given fits to_x from to some).0
+
+  pub mul_div_is_at_least : x ≤ℤ pos 0 → pos 0 ≤ℤ a → a ≤ℤ c → c ≢ pos 0 → x ≤ℤ r
+  mul_div_is_at_least to_x from to some = (falling_share x a c r given fits to_x from to some).1
+
 pub ruleset part_calls = (
+  mul_div_is_not_positive,
+  mul_div_is_at_least,
   product_by_part_is_not_negative,
   product_by_part_is_at_most,
   product_by_part_is_not_positive,
@@ -145,9 +171,9 @@ pub ruleset part_calls = (
 
 units_by_part_fit : (a y : ℤ) → SFits w16 a → pos 0 ≤ℤ y → y ≤ℤ pos 65536 → SFits w32 (a *ℤ y)
 units_by_part_fit (pos n) y fits from to =
-    let up = rises (pos n) y (omega (arith, ints)) from to in omega (arith, ints, fits, up.0, up.1)
+    let up = rises (pos n) y 65536 (omega (arith, ints)) from to in omega (arith, ints, fits, up.0, up.1)
 units_by_part_fit (negsuc n) y fits from to =
-    let down = falls (negsuc n) y (omega (arith, ints)) from to in omega (arith, ints, fits, down.0, down.1)
+    let down = falls (negsuc n) y 65536 (omega (arith, ints)) from to in omega (arith, ints, fits, down.0, down.1)
 
 module _ (a y : ℤ) (fits : SFits w16 a) (from : pos 0 ≤ℤ y) (to : y ≤ℤ pos 65536) where
   pub units_by_part_is_exact : wrap 32 (near ((a *ℤ pos 65536) *ℤ y) 65536) ≡ (a *ℤ y)

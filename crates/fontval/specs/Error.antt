@@ -32,20 +32,20 @@ abbrev pub answer_text : Answer → List ℕ
 answer_text (Ok text) = text
 answer_text (Err error) = codes "error " ++ decimal (error_number error)
 
--- the output has grown by the text of a right answer
+-- the output has grown by the text of an answer with this property
 pub record Grows (IsRight : Answer → Type 0) (old new : List ℕ) : Type 0 where
   pub text : List ℕ
   pub is_right : IsRight (Ok text)
   pub grown : new ≡ old ++ text
 
--- How a command with a right answer returns: the output has grown by its text, or there was no
+-- How a command returns whose answer has this property: the output has grown by its text, or there was no
 -- memory for it. An error is returned, and leaves the output unchanged.
 abbrev pub IsGiven : (Answer → Type 0) → List ℕ → List ℕ → Result (Unit {0}) CommandError → Type 0
 IsGiven IsRight old new (Ok done) = Grows IsRight old new
 IsGiven IsRight old new (Err Memory) = ⊤
 IsGiven IsRight old new (Err (Line error)) = IsRight (Err error) × (new ≡ old)
 
--- a right answer is given
+-- the outcome and the output agree with an answer that has this property
 pub record GivesAnswer (IsRight : Answer → Type 0) (old new : List ℕ)
     (outcome : Result (Unit {0}) CommandError) : Type 0 where
   pub is_given : IsGiven IsRight old new outcome

@@ -8,7 +8,7 @@ use Rattle.font_types.specs.Matrix.{elements_of, image_of, matrix_product}
 use Rattle.font_types.specs.FixedMatrix.{matrix_bits, point_bits, wrapped_sum, wrapped_product}
 use Rattle.fontval.specs.Error.{Answer}
 
--- the coordinates of a point, which are given in bits
+-- the coordinates of a point, which are given as raw values
 abbrev pub coordinates_text : Point ℤ → List ℕ
 coordinates_text p = shortest_text p.x 16 ++ codes " " ++ shortest_text p.y 16
 

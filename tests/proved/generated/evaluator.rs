@@ -42,12 +42,13 @@ pub fn read_setting(text: &str) -> Result<Setting, SettingError> {
 
 /// Clamps a value to a range.
 ///
-/// `clamp` gets a function of its own: in a body that goes on to compute, no clause is proved.
+/// `clamp` is called in a separate function: in a body that goes on to compute, no clause is
+/// proved.
 pub fn clamp(value: Fixed, min: Fixed, max: Fixed) -> Fixed {
     value.clamp(min, max)
 }
 
-// The exact difference `to - from`.
+// Returns the exact difference `to - from`.
 fn distance(from: Fixed, to: Fixed) -> Fixed {
     to - from
 }
@@ -57,7 +58,7 @@ pub fn ratio(part: Fixed, whole: Fixed) -> Fixed {
     part / whole
 }
 
-// The same, negated.
+// Returns the same, negated.
 fn negated_ratio(part: Fixed, whole: Fixed) -> Fixed {
     negate(ratio(part, whole))
 }
@@ -70,12 +71,12 @@ fn negate(number: Fixed) -> Fixed {
 /// Normalizes a value of an axis to -1..1: clamps it to the axis, and divides its distance from the
 /// default by that of the end on its side.
 ///
-/// The clauses give the bits, since those are what the check can compute with.
+/// The clauses state raw values, with which the checker computes.
 pub fn normalize(value: Fixed, axis: VariationAxisRecord) -> Fixed {
     normalize_clamped(clamp(value, axis.min_value, axis.max_value), axis)
 }
 
-// The same of a value within the axis.
+// Normalizes a value within the axis.
 fn normalize_clamped(value: Fixed, axis: VariationAxisRecord) -> Fixed {
     let default = axis.default_value;
     if value < default {
@@ -87,7 +88,7 @@ fn normalize_clamped(value: Fixed, axis: VariationAxisRecord) -> Fixed {
     }
 }
 
-/// Clamps a coordinate to -1..1 and narrows it, as `avar` and tuples store it.
+/// Clamps a coordinate to -1..1, and rounds it half up to 2.14, as `avar` and tuples store it.
 pub fn to_stored(coordinate: Fixed) -> F2Dot14 {
     coordinate.clamp(Fixed::NEG_ONE, Fixed::ONE).to_f2dot14()
 }
@@ -101,7 +102,7 @@ pub struct AxisValueMap {
     pub to_coordinate: Fixed,
 }
 
-/// Interpolates between two mappings, and returns their coordinates at both ends.
+/// Interpolates linearly between two mappings; at either end the result is that end's coordinate.
 pub fn lerp(coordinate: Fixed, start: AxisValueMap, end: AxisValueMap) -> Fixed {
     let (from, to) = (start.from_coordinate, start.to_coordinate);
     to + (end.to_coordinate - to).mul_div(coordinate - from, end.from_coordinate - from)

@@ -96,7 +96,7 @@ impl TableHeader for Head {
 
 /// Returns the units per em, or `None` if `head` has fewer than 54 bytes.
 ///
-/// A clause on a field speaks of the header's bytes, the first 54 of the table's.
+/// A clause on a field is about the header's bytes, the first 54 of the table's.
 pub fn units_per_em(head: &[u8]) -> Option<u16> {
     let head = TableDataRef::<Head>::new(head)?;
     Some(head.header().units_per_em.get())

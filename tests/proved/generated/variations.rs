@@ -34,7 +34,7 @@ pub fn axis_scalar(axis: RegionAxisCoordinates, coordinate: F2Dot14) -> Fixed {
     }
 }
 
-// The same of an axis that is not ignored, at another coordinate than the peak.
+// Returns the same for an axis that is not ignored, at another coordinate than the peak.
 fn scalar_off_peak(axis: RegionAxisCoordinates, coordinate: F2Dot14) -> Fixed {
     let (start, peak, end) = (axis.start_coord, axis.peak_coord, axis.end_coord);
     if coordinate <= start || end <= coordinate {
@@ -46,17 +46,17 @@ fn scalar_off_peak(axis: RegionAxisCoordinates, coordinate: F2Dot14) -> Fixed {
     }
 }
 
-// The exact difference `to - from`.
+// Returns the exact difference `to - from`.
 fn widened(from: F2Dot14, to: F2Dot14) -> Fixed {
     to.to_fixed() - from.to_fixed()
 }
 
-// A product of numbers from 0 to 1.
+// Returns a product of numbers from 0 to 1.
 fn scaled(scalar: Fixed, along: Fixed) -> Fixed {
     scalar * along
 }
 
-// The coordinate along an axis, by default 0.
+// Returns the coordinate along an axis, by default 0.
 fn coordinate_along(coordinates: &[F2Dot14], axis: u16) -> F2Dot14 {
     match coordinates.get(usize::from(axis)) {
         Some(coordinate) => *coordinate,
@@ -64,7 +64,7 @@ fn coordinate_along(coordinates: &[F2Dot14], axis: u16) -> F2Dot14 {
     }
 }
 
-// The extent of a region along an axis.
+// Reads the extent of a region along an axis.
 fn axis_of(region: &[u8], axis: u16) -> RegionAxisCoordinates {
     let offset = 6 * usize::from(axis);
     RegionAxisCoordinates {
@@ -74,12 +74,12 @@ fn axis_of(region: &[u8], axis: u16) -> RegionAxisCoordinates {
     }
 }
 
-// The scalar of a region along an axis.
+// Returns the scalar of a region along an axis.
 fn scalar_along(region: &[u8], coordinates: &[F2Dot14], axis: u16) -> Fixed {
     axis_scalar(axis_of(region, axis), coordinate_along(coordinates, axis))
 }
 
-// The product of the scalars along all axes.
+// Returns the product of the scalars along all axes.
 fn product_of_scalars(region: &[u8], axes: u16, coordinates: &[F2Dot14]) -> Fixed {
     let mut scalar = Fixed::ONE;
     for axis in 0..axes {
@@ -88,7 +88,7 @@ fn product_of_scalars(region: &[u8], axes: u16, coordinates: &[F2Dot14]) -> Fixe
     scalar
 }
 
-// The bytes of a region.
+// Returns the bytes of a region.
 fn find_region(regions: &[u8], region: u16) -> Option<&[u8]> {
     let (axes, count) = (u16::read_at(regions, 0)?, u16::read_at(regions, 2)?);
     if region >= count {
@@ -119,12 +119,12 @@ pub fn read_delta(subtable: &[u8], set: u16, column: u16) -> Option<i32> {
     read_signed(subtable, offset, width_of(words, column))
 }
 
-// The bytes of a narrow delta, by the count of wide columns.
+// Returns the size of a narrow delta, by the count of wide columns.
 fn narrow_width_of(words: u16) -> usize {
     if words >= 0x8000 { 2 } else { 1 }
 }
 
-// The bytes of a delta.
+// Returns the size of a delta.
 fn width_of(words: u16, column: u16) -> usize {
     if column < words % 0x8000 {
         2 * narrow_width_of(words)
@@ -166,12 +166,12 @@ pub fn column_term(
     Some((region_scalar(regions, region, coordinates)?, delta))
 }
 
-// The exact product of a scalar from 0 to 1 and a delta.
+// Returns the exact product of a scalar from 0 to 1 and a delta.
 fn product_of(scalar: Fixed, delta: i32) -> F48Dot16 {
     scalar.mul_i32(delta)
 }
 
-// The product of a column's term.
+// Returns the product of a column's term.
 fn column_product(
     regions: &[u8],
     subtable: &[u8],
@@ -183,17 +183,17 @@ fn column_product(
     Some(product_of(scalar, delta))
 }
 
-// The exact sum of a sum of `_column` products and one more.
+// Adds one product to the sum of `_column` products, exactly.
 fn added(sum: F48Dot16, product: F48Dot16, _column: u16) -> F48Dot16 {
     plus(sum, product)
 }
 
-// A sum that fits.
+// Returns a sum that fits.
 fn plus(sum: F48Dot16, product: F48Dot16) -> F48Dot16 {
     sum + product
 }
 
-// The sum through one more column.
+// Returns the sum through one more column.
 fn next_sum(
     regions: &[u8],
     subtable: &[u8],

@@ -51,7 +51,7 @@ fn store_long_sum(scalars: &[i32], set: &[u8], words: usize, sum: &mut i64) -> u
     OK
 }
 
-// The exact sum of the products with deltas of 16 and 8 bits, which fits in 64 bits.
+// Returns the exact sum of the products with deltas of 16 and 8 bits, which fits in 64 bits.
 fn exact_sum(scalars: &[i32], set: &[u8], words: usize) -> i64 {
     let (of_words, of_bytes) = scalars.split_at(words);
     let (wide, narrow) = set.split_at(2 * words);
@@ -65,7 +65,8 @@ fn exact_sum(scalars: &[i32], set: &[u8], words: usize) -> i64 {
     sum
 }
 
-// The exact sum of the products with deltas of 32 and 16 bits, or `None` if it does not fit in 64.
+// Returns the exact sum of the products with deltas of 32 and 16 bits, or `None` if it does not fit
+// in 64.
 fn long_sum(scalars: &[i32], set: &[u8], words: usize) -> Option<F48Dot16> {
     let (of_long, of_words) = scalars.split_at(words);
     let (wide, narrow) = set.split_at(4 * words);
@@ -79,22 +80,22 @@ fn long_sum(scalars: &[i32], set: &[u8], words: usize) -> Option<F48Dot16> {
     sum.checked_finish()
 }
 
-// The exact product of a 16.16 scalar and a delta, in 48.16.
+// Returns the exact product of a 16.16 scalar and a delta, in 48.16.
 fn product(scalar: i32, delta: i16) -> i64 {
     i64::from(scalar) * i64::from(delta)
 }
 
-// The delta of 32 bits at an index.
+// Reads the delta of 32 bits at an index.
 fn long_at(set: &[u8], index: usize) -> i32 {
     i32::read_at(set, 4 * index).unwrap()
 }
 
-// The delta of 16 bits at an index.
+// Reads the delta of 16 bits at an index.
 fn word_at(set: &[u8], index: usize) -> i16 {
     i16::read_at(set, 2 * index).unwrap()
 }
 
-// The delta of 8 bits at an index.
+// Reads the delta of 8 bits at an index.
 fn byte_at(set: &[u8], index: usize) -> i8 {
     i8::from_raw([set[index]])
 }

@@ -55,7 +55,13 @@ fn positions(rt: HostRuntime) {
         Fixed::from_bits(0x1_0000),
         Fixed::from_bits(0x3_0000),
     );
-    assert!(rt; third == Fixed::from_bits(0x14_0000));
+    let back = between(
+        low,
+        -distance,
+        Fixed::from_bits(0x1_0000),
+        Fixed::from_bits(0x3_0000),
+    );
+    assert!(rt; [third, back] == [Fixed::from_bits(0x14_0000), Fixed::ZERO]);
     let least = FWord::new(i16::MIN);
     let scaled = [
         scaled_units(FWord::new(3), quarter),

@@ -1,4 +1,5 @@
-//! What no clause says: interrupted calls, and writes of no byte, of std's devices.
+//! What no clause says: interrupted calls and writes of no byte, through `FromRead` and
+//! `FromWrite`.
 
 ghost use Rattle.std.specs.Prelude.{◌≡◌, IfOk};
 
