@@ -1,6 +1,6 @@
 //! A hinter: the extents of outlines, positions between two others, a setting, and names.
 
-ghost use Rattle.std.specs.Prelude.{◌≡◌, ◌≢◌, ◌↔◌, ◌<◌, ◌++◌, pos, ◌+ℤ◌, ◌-ℤ◌, ◌*ℤ◌};
+ghost use Rattle.std.specs.Prelude.{◌≡◌, ◌≢◌, ◌↔◌, ◌<◌, ◌++◌, neg_ℤ, pos, ◌+ℤ◌, ◌-ℤ◌, ◌*ℤ◌};
 ghost use Rattle.std.specs.Prelude.{◌≤ℤ◌, ◌<ℤ◌, ℕ, List, length, Some, IsTrue, IsSome, IfSome};
 ghost use lib.Chars.{codes};
 ghost use Rattle.font_types.specs.Fixed;
@@ -10,6 +10,7 @@ ghost use Rattle.font_types.specs.F2Dot14;
 ghost use Rattle.font_types.specs.F2Dot14.{f2dot14_bits};
 ghost use Rattle.font_types.specs.FWord.{fword_number};
 ghost use Rattle.font_types.specs.NameId.{name_number};
+ghost use Rattle.font_types.specs.Near.{up};
 ghost use Rattle.font_types.specs.FixedMatrix.{wrapped_sum, wrapped_product};
 ghost use Rattle.font_types.specs.Operations.{IsIntegral, IsMulDiv, ReadsAs};
 ghost use Rattle.font_types.specs.Wrap.{FitsBits, wrap};
@@ -75,6 +76,25 @@ pub fn line_above(y: F26Dot6) -> F26Dot6
     ensures near { f26dot6_bits result ≤ℤ (f26dot6_bits y +ℤ pos 64) }
 {
     y.floor() + F26Dot6::ONE
+}
+
+/// Negates a distance in whole pixels.
+#[tactic(auto, using(font_types::proofs::Callers::integers))]
+pub fn opposite(distance: F26Dot6) -> F26Dot6
+    requires { IsIntegral 6 (f26dot6_bits distance) }
+    ensures whole { IsIntegral 6 (f26dot6_bits result) }
+    ensures value { f26dot6_bits result ≡ wrap 32 (neg_ℤ (f26dot6_bits distance)) }
+{
+    -distance
+}
+
+/// Returns the pixel of a coordinate, the nearest integer, half up.
+#[tactic(auto, using(font_types::proofs::Callers::calls, font_types::proofs::Callers::narrowings))]
+pub fn nearest_pixel(y: F26Dot6) -> i32
+    requires { f26dot6_bits y ≤ℤ pos 2147483584 }
+    ensures { result ≡ up (f26dot6_bits y) 64 }
+{
+    y.to_i32()
 }
 
 // ---- positions between two others

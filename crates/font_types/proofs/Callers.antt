@@ -12,6 +12,7 @@ use Rattle.font_types.proofs.SumCalls.{sum_calls_from, sum_calls_16, sum_calls_3
 use Rattle.font_types.proofs.StoredBytes.{stored_calls}
 use Rattle.font_types.proofs.ShortProducts.{short_product_calls}
 use Rattle.font_types.proofs.Parts.{part_calls, unit_calls, between_calls, lerp_calls}
+use Rattle.font_types.proofs.Narrowed.{exact_narrow_calls, negation_is_integral}
 use Rattle.font_types.proofs.ArrayNumbers.{array_number_calls}
 use Rattle.font_types.proofs.Below.{below_calls, text_calls}
 pub use Rattle.font_base.proofs.ScalarCalls.{absent, nowhere, rises_by}
@@ -70,8 +71,11 @@ pub ruleset calls = (
 -- for the value of `a + (b - a) * t`, as one formula
 pub ruleset lerps = (lerp_calls)
 
--- for `IsIntegral` of the greater of two integers, or of a sum with a constant
-pub ruleset integers = (integral_rules, calls_32)
+-- for `IsIntegral` of the greater of two integers, of a negation, or of a sum with a constant
+pub ruleset integers = (integral_rules, negation_is_integral, calls_32)
+
+-- for a narrowed number that fits
+pub ruleset narrowings = (exact_narrow_calls)
 
 -- for an exact sum of 48.16
 pub ruleset exact_sums = (exact_sum_calls)

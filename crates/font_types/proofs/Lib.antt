@@ -4,6 +4,7 @@ pub mod StoredBytes
 pub mod Searches
 pub mod ShortProducts
 pub mod Parts
+pub mod Narrowed
 pub mod ArrayNumbers
 pub mod Below
 pub mod Callers

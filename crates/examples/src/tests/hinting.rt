@@ -1,7 +1,8 @@
 //! A hinter.
 
 use crate::hinting::{
-    NameRecord, between, bounds, interpolate, is_windows_name, line_above, read_scale, scaled_units,
+    NameRecord, between, bounds, interpolate, is_windows_name, line_above, nearest_pixel, opposite,
+    read_scale, scaled_units,
 };
 use font_types::{BoundingBox, F2Dot14, F26Dot6, FWord, Fixed, NameId};
 
@@ -35,6 +36,12 @@ fn lines_of_the_grid(rt: HostRuntime) {
         line_above(F26Dot6::from_bits(64)),
     ];
     assert!(rt; lines == [0, 64, 64, 128].map(F26Dot6::from_bits));
+    let pixels = [
+        nearest_pixel(F26Dot6::from_bits(-33)),
+        nearest_pixel(F26Dot6::from_bits(-32)),
+        nearest_pixel(F26Dot6::from_bits(32)),
+    ];
+    assert!(rt; pixels == [-1, 0, 1] && opposite(F26Dot6::ONE) == F26Dot6::from_i32(-1));
 }
 
 #[test]
