@@ -38,11 +38,13 @@
     clippy::missing_panics_doc
 )]
 #![warn(clippy::undocumented_unsafe_blocks)]
-// The generated source is written for its proofs: a law divides a number by itself, for example.
+// The generated source is written for its proofs, as a law that divides a number by itself, and for
+// debug builds, in which the `match` of an iterator calls less than `map`.
 #![allow(
     clippy::eq_op,
     clippy::manual_checked_ops,
     clippy::manual_div_ceil,
+    clippy::manual_map,
     clippy::needless_range_loop,
     clippy::non_canonical_clone_impl
 )]

@@ -286,8 +286,10 @@ impl<'a, T: Scalar> Iterator for ScalarArrayIter<'a, T> {
 
     #[inline]
     fn next(&mut self) -> Option<T> {
-        let raw = self.rest.next()?;
-        Some(T::from_raw(*raw))
+        match self.rest.next() {
+            Some(raw) => Some(T::from_raw(*raw)),
+            None => None,
+        }
     }
 
     #[inline]
@@ -300,8 +302,10 @@ impl<'a, T: Scalar> Iterator for ScalarArrayIter<'a, T> {
 impl<'a, T: Scalar> DoubleEndedIterator for ScalarArrayIter<'a, T> {
     #[inline]
     fn next_back(&mut self) -> Option<T> {
-        let raw = self.rest.next_back()?;
-        Some(T::from_raw(*raw))
+        match self.rest.next_back() {
+            Some(raw) => Some(T::from_raw(*raw)),
+            None => None,
+        }
     }
 }
 
