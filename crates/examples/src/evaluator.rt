@@ -103,17 +103,7 @@ fn negated_ratio(part: Fixed, whole: Fixed) -> Fixed
     ensures all { fixed_bits part ≡ fixed_bits whole
         → fixed_bits result ≡ fixed_bits Fixed.NEG_ONE }
 {
-    negate(ratio(part, whole))
-}
-
-// Negates a number that is not below 0, which cannot wrap.
-fn negate(number: Fixed) -> Fixed
-    requires { pos 0 ≤ℤ fixed_bits number }
-    ensures value { fixed_bits result ≡ neg_ℤ (fixed_bits number) }
-    ensures one { fixed_bits number ≡ fixed_bits Fixed.ONE
-        → fixed_bits result ≡ fixed_bits Fixed.NEG_ONE }
-{
-    -number
+    -ratio(part, whole)
 }
 
 /// Normalizes a value of an axis to -1..1: clamps it to the axis, and divides its distance from the

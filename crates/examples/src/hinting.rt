@@ -97,6 +97,28 @@ pub fn nearest_pixel(y: F26Dot6) -> i32
     y.to_i32()
 }
 
+/// Returns the height of a zone below a coordinate: 0 under the zone, and all of it above.
+///
+/// The precondition of each difference is written out: from that of the height it is not found.
+pub fn depth(y: F26Dot6, bottom: F26Dot6, top: F26Dot6) -> F26Dot6
+    requires order { f26dot6_bits bottom ≤ℤ f26dot6_bits top }
+    requires height { FitsBits 32 (f26dot6_bits top -ℤ f26dot6_bits bottom) }
+    requires depth { FitsBits 32 (f26dot6_bits y -ℤ f26dot6_bits bottom) }
+    ensures below { f26dot6_bits y <ℤ f26dot6_bits bottom → f26dot6_bits result ≡ pos 0 }
+    ensures inside { f26dot6_bits bottom ≤ℤ f26dot6_bits y → f26dot6_bits y ≤ℤ f26dot6_bits top
+        → f26dot6_bits result ≡ (f26dot6_bits y -ℤ f26dot6_bits bottom) }
+    ensures above { f26dot6_bits top <ℤ f26dot6_bits y
+        → f26dot6_bits result ≡ (f26dot6_bits top -ℤ f26dot6_bits bottom) }
+{
+    if y < bottom {
+        F26Dot6::ZERO
+    } else if y > top {
+        top - bottom
+    } else {
+        y - bottom
+    }
+}
+
 // ---- positions between two others
 
 /// Interpolates between the values of two masters, whose difference has to fit.

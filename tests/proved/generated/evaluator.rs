@@ -60,12 +60,7 @@ pub fn ratio(part: Fixed, whole: Fixed) -> Fixed {
 
 // Returns the same, negated.
 fn negated_ratio(part: Fixed, whole: Fixed) -> Fixed {
-    negate(ratio(part, whole))
-}
-
-// Negates a number that is not below 0, which cannot wrap.
-fn negate(number: Fixed) -> Fixed {
-    -number
+    -ratio(part, whole)
 }
 
 /// Normalizes a value of an axis to -1..1: clamps it to the axis, and divides its distance from the

@@ -1,8 +1,8 @@
 //! A hinter.
 
 use crate::hinting::{
-    NameRecord, between, bounds, interpolate, is_windows_name, line_above, nearest_pixel, opposite,
-    read_scale, scaled_units,
+    NameRecord, between, bounds, depth, interpolate, is_windows_name, line_above, nearest_pixel,
+    opposite, read_scale, scaled_units,
 };
 use font_types::{BoundingBox, F2Dot14, F26Dot6, FWord, Fixed, NameId};
 
@@ -42,6 +42,14 @@ fn lines_of_the_grid(rt: HostRuntime) {
         nearest_pixel(F26Dot6::from_bits(32)),
     ];
     assert!(rt; pixels == [-1, 0, 1] && opposite(F26Dot6::ONE) == F26Dot6::from_i32(-1));
+}
+
+#[test]
+fn depths_in_a_zone(rt: HostRuntime) {
+    for (y, below) in [(-1, 0), (0, 0), (10, 10), (64, 64), (65, 64)] {
+        let found = depth(F26Dot6::from_bits(y), F26Dot6::ZERO, F26Dot6::ONE);
+        assert!(rt; found == F26Dot6::from_bits(below), "{y}");
+    }
 }
 
 #[test]
