@@ -119,6 +119,27 @@ pub fn depth(y: F26Dot6, bottom: F26Dot6, top: F26Dot6) -> F26Dot6
     }
 }
 
+// Returns a sum of coordinates that fits.
+fn added(a: F26Dot6, b: F26Dot6) -> F26Dot6
+    requires { FitsBits 32 (f26dot6_bits a +ℤ f26dot6_bits b) }
+    ensures { f26dot6_bits result ≡ (f26dot6_bits a +ℤ f26dot6_bits b) }
+{
+    a + b
+}
+
+/// Returns the far edge of a stem whose near edge is on the grid: the width is rounded half up.
+pub fn far_edge(near: F26Dot6, width: F26Dot6) -> F26Dot6
+    requires on_grid { IsIntegral 6 (f26dot6_bits near) }
+    requires width { FitsBits 32 (f26dot6_bits width +ℤ pos 32) }
+    requires least { FitsBits 32 (f26dot6_bits near +ℤ (f26dot6_bits width -ℤ pos 32)) }
+    requires greatest { FitsBits 32 (f26dot6_bits near +ℤ (f26dot6_bits width +ℤ pos 32)) }
+    ensures whole { IsIntegral 6 (f26dot6_bits result) }
+    ensures low { (f26dot6_bits near +ℤ f26dot6_bits width) <ℤ (f26dot6_bits result +ℤ pos 32) }
+    ensures high { f26dot6_bits result ≤ℤ ((f26dot6_bits near +ℤ f26dot6_bits width) +ℤ pos 32) }
+{
+    added(near, width.round())
+}
+
 // ---- positions between two others
 
 /// Interpolates between the values of two masters, whose difference has to fit.

@@ -12,7 +12,7 @@ use Rattle.font_types.proofs.SumCalls.{sum_calls_from, sum_calls_16, sum_calls_3
 use Rattle.font_types.proofs.StoredBytes.{stored_calls}
 use Rattle.font_types.proofs.ShortProducts.{short_product_calls}
 use Rattle.font_types.proofs.Parts.{part_calls, unit_calls, between_calls, lerp_calls}
-use Rattle.font_types.proofs.Narrowed.{exact_narrow_calls, negation_is_integral, kept_32}
+use Rattle.font_types.proofs.Narrowed.{exact_narrow_calls, exact_sum_is_integral, negation_is_integral, kept_32}
 use Rattle.font_types.proofs.ArrayNumbers.{array_number_calls}
 use Rattle.font_types.proofs.Below.{below_calls, text_calls}
 pub use Rattle.font_base.proofs.ScalarCalls.{absent, nowhere, rises_by}
@@ -50,6 +50,7 @@ pub ruleset calls = (
   calls_16,
   calls_64,
   integral_calls,
+  exact_sum_is_integral,
   narrow_calls,
   quarter_neg_one,
   sum_calls_from,

@@ -1,11 +1,11 @@
--- Numbers that are narrowed without wrapping, and the negation of an integer.
-use Rattle.std.proofs.Common.{◌≡◌, ℕ, ◌<◌, ℤ, pos, neg_ℤ, ◌*ℤ◌, ◌≤ℤ◌, arith}
+-- Narrowed numbers, sums and differences that do not wrap, and exact sums and negations of integers.
+use Rattle.std.proofs.Common.{◌≡◌, ℕ, ◌<◌, ℤ, pos, neg_ℤ, ◌+ℤ◌, ◌*ℤ◌, ◌≤ℤ◌, arith}
 use Rattle.std.proofs.lemmas.Int.{ints}
 use Rattle.font_base.specs.Wrap.{wrap}
 use Rattle.font_decimal.specs.Near.{up}
 use Rattle.font_decimal.proofs.Near.{up_gives}
 use Rattle.font_fixed.proofs.Calls.{fits_32}
-use Rattle.font_fixed.proofs.Integral.{negated_is_integral, wrapped_is_integral}
+use Rattle.font_fixed.proofs.Integral.{negated_is_integral, sum_is_integral, wrapped_is_integral}
 use Rattle.font_fixed.proofs.NarrowCalls.{narrowed_near}
 use Rattle.font_fixed.specs.Operations.{IsIntegral, least, greatest}
 
@@ -18,6 +18,10 @@ pub ruleset exact_narrow_calls = (narrowed_is_exact)
 
 pub negation_is_integral : (f w : ℕ) (a r : ℤ) → r ≡ wrap w (neg_ℤ a) → f < w → IsIntegral f a → IsIntegral f r
 negation_is_integral f w a r is few is_a = rw is (wrapped_is_integral f w (neg_ℤ a) few (negated_is_integral f a is_a))
+
+-- an exact sum of integers is an integer
+pub exact_sum_is_integral : (f : ℕ) (a b r : ℤ) → r ≡ (a +ℤ b) → IsIntegral f a → IsIntegral f b → IsIntegral f r
+exact_sum_is_integral f a b r is is_a is_b = rw is (sum_is_integral f a b is_a is_b)
 
 -- a sum or a difference within the bounds of 32 bits does not wrap
 pub kept_32 : (z : ℤ) → neg_ℤ (pos 2147483648) ≤ℤ z → z ≤ℤ pos 2147483647 → wrap 32 z ≡ z

@@ -1,8 +1,8 @@
 //! A hinter.
 
 use crate::hinting::{
-    NameRecord, between, bounds, depth, interpolate, is_windows_name, line_above, nearest_pixel,
-    opposite, read_scale, scaled_units,
+    NameRecord, between, bounds, depth, far_edge, interpolate, is_windows_name, line_above,
+    nearest_pixel, opposite, read_scale, scaled_units,
 };
 use font_types::{BoundingBox, F2Dot14, F26Dot6, FWord, Fixed, NameId};
 
@@ -49,6 +49,21 @@ fn depths_in_a_zone(rt: HostRuntime) {
     for (y, below) in [(-1, 0), (0, 0), (10, 10), (64, 64), (65, 64)] {
         let found = depth(F26Dot6::from_bits(y), F26Dot6::ZERO, F26Dot6::ONE);
         assert!(rt; found == F26Dot6::from_bits(below), "{y}");
+    }
+}
+
+#[test]
+fn far_edges(rt: HostRuntime) {
+    for (width, edge) in [
+        (-33, 0),
+        (-32, 64),
+        (31, 64),
+        (32, 128),
+        (95, 128),
+        (96, 192),
+    ] {
+        let found = far_edge(F26Dot6::ONE, F26Dot6::from_bits(width));
+        assert!(rt; found == F26Dot6::from_bits(edge), "{width}");
     }
 }
 
