@@ -71,7 +71,7 @@ mod font_tags;
 #[path = "generated/font_types/mod.rs"]
 mod font_types;
 
-mod compared;
+mod cross_type;
 mod traits;
 
 // The code of that page is compiled and run.

@@ -1,4 +1,4 @@
-//! The examples, over fonts built by `built`.
+//! The examples, over the fonts of `fonts`.
 #![allow(clippy::duplicate_mod)]
 
 #[path = "../examples/dump.rs"]
@@ -6,12 +6,12 @@ mod dump;
 #[path = "../examples/instance.rs"]
 mod instance;
 
-mod built;
+mod fonts;
 mod proved;
 
-use built::{MAP, MAPS, font, font_of, hvar, hvar_of_two_axes, long_hvar, two_axes, words};
 use dump::dump;
 use font_types_proved::{F2Dot14, Fixed, GlyphId16, Tag, UfWord};
+use fonts::{MAP, MAPS, font, font_of, hvar, hvar_of_two_axes, long_hvar, two_axes, words};
 use instance::{advance, axes, normalized};
 
 #[test]

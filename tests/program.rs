@@ -1,11 +1,11 @@
 //! The program as Cargo builds it: the stored lines, I/O errors, and out of memory.
 
+use fontval_lines::{ANSWERS, assert_answers};
 use std::fs::{self, File};
 use std::path::Path;
 use std::process::{Command, Output, Stdio};
-use stored::{ANSWERS, assert_answers};
 
-mod stored;
+mod fontval_lines;
 
 const LINES: &str = concat!(env!("CARGO_MANIFEST_DIR"), "/crates/fontval/stdin");
 

@@ -1,4 +1,4 @@
-//! The impls of `src/traits.rs` and `src/compared.rs`. Comparisons are in `ids.rs` and `tags.rs`,
+//! The impls of `src/traits.rs` and `src/cross_type.rs`. Comparisons are in `ids.rs` and `tags.rs`,
 //! and `values` is in `fields.rs`.
 
 use font_types_proved::*;

@@ -1,13 +1,13 @@
 //! Prints results of the proved Rust, with which `c/tests/header.c` compares the functions that the
 //! header has in C: raw values rounded to integers, and fields of 16 bytes. `rows FONT LONG` writes
 //! two fonts that `dump` reads, with delta sets of short and of long words.
-#[path = "../../tests/built/mod.rs"]
-mod built;
+#[path = "../../tests/fonts/mod.rs"]
+mod fonts;
 
-use built::{font, variations, words};
 use font_types_proved::{
     F2Dot14, F2Dot30, F4Dot12, F6Dot10, F26Dot6, F48Dot16, Fixed, Int24, Scalar, Uint24,
 };
+use fonts::{font, variations, words};
 
 /// Prints the rounded value of each raw value of a format.
 macro_rules! round {

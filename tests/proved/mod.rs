@@ -1,4 +1,4 @@
-//! The coordinates and advances of a font by the functions of `crates/examples` that are proved,
+//! The coordinates and advances of a font by the functions of `crates/callers` that are proved,
 //! which `generated` has without their contracts. They take slices: what finds these, as tables,
 //! offsets and axes, is written here, apart from `examples`.
 

@@ -1,7 +1,7 @@
 //! Names and paths in the pages are those of the source.
 
 use font_types_tools::repository::{files, text};
-use std::collections::HashSet;
+use std::collections::{HashMap, HashSet};
 
 /// Names of std, of other crates and of earlier versions.
 const OTHERS: &str =
@@ -106,4 +106,31 @@ fn names_of_the_library_for_c() {
         }
     }
     assert!(count > 20, "{count}");
+}
+
+/// Returns the name that a line of `specs` defines, if it defines one.
+fn defined(line: &str) -> Option<&str> {
+    let kinds = ["abbrev ", "unfoldable "];
+    let kind = kinds.iter().find_map(|kind| line.strip_prefix(kind));
+    let rest = kind.unwrap_or(line).strip_prefix("pub ")?;
+    let rest = rest.strip_prefix("record ").unwrap_or(rest);
+    let name = rest.split([' ', ':', '{', '(']).next()?;
+    (!["use", "mod"].contains(&name)).then_some(name)
+}
+
+// A definition is found by its name.
+#[test]
+fn crates_define_different_names() {
+    let mut crates: HashMap<String, String> = HashMap::new();
+    for file in files("crates", ".antt") {
+        let mut parts = file.split('/').skip(1);
+        let (Some(of), Some("specs")) = (parts.next(), parts.next()) else {
+            continue;
+        };
+        for name in text(&file).lines().filter_map(defined) {
+            let first = crates.entry(name.to_string()).or_insert(of.to_string());
+            assert_eq!(first, of, "{name}");
+        }
+    }
+    assert!(crates.len() > 400, "{}", crates.len());
 }

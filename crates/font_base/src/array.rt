@@ -52,7 +52,7 @@ impl<'a, T: Scalar> ScalarArray<'a, T> {
     pub fn new(data: &'a [u8]) -> Option<ScalarArray<'a, T>>
     where
         T::Raw: ByteChunks,
-        ensures whole { IsSome result ↔ (length «data».now % T.RAW_BYTE_LEN ≡ 0) }
+        ensures variant { IsSome result ↔ (length «data».now % T.RAW_BYTE_LEN ≡ 0) }
         ensures bytes { IfSome result (λ array. array_bytes array ≡ «data».now) }
     {
         prove!(T::RAW_BYTE_LEN == <T::Raw as BeByteArray>::LEN);
@@ -81,7 +81,7 @@ impl<'a, T: Scalar> ScalarArray<'a, T> {
     pub fn read_at(bytes: &'a [u8], offset: usize, count: usize) -> Option<ScalarArray<'a, T>>
     where
         T::Raw: ByteChunks,
-        ensures end { IsSome result ↔ (offset + count * T.RAW_BYTE_LEN ≤ length bytes.now) }
+        ensures variant { IsSome result ↔ (offset + count * T.RAW_BYTE_LEN ≤ length bytes.now) }
         ensures bytes { IfSome result (λ array.
             array_bytes array ≡ take (count * T.RAW_BYTE_LEN) (drop offset bytes.now)) }
         ensures len { 0 < T.RAW_BYTE_LEN → IfSome result (λ array. array_len array ≡ count) }
@@ -154,7 +154,7 @@ impl<'a, T: Scalar> ScalarArray<'a, T> {
     #[inline]
     #[tactic(auto, using(crate::proofs::Elements::element_rules))]
     pub fn get(&self, index: usize) -> Option<T>
-        ensures end { IsSome result ↔ (index < array_len self.now) }
+        ensures variant { IsSome result ↔ (index < array_len self.now) }
         ensures stored { IfSome result (λ v.
             T.Raw.bytes (T.raw_of v) ≡ element_bytes self.now index) }
         ensures reads { IfSome result (λ v.
@@ -170,7 +170,7 @@ impl<'a, T: Scalar> ScalarArray<'a, T> {
     #[must_use]
     #[inline]
     pub fn first(&self) -> Option<T>
-        ensures end { IsSome result ↔ (0 < array_len self.now) }
+        ensures variant { IsSome result ↔ (0 < array_len self.now) }
         ensures stored { IfSome result (λ v.
             T.Raw.bytes (T.raw_of v) ≡ element_bytes self.now 0) }
         ensures reads { IfSome result (λ v.
@@ -184,7 +184,7 @@ impl<'a, T: Scalar> ScalarArray<'a, T> {
     #[must_use]
     #[inline]
     pub fn last(&self) -> Option<T>
-        ensures end { IsSome result ↔ (0 < array_len self.now) }
+        ensures variant { IsSome result ↔ (0 < array_len self.now) }
         ensures stored { IfSome result (λ v.
             T.Raw.bytes (T.raw_of v) ≡ element_bytes self.now (array_len self.now - 1)) }
         ensures reads { IfSome result (λ v. IsValueOf T.Raw.bytes T.of_raw
@@ -207,7 +207,7 @@ impl<'a, T: Scalar> ScalarArray<'a, T> {
     #[inline]
     #[tactic(auto, using(crate::proofs::Elements::slice_rules))]
     pub fn slice(&self, start: usize, end: usize) -> Option<ScalarArray<'a, T>>
-        ensures end { IsSome result ↔ ((start ≤ end) × (end ≤ array_len self.now)) }
+        ensures variant { IsSome result ↔ ((start ≤ end) × (end ≤ array_len self.now)) }
         ensures elements { IfSome result (λ part.
             array_elements part ≡ take (end - start) (drop start (array_elements self.now))) }
         ensures bytes { IfSome result (λ part. array_bytes part

@@ -57,7 +57,7 @@ impl<T: Scalar> BigEndian<T> {
     #[must_use]
     #[inline]
     pub fn from_slice(slice: &[u8]) -> Option<BigEndian<T>>
-        ensures length { IsSome result ↔ (length slice.now ≡ T.RAW_BYTE_LEN) }
+        ensures variant { IsSome result ↔ (length slice.now ≡ T.RAW_BYTE_LEN) }
         ensures bytes { IfSome result (λ field. T.Raw.bytes (raw_value field) ≡ slice.now) }
     {
         prove!(T::RAW_BYTE_LEN == <T::Raw as BeByteArray>::LEN);
@@ -80,7 +80,7 @@ impl<T: Scalar> BigEndian<T> {
     #[must_use]
     #[inline]
     pub fn read_at(bytes: &[u8], offset: usize) -> Option<BigEndian<T>>
-        ensures end { IsSome result ↔ (offset + T.RAW_BYTE_LEN ≤ length bytes.now) }
+        ensures variant { IsSome result ↔ (offset + T.RAW_BYTE_LEN ≤ length bytes.now) }
         ensures bytes { IfSome result (λ field.
             T.Raw.bytes (raw_value field) ≡ take T.RAW_BYTE_LEN (drop offset bytes.now)) }
     {

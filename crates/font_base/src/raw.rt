@@ -42,7 +42,7 @@ pub trait BeByteArray: Copy {
     /// Copies a slice, or returns `None` unless its length is `LEN`.
     #[must_use]
     fn from_slice(slice: &[u8]) -> Option<Self>
-        ensures length { IsSome result ↔ (length slice.now ≡ LEN) }
+        ensures variant { IsSome result ↔ (length slice.now ≡ LEN) }
         ensures value { IfSome result (λ array. IsTrue (is_value array)) }
         ensures bytes { IfSome result (λ array. bytes array ≡ slice.now) };
 
@@ -224,7 +224,7 @@ pub trait Scalar: FixedSize {
     #[must_use]
     #[inline]
     fn read(slice: &[u8]) -> Option<Self>
-        ensures length { IsSome result ↔ (length slice.now ≡ Self.RAW_BYTE_LEN) }
+        ensures variant { IsSome result ↔ (length slice.now ≡ Self.RAW_BYTE_LEN) }
         ensures bytes { IfSome result (λ v. Self.Raw.bytes (raw_of v) ≡ slice.now) }
         ensures reads { IfSome result (λ v. IsValueOf Self.Raw.bytes of_raw slice.now v) }
         ensures value { IfSome result (λ v. IsTrue (is_scalar v)) }
@@ -246,7 +246,7 @@ pub trait Scalar: FixedSize {
     #[must_use]
     #[inline]
     fn read_at(bytes: &[u8], offset: usize) -> Option<Self>
-        ensures end { IsSome result ↔ (offset + Self.RAW_BYTE_LEN ≤ length bytes.now) }
+        ensures variant { IsSome result ↔ (offset + Self.RAW_BYTE_LEN ≤ length bytes.now) }
         ensures bytes { IfSome result (λ v.
             Self.Raw.bytes (raw_of v) ≡ take Self.RAW_BYTE_LEN (drop offset bytes.now)) }
         ensures reads { IfSome result (λ v.

@@ -94,7 +94,7 @@ impl<'a, H: TableHeader> TableDataRef<'a, H> {
     #[must_use]
     #[inline(always)]
     pub fn new(data: &'a [u8]) -> Option<TableDataRef<'a, H>>
-        ensures long { IsSome result ↔ (H.BYTE_LEN ≤ length «data».now) }
+        ensures variant { IsSome result ↔ (H.BYTE_LEN ≤ length «data».now) }
         ensures bytes { IfSome result (λ table. table_bytes table ≡ «data».now) }
     {
         if data.len() < H::BYTE_LEN {

@@ -2,7 +2,7 @@
 
 ghost use Rattle.std.specs.Prelude.{◌≡◌, ◌≢◌, ◌<◌};
 ghost use Rattle.std.specs.Int.{w16, w32, w64};
-ghost use Rattle.font_c.specs.Readings.{reading_of, ReadsInto};
+ghost use Rattle.font_c.specs.Readings.{result_of, ParsesInto};
 ghost use Rattle.font_c.specs.Status.{bad_fraction, IsFraction};
 
 use crate::status::{BAD_FRACTION, NO_DECIMAL, OK, OUT_OF_RANGE, is_fraction};
@@ -13,7 +13,7 @@ use font_types::DecimalFault;
 #[unsafe(no_mangle)]
 pub extern "C" fn font_parse_i16(text: &[u8], fraction_bits: u32, bits: &mut i16) -> u32
     ensures parsed { IsFraction 16 fraction_bits
-        → ReadsInto w16 fraction_bits text.now result bits.old bits.new }
+        → ParsesInto w16 fraction_bits text.now result bits.old bits.new }
     ensures refused { ¬ IsFraction 16 fraction_bits
         → (result ≡ bad_fraction) × (bits.new ≡ bits.old) }
 {
@@ -27,7 +27,7 @@ pub extern "C" fn font_parse_i16(text: &[u8], fraction_bits: u32, bits: &mut i16
 #[unsafe(no_mangle)]
 pub extern "C" fn font_parse_i32(text: &[u8], fraction_bits: u32, bits: &mut i32) -> u32
     ensures parsed { IsFraction 32 fraction_bits
-        → ReadsInto w32 fraction_bits text.now result bits.old bits.new }
+        → ParsesInto w32 fraction_bits text.now result bits.old bits.new }
     ensures refused { ¬ IsFraction 32 fraction_bits
         → (result ≡ bad_fraction) × (bits.new ≡ bits.old) }
 {
@@ -41,7 +41,7 @@ pub extern "C" fn font_parse_i32(text: &[u8], fraction_bits: u32, bits: &mut i32
 #[unsafe(no_mangle)]
 pub extern "C" fn font_parse_i64(text: &[u8], fraction_bits: u32, bits: &mut i64) -> u32
     ensures parsed { IsFraction 64 fraction_bits
-        → ReadsInto w64 fraction_bits text.now result bits.old bits.new }
+        → ParsesInto w64 fraction_bits text.now result bits.old bits.new }
     ensures refused { ¬ IsFraction 64 fraction_bits
         → (result ≡ bad_fraction) × (bits.new ≡ bits.old) }
 {
@@ -53,7 +53,7 @@ pub extern "C" fn font_parse_i64(text: &[u8], fraction_bits: u32, bits: &mut i64
 
 // Stores a parsed value, and returns the status.
 fn store_reading<T: Copy>(reading: Result<T, DecimalFault>, place: &mut T) -> u32
-    ensures reading { reading_of result place.new ≡ reading }
+    ensures reading { result_of result place.new ≡ reading }
     ensures known { result < 3 }
     ensures kept { result ≢ 0 → place.new ≡ place.old }
 {

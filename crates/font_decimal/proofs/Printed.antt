@@ -26,7 +26,7 @@ use Rattle.font_decimal.proofs.Fewest.{fewest_is, within_half, none_fewer, unit_
 use Rattle.font_decimal.proofs.Fewest.{zero_drops}
 use Rattle.std.proofs.lemmas.List.{same_from_push}
 use Rattle.std.proofs.lemmas.Str.Parse.{digit_from_value}
-use Rattle.font_decimal.specs.Reading.{Rounds, IsReading}
+use Rattle.font_decimal.specs.Reading.{Rounds, Parses}
 use Rattle.font_decimal.specs.Padding.{unsigned_body}
 use Rattle.font_decimal.specs.declared.reader.DecimalFault.{DecimalFault}
 use Rattle.font_decimal.proofs.Texts.{same_parts, decimal_unique, decimal_of}
@@ -208,7 +208,7 @@ printed_reads_once b c f small x = rounds_unique _ _ c b x (printed_rounds b f s
 
 pub printed_is_read : (b : ℤ) (f : ℕ) (min max : ℤ) (r : Result ℤ DecimalFault) → unsigned_abs b ≤ 2 ^ 63 → min ≤ℤ b
     → b ≤ℤ max
-    → IsReading (shortest_text b f) f min max r → r ≡ Ok b
+    → Parses (shortest_text b f) f min max r → r ≡ Ok b
 printed_is_read b f min max r small low high x = reading_unique _ f min max r (Ok b) x
     (record { rounds = printed_rounds b f small; low = low; high = high })
 

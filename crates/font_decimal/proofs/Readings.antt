@@ -8,7 +8,7 @@ use Rattle.std.proofs.lemmas.Int.{ints}
 use Rattle.std.proofs.lemmas.Nat.{mul-pow}
 use Rattle.font_decimal.specs.Near.{signed}
 use Rattle.font_decimal.specs.Grammar.{HasParts}
-use Rattle.font_decimal.specs.Reading.{Rounds, Reads, IsOutOfRange, IsReading}
+use Rattle.font_decimal.specs.Reading.{Rounds, Reads, IsOutOfRange, Parses}
 use Rattle.font_decimal.specs.declared.reader.DecimalFault.{DecimalFault}
 use Rattle.font_decimal.specs.declared.reader.DecimalFault.TheVariants.{Syntax, OutOfRange}
 use Rattle.font_decimal.proofs.Near.{near_from, near_unique, signed_times}
@@ -47,8 +47,8 @@ not_outside f text min max b x y =
     let same = rounds_unique text f b y.nearest x.rounds y.rounds in grind (arith, ints)
 
 -- a text has one result
-pub reading_unique : (text : List ℕ) (f : ℕ) (min max : ℤ) (q r : Result ℤ DecimalFault) → IsReading text f min max q
-    → IsReading text f min max r → q ≡ r
+pub reading_unique : (text : List ℕ) (f : ℕ) (min max : ℤ) (q r : Result ℤ DecimalFault) → Parses text f min max q
+    → Parses text f min max r → q ≡ r
 reading_unique text f _ _ (Ok b) (Ok c) x y = ap Ok (rounds_unique text f b c x.rounds y.rounds)
 reading_unique _ _ _ _ (Ok b) (Err Syntax) x y = absurd (y _ _ x.rounds.decimal)
 reading_unique _ _ _ _ (Ok b) (Err OutOfRange) x y = absurd (not_outside _ _ _ _ _ x y)
@@ -60,13 +60,13 @@ reading_unique _ _ _ _ (Err OutOfRange) (Err Syntax) x y = absurd (y _ _ x.round
 reading_unique _ _ _ _ (Err OutOfRange) (Err OutOfRange) x y = refl
 
 -- and so the result determines whether it is a value
-pub answers_as : (text : List ℕ) (f : ℕ) (min max : ℤ) (q r : Result ℤ DecimalFault) → IsReading text f min max q
-    → (q ≡ r) ↔ IsReading text f min max r
+pub answers_as : (text : List ℕ) (f : ℕ) (min max : ℤ) (q r : Result ℤ DecimalFault) → Parses text f min max q
+    → (q ≡ r) ↔ Parses text f min max r
 answers_as text f min max q r x =
     (λ e. rw e at x, λ y. reading_unique text f min max q r x y)
 
 -- the test of the range holds of both of two numbers of units that are equal or both above 2^63, or of neither
 pub judged_by_range : {text : List ℕ} {f : ℕ} (s : Bool) (n units : ℕ) (min max : ℤ) (r : Option ℤ) → FitsSigned w64 min
     → FitsSigned w64 max → (n ≡ units) ⊎ ((2 ^ 63 < n) × (2 ^ 63 < units)) → Rounds text f (signed s units)
-    → SomeIff r ((min ≤ℤ signed s n) × (signed s n ≤ℤ max)) (signed s n) → IsReading text f min max (ok_or r OutOfRange)
+    → SomeIff r ((min ≤ℤ signed s n) × (signed s n ≤ℤ max)) (signed s n) → Parses text f min max (ok_or r OutOfRange)
 judged_by_range s n units min max r least most same rounds given = grind (arith, nat_tests)

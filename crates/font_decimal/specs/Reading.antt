@@ -25,10 +25,10 @@ pub record IsOutOfRange (text : List ℕ) (f : ℕ) (min max : ℤ) : Type 0 whe
   pub outside : (nearest <ℤ min) ⊎ (max <ℤ nearest)
 
 -- the result of parsing: the raw value, or the error
-abbrev pub IsReading : List ℕ → ℕ → ℤ → ℤ → Result ℤ DecimalFault → Type 0
-IsReading text f min max (Ok b) = Reads text f min max b
-IsReading text f min max (Err Syntax) = IsNoDecimal text
-IsReading text f min max (Err OutOfRange) = IsOutOfRange text f min max
+abbrev pub Parses : List ℕ → ℕ → ℤ → ℤ → Result ℤ DecimalFault → Type 0
+Parses text f min max (Ok b) = Reads text f min max b
+Parses text f min max (Err Syntax) = IsNoDecimal text
+Parses text f min max (Err OutOfRange) = IsOutOfRange text f min max
 
 -- the value of one decimal is less than or equal to that of the other
 pub record IsAtMost (lesser greater : List ℕ) : Type 0 where

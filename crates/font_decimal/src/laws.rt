@@ -1,6 +1,6 @@
 //! A law of parsing, as the contract of a function.
 ghost use Rattle.std.specs.Prelude.{◌≡◌, ◌≤◌, ℤ, pos, ◌≤ℤ◌};
-ghost use Rattle.font_decimal.specs.Reading.{IsReading, IsAtMost};
+ghost use Rattle.font_decimal.specs.Reading.{Parses, IsAtMost};
 
 use crate::{DecimalFault, read_decimal};
 
@@ -15,8 +15,8 @@ pub fn reads_in_order(
 ) -> (Result<i64, DecimalFault>, Result<i64, DecimalFault>)
     requires bits_of_fraction { (6 ≤ f) × (f ≤ 30) }
     requires around_zero { (min ≤ℤ pos 0) × (pos 0 ≤ℤ max) }
-    ensures first { IsReading s.now f min max result.0 }
-    ensures second { IsReading t.now f min max result.1 }
+    ensures first { Parses s.now f min max result.0 }
+    ensures second { Parses t.now f min max result.1 }
     ensures in_order { (a b : ℤ) → result.0 ≡ Ok a → result.1 ≡ Ok b → IsAtMost s.now t.now
         → a ≤ℤ b }
 {

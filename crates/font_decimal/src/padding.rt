@@ -81,7 +81,7 @@ pub fn write_padded(text: &str, out: &mut [u8], pad: &Pad) -> Option<usize>
     requires ascii { pad.now.fill < 128 }
     ensures written { IfSome result
         (λ n. FillsFront (padded_text text.now pad.now) n out.old out.new) }
-    ensures room { IsSome result ↔ (length (padded_text text.now pad.now) ≤ length out.old) }
+    ensures variant { IsSome result ↔ (length (padded_text text.now pad.now) ≤ length out.old) }
     ensures fills { length out.old ≤ pad.now.width
         → IfSome result (λ _. out.new ≡ padded_text text.now pad.now) }
     ensures untouched { IfNone result (out.new ≡ out.old) }

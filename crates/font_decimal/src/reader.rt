@@ -8,7 +8,7 @@ ghost use Rattle.std.specs.Char.{digit_value};
 ghost use Rattle.std.specs.Str.Parse.{digits_value, AllDigits};
 ghost use Rattle.font_decimal.specs.Near.{signed};
 ghost use Rattle.font_decimal.specs.Grammar.{HasParts, IsNoDecimal};
-ghost use Rattle.font_decimal.specs.Reading.{Rounds, Reads, IsOutOfRange, IsReading};
+ghost use Rattle.font_decimal.specs.Reading.{Rounds, Reads, IsOutOfRange, Parses};
 
 use crate::grammar::{after_point, are_digits, split_sign};
 use thiserror::Error;
@@ -53,7 +53,7 @@ pub fn read_decimal(text: &str, f: u32, min: i64, max: i64) -> Result<i64, Decim
     requires bits_of_fraction { (6 ≤ f) × (f ≤ 30) }
     requires around_zero { (min ≤ℤ pos 0) × (pos 0 ≤ℤ max) }
     ensures ok { (b : ℤ) → (result ≡ Ok b) ↔ Reads text.now f min max b }
-    ensures reading { IsReading text.now f min max result }
+    ensures reading { Parses text.now f min max result }
     ensures out_of_range { (result ≡ Err DecimalFault.OutOfRange)
         ↔ IsOutOfRange text.now f min max }
     ensures syntax { (result ≡ Err DecimalFault.Syntax) ↔ IsNoDecimal text.now }
@@ -70,7 +70,7 @@ pub fn read_decimal(text: &str, f: u32, min: i64, max: i64) -> Result<i64, Decim
 pub fn read_decimal_bytes(text: &[u8], f: u32, min: i64, max: i64) -> Result<i64, DecimalFault>
     requires bits_of_fraction { (6 ≤ f) × (f ≤ 30) }
     requires around_zero { (min ≤ℤ pos 0) × (pos 0 ≤ℤ max) }
-    ensures { IsReading text.now f min max result }
+    ensures { Parses text.now f min max result }
 {
     let (negative, digits) = split_sign(text);
     let Some(magnitude) = nearest_raw(digits, f) else {

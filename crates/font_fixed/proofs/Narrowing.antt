@@ -61,7 +61,7 @@ is_narrowed w v d half x s q it wide is low high =
     } in
     let wrapped = wrap_gives v (q +ℤ turns) q it.some (record { fits = fits; turns = given.turns; differs = refl }) in
     record {
-      exact = q +ℤ turns;
+      rounded = q +ℤ turns;
       nearest = nearest;
       wrapped = wrapped;
       is = wrapped ∙ ap (wrap v) (up_gives x d (q +ℤ turns) it.steps nearest);
@@ -91,9 +91,9 @@ floor_is_nearest_whole w f x s r is floor test wide =
     (rw (← floor.bits) floor.high) in
     let steps = λ (z : ℤ). wrap-times w (w - f) (2 ^ f) (2 ^ f / 2) z it wide in
     record {
-      whole = narrow.exact;
+      whole = narrow.rounded;
       nearest = narrow.nearest;
-      wrapped = floor.bits ∙ ap (λ n. n *ℤ pos (2 ^ f)) narrow.wrapped ∙ steps narrow.exact;
+      wrapped = floor.bits ∙ ap (λ n. n *ℤ pos (2 ^ f)) narrow.wrapped ∙ steps narrow.rounded;
       is = floor.bits ∙ ap (λ n. n *ℤ pos (2 ^ f)) narrow.is ∙ steps (up x (2 ^ f));
     }
 

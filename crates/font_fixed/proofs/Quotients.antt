@@ -20,9 +20,9 @@ not_negative m = sym (false_is_lt (pos m) (pos 0) (omega arith))
 pub product_signed : (x y : ℤ) → (x *ℤ y) ≡ signed (differ_in_sign x y) (unsigned_abs x * unsigned_abs y)
 product_signed x y = grind (arith, nat_tests)
 
-pub wrapped_near_from : (w : ℕ) (n : ℤ) (d : ℕ) (exact r : ℤ) → 0 < d → Near n d exact → r ≡ wrap w exact
+pub wrapped_near_from : (w : ℕ) (n : ℤ) (d : ℕ) (q r : ℤ) → 0 < d → Near n d q → r ≡ wrap w q
     → IsWrappedNear w n d r
-wrapped_near_from w n d exact r some nearest wrapped = grind (arith, nat_tests, near_gives)
+wrapped_near_from w n d q r some nearest wrapped = grind (arith, nat_tests, near_gives)
 
 -- a magnitude that is rounded, with its sign
 signed_near : (s : Bool) (n d : ℕ) → 0 < d → signed s (near_magnitude n d) ≡ near (signed s n) d

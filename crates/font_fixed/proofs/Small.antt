@@ -20,11 +20,11 @@ small_near w m d n r wide some given room small =
     let low : (neg_ℤ (pos m) *ℤ pos d) ≤ℤ n = rw (neg-times (pos m) d) low_is in
     let below = near_monotone some some given.nearest (near_exact (pos m) d some) (times_monotone _ _ d high) in
     let above = near_monotone some some (near_exact (neg_ℤ (pos m)) d some) given.nearest (times_monotone _ _ d low) in
-    let inside : FitsBits w given.exact = record {
+    let inside : FitsBits w given.rounded = record {
       low = omega (arith, ints, above, small);
       high = omega (arith, ints, below, small);
     } in
-    given.wrapped ∙ wrap-fits w given.exact wide inside ∙ near_gives n d given.exact some given.nearest
+    given.wrapped ∙ wrap-fits w given.rounded wide inside ∙ near_gives n d given.rounded some given.nearest
 
 factors_small : (u v k : ℕ) (x a : ℤ) → unsigned_abs x ≤ u → unsigned_abs a ≤ v → u * v ≤ k
     → unsigned_abs (x *ℤ a) ≤ k

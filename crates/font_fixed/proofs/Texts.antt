@@ -20,17 +20,17 @@ use Rattle.font_decimal.specs.declared.padding.Pad.{Pad}
 use Rattle.font_decimal.proofs.Padded.{padded_fits}
 use Rattle.font_decimal.proofs.Printed.{length-shortest_body-le, printed_rounds}
 use Rattle.font_decimal.proofs.Readings.{answers_as}
-use Rattle.font_fixed.specs.Operations.{least, greatest, ReadsAs, ReadingGives}
-use Rattle.font_fixed.specs.Reading.{ReadsBy}
+use Rattle.font_fixed.specs.Operations.{least, greatest, ReadsBits, ParsesBits}
+use Rattle.font_fixed.specs.Reading.{ParsesFixedPoint}
 
 -- the number is cast to the type of the bits
 pub cast_reads : (w : Width) (f : ℕ) (text : List ℕ) (b min max : ℤ) → 2 ^ hbits w ≤ 2 ^ 63 → min ≡ least (bits w)
     → max ≡ greatest (bits w) → Reads text f min max b
-    → ReadsAs (bits w) f text (to_z w (of_z w (to_z w64 (of_z w64 b))))
+    → ReadsBits (bits w) f text (to_z w (of_z w (to_z w64 (of_z w64 b))))
 cast_reads w f text b min max room low high reads = grind (arith, nat_tests)
 
 -- the printed text of a number parses as that number
-pub printed_reads : (w f : ℕ) (b : ℤ) → 2 ^ (w - 1) ≤ 2 ^ 63 → FitsBits w b → ReadsAs w f (shortest_text b f) b
+pub printed_reads : (w f : ℕ) (b : ℤ) → 2 ^ (w - 1) ≤ 2 ^ 63 → FitsBits w b → ReadsBits w f (shortest_text b f) b
 printed_reads w f b room fits = grind (arith, ints, printed_rounds)
 
 -- the greatest number of places that is printed: three for each ten fraction bits, and one
@@ -98,18 +98,18 @@ same_result : {T : Type 0} (bits_of : T → ℤ) (of_bits : ℤ → T) → ((x :
 same_result bits_of of_bits back q r same = grind (arith, nat_tests)
 
 if_ok_reads : {T : Type 0} (w f : ℕ) (bits_of : T → ℤ) (text : List ℕ) (q : Result T DecimalFault)
-    → ReadingGives w f text (as_bits bits_of q)
-    → IfOk q (λ x. ReadsAs w f text (bits_of x))
+    → ParsesBits w f text (as_bits bits_of q)
+    → IfOk q (λ x. ReadsBits w f text (bits_of x))
 if_ok_reads w f bits_of text q gives = grind (arith, nat_tests)
 
 -- the contract of parsing, from the result as a raw value
 pub reads_by : {T : Type 0} (w : Width) (f : ℕ) (bits_of : T → ℤ) (of_bits : ℤ → T) (text : List ℕ)
     (q : Result T DecimalFault)
-    → ((x : T) → of_bits (bits_of x) ≡ x) → 2 ^ hbits w ≤ 2 ^ 63 → ReadingGives (bits w) f text (as_bits bits_of q)
-    → ReadsBy w f bits_of text q
+    → ((x : T) → of_bits (bits_of x) ≡ x) → 2 ^ hbits w ≤ 2 ^ 63 → ParsesBits (bits w) f text (as_bits bits_of q)
+    → ParsesFixedPoint w f bits_of text q
 reads_by {T} w f bits_of of_bits text q back room gives =
     let half : 2 ^ (bits w - 1) ≤ 2 ^ 63 = rw (half_range-bits w) room in
-    let only : (r : Result T DecimalFault) → (q ≡ r) ↔ ReadingGives (bits w) f text (as_bits bits_of r)
+    let only : (r : Result T DecimalFault) → (q ≡ r) ↔ ParsesBits (bits w) f text (as_bits bits_of r)
     = λ r. let answer = answers_as text f (least (bits w)) (greatest (bits w)) (as_bits bits_of q)
     (as_bits bits_of r) gives in
     (λ same. answer.0 (ap (as_bits bits_of) same), λ other. same_result bits_of of_bits back q r (answer.1 other)) in

@@ -5,7 +5,7 @@ use Rattle.std.specs.Prelude.{◌≤ℤ◌, ◌<ℤ◌, Result, if◌then◌else
 use Rattle.std.specs.Int.{is_negative, int_rem_euclid, saturate_to_bits}
 use Rattle.font_base.specs.Wrap.{half_range, wrap}
 use Rattle.font_decimal.specs.Near.{signed, Near, near, Up, up}
-use Rattle.font_decimal.specs.Reading.{Reads, IsOutOfRange, IsReading}
+use Rattle.font_decimal.specs.Reading.{Reads, IsOutOfRange, Parses}
 use Rattle.font_decimal.specs.declared.reader.DecimalFault.{DecimalFault}
 
 -- n / d rounded half away from zero and wrapped to w bits
@@ -14,9 +14,9 @@ wrapped_near w n d = wrap w (near n d)
 
 -- r is n / d rounded half away from zero and wrapped to w bits
 pub record IsWrappedNear (w : ℕ) (n : ℤ) (d : ℕ) (r : ℤ) : Type 0 where
-  pub exact : ℤ
-  pub nearest : Near n d exact
-  pub wrapped : r ≡ wrap w exact
+  pub rounded : ℤ
+  pub nearest : Near n d rounded
+  pub wrapped : r ≡ wrap w rounded
   pub is : r ≡ wrapped_near w n d
 
 -- b / d rounded half up and wrapped to w bits
@@ -25,9 +25,9 @@ narrowed w b d = wrap w (up b d)
 
 -- r is b / d rounded half up and wrapped to w bits
 pub record IsNarrowed (w : ℕ) (b : ℤ) (d : ℕ) (r : ℤ) : Type 0 where
-  pub exact : ℤ
-  pub nearest : Up b d exact
-  pub wrapped : r ≡ wrap w exact
+  pub rounded : ℤ
+  pub nearest : Up b d rounded
+  pub wrapped : r ≡ wrap w rounded
   pub is : r ≡ narrowed w b d
 
 -- the raw value of b / 2^f rounded half up to an integer, wrapped to w bits
@@ -76,16 +76,16 @@ abbrev pub greatest : ℕ → ℤ
 greatest w = pos (half_range w - 1)
 
 -- the text parses as the w-bit raw value b with f fraction bits
-abbrev pub ReadsAs : ℕ → ℕ → List ℕ → ℤ → Type 0
-ReadsAs w f text b = Reads text f (least w) (greatest w) b
+abbrev pub ReadsBits : ℕ → ℕ → List ℕ → ℤ → Type 0
+ReadsBits w f text b = Reads text f (least w) (greatest w) b
 
 -- the text is a decimal whose rounded raw value does not fit in w bits
 abbrev pub IsTooFar : ℕ → ℕ → List ℕ → Type 0
 IsTooFar w f text = IsOutOfRange text f (least w) (greatest w)
 
 -- the result of parsing as a w-bit raw value with f fraction bits
-abbrev pub ReadingGives : ℕ → ℕ → List ℕ → Result ℤ DecimalFault → Type 0
-ReadingGives w f text result = IsReading text f (least w) (greatest w) result
+abbrev pub ParsesBits : ℕ → ℕ → List ℕ → Result ℤ DecimalFault → Type 0
+ParsesBits w f text result = Parses text f (least w) (greatest w) result
 
 -- z saturated to w bits
 abbrev pub clamp : ℕ → ℤ → ℤ

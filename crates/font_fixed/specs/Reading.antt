@@ -7,16 +7,16 @@ use Rattle.font_decimal.specs.Grammar.{IsNoDecimal}
 use Rattle.font_decimal.specs.Shortest.{shortest_text}
 use Rattle.font_decimal.specs.declared.reader.DecimalFault.{DecimalFault}
 use Rattle.font_decimal.specs.declared.reader.DecimalFault.TheVariants.{Syntax, OutOfRange}
-use Rattle.font_fixed.specs.Operations.{ReadsAs, IsTooFar, ReadingGives}
+use Rattle.font_fixed.specs.Operations.{ReadsBits, IsTooFar, ParsesBits}
 
 -- The result of parsing: the nearest value of the type with width w and f fraction bits; `Syntax` if the text is not a
 -- decimal; `OutOfRange` if its nearest value does not fit in the width. The printed text of a value parses as that
 -- value. (The project's own rule.)
-pub record ReadsBy {T : Type 0} (w : Width) (f : ℕ) (bits_of : T → ℤ) (text : List ℕ)
+pub record ParsesFixedPoint {T : Type 0} (w : Width) (f : ℕ) (bits_of : T → ℤ) (text : List ℕ)
     (result : Result T DecimalFault) : Type 0 where
-  pub ok : (x : T) → (result ≡ Ok x) ↔ ReadsAs (bits w) f text (bits_of x)
-  pub reads : IfOk result (λ x. ReadsAs (bits w) f text (bits_of x))
-  pub gives : ReadingGives (bits w) f text (result_map_both bits_of (λ fault. fault) result)
+  pub ok : (x : T) → (result ≡ Ok x) ↔ ReadsBits (bits w) f text (bits_of x)
+  pub reads : IfOk result (λ x. ReadsBits (bits w) f text (bits_of x))
+  pub gives : ParsesBits (bits w) f text (result_map_both bits_of (λ fault. fault) result)
   pub printed : (x : T) → FitsSigned w (bits_of x) → text ≡ shortest_text (bits_of x) f → result ≡ Ok x
   pub out_of_range : (result ≡ Err OutOfRange) ↔ IsTooFar (bits w) f text
   pub syntax : (result ≡ Err Syntax) ↔ IsNoDecimal text

@@ -13,7 +13,7 @@ ghost use Rattle.font_decimal.specs.Padding.{padded_text, FillsFront};
 ghost use Rattle.font_decimal.specs.Shortest.{IsShortest};
 ghost use Rattle.font_decimal.specs.Shown.{shown};
 ghost use Rattle.font_fixed.specs.Operations.{IsNearestWhole, IsIntegral, IsFloor, IsFract, clamp};
-ghost use Rattle.font_fixed.specs.Reading.{ReadsBy};
+ghost use Rattle.font_fixed.specs.Reading.{ParsesFixedPoint};
 ghost use Rattle.font_fixed.specs.Rounding.{rounded};
 ghost use Rattle.font_fixed.specs.declared.fixed_i16.FixedI16.{FixedI16};
 ghost use Rattle.font_fixed.specs.FixedI16.{bits_of, of_bits, text_of};
@@ -225,7 +225,7 @@ where
     /// of range.
     #[inline]
     pub fn from_decimal(text: &str) -> Result<Self, DecimalFault>
-        ensures { ReadsBy w16 F bits_of text.now result }
+        ensures { ParsesFixedPoint w16 F bits_of text.now result }
     {
         Self::from_decimal_bytes(text.as_bytes())
     }
@@ -237,7 +237,7 @@ where
     /// Returns the errors of `from_decimal`, and `Syntax` if the bytes are not UTF-8.
     #[inline]
     pub fn from_decimal_bytes(text: &[u8]) -> Result<Self, DecimalFault>
-        ensures { ReadsBy w16 F bits_of text.now result }
+        ensures { ParsesFixedPoint w16 F bits_of text.now result }
     {
         Ok(Self(read_bits_16(text, F)?))
     }
@@ -285,7 +285,7 @@ where
         requires { pad.now.fill < 128 }
         ensures written { IfSome result
             (λ n. FillsFront (padded_text (text_of self.entry) pad.now) n out.old out.new) }
-        ensures room { IsSome result
+        ensures variant { IsSome result
             ↔ (length (padded_text (text_of self.entry) pad.now) ≤ length out.old) }
         ensures cell { max (longest 16 F) pad.now.width ≤ length out.old → IsSome result }
         ensures fills { length out.old ≤ pad.now.width
@@ -359,7 +359,7 @@ where
 {
     type Err = DecimalFault;
 
-    ghost from_str_gives = { λ text result. ReadsBy w16 F bits_of text result };
+    ghost from_str_gives = { λ text result. ParsesFixedPoint w16 F bits_of text result };
 
     #[inline]
     fn from_str(text: &str) -> Result<Self, DecimalFault> {

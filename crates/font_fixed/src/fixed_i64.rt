@@ -11,7 +11,7 @@ ghost use Rattle.font_decimal.specs.Padding.{padded_text, FillsFront};
 ghost use Rattle.font_decimal.specs.Shortest.{IsShortest};
 ghost use Rattle.font_decimal.specs.Shown.{shown};
 ghost use Rattle.font_fixed.specs.Operations.{IsNearestWhole, IsIntegral, IsFloor, IsFract, clamp};
-ghost use Rattle.font_fixed.specs.Reading.{ReadsBy};
+ghost use Rattle.font_fixed.specs.Reading.{ParsesFixedPoint};
 ghost use Rattle.font_fixed.specs.Rounding.{rounded};
 ghost use Rattle.font_fixed.specs.declared.fixed_i64.FixedI64.{FixedI64};
 ghost use Rattle.font_fixed.specs.FixedI64.{bits_of, text_of};
@@ -218,7 +218,7 @@ where
     /// of range.
     #[inline]
     pub fn from_decimal(text: &str) -> Result<Self, DecimalFault>
-        ensures { ReadsBy w64 F bits_of text.now result }
+        ensures { ParsesFixedPoint w64 F bits_of text.now result }
     {
         Self::from_decimal_bytes(text.as_bytes())
     }
@@ -230,7 +230,7 @@ where
     /// Returns the errors of `from_decimal`, and `Syntax` if the bytes are not UTF-8.
     #[inline]
     pub fn from_decimal_bytes(text: &[u8]) -> Result<Self, DecimalFault>
-        ensures { ReadsBy w64 F bits_of text.now result }
+        ensures { ParsesFixedPoint w64 F bits_of text.now result }
     {
         Ok(Self(read_bits_64(text, F)?))
     }
@@ -278,7 +278,7 @@ where
         requires { pad.now.fill < 128 }
         ensures written { IfSome result
             (λ n. FillsFront (padded_text (text_of self.entry) pad.now) n out.old out.new) }
-        ensures room { IsSome result
+        ensures variant { IsSome result
             ↔ (length (padded_text (text_of self.entry) pad.now) ≤ length out.old) }
         ensures cell { max (longest 64 F) pad.now.width ≤ length out.old → IsSome result }
         ensures fills { length out.old ≤ pad.now.width
@@ -352,7 +352,7 @@ where
 {
     type Err = DecimalFault;
 
-    ghost from_str_gives = { λ text result. ReadsBy w64 F bits_of text result };
+    ghost from_str_gives = { λ text result. ParsesFixedPoint w64 F bits_of text result };
 
     #[inline]
     fn from_str(text: &str) -> Result<Self, DecimalFault> {

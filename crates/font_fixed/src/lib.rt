@@ -22,7 +22,7 @@ pub use fixed_i32::{F2Dot30, F26Dot6, Fixed, FixedI32, nearest_step};
 pub use fixed_i64::{F48Dot16, FixedI64};
 pub use formats::Format;
 pub use products::{low_bits, mul_div, product};
-use products::{exact_mul_div, exact_product};
+use products::{nearest_mul_div, nearest_product};
 pub use reading::{read_bits_16, read_bits_32, read_bits_64};
 use rounding::{half_up_32, half_up_64};
 pub use rounding::{

@@ -16,7 +16,7 @@ pub fn product(x: i32, y: i32, f: u32) -> i32
     requires { (6 ≤ f) × (f ≤ 30) }
     ensures { IsProduct 32 f x y result }
 {
-    low_bits(exact_product(x, y, f))
+    low_bits(nearest_product(x, y, f))
 }
 
 /// Returns `x * a / c`, rounded once, half away from zero, wrapping on overflow.
@@ -27,7 +27,7 @@ pub fn product(x: i32, y: i32, f: u32) -> i32
 pub const fn mul_div(x: i32, a: i32, c: i32) -> i32
     ensures { IsMulDiv 32 x a c result }
 {
-    low_bits(exact_mul_div(x, a, c))
+    low_bits(nearest_mul_div(x, a, c))
 }
 
 /// Truncates to the low 32 bits.
@@ -41,7 +41,7 @@ pub const fn low_bits(n: i64) -> i32
 
 /// Multiplies two numbers with `f` fraction bits, rounding half away from zero.
 #[inline(always)]
-pub(crate) fn exact_product(x: i32, y: i32, f: u32) -> i64
+pub(crate) fn nearest_product(x: i32, y: i32, f: u32) -> i64
     requires { (6 ≤ f) × (f ≤ 30) }
     ensures { result ≡ near (x *ℤ y) (2 ^ f) }
 {
@@ -62,7 +62,7 @@ fn rounded_shift(n: i64, f: u32) -> i64
 /// Returns `x * a / c`, rounded half away from zero, or, if `c` is zero, `i32::MAX`, negated if
 /// exactly one of `x` and `a` is negative.
 #[inline]
-pub(crate) const fn exact_mul_div(x: i32, a: i32, c: i32) -> i64
+pub(crate) const fn nearest_mul_div(x: i32, a: i32, c: i32) -> i64
     ensures nearest { c ≢ pos 0 → result ≡ rounded_mul_div x a c }
     ensures zero { c ≡ pos 0 → result ≡ signed (differ_in_sign x a) (2 ^ 31 - 1) }
 {

@@ -9,9 +9,9 @@ use native.Mathlib.Numerals.{unary_clauses}
 use denote.Bor.{Bor}
 use Rattle.font_base.specs.Wrap.{wrap}
 use Rattle.font_base.specs.Wrap.Laws.{wrap-add_left}
-use Rattle.font_fixed.specs.Operations.{ReadsAs}
+use Rattle.font_fixed.specs.Operations.{ReadsBits}
 use Rattle.font_types.specs.Delta.{total_below}
-use Rattle.font_types.specs.Texts.{ReadsTotal}
+use Rattle.font_types.specs.Texts.{ReadsSum}
 use Rattle.font_types.specs.Version.{hex_text}
 
 pub none_below : (number_at : ℕ → ℤ) → total_below number_at 0 ≡ pos 0
@@ -53,13 +53,13 @@ pub ruleset below_calls = (none_below, one_more_below, running_below_32, running
 
 -- ---- sums of texts
 
-pub total_of_none : (w f : ℕ) → ReadsTotal w f [] (pos 0)
-unfolding ReadsTotal
+pub total_of_none : (w f : ℕ) → ReadsSum w f [] (pos 0)
+unfolding ReadsSum
 total_of_none w f = refl
 
-total_appended : (w f : ℕ) (texts : List (List ℕ)) (text : List ℕ) (s a : ℤ) → ReadsTotal w f texts s
-    → ReadsAs w f text a → ReadsTotal w f (texts ++ text ∷ []) (s +ℤ a)
-unfolding ReadsTotal
+total_appended : (w f : ℕ) (texts : List (List ℕ)) (text : List ℕ) (s a : ℤ) → ReadsSum w f texts s
+    → ReadsBits w f text a → ReadsSum w f (texts ++ text ∷ []) (s +ℤ a)
+unfolding ReadsSum
 total_appended w f [] text s a total reads = (a, pos 0, reads, refl, omega (arith, ints, total))
 total_appended w f (t ∷ ts) text s a total reads =
     (total.0, total.1 +ℤ a, total.2, total_appended w f ts text total.1 a total.3 reads, omega (arith, ints, total.4))
@@ -73,9 +73,9 @@ map_take_more g (x ∷ xs) (suc i) d within =
     rw next (ap (λ ys. g x ∷ ys) (map_take_more g xs i d (omega arith)))
 
 pub total_one_more : (w f : ℕ) (texts : List (Bor (List ℕ))) (i : ℕ) (d : Bor (List ℕ)) (r s a : ℤ)
-    → i < length texts → ReadsTotal w f (map (λ t. t.now) (take i texts)) s → ReadsAs w f (get_or texts i d).now a
+    → i < length texts → ReadsSum w f (map (λ t. t.now) (take i texts)) s → ReadsBits w f (get_or texts i d).now a
     → r ≡ (s +ℤ a)
-    → ReadsTotal w f (map (λ t. t.now) (take (i + 1) texts)) r
+    → ReadsSum w f (map (λ t. t.now) (take (i + 1) texts)) r
 total_one_more w f texts i d r s a within total reads is =
     rw (is, ← map_take_more (λ t. t.now) texts i d within)
     (total_appended w f (map (λ t. t.now) (take i texts)) (get_or texts i d).now s a total reads)

@@ -6,7 +6,7 @@ use Rattle.std.specs.Result.{result_map_both}
 use Rattle.serde_json.specs.Data.{Data, object, member, no_members, number, unsigned}
 use Rattle.serde_json.specs.Find.{as_number, as_integer, as_object, as_str, get, of_integer}
 use Rattle.font_decimal.specs.Grammar.{IsNoDecimal}
-use Rattle.font_fixed.specs.Operations.{ReadsAs, IsTooFar, least, greatest}
+use Rattle.font_fixed.specs.Operations.{ReadsBits, IsTooFar, least, greatest}
 use Rattle.font_decimal.specs.declared.reader.DecimalFault.{DecimalFault}
 use Rattle.font_tags.specs.declared.tag.Tag.{Tag}
 use Rattle.font_tags.specs.declared.version.MajorMinor.{MajorMinor}
@@ -54,8 +54,8 @@ abbrev pub number_within : ℤ → ℤ → Data → Result ℤ JsonFault
 number_within min max d = number_or_fault min max (option_and_then as_integer (as_number d))
 
 -- the result of converting JSON to a type whose values are the integers from `min` to `max`
-abbrev pub ReadsWholeNumber : {T : Type 0} → ℤ → ℤ → (T → ℤ) → Data → Result T JsonFault → Type 0
-ReadsWholeNumber min max number_of d result = result_map_both number_of (λ fault. fault) result
+abbrev pub ConvertsInteger : {T : Type 0} → ℤ → ℤ → (T → ℤ) → Data → Result T JsonFault → Type 0
+ConvertsInteger min max number_of d result = result_map_both number_of (λ fault. fault) result
     ≡ number_within min max d
 
 -- an integer fits in w unsigned bits (decidable)
@@ -70,20 +70,21 @@ json_fault DecimalFault.Syntax = Syntax
 json_fault DecimalFault.OutOfRange = OutOfRange
 
 -- the result of parsing a string as a w-bit type with f fraction bits
-abbrev pub IsTextRead : ℕ → ℕ → List ℕ → Result ℤ JsonFault → Type 0
-IsTextRead w f text (Ok b) = ReadsAs w f text b
-IsTextRead w f text (Err Syntax) = IsNoDecimal text
-IsTextRead w f text (Err OutOfRange) = IsTooFar w f text
-IsTextRead w f text (Err _) = ⊥
+abbrev pub ConvertsDecimalText : ℕ → ℕ → List ℕ → Result ℤ JsonFault → Type 0
+ConvertsDecimalText w f text (Ok b) = ReadsBits w f text b
+ConvertsDecimalText w f text (Err Syntax) = IsNoDecimal text
+ConvertsDecimalText w f text (Err OutOfRange) = IsTooFar w f text
+ConvertsDecimalText w f text (Err _) = ⊥
 
 -- the same if there is a string; otherwise `WrongKind`
-abbrev pub IsDecimalRead : ℕ → ℕ → Option (List ℕ) → Result ℤ JsonFault → Type 0
-IsDecimalRead w f None result = result ≡ Err WrongKind
-IsDecimalRead w f (Some text) result = IsTextRead w f text result
+abbrev pub ConvertsDecimalString : ℕ → ℕ → Option (List ℕ) → Result ℤ JsonFault → Type 0
+ConvertsDecimalString w f None result = result ≡ Err WrongKind
+ConvertsDecimalString w f (Some text) result = ConvertsDecimalText w f text result
 
 -- the result of converting JSON to a w-bit type with f fraction bits
-abbrev pub ReadsDecimal : {T : Type 0} → ℕ → ℕ → (T → ℤ) → Data → Result T JsonFault → Type 0
-ReadsDecimal w f bits_of d result = IsDecimalRead w f (as_str d) (result_map_both bits_of (λ fault. fault) result)
+abbrev pub ConvertsDecimal : {T : Type 0} → ℕ → ℕ → (T → ℤ) → Data → Result T JsonFault → Type 0
+ConvertsDecimal w f bits_of d result =
+    ConvertsDecimalString w f (as_str d) (result_map_both bits_of (λ fault. fault) result)
 
 -- ---- tags
 
@@ -94,15 +95,15 @@ IsTagRefused bytes NotUtf8 = ¬ IsUtf8 bytes
 IsTagRefused bytes _ = ⊥
 
 -- the result of converting a string: the tag, if one can be created from its bytes
-abbrev pub IsTagMade : List ℕ → Result Tag JsonFault → Type 0
-IsTagMade text (Ok tag) = IsAcceptable text × (tag_bytes tag ≡ filled text)
-IsTagMade text (Err InvalidTag) = ¬ IsAcceptable text
-IsTagMade text (Err _) = ⊥
+abbrev pub ConvertsTagText : List ℕ → Result Tag JsonFault → Type 0
+ConvertsTagText text (Ok tag) = IsAcceptable text × (tag_bytes tag ≡ filled text)
+ConvertsTagText text (Err InvalidTag) = ¬ IsAcceptable text
+ConvertsTagText text (Err _) = ⊥
 
 -- the same if there is a string
-abbrev pub IsTagRead : Option (List ℕ) → Result Tag JsonFault → Type 0
-IsTagRead None result = result ≡ Err WrongKind
-IsTagRead (Some text) result = IsTagMade text result
+abbrev pub ConvertsTagString : Option (List ℕ) → Result Tag JsonFault → Type 0
+ConvertsTagString None result = result ≡ Err WrongKind
+ConvertsTagString (Some text) result = ConvertsTagText text result
 
 -- the result of converting the form of a tag back: the tag if it is valid
 pub record TagComesBack (tag : Tag) (result : Result Tag JsonFault) : Type 0 where
@@ -131,11 +132,11 @@ both_numbers (Ok a) (Err fault) = Err fault
 both_numbers (Ok a) (Ok b) = Ok (a, b)
 
 -- the two numbers of an object, whose other members are ignored; other JSON is `WrongKind`
-abbrev pub version_read : Data → Result (ℤ × ℤ) JsonFault
-version_read d = if is_some (as_object d) then both_numbers (member_number (codes "major") d)
+abbrev pub version_numbers : Data → Result (ℤ × ℤ) JsonFault
+version_numbers d = if is_some (as_object d) then both_numbers (member_number (codes "major") d)
     (member_number (codes "minor") d) else Err WrongKind
 
 -- the result of converting JSON to a `MajorMinor`
-abbrev pub ReadsVersion : Data → Result MajorMinor JsonFault → Type 0
-ReadsVersion d result = result_map_both {U = ℤ × ℤ} (λ version. (pos version.major, pos version.minor))
-    (λ fault. fault) result ≡ version_read d
+abbrev pub ConvertsVersion : Data → Result MajorMinor JsonFault → Type 0
+ConvertsVersion d result = result_map_both {U = ℤ × ℤ} (λ version. (pos version.major, pos version.minor))
+    (λ fault. fault) result ≡ version_numbers d

@@ -9,13 +9,14 @@ use Rattle.fontval.specs.declared.error.CommandError.{CommandError}
 use Rattle.std.specs.Result.{result_map_both}
 use Rattle.font_types.specs.Bytes.{bytes_of}
 use Rattle.font_types.specs.DecimalFault.{DecimalFault}
-use Rattle.font_types.specs.NumberReading.{ReadsBy}
+use Rattle.font_types.specs.NumberReading.{ParsesFixedPoint}
 use Rattle.std.specs.Int.{Width}
 use mir.Val.{bits}
 use Rattle.font_types.specs.Tag.{IsValidated, IsFault, IsVisible, four_spaces}
-use Rattle.fontval.specs.Command.{AnswersWords, ReportsTag, IsNamedType, ShowsReading, fixed_row}
+use Rattle.fontval.specs.Command.{AnswersWords, ReportsTag, IsNamedType, ShowsParsed, fixed_row}
 use Rattle.fontval.specs.Command.{IsAnswer, IsNamed, ShowsBytes}
-use Rattle.fontval.specs.Numbers.{ReadsJust, ReadsTerms, ReadsWhole, ReadsEach, ReadsFixed, ReadsNumber, ReadsTerm}
+use Rattle.fontval.specs.Numbers.{ScansNumber, ScansFixed, ScansInteger, ScansTerm, CollectsEach}
+use Rattle.fontval.specs.Numbers.{CollectsFixed, CollectsTerms}
 use Rattle.fontval.specs.Numbers.{AndThen, pairs_of}
 use Rattle.fontval.specs.Deltas.{Varies}
 use Rattle.fontval.specs.Images.{ShowsImages}
@@ -39,14 +40,14 @@ given_as IsRight IsMeant old new outcome means given = record { is_given = searc
 pub given_number : {T U : Type 0} (type : FixedType) {text old new : List ℕ} {f : ℕ} {w : Width}
     {outcome : Result (Unit {0}) CommandError} {bits_of : T → ℤ} {raw_of : U → List ℕ} {read : Result T DecimalFault}
     {number : Result U DecimalFault}
-    → GivesAnswer (ShowsBytes raw_of number) old new outcome → ReadsBy w f bits_of text read
+    → GivesAnswer (ShowsBytes raw_of number) old new outcome → ParsesFixedPoint w f bits_of text read
     → result_map_both raw_of (λ fault. fault) number
     ≡ result_map_both (λ x. bytes_of (bits w / 8) (bits_of x)) (λ fault. fault) read
     → fixed_row type ≡ ((fixed_row type).0, bits w, f)
-    → GivesAnswer (ShowsReading type text) old new outcome
+    → GivesAnswer (ShowsParsed type text) old new outcome
 given_number type {text = text} {bits_of = bits_of} {raw_of = raw_of} {read = read} {number = number}
     shown reads same row =
-    given_as (ShowsBytes raw_of number) (ShowsReading type text) _ _ _ (λ answer right. rw row (record {
+    given_as (ShowsBytes raw_of number) (ShowsParsed type text) _ _ _ (λ answer right. rw row (record {
       bits = result_map_both bits_of (λ fault. fault) read;
       read = reads.gives;
       gives = grind (arith, same, right.is);
@@ -69,26 +70,26 @@ module _ {A B : Type 0} (GoesOn : A → Result B LineError → Type 0) (one : (v
   one_then IsFirst one_first x y p q =
       let same = one_first p.first q.first p.is_first q.is_first in grind arith
 
-one_number : {T : Type 0} (w f : ℕ) (value : ℤ → T) (text : List ℕ) → IsOne (ReadsNumber w f value text)
+one_number : {T : Type 0} (w f : ℕ) (value : ℤ → T) (text : List ℕ) → IsOne (ScansNumber w f value text)
 one_number w f value text x y p q =
     let same = reading_unique text f _ _ p.bits q.bits p.read q.read in cc
 
-one_whole : (w : ℕ) (word : List ℕ) → IsOne (ReadsWhole w word)
+one_whole : (w : ℕ) (word : List ℕ) → IsOne (ScansInteger w word)
 one_whole w word x y p q = grind arith
 
 one_each : {W T : Type 0} (reads : W → Result T LineError → Type 0) → ((word : W) → IsOne (reads word))
-    → (words : List W) → IsOne (ReadsEach reads words)
+    → (words : List W) → IsOne (CollectsEach reads words)
 one_each reads one [] = one_value (Ok [])
 one_each reads one (word ∷ words) = search (rules, one_then, one_value, one_each reads one words)
 
-one_term : (words : List ℕ × List ℕ) → IsOne (ReadsTerm words)
+one_term : (words : List ℕ × List ℕ) → IsOne (ScansTerm words)
 one_term words = search (rules, one_then, one_value, one_number, one_whole)
 
-one_terms : (words : List (List ℕ)) → IsOne (ReadsTerms words)
-one_terms words = one_either _ _ _ (one_each ReadsTerm one_term (pairs_of words)) (one_value _)
+one_terms : (words : List (List ℕ)) → IsOne (CollectsTerms words)
+one_terms words = one_either _ _ _ (one_each ScansTerm one_term (pairs_of words)) (one_value _)
 
-one_just : (n : ℕ) (words : List (List ℕ)) → IsOne (ReadsJust n words)
-one_just n words = one_either _ _ _ (one_each ReadsFixed (one_number 32 16 fixed_of) words) (one_value _)
+one_just : (n : ℕ) (words : List (List ℕ)) → IsOne (CollectsFixed n words)
+one_just n words = one_either _ _ _ (one_each ScansFixed (one_number 32 16 fixed_of) words) (one_value _)
 
 -- ---- names
 one_named : (word : List ℕ) → IsOne (IsNamed word)
@@ -126,7 +127,7 @@ one_answer_of words (Integer type) = one_value _
 one_answer_of words (FixedPoint type) = one_value _
 one_answer_of words Read = search (rules, one_then, one_number, one_named_type)
 one_answer_of words Tag = search (rules, one_report)
-one_answer_of words Image = one_then _ one_images (ReadsJust 14 words) (one_just 14 words)
+one_answer_of words Image = one_then _ one_images (CollectsFixed 14 words) (one_just 14 words)
 one_answer_of words Sum = one_then _ (λ terms. one_value _) _ (one_terms words)
 one_answer_of words Vary = one_vary words
 

@@ -13,7 +13,7 @@ use Rattle.font_types.specs.Tag.{IsValidated, tag_text}
 use Rattle.font_types.specs.InvalidTag.{InvalidTag}
 use Rattle.font_types.specs.InvalidTag.TheVariants.{InvalidLength, InvalidByte, ByteAfterSpace}
 use Rattle.fontval.specs.Error.{Answer, line_error_of}
-use Rattle.fontval.specs.Numbers.{AndThen, ReadsJust, ReadsNumber, ReadsTerms}
+use Rattle.fontval.specs.Numbers.{AndThen, CollectsFixed, ScansNumber, CollectsTerms}
 use Rattle.fontval.specs.Deltas.{ShowsSum, Varies}
 use Rattle.fontval.specs.Images.{ShowsImages}
 use Rattle.fontval.specs.declared.command.Command.{Command}
@@ -129,10 +129,10 @@ pub record ShowsBytes {T : Type 0} (raw_of : T → List ℕ) (number : Result T 
   pub is : answer ≡ result_map_both (λ value. encode_lower (raw_of value)) line_error_of number
 
 -- the answer is the bytes, in hexadecimal digits, of the number of a type that the text is read as
-abbrev pub ShowsReading : FixedType → List ℕ → Answer → Type 0
-ShowsReading type text answer =
+abbrev pub ShowsParsed : FixedType → List ℕ → Answer → Type 0
+ShowsParsed type text answer =
     let w = (fixed_row type).1 in
-    ReadsNumber w (fixed_row type).2 (λ b. encode_lower (bytes_of (w / 8) b)) text answer
+    ScansNumber w (fixed_row type).2 (λ b. encode_lower (bytes_of (w / 8) b)) text answer
 
 -- the text after a tag: that it is valid, or the fault that it has, and where it has it
 abbrev pub validation_text : Result (Unit {0}) InvalidTag → List ℕ
@@ -155,14 +155,14 @@ AnswersWords words (Integer type) answer =
 AnswersWords words (FixedPoint type) answer = answer ≡ fixed_point type words
 AnswersWords words Read answer =
     MatchResult (two_words words)
-    (λ pair. AndThen (IsNamedType pair.0) (λ type. ShowsReading type pair.1) answer)
+    (λ pair. AndThen (IsNamedType pair.0) (λ type. ShowsParsed type pair.1) answer)
     (λ error. answer ≡ Err error)
 AnswersWords words Tag answer =
     MatchResult (only_bytes 4 words)
     (λ bytes. ReportsTag bytes answer)
     (λ error. answer ≡ Err error)
-AnswersWords words Image answer = AndThen (ReadsJust 14 words) ShowsImages answer
-AnswersWords words Sum answer = AndThen (ReadsTerms words) ShowsSum answer
+AnswersWords words Image answer = AndThen (CollectsFixed 14 words) ShowsImages answer
+AnswersWords words Sum answer = AndThen (CollectsTerms words) ShowsSum answer
 AnswersWords words Vary answer = Varies words answer
 
 -- the answer to the words of a line: the first of them names the command

@@ -6,7 +6,7 @@ use Rattle.std.specs.Option.{ok_or}
 use Rattle.font_types.specs.Delta.{sum_in_range, varied}
 use Rattle.font_types.specs.Shortest.{shortest_text}
 use Rattle.font_types.specs.Fixed.{Fixed}
-use Rattle.fontval.specs.Numbers.{AndThen, ReadsTerms, ReadsWhole}
+use Rattle.fontval.specs.Numbers.{AndThen, CollectsTerms, ScansInteger}
 use Rattle.fontval.specs.Error.{Answer}
 use Rattle.fontval.specs.declared.error.LineError.TheVariants.{WordCount, OutOfRange}
 
@@ -28,6 +28,6 @@ abbrev pub Varies : List (List ℕ) → Answer → Type 0
 Varies [] answer = answer ≡ Err WordCount
 Varies (base ∷ words) answer =
     MatchBool (length words % 2 == 0)
-    (AndThen (ReadsWhole 16 base)
-    (λ units. AndThen (ReadsTerms words) (λ terms shown. shown ≡ varied_answer units terms)) answer)
+    (AndThen (ScansInteger 16 base)
+    (λ units. AndThen (CollectsTerms words) (λ terms shown. shown ≡ varied_answer units terms)) answer)
     (answer ≡ Err WordCount)

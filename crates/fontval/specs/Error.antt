@@ -5,7 +5,7 @@ use Rattle.font_types.specs.DecimalFault.{DecimalFault}
 use Rattle.font_types.specs.DecimalFault.TheVariants.{Syntax, OutOfRange as TooFar}
 use Rattle.fontval.specs.declared.error.LineError.{LineError}
 use Rattle.fontval.specs.declared.error.LineError.TheVariants.{UnknownCommand, WordCount, NotHexadecimal, NotDecimal}
-use Rattle.fontval.specs.declared.error.LineError.TheVariants.{OutOfRange, NotWhole}
+use Rattle.fontval.specs.declared.error.LineError.TheVariants.{OutOfRange, NotInteger}
 use Rattle.fontval.specs.declared.error.CommandError.{CommandError}
 use Rattle.fontval.specs.declared.error.CommandError.TheVariants.{Memory, Line}
 
@@ -20,7 +20,7 @@ error_number WordCount = 2
 error_number NotHexadecimal = 3
 error_number NotDecimal = 4
 error_number OutOfRange = 5
-error_number NotWhole = 6
+error_number NotInteger = 6
 
 -- the error of a word that is no decimal of its type
 abbrev pub line_error_of : DecimalFault → LineError

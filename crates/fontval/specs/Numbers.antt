@@ -8,11 +8,11 @@ use Rattle.std.specs.Str.Parse.{IsNumeral, starts_with_minus, signed_digits_valu
 use Rattle.font_types.specs.DecimalFault.{DecimalFault}
 use Rattle.font_types.specs.Fixed.{fixed_of}
 use Rattle.font_types.specs.Fixed.{Fixed}
-use Rattle.font_types.specs.Operations.{ReadingGives}
+use Rattle.font_types.specs.Operations.{ParsesBits}
 use Rattle.font_types.specs.Wrap.{FitsBits}
 use Rattle.fontval.specs.Error.{line_error_of}
 use Rattle.fontval.specs.declared.error.LineError.{LineError}
-use Rattle.fontval.specs.declared.error.LineError.TheVariants.{WordCount, NotWhole, OutOfRange}
+use Rattle.fontval.specs.declared.error.LineError.TheVariants.{WordCount, NotInteger, OutOfRange}
 
 -- the value that is read first decides how reading goes on; if it is an error, that is the result
 pub record AndThen {A B : Type 0} (IsFirst : Result A LineError → Type 0)
@@ -22,44 +22,44 @@ pub record AndThen {A B : Type 0} (IsFirst : Result A LineError → Type 0)
   pub goes_on : MatchResult first (λ value. GoesOn value result) (λ error. result ≡ Err error)
 
 -- the values of a list, each read in turn
-abbrev pub ReadsEach : {W T : Type 0} → (W → Result T LineError → Type 0) → List W
+abbrev pub CollectsEach : {W T : Type 0} → (W → Result T LineError → Type 0) → List W
     → Result (List T) LineError → Type 0
-ReadsEach reads [] result = result ≡ Ok []
-ReadsEach reads (word ∷ words) result =
+CollectsEach reads [] result = result ≡ Ok []
+CollectsEach reads (word ∷ words) result =
     AndThen (reads word)
-    (λ value. AndThen (ReadsEach reads words) (λ values all. all ≡ Ok (value ∷ values))) result
+    (λ value. AndThen (CollectsEach reads words) (λ values all. all ≡ Ok (value ∷ values))) result
 
 -- the text is read as a number of w bits with f bits of fraction, and gives what `value` makes of
 -- its bits
-pub record ReadsNumber {T : Type 0} (w f : ℕ) (value : ℤ → T) (text : List ℕ)
+pub record ScansNumber {T : Type 0} (w f : ℕ) (value : ℤ → T) (text : List ℕ)
     (result : Result T LineError) : Type 0 where
   pub bits : Result ℤ DecimalFault
-  pub read : ReadingGives w f text bits
+  pub read : ParsesBits w f text bits
   pub gives : result ≡ result_map_both value line_error_of bits
 
 -- the `Fixed` that a word is read as
-abbrev pub ReadsFixed : List ℕ → Result Fixed LineError → Type 0
-ReadsFixed word result = ReadsNumber 32 16 fixed_of word result
+abbrev pub ScansFixed : List ℕ → Result Fixed LineError → Type 0
+ScansFixed word result = ScansNumber 32 16 fixed_of word result
 
 -- exactly n numbers: a wrong count is reported before any word
-abbrev pub ReadsJust : ℕ → List (List ℕ) → Result (List Fixed) LineError → Type 0
-ReadsJust n words result =
-    MatchBool (length words == n) (ReadsEach ReadsFixed words result) (result ≡ Err WordCount)
+abbrev pub CollectsFixed : ℕ → List (List ℕ) → Result (List Fixed) LineError → Type 0
+CollectsFixed n words result =
+    MatchBool (length words == n) (CollectsEach ScansFixed words result) (result ≡ Err WordCount)
 
 -- the bytes of a word after its `-`, or all of them
 abbrev pub after_minus : List ℕ → List ℕ
 after_minus word = if starts_with_minus word then drop 1 word else word
 
 -- the word is an integer: an optional `-`, and one or more digits
-abbrev pub IsWhole : List ℕ → Type 0
-IsWhole word = IsNumeral 10 (after_minus word)
+abbrev pub IsInteger : List ℕ → Type 0
+IsInteger word = IsNumeral 10 (after_minus word)
 
 -- the integer of w bits that a word is read as
-abbrev pub ReadsWhole : ℕ → List ℕ → Result ℤ LineError → Type 0
-ReadsWhole w word (Ok n) = IsWhole word × (n ≡ signed_digits_value 10 word) × FitsBits w n
-ReadsWhole w word (Err NotWhole) = ¬ (IsWhole word)
-ReadsWhole w word (Err OutOfRange) = IsWhole word × ¬ (FitsBits w (signed_digits_value 10 word))
-ReadsWhole w word (Err other) = ⊥
+abbrev pub ScansInteger : ℕ → List ℕ → Result ℤ LineError → Type 0
+ScansInteger w word (Ok n) = IsInteger word × (n ≡ signed_digits_value 10 word) × FitsBits w n
+ScansInteger w word (Err NotInteger) = ¬ (IsInteger word)
+ScansInteger w word (Err OutOfRange) = IsInteger word × ¬ (FitsBits w (signed_digits_value 10 word))
+ScansInteger w word (Err other) = ⊥
 
 -- the words two by two
 abbrev pub pairs_of : {W : Type 0} → List W → List (W × W)
@@ -68,14 +68,14 @@ pairs_of (last ∷ []) = []
 pairs_of (first ∷ second ∷ words) = (first, second) ∷ pairs_of words
 
 -- the term that two words are read as: a scalar, and an integer of 32 bits
-abbrev pub ReadsTerm : List ℕ × List ℕ → Result (Fixed × ℤ) LineError → Type 0
-ReadsTerm words result =
-    AndThen (ReadsFixed words.0)
-    (λ scalar. AndThen (ReadsWhole 32 words.1) (λ delta term. term ≡ Ok (scalar, delta))) result
+abbrev pub ScansTerm : List ℕ × List ℕ → Result (Fixed × ℤ) LineError → Type 0
+ScansTerm words result =
+    AndThen (ScansFixed words.0)
+    (λ scalar. AndThen (ScansInteger 32 words.1) (λ delta term. term ≡ Ok (scalar, delta))) result
 
 -- the terms that words are read as: an odd count is reported before any word
-abbrev pub ReadsTerms : List (List ℕ) → Result (List (Fixed × ℤ)) LineError → Type 0
-ReadsTerms words result =
+abbrev pub CollectsTerms : List (List ℕ) → Result (List (Fixed × ℤ)) LineError → Type 0
+CollectsTerms words result =
     MatchBool (length words % 2 == 0)
-    (ReadsEach ReadsTerm (pairs_of words) result)
+    (CollectsEach ScansTerm (pairs_of words) result)
     (result ≡ Err WordCount)

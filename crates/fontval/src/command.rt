@@ -3,14 +3,14 @@
 ghost use Rattle.std.specs.Prelude.{◌≡◌, string_bytes};
 ghost use Rattle.font_types.specs.Tag.{tag_bytes};
 ghost use Rattle.fontval.specs.Command.{AnswersWords, IsNamed, IsNamedType, ReportsTag};
-ghost use Rattle.fontval.specs.Command.{ShowsReading, fixed_point, integer};
+ghost use Rattle.fontval.specs.Command.{ShowsParsed, fixed_point, integer};
 ghost use Rattle.fontval.specs.Deltas.{sum_of, varied_answer};
 ghost use Rattle.fontval.specs.Error.{GivesAnswer};
 ghost use Rattle.fontval.specs.Text.{words_of};
 
 use crate::error::{CommandError, LineError};
 use crate::images::Images;
-use crate::numbers::{fixed_numbers, in_pairs, terms, whole_number_16};
+use crate::numbers::{check_even, fixed_numbers, integer_16, terms};
 use crate::output::{append, append_read};
 use crate::parse::{hexadecimal, two_words};
 use crate::report::TagReport;
@@ -182,7 +182,7 @@ impl FixedType {
     // Appends the bytes of the number that a word is read as.
     #[tactic(auto, using(crate::proofs::Commands::given_number))]
     fn read<A: Allocator>(self, word: &[u8], output: &mut String<A>) -> Result<(), CommandError>
-        ensures { GivesAnswer (ShowsReading self word.now)
+        ensures { GivesAnswer (ShowsParsed self word.now)
             (string_bytes output.old) (string_bytes output.new) result }
     {
         match self {
@@ -255,8 +255,8 @@ fn append_varied<A: Allocator>(
         (string_bytes output.old) (string_bytes output.new) result }
 {
     let base = words.next().ok_or(LineError::WordCount)?;
-    in_pairs(&words)?;
-    let units = whole_number_16(base)?;
+    check_even(&words)?;
+    let units = integer_16(base)?;
     let terms = terms(alloc, words)?;
     let varied = vary(FWord::new(units), &terms).ok_or(LineError::OutOfRange)?;
     append(varied, output)

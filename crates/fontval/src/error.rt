@@ -31,7 +31,7 @@ pub enum LineError {
     OutOfRange = 5,
     /// A word that is not an integer: an optional `-`, and one or more digits.
     #[error("not an integer")]
-    NotWhole = 6,
+    NotInteger = 6,
 }
 
 impl From<DecimalFault> for LineError {

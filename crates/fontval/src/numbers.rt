@@ -3,8 +3,8 @@
 ghost use Rattle.std.specs.Prelude.{◌≡◌, ◌%◌, ◌^◌, ◌==◌, Ok, Err, true, false, length, min, pos};
 ghost use Rattle.std.specs.Prelude.{MatchOption, MatchResult};
 ghost use Rattle.std.specs.Str.Parse.{IsNumeral, digits_value, starts_with_minus};
-ghost use Rattle.fontval.specs.Numbers.{ReadsFixed, ReadsJust, ReadsTerm, ReadsTerms, ReadsWhole};
-ghost use Rattle.fontval.specs.Numbers.{after_minus};
+ghost use Rattle.fontval.specs.Numbers.{ScansFixed, ScansInteger, ScansTerm, CollectsFixed};
+ghost use Rattle.fontval.specs.Numbers.{CollectsTerms, after_minus};
 ghost use Rattle.fontval.specs.Error.{OnLineError};
 ghost use Rattle.fontval.specs.Text.{words_of};
 
@@ -14,16 +14,16 @@ use font_types::Fixed;
 use std::alloc::Allocator;
 
 // The capacity of a new list of terms.
-const FEW_TERMS: usize = 16;
+const INITIAL_TERMS: usize = 16;
 
 /// Reads exactly `N` words as numbers.
 ///
 /// The words are counted first: a wrong number of words is reported before a wrong word.
 #[tactic(auto, using(crate::proofs::WordByWord::number_steps))]
 pub fn fixed_numbers<const N: usize>(words: Words<'_>) -> Result<[Fixed; N], LineError>
-    ensures { ReadsJust N (words_of words.entry.rest.now) result }
+    ensures { CollectsFixed N (words_of words.entry.rest.now) result }
 {
-    if words.left() != N {
+    if words.count_left() != N {
         return Err(LineError::WordCount);
     }
     let mut numbers = [Fixed::ZERO; N];
@@ -37,7 +37,7 @@ pub fn fixed_numbers<const N: usize>(words: Words<'_>) -> Result<[Fixed; N], Lin
 
 // Reads a word as a `Fixed`.
 fn fixed_number(word: &[u8]) -> Result<Fixed, LineError>
-    ensures { ReadsFixed word.now result }
+    ensures { ScansFixed word.now result }
 {
     Ok(Fixed::from_decimal_bytes(word)?)
 }
@@ -50,12 +50,12 @@ pub fn terms<A: Allocator>(
     mut words: Words<'_>,
 ) -> Result<Vec<(Fixed, i32), A>, CommandError>
     ensures { MatchResult result
-        (λ terms. ReadsTerms (words_of words.entry.rest.now) (Ok terms.items))
+        (λ terms. CollectsTerms (words_of words.entry.rest.now) (Ok terms.items))
         (λ reason. OnLineError reason
-        (λ error. ReadsTerms (words_of words.entry.rest.now) (Err error))) }
+        (λ error. CollectsTerms (words_of words.entry.rest.now) (Err error))) }
 {
-    in_pairs(&words)?;
-    let mut terms = Vec::with_capacity(alloc, FEW_TERMS)?;
+    check_even(&words)?;
+    let mut terms = Vec::with_capacity(alloc, INITIAL_TERMS)?;
     while let (Some(scalar), Some(delta)) = (words.next(), words.next()) {
         terms
             .push(term(scalar, delta)?)
@@ -65,13 +65,13 @@ pub fn terms<A: Allocator>(
 }
 
 /// Returns an error if the number of words is odd.
-pub fn in_pairs(words: &Words<'_>) -> Result<(), LineError>
+pub fn check_even(words: &Words<'_>) -> Result<(), LineError>
     ensures { MatchResult result
         (λ _. (length (words_of words.now.rest.now) % 2 == 0) ≡ true)
         (λ error. ((length (words_of words.now.rest.now) % 2 == 0) ≡ false)
         × (error ≡ LineError.WordCount)) }
 {
-    if words.left().is_multiple_of(2) {
+    if words.count_left().is_multiple_of(2) {
         Ok(())
     } else {
         Err(LineError::WordCount)
@@ -80,26 +80,26 @@ pub fn in_pairs(words: &Words<'_>) -> Result<(), LineError>
 
 // Reads two words as a term.
 fn term(scalar: &[u8], delta: &[u8]) -> Result<(Fixed, i32), LineError>
-    ensures { ReadsTerm (scalar.now, delta.now) result }
+    ensures { ScansTerm (scalar.now, delta.now) result }
 {
-    Ok((fixed_number(scalar)?, whole_number(delta)?))
+    Ok((fixed_number(scalar)?, integer_32(delta)?))
 }
 
 /// Reads a word as an `i32`.
-pub fn whole_number(word: &[u8]) -> Result<i32, LineError>
-    ensures { ReadsWhole 32 word.now result }
+pub fn integer_32(word: &[u8]) -> Result<i32, LineError>
+    ensures { ScansInteger 32 word.now result }
 {
     let (negative, digits) = split_minus(word);
-    let magnitude = magnitude_of_digits(digits).ok_or(LineError::NotWhole)?;
+    let magnitude = magnitude_of_digits(digits).ok_or(LineError::NotInteger)?;
     let number = if negative { -magnitude } else { magnitude };
     i32::try_from(number).map_err(|_| LineError::OutOfRange)
 }
 
 /// Reads a word as an `i16`.
-pub fn whole_number_16(word: &[u8]) -> Result<i16, LineError>
-    ensures { ReadsWhole 16 word.now result }
+pub fn integer_16(word: &[u8]) -> Result<i16, LineError>
+    ensures { ScansInteger 16 word.now result }
 {
-    i16::try_from(whole_number(word)?).map_err(|_| LineError::OutOfRange)
+    i16::try_from(integer_32(word)?).map_err(|_| LineError::OutOfRange)
 }
 
 // Splits off a leading `-`.

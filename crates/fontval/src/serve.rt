@@ -28,7 +28,7 @@ pub enum ServeFault {
 mod tests;
 
 // The size of a read.
-const BLOCK: usize = 16384;
+const READ_SIZE: usize = 16384;
 
 /// Reads a source to its end, and writes the answers to its lines to a sink.
 ///
@@ -79,7 +79,7 @@ fn read_all<A: Allocator, S: Source>(alloc: A, source: &mut S) -> Result<Vec<u8,
     ensures err { IfErr result (λ fault. ReadFails fault (S.failed source.new)) }
 {
     let mut input = Vec::new(alloc);
-    let mut block = [0; BLOCK];
+    let mut block = [0; READ_SIZE];
     loop {
         let Ok(count) = source.read(&mut block) else {
             return Err(ServeFault::Read);

@@ -74,7 +74,7 @@ impl<'a> Words<'a> {
 
     /// Returns the number of words that are left.
     #[tactic(auto, using(crate::proofs::Lines::words_fit))]
-    pub fn left(&self) -> usize
+    pub fn count_left(&self) -> usize
         ensures { result ≡ length (words_of self.now.rest.now) }
     {
         Words::new(self.rest).count()

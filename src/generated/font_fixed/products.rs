@@ -7,7 +7,7 @@
 #[must_use]
 #[inline(always)]
 pub fn product(x: i32, y: i32, f: u32) -> i32 {
-    low_bits(exact_product(x, y, f))
+    low_bits(nearest_product(x, y, f))
 }
 
 /// Returns `x * a / c`, rounded once, half away from zero, wrapping on overflow.
@@ -16,7 +16,7 @@ pub fn product(x: i32, y: i32, f: u32) -> i32 {
 #[must_use]
 #[inline]
 pub const fn mul_div(x: i32, a: i32, c: i32) -> i32 {
-    low_bits(exact_mul_div(x, a, c))
+    low_bits(nearest_mul_div(x, a, c))
 }
 
 /// Truncates to the low 32 bits.
@@ -28,7 +28,7 @@ pub const fn low_bits(n: i64) -> i32 {
 
 /// Multiplies two numbers with `f` fraction bits, rounding half away from zero.
 #[inline(always)]
-pub(crate) fn exact_product(x: i32, y: i32, f: u32) -> i64 {
+pub(crate) fn nearest_product(x: i32, y: i32, f: u32) -> i64 {
     rounded_shift(i64::from(x) * i64::from(y), f)
 }
 
@@ -42,7 +42,7 @@ fn rounded_shift(n: i64, f: u32) -> i64 {
 /// Returns `x * a / c`, rounded half away from zero, or, if `c` is zero, `i32::MAX`, negated if
 /// exactly one of `x` and `a` is negative.
 #[inline]
-pub(crate) const fn exact_mul_div(x: i32, a: i32, c: i32) -> i64 {
+pub(crate) const fn nearest_mul_div(x: i32, a: i32, c: i32) -> i64 {
     let product = magnitude(x) * magnitude(a);
     let negative = differs_in_sign(x, a) != c.is_negative();
     with_sign(negative, rounded_quotient(product, magnitude(c)))

@@ -1,4 +1,4 @@
-// @generated from crates/examples/src/evaluator.rt by tools/src/bin/erase.rs
+// @generated from crates/callers/src/evaluator.rt by tools/src/bin/erase.rs
 
 //! An evaluator of variations: settings, `fvar`, `avar` and sums of deltas.
 

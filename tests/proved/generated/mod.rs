@@ -1,4 +1,4 @@
-// @generated from crates/examples/src/lib.rt by tools/src/bin/erase.rs
+// @generated from crates/callers/src/lib.rt by tools/src/bin/erase.rs
 
 //! Callers of `font_types`: one file for each kind of program that builds on it. Each function is
 //! proved against the contract that its caller wants, and run by a test.

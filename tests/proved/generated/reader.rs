@@ -1,4 +1,4 @@
-// @generated from crates/examples/src/reader.rt by tools/src/bin/erase.rs
+// @generated from crates/callers/src/reader.rt by tools/src/bin/erase.rs
 
 //! A reader of tables: records, `head`, `hmtx`, arrays and searches.
 

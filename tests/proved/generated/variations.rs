@@ -1,4 +1,4 @@
-// @generated from crates/examples/src/variations.rt by tools/src/bin/erase.rs
+// @generated from crates/callers/src/variations.rt by tools/src/bin/erase.rs
 
 //! Item variation stores: scalars of regions, delta sets, their sums, and maps to delta sets.
 

@@ -22,7 +22,7 @@ const ABOVE: [(&str, Target, &[&str]); 3] = [
     ("fontval", Target::Program, &[]),
     ("font_c", Target::Exports, &[]),
     (
-        "examples",
+        "callers",
         Target::Tests,
         &["dumper", "hinting", "linter", "packed", "scaler", "start"],
     ),

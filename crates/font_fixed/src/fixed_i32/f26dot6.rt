@@ -10,7 +10,7 @@ ghost use Rattle.font_fixed.specs.F26Dot6.{f26dot6_bits as bits_of};
 
 use super::FixedI32;
 use crate::formats::Format;
-use crate::{exact_mul_div, exact_product, mul_div, product};
+use crate::{mul_div, nearest_mul_div, nearest_product, product};
 use std::ops::{Div, DivAssign, Mul, MulAssign};
 
 /// A signed 26.6 fixed-point number, the unit of scaled outlines.
@@ -63,7 +63,7 @@ impl F26Dot6 {
         ensures value { IfSome result
             (λ product. bits_of product ≡ near (bits_of self *ℤ bits_of other) (2 ^ 6)) }
     {
-        Some(Self(i32::try_from(exact_product(self.0, other.0, 6)).ok()?))
+        Some(Self(i32::try_from(nearest_product(self.0, other.0, 6)).ok()?))
     }
 
     /// Returns `self / other`, rounded half away from zero, or `None` on overflow or division by
@@ -79,7 +79,7 @@ impl F26Dot6 {
         if other.0 == 0 {
             return None;
         }
-        Some(Self(i32::try_from(exact_mul_div(self.0, Self::ONE.0, other.0)).ok()?))
+        Some(Self(i32::try_from(nearest_mul_div(self.0, Self::ONE.0, other.0)).ok()?))
     }
 
     /// Converts an integer, wrapping on overflow.

@@ -18,7 +18,7 @@ ghost use Rattle.font_fixed.specs.F48Dot16.{f48dot16_bits};
 use super::FixedI32;
 use crate::formats::Format;
 use crate::{
-    F2Dot14, F26Dot6, F48Dot16, exact_mul_div, exact_product, half_up_32, mul_div, product,
+    F2Dot14, F26Dot6, F48Dot16, half_up_32, mul_div, nearest_mul_div, nearest_product, product,
 };
 use font_base::{FixedSize, IdentityEq, Scalar};
 use std::ops::{Div, DivAssign, Mul, MulAssign};
@@ -87,7 +87,7 @@ impl Fixed {
         ensures value { IfSome result
             (λ product. bits_of product ≡ near (bits_of self *ℤ bits_of other) (2 ^ 16)) }
     {
-        Some(Self(i32::try_from(exact_product(self.0, other.0, 16)).ok()?))
+        Some(Self(i32::try_from(nearest_product(self.0, other.0, 16)).ok()?))
     }
 
     /// Returns `self / other`, rounded half away from zero, or `None` on overflow or division by
@@ -116,7 +116,7 @@ impl Fixed {
         if c.0 == 0 {
             return None;
         }
-        Some(Self(i32::try_from(exact_mul_div(self.0, a.0, c.0)).ok()?))
+        Some(Self(i32::try_from(nearest_mul_div(self.0, a.0, c.0)).ok()?))
     }
 
     /// Converts an integer, wrapping on overflow.

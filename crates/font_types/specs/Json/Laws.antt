@@ -9,14 +9,15 @@ use Rattle.font_base.specs.Wrap.{fits_bits}
 use Rattle.font_base.specs.Wrap.Laws.{fits_bits-true}
 use Rattle.font_decimal.specs.Shortest.{shortest_text}
 use Rattle.font_decimal.proofs.Readings.{rounds_unique, not_outside}
-use Rattle.font_fixed.specs.Operations.{ReadsAs, least, greatest}
+use Rattle.font_fixed.specs.Operations.{ReadsBits, least, greatest}
 use Rattle.font_fixed.proofs.Texts.{printed_reads}
 use Rattle.font_types.specs.declared.json.JsonFault.{JsonFault}
 use Rattle.font_types.specs.declared.json.JsonFault.TheVariants.{Memory, WrongKind, OutOfRange, Syntax, NotUtf8}
 use Rattle.font_types.specs.declared.json.JsonFault.TheVariants.{InvalidTag, MissingMember}
-use Rattle.font_types.specs.Json.{JsonForm, IsTagRefused, IsNumber, is_within, ReadsWholeNumber, IsTextRead}
-use Rattle.font_types.specs.Json.{ReadsDecimal, number_within, IsTagMade, IsTagRead, TagComesBack, version_form}
-use Rattle.font_types.specs.Json.{version_read, ReadsVersion}
+use Rattle.font_types.specs.Json.{JsonForm, IsTagRefused, IsNumber, is_within, ConvertsInteger, ConvertsDecimalText}
+use Rattle.font_types.specs.Json.{ConvertsDecimal, ConvertsTagText, ConvertsTagString, TagComesBack}
+use Rattle.font_types.specs.Json.{number_within, version_form}
+use Rattle.font_types.specs.Json.{version_numbers, ConvertsVersion}
 use Rattle.std.specs.Cmp.{first_so, second_so}
 use Rattle.std.specs.Cmp.Derive.{both_true}
 use Rattle.font_base.specs.Bytes.{are_bytes}
@@ -26,8 +27,8 @@ use Rattle.font_tags.specs.declared.version.MajorMinor.{MajorMinor}
 use Rattle.font_tags.specs.Tag.{tag_bytes, tag_of, filled}
 
 -- a printed value parses back
-text_reads_back : (w f : ℕ) (text : List ℕ) (b : ℤ) (result : Result ℤ JsonFault) → ReadsAs w f text b
-    → IsTextRead w f text result → result ≡ Ok b
+text_reads_back : (w f : ℕ) (text : List ℕ) (b : ℤ) (result : Result ℤ JsonFault) → ReadsBits w f text b
+    → ConvertsDecimalText w f text result → result ≡ Ok b
 text_reads_back w f text b (Ok c) reads read = ap Ok (rounds_unique text f c b read.rounds reads.rounds)
 text_reads_back w f text b (Err Syntax) reads read = absurd
     (read reads.rounds.numeral reads.rounds.places reads.rounds.decimal)
@@ -51,9 +52,9 @@ pub fixed_round_trip : {T : Type 0} (w f : ℕ) (bits_of : T → ℤ) (of_bits :
     → 2 ^ (w - 1) ≤ 2 ^ 63
     → (x : T) (d : Data) (result : Result T JsonFault) → IsTrue (fits_bits w (bits_of x))
     → d ≡ string (shortest_text (bits_of x) f)
-    → ReadsDecimal w f bits_of d result → result ≡ Ok x
+    → ConvertsDecimal w f bits_of d result → result ≡ Ok x
 fixed_round_trip w f bits_of of_bits back room x d result value shown read =
-    let text : IsTextRead w f (shortest_text (bits_of x) f) (result_map_both bits_of (λ fault. fault) result) =
+    let text : ConvertsDecimalText w f (shortest_text (bits_of x) f) (result_map_both bits_of (λ fault. fault) result) =
     rw shown at read in
     same_read bits_of of_bits back x result
     (text_reads_back w f (shortest_text (bits_of x) f) (bits_of x) _
@@ -66,7 +67,7 @@ fixed_form w f bits_of of_bits back room = record {
   is_value = λ x. fits_bits w (bits_of x);
   shows = λ x d. d ≡ string (shortest_text (bits_of x) f);
   refuses = λ _ fault. fault ≡ Memory;
-  reads = λ d result. ReadsDecimal w f bits_of d result;
+  reads = λ d result. ConvertsDecimal w f bits_of d result;
   comes_back = λ x result. result ≡ Ok x;
   round_trip = fixed_round_trip w f bits_of of_bits back room;
 }
@@ -82,7 +83,7 @@ number_reads_back min max (negsuc n) within = rw within refl
 -- a value that is determined by its integer
 pub number_round_trip : {T : Type 0} (number_of : T → ℤ) → ((x y : T) → number_of x ≡ number_of y → x ≡ y)
     → (min max : ℤ) (x : T) (d : Data) (result : Result T JsonFault)
-    → IsTrue (is_within min max (number_of x)) → IsNumber (number_of x) d → ReadsWholeNumber min max number_of d result
+    → IsTrue (is_within min max (number_of x)) → IsNumber (number_of x) d → ConvertsInteger min max number_of d result
     → result ≡ Ok x
 number_round_trip number_of same min max x d (Ok y) within shown read =
     let equal : result_map_both number_of (λ fault. fault) (Ok y) ≡ Ok (number_of x) = read ∙ rw shown
@@ -100,7 +101,7 @@ number_form min max number_of same = record {
   is_value = λ x. is_within min max (number_of x);
   shows = λ x d. IsNumber (number_of x) d;
   refuses = λ _ _. ⊥;
-  reads = λ d result. ReadsWholeNumber min max number_of d result;
+  reads = λ d result. ConvertsInteger min max number_of d result;
   comes_back = λ x result. result ≡ Ok x;
   round_trip = number_round_trip number_of same min max;
 }
@@ -128,14 +129,14 @@ unfilled bytes many = let none : 4 - length bytes ≡ 0 = omega (arith, many) in
 
 pub tag_round_trip : (tag : Tag) (d : Data) (result : Result Tag JsonFault) → IsTrue (are_bytes 4 (tag_bytes tag))
     → (IsUtf8 (tag_bytes tag) × (d ≡ string (tag_bytes tag)))
-    → IsTagRead (as_str d) result → TagComesBack tag result
+    → ConvertsTagString (as_str d) result → TagComesBack tag result
 tag_round_trip tag d result value shown read =
     let many = are_bytes-length 4 (tag_bytes tag) value in
-    let text : IsTagMade (tag_bytes tag) result = rw shown.1 at read in
+    let text : ConvertsTagText (tag_bytes tag) result = rw shown.1 at read in
     came_back tag result many text
   where
     came_back : (tag : Tag) (result : Result Tag JsonFault) → length (tag_bytes tag) ≡ 4
-        → IsTagMade (tag_bytes tag) result → TagComesBack tag result
+        → ConvertsTagText (tag_bytes tag) result → TagComesBack tag result
     came_back tag (Ok other) many made = record {
       good = λ _. ap Ok (ap tag_of (made.1 ∙ unfilled (tag_bytes tag) many));
       other = λ bad. absurd (bad made.0.1);
@@ -156,7 +157,7 @@ tag_form = record {
   is_value = λ tag. are_bytes 4 (tag_bytes tag);
   shows = λ tag d. IsUtf8 (tag_bytes tag) × (d ≡ string (tag_bytes tag));
   refuses = λ tag fault. IsTagRefused (tag_bytes tag) fault;
-  reads = λ d result. IsTagRead (as_str d) result;
+  reads = λ d result. ConvertsTagString (as_str d) result;
   comes_back = TagComesBack;
   round_trip = tag_round_trip;
 }
@@ -172,15 +173,15 @@ sixteen_bits n test =
 
 pub version_round_trip : (version : MajorMinor) (d : Data) (result : Result MajorMinor JsonFault)
     → IsTrue (nat_lt version.major (2 ^ 16) && nat_lt version.minor (2 ^ 16))
-    → d ≡ version_form version.major version.minor → ReadsVersion d result → result ≡ Ok version
+    → d ≡ version_form version.major version.minor → ConvertsVersion d result → result ≡ Ok version
 version_round_trip version d result value shown read =
     let first = sixteen_bits version.major
     (first_so (nat_lt version.major (2 ^ 16)) (nat_lt version.minor (2 ^ 16)) value) in
     let second = sixteen_bits version.minor
     (second_so (nat_lt version.major (2 ^ 16)) (nat_lt version.minor (2 ^ 16)) value) in
     let numbers : Result (ℤ × ℤ) JsonFault = Ok (pos version.major, pos version.minor) in
-    let form : version_read (version_form version.major version.minor) ≡ numbers = rw (first, second) refl in
-    came_back version result (read ∙ ap version_read shown ∙ form)
+    let form : version_numbers (version_form version.major version.minor) ≡ numbers = rw (first, second) refl in
+    came_back version result (read ∙ ap version_numbers shown ∙ form)
   where
     came_back : (version : MajorMinor) (result : Result MajorMinor JsonFault)
         → result_map_both {U = ℤ × ℤ} (λ v. (pos v.major, pos v.minor)) (λ fault. fault) result ≡ Ok
@@ -201,7 +202,7 @@ version_form_of = record {
   is_value = λ version. nat_lt version.major (2 ^ 16) && nat_lt version.minor (2 ^ 16);
   shows = λ version d. d ≡ version_form version.major version.minor;
   refuses = λ _ fault. fault ≡ Memory;
-  reads = λ d result. ReadsVersion d result;
+  reads = λ d result. ConvertsVersion d result;
   comes_back = λ x result. result ≡ Ok x;
   round_trip = version_round_trip;
 }

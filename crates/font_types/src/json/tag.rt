@@ -5,7 +5,7 @@ ghost use Rattle.serde_json.specs.Data.{string};
 ghost use Rattle.serde_json.specs.Find.{as_str};
 ghost use Rattle.font_base.specs.Bytes.{are_bytes};
 ghost use Rattle.font_tags.specs.Tag.{tag_bytes};
-ghost use Rattle.font_types.specs.Json.{IsTagRefused, IsTagRead, TagComesBack};
+ghost use Rattle.font_types.specs.Json.{IsTagRefused, ConvertsTagString, TagComesBack};
 ghost use Rattle.font_types.specs.Json.Laws.{tag_form};
 
 use super::{JsonFault, JsonScalar, text_or_fault};

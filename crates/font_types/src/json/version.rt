@@ -3,7 +3,7 @@
 ghost use Rattle.std.specs.Prelude.{◌≡◌, ◌^◌, ◌&&◌, nat_lt, pos};
 ghost use Rattle.std.specs.Result.{result_map_both};
 ghost use Rattle.serde_json.specs.View.{view};
-ghost use Rattle.font_types.specs.Json.{version_form, ReadsVersion, member_number};
+ghost use Rattle.font_types.specs.Json.{version_form, ConvertsVersion, member_number};
 ghost use Rattle.font_types.specs.Json.Laws.{version_form_of};
 ghost use Rattle.font_types.specs.declared.json.JsonFault.TheVariants.{Memory};
 

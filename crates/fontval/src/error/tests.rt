@@ -15,7 +15,7 @@ fn error_texts(rt: HostRuntime) -> Result<(), Fail> {
         ),
         (LineError::NotDecimal, 4, "not a decimal number"),
         (LineError::OutOfRange, 5, "number out of range"),
-        (LineError::NotWhole, 6, "not an integer"),
+        (LineError::NotInteger, 6, "not an integer"),
     ] {
         let command = CommandError::Line(error).to_string(rt.alloc())?;
         assert!(rt; command.as_str() == text, "{text}");

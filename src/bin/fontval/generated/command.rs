@@ -6,7 +6,7 @@ use crate::host::*;
 
 use crate::fontval::error::{CommandError, LineError};
 use crate::fontval::images::Images;
-use crate::fontval::numbers::{fixed_numbers, in_pairs, terms, whole_number_16};
+use crate::fontval::numbers::{check_even, fixed_numbers, integer_16, terms};
 use crate::fontval::output::{append, append_read};
 use crate::fontval::parse::{hexadecimal, two_words};
 use crate::fontval::report::TagReport;
@@ -224,8 +224,8 @@ fn append_varied<A: Allocator>(
     output: &mut String<A>,
 ) -> Result<(), CommandError> {
     let base = words.next().ok_or(LineError::WordCount)?;
-    in_pairs(&words)?;
-    let units = whole_number_16(base)?;
+    check_even(&words)?;
+    let units = integer_16(base)?;
     let terms = terms(alloc, words)?;
     let varied = vary(FWord::new(units), &terms).ok_or(LineError::OutOfRange)?;
     append(varied, output)

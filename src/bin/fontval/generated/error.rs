@@ -21,7 +21,7 @@ pub enum LineError {
     /// A number outside the range of its type.
     OutOfRange = 5,
     /// A word that is not an integer: an optional `-`, and one or more digits.
-    NotWhole = 6,
+    NotInteger = 6,
 }
 
 impl core::error::Error for LineError {}
@@ -34,7 +34,7 @@ impl core::fmt::Display for LineError {
             Self::NotHexadecimal => write!(f, "not hexadecimal bytes of the type"),
             Self::NotDecimal => write!(f, "not a decimal number"),
             Self::OutOfRange => write!(f, "number out of range"),
-            Self::NotWhole => write!(f, "not an integer"),
+            Self::NotInteger => write!(f, "not an integer"),
         }
     }
 }

@@ -10,13 +10,13 @@ use crate::host::alloc::Allocator;
 use font_types_proved::Fixed;
 
 // The capacity of a new list of terms.
-const FEW_TERMS: usize = 16;
+const INITIAL_TERMS: usize = 16;
 
 /// Reads exactly `N` words as numbers.
 ///
 /// The words are counted first: a wrong number of words is reported before a wrong word.
 pub fn fixed_numbers<const N: usize>(words: Words<'_>) -> Result<[Fixed; N], LineError> {
-    if words.left() != N {
+    if words.count_left() != N {
         return Err(LineError::WordCount);
     }
     let mut numbers = [Fixed::ZERO; N];
@@ -40,8 +40,8 @@ pub fn terms<A: Allocator>(
     alloc: A,
     mut words: Words<'_>,
 ) -> Result<Vec<(Fixed, i32), A>, CommandError> {
-    in_pairs(&words)?;
-    let mut terms = Vec::with_capacity(alloc, FEW_TERMS)?;
+    check_even(&words)?;
+    let mut terms = Vec::with_capacity(alloc, INITIAL_TERMS)?;
     while let (Some(scalar), Some(delta)) = (words.next(), words.next()) {
         terms
             .push(term(scalar, delta)?)
@@ -51,8 +51,8 @@ pub fn terms<A: Allocator>(
 }
 
 /// Returns an error if the number of words is odd.
-pub fn in_pairs(words: &Words<'_>) -> Result<(), LineError> {
-    if words.left().is_multiple_of(2) {
+pub fn check_even(words: &Words<'_>) -> Result<(), LineError> {
+    if words.count_left().is_multiple_of(2) {
         Ok(())
     } else {
         Err(LineError::WordCount)
@@ -61,20 +61,20 @@ pub fn in_pairs(words: &Words<'_>) -> Result<(), LineError> {
 
 // Reads two words as a term.
 fn term(scalar: &[u8], delta: &[u8]) -> Result<(Fixed, i32), LineError> {
-    Ok((fixed_number(scalar)?, whole_number(delta)?))
+    Ok((fixed_number(scalar)?, integer_32(delta)?))
 }
 
 /// Reads a word as an `i32`.
-pub fn whole_number(word: &[u8]) -> Result<i32, LineError> {
+pub fn integer_32(word: &[u8]) -> Result<i32, LineError> {
     let (negative, digits) = split_minus(word);
-    let magnitude = magnitude_of_digits(digits).ok_or(LineError::NotWhole)?;
+    let magnitude = magnitude_of_digits(digits).ok_or(LineError::NotInteger)?;
     let number = if negative { -magnitude } else { magnitude };
     i32::try_from(number).map_err(|_| LineError::OutOfRange)
 }
 
 /// Reads a word as an `i16`.
-pub fn whole_number_16(word: &[u8]) -> Result<i16, LineError> {
-    i16::try_from(whole_number(word)?).map_err(|_| LineError::OutOfRange)
+pub fn integer_16(word: &[u8]) -> Result<i16, LineError> {
+    i16::try_from(integer_32(word)?).map_err(|_| LineError::OutOfRange)
 }
 
 // Splits off a leading `-`.

@@ -32,7 +32,7 @@ impl core::fmt::Display for ServeFault {
 }
 
 // The size of a read.
-const BLOCK: usize = 16384;
+const READ_SIZE: usize = 16384;
 
 /// Reads a source to its end, and writes the answers to its lines to a sink.
 ///
@@ -54,7 +54,7 @@ pub fn serve<A: Allocator + Copy, S: Source, K: Sink>(
 // Reads a source to its end.
 fn read_all<A: Allocator, S: Source>(alloc: A, source: &mut S) -> Result<Vec<u8, A>, ServeFault> {
     let mut input = Vec::new(alloc);
-    let mut block = [0; BLOCK];
+    let mut block = [0; READ_SIZE];
     loop {
         let Ok(count) = source.read(&mut block) else {
             return Err(ServeFault::Read);

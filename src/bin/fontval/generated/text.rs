@@ -56,7 +56,7 @@ impl<'a> Words<'a> {
     }
 
     /// Returns the number of words that are left.
-    pub fn left(&self) -> usize {
+    pub fn count_left(&self) -> usize {
         Words::new(self.rest).count()
     }
 }

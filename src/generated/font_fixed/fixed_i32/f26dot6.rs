@@ -4,7 +4,7 @@
 
 use super::FixedI32;
 use crate::font_fixed::formats::Format;
-use crate::font_fixed::{exact_mul_div, exact_product, mul_div, product};
+use crate::font_fixed::{mul_div, nearest_mul_div, nearest_product, product};
 use core::ops::{Div, DivAssign, Mul, MulAssign};
 
 /// A signed 26.6 fixed-point number, the unit of scaled outlines.
@@ -46,7 +46,9 @@ impl F26Dot6 {
     #[must_use]
     #[inline]
     pub fn checked_mul(self, other: Self) -> Option<Self> {
-        Some(Self(i32::try_from(exact_product(self.0, other.0, 6)).ok()?))
+        Some(Self(
+            i32::try_from(nearest_product(self.0, other.0, 6)).ok()?,
+        ))
     }
 
     /// Returns `self / other`, rounded half away from zero, or `None` on overflow or division by
@@ -58,7 +60,7 @@ impl F26Dot6 {
             return None;
         }
         Some(Self(
-            i32::try_from(exact_mul_div(self.0, Self::ONE.0, other.0)).ok()?,
+            i32::try_from(nearest_mul_div(self.0, Self::ONE.0, other.0)).ok()?,
         ))
     }
 

@@ -6,7 +6,7 @@ use super::FixedI32;
 use crate::font_base::{FixedSize, IdentityEq, Scalar};
 use crate::font_fixed::formats::Format;
 use crate::font_fixed::{
-    F2Dot14, F26Dot6, F48Dot16, exact_mul_div, exact_product, half_up_32, mul_div, product,
+    F2Dot14, F26Dot6, F48Dot16, half_up_32, mul_div, nearest_mul_div, nearest_product, product,
 };
 use core::ops::{Div, DivAssign, Mul, MulAssign};
 
@@ -61,7 +61,7 @@ impl Fixed {
     #[inline]
     pub fn checked_mul(self, other: Self) -> Option<Self> {
         Some(Self(
-            i32::try_from(exact_product(self.0, other.0, 16)).ok()?,
+            i32::try_from(nearest_product(self.0, other.0, 16)).ok()?,
         ))
     }
 
@@ -81,7 +81,7 @@ impl Fixed {
         if c.0 == 0 {
             return None;
         }
-        Some(Self(i32::try_from(exact_mul_div(self.0, a.0, c.0)).ok()?))
+        Some(Self(i32::try_from(nearest_mul_div(self.0, a.0, c.0)).ok()?))
     }
 
     /// Converts an integer, wrapping on overflow.

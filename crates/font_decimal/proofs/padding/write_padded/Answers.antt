@@ -4,8 +4,8 @@ use Rattle.font_decimal.specs.Padding.{padded_text}
 use Rattle.font_decimal.proofs.Padded.{padded_length, put_after, nothing_yet, fills_all}
 use Rattle.font_decimal.proofs.padding.write_padded.Goals as goal
 
-pub returns-then-out-shown_len-clause-room : goal.returns-then-out-shown_len-clause-room
-returns-then-out-shown_len-clause-room c = grind (arith, padded_length)
+pub returns-then-out-shown_len-clause-variant : goal.returns-then-out-shown_len-clause-variant
+returns-then-out-shown_len-clause-variant c = grind (arith, padded_length)
 
 pub returns-clause-written : goal.returns-clause-written
 unfolding padded_text
@@ -31,5 +31,5 @@ returns-clause-written c =
 pub returns-clause-fills : goal.returns-clause-fills
 returns-clause-fills c narrow = fills_all _ _ (returns-clause-written c) narrow
 
-pub returns-clause-room : goal.returns-clause-room
-returns-clause-room c = grind (arith, padded_length)
+pub returns-clause-variant : goal.returns-clause-variant
+returns-clause-variant c = grind (arith, padded_length)

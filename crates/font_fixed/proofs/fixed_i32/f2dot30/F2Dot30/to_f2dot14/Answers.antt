@@ -10,5 +10,5 @@ returns c =
     let sum = c.wrapping_add.result.0 in
     let narrow = shr_is_narrowed w32 16 65536 32768 c.args.self.0 sum (search rules) c.wrapping_add.ensures refl in
     let fits : SFits w16 (to_z w32 (of_z w32 (shr_z (to_z w32 (of_z w32 sum)) 65536))) =
-    omega (arith, ints, (wrap_is 16 narrow.exact (lit< tt)).fits, narrow.wrapped) in
+    omega (arith, ints, (wrap_is 16 narrow.rounded (lit< tt)).fits, narrow.wrapped) in
     rw (c.from_bits.ensures, to_z-of_z w16 _ fits) narrow

@@ -1,0 +1,64 @@
+-- Dumps of font values.
+use Rattle.std.specs.Prelude.{◌≡◌, ◌⊎◌, ℕ, ◌-◌, ◌^◌, pos, false, List, [], IsTrue, Option, Some, None, Result, Ok, Err}
+use Rattle.std.specs.Fmt.{digits, decimal, padded_integral, format_spec}
+use lib.Chars.{codes}
+use Rattle.serde_json.specs.Data.{Data, object, member, no_members, string, number}
+use Rattle.serde_json.specs.Find.{of_integer, get}
+use Rattle.font_types.specs.declared.Pad.{Pad}
+use Rattle.font_types.specs.declared.Align.TheVariants.{Right}
+use Rattle.font_types.specs.Fixed.{fixed_bits, fixed_text}
+use Rattle.font_types.specs.Fixed.{Fixed}
+use Rattle.font_types.specs.declared.NameId.{NameId}
+use Rattle.font_types.specs.declared.Tag.{Tag}
+use Rattle.font_types.specs.declared.JsonFault.{JsonFault}
+use Rattle.font_types.specs.declared.JsonFault.TheVariants.{MissingMember}
+use Rattle.font_types.specs.Json.{is_unsigned}
+use Rattle.font_types.specs.Wrap.{fits_bits}
+use Rattle.font_types.specs.NameId.{name_number}
+use Rattle.font_types.specs.Tag.{tag_bytes}
+use Rattle.font_types.specs.Bytes.{are_bytes}
+use Rattle.callers.specs.declared.dumper.Axis.{Axis}
+
+-- a column of that width, aligned to the right with spaces
+abbrev pub column : ℕ → Pad
+column width = record { width = width; fill = 32; align = Right; plus = false; zeros = false }
+
+-- a number in at least eight lower-case hexadecimal digits, with zeros in front
+abbrev pub eight_digits : ℕ → List ℕ
+eight_digits n = padded_integral (format_spec 32 0 4 8 (2 ^ 64 - 1)) false [] (digits 16 false n)
+
+-- a number in at least five decimal digits, with zeros in front
+abbrev pub five_digits : ℕ → List ℕ
+five_digits n = padded_integral (format_spec 32 0 4 5 (2 ^ 64 - 1)) false [] (decimal n)
+
+-- each field is a value of its type
+pub record IsAxis (axis : Axis) : Type 0 where
+  pub tag : IsTrue (are_bytes 4 (tag_bytes axis.tag))
+  pub default : IsTrue (fits_bits 32 (fixed_bits axis.default))
+  pub name : IsTrue (is_unsigned 16 (name_number axis.name))
+
+-- an object with a member for each field: the tag and the default as texts, and the name as a number
+abbrev pub axis_form : Axis → Data
+axis_form axis =
+    object (member (codes "default") (string (fixed_text axis.default))
+    (member (codes "name") (number (of_integer (pos (name_number axis.name))))
+    (member (codes "tag") (string (tag_bytes axis.tag)) no_members)))
+
+-- the result of converting a member, if there is one
+abbrev IsRead : {T : Type 0} → (Data → Result T JsonFault → Type 0) → Option Data → Result T JsonFault → Type 0
+IsRead reads None result = result ≡ Err MissingMember
+IsRead reads (Some d) result = reads d result
+
+-- the result of converting the member of that name
+abbrev pub ConvertsMember : {T : Type 0} → (Data → Result T JsonFault → Type 0) → List ℕ → Data → Result T JsonFault
+    → Type 0
+ConvertsMember reads name d result = IsRead reads (get name d) result
+
+-- the result of converting an axis, from its members: all three fields, or the first error
+abbrev pub ConvertsAxis : (Result Tag JsonFault → Type 0) → (Result Fixed JsonFault → Type 0)
+    → (Result NameId JsonFault → Type 0) → Result Axis JsonFault → Type 0
+ConvertsAxis tag default name (Ok axis) = tag (Ok axis.tag) × default (Ok axis.default) × name (Ok axis.name)
+ConvertsAxis tag default name (Err fault) =
+    tag (Err fault)
+    ⊎ ((t : Tag) × tag (Ok t) × (default (Err fault)
+    ⊎ ((d : Fixed) × default (Ok d) × name (Err fault))))

@@ -1,0 +1,148 @@
+//! A dumper of font values: columns, raw values in hexadecimal, names of glyphs, and JSON.
+
+ghost use Rattle.std.specs.Prelude.{◌≡◌, ◌≤◌, ◌<◌, ℕ, max, List, ◌∷◌, ◌++◌, length};
+ghost use Rattle.std.specs.Prelude.{Some, None, Ok, IsSome, IfSome, IfNone, IfOk, IfErr};
+ghost use Rattle.std.specs.Prelude.{MatchResult, string_bytes};
+ghost use Rattle.std.specs.List.{flat_map};
+ghost use lib.Chars.{codes};
+ghost use Rattle.serde_json.specs.Data.{object, member, no_members};
+ghost use Rattle.serde_json.specs.Find.{get};
+ghost use Rattle.serde_json.specs.View.{view};
+ghost use Rattle.font_types.specs.Bytes.{numeral, bytes_of};
+ghost use Rattle.font_types.specs.Fixed.{fixed_bits, fixed_text};
+ghost use Rattle.font_types.specs.GlyphId.{glyph16_number};
+ghost use Rattle.font_types.specs.Padding.{padded_text};
+ghost use Rattle.font_types.specs.Shortest.{IsShortest};
+ghost use Rattle.font_types.specs.Tag.{tag_bytes, IsGood};
+ghost use Rattle.callers.specs.declared.dumper.Axis.{Axis};
+ghost use Rattle.callers.specs.Dumper.{column, eight_digits, five_digits, IsAxis, axis_form};
+ghost use Rattle.callers.specs.Dumper.{ConvertsMember, ConvertsAxis};
+
+use font_types::{Fixed, GlyphId16, JsonFault, JsonScalar, NameId, Pad, Scalar, Tag};
+use serde_json::{Value, json};
+use std::alloc::{AllocError, Global};
+
+// ---- columns
+
+/// Returns numbers in columns of one width, aligned to the right; a longer number is wider.
+///
+/// `write_padded` always succeeds with 32 bytes, since no `Fixed` is longer than 12.
+pub fn row(numbers: &[Fixed], width: usize, alloc: Global) -> Result<Vec<u8>, AllocError>
+    requires { width ≤ 32 }
+    ensures { IfOk result (λ row.
+        row.items ≡ flat_map (λ number. padded_text (fixed_text number) (column width))
+        numbers.now) }
+{
+    let mut row = Vec::new(alloc);
+    for number in numbers {
+        let mut cell = [b' '; 32];
+        let len = number.write_padded(&mut cell, &Pad::new(width)).unwrap();
+        row.extend_from_slice(&cell[..len])?;
+    }
+    Ok(row)
+}
+
+// ---- texts
+
+/// Returns the shortest decimal that is read back as the number.
+pub fn printed(number: Fixed, alloc: Global) -> Result<String, AllocError>
+    ensures { IfOk result (λ text. IsShortest (fixed_bits number) 16 (string_bytes text)) }
+{
+    format!(in alloc; "{number}")
+}
+
+/// Returns the raw value in eight hexadecimal digits, and the number: `00018000 1.5`.
+pub fn raw_and_number(number: Fixed, alloc: Global) -> Result<String, AllocError>
+    ensures { IfOk result (λ text. string_bytes text
+        ≡ eight_digits (numeral (bytes_of 4 (fixed_bits number))) ++ 32 ∷ fixed_text number) }
+{
+    let raw = u32::from_raw(number.to_raw());
+    format!(in alloc; "{raw:08x} {number}")
+}
+
+/// Returns the name of a glyph that `post` does not name, such as `glyph00036`.
+pub fn glyph_name(glyph: GlyphId16, alloc: Global) -> Result<String, AllocError>
+    ensures { IfOk result (λ text.
+        string_bytes text ≡ codes "glyph" ++ five_digits (glyph16_number glyph)) }
+{
+    let number = glyph.to_u16();
+    format!(in alloc; "glyph{number:05}")
+}
+
+// ---- JSON
+
+/// The fields of an axis that a dump shows.
+#[derive(Clone, Copy, PartialEq, Debug)]
+pub struct Axis {
+    pub tag: Tag,
+    pub default: Fixed,
+    pub name: NameId,
+}
+
+impl Axis {
+    /// Returns an object with a member for each field. `json!` is in a separate function.
+    ///
+    /// # Errors
+    ///
+    /// Returns an error if out of memory, or if the bytes of the tag are not UTF-8.
+    pub fn to_json(self, alloc: Global) -> Result<Value, JsonFault>
+        ensures form { IfOk result (λ value. view value ≡ axis_form self) }
+        ensures refused { IsGood (tag_bytes self.tag)
+            → IfErr result (λ fault. fault ≡ JsonFault.Memory) }
+        ensures value { IfOk result (λ _. IsAxis self) }
+    {
+        let tag = self.tag.to_json(alloc)?;
+        let default = self.default.to_json(alloc)?;
+        let name = self.name.to_json(alloc)?;
+        Ok(object_of(&tag, &default, &name, alloc)?)
+    }
+
+    /// Reads the members of an object.
+    ///
+    /// # Errors
+    ///
+    /// Returns the first error in the order of the fields; further members are ignored.
+    pub fn from_json(value: &Value) -> Result<Axis, JsonFault>
+        ensures back { (axis : Axis) → IsAxis axis → IsGood (tag_bytes axis.tag)
+            → view value.now ≡ axis_form axis → result ≡ Ok axis }
+        ensures read { ConvertsAxis
+            (ConvertsMember ⟦<Tag as JsonScalar>⟧.form.reads (codes "tag") (view value.now))
+            (ConvertsMember ⟦<Fixed as JsonScalar>⟧.form.reads (codes "default") (view value.now))
+            (ConvertsMember ⟦<NameId as JsonScalar>⟧.form.reads (codes "name") (view value.now))
+            result }
+    {
+        Ok(Axis {
+            tag: Tag::from_json(member_of(value, "tag")?)?,
+            default: Fixed::from_json(member_of(value, "default")?)?,
+            name: NameId::from_json(member_of(value, "name")?)?,
+        })
+    }
+}
+
+// Returns the object of these members.
+fn object_of(tag: &Value, default: &Value, name: &Value, alloc: Global) -> Result<Value, AllocError>
+    ensures { IfOk result (λ value. view value ≡ object (member (codes "default") (view default.now)
+        (member (codes "name") (view name.now)
+        (member (codes "tag") (view tag.now) no_members)))) }
+{
+    json!(in alloc; { "tag": tag, "default": default, "name": name })
+}
+
+// Returns the member of that name.
+fn member_of<'a>(value: &'a Value, name: &str) -> Result<&'a Value, JsonFault>
+    ensures { MatchResult result
+        (λ member. get name.now (view value.now) ≡ Some (view member.now))
+        (λ fault. (get name.now (view value.now) ≡ None) × (fault ≡ JsonFault.MissingMember)) }
+{
+    value.get(name).ok_or(JsonFault::MissingMember)
+}
+
+/// Converts an axis with a valid tag and back, which gives the axis, unless out of memory.
+pub fn round_trip(axis: Axis, alloc: Global) -> Result<Axis, JsonFault>
+    ensures back { IsGood (tag_bytes axis.tag) → IfOk result (λ back. back ≡ axis) }
+    ensures refused { IsGood (tag_bytes axis.tag)
+        → IfErr result (λ fault. fault ≡ JsonFault.Memory) }
+{
+    let value = axis.to_json(alloc)?;
+    Axis::from_json(&value)
+}

@@ -1,0 +1,256 @@
+//! A hinter: the extents of outlines, positions between two others, a setting, and names.
+
+ghost use Rattle.std.specs.Prelude.{◌≡◌, ◌≢◌, ◌↔◌, ◌<◌, ◌++◌, neg_ℤ, pos, ◌+ℤ◌, ◌-ℤ◌, ◌*ℤ◌};
+ghost use Rattle.std.specs.Prelude.{◌≤ℤ◌, ◌<ℤ◌, ℕ, List, length, Some, IsTrue, IsSome, IfSome};
+ghost use lib.Chars.{codes};
+ghost use Rattle.font_types.specs.Fixed;
+ghost use Rattle.font_types.specs.Fixed.{Fixed, fixed_bits};
+ghost use Rattle.font_types.specs.F26Dot6.{f26dot6_bits};
+ghost use Rattle.font_types.specs.F2Dot14;
+ghost use Rattle.font_types.specs.F2Dot14.{f2dot14_bits};
+ghost use Rattle.font_types.specs.FWord.{fword_number};
+ghost use Rattle.font_types.specs.NameId.{name_number};
+ghost use Rattle.font_types.specs.Near.{up};
+ghost use Rattle.font_types.specs.FixedMatrix.{wrapped_sum, wrapped_product};
+ghost use Rattle.font_types.specs.Operations.{IsIntegral, IsMulDiv, ReadsBits};
+ghost use Rattle.font_types.specs.Wrap.{FitsBits, wrap};
+ghost use Rattle.callers.specs.Hinting.{IsLeast, IsGreatest};
+
+use font_types::{BoundingBox, F2Dot14, F26Dot6, FWord, Fixed, NameId};
+
+// ---- extents
+
+/// Returns the smallest coordinate.
+pub fn least(coordinates: &[Fixed]) -> Fixed
+    requires { 0 < length coordinates.now }
+    ensures { IsLeast coordinates.now result }
+{
+    let mut least = coordinates[0];
+    for x in coordinates {
+        least = least.min(*x);
+    }
+    least
+}
+
+/// Returns the largest coordinate.
+pub fn greatest(coordinates: &[Fixed]) -> Fixed
+    requires { 0 < length coordinates.now }
+    ensures { IsGreatest coordinates.now result }
+{
+    let mut greatest = coordinates[0];
+    for x in coordinates {
+        greatest = greatest.max(*x);
+    }
+    greatest
+}
+
+/// Returns the box of an outline, by the coordinates of its points.
+///
+/// Each edge has its loop, and its clause: four edges in one loop stay open.
+pub fn bounds(xs: &[Fixed], ys: &[Fixed]) -> BoundingBox<Fixed>
+    requires xs { 0 < length xs.now }
+    requires ys { 0 < length ys.now }
+    ensures left { IsLeast xs.now result.x_min }
+    ensures right { IsGreatest xs.now result.x_max }
+    ensures bottom { IsLeast ys.now result.y_min }
+    ensures top { IsGreatest ys.now result.y_max }
+{
+    BoundingBox {
+        x_min: least(xs),
+        y_min: least(ys),
+        x_max: greatest(xs),
+        y_max: greatest(ys),
+    }
+}
+
+// ---- the grid
+
+/// Returns the first grid line above a coordinate in pixels.
+///
+/// The integer and the constant that is added to it take the ruleset `integers`.
+#[tactic(auto, using(font_types::proofs::Callers::integers))]
+pub fn line_above(y: F26Dot6) -> F26Dot6
+    requires { FitsBits 32 (f26dot6_bits y +ℤ pos 64) }
+    ensures whole { IsIntegral 6 (f26dot6_bits result) }
+    ensures above { f26dot6_bits y <ℤ f26dot6_bits result }
+    ensures near { f26dot6_bits result ≤ℤ (f26dot6_bits y +ℤ pos 64) }
+{
+    y.floor() + F26Dot6::ONE
+}
+
+/// Negates a distance in whole pixels.
+#[tactic(auto, using(font_types::proofs::Callers::integers))]
+pub fn opposite(distance: F26Dot6) -> F26Dot6
+    requires { IsIntegral 6 (f26dot6_bits distance) }
+    ensures whole { IsIntegral 6 (f26dot6_bits result) }
+    ensures value { f26dot6_bits result ≡ wrap 32 (neg_ℤ (f26dot6_bits distance)) }
+{
+    -distance
+}
+
+/// Returns the pixel of a coordinate, the nearest integer, half up.
+#[tactic(auto, using(font_types::proofs::Callers::calls, font_types::proofs::Callers::narrowings))]
+pub fn nearest_pixel(y: F26Dot6) -> i32
+    requires { f26dot6_bits y ≤ℤ pos 2147483584 }
+    ensures { result ≡ up (f26dot6_bits y) 64 }
+{
+    y.to_i32()
+}
+
+/// Returns the height of a zone below a coordinate: 0 under the zone, and all of it above.
+///
+/// The precondition of each difference is written out: from that of the height it is not found.
+pub fn depth(y: F26Dot6, bottom: F26Dot6, top: F26Dot6) -> F26Dot6
+    requires order { f26dot6_bits bottom ≤ℤ f26dot6_bits top }
+    requires height { FitsBits 32 (f26dot6_bits top -ℤ f26dot6_bits bottom) }
+    requires depth { FitsBits 32 (f26dot6_bits y -ℤ f26dot6_bits bottom) }
+    ensures below { f26dot6_bits y <ℤ f26dot6_bits bottom → f26dot6_bits result ≡ pos 0 }
+    ensures inside { f26dot6_bits bottom ≤ℤ f26dot6_bits y → f26dot6_bits y ≤ℤ f26dot6_bits top
+        → f26dot6_bits result ≡ (f26dot6_bits y -ℤ f26dot6_bits bottom) }
+    ensures above { f26dot6_bits top <ℤ f26dot6_bits y
+        → f26dot6_bits result ≡ (f26dot6_bits top -ℤ f26dot6_bits bottom) }
+{
+    if y < bottom {
+        F26Dot6::ZERO
+    } else if y > top {
+        top - bottom
+    } else {
+        y - bottom
+    }
+}
+
+// Returns a sum of coordinates that fits.
+fn added(a: F26Dot6, b: F26Dot6) -> F26Dot6
+    requires { FitsBits 32 (f26dot6_bits a +ℤ f26dot6_bits b) }
+    ensures { f26dot6_bits result ≡ (f26dot6_bits a +ℤ f26dot6_bits b) }
+{
+    a + b
+}
+
+/// Returns the far edge of a stem whose near edge is on the grid: the width is rounded half up.
+pub fn far_edge(near: F26Dot6, width: F26Dot6) -> F26Dot6
+    requires on_grid { IsIntegral 6 (f26dot6_bits near) }
+    requires width { FitsBits 32 (f26dot6_bits width +ℤ pos 32) }
+    requires least { FitsBits 32 (f26dot6_bits near +ℤ (f26dot6_bits width -ℤ pos 32)) }
+    requires greatest { FitsBits 32 (f26dot6_bits near +ℤ (f26dot6_bits width +ℤ pos 32)) }
+    ensures whole { IsIntegral 6 (f26dot6_bits result) }
+    ensures low { (f26dot6_bits near +ℤ f26dot6_bits width) <ℤ (f26dot6_bits result +ℤ pos 32) }
+    ensures high { f26dot6_bits result ≤ℤ ((f26dot6_bits near +ℤ f26dot6_bits width) +ℤ pos 32) }
+{
+    added(near, width.round())
+}
+
+// ---- positions between two others
+
+/// Interpolates between the values of two masters, whose difference has to fit.
+pub fn interpolate(a: Fixed, b: Fixed, t: F2Dot14) -> Fixed
+    requires width { FitsBits 32 (fixed_bits b -ℤ fixed_bits a) }
+    requires part { (pos 0 ≤ℤ f2dot14_bits t) × (f2dot14_bits t ≤ℤ f2dot14_bits F2Dot14.ONE) }
+    ensures value { fixed_bits result ≡ wrapped_sum (fixed_bits a)
+        (wrapped_product (wrap 32 (fixed_bits b -ℤ fixed_bits a)) (f2dot14_bits t *ℤ pos 4)) }
+    ensures low { fixed_bits a ≤ℤ fixed_bits b → fixed_bits a ≤ℤ fixed_bits result }
+    ensures high { fixed_bits a ≤ℤ fixed_bits b → fixed_bits result ≤ℤ fixed_bits b }
+    ensures fall_low { fixed_bits b ≤ℤ fixed_bits a → fixed_bits b ≤ℤ fixed_bits result }
+    ensures fall_high { fixed_bits b ≤ℤ fixed_bits a → fixed_bits result ≤ℤ fixed_bits a }
+{
+    a + (b - a) * t.to_fixed()
+}
+
+/// Returns a distance in font units times a factor from 0 to 1, which is exact.
+pub fn scaled_units(distance: FWord, factor: F2Dot14) -> Fixed
+    requires { (pos 0 ≤ℤ f2dot14_bits factor)
+        × (f2dot14_bits factor ≤ℤ f2dot14_bits F2Dot14.ONE) }
+    ensures { fixed_bits result ≡ (fword_number distance *ℤ (f2dot14_bits factor *ℤ pos 4)) }
+{
+    distance.to_fixed() * factor.to_fixed()
+}
+
+// Returns a sum that fits.
+fn moved(number: Fixed, distance: Fixed) -> Fixed
+    requires { FitsBits 32 (fixed_bits number +ℤ fixed_bits distance) }
+    ensures { fixed_bits result ≡ (fixed_bits number +ℤ fixed_bits distance) }
+{
+    number + distance
+}
+
+// Returns a part of a distance of either sign, from 0 to the whole.
+fn part_of(distance: Fixed, part: Fixed, whole: Fixed) -> Fixed
+    requires part { (pos 0 ≤ℤ fixed_bits part) × (fixed_bits part ≤ℤ fixed_bits whole) }
+    requires whole { whole ≢ Fixed.ZERO }
+    ensures value { IsMulDiv 32 (fixed_bits distance) (fixed_bits part) (fixed_bits whole)
+        (fixed_bits result) }
+    ensures low { pos 0 ≤ℤ fixed_bits distance → pos 0 ≤ℤ fixed_bits result }
+    ensures high { pos 0 ≤ℤ fixed_bits distance → fixed_bits result ≤ℤ fixed_bits distance }
+    ensures fall_low { fixed_bits distance ≤ℤ pos 0 → fixed_bits distance ≤ℤ fixed_bits result }
+    ensures fall_high { fixed_bits distance ≤ℤ pos 0 → fixed_bits result ≤ℤ pos 0 }
+{
+    distance.mul_div(part, whole)
+}
+
+/// Moves a point between two touched points, as `IUP` does: by its share of their distance.
+///
+/// `moved` requires that the sum itself fits: a bound on its parts is not enough.
+pub fn between(start: Fixed, distance: Fixed, part: Fixed, whole: Fixed) -> Fixed
+    requires end { FitsBits 32 (fixed_bits start +ℤ fixed_bits distance) }
+    requires part { (pos 0 ≤ℤ fixed_bits part) × (fixed_bits part ≤ℤ fixed_bits whole) }
+    requires whole { whole ≢ Fixed.ZERO }
+    ensures value { IsMulDiv 32 (fixed_bits distance) (fixed_bits part) (fixed_bits whole)
+        (fixed_bits result -ℤ fixed_bits start) }
+    ensures low { pos 0 ≤ℤ fixed_bits distance → fixed_bits start ≤ℤ fixed_bits result }
+    ensures high { pos 0 ≤ℤ fixed_bits distance
+        → fixed_bits result ≤ℤ (fixed_bits start +ℤ fixed_bits distance) }
+    ensures fall_low { fixed_bits distance ≤ℤ pos 0
+        → (fixed_bits start +ℤ fixed_bits distance) ≤ℤ fixed_bits result }
+    ensures fall_high { fixed_bits distance ≤ℤ pos 0 → fixed_bits result ≤ℤ fixed_bits start }
+{
+    moved(start, part_of(distance, part, whole))
+}
+
+// ---- settings
+
+// Returns the text after `scale=`.
+fn after_scale(text: &str) -> Option<&str>
+    ensures rest { IfSome result (λ rest. text.now ≡ codes "scale=" ++ rest.now) }
+    ensures some { (rest : List ℕ) → text.now ≡ codes "scale=" ++ rest → IsSome result }
+    ensures back { (rest : List ℕ) → text.now ≡ codes "scale=" ++ rest
+        → IfSome result (λ found. found.now ≡ rest) }
+{
+    text.strip_prefix("scale=")
+}
+
+// Parses the number of a text.
+fn number_of(text: &str) -> Option<Fixed>
+    ensures read { IfSome result (λ x. ReadsBits 32 16 text.now (fixed_bits x)) }
+    ensures back { (x : Fixed) → FitsBits 32 (fixed_bits x)
+        → ReadsBits 32 16 text.now (fixed_bits x) → result ≡ Some x }
+{
+    Fixed::from_decimal(text).ok()
+}
+
+/// Reads a setting such as `scale=1.5`.
+pub fn read_scale(text: &str) -> Option<Fixed>
+    ensures read { IfSome result (λ x. (rest : List ℕ) × (text.now ≡ codes "scale=" ++ rest)
+        × ReadsBits 32 16 rest (fixed_bits x)) }
+    ensures back { (rest : List ℕ) (x : Fixed) → text.now ≡ codes "scale=" ++ rest
+        → FitsBits 32 (fixed_bits x) → ReadsBits 32 16 rest (fixed_bits x) → result ≡ Some x }
+{
+    number_of(after_scale(text)?)
+}
+
+// ---- `name`
+
+/// A record of `name`, without its string.
+#[derive(Clone, Copy)]
+pub struct NameRecord {
+    pub platform: u16,
+    pub language: u16,
+    pub name: NameId,
+}
+
+/// Returns `true` if a record has the name in American English for Windows.
+pub fn is_windows_name(entry: NameRecord, name: NameId) -> bool
+    ensures { IsTrue result ↔ ((entry.platform ≡ 3) × (entry.language ≡ 0x409)
+        × (name_number entry.name ≡ name_number name)) }
+{
+    entry.platform == 3 && entry.language == 0x409 && entry.name == name
+}

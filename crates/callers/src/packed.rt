@@ -1,0 +1,101 @@
+//! Packed deltas, run by run, and the terms that they give.
+
+ghost use Rattle.std.specs.Prelude.{◌≡◌, ◌↔◌, ◌<◌, ◌≤◌, ◌+◌, ◌*◌, ℕ, [], pos};
+ghost use Rattle.std.specs.Prelude.{IsSome, IfSome, IfOk};
+ghost use Rattle.std.specs.Prelude.{length, drop, slice_index, slice_index_or, vec_len};
+ghost use Rattle.callers.specs.Packed.{run_count, run_width, run_delta, run_bytes, region_term};
+
+use font_types::{Fixed, Scalar};
+use std::alloc::{AllocError, Global};
+
+/// Returns the number of deltas in a run, by its control byte.
+pub fn deltas_in_run(control: u8) -> usize
+    ensures { result ≡ run_count control }
+{
+    usize::from(control % 0x40) + 1
+}
+
+/// Returns the number of bytes of each delta in a run: 0 if all are zero.
+pub fn delta_width(control: u8) -> usize
+    ensures { result ≡ run_width control }
+{
+    match control {
+        0x80.. => 0,
+        0x40.. => 2,
+        _ => 1,
+    }
+}
+
+// Returns the delta at an index of a run.
+fn delta_at(run: &[u8], width: usize, index: usize) -> i16
+    requires width { width ≤ 2 }
+    requires within { (index + 1) * width ≤ length run.now }
+    ensures { result ≡ run_delta width run.now index }
+{
+    match width {
+        0 => 0,
+        1 => i16::from(i8::read_at(run, index).unwrap()),
+        _ => i16::read_at(run, index * 2).unwrap(),
+    }
+}
+
+// Reads the deltas of a run.
+fn read_deltas(
+    run: &[u8],
+    width: usize,
+    count: usize,
+    alloc: Global,
+) -> Result<Vec<i16>, AllocError>
+    requires width { width ≤ 2 }
+    requires within { count * width ≤ length run.now }
+    ensures count { IfOk result (λ deltas. vec_len deltas ≡ count) }
+    ensures each { IfOk result (λ deltas. (k : ℕ) → k < count →
+        slice_index_or deltas.items k (pos 0) ≡ run_delta width run.now k) }
+{
+    let mut deltas = Vec::new(alloc);
+    for index in 0..count {
+        deltas.push(delta_at(run, width, index))?;
+    }
+    Ok(deltas)
+}
+
+/// Reads the first run, and returns its deltas and the bytes after it, or `None` if bytes are
+/// missing.
+pub fn read_run(packed: &[u8], alloc: Global) -> Result<Option<(Vec<i16>, &[u8])>, AllocError>
+    ensures variant { IfOk result (λ read. IsSome read ↔
+        ((0 < length packed.now) × (1 + run_bytes packed.now ≤ length packed.now))) }
+    ensures count { IfOk result (λ read. IfSome read (λ run.
+        vec_len run.0 ≡ run_count (slice_index packed.now 0))) }
+    ensures each { IfOk result (λ read. IfSome read (λ run. (k : ℕ)
+        → k < run_count (slice_index packed.now 0) → slice_index_or run.0.items k (pos 0)
+        ≡ run_delta (run_width (slice_index packed.now 0)) (drop 1 packed.now) k)) }
+    ensures rest { IfOk result (λ read. IfSome read (λ run.
+        run.1.now ≡ drop (1 + run_bytes packed.now) packed.now)) }
+{
+    let Some((&control, data)) = packed.split_first() else {
+        return Ok(None);
+    };
+    let (count, width) = (deltas_in_run(control), delta_width(control));
+    let Some((_, rest)) = data.split_at_checked(count * width) else {
+        return Ok(None);
+    };
+    Ok(Some((read_deltas(data, width, count, alloc)?, rest)))
+}
+
+/// Pairs the scalar of each region with its delta.
+pub fn region_terms(
+    scalars: &[Fixed],
+    deltas: &[i16],
+    alloc: Global,
+) -> Result<Vec<(Fixed, i32)>, AllocError>
+    requires { length scalars.now ≡ length deltas.now }
+    ensures count { IfOk result (λ terms. vec_len terms ≡ length deltas.now) }
+    ensures each { IfOk result (λ terms. (k : ℕ) → k < length deltas.now →
+        slice_index_or terms.items k (region_term [] [] 0) ≡ region_term scalars.now deltas.now k) }
+{
+    let mut terms = Vec::new(alloc);
+    for index in 0..deltas.len() {
+        terms.push((scalars[index], i32::from(deltas[index])))?;
+    }
+    Ok(terms)
+}

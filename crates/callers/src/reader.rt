@@ -1,0 +1,322 @@
+//! A reader of tables: records, `head`, `hmtx`, arrays and searches.
+
+ghost use Rattle.std.specs.Prelude.{◌≡◌, ◌≢◌, ◌↔◌, ◌≤◌, ◌<◌, ◌+◌, ◌*◌, ◌/◌, ◌%◌, ◌^◌, ◌&&◌, ◌++◌};
+ghost use Rattle.std.specs.Prelude.{ℕ, pos, nat_lt, refl};
+ghost use Rattle.std.specs.Prelude.{IsSome, IfSome, IfNone, IfOk, IfErr, MatchOption};
+ghost use Rattle.std.specs.Prelude.{length, take, drop, vec_len, All};
+ghost use Rattle.std.specs.List.{HoldsAt};
+ghost use Rattle.std.specs.List.Sorted.{IsSortedByKey};
+ghost use Rattle.std.specs.Ordering.{nat_cmp};
+ghost use Rattle.std.proofs.Common.{lit<};
+ghost use Rattle.font_types.specs.Bytes.{numeral, signed_numeral, bytes_of};
+ghost use Rattle.font_types.specs.Scalar.{IsValueOf};
+ghost use Rattle.font_types.specs.Scalar.Laws.{unsigned_newtype, unsigned_identity, signed_newtype};
+ghost use Rattle.font_types.specs.Records.{record_laws};
+ghost use Rattle.font_types.specs.Array.{array_len, element_bytes};
+ghost use Rattle.font_types.specs.BigEndian.{raw_value};
+ghost use Rattle.font_types.specs.Wrap.{fits_bits};
+ghost use Rattle.font_types.specs.Fixed.{fixed_bits};
+ghost use Rattle.font_types.specs.FWord.{fword_number, fword_of, ufword_number, ufword_of};
+ghost use Rattle.font_types.specs.GlyphId.{glyph16_number};
+ghost use Rattle.font_types.specs.NameId.{name_number};
+ghost use Rattle.font_types.specs.Offset.{offset32_number};
+ghost use Rattle.font_types.specs.Tag.{tag_bytes};
+ghost use Rattle.font_types.specs.Uint24.{uint24_number};
+ghost use Rattle.callers.specs.Reader.{advance_offset, IsVertOrigin};
+
+use font_types::{
+    BigEndian, FWord, Fixed, FixedSize, GlyphId16, IdentityEq, LongDateTime, NameId, Offset32,
+    Scalar, ScalarArray, TableDataRef, TableHeader, Tag, UfWord, Uint24,
+};
+
+// ---- records, field by field
+
+/// A variation axis, a record of `fvar`.
+#[derive(Clone, Copy)]
+pub struct VariationAxisRecord {
+    pub axis_tag: Tag,
+    pub min_value: Fixed,
+    pub default_value: Fixed,
+    pub max_value: Fixed,
+    pub flags: u16,
+    pub axis_name_id: NameId,
+}
+
+/// Reads an axis record, or returns `None` if there are fewer than 20 bytes.
+///
+/// At a concrete type the clauses of `read_at` give callers the number, the tag or the date.
+pub fn read_axis(bytes: &[u8]) -> Option<VariationAxisRecord>
+    ensures variant { IsSome result ↔ (20 ≤ length bytes.now) }
+    ensures axis_tag { IfSome result (λ axis. tag_bytes axis.axis_tag ≡ take 4 bytes.now) }
+    ensures min_value { IfSome result (λ axis.
+        fixed_bits axis.min_value ≡ signed_numeral 4 (take 4 (drop 4 bytes.now))) }
+    ensures default_value { IfSome result (λ axis.
+        fixed_bits axis.default_value ≡ signed_numeral 4 (take 4 (drop 8 bytes.now))) }
+    ensures max_value { IfSome result (λ axis.
+        fixed_bits axis.max_value ≡ signed_numeral 4 (take 4 (drop 12 bytes.now))) }
+    ensures flags { IfSome result (λ axis. axis.flags ≡ numeral (take 2 (drop 16 bytes.now))) }
+    ensures axis_name_id { IfSome result (λ axis.
+        name_number axis.axis_name_id ≡ numeral (take 2 (drop 18 bytes.now))) }
+{
+    Some(VariationAxisRecord {
+        axis_tag: Tag::read_at(bytes, 0)?,
+        min_value: Fixed::read_at(bytes, 4)?,
+        default_value: Fixed::read_at(bytes, 8)?,
+        max_value: Fixed::read_at(bytes, 12)?,
+        flags: u16::read_at(bytes, 16)?,
+        axis_name_id: NameId::read_at(bytes, 18)?,
+    })
+}
+
+/// Reads a variation selector and the offset of its default mappings, the first seven bytes of a
+/// record of `cmap`, format 14; returns `None` if there are fewer.
+pub fn read_selector(bytes: &[u8]) -> Option<(Uint24, Offset32)>
+    ensures variant { IsSome result ↔ (7 ≤ length bytes.now) }
+    ensures selector { IfSome result (λ found.
+        uint24_number found.0 ≡ numeral (take 3 bytes.now)) }
+    ensures offset { IfSome result (λ found.
+        offset32_number found.1 ≡ numeral (take 4 (drop 3 bytes.now))) }
+{
+    Some((Uint24::read_at(bytes, 0)?, Offset32::read_at(bytes, 3)?))
+}
+
+// ---- `head`
+
+/// The table `head`, 54 bytes.
+///
+/// `IsHead` in `specs/` has a line for each field. Each is filled by `read_at`: one that went to
+/// the end of the bytes, as `&bytes[52..]`, would stop the search in a header of many fields.
+#[derive(Drop)]
+pub struct Head {
+    pub major_version: BigEndian<u16>,
+    pub minor_version: BigEndian<u16>,
+    pub font_revision: BigEndian<Fixed>,
+    pub checksum_adjustment: BigEndian<u32>,
+    pub magic_number: BigEndian<u32>,
+    pub flags: BigEndian<u16>,
+    pub units_per_em: BigEndian<u16>,
+    pub created: BigEndian<LongDateTime>,
+    pub modified: BigEndian<LongDateTime>,
+    pub x_min: BigEndian<FWord>,
+    pub y_min: BigEndian<FWord>,
+    pub x_max: BigEndian<FWord>,
+    pub y_max: BigEndian<FWord>,
+    pub mac_style: BigEndian<u16>,
+    pub lowest_rec_ppem: BigEndian<u16>,
+    pub font_direction_hint: BigEndian<i16>,
+    pub index_to_loc_format: BigEndian<i16>,
+    pub glyph_data_format: BigEndian<i16>,
+}
+
+impl TableHeader for Head {
+    ghost use Rattle.callers.specs.Head.{IsHead};
+
+    const BYTE_LEN: usize = 54;
+
+    ghost BYTE_LEN = { 54 };
+
+    ghost decodes = { IsHead };
+
+    fn decode(bytes: &[u8]) -> Head {
+        Head {
+            major_version: BigEndian::read_at(bytes, 0).unwrap(),
+            minor_version: BigEndian::read_at(bytes, 2).unwrap(),
+            font_revision: BigEndian::read_at(bytes, 4).unwrap(),
+            checksum_adjustment: BigEndian::read_at(bytes, 8).unwrap(),
+            magic_number: BigEndian::read_at(bytes, 12).unwrap(),
+            flags: BigEndian::read_at(bytes, 16).unwrap(),
+            units_per_em: BigEndian::read_at(bytes, 18).unwrap(),
+            created: BigEndian::read_at(bytes, 20).unwrap(),
+            modified: BigEndian::read_at(bytes, 28).unwrap(),
+            x_min: BigEndian::read_at(bytes, 36).unwrap(),
+            y_min: BigEndian::read_at(bytes, 38).unwrap(),
+            x_max: BigEndian::read_at(bytes, 40).unwrap(),
+            y_max: BigEndian::read_at(bytes, 42).unwrap(),
+            mac_style: BigEndian::read_at(bytes, 44).unwrap(),
+            lowest_rec_ppem: BigEndian::read_at(bytes, 46).unwrap(),
+            font_direction_hint: BigEndian::read_at(bytes, 48).unwrap(),
+            index_to_loc_format: BigEndian::read_at(bytes, 50).unwrap(),
+            glyph_data_format: BigEndian::read_at(bytes, 52).unwrap(),
+        }
+    }
+}
+
+/// Returns the units per em, or `None` if `head` has fewer than 54 bytes.
+///
+/// A clause on a field is about the header's bytes, the first 54 of the table's.
+pub fn units_per_em(head: &[u8]) -> Option<u16>
+    ensures variant { IsSome result ↔ (54 ≤ length head.now) }
+    ensures value { IfSome result (λ units. units ≡ numeral (take 2 (drop 18 (take 54 head.now)))) }
+{
+    let head = TableDataRef::<Head>::new(head)?;
+    Some(head.header().units_per_em.get())
+}
+
+// ---- `hmtx`
+
+/// A horizontal metric, a record of `hmtx`.
+///
+/// A record of two fields is a scalar by `record_laws` and the laws of its fields, and so can be an
+/// element of an array.
+#[derive(Clone, Copy)]
+pub struct LongHorMetric {
+    pub advance_width: UfWord,
+    pub left_side_bearing: FWord,
+}
+
+impl FixedSize for LongHorMetric {
+    const RAW_BYTE_LEN: usize = 4;
+
+    ghost RAW_BYTE_LEN = { 4 };
+}
+
+impl Scalar for LongHorMetric {
+    type Raw = [u8; 4];
+
+    ghost is_scalar = { λ metric. nat_lt (ufword_number metric.advance_width) (2 ^ 16)
+        && fits_bits 16 (fword_number metric.left_side_bearing) };
+
+    ghost of_raw = { λ raw. record {
+      advance_width = ufword_of (numeral (take 2 raw));
+      left_side_bearing = fword_of (signed_numeral 2 (drop 2 raw));
+    } };
+
+    ghost raw_of = { λ metric. bytes_of 2 (pos (ufword_number metric.advance_width))
+        ++ bytes_of 2 (fword_number metric.left_side_bearing) };
+
+    ghost laws = { record_laws 2 2 (λ metric. metric.advance_width)
+        (λ metric. metric.left_side_bearing)
+        (λ advance bearing. record { advance_width = advance; left_side_bearing = bearing })
+        (λ _ _. refl) (λ _ _. refl) (λ _. refl)
+        (unsigned_newtype 2 ufword_number ufword_of (λ _. refl) (λ _. refl))
+        (signed_newtype 2 (lit< tt) fword_number fword_of (λ _. refl) (λ _. refl)) };
+
+    fn from_raw(raw: [u8; 4]) -> LongHorMetric {
+        LongHorMetric {
+            advance_width: UfWord::read(&raw[..2]).unwrap(),
+            left_side_bearing: FWord::read(&raw[2..]).unwrap(),
+        }
+    }
+
+    fn to_raw(self) -> [u8; 4] {
+        let [a, b] = self.advance_width.to_be_bytes();
+        let [c, d] = self.left_side_bearing.to_be_bytes();
+        [a, b, c, d]
+    }
+}
+
+/// Returns the metric of a glyph, or `None` if the bytes are no array of metrics or end before it.
+pub fn metric(metrics: &[u8], glyph: GlyphId16) -> Option<LongHorMetric>
+    ensures variant { IsSome result ↔ ((length metrics.now % 4 ≡ 0)
+        × (glyph16_number glyph < length metrics.now / 4)) }
+    ensures advance { IfSome result (λ metric. ufword_number metric.advance_width
+        ≡ numeral (take 2 (take 4 (drop (glyph16_number glyph * 4) metrics.now)))) }
+    ensures bearing { IfSome result (λ metric. fword_number metric.left_side_bearing
+        ≡ signed_numeral 2 (drop 2 (take 4 (drop (glyph16_number glyph * 4) metrics.now)))) }
+{
+    ScalarArray::<LongHorMetric>::new(metrics)?.get(usize::from(glyph.to_u16()))
+}
+
+/// Returns the advance width of a glyph in `hmtx` of `count` metrics; glyphs beyond them have the
+/// last one's.
+pub fn advance_width(hmtx: &[u8], count: u16, glyph: GlyphId16) -> Option<UfWord>
+    requires { 0 < count }
+    ensures variant { IsSome result
+        ↔ (advance_offset count (glyph16_number glyph) + 2 ≤ length hmtx.now) }
+    ensures value { IfSome result (λ advance. ufword_number advance
+        ≡ numeral (take 2 (drop (advance_offset count (glyph16_number glyph)) hmtx.now))) }
+{
+    let last = usize::from(count) - 1;
+    UfWord::read_at(hmtx, 4 * usize::from(glyph.to_u16()).min(last))
+}
+
+// ---- searches
+
+/// Returns the coverage index of a glyph in a sorted array of glyph ids (coverage, format 1), or
+/// `None` if it is not covered.
+pub fn coverage_index(glyphs: &ScalarArray<'_, GlyphId16>, glyph: GlyphId16) -> Option<usize>
+    ensures found { IfSome result (λ i. (i < array_len glyphs.now)
+        × (numeral (element_bytes glyphs.now i) ≡ glyph16_number glyph)) }
+    ensures absent { ((i j : ℕ) → i ≤ j → j < array_len glyphs.now
+        → numeral (element_bytes glyphs.now i) ≤ numeral (element_bytes glyphs.now j))
+        → IfNone result ((k : ℕ) → k < array_len glyphs.now
+        → element_bytes glyphs.now k ≢ bytes_of 2 (pos (glyph16_number glyph))) }
+{
+    glyphs.binary_search(&glyph).ok()
+}
+
+/// The vertical origin of a glyph, a record of `VORG`.
+#[derive(Clone, Copy)]
+pub struct VertOriginYMetrics {
+    pub glyph_index: GlyphId16,
+    pub vert_origin_y: i16,
+}
+
+/// Returns the index of a glyph's record among records sorted by glyph, or `None` if it has none.
+///
+/// A search by a closure says what it found for each key that the closure gives; the answer in
+/// `proofs/reader/origin_index` names that key.
+pub fn origin_index(records: &[VertOriginYMetrics], glyph: GlyphId16) -> Option<usize>
+    requires { IsSortedByKey (λ metric. glyph16_number metric.glyph_index) nat_cmp records.now }
+    ensures within { IfSome result (λ index. index < length records.now) }
+    ensures found { MatchOption result
+        (All (λ metric. glyph16_number metric.glyph_index ≢ glyph16_number glyph) records.now)
+        (λ index. HoldsAt (λ metric. glyph16_number metric.glyph_index ≡ glyph16_number glyph)
+        records.now index) }
+{
+    records
+        .binary_search_by_key(&glyph, |metric| metric.glyph_index)
+        .ok()
+}
+
+/// Returns the y coordinate of a glyph's vertical origin, or the default if it has no record.
+pub fn vert_origin_y(records: &[VertOriginYMetrics], default: i16, glyph: GlyphId16) -> i16
+    requires { IsSortedByKey (λ metric. glyph16_number metric.glyph_index) nat_cmp records.now }
+    ensures { IsVertOrigin (glyph16_number glyph) default result records.now }
+{
+    match origin_index(records, glyph) {
+        Some(index) => records[index].vert_origin_y,
+        None => default,
+    }
+}
+
+// ---- a scalar of one's own
+
+/// A size in pixels per em, as in `gasp` and `hdmx`.
+///
+/// A newtype of a number takes five ghost items, and a sixth for `IdentityEq`. Every bit pattern
+/// has to be a value, because `read` fails only for a wrong length. Signed numbers have
+/// `signed_newtype 2 (lit< tt)`, `signed_identity`, `signed_numeral 2` and `fits_bits 16` instead.
+#[derive(Clone, Copy, PartialEq, Eq, PartialOrd, Ord)]
+pub struct Ppem(pub u16);
+
+impl FixedSize for Ppem {
+    const RAW_BYTE_LEN: usize = 2;
+
+    ghost RAW_BYTE_LEN = { 2 };
+}
+
+impl Scalar for Ppem {
+    type Raw = [u8; 2];
+
+    ghost is_scalar = { λ size. nat_lt size.0 (2 ^ 16) };
+
+    ghost of_raw = { λ raw. record { 0 = numeral raw } };
+
+    ghost raw_of = { λ size. bytes_of 2 (pos size.0) };
+
+    ghost laws = { unsigned_newtype 2 (λ size. size.0) (λ n. record { 0 = n })
+        (λ _. refl) (λ _. refl) };
+
+    fn from_raw(raw: [u8; 2]) -> Ppem {
+        Ppem(u16::from_raw(raw))
+    }
+
+    fn to_raw(self) -> [u8; 2] {
+        self.0.to_raw()
+    }
+}
+
+impl IdentityEq for Ppem {
+    ghost identity = { unsigned_identity (λ size. size.0) (λ n. record { 0 = n }) (λ _. refl) };
+}

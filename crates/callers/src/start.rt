@@ -1,0 +1,51 @@
+//! A first caller: a field of a table, a stem on the pixel grid, and a loop.
+
+ghost use Rattle.std.specs.Prelude.{◌≡◌, ◌↔◌, ◌+◌, ◌≤◌, pos, ◌+ℤ◌, ◌≤ℤ◌, ◌<ℤ◌};
+ghost use Rattle.std.specs.Prelude.{length, take, drop, IsSome, IfSome};
+ghost use Rattle.font_types.specs.Bytes.{numeral};
+ghost use Rattle.font_types.specs.Delta.{total};
+ghost use Rattle.font_types.specs.F26Dot6.{f26dot6_bits};
+ghost use Rattle.font_types.specs.Fixed.{fixed_bits};
+ghost use Rattle.font_types.specs.FWord.{ufword_number};
+ghost use Rattle.font_types.specs.Operations.{IsIntegral};
+ghost use Rattle.font_types.specs.Wrap.{FitsBits, wrap};
+ghost use Rattle.callers.specs.Start.{metric_offset};
+
+use font_types::{F26Dot6, Fixed, Scalar, UfWord};
+
+/// Returns the advance width at an index of `hmtx`, or `None` if the table ends before it.
+pub fn advance_at(hmtx: &[u8], index: u16) -> Option<UfWord>
+    ensures variant { IsSome result ↔ (metric_offset index + 2 ≤ length hmtx.now) }
+    ensures value { IfSome result (λ advance.
+        ufword_number advance ≡ numeral (take 2 (drop (metric_offset index) hmtx.now))) }
+{
+    UfWord::read_at(hmtx, usize::from(index) * 4)
+}
+
+/// Rounds the width of a stem to whole pixels, at least one.
+pub fn snap_stem(width: F26Dot6) -> F26Dot6
+    requires { FitsBits 32 (f26dot6_bits width +ℤ pos 32) }
+    ensures whole { IsIntegral 6 (f26dot6_bits result) }
+    ensures thin { f26dot6_bits width <ℤ pos 32 → f26dot6_bits result ≡ pos 64 }
+    ensures near { pos 32 ≤ℤ f26dot6_bits width
+        → (f26dot6_bits result ≤ℤ (f26dot6_bits width +ℤ pos 32))
+        × (f26dot6_bits width <ℤ (f26dot6_bits result +ℤ pos 32)) }
+{
+    let snapped = width.round();
+    if snapped < F26Dot6::ONE {
+        F26Dot6::ONE
+    } else {
+        snapped
+    }
+}
+
+/// Returns the sum of advances, wrapped once.
+pub fn line_width(advances: &[Fixed]) -> Fixed
+    ensures { fixed_bits result ≡ wrap 32 (total fixed_bits advances.now) }
+{
+    let mut width = Fixed::ZERO;
+    for advance in advances {
+        width += *advance;
+    }
+    width
+}

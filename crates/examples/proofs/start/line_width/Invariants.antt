@@ -1,8 +1,0 @@
-use Rattle.std.proofs.Common.{◌≡◌, take}
-use Rattle.font_types.specs.Delta.{total}
-use Rattle.font_types.specs.Fixed.{fixed_bits}
-use Rattle.font_types.specs.Wrap.{wrap}
-use Rattle.examples.proofs.start.line_width.Given as goal
-
-abbrev pub invariant-loop-advance : goal.invariant-loop-advance
-invariant-loop-advance l = fixed_bits l.width ≡ wrap 32 (total fixed_bits (take l.advance-index l.advances))

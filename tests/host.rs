@@ -1,0 +1,178 @@
+//! The program's replacement of Rattle's std: results that its source relies on, and errors, also
+//! those of the program if an allocation fails.
+#![allow(dead_code)]
+
+mod fontval_lines;
+#[path = "../src/bin/fontval/host/mod.rs"]
+mod host;
+
+macro_rules! eprint {
+    ($rt:expr; $($text:tt)*) => {
+        io::eprint(&$rt, format_args!($($text)*))
+    };
+}
+
+#[allow(unused_imports, clippy::explicit_counter_loop)]
+#[path = "../src/bin/fontval/generated/mod.rs"]
+mod fontval;
+
+use fontval::device::{FromRead, FromWrite};
+use fontval::serve::{ServeFault, serve};
+use fontval_lines::{ANSWERS, LINES, assert_answers};
+use host::alloc::{Global, String, Vec};
+use host::{hex, io};
+use std::alloc::{GlobalAlloc, Layout, System};
+use std::cell::Cell;
+
+// ---- hexadecimal digits
+
+#[test]
+fn hex_encoding() {
+    for byte in 0..=u8::MAX {
+        let mut digits = [0; 2];
+        hex::encode_to_slice(&[byte], &mut digits).unwrap();
+        assert_eq!(digits, *format!("{byte:02x}").as_bytes());
+    }
+    let mut digits = [0; 16];
+    hex::encode_to_slice(b"\0\x12\xFFabcd\x80", &mut digits).unwrap();
+    assert_eq!(&digits, b"0012ff6162636480");
+    for len in (0..20).filter(|len| *len != 16) {
+        let mut digits = [b'~'; 20];
+        assert!(hex::encode_to_slice(&[0; 8], &mut digits[..len]).is_err());
+        assert_eq!(digits, [b'~'; 20]);
+    }
+}
+
+// All pairs of bytes: only hexadecimal digits are accepted, in either case.
+#[test]
+fn hex_decoding() {
+    let value = |digit: u8| char::from(digit).to_digit(16).map(|value| value as u8);
+    for high in 0..=u8::MAX {
+        for low in 0..=u8::MAX {
+            let mut byte = [0];
+            let read = hex::decode_to_slice(&[high, low], &mut byte);
+            match (value(high), value(low)) {
+                (Some(high), Some(low)) => assert_eq!(byte, [16 * high + low]),
+                _ => assert!(read.is_err(), "{high} {low}"),
+            }
+        }
+    }
+    let mut bytes = [0; 4];
+    hex::decode_to_slice(b"0012fFA9", &mut bytes).unwrap();
+    assert_eq!(bytes, [0, 0x12, 0xFF, 0xA9]);
+    for len in (0..12).filter(|len| *len != 8) {
+        assert!(hex::decode_to_slice(&[b'0'; 12][..len], &mut bytes).is_err());
+    }
+}
+
+// ---- memory
+
+thread_local! {
+    /// The number of allocations of this thread before one that fails.
+    static PASSES: Cell<usize> = const { Cell::new(usize::MAX) };
+}
+
+/// An allocator that fails if more than a megabyte is requested, and once after `PASSES` calls.
+struct Limited;
+
+#[global_allocator]
+static ALLOCATOR: Limited = Limited;
+
+// SAFETY: it calls the system's allocator, or returns null.
+unsafe impl GlobalAlloc for Limited {
+    unsafe fn alloc(&self, layout: Layout) -> *mut u8 {
+        let passes = PASSES.replace(PASSES.get().wrapping_sub(1));
+        if passes == 0 || layout.size() > 1 << 20 {
+            return std::ptr::null_mut();
+        }
+        unsafe { System.alloc(layout) }
+    }
+
+    unsafe fn dealloc(&self, bytes: *mut u8, layout: Layout) {
+        unsafe { System.dealloc(bytes, layout) }
+    }
+}
+
+/// Returns how many calls succeed before one fails.
+fn count_until_error<E>(mut done: impl FnMut() -> Result<(), E>) -> usize {
+    let mut count = 0;
+    while done().is_ok() {
+        count += 1;
+        assert!(count <= 1 << 20);
+    }
+    count
+}
+
+// An error leaves the contents unchanged.
+#[test]
+fn vector_allocation_errors() {
+    assert!(Vec::<u64, _>::with_capacity(Global, usize::MAX).is_err());
+    assert!(Vec::<u64, _>::with_capacity(Global, 1 << 17).is_ok());
+    assert!(Vec::<u64, _>::with_capacity(Global, (1 << 17) + 1).is_err());
+    let mut vec = Vec::new(Global);
+    let pushed = count_until_error(|| vec.push(7u64));
+    assert_eq!(*vec, std::vec![7; pushed]);
+    assert_eq!(pushed, 1 << 17);
+    let mut vec = Vec::new(Global);
+    let pushed = count_until_error(|| vec.extend_from_slice(&[1u8, 2, 3]));
+    assert_eq!(*vec, [1, 2, 3].repeat(pushed));
+    assert!(pushed > 1 << 17);
+}
+
+#[test]
+fn string_allocation_errors() {
+    let mut text = String::new(Global);
+    let pushed = count_until_error(|| text.push_str("a ä"));
+    assert_eq!(*text, "a ä".repeat(pushed));
+    assert!(pushed > 1 << 17);
+    let mut text = String::new(Global);
+    let written = count_until_error(|| write!(text, "{:?}", (5, "b")));
+    assert!(text.starts_with("(5, \"b\")(5, \"b\")") && written > 1 << 16);
+    let mut text = String::new(Global);
+    let written = count_until_error(|| (&mut text as &mut dyn std::fmt::Write).write_str("ab"));
+    assert_eq!(text.len(), 2 * written);
+}
+
+/// A reader that reads one byte a call.
+struct Drip<'a>(&'a [u8]);
+
+impl io::Read for Drip<'_> {
+    fn read(&mut self, bytes: &mut [u8]) -> io::Result<usize> {
+        self.0.read(&mut bytes[..1])
+    }
+}
+
+// Each allocation of a run over the stored lines fails in turn, until none is left that could.
+#[test]
+fn serve_allocation_errors() {
+    for passes in 0.. {
+        let mut source = FromRead::new(Drip(LINES));
+        let mut taken = [0; ANSWERS.len()];
+        let mut sink = FromWrite::new(taken.as_mut_slice());
+        PASSES.set(passes);
+        let result = serve(Global, &mut source, &mut sink);
+        if PASSES.replace(usize::MAX) <= passes {
+            assert_answers(&taken, ANSWERS);
+            assert!(result.is_ok() && passes > 40, "{passes}");
+            break;
+        }
+        let is_memory = matches!(result, Err(ServeFault::Memory));
+        assert!(is_memory && taken == [0; ANSWERS.len()], "{passes}");
+    }
+}
+
+// ---- streams
+
+// Without a descriptor, each call fails.
+#[test]
+#[cfg(unix)]
+fn missing_streams() {
+    use io::{Read, Write};
+    use std::os::fd::BorrowedFd;
+    // SAFETY: it is only duplicated, which fails.
+    let missing = unsafe { BorrowedFd::borrow_raw(1 << 20) };
+    let mut stream = io::Stream::over(missing);
+    assert!(stream.read(&mut [0; 9]).is_err());
+    assert!(stream.write(b"a").is_err());
+    assert!(stream.flush().is_err());
+}
