@@ -210,6 +210,14 @@ fn half_up(n: i128, d: i128, width: u32) -> i128 {
     wrapped(exact_half_up(n, d), width)
 }
 
+/// Returns `n / 2^f` rounded half up, or `None` if it does not fit in `width` bits.
+fn fitting_of<T: TryFrom<i128>>(n: i128, f: u32, width: u32) -> Option<T> {
+    let number = exact_half_up(n, 1 << f);
+    T::try_from(number)
+        .ok()
+        .filter(|_| wrapped(number, width) == number)
+}
+
 #[test]
 fn checked_conversions() {
     let narrow = |n: i128| i16::try_from(n).ok().map(F2Dot14::from_bits);
@@ -225,6 +233,11 @@ fn checked_conversions() {
         assert_eq!(found, fitting(n << 16), "{n}");
         let found = F26Dot6::checked_from_i32(integer).map(F26Dot6::to_bits);
         assert_eq!(found, fitting(n << 6), "{n}");
+        assert_eq!(x.checked_to_i32(), fitting_of(n, 16, 16), "{n}");
+        let found = x.checked_to_f26dot6().map(F26Dot6::to_bits);
+        assert_eq!(found, fitting_of(n, 10, 22), "{n}");
+        let found = F26Dot6::from_bits(integer).checked_to_i32();
+        assert_eq!(found, fitting_of(n, 6, 26), "{n}");
     }
     for n in integers(64) {
         let x = F48Dot16::from_bits(n as i64);
@@ -234,6 +247,7 @@ fn checked_conversions() {
             "{n}"
         );
         assert_eq!(x.checked_to_fixed().map(Fixed::to_bits), fitting(n), "{n}");
+        assert_eq!(x.checked_to_i64(), fitting_of(n, 16, 48), "{n}");
         let found = F48Dot16::checked_from_i64(n as i64).map(F48Dot16::to_bits);
         assert_eq!(found, i64::try_from(n << 16).ok(), "{n}");
     }

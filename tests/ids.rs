@@ -13,6 +13,7 @@ fn glyph_ids() {
         assert_eq!([wide.to_u32(), u32::from(wide)], [n; 2]);
         assert_eq!(GlyphId::from(n), wide);
         assert_eq!(format!("{wide} {wide:?}"), format!("GID_{n} GlyphId({n})"));
+        assert_eq!(wide.to_usize(), n as usize);
         let narrow = GlyphId16::try_from(wide).map_err(|error| error.value());
         let short = u16::try_from(n);
         assert_eq!(narrow, short.map(GlyphId16::new).or(Err(n)));
@@ -81,6 +82,10 @@ fn font_units() {
         assert_eq!(format!("{x} {y} {x:?} {y:?}"), texts);
     }
     assert_eq!(UfWord::new(40000).to_fixed().to_bits(), -1673527296);
+    for n in [0, 32767, 32768, 65535] {
+        let fixed = i32::try_from(i64::from(n) << 16).ok().map(Fixed::from_bits);
+        assert_eq!(UfWord::new(n).checked_to_fixed(), fixed, "{n}");
+    }
     assert!(FWord::new(-1) < FWord::default() && UfWord::default() < UfWord::new(0xFFFF));
     let found = format!("{:+} {:>3}", FWord::new(5), UfWord::new(7));
     assert_eq!(found, "+5   7");
@@ -170,6 +175,8 @@ fn offsets() {
         assert_offset(narrow, numbers[0], narrow.to_u32(), narrow.is_null());
         assert_offset(middle, numbers[1], middle.to_u32(), middle.is_null());
         assert_offset(wide, numbers[2], wide.to_u32(), wide.is_null());
+        let found = [narrow.into(), middle.into(), wide.to_usize()];
+        assert_eq!(found, numbers.map(|number| number as usize));
         assert_eq!(narrow.cmp(&Offset16::new(7)), numbers[0].cmp(&7));
         let found = middle.cmp(&Offset24::new(Uint24::new(7)));
         assert_eq!(found, numbers[1].cmp(&7));

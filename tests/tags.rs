@@ -95,6 +95,7 @@ fn display_and_debug() {
         assert_eq!(found, (bytes, bytes, &bytes));
         let number = u32::from_be_bytes(bytes);
         assert_eq!([Tag::from_be_bytes(bytes), Tag::from_u32(number)], [tag; 2]);
+        assert_eq!(tag.to_u32(), number);
     }
     let found = (Tag::default(), TTC_HEADER_TAG);
     assert_eq!(found, (Tag::new(b"    "), Tag::new(b"ttcf")));

@@ -135,3 +135,44 @@ no_nearest w m f x all many few fits far near =
     let next = times-next (up x (2 ^ f)) (2 ^ f) in
     let above = fits_low (2 ^ f) most (x +ℤ pos half) _ (omega (arith, ints, more)) (omega (arith, ints)) in
     omega (arith, ints, times_monotone most (up x (2 ^ f)) (2 ^ f) above))
+
+-- ---- an integer, and its raw value
+
+low_times : (f : ℕ) (z u : ℤ) → (z *ℤ pos (2 ^ f)) ≤ℤ (u *ℤ pos (2 ^ f)) → z ≤ℤ u
+low_times f z u below = fits_low (2 ^ f) z (u *ℤ pos (2 ^ f)) u below (omega (arith, ints, pow_pos f))
+
+-- the raw value fits if and only if the integer fits in the bits above the fraction
+pub integer_fits : (w f : ℕ) (u : ℤ) → f + 2 ≤ w → FitsBits w (u *ℤ pos (2 ^ f)) → FitsBits (w - f) u
+integer_fits w f u few fits =
+    let split = top w f few in
+    let half : ℤ = pos (2 ^ (w - f - 1)) in
+    let times = neg-times half (2 ^ f) in
+    record {
+      low = low_times f (neg_ℤ half) u (omega (arith, ints, fits.low));
+      high = by_lt_z u half (λ less. less)
+          (λ more. omega (arith, ints, fits.high, times_monotone half u (2 ^ f) more));
+    }
+
+pub raw_value_fits : (w f : ℕ) (u : ℤ) → f + 2 ≤ w → FitsBits (w - f) u → FitsBits w (u *ℤ pos (2 ^ f))
+raw_value_fits w f u few fits =
+    let split = top w f few in
+    let half : ℤ = pos (2 ^ (w - f - 1)) in
+    let times = neg-times half (2 ^ f) in
+    let next = times-next u (2 ^ f) in
+    let low = times_monotone (neg_ℤ half) u (2 ^ f) fits.low in
+    let high = times_monotone (u +ℤ pos 1) half (2 ^ f) (omega (arith, ints, fits.high)) in
+    record { low = omega (arith, ints); high = omega (arith, ints, pow_pos f) }
+
+shr_back : (f : ℕ) (u : ℤ) → shr_z (u *ℤ pos (2 ^ f)) (2 ^ f) ≡ u
+shr_back f u =
+    let x : ℤ = u *ℤ pos (2 ^ f) in
+    let s = shr_z x (2 ^ f) in
+    let less = low_times f s u (shr_low x (2 ^ f) (pow_pos f)) in
+    let more = fits_low (2 ^ f) u x s (omega (arith, ints)) (shr_high x (2 ^ f) (pow_pos f)) in
+    omega (arith, ints, less, more)
+
+-- the integer, from its raw value
+pub shifted_back : (w : Width) (f : ℕ) (x r : ℤ) → SFits w r → r ≡ rounded f x
+    → to_z w (of_z w (shr_z (to_z w (of_z w r)) (2 ^ f))) ≡ up x (2 ^ f)
+shifted_back w f x r fits is =
+    rw (to_z-of_z w r fits, to_z-of_z w (shr_z r (2 ^ f)) (shr_fits w r (2 ^ f) fits), is) (shr_back f (up x (2 ^ f)))

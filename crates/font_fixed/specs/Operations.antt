@@ -3,10 +3,14 @@
 use Rattle.std.specs.Prelude.{◌≡◌, ℕ, zero, suc, ◌-◌, ◌^◌, Bool, not, List, ℤ, pos, negsuc, neg_ℤ, ◌+ℤ◌, ◌-ℤ◌, ◌*ℤ◌}
 use Rattle.std.specs.Prelude.{◌≤ℤ◌, ◌<ℤ◌, Result, if◌then◌else◌}
 use Rattle.std.specs.Int.{is_negative, int_rem_euclid, saturate_to_bits}
-use Rattle.font_base.specs.Wrap.{half_range, wrap}
+use Rattle.font_base.specs.Wrap.{half_range, wrap, FitsBits}
 use Rattle.font_decimal.specs.Near.{signed, Near, near, Up, up}
 use Rattle.font_decimal.specs.Reading.{Reads, IsOutOfRange, Parses}
 use Rattle.font_decimal.specs.declared.reader.DecimalFault.{DecimalFault}
+
+-- r is z wrapped to w bits: z itself, if it fits in them
+abbrev pub WrapsTo : ℕ → ℤ → ℤ → Type 0
+WrapsTo w z r = (r ≡ wrap w z) × (FitsBits w z → r ≡ z)
 
 -- n / d rounded half away from zero and wrapped to w bits
 abbrev pub wrapped_near : ℕ → ℤ → ℕ → ℤ

@@ -12,7 +12,8 @@ ghost use Rattle.font_base.specs.Scalar.Laws.{signed_newtype, signed_identity};
 ghost use Rattle.font_decimal.specs.Padding.{padded_text, FillsFront};
 ghost use Rattle.font_decimal.specs.Shortest.{IsShortest};
 ghost use Rattle.font_decimal.specs.Shown.{shown};
-ghost use Rattle.font_fixed.specs.Operations.{IsNearestWhole, IsIntegral, IsFloor, IsFract, clamp};
+ghost use Rattle.font_fixed.specs.Operations.{WrapsTo, IsNearestWhole, IsIntegral, IsFloor};
+ghost use Rattle.font_fixed.specs.Operations.{IsFract, clamp};
 ghost use Rattle.font_fixed.specs.Reading.{ParsesFixedPoint};
 ghost use Rattle.font_fixed.specs.Rounding.{rounded};
 ghost use Rattle.font_fixed.specs.declared.fixed_i16.FixedI16.{FixedI16};
@@ -74,7 +75,7 @@ impl<const F: u32> FixedI16<F> {
     #[must_use]
     #[inline(always)]
     pub const fn abs(self) -> Self
-        ensures { bits_of result ≡ wrap 16 (pos (unsigned_abs (bits_of self.entry))) }
+        ensures { WrapsTo 16 (pos (unsigned_abs (bits_of self.entry))) (bits_of result) }
     {
         Self(self.0.wrapping_abs())
     }
@@ -83,7 +84,7 @@ impl<const F: u32> FixedI16<F> {
     #[must_use]
     #[inline(always)]
     pub const fn wrapping_add(self, other: Self) -> Self
-        ensures { bits_of result ≡ wrap 16 (bits_of self.entry +ℤ bits_of other.entry) }
+        ensures { WrapsTo 16 (bits_of self.entry +ℤ bits_of other.entry) (bits_of result) }
     {
         Self(self.0.wrapping_add(other.0))
     }
@@ -92,7 +93,7 @@ impl<const F: u32> FixedI16<F> {
     #[must_use]
     #[inline(always)]
     pub const fn wrapping_sub(self, other: Self) -> Self
-        ensures { bits_of result ≡ wrap 16 (bits_of self.entry -ℤ bits_of other.entry) }
+        ensures { WrapsTo 16 (bits_of self.entry -ℤ bits_of other.entry) (bits_of result) }
     {
         Self(self.0.wrapping_sub(other.0))
     }
@@ -300,7 +301,7 @@ where
 impl<const F: u32> Add for FixedI16<F> {
     type Output = FixedI16<F>;
 
-    ghost add_gives = { λ x y sum. bits_of sum ≡ wrap 16 (bits_of x +ℤ bits_of y) };
+    ghost add_gives = { λ x y sum. WrapsTo 16 (bits_of x +ℤ bits_of y) (bits_of sum) };
 
     #[inline(always)]
     fn add(self, other: FixedI16<F>) -> FixedI16<F> {
@@ -310,7 +311,7 @@ impl<const F: u32> Add for FixedI16<F> {
 
 /// Wraps on overflow.
 impl<const F: u32> AddAssign for FixedI16<F> {
-    ghost add_assign_gives = { λ x y sum. bits_of sum ≡ wrap 16 (bits_of x +ℤ bits_of y) };
+    ghost add_assign_gives = { λ x y sum. WrapsTo 16 (bits_of x +ℤ bits_of y) (bits_of sum) };
 
     #[inline(always)]
     fn add_assign(&mut self, other: FixedI16<F>) {
@@ -322,7 +323,7 @@ impl<const F: u32> AddAssign for FixedI16<F> {
 impl<const F: u32> Sub for FixedI16<F> {
     type Output = FixedI16<F>;
 
-    ghost sub_gives = { λ x y rest. bits_of rest ≡ wrap 16 (bits_of x -ℤ bits_of y) };
+    ghost sub_gives = { λ x y rest. WrapsTo 16 (bits_of x -ℤ bits_of y) (bits_of rest) };
 
     #[inline(always)]
     fn sub(self, other: FixedI16<F>) -> FixedI16<F> {
@@ -332,7 +333,7 @@ impl<const F: u32> Sub for FixedI16<F> {
 
 /// Wraps on overflow.
 impl<const F: u32> SubAssign for FixedI16<F> {
-    ghost sub_assign_gives = { λ x y rest. bits_of rest ≡ wrap 16 (bits_of x -ℤ bits_of y) };
+    ghost sub_assign_gives = { λ x y rest. WrapsTo 16 (bits_of x -ℤ bits_of y) (bits_of rest) };
 
     #[inline(always)]
     fn sub_assign(&mut self, other: FixedI16<F>) {
@@ -344,7 +345,7 @@ impl<const F: u32> SubAssign for FixedI16<F> {
 impl<const F: u32> Neg for FixedI16<F> {
     type Output = FixedI16<F>;
 
-    ghost neg_gives = { λ x opposite. bits_of opposite ≡ wrap 16 (neg_ℤ (bits_of x)) };
+    ghost neg_gives = { λ x opposite. WrapsTo 16 (neg_ℤ (bits_of x)) (bits_of opposite) };
 
     #[inline(always)]
     fn neg(self) -> FixedI16<F> {

@@ -5,12 +5,13 @@ ghost use Rattle.std.specs.Prelude.{◌≡◌, ◌<◌, ◌≤◌, ◌↔◌, �
 ghost use Rattle.std.specs.Prelude.{◌≤ℤ◌, ◌<ℤ◌, Some};
 ghost use Rattle.std.specs.Prelude.{IsSome, IfSome, IfNone, length, max, unsigned_abs};
 ghost use Rattle.std.specs.Int.{w32};
-ghost use Rattle.font_base.specs.Wrap.{FitsBits, wrap};
+ghost use Rattle.font_base.specs.Wrap.{FitsBits};
 ghost use Rattle.font_base.specs.Bytes.{bytes_of};
 ghost use Rattle.font_decimal.specs.Padding.{padded_text, FillsFront};
 ghost use Rattle.font_decimal.specs.Shortest.{IsShortest};
 ghost use Rattle.font_decimal.specs.Shown.{shown};
-ghost use Rattle.font_fixed.specs.Operations.{IsNearestWhole, IsIntegral, IsFloor, IsFract, clamp};
+ghost use Rattle.font_fixed.specs.Operations.{WrapsTo, IsNearestWhole, IsIntegral, IsFloor};
+ghost use Rattle.font_fixed.specs.Operations.{IsFract, clamp};
 ghost use Rattle.font_fixed.specs.Reading.{ParsesFixedPoint};
 ghost use Rattle.font_fixed.specs.Rounding.{rounded};
 ghost use Rattle.font_fixed.specs.declared.fixed_i32.FixedI32.{FixedI32};
@@ -71,7 +72,7 @@ impl<const F: u32> FixedI32<F> {
     #[must_use]
     #[inline(always)]
     pub const fn abs(self) -> Self
-        ensures { bits_of result ≡ wrap 32 (pos (unsigned_abs (bits_of self.entry))) }
+        ensures { WrapsTo 32 (pos (unsigned_abs (bits_of self.entry))) (bits_of result) }
     {
         Self(self.0.wrapping_abs())
     }
@@ -80,7 +81,7 @@ impl<const F: u32> FixedI32<F> {
     #[must_use]
     #[inline(always)]
     pub const fn wrapping_add(self, other: Self) -> Self
-        ensures { bits_of result ≡ wrap 32 (bits_of self.entry +ℤ bits_of other.entry) }
+        ensures { WrapsTo 32 (bits_of self.entry +ℤ bits_of other.entry) (bits_of result) }
     {
         Self(self.0.wrapping_add(other.0))
     }
@@ -89,7 +90,7 @@ impl<const F: u32> FixedI32<F> {
     #[must_use]
     #[inline(always)]
     pub const fn wrapping_sub(self, other: Self) -> Self
-        ensures { bits_of result ≡ wrap 32 (bits_of self.entry -ℤ bits_of other.entry) }
+        ensures { WrapsTo 32 (bits_of self.entry -ℤ bits_of other.entry) (bits_of result) }
     {
         Self(self.0.wrapping_sub(other.0))
     }
@@ -297,7 +298,7 @@ where
 impl<const F: u32> Add for FixedI32<F> {
     type Output = FixedI32<F>;
 
-    ghost add_gives = { λ x y sum. bits_of sum ≡ wrap 32 (bits_of x +ℤ bits_of y) };
+    ghost add_gives = { λ x y sum. WrapsTo 32 (bits_of x +ℤ bits_of y) (bits_of sum) };
 
     #[inline(always)]
     fn add(self, other: FixedI32<F>) -> FixedI32<F> {
@@ -307,7 +308,7 @@ impl<const F: u32> Add for FixedI32<F> {
 
 /// Wraps on overflow.
 impl<const F: u32> AddAssign for FixedI32<F> {
-    ghost add_assign_gives = { λ x y sum. bits_of sum ≡ wrap 32 (bits_of x +ℤ bits_of y) };
+    ghost add_assign_gives = { λ x y sum. WrapsTo 32 (bits_of x +ℤ bits_of y) (bits_of sum) };
 
     #[inline(always)]
     fn add_assign(&mut self, other: FixedI32<F>) {
@@ -319,7 +320,7 @@ impl<const F: u32> AddAssign for FixedI32<F> {
 impl<const F: u32> Sub for FixedI32<F> {
     type Output = FixedI32<F>;
 
-    ghost sub_gives = { λ x y rest. bits_of rest ≡ wrap 32 (bits_of x -ℤ bits_of y) };
+    ghost sub_gives = { λ x y rest. WrapsTo 32 (bits_of x -ℤ bits_of y) (bits_of rest) };
 
     #[inline(always)]
     fn sub(self, other: FixedI32<F>) -> FixedI32<F> {
@@ -329,7 +330,7 @@ impl<const F: u32> Sub for FixedI32<F> {
 
 /// Wraps on overflow.
 impl<const F: u32> SubAssign for FixedI32<F> {
-    ghost sub_assign_gives = { λ x y rest. bits_of rest ≡ wrap 32 (bits_of x -ℤ bits_of y) };
+    ghost sub_assign_gives = { λ x y rest. WrapsTo 32 (bits_of x -ℤ bits_of y) (bits_of rest) };
 
     #[inline(always)]
     fn sub_assign(&mut self, other: FixedI32<F>) {
@@ -341,7 +342,7 @@ impl<const F: u32> SubAssign for FixedI32<F> {
 impl<const F: u32> Neg for FixedI32<F> {
     type Output = FixedI32<F>;
 
-    ghost neg_gives = { λ x opposite. bits_of opposite ≡ wrap 32 (neg_ℤ (bits_of x)) };
+    ghost neg_gives = { λ x opposite. WrapsTo 32 (neg_ℤ (bits_of x)) (bits_of opposite) };
 
     #[inline(always)]
     fn neg(self) -> FixedI32<F> {

@@ -1,6 +1,6 @@
 //! Rounding the raw bits of fixed-point numbers to integers.
 
-ghost use Rattle.std.specs.Prelude.{◌≡◌, ◌↔◌, ◌+◌, ◌^◌, ◌≤◌, IsSome, IfSome};
+ghost use Rattle.std.specs.Prelude.{◌≡◌, ◌↔◌, ◌+◌, ◌-◌, ◌^◌, ◌≤◌, IsSome, IfSome};
 ghost use Rattle.font_base.specs.Wrap.{FitsBits};
 ghost use Rattle.font_decimal.specs.Near.{up};
 ghost use Rattle.font_fixed.specs.Operations.{IsFloor};
@@ -80,6 +80,26 @@ pub(crate) const fn half_up_32(n: i32, f: u32) -> i32
     ensures { result ≡ up n (2 ^ f) }
 {
     ((n >> (f - 1)) + 1) >> 1
+}
+
+/// Returns `bits / 2^f`, rounded half up, or `None` if it does not fit in `32 - f` bits.
+#[inline(always)]
+pub(crate) fn narrow_32(bits: i32, f: u32) -> Option<i32>
+    requires { (6 ≤ f) × (f + 2 ≤ 32) }
+    ensures variant { IsSome result ↔ FitsBits (32 - f) (up bits (2 ^ f)) }
+    ensures value { IfSome result (λ number. number ≡ up bits (2 ^ f)) }
+{
+    Some(round_bits_32(bits, f)? >> f)
+}
+
+/// Returns `bits / 2^f`, rounded half up, or `None` if it does not fit in `64 - f` bits.
+#[inline(always)]
+pub(crate) fn narrow_64(bits: i64, f: u32) -> Option<i64>
+    requires { (6 ≤ f) × (f + 2 ≤ 64) }
+    ensures variant { IsSome result ↔ FitsBits (64 - f) (up bits (2 ^ f)) }
+    ensures value { IfSome result (λ number. number ≡ up bits (2 ^ f)) }
+{
+    Some(round_bits_64(bits, f)? >> f)
 }
 
 /// Returns `n / 2^f`, rounded half up.

@@ -1,7 +1,6 @@
 -- Results of calls on matrices of `Fixed`, by their raw values.
 use Rattle.std.proofs.Common.{◌≡◌, ◌+ℤ◌}
-use Rattle.font_base.specs.Wrap.{wrap}
-use Rattle.font_fixed.specs.Operations.{IsProduct}
+use Rattle.font_fixed.specs.Operations.{IsProduct, WrapsTo}
 use Rattle.font_fixed.specs.Fixed.{Fixed, fixed_bits}
 use Rattle.font_geom.specs.declared.matrix.Matrix.{Matrix}
 use Rattle.font_geom.specs.declared.point.Point.{Point}
@@ -14,10 +13,10 @@ abbrev Product : Fixed → Fixed → Fixed → Type 0
 Product x y r = IsProduct 32 16 (fixed_bits x) (fixed_bits y) (fixed_bits r)
 
 abbrev Sum : Fixed → Fixed → Fixed → Type 0
-Sum x y r = fixed_bits r ≡ wrap 32 (fixed_bits x +ℤ fixed_bits y)
+Sum x y r = WrapsTo 32 (fixed_bits x +ℤ fixed_bits y) (fixed_bits r)
 
 fixed_has_one_answer : HasOneAnswer Product Sum fixed_bits wrapped_sum wrapped_product
-fixed_has_one_answer = record { product_is = λ x y r given. given.is; sum_is = λ x y r given. given }
+fixed_has_one_answer = record { product_is = λ x y r given. given.is; sum_is = λ x y r given. given.0 }
 
 -- the raw values of a product, and of a transformed point
 pub product_value : {a b ab : Matrix Fixed} → IsProductOf Product Sum a b ab

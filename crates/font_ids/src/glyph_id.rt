@@ -355,6 +355,15 @@ impl GlyphId {
     {
         self.0
     }
+
+    /// Returns the number as an index.
+    #[must_use]
+    #[inline]
+    pub const fn to_usize(self) -> usize
+        ensures { result ≡ glyph_number self }
+    {
+        self.0 as usize
+    }
 }
 
 /// The named forms of `==` and `<` across types, which Rattle needs.

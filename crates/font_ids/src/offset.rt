@@ -160,6 +160,15 @@ impl Offset24 {
     }
 }
 
+impl From<Offset24> for usize {
+    ghost from_gives = { λ offset number. number ≡ offset24_number offset };
+
+    #[inline]
+    fn from(offset: Offset24) -> usize {
+        usize::from(offset.0)
+    }
+}
+
 impl FixedSize for Offset24 {
     const RAW_BYTE_LEN: usize = 3;
 
@@ -195,8 +204,6 @@ impl IdentityEq for Offset24 {
 }
 
 /// A 32-bit offset to a table. Zero means null, that is, no table, if the field allows that.
-///
-/// A `usize` of 32 bits or more holds each; take `usize::try_from(offset.to_u32())`.
 ///
 /// ```
 /// use font_types::Offset32;
@@ -234,6 +241,15 @@ impl Offset32 {
         ensures { result ≡ offset32_number self }
     {
         self.0
+    }
+
+    /// Returns the number as an index.
+    #[must_use]
+    #[inline]
+    pub const fn to_usize(self) -> usize
+        ensures { result ≡ offset32_number self }
+    {
+        self.0 as usize
     }
 }
 

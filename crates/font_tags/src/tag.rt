@@ -7,7 +7,7 @@ ghost use Rattle.std.specs.Cmp.Lexicographic.{slice_cmp, texts_po, on_texts, tex
 ghost use Rattle.std.specs.Ordering.{on, nat_cmp};
 ghost use Rattle.std.specs.Fmt.{WritesOnOk};
 ghost use lib.Chars.{codes};
-ghost use Rattle.font_base.specs.Bytes.{are_bytes, bytes_of};
+ghost use Rattle.font_base.specs.Bytes.{are_bytes, bytes_of, numeral};
 ghost use Rattle.font_tags.specs.Tag.{tag_bytes, tag_of, four_spaces, IsVisible};
 ghost use Rattle.font_tags.specs.Tag.{IsGood, IsFault, IsAcceptable, IsChecked, IsValidated};
 ghost use Rattle.font_tags.specs.Tag.{byte_text, tag_text};
@@ -87,6 +87,15 @@ impl Tag {
         ensures { tag_bytes result ≡ bytes_of 4 (pos src) }
     {
         Self(src.to_be_bytes())
+    }
+
+    /// Returns the number whose big-endian bytes are those of the tag.
+    #[must_use]
+    #[inline]
+    pub fn to_u32(self) -> u32
+        ensures { result ≡ numeral (tag_bytes self) }
+    {
+        u32::from_raw(self.0)
     }
 
     /// Creates a tag from four bytes, without validation.
@@ -178,10 +187,7 @@ impl Tag {
     pub fn eq_slice(&self, other: &[u8]) -> bool
         ensures { IsTrue result ↔ (tag_bytes self.now ≡ other.now) }
     {
-        match *other {
-            [a, b, c, d] => self.eq_bytes(&[a, b, c, d]),
-            _ => false,
-        }
+        self.0.as_slice() == other
     }
 }
 

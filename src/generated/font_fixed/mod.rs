@@ -28,4 +28,4 @@ pub use reading::{read_bits_16, read_bits_32, read_bits_64};
 pub use rounding::{
     floor_bits_16, floor_bits_32, floor_bits_64, round_bits_16, round_bits_32, round_bits_64,
 };
-use rounding::{half_up_32, half_up_64};
+use rounding::{half_up_32, half_up_64, narrow_32, narrow_64};

@@ -53,6 +53,18 @@ pub(crate) const fn half_up_32(n: i32, f: u32) -> i32 {
     ((n >> (f - 1)) + 1) >> 1
 }
 
+/// Returns `bits / 2^f`, rounded half up, or `None` if it does not fit in `32 - f` bits.
+#[inline(always)]
+pub(crate) fn narrow_32(bits: i32, f: u32) -> Option<i32> {
+    Some(round_bits_32(bits, f)? >> f)
+}
+
+/// Returns `bits / 2^f`, rounded half up, or `None` if it does not fit in `64 - f` bits.
+#[inline(always)]
+pub(crate) fn narrow_64(bits: i64, f: u32) -> Option<i64> {
+    Some(round_bits_64(bits, f)? >> f)
+}
+
 /// Returns `n / 2^f`, rounded half up.
 #[inline(always)]
 pub(crate) const fn half_up_64(n: i64, f: u32) -> i64 {

@@ -157,6 +157,13 @@ impl UfWord {
         Fixed::from_i32(self.to_u16() as i32)
     }
 
+    /// Converts to 16.16, or returns `None` on overflow, that is, for 32768 and above.
+    #[must_use]
+    #[inline]
+    pub fn checked_to_fixed(self) -> Option<Fixed> {
+        Fixed::checked_from_i32(i32::from(self.to_u16()))
+    }
+
     /// Adds a sum of deltas, exactly. The result is a 16.16 raw value.
     #[must_use]
     #[inline]

@@ -269,6 +269,13 @@ impl GlyphId {
     pub const fn to_u32(self) -> u32 {
         self.0
     }
+
+    /// Returns the number as an index.
+    #[must_use]
+    #[inline]
+    pub const fn to_usize(self) -> usize {
+        self.0 as usize
+    }
 }
 
 /// The named forms of `==` and `<` across types, which Rattle needs.

@@ -121,6 +121,13 @@ impl Offset24 {
     }
 }
 
+impl From<Offset24> for usize {
+    #[inline]
+    fn from(offset: Offset24) -> usize {
+        usize::from(offset.0)
+    }
+}
+
 impl FixedSize for Offset24 {
     const RAW_BYTE_LEN: usize = 3;
 }
@@ -142,8 +149,6 @@ impl Scalar for Offset24 {
 impl IdentityEq for Offset24 {}
 
 /// A 32-bit offset to a table. Zero means null, that is, no table, if the field allows that.
-///
-/// A `usize` of 32 bits or more holds each; take `usize::try_from(offset.to_u32())`.
 ///
 /// ```
 /// use font_types_proved::Offset32;
@@ -175,6 +180,13 @@ impl Offset32 {
     #[inline]
     pub const fn to_u32(self) -> u32 {
         self.0
+    }
+
+    /// Returns the number as an index.
+    #[must_use]
+    #[inline]
+    pub const fn to_usize(self) -> usize {
+        self.0 as usize
     }
 }
 

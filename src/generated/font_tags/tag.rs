@@ -68,6 +68,13 @@ impl Tag {
         Self(src.to_be_bytes())
     }
 
+    /// Returns the number whose big-endian bytes are those of the tag.
+    #[must_use]
+    #[inline]
+    pub fn to_u32(self) -> u32 {
+        u32::from_raw(self.0)
+    }
+
     /// Creates a tag from four bytes, without validation.
     #[must_use]
     #[inline]
@@ -139,10 +146,7 @@ impl Tag {
     #[must_use]
     #[inline]
     pub fn eq_slice(&self, other: &[u8]) -> bool {
-        match *other {
-            [a, b, c, d] => self.eq_bytes(&[a, b, c, d]),
-            _ => false,
-        }
+        self.0.as_slice() == other
     }
 }
 

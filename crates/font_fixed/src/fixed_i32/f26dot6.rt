@@ -4,13 +4,13 @@
 ghost use Rattle.std.proofs.Common.{lit≤};
 ghost use Rattle.std.specs.Prelude.{◌≡◌, ◌≢◌, ◌^◌, ◌↔◌, ℤ, pos, ◌*ℤ◌, IsSome, IfSome};
 ghost use Rattle.font_base.specs.Wrap.{FitsBits, wrap};
-ghost use Rattle.font_decimal.specs.Near.{near};
+ghost use Rattle.font_decimal.specs.Near.{near, up};
 ghost use Rattle.font_fixed.specs.Operations.{IsNarrowed, IsProduct, IsQuotient, rounded_mul_div};
 ghost use Rattle.font_fixed.specs.F26Dot6.{f26dot6_bits as bits_of};
 
 use super::FixedI32;
 use crate::formats::Format;
-use crate::{mul_div, nearest_mul_div, nearest_product, product};
+use crate::{mul_div, narrow_32, nearest_mul_div, nearest_product, product};
 use std::ops::{Div, DivAssign, Mul, MulAssign};
 
 /// A signed 26.6 fixed-point number, the unit of scaled outlines.
@@ -110,6 +110,16 @@ impl F26Dot6 {
         ensures { IsNarrowed 26 (bits_of self) (2 ^ 6) result }
     {
         self.wrapping_add(Self(32)).0 >> 6
+    }
+
+    /// Rounds to the nearest integer, half up, or returns `None` if `to_i32` wraps.
+    #[must_use]
+    #[inline]
+    pub fn checked_to_i32(self) -> Option<i32>
+        ensures variant { IsSome result ↔ FitsBits 26 (up (bits_of self) (2 ^ 6)) }
+        ensures value { IfSome result (λ number. number ≡ up (bits_of self) (2 ^ 6)) }
+    {
+        narrow_32(self.0, 6)
     }
 }
 

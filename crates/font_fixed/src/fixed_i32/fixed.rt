@@ -18,7 +18,8 @@ ghost use Rattle.font_fixed.specs.F48Dot16.{f48dot16_bits};
 use super::FixedI32;
 use crate::formats::Format;
 use crate::{
-    F2Dot14, F26Dot6, F48Dot16, half_up_32, mul_div, nearest_mul_div, nearest_product, product,
+    F2Dot14, F26Dot6, F48Dot16, half_up_32, mul_div, narrow_32, nearest_mul_div, nearest_product,
+    product,
 };
 use font_base::{FixedSize, IdentityEq, Scalar};
 use std::ops::{Div, DivAssign, Mul, MulAssign};
@@ -148,6 +149,16 @@ impl Fixed {
         self.wrapping_add(Self(0x8000)).0 >> 16
     }
 
+    /// Rounds to the nearest integer, half up, or returns `None` if `to_i32` wraps.
+    #[must_use]
+    #[inline]
+    pub fn checked_to_i32(self) -> Option<i32>
+        ensures variant { IsSome result ↔ FitsBits 16 (up (bits_of self) (2 ^ 16)) }
+        ensures value { IfSome result (λ number. number ≡ up (bits_of self) (2 ^ 16)) }
+    {
+        narrow_32(self.0, 16)
+    }
+
     /// Rounds to the nearest [`F26Dot6`], half up, its raw bits wrapped to 22 bits: from
     /// `32768 - 1 / 128` on it gives -32768.
     #[must_use]
@@ -156,6 +167,16 @@ impl Fixed {
         ensures { IsNarrowed 22 (bits_of self) (2 ^ 10) (f26dot6_bits result) }
     {
         F26Dot6::from_bits(self.wrapping_add(Self(0x200)).0 >> 10)
+    }
+
+    /// Rounds to the nearest [`F26Dot6`], half up, or returns `None` if `to_f26dot6` wraps.
+    #[must_use]
+    #[inline]
+    pub fn checked_to_f26dot6(self) -> Option<F26Dot6>
+        ensures variant { IsSome result ↔ FitsBits 22 (up (bits_of self) (2 ^ 10)) }
+        ensures value { IfSome result (λ long. f26dot6_bits long ≡ up (bits_of self) (2 ^ 10)) }
+    {
+        Some(F26Dot6::from_bits(narrow_32(self.0, 10)?))
     }
 
     /// Rounds to the nearest [`F2Dot14`], half up, wrapping on overflow.

@@ -11,7 +11,7 @@ ghost use Rattle.font_fixed.specs.Fixed.{fixed_bits};
 
 use super::FixedI64;
 use crate::formats::Format;
-use crate::{Fixed, half_up_64, low_bits};
+use crate::{Fixed, half_up_64, low_bits, narrow_64};
 
 /// A signed 48.16 fixed-point number, such as a sum of deltas.
 ///
@@ -90,6 +90,16 @@ impl F48Dot16 {
         ensures { IsNarrowed 48 (bits_of self) (2 ^ 16) result }
     {
         self.wrapping_add(Self(0x8000)).0 >> 16
+    }
+
+    /// Rounds to the nearest integer, half up, or returns `None` if `to_i64` wraps.
+    #[must_use]
+    #[inline]
+    pub fn checked_to_i64(self) -> Option<i64>
+        ensures variant { IsSome result ↔ FitsBits 48 (up (bits_of self) (2 ^ 16)) }
+        ensures value { IfSome result (λ number. number ≡ up (bits_of self) (2 ^ 16)) }
+    {
+        narrow_64(self.0, 16)
     }
 
     /// Rounds to the nearest integer, half up, wrapped to 32 bits.

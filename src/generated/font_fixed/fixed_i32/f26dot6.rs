@@ -4,7 +4,7 @@
 
 use super::FixedI32;
 use crate::font_fixed::formats::Format;
-use crate::font_fixed::{mul_div, nearest_mul_div, nearest_product, product};
+use crate::font_fixed::{mul_div, narrow_32, nearest_mul_div, nearest_product, product};
 use core::ops::{Div, DivAssign, Mul, MulAssign};
 
 /// A signed 26.6 fixed-point number, the unit of scaled outlines.
@@ -84,6 +84,13 @@ impl F26Dot6 {
     #[inline(always)]
     pub const fn to_i32(self) -> i32 {
         self.wrapping_add(Self(32)).0 >> 6
+    }
+
+    /// Rounds to the nearest integer, half up, or returns `None` if `to_i32` wraps.
+    #[must_use]
+    #[inline]
+    pub fn checked_to_i32(self) -> Option<i32> {
+        narrow_32(self.0, 6)
     }
 }
 

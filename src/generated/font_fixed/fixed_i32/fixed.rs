@@ -6,7 +6,8 @@ use super::FixedI32;
 use crate::font_base::{FixedSize, IdentityEq, Scalar};
 use crate::font_fixed::formats::Format;
 use crate::font_fixed::{
-    F2Dot14, F26Dot6, F48Dot16, half_up_32, mul_div, nearest_mul_div, nearest_product, product,
+    F2Dot14, F26Dot6, F48Dot16, half_up_32, mul_div, narrow_32, nearest_mul_div, nearest_product,
+    product,
 };
 use core::ops::{Div, DivAssign, Mul, MulAssign};
 
@@ -105,12 +106,26 @@ impl Fixed {
         self.wrapping_add(Self(0x8000)).0 >> 16
     }
 
+    /// Rounds to the nearest integer, half up, or returns `None` if `to_i32` wraps.
+    #[must_use]
+    #[inline]
+    pub fn checked_to_i32(self) -> Option<i32> {
+        narrow_32(self.0, 16)
+    }
+
     /// Rounds to the nearest [`F26Dot6`], half up, its raw bits wrapped to 22 bits: from
     /// `32768 - 1 / 128` on it gives -32768.
     #[must_use]
     #[inline(always)]
     pub const fn to_f26dot6(self) -> F26Dot6 {
         F26Dot6::from_bits(self.wrapping_add(Self(0x200)).0 >> 10)
+    }
+
+    /// Rounds to the nearest [`F26Dot6`], half up, or returns `None` if `to_f26dot6` wraps.
+    #[must_use]
+    #[inline]
+    pub fn checked_to_f26dot6(self) -> Option<F26Dot6> {
+        Some(F26Dot6::from_bits(narrow_32(self.0, 10)?))
     }
 
     /// Rounds to the nearest [`F2Dot14`], half up, wrapping on overflow.

@@ -4,7 +4,7 @@
 
 use super::FixedI64;
 use crate::font_fixed::formats::Format;
-use crate::font_fixed::{Fixed, half_up_64, low_bits};
+use crate::font_fixed::{Fixed, half_up_64, low_bits, narrow_64};
 
 /// A signed 48.16 fixed-point number, such as a sum of deltas.
 ///
@@ -68,6 +68,13 @@ impl F48Dot16 {
     #[inline(always)]
     pub const fn to_i64(self) -> i64 {
         self.wrapping_add(Self(0x8000)).0 >> 16
+    }
+
+    /// Rounds to the nearest integer, half up, or returns `None` if `to_i64` wraps.
+    #[must_use]
+    #[inline]
+    pub fn checked_to_i64(self) -> Option<i64> {
+        narrow_64(self.0, 16)
     }
 
     /// Rounds to the nearest integer, half up, wrapped to 32 bits.

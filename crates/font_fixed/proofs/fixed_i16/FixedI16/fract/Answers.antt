@@ -3,4 +3,4 @@ use Rattle.font_fixed.proofs.Rounds.{fract_is}
 use Rattle.font_fixed.proofs.fixed_i16.FixedI16.fract.Goals as goal
 
 pub returns : goal.returns
-returns g c = fract_is w16 _ g.row.F _ _ refl g.bound-1.whole (search rules) c.rem_euclid.ensures.value
+returns g c = fract_is w16 _ g.row.F _ _ refl (search rules) (search rules) c.rem_euclid.ensures.value

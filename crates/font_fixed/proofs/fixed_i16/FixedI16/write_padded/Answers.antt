@@ -4,4 +4,4 @@ use Rattle.font_fixed.proofs.Texts.{has_room}
 use Rattle.font_fixed.proofs.fixed_i16.FixedI16.write_padded.Goals as goal
 
 pub returns-clause-cell : goal.returns-clause-cell
-returns-clause-cell g c = search (rules, cell_16, has_room 16 g.row.F g.bound-1.whole (omega arith))
+returns-clause-cell g c = search (rules, cell_16, has_room 16 g.row.F (search rules) (omega arith))
