@@ -2,9 +2,10 @@
 //! function in Rattle; and an iterator that `collect`, `extend`, `rev` and `zip` treat as a
 //! slice's.
 
-use crate::{Align, DecimalFault, InvalidTag, Pad, TryFromGlyphIdError, TryFromUint24Error};
+use crate::{Align, DecimalFault, DeltaSum, Fixed, InvalidTag, Pad};
 use crate::{Matrix, MatrixElement, Predefined, Scalar, ScalarArray, ScalarArrayIter};
 use crate::{SampleHeader, Shortest, TableDataRef, TableHeader};
+use crate::{TryFromGlyphIdError, TryFromUint24Error};
 use core::fmt::{Debug, Formatter, Result};
 use core::hash::{Hash, Hasher};
 use core::iter::FusedIterator;
@@ -39,6 +40,32 @@ impl Hash for Shortest {
 impl AsRef<str> for Shortest {
     fn as_ref(&self) -> &str {
         self.as_str()
+    }
+}
+
+// ---- sums of deltas
+
+/// Adds the product of each term, a scalar and a delta in font units.
+///
+/// ```
+/// # use font_types_proved::{DeltaSum, Fixed};
+/// let terms = [(Fixed::from_bits(0x8000), 3), (Fixed::NEG_ONE, 2)];
+/// assert_eq!(DeltaSum::from_iter(terms).finish().to_string(), "-0.5");
+/// ```
+impl Extend<(Fixed, i32)> for DeltaSum {
+    fn extend<I: IntoIterator<Item = (Fixed, i32)>>(&mut self, terms: I) {
+        for (scalar, delta) in terms {
+            self.add(scalar, delta);
+        }
+    }
+}
+
+/// Sums the products of terms, as `extend` does.
+impl FromIterator<(Fixed, i32)> for DeltaSum {
+    fn from_iter<I: IntoIterator<Item = (Fixed, i32)>>(terms: I) -> Self {
+        let mut sum = Self::new();
+        sum.extend(terms);
+        sum
     }
 }
 

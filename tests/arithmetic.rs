@@ -323,6 +323,11 @@ fn sums_of_deltas() {
         for (scalar, delta) in terms {
             sum.add(*scalar, *delta);
         }
+        assert_eq!(
+            terms.iter().copied().collect::<DeltaSum>(),
+            sum,
+            "{terms:?}"
+        );
         let wrapped = F48Dot16::from_bits(exact as i64);
         assert_eq!([sum.finish(), delta_sum(terms)], [wrapped; 2], "{terms:?}");
         let checked = i64::try_from(exact).ok().map(F48Dot16::from_bits);

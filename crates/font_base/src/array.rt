@@ -103,7 +103,7 @@ impl<'a, T: Scalar> ScalarArray<'a, T> {
     #[must_use]
     #[inline]
     #[tactic(auto, using(crate::proofs::Elements::len_rules))]
-    pub fn len(&self) -> usize
+    pub const fn len(&self) -> usize
         ensures value { result ≡ array_len self.now }
         ensures bytes { result * T.RAW_BYTE_LEN ≡ length (array_bytes self.now) }
     {
@@ -143,7 +143,7 @@ impl<'a, T: Scalar> ScalarArray<'a, T> {
     #[must_use]
     #[inline]
     #[tactic(auto, using(crate::proofs::Elements::iter_rules))]
-    pub fn as_raw(&self) -> &'a [T::Raw]
+    pub const fn as_raw(&self) -> &'a [T::Raw]
         ensures { map T.Raw.bytes result.now ≡ array_elements self.now }
     {
         self.raw

@@ -93,7 +93,7 @@ impl<'a, H: TableHeader> TableDataRef<'a, H> {
     /// Creates a table over `data`, or returns `None` if it is too short for the header.
     #[must_use]
     #[inline(always)]
-    pub fn new(data: &'a [u8]) -> Option<TableDataRef<'a, H>>
+    pub const fn new(data: &'a [u8]) -> Option<TableDataRef<'a, H>>
         ensures variant { IsSome result ↔ (H.BYTE_LEN ≤ length «data».now) }
         ensures bytes { IfSome result (λ table. table_bytes table ≡ «data».now) }
     {
@@ -118,7 +118,7 @@ impl<'a, H: TableHeader> TableDataRef<'a, H> {
     /// Returns all the bytes, including the header.
     #[must_use]
     #[inline(always)]
-    pub fn data(&self) -> &'a [u8]
+    pub const fn data(&self) -> &'a [u8]
         ensures { result.now ≡ table_bytes self.now }
     {
         self.data

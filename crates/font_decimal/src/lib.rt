@@ -9,6 +9,7 @@
 //! ```
 #![tactic(auto)]
 
+mod fraction;
 mod grammar;
 pub mod laws;
 mod padding;

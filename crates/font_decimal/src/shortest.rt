@@ -6,6 +6,7 @@ ghost use Rattle.std.specs.Fmt.{decimal, sign_text};
 ghost use Rattle.font_decimal.specs.Grammar.{fraction_text};
 ghost use Rattle.font_decimal.specs.Shortest.{fewest_places, nearest_numeral, last_digits};
 
+use crate::fraction::check_fraction_bits;
 use std::fmt;
 
 const LEN: usize = 22;
@@ -50,6 +51,7 @@ impl Shortest {
         ensures shortest { IsShortest bits f (shown result) }
         ensures text { shown result ≡ shortest_text bits f }
     {
+        check_fraction_bits(f);
         let digits = shortest_digits(bits.unsigned_abs(), f);
         let mut text = Self::empty();
         text.push_fraction(digits.fraction, digits.places);

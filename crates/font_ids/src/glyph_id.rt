@@ -457,7 +457,7 @@ impl TryFromGlyphIdError {
     /// Returns the number that was too large.
     #[must_use]
     #[inline]
-    pub fn value(&self) -> u32
+    pub const fn value(&self) -> u32
         ensures { result ≡ refused_number self.now }
     {
         self.0

@@ -122,7 +122,7 @@ impl NameId {
     #[must_use]
     #[inline]
     #[tactic(auto, unfolding(crate::specs::NameId::predefined_left))]
-    pub fn predefined() -> Predefined
+    pub const fn predefined() -> Predefined
         ensures ids { predefined_left result ≡ map name_id_of predefined_numbers }
         ensures count { length (predefined_left result) ≡ 25 }
     {

@@ -153,7 +153,7 @@ impl Offset24 {
     /// Returns `true` if the offset is this number, as `==` does.
     #[must_use]
     #[inline]
-    pub fn eq_u32(&self, other: &u32) -> bool
+    pub const fn eq_u32(&self, other: &u32) -> bool
         ensures { IsTrue result ↔ (offset24_number self.now ≡ other.now) }
     {
         self.to_u32() == *other
@@ -258,7 +258,7 @@ impl Offset32 {
     /// Returns `true` if the offset is this number, as `==` does.
     #[must_use]
     #[inline]
-    pub fn eq_u32(&self, other: &u32) -> bool
+    pub const fn eq_u32(&self, other: &u32) -> bool
         ensures { IsTrue result ↔ (offset32_number self.now ≡ other.now) }
     {
         self.to_u32() == *other
@@ -384,7 +384,7 @@ impl<T> Nullable<T> {
     /// Returns the offset, whether null or not.
     #[must_use]
     #[inline]
-    pub fn offset(&self) -> &T
+    pub const fn offset(&self) -> &T
         ensures { result.now ≡ nullable_offset self.now }
     {
         &self.0

@@ -77,7 +77,7 @@ impl<'a, T: Scalar> ScalarArray<'a, T> {
     /// Returns the number of elements.
     #[must_use]
     #[inline]
-    pub fn len(&self) -> usize {
+    pub const fn len(&self) -> usize {
         self.raw.len()
     }
 
@@ -110,7 +110,7 @@ impl<'a, T: Scalar> ScalarArray<'a, T> {
     /// ```
     #[must_use]
     #[inline]
-    pub fn as_raw(&self) -> &'a [T::Raw] {
+    pub const fn as_raw(&self) -> &'a [T::Raw] {
         self.raw
     }
 

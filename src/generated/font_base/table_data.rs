@@ -82,7 +82,7 @@ impl<'a, H: TableHeader> TableDataRef<'a, H> {
     /// Creates a table over `data`, or returns `None` if it is too short for the header.
     #[must_use]
     #[inline(always)]
-    pub fn new(data: &'a [u8]) -> Option<TableDataRef<'a, H>> {
+    pub const fn new(data: &'a [u8]) -> Option<TableDataRef<'a, H>> {
         if data.len() < H::BYTE_LEN {
             return None;
         }
@@ -102,7 +102,7 @@ impl<'a, H: TableHeader> TableDataRef<'a, H> {
     /// Returns all the bytes, including the header.
     #[must_use]
     #[inline(always)]
-    pub fn data(&self) -> &'a [u8] {
+    pub const fn data(&self) -> &'a [u8] {
         self.data
     }
 

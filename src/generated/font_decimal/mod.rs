@@ -10,6 +10,7 @@
 //! Shortest::new(9830, 14).as_str()                      // "0.6"
 //! ```
 
+mod fraction;
 mod grammar;
 pub mod laws;
 mod padding;

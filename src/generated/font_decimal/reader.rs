@@ -2,6 +2,7 @@
 
 //! Parsing a decimal as the nearest fixed-point number.
 
+use crate::font_decimal::fraction::check_fraction_bits;
 use crate::font_decimal::grammar::{after_point, are_digits, split_sign};
 
 /// Why a text was not parsed.
@@ -71,6 +72,7 @@ pub fn read_decimal_bytes(text: &[u8], f: u32, min: i64, max: i64) -> Result<i64
 // that does.
 #[inline(always)]
 fn nearest_raw(digits: &[u8], f: u32) -> Option<u64> {
+    check_fraction_bits(f);
     // An integer part that exceeds 2^63 raw units is out of every range.
     let (whole, len) = whole_digits(digits, (1 << (63 - f)) + 1);
     if len == 0 {

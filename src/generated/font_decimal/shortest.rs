@@ -2,6 +2,7 @@
 
 //! The shortest decimal of a fixed-point number.
 
+use crate::font_decimal::fraction::check_fraction_bits;
 use core::fmt;
 
 const LEN: usize = 22;
@@ -37,6 +38,7 @@ impl Shortest {
     #[must_use]
     #[inline]
     pub fn new(bits: i64, f: u32) -> Self {
+        check_fraction_bits(f);
         let digits = shortest_digits(bits.unsigned_abs(), f);
         let mut text = Self::empty();
         text.push_fraction(digits.fraction, digits.places);

@@ -362,7 +362,7 @@ impl TryFromGlyphIdError {
     /// Returns the number that was too large.
     #[must_use]
     #[inline]
-    pub fn value(&self) -> u32 {
+    pub const fn value(&self) -> u32 {
         self.0
     }
 }

@@ -112,7 +112,7 @@ impl NameId {
     /// Returns an iterator over the predefined ids in order: 0 to 14 and 16 to 25.
     #[must_use]
     #[inline]
-    pub fn predefined() -> Predefined {
+    pub const fn predefined() -> Predefined {
         Predefined { next: 0 }
     }
 

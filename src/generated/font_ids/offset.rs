@@ -116,7 +116,7 @@ impl Offset24 {
     /// Returns `true` if the offset is this number, as `==` does.
     #[must_use]
     #[inline]
-    pub fn eq_u32(&self, other: &u32) -> bool {
+    pub const fn eq_u32(&self, other: &u32) -> bool {
         self.to_u32() == *other
     }
 }
@@ -195,7 +195,7 @@ impl Offset32 {
     /// Returns `true` if the offset is this number, as `==` does.
     #[must_use]
     #[inline]
-    pub fn eq_u32(&self, other: &u32) -> bool {
+    pub const fn eq_u32(&self, other: &u32) -> bool {
         self.to_u32() == *other
     }
 }
@@ -280,7 +280,7 @@ impl<T> Nullable<T> {
     /// Returns the offset, whether null or not.
     #[must_use]
     #[inline]
-    pub fn offset(&self) -> &T {
+    pub const fn offset(&self) -> &T {
         &self.0
     }
 }

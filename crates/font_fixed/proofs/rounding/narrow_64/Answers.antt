@@ -14,4 +14,5 @@ returns-clause-variant c =
     search (rules, integer)
 
 pub returns-clause-value : goal.returns-clause-value
-returns-clause-value c = shifted_back w64 c.args.f c.args.bits c.in_ok-round_bits_64.field-0 (search rules) (search rules)
+returns-clause-value c =
+    shifted_back w64 c.args.f c.args.bits c.in_ok-round_bits_64.field-0 (search rules) (search rules)
