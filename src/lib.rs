@@ -74,9 +74,12 @@ mod font_types;
 mod cross_type;
 mod traits;
 
-// The code of that page is compiled and run.
+// The code of these pages is compiled and run.
 #[cfg(doctest)]
 #[doc = include_str!("../docs/PORTING.md")]
 mod porting {}
+#[cfg(doctest)]
+#[doc = include_str!("../README.md")]
+mod readme {}
 
 pub use font_types::*;

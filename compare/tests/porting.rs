@@ -66,6 +66,17 @@ of_each_type! {
     F48Dot16 i64 16;
 }
 
+#[test]
+fn texts_of_f2dot14_by_f32() {
+    let is_read_back = |raw: &i16| {
+        let text = there::F2Dot14::from_bits(*raw).to_string();
+        assert_eq!(text.parse(), Ok(here::F2Dot14::from_bits(*raw)));
+        there::F2Dot14::from_f32(text.parse().unwrap()).to_bits() == *raw
+    };
+    let read_back = (i16::MIN..=i16::MAX).filter(is_read_back);
+    assert_eq!(read_back.count(), 65536 - 32);
+}
+
 /// Returns the power of two in the table of units, by which a result of `apply_delta` is divided.
 fn power(name: &str) -> u32 {
     let rows = include_str!("../../docs/PORTING.md").lines();

@@ -28,7 +28,7 @@ fn files_of_the_package() {
         let code = code.filter(|path| !path.contains("/tests"));
         code.chain(files(&format!("{folder}/specs"), ".antt"))
     });
-    let others = "CHANGELOG.md Cargo.toml LICENSE-APACHE LICENSE-MIT docs/PORTING.md";
+    let others = "CHANGELOG.md Cargo.toml LICENSE-APACHE LICENSE-MIT README.md docs/PORTING.md";
     let expected = source.chain(contracts);
     let expected = expected
         .chain(others.split(' ').map(String::from))

@@ -40,10 +40,15 @@ impl Shortest {
     ghost use Rattle.font_decimal.specs.Shortest.{IsShortest, shortest_text};
     ghost use Rattle.font_decimal.specs.Shown.{shown};
 
-    /// Formats the raw value `bits` with `f` fraction bits.
+    /// Formats the raw value `bits` with `f` fraction bits, from 6 to 30. For a value of a type,
+    /// use its `to_decimal`.
     ///
     /// Of the decimals with the fewest fractional digits that parse back to `bits`, this is the
-    /// nearest, and of two the one farther from zero. `f` must be from 6 to 30.
+    /// nearest, and of two the one farther from zero.
+    ///
+    /// # Panics
+    ///
+    /// Panics in Rust if `f` is not from 6 to 30. In Rattle that is a precondition.
     #[must_use]
     #[inline]
     pub fn new(bits: i64, f: u32) -> Self

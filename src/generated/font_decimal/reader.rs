@@ -33,15 +33,20 @@ impl core::fmt::Display for DecimalFault {
     }
 }
 
-/// Parses a decimal as the nearest raw value with `f` fraction bits, rounding half away from zero.
+/// Parses a decimal as the nearest raw value with `f` fraction bits, from 6 to 30, rounding half
+/// away from zero. For a value of a type, use its `from_decimal`.
 ///
 /// A decimal is an optional `-`, one or more digits, and optionally a point followed by one or more
-/// digits, of any length. `f` must be from 6 to 30, and `min..=max` must contain 0.
+/// digits, of any length. `min..=max` must contain 0.
 ///
 /// # Errors
 ///
 /// Returns `Syntax` if the text is not a decimal, and `OutOfRange` if the rounded value is less
 /// than `min` or greater than `max`.
+///
+/// # Panics
+///
+/// Panics in Rust if `f` is not from 6 to 30. In Rattle that is a precondition.
 ///
 /// # Examples
 ///
@@ -59,6 +64,10 @@ pub fn read_decimal(text: &str, f: u32, min: i64, max: i64) -> Result<i64, Decim
 /// # Errors
 ///
 /// Returns the errors of `read_decimal`, and `Syntax` if the bytes are not UTF-8.
+///
+/// # Panics
+///
+/// Panics in Rust as `read_decimal` does.
 #[inline(always)]
 pub fn read_decimal_bytes(text: &[u8], f: u32, min: i64, max: i64) -> Result<i64, DecimalFault> {
     let (negative, digits) = split_sign(text);
