@@ -17,7 +17,7 @@ pub fn table(len: usize, fields: &[(usize, &[u16])]) -> Vec<u8> {
     table
 }
 
-/// Two encodings: the specification's example of format 4, with its last segment by an array of
+/// Two encodings: OpenType's example of format 4, with its last segment by an array of
 /// glyphs, and two groups of format 12, the last with a glyph above 65535.
 pub fn cmap() -> Vec<u8> {
     // Its deltas are -9, -18, 7 and 1.
