@@ -82,7 +82,7 @@ impl F26Dot6 {
         Some(Self(i32::try_from(nearest_mul_div(self.0, Self::ONE.0, other.0)).ok()?))
     }
 
-    /// Converts an integer, wrapping on overflow.
+    /// Converts an integer from -33554432 to 33554431, wrapping on overflow.
     #[must_use]
     #[inline(always)]
     pub const fn from_i32(number: i32) -> Self
@@ -92,7 +92,7 @@ impl F26Dot6 {
         Self(number.wrapping_mul(64))
     }
 
-    /// Converts an integer, or returns `None` on overflow.
+    /// Converts an integer from -33554432 to 33554431, or returns `None` on overflow.
     #[must_use]
     #[inline]
     pub fn checked_from_i32(number: i32) -> Option<Self>
