@@ -9,7 +9,8 @@
 //! - `use thiserror::Error;`, and `use std::alloc::AllocError;` in the library;
 //! - the modules that `tree.rs` lists for a crate, and what is imported from them;
 //! - what only a proof uses: a `let _name` of a slice or of a fact;
-//! - the comments above a clause or an item that is left out.
+//! - the comments above a clause or an item that is left out, and the lines that mark what the
+//!   widths of fixed-point numbers have alike.
 //!
 //! These are changed, and nothing else:
 //!
@@ -33,6 +34,7 @@ mod errors;
 mod tokens;
 mod tree;
 
+use crate::widths;
 use std::ops::Range;
 use tokens::{Kind, Token, tokens};
 
@@ -75,8 +77,9 @@ pub fn erase<'a>(source: &'a str, of: &'a Crate, is_root: bool) -> Result<Erased
     let is_code = |at: &usize| tokens[*at].kind == Kind::Code;
     let places: Vec<usize> = (0..tokens.len()).filter(is_code).collect();
     let words: Vec<&str> = places.iter().map(|at| tokens[*at].text).collect();
+    let is_kept = |token: &Token| ![widths::OWN, widths::ALIKE].contains(&token.text);
     let mut eraser = Eraser {
-        kept: vec![true; tokens.len()],
+        kept: tokens.iter().map(is_kept).collect(),
         put: vec![String::new(); tokens.len() + 1],
         words,
         tokens,

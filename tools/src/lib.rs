@@ -4,3 +4,4 @@ pub mod erase;
 pub mod exact;
 pub mod mutants;
 pub mod repository;
+pub mod widths;

@@ -3,7 +3,7 @@
 //! imports and trailing commas are ignored.
 
 use font_types_tools::erase::{Crate, LIBRARY, Target, erase, generated_files, tree};
-use font_types_tools::repository;
+use font_types_tools::{repository, widths};
 
 /// The changes, as Rust and as source. `CRATE` is any crate of the library.
 const CHANGES: [(&str, &str); 6] = [
@@ -172,11 +172,12 @@ fn other_tokens_are_found() {
 #[test]
 fn generated_files_are_up_to_date() {
     let mut files = tree().unwrap();
-    for path in generated_files() {
-        let rust = files.remove(&path);
+    files.extend(widths::tree());
+    for path in [generated_files(), widths::generated_files()].concat() {
+        let text = files.remove(&path);
         assert!(
-            rust.is_some_and(|rust| rust == repository::text(&path)),
-            "{path}"
+            text.is_some_and(|text| text == repository::text(&path)),
+            "{path}: run the eraser"
         );
     }
     assert!(files.is_empty(), "not written: {:?}", files.keys());

@@ -3,12 +3,10 @@
 
 ghost use Rattle.std.specs.Prelude.{◌≡◌, ◌<◌, ◌≤◌, ◌↔◌, ◌/◌, ◌^◌, ℤ, pos, neg_ℤ, ◌+ℤ◌, ◌-ℤ◌};
 ghost use Rattle.std.specs.Prelude.{◌≤ℤ◌, ◌<ℤ◌, Some};
-ghost use Rattle.std.specs.Prelude.{IsSome, IfSome, IfNone, refl, length, max, unsigned_abs};
-ghost use Rattle.std.proofs.Common.{lit<};
+ghost use Rattle.std.specs.Prelude.{IsSome, IfSome, IfNone, length, max, unsigned_abs};
 ghost use Rattle.std.specs.Int.{w16};
-ghost use Rattle.font_base.specs.Wrap.{FitsBits, fits_bits, wrap};
-ghost use Rattle.font_base.specs.Bytes.{bytes_of, signed_numeral};
-ghost use Rattle.font_base.specs.Scalar.Laws.{signed_newtype, signed_identity};
+ghost use Rattle.font_base.specs.Wrap.{FitsBits, wrap};
+ghost use Rattle.font_base.specs.Bytes.{bytes_of};
 ghost use Rattle.font_decimal.specs.Padding.{padded_text, FillsFront};
 ghost use Rattle.font_decimal.specs.Shortest.{IsShortest};
 ghost use Rattle.font_decimal.specs.Shown.{shown};
@@ -17,16 +15,26 @@ ghost use Rattle.font_fixed.specs.Operations.{IsFract, clamp};
 ghost use Rattle.font_fixed.specs.Reading.{ParsesFixedPoint};
 ghost use Rattle.font_fixed.specs.Rounding.{rounded};
 ghost use Rattle.font_fixed.specs.declared.fixed_i16.FixedI16.{FixedI16};
-ghost use Rattle.font_fixed.specs.FixedI16.{bits_of, of_bits, text_of};
+ghost use Rattle.font_fixed.specs.FixedI16.{bits_of, text_of};
 ghost use Rattle.font_fixed.specs.Longest.{longest};
 
 use crate::formats::Format;
 use crate::{floor_bits_16, read_bits_16, round_bits_16};
-use font_base::{FixedSize, IdentityEq, Scalar};
 use font_decimal::{DecimalFault, Pad, Shortest};
 use std::fmt;
 use std::ops::{Add, AddAssign, Neg, Sub, SubAssign};
 use std::str::FromStr;
+
+// ---- of this width alone
+
+ghost use Rattle.std.proofs.Common.{lit<};
+ghost use Rattle.std.specs.Prelude.{refl};
+ghost use Rattle.font_base.specs.Wrap.{fits_bits};
+ghost use Rattle.font_base.specs.Bytes.{signed_numeral};
+ghost use Rattle.font_base.specs.Scalar.Laws.{signed_newtype, signed_identity};
+ghost use Rattle.font_fixed.specs.FixedI16.{of_bits};
+
+use font_base::{FixedSize, IdentityEq, Scalar};
 
 mod f2dot14;
 mod f4dot12;
@@ -51,6 +59,40 @@ pub use f6dot10::F6Dot10;
 /// The source and its contracts: `crates/font_fixed/src/fixed_i16.rt`.
 #[derive(Clone, Copy, PartialEq, Eq, PartialOrd, Ord, Hash, Default)]
 pub struct FixedI16<const F: u32>(i16);
+
+impl<const F: u32> FixedSize for FixedI16<F> {
+    const RAW_BYTE_LEN: usize = 2;
+
+    ghost RAW_BYTE_LEN = { 2 };
+}
+
+impl<const F: u32> Scalar for FixedI16<F> {
+    type Raw = [u8; 2];
+
+    ghost is_scalar = { λ x. fits_bits 16 (bits_of x) };
+
+    ghost of_raw = { λ bytes. of_bits (signed_numeral 2 bytes) };
+
+    ghost raw_of = { λ x. bytes_of 2 (bits_of x) };
+
+    ghost laws = { signed_newtype 2 (lit< tt) bits_of of_bits (λ _. refl) (λ _. refl) };
+
+    #[inline(always)]
+    fn from_raw(raw: [u8; 2]) -> FixedI16<F> {
+        Self(i16::from_raw(raw))
+    }
+
+    #[inline(always)]
+    fn to_raw(self) -> [u8; 2] {
+        self.0.to_raw()
+    }
+}
+
+impl<const F: u32> IdentityEq for FixedI16<F> {
+    ghost identity = { signed_identity bits_of of_bits (λ _. refl) };
+}
+
+// ---- of each width: edit fixed_i32.rt, and run the eraser
 
 impl<const F: u32> FixedI16<F> {
     /// Creates a value from its raw bits.
@@ -247,8 +289,8 @@ where
     ///
     /// ```
     /// use font_types::F2Dot14;
-    /// let value: F2Dot14 = "-0.3".parse().unwrap();
-    /// assert_eq!(value.to_decimal().as_str(), "-0.3");
+    /// let value: F2Dot14 = "0.1".parse().unwrap();
+    /// assert_eq!(value.to_decimal().as_str(), "0.1");
     /// ```
     #[must_use]
     #[inline]
@@ -388,36 +430,4 @@ where
     fn fmt<W: fmt::Write>(&self, f: &mut fmt::Formatter<W>) -> fmt::Result {
         fmt::Display::fmt(&self.to_decimal(), f)
     }
-}
-
-impl<const F: u32> FixedSize for FixedI16<F> {
-    const RAW_BYTE_LEN: usize = 2;
-
-    ghost RAW_BYTE_LEN = { 2 };
-}
-
-impl<const F: u32> Scalar for FixedI16<F> {
-    type Raw = [u8; 2];
-
-    ghost is_scalar = { λ x. fits_bits 16 (bits_of x) };
-
-    ghost of_raw = { λ bytes. of_bits (signed_numeral 2 bytes) };
-
-    ghost raw_of = { λ x. bytes_of 2 (bits_of x) };
-
-    ghost laws = { signed_newtype 2 (lit< tt) bits_of of_bits (λ _. refl) (λ _. refl) };
-
-    #[inline(always)]
-    fn from_raw(raw: [u8; 2]) -> FixedI16<F> {
-        Self(i16::from_raw(raw))
-    }
-
-    #[inline(always)]
-    fn to_raw(self) -> [u8; 2] {
-        self.0.to_raw()
-    }
-}
-
-impl<const F: u32> IdentityEq for FixedI16<F> {
-    ghost identity = { signed_identity bits_of of_bits (λ _. refl) };
 }

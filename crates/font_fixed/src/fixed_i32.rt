@@ -25,6 +25,8 @@ use std::fmt;
 use std::ops::{Add, AddAssign, Neg, Sub, SubAssign};
 use std::str::FromStr;
 
+// ---- of this width alone
+
 mod f26dot6;
 mod f2dot30;
 mod fixed;
@@ -48,6 +50,8 @@ pub use fixed::{Fixed, nearest_step};
 /// The source and its contracts: `crates/font_fixed/src/fixed_i32.rt`.
 #[derive(Clone, Copy, PartialEq, Eq, PartialOrd, Ord, Hash, Default)]
 pub struct FixedI32<const F: u32>(i32);
+
+// ---- of each width: edit fixed_i32.rt, and run the eraser
 
 impl<const F: u32> FixedI32<F> {
     /// Creates a value from its raw bits.

@@ -25,6 +25,8 @@ use std::fmt;
 use std::ops::{Add, AddAssign, Neg, Sub, SubAssign};
 use std::str::FromStr;
 
+// ---- of this width alone
+
 mod f48dot16;
 
 pub use f48dot16::F48Dot16;
@@ -44,6 +46,8 @@ pub use f48dot16::F48Dot16;
 /// The source and its contracts: `crates/font_fixed/src/fixed_i64.rt`.
 #[derive(Clone, Copy, PartialEq, Eq, PartialOrd, Ord, Hash, Default)]
 pub struct FixedI64<const F: u32>(i64);
+
+// ---- of each width: edit fixed_i32.rt, and run the eraser
 
 impl<const F: u32> FixedI64<F> {
     /// Creates a value from its raw bits.

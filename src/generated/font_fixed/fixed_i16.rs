@@ -2,13 +2,14 @@
 
 //! 16-bit fixed-point numbers.
 
-use crate::font_base::{FixedSize, IdentityEq, Scalar};
 use crate::font_decimal::{DecimalFault, Pad, Shortest};
 use crate::font_fixed::formats::Format;
 use crate::font_fixed::{floor_bits_16, read_bits_16, round_bits_16};
 use core::fmt;
 use core::ops::{Add, AddAssign, Neg, Sub, SubAssign};
 use core::str::FromStr;
+
+use crate::font_base::{FixedSize, IdentityEq, Scalar};
 
 mod f2dot14;
 mod f4dot12;
@@ -33,6 +34,26 @@ pub use f6dot10::F6Dot10;
 /// The source and its contracts: `crates/font_fixed/src/fixed_i16.rt`.
 #[derive(Clone, Copy, PartialEq, Eq, PartialOrd, Ord, Hash, Default)]
 pub struct FixedI16<const F: u32>(i16);
+
+impl<const F: u32> FixedSize for FixedI16<F> {
+    const RAW_BYTE_LEN: usize = 2;
+}
+
+impl<const F: u32> Scalar for FixedI16<F> {
+    type Raw = [u8; 2];
+
+    #[inline(always)]
+    fn from_raw(raw: [u8; 2]) -> FixedI16<F> {
+        Self(i16::from_raw(raw))
+    }
+
+    #[inline(always)]
+    fn to_raw(self) -> [u8; 2] {
+        self.0.to_raw()
+    }
+}
+
+impl<const F: u32> IdentityEq for FixedI16<F> {}
 
 impl<const F: u32> FixedI16<F> {
     /// Creates a value from its raw bits.
@@ -180,8 +201,8 @@ where
     ///
     /// ```
     /// use font_types_proved::F2Dot14;
-    /// let value: F2Dot14 = "-0.3".parse().unwrap();
-    /// assert_eq!(value.to_decimal().as_str(), "-0.3");
+    /// let value: F2Dot14 = "0.1".parse().unwrap();
+    /// assert_eq!(value.to_decimal().as_str(), "0.1");
     /// ```
     #[must_use]
     #[inline]
@@ -291,23 +312,3 @@ where
         fmt::Display::fmt(&self.to_decimal(), f)
     }
 }
-
-impl<const F: u32> FixedSize for FixedI16<F> {
-    const RAW_BYTE_LEN: usize = 2;
-}
-
-impl<const F: u32> Scalar for FixedI16<F> {
-    type Raw = [u8; 2];
-
-    #[inline(always)]
-    fn from_raw(raw: [u8; 2]) -> FixedI16<F> {
-        Self(i16::from_raw(raw))
-    }
-
-    #[inline(always)]
-    fn to_raw(self) -> [u8; 2] {
-        self.0.to_raw()
-    }
-}
-
-impl<const F: u32> IdentityEq for FixedI16<F> {}
