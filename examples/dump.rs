@@ -75,11 +75,11 @@ fn names(font: &Font<'_>, out: &mut impl Write) -> fmt::Result {
     let Some((records, storage)) = records else {
         return Ok(());
     };
-    for record in records.values().filter(|record| record.platform == 3) {
+    for record in records.iter().filter(|record| record.platform == 3) {
         let (start, len) = (record.offset.into(), usize::from(record.length / 2));
         let units = ScalarArray::<u16>::read_at(storage, start, len);
         write!(out, "{}: ", record.name)?;
-        for unit in char::decode_utf16(units.iter().flat_map(|units| units.values())) {
+        for unit in char::decode_utf16(units.iter().flat_map(|units| units.iter())) {
             out.write_char(unit.unwrap_or(char::REPLACEMENT_CHARACTER))?;
         }
         writeln!(out)?;

@@ -73,9 +73,7 @@ fn segment_map(avar: &[u8], index: usize) -> Option<ScalarArray<'_, AxisMap>> {
 /// A coordinate by the first record at or above it, interpolated from the record before, or `None`
 /// outside of the map.
 fn mapped(map: &ScalarArray<'_, AxisMap>, x: Fixed) -> Option<Fixed> {
-    let above = map
-        .values()
-        .position(|record| record.from.to_fixed() >= x)?;
+    let above = map.iter().position(|record| record.from.to_fixed() >= x)?;
     let high = map.get(above)?;
     if high.from.to_fixed() == x {
         return Some(high.to.to_fixed());
@@ -102,7 +100,7 @@ fn scalar(region: &ScalarArray<'_, RegionAxis>, coordinates: &[F2Dot14]) -> Fixe
     };
     // Axes without a coordinate are at their default.
     let coordinates = coordinates.iter().chain(std::iter::repeat(&F2Dot14::ZERO));
-    let scalars = region.values().zip(coordinates).map(of_axis);
+    let scalars = region.iter().zip(coordinates).map(of_axis);
     scalars.fold(Fixed::ONE, |product, scalar| product * scalar)
 }
 
@@ -139,7 +137,7 @@ pub fn advance(font: &Font<'_>, glyph: GlyphId16, coordinates: &[F2Dot14]) -> Op
     let count = usize::from(u16::read_at(data, 4)?);
     let mut sum = DeltaSum::new();
     let indices = ScalarArray::<u16>::read_at(data, 6, count)?;
-    for (column, index) in indices.values().enumerate() {
+    for (column, index) in indices.iter().enumerate() {
         let scalar = scalar(&region(regions, index)?, coordinates);
         sum.add(scalar, delta(data, count, inner, column)?);
     }
@@ -189,7 +187,7 @@ fn main() -> Result<(), Box<dyn std::error::Error>> {
     let settings: Vec<String> = words.collect();
     let font = Font::new(&bytes).ok_or("no font of one face")?;
     let mut coordinates = Vec::new();
-    for (n, axis) in axes(&font).ok_or("no axes")?.values().enumerate() {
+    for (n, axis) in axes(&font).ok_or("no axes")?.iter().enumerate() {
         let value = settings
             .iter()
             .find_map(|word| word.strip_prefix(&format!("{}=", axis.tag)));

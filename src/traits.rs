@@ -1,6 +1,5 @@
 //! Traits that Rust users expect beyond the proved source, and that call it; a constant that is a
-//! function in Rattle; and an iterator that `collect`, `extend`, `rev` and `zip` treat as a
-//! slice's.
+//! function in Rattle; and `iter` of an array, which is std's.
 
 use crate::{Align, DecimalFault, DeltaSum, Fixed, InvalidTag, Pad};
 use crate::{Matrix, MatrixElement, Predefined, Scalar, ScalarArray, ScalarArrayIter};
@@ -85,20 +84,21 @@ impl FusedIterator for Predefined {}
 // ---- arrays and tables
 
 impl<'a, T: Scalar> ScalarArray<'a, T> {
-    /// Returns std's iterator over [`as_raw`](Self::as_raw), decoded: `collect`, `extend`, `map`,
-    /// `rev` and `zip` treat it as they treat a slice's. [`iter`](Self::iter) has a name, is
-    /// proved, and yields the same elements; it is for loops.
+    /// Returns an iterator over the elements, from either end.
+    ///
+    /// It is std's over [`as_raw`](Self::as_raw), decoded. `into_iter` returns the named
+    /// [`ScalarArrayIter`], which yields the same elements.
     ///
     /// ```
     /// # use font_types_proved::ScalarArray;
     /// let words = ScalarArray::<u16>::new(&[0, 1, 0, 4, 0, 9]).unwrap();
-    /// let doubled: Vec<u16> = words.values().rev().map(|word| 2 * word).collect();
+    /// let doubled: Vec<u16> = words.iter().rev().map(|word| 2 * word).collect();
     /// assert_eq!(doubled, [18, 8, 2]);
     /// ```
     #[inline]
     #[must_use]
-    pub fn values(
-        self,
+    pub fn iter(
+        &self,
     ) -> impl ExactSizeIterator<Item = T> + DoubleEndedIterator + FusedIterator + Clone + 'a {
         self.as_raw().iter().map(|raw| T::from_raw(*raw))
     }

@@ -52,12 +52,12 @@ where
         let all = [&zero.to_raw().as_slice().repeat(4)[..], bytes].concat();
         let array = ScalarArray::<T>::new(&all[all.len() - len * bytes.len()..]).unwrap();
         let right: Vec<T> = [zero, zero, zero, zero, value][5 - len..].to_vec();
-        assert!(array.iter().eq(right.iter().copied()), "{array:?}");
-        assert!(array.values().eq(array.iter()), "{array:?}");
-        assert!(array.values().rev().eq(array.iter().rev()), "{array:?}");
-        assert_eq!(array.values().len(), len);
-        assert_eq!(array.values().clone().collect::<Vec<T>>(), right);
-        assert_eq!(array.values().nth(len), None);
+        assert!(array.into_iter().eq(right.iter().copied()), "{array:?}");
+        assert!(array.iter().eq(array), "{array:?}");
+        assert!(array.iter().rev().eq(array.into_iter().rev()), "{array:?}");
+        assert_eq!(array.iter().len(), len);
+        assert_eq!(array.iter().clone().collect::<Vec<T>>(), right);
+        assert_eq!(array.iter().nth(len), None);
     }
     let found = ScalarArray::<T>::new(&longer).is_some();
     assert_eq!(found, bytes.len() == 1, "{value:?}");
@@ -164,7 +164,7 @@ fn arrays() {
     let [first, last] = [none.iter().next(), none.iter().next_back()];
     assert_eq!((first, last, none.binary_search(&1)), (None, None, Err(0)));
     assert!(ScalarArray::<u16>::new(&bytes[1..]).is_none());
-    let mut ends = array.iter();
+    let mut ends = array.into_iter();
     assert_eq!((ends.size_hint(), ends.len()), ((4, Some(4)), 4));
     assert_eq!((ends.next(), ends.next_back()), (Some(1), Some(16)));
     let found = (ends.as_array().as_bytes(), ends.clone().count());
@@ -172,7 +172,7 @@ fn arrays() {
     let found = (ends.next_back(), ends.next(), ends.next(), ends.next_back());
     assert_eq!(found, (Some(9), Some(4), None, None));
     assert!((&array).into_iter().eq([1, 4, 9, 16]) && array.into_iter().rev().eq([16, 9, 4, 1]));
-    let found = format!("{array:?} {:?}", array.iter());
+    let found = format!("{array:?} {:?}", array.into_iter());
     assert_eq!(found, "[1, 4, 9, 16] [1, 4, 9, 16]");
     for key in [0, 1, 5, 9, 16, 17] {
         let right = [1, 4, 9, 16].binary_search(&key);
@@ -239,7 +239,7 @@ fn shortened<'a>(
     array: ScalarArray<'static, u16>,
     _borrow: &'a [u8],
 ) -> (ScalarArray<'a, u16>, ScalarArrayIter<'a, u16>) {
-    (array, array.iter())
+    (array, array.into_iter())
 }
 
 #[test]
@@ -261,7 +261,7 @@ fn lifetimes() {
 fn long_array() {
     let bytes: Vec<u8> = (0..70_000u32).flat_map(u32::to_be_bytes).collect();
     let array = ScalarArray::<u32>::new(&bytes).unwrap();
-    let found = (array.len(), array.iter().len(), array.as_bytes().len());
+    let found = (array.len(), array.into_iter().len(), array.as_bytes().len());
     assert_eq!(found, (70_000, 70_000, 280_000));
     let found = (array.get(66_000), array.iter().next_back());
     assert_eq!(found, (Some(66_000), Some(69_999)));
@@ -269,7 +269,7 @@ fn long_array() {
         assert_eq!(array.binary_search(&n), Ok(n as usize));
     }
     assert_eq!(array.binary_search(&70_000), Err(70_000));
-    assert_eq!(array.values().map(u64::from).sum::<u64>(), 69_999 * 35_000);
+    assert_eq!(array.iter().map(u64::from).sum::<u64>(), 69_999 * 35_000);
 }
 
 /// Raw bytes of a caller's scalar.
@@ -326,7 +326,7 @@ fn zero_byte_scalar() {
     let array = ScalarArray::<Record<0>>::new(&[]).unwrap();
     let found = (array.len(), array.get(0), array.iter().next());
     assert_eq!(found, (0, None, None));
-    let found = (array.values().len(), array.values().next_back());
+    let found = (array.iter().len(), array.iter().next_back());
     assert_eq!(found, (0, None));
     let read = |offset, count| {
         let array = ScalarArray::<Record<0>>::read_at(&[1, 2], offset, count);

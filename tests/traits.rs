@@ -76,9 +76,9 @@ fn iterators() {
     let names = is_exact(NameId::predefined());
     assert!(names.starts_with("[COPYRIGHT_NOTICE, FAMILY_NAME, ") && names.ends_with("_PREFIX]"));
     let array = ScalarArray::<u16>::new(&[0, 1, 0, 4]).unwrap();
-    assert_eq!(is_exact(array.iter()), "[1, 4]");
+    assert_eq!(is_exact(array.into_iter()), "[1, 4]");
     fn is_fused(_: impl ExactSizeIterator + DoubleEndedIterator + FusedIterator + Clone) {}
-    is_fused(array.values());
+    is_fused(array.iter());
     assert_eq!(format!("{array:?}"), "[1, 4]");
     let mut ended = NameId::predefined();
     let found = [ended.nth(25), ended.next(), ended.next()];

@@ -29,7 +29,7 @@ use std::slice::Iter;
 /// let ends = ScalarArray::<u16>::new(&[0x00, 0x5A, 0x00, 0x7A, 0xFF, 0xFF]).unwrap();
 /// assert_eq!((ends.len(), ends.get(1)), (3, Some(0x7A)));
 /// assert_eq!(ends.binary_search(&0x60), Err(1));
-/// assert_eq!(ends.iter().next_back(), Some(0xFFFF));
+/// assert_eq!(ends.into_iter().next_back(), Some(0xFFFF));
 /// assert!(ScalarArray::<u16>::new(&[0x00]).is_none());
 /// ```
 ///
@@ -219,14 +219,10 @@ impl<'a, T: Scalar> ScalarArray<'a, T> {
         })
     }
 
-    /// Returns an iterator over the elements, from either end.
-    ///
-    /// It is for loops. Before `map`, `rev`, `zip` and `collect`, use `values` in Rust, which is
-    /// the iterator of [`as_raw`](Self::as_raw), decoded.
-    #[must_use]
+    // Returns the named iterator over the elements.
     #[inline]
     #[tactic(auto, using(crate::proofs::Elements::iter_rules))]
-    pub fn iter(&self) -> ScalarArrayIter<'a, T>
+    fn elements(&self) -> ScalarArrayIter<'a, T>
         ensures { elements_left result ≡ array_elements self.now }
     {
         ScalarArrayIter {
@@ -480,7 +476,7 @@ impl<'a, T: Scalar> IntoIterator for ScalarArray<'a, T> {
 
     #[inline]
     fn into_iter(self) -> ScalarArrayIter<'a, T> {
-        self.iter()
+        self.elements()
     }
 }
 
@@ -495,6 +491,6 @@ impl<'a, T: Scalar> IntoIterator for &ScalarArray<'a, T> {
 
     #[inline]
     fn into_iter(self) -> ScalarArrayIter<'a, T> {
-        self.iter()
+        self.elements()
     }
 }

@@ -17,7 +17,7 @@ use core::slice::Iter;
 /// let ends = ScalarArray::<u16>::new(&[0x00, 0x5A, 0x00, 0x7A, 0xFF, 0xFF]).unwrap();
 /// assert_eq!((ends.len(), ends.get(1)), (3, Some(0x7A)));
 /// assert_eq!(ends.binary_search(&0x60), Err(1));
-/// assert_eq!(ends.iter().next_back(), Some(0xFFFF));
+/// assert_eq!(ends.into_iter().next_back(), Some(0xFFFF));
 /// assert!(ScalarArray::<u16>::new(&[0x00]).is_none());
 /// ```
 ///
@@ -153,13 +153,9 @@ impl<'a, T: Scalar> ScalarArray<'a, T> {
         })
     }
 
-    /// Returns an iterator over the elements, from either end.
-    ///
-    /// It is for loops. Before `map`, `rev`, `zip` and `collect`, use `values` in Rust, which is
-    /// the iterator of [`as_raw`](Self::as_raw), decoded.
-    #[must_use]
+    // Returns the named iterator over the elements.
     #[inline]
-    pub fn iter(&self) -> ScalarArrayIter<'a, T> {
+    fn elements(&self) -> ScalarArrayIter<'a, T> {
         ScalarArrayIter {
             rest: self.raw.iter(),
         }
@@ -334,7 +330,7 @@ impl<'a, T: Scalar> IntoIterator for ScalarArray<'a, T> {
 
     #[inline]
     fn into_iter(self) -> ScalarArrayIter<'a, T> {
-        self.iter()
+        self.elements()
     }
 }
 
@@ -345,6 +341,6 @@ impl<'a, T: Scalar> IntoIterator for &ScalarArray<'a, T> {
 
     #[inline]
     fn into_iter(self) -> ScalarArrayIter<'a, T> {
-        self.iter()
+        self.elements()
     }
 }
