@@ -28,9 +28,12 @@
 //! `Display` and `Error` of a type that derives `Error` are added, and in each file of the program
 //! the import of what Rattle has in scope.
 //!
-//! Anything else that Rust does not have is an [`Error`], or one of rustc.
+//! Anything else that Rust does not have is an [`Error`], or one of rustc. So are names that would
+//! have another meaning in Rust: those that are imported from what is left out, and methods that it
+//! has or implements; other names of a crate's root, and glob imports; a `W` that is no parameter.
 
 mod errors;
+mod left_out;
 mod tokens;
 mod tree;
 
@@ -38,6 +41,7 @@ use crate::widths;
 use std::ops::Range;
 use tokens::{Kind, Token, tokens};
 
+pub use left_out::check_left_out;
 pub use tokens::Error;
 pub use tree::{LIBRARY, generated_files, tree};
 
@@ -87,6 +91,8 @@ pub fn erase<'a>(source: &'a str, of: &'a Crate, is_root: bool) -> Result<Erased
         of,
         is_root,
         modules: Vec::new(),
+        left_out: Vec::new(),
+        writers: Vec::new(),
     };
     if of.target == Target::Program {
         let is_first = |token: &Token| !matches!(token.kind, Kind::Space | Kind::Head);
@@ -97,6 +103,7 @@ pub fn erase<'a>(source: &'a str, of: &'a Crate, is_root: bool) -> Result<Erased
     while at < eraser.words.len() {
         at = eraser.step(at)?;
     }
+    eraser.check_kept()?;
     Ok(Erased {
         rust: eraser.written(),
         modules: eraser.modules,
@@ -115,6 +122,10 @@ struct Eraser<'a> {
     of: &'a Crate<'a>,
     is_root: bool,
     modules: Vec<&'a str>,
+    // The names that are imported from what is left out.
+    left_out: Vec<&'a str>,
+    // The functions with a parameter `W`, which Rust's have not.
+    writers: Vec<Range<usize>>,
 }
 
 impl<'a> Eraser<'a> {
@@ -130,7 +141,7 @@ impl<'a> Eraser<'a> {
             ["pub" | "ghost" | "mod" | "use", ..] => self.item(at),
             ["fn", name, ..] if name != "(" => self.function(at),
             ["let", name, ..] if name.starts_with('_') && name.len() > 1 => self.unused(at),
-            ["Formatter", "<", "W", ">", ..] => {
+            ["Formatter", "<", "W", ">", ..] if self.is_of_writer(at) => {
                 self.replace(at + 2, "'_");
                 Ok(at + 3)
             }
@@ -141,6 +152,10 @@ impl<'a> Eraser<'a> {
                 Ok(at + 1)
             }
             ["+", "Drop", ..] => Ok(self.leave_out(at..at + 2)),
+            // The root of the crate becomes a module, where this would be the root of all.
+            ["crate", "as", ..] | ["extern", "crate", ..] => {
+                self.error(at, "another name of the crate's root")
+            }
             // If it named a number, `n + Drop` would be erased to `n`.
             ["Drop", ..] => self.error(at, "`Drop` elsewhere than in a bound or a `derive`"),
             ["prove", "!", "(", ..] => {
@@ -184,7 +199,11 @@ impl<'a> Eraser<'a> {
         let end = match self.words[item..] {
             ["ghost", "use", ..] => self.item_end(item)?,
             ["ghost", ..] => self.ghost_end(item)?,
-            ["mod" | "use", ..] if self.is_left_out(item) => self.item_end(item)?,
+            ["mod" | "use", ..] if self.is_left_out(item) => self.left_out_end(item)?,
+            // It could bring in names of what is left out.
+            ["use", ..] if self.words[item..self.item_end(item)?].contains(&"*") => {
+                return self.error(item, "an import of all names");
+            }
             ["mod", name, ";", ..] if item == at => {
                 self.modules.push(name);
                 return Ok(at + 2);
@@ -208,6 +227,55 @@ impl<'a> Eraser<'a> {
         }
     }
 
+    // The end of an item that is left out. Its names are not those that Rust has.
+    fn left_out_end(&mut self, at: usize) -> Result<usize, Error> {
+        let end = self.item_end(at)?;
+        if self.words[at] == "use" && !matches!(self.words[at + 1], "std" | "thiserror") {
+            let words = &self.words[at..end];
+            if words
+                .iter()
+                .any(|word| matches!(*word, "*" | "as" | "Drop"))
+            {
+                return self.error(at, "an import of this form from what is left out");
+            }
+            let names = words
+                .windows(2)
+                .filter(|pair| matches!(pair[1], "," | "}" | ";"));
+            let names = names.map(|pair| pair[0]).filter(|name| *name != "}");
+            self.left_out.extend(names);
+        }
+        Ok(end)
+    }
+
+    // Checks that what is kept has no name of what is left out, nor a trait of it in scope, nor a
+    // `W` that was a parameter.
+    fn check_kept(&self) -> Result<(), Error> {
+        let is_trait = |name: &&str| name.starts_with(char::is_uppercase);
+        let has_trait = self.left_out.iter().any(is_trait);
+        for (at, word) in self.words.iter().enumerate() {
+            if !self.kept[self.places[at]] {
+                continue;
+            }
+            if self.left_out.contains(word) {
+                return self.error(at, format!("`{word}`, which is left out"));
+            }
+            if has_trait && *word == "fn" {
+                return self.error(
+                    at,
+                    "a function beside an imported trait, type or constant that is left out",
+                );
+            }
+            if *word == "W" && self.is_of_writer(at) {
+                return self.error(at, "`W` elsewhere than in `Formatter<W>`");
+            }
+        }
+        Ok(())
+    }
+
+    fn is_of_writer(&self, at: usize) -> bool {
+        self.writers.iter().any(|writer| writer.contains(&at))
+    }
+
     // An attribute, whose bracket opens at the second place.
     fn attribute(&mut self, at: usize, open: usize) -> Result<usize, Error> {
         let end = self.group_end(open)?;
@@ -216,6 +284,9 @@ impl<'a> Eraser<'a> {
                 return self.error(open + 3, "`{{` in the text of an error");
             }
             ["tactic" | "error", ..] => false,
+            ["macro_use" | "macro_export", ..] => {
+                return self.error(open + 1, "a macro for other modules");
+            }
             ["cfg", "(", "test", ")", "]"] => match self.words[end..] {
                 ["mod", "tests", ";", ..] => return Ok(self.leave_out_with_comments(at..end + 3)),
                 _ => return self.error(at, "tests elsewhere than in `mod tests;`"),
@@ -260,7 +331,14 @@ impl<'a> Eraser<'a> {
             self.put(at, "pub ");
         }
         match self.words[at + 1..] {
-            [_, "<", "W", ":", "fmt", "::", "Write", ">", ..] => Ok(self.leave_out(at + 2..at + 9)),
+            [_, "<", "W", ":", "fmt", "::", "Write", ">", ..] => {
+                let end = match self.body(at + 9)? {
+                    Some(body) => self.group_end(body)?,
+                    None => self.item_end(at + 9)?,
+                };
+                self.writers.push(at + 9..end);
+                Ok(self.leave_out(at + 2..at + 9))
+            }
             ["clone", "(", "&", "self", ")", "-", ">", "Result", "<", ..] => self.clone_of_copy(at),
             _ => Ok(at + 2),
         }
@@ -316,9 +394,14 @@ impl<'a> Eraser<'a> {
     // `let _name = x.as_slice();` or `let _name = each_is_byte(x);`
     fn unused(&mut self, at: usize) -> Result<usize, Error> {
         let end = self.item_end(at)?;
-        let item = &self.words[at..end];
-        let is_fact = |word: &&str| matches!(*word, "as_slice" | "each_is_byte");
-        if !item.iter().any(is_fact) || item.contains(&"?") {
+        // Names, and calls of these two.
+        let is_other = |pair: &[&str]| match *pair {
+            [name, "("] => !matches!(name, "as_slice" | "each_is_byte"),
+            [_, word] => matches!(word, "{" | "[" | "?" | "!" | "=" | "mut"),
+            _ => false,
+        };
+        let item = &self.words[at + 2..end];
+        if !item.contains(&"(") || item.windows(2).any(is_other) {
             return self.error(at, "a `let _name` of something else than a slice or a fact");
         }
         Ok(self.leave_out_with_comments(at..end))

@@ -1,9 +1,13 @@
 //! An independent check of the eraser's output: the tokens of each generated file are those of its
-//! source in order, without those that are left out, except for the changes listed here. Comments,
-//! imports and trailing commas are ignored.
+//! source in order, without those that are left out, except for the changes listed here. Comments
+//! and trailing commas are ignored. Imports are compared as sets of paths, and no name that an
+//! import of what is left out brings in is in the Rust.
 
-use font_types_tools::erase::{Crate, LIBRARY, Target, erase, generated_files, tree};
+use font_types_tools::erase::{
+    Crate, LIBRARY, Target, check_left_out, erase, generated_files, tree,
+};
 use font_types_tools::{repository, widths};
+use std::collections::BTreeSet;
 
 /// The changes, as Rust and as source. `CRATE` is any crate of the library.
 const CHANGES: [(&str, &str); 6] = [
@@ -149,6 +153,105 @@ fn assert_same(rust: &str, source: &str, path: &str) -> [usize; CHANGES.len()] {
     counts
 }
 
+/// Returns the path of each name that a file imports, with its visibility.
+fn imports(t: &[&str]) -> BTreeSet<String> {
+    let mut paths = BTreeSet::new();
+    for at in 0..t.len() {
+        let visibility = match t[..=at] {
+            [.., "ghost", "use"] => continue,
+            [.., "pub", "use"] => "pub ",
+            [.., ")", "use"] => "pub (..) ",
+            [.., "use"] => "",
+            _ => continue,
+        };
+        let end = at + through(&t[at..], ";") - 1;
+        add_paths(&t[at + 1..end], visibility, &mut paths);
+    }
+    paths
+}
+
+/// Adds the paths of a list of imports, as `b` and `c::d` of `a::{b, c::d}`.
+fn add_paths(mut list: &[&str], start: &str, paths: &mut BTreeSet<String>) {
+    while !list.is_empty() {
+        let open = list.iter().position(|token| matches!(*token, "{" | ","));
+        let open = open.unwrap_or(list.len());
+        let start = format!("{start}{}", list[..open].join(" "));
+        list = &list[open..];
+        if list.first() == Some(&"{") {
+            let (inner, after) = list.split_at(group(list));
+            add_paths(&inner[1..inner.len() - 1], &format!("{start} "), paths);
+            list = after;
+        } else if !start.is_empty() {
+            paths.insert(start);
+        }
+        list = list.get(1..).unwrap_or(&[]);
+    }
+}
+
+/// Returns a path of Rust as its source has it, in the crate `own`.
+fn as_in_source(path: &str, own: &str) -> String {
+    let mut path = path.to_string();
+    let put = |path: &str| tokens(path).join(" ");
+    for (into, from) in [
+        (format!("crate::{own}::"), "crate::"),
+        (
+            "super::".into(),
+            if own == "examples" {
+                "crate::"
+            } else {
+                "super::"
+            },
+        ),
+        ("crate::host::alloc".into(), "std::alloc"),
+        ("crate::host::io".into(), "std::io"),
+        ("core::".into(), "std::"),
+        ("font_types_proved::".into(), "font_types::"),
+    ] {
+        path = path.replace(&put(&into), &put(from));
+    }
+    for (name, _) in LIBRARY {
+        path = path.replace(
+            &put(&format!("crate::{name}::")),
+            &put(&format!("{name}::")),
+        );
+    }
+    path
+}
+
+/// Asserts that Rust imports what its source does, except what is left out, and that it has none of
+/// those names.
+fn assert_same_imports(rust: &str, source: &str, own: &str, path: &str) {
+    let rust_tokens = tokens(rust);
+    let mut kept = imports(&rust_tokens);
+    if own == "fontval" {
+        assert!(kept.remove("crate : : host : : *"), "{path}");
+    }
+    let kept: BTreeSet<_> = kept.iter().map(|path| as_in_source(path, own)).collect();
+    let modules = LEFT_OUT
+        .iter()
+        .filter_map(|line| line.split_once("mod ")?.1.strip_suffix(';'));
+    let modules: Vec<&str> = modules.collect();
+    let is_left_out = |path: &String| {
+        let path = path
+            .trim_start_matches("pub ")
+            .trim_start_matches("crate : : ");
+        let of_std = path == "std : : alloc : : AllocError" && own != "fontval";
+        let module = path.split(' ').next().unwrap();
+        of_std || path == "thiserror : : Error" || modules.contains(&module)
+    };
+    let (left_out, wanted): (BTreeSet<_>, BTreeSet<_>) =
+        imports(&tokens(source)).into_iter().partition(is_left_out);
+    assert_eq!(kept, wanted, "{path}");
+    for import in left_out {
+        let name = import.rsplit(' ').next().unwrap();
+        let is_name = !import.contains(" as ") && !["*", "Drop"].contains(&name);
+        assert!(is_name, "{path}: {import}");
+        // Rust has `Error` of its own.
+        let is_in_rust = rust_tokens.contains(&name) && name != "Error";
+        assert!(!is_in_rust, "{path}: `{name}`, which is left out");
+    }
+}
+
 #[test]
 fn generated_files_are_their_sources() {
     let mut sums = [0; CHANGES.len()];
@@ -156,7 +259,10 @@ fn generated_files_are_their_sources() {
         let rust = repository::text(&path);
         let source = rust.strip_prefix("// @generated from ").unwrap_or("");
         if let Some((source, _)) = source.split_once(".rt ") {
-            let counts = assert_same(&rust, &repository::text(&format!("{source}.rt")), &path);
+            let own = source.split('/').nth(1).unwrap();
+            let source = repository::text(&format!("{source}.rt"));
+            assert_same_imports(&rust, &source, own, &path);
+            let counts = assert_same(&rust, &source, &path);
             sums = std::array::from_fn(|n| sums[n] + counts[n]);
         }
     }
@@ -167,6 +273,29 @@ fn generated_files_are_their_sources() {
 #[should_panic = "other.rs"]
 fn other_tokens_are_found() {
     assert_same("fn f() -> u32 { 1 }", "fn f() -> u32 { 2 }", "other.rs");
+}
+
+#[test]
+fn other_imports_are_found() {
+    let source = "use std::{fmt, ops::{Add, Sub}};\nuse crate::facts::{one, size_of};";
+    let same = "use core::fmt;\nuse core::ops::{Add, Sub};";
+    assert_same_imports(same, source, "font_base", "same.rs");
+    for (rust, source) in [
+        ("use core::ops::Add;", source),
+        (&same.replace("Sub", "Mul"), source),
+        (&same.replace("use", "pub use"), source),
+        (&same.replace("core::fmt", "crate::fmt"), source),
+        (
+            &format!("{same} fn f() -> usize {{ size_of::<u32>() }}"),
+            source,
+        ),
+        (same, &source.replace("size_of", "one as size_of")),
+        (same, &source.replace("size_of", "Drop")),
+        (same, &source.replace("{one, size_of}", "*")),
+    ] {
+        let check = || assert_same_imports(rust, source, "font_base", "other.rs");
+        assert!(std::panic::catch_unwind(check).is_err(), "{rust} {source}");
+    }
 }
 
 #[test]
@@ -206,7 +335,7 @@ fn unsupported_sources() {
     let of = Crate {
         name: "font_base",
         target: Target::Library,
-        left_out: &[],
+        left_out: &["facts"],
     };
     for (line, at, source) in [
         (
@@ -221,9 +350,72 @@ fn unsupported_sources() {
         ),
         (2, "`/* */`", "fn f() {\n/* a comment */ }"),
         (1, "tests", "#[cfg(test)]\nmod others;"),
+        // Names of what is left out, which Rust has too.
+        (
+            1,
+            "import",
+            "use crate::facts::Drop;\nfn f(n: u32) -> u32 { n + Drop }",
+        ),
+        (
+            2,
+            "`size_of`",
+            "use crate::facts::{one, size_of};\nfn f() -> usize { size_of::<u32>() }",
+        ),
+        (1, "import", "use crate::facts::one as size_of;"),
+        (1, "import", "use crate::facts::*;"),
+        (1, "all names", "use super::*;"),
+        (
+            2,
+            "function",
+            "use crate::facts::LIMIT;\nfn f(n: u32) -> bool { matches!(n, LIMIT) }",
+        ),
+        // A trait with a method by value, beside one of the type by reference.
+        (
+            2,
+            "function",
+            "use crate::facts::Sized;\nfn f(count: Count) -> u32 { count.size() }",
+        ),
+        (1, "macro", "#[macro_use]\nmod facts;"),
+        (
+            1,
+            "root",
+            "use crate as me;\nfn f() -> u32 { me::laws::number() }",
+        ),
+        (1, "root", "extern crate self as me;"),
+        (
+            2,
+            "`W`",
+            "struct W;\nfn f<W: fmt::Write>(w: &W) -> u32 { w.size() }",
+        ),
+        (
+            1,
+            "`let",
+            "fn f() { let _bytes = { n += 1; raw.as_slice() }; }",
+        ),
+        (1, "`let", "fn f() { let _bytes = next(raw).as_slice(); }"),
     ] {
         let error = erase(source, &of, false).err().expect(source);
         let is_named = error.line == line && error.what.contains(at);
         assert!(is_named, "{source}: {error:?}");
+    }
+}
+
+#[test]
+fn impls_in_what_is_left_out() {
+    let is_kept = |source: &str| check_left_out(&[source.into()]).is_err();
+    for source in [
+        // Rust would call the method of a trait, or of the type behind a reference.
+        "impl Count { fn size(self) -> u32 { 2 } }",
+        "impl Size for &Count { fn size(self) -> u32 { 2 } }",
+        "struct T;\nimpl<T: Own> Size for T { fn size(self) -> u32 { 2 } }",
+    ] {
+        assert!(is_kept(source), "{source}");
+    }
+    for source in [
+        "trait Own {}\nimpl<F: Fn(u32) -> u32> Own for Count<F> {}",
+        "struct Own;\nimpl Own {}\nimpl From<Count> for crate::facts::Own {}",
+        "fn f() -> impl Iterator<Item = u32> {}",
+    ] {
+        assert!(!is_kept(source), "{source}");
     }
 }

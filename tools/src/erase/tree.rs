@@ -1,6 +1,6 @@
 //! The generated files of the repository.
 
-use super::{Crate, Error, Target, erase};
+use super::{Crate, Error, Target, check_left_out, erase};
 use crate::repository;
 use std::collections::BTreeMap;
 use std::io::Write;
@@ -50,6 +50,7 @@ pub fn tree() -> Result<BTreeMap<String, String>, String> {
         let root = ["lib", "main"][usize::from(target == Target::Program)];
         let from = format!("crates/{name}/src");
         let to = folder(name, target);
+        check_modules(&from, left_out)?;
         add_file(&mut files, &of, [&from, root], [&to, "mod"])?;
     }
     Ok(files)
@@ -67,6 +68,21 @@ fn crates() -> impl Iterator<Item = (&'static str, Target, &'static [&'static st
     library.into_iter().chain(ABOVE)
 }
 
+// Checks the modules of a crate that are left out.
+fn check_modules(from: &str, modules: &[&str]) -> Result<(), String> {
+    let mut paths = Vec::new();
+    for module in modules {
+        paths.push(format!("{from}/{module}.rt"));
+        paths.extend(repository::files(&format!("{from}/{module}"), ".rt"));
+    }
+    let sources: Vec<String> = paths.iter().map(|path| repository::text(path)).collect();
+    check_left_out(&sources).map_err(|(file, error)| message(&paths[file], error))
+}
+
+fn message(source: &str, Error { line, what }: Error) -> String {
+    format!("{source}:{line}: {what}: see tools/src/erase.rs")
+}
+
 // Adds a file and the modules that it declares.
 fn add_file(
     files: &mut BTreeMap<String, String>,
@@ -77,9 +93,7 @@ fn add_file(
     let source = format!("{from}/{name}.rt");
     let text = std::fs::read_to_string(repository::root().join(&source))
         .map_err(|error| format!("{source}: {error}"))?;
-    let erased = erase(&text, of, module == "mod").map_err(|Error { line, what }| {
-        format!("{source}:{line}: {what}: see tools/src/erase.rs")
-    })?;
+    let erased = erase(&text, of, module == "mod").map_err(|error| message(&source, error))?;
     let head = format!("// @generated from {source} by tools/src/bin/erase.rs\n\n");
     let rust = formatted(&(head + &erased.rust)).map_err(|error| format!("{source}: {error}"))?;
     files.insert(format!("{to}/{module}.rs"), rust);
