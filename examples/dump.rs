@@ -12,12 +12,12 @@ use font_types_proved::{
 };
 
 record! { NameRecord 12:
-    platform: u16, 0..2;
-    encoding: u16, 2..4;
-    language: u16, 4..6;
-    name: NameId, 6..8;
-    length: u16, 8..10;
-    offset: u16, 10..12;
+    platform: u16, 0 1;
+    encoding: u16, 2 3;
+    language: u16, 4 5;
+    name: NameId, 6 7;
+    length: u16, 8 9;
+    offset: u16, 10 11;
 }
 
 /// Writes a line for each table that the font has, and for each character.

@@ -7,12 +7,35 @@ mod dump;
 mod instance;
 
 mod fonts;
-mod proved;
+mod runner;
 
 use dump::dump;
-use font_types_proved::{F2Dot14, Fixed, GlyphId16, Tag, UfWord};
-use fonts::{MAP, MAPS, font, font_of, hvar, hvar_of_two_axes, long_hvar, two_axes, words};
+use font_types_proved::{F2Dot14, FWord, Fixed, GlyphId16, Tag, UfWord};
+use fonts::{MAP, MAPS, font, font_of, fvar, hvar, hvar_of_two_axes, long_hvar, two_axes, words};
+use instance::proved::evaluator::vary_and_round;
 use instance::{advance, axes, normalized};
+use std::fs;
+use std::path::{Path, PathBuf};
+
+/// Writes the file of this test, and returns its path.
+fn file(bytes: &[u8]) -> PathBuf {
+    let test = std::thread::current();
+    let path = Path::new(env!("CARGO_TARGET_TMPDIR")).join(test.name().unwrap());
+    fs::write(&path, bytes).unwrap();
+    path
+}
+
+/// Runs a program of `examples`, which cargo builds for its tests, and returns its output and what
+/// it says of an error.
+fn run(program: &str, arguments: &[&str]) -> (String, String) {
+    let tests = std::env::current_exe().unwrap();
+    let folder = tests.ancestors().nth(2).unwrap().join("examples");
+    let path = folder.join(format!("{program}{}", std::env::consts::EXE_SUFFIX));
+    let run = runner::command(&path).args(arguments).output().unwrap();
+    assert_eq!(run.status.code(), Some(i32::from(!run.stderr.is_empty())));
+    let [output, error] = [run.stdout, run.stderr].map(|text| String::from_utf8(text).unwrap());
+    (output, error)
+}
 
 #[test]
 fn dump_of_a_font() {
@@ -24,7 +47,7 @@ fn dump_of_a_font() {
 head version: MajorMinor { major: 1, minor: 0 }
 font revision: 2.5
 units per em: 1000
-modified: LongDateTime(0)
+modified: LongDateTime(2)
 x min: FWord(-10)
 ascender: FWord(800)
 descender: FWord(-200)
@@ -45,6 +68,17 @@ FAMILY_NAME: Ütest
 a: no glyph
 ";
     assert_eq!(text, wanted);
+    let path = file(&bytes);
+    let [path, characters] = [path.to_str().unwrap(), "\n\u{15}\u{99}\u{9A}😀😐😑a"];
+    assert_eq!(
+        run("dump", &[path, characters]),
+        (wanted.into(), String::new())
+    );
+    let without_characters = wanted.split_inclusive("test\n").next().unwrap();
+    assert_eq!(
+        run("dump", &[path]),
+        (without_characters.into(), String::new())
+    );
     // A truncated font is read as far as it goes.
     for len in 0..bytes.len() {
         if let Some(font) = dump::font::Font::new(&bytes[..len]) {
@@ -60,51 +94,16 @@ fn read(bytes: &[u8]) -> Option<()> {
     let characters = "\n\u{15}\u{99}\u{9A}😀\u{1F610}a";
     dump(&font, characters, &mut String::new()).unwrap();
     let font = instance::font::Font::new(bytes)?;
+    let axes = axes(&font).unwrap_or_default();
     for place in places {
-        let at = |index| normalized(&font, index, place).unwrap_or_default();
-        let coordinates = [at(0), at(1)];
+        let numbered = axes.iter().enumerate();
+        let at = numbered.map(|(index, axis)| normalized(&font, index, *axis, place));
+        let coordinates: Vec<F2Dot14> = at.flatten().collect();
         for glyph in [0, 1, 2, 500, u16::MAX] {
             let _ = advance(&font, GlyphId16::new(glyph), &coordinates);
         }
     }
     Some(())
-}
-
-/// Compares `instance` with what is proved, and returns how many coordinates and advances it
-/// compared.
-fn compare(bytes: &[u8], row: &str) -> [usize; 2] {
-    let font = instance::font::Font::new(bytes).expect(row);
-    let mut counts = [0; 2];
-    for index in 0..2 {
-        let axis = proved::axis(bytes, index);
-        let found = axes(&font).and_then(|axes| axes.get(index));
-        assert_eq!(found.is_some(), axis.is_some(), "{row}: axis {index}");
-        // The values of an invalid axis have no coordinates.
-        if axis.is_some_and(|axis| proved::is_valid(&axis)) {
-            for value in [i32::MIN, 99, 250, 399, 400, 401, 864, i32::MAX] {
-                let value = Fixed::from_bits(value.saturating_mul(0x1_0000));
-                let found = normalized(&font, index, value);
-                let proved = proved::coordinate(bytes, index, value);
-                assert_eq!(found, proved, "{row}: axis {index} at {value}");
-                counts[0] += 1;
-            }
-        }
-    }
-    let places = [-0x4000, -0x1555, 0, 1, 0x2000, 0x2FFF, 0x4000];
-    for (n, x) in places.into_iter().enumerate() {
-        for setting in [n, n + 1, n + 4].map(|m| [x, places[m % places.len()]]) {
-            let setting = setting.map(F2Dot14::from_bits);
-            // The second axis is at its default if it has no coordinate.
-            let setting = if n == 0 { &setting[..1] } else { &setting };
-            for glyph in [0, 1, 2, u16::MAX] {
-                let found = advance(&font, GlyphId16::new(glyph), setting);
-                let proved = proved::advance(bytes, glyph, setting);
-                assert_eq!(found, proved, "{row}: glyph {glyph} at {setting:?}");
-                counts[1] += 1;
-            }
-        }
-    }
-    counts
 }
 
 /// Fonts of one axis and of two, with each kind of region, map, and width of deltas, and one
@@ -122,16 +121,7 @@ fn fonts() -> Vec<Vec<u8>> {
     others.into_iter().chain(MAPS.map(of_two_axes)).collect()
 }
 
-#[test]
-fn instances_of_built_fonts() {
-    for (n, font) in fonts().iter().enumerate() {
-        let axes = if n < 2 { 1 } else { 2 };
-        assert_eq!(compare(font, &format!("font {n}")), [8 * axes, 84]);
-    }
-}
-
-// The examples do not panic on any bytes, and `instance` gives what is proved unless the directory
-// of tables is another.
+// The examples do not panic on any bytes.
 #[test]
 fn mutated_fonts() {
     let fonts = fonts();
@@ -153,10 +143,6 @@ fn mutated_fonts() {
         }
         let result = std::panic::catch_unwind(|| read(&bytes));
         assert!(result.is_ok(), "{n}: {changes:?}");
-        let directory = 12 + 16 * usize::from(bytes[5]);
-        if changes.iter().all(|(place, _)| place.start >= directory) {
-            compare(&bytes, &format!("{n}: {changes:?}"));
-        }
     }
     assert!(fonts.iter().all(|font| read(font).is_some()));
 }
@@ -172,9 +158,8 @@ fn advances_by_long_deltas_and_a_map_of_format_1() {
         (0x1000, 0, 15200),
     ] {
         let at = F2Dot14::from_bits(at);
-        let moved = Some(UfWord::new(moved));
         let found = advance(&font, GlyphId16::new(glyph), &[at]);
-        assert_eq!(found, moved, "{at} {glyph}");
+        assert_eq!(found, Ok(UfWord::new(moved)), "{at} {glyph}");
     }
 }
 
@@ -182,7 +167,8 @@ fn advances_by_long_deltas_and_a_map_of_format_1() {
 fn coordinates_and_advances_along_an_axis() {
     let bytes = font(hvar());
     let font = instance::font::Font::new(&bytes).unwrap();
-    assert_eq!(axes(&font).unwrap().first().unwrap().tag, Tag::new(b"wght"));
+    let axis = axes(&font).unwrap()[0];
+    assert_eq!(axis.axis_tag, Tag::new(b"wght"));
     for (place, coordinate, moved) in [
         ("0", "-1", 500),
         ("250", "-0.5", 500),
@@ -194,12 +180,12 @@ fn coordinates_and_advances_along_an_axis() {
     ] {
         let [place, at] = [place, coordinate].map(|text| Fixed::from_decimal(text).unwrap());
         let at: F2Dot14 = at.to_f2dot14();
-        assert_eq!(normalized(&font, 0, place), Some(at), "{place}");
+        assert_eq!(normalized(&font, 0, axis, place), Ok(at), "{place}");
         let advance = |glyph| advance(&font, GlyphId16::new(glyph), &[at]);
-        assert_eq!(advance(0), Some(UfWord::new(moved)), "{place}");
+        assert_eq!(advance(0), Ok(UfWord::new(moved)), "{place}");
         // The last entry of the map is that of all later glyphs.
-        assert_eq!(advance(1), Some(UfWord::new(620)), "{place}");
-        assert_eq!(advance(2), Some(UfWord::new(620)), "{place}");
+        assert_eq!(advance(1), Ok(UfWord::new(620)), "{place}");
+        assert_eq!(advance(2), Ok(UfWord::new(620)), "{place}");
     }
 }
 
@@ -260,7 +246,7 @@ fn advances_along_two_axes() {
             for (at, wanted) in settings.into_iter().zip(advances) {
                 let wanted = (wanted != 0).then_some(UfWord::new(wanted));
                 let found = advance(&font, GlyphId16::new(glyph), &at.map(F2Dot14::from_bits));
-                assert_eq!(found, wanted, "{map:?}, glyph {glyph} at {at:?}");
+                assert_eq!(found.ok(), wanted, "{map:?}, glyph {glyph} at {at:?}");
             }
         }
     }
@@ -285,10 +271,149 @@ fn coordinates_of_two_axes() {
             None => font_of([fvar]),
         };
         let font = instance::font::Font::new(&bytes).unwrap();
+        let axes = axes(&font).unwrap();
         let found = [(0, 864), (1, 150)].map(|(axis, value)| {
-            let coordinate = normalized(&font, axis, Fixed::from_i32(value));
+            let coordinate = normalized(&font, axis, axes[axis], Fixed::from_i32(value));
             coordinate.map(F2Dot14::to_bits)
         });
-        assert_eq!(found, coordinates.map(Some), "{avar:?}");
+        assert_eq!(found, coordinates.map(Ok), "{avar:?}");
+    }
+}
+
+/// Returns the output of `instance`, and the error that it names.
+fn instance_of(font: &[u8], words: &str) -> (String, String) {
+    let path = file(font);
+    let arguments = [path.to_str().unwrap(), "Aa"]
+        .into_iter()
+        .chain(words.split_whitespace());
+    let (output, error) = run("instance", &arguments.collect::<Vec<_>>());
+    let error = error
+        .trim_end()
+        .trim_start_matches("Error: \"")
+        .trim_end_matches('"');
+    (output, error.into())
+}
+
+// The glyph of `A` has the advance of the last metric, and `a`, which has none, that of glyph 0.
+#[test]
+fn program_instance() {
+    let one = font(hvar());
+    let at = |value| format!("wght: {value}, from 100 to 900\n");
+    for (words, output) in [
+        ("", at("400") + "A: 620\na: 500\n"),
+        ("wght=400", at("400") + "A: 620\na: 500\n"),
+        ("wght=650", at("650") + "A: 620\na: 495\n"),
+        ("wght=100 wght=775.0", at("775") + "A: 620\na: 548\n"),
+        ("wght=1000", at("1000") + "A: 620\na: 600\n"),
+    ] {
+        assert_eq!(instance_of(&one, words), (output, String::new()), "{words}");
+    }
+    for (word, error) in [
+        ("wdth=100", "the font has no such axis"),
+        ("Wght=100", "the font has no such axis"),
+        ("wght=bold", "not a decimal number"),
+        ("wght=", "not a decimal number"),
+        ("wght=32768", "number out of range"),
+        ("weight=100", "Invalid length (6)"),
+        ("wght", "no `=`"),
+    ] {
+        let found = instance_of(&one, &format!("wght=650 {word}"));
+        assert_eq!(found, (String::new(), format!("{word}: {error}")));
+    }
+}
+
+#[test]
+fn program_instance_of_other_tables() {
+    let (hvar, gvar) = ((b"HVAR", hvar()), (b"gvar", words(&[1, 0, 1])));
+    let axes = (b"fvar", fvar(&[(b"wght", [100, 400, 900])]));
+    let map = (b"avar", words(&[&[1, 0, 0, 1], &MAP[..]].concat()));
+    let second = |(tag, mut table): (&'static [u8; 4], Vec<u8>)| {
+        table[1] = 2;
+        (tag, table)
+    };
+    let advances = "A: 620\na: 500\n";
+    let varied = format!("wght: 650, from 100 to 900\n{advances}");
+    for (font, words, output) in [
+        (font_of([]), "", advances),
+        (font_of([gvar.clone()]), "", advances),
+        (font_of([second(hvar.clone())]), "", advances),
+        (font_of([axes.clone()]), "wght=650", &varied),
+    ] {
+        assert_eq!(instance_of(&font, words), (output.into(), String::new()));
+    }
+    let two = hvar_of_two_axes(MAPS[0]);
+    let not_in_order = (b"fvar", fvar(&[(b"wght", [400, 100, 900])]));
+    let mut other_store = hvar.clone();
+    other_store.1[21] = 2;
+    for (font, error) in [
+        (font_of([]), "wght=650: the font has no such axis"),
+        (font_of([axes.clone(), gvar]), "`gvar` without `HVAR`"),
+        (
+            font_of([second(axes.clone())]),
+            "`fvar` of another version than 1",
+        ),
+        (
+            font_of([axes.clone(), second(map.clone())]),
+            "`avar` of another version than 1",
+        ),
+        (
+            font_of([axes.clone(), second(hvar)]),
+            "`HVAR` of another version than 1",
+        ),
+        (
+            font_of([axes.clone(), other_store]),
+            "glyph 47: no advance by `HVAR`",
+        ),
+        (
+            font_of([axes.clone(), (b"HVAR", two)]),
+            "glyph 47: no advance by `HVAR`",
+        ),
+        (font_of([not_in_order]), "wght: an invalid axis"),
+        (
+            font_of([(b"fvar", two_axes()), map]),
+            "`avar` ends before its maps",
+        ),
+        (
+            font_of([(b"fvar", words(&[1, 0, 16, 2, 1, 20, 0, 8]))]),
+            "`fvar` ends before its axes",
+        ),
+    ] {
+        assert_eq!(instance_of(&font, "wght=650").1, error);
+    }
+}
+
+#[test]
+fn programs_of_other_files() {
+    let path = file(b"no font at all");
+    for program in ["dump", "instance"] {
+        let usage = run(program, &[]).1;
+        assert!(usage.starts_with(&format!("Error: \"cargo run --example {program} -- FONT")));
+        let found = run(program, &[path.to_str().unwrap(), ""]).1;
+        assert_eq!(found, "Error: \"no font of one face\"\n");
+        let found = run(
+            program,
+            &[concat!(env!("CARGO_TARGET_TMPDIR"), "/absent"), ""],
+        )
+        .1;
+        assert!(found.starts_with("Error: Os {"), "{found}");
+    }
+}
+
+// This is the only function of `proved` that `instance` does not call.
+#[test]
+fn sums_of_deltas_round_half_up() {
+    for (base, scalar, delta, varied) in [
+        (100, 0x8000, 1, Some(101)),
+        (100, 0x7FFF, 1, Some(100)),
+        (100, -0x8000, 1, Some(100)),
+        (100, -0x8001, 1, Some(99)),
+        (32767, 0x7FFF, 1, Some(32767)),
+        (32767, 0x8000, 1, None),
+        (-32768, -0x8000, 1, Some(-32768)),
+        (-32768, -0x8001, 1, None),
+    ] {
+        let terms = [(Fixed::from_bits(scalar), delta)];
+        let found = vary_and_round(FWord::new(base), &terms);
+        assert_eq!(found, varied.map(FWord::new), "{base} {scalar}");
     }
 }

@@ -6,21 +6,13 @@ use std::path::Path;
 use std::process::{Command, Output, Stdio};
 
 mod fontval_lines;
+mod runner;
 
 const LINES: &str = concat!(env!("CARGO_MANIFEST_DIR"), "/crates/fontval/stdin");
 
-/// Returns the runner that Cargo uses for another target, if it has one.
-fn runner() -> Option<String> {
-    let machine = format!("CARGO_TARGET_{}_", std::env::consts::ARCH.to_uppercase());
-    let is_runner = |name: &str| name.starts_with(&machine) && name.ends_with("_RUNNER");
-    std::env::vars().find_map(|(name, runner)| is_runner(&name).then_some(runner))
-}
-
 /// Runs the program over these streams.
 fn fontval(input: impl Into<Stdio>, output: impl Into<Stdio>) -> Output {
-    let program = env!("CARGO_BIN_EXE_fontval");
-    let mut command = Command::new(runner().as_deref().unwrap_or(program));
-    command.args(runner().map(|_| program));
+    let mut command = runner::command(Path::new(env!("CARGO_BIN_EXE_fontval")));
     let running = command.stdin(input).stdout(output).stderr(Stdio::piped());
     running.spawn().unwrap().wait_with_output().unwrap()
 }
@@ -110,7 +102,7 @@ fn write_errors() {
 fn limited(script: &str) -> Option<Output> {
     let mut shell = Command::new("sh");
     shell.args(["-c", script, env!("CARGO_BIN_EXE_fontval"), LINES]);
-    let is_native = runner().is_none();
+    let is_native = runner::runner().is_none();
     is_native.then(|| shell.output().unwrap())
 }
 

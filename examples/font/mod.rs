@@ -10,9 +10,9 @@ pub fn at_offset(table: &[u8], offset: usize) -> Option<&[u8]> {
     table.get(Offset32::read_at(table, offset)?.to_u32() as usize..)
 }
 
-/// A record of fields, which can be an element of an array.
+/// A record of fields, which can be an element of an array. Each field names its bytes.
 macro_rules! record {
-    ($name:ident $len:literal: $($field:ident: $kind:ty, $range:expr;)*) => {
+    ($name:ident $len:literal: $($field:ident: $kind:ty, $($at:literal)+;)*) => {
         #[derive(Clone, Copy, Debug, PartialEq)]
         pub struct $name {
             $(pub $field: $kind,)*
@@ -26,13 +26,12 @@ macro_rules! record {
             type Raw = [u8; $len];
 
             fn from_raw(raw: [u8; $len]) -> Self {
-                $(let $field = <$kind>::read(&raw[$range]).expect("as many bytes");)*
-                Self { $($field,)* }
+                Self { $($field: <$kind>::from_raw([$(raw[$at]),+]),)* }
             }
 
             fn to_raw(self) -> [u8; $len] {
                 let mut raw = [0; $len];
-                $(raw[$range].copy_from_slice(&self.$field.to_raw());)*
+                $([$(raw[$at]),+] = self.$field.to_raw();)*
                 raw
             }
         }
@@ -40,15 +39,15 @@ macro_rules! record {
 }
 
 record! { TableRecord 16:
-    tag: Tag, 0..4;
-    checksum: u32, 4..8;
-    offset: Offset32, 8..12;
-    length: u32, 12..16;
+    tag: Tag, 0 1 2 3;
+    checksum: u32, 4 5 6 7;
+    offset: Offset32, 8 9 10 11;
+    length: u32, 12 13 14 15;
 }
 
 record! { LongMetric 4:
-    advance: UfWord, 0..2;
-    bearing: FWord, 2..4;
+    advance: UfWord, 0 1;
+    bearing: FWord, 2 3;
 }
 
 /// The header of a font: how many tables it has.
@@ -124,9 +123,9 @@ fn of_format_4(subtable: &[u8], code: u16) -> Option<GlyphId16> {
 }
 
 record! { Group 12:
-    start: u32, 0..4;
-    end: u32, 4..8;
-    glyph: u32, 8..12;
+    start: u32, 0 1 2 3;
+    end: u32, 4 5 6 7;
+    glyph: u32, 8 9 10 11;
 }
 
 fn of_format_12(subtable: &[u8], code: u32) -> Option<GlyphId16> {

@@ -87,7 +87,14 @@ pub fn font(hvar: Vec<u8>) -> Vec<u8> {
 /// A font with these tables and those that all fonts here have.
 pub fn font_of<const N: usize>(variations: [(&[u8; 4], Vec<u8>); N]) -> Vec<u8> {
     let os2 = table(78, &[(4, &[400]), (58, &[0x5445, 0x5354]), (68, &[800])]);
-    let head: [(_, &[u16]); 3] = [(0, &[1, 0, 2, 0x8000]), (18, &[1000]), (36, &[0xFFF6])];
+    // It was created one second before it was modified.
+    let dates = [0, 0, 0, 1, 0, 0, 0, 2];
+    let head: [(_, &[u16]); 4] = [
+        (0, &[1, 0, 2, 0x8000]),
+        (18, &[1000]),
+        (20, &dates),
+        (36, &[0xFFF6]),
+    ];
     let hhea = table(36, &[(4, &[800, 0xFF38, 0, 620]), (34, &[2])]);
     // The outline of glyph 1 has this box.
     let glyf = words(&[1, 0xFFF6, 0xFF38, 590, 700, 0]);

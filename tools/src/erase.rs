@@ -15,7 +15,7 @@
 //! These are changed, and nothing else:
 //!
 //! - paths: crates become modules of one crate, `std` becomes `core` or the module `host`, and in
-//!   examples that tests run `crate` becomes `super`;
+//!   examples `crate` becomes `super`;
 //! - `fmt<W: fmt::Write>` over a `Formatter<W>`, which in Rust has no such parameter;
 //! - `clone(&self) -> Result<T, AllocError>`, which returns the value of its `Ok`;
 //! - a trait's parameter `Rhs`, which defaults to `Self`, as of Rust's operators;
@@ -54,8 +54,8 @@ pub enum Target {
     Exports,
     /// The program, which depends on the library.
     Program,
-    /// Examples that tests run, which depend on the library and may be in any module.
-    Tests,
+    /// Examples, which depend on the library and may be in any module.
+    Examples,
 }
 
 /// A crate of Rattle.
@@ -177,13 +177,13 @@ impl<'a> Eraser<'a> {
     // The start of a path.
     fn path(&mut self, at: usize, name: &str, next: &str) {
         let is_program = self.of.target == Target::Program;
-        let is_test = self.of.target == Target::Tests;
+        let is_example = self.of.target == Target::Examples;
         match name {
-            "crate" if is_test => self.replace(at, "super"),
+            "crate" if is_example => self.replace(at, "super"),
             "crate" => self.put(at + 2, format!("{}::", self.of.name)),
             "std" if is_program && RATTLE_STD.contains(&next) => self.replace(at, "crate::host"),
             "std" if !is_program => self.replace(at, "core"),
-            "font_types" if is_program || is_test => self.replace(at, "font_types_proved"),
+            "font_types" if is_program || is_example => self.replace(at, "font_types_proved"),
             _ if LIBRARY.iter().any(|(library, _)| *library == name) => self.put(at, "crate::"),
             _ => {}
         }

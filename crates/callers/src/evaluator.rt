@@ -1,7 +1,8 @@
 //! An evaluator of variations: settings, `fvar`, `avar` and sums of deltas.
 
 ghost use Rattle.std.specs.Prelude.{◌≡◌, ◌≢◌, ◌↔◌, pos, neg_ℤ, ◌≤ℤ◌, ◌<ℤ◌, ◌+ℤ◌, ◌-ℤ◌, ◌*ℤ◌};
-ghost use Rattle.std.specs.Prelude.{IsSome, IfSome, MatchOption, length};
+ghost use Rattle.std.specs.Prelude.{◌≤◌, IsSome, IfSome, MatchOption, length, take, drop};
+ghost use Rattle.font_types.specs.Bytes.{numeral, signed_numeral};
 ghost use Rattle.font_types.specs.Wrap.{FitsBits};
 ghost use Rattle.font_types.specs.Operations.{IsQuotient};
 ghost use Rattle.font_types.specs.Fixed;
@@ -9,13 +10,14 @@ ghost use Rattle.font_types.specs.Fixed.{fixed_bits};
 ghost use Rattle.font_types.specs.F2Dot14;
 ghost use Rattle.font_types.specs.F2Dot14.{f2dot14_bits};
 ghost use Rattle.font_types.specs.FWord.{fword_number, nearest_unit};
+ghost use Rattle.font_types.specs.NameId.{name_number};
+ghost use Rattle.font_types.specs.Tag.{tag_bytes};
 ghost use Rattle.font_types.specs.Delta.{exact_sum};
 ghost use Rattle.callers.specs.Evaluator.{value_start, AreParts, ParsesSetting, IsLerp, AreBelow};
 ghost use Rattle.callers.specs.Evaluator.{IsSegmentEnd, IsMappedIn, IsMapped, IsFinal};
 ghost use Rattle.callers.specs.Evaluator.{IsStoredCoordinate};
 
-use crate::reader::VariationAxisRecord;
-use font_types::{DecimalFault, F2Dot14, FWord, Fixed, InvalidTag, Tag, vary};
+use font_types::{DecimalFault, F2Dot14, FWord, Fixed, InvalidTag, NameId, Scalar, Tag, vary};
 
 // ---- settings
 
@@ -57,6 +59,43 @@ pub fn read_setting(text: &str) -> Result<Setting, SettingError>
 }
 
 // ---- `fvar`: normalized coordinates
+
+/// A variation axis, a record of `fvar`.
+#[derive(Clone, Copy)]
+pub struct VariationAxisRecord {
+    pub axis_tag: Tag,
+    pub min_value: Fixed,
+    pub default_value: Fixed,
+    pub max_value: Fixed,
+    pub flags: u16,
+    pub axis_name_id: NameId,
+}
+
+/// Reads an axis record, or returns `None` if there are fewer than 20 bytes.
+///
+/// At a concrete type the clauses of `read_at` give callers the number, the tag or the date.
+pub fn read_axis(bytes: &[u8]) -> Option<VariationAxisRecord>
+    ensures variant { IsSome result ↔ (20 ≤ length bytes.now) }
+    ensures axis_tag { IfSome result (λ axis. tag_bytes axis.axis_tag ≡ take 4 bytes.now) }
+    ensures min_value { IfSome result (λ axis.
+        fixed_bits axis.min_value ≡ signed_numeral 4 (take 4 (drop 4 bytes.now))) }
+    ensures default_value { IfSome result (λ axis.
+        fixed_bits axis.default_value ≡ signed_numeral 4 (take 4 (drop 8 bytes.now))) }
+    ensures max_value { IfSome result (λ axis.
+        fixed_bits axis.max_value ≡ signed_numeral 4 (take 4 (drop 12 bytes.now))) }
+    ensures flags { IfSome result (λ axis. axis.flags ≡ numeral (take 2 (drop 16 bytes.now))) }
+    ensures axis_name_id { IfSome result (λ axis.
+        name_number axis.axis_name_id ≡ numeral (take 2 (drop 18 bytes.now))) }
+{
+    Some(VariationAxisRecord {
+        axis_tag: Tag::read_at(bytes, 0)?,
+        min_value: Fixed::read_at(bytes, 4)?,
+        default_value: Fixed::read_at(bytes, 8)?,
+        max_value: Fixed::read_at(bytes, 12)?,
+        flags: u16::read_at(bytes, 16)?,
+        axis_name_id: NameId::read_at(bytes, 18)?,
+    })
+}
 
 /// Clamps a value to a range.
 ///

@@ -15,58 +15,18 @@ ghost use Rattle.font_types.specs.Records.{record_laws};
 ghost use Rattle.font_types.specs.Array.{array_len, element_bytes};
 ghost use Rattle.font_types.specs.BigEndian.{raw_value};
 ghost use Rattle.font_types.specs.Wrap.{fits_bits};
-ghost use Rattle.font_types.specs.Fixed.{fixed_bits};
 ghost use Rattle.font_types.specs.FWord.{fword_number, fword_of, ufword_number, ufword_of};
 ghost use Rattle.font_types.specs.GlyphId.{glyph16_number};
-ghost use Rattle.font_types.specs.NameId.{name_number};
 ghost use Rattle.font_types.specs.Offset.{offset32_number};
-ghost use Rattle.font_types.specs.Tag.{tag_bytes};
 ghost use Rattle.font_types.specs.Uint24.{uint24_number};
 ghost use Rattle.callers.specs.Reader.{advance_offset, IsVertOrigin};
 
 use font_types::{
-    BigEndian, FWord, Fixed, FixedSize, GlyphId16, IdentityEq, LongDateTime, NameId, Offset32,
-    Scalar, ScalarArray, TableDataRef, TableHeader, Tag, UfWord, Uint24,
+    BigEndian, FWord, Fixed, FixedSize, GlyphId16, IdentityEq, LongDateTime, Offset32, Scalar,
+    ScalarArray, TableDataRef, TableHeader, UfWord, Uint24,
 };
 
 // ---- records, field by field
-
-/// A variation axis, a record of `fvar`.
-#[derive(Clone, Copy)]
-pub struct VariationAxisRecord {
-    pub axis_tag: Tag,
-    pub min_value: Fixed,
-    pub default_value: Fixed,
-    pub max_value: Fixed,
-    pub flags: u16,
-    pub axis_name_id: NameId,
-}
-
-/// Reads an axis record, or returns `None` if there are fewer than 20 bytes.
-///
-/// At a concrete type the clauses of `read_at` give callers the number, the tag or the date.
-pub fn read_axis(bytes: &[u8]) -> Option<VariationAxisRecord>
-    ensures variant { IsSome result ↔ (20 ≤ length bytes.now) }
-    ensures axis_tag { IfSome result (λ axis. tag_bytes axis.axis_tag ≡ take 4 bytes.now) }
-    ensures min_value { IfSome result (λ axis.
-        fixed_bits axis.min_value ≡ signed_numeral 4 (take 4 (drop 4 bytes.now))) }
-    ensures default_value { IfSome result (λ axis.
-        fixed_bits axis.default_value ≡ signed_numeral 4 (take 4 (drop 8 bytes.now))) }
-    ensures max_value { IfSome result (λ axis.
-        fixed_bits axis.max_value ≡ signed_numeral 4 (take 4 (drop 12 bytes.now))) }
-    ensures flags { IfSome result (λ axis. axis.flags ≡ numeral (take 2 (drop 16 bytes.now))) }
-    ensures axis_name_id { IfSome result (λ axis.
-        name_number axis.axis_name_id ≡ numeral (take 2 (drop 18 bytes.now))) }
-{
-    Some(VariationAxisRecord {
-        axis_tag: Tag::read_at(bytes, 0)?,
-        min_value: Fixed::read_at(bytes, 4)?,
-        default_value: Fixed::read_at(bytes, 8)?,
-        max_value: Fixed::read_at(bytes, 12)?,
-        flags: u16::read_at(bytes, 16)?,
-        axis_name_id: NameId::read_at(bytes, 18)?,
-    })
-}
 
 /// Reads a variation selector and the offset of its default mappings, the first seven bytes of a
 /// record of `cmap`, format 14; returns `None` if there are fewer.

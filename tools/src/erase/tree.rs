@@ -23,8 +23,10 @@ const ABOVE: [(&str, Target, &[&str]); 3] = [
     ("font_c", Target::Exports, &[]),
     (
         "callers",
-        Target::Tests,
-        &["dumper", "hinting", "linter", "packed", "scaler", "start"],
+        Target::Examples,
+        &[
+            "dumper", "hinting", "linter", "packed", "reader", "scaler", "start",
+        ],
     ),
 ];
 
@@ -34,7 +36,7 @@ fn folder(name: &str, target: Target) -> String {
         Target::Library => format!("src/generated/{name}"),
         Target::Program => "src/bin/fontval/generated".into(),
         Target::Exports => format!("c/src/generated/{name}"),
-        Target::Tests => "tests/proved/generated".into(),
+        Target::Examples => "examples/proved".into(),
     }
 }
 

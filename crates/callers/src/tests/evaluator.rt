@@ -4,10 +4,9 @@ ghost use Rattle.std.specs.Prelude.{◌≡◌};
 ghost use Rattle.font_types.specs.Fixed.{fixed_bits};
 
 use crate::evaluator::{
-    AxisValueMap, Setting, SettingError, clamp, final_coordinate, lerp, map_coordinate, normalize,
-    read_setting, segment_end, to_stored, vary_and_round,
+    AxisValueMap, Setting, SettingError, VariationAxisRecord, clamp, final_coordinate, lerp,
+    map_coordinate, normalize, read_setting, segment_end, to_stored, vary_and_round,
 };
-use crate::reader::VariationAxisRecord;
 use font_types::{DecimalFault, F2Dot14, FWord, Fixed, InvalidTag, NameId, Tag};
 
 #[test]

@@ -1,7 +1,8 @@
 //! A reader of tables.
 
+use crate::evaluator::read_axis;
 use crate::reader::{
-    Head, Ppem, VertOriginYMetrics, advance_width, coverage_index, metric, origin_index, read_axis,
+    Head, Ppem, VertOriginYMetrics, advance_width, coverage_index, metric, origin_index,
     read_selector, units_per_em, vert_origin_y,
 };
 use font_types::{

@@ -2,8 +2,9 @@
 
 //! An evaluator of variations: settings, `fvar`, `avar` and sums of deltas.
 
-use super::reader::VariationAxisRecord;
-use font_types_proved::{DecimalFault, F2Dot14, FWord, Fixed, InvalidTag, Tag, vary};
+use font_types_proved::{
+    DecimalFault, F2Dot14, FWord, Fixed, InvalidTag, NameId, Scalar, Tag, vary,
+};
 
 // ---- settings
 
@@ -39,6 +40,31 @@ pub fn read_setting(text: &str) -> Result<Setting, SettingError> {
 }
 
 // ---- `fvar`: normalized coordinates
+
+/// A variation axis, a record of `fvar`.
+#[derive(Clone, Copy)]
+pub struct VariationAxisRecord {
+    pub axis_tag: Tag,
+    pub min_value: Fixed,
+    pub default_value: Fixed,
+    pub max_value: Fixed,
+    pub flags: u16,
+    pub axis_name_id: NameId,
+}
+
+/// Reads an axis record, or returns `None` if there are fewer than 20 bytes.
+///
+/// At a concrete type the clauses of `read_at` give callers the number, the tag or the date.
+pub fn read_axis(bytes: &[u8]) -> Option<VariationAxisRecord> {
+    Some(VariationAxisRecord {
+        axis_tag: Tag::read_at(bytes, 0)?,
+        min_value: Fixed::read_at(bytes, 4)?,
+        default_value: Fixed::read_at(bytes, 8)?,
+        max_value: Fixed::read_at(bytes, 12)?,
+        flags: u16::read_at(bytes, 16)?,
+        axis_name_id: NameId::read_at(bytes, 18)?,
+    })
+}
 
 /// Clamps a value to a range.
 ///

@@ -4,7 +4,7 @@
 //! proved against the contract that its caller wants, and run by a test.
 //!
 //! - `start`: a first caller, which docs/CALLING.md shows.
-//! - `reader`: tables, as `head`, `hmtx`, `fvar`, coverage and `VORG`.
+//! - `reader`: tables, as `head`, `hmtx`, coverage and `VORG`.
 //! - `evaluator`, `variations`: from `wght=650` to a varied advance, by `fvar`, `avar` and item
 //!   variation stores.
 //! - `packed`: packed deltas, as in `gvar` and `cvar`.
@@ -14,5 +14,4 @@
 //! - `dumper`: numbers in columns, raw values in hexadecimal, JSON.
 
 pub mod evaluator;
-pub mod reader;
 pub mod variations;
