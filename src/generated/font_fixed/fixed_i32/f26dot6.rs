@@ -64,14 +64,14 @@ impl F26Dot6 {
         ))
     }
 
-    /// Converts an integer, wrapping on overflow.
+    /// Converts an integer from -33554432 to 33554431, wrapping on overflow.
     #[must_use]
     #[inline(always)]
     pub const fn from_i32(number: i32) -> Self {
         Self(number.wrapping_mul(64))
     }
 
-    /// Converts an integer, or returns `None` on overflow.
+    /// Converts an integer from -33554432 to 33554431, or returns `None` on overflow.
     #[must_use]
     #[inline]
     pub fn checked_from_i32(number: i32) -> Option<Self> {

@@ -85,14 +85,14 @@ impl Fixed {
         Some(Self(i32::try_from(nearest_mul_div(self.0, a.0, c.0)).ok()?))
     }
 
-    /// Converts an integer, wrapping on overflow.
+    /// Converts an integer from -32768 to 32767, wrapping on overflow.
     #[must_use]
     #[inline(always)]
     pub const fn from_i32(number: i32) -> Self {
         Self(number.wrapping_mul(0x1_0000))
     }
 
-    /// Converts an integer, or returns `None` on overflow.
+    /// Converts an integer from -32768 to 32767, or returns `None` on overflow.
     #[must_use]
     #[inline]
     pub fn checked_from_i32(number: i32) -> Option<Self> {

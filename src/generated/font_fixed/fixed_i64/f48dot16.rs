@@ -41,14 +41,14 @@ impl F48Dot16 {
     /// The value -1.
     pub const NEG_ONE: Self = Self(-0x1_0000);
 
-    /// Converts an integer, wrapping on overflow.
+    /// Converts an integer from `-2^47` to `2^47 - 1`, wrapping on overflow.
     #[must_use]
     #[inline(always)]
     pub const fn from_i64(number: i64) -> Self {
         Self(number.wrapping_mul(0x1_0000))
     }
 
-    /// Converts an integer, or returns `None` on overflow.
+    /// Converts an integer from `-2^47` to `2^47 - 1`, or returns `None` on overflow.
     #[must_use]
     #[inline]
     pub fn checked_from_i64(number: i64) -> Option<Self> {
