@@ -31,12 +31,12 @@ mod f48dot16;
 
 pub use f48dot16::F48Dot16;
 
-/// A signed fixed-point number of 64 bits, `F` of them fraction bits.
+/// A signed fixed-point number of 64 bits, `F` of them fraction bits: see its format
+/// [`F48Dot16`].
 ///
 /// The raw value is an `i64` in units of `1 / 2^F`. Sums wrap on overflow.
 ///
-/// The format [`F48Dot16`] also rounds, parses and prints, and has constants. With other fraction
-/// bits there are only raw bits, bytes, comparisons and sums:
+/// The format also rounds, parses and prints, and has constants. Other fraction bits do not:
 ///
 /// ```compile_fail,E0599
 /// use font_types::FixedI64;
@@ -219,8 +219,8 @@ where
     ///
     /// # Errors
     ///
-    /// Returns `Syntax` if the text is not a decimal, and `OutOfRange` if its nearest value is out
-    /// of range.
+    /// Returns `Syntax` if the text is not a decimal, and `OutOfRange` if its nearest value is less
+    /// than `MIN` or greater than `MAX`.
     #[inline]
     pub fn from_decimal(text: &str) -> Result<Self, DecimalFault>
         ensures { ParsesFixedPoint w64 F bits_of text.now result }

@@ -19,12 +19,12 @@ pub use f2dot14::F2Dot14;
 pub use f4dot12::F4Dot12;
 pub use f6dot10::F6Dot10;
 
-/// A signed fixed-point number of 16 bits, `F` of them fraction bits.
+/// A signed fixed-point number of 16 bits, `F` of them fraction bits: see its formats [`F2Dot14`],
+/// [`F4Dot12`] and [`F6Dot10`].
 ///
 /// The raw value is an `i16` in units of `1 / 2^F`. Sums wrap on overflow.
 ///
-/// The formats [`F2Dot14`], [`F4Dot12`] and [`F6Dot10`] also round, parse and print, and have
-/// constants. With other fraction bits there are only raw bits, bytes, comparisons and sums:
+/// The formats also round, parse and print, and have constants. Other fraction bits do not:
 ///
 /// ```compile_fail,E0599
 /// use font_types_proved::FixedI16;
@@ -180,8 +180,8 @@ where
     ///
     /// # Errors
     ///
-    /// Returns `Syntax` if the text is not a decimal, and `OutOfRange` if its nearest value is out
-    /// of range.
+    /// Returns `Syntax` if the text is not a decimal, and `OutOfRange` if its nearest value is less
+    /// than `MIN` or greater than `MAX`.
     #[inline]
     pub fn from_decimal(text: &str) -> Result<Self, DecimalFault> {
         Self::from_decimal_bytes(text.as_bytes())

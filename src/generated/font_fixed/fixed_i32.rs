@@ -17,12 +17,12 @@ pub use f2dot30::F2Dot30;
 pub use f26dot6::F26Dot6;
 pub use fixed::{Fixed, nearest_step};
 
-/// A signed fixed-point number of 32 bits, `F` of them fraction bits.
+/// A signed fixed-point number of 32 bits, `F` of them fraction bits: see its formats [`Fixed`],
+/// [`F26Dot6`] and [`F2Dot30`].
 ///
 /// The raw value is an `i32` in units of `1 / 2^F`. Sums wrap on overflow.
 ///
-/// The formats [`Fixed`], [`F26Dot6`] and [`F2Dot30`] also round, parse and print, and have
-/// constants. With other fraction bits there are only raw bits, bytes, comparisons and sums:
+/// The formats also round, parse and print, and have constants. Other fraction bits do not:
 ///
 /// ```compile_fail,E0599
 /// use font_types_proved::FixedI32;
@@ -158,8 +158,8 @@ where
     ///
     /// # Errors
     ///
-    /// Returns `Syntax` if the text is not a decimal, and `OutOfRange` if its nearest value is out
-    /// of range.
+    /// Returns `Syntax` if the text is not a decimal, and `OutOfRange` if its nearest value is less
+    /// than `MIN` or greater than `MAX`.
     #[inline]
     pub fn from_decimal(text: &str) -> Result<Self, DecimalFault> {
         Self::from_decimal_bytes(text.as_bytes())
