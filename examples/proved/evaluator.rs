@@ -74,19 +74,9 @@ pub fn clamp(value: Fixed, min: Fixed, max: Fixed) -> Fixed {
     value.clamp(min, max)
 }
 
-// Returns the exact difference `to - from`.
-fn distance(from: Fixed, to: Fixed) -> Fixed {
-    to - from
-}
-
 /// Returns a part over its whole, from 0 to 1.
 pub fn ratio(part: Fixed, whole: Fixed) -> Fixed {
     part / whole
-}
-
-// Returns the same, negated.
-fn negated_ratio(part: Fixed, whole: Fixed) -> Fixed {
-    -ratio(part, whole)
 }
 
 /// Normalizes a value of an axis to -1..1: clamps it to the axis, and divides its distance from the
@@ -101,9 +91,9 @@ pub fn normalize(value: Fixed, axis: VariationAxisRecord) -> Fixed {
 fn normalize_clamped(value: Fixed, axis: VariationAxisRecord) -> Fixed {
     let default = axis.default_value;
     if value < default {
-        negated_ratio(distance(value, default), distance(axis.min_value, default))
+        -ratio(default - value, default - axis.min_value)
     } else if default < value {
-        ratio(distance(default, value), distance(default, axis.max_value))
+        ratio(value - default, axis.max_value - default)
     } else {
         Fixed::ZERO
     }

@@ -40,15 +40,16 @@ fn scalar_off_peak(axis: RegionAxisCoordinates, coordinate: F2Dot14) -> Fixed {
     if coordinate <= start || end <= coordinate {
         Fixed::ZERO
     } else if coordinate < peak {
-        ratio(widened(start, coordinate), widened(start, peak))
+        ratio(
+            coordinate.to_fixed() - start.to_fixed(),
+            peak.to_fixed() - start.to_fixed(),
+        )
     } else {
-        ratio(widened(coordinate, end), widened(peak, end))
+        ratio(
+            end.to_fixed() - coordinate.to_fixed(),
+            end.to_fixed() - peak.to_fixed(),
+        )
     }
-}
-
-// Returns the exact difference `to - from`.
-fn widened(from: F2Dot14, to: F2Dot14) -> Fixed {
-    to.to_fixed() - from.to_fixed()
 }
 
 // Returns a product of numbers from 0 to 1.
@@ -185,11 +186,6 @@ fn column_product(
 
 // Adds one product to the sum of `_column` products, exactly.
 fn added(sum: F48Dot16, product: F48Dot16, _column: u16) -> F48Dot16 {
-    plus(sum, product)
-}
-
-// Returns a sum that fits.
-fn plus(sum: F48Dot16, product: F48Dot16) -> F48Dot16 {
     sum + product
 }
 

@@ -113,14 +113,6 @@ pub fn clamp(value: Fixed, min: Fixed, max: Fixed) -> Fixed
     value.clamp(min, max)
 }
 
-// Returns the exact difference `to - from`.
-fn distance(from: Fixed, to: Fixed) -> Fixed
-    requires { FitsBits 32 (fixed_bits to -ℤ fixed_bits from) }
-    ensures { fixed_bits result ≡ (fixed_bits to -ℤ fixed_bits from) }
-{
-    to - from
-}
-
 /// Returns a part over its whole, from 0 to 1.
 pub fn ratio(part: Fixed, whole: Fixed) -> Fixed
     requires part { (pos 0 ≤ℤ fixed_bits part) × (fixed_bits part ≤ℤ fixed_bits whole) }
@@ -132,18 +124,6 @@ pub fn ratio(part: Fixed, whole: Fixed) -> Fixed
         → fixed_bits result ≡ fixed_bits Fixed.ONE }
 {
     part / whole
-}
-
-// Returns the same, negated.
-fn negated_ratio(part: Fixed, whole: Fixed) -> Fixed
-    requires part { (pos 0 ≤ℤ fixed_bits part) × (fixed_bits part ≤ℤ fixed_bits whole) }
-    requires whole { whole ≢ Fixed.ZERO }
-    ensures value { IsQuotient 32 16 (fixed_bits part) (fixed_bits whole)
-        (neg_ℤ (fixed_bits result)) }
-    ensures all { fixed_bits part ≡ fixed_bits whole
-        → fixed_bits result ≡ fixed_bits Fixed.NEG_ONE }
-{
-    -ratio(part, whole)
 }
 
 /// Normalizes a value of an axis to -1..1: clamps it to the axis, and divides its distance from the
@@ -200,9 +180,9 @@ fn normalize_clamped(value: Fixed, axis: VariationAxisRecord) -> Fixed
 {
     let default = axis.default_value;
     if value < default {
-        negated_ratio(distance(value, default), distance(axis.min_value, default))
+        -ratio(default - value, default - axis.min_value)
     } else if default < value {
-        ratio(distance(default, value), distance(default, axis.max_value))
+        ratio(value - default, axis.max_value - default)
     } else {
         Fixed::ZERO
     }

@@ -119,14 +119,6 @@ pub fn depth(y: F26Dot6, bottom: F26Dot6, top: F26Dot6) -> F26Dot6
     }
 }
 
-// Returns a sum of coordinates that fits.
-fn added(a: F26Dot6, b: F26Dot6) -> F26Dot6
-    requires { FitsBits 32 (f26dot6_bits a +ℤ f26dot6_bits b) }
-    ensures { f26dot6_bits result ≡ (f26dot6_bits a +ℤ f26dot6_bits b) }
-{
-    a + b
-}
-
 /// Returns the far edge of a stem whose near edge is on the grid: the width is rounded half up.
 pub fn far_edge(near: F26Dot6, width: F26Dot6) -> F26Dot6
     requires on_grid { IsIntegral 6 (f26dot6_bits near) }
@@ -137,7 +129,7 @@ pub fn far_edge(near: F26Dot6, width: F26Dot6) -> F26Dot6
     ensures low { (f26dot6_bits near +ℤ f26dot6_bits width) <ℤ (f26dot6_bits result +ℤ pos 32) }
     ensures high { f26dot6_bits result ≤ℤ ((f26dot6_bits near +ℤ f26dot6_bits width) +ℤ pos 32) }
 {
-    added(near, width.round())
+    near + width.round()
 }
 
 // ---- positions between two others
@@ -165,14 +157,6 @@ pub fn scaled_units(distance: FWord, factor: F2Dot14) -> Fixed
     distance.to_fixed() * factor.to_fixed()
 }
 
-// Returns a sum that fits.
-fn moved(number: Fixed, distance: Fixed) -> Fixed
-    requires { FitsBits 32 (fixed_bits number +ℤ fixed_bits distance) }
-    ensures { fixed_bits result ≡ (fixed_bits number +ℤ fixed_bits distance) }
-{
-    number + distance
-}
-
 // Returns a part of a distance of either sign, from 0 to the whole.
 fn part_of(distance: Fixed, part: Fixed, whole: Fixed) -> Fixed
     requires part { (pos 0 ≤ℤ fixed_bits part) × (fixed_bits part ≤ℤ fixed_bits whole) }
@@ -188,8 +172,6 @@ fn part_of(distance: Fixed, part: Fixed, whole: Fixed) -> Fixed
 }
 
 /// Moves a point between two touched points, as `IUP` does: by its share of their distance.
-///
-/// `moved` requires that the sum itself fits: a bound on its parts is not enough.
 pub fn between(start: Fixed, distance: Fixed, part: Fixed, whole: Fixed) -> Fixed
     requires end { FitsBits 32 (fixed_bits start +ℤ fixed_bits distance) }
     requires part { (pos 0 ≤ℤ fixed_bits part) × (fixed_bits part ≤ℤ fixed_bits whole) }
@@ -203,7 +185,7 @@ pub fn between(start: Fixed, distance: Fixed, part: Fixed, whole: Fixed) -> Fixe
         → (fixed_bits start +ℤ fixed_bits distance) ≤ℤ fixed_bits result }
     ensures fall_high { fixed_bits distance ≤ℤ pos 0 → fixed_bits result ≤ℤ fixed_bits start }
 {
-    moved(start, part_of(distance, part, whole))
+    start + part_of(distance, part, whole)
 }
 
 // ---- settings

@@ -84,17 +84,16 @@ fn scalar_off_peak(axis: RegionAxisCoordinates, coordinate: F2Dot14) -> Fixed
     if coordinate <= start || end <= coordinate {
         Fixed::ZERO
     } else if coordinate < peak {
-        ratio(widened(start, coordinate), widened(start, peak))
+        ratio(
+            coordinate.to_fixed() - start.to_fixed(),
+            peak.to_fixed() - start.to_fixed(),
+        )
     } else {
-        ratio(widened(coordinate, end), widened(peak, end))
+        ratio(
+            end.to_fixed() - coordinate.to_fixed(),
+            end.to_fixed() - peak.to_fixed(),
+        )
     }
-}
-
-// Returns the exact difference `to - from`.
-fn widened(from: F2Dot14, to: F2Dot14) -> Fixed
-    ensures { fixed_bits result ≡ ((f2dot14_bits to -ℤ f2dot14_bits from) *ℤ pos 4) }
-{
-    to.to_fixed() - from.to_fixed()
 }
 
 // Returns a product of numbers from 0 to 1.
@@ -303,14 +302,6 @@ fn added(sum: F48Dot16, product: F48Dot16, _column: u16) -> F48Dot16
     requires product { unsigned_abs (f48dot16_bits product) ≤ 2 ^ 47 }
     ensures value { f48dot16_bits result ≡ (f48dot16_bits sum +ℤ f48dot16_bits product) }
     ensures size { unsigned_abs (f48dot16_bits result) ≤ (_column + 1) * 2 ^ 47 }
-{
-    plus(sum, product)
-}
-
-// Returns a sum that fits.
-fn plus(sum: F48Dot16, product: F48Dot16) -> F48Dot16
-    requires { FitsBits 64 (f48dot16_bits sum +ℤ f48dot16_bits product) }
-    ensures { f48dot16_bits result ≡ (f48dot16_bits sum +ℤ f48dot16_bits product) }
 {
     sum + product
 }
