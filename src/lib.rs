@@ -72,6 +72,7 @@ mod font_tags;
 mod font_types;
 
 mod cross_type;
+mod derives;
 mod traits;
 
 // The code of these pages is compiled and run.

@@ -1,12 +1,7 @@
-//! Traits that Rust users expect beyond the proved source, and that call it; a constant that is a
-//! function in Rattle; and `iter` of an array, which is std's.
+//! What Rust users expect beyond the proved source, which it calls: an iterator of std over arrays,
+//! a constant that is a function in Rattle, and traits that Rattle does not have.
 
-use crate::{Align, DecimalFault, DeltaSum, Fixed, InvalidTag, Pad};
-use crate::{Matrix, MatrixElement, Predefined, Scalar, ScalarArray, ScalarArrayIter};
-use crate::{SampleHeader, Shortest, TableDataRef, TableHeader};
-use crate::{TryFromGlyphIdError, TryFromUint24Error};
-use core::fmt::{Debug, Formatter, Result};
-use core::hash::{Hash, Hasher};
+use crate::{DeltaSum, Fixed, Matrix, MatrixElement, Predefined, Scalar, ScalarArray, Shortest};
 use core::iter::FusedIterator;
 
 impl<T: MatrixElement> Matrix<T> {
@@ -14,35 +9,11 @@ impl<T: MatrixElement> Matrix<T> {
     pub const IDENTITY: Self = Self::identity();
 }
 
-// ---- a number's text
-
-impl Debug for Shortest {
-    fn fmt(&self, f: &mut Formatter<'_>) -> Result {
-        f.debug_tuple("Shortest").field(&self.as_str()).finish()
-    }
-}
-
-impl PartialEq for Shortest {
-    fn eq(&self, other: &Self) -> bool {
-        self.as_str() == other.as_str()
-    }
-}
-
-impl Eq for Shortest {}
-
-impl Hash for Shortest {
-    fn hash<H: Hasher>(&self, state: &mut H) {
-        self.as_str().hash(state);
-    }
-}
-
 impl AsRef<str> for Shortest {
     fn as_ref(&self) -> &str {
         self.as_str()
     }
 }
-
-// ---- sums of deltas
 
 /// Adds the product of each term, a scalar and a delta in font units.
 ///
@@ -68,20 +39,10 @@ impl FromIterator<(Fixed, i32)> for DeltaSum {
     }
 }
 
-// ---- name ids one after the other
-
-impl Debug for Predefined {
-    fn fmt(&self, f: &mut Formatter<'_>) -> Result {
-        f.debug_list().entries(self.clone()).finish()
-    }
-}
-
 /// `size_hint` is exact.
 impl ExactSizeIterator for Predefined {}
 
 impl FusedIterator for Predefined {}
-
-// ---- arrays and tables
 
 impl<'a, T: Scalar> ScalarArray<'a, T> {
     /// Returns an iterator over the elements, from either end.
@@ -103,132 +64,3 @@ impl<'a, T: Scalar> ScalarArray<'a, T> {
         self.as_raw().iter().map(|raw| T::from_raw(*raw))
     }
 }
-
-impl<H: TableHeader> Debug for TableDataRef<'_, H> {
-    fn fmt(&self, f: &mut Formatter<'_>) -> Result {
-        f.debug_tuple("TableDataRef").field(&self.data()).finish()
-    }
-}
-
-impl<T: Scalar + Debug> Debug for ScalarArray<'_, T> {
-    fn fmt(&self, f: &mut Formatter<'_>) -> Result {
-        f.debug_list().entries(self.iter()).finish()
-    }
-}
-
-impl<T: Scalar + Debug> Debug for ScalarArrayIter<'_, T> {
-    fn fmt(&self, f: &mut Formatter<'_>) -> Result {
-        f.debug_list().entries(self.clone()).finish()
-    }
-}
-
-impl Clone for SampleHeader {
-    fn clone(&self) -> Self {
-        *self
-    }
-}
-
-impl Copy for SampleHeader {}
-
-impl Debug for SampleHeader {
-    fn fmt(&self, f: &mut Formatter<'_>) -> Result {
-        let mut fields = f.debug_struct("SampleHeader");
-        fields.field("a", &self.a).field("b", &self.b).finish()
-    }
-}
-
-// ---- padding
-
-impl Debug for Align {
-    fn fmt(&self, f: &mut Formatter<'_>) -> Result {
-        f.write_str(match self {
-            Self::Left => "Left",
-            Self::Center => "Center",
-            Self::Right => "Right",
-        })
-    }
-}
-
-impl PartialEq for Align {
-    fn eq(&self, other: &Self) -> bool {
-        *self as u8 == *other as u8
-    }
-}
-
-impl Eq for Align {}
-
-impl Hash for Align {
-    fn hash<H: Hasher>(&self, state: &mut H) {
-        (*self as u8).hash(state);
-    }
-}
-
-impl Pad {
-    // Every field, for equality and hashes.
-    fn fields(&self) -> (usize, u8, Align, bool, bool) {
-        let Self {
-            width,
-            fill,
-            align,
-            plus,
-            zeros,
-        } = *self;
-        (width, fill, align, plus, zeros)
-    }
-}
-
-impl Debug for Pad {
-    fn fmt(&self, f: &mut Formatter<'_>) -> Result {
-        f.debug_struct("Pad")
-            .field("width", &self.width)
-            .field("fill", &self.fill)
-            .field("align", &self.align)
-            .field("plus", &self.plus)
-            .field("zeros", &self.zeros)
-            .finish()
-    }
-}
-
-impl PartialEq for Pad {
-    fn eq(&self, other: &Self) -> bool {
-        self.fields() == other.fields()
-    }
-}
-
-impl Eq for Pad {}
-
-impl Hash for Pad {
-    fn hash<H: Hasher>(&self, state: &mut H) {
-        self.fields().hash(state);
-    }
-}
-
-// ---- errors
-
-impl Copy for DecimalFault {}
-
-impl Copy for InvalidTag {}
-
-impl Clone for TryFromGlyphIdError {
-    fn clone(&self) -> Self {
-        *self
-    }
-}
-
-impl Copy for TryFromGlyphIdError {}
-
-impl PartialEq for TryFromGlyphIdError {
-    fn eq(&self, other: &Self) -> bool {
-        self.value() == other.value()
-    }
-}
-
-impl Eq for TryFromGlyphIdError {}
-
-impl Clone for TryFromUint24Error {
-    fn clone(&self) -> Self {
-        *self
-    }
-}
-
-impl Copy for TryFromUint24Error {}

@@ -1,5 +1,5 @@
-//! The impls of `src/traits.rs` and `src/cross_type.rs`. Comparisons are in `ids.rs` and `tags.rs`,
-//! and `values` is in `fields.rs`.
+//! The impls of `src/traits.rs`, `src/derives.rs` and `src/cross_type.rs`. Comparisons are in
+//! `ids.rs` and `tags.rs`, and `iter` of arrays is in `fields.rs`.
 
 use font_types_proved::*;
 use std::collections::HashSet;
