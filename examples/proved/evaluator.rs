@@ -79,6 +79,11 @@ pub fn ratio(part: Fixed, whole: Fixed) -> Fixed {
     part / whole
 }
 
+// Returns the same ratio, negated.
+fn negated_ratio(part: Fixed, whole: Fixed) -> Fixed {
+    -ratio(part, whole)
+}
+
 /// Normalizes a value of an axis to -1..1: clamps it to the axis, and divides its distance from the
 /// default by that of the end on its side.
 ///
@@ -91,7 +96,7 @@ pub fn normalize(value: Fixed, axis: VariationAxisRecord) -> Fixed {
 fn normalize_clamped(value: Fixed, axis: VariationAxisRecord) -> Fixed {
     let default = axis.default_value;
     if value < default {
-        -ratio(default - value, default - axis.min_value)
+        negated_ratio(default - value, default - axis.min_value)
     } else if default < value {
         ratio(value - default, axis.max_value - default)
     } else {

@@ -40,16 +40,15 @@ fn scalar_off_peak(axis: RegionAxisCoordinates, coordinate: F2Dot14) -> Fixed {
     if coordinate <= start || end <= coordinate {
         Fixed::ZERO
     } else if coordinate < peak {
-        ratio(
-            coordinate.to_fixed() - start.to_fixed(),
-            peak.to_fixed() - start.to_fixed(),
-        )
+        ratio(widened(start, coordinate), widened(start, peak))
     } else {
-        ratio(
-            end.to_fixed() - coordinate.to_fixed(),
-            end.to_fixed() - peak.to_fixed(),
-        )
+        ratio(widened(coordinate, end), widened(peak, end))
     }
+}
+
+// Returns the exact difference `to - from`.
+fn widened(from: F2Dot14, to: F2Dot14) -> Fixed {
+    to.to_fixed() - from.to_fixed()
 }
 
 // Returns a product of numbers from 0 to 1.
@@ -92,7 +91,7 @@ fn product_of_scalars(region: &[u8], axes: u16, coordinates: &[F2Dot14]) -> Fixe
 // Returns the bytes of a region.
 fn find_region(regions: &[u8], region: u16) -> Option<&[u8]> {
     let (axes, count) = (u16::read_at(regions, 0)?, u16::read_at(regions, 2)?);
-    if region >= count {
+    if count >= 0x8000 || region >= count {
         return None;
     }
     let start = 4 + 6 * (usize::from(region) * usize::from(axes));
@@ -113,7 +112,7 @@ pub fn region_scalar(regions: &[u8], region: u16, coordinates: &[F2Dot14]) -> Op
 /// first columns are wide, and all are twice as wide in a subtable of long words.
 pub fn read_delta(subtable: &[u8], set: u16, column: u16) -> Option<i32> {
     let (words, count) = (u16::read_at(subtable, 2)?, u16::read_at(subtable, 4)?);
-    if set >= u16::read_at(subtable, 0)? || column >= count {
+    if set >= u16::read_at(subtable, 0)? || column >= count || words % 0x8000 > count {
         return None;
     }
     let offset = offset_of(words, count, set, column);

@@ -45,8 +45,10 @@ region_count regions = numeral (take 2 (drop 2 regions))
 abbrev pub region_offset : ℕ → ℕ → ℕ
 region_offset axes region = 4 + 6 * (region * axes)
 
--- the region is in the list, and the list does not end before it does
+-- the region is in a list of at most 32767 (the high bit of regionCount is reserved), and the list does not end before
+-- it does
 pub record HasRegion (regions : List ℕ) (region : ℕ) : Type 0 where
+  pub count : region_count regions < 0x8000
   pub within : region < region_count regions
   pub bytes : region_offset (axis_count regions) region + 6 * axis_count regions ≤ length regions
 
@@ -114,8 +116,10 @@ column_width subtable column = delta_width (word_delta_count subtable) column
 abbrev pub delta_offset : List ℕ → ℕ → ℕ → ℕ
 delta_offset subtable set column = delta_place (word_delta_count subtable) (region_index_count subtable) set column
 
--- the set and the column are in the subtable, and it does not end before the delta does
+-- the set and the column are in the subtable, which has at most as many wide columns as columns, and it does not end
+-- before the delta does
 pub record HasDelta (subtable : List ℕ) (set column : ℕ) : Type 0 where
+  pub wide : word_delta_count subtable % 0x8000 ≤ region_index_count subtable
   pub is_set : set < item_count subtable
   pub is_column : column < region_index_count subtable
   pub bytes : delta_offset subtable set column + column_width subtable column ≤ length subtable

@@ -126,6 +126,20 @@ pub fn ratio(part: Fixed, whole: Fixed) -> Fixed
     part / whole
 }
 
+// Returns the same ratio, negated.
+fn negated_ratio(part: Fixed, whole: Fixed) -> Fixed
+    requires part { (pos 0 ≤ℤ fixed_bits part) × (fixed_bits part ≤ℤ fixed_bits whole) }
+    requires whole { whole ≢ Fixed.ZERO }
+    ensures value { IsQuotient 32 16 (fixed_bits part) (fixed_bits whole)
+        (neg_ℤ (fixed_bits result)) }
+    ensures low { fixed_bits Fixed.NEG_ONE ≤ℤ fixed_bits result }
+    ensures high { fixed_bits result ≤ℤ pos 0 }
+    ensures all { fixed_bits part ≡ fixed_bits whole
+        → fixed_bits result ≡ fixed_bits Fixed.NEG_ONE }
+{
+    -ratio(part, whole)
+}
+
 /// Normalizes a value of an axis to -1..1: clamps it to the axis, and divides its distance from the
 /// default by that of the end on its side.
 ///
@@ -153,6 +167,8 @@ pub fn normalize(value: Fixed, axis: VariationAxisRecord) -> Fixed
     ensures min { fixed_bits axis.min_value <ℤ fixed_bits axis.default_value
         → fixed_bits value ≤ℤ fixed_bits axis.min_value
         → fixed_bits result ≡ fixed_bits Fixed.NEG_ONE }
+    ensures low { fixed_bits Fixed.NEG_ONE ≤ℤ fixed_bits result }
+    ensures high { fixed_bits result ≤ℤ fixed_bits Fixed.ONE }
 {
     normalize_clamped(clamp(value, axis.min_value, axis.max_value), axis)
 }
@@ -177,10 +193,12 @@ fn normalize_clamped(value: Fixed, axis: VariationAxisRecord) -> Fixed
     ensures min { fixed_bits axis.min_value <ℤ fixed_bits axis.default_value
         → fixed_bits value ≡ fixed_bits axis.min_value
         → fixed_bits result ≡ fixed_bits Fixed.NEG_ONE }
+    ensures low { fixed_bits Fixed.NEG_ONE ≤ℤ fixed_bits result }
+    ensures high { fixed_bits result ≤ℤ fixed_bits Fixed.ONE }
 {
     let default = axis.default_value;
     if value < default {
-        -ratio(default - value, default - axis.min_value)
+        negated_ratio(default - value, default - axis.min_value)
     } else if default < value {
         ratio(value - default, axis.max_value - default)
     } else {

@@ -119,7 +119,17 @@ pub fn depth(y: F26Dot6, bottom: F26Dot6, top: F26Dot6) -> F26Dot6
     }
 }
 
+// Returns a sum of coordinates that fits.
+fn added(a: F26Dot6, b: F26Dot6) -> F26Dot6
+    requires { FitsBits 32 (f26dot6_bits a +ℤ f26dot6_bits b) }
+    ensures { f26dot6_bits result ≡ (f26dot6_bits a +ℤ f26dot6_bits b) }
+{
+    a + b
+}
+
 /// Returns the far edge of a stem whose near edge is on the grid: the width is rounded half up.
+///
+/// `added` is a function of its own: in one body, the two bounds of the rounded width are not found.
 pub fn far_edge(near: F26Dot6, width: F26Dot6) -> F26Dot6
     requires on_grid { IsIntegral 6 (f26dot6_bits near) }
     requires width { FitsBits 32 (f26dot6_bits width +ℤ pos 32) }
@@ -129,7 +139,7 @@ pub fn far_edge(near: F26Dot6, width: F26Dot6) -> F26Dot6
     ensures low { (f26dot6_bits near +ℤ f26dot6_bits width) <ℤ (f26dot6_bits result +ℤ pos 32) }
     ensures high { f26dot6_bits result ≤ℤ ((f26dot6_bits near +ℤ f26dot6_bits width) +ℤ pos 32) }
 {
-    near + width.round()
+    added(near, width.round())
 }
 
 // ---- positions between two others

@@ -84,16 +84,17 @@ fn scalar_off_peak(axis: RegionAxisCoordinates, coordinate: F2Dot14) -> Fixed
     if coordinate <= start || end <= coordinate {
         Fixed::ZERO
     } else if coordinate < peak {
-        ratio(
-            coordinate.to_fixed() - start.to_fixed(),
-            peak.to_fixed() - start.to_fixed(),
-        )
+        ratio(widened(start, coordinate), widened(start, peak))
     } else {
-        ratio(
-            end.to_fixed() - coordinate.to_fixed(),
-            end.to_fixed() - peak.to_fixed(),
-        )
+        ratio(widened(coordinate, end), widened(peak, end))
     }
+}
+
+// Returns the exact difference `to - from`.
+fn widened(from: F2Dot14, to: F2Dot14) -> Fixed
+    ensures { fixed_bits result ≡ ((f2dot14_bits to -ℤ f2dot14_bits from) *ℤ pos 4) }
+{
+    to.to_fixed() - from.to_fixed()
 }
 
 // Returns a product of numbers from 0 to 1.
@@ -165,7 +166,7 @@ fn find_region(regions: &[u8], region: u16) -> Option<&[u8]>
     ensures len { IfSome result (λ bytes. length bytes.now ≡ 6 * axis_count regions.now) }
 {
     let (axes, count) = (u16::read_at(regions, 0)?, u16::read_at(regions, 2)?);
-    if region >= count {
+    if count >= 0x8000 || region >= count {
         return None;
     }
     let start = 4 + 6 * (usize::from(region) * usize::from(axes));
@@ -195,7 +196,7 @@ pub fn read_delta(subtable: &[u8], set: u16, column: u16) -> Option<i32>
     ensures value { IfSome result (λ delta. delta ≡ delta_of subtable.now set column) }
 {
     let (words, count) = (u16::read_at(subtable, 2)?, u16::read_at(subtable, 4)?);
-    if set >= u16::read_at(subtable, 0)? || column >= count {
+    if set >= u16::read_at(subtable, 0)? || column >= count || words % 0x8000 > count {
         return None;
     }
     let offset = offset_of(words, count, set, column);

@@ -97,6 +97,9 @@ fn scalars_of_regions(rt: HostRuntime) {
             coordinates.len()
         );
     }
+    // A count of regions with the reserved bit.
+    assert!(rt; region_scalar(&[0, 0, 0x7F, 0xFF], 0, &[]) == Some(Fixed::ONE));
+    assert!(rt; region_scalar(&[0, 0, 0x80, 0], 0, &[]).is_none());
     for len in 0..REGIONS.len() {
         assert!(rt; region_scalar(&REGIONS[..len], 1, &[]).is_none(), "{len}");
         assert!(rt;
@@ -113,6 +116,9 @@ const LONG: [u8; 16] = [
     0, 1, 0x80, 1, 0, 2, 0, 0, 0, 1, 0, 0, 0xEA, 0x60, 0xFE, 0xD4,
 ];
 
+// Two wide columns of one.
+const WIDE: [u8; 16] = [0, 1, 0, 2, 0, 1, 0, 0, 0, 1, 0, 2, 0, 3, 0, 4];
+
 #[test]
 fn deltas(rt: HostRuntime) {
     for &(subtable, set, column, delta) in &[
@@ -126,6 +132,7 @@ fn deltas(rt: HostRuntime) {
         (LONG, 0, 1, Some(-300)),
         (LONG, 1, 0, None),
         (LONG, 0, 2, None),
+        (WIDE, 0, 0, None),
     ] {
         assert!(rt;
             read_delta(&subtable, set, column) == delta,
