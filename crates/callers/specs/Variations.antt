@@ -220,6 +220,7 @@ pub record HasEntry (map : List ℕ) (index : ℕ) : Type 0 where
 abbrev pub entry_of : List ℕ → ℕ → ℕ
 entry_of map index = numeral (take (entry_width map) (drop (entry_offset map index) map))
 
--- both indices are 0xFFFF: the item has no variation data (fontTools: NO_VARIATION_INDEX)
+-- both indices are 0xFFFF: the item has no variation data (OpenType, "Item Variation Store": the outer and inner index
+-- 0xFFFF/0xFFFF)
 abbrev pub IsNoVariation : ℕ → ℕ → Type 0
 IsNoVariation outer inner = (outer ≡ 0xFFFF) × (inner ≡ 0xFFFF)

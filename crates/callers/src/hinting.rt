@@ -129,7 +129,7 @@ fn added(a: F26Dot6, b: F26Dot6) -> F26Dot6
 
 /// Returns the far edge of a stem whose near edge is on the grid: the width is rounded half up.
 ///
-/// `added` is a function of its own: in one body, the two bounds of the rounded width are not found.
+/// `added` is apart: in one body, the two bounds of the rounded width are not found.
 pub fn far_edge(near: F26Dot6, width: F26Dot6) -> F26Dot6
     requires on_grid { IsIntegral 6 (f26dot6_bits near) }
     requires width { FitsBits 32 (f26dot6_bits width +ℤ pos 32) }
