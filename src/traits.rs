@@ -47,8 +47,9 @@ impl FusedIterator for Predefined {}
 impl<'a, T: Scalar> ScalarArray<'a, T> {
     /// Returns an iterator over the elements, from either end.
     ///
-    /// It is std's over [`as_raw`](Self::as_raw), decoded. `into_iter` returns the named
-    /// [`ScalarArrayIter`], which yields the same elements.
+    /// It is std's over [`as_raw`](Self::as_raw), decoded: call it before `map`, `rev`, `zip`,
+    /// `collect` or `extend`. `into_iter` returns the named [`ScalarArrayIter`], which yields the
+    /// same elements.
     ///
     /// ```
     /// # use font_types_proved::ScalarArray;

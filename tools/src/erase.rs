@@ -30,7 +30,8 @@
 //!
 //! Anything else that Rust does not have is an [`Error`], or one of rustc. So are names that would
 //! have another meaning in Rust: those that are imported from what is left out, and methods that it
-//! has or implements; other names of a crate's root, and glob imports; a `W` that is no parameter.
+//! has or implements; other names of a crate's root, and glob imports; a `W` that is no parameter;
+//! a crate's name, `core`, `assert` or `prove` that is another's.
 
 mod errors;
 mod left_out;
@@ -68,6 +69,10 @@ pub struct Crate<'a> {
 
 /// Modules of `std` that Rattle has in another form than Rust. The program has its own.
 const RATTLE_STD: [&str; 2] = ["alloc", "io"];
+
+fn is_crate(name: &str) -> bool {
+    name == "std" || LIBRARY.iter().any(|(library, _)| *library == name)
+}
 
 /// The Rust of a file, and the modules that it declares.
 pub struct Erased<'a> {
@@ -131,6 +136,7 @@ struct Eraser<'a> {
 impl<'a> Eraser<'a> {
     // Decides on the words at this place, and returns the place of the next.
     fn step(&mut self, at: usize) -> Result<usize, Error> {
+        self.check_name(at)?;
         match self.words[at..] {
             ["requires" | "ensures", ..] => {
                 let end = self.clause_end(at)?;
@@ -152,12 +158,6 @@ impl<'a> Eraser<'a> {
                 Ok(at + 1)
             }
             ["+", "Drop", ..] => Ok(self.leave_out(at..at + 2)),
-            // The root of the crate becomes a module, where this would be the root of all.
-            ["crate", "as", ..] | ["extern", "crate", ..] => {
-                self.error(at, "another name of the crate's root")
-            }
-            // If it named a number, `n + Drop` would be erased to `n`.
-            ["Drop", ..] => self.error(at, "`Drop` elsewhere than in a bound or a `derive`"),
             ["prove", "!", "(", ..] => {
                 let end = self.group_end(at + 2)?;
                 self.put[self.places[end - 1] + 1].push_str(" }");
@@ -174,6 +174,27 @@ impl<'a> Eraser<'a> {
         }
     }
 
+    // Refuses names that would have another meaning in Rust.
+    fn check_name(&self, at: usize) -> Result<(), Error> {
+        match self.words[at..] {
+            // The root of the crate becomes a module, where this would be the root of all.
+            ["crate", "as", ..] | ["extern", "crate", ..] => {
+                self.error(at, "another name of the crate's root")
+            }
+            // If it named a number, `n + Drop` would be erased to `n`.
+            ["Drop", ..] => self.error(at, "`Drop` elsewhere than in a bound or a `derive`"),
+            // Rust has these names at the start of its paths: here they would be other ones.
+            ["core" | "font_types_proved", ..] => self.error(at, "a name of Rust's paths"),
+            [name, next, ..] if is_crate(name) && next != "::" => {
+                self.error(at, format!("`{name}` of another meaning than a crate"))
+            }
+            ["macro_rules", "!", "assert" | "prove", ..] => {
+                self.error(at, "a macro of a name that is changed")
+            }
+            _ => Ok(()),
+        }
+    }
+
     // The start of a path.
     fn path(&mut self, at: usize, name: &str, next: &str) {
         let is_program = self.of.target == Target::Program;
@@ -184,7 +205,7 @@ impl<'a> Eraser<'a> {
             "std" if is_program && RATTLE_STD.contains(&next) => self.replace(at, "crate::host"),
             "std" if !is_program => self.replace(at, "core"),
             "font_types" if is_program || is_example => self.replace(at, "font_types_proved"),
-            _ if LIBRARY.iter().any(|(library, _)| *library == name) => self.put(at, "crate::"),
+            _ if name != "std" && is_crate(name) => self.put(at, "crate::"),
             _ => {}
         }
     }
@@ -205,6 +226,9 @@ impl<'a> Eraser<'a> {
                 return self.error(item, "an import of all names");
             }
             ["mod", name, ";", ..] if item == at => {
+                if is_crate(name) || matches!(name, "core" | "font_types_proved") {
+                    return self.error(at, format!("a module `{name}`, as a crate is named"));
+                }
                 self.modules.push(name);
                 return Ok(at + 2);
             }
@@ -331,6 +355,15 @@ impl<'a> Eraser<'a> {
             self.put(at, "pub ");
         }
         match self.words[at + 1..] {
+            // A `let _name` of them is left out.
+            ["as_slice" | "each_is_byte", "(", ..]
+                if self.words[at + 2..self.group_end(at + 2)?].contains(&"mut") =>
+            {
+                self.error(
+                    at,
+                    format!("a `{}` that changes something", self.words[at + 1]),
+                )
+            }
             [_, "<", "W", ":", "fmt", "::", "Write", ">", ..] => {
                 let end = match self.body(at + 9)? {
                     Some(body) => self.group_end(body)?,

@@ -414,6 +414,19 @@ fn unsupported_sources() {
             "fn f() { let _bytes = { n += 1; raw.as_slice() }; }",
         ),
         (1, "`let", "fn f() { let _bytes = next(raw).as_slice(); }"),
+        (
+            1,
+            "changes",
+            "fn as_slice(&mut self) -> &[u8] { self.0 += 1; &[] }",
+        ),
+        // Modules, types and macros of the names of crates and macros in Rust.
+        (1, "`std`", "mod std;"),
+        (1, "`core`", "pub mod core;"),
+        (2, "`std`", "\npub mod std { pub fn size() {} }"),
+        (1, "Rust's paths", "use crate::parts::core;"),
+        (1, "`font_base`", "struct font_base;"),
+        (1, "`font_types`", "use crate::parts as font_types;"),
+        (1, "macro", "macro_rules! assert { ($all:tt) => {} }"),
     ] {
         let error = erase(source, &of, false).err().expect(source);
         let is_named = error.line == line && error.what.contains(at);
