@@ -59,7 +59,8 @@ pub fn normalized(
         return Err(format!("{}: an invalid axis", axis.axis_tag));
     }
     let map = match version_1(font, b"avar")? {
-        Some(avar) => segment_map(avar, index).ok_or("`avar` ends before its maps")?,
+        Some(avar) => segment_map(avar, index)
+            .ok_or_else(|| format!("{}: no map in `avar`", axis.axis_tag))?,
         None => Vec::new(),
     };
     Ok(final_coordinate(normalize(value, axis), &map))

@@ -343,6 +343,11 @@ fn program_instance_of_other_tables() {
     }
     let two = hvar_of_two_axes(MAPS[0]);
     let not_in_order = (b"fvar", fvar(&[(b"wght", [400, 100, 900])]));
+    let too_wide = (b"fvar", fvar(&[(b"wght", [0x8000, 0, 0x7FFF])]));
+    // It has four tables of delta sets, of which it counts three.
+    let mut fewer_sets = (b"HVAR", hvar_of_two_axes(MAPS[4]));
+    fewer_sets.1[27] = 3;
+    let longer_map = (b"avar", [map.1.clone(), vec![0; 2]].concat());
     let mut other_store = hvar.clone();
     other_store.1[21] = 2;
     for (font, error) in [
@@ -369,9 +374,19 @@ fn program_instance_of_other_tables() {
             "glyph 47: no advance by `HVAR`",
         ),
         (font_of([not_in_order]), "wght: an invalid axis"),
+        (font_of([too_wide]), "wght: an invalid axis"),
         (
             font_of([(b"fvar", two_axes()), map]),
-            "`avar` ends before its maps",
+            "wdth: no map in `avar`",
+        ),
+        // Bytes after the maps that `avar` counts.
+        (
+            font_of([(b"fvar", two_axes()), longer_map]),
+            "wdth: no map in `avar`",
+        ),
+        (
+            font_of([(b"fvar", two_axes()), fewer_sets]),
+            "glyph 0: no advance by `HVAR`",
         ),
         (
             font_of([(b"fvar", words(&[1, 0, 16, 2, 1, 20, 0, 8]))]),

@@ -56,11 +56,11 @@ pub fn long_hvar() -> Vec<u8> {
     words(&[variations(64, &data), vec![0x0100, 0, 2, 0]].concat())
 }
 
-/// A name for Unicode, and the same for Windows.
+/// A name for Windows, and for Unicode its first unit.
 pub fn name(text: &str) -> Vec<u8> {
     let units: Vec<u16> = text.encode_utf16().collect();
     let len = 2 * units.len() as u16;
-    let records = [0, 2, 30, 0, 3, 0, 1, len, 0, 3, 1, 0x409, 1, len, 0];
+    let records = [0, 2, 30, 0, 3, 0, 1, 2, 0, 3, 1, 0x409, 1, len, 0];
     words(&[&records[..], &units].concat())
 }
 
