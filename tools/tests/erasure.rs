@@ -351,6 +351,37 @@ fn exports_of_pointers_are_unsafe() {
     assert!(count > 0);
 }
 
+/// Sources that are errors, each after its line and what the error says.
+const UNSUPPORTED: [&str; 24] = [
+    "1 `Drop`: const Drop: u32 = 3;\nfn f(n: u32) -> u32 { n + Drop }",
+    "2 `{{`: #[derive(Error)]\n#[error(\"{{0, 1}}\")]\nstruct Fault;",
+    "2 `/* */`: fn f() {\n/* a comment */ }",
+    "1 tests: #[cfg(test)]\nmod others;",
+    // Names of what is left out, which Rust has too.
+    "1 import: use crate::facts::Drop;\nfn f(n: u32) -> u32 { n + Drop }",
+    "2 `size_of`: use crate::facts::{one, size_of};\nfn f() -> usize { size_of::<u32>() }",
+    "1 import: use crate::facts::one as size_of;",
+    "1 import: use crate::facts::*;",
+    "1 all names: use super::*;",
+    "2 function: use crate::facts::LIMIT;\nfn f(n: u32) -> bool { matches!(n, LIMIT) }",
+    // A trait with a method by value, beside one of the type by reference.
+    "2 function: use crate::facts::Sized;\nfn f(count: Count) -> u32 { count.size() }",
+    "1 macro: #[macro_use]\nmod facts;",
+    "1 root: use crate as me;\nfn f() -> u32 { me::laws::number() }",
+    "1 root: extern crate self as me;",
+    "2 `W`: struct W;\nfn f<W: fmt::Write>(w: &W) -> u32 { w.size() }",
+    "1 `let _name`: fn f() { let _bytes = { n += 1; raw.as_slice() }; }",
+    "1 `let _name`: fn f() { let _bytes = next(raw).as_slice(); }",
+    "1 changes: fn as_slice(&mut self) -> &[u8] { self.0 += 1; &[] }",
+    // Modules, types and macros of the names of crates and macros in Rust.
+    "1 `std`: mod std;",
+    "2 `std`: pub\nmod std { pub fn size() {} }",
+    "1 `core`: pub mod core;",
+    "1 Rust's paths: use crate::parts::core;",
+    "1 `font_base`: struct font_base;",
+    "1 macro: macro_rules! assert { ($all:tt) => {} }",
+];
+
 #[test]
 fn unsupported_sources() {
     let of = Crate {
@@ -358,79 +389,12 @@ fn unsupported_sources() {
         target: Target::Library,
         left_out: &["facts"],
     };
-    for (line, at, source) in [
-        (
-            1,
-            "`Drop`",
-            "const Drop: u32 = 3;\nfn f(n: u32) -> u32 { n + Drop }",
-        ),
-        (
-            2,
-            "`{{`",
-            "#[derive(Error)]\n#[error(\"{{0, 1}}\")]\nstruct Fault;",
-        ),
-        (2, "`/* */`", "fn f() {\n/* a comment */ }"),
-        (1, "tests", "#[cfg(test)]\nmod others;"),
-        // Names of what is left out, which Rust has too.
-        (
-            1,
-            "import",
-            "use crate::facts::Drop;\nfn f(n: u32) -> u32 { n + Drop }",
-        ),
-        (
-            2,
-            "`size_of`",
-            "use crate::facts::{one, size_of};\nfn f() -> usize { size_of::<u32>() }",
-        ),
-        (1, "import", "use crate::facts::one as size_of;"),
-        (1, "import", "use crate::facts::*;"),
-        (1, "all names", "use super::*;"),
-        (
-            2,
-            "function",
-            "use crate::facts::LIMIT;\nfn f(n: u32) -> bool { matches!(n, LIMIT) }",
-        ),
-        // A trait with a method by value, beside one of the type by reference.
-        (
-            2,
-            "function",
-            "use crate::facts::Sized;\nfn f(count: Count) -> u32 { count.size() }",
-        ),
-        (1, "macro", "#[macro_use]\nmod facts;"),
-        (
-            1,
-            "root",
-            "use crate as me;\nfn f() -> u32 { me::laws::number() }",
-        ),
-        (1, "root", "extern crate self as me;"),
-        (
-            2,
-            "`W`",
-            "struct W;\nfn f<W: fmt::Write>(w: &W) -> u32 { w.size() }",
-        ),
-        (
-            1,
-            "`let",
-            "fn f() { let _bytes = { n += 1; raw.as_slice() }; }",
-        ),
-        (1, "`let", "fn f() { let _bytes = next(raw).as_slice(); }"),
-        (
-            1,
-            "changes",
-            "fn as_slice(&mut self) -> &[u8] { self.0 += 1; &[] }",
-        ),
-        // Modules, types and macros of the names of crates and macros in Rust.
-        (1, "`std`", "mod std;"),
-        (1, "`core`", "pub mod core;"),
-        (2, "`std`", "\npub mod std { pub fn size() {} }"),
-        (1, "Rust's paths", "use crate::parts::core;"),
-        (1, "`font_base`", "struct font_base;"),
-        (1, "`font_types`", "use crate::parts as font_types;"),
-        (1, "macro", "macro_rules! assert { ($all:tt) => {} }"),
-    ] {
-        let error = erase(source, &of, false).err().expect(source);
-        let is_named = error.line == line && error.what.contains(at);
-        assert!(is_named, "{source}: {error:?}");
+    for row in UNSUPPORTED {
+        let (error, source) = row.split_once(": ").unwrap();
+        let (line, what) = error.split_once(' ').unwrap();
+        let found = erase(source, &of, false).err().expect(row);
+        let is_named = found.line.to_string() == line && found.what.contains(what);
+        assert!(is_named, "{row}: {found:?}");
     }
 }
 
