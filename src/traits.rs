@@ -48,8 +48,8 @@ impl<'a, T: Scalar> ScalarArray<'a, T> {
     /// Returns an iterator over the elements, from either end.
     ///
     /// It is std's over [`as_raw`](Self::as_raw), decoded: call it before `map`, `rev`, `zip`,
-    /// `collect` or `extend`. `into_iter` returns the named [`ScalarArrayIter`], which yields the
-    /// same elements.
+    /// `collect` or `extend`. `into_iter` returns the named
+    /// [`ScalarArrayIter`](crate::ScalarArrayIter), which yields the same elements.
     ///
     /// ```
     /// # use font_types_proved::ScalarArray;
