@@ -36,10 +36,10 @@
 #include <stdint.h>
 
 /** The version of this header. */
-#define FONT_TYPES_VERSION "0.5.0"
+#define FONT_TYPES_VERSION "0.6.0"
 
 /** The same as a number, major << 16 | minor << 8 | patch: later versions are greater. */
-#define FONT_TYPES_VERSION_NUMBER 0x000500
+#define FONT_TYPES_VERSION_NUMBER 0x000600
 
 #ifdef __cplusplus
 #define FONT_API_NOEXCEPT noexcept
@@ -65,13 +65,13 @@ extern "C" {
 /** The result of a call that can fail. */
 typedef enum font_status {
     FONT_OK = 0,            /**< success: the result was stored */
-    FONT_NO_DECIMAL = 1,    /**< the text is not a decimal */
+    FONT_NOT_DECIMAL = 1,    /**< the text is not a decimal */
     FONT_OUT_OF_RANGE = 2,  /**< the result does not fit in its type */
     FONT_BAD_FRACTION = 3,  /**< fraction bits below 6, above 30, or above the width less 2 */
-    FONT_NO_ROOM = 4,       /**< the buffer is shorter than the text */
+    FONT_BUFFER_TOO_SMALL = 4,       /**< the buffer is shorter than the text */
     FONT_BAD_PAD = 5,       /**< `fill` is 0x80 or above, or `align` is not a font_align */
     FONT_OUT_OF_BOUNDS = 6, /**< the field, or the array, is not within the bytes */
-    FONT_OTHER_COUNT = 7,   /**< the number of scalars differs from the number of deltas */
+    FONT_COUNT_MISMATCH = 7,   /**< the number of scalars differs from the number of deltas */
     FONT_TOO_MANY = 8,      /**< more than 65,535 scalars for a delta set */
     /* 9 was the status of delta sets with deltas of 32 bits until 0.4 */
     FONT_TAG_LENGTH = 10,   /**< not 1 to 4 bytes; from font_tag_validate: four spaces */
@@ -101,21 +101,21 @@ FONT_PURE uint32_t font_types_version(void) FONT_API_NOEXCEPT;
 
 /**
  * Parses a decimal of any length as the nearest 16-bit raw value, half away from zero.
- * Fails by FONT_BAD_FRACTION, FONT_NO_DECIMAL, FONT_OUT_OF_RANGE.
+ * Fails by FONT_BAD_FRACTION, FONT_NOT_DECIMAL, FONT_OUT_OF_RANGE.
  */
 FONT_FALLIBLE font_status font_parse_i16(const char *text, size_t length, uint32_t fraction_bits,
                                          int16_t *bits) FONT_API_NOEXCEPT;
 
 /**
  * Parses a decimal of any length as the nearest 32-bit raw value, half away from zero.
- * Fails by FONT_BAD_FRACTION, FONT_NO_DECIMAL, FONT_OUT_OF_RANGE.
+ * Fails by FONT_BAD_FRACTION, FONT_NOT_DECIMAL, FONT_OUT_OF_RANGE.
  */
 FONT_FALLIBLE font_status font_parse_i32(const char *text, size_t length, uint32_t fraction_bits,
                                          int32_t *bits) FONT_API_NOEXCEPT;
 
 /**
  * Parses a decimal of any length as the nearest 64-bit raw value, half away from zero.
- * Fails by FONT_BAD_FRACTION, FONT_NO_DECIMAL, FONT_OUT_OF_RANGE.
+ * Fails by FONT_BAD_FRACTION, FONT_NOT_DECIMAL, FONT_OUT_OF_RANGE.
  */
 FONT_FALLIBLE font_status font_parse_i64(const char *text, size_t length, uint32_t fraction_bits,
                                          int64_t *bits) FONT_API_NOEXCEPT;
@@ -126,7 +126,7 @@ enum { FONT_DECIMAL_ROOM = 24 };
 /**
  * Writes the shortest decimal that parses back to the raw value; of these, the
  * nearest, and of two, the one farther from zero. The raw value may have any width.
- * Fails by FONT_BAD_FRACTION, FONT_NO_ROOM.
+ * Fails by FONT_BAD_FRACTION, FONT_BUFFER_TOO_SMALL.
  */
 FONT_FALLIBLE font_status font_format(int64_t bits, uint32_t fraction_bits, char *out,
                                       size_t room, size_t *length) FONT_API_NOEXCEPT;
@@ -152,7 +152,7 @@ typedef struct font_pad {
 
 /**
  * As font_format, padded. Room for `width` bytes is enough, or for 22 if that is more.
- * Fails by FONT_BAD_FRACTION, FONT_BAD_PAD, FONT_NO_ROOM.
+ * Fails by FONT_BAD_FRACTION, FONT_BAD_PAD, FONT_BUFFER_TOO_SMALL.
  */
 FONT_FALLIBLE font_status font_format_padded(int64_t bits, uint32_t fraction_bits,
                                              const font_pad *pad, char *out, size_t room,
@@ -246,7 +246,7 @@ void font_matrix_images(const font_matrix *m, font_point *points,
 
 /**
  * The exact sum of scalar times delta over all items, even if partial sums overflow.
- * Fails by FONT_OTHER_COUNT, FONT_OUT_OF_RANGE.
+ * Fails by FONT_COUNT_MISMATCH, FONT_OUT_OF_RANGE.
  */
 FONT_FALLIBLE font_status font_delta_sum(const int32_t *scalars, size_t scalar_count,
                                          const int32_t *deltas, size_t delta_count,
@@ -257,7 +257,7 @@ FONT_FALLIBLE font_status font_delta_sum(const int32_t *scalars, size_t scalar_c
  * font: the set has as many deltas of 16 bits as its low 15 bits say, followed by deltas
  * of 8 bits, or of 32 and of 16 bits if its bit 0x8000 is set. The set has exactly the
  * bytes that these take, for as many deltas as there are scalars.
- * Fails by FONT_TOO_MANY, FONT_OTHER_COUNT, and FONT_OUT_OF_RANGE if bit 0x8000 is set.
+ * Fails by FONT_TOO_MANY, FONT_COUNT_MISMATCH, and FONT_OUT_OF_RANGE if bit 0x8000 is set.
  */
 FONT_FALLIBLE font_status font_delta_set_sum(const int32_t *scalars, size_t scalar_count,
                                              const uint8_t *set, size_t set_length,
@@ -295,7 +295,10 @@ FONT_FALLIBLE font_status font_tag_new(const char *text, size_t length,
  */
 FONT_FALLIBLE font_status font_tag_validate(uint32_t tag, uint32_t *position) FONT_API_NOEXCEPT;
 
-/** Writes the text of a tag: bytes 0x20 to 0x7E as they are, else {0xNN}; or FONT_NO_ROOM. */
+/**
+ * Writes the text of a tag: bytes 0x20 to 0x7E as they are, else {0xNN}.
+ * Fails by FONT_BUFFER_TOO_SMALL.
+ */
 FONT_FALLIBLE font_status font_tag_to_text(uint32_t tag, char *out, size_t room,
                                            size_t *length) FONT_API_NOEXCEPT;
 
@@ -522,13 +525,13 @@ FONT_INLINE FONT_FALLIBLE font_status font_f26dot6_format_padded(
 FONT_INLINE const char *font_status_text(font_status status) FONT_API_NOEXCEPT {
     switch (status) {
     case FONT_OK: return "done";
-    case FONT_NO_DECIMAL: return "not a decimal number";
+    case FONT_NOT_DECIMAL: return "not a decimal number";
     case FONT_OUT_OF_RANGE: return "result out of range";
     case FONT_BAD_FRACTION: return "unsupported number of fraction bits";
-    case FONT_NO_ROOM: return "buffer too small";
+    case FONT_BUFFER_TOO_SMALL: return "buffer too small";
     case FONT_BAD_PAD: return "invalid padding";
     case FONT_OUT_OF_BOUNDS: return "field out of bounds";
-    case FONT_OTHER_COUNT: return "different numbers of scalars and deltas";
+    case FONT_COUNT_MISMATCH: return "different numbers of scalars and deltas";
     case FONT_TOO_MANY: return "too many scalars";
     case FONT_TAG_LENGTH: return "wrong length of a tag";
     case FONT_TAG_BYTE: return "invalid byte in a tag";

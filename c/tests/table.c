@@ -67,13 +67,14 @@ static void check_error(const char *table, size_t row, struct result found, font
 
 /* ---- the header: a wrong value or type does not compile ---- */
 
-typedef char values[FONT_OK == 0 && FONT_NO_DECIMAL == 1 && FONT_OUT_OF_RANGE == 2
-                            && FONT_BAD_FRACTION == 3 && FONT_NO_ROOM == 4 && FONT_BAD_PAD == 5
-                            && FONT_OUT_OF_BOUNDS == 6 && FONT_OTHER_COUNT == 7
+typedef char values[FONT_OK == 0 && FONT_NOT_DECIMAL == 1 && FONT_OUT_OF_RANGE == 2
+                            && FONT_BAD_FRACTION == 3 && FONT_BUFFER_TOO_SMALL == 4
+                            && FONT_BAD_PAD == 5 && FONT_OUT_OF_BOUNDS == 6
+                            && FONT_COUNT_MISMATCH == 7
                             && FONT_TOO_MANY == 8 && FONT_TAG_LENGTH == 10
                             && FONT_TAG_BYTE == 11 && FONT_TAG_AFTER_SPACE == 12 && FONT_LEFT == 0
                             && FONT_CENTER == 1 && FONT_RIGHT == 2 && FONT_DECIMAL_ROOM == 24
-                            && FONT_TAG_ROOM == 25 && FONT_TYPES_VERSION_NUMBER == 0x000500
+                            && FONT_TAG_ROOM == 25 && FONT_TYPES_VERSION_NUMBER == 0x000600
                             && FONT_TAG('c', 'v', 't', ' ') == 0x63767420
                         ? 1
                         : -1];
@@ -118,7 +119,7 @@ static void check_header(void) {
     check("FONT_PAD_INIT", 0, "plus", pad.plus, 0);
     check("FONT_PAD_INIT", 0, "zeros", pad.zeros, 0);
     check("version", 0, "number", version(), FONT_TYPES_VERSION_NUMBER);
-    check_text("version", 0, FONT_TYPES_VERSION, strlen(FONT_TYPES_VERSION), "0.5.0");
+    check_text("version", 0, FONT_TYPES_VERSION, strlen(FONT_TYPES_VERSION), "0.6.0");
 }
 
 /* ---- fixed-point types: a width, and fraction bits ---- */
@@ -215,13 +216,13 @@ static const struct {
     {&fixed, "-0", {FONT_OK, 0}},
     {&fixed, "-0.00000762939453125", {FONT_OK, -1}},
     {&fixed, "0.00000762939453124999", {FONT_OK, 0}},
-    {&f2dot14, "\xC3\xA9", {FONT_NO_DECIMAL, KEPT}},
-    {&f4dot12, ".5", {FONT_NO_DECIMAL, KEPT}},
-    {&f6dot10, "+1", {FONT_NO_DECIMAL, KEPT}},
-    {&fixed, "1,5", {FONT_NO_DECIMAL, KEPT}},
-    {&f26dot6, "1.", {FONT_NO_DECIMAL, KEPT}},
-    {&f2dot30, " 1", {FONT_NO_DECIMAL, KEPT}},
-    {&f48dot16, "-", {FONT_NO_DECIMAL, KEPT}},
+    {&f2dot14, "\xC3\xA9", {FONT_NOT_DECIMAL, KEPT}},
+    {&f4dot12, ".5", {FONT_NOT_DECIMAL, KEPT}},
+    {&f6dot10, "+1", {FONT_NOT_DECIMAL, KEPT}},
+    {&fixed, "1,5", {FONT_NOT_DECIMAL, KEPT}},
+    {&f26dot6, "1.", {FONT_NOT_DECIMAL, KEPT}},
+    {&f2dot30, " 1", {FONT_NOT_DECIMAL, KEPT}},
+    {&f48dot16, "-", {FONT_NOT_DECIMAL, KEPT}},
     {&f6dot10, "31.998535156251", {FONT_OK, 32767}},
     {&f6dot10, "31.99951171875", {FONT_OUT_OF_RANGE, KEPT}},
     {&f26dot6, "-33554432.0078124", {FONT_OK, INT32_MIN}},
@@ -272,7 +273,7 @@ static void check_written(const char *table, size_t row, const struct type *type
     memset(out, KEPT, sizeof out);
     size_t length = KEPT, needed = strlen(text);
     font_status status = write_text(type, bits, pad, out, needed - 1, &length);
-    check(table, row, "status, no room", status, FONT_NO_ROOM);
+    check(table, row, "status, no room", status, FONT_BUFFER_TOO_SMALL);
     check(table, row, "length, no room", (int64_t)length, KEPT);
     check(table, row, "buffer, no room", out[0], KEPT);
     check(table, row, "status", write_text(type, bits, pad, out, needed, &length), FONT_OK);
@@ -594,9 +595,9 @@ static const struct {
     {1, "\x80\x00", 2, 1, {65536}, {FONT_OK, INT32_MIN}},
     {2, "\x7F\xFF\x80\x00\x7F\x80\xFF", 7, 5, {INT32_MAX, INT32_MIN, INT32_MAX, INT32_MIN, 1},
      {FONT_OK, INT64_C(141282949169025)}},
-    {1, "\x01\x2C\xFD", 3, 3, {65536, 32768, 1}, {FONT_OTHER_COUNT, KEPT}},
-    {1, "\x01\x2C\xFD\x05", 4, 2, {65536, 32768}, {FONT_OTHER_COUNT, KEPT}},
-    {2, "\x01\x2C\xFD", 3, 1, {65536}, {FONT_OTHER_COUNT, KEPT}},
+    {1, "\x01\x2C\xFD", 3, 3, {65536, 32768, 1}, {FONT_COUNT_MISMATCH, KEPT}},
+    {1, "\x01\x2C\xFD\x05", 4, 2, {65536, 32768}, {FONT_COUNT_MISMATCH, KEPT}},
+    {2, "\x01\x2C\xFD", 3, 1, {65536}, {FONT_COUNT_MISMATCH, KEPT}},
     {0, "", 0, 0, {0}, {FONT_OK, 0}},
     /* long words */
     {0x8000, "\x00\x01", 2, 1, {65536}, {FONT_OK, 65536}},
@@ -611,11 +612,11 @@ static const struct {
      {FONT_OK, INT64_MIN}},
     {0x8002, "\x80\x00\x00\x00\x80\x00\x00\x00\x00\x02\xFF\xFF", 12, 4,
      {INT32_MAX, INT32_MAX, INT32_MIN, 1}, {FONT_OUT_OF_RANGE, KEPT}},
-    {0x8001, "\x00\x00\x01", 3, 1, {65536}, {FONT_OTHER_COUNT, KEPT}},
-    {0x8001, "\x00\x00\x00\x01\x02", 5, 1, {65536}, {FONT_OTHER_COUNT, KEPT}},
-    {0x8001, "\x00\x01\x02", 3, 2, {65536, 1}, {FONT_OTHER_COUNT, KEPT}},
-    {0x8002, "\x00\x00\x00\x01", 4, 1, {65536}, {FONT_OTHER_COUNT, KEPT}},
-    {0xffff, "", 0, 0, {0}, {FONT_OTHER_COUNT, KEPT}},
+    {0x8001, "\x00\x00\x01", 3, 1, {65536}, {FONT_COUNT_MISMATCH, KEPT}},
+    {0x8001, "\x00\x00\x00\x01\x02", 5, 1, {65536}, {FONT_COUNT_MISMATCH, KEPT}},
+    {0x8001, "\x00\x01\x02", 3, 2, {65536, 1}, {FONT_COUNT_MISMATCH, KEPT}},
+    {0x8002, "\x00\x00\x00\x01", 4, 1, {65536}, {FONT_COUNT_MISMATCH, KEPT}},
+    {0xffff, "", 0, 0, {0}, {FONT_COUNT_MISMATCH, KEPT}},
 };
 
 /* A base in font units, plus a delta. */
@@ -646,9 +647,9 @@ static void check_sums(void) {
         const size_t count = sums[i].count;
         check_result("sums", i, sum_of_deltas(scalars, count, deltas, count), sums[i].expected);
         check_error("fewer deltas", i, sum_of_deltas(scalars, count, deltas, count - 1),
-                    FONT_OTHER_COUNT);
+                    FONT_COUNT_MISMATCH);
         check_error("fewer scalars", i, sum_of_deltas(scalars, count - 1, deltas, count),
-                    FONT_OTHER_COUNT);
+                    FONT_COUNT_MISMATCH);
     }
     /* Partial sums far above 64 bits, and back. */
     static int32_t scalars[MANY_TERMS], deltas[MANY_TERMS];
@@ -689,7 +690,7 @@ static void check_sets(void) {
     check_error("many scalars", 5, sum_of_set(scalars, 0x7FFF, bytes, 4 * 0x7FFF, 0xFFFF),
                 FONT_OUT_OF_RANGE);
     check_error("many scalars", 6, sum_of_set(scalars, 0x7FFF, bytes, 4 * 0x7FFE, 0xFFFF),
-                FONT_OTHER_COUNT);
+                FONT_COUNT_MISMATCH);
 }
 
 static void check_applied(void) {
@@ -745,10 +746,12 @@ static void check_nulls(void) {
     size_t length = KEPT;
     static const struct type *const types[] = {&f2dot14, &fixed, &f48dot16};
     for (size_t i = 0; i < COUNT(types); i++)
-        check_error("null text", i, parse(types[i], NULL, 0), FONT_NO_DECIMAL);
-    check("nulls", 0, "format", write_text(&fixed, 0, NULL, NULL, 0, &length), FONT_NO_ROOM);
-    check("nulls", 0, "padded", write_text(&fixed, 0, &pad, NULL, 0, &length), FONT_NO_ROOM);
-    check("nulls", 0, "tag", write_text(NULL, 0, NULL, NULL, 0, &length), FONT_NO_ROOM);
+        check_error("null text", i, parse(types[i], NULL, 0), FONT_NOT_DECIMAL);
+    check("nulls", 0, "format", write_text(&fixed, 0, NULL, NULL, 0, &length),
+          FONT_BUFFER_TOO_SMALL);
+    check("nulls", 0, "padded", write_text(&fixed, 0, &pad, NULL, 0, &length),
+          FONT_BUFFER_TOO_SMALL);
+    check("nulls", 0, "tag", write_text(NULL, 0, NULL, NULL, 0, &length), FONT_BUFFER_TOO_SMALL);
     check("nulls", 0, "length", (int64_t)length, KEPT);
     check_value("null deltas", 0, sum_of_deltas(NULL, 0, NULL, 0), 0);
     check_value("null set", 0, sum_of_set(NULL, 0, NULL, 0, 0), 0);
@@ -758,14 +761,14 @@ static void check_nulls(void) {
 
 /* Values that are wrong, in one way each, so that a check of them has to fail. */
 static void check_wrong(int way) {
-    const struct result stored = {FONT_NO_ROOM, 0};
+    const struct result stored = {FONT_BUFFER_TOO_SMALL, 0};
     switch (way) {
     case 1: check("wrong", 1, "value", 1, 2); break;
     case 2: check("wrong", 2, "value", 2, 1); break;
     case 3: check_text("wrong", 3, "1.4", 3, "1.5"); break;
     case 4: check_text("wrong", 4, "1.6", 3, "1.5"); break;
     case 5: check_text("wrong", 5, "1.5", 3, "1.50"); break;
-    default: check_error("wrong", 6, stored, FONT_NO_ROOM);
+    default: check_error("wrong", 6, stored, FONT_BUFFER_TOO_SMALL);
     }
 }
 

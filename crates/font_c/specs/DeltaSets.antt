@@ -4,7 +4,7 @@
 use Rattle.std.specs.Prelude.{◌≡◌, ◌+◌, ◌-◌, ◌*◌, ◌^◌, ◌<◌, ◌≤◌, ℕ, zero, suc, ℤ, pos, ◌+ℤ◌, ◌*ℤ◌, List, length}
 use Rattle.std.specs.Prelude.{nat_lt, if◌then◌else◌, slice_index_or, take, drop}
 use Rattle.font_types.specs.Bytes.{signed_numeral}
-use Rattle.font_c.specs.Status.{other_count, too_many, StoresExact}
+use Rattle.font_c.specs.Status.{count_mismatch, too_many, StoresExact}
 
 -- the delta at an index of a delta set whose first deltas, as many as `words`, have `wide` bytes, and the others
 -- `narrow`
@@ -35,8 +35,8 @@ pub record StoresSetSum (field : ℕ) (set : List ℕ) (scalars : List ℤ) (sta
   pub sum : field < 2 ^ 15 → length scalars < 2 ^ 16 → IsSet 2 1 field set (length scalars)
       → (status ≡ 0) × (new ≡ set_sum 2 1 field set scalars)
   pub other : field < 2 ^ 15 → length scalars < 2 ^ 16 → ¬ IsSet 2 1 field set (length scalars)
-      → (status ≡ other_count) × (new ≡ old)
+      → (status ≡ count_mismatch) × (new ≡ old)
   pub long : 2 ^ 15 ≤ field → length scalars < 2 ^ 16 → IsSet 4 2 (field - 2 ^ 15) set (length scalars)
       → StoresExact 64 (set_sum 4 2 (field - 2 ^ 15) set scalars) status old new
   pub long_other : 2 ^ 15 ≤ field → length scalars < 2 ^ 16 → ¬ IsSet 4 2 (field - 2 ^ 15) set (length scalars)
-      → (status ≡ other_count) × (new ≡ old)
+      → (status ≡ count_mismatch) × (new ≡ old)

@@ -8,14 +8,14 @@ out_of_range = 2
 abbrev pub bad_fraction : ℕ
 bad_fraction = 3
 
-abbrev pub no_room : ℕ
-no_room = 4
+abbrev pub buffer_too_small : ℕ
+buffer_too_small = 4
 
 abbrev pub bad_pad : ℕ
 bad_pad = 5
 
-abbrev pub other_count : ℕ
-other_count = 7
+abbrev pub count_mismatch : ℕ
+count_mismatch = 7
 
 abbrev pub too_many : ℕ
 too_many = 8

@@ -8,7 +8,7 @@ ghost use Rattle.font_types.specs.Wrap.{FitsBits};
 ghost use Rattle.font_c.specs.Sums.{moved_by, StoresSum, sum_of_products};
 ghost use Rattle.font_c.specs.Status.{out_of_range};
 
-use crate::status::{OK, OTHER_COUNT, OUT_OF_RANGE};
+use crate::status::{COUNT_MISMATCH, OK, OUT_OF_RANGE};
 use font_types::{DeltaSum, F48Dot16, Fixed};
 
 /// Adds up the products of 16.16 scalars and deltas, item by item, in 48.16.
@@ -17,7 +17,7 @@ pub extern "C" fn font_delta_sum(scalars: &[i32], deltas: &[i32], sum: &mut i64)
     ensures { StoresSum scalars.now deltas.now result sum.old sum.new }
 {
     if scalars.len() != deltas.len() {
-        return OTHER_COUNT;
+        return COUNT_MISMATCH;
     }
     let Some(exact) = sum_in_range(scalars, deltas) else {
         return OUT_OF_RANGE;

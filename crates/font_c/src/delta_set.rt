@@ -6,9 +6,9 @@ ghost use Rattle.font_types.specs.Bytes.{signed_numeral};
 ghost use Rattle.font_types.specs.F48Dot16.{f48dot16_bits};
 ghost use Rattle.font_types.specs.Wrap.{FitsBits};
 ghost use Rattle.font_c.specs.DeltaSets.{IsSet, set_sum, StoresSetSum};
-ghost use Rattle.font_c.specs.Status.{other_count, StoresExact};
+ghost use Rattle.font_c.specs.Status.{count_mismatch, StoresExact};
 
-use crate::status::{OK, OTHER_COUNT, OUT_OF_RANGE, TOO_MANY};
+use crate::status::{COUNT_MISMATCH, OK, OUT_OF_RANGE, TOO_MANY};
 use font_types::{DeltaSum, F48Dot16, Fixed, Scalar};
 
 // A font counts the regions of a delta set in 16 bits.
@@ -37,7 +37,7 @@ pub extern "C" fn font_delta_set_sum(
     }
     let words = usize::from(word_count);
     if words > scalars.len() || set.len() != scalars.len() + words {
-        return OTHER_COUNT;
+        return COUNT_MISMATCH;
     }
     *sum = exact_sum(scalars, set, words);
     OK
@@ -50,10 +50,10 @@ fn store_long_sum(scalars: &[i32], set: &[u8], words: usize, sum: &mut i64) -> u
     ensures sum { IsSet 4 2 words set.now (length scalars.now)
         → StoresExact 64 (set_sum 4 2 words set.now scalars.now) result sum.old sum.new }
     ensures other { ¬ IsSet 4 2 words set.now (length scalars.now)
-        → (result ≡ other_count) × (sum.new ≡ sum.old) }
+        → (result ≡ count_mismatch) × (sum.new ≡ sum.old) }
 {
     if words > scalars.len() || set.len() != 2 * (scalars.len() + words) {
-        return OTHER_COUNT;
+        return COUNT_MISMATCH;
     }
     let Some(exact) = long_sum(scalars, set, words) else {
         return OUT_OF_RANGE;

@@ -8,7 +8,7 @@ ghost use Rattle.font_c.specs.Texts.{WritesText};
 ghost use Rattle.font_c.specs.Pads.{IsPad, pad_of, WritesPadded};
 ghost use Rattle.font_c.specs.Status.{bad_fraction, IsFraction};
 
-use crate::status::{BAD_FRACTION, BAD_PAD, NO_ROOM, OK, is_fraction};
+use crate::status::{BAD_FRACTION, BAD_PAD, BUFFER_TOO_SMALL, OK, is_fraction};
 use font_types::{Align, Pad, Shortest};
 
 /// How to pad a decimal.
@@ -116,7 +116,7 @@ pub fn put_text(text: &[u8], out: &mut [u8], written: &mut usize) -> u32
     ensures { WritesText text.now result written.old written.new out.old out.new }
 {
     if out.len() < text.len() {
-        return NO_ROOM;
+        return BUFFER_TOO_SMALL;
     }
     out[..text.len()].copy_from_slice(text);
     *written = text.len();
@@ -138,6 +138,6 @@ fn put_padded(text: &str, pad: &Pad, out: &mut [u8], written: &mut usize) -> u32
             *written = len;
             OK
         }
-        None => NO_ROOM,
+        None => BUFFER_TOO_SMALL,
     }
 }

@@ -5,7 +5,7 @@ ghost use Rattle.std.specs.Int.{w16, w32, w64};
 ghost use Rattle.font_c.specs.Readings.{result_of, ParsesInto};
 ghost use Rattle.font_c.specs.Status.{bad_fraction, IsFraction};
 
-use crate::status::{BAD_FRACTION, NO_DECIMAL, OK, OUT_OF_RANGE, is_fraction};
+use crate::status::{BAD_FRACTION, NOT_DECIMAL, OK, OUT_OF_RANGE, is_fraction};
 use font_fixed::{read_bits_16, read_bits_32, read_bits_64};
 use font_types::DecimalFault;
 
@@ -62,7 +62,7 @@ fn store_reading<T: Copy>(reading: Result<T, DecimalFault>, place: &mut T) -> u3
             *place = number;
             OK
         }
-        Err(DecimalFault::Syntax) => NO_DECIMAL,
+        Err(DecimalFault::Syntax) => NOT_DECIMAL,
         Err(DecimalFault::OutOfRange) => OUT_OF_RANGE,
     }
 }

@@ -7,7 +7,7 @@ ghost use Rattle.font_c.specs.Status.{IsFraction};
 pub const OK: u32 = 0;
 
 /// The text is not a decimal.
-pub const NO_DECIMAL: u32 = 1;
+pub const NOT_DECIMAL: u32 = 1;
 
 /// The result does not fit in the type that it is stored in.
 pub const OUT_OF_RANGE: u32 = 2;
@@ -16,13 +16,13 @@ pub const OUT_OF_RANGE: u32 = 2;
 pub const BAD_FRACTION: u32 = 3;
 
 /// The buffer is shorter than the text.
-pub const NO_ROOM: u32 = 4;
+pub const BUFFER_TOO_SMALL: u32 = 4;
 
 /// The padding is invalid.
 pub const BAD_PAD: u32 = 5;
 
 /// The number of scalars differs from the number of deltas.
-pub const OTHER_COUNT: u32 = 7;
+pub const COUNT_MISMATCH: u32 = 7;
 
 /// There are more scalars than a font can have.
 pub const TOO_MANY: u32 = 8;

@@ -2,7 +2,7 @@
 
 //! Sums of deltas, and what they move.
 
-use crate::font_c::status::{OK, OTHER_COUNT, OUT_OF_RANGE};
+use crate::font_c::status::{COUNT_MISMATCH, OK, OUT_OF_RANGE};
 use crate::font_types::{DeltaSum, F48Dot16, Fixed};
 
 /// Adds up the products of 16.16 scalars and deltas, item by item, in 48.16.
@@ -17,7 +17,7 @@ pub unsafe extern "C" fn font_delta_sum(
     let scalars = unsafe { crate::slice(scalars, scalars_len) };
     let deltas = unsafe { crate::slice(deltas, deltas_len) };
     if scalars.len() != deltas.len() {
-        return OTHER_COUNT;
+        return COUNT_MISMATCH;
     }
     let Some(exact) = sum_in_range(scalars, deltas) else {
         return OUT_OF_RANGE;

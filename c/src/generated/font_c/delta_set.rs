@@ -2,7 +2,7 @@
 
 //! Sums over delta sets of item variation stores.
 
-use crate::font_c::status::{OK, OTHER_COUNT, OUT_OF_RANGE, TOO_MANY};
+use crate::font_c::status::{COUNT_MISMATCH, OK, OUT_OF_RANGE, TOO_MANY};
 use crate::font_types::{DeltaSum, F48Dot16, Fixed, Scalar};
 
 // A font counts the regions of a delta set in 16 bits.
@@ -33,7 +33,7 @@ pub unsafe extern "C" fn font_delta_set_sum(
     }
     let words = usize::from(word_count);
     if words > scalars.len() || set.len() != scalars.len() + words {
-        return OTHER_COUNT;
+        return COUNT_MISMATCH;
     }
     *sum = exact_sum(scalars, set, words);
     OK
@@ -42,7 +42,7 @@ pub unsafe extern "C" fn font_delta_set_sum(
 // Stores the sum over a set of long words.
 fn store_long_sum(scalars: &[i32], set: &[u8], words: usize, sum: &mut i64) -> u32 {
     if words > scalars.len() || set.len() != 2 * (scalars.len() + words) {
-        return OTHER_COUNT;
+        return COUNT_MISMATCH;
     }
     let Some(exact) = long_sum(scalars, set, words) else {
         return OUT_OF_RANGE;

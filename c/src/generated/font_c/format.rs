@@ -2,7 +2,7 @@
 
 //! Decimals written to buffers of C.
 
-use crate::font_c::status::{BAD_FRACTION, BAD_PAD, NO_ROOM, OK, is_fraction};
+use crate::font_c::status::{BAD_FRACTION, BAD_PAD, BUFFER_TOO_SMALL, OK, is_fraction};
 use crate::font_types::{Align, Pad, Shortest};
 
 /// How to pad a decimal.
@@ -97,7 +97,7 @@ pub unsafe extern "C" fn font_format_padded(
 /// Writes text to the start of `out`, and its length to `written`.
 pub fn put_text(text: &[u8], out: &mut [u8], written: &mut usize) -> u32 {
     if out.len() < text.len() {
-        return NO_ROOM;
+        return BUFFER_TOO_SMALL;
     }
     out[..text.len()].copy_from_slice(text);
     *written = text.len();
@@ -111,6 +111,6 @@ fn put_padded(text: &str, pad: &Pad, out: &mut [u8], written: &mut usize) -> u32
             *written = len;
             OK
         }
-        None => NO_ROOM,
+        None => BUFFER_TOO_SMALL,
     }
 }

@@ -2,7 +2,7 @@
 
 //! Decimals parsed to raw values.
 
-use crate::font_c::status::{BAD_FRACTION, NO_DECIMAL, OK, OUT_OF_RANGE, is_fraction};
+use crate::font_c::status::{BAD_FRACTION, NOT_DECIMAL, OK, OUT_OF_RANGE, is_fraction};
 use crate::font_fixed::{read_bits_16, read_bits_32, read_bits_64};
 use crate::font_types::DecimalFault;
 
@@ -58,7 +58,7 @@ fn store_reading<T: Copy>(reading: Result<T, DecimalFault>, place: &mut T) -> u3
             *place = number;
             OK
         }
-        Err(DecimalFault::Syntax) => NO_DECIMAL,
+        Err(DecimalFault::Syntax) => NOT_DECIMAL,
         Err(DecimalFault::OutOfRange) => OUT_OF_RANGE,
     }
 }

@@ -5,5 +5,5 @@
 /// Returns the version as `major << 16 | minor << 8 | patch`.
 #[unsafe(no_mangle)]
 pub extern "C" fn font_types_version() -> u32 {
-    0x00_0500
+    0x00_0600
 }
