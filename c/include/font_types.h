@@ -5,8 +5,8 @@
  *
  * Each function that the library exports, in the first part below, has a contract that is
  * proved; its comment states it. The static inline functions in the second part, which read
- * fields, round to integers, parse and print by the name of a format, and give the text of a
- * status, are C: they are tested, not proved.
+ * views of bytes, round to integers, add, parse and print by the name of a format, and give
+ * the text of a status, are C: they are tested, not proved.
  *
  * A number is a raw value with a number of fraction bits f: the int32_t 98304 is
  * 98304 / 2^16 = 1.5 in 16.16, for which f is 16. f is from 6 to 30, and at most the
@@ -28,6 +28,11 @@
  * arguments. Strings are bytes with a length: a terminating NUL is not needed, and none
  * is written, so print them by "%.*s". Functions allocate nothing, keep nothing between
  * calls and may be called from any thread.
+ *
+ * What a call writes may be uninitialized. The library is Rust, which asks for initialized
+ * values there: callers rely on its object code, which loads nothing from where it writes
+ * before it has stored there (this was looked at, not proved), except for the points that
+ * font_matrix_images transforms. If you do not want to rely on that, initialize it.
  */
 #ifndef FONT_TYPES_H
 #define FONT_TYPES_H
@@ -41,10 +46,15 @@
 /** The same as a number, major << 16 | minor << 8 | patch: later versions are greater. */
 #define FONT_TYPES_VERSION_NUMBER 0x000600
 
+/** @cond */
 #ifdef __cplusplus
 #define FONT_API_NOEXCEPT noexcept
+#define FONT_API_NULL nullptr
+#define FONT_API_AS(TYPE, VALUE) static_cast<TYPE>(VALUE)
 #else
 #define FONT_API_NOEXCEPT
+#define FONT_API_NULL NULL
+#define FONT_API_AS(TYPE, VALUE) ((TYPE)(VALUE))
 #endif
 #if defined(__GNUC__) || defined(__clang__)
 #define FONT_API_CONST __attribute__((const))
@@ -53,10 +63,10 @@
 #define FONT_API_CONST
 #define FONT_API_MUST_USE
 #endif
-/* A function of its arguments alone, one that can fail, and one in C. */
-#define FONT_PURE FONT_API_MUST_USE FONT_API_CONST
-#define FONT_FALLIBLE FONT_API_MUST_USE
-#define FONT_INLINE static inline
+/* A function of its arguments alone, and one in C. */
+#define FONT_API_PURE FONT_API_MUST_USE FONT_API_CONST
+#define FONT_API_INLINE static inline FONT_API_MUST_USE
+/** @endcond */
 
 #ifdef __cplusplus
 extern "C" {
@@ -95,7 +105,7 @@ enum {
 };
 
 /** The version of the linked library, as FONT_TYPES_VERSION_NUMBER. */
-FONT_PURE uint32_t font_types_version(void) FONT_API_NOEXCEPT;
+FONT_API_PURE uint32_t font_types_version(void) FONT_API_NOEXCEPT;
 
 /* ---- decimal text: `-` if negative, digits, and optionally a point and digits ---- */
 
@@ -103,22 +113,22 @@ FONT_PURE uint32_t font_types_version(void) FONT_API_NOEXCEPT;
  * Parses a decimal of any length as the nearest 16-bit raw value, half away from zero.
  * Fails by FONT_BAD_FRACTION, FONT_NOT_DECIMAL, FONT_OUT_OF_RANGE.
  */
-FONT_FALLIBLE font_status font_parse_i16(const char *text, size_t length, uint32_t fraction_bits,
-                                         int16_t *bits) FONT_API_NOEXCEPT;
+FONT_API_MUST_USE font_status font_parse_i16(
+    const char *text, size_t length, uint32_t fraction_bits, int16_t *bits) FONT_API_NOEXCEPT;
 
 /**
  * Parses a decimal of any length as the nearest 32-bit raw value, half away from zero.
  * Fails by FONT_BAD_FRACTION, FONT_NOT_DECIMAL, FONT_OUT_OF_RANGE.
  */
-FONT_FALLIBLE font_status font_parse_i32(const char *text, size_t length, uint32_t fraction_bits,
-                                         int32_t *bits) FONT_API_NOEXCEPT;
+FONT_API_MUST_USE font_status font_parse_i32(
+    const char *text, size_t length, uint32_t fraction_bits, int32_t *bits) FONT_API_NOEXCEPT;
 
 /**
  * Parses a decimal of any length as the nearest 64-bit raw value, half away from zero.
  * Fails by FONT_BAD_FRACTION, FONT_NOT_DECIMAL, FONT_OUT_OF_RANGE.
  */
-FONT_FALLIBLE font_status font_parse_i64(const char *text, size_t length, uint32_t fraction_bits,
-                                         int64_t *bits) FONT_API_NOEXCEPT;
+FONT_API_MUST_USE font_status font_parse_i64(
+    const char *text, size_t length, uint32_t fraction_bits, int64_t *bits) FONT_API_NOEXCEPT;
 
 /** Room for a decimal, which has at most 22 bytes, and for a NUL, which is not written. */
 enum { FONT_DECIMAL_ROOM = 24 };
@@ -128,8 +138,8 @@ enum { FONT_DECIMAL_ROOM = 24 };
  * nearest, and of two, the one farther from zero. The raw value may have any width.
  * Fails by FONT_BAD_FRACTION, FONT_BUFFER_TOO_SMALL.
  */
-FONT_FALLIBLE font_status font_format(int64_t bits, uint32_t fraction_bits, char *out,
-                                      size_t room, size_t *length) FONT_API_NOEXCEPT;
+FONT_API_MUST_USE font_status font_format(
+    int64_t bits, uint32_t fraction_bits, char *out, size_t room, size_t *length) FONT_API_NOEXCEPT;
 
 /** The alignment of padded text. */
 typedef enum font_align {
@@ -154,54 +164,54 @@ typedef struct font_pad {
  * As font_format, padded. Room for `width` bytes is enough, or for 22 if that is more.
  * Fails by FONT_BAD_FRACTION, FONT_BAD_PAD, FONT_BUFFER_TOO_SMALL.
  */
-FONT_FALLIBLE font_status font_format_padded(int64_t bits, uint32_t fraction_bits,
-                                             const font_pad *pad, char *out, size_t room,
-                                             size_t *length) FONT_API_NOEXCEPT;
+FONT_API_MUST_USE font_status font_format_padded(
+    int64_t bits, uint32_t fraction_bits, const font_pad *pad, char *out, size_t room,
+    size_t *length) FONT_API_NOEXCEPT;
 
 /* ---- products ---- */
 
 /** x * y in 16.16, half away from zero; wraps. */
-FONT_PURE int32_t font_fixed_mul(int32_t x, int32_t y) FONT_API_NOEXCEPT;
+FONT_API_PURE int32_t font_fixed_mul(int32_t x, int32_t y) FONT_API_NOEXCEPT;
 
 /** x / y in 16.16, half away from zero; wraps. If y is 0, INT32_MAX, negated if x is negative. */
-FONT_PURE int32_t font_fixed_div(int32_t x, int32_t y) FONT_API_NOEXCEPT;
+FONT_API_PURE int32_t font_fixed_div(int32_t x, int32_t y) FONT_API_NOEXCEPT;
 
 /**
  * x * a / c, rounded once, half away from zero; wraps. If c is 0, INT32_MAX, negated
  * if exactly one of x and a is negative.
  */
-FONT_PURE int32_t font_fixed_mul_div(int32_t x, int32_t a, int32_t c) FONT_API_NOEXCEPT;
+FONT_API_PURE int32_t font_fixed_mul_div(int32_t x, int32_t a, int32_t c) FONT_API_NOEXCEPT;
 
 /** x * y in 26.6, half away from zero; wraps. */
-FONT_PURE int32_t font_f26dot6_mul(int32_t x, int32_t y) FONT_API_NOEXCEPT;
+FONT_API_PURE int32_t font_f26dot6_mul(int32_t x, int32_t y) FONT_API_NOEXCEPT;
 
 /** x / y in 26.6, half away from zero; wraps. If y is 0, INT32_MAX, negated if x is negative. */
-FONT_PURE int32_t font_f26dot6_div(int32_t x, int32_t y) FONT_API_NOEXCEPT;
+FONT_API_PURE int32_t font_f26dot6_div(int32_t x, int32_t y) FONT_API_NOEXCEPT;
 
 /* ---- conversions to fewer fraction bits, half up; those to as many or more are C, as `bits * 4`
  *      from 2.14 to 16.16, `(int32_t)bits` from 48.16 to 16.16, and `units * INT64_C(65536)` from
  *      font units to 48.16 ---- */
 
 /** 16.16 to the nearest integer, which is no raw value: 98304 to 2; wraps to 16 bits. */
-FONT_PURE int32_t font_fixed_to_i32(int32_t bits) FONT_API_NOEXCEPT;
+FONT_API_PURE int32_t font_fixed_to_i32(int32_t bits) FONT_API_NOEXCEPT;
 
 /** 16.16 to the nearest 26.6; wraps to 22 bits. */
-FONT_PURE int32_t font_fixed_to_f26dot6(int32_t bits) FONT_API_NOEXCEPT;
+FONT_API_PURE int32_t font_fixed_to_f26dot6(int32_t bits) FONT_API_NOEXCEPT;
 
 /** 16.16 to the nearest 2.14; wraps. */
-FONT_PURE int16_t font_fixed_to_f2dot14(int32_t bits) FONT_API_NOEXCEPT;
+FONT_API_PURE int16_t font_fixed_to_f2dot14(int32_t bits) FONT_API_NOEXCEPT;
 
 /** 26.6 to the nearest integer, which is no raw value: 96 to 2; wraps to 26 bits. */
-FONT_PURE int32_t font_f26dot6_to_i32(int32_t bits) FONT_API_NOEXCEPT;
+FONT_API_PURE int32_t font_f26dot6_to_i32(int32_t bits) FONT_API_NOEXCEPT;
 
 /** 48.16 to the nearest integer, which is no raw value: 98304 to 2; wraps to 48 bits. */
-FONT_PURE int64_t font_f48dot16_to_i64(int64_t bits) FONT_API_NOEXCEPT;
+FONT_API_PURE int64_t font_f48dot16_to_i64(int64_t bits) FONT_API_NOEXCEPT;
 
 /** 2.30 to the nearest 16.16. */
-FONT_PURE int32_t font_f2dot30_to_fixed(int32_t bits) FONT_API_NOEXCEPT;
+FONT_API_PURE int32_t font_f2dot30_to_fixed(int32_t bits) FONT_API_NOEXCEPT;
 
 /** 2.30 to the nearest 2.14; wraps. */
-FONT_PURE int16_t font_f2dot30_to_f2dot14(int32_t bits) FONT_API_NOEXCEPT;
+FONT_API_PURE int16_t font_f2dot30_to_f2dot14(int32_t bits) FONT_API_NOEXCEPT;
 
 /* ---- matrices and points of 16.16 values: products are font_fixed_mul, sums wrap ---- */
 
@@ -211,32 +221,38 @@ FONT_PURE int16_t font_f2dot30_to_f2dot14(int32_t bits) FONT_API_NOEXCEPT;
  * may also be in 26.6 or in font units, if both are in the same unit.
  */
 typedef struct font_matrix {
-    int32_t xx, yx, xy, yy, dx, dy;
+    int32_t xx; /**< from x to x */
+    int32_t yx; /**< from x to y */
+    int32_t xy; /**< from y to x */
+    int32_t yy; /**< from y to y */
+    int32_t dx; /**< added to x */
+    int32_t dy; /**< added to y */
 } font_matrix;
 
 /** A point, or a vector. */
 typedef struct font_point {
-    int32_t x, y;
+    int32_t x; /**< the x coordinate */
+    int32_t y; /**< the y coordinate */
 } font_point;
 
 /**
  * The matrix that applies b first, then a. If neither an element of the product nor a
  * coordinate of the image of p by the product overflows, each coordinate of that image
  * is at most (|p.x| + |p.y|) / 65536 + 2 from the exact one, all as raw values. (This is
- * proved of the two calls: `composed` of crates/font_c.)
+ * proved of the two calls: `composed` in crates/font_c/src/laws.rt.)
  */
-FONT_PURE font_matrix font_matrix_product(font_matrix a, font_matrix b) FONT_API_NOEXCEPT;
+FONT_API_PURE font_matrix font_matrix_product(font_matrix a, font_matrix b) FONT_API_NOEXCEPT;
 
 /**
  * Transforms a point. If a point is transformed by b, and the result by a, and no
  * coordinate of either overflows, x is at most (|a.xx| + |a.xy|) / 65536 + 1 from the
  * exact one, and y at most (|a.yx| + |a.yy|) / 65536 + 1, all as raw values. (This is
- * proved of the two calls: `in_turn` of crates/font_c.)
+ * proved of the two calls: `in_turn` in crates/font_c/src/laws.rt.)
  */
-FONT_PURE font_point font_matrix_image(font_matrix m, font_point p) FONT_API_NOEXCEPT;
+FONT_API_PURE font_point font_matrix_image(font_matrix m, font_point p) FONT_API_NOEXCEPT;
 
 /** Transforms a vector, without the translation. */
-FONT_PURE font_point font_matrix_vector(font_matrix m, font_point v) FONT_API_NOEXCEPT;
+FONT_API_PURE font_point font_matrix_vector(font_matrix m, font_point v) FONT_API_NOEXCEPT;
 
 /** Transforms points in place, each as font_matrix_image does. */
 void font_matrix_images(const font_matrix *m, font_point *points,
@@ -248,35 +264,36 @@ void font_matrix_images(const font_matrix *m, font_point *points,
  * The exact sum of scalar times delta over all items, even if partial sums overflow.
  * Fails by FONT_COUNT_MISMATCH, FONT_OUT_OF_RANGE.
  */
-FONT_FALLIBLE font_status font_delta_sum(const int32_t *scalars, size_t scalar_count,
-                                         const int32_t *deltas, size_t delta_count,
-                                         int64_t *sum) FONT_API_NOEXCEPT;
+FONT_API_MUST_USE font_status font_delta_sum(
+    const int32_t *scalars, size_t scalar_count, const int32_t *deltas, size_t delta_count,
+    int64_t *sum) FONT_API_NOEXCEPT;
 
 /**
  * The same over a delta set of an item variation store. `word_count` is the field of the
  * font: the set has as many deltas of 16 bits as its low 15 bits say, followed by deltas
- * of 8 bits, or of 32 and of 16 bits if its bit 0x8000 is set. The set has exactly the
- * bytes that these take, for as many deltas as there are scalars.
- * Fails by FONT_TOO_MANY, FONT_COUNT_MISMATCH, and FONT_OUT_OF_RANGE if bit 0x8000 is set.
+ * of 8 bits, or of 32 and of 16 bits if its bit 0x8000 is set. The set has as many deltas
+ * as there are scalars, and exactly the bytes that these take, font_delta_set_length.
+ * Fails by FONT_TOO_MANY; by FONT_COUNT_MISMATCH, also if the low 15 bits of `word_count`
+ * exceed the number of scalars; and by FONT_OUT_OF_RANGE if bit 0x8000 is set.
  */
-FONT_FALLIBLE font_status font_delta_set_sum(const int32_t *scalars, size_t scalar_count,
-                                             const uint8_t *set, size_t set_length,
-                                             uint16_t word_count, int64_t *sum) FONT_API_NOEXCEPT;
+FONT_API_MUST_USE font_status font_delta_set_sum(
+    const int32_t *scalars, size_t scalar_count, const uint8_t *set, size_t set_length,
+    uint16_t word_count, int64_t *sum) FONT_API_NOEXCEPT;
 
 /** Font units plus a 48.16 delta, to the nearest font unit, half up, or FONT_OUT_OF_RANGE. */
-FONT_FALLIBLE font_status font_apply_delta_i16(int16_t base, int64_t delta,
-                                               int16_t *units) FONT_API_NOEXCEPT;
+FONT_API_MUST_USE font_status font_apply_delta_i16(
+    int16_t base, int64_t delta, int16_t *units) FONT_API_NOEXCEPT;
 
 /** Unsigned font units, as advances are, plus a 48.16 delta, rounded in the same way. */
-FONT_FALLIBLE font_status font_apply_delta_u16(uint16_t base, int64_t delta,
-                                               uint16_t *units) FONT_API_NOEXCEPT;
+FONT_API_MUST_USE font_status font_apply_delta_u16(
+    uint16_t base, int64_t delta, uint16_t *units) FONT_API_NOEXCEPT;
 
 /* ---- tags, as numbers with the big-endian bytes of the tag ---- */
 
 /** A tag of four characters, as a constant expression: FONT_TAG('g', 'l', 'y', 'f'). */
-#define FONT_TAG(A, B, C, D)                                                                   \
-    ((uint32_t)(uint8_t)(A) << 24 | (uint32_t)(uint8_t)(B) << 16 | (uint32_t)(uint8_t)(C) << 8 \
-     | (uint32_t)(uint8_t)(D))
+#define FONT_TAG(A, B, C, D)                                               \
+    (((A) & 0xFF) * UINT32_C(0x1000000) + ((B) & 0xFF) * UINT32_C(0x10000) \
+     + ((C) & 0xFF) * UINT32_C(0x100) + ((D) & 0xFF))
 
 /** Room for the text of a tag, which has at most 24 bytes, and for a NUL, which is not written. */
 enum { FONT_TAG_ROOM = 25 };
@@ -285,22 +302,22 @@ enum { FONT_TAG_ROOM = 25 };
  * Creates a valid tag from one to four bytes, padding with spaces.
  * Fails by FONT_TAG_LENGTH, FONT_TAG_BYTE.
  */
-FONT_FALLIBLE font_status font_tag_new(const char *text, size_t length,
-                                       uint32_t *tag) FONT_API_NOEXCEPT;
+FONT_API_MUST_USE font_status font_tag_new(
+    const char *text, size_t length, uint32_t *tag) FONT_API_NOEXCEPT;
 
 /**
  * Checks a tag, and stores nothing if it is valid. Fails by FONT_TAG_LENGTH for four
  * spaces; else by FONT_TAG_BYTE or FONT_TAG_AFTER_SPACE, by what is wrong with the first
  * invalid byte, whose index, 0 to 3, is stored.
  */
-FONT_FALLIBLE font_status font_tag_validate(uint32_t tag, uint32_t *position) FONT_API_NOEXCEPT;
+FONT_API_MUST_USE font_status font_tag_validate(uint32_t tag, uint32_t *position) FONT_API_NOEXCEPT;
 
 /**
  * Writes the text of a tag: bytes 0x20 to 0x7E as they are, else {0xNN}.
  * Fails by FONT_BUFFER_TOO_SMALL.
  */
-FONT_FALLIBLE font_status font_tag_to_text(uint32_t tag, char *out, size_t room,
-                                           size_t *length) FONT_API_NOEXCEPT;
+FONT_API_MUST_USE font_status font_tag_to_text(
+    uint32_t tag, char *out, size_t room, size_t *length) FONT_API_NOEXCEPT;
 
 #ifdef __cplusplus
 }
@@ -308,114 +325,266 @@ FONT_FALLIBLE font_status font_tag_to_text(uint32_t tag, char *out, size_t room,
 
 /* ---- the second part, in C: tested, not proved ---- */
 
-/* ---- big-endian fields at a byte offset, or FONT_OUT_OF_BOUNDS ---- */
+/* ---- views: bytes of a font, and big-endian fields at byte offsets in them ---- */
 
-/* Whether a field of this size is within bytes, at an offset. */
-static inline int font_api_within(size_t length, size_t offset, size_t size) {
-    return size <= length && offset <= length - size;
+/**
+ * Bytes of a font, of a table or of a record: {bytes, length}. A view that is absent has null
+ * bytes and the length 0. All its fields are missing and all its parts of one byte or more
+ * absent, so that a reader can look at the last view alone. Any offset, count and size may
+ * come from a font: no function of views overflows, or reads beyond a view.
+ */
+typedef struct font_view {
+    const uint8_t *bytes; /**< the first byte; null if the view is absent */
+    size_t length;        /**< the number of bytes */
+} font_view;
+
+/** @cond */
+/* Whether `length` bytes at an offset are in a view. */
+FONT_API_INLINE int font_api_within(
+    font_view view, size_t offset, size_t length) FONT_API_NOEXCEPT {
+    return length <= view.length && offset <= view.length - length;
 }
 
-/* The number of two bytes, and of four. */
-static inline uint32_t font_api_two(const uint8_t *at) { return (uint32_t)at[0] << 8 | at[1]; }
+/* Bytes that are in a view. If these are of a view that is absent, the offset is 0. */
+FONT_API_INLINE font_view font_api_view(
+    font_view view, size_t offset, size_t length) FONT_API_NOEXCEPT {
+    font_view part = {FONT_API_NULL, length};
+    part.bytes = offset == 0 ? view.bytes : view.bytes + offset;
+    return part;
+}
 
-static inline uint32_t font_api_four(const uint8_t *at) {
-    return (uint32_t)at[0] << 24 | (uint32_t)at[1] << 16 | (uint32_t)at[2] << 8 | at[3];
+FONT_API_INLINE font_view font_api_absent(void) FONT_API_NOEXCEPT {
+    font_view absent = {FONT_API_NULL, 0};
+    return absent;
+}
+
+/* The number of two, three, four and eight bytes. */
+FONT_API_INLINE uint32_t font_api_two(const uint8_t *at) FONT_API_NOEXCEPT {
+    return FONT_API_AS(uint32_t, at[0]) << 8 | at[1];
+}
+
+FONT_API_INLINE uint32_t font_api_three(const uint8_t *at) FONT_API_NOEXCEPT {
+    return font_api_two(at) << 8 | at[2];
+}
+
+FONT_API_INLINE int32_t font_api_signed_three(const uint8_t *at) FONT_API_NOEXCEPT {
+    return FONT_API_AS(int16_t, font_api_two(at)) * 256 + at[2];
+}
+
+FONT_API_INLINE uint32_t font_api_four(const uint8_t *at) FONT_API_NOEXCEPT {
+    return FONT_API_AS(uint32_t, at[0]) << 24 | FONT_API_AS(uint32_t, at[1]) << 16
+           | FONT_API_AS(uint32_t, at[2]) << 8 | at[3];
+}
+
+FONT_API_INLINE uint64_t font_api_eight(const uint8_t *at) FONT_API_NOEXCEPT {
+    return FONT_API_AS(uint64_t, at[0]) << 56 | FONT_API_AS(uint64_t, at[1]) << 48
+           | FONT_API_AS(uint64_t, at[2]) << 40 | FONT_API_AS(uint64_t, at[3]) << 32
+           | FONT_API_AS(uint64_t, at[4]) << 24 | FONT_API_AS(uint64_t, at[5]) << 16
+           | FONT_API_AS(uint64_t, at[6]) << 8 | at[7];
+}
+/** @endcond */
+
+/** The `length` bytes at an offset; absent unless all of them are there. */
+FONT_API_INLINE font_view font_part(
+    font_view view, size_t offset, size_t length) FONT_API_NOEXCEPT {
+    if (!font_api_within(view, offset, length))
+        return font_api_absent();
+    return font_api_view(view, offset, length);
+}
+
+/** `count` items of `size` bytes at an offset; absent unless all of them are there. */
+FONT_API_INLINE font_view font_items(
+    font_view view, size_t offset, size_t count, size_t size) FONT_API_NOEXCEPT {
+    if (offset > view.length || (size != 0 && count > (view.length - offset) / size))
+        return font_api_absent();
+    return font_api_view(view, offset, count * size);
 }
 
 /**
- * Stores a pointer to an array of `count` items of `size` bytes, or to `count` bytes if
- * `size` is 1; or fails by FONT_OUT_OF_BOUNDS. `size` must not be 0. If `bytes` is null,
- * the pointer is.
+ * The bytes from where a 32-bit offset points, which is at `offset`, to the end of the view;
+ * absent if it is 0, missing, or past the end.
  */
-FONT_INLINE FONT_FALLIBLE font_status font_read_array(
-    const uint8_t *bytes, size_t length, size_t offset, size_t count, size_t size,
-    const uint8_t **items) FONT_API_NOEXCEPT {
-    if (offset > length || count > (length - offset) / size)
-        return FONT_OUT_OF_BOUNDS;
-    *items = bytes == NULL ? NULL : bytes + offset;
-    return FONT_OK;
+FONT_API_INLINE font_view font_at_offset32(font_view view, size_t offset) FONT_API_NOEXCEPT {
+    if (!font_api_within(view, offset, 4))
+        return font_api_absent();
+    const uint32_t start = font_api_four(view.bytes + offset);
+    if (start == 0 || start > view.length)
+        return font_api_absent();
+    return font_api_view(view, start, view.length - start);
 }
 
 /** Reads a uint8, or fails by FONT_OUT_OF_BOUNDS. */
-FONT_INLINE FONT_FALLIBLE font_status font_read_u8(
-    const uint8_t *bytes, size_t length, size_t offset, uint8_t *value) FONT_API_NOEXCEPT {
-    if (!font_api_within(length, offset, 1))
+FONT_API_INLINE font_status font_read_u8(
+    font_view view, size_t offset, uint8_t *value) FONT_API_NOEXCEPT {
+    if (!font_api_within(view, offset, 1))
         return FONT_OUT_OF_BOUNDS;
-    *value = bytes[offset];
+    *value = view.bytes[offset];
     return FONT_OK;
+}
+
+/** A uint8. 0 may mean that it is missing. */
+FONT_API_INLINE uint8_t font_u8(font_view view, size_t offset) FONT_API_NOEXCEPT {
+    if (!font_api_within(view, offset, 1))
+        return 0;
+    return view.bytes[offset];
 }
 
 /** Reads an int8, or fails by FONT_OUT_OF_BOUNDS. */
-FONT_INLINE FONT_FALLIBLE font_status font_read_i8(
-    const uint8_t *bytes, size_t length, size_t offset, int8_t *value) FONT_API_NOEXCEPT {
-    if (!font_api_within(length, offset, 1))
+FONT_API_INLINE font_status font_read_i8(
+    font_view view, size_t offset, int8_t *value) FONT_API_NOEXCEPT {
+    if (!font_api_within(view, offset, 1))
         return FONT_OUT_OF_BOUNDS;
-    *value = (int8_t)bytes[offset];
+    *value = FONT_API_AS(int8_t, view.bytes[offset]);
     return FONT_OK;
+}
+
+/** An int8. 0 may mean that it is missing. */
+FONT_API_INLINE int8_t font_i8(font_view view, size_t offset) FONT_API_NOEXCEPT {
+    if (!font_api_within(view, offset, 1))
+        return 0;
+    return FONT_API_AS(int8_t, view.bytes[offset]);
 }
 
 /** Reads a uint16, or fails by FONT_OUT_OF_BOUNDS. */
-FONT_INLINE FONT_FALLIBLE font_status font_read_u16(
-    const uint8_t *bytes, size_t length, size_t offset, uint16_t *value) FONT_API_NOEXCEPT {
-    if (!font_api_within(length, offset, 2))
+FONT_API_INLINE font_status font_read_u16(
+    font_view view, size_t offset, uint16_t *value) FONT_API_NOEXCEPT {
+    if (!font_api_within(view, offset, 2))
         return FONT_OUT_OF_BOUNDS;
-    *value = (uint16_t)font_api_two(bytes + offset);
+    *value = FONT_API_AS(uint16_t, font_api_two(view.bytes + offset));
     return FONT_OK;
+}
+
+/** A uint16. 0 may mean that it is missing. */
+FONT_API_INLINE uint16_t font_u16(font_view view, size_t offset) FONT_API_NOEXCEPT {
+    if (!font_api_within(view, offset, 2))
+        return 0;
+    return FONT_API_AS(uint16_t, font_api_two(view.bytes + offset));
 }
 
 /** Reads an int16, or fails by FONT_OUT_OF_BOUNDS. */
-FONT_INLINE FONT_FALLIBLE font_status font_read_i16(
-    const uint8_t *bytes, size_t length, size_t offset, int16_t *value) FONT_API_NOEXCEPT {
-    if (!font_api_within(length, offset, 2))
+FONT_API_INLINE font_status font_read_i16(
+    font_view view, size_t offset, int16_t *value) FONT_API_NOEXCEPT {
+    if (!font_api_within(view, offset, 2))
         return FONT_OUT_OF_BOUNDS;
-    *value = (int16_t)font_api_two(bytes + offset);
+    *value = FONT_API_AS(int16_t, font_api_two(view.bytes + offset));
     return FONT_OK;
+}
+
+/** An int16. 0 may mean that it is missing. */
+FONT_API_INLINE int16_t font_i16(font_view view, size_t offset) FONT_API_NOEXCEPT {
+    if (!font_api_within(view, offset, 2))
+        return 0;
+    return FONT_API_AS(int16_t, font_api_two(view.bytes + offset));
 }
 
 /** Reads a uint24, or fails by FONT_OUT_OF_BOUNDS. */
-FONT_INLINE FONT_FALLIBLE font_status font_read_u24(
-    const uint8_t *bytes, size_t length, size_t offset, uint32_t *value) FONT_API_NOEXCEPT {
-    if (!font_api_within(length, offset, 3))
+FONT_API_INLINE font_status font_read_u24(
+    font_view view, size_t offset, uint32_t *value) FONT_API_NOEXCEPT {
+    if (!font_api_within(view, offset, 3))
         return FONT_OUT_OF_BOUNDS;
-    *value = font_api_two(bytes + offset) << 8 | bytes[offset + 2];
+    *value = font_api_three(view.bytes + offset);
     return FONT_OK;
+}
+
+/** A uint24. 0 may mean that it is missing. */
+FONT_API_INLINE uint32_t font_u24(font_view view, size_t offset) FONT_API_NOEXCEPT {
+    if (!font_api_within(view, offset, 3))
+        return 0;
+    return font_api_three(view.bytes + offset);
 }
 
 /** Reads an int24, or fails by FONT_OUT_OF_BOUNDS. */
-FONT_INLINE FONT_FALLIBLE font_status font_read_i24(
-    const uint8_t *bytes, size_t length, size_t offset, int32_t *value) FONT_API_NOEXCEPT {
-    if (!font_api_within(length, offset, 3))
+FONT_API_INLINE font_status font_read_i24(
+    font_view view, size_t offset, int32_t *value) FONT_API_NOEXCEPT {
+    if (!font_api_within(view, offset, 3))
         return FONT_OUT_OF_BOUNDS;
-    *value = (int16_t)font_api_two(bytes + offset) * 256 + bytes[offset + 2];
+    *value = font_api_signed_three(view.bytes + offset);
     return FONT_OK;
+}
+
+/** An int24. 0 may mean that it is missing. */
+FONT_API_INLINE int32_t font_i24(font_view view, size_t offset) FONT_API_NOEXCEPT {
+    if (!font_api_within(view, offset, 3))
+        return 0;
+    return font_api_signed_three(view.bytes + offset);
 }
 
 /** Reads a uint32, or fails by FONT_OUT_OF_BOUNDS. */
-FONT_INLINE FONT_FALLIBLE font_status font_read_u32(
-    const uint8_t *bytes, size_t length, size_t offset, uint32_t *value) FONT_API_NOEXCEPT {
-    if (!font_api_within(length, offset, 4))
+FONT_API_INLINE font_status font_read_u32(
+    font_view view, size_t offset, uint32_t *value) FONT_API_NOEXCEPT {
+    if (!font_api_within(view, offset, 4))
         return FONT_OUT_OF_BOUNDS;
-    *value = font_api_four(bytes + offset);
+    *value = font_api_four(view.bytes + offset);
     return FONT_OK;
+}
+
+/** A uint32. 0 may mean that it is missing. */
+FONT_API_INLINE uint32_t font_u32(font_view view, size_t offset) FONT_API_NOEXCEPT {
+    if (!font_api_within(view, offset, 4))
+        return 0;
+    return font_api_four(view.bytes + offset);
 }
 
 /** Reads an int32, or fails by FONT_OUT_OF_BOUNDS. */
-FONT_INLINE FONT_FALLIBLE font_status font_read_i32(
-    const uint8_t *bytes, size_t length, size_t offset, int32_t *value) FONT_API_NOEXCEPT {
-    if (!font_api_within(length, offset, 4))
+FONT_API_INLINE font_status font_read_i32(
+    font_view view, size_t offset, int32_t *value) FONT_API_NOEXCEPT {
+    if (!font_api_within(view, offset, 4))
         return FONT_OUT_OF_BOUNDS;
-    *value = (int32_t)font_api_four(bytes + offset);
+    *value = FONT_API_AS(int32_t, font_api_four(view.bytes + offset));
     return FONT_OK;
 }
 
+/** An int32. 0 may mean that it is missing. */
+FONT_API_INLINE int32_t font_i32(font_view view, size_t offset) FONT_API_NOEXCEPT {
+    if (!font_api_within(view, offset, 4))
+        return 0;
+    return FONT_API_AS(int32_t, font_api_four(view.bytes + offset));
+}
+
 /** Reads an int64, or fails by FONT_OUT_OF_BOUNDS. */
-FONT_INLINE FONT_FALLIBLE font_status font_read_i64(
-    const uint8_t *bytes, size_t length, size_t offset, int64_t *value) FONT_API_NOEXCEPT {
-    if (!font_api_within(length, offset, 8))
+FONT_API_INLINE font_status font_read_i64(
+    font_view view, size_t offset, int64_t *value) FONT_API_NOEXCEPT {
+    if (!font_api_within(view, offset, 8))
         return FONT_OUT_OF_BOUNDS;
-    const uint64_t high = font_api_four(bytes + offset);
-    *value = (int64_t)(high << 32 | font_api_four(bytes + offset + 4));
+    *value = FONT_API_AS(int64_t, font_api_eight(view.bytes + offset));
     return FONT_OK;
+}
+
+/** An int64. 0 may mean that it is missing. */
+FONT_API_INLINE int64_t font_i64(font_view view, size_t offset) FONT_API_NOEXCEPT {
+    if (!font_api_within(view, offset, 8))
+        return 0;
+    return FONT_API_AS(int64_t, font_api_eight(view.bytes + offset));
+}
+
+/**
+ * Reads an unsigned integer of `size` bytes, 1 to 4, or fails by FONT_OUT_OF_BOUNDS, also if
+ * `size` is another.
+ */
+FONT_API_INLINE font_status font_read_uint(
+    font_view view, size_t offset, size_t size, uint32_t *value) FONT_API_NOEXCEPT {
+    if (!font_api_within(view, offset, size))
+        return FONT_OUT_OF_BOUNDS;
+    switch (size) {
+    case 1: *value = view.bytes[offset]; return FONT_OK;
+    case 2: *value = font_api_two(view.bytes + offset); return FONT_OK;
+    case 3: *value = font_api_three(view.bytes + offset); return FONT_OK;
+    case 4: *value = font_api_four(view.bytes + offset); return FONT_OK;
+    default: return FONT_OUT_OF_BOUNDS;
+    }
+}
+
+/** An unsigned integer of `size` bytes, 1 to 4. 0 may mean that it is missing. */
+FONT_API_INLINE uint32_t font_uint(font_view view, size_t offset, size_t size) FONT_API_NOEXCEPT {
+    if (!font_api_within(view, offset, size))
+        return 0;
+    switch (size) {
+    case 1: return view.bytes[offset];
+    case 2: return font_api_two(view.bytes + offset);
+    case 3: return font_api_three(view.bytes + offset);
+    case 4: return font_api_four(view.bytes + offset);
+    default: return 0;
+    }
 }
 
 /* ---- rounding to integers, half up; the result is a raw value too ---- */
@@ -424,14 +593,14 @@ FONT_INLINE FONT_FALLIBLE font_status font_read_i64(
  * Rounds a 16-bit raw value to that of the nearest integer, half up: of 1.5, that of 2.
  * Fails by FONT_BAD_FRACTION, FONT_OUT_OF_RANGE. (The Rust types wrap.)
  */
-FONT_INLINE FONT_FALLIBLE font_status font_round_i16(
-    int16_t bits, uint32_t fraction_bits, int16_t *whole) FONT_API_NOEXCEPT {
+FONT_API_INLINE font_status font_round_i16(
+    int16_t bits, uint32_t fraction_bits, int16_t *rounded) FONT_API_NOEXCEPT {
     if (fraction_bits < 6 || fraction_bits > 14)
         return FONT_BAD_FRACTION;
     const int32_t half = INT32_C(1) << (fraction_bits - 1);
     if (bits > INT16_MAX - half)
         return FONT_OUT_OF_RANGE;
-    *whole = (int16_t)((bits + half) & -2 * half);
+    *rounded = FONT_API_AS(int16_t, (bits + half) & -2 * half);
     return FONT_OK;
 }
 
@@ -439,14 +608,14 @@ FONT_INLINE FONT_FALLIBLE font_status font_round_i16(
  * Rounds a 32-bit raw value to that of the nearest integer, half up: of 1.5, that of 2.
  * Fails by FONT_BAD_FRACTION, FONT_OUT_OF_RANGE. (The Rust types wrap.)
  */
-FONT_INLINE FONT_FALLIBLE font_status font_round_i32(
-    int32_t bits, uint32_t fraction_bits, int32_t *whole) FONT_API_NOEXCEPT {
+FONT_API_INLINE font_status font_round_i32(
+    int32_t bits, uint32_t fraction_bits, int32_t *rounded) FONT_API_NOEXCEPT {
     if (fraction_bits < 6 || fraction_bits > 30)
         return FONT_BAD_FRACTION;
     const int32_t half = INT32_C(1) << (fraction_bits - 1);
     if (bits > INT32_MAX - half)
         return FONT_OUT_OF_RANGE;
-    *whole = (bits + half) & -2 * half;
+    *rounded = (bits + half) & -2 * half;
     return FONT_OK;
 }
 
@@ -454,75 +623,94 @@ FONT_INLINE FONT_FALLIBLE font_status font_round_i32(
  * Rounds a 64-bit raw value to that of the nearest integer, half up: of 1.5, that of 2.
  * Fails by FONT_BAD_FRACTION, FONT_OUT_OF_RANGE. (The Rust types wrap.)
  */
-FONT_INLINE FONT_FALLIBLE font_status font_round_i64(
-    int64_t bits, uint32_t fraction_bits, int64_t *whole) FONT_API_NOEXCEPT {
+FONT_API_INLINE font_status font_round_i64(
+    int64_t bits, uint32_t fraction_bits, int64_t *rounded) FONT_API_NOEXCEPT {
     if (fraction_bits < 6 || fraction_bits > 30)
         return FONT_BAD_FRACTION;
     const int64_t half = INT64_C(1) << (fraction_bits - 1);
     if (bits > INT64_MAX - half)
         return FONT_OUT_OF_RANGE;
-    *whole = (bits + half) & -2 * half;
+    *rounded = (bits + half) & -2 * half;
     return FONT_OK;
+}
+
+/* ---- sums that wrap: `x - y` of two fields may overflow, which is undefined behavior in C ---- */
+
+/** x + y, of 32-bit raw values of one format; wraps. */
+FONT_API_INLINE int32_t font_fixed_add(int32_t x, int32_t y) FONT_API_NOEXCEPT {
+    return FONT_API_AS(int32_t, FONT_API_AS(uint32_t, x) + FONT_API_AS(uint32_t, y));
+}
+
+/** x - y, of 32-bit raw values of one format; wraps. */
+FONT_API_INLINE int32_t font_fixed_sub(int32_t x, int32_t y) FONT_API_NOEXCEPT {
+    return FONT_API_AS(int32_t, FONT_API_AS(uint32_t, x) - FONT_API_AS(uint32_t, y));
+}
+
+/** The number of bytes of a delta set of `count` deltas, for font_delta_set_sum. */
+FONT_API_INLINE size_t font_delta_set_length(
+    uint16_t word_count, uint16_t count) FONT_API_NOEXCEPT {
+    const size_t size = (word_count & 0x8000) != 0 ? 2 : 1;
+    return size * (FONT_API_AS(size_t, count) + (word_count & 0x7FFFu));
 }
 
 /* ---- the functions of three formats, with their types and fraction bits ---- */
 
 /** font_parse_i32 of 16.16. */
-FONT_INLINE FONT_FALLIBLE font_status font_fixed_parse(
+FONT_API_INLINE font_status font_fixed_parse(
     const char *text, size_t length, int32_t *bits) FONT_API_NOEXCEPT {
     return font_parse_i32(text, length, FONT_FIXED_BITS, bits);
 }
 
 /** font_format of 16.16. */
-FONT_INLINE FONT_FALLIBLE font_status font_fixed_format(
+FONT_API_INLINE font_status font_fixed_format(
     int32_t bits, char *out, size_t room, size_t *length) FONT_API_NOEXCEPT {
     return font_format(bits, FONT_FIXED_BITS, out, room, length);
 }
 
 /** font_format_padded of 16.16. */
-FONT_INLINE FONT_FALLIBLE font_status font_fixed_format_padded(
+FONT_API_INLINE font_status font_fixed_format_padded(
     int32_t bits, const font_pad *pad, char *out, size_t room, size_t *length) FONT_API_NOEXCEPT {
     return font_format_padded(bits, FONT_FIXED_BITS, pad, out, room, length);
 }
 
 /** font_parse_i16 of 2.14. */
-FONT_INLINE FONT_FALLIBLE font_status font_f2dot14_parse(
+FONT_API_INLINE font_status font_f2dot14_parse(
     const char *text, size_t length, int16_t *bits) FONT_API_NOEXCEPT {
     return font_parse_i16(text, length, FONT_F2DOT14_BITS, bits);
 }
 
 /** font_format of 2.14. */
-FONT_INLINE FONT_FALLIBLE font_status font_f2dot14_format(
+FONT_API_INLINE font_status font_f2dot14_format(
     int16_t bits, char *out, size_t room, size_t *length) FONT_API_NOEXCEPT {
     return font_format(bits, FONT_F2DOT14_BITS, out, room, length);
 }
 
 /** font_format_padded of 2.14. */
-FONT_INLINE FONT_FALLIBLE font_status font_f2dot14_format_padded(
+FONT_API_INLINE font_status font_f2dot14_format_padded(
     int16_t bits, const font_pad *pad, char *out, size_t room, size_t *length) FONT_API_NOEXCEPT {
     return font_format_padded(bits, FONT_F2DOT14_BITS, pad, out, room, length);
 }
 
 /** font_parse_i32 of 26.6. */
-FONT_INLINE FONT_FALLIBLE font_status font_f26dot6_parse(
+FONT_API_INLINE font_status font_f26dot6_parse(
     const char *text, size_t length, int32_t *bits) FONT_API_NOEXCEPT {
     return font_parse_i32(text, length, FONT_F26DOT6_BITS, bits);
 }
 
 /** font_format of 26.6. */
-FONT_INLINE FONT_FALLIBLE font_status font_f26dot6_format(
+FONT_API_INLINE font_status font_f26dot6_format(
     int32_t bits, char *out, size_t room, size_t *length) FONT_API_NOEXCEPT {
     return font_format(bits, FONT_F26DOT6_BITS, out, room, length);
 }
 
 /** font_format_padded of 26.6. */
-FONT_INLINE FONT_FALLIBLE font_status font_f26dot6_format_padded(
+FONT_API_INLINE font_status font_f26dot6_format_padded(
     int32_t bits, const font_pad *pad, char *out, size_t room, size_t *length) FONT_API_NOEXCEPT {
     return font_format_padded(bits, FONT_F26DOT6_BITS, pad, out, room, length);
 }
 
 /** The meaning of a status, in words. */
-FONT_INLINE const char *font_status_text(font_status status) FONT_API_NOEXCEPT {
+FONT_API_INLINE const char *font_status_text(font_status status) FONT_API_NOEXCEPT {
     switch (status) {
     case FONT_OK: return "done";
     case FONT_NOT_DECIMAL: return "not a decimal number";
@@ -540,6 +728,7 @@ FONT_INLINE const char *font_status_text(font_status status) FONT_API_NOEXCEPT {
     return "unknown status";
 }
 
+/** @cond */
 #if defined(__cplusplus) || (defined(__STDC_VERSION__) && __STDC_VERSION__ >= 201112L)
 #ifdef __cplusplus
 #define FONT_API_ASSERT(CONDITION) static_assert(CONDITION, #CONDITION)
@@ -551,14 +740,17 @@ FONT_API_ASSERT(sizeof(font_matrix) == 24 && offsetof(font_matrix, dy) == 20);
 FONT_API_ASSERT(sizeof(font_point) == 8 && offsetof(font_point, y) == 4);
 FONT_API_ASSERT(sizeof(font_pad) == 2 * sizeof(size_t) || sizeof(size_t) < 4);
 FONT_API_ASSERT(offsetof(font_pad, fill) == sizeof(size_t));
+FONT_API_ASSERT(offsetof(font_view, length) == sizeof(const uint8_t *));
 #undef FONT_API_ASSERT
 #endif
 
 #undef FONT_API_NOEXCEPT
+#undef FONT_API_NULL
+#undef FONT_API_AS
 #undef FONT_API_CONST
 #undef FONT_API_MUST_USE
-#undef FONT_PURE
-#undef FONT_FALLIBLE
-#undef FONT_INLINE
+#undef FONT_API_PURE
+#undef FONT_API_INLINE
+/** @endcond */
 
 #endif

@@ -30,34 +30,23 @@ static wide fract(int fraction_bits, wide number) {
     return (number % one + one) % one;
 }
 
-/* The lines that each width has. */
-#define CHECK_EACH(WIDTH, FRACTION_BITS)                                    \
-    const wide total = (wide)x + y, left = (wide)x - y;                     \
-    check("sum", sum, wrap(WIDTH, total));                                  \
-    check("difference", difference, wrap(WIDTH, left));                     \
-    check("opposite", opposite, wrap(WIDTH, -(wide)x));                     \
-    check("magnitude", magnitude, wrap(WIDTH, x < 0 ? -(wide)x : x));       \
-    check("fraction", fraction, fract(FRACTION_BITS, x));                   \
-    check("largest", largest, (wide)x - fract(FRACTION_BITS, x));           \
-    check("fits", fits, total == wrap(WIDTH, total));                       \
-    check("most", most, saturate(WIDTH, total));                            \
-    check("least", least, saturate(WIDTH, left))
-
 static void check_32(int32_t x, int32_t y) {
 #include "lines_32.inc"
-    CHECK_EACH(32, 16);
-    check("exact", exact, total);
+    check("opposite", opposite, wrap(32, -(wide)x));
+    check("magnitude", magnitude, wrap(32, x < 0 ? -(wide)x : x));
+    check("largest", largest, (wide)x - fract(16, x));
+    check("fraction", fraction, fract(16, x));
     check("rounded", rounded, wrap(32, (wide)x + 32768 - fract(16, (wide)x + 32768)));
-    check("product", product, (wide)x * y);
     check("number", number, wrap(32, (wide)x * 65536));
-    check("number_26_6", number_26_6, wrap(32, (wide)x * 64));
-    check("in_2_30", in_2_30, wrap(32, (wide)x * 16384));
-    check("in_48_16", in_48_16, x);
+    check("exact", exact, (wide)x + y);
+    check("fits", fits, (wide)x + y == wrap(32, (wide)x + y));
+    check("most", most, saturate(32, (wide)x + y));
 }
 
 static void check_16(int16_t x, int16_t y) {
 #include "lines_16.inc"
-    CHECK_EACH(16, 14);
+    check("sum", sum, wrap(16, (wide)x + y));
+    check("difference", difference, wrap(16, (wide)x - y));
     check("in_16_16", in_16_16, (wide)x * 4);
     check("in_2_30", in_2_30, (wide)x * 65536);
     check("units", units, (wide)x * 65536);
@@ -65,9 +54,13 @@ static void check_16(int16_t x, int16_t y) {
 
 static void check_64(int64_t x, int64_t y) {
 #include "lines_64.inc"
-    CHECK_EACH(64, 16);
-    check("number", number, wrap(64, (wide)x * 65536));
-    check("in_16_16", in_16_16, wrap(32, x));
+    const wide total = (wide)x + y, left = (wide)x - y;
+    check("sum", sum, wrap(64, total));
+    check("difference", difference, wrap(64, left));
+    check("fits", fits, total == wrap(64, total));
+    check("most", most, saturate(64, total));
+    check("apart", apart, left == wrap(64, left));
+    check("least", least, saturate(64, left));
     check("integer", integer, wrap(32, ((wide)x + 32768 - fract(16, (wide)x + 32768)) / 65536));
 }
 

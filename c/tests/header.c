@@ -26,21 +26,21 @@ static void check(const char *name, int64_t x, int64_t y, int64_t found, int64_t
 /* ---- rounding ---- */
 
 /* The status of rounding a raw value, and what is stored. */
-static font_status rounded(int width, int64_t bits, uint32_t f, int64_t *whole) {
-    int16_t whole_16 = KEPT;
-    int32_t whole_32 = KEPT;
-    int64_t whole_64 = KEPT;
-    const font_status status = width == 16   ? font_round_i16((int16_t)bits, f, &whole_16)
-                               : width == 32 ? font_round_i32((int32_t)bits, f, &whole_32)
-                                             : font_round_i64(bits, f, &whole_64);
-    *whole = width == 16 ? whole_16 : width == 32 ? whole_32 : whole_64;
+static font_status rounded(int width, int64_t bits, uint32_t f, int64_t *result) {
+    int16_t result_16 = KEPT;
+    int32_t result_32 = KEPT;
+    int64_t result_64 = KEPT;
+    const font_status status = width == 16   ? font_round_i16((int16_t)bits, f, &result_16)
+                               : width == 32 ? font_round_i32((int32_t)bits, f, &result_32)
+                                             : font_round_i64(bits, f, &result_64);
+    *result = width == 16 ? result_16 : width == 32 ? result_32 : result_64;
     return status;
 }
 
 static void check_rounded(int width, int64_t bits, uint32_t f, font_status status, int64_t result) {
-    int64_t whole;
-    check("status of round", bits, f, rounded(width, bits, f, &whole), status);
-    check("round", bits, f, whole, result);
+    int64_t found;
+    check("status of round", bits, f, rounded(width, bits, f, &found), status);
+    check("round", bits, f, found, result);
 }
 
 /* The nearest integer, half up, as a raw value, by a division that rounds down. */
@@ -88,38 +88,58 @@ static void check_widths(void) {
 
 /* ---- fields ---- */
 
-/* The status of reading a field, and what is stored. */
-typedef font_status read_field(const uint8_t *, size_t, size_t, int64_t *);
+/* The status of reading a field, what is stored, and the value alone. */
+struct reading {
+    font_status status;
+    int64_t stored, alone;
+};
 
-#define READ(FIELD, READ_FIELD, VALUE)                                                    \
-    static font_status read_##FIELD(const uint8_t *bytes, size_t length, size_t offset,   \
-                                    int64_t *number) {                                    \
-        VALUE value = KEPT;                                                               \
-        font_status (*const read)(const uint8_t *, size_t, size_t, VALUE *) = READ_FIELD; \
-        const font_status status = read(bytes, length, offset, &value);                   \
-        *number = value;                                                                  \
-        return status;                                                                    \
+#define READ(NAME, VALUE, READ_FIELD, FIELD)                                \
+    static struct reading NAME(font_view view, size_t offset) {             \
+        font_status (*const read)(font_view, size_t, VALUE *) = READ_FIELD; \
+        VALUE (*const field)(font_view, size_t) = FIELD;                    \
+        VALUE value = KEPT;                                                 \
+        struct reading reading;                                             \
+        reading.status = read(view, offset, &value);                        \
+        reading.stored = value;                                             \
+        reading.alone = field(view, offset);                                \
+        return reading;                                                     \
     }
 
-READ(u8, font_read_u8, uint8_t)
-READ(i8, font_read_i8, int8_t)
-READ(u16, font_read_u16, uint16_t)
-READ(i16, font_read_i16, int16_t)
-READ(u24, font_read_u24, uint32_t)
-READ(i24, font_read_i24, int32_t)
-READ(u32, font_read_u32, uint32_t)
-READ(i32, font_read_i32, int32_t)
-READ(i64, font_read_i64, int64_t)
+READ(u8, uint8_t, font_read_u8, font_u8)
+READ(i8, int8_t, font_read_i8, font_i8)
+READ(u16, uint16_t, font_read_u16, font_u16)
+READ(i16, int16_t, font_read_i16, font_i16)
+READ(u24, uint32_t, font_read_u24, font_u24)
+READ(i24, int32_t, font_read_i24, font_i24)
+READ(u32, uint32_t, font_read_u32, font_u32)
+READ(i32, int32_t, font_read_i32, font_i32)
+READ(i64, int64_t, font_read_i64, font_i64)
+
+static struct reading uint_of(font_view view, size_t offset, size_t size) {
+    uint32_t value = KEPT;
+    struct reading reading;
+    reading.status = font_read_uint(view, offset, size, &value);
+    reading.stored = value;
+    reading.alone = font_uint(view, offset, size);
+    return reading;
+}
+
+static struct reading uint_1(font_view view, size_t offset) { return uint_of(view, offset, 1); }
+static struct reading uint_2(font_view view, size_t offset) { return uint_of(view, offset, 2); }
+static struct reading uint_3(font_view view, size_t offset) { return uint_of(view, offset, 3); }
+static struct reading uint_4(font_view view, size_t offset) { return uint_of(view, offset, 4); }
 
 static const struct field {
     const char *name;
-    read_field *read;
+    struct reading (*read)(font_view, size_t);
     size_t size;
     int is_signed;
 } fields[] = {
-    {"u8", read_u8, 1, 0},   {"i8", read_i8, 1, 1},   {"u16", read_u16, 2, 0},
-    {"i16", read_i16, 2, 1}, {"u24", read_u24, 3, 0}, {"i24", read_i24, 3, 1},
-    {"u32", read_u32, 4, 0}, {"i32", read_i32, 4, 1}, {"i64", read_i64, 8, 1},
+    {"u8", u8, 1, 0},   {"i8", i8, 1, 1},     {"u16", u16, 2, 0},    {"i16", i16, 2, 1},
+    {"u24", u24, 3, 0}, {"i24", i24, 3, 1},   {"u32", u32, 4, 0},    {"i32", i32, 4, 1},
+    {"i64", i64, 8, 1}, {"u8", uint_1, 1, 0}, {"u16", uint_2, 2, 0}, {"u24", uint_3, 3, 0},
+    {"u32", uint_4, 4, 0},
 };
 enum { FIELDS = sizeof fields / sizeof fields[0] };
 
@@ -133,20 +153,34 @@ static int64_t number_of(const uint8_t *bytes, size_t size, int is_signed) {
     return (int64_t)number;
 }
 
-static void check_field(const struct field *field, const uint8_t *bytes, size_t length,
-                        size_t offset) {
-    const int within = length >= field->size && offset <= length - field->size;
-    int64_t number;
-    const font_status status = field->read(bytes, length, offset, &number);
-    check(field->name, (int64_t)length, (int64_t)offset, status,
-          within ? FONT_OK : FONT_OUT_OF_BOUNDS);
-    check(field->name, (int64_t)length, (int64_t)offset, number,
-          within ? number_of(bytes + offset, field->size, field->is_signed) : KEPT);
+static font_view view_of(const uint8_t *bytes, size_t length) {
+    font_view view;
+    view.bytes = bytes, view.length = length;
+    return view;
 }
 
+/* Checks a field that is within a view, or that is not. */
+static void check_reading(const char *name, font_view view, size_t offset, struct reading reading,
+                          int within, int64_t number) {
+    const int64_t x = (int64_t)view.length, y = (int64_t)offset;
+    check(name, x, y, reading.status, within ? FONT_OK : FONT_OUT_OF_BOUNDS);
+    check(name, x, y, reading.stored, within ? number : KEPT);
+    check(name, x, y, reading.alone, within ? number : 0);
+}
+
+static void check_field(const struct field *field, font_view view, size_t offset) {
+    const int within = view.length >= field->size && offset <= view.length - field->size;
+    const int64_t number =
+        within ? number_of(view.bytes + offset, field->size, field->is_signed) : 0;
+    check_reading(field->name, view, offset, field->read(view, offset), within, number);
+}
+
+static const size_t far[] = {SIZE_MAX,     SIZE_MAX - 1, SIZE_MAX - 2, SIZE_MAX - 3,
+                             SIZE_MAX - 7, SIZE_MAX - 8, SIZE_MAX / 2, SIZE_MAX / 2 + 1};
+enum { FAR = sizeof far / sizeof far[0] };
+
 static void check_fields(void) {
-    static const size_t far[] = {SIZE_MAX,     SIZE_MAX - 1, SIZE_MAX - 2, SIZE_MAX - 3,
-                                 SIZE_MAX - 7, SIZE_MAX - 8, SIZE_MAX / 2, SIZE_MAX / 2 + 1};
+    const font_view absent = view_of(NULL, 0);
     for (size_t k = 0; k < FIELDS; k++) {
         for (size_t length = 0; length <= 20; length++) {
             /* Exactly as many bytes, so that the sanitizer sees a read of one more. */
@@ -156,38 +190,50 @@ static void check_fields(void) {
             for (size_t i = 0; i < length; i++)
                 bytes[i] = (uint8_t)(i * 89 + k * 37 + length * 151);
             for (size_t offset = 0; offset <= length + 2; offset++)
-                check_field(&fields[k], bytes, length, offset);
-            for (size_t i = 0; i < sizeof far / sizeof far[0]; i++)
-                check_field(&fields[k], bytes, length, far[i]);
+                check_field(&fields[k], view_of(bytes, length), offset);
+            for (size_t i = 0; i < FAR; i++)
+                check_field(&fields[k], view_of(bytes, length), far[i]);
             free(bytes);
         }
-        check_field(&fields[k], NULL, 0, 0);
-        check_field(&fields[k], NULL, 0, SIZE_MAX);
+        check_field(&fields[k], absent, 0);
+        check_field(&fields[k], absent, SIZE_MAX);
     }
     /* All values of one and of two bytes, in front of others and after them. */
     for (uint32_t n = 0; n <= 0xFFFF; n++) {
         const uint8_t high = (uint8_t)(n >> 8), low = (uint8_t)n;
         const uint8_t bytes[] = {high, low, low, high, high, low, low, high, low, high};
         for (size_t k = 0; k < FIELDS; k++)
-            check_field(&fields[k], bytes, sizeof bytes, n % 3);
+            check_field(&fields[k], view_of(bytes, sizeof bytes), n % 3);
     }
+    /* No integer has these sizes. */
+    static const uint8_t bytes[16] = {1, 2, 3, 4, 5, 6, 7, 8, 9, 10, 11, 12, 13, 14, 15, 16};
+    static const size_t sizes[] = {0, 5, 6, 8, 16, SIZE_MAX};
+    const font_view view = view_of(bytes, sizeof bytes);
+    for (size_t i = 0; i < sizeof sizes / sizeof sizes[0]; i++)
+        check_reading("uint", view, 0, uint_of(view, 0, sizes[i]), 0, 0);
 }
 
-/* ---- arrays ---- */
+/* ---- parts of views ---- */
 
-static void check_array(const uint8_t *bytes, size_t length, size_t offset, size_t count,
-                        size_t size) {
-    static const uint8_t kept = 0;
-    const uint8_t *items = &kept;
+/* Checks a part of a view from an offset on, or that it is absent, with no bytes. */
+static void check_part(const char *name, font_view view, size_t offset, size_t count,
+                       font_view part, int within, size_t length) {
+    const uint8_t *const bytes = !within || view.bytes == NULL ? NULL : view.bytes + offset;
+    check(name, (int64_t)offset, (int64_t)count, part.bytes == bytes, 1);
+    check(name, (int64_t)offset, (int64_t)count, (int64_t)part.length,
+          within ? (int64_t)length : 0);
+}
+
+static void check_items(font_view view, size_t offset, size_t count, size_t size) {
     const unsigned_wide end = offset + (unsigned_wide)count * size;
-    const font_status status = font_read_array(bytes, length, offset, count, size, &items);
-    check("array", (int64_t)offset, (int64_t)count, status,
-          end <= length ? FONT_OK : FONT_OUT_OF_BOUNDS);
-    check("items", (int64_t)offset, (int64_t)count,
-          items == (status != FONT_OK ? &kept : bytes == NULL ? NULL : bytes + offset), 1);
+    const int within = end <= view.length;
+    check_part("items", view, offset, count, font_items(view, offset, count, size), within,
+               count * size);
+    if (size == 1)
+        check_part("part", view, offset, count, font_part(view, offset, count), within, count);
 }
 
-static void check_arrays(void) {
+static void check_parts(void) {
     static const uint8_t bytes[24] = {0};
     static const size_t numbers[] = {0, 1, 2, 3, 4, 5, 7, 8, 11, 12, 13, 23, 24, 25, 0x80000000,
                                      SIZE_MAX / 4, SIZE_MAX / 2, SIZE_MAX / 2 + 1, SIZE_MAX - 1,
@@ -195,17 +241,67 @@ static void check_arrays(void) {
     const size_t count = sizeof numbers / sizeof numbers[0];
     for (size_t i = 0; i < count; i++) {
         for (size_t j = 0; j < count; j++) {
-            for (size_t size = 1; size <= 16; size++) {
-                check_array(bytes, 24, numbers[i], numbers[j], size);
-                check_array(bytes, 13, numbers[i], numbers[j], size);
-                check_array(NULL, 0, numbers[i], numbers[j], size);
+            for (size_t size = 0; size <= 16; size++) {
+                check_items(view_of(bytes, 24), numbers[i], numbers[j], size);
+                check_items(view_of(bytes, 13), numbers[i], numbers[j], size);
+                check_items(view_of(NULL, 0), numbers[i], numbers[j], size);
             }
-            check_array(bytes, 24, numbers[i], numbers[j], SIZE_MAX);
+            check_items(view_of(bytes, 24), numbers[i], numbers[j], SIZE_MAX);
         }
     }
 }
 
-/* ---- rows of the proved Rust: a width or the name of a field, two arguments, the result ---- */
+/* The bytes from where the offset `start`, at `offset`, points: views of fewer bytes end in it. */
+static void check_start(uint32_t start, size_t length, size_t offset) {
+    uint8_t bytes[12] = {0};
+    const font_view view = view_of(bytes, length);
+    for (size_t i = 0; i < 4; i++)
+        if (offset < 9)
+            bytes[offset + i] = (uint8_t)(start >> (24 - 8 * i));
+    const int within =
+        length >= 4 && offset <= length - 4 && start != 0 && start <= length;
+    check_part("offset32", view, within ? start : 0, length, font_at_offset32(view, offset), within,
+               length - start);
+}
+
+static void check_starts(void) {
+    static const uint32_t others[] = {0x100, 0x10000, 0x1000000, 0x7FFFFFFF, 0x80000000,
+                                      0xFFFFFFFF};
+    for (size_t length = 0; length <= 12; length++) {
+        for (size_t offset = 0; offset <= 12; offset++) {
+            for (uint32_t start = 0; start <= 14; start++)
+                check_start(start, length, offset);
+            for (size_t i = 0; i < sizeof others / sizeof others[0]; i++)
+                check_start(others[i], length, offset);
+        }
+        for (size_t i = 0; i < FAR; i++)
+            check_start(1, length, far[i]);
+    }
+    check_part("offset32", view_of(NULL, 0), 0, 0, font_at_offset32(view_of(NULL, 0), 0), 0, 0);
+}
+
+/* ---- sums ---- */
+
+/* A number modulo 2^32, in two's complement. */
+static int64_t wrap(int64_t number) {
+    const int64_t half = INT64_C(1) << 31;
+    return ((number + half) & 0xFFFFFFFF) - half;
+}
+
+static void check_sums(void) {
+    static const int32_t numbers[] = {INT32_MIN, INT32_MIN + 1, -65536, -1, 0,
+                                      1,         65536,         98304,  INT32_MAX - 1, INT32_MAX};
+    const size_t count = sizeof numbers / sizeof numbers[0];
+    for (size_t i = 0; i < count; i++) {
+        for (size_t j = 0; j < count; j++) {
+            const int32_t x = numbers[i], y = numbers[j];
+            check("add", x, y, font_fixed_add(x, y), wrap((int64_t)x + y));
+            check("sub", x, y, font_fixed_sub(x, y), wrap((int64_t)x - y));
+        }
+    }
+}
+
+/* ---- rows of the proved Rust: a width, a sum or a field, two arguments, and the result ---- */
 
 /* As rows.rs has them. */
 static const uint8_t row_bytes[] = {0x00, 0x80, 0xFF, 0x7F, 0xE3, 0x06, 0x29, 0x4C,
@@ -223,15 +319,15 @@ static void check_row(const char *kind, int64_t x, uint64_t y, const char *resul
             check_rounded(width, bits, (uint32_t)x, FONT_OK, expected);
         return;
     }
-    const int none = strcmp(result, "none") == 0;
-    for (size_t k = 0; k < FIELDS; k++) {
-        if (strcmp(kind, fields[k].name) != 0)
-            continue;
-        int64_t number;
-        const font_status status = fields[k].read(row_bytes, (size_t)x, (size_t)y, &number);
-        check(kind, x, (int64_t)y, status, none ? FONT_OUT_OF_BOUNDS : FONT_OK);
-        check(kind, x, (int64_t)y, number, none ? KEPT : expected);
-    }
+    if (strcmp(kind, "add") == 0)
+        check(kind, x, (int64_t)y, font_fixed_add((int32_t)x, (int32_t)y), expected);
+    if (strcmp(kind, "sub") == 0)
+        check(kind, x, (int64_t)y, font_fixed_sub((int32_t)x, (int32_t)y), expected);
+    const font_view view = view_of(row_bytes, (size_t)x);
+    for (size_t k = 0; k < FIELDS; k++)
+        if (strcmp(kind, fields[k].name) == 0)
+            check_reading(kind, view, (size_t)y, fields[k].read(view, (size_t)y),
+                          strcmp(result, "none") != 0, expected);
 }
 
 static int check_rows(const char *path) {
@@ -249,7 +345,9 @@ static int check_rows(const char *path) {
 int main(int count, char **paths) {
     check_widths();
     check_fields();
-    check_arrays();
+    check_parts();
+    check_starts();
+    check_sums();
     const int rows = count > 1 ? check_rows(paths[1]) : 0;
     printf("header: %d checks, %d failed, %d rows of the proved Rust\n", checks, failures, rows);
     return failures == 0 && (count < 2 || rows > 0) ? 0 : 1;

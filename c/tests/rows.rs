@@ -1,8 +1,12 @@
 //! Prints results of the proved Rust, with which `c/tests/header.c` compares the functions that the
-//! header has in C: raw values rounded to integers, and fields of 16 bytes. `rows FONT LONG` writes
-//! two fonts that `dump` reads, with delta sets of short and of long words.
+//! header has in C: raw values rounded to integers, sums that wrap, and fields of 16 bytes.
+//! `rows CASES FONT` writes fonts, with what `c/examples/advance.c` has to say of them, and one of
+//! these.
+mod cases;
 #[path = "../../tests/fonts/mod.rs"]
 mod fonts;
+#[path = "../../examples/instance.rs"]
+mod instance;
 
 use font_types_proved::{
     F2Dot14, F2Dot30, F4Dot12, F6Dot10, F26Dot6, F48Dot16, Fixed, Int24, Scalar, Uint24,
@@ -13,8 +17,8 @@ use fonts::{font, variations, words};
 macro_rules! round {
     ($format:ident, $width:literal, $fraction_bits:literal, $raw_values:expr) => {
         for bits in $raw_values {
-            let whole = $format::from_bits(bits).round().to_bits();
-            println!("{} {} {bits} {whole}", $width, $fraction_bits);
+            let rounded = $format::from_bits(bits).round().to_bits();
+            println!("{} {} {bits} {rounded}", $width, $fraction_bits);
         }
     };
 }
@@ -62,19 +66,22 @@ fn raw_values() -> impl Iterator<Item = i64> {
     some.chain(near_ends.into_iter().flatten()).chain(random)
 }
 
-/// Delta sets of two glyphs, each of two deltas.
-fn hvar(word_count: u16, sets: &[u8]) -> Vec<u8> {
-    [&words(&variations(0, &[2, word_count, 2, 0, 1])), sets].concat()
+/// Prints the sum and the difference, which wrap, of each number and the one before it.
+fn sums(numbers: impl Iterator<Item = i32>) {
+    let mut x = Fixed::MAX;
+    for y in numbers.map(Fixed::from_bits) {
+        let [x_bits, y_bits] = [x, y].map(Fixed::to_bits);
+        println!("add {x_bits} {y_bits} {}", (x + y).to_bits());
+        println!("sub {x_bits} {y_bits} {}", (x - y).to_bits());
+        x = y;
+    }
 }
 
 fn main() {
     let paths: Vec<_> = std::env::args_os().skip(1).collect();
-    if let [short, long] = &paths[..] {
-        let sets = [0, 100, 226, 1, 44, 253];
-        std::fs::write(short, font(hvar(1, &sets))).expect("a new file");
-        let sets = [0, 0, 0, 0, 0, 0, 0, 1, 134, 160, 252, 24];
-        std::fs::write(long, font(hvar(0x8001, &sets))).expect("a new file");
-        return;
+    if let [path, font] = &paths[..] {
+        std::fs::write(path, cases::cases()).expect("a new file");
+        return std::fs::write(font, cases::whole()).expect("a new file");
     }
     round!(F2Dot14, 16, 14, i16::MIN..=i16::MAX);
     round!(F4Dot12, 16, 12, i16::MIN..=i16::MAX);
@@ -84,6 +91,7 @@ fn main() {
     round!(F26Dot6, 32, 6, of_32());
     round!(F2Dot30, 32, 30, of_32());
     round!(F48Dot16, 64, 16, raw_values());
+    sums(of_32());
     read!("u8", u8, i64::from);
     read!("i8", i8, i64::from);
     read!("u16", u16, i64::from);

@@ -693,6 +693,32 @@ static void check_sets(void) {
                 FONT_COUNT_MISMATCH);
 }
 
+/* The length of a set is the only one that font_delta_set_sum takes. */
+static void check_lengths(void) {
+    static const uint16_t numbers[] = {0,      1,      2,      3,      255,    256,   0x7FFF,
+                                       0x8000, 0x8001, 0x8002, 0x80FF, 0x8100, 65535};
+    static const int32_t scalars[MOST_SCALARS] = {0};
+    static const uint8_t set[2 * (MOST_SCALARS + 0x7FFF) + 1] = {0};
+    for (size_t i = 0; i < COUNT(numbers); i++) {
+        for (size_t j = 0; j < COUNT(numbers); j++) {
+            const uint16_t count = numbers[i], words = numbers[j];
+            const size_t length = font_delta_set_length(words, count);
+            if ((words & 0x7FFF) > count)
+                continue;
+            check_value("lengths", i, sum_of_set(scalars, count, set, length, words), 0);
+            if (length > 0)
+                check_error("lengths, less", i, sum_of_set(scalars, count, set, length - 1, words),
+                            FONT_COUNT_MISMATCH);
+            check_error("lengths, more", i, sum_of_set(scalars, count, set, length + 1, words),
+                        FONT_COUNT_MISMATCH);
+        }
+    }
+    check("lengths", 0, "of 2", (int64_t)font_delta_set_length(1, 2), 3);
+    check("lengths", 1, "of 2, long", (int64_t)font_delta_set_length(0x8001, 2), 6);
+    check("lengths", 2, "of none", (int64_t)font_delta_set_length(0xFFFF, 0), 65534);
+    check("lengths", 3, "of most", (int64_t)font_delta_set_length(0xFFFF, 65535), 196604);
+}
+
 static void check_applied(void) {
     for (size_t i = 0; i < COUNT(applied); i++)
         check_result("applied", i, applied[i].apply(applied[i].base, applied[i].delta),
@@ -787,6 +813,7 @@ int main(int count, char **arguments) {
     check_matrices();
     check_sums();
     check_sets();
+    check_lengths();
     check_applied();
     check_tags();
     check_nulls();

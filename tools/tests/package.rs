@@ -76,6 +76,7 @@ fn versions_are_alike() {
         "tools/Cargo.toml",
     ] {
         assert_eq!(version(path, "\nversion = \""), header, "{path}");
+        assert!(text(path).contains("\npublish = false\n"), "{path}");
     }
 }
 

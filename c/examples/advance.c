@@ -1,0 +1,482 @@
+/*
+ * advance FONT SIZE TEXT [TAG=VALUE ..] prints, for each character of a text in UTF-8, its glyph
+ * and the advance of that in an instance of the font: in font units, and in pixels at SIZE pixels
+ * per em. For example: advance font.ttf 16 AVA wght=650. The last value of an axis counts.
+ *
+ * It prints what is right for the font; or, if the font is broken, or has a form that is not read
+ * here, only a message, and returns 1.
+ */
+#include "font_types.h"
+
+#include <stdio.h>
+#include <stdlib.h>
+#include <string.h>
+
+enum { AXES = 64, REGIONS = 1024, NO_VARIATION = 0xFFFF, ONE = 65536, MOST_PIXELS = 4096 * 64 };
+
+/* A value of an axis, in 16.16. */
+struct setting {
+    uint32_t tag;
+    int32_t value;
+};
+
+/* What is asked for, with the size in 26.6. */
+struct request {
+    const char *text;
+    int32_t size;
+    const struct setting *settings;
+    size_t setting_count;
+};
+
+/* What is printed for a character, with the pixels in 26.6. */
+struct advance {
+    uint32_t code, glyph;
+    uint16_t units;
+    int32_t pixels;
+};
+
+/*
+ * A font in an instance, and the first thing that is wrong with it. After that, views are absent
+ * and fields 0, so that each function goes on to its end, without a loop and without a result.
+ */
+struct font {
+    const char *error;
+    font_view file, cmap, metrics, axes, hvar;
+    size_t axis_size, axis_count;
+    uint16_t units_per_em, glyph_count;
+    int16_t coordinates[AXES]; /* 2.14 */
+};
+
+static const font_view absent = {NULL, 0};
+
+static void require(struct font *font, int condition, const char *message) {
+    if (!condition && font->error == NULL)
+        font->error = message;
+}
+
+/* A view that must not be absent. */
+static font_view required(struct font *font, font_view view, const char *message) {
+    require(font, view.bytes != NULL, message);
+    return font->error == NULL ? view : absent;
+}
+
+/* The bytes from where an offset points, at least `length`; absent if the offset is 0. */
+static font_view at_offset(struct font *font, font_view view, size_t offset, size_t length,
+                           const char *message) {
+    if (font_u32(required(font, font_part(view, offset, 4), message), 0) == 0)
+        return absent;
+    const font_view found = font_at_offset32(view, offset);
+    (void)required(font, font_part(found, 0, length), message);
+    return required(font, found, message);
+}
+
+/* A table of at least `length` bytes; absent if the font has none. */
+static font_view table(struct font *font, uint32_t tag, size_t length, const char *message) {
+    const font_view records = required(
+        font, font_items(font->file, 12, font_u16(font->file, 4), 16),
+        "the records of the tables end early");
+    font_view found = absent;
+    for (size_t i = 0; i < records.length; i += 16) {
+        require(font, i == 0 || font_u32(records, i - 16) < font_u32(records, i),
+                "the tables are out of order");
+        if (font_u32(records, i) != tag)
+            continue;
+        found = font_part(font->file, font_u32(records, i + 8), font_u32(records, i + 12));
+        (void)required(font, font_part(found, 0, length), message);
+    }
+    return font->error == NULL ? found : absent;
+}
+
+/* ---- `cmap`: the glyph of a character ---- */
+
+/* Stores the glyph of a character by format 4, if it has one. */
+static int map_by_4(struct font *font, font_view map, uint32_t code, uint32_t *glyph) {
+    const char *const early = "cmap: format 4 ends early";
+    const size_t size = font_u16(map, 6) / 2 * 2u;
+    const font_view ends = required(font, font_part(map, 14, size), early);
+    const font_view rest = required(font, font_part(map, 16 + size, 3 * size), early);
+    size_t at = size;
+    for (size_t i = ends.length; i > 0; i -= 2) {
+        require(font, i == 2 || font_u16(ends, i - 4) < font_u16(ends, i - 2),
+                "cmap: segments out of order");
+        if (code <= font_u16(ends, i - 2))
+            at = i - 2;
+    }
+    const uint32_t start = font_u16(rest, at);
+    if (at == size || code < start || font->error != NULL)
+        return 0;
+    const uint16_t delta = font_u16(rest, at + size), offset = font_u16(rest, at + 2 * size);
+    uint32_t number = code;
+    if (offset != 0) {
+        /* From the place of the offset itself. */
+        const size_t place = 16 + 3 * size + at + offset + 2 * (size_t)(code - start);
+        number = font_u16(required(font, font_part(map, place, 2), early), 0);
+        if (number == 0)
+            return 0;
+    }
+    *glyph = (number + delta) & 0xFFFF;
+    return 1;
+}
+
+/* Stores the glyph of a character by format 12, if it has one. */
+static int map_by_12(struct font *font, font_view map, uint32_t code, uint32_t *glyph) {
+    const font_view groups = required(font, font_items(map, 16, font_u32(map, 12), 12),
+                                      "cmap: format 12 ends early");
+    int is_found = 0;
+    for (size_t i = 0; i < groups.length; i += 12) {
+        const uint32_t start = font_u32(groups, i), end = font_u32(groups, i + 4);
+        require(font, start <= end && (i == 0 || font_u32(groups, i - 8) < start),
+                "cmap: groups out of order");
+        if (start <= code && code <= end) {
+            *glyph = font_u32(groups, i + 8) + (code - start);
+            is_found = 1;
+        }
+    }
+    return is_found;
+}
+
+/* The glyph of a character by the first subtable of format 4 or 12 that has it, or .notdef. */
+static uint32_t glyph_of(struct font *font, uint32_t code) {
+    const font_view records = required(
+        font, font_items(font->cmap, 4, font_u16(font->cmap, 2), 8), "cmap ends early");
+    uint32_t glyph = 0;
+    int is_read = 0, is_found = 0;
+    for (size_t i = 0; i < records.length && !is_found; i += 8) {
+        const uint16_t platform = font_u16(records, i), encoding = font_u16(records, i + 2);
+        const char *const early = "cmap: a subtable ends early";
+        const font_view map =
+            required(font, at_offset(font, font->cmap, 8 + i, 2, early), early);
+        const uint16_t format = font_u16(map, 0);
+        if (format != 4 && format != 12)
+            continue;
+        require(font, platform == 0 || (platform == 3 && (encoding == 1 || encoding == 10)),
+                "cmap: not for Unicode");
+        is_read = 1;
+        if (format == 12)
+            is_found = map_by_12(font, map, code, &glyph);
+        else if (code <= 0xFFFF)
+            is_found = map_by_4(font, map, code, &glyph);
+    }
+    require(font, is_read, "no cmap of format 4 or 12");
+    require(font, glyph < font->glyph_count, "cmap: a glyph that the font does not have");
+    return glyph;
+}
+
+/* ---- `fvar` and `avar`: the coordinates of the instance ---- */
+
+/* A coordinate by a segment map, between two of its records. */
+static int32_t mapped(struct font *font, font_view map, int32_t x) {
+    int32_t result = x, low = 0, low_to = 0;
+    int is_found = map.length == 0;
+    for (size_t i = 0; i < map.length; i += 4) {
+        const int32_t from = font_i16(map, i) * 4, to = font_i16(map, i + 2) * 4;
+        require(font, i == 0 || low < from, "avar: a segment map is out of order");
+        if (x == from)
+            result = to, is_found = 1;
+        else if (i > 0 && low < x && x < from)
+            result = low_to + font_fixed_mul_div(x - low, to - low_to, from - low), is_found = 1;
+        low = from, low_to = to;
+    }
+    require(font, is_found, "avar: a segment map without the coordinate");
+    return result;
+}
+
+/* The coordinate of a value of an axis, from -1 to 1, in 16.16, before `avar`. */
+static int32_t normalized(struct font *font, font_view axis, int32_t value) {
+    const int32_t min = font_i32(axis, 4), usual = font_i32(axis, 8), max = font_i32(axis, 12);
+    require(font, min <= usual && usual <= max, "fvar: the values of an axis are out of order");
+    const int32_t x = value < min ? min : value > max ? max : value;
+    if (x == usual || font->error != NULL)
+        return 0;
+    const int32_t side = x < usual ? font_fixed_sub(usual, min) : font_fixed_sub(max, usual);
+    require(font, side > 0, "fvar: the values of an axis are too far apart");
+    return font_fixed_div(font_fixed_sub(x, usual), side);
+}
+
+/* The value of an axis that is asked for, or its default. */
+static int32_t value_of(font_view axis, const struct request *request) {
+    int32_t value = font_i32(axis, 8);
+    for (size_t i = 0; i < request->setting_count; i++)
+        if (request->settings[i].tag == font_u32(axis, 0))
+            value = request->settings[i].value;
+    return value;
+}
+
+/* Stores the coordinates, in 2.14. */
+static void set_coordinates(struct font *font, const struct request *request) {
+    const font_view avar = table(font, FONT_TAG('a', 'v', 'a', 'r'), 8, "avar ends early");
+    const int is_mapped = avar.bytes != NULL && font->axis_count > 0;
+    require(font, !is_mapped || font_u16(avar, 0) == 1, "avar: not of version 1");
+    require(font, !is_mapped || font_u16(avar, 6) == font->axis_count, "avar: not as many axes");
+    size_t place = 8;
+    for (size_t i = 0; i < font->axis_count; i++) {
+        const font_view axis = font_part(font->axes, i * font->axis_size, 20);
+        int32_t x = normalized(font, axis, value_of(axis, request));
+        if (is_mapped) {
+            (void)required(font, font_part(avar, place, 2), "avar ends early");
+            const font_view map = required(
+                font, font_items(avar, place + 2, font_u16(avar, place), 4), "avar ends early");
+            x = mapped(font, map, x);
+            place += 2 + map.length;
+        }
+        x = x < -ONE ? -ONE : x > ONE ? ONE : x;
+        font->coordinates[i] = font_fixed_to_f2dot14(x);
+    }
+}
+
+/* Whether the font has the axes that are asked for. */
+static void require_axes(struct font *font, const struct request *request) {
+    for (size_t i = 0; i < request->setting_count; i++) {
+        int is_found = 0;
+        for (size_t k = 0; k < font->axis_count; k++)
+            is_found |= font_u32(font->axes, k * font->axis_size) == request->settings[i].tag;
+        require(font, is_found, "no such axis");
+    }
+}
+
+/* ---- item variation stores ---- */
+
+/* How much a region counts at the coordinates, in 16.16. */
+static int32_t scalar_of(const struct font *font, font_view region) {
+    int32_t product = ONE;
+    for (size_t i = 0; i < font->axis_count; i++) {
+        const int32_t start = font_i16(region, 6 * i), peak = font_i16(region, 6 * i + 2);
+        const int32_t end = font_i16(region, 6 * i + 4), x = font->coordinates[i];
+        /* An axis whose range is out of order, or on both sides of 0, is ignored. */
+        if (peak == 0 || x == peak || start > peak || peak > end || (start < 0 && end > 0))
+            continue;
+        if (x <= start || x >= end)
+            return 0;
+        product = font_fixed_mul(product, x < peak ? font_fixed_div(x - start, peak - start)
+                                                   : font_fixed_div(end - x, end - peak));
+    }
+    return product;
+}
+
+/* Stores the scalars of the regions of these indices. */
+static void set_scalars(struct font *font, font_view list, font_view indices, int32_t *scalars) {
+    const size_t size = 6 * font->axis_count;
+    const font_view regions = required(font, font_items(list, 4, font_u16(list, 2), size),
+                                       "HVAR: the regions end early");
+    require(font, font_u16(list, 0) == font->axis_count, "HVAR: not as many axes");
+    for (size_t i = 0; i < indices.length / 2; i++) {
+        const font_view region = font_part(regions, size * font_u16(indices, 2 * i), size);
+        scalars[i] = scalar_of(font, required(font, region, "HVAR: no such region"));
+    }
+}
+
+/* The delta of an item at the coordinates, in 48.16. */
+static int64_t delta_of(struct font *font, font_view store, size_t outer, size_t inner) {
+    const char *const early = "HVAR: the store ends early";
+    require(font, font_u16(store, 0) == 1, "HVAR: not a store of format 1");
+    require(font, outer < font_u16(store, 6), "HVAR: no such item");
+    const font_view regions = required(font, at_offset(font, store, 2, 4, early), early);
+    const font_view data = required(font, at_offset(font, store, 8 + 4 * outer, 6, early), early);
+    require(font, inner < font_u16(data, 0), "HVAR: no such item");
+    const uint16_t words = font_u16(data, 2), count = font_u16(data, 4);
+    require(font, count <= REGIONS, "HVAR: too many regions");
+    const font_view indices = required(font, font_items(data, 6, count, 2), early);
+    int32_t scalars[REGIONS] = {0};
+    set_scalars(font, regions, indices, scalars);
+    const size_t length = font_delta_set_length(words, count);
+    const font_view sets =
+        required(font, font_items(data, 6 + indices.length, font_u16(data, 0), length), early);
+    const font_view set = font_part(sets, length * inner, length);
+    int64_t sum = 0;
+    if (font->error == NULL && font_delta_set_sum(scalars, count, set.bytes, set.length, words,
+                                                  &sum) != FONT_OK)
+        require(font, 0, "HVAR: a delta set without a sum");
+    return sum;
+}
+
+/* ---- `hmtx` and `HVAR`: the advance of a glyph ---- */
+
+/* Stores the item of a glyph: by its index, or by a map, whose last entry is that of all others. */
+static void set_item(struct font *font, font_view map, uint32_t glyph, size_t *outer,
+                     size_t *inner) {
+    *outer = 0, *inner = glyph;
+    if (map.bytes == NULL)
+        return;
+    const int is_long = font_u8(map, 0) == 1, bits = (font_u8(map, 1) & 15) + 1;
+    const size_t size = (font_u8(map, 1) >> 4 & 3) + 1u;
+    require(font, font_u8(map, 0) <= 1, "HVAR: not a map of format 0 or 1");
+    (void)required(font, font_part(map, 2, is_long ? 4 : 2), "HVAR: the map ends early");
+    const uint32_t count = font_uint(map, 2, is_long ? 4 : 2);
+    const font_view entries = required(font, font_items(map, is_long ? 6 : 4, count, size),
+                                       "HVAR: the map ends early");
+    require(font, count > 0, "HVAR: the map is empty");
+    const uint32_t entry = font_uint(entries, size * (glyph < count ? glyph : count - 1), size);
+    *outer = entry >> bits, *inner = entry & ((UINT32_C(1) << bits) - 1);
+}
+
+static uint16_t advance_of(struct font *font, uint32_t glyph) {
+    const size_t count = font->metrics.length / 4;
+    uint16_t units = font_u16(font->metrics, 4 * (glyph < count ? glyph : count - 1));
+    if (font->axis_count == 0 || font->hvar.bytes == NULL || font->error != NULL)
+        return units;
+    const char *const early = "HVAR: the store ends early";
+    const font_view store = required(font, at_offset(font, font->hvar, 4, 8, early), early);
+    const font_view map = at_offset(font, font->hvar, 8, 2, "HVAR: the map ends early");
+    size_t outer, inner;
+    set_item(font, map, glyph, &outer, &inner);
+    if (outer == NO_VARIATION && inner == NO_VARIATION)
+        return units;
+    if (font_apply_delta_u16(units, delta_of(font, store, outer, inner), &units) != FONT_OK)
+        require(font, 0, "HVAR: an advance out of range");
+    return units;
+}
+
+/* ---- the font ---- */
+
+/* Reads the tables that each font has. */
+static void read_tables(struct font *font) {
+    const uint32_t kind = font_u32(font->file, 0);
+    require(font, kind == 0x10000 || kind == FONT_TAG('O', 'T', 'T', 'O')
+                      || kind == FONT_TAG('t', 'r', 'u', 'e'), "not a font of one face");
+    const font_view head = table(font, FONT_TAG('h', 'e', 'a', 'd'), 54, "head ends early");
+    const font_view hhea = table(font, FONT_TAG('h', 'h', 'e', 'a'), 36, "hhea ends early");
+    const font_view hmtx = table(font, FONT_TAG('h', 'm', 't', 'x'), 4, "hmtx ends early");
+    const font_view maxp = table(font, FONT_TAG('m', 'a', 'x', 'p'), 6, "maxp ends early");
+    font->cmap = table(font, FONT_TAG('c', 'm', 'a', 'p'), 4, "cmap ends early");
+    font->units_per_em = font_u16(head, 18), font->glyph_count = font_u16(maxp, 4);
+    require(font, 16 <= font->units_per_em && font->units_per_em <= 16384,
+            "head: not 16 to 16384 units per em");
+    require(font, font->cmap.bytes != NULL, "no cmap");
+    require(font, font->glyph_count > 0, "no glyphs");
+    require(font, font_u16(hhea, 34) > 0, "no advances");
+    font->metrics = required(font, font_items(hmtx, 0, font_u16(hhea, 34), 4), "hmtx ends early");
+}
+
+/* Reads the axes, and the table of the advances that vary. */
+static void read_variations(struct font *font) {
+    const font_view fvar = table(font, FONT_TAG('f', 'v', 'a', 'r'), 16, "fvar ends early");
+    const font_view gvar = table(font, FONT_TAG('g', 'v', 'a', 'r'), 0, "gvar ends early");
+    font->hvar = table(font, FONT_TAG('H', 'V', 'A', 'R'), 20, "HVAR ends early");
+    if (fvar.bytes == NULL)
+        return;
+    const size_t count = font_u16(fvar, 8), size = font_u16(fvar, 10);
+    require(font, font_u16(fvar, 0) == 1 && size >= 20, "fvar: not of version 1");
+    require(font, count <= AXES, "fvar: too many axes");
+    require(font, font->hvar.bytes == NULL || font_u16(font->hvar, 0) == 1,
+            "HVAR: not of version 1");
+    require(font, font->hvar.bytes != NULL || gvar.bytes == NULL, "gvar without HVAR");
+    font->axes =
+        required(font, font_items(fvar, font_u16(fvar, 4), count, size), "fvar ends early");
+    font->axis_size = size, font->axis_count = font->error == NULL ? count : 0;
+}
+
+/* Takes a character from a text in UTF-8 that ends with a NUL, which no character goes beyond. */
+static uint32_t next_code(struct font *font, const char **text) {
+    static const uint32_t least[] = {0, 0x80, 0x800, 0x10000};
+    const uint8_t first = (uint8_t)*(*text)++;
+    const int more = first < 0x80 ? 0 : first < 0xE0 ? 1 : first < 0xF0 ? 2 : 3;
+    uint32_t code = more == 0 ? first : first & (0x3Fu >> more);
+    int is_valid = first < 0x80 || (0xC0 <= first && first < 0xF8);
+    for (int i = 0; i < more && is_valid; i++) {
+        is_valid = ((uint8_t)**text & 0xC0) == 0x80;
+        code = code << 6 | ((uint8_t)**text & 0x3F);
+        *text += is_valid;
+    }
+    require(font, is_valid && code >= least[more] && code <= 0x10FFFF
+                      && (code < 0xD800 || code > 0xDFFF), "the text is not UTF-8");
+    return code;
+}
+
+/* Stores the advances of the characters of a text. Returns null, or what is wrong. */
+static const char *read_advances(font_view file, const struct request *request,
+                                 struct advance *advances, size_t *count) {
+    struct font font = {0};
+    font.file = file;
+    read_tables(&font);
+    read_variations(&font);
+    require_axes(&font, request);
+    set_coordinates(&font, request);
+    *count = 0;
+    for (const char *text = request->text; *text != '\0' && font.error == NULL; ++*count) {
+        struct advance *const next = &advances[*count];
+        next->code = next_code(&font, &text);
+        next->glyph = glyph_of(&font, next->code);
+        next->units = advance_of(&font, next->glyph);
+        next->pixels = font_fixed_mul_div(request->size, next->units, font.units_per_em);
+    }
+    return font.error;
+}
+
+/* ---- the program ---- */
+
+/* The bytes of a file, to be freed; or absent. */
+static font_view load(const char *path) {
+    FILE *const file = fopen(path, "rb");
+    uint8_t *bytes = NULL;
+    size_t length = 0, room = 0;
+    int is_read = file != NULL;
+    while (is_read && length == room) {
+        room = room == 0 ? 1 << 16 : 2 * room;
+        uint8_t *const more = (uint8_t *)realloc(bytes, room);
+        is_read = more != NULL;
+        if (is_read) {
+            bytes = more;
+            length += fread(bytes + length, 1, room - length, file);
+        }
+    }
+    is_read = is_read && !ferror(file);
+    if (file != NULL)
+        (void)fclose(file);
+    if (!is_read)
+        free(bytes);
+    return is_read ? (font_view){bytes, length} : absent;
+}
+
+/* Parses TAG=VALUE. */
+static int parse_setting(const char *word, struct setting *setting) {
+    const char *const equals = strchr(word, '=');
+    return equals != NULL
+           && font_tag_new(word, (size_t)(equals - word), &setting->tag) == FONT_OK
+           && font_fixed_parse(equals + 1, strlen(equals + 1), &setting->value) == FONT_OK;
+}
+
+static void print_advance(const struct advance *advance) {
+    char pixels[FONT_DECIMAL_ROOM];
+    size_t length;
+    if (font_f26dot6_format(advance->pixels, pixels, sizeof pixels, &length) == FONT_OK)
+        printf("U+%04X: glyph %u, advance %u, %.*s pixels\n", (unsigned)advance->code,
+               (unsigned)advance->glyph, (unsigned)advance->units, (int)length, pixels);
+}
+
+static int fail(const char *what, const char *message) {
+    fprintf(stderr, "advance: %s: %s\n", what, message);
+    return 1;
+}
+
+/* Reads and prints the advances. */
+static int run(const char *path, const struct request *request) {
+    const font_view file = load(path);
+    struct advance *const advances =
+        (struct advance *)malloc((strlen(request->text) + 1) * sizeof *advances);
+    size_t count = 0;
+    const char *error = "cannot be read";
+    if (file.bytes != NULL && advances != NULL)
+        error = read_advances(file, request, advances, &count);
+    for (size_t i = 0; i < count && error == NULL; i++)
+        print_advance(&advances[i]);
+    free(advances);
+    free((void *)(uintptr_t)file.bytes);
+    if (error != NULL)
+        return fail(path, error);
+    return fflush(stdout) == 0 ? 0 : fail("output", "cannot be written");
+}
+
+int main(int count, char **words) {
+    struct setting settings[AXES];
+    struct request request = {NULL, 0, settings, 0};
+    if (count < 4 || count - 4 > AXES)
+        return fail("usage", "advance FONT SIZE TEXT [TAG=VALUE ..]");
+    request.text = words[3];
+    if (font_f26dot6_parse(words[2], strlen(words[2]), &request.size) != FONT_OK
+        || request.size < 0 || request.size > MOST_PIXELS)
+        return fail(words[2], "not a decimal from 0 to 4096");
+    for (int i = 4; i < count; i++)
+        if (!parse_setting(words[i], &settings[request.setting_count++]))
+            return fail(words[i], "not TAG=VALUE with a decimal");
+    return run(words[1], &request);
+}

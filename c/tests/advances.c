@@ -1,0 +1,93 @@
+/*
+ * Reads fonts as examples/advance.c does, and compares what it says with the cases of cases.rs:
+ * glyphs and advances, which the proved Rust gives, or a message. Among them are mutations of each
+ * font: a sanitizer sees a read out of bounds.
+ */
+#define main advance_main
+#include "../examples/advance.c"
+#undef main
+
+enum { MOST_TEXT = 256 };
+
+static int cases, printed, both, messages, failures;
+
+/* The next bytes of the cases. */
+static font_view take(font_view *cases_left, size_t length) {
+    const font_view taken = font_part(*cases_left, 0, length);
+    if (taken.bytes == NULL)
+        exit(fail("cases", "end early"));
+    *cases_left = font_part(*cases_left, length, cases_left->length - length);
+    return taken;
+}
+
+static font_view take_text(font_view *cases_left) {
+    return take(cases_left, font_u8(take(cases_left, 1), 0));
+}
+
+static void check(int holds, const char *what) {
+    if (!holds && failures++ < 20)
+        printf("case %d: %s\n", cases, what);
+}
+
+/* Whether the glyphs and advances are those of pairs of 16 bits. */
+static int are(const struct advance *advances, size_t count, font_view pairs) {
+    int same = pairs.length == 4 * count;
+    for (size_t i = 0; i < count && same; i++)
+        same = advances[i].glyph == font_u16(pairs, 4 * i)
+               && advances[i].units == font_u16(pairs, 4 * i + 2);
+    return same;
+}
+
+/* What the program says of a font, and what it has to say. */
+static void check_case(uint8_t kind, font_view file, const struct request *request,
+                       font_view answer) {
+    struct advance advances[MOST_TEXT];
+    size_t count = 0;
+    const char *const error = read_advances(file, request, advances, &count);
+    const int is_same = error == NULL && are(advances, count, answer);
+    printed += error == NULL;
+    switch (kind) {
+    case 'a': check(answer.length == 0 ? error != NULL : is_same, "other advances"); break;
+    case 'c':
+        both += error == NULL && answer.length > 0;
+        check(error != NULL || answer.length == 0 || is_same, "other advances of a mutation");
+        break;
+    default:
+        messages++;
+        check(error != NULL && strlen(error) == answer.length
+                  && memcmp(error, answer.bytes, answer.length) == 0, error);
+    }
+}
+
+static void read_case(font_view *left) {
+    struct setting settings[4];
+    char text[MOST_TEXT] = {0};
+    struct request request = {text, 1024, settings, 0};
+    const uint8_t kind = font_u8(take(left, 1), 0);
+    const font_view font = take(left, font_u32(take(left, 4), 0));
+    const size_t count = font_u8(take(left, 1), 0);
+    for (size_t i = 0; i < count; i++) {
+        const font_view setting = take(left, 8);
+        settings[i].tag = font_u32(setting, 0), settings[i].value = font_i32(setting, 4);
+    }
+    request.setting_count = count;
+    const font_view characters = take_text(left);
+    memcpy(text, characters.bytes, characters.length);
+    /* Exactly as many bytes, so that the sanitizer sees a read of one more. */
+    uint8_t *const bytes = (uint8_t *)malloc(font.length + (font.length == 0));
+    if (bytes == NULL)
+        exit(fail("cases", "no memory"));
+    memcpy(bytes, font.bytes, font.length);
+    check_case(kind, (font_view){bytes, font.length}, &request, take_text(left));
+    free(bytes);
+}
+
+int main(int count, char **paths) {
+    const font_view all = count > 1 ? load(paths[1]) : absent;
+    for (font_view left = all; left.length > 0; cases++)
+        read_case(&left);
+    free((void *)(uintptr_t)all.bytes);
+    printf("advances: %d fonts, %d printed, %d mutations also by the proved Rust, %d messages, "
+           "%d failed\n", cases, printed, both, messages, failures);
+    return failures == 0 && cases > 0 ? 0 : 1;
+}

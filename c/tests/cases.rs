@@ -1,0 +1,418 @@
+//! Fonts, and what `c/examples/advance.c` has to say of them, for `c/tests/advances.c`.
+
+use crate::fonts::{
+    MAP, MAPS, font, font_of, fvar, hvar, hvar_of_two_axes, long_hvar, two_axes, words,
+};
+use crate::instance;
+use font_types_proved::{Fixed, GlyphId16, Tag};
+
+/// Characters of glyphs 0 and 1; those of all three, which need a map of glyphs in some fonts.
+const TEXTS: [&str; 2] = ["\n\u{15}\u{99}\u{9A}a", "A\u{1F600}\u{1F601}\n"];
+
+/// Values of the two axes, at the ends of their ranges, at the default, and beyond.
+const SETTINGS: [[&str; 2]; 9] = [
+    ["400", "100"],
+    ["650", "150"],
+    ["900", "200"],
+    ["100", "50"],
+    ["32767.99998", "-32768"],
+    ["401.5", "99.99998"],
+    ["775", "100"],
+    ["525", "75.5"],
+    ["250", "133.25"],
+];
+
+/// A value of an axis.
+type Setting = (Tag, Fixed);
+
+/// What the program has to say.
+enum Answer {
+    /// Glyphs and advances, or any message if there are none.
+    Advances(Option<Vec<[u16; 2]>>),
+    /// If it prints advances, and these are some, then these.
+    Compared(Option<Vec<[u16; 2]>>),
+    Message(&'static str),
+}
+
+/// Adds a case to the bytes of all.
+fn push(cases: &mut Vec<u8>, font: &[u8], settings: &[Setting], text: &str, answer: &Answer) {
+    let kind = match answer {
+        Answer::Advances(_) => b'a',
+        Answer::Compared(_) => b'c',
+        Answer::Message(_) => b'm',
+    };
+    cases.push(kind);
+    cases.extend((font.len() as u32).to_be_bytes());
+    cases.extend(font);
+    cases.push(settings.len() as u8);
+    for (tag, value) in settings {
+        cases.extend(tag.to_be_bytes());
+        cases.extend(value.to_be_bytes());
+    }
+    let answer = match answer {
+        Answer::Advances(pairs) | Answer::Compared(pairs) => {
+            words(&pairs.clone().unwrap_or_default().concat())
+        }
+        Answer::Message(message) => message.as_bytes().to_vec(),
+    };
+    for bytes in [text.as_bytes(), &answer] {
+        cases.push(bytes.len() as u8);
+        cases.extend(bytes);
+    }
+}
+
+/// Returns what `examples/instance.rs` prints: the advances, with the glyphs.
+fn by_instance(bytes: &[u8], settings: &[Setting], text: &str) -> Option<Vec<[u16; 2]>> {
+    let font = instance::font::Font::new(bytes)?;
+    let mut coordinates = Vec::new();
+    for (n, axis) in instance::axes(&font)?.values().enumerate() {
+        let setting = settings.iter().find(|(tag, _)| *tag == axis.tag);
+        let value = setting.map_or(axis.default, |(_, value)| *value);
+        coordinates.push(instance::normalized(&font, n, value)?);
+    }
+    let pairs = text.chars().map(|character| {
+        let glyph = font.glyph(character).unwrap_or_default();
+        let advance = instance::advance(&font, glyph, &coordinates)?;
+        Some([GlyphId16::to_u16(glyph), advance.to_u16()])
+    });
+    pairs.collect()
+}
+
+/// Replaces words that occur once.
+fn replace(font: &mut [u8], old: &[u16], new: &[u16]) {
+    let (old, new) = (words(old), words(new));
+    let mut places = (0..font.len()).filter(|place| font[*place..].starts_with(&old));
+    let (place, next) = (places.next().expect("the words"), places.next());
+    assert!(next.is_none(), "{old:?}");
+    font[place..][..new.len()].copy_from_slice(&new);
+}
+
+/// Gives the characters of [`TEXTS`] glyphs of a font that has three.
+fn with_three_glyphs(mut font: Vec<u8>) -> Vec<u8> {
+    // `A` is glyph 2, and U+0099 glyph 1 by the array, whose glyph wraps.
+    let deltas = [0xFFF7, 0xFFEE, 7, 1, 0, 0, 4, 0];
+    let [old, new] = [(-18i16, 100), (-63, -6)].map(|(delta, glyph): (i16, i16)| {
+        let mut words = [&deltas[..], &[glyph as u16]].concat();
+        words[1] = delta as u16;
+        words
+    });
+    replace(&mut font, &old, &new);
+    replace(&mut font, &[1, 0xF60F, 0, 500], &[1, 0xF60F, 0, 1]);
+    font
+}
+
+/// A table of three delta sets over `count` regions of one axis, each with a peak of its own.
+fn hvar_of_regions(count: u16) -> Vec<u8> {
+    let sets = (0..3 * u32::from(count)).map(|n| (n % 7) as u8);
+    let peaks: Vec<u16> = (0..count).flat_map(|n| [0, 1 + 15 * n, 0x4000]).collect();
+    let indices: Vec<u16> = (0..count).collect();
+    // The list of regions is after the data.
+    let list = 18 + 5 * count;
+    let header = [1, 0, 0, 20, 0, 0, 0, 0, 0, 0];
+    let mut table = words(&[&header[..], &[1, 0, list, 1, 0, 12, 3, 0, count], &indices].concat());
+    table.extend(sets);
+    table.extend(words(&[&[1, count][..], &peaks].concat()));
+    table
+}
+
+/// Fonts of one and two axes with each kind of map, region and word; the number of their axes.
+fn fonts() -> Vec<(Vec<u8>, usize)> {
+    let avar = words(&[&[1, 0, 0, 2][..], &MAP, &[0]].concat());
+    let of_two_axes = |map| {
+        let hvar = (b"HVAR", hvar_of_two_axes(map));
+        (
+            font_of([hvar, (b"fvar", two_axes()), (b"avar", avar.clone())]),
+            2,
+        )
+    };
+    let without_avar = font_of([(b"HVAR", hvar_of_two_axes(MAPS[2])), (b"fvar", two_axes())]);
+    let mut fonts = vec![(font(hvar()), 1), (font(long_hvar()), 1), (without_avar, 2)];
+    fonts.extend(MAPS.map(of_two_axes));
+    fonts.extend([1, 65, 1024].map(|count| (font(hvar_of_regions(count)), 1)));
+    let fonts = fonts.into_iter();
+    fonts
+        .map(|(font, axes)| (with_three_glyphs(font), axes))
+        .collect()
+}
+
+/// The values of as many axes.
+fn settings(values: [&str; 2], axes: usize) -> Vec<Setting> {
+    let values = values.map(|value| Fixed::from_decimal(value).expect("a decimal"));
+    let tags = [b"wght", b"wdth"].map(|tag| Tag::new(tag));
+    tags.into_iter().zip(values).take(axes).collect()
+}
+
+/// Changes runs of a few bytes, so that integers become extreme, or drops the last bytes.
+fn mutate(bytes: &mut Vec<u8>, random: &mut impl FnMut(usize) -> usize) {
+    if random(8) == 0 {
+        return bytes.truncate(random(bytes.len()));
+    }
+    for _ in 0..=random(4) {
+        let (place, len) = (random(bytes.len()), 1 + random(8));
+        let byte = [0, 0x7F, 0x80, 0xFF, random(256) as u8][random(5)];
+        let end = bytes.len().min(place + len);
+        bytes[place..end].fill(byte);
+    }
+}
+
+/// Returns the fonts as they are and 1,000 mutations of each, with what `instance` prints.
+fn compared(cases: &mut Vec<u8>) {
+    let mut state = 1u64;
+    let mut random = |below: usize| {
+        state = state.wrapping_mul(6364136223846793005).wrapping_add(1);
+        (state >> 33) as usize % below
+    };
+    for (font, axes) in fonts() {
+        for setting in SETTINGS.map(|values| settings(values, axes)) {
+            for text in TEXTS {
+                let answer = Answer::Advances(by_instance(&font, &setting, text));
+                push(cases, &font, &setting, text, &answer);
+            }
+        }
+        for n in 0..1000 {
+            let mut font = font.clone();
+            mutate(&mut font, &mut random);
+            let setting = settings(SETTINGS[n % SETTINGS.len()], axes);
+            let text = TEXTS[n / SETTINGS.len() % TEXTS.len()];
+            let answer = Answer::Compared(by_instance(&font, &setting, text));
+            push(cases, &font, &setting, text, &answer);
+        }
+    }
+}
+
+/// The font that is broken in [`broken`]: of one axis, with a map of glyphs.
+pub fn whole() -> Vec<u8> {
+    with_three_glyphs(font(hvar()))
+}
+
+/// The place of the record of a table.
+fn record(font: &[u8], tag: &[u8; 4]) -> usize {
+    let mut records = (12..).step_by(16).take(usize::from(font[5]));
+    let record = records.find(|place| font[*place..].starts_with(tag));
+    record.expect("a table")
+}
+
+/// Returns the font with other words at an offset of a table.
+fn with(tag: &[u8; 4], offset: usize, new: &[u16]) -> Vec<u8> {
+    let mut font = whole();
+    let at = record(&font, tag) + 8;
+    let table = u32::from_be_bytes(font[at..][..4].try_into().expect("four bytes"));
+    font[table as usize + offset..][..2 * new.len()].copy_from_slice(&words(new));
+    font
+}
+
+/// Returns the font with a table of this length.
+fn short(tag: &[u8; 4], len: u8) -> Vec<u8> {
+    let mut font = whole();
+    let at = record(&font, tag) + 12;
+    font[at..][..4].copy_from_slice(&[0, 0, 0, len]);
+    font
+}
+
+/// Returns the font without a table: with the next tag in its place.
+fn without(tag: &[u8; 4]) -> Vec<u8> {
+    let mut font = whole();
+    let at = record(&font, tag);
+    font[at + 3] += 1;
+    font
+}
+
+/// A broken font, and what the program says.
+type Broken = (Vec<u8>, &'static str);
+
+fn broken_directories() -> Vec<Broken> {
+    let [mut collection, mut many, mut swapped] = [whole(), whole(), whole()];
+    let [mut twice, mut beyond] = [whole(), whole()];
+    collection[..4].copy_from_slice(b"ttcf");
+    many[4] = 1;
+    let (first, others) = swapped[12..].split_at_mut(16);
+    first.swap_with_slice(&mut others[..16]);
+    twice.copy_within(12..28, 28);
+    let at = record(&beyond, b"hmtx") + 8;
+    beyond[at] = 1;
+    vec![
+        (Vec::new(), "not a font of one face"),
+        (collection, "not a font of one face"),
+        (many, "the records of the tables end early"),
+        (swapped, "the tables are out of order"),
+        (twice, "the tables are out of order"),
+        (beyond, "hmtx ends early"),
+        (short(b"head", 53), "head ends early"),
+        (short(b"hhea", 35), "hhea ends early"),
+        (short(b"hmtx", 3), "hmtx ends early"),
+        (short(b"hmtx", 7), "hmtx ends early"),
+        (short(b"maxp", 5), "maxp ends early"),
+        (without(b"head"), "head: not 16 to 16384 units per em"),
+        (
+            with(b"head", 18, &[15]),
+            "head: not 16 to 16384 units per em",
+        ),
+        (
+            with(b"head", 18, &[16385]),
+            "head: not 16 to 16384 units per em",
+        ),
+        (without(b"maxp"), "no glyphs"),
+        (without(b"hhea"), "no advances"),
+        (with(b"hhea", 34, &[0]), "no advances"),
+        (without(b"hmtx"), "hmtx ends early"),
+    ]
+}
+
+/// Of `cmap`: the subtable of format 4 is at 20, and that of format 12 at 72.
+fn broken_cmaps() -> Vec<Broken> {
+    vec![
+        (without(b"cmap"), "no cmap"),
+        (short(b"cmap", 3), "cmap ends early"),
+        (short(b"cmap", 19), "cmap ends early"),
+        (short(b"cmap", 21), "cmap: a subtable ends early"),
+        (with(b"cmap", 10, &[0]), "cmap: a subtable ends early"),
+        (short(b"cmap", 33), "cmap: format 4 ends early"),
+        (with(b"cmap", 20 + 6, &[26]), "cmap: format 4 ends early"),
+        (
+            with(b"cmap", 20 + 42, &[0x4000]),
+            "cmap: format 4 ends early",
+        ),
+        (with(b"cmap", 20 + 16, &[20]), "cmap: segments out of order"),
+        (short(b"cmap", 72 + 15), "cmap: format 12 ends early"),
+        (short(b"cmap", 72 + 39), "cmap: format 12 ends early"),
+        (with(b"cmap", 72 + 12, &[1]), "cmap: format 12 ends early"),
+        (
+            with(b"cmap", 72 + 30, &[0xF60F]),
+            "cmap: groups out of order",
+        ),
+        (
+            with(b"cmap", 72 + 18, &[0xF610]),
+            "cmap: groups out of order",
+        ),
+        (
+            with(b"cmap", 72 + 26, &[3]),
+            "cmap: a glyph that the font does not have",
+        ),
+        (with(b"cmap", 4, &[1]), "cmap: not for Unicode"),
+        (with(b"cmap", 4, &[3, 0]), "cmap: not for Unicode"),
+        (with(b"cmap", 2, &[0]), "no cmap of format 4 or 12"),
+    ]
+}
+
+/// Of `fvar`, the values of the axis are at 20; of `avar`, the segment map is at 8.
+fn broken_axes() -> Vec<Broken> {
+    let many_axes = fvar(&[(b"wght", [0, 0, 1]); 65]);
+    let without_hvar = [(b"gvar", vec![0; 20]), (b"fvar", two_axes())];
+    vec![
+        (short(b"fvar", 15), "fvar ends early"),
+        (short(b"fvar", 35), "fvar ends early"),
+        (with(b"fvar", 0, &[2]), "fvar: not of version 1"),
+        (with(b"fvar", 10, &[19]), "fvar: not of version 1"),
+        (font_of([(b"fvar", many_axes)]), "fvar: too many axes"),
+        (
+            with(b"fvar", 20, &[401]),
+            "fvar: the values of an axis are out of order",
+        ),
+        (
+            with(b"fvar", 28, &[399]),
+            "fvar: the values of an axis are out of order",
+        ),
+        (
+            with(b"fvar", 20, &[0x8000, 0, 0x8000]),
+            "fvar: the values of an axis are too far apart",
+        ),
+        (short(b"avar", 7), "avar ends early"),
+        (short(b"avar", 9), "avar ends early"),
+        (short(b"avar", 25), "avar ends early"),
+        (with(b"avar", 0, &[2]), "avar: not of version 1"),
+        (with(b"avar", 6, &[2]), "avar: not as many axes"),
+        (
+            with(b"avar", 14, &[0xC000]),
+            "avar: a segment map is out of order",
+        ),
+        (
+            with(b"avar", 8, &[2]),
+            "avar: a segment map without the coordinate",
+        ),
+        (font_of(without_hvar), "gvar without HVAR"),
+        (without(b"fvar"), "no such axis"),
+    ]
+}
+
+/// Of `HVAR`, the store is at 20, its regions at 32, its data at 48, with sets at 58, and the map
+/// at 66.
+fn broken_stores() -> Vec<Broken> {
+    let early = "HVAR: the store ends early";
+    vec![
+        (short(b"HVAR", 19), "HVAR ends early"),
+        (with(b"HVAR", 0, &[2]), "HVAR: not of version 1"),
+        (with(b"HVAR", 6, &[0]), early),
+        (with(b"HVAR", 6, &[65]), early),
+        (with(b"HVAR", 20, &[2]), "HVAR: not a store of format 1"),
+        (with(b"HVAR", 24, &[0]), early),
+        (with(b"HVAR", 24, &[49]), early),
+        (with(b"HVAR", 30, &[0]), early),
+        (with(b"HVAR", 30, &[47]), early),
+        (with(b"HVAR", 48, &[5]), early),
+        (with(b"HVAR", 52, &[10]), early),
+        (with(b"HVAR", 32, &[2]), "HVAR: not as many axes"),
+        (with(b"HVAR", 34, &[7]), "HVAR: the regions end early"),
+        (with(b"HVAR", 56, &[2]), "HVAR: no such region"),
+        (font(hvar_of_regions(1025)), "HVAR: too many regions"),
+        (with(b"HVAR", 50, &[3]), "HVAR: a delta set without a sum"),
+        (
+            with(b"HVAR", 58, &[0x8000]),
+            "HVAR: an advance out of range",
+        ),
+        (with(b"HVAR", 48, &[1]), "HVAR: no such item"),
+        (with(b"HVAR", 70, &[0x0202]), "HVAR: no such item"),
+        (short(b"HVAR", 67), "HVAR: the map ends early"),
+        (short(b"HVAR", 69), "HVAR: the map ends early"),
+        (short(b"HVAR", 71), "HVAR: the map ends early"),
+        (with(b"HVAR", 66, &[0x0100]), "HVAR: the map ends early"),
+        (
+            with(b"HVAR", 66, &[0x0200]),
+            "HVAR: not a map of format 0 or 1",
+        ),
+        (with(b"HVAR", 68, &[0]), "HVAR: the map is empty"),
+    ]
+}
+
+/// Fonts at the ends of what is read, and without variations.
+fn fonts_without_variations() -> Vec<Vec<u8>> {
+    let axes = [(b"wght", [0, 0, 1]); 64];
+    let fonts = [font_of([]), font_of([(b"fvar", fvar(&axes))])];
+    fonts.into_iter().map(with_three_glyphs).collect()
+}
+
+/// Returns all cases, as `advances.c` reads them.
+pub fn cases() -> Vec<u8> {
+    let mut cases = Vec::new();
+    compared(&mut cases);
+    for font in fonts_without_variations() {
+        for (text, glyphs) in TEXTS
+            .into_iter()
+            .zip([[1, 0, 1, 0, 0].as_slice(), &[2, 1, 2, 1]])
+        {
+            let advances = [500, 620, 620];
+            let advances = glyphs
+                .iter()
+                .map(|glyph| [*glyph, advances[usize::from(*glyph)]]);
+            let answer = Answer::Advances(Some(advances.collect()));
+            push(&mut cases, &font, &[], text, &answer);
+        }
+    }
+    let broken = [
+        broken_directories(),
+        broken_cmaps(),
+        broken_axes(),
+        broken_stores(),
+    ];
+    for (font, message) in broken.into_iter().flatten() {
+        let text = TEXTS.concat();
+        let answer = Answer::Message(message);
+        push(
+            &mut cases,
+            &font,
+            &settings(["650", "100"], 1),
+            &text,
+            &answer,
+        );
+    }
+    cases
+}
