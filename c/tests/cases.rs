@@ -138,7 +138,7 @@ fn fonts() -> Vec<(Vec<u8>, usize)> {
 /// The values of as many axes.
 fn settings(values: [&str; 2], axes: usize) -> Vec<Setting> {
     let values = values.map(|value| Fixed::from_decimal(value).expect("a decimal"));
-    let tags = [b"wght", b"wdth"].map(|tag| Tag::new(tag));
+    let tags = [b"wght", b"wdth"].map(Tag::new);
     tags.into_iter().zip(values).take(axes).collect()
 }
 
