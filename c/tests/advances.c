@@ -7,7 +7,7 @@
 #include "../examples/advance.c"
 #undef main
 
-enum { MOST_TEXT = 256 };
+enum { MOST_TEXT = 256, SIZE = MOST_PIXELS };
 
 static int cases, printed, both, messages, failures;
 
@@ -29,13 +29,28 @@ static void check(int holds, const char *what) {
         printf("case %d: %s\n", cases, what);
 }
 
-/* Whether the glyphs and advances are those of pairs of 16 bits. */
-static int are(const struct advance *advances, size_t count, font_view pairs) {
+/* The nearest quotient, half up, of numbers that are not negative. */
+static int64_t nearest(int64_t number, int64_t divisor) {
+    return (2 * number + divisor) / (2 * divisor);
+}
+
+/* Whether the glyphs and advances are those of pairs of 16 bits, and the pixels those of them. */
+static int are(const struct advance *advances, size_t count, font_view pairs,
+               uint16_t units_per_em) {
     int same = pairs.length == 4 * count;
-    for (size_t i = 0; i < count && same; i++)
-        same = advances[i].glyph == font_u16(pairs, 4 * i)
-               && advances[i].units == font_u16(pairs, 4 * i + 2);
+    for (size_t i = 0; i < count && same; i++) {
+        const uint16_t units = font_u16(pairs, 4 * i + 2);
+        same = advances[i].glyph == font_u16(pairs, 4 * i) && advances[i].units == units
+               && advances[i].pixels == nearest((int64_t)SIZE * units, units_per_em);
+    }
     return same;
+}
+
+/* The units per em of a font. */
+static uint16_t units_per_em_of(font_view file) {
+    struct font font = {0};
+    font.file = file;
+    return font_u16(table(&font, FONT_TAG('h', 'e', 'a', 'd'), 54, "head"), 18);
 }
 
 /* What the program says of a font, and what it has to say. */
@@ -44,7 +59,7 @@ static void check_case(uint8_t kind, font_view file, const struct request *reque
     struct advance advances[MOST_TEXT];
     size_t count = 0;
     const char *const error = read_advances(file, request, advances, &count);
-    const int is_same = error == NULL && are(advances, count, answer);
+    const int is_same = error == NULL && are(advances, count, answer, units_per_em_of(file));
     printed += error == NULL;
     switch (kind) {
     case 'a': check(answer.length == 0 ? error != NULL : is_same, "other advances"); break;
@@ -62,7 +77,7 @@ static void check_case(uint8_t kind, font_view file, const struct request *reque
 static void read_case(font_view *left) {
     struct setting settings[4];
     char text[MOST_TEXT] = {0};
-    struct request request = {text, 1024, settings, 0};
+    struct request request = {text, SIZE, settings, 0};
     const uint8_t kind = font_u8(take(left, 1), 0);
     const font_view font = take(left, font_u32(take(left, 4), 0));
     const size_t count = font_u8(take(left, 1), 0);

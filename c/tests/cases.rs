@@ -4,7 +4,7 @@ use crate::fonts::{
     MAP, MAPS, font, font_of, fvar, hvar, hvar_of_two_axes, long_hvar, two_axes, words,
 };
 use crate::instance;
-use font_types_proved::{Fixed, GlyphId16, Tag};
+use font_types_proved::{Fixed, Tag};
 
 /// Characters of glyphs 0 and 1; those of all three, which need a map of glyphs in some fonts.
 const TEXTS: [&str; 2] = ["\n\u{15}\u{99}\u{9A}a", "A\u{1F600}\u{1F601}\n"];
@@ -65,15 +65,15 @@ fn push(cases: &mut Vec<u8>, font: &[u8], settings: &[Setting], text: &str, answ
 fn by_instance(bytes: &[u8], settings: &[Setting], text: &str) -> Option<Vec<[u16; 2]>> {
     let font = instance::font::Font::new(bytes)?;
     let mut coordinates = Vec::new();
-    for (n, axis) in instance::axes(&font)?.values().enumerate() {
-        let setting = settings.iter().find(|(tag, _)| *tag == axis.tag);
-        let value = setting.map_or(axis.default, |(_, value)| *value);
-        coordinates.push(instance::normalized(&font, n, value)?);
+    for (n, axis) in instance::axes(&font).ok()?.into_iter().enumerate() {
+        let setting = settings.iter().find(|(tag, _)| *tag == axis.axis_tag);
+        let value = setting.map_or(axis.default_value, |(_, value)| *value);
+        coordinates.push(instance::normalized(&font, n, axis, value).ok()?);
     }
     let pairs = text.chars().map(|character| {
         let glyph = font.glyph(character).unwrap_or_default();
-        let advance = instance::advance(&font, glyph, &coordinates)?;
-        Some([GlyphId16::to_u16(glyph), advance.to_u16()])
+        let advance = instance::advance(&font, glyph, &coordinates).ok()?;
+        Some([glyph.to_u16(), advance.to_u16()])
     });
     pairs.collect()
 }
@@ -115,18 +115,29 @@ fn hvar_of_regions(count: u16) -> Vec<u8> {
     table
 }
 
-/// Fonts of one and two axes with each kind of map, region and word; the number of their axes.
+/// Fonts without axes, of one and of two, with each kind of map, region and word, and at the ends of
+/// what is read; the number of their axes, for which there are settings.
 fn fonts() -> Vec<(Vec<u8>, usize)> {
     let avar = words(&[&[1, 0, 0, 2][..], &MAP, &[0]].concat());
     let of_two_axes = |map| {
         let hvar = (b"HVAR", hvar_of_two_axes(map));
-        (
-            font_of([hvar, (b"fvar", two_axes()), (b"avar", avar.clone())]),
-            2,
-        )
+        let tables = [hvar, (b"fvar", two_axes()), (b"avar", avar.clone())];
+        (font_of(tables), 2)
     };
     let without_avar = font_of([(b"HVAR", hvar_of_two_axes(MAPS[2])), (b"fvar", two_axes())]);
-    let mut fonts = vec![(font(hvar()), 1), (font(long_hvar()), 1), (without_avar, 2)];
+    let many_axes = fvar(&[(b"wght", [0, 0, 1]); 64]);
+    let mut fonts = vec![
+        (font(hvar()), 1),
+        (font(long_hvar()), 1),
+        (without_avar, 2),
+        (font_of([]), 0),
+        (font_of([(b"fvar", many_axes)]), 1),
+        (with(font(hvar()), b"head", 18, &[16]), 1),
+        (with(font(hvar()), b"head", 18, &[16384]), 1),
+        // The segment map goes beyond -1 and 1, to which coordinates are clamped.
+        (with(font(hvar()), b"avar", 12, &[0xA000]), 1),
+        (with(font(hvar()), b"avar", 24, &[0x5000]), 1),
+    ];
     fonts.extend(MAPS.map(of_two_axes));
     fonts.extend([1, 65, 1024].map(|count| (font(hvar_of_regions(count)), 1)));
     let fonts = fonts.into_iter();
@@ -192,13 +203,17 @@ fn record(font: &[u8], tag: &[u8; 4]) -> usize {
     record.expect("a table")
 }
 
-/// Returns the font with other words at an offset of a table.
-fn with(tag: &[u8; 4], offset: usize, new: &[u16]) -> Vec<u8> {
-    let mut font = whole();
+/// Returns a font with other words at an offset of a table.
+fn with(mut font: Vec<u8>, tag: &[u8; 4], offset: usize, new: &[u16]) -> Vec<u8> {
     let at = record(&font, tag) + 8;
     let table = u32::from_be_bytes(font[at..][..4].try_into().expect("four bytes"));
     font[table as usize + offset..][..2 * new.len()].copy_from_slice(&words(new));
     font
+}
+
+/// Returns the font of [`whole`] with other words at an offset of a table.
+fn edited(tag: &[u8; 4], offset: usize, new: &[u16]) -> Vec<u8> {
+    with(whole(), tag, offset, new)
 }
 
 /// Returns the font with a table of this length.
@@ -244,16 +259,16 @@ fn broken_directories() -> Vec<Broken> {
         (short(b"maxp", 5), "maxp ends early"),
         (without(b"head"), "head: not 16 to 16384 units per em"),
         (
-            with(b"head", 18, &[15]),
+            edited(b"head", 18, &[15]),
             "head: not 16 to 16384 units per em",
         ),
         (
-            with(b"head", 18, &[16385]),
+            edited(b"head", 18, &[16385]),
             "head: not 16 to 16384 units per em",
         ),
         (without(b"maxp"), "no glyphs"),
         (without(b"hhea"), "no advances"),
-        (with(b"hhea", 34, &[0]), "no advances"),
+        (edited(b"hhea", 34, &[0]), "no advances"),
         (without(b"hmtx"), "hmtx ends early"),
     ]
 }
@@ -265,32 +280,35 @@ fn broken_cmaps() -> Vec<Broken> {
         (short(b"cmap", 3), "cmap ends early"),
         (short(b"cmap", 19), "cmap ends early"),
         (short(b"cmap", 21), "cmap: a subtable ends early"),
-        (with(b"cmap", 10, &[0]), "cmap: a subtable ends early"),
+        (edited(b"cmap", 10, &[0]), "cmap: a subtable ends early"),
         (short(b"cmap", 33), "cmap: format 4 ends early"),
-        (with(b"cmap", 20 + 6, &[26]), "cmap: format 4 ends early"),
+        (edited(b"cmap", 20 + 6, &[26]), "cmap: format 4 ends early"),
         (
-            with(b"cmap", 20 + 42, &[0x4000]),
+            edited(b"cmap", 20 + 42, &[0x4000]),
             "cmap: format 4 ends early",
         ),
-        (with(b"cmap", 20 + 16, &[20]), "cmap: segments out of order"),
+        (
+            edited(b"cmap", 20 + 16, &[20]),
+            "cmap: segments out of order",
+        ),
         (short(b"cmap", 72 + 15), "cmap: format 12 ends early"),
         (short(b"cmap", 72 + 39), "cmap: format 12 ends early"),
-        (with(b"cmap", 72 + 12, &[1]), "cmap: format 12 ends early"),
+        (edited(b"cmap", 72 + 12, &[1]), "cmap: format 12 ends early"),
         (
-            with(b"cmap", 72 + 30, &[0xF60F]),
+            edited(b"cmap", 72 + 30, &[0xF60F]),
             "cmap: groups out of order",
         ),
         (
-            with(b"cmap", 72 + 18, &[0xF610]),
+            edited(b"cmap", 72 + 18, &[0xF610]),
             "cmap: groups out of order",
         ),
         (
-            with(b"cmap", 72 + 26, &[3]),
+            edited(b"cmap", 72 + 26, &[3]),
             "cmap: a glyph that the font does not have",
         ),
-        (with(b"cmap", 4, &[1]), "cmap: not for Unicode"),
-        (with(b"cmap", 4, &[3, 0]), "cmap: not for Unicode"),
-        (with(b"cmap", 2, &[0]), "no cmap of format 4 or 12"),
+        (edited(b"cmap", 4, &[1]), "cmap: not for Unicode"),
+        (edited(b"cmap", 4, &[3, 0]), "cmap: not for Unicode"),
+        (edited(b"cmap", 2, &[0]), "no cmap of format 4 or 12"),
     ]
 }
 
@@ -301,32 +319,32 @@ fn broken_axes() -> Vec<Broken> {
     vec![
         (short(b"fvar", 15), "fvar ends early"),
         (short(b"fvar", 35), "fvar ends early"),
-        (with(b"fvar", 0, &[2]), "fvar: not of version 1"),
-        (with(b"fvar", 10, &[19]), "fvar: not of version 1"),
+        (edited(b"fvar", 0, &[2]), "fvar: not of version 1"),
+        (edited(b"fvar", 10, &[19]), "fvar: not of version 1"),
         (font_of([(b"fvar", many_axes)]), "fvar: too many axes"),
         (
-            with(b"fvar", 20, &[401]),
+            edited(b"fvar", 20, &[401]),
             "fvar: the values of an axis are out of order",
         ),
         (
-            with(b"fvar", 28, &[399]),
+            edited(b"fvar", 28, &[399]),
             "fvar: the values of an axis are out of order",
         ),
         (
-            with(b"fvar", 20, &[0x8000, 0, 0x8000]),
+            edited(b"fvar", 20, &[0x8000, 0, 0x8000]),
             "fvar: the values of an axis are too far apart",
         ),
         (short(b"avar", 7), "avar ends early"),
         (short(b"avar", 9), "avar ends early"),
         (short(b"avar", 25), "avar ends early"),
-        (with(b"avar", 0, &[2]), "avar: not of version 1"),
-        (with(b"avar", 6, &[2]), "avar: not as many axes"),
+        (edited(b"avar", 0, &[2]), "avar: not of version 1"),
+        (edited(b"avar", 6, &[2]), "avar: not as many axes"),
         (
-            with(b"avar", 14, &[0xC000]),
+            edited(b"avar", 14, &[0xC000]),
             "avar: a segment map is out of order",
         ),
         (
-            with(b"avar", 8, &[2]),
+            edited(b"avar", 8, &[2]),
             "avar: a segment map without the coordinate",
         ),
         (font_of(without_hvar), "gvar without HVAR"),
@@ -340,78 +358,57 @@ fn broken_stores() -> Vec<Broken> {
     let early = "HVAR: the store ends early";
     vec![
         (short(b"HVAR", 19), "HVAR ends early"),
-        (with(b"HVAR", 0, &[2]), "HVAR: not of version 1"),
-        (with(b"HVAR", 6, &[0]), early),
-        (with(b"HVAR", 6, &[65]), early),
-        (with(b"HVAR", 20, &[2]), "HVAR: not a store of format 1"),
-        (with(b"HVAR", 24, &[0]), early),
-        (with(b"HVAR", 24, &[49]), early),
-        (with(b"HVAR", 30, &[0]), early),
-        (with(b"HVAR", 30, &[47]), early),
-        (with(b"HVAR", 48, &[5]), early),
-        (with(b"HVAR", 52, &[10]), early),
-        (with(b"HVAR", 32, &[2]), "HVAR: not as many axes"),
-        (with(b"HVAR", 34, &[7]), "HVAR: the regions end early"),
-        (with(b"HVAR", 56, &[2]), "HVAR: no such region"),
+        (edited(b"HVAR", 0, &[2]), "HVAR: not of version 1"),
+        (edited(b"HVAR", 6, &[0]), early),
+        (edited(b"HVAR", 6, &[65]), early),
+        (edited(b"HVAR", 20, &[2]), "HVAR: not a store of format 1"),
+        (edited(b"HVAR", 24, &[0]), early),
+        (edited(b"HVAR", 24, &[49]), early),
+        (edited(b"HVAR", 30, &[0]), early),
+        (edited(b"HVAR", 30, &[47]), early),
+        (edited(b"HVAR", 48, &[5]), early),
+        (edited(b"HVAR", 52, &[10]), early),
+        (edited(b"HVAR", 32, &[2]), "HVAR: not as many axes"),
+        (edited(b"HVAR", 34, &[7]), "HVAR: the regions end early"),
+        (edited(b"HVAR", 56, &[2]), "HVAR: no such region"),
         (font(hvar_of_regions(1025)), "HVAR: too many regions"),
-        (with(b"HVAR", 50, &[3]), "HVAR: a delta set without a sum"),
+        (edited(b"HVAR", 50, &[3]), "HVAR: a delta set without a sum"),
         (
-            with(b"HVAR", 58, &[0x8000]),
+            edited(b"HVAR", 58, &[0x8000]),
             "HVAR: an advance out of range",
         ),
-        (with(b"HVAR", 48, &[1]), "HVAR: no such item"),
-        (with(b"HVAR", 70, &[0x0202]), "HVAR: no such item"),
+        (edited(b"HVAR", 48, &[1]), "HVAR: no such item"),
+        (edited(b"HVAR", 70, &[0x0202]), "HVAR: no such item"),
         (short(b"HVAR", 67), "HVAR: the map ends early"),
         (short(b"HVAR", 69), "HVAR: the map ends early"),
         (short(b"HVAR", 71), "HVAR: the map ends early"),
-        (with(b"HVAR", 66, &[0x0100]), "HVAR: the map ends early"),
+        (edited(b"HVAR", 66, &[0x0100]), "HVAR: the map ends early"),
         (
-            with(b"HVAR", 66, &[0x0200]),
+            edited(b"HVAR", 66, &[0x0200]),
             "HVAR: not a map of format 0 or 1",
         ),
-        (with(b"HVAR", 68, &[0]), "HVAR: the map is empty"),
+        (edited(b"HVAR", 68, &[0]), "HVAR: the map is empty"),
     ]
-}
-
-/// Fonts at the ends of what is read, and without variations.
-fn fonts_without_variations() -> Vec<Vec<u8>> {
-    let axes = [(b"wght", [0, 0, 1]); 64];
-    let fonts = [font_of([]), font_of([(b"fvar", fvar(&axes))])];
-    fonts.into_iter().map(with_three_glyphs).collect()
 }
 
 /// Returns all cases, as `advances.c` reads them.
 pub fn cases() -> Vec<u8> {
     let mut cases = Vec::new();
     compared(&mut cases);
-    for font in fonts_without_variations() {
-        for (text, glyphs) in TEXTS
-            .into_iter()
-            .zip([[1, 0, 1, 0, 0].as_slice(), &[2, 1, 2, 1]])
-        {
-            let advances = [500, 620, 620];
-            let advances = glyphs
-                .iter()
-                .map(|glyph| [*glyph, advances[usize::from(*glyph)]]);
-            let answer = Answer::Advances(Some(advances.collect()));
-            push(&mut cases, &font, &[], text, &answer);
-        }
-    }
-    let broken = [
+    let parts = [
         broken_directories(),
         broken_cmaps(),
         broken_axes(),
         broken_stores(),
     ];
-    for (font, message) in broken.into_iter().flatten() {
-        let text = TEXTS.concat();
-        let answer = Answer::Message(message);
+    let (setting, text) = (settings(["650", "100"], 1), TEXTS.concat());
+    for (font, message) in parts.into_iter().flatten() {
         push(
             &mut cases,
             &font,
-            &settings(["650", "100"], 1),
+            &setting,
             &text,
-            &answer,
+            &Answer::Message(message),
         );
     }
     cases

@@ -11,7 +11,6 @@ mod instance;
 use font_types_proved::{
     F2Dot14, F2Dot30, F4Dot12, F6Dot10, F26Dot6, F48Dot16, Fixed, Int24, Scalar, Uint24,
 };
-use fonts::{font, variations, words};
 
 /// Prints the rounded value of each raw value of a format.
 macro_rules! round {
