@@ -36,8 +36,9 @@ struct advance {
 };
 
 /*
- * A font in an instance, and the first thing that is wrong with it. After that, views are absent
- * and fields 0, so that each function goes on to its end, without a loop and without a result.
+ * A font in an instance, and the first thing that is wrong with it. After that, views that are
+ * required are absent, and their fields 0: each function goes on to its end, with a result that
+ * does not count.
  */
 struct font {
     const char *error;
@@ -63,11 +64,10 @@ static font_view required(struct font *font, font_view view, const char *message
 /* The bytes from where an offset points, at least `length`; absent if the offset is 0. */
 static font_view at_offset(struct font *font, font_view view, size_t offset, size_t length,
                            const char *message) {
-    if (font_u32(required(font, font_part(view, offset, 4), message), 0) == 0)
-        return absent;
     const font_view found = font_at_offset32(view, offset);
-    (void)required(font, font_part(found, 0, length), message);
-    return required(font, found, message);
+    if (font_u32(view, offset) != 0)
+        (void)required(font, font_part(found, 0, length), message);
+    return found;
 }
 
 /* A table of at least `length` bytes; absent if the font has none. */
@@ -93,7 +93,7 @@ static font_view table(struct font *font, uint32_t tag, size_t length, const cha
 static int map_by_4(struct font *font, font_view map, uint32_t code, uint32_t *glyph) {
     const char *const early = "cmap: format 4 ends early";
     const size_t size = font_u16(map, 6) / 2 * 2u;
-    const font_view ends = required(font, font_part(map, 14, size), early);
+    const font_view ends = font_part(map, 14, size);
     const font_view rest = required(font, font_part(map, 16 + size, 3 * size), early);
     size_t at = size;
     for (size_t i = ends.length; i > 0; i -= 2) {
@@ -213,7 +213,6 @@ static void set_coordinates(struct font *font, const struct request *request) {
         const font_view axis = font_part(font->axes, i * font->axis_size, 20);
         int32_t x = normalized(font, axis, value_of(axis, request));
         if (is_mapped) {
-            (void)required(font, font_part(avar, place, 2), "avar ends early");
             const font_view map = required(
                 font, font_items(avar, place + 2, font_u16(avar, place), 4), "avar ends early");
             x = mapped(font, map, x);
@@ -300,7 +299,6 @@ static void set_item(struct font *font, font_view map, uint32_t glyph, size_t *o
     const int is_long = font_u8(map, 0) == 1, bits = (font_u8(map, 1) & 15) + 1;
     const size_t size = (font_u8(map, 1) >> 4 & 3) + 1u;
     require(font, font_u8(map, 0) <= 1, "HVAR: not a map of format 0 or 1");
-    (void)required(font, font_part(map, 2, is_long ? 4 : 2), "HVAR: the map ends early");
     const uint32_t count = font_uint(map, 2, is_long ? 4 : 2);
     const font_view entries = required(font, font_items(map, is_long ? 6 : 4, count, size),
                                        "HVAR: the map ends early");

@@ -31,7 +31,7 @@
  *
  * What a call writes may be uninitialized. The library is Rust, which asks for initialized
  * values there: callers rely on its object code, which loads nothing from where it writes
- * before it has stored there (this was looked at, not proved), except for the points that
+ * before it has stored there (this is tested, not proved), except for the points that
  * font_matrix_images transforms. If you do not want to rely on that, initialize it.
  */
 #ifndef FONT_TYPES_H
