@@ -115,8 +115,8 @@ fn hvar_of_regions(count: u16) -> Vec<u8> {
     table
 }
 
-/// Fonts without axes, of one and of two, with each kind of map, region and word, and at the ends of
-/// what is read; the number of their axes, for which there are settings.
+/// Fonts without axes, of one and of two, with each kind of map, region and word, and at the ends
+/// of what is read; the number of their axes, for which there are settings.
 fn fonts() -> Vec<(Vec<u8>, usize)> {
     let avar = words(&[&[1, 0, 0, 2][..], &MAP, &[0]].concat());
     let of_two_axes = |map| {
