@@ -255,6 +255,7 @@ static int32_t scalar_of(const struct font *font, font_view region) {
 /* Stores the scalars of the regions of these indices. */
 static void set_scalars(struct font *font, font_view list, font_view indices, int32_t *scalars) {
     const size_t size = 6 * font->axis_count;
+    require(font, font_u16(list, 2) < 0x8000, "HVAR: a reserved count of regions");
     const font_view regions = required(font, font_items(list, 4, font_u16(list, 2), size),
                                        "HVAR: the regions end early");
     require(font, font_u16(list, 0) == font->axis_count, "HVAR: not as many axes");

@@ -369,6 +369,10 @@ fn broken_stores() -> Vec<Broken> {
         (edited(b"HVAR", 48, &[5]), early),
         (edited(b"HVAR", 52, &[10]), early),
         (edited(b"HVAR", 32, &[2]), "HVAR: not as many axes"),
+        (
+            edited(b"HVAR", 34, &[0x8002]),
+            "HVAR: a reserved count of regions",
+        ),
         (edited(b"HVAR", 34, &[7]), "HVAR: the regions end early"),
         (edited(b"HVAR", 56, &[2]), "HVAR: no such region"),
         (font(hvar_of_regions(1025)), "HVAR: too many regions"),
