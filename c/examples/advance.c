@@ -139,13 +139,12 @@ static int map_by_12(struct font *font, font_view map, uint32_t code, uint32_t *
 static uint32_t glyph_of(struct font *font, uint32_t code) {
     const font_view records = required(
         font, font_items(font->cmap, 4, font_u16(font->cmap, 2), 8), "cmap ends early");
+    const char *const early = "cmap: a subtable ends early";
     uint32_t glyph = 0;
     int is_read = 0, is_found = 0;
     for (size_t i = 0; i < records.length && !is_found; i += 8) {
         const uint16_t platform = font_u16(records, i), encoding = font_u16(records, i + 2);
-        const char *const early = "cmap: a subtable ends early";
-        const font_view map =
-            required(font, at_offset(font, font->cmap, 8 + i, 2, early), early);
+        const font_view map = required(font, at_offset(font, font->cmap, 8 + i, 2, early), early);
         const uint16_t format = font_u16(map, 0);
         if (format != 4 && format != 12)
             continue;

@@ -18,5 +18,14 @@ int main(void) {
     /* end */
     printf("%s: %.*s %d %d\n", font_status_text(status), (int)length, text, (int)moved.x,
            (int)moved.y);
+    static const uint8_t bytes[] = {0, 1, 0x00, 0x01, 0x80, 0x00};
+    /* begin */
+    font_view table = {bytes, sizeof bytes};
+    font_view values = font_items(table, 2, font_u16(table, 0), 4);     /* one of 4 bytes */
+    int32_t value = font_i32(values, 0);                                /* 98304 */
+    status = font_read_i32(values, 4, &value);                          /* out of bounds */
+    int32_t missing = font_i32(values, 4);                              /* 0 */
+    /* end */
+    printf("%s: %d %d\n", font_status_text(status), (int)value, (int)missing);
     return 0;
 }
