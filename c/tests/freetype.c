@@ -1,7 +1,7 @@
 /*
- * Compares the library, and the lines of README.md for FT_CeilFix and FT_RoundFix, with
- * FreeType over a million random inputs a function. FreeType's FT_Long has 64 bits on
- * most systems, so results are compared modulo 2^32.
+ * Compares the library, by the lines of README.md and what its table names, with FreeType over a
+ * million random inputs a function. FreeType's FT_Long has 64 bits on most systems, so results are
+ * compared modulo 2^32.
  */
 #include "font_types.h"
 
@@ -52,6 +52,12 @@ static void check_outline(int32_t x, int32_t y) {
     }
 }
 
+/* What README.md names for FT_Matrix_Multiply(&a, &b). */
+static font_matrix multiplied(font_matrix a, font_matrix b) {
+#include "multiply.inc"
+    return b;
+}
+
 int main(int count, char **arguments) {
     /* With an argument, a value that is wrong. */
     if (count > 1)
@@ -69,7 +75,7 @@ int main(int count, char **arguments) {
         FT_Matrix a = {any(), any(), any(), any()}, b = {any(), any(), any(), any()};
         font_matrix m = {(int32_t)a.xx, (int32_t)a.yx, (int32_t)a.xy, (int32_t)a.yy, 0, 0};
         font_matrix n = {(int32_t)b.xx, (int32_t)b.yx, (int32_t)b.xy, (int32_t)b.yy, 0, 0};
-        font_matrix c = font_matrix_product(m, n);
+        font_matrix c = multiplied(m, n);
         FT_Matrix_Multiply(&a, &b);
         check("product.xx", c.xx, b.xx, x, y, z);
         check("product.yx", c.yx, b.yx, x, y, z);
