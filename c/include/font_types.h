@@ -329,9 +329,9 @@ FONT_API_MUST_USE font_status font_tag_to_text(
 
 /**
  * Bytes of a font, of a table or of a record: {bytes, length}. A view that is absent has null
- * bytes and the length 0. All its fields are missing and all its parts of one byte or more
- * absent, so that a reader can look at the last view alone. Any offset, count and size may
- * come from a font: no function of views overflows, or reads beyond a view.
+ * bytes and the length 0. Its fields are missing, and its parts have null bytes, so that a
+ * reader can look at the last view alone. Offsets, counts and sizes may be any, as a font has
+ * them: no function of views overflows, or reads beyond a view.
  */
 typedef struct font_view {
     const uint8_t *bytes; /**< the first byte; null if the view is absent */
@@ -345,7 +345,7 @@ FONT_API_INLINE int font_api_within(
     return length <= view.length && offset <= view.length - length;
 }
 
-/* Bytes that are in a view. If these are of a view that is absent, the offset is 0. */
+/* Bytes that are within a view. Null plus 0 is undefined behavior in C. */
 FONT_API_INLINE font_view font_api_view(
     font_view view, size_t offset, size_t length) FONT_API_NOEXCEPT {
     font_view part = {FONT_API_NULL, length};
@@ -401,8 +401,8 @@ FONT_API_INLINE font_view font_items(
 }
 
 /**
- * The bytes from where a 32-bit offset points, which is at `offset`, to the end of the view;
- * absent if it is 0, missing, or past the end.
+ * The bytes from where the 32-bit offset at `offset` points, to the end of the view; absent
+ * if that offset is 0, missing, or past the end.
  */
 FONT_API_INLINE font_view font_at_offset32(font_view view, size_t offset) FONT_API_NOEXCEPT {
     if (!font_api_within(view, offset, 4))
