@@ -1,0 +1,229 @@
+//! The gate: `.ci/run`, over stand-ins of its tools, calls these commands, fails if one of them
+//! does, is missing or prints something else, and names what it leaves out.
+#![cfg(unix)]
+
+use font_types_tools::repository::text;
+use std::env;
+use std::fs;
+use std::os::unix::fs::{PermissionsExt, symlink};
+use std::path::PathBuf;
+use std::process::Command;
+
+/// What the gate calls, beside `rt try`.
+const COMMANDS: &str = "\
+c/check
+cargo clippy --quiet --all-targets -- -D warnings
+cargo doc --quiet --no-deps; -Dwarnings
+cargo fetch --quiet --manifest-path compare/Cargo.toml
+cargo fmt --check --manifest-path ./Cargo.toml
+cargo fmt --check --manifest-path c/Cargo.toml
+cargo fmt --check --manifest-path compare/Cargo.toml
+cargo fmt --check --manifest-path tools/Cargo.toml
+cargo run --quiet --manifest-path tools/Cargo.toml --bin mutants
+cargo test --quiet
+cargo test --quiet --manifest-path tools/Cargo.toml
+cargo test --quiet --release --manifest-path compare/Cargo.toml
+cargo test --quiet --release --test program --test original --test preconditions
+rt ci";
+
+/// The command that may fail.
+const FETCH: &str = "cargo fetch --quiet --manifest-path compare/Cargo.toml";
+
+/// The allocations that fail in turn: of the tests of memory, and of the program, which makes two.
+const TESTS: usize = 10;
+const REQUESTS: usize = 12;
+
+/// A tool. It logs its call, and fails if `$FAIL` is its call; `$WRONG` names another fault.
+const TOOL: &str = r#"#!/bin/sh
+call="$(basename "$0") $*"
+[ "$call" != "check " ] || call=c/check
+[ -z "$RUSTDOCFLAGS" ] || call="$call; $RUSTDOCFLAGS"
+echo "$call" >>"$LOG"
+[ "$call" != "$FAIL" ] || exit 1
+case $call in
+c/check)
+    [ "$WRONG" != no-freetype ] || echo "left out: FreeType" ;;
+"rt try --test --fail-alloc"*)
+    [ "$WRONG" = one-test ] && [ "$4" = 7 ] || grep '^#\[test\]' src/tests/memory.rt |
+        sed 's/.*/test tests::memory::some ok/' ;;
+"rt try --fail-alloc "[12])
+    if [ "$WRONG" = no-request ]; then cat memory/stdout; echo "allocations: 0" >&2; exit 0; fi
+    [ "$WRONG" != early-answer ] || echo 0
+    if [ "$WRONG" = message ]; then echo "fontval: write" >&2; else echo "fontval: memory" >&2; fi
+    exit 1 ;;
+"rt try --fail-alloc "*)
+    if [ "$WRONG" = answers ]; then echo 0; else cat memory/stdout; fi
+    if [ "$WRONG" = count ]; then echo "allocations: 3" >&2; else echo "allocations: 2" >&2; fi
+    [ "$WRONG" != status ] || exit 2 ;;
+"rt ci")
+    [ "$WRONG" != bad-edit ] || echo "rt: note: bad must-fail edits: some"
+    echo "rt: must-fail a/b.edit: refused, as it must be: some"
+    if [ "$WRONG" = crate ]; then echo "2 passed, 1 failed"; else echo "3 passed, 0 failed"; fi
+    [ "$WRONG" != status-of-ci ] || exit 1 ;;
+*mutants) grep -q "refused, as it must be" ;;
+esac
+"#;
+
+/// The faults of `TOOL` with which the gate has to fail.
+const FAULTS: [&str; 9] = [
+    "one-test",
+    "early-answer",
+    "message",
+    "status",
+    "answers",
+    "count",
+    "no-request",
+    "bad-edit",
+    "status-of-ci",
+];
+
+/// The tools without which the gate fails, and those that it can do without.
+const REQUIRED: [&str; 6] = ["cargo", "rustfmt", "cargo-clippy", "cc", "make", "rt"];
+const OPTIONAL: [&str; 5] = ["c++", "pkg-config", "nm", "readelf", "ldd"];
+
+/// What the gate and its stand-ins call of the system.
+const SYSTEM: &str =
+    "bash sh env basename cat cmp dirname grep mktemp nproc paste rm sed seq tail tee touch xargs";
+
+/// A repository of stand-ins, in a folder of its own.
+struct Gate {
+    folder: PathBuf,
+}
+
+/// What a run of the gate did.
+struct Run {
+    passes: bool,
+    lines: Vec<String>,
+    errors: String,
+    calls: Vec<String>,
+}
+
+impl Gate {
+    fn new(name: &str) -> Self {
+        let name = format!("font_types-gate-{}-{name}", std::process::id());
+        let folder = env::temp_dir().join(name);
+        let gate = Self { folder };
+        for path in [
+            ".ci/run",
+            "crates/font_types/src/tests/memory.rt",
+            "crates/fontval/memory/stdin",
+            "crates/fontval/memory/stdout",
+        ] {
+            gate.put(path, &text(path));
+        }
+        for name in REQUIRED.iter().chain(&OPTIONAL) {
+            gate.put(&format!("bin/{name}"), TOOL);
+        }
+        gate.put("c/check", TOOL);
+        let path = env::var_os("PATH").unwrap();
+        for name in SYSTEM.split_whitespace() {
+            let mut places = env::split_paths(&path).map(|folder| folder.join(name));
+            let place = places.find(|place| place.is_file()).expect(name);
+            symlink(place, gate.folder.join("bin").join(name)).unwrap();
+        }
+        gate
+    }
+
+    fn put(&self, path: &str, text: &str) {
+        let path = self.folder.join(path);
+        fs::create_dir_all(path.parent().unwrap()).unwrap();
+        fs::write(&path, text).unwrap();
+        fs::set_permissions(&path, fs::Permissions::from_mode(0o755)).unwrap();
+    }
+
+    /// Runs the gate while this call fails, or with another fault.
+    fn run(&self, fail: &str, wrong: &str) -> Run {
+        let log = self.folder.join("log");
+        fs::write(&log, "").unwrap();
+        let mut gate = Command::new(self.folder.join(".ci/run"));
+        gate.env_clear().env("PATH", self.folder.join("bin"));
+        gate.env("LOG", &log).env("FAIL", fail).env("WRONG", wrong);
+        let output = gate.output().unwrap();
+        let lines = |text: &str| text.lines().map(String::from).collect::<Vec<_>>();
+        let mut calls = lines(&fs::read_to_string(&log).unwrap());
+        calls.sort();
+        Run {
+            passes: output.status.success(),
+            lines: lines(&String::from_utf8_lossy(&output.stdout)),
+            errors: String::from_utf8_lossy(&output.stderr).into_owned(),
+            calls,
+        }
+    }
+
+    /// Runs the gate without a tool.
+    fn run_without(&self, tool: &str) -> Run {
+        let path = self.folder.join("bin").join(tool);
+        fs::remove_file(&path).unwrap();
+        let run = self.run("", "");
+        self.put(&format!("bin/{tool}"), TOOL);
+        run
+    }
+
+    fn assert_fails(&self, fail: &str, wrong: &str) {
+        let run = self.run(fail, wrong);
+        let last = run.lines.last().map(String::as_str);
+        assert!(!run.passes, "{fail}{wrong}");
+        assert_eq!(last, Some("0 passed, 1 failed"), "{fail}{wrong}");
+    }
+}
+
+impl Drop for Gate {
+    fn drop(&mut self) {
+        let _ = fs::remove_dir_all(&self.folder);
+    }
+}
+
+/// Asserts that the gate passed and left this out, and returns its calls.
+fn passed(run: Run, left_out: &str) -> Vec<String> {
+    let last = run.lines.iter().rev().take(2).map(String::as_str);
+    let right = ["3 passed, 0 failed", &format!("left out: {left_out}")];
+    assert!(run.passes, "{}", run.errors);
+    assert!(last.eq(right), "{:#?}", run.lines);
+    run.calls
+}
+
+#[test]
+fn gate_fails_if_a_step_does() {
+    let gate = Gate::new("steps");
+    let calls = passed(gate.run("", ""), "nothing").into_iter();
+    let (tries, others): (Vec<_>, Vec<_>) = calls.partition(|call| call.starts_with("rt try"));
+    assert_eq!(others, COMMANDS.lines().collect::<Vec<_>>());
+    let of_tests = tries.iter().filter(|call| call.contains("--test")).count();
+    assert_eq!((of_tests, tries.len()), (TESTS, TESTS + REQUESTS));
+    for command in COMMANDS.lines().filter(|command| *command != FETCH) {
+        gate.assert_fails(command, "");
+    }
+    for fault in FAULTS {
+        gate.assert_fails("", fault);
+    }
+    let lines = gate.run("", "crate").lines;
+    assert_eq!(lines.last().unwrap(), "2 passed, 1 failed");
+}
+
+#[test]
+fn gate_names_what_it_leaves_out() {
+    let gate = Gate::new("left-out");
+    let comparison = "the comparison with font-types, which cargo cannot fetch";
+    let calls = passed(
+        gate.run(FETCH, "no-freetype"),
+        &format!("FreeType;{comparison}"),
+    );
+    let is_compared = |call: &String| call.starts_with("cargo test") && call.contains("compare");
+    assert!(!calls.iter().any(is_compared), "{calls:#?}");
+    for tool in OPTIONAL {
+        let left_out = format!("the library for C, which needs {tool}");
+        let calls = passed(gate.run_without(tool), &left_out);
+        assert!(!calls.contains(&"c/check".to_string()), "{tool}");
+    }
+}
+
+#[test]
+fn gate_fails_without_a_tool() {
+    let gate = Gate::new("missing");
+    for tool in REQUIRED {
+        let run = gate.run_without(tool);
+        let told = format!("{tool} is missing");
+        assert!(!run.passes && run.errors.contains(&told), "{}", run.errors);
+        assert_eq!(run.lines, ["0 passed, 1 failed"], "{tool}");
+    }
+}
