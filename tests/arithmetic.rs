@@ -102,7 +102,7 @@ fn checked_mul_div(x: i32, a: i32, c: i32) -> Option<i32> {
 /// Returns the raw values whose products and quotients are tested.
 fn factors() -> impl Iterator<Item = i32> {
     let factors = [
-        0, 3, 7, 64, 0x7FFF, 0x8000, 0xFFFF, 0x1_0000, 0x123_4567, 0x20000003, 0x40000001,
+        0, 3, 7, 64, 0x7FFF, 0x8000, 0xFFFF, 0x1_0000, 0x2_0000, 0x123_4567, 0x20000003, 0x40000001,
     ];
     let factors = factors.into_iter().chain([i32::MAX]);
     factors.flat_map(|n| [n, -n, !n])

@@ -2,135 +2,21 @@
 
 use font_types_proved::*;
 
-/// A type, a raw value, and the shortest decimal that parses back to it; of two as near, the one
-/// farther from zero.
-const TEXTS: &str = "\
-F2Dot14 1 0.00006
-F2Dot14 -32768 -2
-F2Dot14 32767 1.99994
-F2Dot14 -806 -0.0492
-F2Dot14 9830 0.6
-F2Dot14 -10139 -0.61884
-F2Dot14 -1 -0.00006
-F2Dot14 16384 1
-F2Dot14 -16384 -1
-F2Dot14 0 0
-F2Dot14 8192 0.5
-F2Dot14 -4096 -0.25
-F4Dot12 1 0.0002
-F4Dot12 32767 7.9998
-F4Dot12 -26007 -6.3494
-F4Dot12 -32768 -8
-F4Dot12 -6144 -1.5
-F4Dot12 2458 0.6
-F6Dot10 1 0.001
-F6Dot10 32767 31.999
-F6Dot10 -87 -0.085
-F6Dot10 -32768 -32
-F6Dot10 -614 -0.6
-Fixed 1 0.00002
-Fixed -2147483648 -32768
-Fixed 2147483647 32767.99998
-Fixed -110031627 -1678.94939
-Fixed -1 -0.00002
-Fixed 0 0
-Fixed 98304 1.5
-Fixed 39322 0.6
-Fixed -39322 -0.6
-Fixed -98304 -1.5
-Fixed 65536000 1000
-Fixed 2147450880 32767.5
-F26Dot6 1 0.02
-F26Dot6 24 0.38
-F26Dot6 -24 -0.38
-F26Dot6 2062335288 32223988.88
-F26Dot6 2147483647 33554431.98
-F26Dot6 -2147483648 -33554432
-F26Dot6 -3 -0.05
-F26Dot6 8 0.13
-F26Dot6 32 0.5
-F26Dot6 65 1.02
-F26Dot6 -96 -1.5
-F26Dot6 6416 100.25
-F26Dot6 -448 -7
-F48Dot16 1 0.00002
-F48Dot16 -9223372036854775808 -140737488355328
-F48Dot16 -9223372036854775807 -140737488355327.99998
-F48Dot16 9223372036854775807 140737488355327.99998
-F48Dot16 911303164702927670 13905382762190.6688
-F48Dot16 72057594037927936 1099511627776
-F48Dot16 39322 0.6
-F48Dot16 -72057594037960704 -1099511627776.5
-F2Dot30 1 0.000000001
-F2Dot30 2147483647 1.999999999
-F2Dot30 131540037 0.122506206
-F2Dot30 -2147483648 -2
-F2Dot30 7 0.0000000065
-F2Dot30 644245094 0.6
-";
+/// Tests of the crate `font_fixed`, whose rows are read here too.
+const TESTS: &str = include_str!("../crates/font_fixed/src/tests/rows.rt");
 
-/// A type, a text, and the raw value that it is parsed as.
-const PARSED: &str = "\
-F2Dot14 1.99996 32767
-F2Dot14 -2.00003 -32768
-F2Dot14 1.2 19661
-F2Dot14 1.999939 32767
-F2Dot14 1.75 28672
-F2Dot14 0.0000610356 1
-F2Dot14 0.0 0
-F2Dot14 -0.000061 -1
-F2Dot14 -2.0 -32768
-F4Dot12 0.0001220703125 1
-F4Dot12 7.9998 32767
-F4Dot12 -8.0001220703124 -32768
-F6Dot10 -0.00048828125 -1
-F6Dot10 31.9995 32767
-Fixed 00012.50 819200
-Fixed -0.000 0
-Fixed 0.6 39322
-Fixed 32767.0 2147418112
-Fixed 28672.00001525879 1879048193
-Fixed 1.0 65536
-Fixed -0.000015259 -1
-Fixed 0.05 3277
-Fixed 0.2 13107
-Fixed 0.4 26214
-Fixed 0.67755 44404
-Fixed -0.05 -3277
-Fixed -0.6 -39322
-Fixed -0.2 -13107
-Fixed -0.4 -26214
-Fixed -0.67755 -44404
-Fixed 0.00000762939453125 1
-Fixed -0.00000762939453125 -1
-Fixed 32767.99999 2147483647
-F26Dot6 0.12 8
-F26Dot6 0.0078125 1
-F26Dot6 -1001.1 -64070
-F2Dot30 0.0000000004656612873077392578125 1
-F2Dot30 -0.0000000004656612873077392578125 -1
-F2Dot30 1.9999999995 2147483647
-F2Dot30 -2.0000000004 -2147483648
-";
-
-/// A type, and a text that is out of its range.
-const OUT_OF_RANGE: &str = "\
-F2Dot14 1.99997
-F2Dot14 -2.00004
-F4Dot12 7.99988
-F6Dot10 -32.0005
-Fixed 4294967296
-Fixed 32768.0
-Fixed 32767.999993
-Fixed 32767.99999237060546875
-Fixed -32768.00000762939453125
-F26Dot6 33554431.9921875
-F48Dot16 140737488355327.99999237060546875
-F48Dot16 -140737488355328.00001
-F48Dot16 18446744073709551616
-F2Dot30 1.9999999996
-F2Dot30 -2.0000000005
-";
+/// Returns the rows of a test: the words between the commas, of texts without their quotes.
+fn rows(test: &str) -> Vec<Vec<&'static str>> {
+    let (_, after) = TESTS.split_once(&format!("fn {test}(")).expect(test);
+    let (_, after) = after.split_once(" in &[").expect(test);
+    let (rows, _) = after.split_once("\n    ] {").expect(test);
+    let words = |row: &'static str| {
+        let (row, _) = row.rsplit_once(')').expect(test);
+        let words = row.split(',').map(str::trim);
+        words.map(|word| word.trim_matches('"')).collect()
+    };
+    rows.split("\n        (").skip(1).map(words).collect()
+}
 
 /// Texts that are not decimals.
 const NOT_DECIMALS: &[&str] = &[
@@ -155,14 +41,15 @@ macro_rules! fixed_point_types {
     ($($name:ident $Type:ident $bits:ident $f:literal $longest:literal;)*) => {$(
         #[test]
         fn $name() {
-            let name = concat!(stringify!($Type), " ");
-            let of_type = |rows: &'static str| {
-                rows.lines().filter_map(|row| row.strip_prefix(name))
+            let of_type = |test| {
+                let of_type = |row: &Vec<&str>| row[0] == stringify!($Type);
+                rows(test).into_iter().filter(of_type).collect::<Vec<_>>()
             };
-            let rows = of_type(TEXTS);
-            assert!(rows.clone().count() >= 3, "{name}: fewer than 3 rows in TEXTS");
+            let printed = of_type("printed_decimals");
+            assert!(printed.len() >= 3, "fewer than 3 rows");
             assert_eq!($Type::max_text_len(), $longest);
-            for (bits, text) in rows.map(|row| row.split_once(' ').unwrap()).chain([("0", "0")]) {
+            for row in printed {
+                let (bits, text) = (row[1], row[2]);
                 let x = $Type::from_bits(bits.parse().unwrap());
                 assert_eq!(format!("{x} {x:?}"), format!("{text} {text}"));
                 let printed = [x.to_decimal(), Shortest::new(x.to_bits().into(), $f)];
@@ -173,12 +60,13 @@ macro_rules! fixed_point_types {
                 let end = x.write_padded(&mut out, &Pad::new(0));
                 assert_eq!(end.map(|end| &out[..end]), Some(text.as_bytes()));
             }
-            for (text, bits) in of_type(PARSED).map(|row| row.split_once(' ').unwrap()) {
-                let x = $Type::from_bits(bits.parse().unwrap());
-                assert_eq!($Type::from_decimal(text), Ok(x), "{text}");
+            for row in of_type("parsed_decimals") {
+                let x = $Type::from_bits(row[2].parse().unwrap());
+                assert_eq!($Type::from_decimal(row[1]), Ok(x), "{}", row[1]);
             }
-            for text in of_type(OUT_OF_RANGE) {
-                assert_eq!($Type::from_decimal(text), Err(DecimalFault::OutOfRange), "{text}");
+            for row in of_type("decimals_out_of_range") {
+                let found = $Type::from_decimal(row[1]);
+                assert_eq!(found, Err(DecimalFault::OutOfRange), "{}", row[1]);
             }
             // At ties, half away from zero, and out of range; next to them, the nearest value.
             let (min, max) = (i128::from($bits::MIN), i128::from($bits::MAX));
@@ -223,62 +111,23 @@ fixed_point_types! {
     f2dot30 F2Dot30 i32 30 13;
 }
 
-/// A format, a text in three parts, of which the second is repeated, and what it is parsed as.
-type LongText = (
-    &'static str,
-    &'static str,
-    &'static str,
-    usize,
-    &'static str,
-    Result<i32, DecimalFault>,
-);
-
-const LONG_TEXTS: [LongText; 12] = [
-    ("16.16", "", "0", 5000, "12.5", Ok(819200)),
-    ("16.16", "0.", "0", 5000, "1", Ok(0)),
-    ("16.16", "-0.", "0", 5000, "1", Ok(0)),
-    ("16.16", "1", "0", 4999, "", Err(DecimalFault::OutOfRange)),
-    ("16.16", "", "9", 4999, "x", Err(DecimalFault::Syntax)),
-    ("16.16", "0.00000762939453124", "9", 3000, "", Ok(0)),
-    (
-        "16.16",
-        "32767.99999237060546874",
-        "9",
-        3000,
-        "",
-        Ok(0x7FFF_FFFF),
-    ),
-    (
-        "16.16",
-        "-32768.00000762939453124",
-        "9",
-        3000,
-        "",
-        Ok(-0x8000_0000),
-    ),
-    ("26.6", "0.0078124", "9", 3000, "", Ok(0)),
-    ("26.6", "33554431.9921874", "9", 3000, "", Ok(0x7FFF_FFFF)),
-    ("26.6", "-33554432.0078124", "9", 3000, "", Ok(-0x8000_0000)),
-    (
-        "2.30",
-        "0.0000000004656612873077392578124",
-        "9",
-        3000,
-        "",
-        Ok(0),
-    ),
-];
-
 #[test]
 fn thousands_of_digits() {
-    for (format, head, digit, count, tail, right) in LONG_TEXTS {
-        let text = format!("{head}{}{tail}", digit.repeat(count));
-        let found = match format {
-            "16.16" => Fixed::from_decimal(&text).map(Fixed::to_bits),
-            "26.6" => F26Dot6::from_decimal(&text).map(F26Dot6::to_bits),
+    let rows = rows("thousands_of_digits");
+    assert_eq!(rows.len(), 12);
+    for row in rows {
+        let digits = row[2].repeat(row[3].parse().unwrap());
+        let text = format!("{}{digits}{}", row[1], row[4]);
+        let found = match row[0] {
+            "Fixed" => Fixed::from_decimal(&text).map(Fixed::to_bits),
+            "F26Dot6" => F26Dot6::from_decimal(&text).map(F26Dot6::to_bits),
             _ => F2Dot30::from_decimal(&text).map(F2Dot30::to_bits),
         };
-        assert_eq!(found, right, "{format}: {head}{digit}..{tail}");
+        let found = match found {
+            Ok(bits) => format!("Ok({bits})"),
+            Err(fault) => format!("Err(DecimalFault::{fault:?})"),
+        };
+        assert_eq!(found, row[5], "{row:?}");
     }
 }
 

@@ -74,6 +74,8 @@ fn scalars_in_bytes_fields_and_arrays() {
     assert_stored(Uint24::new(0x12_3456), &[0x12, 0x34, 0x56]);
     assert_stored(Int24::new(-0x12_3456), &[0xED, 0xCB, 0xAA]);
     assert_stored(F2Dot14::from_bits(-2), &[0xFF, 0xFE]);
+    assert_stored(F4Dot12::from_bits(-2), &[0xFF, 0xFE]);
+    assert_stored(F6Dot10::from_bits(0x1234), &[0x12, 0x34]);
     assert_stored(Fixed::from_bits(-0x1234), &[0xFF, 0xFF, 0xED, 0xCC]);
     assert_stored(F2Dot30::from_bits(-0x1234), &[0xFF, 0xFF, 0xED, 0xCC]);
     assert_stored(FWord::new(-2), &[0xFF, 0xFE]);

@@ -1,9 +1,7 @@
 //! Points, matrices and boxes: over a non-commutative element, to check the order of operands, and
-//! with the values of the specification.
+//! over integers.
 
-use font_types_proved::laws::{
-    action, associative, composed, fixed_identity, identity_neutral, in_turn,
-};
+use font_types_proved::laws::{action, associative, fixed_identity, identity_neutral};
 use font_types_proved::*;
 use std::ops::*;
 
@@ -170,59 +168,6 @@ fn points_of_integers() {
     let q = Point::new(2, 3);
     assert!(p * q == Point::new(20, 48) && p / q == Point::new(5, 5));
     assert!(Point::new(1, 2) * 8 == Point::new(8, 16));
-}
-
-fn whole(elements: [i32; 6]) -> Matrix<Fixed> {
-    Matrix::from_elements(elements).map(Fixed::from_i32)
-}
-
-fn at(x: i32, y: i32) -> Point<Fixed> {
-    Point::new(x, y).map(Fixed::from_i32)
-}
-
-#[test]
-fn images_of_points() {
-    let (scale, shift) = (whole([2, 0, 0, 3, 0, 0]), whole([1, 0, 0, 1, 10, 20]));
-    assert!(scale * shift == whole([2, 0, 0, 3, 20, 60]));
-    assert!(shift * scale == whole([2, 0, 0, 3, 10, 20]));
-    let p = at(5, -22);
-    assert!(shift * p == at(15, -2) && scale * p == at(10, -66));
-    assert!((shift * scale) * p == at(20, -46) && (scale * shift) * p == at(30, -6));
-}
-
-#[test]
-fn products_and_images_of_distinct_elements() {
-    let a = whole([2, 3, 5, 7, 11, 13]);
-    let product = a * whole([17, 19, 23, 29, 31, 37]);
-    assert!(product == whole([129, 184, 191, 272, 258, 365]));
-    let image = a.transform(Fixed::from_i32(17), Fixed::from_i32(19));
-    assert!(image == (Fixed::from_i32(140), Fixed::from_i32(197)));
-}
-
-#[test]
-fn images_composed_and_in_turn() {
-    for (a, b, p, image) in [
-        // Nothing is rounded.
-        ([2, 0, 0, 3, 0, 0], [1, 0, 0, 1, 10, 20], (5, -22), (30, -6)),
-        // Only a partial sum leaves 32 bits.
-        (
-            [1, 0, 1, 1, -30000, 0],
-            [1, 0, 0, 1, 0, 0],
-            (20000, 20000),
-            (10000, 20000),
-        ),
-        // An entry and a coordinate leave 32 bits.
-        ([32767, 0, 0, 1, 0, 0], [2, 0, 0, 1, 0, 0], (1, 0), (-2, 0)),
-    ] {
-        let (a, b, p) = (whole(a), whole(b), at(p.0, p.1));
-        let found = [composed(a, b, p), in_turn(a, b, p)];
-        assert_eq!(found, [at(image.0, image.1); 2]);
-    }
-    // The composed image rounds apart from that in turn.
-    let (mut a, mut b, p) = (Matrix::identity(), Matrix::identity(), at(100, 0));
-    (a.xx, b.xx) = (Fixed::from_bits(0x8000), Fixed::EPSILON);
-    assert!(composed(a, b, p) == Point::new(Fixed::from_bits(100), Fixed::ZERO));
-    assert!(in_turn(a, b, p) == Point::new(Fixed::from_bits(50), Fixed::ZERO));
 }
 
 /// An integer modulo 2^32.

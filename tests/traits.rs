@@ -67,6 +67,37 @@ fn debug_and_hash_of_numbers() {
     assert_distinct(&[F48Dot16::MIN, F48Dot16::MAX], &texts);
 }
 
+/// Does not compile for a type that has the trait.
+macro_rules! is_not {
+    ($Type:ty: $Trait:path) => {{
+        trait Has<Of> {
+            fn any() {}
+        }
+
+        struct Trait;
+
+        impl<T> Has<()> for T {}
+
+        impl<T: $Trait> Has<Trait> for T {}
+
+        <$Type as Has<_>>::any();
+    }};
+}
+
+#[test]
+fn traits_that_types_do_not_have() {
+    is_not!(GlyphId: Scalar);
+    is_not!(F26Dot6: Scalar);
+    is_not!(F48Dot16: Scalar);
+    is_not!(Offset16: Hash);
+    is_not!(Offset24: Hash);
+    is_not!(Offset32: Hash);
+    is_not!(Offset24: Default);
+    is_not!(Nullable<Offset24>: Ord);
+    is_not!(Nullable<Offset24>: IdentityEq);
+    is_not!(Fixed: RingElement);
+}
+
 #[test]
 fn iterators() {
     fn is_exact(iterator: impl ExactSizeIterator + FusedIterator + Clone + Debug) -> String {

@@ -1,11 +1,15 @@
 //! The files of the repository.
 
+use std::env;
 use std::fs;
 use std::path::{Path, PathBuf};
 
-/// The folder above this one.
+/// The folder above this one, or that of a copy: `FONT_TYPES_ROOT`.
 pub fn root() -> PathBuf {
-    Path::new(env!("CARGO_MANIFEST_DIR")).join("..")
+    env::var_os("FONT_TYPES_ROOT").map_or_else(
+        || Path::new(env!("CARGO_MANIFEST_DIR")).join(".."),
+        PathBuf::from,
+    )
 }
 
 /// Reads a file, by its path from the root.

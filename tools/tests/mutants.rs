@@ -14,8 +14,9 @@ const NAMED: &str = "
     ordered_without_identity identity_of_equal_halves header_from_the_end header_of_five_bytes
     character_after_space_accepted tag_from_any_four_bytes product_of_the_other_order
     composition_swapped action_of_the_other_order images_always_zero image_in_turn_always_zero
-    nearby_image_always_zero matrix_sums_saturate nearby_sums_saturate ring_element_for_fixed
-    answers_written_early failed_read_taken_for_the_end other_bytes_before_a_failed_write";
+    nearby_image_always_zero nearby_image_in_turn_always_zero matrix_sums_saturate
+    nearby_sums_saturate ring_element_for_fixed answers_written_early
+    failed_read_taken_for_the_end other_bytes_before_a_failed_write";
 
 #[test]
 fn mutants_name_their_clause() {

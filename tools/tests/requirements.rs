@@ -1,29 +1,30 @@
 //! Each row of docs/REQUIREMENTS.md is shown by literals in a test that the gate runs, or by a
-//! mutant. The number of rows of each section is here, so that no row goes with its test.
+//! mutant. The numbers of rows and of literals of each section are here, so that none goes with its
+//! test.
 
 use font_types_tools::repository::{files, root, text};
 use std::collections::HashMap;
 
-const ROWS: [(&str, usize); 19] = [
-    ("Bytes", 8),
-    ("Fields and headers", 7),
-    ("Decimals parsed", 16),
-    ("Decimals printed", 9),
-    ("Padding", 5),
-    ("Fixed-point arithmetic", 13),
-    ("Conversions", 9),
-    ("Tags", 7),
-    ("Ids, names, offsets, versions and dates", 11),
-    ("Points, boxes and matrices", 10),
-    ("JSON", 12),
-    ("Sums of deltas", 7),
-    ("The program", 11),
-    ("Memory", 6),
-    ("Texts of errors and of `Debug`", 11),
-    ("Traits and constants", 9),
-    ("Misuse", 6),
-    ("Wrong bodies", 28),
-    ("The tests of font-types", 43),
+const ROWS: [(&str, usize, usize); 19] = [
+    ("Bytes", 8, 28),
+    ("Fields and headers", 7, 14),
+    ("Decimals parsed", 16, 53),
+    ("Decimals printed", 9, 41),
+    ("Padding", 5, 10),
+    ("Fixed-point arithmetic", 13, 38),
+    ("Conversions", 9, 13),
+    ("Tags", 7, 20),
+    ("Ids, names, offsets, versions and dates", 11, 34),
+    ("Points, boxes and matrices", 10, 28),
+    ("JSON", 12, 42),
+    ("Sums of deltas", 7, 35),
+    ("The program", 11, 35),
+    ("Memory", 6, 14),
+    ("Texts of errors and of `Debug`", 12, 29),
+    ("Traits and constants", 12, 45),
+    ("Misuse", 6, 7),
+    ("Wrong bodies", 28, 37),
+    ("The tests of font-types", 43, 147),
 ];
 
 /// What shows a row: a literal of the file with a label, or the name of a mutant, with none.
@@ -68,18 +69,55 @@ fn paths(page: &str) -> HashMap<&str, &str> {
         .collect()
 }
 
-fn with_single_spaces(text: &str) -> String {
-    text.split_whitespace().collect::<Vec<_>>().join(" ")
+/// Returns a text in one line, as if no bracket were on a line of its own.
+fn in_one_line(text: &str) -> String {
+    let mut text = text.split_whitespace().collect::<Vec<_>>().join(" ");
+    for (open, close) in [("(", ")"), ("[", "]")] {
+        text = text.replace(&format!("{open} "), open);
+        text = text.replace(&format!(", {close}"), close);
+    }
+    text
 }
 
-/// Returns the text of a file without the lines that are comments.
+/// Returns how often a text has a literal that is not within a longer number or word.
+fn count(text: &str, literal: &str) -> usize {
+    let is_digit = |c: Option<char>| c.is_some_and(|c| c.is_ascii_digit());
+    let is_word = |c: Option<char>| c.is_some_and(|c| c.is_ascii_alphanumeric());
+    let is_number = is_digit(literal.chars().next_back());
+    let is_whole = |start: usize| {
+        let before = text[..start].chars().next_back();
+        let mut after = text[start + literal.len()..].chars();
+        let next = after.next();
+        let is_longer = next == Some('.') && is_digit(after.next());
+        !(is_word(before) && is_word(literal.chars().next()))
+            && !(is_number && (is_word(next) || is_longer))
+    };
+    let starts = text.match_indices(literal).map(|(start, _)| start);
+    starts.filter(|start| is_whole(*start)).count()
+}
+
+/// Returns whether a text has a literal once, or `fn NAME .. LITERAL` once in this function.
+fn has(text: &str, literal: &str) -> bool {
+    let Some((function, row)) = literal.split_once(" .. ") else {
+        return count(text, literal) == 1;
+    };
+    let after = text
+        .split_once(&format!("{function}("))
+        .map(|(_, after)| after);
+    let body = after.and_then(|after| after.split("#[test]").next());
+    body.is_some_and(|body| count(body, row) == 1)
+}
+
+/// Returns the text of a file without comments.
 fn code(path: &str) -> String {
     let comment = if path == ".ci/run" { "#" } else { "//" };
     let text = text(path);
-    let lines = text
-        .lines()
-        .filter(|line| !line.trim_start().starts_with(comment));
-    with_single_spaces(&lines.collect::<Vec<_>>().join("\n"))
+    let lines = text.lines().map(|line| {
+        let mut ends = line.match_indices(comment).map(|(end, _)| &line[..end]);
+        ends.find(|before| before.matches('"').count() % 2 == 0 && !before.ends_with(':'))
+            .unwrap_or(line)
+    });
+    in_one_line(&lines.collect::<Vec<_>>().join("\n"))
 }
 
 /// Asserts that the gate runs the tests of a file.
@@ -91,7 +129,7 @@ fn assert_run(path: &str) {
             let parent = text(&format!("{folder}.rt"));
             assert!(parent.contains(&format!("mod {module};")), "{path}");
         }
-        "rs" => assert_eq!(folder, "tests", "{path}"),
+        "rs" => assert!(["tests", "tools/tests"].contains(&folder), "{path}"),
         _ => {}
     }
     if ["rt", "rs"].contains(&ending) {
@@ -100,6 +138,16 @@ fn assert_run(path: &str) {
             text.contains("#[test]") && !text.contains("#[ignore"),
             "{path}"
         );
+        // Literals that run on no machine, or that are in no test.
+        let conditions = text.lines().filter(|line| line.contains("cfg"));
+        for line in conditions.map(str::trim) {
+            let is_known = line.starts_with("#[cfg_attr(debug_assertions, ignore = ")
+                || ["#[cfg(unix)]", "#[cfg(target_os = \"linux\")]"].contains(&line);
+            assert!(is_known, "{path}: {line}");
+        }
+        for absent in ["/*", "const _:", "return;", "return Ok(());"] {
+            assert!(!text.contains(absent), "{path}: {absent}");
+        }
     }
     // Tests that are ignored without optimization.
     if ending == "rs" && text(path).contains("ignore = ") {
@@ -144,7 +192,7 @@ fn literals_are_in_tests_that_the_gate_runs() {
                 true
             }
             ("stdin", Some(line)) => lines.contains(&stored(&line, &literal)),
-            (label, _) => texts[label].contains(&with_single_spaces(&literal)),
+            (label, _) => has(&texts[label], &in_one_line(&literal)),
         };
         if !is_shown {
             missing.push(format!("{label}: {literal}"));
@@ -158,9 +206,11 @@ fn sections_keep_their_rows() {
     let page = text("docs/REQUIREMENTS.md");
     let sections: Vec<&str> = page.split("\n## ").skip(1).collect();
     assert_eq!(sections.len(), ROWS.len());
-    for (section, (title, rows)) in sections.iter().zip(ROWS) {
+    for (section, (title, rows, literals)) in sections.iter().zip(ROWS) {
         assert_eq!(section.lines().next(), Some(title));
         assert_eq!(cells(section).count(), rows, "rows of {title}");
+        let found: usize = cells(section).map(|cell| places(cell).len()).sum();
+        assert_eq!(found, literals, "literals of {title}");
     }
 }
 
@@ -181,4 +231,18 @@ fn mutants_name_the_page() {
         of_page.retain(|other| other != name);
     }
     assert!(of_page.is_empty(), "missing: {of_page:?}");
+}
+
+/// A name alone says nothing of what a test does.
+#[test]
+fn rows_show_more_than_names() {
+    let page = text("docs/REQUIREMENTS.md");
+    let sections = page.split("\n## ").skip(1);
+    let is_name =
+        |place: &Place| place.literal.starts_with("fn ") && !place.literal.contains(['{', '.']);
+    let names: Vec<&str> = sections
+        .flat_map(cells)
+        .filter(|cell| places(cell).iter().all(is_name))
+        .collect();
+    assert!(names.is_empty(), "{names:#?}");
 }

@@ -1,6 +1,7 @@
-//! Impls of callers, the values of boxes, traits and texts. `tests/geometry.rs` has the other
-//! results, which cargo runs.
+//! Impls of callers, rows of the specification, traits and texts. `tests/geometry.rs` has the order
+//! of operands, which cargo runs.
 
 mod boxes;
 mod ring;
+mod rows;
 mod traits;

@@ -125,6 +125,7 @@ fn products_and_quotients_of_26_6(rt: HostRuntime) {
 fn rounding_of_16_bits(rt: HostRuntime) {
     for &(bits, round, floor, fract) in &[
         (0x7000, -0x8000, 0x4000, 0x3000),
+        (0x1F00, 0, 0, 0x1F00),
         (0x1FFF, 0, 0, 0x1FFF),
         (0x2000, 0x4000, 0, 0x2000),
         (-0x2000, 0, -0x4000, 0x2000),
@@ -150,6 +151,7 @@ fn rounding_of_16_bits(rt: HostRuntime) {
 #[test]
 fn rounding_of_32_bits(rt: HostRuntime) {
     for &(bits, round, floor, fract) in &[
+        (0x1_7FFE, 0x1_0000, 0x1_0000, 0x7FFE),
         (0x1_7FFF, 0x1_0000, 0x1_0000, 0x7FFF),
         (0x1_8000, 0x2_0000, 0x1_0000, 0x8000),
         (i32::MAX, i32::MIN, 0x7FFF_0000, 0xFFFF),
@@ -178,6 +180,8 @@ fn rounding_of_32_bits(rt: HostRuntime) {
 #[test]
 fn rounding_of_64_bits(rt: HostRuntime) {
     for &(bits, round, floor, fract) in &[
+        (0x1_7FFF, 0x1_0000, 0x1_0000, 0x7FFF),
+        (0x1_8000, 0x2_0000, 0x1_0000, 0x8000),
         (-0x1_8000, -0x1_0000, -0x2_0000, 0x8000),
         (-0x1_8001, -0x2_0000, -0x2_0000, 0x7FFF),
         (i64::MAX, i64::MIN, 0x7FFF_FFFF_FFFF_0000, 0xFFFF),

@@ -7,6 +7,7 @@ fn narrowed_16_16(rt: HostRuntime) {
     for &(bits, whole, f26dot6, f2dot14) in &[
         (i32::MAX, -32768, -2097152, 0),
         (262144, 4, 256, 0),
+        (0x1_0000, 1, 64, 0x4000),
         (0x1_8000, 2, 96, 0x6000),
         (-0x1_8000, -1, -96, -0x6000),
         (0x200, 0, 1, 128),
@@ -54,6 +55,7 @@ fn narrowed_48_16(rt: HostRuntime) {
 #[test]
 fn narrowed_26_6(rt: HostRuntime) {
     for &(bits, whole) in &[
+        (64, 1),
         (96, 2),
         (-96, -1),
         (95, 1),
@@ -75,22 +77,25 @@ fn widened(rt: HostRuntime) {
     assert!(rt; Fixed::MIN.to_f48dot16() == F48Dot16::from_bits(-0x8000_0000));
     assert!(rt; Fixed::MIN.mul_i32(i32::MIN) == F48Dot16::from_bits(1 << 62));
     assert!(rt; Fixed::from_bits(-3).mul_i32(5) == F48Dot16::from_bits(-15));
+    assert!(rt; Fixed::ONE.mul_i32(-7) == F48Dot16::from_i64(-7));
+    assert!(rt; Fixed::ZERO.mul_i32(i32::MAX) == F48Dot16::ZERO);
 }
 
 #[test]
 fn from_others(rt: HostRuntime) {
     assert!(rt; [Fixed::from_i32(-1), Fixed::from(-1)] == [Fixed::NEG_ONE; 2]);
+    assert!(rt; Fixed::from_i32(1000).to_bits() == 1000 << 16);
     assert!(rt;
-        [-3, 0x200_0000]
+        [-3, 1000, 0x200_0000]
             .map(F26Dot6::from_i32)
             .map(F26Dot6::to_bits)
-            == [-192, i32::MIN]
+            == [-192, 1000 << 6, i32::MIN]
     );
     assert!(rt;
-        [1 << 40, 1 << 47]
+        [1000, 1 << 40, 1 << 47]
             .map(F48Dot16::from_i64)
             .map(F48Dot16::to_bits)
-            == [1 << 56, i64::MIN]
+            == [1000 << 16, 1 << 56, i64::MIN]
     );
     assert!(rt; F48Dot16::from_i32(i32::MIN) == F48Dot16::from_bits(-0x8000_0000_0000));
     for &(bits, long) in &[

@@ -1,5 +1,5 @@
 //! What no clause says: printing ignores flags. Also, each value of 16 bits parses back from its
-//! text; rows of every format are in `tests/decimals.rs`, which cargo runs.
+//! text.
 
 use crate::*;
 use font_decimal::DecimalFault;
