@@ -73,5 +73,13 @@ fn goals_are_compared_with_clauses() {
         let found = misnamed(&output).iter().any(|told| told.contains(name));
         assert_eq!(found, is_misnamed, "{message}");
     }
+    // That of an impl, which names no function.
+    let name = "font_base/ordered_without_identity.edit";
+    for (goal, is_misnamed) in [("matches_eq-x", false), ("returns-clause-matches_eq", true)] {
+        let output =
+            format!("rt: must-fail {name}: refused, as it must be: a.rt:9:5: .. (`{goal}`)");
+        let found = misnamed(&output).iter().any(|told| told.contains(name));
+        assert_eq!(found, is_misnamed, "{goal}");
+    }
     assert_eq!(misnamed("").len(), files("crates", ".edit").len());
 }

@@ -1,0 +1,383 @@
+//! The other tests of this folder, and its programs, over a copy of the repository: each passes
+//! there, and fails on a fault that it has to find.
+
+use font_types_tools::repository::{files, root};
+use std::env;
+use std::fs;
+use std::path::PathBuf;
+use std::process::{Command, Stdio};
+use std::sync::atomic::{AtomicU32, Ordering};
+
+/// A path, a text of the file, what replaces it, and a part of what the failure says.
+type Fault = (&'static str, &'static str, &'static str, &'static str);
+
+/// A copy of the repository, in a folder of its own.
+struct Copy {
+    folder: PathBuf,
+}
+
+impl Copy {
+    fn new() -> Self {
+        static COUNT: AtomicU32 = AtomicU32::new(0);
+        let count = COUNT.fetch_add(1, Ordering::Relaxed);
+        let name = format!("font_types-copy-{}-{count}", std::process::id());
+        let folder = env::temp_dir().join(name);
+        let copy = Self { folder };
+        for path in files("", "") {
+            let place = copy.folder.join(&path);
+            fs::create_dir_all(place.parent().unwrap()).unwrap();
+            fs::copy(root().join(&path), place).unwrap();
+        }
+        copy
+    }
+
+    /// Runs a command over the copy, and returns whether it succeeds, and what it prints.
+    fn run(&self, command: &mut Command) -> (bool, String) {
+        let command = command.env("FONT_TYPES_ROOT", &self.folder);
+        let output = command.stdin(Stdio::null()).output().unwrap();
+        let printed = [output.stdout, output.stderr].concat();
+        let printed = String::from_utf8_lossy(&printed).into_owned();
+        (output.status.success(), printed)
+    }
+
+    /// Runs the tests of a file of this folder.
+    fn test(&self, name: &str) -> (bool, String) {
+        let manifest = concat!(env!("CARGO_MANIFEST_DIR"), "/Cargo.toml");
+        let mut cargo = Command::new(env!("CARGO"));
+        self.run(cargo.args([
+            "test",
+            "--quiet",
+            "--manifest-path",
+            manifest,
+            "--test",
+            name,
+        ]))
+    }
+
+    /// Calls a function while the copy has a fault.
+    fn with<T>(&self, (path, old, new, _): Fault, run: impl FnOnce() -> T) -> T {
+        let place = self.folder.join(path);
+        let text = fs::read_to_string(&place).expect(path);
+        assert!(text.contains(old), "{path}: {old}");
+        fs::write(&place, text.replacen(old, new, 1)).unwrap();
+        let result = run();
+        fs::write(&place, text).unwrap();
+        result
+    }
+}
+
+impl Drop for Copy {
+    fn drop(&mut self) {
+        let _ = fs::remove_dir_all(&self.folder);
+    }
+}
+
+/// Asserts that the tests of a file pass over a copy, and fail with each fault.
+fn assert_finds(name: &str, faults: &[Fault]) {
+    let copy = Copy::new();
+    let (passes, printed) = copy.test(name);
+    assert!(passes, "{printed}");
+    for fault in faults {
+        let (passes, printed) = copy.with(*fault, || copy.test(name));
+        assert!(!passes, "{name} passes with {fault:#?}");
+        assert!(printed.contains(fault.3), "{fault:#?}: {printed}");
+    }
+}
+
+const LONG: &str = "pub mod exact; // 3456789 123456789 123456789 123456789 123456789 123456789 \
+    123456789 123456789 12345678901";
+
+#[test]
+fn layout() {
+    assert_finds(
+        "layout",
+        &[
+            (
+                "tools/src/lib.rs",
+                "pub mod exact;",
+                LONG,
+                "tools/src/lib.rs:4",
+            ),
+            (
+                "crates/font_geom/src/point.rt",
+                "    }\n\n    /// Creates a point with both",
+                "    }\n    /// Creates a point with both",
+                "crates/font_geom/src/point.rt:",
+            ),
+        ],
+    );
+}
+
+#[test]
+fn links() {
+    let source = "/// The source and its contracts: `crates/font_tags/src/tag.rt`.";
+    assert_finds(
+        "links",
+        &[
+            (
+                "docs/DESIGN.md",
+                "](DECISIONS.md)",
+                "](DECISION.md)",
+                "docs/DESIGN.md: DECISION.md",
+            ),
+            (
+                "crates/font_tags/src/tag.rt",
+                source,
+                "/// No source.",
+                "Tag",
+            ),
+        ],
+    );
+}
+
+#[test]
+fn names() {
+    assert_finds(
+        "names",
+        &[
+            (
+                "docs/PORTING.md",
+                "`eq_value`",
+                concat!("`eq_", "valued`"),
+                "docs/PORTING.md: eq_",
+            ),
+            (
+                "docs/DESIGN.md",
+                "[DECISIONS.md]",
+                "`no_such_file.rt` [DECISIONS.md]",
+                "docs/DESIGN.md: no_such_file.rt",
+            ),
+            (
+                "c/README.md",
+                "font_fixed_mul(",
+                "font_fixed_mull(",
+                "font_fixed_mull",
+            ),
+        ],
+    );
+}
+
+#[test]
+fn package() {
+    assert_finds(
+        "package",
+        &[
+            (
+                "compare/Cargo.toml",
+                "\nversion = \"0.",
+                "\nversion = \"1.",
+                "compare/Cargo.toml",
+            ),
+            ("Cargo.toml", "\"!/src/bin\",", "", "src/bin"),
+            ("src/lib.rs", "[`Tag`]", "tags", "Tag"),
+        ],
+    );
+}
+
+#[test]
+fn calling() {
+    assert_finds(
+        "calling",
+        &[
+            (
+                "crates/font_fixed/src/fixed_i32.rt",
+                "IsSome result ↔ FitsBits 32 (bits_of self.entry +ℤ bits_of other.entry)",
+                "IsSome result ↔ FitsBits 31 (bits_of self.entry +ℤ bits_of other.entry)",
+                "README.md",
+            ),
+            (
+                "crates/examples/src/start.rt",
+                "\n}",
+                "\n }",
+                "src/start.rt",
+            ),
+        ],
+    );
+}
+
+#[test]
+fn mutants() {
+    let edit = "crates/font_fixed/must-fail/product_ties_up_for_negatives.edit";
+    assert_finds(
+        "mutants",
+        &[
+            (edit, "# clause: ", "# ", edit),
+            (edit, "# required by docs/REQUIREMENTS.md\n", "", edit),
+        ],
+    );
+}
+
+#[test]
+fn surface() {
+    let mul_div = (
+        "crates/font_fixed/src/fixed_i32/fixed.rt",
+        "mul_div(&self",
+        "mul_div(self",
+    );
+    assert_finds(
+        "surface",
+        &[
+            (mul_div.0, mul_div.1, mul_div.2, "Fixed::mul_div(&self"),
+            (
+                "crates/font_tags/src/tag.rt",
+                "pub const fn into_bytes",
+                "const fn into_bytes",
+                "Tag::into_bytes",
+            ),
+            (
+                "crates/font_ids/src/offset.rt",
+                "#[derive(",
+                "#[derive(Hash, ",
+                "Offset16",
+            ),
+            (
+                "crates/font_ids/src/name_id.rt",
+                "pub const LICENSE_URL",
+                "pub const LICENCE_URL",
+                "LICENSE_URL",
+            ),
+            (
+                "crates/fontval/src/serve.rt",
+                "Read = 2,",
+                "Read = 4,",
+                "ServeFault",
+            ),
+            (
+                "tools/tests/surface.txt",
+                "Uint24::new(u32) -> Self\n",
+                "",
+                "Functions",
+            ),
+        ],
+    );
+}
+
+#[test]
+fn erasure() {
+    let (path, to_f26dot6) = ("src/generated/font_fixed/fixed_i32/fixed.rs", "to_f26dot6");
+    assert_finds(
+        "erasure",
+        &[
+            (path, to_f26dot6, "to_f26dot7", path),
+            (
+                "c/src/generated/font_c/delta.rs",
+                "pub unsafe extern",
+                "pub extern",
+                "font_delta_sum",
+            ),
+        ],
+    );
+}
+
+const ROWS: &str = "crates/font_fixed/src/tests/rows.rt";
+const TAGS: &str = "tests/tags.rs";
+const PAGE: &str = "docs/REQUIREMENTS.md";
+const ROW: &str = "        (\"F2Dot14\", \"1.99997\"),\n";
+
+#[test]
+fn requirements_and_their_tests() {
+    let told = "(\\\"F2Dot14\\\", \\\"1.99997\\\")";
+    assert_finds(
+        "requirements",
+        &[
+            (ROWS, ROW, "", told),
+            (ROWS, ROW, "        // (\"F2Dot14\", \"1.99997\"),\n", told),
+            (
+                ROWS,
+                ROW,
+                "        (\"F2Dot14\", \"1.98\"), // (\"F2Dot14\", \"1.99997\"),\n",
+                told,
+            ),
+            (
+                ROWS,
+                ROW,
+                "        (\"F2Dot14\", \"1.99997\"),\n        (\"F2Dot14\", \"1.99997\"),\n",
+                told,
+            ),
+            (ROWS, ROW, "        (\"F2Dot14\", \"1.99997999\"),\n", told),
+            (TAGS, "#[test]", "#[test]\n#[ignore]", TAGS),
+            (TAGS, "#[test]", "#[test]\n#[cfg_attr(all(), ignore)]", TAGS),
+            (TAGS, "#[test]", "#[cfg(windows)]\n#[test]", TAGS),
+            (TAGS, "#[test]", "#[cfg(any())]\n#[test]", TAGS),
+            (TAGS, "() {\n", "() {\n    return;\n", TAGS),
+            (TAGS, "#[test]", "const _: &str = \"\";\n\n#[test]", TAGS),
+            (TAGS, "#[test]", "/* */\n#[test]", TAGS),
+            (
+                "crates/font_tags/src/tests/compatible.rt",
+                "    ensures { result ≡ true }\n",
+                "",
+                "packed_is_reflexive",
+            ),
+            (
+                "crates/font_tags/src/tests.rt",
+                "mod compatible;",
+                "mod other;",
+                "compatible.rt",
+            ),
+            (".ci/run", " --test carried", "", "tests/carried.rs"),
+            (
+                "crates/fontval/stdout",
+                "-123456\n",
+                "-123457\n",
+                "stdin: -123456",
+            ),
+        ],
+    );
+}
+
+#[test]
+fn requirements_and_their_page() {
+    let edit = "crates/examples/must-fail/nearby_image_in_turn_always_zero.edit";
+    assert_finds(
+        "requirements",
+        &[
+            (
+                PAGE,
+                "| bytes of `Uint24` ",
+                "bytes of `Uint24` ",
+                "rows of Bytes",
+            ),
+            (
+                PAGE,
+                " `(\"F2Dot14\", 9830, \"0.6\")`",
+                "",
+                "literals of Decimals printed",
+            ),
+            (PAGE, "`0000999a`", "`0000999b`", "stdin: 0000999b"),
+            (
+                PAGE,
+                "`fn empty_input()` `run.status.success() && run.stdout.is_empty() && \
+                 run.stderr.is_empty()`",
+                "`fn empty_input()`",
+                "empty_input",
+            ),
+            (PAGE, " `nearby_sums_saturate`", "", "nearby_sums_saturate"),
+            (edit, "# required by docs/REQUIREMENTS.md\n", "", edit),
+        ],
+    );
+}
+
+#[test]
+fn program_that_erases() {
+    let copy = Copy::new();
+    let path = "src/generated/font_geom/point.rs";
+    let erase = || copy.run(&mut Command::new(env!("CARGO_BIN_EXE_erase")));
+    assert_eq!(erase(), (true, String::new()));
+    let of_path = (path, "broadcast", "broadened", "");
+    let found = copy.with(of_path, || {
+        let run = erase();
+        (run, fs::read_to_string(copy.folder.join(path)).unwrap())
+    });
+    let right = fs::read_to_string(root().join(path)).unwrap();
+    assert_eq!(found, ((true, format!("written: {path}\n")), right));
+    let source = "crates/font_geom/src/point.rt";
+    let (passes, printed) = copy.with((source, "Self { x, y }", "Self /* */ { x, y }", ""), erase);
+    assert!(!passes && printed.contains(source), "{printed}");
+}
+
+#[test]
+fn program_that_reads_mutants() {
+    let copy = Copy::new();
+    let (passes, printed) = copy.run(&mut Command::new(env!("CARGO_BIN_EXE_mutants")));
+    assert!(!passes && printed.contains("no goal is read"), "{printed}");
+}
