@@ -383,6 +383,29 @@ fn apply_delta() {
     }
 }
 
+// The page for porters names the units, as exponents of 2.
+#[test]
+fn units_of_apply_delta() {
+    let page = include_str!("../docs/PORTING.md");
+    let zero = F48Dot16::ZERO;
+    for (types, one) in [
+        ("`FWord`, `UfWord`", FWord::new(1).apply_delta(zero)),
+        ("`Fixed`", Fixed::ONE.apply_delta(zero)),
+        ("`F2Dot14`", F2Dot14::ONE.apply_delta(zero)),
+    ] {
+        let bits = one.ilog2();
+        let mut rows = page
+            .lines()
+            .filter(|row| row.starts_with(&format!("| {types} | `2^-")));
+        let row = rows.next().expect(types);
+        assert!(
+            row.starts_with(&format!("| {types} | `2^-{bits}`")),
+            "{row}"
+        );
+        assert!(row.contains(&format!("| divide by `2^{bits}` |")), "{row}");
+    }
+}
+
 // Results of `apply_delta`, and the nearest integers of font units or raw values, half up.
 #[test]
 fn round_delta() {

@@ -382,3 +382,35 @@ fn headers() {
     let right = "TableDataRef([0, 1, 0, 0, 0, 2]) SampleHeader { a: 1, b: 2 }";
     assert_eq!(format!("{exact:?} {:?}", exact.header()), right);
 }
+
+#[test]
+fn searches_at_each_index() {
+    let numbers: Vec<u16> = (0..20).map(|n| 2 * n).collect();
+    let bytes: Vec<u8> = numbers.iter().flat_map(|n| n.to_be_bytes()).collect();
+    let array = ScalarArray::<u16>::new(&bytes).unwrap();
+    for key in 0..=41 {
+        let right = numbers.partition_point(|n| *n < key);
+        assert_eq!(array.partition_point(|n| n < key), right, "{key}");
+        let right = numbers.binary_search(&key);
+        assert_eq!(array.binary_search_by(|n| n.cmp(&key)), right, "{key}");
+        assert_eq!(array.binary_search_by_key(&key, |n| n), right, "{key}");
+        assert_eq!(array.binary_search(&key), right, "{key}");
+    }
+}
+
+#[test]
+fn fields_at_large_offsets() {
+    let hash = |n: u32| (n.wrapping_mul(2_654_435_761) >> 24) as u8;
+    let bytes: Vec<u8> = (0..70_000).map(hash).collect();
+    for offset in [255, 256, 257, 0xFFFE, 0xFFFF, 0x1_0000, 0x1_0001, 69_998] {
+        let right = u16::from_be_bytes([bytes[offset], bytes[offset + 1]]);
+        let field = BigEndian::<u16>::read_at(&bytes, offset).unwrap();
+        let array = ScalarArray::<u16>::read_at(&bytes, offset, 1).unwrap();
+        let found = [
+            u16::read_at(&bytes, offset),
+            Some(field.get()),
+            array.get(0),
+        ];
+        assert_eq!(found, [Some(right); 3], "{offset}");
+    }
+}

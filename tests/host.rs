@@ -161,6 +161,25 @@ fn serve_allocation_errors() {
     }
 }
 
+// Each line alone, so that each command makes the allocation that fails.
+#[test]
+fn allocation_errors_of_each_line() {
+    for line in LINES.split_inclusive(|byte| *byte == b'\n') {
+        for passes in 0.. {
+            let mut taken = [0; 4096];
+            let (mut source, mut sink) = (FromRead::new(line), FromWrite::new(&mut taken[..]));
+            PASSES.set(passes);
+            let result = serve(Global, &mut source, &mut sink);
+            if PASSES.replace(usize::MAX) <= passes {
+                assert!(result.is_ok(), "{}", line.escape_ascii());
+                break;
+            }
+            let is_memory = matches!(result, Err(ServeFault::Memory));
+            assert!(is_memory, "{passes}: {}", line.escape_ascii());
+        }
+    }
+}
+
 // ---- streams
 
 // Without a descriptor, each call fails.

@@ -278,3 +278,13 @@ fn dates() {
         assert_eq!(format!("{date:?}"), format!("LongDateTime({secs})"));
     }
 }
+
+#[test]
+fn conversions_of_font_units() {
+    for n in [0, 1, -1, i16::MAX, i16::MIN] {
+        let word = UfWord::new(n as u16);
+        assert_eq!(Fixed::from(FWord::new(n)), Fixed::from_i32(n.into()), "{n}");
+        assert_eq!(i32::from(FWord::new(n)), n.into(), "{n}");
+        assert_eq!(i32::from(word), i32::from(n as u16), "{n}");
+    }
+}
