@@ -175,9 +175,9 @@ fn package() {
 }
 
 #[test]
-fn calling() {
+fn shown_code() {
     assert_finds(
-        "calling",
+        "shown_code",
         &[
             (
                 "crates/font_fixed/src/fixed_i32.rt",
@@ -185,12 +185,7 @@ fn calling() {
                 "IsSome result ↔ FitsBits 31 (bits_of self.entry +ℤ bits_of other.entry)",
                 "README.md",
             ),
-            (
-                "crates/examples/src/start.rt",
-                "\n}",
-                "\n }",
-                "src/start.rt",
-            ),
+            ("crates/callers/src/start.rt", "\n}", "\n }", "src/start.rt"),
         ],
     );
 }
@@ -314,7 +309,7 @@ fn requirements_and_their_tests() {
                 "mod other;",
                 "compatible.rt",
             ),
-            (".ci/run", " --test carried", "", "tests/carried.rs"),
+            (".ci/run", " --test original", "", "tests/original.rs"),
             (
                 "crates/fontval/stdout",
                 "-123456\n",
@@ -327,7 +322,7 @@ fn requirements_and_their_tests() {
 
 #[test]
 fn requirements_and_their_page() {
-    let edit = "crates/examples/must-fail/nearby_image_in_turn_always_zero.edit";
+    let edit = "crates/callers/must-fail/nearby_image_in_turn_always_zero.edit";
     assert_finds(
         "requirements",
         &[
