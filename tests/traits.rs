@@ -122,7 +122,7 @@ fn errors() {
         format!("{} {error:?}", Box::<dyn Error>::from(error))
     }
     let error = |id| GlyphId16::try_from(GlyphId::new(id)).unwrap_err();
-    for other in [70_001, 70_000 + 0x1_0000] {
+    for other in [70_001, 70_000 + 0x1_0000, 70_000 + 0x100_0000] {
         assert!(error(70_000) == error(70_000) && error(70_000) != error(other));
     }
     let found = [

@@ -1,7 +1,10 @@
 //! The eraser, an exact-arithmetic oracle that does not use the library, and file helpers.
 
+pub mod alive;
+pub mod copy;
 pub mod erase;
 pub mod exact;
 pub mod mutants;
 pub mod repository;
+pub mod requirements;
 pub mod widths;

@@ -1,84 +1,54 @@
 //! The other tests of this folder, and its programs, over a copy of the repository: each passes
 //! there, and fails on a fault that it has to find.
 
-use font_types_tools::repository::{files, root};
-use std::env;
-use std::fs;
-use std::path::PathBuf;
+use font_types_tools::copy::Copy;
+use font_types_tools::repository::text;
 use std::process::{Command, Stdio};
-use std::sync::atomic::{AtomicU32, Ordering};
 
 /// A path, a text of the file, what replaces it, and a part of what the failure says.
 type Fault = (&'static str, &'static str, &'static str, &'static str);
 
-/// A copy of the repository, in a folder of its own.
-struct Copy {
-    folder: PathBuf,
+/// Runs a command over a copy, and returns whether it succeeds, and what it prints.
+fn run(copy: &Copy, command: &mut Command) -> (bool, String) {
+    let command = command.env("FONT_TYPES_ROOT", &copy.folder);
+    let output = command.stdin(Stdio::null()).output().unwrap();
+    let printed = [output.stdout, output.stderr].concat();
+    let printed = String::from_utf8_lossy(&printed).into_owned();
+    (output.status.success(), printed)
 }
 
-impl Copy {
-    fn new() -> Self {
-        static COUNT: AtomicU32 = AtomicU32::new(0);
-        let count = COUNT.fetch_add(1, Ordering::Relaxed);
-        let name = format!("font_types-copy-{}-{count}", std::process::id());
-        let folder = env::temp_dir().join(name);
-        let copy = Self { folder };
-        for path in files("", "") {
-            let place = copy.folder.join(&path);
-            fs::create_dir_all(place.parent().unwrap()).unwrap();
-            fs::copy(root().join(&path), place).unwrap();
-        }
-        copy
-    }
-
-    /// Runs a command over the copy, and returns whether it succeeds, and what it prints.
-    fn run(&self, command: &mut Command) -> (bool, String) {
-        let command = command.env("FONT_TYPES_ROOT", &self.folder);
-        let output = command.stdin(Stdio::null()).output().unwrap();
-        let printed = [output.stdout, output.stderr].concat();
-        let printed = String::from_utf8_lossy(&printed).into_owned();
-        (output.status.success(), printed)
-    }
-
-    /// Runs the tests of a file of this folder.
-    fn test(&self, name: &str) -> (bool, String) {
-        let manifest = concat!(env!("CARGO_MANIFEST_DIR"), "/Cargo.toml");
-        let mut cargo = Command::new(env!("CARGO"));
-        self.run(cargo.args([
-            "test",
-            "--quiet",
-            "--manifest-path",
-            manifest,
-            "--test",
-            name,
-        ]))
-    }
-
-    /// Calls a function while the copy has a fault.
-    fn with<T>(&self, (path, old, new, _): Fault, run: impl FnOnce() -> T) -> T {
-        let place = self.folder.join(path);
-        let text = fs::read_to_string(&place).expect(path);
-        assert!(text.contains(old), "{path}: {old}");
-        fs::write(&place, text.replacen(old, new, 1)).unwrap();
-        let result = run();
-        fs::write(&place, text).unwrap();
-        result
-    }
+/// Runs the tests of a file of this folder over a copy.
+fn test(copy: &Copy, name: &str) -> (bool, String) {
+    let manifest = concat!(env!("CARGO_MANIFEST_DIR"), "/Cargo.toml");
+    let mut cargo = Command::new(env!("CARGO"));
+    let arguments = [
+        "test",
+        "--quiet",
+        "--manifest-path",
+        manifest,
+        "--test",
+        name,
+    ];
+    run(copy, cargo.args(arguments))
 }
 
-impl Drop for Copy {
-    fn drop(&mut self) {
-        let _ = fs::remove_dir_all(&self.folder);
-    }
+/// Calls a function while a copy has a fault.
+fn with<T>(copy: &Copy, (path, old, new, _): Fault, call: impl FnOnce() -> T) -> T {
+    let text = copy.text(path);
+    assert!(text.contains(old), "{path}: {old}");
+    copy.put(path, &text.replacen(old, new, 1));
+    let result = call();
+    copy.put(path, &text);
+    result
 }
 
 /// Asserts that the tests of a file pass over a copy, and fail with each fault.
 fn assert_finds(name: &str, faults: &[Fault]) {
     let copy = Copy::new();
-    let (passes, printed) = copy.test(name);
+    let (passes, printed) = test(&copy, name);
     assert!(passes, "{printed}");
     for fault in faults {
-        let (passes, printed) = copy.with(*fault, || copy.test(name));
+        let (passes, printed) = with(&copy, *fault, || test(&copy, name));
         assert!(!passes, "{name} passes with {fault:#?}");
         assert!(printed.contains(fault.3), "{fault:#?}: {printed}");
     }
@@ -356,23 +326,27 @@ fn requirements_and_their_page() {
 fn program_that_erases() {
     let copy = Copy::new();
     let path = "src/generated/font_geom/point.rs";
-    let erase = || copy.run(&mut Command::new(env!("CARGO_BIN_EXE_erase")));
+    let erase = || run(&copy, &mut Command::new(env!("CARGO_BIN_EXE_erase")));
     assert_eq!(erase(), (true, String::new()));
     let of_path = (path, "broadcast", "broadened", "");
-    let found = copy.with(of_path, || {
+    let found = with(&copy, of_path, || {
         let run = erase();
-        (run, fs::read_to_string(copy.folder.join(path)).unwrap())
+        (run, copy.text(path))
     });
-    let right = fs::read_to_string(root().join(path)).unwrap();
+    let right = text(path);
     assert_eq!(found, ((true, format!("written: {path}\n")), right));
     let source = "crates/font_geom/src/point.rt";
-    let (passes, printed) = copy.with((source, "Self { x, y }", "Self /* */ { x, y }", ""), erase);
+    let (passes, printed) = with(
+        &copy,
+        (source, "Self { x, y }", "Self /* */ { x, y }", ""),
+        erase,
+    );
     assert!(!passes && printed.contains(source), "{printed}");
 }
 
 #[test]
 fn program_that_reads_mutants() {
     let copy = Copy::new();
-    let (passes, printed) = copy.run(&mut Command::new(env!("CARGO_BIN_EXE_mutants")));
+    let (passes, printed) = run(&copy, &mut Command::new(env!("CARGO_BIN_EXE_mutants")));
     assert!(!passes && printed.contains("no goal is read"), "{printed}");
 }

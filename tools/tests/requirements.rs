@@ -3,6 +3,7 @@
 //! test.
 
 use font_types_tools::repository::{files, root, text};
+use font_types_tools::requirements::{Place, all_places, cells, in_one_line, paths, places};
 use std::collections::HashMap;
 
 const ROWS: [(&str, usize, usize); 19] = [
@@ -26,58 +27,6 @@ const ROWS: [(&str, usize, usize); 19] = [
     ("Wrong bodies", 28, 37),
     ("The tests of font-types", 43, 147),
 ];
-
-/// What shows a row: a literal of the file with a label, or the name of a mutant, with none.
-struct Place {
-    label: String,
-    literal: String,
-}
-
-/// Returns the rows of a section, each the cell that says what shows it.
-fn cells(section: &str) -> impl Iterator<Item = &str> {
-    let rows = section.lines().filter(|line| line.starts_with("| "));
-    rows.skip(1).map(|row| {
-        let starts = [" | [", " | `"].map(|start| row.rfind(start));
-        &row[starts.into_iter().max().flatten().expect(row) + 3..]
-    })
-}
-
-fn places(cell: &str) -> Vec<Place> {
-    let (mut label, mut places) = (String::new(), Vec::new());
-    for (n, part) in cell.split('`').enumerate() {
-        if n % 2 == 1 {
-            let (label, literal) = (label.clone(), part.replace("\\|", "|"));
-            places.push(Place { label, literal });
-        } else if let Some((_, after)) = part.split_once('[') {
-            label = after.split(']').next().unwrap().to_string();
-        }
-    }
-    assert!(!places.is_empty(), "{cell}");
-    places
-}
-
-fn all_places(page: &str) -> impl Iterator<Item = Place> {
-    let sections = page.split("\n## ").skip(1);
-    sections.flat_map(cells).flat_map(places)
-}
-
-/// Returns the paths of the files, by their labels.
-fn paths(page: &str) -> HashMap<&str, &str> {
-    let definitions = page.lines().filter_map(|line| line.split_once("]: ../"));
-    definitions
-        .map(|(label, path)| (&label[1..], path))
-        .collect()
-}
-
-/// Returns a text in one line, as if no bracket were on a line of its own.
-fn in_one_line(text: &str) -> String {
-    let mut text = text.split_whitespace().collect::<Vec<_>>().join(" ");
-    for (open, close) in [("(", ")"), ("[", "]")] {
-        text = text.replace(&format!("{open} "), open);
-        text = text.replace(&format!(", {close}"), close);
-    }
-    text
-}
 
 /// Returns how often a text has a literal that is not within a longer number or word.
 fn count(text: &str, literal: &str) -> usize {
