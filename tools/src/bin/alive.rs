@@ -29,24 +29,26 @@ struct Report {
     do_not_compile: Vec<String>,
 }
 
-/// Returns the command that runs the tests of a group, in a copy.
+/// Returns the command that runs the tests of a group, in a copy, for ten minutes.
 fn command(copy: &Copy, group: &str) -> Command {
+    let mut command = Command::new("timeout");
+    command.args(["--kill-after=1", "600"]);
+    // A backtrace allocates what the tests of memory refuse.
+    command.env("RUST_BACKTRACE", "0");
     if group.starts_with("crates/") {
-        let mut rt = Command::new("rt");
-        rt.args(["try", "--test"])
-            .current_dir(copy.folder.join(group));
-        return rt;
+        command.args(["rt", "try", "--test"]);
+        command.current_dir(copy.folder.join(group));
+        return command;
     }
     let (folder, name) = group.rsplit_once('/').unwrap();
     let folder = folder.strip_suffix("tests").unwrap();
-    let mut cargo = Command::new("cargo");
-    cargo.args(["test", "--test", name.trim_end_matches(".rs")]);
+    command.args(["cargo", "test", "--test", name.trim_end_matches(".rs")]);
     if copy.text(group).contains("ignore = ") {
-        cargo.arg("--release");
+        command.arg("--release");
     }
-    cargo.env("CARGO_TARGET_DIR", copy.folder.join("target"));
-    cargo.current_dir(copy.folder.join(folder));
-    cargo
+    command.env("CARGO_TARGET_DIR", copy.folder.join("target"));
+    command.current_dir(copy.folder.join(folder));
+    command
 }
 
 /// Runs a group with these literals changed, and returns the names of the tests that fail, or

@@ -149,6 +149,8 @@ fn values_varied(rt: HostRuntime) {
     for &(bits, delta, varied) in &[
         (0x8000, 3, Some(102)),
         (0x8000, -3, Some(99)),
+        (0x4000, 1, Some(100)),
+        (0x4000, -1, Some(100)),
         (0x1_0000, 32667, Some(32767)),
         (0x1_0000, 32668, None),
         (i32::MIN, i32::MIN, None),

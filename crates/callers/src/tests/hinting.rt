@@ -92,6 +92,10 @@ fn positions(rt: HostRuntime) {
         Fixed::from_bits(0x3_0000),
     );
     assert!(rt; [third, back] == [Fixed::from_bits(0x14_0000), Fixed::ZERO]);
+    // The product is not rounded before it is divided.
+    let half = Fixed::from_bits(0x8000);
+    let end = between(low, Fixed::from_bits(3), half, half);
+    assert!(rt; end == Fixed::from_bits(0x0A_0003));
     let least = FWord::new(i16::MIN);
     let scaled = [
         scaled_units(FWord::new(3), quarter),
@@ -119,7 +123,9 @@ fn names(rt: HostRuntime) {
     for &(platform, language, name, is) in &[
         (3, 0x409, 1, true),
         (1, 0x409, 1, false),
+        (0, 0x409, 1, false),
         (3, 0x407, 1, false),
+        (3, 0x40A, 1, false),
         (3, 0x409, 2, false),
     ] {
         let entry = NameRecord {

@@ -61,8 +61,8 @@ fn sums_of_words(rt: HostRuntime) {
 
 #[test]
 fn names_and_versions(rt: HostRuntime) {
-    let are = [14, 15].map(|number| is_predefined(NameId::new(number)));
-    assert!(rt; are == [true, false]);
+    let are = [0, 14, 15, 25, 26].map(|number| is_predefined(NameId::new(number)));
+    assert!(rt; are == [true, true, false, true, false]);
     for &(table, supported, is) in &[((1, 2), (1, 1), true), ((2, 1), (1, 1), false)] {
         let table = MajorMinor::new(table.0, table.1);
         let supported = MajorMinor::new(supported.0, supported.1);

@@ -12,6 +12,9 @@ fn advances(rt: HostRuntime) {
             "{index}"
         );
     }
+    let mut long = [0; 0x1_0006];
+    (long[0x1_0004], long[0x1_0005]) = (3, 7);
+    assert!(rt; advance_at(&long, 0x4001) == Some(UfWord::new(775)));
     let advances = [0x1_8000, -0x8000, i32::MAX].map(Fixed::from_bits);
     assert!(rt; line_width(&advances) == Fixed::from_bits(-0x7FFF_0001));
     assert!(rt; line_width(&[]) == Fixed::ZERO);
