@@ -48,7 +48,7 @@ pub fn test_of(text: &str, place: usize) -> Option<&str> {
 }
 
 /// Comparisons, and their opposites.
-const OPPOSITES: [(&str, &str); 8] = [
+const OPPOSITES: [(&str, &str); 10] = [
     ("==", "!="),
     (".is_none()", ".is_some()"),
     (".is_some()", ".is_none()"),
@@ -57,6 +57,8 @@ const OPPOSITES: [(&str, &str); 8] = [
     ("assert_eq!", "assert_ne!"),
     ("matches!(", "!matches!("),
     (" < ", " >= "),
+    (", None)", ", Some(0))"),
+    ("assert!(", "assert!(!"),
 ];
 
 /// Returns a literal that is not true if this one is: with the sense of its comparison changed, or
@@ -134,6 +136,7 @@ mod tests {
                 Some("(\"F2Dot14\", 9830, \"0.7\")"),
             ),
             ("n == F48Dot16::ZERO", Some("n != F48Dot16::ZERO")),
+            ("(40000, 0, None)", Some("(40000, 0, Some(0))")),
             ("\"memory Memory\"", Some("\"memory Memorx\"")),
             ("Int24::new(i32::MAX)", None),
             ("fn empty_input()", None),
