@@ -70,7 +70,7 @@ pub fn changed(literal: &str) -> Option<String> {
             return Some(literal.replacen(sign, opposite, 1));
         }
     }
-    if ["fn ", "impl ", "for "]
+    if ["fn ", "impl ", "for ", "chain("]
         .iter()
         .any(|word| literal.starts_with(word))
     {
@@ -78,9 +78,8 @@ pub fn changed(literal: &str) -> Option<String> {
     }
     let place = last_digit(literal).or_else(|| last_letter(literal))?;
     let other = match literal.as_bytes()[place] {
-        b'0' | b'9' => '1',
-        digit @ (b'1'..=b'8' | b'A'..=b'E' | b'a'..=b'e') => char::from(digit + 1),
-        b'F' | b'f' => 'E',
+        digit @ (b'2'..=b'9' | b'B'..=b'F' | b'b'..=b'f') => char::from(digit - 1),
+        digit @ (b'0' | b'1' | b'A' | b'a') => char::from(digit + 1),
         _ => 'x',
     };
     let mut changed = literal.to_string();
@@ -116,8 +115,8 @@ fn last_letter(literal: &str) -> Option<usize> {
     if literal[start..end].contains('{') {
         return None;
     }
-    let letter = literal[start..end].rfind(|c: char| c.is_ascii_alphabetic())?;
-    Some(start + letter)
+    let text = literal[start..end].trim_end_matches("\\n");
+    Some(start + text.rfind(|c: char| c.is_ascii_alphabetic())?)
 }
 
 #[cfg(test)]
@@ -133,7 +132,7 @@ mod tests {
             ),
             (
                 "(\"F2Dot14\", 9830, \"0.6\")",
-                Some("(\"F2Dot14\", 9830, \"0.7\")"),
+                Some("(\"F2Dot14\", 9830, \"0.5\")"),
             ),
             ("n == F48Dot16::ZERO", Some("n != F48Dot16::ZERO")),
             ("(40000, 0, None)", Some("(40000, 0, Some(0))")),

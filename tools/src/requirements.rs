@@ -52,6 +52,7 @@ pub fn in_one_line(text: &str) -> String {
     for (open, close) in [("(", ")"), ("[", "]")] {
         text = text.replace(&format!("{open} "), open);
         text = text.replace(&format!(", {close}"), close);
+        text = text.replace(&format!(" {close}"), close);
     }
     text
 }

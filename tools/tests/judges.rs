@@ -311,8 +311,8 @@ fn requirements_and_their_page() {
             (PAGE, "`0000999a`", "`0000999b`", "stdin: 0000999b"),
             (
                 PAGE,
-                "`fn empty_input()` `run.status.success() && run.stdout.is_empty() && \
-                 run.stderr.is_empty()`",
+                "`fn empty_input()` `assert!(run.status.success() && run.stdout.is_empty() && \
+                 run.stderr.is_empty());`",
                 "`fn empty_input()`",
                 "empty_input",
             ),
