@@ -72,7 +72,8 @@ thread_local! {
     static PASSES: Cell<usize> = const { Cell::new(usize::MAX) };
 }
 
-/// An allocator that fails if more than a megabyte is requested, and once after `PASSES` calls.
+/// An allocator that fails if more than a megabyte is requested, except for the backtrace of a
+/// panic, and once after `PASSES` calls.
 struct Limited;
 
 #[global_allocator]
@@ -82,7 +83,7 @@ static ALLOCATOR: Limited = Limited;
 unsafe impl GlobalAlloc for Limited {
     unsafe fn alloc(&self, layout: Layout) -> *mut u8 {
         let passes = PASSES.replace(PASSES.get().wrapping_sub(1));
-        if passes == 0 || layout.size() > 1 << 20 {
+        if passes == 0 || (layout.size() > 1 << 20 && !std::thread::panicking()) {
             return std::ptr::null_mut();
         }
         unsafe { System.alloc(layout) }

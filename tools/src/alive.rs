@@ -48,7 +48,7 @@ pub fn test_of(text: &str, place: usize) -> Option<&str> {
 }
 
 /// Comparisons, and their opposites.
-const OPPOSITES: [(&str, &str); 10] = [
+const OPPOSITES: [(&str, &str); 11] = [
     ("==", "!="),
     (".is_none()", ".is_some()"),
     (".is_some()", ".is_none()"),
@@ -59,6 +59,7 @@ const OPPOSITES: [(&str, &str); 10] = [
     (" < ", " >= "),
     (", None)", ", Some(0))"),
     ("assert!(", "assert!(!"),
+    ("Greater)", "Less)"),
 ];
 
 /// Returns a literal that is not true if this one is: with the sense of its comparison changed, or

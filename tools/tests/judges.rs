@@ -66,7 +66,7 @@ fn layout() {
                 "tools/src/lib.rs",
                 "pub mod exact;",
                 LONG,
-                "tools/src/lib.rs:4",
+                "tools/src/lib.rs:",
             ),
             (
                 "crates/font_geom/src/point.rt",
