@@ -54,8 +54,9 @@ fn assert_finds(name: &str, faults: &[Fault]) {
     }
 }
 
-const LONG: &str = "pub mod exact; // 3456789 123456789 123456789 123456789 123456789 123456789 \
-    123456789 123456789 12345678901";
+/// 121 columns.
+const LONG: &str = "// 456789 123456789 123456789 123456789 123456789 123456789 123456789 \
+    123456789 123456789 123456789 123456789 123456789 1";
 
 #[test]
 fn layout() {
@@ -68,6 +69,7 @@ fn layout() {
                 LONG,
                 "tools/src/lib.rs:",
             ),
+            ("docs/DESIGN.md", "[DECISIONS.md]", LONG, "docs/DESIGN.md:"),
             (
                 "crates/font_geom/src/point.rt",
                 "    }\n\n    /// Creates a point with both",
