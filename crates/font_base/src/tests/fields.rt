@@ -74,6 +74,7 @@ fn header_and_data(rt: HostRuntime) -> Result<(), Fail> {
     let table = TableDataRef::<SampleHeader>::new(&bytes).ok_or("long enough")?;
     let header = table.clone()?.header();
     assert!(rt; header.a.get() == 1 && header.b.get() == 2 && table.data().len() == 7);
+    assert!(rt; table.data().ends_with(&[0x00, 0x02, 0xFF]));
     Ok(())
 }
 
