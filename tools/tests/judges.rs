@@ -226,6 +226,7 @@ fn erasure() {
         "erasure",
         &[
             (path, to_f26dot6, "to_f26dot7", path),
+            (path, "/// Divides as", "/// Divided as", path),
             (
                 "c/src/generated/font_c/delta.rs",
                 "pub unsafe extern",
