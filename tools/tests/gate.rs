@@ -206,7 +206,7 @@ fn gate_names_what_it_leaves_out() {
     let comparison = "the comparison with font-types, which cargo cannot fetch";
     let calls = passed(
         gate.run(FETCH, "no-freetype"),
-        &format!("FreeType;{comparison}"),
+        &format!("FreeType; {comparison}"),
     );
     let is_compared = |call: &String| call.starts_with("cargo test") && call.contains("compare");
     assert!(!calls.iter().any(is_compared), "{calls:#?}");
