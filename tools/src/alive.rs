@@ -57,7 +57,7 @@ const OPPOSITES: [(&str, &str); 11] = [
     ("assert_eq!", "assert_ne!"),
     ("matches!(", "!matches!("),
     (" < ", " >= "),
-    (", None)", ", Some(0))"),
+    (", None", ", Some(0)"),
     ("assert!(", "assert!(!"),
     ("Greater)", "Less)"),
 ];

@@ -10,6 +10,15 @@ use std::collections::{BTreeMap, BTreeSet};
 use std::ops::Range;
 use std::process::{Command, ExitCode};
 
+/// What stays true with another value: valid tags, flags that are ignored, and inputs whose
+/// neighbors have the same result.
+const STAY_TRUE: [&str; 4] = [
+    r#"b"a   ", b"ab  ", b"abc ""#,
+    "{tag}|{tag:8}|{tag:>10}|{tag:.0}|{tag:?}",
+    "Fixed::MIN.mul_div(Fixed::MIN, Fixed::from_bits(-1))",
+    r#"b"int24 fe1dc0\nint24 fe1d\n\nbogus 1\nuint8""#,
+];
+
 /// A literal in a file, and the name of its test, if it is in one.
 #[derive(Clone)]
 struct Literal {
@@ -169,7 +178,8 @@ fn main() -> ExitCode {
         };
         let source = copy.text(path);
         let found = find(&source, &place.literal).expect(&place.literal);
-        let Some(changed) = changed(&source[found.clone()]) else {
+        let changed = changed(&source[found.clone()]);
+        let Some(changed) = changed.filter(|_| !STAY_TRUE.contains(&&*place.literal)) else {
             report.names.push(place.literal);
             continue;
         };
