@@ -78,6 +78,30 @@ fn versions_are_alike() {
         assert_eq!(version(path, "\nversion = \""), header, "{path}");
         assert!(text(path).contains("\npublish = false\n"), "{path}");
     }
+    let parts: Vec<u32> = header
+        .split('.')
+        .map(|part| part.parse().unwrap())
+        .collect();
+    let [major, minor, patch] = parts[..] else {
+        panic!("{header}");
+    };
+    for (path, shown) in [
+        ("c/font_types.map", format!("FONT_TYPES_{major}.{minor} {{")),
+        ("c/check", format!("\nversion={major}.{minor}\n")),
+        ("c/check", format!("stand-in of {major}.{},", minor + 1)),
+        ("c/tests/table.c", format!("\"{header}\"")),
+        (
+            "c/include/font_types.h",
+            format!("VERSION_NUMBER 0x{major:02X}{minor:02X}{patch:02X}\n"),
+        ),
+        ("c/README.md", format!("`FONT_TYPES_{major}.{minor}`")),
+        (
+            "crates/font_c/src/version.rt",
+            format!("\n    0x{major:02X}_{minor:02X}{patch:02X}\n"),
+        ),
+    ] {
+        assert!(text(path).contains(&shown), "{path}: {shown}");
+    }
 }
 
 // What tests of headers use and a constant are elsewhere.
