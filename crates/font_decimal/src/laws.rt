@@ -4,7 +4,12 @@ ghost use Rattle.font_decimal.specs.Reading.{Parses, IsAtMost};
 
 use crate::{DecimalFault, read_decimal};
 
-/// Parses both texts. If both are accepted, the greater decimal never gives the smaller value.
+/// Parses both texts by `read_decimal`. If both are accepted, the greater decimal never gives the
+/// smaller value.
+///
+/// # Panics
+///
+/// Panics in Rust as `read_decimal` does.
 #[inline]
 pub fn reads_in_order(
     s: &str,
