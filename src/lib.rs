@@ -62,7 +62,7 @@ mod font_decimal;
 mod font_fixed;
 #[path = "generated/font_geom/mod.rs"]
 mod font_geom;
-// It passes on what is in `font_tags`.
+// It re-exports what is in `font_tags`.
 #[allow(unused_imports)]
 #[path = "generated/font_ids/mod.rs"]
 mod font_ids;

@@ -79,7 +79,7 @@ pub fn ratio(part: Fixed, whole: Fixed) -> Fixed {
     part / whole
 }
 
-// Returns the same ratio, negated.
+// Returns `ratio`, negated.
 fn negated_ratio(part: Fixed, whole: Fixed) -> Fixed {
     -ratio(part, whole)
 }

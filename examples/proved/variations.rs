@@ -34,7 +34,7 @@ pub fn axis_scalar(axis: RegionAxisCoordinates, coordinate: F2Dot14) -> Fixed {
     }
 }
 
-// Returns the same for an axis that is not ignored, at another coordinate than the peak.
+// Returns `axis_scalar` of an axis that is not ignored, at another coordinate than the peak.
 fn scalar_off_peak(axis: RegionAxisCoordinates, coordinate: F2Dot14) -> Fixed {
     let (start, peak, end) = (axis.start_coord, axis.peak_coord, axis.end_coord);
     if coordinate <= start || end <= coordinate {
@@ -133,7 +133,7 @@ fn width_of(words: u16, column: u16) -> usize {
     }
 }
 
-// Where the delta of a column in a set is stored.
+// Returns the offset of the delta of a column in a set.
 fn offset_of(words: u16, count: u16, set: u16, column: u16) -> usize {
     let wide = words % 0x8000;
     let row = usize::from(count) + usize::from(wide);

@@ -126,7 +126,7 @@ pub fn ratio(part: Fixed, whole: Fixed) -> Fixed
     part / whole
 }
 
-// Returns the same ratio, negated.
+// Returns `ratio`, negated.
 fn negated_ratio(part: Fixed, whole: Fixed) -> Fixed
     requires part { (pos 0 ≤ℤ fixed_bits part) × (fixed_bits part ≤ℤ fixed_bits whole) }
     requires whole { whole ≢ Fixed.ZERO }

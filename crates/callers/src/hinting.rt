@@ -99,7 +99,7 @@ pub fn nearest_pixel(y: F26Dot6) -> i32
 
 /// Returns the height of a zone below a coordinate: 0 under the zone, and all of it above.
 ///
-/// The precondition of each difference is written out: from that of the height it is not found.
+/// Each difference has a precondition of its own: the checker does not find it from the height.
 pub fn depth(y: F26Dot6, bottom: F26Dot6, top: F26Dot6) -> F26Dot6
     requires order { f26dot6_bits bottom ≤ℤ f26dot6_bits top }
     requires height { FitsBits 32 (f26dot6_bits top -ℤ f26dot6_bits bottom) }
@@ -129,7 +129,7 @@ fn added(a: F26Dot6, b: F26Dot6) -> F26Dot6
 
 /// Returns the far edge of a stem whose near edge is on the grid: the width is rounded half up.
 ///
-/// `added` is apart: in one body, the two bounds of the rounded width are not found.
+/// `added` is a function of its own: in one body, the two bounds of the rounded width stay open.
 pub fn far_edge(near: F26Dot6, width: F26Dot6) -> F26Dot6
     requires on_grid { IsIntegral 6 (f26dot6_bits near) }
     requires width { FitsBits 32 (f26dot6_bits width +ℤ pos 32) }

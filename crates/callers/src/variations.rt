@@ -60,7 +60,7 @@ pub fn axis_scalar(axis: RegionAxisCoordinates, coordinate: F2Dot14) -> Fixed
     }
 }
 
-// Returns the same for an axis that is not ignored, at another coordinate than the peak.
+// Returns `axis_scalar` of an axis that is not ignored, at another coordinate than the peak.
 fn scalar_off_peak(axis: RegionAxisCoordinates, coordinate: F2Dot14) -> Fixed
     requires order { (f2dot14_bits axis.start_coord ≤ℤ f2dot14_bits axis.peak_coord)
         × (f2dot14_bits axis.peak_coord ≤ℤ f2dot14_bits axis.end_coord) }
@@ -223,7 +223,7 @@ fn width_of(words: u16, column: u16) -> usize
     }
 }
 
-// Where the delta of a column in a set is stored.
+// Returns the offset of the delta of a column in a set.
 fn offset_of(words: u16, count: u16, set: u16, column: u16) -> usize
     ensures value { result ≡ delta_place words count set column }
     ensures small { result < 2 ^ 40 }

@@ -1,5 +1,5 @@
-//! Rows of the specification and of font-types, and every value of 16 bits. `tests/arithmetic.rs`
-//! and `tests/decimals.rs` compare each type with exact values, which cargo runs.
+//! Rows of docs/REQUIREMENTS.md and of font-types, and every value of 16 bits. `arithmetic.rs` and
+//! `decimals.rs` of `tests` compare each type with exact values, which cargo runs.
 
 mod arithmetic;
 mod conversions;

@@ -1,5 +1,5 @@
-//! Impls of callers, rows of the specification, traits and texts. `tests/geometry.rs` has the order
-//! of operands, which cargo runs.
+//! Impls of callers, rows of docs/REQUIREMENTS.md, traits and texts. `tests/geometry.rs` has the
+//! order of operands, which cargo runs.
 
 mod boxes;
 mod ring;

@@ -1,4 +1,4 @@
-//! Decimals of the seven formats, by rows of the specification and of font-types: cargo reads the
+//! Decimals of the seven formats, by rows of docs/REQUIREMENTS.md and of font-types: cargo reads the
 //! tables too, in `tests/decimals.rs`.
 
 use crate::*;

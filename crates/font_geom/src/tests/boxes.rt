@@ -1,5 +1,5 @@
 //! An element of a caller, which cargo cannot compile: one that does not compare with every other.
-//! Also whether boxes have the values of the specification.
+//! Also whether boxes have the values of docs/REQUIREMENTS.md.
 
 ghost use Rattle.std.specs.Prelude.{◌≡◌, ◌&&◌, nat_le};
 ghost use Rattle.font_geom.specs.BoundingBox.Laws.{is_tied, order_of, equality_laws, order_laws};

@@ -1,4 +1,4 @@
-//! Sums of deltas and what they move, by rows of the specification and of font-types.
+//! Sums of deltas and what they move, by rows of docs/REQUIREMENTS.md and of font-types.
 
 use crate::{
     DeltaSum, F2Dot14, F48Dot16, FWord, Fixed, UfWord, checked_delta_sum, delta_sum, vary,
