@@ -1,4 +1,4 @@
-//! Whether the definitions of conversions give the values of docs/REQUIREMENTS.md and of font-types.
+//! Whether the definitions of conversions give the values of docs/REQUIREMENTS.md and font-types.
 
 use crate::*;
 

@@ -1,5 +1,5 @@
-//! Decimals of the seven formats, by rows of docs/REQUIREMENTS.md and of font-types: cargo reads the
-//! tables too, in `tests/decimals.rs`.
+//! Decimals of the seven formats, by rows of docs/REQUIREMENTS.md and of font-types. The test
+//! `tests/decimals.rs`, which cargo runs, reads the same tables.
 
 use crate::*;
 use font_decimal::DecimalFault;
