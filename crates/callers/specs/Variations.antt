@@ -180,7 +180,7 @@ abbrev pub IsVaried : List ℕ → List ℕ → List F2Dot14 → ℕ → ℕ →
 IsVaried regions subtable coordinates set advance varied =
     (sum : ℤ) × IsSetSum regions subtable coordinates set sum × (varied ≡ moved advance sum)
 
--- the set is not there, or what it moves the advance to is none
+-- the subtable does not have the set, or the advance that it moves is out of range
 abbrev pub HasNoVaried : List ℕ → List ℕ → List F2Dot14 → ℕ → ℕ → Type 0
 HasNoVaried regions subtable coordinates set advance = (¬ HasSet regions subtable set)
     ⊎ ((varied : ℤ) × IsVaried regions subtable coordinates set advance varied × (¬ IsAdvance varied))

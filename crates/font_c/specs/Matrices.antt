@@ -7,11 +7,11 @@ use Rattle.font_types.specs.FixedMatrix.{wrapped_sum, wrapped_product}
 use Rattle.font_c.specs.declared.matrix.FontMatrix.{FontMatrix}
 use Rattle.font_c.specs.declared.matrix.FontPoint.{FontPoint}
 
--- the same elements
+-- the matrix of raw values with the elements of a matrix of C
 abbrev pub entries : FontMatrix → Matrix ℤ
 entries m = record { xx = m.xx; yx = m.yx; xy = m.xy; yy = m.yy; dx = m.dx; dy = m.dy }
 
--- the same coordinates
+-- the point of raw values with the coordinates of a point of C
 abbrev pub coordinates : FontPoint → Point ℤ
 coordinates p = record { x = p.x; y = p.y }
 
@@ -19,7 +19,7 @@ coordinates p = record { x = p.x; y = p.y }
 abbrev pub fixed_matrix_product : Matrix ℤ → Matrix ℤ → Matrix ℤ
 fixed_matrix_product a b = matrix_product wrapped_sum wrapped_product a b
 
--- the image of a point under m, in the same way
+-- the image of a point under m: products of elements are rounded and wrapped, sums wrapped
 abbrev pub fixed_image : Matrix ℤ → Point ℤ → Point ℤ
 fixed_image m p = image_of wrapped_sum wrapped_product m p
 

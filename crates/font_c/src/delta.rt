@@ -46,7 +46,8 @@ pub extern "C" fn font_apply_delta_i16(base: i16, delta: i64, units: &mut i16) -
     OK
 }
 
-/// Adds a 48.16 delta to unsigned font units, as advances are, and rounds in the same way.
+/// Adds a 48.16 delta to unsigned font units, as advances are, and rounds to the nearest font unit,
+/// half up.
 #[unsafe(no_mangle)]
 #[tactic(auto, using(crate::proofs::Units::far_units))]
 pub extern "C" fn font_apply_delta_u16(base: u16, delta: i64, units: &mut u16) -> u32

@@ -83,7 +83,7 @@ pub extern "C" fn font_format(
     )
 }
 
-/// Writes the padded decimal in the same way.
+/// Writes that decimal padded to the start of `out`, and its length to `written`.
 #[unsafe(no_mangle)]
 pub extern "C" fn font_format_padded(
     bits: i64,
@@ -123,7 +123,7 @@ pub fn put_text(text: &[u8], out: &mut [u8], written: &mut usize) -> u32
     OK
 }
 
-// Writes a padded decimal in the same way.
+// Writes a padded decimal to the start of a buffer, and its length.
 #[tactic(auto, using(crate::proofs::Texts::text_calls))]
 fn put_padded(text: &str, pad: &Pad, out: &mut [u8], written: &mut usize) -> u32
     requires decimal { IsDecimal text.now }

@@ -105,7 +105,7 @@ kept_below p ds h =
 abbrev pub HasNumeral : List ℕ → ℕ → ℕ → Type 0
 HasNumeral ds numeral power_of_five = AllDigits 10 ds × (numeral ≡ digits_value 10 ds) × (power_of_five ≡ 5 ^ length ds)
 
--- the same of digits in two parts, by those of each, in 128 bits
+-- the same for digits in two parts, by those of each, in 128 bits
 pub record IsJoined (ds : List ℕ) (back high low high_power low_power : ℕ) : Type 0 where
   pub digits : AllDigits 10 ds
   pub tens : low_power * 2 ^ back % 2 ^ 128 ≡ 10 ^ back

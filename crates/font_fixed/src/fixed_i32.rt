@@ -219,7 +219,7 @@ where
     /// Parses a decimal as the nearest value, rounding half away from zero.
     ///
     /// A decimal is an optional `-`, one or more digits, and optionally a point followed by one or
-    /// more digits, of any length: `+1`, `.5`, `1.` and `1e3` are none.
+    /// more digits, of any length. `+1`, `.5`, `1.` and `1e3` are not decimals.
     ///
     /// # Errors
     ///

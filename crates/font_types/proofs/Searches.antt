@@ -41,7 +41,7 @@ module _ (bytes : List ℕ) (n : ℕ) (key : GlyphId16) (result : Result ℕ ℕ
       → IfErr result (λ _. (k : ℕ) → k < n → element 2 bytes k ≢ bytes_of 2 (pos (glyph16_number key)))
   glyph_absent = number_absent glyph16_number 2 n (glyph16_number key) (element 2 bytes) key result refl
 
--- the same of the index alone, as `ok` returns it
+-- the same for the index alone, as `ok` returns it
 found_some : (P : ℕ → Type 0) (result : Result ℕ ℕ) → IfOk result P → IfSome (result_ok result) P
 found_some P (Ok i) found = found
 found_some P (Err i) found = tt

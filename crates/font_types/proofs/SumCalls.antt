@@ -126,7 +126,7 @@ pub sum_onto_16 : (m : ℕ) (y : ℤ) → m < 65536 → SFits w16 y
     → to_z w16 ((m + of_z w16 y) % 65536) ≡ wrap 16 (to_z w16 m +ℤ y)
 sum_onto_16 m y below fits = wrapping_add_onto w16 m y below fits ∙ int_wrap-wrap w16 (to_z w16 m +ℤ y)
 
--- the same of 32 bits
+-- the same for 32 bits
 pub none_32 : wrap 32 (pos 0) ≡ pos 0
 none_32 = wrap-fits 32 (pos 0) (lit< tt) (record { low = omega (arith, ints); high = omega (arith, ints) })
 

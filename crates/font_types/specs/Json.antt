@@ -21,7 +21,7 @@ pub record JsonForm (T : Type 0) : Type 1 where
   pub is_value : T → Bool
   -- the JSON is the form of the value
   pub shows : T → Data → Type 0
-  -- the conversion of the value may fail so
+  -- the conversion of the value may fail with this error
   pub refuses : T → JsonFault → Type 0
   -- the result of converting the JSON
   pub reads : Data → Result T JsonFault → Type 0
@@ -64,7 +64,7 @@ is_unsigned w n = is_within (pos 0) (pos (2 ^ w - 1)) (pos n)
 
 -- ---- decimals
 
--- the same error as of a decimal
+-- the error of JSON for an error of parsing a decimal
 abbrev pub json_fault : DecimalFault → JsonFault
 json_fault DecimalFault.Syntax = Syntax
 json_fault DecimalFault.OutOfRange = OutOfRange
@@ -76,7 +76,7 @@ ConvertsDecimalText w f text (Err Syntax) = IsNoDecimal text
 ConvertsDecimalText w f text (Err OutOfRange) = IsTooFar w f text
 ConvertsDecimalText w f text (Err _) = ⊥
 
--- the same if there is a string; otherwise `WrongKind`
+-- the result of parsing the string, if there is one; otherwise `WrongKind`
 abbrev pub ConvertsDecimalString : ℕ → ℕ → Option (List ℕ) → Result ℤ JsonFault → Type 0
 ConvertsDecimalString w f None result = result ≡ Err WrongKind
 ConvertsDecimalString w f (Some text) result = ConvertsDecimalText w f text result
@@ -100,7 +100,7 @@ ConvertsTagText text (Ok tag) = IsAcceptable text × (tag_bytes tag ≡ filled t
 ConvertsTagText text (Err InvalidTag) = ¬ IsAcceptable text
 ConvertsTagText text (Err _) = ⊥
 
--- the same if there is a string
+-- the result of converting the string, if there is one; otherwise `WrongKind`
 abbrev pub ConvertsTagString : Option (List ℕ) → Result Tag JsonFault → Type 0
 ConvertsTagString None result = result ≡ Err WrongKind
 ConvertsTagString (Some text) result = ConvertsTagText text result

@@ -76,7 +76,7 @@ IsNamed word (Ok command) = name_of command ≡ word
 IsNamed word (Err error) =
     (error ≡ UnknownCommand) × ((command : Command) → name_of command ≢ word)
 
--- the same of the fixed-point types
+-- the fixed-point type is the one that a word names, or there is none
 abbrev pub IsNamedType : List ℕ → Result FixedType LineError → Type 0
 IsNamedType word (Ok type) = (fixed_row type).0 ≡ word
 IsNamedType word (Err error) =

@@ -15,7 +15,7 @@ pub record Serves (left left' taken taken' : Option (List ℕ)) : Type 0 where
   pub answers : Answers input output
   pub written : Appends taken taken' output
 
--- The same, but that the sink took only a beginning of the answers, and not the whole.
+-- All that a source had left was read, and the sink took only a beginning of the answers to it, and not the whole.
 pub record ServesInPart (left left' taken taken' : Option (List ℕ)) : Type 0 where
   pub input : List ℕ
   pub output : List ℕ

@@ -142,7 +142,7 @@ fn numeral_and_power(digits: &[u8]) -> Option<(u64, u64)> {
     Some((numeral, power_of_five))
 }
 
-// Does the same for up to 31 digits, by halves.
+// Returns what `numeral_and_power` does, for up to 31 digits, by halves.
 #[inline]
 fn long_numeral_and_power(digits: &[u8]) -> Option<(u128, u128)> {
     let (front, back) = digits.split_at(digits.len() / 2);

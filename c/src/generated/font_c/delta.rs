@@ -39,7 +39,8 @@ pub unsafe extern "C" fn font_apply_delta_i16(base: i16, delta: i64, units: &mut
     OK
 }
 
-/// Adds a 48.16 delta to unsigned font units, as advances are, and rounds in the same way.
+/// Adds a 48.16 delta to unsigned font units, as advances are, and rounds to the nearest font unit,
+/// half up.
 #[unsafe(no_mangle)]
 pub unsafe extern "C" fn font_apply_delta_u16(base: u16, delta: i64, units: &mut u16) -> u32 {
     let Some(moved) = (i64::from(base) * 0x1_0000).checked_add(delta) else {
