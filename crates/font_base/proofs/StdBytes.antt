@@ -21,7 +21,7 @@ pub to_be_bytes-bytes_of : (w : Width) (n : ℕ) → n < 2 ^ bits w → to_be_by
 unfolding bytes_of
 to_be_bytes-bytes_of w n below = grind (arith, nat_tests)
 
--- a number and its two's complement are some turns of the width apart
+-- how many times 2^width is added to an integer to give its two's complement
 abbrev pub turns_of : ℤ → ℤ
 turns_of (pos n) = pos 0
 turns_of (negsuc n) = pos 1

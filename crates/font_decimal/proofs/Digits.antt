@@ -66,7 +66,7 @@ pub record IsCut (p : ℕ) (ds : List ℕ) : Type 0 where
   pub is : digits_value 10 ds * 10 ^ p ≡ kept_numeral p ds * 10 ^ length ds + rest
   pub below : rest < 10 ^ length ds
 
--- each fraction is so cut
+-- each fraction has such digits and such a rest
 pub is_cut : (p : ℕ) (ds : List ℕ) → AllDigits 10 ds → IsCut p ds
 is_cut p ds h =
     let k = length ds in

@@ -7,7 +7,7 @@ use Rattle.font_fixed.proofs.Wrapped.{wrapping_add-wrap, wrapping_sub-wrap, wrap
 use Rattle.font_fixed.proofs.Wrapped.{wrapping_mul-wrap, rem_euclid_is_fract}
 use Rattle.font_fixed.proofs.Narrowing.{floor_is_nearest_whole, shr_is_narrowed}
 
--- `search` finds the width of a column nowhere in its goal
+-- `search` does not find the width of a column in its goal
 pub cell_16 : HasRoom w16
 cell_16 = padded_has_room w16
 

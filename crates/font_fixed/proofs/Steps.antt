@@ -24,7 +24,7 @@ near_of_sum : (n e q : ℤ) (d half : ℕ) → d ≡ half + half → 0 < half
     → ((n +ℤ pos half) -ℤ e) <ℤ ((q *ℤ pos d) +ℤ pos d) → Near n d q
 near_of_sum n e q d half halves some step low high = omega (arith, ints, unsigned_abs-mul q (pos d))
 
--- the wrapped answer is a rounded one
+-- the wrapped result is the rounded one
 pub near_is_wrapped_near : (w : ℕ) (n : ℤ) (d : ℕ) (r : ℤ) → 0 < d → r ≡ wrap w (near n d) → IsWrappedNear w n d r
 near_is_wrapped_near w n d r some is = wrapped_near_from w n d (near n d) r some (near_is n d some) is
 
