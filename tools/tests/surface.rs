@@ -1,6 +1,6 @@
-//! What the specification names, as surface.txt lists it, is in the source: functions with the
-//! types of their parameters and results, constants, fields, variants, and the traits of each type,
-//! no fewer and no more.
+//! The public surface that the port has to have, as surface.txt lists it, is in the source:
+//! functions with the types of their parameters and results, constants, fields, variants, and the
+//! traits of each type, no fewer and no more.
 
 use font_types_tools::repository::{files, text};
 use std::collections::{BTreeMap, BTreeSet};
