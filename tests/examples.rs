@@ -37,12 +37,29 @@ fn run(program: &str, arguments: &[&str]) -> (String, String) {
     (output, error)
 }
 
+// Of another encoding of Windows, with half a unit at its end.
+#[test]
+fn dump_of_an_odd_name() {
+    let mut bytes = font(hvar());
+    let record = words(&[3, 1, 0x409, 1]);
+    let place = bytes
+        .windows(record.len())
+        .position(|bytes| *bytes == record);
+    let place = place.unwrap();
+    bytes[place + 3] = 10;
+    bytes[place + 9] -= 1;
+    let font = dump::font::Font::new(&bytes).unwrap();
+    let mut text = String::new();
+    dump(&font, "", &mut text).unwrap();
+    assert!(text.ends_with("\nFAMILY_NAME: Ütes\n"), "{text}");
+}
+
 #[test]
 fn dump_of_a_font() {
     let bytes = font(hvar());
     let font = dump::font::Font::new(&bytes).unwrap();
     let mut text = String::new();
-    dump(&font, "\n\u{15}\u{99}\u{9A}😀😐😑a", &mut text).unwrap();
+    dump(&font, "\n\u{15}\u{99}\u{9A}🗿😀😐😑a", &mut text).unwrap();
     let wanted = "\
 head version: MajorMinor { major: 1, minor: 0 }
 font revision: 2.5
@@ -62,6 +79,7 @@ FAMILY_NAME: Ütest
 \u{15}: no glyph
 \u{99}: glyph 107
 \u{9A}: no glyph
+🗿: no glyph
 😀: glyph 500
 😐: glyph 65535
 😑: no glyph
@@ -69,7 +87,7 @@ a: no glyph
 ";
     assert_eq!(text, wanted);
     let path = file(&bytes);
-    let [path, characters] = [path.to_str().unwrap(), "\n\u{15}\u{99}\u{9A}😀😐😑a"];
+    let [path, characters] = [path.to_str().unwrap(), "\n\u{15}\u{99}\u{9A}🗿😀😐😑a"];
     assert_eq!(
         run("dump", &[path, characters]),
         (wanted.into(), String::new())

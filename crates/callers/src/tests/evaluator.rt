@@ -26,6 +26,10 @@ fn read_settings(rt: HostRuntime) {
         ("=400", SettingError::Axis(InvalidTag::InvalidLength(0))),
         ("=x", SettingError::Axis(InvalidTag::InvalidLength(0))),
         (
+            " x=1",
+            SettingError::Axis(InvalidTag::InvalidByte { pos: 0, byte: 0x20 }),
+        ),
+        (
             "width=400",
             SettingError::Axis(InvalidTag::InvalidLength(5)),
         ),
