@@ -10,11 +10,15 @@ use std::collections::{BTreeMap, BTreeSet};
 use std::ops::Range;
 use std::process::{Command, ExitCode};
 
-/// What stays true with another value: valid tags, flags that are ignored, and inputs whose
-/// neighbors have the same result.
-const STAY_TRUE: [&str; 4] = [
+/// What stays true with another value: valid tags, texts that are no decimals, flags that are
+/// ignored, and inputs whose neighbors have the same result.
+const STAY_TRUE: [&str; 8] = [
     r#"b"a   ", b"ab  ", b"abc ""#,
     "{tag}|{tag:8}|{tag:>10}|{tag:.0}|{tag:?}",
+    r#""{number}|{number:8}|{number:.0}|{number:+}|{number:?}""#,
+    r#""", "-", ".5", "5.", "+1", "1e3", "1.2.3", " 1", "1 ""#,
+    r#"("0.5", "-2.4", "-1.2", "-0.20833333333333334")"#,
+    r#"("2", "3", "6", "0.6666666666666666")"#,
     "Fixed::MIN.mul_div(Fixed::MIN, Fixed::from_bits(-1))",
     r#"b"int24 fe1dc0\nint24 fe1d\n\nbogus 1\nuint8""#,
 ];
