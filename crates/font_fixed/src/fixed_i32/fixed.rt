@@ -257,7 +257,7 @@ impl Fixed {
 #[must_use]
 #[inline]
 #[tactic(auto, using(crate::proofs::Shifts::halves_up_128))]
-pub const fn nearest_step(moved: i128) -> i128
+pub fn nearest_step(moved: i128) -> i128
     ensures { result ≡ up moved 65536 }
 {
     ((moved >> 15) + 1) >> 1

@@ -191,7 +191,7 @@ impl Fixed {
 /// Returns `moved / 65536`, rounded to the nearest integer, half up.
 #[must_use]
 #[inline]
-pub const fn nearest_step(moved: i128) -> i128 {
+pub fn nearest_step(moved: i128) -> i128 {
     ((moved >> 15) + 1) >> 1
 }
 
