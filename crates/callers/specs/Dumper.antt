@@ -23,10 +23,6 @@ use Rattle.callers.specs.declared.dumper.Axis.{Axis}
 abbrev pub column : ℕ → Pad
 column width = record { width = width; fill = 32; align = Right; plus = false; zeros = false }
 
--- a number in at least eight lower-case hexadecimal digits, with zeros in front
-abbrev pub eight_digits : ℕ → List ℕ
-eight_digits n = padded_integral (format_spec 32 0 4 8 (2 ^ 64 - 1)) false [] (digits 16 false n)
-
 -- a number in at least five decimal digits, with zeros in front
 abbrev pub five_digits : ℕ → List ℕ
 five_digits n = padded_integral (format_spec 32 0 4 5 (2 ^ 64 - 1)) false [] (decimal n)

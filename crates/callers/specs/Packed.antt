@@ -2,6 +2,7 @@
 use Rattle.std.specs.Prelude.{ℕ, ◌+◌, ◌*◌, ◌%◌, ℤ, pos, List, take, drop, slice_index, slice_index_or}
 use Rattle.std.specs.Prelude.{nat_le, nat_eq, if◌then◌else◌}
 use Rattle.font_types.specs.Bytes.{signed_numeral}
+use Rattle.font_types.specs.Delta.{term_product}
 use Rattle.font_types.specs.Fixed.{fixed_of}
 use Rattle.font_types.specs.Fixed.{Fixed}
 
@@ -26,3 +27,7 @@ run_bytes packed = run_count (slice_index packed 0) * run_width (slice_index pac
 -- the scalar and the delta of a region
 abbrev pub region_term : List Fixed → List ℤ → ℕ → Fixed × ℤ
 region_term scalars deltas k = (slice_index_or scalars k (fixed_of (pos 0)), slice_index_or deltas k (pos 0))
+
+-- their product
+abbrev pub term_value : List Fixed → List ℤ → ℕ → ℤ
+term_value scalars deltas k = term_product (region_term scalars deltas k)

@@ -28,9 +28,9 @@ pub record IsAxisScalar (start peak end coordinate scalar : ℤ) : Type 0 where
   pub at_peak : coordinate ≡ peak → scalar ≡ pos 65536
   pub outside : ¬ IsIgnored start peak end → coordinate ≢ peak → IsOffRegion start end coordinate → scalar ≡ pos 0
   pub rising : ¬ IsIgnored start peak end → start <ℤ coordinate → coordinate <ℤ peak
-      → IsQuotient 32 16 ((coordinate -ℤ start) *ℤ pos 4) ((peak -ℤ start) *ℤ pos 4) scalar
+      → IsQuotient 32 16 (coordinate -ℤ start) (peak -ℤ start) scalar
   pub falling : ¬ IsIgnored start peak end → peak <ℤ coordinate → coordinate <ℤ end
-      → IsQuotient 32 16 ((end -ℤ coordinate) *ℤ pos 4) ((end -ℤ peak) *ℤ pos 4) scalar
+      → IsQuotient 32 16 (end -ℤ coordinate) (end -ℤ peak) scalar
 
 -- ---- the scalar of a region ("Variation Regions": axisCount, regionCount, and for each region and axis startCoord,
 -- peakCoord and endCoord, two bytes each)

@@ -14,8 +14,9 @@ ghost use Rattle.font_types.specs.GlyphId.{glyph16_number};
 ghost use Rattle.font_types.specs.Padding.{padded_text};
 ghost use Rattle.font_types.specs.Shortest.{IsShortest};
 ghost use Rattle.font_types.specs.Tag.{tag_bytes, IsGood};
+ghost use Rattle.font_types.specs.Version.{hex_text};
 ghost use Rattle.callers.specs.declared.dumper.Axis.{Axis};
-ghost use Rattle.callers.specs.Dumper.{column, eight_digits, five_digits, IsAxis, axis_form};
+ghost use Rattle.callers.specs.Dumper.{column, five_digits, IsAxis, axis_form};
 ghost use Rattle.callers.specs.Dumper.{ConvertsMember, ConvertsAxis};
 
 use font_types::{Fixed, GlyphId16, JsonFault, JsonScalar, NameId, Pad, Scalar, Tag};
@@ -52,9 +53,12 @@ pub fn printed(number: Fixed, alloc: Global) -> Result<String, AllocError>
 }
 
 /// Returns the raw value in eight hexadecimal digits, and the number: `00018000 1.5`.
+///
+/// What `{:08x}` writes is `hex_text` by the lemma `hex_padded`.
+#[tactic(auto, using(font_types::proofs::Callers::calls, font_types::proofs::Callers::hex_padded))]
 pub fn raw_and_number(number: Fixed, alloc: Global) -> Result<String, AllocError>
     ensures { IfOk result (λ text. string_bytes text
-        ≡ eight_digits (numeral (bytes_of 4 (fixed_bits number))) ++ 32 ∷ fixed_text number) }
+        ≡ hex_text (numeral (bytes_of 4 (fixed_bits number))) ++ 32 ∷ fixed_text number) }
 {
     let raw = u32::from_raw(number.to_raw());
     format!(in alloc; "{raw:08x} {number}")

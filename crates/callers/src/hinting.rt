@@ -1,7 +1,8 @@
 //! A hinter: the extents of outlines, positions between two others, a setting, and names.
 
 ghost use Rattle.std.specs.Prelude.{◌≡◌, ◌≢◌, ◌↔◌, ◌<◌, ◌++◌, neg_ℤ, pos, ◌+ℤ◌, ◌-ℤ◌, ◌*ℤ◌};
-ghost use Rattle.std.specs.Prelude.{◌≤ℤ◌, ◌<ℤ◌, ℕ, List, length, Some, IsTrue, IsSome, IfSome};
+ghost use Rattle.std.specs.Prelude.{◌≤ℤ◌, ◌<ℤ◌, ◌≤◌, ◌^◌, unsigned_abs, ℕ, List, length, Some};
+ghost use Rattle.std.specs.Prelude.{IsTrue, IsSome, IfSome, IfNone};
 ghost use lib.Chars.{codes};
 ghost use Rattle.font_types.specs.Fixed;
 ghost use Rattle.font_types.specs.Fixed.{Fixed, fixed_bits};
@@ -10,7 +11,7 @@ ghost use Rattle.font_types.specs.F2Dot14;
 ghost use Rattle.font_types.specs.F2Dot14.{f2dot14_bits};
 ghost use Rattle.font_types.specs.FWord.{fword_number};
 ghost use Rattle.font_types.specs.NameId.{name_number};
-ghost use Rattle.font_types.specs.Near.{up};
+ghost use Rattle.font_types.specs.Near.{near, up};
 ghost use Rattle.font_types.specs.FixedMatrix.{wrapped_sum, wrapped_product};
 ghost use Rattle.font_types.specs.Operations.{IsIntegral, IsMulDiv, ReadsBits};
 ghost use Rattle.font_types.specs.Wrap.{FitsBits, wrap};
@@ -158,6 +159,29 @@ pub fn interpolate(a: Fixed, b: Fixed, t: F2Dot14) -> Fixed
     a + (b - a) * t.to_fixed()
 }
 
+/// Returns the value at `t` of the way from one master to another, by the formula.
+///
+/// The ruleset `lerps` states the wrapped result as one formula, for any `t`.
+#[tactic(auto, using(font_types::proofs::Callers::calls, font_types::proofs::Callers::lerps))]
+pub fn blend(from: Fixed, to: Fixed, t: Fixed) -> Fixed
+    requires { FitsBits 32 (fixed_bits to -ℤ fixed_bits from) }
+    ensures { fixed_bits result ≡ wrap 32 (fixed_bits from
+        +ℤ near ((fixed_bits to -ℤ fixed_bits from) *ℤ fixed_bits t) 65536) }
+{
+    from + (to - from) * t
+}
+
+/// Multiplies two numbers of at most 128, whose product does not wrap.
+///
+/// The lemma `product_near`, in the answer, gives the rounded product from both bounds.
+pub fn small_product(a: Fixed, b: Fixed) -> Fixed
+    requires a { unsigned_abs (fixed_bits a) ≤ 2 ^ 23 }
+    requires b { unsigned_abs (fixed_bits b) ≤ 2 ^ 23 }
+    ensures { fixed_bits result ≡ near (fixed_bits a *ℤ fixed_bits b) 65536 }
+{
+    a * b
+}
+
 /// Returns a distance in font units times a factor from 0 to 1, which is exact.
 pub fn scaled_units(distance: FWord, factor: F2Dot14) -> Fixed
     requires { (pos 0 ≤ℤ f2dot14_bits factor)
@@ -215,6 +239,8 @@ fn number_of(text: &str) -> Option<Fixed>
     ensures read { IfSome result (λ x. ReadsBits 32 16 text.now (fixed_bits x)) }
     ensures back { (x : Fixed) → FitsBits 32 (fixed_bits x)
         → ReadsBits 32 16 text.now (fixed_bits x) → result ≡ Some x }
+    ensures none { IfNone result ((x : Fixed) → FitsBits 32 (fixed_bits x)
+        → ¬ ReadsBits 32 16 text.now (fixed_bits x)) }
 {
     Fixed::from_decimal(text).ok()
 }

@@ -3,9 +3,12 @@
 ghost use Rattle.std.specs.Prelude.{◌≡◌, ◌↔◌, ◌<◌, ◌≤◌, ◌+◌, ◌*◌, ℕ, [], pos};
 ghost use Rattle.std.specs.Prelude.{IsSome, IfSome, IfOk};
 ghost use Rattle.std.specs.Prelude.{length, drop, slice_index, slice_index_or, vec_len};
-ghost use Rattle.callers.specs.Packed.{run_count, run_width, run_delta, run_bytes, region_term};
+ghost use Rattle.callers.specs.Packed.{run_count, run_width, run_delta, run_bytes, region_term, term_value};
+ghost use Rattle.font_types.specs.Delta.{total_below};
+ghost use Rattle.font_types.specs.F48Dot16.{f48dot16_bits};
+ghost use Rattle.font_types.specs.Wrap.{wrap};
 
-use font_types::{Fixed, Scalar};
+use font_types::{F48Dot16, Fixed, Scalar};
 use std::alloc::{AllocError, Global};
 
 /// Returns the number of deltas in a run, by its control byte.
@@ -80,6 +83,21 @@ pub fn read_run(packed: &[u8], alloc: Global) -> Result<Option<(Vec<i16>, &[u8])
         return Ok(None);
     };
     Ok(Some((read_deltas(data, width, count, alloc)?, rest)))
+}
+
+/// Returns the sum of deltas, each times the scalar of its region, wrapped once.
+///
+/// A sum over an index is `total_below`, as far as the index in the invariant of its loop.
+pub fn scaled_sum(scalars: &[Fixed], deltas: &[i16]) -> F48Dot16
+    requires { length scalars.now ≡ length deltas.now }
+    ensures { f48dot16_bits result ≡ wrap 64
+        (total_below (term_value scalars.now deltas.now) (length deltas.now)) }
+{
+    let mut sum = F48Dot16::ZERO;
+    for index in 0..deltas.len() {
+        sum += scalars[index].mul_i32(i32::from(deltas[index]));
+    }
+    sum
 }
 
 /// Pairs the scalar of each region with its delta.

@@ -2,17 +2,19 @@
 
 ghost use Rattle.std.specs.Prelude.{◌≡◌, ◌≢◌, ◌↔◌, ◌≤◌, ◌<◌, ◌+◌, ◌*◌, ◌/◌, ◌%◌, ◌^◌, ◌&&◌, ◌++◌};
 ghost use Rattle.std.specs.Prelude.{ℕ, pos, nat_lt, refl};
-ghost use Rattle.std.specs.Prelude.{IsSome, IfSome, IfNone, IfOk, IfErr, MatchOption};
+ghost use Rattle.std.specs.Prelude.{IsTrue, IsSome, IfSome, IfNone, IfOk, IfErr, MatchOption};
 ghost use Rattle.std.specs.Prelude.{length, take, drop, vec_len, All};
 ghost use Rattle.std.specs.List.{HoldsAt};
 ghost use Rattle.std.specs.List.Sorted.{IsSortedByKey};
 ghost use Rattle.std.specs.Ordering.{nat_cmp};
+ghost use Rattle.std.specs.Int.Bits.{bit_and};
 ghost use Rattle.std.proofs.Common.{lit<};
 ghost use Rattle.font_types.specs.Bytes.{numeral, signed_numeral, bytes_of};
 ghost use Rattle.font_types.specs.Scalar.{IsValueOf};
 ghost use Rattle.font_types.specs.Scalar.Laws.{unsigned_newtype, unsigned_identity, signed_newtype};
 ghost use Rattle.font_types.specs.Records.{record_laws};
 ghost use Rattle.font_types.specs.Array.{array_len, element_bytes};
+ghost use Rattle.font_types.specs.Array.{IsSearched, IsPartitionPoint};
 ghost use Rattle.font_types.specs.BigEndian.{raw_value};
 ghost use Rattle.font_types.specs.Wrap.{fits_bits};
 ghost use Rattle.font_types.specs.FWord.{fword_number, fword_of, ufword_number, ufword_of};
@@ -112,6 +114,26 @@ pub fn units_per_em(head: &[u8]) -> Option<u16>
     Some(head.header().units_per_em.get())
 }
 
+/// Returns whether the bit of `head.flags` for left side bearings at x = 0 is set.
+pub fn has_bearings_at_zero(flags: u16) -> bool
+    ensures { IsTrue result ↔ (bit_and flags 2 ≢ 0) }
+{
+    flags & 0x0002 != 0
+}
+
+/// Writes a word at an offset, as a checksum or an offset is mended in place.
+///
+/// Std's `overwrites` gives the bytes before, at and after the offset, a clause each.
+#[tactic(auto, using(font_types::proofs::Callers::calls, std::proofs::lemmas::Slice::overwrites))]
+pub fn write_word(bytes: &mut [u8], offset: usize, word: u32)
+    requires { offset + 4 ≤ length bytes.old }
+    ensures before { take offset bytes.new ≡ take offset bytes.old }
+    ensures word { take 4 (drop offset bytes.new) ≡ bytes_of 4 (pos word) }
+    ensures after { drop (offset + 4) bytes.new ≡ drop (offset + 4) bytes.old }
+{
+    bytes[offset..offset + 4].copy_from_slice(&word.to_raw());
+}
+
 // ---- `hmtx`
 
 /// A horizontal metric, a record of `hmtx`.
@@ -203,6 +225,22 @@ pub fn coverage_index(glyphs: &ScalarArray<'_, GlyphId16>, glyph: GlyphId16) -> 
         → element_bytes glyphs.now k ≢ bytes_of 2 (pos (glyph16_number glyph))) }
 {
     glyphs.binary_search(&glyph).ok()
+}
+
+/// Returns the index of a variation selector in a sorted array, or else where it has its place.
+pub fn selector_index(selectors: &ScalarArray<'_, Uint24>, selector: Uint24) -> Result<usize, usize>
+    ensures { IsSearched selectors.now
+        (λ other. nat_cmp (uint24_number other) (uint24_number selector)) result }
+{
+    selectors.binary_search(&selector)
+}
+
+/// Returns the index of the segment of a character code (`cmap`, format 4), the first whose end is
+/// at or above the code, or their number if there is none.
+pub fn segment_of(ends: &ScalarArray<'_, u16>, code: u16) -> usize
+    ensures { IsPartitionPoint ends.now (λ end. nat_lt end code) result }
+{
+    ends.partition_point(|end| end < code)
 }
 
 /// The vertical origin of a glyph, a record of `VORG`.

@@ -1,10 +1,10 @@
 //! A scaler of outlines: points through a chain of matrices, advances, and the grid of pixels.
 
-ghost use Rattle.std.specs.Prelude.{◌≡◌, ◌*◌, ◌^◌, IfOk, map};
-ghost use Rattle.std.specs.Prelude.{pos, neg_ℤ, ◌-ℤ◌, ◌*ℤ◌, ◌≤ℤ◌};
+ghost use Rattle.std.specs.Prelude.{◌≡◌, ◌*◌, ◌^◌, ◌<◌, ℕ, IfOk, length, map, slice_index_or};
+ghost use Rattle.std.specs.Prelude.{pos, neg_ℤ, ◌+ℤ◌, ◌-ℤ◌, ◌*ℤ◌, ◌≤ℤ◌};
 ghost use Rattle.font_types.specs.Delta.{total};
 ghost use Rattle.font_types.specs.F26Dot6.{f26dot6_bits};
-ghost use Rattle.font_types.specs.Fixed.{fixed_bits};
+ghost use Rattle.font_types.specs.Fixed.{Fixed, fixed_bits};
 ghost use Rattle.font_types.specs.FixedMatrix.{matrix_bits, point_bits, exact_image};
 ghost use Rattle.font_types.specs.FixedMatrix.{wrapped_sum, wrapped_product};
 ghost use Rattle.font_types.specs.FixedMatrix.{FitsComposed, IsCloseComposed};
@@ -32,6 +32,21 @@ pub fn last_point(deltas: &[Point<Fixed>]) -> Point<Fixed>
         point += *delta;
     }
     point
+}
+
+/// Moves every coordinate of a slice by a distance, and wraps.
+///
+/// The invariant of its loop, in `proofs/scaler/shift_all`, says of the coordinates before the
+/// index that they have moved, and of the others that they are as they were.
+pub fn shift_all(coordinates: &mut [Fixed], distance: Fixed)
+    ensures len { length coordinates.new ≡ length coordinates.old }
+    ensures each { (k : ℕ) (d : Fixed) → k < length coordinates.old
+        → fixed_bits (slice_index_or coordinates.new k d)
+        ≡ wrap 32 (fixed_bits (slice_index_or coordinates.old k d) +ℤ fixed_bits distance) }
+{
+    for coordinate in coordinates.iter_mut() {
+        *coordinate += distance;
+    }
 }
 
 /// Returns the cross product of two edges, positive if the second turns left of the first.
@@ -134,6 +149,28 @@ pub fn scale_component(
         (point_bits result).y }
 {
     composed(scale, component.transform, point)
+}
+
+/// Scales a point as `scale_component` does, by one matrix after the other: to within three raw
+/// values of the exact point.
+///
+/// The lemma `fits_in_turn` gives the precondition of `in_turn`.
+pub fn scale_in_turn(
+    scale: Matrix<Fixed>,
+    component: Component,
+    point: Point<Fixed>,
+) -> Point<Fixed>
+    requires scale { IsBounded (2 ^ 16) (2 ^ 28) (matrix_bits scale) }
+    requires transform { IsBounded (2 ^ 16) (2 ^ 28) (matrix_bits component.transform) }
+    requires point { IsBoundedPoint (2 ^ 27) (point_bits point) }
+    ensures x { IsWithin (2 ^ 32 * 3)
+        (exact_image (matrix_bits scale) (matrix_bits component.transform) (point_bits point)).x
+        (point_bits result).x }
+    ensures y { IsWithin (2 ^ 32 * 3)
+        (exact_image (matrix_bits scale) (matrix_bits component.transform) (point_bits point)).y
+        (point_bits result).y }
+{
+    in_turn(scale, component.transform, point)
 }
 
 // ---- a line of text

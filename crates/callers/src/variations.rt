@@ -61,6 +61,8 @@ pub fn axis_scalar(axis: RegionAxisCoordinates, coordinate: F2Dot14) -> Fixed
 }
 
 // Returns `axis_scalar` of an axis that is not ignored, at another coordinate than the peak.
+//
+// The lemma `quotient_of_widened` states a quotient of widened differences by the differences.
 fn scalar_off_peak(axis: RegionAxisCoordinates, coordinate: F2Dot14) -> Fixed
     requires order { (f2dot14_bits axis.start_coord ≤ℤ f2dot14_bits axis.peak_coord)
         × (f2dot14_bits axis.peak_coord ≤ℤ f2dot14_bits axis.end_coord) }
@@ -69,14 +71,12 @@ fn scalar_off_peak(axis: RegionAxisCoordinates, coordinate: F2Dot14) -> Fixed
         (f2dot14_bits axis.end_coord) (f2dot14_bits coordinate) → fixed_bits result ≡ pos 0 }
     ensures rising { f2dot14_bits axis.start_coord <ℤ f2dot14_bits coordinate
         → f2dot14_bits coordinate <ℤ f2dot14_bits axis.peak_coord
-        → IsQuotient 32 16 ((f2dot14_bits coordinate -ℤ f2dot14_bits axis.start_coord) *ℤ pos 4)
-        ((f2dot14_bits axis.peak_coord -ℤ f2dot14_bits axis.start_coord) *ℤ pos 4)
-        (fixed_bits result) }
+        → IsQuotient 32 16 (f2dot14_bits coordinate -ℤ f2dot14_bits axis.start_coord)
+        (f2dot14_bits axis.peak_coord -ℤ f2dot14_bits axis.start_coord) (fixed_bits result) }
     ensures falling { f2dot14_bits axis.peak_coord <ℤ f2dot14_bits coordinate
         → f2dot14_bits coordinate <ℤ f2dot14_bits axis.end_coord
-        → IsQuotient 32 16 ((f2dot14_bits axis.end_coord -ℤ f2dot14_bits coordinate) *ℤ pos 4)
-        ((f2dot14_bits axis.end_coord -ℤ f2dot14_bits axis.peak_coord) *ℤ pos 4)
-        (fixed_bits result) }
+        → IsQuotient 32 16 (f2dot14_bits axis.end_coord -ℤ f2dot14_bits coordinate)
+        (f2dot14_bits axis.end_coord -ℤ f2dot14_bits axis.peak_coord) (fixed_bits result) }
     ensures low { pos 0 ≤ℤ fixed_bits result }
     ensures high { fixed_bits result ≤ℤ fixed_bits Fixed.ONE }
 {

@@ -9,7 +9,7 @@ use Rattle.font_decimal.specs.Near.{near}
 use Rattle.font_decimal.proofs.Near.{near_gives, near_monotone}
 use Rattle.font_decimal.proofs.Integers.{neg-times, times_monotone}
 use Rattle.font_fixed.proofs.NumberLaws.{near_exact}
-use Rattle.font_fixed.specs.Operations.{IsWrappedNear, IsProduct, IsMulDiv}
+use Rattle.font_fixed.specs.Operations.{IsWrappedNear, IsProduct}
 
 -- a quotient of at most m fits in w bits
 pub small_near : (w m d : ℕ) (n r : ℤ) → 0 < w → 0 < d → IsWrappedNear w n d r → unsigned_abs n ≤ m * d
@@ -35,10 +35,3 @@ pub product_near : (w f u v m : ℕ) (x y r : ℤ) → 0 < w → IsProduct w f x
     → unsigned_abs y ≤ v → u * v ≤ m * 2 ^ f → m < half_range w → r ≡ near (x *ℤ y) (2 ^ f)
 product_near w f u v m x y r wide given xs ys room small =
     small_near w m (2 ^ f) (x *ℤ y) r wide (pow_pos f) given (factors_small u v (m * 2 ^ f) x y xs ys room) small
-
--- the same over a number; a quotient is that with 2^f for the second
-pub mul_div_near : (w u v m n : ℕ) (x a r : ℤ) → 0 < w → 0 < n → IsMulDiv w x a (pos n) r → unsigned_abs x ≤ u
-    → unsigned_abs a ≤ v → u * v ≤ m * n → m < half_range w → r ≡ near (x *ℤ a) n
-mul_div_near w u v m zero x a r wide some given xs bs room small = absurd (omega arith)
-mul_div_near w u v m (suc n) x a r wide some given xs bs room small =
-    small_near w m (suc n) (x *ℤ a) r wide some given (factors_small u v (m * suc n) x a xs bs room) small

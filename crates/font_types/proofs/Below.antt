@@ -1,17 +1,13 @@
--- Sums over an index, and sums of numbers parsed from texts: the empty sum, and one term more; and hexadecimal text.
-use Rattle.std.proofs.Common.{◌≡◌, ◌∙◌, sym, ap, refl, lit<, arith, ℕ, zero, suc, ◌+◌, ◌<◌, ℤ, pos, ◌+ℤ◌, add-one}
-use Rattle.std.proofs.Common.{List, [], ◌∷◌, ◌++◌, length, take, get_or, map, ◌-◌, false, replicate}
-use Rattle.std.proofs.lemmas.Int.{ints}
+-- Sums over an index: the empty sum, and one term more; and hexadecimal text.
+use Rattle.std.proofs.Common.{◌≡◌, ◌∙◌, sym, ap, refl, lit<, ℕ, ◌+◌, ◌-◌, ℤ, pos, ◌+ℤ◌, add-one}
+use Rattle.std.proofs.Common.{[], ◌++◌, length, false, replicate}
 use Rattle.std.proofs.lemmas.List.{append-nil}
 use Rattle.std.proofs.Math.IntN.{+ℤ_assoc}
 use Rattle.std.specs.Fmt.{char_count, padded_integral, format_spec, digits}
 use native.Mathlib.Numerals.{unary_clauses}
-use denote.Bor.{Bor}
 use Rattle.font_base.specs.Wrap.{wrap}
 use Rattle.font_base.specs.Wrap.Laws.{wrap-add_left}
-use Rattle.font_fixed.specs.Operations.{ReadsBits}
 use Rattle.font_types.specs.Delta.{total_below}
-use Rattle.font_types.specs.Texts.{ReadsSum}
 use Rattle.font_types.specs.Version.{hex_text}
 
 pub none_below : (number_at : ℕ → ℤ) → total_below number_at 0 ≡ pos 0
@@ -50,37 +46,6 @@ running_64 number_at n = ap (wrap 64) (one_more_below number_at n)
     ∙ sym (wrap-add_left 64 (total_below number_at n) (number_at n) (lit< tt))
 
 pub ruleset below_calls = (none_below, one_more_below, running_below_32, running_below_64, running_32, running_64)
-
--- ---- sums of texts
-
-pub total_of_none : (w f : ℕ) → ReadsSum w f [] (pos 0)
-unfolding ReadsSum
-total_of_none w f = refl
-
-total_appended : (w f : ℕ) (texts : List (List ℕ)) (text : List ℕ) (s a : ℤ) → ReadsSum w f texts s
-    → ReadsBits w f text a → ReadsSum w f (texts ++ text ∷ []) (s +ℤ a)
-unfolding ReadsSum
-total_appended w f [] text s a total reads = (a, pos 0, reads, refl, omega (arith, ints, total))
-total_appended w f (t ∷ ts) text s a total reads =
-    (total.0, total.1 +ℤ a, total.2, total_appended w f ts text total.1 a total.3 reads, omega (arith, ints, total.4))
-
-map_take_more : {X : Type 0} (g : X → List ℕ) (xs : List X) (i : ℕ) (d : X) → i < length xs
-    → map g (take i xs) ++ g (get_or xs i d) ∷ [] ≡ map g (take (i + 1) xs)
-map_take_more g [] i d within = absurd (omega arith)
-map_take_more g (x ∷ xs) zero d within = refl
-map_take_more g (x ∷ xs) (suc i) d within =
-    let next : suc i + 1 ≡ suc (i + 1) = omega arith in
-    rw next (ap (λ ys. g x ∷ ys) (map_take_more g xs i d (omega arith)))
-
-pub total_one_more : (w f : ℕ) (texts : List (Bor (List ℕ))) (i : ℕ) (d : Bor (List ℕ)) (r s a : ℤ)
-    → i < length texts → ReadsSum w f (map (λ t. t.now) (take i texts)) s → ReadsBits w f (get_or texts i d).now a
-    → r ≡ (s +ℤ a)
-    → ReadsSum w f (map (λ t. t.now) (take (i + 1) texts)) r
-total_one_more w f texts i d r s a within total reads is =
-    rw (is, ← map_take_more (λ t. t.now) texts i d within)
-    (total_appended w f (map (λ t. t.now) (take i texts)) (get_or texts i d).now s a total reads)
-
-pub ruleset text_calls = (total_of_none, total_one_more)
 
 -- what `{:08x}` writes, as a version prints itself
 pub hex_padded : (n : ℕ)

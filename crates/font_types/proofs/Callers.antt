@@ -8,13 +8,13 @@ use Rattle.font_tags.proofs.TagLaws.{tag_calls}
 use Rattle.font_tags.proofs.VersionLaws.{compatible_calls}
 use Rattle.font_geom.proofs.Bounds.{bound_calls}
 use Rattle.font_types.proofs.Searches.{search_calls}
-use Rattle.font_types.proofs.SumCalls.{sum_calls_from, sum_calls_16, sum_calls_32, delta_sum_calls, exact_sum_calls}
+use Rattle.font_types.proofs.SumCalls.{sum_calls_from, sum_calls_16, sum_calls_32, delta_sum_calls}
 use Rattle.font_types.proofs.StoredBytes.{stored_calls}
 use Rattle.font_types.proofs.ShortProducts.{short_product_calls}
 use Rattle.font_types.proofs.Parts.{part_calls, unit_calls, between_calls, lerp_calls}
 use Rattle.font_types.proofs.Narrowed.{exact_narrow_calls, exact_sum_is_integral, negation_is_integral, kept_32}
 use Rattle.font_types.proofs.ArrayNumbers.{array_number_calls}
-use Rattle.font_types.proofs.Below.{below_calls, text_calls}
+use Rattle.font_types.proofs.Below.{below_calls}
 pub use Rattle.font_base.proofs.ScalarCalls.{absent, nowhere, rises_by}
 pub use Rattle.font_base.proofs.Moved.{bytes_moved}
 pub use Rattle.font_base.specs.Wrap.Laws.{wrap_is, wrap_unique, wrap-fits}
@@ -27,7 +27,7 @@ pub use Rattle.font_decimal.proofs.Printed.{shortest_is}
 pub use Rattle.font_decimal.proofs.Printed.{printed_is_read, printed_reads_once, same_value, printed_is_not_minus_zero}
 pub use Rattle.font_decimal.proofs.Printed.{zero_ends_no_fraction}
 pub use Rattle.font_decimal.proofs.Columns.{trimmed_column}
-pub use Rattle.font_fixed.proofs.Small.{product_near, mul_div_near}
+pub use Rattle.font_fixed.proofs.Small.{product_near}
 pub use Rattle.font_fixed.proofs.Group
 pub use Rattle.font_fixed.proofs.NumberLaws as Laws
 pub use Rattle.font_tags.proofs.TagLaws.{validated_good, good_is_utf8}
@@ -39,6 +39,8 @@ pub use Rattle.font_geom.proofs.RingMatrices
 pub use Rattle.font_types.proofs.Searches.{found_by_number}
 pub use Rattle.font_types.proofs.SumCalls.{running_total, running_total_from}
 pub use Rattle.font_types.proofs.Below.{hex_padded}
+pub use Rattle.font_types.proofs.Parts.{quotient_of_widened}
+pub use Rattle.font_types.proofs.Written.{written}
 pub use Rattle.font_types.specs.Json.Laws.{fixed_form, signed_form, unsigned_form, tag_form, version_form_of}
 
 -- the rules by which functions of callers prove
@@ -67,7 +69,6 @@ pub ruleset calls = (
   unit_calls,
   between_calls,
   below_calls,
-  text_calls,
 )
 
 -- for the value of `a + (b - a) * t`, as one formula
@@ -78,6 +79,3 @@ pub ruleset integers = (integral_rules, negation_is_integral, calls_32)
 
 -- for a narrowed number that fits
 pub ruleset narrowings = (exact_narrow_calls)
-
--- for an exact sum of 48.16
-pub ruleset exact_sums = (exact_sum_calls)

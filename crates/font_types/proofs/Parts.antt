@@ -1,18 +1,20 @@
 -- Products of `Fixed` by a part of a whole, a number from 0 to 1, numbers between two others, and products by a widened
 -- 2.14 factor.
 use Rattle.std.proofs.Common.{◌≡◌, ◌≢◌, ◌∙◌, sym, ap, refl, lit<, arith, ℕ, zero, suc, ◌+◌, ◌-◌, ℤ, pos, negsuc}
-use Rattle.std.proofs.Common.{◌+ℤ◌, ◌-ℤ◌, ◌*ℤ◌, ◌≤ℤ◌, w16, w32, SFits}
+use Rattle.std.proofs.Common.{◌*◌, ◌<◌, ◌+ℤ◌, ◌-ℤ◌, ◌*ℤ◌, ◌≤ℤ◌, ◌<ℤ◌, unsigned_abs, w16, w32, SFits}
 use Rattle.std.proofs.lemmas.Int.{ints}
 use Rattle.std.proofs.Math.IntN.{*ℤ_comm}
+use Rattle.std.proofs.Math.Nat.{mul_assoc}
 use Rattle.font_base.specs.Integers.{product-times, sum-times}
 use Rattle.font_base.specs.Wrap.{wrap, FitsBits}
+use Rattle.font_base.proofs.Widths.{signed_fits}
 use Rattle.font_base.specs.Wrap.Laws.{wrap-add_left, wrap-add_right, wrap-fits}
 use Rattle.font_decimal.specs.Near.{Near, near}
 use Rattle.font_decimal.proofs.Integers.{times_monotone}
 use Rattle.font_decimal.proofs.Near.{near_is, near_gives, near_monotone}
 use Rattle.font_fixed.proofs.Calls.{fits_32}
-use Rattle.font_fixed.specs.Operations.{IsMulDiv}
-use Rattle.font_fixed.proofs.NumberLaws.{near_exact}
+use Rattle.font_fixed.specs.Operations.{IsMulDiv, IsWrappedNear}
+use Rattle.font_fixed.proofs.NumberLaws.{near_exact, mul_div_between}
 
 -- a product by a number from 0 to m lies between 0 and m times the other number
 parts_of : (x : ℤ) (k d m : ℕ) → k + d ≡ m → ((x *ℤ pos k) +ℤ (x *ℤ pos d)) ≡ (x *ℤ pos m)
@@ -167,7 +169,18 @@ pub ruleset part_calls = (
   product_of_widened_is_at_most_one,
 )
 
--- ---- a product of an integer of 16 bits, as of font units, and a part: it is exact
+-- ---- a product of an integer, as of font units, and any number: it is exact, and that of a part of one of 16 bits fits
+
+times_moved : (a y : ℤ) → ((a *ℤ pos 65536) *ℤ y) ≡ ((a *ℤ y) *ℤ pos 65536)
+times_moved a y = product-times a (pos 65536) y ∙ ap (λ z. a *ℤ z) (*ℤ_comm (pos 65536) y)
+    ∙ sym (product-times a y (pos 65536))
+
+pub units_by_number : (a y : ℤ) → near ((a *ℤ pos 65536) *ℤ y) 65536 ≡ (a *ℤ y)
+units_by_number a y = ap (λ n. near n 65536) (times_moved a y)
+    ∙ sym (near_gives ((a *ℤ y) *ℤ pos 65536) 65536 (a *ℤ y) (lit< tt) (near_exact (a *ℤ y) 65536 (lit< tt)))
+
+pub number_by_units : (a y : ℤ) → near (y *ℤ (a *ℤ pos 65536)) 65536 ≡ (a *ℤ y)
+number_by_units a y = ap (λ n. near n 65536) (*ℤ_comm y (a *ℤ pos 65536)) ∙ units_by_number a y
 
 units_by_part_fit : (a y : ℤ) → SFits w16 a → pos 0 ≤ℤ y → y ≤ℤ pos 65536 → SFits w32 (a *ℤ y)
 units_by_part_fit (pos n) y fits from to =
@@ -177,11 +190,7 @@ units_by_part_fit (negsuc n) y fits from to =
 
 module _ (a y : ℤ) (fits : SFits w16 a) (from : pos 0 ≤ℤ y) (to : y ≤ℤ pos 65536) where
   pub units_by_part_is_exact : wrap 32 (near ((a *ℤ pos 65536) *ℤ y) 65536) ≡ (a *ℤ y)
-  units_by_part_is_exact =
-      let moved : ((a *ℤ pos 65536) *ℤ y) ≡ ((a *ℤ y) *ℤ pos 65536) = product-times a (pos 65536) y
-      ∙ ap (λ z. a *ℤ z) (*ℤ_comm (pos 65536) y) ∙ sym (product-times a y (pos 65536)) in
-      let rounded = near_gives ((a *ℤ y) *ℤ pos 65536) 65536 (a *ℤ y) (lit< tt) (near_exact (a *ℤ y) 65536 (lit< tt)) in
-      rw (moved, ← rounded) (fits_32 (a *ℤ y) (units_by_part_fit a y fits from to))
+  units_by_part_is_exact = rw (units_by_number a y) (fits_32 (a *ℤ y) (units_by_part_fit a y fits from to))
 
   pub part_by_units_is_exact : wrap 32 (near (y *ℤ (a *ℤ pos 65536)) 65536) ≡ (a *ℤ y)
   part_by_units_is_exact = rw (*ℤ_comm y (a *ℤ pos 65536)) units_by_part_is_exact
@@ -197,6 +206,8 @@ module _ (a t : ℤ) (fits : SFits w16 a) (from : pos 0 ≤ℤ t) (to : t ≤ℤ
       part_by_units_is_exact a (t *ℤ pos 4) fits (omega (arith, ints, from)) (omega (arith, ints, to))
 
 pub ruleset unit_calls = (
+  units_by_number,
+  number_by_units,
   units_by_part_is_exact,
   part_by_units_is_exact,
   units_by_widened_is_exact,
@@ -265,7 +276,43 @@ module _ (a b t : ℤ) (fits_a : SFits w32 a) (fits_b : SFits w32 b) (fits : Fit
   pub part_between_from_high : b ≤ℤ a → wrap 32 (a +ℤ wrap 32 (near (t *ℤ wrap 32 (b -ℤ a)) 65536)) ≤ℤ a
   part_between_from_high order = rw flipped (between_from_high order)
 
--- a part that was widened from 2.14
+-- ---- `a + (b - a).mul_div(p, c)`, for a part p of c: the same
+
+module _ (a b x p c r : ℤ) (given : IsMulDiv 32 x p c r) (is : x ≡ wrap 32 (b -ℤ a)) (fits_a : SFits w32 a)
+    (fits_b : SFits w32 b) (fits : FitsBits 32 (b -ℤ a)) (from : pos 0 ≤ℤ p) (to : p ≤ℤ c) (some : c ≢ pos 0) where
+  distance : x ≡ (b -ℤ a)
+  distance = is ∙ wrap-fits 32 (b -ℤ a) (lit< tt) fits
+
+  distance_fits : SFits w32 x
+  distance_fits = omega (arith, ints, distance, fits.low, fits.high)
+
+  share_up : a ≤ℤ b → (pos 0 ≤ℤ r) × (r ≤ℤ (b -ℤ a))
+  share_up order =
+      let share = mul_div_between 32 x p c r (lit< tt) (signed_fits w32 x distance_fits) given
+      (omega (arith, ints, distance, order)) from to some in
+      (share.0, omega (arith, ints, share.1, distance))
+
+  share_down : b ≤ℤ a → (r ≤ℤ pos 0) × ((b -ℤ a) ≤ℤ r)
+  share_down order =
+      let share = falling_share x p c r given distance_fits (omega (arith, ints, distance, order)) from to some in
+      (share.0, omega (arith, ints, share.1, distance))
+
+  pub share_from_low : a ≤ℤ b → a ≤ℤ wrap 32 (a +ℤ r)
+  share_from_low order = (sum_up a b r fits_a fits_b (share_up order)).0
+
+  pub share_to_high : a ≤ℤ b → wrap 32 (a +ℤ r) ≤ℤ b
+  share_to_high order = (sum_up a b r fits_a fits_b (share_up order)).1
+
+  pub share_to_low : b ≤ℤ a → b ≤ℤ wrap 32 (a +ℤ r)
+  share_to_low order = (sum_down a b r fits_a fits_b (share_down order)).0
+
+  pub share_from_high : b ≤ℤ a → wrap 32 (a +ℤ r) ≤ℤ a
+  share_from_high order = (sum_down a b r fits_a fits_b (share_down order)).1
+
+pub ruleset share_calls = (share_from_low, share_to_high, share_to_low, share_from_high)
+
+-- ---- `a + (b - a) * t`, for a part that was widened from 2.14
+
 module _ (a b t : ℤ) (fits_a : SFits w32 a) (fits_b : SFits w32 b) (fits : FitsBits 32 (b -ℤ a))
     (from : pos 0 ≤ℤ t) (to : t ≤ℤ pos 16384) where
   not_negative_4 : pos 0 ≤ℤ (t *ℤ pos 4)
@@ -317,6 +364,39 @@ near_by_widened x t = ap (λ n. near n 65536) (sym (product-times x t (pos 4))) 
 pub near_of_widened : (x t : ℤ) → near ((t *ℤ pos 4) *ℤ x) 65536 ≡ near (t *ℤ x) 16384
 near_of_widened x t = ap (λ n. near n 65536) (*ℤ_comm (t *ℤ pos 4) x) ∙ near_by_widened x t
     ∙ ap (λ n. near n 16384) (*ℤ_comm x t)
+
+-- ---- a quotient of two differences that were widened from 2.14: it is rounded as that of the differences themselves
+
+near_quarters : (n : ℤ) (d : ℕ) → 0 < d → near (n *ℤ pos 4) (d * 4) ≡ near n d
+near_quarters n d some =
+    let h = near_is n d some in
+    let four = product-times (near n d) (pos d) (pos 4) in
+    let away = mul_assoc (unsigned_abs (near n d)) d 4 in
+    sym (near_gives (n *ℤ pos 4) (d * 4) (near n d) (omega (arith, some)) (record {
+      close = rw (← four) (omega (arith, ints, h.close));
+      away = λ tie. omega (arith, ints, away, h.away (omega (arith, ints, four, tie)));
+    }))
+
+pub quotient_of_widened : (a b r : ℤ) → pos 0 <ℤ b → IsMulDiv 32 (a *ℤ pos 4) (pos 65536) (b *ℤ pos 4) r
+    → IsMulDiv 32 a (pos 65536) b r
+quotient_of_widened a (pos zero) r some given = absurd (omega (arith, ints, some))
+quotient_of_widened a (negsuc d) r some given = absurd (omega (arith, ints, some))
+quotient_of_widened a (pos (suc d)) r some given =
+    let size : suc d * 4 ≡ suc (d * 4 + 3) = omega arith in
+    let wide : IsWrappedNear 32 ((a *ℤ pos 4) *ℤ pos 65536) (suc (d * 4 + 3)) r =
+    rw size at given in
+    let moved : ((a *ℤ pos 4) *ℤ pos 65536) ≡ ((a *ℤ pos 65536) *ℤ pos 4) = product-times a (pos 4) (pos 65536)
+    ∙ sym (product-times a (pos 65536) (pos 4)) in
+    let same : near ((a *ℤ pos 4) *ℤ pos 65536) (suc (d * 4 + 3)) ≡ near (a *ℤ pos 65536) (suc d) =
+    ap (λ n. near n (suc (d * 4 + 3))) moved ∙ ap (near ((a *ℤ pos 65536) *ℤ pos 4)) (sym size)
+    ∙ near_quarters (a *ℤ pos 65536) (suc d) (omega arith) in
+    let is = wide.is ∙ ap (wrap 32) same in
+    record {
+      rounded = near (a *ℤ pos 65536) (suc d);
+      nearest = near_is (a *ℤ pos 65536) (suc d) (omega arith);
+      wrapped = is;
+      is = is;
+    }
 
 -- ---- a wrapped number as a part of a sum that wraps
 

@@ -73,14 +73,6 @@ pub ruleset sum_calls = (
   running_26dot6,
 )
 
--- ---- exact sums in 64 bits of few enough numbers of 32, one more
-
-pub exact_fixed : (xs : List Fixed) (i : ℕ) (d : Fixed) → i < length xs
-    → (total fixed_bits (take i xs) +ℤ fixed_bits (get_or xs i d)) ≡ total fixed_bits (take (i + 1) xs)
-exact_fixed xs i d within = sym (fold_more (λ sum x. sum +ℤ fixed_bits x) (pos 0) xs i d within)
-
-pub ruleset exact_sum_calls = (fits_64, exact_fixed)
-
 -- ---- sums that start somewhere, and sums of sums
 
 pub running_total_from : {T : Type 0} (w : ℕ) (number_of : T → ℤ) (start : ℤ) (xs : List T) (i : ℕ) (d : T) → 0 < w

@@ -1,7 +1,6 @@
 pub mod Json
 pub mod Delta
 pub mod DeltaSum
-pub mod Texts
 pub use Rattle.font_base.specs.Wrap
 pub use Rattle.font_base.specs.Bytes
 pub use Rattle.font_base.specs.Scalar
