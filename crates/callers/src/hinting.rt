@@ -191,6 +191,15 @@ pub fn scaled_units(distance: FWord, factor: F2Dot14) -> Fixed
     distance.to_fixed() * factor.to_fixed()
 }
 
+/// Scales the width of a stem from font units to pixels, rounded once, half up.
+#[tactic(auto, using(font_types::proofs::Callers::calls, font_types::proofs::Callers::narrowings))]
+pub fn scaled_width(width: FWord, scale: Fixed) -> F26Dot6
+    requires { (pos 0 ≤ℤ fixed_bits scale) × (fixed_bits scale ≤ℤ fixed_bits Fixed.ONE) }
+    ensures { f26dot6_bits result ≡ up (fword_number width *ℤ fixed_bits scale) 1024 }
+{
+    (width.to_fixed() * scale).to_f26dot6()
+}
+
 // Returns a part of a distance of either sign, from 0 to the whole.
 fn part_of(distance: Fixed, part: Fixed, whole: Fixed) -> Fixed
     requires part { (pos 0 ≤ℤ fixed_bits part) × (fixed_bits part ≤ℤ fixed_bits whole) }
@@ -205,8 +214,8 @@ fn part_of(distance: Fixed, part: Fixed, whole: Fixed) -> Fixed
     distance.mul_div(part, whole)
 }
 
-/// Moves a point between two touched points, as `IUP` does: by its share of their distance.
-pub fn between(start: Fixed, distance: Fixed, part: Fixed, whole: Fixed) -> Fixed
+// Moves a coordinate by a part of a distance.
+fn moved(start: Fixed, distance: Fixed, part: Fixed, whole: Fixed) -> Fixed
     requires end { FitsBits 32 (fixed_bits start +ℤ fixed_bits distance) }
     requires part { (pos 0 ≤ℤ fixed_bits part) × (fixed_bits part ≤ℤ fixed_bits whole) }
     requires whole { whole ≢ Fixed.ZERO }
@@ -220,6 +229,52 @@ pub fn between(start: Fixed, distance: Fixed, part: Fixed, whole: Fixed) -> Fixe
     ensures fall_high { fixed_bits distance ≤ℤ pos 0 → fixed_bits result ≤ℤ fixed_bits start }
 {
     start + part_of(distance, part, whole)
+}
+
+/// Returns the coordinate between two others that has a part of their distance from the first.
+///
+/// The difference, the part and the sum are in functions of their own: together they are too much
+/// for the search.
+pub fn between(start: Fixed, end: Fixed, part: Fixed, whole: Fixed) -> Fixed
+    requires distance { FitsBits 32 (fixed_bits end -ℤ fixed_bits start) }
+    requires part { (pos 0 ≤ℤ fixed_bits part) × (fixed_bits part ≤ℤ fixed_bits whole) }
+    requires whole { whole ≢ Fixed.ZERO }
+    ensures value { IsMulDiv 32 (fixed_bits end -ℤ fixed_bits start) (fixed_bits part)
+        (fixed_bits whole) (fixed_bits result -ℤ fixed_bits start) }
+    ensures low { fixed_bits start ≤ℤ fixed_bits end → fixed_bits start ≤ℤ fixed_bits result }
+    ensures high { fixed_bits start ≤ℤ fixed_bits end → fixed_bits result ≤ℤ fixed_bits end }
+    ensures fall_low { fixed_bits end ≤ℤ fixed_bits start → fixed_bits end ≤ℤ fixed_bits result }
+    ensures fall_high { fixed_bits end ≤ℤ fixed_bits start
+        → fixed_bits result ≤ℤ fixed_bits start }
+{
+    moved(start, end - start, part, whole)
+}
+
+/// An edge before and after it was hinted.
+#[derive(Clone, Copy)]
+pub struct Edge {
+    pub original: Fixed,
+    pub hinted: Fixed,
+}
+
+/// Moves a point between two hinted edges, as `IUP` does: by its part of their original distance.
+pub fn interpolate_point(y: Fixed, low: Edge, high: Edge) -> Fixed
+    requires order { fixed_bits low.original <ℤ fixed_bits high.original }
+    requires inside { (fixed_bits low.original ≤ℤ fixed_bits y)
+        × (fixed_bits y ≤ℤ fixed_bits high.original) }
+    requires original { FitsBits 32 (fixed_bits high.original -ℤ fixed_bits low.original) }
+    requires hinted { FitsBits 32 (fixed_bits high.hinted -ℤ fixed_bits low.hinted) }
+    ensures value { IsMulDiv 32 (fixed_bits high.hinted -ℤ fixed_bits low.hinted)
+        (fixed_bits y -ℤ fixed_bits low.original)
+        (fixed_bits high.original -ℤ fixed_bits low.original)
+        (fixed_bits result -ℤ fixed_bits low.hinted) }
+    ensures low { fixed_bits low.hinted ≤ℤ fixed_bits high.hinted
+        → fixed_bits low.hinted ≤ℤ fixed_bits result }
+    ensures high { fixed_bits low.hinted ≤ℤ fixed_bits high.hinted
+        → fixed_bits result ≤ℤ fixed_bits high.hinted }
+{
+    let (part, whole) = (y - low.original, high.original - low.original);
+    between(low.hinted, high.hinted, part, whole)
 }
 
 // ---- settings

@@ -1,6 +1,7 @@
 //! A scaler of outlines: points through a chain of matrices, advances, and the grid of pixels.
 
-ghost use Rattle.std.specs.Prelude.{◌≡◌, ◌*◌, ◌^◌, ◌<◌, ℕ, IfOk, length, map, slice_index_or};
+ghost use Rattle.std.specs.Prelude.{◌≡◌, ◌+◌, ◌*◌, ◌^◌, ◌<◌, ◌≤◌, ℕ, IfSome, IfNone, IfOk};
+ghost use Rattle.std.specs.Prelude.{length, take, map, slice_index_or};
 ghost use Rattle.std.specs.Prelude.{pos, neg_ℤ, ◌+ℤ◌, ◌-ℤ◌, ◌*ℤ◌, ◌≤ℤ◌};
 ghost use Rattle.font_types.specs.Delta.{total};
 ghost use Rattle.font_types.specs.F26Dot6.{f26dot6_bits};
@@ -12,7 +13,7 @@ ghost use Rattle.font_types.specs.FixedMatrix.{FitsInTurn, IsCloseInTurn};
 ghost use Rattle.font_types.specs.FixedMatrix.{IsBounded, IsBoundedPoint, IsWithin};
 ghost use Rattle.font_types.specs.Matrix.{image_of};
 ghost use Rattle.font_types.specs.Operations.{IsNearestWhole};
-ghost use Rattle.font_types.specs.Wrap.{wrap};
+ghost use Rattle.font_types.specs.Wrap.{FitsBits, wrap};
 
 use font_types::{F26Dot6, Fixed, Matrix, Point, laws};
 use std::alloc::{AllocError, Global};
@@ -195,6 +196,21 @@ pub fn line_width(line: &[PlacedGlyph]) -> Fixed
         width += glyph.advance;
     }
     width
+}
+
+/// Returns the sum of advances, or `None` at the first that it does not fit with.
+pub fn checked_width(advances: &[Fixed]) -> Option<Fixed>
+    ensures value { IfSome result (λ width. fixed_bits width ≡ total fixed_bits advances.now) }
+    ensures none { IfNone result ((k : ℕ) × (k < length advances.now)
+        × (¬ FitsBits 32 (total fixed_bits (take (k + 1) advances.now)))) }
+    ensures some { IfSome result (λ _. (k : ℕ) → k ≤ length advances.now
+        → FitsBits 32 (total fixed_bits (take k advances.now))) }
+{
+    let mut width = Fixed::ZERO;
+    for advance in advances {
+        width = width.checked_add(*advance)?;
+    }
+    Some(width)
 }
 
 /// Rounds a coordinate in pixels to the grid, half up; wraps above the largest whole pixel.

@@ -1,20 +1,19 @@
 -- Products of `Fixed` by a part of a whole, a number from 0 to 1, numbers between two others, and products by a widened
 -- 2.14 factor.
 use Rattle.std.proofs.Common.{◌≡◌, ◌≢◌, ◌∙◌, sym, ap, refl, lit<, arith, ℕ, zero, suc, ◌+◌, ◌-◌, ℤ, pos, negsuc}
-use Rattle.std.proofs.Common.{◌*◌, ◌<◌, ◌+ℤ◌, ◌-ℤ◌, ◌*ℤ◌, ◌≤ℤ◌, ◌<ℤ◌, unsigned_abs, w16, w32, SFits}
+use Rattle.std.proofs.Common.{◌*◌, ◌<◌, neg_ℤ, ◌+ℤ◌, ◌-ℤ◌, ◌*ℤ◌, ◌≤ℤ◌, ◌<ℤ◌, unsigned_abs, w16, w32, SFits}
 use Rattle.std.proofs.lemmas.Int.{ints}
 use Rattle.std.proofs.Math.IntN.{*ℤ_comm}
 use Rattle.std.proofs.Math.Nat.{mul_assoc}
 use Rattle.font_base.specs.Integers.{product-times, sum-times}
 use Rattle.font_base.specs.Wrap.{wrap, FitsBits}
-use Rattle.font_base.proofs.Widths.{signed_fits}
 use Rattle.font_base.specs.Wrap.Laws.{wrap-add_left, wrap-add_right, wrap-fits}
 use Rattle.font_decimal.specs.Near.{Near, near}
 use Rattle.font_decimal.proofs.Integers.{times_monotone}
 use Rattle.font_decimal.proofs.Near.{near_is, near_gives, near_monotone}
 use Rattle.font_fixed.proofs.Calls.{fits_32}
 use Rattle.font_fixed.specs.Operations.{IsMulDiv, IsWrappedNear}
-use Rattle.font_fixed.proofs.NumberLaws.{near_exact, mul_div_between}
+use Rattle.font_fixed.proofs.NumberLaws.{near_exact}
 
 -- a product by a number from 0 to m lies between 0 and m times the other number
 parts_of : (x : ℤ) (k d m : ℕ) → k + d ≡ m → ((x *ℤ pos k) +ℤ (x *ℤ pos d)) ≡ (x *ℤ pos m)
@@ -182,13 +181,26 @@ units_by_number a y = ap (λ n. near n 65536) (times_moved a y)
 pub number_by_units : (a y : ℤ) → near (y *ℤ (a *ℤ pos 65536)) 65536 ≡ (a *ℤ y)
 number_by_units a y = ap (λ n. near n 65536) (*ℤ_comm y (a *ℤ pos 65536)) ∙ units_by_number a y
 
+units_by_part_within : (a y : ℤ) → SFits w16 a → pos 0 ≤ℤ y → y ≤ℤ pos 65536
+    → (neg_ℤ (pos 2147483648) ≤ℤ (a *ℤ y)) × ((a *ℤ y) ≤ℤ pos 2147418112)
+units_by_part_within (pos n) y fits from to =
+    let up = rises (pos n) y 65536 (omega (arith, ints)) from to in
+    (omega (arith, ints, up.0), omega (arith, ints, fits, up.1))
+units_by_part_within (negsuc n) y fits from to =
+    let down = falls (negsuc n) y 65536 (omega (arith, ints)) from to in
+    (omega (arith, ints, fits, down.1), omega (arith, ints, down.0))
+
 units_by_part_fit : (a y : ℤ) → SFits w16 a → pos 0 ≤ℤ y → y ≤ℤ pos 65536 → SFits w32 (a *ℤ y)
-units_by_part_fit (pos n) y fits from to =
-    let up = rises (pos n) y 65536 (omega (arith, ints)) from to in omega (arith, ints, fits, up.0, up.1)
-units_by_part_fit (negsuc n) y fits from to =
-    let down = falls (negsuc n) y 65536 (omega (arith, ints)) from to in omega (arith, ints, fits, down.0, down.1)
+units_by_part_fit a y fits from to =
+    let within = units_by_part_within a y fits from to in omega (arith, ints, within.0, within.1)
 
 module _ (a y : ℤ) (fits : SFits w16 a) (from : pos 0 ≤ℤ y) (to : y ≤ℤ pos 65536) where
+  pub units_by_part_is_at_most : (m : ℤ) → pos 2147418112 ≤ℤ m → (a *ℤ y) ≤ℤ m
+  units_by_part_is_at_most m room = omega (arith, ints, room, (units_by_part_within a y fits from to).1)
+
+  pub units_by_part_is_at_least : (m : ℤ) → m ≤ℤ neg_ℤ (pos 2147483648) → m ≤ℤ (a *ℤ y)
+  units_by_part_is_at_least m room = omega (arith, ints, room, (units_by_part_within a y fits from to).0)
+
   pub units_by_part_is_exact : wrap 32 (near ((a *ℤ pos 65536) *ℤ y) 65536) ≡ (a *ℤ y)
   units_by_part_is_exact = rw (units_by_number a y) (fits_32 (a *ℤ y) (units_by_part_fit a y fits from to))
 
@@ -208,6 +220,8 @@ module _ (a t : ℤ) (fits : SFits w16 a) (from : pos 0 ≤ℤ t) (to : t ≤ℤ
 pub ruleset unit_calls = (
   units_by_number,
   number_by_units,
+  units_by_part_is_at_most,
+  units_by_part_is_at_least,
   units_by_part_is_exact,
   part_by_units_is_exact,
   units_by_widened_is_exact,
@@ -276,43 +290,7 @@ module _ (a b t : ℤ) (fits_a : SFits w32 a) (fits_b : SFits w32 b) (fits : Fit
   pub part_between_from_high : b ≤ℤ a → wrap 32 (a +ℤ wrap 32 (near (t *ℤ wrap 32 (b -ℤ a)) 65536)) ≤ℤ a
   part_between_from_high order = rw flipped (between_from_high order)
 
--- ---- `a + (b - a).mul_div(p, c)`, for a part p of c: the same
-
-module _ (a b x p c r : ℤ) (given : IsMulDiv 32 x p c r) (is : x ≡ wrap 32 (b -ℤ a)) (fits_a : SFits w32 a)
-    (fits_b : SFits w32 b) (fits : FitsBits 32 (b -ℤ a)) (from : pos 0 ≤ℤ p) (to : p ≤ℤ c) (some : c ≢ pos 0) where
-  distance : x ≡ (b -ℤ a)
-  distance = is ∙ wrap-fits 32 (b -ℤ a) (lit< tt) fits
-
-  distance_fits : SFits w32 x
-  distance_fits = omega (arith, ints, distance, fits.low, fits.high)
-
-  share_up : a ≤ℤ b → (pos 0 ≤ℤ r) × (r ≤ℤ (b -ℤ a))
-  share_up order =
-      let share = mul_div_between 32 x p c r (lit< tt) (signed_fits w32 x distance_fits) given
-      (omega (arith, ints, distance, order)) from to some in
-      (share.0, omega (arith, ints, share.1, distance))
-
-  share_down : b ≤ℤ a → (r ≤ℤ pos 0) × ((b -ℤ a) ≤ℤ r)
-  share_down order =
-      let share = falling_share x p c r given distance_fits (omega (arith, ints, distance, order)) from to some in
-      (share.0, omega (arith, ints, share.1, distance))
-
-  pub share_from_low : a ≤ℤ b → a ≤ℤ wrap 32 (a +ℤ r)
-  share_from_low order = (sum_up a b r fits_a fits_b (share_up order)).0
-
-  pub share_to_high : a ≤ℤ b → wrap 32 (a +ℤ r) ≤ℤ b
-  share_to_high order = (sum_up a b r fits_a fits_b (share_up order)).1
-
-  pub share_to_low : b ≤ℤ a → b ≤ℤ wrap 32 (a +ℤ r)
-  share_to_low order = (sum_down a b r fits_a fits_b (share_down order)).0
-
-  pub share_from_high : b ≤ℤ a → wrap 32 (a +ℤ r) ≤ℤ a
-  share_from_high order = (sum_down a b r fits_a fits_b (share_down order)).1
-
-pub ruleset share_calls = (share_from_low, share_to_high, share_to_low, share_from_high)
-
--- ---- `a + (b - a) * t`, for a part that was widened from 2.14
-
+-- a part that was widened from 2.14
 module _ (a b t : ℤ) (fits_a : SFits w32 a) (fits_b : SFits w32 b) (fits : FitsBits 32 (b -ℤ a))
     (from : pos 0 ≤ℤ t) (to : t ≤ℤ pos 16384) where
   not_negative_4 : pos 0 ≤ℤ (t *ℤ pos 4)
