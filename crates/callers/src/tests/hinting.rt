@@ -1,8 +1,9 @@
 //! A hinter.
 
 use crate::hinting::{
-    NameRecord, between, bounds, depth, far_edge, interpolate, is_windows_name, line_above,
-    nearest_pixel, opposite, read_scale, scaled_units,
+    Edge, NameRecord, between, blend, bounds, depth, far_edge, interpolate, interpolate_point,
+    is_windows_name, line_above, nearest_pixel, opposite, read_scale, scaled_units, scaled_width,
+    small_product,
 };
 use font_types::{BoundingBox, F2Dot14, F26Dot6, FWord, Fixed, NameId};
 
@@ -78,30 +79,84 @@ fn positions(rt: HostRuntime) {
         interpolate(bold, light, quarter),
     ];
     assert!(rt; found == [0x32_0000, 0x4B_0000, 0x96_0000, 0x7D_0000].map(Fixed::from_bits));
-    let (low, distance) = (Fixed::from_bits(0x0A_0000), Fixed::from_bits(0x1E_0000));
-    let third = between(
-        low,
-        distance,
-        Fixed::from_bits(0x1_0000),
-        Fixed::from_bits(0x3_0000),
-    );
-    let back = between(
-        low,
-        -distance,
-        Fixed::from_bits(0x1_0000),
-        Fixed::from_bits(0x3_0000),
-    );
-    assert!(rt; [third, back] == [Fixed::from_bits(0x14_0000), Fixed::ZERO]);
-    // The product is not rounded before it is divided.
-    let half = Fixed::from_bits(0x8000);
-    let end = between(low, Fixed::from_bits(3), half, half);
-    assert!(rt; end == Fixed::from_bits(0x0A_0003));
     let least = FWord::new(i16::MIN);
     let scaled = [
         scaled_units(FWord::new(3), quarter),
         scaled_units(least, F2Dot14::ONE),
     ];
     assert!(rt; scaled == [Fixed::from_bits(0xC000), Fixed::MIN]);
+}
+
+// Each row has its coordinates, in units, and the part of the whole.
+#[test]
+fn points_between_others(rt: HostRuntime) {
+    for &(start, end, part, whole, found) in &[
+        (10, 40, 1, 3, 20),
+        (10, -20, 1, 3, 0),
+        (10, 40, 0, 3, 10),
+        (40, 10, 3, 3, 10),
+    ] {
+        let [start, end, part, whole] = [start, end, part, whole].map(Fixed::from_i32);
+        assert!(rt;
+            between(start, end, part, whole) == Fixed::from_i32(found),
+            "{found}"
+        );
+    }
+    // The product is not rounded before it is divided.
+    let half = Fixed::from_bits(0x8000);
+    let end = Fixed::from_bits(3);
+    assert!(rt; between(Fixed::ZERO, end, half, half) == end);
+    for &(y, low, high, found) in &[
+        (100, 128, 192, 128),
+        (150, 128, 192, 160),
+        (200, 128, 192, 192),
+        (125, 192, 128, 176),
+    ] {
+        let [low, high] = [(100, low), (200, high)].map(|(original, hinted)| Edge {
+            original: Fixed::from_i32(original),
+            hinted: Fixed::from_i32(hinted),
+        });
+        let point = interpolate_point(Fixed::from_i32(y), low, high);
+        assert!(rt; point == Fixed::from_i32(found), "{y}");
+    }
+}
+
+// The products that end in a half are rounded away from zero, and widths half up.
+#[test]
+fn products(rt: HostRuntime) {
+    for &(from, to, t, blended) in &[
+        (0x32_0000, 0x96_0000, 0x2_0000, 0xFA_0000),
+        (0x32_0000, 0x96_0000, -0x8000, 0),
+        (0, 3, 0x8000, 2),
+        (3, 0, 0x8000, 1),
+        (0x7FFF_0000, 0x7FFF_8000, 0x4_0000, -0x7FFF_0000),
+    ] {
+        let [from, to, t] = [from, to, t].map(Fixed::from_bits);
+        assert!(rt;
+            blend(from, to, t) == Fixed::from_bits(blended),
+            "{blended}"
+        );
+    }
+    for &(a, b, product) in &[
+        (0x80_0000, 0x80_0000, 0x4000_0000),
+        (-0x80_0000, 0x80_0000, -0x4000_0000),
+        (3, 0x8000, 2),
+        (-3, 0x8000, -2),
+    ] {
+        let found = small_product(Fixed::from_bits(a), Fixed::from_bits(b));
+        assert!(rt; found == Fixed::from_bits(product), "{a} times {b}");
+    }
+    for &(units, scale, width) in &[
+        (1, 0x100, 0),
+        (2, 0x100, 1),
+        (-2, 0x100, 0),
+        (-6, 0x100, -1),
+        (32767, 0x1_0000, 2_097_088),
+        (-32768, 0x1_0000, -2_097_152),
+    ] {
+        let found = scaled_width(FWord::new(units), Fixed::from_bits(scale));
+        assert!(rt; found == F26Dot6::from_bits(width), "{units}");
+    }
 }
 
 #[test]

@@ -1,7 +1,7 @@
 //! Packed deltas, and terms.
 
-use crate::packed::{delta_width, deltas_in_run, read_run, region_terms};
-use font_types::Fixed;
+use crate::packed::{delta_width, deltas_in_run, read_run, region_terms, scaled_sum};
+use font_types::{F48Dot16, Fixed};
 use std::test::Fail;
 
 // (OpenType, font variations common table formats: the example of packed deltas)
@@ -49,5 +49,7 @@ fn terms_of_regions(rt: HostRuntime) -> Result<(), Fail> {
     let half = Fixed::from_bits(0x8000);
     let terms = region_terms(&[half, Fixed::ONE], &[3, -2], rt.alloc())?;
     assert!(rt; terms.as_slice() == [(half, 3), (Fixed::ONE, -2)].as_slice());
+    let sum = scaled_sum(&[half, Fixed::ONE], &[3, -2]);
+    assert!(rt; sum == F48Dot16::from_bits(-0x8000));
     Ok(())
 }

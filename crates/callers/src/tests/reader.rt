@@ -2,8 +2,9 @@
 
 use crate::evaluator::read_axis;
 use crate::reader::{
-    Head, Ppem, VertOriginYMetrics, advance_width, coverage_index, metric, origin_index,
-    read_selector, units_per_em, vert_origin_y,
+    Head, Ppem, VertOriginYMetrics, advance_width, coverage_index, has_bearings_at_zero, metric,
+    origin_index, read_selector, segment_of, selector_index, units_per_em, vert_origin_y,
+    write_word,
 };
 use font_types::{
     BigEndian, FWord, Fixed, GlyphId16, LongDateTime, NameId, Scalar, ScalarArray, TableDataRef,
@@ -61,6 +62,16 @@ fn last_fields_of_head(rt: HostRuntime) -> Result<(), Fail> {
 }
 
 #[test]
+fn flags_and_words(rt: HostRuntime) {
+    for &(flags, is_set) in &[(0, false), (0x0002, true), (0x000B, true), (0xFFFD, false)] {
+        assert!(rt; has_bearings_at_zero(flags) == is_set, "{flags}");
+    }
+    let mut bytes = [1, 2, 3, 4, 5, 6, 7];
+    write_word(&mut bytes, 2, 0xB1B0_AFBA);
+    assert!(rt; bytes == [1, 2, 0xB1, 0xB0, 0xAF, 0xBA, 7]);
+}
+
+#[test]
 fn metrics_of_glyphs(rt: HostRuntime) {
     let hmtx = [2, 0, 0, 10, 1, 0, 0xFF, 0xFF, 0, 7];
     for &(glyph, advance) in &[(0, 512), (2, 256)] {
@@ -87,6 +98,16 @@ fn glyphs_found(rt: HostRuntime) -> Result<(), Fail> {
             coverage_index(&glyphs, GlyphId16::new(glyph)) == index,
             "{glyph}"
         );
+    }
+    let selectors = ScalarArray::new(&[0, 0xFE, 0x0E, 0, 0xFE, 0x0F, 0x0E, 1, 0]);
+    let selectors = selectors.ok_or("nine bytes")?;
+    for &(selector, place) in &[(0xFE0F, Ok(1)), (0xFE10, Err(2)), (0, Err(0))] {
+        let found = selector_index(&selectors, Uint24::new(selector));
+        assert!(rt; found == place, "{selector}");
+    }
+    let ends = ScalarArray::new(&[0, 0x7E, 0, 0xFF]).ok_or("four bytes")?;
+    for &(code, segment) in &[(0, 0), (0x7E, 0), (0x7F, 1), (0xFF, 1), (0x100, 2)] {
+        assert!(rt; segment_of(&ends, code) == segment, "{code}");
     }
     let records = [(3, 880), (40, -7), (0x1234, 0)].map(|(glyph, y)| VertOriginYMetrics {
         glyph_index: GlyphId16::new(glyph),

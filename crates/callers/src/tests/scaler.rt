@@ -1,8 +1,8 @@
 //! A scaler of outlines.
 
 use crate::scaler::{
-    Component, PlacedGlyph, cross_product, in_turn, last_point, line_width, round_to_grid,
-    scale_component, slant, transform,
+    Component, PlacedGlyph, checked_width, cross_product, in_turn, last_point, line_width,
+    round_to_grid, scale_component, scale_in_turn, shift_all, slant, transform,
 };
 use font_types::{F26Dot6, Fixed, Matrix, Point};
 use std::test::Fail;
@@ -26,6 +26,13 @@ fn points_of_contours(rt: HostRuntime) {
         let found = cross_product(Point::new(a.0, a.1), Point::new(b.0, b.1));
         assert!(rt; found == product, "{product}");
     }
+}
+
+#[test]
+fn coordinates_shifted(rt: HostRuntime) {
+    let mut coordinates = [-2, 0, i32::MAX].map(Fixed::from_bits);
+    shift_all(&mut coordinates, Fixed::from_bits(1));
+    assert!(rt; coordinates == [-1, 1, i32::MIN].map(Fixed::from_bits));
 }
 
 #[test]
@@ -54,6 +61,7 @@ fn components_scaled(rt: HostRuntime) {
     };
     assert!(rt; scale_component(scale, component, point) == point);
     assert!(rt; in_turn(scale, component.transform, point) == point);
+    assert!(rt; scale_in_turn(scale, component, point) == point);
 }
 
 #[test]
@@ -67,6 +75,15 @@ fn line_widths_and_grid(rt: HostRuntime) {
             line_width(&line) == Fixed::from_bits(width),
             "{bits} and one more"
         );
+    }
+    for (advances, width) in &[
+        ([0, 0, 0], Some(0)),
+        ([i32::MAX, -1, 1], Some(i32::MAX)),
+        ([1, i32::MAX, -1], None),
+        ([-1, i32::MIN, 1], None),
+    ] {
+        let sum = checked_width(&advances.map(Fixed::from_bits));
+        assert!(rt; sum == width.map(Fixed::from_bits), "{}", advances[1]);
     }
     for &(bits, rounded) in &[(32, 64), (-33, -64)] {
         let number = round_to_grid(F26Dot6::from_bits(bits));
