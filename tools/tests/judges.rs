@@ -120,6 +120,18 @@ fn names() {
                 "docs/DESIGN.md: no_such_file.rt",
             ),
             (
+                "docs/CALLING.md",
+                "{calls}",
+                "{near_unique}",
+                "no caller uses near_unique",
+            ),
+            (
+                "docs/CALLING.md",
+                "hinting::least",
+                "hinting::last",
+                "hinting::last of the page",
+            ),
+            (
                 "c/README.md",
                 "font_fixed_mul(",
                 "font_fixed_mull(",

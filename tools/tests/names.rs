@@ -134,3 +134,62 @@ fn crates_define_different_names() {
     }
     assert!(crates.len() > 400, "{}", crates.len());
 }
+
+/// Returns the names that a file of proofs passes on: those in braces after `pub use`, the modules
+/// that it names there, and its rulesets.
+fn passed_on(proofs: &str) -> HashSet<&str> {
+    let mut names = HashSet::new();
+    for line in proofs.lines() {
+        if let Some(path) = line.strip_prefix("pub use ") {
+            let last = path.rsplit('.').next().unwrap_or_default();
+            let list = last.trim_matches(['{', '}']);
+            names.extend(list.split(',').map(str::trim));
+        } else if let Some(rest) = line.strip_prefix("pub ruleset ") {
+            names.extend(rest.split(' ').next());
+        }
+    }
+    names
+}
+
+// A lemma that the page names is in a proof of a caller, and a function of its table is one.
+#[test]
+fn calling_names_what_callers_use() {
+    let page = text("docs/CALLING.md");
+    let paths = files("crates/callers", "");
+    let is_source = |path: &&String| path.ends_with(".rt") || path.ends_with(".antt");
+    let is_tested = |path: &&String| path.contains("/tests");
+    let used: String = paths
+        .iter()
+        .filter(is_source)
+        .filter(|path| !is_tested(path))
+        .map(|path| text(path))
+        .collect();
+    let (used, proofs) = (words(&used), text("crates/font_types/proofs/Callers.antt"));
+    let passed_on = passed_on(&proofs);
+    assert!(passed_on.len() > 40 && passed_on.contains("calls"));
+    let mut shown = 0;
+    for quoted in quoted(&page) {
+        for name in words(quoted).intersection(&passed_on) {
+            assert!(used.contains(name), "no caller uses {name}");
+        }
+        let Some((module, item)) = quoted.split_once("::") else {
+            continue;
+        };
+        let file = format!("crates/callers/src/{module}.rt");
+        if is_of_name_alone(item) && paths.contains(&file) {
+            let items = ["fn ", "struct "].map(|kind| format!("pub {kind}{item}"));
+            let source = text(&file);
+            assert!(
+                items.iter().any(|item| source.contains(item)),
+                "{module}::{item} of the page"
+            );
+            shown += 1;
+        }
+    }
+    assert!(shown > 40, "{shown}");
+}
+
+/// Returns whether a text is one name.
+fn is_of_name_alone(text: &str) -> bool {
+    text.chars().all(is_of_name)
+}

@@ -12,7 +12,7 @@ fn calling_shows_files_of_callers() {
         let (_, shown) = block.split_once('\n').unwrap();
         assert_eq!(shown, text(&format!("crates/callers/{file}")), "{file}");
     }
-    assert_eq!(links.count(), 2);
+    assert_eq!(links.count(), 1);
 }
 
 /// Returns a text without white space, so that its layout does not count.

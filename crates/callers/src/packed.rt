@@ -3,7 +3,8 @@
 ghost use Rattle.std.specs.Prelude.{◌≡◌, ◌↔◌, ◌<◌, ◌≤◌, ◌+◌, ◌*◌, ℕ, [], pos};
 ghost use Rattle.std.specs.Prelude.{IsSome, IfSome, IfOk};
 ghost use Rattle.std.specs.Prelude.{length, drop, slice_index, slice_index_or, vec_len};
-ghost use Rattle.callers.specs.Packed.{run_count, run_width, run_delta, run_bytes, region_term, term_value};
+ghost use Rattle.callers.specs.Packed.{run_count, run_width, run_delta, run_bytes, region_term};
+ghost use Rattle.callers.specs.Packed.{term_value};
 ghost use Rattle.font_types.specs.Delta.{total_below};
 ghost use Rattle.font_types.specs.F48Dot16.{f48dot16_bits};
 ghost use Rattle.font_types.specs.Wrap.{wrap};

@@ -168,7 +168,7 @@ pub ruleset part_calls = (
   product_of_widened_is_at_most_one,
 )
 
--- ---- a product of an integer, as of font units, and any number: it is exact, and that of a part of one of 16 bits fits
+-- ---- a product of an integer, as of font units, and a number: it is exact, and fits for 16 bits and a part
 
 times_moved : (a y : ℤ) → ((a *ℤ pos 65536) *ℤ y) ≡ ((a *ℤ y) *ℤ pos 65536)
 times_moved a y = product-times a (pos 65536) y ∙ ap (λ z. a *ℤ z) (*ℤ_comm (pos 65536) y)
