@@ -22,6 +22,8 @@ use font_types::{BoundingBox, F2Dot14, F26Dot6, FWord, Fixed, NameId};
 // ---- extents
 
 /// Returns the smallest coordinate.
+///
+/// Its clause has the bound, and that there is an index `k` where the bound is; so has its loop.
 pub fn least(coordinates: &[Fixed]) -> Fixed
     requires { 0 < length coordinates.now }
     ensures { IsLeast coordinates.now result }
@@ -90,9 +92,11 @@ pub fn opposite(distance: F26Dot6) -> F26Dot6
 }
 
 /// Returns the pixel of a coordinate, the nearest integer, half up.
+///
+/// The ruleset `narrowings` states a narrowed number that fits when it is rounded, by `up`.
 #[tactic(auto, using(font_types::proofs::Callers::calls, font_types::proofs::Callers::narrowings))]
 pub fn nearest_pixel(y: F26Dot6) -> i32
-    requires { f26dot6_bits y ≤ℤ pos 2147483584 }
+    requires { FitsBits 32 (f26dot6_bits y +ℤ pos 32) }
     ensures { result ≡ up (f26dot6_bits y) 64 }
 {
     y.to_i32()
@@ -146,6 +150,8 @@ pub fn far_edge(near: F26Dot6, width: F26Dot6) -> F26Dot6
 // ---- positions between two others
 
 /// Interpolates between the values of two masters, whose difference has to fit.
+///
+/// For a `t` from 0 to 1, the bounds prove by `calls`.
 pub fn interpolate(a: Fixed, b: Fixed, t: F2Dot14) -> Fixed
     requires width { FitsBits 32 (fixed_bits b -ℤ fixed_bits a) }
     requires part { (pos 0 ≤ℤ f2dot14_bits t) × (f2dot14_bits t ≤ℤ f2dot14_bits F2Dot14.ONE) }
@@ -290,6 +296,8 @@ fn after_scale(text: &str) -> Option<&str>
 }
 
 // Parses the number of a text.
+//
+// The answer of the clause `back` takes the second way of the `↔` of `from_decimal`.
 fn number_of(text: &str) -> Option<Fixed>
     ensures read { IfSome result (λ x. ReadsBits 32 16 text.now (fixed_bits x)) }
     ensures back { (x : Fixed) → FitsBits 32 (fixed_bits x)
@@ -301,6 +309,8 @@ fn number_of(text: &str) -> Option<Fixed>
 }
 
 /// Reads a setting such as `scale=1.5`.
+///
+/// One function cuts the prefix, and another parses the rest.
 pub fn read_scale(text: &str) -> Option<Fixed>
     ensures read { IfSome result (λ x. (rest : List ℕ) × (text.now ≡ codes "scale=" ++ rest)
         × ReadsBits 32 16 rest (fixed_bits x)) }
@@ -321,6 +331,8 @@ pub struct NameRecord {
 }
 
 /// Returns `true` if a record has the name in American English for Windows.
+///
+/// The record is passed by value: `==` of a field behind a reference, in a loop, stays open.
 pub fn is_windows_name(entry: NameRecord, name: NameId) -> bool
     ensures { IsTrue result ↔ ((entry.platform ≡ 3) × (entry.language ≡ 0x409)
         × (name_number entry.name ≡ name_number name)) }

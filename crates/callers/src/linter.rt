@@ -26,6 +26,8 @@ pub struct BadTag {
 }
 
 /// Validates tags, up to the first invalid one.
+///
+/// The invariant of its loop says of the tags so far what the clause says of all, by `AllWithin`.
 pub fn validate(tags: &[Tag]) -> Result<(), BadTag>
     ensures { MatchResult result (λ _. All (λ tag. IsGood (tag_bytes tag)) tags.now)
         (λ bad. IsFirstBad tags.now bad) }
@@ -39,6 +41,8 @@ pub fn validate(tags: &[Tag]) -> Result<(), BadTag>
 }
 
 /// Returns whether tags are strictly ascending.
+///
+/// The invariant compares their bytes by `slice_cmp nat_cmp`, which is the order of tags.
 pub fn is_ascending(tags: &[Tag]) -> bool
     ensures { IsTrue result ↔ AllAdjacentBelow
         (λ a b. ⟦<Tag as Ord>⟧.cmp a b ≡ Ordering.Less) tags.now (length tags.now) }
@@ -63,6 +67,8 @@ pub struct TableRecord {
 }
 
 /// Sorts records by tag, as a table directory stores them.
+///
+/// The clause of a sort by a closure is for each key that the closure gives; the answer names it.
 pub fn sort_by_tag(records: &mut [TableRecord])
     ensures same { IsPermutation records.old records.new }
     ensures sorted { IsSortedByKey (λ r. r.tag) ⟦<Tag as Ord>⟧.cmp records.new }
@@ -84,6 +90,8 @@ pub fn checksum(words: ScalarArray<'_, u32>) -> u32
 }
 
 /// Returns the length of all tables together, or `None` if it does not fit 32 bits.
+///
+/// The invariant of its loop has the range of the sum, too.
 pub fn total_length(lengths: &[u32]) -> Option<u32>
     ensures variant { IsSome result ↔ (sum lengths.now < 2 ^ 32) }
     ensures value { IfSome result (λ total. total ≡ sum lengths.now) }

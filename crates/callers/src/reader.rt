@@ -216,6 +216,8 @@ pub fn advance_width(hmtx: &[u8], count: u16, glyph: GlyphId16) -> Option<UfWord
 
 /// Returns the coverage index of a glyph in a sorted array of glyph ids (coverage, format 1), or
 /// `None` if it is not covered.
+///
+/// One clause has both the index and the element there. An absent number is given by its bytes.
 pub fn coverage_index(glyphs: &ScalarArray<'_, GlyphId16>, glyph: GlyphId16) -> Option<usize>
     ensures found { IfSome result (λ i. (i < array_len glyphs.now)
         × (numeral (element_bytes glyphs.now i) ≡ glyph16_number glyph)) }
@@ -228,6 +230,8 @@ pub fn coverage_index(glyphs: &ScalarArray<'_, GlyphId16>, glyph: GlyphId16) -> 
 }
 
 /// Returns the index of a variation selector in a sorted array, or else where it has its place.
+///
+/// For types other than `u16` and `GlyphId16`, `IsSearched` says both of the `Result`.
 pub fn selector_index(selectors: &ScalarArray<'_, Uint24>, selector: Uint24) -> Result<usize, usize>
     ensures { IsSearched selectors.now
         (λ other. nat_cmp (uint24_number other) (uint24_number selector)) result }

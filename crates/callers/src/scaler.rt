@@ -198,7 +198,9 @@ pub fn line_width(line: &[PlacedGlyph]) -> Fixed
     width
 }
 
-/// Returns the sum of advances, or `None` at the first that it does not fit with.
+/// Returns the sum of advances, or `None` if that of the first ones does not fit.
+///
+/// The invariant of its loop says that each sum so far fits.
 pub fn checked_width(advances: &[Fixed]) -> Option<Fixed>
     ensures value { IfSome result (λ width. fixed_bits width ≡ total fixed_bits advances.now) }
     ensures none { IfNone result ((k : ℕ) × (k < length advances.now)

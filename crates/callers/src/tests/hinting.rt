@@ -41,8 +41,11 @@ fn lines_of_the_grid(rt: HostRuntime) {
         nearest_pixel(F26Dot6::from_bits(-33)),
         nearest_pixel(F26Dot6::from_bits(-32)),
         nearest_pixel(F26Dot6::from_bits(32)),
+        nearest_pixel(F26Dot6::from_bits(i32::MAX - 32)),
     ];
-    assert!(rt; pixels == [-1, 0, 1] && opposite(F26Dot6::ONE) == F26Dot6::from_i32(-1));
+    assert!(rt;
+        pixels == [-1, 0, 1, 0x1FF_FFFF] && opposite(F26Dot6::ONE) == F26Dot6::from_i32(-1)
+    );
 }
 
 #[test]
