@@ -332,7 +332,7 @@ pub struct NameRecord {
 
 /// Returns `true` if a record has the name in American English for Windows.
 ///
-/// The record is passed by value: `==` of a field behind a reference, in a loop, stays open.
+/// The record is passed by value: in a loop, `==` of a tag behind a reference stays open.
 pub fn is_windows_name(entry: NameRecord, name: NameId) -> bool
     ensures { IsTrue result ↔ ((entry.platform ≡ 3) × (entry.language ≡ 0x409)
         × (name_number entry.name ≡ name_number name)) }

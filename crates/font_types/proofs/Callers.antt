@@ -12,7 +12,7 @@ use Rattle.font_types.proofs.SumCalls.{sum_calls_from, sum_calls_16, sum_calls_3
 use Rattle.font_types.proofs.StoredBytes.{stored_calls}
 use Rattle.font_types.proofs.ShortProducts.{short_product_calls}
 use Rattle.font_types.proofs.Parts.{part_calls, unit_calls, between_calls, lerp_calls}
-use Rattle.font_types.proofs.Narrowed.{exact_narrow_calls, exact_sum_is_integral, negation_is_integral, kept_32}
+use Rattle.font_types.proofs.Narrowed.{exact_narrow_calls, exact_sum_is_integral, negation_is_integral}
 use Rattle.font_types.proofs.ArrayNumbers.{array_number_calls}
 use Rattle.font_types.proofs.Below.{below_calls}
 pub use Rattle.font_base.proofs.ScalarCalls.{absent, nowhere, rises_by}
@@ -48,7 +48,6 @@ pub ruleset calls = (
   scalar_calls,
   search_calls,
   stored_calls,
-  kept_32,
   calls_16,
   calls_64,
   integral_calls,

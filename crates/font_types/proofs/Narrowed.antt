@@ -1,4 +1,4 @@
--- Narrowed numbers, sums and differences that do not wrap, and exact sums and negations of integers.
+-- Narrowed numbers that do not wrap, and exact sums and negations of integers.
 use Rattle.std.proofs.Common.{◌≡◌, ℕ, ◌<◌, ◌-◌, ◌/◌, ℤ, pos, neg_ℤ, ◌+ℤ◌, ◌*ℤ◌, ◌≤ℤ◌, arith, pow_pos}
 use Rattle.std.proofs.lemmas.Int.{ints, by_lt_z}
 use Rattle.font_base.specs.Wrap.{wrap}
@@ -6,7 +6,6 @@ use Rattle.font_base.specs.Wrap.Laws.{wrap-fits}
 use Rattle.font_decimal.specs.Near.{up}
 use Rattle.font_decimal.proofs.Integers.{times_monotone, times-next}
 use Rattle.font_decimal.proofs.Near.{up_is, up_monotone, up_whole}
-use Rattle.font_fixed.proofs.Calls.{fits_32}
 use Rattle.font_fixed.proofs.Integral.{negated_is_integral, sum_is_integral, wrapped_is_integral}
 use Rattle.font_fixed.specs.Operations.{IsIntegral, least, greatest}
 
@@ -31,7 +30,3 @@ negation_is_integral f w a r is few is_a = rw is (wrapped_is_integral f w (neg_�
 -- an exact sum of integers is an integer
 pub exact_sum_is_integral : (f : ℕ) (a b r : ℤ) → r ≡ (a +ℤ b) → IsIntegral f a → IsIntegral f b → IsIntegral f r
 exact_sum_is_integral f a b r is is_a is_b = rw is (sum_is_integral f a b is_a is_b)
-
--- a sum or a difference within the bounds of 32 bits does not wrap
-pub kept_32 : (z : ℤ) → neg_ℤ (pos 2147483648) ≤ℤ z → z ≤ℤ pos 2147483647 → wrap 32 z ≡ z
-kept_32 z low high = fits_32 z (omega (arith, ints, low, high))
