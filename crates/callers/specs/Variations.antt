@@ -1,6 +1,6 @@
 -- Item variation stores (OpenType, font variations common table formats: "Item Variation Store").
-use Rattle.std.specs.Prelude.{◌≡◌, ◌≢◌, ◌⊎◌, ℕ, zero, suc, ◌+◌, ◌*◌, ◌-◌, ◌%◌, ◌/◌, ◌<◌, ◌≤◌, min}
-use Rattle.std.specs.Prelude.{ℤ, pos, ◌≤ℤ◌, ◌<ℤ◌, ◌-ℤ◌, ◌+ℤ◌, ◌*ℤ◌}
+use Rattle.std.specs.Prelude.{◌≡◌, ◌≢◌, ◌⊎◌, ℕ, zero, suc, ◌+◌, ◌*◌, ◌-◌, ◌%◌, ◌/◌, ◌<◌, ◌≤◌, ◌^◌, min}
+use Rattle.std.specs.Prelude.{ℤ, pos, ◌≤ℤ◌, ◌<ℤ◌, ◌-ℤ◌, ◌+ℤ◌, ◌*ℤ◌, unsigned_abs}
 use Rattle.std.specs.Prelude.{List, length, take, drop, slice_index_or, nat_le, nat_lt, nat_eq, if◌then◌else◌}
 use Rattle.font_types.specs.Bytes.{numeral, signed_numeral}
 use Rattle.font_types.specs.Operations.{IsProduct, IsQuotient}
@@ -76,10 +76,28 @@ IsScalarOf region coordinates zero scalar = scalar ≡ pos 65536
 IsScalarOf region coordinates (suc n) scalar = (before along : ℤ) × IsScalarOf region coordinates n before
     × IsScalarAlong region coordinates n along × IsProduct 32 16 before along scalar
 
+-- the exact product of the scalars along the first n axes: a raw value with 16 * n fraction bits
+unfoldable pub IsExactScalarOf : List ℕ → List F2Dot14 → ℕ → ℤ → Type 0
+IsExactScalarOf region coordinates zero product = product ≡ pos 1
+IsExactScalarOf region coordinates (suc n) product = (before along : ℤ) × IsExactScalarOf region coordinates n before
+    × IsScalarAlong region coordinates n along × (product ≡ (before *ℤ along))
+
+-- a scalar is within half a unit of 16.16, for each of the first n axes, of the exact product of the scalars along
+-- them: |scalar / 65536 - product / 65536 ^ n| <= n / 2 / 65536, times 2 * 65536 * 65536 ^ n
+pub record IsNearScalarOf (region : List ℕ) (coordinates : List F2Dot14) (n : ℕ) (scalar : ℤ) : Type 0 where
+  pub product : ℤ
+  pub is_product : IsExactScalarOf region coordinates n product
+  pub close : 2 * unsigned_abs (scalar *ℤ pos (65536 ^ n) -ℤ product *ℤ pos 65536) ≤ n * 65536 ^ n
+
 -- the product of the scalars along all axes
 abbrev pub IsRegionScalar : List ℕ → ℕ → List F2Dot14 → ℤ → Type 0
 IsRegionScalar regions region coordinates scalar =
     IsScalarOf (region_bytes regions region) coordinates (axis_count regions) scalar
+
+-- a scalar is within half a unit of 16.16, for each axis, of the exact product of the scalars along all axes
+abbrev pub IsNearRegionScalar : List ℕ → ℕ → List F2Dot14 → ℤ → Type 0
+IsNearRegionScalar regions region coordinates scalar =
+    IsNearScalarOf (region_bytes regions region) coordinates (axis_count regions) scalar
 
 -- ---- delta sets ("Item Variation Data": itemCount, wordDeltaCount, regionIndexCount, regionIndexes, and deltaSets)
 

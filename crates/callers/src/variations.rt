@@ -14,7 +14,8 @@ ghost use Rattle.font_types.specs.FWord.{ufword_number};
 ghost use Rattle.callers.specs.Variations.{IsIgnored, IsOffRegion, IsAxisScalar, HasRegion};
 ghost use Rattle.callers.specs.Variations.{axis_count, region_offset, region_bytes, stored_bits};
 ghost use Rattle.callers.specs.Variations.{coordinate_bits, IsScalarAlong, IsScalarOf};
-ghost use Rattle.callers.specs.Variations.{IsRegionScalar, narrow_width, delta_width, delta_place};
+ghost use Rattle.callers.specs.Variations.{IsNearScalarOf, IsRegionScalar, IsNearRegionScalar};
+ghost use Rattle.callers.specs.Variations.{narrow_width, delta_width, delta_place};
 ghost use Rattle.callers.specs.Variations.{HasDelta, delta_of, HasTerm, IsTerm, IsTermProduct};
 ghost use Rattle.callers.specs.Variations.{IsSumThrough, IsSetSum, HasSet, HasEntry, entry_of};
 ghost use Rattle.callers.specs.Variations.{IsNoVariation, inner_bits, moved, IsAdvance, IsVaried};
@@ -149,6 +150,7 @@ fn scalar_along(region: &[u8], coordinates: &[F2Dot14], axis: u16) -> Fixed
 fn product_of_scalars(region: &[u8], axes: u16, coordinates: &[F2Dot14]) -> Fixed
     requires { 6 * axes ≤ length region.now }
     ensures value { IsScalarOf region.now coordinates.now axes (fixed_bits result) }
+    ensures near { IsNearScalarOf region.now coordinates.now axes (fixed_bits result) }
     ensures low { pos 0 ≤ℤ fixed_bits result }
     ensures high { fixed_bits result ≤ℤ fixed_bits Fixed.ONE }
 {
@@ -179,6 +181,8 @@ pub fn region_scalar(regions: &[u8], region: u16, coordinates: &[F2Dot14]) -> Op
     ensures variant { IsSome result ↔ HasRegion regions.now region }
     ensures value { IfSome result (λ scalar.
         IsRegionScalar regions.now region coordinates.now (fixed_bits scalar)) }
+    ensures near { IfSome result (λ scalar.
+        IsNearRegionScalar regions.now region coordinates.now (fixed_bits scalar)) }
     ensures low { IfSome result (λ scalar. pos 0 ≤ℤ fixed_bits scalar) }
     ensures high { IfSome result (λ scalar. fixed_bits scalar ≤ℤ fixed_bits Fixed.ONE) }
 {
