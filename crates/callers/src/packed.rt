@@ -12,21 +12,30 @@ ghost use Rattle.font_types.specs.Wrap.{wrap};
 use font_types::{F48Dot16, Fixed, Scalar};
 use std::alloc::{AllocError, Global};
 
+// The parts of a run's control byte.
+const DELTAS_ARE_ZERO: u8 = 0x80;
+
+const DELTAS_ARE_WORDS: u8 = 0x40;
+
+const DELTA_RUN_COUNT_MASK: u8 = 0x3F;
+
 /// Returns the number of deltas in a run, by its control byte.
 pub fn deltas_in_run(control: u8) -> usize
     ensures { result ≡ run_count control }
 {
-    usize::from(control % 0x40) + 1
+    usize::from(control & DELTA_RUN_COUNT_MASK) + 1
 }
 
 /// Returns the number of bytes of each delta in a run: 0 if all are zero.
 pub fn delta_width(control: u8) -> usize
     ensures { result ≡ run_width control }
 {
-    match control {
-        0x80.. => 0,
-        0x40.. => 2,
-        _ => 1,
+    if control & DELTAS_ARE_ZERO != 0 {
+        0
+    } else if control & DELTAS_ARE_WORDS != 0 {
+        2
+    } else {
+        1
     }
 }
 
@@ -56,11 +65,9 @@ fn read_deltas(
     ensures each { IfOk result (λ deltas. (k : ℕ) → k < count →
         slice_index_or deltas.items k (pos 0) ≡ run_delta width run.now k) }
 {
-    let mut deltas = Vec::new(alloc);
-    for index in 0..count {
-        deltas.push(delta_at(run, width, index))?;
-    }
-    Ok(deltas)
+    (0..count)
+        .map(|index| delta_at(run, width, index))
+        .collect(alloc)
 }
 
 /// Reads the first run, and returns its deltas and the bytes after it, or `None` if bytes are
@@ -88,15 +95,17 @@ pub fn read_run(packed: &[u8], alloc: Global) -> Result<Option<(Vec<i16>, &[u8])
 
 /// Returns the sum of deltas, each times the scalar of its region, wrapped once.
 ///
-/// A sum over an index is `total_below`, as far as the index in the invariant of its loop.
+/// A sum over an index is `total_below`, in the invariant of a loop over a zip as far as the loop
+/// has come, with the ruleset `below_calls`: the search with `calls` ends at a limit.
+#[tactic(auto, using(font_types::proofs::Below::below_calls))]
 pub fn scaled_sum(scalars: &[Fixed], deltas: &[i16]) -> F48Dot16
     requires { length scalars.now ≡ length deltas.now }
     ensures { f48dot16_bits result ≡ wrap 64
         (total_below (term_value scalars.now deltas.now) (length deltas.now)) }
 {
     let mut sum = F48Dot16::ZERO;
-    for index in 0..deltas.len() {
-        sum += scalars[index].mul_i32(i32::from(deltas[index]));
+    for (scalar, delta) in scalars.iter().zip(deltas) {
+        sum += scalar.mul_i32(i32::from(*delta));
     }
     sum
 }
@@ -112,9 +121,9 @@ pub fn region_terms(
     ensures each { IfOk result (λ terms. (k : ℕ) → k < length deltas.now →
         slice_index_or terms.items k (region_term [] [] 0) ≡ region_term scalars.now deltas.now k) }
 {
-    let mut terms = Vec::new(alloc);
-    for index in 0..deltas.len() {
-        terms.push((scalars[index], i32::from(deltas[index])))?;
-    }
-    Ok(terms)
+    scalars
+        .iter()
+        .zip(deltas)
+        .map(|(scalar, delta)| (*scalar, i32::from(*delta)))
+        .collect(alloc)
 }
