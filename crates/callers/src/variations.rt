@@ -193,6 +193,11 @@ pub fn region_scalar(regions: &[u8], region: u16, coordinates: &[F2Dot14]) -> Op
 
 // ---- delta sets
 
+// The parts of `wordDeltaCount`.
+const LONG_WORDS: u16 = 0x8000;
+
+const WORD_DELTA_COUNT_MASK: u16 = 0x7FFF;
+
 /// Reads the delta of a column in a set, or returns `None` if the subtable does not have it. The
 /// first columns are wide, and all are twice as wide in a subtable of long words.
 pub fn read_delta(subtable: &[u8], set: u16, column: u16) -> Option<i32>
@@ -200,7 +205,10 @@ pub fn read_delta(subtable: &[u8], set: u16, column: u16) -> Option<i32>
     ensures value { IfSome result (λ delta. delta ≡ delta_of subtable.now set column) }
 {
     let (words, count) = (u16::read_at(subtable, 2)?, u16::read_at(subtable, 4)?);
-    if set >= u16::read_at(subtable, 0)? || column >= count || words % 0x8000 > count {
+    if set >= u16::read_at(subtable, 0)?
+        || column >= count
+        || words & WORD_DELTA_COUNT_MASK > count
+    {
         return None;
     }
     let offset = offset_of(words, count, set, column);
@@ -212,7 +220,7 @@ fn narrow_width_of(words: u16) -> usize
     ensures value { result ≡ narrow_width words }
     ensures small { result ≤ 2 }
 {
-    if words >= 0x8000 { 2 } else { 1 }
+    if words & LONG_WORDS != 0 { 2 } else { 1 }
 }
 
 // Returns the size of a delta.
@@ -220,7 +228,7 @@ fn width_of(words: u16, column: u16) -> usize
     ensures value { result ≡ delta_width words column }
     ensures known { (result ≡ 1) ⊎ ((result ≡ 2) ⊎ (result ≡ 4)) }
 {
-    if column < words % 0x8000 {
+    if column < words & WORD_DELTA_COUNT_MASK {
         2 * narrow_width_of(words)
     } else {
         narrow_width_of(words)
@@ -232,7 +240,7 @@ fn offset_of(words: u16, count: u16, set: u16, column: u16) -> usize
     ensures value { result ≡ delta_place words count set column }
     ensures small { result < 2 ^ 40 }
 {
-    let wide = words % 0x8000;
+    let wide = words & WORD_DELTA_COUNT_MASK;
     let row = usize::from(count) + usize::from(wide);
     let units = usize::from(set) * row + usize::from(column) + usize::from(column.min(wide));
     6 + 2 * usize::from(count) + narrow_width_of(words) * units
@@ -404,6 +412,11 @@ pub fn is_no_variation(set: DeltaSetIndex) -> bool
     set.outer == 0xFFFF && set.inner == 0xFFFF
 }
 
+// The parts of a map's entry format.
+const INNER_INDEX_BIT_COUNT_MASK: u8 = 0x0F;
+
+const MAP_ENTRY_SIZE_MASK: u8 = 0x30;
+
 /// Reads the delta set of an index by a map of format 0 or 1; the last entry is that of all later
 /// indices. Returns `None` for another format or a map of no entries, or if the map ends before the
 /// entry does.
@@ -420,10 +433,24 @@ pub fn read_delta_set_index(map: &[u8], index: u32) -> Option<DeltaSetIndex>
         _ => return None,
     };
     let format = u8::read_at(map, 1)?;
-    let (width, bits) = (usize::from(format / 16 % 4) + 1, u32::from(format % 16) + 1);
+    let width = entry_size(format);
     let place = index.min(count.checked_sub(1)?);
     let entry = read_entry(map, start + width * place as usize, width)?;
-    Some(split_entry(entry, bits))
+    Some(split_entry(entry, bit_count(format)))
+}
+
+// Returns the size of an entry, by the entry format.
+fn entry_size(format: u8) -> usize
+    ensures { result ≡ format / 16 % 4 + 1 }
+{
+    usize::from((format & MAP_ENTRY_SIZE_MASK) >> 4) + 1
+}
+
+// Returns the number of bits of the inner index, by the entry format.
+fn bit_count(format: u8) -> u32
+    ensures { result ≡ format % 16 + 1 }
+{
+    u32::from(format & INNER_INDEX_BIT_COUNT_MASK) + 1
 }
 
 // Reads an unsigned integer of one to four bytes.
@@ -449,6 +476,6 @@ fn split_entry(entry: u32, bits: u32) -> DeltaSetIndex
 {
     DeltaSetIndex {
         outer: entry >> bits,
-        inner: entry % (1 << bits),
+        inner: entry & ((1 << bits) - 1),
     }
 }
