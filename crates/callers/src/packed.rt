@@ -95,9 +95,9 @@ pub fn read_run(packed: &[u8], alloc: Global) -> Result<Option<(Vec<i16>, &[u8])
 
 /// Returns the sum of deltas, each times the scalar of its region, wrapped once.
 ///
-/// A sum over an index is `total_below`, in the invariant of a loop over a zip as far as the loop
-/// has come, with the ruleset `below_calls`: the search with `calls` ends at a limit.
-#[tactic(auto, using(font_types::proofs::Below::below_calls))]
+/// A sum over an index is `total_below`, and in the invariant of its loop as far as it has come.
+/// With `calls` the search would end at a limit: the ruleset `index_sums` is enough.
+#[tactic(auto, using(font_types::proofs::Callers::index_sums))]
 pub fn scaled_sum(scalars: &[Fixed], deltas: &[i16]) -> F48Dot16
     requires { length scalars.now ≡ length deltas.now }
     ensures { f48dot16_bits result ≡ wrap 64
