@@ -1,6 +1,6 @@
 -- Dumps of font values.
 use Rattle.std.specs.Prelude.{◌≡◌, ◌⊎◌, ℕ, ◌-◌, ◌^◌, pos, false, List, [], IsTrue, Option, Some, None, Result, Ok, Err}
-use Rattle.std.specs.Fmt.{digits, decimal, padded_integral, format_spec}
+use Rattle.std.specs.Fmt.{decimal, padded_integral, format_spec}
 use lib.Chars.{codes}
 use Rattle.serde_json.specs.Data.{Data, object, member, no_members, string, number}
 use Rattle.serde_json.specs.Find.{of_integer, get}

@@ -1,4 +1,4 @@
-use Rattle.std.proofs.Common.{rules, ◌≡◌, ◌∙◌, ◌<◌, pos, unsigned_abs, arith, w32, w64}
+use Rattle.std.proofs.Common.{rules, ◌∙◌, ◌<◌, arith, w32, w64}
 use Rattle.std.proofs.lemmas.Int.{ints, to_z-of_z}
 use Rattle.font_fixed.proofs.Quotients.{signed_is_rounded}
 use Rattle.font_fixed.proofs.products.nearest_mul_div.Goals as goal
