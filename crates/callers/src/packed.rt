@@ -53,6 +53,8 @@ fn delta_at(run: &[u8], width: usize, index: usize) -> i16
 }
 
 // Reads the deltas of a run.
+//
+// By index: what `collect` of a `ScalarArray` gives is not related to the stored bytes.
 fn read_deltas(
     run: &[u8],
     width: usize,
