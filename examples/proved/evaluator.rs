@@ -54,7 +54,8 @@ pub struct VariationAxisRecord {
 
 /// Reads an axis record, or returns `None` if there are fewer than 20 bytes.
 ///
-/// At a concrete type the clauses of `read_at` give callers the number, the tag or the date.
+/// At a concrete type the clauses of `read_at` give callers the number, the tag or the date. Each
+/// field is read from the whole slice: `offset + n` may not fit a `usize`.
 pub fn read_axis(bytes: &[u8]) -> Option<VariationAxisRecord> {
     Some(VariationAxisRecord {
         axis_tag: Tag::read_at(bytes, 0)?,
@@ -75,6 +76,8 @@ pub fn clamp(value: Fixed, min: Fixed, max: Fixed) -> Fixed {
 }
 
 /// Returns a part over its whole, from 0 to 1.
+///
+/// The bounds prove if the part and its whole are arguments.
 pub fn ratio(part: Fixed, whole: Fixed) -> Fixed {
     part / whole
 }
@@ -125,6 +128,8 @@ pub fn lerp(coordinate: Fixed, start: AxisValueMap, end: AxisValueMap) -> Fixed 
 }
 
 /// Returns the index of the mapping that ends the segment of a coordinate: the first at or above.
+///
+/// The invariant of its loop says that the mappings before the index are below.
 pub fn segment_end(coordinate: Fixed, map: &[AxisValueMap]) -> Option<usize> {
     for end in 0..map.len() {
         if coordinate <= map[end].from_coordinate {

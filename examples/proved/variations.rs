@@ -35,6 +35,8 @@ pub fn axis_scalar(axis: RegionAxisCoordinates, coordinate: F2Dot14) -> Fixed {
 }
 
 // Returns `axis_scalar` of an axis that is not ignored, at another coordinate than the peak.
+//
+// The lemma `quotient_of_widened` states a quotient of widened differences by the differences.
 fn scalar_off_peak(axis: RegionAxisCoordinates, coordinate: F2Dot14) -> Fixed {
     let (start, peak, end) = (axis.start_coord, axis.peak_coord, axis.end_coord);
     if coordinate <= start || end <= coordinate {
@@ -108,11 +110,17 @@ pub fn region_scalar(regions: &[u8], region: u16, coordinates: &[F2Dot14]) -> Op
 
 // ---- delta sets
 
+// The parts of `wordDeltaCount`.
+const LONG_WORDS: u16 = 0x8000;
+
+const WORD_DELTA_COUNT_MASK: u16 = 0x7FFF;
+
 /// Reads the delta of a column in a set, or returns `None` if the subtable does not have it. The
 /// first columns are wide, and all are twice as wide in a subtable of long words.
 pub fn read_delta(subtable: &[u8], set: u16, column: u16) -> Option<i32> {
     let (words, count) = (u16::read_at(subtable, 2)?, u16::read_at(subtable, 4)?);
-    if set >= u16::read_at(subtable, 0)? || column >= count || words % 0x8000 > count {
+    if set >= u16::read_at(subtable, 0)? || column >= count || words & WORD_DELTA_COUNT_MASK > count
+    {
         return None;
     }
     let offset = offset_of(words, count, set, column);
@@ -121,12 +129,12 @@ pub fn read_delta(subtable: &[u8], set: u16, column: u16) -> Option<i32> {
 
 // Returns the size of a narrow delta, by the count of wide columns.
 fn narrow_width_of(words: u16) -> usize {
-    if words >= 0x8000 { 2 } else { 1 }
+    if words & LONG_WORDS != 0 { 2 } else { 1 }
 }
 
 // Returns the size of a delta.
 fn width_of(words: u16, column: u16) -> usize {
-    if column < words % 0x8000 {
+    if column < words & WORD_DELTA_COUNT_MASK {
         2 * narrow_width_of(words)
     } else {
         narrow_width_of(words)
@@ -135,7 +143,7 @@ fn width_of(words: u16, column: u16) -> usize {
 
 // Returns the offset of the delta of a column in a set.
 fn offset_of(words: u16, count: u16, set: u16, column: u16) -> usize {
-    let wide = words % 0x8000;
+    let wide = words & WORD_DELTA_COUNT_MASK;
     let row = usize::from(count) + usize::from(wide);
     let units = usize::from(set) * row + usize::from(column) + usize::from(column.min(wide));
     6 + 2 * usize::from(count) + narrow_width_of(words) * units
@@ -253,6 +261,11 @@ pub fn is_no_variation(set: DeltaSetIndex) -> bool {
     set.outer == 0xFFFF && set.inner == 0xFFFF
 }
 
+// The parts of a map's entry format.
+const INNER_INDEX_BIT_COUNT_MASK: u8 = 0x0F;
+
+const MAP_ENTRY_SIZE_MASK: u8 = 0x30;
+
 /// Reads the delta set of an index by a map of format 0 or 1; the last entry is that of all later
 /// indices. Returns `None` for another format or a map of no entries, or if the map ends before the
 /// entry does.
@@ -263,10 +276,20 @@ pub fn read_delta_set_index(map: &[u8], index: u32) -> Option<DeltaSetIndex> {
         _ => return None,
     };
     let format = u8::read_at(map, 1)?;
-    let (width, bits) = (usize::from(format / 16 % 4) + 1, u32::from(format % 16) + 1);
+    let width = entry_size(format);
     let place = index.min(count.checked_sub(1)?);
     let entry = read_entry(map, start + width * place as usize, width)?;
-    Some(split_entry(entry, bits))
+    Some(split_entry(entry, bit_count(format)))
+}
+
+// Returns the size of an entry, by the entry format.
+fn entry_size(format: u8) -> usize {
+    usize::from((format & MAP_ENTRY_SIZE_MASK) >> 4) + 1
+}
+
+// Returns the number of bits of the inner index, by the entry format.
+fn bit_count(format: u8) -> u32 {
+    u32::from(format & INNER_INDEX_BIT_COUNT_MASK) + 1
 }
 
 // Reads an unsigned integer of one to four bytes.
@@ -283,6 +306,6 @@ fn read_entry(map: &[u8], offset: usize, width: usize) -> Option<u32> {
 fn split_entry(entry: u32, bits: u32) -> DeltaSetIndex {
     DeltaSetIndex {
         outer: entry >> bits,
-        inner: entry % (1 << bits),
+        inner: entry & ((1 << bits) - 1),
     }
 }
