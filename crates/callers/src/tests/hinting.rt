@@ -90,37 +90,37 @@ fn positions(rt: HostRuntime) {
     assert!(rt; scaled == [Fixed::from_bits(0xC000), Fixed::MIN]);
 }
 
-// Each row has its coordinates, in units, and the part of the whole.
+// Each row has the other coordinate, the thirds of the way to it, and the coordinate found.
 #[test]
 fn points_between_others(rt: HostRuntime) {
-    for &(start, end, part, whole, found) in &[
-        (10, 40, 1, 3, 20),
-        (10, -20, 1, 3, 0),
-        (10, 40, 0, 3, 10),
-        (40, 10, 3, 3, 10),
-    ] {
-        let [start, end, part, whole] = [start, end, part, whole].map(Fixed::from_i32);
-        assert!(rt;
-            between(start, end, part, whole) == Fixed::from_i32(found),
-            "{found}"
+    let (start, three) = (Fixed::from_bits(10), Fixed::from_bits(3));
+    for &(end, thirds, found) in &[(40, 1, 20), (-20, 1, 0), (40, 0, 10), (-20, 3, -20)] {
+        let point = between(
+            start,
+            Fixed::from_bits(end),
+            Fixed::from_bits(thirds),
+            three,
         );
+        assert!(rt; point == Fixed::from_bits(found), "{end} {thirds}");
     }
     // The product is not rounded before it is divided.
     let half = Fixed::from_bits(0x8000);
-    let end = Fixed::from_bits(3);
-    assert!(rt; between(Fixed::ZERO, end, half, half) == end);
-    for &(y, low, high, found) in &[
-        (100, 128, 192, 128),
-        (150, 128, 192, 160),
-        (200, 128, 192, 192),
-        (125, 192, 128, 176),
-    ] {
-        let [low, high] = [(100, low), (200, high)].map(|(original, hinted)| Edge {
-            original: Fixed::from_i32(original),
-            hinted: Fixed::from_i32(hinted),
-        });
-        let point = interpolate_point(Fixed::from_i32(y), low, high);
-        assert!(rt; point == Fixed::from_i32(found), "{y}");
+    assert!(rt; between(Fixed::ZERO, three, half, half) == three);
+}
+
+#[test]
+fn points_between_edges(rt: HostRuntime) {
+    let low = Edge {
+        original: Fixed::from_bits(100),
+        hinted: Fixed::from_bits(128),
+    };
+    let high = Edge {
+        original: Fixed::from_bits(200),
+        hinted: Fixed::from_bits(192),
+    };
+    for &(y, found) in &[(100, 128), (150, 160), (200, 192)] {
+        let point = interpolate_point(Fixed::from_bits(y), low, high);
+        assert!(rt; point == Fixed::from_bits(found), "{y}");
     }
 }
 
