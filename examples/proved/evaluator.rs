@@ -122,6 +122,8 @@ pub struct AxisValueMap {
 }
 
 /// Interpolates linearly between two mappings; at either end the result is that end's coordinate.
+///
+/// The clause `value` is proved by a lemma of `proofs/Lerps.antt`, in an answer.
 pub fn lerp(coordinate: Fixed, start: AxisValueMap, end: AxisValueMap) -> Fixed {
     let (from, to) = (start.from_coordinate, start.to_coordinate);
     to + (end.to_coordinate - to).mul_div(coordinate - from, end.from_coordinate - from)

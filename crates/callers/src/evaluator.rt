@@ -228,6 +228,8 @@ pub struct AxisValueMap {
 }
 
 /// Interpolates linearly between two mappings; at either end the result is that end's coordinate.
+///
+/// The clause `value` is proved by a lemma of `proofs/Lerps.antt`, in an answer.
 pub fn lerp(coordinate: Fixed, start: AxisValueMap, end: AxisValueMap) -> Fixed
     requires { start.from_coordinate ≢ end.from_coordinate }
     ensures value { IsLerp coordinate start end result }

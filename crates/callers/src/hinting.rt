@@ -198,6 +198,8 @@ pub fn scaled_units(distance: FWord, factor: F2Dot14) -> Fixed
 }
 
 /// Scales the width of a stem from font units to pixels, rounded once, half up.
+///
+/// The product is exact and bounded by `calls`, and narrowed by `narrowings`.
 #[tactic(auto, using(font_types::proofs::Callers::calls, font_types::proofs::Callers::narrowings))]
 pub fn scaled_width(width: FWord, scale: Fixed) -> F26Dot6
     requires { (pos 0 ≤ℤ fixed_bits scale) × (fixed_bits scale ≤ℤ fixed_bits Fixed.ONE) }
@@ -237,7 +239,7 @@ fn moved(start: Fixed, distance: Fixed, part: Fixed, whole: Fixed) -> Fixed
     start + part_of(distance, part, whole)
 }
 
-/// Returns the coordinate between two others that has a part of their distance from the first.
+/// Returns the coordinate at a part of the way from one to another.
 ///
 /// The difference, the part and the sum are in functions of their own: together they are too much
 /// for the search.

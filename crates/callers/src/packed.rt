@@ -98,7 +98,8 @@ pub fn read_run(packed: &[u8], alloc: Global) -> Result<Option<(Vec<i16>, &[u8])
 /// Returns the sum of deltas, each times the scalar of its region, wrapped once.
 ///
 /// A sum over an index is `total_below`, and in the invariant of its loop as far as it has come.
-/// With `calls` the search would end at a limit: the ruleset `index_sums` is enough.
+/// With `calls` the search would end at a limit: `index_sums` is enough for each turn, and an
+/// answer proves the start.
 #[tactic(auto, using(font_types::proofs::Callers::index_sums))]
 pub fn scaled_sum(scalars: &[Fixed], deltas: &[i16]) -> F48Dot16
     requires { length scalars.now ≡ length deltas.now }

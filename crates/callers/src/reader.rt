@@ -123,7 +123,8 @@ pub fn has_bearings_at_zero(flags: u16) -> bool
 
 /// Writes a word at an offset, as a checksum or an offset is mended in place.
 ///
-/// Std's `overwrites` gives the bytes before, at and after the offset, a clause each.
+/// Std's `overwrites` gives the bytes before and after, and the lemma `written`, in the answer, the
+/// word. Each has a clause.
 #[tactic(auto, using(font_types::proofs::Callers::calls, std::proofs::lemmas::Slice::overwrites))]
 pub fn write_word(bytes: &mut [u8], offset: usize, word: u32)
     requires { offset + 4 ≤ length bytes.old }

@@ -73,6 +73,8 @@ fn product(a: i16, b: i16) -> i64
 // ---- matrices
 
 /// Transforms points.
+///
+/// The invariant of its loop says of the points so far what the clause says of all, by `map`.
 pub fn transform(
     matrix: Matrix<Fixed>,
     points: &[Point<Fixed>],
