@@ -17,8 +17,14 @@ narrowed_is_exact v d b wide some low high =
     let nearest = up_is b d some in
     let above : least v ≤ℤ q = up_monotone (up_whole (least v) d some) nearest low in
     let below : q ≤ℤ greatest v = by_lt_z (greatest v) q
-    (λ more. absurd (omega (arith, ints, nearest.low, high,
-    times_monotone (greatest v +ℤ pos 1) q d (omega (arith, ints, more)), times-next (greatest v) d)))
+    (λ more. absurd (omega (
+      arith,
+      ints,
+      nearest.low,
+      high,
+      times_monotone (greatest v +ℤ pos 1) q d (omega (arith, ints, more)),
+      times-next (greatest v) d,
+    )))
     (λ less. less) in
     wrap-fits v q wide (omega (arith, ints, above, below, pow_pos (v - 1)))
 
