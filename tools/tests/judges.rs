@@ -121,8 +121,8 @@ fn names() {
             ),
             (
                 "docs/CALLING.md",
-                "{calls}",
-                "{near_unique}",
+                "by `integers`",
+                "by `near_unique`",
                 "no caller uses near_unique",
             ),
             (
