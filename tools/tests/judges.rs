@@ -188,47 +188,11 @@ fn mutants() {
 
 #[test]
 fn surface() {
-    let mul_div = (
-        "crates/font_fixed/src/fixed_i32/fixed.rt",
-        "mul_div(&self",
-        "mul_div(self",
-    );
-    assert_finds(
-        "surface",
-        &[
-            (mul_div.0, mul_div.1, mul_div.2, "Fixed::mul_div(&self"),
-            (
-                "crates/font_tags/src/tag.rt",
-                "pub const fn into_bytes",
-                "const fn into_bytes",
-                "Tag::into_bytes",
-            ),
-            (
-                "crates/font_ids/src/offset.rt",
-                "#[derive(",
-                "#[derive(Hash, ",
-                "Offset16",
-            ),
-            (
-                "crates/font_ids/src/name_id.rt",
-                "pub const LICENSE_URL",
-                "pub const LICENCE_URL",
-                "LICENSE_URL",
-            ),
-            (
-                "crates/fontval/src/serve.rt",
-                "Read = 2,",
-                "Read = 4,",
-                "ServeFault",
-            ),
-            (
-                "tools/tests/surface.txt",
-                "Uint24::new(u32) -> Self\n",
-                "",
-                "Functions",
-            ),
-        ],
-    );
+    let path = "crates/fontval/src/serve.rt";
+    assert_finds("surface", &[(path, "Read = 2,", "Read = 4,", "serve.rt")]);
+    let path = "crates/font_ids/src/offset.rt";
+    let constructor = "Nullable<T> {\n    pub fn new(offset: T) -> Self {\n";
+    assert_finds("surface", &[(path, "Nullable<T> {\n", constructor, "3")]);
 }
 
 #[test]
