@@ -177,13 +177,7 @@ fn shown_code() {
 #[test]
 fn mutants() {
     let edit = "crates/font_fixed/must-fail/product_ties_up_for_negatives.edit";
-    assert_finds(
-        "mutants",
-        &[
-            (edit, "# clause: ", "# ", edit),
-            (edit, "# required by docs/REQUIREMENTS.md\n", "", edit),
-        ],
-    );
+    assert_finds("mutants", &[(edit, "# clause: ", "# ", edit)]);
 }
 
 #[test]
