@@ -1,6 +1,5 @@
 //! The eraser, an exact-arithmetic oracle that does not use the library, and file helpers.
 
-pub mod alive;
 pub mod copy;
 pub mod erase;
 pub mod exact;
