@@ -1,6 +1,5 @@
-//! The eraser, an exact-arithmetic oracle that does not use the library, and file helpers.
+//! The eraser, an exact-arithmetic oracle that does not use the library, and what the tests read.
 
-pub mod copy;
 pub mod erase;
 pub mod exact;
 pub mod mutants;
