@@ -211,31 +211,113 @@ fn with(mut font: Vec<u8>, tag: &[u8; 4], offset: usize, new: &[u16]) -> Vec<u8>
     font
 }
 
-/// Returns the font of [`whole`] with other words at an offset of a table.
-fn edited(tag: &[u8; 4], offset: usize, new: &[u16]) -> Vec<u8> {
-    with(whole(), tag, offset, new)
+/// What is wrong with a font, and what the program says: the length of a table, `none` for a table
+/// that is missing, or an offset of a table and other words. Of `cmap`, the subtable of format 4 is
+/// at 20, and that of format 12 at 72; of `fvar`, the values of the axis are at 20; of `avar`, the
+/// segment map is at 8; of `HVAR`, the store is at 20, its regions at 32, its data at 48, with sets
+/// at 58, and the map at 66.
+const BROKEN: &str = "\
+hmtx 3: hmtx ends early
+head 53: head ends early
+hhea 35: hhea ends early
+hmtx 7: hmtx ends early
+maxp 5: maxp ends early
+head none: head: not 16 to 16384 units per em
+head 18 15: head: not 16 to 16384 units per em
+head 18 16385: head: not 16 to 16384 units per em
+maxp none: no glyphs
+hhea none: no advances
+hhea 34 0: no advances
+hmtx none: hmtx ends early
+cmap none: no cmap
+cmap 3: cmap ends early
+cmap 19: cmap ends early
+cmap 21: cmap: a subtable ends early
+cmap 10 0: cmap: a subtable ends early
+cmap 33: cmap: format 4 ends early
+cmap 26 26: cmap: format 4 ends early
+cmap 62 0x4000: cmap: format 4 ends early
+cmap 36 20: cmap: segments out of order
+cmap 87: cmap: format 12 ends early
+cmap 111: cmap: format 12 ends early
+cmap 84 1: cmap: format 12 ends early
+cmap 102 0xF60F: cmap: groups out of order
+cmap 90 0xF610: cmap: groups out of order
+cmap 98 3: cmap: a glyph that the font does not have
+cmap 4 1: cmap: not for Unicode
+cmap 4 3 0: cmap: not for Unicode
+cmap 2 0: no cmap of format 4 or 12
+fvar 15: fvar ends early
+fvar 35: fvar ends early
+fvar 0 2: fvar: not of version 1
+fvar 10 19: fvar: not of version 1
+fvar 20 401: fvar: the values of an axis are out of order
+fvar 28 399: fvar: the values of an axis are out of order
+fvar 20 0x8000 0 0x8000: fvar: the values of an axis are too far apart
+avar 7: avar ends early
+avar 9: avar ends early
+avar 25: avar ends early
+avar 0 2: avar: not of version 1
+avar 6 2: avar: not as many axes
+avar 14 0xC000: avar: a segment map is out of order
+avar 8 2: avar: a segment map without the coordinate
+fvar none: no such axis
+HVAR 19: HVAR ends early
+HVAR 0 2: HVAR: not of version 1
+HVAR 6 0: HVAR: the store ends early
+HVAR 6 65: HVAR: the store ends early
+HVAR 20 2: HVAR: not a store of format 1
+HVAR 24 0: HVAR: the store ends early
+HVAR 24 49: HVAR: the store ends early
+HVAR 30 0: HVAR: the store ends early
+HVAR 30 47: HVAR: the store ends early
+HVAR 48 5: HVAR: the store ends early
+HVAR 52 10: HVAR: the store ends early
+HVAR 32 2: HVAR: not as many axes
+HVAR 34 0x8002: HVAR: a reserved count of regions
+HVAR 34 7: HVAR: the regions end early
+HVAR 56 2: HVAR: no such region
+HVAR 50 3: HVAR: a delta set without a sum
+HVAR 58 0x8000: HVAR: an advance out of range
+HVAR 48 1: HVAR: no such item
+HVAR 70 0x0202: HVAR: no such item
+HVAR 67: HVAR: the map ends early
+HVAR 69: HVAR: the map ends early
+HVAR 71: HVAR: the map ends early
+HVAR 66 0x0100: HVAR: the map ends early
+HVAR 66 0x0200: HVAR: not a map of format 0 or 1
+HVAR 68 0: HVAR: the map is empty
+";
+
+/// A number, also of 16 digits.
+fn number(word: &str) -> u16 {
+    match word.strip_prefix("0x") {
+        Some(digits) => u16::from_str_radix(digits, 16).expect(word),
+        None => word.parse().expect(word),
+    }
 }
 
-/// Returns the font with a table of this length.
-fn short(tag: &[u8; 4], len: u8) -> Vec<u8> {
-    let mut font = whole();
-    let at = record(&font, tag) + 12;
-    font[at..][..4].copy_from_slice(&[0, 0, 0, len]);
-    font
-}
-
-/// Returns the font without a table: with the next tag in its place.
-fn without(tag: &[u8; 4]) -> Vec<u8> {
-    let mut font = whole();
+/// Returns the font of [`whole`], broken as a line of [`BROKEN`] says, and what the program says.
+fn broken(line: &'static str) -> (Vec<u8>, &'static str) {
+    let (fault, message) = line.split_once(": ").expect(line);
+    let words: Vec<&str> = fault.split(' ').collect();
+    let (mut font, tag) = (whole(), words[0].as_bytes().try_into().expect("a tag"));
     let at = record(&font, tag);
-    font[at + 3] += 1;
-    font
+    match words[1..] {
+        // The next tag is in its place.
+        ["none"] => font[at + 3] += 1,
+        [len] => font[at + 12..][..4].copy_from_slice(&u32::from(number(len)).to_be_bytes()),
+        [offset, ref new @ ..] => {
+            let new: Vec<u16> = new.iter().copied().map(number).collect();
+            font = with(font, tag, number(offset).into(), &new);
+        }
+        [] => panic!("{line}"),
+    }
+    (font, message)
 }
 
-/// A broken font, and what the program says.
-type Broken = (Vec<u8>, &'static str);
-
-fn broken_directories() -> Vec<Broken> {
+/// Other broken fonts.
+fn others() -> [(Vec<u8>, &'static str); 9] {
     let [mut collection, mut many, mut swapped] = [whole(), whole(), whole()];
     let [mut twice, mut beyond] = [whole(), whole()];
     collection[..4].copy_from_slice(b"ttcf");
@@ -245,153 +327,18 @@ fn broken_directories() -> Vec<Broken> {
     twice.copy_within(12..28, 28);
     let at = record(&beyond, b"hmtx") + 8;
     beyond[at] = 1;
-    vec![
+    let many_axes = fvar(&[(b"wght", [0, 0, 1]); 65]);
+    let without_hvar = [(b"gvar", vec![0; 20]), (b"fvar", two_axes())];
+    [
         (Vec::new(), "not a font of one face"),
         (collection, "not a font of one face"),
         (many, "the records of the tables end early"),
         (swapped, "the tables are out of order"),
         (twice, "the tables are out of order"),
         (beyond, "hmtx ends early"),
-        (short(b"head", 53), "head ends early"),
-        (short(b"hhea", 35), "hhea ends early"),
-        (short(b"hmtx", 3), "hmtx ends early"),
-        (short(b"hmtx", 7), "hmtx ends early"),
-        (short(b"maxp", 5), "maxp ends early"),
-        (without(b"head"), "head: not 16 to 16384 units per em"),
-        (
-            edited(b"head", 18, &[15]),
-            "head: not 16 to 16384 units per em",
-        ),
-        (
-            edited(b"head", 18, &[16385]),
-            "head: not 16 to 16384 units per em",
-        ),
-        (without(b"maxp"), "no glyphs"),
-        (without(b"hhea"), "no advances"),
-        (edited(b"hhea", 34, &[0]), "no advances"),
-        (without(b"hmtx"), "hmtx ends early"),
-    ]
-}
-
-/// Of `cmap`: the subtable of format 4 is at 20, and that of format 12 at 72.
-fn broken_cmaps() -> Vec<Broken> {
-    vec![
-        (without(b"cmap"), "no cmap"),
-        (short(b"cmap", 3), "cmap ends early"),
-        (short(b"cmap", 19), "cmap ends early"),
-        (short(b"cmap", 21), "cmap: a subtable ends early"),
-        (edited(b"cmap", 10, &[0]), "cmap: a subtable ends early"),
-        (short(b"cmap", 33), "cmap: format 4 ends early"),
-        (edited(b"cmap", 20 + 6, &[26]), "cmap: format 4 ends early"),
-        (
-            edited(b"cmap", 20 + 42, &[0x4000]),
-            "cmap: format 4 ends early",
-        ),
-        (
-            edited(b"cmap", 20 + 16, &[20]),
-            "cmap: segments out of order",
-        ),
-        (short(b"cmap", 72 + 15), "cmap: format 12 ends early"),
-        (short(b"cmap", 72 + 39), "cmap: format 12 ends early"),
-        (edited(b"cmap", 72 + 12, &[1]), "cmap: format 12 ends early"),
-        (
-            edited(b"cmap", 72 + 30, &[0xF60F]),
-            "cmap: groups out of order",
-        ),
-        (
-            edited(b"cmap", 72 + 18, &[0xF610]),
-            "cmap: groups out of order",
-        ),
-        (
-            edited(b"cmap", 72 + 26, &[3]),
-            "cmap: a glyph that the font does not have",
-        ),
-        (edited(b"cmap", 4, &[1]), "cmap: not for Unicode"),
-        (edited(b"cmap", 4, &[3, 0]), "cmap: not for Unicode"),
-        (edited(b"cmap", 2, &[0]), "no cmap of format 4 or 12"),
-    ]
-}
-
-/// Of `fvar`, the values of the axis are at 20; of `avar`, the segment map is at 8.
-fn broken_axes() -> Vec<Broken> {
-    let many_axes = fvar(&[(b"wght", [0, 0, 1]); 65]);
-    let without_hvar = [(b"gvar", vec![0; 20]), (b"fvar", two_axes())];
-    vec![
-        (short(b"fvar", 15), "fvar ends early"),
-        (short(b"fvar", 35), "fvar ends early"),
-        (edited(b"fvar", 0, &[2]), "fvar: not of version 1"),
-        (edited(b"fvar", 10, &[19]), "fvar: not of version 1"),
         (font_of([(b"fvar", many_axes)]), "fvar: too many axes"),
-        (
-            edited(b"fvar", 20, &[401]),
-            "fvar: the values of an axis are out of order",
-        ),
-        (
-            edited(b"fvar", 28, &[399]),
-            "fvar: the values of an axis are out of order",
-        ),
-        (
-            edited(b"fvar", 20, &[0x8000, 0, 0x8000]),
-            "fvar: the values of an axis are too far apart",
-        ),
-        (short(b"avar", 7), "avar ends early"),
-        (short(b"avar", 9), "avar ends early"),
-        (short(b"avar", 25), "avar ends early"),
-        (edited(b"avar", 0, &[2]), "avar: not of version 1"),
-        (edited(b"avar", 6, &[2]), "avar: not as many axes"),
-        (
-            edited(b"avar", 14, &[0xC000]),
-            "avar: a segment map is out of order",
-        ),
-        (
-            edited(b"avar", 8, &[2]),
-            "avar: a segment map without the coordinate",
-        ),
         (font_of(without_hvar), "gvar without HVAR"),
-        (without(b"fvar"), "no such axis"),
-    ]
-}
-
-/// Of `HVAR`, the store is at 20, its regions at 32, its data at 48, with sets at 58, and the map
-/// at 66.
-fn broken_stores() -> Vec<Broken> {
-    let early = "HVAR: the store ends early";
-    vec![
-        (short(b"HVAR", 19), "HVAR ends early"),
-        (edited(b"HVAR", 0, &[2]), "HVAR: not of version 1"),
-        (edited(b"HVAR", 6, &[0]), early),
-        (edited(b"HVAR", 6, &[65]), early),
-        (edited(b"HVAR", 20, &[2]), "HVAR: not a store of format 1"),
-        (edited(b"HVAR", 24, &[0]), early),
-        (edited(b"HVAR", 24, &[49]), early),
-        (edited(b"HVAR", 30, &[0]), early),
-        (edited(b"HVAR", 30, &[47]), early),
-        (edited(b"HVAR", 48, &[5]), early),
-        (edited(b"HVAR", 52, &[10]), early),
-        (edited(b"HVAR", 32, &[2]), "HVAR: not as many axes"),
-        (
-            edited(b"HVAR", 34, &[0x8002]),
-            "HVAR: a reserved count of regions",
-        ),
-        (edited(b"HVAR", 34, &[7]), "HVAR: the regions end early"),
-        (edited(b"HVAR", 56, &[2]), "HVAR: no such region"),
         (font(hvar_of_regions(1025)), "HVAR: too many regions"),
-        (edited(b"HVAR", 50, &[3]), "HVAR: a delta set without a sum"),
-        (
-            edited(b"HVAR", 58, &[0x8000]),
-            "HVAR: an advance out of range",
-        ),
-        (edited(b"HVAR", 48, &[1]), "HVAR: no such item"),
-        (edited(b"HVAR", 70, &[0x0202]), "HVAR: no such item"),
-        (short(b"HVAR", 67), "HVAR: the map ends early"),
-        (short(b"HVAR", 69), "HVAR: the map ends early"),
-        (short(b"HVAR", 71), "HVAR: the map ends early"),
-        (edited(b"HVAR", 66, &[0x0100]), "HVAR: the map ends early"),
-        (
-            edited(b"HVAR", 66, &[0x0200]),
-            "HVAR: not a map of format 0 or 1",
-        ),
-        (edited(b"HVAR", 68, &[0]), "HVAR: the map is empty"),
     ]
 }
 
@@ -399,21 +346,10 @@ fn broken_stores() -> Vec<Broken> {
 pub fn cases() -> Vec<u8> {
     let mut cases = Vec::new();
     compared(&mut cases);
-    let parts = [
-        broken_directories(),
-        broken_cmaps(),
-        broken_axes(),
-        broken_stores(),
-    ];
     let (setting, text) = (settings(["650", "100"], 1), TEXTS.concat());
-    for (font, message) in parts.into_iter().flatten() {
-        push(
-            &mut cases,
-            &font,
-            &setting,
-            &text,
-            &Answer::Message(message),
-        );
+    for (font, message) in others().into_iter().chain(BROKEN.lines().map(broken)) {
+        let answer = Answer::Message(message);
+        push(&mut cases, &font, &setting, &text, &answer);
     }
     cases
 }
