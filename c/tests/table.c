@@ -373,31 +373,9 @@ static void check_fractions(void) {
     }
 }
 
-/* The greatest values of each width, with 6 fraction bits and more. */
-static const char *const greatest_16[] = {
-    "511.98", "255.99", "127.996", "63.998", "31.999", "15.9995", "7.9998", "3.9999", "1.99994",
-};
-static const char *const greatest_32[] = {
-    "33554431.98", "16777215.99", "8388607.996", "4194303.998", "2097151.999", "1048575.9995",
-    "524287.9998", "262143.9999", "131071.99994", "65535.99997", "32767.99998", "16383.99999",
-    "8191.999996", "4095.999998", "2047.999999", "1023.9999995", "511.9999998", "255.9999999",
-    "127.99999994", "63.99999997", "31.99999999", "15.99999999", "7.999999996", "3.999999998",
-    "1.999999999",
-};
-static const char *const greatest_64[] = {
-    "144115188075855871.98", "72057594037927935.99", "36028797018963967.996",
-    "18014398509481983.998", "9007199254740991.999", "4503599627370495.9995",
-    "2251799813685247.9998", "1125899906842623.9999", "562949953421311.99994",
-    "281474976710655.99997", "140737488355327.99998", "70368744177663.99999",
-    "35184372088831.999996", "17592186044415.999998", "8796093022207.999999",
-    "4398046511103.9999995", "2199023255551.9999998", "1099511627775.9999999",
-    "549755813887.99999994", "274877906943.99999997", "137438953471.99999999",
-    "68719476735.99999999", "34359738367.999999996", "17179869183.999999998",
-    "8589934591.999999999",
-};
-
-/* With each number of fraction bits: 1.5, its negative, and both ends. */
-static void check_ends(int width, uint32_t most, const char *const *greatest) {
+/* With each number of fraction bits: 1.5, its negative, the least value, and a text above the
+   greatest. */
+static void check_ends(int width, uint32_t most) {
     for (uint32_t f = 6; f <= most; f++) {
         const struct type type = {width, f};
         const int64_t half = INT64_C(1) << (f - 1), top = INT64_MAX >> (64 - width);
@@ -407,7 +385,7 @@ static void check_ends(int width, uint32_t most, const char *const *greatest) {
             int64_t bits;
             const char *text;
         } rows[] = {
-            {3 * half, "1.5"}, {-3 * half, "-1.5"}, {-1 - top, least}, {top, greatest[f - 6]}};
+            {3 * half, "1.5"}, {-3 * half, "-1.5"}, {-1 - top, least}};
         for (size_t i = 0; i < COUNT(rows); i++) {
             const char *text = rows[i].text;
             check_value("ends", f, parse(&type, text, strlen(text)), rows[i].bits);
@@ -805,9 +783,9 @@ int main(int count, char **arguments) {
     check_parsed();
     check_padded();
     check_fractions();
-    check_ends(16, 14, greatest_16);
-    check_ends(32, 30, greatest_32);
-    check_ends(64, 30, greatest_64);
+    check_ends(16, 14);
+    check_ends(32, 30);
+    check_ends(64, 30);
     check_products();
     check_narrowed();
     check_matrices();
