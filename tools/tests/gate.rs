@@ -29,29 +29,33 @@ rt ci";
 /// The command that may fail.
 const FETCH: &str = "cargo fetch --quiet --manifest-path compare/Cargo.toml";
 
-/// The allocations that fail in turn: of the tests of memory, and of the program, which makes two.
+/// The runs of `rt try`: of the tests of memory, and of the program, which makes two allocations
+/// here.
 const TESTS: usize = 10;
 const REQUESTS: usize = 12;
 
-/// A tool. It logs its call, and fails if `$FAIL` is its call; `$WRONG` names another fault.
+/// A tool. It logs its call, and fails if `$FAIL` is its call, or if cargo builds in the
+/// repository; `$WRONG` names another fault.
 const TOOL: &str = r#"#!/bin/sh
 call="$(basename "$0") $*"
 [ "$call" != "check " ] || call=c/check
 [ -z "$RUSTDOCFLAGS" ] || call="$call; $RUSTDOCFLAGS"
 echo "$call" >>"$LOG"
 [ "$call" != "$FAIL" ] || exit 1
+case $CARGO_TARGET_DIR in "$TMPDIR"/*) ;; *) exit 1 ;; esac
 case $call in
 c/check)
     [ "$WRONG" != no-freetype ] || echo "left out: FreeType" ;;
 "rt try --test --fail-alloc"*)
-    [ "$WRONG" = one-test ] && [ "$4" = 7 ] || grep '^#\[test\]' src/tests/memory.rt |
-        sed 's/.*/test tests::memory::some ok/' ;;
+    if [ "$WRONG" = one-test ] && [ "$4" = 7 ]; then end=FAILED; else end=ok; fi
+    grep '^#\[test\]' src/tests/memory.rt | sed "s/.*/test tests::memory::some $end/" ;;
 "rt try --fail-alloc "[12])
     if [ "$WRONG" = no-request ]; then cat memory/stdout; echo "allocations: 0" >&2; exit 0; fi
     [ "$WRONG" != early-answer ] || echo 0
     if [ "$WRONG" = message ]; then echo "fontval: write" >&2; else echo "fontval: memory" >&2; fi
-    exit 1 ;;
+    if [ "$WRONG" = other-status ]; then exit 2; else exit 1; fi ;;
 "rt try --fail-alloc "*)
+    if [ "$WRONG" = no-end ]; then echo "fontval: memory" >&2; exit 1; fi
     if [ "$WRONG" = answers ]; then echo 0; else cat memory/stdout; fi
     if [ "$WRONG" = count ]; then echo "allocations: 3" >&2; else echo "allocations: 2" >&2; fi
     [ "$WRONG" != status ] || exit 2 ;;
@@ -65,17 +69,8 @@ esac
 "#;
 
 /// The faults of `TOOL` with which the gate has to fail.
-const FAULTS: [&str; 9] = [
-    "one-test",
-    "early-answer",
-    "message",
-    "status",
-    "answers",
-    "count",
-    "no-request",
-    "bad-edit",
-    "status-of-ci",
-];
+const FAULTS: &str = "one-test early-answer message other-status status answers count no-request \
+    no-end bad-edit status-of-ci";
 
 /// The tools without which the gate fails, and those that it can do without.
 const REQUIRED: [&str; 6] = ["cargo", "rustfmt", "cargo-clippy", "cc", "make", "rt"];
@@ -85,7 +80,7 @@ const OPTIONAL: [&str; 5] = ["c++", "pkg-config", "nm", "readelf", "ldd"];
 const SYSTEM: &str =
     "bash sh env basename cat cmp dirname grep mktemp nproc paste rm sed seq tail tee touch xargs";
 
-/// A repository of stand-ins, in a folder of its own.
+/// A repository of stand-ins, in a folder of this process.
 struct Gate {
     folder: PathBuf,
 }
@@ -100,8 +95,9 @@ struct Run {
 
 impl Gate {
     fn new(name: &str) -> Self {
-        let name = format!("font_types-gate-{}-{name}", std::process::id());
-        let folder = env::temp_dir().join(name);
+        let name = format!("gate-{name}-{}", std::process::id());
+        let folder = PathBuf::from(env!("CARGO_TARGET_TMPDIR")).join(name);
+        fs::create_dir_all(folder.join("tmp")).unwrap();
         let gate = Self { folder };
         for path in [
             ".ci/run",
@@ -133,12 +129,18 @@ impl Gate {
 
     /// Runs the gate while this call fails, or with another fault.
     fn run(&self, fail: &str, wrong: &str) -> Run {
-        let log = self.folder.join("log");
+        self.run_with(&[("FAIL", fail), ("WRONG", wrong)])
+    }
+
+    /// Runs the gate, which leaves no file, with these variables.
+    fn run_with(&self, variables: &[(&str, &str)]) -> Run {
+        let [log, tmp] = ["log", "tmp"].map(|name| self.folder.join(name));
         fs::write(&log, "").unwrap();
         let mut gate = Command::new(self.folder.join(".ci/run"));
         gate.env_clear().env("PATH", self.folder.join("bin"));
-        gate.env("LOG", &log).env("FAIL", fail).env("WRONG", wrong);
-        let output = gate.output().unwrap();
+        gate.env("LOG", &log).env("TMPDIR", &tmp);
+        let output = gate.envs(variables.iter().copied()).output().unwrap();
+        assert_eq!(fs::read_dir(tmp).unwrap().count(), 0);
         let lines = |text: &str| text.lines().map(String::from).collect::<Vec<_>>();
         let mut calls = lines(&fs::read_to_string(&log).unwrap());
         calls.sort();
@@ -179,6 +181,8 @@ fn passed(run: Run, left_out: &str) -> Vec<String> {
     let right = ["3 passed, 0 failed", &format!("left out: {left_out}")];
     assert!(run.passes, "{}", run.errors);
     assert!(last.eq(right), "{:#?}", run.lines);
+    let shown = "rt: must-fail a/b.edit: refused, as it must be: some";
+    assert!(run.lines.iter().any(|line| line == shown));
     run.calls
 }
 
@@ -193,7 +197,7 @@ fn gate_fails_if_a_step_does() {
     for command in COMMANDS.lines().filter(|command| *command != FETCH) {
         gate.assert_fails(command, "");
     }
-    for fault in FAULTS {
+    for fault in FAULTS.split(' ') {
         gate.assert_fails("", fault);
     }
     let lines = gate.run("", "crate").lines;
@@ -210,6 +214,9 @@ fn gate_names_what_it_leaves_out() {
     );
     let is_compared = |call: &String| call.starts_with("cargo test") && call.contains("compare");
     assert!(!calls.iter().any(is_compared), "{calls:#?}");
+    let calls = passed(gate.run_with(&[("FONT_TYPES_DIR", "/ft")]), "nothing");
+    let given = "compare/Cargo.toml --offline --config patch.crates-io.font-types.path=\"/ft\"";
+    assert_eq!(calls.iter().filter(|call| call.ends_with(given)).count(), 2);
     for tool in OPTIONAL {
         let left_out = format!("the library for C, which needs {tool}");
         let calls = passed(gate.run_without(tool), &left_out);
