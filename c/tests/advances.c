@@ -104,5 +104,6 @@ int main(int count, char **paths) {
     free((void *)(uintptr_t)all.bytes);
     printf("advances: %d fonts, %d printed, %d mutations also by the proved Rust, %d messages, "
            "%d failed\n", cases, printed, both, messages, failures);
-    return failures == 0 && cases > 0 ? 0 : 1;
+    /* With fewer, a part was left out. */
+    return failures == 0 && printed > 7000 && both > 6000 && messages > 90 ? 0 : 1;
 }

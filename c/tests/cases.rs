@@ -1,13 +1,17 @@
 //! Fonts, and what `c/examples/advance.c` has to say of them, for `c/tests/advances.c`.
 
 use crate::fonts::{
-    MAP, MAPS, font, font_of, fvar, hvar, hvar_of_two_axes, long_hvar, two_axes, words,
+    MAP, MAPS, font, font_of, fvar, hvar, hvar_of_two_axes, long_axes, long_hvar, two_axes, words,
 };
 use crate::instance;
 use font_types_proved::{Fixed, Tag};
 
 /// Characters of glyphs 0 and 1; those of all three, which need a map of glyphs in some fonts.
 const TEXTS: [&str; 2] = ["\n\u{15}\u{99}\u{9A}a", "A\u{1F600}\u{1F601}\n"];
+
+/// Texts, apart by bars, that are not UTF-8.
+const NOT_UTF_8: &[u8] = b"A\xFF|\x80|\xC3A|\xC3|\xE2\x82|\xC0\x80|\xE0\x9F\xBF|\xED\xA0\x80|\
+    \xED\xB0\x80|\xF0\x8F\xBF\xBF|\xF4\x90\x80\x80|\xF8\x88\x80\x80\x80";
 
 /// Values of the two axes, at the ends of their ranges, at the default, and beyond.
 const SETTINGS: [[&str; 2]; 9] = [
@@ -35,7 +39,7 @@ enum Answer {
 }
 
 /// Adds a case to the bytes of all.
-fn push(cases: &mut Vec<u8>, font: &[u8], settings: &[Setting], text: &str, answer: &Answer) {
+fn push(cases: &mut Vec<u8>, font: &[u8], settings: &[Setting], text: &[u8], answer: &Answer) {
     let kind = match answer {
         Answer::Advances(_) => b'a',
         Answer::Compared(_) => b'c',
@@ -55,7 +59,7 @@ fn push(cases: &mut Vec<u8>, font: &[u8], settings: &[Setting], text: &str, answ
         }
         Answer::Message(message) => message.as_bytes().to_vec(),
     };
-    for bytes in [text.as_bytes(), &answer] {
+    for bytes in [text, &answer] {
         cases.push(bytes.len() as u8);
         cases.extend(bytes);
     }
@@ -137,6 +141,16 @@ fn fonts() -> Vec<(Vec<u8>, usize)> {
         // The segment map goes beyond -1 and 1, to which coordinates are clamped.
         (with(font(hvar()), b"avar", 12, &[0xA000]), 1),
         (with(font(hvar()), b"avar", 24, &[0x5000]), 1),
+        // A slope that is rounded; an odd length of an array; reserved bits; a kind of Apple.
+        (with(font(long_hvar()), b"avar", 18, &[0x3539, 0x14F0]), 1),
+        (with(font(hvar()), b"cmap", 26, &[9]), 1),
+        (with(font(hvar()), b"HVAR", 66, &[0xC0]), 1),
+        ([b"true", &font(hvar())[4..]].concat(), 1),
+        (font_of([(b"HVAR", hvar())]), 0),
+        (
+            font_of([(b"HVAR", hvar_of_two_axes(MAPS[2])), (b"fvar", long_axes())]),
+            2,
+        ),
     ];
     fonts.extend(MAPS.map(of_two_axes));
     fonts.extend([1, 65, 1024].map(|count| (font(hvar_of_regions(count)), 1)));
@@ -177,7 +191,7 @@ fn compared(cases: &mut Vec<u8>) {
         for setting in SETTINGS.map(|values| settings(values, axes)) {
             for text in TEXTS {
                 let answer = Answer::Advances(by_instance(&font, &setting, text));
-                push(cases, &font, &setting, text, &answer);
+                push(cases, &font, &setting, text.as_bytes(), &answer);
             }
         }
         for n in 0..1000 {
@@ -186,7 +200,7 @@ fn compared(cases: &mut Vec<u8>) {
             let setting = settings(SETTINGS[n % SETTINGS.len()], axes);
             let text = TEXTS[n / SETTINGS.len() % TEXTS.len()];
             let answer = Answer::Compared(by_instance(&font, &setting, text));
-            push(cases, &font, &setting, text, &answer);
+            push(cases, &font, &setting, text.as_bytes(), &answer);
         }
     }
 }
@@ -243,7 +257,7 @@ cmap 111: cmap: format 12 ends early
 cmap 84 1: cmap: format 12 ends early
 cmap 102 0xF60F: cmap: groups out of order
 cmap 90 0xF610: cmap: groups out of order
-cmap 98 3: cmap: a glyph that the font does not have
+cmap 98 2: cmap: a glyph that the font does not have
 cmap 4 1: cmap: not for Unicode
 cmap 4 3 0: cmap: not for Unicode
 cmap 2 0: no cmap of format 4 or 12
@@ -349,7 +363,11 @@ pub fn cases() -> Vec<u8> {
     let (setting, text) = (settings(["650", "100"], 1), TEXTS.concat());
     for (font, message) in others().into_iter().chain(BROKEN.lines().map(broken)) {
         let answer = Answer::Message(message);
-        push(&mut cases, &font, &setting, &text, &answer);
+        push(&mut cases, &font, &setting, text.as_bytes(), &answer);
+    }
+    for text in NOT_UTF_8.split(|byte| *byte == b'|') {
+        let answer = Answer::Message("the text is not UTF-8");
+        push(&mut cases, &whole(), &setting, text, &answer);
     }
     cases
 }

@@ -350,5 +350,6 @@ int main(int count, char **paths) {
     check_sums();
     const int rows = count > 1 ? check_rows(paths[1]) : 0;
     printf("header: %d checks, %d failed, %d rows of the proved Rust\n", checks, failures, rows);
-    return failures == 0 && (count < 2 || rows > 0) ? 0 : 1;
+    /* With fewer, a part was left out. */
+    return failures == 0 && checks > 3700000 && (count < 2 || rows > 250000) ? 0 : 1;
 }

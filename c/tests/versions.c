@@ -1,11 +1,11 @@
 /*
- * Two versions of the library in one process: a host, linked with a stand-in of 0.7,
+ * Two versions of the library in one process: a host, linked with a stand-in of 9.0,
  * loads plug-ins that are linked with this one. Each prints the version that it gets.
  */
 #include "font_types.h"
 
 #if defined(STAND_IN)
-uint32_t font_types_version(void) { return 0x000700; }
+uint32_t font_types_version(void) { return 0x090000; }
 #elif defined(PLUG_IN)
 uint32_t plugged_in(void);
 uint32_t plugged_in(void) { return font_types_version(); }

@@ -188,3 +188,11 @@ pub const MAPS: [&[u16]; 6] = [
 pub fn two_axes() -> Vec<u8> {
     fvar(&[(b"wght", [100, 400, 900]), (b"wdth", [50, 100, 200])])
 }
+
+/// Two axes, the second with its default at its end, in records of 24 bytes after a gap.
+pub fn long_axes() -> Vec<u8> {
+    let axes = fvar(&[(b"wght", [100, 400, 900]), (b"wdth", [50, 100, 100])]);
+    let records = axes[16..].chunks(20).flat_map(|axis| [axis, &[0xAA; 4]]);
+    let header = words(&[1, 0, 18, 2, 2, 24, 0, 12, 0xAAAA]);
+    [header, records.collect::<Vec<_>>().concat()].concat()
+}

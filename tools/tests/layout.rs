@@ -4,7 +4,7 @@
 use font_types_tools::repository::{files, text};
 
 /// Endings of files of code, with two scripts by their paths.
-const CODE: [&str; 5] = [".rt", ".rs", ".c", ".h", ".cpp"];
+const CODE: [&str; 6] = [".rt", ".rs", ".c", ".h", ".cpp", ".sh"];
 const SCRIPTS: [&str; 2] = [".ci/run", "c/check"];
 
 /// Endings of documents and proofs.

@@ -1,0 +1,58 @@
+# The examples: README.md shows one, cmake builds it, and advance.c says what is wrong.
+[[ $(lines c 'In C') == "$(sed -n '/begin/,/end/s/^    //p' examples/example.c | grep -v '^/\*')" ]]
+cc -std=c99 $strict examples/example.c "$archive" -o "$work/example"
+[[ $("$work/example") == "$shown" ]]
+c++ -std=c++11 $strict examples/example.cpp "$archive" -o "$work/example"
+[[ $("$work/example") == $'2.25 -0.375 0 120\n1e3: not a decimal number' ]]
+if command -v cmake >/dev/null; then
+    mkdir "$work/cmake"
+    {
+        echo 'cmake_minimum_required(VERSION 3.10)'
+        echo 'project(reader C)'
+        echo 'add_executable(reader ../c/examples/example.c)'
+        lines cmake 'Build and link'
+    } >"$work/cmake/CMakeLists.txt"
+    "${empty[@]}" PKG_CONFIG_PATH="$PKG_CONFIG_PATH" \
+        bash -euc 'cmake -S "$1" -B "$1/build" && cmake --build "$1/build"' - "$work/cmake" \
+        >"$work/log"
+    [[ $("${empty[@]}" "$work/cmake/build/reader") == "$shown" ]]
+else
+    echo "left out: the reader that cmake builds"
+fi
+
+# What advance.c prints, of a file of more bytes than it reads at once too.
+cc -std=c99 $strict $warnings examples/advance.c "$archive" -o "$work/advance"
+{ cat "$work/whole.otf" && head -c 5000000 /dev/zero; } >"$work/large.otf"
+for font in whole large; do
+    [[ $("$work/advance" "$work/$font.otf" 16.5 $'\x15\nA\xE2\x82\xAC\xF0\x9F\x98\x81' wght=1 \
+        wght=900) == 'U+0015: glyph 0, advance 600, 9.9 pixels
+U+000A: glyph 1, advance 620, 10.23 pixels
+U+0041: glyph 2, advance 620, 10.23 pixels
+U+20AC: glyph 0, advance 600, 9.9 pixels
+U+1F601: glyph 2, advance 620, 10.23 pixels' ]]
+done
+settings=$(printf ' wght=900%.0s' {1..64})
+[[ $("$work/advance" "$work/whole.otf" 4096 A $settings) == 'U+0041: glyph 2, '* ]]
+
+# What it refuses, with a message.
+refuses() {
+    fails "$work/advance" "${@:2}"
+    [[ $(<"$work/log") == "advance: "*": $1" ]]
+}
+usage='advance FONT SIZE TEXT [TAG=VALUE ..]'
+refuses "$usage" "$work/whole.otf" 16
+refuses "$usage" "$work/whole.otf" 16 A $settings wght=900
+for path in "$work/none" "$work"; do
+    refuses 'cannot be read' "$path" 16 A
+done
+for size in 4096.02 -0.02 16px; do
+    refuses 'not a decimal from 0 to 4096' "$work/whole.otf" "$size" A
+done
+for setting in wght =650 weight=650 wght=1e3 wght=32768; do
+    refuses 'not TAG=VALUE with a decimal' "$work/whole.otf" 16 A "$setting"
+done
+refuses 'no such axis' "$work/whole.otf" 16 '' wdth=100
+if [[ -e /dev/full ]]; then
+    fails bash -c '"$1" "$2" 16 A >/dev/full' - "$work/advance" "$work/whole.otf"
+    [[ $(<"$work/log") == 'advance: output: cannot be written' ]]
+fi

@@ -1,0 +1,107 @@
+# What is installed, by the Makefile's variables, and which versions a process can load.
+
+# What is staged for a package: its folders, below a prefix that is a link; modes and links; and a
+# font_types.pc that does not name DESTDIR.
+mkdir "$work/real"
+ln -s real "$work/link"
+make -s install DESTDIR="$work/stage" PREFIX="$work/link" LIBDIR="$work/link/lib/x" \
+    INCLUDEDIR="$work/inc" CARGO=false
+found=$(cd "$work/stage$work" && find . \( -type f -o -type l \) -printf '%P %m %l\n' | sort)
+[[ $found == "inc/font_types.h 644 
+link/lib/x/libfont_types.a 644 
+link/lib/x/libfont_types.so 777 libfont_types.so.$version
+link/lib/x/libfont_types.so.$version 777 libfont_types.so.$version.0
+link/lib/x/libfont_types.so.$version.0 755 
+link/lib/x/pkgconfig/font_types.pc 644 " ]]
+staged=$work/stage$work/link/lib/x/pkgconfig
+[[ $(sed 3q "$staged/font_types.pc") == \
+    "prefix=$work/link"$'\nlibdir=${prefix}/lib/x\n'"includedir=$work/inc" ]]
+[[ $(PKG_CONFIG_PATH=$staged pkg-config --cflags --libs font_types) == \
+    "-I$work/inc -L$work/link/lib/x -lfont_types"* ]]
+[[ $(sed 3q "$PKG_CONFIG_PATH/font_types.pc") == \
+    "prefix=$root"$'\nlibdir=${prefix}/lib\nincludedir=${prefix}/include' ]]
+
+# Folders, of the environment, with letters that sed replaces and pkg-config quotes; and another
+# version.
+odd="$work/a&b|c d\\e"
+PREFIX="$odd" make -s install
+[[ $(sed 2q "$odd/lib/pkgconfig/font_types.pc") == "prefix=$odd"$'\nlibdir=${prefix}/lib' ]]
+eval "flags=($(PKG_CONFIG_PATH="$odd/lib/pkgconfig" pkg-config --cflags --libs font_types))"
+[[ ${flags[0]} == "-I$odd/include" && ${flags[1]} == "-L$odd/lib" ]]
+sed -i.kept 's/^version = .*/version = "9.8.7"/' Cargo.toml
+make -s install DESTDIR="$work/next" PREFIX=/usr LIBDIR='/a&b|c'
+mv Cargo.toml.kept Cargo.toml
+[[ -e "$work/next/a&b|c/libfont_types.so.9.8.7" && -L "$work/next/a&b|c/libfont_types.so.9.8" ]]
+[[ $(grep 'libdir=\|Version' "$work/next/a&b|c/pkgconfig/font_types.pc") == \
+    $'libdir=/a&b|c\nVersion: 9.8.7' ]]
+
+# The tools that variables name, and the folders that are removed.
+commands=$(CARGO=a-cargo CARGOFLAGS=--a-flag CC=a-cc LDFLAGS=--b-flag AR=an-ar BUILD=a-folder \
+    make -n)
+for part in 'a-cargo build --release --target-dir "a-folder" --a-flag' 'a-cc -shared' \
+    '--b-flag "a-folder/libraries"' 'an-ar x' 'an-ar t' 'an-ar rcs'; do
+    [[ $commands == *"$part"* ]]
+done
+[[ $(make -n clean) == 'rm -rf "target" shared static' && $(make -n check) == ./check ]]
+
+# Uninstall leaves no file but those of others.
+mkdir -p "$work/dest/usr/include" "$work/dest/usr/lib/pkgconfig"
+touch "$work"/dest/usr/{include/other.h,lib/libother.a,lib/pkgconfig/other.pc}
+make -s install uninstall DESTDIR="$work/dest" PREFIX=/usr
+found=$(find "$work/dest" ! -type d -printf '%f\n' | sort | tr '\n' ' ')
+[[ $found == 'libother.a other.h other.pc ' ]]
+
+# Errors that write nothing: a folder that is empty, not absolute, or not one that the shell and
+# pkg-config read as it is; and an install of nothing.
+refused() {
+    fails make install "$1=$2" DESTDIR="$work/relative"
+    [[ $(<"$work/log") == *"$1 $3"* ]]
+}
+for folder in PREFIX LIBDIR INCLUDEDIR; do
+    for letter in '"' "'" '`' '$$' '\\' '#' ':'; do
+        refused "$folder" "/a${letter}b" 'has a letter that is read otherwise: '
+    done
+    for path in lib '' 'lib /abs'; do
+        [[ $folder == PREFIX ]] || refused "$folder" "$path" "is not absolute: $path. "
+    done
+done
+refused PREFIX '' 'is empty. '
+refused BUILD '' 'is empty. '
+fails make install BUILD="$work/none" DESTDIR="$work/relative"
+[[ ! -e $work/relative ]]
+
+# The archive of another target, here with debug assertions, is the one that is packed, whatever
+# cargo's own target folder is, and after it that of this one again. A null pointer aborts with
+# debug assertions, and faults without: the library has none.
+cat >"$work/null.c" <<'C'
+#include "font_types.h"
+int main(void) { return (int)font_parse_i32(NULL, 1, 16, NULL); }
+C
+status_of_null() {
+    cc -Iinclude "$work/null.c" "$1" -o "$work/null"
+    bash -c 'timeout 10 "$1"; echo "$?"' - "$work/null" 2>"$work/log"
+}
+CARGO_BUILD_TARGET_DIR=$work/elsewhere CARGO_PROFILE_RELEASE_DEBUG_ASSERTIONS=true \
+    make -s CARGOFLAGS="--quiet --target $(rustc -vV | sed -n 's/^host: //p')"
+[[ ! -e $work/elsewhere && ! -e target/release/libfont_types.a ]]
+fails cmp -s target/libraries/libfont_types.a "$root/lib/libfont_types.a"
+cc -std=c99 $strict tests/table.c target/libraries/libfont_types.a -o "$work/table"
+run "$work/table"
+[[ $(status_of_null target/libraries/libfont_types.a) == 134 ]]
+[[ $(status_of_null "$root/lib/libfont_types.a") == 139 ]]
+"${empty[@]}" make -s CARGOFLAGS=--quiet
+cmp -s target/libraries/libfont_types.a "$root/lib/libfont_types.a"
+cmp -s target/libraries/libfont_types.so "$root/lib/libfont_types.so"
+
+# Two versions in one process: a host with a stand-in of 9.0, and plug-ins with the shared library
+# and with the archive.
+sed "s/$version/9.0/" font_types.map >"$work/stand_in.map"
+cc -shared -fPIC -Iinclude -DSTAND_IN tests/versions.c \
+    "-Wl,-soname,libfont_types.so.9.0,--version-script=$work/stand_in.map" \
+    -o "$work/libfont_types.so.9.0"
+cc -shared -fPIC -Iinclude -DPLUG_IN tests/versions.c $shared -o "$work/shared.so"
+cc -shared -fPIC -Iinclude -DPLUG_IN tests/versions.c "$root/lib/libfont_types.a" \
+    -Wl,--exclude-libs,ALL -o "$work/archive.so"
+cc -Iinclude tests/versions.c "$work/libfont_types.so.9.0" "-Wl,-rpath,$work" -ldl -o "$work/host"
+ours=$(printf '00%02x00' "${version#*.}")
+[[ $("$work/host" "$work/shared.so" "$work/archive.so") == "090000 $ours $ours" ]]

@@ -1,0 +1,76 @@
+# The values of each call, with sanitizers, over the archive and over the shared library; what is
+# loaded; and FreeType's values. A table with one value that is wrong has to fail, and so have a row
+# that is, a header that stores when it fails, and a read out of bounds.
+
+# Rounded values, sums and fields of the proved Rust, with which the functions in C are compared;
+# and fonts, whole, mutated and broken, with what advance.c has to say of them.
+rows=("${empty[@]}" cargo run --quiet --manifest-path ../Cargo.toml --target-dir "$work/rows"
+    --example rows --)
+"${rows[@]}" >"$work/rows.txt"
+"${rows[@]}" "$work/cases" "$work/whole.otf"
+mkdir "$work/storing"
+sed 's/return FONT_OUT_OF_BOUNDS;/return *value = 0, FONT_OUT_OF_BOUNDS;/' include/font_types.h \
+    >"$work/storing/font_types.h"
+cat >"$work/beyond.c" <<'C'
+static const char bytes[1] = {0};
+int main(int count, char **words) { return words == 0 ? 1 : bytes[count]; }
+C
+for compiler in 'gcc g++' 'clang clang++'; do
+    read -r c cpp <<<"$compiler"
+    command -v "$c" >/dev/null && command -v "$cpp" >/dev/null ||
+        { echo "left out: the checks that need $c and $cpp"; continue; }
+    $c -std=c99 $strict "$work/beyond.c" -o "$work/beyond"
+    fails "$work/beyond"
+    for library in "$archive" "$shared"; do
+        $c -std=c99 $strict tests/table.c $library -o "$work/table"
+        run "$work/table"
+        $cpp -std=c++11 $strict -x c++ tests/table.c -x none $library -o "$work/table"
+        run "$work/table"
+    done
+    for way in 1 2 3 4 5 6; do
+        fails "$work/table" "$way"
+        [[ $(<"$work/log") == *' 1 failed' ]]
+    done
+    $cpp -std=c++20 $strict -x c++ tests/header.c -o "$work/header"
+    run "$work/header" "$work/rows.txt"
+    $c -std=c99 $strict tests/header.c -o "$work/header"
+    run "$work/header" "$work/rows.txt"
+    for row in '16 14 1 16384' '16 14 16383 0' 'u8 1 0 1' 'i16 1 0 128' 'add 1 2 4'; do
+        fails "$work/header" /dev/stdin <<<"$row"
+        [[ $(<"$work/log") != *' 0 failed'* ]]
+    done
+    fails "$work/header" /dev/null
+    $c -std=c99 "-I$work/storing" $strict tests/header.c -o "$work/header"
+    fails "$work/header"
+    $c -std=c99 $strict $warnings tests/advances.c "$archive" -o "$work/advances"
+    run "$work/advances" "$work/cases"
+    fails "$work/advances" /dev/null
+done
+
+# If valgrind is installed, a trace of what is loaded and stored: what a call writes may be
+# uninitialized, because nothing is loaded from there.
+if command -v valgrind >/dev/null; then
+    cc -std=c11 -O1 -Wall -Wextra -Werror -Iinclude tests/stores.c "$archive" -o "$work/stores"
+    # Whether nothing was loaded from the places to which a program stores.
+    only_stores() {
+        digits=$(valgrind --tool=lackey --trace-mem=yes --log-file="$work/trace" "$@")
+        (($(grep -c "^ S 0*$digits[0-9a-f]\{5\}," "$work/trace") > 300))
+        fails grep "^ [LM] 0*$digits[0-9a-f]\{5\}," "$work/trace"
+    }
+    only_stores "$work/stores"
+    fails only_stores "$work/stores" load
+else
+    echo "left out: the trace by valgrind"
+fi
+
+# If FreeType is installed, its functions against those that README.md names for them.
+if pkg-config --exists freetype2; then
+    lines c 'From FreeType' >"$work/freetype.inc"
+    sed -n 's/^| `FT_Matrix_Multiply(&a, &b)` | `\(.*\)` | .*/\1;/p' README.md >"$work/multiply.inc"
+    cc -O2 -Iinclude "-I$work" $(pkg-config --cflags freetype2) tests/freetype.c "$archive" \
+        $(pkg-config --libs freetype2) -o "$work/freetype"
+    run "$work/freetype"
+    fails "$work/freetype" wrong
+else
+    echo "left out: the comparison with FreeType"
+fi
