@@ -317,6 +317,7 @@ fn sums_of_deltas() {
         (&[min, min, up], 2 * square - 1),
         (&[min; 3], 3 * square),
         (&[min; 8], 8 * square),
+        (&[min; 65], 65 * square),
     ] {
         let mut sum = DeltaSum::default();
         assert_eq!(sum, DeltaSum::new());

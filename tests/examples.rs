@@ -11,7 +11,8 @@ mod runner;
 
 use dump::dump;
 use font_types_proved::{F2Dot14, FWord, Fixed, GlyphId16, Tag, UfWord};
-use fonts::{MAP, MAPS, font, font_of, fvar, hvar, hvar_of_two_axes, long_hvar, two_axes, words};
+use fonts::{MAP, MAPS, font, font_of, fvar, hvar, hvar_of_two_axes, long_axes, long_hvar};
+use fonts::{two_axes, words};
 use instance::proved::evaluator::vary_and_round;
 use instance::{advance, axes, normalized};
 use std::fs;
@@ -54,12 +55,24 @@ fn dump_of_an_odd_name() {
     assert!(text.ends_with("\nFAMILY_NAME: Ütes\n"), "{text}");
 }
 
+// In another language, after a gap, with half of a pair.
+#[test]
+fn dump_of_a_name_in_a_gap() {
+    let name = [
+        0, 1, 24, 3, 1, 0x407, 1, 6, 2, 88, 88, 88, 65, 66, 0xD800, 67,
+    ];
+    let bytes = font_of([(b"name", words(&name))]);
+    let mut text = String::new();
+    dump(&dump::font::Font::new(&bytes).unwrap(), "", &mut text).unwrap();
+    assert!(text.ends_with("\nFAMILY_NAME: B\u{FFFD}C\n"), "{text}");
+}
+
 #[test]
 fn dump_of_a_font() {
     let bytes = font(hvar());
     let font = dump::font::Font::new(&bytes).unwrap();
     let mut text = String::new();
-    dump(&font, "\n\u{15}\u{99}\u{9A}🗿😀😐😑a", &mut text).unwrap();
+    dump(&font, "\n\u{1000A}\u{15}\u{99}\u{9A}🗿😀😁😐😑a", &mut text).unwrap();
     let wanted = "\
 head version: MajorMinor { major: 1, minor: 0 }
 font revision: 2.5
@@ -76,18 +89,23 @@ vendor: Tag(TEST)
 typographic ascender: FWord(800)
 FAMILY_NAME: Ütest
 \n: glyph 1
+\u{1000A}: no glyph
 \u{15}: no glyph
 \u{99}: glyph 107
 \u{9A}: no glyph
 🗿: no glyph
 😀: glyph 500
+😁: glyph 501
 😐: glyph 65535
 😑: no glyph
 a: no glyph
 ";
     assert_eq!(text, wanted);
     let path = file(&bytes);
-    let [path, characters] = [path.to_str().unwrap(), "\n\u{15}\u{99}\u{9A}🗿😀😐😑a"];
+    let [path, characters] = [
+        path.to_str().unwrap(),
+        "\n\u{1000A}\u{15}\u{99}\u{9A}🗿😀😁😐😑a",
+    ];
     assert_eq!(
         run("dump", &[path, characters]),
         (wanted.into(), String::new())
@@ -205,6 +223,16 @@ fn coordinates_and_advances_along_an_axis() {
         assert_eq!(advance(1), Ok(UfWord::new(620)), "{place}");
         assert_eq!(advance(2), Ok(UfWord::new(620)), "{place}");
     }
+}
+
+#[test]
+fn axes_in_long_records() {
+    let bytes = font_of([(b"fvar", long_axes())]);
+    let font = instance::font::Font::new(&bytes).unwrap();
+    let axes = axes(&font).unwrap();
+    let at = |n, value| normalized(&font, n, axes[n], Fixed::from_i32(value));
+    let right = [0x2000, -0x2000].map(|bits| Ok(F2Dot14::from_bits(bits)));
+    assert_eq!([at(0, 650), at(1, 75)], right);
 }
 
 // fontTools 4.38 gives these numbers, by these lines; `index` is the glyph if there is no map. It

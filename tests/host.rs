@@ -181,6 +181,16 @@ fn allocation_errors_of_each_line() {
     }
 }
 
+// With ample memory no line is too long.
+#[test]
+fn line_of_many_terms() {
+    let line = [&b"sum"[..], &b" 1 1".repeat(3000)].concat();
+    let mut taken = [0; 5];
+    let (mut source, mut sink) = (FromRead::new(&line[..]), FromWrite::new(&mut taken[..]));
+    assert!(serve(Global, &mut source, &mut sink).is_ok());
+    assert_eq!(&taken, b"3000\n");
+}
+
 // ---- streams
 
 // Without a descriptor, each call fails.

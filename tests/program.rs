@@ -143,3 +143,12 @@ fn out_of_memory() {
         }
     }
 }
+
+// The status stays if the message cannot be written.
+#[test]
+#[cfg(target_os = "linux")]
+fn no_standard_error() {
+    if let Some(run) = limited("\"$0\" </ 2>/dev/full") {
+        assert_eq!(run.status.code(), Some(1));
+    }
+}

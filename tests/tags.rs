@@ -131,4 +131,5 @@ fn comparisons() {
     assert_eq!(BTreeMap::from([(kern, 1)]).get(b"kern"), Some(&1));
     assert_eq!(HashMap::from([(kern, 1)]).get(b"kern"), Some(&1));
     assert_eq!(AsRef::<[u8]>::as_ref(&kern), b"kern");
+    assert_eq!(AsRef::<[u8]>::as_ref(&Tag::new(b"cvt ")), b"cvt ");
 }

@@ -5,16 +5,19 @@ use font_types_proved::*;
 use std::collections::HashSet;
 use std::error::Error;
 use std::fmt::Debug;
-use std::hash::Hash;
+use std::hash::{BuildHasher, Hash};
 use std::iter::FusedIterator;
 
-/// Asserts that the values have these texts, and that all of them and their hashes differ.
+/// Asserts that the values have these texts, and that all of them and their hashes differ, wherever
+/// they are.
 fn assert_distinct<T: Clone + Eq + Hash + Debug>(values: &[T], texts: &[&str]) {
     let printed: Vec<String> = values.iter().map(|value| format!("{value:?}")).collect();
     assert_eq!(printed, texts);
     let set: HashSet<T> = values.iter().chain(values).cloned().collect();
     assert_eq!(set.len(), values.len(), "{values:?}");
+    let hash = |value: &T| set.hasher().hash_one(value);
     for (n, value) in values.iter().enumerate() {
+        assert_eq!(hash(value), hash(&value.clone()), "{value:?}");
         let found = values.iter().position(|other| other == value);
         assert_eq!(found, Some(n), "{value:?}");
     }
@@ -49,10 +52,10 @@ fn debug_and_hash_of_padding() {
 
 #[test]
 fn debug_and_hash_of_shortest() {
-    let texts = [-3, 96, 95].map(|bits| Shortest::new(bits, 6));
+    let texts = [-3, 96, 95, 64, 640].map(|bits| Shortest::new(bits, 6));
     assert_eq!(texts[0].as_ref() as &str, "-0.05");
     assert_eq!(texts[1].to_string(), "1.5");
-    let debug = ["-0.05", "1.5", "1.48"].map(|text| format!("Shortest({text:?})"));
+    let debug = ["-0.05", "1.5", "1.48", "1", "10"].map(|text| format!("Shortest({text:?})"));
     assert_distinct(&texts, &debug.each_ref().map(|text| &**text));
     // Equal texts are equal, whatever the type of their numbers.
     let ones = [Shortest::new(64, 6), Shortest::new(0x1_0000, 16)];

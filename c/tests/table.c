@@ -324,7 +324,8 @@ static void check_padded(void) {
     for (size_t i = 0; i < COUNT(members); i++)
         check_written("members of a pad", i, &fixed, 98304, &members[i], texts[i]);
     static const font_pad invalid[] = {
-        {4, 0x80, 0, 0, 0}, {4, 0xFF, 2, 0, 0}, {4, ' ', 3, 0, 0}, {4, ' ', 255, 0, 0}};
+        {4, 0x80, 0, 0, 0}, {4, 0x80, 2, 0, 1}, {4, 0xFF, 2, 0, 0},
+        {4, ' ', 3, 0, 0},  {4, ' ', 255, 0, 0}};
     for (size_t i = 0; i < COUNT(invalid); i++) {
         written[0] = KEPT;
         check_error("invalid pads", i, padded_zero(&invalid[i], 16), FONT_BAD_PAD);

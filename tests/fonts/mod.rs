@@ -84,7 +84,7 @@ pub fn font(hvar: Vec<u8>) -> Vec<u8> {
     font_of([(b"HVAR", hvar), (b"avar", avar), (b"fvar", fvar)])
 }
 
-/// A font with these tables and those that all fonts here have.
+/// A font with these tables and the others that all fonts here have.
 pub fn font_of<const N: usize>(variations: [(&[u8; 4], Vec<u8>); N]) -> Vec<u8> {
     let os2 = table(78, &[(4, &[400]), (58, &[0x5445, 0x5354]), (68, &[800])]);
     // It was created one second before it was modified.
@@ -98,8 +98,7 @@ pub fn font_of<const N: usize>(variations: [(&[u8; 4], Vec<u8>); N]) -> Vec<u8> 
     let hhea = table(36, &[(4, &[800, 0xFF38, 0, 620]), (34, &[2])]);
     // The outline of glyph 1 has this box.
     let glyf = words(&[1, 0xFFF6, 0xFF38, 590, 700, 0]);
-    let mut tables = BTreeMap::from(variations);
-    tables.extend([
+    let mut tables = BTreeMap::from([
         (b"OS/2", os2),
         (b"cmap", cmap()),
         (b"glyf", glyf),
@@ -110,6 +109,7 @@ pub fn font_of<const N: usize>(variations: [(&[u8; 4], Vec<u8>); N]) -> Vec<u8> 
         (b"maxp", words(&[0, 0x5000, 3])),
         (b"name", name("Ütest")),
     ]);
+    tables.extend(variations);
     let mut font = words(&[1, 0, tables.len() as u16, 0, 0, 0]);
     let mut offset = 12 + 16 * tables.len();
     for (tag, table) in &tables {

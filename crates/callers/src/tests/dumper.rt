@@ -11,6 +11,7 @@ fn rows_of_columns(rt: HostRuntime) -> Result<(), Fail> {
     let alloc = rt.alloc();
     let numbers = [Fixed::from_bits(0x1_8000), Fixed::NEG_ONE, Fixed::MAX];
     assert!(rt; row(&numbers, 6, alloc)?.as_slice() == b"   1.5    -132767.99998".as_slice());
+    assert!(rt; row(&[Fixed::ONE; 65], 1, alloc)?.as_slice() == [b'1'; 65].as_slice());
     Ok(())
 }
 
@@ -46,6 +47,7 @@ fn axis_round_trip(rt: HostRuntime) -> Result<(), Fail> {
         tag: Tag::new(b"w\x00\x00\x00"),
         ..axis
     };
+    assert!(rt; other.to_json(rt.alloc()).is_ok());
     assert!(rt; round_trip(other, rt.alloc()) == Err(InvalidTag));
     Ok(())
 }

@@ -38,6 +38,8 @@ fn packed_runs(rt: HostRuntime) -> Result<(), Fail> {
     assert!(rt; deltas.as_slice() == words.as_slice() && rest == &PACKED[11..]);
     let (deltas, rest) = read_run(rest, rt.alloc())?.unwrap();
     assert!(rt; deltas.as_slice() == [-0x8000].as_slice() && rest == &PACKED[14..]);
+    let (deltas, rest) = read_run(&[0xBF], rt.alloc())?.unwrap();
+    assert!(rt; deltas.as_slice() == [0; 64].as_slice() && rest.is_empty());
     for packed in [&[][..], &[0x00], &[0x01, 0x01], &[0x40, 0x01]] {
         assert!(rt; read_run(packed, rt.alloc())?.is_none(), "{}", packed.len());
     }

@@ -19,7 +19,6 @@ fn scalars_of_regions(rt: HostRuntime) {
         (0, &[two, one], Some(14563)),
         (1, &[two, two], Some(43691)),
         (1, &[one, two, two], Some(43691)),
-        // Coordinates that are missing are 0.
         (0, &[two], Some(0)),
         (1, &[], Some(0)),
         (2, &[two, two], None),
@@ -31,6 +30,8 @@ fn scalars_of_regions(rt: HostRuntime) {
             coordinates.len()
         );
     }
+    // A coordinate that is missing is 0, and not the peak, which is 1.
+    assert!(rt; region_scalar(&[0, 1, 0, 1, 0, 0, 64, 0, 64, 0], 0, &[]) == Some(Fixed::ZERO));
     // A count of regions with the reserved bit.
     assert!(rt; region_scalar(&[0, 0, 0x7F, 0xFF], 0, &[]) == Some(Fixed::ONE));
     assert!(rt; region_scalar(&[0, 0, 0x80, 0], 0, &[]).is_none());
