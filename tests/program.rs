@@ -38,7 +38,7 @@ fn answers_of_the_readme() {
         Some((line.split('`').next()?, answer.split('`').next()?))
     });
     let (lines, answers): (Vec<&str>, Vec<&str>) = rows.unzip();
-    let file = std::env::temp_dir().join(format!("fontval-readme-{}", std::process::id()));
+    let file = Path::new(env!("CARGO_TARGET_TMPDIR")).join("readme");
     fs::write(&file, lines.join("\n")).unwrap();
     let run = fontval(File::open(&file).unwrap(), Stdio::piped());
     fs::remove_file(file).unwrap();
@@ -57,7 +57,7 @@ fn empty_input() {
 #[test]
 #[cfg_attr(debug_assertions, ignore = "half a minute without optimization")]
 fn many_empty_lines() {
-    let file = std::env::temp_dir().join(format!("fontval-empty-{}", std::process::id()));
+    let file = Path::new(env!("CARGO_TARGET_TMPDIR")).join("empty-lines");
     fs::write(&file, vec![b'\n'; 17 << 20]).unwrap();
     let run = fontval(File::open(&file).unwrap(), Stdio::piped());
     fs::remove_file(file).unwrap();
@@ -111,7 +111,7 @@ fn limited(script: &str) -> Option<Output> {
 #[cfg(target_os = "linux")]
 fn file_size_limit() {
     let blocks = (ANSWERS.len() - 1) / 512;
-    let file = std::env::temp_dir().join(format!("fontval-{}", std::process::id()));
+    let file = Path::new(env!("CARGO_TARGET_TMPDIR")).join("limited");
     let file_name = file.display();
     let script = format!("trap '' XFSZ; ulimit -f {blocks}; \"$0\" <\"$1\" >'{file_name}'");
     if let Some(run) = limited(&script) {
