@@ -14,3 +14,4 @@ pub mod Rules
 pub mod FixedCalls
 pub mod NarrowCalls
 pub mod Rounds
+pub mod Deltas

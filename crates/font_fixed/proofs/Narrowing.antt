@@ -1,8 +1,8 @@
 -- Numbers rounded half up, as code computes it: half a step is added, and the remainder of the division by a step is
 -- dropped.
 use Rattle.std.proofs.Common.{◌≡◌, ◌∙◌, ap, refl, ℕ, ◌+◌, ◌-◌, ◌*◌, ◌/◌, ◌^◌, ◌<◌, ◌≤◌, Bool, ℤ, pos, neg_ℤ, ◌+ℤ◌, ◌*ℤ◌}
-use Rattle.std.proofs.Common.{◌≤ℤ◌, ◌<ℤ◌, arith, IsTrue, nat_lt, ◌&&◌, ◌==◌, pow_pos, SFits, to_z, of_z}
-use Rattle.std.proofs.lemmas.Int.{by_lt_z, to_z-of_z}
+use Rattle.std.proofs.Common.{◌%◌, ◌≤ℤ◌, ◌<ℤ◌, arith, IsTrue, nat_lt, ◌&&◌, ◌==◌, pow_pos, SFits, to_z, of_z}
+use Rattle.std.proofs.lemmas.Int.{ints, by_lt_z, to_z-of_z}
 use Rattle.std.proofs.lemmas.Bool.Decides.{nat_tests}
 use Rattle.std.specs.Int.{Width}
 use mir.Val.{bits}
@@ -10,13 +10,14 @@ use lib.Signed.{shr_z}
 use Rattle.font_base.specs.Integers.{sum-times, product-times}
 use Rattle.font_base.specs.Wrap.{half_range, wrap, FitsBits}
 use Rattle.font_base.specs.Wrap.Laws.{wrap_is, wrap_gives, wrap-wrap}
-use Rattle.font_base.proofs.Widths.{bits_positive}
+use Rattle.font_base.proofs.Widths.{bits_positive, half_range-bits}
 use Rattle.font_decimal.specs.Near.{Up, up}
 use Rattle.font_decimal.proofs.Integers.{neg-times, times-next, times_monotone}
 use Rattle.font_decimal.proofs.Near.{up_gives}
 use Rattle.font_fixed.specs.Operations.{IsNarrowed, IsNearestWhole, IsFloor}
 use Rattle.font_fixed.proofs.Shifts.{shr_low, shr_high, shr_fits}
 use Rattle.font_fixed.proofs.Sums.{sums}
+use Rattle.font_fixed.proofs.Wrapped.{wrapping_mul-wrap}
 
 -- if s is at least h * d, the greatest q with q * d <= s is at least h
 pub fits_low : (d : ℕ) (h s q : ℤ) → (h *ℤ pos d) ≤ℤ s → s <ℤ ((q *ℤ pos d) +ℤ pos d) → h ≤ℤ q
@@ -112,3 +113,32 @@ pub narrowed_low_bits : (w u : Width) (v : ℕ) (x : ℤ) (d : ℕ) (q l r : ℤ
     → r ≡ to_z u (of_z u l) → IsNarrowed (bits u) x d r
 narrowed_low_bits w u v x d q l r some less given fits is narrow same =
     grind (arith, nat_tests, to_z-of_z, wrap-wrap, bits_positive, up_gives)
+
+-- a number of v bits, shifted to the left of w and back
+shr_back : (d : ℕ) (z : ℤ) → 0 < d → shr_z (z *ℤ pos d) d ≡ z
+shr_back d z some =
+    let s = shr_z (z *ℤ pos d) d in
+    let less = fits_low d s (z *ℤ pos d) z (shr_low (z *ℤ pos d) d some) (omega (arith, sums, some)) in
+    let more = fits_low d z (z *ℤ pos d) s (omega (arith, sums)) (shr_high (z *ℤ pos d) d some) in
+    omega (arith, sums, less, more)
+
+-- the low bits of a number, by two shifts
+pub shifts-wrap : (w v : Width) (m d : ℕ) (x : ℤ) → m ≡ 2 ^ bits w
+    → IsTrue (is_width_split (bits w) (bits v) d (d / 2)) → SFits w x → SFits w (pos d)
+    → to_z v (of_z v (to_z w (of_z w (shr_z (to_z w (of_z w x * d % m)) d)))) ≡ wrap (bits v) x
+shifts-wrap w v m d x all test fits step =
+    let it = width_split (bits w) (bits v) d (d / 2) test in
+    let low : ℤ = wrap (bits v) x in
+    let range = (wrap_is (bits v) x (bits_positive v)).fits in
+    let narrow : SFits v low = omega (arith, ints, range, half_range-bits v) in
+    let wide : SFits w (low *ℤ pos d) = rw (wrap-times (bits w) (bits v) d (d / 2) x it (bits_positive w))
+    (omega (arith, ints, (wrap_is (bits w) (x *ℤ pos d) (bits_positive w)).fits, half_range-bits w)) in
+    let small : SFits w low = rw (shr_back d low it.steps) at (shr_fits w (low *ℤ pos d) d wide) in
+    rw (
+      wrapping_mul-wrap w (bits w) m x d refl all fits step,
+      ← wrap-times (bits w) (bits v) d (d / 2) x it (bits_positive w),
+      shr_back d low it.steps,
+      to_z-of_z w low small,
+      to_z-of_z v low narrow,
+    )
+    refl

@@ -2,7 +2,7 @@
 -- nearest integer as the floor of half a step more.
 use Rattle.std.proofs.Common.{◌≡◌, ◌∙◌, ap, refl, ℕ, suc, ◌+◌, ◌-◌, ◌*◌, ◌/◌, ◌%◌, ◌^◌, ◌<◌, ◌≤◌, ℤ, pos, negsuc, neg_ℤ}
 use Rattle.std.proofs.Common.{◌+ℤ◌, ◌*ℤ◌, ◌≤ℤ◌, ◌<ℤ◌, arith, pow_pos, div-add-mod', IsTrue, SFits, to_z, of_z}
-use Rattle.std.proofs.Common.{pow-add, mod-lt}
+use Rattle.std.proofs.Common.{◌-ℤ◌, lit<, pow-add, mod-lt}
 use Rattle.std.proofs.lemmas.Int.{ints, by_lt_z, to_z_pos, to_z-of_z}
 use Rattle.std.proofs.lemmas.Bool.Decides.{nat_tests}
 use Rattle.std.proofs.lemmas.Nat.{one_shl}
@@ -16,11 +16,11 @@ use Rattle.font_base.proofs.Widths.{bits_positive, half_range-bits}
 use Rattle.font_decimal.specs.Near.{Up, up}
 use Rattle.font_decimal.proofs.Integers.{neg-times, times-next, times_monotone}
 use Rattle.font_decimal.proofs.Near.{up_gives, up_is}
-use Rattle.font_fixed.specs.Operations.{IsFract, IsFloor, IsNearestWhole, fract_of, floor_of}
+use Rattle.font_fixed.specs.Operations.{WrapsTo, IsFract, IsFloor, IsNearestWhole, fract_of, floor_of}
 use Rattle.font_fixed.specs.Rounding.{rounded}
 use Rattle.font_fixed.proofs.Narrowing.{is_width_split, floor_is_nearest_whole, fits_low}
 use Rattle.font_fixed.proofs.Shifts.{shr_fits, shr_high, shr_low}
-use Rattle.font_fixed.proofs.Wrapped.{wrapping_mul-wrap, rem_euclid_is_fract}
+use Rattle.font_fixed.proofs.Wrapped.{wrapping_mul-wrap}
 
 halves : (f : ℕ) → 6 ≤ f → 2 ^ f ≡ 2 ^ (f - 1) + 2 ^ (f - 1)
 halves f many = let is : f ≡ suc (f - 1) = omega (arith, many) in ap (λ n. 2 ^ n) is ∙ two-pow-succ (f - 1)
@@ -50,11 +50,6 @@ step_is w m f is few = rw (is, one_shl f (bits w) (omega (arith, few))) (to_z_po
 half_is : (w : Width) (m f : ℕ) → m ≡ 2 ^ bits w → 6 ≤ f → f + 2 ≤ bits w
     → to_z w (1 * 2 ^ (f - 1) % m) ≡ pos (2 ^ f / 2)
 half_is w m f is many few = grind (arith, nat_tests, halves, step_is)
-
-pub fract_is : (w : Width) (m f : ℕ) (x r : ℤ) → m ≡ 2 ^ bits w → f + 2 ≤ bits w → SFits w x
-    → r ≡ int_rem_euclid (to_z w (of_z w x)) (to_z w (1 * 2 ^ f % m)) → IsFract f x (to_z w (of_z w r))
-fract_is w m f x r all few fits is = rem_euclid_is_fract w f (2 ^ f) x r refl
-    (omega (arith, step_below w f few)) fits (rw (step_is w m f all few) at is)
 
 pub whole_is : (w : Width) (m f : ℕ) (x s r : ℤ) → m ≡ 2 ^ bits w → 6 ≤ f → f + 2 ≤ bits w
     → s ≡ wrap (bits w) (x +ℤ to_z w (1 * 2 ^ (f - 1) % m)) → IsFloor f s r → IsNearestWhole (bits w) f x r
@@ -105,6 +100,21 @@ shifted_is_floor w n m f x is all fits few =
       is,
       wrap-fits (bits w) (shr_z x d *ℤ pos d) (bits_positive w) kept,
     ) floor
+
+-- what is above the floor
+pub rest_is_fract : (w f : ℕ) (x l r : ℤ) → f + 2 ≤ w → IsFloor f x l → WrapsTo w (x -ℤ l) r → IsFract f x r
+rest_is_fract w f x l r few floor rest =
+    let room : 2 ^ f ≤ 2 ^ (w - 1) = pow-le-pow_right {n = 2} (lit< tt) {i = f} {j = w - 1} (omega (arith, few)) in
+    let fits : FitsBits w (x -ℤ l) = record {
+      low = omega (arith, ints, floor.low);
+      high = omega (arith, ints, floor.high, room);
+    } in
+    record {
+      floor = l;
+      is_floor = floor;
+      rest = rest.1 fits;
+      is = rest.1 fits ∙ omega (arith, ints, floor.is);
+    }
 
 -- ---- the nearest integer
 

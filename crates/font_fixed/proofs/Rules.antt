@@ -4,7 +4,7 @@ use Rattle.std.proofs.Common.{w16, w32, w64}
 use Rattle.font_decimal.proofs.Printed.{shortest_is_decimal}
 use Rattle.font_fixed.proofs.Texts.{HasRoom, padded_has_room}
 use Rattle.font_fixed.proofs.Wrapped.{wrapping_add-wrap, wrapping_sub-wrap, wrapping_neg-wrap, wrapping_abs-wrap}
-use Rattle.font_fixed.proofs.Wrapped.{wrapping_mul-wrap, rem_euclid_is_fract}
+use Rattle.font_fixed.proofs.Wrapped.{wrapping_mul-wrap}
 use Rattle.font_fixed.proofs.Narrowing.{floor_is_nearest_whole, shr_is_narrowed}
 
 -- `search` does not find the width of a column in its goal
@@ -23,7 +23,6 @@ pub ruleset number_code = (
   wrapping_neg-wrap,
   wrapping_abs-wrap,
   wrapping_mul-wrap,
-  rem_euclid_is_fract,
   floor_is_nearest_whole,
   shr_is_narrowed,
   cell_16,

@@ -43,27 +43,6 @@ wrapping_mul-wrap w n m x d is all f g =
     rw (all, is, wrapping_mul_onto w (of_z w x) (pos d) (Fits-of_z f).fits g, to_z-of_z w x f)
     (int_wrap-wrap w (x *ℤ pos d))
 
--- the remainder after the greatest multiple that is not greater
-pub rem_euclid_is_fract : (w : Width) (f d : ℕ) (x r : ℤ) → d ≡ 2 ^ f → 2 ^ f ≤ 2 ^ hbits w → SFits w x
-    → r ≡ int_rem_euclid (to_z w (of_z w x)) (pos d) → IsFract f x (to_z w (of_z w r))
-unfolding fract_of
-rem_euclid_is_fract w f d x r step room fits is =
-    let parts = remainder x (2 ^ f) (pow_pos f) in
-    let below = parts.below in
-    let small : SFits w (pos parts.rest) = omega (arith, ints) in
-    rw (is, to_z-of_z w x fits, step, parts.is, to_z-of_z w (pos parts.rest) small) (record {
-      floor = parts.turns *ℤ pos (2 ^ f);
-      is_floor = record {
-        whole = parts.turns;
-        bits = refl;
-        low = omega (arith, ints, parts.parts);
-        high = omega (arith, ints, parts.parts, below);
-        is = omega (arith, ints, parts.parts, parts.is);
-      };
-      rest = omega (arith, ints, parts.parts);
-      is = sym parts.is;
-    })
-
 -- the last bits of a number, by the remainder
 pub rem_euclid-wrap : (v w : Width) (n e r : ℤ) → 2 ^ bits v ≤ 2 ^ hbits w → SFits w n
     → e ≡ int_rem_euclid (to_z w (of_z w n)) (pos (2 ^ bits v))

@@ -33,7 +33,7 @@ mod fixed;
 
 pub use f2dot30::F2Dot30;
 pub use f26dot6::F26Dot6;
-pub use fixed::{Fixed, nearest_step};
+pub use fixed::{Fixed, nearest_step, nearest_sum};
 
 /// A signed fixed-point number of 32 bits, `F` of them fraction bits: see its formats [`Fixed`],
 /// [`F26Dot6`] and [`F2Dot30`].
@@ -120,44 +120,56 @@ impl<const F: u32> FixedI32<F> {
     /// Returns `self + other`, or `None` on overflow.
     #[must_use]
     #[inline(always)]
-    pub fn checked_add(self, other: Self) -> Option<Self>
+    pub const fn checked_add(self, other: Self) -> Option<Self>
         ensures variant { IsSome result ↔ FitsBits 32 (bits_of self.entry +ℤ bits_of other.entry) }
         ensures value { IfSome result
             (λ sum. bits_of sum ≡ (bits_of self.entry +ℤ bits_of other.entry)) }
     {
-        Some(Self(self.0.checked_add(other.0)?))
+        match self.0.checked_add(other.0) {
+            Some(bits) => Some(Self(bits)),
+            None => None,
+        }
     }
 
     /// Returns `self - other`, or `None` on overflow.
     #[must_use]
     #[inline(always)]
-    pub fn checked_sub(self, other: Self) -> Option<Self>
+    pub const fn checked_sub(self, other: Self) -> Option<Self>
         ensures variant { IsSome result ↔ FitsBits 32 (bits_of self.entry -ℤ bits_of other.entry) }
         ensures value { IfSome result
             (λ difference. bits_of difference ≡ (bits_of self.entry -ℤ bits_of other.entry)) }
     {
-        Some(Self(self.0.checked_sub(other.0)?))
+        match self.0.checked_sub(other.0) {
+            Some(bits) => Some(Self(bits)),
+            None => None,
+        }
     }
 
     /// Returns `-self`, or `None` on overflow, that is, for `MIN`.
     #[must_use]
     #[inline(always)]
-    pub fn checked_neg(self) -> Option<Self>
+    pub const fn checked_neg(self) -> Option<Self>
         ensures variant { IsSome result ↔ FitsBits 32 (neg_ℤ (bits_of self.entry)) }
         ensures value { IfSome result (λ negated. bits_of negated ≡ neg_ℤ (bits_of self.entry)) }
     {
-        Some(Self(self.0.checked_neg()?))
+        match self.0.checked_neg() {
+            Some(bits) => Some(Self(bits)),
+            None => None,
+        }
     }
 
     /// Returns the absolute value, or `None` on overflow, that is, for `MIN`.
     #[must_use]
     #[inline(always)]
-    pub fn checked_abs(self) -> Option<Self>
+    pub const fn checked_abs(self) -> Option<Self>
         ensures variant { IsSome result ↔ FitsBits 32 (pos (unsigned_abs (bits_of self.entry))) }
         ensures value { IfSome result
             (λ magnitude. bits_of magnitude ≡ pos (unsigned_abs (bits_of self.entry))) }
     {
-        Some(Self(self.0.checked_abs()?))
+        match self.0.checked_abs() {
+            Some(bits) => Some(Self(bits)),
+            None => None,
+        }
     }
 
     /// Returns the raw bits as big-endian bytes.
@@ -191,11 +203,14 @@ where
     /// Rounds to the nearest integer, half up, or returns `None` on overflow.
     #[must_use]
     #[inline(always)]
-    pub fn checked_round(self) -> Option<Self>
+    pub const fn checked_round(self) -> Option<Self>
         ensures variant { IsSome result ↔ FitsBits 32 (rounded F (bits_of self.entry)) }
         ensures value { IfSome result (λ whole. bits_of whole ≡ rounded F (bits_of self.entry)) }
     {
-        Some(Self(round_bits_32(self.0, F)?))
+        match round_bits_32(self.0, F) {
+            Some(bits) => Some(Self(bits)),
+            None => None,
+        }
     }
 
     /// Returns the largest integer less than or equal to `self`.
@@ -213,7 +228,7 @@ where
     pub const fn fract(self) -> Self
         ensures { IsFract F (bits_of self.entry) (bits_of result) }
     {
-        Self(self.0.rem_euclid(1 << F))
+        self.wrapping_sub(self.floor())
     }
 
     /// Parses a decimal as the nearest value, rounding half away from zero.

@@ -116,44 +116,56 @@ impl<const F: u32> FixedI64<F> {
     /// Returns `self + other`, or `None` on overflow.
     #[must_use]
     #[inline(always)]
-    pub fn checked_add(self, other: Self) -> Option<Self>
+    pub const fn checked_add(self, other: Self) -> Option<Self>
         ensures variant { IsSome result ↔ FitsBits 64 (bits_of self.entry +ℤ bits_of other.entry) }
         ensures value { IfSome result
             (λ sum. bits_of sum ≡ (bits_of self.entry +ℤ bits_of other.entry)) }
     {
-        Some(Self(self.0.checked_add(other.0)?))
+        match self.0.checked_add(other.0) {
+            Some(bits) => Some(Self(bits)),
+            None => None,
+        }
     }
 
     /// Returns `self - other`, or `None` on overflow.
     #[must_use]
     #[inline(always)]
-    pub fn checked_sub(self, other: Self) -> Option<Self>
+    pub const fn checked_sub(self, other: Self) -> Option<Self>
         ensures variant { IsSome result ↔ FitsBits 64 (bits_of self.entry -ℤ bits_of other.entry) }
         ensures value { IfSome result
             (λ difference. bits_of difference ≡ (bits_of self.entry -ℤ bits_of other.entry)) }
     {
-        Some(Self(self.0.checked_sub(other.0)?))
+        match self.0.checked_sub(other.0) {
+            Some(bits) => Some(Self(bits)),
+            None => None,
+        }
     }
 
     /// Returns `-self`, or `None` on overflow, that is, for `MIN`.
     #[must_use]
     #[inline(always)]
-    pub fn checked_neg(self) -> Option<Self>
+    pub const fn checked_neg(self) -> Option<Self>
         ensures variant { IsSome result ↔ FitsBits 64 (neg_ℤ (bits_of self.entry)) }
         ensures value { IfSome result (λ negated. bits_of negated ≡ neg_ℤ (bits_of self.entry)) }
     {
-        Some(Self(self.0.checked_neg()?))
+        match self.0.checked_neg() {
+            Some(bits) => Some(Self(bits)),
+            None => None,
+        }
     }
 
     /// Returns the absolute value, or `None` on overflow, that is, for `MIN`.
     #[must_use]
     #[inline(always)]
-    pub fn checked_abs(self) -> Option<Self>
+    pub const fn checked_abs(self) -> Option<Self>
         ensures variant { IsSome result ↔ FitsBits 64 (pos (unsigned_abs (bits_of self.entry))) }
         ensures value { IfSome result
             (λ magnitude. bits_of magnitude ≡ pos (unsigned_abs (bits_of self.entry))) }
     {
-        Some(Self(self.0.checked_abs()?))
+        match self.0.checked_abs() {
+            Some(bits) => Some(Self(bits)),
+            None => None,
+        }
     }
 
     /// Returns the raw bits as big-endian bytes.
@@ -187,11 +199,14 @@ where
     /// Rounds to the nearest integer, half up, or returns `None` on overflow.
     #[must_use]
     #[inline(always)]
-    pub fn checked_round(self) -> Option<Self>
+    pub const fn checked_round(self) -> Option<Self>
         ensures variant { IsSome result ↔ FitsBits 64 (rounded F (bits_of self.entry)) }
         ensures value { IfSome result (λ whole. bits_of whole ≡ rounded F (bits_of self.entry)) }
     {
-        Some(Self(round_bits_64(self.0, F)?))
+        match round_bits_64(self.0, F) {
+            Some(bits) => Some(Self(bits)),
+            None => None,
+        }
     }
 
     /// Returns the largest integer less than or equal to `self`.
@@ -209,7 +224,7 @@ where
     pub const fn fract(self) -> Self
         ensures { IsFract F (bits_of self.entry) (bits_of result) }
     {
-        Self(self.0.rem_euclid(1 << F))
+        self.wrapping_sub(self.floor())
     }
 
     /// Parses a decimal as the nearest value, rounding half away from zero.

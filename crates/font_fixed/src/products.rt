@@ -12,7 +12,7 @@ ghost use Rattle.font_fixed.specs.Operations.{rounded_mul_div};
 /// overflow.
 #[must_use]
 #[inline(always)]
-pub fn product(x: i32, y: i32, f: u32) -> i32
+pub const fn product(x: i32, y: i32, f: u32) -> i32
     requires { (6 ≤ f) × (f ≤ 30) }
     ensures { IsProduct 32 f x y result }
 {
@@ -23,7 +23,7 @@ pub fn product(x: i32, y: i32, f: u32) -> i32
 ///
 /// If `c` is zero, the result is `i32::MAX`, negated if exactly one of `x` and `a` is negative.
 #[must_use]
-#[inline]
+#[inline(always)]
 pub const fn mul_div(x: i32, a: i32, c: i32) -> i32
     ensures { IsMulDiv 32 x a c result }
 {
@@ -36,27 +36,27 @@ pub const fn mul_div(x: i32, a: i32, c: i32) -> i32
 pub const fn low_bits(n: i64) -> i32
     ensures { result ≡ wrap 32 n }
 {
-    (n.rem_euclid(1 << 32) as u32).cast_signed()
+    ((n << 32) >> 32) as i32
 }
 
 /// Multiplies two numbers with `f` fraction bits, rounding half away from zero.
 #[inline(always)]
-pub(crate) fn nearest_product(x: i32, y: i32, f: u32) -> i64
+pub(crate) const fn nearest_product(x: i32, y: i32, f: u32) -> i64
     requires { (6 ≤ f) × (f ≤ 30) }
     ensures { result ≡ near (x *ℤ y) (2 ^ f) }
 {
-    rounded_shift(i64::from(x) * i64::from(y), f)
+    rounded_shift(x as i64 * y as i64, f)
 }
 
 // Returns `n / 2^f`, rounded half away from zero.
 #[inline(always)]
-fn rounded_shift(n: i64, f: u32) -> i64
+const fn rounded_shift(n: i64, f: u32) -> i64
     requires fraction { (6 ≤ f) × (f ≤ 30) }
     requires room { unsigned_abs n ≤ 2 ^ 62 }
     ensures { result ≡ near n (2 ^ f) }
 {
     let half = 1 << (f - 1);
-    (n + half - i64::from(n < 0)) >> f
+    (n + half - (n < 0) as i64) >> f
 }
 
 /// Returns `x * a / c`, rounded half away from zero, or, if `c` is zero, `i32::MAX`, negated if
@@ -72,7 +72,7 @@ pub(crate) const fn nearest_mul_div(x: i32, a: i32, c: i32) -> i64
 }
 
 // Returns `n / d`, rounded half away from zero, or `i32::MAX` if `d` is zero.
-#[inline]
+#[inline(always)]
 const fn rounded_quotient(n: u64, d: u64) -> u64
     requires { (n ≤ 2 ^ 62) × (d ≤ 2 ^ 31) }
     ensures quotient { 0 < d → result ≡ near_magnitude n d }
@@ -83,7 +83,7 @@ const fn rounded_quotient(n: u64, d: u64) -> u64
 }
 
 // Applies a sign to a magnitude.
-#[inline]
+#[inline(always)]
 const fn with_sign(negative: bool, magnitude: u64) -> i64
     requires { magnitude ≤ 2 ^ 62 }
     ensures { result ≡ signed negative magnitude }
@@ -95,7 +95,7 @@ const fn with_sign(negative: bool, magnitude: u64) -> i64
     }
 }
 
-#[inline]
+#[inline(always)]
 const fn differs_in_sign(x: i32, y: i32) -> bool
     ensures { result ≡ differ_in_sign x y }
 {
@@ -103,7 +103,7 @@ const fn differs_in_sign(x: i32, y: i32) -> bool
 }
 
 // Returns the absolute value.
-#[inline]
+#[inline(always)]
 const fn magnitude(x: i32) -> u64
     ensures value { result ≡ unsigned_abs x }
     ensures bound { result ≤ 2 ^ 31 }

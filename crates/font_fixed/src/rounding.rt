@@ -39,37 +39,43 @@ pub const fn floor_bits_64(bits: i64, f: u32) -> i64
 /// Returns the raw value of the integer nearest to a 16-bit value with `f` fraction bits, half up,
 /// or `None` if it does not fit in 16 bits.
 #[inline(always)]
-pub fn round_bits_16(bits: i16, f: u32) -> Option<i16>
+pub const fn round_bits_16(bits: i16, f: u32) -> Option<i16>
     requires { (6 ≤ f) × (f + 2 ≤ 16) }
     ensures variant { IsSome result ↔ FitsBits 16 (rounded f bits) }
     ensures value { IfSome result (λ whole. whole ≡ rounded f bits) }
 {
-    let moved = bits.checked_add(1 << (f - 1))?;
-    Some(floor_bits_16(moved, f))
+    match bits.checked_add(1 << (f - 1)) {
+        Some(moved) => Some(floor_bits_16(moved, f)),
+        None => None,
+    }
 }
 
 /// Returns the raw value of the integer nearest to a 32-bit value with `f` fraction bits, half up,
 /// or `None` if it does not fit in 32 bits.
 #[inline(always)]
-pub fn round_bits_32(bits: i32, f: u32) -> Option<i32>
+pub const fn round_bits_32(bits: i32, f: u32) -> Option<i32>
     requires { (6 ≤ f) × (f + 2 ≤ 32) }
     ensures variant { IsSome result ↔ FitsBits 32 (rounded f bits) }
     ensures value { IfSome result (λ whole. whole ≡ rounded f bits) }
 {
-    let moved = bits.checked_add(1 << (f - 1))?;
-    Some(floor_bits_32(moved, f))
+    match bits.checked_add(1 << (f - 1)) {
+        Some(moved) => Some(floor_bits_32(moved, f)),
+        None => None,
+    }
 }
 
 /// Returns the raw value of the integer nearest to a 64-bit value with `f` fraction bits, half up,
 /// or `None` if it does not fit in 64 bits.
 #[inline(always)]
-pub fn round_bits_64(bits: i64, f: u32) -> Option<i64>
+pub const fn round_bits_64(bits: i64, f: u32) -> Option<i64>
     requires { (6 ≤ f) × (f + 2 ≤ 64) }
     ensures variant { IsSome result ↔ FitsBits 64 (rounded f bits) }
     ensures value { IfSome result (λ whole. whole ≡ rounded f bits) }
 {
-    let moved = bits.checked_add(1 << (f - 1))?;
-    Some(floor_bits_64(moved, f))
+    match bits.checked_add(1 << (f - 1)) {
+        Some(moved) => Some(floor_bits_64(moved, f)),
+        None => None,
+    }
 }
 
 /// Returns `n / 2^f`, rounded half up.
@@ -84,22 +90,28 @@ pub(crate) const fn half_up_32(n: i32, f: u32) -> i32
 
 /// Returns `bits / 2^f`, rounded half up, or `None` if it does not fit in `32 - f` bits.
 #[inline(always)]
-pub(crate) fn narrow_32(bits: i32, f: u32) -> Option<i32>
+pub(crate) const fn narrow_32(bits: i32, f: u32) -> Option<i32>
     requires { (6 ≤ f) × (f + 2 ≤ 32) }
     ensures variant { IsSome result ↔ FitsBits (32 - f) (up bits (2 ^ f)) }
     ensures value { IfSome result (λ number. number ≡ up bits (2 ^ f)) }
 {
-    Some(round_bits_32(bits, f)? >> f)
+    match round_bits_32(bits, f) {
+        Some(whole) => Some(whole >> f),
+        None => None,
+    }
 }
 
 /// Returns `bits / 2^f`, rounded half up, or `None` if it does not fit in `64 - f` bits.
 #[inline(always)]
-pub(crate) fn narrow_64(bits: i64, f: u32) -> Option<i64>
+pub(crate) const fn narrow_64(bits: i64, f: u32) -> Option<i64>
     requires { (6 ≤ f) × (f + 2 ≤ 64) }
     ensures variant { IsSome result ↔ FitsBits (64 - f) (up bits (2 ^ f)) }
     ensures value { IfSome result (λ number. number ≡ up bits (2 ^ f)) }
 {
-    Some(round_bits_64(bits, f)? >> f)
+    match round_bits_64(bits, f) {
+        Some(whole) => Some(whole >> f),
+        None => None,
+    }
 }
 
 /// Returns `n / 2^f`, rounded half up.
@@ -110,4 +122,30 @@ pub(crate) const fn half_up_64(n: i64, f: u32) -> i64
     ensures { result ≡ up n (2 ^ f) }
 {
     ((n >> (f - 1)) + 1) >> 1
+}
+
+/// Returns the number, or `None` if it does not fit in 16 bits.
+#[inline(always)]
+pub(crate) const fn fitting_16(n: i32) -> Option<i16>
+    ensures variant { IsSome result ↔ FitsBits 16 n }
+    ensures value { IfSome result (λ number. number ≡ n) }
+{
+    if n < -0x8000 || n > 0x7FFF {
+        None
+    } else {
+        Some(n as i16)
+    }
+}
+
+/// Returns the number, or `None` if it does not fit in 32 bits.
+#[inline(always)]
+pub(crate) const fn fitting_32(n: i64) -> Option<i32>
+    ensures variant { IsSome result ↔ FitsBits 32 n }
+    ensures value { IfSome result (λ number. number ≡ n) }
+{
+    if n < -0x8000_0000 || n > 0x7FFF_FFFF {
+        None
+    } else {
+        Some(n as i32)
+    }
 }

@@ -82,29 +82,41 @@ impl<const F: u32> FixedI64<F> {
     /// Returns `self + other`, or `None` on overflow.
     #[must_use]
     #[inline(always)]
-    pub fn checked_add(self, other: Self) -> Option<Self> {
-        Some(Self(self.0.checked_add(other.0)?))
+    pub const fn checked_add(self, other: Self) -> Option<Self> {
+        match self.0.checked_add(other.0) {
+            Some(bits) => Some(Self(bits)),
+            None => None,
+        }
     }
 
     /// Returns `self - other`, or `None` on overflow.
     #[must_use]
     #[inline(always)]
-    pub fn checked_sub(self, other: Self) -> Option<Self> {
-        Some(Self(self.0.checked_sub(other.0)?))
+    pub const fn checked_sub(self, other: Self) -> Option<Self> {
+        match self.0.checked_sub(other.0) {
+            Some(bits) => Some(Self(bits)),
+            None => None,
+        }
     }
 
     /// Returns `-self`, or `None` on overflow, that is, for `MIN`.
     #[must_use]
     #[inline(always)]
-    pub fn checked_neg(self) -> Option<Self> {
-        Some(Self(self.0.checked_neg()?))
+    pub const fn checked_neg(self) -> Option<Self> {
+        match self.0.checked_neg() {
+            Some(bits) => Some(Self(bits)),
+            None => None,
+        }
     }
 
     /// Returns the absolute value, or `None` on overflow, that is, for `MIN`.
     #[must_use]
     #[inline(always)]
-    pub fn checked_abs(self) -> Option<Self> {
-        Some(Self(self.0.checked_abs()?))
+    pub const fn checked_abs(self) -> Option<Self> {
+        match self.0.checked_abs() {
+            Some(bits) => Some(Self(bits)),
+            None => None,
+        }
     }
 
     /// Returns the raw bits as big-endian bytes.
@@ -129,8 +141,11 @@ where
     /// Rounds to the nearest integer, half up, or returns `None` on overflow.
     #[must_use]
     #[inline(always)]
-    pub fn checked_round(self) -> Option<Self> {
-        Some(Self(round_bits_64(self.0, F)?))
+    pub const fn checked_round(self) -> Option<Self> {
+        match round_bits_64(self.0, F) {
+            Some(bits) => Some(Self(bits)),
+            None => None,
+        }
     }
 
     /// Returns the largest integer less than or equal to `self`.
@@ -144,7 +159,7 @@ where
     #[must_use]
     #[inline(always)]
     pub const fn fract(self) -> Self {
-        Self(self.0.rem_euclid(1 << F))
+        self.wrapping_sub(self.floor())
     }
 
     /// Parses a decimal as the nearest value, rounding half away from zero.

@@ -6,7 +6,7 @@
 /// overflow.
 #[must_use]
 #[inline(always)]
-pub fn product(x: i32, y: i32, f: u32) -> i32 {
+pub const fn product(x: i32, y: i32, f: u32) -> i32 {
     low_bits(nearest_product(x, y, f))
 }
 
@@ -14,7 +14,7 @@ pub fn product(x: i32, y: i32, f: u32) -> i32 {
 ///
 /// If `c` is zero, the result is `i32::MAX`, negated if exactly one of `x` and `a` is negative.
 #[must_use]
-#[inline]
+#[inline(always)]
 pub const fn mul_div(x: i32, a: i32, c: i32) -> i32 {
     low_bits(nearest_mul_div(x, a, c))
 }
@@ -23,20 +23,20 @@ pub const fn mul_div(x: i32, a: i32, c: i32) -> i32 {
 #[must_use]
 #[inline(always)]
 pub const fn low_bits(n: i64) -> i32 {
-    (n.rem_euclid(1 << 32) as u32).cast_signed()
+    ((n << 32) >> 32) as i32
 }
 
 /// Multiplies two numbers with `f` fraction bits, rounding half away from zero.
 #[inline(always)]
-pub(crate) fn nearest_product(x: i32, y: i32, f: u32) -> i64 {
-    rounded_shift(i64::from(x) * i64::from(y), f)
+pub(crate) const fn nearest_product(x: i32, y: i32, f: u32) -> i64 {
+    rounded_shift(x as i64 * y as i64, f)
 }
 
 // Returns `n / 2^f`, rounded half away from zero.
 #[inline(always)]
-fn rounded_shift(n: i64, f: u32) -> i64 {
+const fn rounded_shift(n: i64, f: u32) -> i64 {
     let half = 1 << (f - 1);
-    (n + half - i64::from(n < 0)) >> f
+    (n + half - (n < 0) as i64) >> f
 }
 
 /// Returns `x * a / c`, rounded half away from zero, or, if `c` is zero, `i32::MAX`, negated if
@@ -49,13 +49,13 @@ pub(crate) const fn nearest_mul_div(x: i32, a: i32, c: i32) -> i64 {
 }
 
 // Returns `n / d`, rounded half away from zero, or `i32::MAX` if `d` is zero.
-#[inline]
+#[inline(always)]
 const fn rounded_quotient(n: u64, d: u64) -> u64 {
     if d == 0 { 0x7FFF_FFFF } else { (n + d / 2) / d }
 }
 
 // Applies a sign to a magnitude.
-#[inline]
+#[inline(always)]
 const fn with_sign(negative: bool, magnitude: u64) -> i64 {
     if negative {
         -(magnitude as i64)
@@ -64,13 +64,13 @@ const fn with_sign(negative: bool, magnitude: u64) -> i64 {
     }
 }
 
-#[inline]
+#[inline(always)]
 const fn differs_in_sign(x: i32, y: i32) -> bool {
     x.is_negative() != y.is_negative()
 }
 
 // Returns the absolute value.
-#[inline]
+#[inline(always)]
 const fn magnitude(x: i32) -> u64 {
     x.unsigned_abs() as u64
 }

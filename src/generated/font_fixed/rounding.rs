@@ -26,25 +26,31 @@ pub const fn floor_bits_64(bits: i64, f: u32) -> i64 {
 /// Returns the raw value of the integer nearest to a 16-bit value with `f` fraction bits, half up,
 /// or `None` if it does not fit in 16 bits.
 #[inline(always)]
-pub fn round_bits_16(bits: i16, f: u32) -> Option<i16> {
-    let moved = bits.checked_add(1 << (f - 1))?;
-    Some(floor_bits_16(moved, f))
+pub const fn round_bits_16(bits: i16, f: u32) -> Option<i16> {
+    match bits.checked_add(1 << (f - 1)) {
+        Some(moved) => Some(floor_bits_16(moved, f)),
+        None => None,
+    }
 }
 
 /// Returns the raw value of the integer nearest to a 32-bit value with `f` fraction bits, half up,
 /// or `None` if it does not fit in 32 bits.
 #[inline(always)]
-pub fn round_bits_32(bits: i32, f: u32) -> Option<i32> {
-    let moved = bits.checked_add(1 << (f - 1))?;
-    Some(floor_bits_32(moved, f))
+pub const fn round_bits_32(bits: i32, f: u32) -> Option<i32> {
+    match bits.checked_add(1 << (f - 1)) {
+        Some(moved) => Some(floor_bits_32(moved, f)),
+        None => None,
+    }
 }
 
 /// Returns the raw value of the integer nearest to a 64-bit value with `f` fraction bits, half up,
 /// or `None` if it does not fit in 64 bits.
 #[inline(always)]
-pub fn round_bits_64(bits: i64, f: u32) -> Option<i64> {
-    let moved = bits.checked_add(1 << (f - 1))?;
-    Some(floor_bits_64(moved, f))
+pub const fn round_bits_64(bits: i64, f: u32) -> Option<i64> {
+    match bits.checked_add(1 << (f - 1)) {
+        Some(moved) => Some(floor_bits_64(moved, f)),
+        None => None,
+    }
 }
 
 /// Returns `n / 2^f`, rounded half up.
@@ -55,18 +61,44 @@ pub(crate) const fn half_up_32(n: i32, f: u32) -> i32 {
 
 /// Returns `bits / 2^f`, rounded half up, or `None` if it does not fit in `32 - f` bits.
 #[inline(always)]
-pub(crate) fn narrow_32(bits: i32, f: u32) -> Option<i32> {
-    Some(round_bits_32(bits, f)? >> f)
+pub(crate) const fn narrow_32(bits: i32, f: u32) -> Option<i32> {
+    match round_bits_32(bits, f) {
+        Some(whole) => Some(whole >> f),
+        None => None,
+    }
 }
 
 /// Returns `bits / 2^f`, rounded half up, or `None` if it does not fit in `64 - f` bits.
 #[inline(always)]
-pub(crate) fn narrow_64(bits: i64, f: u32) -> Option<i64> {
-    Some(round_bits_64(bits, f)? >> f)
+pub(crate) const fn narrow_64(bits: i64, f: u32) -> Option<i64> {
+    match round_bits_64(bits, f) {
+        Some(whole) => Some(whole >> f),
+        None => None,
+    }
 }
 
 /// Returns `n / 2^f`, rounded half up.
 #[inline(always)]
 pub(crate) const fn half_up_64(n: i64, f: u32) -> i64 {
     ((n >> (f - 1)) + 1) >> 1
+}
+
+/// Returns the number, or `None` if it does not fit in 16 bits.
+#[inline(always)]
+pub(crate) const fn fitting_16(n: i32) -> Option<i16> {
+    if n < -0x8000 || n > 0x7FFF {
+        None
+    } else {
+        Some(n as i16)
+    }
+}
+
+/// Returns the number, or `None` if it does not fit in 32 bits.
+#[inline(always)]
+pub(crate) const fn fitting_32(n: i64) -> Option<i32> {
+    if n < -0x8000_0000 || n > 0x7FFF_FFFF {
+        None
+    } else {
+        Some(n as i32)
+    }
 }

@@ -11,7 +11,7 @@ ghost use Rattle.font_fixed.specs.F48Dot16.{f48dot16_bits};
 
 use super::FixedI16;
 use crate::formats::Format;
-use crate::{F48Dot16, Fixed, nearest_step};
+use crate::{F48Dot16, Fixed, nearest_step, nearest_sum};
 
 /// A signed 2.14 fixed-point number, such as a coordinate of a normalized design space.
 ///
@@ -89,5 +89,18 @@ impl F2Dot14 {
         ensures value { IfSome result (λ number. bits_of number ≡ up moved 65536) }
     {
         Some(Self(i16::try_from(nearest_step(moved)).ok()?))
+    }
+
+    /// Adds a sum of deltas and rounds to the nearest value, half up, or returns `None` if that is
+    /// out of range: `round_delta` of `apply_delta`, in 64 bits.
+    #[must_use]
+    #[inline]
+    pub fn checked_add_delta(self, delta: F48Dot16) -> Option<Self>
+        ensures variant { IsSome result
+            ↔ FitsBits 16 (up (bits_of self *ℤ pos 65536 +ℤ f48dot16_bits delta) 65536) }
+        ensures value { IfSome result (λ number. bits_of number
+            ≡ up (bits_of self *ℤ pos 65536 +ℤ f48dot16_bits delta) 65536) }
+    {
+        Some(Self(i16::try_from(nearest_sum(i32::from(self.0), delta)).ok()?))
     }
 }

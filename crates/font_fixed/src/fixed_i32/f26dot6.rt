@@ -10,7 +10,7 @@ ghost use Rattle.font_fixed.specs.F26Dot6.{f26dot6_bits as bits_of};
 
 use super::FixedI32;
 use crate::formats::Format;
-use crate::{mul_div, narrow_32, nearest_mul_div, nearest_product, product};
+use crate::{fitting_32, mul_div, narrow_32, nearest_mul_div, nearest_product, product};
 use std::ops::{Div, DivAssign, Mul, MulAssign};
 
 /// A signed 26.6 fixed-point number, the unit of scaled outlines.
@@ -57,20 +57,23 @@ impl F26Dot6 {
     /// Returns `self * other`, rounded half away from zero, or `None` on overflow.
     #[must_use]
     #[inline]
-    pub fn checked_mul(self, other: Self) -> Option<Self>
+    pub const fn checked_mul(self, other: Self) -> Option<Self>
         ensures variant { IsSome result
             ↔ FitsBits 32 (near (bits_of self *ℤ bits_of other) (2 ^ 6)) }
         ensures value { IfSome result
             (λ product. bits_of product ≡ near (bits_of self *ℤ bits_of other) (2 ^ 6)) }
     {
-        Some(Self(i32::try_from(nearest_product(self.0, other.0, 6)).ok()?))
+        match fitting_32(nearest_product(self.0, other.0, 6)) {
+            Some(bits) => Some(Self(bits)),
+            None => None,
+        }
     }
 
     /// Returns `self / other`, rounded half away from zero, or `None` on overflow or division by
     /// zero.
     #[must_use]
     #[inline]
-    pub fn checked_div(self, other: Self) -> Option<Self>
+    pub const fn checked_div(self, other: Self) -> Option<Self>
         ensures variant { IsSome result ↔ ((bits_of other ≢ pos 0)
             × FitsBits 32 (rounded_mul_div (bits_of self) (pos (2 ^ 6)) (bits_of other))) }
         ensures value { IfSome result (λ quotient. bits_of quotient
@@ -79,7 +82,10 @@ impl F26Dot6 {
         if other.0 == 0 {
             return None;
         }
-        Some(Self(i32::try_from(nearest_mul_div(self.0, Self::ONE.0, other.0)).ok()?))
+        match fitting_32(nearest_mul_div(self.0, Self::ONE.0, other.0)) {
+            Some(bits) => Some(Self(bits)),
+            None => None,
+        }
     }
 
     /// Converts an integer from -33554432 to 33554431, wrapping on overflow.
@@ -95,11 +101,14 @@ impl F26Dot6 {
     /// Converts an integer from -33554432 to 33554431, or returns `None` on overflow.
     #[must_use]
     #[inline]
-    pub fn checked_from_i32(number: i32) -> Option<Self>
+    pub const fn checked_from_i32(number: i32) -> Option<Self>
         ensures variant { IsSome result ↔ FitsBits 32 (number *ℤ pos (2 ^ 6)) }
         ensures value { IfSome result (λ long. bits_of long ≡ (number *ℤ pos (2 ^ 6))) }
     {
-        Some(Self(number.checked_mul(64)?))
+        match number.checked_mul(64) {
+            Some(bits) => Some(Self(bits)),
+            None => None,
+        }
     }
 
     /// Rounds to the nearest integer, half up, wrapped to 26 bits: from 33554431.5 on it gives
@@ -115,7 +124,7 @@ impl F26Dot6 {
     /// Rounds to the nearest integer, half up, or returns `None` if `to_i32` wraps.
     #[must_use]
     #[inline]
-    pub fn checked_to_i32(self) -> Option<i32>
+    pub const fn checked_to_i32(self) -> Option<i32>
         ensures variant { IsSome result ↔ FitsBits 26 (up (bits_of self) (2 ^ 6)) }
         ensures value { IfSome result (λ number. number ≡ up (bits_of self) (2 ^ 6)) }
     {
@@ -156,7 +165,7 @@ impl Div for F26Dot6 {
     ghost div_gives = { λ x y quotient.
         IsQuotient 32 6 (bits_of x) (bits_of y) (bits_of quotient) };
 
-    #[inline]
+    #[inline(always)]
     fn div(self, other: F26Dot6) -> F26Dot6 {
         Self(mul_div(self.0, Self::ONE.0, other.0))
     }

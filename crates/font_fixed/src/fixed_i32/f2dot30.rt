@@ -14,7 +14,7 @@ ghost use Rattle.font_fixed.specs.F2Dot30.{f2dot30_bits as bits_of, f2dot30_of a
 
 use super::FixedI32;
 use crate::formats::Format;
-use crate::{F2Dot14, Fixed, half_up_32};
+use crate::{F2Dot14, Fixed, fitting_16, half_up_32};
 use font_base::{FixedSize, IdentityEq, Scalar};
 
 /// A signed 2.30 fixed-point number.
@@ -70,12 +70,15 @@ impl F2Dot30 {
     /// Converts from [`Fixed`], or returns `None` on overflow.
     #[must_use]
     #[inline]
-    pub fn checked_from_fixed(number: Fixed) -> Option<Self>
+    pub const fn checked_from_fixed(number: Fixed) -> Option<Self>
         ensures variant { IsSome result ↔ FitsBits 32 (fixed_bits number *ℤ pos (2 ^ 14)) }
         ensures value { IfSome result
             (λ long. bits_of long ≡ (fixed_bits number *ℤ pos (2 ^ 14))) }
     {
-        Some(Self(number.to_bits().checked_mul(0x4000)?))
+        match number.to_bits().checked_mul(0x4000) {
+            Some(bits) => Some(Self(bits)),
+            None => None,
+        }
     }
 
     /// Converts from [`F2Dot14`], exactly.
@@ -108,11 +111,14 @@ impl F2Dot30 {
     /// Rounds to the nearest [`F2Dot14`], half up, or returns `None` on overflow.
     #[must_use]
     #[inline]
-    pub fn checked_to_f2dot14(self) -> Option<F2Dot14>
+    pub const fn checked_to_f2dot14(self) -> Option<F2Dot14>
         ensures variant { IsSome result ↔ FitsBits 16 (up (bits_of self) (2 ^ 16)) }
         ensures value { IfSome result (λ narrow. f2dot14_bits narrow ≡ up (bits_of self) (2 ^ 16)) }
     {
-        Some(F2Dot14::from_bits(i16::try_from(half_up_32(self.0, 16)).ok()?))
+        match fitting_16(half_up_32(self.0, 16)) {
+            Some(bits) => Some(F2Dot14::from_bits(bits)),
+            None => None,
+        }
     }
 }
 

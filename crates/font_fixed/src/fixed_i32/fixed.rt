@@ -2,7 +2,7 @@
 #![tactic(auto, using(crate::proofs::Rules::number_code))]
 
 ghost use Rattle.std.specs.Prelude.{◌≡◌, ◌≢◌, ◌^◌, ◌↔◌, ℤ, pos, ◌+ℤ◌, ◌*ℤ◌, refl};
-ghost use Rattle.std.specs.Prelude.{Some, IsSome, IfSome};
+ghost use Rattle.std.specs.Prelude.{◌≤◌, Some, IsSome, IfSome, unsigned_abs};
 ghost use Rattle.std.proofs.Common.{lit<, lit≤};
 ghost use Rattle.font_base.specs.Wrap.{FitsBits, fits_bits, wrap};
 ghost use Rattle.font_base.specs.Bytes.{bytes_of, signed_numeral};
@@ -18,8 +18,8 @@ ghost use Rattle.font_fixed.specs.F48Dot16.{f48dot16_bits};
 use super::FixedI32;
 use crate::formats::Format;
 use crate::{
-    F2Dot14, F26Dot6, F48Dot16, half_up_32, mul_div, narrow_32, nearest_mul_div, nearest_product,
-    product,
+    F2Dot14, F26Dot6, F48Dot16, fitting_16, fitting_32, half_up_32, half_up_64, mul_div, narrow_32,
+    nearest_mul_div, nearest_product, product,
 };
 use font_base::{FixedSize, IdentityEq, Scalar};
 use std::ops::{Div, DivAssign, Mul, MulAssign};
@@ -71,7 +71,7 @@ impl Fixed {
     /// If `c` is zero, the result is [`Fixed::MAX`], negated if exactly one of `self` and `a` is
     /// negative.
     #[must_use]
-    #[inline]
+    #[inline(always)]
     pub const fn mul_div(&self, a: Self, c: Self) -> Self
         ensures { IsMulDiv 32 (bits_of self.now) (bits_of a) (bits_of c)
             (bits_of result) }
@@ -82,20 +82,23 @@ impl Fixed {
     /// Returns `self * other`, rounded half away from zero, or `None` on overflow.
     #[must_use]
     #[inline]
-    pub fn checked_mul(self, other: Self) -> Option<Self>
+    pub const fn checked_mul(self, other: Self) -> Option<Self>
         ensures variant { IsSome result
             ↔ FitsBits 32 (near (bits_of self *ℤ bits_of other) (2 ^ 16)) }
         ensures value { IfSome result
             (λ product. bits_of product ≡ near (bits_of self *ℤ bits_of other) (2 ^ 16)) }
     {
-        Some(Self(i32::try_from(nearest_product(self.0, other.0, 16)).ok()?))
+        match fitting_32(nearest_product(self.0, other.0, 16)) {
+            Some(bits) => Some(Self(bits)),
+            None => None,
+        }
     }
 
     /// Returns `self / other`, rounded half away from zero, or `None` on overflow or division by
     /// zero.
     #[must_use]
     #[inline]
-    pub fn checked_div(self, other: Self) -> Option<Self>
+    pub const fn checked_div(self, other: Self) -> Option<Self>
         ensures variant { IsSome result ↔ ((bits_of other ≢ pos 0)
             × FitsBits 32 (rounded_mul_div (bits_of self) (pos (2 ^ 16)) (bits_of other))) }
         ensures value { IfSome result (λ quotient. bits_of quotient
@@ -108,7 +111,7 @@ impl Fixed {
     /// is zero.
     #[must_use]
     #[inline]
-    pub fn checked_mul_div(self, a: Self, c: Self) -> Option<Self>
+    pub const fn checked_mul_div(self, a: Self, c: Self) -> Option<Self>
         ensures variant { IsSome result ↔ ((bits_of c ≢ pos 0)
             × FitsBits 32 (rounded_mul_div (bits_of self) (bits_of a) (bits_of c))) }
         ensures value { IfSome result (λ quotient. bits_of quotient
@@ -117,7 +120,10 @@ impl Fixed {
         if c.0 == 0 {
             return None;
         }
-        Some(Self(i32::try_from(nearest_mul_div(self.0, a.0, c.0)).ok()?))
+        match fitting_32(nearest_mul_div(self.0, a.0, c.0)) {
+            Some(bits) => Some(Self(bits)),
+            None => None,
+        }
     }
 
     /// Converts an integer from -32768 to 32767, wrapping on overflow.
@@ -133,11 +139,14 @@ impl Fixed {
     /// Converts an integer from -32768 to 32767, or returns `None` on overflow.
     #[must_use]
     #[inline]
-    pub fn checked_from_i32(number: i32) -> Option<Self>
+    pub const fn checked_from_i32(number: i32) -> Option<Self>
         ensures variant { IsSome result ↔ FitsBits 32 (number *ℤ pos (2 ^ 16)) }
         ensures value { IfSome result (λ fixed. bits_of fixed ≡ (number *ℤ pos (2 ^ 16))) }
     {
-        Some(Self(number.checked_mul(0x1_0000)?))
+        match number.checked_mul(0x1_0000) {
+            Some(bits) => Some(Self(bits)),
+            None => None,
+        }
     }
 
     /// Rounds to the nearest integer, half up, wrapped to 16 bits: from 32767.5 on it gives -32768.
@@ -152,7 +161,7 @@ impl Fixed {
     /// Rounds to the nearest integer, half up, or returns `None` if `to_i32` wraps.
     #[must_use]
     #[inline]
-    pub fn checked_to_i32(self) -> Option<i32>
+    pub const fn checked_to_i32(self) -> Option<i32>
         ensures variant { IsSome result ↔ FitsBits 16 (up (bits_of self) (2 ^ 16)) }
         ensures value { IfSome result (λ number. number ≡ up (bits_of self) (2 ^ 16)) }
     {
@@ -172,11 +181,14 @@ impl Fixed {
     /// Rounds to the nearest [`F26Dot6`], half up, or returns `None` if `to_f26dot6` wraps.
     #[must_use]
     #[inline]
-    pub fn checked_to_f26dot6(self) -> Option<F26Dot6>
+    pub const fn checked_to_f26dot6(self) -> Option<F26Dot6>
         ensures variant { IsSome result ↔ FitsBits 22 (up (bits_of self) (2 ^ 10)) }
         ensures value { IfSome result (λ long. f26dot6_bits long ≡ up (bits_of self) (2 ^ 10)) }
     {
-        Some(F26Dot6::from_bits(narrow_32(self.0, 10)?))
+        match narrow_32(self.0, 10) {
+            Some(bits) => Some(F26Dot6::from_bits(bits)),
+            None => None,
+        }
     }
 
     /// Rounds to the nearest [`F2Dot14`], half up, wrapping on overflow.
@@ -191,11 +203,14 @@ impl Fixed {
     /// Rounds to the nearest [`F2Dot14`], half up, or returns `None` on overflow.
     #[must_use]
     #[inline]
-    pub fn checked_to_f2dot14(self) -> Option<F2Dot14>
+    pub const fn checked_to_f2dot14(self) -> Option<F2Dot14>
         ensures variant { IsSome result ↔ FitsBits 16 (up (bits_of self) 4) }
         ensures value { IfSome result (λ narrow. f2dot14_bits narrow ≡ up (bits_of self) 4) }
     {
-        Some(F2Dot14::from_bits(i16::try_from(half_up_32(self.0, 2)).ok()?))
+        match fitting_16(half_up_32(self.0, 2)) {
+            Some(bits) => Some(F2Dot14::from_bits(bits)),
+            None => None,
+        }
     }
 
     /// Converts to [`F48Dot16`], exactly.
@@ -244,8 +259,30 @@ impl Fixed {
         Some(Self(i32::try_from(nearest_step(moved)).ok()?))
     }
 
-    // A quarter of the raw bits, rounded half up, wrapped to 30 bits.
+    /// Adds a sum of deltas and rounds to the nearest value, half up, or returns `None` if that is
+    /// out of range: `round_delta` of `apply_delta`, in 64 bits.
+    ///
+    /// ```
+    /// use font_types::{F48Dot16, Fixed};
+    /// let delta = F48Dot16::from_bits(0x2_8000);
+    /// assert_eq!(Fixed::ONE.checked_add_delta(delta), Some(Fixed::from_bits(0x1_0003)));
+    /// ```
+    #[must_use]
     #[inline]
+    pub const fn checked_add_delta(self, delta: F48Dot16) -> Option<Self>
+        ensures variant { IsSome result
+            ↔ FitsBits 32 (up (bits_of self *ℤ pos 65536 +ℤ f48dot16_bits delta) 65536) }
+        ensures value { IfSome result (λ number. bits_of number
+            ≡ up (bits_of self *ℤ pos 65536 +ℤ f48dot16_bits delta) 65536) }
+    {
+        match fitting_32(nearest_sum(self.0, delta)) {
+            Some(bits) => Some(Self(bits)),
+            None => None,
+        }
+    }
+
+    // A quarter of the raw bits, rounded half up, wrapped to 30 bits.
+    #[inline(always)]
     const fn quarter(self) -> i32
         ensures { IsNarrowed 30 (bits_of self) 4 result }
     {
@@ -263,12 +300,31 @@ pub fn nearest_step(moved: i128) -> i128
     ((moved >> 15) + 1) >> 1
 }
 
-// Truncates to the low 16 bits.
+/// Returns the sum of an integer and a delta, rounded to the nearest integer, half up.
+#[must_use]
 #[inline]
+pub const fn nearest_sum(number: i32, delta: F48Dot16) -> i64
+    ensures { result ≡ up (number *ℤ pos 65536 +ℤ f48dot16_bits delta) 65536 }
+{
+    number as i64 + nearest_integer(delta)
+}
+
+// Rounds to the nearest integer, half up.
+#[inline]
+#[tactic(auto, using(crate::proofs::Deltas::few_integers))]
+const fn nearest_integer(delta: F48Dot16) -> i64
+    ensures value { result ≡ up (f48dot16_bits delta) 65536 }
+    ensures bound { unsigned_abs result ≤ 2 ^ 47 }
+{
+    half_up_64(delta.to_bits(), 16)
+}
+
+// Truncates to the low 16 bits.
+#[inline(always)]
 const fn low_half(n: i32) -> i16
     ensures { result ≡ wrap 16 n }
 {
-    (n.rem_euclid(0x1_0000) as u16).cast_signed()
+    ((n << 16) >> 16) as i16
 }
 
 /// Rounds half away from zero, and wraps on overflow.
@@ -304,7 +360,7 @@ impl Div for Fixed {
     ghost div_gives = { λ x y quotient.
         IsQuotient 32 16 (bits_of x) (bits_of y) (bits_of quotient) };
 
-    #[inline]
+    #[inline(always)]
     fn div(self, other: Fixed) -> Fixed {
         self.mul_div(Self::ONE, other)
     }

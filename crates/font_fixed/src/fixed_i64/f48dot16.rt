@@ -11,7 +11,7 @@ ghost use Rattle.font_fixed.specs.Fixed.{fixed_bits};
 
 use super::FixedI64;
 use crate::formats::Format;
-use crate::{Fixed, half_up_64, low_bits, narrow_64};
+use crate::{Fixed, fitting_32, half_up_64, low_bits, narrow_64};
 
 /// A signed 48.16 fixed-point number, such as a sum of deltas.
 ///
@@ -66,11 +66,14 @@ impl F48Dot16 {
     /// Converts an integer from `-2^47` to `2^47 - 1`, or returns `None` on overflow.
     #[must_use]
     #[inline]
-    pub fn checked_from_i64(number: i64) -> Option<Self>
+    pub const fn checked_from_i64(number: i64) -> Option<Self>
         ensures variant { IsSome result ↔ FitsBits 64 (number *ℤ pos (2 ^ 16)) }
         ensures value { IfSome result (λ wide. bits_of wide ≡ (number *ℤ pos (2 ^ 16))) }
     {
-        Some(Self(number.checked_mul(0x1_0000)?))
+        match number.checked_mul(0x1_0000) {
+            Some(bits) => Some(Self(bits)),
+            None => None,
+        }
     }
 
     /// Converts an integer, exactly.
@@ -95,7 +98,7 @@ impl F48Dot16 {
     /// Rounds to the nearest integer, half up, or returns `None` if `to_i64` wraps.
     #[must_use]
     #[inline]
-    pub fn checked_to_i64(self) -> Option<i64>
+    pub const fn checked_to_i64(self) -> Option<i64>
         ensures variant { IsSome result ↔ FitsBits 48 (up (bits_of self) (2 ^ 16)) }
         ensures value { IfSome result (λ number. number ≡ up (bits_of self) (2 ^ 16)) }
     {
@@ -114,21 +117,24 @@ impl F48Dot16 {
     /// Rounds to the nearest integer, half up, or returns `None` on overflow.
     #[must_use]
     #[inline]
-    pub fn checked_to_i32(self) -> Option<i32>
+    pub const fn checked_to_i32(self) -> Option<i32>
         ensures variant { IsSome result ↔ FitsBits 32 (up (bits_of self) (2 ^ 16)) }
         ensures value { IfSome result (λ number. number ≡ up (bits_of self) (2 ^ 16)) }
     {
-        i32::try_from(half_up_64(self.0, 16)).ok()
+        fitting_32(half_up_64(self.0, 16))
     }
 
     /// Converts to [`Fixed`], or returns `None` on overflow.
     #[must_use]
     #[inline]
-    pub fn checked_to_fixed(self) -> Option<Fixed>
+    pub const fn checked_to_fixed(self) -> Option<Fixed>
         ensures variant { IsSome result ↔ FitsBits 32 (bits_of self) }
         ensures value { IfSome result (λ fixed. fixed_bits fixed ≡ bits_of self) }
     {
-        Some(Fixed::from_bits(i32::try_from(self.0).ok()?))
+        match fitting_32(self.0) {
+            Some(bits) => Some(Fixed::from_bits(bits)),
+            None => None,
+        }
     }
 
     /// Converts to [`Fixed`], wrapping on overflow.

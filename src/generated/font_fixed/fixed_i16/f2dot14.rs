@@ -4,7 +4,7 @@
 
 use super::FixedI16;
 use crate::font_fixed::formats::Format;
-use crate::font_fixed::{F48Dot16, Fixed, nearest_step};
+use crate::font_fixed::{F48Dot16, Fixed, nearest_step, nearest_sum};
 
 /// A signed 2.14 fixed-point number, such as a coordinate of a normalized design space.
 ///
@@ -69,5 +69,15 @@ impl F2Dot14 {
     #[inline]
     pub fn round_delta(moved: i128) -> Option<Self> {
         Some(Self(i16::try_from(nearest_step(moved)).ok()?))
+    }
+
+    /// Adds a sum of deltas and rounds to the nearest value, half up, or returns `None` if that is
+    /// out of range: `round_delta` of `apply_delta`, in 64 bits.
+    #[must_use]
+    #[inline]
+    pub fn checked_add_delta(self, delta: F48Dot16) -> Option<Self> {
+        Some(Self(
+            i16::try_from(nearest_sum(i32::from(self.0), delta)).ok()?,
+        ))
     }
 }

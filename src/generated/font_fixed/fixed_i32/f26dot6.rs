@@ -4,7 +4,9 @@
 
 use super::FixedI32;
 use crate::font_fixed::formats::Format;
-use crate::font_fixed::{mul_div, narrow_32, nearest_mul_div, nearest_product, product};
+use crate::font_fixed::{
+    fitting_32, mul_div, narrow_32, nearest_mul_div, nearest_product, product,
+};
 use core::ops::{Div, DivAssign, Mul, MulAssign};
 
 /// A signed 26.6 fixed-point number, the unit of scaled outlines.
@@ -45,23 +47,25 @@ impl F26Dot6 {
     /// Returns `self * other`, rounded half away from zero, or `None` on overflow.
     #[must_use]
     #[inline]
-    pub fn checked_mul(self, other: Self) -> Option<Self> {
-        Some(Self(
-            i32::try_from(nearest_product(self.0, other.0, 6)).ok()?,
-        ))
+    pub const fn checked_mul(self, other: Self) -> Option<Self> {
+        match fitting_32(nearest_product(self.0, other.0, 6)) {
+            Some(bits) => Some(Self(bits)),
+            None => None,
+        }
     }
 
     /// Returns `self / other`, rounded half away from zero, or `None` on overflow or division by
     /// zero.
     #[must_use]
     #[inline]
-    pub fn checked_div(self, other: Self) -> Option<Self> {
+    pub const fn checked_div(self, other: Self) -> Option<Self> {
         if other.0 == 0 {
             return None;
         }
-        Some(Self(
-            i32::try_from(nearest_mul_div(self.0, Self::ONE.0, other.0)).ok()?,
-        ))
+        match fitting_32(nearest_mul_div(self.0, Self::ONE.0, other.0)) {
+            Some(bits) => Some(Self(bits)),
+            None => None,
+        }
     }
 
     /// Converts an integer from -33554432 to 33554431, wrapping on overflow.
@@ -74,8 +78,11 @@ impl F26Dot6 {
     /// Converts an integer from -33554432 to 33554431, or returns `None` on overflow.
     #[must_use]
     #[inline]
-    pub fn checked_from_i32(number: i32) -> Option<Self> {
-        Some(Self(number.checked_mul(64)?))
+    pub const fn checked_from_i32(number: i32) -> Option<Self> {
+        match number.checked_mul(64) {
+            Some(bits) => Some(Self(bits)),
+            None => None,
+        }
     }
 
     /// Rounds to the nearest integer, half up, wrapped to 26 bits: from 33554431.5 on it gives
@@ -89,7 +96,7 @@ impl F26Dot6 {
     /// Rounds to the nearest integer, half up, or returns `None` if `to_i32` wraps.
     #[must_use]
     #[inline]
-    pub fn checked_to_i32(self) -> Option<i32> {
+    pub const fn checked_to_i32(self) -> Option<i32> {
         narrow_32(self.0, 6)
     }
 }
@@ -118,7 +125,7 @@ impl MulAssign for F26Dot6 {
 impl Div for F26Dot6 {
     type Output = F26Dot6;
 
-    #[inline]
+    #[inline(always)]
     fn div(self, other: F26Dot6) -> F26Dot6 {
         Self(mul_div(self.0, Self::ONE.0, other.0))
     }

@@ -5,7 +5,7 @@
 use super::FixedI32;
 use crate::font_base::{FixedSize, IdentityEq, Scalar};
 use crate::font_fixed::formats::Format;
-use crate::font_fixed::{F2Dot14, Fixed, half_up_32};
+use crate::font_fixed::{F2Dot14, Fixed, fitting_16, half_up_32};
 
 /// A signed 2.30 fixed-point number.
 ///
@@ -52,8 +52,11 @@ impl F2Dot30 {
     /// Converts from [`Fixed`], or returns `None` on overflow.
     #[must_use]
     #[inline]
-    pub fn checked_from_fixed(number: Fixed) -> Option<Self> {
-        Some(Self(number.to_bits().checked_mul(0x4000)?))
+    pub const fn checked_from_fixed(number: Fixed) -> Option<Self> {
+        match number.to_bits().checked_mul(0x4000) {
+            Some(bits) => Some(Self(bits)),
+            None => None,
+        }
     }
 
     /// Converts from [`F2Dot14`], exactly.
@@ -80,10 +83,11 @@ impl F2Dot30 {
     /// Rounds to the nearest [`F2Dot14`], half up, or returns `None` on overflow.
     #[must_use]
     #[inline]
-    pub fn checked_to_f2dot14(self) -> Option<F2Dot14> {
-        Some(F2Dot14::from_bits(
-            i16::try_from(half_up_32(self.0, 16)).ok()?,
-        ))
+    pub const fn checked_to_f2dot14(self) -> Option<F2Dot14> {
+        match fitting_16(half_up_32(self.0, 16)) {
+            Some(bits) => Some(F2Dot14::from_bits(bits)),
+            None => None,
+        }
     }
 }
 

@@ -6,8 +6,8 @@ use super::FixedI32;
 use crate::font_base::{FixedSize, IdentityEq, Scalar};
 use crate::font_fixed::formats::Format;
 use crate::font_fixed::{
-    F2Dot14, F26Dot6, F48Dot16, half_up_32, mul_div, narrow_32, nearest_mul_div, nearest_product,
-    product,
+    F2Dot14, F26Dot6, F48Dot16, fitting_16, fitting_32, half_up_32, half_up_64, mul_div, narrow_32,
+    nearest_mul_div, nearest_product, product,
 };
 use core::ops::{Div, DivAssign, Mul, MulAssign};
 
@@ -52,7 +52,7 @@ impl Fixed {
     /// If `c` is zero, the result is [`Fixed::MAX`], negated if exactly one of `self` and `a` is
     /// negative.
     #[must_use]
-    #[inline]
+    #[inline(always)]
     pub const fn mul_div(&self, a: Self, c: Self) -> Self {
         Self(mul_div(self.0, a.0, c.0))
     }
@@ -60,17 +60,18 @@ impl Fixed {
     /// Returns `self * other`, rounded half away from zero, or `None` on overflow.
     #[must_use]
     #[inline]
-    pub fn checked_mul(self, other: Self) -> Option<Self> {
-        Some(Self(
-            i32::try_from(nearest_product(self.0, other.0, 16)).ok()?,
-        ))
+    pub const fn checked_mul(self, other: Self) -> Option<Self> {
+        match fitting_32(nearest_product(self.0, other.0, 16)) {
+            Some(bits) => Some(Self(bits)),
+            None => None,
+        }
     }
 
     /// Returns `self / other`, rounded half away from zero, or `None` on overflow or division by
     /// zero.
     #[must_use]
     #[inline]
-    pub fn checked_div(self, other: Self) -> Option<Self> {
+    pub const fn checked_div(self, other: Self) -> Option<Self> {
         self.checked_mul_div(Self::ONE, other)
     }
 
@@ -78,11 +79,14 @@ impl Fixed {
     /// is zero.
     #[must_use]
     #[inline]
-    pub fn checked_mul_div(self, a: Self, c: Self) -> Option<Self> {
+    pub const fn checked_mul_div(self, a: Self, c: Self) -> Option<Self> {
         if c.0 == 0 {
             return None;
         }
-        Some(Self(i32::try_from(nearest_mul_div(self.0, a.0, c.0)).ok()?))
+        match fitting_32(nearest_mul_div(self.0, a.0, c.0)) {
+            Some(bits) => Some(Self(bits)),
+            None => None,
+        }
     }
 
     /// Converts an integer from -32768 to 32767, wrapping on overflow.
@@ -95,8 +99,11 @@ impl Fixed {
     /// Converts an integer from -32768 to 32767, or returns `None` on overflow.
     #[must_use]
     #[inline]
-    pub fn checked_from_i32(number: i32) -> Option<Self> {
-        Some(Self(number.checked_mul(0x1_0000)?))
+    pub const fn checked_from_i32(number: i32) -> Option<Self> {
+        match number.checked_mul(0x1_0000) {
+            Some(bits) => Some(Self(bits)),
+            None => None,
+        }
     }
 
     /// Rounds to the nearest integer, half up, wrapped to 16 bits: from 32767.5 on it gives -32768.
@@ -109,7 +116,7 @@ impl Fixed {
     /// Rounds to the nearest integer, half up, or returns `None` if `to_i32` wraps.
     #[must_use]
     #[inline]
-    pub fn checked_to_i32(self) -> Option<i32> {
+    pub const fn checked_to_i32(self) -> Option<i32> {
         narrow_32(self.0, 16)
     }
 
@@ -124,8 +131,11 @@ impl Fixed {
     /// Rounds to the nearest [`F26Dot6`], half up, or returns `None` if `to_f26dot6` wraps.
     #[must_use]
     #[inline]
-    pub fn checked_to_f26dot6(self) -> Option<F26Dot6> {
-        Some(F26Dot6::from_bits(narrow_32(self.0, 10)?))
+    pub const fn checked_to_f26dot6(self) -> Option<F26Dot6> {
+        match narrow_32(self.0, 10) {
+            Some(bits) => Some(F26Dot6::from_bits(bits)),
+            None => None,
+        }
     }
 
     /// Rounds to the nearest [`F2Dot14`], half up, wrapping on overflow.
@@ -138,10 +148,11 @@ impl Fixed {
     /// Rounds to the nearest [`F2Dot14`], half up, or returns `None` on overflow.
     #[must_use]
     #[inline]
-    pub fn checked_to_f2dot14(self) -> Option<F2Dot14> {
-        Some(F2Dot14::from_bits(
-            i16::try_from(half_up_32(self.0, 2)).ok()?,
-        ))
+    pub const fn checked_to_f2dot14(self) -> Option<F2Dot14> {
+        match fitting_16(half_up_32(self.0, 2)) {
+            Some(bits) => Some(F2Dot14::from_bits(bits)),
+            None => None,
+        }
     }
 
     /// Converts to [`F48Dot16`], exactly.
@@ -181,8 +192,25 @@ impl Fixed {
         Some(Self(i32::try_from(nearest_step(moved)).ok()?))
     }
 
-    // A quarter of the raw bits, rounded half up, wrapped to 30 bits.
+    /// Adds a sum of deltas and rounds to the nearest value, half up, or returns `None` if that is
+    /// out of range: `round_delta` of `apply_delta`, in 64 bits.
+    ///
+    /// ```
+    /// use font_types_proved::{F48Dot16, Fixed};
+    /// let delta = F48Dot16::from_bits(0x2_8000);
+    /// assert_eq!(Fixed::ONE.checked_add_delta(delta), Some(Fixed::from_bits(0x1_0003)));
+    /// ```
+    #[must_use]
     #[inline]
+    pub const fn checked_add_delta(self, delta: F48Dot16) -> Option<Self> {
+        match fitting_32(nearest_sum(self.0, delta)) {
+            Some(bits) => Some(Self(bits)),
+            None => None,
+        }
+    }
+
+    // A quarter of the raw bits, rounded half up, wrapped to 30 bits.
+    #[inline(always)]
     const fn quarter(self) -> i32 {
         self.wrapping_add(Self(2)).0 >> 2
     }
@@ -195,10 +223,23 @@ pub fn nearest_step(moved: i128) -> i128 {
     ((moved >> 15) + 1) >> 1
 }
 
-// Truncates to the low 16 bits.
+/// Returns the sum of an integer and a delta, rounded to the nearest integer, half up.
+#[must_use]
 #[inline]
+pub const fn nearest_sum(number: i32, delta: F48Dot16) -> i64 {
+    number as i64 + nearest_integer(delta)
+}
+
+// Rounds to the nearest integer, half up.
+#[inline]
+const fn nearest_integer(delta: F48Dot16) -> i64 {
+    half_up_64(delta.to_bits(), 16)
+}
+
+// Truncates to the low 16 bits.
+#[inline(always)]
 const fn low_half(n: i32) -> i16 {
-    (n.rem_euclid(0x1_0000) as u16).cast_signed()
+    ((n << 16) >> 16) as i16
 }
 
 /// Rounds half away from zero, and wraps on overflow.
@@ -225,7 +266,7 @@ impl MulAssign for Fixed {
 impl Div for Fixed {
     type Output = Fixed;
 
-    #[inline]
+    #[inline(always)]
     fn div(self, other: Fixed) -> Fixed {
         self.mul_div(Self::ONE, other)
     }

@@ -4,7 +4,7 @@
 
 use super::FixedI64;
 use crate::font_fixed::formats::Format;
-use crate::font_fixed::{Fixed, half_up_64, low_bits, narrow_64};
+use crate::font_fixed::{Fixed, fitting_32, half_up_64, low_bits, narrow_64};
 
 /// A signed 48.16 fixed-point number, such as a sum of deltas.
 ///
@@ -51,8 +51,11 @@ impl F48Dot16 {
     /// Converts an integer from `-2^47` to `2^47 - 1`, or returns `None` on overflow.
     #[must_use]
     #[inline]
-    pub fn checked_from_i64(number: i64) -> Option<Self> {
-        Some(Self(number.checked_mul(0x1_0000)?))
+    pub const fn checked_from_i64(number: i64) -> Option<Self> {
+        match number.checked_mul(0x1_0000) {
+            Some(bits) => Some(Self(bits)),
+            None => None,
+        }
     }
 
     /// Converts an integer, exactly.
@@ -73,7 +76,7 @@ impl F48Dot16 {
     /// Rounds to the nearest integer, half up, or returns `None` if `to_i64` wraps.
     #[must_use]
     #[inline]
-    pub fn checked_to_i64(self) -> Option<i64> {
+    pub const fn checked_to_i64(self) -> Option<i64> {
         narrow_64(self.0, 16)
     }
 
@@ -87,15 +90,18 @@ impl F48Dot16 {
     /// Rounds to the nearest integer, half up, or returns `None` on overflow.
     #[must_use]
     #[inline]
-    pub fn checked_to_i32(self) -> Option<i32> {
-        i32::try_from(half_up_64(self.0, 16)).ok()
+    pub const fn checked_to_i32(self) -> Option<i32> {
+        fitting_32(half_up_64(self.0, 16))
     }
 
     /// Converts to [`Fixed`], or returns `None` on overflow.
     #[must_use]
     #[inline]
-    pub fn checked_to_fixed(self) -> Option<Fixed> {
-        Some(Fixed::from_bits(i32::try_from(self.0).ok()?))
+    pub const fn checked_to_fixed(self) -> Option<Fixed> {
+        match fitting_32(self.0) {
+            Some(bits) => Some(Fixed::from_bits(bits)),
+            None => None,
+        }
     }
 
     /// Converts to [`Fixed`], wrapping on overflow.

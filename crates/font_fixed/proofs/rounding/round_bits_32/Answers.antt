@@ -1,19 +1,20 @@
 use Rattle.std.proofs.Common.{rules, refl, ◌≡◌, w32}
 use Rattle.font_fixed.proofs.Rounds.{nearest_is, no_nearest}
 use Rattle.font_fixed.specs.Rounding.{rounded}
+use Rattle.font_fixed.proofs.rounding.round_bits_32.Goals.{After-floor_bits_32}
 use Rattle.font_fixed.proofs.rounding.round_bits_32.Goals as goal
 
-value : (c : goal.After-floor_bits_32) → c.floor_bits_32.result ≡ rounded c.args.f c.args.bits
+value : (c : After-floor_bits_32) → c.floor_bits_32.result ≡ rounded c.args.f c.args.bits
 value c = nearest_is w32 _ c.args.f c.args.bits _ _ refl c.requires.0 c.requires.1
     (search rules) c.floor_bits_32.ensures
 
-pub returns-in_err-moved-clause-variant : goal.returns-in_err-moved-clause-variant
-returns-in_err-moved-clause-variant c =
+pub returns-in-None-clause-variant : goal.returns-in-None-clause-variant
+returns-in-None-clause-variant c =
     let none = no_nearest w32 _ c.args.f c.args.bits refl c.requires.0 c.requires.1 c.ranges.bits (search rules) in
     search (rules, none)
 
-pub returns-clause-variant : goal.returns-clause-variant
-returns-clause-variant c = search (rules, value c)
+pub returns-in-Some-clause-variant : goal.returns-in-Some-clause-variant
+returns-in-Some-clause-variant c = search (rules, value c)
 
-pub returns-clause-value : goal.returns-clause-value
-returns-clause-value c = search (rules, value c)
+pub returns-in-Some-clause-value : goal.returns-in-Some-clause-value
+returns-in-Some-clause-value c = search (rules, value c)
