@@ -339,6 +339,10 @@ fn sums_of_deltas() {
         let mut other = sum;
         other.add(Fixed::EPSILON, 1);
         assert_ne!(sum, other);
+        let twice = i64::try_from(2 * exact + 1).ok().map(F48Dot16::from_bits);
+        assert_eq!((sum + other).checked_finish(), twice, "{terms:?}");
+        other += sum;
+        assert_eq!(other.checked_finish(), twice, "{terms:?}");
     }
     let wrapped = delta_sum(&[min; 3]).to_bits();
     assert_eq!(wrapped, -0x4000_0000_0000_0000);
@@ -437,4 +441,73 @@ fn round_delta() {
         let unsigned = u16::try_from(nearest).ok().map(UfWord::new);
         assert_eq!(UfWord::round_delta(moved), unsigned, "{moved}");
     }
+}
+
+#[test]
+fn checked_add_delta() {
+    for delta in integers(64) {
+        let sum = F48Dot16::from_bits(delta as i64);
+        let moved = |base: i128| (base * 0x1_0000 + delta + 0x8000).div_euclid(0x1_0000);
+        for base in integers(32) {
+            let found = Fixed::from_bits(base as i32).checked_add_delta(sum);
+            let right = i32::try_from(moved(base)).ok().map(Fixed::from_bits);
+            assert_eq!(found, right, "{base}, {delta}");
+        }
+        for base in integers(16) {
+            let bits = base as i16;
+            let word = FWord::new(bits).checked_add_delta(sum).map(FWord::to_i16);
+            let short = F2Dot14::from_bits(bits).checked_add_delta(sum);
+            let right = i16::try_from(moved(base)).ok();
+            let found = [word, short.map(F2Dot14::to_bits)];
+            assert_eq!(found, [right; 2], "{base}, {delta}");
+        }
+        for base in [0, 1, 0x7FFF, 0x8000, 0xFFFE, 0xFFFF] {
+            let found = UfWord::new(base).checked_add_delta(sum);
+            let right = u16::try_from(moved(base.into())).ok().map(UfWord::new);
+            assert_eq!(found, right, "{base}, {delta}");
+        }
+    }
+}
+
+/// Calls that a constant can make.
+#[test]
+fn constants_by_calls() {
+    const DELTA: F48Dot16 = F48Dot16::from_bits(0x18000);
+    const FIXED: [Option<Fixed>; 8] = [
+        Fixed::EPSILON.checked_add(Fixed::NEG_ONE),
+        Fixed::MIN.checked_sub(Fixed::EPSILON),
+        Fixed::EPSILON.checked_neg(),
+        Fixed::MIN.checked_abs(),
+        Fixed::EPSILON.checked_round(),
+        Fixed::EPSILON.checked_mul(Fixed::EPSILON),
+        Fixed::EPSILON.checked_mul_div(Fixed::MAX, Fixed::ZERO),
+        Fixed::ZERO.checked_add_delta(DELTA),
+    ];
+    let bits = [
+        Some(-0xFFFF),
+        None,
+        Some(-1),
+        None,
+        Some(0),
+        Some(0),
+        None,
+        Some(2),
+    ];
+    assert_eq!(FIXED, bits.map(|bits| bits.map(Fixed::from_bits)));
+    const NARROW: (Option<i32>, Option<F26Dot6>, Option<F2Dot14>) = (
+        Fixed::MAX.checked_to_i32(),
+        Fixed::ONE.checked_to_f26dot6(),
+        F2Dot30::NEG_ONE.checked_to_f2dot14(),
+    );
+    let right = (None, Some(F26Dot6::ONE), Some(F2Dot14::NEG_ONE));
+    assert_eq!(NARROW, right);
+    const UNITS: Option<Fixed> = UfWord::new(40000).checked_to_fixed();
+    assert_eq!(UNITS, None);
+    const OFFSET: (u32, bool, bool) = {
+        let offset = Offset16::new(7);
+        (offset.to_u32(), offset.is_null(), offset.eq_u32(&7))
+    };
+    assert_eq!(OFFSET, (7, false, true));
+    const HEAD: u32 = Tag::new(b"head").to_u32();
+    assert_eq!(HEAD, 0x6865_6164);
 }

@@ -21,8 +21,8 @@ fn glyph_ids() {
             let found = [id.to_u16(), u16::from_be_bytes(id.to_be_bytes())];
             assert_eq!(found, [short; 2]);
             assert_eq!([id.to_u32(), u32::from(id)], [n; 2]);
-            let found = (usize::from(id), id.to_string());
-            assert_eq!(found, (n as usize, format!("GID_{n}")));
+            let found = ([usize::from(id), id.to_usize()], id.to_string());
+            assert_eq!(found, ([n as usize; 2], format!("GID_{n}")));
             assert_eq!([GlyphId::from(id), GlyphId::from(short)], [wide; 2]);
             assert_eq!(GlyphId16::from(short), id);
         }
@@ -32,7 +32,8 @@ fn glyph_ids() {
         let middle = GlyphId24::try_from(wide).map_err(|error| error.value());
         assert_eq!(middle, is_24.then_some(saturated).ok_or(n));
         if let Ok(id) = middle {
-            assert_eq!((u32::from(id), usize::from(id)), (n, n as usize));
+            assert_eq!(u32::from(id), n);
+            assert_eq!([usize::from(id), id.to_usize()], [n as usize; 2]);
             assert_eq!(GlyphId::from(id), wide);
             assert_eq!(GlyphId24::from_be_bytes(id.to_be_bytes()), id);
             let found = format!("{id} {id:?}");
@@ -156,6 +157,11 @@ where
         "{number:#X}"
     );
     assert_eq!(nullable == Nullable::default(), number == 0, "{number:#X}");
+    assert_eq!(
+        nullable.get(),
+        (number != 0).then_some(offset),
+        "{number:#X}"
+    );
     for other in [0, 7, 8, 0xFFFF, 0x1_0000, 0x1_0007, 0x100_0007, !0] {
         let found = [offset == other, nullable == other];
         assert_eq!(found, [number == other; 2], "{number:#X} {other:#X}");
@@ -175,8 +181,10 @@ fn offsets() {
         assert_offset(narrow, numbers[0], narrow.to_u32(), narrow.is_null());
         assert_offset(middle, numbers[1], middle.to_u32(), middle.is_null());
         assert_offset(wide, numbers[2], wide.to_u32(), wide.is_null());
-        let found = [narrow.into(), middle.into(), wide.to_usize()];
+        let found = [narrow.to_usize(), middle.to_usize(), wide.to_usize()];
         assert_eq!(found, numbers.map(|number| number as usize));
+        let found: [usize; 2] = [narrow.into(), middle.into()];
+        assert_eq!(found, [narrow.to_usize(), middle.to_usize()]);
         assert_eq!(narrow.cmp(&Offset16::new(7)), numbers[0].cmp(&7));
         let found = middle.cmp(&Offset24::new(Uint24::new(7)));
         assert_eq!(found, numbers[1].cmp(&7));

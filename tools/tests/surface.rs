@@ -77,5 +77,5 @@ fn functions_of_nullable() {
     let source = text("crates/font_ids/src/offset.rt");
     let (_, of_nullable) = source.split_once("pub struct Nullable<T>").expect("it");
     let (functions, _) = of_nullable.split_once(" for Nullable<T>").expect("a trait");
-    assert_eq!(functions.matches("    pub ").count(), 3);
+    assert_eq!(functions.matches("    pub ").count(), 4);
 }

@@ -14,7 +14,7 @@ ghost use Rattle.font_ids.specs.FWord.{fword_number, fword_of, ufword_number, uf
 ghost use Rattle.font_ids.specs.FWord.{nearest_unit};
 
 use font_base::{FixedSize, IdentityEq, Scalar};
-use font_fixed::{F48Dot16, Fixed, nearest_step};
+use font_fixed::{F48Dot16, Fixed, nearest_step, nearest_sum};
 use std::fmt;
 
 /// A signed 16-bit quantity in font design units.
@@ -82,6 +82,26 @@ impl FWord {
         ensures value { IfSome result (λ word. fword_number word ≡ nearest_unit moved) }
     {
         Some(FWord::new(i16::try_from(nearest_step(moved)).ok()?))
+    }
+
+    /// Adds a sum of deltas and rounds to the nearest font unit, half up, or returns `None` if that
+    /// is out of range: `round_delta` of `apply_delta`, in 64 bits.
+    ///
+    /// ```
+    /// use font_types::{F48Dot16, FWord};
+    /// let delta = F48Dot16::from_bits(0x18000);
+    /// assert_eq!(FWord::new(100).checked_add_delta(delta), Some(FWord::new(102)));
+    /// ```
+    #[must_use]
+    #[inline]
+    pub fn checked_add_delta(self, delta: F48Dot16) -> Option<FWord>
+        ensures variant { IsSome result ↔ FitsBits 16
+            (nearest_unit (fword_number self *ℤ pos 65536 +ℤ f48dot16_bits delta)) }
+        ensures value { IfSome result (λ word. fword_number word
+            ≡ nearest_unit (fword_number self *ℤ pos 65536 +ℤ f48dot16_bits delta)) }
+    {
+        let moved = nearest_sum(i32::from(self.0), delta);
+        Some(FWord::new(i16::try_from(moved).ok()?))
     }
 
     /// Returns the big-endian bytes.
@@ -214,13 +234,13 @@ impl UfWord {
     /// Converts to 16.16, or returns `None` on overflow, that is, for 32768 and above.
     #[must_use]
     #[inline]
-    pub fn checked_to_fixed(self) -> Option<Fixed>
+    pub const fn checked_to_fixed(self) -> Option<Fixed>
         ensures variant { IsSome result
             ↔ FitsBits 32 (pos (ufword_number self) *ℤ pos (2 ^ 16)) }
         ensures value { IfSome result
             (λ number. fixed_bits number ≡ (pos (ufword_number self) *ℤ pos (2 ^ 16))) }
     {
-        Fixed::checked_from_i32(i32::from(self.to_u16()))
+        Fixed::checked_from_i32(self.to_u16() as i32)
     }
 
     /// Adds a sum of deltas, exactly. The result is a 16.16 raw value.
@@ -242,6 +262,22 @@ impl UfWord {
         ensures value { IfSome result (λ word. pos (ufword_number word) ≡ nearest_unit moved) }
     {
         Some(UfWord::new(u16::try_from(nearest_step(moved)).ok()?))
+    }
+
+    /// Adds a sum of deltas and rounds to the nearest font unit, half up, or returns `None` if that
+    /// is out of range: `round_delta` of `apply_delta`, in 64 bits.
+    #[must_use]
+    #[inline]
+    pub fn checked_add_delta(self, delta: F48Dot16) -> Option<UfWord>
+        ensures variant { IsSome result ↔ (
+            (pos 0 ≤ℤ nearest_unit (pos (ufword_number self) *ℤ pos 65536 +ℤ f48dot16_bits delta))
+            × (nearest_unit (pos (ufword_number self) *ℤ pos 65536 +ℤ f48dot16_bits delta)
+            <ℤ pos 65536)) }
+        ensures value { IfSome result (λ word. pos (ufword_number word)
+            ≡ nearest_unit (pos (ufword_number self) *ℤ pos 65536 +ℤ f48dot16_bits delta)) }
+    {
+        let moved = nearest_sum(i32::from(self.0), delta);
+        Some(UfWord::new(u16::try_from(moved).ok()?))
     }
 
     /// Returns the big-endian bytes.

@@ -58,6 +58,15 @@ impl GlyphId16 {
         self.0 as u32
     }
 
+    /// Returns the number as an index.
+    #[must_use]
+    #[inline]
+    pub const fn to_usize(self) -> usize
+        ensures { result ≡ glyph16_number self }
+    {
+        self.0 as usize
+    }
+
     /// Returns the big-endian bytes.
     #[must_use]
     #[inline]
@@ -227,6 +236,15 @@ impl GlyphId24 {
         ensures { result ≡ glyph24_number self }
     {
         self.0.to_u32()
+    }
+
+    /// Returns the number as an index.
+    #[must_use]
+    #[inline]
+    pub const fn to_usize(self) -> usize
+        ensures { result ≡ glyph24_number self }
+    {
+        self.to_u32() as usize
     }
 
     /// Returns the big-endian bytes.

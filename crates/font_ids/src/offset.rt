@@ -1,6 +1,7 @@
 //! Offsets to tables.
 
 ghost use Rattle.std.specs.Prelude.{◌≡◌, ◌^◌, ◌↔◌, ℕ, pos, nat_lt, true, IsTrue, refl};
+ghost use Rattle.std.specs.Prelude.{IsNone, IfSome};
 ghost use Rattle.std.proofs.Common.{lit<};
 ghost use Rattle.font_base.specs.Uint24.{uint24_number, uint24_of, uint24_of_bytes};
 ghost use Rattle.font_base.specs.Uint24.{bytes_of_uint24};
@@ -38,19 +39,28 @@ impl Offset16 {
     /// Returns `true` if the offset is zero.
     #[must_use]
     #[inline]
-    pub fn is_null(self) -> bool
+    pub const fn is_null(self) -> bool
         ensures { IsTrue result ↔ (offset16_number self ≡ 0) }
     {
-        self == Offset16::NULL
+        self.0 == 0
     }
 
     /// Returns the number.
     #[must_use]
     #[inline]
-    pub fn to_u32(self) -> u32
+    pub const fn to_u32(self) -> u32
         ensures { result ≡ offset16_number self }
     {
-        u32::from(self.0)
+        self.0 as u32
+    }
+
+    /// Returns the number as an index.
+    #[must_use]
+    #[inline]
+    pub const fn to_usize(self) -> usize
+        ensures { result ≡ offset16_number self }
+    {
+        self.0 as usize
     }
 }
 
@@ -59,7 +69,7 @@ impl Offset16 {
     /// Returns `true` if the offset is this number, as `==` does.
     #[must_use]
     #[inline]
-    pub fn eq_u32(&self, other: &u32) -> bool
+    pub const fn eq_u32(&self, other: &u32) -> bool
         ensures { IsTrue result ↔ (offset16_number self.now ≡ other.now) }
     {
         self.to_u32() == *other
@@ -132,10 +142,10 @@ impl Offset24 {
     /// Returns `true` if the offset is zero.
     #[must_use]
     #[inline]
-    pub fn is_null(self) -> bool
+    pub const fn is_null(self) -> bool
         ensures { IsTrue result ↔ (offset24_number self ≡ 0) }
     {
-        self == Offset24::NULL
+        self.0.to_u32() == 0
     }
 
     /// Returns the number.
@@ -145,6 +155,15 @@ impl Offset24 {
         ensures { result ≡ offset24_number self }
     {
         self.0.to_u32()
+    }
+
+    /// Returns the number as an index.
+    #[must_use]
+    #[inline]
+    pub const fn to_usize(self) -> usize
+        ensures { result ≡ offset24_number self }
+    {
+        self.to_u32() as usize
     }
 }
 
@@ -228,10 +247,10 @@ impl Offset32 {
     /// Returns `true` if the offset is zero.
     #[must_use]
     #[inline]
-    pub fn is_null(self) -> bool
+    pub const fn is_null(self) -> bool
         ensures { IsTrue result ↔ (offset32_number self ≡ 0) }
     {
-        self == Offset32::NULL
+        self.to_u32() == 0
     }
 
     /// Returns the number.
@@ -399,6 +418,16 @@ impl<T: OffsetValue> Nullable<T> {
         ensures { IsTrue result ↔ (T.number_of (nullable_offset self.now) ≡ 0) }
     {
         self.0.value_u32() == 0
+    }
+
+    /// Returns the offset, or `None` if it is null.
+    #[must_use]
+    #[inline]
+    pub fn get(self) -> Option<T>
+        ensures variant { IsNone result ↔ (T.number_of (nullable_offset self) ≡ 0) }
+        ensures value { IfSome result (λ offset. offset ≡ nullable_offset self) }
+    {
+        if self.is_null() { None } else { Some(self.0) }
     }
 }
 

@@ -3,7 +3,7 @@
 //! 16-bit quantities in font design units.
 
 use crate::font_base::{FixedSize, IdentityEq, Scalar};
-use crate::font_fixed::{F48Dot16, Fixed, nearest_step};
+use crate::font_fixed::{F48Dot16, Fixed, nearest_step, nearest_sum};
 use core::fmt;
 
 /// A signed 16-bit quantity in font design units.
@@ -59,6 +59,21 @@ impl FWord {
     #[inline]
     pub fn round_delta(moved: i128) -> Option<FWord> {
         Some(FWord::new(i16::try_from(nearest_step(moved)).ok()?))
+    }
+
+    /// Adds a sum of deltas and rounds to the nearest font unit, half up, or returns `None` if that
+    /// is out of range: `round_delta` of `apply_delta`, in 64 bits.
+    ///
+    /// ```
+    /// use font_types_proved::{F48Dot16, FWord};
+    /// let delta = F48Dot16::from_bits(0x18000);
+    /// assert_eq!(FWord::new(100).checked_add_delta(delta), Some(FWord::new(102)));
+    /// ```
+    #[must_use]
+    #[inline]
+    pub fn checked_add_delta(self, delta: F48Dot16) -> Option<FWord> {
+        let moved = nearest_sum(i32::from(self.0), delta);
+        Some(FWord::new(i16::try_from(moved).ok()?))
     }
 
     /// Returns the big-endian bytes.
@@ -160,8 +175,8 @@ impl UfWord {
     /// Converts to 16.16, or returns `None` on overflow, that is, for 32768 and above.
     #[must_use]
     #[inline]
-    pub fn checked_to_fixed(self) -> Option<Fixed> {
-        Fixed::checked_from_i32(i32::from(self.to_u16()))
+    pub const fn checked_to_fixed(self) -> Option<Fixed> {
+        Fixed::checked_from_i32(self.to_u16() as i32)
     }
 
     /// Adds a sum of deltas, exactly. The result is a 16.16 raw value.
@@ -177,6 +192,15 @@ impl UfWord {
     #[inline]
     pub fn round_delta(moved: i128) -> Option<UfWord> {
         Some(UfWord::new(u16::try_from(nearest_step(moved)).ok()?))
+    }
+
+    /// Adds a sum of deltas and rounds to the nearest font unit, half up, or returns `None` if that
+    /// is out of range: `round_delta` of `apply_delta`, in 64 bits.
+    #[must_use]
+    #[inline]
+    pub fn checked_add_delta(self, delta: F48Dot16) -> Option<UfWord> {
+        let moved = nearest_sum(i32::from(self.0), delta);
+        Some(UfWord::new(u16::try_from(moved).ok()?))
     }
 
     /// Returns the big-endian bytes.

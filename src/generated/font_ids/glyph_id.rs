@@ -42,6 +42,13 @@ impl GlyphId16 {
         self.0 as u32
     }
 
+    /// Returns the number as an index.
+    #[must_use]
+    #[inline]
+    pub const fn to_usize(self) -> usize {
+        self.0 as usize
+    }
+
     /// Returns the big-endian bytes.
     #[must_use]
     #[inline]
@@ -171,6 +178,13 @@ impl GlyphId24 {
     #[inline]
     pub const fn to_u32(self) -> u32 {
         self.0.to_u32()
+    }
+
+    /// Returns the number as an index.
+    #[must_use]
+    #[inline]
+    pub const fn to_usize(self) -> usize {
+        self.to_u32() as usize
     }
 
     /// Returns the big-endian bytes.

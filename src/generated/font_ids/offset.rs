@@ -27,15 +27,22 @@ impl Offset16 {
     /// Returns `true` if the offset is zero.
     #[must_use]
     #[inline]
-    pub fn is_null(self) -> bool {
-        self == Offset16::NULL
+    pub const fn is_null(self) -> bool {
+        self.0 == 0
     }
 
     /// Returns the number.
     #[must_use]
     #[inline]
-    pub fn to_u32(self) -> u32 {
-        u32::from(self.0)
+    pub const fn to_u32(self) -> u32 {
+        self.0 as u32
+    }
+
+    /// Returns the number as an index.
+    #[must_use]
+    #[inline]
+    pub const fn to_usize(self) -> usize {
+        self.0 as usize
     }
 }
 
@@ -44,7 +51,7 @@ impl Offset16 {
     /// Returns `true` if the offset is this number, as `==` does.
     #[must_use]
     #[inline]
-    pub fn eq_u32(&self, other: &u32) -> bool {
+    pub const fn eq_u32(&self, other: &u32) -> bool {
         self.to_u32() == *other
     }
 }
@@ -99,8 +106,8 @@ impl Offset24 {
     /// Returns `true` if the offset is zero.
     #[must_use]
     #[inline]
-    pub fn is_null(self) -> bool {
-        self == Offset24::NULL
+    pub const fn is_null(self) -> bool {
+        self.0.to_u32() == 0
     }
 
     /// Returns the number.
@@ -108,6 +115,13 @@ impl Offset24 {
     #[inline]
     pub const fn to_u32(self) -> u32 {
         self.0.to_u32()
+    }
+
+    /// Returns the number as an index.
+    #[must_use]
+    #[inline]
+    pub const fn to_usize(self) -> usize {
+        self.to_u32() as usize
     }
 }
 
@@ -171,8 +185,8 @@ impl Offset32 {
     /// Returns `true` if the offset is zero.
     #[must_use]
     #[inline]
-    pub fn is_null(self) -> bool {
-        self == Offset32::NULL
+    pub const fn is_null(self) -> bool {
+        self.to_u32() == 0
     }
 
     /// Returns the number.
@@ -291,6 +305,13 @@ impl<T: OffsetValue> Nullable<T> {
     #[inline]
     pub fn is_null(&self) -> bool {
         self.0.value_u32() == 0
+    }
+
+    /// Returns the offset, or `None` if it is null.
+    #[must_use]
+    #[inline]
+    pub fn get(self) -> Option<T> {
+        if self.is_null() { None } else { Some(self.0) }
     }
 }
 

@@ -71,8 +71,8 @@ impl Tag {
     /// Returns the number whose big-endian bytes are those of the tag.
     #[must_use]
     #[inline]
-    pub fn to_u32(self) -> u32 {
-        u32::from_raw(self.0)
+    pub const fn to_u32(self) -> u32 {
+        u32::from_be_bytes(self.0)
     }
 
     /// Creates a tag from four bytes, without validation.
