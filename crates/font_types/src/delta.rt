@@ -3,6 +3,7 @@
 ghost use Rattle.std.specs.Prelude.{◌≡◌, ◌↔◌, ◌≤◌, ◌+◌, ◌^◌, ◌+ℤ◌, ◌*ℤ◌, pos, unsigned_abs};
 ghost use Rattle.std.specs.Prelude.{IsSome, IfSome, option_map};
 ghost use Rattle.font_base.specs.Wrap.{wrap, FitsBits};
+ghost use Rattle.font_fixed.specs.Operations.{WrapsTo};
 ghost use Rattle.font_fixed.specs.Fixed.{fixed_bits};
 ghost use Rattle.font_fixed.specs.F48Dot16.{f48dot16_bits};
 ghost use Rattle.font_ids.specs.FWord.{fword_number};
@@ -10,6 +11,7 @@ ghost use Rattle.font_types.specs.Delta.{exact_sum, sum_in_range, term_product, 
 
 use font_fixed::{F48Dot16, Fixed};
 use font_ids::FWord;
+use std::ops::{Add, AddAssign};
 
 /// An accumulator for products of scalars and deltas.
 ///
@@ -77,7 +79,7 @@ impl DeltaSum {
     pub const fn finish(self) -> F48Dot16
         ensures { f48dot16_bits result ≡ wrap 64 (steps_of self) }
     {
-        F48Dot16::from_bits((self.steps.rem_euclid(1 << 64) as u64).cast_signed())
+        F48Dot16::from_bits(((self.steps << 64) >> 64) as i64)
     }
 
     /// Returns the sum, or `None` if it does not fit in 64 bits.
@@ -89,6 +91,35 @@ impl DeltaSum {
     {
         let bits = i64::try_from(self.steps).ok()?;
         Some(F48Dot16::from_bits(bits))
+    }
+}
+
+/// Adds the sum of other terms, wrapped to 128 bits.
+impl Add for DeltaSum {
+    type Output = DeltaSum;
+
+    ghost use Rattle.font_types.specs.DeltaSum.{steps_of};
+
+    ghost add_gives = { λ x y sum. WrapsTo 128 (steps_of x +ℤ steps_of y) (steps_of sum) };
+
+    #[inline]
+    #[tactic(auto, using(crate::proofs::SumCalls::delta_sum_calls))]
+    fn add(self, other: DeltaSum) -> DeltaSum {
+        DeltaSum {
+            steps: self.steps.wrapping_add(other.steps),
+        }
+    }
+}
+
+/// Adds the sum of other terms, wrapped to 128 bits.
+impl AddAssign for DeltaSum {
+    ghost use Rattle.font_types.specs.DeltaSum.{steps_of};
+
+    ghost add_assign_gives = { λ x y sum. WrapsTo 128 (steps_of x +ℤ steps_of y) (steps_of sum) };
+
+    #[inline]
+    fn add_assign(&mut self, other: DeltaSum) {
+        *self = *self + other;
     }
 }
 

@@ -4,6 +4,7 @@
 
 use crate::font_fixed::{F48Dot16, Fixed};
 use crate::font_ids::FWord;
+use core::ops::{Add, AddAssign};
 
 /// An accumulator for products of scalars and deltas.
 ///
@@ -50,7 +51,7 @@ impl DeltaSum {
     #[must_use]
     #[inline]
     pub const fn finish(self) -> F48Dot16 {
-        F48Dot16::from_bits((self.steps.rem_euclid(1 << 64) as u64).cast_signed())
+        F48Dot16::from_bits(((self.steps << 64) >> 64) as i64)
     }
 
     /// Returns the sum, or `None` if it does not fit in 64 bits.
@@ -59,6 +60,26 @@ impl DeltaSum {
     pub fn checked_finish(self) -> Option<F48Dot16> {
         let bits = i64::try_from(self.steps).ok()?;
         Some(F48Dot16::from_bits(bits))
+    }
+}
+
+/// Adds the sum of other terms, wrapped to 128 bits.
+impl Add for DeltaSum {
+    type Output = DeltaSum;
+
+    #[inline]
+    fn add(self, other: DeltaSum) -> DeltaSum {
+        DeltaSum {
+            steps: self.steps.wrapping_add(other.steps),
+        }
+    }
+}
+
+/// Adds the sum of other terms, wrapped to 128 bits.
+impl AddAssign for DeltaSum {
+    #[inline]
+    fn add_assign(&mut self, other: DeltaSum) {
+        *self = *self + other;
     }
 }
 
