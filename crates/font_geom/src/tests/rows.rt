@@ -90,3 +90,9 @@ fn point_of_decimals(rt: HostRuntime) {
     let mapped = Point::new("42.5", "20.1").map(read);
     assert!(rt; mapped == Point::new(F26Dot6::from_bits(2720), F26Dot6::from_bits(1286)));
 }
+
+#[test]
+fn points_of_integers(rt: HostRuntime) {
+    assert!(rt; Point::new(10, 16) / Point::new(2, 3) == Point::new(5, 5));
+    assert!(rt; Point::new(1, 2) * 8 == Point::new(8, 16));
+}

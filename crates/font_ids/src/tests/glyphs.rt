@@ -1,6 +1,7 @@
-//! What no clause says: texts of glyph ids, and of the error.
+//! What no clause says: texts of glyph ids, and of the error. And a row of docs/REQUIREMENTS.md.
 
 use crate::{GlyphId, GlyphId16, GlyphId24};
+use std::cmp::Ordering;
 use std::test::Fail;
 
 #[test]
@@ -20,4 +21,10 @@ fn glyph_id_texts(rt: HostRuntime) -> Result<(), Fail> {
     let printed = "GID_5 GID_5 GID_5 GlyphId16(5) GlyphId24(Uint24(5)) GlyphId(5)";
     assert!(rt; text.as_str() == printed);
     Ok(())
+}
+
+#[test]
+fn order_of_ids(rt: HostRuntime) {
+    let (wide, narrow) = (GlyphId::new(65536), GlyphId16::new(65535));
+    assert!(rt; wide.cmp_gid16(&narrow) == Ordering::Greater);
 }

@@ -85,3 +85,11 @@ fn predefined(rt: HostRuntime) -> Result<(), Fail> {
     }
     Ok(())
 }
+
+#[test]
+fn checked_sums(rt: HostRuntime) {
+    for &(number, more, sum) in &[(40000, 0, None), (32766, 1, Some(32767))] {
+        let found = NameId::new(number).checked_add(more);
+        assert!(rt; found.map(NameId::to_u16) == sum, "{number} + {more}");
+    }
+}

@@ -1,4 +1,4 @@
-//! What no clause says: texts of font units.
+//! What no clause says: texts of font units. And a row of docs/REQUIREMENTS.md.
 
 use crate::{FWord, UfWord};
 use std::test::Fail;
@@ -9,4 +9,9 @@ fn font_unit_texts(rt: HostRuntime) -> Result<(), Fail> {
     let text = format!(in rt.alloc(); "{signed} {signed:?} {unsigned} {unsigned:?}")?;
     assert!(rt; text.as_str() == "-32768 FWord(-32768) 65535 UfWord(65535)");
     Ok(())
+}
+
+#[test]
+fn number_above_16_16(rt: HostRuntime) {
+    assert!(rt; UfWord::new(40000).to_fixed().to_bits() == -1673527296);
 }

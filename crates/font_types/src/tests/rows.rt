@@ -1,7 +1,8 @@
-//! Sums of deltas and what they move, by rows of docs/REQUIREMENTS.md and of font-types.
+//! Versions of font files, and sums of deltas and what they move, by rows of docs/REQUIREMENTS.md and of font-types.
 
 use crate::{
-    DeltaSum, F2Dot14, F48Dot16, FWord, Fixed, UfWord, checked_delta_sum, delta_sum, vary,
+    CFF_SFNT_VERSION, DeltaSum, F2Dot14, F48Dot16, FWord, Fixed, TRUE_SFNT_VERSION,
+    TT_SFNT_VERSION, UfWord, checked_delta_sum, delta_sum, vary,
 };
 use std::test::Fail;
 
@@ -90,4 +91,10 @@ fn moved_font_units(rt: HostRuntime) {
         let found = UfWord::new(base).apply_delta(F48Dot16::from_bits(delta));
         assert!(rt; found == moved, "{base}, unsigned");
     }
+}
+
+#[test]
+fn versions_of_font_files(rt: HostRuntime) {
+    let versions = [TT_SFNT_VERSION, TRUE_SFNT_VERSION, CFF_SFNT_VERSION];
+    assert!(rt; versions == [0x0001_0000, 0x7472_7565, 0x4F54_544F]);
 }
