@@ -1,13 +1,13 @@
 -- Numbers of w bits with f fraction bits, for every f in range: the steps and halves of code, floors by shifts, and the
 -- nearest integer as the floor of half a step more.
-use Rattle.std.proofs.Common.{◌≡◌, ◌∙◌, ap, refl, ℕ, suc, ◌+◌, ◌-◌, ◌*◌, ◌/◌, ◌%◌, ◌^◌, ◌<◌, ◌≤◌, ℤ, pos, negsuc, neg_ℤ}
+use Rattle.std.proofs.Common.{◌≡◌, ◌∙◌, ap, ℕ, suc, ◌+◌, ◌-◌, ◌*◌, ◌/◌, ◌%◌, ◌^◌, ◌<◌, ◌≤◌, ℤ, pos, negsuc, neg_ℤ}
 use Rattle.std.proofs.Common.{◌+ℤ◌, ◌*ℤ◌, ◌≤ℤ◌, ◌<ℤ◌, arith, pow_pos, div-add-mod', IsTrue, SFits, to_z, of_z}
 use Rattle.std.proofs.Common.{◌-ℤ◌, lit<, pow-add, mod-lt}
 use Rattle.std.proofs.lemmas.Int.{ints, by_lt_z, to_z_pos, to_z-of_z}
 use Rattle.std.proofs.lemmas.Bool.Decides.{nat_tests}
 use Rattle.std.proofs.lemmas.Nat.{one_shl}
 use Rattle.std.proofs.Math.Nat.{two-pow-succ, pow-le-pow_right}
-use Rattle.std.specs.Int.{Width, int_rem_euclid}
+use Rattle.std.specs.Int.{Width}
 use mir.Val.{bits, hbits}
 use lib.Signed.{shr_z}
 use Rattle.font_base.specs.Wrap.{wrap, FitsBits}

@@ -1,15 +1,14 @@
 -- The results of std's calls on the bits of a number, by `wrap`. Goals have the bits n of a width, and m = 2^n, as
 -- literals.
-use Rattle.std.proofs.Common.{◌≡◌, ◌∙◌, sym, refl, ℕ, ◌+◌, ◌-◌, ◌*◌, ◌%◌, ◌^◌, ◌<◌, ◌≤◌, ℤ, pos, neg_ℤ, ◌+ℤ◌, ◌-ℤ◌}
+use Rattle.std.proofs.Common.{◌≡◌, ◌∙◌, ℕ, ◌+◌, ◌-◌, ◌*◌, ◌%◌, ◌^◌, ◌<◌, ℤ, pos, neg_ℤ, ◌+ℤ◌, ◌-ℤ◌}
 use Rattle.std.proofs.Common.{◌*ℤ◌, unsigned_abs, arith, pow_pos, SFits, to_z, of_z}
 use Rattle.std.proofs.lemmas.Int.{ints, wrapping_add_is, wrapping_sub_is, wrapping_mul_onto, wrapping_neg_is, to_z-of_z}
 use Rattle.std.proofs.Math.Facts.{Fits-of_z, Fits-of_lt, sfits_to_z}
-use Rattle.std.specs.Int.{Width, int_wrapping_neg, int_rem_euclid}
+use Rattle.std.specs.Int.{Width, int_wrapping_neg}
 use mir.Val.{bits, hbits}
 use Rattle.font_base.specs.Wrap.{wrap}
-use Rattle.font_base.specs.Wrap.Laws.{wrap_same, two_halves, remainder}
+use Rattle.font_base.specs.Wrap.Laws.{two_halves}
 use Rattle.font_base.proofs.Widths.{half_range-bits, int_wrap-wrap, to_z-wrap, bits_positive}
-use Rattle.font_fixed.specs.Operations.{IsFract, fract_of}
 
 -- a sum that wraps
 pub wrapping_add-wrap : (w : Width) (n m : ℕ) (x y : ℤ) → n ≡ bits w → m ≡ 2 ^ n → SFits w x → SFits w y
@@ -42,22 +41,3 @@ pub wrapping_mul-wrap : (w : Width) (n m : ℕ) (x : ℤ) (d : ℕ) → n ≡ bi
 wrapping_mul-wrap w n m x d is all f g =
     rw (all, is, wrapping_mul_onto w (of_z w x) (pos d) (Fits-of_z f).fits g, to_z-of_z w x f)
     (int_wrap-wrap w (x *ℤ pos d))
-
--- the last bits of a number, by the remainder
-pub rem_euclid-wrap : (v w : Width) (n e r : ℤ) → 2 ^ bits v ≤ 2 ^ hbits w → SFits w n
-    → e ≡ int_rem_euclid (to_z w (of_z w n)) (pos (2 ^ bits v))
-    → r ≡ to_z v (unsigned_abs (to_z w (of_z w e))) → to_z v (of_z v r) ≡ wrap (bits v) n
-rem_euclid-wrap v w n e r room fits is cast =
-    let parts = remainder n (2 ^ bits v) (pow_pos (bits v)) in
-    let below = parts.below in
-    let small : SFits w (pos parts.rest) = omega (arith, ints) in
-    rw (
-      cast,
-      is,
-      to_z-of_z w n fits,
-      parts.is,
-      to_z-of_z w (pos parts.rest) small,
-      to_z-of_z v (to_z v parts.rest) (sfits_to_z (Fits-of_lt below)),
-    )
-    (to_z-wrap v parts.rest below
-    ∙ sym (wrap_same (bits v) n (pos parts.rest) parts.turns (bits_positive v) parts.parts))
