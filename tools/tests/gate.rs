@@ -9,7 +9,7 @@ use std::os::unix::fs::{PermissionsExt, symlink};
 use std::path::PathBuf;
 use std::process::Command;
 
-/// What the gate calls, beside `rt try`.
+/// What the gate calls, beside what `rt ci` built.
 const COMMANDS: &str = "\
 c/check
 cargo clippy --quiet --all-targets -- -D warnings
@@ -24,21 +24,21 @@ cargo test --quiet
 cargo test --quiet --manifest-path tools/Cargo.toml
 cargo test --quiet --release --manifest-path compare/Cargo.toml
 cargo test --quiet --release --test program --test original --test preconditions
+cc -shared -fPIC -o refuse.so tools/refuse.c
 rt ci";
 
 /// The command that may fail.
 const FETCH: &str = "cargo fetch --quiet --manifest-path compare/Cargo.toml";
 
-/// The runs of `rt try`: of the tests of memory, and of the program, which makes two allocations
-/// here.
-const TESTS: usize = 10;
-const REQUESTS: usize = 12;
+/// The allocations that each test of memory and the program make here.
+const REQUESTS: usize = 2;
 
 /// A tool. It logs its call, and fails if `$FAIL` is its call, or if cargo builds in the
 /// repository; `$WRONG` names another fault.
 const TOOL: &str = r#"#!/bin/sh
 call="$(basename "$0") $*"
 [ "$call" != "check " ] || call=c/check
+[ "${call%% *}" != cc ] || call="cc -shared -fPIC -o refuse.so tools/refuse.c"
 [ -z "$RUSTDOCFLAGS" ] || call="$call; $RUSTDOCFLAGS"
 echo "$call" >>"$LOG"
 [ "$call" != "$FAIL" ] || exit 1
@@ -46,18 +46,22 @@ case $CARGO_TARGET_DIR in "$TMPDIR"/*) ;; *) exit 1 ;; esac
 case $call in
 c/check)
     [ "$WRONG" != no-freetype ] || echo "left out: FreeType" ;;
-"rt try --test --fail-alloc"*)
-    if [ "$WRONG" = one-test ] && [ "$4" = 7 ]; then end=FAILED; else end=ok; fi
-    grep '^#\[test\]' src/tests/memory.rt | sed "s/.*/test tests::memory::some $end/" ;;
-"rt try --fail-alloc "[12])
-    if [ "$WRONG" = no-request ]; then cat memory/stdout; echo "allocations: 0" >&2; exit 0; fi
-    [ "$WRONG" != early-answer ] || echo 0
-    if [ "$WRONG" = message ]; then echo "fontval: write" >&2; else echo "fontval: memory" >&2; fi
-    if [ "$WRONG" = other-status ]; then exit 2; else exit 1; fi ;;
-"rt try --fail-alloc "*)
-    if [ "$WRONG" = no-end ]; then echo "fontval: memory" >&2; exit 1; fi
-    if [ "$WRONG" = answers ]; then echo 0; else cat memory/stdout; fi
-    if [ "$WRONG" = count ]; then echo "allocations: 3" >&2; else echo "allocations: 2" >&2; fi
+"font_types_tests --list")
+    [ "$WRONG" = no-test ] || grep -A1 '^#\[test\]' crates/font_types/src/tests/memory.rt |
+        sed -n 's/^fn \(.*\)(.*/tests::memory::\1: test/p'
+    echo "tests::numbers::some: test" ;;
+"font_types_tests "*)
+    [ "$REFUSE" -gt 2 ] && [ "$WRONG" != no-end ] || echo refused >&2
+    [ "$WRONG" != one-test ] || [ "$REFUSE" != 2 ] || exit 1
+    [ "$WRONG" != last-test ] || [ "$REFUSE" != 3 ] || exit 1 ;;
+"fontval ")
+    if [ "$REFUSE" -le 2 ] && [ "$WRONG" != no-request ] || [ "$WRONG" = no-end ]; then
+        [ "$WRONG" != early-answer ] || echo 0
+        echo refused >&2
+        if [ "$WRONG" = message ]; then echo "fontval: write"; else echo "fontval: memory"; fi >&2
+        if [ "$WRONG" = other-status ]; then exit 2; else exit 1; fi
+    fi
+    if [ "$WRONG" = answers ]; then echo 0; else cat crates/fontval/memory/stdout; fi
     [ "$WRONG" != status ] || exit 2 ;;
 "rt ci")
     [ "$WRONG" != bad-edit ] || echo "rt: note: bad must-fail edits: some"
@@ -69,8 +73,8 @@ esac
 "#;
 
 /// The faults of `TOOL` with which the gate has to fail.
-const FAULTS: &str = "one-test early-answer message other-status status answers count no-request \
-    no-end bad-edit status-of-ci";
+const FAULTS: &str = "one-test no-test last-test early-answer message other-status status answers \
+    no-request no-end bad-edit status-of-ci";
 
 /// The tools without which the gate fails, and those that it can do without.
 const REQUIRED: [&str; 6] = ["cargo", "rustfmt", "cargo-clippy", "cc", "make", "rt"];
@@ -78,7 +82,7 @@ const OPTIONAL: [&str; 5] = ["c++", "pkg-config", "nm", "readelf", "ldd"];
 
 /// What the gate and its stand-ins call of the system.
 const SYSTEM: &str =
-    "bash sh env basename cat cmp dirname grep mktemp nproc paste rm sed seq tail tee touch xargs";
+    "bash sh env basename cat cmp dirname grep mktemp paste rm sed tail tee touch wc";
 
 /// A repository of stand-ins, in a folder of this process.
 struct Gate {
@@ -110,7 +114,13 @@ impl Gate {
         for name in REQUIRED.iter().chain(&OPTIONAL) {
             gate.put(&format!("bin/{name}"), TOOL);
         }
-        gate.put("c/check", TOOL);
+        for path in [
+            "c/check",
+            "crates/font_types/out/font_types_tests",
+            "crates/fontval/out/fontval",
+        ] {
+            gate.put(path, TOOL);
+        }
         let path = env::var_os("PATH").unwrap();
         for name in SYSTEM.split_whitespace() {
             let mut places = env::split_paths(&path).map(|folder| folder.join(name));
@@ -190,10 +200,13 @@ fn passed(run: Run, left_out: &str) -> Vec<String> {
 fn gate_fails_if_a_step_does() {
     let gate = Gate::new("steps");
     let calls = passed(gate.run("", ""), "nothing").into_iter();
-    let (tries, others): (Vec<_>, Vec<_>) = calls.partition(|call| call.starts_with("rt try"));
+    let (runs, others): (Vec<_>, Vec<_>) = calls.partition(|call| call.starts_with("font"));
     assert_eq!(others, COMMANDS.lines().collect::<Vec<_>>());
-    let of_tests = tries.iter().filter(|call| call.contains("--test")).count();
-    assert_eq!((of_tests, tries.len()), (TESTS, TESTS + REQUESTS));
+    // Each once more than it makes allocations, and the list of tests.
+    let tests = text("crates/font_types/src/tests/memory.rt")
+        .matches("#[test]")
+        .count();
+    assert_eq!(runs.len(), 1 + (tests + 1) * (REQUESTS + 1));
     for command in COMMANDS.lines().filter(|command| *command != FETCH) {
         gate.assert_fails(command, "");
     }

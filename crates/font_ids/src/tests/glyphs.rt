@@ -25,6 +25,6 @@ fn glyph_id_texts(rt: HostRuntime) -> Result<(), Fail> {
 
 #[test]
 fn order_of_ids(rt: HostRuntime) {
-    let (wide, narrow) = (GlyphId::new(65536), GlyphId16::new(65535));
+    let (wide, narrow) = (GlyphId::new(0x1_0000), GlyphId16::new(0xFFFF));
     assert!(rt; wide.cmp_gid16(&narrow) == Ordering::Greater);
 }

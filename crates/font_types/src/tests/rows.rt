@@ -1,4 +1,5 @@
-//! Versions of font files, and sums of deltas and what they move, by rows of docs/REQUIREMENTS.md and of font-types.
+//! Versions of font files, and sums of deltas and what they move, by rows of docs/REQUIREMENTS.md
+//! and of font-types.
 
 use crate::{
     CFF_SFNT_VERSION, DeltaSum, F2Dot14, F48Dot16, FWord, Fixed, TRUE_SFNT_VERSION,
