@@ -12,9 +12,10 @@ pub mod proved;
 
 use font::{Font, at_offset};
 use font_types_proved::{F2Dot14, Fixed, GlyphId16, Offset32, Scalar, ScalarArray, Tag, UfWord};
+use proved::delta_sets::vary_advance;
 use proved::evaluator::{AxisValueMap, Setting, SettingError, VariationAxisRecord};
 use proved::evaluator::{final_coordinate, normalize, read_axis, read_setting};
-use proved::variations::{DeltaSetIndex, is_no_variation, read_delta_set_index, vary_advance};
+use proved::maps::{DeltaSetIndex, is_no_variation, read_delta_set_index};
 
 record! { AxisMap 4:
     from: F2Dot14, 0 1;

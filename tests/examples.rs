@@ -14,6 +14,7 @@ use font_types_proved::{F2Dot14, FWord, Fixed, GlyphId16, Tag, UfWord};
 use fonts::{MAP, MAPS, font, font_of, fvar, hvar, hvar_of_two_axes, long_axes, long_hvar};
 use fonts::{two_axes, words};
 use instance::proved::evaluator::vary_and_round;
+use instance::proved::regions::region_scalar;
 use instance::{advance, axes, normalized};
 use std::fs;
 use std::path::{Path, PathBuf};
@@ -181,6 +182,15 @@ fn mutated_fonts() {
         assert!(result.is_ok(), "{n}: {changes:?}");
     }
     assert!(fonts.iter().all(|font| read(font).is_some()));
+}
+
+// The region is at 4 + 6 * 32766 * 21848, which is 262116 modulo 2^32. The list has its 6 * 21848
+// bytes from there on.
+#[test]
+fn region_at_an_offset_above_32_bits() {
+    let mut list = words(&[21848, 32767]);
+    list.resize(262_116 + 6 * 21848, 0);
+    assert_eq!(region_scalar(&list, 32766, &[]), None);
 }
 
 #[test]

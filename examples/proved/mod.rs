@@ -5,13 +5,15 @@
 //!
 //! - `start`: a first caller, which docs/CALLING.md shows.
 //! - `reader`: tables, as `head`, `hmtx`, coverage and `VORG`.
-//! - `evaluator`, `variations`: from `wght=650` to a varied advance, by `fvar`, `avar` and item
-//!   variation stores.
+//! - `evaluator`, `regions`, `delta_sets`, `maps`: from `wght=650` to a varied advance, by `fvar`,
+//!   `avar` and item variation stores.
 //! - `packed`: packed deltas, as in `gvar` and `cvar`.
 //! - `scaler`: outlines through a chain of matrices.
 //! - `hinting`: extents of outlines, and positions between two others.
 //! - `linter`: tags, names, versions and the records of a table directory.
 //! - `dumper`: numbers in columns, raw values in hexadecimal, JSON.
 
+pub mod delta_sets;
 pub mod evaluator;
-pub mod variations;
+pub mod maps;
+pub mod regions;

@@ -1,3 +1,4 @@
 pub mod Advances
+pub mod Fractions
 pub mod Lerps
 pub mod Stores

@@ -1,7 +1,9 @@
 -- Item variation stores (OpenType, font variations common table formats: "Item Variation Store").
-use Rattle.std.specs.Prelude.{◌≡◌, ◌≢◌, ◌⊎◌, ℕ, zero, suc, ◌+◌, ◌*◌, ◌-◌, ◌%◌, ◌/◌, ◌<◌, ◌≤◌, ◌^◌, min}
+use Rattle.std.specs.Prelude.{◌≡◌, ◌≢◌, ◌⊎◌, ℕ, zero, suc, ◌+◌, ◌*◌, ◌-◌, ◌%◌, ◌/◌, ◌<◌, ◌≤◌, min}
 use Rattle.std.specs.Prelude.{ℤ, pos, ◌≤ℤ◌, ◌<ℤ◌, ◌-ℤ◌, ◌+ℤ◌, ◌*ℤ◌, unsigned_abs}
 use Rattle.std.specs.Prelude.{List, length, take, drop, slice_index_or, nat_le, nat_lt, nat_eq, if◌then◌else◌}
+use Rattle.std.specs.Prelude.{Bool, ◌&&◌, ◌||◌, int_lt, int_le}
+use Rattle.std.specs.Ordering.{int_eq}
 use Rattle.font_types.specs.Bytes.{numeral, signed_numeral}
 use Rattle.font_types.specs.Operations.{IsProduct, IsQuotient}
 use Rattle.font_types.specs.Fixed.{fixed_bits}
@@ -76,28 +78,73 @@ IsScalarOf region coordinates zero scalar = scalar ≡ pos 65536
 IsScalarOf region coordinates (suc n) scalar = (before along : ℤ) × IsScalarOf region coordinates n before
     × IsScalarAlong region coordinates n along × IsProduct 32 16 before along scalar
 
--- the exact product of the scalars along the first n axes: a raw value with 16 * n fraction bits
-unfoldable pub IsExactScalarOf : List ℕ → List F2Dot14 → ℕ → ℤ → Type 0
-IsExactScalarOf region coordinates zero product = product ≡ pos 1
-IsExactScalarOf region coordinates (suc n) product = (before along : ℤ) × IsExactScalarOf region coordinates n before
-    × IsScalarAlong region coordinates n along × (product ≡ (before *ℤ along))
-
--- a scalar is within half a unit of 16.16, for each of the first n axes, of the exact product of the scalars along
--- them: |scalar / 65536 - product / 65536 ^ n| <= n / 2 / 65536, times 2 * 65536 * 65536 ^ n
-pub record IsNearScalarOf (region : List ℕ) (coordinates : List F2Dot14) (n : ℕ) (scalar : ℤ) : Type 0 where
-  pub product : ℤ
-  pub is_product : IsExactScalarOf region coordinates n product
-  pub close : 2 * unsigned_abs (scalar *ℤ pos (65536 ^ n) -ℤ product *ℤ pos 65536) ≤ n * 65536 ^ n
-
 -- the product of the scalars along all axes
 abbrev pub IsRegionScalar : List ℕ → ℕ → List F2Dot14 → ℤ → Type 0
 IsRegionScalar regions region coordinates scalar =
     IsScalarOf (region_bytes regions region) coordinates (axis_count regions) scalar
 
--- a scalar is within half a unit of 16.16, for each axis, of the exact product of the scalars along all axes
+-- ---- exact values, which the scalars, the sums and the advances round: fractions, with no rounding on the way
+
+pub record Fraction : Type 0 where
+  pub numerator : ℤ
+  pub denominator : ℕ
+
+abbrev pub whole : ℤ → Fraction
+whole number = record { numerator = number; denominator = 1 }
+
+-- a part of the way over the whole way
+abbrev pub part_of : ℤ → ℤ → Fraction
+part_of part way = record { numerator = part; denominator = unsigned_abs way }
+
+abbrev pub times : Fraction → Fraction → Fraction
+times x y = record { numerator = x.numerator *ℤ y.numerator; denominator = x.denominator * y.denominator }
+
+abbrev pub plus : Fraction → Fraction → Fraction
+plus x y = record {
+  numerator = (x.numerator *ℤ pos y.denominator) +ℤ (y.numerator *ℤ pos x.denominator);
+  denominator = x.denominator * y.denominator;
+}
+
+-- a raw value of 16.16 is off an exact value by at most this many halves of a unit, of 1/65536:
+-- |raw / 65536 - exact| <= halves / 2 / 65536, times 2 * 65536 * denominator
+pub record IsOffBy (halves : ℕ) (raw : ℤ) (exact : Fraction) : Type 0 where
+  pub some : 0 < exact.denominator
+  pub close : 2 * unsigned_abs (raw *ℤ pos exact.denominator -ℤ exact.numerator *ℤ pos 65536)
+      ≤ halves * exact.denominator
+
+-- `IsIgnored`, as a test
+abbrev pub is_ignored_axis : ℤ → ℤ → ℤ → Bool
+is_ignored_axis start peak end =
+    int_lt peak start || (int_lt end peak || ((int_lt start (pos 0) && int_lt (pos 0) end) || int_eq peak (pos 0)))
+
+-- the scalar of an axis: 1 if the axis is ignored, and at the peak; else 0 if the coordinate is out of range; else the
+-- part of the way from the start up to the peak, or from the end down to it
+unfoldable pub exact_axis_scalar : ℤ → ℤ → ℤ → ℤ → Fraction
+exact_axis_scalar start peak end coordinate =
+    if is_ignored_axis start peak end || int_eq coordinate peak then whole (pos 1)
+    else (if int_le coordinate start || int_le end coordinate then whole (pos 0)
+    else (if int_lt coordinate peak then part_of (coordinate -ℤ start) (peak -ℤ start)
+    else part_of (end -ℤ coordinate) (end -ℤ peak)))
+
+-- the product of the scalars along the first n axes
+unfoldable pub exact_scalar : List ℕ → List F2Dot14 → ℕ → Fraction
+exact_scalar region coordinates zero = whole (pos 1)
+exact_scalar region coordinates (suc n) = times (exact_scalar region coordinates n)
+    (exact_axis_scalar (stored_bits region (6 * n)) (stored_bits region (6 * n + 2)) (stored_bits region (6 * n + 4))
+    (coordinate_bits coordinates n))
+
+-- a scalar of n axes is off their exact product by at most half a unit for the first axis and one for each other
+abbrev pub IsNearScalar : List ℕ → List F2Dot14 → ℕ → ℤ → Type 0
+IsNearScalar region coordinates n scalar = IsOffBy (2 * n - 1) scalar (exact_scalar region coordinates n)
+
+-- the scalar of a region of a list
+abbrev pub exact_region_scalar : List ℕ → ℕ → List F2Dot14 → Fraction
+exact_region_scalar regions region coordinates =
+    exact_scalar (region_bytes regions region) coordinates (axis_count regions)
+
 abbrev pub IsNearRegionScalar : List ℕ → ℕ → List F2Dot14 → ℤ → Type 0
 IsNearRegionScalar regions region coordinates scalar =
-    IsNearScalarOf (region_bytes regions region) coordinates (axis_count regions) scalar
+    IsNearScalar (region_bytes regions region) coordinates (axis_count regions) scalar
 
 -- ---- delta sets ("Item Variation Data": itemCount, wordDeltaCount, regionIndexCount, regionIndexes, and deltaSets)
 
@@ -178,6 +225,40 @@ IsSumThrough regions subtable coordinates set (suc n) sum = (before product : �
 abbrev pub IsSetSum : List ℕ → List ℕ → List F2Dot14 → ℕ → ℤ → Type 0
 IsSetSum regions subtable coordinates set sum =
     IsSumThrough regions subtable coordinates set (region_index_count subtable) sum
+
+-- ---- the same, exact
+
+-- the sum of the first n deltas, each times the exact scalar of its region
+unfoldable pub exact_delta : List ℕ → List ℕ → List F2Dot14 → ℕ → ℕ → Fraction
+exact_delta regions subtable coordinates set zero = whole (pos 0)
+exact_delta regions subtable coordinates set (suc n) = plus (exact_delta regions subtable coordinates set n)
+    (times (exact_region_scalar regions (region_index subtable n) coordinates) (whole (delta_of subtable set n)))
+
+-- the sum of the magnitudes of the first n deltas
+unfoldable pub sum_of_magnitudes : List ℕ → ℕ → ℕ → ℕ
+sum_of_magnitudes subtable set zero = 0
+sum_of_magnitudes subtable set (suc n) = sum_of_magnitudes subtable set n + unsigned_abs (delta_of subtable set n)
+
+-- how far the sum of a set may be off, in halves of a unit: each delta as often as its scalar
+abbrev pub sum_halves : List ℕ → List ℕ → ℕ → ℕ → ℕ
+sum_halves regions subtable set n = (2 * axis_count regions - 1) * sum_of_magnitudes subtable set n
+
+abbrev pub IsNearSetSum : List ℕ → List ℕ → List F2Dot14 → ℕ → ℤ → Type 0
+IsNearSetSum regions subtable coordinates set sum =
+    IsOffBy (sum_halves regions subtable set (region_index_count subtable)) sum
+    (exact_delta regions subtable coordinates set (region_index_count subtable))
+
+-- an advance plus the exact delta of a set
+abbrev pub exact_advance : List ℕ → List ℕ → List F2Dot14 → ℕ → ℕ → Fraction
+exact_advance regions subtable coordinates set advance =
+    plus (whole (pos advance)) (exact_delta regions subtable coordinates set (region_index_count subtable))
+
+-- a varied advance is off the exact one by at most half a font unit, and what the sum of the set is off:
+-- |varied - exact| <= 1/2 + (axes - 1/2) * (sum of |delta|) / 65536
+abbrev pub IsNearAdvance : List ℕ → List ℕ → List F2Dot14 → ℕ → ℕ → ℤ → Type 0
+IsNearAdvance regions subtable coordinates set advance varied =
+    IsOffBy (65536 + sum_halves regions subtable set (region_index_count subtable)) (varied *ℤ pos 65536)
+    (exact_advance regions subtable coordinates set advance)
 
 -- the set is in the subtable, and so is each of its columns, with a region
 pub record HasSet (regions subtable : List ℕ) (set : ℕ) : Type 0 where

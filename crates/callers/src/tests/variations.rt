@@ -1,14 +1,58 @@
 //! Item variation stores: what `tests/examples.rs` does not see, with values from exact arithmetic.
 
-use crate::variations::{
-    DeltaSetIndex, is_no_variation, read_delta, read_delta_set_index, region_scalar,
-};
+use crate::delta_sets::read_delta;
+use crate::maps::{DeltaSetIndex, is_no_variation, read_delta_set_index};
+use crate::regions::{RegionAxisCoordinates, axis_scalar, region_scalar};
 use font_types::{F2Dot14, Fixed};
 
 // Two axes and two regions: both axes from 0 to a peak at 3 of 2.14; the second alone.
 const REGIONS: [u8; 28] = [
     0, 2, 0, 2, 0, 0, 0, 3, 0, 3, 0, 0, 0, 3, 0, 3, 0, 0, 0, 0, 0, 0, 0, 0, 0, 3, 0, 3,
 ];
+
+// The nearest raw values to exact fractions of 65536.
+#[test]
+fn scalars_of_axes(rt: HostRuntime) {
+    for &(start, peak, end, coordinate, bits) in &[
+        // Ignored: coordinates out of order, or on both sides of zero, or a peak of zero.
+        (2, 1, 3, 0, 65536),
+        (1, 3, 2, 0, 65536),
+        (-1, 1, 2, 0, 65536),
+        (0, 0, 3, 1, 65536),
+        // At the peak; at the ends, and beyond.
+        (0, 3, 3, 3, 65536),
+        (1, 3, 9, 1, 0),
+        (1, 3, 9, 0, 0),
+        (1, 3, 9, 9, 0),
+        (1, 3, 9, 10, 0),
+        // On the way up: 1/3 and 5/6. On the way down: 2/3 and 1/2.
+        (0, 3, 3, 1, 21845),
+        (-9, -3, -1, -4, 54613),
+        (1, 3, 9, 5, 43691),
+        (-9, -3, -1, -2, 32768),
+    ] {
+        let axis = RegionAxisCoordinates {
+            start_coord: F2Dot14::from_bits(start),
+            peak_coord: F2Dot14::from_bits(peak),
+            end_coord: F2Dot14::from_bits(end),
+        };
+        let scalar = axis_scalar(axis, F2Dot14::from_bits(coordinate));
+        assert!(rt;
+            scalar == Fixed::from_bits(bits),
+            "{start}, {peak}, {end} at {coordinate}"
+        );
+    }
+}
+
+// Exact is 12788/12854 times 9513/9584, which is 64716.49 of 65536: 1.49 units more.
+#[test]
+fn scalar_near_its_bound(rt: HostRuntime) {
+    let region = [
+        0, 2, 0, 1, 0, 0, 0x32, 0x36, 0x32, 0x36, 0, 0, 0x25, 0x70, 0x25, 0x70,
+    ];
+    let at = [12788, 9513].map(F2Dot14::from_bits);
+    assert!(rt; region_scalar(&region, 0, &at) == Some(Fixed::from_bits(64715)));
+}
 
 #[test]
 fn scalars_of_regions(rt: HostRuntime) {

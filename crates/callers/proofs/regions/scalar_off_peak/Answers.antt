@@ -2,7 +2,7 @@ use Rattle.std.proofs.Common.{rules, arith, ◌-ℤ◌}
 use Rattle.std.proofs.lemmas.Int.{ints}
 use Rattle.font_types.specs.F2Dot14.{f2dot14_bits}
 use Rattle.font_types.proofs.Callers.{calls, quotient_of_widened}
-use Rattle.callers.proofs.variations.scalar_off_peak.Goals as goal
+use Rattle.callers.proofs.regions.scalar_off_peak.Goals as goal
 
 pub returns-then-lt-clause-rising : goal.returns-then-lt-clause-rising
 returns-then-lt-clause-rising c = λ after before.

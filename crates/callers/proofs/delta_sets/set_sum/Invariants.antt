@@ -1,7 +1,7 @@
 use Rattle.std.proofs.Common.{ℕ, ◌<◌, ◌≤◌, ◌*◌, ◌^◌, unsigned_abs}
 use Rattle.font_types.specs.F48Dot16.{f48dot16_bits}
 use Rattle.callers.specs.Variations.{IsSumThrough, HasTerm}
-use Rattle.callers.proofs.variations.set_sum.Given as goal
+use Rattle.callers.proofs.delta_sets.set_sum.Given as goal
 
 abbrev pub invariant-loop-column : goal.invariant-loop-column
 invariant-loop-column l = IsSumThrough l.regions l.subtable l.coordinates l.set l.column (f48dot16_bits l.sum)

@@ -1,0 +1,100 @@
+// @generated from crates/callers/src/delta_sets.rt by tools/src/bin/erase.rs
+
+//! Delta sets of item variation stores, their sums, and the advances that they vary.
+
+use super::regions::region_scalar;
+use font_types_proved::{F2Dot14, F48Dot16, Fixed, Scalar, UfWord};
+
+// The parts of `wordDeltaCount`.
+const LONG_WORDS: u16 = 0x8000;
+
+const WORD_DELTA_COUNT_MASK: u16 = 0x7FFF;
+
+/// Reads the delta of a column in a set, or returns `None` if the subtable does not have it. The
+/// first columns are wide, and all are twice as wide in a subtable of long words.
+pub fn read_delta(subtable: &[u8], set: u16, column: u16) -> Option<i32> {
+    let (words, count) = (u16::read_at(subtable, 2)?, u16::read_at(subtable, 4)?);
+    if set >= u16::read_at(subtable, 0)? || column >= count || words & WORD_DELTA_COUNT_MASK > count
+    {
+        return None;
+    }
+    let offset = usize::try_from(offset_of(words, count, set, column)).ok()?;
+    read_signed(subtable, offset, width_of(words, column))
+}
+
+// Returns the size of a narrow delta, by the count of wide columns.
+fn narrow_width_of(words: u16) -> usize {
+    if words & LONG_WORDS != 0 { 2 } else { 1 }
+}
+
+// Returns the size of a delta.
+fn width_of(words: u16, column: u16) -> usize {
+    if column < words & WORD_DELTA_COUNT_MASK {
+        2 * narrow_width_of(words)
+    } else {
+        narrow_width_of(words)
+    }
+}
+
+// Returns the offset of the delta of a column in a set, which a `usize` of 32 bits may not hold.
+fn offset_of(words: u16, count: u16, set: u16, column: u16) -> u64 {
+    let wide = words & WORD_DELTA_COUNT_MASK;
+    let row = u64::from(count) + u64::from(wide);
+    let units = u64::from(set) * row + u64::from(column) + u64::from(column.min(wide));
+    6 + 2 * u64::from(count) + narrow_width_of(words) as u64 * units
+}
+
+// Reads a signed integer of one, two or four bytes.
+fn read_signed(bytes: &[u8], offset: usize, width: usize) -> Option<i32> {
+    match width {
+        1 => Some(i32::from(i8::read_at(bytes, offset)?)),
+        2 => Some(i32::from(i16::read_at(bytes, offset)?)),
+        _ => i32::read_at(bytes, offset),
+    }
+}
+
+/// Returns the scalar of a column's region and the delta of the column in a set, or `None` if the
+/// subtable does not have the delta or the list the region.
+pub fn column_term(
+    regions: &[u8],
+    subtable: &[u8],
+    set: u16,
+    column: u16,
+    coordinates: &[F2Dot14],
+) -> Option<(Fixed, i32)> {
+    let delta = read_delta(subtable, set, column)?;
+    let region = u16::read_at(subtable, 6 + 2 * usize::from(column))?;
+    Some((region_scalar(regions, region, coordinates)?, delta))
+}
+
+/// Returns the exact sum of the deltas of a set, each times the scalar of its region, or `None` if
+/// the subtable does not have the set or the list not all its regions.
+pub fn set_sum(
+    regions: &[u8],
+    subtable: &[u8],
+    set: u16,
+    coordinates: &[F2Dot14],
+) -> Option<F48Dot16> {
+    let count = u16::read_at(subtable, 4)?;
+    if set >= u16::read_at(subtable, 0)? {
+        return None;
+    }
+    let mut sum = F48Dot16::ZERO;
+    for column in 0..count {
+        let (scalar, delta) = column_term(regions, subtable, set, column, coordinates)?;
+        sum += scalar.mul_i32(delta);
+    }
+    Some(sum)
+}
+
+/// Adds the sum of a delta set at these coordinates to an advance and rounds once, half up, or
+/// returns `None` if the set is not there or the result is out of range.
+pub fn vary_advance(
+    advance: UfWord,
+    regions: &[u8],
+    subtable: &[u8],
+    set: u16,
+    coordinates: &[F2Dot14],
+) -> Option<UfWord> {
+    advance.checked_add_delta(set_sum(regions, subtable, set, coordinates)?)
+}

@@ -1,0 +1,109 @@
+// @generated from crates/callers/src/regions.rt by tools/src/bin/erase.rs
+
+//! Variation regions: their scalars along an axis, and the products of these.
+
+use super::evaluator::ratio;
+use font_types_proved::{F2Dot14, Fixed, Scalar};
+
+/// The extent of a region along one axis.
+#[derive(Clone, Copy, PartialEq, Debug)]
+pub struct RegionAxisCoordinates {
+    pub start_coord: F2Dot14,
+    pub peak_coord: F2Dot14,
+    pub end_coord: F2Dot14,
+}
+
+/// Returns whether an axis is ignored in a region: its coordinates are out of order or on both
+/// sides of zero, or the peak is zero.
+pub fn is_ignored(axis: RegionAxisCoordinates) -> bool {
+    let zero = F2Dot14::ZERO;
+    axis.peak_coord < axis.start_coord
+        || axis.end_coord < axis.peak_coord
+        || (axis.start_coord < zero && zero < axis.end_coord)
+        || axis.peak_coord == zero
+}
+
+/// Returns the scalar of a region along one axis, from 0 to 1.
+pub fn axis_scalar(axis: RegionAxisCoordinates, coordinate: F2Dot14) -> Fixed {
+    if is_ignored(axis) || coordinate == axis.peak_coord {
+        Fixed::ONE
+    } else {
+        scalar_off_peak(axis, coordinate)
+    }
+}
+
+// Returns `axis_scalar` of an axis that is not ignored, at another coordinate than the peak.
+//
+// The lemma `quotient_of_widened` states a quotient of widened differences by the differences.
+fn scalar_off_peak(axis: RegionAxisCoordinates, coordinate: F2Dot14) -> Fixed {
+    let (start, peak, end) = (axis.start_coord, axis.peak_coord, axis.end_coord);
+    if coordinate <= start || end <= coordinate {
+        Fixed::ZERO
+    } else if coordinate < peak {
+        ratio(widened(start, coordinate), widened(start, peak))
+    } else {
+        ratio(widened(coordinate, end), widened(peak, end))
+    }
+}
+
+// Returns the exact difference `to - from`.
+fn widened(from: F2Dot14, to: F2Dot14) -> Fixed {
+    to.to_fixed() - from.to_fixed()
+}
+
+// Returns a product of numbers from 0 to 1.
+fn scaled(scalar: Fixed, along: Fixed) -> Fixed {
+    scalar * along
+}
+
+// Returns the coordinate along an axis, by default 0.
+fn coordinate_along(coordinates: &[F2Dot14], axis: u16) -> F2Dot14 {
+    match coordinates.get(usize::from(axis)) {
+        Some(coordinate) => *coordinate,
+        None => F2Dot14::ZERO,
+    }
+}
+
+// Reads the extent of a region along an axis.
+fn axis_of(region: &[u8], axis: u16) -> RegionAxisCoordinates {
+    let offset = 6 * usize::from(axis);
+    RegionAxisCoordinates {
+        start_coord: F2Dot14::read_at(region, offset).unwrap(),
+        peak_coord: F2Dot14::read_at(region, offset + 2).unwrap(),
+        end_coord: F2Dot14::read_at(region, offset + 4).unwrap(),
+    }
+}
+
+// Returns the scalar of a region along an axis.
+fn scalar_along(region: &[u8], coordinates: &[F2Dot14], axis: u16) -> Fixed {
+    axis_scalar(axis_of(region, axis), coordinate_along(coordinates, axis))
+}
+
+// Returns the product of the scalars along all axes.
+fn product_of_scalars(region: &[u8], axes: u16, coordinates: &[F2Dot14]) -> Fixed {
+    let mut scalar = Fixed::ONE;
+    for axis in 0..axes {
+        scalar = scaled(scalar, scalar_along(region, coordinates, axis));
+    }
+    scalar
+}
+
+// Returns the bytes of a region.
+fn find_region(regions: &[u8], region: u16) -> Option<&[u8]> {
+    let (axes, count) = (u16::read_at(regions, 0)?, u16::read_at(regions, 2)?);
+    if count >= 0x8000 || region >= count {
+        return None;
+    }
+    // In 64 bits, where a `usize` of 32 could overflow.
+    let start = 4 + 6 * (u64::from(region) * u64::from(axes));
+    let rest = regions.get(usize::try_from(start).ok()?..)?;
+    rest.get(..6 * usize::from(axes))
+}
+
+/// Returns the scalar of a region, the product of those of its axes, from 0 to 1, or `None` if the
+/// list does not have the region. Axes beyond the coordinates are at their default.
+pub fn region_scalar(regions: &[u8], region: u16, coordinates: &[F2Dot14]) -> Option<Fixed> {
+    let region = find_region(regions, region)?;
+    let axes = u16::read_at(regions, 0)?;
+    Some(product_of_scalars(region, axes, coordinates))
+}
