@@ -299,9 +299,16 @@ static void check_sums(void) {
             check("sub", x, y, font_fixed_sub(x, y), wrap((int64_t)x - y));
         }
     }
+    /* Each number of 16 bits, with a sign and without; and those of 32 bits. */
+    for (int32_t x = INT16_MIN; x <= UINT16_MAX; x++)
+        check("from_i32", x, 0, font_fixed_from_i32(x), wrap(INT64_C(65536) * x));
+    for (size_t i = 0; i < count; i++)
+        check("from_i32", numbers[i], 0, font_fixed_from_i32(numbers[i]),
+              wrap(INT64_C(65536) * numbers[i]));
 }
 
-/* ---- rows of the proved Rust: a width, a sum or a field, two arguments, and the result ---- */
+/* ---- rows of the proved Rust: a width, a sum, a conversion or a field, two arguments, and the
+ *      result ---- */
 
 /* As rows.rs has them. */
 static const uint8_t row_bytes[] = {0x00, 0x80, 0xFF, 0x7F, 0xE3, 0x06, 0x29, 0x4C,
@@ -323,6 +330,8 @@ static void check_row(const char *kind, int64_t x, uint64_t y, const char *resul
         check(kind, x, (int64_t)y, font_fixed_add((int32_t)x, (int32_t)y), expected);
     if (strcmp(kind, "sub") == 0)
         check(kind, x, (int64_t)y, font_fixed_sub((int32_t)x, (int32_t)y), expected);
+    if (strcmp(kind, "from") == 0)
+        check(kind, x, (int64_t)y, font_fixed_from_i32((int32_t)x), expected);
     const font_view view = view_of(row_bytes, (size_t)x);
     for (size_t k = 0; k < FIELDS; k++)
         if (strcmp(kind, fields[k].name) == 0)

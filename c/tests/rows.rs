@@ -1,5 +1,5 @@
 //! Prints results of the proved Rust, with which `c/tests/header.c` compares the functions that the
-//! header has in C: raw values rounded to integers, sums that wrap, and fields of 16 bytes.
+//! header has in C: raw values rounded to integers, sums and conversions, and fields of 16 bytes.
 //! `rows CASES FONT` writes fonts, with what `c/examples/advance.c` has to say of them, and one of
 //! these.
 mod cases;
@@ -76,6 +76,13 @@ fn sums(numbers: impl Iterator<Item = i32>) {
     }
 }
 
+/// Prints each number as 16.16, which wraps.
+fn conversions(numbers: impl Iterator<Item = i32>) {
+    for number in numbers {
+        println!("from {number} 0 {}", Fixed::from_i32(number).to_bits());
+    }
+}
+
 fn main() {
     let paths: Vec<_> = std::env::args_os().skip(1).collect();
     if let [path, font] = &paths[..] {
@@ -91,6 +98,7 @@ fn main() {
     round!(F2Dot30, 32, 30, of_32());
     round!(F48Dot16, 64, 16, raw_values());
     sums(of_32());
+    conversions(of_32());
     read!("u8", u8, i64::from);
     read!("i8", i8, i64::from);
     read!("u16", u16, i64::from);
