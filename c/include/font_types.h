@@ -358,6 +358,13 @@ FONT_API_INLINE font_view font_api_absent(void) FONT_API_NOEXCEPT {
     return absent;
 }
 
+/* The bytes from an offset to the end; absent if the offset is 0 or past the end. */
+FONT_API_INLINE font_view font_api_from(font_view view, uint32_t start) FONT_API_NOEXCEPT {
+    if (start == 0 || start > view.length)
+        return font_api_absent();
+    return font_api_view(view, start, view.length - start);
+}
+
 /* The number of two, three, four and eight bytes. */
 FONT_API_INLINE uint32_t font_api_two(const uint8_t *at) FONT_API_NOEXCEPT {
     return FONT_API_AS(uint32_t, at[0]) << 8 | at[1];
@@ -401,16 +408,34 @@ FONT_API_INLINE font_view font_items(
 }
 
 /**
+ * The bytes from where the 16-bit offset at `offset` points, to the end of the view; absent
+ * if that offset is 0, missing, or past the end. (font_part with the field's value would give
+ * the whole view for an offset that is 0 or missing.)
+ */
+FONT_API_INLINE font_view font_at_offset16(font_view view, size_t offset) FONT_API_NOEXCEPT {
+    if (!font_api_within(view, offset, 2))
+        return font_api_absent();
+    return font_api_from(view, font_api_two(view.bytes + offset));
+}
+
+/**
+ * The bytes from where the 24-bit offset at `offset` points, to the end of the view; absent
+ * if that offset is 0, missing, or past the end.
+ */
+FONT_API_INLINE font_view font_at_offset24(font_view view, size_t offset) FONT_API_NOEXCEPT {
+    if (!font_api_within(view, offset, 3))
+        return font_api_absent();
+    return font_api_from(view, font_api_three(view.bytes + offset));
+}
+
+/**
  * The bytes from where the 32-bit offset at `offset` points, to the end of the view; absent
  * if that offset is 0, missing, or past the end.
  */
 FONT_API_INLINE font_view font_at_offset32(font_view view, size_t offset) FONT_API_NOEXCEPT {
     if (!font_api_within(view, offset, 4))
         return font_api_absent();
-    const uint32_t start = font_api_four(view.bytes + offset);
-    if (start == 0 || start > view.length)
-        return font_api_absent();
-    return font_api_view(view, start, view.length - start);
+    return font_api_from(view, font_api_four(view.bytes + offset));
 }
 
 /** Reads a uint8, or fails by FONT_OUT_OF_BOUNDS. */

@@ -251,33 +251,66 @@ static void check_parts(void) {
     }
 }
 
-/* The bytes from where the offset `start`, at `offset`, points: views of fewer bytes end in it. */
-static void check_start(uint32_t start, size_t length, size_t offset) {
-    uint8_t bytes[12] = {0};
+/* The functions that follow offsets, by their sizes. */
+static const struct start {
+    const char *name;
+    font_view (*part)(font_view, size_t);
+    size_t size;
+} starts[] = {
+    {"offset16", font_at_offset16, 2},
+    {"offset24", font_at_offset24, 3},
+    {"offset32", font_at_offset32, 4},
+};
+enum { STARTS = sizeof starts / sizeof starts[0], LONGEST = 0x1000005 };
+
+/* Checks the bytes to which a number, at `offset`, points in a view: shorter views end in it. */
+static void check_start(const struct start *kind, uint32_t number, size_t length, size_t offset) {
+    static uint8_t bytes[LONGEST];
     const font_view view = view_of(bytes, length);
-    for (size_t i = 0; i < 4; i++)
-        if (offset < 9)
-            bytes[offset + i] = (uint8_t)(start >> (24 - 8 * i));
-    const int within =
-        length >= 4 && offset <= length - 4 && start != 0 && start <= length;
-    check_part("offset32", view, within ? start : 0, length, font_at_offset32(view, offset), within,
+    const size_t size = kind->size, most = LONGEST - size;
+    for (size_t i = 0; i < size && offset <= most; i++)
+        bytes[offset + i] = (uint8_t)(number >> 8 * (size - 1 - i));
+    const uint32_t start = size == 4 ? number : number & ((UINT32_C(1) << 8 * size) - 1);
+    const int within = length >= size && offset <= length - size && start != 0 && start <= length;
+    check_part(kind->name, view, within ? start : 0, length, kind->part(view, offset), within,
                length - start);
+    for (size_t i = 0; i < size && offset <= most; i++)
+        bytes[offset + i] = 0;
 }
 
-static void check_starts(void) {
-    static const uint32_t others[] = {0x100, 0x10000, 0x1000000, 0x7FFFFFFF, 0x80000000,
+static void check_starts_of(const struct start *kind) {
+    /* With low bytes that point into short views, and without. */
+    static const uint32_t others[] = {0x100,     0x101,      0x10000,    0x10001,    0xFF000C,
+                                      0x1000000, 0x1000001,  0x7FFFFFFF, 0x80000000, 0x80000001,
                                       0xFFFFFFFF};
     for (size_t length = 0; length <= 12; length++) {
         for (size_t offset = 0; offset <= 12; offset++) {
             for (uint32_t start = 0; start <= 14; start++)
-                check_start(start, length, offset);
+                check_start(kind, start, length, offset);
             for (size_t i = 0; i < sizeof others / sizeof others[0]; i++)
-                check_start(others[i], length, offset);
+                check_start(kind, others[i], length, offset);
         }
         for (size_t i = 0; i < FAR; i++)
-            check_start(1, length, far[i]);
+            check_start(kind, 1, length, far[i]);
     }
-    check_part("offset32", view_of(NULL, 0), 0, 0, font_at_offset32(view_of(NULL, 0), 0), 0, 0);
+    /* All of 16 bits, in a short view and in one of 258 bytes; and some in longer ones. */
+    for (uint32_t start = 0; start <= 0xFFFF; start++) {
+        check_start(kind, start, 12, start % 3);
+        check_start(kind, start, 0x102, 0);
+    }
+    static const size_t lengths[] = {0x101, 0xFFFE, 0xFFFF, 0x10000, 0x10001, 0xFFFFFF, LONGEST};
+    for (size_t i = 0; i < sizeof lengths / sizeof lengths[0]; i++) {
+        check_start(kind, 0xFFFF, lengths[i], 2);
+        for (size_t k = 0; k < sizeof others / sizeof others[0]; k++)
+            check_start(kind, others[k], lengths[i], 2);
+    }
+    const font_view absent = view_of(NULL, 0);
+    check_part(kind->name, absent, 0, 0, kind->part(absent, 0), 0, 0);
+}
+
+static void check_starts(void) {
+    for (size_t k = 0; k < STARTS; k++)
+        check_starts_of(&starts[k]);
 }
 
 /* ---- sums ---- */
