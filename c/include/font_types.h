@@ -5,8 +5,8 @@
  *
  * Each function that the library exports, in the first part below, has a contract that is
  * proved; its comment states it. The static inline functions in the second part, which read
- * views of bytes, round to integers, add, convert to 16.16, parse and print by the name of a
- * format, and give the text of a status, are C: they are tested, not proved.
+ * views of bytes, round to integers, add, convert integers and 48.16 to 16.16, parse and print
+ * by the name of a format, and give the text of a status, are C: they are tested, not proved.
  *
  * A number is a raw value with a number of fraction bits f: the int32_t 98304 is
  * 98304 / 2^16 = 1.5 in 16.16, for which f is 16. f is from 6 to 30, and at most the
@@ -189,8 +189,8 @@ FONT_API_PURE int32_t font_f26dot6_mul(int32_t x, int32_t y) FONT_API_NOEXCEPT;
 FONT_API_PURE int32_t font_f26dot6_div(int32_t x, int32_t y) FONT_API_NOEXCEPT;
 
 /* ---- conversions to fewer fraction bits, half up; those to as many or more are C, as `bits * 4`
- *      from 2.14 to 16.16, `(int32_t)bits` from 48.16 to 16.16, which wraps,
- *      `units * INT64_C(65536)` from font units to 48.16, and font_fixed_from_i32 ---- */
+ *      from 2.14 to 16.16, `units * INT64_C(65536)` from font units to 48.16, `(int32_t)bits`
+ *      from 48.16 to 16.16, which wraps, font_f48dot16_to_fixed and font_fixed_from_i32 ---- */
 
 /** 16.16 to the nearest integer, which is no raw value: 98304 to 2; wraps to 16 bits. */
 FONT_API_PURE int32_t font_fixed_to_i32(int32_t bits) FONT_API_NOEXCEPT;
@@ -675,6 +675,15 @@ FONT_API_INLINE int32_t font_fixed_sub(int32_t x, int32_t y) FONT_API_NOEXCEPT {
 /** An integer, as font units, to 16.16, x * 65536; wraps unless x is from -32768 to 32767. */
 FONT_API_INLINE int32_t font_fixed_from_i32(int32_t x) FONT_API_NOEXCEPT {
     return FONT_API_AS(int32_t, FONT_API_AS(uint32_t, x) * UINT32_C(65536));
+}
+
+/** 48.16 to the same number in 16.16, or FONT_OUT_OF_RANGE; `(int32_t)bits` wraps. */
+FONT_API_INLINE font_status font_f48dot16_to_fixed(
+    int64_t bits, int32_t *fixed) FONT_API_NOEXCEPT {
+    if (bits < INT32_MIN || bits > INT32_MAX)
+        return FONT_OUT_OF_RANGE;
+    *fixed = FONT_API_AS(int32_t, bits);
+    return FONT_OK;
 }
 
 /** The number of bytes of a delta set of `count` deltas, for font_delta_set_sum. */

@@ -340,6 +340,30 @@ static void check_sums(void) {
               wrap(INT64_C(65536) * numbers[i]));
 }
 
+/* Checks the 16.16 value of a 48.16 value, or that it does not fit, and nothing is stored. */
+static void check_fixed(int64_t bits, int fits) {
+    int32_t fixed = KEPT;
+    check("status of to_fixed", bits, 0, font_f48dot16_to_fixed(bits, &fixed),
+          fits ? FONT_OK : FONT_OUT_OF_RANGE);
+    check("to_fixed", bits, 0, fixed, fits ? bits : KEPT);
+}
+
+/* At the ends of 16.16 and of 48.16, and each power of two with its neighbors. */
+static void check_narrowed(void) {
+    for (int64_t near = -3; near <= 3; near++) {
+        check_fixed(INT32_MIN + near, near >= 0);
+        check_fixed(INT32_MAX + near, near <= 0);
+        for (int power = 0; power <= 62; power++) {
+            check_fixed((INT64_C(1) << power) + near, power < 31 || (power == 31 && near < 0));
+            check_fixed(near - (INT64_C(1) << power), power < 31 || (power == 31 && near >= 0));
+        }
+    }
+    for (int64_t near = 0; near <= 3; near++) {
+        check_fixed(INT64_MIN + near, 0);
+        check_fixed(INT64_MAX - near, 0);
+    }
+}
+
 /* ---- rows of the proved Rust: a width, a sum, a conversion or a field, two arguments, and the
  *      result ---- */
 
@@ -365,6 +389,11 @@ static void check_row(const char *kind, int64_t x, uint64_t y, const char *resul
         check(kind, x, (int64_t)y, font_fixed_sub((int32_t)x, (int32_t)y), expected);
     if (strcmp(kind, "from") == 0)
         check(kind, x, (int64_t)y, font_fixed_from_i32((int32_t)x), expected);
+    if (strcmp(kind, "to") == 0) {
+        const int fits = strcmp(result, "none") != 0;
+        check("to_fixed of Rust", x, 0, fits ? expected : x, x);
+        check_fixed(x, fits);
+    }
     const font_view view = view_of(row_bytes, (size_t)x);
     for (size_t k = 0; k < FIELDS; k++)
         if (strcmp(kind, fields[k].name) == 0)
@@ -390,8 +419,9 @@ int main(int count, char **paths) {
     check_parts();
     check_starts();
     check_sums();
+    check_narrowed();
     const int rows = count > 1 ? check_rows(paths[1]) : 0;
     printf("header: %d checks, %d failed, %d rows of the proved Rust\n", checks, failures, rows);
     /* With fewer, a part was left out. */
-    return failures == 0 && checks > 3700000 && (count < 2 || rows > 250000) ? 0 : 1;
+    return failures == 0 && checks > 4700000 && (count < 2 || rows > 270000) ? 0 : 1;
 }

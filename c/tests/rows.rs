@@ -76,10 +76,15 @@ fn sums(numbers: impl Iterator<Item = i32>) {
     }
 }
 
-/// Prints each number as 16.16, which wraps.
-fn conversions(numbers: impl Iterator<Item = i32>) {
-    for number in numbers {
+/// Prints each number as 16.16, which wraps; and each 48.16 value as 16.16, unless it does not fit.
+fn conversions() {
+    for bits in raw_values() {
+        let number = bits as i32;
         println!("from {number} 0 {}", Fixed::from_i32(number).to_bits());
+        match F48Dot16::from_bits(bits).checked_to_fixed() {
+            Some(fixed) => println!("to {bits} 0 {}", fixed.to_bits()),
+            None => println!("to {bits} 0 none"),
+        }
     }
 }
 
@@ -98,7 +103,7 @@ fn main() {
     round!(F2Dot30, 32, 30, of_32());
     round!(F48Dot16, 64, 16, raw_values());
     sums(of_32());
-    conversions(of_32());
+    conversions();
     read!("u8", u8, i64::from);
     read!("i8", i8, i64::from);
     read!("u16", u16, i64::from);

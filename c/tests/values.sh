@@ -2,8 +2,8 @@
 # loaded; and FreeType's values. A table with one value that is wrong has to fail, and so have a row
 # that is, a header that stores when it fails, and a read out of bounds.
 
-# Rounded values, sums and fields of the proved Rust, with which the functions in C are compared;
-# and fonts, whole, mutated and broken, with what advance.c has to say of them.
+# Rounded values, sums, conversions and fields of the proved Rust, with which the functions in C are
+# compared; and fonts, whole, mutated and broken, with what advance.c has to say of them.
 rows=("${empty[@]}" cargo run --quiet --manifest-path ../Cargo.toml --target-dir "$work/rows"
     --example rows --)
 "${rows[@]}" >"$work/rows.txt"
@@ -35,7 +35,8 @@ for compiler in 'gcc g++' 'clang clang++'; do
     run "$work/header" "$work/rows.txt"
     $c -std=c99 $strict tests/header.c -o "$work/header"
     run "$work/header" "$work/rows.txt"
-    for row in '16 14 1 16384' '16 14 16383 0' 'u8 1 0 1' 'i16 1 0 128' 'add 1 2 4'; do
+    for row in '16 14 1 16384' '16 14 16383 0' 'u8 1 0 1' 'i16 1 0 128' 'add 1 2 4' \
+        'from 1 0 1' 'to 1 0 2' 'to 1 0 none'; do
         fails "$work/header" /dev/stdin <<<"$row"
         [[ $(<"$work/log") != *' 0 failed'* ]]
     done
