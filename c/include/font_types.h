@@ -1,3 +1,4 @@
+/* SPDX-License-Identifier: MIT OR Apache-2.0 */
 /**
  * @file
  * Fixed-point numbers, matrices, tags, sums of deltas and big-endian fields of OpenType fonts.
