@@ -22,19 +22,29 @@ record! { AxisMap 4:
     to: F2Dot14, 2 3;
 }
 
-/// A table, which must be of major version 1, if the font has it.
-fn version_1<'a>(font: &Font<'a>, tag: &[u8; 4]) -> Result<Option<&'a [u8]>, String> {
+/// A table, which must be of this major version, if the font has it.
+fn of_version<'a>(
+    font: &Font<'a>,
+    tag: &[u8; 4],
+    version: u16,
+) -> Result<Option<&'a [u8]>, String> {
     match font.table(tag) {
-        Some(table) if u16::read_at(table, 0) != Some(1) => {
-            Err(format!("`{}` of another version than 1", Tag::new(tag)))
+        Some(table) if u16::read_at(table, 0) != Some(version) => {
+            Err(format!("{}: not of version {version}", Tag::new(tag)))
         }
         table => Ok(table),
     }
 }
 
+/// The glyph of a character, 0 if the font has none for it.
+pub fn glyph(font: &Font<'_>, character: char) -> Result<GlyphId16, String> {
+    of_version(font, b"cmap", 0)?;
+    Ok(font.glyph(character).unwrap_or_default())
+}
+
 /// The axes of a font, none if it is not variable.
 pub fn axes(font: &Font<'_>) -> Result<Vec<VariationAxisRecord>, String> {
-    let Some(fvar) = version_1(font, b"fvar")? else {
+    let Some(fvar) = of_version(font, b"fvar", 1)? else {
         return Ok(Vec::new());
     };
     records(fvar).ok_or("`fvar` ends before its axes".into())
@@ -59,7 +69,7 @@ pub fn normalized(
     if !is_in_order || axis.max_value.checked_sub(axis.min_value).is_none() {
         return Err(format!("{}: an invalid axis", axis.axis_tag));
     }
-    let map = match version_1(font, b"avar")? {
+    let map = match of_version(font, b"avar", 1)? {
         Some(avar) => segment_map(avar, index)
             .ok_or_else(|| format!("{}: no map in `avar`", axis.axis_tag))?,
         None => Vec::new(),
@@ -90,15 +100,13 @@ pub fn advance(
     glyph: GlyphId16,
     coordinates: &[F2Dot14],
 ) -> Result<UfWord, String> {
+    of_version(font, b"hhea", 1)?;
     let base = font.advance(glyph).ok_or("no `hmtx`")?;
     if font.table(b"fvar").is_none() {
         return Ok(base);
     }
-    match version_1(font, b"HVAR")? {
-        Some(hvar) => {
-            let advance = varied(base, hvar, glyph, coordinates);
-            advance.ok_or_else(|| format!("glyph {}: no advance by `HVAR`", glyph.to_u16()))
-        }
+    match of_version(font, b"HVAR", 1)? {
+        Some(hvar) => varied(base, hvar, glyph, coordinates),
         None if font.table(b"gvar").is_some() => Err("`gvar` without `HVAR`".into()),
         None => Ok(base),
     }
@@ -110,16 +118,37 @@ fn varied(
     hvar: &[u8],
     glyph: GlyphId16,
     coordinates: &[F2Dot14],
-) -> Option<UfWord> {
+) -> Result<UfWord, String> {
+    let none = || format!("glyph {}: no advance by `HVAR`", glyph.to_u16());
+    let (store, set) = store_and_set(hvar, glyph).ok_or_else(none)?;
+    if is_no_variation(set) {
+        return Ok(advance);
+    }
+    let count = u16::read_at(store, 6).ok_or_else(none)?;
+    if ScalarArray::<Offset32>::read_at(store, 8, count.into()).is_none() {
+        return Err("HVAR: the store ends early".into());
+    }
+    varied_by(advance, store, set, coordinates).ok_or_else(none)
+}
+
+/// The item variation store of a table `HVAR`, and the delta set of a glyph.
+fn store_and_set(hvar: &[u8], glyph: GlyphId16) -> Option<(&[u8], DeltaSetIndex)> {
     let store = at_offset(hvar, 4)?;
     let (outer, inner) = (0, glyph.to_u16().into());
     let set = match Offset32::read_at(hvar, 8)?.is_null() {
         true => DeltaSetIndex { outer, inner },
         false => read_delta_set_index(at_offset(hvar, 8)?, inner)?,
     };
-    if is_no_variation(set) {
-        return Some(advance);
-    }
+    Some((store, set))
+}
+
+/// An advance, varied by a delta set of a store.
+fn varied_by(
+    advance: UfWord,
+    store: &[u8],
+    set: DeltaSetIndex,
+    coordinates: &[F2Dot14],
+) -> Option<UfWord> {
     let (format, count) = (u16::read_at(store, 0)?, u16::read_at(store, 6)?);
     if format != 1 || set.outer >= count.into() {
         return None;
@@ -165,7 +194,7 @@ fn main() -> Result<(), Box<dyn std::error::Error>> {
         coordinates.push(normalized(&font, n, axis, value)?);
     }
     for character in text.chars() {
-        let glyph = font.glyph(character).unwrap_or_default();
+        let glyph = glyph(&font, character)?;
         println!("{character}: {}", advance(&font, glyph, &coordinates)?);
     }
     Ok(())

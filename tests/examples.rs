@@ -404,22 +404,32 @@ fn program_instance_of_other_tables() {
     let mut fewer_sets = (b"HVAR", hvar_of_two_axes(MAPS[4]));
     fewer_sets.1[27] = 3;
     let longer_map = (b"avar", [map.1.clone(), vec![0; 2]].concat());
-    let mut other_store = hvar.clone();
+    let [mut other_store, mut more_sets] = [hvar.clone(), hvar.clone()];
     other_store.1[21] = 2;
+    more_sets.1[26..28].fill(0xFF);
     for (font, error) in [
         (font_of([]), "wght=650: the font has no such axis"),
         (font_of([axes.clone(), gvar]), "`gvar` without `HVAR`"),
-        (
-            font_of([second(axes.clone())]),
-            "`fvar` of another version than 1",
-        ),
+        (font_of([second(axes.clone())]), "fvar: not of version 1"),
         (
             font_of([axes.clone(), second(map.clone())]),
-            "`avar` of another version than 1",
+            "avar: not of version 1",
         ),
         (
             font_of([axes.clone(), second(hvar)]),
-            "`HVAR` of another version than 1",
+            "HVAR: not of version 1",
+        ),
+        (
+            font_of([axes.clone(), (b"hhea", words(&[7, 0]))]),
+            "hhea: not of version 1",
+        ),
+        (
+            font_of([axes.clone(), (b"cmap", words(&[7, 0]))]),
+            "cmap: not of version 0",
+        ),
+        (
+            font_of([axes.clone(), more_sets]),
+            "HVAR: the store ends early",
         ),
         (
             font_of([axes.clone(), other_store]),

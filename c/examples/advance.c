@@ -268,6 +268,7 @@ static void set_scalars(struct font *font, font_view list, font_view indices, in
 static int64_t delta_of(struct font *font, font_view store, size_t outer, size_t inner) {
     const char *const early = "HVAR: the store ends early";
     require(font, font_u16(store, 0) == 1, "HVAR: not a store of format 1");
+    (void)required(font, font_items(store, 8, font_u16(store, 6), 4), early);
     require(font, outer < font_u16(store, 6), "HVAR: no such item");
     const font_view regions = required(font, at_offset(font, store, 2, 4, early), early);
     const font_view data = required(font, at_offset(font, store, 8 + 4 * outer, 6, early), early);
@@ -342,6 +343,8 @@ static void read_tables(struct font *font) {
     require(font, font->cmap.bytes != NULL, "no cmap");
     require(font, font->glyph_count > 0, "no glyphs");
     require(font, font_u16(hhea, 34) > 0, "no advances");
+    require(font, font_u16(hhea, 0) == 1, "hhea: not of version 1");
+    require(font, font_u16(font->cmap, 0) == 0, "cmap: not of version 0");
     font->metrics = required(font, font_items(hmtx, 0, font_u16(hhea, 34), 4), "hmtx ends early");
 }
 

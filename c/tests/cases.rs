@@ -65,19 +65,19 @@ fn push(cases: &mut Vec<u8>, font: &[u8], settings: &[Setting], text: &[u8], ans
     }
 }
 
-/// Returns what `examples/instance.rs` prints: the advances, with the glyphs.
-fn by_instance(bytes: &[u8], settings: &[Setting], text: &str) -> Option<Vec<[u16; 2]>> {
-    let font = instance::font::Font::new(bytes)?;
+/// Returns what `examples/instance.rs` prints: the advances, with the glyphs; or its message.
+fn by_instance(bytes: &[u8], settings: &[Setting], text: &str) -> Result<Vec<[u16; 2]>, String> {
+    let font = instance::font::Font::new(bytes).ok_or("no font of one face")?;
     let mut coordinates = Vec::new();
-    for (n, axis) in instance::axes(&font).ok()?.into_iter().enumerate() {
+    for (n, axis) in instance::axes(&font)?.into_iter().enumerate() {
         let setting = settings.iter().find(|(tag, _)| *tag == axis.axis_tag);
         let value = setting.map_or(axis.default_value, |(_, value)| *value);
-        coordinates.push(instance::normalized(&font, n, axis, value).ok()?);
+        coordinates.push(instance::normalized(&font, n, axis, value)?);
     }
     let pairs = text.chars().map(|character| {
-        let glyph = font.glyph(character).unwrap_or_default();
-        let advance = instance::advance(&font, glyph, &coordinates).ok()?;
-        Some([glyph.to_u16(), advance.to_u16()])
+        let glyph = instance::glyph(&font, character)?;
+        let advance = instance::advance(&font, glyph, &coordinates)?;
+        Ok([glyph.to_u16(), advance.to_u16()])
     });
     pairs.collect()
 }
@@ -145,6 +145,8 @@ fn fonts() -> Vec<(Vec<u8>, usize)> {
         (with(font(long_hvar()), b"avar", 18, &[0x3539, 0x14F0]), 1),
         (with(font(hvar()), b"cmap", 26, &[9]), 1),
         (with(font(hvar()), b"HVAR", 66, &[0xC0]), 1),
+        // As many data as there is room for offsets.
+        (with(font(hvar()), b"HVAR", 26, &[11]), 1),
         ([b"true", &font(hvar())[4..]].concat(), 1),
         (font_of([(b"HVAR", hvar())]), 0),
         (
@@ -190,7 +192,7 @@ fn compared(cases: &mut Vec<u8>) {
     for (font, axes) in fonts() {
         for setting in SETTINGS.map(|values| settings(values, axes)) {
             for text in TEXTS {
-                let answer = Answer::Advances(by_instance(&font, &setting, text));
+                let answer = Answer::Advances(by_instance(&font, &setting, text).ok());
                 push(cases, &font, &setting, text.as_bytes(), &answer);
             }
         }
@@ -199,7 +201,7 @@ fn compared(cases: &mut Vec<u8>) {
             mutate(&mut font, &mut random);
             let setting = settings(SETTINGS[n % SETTINGS.len()], axes);
             let text = TEXTS[n / SETTINGS.len() % TEXTS.len()];
-            let answer = Answer::Compared(by_instance(&font, &setting, text));
+            let answer = Answer::Compared(by_instance(&font, &setting, text).ok());
             push(cases, &font, &setting, text.as_bytes(), &answer);
         }
     }
@@ -263,7 +265,6 @@ cmap 4 3 0: cmap: not for Unicode
 cmap 2 0: no cmap of format 4 or 12
 fvar 15: fvar ends early
 fvar 35: fvar ends early
-fvar 0 2: fvar: not of version 1
 fvar 10 19: fvar: not of version 1
 fvar 20 401: fvar: the values of an axis are out of order
 fvar 28 399: fvar: the values of an axis are out of order
@@ -271,13 +272,11 @@ fvar 20 0x8000 0 0x8000: fvar: the values of an axis are too far apart
 avar 7: avar ends early
 avar 9: avar ends early
 avar 25: avar ends early
-avar 0 2: avar: not of version 1
 avar 6 2: avar: not as many axes
 avar 14 0xC000: avar: a segment map is out of order
 avar 8 2: avar: a segment map without the coordinate
 fvar none: no such axis
 HVAR 19: HVAR ends early
-HVAR 0 2: HVAR: not of version 1
 HVAR 6 0: HVAR: the store ends early
 HVAR 6 65: HVAR: the store ends early
 HVAR 20 2: HVAR: not a store of format 1
@@ -303,6 +302,17 @@ HVAR 66 0x0200: HVAR: not a map of format 0 or 1
 HVAR 68 0: HVAR: the map is empty
 ";
 
+/// Likewise, and `instance` says the same. Of `HVAR`, the number of data of the store is at 26.
+const BROKEN_FOR_BOTH: &str = "\
+hhea 0 7: hhea: not of version 1
+cmap 0 7: cmap: not of version 0
+fvar 0 2: fvar: not of version 1
+avar 0 2: avar: not of version 1
+HVAR 0 2: HVAR: not of version 1
+HVAR 26 12: HVAR: the store ends early
+HVAR 26 0xFF00: HVAR: the store ends early
+";
+
 /// A number, also of 16 digits.
 fn number(word: &str) -> u16 {
     match word.strip_prefix("0x") {
@@ -311,7 +321,7 @@ fn number(word: &str) -> u16 {
     }
 }
 
-/// Returns the font of [`whole`], broken as a line of [`BROKEN`] says, and what the program says.
+/// Returns the font of [`whole`], broken as a line says, and what the program says.
 fn broken(line: &'static str) -> (Vec<u8>, &'static str) {
     let (fault, message) = line.split_once(": ").expect(line);
     let words: Vec<&str> = fault.split(' ').collect();
@@ -361,7 +371,11 @@ pub fn cases() -> Vec<u8> {
     let mut cases = Vec::new();
     compared(&mut cases);
     let (setting, text) = (settings(["650", "100"], 1), TEXTS.concat());
-    for (font, message) in others().into_iter().chain(BROKEN.lines().map(broken)) {
+    let [by_c, by_both] = [BROKEN, BROKEN_FOR_BOTH].map(|lines| lines.lines().map(broken));
+    for (font, message) in by_both.clone() {
+        assert_eq!(by_instance(&font, &setting, &text), Err(message.into()));
+    }
+    for (font, message) in others().into_iter().chain(by_c).chain(by_both) {
         let answer = Answer::Message(message);
         push(&mut cases, &font, &setting, text.as_bytes(), &answer);
     }

@@ -95,7 +95,7 @@ pub fn font_of<const N: usize>(variations: [(&[u8; 4], Vec<u8>); N]) -> Vec<u8> 
         (20, &dates),
         (36, &[0xFFF6]),
     ];
-    let hhea = table(36, &[(4, &[800, 0xFF38, 0, 620]), (34, &[2])]);
+    let hhea = table(36, &[(0, &[1, 0, 800, 0xFF38, 0, 620]), (34, &[2])]);
     // The outline of glyph 1 has this box.
     let glyf = words(&[1, 0xFFF6, 0xFF38, 590, 700, 0]);
     let mut tables = BTreeMap::from([
