@@ -2,7 +2,7 @@
 //! `cargo run --example instance -- FONT TEXT wght=600 wdth=87.5`.
 //!
 //! What is here finds the tables. What computes coordinates and advances is proved: `proved` is
-//! the source of `crates/callers`, without its contracts.
+//! the source of `crates/callers`, without its contracts. c/README.md says how exact they are.
 
 #[macro_use]
 pub mod font;

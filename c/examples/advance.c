@@ -3,8 +3,9 @@
  * and the advance of that in an instance of the font: in font units, and in pixels at SIZE pixels
  * per em. For example: advance font.ttf 16 AVA wght=650. The last value of an axis counts.
  *
- * It prints what is right for the font; or, if the font is broken, or has a form that is not read
- * here, only a message, and returns 1.
+ * It prints advances by OpenType's algorithm from the parts of the font that it reads; or, if one
+ * of these is broken, or has a form that is not read here, only a message, and returns 1. A broken
+ * part that the text does not need is not looked at. c/README.md says how exact the advances are.
  */
 #include "font_types.h"
 

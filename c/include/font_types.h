@@ -273,7 +273,9 @@ FONT_API_MUST_USE font_status font_delta_sum(
  * The same over a delta set of an item variation store. `word_count` is the field of the
  * font: the set has as many deltas of 16 bits as its low 15 bits say, followed by deltas
  * of 8 bits, or of 32 and of 16 bits if its bit 0x8000 is set. The set has as many deltas
- * as there are scalars, and exactly the bytes that these take, font_delta_set_length.
+ * as there are scalars, and exactly the bytes that these take, font_delta_set_length. The sum
+ * is exact for the scalars given; what rounded these before is not in it: see "How exact" in
+ * c/README.md.
  * Fails by FONT_TOO_MANY; by FONT_COUNT_MISMATCH, also if the low 15 bits of `word_count`
  * exceed the number of scalars; and by FONT_OUT_OF_RANGE if bit 0x8000 is set.
  */
