@@ -51,8 +51,8 @@ make -s install uninstall DESTDIR="$work/dest" PREFIX=/usr
 found=$(find "$work/dest" ! -type d -printf '%f\n' | sort | tr '\n' ' ')
 [[ $found == 'libother.a other.h other.pc ' ]]
 
-# Errors that write nothing: a folder that is empty, not absolute, or not one that the shell and
-# pkg-config read as it is; and an install of nothing.
+# Errors that write nothing: a folder that is empty, not absolute, begins with `~`, or is not one
+# that the shell and pkg-config read as it is; and an install of nothing.
 refused() {
     fails make install "$1=$2" DESTDIR="$work/relative"
     [[ $(<"$work/log") == *"$1 $3"* ]]
@@ -64,6 +64,10 @@ for folder in PREFIX LIBDIR INCLUDEDIR; do
     for path in lib '' 'lib /abs'; do
         [[ $folder == PREFIX ]] || refused "$folder" "$path" "is not absolute: $path. "
     done
+done
+for path in '~/x' '~' '~root/x'; do
+    refused PREFIX "$path" "begins with ~, which the shell has not replaced: $path. "
+    refused BUILD "$path" "begins with ~, which the shell has not replaced: $path. "
 done
 refused PREFIX '' 'is empty. '
 refused BUILD '' 'is empty. '
