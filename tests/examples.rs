@@ -27,12 +27,17 @@ fn file(bytes: &[u8]) -> PathBuf {
     path
 }
 
-/// Runs a program of `examples`, which cargo builds for its tests, and returns its output and what
-/// it says of an error.
+/// Runs a program of `examples`, and returns its output and what it says of an error. `cargo test`
+/// builds the program, unless it is told which tests to build.
 fn run(program: &str, arguments: &[&str]) -> (String, String) {
     let tests = std::env::current_exe().unwrap();
     let folder = tests.ancestors().nth(2).unwrap().join("examples");
     let path = folder.join(format!("{program}{}", std::env::consts::EXE_SUFFIX));
+    assert!(
+        path.exists(),
+        "{}: run `cargo build --examples` first, with `--release` for tests with it",
+        path.display()
+    );
     let run = runner::command(&path).args(arguments).output().unwrap();
     assert_eq!(run.status.code(), Some(i32::from(!run.stderr.is_empty())));
     let [output, error] = [run.stdout, run.stderr].map(|text| String::from_utf8(text).unwrap());
