@@ -262,6 +262,8 @@ impl<'a, T: Scalar> ScalarArray<'a, T> {
 
 /// An iterator over the elements of a [`ScalarArray`].
 ///
+/// To fill a `Vec` in Rust, collect [`ScalarArray::iter`], which is std's iterator, in its place.
+///
 /// The source and its contracts: `crates/font_base/src/array.rt`.
 pub struct ScalarArrayIter<'a, T: Scalar> {
     rest: Iter<'a, T::Raw>,
