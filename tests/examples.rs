@@ -74,6 +74,16 @@ fn dump_of_a_name_in_a_gap() {
 }
 
 #[test]
+fn dump_of_a_name_after_many_tables() {
+    let tags: [_; 64] =
+        std::array::from_fn(|n| *format!("A{n:03}").as_bytes().first_chunk().unwrap());
+    let bytes = font_of(tags.each_ref().map(|tag| (tag, Vec::new())));
+    let mut text = String::new();
+    dump(&dump::font::Font::new(&bytes).unwrap(), "", &mut text).unwrap();
+    assert!(text.ends_with("\nFAMILY_NAME: Ütest\n"), "{text}");
+}
+
+#[test]
 fn dump_of_a_font() {
     let bytes = font(hvar());
     let font = dump::font::Font::new(&bytes).unwrap();
