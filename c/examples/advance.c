@@ -185,12 +185,12 @@ static int32_t mapped(struct font *font, font_view map, int32_t x) {
 static int32_t normalized(struct font *font, font_view axis, int32_t value) {
     const int32_t min = font_i32(axis, 4), usual = font_i32(axis, 8), max = font_i32(axis, 12);
     require(font, min <= usual && usual <= max, "fvar: the values of an axis are out of order");
+    require(font, (int64_t)max - min <= INT32_MAX,
+            "fvar: the values of an axis are too far apart");
     const int32_t x = value < min ? min : value > max ? max : value;
     if (x == usual || font->error != NULL)
         return 0;
-    const int32_t side = x < usual ? font_fixed_sub(usual, min) : font_fixed_sub(max, usual);
-    require(font, side > 0, "fvar: the values of an axis are too far apart");
-    return font_fixed_div(font_fixed_sub(x, usual), side);
+    return font_fixed_div(x - usual, x < usual ? usual - min : max - usual);
 }
 
 /* The value of an axis that is asked for, or its default. */

@@ -65,7 +65,7 @@ static void check_case(uint8_t kind, font_view file, const struct request *reque
     case 'a': check(answer.length == 0 ? error != NULL : is_same, "other advances"); break;
     case 'c':
         both += error == NULL && answer.length > 0;
-        check(error != NULL || answer.length == 0 || is_same, "other advances of a mutation");
+        check(error != NULL || is_same, "other advances of a mutation");
         break;
     default:
         messages++;
@@ -105,5 +105,5 @@ int main(int count, char **paths) {
     printf("advances: %d fonts, %d printed, %d mutations also by the proved Rust, %d messages, "
            "%d failed\n", cases, printed, both, messages, failures);
     /* With fewer, a part was left out. */
-    return failures == 0 && printed > 7000 && both > 6000 && messages > 94 ? 0 : 1;
+    return failures == 0 && printed > 7000 && both > 6000 && messages > 96 ? 0 : 1;
 }

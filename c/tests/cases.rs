@@ -33,7 +33,7 @@ type Setting = (Tag, Fixed);
 enum Answer {
     /// Glyphs and advances, or any message if there are none.
     Advances(Option<Vec<[u16; 2]>>),
-    /// If it prints advances, and these are some, then these.
+    /// If it prints advances, then these.
     Compared(Option<Vec<[u16; 2]>>),
     Message(&'static str),
 }
@@ -130,6 +130,7 @@ fn fonts() -> Vec<(Vec<u8>, usize)> {
     };
     let without_avar = font_of([(b"HVAR", hvar_of_two_axes(MAPS[2])), (b"fvar", two_axes())]);
     let many_axes = fvar(&[(b"wght", [0, 0, 1]); 64]);
+    let farthest = [0x8000, 0, 0x8000, 0, 0xFFFF, 0xFFFF];
     let mut fonts = vec![
         (font(hvar()), 1),
         (font(long_hvar()), 1),
@@ -145,6 +146,8 @@ fn fonts() -> Vec<(Vec<u8>, usize)> {
         (with(font(long_hvar()), b"avar", 18, &[0x3539, 0x14F0]), 1),
         (with(font(hvar()), b"cmap", 26, &[9]), 1),
         (with(font(hvar()), b"HVAR", 66, &[0xC0]), 1),
+        // The values of an axis are as far apart as they can be.
+        (with(font(hvar()), b"fvar", 20, &farthest), 1),
         // As many data as there is room for offsets.
         (with(font(hvar()), b"HVAR", 26, &[11]), 1),
         ([b"true", &font(hvar())[4..]].concat(), 1),
@@ -268,7 +271,9 @@ fvar 35: fvar ends early
 fvar 10 19: fvar: not of version 1
 fvar 20 401: fvar: the values of an axis are out of order
 fvar 28 399: fvar: the values of an axis are out of order
+fvar 20 0x8000: fvar: the values of an axis are too far apart
 fvar 20 0x8000 0 0x8000: fvar: the values of an axis are too far apart
+fvar 20 0x8000 0 0x8000 0 0 0: fvar: the values of an axis are too far apart
 avar 7: avar ends early
 avar 9: avar ends early
 avar 25: avar ends early
