@@ -13,7 +13,9 @@ use dump::dump;
 use font_types_proved::{F2Dot14, FWord, Fixed, GlyphId16, Tag, UfWord};
 use fonts::{MAP, MAPS, font, font_of, fvar, hvar, hvar_of_two_axes, long_axes, long_hvar};
 use fonts::{two_axes, words};
+use instance::proved::delta_sets::read_delta;
 use instance::proved::evaluator::vary_and_round;
+use instance::proved::maps::read_delta_set_index;
 use instance::proved::regions::region_scalar;
 use instance::{advance, axes, normalized};
 use std::fs;
@@ -199,13 +201,17 @@ fn mutated_fonts() {
     assert!(fonts.iter().all(|font| read(font).is_some()));
 }
 
-// The region is at 4 + 6 * 32766 * 21848, which is 262116 modulo 2^32. The list has its 6 * 21848
-// bytes from there on.
+// Modulo 2^32, each offset is within these bytes.
 #[test]
-fn region_at_an_offset_above_32_bits() {
-    let mut list = words(&[21848, 32767]);
-    list.resize(262_116 + 6 * 21848, 0);
+fn offsets_of_more_than_32_bits() {
+    let mut list = words(&[21848, 0x7FFF]);
+    list.resize(393_204, 0);
     assert_eq!(region_scalar(&list, 32766, &[]), None);
+    let mut subtable = words(&[0xFFFF; 3]);
+    subtable.resize(174_768, 0);
+    assert_eq!(read_delta(&subtable, 21846, 0), None);
+    let map = [1, 0x3F, 0x40, 0, 0, 1, 0, 1, 0, 2];
+    assert_eq!(read_delta_set_index(&map, 0x4000_0000), None);
 }
 
 #[test]

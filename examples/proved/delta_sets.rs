@@ -1,6 +1,6 @@
 // @generated from crates/callers/src/delta_sets.rt by tools/src/bin/erase.rs
 
-//! Delta sets of item variation stores, their sums, and the advances that they vary.
+//! Delta sets of item variation data: their deltas, their sums, and advances that they move.
 
 use super::regions::region_scalar;
 use font_types_proved::{F2Dot14, F48Dot16, Fixed, Scalar, UfWord};
@@ -52,6 +52,8 @@ fn read_signed(bytes: &[u8], offset: usize, width: usize) -> Option<i32> {
         _ => i32::read_at(bytes, offset),
     }
 }
+
+// ---- sums of delta sets
 
 /// Returns the scalar of a column's region and the delta of the column in a set, or `None` if the
 /// subtable does not have the delta or the list the region.

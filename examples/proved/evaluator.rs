@@ -53,9 +53,6 @@ pub struct VariationAxisRecord {
 }
 
 /// Reads an axis record, or returns `None` if there are fewer than 20 bytes.
-///
-/// At a concrete type the clauses of `read_at` give callers the number, the tag or the date. Each
-/// field is read from the whole slice: `offset + n` may not fit a `usize`.
 pub fn read_axis(bytes: &[u8]) -> Option<VariationAxisRecord> {
     Some(VariationAxisRecord {
         axis_tag: Tag::read_at(bytes, 0)?,
@@ -68,16 +65,11 @@ pub fn read_axis(bytes: &[u8]) -> Option<VariationAxisRecord> {
 }
 
 /// Clamps a value to a range.
-///
-/// `clamp` is called in a separate function: in a body that goes on to compute, no clause is
-/// proved.
 pub fn clamp(value: Fixed, min: Fixed, max: Fixed) -> Fixed {
     value.clamp(min, max)
 }
 
 /// Returns a part over its whole, from 0 to 1.
-///
-/// The bounds prove if the part and its whole are arguments.
 pub fn ratio(part: Fixed, whole: Fixed) -> Fixed {
     part / whole
 }
@@ -89,8 +81,6 @@ fn negated_ratio(part: Fixed, whole: Fixed) -> Fixed {
 
 /// Normalizes a value of an axis to -1..1: clamps it to the axis, and divides its distance from the
 /// default by that of the end on its side.
-///
-/// The clauses state raw values, with which the checker computes.
 pub fn normalize(value: Fixed, axis: VariationAxisRecord) -> Fixed {
     normalize_clamped(clamp(value, axis.min_value, axis.max_value), axis)
 }
@@ -122,23 +112,15 @@ pub struct AxisValueMap {
 }
 
 /// Interpolates linearly between two mappings; at either end the result is that end's coordinate.
-///
-/// The clause `value` is proved by a lemma of `proofs/Lerps.antt`, in an answer.
 pub fn lerp(coordinate: Fixed, start: AxisValueMap, end: AxisValueMap) -> Fixed {
     let (from, to) = (start.from_coordinate, start.to_coordinate);
     to + (end.to_coordinate - to).mul_div(coordinate - from, end.from_coordinate - from)
 }
 
 /// Returns the index of the mapping that ends the segment of a coordinate: the first at or above.
-///
-/// The invariant of its loop says that the mappings before the index are below.
 pub fn segment_end(coordinate: Fixed, map: &[AxisValueMap]) -> Option<usize> {
-    for end in 0..map.len() {
-        if coordinate <= map[end].from_coordinate {
-            return Some(end);
-        }
-    }
-    None
+    map.iter()
+        .position(|mapping| coordinate <= mapping.from_coordinate)
 }
 
 // Maps a coordinate by the mapping that ends its segment, and the one before.

@@ -1,6 +1,6 @@
 // @generated from crates/callers/src/regions.rt by tools/src/bin/erase.rs
 
-//! Variation regions: their scalars along an axis, and the products of these.
+//! Variation regions: the scalar of each axis, and of a region.
 
 use super::evaluator::ratio;
 use font_types_proved::{F2Dot14, Fixed, Scalar};
@@ -33,8 +33,6 @@ pub fn axis_scalar(axis: RegionAxisCoordinates, coordinate: F2Dot14) -> Fixed {
 }
 
 // Returns `axis_scalar` of an axis that is not ignored, at another coordinate than the peak.
-//
-// The lemma `quotient_of_widened` states a quotient of widened differences by the differences.
 fn scalar_off_peak(axis: RegionAxisCoordinates, coordinate: F2Dot14) -> Fixed {
     let (start, peak, end) = (axis.start_coord, axis.peak_coord, axis.end_coord);
     if coordinate <= start || end <= coordinate {

@@ -83,7 +83,7 @@ abbrev pub IsRegionScalar : List ℕ → ℕ → List F2Dot14 → ℤ → Type 0
 IsRegionScalar regions region coordinates scalar =
     IsScalarOf (region_bytes regions region) coordinates (axis_count regions) scalar
 
--- ---- exact values, which the scalars, the sums and the advances round: fractions, with no rounding on the way
+-- ---- exact values: what the same algorithm gives in fractions, with no rounding
 
 pub record Fraction : Type 0 where
   pub numerator : ℤ
@@ -92,7 +92,7 @@ pub record Fraction : Type 0 where
 abbrev pub whole : ℤ → Fraction
 whole number = record { numerator = number; denominator = 1 }
 
--- a part of the way over the whole way
+-- the distance to the coordinate over the distance to the peak
 abbrev pub part_of : ℤ → ℤ → Fraction
 part_of part way = record { numerator = part; denominator = unsigned_abs way }
 
@@ -105,14 +105,14 @@ plus x y = record {
   denominator = x.denominator * y.denominator;
 }
 
--- a raw value of 16.16 is off an exact value by at most this many halves of a unit, of 1/65536:
--- |raw / 65536 - exact| <= halves / 2 / 65536, times 2 * 65536 * denominator
+-- a raw value of 16.16 differs from an exact value by at most so many halves of a unit of 2^-16:
+-- |raw / 65536 - exact| <= halves / (2 * 65536), with both sides multiplied by 2 * 65536 * denominator
 pub record IsOffBy (halves : ℕ) (raw : ℤ) (exact : Fraction) : Type 0 where
   pub some : 0 < exact.denominator
   pub close : 2 * unsigned_abs (raw *ℤ pos exact.denominator -ℤ exact.numerator *ℤ pos 65536)
       ≤ halves * exact.denominator
 
--- `IsIgnored`, as a test
+-- whether the axis is ignored, as `IsIgnored` has it
 abbrev pub is_ignored_axis : ℤ → ℤ → ℤ → Bool
 is_ignored_axis start peak end =
     int_lt peak start || (int_lt end peak || ((int_lt start (pos 0) && int_lt (pos 0) end) || int_eq peak (pos 0)))
@@ -133,7 +133,7 @@ exact_scalar region coordinates (suc n) = times (exact_scalar region coordinates
     (exact_axis_scalar (stored_bits region (6 * n)) (stored_bits region (6 * n + 2)) (stored_bits region (6 * n + 4))
     (coordinate_bits coordinates n))
 
--- a scalar of n axes is off their exact product by at most half a unit for the first axis and one for each other
+-- a scalar of n axes differs from their exact product by at most half a unit for the first axis and one for each other
 abbrev pub IsNearScalar : List ℕ → List F2Dot14 → ℕ → ℤ → Type 0
 IsNearScalar region coordinates n scalar = IsOffBy (2 * n - 1) scalar (exact_scalar region coordinates n)
 
@@ -226,7 +226,7 @@ abbrev pub IsSetSum : List ℕ → List ℕ → List F2Dot14 → ℕ → ℤ →
 IsSetSum regions subtable coordinates set sum =
     IsSumThrough regions subtable coordinates set (region_index_count subtable) sum
 
--- ---- the same, exact
+-- ---- the exact values of a set's sum and of an advance
 
 -- the sum of the first n deltas, each times the exact scalar of its region
 unfoldable pub exact_delta : List ℕ → List ℕ → List F2Dot14 → ℕ → ℕ → Fraction
@@ -239,7 +239,7 @@ unfoldable pub sum_of_magnitudes : List ℕ → ℕ → ℕ → ℕ
 sum_of_magnitudes subtable set zero = 0
 sum_of_magnitudes subtable set (suc n) = sum_of_magnitudes subtable set n + unsigned_abs (delta_of subtable set n)
 
--- how far the sum of a set may be off, in halves of a unit: each delta as often as its scalar
+-- the bound of a set's sum, in halves of a unit: that of a scalar times the magnitude of each delta
 abbrev pub sum_halves : List ℕ → List ℕ → ℕ → ℕ → ℕ
 sum_halves regions subtable set n = (2 * axis_count regions - 1) * sum_of_magnitudes subtable set n
 
@@ -253,7 +253,7 @@ abbrev pub exact_advance : List ℕ → List ℕ → List F2Dot14 → ℕ → �
 exact_advance regions subtable coordinates set advance =
     plus (whole (pos advance)) (exact_delta regions subtable coordinates set (region_index_count subtable))
 
--- a varied advance is off the exact one by at most half a font unit, and what the sum of the set is off:
+-- a varied advance differs from the exact one by at most half a font unit and the bound of the set's sum:
 -- |varied - exact| <= 1/2 + (axes - 1/2) * (sum of |delta|) / 65536
 abbrev pub IsNearAdvance : List ℕ → List ℕ → List F2Dot14 → ℕ → ℕ → ℤ → Type 0
 IsNearAdvance regions subtable coordinates set advance varied =

@@ -1,18 +1,16 @@
-//! Delta sets of item variation stores, their sums, and the advances that they vary.
+//! Delta sets of item variation data: their deltas, their sums, and advances that they move.
 
-ghost use Rattle.std.specs.Prelude.{◌≡◌, ◌↔◌, ◌⊎◌, ◌<◌, ◌≤◌, ◌+◌, ◌*◌, ◌^◌};
+ghost use Rattle.std.specs.Prelude.{◌≡◌, ◌↔◌, ◌⊎◌, ◌<◌, ◌≤◌, ◌+◌, ◌^◌};
 ghost use Rattle.std.specs.Prelude.{pos, ◌≤ℤ◌, unsigned_abs};
 ghost use Rattle.std.specs.Prelude.{IsSome, IfSome, MatchOption, length, take, drop};
 ghost use Rattle.font_types.specs.Bytes.{signed_numeral};
 ghost use Rattle.font_types.specs.Fixed;
 ghost use Rattle.font_types.specs.Fixed.{fixed_bits};
-ghost use Rattle.font_types.specs.F2Dot14.{f2dot14_bits};
 ghost use Rattle.font_types.specs.F48Dot16.{f48dot16_bits};
 ghost use Rattle.font_types.specs.FWord.{ufword_number};
-ghost use Rattle.callers.specs.Variations.{narrow_width, delta_width, delta_place};
-ghost use Rattle.callers.specs.Variations.{HasDelta, delta_of, HasTerm, IsTerm};
-ghost use Rattle.callers.specs.Variations.{IsSetSum, HasSet, IsVaried, HasNoVaried};
-ghost use Rattle.callers.specs.Variations.{IsNearSetSum, IsNearAdvance};
+ghost use Rattle.callers.specs.Variations.{narrow_width, delta_width, delta_place, HasDelta};
+ghost use Rattle.callers.specs.Variations.{delta_of, HasTerm, IsTerm, IsSetSum, HasSet};
+ghost use Rattle.callers.specs.Variations.{IsVaried, HasNoVaried, IsNearSetSum, IsNearAdvance};
 
 use crate::regions::region_scalar;
 use font_types::{F2Dot14, F48Dot16, Fixed, Scalar, UfWord};
@@ -85,6 +83,8 @@ fn read_signed(bytes: &[u8], offset: usize, width: usize) -> Option<i32>
         _ => i32::read_at(bytes, offset),
     }
 }
+
+// ---- sums of delta sets
 
 /// Returns the scalar of a column's region and the delta of the column in a set, or `None` if the
 /// subtable does not have the delta or the list the region.

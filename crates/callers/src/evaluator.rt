@@ -72,9 +72,6 @@ pub struct VariationAxisRecord {
 }
 
 /// Reads an axis record, or returns `None` if there are fewer than 20 bytes.
-///
-/// At a concrete type the clauses of `read_at` give callers the number, the tag or the date. Each
-/// field is read from the whole slice: `offset + n` may not fit a `usize`.
 pub fn read_axis(bytes: &[u8]) -> Option<VariationAxisRecord>
     ensures variant { IsSome result ↔ (20 ≤ length bytes.now) }
     ensures axis_tag { IfSome result (λ axis. tag_bytes axis.axis_tag ≡ take 4 bytes.now) }
@@ -99,9 +96,6 @@ pub fn read_axis(bytes: &[u8]) -> Option<VariationAxisRecord>
 }
 
 /// Clamps a value to a range.
-///
-/// `clamp` is called in a separate function: in a body that goes on to compute, no clause is
-/// proved.
 pub fn clamp(value: Fixed, min: Fixed, max: Fixed) -> Fixed
     requires { fixed_bits min ≤ℤ fixed_bits max }
     ensures low { fixed_bits min ≤ℤ fixed_bits result }
@@ -115,8 +109,6 @@ pub fn clamp(value: Fixed, min: Fixed, max: Fixed) -> Fixed
 }
 
 /// Returns a part over its whole, from 0 to 1.
-///
-/// The bounds prove if the part and its whole are arguments.
 pub fn ratio(part: Fixed, whole: Fixed) -> Fixed
     requires part { (pos 0 ≤ℤ fixed_bits part) × (fixed_bits part ≤ℤ fixed_bits whole) }
     requires whole { whole ≢ Fixed.ZERO }
@@ -145,8 +137,6 @@ fn negated_ratio(part: Fixed, whole: Fixed) -> Fixed
 
 /// Normalizes a value of an axis to -1..1: clamps it to the axis, and divides its distance from the
 /// default by that of the end on its side.
-///
-/// The clauses state raw values, with which the checker computes.
 pub fn normalize(value: Fixed, axis: VariationAxisRecord) -> Fixed
     requires order { (fixed_bits axis.min_value ≤ℤ fixed_bits axis.default_value)
         × (fixed_bits axis.default_value ≤ℤ fixed_bits axis.max_value) }
@@ -228,8 +218,6 @@ pub struct AxisValueMap {
 }
 
 /// Interpolates linearly between two mappings; at either end the result is that end's coordinate.
-///
-/// The clause `value` is proved by a lemma of `proofs/Lerps.antt`, in an answer.
 pub fn lerp(coordinate: Fixed, start: AxisValueMap, end: AxisValueMap) -> Fixed
     requires { start.from_coordinate ≢ end.from_coordinate }
     ensures value { IsLerp coordinate start end result }
@@ -241,19 +229,13 @@ pub fn lerp(coordinate: Fixed, start: AxisValueMap, end: AxisValueMap) -> Fixed
 }
 
 /// Returns the index of the mapping that ends the segment of a coordinate: the first at or above.
-///
-/// The invariant of its loop says that the mappings before the index are below.
 pub fn segment_end(coordinate: Fixed, map: &[AxisValueMap]) -> Option<usize>
     ensures { MatchOption result
         (AreBelow map.now (length map.now) (fixed_bits coordinate))
         (λ end. IsSegmentEnd (fixed_bits coordinate) map.now end) }
 {
-    for end in 0..map.len() {
-        if coordinate <= map[end].from_coordinate {
-            return Some(end);
-        }
-    }
-    None
+    map.iter()
+        .position(|mapping| coordinate <= mapping.from_coordinate)
 }
 
 // Maps a coordinate by the mapping that ends its segment, and the one before.

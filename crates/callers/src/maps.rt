@@ -1,10 +1,9 @@
 //! Maps from indices to delta sets.
 
-ghost use Rattle.std.specs.Prelude.{◌≡◌, ◌↔◌, ◌<◌, ◌≤◌, ◌+◌, ◌*◌, ◌/◌, ◌%◌, ◌^◌};
+ghost use Rattle.std.specs.Prelude.{◌≡◌, ◌↔◌, ◌<◌, ◌≤◌, ◌+◌, ◌/◌, ◌%◌, ◌^◌};
 ghost use Rattle.std.specs.Prelude.{IsTrue, IsSome, IfSome, length, take, drop};
 ghost use Rattle.font_types.specs.Bytes.{numeral};
-ghost use Rattle.callers.specs.Variations.{HasEntry, entry_of};
-ghost use Rattle.callers.specs.Variations.{IsNoVariation, inner_bits};
+ghost use Rattle.callers.specs.Variations.{HasEntry, entry_of, IsNoVariation, inner_bits};
 
 use font_types::{Scalar, Uint24};
 

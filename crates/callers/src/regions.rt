@@ -1,6 +1,6 @@
-//! Variation regions: their scalars along an axis, and the products of these.
+//! Variation regions: the scalar of each axis, and of a region.
 
-ghost use Rattle.std.specs.Prelude.{◌≡◌, ◌≢◌, ◌↔◌, ◌<◌, ◌≤◌, ◌+◌, ◌*◌};
+ghost use Rattle.std.specs.Prelude.{◌≡◌, ◌≢◌, ◌↔◌, ◌≤◌, ◌+◌, ◌*◌};
 ghost use Rattle.std.specs.Prelude.{pos, ◌≤ℤ◌, ◌<ℤ◌, ◌-ℤ◌, ◌*ℤ◌};
 ghost use Rattle.std.specs.Prelude.{IsTrue, IsSome, IfSome, length};
 ghost use Rattle.font_types.specs.Operations.{IsProduct, IsQuotient};
@@ -8,9 +8,9 @@ ghost use Rattle.font_types.specs.Fixed;
 ghost use Rattle.font_types.specs.Fixed.{fixed_bits};
 ghost use Rattle.font_types.specs.F2Dot14.{f2dot14_bits};
 ghost use Rattle.callers.specs.Variations.{IsIgnored, IsOffRegion, IsAxisScalar, HasRegion};
-ghost use Rattle.callers.specs.Variations.{axis_count, region_bytes, stored_bits};
-ghost use Rattle.callers.specs.Variations.{coordinate_bits, IsScalarAlong, IsScalarOf};
-ghost use Rattle.callers.specs.Variations.{IsNearScalar, IsRegionScalar, IsNearRegionScalar};
+ghost use Rattle.callers.specs.Variations.{axis_count, region_bytes, stored_bits, coordinate_bits};
+ghost use Rattle.callers.specs.Variations.{IsScalarAlong, IsScalarOf, IsNearScalar, IsRegionScalar};
+ghost use Rattle.callers.specs.Variations.{IsNearRegionScalar};
 
 use crate::evaluator::ratio;
 use font_types::{F2Dot14, Fixed, Scalar};
@@ -51,8 +51,6 @@ pub fn axis_scalar(axis: RegionAxisCoordinates, coordinate: F2Dot14) -> Fixed
 }
 
 // Returns `axis_scalar` of an axis that is not ignored, at another coordinate than the peak.
-//
-// The lemma `quotient_of_widened` states a quotient of widened differences by the differences.
 fn scalar_off_peak(axis: RegionAxisCoordinates, coordinate: F2Dot14) -> Fixed
     requires order { (f2dot14_bits axis.start_coord ≤ℤ f2dot14_bits axis.peak_coord)
         × (f2dot14_bits axis.peak_coord ≤ℤ f2dot14_bits axis.end_coord) }

@@ -5,31 +5,29 @@ use crate::maps::{DeltaSetIndex, is_no_variation, read_delta_set_index};
 use crate::regions::{RegionAxisCoordinates, axis_scalar, region_scalar};
 use font_types::{F2Dot14, Fixed};
 
-// Two axes and two regions: both axes from 0 to a peak at 3 of 2.14; the second alone.
-const REGIONS: [u8; 28] = [
-    0, 2, 0, 2, 0, 0, 0, 3, 0, 3, 0, 0, 0, 3, 0, 3, 0, 0, 0, 0, 0, 0, 0, 0, 0, 3, 0, 3,
-];
-
-// The nearest raw values to exact fractions of 65536.
 #[test]
 fn scalars_of_axes(rt: HostRuntime) {
     for &(start, peak, end, coordinate, bits) in &[
-        // Ignored: coordinates out of order, or on both sides of zero, or a peak of zero.
-        (2, 1, 3, 0, 65536),
+        // Ignored: out of order, on both sides of zero, or with the peak at zero.
+        (3, 2, 4, 0, 65536),
         (1, 3, 2, 0, 65536),
-        (-1, 1, 2, 0, 65536),
-        (0, 0, 3, 1, 65536),
-        // At the peak; at the ends, and beyond.
-        (0, 3, 3, 3, 65536),
-        (1, 3, 9, 1, 0),
-        (1, 3, 9, 0, 0),
-        (1, 3, 9, 9, 0),
-        (1, 3, 9, 10, 0),
-        // On the way up: 1/3 and 5/6. On the way down: 2/3 and 1/2.
-        (0, 3, 3, 1, 21845),
-        (-9, -3, -1, -4, 54613),
-        (1, 3, 9, 5, 43691),
-        (-9, -3, -1, -2, 32768),
+        (-1, 1, 3, 2, 65536),
+        (0, 0, 3, 2, 65536),
+        // At the peak, which may be the end.
+        (1, 3, 5, 3, 65536),
+        (0, 12854, 12854, 12854, 65536),
+        // Out of range, or at the start or the end.
+        (1, 3, 5, 0, 0),
+        (1, 3, 5, 1, 0),
+        (1, 3, 5, 5, 0),
+        (1, 3, 5, 6, 0),
+        // Up to the peak: 21845.3, 32768 and 65199.4996.
+        (0, 3, 5, 1, 21845),
+        (-5, -3, 0, -4, 32768),
+        (0, 12854, 12854, 12788, 65199),
+        // Down from the peak: 43690.7 and 21845.3.
+        (1, 2, 5, 3, 43691),
+        (-5, -3, 0, -1, 21845),
     ] {
         let axis = RegionAxisCoordinates {
             start_coord: F2Dot14::from_bits(start),
@@ -39,20 +37,28 @@ fn scalars_of_axes(rt: HostRuntime) {
         let scalar = axis_scalar(axis, F2Dot14::from_bits(coordinate));
         assert!(rt;
             scalar == Fixed::from_bits(bits),
-            "{start}, {peak}, {end} at {coordinate}"
+            "{start} {peak} {end} at {coordinate}"
         );
     }
 }
 
-// Exact is 12788/12854 times 9513/9584, which is 64716.49 of 65536: 1.49 units more.
+// One region of two axes, each from 0 to a peak that is the end, at 12854 and at 9584 of 2.14.
+const NEAR_THE_PEAKS: [u8; 16] = [
+    0, 2, 0, 1, 0, 0, 0x32, 0x36, 0x32, 0x36, 0, 0, 0x25, 0x70, 0x25, 0x70,
+];
+
+// 65536 * 12788/12854 * 9513/9584 is 64716.49: the scalar is off by 1.49, of at most 1.5.
 #[test]
-fn scalar_near_its_bound(rt: HostRuntime) {
-    let region = [
-        0, 2, 0, 1, 0, 0, 0x32, 0x36, 0x32, 0x36, 0, 0, 0x25, 0x70, 0x25, 0x70,
-    ];
-    let at = [12788, 9513].map(F2Dot14::from_bits);
-    assert!(rt; region_scalar(&region, 0, &at) == Some(Fixed::from_bits(64715)));
+fn scalar_of_two_axes_near_its_bound(rt: HostRuntime) {
+    let coordinates = [12788, 9513].map(F2Dot14::from_bits);
+    let scalar = region_scalar(&NEAR_THE_PEAKS, 0, &coordinates);
+    assert!(rt; scalar == Some(Fixed::from_bits(64715)));
 }
+
+// Two axes and two regions: both axes from 0 to a peak at 3 of 2.14; the second alone.
+const REGIONS: [u8; 28] = [
+    0, 2, 0, 2, 0, 0, 0, 3, 0, 3, 0, 0, 0, 3, 0, 3, 0, 0, 0, 0, 0, 0, 0, 0, 0, 3, 0, 3,
+];
 
 #[test]
 fn scalars_of_regions(rt: HostRuntime) {

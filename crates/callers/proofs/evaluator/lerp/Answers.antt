@@ -1,3 +1,4 @@
+-- The formula of `lerp` is that of `is_lerp`.
 use Rattle.std.proofs.Common.{rules}
 use Rattle.font_types.specs.Fixed.{fixed_bits}
 use Rattle.font_types.proofs.Callers.{calls}

@@ -1,3 +1,4 @@
+-- A quotient of widened differences is one of the differences.
 use Rattle.std.proofs.Common.{rules, arith, ◌-ℤ◌}
 use Rattle.std.proofs.lemmas.Int.{ints}
 use Rattle.font_types.specs.F2Dot14.{f2dot14_bits}
