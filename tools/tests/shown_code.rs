@@ -24,7 +24,7 @@ fn squeezed(text: &str) -> String {
 fn pages_show_contracts_of_the_source() {
     let source = squeezed(&text("crates/font_fixed/src/fixed_i32.rt"));
     for (page, start) in [
-        ("README.md", "pub fn checked_add"),
+        ("README.md", "pub const fn checked_add"),
         ("src/guide.md", "pub const fn floor"),
     ] {
         let page_text = text(page);

@@ -1,7 +1,7 @@
 -- How far rounded scalars, their products and their sums are off the exact ones.
 use Rattle.std.proofs.Common.{◌≡◌, ◌∙◌, refl, ap, lit<, ℕ, suc, ◌+◌, ◌*◌, ◌≤◌, ◌<◌, ◌⊎◌, Bool, true, false}
-use Rattle.std.proofs.Common.{ℤ, pos, negsuc, ◌+ℤ◌, ◌-ℤ◌, ◌*ℤ◌, ◌≤ℤ◌, ◌<ℤ◌, unsigned_abs, int_lt, int_le, arith, Decides}
-use Rattle.std.proofs.Common.{mul-le-mul_right, zero, ⊎_elim, inl, inr, if◌then◌else◌, ◌||◌}
+use Rattle.std.proofs.Common.{ℤ, pos, negsuc, ◌+ℤ◌, ◌-ℤ◌, ◌*ℤ◌, ◌≤ℤ◌, ◌<ℤ◌, unsigned_abs, int_lt, int_le, arith}
+use Rattle.std.proofs.Common.{Decides, mul-le-mul_right, zero, ⊎_elim, inl, inr, if◌then◌else◌, ◌||◌}
 use Rattle.std.specs.Ordering.{int_eq}
 use Rattle.std.proofs.Math.Nat.{mul-one, one-mul}
 use Rattle.std.proofs.lemmas.Int.{ints, by_lt_z}
@@ -123,7 +123,8 @@ module _ (start peak end coordinate raw : ℤ) (given : IsAxisScalar start peak 
   by : (one outside rising : Bool) → (is_ignored_axis start peak end || int_eq coordinate peak) ≡ one
       → (int_le coordinate start || int_le end coordinate) ≡ outside → int_lt coordinate peak ≡ rising
       → IsPartOff 1 raw (if one then whole (pos 1) else (if outside then whole (pos 0)
-      else (if rising then part_of (coordinate -ℤ start) (peak -ℤ start) else part_of (end -ℤ coordinate) (end -ℤ peak))))
+      else (if rising then part_of (coordinate -ℤ start) (peak -ℤ start)
+      else part_of (end -ℤ coordinate) (end -ℤ peak))))
   by true outside rising one _ _ = one_is raw (⊎_elim given.ignored given.at_peak (at_one.0 one))
   by false true rising one outside _ =
       let away = not_from_Decides _ at_one one in
@@ -280,7 +281,8 @@ module _ (k m d e : ℕ) (v w n o : ℤ) (first : 2 * unsigned_abs (v *ℤ pos d
         mul-le-mul_right d second_low,
       )
 
-pub plus_off : (k m : ℕ) (v w : ℤ) (x y : Fraction) → IsOffBy k v x → IsOffBy m w y → IsOffBy (k + m) (v +ℤ w) (plus x y)
+pub plus_off : (k m : ℕ) (v w : ℤ) (x y : Fraction) → IsOffBy k v x → IsOffBy m w y
+    → IsOffBy (k + m) (v +ℤ w) (plus x y)
 plus_off k m v w x y first second = record {
   some = product_some x.denominator y.denominator first.some second.some;
   close = sum_error k m x.denominator y.denominator v w x.numerator y.numerator first.close second.close;

@@ -9,9 +9,9 @@ use Rattle.font_types.specs.Fixed.{fixed_bits}
 use Rattle.font_types.specs.Fixed.{Fixed}
 use Rattle.font_types.specs.Wrap.{FitsBits}
 use Rattle.callers.specs.Variations.{IsScalarOf, IsScalarAlong, IsNearScalar, exact_scalar, IsOffBy, times, whole}
-use Rattle.callers.specs.Variations.{IsSumThrough, IsTerm, IsTermProduct, IsSetSum, IsNearSetSum, IsNearAdvance, exact_delta}
-use Rattle.callers.specs.Variations.{sum_halves, sum_of_magnitudes, region_bytes, region_index, region_index_count}
-use Rattle.callers.specs.Variations.{axis_count, delta_of, moved, exact_region_scalar}
+use Rattle.callers.specs.Variations.{IsSumThrough, IsTerm, IsTermProduct, IsSetSum, IsNearSetSum, IsNearAdvance}
+use Rattle.callers.specs.Variations.{exact_delta, sum_halves, sum_of_magnitudes, region_bytes, region_index}
+use Rattle.callers.specs.Variations.{region_index_count, axis_count, delta_of, moved, exact_region_scalar}
 use Rattle.callers.proofs.Fractions.{IsPartOff, off_by, axis_off, next_axis_off, first_axis_off, plus_off, scaled_off}
 use Rattle.callers.proofs.Fractions.{whole_off, rounded_off}
 
