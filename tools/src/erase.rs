@@ -165,7 +165,10 @@ impl<'a> Eraser<'a> {
                 Ok(at + 1)
             }
             [name, "::", next, ..] => {
-                if at == 0 || !matches!(self.words[at - 1], "::" | ".") {
+                // A path begins after the dots of a range, but not after that of a field.
+                if !matches!(self.words[..at], [.., "::"] | [.., "."])
+                    || matches!(self.words[..at], [.., ".", "."])
+                {
                     self.path(at, name, next);
                 }
                 Ok(at + 1)

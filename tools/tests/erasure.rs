@@ -401,6 +401,27 @@ fn unsupported_sources() {
     }
 }
 
+/// Sources, each with its Rust: what is changed, beside other signs.
+const CHANGED: [[&str; 2]; 1] = [[
+    "const N: bool = g(crate::A, &crate::B)[0..crate::FEW].len() < crate::C;",
+    "const N: bool = g(crate::font_base::A, &crate::font_base::B)[0..crate::font_base::FEW].len() \
+     < crate::font_base::C;",
+]];
+
+#[test]
+fn changed_sources() {
+    let of = Crate {
+        name: "font_base",
+        target: Target::Library,
+        left_out: &["facts"],
+    };
+    for [source, rust] in CHANGED {
+        let erased =
+            erase(source, &of, false).unwrap_or_else(|error| panic!("{source}: {error:?}"));
+        assert_eq!(erased.rust, rust, "{source}");
+    }
+}
+
 #[test]
 fn impls_in_what_is_left_out() {
     let is_kept = |source: &str| check_left_out(&[source.into()]).is_err();
