@@ -42,7 +42,7 @@ use crate::widths;
 use std::ops::Range;
 use tokens::{Kind, Token, tokens};
 
-pub use left_out::check_left_out;
+pub use left_out::{check_left_out, check_names};
 pub use tokens::Error;
 pub use tree::{LIBRARY, generated_files, tree};
 
@@ -69,6 +69,11 @@ pub struct Crate<'a> {
 
 /// Modules of `std` that Rattle has in another form than Rust. The program has its own.
 const RATTLE_STD: [&str; 2] = ["alloc", "io"];
+
+fn is_macro(name: &str) -> bool {
+    let is_keyword = matches!(name, "if" | "in" | "match" | "return" | "while");
+    name.starts_with(|c: char| c == '_' || c.is_alphabetic()) && !is_keyword
+}
 
 fn is_crate(name: &str) -> bool {
     name == "std" || LIBRARY.iter().any(|(library, _)| *library == name)
@@ -98,6 +103,8 @@ pub fn erase<'a>(source: &'a str, of: &'a Crate, is_root: bool) -> Result<Erased
         modules: Vec::new(),
         left_out: Vec::new(),
         writers: Vec::new(),
+        unused: Vec::new(),
+        macros: Vec::new(),
     };
     if of.target == Target::Program {
         let is_first = |token: &Token| !matches!(token.kind, Kind::Space | Kind::Head);
@@ -131,12 +138,26 @@ struct Eraser<'a> {
     left_out: Vec<&'a str>,
     // The functions with a parameter `W`, which Rust's have not.
     writers: Vec<Range<usize>>,
+    // The names of each `let` that is left out.
+    unused: Vec<&'a str>,
+    // The arguments of macros, and what defines these: they may depend on each word.
+    macros: Vec<Range<usize>>,
 }
 
 impl<'a> Eraser<'a> {
     // Decides on the words at this place, and returns the place of the next.
     fn step(&mut self, at: usize) -> Result<usize, Error> {
         self.check_name(at)?;
+        let open = match self.words[at..] {
+            ["prove", "!", ..] => None,
+            [name, "!", "(" | "[" | "{", ..] if is_macro(name) => Some(at + 2),
+            ["macro_rules", "!", _, "(" | "[" | "{", ..] => Some(at + 3),
+            _ => None,
+        };
+        if let Some(open) = open {
+            let end = self.group_end(open)?;
+            self.macros.push(open..end);
+        }
         match self.words[at..] {
             ["requires" | "ensures", ..] => {
                 let end = self.clause_end(at)?;
@@ -188,11 +209,25 @@ impl<'a> Eraser<'a> {
             ["Drop", ..] => self.error(at, "`Drop` elsewhere than in a bound or a `derive`"),
             // Rust has these names at the start of its paths: here they would be other ones.
             ["core" | "font_types_proved", ..] => self.error(at, "a name of Rust's paths"),
-            [name, next, ..] if is_crate(name) && next != "::" => {
+            [name, next, ..] if (is_crate(name) || name == "thiserror") && next != "::" => {
                 self.error(at, format!("`{name}` of another meaning than a crate"))
             }
             ["macro_rules", "!", "assert" | "prove", ..] => {
                 self.error(at, "a macro of a name that is changed")
+            }
+            // Rust lays out structs otherwise.
+            [
+                name @ ("size_of" | "size_of_val" | "align_of" | "align_of_val"),
+                ..,
+            ] => self.error(
+                at,
+                format!("`{name}`, which depends on the layout of types"),
+            ),
+            ["let" | "as", "as_slice" | "each_is_byte", ..] => {
+                self.error(at, "a name of what may be left out")
+            }
+            ["mod", _, "{", ..] if matches!(self.of.target, Target::Examples) => {
+                self.error(at, "a module within a file, from which `super` is another")
             }
             _ => Ok(()),
         }
@@ -229,7 +264,7 @@ impl<'a> Eraser<'a> {
                 return self.error(item, "an import of all names");
             }
             ["mod", name, ";", ..] if item == at => {
-                if is_crate(name) || matches!(name, "core" | "font_types_proved") {
+                if is_crate(name) || matches!(name, "core" | "font_types_proved" | "thiserror") {
                     return self.error(at, format!("a module `{name}`, as a crate is named"));
                 }
                 self.modules.push(name);
@@ -277,13 +312,16 @@ impl<'a> Eraser<'a> {
     // Checks that what is kept has no name of what is left out, nor a trait of it in scope, nor a
     // `W` that was a parameter.
     fn check_kept(&self) -> Result<(), Error> {
-        let is_trait = |name: &&str| name.starts_with(char::is_uppercase);
-        let has_trait = self.left_out.iter().any(is_trait);
+        let has_trait = self.left_out.iter().any(|name| *name != "each_is_byte");
         for (at, word) in self.words.iter().enumerate() {
+            let is_changed = !self.kept[self.places[at]] || !self.put[self.places[at]].is_empty();
+            if is_changed && self.macros.iter().any(|group| group.contains(&at)) {
+                return self.error(at, format!("`{word}`, which is changed, in a macro"));
+            }
             if !self.kept[self.places[at]] {
                 continue;
             }
-            if self.left_out.contains(word) {
+            if self.left_out.contains(word) || self.unused.contains(word) {
                 return self.error(at, format!("`{word}`, which is left out"));
             }
             if has_trait && *word == "fn" {
@@ -360,7 +398,10 @@ impl<'a> Eraser<'a> {
         match self.words[at + 1..] {
             // A `let _name` of them is left out.
             ["as_slice" | "each_is_byte", "(", ..]
-                if self.words[at + 2..self.group_end(at + 2)?].contains(&"mut") =>
+                if !matches!(
+                    self.words[at + 3..self.group_end(at + 2)?],
+                    ["&", "self", ")"] | [_, ":", "&", "[", "u8", "]", ")"]
+                ) =>
             {
                 self.error(
                     at,
@@ -440,6 +481,7 @@ impl<'a> Eraser<'a> {
         if !item.contains(&"(") || item.windows(2).any(is_other) {
             return self.error(at, "a `let _name` of something else than a slice or a fact");
         }
+        self.unused.push(self.words[at + 1]);
         Ok(self.leave_out_with_comments(at..end))
     }
 

@@ -355,7 +355,7 @@ fn exports_of_pointers_are_unsafe() {
 }
 
 /// Sources that are errors, each after its line and what the error says.
-const UNSUPPORTED: [&str; 24] = [
+const UNSUPPORTED: [&str; 34] = [
     "1 `Drop`: const Drop: u32 = 3;\nfn f(n: u32) -> u32 { n + Drop }",
     "2 `{{`: #[derive(Error)]\n#[error(\"{{0, 1}}\")]\nstruct Fault;",
     "2 `/* */`: fn f() {\n/* a comment */ }",
@@ -383,6 +383,18 @@ const UNSUPPORTED: [&str; 24] = [
     "1 Rust's paths: use crate::parts::core;",
     "1 `font_base`: struct font_base;",
     "1 macro: macro_rules! assert { ($all:tt) => {} }",
+    // Rust lays out the struct in 8 bytes, and C in 12.
+    "2 `size_of`: struct Row { tag: u8, offset: u32, length: u8 }\nfn f() -> usize { size_of::<Row>() }",
+    "1 `_bytes`: fn f(_bytes: u32, raw: Raw) -> u32 { let _bytes = raw.as_slice(); _bytes }",
+    "2 function: use crate::facts::shown;\nfn f(wide: Wide) -> u32 { wide.width() }",
+    "2 changes: type Number<'a> = &'a mut u32;\nfn each_is_byte(number: Number<'_>) { *number = 5; }",
+    // Macros see each word of their arguments.
+    "1 in a macro: fn f() -> u32 { parts!(5 + Drop) }",
+    "1 in a macro: fn f() -> u32 { depth!(font_base::facts) }",
+    "1 in a macro: fn f() -> usize { stringify!(std::mem).len() }",
+    "1 `thiserror`: mod thiserror;",
+    "1 `thiserror`: pub(crate) mod thiserror;",
+    "1 name of: use crate::parts::other as each_is_byte;",
 ];
 
 #[test]

@@ -3,6 +3,34 @@
 use super::Error;
 use super::tokens::{Kind, tokens};
 
+/// Checks that no file of a crate that is kept defines a name that one that is left out does: an
+/// `impl` for the one would pass for an `impl` for the other.
+pub fn check_names(kept: &[String], left_out: &[String]) -> Result<(), (usize, Error)> {
+    let definitions = |source: &str| -> Result<Vec<(String, usize)>, Error> {
+        let mut tokens = tokens(source)?;
+        tokens.retain(|token| token.kind == Kind::Code);
+        let pairs = tokens.windows(2);
+        let is_definition = |word| matches!(word, "struct" | "enum" | "union" | "trait");
+        let defined = pairs.filter(|pair| is_definition(pair[0].text));
+        Ok(defined
+            .map(|pair| (pair[1].text.into(), pair[1].line))
+            .collect())
+    };
+    let mut names = Vec::new();
+    for source in left_out {
+        let defined = definitions(source).map_err(|error| (0, error))?;
+        names.extend(defined.into_iter().map(|(name, _)| name));
+    }
+    for (file, source) in kept.iter().enumerate() {
+        let defined = definitions(source).map_err(|error| (file, error))?;
+        if let Some((name, line)) = defined.into_iter().find(|(name, _)| names.contains(name)) {
+            let what = format!("`{name}`, which is also a name of what is left out");
+            return Err((file, Error { line, what }));
+        }
+    }
+    Ok(())
+}
+
 /// Checks the files of the modules of a crate that are left out: each `impl` is of a trait or for
 /// a type that they define. Another could give a type that is kept a method of a name that it has
 /// by another trait, and Rust would call that. Returns the file too.

@@ -1,6 +1,6 @@
 //! The generated files of the repository.
 
-use super::{Crate, Error, Target, check_left_out, erase};
+use super::{Crate, Error, Target, check_left_out, check_names, erase};
 use crate::repository;
 use std::collections::BTreeMap;
 use std::io::Write;
@@ -78,7 +78,11 @@ fn check_modules(from: &str, modules: &[&str]) -> Result<(), String> {
         paths.extend(repository::files(&format!("{from}/{module}"), ".rt"));
     }
     let sources: Vec<String> = paths.iter().map(|path| repository::text(path)).collect();
-    check_left_out(&sources).map_err(|(file, error)| message(&paths[file], error))
+    check_left_out(&sources).map_err(|(file, error)| message(&paths[file], error))?;
+    let mut others = repository::files(from, ".rt");
+    others.retain(|path| !paths.contains(path) && !path.contains("/tests"));
+    let kept: Vec<String> = others.iter().map(|path| repository::text(path)).collect();
+    check_names(&kept, &sources).map_err(|(file, error)| message(&others[file], error))
 }
 
 fn message(source: &str, Error { line, what }: Error) -> String {
