@@ -34,6 +34,7 @@
 //! a crate's name, `core`, `assert` or `prove` that is another's.
 
 mod errors;
+mod language;
 mod left_out;
 mod tokens;
 mod tree;
@@ -69,11 +70,6 @@ pub struct Crate<'a> {
 
 /// Modules of `std` that Rattle has in another form than Rust. The program has its own.
 const RATTLE_STD: [&str; 2] = ["alloc", "io"];
-
-fn is_macro(name: &str) -> bool {
-    let is_keyword = matches!(name, "if" | "in" | "match" | "return" | "while");
-    name.starts_with(|c: char| c == '_' || c.is_alphabetic()) && !is_keyword
-}
 
 fn is_crate(name: &str) -> bool {
     name == "std" || LIBRARY.iter().any(|(library, _)| *library == name)
@@ -140,7 +136,7 @@ struct Eraser<'a> {
     writers: Vec<Range<usize>>,
     // The names of each `let` that is left out.
     unused: Vec<&'a str>,
-    // The arguments of macros, and what defines these: they may depend on each word.
+    // The arguments of macros.
     macros: Vec<Range<usize>>,
 }
 
@@ -148,16 +144,7 @@ impl<'a> Eraser<'a> {
     // Decides on the words at this place, and returns the place of the next.
     fn step(&mut self, at: usize) -> Result<usize, Error> {
         self.check_name(at)?;
-        let open = match self.words[at..] {
-            ["prove", "!", ..] => None,
-            [name, "!", "(" | "[" | "{", ..] if is_macro(name) => Some(at + 2),
-            ["macro_rules", "!", _, "(" | "[" | "{", ..] => Some(at + 3),
-            _ => None,
-        };
-        if let Some(open) = open {
-            let end = self.group_end(open)?;
-            self.macros.push(open..end);
-        }
+        self.check_form(at)?;
         match self.words[at..] {
             ["requires" | "ensures", ..] => {
                 let end = self.clause_end(at)?;
@@ -211,9 +198,6 @@ impl<'a> Eraser<'a> {
             ["core" | "font_types_proved", ..] => self.error(at, "a name of Rust's paths"),
             [name, next, ..] if (is_crate(name) || name == "thiserror") && next != "::" => {
                 self.error(at, format!("`{name}` of another meaning than a crate"))
-            }
-            ["macro_rules", "!", "assert" | "prove", ..] => {
-                self.error(at, "a macro of a name that is changed")
             }
             // Rust lays out structs otherwise.
             [
@@ -349,15 +333,15 @@ impl<'a> Eraser<'a> {
                 return self.error(open + 3, "`{{` in the text of an error");
             }
             ["tactic" | "error", ..] => false,
-            ["macro_use" | "macro_export", ..] => {
-                return self.error(open + 1, "a macro for other modules");
-            }
             ["cfg", "(", "test", ")", "]"] => match self.words[end..] {
                 ["mod", "tests", ";", ..] => return Ok(self.leave_out_with_comments(at..end + 3)),
                 _ => return self.error(at, "tests elsewhere than in `mod tests;`"),
             },
             ["derive", "(", ..] => self.derive(open + 3, end)?,
-            _ => true,
+            _ => {
+                self.check_attribute(open + 1, end)?;
+                true
+            }
         };
         if !is_kept {
             self.leave_out(at..end);
@@ -371,6 +355,7 @@ impl<'a> Eraser<'a> {
         let names = &self.words[first..end - 2];
         let is_out = |word: &&&str| matches!(**word, "Drop" | "Error" | ",");
         let kept = names.len() - names.iter().rev().take_while(is_out).count();
+        self.check_derives(first, first + kept)?;
         if kept == names.len() {
             return Ok(true);
         }

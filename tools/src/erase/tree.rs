@@ -86,7 +86,7 @@ fn check_modules(from: &str, modules: &[&str]) -> Result<(), String> {
 }
 
 fn message(source: &str, Error { line, what }: Error) -> String {
-    format!("{source}:{line}: {what}: see tools/src/erase.rs")
+    format!("{source}:{line}: {what}: see tools/src/erase/language.rs")
 }
 
 // Adds a file and the modules that it declares.
