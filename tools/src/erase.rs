@@ -97,10 +97,12 @@ pub fn erase<'a>(source: &'a str, of: &'a Crate, is_root: bool) -> Result<Erased
         of,
         is_root,
         modules: Vec::new(),
-        left_out: Vec::new(),
+        gone: Vec::new(),
         writers: Vec::new(),
-        unused: Vec::new(),
         macros: Vec::new(),
+        header_end: 0,
+        depth: 0,
+        item: "",
     };
     if of.target == Target::Program {
         let is_first = |token: &Token| !matches!(token.kind, Kind::Space | Kind::Head);
@@ -130,22 +132,27 @@ struct Eraser<'a> {
     of: &'a Crate<'a>,
     is_root: bool,
     modules: Vec<&'a str>,
-    // The names that are imported from what is left out.
-    left_out: Vec<&'a str>,
+    // Names of this file that mean something else in Rust.
+    gone: Vec<String>,
     // The functions with a parameter `W`, which Rust's have not.
     writers: Vec<Range<usize>>,
-    // The names of each `let` that is left out.
-    unused: Vec<&'a str>,
     // The arguments of macros.
     macros: Vec<Range<usize>>,
+    // Where the header of the last function ends.
+    header_end: usize,
+    // How many brackets are open, and the kind of the item that opened the first.
+    depth: usize,
+    item: &'a str,
 }
 
 impl<'a> Eraser<'a> {
     // Decides on the words at this place, and returns the place of the next.
     fn step(&mut self, at: usize) -> Result<usize, Error> {
-        self.check_name(at)?;
         self.check_form(at)?;
         match self.words[at..] {
+            ["requires" | "ensures", ..] if at >= self.header_end => {
+                self.error(at, "a clause elsewhere than before a function's body")
+            }
             ["requires" | "ensures", ..] => {
                 let end = self.clause_end(at)?;
                 Ok(self.leave_out_with_comments(at..end))
@@ -173,47 +180,12 @@ impl<'a> Eraser<'a> {
                 Ok(at + 1)
             }
             [name, "::", next, ..] => {
-                // A path begins after the dots of a range, but not after that of a field.
-                if !matches!(self.words[..at], [.., "::"] | [.., "."])
-                    || matches!(self.words[..at], [.., ".", "."])
-                {
+                if self.is_start(at) {
                     self.path(at, name, next);
                 }
                 Ok(at + 1)
             }
             _ => Ok(at + 1),
-        }
-    }
-
-    // Refuses names that would have another meaning in Rust.
-    fn check_name(&self, at: usize) -> Result<(), Error> {
-        match self.words[at..] {
-            // The root of the crate becomes a module, where this would be the root of all.
-            ["crate", "as", ..] | ["extern", "crate", ..] => {
-                self.error(at, "another name of the crate's root")
-            }
-            // If it named a number, `n + Drop` would be erased to `n`.
-            ["Drop", ..] => self.error(at, "`Drop` elsewhere than in a bound or a `derive`"),
-            // Rust has these names at the start of its paths: here they would be other ones.
-            ["core" | "font_types_proved", ..] => self.error(at, "a name of Rust's paths"),
-            [name, next, ..] if (is_crate(name) || name == "thiserror") && next != "::" => {
-                self.error(at, format!("`{name}` of another meaning than a crate"))
-            }
-            // Rust lays out structs otherwise.
-            [
-                name @ ("size_of" | "size_of_val" | "align_of" | "align_of_val"),
-                ..,
-            ] => self.error(
-                at,
-                format!("`{name}`, which depends on the layout of types"),
-            ),
-            ["let" | "as", "as_slice" | "each_is_byte", ..] => {
-                self.error(at, "a name of what may be left out")
-            }
-            ["mod", _, "{", ..] if matches!(self.of.target, Target::Examples) => {
-                self.error(at, "a module within a file, from which `super` is another")
-            }
-            _ => Ok(()),
         }
     }
 
@@ -243,16 +215,9 @@ impl<'a> Eraser<'a> {
             ["ghost", "use", ..] => self.item_end(item)?,
             ["ghost", ..] => self.ghost_end(item)?,
             ["mod" | "use", ..] if self.is_left_out(item) => self.left_out_end(item)?,
-            // It could bring in names of what is left out.
-            ["use", ..] if self.words[item..self.item_end(item)?].contains(&"*") => {
-                return self.error(item, "an import of all names");
-            }
             ["mod", name, ";", ..] if item == at => {
-                if is_crate(name) || matches!(name, "core" | "font_types_proved" | "thiserror") {
-                    return self.error(at, format!("a module `{name}`, as a crate is named"));
-                }
                 self.modules.push(name);
-                return Ok(at + 2);
+                return Ok(at + 1);
             }
             _ => return Ok(at + 1),
         };
@@ -276,49 +241,12 @@ impl<'a> Eraser<'a> {
     // The end of an item that is left out. Its names are not those that Rust has.
     fn left_out_end(&mut self, at: usize) -> Result<usize, Error> {
         let end = self.item_end(at)?;
-        if self.words[at] == "use" && !matches!(self.words[at + 1], "std" | "thiserror") {
-            let words = &self.words[at..end];
-            if words
-                .iter()
-                .any(|word| matches!(*word, "*" | "as" | "Drop"))
-            {
-                return self.error(at, "an import of this form from what is left out");
-            }
-            let names = words
-                .windows(2)
-                .filter(|pair| matches!(pair[1], "," | "}" | ";"));
-            let names = names.map(|pair| pair[0]).filter(|name| *name != "}");
-            self.left_out.extend(names);
+        match self.words[at..] {
+            ["use", "std", ..] => self.gone.push("AllocError".into()),
+            ["use", "thiserror", ..] | ["mod", ..] => {}
+            _ => self.check_left_out_import(at, end)?,
         }
         Ok(end)
-    }
-
-    // Checks that what is kept has no name of what is left out, nor a trait of it in scope, nor a
-    // `W` that was a parameter.
-    fn check_kept(&self) -> Result<(), Error> {
-        let has_trait = self.left_out.iter().any(|name| *name != "each_is_byte");
-        for (at, word) in self.words.iter().enumerate() {
-            let is_changed = !self.kept[self.places[at]] || !self.put[self.places[at]].is_empty();
-            if is_changed && self.macros.iter().any(|group| group.contains(&at)) {
-                return self.error(at, format!("`{word}`, which is changed, in a macro"));
-            }
-            if !self.kept[self.places[at]] {
-                continue;
-            }
-            if self.left_out.contains(word) || self.unused.contains(word) {
-                return self.error(at, format!("`{word}`, which is left out"));
-            }
-            if has_trait && *word == "fn" {
-                return self.error(
-                    at,
-                    "a function beside an imported trait, type or constant that is left out",
-                );
-            }
-            if *word == "W" && self.is_of_writer(at) {
-                return self.error(at, "`W` elsewhere than in `Formatter<W>`");
-            }
-        }
-        Ok(())
     }
 
     fn is_of_writer(&self, at: usize) -> bool {
@@ -374,6 +302,8 @@ impl<'a> Eraser<'a> {
 
     // `fn` and a name.
     fn function(&mut self, at: usize) -> Result<usize, Error> {
+        let body = self.body(at)?;
+        self.header_end = body.map_or(self.item_end(at), Ok)?;
         if let [.., "extern", "\"C\""] = self.words[..at] {
             return self.export(at);
         }
@@ -381,18 +311,6 @@ impl<'a> Eraser<'a> {
             self.put(at, "pub ");
         }
         match self.words[at + 1..] {
-            // A `let _name` of them is left out.
-            ["as_slice" | "each_is_byte", "(", ..]
-                if !matches!(
-                    self.words[at + 3..self.group_end(at + 2)?],
-                    ["&", "self", ")"] | [_, ":", "&", "[", "u8", "]", ")"]
-                ) =>
-            {
-                self.error(
-                    at,
-                    format!("a `{}` that changes something", self.words[at + 1]),
-                )
-            }
             [_, "<", "W", ":", "fmt", "::", "Write", ">", ..] => {
                 let end = match self.body(at + 9)? {
                     Some(body) => self.group_end(body)?,
@@ -402,7 +320,7 @@ impl<'a> Eraser<'a> {
                 Ok(self.leave_out(at + 2..at + 9))
             }
             ["clone", "(", "&", "self", ")", "-", ">", "Result", "<", ..] => self.clone_of_copy(at),
-            _ => Ok(at + 2),
+            _ => Ok(at + 1),
         }
     }
 
@@ -424,6 +342,7 @@ impl<'a> Eraser<'a> {
             self.leave_out(name + 2..item);
             self.put(item, pointer);
             self.replace(item + 1, &format!(", {word}_len: usize"));
+            self.gone.push(format!("{word}_len"));
             slices.push_str(&format!(
                 "\n    let {word} = unsafe {{ crate::{slice}({word}, {word}_len) }};"
             ));
@@ -453,20 +372,10 @@ impl<'a> Eraser<'a> {
         Ok(at + 10)
     }
 
-    // `let _name = x.as_slice();` or `let _name = each_is_byte(x);`
+    // `let _bytes = ..;`
     fn unused(&mut self, at: usize) -> Result<usize, Error> {
         let end = self.item_end(at)?;
-        // Names, and calls of these two.
-        let is_other = |pair: &[&str]| match *pair {
-            [name, "("] => !matches!(name, "as_slice" | "each_is_byte"),
-            [_, word] => matches!(word, "{" | "[" | "?" | "!" | "=" | "mut"),
-            _ => false,
-        };
-        let item = &self.words[at + 2..end];
-        if !item.contains(&"(") || item.windows(2).any(is_other) {
-            return self.error(at, "a `let _name` of something else than a slice or a fact");
-        }
-        self.unused.push(self.words[at + 1]);
+        self.check_unused(at, end)?;
         Ok(self.leave_out_with_comments(at..end))
     }
 
@@ -525,6 +434,9 @@ impl<'a> Eraser<'a> {
 
     // `ghost`, a name, and after `:` or `=` what it is; then a `,` or a `;` if there is one.
     fn ghost_end(&self, at: usize) -> Result<usize, Error> {
+        if !matches!(self.words[at + 1..], [_, ":" | "=", ..]) {
+            return self.error(at, "a ghost item of another form");
+        }
         let mut end = self.logic_end(at + 3)?;
         while let [":" | "=", "{", ..] = self.words[end..] {
             end = self.logic_end(end + 1)?;
