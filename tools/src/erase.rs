@@ -244,7 +244,7 @@ impl<'a> Eraser<'a> {
         match self.words[at..] {
             ["use", "std", ..] => self.gone.push("AllocError".into()),
             ["use", "thiserror", ..] | ["mod", ..] => {}
-            _ => self.check_left_out_import(at, end)?,
+            _ => self.check_import(at, end)?,
         }
         Ok(end)
     }
