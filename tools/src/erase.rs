@@ -43,7 +43,7 @@ use crate::widths;
 use std::ops::Range;
 use tokens::{Kind, Token, tokens};
 
-pub use left_out::{check_left_out, check_names};
+pub use left_out::check_left_out;
 pub use tokens::Error;
 pub use tree::{LIBRARY, generated_files, tree};
 

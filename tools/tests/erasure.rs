@@ -20,7 +20,7 @@ const CHANGES: [(&str, &str); 6] = [
 ];
 
 /// Left out, as are clauses, ghost items, attributes of proofs, and the results of `clone`.
-const IMPORTS: [&str; 8] = [
+const LEFT_OUT: [&str; 8] = [
     "#[cfg(test)] mod tests;",
     "+ Drop",
     "<W: fmt::Write>",
@@ -355,11 +355,13 @@ fn exports_of_pointers_are_unsafe() {
 }
 
 /// Sources that are errors, each after its line and what the error says.
-const UNSUPPORTED: [&str; 63] = [
+const UNSUPPORTED: &[&str] = &[
     "2 `{{`: #[derive(Error)]\n#[error(\"{{0, 1}}\")]\nstruct Fault;",
     "2 `/* */`: fn f() {\n/* a comment */ }",
     "1 unterminated: fn f() -> char { '\n' }",
-    "1 quote: const TEXT: &str = r\"a\\\";",
+    "1 raw name: const r#crate: u32 = 1;",
+    "1 raw name: const r#crate: u32 = 1;",
+    "1 quote: const TEXT: &[u8] = br\"a\\\";",
     "1 ASCII: const \u{212a}: u32 = 1;",
     // Clauses.
     "1 comment: fn f() ensures { -- }\n} {}",
@@ -471,30 +473,49 @@ fn changed_sources() {
 }
 
 #[test]
-fn impls_in_what_is_left_out() {
-    let is_kept = |source: &str| check_left_out(&[source.into()]).is_err();
-    for source in [
+fn files_that_are_left_out() {
+    for (found, source) in [
         // Rust would call the method of a trait, or of the type behind a reference.
-        "impl Count { fn size(self) -> u32 { 2 } }",
-        "impl Size for &Count { fn size(self) -> u32 { 2 } }",
-        "struct T;\nimpl<T: Own> Size for T { fn size(self) -> u32 { 2 } }",
+        ("`impl`", "impl Count { fn size(self) -> u32 { 2 } }"),
+        (
+            "`impl`",
+            "impl Size for &Count { fn size(self) -> u32 { 2 } }",
+        ),
+        (
+            "`impl`",
+            "struct T;\nimpl<T: Own> Size for T { fn size(self) -> u32 { 2 } }",
+        ),
+        ("`impl`", "#[inline]\nimpl Count {}"),
+        // Other types of the same name.
+        ("`impl`", "mod decoy { pub struct Narrow; }\nimpl Narrow {}"),
+        ("`impl`", "struct Narrow;\nimpl crate::attack::Narrow {}"),
+        (
+            "`impl`",
+            "struct Narrow;\nfn f() { use crate::attack::Narrow; impl Narrow {} }",
+        ),
+        (
+            "trait",
+            "mod decoy { pub trait HasExtent {} }\nimpl crate::HasExtent for crate::Small {}",
+        ),
+        (
+            "name",
+            "use crate::attack::Size as JsonScalar;\nimpl JsonScalar for Count {}",
+        ),
+        ("name", "pub use crate::attack::Size as each_is_byte;"),
+        ("files", "#[macro_export]\nmacro_rules! named { () => {} }"),
+        ("macro", "macro_rules! matches { () => {} }"),
+        (
+            "function",
+            "type N<'a> = &'a mut u32;\nfn each_is_byte(number: N<'_>) { *number = 5; }",
+        ),
+        ("", "struct Own;\nimpl Own {}\nimpl From<Count> for Own {}"),
+        ("", "impl<F: Fn(u32) -> u32> JsonScalar for Count<F> {}"),
+        ("", "fn f() -> impl Iterator<Item = u32> {}"),
     ] {
-        assert!(is_kept(source), "{source}");
-    }
-    for source in [
-        "trait Own {}\nimpl<F: Fn(u32) -> u32> Own for Count<F> {}",
-        "struct Own;\nimpl Own {}\nimpl From<Count> for crate::facts::Own {}",
-        "fn f() -> impl Iterator<Item = u32> {}",
-    ] {
-        assert!(!is_kept(source), "{source}");
-    }
-    for (name, lines) in MODULES {
-        let paths = lines.iter().filter_map(module).flat_map(|module| {
-            let path = format!("crates/{name}/src/{module}");
-            let below = repository::files(&path, ".rt");
-            below.into_iter().chain([format!("{path}.rt")])
-        });
-        let sources: Vec<String> = paths.map(|path| repository::text(&path)).collect();
-        assert!(check_left_out(&sources).is_ok(), "{name}");
+        let what = check_left_out(source).map_or_else(|error| error.what, |()| String::new());
+        assert!(
+            what.is_empty() == found.is_empty() && what.contains(found),
+            "{source}: {what}"
+        );
     }
 }

@@ -85,6 +85,13 @@ fn word_or_text(rest: &str, len: usize) -> Result<usize, &'static str> {
     let (word, after) = rest.split_at(len);
     match (word, after.chars().next()) {
         ("b", Some(quote @ ('"' | '\''))) => Ok(len + quoted(after, quote)?),
+        ("r", Some('"' | '#')) => {
+            let marks = after.len() - after.trim_start_matches('#').len();
+            let end = format!("\"{}", &after[..marks]);
+            let text = after[marks..].strip_prefix('"').ok_or("a raw name")?;
+            let text = text.find(&end).ok_or("an unterminated literal")?;
+            Ok(len + marks + 1 + text + end.len())
+        }
         (_, Some('"' | '\'' | '#')) => Err("a word before a quote or a `#`"),
         _ => Ok(len),
     }

@@ -1,6 +1,6 @@
 //! The generated files of the repository.
 
-use super::{Crate, Error, Target, check_left_out, check_names, erase};
+use super::{Crate, Error, Target, check_left_out, erase};
 use crate::repository;
 use std::collections::BTreeMap;
 use std::io::Write;
@@ -52,8 +52,8 @@ pub fn tree() -> Result<BTreeMap<String, String>, String> {
         let root = ["lib", "main"][usize::from(target == Target::Program)];
         let from = format!("crates/{name}/src");
         let to = folder(name, target);
-        check_modules(&from, left_out)?;
         add_file(&mut files, &of, [&from, root], [&to, "mod"])?;
+        check_others(&files, &from)?;
     }
     Ok(files)
 }
@@ -70,19 +70,15 @@ fn crates() -> impl Iterator<Item = (&'static str, Target, &'static [&'static st
     library.into_iter().chain(ABOVE)
 }
 
-// Checks the modules of a crate that are left out.
-fn check_modules(from: &str, modules: &[&str]) -> Result<(), String> {
-    let mut paths = Vec::new();
-    for module in modules {
-        paths.push(format!("{from}/{module}.rt"));
-        paths.extend(repository::files(&format!("{from}/{module}"), ".rt"));
+// Checks the files of a crate that are left out: its tests are too.
+fn check_others(files: &BTreeMap<String, String>, from: &str) -> Result<(), String> {
+    for path in repository::files(from, ".rt") {
+        let head = format!("// @generated from {path} ");
+        if !files.values().any(|rust| rust.starts_with(&head)) {
+            check_left_out(&repository::text(&path)).map_err(|error| message(&path, error))?;
+        }
     }
-    let sources: Vec<String> = paths.iter().map(|path| repository::text(path)).collect();
-    check_left_out(&sources).map_err(|(file, error)| message(&paths[file], error))?;
-    let mut others = repository::files(from, ".rt");
-    others.retain(|path| !paths.contains(path) && !path.contains("/tests"));
-    let kept: Vec<String> = others.iter().map(|path| repository::text(path)).collect();
-    check_names(&kept, &sources).map_err(|(file, error)| message(&others[file], error))
+    Ok(())
 }
 
 fn message(source: &str, Error { line, what }: Error) -> String {
