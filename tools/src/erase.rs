@@ -161,7 +161,13 @@ impl<'a> Eraser<'a> {
             ["#", ..] => self.attribute(at, at + 1),
             ["pub" | "ghost" | "mod" | "use", ..] => self.item(at),
             ["fn", name, ..] if name != "(" => self.function(at),
-            ["let", name, ..] if name.starts_with('_') && name.len() > 1 => self.unused(at),
+            ["let", name, ..] if name.starts_with('_') && name.len() > 1 => {
+                let end = self.item_end(at)?;
+                if !self.is_unused(at, end) {
+                    return self.error(at, "a `let _name` that is not in `UNUSED`");
+                }
+                Ok(self.leave_out_with_comments(at..end))
+            }
             ["Formatter", "<", "W", ">", ..] if self.is_of_writer(at) => {
                 self.replace(at + 2, "'_");
                 Ok(at + 3)
@@ -214,39 +220,15 @@ impl<'a> Eraser<'a> {
         let end = match self.words[item..] {
             ["ghost", "use", ..] => self.item_end(item)?,
             ["ghost", ..] => self.ghost_end(item)?,
-            ["mod" | "use", ..] if self.is_left_out(item) => self.left_out_end(item)?,
-            ["mod", name, ";", ..] if item == at => {
+            ["mod", name, ..] if self.is_root && self.of.left_out.contains(&name) => item + 3,
+            ["use", ..] if self.is_unused(item, self.item_end(item)?) => self.item_end(item)?,
+            ["mod", name, ..] if item == at => {
                 self.modules.push(name);
                 return Ok(at + 1);
             }
             _ => return Ok(at + 1),
         };
         Ok(self.leave_out_with_comments(at..end))
-    }
-
-    // A module of the root that is left out, what is imported from one, and names that Rust does
-    // not have.
-    fn is_left_out(&self, at: usize) -> bool {
-        match self.words[at..] {
-            ["use", "thiserror", "::", "Error", ";", ..] => true,
-            ["use", "std", "::", "alloc", "::", "AllocError", ";", ..] => {
-                self.of.target != Target::Program
-            }
-            ["use", "crate", "::", name, ..] => self.of.left_out.contains(&name),
-            ["use" | "mod", name, ..] => self.is_root && self.of.left_out.contains(&name),
-            _ => false,
-        }
-    }
-
-    // The end of an item that is left out. Its names are not those that Rust has.
-    fn left_out_end(&mut self, at: usize) -> Result<usize, Error> {
-        let end = self.item_end(at)?;
-        match self.words[at..] {
-            ["use", "std", ..] => self.gone.push("AllocError".into()),
-            ["use", "thiserror", ..] | ["mod", ..] => {}
-            _ => self.check_import(at, end)?,
-        }
-        Ok(end)
     }
 
     fn is_of_writer(&self, at: usize) -> bool {
@@ -302,8 +284,7 @@ impl<'a> Eraser<'a> {
 
     // `fn` and a name.
     fn function(&mut self, at: usize) -> Result<usize, Error> {
-        let body = self.body(at)?;
-        self.header_end = body.map_or(self.item_end(at), Ok)?;
+        self.header_end = self.header_end(at)?;
         if let [.., "extern", "\"C\""] = self.words[..at] {
             return self.export(at);
         }
@@ -312,10 +293,7 @@ impl<'a> Eraser<'a> {
         }
         match self.words[at + 1..] {
             [_, "<", "W", ":", "fmt", "::", "Write", ">", ..] => {
-                let end = match self.body(at + 9)? {
-                    Some(body) => self.group_end(body)?,
-                    None => self.item_end(at + 9)?,
-                };
+                let end = self.group_end(self.header_end)?;
                 self.writers.push(at + 9..end);
                 Ok(self.leave_out(at + 2..at + 9))
             }
@@ -328,9 +306,6 @@ impl<'a> Eraser<'a> {
     // = unsafe { slice(x, x_len) }; .. }`, and is unsafe.
     fn export(&mut self, at: usize) -> Result<usize, Error> {
         let end = self.group_end(at + 2)?;
-        let Some(body) = self.body(end)? else {
-            return self.error(at, "an export with no body");
-        };
         let mut slices = String::new();
         for name in at + 3..end {
             let (item, pointer, slice) = match self.words[name..end] {
@@ -350,17 +325,16 @@ impl<'a> Eraser<'a> {
         if self.words[at..end].contains(&"&") {
             self.put(at - 2, "unsafe ");
         }
-        self.put[self.places[body] + 1].push_str(&slices);
+        self.put[self.places[self.header_end] + 1].push_str(&slices);
         Ok(end)
     }
 
     // `fn clone(&self) -> Result<T, AllocError> { Ok(x) }` becomes `fn clone(&self) -> T { x }`.
     fn clone_of_copy(&mut self, at: usize) -> Result<usize, Error> {
-        let of = |words: &[&str]| words == [",", "AllocError", ">", "{", "Ok", "("];
-        let Some(len) = self.words[at..].windows(6).position(of) else {
+        let comma = self.header_end - 3;
+        if !self.words[comma..].starts_with(&[",", "AllocError", ">", "{", "Ok", "("]) {
             return self.error(at, "a `clone` of another form");
-        };
-        let comma = at + len;
+        }
         let close = self.group_end(comma + 5)? - 1;
         if self.words[close + 1] != "}" {
             return self.error(at, "a `clone` of another body than `Ok(..)`");
@@ -370,13 +344,6 @@ impl<'a> Eraser<'a> {
         self.leave_out(comma + 4..comma + 6);
         self.leave_out(close..close + 1);
         Ok(at + 10)
-    }
-
-    // `let _bytes = ..;`
-    fn unused(&mut self, at: usize) -> Result<usize, Error> {
-        let end = self.item_end(at)?;
-        self.check_unused(at, end)?;
-        Ok(self.leave_out_with_comments(at..end))
     }
 
     // ---- where it ends
@@ -444,13 +411,12 @@ impl<'a> Eraser<'a> {
         Ok(end + usize::from(matches!(self.words[end..], ["," | ";", ..])))
     }
 
-    // The place of the body of the function whose header is here, if it has one.
-    fn body(&self, at: usize) -> Result<Option<usize>, Error> {
+    // The place of the `{` or the `;` after the header of a function.
+    fn header_end(&self, at: usize) -> Result<usize, Error> {
         let mut at = at;
         loop {
             at = match self.words[at..] {
-                ["{", ..] => return Ok(Some(at)),
-                [";", ..] => return Ok(None),
+                ["{" | ";", ..] => return Ok(at),
                 ["requires" | "ensures", ..] => self.clause_end(at)?,
                 ["ghost", ..] => self.ghost_end(at)?,
                 _ => self.group_end(at)?,

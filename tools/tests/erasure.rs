@@ -384,11 +384,11 @@ const UNSUPPORTED: &[&str] = &[
     "1 DERIVES: #[derive(Other)]\nstruct S;",
     // Names of what is left out.
     "1 `Drop`: const Drop: u32 = 3;\nfn f(n: u32) -> u32 { n + Drop }",
-    "1 IMPORTS: use crate::facts::Drop;\nfn f(n: u32) -> u32 { n + Drop }",
-    "1 IMPORTS: use crate::facts::{one, size_of};\nfn f() -> usize { size_of::<u32>() }",
-    "1 IMPORTS: use crate::facts::LIMIT;\nfn f(n: u32) -> bool { matches!(n, LIMIT) }",
+    "1 UNUSED: use crate::facts::Drop;\nfn f(n: u32) -> u32 { n + Drop }",
+    "1 UNUSED: use crate::facts::{one, size_of};\nfn f() -> usize { size_of::<u32>() }",
+    "1 UNUSED: use crate::facts::LIMIT;\nfn f(n: u32) -> bool { matches!(n, LIMIT) }",
     // A trait with a method by value, beside one of the type by reference.
-    "1 IMPORTS: use crate::facts::shown;\nfn f(wide: Wide) -> u32 { wide.width() }",
+    "1 UNUSED: use crate::facts::shown;\nfn f(wide: Wide) -> u32 { wide.width() }",
     "2 trait: use json::{JsonFault, JsonScalar};\nfn f(count: Count) -> u32 { count.size() }",
     "2 `AllocError`: use std::alloc::AllocError;\nfn f(n: N) -> u32 { match n { AllocError => 1 } }",
     "1 another name: use crate::facts::one as size_of;",

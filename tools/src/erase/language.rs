@@ -21,17 +21,13 @@ const DERIVES: List = [
     "Clone Copy Debug Default Eq Hash Ord PartialEq PartialOrd",
 ];
 
-/// The statements that only a proof uses.
+/// The statements and imports that only a proof uses, or Rust does not have.
 const UNUSED: List = [
     "UNUSED",
     "let_bytes=each_is_byte(self); let_bytes=each_is_byte(slice); let_bytes=raw.as_slice(); \
-     let_bytes=each_is_byte(raw.as_slice()); let_bytes=font_base::BeByteArray::as_slice(&self.0);",
-];
-
-/// The imports from modules that are left out.
-const IMPORTS: List = [
-    "IMPORTS",
-    "usecrate::facts::each_is_byte; usecrate::json::round_trip; usejson::{JsonFault,JsonScalar};",
+     let_bytes=each_is_byte(raw.as_slice()); let_bytes=font_base::BeByteArray::as_slice(&self.0); \
+     usecrate::facts::each_is_byte; usecrate::json::round_trip; usejson::{JsonFault,JsonScalar}; \
+     usethiserror::Error; usestd::alloc::AllocError;",
 ];
 
 /// The modules of `std`.
@@ -92,6 +88,12 @@ impl Eraser<'_> {
             ["pub", "(", ..] => "`pub(..)` of something else than a function",
             // Of another name it could be one that rustc calls, as `memcmp`.
             ["extern", "\"C\"", "fn", name, ..] if name.starts_with("font_") => return Ok(()),
+            [name, "::", ..] if self.of.left_out.contains(&name) => {
+                return self.error(
+                    at,
+                    format!("`{name}::`, which is left out, is not in `UNUSED`"),
+                );
+            }
             ["extern", ..] => "`extern` of something else than `font_..`",
             // It returns another type.
             ["clone" | "clone_from", ..] if !before.ends_with(&["fn"]) => "a use of `clone`",
@@ -132,20 +134,17 @@ impl Eraser<'_> {
         names.try_for_each(|name| self.check(name, self.words[name], DERIVES))
     }
 
-    /// Refuses a `let _name`, if it is none that only a proof uses.
-    pub(super) fn check_unused(&self, at: usize, end: usize) -> Result<(), Error> {
-        self.check_words(at, end, UNUSED)
-    }
-
-    /// Refuses an import from what is left out, if it is none of today's.
-    pub(super) fn check_import(&self, at: usize, end: usize) -> Result<(), Error> {
-        self.check_words(at, end, IMPORTS)
+    /// Whether a statement or an import is one that is left out. The program has `AllocError`.
+    pub(super) fn is_unused(&self, at: usize, end: usize) -> bool {
+        let is_kept = self.words[at + 1] == "std" && self.of.target == Target::Program;
+        !is_kept && self.check_words(at, end, UNUSED).is_ok()
     }
 
     /// Checks that nothing is changed in a macro's arguments, and that what is kept has no name of
     /// another meaning, nor a trait in scope that is left out, nor a `W` that was a parameter.
     pub(super) fn check_kept(&self) -> Result<(), Error> {
         let has_trait = self.words.contains(&"JsonScalar");
+        let is_program = self.of.target == Target::Program;
         for (at, word) in self.words.iter().enumerate() {
             let (is_kept, put) = (self.kept[self.places[at]], &self.put[self.places[at]]);
             let is_argument = self.macros.iter().any(|group| group.contains(&at));
@@ -155,6 +154,7 @@ impl Eraser<'_> {
                 _ if is_argument && (!is_kept || !put.is_empty()) => "is changed, in a macro",
                 _ if is_kept && is_other => "has another meaning in Rust",
                 "fn" if is_kept && has_trait => "is beside a trait that is left out",
+                "AllocError" if is_kept && !is_program => "Rust does not have",
                 "W" if is_kept && self.is_of_writer(at) => "is not in `Formatter<W>`",
                 _ => continue,
             };
