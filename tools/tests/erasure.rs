@@ -1,7 +1,6 @@
 //! An independent check of the eraser's output: the tokens of each generated file are those of its
 //! source in order, without those that are left out, except for the changes listed here. Comments
-//! and trailing commas are ignored. Imports are compared as sets of paths, and no name that an
-//! import of what is left out brings in is in the Rust.
+//! and trailing commas are ignored. Imports are compared as sets of paths.
 
 use font_types_tools::erase::{
     Crate, Error, LIBRARY, Target, check_left_out, erase, generated_files, tree,
@@ -31,33 +30,14 @@ const LEFT_OUT: [&str; 8] = [
     "let _bytes = font_base::BeByteArray::as_slice(&self.0);",
 ];
 
-/// The modules that are left out, by their crates.
-const MODULES: [(&str, &[&str]); 3] = [
-    ("font_base", &["mod facts;"]),
-    ("font_types", &["mod json;"]),
-    (
-        "callers",
-        &[
-            "pub mod dumper;",
-            "pub mod hinting;",
-            "pub mod linter;",
-            "pub mod packed;",
-            "pub mod reader;",
-            "pub mod scaler;",
-            "pub mod start;",
-        ],
-    ),
-];
-
-/// Returns the lines that declare the modules of a crate that are left out.
-fn modules(own: &str) -> &'static [&'static str] {
-    let of_own = MODULES.iter().find(|(name, _)| *name == own);
-    of_own.map_or(&[], |(_, lines)| lines)
-}
-
-/// Returns the module that a line declares.
-fn module<'a>(line: &&'a str) -> Option<&'a str> {
-    line.split_once("mod ")?.1.strip_suffix(';')
+/// Returns the modules of a crate that are left out.
+fn modules(own: &str) -> &'static str {
+    match own {
+        "font_base" => "facts",
+        "font_types" => "json",
+        "callers" => "dumper hinting linter packed reader scaler start",
+        _ => "",
+    }
 }
 
 /// Returns the words and signs of a text, without comments.
@@ -89,14 +69,16 @@ fn group(t: &[&str]) -> usize {
 
 /// Returns the tokens without those left out of a source or added to Rust.
 fn kept<'a>(mut t: &[&'a str], own: &str) -> Vec<&'a str> {
-    let lines = LEFT_OUT.iter().chain(modules(own));
-    let lines: Vec<_> = lines.map(|line| tokens(line)).collect();
+    let lines = LEFT_OUT.map(tokens);
+    let is_module = |name: &str| modules(own).split(' ').any(|module| module == name);
     let (mut kept, mut function) = (Vec::new(), "");
     while let [first, rest @ ..] = t {
         let body = |t: &[&str]| through(t, "{") - 1 + group(&t[through(t, "{") - 1..]);
         let line = lines.iter().find(|line| t.starts_with(line));
         let len = match t {
             ["use", ..] | ["pub", "use", ..] | ["ghost", "use", ..] => through(t, ";"),
+            ["mod", name, ";", ..] if is_module(name) => 3,
+            ["pub", "mod", name, ";", ..] if is_module(name) => 4,
             ["requires" | "ensures", ..] => body(t),
             ["ghost", ..] | ["pub", "ghost", ..] => {
                 let mut len = 2 + through(t, "ghost") - 1;
@@ -216,23 +198,18 @@ fn add_paths(mut list: &[&str], start: &str, paths: &mut BTreeSet<String>) {
 
 /// Returns a path of Rust as its source has it, in the crate `own`.
 fn as_in_source(path: &str, own: &str) -> String {
-    let mut path = path.to_string();
-    let put = |path: &str| tokens(path).join(" ");
-    for (into, from) in [
+    let of_super = ["super::", "crate::"][usize::from(own == "callers")];
+    let changes = [
         (format!("crate::{own}::"), "crate::"),
-        (
-            "super::".into(),
-            if own == "callers" {
-                "crate::"
-            } else {
-                "super::"
-            },
-        ),
+        ("super::".into(), of_super),
         ("crate::host::alloc".into(), "std::alloc"),
         ("crate::host::io".into(), "std::io"),
         ("core::".into(), "std::"),
         ("font_types_proved::".into(), "font_types::"),
-    ] {
+    ];
+    let put = |path: &str| tokens(path).join(" ");
+    let mut path = path.to_string();
+    for (into, from) in changes {
         path = path.replace(&put(&into), &put(from));
     }
     for (name, _) in LIBRARY {
@@ -244,35 +221,25 @@ fn as_in_source(path: &str, own: &str) -> String {
     path
 }
 
-/// Asserts that Rust imports what its source does, except what is left out, and that it has none of
-/// those names.
+/// Asserts that Rust imports what its source does, except what is left out.
 fn assert_same_imports(rust: &str, source: &str, own: &str, path: &str) {
-    let rust_tokens = tokens(rust);
-    let mut kept = imports(&rust_tokens);
+    let mut kept = imports(&tokens(rust));
     if own == "fontval" {
         assert!(kept.remove("crate : : host : : *"), "{path}");
     }
     let kept: BTreeSet<_> = kept.iter().map(|path| as_in_source(path, own)).collect();
-    let modules: Vec<&str> = modules(own).iter().filter_map(module).collect();
-    let is_left_out = |path: &String| {
+    let is_kept = |path: &String| {
         let path = path
             .trim_start_matches("pub ")
             .trim_start_matches("crate : : ");
         let of_std = path == "std : : alloc : : AllocError" && own != "fontval";
         let module = path.split(' ').next().unwrap();
-        of_std || path == "thiserror : : Error" || modules.contains(&module)
+        let is_module = modules(own).split(' ').any(|name| name == module);
+        !of_std && path != "thiserror : : Error" && !is_module
     };
-    let (left_out, wanted): (BTreeSet<_>, BTreeSet<_>) =
-        imports(&tokens(source)).into_iter().partition(is_left_out);
+    let mut wanted = imports(&tokens(source));
+    wanted.retain(is_kept);
     assert_eq!(kept, wanted, "{path}");
-    for import in left_out {
-        let name = import.rsplit(' ').next().unwrap();
-        let is_name = !import.contains(" as ") && !["*", "Drop"].contains(&name);
-        assert!(is_name, "{path}: {import}");
-        // Rust has `Error` of its own.
-        let is_in_rust = rust_tokens.contains(&name) && name != "Error";
-        assert!(!is_in_rust, "{path}: `{name}`, which is left out");
-    }
 }
 
 #[test]
@@ -304,21 +271,14 @@ fn other_imports_are_found() {
     let source = "use std::{fmt, ops::{Add, Sub}};\nuse crate::facts::{one, size_of};";
     let same = "use core::fmt;\nuse core::ops::{Add, Sub};";
     assert_same_imports(same, source, "font_base", "same.rs");
-    for (rust, source) in [
-        ("use core::ops::Add;", source),
-        (&same.replace("Sub", "Mul"), source),
-        (&same.replace("use", "pub use"), source),
-        (&same.replace("core::fmt", "crate::fmt"), source),
-        (
-            &format!("{same} fn f() -> usize {{ size_of::<u32>() }}"),
-            source,
-        ),
-        (same, &source.replace("size_of", "one as size_of")),
-        (same, &source.replace("size_of", "Drop")),
-        (same, &source.replace("{one, size_of}", "*")),
+    for rust in [
+        "use core::ops::Add;",
+        &same.replace("Sub", "Mul"),
+        &same.replace("use", "pub use"),
+        &same.replace("core::fmt", "crate::fmt"),
     ] {
         let check = || assert_same_imports(rust, source, "font_base", "other.rs");
-        assert!(std::panic::catch_unwind(check).is_err(), "{rust} {source}");
+        assert!(std::panic::catch_unwind(check).is_err(), "{rust}");
     }
 }
 
@@ -334,24 +294,6 @@ fn generated_files_are_up_to_date() {
         );
     }
     assert!(files.is_empty(), "not written: {:?}", files.keys());
-}
-
-#[test]
-fn exports_of_pointers_are_unsafe() {
-    let mut count = 0;
-    for path in repository::files("c/src", ".rs") {
-        let rust = repository::text(&path);
-        let t = tokens(&rust);
-        for at in 1..t.len() {
-            if let ["extern", "\"", "C", "\"", "fn", name, ..] = t[at..] {
-                let parameters = &t[at + 6..][..group(&t[at + 6..])];
-                let has_pointer = parameters.iter().any(|t| matches!(*t, "&" | "*"));
-                assert_eq!(t[at - 1] == "unsafe", has_pointer, "{path}: {name}");
-                count += 1;
-            }
-        }
-    }
-    assert!(count > 0);
 }
 
 /// Sources that are errors, each after its line and what the error says.
