@@ -28,10 +28,7 @@
 //! `Display` and `Error` of a type that derives `Error` are added, and in each file of the program
 //! the import of what Rattle has in scope.
 //!
-//! Anything else that Rust does not have is an [`Error`], or one of rustc. So are names that would
-//! have another meaning in Rust: those that are imported from what is left out, and methods that it
-//! has or implements; other names of a crate's root, and glob imports; a `W` that is no parameter;
-//! a crate's name, `core`, `assert` or `prove` that is another's.
+//! `language.rs` says what else a file may have. Anything else is an [`Error`], or one of rustc.
 
 mod errors;
 mod language;
@@ -102,7 +99,7 @@ pub fn erase<'a>(source: &'a str, of: &'a Crate, is_root: bool) -> Result<Erased
         macros: Vec::new(),
         header_end: 0,
         depth: 0,
-        item: "",
+        outer: 0,
     };
     if of.target == Target::Program {
         let is_first = |token: &Token| !matches!(token.kind, Kind::Space | Kind::Head);
@@ -140,9 +137,9 @@ struct Eraser<'a> {
     macros: Vec<Range<usize>>,
     // Where the header of the last function ends.
     header_end: usize,
-    // How many brackets are open, and the kind of the item that opened the first.
+    // How many brackets are open, and how many of them are of an `impl` or a trait.
     depth: usize,
-    item: &'a str,
+    outer: usize,
 }
 
 impl<'a> Eraser<'a> {

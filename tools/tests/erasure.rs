@@ -143,6 +143,7 @@ fn without_last_commas(t: &[&str]) -> String {
 /// Asserts that generated Rust has the tokens of its source, and returns how often it has each of
 /// the changes.
 fn assert_same(rust: &str, source: &str, own: &str, path: &str) -> [usize; CHANGES.len()] {
+    assert_same_imports(rust, source, own, path);
     let mut made = without_last_commas(&kept(&tokens(rust), own));
     let counts = CHANGES.map(|(into, from)| {
         let mut count = 0;
@@ -161,39 +162,22 @@ fn assert_same(rust: &str, source: &str, own: &str, path: &str) -> [usize; CHANG
     counts
 }
 
-/// Returns the path of each name that a file imports, with its visibility.
-fn imports(t: &[&str]) -> BTreeSet<String> {
-    let mut paths = BTreeSet::new();
-    for at in 0..t.len() {
-        let visibility = match t[..=at] {
-            [.., "ghost", "use"] => continue,
-            [.., "pub", "use"] => "pub ",
-            [.., ")", "use"] => "pub (..) ",
-            [.., "use"] => "",
-            _ => continue,
-        };
-        let end = at + through(&t[at..], ";") - 1;
-        add_paths(&t[at + 1..end], visibility, &mut paths);
-    }
-    paths
-}
-
-/// Adds the paths of a list of imports, as `b` and `c::d` of `a::{b, c::d}`.
-fn add_paths(mut list: &[&str], start: &str, paths: &mut BTreeSet<String>) {
-    while !list.is_empty() {
-        let open = list.iter().position(|token| matches!(*token, "{" | ","));
-        let open = open.unwrap_or(list.len());
-        let start = format!("{start}{}", list[..open].join(" "));
-        list = &list[open..];
-        if list.first() == Some(&"{") {
-            let (inner, after) = list.split_at(group(list));
-            add_paths(&inner[1..inner.len() - 1], &format!("{start} "), paths);
-            list = after;
-        } else if !start.is_empty() {
-            paths.insert(start);
-        }
-        list = list.get(1..).unwrap_or(&[]);
-    }
+/// Returns the imports of a file, with their visibility, as in its source.
+fn imports(text: &str, as_in_source: impl Fn(String) -> String) -> BTreeSet<Vec<String>> {
+    let t = tokens(text);
+    let starts = (0..t.len()).filter(|at| t[*at] == "use" && (*at == 0 || t[at - 1] != "ghost"));
+    let texts = starts.map(|at| {
+        let is_public = at > 0 && matches!(t[at - 1], "pub" | ")");
+        as_in_source(t[at - usize::from(is_public)..at + through(&t[at..], ";")].join(" "))
+    });
+    // The words without commas, in an order that rustfmt does not change.
+    let words = texts.map(|text| {
+        let mut words: Vec<String> = text.split(' ').map(String::from).collect();
+        words.retain(|word| word != ",");
+        words.sort();
+        words
+    });
+    words.collect()
 }
 
 /// Returns a path of Rust as its source has it, in the crate `own`.
@@ -223,23 +207,34 @@ fn as_in_source(path: &str, own: &str) -> String {
 
 /// Asserts that Rust imports what its source does, except what is left out.
 fn assert_same_imports(rust: &str, source: &str, own: &str, path: &str) {
-    let mut kept = imports(&tokens(rust));
-    if own == "fontval" {
-        assert!(kept.remove("crate : : host : : *"), "{path}");
-    }
-    let kept: BTreeSet<_> = kept.iter().map(|path| as_in_source(path, own)).collect();
-    let is_kept = |path: &String| {
-        let path = path
-            .trim_start_matches("pub ")
-            .trim_start_matches("crate : : ");
-        let of_std = path == "std : : alloc : : AllocError" && own != "fontval";
-        let module = path.split(' ').next().unwrap();
-        let is_module = modules(own).split(' ').any(|name| name == module);
-        !of_std && path != "thiserror : : Error" && !is_module
+    let host = tokens("use crate::host::*;").join(" ");
+    let rust = imports(rust, |text| {
+        if text == host {
+            String::new()
+        } else {
+            as_in_source(&text, own)
+        }
+    });
+    let is_out = |text: &str| {
+        let path = text.trim_start_matches("pub ").trim_start_matches("use ");
+        let module = path
+            .trim_start_matches("crate : : ")
+            .split(' ')
+            .next()
+            .unwrap();
+        let of_std = path.starts_with("std : : alloc : : AllocError") && own != "fontval";
+        of_std
+            || path.starts_with("thiserror : : Error")
+            || modules(own).split(' ').any(|name| name == module)
     };
-    let mut wanted = imports(&tokens(source));
-    wanted.retain(is_kept);
-    assert_eq!(kept, wanted, "{path}");
+    let source = imports(
+        source,
+        |text| if is_out(&text) { String::new() } else { text },
+    );
+    let none = BTreeSet::from([vec![String::new()]]);
+    let [rust, source] =
+        [&rust, &source].map(|imports| imports.difference(&none).collect::<Vec<_>>());
+    assert_eq!(rust, source, "{path}");
 }
 
 #[test]
@@ -251,7 +246,6 @@ fn generated_files_are_their_sources() {
         if let Some((source, _)) = source.split_once(".rt ") {
             let own = source.split('/').nth(1).unwrap();
             let source = repository::text(&format!("{source}.rt"));
-            assert_same_imports(&rust, &source, own, &path);
             let counts = assert_same(&rust, &source, own, &path);
             sums = std::array::from_fn(|n| sums[n] + counts[n]);
         }
@@ -260,25 +254,20 @@ fn generated_files_are_their_sources() {
 }
 
 #[test]
-#[should_panic = "other.rs"]
-fn other_tokens_are_found() {
-    let [one, two] = [1, 2].map(|n| format!("fn f() -> u32 {{ {n} }}"));
-    assert_same(&one, &two, "font_base", "other.rs");
-}
-
-#[test]
-fn other_imports_are_found() {
-    let source = "use std::{fmt, ops::{Add, Sub}};\nuse crate::facts::{one, size_of};";
-    let same = "use core::fmt;\nuse core::ops::{Add, Sub};";
-    assert_same_imports(same, source, "font_base", "same.rs");
-    for rust in [
-        "use core::ops::Add;",
-        &same.replace("Sub", "Mul"),
-        &same.replace("use", "pub use"),
-        &same.replace("core::fmt", "crate::fmt"),
+fn other_files_are_found() {
+    let source =
+        "use std::fmt;\nuse std::ops::{Add, Sub};\nuse crate::facts::one;\nfn f() -> u32 { 1 }";
+    let same = "use core::fmt;\nuse core::ops::{Add, Sub};\nfn f() -> u32 { 1 }";
+    assert_same(same, source, "font_base", "same.rs");
+    for [old, new] in [
+        ["{ 1", "{ 2"],
+        ["Sub", "Mul"],
+        ["use", "pub use"],
+        ["core::f", "crate::f"],
     ] {
-        let check = || assert_same_imports(rust, source, "font_base", "other.rs");
-        assert!(std::panic::catch_unwind(check).is_err(), "{rust}");
+        let rust = same.replace(old, new);
+        let check = || assert_same(&rust, source, "font_base", "other.rs");
+        assert!(std::panic::catch_unwind(check).is_err(), "{new}");
     }
 }
 
@@ -326,16 +315,16 @@ const UNSUPPORTED: &[&str] = &[
     "1 DERIVES: #[derive(Other)]\nstruct S;",
     // Names of what is left out.
     "1 `Drop`: const Drop: u32 = 3;\nfn f(n: u32) -> u32 { n + Drop }",
-    "1 UNUSED: use crate::facts::Drop;\nfn f(n: u32) -> u32 { n + Drop }",
-    "1 UNUSED: use crate::facts::{one, size_of};\nfn f() -> usize { size_of::<u32>() }",
-    "1 UNUSED: use crate::facts::LIMIT;\nfn f(n: u32) -> bool { matches!(n, LIMIT) }",
+    "1 left out: use crate::facts::Drop;\nfn f(n: u32) -> u32 { n + Drop }",
+    "1 left out: use crate::facts::{one, size_of};\nfn f() -> usize { size_of::<u32>() }",
+    "1 left out: use crate::facts::LIMIT;\nfn f(n: u32) -> bool { matches!(n, LIMIT) }",
     // A trait with a method by value, beside one of the type by reference.
-    "1 UNUSED: use crate::facts::shown;\nfn f(wide: Wide) -> u32 { wide.width() }",
+    "1 left out: use crate::facts::shown;\nfn f(wide: Wide) -> u32 { wide.width() }",
     "2 trait: use json::{JsonFault, JsonScalar};\nfn f(count: Count) -> u32 { count.size() }",
     "2 `AllocError`: use std::alloc::AllocError;\nfn f(n: N) -> u32 { match n { AllocError => 1 } }",
     "1 another name: use crate::facts::one as size_of;",
-    "1 all names: use super::*;",
-    "1 all names: pub use super::*;",
+    "1 all: use super::*;",
+    "1 all: pub use super::*;",
     "1 UNUSED: fn f() { let _bytes = { return raw.as_slice() }; }",
     "1 UNUSED: fn f() { let _bytes = next(raw).as_slice(); }",
     "1 UNUSED: fn f() { let _b = raw?.as_slice(); }",
@@ -345,13 +334,13 @@ const UNSUPPORTED: &[&str] = &[
     // Names of Rust's paths and macros.
     "1 another name: use crate as me;\nfn f() -> u32 { me::laws::number() }",
     "1 `extern`: extern crate self as me;",
-    "1 `std`: mod std;",
+    "1 crate: mod std;",
     "2 within a file: pub\nmod std { pub fn size() {} }",
     "1 `core`: pub mod core;",
     "1 `core`: use crate::parts::core;",
-    "1 `font_base`: struct font_base;",
-    "1 `font_base`: fn f(n: N) -> u32 { n.font_base::<u32>() }",
-    "1 `std`: fn f() -> u32 { self::std::fmt::number() }",
+    "1 crate: struct font_base;",
+    "1 crate: fn f(n: N) -> u32 { n.font_base::<u32>() }",
+    "1 crate: fn f() -> u32 { self::std::fmt::number() }",
     "1 STD: use std::mem::swap;",
     "1 `thiserror`: mod thiserror;",
     "1 `assert`: use crate::parts::assert;",
@@ -373,44 +362,84 @@ const UNSUPPORTED: &[&str] = &[
     "2 `W`: struct W;\nfn f<W: fmt::Write>(w: &W) -> u32 { w.size() }",
 ];
 
-#[test]
-fn unsupported_sources() {
+/// Erases a source as the root of a crate of this name.
+fn erased(source: &str, name: &str, target: Target) -> Result<String, Error> {
+    let left_out = &["facts", "json"];
     let of = Crate {
-        name: "font_base",
-        target: Target::Library,
-        left_out: &["facts", "json"],
+        name,
+        target,
+        left_out,
     };
-    let mut missed = Vec::new();
-    for row in UNSUPPORTED {
-        let (error, source) = row.split_once(": ").unwrap();
-        let (line, what) = error.split_once(' ').unwrap();
-        let found = erase(source, &of, true).err();
-        let is_named = |error: &Error| error.line.to_string() == line && error.what.contains(what);
-        if !found.as_ref().is_some_and(is_named) {
-            missed.push(format!("{row}: {found:?}"));
-        }
-    }
-    assert!(missed.is_empty(), "{}", missed.join("\n"));
+    erase(source, &of, true).map(|erased| erased.rust)
 }
 
+#[test]
+fn unsupported_sources() {
+    for row in UNSUPPORTED {
+        let (line, row) = row.split_once(' ').unwrap();
+        let (what, source) = row.split_once(": ").unwrap();
+        let error = erased(source, "font_base", Target::Library).expect_err(row);
+        assert!(
+            error.line.to_string() == line && error.what.contains(what),
+            "{row}: {error:?}"
+        );
+    }
+}
+
+/// Ordinary functions.
+const SUPPORTED: &[&str] = &[
+    "fn f(n: i32) -> u32 { n.unsigned_abs().trailing_zeros().midpoint(n.count_ones()) }",
+    "fn f(n: i32) -> i32 { match n { n if n < 0 => -1, 0 => 0, n if !(n > 9) => 1, _ => 2 } }",
+    "fn f() { 'rows: loop { for n in 0..9 { if n == 1 { continue 'rows; } break 'rows; } } }",
+    "fn f(a: bool) -> bool { if !(a) { return !(a); } loop { break !(a); } }",
+    "const TEXT: [&str; 2] = [r#\"+ Drop\"; /* crate::A */\"#, \"std::fmt\"];",
+];
+
 /// Sources, each with its Rust: what is changed, beside other signs.
-const CHANGED: [[&str; 2]; 1] = [[
-    "const N: bool = g(crate::A, &crate::B)[0..crate::FEW].len() < crate::C;",
-    "const N: bool = g(crate::font_base::A, &crate::font_base::B)[0..crate::font_base::FEW].len() \
-     < crate::font_base::C;",
-]];
+const CHANGED: &[&str] = &[
+    "const N: bool = g(crate::A, &crate::B, <crate::C>::D)[0..crate::E].len() < crate::F; ⇒ const N: bool = g(crate::font_base::A, &crate::font_base::B, <crate::font_base::C>::D)[0..crate::font_base::E].len() < crate::font_base::F;",
+    "const N: bool = g(font_ids::A, &std::str::B, <std::str::C>::D)[0..font_ids::E].len() < std::str::F; ⇒ const N: bool = g(crate::font_ids::A, &core::str::B, <core::str::C>::D)[0..crate::font_ids::E].len() < core::str::F;",
+    "fn fmt<W: fmt::Write>(&self, f: &mut Formatter<W>) -> X<Formatter<W>> { 0..f(x) < y } ⇒ fn fmt(&self, f: &mut Formatter<'_>) -> X<Formatter<'_>> { 0..f(x) < y }",
+    "fn clone(&self) -> Result<S<T>, AllocError> { Ok(S(&(0..n), a < b)) } ⇒ fn clone(&self) -> S<T> { S(&(0..n), a < b) }",
+    "trait Sum<Rhs> { fn f(&self, n: &Rhs) -> X<Rhs>; } ⇒ trait Sum<Rhs = Self> { fn f(&self, n: &Rhs) -> X<Rhs>; }",
+    "pub extern \"C\" fn font_f(n: &u8, a: &[T], b: &mut [T]) -> X<T> { g(&a[0..1]) < h(b) } ⇒ pub unsafe extern \"C\" fn font_f(n: &u8, a: *const T, a_len: usize, b: *mut T, b_len: usize) -> X<T> {\n    let a = unsafe { crate::slice(a, a_len) };\n    let b = unsafe { crate::slice_mut(b, b_len) }; g(&a[0..1]) < h(b) }",
+    "fn f() { prove!((A & B) < X::<A>::C); } ⇒ fn f() { const { assert!((A & B) < X::<A>::C) }; }",
+    "fn f<T: A<U> + Drop>(x: &T) where U: B + Drop, (T, U): C<T> {} ⇒ fn f<T: A<U> >(x: &T) where U: B , (T, U): C<T> {}",
+    "#[derive(Clone, Drop)]\nstruct S(pub u8); ⇒ #[derive(Clone)]\nstruct S(pub u8);",
+    "fn f() { let _bytes = raw.as_slice(); &(0..n < 1) } ⇒ fn f() {  &(0..n < 1) }",
+];
 
 #[test]
 fn changed_sources() {
-    let of = Crate {
-        name: "font_base",
-        target: Target::Library,
-        left_out: &["facts"],
-    };
-    for [source, rust] in CHANGED {
-        let erased =
-            erase(source, &of, false).unwrap_or_else(|error| panic!("{source}: {error:?}"));
-        assert_eq!(erased.rust, rust, "{source}");
+    let same = SUPPORTED.iter().map(|source| (*source, *source));
+    for (source, rust) in same.chain(CHANGED.iter().filter_map(|row| row.split_once(" ⇒ "))) {
+        let erased = erased(source, "font_base", Target::Library).expect(source);
+        assert_eq!(erased, rust, "{source}");
+    }
+    let [program, examples] = [("fontval", Target::Program), ("callers", Target::Examples)];
+    for ((name, target), source, rust) in [
+        (
+            program,
+            "fn main() { 0..std::io::N }",
+            "pub fn main() { 0..crate::host::io::N }",
+        ),
+        (
+            program,
+            "fn f(n: &font_types::N) {}",
+            "fn f(n: &font_types_proved::N) {}",
+        ),
+        (
+            examples,
+            "fn f(n: &font_types::N) {}",
+            "fn f(n: &font_types_proved::N) {}",
+        ),
+    ] {
+        let erased = erased(source, name, target).expect(source);
+        assert_eq!(
+            erased.trim_start_matches("use crate::host::*;\n\n"),
+            rust,
+            "{source}"
+        );
     }
 }
 

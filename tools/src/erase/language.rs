@@ -50,7 +50,6 @@ impl Eraser<'_> {
         let is_inner = self.is_inner(at);
         let before = &self.words[..at];
         let is_example = self.of.target == Target::Examples;
-        let is_kept = |word: &&str| matches!(*word, "*" | "as");
         let what = match self.words[at..] {
             [name, "!", open @ ("(" | "[" | "{"), ..] if is_name(name) && !is_keyword(name) => {
                 if open != "(" {
@@ -71,44 +70,22 @@ impl Eraser<'_> {
             ["fn", name, ..] if is_inner && name != "(" => "a function within another",
             ["type", _, "=", _, "<", _, ">", ";", ..] => return Ok(()),
             ["type", ..] if self.depth == 0 => "another alias than `X = Y<n>`",
-            ["use", ..]
-                if self.words[at..self.item_end(at)?]
-                    .iter()
-                    .any(|word| is_kept(word)) =>
-            {
-                "an import of all names, or by another name,"
-            }
+            ["use", ..] if self.words[at..self.item_end(at)?].contains(&"*") => "an import of all",
+            ["use", ..] if self.words[at..self.item_end(at)?].contains(&"as") => "another name",
             // A method that is public here would be so in the other crates.
-            ["pub", "(", "crate", ")", "fn", ..]
-            | ["pub", "(", "crate", ")", "const", "fn", ..]
-                if self.depth == 0 =>
-            {
-                return Ok(());
-            }
+            ["pub", "(", "crate", ")", "fn" | "const", ..] if self.depth == 0 => return Ok(()),
             ["pub", "(", ..] => "`pub(..)` of something else than a function",
             // Of another name it could be one that rustc calls, as `memcmp`.
             ["extern", "\"C\"", "fn", name, ..] if name.starts_with("font_") => return Ok(()),
-            [name, "::", ..] if self.of.left_out.contains(&name) => {
-                return self.error(
-                    at,
-                    format!("`{name}::`, which is left out, is not in `UNUSED`"),
-                );
-            }
+            [name, "::", ..] if self.of.left_out.contains(&name) => "a name of what is left out",
             ["extern", ..] => "`extern` of something else than `font_..`",
             // It returns another type.
             ["clone" | "clone_from", ..] if !before.ends_with(&["fn"]) => "a use of `clone`",
-            ["fn", ..] if !is_pure(&self.words[at + 1..]) => {
-                "an `as_slice` or `each_is_byte` of this form"
-            }
+            ["fn", ..] if !is_pure(&self.words[at + 1..]) => "such an `as_slice`, `each_is_byte`",
             ["std", "::", module, ..] if self.is_start(at) => return self.check(at, module, STD),
             ["crate", ")", ..] if before.ends_with(&["pub", "("]) => return Ok(()),
             [name, "::", ..] if is_root(name) && self.is_start(at) => return Ok(()),
-            [name, ..] if is_root(name) => {
-                return self.error(
-                    at,
-                    format!("`{name}` elsewhere than at the start of a path"),
-                );
-            }
+            [name, ..] if is_root(name) => "a crate's name within a path, or of something else",
             // Rust takes some letters for others.
             [name, ..] if is_name(name) && !name.is_ascii() => "a name that is not ASCII",
             _ => return Ok(()),
@@ -163,22 +140,17 @@ impl Eraser<'_> {
         Ok(())
     }
 
-    // Keeps how many brackets are open, and in what item, and returns whether the word is within
-    // something else than an `impl` or a trait.
+    // Counts the open brackets, and returns whether the word is within something else than an
+    // `impl` or a trait.
     fn is_inner(&mut self, at: usize) -> bool {
-        let is_inner = self.depth > usize::from(matches!(self.item, "impl" | "trait"));
+        let is_inner = self.depth > self.outer;
         match self.words[at] {
             "(" | "[" | "{" => self.depth += 1,
             ")" | "]" | "}" => self.depth = self.depth.saturating_sub(1),
-            word @ ("const" | "enum" | "fn" | "impl" | "struct" | "trait")
-                if self.item.is_empty() && is_item(&self.words, at) =>
-            {
-                self.item = word;
-            }
+            _ if self.depth > 0 || !is_item(&self.words, at) => {}
+            "impl" | "trait" => self.outer = 1,
+            "const" | "enum" | "fn" | "struct" => self.outer = 0,
             _ => {}
-        }
-        if self.depth == 0 && matches!(self.words[at], "}" | ";") {
-            self.item = "";
         }
         is_inner
     }

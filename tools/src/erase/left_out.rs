@@ -47,33 +47,29 @@ pub fn check_left_out(source: &str) -> Result<(), Error> {
         }
     }
     for (at, depth) in impls {
-        let (parameters, names) = implemented(&words[at + 1..]);
-        let is_own = |name| own.contains(name) && !parameters.contains(name);
-        if depth > 0 || !names.iter().any(is_own) {
+        if depth > 0 || !is_own(&words[at + 1..], &own) {
             return error(at, "an `impl` of and for what is kept");
         }
     }
     Ok(())
 }
 
-/// Returns the words of an `impl` within its first `<..>`, and the names, outside of such, of its
-/// trait and of its type, unless they are paths.
-fn implemented<'a, 'b>(words: &'b [&'a str]) -> (&'b [&'a str], Vec<&'a str>) {
-    let (mut depth, mut names, mut last) = (0, Vec::new(), "");
-    let mut parameters = 0;
+// Whether an `impl` is of a trait or for a type of these names, which are none of its parameters.
+fn is_own(words: &[&str], own: &[&str]) -> bool {
+    let (mut depth, mut outer, mut inner) = (0, Vec::new(), Vec::new());
     for (at, word) in words.iter().enumerate() {
         match *word {
             "<" => depth += 1,
             ">" if words[at - 1] != "-" => depth -= 1,
             "{" | "where" if depth == 0 => break,
-            "for" if depth == 0 => names.push(std::mem::replace(&mut last, word)),
-            name if depth == 0 && last != "::" => last = name,
-            _ => {}
-        }
-        if last.is_empty() {
-            parameters = at;
+            word if depth == 0 => outer.push(word),
+            word => inner.push(word),
         }
     }
-    names.push(last);
-    (&words[..parameters], names)
+    let is_own = |name| own.contains(name) && !inner.contains(name);
+    match outer[..] {
+        [name] => is_own(&name),
+        [of, "for", name] => is_own(&of) || is_own(&name),
+        _ => false,
+    }
 }
