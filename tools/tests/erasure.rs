@@ -162,17 +162,17 @@ fn assert_same(rust: &str, source: &str, own: &str, path: &str) -> [usize; CHANG
     counts
 }
 
-/// Returns the imports of a file, with their visibility, as in its source.
-fn imports(text: &str, as_in_source: impl Fn(String) -> String) -> BTreeSet<Vec<String>> {
+/// Returns the imports of a file, with their visibility, as in its source. Their words are in an
+/// order that rustfmt does not change, without commas.
+fn imports(text: &str, in_source: impl Fn(String) -> Option<String>) -> BTreeSet<Vec<String>> {
     let t = tokens(text);
     let starts = (0..t.len()).filter(|at| t[*at] == "use" && (*at == 0 || t[at - 1] != "ghost"));
-    let texts = starts.map(|at| {
+    let texts = starts.filter_map(|at| {
         let is_public = at > 0 && matches!(t[at - 1], "pub" | ")");
-        as_in_source(t[at - usize::from(is_public)..at + through(&t[at..], ";")].join(" "))
+        in_source(t[at - usize::from(is_public)..at + through(&t[at..], ";")].join(" "))
     });
-    // The words without commas, in an order that rustfmt does not change.
     let words = texts.map(|text| {
-        let mut words: Vec<String> = text.split(' ').map(String::from).collect();
+        let mut words: Vec<_> = text.split(' ').map(String::from).collect();
         words.retain(|word| word != ",");
         words.sort();
         words
@@ -209,31 +209,17 @@ fn as_in_source(path: &str, own: &str) -> String {
 fn assert_same_imports(rust: &str, source: &str, own: &str, path: &str) {
     let host = tokens("use crate::host::*;").join(" ");
     let rust = imports(rust, |text| {
-        if text == host {
-            String::new()
-        } else {
-            as_in_source(&text, own)
-        }
+        (text != host).then(|| as_in_source(&text, own))
     });
-    let is_out = |text: &str| {
+    let source = imports(source, |text| {
         let path = text.trim_start_matches("pub ").trim_start_matches("use ");
-        let module = path
-            .trim_start_matches("crate : : ")
-            .split(' ')
+        let mut names = path.trim_start_matches("crate : : ").split(' ');
+        let is_module = names
             .next()
-            .unwrap();
+            .is_some_and(|name| modules(own).split(' ').any(|n| n == name));
         let of_std = path.starts_with("std : : alloc : : AllocError") && own != "fontval";
-        of_std
-            || path.starts_with("thiserror : : Error")
-            || modules(own).split(' ').any(|name| name == module)
-    };
-    let source = imports(
-        source,
-        |text| if is_out(&text) { String::new() } else { text },
-    );
-    let none = BTreeSet::from([vec![String::new()]]);
-    let [rust, source] =
-        [&rust, &source].map(|imports| imports.difference(&none).collect::<Vec<_>>());
+        (!of_std && !is_module && path != "thiserror : : Error ;").then_some(text)
+    });
     assert_eq!(rust, source, "{path}");
 }
 
@@ -290,7 +276,6 @@ const UNSUPPORTED: &[&str] = &[
     "2 `{{`: #[derive(Error)]\n#[error(\"{{0, 1}}\")]\nstruct Fault;",
     "2 `/* */`: fn f() {\n/* a comment */ }",
     "1 unterminated: fn f() -> char { '\n' }",
-    "1 raw name: const r#crate: u32 = 1;",
     "1 raw name: const r#crate: u32 = 1;",
     "1 quote: const TEXT: &[u8] = br\"a\\\";",
     "1 ASCII: const \u{212a}: u32 = 1;",
@@ -416,77 +401,49 @@ fn changed_sources() {
         let erased = erased(source, "font_base", Target::Library).expect(source);
         assert_eq!(erased, rust, "{source}");
     }
-    let [program, examples] = [("fontval", Target::Program), ("callers", Target::Examples)];
-    for ((name, target), source, rust) in [
-        (
-            program,
-            "fn main() { 0..std::io::N }",
-            "pub fn main() { 0..crate::host::io::N }",
-        ),
-        (
-            program,
-            "fn f(n: &font_types::N) {}",
-            "fn f(n: &font_types_proved::N) {}",
-        ),
-        (
-            examples,
-            "fn f(n: &font_types::N) {}",
-            "fn f(n: &font_types_proved::N) {}",
-        ),
+    for row in [
+        "fontval fn main() { 0..std::io::N } ⇒ pub fn main() { 0..crate::host::io::N }",
+        "fontval fn f(n: &font_types::N) {} ⇒ fn f(n: &font_types_proved::N) {}",
+        "callers fn f(n: &font_types::N) {} ⇒ fn f(n: &font_types_proved::N) {}",
     ] {
-        let erased = erased(source, name, target).expect(source);
-        assert_eq!(
-            erased.trim_start_matches("use crate::host::*;\n\n"),
-            rust,
-            "{source}"
-        );
+        let (name, row) = row.split_once(' ').unwrap();
+        let (source, rust) = row.split_once(" ⇒ ").unwrap();
+        let target = [Target::Program, Target::Examples][usize::from(name == "callers")];
+        let erased = erased(source, name, target).expect(row);
+        assert!(erased.ends_with(rust), "{row}: {erased}");
     }
 }
 
+/// Sources of files that are left out, each after what the error says, if it is one.
+const OTHERS: &[&str] = &[
+    // Rust would call the method of a trait, or of the type behind a reference.
+    "`impl`: impl Count { fn size(self) -> u32 { 2 } }",
+    "`impl`: impl Size for &Count { fn size(self) -> u32 { 2 } }",
+    "`impl`: struct T;\nimpl<T: Own> Size for T { fn size(self) -> u32 { 2 } }",
+    "`impl`: #[inline]\nimpl Count {}",
+    // Other types of the same name.
+    "`impl`: mod decoy { pub struct Narrow; }\nimpl Narrow {}",
+    "`impl`: struct Narrow;\nimpl crate::attack::Narrow {}",
+    "`impl`: struct Narrow;\nfn f() { use crate::attack::Narrow; impl Narrow {} }",
+    "trait: mod decoy { pub trait HasExtent {} }\nimpl crate::HasExtent for crate::Small {}",
+    "name: use crate::attack::Size as JsonScalar;\nimpl JsonScalar for Count {}",
+    "name: pub use crate::attack::Size as each_is_byte;",
+    "files: #[macro_export]\nmacro_rules! named { () => {} }",
+    "macro: macro_rules! matches { () => {} }",
+    "function: type N<'a> = &'a mut u32;\nfn each_is_byte(number: N<'_>) { *number = 5; }",
+    ": struct Own;\nimpl Own {}\nimpl From<Count> for Own {}",
+    ": impl<F: Fn(u32) -> u32> JsonScalar for Count<F> {}",
+    ": fn f() -> impl Iterator<Item = u32> {}",
+];
+
 #[test]
 fn files_that_are_left_out() {
-    for (found, source) in [
-        // Rust would call the method of a trait, or of the type behind a reference.
-        ("`impl`", "impl Count { fn size(self) -> u32 { 2 } }"),
-        (
-            "`impl`",
-            "impl Size for &Count { fn size(self) -> u32 { 2 } }",
-        ),
-        (
-            "`impl`",
-            "struct T;\nimpl<T: Own> Size for T { fn size(self) -> u32 { 2 } }",
-        ),
-        ("`impl`", "#[inline]\nimpl Count {}"),
-        // Other types of the same name.
-        ("`impl`", "mod decoy { pub struct Narrow; }\nimpl Narrow {}"),
-        ("`impl`", "struct Narrow;\nimpl crate::attack::Narrow {}"),
-        (
-            "`impl`",
-            "struct Narrow;\nfn f() { use crate::attack::Narrow; impl Narrow {} }",
-        ),
-        (
-            "trait",
-            "mod decoy { pub trait HasExtent {} }\nimpl crate::HasExtent for crate::Small {}",
-        ),
-        (
-            "name",
-            "use crate::attack::Size as JsonScalar;\nimpl JsonScalar for Count {}",
-        ),
-        ("name", "pub use crate::attack::Size as each_is_byte;"),
-        ("files", "#[macro_export]\nmacro_rules! named { () => {} }"),
-        ("macro", "macro_rules! matches { () => {} }"),
-        (
-            "function",
-            "type N<'a> = &'a mut u32;\nfn each_is_byte(number: N<'_>) { *number = 5; }",
-        ),
-        ("", "struct Own;\nimpl Own {}\nimpl From<Count> for Own {}"),
-        ("", "impl<F: Fn(u32) -> u32> JsonScalar for Count<F> {}"),
-        ("", "fn f() -> impl Iterator<Item = u32> {}"),
-    ] {
+    for row in OTHERS {
+        let (found, source) = row.split_once(": ").unwrap();
         let what = check_left_out(source).map_or_else(|error| error.what, |()| String::new());
         assert!(
             what.is_empty() == found.is_empty() && what.contains(found),
-            "{source}: {what}"
+            "{row}: {what}"
         );
     }
 }
