@@ -6,9 +6,7 @@
 //! - ghost items: `ghost use ..;`, and `ghost NAME`, what it is, and its `,` or `;`;
 //! - `#[tactic(..)]`, `#[cfg(test)] mod tests;`, and the bound `+ Drop`;
 //! - `Drop` and `Error` at the end of a `derive(..)`, and `#[error(..)]`;
-//! - `use thiserror::Error;`, and `use std::alloc::AllocError;` in the library;
-//! - the modules that `tree.rs` lists for a crate, and what is imported from them;
-//! - what only a proof uses: a `let _name` of a slice or of a fact;
+//! - the modules that `tree.rs` lists for a crate, and the imports and statements of `UNUSED`;
 //! - the comments above a clause or an item that is left out, and the lines that mark what the
 //!   widths of fixed-point numbers have alike.
 //!
@@ -28,7 +26,9 @@
 //! `Display` and `Error` of a type that derives `Error` are added, and in each file of the program
 //! the import of what Rattle has in scope.
 //!
-//! `language.rs` says what else a file may have. Anything else is an [`Error`], or one of rustc.
+//! Else a file has the macros, attributes, derives, modules of `std`, items and imports of a form
+//! in `language.rs`: another is an [`Error`]. So are names that it lists, and a change in a macro's
+//! arguments. What is neither, rustc reads as it is.
 
 mod errors;
 mod language;

@@ -279,10 +279,9 @@ const UNSUPPORTED: &[&str] = &[
     "1 raw name: const r#crate: u32 = 1;",
     "1 quote: const TEXT: &[u8] = br\"a\\\";",
     "1 ASCII: const \u{212a}: u32 = 1;",
-    // Clauses.
     "1 comment: fn f() ensures { -- }\n} {}",
-    "1 clause: fn f(requires: bool) -> u32 { if requires { return 1; } { 2 } }",
-    "1 ghost: fn f(n: u32, ghost: u32) { while n < ghost - 1 { return; } {} }",
+    "1 clause: fn f() -> u32 { if requires { return 1; } { 2 } }",
+    "1 ghost: fn f(n: u32) { while n < ghost - 1 { return; } {} }",
     // Macros see each word of their arguments.
     "1 MACROS: fn f() -> u32 { parts!(5 + Drop) }",
     "1 MACROS: fn f() -> u32 { depth!(font_base::facts) }",
@@ -290,7 +289,6 @@ const UNSUPPORTED: &[&str] = &[
     "1 `matches!`: fn f() -> bool { matches! { 1, 1 } }",
     "1 in a macro: fn f(n: u32) -> bool { matches!(n, crate::LIMIT) }",
     "1 defined: macro_rules! assert { ($all:tt) => {} }",
-    // Attributes.
     "1 ATTRIBUTES: #[macro_use]\nmod facts;",
     "1 ATTRIBUTES: #[macro_export]\nmod facts;",
     "1 ATTRIBUTES: #[path = \"other.rs\"]\nmod facts;",
@@ -332,13 +330,11 @@ const UNSUPPORTED: &[&str] = &[
     // They depend on the compiler: Rust lays out this struct in 8 bytes, and C in 12.
     "2 `size_of`: struct Row { tag: u8, offset: u32, length: u8 }\nfn f() -> usize { size_of::<Row>() }",
     "1 `Layout`: use std::alloc::Layout;",
-    // Items.
     "1 within a function: fn f() -> u32 { use crate::laws::number; number() }",
     "1 within a function: impl S { fn f() { struct T; } }",
     "1 within another: fn f() -> impl Copy { fn g() {} }",
     "1 alias: type Number<'a> = &'a mut u32;",
     "1 `pub(..)`: impl S { pub(crate) fn f() {} }",
-    "1 `pub(..)`: pub(crate) struct S;",
     "1 `extern`: pub extern \"C\" fn memcmp() {}",
     "3 `bytes_len`: pub extern \"C\" fn font_f(\n    bytes: &[u8],\n) -> usize { bytes_len() }",
     "1 `clone`: fn f(n: N) -> bool { is(n.clone()) }",
@@ -377,6 +373,7 @@ const SUPPORTED: &[&str] = &[
     "fn f(n: i32) -> i32 { match n { n if n < 0 => -1, 0 => 0, n if !(n > 9) => 1, _ => 2 } }",
     "fn f() { 'rows: loop { for n in 0..9 { if n == 1 { continue 'rows; } break 'rows; } } }",
     "fn f(a: bool) -> bool { if !(a) { return !(a); } loop { break !(a); } }",
+    "const TEXT: &str = r\"\\\"; const N: u32 = 1;",
     "const TEXT: [&str; 2] = [r#\"+ Drop\"; /* crate::A */\"#, \"std::fmt\"];",
 ];
 
