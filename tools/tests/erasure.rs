@@ -282,11 +282,10 @@ const UNSUPPORTED: &[&str] = &[
     "1 comment: fn f() ensures { -- }\n} {}",
     "1 clause: fn f() -> u32 { if requires { return 1; } { 2 } }",
     "1 ghost: fn f(n: u32) { while n < ghost - 1 { return; } {} }",
-    // Macros see each word of their arguments.
     "1 MACROS: fn f() -> u32 { parts!(5 + Drop) }",
     "1 MACROS: fn f() -> u32 { depth!(font_base::facts) }",
     "1 MACROS: fn f() -> usize { stringify!(std::mem).len() }",
-    "1 `matches!`: fn f() -> bool { matches! { 1, 1 } }",
+    "1 MACROS: fn f() -> bool { matches! { 1, 1 } }",
     "1 in a macro: fn f(n: u32) -> bool { matches!(n, crate::LIMIT) }",
     "1 defined: macro_rules! assert { ($all:tt) => {} }",
     "1 ATTRIBUTES: #[macro_use]\nmod facts;",
@@ -296,7 +295,6 @@ const UNSUPPORTED: &[&str] = &[
     "1 tests: #[cfg(test)]\nmod others;",
     "1 `unsafe`: #[unsafe(no_mangle)]\npub fn memcmp() {}",
     "1 DERIVES: #[derive(Other)]\nstruct S;",
-    // Names of what is left out.
     "1 `Drop`: const Drop: u32 = 3;\nfn f(n: u32) -> u32 { n + Drop }",
     "1 left out: use crate::facts::Drop;\nfn f(n: u32) -> u32 { n + Drop }",
     "1 left out: use crate::facts::{one, size_of};\nfn f() -> usize { size_of::<u32>() }",
@@ -304,7 +302,7 @@ const UNSUPPORTED: &[&str] = &[
     // A trait with a method by value, beside one of the type by reference.
     "1 left out: use crate::facts::shown;\nfn f(wide: Wide) -> u32 { wide.width() }",
     "2 trait: use json::{JsonFault, JsonScalar};\nfn f(count: Count) -> u32 { count.size() }",
-    "2 `AllocError`: use std::alloc::AllocError;\nfn f(n: N) -> u32 { match n { AllocError => 1 } }",
+    "2 `AllocError`: use std::alloc::AllocError;\nfn f(n: N) { match n { AllocError => 1 } }",
     "1 another name: use crate::facts::one as size_of;",
     "1 all: use super::*;",
     "1 all: pub use super::*;",
@@ -314,7 +312,6 @@ const UNSUPPORTED: &[&str] = &[
     "1 `_bytes`: fn f(_bytes: u32, raw: Raw) -> u32 { let _bytes = raw.as_slice(); _bytes }",
     "1 `as_slice`: fn as_slice(&mut self) -> &[u8] { self.0 += 1; &[] }",
     "1 `each_is_byte`: fn each_is_byte(number: Number<'_>) { *number = 5; }",
-    // Names of Rust's paths and macros.
     "1 another name: use crate as me;\nfn f() -> u32 { me::laws::number() }",
     "1 `extern`: extern crate self as me;",
     "1 crate: mod std;",
@@ -328,7 +325,7 @@ const UNSUPPORTED: &[&str] = &[
     "1 `thiserror`: mod thiserror;",
     "1 `assert`: use crate::parts::assert;",
     // They depend on the compiler: Rust lays out this struct in 8 bytes, and C in 12.
-    "2 `size_of`: struct Row { tag: u8, offset: u32, length: u8 }\nfn f() -> usize { size_of::<Row>() }",
+    "2 `size_of`: struct Row { tag: u8, at: u32, len: u8 }\nfn f() -> usize { size_of::<Row>() }",
     "1 `Layout`: use std::alloc::Layout;",
     "1 within a function: fn f() -> u32 { use crate::laws::number; number() }",
     "1 within a function: impl S { fn f() { struct T; } }",
@@ -365,6 +362,15 @@ fn unsupported_sources() {
             "{row}: {error:?}"
         );
     }
+    let (name, target) = ("callers", Target::Examples);
+    let of = Crate {
+        name,
+        target,
+        left_out: &[],
+    };
+    for (source, is_root) in [("fn f() { crate::g() }", true), ("mod inner;", false)] {
+        assert!(erase(source, &of, is_root).is_err(), "{source}");
+    }
 }
 
 /// Ordinary functions.
@@ -377,16 +383,21 @@ const SUPPORTED: &[&str] = &[
     "const TEXT: [&str; 2] = [r#\"+ Drop\"; /* crate::A */\"#, \"std::fmt\"];",
 ];
 
-/// Sources, each with its Rust: what is changed, beside other signs.
+/// Sources, each with its Rust: what is changed, beside other signs. `OWN` is `crate::font_base`.
 const CHANGED: &[&str] = &[
-    "const N: bool = g(crate::A, &crate::B, <crate::C>::D)[0..crate::E].len() < crate::F; ⇒ const N: bool = g(crate::font_base::A, &crate::font_base::B, <crate::font_base::C>::D)[0..crate::font_base::E].len() < crate::font_base::F;",
-    "const N: bool = g(font_ids::A, &std::str::B, <std::str::C>::D)[0..font_ids::E].len() < std::str::F; ⇒ const N: bool = g(crate::font_ids::A, &core::str::B, <core::str::C>::D)[0..crate::font_ids::E].len() < core::str::F;",
-    "fn fmt<W: fmt::Write>(&self, f: &mut Formatter<W>) -> X<Formatter<W>> { 0..f(x) < y } ⇒ fn fmt(&self, f: &mut Formatter<'_>) -> X<Formatter<'_>> { 0..f(x) < y }",
-    "fn clone(&self) -> Result<S<T>, AllocError> { Ok(S(&(0..n), a < b)) } ⇒ fn clone(&self) -> S<T> { S(&(0..n), a < b) }",
-    "trait Sum<Rhs> { fn f(&self, n: &Rhs) -> X<Rhs>; } ⇒ trait Sum<Rhs = Self> { fn f(&self, n: &Rhs) -> X<Rhs>; }",
-    "pub extern \"C\" fn font_f(n: &u8, a: &[T], b: &mut [T]) -> X<T> { g(&a[0..1]) < h(b) } ⇒ pub unsafe extern \"C\" fn font_f(n: &u8, a: *const T, a_len: usize, b: *mut T, b_len: usize) -> X<T> {\n    let a = unsafe { crate::slice(a, a_len) };\n    let b = unsafe { crate::slice_mut(b, b_len) }; g(&a[0..1]) < h(b) }",
+    "0..crate::A < (&crate::B, <crate::C>) ⇒ 0..OWN::A < (&OWN::B, <OWN::C>)",
+    "0..font_ids::A < (&font_ids::B) ⇒ 0..crate::font_ids::A < (&crate::font_ids::B)",
+    "0..std::fmt < (&std::fmt, <std::fmt>) ⇒ 0..core::fmt < (&core::fmt, <core::fmt>)",
+    "fn f<W: fmt::Write>(f: &Formatter<W>) { 0..f } ⇒ fn f(f: &Formatter<'_>) { 0..f }",
+    "fn clone(&self) -> Result<S<T>, AllocError> { Ok(&(0..n) < b) } \
+     ⇒ fn clone(&self) -> S<T> { &(0..n) < b }",
+    "trait A<Rhs>: B<Rhs> { fn f(&Rhs); } ⇒ trait A<Rhs = Self>: B<Rhs> { fn f(&Rhs); }",
+    "extern \"C\" fn font_f(n: u8) { (0..n) } ⇒ extern \"C\" fn font_f(n: u8) { (0..n) }",
+    "pub extern \"C\" fn font_f(n: &u8, a: &mut [T]) -> X<T> { g(&a[0..1]) < n } \
+     ⇒ pub unsafe extern \"C\" fn font_f(n: &u8, a: *mut T, a_len: usize) -> X<T> {\n    \
+     let a = unsafe { crate::slice_mut(a, a_len) }; g(&a[0..1]) < n }",
     "fn f() { prove!((A & B) < X::<A>::C); } ⇒ fn f() { const { assert!((A & B) < X::<A>::C) }; }",
-    "fn f<T: A<U> + Drop>(x: &T) where U: B + Drop, (T, U): C<T> {} ⇒ fn f<T: A<U> >(x: &T) where U: B , (T, U): C<T> {}",
+    "f<T: A<U> + Drop>(x: &T) where (T, U): B + Drop, ⇒ f<T: A<U> >(x: &T) where (T, U): B ,",
     "#[derive(Clone, Drop)]\nstruct S(pub u8); ⇒ #[derive(Clone)]\nstruct S(pub u8);",
     "fn f() { let _bytes = raw.as_slice(); &(0..n < 1) } ⇒ fn f() {  &(0..n < 1) }",
 ];
@@ -396,7 +407,7 @@ fn changed_sources() {
     let same = SUPPORTED.iter().map(|source| (*source, *source));
     for (source, rust) in same.chain(CHANGED.iter().filter_map(|row| row.split_once(" ⇒ "))) {
         let erased = erased(source, "font_base", Target::Library).expect(source);
-        assert_eq!(erased, rust, "{source}");
+        assert_eq!(erased, rust.replace("OWN", "crate::font_base"), "{source}");
     }
     for row in [
         "fontval fn main() { 0..std::io::N } ⇒ pub fn main() { 0..crate::host::io::N }",

@@ -3,38 +3,24 @@
 
 use super::{Eraser, Error, Target, is_crate};
 
-/// The name of a list, and what is in it.
-type List = [&'static str; 2];
-
-/// The macros that are invoked, with round brackets. Nothing is changed in their arguments.
-const MACROS: List = ["MACROS", "eprint matches prove write"];
+/// The macros that are invoked. Nothing is changed in their arguments. Each list has its name.
+const MACROS: &str = "MACROS: eprint!( matches!( prove!( write!(";
 
 /// The attributes that are kept, beside `derive`.
-const ATTRIBUTES: List = [
-    "ATTRIBUTES",
-    "doc(hidden)] inline(always)] inline(never)] inline] must_use] repr(C)] unsafe(no_mangle)]",
-];
+const ATTRIBUTES: &str = "ATTRIBUTES: doc(hidden)] inline(always)] inline(never)] inline] \
+     must_use] repr(C)] unsafe(no_mangle)]";
 
 /// What is derived, beside `Drop` and `Error`.
-const DERIVES: List = [
-    "DERIVES",
-    "Clone Copy Debug Default Eq Hash Ord PartialEq PartialOrd",
-];
+const DERIVES: &str = "DERIVES: Clone Copy Debug Default Eq Hash Ord PartialEq PartialOrd";
 
 /// The statements and imports that only a proof uses, or Rust does not have.
-const UNUSED: List = [
-    "UNUSED",
-    "let_bytes=each_is_byte(self); let_bytes=each_is_byte(slice); let_bytes=raw.as_slice(); \
-     let_bytes=each_is_byte(raw.as_slice()); let_bytes=font_base::BeByteArray::as_slice(&self.0); \
-     usecrate::facts::each_is_byte; usecrate::json::round_trip; usejson::{JsonFault,JsonScalar}; \
-     usethiserror::Error; usestd::alloc::AllocError;",
-];
+const UNUSED: &str = "UNUSED: let_bytes=each_is_byte(self); let_bytes=each_is_byte(slice); \
+     let_bytes=raw.as_slice(); let_bytes=font_base::BeByteArray::as_slice(&self.0); \
+     let_bytes=each_is_byte(raw.as_slice()); usecrate::facts::each_is_byte; usethiserror::Error; \
+     usecrate::json::round_trip; usejson::{JsonFault,JsonScalar}; usestd::alloc::AllocError;";
 
 /// The modules of `std`.
-const STD: List = [
-    "STD",
-    "alloc cmp error fmt hash io iter marker ops process slice str",
-];
+const STD: &str = "STD: alloc cmp error fmt hash io iter marker ops process slice str";
 
 /// Names that no kept text has: of what is left out or written, and what depends on the compiler.
 const OTHERS: &str = "Drop JsonFault JsonScalar _bytes assert core each_is_byte font_types_proved \
@@ -52,11 +38,8 @@ impl Eraser<'_> {
         let is_example = self.of.target == Target::Examples;
         let what = match self.words[at..] {
             [name, "!", open @ ("(" | "[" | "{"), ..] if is_name(name) && !is_keyword(name) => {
-                if open != "(" {
-                    return self.error(at, format!("`{name}!` without round brackets"));
-                }
                 self.macros.push(at + 2..self.group_end(at + 2)?);
-                return self.check(at, name, MACROS);
+                return self.check(at, &format!("{name}!{open}"), MACROS);
             }
             ["macro_rules", "!", ..] => "a macro that is defined",
             ["mod", _, "{", ..] => "a module within a file",
@@ -161,15 +144,16 @@ impl Eraser<'_> {
         is_range || at == 0 || !matches!(self.words[at - 1], "::" | ".")
     }
 
-    fn check_words(&self, at: usize, end: usize, list: List) -> Result<(), Error> {
+    fn check_words(&self, at: usize, end: usize, list: &str) -> Result<(), Error> {
         self.check(at, &self.words[at..end].concat(), list)
     }
 
     // Refuses a text that is not in the list.
-    fn check(&self, at: usize, text: &str, [list, all]: List) -> Result<(), Error> {
+    fn check(&self, at: usize, text: &str, list: &str) -> Result<(), Error> {
+        let (name, all) = list.split_once(": ").unwrap_or_default();
         match all.split(' ').any(|one| one == text) {
             true => Ok(()),
-            false => self.error(at, format!("`{text}`, which is not in `{list}`")),
+            false => self.error(at, format!("`{text}`, which is not in `{name}`")),
         }
     }
 }
