@@ -1,4 +1,3 @@
 pub mod Texts
 mod Sums
 mod DeltaSets
-pub mod Units

@@ -3,13 +3,12 @@
 ghost use Rattle.std.specs.Prelude.{◌≡◌, ◌≢◌, ◌↔◌, IsSome, IfSome, length, pos, ◌+ℤ◌, ◌*ℤ◌};
 ghost use Rattle.std.specs.Prelude.{neg_ℤ, ◌≤ℤ◌, ◌<ℤ◌};
 ghost use Rattle.font_types.specs.F48Dot16.{f48dot16_bits};
-ghost use Rattle.font_types.specs.FWord.{nearest_unit};
 ghost use Rattle.font_types.specs.Wrap.{FitsBits};
 ghost use Rattle.font_c.specs.Sums.{moved_by, StoresSum, sum_of_products};
 ghost use Rattle.font_c.specs.Status.{out_of_range};
 
 use crate::status::{COUNT_MISMATCH, OK, OUT_OF_RANGE};
-use font_types::{DeltaSum, F48Dot16, Fixed};
+use font_types::{DeltaSum, F48Dot16, FWord, Fixed, UfWord};
 
 /// Adds up the products of 16.16 scalars and deltas, item by item, in 48.16.
 #[unsafe(no_mangle)]
@@ -28,7 +27,6 @@ pub extern "C" fn font_delta_sum(scalars: &[i32], deltas: &[i32], sum: &mut i64)
 
 /// Adds a 48.16 delta to signed font units, and rounds to the nearest font unit, half up.
 #[unsafe(no_mangle)]
-#[tactic(auto, using(crate::proofs::Units::far_units))]
 pub extern "C" fn font_apply_delta_i16(base: i16, delta: i64, units: &mut i16) -> u32
     ensures fits { (result ≡ 0) ↔ ((neg_ℤ (pos 32768) ≤ℤ moved_by base delta)
         × (moved_by base delta <ℤ pos 32768)) }
@@ -36,20 +34,17 @@ pub extern "C" fn font_apply_delta_i16(base: i16, delta: i64, units: &mut i16) -
     ensures known { result ≢ 0 → result ≡ out_of_range }
     ensures kept { result ≢ 0 → units.new ≡ units.old }
 {
-    let Some(moved) = (i64::from(base) * 0x1_0000).checked_add(delta) else {
+    let delta = F48Dot16::from_bits(delta);
+    let Some(moved) = FWord::new(base).checked_add_delta(delta) else {
         return OUT_OF_RANGE;
     };
-    let Ok(nearest) = i16::try_from(whole_units(moved)) else {
-        return OUT_OF_RANGE;
-    };
-    *units = nearest;
+    *units = moved.to_i16();
     OK
 }
 
 /// Adds a 48.16 delta to unsigned font units, as advances are, and rounds to the nearest font unit,
 /// half up.
 #[unsafe(no_mangle)]
-#[tactic(auto, using(crate::proofs::Units::far_units))]
 pub extern "C" fn font_apply_delta_u16(base: u16, delta: i64, units: &mut u16) -> u32
     ensures fits { (result ≡ 0) ↔ ((pos 0 ≤ℤ moved_by (pos base) delta)
         × (moved_by (pos base) delta <ℤ pos 65536)) }
@@ -57,22 +52,12 @@ pub extern "C" fn font_apply_delta_u16(base: u16, delta: i64, units: &mut u16) -
     ensures known { result ≢ 0 → result ≡ out_of_range }
     ensures kept { result ≢ 0 → units.new ≡ units.old }
 {
-    let Some(moved) = (i64::from(base) * 0x1_0000).checked_add(delta) else {
+    let delta = F48Dot16::from_bits(delta);
+    let Some(moved) = UfWord::new(base).checked_add_delta(delta) else {
         return OUT_OF_RANGE;
     };
-    let Ok(nearest) = u16::try_from(whole_units(moved)) else {
-        return OUT_OF_RANGE;
-    };
-    *units = nearest;
+    *units = moved.to_u16();
     OK
-}
-
-// Rounds a 48.16 value to the nearest font unit, half up.
-#[tactic(auto, using(crate::proofs::Units::halves_up_64))]
-fn whole_units(bits: i64) -> i64
-    ensures { result ≡ nearest_unit bits }
-{
-    ((bits >> 15) + 1) >> 1
 }
 
 // Returns the exact sum of the products, item by item, or `None` if it does not fit in 64 bits.

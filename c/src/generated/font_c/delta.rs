@@ -3,7 +3,7 @@
 //! Sums of deltas, and what they move.
 
 use crate::font_c::status::{COUNT_MISMATCH, OK, OUT_OF_RANGE};
-use crate::font_types::{DeltaSum, F48Dot16, Fixed};
+use crate::font_types::{DeltaSum, F48Dot16, FWord, Fixed, UfWord};
 
 /// Adds up the products of 16.16 scalars and deltas, item by item, in 48.16.
 #[unsafe(no_mangle)]
@@ -29,13 +29,11 @@ pub unsafe extern "C" fn font_delta_sum(
 /// Adds a 48.16 delta to signed font units, and rounds to the nearest font unit, half up.
 #[unsafe(no_mangle)]
 pub unsafe extern "C" fn font_apply_delta_i16(base: i16, delta: i64, units: &mut i16) -> u32 {
-    let Some(moved) = (i64::from(base) * 0x1_0000).checked_add(delta) else {
+    let delta = F48Dot16::from_bits(delta);
+    let Some(moved) = FWord::new(base).checked_add_delta(delta) else {
         return OUT_OF_RANGE;
     };
-    let Ok(nearest) = i16::try_from(whole_units(moved)) else {
-        return OUT_OF_RANGE;
-    };
-    *units = nearest;
+    *units = moved.to_i16();
     OK
 }
 
@@ -43,19 +41,12 @@ pub unsafe extern "C" fn font_apply_delta_i16(base: i16, delta: i64, units: &mut
 /// half up.
 #[unsafe(no_mangle)]
 pub unsafe extern "C" fn font_apply_delta_u16(base: u16, delta: i64, units: &mut u16) -> u32 {
-    let Some(moved) = (i64::from(base) * 0x1_0000).checked_add(delta) else {
+    let delta = F48Dot16::from_bits(delta);
+    let Some(moved) = UfWord::new(base).checked_add_delta(delta) else {
         return OUT_OF_RANGE;
     };
-    let Ok(nearest) = u16::try_from(whole_units(moved)) else {
-        return OUT_OF_RANGE;
-    };
-    *units = nearest;
+    *units = moved.to_u16();
     OK
-}
-
-// Rounds a 48.16 value to the nearest font unit, half up.
-fn whole_units(bits: i64) -> i64 {
-    ((bits >> 15) + 1) >> 1
 }
 
 // Returns the exact sum of the products, item by item, or `None` if it does not fit in 64 bits.
