@@ -236,8 +236,8 @@ impl<'a> Eraser<'a> {
     fn attribute(&mut self, at: usize, open: usize) -> Result<usize, Error> {
         let end = self.group_end(open)?;
         let is_kept = match self.words[open + 1..end] {
-            ["error", "(", text, ..] if text.contains("{{") => {
-                return self.error(open + 3, "`{{` in the text of an error");
+            ["error", "(", text, ..] if text.contains("{{") || text.contains('\\') => {
+                return self.error(open + 3, "`{{` or an escape in the text of an error");
             }
             ["tactic" | "error", ..] => false,
             ["cfg", "(", "test", ")", "]"] => match self.words[end..] {

@@ -274,6 +274,8 @@ fn generated_files_are_up_to_date() {
 /// Sources that are errors, each after its line and what the error says.
 const UNSUPPORTED: &[&str] = &[
     "2 `{{`: #[derive(Error)]\n#[error(\"{{0, 1}}\")]\nstruct Fault;",
+    "2 escape: #[derive(Error)]\n#[error(\"\\x7bN}\")]\nstruct Fault;",
+    "1 `unsafe`: fn f(n: u32) -> i32 { unsafe { U { n }.m } }",
     "2 `/* */`: fn f() {\n/* a comment */ }",
     "1 unterminated: fn f() -> char { '\n' }",
     "1 raw name: const r#crate: u32 = 1;",
@@ -437,6 +439,7 @@ const OTHERS: &[&str] = &[
     "name: use crate::attack::Size as JsonScalar;\nimpl JsonScalar for Count {}",
     "name: pub use crate::attack::Size as each_is_byte;",
     "files: #[macro_export]\nmacro_rules! named { () => {} }",
+    "files: #[cfg_attr(all(), path = \"other.txt\")]\nmod other;",
     "macro: macro_rules! matches { () => {} }",
     "function: type N<'a> = &'a mut u32;\nfn each_is_byte(number: N<'_>) { *number = 5; }",
     ": struct Own;\nimpl Own {}\nimpl From<Count> for Own {}",

@@ -35,6 +35,7 @@ impl Eraser<'_> {
     pub(super) fn check_form(&mut self, at: usize) -> Result<(), Error> {
         let is_inner = self.is_inner(at);
         let before = &self.words[..at];
+        let is_used = !before.ends_with(&["fn"]);
         let is_example = self.of.target == Target::Examples;
         let what = match self.words[at..] {
             [name, "!", open @ ("(" | "[" | "{"), ..] if is_name(name) && !is_keyword(name) => {
@@ -62,8 +63,10 @@ impl Eraser<'_> {
             ["extern", "\"C\"", "fn", name, ..] if name.starts_with("font_") => return Ok(()),
             [name, "::", ..] if self.of.left_out.contains(&name) => "a name of what is left out",
             ["extern", ..] => "`extern` of something else than `font_..`",
+            ["unsafe", _, "std", _, "str", _, "from_utf8_unchecked", ..] => return Ok(()),
+            ["unsafe", ..] => "`unsafe` of something else than `from_utf8_unchecked`",
             // It returns another type.
-            ["clone" | "clone_from", ..] if !before.ends_with(&["fn"]) => "a use of `clone`",
+            ["clone" | "clone_from" | "cloned" | "to_owned", ..] if is_used => "a use of `clone`",
             ["fn", ..] if !is_pure(&self.words[at + 1..]) => "such an `as_slice`, `each_is_byte`",
             ["std", "::", module, ..] if self.is_start(at) => return self.check(at, module, STD),
             ["crate", ")", ..] if before.ends_with(&["pub", "("]) => return Ok(()),

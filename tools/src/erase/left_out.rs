@@ -35,7 +35,8 @@ pub fn check_left_out(source: &str) -> Result<(), Error> {
             ["as", name, "," | ";" | "}", ..] if PASSED.contains(&name) => {
                 return error(at, "a name for something else");
             }
-            ["macro_use" | "macro_export" | "include", ..] | ["#", "[", "path", ..] => {
+            ["macro_use" | "macro_export" | "include" | "cfg_attr", ..]
+            | ["#", "[", "path", ..] => {
                 return error(at, "what other files may see");
             }
             ["macro_rules", "!", name, ..] if !MACROS.contains(&name) => {
