@@ -217,7 +217,7 @@ impl<'a> Eraser<'a> {
         let end = match self.words[item..] {
             ["ghost", "use", ..] => self.item_end(item)?,
             ["ghost", ..] => self.ghost_end(item)?,
-            ["mod", name, ..] if self.is_root && self.of.left_out.contains(&name) => item + 3,
+            ["mod", name, ";", ..] if self.is_root && self.of.left_out.contains(&name) => item + 3,
             ["use", ..] if self.is_unused(item, self.item_end(item)?) => self.item_end(item)?,
             ["mod", name, ..] if item == at => {
                 self.modules.push(name);
@@ -323,7 +323,7 @@ impl<'a> Eraser<'a> {
             self.put(at - 2, "unsafe ");
         }
         self.put[self.places[self.header_end] + 1].push_str(&slices);
-        Ok(end)
+        Ok(at + 1)
     }
 
     // `fn clone(&self) -> Result<T, AllocError> { Ok(x) }` becomes `fn clone(&self) -> T { x }`.

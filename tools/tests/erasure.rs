@@ -394,7 +394,7 @@ const CHANGED: &[&str] = &[
     "fn clone(&self) -> Result<S<T>, AllocError> { Ok(&(0..n) < b) } \
      ⇒ fn clone(&self) -> S<T> { &(0..n) < b }",
     "trait A<Rhs>: B<Rhs> { fn f(&Rhs); } ⇒ trait A<Rhs = Self>: B<Rhs> { fn f(&Rhs); }",
-    "extern \"C\" fn font_f(n: u8) { (0..n) } ⇒ extern \"C\" fn font_f(n: u8) { (0..n) }",
+    "extern \"C\" fn font_f(n: crate::N) { 0..n } ⇒ extern \"C\" fn font_f(n: OWN::N) { 0..n }",
     "pub extern \"C\" fn font_f(n: &u8, a: &mut [T]) -> X<T> { g(&a[0..1]) < n } \
      ⇒ pub unsafe extern \"C\" fn font_f(n: &u8, a: *mut T, a_len: usize) -> X<T> {\n    \
      let a = unsafe { crate::slice_mut(a, a_len) }; g(&a[0..1]) < n }",
