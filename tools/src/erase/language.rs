@@ -42,7 +42,7 @@ impl Eraser<'_> {
                 self.macros.push(at + 2..self.group_end(at + 2)?);
                 return self.check(at, &format!("{name}!{open}"), MACROS);
             }
-            ["macro_rules", "!", ..] => "a macro that is defined",
+            ["macro_rules" | "static" | "union", ..] => "a macro, static or union that is defined",
             ["mod", _, "{", ..] => "a module within a file",
             // There `super` would be another module than `crate`.
             ["mod", ..] if is_example && !self.is_root => "a module of a module",
