@@ -6,6 +6,7 @@ use core::cmp::Ordering;
 use core::error::Error;
 use core::fmt::{Debug, Display};
 use core::hash::Hash;
+use core::ops;
 use core::str::FromStr;
 use font_types_proved::laws::{action, associative, fixed_identity, identity_neutral};
 use font_types_proved::laws::{composed, f26dot6, fixed, in_turn, reads_in_order};
@@ -243,8 +244,13 @@ macro_rules! assert_traits {
             "Display" Display, "Eq" Eq, "Ord" Ord, "Hash" Hash, "FromStr" FromStr, "Error" Error,
             "FixedSize" FixedSize, "Scalar" Scalar, "IdentityEq" IdentityEq,
             "OffsetValue" OffsetValue, "MatrixElement" MatrixElement, "RingElement" RingElement,
-            "Neg" core::ops::Neg, "Mul" core::ops::Mul, "Div" core::ops::Div,);
+            "Add" ops::Add, "Neg" ops::Neg, "Mul" ops::Mul, "Div" ops::Div,);
         assert_eq!(found, $traits, "{}", stringify!($of));
+        let whole = traits_of!($of: "Eq" Eq, "Ord" Ord, "+" ops::Add, "+" ops::Add, "+" ops::Add,
+            "Mul" ops::Mul, "Div" ops::Div,);
+        let parts = traits_of!($of: "Eq" PartialEq, "Ord" PartialOrd, "+" ops::Sub,
+            "+" ops::AddAssign, "+" ops::SubAssign, "Mul" ops::MulAssign, "Div" ops::DivAssign,);
+        assert_eq!(parts, whole, "{}", stringify!($of));
     )*)*};
 }
 
@@ -254,19 +260,19 @@ fn traits() {
         [Uint24, Int24, FWord, UfWord, GlyphId16, GlyphId24, NameId, Version16Dot16, MajorMinor]
             "Copy Debug Default Display Eq Ord Hash FixedSize Scalar IdentityEq";
         [F2Dot14, F4Dot12, F6Dot10, F2Dot30]
-            "Copy Debug Default Display Eq Ord Hash FromStr FixedSize Scalar IdentityEq Neg";
+            "Copy Debug Default Display Eq Ord Hash FromStr FixedSize Scalar IdentityEq Add Neg";
         [Fixed]
             "Copy Debug Default Display Eq Ord Hash FromStr FixedSize Scalar IdentityEq \
-             MatrixElement Neg Mul Div";
-        [F26Dot6] "Copy Debug Default Display Eq Ord Hash FromStr Neg Mul Div";
-        [F48Dot16] "Copy Debug Default Display Eq Ord Hash FromStr Neg";
+             MatrixElement Add Neg Mul Div";
+        [F26Dot6] "Copy Debug Default Display Eq Ord Hash FromStr Add Neg Mul Div";
+        [F48Dot16] "Copy Debug Default Display Eq Ord Hash FromStr Add Neg";
         [GlyphId] "Copy Debug Default Display Eq Ord Hash";
         [Offset16, Offset24, Offset32] "Copy Debug Eq Ord FixedSize Scalar IdentityEq OffsetValue";
         [Nullable<Offset16>] "Copy Debug Default Eq FixedSize Scalar";
         [LongDateTime] "Copy Debug Default Eq Ord Hash FixedSize Scalar IdentityEq";
         [Tag] "Copy Debug Default Display Eq Ord Hash FromStr FixedSize Scalar IdentityEq";
         [BigEndian<Tag>] "Copy Debug Default Display Eq Ord Hash FixedSize";
-        [Point<Fixed>] "Copy Debug Default Eq Neg Mul Div";
+        [Point<Fixed>] "Copy Debug Default Eq Add Neg Mul Div";
         [BoundingBox<Fixed>] "Copy Debug Default Eq";
         [Matrix<Fixed>] "Copy Debug Default Eq Mul";
         [TableDataRef<'static, SampleHeader>, SampleHeader] "Copy Debug";
@@ -276,23 +282,38 @@ fn traits() {
         [DecimalFault, InvalidTag, TryFromGlyphIdError] "Copy Debug Display Eq Error";
         [TryFromUint24Error] "Copy Debug Display Error";
         [u8, u16, u32]
-            "Copy Debug Default Display Eq Ord Hash FromStr FixedSize Scalar IdentityEq Mul Div";
+            "Copy Debug Default Display Eq Ord Hash FromStr FixedSize Scalar IdentityEq \
+             Add Mul Div";
         [i8, i16, i32, i64]
             "Copy Debug Default Display Eq Ord Hash FromStr FixedSize Scalar IdentityEq \
-             Neg Mul Div";
+             Add Neg Mul Div";
     }
 }
 
 #[test]
 fn conversions() {
-    macro_rules! from {
-        ($($of:ty: $($from:ty)*;)*) => {$($(let _: fn($from) -> $of = From::from;)*)*};
+    macro_rules! assert_from {
+        ($([$($of:ty),*] $from:literal;)*) => {$($(
+            let found = traits_of!($of: "u8" From<u8>, "i16" From<i16>, "u16" From<u16>,
+                "i32" From<i32>, "u32" From<u32>, "F2Dot14" From<F2Dot14>, "FWord" From<FWord>,
+                "UfWord" From<UfWord>, "Uint24" From<Uint24>, "Int24" From<Int24>,
+                "NameId" From<NameId>, "GlyphId16" From<GlyphId16>, "GlyphId24" From<GlyphId24>,
+                "GlyphId" From<GlyphId>, "Offset16" From<Offset16>, "Tag" From<Tag>,);
+            assert_eq!(found, $from, "{}", stringify!($of));
+        )*)*};
     }
-    from! {
-        Fixed: F2Dot14 FWord i32; F2Dot30: F2Dot14; FWord: i16; UfWord: u16; NameId: u16;
-        GlyphId: GlyphId16 GlyphId24 u16 u32; GlyphId16: u16; BigEndian<Tag>: Tag; i16: FWord;
-        i32: FWord Int24 UfWord; u16: GlyphId16 NameId UfWord;
-        u32: GlyphId16 GlyphId24 GlyphId Uint24; usize: GlyphId16 GlyphId24 Offset16 Uint24;
+    // Each type is from itself, and numbers of Rust are from narrower ones.
+    assert_from! {
+        [Fixed] "i32 F2Dot14 FWord"; [F2Dot14, F2Dot30] "F2Dot14"; [FWord] "i16 FWord";
+        [UfWord] "u16 UfWord"; [NameId] "u16 NameId"; [GlyphId16] "u16 GlyphId16";
+        [GlyphId] "u16 u32 GlyphId16 GlyphId24 GlyphId"; [GlyphId24] "GlyphId24";
+        [Uint24] "Uint24"; [Int24] "Int24"; [Offset16] "Offset16"; [BigEndian<Tag>, Tag] "Tag";
+        [F4Dot12, F6Dot10, F26Dot6, F48Dot16, Offset24, Offset32, LongDateTime, Version16Dot16,
+         MajorMinor, Shortest] "";
+        [i16] "u8 i16 FWord"; [i32] "u8 i16 u16 i32 FWord UfWord Int24";
+        [u16] "u8 u16 UfWord NameId GlyphId16"; [i64] "u8 i16 u16 i32 u32";
+        [u32] "u8 u16 u32 Uint24 GlyphId16 GlyphId24 GlyphId";
+        [usize] "u8 u16 Uint24 GlyphId16 GlyphId24 Offset16";
     }
     let _: fn(GlyphId) -> Result<GlyphId16, TryFromGlyphIdError> = TryFrom::try_from;
     let _: fn(GlyphId) -> Result<GlyphId24, TryFromGlyphIdError> = TryFrom::try_from;
