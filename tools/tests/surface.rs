@@ -4,7 +4,7 @@
 use font_types_tools::repository::text;
 
 /// A file, and its code in one line, without attributes of errors and what is proved.
-const ITEMS: [(&str, &[&str]); 9] = [
+const ITEMS: [(&str, &[&str]); 11] = [
     (
         "font_base/src/uint24.rt",
         &["#[derive(Debug, Drop, Error)] pub struct TryFromUint24Error;"],
@@ -21,6 +21,16 @@ const ITEMS: [(&str, &[&str]); 9] = [
         "font_decimal/src/reader.rt",
         &["#[derive(Clone, PartialEq, Eq, Debug, Drop, Error)] pub enum DecimalFault"],
     ),
+    (
+        "font_base/src/raw.rt",
+        &[
+            "pub trait BeByteArray: Copy {",
+            "pub trait FixedSize: Sized {",
+            "pub trait Scalar: FixedSize {",
+            "pub trait IdentityEq: Eq {",
+        ],
+    ),
+    ("font_ids/src/offset.rt", &["pub trait OffsetValue: Copy {"]),
     (
         "font_types/src/json.rt",
         &[
