@@ -395,6 +395,10 @@ static void check_ends(int width, uint32_t most) {
             check_value("ends", f, parse(&type, text, strlen(text)), rows[i].bits);
             check_written("ends", f, &type, rows[i].bits, NULL, text);
         }
+        /* The text of the greatest is that of no other. */
+        size_t len = 0;
+        check("greatest", f, "status", format(top, f, written, BUFFER, &len), FONT_OK);
+        check_value("greatest", f, parse(&type, written, len), top);
         check_error("above the end", f, parse(&type, least + 1, strlen(least + 1)),
                     FONT_OUT_OF_RANGE);
     }
