@@ -151,6 +151,7 @@ fn fonts() -> Vec<(Vec<u8>, usize)> {
         // As many data as there is room for offsets.
         (with(font(hvar()), b"HVAR", 26, &[11]), 1),
         ([b"true", &font(hvar())[4..]].concat(), 1),
+        (UNREAD.into_iter().fold(font(hvar()), with_other_words), 1),
         (font_of([(b"HVAR", hvar())]), 0),
         (
             font_of([(b"HVAR", hvar_of_two_axes(MAPS[2])), (b"fvar", long_axes())]),
@@ -158,11 +159,27 @@ fn fonts() -> Vec<(Vec<u8>, usize)> {
         ),
     ];
     fonts.extend(MAPS.map(of_two_axes));
-    fonts.extend([1, 65, 1024].map(|count| (font(hvar_of_regions(count)), 1)));
+    fonts.extend([0, 1, 65, 1024].map(|count| (font(hvar_of_regions(count)), 1)));
     let fonts = fonts.into_iter();
     fonts
         .map(|(font, axes)| (with_three_glyphs(font), axes))
         .collect()
+}
+
+/// Words that are not read: minor versions, reserved ones, lengths, flags, and those of a search.
+const UNREAD: [(&[u8; 4], &[usize]); 6] = [
+    (b"head", &[0, 2, 12, 14, 16]),
+    (b"hhea", &[2, 4, 32]),
+    (b"cmap", &[22, 24, 28, 30, 32, 74, 76, 78, 80, 82]),
+    (b"fvar", &[2, 6, 12, 14, 32, 34]),
+    (b"avar", &[2, 4]),
+    (b"HVAR", &[2]),
+];
+
+/// Replaces these words of a table.
+fn with_other_words(font: Vec<u8>, (tag, words): (&[u8; 4], &[usize])) -> Vec<u8> {
+    let words = words.iter();
+    words.fold(font, |font, word| with(font, tag, *word, &[0xFFFE]))
 }
 
 /// The values of as many axes.
@@ -346,14 +363,16 @@ fn broken(line: &'static str) -> (Vec<u8>, &'static str) {
 }
 
 /// Other broken fonts.
-fn others() -> [(Vec<u8>, &'static str); 9] {
+fn others() -> [(Vec<u8>, &'static str); 10] {
     let [mut collection, mut many, mut swapped] = [whole(), whole(), whole()];
-    let [mut twice, mut beyond] = [whole(), whole()];
+    let [mut twice, mut last_twice, mut beyond] = [whole(), whole(), whole()];
     collection[..4].copy_from_slice(b"ttcf");
     many[4] = 1;
     let (first, others) = swapped[12..].split_at_mut(16);
     first.swap_with_slice(&mut others[..16]);
     twice.copy_within(12..28, 28);
+    let last = record(&last_twice, b"name");
+    last_twice.copy_within(last - 16..last, last);
     let at = record(&beyond, b"hmtx") + 8;
     beyond[at] = 1;
     let many_axes = fvar(&[(b"wght", [0, 0, 1]); 65]);
@@ -364,6 +383,7 @@ fn others() -> [(Vec<u8>, &'static str); 9] {
         (many, "the records of the tables end early"),
         (swapped, "the tables are out of order"),
         (twice, "the tables are out of order"),
+        (last_twice, "the tables are out of order"),
         (beyond, "hmtx ends early"),
         (font_of([(b"fvar", many_axes)]), "fvar: too many axes"),
         (font_of(without_hvar), "gvar without HVAR"),
