@@ -24,12 +24,12 @@ staged=$work/stage$work/link/lib/x/pkgconfig
 # Folders, of the environment, with letters that sed replaces and pkg-config quotes; and another
 # version.
 odd="$work/a&b|c d\\e"
-PREFIX="$odd" make -s install
+PREFIX="$odd" INCLUDEDIR="$odd/inc" make -s install
 [[ $(sed 2q "$odd/lib/pkgconfig/font_types.pc") == "prefix=$odd"$'\nlibdir=${prefix}/lib' ]]
 eval "flags=($(PKG_CONFIG_PATH="$odd/lib/pkgconfig" pkg-config --cflags --libs font_types))"
-[[ ${flags[0]} == "-I$odd/include" && ${flags[1]} == "-L$odd/lib" ]]
+[[ ${flags[0]} == "-I$odd/inc" && ${flags[1]} == "-L$odd/lib" ]]
 sed -i.kept 's/^version = .*/version = "9.8.7"/' Cargo.toml
-make -s install DESTDIR="$work/next" PREFIX=/usr LIBDIR='/a&b|c'
+LIBDIR='/a&b|c' make -s install DESTDIR="$work/next" PREFIX=/usr
 mv Cargo.toml.kept Cargo.toml
 [[ -e "$work/next/a&b|c/libfont_types.so.9.8.7" && -L "$work/next/a&b|c/libfont_types.so.9.8" ]]
 [[ $(grep 'libdir=\|Version' "$work/next/a&b|c/pkgconfig/font_types.pc") == \
