@@ -184,11 +184,12 @@ fn allocation_errors_of_each_line() {
 // With ample memory no line is too long.
 #[test]
 fn line_of_many_terms() {
-    let line = [&b"sum"[..], &b" 1 1".repeat(3000)].concat();
-    let mut taken = [0; 5];
-    let (mut source, mut sink) = (FromRead::new(&line[..]), FromWrite::new(&mut taken[..]));
-    assert!(serve(Global, &mut source, &mut sink).is_ok());
-    assert_eq!(&taken, b"3000\n");
+    for (words, answer) in [("sum", "3000\n"), ("vary 0", "196608000\n")] {
+        let (line, mut taken) = (words.to_owned() + &" 1 1".repeat(3000), [0; 16]);
+        let mut sink = FromWrite::new(&mut taken[..]);
+        assert!(serve(Global, &mut FromRead::new(line.as_bytes()), &mut sink).is_ok());
+        assert!(taken.starts_with(answer.as_bytes()), "{words}");
+    }
 }
 
 // ---- streams
