@@ -13,7 +13,7 @@ fn mutants_name_their_clause() {
 #[test]
 fn goals_are_compared_with_clauses() {
     // Its first line names the clause `judged` of `Tag::validate`.
-    let (krate, name) = ("font_tags", "four_spaces_have_length_four.edit");
+    let (krate, name) = ("font_tags", "faults_of_a_tag_swapped.edit");
     let source = text("crates/font_tags/src/tag.rt");
     let line_of = |code: &str| 1 + source.lines().position(|line| line.contains(code)).unwrap();
     let (own, other) = (line_of("fn validate("), line_of("fn as_bytes("));
