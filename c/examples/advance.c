@@ -5,7 +5,7 @@
  *
  * It prints advances by OpenType's algorithm from the parts of the font that it reads; or, if one
  * of these is broken, or has a form that is not read here, only a message, and returns 1. A broken
- * part that the text does not need is not looked at. c/README.md says how exact the advances are.
+ * part that it does not read is not noticed. c/README.md says how exact the advances are.
  */
 #include "font_types.h"
 
