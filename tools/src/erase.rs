@@ -175,7 +175,7 @@ impl<'a> Eraser<'a> {
                 }
                 Ok(at + 1)
             }
-            ["+", "Drop", ..] => Ok(self.leave_out(at..at + 2)),
+            ["+", "Drop", next, ..] if next != "::" => Ok(self.leave_out(at..at + 2)),
             ["prove", "!", "(", ..] => {
                 let end = self.group_end(at + 2)?;
                 self.put[self.places[end - 1] + 1].push_str(" }");
@@ -245,10 +245,7 @@ impl<'a> Eraser<'a> {
                 _ => return self.error(at, "tests elsewhere than in `mod tests;`"),
             },
             ["derive", "(", ..] => self.derive(open + 3, end)?,
-            _ => {
-                self.check_attribute(open + 1, end)?;
-                true
-            }
+            _ => self.check_attribute(open + 1, end).map(|()| true)?,
         };
         if !is_kept {
             self.leave_out(at..end);
@@ -267,11 +264,7 @@ impl<'a> Eraser<'a> {
             return Ok(true);
         }
         if names.ends_with(&["Error"]) {
-            let mut body = end;
-            while !matches!(self.words.get(body), Some(&("{" | ";"))) {
-                body = self.group_end(body)?;
-            }
-            let after = self.group_end(body)?;
+            let after = self.group_end(self.header_end(end)?)?;
             let impls = errors::impls(&self.words[end..after]);
             self.put[self.places[after - 1] + 1].push_str(&impls);
         }
@@ -408,15 +401,17 @@ impl<'a> Eraser<'a> {
         Ok(end + usize::from(matches!(self.words[end..], ["," | ";", ..])))
     }
 
-    // The place of the `{` or the `;` after the header of a function.
+    // The place of the `{` or the `;` after the header of a function or a type, past `A<{ N }>`.
     fn header_end(&self, at: usize) -> Result<usize, Error> {
         let mut at = at;
         loop {
+            let end = self.group_end(at)?;
             at = match self.words[at..] {
+                ["{", ..] if matches!(self.words[end..], [">" | ",", ..]) => end,
                 ["{" | ";", ..] => return Ok(at),
                 ["requires" | "ensures", ..] => self.clause_end(at)?,
                 ["ghost", ..] => self.ghost_end(at)?,
-                _ => self.group_end(at)?,
+                _ => end,
             };
         }
     }

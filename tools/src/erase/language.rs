@@ -22,10 +22,10 @@ const UNUSED: &str = "UNUSED: let_bytes=each_is_byte(self); let_bytes=each_is_by
 /// The modules of `std`.
 const STD: &str = "STD: alloc cmp error fmt hash io iter marker ops process slice str";
 
-/// Names that no kept text has: of what is left out or written, and what depends on the compiler.
+/// Names that no kept text has: of what is left out or written, and what Rust has otherwise.
 const OTHERS: &str = "Drop JsonFault JsonScalar _bytes assert core each_is_byte font_types_proved \
-     round_trip thiserror Layout align_of align_of_val needs_drop size_of size_of_val type_name \
-     type_name_of_val";
+     round_trip thiserror Layout RangeFrom align_of align_of_val needs_drop size_of size_of_val \
+     type_name type_name_of_val";
 
 /// An `as_slice` and an `each_is_byte`, which have no effect.
 const PURE: [&str; 2] = ["as_slice(&self)->&[u8]", "each_is_byte(slice:&[u8])"];
@@ -36,6 +36,7 @@ impl Eraser<'_> {
         let is_inner = self.is_inner(at);
         let before = &self.words[..at];
         let is_used = !before.ends_with(&["fn"]);
+        let is_pattern = matches!(before, [.., "," | "(" | "[" | "{" | "@"]);
         let is_example = self.of.target == Target::Examples;
         let what = match self.words[at..] {
             [name, "!", open @ ("(" | "[" | "{"), ..] if is_name(name) && !is_keyword(name) => {
@@ -54,6 +55,9 @@ impl Eraser<'_> {
             ["fn", name, ..] if is_inner && name != "(" => "a function within another",
             ["type", _, "=", _, "<", _, ">", ";", ..] => return Ok(()),
             ["type", ..] if self.depth == 0 => "another alias than `X = Y<n>`",
+            // Rattle's ends below the top of its type. That of `bytes.get(n..)?` is an index.
+            [".", ".", ")", "?", ..] => return Ok(()),
+            [".", ".", ")" | "}" | "{" | ";" | ",", ..] if !is_pattern => "a range with no end",
             ["use", ..] if self.words[at..self.item_end(at)?].contains(&"*") => "an import of all",
             ["use", ..] if self.words[at..self.item_end(at)?].contains(&"as") => "another name",
             // A method that is public here would be so in the other crates.
