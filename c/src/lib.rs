@@ -1,6 +1,7 @@
 //! The library for C: the proved source of `crates/font_c`, and of the crates that it uses. An
 //! export takes a slice as a pointer and a length, as `font_types.h` declares it.
 #![no_std]
+#![deny(improper_ctypes_definitions)]
 // The exports call a part of the library.
 #![allow(dead_code, unused_imports, clippy::all)]
 
