@@ -326,7 +326,8 @@ impl<'a> Eraser<'a> {
             return self.error(at, "a `clone` of another form");
         }
         let close = self.group_end(comma + 5)? - 1;
-        if self.words[close + 1] != "}" {
+        let leaves = |word: &&str| matches!(*word, "?" | "return");
+        if self.words[close + 1] != "}" || self.words[comma..close].iter().any(leaves) {
             return self.error(at, "a `clone` of another body than `Ok(..)`");
         }
         self.leave_out(at + 8..at + 10);

@@ -298,7 +298,6 @@ const UNSUPPORTED: &[&str] = &[
     "1 defined: static N: u32 = 1;",
     "1 ATTRIBUTES: #[macro_use]\nmod facts;",
     "1 ATTRIBUTES: #[path = \"other.rs\"]\nmod facts;",
-    "1 ATTRIBUTES: #[cfg(windows)]\nconst N: u32 = 1;",
     "1 tests: #[cfg(test)]\nmod others;",
     "1 `unsafe`: #[unsafe(no_mangle)]\npub fn memcmp() {}",
     "1 DERIVES: #[derive(Other)]\nstruct S;",
@@ -340,6 +339,7 @@ const UNSUPPORTED: &[&str] = &[
     "1 `clone`: fn f(n: N) -> bool { is(n.clone()) }",
     "1 `clone`: fn clone(&self) -> Result<N, AllocError> { Ok(N); Ok(M) }",
     "1 `clone`: fn clone(&self) -> Result<N, AllocError> { f(); Ok(N) }",
+    "1 `clone`: fn clone(&self) -> Result<Option<N>, AllocError> { Ok(Some(g()?)) }",
     "2 `W`: struct W;\nfn f<W: fmt::Write>(w: &W) -> u32 { w.size() }",
 ];
 
@@ -365,10 +365,9 @@ fn unsupported_sources() {
             "{row}: {error:?}"
         );
     }
-    let (name, target) = ("callers", Target::Examples);
     let of = Crate {
-        name,
-        target,
+        name: "callers",
+        target: Target::Examples,
         left_out: &[],
     };
     for (source, is_root) in [("fn f() { crate::g() }", true), ("mod inner;", false)] {
