@@ -62,11 +62,11 @@ add_sub_cancel_64 = wrap-add_sub_cancel w64
 pub sub_add_cancel_64 : (a b : ℤ) → SFits w64 a → wrap 64 (wrap 64 (a -ℤ b) +ℤ b) ≡ a
 sub_add_cancel_64 = wrap-sub_add_cancel w64
 
-pub ruleset calls_16 = (fits_16, add_zero, zero_add, sub_zero, add_sub_cancel_16, sub_add_cancel_16)
+pub ruleset calls_16 = (fits_16, add_sub_cancel_16, sub_add_cancel_16)
 
 pub ruleset calls_32 = (fits_32, add_zero, zero_add, sub_zero, add_sub_cancel_32, sub_add_cancel_32)
 
-pub ruleset calls_64 = (fits_64, add_zero, zero_add, sub_zero, add_sub_cancel_64, sub_add_cancel_64)
+pub ruleset calls_64 = (fits_64, add_sub_cancel_64, sub_add_cancel_64)
 
 -- an integral number of steps needs no rounding
 pub near-times : (q : ℤ) (d : ℕ) → 0 < d → near (q *ℤ pos d) d ≡ q

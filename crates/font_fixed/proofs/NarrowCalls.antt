@@ -12,7 +12,6 @@ use Rattle.font_decimal.proofs.Near.{up_is, up_monotone, up_whole, up-times}
 use Rattle.font_fixed.specs.Operations.{least, greatest, narrowed}
 use Rattle.font_fixed.proofs.Calls.{fits_32}
 use Rattle.font_fixed.proofs.Sums.{sums}
-use Rattle.font_fixed.proofs.FixedCalls.{fixed_calls}
 
 -- ---- of any width
 
@@ -135,7 +134,6 @@ wrapped_once_32 z low high =
     ∙ fits_32 (z -ℤ pos 4294967296) (omega (arith, ints))
 
 pub ruleset narrow_calls = (
-  fixed_calls,
   quarter_at_least,
   quarter_at_most,
   quarter_not_negative,

@@ -2,13 +2,14 @@
 -- lemmas for answers.
 use Rattle.font_base.proofs.ScalarCalls.{scalar_calls}
 use Rattle.font_fixed.proofs.Calls.{calls_16, calls_32, calls_64}
+use Rattle.font_fixed.proofs.FixedCalls.{fixed_calls}
 use Rattle.font_fixed.proofs.Integral.{integral_calls, integral_rules}
 use Rattle.font_fixed.proofs.NarrowCalls.{narrow_calls, quarter_neg_one}
 use Rattle.font_tags.proofs.TagLaws.{tag_calls}
 use Rattle.font_tags.proofs.VersionLaws.{compatible_calls}
 use Rattle.font_geom.proofs.Bounds.{bound_calls}
 use Rattle.font_types.proofs.Searches.{search_calls}
-use Rattle.font_types.proofs.SumCalls.{sum_calls_from, sum_calls_16, sum_calls_32, delta_sum_calls}
+use Rattle.font_types.proofs.SumCalls.{sum_calls_from, sum_calls_16, sum_calls_32, delta_rules}
 use Rattle.font_types.proofs.StoredBytes.{stored_calls}
 use Rattle.font_types.proofs.ShortProducts.{short_product_calls}
 use Rattle.font_types.proofs.Parts.{part_calls, unit_calls, between_calls, lerp_calls}
@@ -43,32 +44,29 @@ pub use Rattle.font_types.proofs.Parts.{quotient_of_widened}
 pub use Rattle.font_types.proofs.Written.{written}
 pub use Rattle.font_types.specs.Json.Laws.{fixed_form, signed_form, unsigned_form, tag_form, version_form_of}
 
+-- numbers that fit, sums with 0, products with 0 and 1, quotients, and `mul_div`
+pub ruleset numbers = (fixed_calls, calls_16, calls_64)
+
+-- integers, and numbers that are widened or narrowed
+pub ruleset conversions = (integral_calls, exact_sum_is_integral, narrow_calls, quarter_neg_one)
+
+-- scalars, arrays and searches
+pub ruleset arrays = (scalar_calls, search_calls, stored_calls, array_number_calls)
+
+-- sums of loops
+pub ruleset sums = (sum_calls_from, sum_calls_16, sum_calls_32, delta_rules, below_calls)
+
+-- bounds of products: of font units, small integers and bounded matrices
+pub ruleset bounds = (short_product_calls, bound_calls, unit_calls)
+
+-- products by a number from 0 to 1, and numbers between two others
+pub ruleset parts = (part_calls, between_calls)
+
+-- tags, versions and the text of a number
+pub ruleset texts = (tag_calls, compatible_calls, shortest_is)
+
 -- the rules by which functions of callers prove
-pub ruleset calls = (
-  scalar_calls,
-  search_calls,
-  stored_calls,
-  calls_16,
-  calls_64,
-  integral_calls,
-  exact_sum_is_integral,
-  narrow_calls,
-  quarter_neg_one,
-  sum_calls_from,
-  sum_calls_16,
-  sum_calls_32,
-  delta_sum_calls,
-  short_product_calls,
-  bound_calls,
-  tag_calls,
-  compatible_calls,
-  shortest_is,
-  array_number_calls,
-  part_calls,
-  unit_calls,
-  between_calls,
-  below_calls,
-)
+pub ruleset calls = (numbers, conversions, arrays, sums, bounds, parts, texts)
 
 -- for the value of `a + (b - a) * t`, as one formula
 pub ruleset lerps = (lerp_calls)

@@ -94,35 +94,12 @@ module _ (x y : ℤ) (fits : SFits w32 x) (from : pos 0 ≤ℤ y) (to : y ≤ℤ
   pub part_by_product_is_at_least : x ≤ℤ pos 0 → x ≤ℤ wrap 32 (near (y *ℤ x) 65536)
   part_by_product_is_at_least to_x = rw (*ℤ_comm y x) (product_by_part_is_at_least x y fits from to to_x)
 
--- a part that was widened from 2.14
-module _ (x t : ℤ) (fits : SFits w32 x) (from : pos 0 ≤ℤ t) (to : t ≤ℤ pos 16384) where
-  pub product_by_widened_is_not_negative : pos 0 ≤ℤ x → pos 0 ≤ℤ wrap 32 (near (x *ℤ (t *ℤ pos 4)) 65536)
-  product_by_widened_is_not_negative from_x = product_by_part_is_not_negative x (t *ℤ pos 4) fits
-      (omega (arith, ints, from)) (omega (arith, ints, to)) from_x
+-- a number from 0 to 1 that was widened from 2.14 is one in 16.16
+pub widened_is_not_negative : (t : ℤ) → pos 0 ≤ℤ t → pos 0 ≤ℤ (t *ℤ pos 4)
+widened_is_not_negative t from = omega (arith, ints, from)
 
-  pub product_by_widened_is_at_most : pos 0 ≤ℤ x → wrap 32 (near (x *ℤ (t *ℤ pos 4)) 65536) ≤ℤ x
-  product_by_widened_is_at_most from_x = product_by_part_is_at_most x (t *ℤ pos 4) fits
-      (omega (arith, ints, from)) (omega (arith, ints, to)) from_x
-
-  pub product_by_widened_is_not_positive : x ≤ℤ pos 0 → wrap 32 (near (x *ℤ (t *ℤ pos 4)) 65536) ≤ℤ pos 0
-  product_by_widened_is_not_positive to_x = product_by_part_is_not_positive x (t *ℤ pos 4) fits
-      (omega (arith, ints, from)) (omega (arith, ints, to)) to_x
-
-  pub product_by_widened_is_at_least : x ≤ℤ pos 0 → x ≤ℤ wrap 32 (near (x *ℤ (t *ℤ pos 4)) 65536)
-  product_by_widened_is_at_least to_x = product_by_part_is_at_least x (t *ℤ pos 4) fits
-      (omega (arith, ints, from)) (omega (arith, ints, to)) to_x
-
--- two parts that were widened from 2.14
-module _ (a b : ℤ) (from_a : pos 0 ≤ℤ a) (to_a : a ≤ℤ pos 16384) (from : pos 0 ≤ℤ b) (to : b ≤ℤ pos 16384) where
-  pub product_of_widened_is_not_negative : pos 0 ≤ℤ wrap 32 (near ((a *ℤ pos 4) *ℤ (b *ℤ pos 4)) 65536)
-  product_of_widened_is_not_negative = product_by_part_is_not_negative (a *ℤ pos 4) (b *ℤ pos 4)
-      (omega (arith, ints, from_a, to_a)) (omega (arith, ints, from)) (omega (arith, ints, to))
-      (omega (arith, ints, from_a))
-
-  pub product_of_widened_is_at_most_one : wrap 32 (near ((a *ℤ pos 4) *ℤ (b *ℤ pos 4)) 65536) ≤ℤ pos 65536
-  product_of_widened_is_at_most_one = product_of_parts_is_at_most_one (a *ℤ pos 4) (b *ℤ pos 4)
-      (omega (arith, ints, from_a, to_a)) (omega (arith, ints, from)) (omega (arith, ints, to))
-      (omega (arith, ints, from_a)) (omega (arith, ints, to_a))
+pub widened_is_at_most_one : (t : ℤ) → t ≤ℤ pos 16384 → (t *ℤ pos 4) ≤ℤ pos 65536
+widened_is_at_most_one t to = omega (arith, ints, to)
 
 -- `mul_div` of a number that is not positive, by a part and its whole
 falling_share : (x a c r : ℤ) → IsMulDiv 32 x a c r → SFits w32 x → x ≤ℤ pos 0 → pos 0 ≤ℤ a → a ≤ℤ c → c ≢ pos 0
@@ -159,13 +136,9 @@ pub ruleset part_calls = (
   part_by_product_is_at_most,
   part_by_product_is_not_positive,
   part_by_product_is_at_least,
-  product_by_widened_is_not_negative,
-  product_by_widened_is_at_most,
-  product_by_widened_is_not_positive,
-  product_by_widened_is_at_least,
   product_of_parts_is_at_most_one,
-  product_of_widened_is_not_negative,
-  product_of_widened_is_at_most_one,
+  widened_is_not_negative,
+  widened_is_at_most_one,
 )
 
 -- ---- a product of an integer, as of font units, and a number: it is exact, and fits for 16 bits and a part
@@ -207,16 +180,6 @@ module _ (a y : ℤ) (fits : SFits w16 a) (from : pos 0 ≤ℤ y) (to : y ≤ℤ
   pub part_by_units_is_exact : wrap 32 (near (y *ℤ (a *ℤ pos 65536)) 65536) ≡ (a *ℤ y)
   part_by_units_is_exact = rw (*ℤ_comm y (a *ℤ pos 65536)) units_by_part_is_exact
 
--- the same by a part that was widened from 2.14
-module _ (a t : ℤ) (fits : SFits w16 a) (from : pos 0 ≤ℤ t) (to : t ≤ℤ pos 16384) where
-  pub units_by_widened_is_exact : wrap 32 (near ((a *ℤ pos 65536) *ℤ (t *ℤ pos 4)) 65536) ≡ (a *ℤ (t *ℤ pos 4))
-  units_by_widened_is_exact =
-      units_by_part_is_exact a (t *ℤ pos 4) fits (omega (arith, ints, from)) (omega (arith, ints, to))
-
-  pub widened_by_units_is_exact : wrap 32 (near ((t *ℤ pos 4) *ℤ (a *ℤ pos 65536)) 65536) ≡ (a *ℤ (t *ℤ pos 4))
-  widened_by_units_is_exact =
-      part_by_units_is_exact a (t *ℤ pos 4) fits (omega (arith, ints, from)) (omega (arith, ints, to))
-
 pub ruleset unit_calls = (
   units_by_number,
   number_by_units,
@@ -224,8 +187,6 @@ pub ruleset unit_calls = (
   units_by_part_is_at_least,
   units_by_part_is_exact,
   part_by_units_is_exact,
-  units_by_widened_is_exact,
-  widened_by_units_is_exact,
 )
 
 -- ---- `a + (b - a) * t`, for a part t: it lies between a and b if their difference fits
@@ -290,27 +251,6 @@ module _ (a b t : ℤ) (fits_a : SFits w32 a) (fits_b : SFits w32 b) (fits : Fit
   pub part_between_from_high : b ≤ℤ a → wrap 32 (a +ℤ wrap 32 (near (t *ℤ wrap 32 (b -ℤ a)) 65536)) ≤ℤ a
   part_between_from_high order = rw flipped (between_from_high order)
 
--- a part that was widened from 2.14
-module _ (a b t : ℤ) (fits_a : SFits w32 a) (fits_b : SFits w32 b) (fits : FitsBits 32 (b -ℤ a))
-    (from : pos 0 ≤ℤ t) (to : t ≤ℤ pos 16384) where
-  not_negative_4 : pos 0 ≤ℤ (t *ℤ pos 4)
-  not_negative_4 = omega (arith, ints, from)
-
-  at_most_4 : (t *ℤ pos 4) ≤ℤ pos 65536
-  at_most_4 = omega (arith, ints, to)
-
-  pub widened_from_low : a ≤ℤ b → a ≤ℤ wrap 32 (a +ℤ wrap 32 (near (wrap 32 (b -ℤ a) *ℤ (t *ℤ pos 4)) 65536))
-  widened_from_low = between_from_low a b (t *ℤ pos 4) fits_a fits_b fits not_negative_4 at_most_4
-
-  pub widened_to_high : a ≤ℤ b → wrap 32 (a +ℤ wrap 32 (near (wrap 32 (b -ℤ a) *ℤ (t *ℤ pos 4)) 65536)) ≤ℤ b
-  widened_to_high = between_to_high a b (t *ℤ pos 4) fits_a fits_b fits not_negative_4 at_most_4
-
-  pub widened_to_low : b ≤ℤ a → b ≤ℤ wrap 32 (a +ℤ wrap 32 (near (wrap 32 (b -ℤ a) *ℤ (t *ℤ pos 4)) 65536))
-  widened_to_low = between_to_low a b (t *ℤ pos 4) fits_a fits_b fits not_negative_4 at_most_4
-
-  pub widened_from_high : b ≤ℤ a → wrap 32 (a +ℤ wrap 32 (near (wrap 32 (b -ℤ a) *ℤ (t *ℤ pos 4)) 65536)) ≤ℤ a
-  widened_from_high = between_from_high a b (t *ℤ pos 4) fits_a fits_b fits not_negative_4 at_most_4
-
 pub ruleset between_calls = (
   between_from_low,
   between_to_high,
@@ -320,10 +260,6 @@ pub ruleset between_calls = (
   part_between_to_high,
   part_between_to_low,
   part_between_from_high,
-  widened_from_low,
-  widened_to_high,
-  widened_to_low,
-  widened_from_high,
 )
 
 -- ---- a 2.14 factor that was widened: the product is rounded as by the factor itself

@@ -62,8 +62,6 @@ pub running_26dot6 : IsRunning 32 f26dot6_bits
 running_26dot6 xs i d within = running_total 32 f26dot6_bits xs i d (lit< tt) within
 
 pub ruleset sum_calls = (
-  fixed_calls,
-  fits_64,
   running_sum,
   running_delta_sum,
   running_x,
@@ -167,8 +165,7 @@ pub sum_ends : (xs : List (Fixed × ℤ)) (i : ℕ) (sum : ℤ) → length xs �
     → wrap 64 sum ≡ wrap 64 (exact_sum xs)
 sum_ends xs i sum all so_far = ap (wrap 64) so_far ∙ cut_to_64 _ ∙ ap (λ ys. wrap 64 (exact_sum ys)) (take_all i xs all)
 
-pub ruleset delta_sum_calls = (
-  fixed_calls,
+pub ruleset delta_rules = (
   added_128,
   fits_128,
   cut_to_64,
@@ -177,6 +174,8 @@ pub ruleset delta_sum_calls = (
   sum_goes_on,
   sum_ends,
 )
+
+pub ruleset delta_sum_calls = (fixed_calls, delta_rules)
 
 pub ruleset sum_calls_16 = (wrapping_add-wrap, bytes_moved, running_words, none_16, running_16, sum_onto_16)
 
