@@ -1,11 +1,11 @@
 //! A hinter: the extents of outlines, positions between two others, a setting, and names.
 
-ghost use Rattle.std.specs.Prelude.{◌≡◌, ◌≢◌, ◌↔◌, ◌<◌, ◌++◌, neg_ℤ, pos, ◌+ℤ◌, ◌-ℤ◌, ◌*ℤ◌};
-ghost use Rattle.std.specs.Prelude.{◌≤ℤ◌, ◌<ℤ◌, ◌≤◌, ◌^◌, unsigned_abs, ℕ, List, length, Some};
-ghost use Rattle.std.specs.Prelude.{IsTrue, IsSome, IfSome, IfNone};
-ghost use lib.Chars.{codes};
+ghost use Rattle.std.specs.Prelude.{◌≡◌, ◌≢◌, ◌↔◌, ◌<◌, neg_ℤ, pos, ◌+ℤ◌, ◌-ℤ◌, ◌*ℤ◌};
+ghost use Rattle.std.specs.Prelude.{◌≤ℤ◌, ◌<ℤ◌, ◌≤◌, ◌^◌, unsigned_abs, length, All, IsTrue};
+ghost use Rattle.std.specs.Prelude.{int_lt};
+ghost use Rattle.std.specs.List.{find};
 ghost use Rattle.font_types.specs.Fixed;
-ghost use Rattle.font_types.specs.Fixed.{Fixed, fixed_bits};
+ghost use Rattle.font_types.specs.Fixed.{fixed_bits};
 ghost use Rattle.font_types.specs.F26Dot6.{f26dot6_bits};
 ghost use Rattle.font_types.specs.F2Dot14;
 ghost use Rattle.font_types.specs.F2Dot14.{f2dot14_bits};
@@ -13,26 +13,22 @@ ghost use Rattle.font_types.specs.FWord.{fword_number};
 ghost use Rattle.font_types.specs.NameId.{name_number};
 ghost use Rattle.font_types.specs.Near.{near, up};
 ghost use Rattle.font_types.specs.FixedMatrix.{wrapped_sum, wrapped_product};
-ghost use Rattle.font_types.specs.Operations.{IsIntegral, IsMulDiv, ReadsBits};
+ghost use Rattle.font_types.specs.Operations.{IsIntegral, IsMulDiv};
 ghost use Rattle.font_types.specs.Wrap.{FitsBits, wrap};
-ghost use Rattle.callers.specs.Hinting.{IsLeast, IsGreatest};
+ghost use Rattle.callers.specs.Hinting.{IsLeast, IsGreatest, ParsesScale};
 
-use font_types::{BoundingBox, F2Dot14, F26Dot6, FWord, Fixed, NameId};
+use font_types::{BoundingBox, DecimalFault, F2Dot14, F26Dot6, FWord, Fixed, NameId};
 
 // ---- extents
 
 /// Returns the smallest coordinate.
 ///
-/// Its clause has the bound, and that there is an index `k` where the bound is; so has its loop.
+/// Its clause has the bound, and that there is an index `k` where the bound is.
 pub fn least(coordinates: &[Fixed]) -> Fixed
     requires { 0 < length coordinates.now }
     ensures { IsLeast coordinates.now result }
 {
-    let mut least = coordinates[0];
-    for x in coordinates {
-        least = least.min(*x);
-    }
-    least
+    coordinates.iter().copied().min().unwrap()
 }
 
 /// Returns the largest coordinate.
@@ -40,11 +36,7 @@ pub fn greatest(coordinates: &[Fixed]) -> Fixed
     requires { 0 < length coordinates.now }
     ensures { IsGreatest coordinates.now result }
 {
-    let mut greatest = coordinates[0];
-    for x in coordinates {
-        greatest = greatest.max(*x);
-    }
-    greatest
+    coordinates.iter().copied().max().unwrap()
 }
 
 /// Returns the box of an outline, by the coordinates of its points.
@@ -64,6 +56,22 @@ pub fn bounds(xs: &[Fixed], ys: &[Fixed]) -> BoundingBox<Fixed>
         x_max: greatest(xs),
         y_max: greatest(ys),
     }
+}
+
+/// Returns the first zone of a list that is above a coordinate.
+///
+/// A chain of std's iterators is stated by the functions of lists that have its names.
+pub fn zone_above(zones: &[Fixed], y: Fixed) -> Option<Fixed>
+    ensures { result ≡ find (λ zone. int_lt (fixed_bits y) (fixed_bits zone)) zones.now }
+{
+    zones.iter().copied().find(|zone| *zone > y)
+}
+
+/// Returns whether every coordinate is at most a limit.
+pub fn are_within(coordinates: &[Fixed], limit: Fixed) -> bool
+    ensures { IsTrue result ↔ All (λ x. fixed_bits x ≤ℤ fixed_bits limit) coordinates.now }
+{
+    coordinates.iter().all(|x| *x <= limit)
 }
 
 // ---- the grid
@@ -103,25 +111,16 @@ pub fn nearest_pixel(y: F26Dot6) -> i32
 }
 
 /// Returns the height of a zone below a coordinate: 0 under the zone, and all of it above.
-///
-/// Each difference has a precondition of its own: the checker does not find it from the height.
 pub fn depth(y: F26Dot6, bottom: F26Dot6, top: F26Dot6) -> F26Dot6
     requires order { f26dot6_bits bottom ≤ℤ f26dot6_bits top }
     requires height { FitsBits 32 (f26dot6_bits top -ℤ f26dot6_bits bottom) }
-    requires depth { FitsBits 32 (f26dot6_bits y -ℤ f26dot6_bits bottom) }
-    ensures below { f26dot6_bits y <ℤ f26dot6_bits bottom → f26dot6_bits result ≡ pos 0 }
+    ensures below { f26dot6_bits y ≤ℤ f26dot6_bits bottom → f26dot6_bits result ≡ pos 0 }
     ensures inside { f26dot6_bits bottom ≤ℤ f26dot6_bits y → f26dot6_bits y ≤ℤ f26dot6_bits top
         → f26dot6_bits result ≡ (f26dot6_bits y -ℤ f26dot6_bits bottom) }
     ensures above { f26dot6_bits top <ℤ f26dot6_bits y
         → f26dot6_bits result ≡ (f26dot6_bits top -ℤ f26dot6_bits bottom) }
 {
-    if y < bottom {
-        F26Dot6::ZERO
-    } else if y > top {
-        top - bottom
-    } else {
-        y - bottom
-    }
+    y.clamp(bottom, top) - bottom
 }
 
 // Returns a sum of coordinates that fits.
@@ -208,6 +207,28 @@ pub fn scaled_width(width: FWord, scale: Fixed) -> F26Dot6
     (width.to_fixed() * scale).to_f26dot6()
 }
 
+/// Returns a coordinate less a distance in font units, which is scaled as `scaled_width` does.
+///
+/// In one body, the product, the narrowing and the difference need fewer rules than `calls` has.
+#[tactic(auto, using(font_types::proofs::Callers::bounds, font_types::proofs::Callers::narrowings))]
+pub fn lowered(y: F26Dot6, distance: FWord, scale: Fixed) -> F26Dot6
+    requires { (pos 0 ≤ℤ fixed_bits scale) × (fixed_bits scale ≤ℤ fixed_bits Fixed.ONE) }
+    ensures { f26dot6_bits result ≡ wrap 32 (f26dot6_bits y
+        -ℤ up (fword_number distance *ℤ fixed_bits scale) 1024) }
+{
+    y - (distance.to_fixed() * scale).to_f26dot6()
+}
+
+/// Returns the sum of three coordinates, each times its weight.
+pub fn weighted_sum(a: Fixed, u: Fixed, b: Fixed, v: Fixed, c: Fixed, w: Fixed) -> Fixed
+    ensures { fixed_bits result ≡ wrapped_sum (wrapped_sum
+        (wrapped_product (fixed_bits a) (fixed_bits u))
+        (wrapped_product (fixed_bits b) (fixed_bits v)))
+        (wrapped_product (fixed_bits c) (fixed_bits w)) }
+{
+    a * u + b * v + c * w
+}
+
 // Returns a part of a distance of either sign, from 0 to the whole.
 fn part_of(distance: Fixed, part: Fixed, whole: Fixed) -> Fixed
     requires part { (pos 0 ≤ℤ fixed_bits part) × (fixed_bits part ≤ℤ fixed_bits whole) }
@@ -287,39 +308,21 @@ pub fn interpolate_point(y: Fixed, low: Edge, high: Edge) -> Fixed
 
 // ---- settings
 
-// Returns the text after `scale=`.
-fn after_scale(text: &str) -> Option<&str>
-    ensures rest { IfSome result (λ rest. text.now ≡ codes "scale=" ++ rest.now) }
-    ensures some { (rest : List ℕ) → text.now ≡ codes "scale=" ++ rest → IsSome result }
-    ensures back { (rest : List ℕ) → text.now ≡ codes "scale=" ++ rest
-        → IfSome result (λ found. found.now ≡ rest) }
-{
-    text.strip_prefix("scale=")
-}
-
-// Parses the number of a text.
-//
-// The answer of the clause `back` takes the second way of the `↔` of `from_decimal`.
-fn number_of(text: &str) -> Option<Fixed>
-    ensures read { IfSome result (λ x. ReadsBits 32 16 text.now (fixed_bits x)) }
-    ensures back { (x : Fixed) → FitsBits 32 (fixed_bits x)
-        → ReadsBits 32 16 text.now (fixed_bits x) → result ≡ Some x }
-    ensures none { IfNone result ((x : Fixed) → FitsBits 32 (fixed_bits x)
-        → ¬ ReadsBits 32 16 text.now (fixed_bits x)) }
-{
-    Fixed::from_decimal(text).ok()
+/// Why a text is not a scale.
+#[derive(Clone, PartialEq, Debug, Drop)]
+pub enum ScaleError {
+    /// It does not begin with `scale=`.
+    Prefix,
+    /// What comes after that is not a decimal number in range.
+    Number(DecimalFault),
 }
 
 /// Reads a setting such as `scale=1.5`.
-///
-/// One function cuts the prefix, and another parses the rest.
-pub fn read_scale(text: &str) -> Option<Fixed>
-    ensures read { IfSome result (λ x. (rest : List ℕ) × (text.now ≡ codes "scale=" ++ rest)
-        × ReadsBits 32 16 rest (fixed_bits x)) }
-    ensures back { (rest : List ℕ) (x : Fixed) → text.now ≡ codes "scale=" ++ rest
-        → FitsBits 32 (fixed_bits x) → ReadsBits 32 16 rest (fixed_bits x) → result ≡ Some x }
+pub fn read_scale(text: &str) -> Result<Fixed, ScaleError>
+    ensures { ParsesScale text.now result }
 {
-    number_of(after_scale(text)?)
+    let number = text.strip_prefix("scale=").ok_or(ScaleError::Prefix)?;
+    Fixed::from_decimal(number).map_err(ScaleError::Number)
 }
 
 // ---- `name`

@@ -1,7 +1,7 @@
 //! Packed deltas, run by run, and the terms that they give.
 
-ghost use Rattle.std.specs.Prelude.{◌≡◌, ◌↔◌, ◌<◌, ◌≤◌, ◌+◌, ◌*◌, ℕ, [], pos};
-ghost use Rattle.std.specs.Prelude.{IsSome, IfSome, IfOk};
+ghost use Rattle.std.specs.Prelude.{◌≡◌, ◌↔◌, ◌<◌, ◌≤◌, ◌+◌, ◌-◌, ◌*◌, ◌/◌, ◌%◌, ◌^◌, ◌-ℤ◌};
+ghost use Rattle.std.specs.Prelude.{ℕ, [], pos, IsSome, IfSome, IfOk};
 ghost use Rattle.std.specs.Prelude.{length, drop, slice_index, slice_index_or, vec_len};
 ghost use Rattle.callers.specs.Packed.{run_count, run_width, run_delta, run_bytes, region_term};
 ghost use Rattle.callers.specs.Packed.{term_value};
@@ -37,6 +37,26 @@ pub fn delta_width(control: u8) -> usize
     } else {
         1
     }
+}
+
+/// Returns one of the four 4-bit numbers in a word, the first from the highest bits.
+pub fn nibble(word: u16, index: u32) -> u16
+    requires { index < 4 }
+    ensures { result ≡ word / 2 ^ (12 - 4 * index) % 16 }
+{
+    (word >> (12 - 4 * index)) & 0xF
+}
+
+/// Returns one of the four signed 4-bit deltas in a word of a `Device` table.
+pub fn device_delta(word: u16, index: u32) -> i16
+    requires { index < 4 }
+    ensures not_negative { word / 2 ^ (12 - 4 * index) % 16 < 8
+        → result ≡ pos (word / 2 ^ (12 - 4 * index) % 16) }
+    ensures negative { 8 ≤ word / 2 ^ (12 - 4 * index) % 16
+        → result ≡ (pos (word / 2 ^ (12 - 4 * index) % 16) -ℤ pos 16) }
+{
+    let delta = nibble(word, index).cast_signed();
+    if delta < 8 { delta } else { delta - 16 }
 }
 
 // Returns the delta at an index of a run.

@@ -7,6 +7,7 @@ ghost use Rattle.std.specs.Prelude.{length, take, drop, vec_len, All};
 ghost use Rattle.std.specs.List.{HoldsAt};
 ghost use Rattle.std.specs.List.Sorted.{IsSortedByKey};
 ghost use Rattle.std.specs.Ordering.{nat_cmp};
+ghost use Rattle.std.specs.Int.{int_div_euclid};
 ghost use Rattle.std.specs.Int.Bits.{bit_and};
 ghost use Rattle.std.proofs.Common.{lit<};
 ghost use Rattle.font_types.specs.Bytes.{numeral, signed_numeral, bytes_of};
@@ -19,6 +20,7 @@ ghost use Rattle.font_types.specs.BigEndian.{raw_value};
 ghost use Rattle.font_types.specs.Wrap.{fits_bits};
 ghost use Rattle.font_types.specs.FWord.{fword_number, fword_of, ufword_number, ufword_of};
 ghost use Rattle.font_types.specs.GlyphId.{glyph16_number};
+ghost use Rattle.font_types.specs.LongDateTime.{date_seconds};
 ghost use Rattle.font_types.specs.Offset.{offset32_number};
 ghost use Rattle.font_types.specs.Uint24.{uint24_number};
 ghost use Rattle.callers.specs.Reader.{advance_offset, IsVertOrigin};
@@ -40,6 +42,18 @@ pub fn read_selector(bytes: &[u8]) -> Option<(Uint24, Offset32)>
         offset32_number found.1 ≡ numeral (take 4 (drop 3 bytes.now))) }
 {
     Some((Uint24::read_at(bytes, 0)?, Offset32::read_at(bytes, 3)?))
+}
+
+/// Returns the bytes of a table, by the offset and the length of its record, or `None` if the font
+/// ends before them.
+pub fn table_bytes(font: &[u8], offset: u32, len: u32) -> Option<&[u8]>
+    ensures { MatchOption result (length font.now < offset + len)
+        (λ table. (offset + len ≤ length font.now)
+        × (table.now ≡ take len (drop offset font.now))) }
+{
+    let start = usize::try_from(offset).ok()?;
+    let end = start.checked_add(usize::try_from(len).ok()?)?;
+    font.get(start..end)
 }
 
 // ---- `head`
@@ -112,6 +126,13 @@ pub fn units_per_em(head: &[u8]) -> Option<u16>
 {
     let head = TableDataRef::<Head>::new(head)?;
     Some(head.header().units_per_em.get())
+}
+
+/// Returns the day of a date, counted from 1 January 1904.
+pub fn day_of(date: LongDateTime) -> i64
+    ensures { result ≡ int_div_euclid (date_seconds date) (pos 86400) }
+{
+    date.as_secs().div_euclid(86_400)
 }
 
 /// Returns whether the bit of `head.flags` for left side bearings at x = 0 is set.

@@ -70,6 +70,33 @@ fn product(a: i16, b: i16) -> i64
     i64::from(a) * i64::from(b)
 }
 
+// Returns the difference of two coordinates, with its bounds.
+fn step(from: i16, to: i16) -> i32
+    ensures value { result ≡ (to -ℤ from) }
+    ensures low { neg_ℤ (pos 65535) ≤ℤ result }
+    ensures high { result ≤ℤ pos 65535 }
+{
+    i32::from(to) - i32::from(from)
+}
+
+// Returns the difference of two steps.
+fn change(first: i32, second: i32) -> i32
+    requires first { (neg_ℤ (pos 65535) ≤ℤ first) × (first ≤ℤ pos 65535) }
+    requires second { (neg_ℤ (pos 65535) ≤ℤ second) × (second ≤ℤ pos 65535) }
+    ensures { result ≡ (second -ℤ first) }
+{
+    second - first
+}
+
+/// Returns how much the step from the second coordinate to the third differs from the first step.
+///
+/// Each difference is a function with the bounds of its result: as one expression it stays open.
+pub fn bend(first: i16, second: i16, third: i16) -> i32
+    ensures { result ≡ ((third -ℤ second) -ℤ (second -ℤ first)) }
+{
+    change(step(first, second), step(second, third))
+}
+
 // ---- matrices
 
 /// Transforms points.

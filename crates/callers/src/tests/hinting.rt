@@ -1,11 +1,11 @@
 //! A hinter.
 
 use crate::hinting::{
-    Edge, NameRecord, between, blend, bounds, depth, far_edge, interpolate, interpolate_point,
-    is_windows_name, line_above, nearest_pixel, opposite, read_scale, scaled_units, scaled_width,
-    small_product,
+    Edge, NameRecord, ScaleError, are_within, between, blend, bounds, depth, far_edge, interpolate,
+    interpolate_point, is_windows_name, line_above, lowered, nearest_pixel, opposite, read_scale,
+    scaled_units, scaled_width, small_product, weighted_sum, zone_above,
 };
-use font_types::{BoundingBox, F2Dot14, F26Dot6, FWord, Fixed, NameId};
+use font_types::{BoundingBox, DecimalFault, F2Dot14, F26Dot6, FWord, Fixed, NameId};
 
 #[test]
 fn extents(rt: HostRuntime) {
@@ -26,6 +26,24 @@ fn extents(rt: HostRuntime) {
                 y_max: one
             }
     );
+}
+
+#[test]
+fn zones(rt: HostRuntime) {
+    let zones = [500, -20, 700, 600].map(Fixed::from_i32);
+    for &(y, zone) in &[
+        (-21, Some(500)),
+        (499, Some(500)),
+        (500, Some(700)),
+        (699, Some(700)),
+        (700, None),
+    ] {
+        let found = zone_above(&zones, Fixed::from_i32(y));
+        assert!(rt; found == zone.map(Fixed::from_i32), "{y}");
+    }
+    let above = Fixed::from_bits(0x2BB_FFFF);
+    assert!(rt; are_within(&zones, zones[2]) && !are_within(&zones, above));
+    assert!(rt; zone_above(&[], above).is_none() && are_within(&[], Fixed::MIN));
 }
 
 #[test]
@@ -159,20 +177,38 @@ fn products(rt: HostRuntime) {
     ] {
         let found = scaled_width(FWord::new(units), Fixed::from_bits(scale));
         assert!(rt; found == F26Dot6::from_bits(width), "{units}");
+        let below = lowered(F26Dot6::ONE, FWord::new(units), Fixed::from_bits(scale));
+        assert!(rt; below == F26Dot6::from_bits(64 - width), "{units}");
+    }
+}
+
+// The first product is 1.5 steps, which are rounded before they are added; the last sum wraps.
+#[test]
+fn weighted_sums(rt: HostRuntime) {
+    let one = 0x1_0000;
+    for &(xs, weights, sum) in &[
+        ([3, 3, 0], [0x8000, 0x8000, 0], 4),
+        ([10, 20, 30], [one, -one, 2 * one], 50),
+        ([i32::MAX, 0, 1], [one, one, one], i32::MIN),
+    ] {
+        let ([a, b, c], [u, v, w]) = (xs.map(Fixed::from_bits), weights.map(Fixed::from_bits));
+        let found = weighted_sum(a, u, b, v, c, w);
+        assert!(rt; found == Fixed::from_bits(sum), "{sum}");
     }
 }
 
 #[test]
 fn settings(rt: HostRuntime) {
-    for &(text, bits) in &[
-        ("scale=1.5", Some(0x1_8000)),
-        ("scale=-0.25", Some(-0x4000)),
-        ("scale=", None),
-        ("scale=40000", None),
-        ("size=1.5", None),
-        ("scale", None),
+    for &(text, bits) in &[("scale=1.5", 0x1_8000), ("scale=-0.25", -0x4000)] {
+        assert!(rt; read_scale(text) == Ok(Fixed::from_bits(bits)), "{text}");
+    }
+    for (text, error) in [
+        ("scale=", ScaleError::Number(DecimalFault::Syntax)),
+        ("scale=40000", ScaleError::Number(DecimalFault::OutOfRange)),
+        ("size=1.5", ScaleError::Prefix),
+        ("scale", ScaleError::Prefix),
     ] {
-        assert!(rt; read_scale(text) == bits.map(Fixed::from_bits), "{text}");
+        assert!(rt; read_scale(text) == Err(error), "{text}");
     }
 }
 

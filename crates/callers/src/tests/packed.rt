@@ -1,6 +1,8 @@
 //! Packed deltas, and terms.
 
-use crate::packed::{delta_width, deltas_in_run, read_run, region_terms, scaled_sum};
+use crate::packed::{
+    delta_width, deltas_in_run, device_delta, nibble, read_run, region_terms, scaled_sum,
+};
 use font_types::{F48Dot16, Fixed};
 use std::test::Fail;
 
@@ -24,6 +26,15 @@ fn control_bytes(rt: HostRuntime) {
             deltas_in_run(control) == count && delta_width(control) == width,
             "{control}"
         );
+    }
+}
+
+// The number in each place of the word, unsigned and signed.
+#[test]
+fn nibbles(rt: HostRuntime) {
+    for &(index, unsigned, signed) in &[(0, 7, 7), (1, 8, -8), (2, 15, -1), (3, 0, 0)] {
+        assert!(rt; nibble(0x78F0, index) == unsigned, "{index}");
+        assert!(rt; device_delta(0x78F0, index) == signed, "{index}");
     }
 }
 

@@ -2,9 +2,9 @@
 
 use crate::evaluator::read_axis;
 use crate::reader::{
-    Head, Ppem, VertOriginYMetrics, advance_width, coverage_index, has_bearings_at_zero, metric,
-    origin_index, read_selector, segment_of, selector_index, units_per_em, vert_origin_y,
-    write_word,
+    Head, Ppem, VertOriginYMetrics, advance_width, coverage_index, day_of, has_bearings_at_zero,
+    metric, origin_index, read_selector, segment_of, selector_index, table_bytes, units_per_em,
+    vert_origin_y, write_word,
 };
 use font_types::{
     BigEndian, FWord, Fixed, GlyphId16, LongDateTime, NameId, Scalar, ScalarArray, TableDataRef,
@@ -26,6 +26,21 @@ fn axis_records(rt: HostRuntime) -> Result<(), Fail> {
     Ok(())
 }
 
+#[test]
+fn tables_of_a_font(rt: HostRuntime) {
+    let font = [1, 2, 3, 4];
+    for &(offset, len, table) in &[
+        (0, 4, Some(&font[..])),
+        (1, 2, Some(&[2, 3])),
+        (4, 0, Some(&[])),
+        (3, 2, None),
+        (5, 0, None),
+        (u32::MAX, u32::MAX, None),
+    ] {
+        assert!(rt; table_bytes(&font, offset, len) == table, "{offset} {len}");
+    }
+}
+
 // `head` of a font made on 9 September 2001 and modified on 29 February 2024, and a byte more.
 const HEAD: [u8; 55] = [
     0x00, 0x01, 0x00, 0x02, 0x00, 0x01, 0x80, 0x00, 0xB1, 0xB0, 0xAF, 0xBA, 0x5F, 0x0F, 0x3C, 0xF5,
@@ -45,6 +60,19 @@ fn first_fields_of_head(rt: HostRuntime) -> Result<(), Fail> {
     assert!(rt; head.magic_number.get() == 1594834165 && head.flags.get() == 11);
     assert!(rt; table.rest() == [7].as_slice());
     Ok(())
+}
+
+#[test]
+fn days(rt: HostRuntime) {
+    for &(seconds, day) in &[
+        (-1, -1),
+        (0, 0),
+        (86_399, 0),
+        (86_400, 1),
+        (3_792_052_800, 43_889),
+    ] {
+        assert!(rt; day_of(LongDateTime::new(seconds)) == day, "{seconds}");
+    }
 }
 
 #[test]

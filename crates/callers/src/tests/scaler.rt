@@ -1,7 +1,7 @@
 //! A scaler of outlines.
 
 use crate::scaler::{
-    Component, PlacedGlyph, checked_width, cross_product, in_turn, last_point, line_width,
+    Component, PlacedGlyph, bend, checked_width, cross_product, in_turn, last_point, line_width,
     round_to_grid, scale_component, scale_in_turn, shift_all, slant, transform,
 };
 use font_types::{F26Dot6, Fixed, Matrix, Point};
@@ -25,6 +25,13 @@ fn points_of_contours(rt: HostRuntime) {
     ] {
         let found = cross_product(Point::new(a.0, a.1), Point::new(b.0, b.1));
         assert!(rt; found == product, "{product}");
+    }
+    for &(xs, found) in &[
+        ([1, 3, 6], 1),
+        ([i16::MIN, i16::MAX, i16::MIN], -131_070),
+        ([i16::MAX, i16::MIN, i16::MAX], 131_070),
+    ] {
+        assert!(rt; bend(xs[0], xs[1], xs[2]) == found, "{found}");
     }
 }
 
