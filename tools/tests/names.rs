@@ -165,7 +165,9 @@ fn calling_names_what_callers_use() {
         .map(|path| text(path))
         .collect();
     let (mut used, proofs) = (words(&used), text("crates/font_types/proofs/Callers.antt"));
-    let calls = proofs.lines().find(|line| line.starts_with("pub ruleset calls"));
+    let calls = proofs
+        .lines()
+        .find(|line| line.starts_with("pub ruleset calls"));
     used.extend(words(calls.unwrap_or_default()));
     let passed_on = passed_on(&proofs);
     assert!(passed_on.len() > 40 && passed_on.contains("calls"));
