@@ -1,27 +1,20 @@
 //! Arithmetic of each fixed-point type at its limits, against `i128`; products, quotients and
 //! conversions; sums of deltas.
 
+mod exact;
+
+use exact::{fits, near, up, wrap};
 use font_types_proved::laws::step_and_halves;
 use font_types_proved::*;
 use std::fmt::Debug;
 use std::ops::{Div, DivAssign, Mul, MulAssign};
 
-/// Returns the integer nearest to `n / d`, half away from zero.
-fn nearest(n: i128, d: i128) -> i128 {
-    (2 * n.abs() + d.abs()) / (2 * d.abs()) * n.signum() * d.signum()
-}
-
-/// Returns the signed integer of a width that is `n` modulo 2^width.
-fn wrapped(n: i128, width: u32) -> i128 {
-    n << (128 - width) >> (128 - width)
-}
-
 /// Returns the integers of a width that are next to zero, to a limit or to a power of two. Ties of
 /// rounding are among them.
 fn integers(width: u32) -> impl Iterator<Item = i128> {
-    let near = |power: u32| [-1, 0, 1].map(|near| (1i128 << power) + near);
-    let integers = (0..width).flat_map(near).flat_map(|n| [n, -n]);
-    integers.filter(move |n| wrapped(*n, width) == *n)
+    let beside = |power: u32| [-1, 0, 1].map(|more| (1i128 << power) + more);
+    let integers = (0..width).flat_map(beside).flat_map(|n| [n, -n]);
+    integers.filter(move |n| fits(width, *n))
 }
 
 macro_rules! fixed_point_types {
@@ -80,7 +73,7 @@ fn mul_div(x: i32, a: i32, c: i32) -> i32 {
     match c {
         0 if is_negative => -i32::MAX,
         0 => i32::MAX,
-        _ => nearest(x * a, c) as i32,
+        _ => near(x * a, c) as i32,
     }
 }
 
@@ -95,7 +88,7 @@ fn checked_mul_div(x: i32, a: i32, c: i32) -> Option<i32> {
     if c == 0 {
         None
     } else {
-        fitting(nearest(x * a, c))
+        fitting(near(x * a, c))
     }
 }
 
@@ -114,7 +107,7 @@ where
 {
     for x in factors() {
         for y in factors() {
-            let exact = nearest(i128::from(x) * i128::from(y), 1 << f) as i32;
+            let exact = near(i128::from(x) * i128::from(y), 1 << f) as i32;
             let right = [exact, mul_div(x, 1 << f, y)].map(of);
             let [mut product, mut quotient] = [of(x); 2];
             product *= of(y);
@@ -168,11 +161,11 @@ fn checked_products_and_quotients() {
         for y in factors() {
             let [a, b] = [x, y].map(Fixed::from_bits);
             let found = [a.checked_mul(b), a.checked_div(b)].map(|n| n.map(Fixed::to_bits));
-            let exact = fitting(nearest(i128::from(x) * i128::from(y), 1 << 16));
+            let exact = fitting(near(i128::from(x) * i128::from(y), 1 << 16));
             assert_eq!(found, [exact, checked_mul_div(x, 1 << 16, y)], "{x}, {y}");
             let [a, b] = [x, y].map(F26Dot6::from_bits);
             let found = [a.checked_mul(b), a.checked_div(b)].map(|n| n.map(F26Dot6::to_bits));
-            let exact = fitting(nearest(i128::from(x) * i128::from(y), 1 << 6));
+            let exact = fitting(near(i128::from(x) * i128::from(y), 1 << 6));
             assert_eq!(found, [exact, checked_mul_div(x, 1 << 6, y)], "{x}, {y}");
         }
     }
@@ -200,22 +193,10 @@ fn mul_div_and_mul_i32() {
     assert_eq!(step_and_halves(), (Fixed::EPSILON, Fixed::ZERO));
 }
 
-/// Returns the integer nearest to `n / d`, half up.
-fn exact_half_up(n: i128, d: i128) -> i128 {
-    (2 * n + d).div_euclid(2 * d)
-}
-
-/// Returns the integer nearest to `n / d`, half up, wrapped to a width.
-fn half_up(n: i128, d: i128, width: u32) -> i128 {
-    wrapped(exact_half_up(n, d), width)
-}
-
 /// Returns `n / 2^f` rounded half up, or `None` if it does not fit in `width` bits.
 fn fitting_of<T: TryFrom<i128>>(n: i128, f: u32, width: u32) -> Option<T> {
-    let number = exact_half_up(n, 1 << f);
-    T::try_from(number)
-        .ok()
-        .filter(|_| wrapped(number, width) == number)
+    let number = up(n, 1 << f);
+    T::try_from(number).ok().filter(|_| fits(width, number))
 }
 
 #[test]
@@ -223,9 +204,9 @@ fn checked_conversions() {
     let narrow = |n: i128| i16::try_from(n).ok().map(F2Dot14::from_bits);
     for n in integers(32) {
         let (x, integer) = (Fixed::from_bits(n as i32), n as i32);
-        assert_eq!(x.checked_to_f2dot14(), narrow(exact_half_up(n, 4)), "{n}");
+        assert_eq!(x.checked_to_f2dot14(), narrow(up(n, 4)), "{n}");
         let long = F2Dot30::from_bits(n as i32);
-        let right = narrow(exact_half_up(n, 1 << 16));
+        let right = narrow(up(n, 1 << 16));
         assert_eq!(long.checked_to_f2dot14(), right, "{n}");
         let found = F2Dot30::checked_from_fixed(x).map(F2Dot30::to_bits);
         assert_eq!(found, fitting(n << 14), "{n}");
@@ -241,11 +222,7 @@ fn checked_conversions() {
     }
     for n in integers(64) {
         let x = F48Dot16::from_bits(n as i64);
-        assert_eq!(
-            x.checked_to_i32(),
-            fitting(exact_half_up(n, 1 << 16)),
-            "{n}"
-        );
+        assert_eq!(x.checked_to_i32(), fitting(up(n, 1 << 16)), "{n}");
         assert_eq!(x.checked_to_fixed().map(Fixed::to_bits), fitting(n), "{n}");
         assert_eq!(x.checked_to_i64(), fitting_of(n, 16, 48), "{n}");
         let found = F48Dot16::checked_from_i64(n as i64).map(F48Dot16::to_bits);
@@ -257,7 +234,7 @@ fn checked_conversions() {
 fn conversions_to_fewer_bits() {
     for n in integers(32) {
         let bits = n as i32;
-        let exact = |d: i128, width: u32| half_up(n, d, width) as i32;
+        let exact = |d: i128, width: u32| wrap(width, up(n, d)) as i32;
         let x = Fixed::from_bits(bits);
         assert_eq!(x.to_i32(), exact(1 << 16, 16), "{bits}");
         assert_eq!(x.to_f26dot6().to_bits(), exact(1 << 10, 22), "{bits}");
@@ -273,7 +250,7 @@ fn conversions_to_fewer_bits() {
     }
     for n in integers(64) {
         let x = F48Dot16::from_bits(n as i64);
-        let integer = half_up(n, 1 << 16, 48) as i64;
+        let integer = wrap(48, up(n, 1 << 16)) as i64;
         assert_eq!((x.to_i64(), x.to_i32()), (integer, integer as i32), "{n}");
         assert_eq!(x.to_fixed().to_bits(), n as i32, "{n}");
     }

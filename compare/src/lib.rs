@@ -1,5 +1,8 @@
 //! Helpers of the tests in `tests/`, which compare `font-types-proved` with `font-types`.
 
+#[path = "../../tests/exact/mod.rs"]
+pub mod exact;
+
 /// Asserts that a call returns the same with both crates, where `k` names the crate:
 /// `assert_same!(bits, |k| k::Fixed::from_bits(bits).round().to_bits())`.
 #[macro_export]

@@ -1,9 +1,9 @@
 //! Text and rounding of `F2Dot30`, which `font-types` lacks, against exact integers. Its other
 //! calls are those of `Fixed`, for any number of fraction bits.
 
+use compare::exact::{shortest, up, wrap};
 use compare::{edges, sampled};
 use font_types_proved::F2Dot30;
-use font_types_tools::exact::{shortest, up, wrap};
 
 const ONE: i128 = 1 << 30;
 

@@ -1,9 +1,8 @@
 //! Each fixed-point type: text, padding, rounding, sums and bytes. `f2dot30.rs` has the type that
 //! `font-types` lacks.
 
-use compare::{Random, assert_same, edges, sampled};
+use compare::{Random, assert_same, edges, exact, sampled};
 use font_types_proved::{Align, Pad};
-use font_types_tools::exact;
 
 macro_rules! each_type {
     ($($name:ident $Type:ident $bits:ident $f:literal;)*) => {$(

@@ -2,8 +2,8 @@
 //! enough of the decimal, against `from_f64` too.
 
 use compare::Random;
+use compare::exact::{self, Fault};
 use font_types_proved::DecimalFault;
-use font_types_tools::exact::{self, Fault};
 
 struct Type {
     name: &'static str,

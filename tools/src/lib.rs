@@ -1,7 +1,6 @@
-//! The eraser, an exact-arithmetic oracle that does not use the library, and what the tests read.
+//! The eraser, and what the tests read.
 
 pub mod erase;
-pub mod exact;
 pub mod mutants;
 pub mod repository;
 pub mod requirements;

@@ -1,4 +1,6 @@
-//! Reference fixed-point arithmetic on `i128`, and decimals digit by digit.
+//! Reference fixed-point arithmetic on `i128`, and decimals digit by digit: the second method of
+//! the tests here, and of `compare`.
+#![allow(dead_code)]
 
 /// The width and the fraction bits of a fixed-point type.
 #[derive(Clone, Copy)]
@@ -60,8 +62,8 @@ pub fn read(text: &[u8], kind: Type) -> Result<i128, Fault> {
     in_range.ok_or(Fault::OutOfRange)
 }
 
-/// Returns the value of digits, or `None` if more than 20 follow the leading zeros.
-pub fn number(digits: &[u8]) -> Option<i128> {
+// Returns the value of digits, or `None` if more than 20 follow the leading zeros.
+fn number(digits: &[u8]) -> Option<i128> {
     let digits: Vec<&u8> = digits.iter().skip_while(|digit| **digit == b'0').collect();
     let number = |n, digit: &&u8| 10 * n + i128::from(**digit - b'0');
     (digits.len() <= 20).then(|| digits.iter().fold(0, number))
@@ -100,22 +102,4 @@ pub fn shortest(bits: i128, fraction: u32) -> String {
         ten *= 10;
     }
     unreachable!("a decimal of as many places as bits of fraction is exact")
-}
-
-/// Pads a decimal to a width: `align` is 0 for left, 1 for center, 2 for right.
-pub fn padded(text: &str, width: usize, fill: char, align: u32, plus: bool, zeros: bool) -> String {
-    let (sign, body) = match text.strip_prefix('-') {
-        Some(body) => ("-", body),
-        None if plus => ("+", text),
-        None => ("", text),
-    };
-    let spare = width.saturating_sub(sign.len() + body.len());
-    let of = |count: usize, filler: char| filler.to_string().repeat(count);
-    let front = match align {
-        _ if zeros => return format!("{sign}{}{body}", of(spare, '0')),
-        0 => 0,
-        1 => spare / 2,
-        _ => spare,
-    };
-    format!("{}{sign}{body}{}", of(front, fill), of(spare - front, fill))
 }
