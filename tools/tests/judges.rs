@@ -1,5 +1,6 @@
-//! The other tests of this folder, and its programs, over a copy of the repository: each passes
-//! there, and fails on the faults that `judges.faults` lists, a paragraph for each test.
+//! The tests of requirements, mutants, the surface and the erased text, and the programs of this
+//! package, over a copy of the repository: each passes there, and fails on the faults that
+//! `judges.faults` lists, a paragraph for each test.
 
 use font_types_tools::repository::{files, root, text};
 use std::fs;
