@@ -2,7 +2,7 @@
 //! `cargo run --example instance -- FONT TEXT wght=600 wdth=87.5`.
 //!
 //! What is here finds the tables. What computes coordinates and advances is proved: `proved` is
-//! the source of `crates/callers`, without its contracts.
+//! the source of `crates/variations`, without its contracts.
 //!
 //! At given 2.14 coordinates, in a font whose regions have n axes (n > 0), an advance differs from
 //! the exact one by at most 1/2 + (n - 1/2) * (the sum of the magnitudes of its deltas) / 65536
@@ -11,7 +11,7 @@
 
 #[macro_use]
 pub mod font;
-// Not all of it is called here.
+// Two fields of an axis are not read here.
 #[allow(dead_code)]
 pub mod proved;
 

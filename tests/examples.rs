@@ -14,7 +14,6 @@ use font_types_proved::{F2Dot14, FWord, Fixed, GlyphId16, Tag, UfWord};
 use fonts::{MAP, MAPS, font, font_of, fvar, hvar, hvar_of_two_axes, long_axes, long_hvar};
 use fonts::{two_axes, words};
 use instance::proved::delta_sets::read_delta;
-use instance::proved::evaluator::vary_and_round;
 use instance::proved::maps::read_delta_set_index;
 use instance::proved::regions::region_scalar;
 use instance::{advance, axes, normalized};
@@ -498,24 +497,5 @@ fn programs_of_other_files() {
         )
         .1;
         assert!(found.starts_with("Error: Os {"), "{found}");
-    }
-}
-
-// This is the only function of `proved` that `instance` does not call.
-#[test]
-fn sums_of_deltas_round_half_up() {
-    for (base, scalar, delta, varied) in [
-        (100, 0x8000, 1, Some(101)),
-        (100, 0x7FFF, 1, Some(100)),
-        (100, -0x8000, 1, Some(100)),
-        (100, -0x8001, 1, Some(99)),
-        (32767, 0x7FFF, 1, Some(32767)),
-        (32767, 0x8000, 1, None),
-        (-32768, -0x8000, 1, Some(-32768)),
-        (-32768, -0x8001, 1, None),
-    ] {
-        let terms = [(Fixed::from_bits(scalar), delta)];
-        let found = vary_and_round(FWord::new(base), &terms);
-        assert_eq!(found, varied.map(FWord::new), "{base} {scalar}");
     }
 }

@@ -1,4 +1,4 @@
-// @generated from crates/callers/src/delta_sets.rt by tools/src/bin/erase.rs
+// @generated from crates/variations/src/delta_sets.rt by tools/src/bin/erase.rs
 
 //! Delta sets of item variation data: their deltas, their sums, and advances that they move.
 

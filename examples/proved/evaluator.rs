@@ -1,10 +1,8 @@
-// @generated from crates/callers/src/evaluator.rt by tools/src/bin/erase.rs
+// @generated from crates/variations/src/evaluator.rt by tools/src/bin/erase.rs
 
-//! An evaluator of variations: settings, `fvar`, `avar` and sums of deltas.
+//! Coordinates of an instance: settings, `fvar` and `avar`.
 
-use font_types_proved::{
-    DecimalFault, F2Dot14, FWord, Fixed, InvalidTag, NameId, Scalar, Tag, vary,
-};
+use font_types_proved::{DecimalFault, F2Dot14, Fixed, InvalidTag, NameId, Scalar, Tag};
 
 // ---- settings
 
@@ -146,12 +144,4 @@ pub fn map_coordinate(coordinate: Fixed, map: &[AxisValueMap]) -> Fixed {
 /// Maps a coordinate as `normalize` gives it, and rounds it to 2.14 after that.
 pub fn final_coordinate(coordinate: Fixed, map: &[AxisValueMap]) -> F2Dot14 {
     to_stored(map_coordinate(coordinate, map))
-}
-
-// ---- sums of deltas
-
-/// Varies a value in font units by the exact sum of its terms, and rounds once, half up; returns
-/// `None` if the sum does not fit 64 bits or the result is out of range.
-pub fn vary_and_round(base: FWord, terms: &[(Fixed, i32)]) -> Option<FWord> {
-    FWord::round_delta(vary(base, terms)?)
 }

@@ -1,4 +1,4 @@
-// @generated from crates/callers/src/maps.rt by tools/src/bin/erase.rs
+// @generated from crates/variations/src/maps.rt by tools/src/bin/erase.rs
 
 //! Maps from indices to delta sets.
 

@@ -1,17 +1,16 @@
-// @generated from crates/callers/src/lib.rt by tools/src/bin/erase.rs
+// @generated from crates/variations/src/lib.rt by tools/src/bin/erase.rs
 
-//! Callers of `font_types`: one file for each kind of program that builds on it. Each function is
-//! proved against the contract that its caller wants, and run by a test.
+//! Variations of fonts: from `wght=650` to a varied advance, by the bytes of the tables.
 //!
-//! - `start`: a first caller, which docs/CALLING.md shows.
-//! - `reader`: tables, as `head`, `hmtx`, coverage and `VORG`.
-//! - `evaluator`, `regions`, `delta_sets`, `maps`: from `wght=650` to a varied advance, by `fvar`,
-//!   `avar` and item variation stores.
-//! - `packed`: packed deltas, as in `gvar` and `cvar`.
-//! - `scaler`: outlines through a chain of matrices.
-//! - `hinting`: extents of outlines, and positions between two others.
-//! - `linter`: tags, names, versions and the records of a table directory.
-//! - `dumper`: numbers in columns, raw values in hexadecimal, JSON.
+//! - `evaluator`: a setting is parsed, normalized by its axis of `fvar`, mapped by `avar`, and
+//!   rounded to a coordinate in 2.14.
+//! - `maps`, `regions`, `delta_sets`: a glyph has a delta set, a region has a scalar at the
+//!   coordinates, and the sum of the deltas, each times its scalar, moves the advance.
+//!
+//! At given coordinates, for regions of n axes (n > 0), the scalar of a region is within n - 1/2
+//! units of 2^-16 of the exact one, which nothing rounds, and an advance within 1/2 + (n - 1/2) *
+//! (the sum of the magnitudes of its deltas) / 65536 font units. What was rounded to reach the
+//! coordinates is not counted.
 
 pub mod delta_sets;
 pub mod evaluator;

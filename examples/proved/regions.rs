@@ -1,4 +1,4 @@
-// @generated from crates/callers/src/regions.rt by tools/src/bin/erase.rs
+// @generated from crates/variations/src/regions.rt by tools/src/bin/erase.rs
 
 //! Variation regions: the scalar of each axis, and of a region.
 

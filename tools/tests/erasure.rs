@@ -35,7 +35,6 @@ fn modules(own: &str) -> &'static str {
     match own {
         "font_base" => "facts",
         "font_types" => "json",
-        "callers" => "dumper hinting linter packed reader scaler start",
         _ => "",
     }
 }
@@ -182,7 +181,7 @@ fn imports(text: &str, in_source: impl Fn(String) -> Option<String>) -> BTreeSet
 
 /// Returns a path of Rust as its source has it, in the crate `own`.
 fn as_in_source(path: &str, own: &str) -> String {
-    let of_super = ["super::", "crate::"][usize::from(own == "callers")];
+    let of_super = ["super::", "crate::"][usize::from(own == "variations")];
     let changes = [
         (format!("crate::{own}::"), "crate::"),
         ("super::".into(), of_super),
@@ -366,7 +365,7 @@ fn unsupported_sources() {
         );
     }
     let of = Crate {
-        name: "callers",
+        name: "variations",
         target: Target::Examples,
         left_out: &[],
     };
@@ -414,11 +413,11 @@ fn changed_sources() {
     for row in [
         "fontval fn main() { 0..std::io::N } ⇒ pub fn main() { 0..crate::host::io::N }",
         "fontval fn f(n: &font_types::N) {} ⇒ fn f(n: &font_types_proved::N) {}",
-        "callers fn f(n: &font_types::N) {} ⇒ fn f(n: &font_types_proved::N) {}",
+        "variations fn f(n: &font_types::N) {} ⇒ fn f(n: &font_types_proved::N) {}",
     ] {
         let (name, row) = row.split_once(' ').unwrap();
         let (source, rust) = row.split_once(" ⇒ ").unwrap();
-        let target = [Target::Program, Target::Examples][usize::from(name == "callers")];
+        let target = [Target::Program, Target::Examples][usize::from(name == "variations")];
         let erased = erased(source, name, target).expect(row);
         assert!(erased.ends_with(rust), "{row}: {erased}");
     }

@@ -155,7 +155,8 @@ fn passed_on(proofs: &str) -> HashSet<&str> {
 #[test]
 fn calling_names_what_callers_use() {
     let page = text("docs/CALLING.md");
-    let paths = files("crates/callers", "");
+    let mut paths = files("crates/callers", "");
+    paths.extend(files("crates/variations", ""));
     let is_source = |path: &&String| path.ends_with(".rt") || path.ends_with(".antt");
     let is_tested = |path: &&String| path.contains("/tests");
     let used: String = paths
@@ -179,10 +180,12 @@ fn calling_names_what_callers_use() {
         let Some((module, item)) = quoted.split_once("::") else {
             continue;
         };
-        let file = format!("crates/callers/src/{module}.rt");
-        if is_of_name_alone(item) && paths.contains(&file) {
+        let file = paths
+            .iter()
+            .find(|path| path.ends_with(&format!("/src/{module}.rt")));
+        if let Some(file) = file.filter(|_| is_of_name_alone(item)) {
             let items = ["fn ", "struct "].map(|kind| format!("pub {kind}{item}"));
-            let source = text(&file);
+            let source = text(file);
             assert!(
                 items.iter().any(|item| source.contains(item)),
                 "{module}::{item} of the page"

@@ -1,4 +1,1 @@
 pub mod Advances
-pub mod Fractions
-pub mod Lerps
-pub mod Stores

@@ -1,15 +1,17 @@
 //! Packed deltas, run by run, and the terms that they give.
 
-ghost use Rattle.std.specs.Prelude.{◌≡◌, ◌↔◌, ◌<◌, ◌≤◌, ◌+◌, ◌-◌, ◌*◌, ◌/◌, ◌%◌, ◌^◌, ◌-ℤ◌};
+ghost use Rattle.std.specs.Prelude.{◌≡◌, ◌↔◌, ◌<◌, ◌≤◌, ◌+◌, ◌-◌, ◌*◌, ◌/◌, ◌%◌, ◌^◌};
+ghost use Rattle.std.specs.Prelude.{◌+ℤ◌, ◌-ℤ◌, ◌*ℤ◌};
 ghost use Rattle.std.specs.Prelude.{ℕ, [], pos, IsSome, IfSome, IfOk};
 ghost use Rattle.std.specs.Prelude.{length, drop, slice_index, slice_index_or, vec_len};
 ghost use Rattle.callers.specs.Packed.{run_count, run_width, run_delta, run_bytes, region_term};
 ghost use Rattle.callers.specs.Packed.{term_value};
-ghost use Rattle.font_types.specs.Delta.{total_below};
+ghost use Rattle.font_types.specs.Delta.{exact_sum, total_below};
 ghost use Rattle.font_types.specs.F48Dot16.{f48dot16_bits};
-ghost use Rattle.font_types.specs.Wrap.{wrap};
+ghost use Rattle.font_types.specs.FWord.{fword_number, nearest_unit};
+ghost use Rattle.font_types.specs.Wrap.{FitsBits, wrap};
 
-use font_types::{F48Dot16, Fixed, Scalar};
+use font_types::{F48Dot16, FWord, Fixed, Scalar, vary};
 use std::alloc::{AllocError, Global};
 
 // The parts of a run's control byte.
@@ -149,4 +151,15 @@ pub fn region_terms(
         .zip(deltas)
         .map(|(scalar, delta)| (*scalar, i32::from(*delta)))
         .collect(alloc)
+}
+
+/// Varies a value in font units by the exact sum of its terms, and rounds once, half up; returns
+/// `None` if the sum does not fit 64 bits or the result is out of range.
+pub fn vary_and_round(base: FWord, terms: &[(Fixed, i32)]) -> Option<FWord>
+    ensures variant { IsSome result ↔ (FitsBits 64 (exact_sum terms.now) × FitsBits 16
+        (nearest_unit (fword_number base *ℤ pos 65536 +ℤ exact_sum terms.now))) }
+    ensures value { IfSome result (λ word. fword_number word
+        ≡ nearest_unit (fword_number base *ℤ pos 65536 +ℤ exact_sum terms.now)) }
+{
+    FWord::round_delta(vary(base, terms)?)
 }

@@ -1,12 +1,10 @@
-//! A row or two for each function of the examples, from OpenType and from arithmetic by hand: no
-//! clause says that its definitions are those of the field.
+//! A call of each function, and rows where its clauses state what OpenType says, since no clause
+//! says that this is so.
 
 mod dumper;
-mod evaluator;
 mod hinting;
 mod linter;
 mod packed;
 mod reader;
 mod scaler;
 mod start;
-mod variations;

@@ -21,13 +21,7 @@ pub const LIBRARY: [(&str, &[&str]); 7] = [
 const ABOVE: [(&str, Target, &[&str]); 3] = [
     ("fontval", Target::Program, &[]),
     ("font_c", Target::Exports, &[]),
-    (
-        "callers",
-        Target::Examples,
-        &[
-            "dumper", "hinting", "linter", "packed", "reader", "scaler", "start",
-        ],
-    ),
+    ("variations", Target::Examples, &[]),
 ];
 
 // The folder of the files of a crate.

@@ -2,8 +2,9 @@
 
 use crate::packed::{
     delta_width, deltas_in_run, device_delta, nibble, read_run, region_terms, scaled_sum,
+    vary_and_round,
 };
-use font_types::{F48Dot16, Fixed};
+use font_types::{F48Dot16, FWord, Fixed};
 use std::test::Fail;
 
 // (OpenType, font variations common table formats: the example of packed deltas)
@@ -64,5 +65,6 @@ fn terms_of_regions(rt: HostRuntime) -> Result<(), Fail> {
     assert!(rt; terms.as_slice() == [(half, 3), (Fixed::ONE, -2)].as_slice());
     let sum = scaled_sum(&[half, Fixed::ONE], &[3, -2]);
     assert!(rt; sum == F48Dot16::from_bits(-0x8000));
+    assert!(rt; vary_and_round(FWord::new(100), &[(half, 1)]) == Some(FWord::new(101)));
     Ok(())
 }

@@ -1,45 +1,14 @@
 //! A reader of tables.
 
-use crate::evaluator::read_axis;
 use crate::reader::{
-    Head, Ppem, VertOriginYMetrics, advance_width, coverage_index, day_of, has_bearings_at_zero,
-    metric, origin_index, read_selector, segment_of, selector_index, table_bytes, units_per_em,
+    Head, VertOriginYMetrics, advance_width, coverage_index, day_of, has_bearings_at_zero, metric,
+    origin_index, read_selector, segment_of, selector_index, table_bytes, units_per_em,
     vert_origin_y, write_word,
 };
 use font_types::{
-    BigEndian, FWord, Fixed, GlyphId16, LongDateTime, NameId, Scalar, ScalarArray, TableDataRef,
-    Tag, UfWord, Uint24,
+    FWord, Fixed, GlyphId16, LongDateTime, ScalarArray, TableDataRef, UfWord, Uint24,
 };
 use std::test::Fail;
-
-#[test]
-fn axis_records(rt: HostRuntime) -> Result<(), Fail> {
-    let bytes = *b"wght\x00\x64\x00\x00\x01\x90\x00\x00\x03\x84\x00\x00\x00\x01\x01\x00\x07";
-    let axis = read_axis(&bytes).ok_or("20 bytes")?;
-    assert!(rt; axis.axis_tag == Tag::new(b"wght") && axis.min_value == Fixed::from_i32(100));
-    assert!(rt; axis.default_value == Fixed::from_i32(400));
-    assert!(rt; axis.max_value == Fixed::from_i32(900) && axis.flags == 1);
-    assert!(rt; axis.axis_name_id == NameId::new(256) && read_axis(&bytes[2..]).is_none());
-    let (selector, offset) = read_selector(&[0, 0xFE, 0x0F, 0, 0, 1, 4]).ok_or("7 bytes")?;
-    assert!(rt; selector == Uint24::new(0xFE0F) && offset.to_u32() == 260);
-    assert!(rt; read_selector(&[0; 6]).is_none());
-    Ok(())
-}
-
-#[test]
-fn tables_of_a_font(rt: HostRuntime) {
-    let font = [1, 2, 3, 4];
-    for &(offset, len, table) in &[
-        (0, 4, Some(&font[..])),
-        (1, 2, Some(&[2, 3])),
-        (4, 0, Some(&[])),
-        (3, 2, None),
-        (5, 0, None),
-        (u32::MAX, u32::MAX, None),
-    ] {
-        assert!(rt; table_bytes(&font, offset, len) == table, "{offset} {len}");
-    }
-}
 
 // `head` of a font made on 9 September 2001 and modified on 29 February 2024, and a byte more.
 const HEAD: [u8; 55] = [
@@ -63,19 +32,6 @@ fn first_fields_of_head(rt: HostRuntime) -> Result<(), Fail> {
 }
 
 #[test]
-fn days(rt: HostRuntime) {
-    for &(seconds, day) in &[
-        (-1, -1),
-        (0, 0),
-        (86_399, 0),
-        (86_400, 1),
-        (3_792_052_800, 43_889),
-    ] {
-        assert!(rt; day_of(LongDateTime::new(seconds)) == day, "{seconds}");
-    }
-}
-
-#[test]
 fn last_fields_of_head(rt: HostRuntime) -> Result<(), Fail> {
     let table = TableDataRef::<Head>::new(&HEAD).ok_or("54 bytes")?;
     let head = table.header();
@@ -90,13 +46,31 @@ fn last_fields_of_head(rt: HostRuntime) -> Result<(), Fail> {
 }
 
 #[test]
-fn flags_and_words(rt: HostRuntime) {
+fn days(rt: HostRuntime) {
+    for &(seconds, day) in &[
+        (-1, -1),
+        (0, 0),
+        (86_399, 0),
+        (86_400, 1),
+        (3_792_052_800, 43_889),
+    ] {
+        assert!(rt; day_of(LongDateTime::new(seconds)) == day, "{seconds}");
+    }
+}
+
+#[test]
+fn flags(rt: HostRuntime) {
     for &(flags, is_set) in &[(0, false), (0x0002, true), (0x000B, true), (0xFFFD, false)] {
         assert!(rt; has_bearings_at_zero(flags) == is_set, "{flags}");
     }
-    let mut bytes = [1, 2, 3, 4, 5, 6, 7];
-    write_word(&mut bytes, 2, 0xB1B0_AFBA);
-    assert!(rt; bytes == [1, 2, 0xB1, 0xB0, 0xAF, 0xBA, 7]);
+}
+
+#[test]
+fn selectors(rt: HostRuntime) -> Result<(), Fail> {
+    let (selector, offset) = read_selector(&[0, 0xFE, 0x0F, 0, 0, 1, 4]).ok_or("7 bytes")?;
+    assert!(rt; selector == Uint24::new(0xFE0F) && offset.to_u32() == 260);
+    assert!(rt; read_selector(&[0; 6]).is_none());
+    Ok(())
 }
 
 #[test]
@@ -106,37 +80,10 @@ fn metrics_of_glyphs(rt: HostRuntime) {
         let found = advance_width(&hmtx, 2, GlyphId16::new(glyph));
         assert!(rt; found == Some(UfWord::new(advance)), "advance of {glyph}");
     }
-    for &(glyph, fields) in &[(1, Some((256, -1))), (2, None)] {
-        let found = metric(&hmtx[..8], GlyphId16::new(glyph));
-        let bytes = found.map(|metric| metric.to_raw());
-        let found = found.map(|m| (m.advance_width.to_u16(), m.left_side_bearing.to_i16()));
-        assert!(rt; found == fields, "{glyph}");
-        assert!(rt;
-            bytes.as_ref().map(|b| b.as_slice()) == hmtx[..8].chunks(4).nth(usize::from(glyph)),
-            "{glyph}"
-        );
-    }
 }
 
 #[test]
-fn glyphs_found(rt: HostRuntime) -> Result<(), Fail> {
-    let glyphs = ScalarArray::new(&[0, 3, 0, 7, 1, 0]).ok_or("six bytes")?;
-    for &(glyph, index) in &[(256, Some(2)), (8, None)] {
-        assert!(rt;
-            coverage_index(&glyphs, GlyphId16::new(glyph)) == index,
-            "{glyph}"
-        );
-    }
-    let selectors = ScalarArray::new(&[0, 0xFE, 0x0E, 0, 0xFE, 0x0F, 0x0E, 1, 0]);
-    let selectors = selectors.ok_or("nine bytes")?;
-    for &(selector, place) in &[(0xFE0F, Ok(1)), (0xFE10, Err(2)), (0, Err(0))] {
-        let found = selector_index(&selectors, Uint24::new(selector));
-        assert!(rt; found == place, "{selector}");
-    }
-    let ends = ScalarArray::new(&[0, 0x7E, 0, 0xFF]).ok_or("four bytes")?;
-    for &(code, segment) in &[(0, 0), (0x7E, 0), (0x7F, 1), (0xFF, 1), (0x100, 2)] {
-        assert!(rt; segment_of(&ends, code) == segment, "{code}");
-    }
+fn vertical_origins(rt: HostRuntime) {
     let records = [(3, 880), (40, -7), (0x1234, 0)].map(|(glyph, y)| VertOriginYMetrics {
         glyph_index: GlyphId16::new(glyph),
         vert_origin_y: y,
@@ -148,22 +95,26 @@ fn glyphs_found(rt: HostRuntime) -> Result<(), Fail> {
             "{glyph}"
         );
     }
+}
+
+#[test]
+fn arrays_searched(rt: HostRuntime) -> Result<(), Fail> {
+    let glyphs = ScalarArray::new(&[0, 3, 0, 7, 1, 0]).ok_or("six bytes")?;
+    assert!(rt; coverage_index(&glyphs, GlyphId16::new(256)) == Some(2));
+    let selectors = ScalarArray::new(&[0, 0xFE, 0x0E, 0, 0xFE, 0x0F]).ok_or("six bytes")?;
+    assert!(rt; selector_index(&selectors, Uint24::new(0xFE0F)) == Ok(1));
+    let ends = ScalarArray::new(&[0, 0x7E, 0, 0xFF]).ok_or("four bytes")?;
+    assert!(rt; segment_of(&ends, 0x7F) == 1);
     Ok(())
 }
 
-// A user-defined scalar is stored as its number is, and its fields compare by their values.
 #[test]
-fn sizes_in_fields(rt: HostRuntime) {
-    for &(size, other) in &[(255, 256), (0x7FFF, 0x8000)] {
-        let (small, large) = (Ppem(size), Ppem(other));
-        let (field, larger) = (BigEndian::from(small), BigEndian::from(large));
-        assert!(rt;
-            field.be_bytes() == size.to_be_bytes().as_slice(),
-            "bytes of {size}"
-        );
-        assert!(rt;
-            small < large && field < larger && field.get() == small,
-            "{size}"
-        );
-    }
+fn bytes_of_tables(rt: HostRuntime) {
+    let mut bytes = [1, 2, 3, 4, 5, 6, 7];
+    write_word(&mut bytes, 2, 0xB1B0_AFBA);
+    assert!(rt; bytes == [1, 2, 0xB1, 0xB0, 0xAF, 0xBA, 7]);
+    assert!(rt; table_bytes(&bytes, 5, 2) == Some(&[0xBA, 7]));
+    let found = metric(&[2, 0, 0, 10, 1, 0, 0xFF, 0xFF], GlyphId16::new(1));
+    let fields = found.map(|m| (m.advance_width.to_u16(), m.left_side_bearing.to_i16()));
+    assert!(rt; fields == Some((256, -1)));
 }

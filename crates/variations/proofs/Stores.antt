@@ -1,0 +1,163 @@
+-- Products along axes and sums of columns: none, and one more; and how far they are off the exact ones.
+use Rattle.std.proofs.Common.{◌≡◌, refl, lit<, ℕ, zero, suc, ◌+◌, ◌-◌, ◌*◌, ℤ, pos, add-one, List, ◌+ℤ◌, ◌*ℤ◌}
+use Rattle.std.proofs.Common.{unsigned_abs, arith, negsuc, ◌≤◌, ◌<◌, ◌^◌, ◌≤ℤ◌, mul-le-mul_right}
+use Rattle.std.proofs.Math.Nat.{mul-add, zero-add}
+use Rattle.std.proofs.lemmas.Int.{ints, unsigned_abs-mul}
+use Rattle.font_types.specs.Operations.{IsProduct}
+use Rattle.font_types.specs.F2Dot14.{F2Dot14}
+use Rattle.font_types.specs.Fixed.{fixed_bits}
+use Rattle.font_types.specs.Fixed.{Fixed}
+use Rattle.font_types.specs.Wrap.{FitsBits}
+use Rattle.variations.specs.Variations.{IsScalarOf, IsScalarAlong, IsNearScalar, exact_scalar, IsOffBy, times}
+use Rattle.variations.specs.Variations.{whole}
+use Rattle.variations.specs.Variations.{IsSumThrough, IsTerm, IsTermProduct, IsSetSum, IsNearSetSum, IsNearAdvance}
+use Rattle.variations.specs.Variations.{exact_delta, sum_halves, sum_of_magnitudes, region_bytes, region_index}
+use Rattle.variations.specs.Variations.{region_index_count, axis_count, delta_of, moved, exact_region_scalar}
+use Rattle.variations.proofs.Fractions.{IsPartOff, off_by, axis_off, next_axis_off, first_axis_off, plus_off}
+use Rattle.variations.proofs.Fractions.{scaled_off}
+use Rattle.variations.proofs.Fractions.{whole_off, rounded_off}
+
+pub no_axis : (region : List ℕ) (coordinates : List F2Dot14) → IsScalarOf region coordinates 0 (pos 65536)
+unfolding IsScalarOf
+no_axis region coordinates = refl
+
+pub one_more_axis : (region : List ℕ) (coordinates : List F2Dot14) (n : ℕ) (before along scalar : ℤ)
+    → IsScalarOf region coordinates n before → IsScalarAlong region coordinates n along
+    → IsProduct 32 16 before along scalar → IsScalarOf region coordinates (n + 1) scalar
+unfolding IsScalarOf
+one_more_axis region coordinates n before along scalar so_far next product =
+    rw (add-one n) (before, along, so_far, next, product)
+
+-- ---- how far a scalar of one or more axes is off the exact one, and that of none
+
+scalar_off : (region : List ℕ) (coordinates : List F2Dot14) (n : ℕ) (scalar : ℤ)
+    → IsScalarOf region coordinates (suc n) scalar
+    → IsPartOff (2 * n + 1) scalar (exact_scalar region coordinates (suc n))
+unfolding IsScalarOf exact_scalar
+scalar_off region coordinates zero scalar (before, along, so_far, next, product) =
+    first_axis_off along _ (axis_off _ _ _ _ along next) scalar (rw so_far at product)
+scalar_off region coordinates (suc n) scalar (before, along, so_far, next, product) =
+    let count : 2 * suc n + 1 ≡ 2 * n + 1 + 2 = omega arith in
+    rw count (next_axis_off (2 * n + 1) before along _ _ (scalar_off region coordinates n before so_far)
+    (axis_off _ _ _ _ along next) scalar product)
+
+no_axis_near : (region : List ℕ) (coordinates : List F2Dot14) (scalar : ℤ) → IsScalarOf region coordinates 0 scalar
+    → IsNearScalar region coordinates 0 scalar
+unfolding IsScalarOf exact_scalar
+no_axis_near region coordinates scalar is = rw is (record { some = lit< tt; close = omega (arith, ints) })
+
+pub scalar_is_near : (region : List ℕ) (coordinates : List F2Dot14) (n : ℕ) (scalar : ℤ)
+    → IsScalarOf region coordinates n scalar → IsNearScalar region coordinates n scalar
+scalar_is_near region coordinates zero scalar is = no_axis_near region coordinates scalar is
+scalar_is_near region coordinates (suc n) scalar is =
+    let count : 2 * suc n - 1 ≡ 2 * n + 1 = omega arith in
+    rw count (off_by _ _ _ (scalar_off region coordinates n scalar is))
+
+pub ruleset scalar_rules = (no_axis, one_more_axis, scalar_is_near)
+
+pub no_column : (regions subtable : List ℕ) (coordinates : List F2Dot14) (set : ℕ)
+    → IsSumThrough regions subtable coordinates set 0 (pos 0)
+unfolding IsSumThrough
+no_column regions subtable coordinates set = refl
+
+pub one_more_column : (regions subtable : List ℕ) (coordinates : List F2Dot14) (set n : ℕ) (before product sum : ℤ)
+    → IsSumThrough regions subtable coordinates set n before → IsTermProduct regions subtable coordinates set n product
+    → sum ≡ (before +ℤ product) → IsSumThrough regions subtable coordinates set (n + 1) sum
+unfolding IsSumThrough
+one_more_column regions subtable coordinates set n before product sum so_far next is_sum =
+    rw (add-one n) (before, product, so_far, next, is_sum)
+
+-- the sum and one more product, which 64 bits hold
+module _ (n s : ℕ) (sum delta : ℤ) (few : n < 65535) (small : unsigned_abs sum ≤ n * 2 ^ 47) (to : s ≤ 65536)
+    (narrow : unsigned_abs delta ≤ 2 ^ 31) where
+  product_size : unsigned_abs (pos s *ℤ delta) ≤ 2 ^ 47
+  product_size =
+      let scaled : s * unsigned_abs delta ≤ 65536 * unsigned_abs delta = mul-le-mul_right (unsigned_abs delta) to in
+      rw (unsigned_abs-mul (pos s) delta) (omega (arith, scaled, narrow))
+
+  next_size : unsigned_abs (sum +ℤ (pos s *ℤ delta)) ≤ (n + 1) * 2 ^ 47
+  next_size = small_sum (pos s *ℤ delta) product_size
+    where
+      small_sum : (p : ℤ) → unsigned_abs p ≤ 2 ^ 47 → unsigned_abs (sum +ℤ p) ≤ (n + 1) * 2 ^ 47
+      small_sum p size = omega (arith, ints, small, size)
+
+  next_fits : FitsBits 64 (sum +ℤ (pos s *ℤ delta))
+  next_fits = let size = next_size in fits (sum +ℤ (pos s *ℤ delta)) size
+    where
+      fits : (z : ℤ) → unsigned_abs z ≤ (n + 1) * 2 ^ 47 → FitsBits 64 z
+      fits z size = record { low = omega (arith, ints, few, size); high = omega (arith, ints, few, size) }
+
+pub term_fits : (n : ℕ) (sum s delta : ℤ) → n < 65535 → unsigned_abs sum ≤ n * 2 ^ 47 → pos 0 ≤ℤ s → s ≤ℤ pos 65536
+    → unsigned_abs delta ≤ 2 ^ 31 → FitsBits 64 (sum +ℤ (s *ℤ delta))
+term_fits n sum (pos s) delta few small from to narrow =
+    next_fits n s sum delta few small (omega (arith, ints, to)) narrow
+term_fits n sum (negsuc s) delta few small from to narrow = absurd (omega (arith, ints, from))
+
+pub term_small : (n : ℕ) (sum s delta : ℤ) → n < 65535 → unsigned_abs sum ≤ n * 2 ^ 47 → pos 0 ≤ℤ s → s ≤ℤ pos 65536
+    → unsigned_abs delta ≤ 2 ^ 31 → unsigned_abs (sum +ℤ (s *ℤ delta)) ≤ (n + 1) * 2 ^ 47
+term_small n sum (pos s) delta few small from to narrow =
+    next_size n s sum delta few small (omega (arith, ints, to)) narrow
+term_small n sum (negsuc s) delta few small from to narrow = absurd (omega (arith, ints, from))
+
+pub one_more_term : (regions subtable : List ℕ) (coordinates : List F2Dot14) (set n : ℕ) (before : ℤ)
+    (scalar : Fixed) (delta : ℤ) → IsSumThrough regions subtable coordinates set n before
+    → IsTerm regions subtable coordinates set n (scalar, delta)
+    → IsSumThrough regions subtable coordinates set (n + 1) (before +ℤ (fixed_bits scalar *ℤ delta))
+one_more_term regions subtable coordinates set n before scalar delta so_far term =
+    one_more_column regions subtable coordinates set n before (fixed_bits scalar *ℤ delta) _ so_far
+    (record { term = (scalar, delta); is_term = term; value = refl }) refl
+
+-- ---- how far a sum of a set is off the exact one, and an advance that it moves
+
+-- the product of a delta and the scalar of no axis is exact
+no_axis_term : (region : List ℕ) (coordinates : List F2Dot14) (scalar delta : ℤ)
+    → IsScalarOf region coordinates 0 scalar
+    → IsOffBy ((2 * 0 - 1) * unsigned_abs delta) (scalar *ℤ delta)
+    (times (exact_scalar region coordinates 0) (whole delta))
+unfolding IsScalarOf exact_scalar
+no_axis_term region coordinates scalar delta is = rw is (record { some = lit< tt; close = omega (arith, ints) })
+
+term_off : (region : List ℕ) (coordinates : List F2Dot14) (n : ℕ) (scalar delta : ℤ)
+    → IsScalarOf region coordinates n scalar
+    → IsOffBy ((2 * n - 1) * unsigned_abs delta) (scalar *ℤ delta)
+    (times (exact_scalar region coordinates n) (whole delta))
+term_off region coordinates zero scalar delta is = no_axis_term region coordinates scalar delta is
+term_off region coordinates (suc n) scalar delta is =
+    let count : 2 * suc n - 1 ≡ 2 * n + 1 = omega arith in
+    rw count (scaled_off (2 * n + 1) scalar delta _ (scalar_off region coordinates n scalar is))
+
+product_off : (regions subtable : List ℕ) (coordinates : List F2Dot14) (set n : ℕ) (product : ℤ)
+    → IsTermProduct regions subtable coordinates set n product
+    → IsOffBy ((2 * axis_count regions - 1) * unsigned_abs (delta_of subtable set n)) product
+    (times (exact_region_scalar regions (region_index subtable n) coordinates) (whole (delta_of subtable set n)))
+product_off regions subtable coordinates set n product is =
+    rw (is.value, is.is_term.delta) (term_off (region_bytes regions (region_index subtable n)) coordinates
+    (axis_count regions) (fixed_bits is.term.0) (delta_of subtable set n) is.is_term.scalar)
+
+sum_off : (regions subtable : List ℕ) (coordinates : List F2Dot14) (set n : ℕ) (sum : ℤ)
+    → IsSumThrough regions subtable coordinates set n sum
+    → IsOffBy (sum_halves regions subtable set n) sum (exact_delta regions subtable coordinates set n)
+unfolding IsSumThrough exact_delta sum_of_magnitudes
+sum_off regions subtable coordinates set zero sum is = rw is (record { some = lit< tt; close = omega (arith, ints) })
+sum_off regions subtable coordinates set (suc n) sum (before, product, so_far, next, is_sum) =
+    let parts = mul-add (2 * axis_count regions - 1) (sum_of_magnitudes subtable set n)
+    (unsigned_abs (delta_of subtable set n)) in
+    rw (is_sum, parts) (plus_off _ _ before product _ _
+    (sum_off regions subtable coordinates set n before so_far)
+    (product_off regions subtable coordinates set n product next))
+
+pub set_sum_is_near : (regions subtable : List ℕ) (coordinates : List F2Dot14) (set : ℕ) (sum : ℤ)
+    → IsSetSum regions subtable coordinates set sum → IsNearSetSum regions subtable coordinates set sum
+set_sum_is_near regions subtable coordinates set sum is =
+    sum_off regions subtable coordinates set (region_index_count subtable) sum is
+
+pub advance_is_near : (regions subtable : List ℕ) (coordinates : List F2Dot14) (set advance : ℕ) (sum varied : ℤ)
+    → IsSetSum regions subtable coordinates set sum → varied ≡ moved advance sum
+    → IsNearAdvance regions subtable coordinates set advance varied
+advance_is_near regions subtable coordinates set advance sum varied is_sum is =
+    let halves = sum_halves regions subtable set (region_index_count subtable) in
+    let off = plus_off 0 halves _ sum _ _ (whole_off (pos advance))
+    (set_sum_is_near regions subtable coordinates set sum is_sum) in
+    rw is (rw (zero-add halves) at (rounded_off _ _ _ off))
+
+pub ruleset sum_rules = (no_column, one_more_term, term_fits, term_small)

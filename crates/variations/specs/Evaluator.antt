@@ -1,0 +1,122 @@
+-- Values of an evaluator of variations.
+use Rattle.std.specs.Prelude.{◌≡◌, ◌≢◌, ◌⊎◌, ℕ, ◌-◌, ◌<◌, ℤ, pos, neg_ℤ, ◌+ℤ◌, ◌-ℤ◌, ◌≤ℤ◌, ◌<ℤ◌, ◌==◌}
+use Rattle.std.specs.Prelude.{List, length, slice_index_or, Result, Ok, Err}
+use Rattle.std.specs.Int.{w32}
+use Rattle.std.specs.List.{position_or_len, before_first, after_first}
+use Rattle.font_types.specs.Wrap.{wrap, FitsBits}
+use Rattle.font_types.specs.NumberReading.{ParsesFixedPoint}
+use Rattle.font_types.specs.Operations.{IsMulDiv, IsNarrowed, rounded_mul_div}
+use Rattle.font_types.specs.Fixed.{fixed_bits, fixed_of}
+use Rattle.font_types.specs.Fixed.{Fixed, ONE, NEG_ONE}
+use Rattle.font_types.specs.F2Dot14.{f2dot14_bits}
+use Rattle.font_types.specs.F2Dot14.{F2Dot14}
+use Rattle.font_types.specs.Tag.{IsChecked, IsAcceptable}
+use Rattle.variations.specs.declared.evaluator.Setting.{Setting}
+use Rattle.variations.specs.declared.evaluator.SettingError.{SettingError}
+use Rattle.variations.specs.declared.evaluator.SettingError.TheVariants.{NoValue, Axis, Value}
+use Rattle.variations.specs.declared.evaluator.AxisValueMap.{AxisValueMap}
+
+-- ---- settings (CSS, font-variation-settings: a tag and a number)
+
+-- where the first `=` is, or the length of a text without one
+abbrev pub value_start : List ℕ → ℕ
+value_start text = position_or_len (λ byte. byte == 0x3D) text
+
+abbrev pub axis_part : List ℕ → List ℕ
+axis_part text = before_first (λ byte. byte == 0x3D) text
+
+abbrev pub value_part : List ℕ → List ℕ
+value_part text = after_first (λ byte. byte == 0x3D) text
+
+-- the text has a `=`, and these are the parts before and after the first one
+abbrev pub AreParts : List ℕ → List ℕ → List ℕ → Type 0
+AreParts text axis value = (value_start text < length text) × (axis ≡ axis_part text) × (value ≡ value_part text)
+
+-- the tag and the number that the parts are read as
+pub record IsSetting (text : List ℕ) (setting : Setting) : Type 0 where
+  pub divided : value_start text < length text
+  pub axis : IsChecked (axis_part text) (Ok setting.axis)
+  pub value : ParsesFixedPoint w32 16 fixed_bits (value_part text) (Ok setting.value)
+
+-- the setting, or the error of the first part that cannot be read
+abbrev pub ParsesSetting : List ℕ → Result Setting SettingError → Type 0
+ParsesSetting text (Ok setting) = IsSetting text setting
+ParsesSetting text (Err NoValue) = value_start text ≡ length text
+ParsesSetting text (Err (Axis fault)) = (value_start text < length text) × IsChecked (axis_part text) (Err fault)
+ParsesSetting text (Err (Value fault)) = (value_start text < length text) × IsAcceptable (axis_part text)
+    × ParsesFixedPoint w32 16 fixed_bits (value_part text) (Err fault)
+
+-- ---- segment maps (OpenType, avar: linear between two mappings)
+
+-- the distance of the coordinate from the start, that of the end, and the rise between their coordinates
+abbrev pub lerp_part : Fixed → AxisValueMap → ℤ
+lerp_part coordinate start = fixed_bits coordinate -ℤ fixed_bits start.from_coordinate
+
+abbrev pub lerp_whole : AxisValueMap → AxisValueMap → ℤ
+lerp_whole start end = fixed_bits end.from_coordinate -ℤ fixed_bits start.from_coordinate
+
+abbrev pub lerp_rise : AxisValueMap → AxisValueMap → ℤ
+lerp_rise start end = fixed_bits end.to_coordinate -ℤ fixed_bits start.to_coordinate
+
+-- the value at the coordinate on the line through both mappings: the start's coordinate and, of the rise, the share
+-- that the part has of the whole, rounded once, half away from zero
+abbrev pub on_line : Fixed → AxisValueMap → AxisValueMap → ℤ
+on_line coordinate start end = fixed_bits start.to_coordinate
+    +ℤ rounded_mul_div (lerp_rise start end) (lerp_part coordinate start) (lerp_whole start end)
+
+-- nothing overflows: the differences fit in 32 bits, and so does the value
+pub record FitsLerp (coordinate : Fixed) (start end : AxisValueMap) : Type 0 where
+  pub part : FitsBits 32 (lerp_part coordinate start)
+  pub whole : FitsBits 32 (lerp_whole start end)
+  pub rise : FitsBits 32 (lerp_rise start end)
+  pub value : FitsBits 32 (on_line coordinate start end)
+
+-- the value on the line, if nothing overflows; else each difference, the share and the sum wrap to 32 bits
+pub record IsLerp (coordinate : Fixed) (start end : AxisValueMap) (result : Fixed) : Type 0 where
+  pub exact : FitsLerp coordinate start end → fixed_bits result ≡ on_line coordinate start end
+  pub share : ℤ
+  pub is_share : IsMulDiv 32 (wrap 32 (lerp_rise start end)) (wrap 32 (lerp_part coordinate start))
+      (wrap 32 (lerp_whole start end)) share
+  pub is_sum : fixed_bits result ≡ wrap 32 (fixed_bits start.to_coordinate +ℤ share)
+
+-- the mapping at k, and past the end the one of zero to zero
+abbrev pub mapping_at : List AxisValueMap → ℕ → AxisValueMap
+mapping_at map k = slice_index_or map k
+    (record { from_coordinate = fixed_of (pos 0); to_coordinate = fixed_of (pos 0) })
+
+-- the first n mappings are below the bits
+abbrev pub AreBelow : List AxisValueMap → ℕ → ℤ → Type 0
+AreBelow map n bits = (k : ℕ) → k < n → fixed_bits (mapping_at map k).from_coordinate <ℤ bits
+
+-- the mapping that ends the segment of the bits: the first at or above them
+pub record IsSegmentEnd (bits : ℤ) (map : List AxisValueMap) (end : ℕ) : Type 0 where
+  pub within : end < length map
+  pub before : AreBelow map end bits
+  pub there : bits ≤ℤ fixed_bits (mapping_at map end).from_coordinate
+
+-- the coordinate by that mapping: at it, what it is mapped to; else linear from the mapping before, or itself if there
+-- is none
+pub record IsMappedIn (coordinate : Fixed) (map : List AxisValueMap) (end : ℕ) (result : Fixed) : Type 0 where
+  pub at : coordinate ≡ (mapping_at map end).from_coordinate → result ≡ (mapping_at map end).to_coordinate
+  pub between : coordinate ≢ (mapping_at map end).from_coordinate → 0 < end
+      → IsLerp coordinate (mapping_at map (end - 1)) (mapping_at map end) result
+  pub outside : coordinate ≢ (mapping_at map end).from_coordinate → end ≡ 0 → result ≡ coordinate
+
+-- the coordinate by the segment that it is in, or itself above all mappings, as of an empty map
+abbrev pub IsMapped : Fixed → List AxisValueMap → Fixed → Type 0
+IsMapped coordinate map result =
+    (AreBelow map (length map) (fixed_bits coordinate) × (result ≡ coordinate))
+    ⊎ ((end : ℕ) × IsSegmentEnd (fixed_bits coordinate) map end × IsMappedIn coordinate map end result)
+
+-- ---- coordinates as they are stored (OpenType, coordinate scales and normalization: converted to 2.14 at the end)
+
+-- the coordinate clamped to -1..1, and then rounded half up to 2.14
+pub record IsStoredCoordinate (coordinate : Fixed) (stored : F2Dot14) : Type 0 where
+  pub inside : fixed_bits NEG_ONE ≤ℤ fixed_bits coordinate → fixed_bits coordinate ≤ℤ fixed_bits ONE
+      → IsNarrowed 16 (fixed_bits coordinate) 4 (f2dot14_bits stored)
+  pub below : fixed_bits coordinate ≤ℤ fixed_bits NEG_ONE → f2dot14_bits stored ≡ neg_ℤ (pos 16384)
+  pub above : fixed_bits ONE ≤ℤ fixed_bits coordinate → f2dot14_bits stored ≡ pos 16384
+
+-- the coordinate mapped, and only then rounded
+abbrev pub IsFinal : Fixed → List AxisValueMap → F2Dot14 → Type 0
+IsFinal coordinate map stored = (mapped : Fixed) × IsMapped coordinate map mapped × IsStoredCoordinate mapped stored

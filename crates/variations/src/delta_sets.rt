@@ -1,0 +1,156 @@
+//! Delta sets of item variation data: their deltas, their sums, and advances that they move.
+
+ghost use Rattle.std.specs.Prelude.{◌≡◌, ◌↔◌, ◌⊎◌, ◌<◌, ◌≤◌, ◌+◌, ◌^◌};
+ghost use Rattle.std.specs.Prelude.{pos, ◌≤ℤ◌, unsigned_abs};
+ghost use Rattle.std.specs.Prelude.{IsSome, IfSome, MatchOption, length, take, drop};
+ghost use Rattle.font_types.specs.Bytes.{signed_numeral};
+ghost use Rattle.font_types.specs.Fixed;
+ghost use Rattle.font_types.specs.Fixed.{fixed_bits};
+ghost use Rattle.font_types.specs.F48Dot16.{f48dot16_bits};
+ghost use Rattle.font_types.specs.FWord.{ufword_number};
+ghost use Rattle.variations.specs.Variations.{narrow_width, delta_width, delta_place};
+ghost use Rattle.variations.specs.Variations.{HasDelta};
+ghost use Rattle.variations.specs.Variations.{delta_of, HasTerm, IsTerm, IsSetSum, HasSet};
+ghost use Rattle.variations.specs.Variations.{IsVaried, HasNoVaried, IsNearSetSum};
+ghost use Rattle.variations.specs.Variations.{IsNearAdvance};
+
+use crate::regions::region_scalar;
+use font_types::{F2Dot14, F48Dot16, Fixed, Scalar, UfWord};
+
+// The parts of `wordDeltaCount`.
+const LONG_WORDS: u16 = 0x8000;
+
+const WORD_DELTA_COUNT_MASK: u16 = 0x7FFF;
+
+/// Reads the delta of a column in a set, or returns `None` if the subtable does not have it. The
+/// first columns are wide, and all are twice as wide in a subtable of long words.
+pub fn read_delta(subtable: &[u8], set: u16, column: u16) -> Option<i32>
+    ensures variant { IsSome result ↔ HasDelta subtable.now set column }
+    ensures value { IfSome result (λ delta. delta ≡ delta_of subtable.now set column) }
+    ensures size { IfSome result (λ delta. unsigned_abs delta ≤ 2 ^ 31) }
+{
+    let (words, count) = (u16::read_at(subtable, 2)?, u16::read_at(subtable, 4)?);
+    if set >= u16::read_at(subtable, 0)?
+        || column >= count
+        || words & WORD_DELTA_COUNT_MASK > count
+    {
+        return None;
+    }
+    let offset = usize::try_from(offset_of(words, count, set, column)).ok()?;
+    read_signed(subtable, offset, width_of(words, column))
+}
+
+// Returns the size of a narrow delta, by the count of wide columns.
+fn narrow_width_of(words: u16) -> usize
+    ensures value { result ≡ narrow_width words }
+    ensures small { result ≤ 2 }
+{
+    if words & LONG_WORDS != 0 { 2 } else { 1 }
+}
+
+// Returns the size of a delta.
+fn width_of(words: u16, column: u16) -> usize
+    ensures value { result ≡ delta_width words column }
+    ensures known { (result ≡ 1) ⊎ ((result ≡ 2) ⊎ (result ≡ 4)) }
+{
+    if column < words & WORD_DELTA_COUNT_MASK {
+        2 * narrow_width_of(words)
+    } else {
+        narrow_width_of(words)
+    }
+}
+
+// Returns the offset of the delta of a column in a set, which a `usize` of 32 bits may not hold.
+fn offset_of(words: u16, count: u16, set: u16, column: u16) -> u64
+    ensures value { result ≡ delta_place words count set column }
+    ensures small { result < 2 ^ 40 }
+{
+    let wide = words & WORD_DELTA_COUNT_MASK;
+    let row = u64::from(count) + u64::from(wide);
+    let units = u64::from(set) * row + u64::from(column) + u64::from(column.min(wide));
+    6 + 2 * u64::from(count) + narrow_width_of(words) as u64 * units
+}
+
+// Reads a signed integer of one, two or four bytes.
+fn read_signed(bytes: &[u8], offset: usize, width: usize) -> Option<i32>
+    requires { (width ≡ 1) ⊎ ((width ≡ 2) ⊎ (width ≡ 4)) }
+    ensures variant { IsSome result ↔ (offset + width ≤ length bytes.now) }
+    ensures value { IfSome result (λ number.
+        number ≡ signed_numeral width (take width (drop offset bytes.now))) }
+    ensures size { IfSome result (λ number. unsigned_abs number ≤ 2 ^ 31) }
+{
+    match width {
+        1 => Some(i32::from(i8::read_at(bytes, offset)?)),
+        2 => Some(i32::from(i16::read_at(bytes, offset)?)),
+        _ => i32::read_at(bytes, offset),
+    }
+}
+
+// ---- sums of delta sets
+
+/// Returns the scalar of a column's region and the delta of the column in a set, or `None` if the
+/// subtable does not have the delta or the list the region.
+pub fn column_term(
+    regions: &[u8],
+    subtable: &[u8],
+    set: u16,
+    column: u16,
+    coordinates: &[F2Dot14],
+) -> Option<(Fixed, i32)>
+    ensures variant { IsSome result ↔ HasTerm regions.now subtable.now set column }
+    ensures value { IfSome result (λ term.
+        IsTerm regions.now subtable.now coordinates.now set column term) }
+    ensures low { IfSome result (λ term. pos 0 ≤ℤ fixed_bits term.0) }
+    ensures high { IfSome result (λ term. fixed_bits term.0 ≤ℤ fixed_bits Fixed.ONE) }
+    ensures size { IfSome result (λ term. unsigned_abs term.1 ≤ 2 ^ 31) }
+{
+    let delta = read_delta(subtable, set, column)?;
+    let region = u16::read_at(subtable, 6 + 2 * usize::from(column))?;
+    Some((region_scalar(regions, region, coordinates)?, delta))
+}
+
+/// Returns the exact sum of the deltas of a set, each times the scalar of its region, or `None` if
+/// the subtable does not have the set or the list not all its regions.
+#[tactic(auto, using(font_types::proofs::Callers::calls, crate::proofs::Stores::sum_rules))]
+pub fn set_sum(
+    regions: &[u8],
+    subtable: &[u8],
+    set: u16,
+    coordinates: &[F2Dot14],
+) -> Option<F48Dot16>
+    ensures variant { IsSome result ↔ HasSet regions.now subtable.now set }
+    ensures value { IfSome result (λ sum.
+        IsSetSum regions.now subtable.now coordinates.now set (f48dot16_bits sum)) }
+    ensures near { IfSome result (λ sum.
+        IsNearSetSum regions.now subtable.now coordinates.now set (f48dot16_bits sum)) }
+{
+    let count = u16::read_at(subtable, 4)?;
+    if set >= u16::read_at(subtable, 0)? {
+        return None;
+    }
+    let mut sum = F48Dot16::ZERO;
+    for column in 0..count {
+        let (scalar, delta) = column_term(regions, subtable, set, column, coordinates)?;
+        sum += scalar.mul_i32(delta);
+    }
+    Some(sum)
+}
+
+/// Adds the sum of a delta set at these coordinates to an advance and rounds once, half up, or
+/// returns `None` if the set is not there or the result is out of range.
+pub fn vary_advance(
+    advance: UfWord,
+    regions: &[u8],
+    subtable: &[u8],
+    set: u16,
+    coordinates: &[F2Dot14],
+) -> Option<UfWord>
+    ensures value { MatchOption result
+        (HasNoVaried regions.now subtable.now coordinates.now set (ufword_number advance))
+        (λ varied. HasSet regions.now subtable.now set × IsVaried regions.now subtable.now
+        coordinates.now set (ufword_number advance) (pos (ufword_number varied))) }
+    ensures near { IfSome result (λ varied. IsNearAdvance regions.now subtable.now
+        coordinates.now set (ufword_number advance) (pos (ufword_number varied))) }
+{
+    advance.checked_add_delta(set_sum(regions, subtable, set, coordinates)?)
+}

@@ -1,0 +1,91 @@
+//! Maps from indices to delta sets.
+
+ghost use Rattle.std.specs.Prelude.{◌≡◌, ◌↔◌, ◌<◌, ◌≤◌, ◌+◌, ◌/◌, ◌%◌, ◌^◌};
+ghost use Rattle.std.specs.Prelude.{IsTrue, IsSome, IfSome, length, take, drop};
+ghost use Rattle.font_types.specs.Bytes.{numeral};
+ghost use Rattle.variations.specs.Variations.{HasEntry, entry_of, IsNoVariation, inner_bits};
+
+use font_types::{Scalar, Uint24};
+
+/// The indices of a delta set: of a subtable, and in it.
+#[derive(Clone, Copy, PartialEq, Debug)]
+pub struct DeltaSetIndex {
+    pub outer: u32,
+    pub inner: u32,
+}
+
+/// Returns whether the indices are those of an item without variation data.
+pub fn is_no_variation(set: DeltaSetIndex) -> bool
+    ensures { IsTrue result ↔ IsNoVariation set.outer set.inner }
+{
+    set.outer == 0xFFFF && set.inner == 0xFFFF
+}
+
+// The parts of a map's entry format.
+const INNER_INDEX_BIT_COUNT_MASK: u8 = 0x0F;
+
+const MAP_ENTRY_SIZE_MASK: u8 = 0x30;
+
+/// Reads the delta set of an index by a map of format 0 or 1; the last entry is that of all later
+/// indices. Returns `None` for another format or a map of no entries, or if the map ends before the
+/// entry does.
+pub fn read_delta_set_index(map: &[u8], index: u32) -> Option<DeltaSetIndex>
+    ensures variant { IsSome result ↔ HasEntry map.now index }
+    ensures outer { IfSome result (λ set.
+        set.outer ≡ entry_of map.now index / 2 ^ inner_bits map.now) }
+    ensures inner { IfSome result (λ set.
+        set.inner ≡ entry_of map.now index % 2 ^ inner_bits map.now) }
+{
+    let (count, start) = match u8::read_at(map, 0)? {
+        0 => (u32::from(u16::read_at(map, 2)?), 4),
+        1 => (u32::read_at(map, 2)?, 6),
+        _ => return None,
+    };
+    let format = u8::read_at(map, 1)?;
+    let width = entry_size(format);
+    let place = index.min(count.checked_sub(1)?);
+    let offset = start + width as u64 * u64::from(place);
+    let entry = read_entry(map, usize::try_from(offset).ok()?, width)?;
+    Some(split_entry(entry, bit_count(format)))
+}
+
+// Returns the size of an entry, by the entry format.
+fn entry_size(format: u8) -> usize
+    ensures { result ≡ format / 16 % 4 + 1 }
+{
+    usize::from((format & MAP_ENTRY_SIZE_MASK) >> 4) + 1
+}
+
+// Returns the number of bits of the inner index, by the entry format.
+fn bit_count(format: u8) -> u32
+    ensures { result ≡ format % 16 + 1 }
+{
+    u32::from(format & INNER_INDEX_BIT_COUNT_MASK) + 1
+}
+
+// Reads an unsigned integer of one to four bytes.
+fn read_entry(map: &[u8], offset: usize, width: usize) -> Option<u32>
+    requires { (0 < width) × (width ≤ 4) }
+    ensures variant { IsSome result ↔ (offset + width ≤ length map.now) }
+    ensures value { IfSome result (λ entry.
+        entry ≡ numeral (take width (drop offset map.now))) }
+{
+    match width {
+        1 => Some(u32::from(u8::read_at(map, offset)?)),
+        2 => Some(u32::from(u16::read_at(map, offset)?)),
+        3 => Some(Uint24::read_at(map, offset)?.to_u32()),
+        _ => u32::read_at(map, offset),
+    }
+}
+
+// Splits an entry: the inner index is its low bits.
+fn split_entry(entry: u32, bits: u32) -> DeltaSetIndex
+    requires { bits ≤ 16 }
+    ensures outer { result.outer ≡ entry / 2 ^ bits }
+    ensures inner { result.inner ≡ entry % 2 ^ bits }
+{
+    DeltaSetIndex {
+        outer: entry >> bits,
+        inner: entry & ((1 << bits) - 1),
+    }
+}

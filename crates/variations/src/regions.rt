@@ -1,0 +1,183 @@
+//! Variation regions: the scalar of each axis, and of a region.
+
+ghost use Rattle.std.specs.Prelude.{◌≡◌, ◌≢◌, ◌↔◌, ◌≤◌, ◌+◌, ◌*◌};
+ghost use Rattle.std.specs.Prelude.{pos, ◌≤ℤ◌, ◌<ℤ◌, ◌-ℤ◌, ◌*ℤ◌};
+ghost use Rattle.std.specs.Prelude.{IsTrue, IsSome, IfSome, length};
+ghost use Rattle.font_types.specs.Operations.{IsProduct, IsQuotient};
+ghost use Rattle.font_types.specs.Fixed;
+ghost use Rattle.font_types.specs.Fixed.{fixed_bits};
+ghost use Rattle.font_types.specs.F2Dot14.{f2dot14_bits};
+ghost use Rattle.variations.specs.Variations.{IsIgnored, IsOffRegion, IsAxisScalar, HasRegion};
+ghost use Rattle.variations.specs.Variations.{axis_count, region_bytes, stored_bits};
+ghost use Rattle.variations.specs.Variations.{coordinate_bits};
+ghost use Rattle.variations.specs.Variations.{IsScalarAlong, IsScalarOf, IsNearScalar};
+ghost use Rattle.variations.specs.Variations.{IsRegionScalar};
+ghost use Rattle.variations.specs.Variations.{IsNearRegionScalar};
+
+use crate::evaluator::ratio;
+use font_types::{F2Dot14, Fixed, Scalar};
+
+/// The extent of a region along one axis.
+#[derive(Clone, Copy, PartialEq, Debug)]
+pub struct RegionAxisCoordinates {
+    pub start_coord: F2Dot14,
+    pub peak_coord: F2Dot14,
+    pub end_coord: F2Dot14,
+}
+
+/// Returns whether an axis is ignored in a region: its coordinates are out of order or on both
+/// sides of zero, or the peak is zero.
+pub fn is_ignored(axis: RegionAxisCoordinates) -> bool
+    ensures { IsTrue result ↔ IsIgnored (f2dot14_bits axis.start_coord)
+        (f2dot14_bits axis.peak_coord) (f2dot14_bits axis.end_coord) }
+{
+    let zero = F2Dot14::ZERO;
+    axis.peak_coord < axis.start_coord
+        || axis.end_coord < axis.peak_coord
+        || (axis.start_coord < zero && zero < axis.end_coord)
+        || axis.peak_coord == zero
+}
+
+/// Returns the scalar of a region along one axis, from 0 to 1.
+pub fn axis_scalar(axis: RegionAxisCoordinates, coordinate: F2Dot14) -> Fixed
+    ensures value { IsAxisScalar (f2dot14_bits axis.start_coord) (f2dot14_bits axis.peak_coord)
+        (f2dot14_bits axis.end_coord) (f2dot14_bits coordinate) (fixed_bits result) }
+    ensures low { pos 0 ≤ℤ fixed_bits result }
+    ensures high { fixed_bits result ≤ℤ fixed_bits Fixed.ONE }
+{
+    if is_ignored(axis) || coordinate == axis.peak_coord {
+        Fixed::ONE
+    } else {
+        scalar_off_peak(axis, coordinate)
+    }
+}
+
+// Returns `axis_scalar` of an axis that is not ignored, at another coordinate than the peak.
+fn scalar_off_peak(axis: RegionAxisCoordinates, coordinate: F2Dot14) -> Fixed
+    requires order { (f2dot14_bits axis.start_coord ≤ℤ f2dot14_bits axis.peak_coord)
+        × (f2dot14_bits axis.peak_coord ≤ℤ f2dot14_bits axis.end_coord) }
+    requires away { f2dot14_bits coordinate ≢ f2dot14_bits axis.peak_coord }
+    ensures outside { IsOffRegion (f2dot14_bits axis.start_coord)
+        (f2dot14_bits axis.end_coord) (f2dot14_bits coordinate) → fixed_bits result ≡ pos 0 }
+    ensures rising { f2dot14_bits axis.start_coord <ℤ f2dot14_bits coordinate
+        → f2dot14_bits coordinate <ℤ f2dot14_bits axis.peak_coord
+        → IsQuotient 32 16 (f2dot14_bits coordinate -ℤ f2dot14_bits axis.start_coord)
+        (f2dot14_bits axis.peak_coord -ℤ f2dot14_bits axis.start_coord) (fixed_bits result) }
+    ensures falling { f2dot14_bits axis.peak_coord <ℤ f2dot14_bits coordinate
+        → f2dot14_bits coordinate <ℤ f2dot14_bits axis.end_coord
+        → IsQuotient 32 16 (f2dot14_bits axis.end_coord -ℤ f2dot14_bits coordinate)
+        (f2dot14_bits axis.end_coord -ℤ f2dot14_bits axis.peak_coord) (fixed_bits result) }
+    ensures low { pos 0 ≤ℤ fixed_bits result }
+    ensures high { fixed_bits result ≤ℤ fixed_bits Fixed.ONE }
+{
+    let (start, peak, end) = (axis.start_coord, axis.peak_coord, axis.end_coord);
+    if coordinate <= start || end <= coordinate {
+        Fixed::ZERO
+    } else if coordinate < peak {
+        ratio(widened(start, coordinate), widened(start, peak))
+    } else {
+        ratio(widened(coordinate, end), widened(peak, end))
+    }
+}
+
+// Returns the exact difference `to - from`.
+fn widened(from: F2Dot14, to: F2Dot14) -> Fixed
+    ensures { fixed_bits result ≡ ((f2dot14_bits to -ℤ f2dot14_bits from) *ℤ pos 4) }
+{
+    to.to_fixed() - from.to_fixed()
+}
+
+// Returns a product of numbers from 0 to 1.
+fn scaled(scalar: Fixed, along: Fixed) -> Fixed
+    requires scalar { (pos 0 ≤ℤ fixed_bits scalar)
+        × (fixed_bits scalar ≤ℤ fixed_bits Fixed.ONE) }
+    requires along { (pos 0 ≤ℤ fixed_bits along) × (fixed_bits along ≤ℤ fixed_bits Fixed.ONE) }
+    ensures value { IsProduct 32 16 (fixed_bits scalar) (fixed_bits along) (fixed_bits result) }
+    ensures low { pos 0 ≤ℤ fixed_bits result }
+    ensures high { fixed_bits result ≤ℤ fixed_bits Fixed.ONE }
+{
+    scalar * along
+}
+
+// Returns the coordinate along an axis, by default 0.
+fn coordinate_along(coordinates: &[F2Dot14], axis: u16) -> F2Dot14
+    ensures { f2dot14_bits result ≡ coordinate_bits coordinates.now axis }
+{
+    match coordinates.get(usize::from(axis)) {
+        Some(coordinate) => *coordinate,
+        None => F2Dot14::ZERO,
+    }
+}
+
+// Reads the extent of a region along an axis.
+fn axis_of(region: &[u8], axis: u16) -> RegionAxisCoordinates
+    requires { 6 * axis + 6 ≤ length region.now }
+    ensures start { f2dot14_bits result.start_coord ≡ stored_bits region.now (6 * axis) }
+    ensures peak { f2dot14_bits result.peak_coord ≡ stored_bits region.now (6 * axis + 2) }
+    ensures end { f2dot14_bits result.end_coord ≡ stored_bits region.now (6 * axis + 4) }
+{
+    let offset = 6 * usize::from(axis);
+    RegionAxisCoordinates {
+        start_coord: F2Dot14::read_at(region, offset).unwrap(),
+        peak_coord: F2Dot14::read_at(region, offset + 2).unwrap(),
+        end_coord: F2Dot14::read_at(region, offset + 4).unwrap(),
+    }
+}
+
+// Returns the scalar of a region along an axis.
+fn scalar_along(region: &[u8], coordinates: &[F2Dot14], axis: u16) -> Fixed
+    requires { 6 * axis + 6 ≤ length region.now }
+    ensures value { IsScalarAlong region.now coordinates.now axis (fixed_bits result) }
+    ensures low { pos 0 ≤ℤ fixed_bits result }
+    ensures high { fixed_bits result ≤ℤ fixed_bits Fixed.ONE }
+{
+    axis_scalar(axis_of(region, axis), coordinate_along(coordinates, axis))
+}
+
+// Returns the product of the scalars along all axes.
+#[tactic(auto, using(font_types::proofs::Callers::calls, crate::proofs::Stores::scalar_rules))]
+fn product_of_scalars(region: &[u8], axes: u16, coordinates: &[F2Dot14]) -> Fixed
+    requires { 6 * axes ≤ length region.now }
+    ensures value { IsScalarOf region.now coordinates.now axes (fixed_bits result) }
+    ensures near { IsNearScalar region.now coordinates.now axes (fixed_bits result) }
+    ensures low { pos 0 ≤ℤ fixed_bits result }
+    ensures high { fixed_bits result ≤ℤ fixed_bits Fixed.ONE }
+{
+    let mut scalar = Fixed::ONE;
+    for axis in 0..axes {
+        scalar = scaled(scalar, scalar_along(region, coordinates, axis));
+    }
+    scalar
+}
+
+// Returns the bytes of a region.
+fn find_region(regions: &[u8], region: u16) -> Option<&[u8]>
+    ensures variant { IsSome result ↔ HasRegion regions.now region }
+    ensures value { IfSome result (λ bytes. bytes.now ≡ region_bytes regions.now region) }
+    ensures len { IfSome result (λ bytes. length bytes.now ≡ 6 * axis_count regions.now) }
+{
+    let (axes, count) = (u16::read_at(regions, 0)?, u16::read_at(regions, 2)?);
+    if count >= 0x8000 || region >= count {
+        return None;
+    }
+    // In 64 bits, where a `usize` of 32 could overflow.
+    let start = 4 + 6 * (u64::from(region) * u64::from(axes));
+    let rest = regions.get(usize::try_from(start).ok()?..)?;
+    rest.get(..6 * usize::from(axes))
+}
+
+/// Returns the scalar of a region, the product of those of its axes, from 0 to 1, or `None` if the
+/// list does not have the region. Axes beyond the coordinates are at their default.
+pub fn region_scalar(regions: &[u8], region: u16, coordinates: &[F2Dot14]) -> Option<Fixed>
+    ensures variant { IsSome result ↔ HasRegion regions.now region }
+    ensures value { IfSome result (λ scalar.
+        IsRegionScalar regions.now region coordinates.now (fixed_bits scalar)) }
+    ensures near { IfSome result (λ scalar.
+        IsNearRegionScalar regions.now region coordinates.now (fixed_bits scalar)) }
+    ensures low { IfSome result (λ scalar. pos 0 ≤ℤ fixed_bits scalar) }
+    ensures high { IfSome result (λ scalar. fixed_bits scalar ≤ℤ fixed_bits Fixed.ONE) }
+{
+    let region = find_region(regions, region)?;
+    let axes = u16::read_at(regions, 0)?;
+    Some(product_of_scalars(region, axes, coordinates))
+}

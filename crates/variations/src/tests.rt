@@ -1,0 +1,5 @@
+//! A row or two for each function, from OpenType and from arithmetic by hand: no clause says that
+//! its definitions are those of the field.
+
+mod evaluator;
+mod variations;
