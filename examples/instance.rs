@@ -1,5 +1,5 @@
-//! Prints the advances of characters in an instance of a variable font, in the order of its axes:
-//! `cargo run --example instance -- FONT TEXT wght=600 wdth=87.5`.
+//! Prints the advances of characters, and of glyphs by their numbers, in an instance of a variable
+//! font: `cargo run --example instance -- FONT TEXT 36 37 wght=600 wdth=87.5`.
 //!
 //! What is here finds the tables. What computes coordinates and advances is proved: `proved` is
 //! the source of `crates/variations`, without its contracts.
@@ -178,13 +178,15 @@ fn setting(word: &str, axes: &[VariationAxisRecord]) -> Result<Setting, String> 
 
 #[allow(dead_code)]
 fn main() -> Result<(), Box<dyn std::error::Error>> {
-    let usage = "cargo run --example instance -- FONT TEXT wght=600 wdth=87.5";
+    let usage = "cargo run --example instance -- FONT TEXT 36 37 wght=600 wdth=87.5";
     let mut words = std::env::args().skip(1);
     let bytes = std::fs::read(words.next().ok_or(usage)?)?;
     let text = words.next().ok_or(usage)?;
     let font = Font::new(&bytes).ok_or("no font of one face")?;
     let axes = axes(&font)?;
-    let settings: Result<Vec<Setting>, String> = words.map(|word| setting(&word, &axes)).collect();
+    let (glyphs, words): (Vec<_>, Vec<_>) = words.partition(|word| word.parse::<u16>().is_ok());
+    let settings: Result<Vec<Setting>, String> =
+        words.iter().map(|word| setting(word, &axes)).collect();
     let settings = settings?;
     let mut coordinates = Vec::new();
     for (n, axis) in axes.into_iter().enumerate() {
@@ -201,6 +203,10 @@ fn main() -> Result<(), Box<dyn std::error::Error>> {
     for character in text.chars() {
         let glyph = glyph(&font, character)?;
         println!("{character}: {}", advance(&font, glyph, &coordinates)?);
+    }
+    for glyph in glyphs.iter().flat_map(|word| word.parse()) {
+        let advance = advance(&font, GlyphId16::new(glyph), &coordinates)?;
+        println!("glyph {glyph}: {advance}");
     }
     Ok(())
 }

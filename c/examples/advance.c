@@ -1,11 +1,11 @@
 /*
- * advance FONT SIZE TEXT [TAG=VALUE ..] prints, for each character of a text in UTF-8, its glyph
- * and the advance of that in an instance of the font: in font units, and in pixels at SIZE pixels
- * per em. For example: advance font.ttf 16 AVA wght=650. The last value of an axis counts.
+ * advance FONT SIZE GLYPH [TAG=VALUE ..] prints the advance of a glyph, by its number, in an
+ * instance of the font: in font units, and in pixels at SIZE pixels per em. For example:
+ * advance font.ttf 16 36 wght=650. The last value of an axis counts.
  *
- * It prints advances by OpenType's algorithm from the parts of the font that it reads; or, if one
- * of these is broken, or has a form that is not read here, only a message, and returns 1. A broken
- * part that it does not read is not noticed. c/README.md says how exact the advances are.
+ * It prints it by OpenType's algorithm from the parts of the font that it reads; or, if one of
+ * these is broken, or has a form that is not read here, only a message, and returns 1. A broken
+ * part that it does not read is not noticed. c/README.md says how exact the advance is.
  */
 #include "font_types.h"
 
@@ -23,15 +23,14 @@ struct setting {
 
 /* What is asked for, with the size in 26.6. */
 struct request {
-    const char *text;
+    uint32_t glyph;
     int32_t size;
     const struct setting *settings;
     size_t setting_count;
 };
 
-/* What is printed for a character, with the pixels in 26.6. */
+/* What is printed, with the pixels in 26.6. */
 struct advance {
-    uint32_t code, glyph;
     uint16_t units;
     int32_t pixels;
 };
@@ -43,7 +42,7 @@ struct advance {
  */
 struct font {
     const char *error;
-    font_view file, cmap, metrics, axes, hvar;
+    font_view file, metrics, axes, hvar;
     size_t axis_size, axis_count;
     uint16_t units_per_em, glyph_count;
     int16_t coordinates[AXES]; /* 2.14 */
@@ -86,80 +85,6 @@ static font_view table(struct font *font, uint32_t tag, size_t length, const cha
         (void)required(font, font_part(found, 0, length), message);
     }
     return font->error == NULL ? found : absent;
-}
-
-/* ---- `cmap`: the glyph of a character ---- */
-
-/* Stores the glyph of a character by format 4, if it has one. */
-static int map_by_4(struct font *font, font_view map, uint32_t code, uint32_t *glyph) {
-    const char *const early = "cmap: format 4 ends early";
-    const size_t size = font_u16(map, 6) / 2 * 2u;
-    const font_view ends = font_part(map, 14, size);
-    const font_view rest = required(font, font_part(map, 16 + size, 3 * size), early);
-    size_t at = size;
-    for (size_t i = ends.length; i > 0; i -= 2) {
-        require(font, i == 2 || font_u16(ends, i - 4) < font_u16(ends, i - 2),
-                "cmap: segments out of order");
-        if (code <= font_u16(ends, i - 2))
-            at = i - 2;
-    }
-    const uint32_t start = font_u16(rest, at);
-    if (at == size || code < start || font->error != NULL)
-        return 0;
-    const uint16_t delta = font_u16(rest, at + size), offset = font_u16(rest, at + 2 * size);
-    uint32_t number = code;
-    if (offset != 0) {
-        /* From the place of the offset itself. */
-        const size_t place = 16 + 3 * size + at + offset + 2 * (size_t)(code - start);
-        number = font_u16(required(font, font_part(map, place, 2), early), 0);
-        if (number == 0)
-            return 0;
-    }
-    *glyph = (number + delta) & 0xFFFF;
-    return 1;
-}
-
-/* Stores the glyph of a character by format 12, if it has one. */
-static int map_by_12(struct font *font, font_view map, uint32_t code, uint32_t *glyph) {
-    const font_view groups = required(font, font_items(map, 16, font_u32(map, 12), 12),
-                                      "cmap: format 12 ends early");
-    int is_found = 0;
-    for (size_t i = 0; i < groups.length; i += 12) {
-        const uint32_t start = font_u32(groups, i), end = font_u32(groups, i + 4);
-        require(font, start <= end && (i == 0 || font_u32(groups, i - 8) < start),
-                "cmap: groups out of order");
-        if (start <= code && code <= end) {
-            *glyph = font_u32(groups, i + 8) + (code - start);
-            is_found = 1;
-        }
-    }
-    return is_found;
-}
-
-/* The glyph of a character by the first subtable of format 4 or 12 that has it, or .notdef. */
-static uint32_t glyph_of(struct font *font, uint32_t code) {
-    const font_view records = required(
-        font, font_items(font->cmap, 4, font_u16(font->cmap, 2), 8), "cmap ends early");
-    const char *const early = "cmap: a subtable ends early";
-    uint32_t glyph = 0;
-    int is_read = 0, is_found = 0;
-    for (size_t i = 0; i < records.length && !is_found; i += 8) {
-        const uint16_t platform = font_u16(records, i), encoding = font_u16(records, i + 2);
-        const font_view map = required(font, at_offset(font, font->cmap, 8 + i, 2, early), early);
-        const uint16_t format = font_u16(map, 0);
-        if (format != 4 && format != 12)
-            continue;
-        require(font, platform == 0 || (platform == 3 && (encoding == 1 || encoding == 10)),
-                "cmap: not for Unicode");
-        is_read = 1;
-        if (format == 12)
-            is_found = map_by_12(font, map, code, &glyph);
-        else if (code <= 0xFFFF)
-            is_found = map_by_4(font, map, code, &glyph);
-    }
-    require(font, is_read, "no cmap of format 4 or 12");
-    require(font, glyph < font->glyph_count, "cmap: a glyph that the font does not have");
-    return glyph;
 }
 
 /* ---- `fvar` and `avar`: the coordinates of the instance ---- */
@@ -337,15 +262,12 @@ static void read_tables(struct font *font) {
     const font_view hhea = table(font, FONT_TAG('h', 'h', 'e', 'a'), 36, "hhea ends early");
     const font_view hmtx = table(font, FONT_TAG('h', 'm', 't', 'x'), 4, "hmtx ends early");
     const font_view maxp = table(font, FONT_TAG('m', 'a', 'x', 'p'), 6, "maxp ends early");
-    font->cmap = table(font, FONT_TAG('c', 'm', 'a', 'p'), 4, "cmap ends early");
     font->units_per_em = font_u16(head, 18), font->glyph_count = font_u16(maxp, 4);
     require(font, 16 <= font->units_per_em && font->units_per_em <= 16384,
             "head: not 16 to 16384 units per em");
-    require(font, font->cmap.bytes != NULL, "no cmap");
     require(font, font->glyph_count > 0, "no glyphs");
     require(font, font_u16(hhea, 34) > 0, "no advances");
     require(font, font_u16(hhea, 0) == 1, "hhea: not of version 1");
-    require(font, font_u16(font->cmap, 0) == 0, "cmap: not of version 0");
     font->metrics = required(font, font_items(hmtx, 0, font_u16(hhea, 34), 4), "hmtx ends early");
 }
 
@@ -367,40 +289,18 @@ static void read_variations(struct font *font) {
     font->axis_size = size, font->axis_count = font->error == NULL ? count : 0;
 }
 
-/* Takes a character from a text in UTF-8 that ends with a NUL, which no character goes beyond. */
-static uint32_t next_code(struct font *font, const char **text) {
-    static const uint32_t least[] = {0, 0x80, 0x800, 0x10000};
-    const uint8_t first = (uint8_t)*(*text)++;
-    const int more = first < 0x80 ? 0 : first < 0xE0 ? 1 : first < 0xF0 ? 2 : 3;
-    uint32_t code = more == 0 ? first : first & (0x3Fu >> more);
-    int is_valid = first < 0x80 || (0xC0 <= first && first < 0xF8);
-    for (int i = 0; i < more && is_valid; i++) {
-        is_valid = ((uint8_t)**text & 0xC0) == 0x80;
-        code = code << 6 | ((uint8_t)**text & 0x3F);
-        *text += is_valid;
-    }
-    require(font, is_valid && code >= least[more] && code <= 0x10FFFF
-                      && (code < 0xD800 || code > 0xDFFF), "the text is not UTF-8");
-    return code;
-}
-
-/* Stores the advances of the characters of a text. Returns null, or what is wrong. */
-static const char *read_advances(font_view file, const struct request *request,
-                                 struct advance *advances, size_t *count) {
+/* Stores the advance of a glyph. Returns null, or what is wrong. */
+static const char *read_advance(font_view file, const struct request *request,
+                                struct advance *advance) {
     struct font font = {0};
     font.file = file;
     read_tables(&font);
     read_variations(&font);
     require_axes(&font, request);
     set_coordinates(&font, request);
-    *count = 0;
-    for (const char *text = request->text; *text != '\0' && font.error == NULL; ++*count) {
-        struct advance *const next = &advances[*count];
-        next->code = next_code(&font, &text);
-        next->glyph = glyph_of(&font, next->code);
-        next->units = advance_of(&font, next->glyph);
-        next->pixels = font_fixed_mul_div(request->size, next->units, font.units_per_em);
-    }
+    require(&font, request->glyph < font.glyph_count, "no such glyph");
+    advance->units = advance_of(&font, request->glyph);
+    advance->pixels = font_fixed_mul_div(request->size, advance->units, font.units_per_em);
     return font.error;
 }
 
@@ -437,12 +337,12 @@ static int parse_setting(const char *word, struct setting *setting) {
            && font_fixed_parse(equals + 1, strlen(equals + 1), &setting->value) == FONT_OK;
 }
 
-static void print_advance(const struct advance *advance) {
-    char pixels[FONT_DECIMAL_ROOM];
-    size_t length;
-    if (font_f26dot6_format(advance->pixels, pixels, sizeof pixels, &length) == FONT_OK)
-        printf("U+%04X: glyph %u, advance %u, %.*s pixels\n", (unsigned)advance->code,
-               (unsigned)advance->glyph, (unsigned)advance->units, (int)length, pixels);
+/* Parses digits, of a number of at most 16 bits. */
+static int parse_glyph(const char *word, uint32_t *glyph) {
+    char *end;
+    const unsigned long number = strtoul(word, &end, 10);
+    *glyph = (uint32_t)number;
+    return '0' <= word[0] && word[0] <= '9' && *end == '\0' && number <= UINT16_MAX;
 }
 
 static int fail(const char *what, const char *message) {
@@ -450,30 +350,30 @@ static int fail(const char *what, const char *message) {
     return 1;
 }
 
-/* Reads and prints the advances. */
+/* Reads and prints the advance. */
 static int run(const char *path, const struct request *request) {
     const font_view file = load(path);
-    struct advance *const advances =
-        (struct advance *)malloc((strlen(request->text) + 1) * sizeof *advances);
-    size_t count = 0;
-    const char *error = "cannot be read";
-    if (file.bytes != NULL && advances != NULL)
-        error = read_advances(file, request, advances, &count);
-    for (size_t i = 0; i < count && error == NULL; i++)
-        print_advance(&advances[i]);
-    free(advances);
+    struct advance advance = {0, 0};
+    char pixels[FONT_DECIMAL_ROOM];
+    size_t length = 0;
+    const char *const error =
+        file.bytes == NULL ? "cannot be read" : read_advance(file, request, &advance);
     free((void *)(uintptr_t)file.bytes);
     if (error != NULL)
         return fail(path, error);
+    if (font_f26dot6_format(advance.pixels, pixels, sizeof pixels, &length) == FONT_OK)
+        printf("glyph %u: %u, %.*s pixels\n", (unsigned)request->glyph, (unsigned)advance.units,
+               (int)length, pixels);
     return fflush(stdout) == 0 ? 0 : fail("output", "cannot be written");
 }
 
 int main(int count, char **words) {
     struct setting settings[AXES];
-    struct request request = {NULL, 0, settings, 0};
+    struct request request = {0, 0, settings, 0};
     if (count < 4 || count - 4 > AXES)
-        return fail("usage", "advance FONT SIZE TEXT [TAG=VALUE ..]");
-    request.text = words[3];
+        return fail("usage", "advance FONT SIZE GLYPH [TAG=VALUE ..]");
+    if (!parse_glyph(words[3], &request.glyph))
+        return fail(words[3], "not the number of a glyph");
     if (font_f26dot6_parse(words[2], strlen(words[2]), &request.size) != FONT_OK
         || request.size < 0 || request.size > MOST_PIXELS)
         return fail(words[2], "not a decimal from 0 to 4096");

@@ -1,20 +1,14 @@
 //! Fonts, and what `c/examples/advance.c` has to say of them, for `c/tests/advances.c`.
 
 use crate::fonts::{
-    MAP, MAPS, font, font_of, fvar, hvar, hvar_of_two_axes, long_axes, long_hvar, two_axes, words,
+    MAP, MAPS, font, font_of, fvar, hvar, hvar_of_two_axes, large, long_axes, long_hvar, two_axes,
+    words,
 };
 use crate::instance;
-use font_types_proved::{Fixed, Tag};
-
-/// Characters of glyphs 0 and 1; those of all three, which need a map of glyphs in some fonts.
-const TEXTS: [&str; 2] = ["\n\u{15}\u{99}\u{9A}a", "A\u{1F600}\u{1F601}\n"];
-
-/// Texts, apart by bars, that are not UTF-8.
-const NOT_UTF_8: &[u8] = b"A\xFF|\x80|\xC3A|\xC3|\xE2\x82|\xC0\x80|\xE0\x9F\xBF|\xED\xA0\x80|\
-    \xED\xB0\x80|\xF0\x8F\xBF\xBF|\xF4\x90\x80\x80|\xF8\x88\x80\x80\x80";
+use font_types_proved::{Fixed, GlyphId16, Tag};
 
 /// Values of the two axes, at the ends of their ranges, at the default, and beyond.
-const SETTINGS: [[&str; 2]; 9] = [
+const SETTINGS: [[&str; 2]; 10] = [
     ["400", "100"],
     ["650", "150"],
     ["900", "200"],
@@ -24,6 +18,7 @@ const SETTINGS: [[&str; 2]; 9] = [
     ["775", "100"],
     ["525", "75.5"],
     ["250", "133.25"],
+    ["100", "150"],
 ];
 
 /// A value of an axis.
@@ -31,15 +26,18 @@ type Setting = (Tag, Fixed);
 
 /// What the program has to say.
 enum Answer {
-    /// Glyphs and advances, or any message if there are none.
-    Advances(Option<Vec<[u16; 2]>>),
+    /// The advances of three glyphs, or any message if there are none.
+    Advances(Option<[u16; 3]>),
     /// If it prints advances, then these.
-    Compared(Option<Vec<[u16; 2]>>),
+    Compared(Option<[u16; 3]>),
     Message(&'static str),
 }
 
+/// Glyphs of a font that has three.
+const GLYPHS: [u16; 3] = [0, 1, 2];
+
 /// Adds a case to the bytes of all.
-fn push(cases: &mut Vec<u8>, font: &[u8], settings: &[Setting], text: &[u8], answer: &Answer) {
+fn push(cases: &mut Vec<u8>, font: &[u8], settings: &[Setting], glyphs: [u16; 3], answer: &Answer) {
     let kind = match answer {
         Answer::Advances(_) => b'a',
         Answer::Compared(_) => b'c',
@@ -53,20 +51,19 @@ fn push(cases: &mut Vec<u8>, font: &[u8], settings: &[Setting], text: &[u8], ans
         cases.extend(tag.to_be_bytes());
         cases.extend(value.to_be_bytes());
     }
+    cases.extend(words(&glyphs));
     let answer = match answer {
-        Answer::Advances(pairs) | Answer::Compared(pairs) => {
-            words(&pairs.clone().unwrap_or_default().concat())
+        Answer::Advances(units) | Answer::Compared(units) => {
+            units.map_or_else(Vec::new, |units| words(&units))
         }
         Answer::Message(message) => message.as_bytes().to_vec(),
     };
-    for bytes in [text, &answer] {
-        cases.push(bytes.len() as u8);
-        cases.extend(bytes);
-    }
+    cases.push(answer.len() as u8);
+    cases.extend(answer);
 }
 
-/// Returns what `examples/instance.rs` prints: the advances, with the glyphs; or its message.
-fn by_instance(bytes: &[u8], settings: &[Setting], text: &str) -> Result<Vec<[u16; 2]>, String> {
+/// Returns the advances of `examples/instance.rs`, or its message.
+fn by_instance(bytes: &[u8], settings: &[Setting], glyphs: [u16; 3]) -> Result<[u16; 3], String> {
     let font = instance::font::Font::new(bytes).ok_or("no font of one face")?;
     let mut coordinates = Vec::new();
     for (n, axis) in instance::axes(&font)?.into_iter().enumerate() {
@@ -74,35 +71,11 @@ fn by_instance(bytes: &[u8], settings: &[Setting], text: &str) -> Result<Vec<[u1
         let value = setting.map_or(axis.default_value, |(_, value)| *value);
         coordinates.push(instance::normalized(&font, n, axis, value)?);
     }
-    let pairs = text.chars().map(|character| {
-        let glyph = instance::glyph(&font, character)?;
-        let advance = instance::advance(&font, glyph, &coordinates)?;
-        Ok([glyph.to_u16(), advance.to_u16()])
-    });
-    pairs.collect()
-}
-
-/// Replaces words that occur once.
-fn replace(font: &mut [u8], old: &[u16], new: &[u16]) {
-    let (old, new) = (words(old), words(new));
-    let mut places = (0..font.len()).filter(|place| font[*place..].starts_with(&old));
-    let (place, next) = (places.next().expect("the words"), places.next());
-    assert!(next.is_none(), "{old:?}");
-    font[place..][..new.len()].copy_from_slice(&new);
-}
-
-/// Gives the characters of [`TEXTS`] glyphs of a font that has three.
-fn with_three_glyphs(mut font: Vec<u8>) -> Vec<u8> {
-    // `A` is glyph 2, and U+0099 glyph 1 by the array, whose glyph wraps.
-    let deltas = [0xFFF7, 0xFFEE, 7, 1, 0, 0, 4, 0];
-    let [old, new] = [(-18i16, 100), (-63, -6)].map(|(delta, glyph): (i16, i16)| {
-        let mut words = [&deltas[..], &[glyph as u16]].concat();
-        words[1] = delta as u16;
-        words
-    });
-    replace(&mut font, &old, &new);
-    replace(&mut font, &[1, 0xF60F, 0, 500], &[1, 0xF60F, 0, 1]);
-    font
+    let mut units = glyphs;
+    for glyph in &mut units {
+        *glyph = instance::advance(&font, GlyphId16::new(*glyph), &coordinates)?.to_u16();
+    }
+    Ok(units)
 }
 
 /// A table of three delta sets over `count` regions of one axis, each with a peak of its own.
@@ -142,9 +115,8 @@ fn fonts() -> Vec<(Vec<u8>, usize)> {
         // The segment map goes beyond -1 and 1, to which coordinates are clamped.
         (with(font(hvar()), b"avar", 12, &[0xA000]), 1),
         (with(font(hvar()), b"avar", 24, &[0x5000]), 1),
-        // A slope that is rounded; an odd length of an array; reserved bits; a kind of Apple.
+        // A slope that is rounded; reserved bits; a kind of Apple.
         (with(font(long_hvar()), b"avar", 18, &[0x3539, 0x14F0]), 1),
-        (with(font(hvar()), b"cmap", 26, &[9]), 1),
         (with(font(hvar()), b"HVAR", 66, &[0xC0]), 1),
         // The values of an axis are as far apart as they can be.
         (with(font(hvar()), b"fvar", 20, &farthest), 1),
@@ -159,18 +131,16 @@ fn fonts() -> Vec<(Vec<u8>, usize)> {
         ),
     ];
     fonts.extend(MAPS.map(of_two_axes));
+    // A map to below -1, and a region with its peak there.
+    fonts.extend(MAPS.map(|map| (with(of_two_axes(map).0, b"avar", 12, &[0xA000]), 2)));
     fonts.extend([0, 1, 65, 1024].map(|count| (font(hvar_of_regions(count)), 1)));
-    let fonts = fonts.into_iter();
     fonts
-        .map(|(font, axes)| (with_three_glyphs(font), axes))
-        .collect()
 }
 
 /// Words that are not read: minor versions, reserved ones, lengths, flags, and those of a search.
-const UNREAD: [(&[u8; 4], &[usize]); 6] = [
+const UNREAD: [(&[u8; 4], &[usize]); 5] = [
     (b"head", &[0, 2, 12, 14, 16]),
     (b"hhea", &[2, 4, 32]),
-    (b"cmap", &[22, 24, 28, 30, 32, 74, 76, 78, 80, 82]),
     (b"fvar", &[2, 6, 12, 14, 32, 34]),
     (b"avar", &[2, 4]),
     (b"HVAR", &[2]),
@@ -211,25 +181,27 @@ fn compared(cases: &mut Vec<u8>) {
     };
     for (font, axes) in fonts() {
         for setting in SETTINGS.map(|values| settings(values, axes)) {
-            for text in TEXTS {
-                let answer = Answer::Advances(by_instance(&font, &setting, text).ok());
-                push(cases, &font, &setting, text.as_bytes(), &answer);
-            }
+            let answer = Answer::Advances(by_instance(&font, &setting, GLYPHS).ok());
+            push(cases, &font, &setting, GLYPHS, &answer);
         }
         for n in 0..1000 {
             let mut font = font.clone();
             mutate(&mut font, &mut random);
             let setting = settings(SETTINGS[n % SETTINGS.len()], axes);
-            let text = TEXTS[n / SETTINGS.len() % TEXTS.len()];
-            let answer = Answer::Compared(by_instance(&font, &setting, text).ok());
-            push(cases, &font, &setting, text.as_bytes(), &answer);
+            let answer = Answer::Compared(by_instance(&font, &setting, GLYPHS).ok());
+            push(cases, &font, &setting, GLYPHS, &answer);
         }
     }
 }
 
 /// The font that is broken in [`broken`]: of one axis, with a map of glyphs.
 pub fn whole() -> Vec<u8> {
-    with_three_glyphs(font(hvar()))
+    font(hvar())
+}
+
+/// A font of 400 glyphs, of which the last ones have an advance of more than 15 bits.
+pub fn of_many_glyphs() -> Vec<u8> {
+    with(large(), b"hmtx", 4 * 299, &[0x8001])
 }
 
 /// The place of the record of a table.
@@ -248,10 +220,9 @@ fn with(mut font: Vec<u8>, tag: &[u8; 4], offset: usize, new: &[u16]) -> Vec<u8>
 }
 
 /// What is wrong with a font, and what the program says: the length of a table, `none` for a table
-/// that is missing, or an offset of a table and other words. Of `cmap`, the subtable of format 4 is
-/// at 20, and that of format 12 at 72; of `fvar`, the values of the axis are at 20; of `avar`, the
-/// segment map is at 8; of `HVAR`, the store is at 20, its regions at 32, its data at 48, with sets
-/// at 58, and the map at 66.
+/// that is missing, or an offset of a table and other words. Of `fvar`, the values of the axis are
+/// at 20; of `avar`, the segment map is at 8; of `HVAR`, the store is at 20, its regions at 32, its
+/// data at 48, with sets at 58, and the map at 66.
 const BROKEN: &str = "\
 hmtx 3: hmtx ends early
 head 53: head ends early
@@ -265,24 +236,6 @@ maxp none: no glyphs
 hhea none: no advances
 hhea 34 0: no advances
 hmtx none: hmtx ends early
-cmap none: no cmap
-cmap 3: cmap ends early
-cmap 19: cmap ends early
-cmap 21: cmap: a subtable ends early
-cmap 10 0: cmap: a subtable ends early
-cmap 33: cmap: format 4 ends early
-cmap 26 26: cmap: format 4 ends early
-cmap 62 0x4000: cmap: format 4 ends early
-cmap 36 20: cmap: segments out of order
-cmap 87: cmap: format 12 ends early
-cmap 111: cmap: format 12 ends early
-cmap 84 1: cmap: format 12 ends early
-cmap 102 0xF60F: cmap: groups out of order
-cmap 90 0xF610: cmap: groups out of order
-cmap 98 2: cmap: a glyph that the font does not have
-cmap 4 1: cmap: not for Unicode
-cmap 4 3 0: cmap: not for Unicode
-cmap 2 0: no cmap of format 4 or 12
 fvar 15: fvar ends early
 fvar 35: fvar ends early
 fvar 10 19: fvar: not of version 1
@@ -309,7 +262,7 @@ HVAR 30 47: HVAR: the store ends early
 HVAR 48 5: HVAR: the store ends early
 HVAR 52 10: HVAR: the store ends early
 HVAR 32 2: HVAR: not as many axes
-HVAR 34 0x8002: HVAR: a reserved count of regions
+HVAR 34 0x8000: HVAR: a reserved count of regions
 HVAR 34 7: HVAR: the regions end early
 HVAR 56 2: HVAR: no such region
 HVAR 50 3: HVAR: a delta set without a sum
@@ -327,7 +280,6 @@ HVAR 68 0: HVAR: the map is empty
 /// Likewise, and `instance` says the same. Of `HVAR`, the number of data of the store is at 26.
 const BROKEN_FOR_BOTH: &str = "\
 hhea 0 7: hhea: not of version 1
-cmap 0 7: cmap: not of version 0
 fvar 0 2: fvar: not of version 1
 avar 0 2: avar: not of version 1
 HVAR 0 2: HVAR: not of version 1
@@ -395,18 +347,32 @@ fn others() -> [(Vec<u8>, &'static str); 10] {
 pub fn cases() -> Vec<u8> {
     let mut cases = Vec::new();
     compared(&mut cases);
-    let (setting, text) = (settings(["650", "100"], 1), TEXTS.concat());
+    let setting = settings(["650", "100"], 1);
     let [by_c, by_both] = [BROKEN, BROKEN_FOR_BOTH].map(|lines| lines.lines().map(broken));
     for (font, message) in by_both.clone() {
-        assert_eq!(by_instance(&font, &setting, &text), Err(message.into()));
+        assert_eq!(by_instance(&font, &setting, GLYPHS), Err(message.into()));
     }
     for (font, message) in others().into_iter().chain(by_c).chain(by_both) {
-        let answer = Answer::Message(message);
-        push(&mut cases, &font, &setting, text.as_bytes(), &answer);
+        push(
+            &mut cases,
+            &font,
+            &setting,
+            GLYPHS,
+            &Answer::Message(message),
+        );
     }
-    for text in NOT_UTF_8.split(|byte| *byte == b'|') {
-        let answer = Answer::Message("the text is not UTF-8");
-        push(&mut cases, &whole(), &setting, text, &answer);
+    // The second glyph has the last advance of its own, and the third one, after it, the same.
+    for value in ["400", "900", "100"] {
+        let (font, setting, glyphs) =
+            (of_many_glyphs(), settings([value, "100"], 1), [7, 299, 305]);
+        let answer = by_instance(&font, &setting, glyphs).expect("advances");
+        push(
+            &mut cases,
+            &font,
+            &setting,
+            glyphs,
+            &Answer::Advances(Some(answer)),
+        );
     }
     cases
 }

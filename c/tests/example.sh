@@ -22,37 +22,34 @@ fi
 
 # What advance.c prints, of a file of more bytes than it reads at once too.
 cc -std=c99 $strict $warnings examples/advance.c "$archive" -o "$work/advance"
-{ cat "$work/whole.otf" && head -c 5000000 /dev/zero; } >"$work/large.otf"
-for font in whole large; do
-    [[ $("$work/advance" "$work/$font.otf" 16.5 $'\x15\nA\xE2\x82\xAC\xF0\x9F\x98\x81' wght=1 \
-        wght=900) == 'U+0015: glyph 0, advance 600, 9.9 pixels
-U+000A: glyph 1, advance 620, 10.23 pixels
-U+0041: glyph 2, advance 620, 10.23 pixels
-U+20AC: glyph 0, advance 600, 9.9 pixels
-U+1F601: glyph 2, advance 620, 10.23 pixels' ]]
-done
+[[ $("$work/advance" "$work/whole.otf" 16.5 0 wght=1 wght=900) == 'glyph 0: 600, 9.9 pixels' ]]
+[[ $("$work/advance" "$work/large.otf" 16.5 305 wght=900) == 'glyph 305: 33074, 545.72 pixels' ]]
 settings=$(printf ' wght=900%.0s' {1..64})
-[[ $("$work/advance" "$work/whole.otf" 4096 A $settings) == 'U+0041: glyph 2, '* ]]
+[[ $("$work/advance" "$work/whole.otf" 4096 2 $settings) == 'glyph 2: 620, 2539.52 pixels' ]]
 
 # What it refuses, with a message.
 refuses() {
     fails "$work/advance" "${@:2}"
     [[ $(<"$work/log") == "advance: "*": $1" ]]
 }
-usage='advance FONT SIZE TEXT [TAG=VALUE ..]'
+usage='advance FONT SIZE GLYPH [TAG=VALUE ..]'
 refuses "$usage" "$work/whole.otf" 16
-refuses "$usage" "$work/whole.otf" 16 A $settings wght=900
+refuses "$usage" "$work/whole.otf" 16 2 $settings wght=900
+for glyph in A '' -1 +1 ' 1' 65536 2x; do
+    refuses 'not the number of a glyph' "$work/whole.otf" 16 "$glyph"
+done
+refuses 'no such glyph' "$work/whole.otf" 16 3
 for path in "$work/none" "$work"; do
-    refuses 'cannot be read' "$path" 16 A
+    refuses 'cannot be read' "$path" 16 2
 done
 for size in 4096.02 -0.02 16px; do
-    refuses 'not a decimal from 0 to 4096' "$work/whole.otf" "$size" A
+    refuses 'not a decimal from 0 to 4096' "$work/whole.otf" "$size" 2
 done
 for setting in wght =650 weight=650 wght=1e3 wght=32768; do
-    refuses 'not TAG=VALUE with a decimal' "$work/whole.otf" 16 A "$setting"
+    refuses 'not TAG=VALUE with a decimal' "$work/whole.otf" 16 2 "$setting"
 done
-refuses 'no such axis' "$work/whole.otf" 16 '' wdth=100
+refuses 'no such axis' "$work/whole.otf" 16 2 wdth=100
 if [[ -e /dev/full ]]; then
-    fails bash -c '"$1" "$2" 16 A >/dev/full' - "$work/advance" "$work/whole.otf"
+    fails bash -c '"$1" "$2" 16 2 >/dev/full' - "$work/advance" "$work/whole.otf"
     [[ $(<"$work/log") == 'advance: output: cannot be written' ]]
 fi

@@ -1,7 +1,7 @@
 //! Prints results of the proved Rust, with which `c/tests/header.c` compares the functions that the
 //! header has in C: raw values rounded to integers, sums and conversions, and fields of 16 bytes.
-//! `rows CASES FONT` writes fonts, with what `c/examples/advance.c` has to say of them, and one of
-//! these.
+//! `rows CASES FONT LARGE` writes fonts, with what `c/examples/advance.c` has to say of them, and
+//! two of these.
 mod cases;
 #[path = "../../tests/fonts/mod.rs"]
 mod fonts;
@@ -90,9 +90,10 @@ fn conversions() {
 
 fn main() {
     let paths: Vec<_> = std::env::args_os().skip(1).collect();
-    if let [path, font] = &paths[..] {
-        std::fs::write(path, cases::cases()).expect("a new file");
-        return std::fs::write(font, cases::whole()).expect("a new file");
+    if let [cases, font, large] = &paths[..] {
+        std::fs::write(cases, cases::cases()).expect("a new file");
+        std::fs::write(font, cases::whole()).expect("a new file");
+        return std::fs::write(large, cases::of_many_glyphs()).expect("a new file");
     }
     round!(F2Dot14, 16, 14, i16::MIN..=i16::MAX);
     round!(F4Dot12, 16, 12, i16::MIN..=i16::MAX);

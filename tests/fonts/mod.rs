@@ -196,3 +196,58 @@ pub fn long_axes() -> Vec<u8> {
     let header = words(&[1, 0, 18, 2, 2, 24, 0, 12, 0xAAAA]);
     [header, records.collect::<Vec<_>>().concat()].concat()
 }
+
+/// Six encodings, of which the last two are read: 300 segments of a character each, the first by an
+/// array far away, and 300 groups.
+fn large_cmap() -> Vec<u8> {
+    let ends: Vec<u16> = (0..299).map(|n| 1000 + 2 * n).chain([0xFFFF]).collect();
+    let deltas = ends[1..]
+        .iter()
+        .zip(2u16..)
+        .map(|(end, glyph)| glyph.wrapping_sub(*end));
+    let deltas: Vec<u16> = [0].into_iter().chain(deltas).collect();
+    let mut offsets = vec![0; 300];
+    offsets[0] = 600;
+    let arrays = [&ends[..], &[0], &ends, &deltas, &offsets, &[7]].concat();
+    let format_4 = [&[4, 0, 0, 600, 0, 0, 0], &arrays[..]].concat();
+    let groups: Vec<u16> = (0..300)
+        .flat_map(|n| [2, 2 * n, 2, 2 * n, 0, n + 1])
+        .collect();
+    let (other, at) = ([6, 10, 0, 0, 0], 4 + 8 * 6);
+    let (of_4, of_12) = (at + 10, at + 10 + 2 * format_4.len() as u16);
+    let records = [[3, 10, 0, at]; 4].concat();
+    let last = [3, 1, 0, of_4, 3, 10, 0, of_12];
+    let head_of_12 = [12, 0, 0, 0, 0, 0, 0, 300];
+    words(
+        &[
+            &[0, 6],
+            &records[..],
+            &last,
+            &other,
+            &format_4,
+            &head_of_12,
+            &groups,
+        ]
+        .concat(),
+    )
+}
+
+/// A font of 400 glyphs, of which 300 have an advance of their own, and 310 a delta set, with no
+/// map. What is read of it, apart from the records of tables, is beyond 64 KB.
+pub fn large() -> Vec<u8> {
+    let sets: Vec<u16> = [310, 1, 1, 0].into_iter().chain(0..310).collect();
+    let metrics: Vec<u16> = (0..300).flat_map(|n| [500 + n, 0]).collect();
+    let mut name = name(&("\u{1F600}".to_string() + &"n".repeat(300)));
+    // The name has the id 256.
+    name[24..26].copy_from_slice(&words(&[256]));
+    font_of([
+        (b"BASE", vec![0; 0x10000]),
+        (b"HVAR", words(&variations(0, &sets))),
+        (b"cmap", large_cmap()),
+        (b"fvar", fvar(&[(b"wght", [100, 400, 900])])),
+        (b"hhea", table(36, &[(0, &[1, 0, 800]), (34, &[300])])),
+        (b"hmtx", words(&metrics)),
+        (b"maxp", words(&[0, 0x5000, 400])),
+        (b"name", name),
+    ])
+}
