@@ -11,9 +11,9 @@ class Fixed {
 public:
     static Fixed parse(const std::string &text) {
         std::int32_t bits = 0;
-        const font_status status = font_fixed_parse(text.data(), text.size(), &bits);
-        if (status != FONT_OK)
-            throw std::invalid_argument(text + ": " + font_status_text(status));
+        const fty_status status = fty_fixed_parse(text.data(), text.size(), &bits);
+        if (status != FTY_OK)
+            throw std::invalid_argument(text + ": " + fty_status_text(status));
         return Fixed(bits);
     }
 
@@ -22,16 +22,16 @@ public:
     std::int32_t bits() const { return bits_; }
 
     std::string text() const {
-        char out[FONT_DECIMAL_ROOM];
+        char out[FTY_DECIMAL_ROOM];
         std::size_t length = 0;
-        if (font_fixed_format(bits_, out, sizeof out, &length) != FONT_OK)
+        if (fty_fixed_format(bits_, out, sizeof out, &length) != FTY_OK)
             throw std::logic_error("the room is enough for each decimal");
         return std::string(out, length);
     }
 
-    friend Fixed operator*(Fixed x, Fixed y) { return Fixed(font_fixed_mul(x.bits_, y.bits_)); }
+    friend Fixed operator*(Fixed x, Fixed y) { return Fixed(fty_fixed_mul(x.bits_, y.bits_)); }
 
-    friend Fixed operator/(Fixed x, Fixed y) { return Fixed(font_fixed_div(x.bits_, y.bits_)); }
+    friend Fixed operator/(Fixed x, Fixed y) { return Fixed(fty_fixed_div(x.bits_, y.bits_)); }
 
 private:
     std::int32_t bits_;
@@ -41,10 +41,10 @@ private:
 static std::int64_t delta_sum(const std::vector<std::int32_t> &scalars,
                               const std::vector<std::int32_t> &deltas) {
     std::int64_t sum = 0;
-    const font_status status =
-        font_delta_sum(scalars.data(), scalars.size(), deltas.data(), deltas.size(), &sum);
-    if (status != FONT_OK)
-        throw std::invalid_argument(font_status_text(status));
+    const fty_status status =
+        fty_delta_sum(scalars.data(), scalars.size(), deltas.data(), deltas.size(), &sum);
+    if (status != FTY_OK)
+        throw std::invalid_argument(fty_status_text(status));
     return sum;
 }
 

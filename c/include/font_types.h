@@ -17,10 +17,10 @@
  * of its type, or as many as the comment says. "Half up" rounds ties toward positive
  * infinity; "half away from zero" to the greater magnitude.
  *
- * A function that can fail returns a font_status, and stores its result where its last
+ * A function that can fail returns a fty_status, and stores its result where its last
  * argument points; what writes text stores the text at `out`, and its length there. If
  * two errors apply, the status is the first that the comment lists. If a function fails,
- * it leaves all memory unchanged, except that font_tag_validate stores the index of the
+ * it leaves all memory unchanged, except that fty_tag_validate stores the index of the
  * invalid byte.
  *
  * Pointers must be valid for the length that goes with them (1 for a single value),
@@ -33,7 +33,7 @@
  * What a call writes may be uninitialized. The library is Rust, which asks for initialized
  * values there: callers rely on its object code, which loads nothing from where it writes
  * before it has stored there (this is tested, not proved), except for the points that
- * font_matrix_images transforms. If you do not want to rely on that, initialize it.
+ * fty_matrix_images transforms. If you do not want to rely on that, initialize it.
  */
 #ifndef FONT_TYPES_H
 #define FONT_TYPES_H
@@ -42,31 +42,31 @@
 #include <stdint.h>
 
 /** The version of this header. */
-#define FONT_TYPES_VERSION "0.6.0"
+#define FTY_VERSION "0.6.0"
 
 /** The same as a number, major << 16 | minor << 8 | patch: later versions are greater. */
-#define FONT_TYPES_VERSION_NUMBER 0x000600
+#define FTY_VERSION_NUMBER 0x000600
 
 /** @cond */
 #ifdef __cplusplus
-#define FONT_API_NOEXCEPT noexcept
-#define FONT_API_NULL nullptr
-#define FONT_API_AS(TYPE, VALUE) static_cast<TYPE>(VALUE)
+#define FTY_API_NOEXCEPT noexcept
+#define FTY_API_NULL nullptr
+#define FTY_API_AS(TYPE, VALUE) static_cast<TYPE>(VALUE)
 #else
-#define FONT_API_NOEXCEPT
-#define FONT_API_NULL NULL
-#define FONT_API_AS(TYPE, VALUE) ((TYPE)(VALUE))
+#define FTY_API_NOEXCEPT
+#define FTY_API_NULL NULL
+#define FTY_API_AS(TYPE, VALUE) ((TYPE)(VALUE))
 #endif
 #if defined(__GNUC__) || defined(__clang__)
-#define FONT_API_CONST __attribute__((const))
-#define FONT_API_MUST_USE __attribute__((warn_unused_result))
+#define FTY_API_CONST __attribute__((const))
+#define FTY_API_MUST_USE __attribute__((warn_unused_result))
 #else
-#define FONT_API_CONST
-#define FONT_API_MUST_USE
+#define FTY_API_CONST
+#define FTY_API_MUST_USE
 #endif
 /* A function of its arguments alone, and one in C. */
-#define FONT_API_PURE FONT_API_MUST_USE FONT_API_CONST
-#define FONT_API_INLINE static inline FONT_API_MUST_USE
+#define FTY_API_PURE FTY_API_MUST_USE FTY_API_CONST
+#define FTY_API_INLINE static inline FTY_API_MUST_USE
 /** @endcond */
 
 #ifdef __cplusplus
@@ -74,167 +74,167 @@ extern "C" {
 #endif
 
 /** The result of a call that can fail. */
-typedef enum font_status {
-    FONT_OK = 0,            /**< success: the result was stored */
-    FONT_NOT_DECIMAL = 1,    /**< the text is not a decimal */
-    FONT_OUT_OF_RANGE = 2,  /**< the result does not fit in its type */
-    FONT_BAD_FRACTION = 3,  /**< fraction bits below 6, above 30, or above the width less 2 */
-    FONT_BUFFER_TOO_SMALL = 4,       /**< the buffer is shorter than the text */
-    FONT_BAD_PAD = 5,       /**< `fill` is 0x80 or above, or `align` is not a font_align */
-    FONT_OUT_OF_BOUNDS = 6, /**< the field, or the array, is not within the bytes */
-    FONT_COUNT_MISMATCH = 7,   /**< the number of scalars differs from the number of deltas */
-    FONT_TOO_MANY = 8,      /**< more than 65,535 scalars for a delta set */
+typedef enum fty_status {
+    FTY_OK = 0,            /**< success: the result was stored */
+    FTY_NOT_DECIMAL = 1,    /**< the text is not a decimal */
+    FTY_OUT_OF_RANGE = 2,  /**< the result does not fit in its type */
+    FTY_BAD_FRACTION = 3,  /**< fraction bits below 6, above 30, or above the width less 2 */
+    FTY_BUFFER_TOO_SMALL = 4,       /**< the buffer is shorter than the text */
+    FTY_BAD_PAD = 5,       /**< `fill` is 0x80 or above, or `align` is not a fty_align */
+    FTY_OUT_OF_BOUNDS = 6, /**< the field, or the array, is not within the bytes */
+    FTY_COUNT_MISMATCH = 7,   /**< the number of scalars differs from the number of deltas */
+    FTY_TOO_MANY = 8,      /**< more than 65,535 scalars for a delta set */
     /* 9 was the status of delta sets with deltas of 32 bits until 0.4 */
-    FONT_TAG_LENGTH = 10,   /**< not 1 to 4 bytes; from font_tag_validate: four spaces */
-    FONT_TAG_BYTE = 11,     /**< a byte outside 0x20 to 0x7E, or a leading space; from
-                                 font_tag_new also a printable byte after a space */
-    FONT_TAG_AFTER_SPACE = 12 /**< from font_tag_validate: a printable byte after a space */
-} font_status;
+    FTY_TAG_LENGTH = 10,   /**< not 1 to 4 bytes; from fty_tag_validate: four spaces */
+    FTY_TAG_BYTE = 11,     /**< a byte outside 0x20 to 0x7E, or a leading space; from
+                                 fty_tag_new also a printable byte after a space */
+    FTY_TAG_AFTER_SPACE = 12 /**< from fty_tag_validate: a printable byte after a space */
+} fty_status;
 
 /**
  * Fraction bits of formats that fonts and their tools use. OpenType has data types for 16.16
  * (Fixed) and 2.14 (F2DOT14).
  */
 enum {
-    FONT_F2DOT14_BITS = 14, /**< 2.14, int16_t */
-    FONT_F4DOT12_BITS = 12, /**< 4.12, int16_t */
-    FONT_F6DOT10_BITS = 10, /**< 6.10, int16_t */
-    FONT_FIXED_BITS = 16,   /**< 16.16, int32_t */
-    FONT_F26DOT6_BITS = 6,  /**< 26.6, int32_t */
-    FONT_F2DOT30_BITS = 30, /**< 2.30, int32_t */
-    FONT_F48DOT16_BITS = 16 /**< 48.16, int64_t */
+    FTY_F2DOT14_BITS = 14, /**< 2.14, int16_t */
+    FTY_F4DOT12_BITS = 12, /**< 4.12, int16_t */
+    FTY_F6DOT10_BITS = 10, /**< 6.10, int16_t */
+    FTY_FIXED_BITS = 16,   /**< 16.16, int32_t */
+    FTY_F26DOT6_BITS = 6,  /**< 26.6, int32_t */
+    FTY_F2DOT30_BITS = 30, /**< 2.30, int32_t */
+    FTY_F48DOT16_BITS = 16 /**< 48.16, int64_t */
 };
 
-/** The version of the linked library, as FONT_TYPES_VERSION_NUMBER. */
-FONT_API_PURE uint32_t font_types_version(void) FONT_API_NOEXCEPT;
+/** The version of the linked library, as FTY_VERSION_NUMBER. */
+FTY_API_PURE uint32_t fty_version(void) FTY_API_NOEXCEPT;
 
 /* ---- decimal text: `-` if negative, digits, and optionally a point and digits ---- */
 
 /**
  * Parses a decimal of any length as the nearest 16-bit raw value, half away from zero.
- * Fails by FONT_BAD_FRACTION, FONT_NOT_DECIMAL, FONT_OUT_OF_RANGE.
+ * Fails by FTY_BAD_FRACTION, FTY_NOT_DECIMAL, FTY_OUT_OF_RANGE.
  */
-FONT_API_MUST_USE font_status font_parse_i16(
-    const char *text, size_t length, uint32_t fraction_bits, int16_t *bits) FONT_API_NOEXCEPT;
+FTY_API_MUST_USE fty_status fty_parse_i16(
+    const char *text, size_t length, uint32_t fraction_bits, int16_t *bits) FTY_API_NOEXCEPT;
 
 /**
  * Parses a decimal of any length as the nearest 32-bit raw value, half away from zero.
- * Fails by FONT_BAD_FRACTION, FONT_NOT_DECIMAL, FONT_OUT_OF_RANGE.
+ * Fails by FTY_BAD_FRACTION, FTY_NOT_DECIMAL, FTY_OUT_OF_RANGE.
  */
-FONT_API_MUST_USE font_status font_parse_i32(
-    const char *text, size_t length, uint32_t fraction_bits, int32_t *bits) FONT_API_NOEXCEPT;
+FTY_API_MUST_USE fty_status fty_parse_i32(
+    const char *text, size_t length, uint32_t fraction_bits, int32_t *bits) FTY_API_NOEXCEPT;
 
 /**
  * Parses a decimal of any length as the nearest 64-bit raw value, half away from zero.
- * Fails by FONT_BAD_FRACTION, FONT_NOT_DECIMAL, FONT_OUT_OF_RANGE.
+ * Fails by FTY_BAD_FRACTION, FTY_NOT_DECIMAL, FTY_OUT_OF_RANGE.
  */
-FONT_API_MUST_USE font_status font_parse_i64(
-    const char *text, size_t length, uint32_t fraction_bits, int64_t *bits) FONT_API_NOEXCEPT;
+FTY_API_MUST_USE fty_status fty_parse_i64(
+    const char *text, size_t length, uint32_t fraction_bits, int64_t *bits) FTY_API_NOEXCEPT;
 
 /** Room for a decimal, which has at most 22 bytes, and for a NUL, which is not written. */
-enum { FONT_DECIMAL_ROOM = 24 };
+enum { FTY_DECIMAL_ROOM = 24 };
 
 /**
  * Writes the shortest decimal that parses back to the raw value; of these, the
  * nearest, and of two, the one farther from zero. The raw value may have any width.
- * Fails by FONT_BAD_FRACTION, FONT_BUFFER_TOO_SMALL.
+ * Fails by FTY_BAD_FRACTION, FTY_BUFFER_TOO_SMALL.
  */
-FONT_API_MUST_USE font_status font_format(
-    int64_t bits, uint32_t fraction_bits, char *out, size_t room, size_t *length) FONT_API_NOEXCEPT;
+FTY_API_MUST_USE fty_status fty_format(
+    int64_t bits, uint32_t fraction_bits, char *out, size_t room, size_t *length) FTY_API_NOEXCEPT;
 
 /** The alignment of padded text. */
-typedef enum font_align {
-    FONT_LEFT = 0,   /**< fill on the right */
-    FONT_CENTER = 1, /**< fill on both sides; an odd fill byte goes on the right */
-    FONT_RIGHT = 2   /**< fill on the left */
-} font_align;
+typedef enum fty_align {
+    FTY_LEFT = 0,   /**< fill on the right */
+    FTY_CENTER = 1, /**< fill on both sides; an odd fill byte goes on the right */
+    FTY_RIGHT = 2   /**< fill on the left */
+} fty_align;
 
 /** How to pad a decimal. */
-typedef struct font_pad {
+typedef struct fty_pad {
     size_t width;  /**< the minimum width in bytes; 0 means none */
     uint8_t fill;  /**< the fill byte, below 0x80; 0 means a space */
-    uint8_t align; /**< a font_align */
+    uint8_t align; /**< a fty_align */
     uint8_t plus;  /**< if not 0, a `+` is written unless the text starts with `-` */
     uint8_t zeros; /**< if not 0, pads with zeros after the sign, ignoring `fill` and `align` */
-} font_pad;
+} fty_pad;
 
 /** Right-aligned in `WIDTH` bytes, filled with spaces. */
-#define FONT_PAD_INIT(WIDTH) {(WIDTH), ' ', FONT_RIGHT, 0, 0}
+#define FTY_PAD_INIT(WIDTH) {(WIDTH), ' ', FTY_RIGHT, 0, 0}
 
 /**
- * As font_format, padded. Room for `width` bytes is enough, or for 22 if that is more.
- * Fails by FONT_BAD_FRACTION, FONT_BAD_PAD, FONT_BUFFER_TOO_SMALL.
+ * As fty_format, padded. Room for `width` bytes is enough, or for 22 if that is more.
+ * Fails by FTY_BAD_FRACTION, FTY_BAD_PAD, FTY_BUFFER_TOO_SMALL.
  */
-FONT_API_MUST_USE font_status font_format_padded(
-    int64_t bits, uint32_t fraction_bits, const font_pad *pad, char *out, size_t room,
-    size_t *length) FONT_API_NOEXCEPT;
+FTY_API_MUST_USE fty_status fty_format_padded(
+    int64_t bits, uint32_t fraction_bits, const fty_pad *pad, char *out, size_t room,
+    size_t *length) FTY_API_NOEXCEPT;
 
 /* ---- products ---- */
 
 /** x * y in 16.16, half away from zero; wraps. */
-FONT_API_PURE int32_t font_fixed_mul(int32_t x, int32_t y) FONT_API_NOEXCEPT;
+FTY_API_PURE int32_t fty_fixed_mul(int32_t x, int32_t y) FTY_API_NOEXCEPT;
 
 /** x / y in 16.16, half away from zero; wraps. If y is 0, INT32_MAX, negated if x is negative. */
-FONT_API_PURE int32_t font_fixed_div(int32_t x, int32_t y) FONT_API_NOEXCEPT;
+FTY_API_PURE int32_t fty_fixed_div(int32_t x, int32_t y) FTY_API_NOEXCEPT;
 
 /**
  * x * a / c, rounded once, half away from zero; wraps. If c is 0, INT32_MAX, negated
  * if exactly one of x and a is negative.
  */
-FONT_API_PURE int32_t font_fixed_mul_div(int32_t x, int32_t a, int32_t c) FONT_API_NOEXCEPT;
+FTY_API_PURE int32_t fty_fixed_mul_div(int32_t x, int32_t a, int32_t c) FTY_API_NOEXCEPT;
 
 /** x * y in 26.6, half away from zero; wraps. */
-FONT_API_PURE int32_t font_f26dot6_mul(int32_t x, int32_t y) FONT_API_NOEXCEPT;
+FTY_API_PURE int32_t fty_f26dot6_mul(int32_t x, int32_t y) FTY_API_NOEXCEPT;
 
 /** x / y in 26.6, half away from zero; wraps. If y is 0, INT32_MAX, negated if x is negative. */
-FONT_API_PURE int32_t font_f26dot6_div(int32_t x, int32_t y) FONT_API_NOEXCEPT;
+FTY_API_PURE int32_t fty_f26dot6_div(int32_t x, int32_t y) FTY_API_NOEXCEPT;
 
 /* ---- conversions to fewer fraction bits, half up; those to as many or more are C, as `bits * 4`
  *      from 2.14 to 16.16, `units * INT64_C(65536)` from font units to 48.16, `(int32_t)bits`
- *      from 48.16 to 16.16, which wraps, font_f48dot16_to_fixed and font_fixed_from_i32 ---- */
+ *      from 48.16 to 16.16, which wraps, fty_f48dot16_to_fixed and fty_fixed_from_i32 ---- */
 
 /** 16.16 to the nearest integer, which is no raw value: 98304 to 2; wraps to 16 bits. */
-FONT_API_PURE int32_t font_fixed_to_i32(int32_t bits) FONT_API_NOEXCEPT;
+FTY_API_PURE int32_t fty_fixed_to_i32(int32_t bits) FTY_API_NOEXCEPT;
 
 /** 16.16 to the nearest 26.6; wraps to 22 bits. */
-FONT_API_PURE int32_t font_fixed_to_f26dot6(int32_t bits) FONT_API_NOEXCEPT;
+FTY_API_PURE int32_t fty_fixed_to_f26dot6(int32_t bits) FTY_API_NOEXCEPT;
 
 /** 16.16 to the nearest 2.14; wraps. */
-FONT_API_PURE int16_t font_fixed_to_f2dot14(int32_t bits) FONT_API_NOEXCEPT;
+FTY_API_PURE int16_t fty_fixed_to_f2dot14(int32_t bits) FTY_API_NOEXCEPT;
 
 /** 26.6 to the nearest integer, which is no raw value: 96 to 2; wraps to 26 bits. */
-FONT_API_PURE int32_t font_f26dot6_to_i32(int32_t bits) FONT_API_NOEXCEPT;
+FTY_API_PURE int32_t fty_f26dot6_to_i32(int32_t bits) FTY_API_NOEXCEPT;
 
 /** 48.16 to the nearest integer, which is no raw value: 98304 to 2; wraps to 48 bits. */
-FONT_API_PURE int64_t font_f48dot16_to_i64(int64_t bits) FONT_API_NOEXCEPT;
+FTY_API_PURE int64_t fty_f48dot16_to_i64(int64_t bits) FTY_API_NOEXCEPT;
 
 /** 2.30 to the nearest 16.16. */
-FONT_API_PURE int32_t font_f2dot30_to_fixed(int32_t bits) FONT_API_NOEXCEPT;
+FTY_API_PURE int32_t fty_f2dot30_to_fixed(int32_t bits) FTY_API_NOEXCEPT;
 
 /** 2.30 to the nearest 2.14; wraps. */
-FONT_API_PURE int16_t font_f2dot30_to_f2dot14(int32_t bits) FONT_API_NOEXCEPT;
+FTY_API_PURE int16_t fty_f2dot30_to_f2dot14(int32_t bits) FTY_API_NOEXCEPT;
 
-/* ---- matrices and points of 16.16 values: products are font_fixed_mul, sums wrap ---- */
+/* ---- matrices and points of 16.16 values: products are fty_fixed_mul, sums wrap ---- */
 
 /**
  * Transforms (x, y) to (xx * x + xy * y + dx, yx * x + yy * y + dy). The members are
  * in column order: FT_Matrix of FreeType has xx, xy, yx, yy. Points and translation
  * may also be in 26.6 or in font units, if both are in the same unit.
  */
-typedef struct font_matrix {
+typedef struct fty_matrix {
     int32_t xx; /**< from x to x */
     int32_t yx; /**< from x to y */
     int32_t xy; /**< from y to x */
     int32_t yy; /**< from y to y */
     int32_t dx; /**< added to x */
     int32_t dy; /**< added to y */
-} font_matrix;
+} fty_matrix;
 
 /** A point, or a vector. */
-typedef struct font_point {
+typedef struct fty_point {
     int32_t x; /**< the x coordinate */
     int32_t y; /**< the y coordinate */
-} font_point;
+} fty_point;
 
 /**
  * The matrix that applies b first, then a. If neither an element of the product nor a
@@ -242,7 +242,7 @@ typedef struct font_point {
  * is at most (|p.x| + |p.y|) / 65536 + 2 from the exact one, all as raw values. (This is
  * proved of the two calls: `composed` in crates/font_c/src/laws.rt.)
  */
-FONT_API_PURE font_matrix font_matrix_product(font_matrix a, font_matrix b) FONT_API_NOEXCEPT;
+FTY_API_PURE fty_matrix fty_matrix_product(fty_matrix a, fty_matrix b) FTY_API_NOEXCEPT;
 
 /**
  * Transforms a point. If a point is transformed by b, and the result by a, and no
@@ -250,77 +250,77 @@ FONT_API_PURE font_matrix font_matrix_product(font_matrix a, font_matrix b) FONT
  * exact one, and y at most (|a.yx| + |a.yy|) / 65536 + 1, all as raw values. (This is
  * proved of the two calls: `in_turn` in crates/font_c/src/laws.rt.)
  */
-FONT_API_PURE font_point font_matrix_image(font_matrix m, font_point p) FONT_API_NOEXCEPT;
+FTY_API_PURE fty_point fty_matrix_image(fty_matrix m, fty_point p) FTY_API_NOEXCEPT;
 
 /** Transforms a vector, without the translation. */
-FONT_API_PURE font_point font_matrix_vector(font_matrix m, font_point v) FONT_API_NOEXCEPT;
+FTY_API_PURE fty_point fty_matrix_vector(fty_matrix m, fty_point v) FTY_API_NOEXCEPT;
 
-/** Transforms points in place, each as font_matrix_image does. */
-void font_matrix_images(const font_matrix *m, font_point *points,
-                        size_t count) FONT_API_NOEXCEPT;
+/** Transforms points in place, each as fty_matrix_image does. */
+void fty_matrix_images(const fty_matrix *m, fty_point *points,
+                       size_t count) FTY_API_NOEXCEPT;
 
 /* ---- sums of deltas: scalars are 16.16, deltas font units, sums 48.16 ---- */
 
 /**
  * The exact sum of scalar times delta over all items, even if partial sums overflow.
- * Fails by FONT_COUNT_MISMATCH, FONT_OUT_OF_RANGE.
+ * Fails by FTY_COUNT_MISMATCH, FTY_OUT_OF_RANGE.
  */
-FONT_API_MUST_USE font_status font_delta_sum(
+FTY_API_MUST_USE fty_status fty_delta_sum(
     const int32_t *scalars, size_t scalar_count, const int32_t *deltas, size_t delta_count,
-    int64_t *sum) FONT_API_NOEXCEPT;
+    int64_t *sum) FTY_API_NOEXCEPT;
 
 /**
  * The same over a delta set of an item variation store. `word_count` is the field of the
  * font: the set has as many deltas of 16 bits as its low 15 bits say, followed by deltas
  * of 8 bits, or of 32 and of 16 bits if its bit 0x8000 is set. The set has as many deltas
- * as there are scalars, and exactly the bytes that these take, font_delta_set_length. The sum
+ * as there are scalars, and exactly the bytes that these take, fty_delta_set_length. The sum
  * is exact for the scalars given; what rounded these before is not in it: see "How exact" in
  * c/README.md.
- * Fails by FONT_TOO_MANY; by FONT_COUNT_MISMATCH, also if the low 15 bits of `word_count`
- * exceed the number of scalars; and by FONT_OUT_OF_RANGE if bit 0x8000 is set.
+ * Fails by FTY_TOO_MANY; by FTY_COUNT_MISMATCH, also if the low 15 bits of `word_count`
+ * exceed the number of scalars; and by FTY_OUT_OF_RANGE if bit 0x8000 is set.
  */
-FONT_API_MUST_USE font_status font_delta_set_sum(
+FTY_API_MUST_USE fty_status fty_delta_set_sum(
     const int32_t *scalars, size_t scalar_count, const uint8_t *set, size_t set_length,
-    uint16_t word_count, int64_t *sum) FONT_API_NOEXCEPT;
+    uint16_t word_count, int64_t *sum) FTY_API_NOEXCEPT;
 
-/** Font units plus a 48.16 delta, to the nearest font unit, half up, or FONT_OUT_OF_RANGE. */
-FONT_API_MUST_USE font_status font_apply_delta_i16(
-    int16_t base, int64_t delta, int16_t *units) FONT_API_NOEXCEPT;
+/** Font units plus a 48.16 delta, to the nearest font unit, half up, or FTY_OUT_OF_RANGE. */
+FTY_API_MUST_USE fty_status fty_apply_delta_i16(
+    int16_t base, int64_t delta, int16_t *units) FTY_API_NOEXCEPT;
 
 /** Unsigned font units, as advances are, plus a 48.16 delta, rounded in the same way. */
-FONT_API_MUST_USE font_status font_apply_delta_u16(
-    uint16_t base, int64_t delta, uint16_t *units) FONT_API_NOEXCEPT;
+FTY_API_MUST_USE fty_status fty_apply_delta_u16(
+    uint16_t base, int64_t delta, uint16_t *units) FTY_API_NOEXCEPT;
 
 /* ---- tags, as numbers with the big-endian bytes of the tag ---- */
 
-/** A tag of four characters, as a constant expression: FONT_TAG('g', 'l', 'y', 'f'). */
-#define FONT_TAG(A, B, C, D)                                               \
+/** A tag of four characters, as a constant expression: FTY_TAG('g', 'l', 'y', 'f'). */
+#define FTY_TAG(A, B, C, D)                                                \
     (((A) & 0xFF) * UINT32_C(0x1000000) + ((B) & 0xFF) * UINT32_C(0x10000) \
      + ((C) & 0xFF) * UINT32_C(0x100) + ((D) & 0xFF))
 
 /** Room for the text of a tag, which has at most 24 bytes, and for a NUL, which is not written. */
-enum { FONT_TAG_ROOM = 25 };
+enum { FTY_TAG_ROOM = 25 };
 
 /**
  * Creates a valid tag from one to four bytes, padding with spaces.
- * Fails by FONT_TAG_LENGTH, FONT_TAG_BYTE.
+ * Fails by FTY_TAG_LENGTH, FTY_TAG_BYTE.
  */
-FONT_API_MUST_USE font_status font_tag_new(
-    const char *text, size_t length, uint32_t *tag) FONT_API_NOEXCEPT;
+FTY_API_MUST_USE fty_status fty_tag_new(
+    const char *text, size_t length, uint32_t *tag) FTY_API_NOEXCEPT;
 
 /**
- * Checks a tag, and stores nothing if it is valid. Fails by FONT_TAG_LENGTH for four
- * spaces; else by FONT_TAG_BYTE or FONT_TAG_AFTER_SPACE, by what is wrong with the first
+ * Checks a tag, and stores nothing if it is valid. Fails by FTY_TAG_LENGTH for four
+ * spaces; else by FTY_TAG_BYTE or FTY_TAG_AFTER_SPACE, by what is wrong with the first
  * invalid byte, whose index, 0 to 3, is stored.
  */
-FONT_API_MUST_USE font_status font_tag_validate(uint32_t tag, uint32_t *position) FONT_API_NOEXCEPT;
+FTY_API_MUST_USE fty_status fty_tag_validate(uint32_t tag, uint32_t *position) FTY_API_NOEXCEPT;
 
 /**
  * Writes the text of a tag: bytes 0x20 to 0x7E as they are, else {0xNN}.
- * Fails by FONT_BUFFER_TOO_SMALL.
+ * Fails by FTY_BUFFER_TOO_SMALL.
  */
-FONT_API_MUST_USE font_status font_tag_to_text(
-    uint32_t tag, char *out, size_t room, size_t *length) FONT_API_NOEXCEPT;
+FTY_API_MUST_USE fty_status fty_tag_to_text(
+    uint32_t tag, char *out, size_t room, size_t *length) FTY_API_NOEXCEPT;
 
 #ifdef __cplusplus
 }
@@ -336,281 +336,281 @@ FONT_API_MUST_USE font_status font_tag_to_text(
  * reader can look at the last view alone. Offsets, counts and sizes may be any, as a font has
  * them: no function of views overflows, or reads beyond a view.
  */
-typedef struct font_view {
+typedef struct fty_view {
     const uint8_t *bytes; /**< the first byte; null if the view is absent */
     size_t length;        /**< the number of bytes */
-} font_view;
+} fty_view;
 
 /** @cond */
 /* Whether `length` bytes at an offset are in a view. */
-FONT_API_INLINE int font_api_within(
-    font_view view, size_t offset, size_t length) FONT_API_NOEXCEPT {
+FTY_API_INLINE int fty_api_within(
+    fty_view view, size_t offset, size_t length) FTY_API_NOEXCEPT {
     return length <= view.length && offset <= view.length - length;
 }
 
 /* Bytes that are within a view. Null plus 0 is undefined behavior in C. */
-FONT_API_INLINE font_view font_api_view(
-    font_view view, size_t offset, size_t length) FONT_API_NOEXCEPT {
-    font_view part = {FONT_API_NULL, length};
+FTY_API_INLINE fty_view fty_api_view(
+    fty_view view, size_t offset, size_t length) FTY_API_NOEXCEPT {
+    fty_view part = {FTY_API_NULL, length};
     part.bytes = offset == 0 ? view.bytes : view.bytes + offset;
     return part;
 }
 
-FONT_API_INLINE font_view font_api_absent(void) FONT_API_NOEXCEPT {
-    font_view absent = {FONT_API_NULL, 0};
+FTY_API_INLINE fty_view fty_api_absent(void) FTY_API_NOEXCEPT {
+    fty_view absent = {FTY_API_NULL, 0};
     return absent;
 }
 
 /* The bytes from an offset to the end; absent if the offset is 0 or past the end. */
-FONT_API_INLINE font_view font_api_from(font_view view, uint32_t start) FONT_API_NOEXCEPT {
+FTY_API_INLINE fty_view fty_api_from(fty_view view, uint32_t start) FTY_API_NOEXCEPT {
     if (start == 0 || start > view.length)
-        return font_api_absent();
-    return font_api_view(view, start, view.length - start);
+        return fty_api_absent();
+    return fty_api_view(view, start, view.length - start);
 }
 
 /* The number of two, three, four and eight bytes. */
-FONT_API_INLINE uint32_t font_api_two(const uint8_t *at) FONT_API_NOEXCEPT {
-    return FONT_API_AS(uint32_t, at[0]) << 8 | at[1];
+FTY_API_INLINE uint32_t fty_api_two(const uint8_t *at) FTY_API_NOEXCEPT {
+    return FTY_API_AS(uint32_t, at[0]) << 8 | at[1];
 }
 
-FONT_API_INLINE uint32_t font_api_three(const uint8_t *at) FONT_API_NOEXCEPT {
-    return font_api_two(at) << 8 | at[2];
+FTY_API_INLINE uint32_t fty_api_three(const uint8_t *at) FTY_API_NOEXCEPT {
+    return fty_api_two(at) << 8 | at[2];
 }
 
-FONT_API_INLINE int32_t font_api_signed_three(const uint8_t *at) FONT_API_NOEXCEPT {
-    return FONT_API_AS(int16_t, font_api_two(at)) * 256 + at[2];
+FTY_API_INLINE int32_t fty_api_signed_three(const uint8_t *at) FTY_API_NOEXCEPT {
+    return FTY_API_AS(int16_t, fty_api_two(at)) * 256 + at[2];
 }
 
-FONT_API_INLINE uint32_t font_api_four(const uint8_t *at) FONT_API_NOEXCEPT {
-    return FONT_API_AS(uint32_t, at[0]) << 24 | FONT_API_AS(uint32_t, at[1]) << 16
-           | FONT_API_AS(uint32_t, at[2]) << 8 | at[3];
+FTY_API_INLINE uint32_t fty_api_four(const uint8_t *at) FTY_API_NOEXCEPT {
+    return FTY_API_AS(uint32_t, at[0]) << 24 | FTY_API_AS(uint32_t, at[1]) << 16
+           | FTY_API_AS(uint32_t, at[2]) << 8 | at[3];
 }
 
-FONT_API_INLINE uint64_t font_api_eight(const uint8_t *at) FONT_API_NOEXCEPT {
-    return FONT_API_AS(uint64_t, at[0]) << 56 | FONT_API_AS(uint64_t, at[1]) << 48
-           | FONT_API_AS(uint64_t, at[2]) << 40 | FONT_API_AS(uint64_t, at[3]) << 32
-           | FONT_API_AS(uint64_t, at[4]) << 24 | FONT_API_AS(uint64_t, at[5]) << 16
-           | FONT_API_AS(uint64_t, at[6]) << 8 | at[7];
+FTY_API_INLINE uint64_t fty_api_eight(const uint8_t *at) FTY_API_NOEXCEPT {
+    return FTY_API_AS(uint64_t, at[0]) << 56 | FTY_API_AS(uint64_t, at[1]) << 48
+           | FTY_API_AS(uint64_t, at[2]) << 40 | FTY_API_AS(uint64_t, at[3]) << 32
+           | FTY_API_AS(uint64_t, at[4]) << 24 | FTY_API_AS(uint64_t, at[5]) << 16
+           | FTY_API_AS(uint64_t, at[6]) << 8 | at[7];
 }
 /** @endcond */
 
 /** The `length` bytes at an offset; absent unless all of them are there. */
-FONT_API_INLINE font_view font_part(
-    font_view view, size_t offset, size_t length) FONT_API_NOEXCEPT {
-    if (!font_api_within(view, offset, length))
-        return font_api_absent();
-    return font_api_view(view, offset, length);
+FTY_API_INLINE fty_view fty_part(
+    fty_view view, size_t offset, size_t length) FTY_API_NOEXCEPT {
+    if (!fty_api_within(view, offset, length))
+        return fty_api_absent();
+    return fty_api_view(view, offset, length);
 }
 
 /** `count` items of `size` bytes at an offset; absent unless all of them are there. */
-FONT_API_INLINE font_view font_items(
-    font_view view, size_t offset, size_t count, size_t size) FONT_API_NOEXCEPT {
+FTY_API_INLINE fty_view fty_items(
+    fty_view view, size_t offset, size_t count, size_t size) FTY_API_NOEXCEPT {
     if (offset > view.length || (size != 0 && count > (view.length - offset) / size))
-        return font_api_absent();
-    return font_api_view(view, offset, count * size);
+        return fty_api_absent();
+    return fty_api_view(view, offset, count * size);
 }
 
 /**
  * The bytes from where the 16-bit offset at `offset` points, to the end of the view; absent
- * if that offset is 0, missing, or past the end. (font_part with the field's value would give
+ * if that offset is 0, missing, or past the end. (fty_part with the field's value would give
  * the whole view for an offset that is 0 or missing.)
  */
-FONT_API_INLINE font_view font_at_offset16(font_view view, size_t offset) FONT_API_NOEXCEPT {
-    if (!font_api_within(view, offset, 2))
-        return font_api_absent();
-    return font_api_from(view, font_api_two(view.bytes + offset));
+FTY_API_INLINE fty_view fty_at_offset16(fty_view view, size_t offset) FTY_API_NOEXCEPT {
+    if (!fty_api_within(view, offset, 2))
+        return fty_api_absent();
+    return fty_api_from(view, fty_api_two(view.bytes + offset));
 }
 
 /**
  * The bytes from where the 24-bit offset at `offset` points, to the end of the view; absent
  * if that offset is 0, missing, or past the end.
  */
-FONT_API_INLINE font_view font_at_offset24(font_view view, size_t offset) FONT_API_NOEXCEPT {
-    if (!font_api_within(view, offset, 3))
-        return font_api_absent();
-    return font_api_from(view, font_api_three(view.bytes + offset));
+FTY_API_INLINE fty_view fty_at_offset24(fty_view view, size_t offset) FTY_API_NOEXCEPT {
+    if (!fty_api_within(view, offset, 3))
+        return fty_api_absent();
+    return fty_api_from(view, fty_api_three(view.bytes + offset));
 }
 
 /**
  * The bytes from where the 32-bit offset at `offset` points, to the end of the view; absent
  * if that offset is 0, missing, or past the end.
  */
-FONT_API_INLINE font_view font_at_offset32(font_view view, size_t offset) FONT_API_NOEXCEPT {
-    if (!font_api_within(view, offset, 4))
-        return font_api_absent();
-    return font_api_from(view, font_api_four(view.bytes + offset));
+FTY_API_INLINE fty_view fty_at_offset32(fty_view view, size_t offset) FTY_API_NOEXCEPT {
+    if (!fty_api_within(view, offset, 4))
+        return fty_api_absent();
+    return fty_api_from(view, fty_api_four(view.bytes + offset));
 }
 
-/** Reads a uint8, or fails by FONT_OUT_OF_BOUNDS. */
-FONT_API_INLINE font_status font_read_u8(
-    font_view view, size_t offset, uint8_t *value) FONT_API_NOEXCEPT {
-    if (!font_api_within(view, offset, 1))
-        return FONT_OUT_OF_BOUNDS;
+/** Reads a uint8, or fails by FTY_OUT_OF_BOUNDS. */
+FTY_API_INLINE fty_status fty_read_u8(
+    fty_view view, size_t offset, uint8_t *value) FTY_API_NOEXCEPT {
+    if (!fty_api_within(view, offset, 1))
+        return FTY_OUT_OF_BOUNDS;
     *value = view.bytes[offset];
-    return FONT_OK;
+    return FTY_OK;
 }
 
 /** A uint8. 0 may mean that it is missing. */
-FONT_API_INLINE uint8_t font_u8(font_view view, size_t offset) FONT_API_NOEXCEPT {
-    if (!font_api_within(view, offset, 1))
+FTY_API_INLINE uint8_t fty_u8(fty_view view, size_t offset) FTY_API_NOEXCEPT {
+    if (!fty_api_within(view, offset, 1))
         return 0;
     return view.bytes[offset];
 }
 
-/** Reads an int8, or fails by FONT_OUT_OF_BOUNDS. */
-FONT_API_INLINE font_status font_read_i8(
-    font_view view, size_t offset, int8_t *value) FONT_API_NOEXCEPT {
-    if (!font_api_within(view, offset, 1))
-        return FONT_OUT_OF_BOUNDS;
-    *value = FONT_API_AS(int8_t, view.bytes[offset]);
-    return FONT_OK;
+/** Reads an int8, or fails by FTY_OUT_OF_BOUNDS. */
+FTY_API_INLINE fty_status fty_read_i8(
+    fty_view view, size_t offset, int8_t *value) FTY_API_NOEXCEPT {
+    if (!fty_api_within(view, offset, 1))
+        return FTY_OUT_OF_BOUNDS;
+    *value = FTY_API_AS(int8_t, view.bytes[offset]);
+    return FTY_OK;
 }
 
 /** An int8. 0 may mean that it is missing. */
-FONT_API_INLINE int8_t font_i8(font_view view, size_t offset) FONT_API_NOEXCEPT {
-    if (!font_api_within(view, offset, 1))
+FTY_API_INLINE int8_t fty_i8(fty_view view, size_t offset) FTY_API_NOEXCEPT {
+    if (!fty_api_within(view, offset, 1))
         return 0;
-    return FONT_API_AS(int8_t, view.bytes[offset]);
+    return FTY_API_AS(int8_t, view.bytes[offset]);
 }
 
-/** Reads a uint16, or fails by FONT_OUT_OF_BOUNDS. */
-FONT_API_INLINE font_status font_read_u16(
-    font_view view, size_t offset, uint16_t *value) FONT_API_NOEXCEPT {
-    if (!font_api_within(view, offset, 2))
-        return FONT_OUT_OF_BOUNDS;
-    *value = FONT_API_AS(uint16_t, font_api_two(view.bytes + offset));
-    return FONT_OK;
+/** Reads a uint16, or fails by FTY_OUT_OF_BOUNDS. */
+FTY_API_INLINE fty_status fty_read_u16(
+    fty_view view, size_t offset, uint16_t *value) FTY_API_NOEXCEPT {
+    if (!fty_api_within(view, offset, 2))
+        return FTY_OUT_OF_BOUNDS;
+    *value = FTY_API_AS(uint16_t, fty_api_two(view.bytes + offset));
+    return FTY_OK;
 }
 
 /** A uint16. 0 may mean that it is missing. */
-FONT_API_INLINE uint16_t font_u16(font_view view, size_t offset) FONT_API_NOEXCEPT {
-    if (!font_api_within(view, offset, 2))
+FTY_API_INLINE uint16_t fty_u16(fty_view view, size_t offset) FTY_API_NOEXCEPT {
+    if (!fty_api_within(view, offset, 2))
         return 0;
-    return FONT_API_AS(uint16_t, font_api_two(view.bytes + offset));
+    return FTY_API_AS(uint16_t, fty_api_two(view.bytes + offset));
 }
 
-/** Reads an int16, or fails by FONT_OUT_OF_BOUNDS. */
-FONT_API_INLINE font_status font_read_i16(
-    font_view view, size_t offset, int16_t *value) FONT_API_NOEXCEPT {
-    if (!font_api_within(view, offset, 2))
-        return FONT_OUT_OF_BOUNDS;
-    *value = FONT_API_AS(int16_t, font_api_two(view.bytes + offset));
-    return FONT_OK;
+/** Reads an int16, or fails by FTY_OUT_OF_BOUNDS. */
+FTY_API_INLINE fty_status fty_read_i16(
+    fty_view view, size_t offset, int16_t *value) FTY_API_NOEXCEPT {
+    if (!fty_api_within(view, offset, 2))
+        return FTY_OUT_OF_BOUNDS;
+    *value = FTY_API_AS(int16_t, fty_api_two(view.bytes + offset));
+    return FTY_OK;
 }
 
 /** An int16. 0 may mean that it is missing. */
-FONT_API_INLINE int16_t font_i16(font_view view, size_t offset) FONT_API_NOEXCEPT {
-    if (!font_api_within(view, offset, 2))
+FTY_API_INLINE int16_t fty_i16(fty_view view, size_t offset) FTY_API_NOEXCEPT {
+    if (!fty_api_within(view, offset, 2))
         return 0;
-    return FONT_API_AS(int16_t, font_api_two(view.bytes + offset));
+    return FTY_API_AS(int16_t, fty_api_two(view.bytes + offset));
 }
 
-/** Reads a uint24, or fails by FONT_OUT_OF_BOUNDS. */
-FONT_API_INLINE font_status font_read_u24(
-    font_view view, size_t offset, uint32_t *value) FONT_API_NOEXCEPT {
-    if (!font_api_within(view, offset, 3))
-        return FONT_OUT_OF_BOUNDS;
-    *value = font_api_three(view.bytes + offset);
-    return FONT_OK;
+/** Reads a uint24, or fails by FTY_OUT_OF_BOUNDS. */
+FTY_API_INLINE fty_status fty_read_u24(
+    fty_view view, size_t offset, uint32_t *value) FTY_API_NOEXCEPT {
+    if (!fty_api_within(view, offset, 3))
+        return FTY_OUT_OF_BOUNDS;
+    *value = fty_api_three(view.bytes + offset);
+    return FTY_OK;
 }
 
 /** A uint24. 0 may mean that it is missing. */
-FONT_API_INLINE uint32_t font_u24(font_view view, size_t offset) FONT_API_NOEXCEPT {
-    if (!font_api_within(view, offset, 3))
+FTY_API_INLINE uint32_t fty_u24(fty_view view, size_t offset) FTY_API_NOEXCEPT {
+    if (!fty_api_within(view, offset, 3))
         return 0;
-    return font_api_three(view.bytes + offset);
+    return fty_api_three(view.bytes + offset);
 }
 
-/** Reads an int24, or fails by FONT_OUT_OF_BOUNDS. */
-FONT_API_INLINE font_status font_read_i24(
-    font_view view, size_t offset, int32_t *value) FONT_API_NOEXCEPT {
-    if (!font_api_within(view, offset, 3))
-        return FONT_OUT_OF_BOUNDS;
-    *value = font_api_signed_three(view.bytes + offset);
-    return FONT_OK;
+/** Reads an int24, or fails by FTY_OUT_OF_BOUNDS. */
+FTY_API_INLINE fty_status fty_read_i24(
+    fty_view view, size_t offset, int32_t *value) FTY_API_NOEXCEPT {
+    if (!fty_api_within(view, offset, 3))
+        return FTY_OUT_OF_BOUNDS;
+    *value = fty_api_signed_three(view.bytes + offset);
+    return FTY_OK;
 }
 
 /** An int24. 0 may mean that it is missing. */
-FONT_API_INLINE int32_t font_i24(font_view view, size_t offset) FONT_API_NOEXCEPT {
-    if (!font_api_within(view, offset, 3))
+FTY_API_INLINE int32_t fty_i24(fty_view view, size_t offset) FTY_API_NOEXCEPT {
+    if (!fty_api_within(view, offset, 3))
         return 0;
-    return font_api_signed_three(view.bytes + offset);
+    return fty_api_signed_three(view.bytes + offset);
 }
 
-/** Reads a uint32, or fails by FONT_OUT_OF_BOUNDS. */
-FONT_API_INLINE font_status font_read_u32(
-    font_view view, size_t offset, uint32_t *value) FONT_API_NOEXCEPT {
-    if (!font_api_within(view, offset, 4))
-        return FONT_OUT_OF_BOUNDS;
-    *value = font_api_four(view.bytes + offset);
-    return FONT_OK;
+/** Reads a uint32, or fails by FTY_OUT_OF_BOUNDS. */
+FTY_API_INLINE fty_status fty_read_u32(
+    fty_view view, size_t offset, uint32_t *value) FTY_API_NOEXCEPT {
+    if (!fty_api_within(view, offset, 4))
+        return FTY_OUT_OF_BOUNDS;
+    *value = fty_api_four(view.bytes + offset);
+    return FTY_OK;
 }
 
 /** A uint32. 0 may mean that it is missing. */
-FONT_API_INLINE uint32_t font_u32(font_view view, size_t offset) FONT_API_NOEXCEPT {
-    if (!font_api_within(view, offset, 4))
+FTY_API_INLINE uint32_t fty_u32(fty_view view, size_t offset) FTY_API_NOEXCEPT {
+    if (!fty_api_within(view, offset, 4))
         return 0;
-    return font_api_four(view.bytes + offset);
+    return fty_api_four(view.bytes + offset);
 }
 
-/** Reads an int32, or fails by FONT_OUT_OF_BOUNDS. */
-FONT_API_INLINE font_status font_read_i32(
-    font_view view, size_t offset, int32_t *value) FONT_API_NOEXCEPT {
-    if (!font_api_within(view, offset, 4))
-        return FONT_OUT_OF_BOUNDS;
-    *value = FONT_API_AS(int32_t, font_api_four(view.bytes + offset));
-    return FONT_OK;
+/** Reads an int32, or fails by FTY_OUT_OF_BOUNDS. */
+FTY_API_INLINE fty_status fty_read_i32(
+    fty_view view, size_t offset, int32_t *value) FTY_API_NOEXCEPT {
+    if (!fty_api_within(view, offset, 4))
+        return FTY_OUT_OF_BOUNDS;
+    *value = FTY_API_AS(int32_t, fty_api_four(view.bytes + offset));
+    return FTY_OK;
 }
 
 /** An int32. 0 may mean that it is missing. */
-FONT_API_INLINE int32_t font_i32(font_view view, size_t offset) FONT_API_NOEXCEPT {
-    if (!font_api_within(view, offset, 4))
+FTY_API_INLINE int32_t fty_i32(fty_view view, size_t offset) FTY_API_NOEXCEPT {
+    if (!fty_api_within(view, offset, 4))
         return 0;
-    return FONT_API_AS(int32_t, font_api_four(view.bytes + offset));
+    return FTY_API_AS(int32_t, fty_api_four(view.bytes + offset));
 }
 
-/** Reads an int64, or fails by FONT_OUT_OF_BOUNDS. */
-FONT_API_INLINE font_status font_read_i64(
-    font_view view, size_t offset, int64_t *value) FONT_API_NOEXCEPT {
-    if (!font_api_within(view, offset, 8))
-        return FONT_OUT_OF_BOUNDS;
-    *value = FONT_API_AS(int64_t, font_api_eight(view.bytes + offset));
-    return FONT_OK;
+/** Reads an int64, or fails by FTY_OUT_OF_BOUNDS. */
+FTY_API_INLINE fty_status fty_read_i64(
+    fty_view view, size_t offset, int64_t *value) FTY_API_NOEXCEPT {
+    if (!fty_api_within(view, offset, 8))
+        return FTY_OUT_OF_BOUNDS;
+    *value = FTY_API_AS(int64_t, fty_api_eight(view.bytes + offset));
+    return FTY_OK;
 }
 
 /** An int64. 0 may mean that it is missing. */
-FONT_API_INLINE int64_t font_i64(font_view view, size_t offset) FONT_API_NOEXCEPT {
-    if (!font_api_within(view, offset, 8))
+FTY_API_INLINE int64_t fty_i64(fty_view view, size_t offset) FTY_API_NOEXCEPT {
+    if (!fty_api_within(view, offset, 8))
         return 0;
-    return FONT_API_AS(int64_t, font_api_eight(view.bytes + offset));
+    return FTY_API_AS(int64_t, fty_api_eight(view.bytes + offset));
 }
 
 /**
- * Reads an unsigned integer of `size` bytes, 1 to 4, or fails by FONT_OUT_OF_BOUNDS, also if
+ * Reads an unsigned integer of `size` bytes, 1 to 4, or fails by FTY_OUT_OF_BOUNDS, also if
  * `size` is another.
  */
-FONT_API_INLINE font_status font_read_uint(
-    font_view view, size_t offset, size_t size, uint32_t *value) FONT_API_NOEXCEPT {
-    if (!font_api_within(view, offset, size))
-        return FONT_OUT_OF_BOUNDS;
+FTY_API_INLINE fty_status fty_read_uint(
+    fty_view view, size_t offset, size_t size, uint32_t *value) FTY_API_NOEXCEPT {
+    if (!fty_api_within(view, offset, size))
+        return FTY_OUT_OF_BOUNDS;
     switch (size) {
-    case 1: *value = view.bytes[offset]; return FONT_OK;
-    case 2: *value = font_api_two(view.bytes + offset); return FONT_OK;
-    case 3: *value = font_api_three(view.bytes + offset); return FONT_OK;
-    case 4: *value = font_api_four(view.bytes + offset); return FONT_OK;
-    default: return FONT_OUT_OF_BOUNDS;
+    case 1: *value = view.bytes[offset]; return FTY_OK;
+    case 2: *value = fty_api_two(view.bytes + offset); return FTY_OK;
+    case 3: *value = fty_api_three(view.bytes + offset); return FTY_OK;
+    case 4: *value = fty_api_four(view.bytes + offset); return FTY_OK;
+    default: return FTY_OUT_OF_BOUNDS;
     }
 }
 
 /** An unsigned integer of `size` bytes, 1 to 4. 0 may mean that it is missing. */
-FONT_API_INLINE uint32_t font_uint(font_view view, size_t offset, size_t size) FONT_API_NOEXCEPT {
-    if (!font_api_within(view, offset, size))
+FTY_API_INLINE uint32_t fty_uint(fty_view view, size_t offset, size_t size) FTY_API_NOEXCEPT {
+    if (!fty_api_within(view, offset, size))
         return 0;
     switch (size) {
     case 1: return view.bytes[offset];
-    case 2: return font_api_two(view.bytes + offset);
-    case 3: return font_api_three(view.bytes + offset);
-    case 4: return font_api_four(view.bytes + offset);
+    case 2: return fty_api_two(view.bytes + offset);
+    case 3: return fty_api_three(view.bytes + offset);
+    case 4: return fty_api_four(view.bytes + offset);
     default: return 0;
     }
 }
@@ -619,154 +619,154 @@ FONT_API_INLINE uint32_t font_uint(font_view view, size_t offset, size_t size) F
 
 /**
  * Rounds a 16-bit raw value to that of the nearest integer, half up: of 1.5, that of 2.
- * Fails by FONT_BAD_FRACTION, FONT_OUT_OF_RANGE. (The Rust types wrap.)
+ * Fails by FTY_BAD_FRACTION, FTY_OUT_OF_RANGE. (The Rust types wrap.)
  */
-FONT_API_INLINE font_status font_round_i16(
-    int16_t bits, uint32_t fraction_bits, int16_t *rounded) FONT_API_NOEXCEPT {
+FTY_API_INLINE fty_status fty_round_i16(
+    int16_t bits, uint32_t fraction_bits, int16_t *rounded) FTY_API_NOEXCEPT {
     if (fraction_bits < 6 || fraction_bits > 14)
-        return FONT_BAD_FRACTION;
+        return FTY_BAD_FRACTION;
     const int32_t half = INT32_C(1) << (fraction_bits - 1);
     if (bits > INT16_MAX - half)
-        return FONT_OUT_OF_RANGE;
-    *rounded = FONT_API_AS(int16_t, (bits + half) & -2 * half);
-    return FONT_OK;
+        return FTY_OUT_OF_RANGE;
+    *rounded = FTY_API_AS(int16_t, (bits + half) & -2 * half);
+    return FTY_OK;
 }
 
 /**
  * Rounds a 32-bit raw value to that of the nearest integer, half up: of 1.5, that of 2.
- * Fails by FONT_BAD_FRACTION, FONT_OUT_OF_RANGE. (The Rust types wrap.)
+ * Fails by FTY_BAD_FRACTION, FTY_OUT_OF_RANGE. (The Rust types wrap.)
  */
-FONT_API_INLINE font_status font_round_i32(
-    int32_t bits, uint32_t fraction_bits, int32_t *rounded) FONT_API_NOEXCEPT {
+FTY_API_INLINE fty_status fty_round_i32(
+    int32_t bits, uint32_t fraction_bits, int32_t *rounded) FTY_API_NOEXCEPT {
     if (fraction_bits < 6 || fraction_bits > 30)
-        return FONT_BAD_FRACTION;
+        return FTY_BAD_FRACTION;
     const int32_t half = INT32_C(1) << (fraction_bits - 1);
     if (bits > INT32_MAX - half)
-        return FONT_OUT_OF_RANGE;
+        return FTY_OUT_OF_RANGE;
     *rounded = (bits + half) & -2 * half;
-    return FONT_OK;
+    return FTY_OK;
 }
 
 /**
  * Rounds a 64-bit raw value to that of the nearest integer, half up: of 1.5, that of 2.
- * Fails by FONT_BAD_FRACTION, FONT_OUT_OF_RANGE. (The Rust types wrap.)
+ * Fails by FTY_BAD_FRACTION, FTY_OUT_OF_RANGE. (The Rust types wrap.)
  */
-FONT_API_INLINE font_status font_round_i64(
-    int64_t bits, uint32_t fraction_bits, int64_t *rounded) FONT_API_NOEXCEPT {
+FTY_API_INLINE fty_status fty_round_i64(
+    int64_t bits, uint32_t fraction_bits, int64_t *rounded) FTY_API_NOEXCEPT {
     if (fraction_bits < 6 || fraction_bits > 30)
-        return FONT_BAD_FRACTION;
+        return FTY_BAD_FRACTION;
     const int64_t half = INT64_C(1) << (fraction_bits - 1);
     if (bits > INT64_MAX - half)
-        return FONT_OUT_OF_RANGE;
+        return FTY_OUT_OF_RANGE;
     *rounded = (bits + half) & -2 * half;
-    return FONT_OK;
+    return FTY_OK;
 }
 
 /* ---- sums and products that wrap: `x - y` of two fields, and `x * 65536` of one, may overflow,
  *      which is undefined behavior in C ---- */
 
 /** x + y, of 32-bit raw values of one format; wraps. */
-FONT_API_INLINE int32_t font_fixed_add(int32_t x, int32_t y) FONT_API_NOEXCEPT {
-    return FONT_API_AS(int32_t, FONT_API_AS(uint32_t, x) + FONT_API_AS(uint32_t, y));
+FTY_API_INLINE int32_t fty_fixed_add(int32_t x, int32_t y) FTY_API_NOEXCEPT {
+    return FTY_API_AS(int32_t, FTY_API_AS(uint32_t, x) + FTY_API_AS(uint32_t, y));
 }
 
 /** x - y, of 32-bit raw values of one format; wraps. */
-FONT_API_INLINE int32_t font_fixed_sub(int32_t x, int32_t y) FONT_API_NOEXCEPT {
-    return FONT_API_AS(int32_t, FONT_API_AS(uint32_t, x) - FONT_API_AS(uint32_t, y));
+FTY_API_INLINE int32_t fty_fixed_sub(int32_t x, int32_t y) FTY_API_NOEXCEPT {
+    return FTY_API_AS(int32_t, FTY_API_AS(uint32_t, x) - FTY_API_AS(uint32_t, y));
 }
 
 /** An integer, as font units, to 16.16, x * 65536; wraps unless x is from -32768 to 32767. */
-FONT_API_INLINE int32_t font_fixed_from_i32(int32_t x) FONT_API_NOEXCEPT {
-    return FONT_API_AS(int32_t, FONT_API_AS(uint32_t, x) * UINT32_C(65536));
+FTY_API_INLINE int32_t fty_fixed_from_i32(int32_t x) FTY_API_NOEXCEPT {
+    return FTY_API_AS(int32_t, FTY_API_AS(uint32_t, x) * UINT32_C(65536));
 }
 
-/** 48.16 to the same number in 16.16, or FONT_OUT_OF_RANGE; `(int32_t)bits` wraps. */
-FONT_API_INLINE font_status font_f48dot16_to_fixed(
-    int64_t bits, int32_t *fixed) FONT_API_NOEXCEPT {
+/** 48.16 to the same number in 16.16, or FTY_OUT_OF_RANGE; `(int32_t)bits` wraps. */
+FTY_API_INLINE fty_status fty_f48dot16_to_fixed(
+    int64_t bits, int32_t *fixed) FTY_API_NOEXCEPT {
     if (bits < INT32_MIN || bits > INT32_MAX)
-        return FONT_OUT_OF_RANGE;
-    *fixed = FONT_API_AS(int32_t, bits);
-    return FONT_OK;
+        return FTY_OUT_OF_RANGE;
+    *fixed = FTY_API_AS(int32_t, bits);
+    return FTY_OK;
 }
 
-/** The number of bytes of a delta set of `count` deltas, for font_delta_set_sum. */
-FONT_API_INLINE size_t font_delta_set_length(
-    uint16_t word_count, uint16_t count) FONT_API_NOEXCEPT {
+/** The number of bytes of a delta set of `count` deltas, for fty_delta_set_sum. */
+FTY_API_INLINE size_t fty_delta_set_length(
+    uint16_t word_count, uint16_t count) FTY_API_NOEXCEPT {
     const size_t size = (word_count & 0x8000) != 0 ? 2 : 1;
-    return size * (FONT_API_AS(size_t, count) + (word_count & 0x7FFFu));
+    return size * (FTY_API_AS(size_t, count) + (word_count & 0x7FFFu));
 }
 
 /* ---- the functions of three formats, with their types and fraction bits ---- */
 
-/** font_parse_i32 of 16.16. */
-FONT_API_INLINE font_status font_fixed_parse(
-    const char *text, size_t length, int32_t *bits) FONT_API_NOEXCEPT {
-    return font_parse_i32(text, length, FONT_FIXED_BITS, bits);
+/** fty_parse_i32 of 16.16. */
+FTY_API_INLINE fty_status fty_fixed_parse(
+    const char *text, size_t length, int32_t *bits) FTY_API_NOEXCEPT {
+    return fty_parse_i32(text, length, FTY_FIXED_BITS, bits);
 }
 
-/** font_format of 16.16. */
-FONT_API_INLINE font_status font_fixed_format(
-    int32_t bits, char *out, size_t room, size_t *length) FONT_API_NOEXCEPT {
-    return font_format(bits, FONT_FIXED_BITS, out, room, length);
+/** fty_format of 16.16. */
+FTY_API_INLINE fty_status fty_fixed_format(
+    int32_t bits, char *out, size_t room, size_t *length) FTY_API_NOEXCEPT {
+    return fty_format(bits, FTY_FIXED_BITS, out, room, length);
 }
 
-/** font_format_padded of 16.16. */
-FONT_API_INLINE font_status font_fixed_format_padded(
-    int32_t bits, const font_pad *pad, char *out, size_t room, size_t *length) FONT_API_NOEXCEPT {
-    return font_format_padded(bits, FONT_FIXED_BITS, pad, out, room, length);
+/** fty_format_padded of 16.16. */
+FTY_API_INLINE fty_status fty_fixed_format_padded(
+    int32_t bits, const fty_pad *pad, char *out, size_t room, size_t *length) FTY_API_NOEXCEPT {
+    return fty_format_padded(bits, FTY_FIXED_BITS, pad, out, room, length);
 }
 
-/** font_parse_i16 of 2.14. */
-FONT_API_INLINE font_status font_f2dot14_parse(
-    const char *text, size_t length, int16_t *bits) FONT_API_NOEXCEPT {
-    return font_parse_i16(text, length, FONT_F2DOT14_BITS, bits);
+/** fty_parse_i16 of 2.14. */
+FTY_API_INLINE fty_status fty_f2dot14_parse(
+    const char *text, size_t length, int16_t *bits) FTY_API_NOEXCEPT {
+    return fty_parse_i16(text, length, FTY_F2DOT14_BITS, bits);
 }
 
-/** font_format of 2.14. */
-FONT_API_INLINE font_status font_f2dot14_format(
-    int16_t bits, char *out, size_t room, size_t *length) FONT_API_NOEXCEPT {
-    return font_format(bits, FONT_F2DOT14_BITS, out, room, length);
+/** fty_format of 2.14. */
+FTY_API_INLINE fty_status fty_f2dot14_format(
+    int16_t bits, char *out, size_t room, size_t *length) FTY_API_NOEXCEPT {
+    return fty_format(bits, FTY_F2DOT14_BITS, out, room, length);
 }
 
-/** font_format_padded of 2.14. */
-FONT_API_INLINE font_status font_f2dot14_format_padded(
-    int16_t bits, const font_pad *pad, char *out, size_t room, size_t *length) FONT_API_NOEXCEPT {
-    return font_format_padded(bits, FONT_F2DOT14_BITS, pad, out, room, length);
+/** fty_format_padded of 2.14. */
+FTY_API_INLINE fty_status fty_f2dot14_format_padded(
+    int16_t bits, const fty_pad *pad, char *out, size_t room, size_t *length) FTY_API_NOEXCEPT {
+    return fty_format_padded(bits, FTY_F2DOT14_BITS, pad, out, room, length);
 }
 
-/** font_parse_i32 of 26.6. */
-FONT_API_INLINE font_status font_f26dot6_parse(
-    const char *text, size_t length, int32_t *bits) FONT_API_NOEXCEPT {
-    return font_parse_i32(text, length, FONT_F26DOT6_BITS, bits);
+/** fty_parse_i32 of 26.6. */
+FTY_API_INLINE fty_status fty_f26dot6_parse(
+    const char *text, size_t length, int32_t *bits) FTY_API_NOEXCEPT {
+    return fty_parse_i32(text, length, FTY_F26DOT6_BITS, bits);
 }
 
-/** font_format of 26.6. */
-FONT_API_INLINE font_status font_f26dot6_format(
-    int32_t bits, char *out, size_t room, size_t *length) FONT_API_NOEXCEPT {
-    return font_format(bits, FONT_F26DOT6_BITS, out, room, length);
+/** fty_format of 26.6. */
+FTY_API_INLINE fty_status fty_f26dot6_format(
+    int32_t bits, char *out, size_t room, size_t *length) FTY_API_NOEXCEPT {
+    return fty_format(bits, FTY_F26DOT6_BITS, out, room, length);
 }
 
-/** font_format_padded of 26.6. */
-FONT_API_INLINE font_status font_f26dot6_format_padded(
-    int32_t bits, const font_pad *pad, char *out, size_t room, size_t *length) FONT_API_NOEXCEPT {
-    return font_format_padded(bits, FONT_F26DOT6_BITS, pad, out, room, length);
+/** fty_format_padded of 26.6. */
+FTY_API_INLINE fty_status fty_f26dot6_format_padded(
+    int32_t bits, const fty_pad *pad, char *out, size_t room, size_t *length) FTY_API_NOEXCEPT {
+    return fty_format_padded(bits, FTY_F26DOT6_BITS, pad, out, room, length);
 }
 
 /** The meaning of a status, in words. */
-FONT_API_INLINE const char *font_status_text(font_status status) FONT_API_NOEXCEPT {
+FTY_API_INLINE const char *fty_status_text(fty_status status) FTY_API_NOEXCEPT {
     switch (status) {
-    case FONT_OK: return "done";
-    case FONT_NOT_DECIMAL: return "not a decimal number";
-    case FONT_OUT_OF_RANGE: return "result out of range";
-    case FONT_BAD_FRACTION: return "unsupported number of fraction bits";
-    case FONT_BUFFER_TOO_SMALL: return "buffer too small";
-    case FONT_BAD_PAD: return "invalid padding";
-    case FONT_OUT_OF_BOUNDS: return "field out of bounds";
-    case FONT_COUNT_MISMATCH: return "different numbers of scalars and deltas";
-    case FONT_TOO_MANY: return "too many scalars";
-    case FONT_TAG_LENGTH: return "wrong length of a tag";
-    case FONT_TAG_BYTE: return "invalid byte in a tag";
-    case FONT_TAG_AFTER_SPACE: return "printable byte after a space in a tag";
+    case FTY_OK: return "done";
+    case FTY_NOT_DECIMAL: return "not a decimal number";
+    case FTY_OUT_OF_RANGE: return "result out of range";
+    case FTY_BAD_FRACTION: return "unsupported number of fraction bits";
+    case FTY_BUFFER_TOO_SMALL: return "buffer too small";
+    case FTY_BAD_PAD: return "invalid padding";
+    case FTY_OUT_OF_BOUNDS: return "field out of bounds";
+    case FTY_COUNT_MISMATCH: return "different numbers of scalars and deltas";
+    case FTY_TOO_MANY: return "too many scalars";
+    case FTY_TAG_LENGTH: return "wrong length of a tag";
+    case FTY_TAG_BYTE: return "invalid byte in a tag";
+    case FTY_TAG_AFTER_SPACE: return "printable byte after a space in a tag";
     }
     return "unknown status";
 }
@@ -774,26 +774,26 @@ FONT_API_INLINE const char *font_status_text(font_status status) FONT_API_NOEXCE
 /** @cond */
 #if defined(__cplusplus) || (defined(__STDC_VERSION__) && __STDC_VERSION__ >= 201112L)
 #ifdef __cplusplus
-#define FONT_API_ASSERT(CONDITION) static_assert(CONDITION, #CONDITION)
+#define FTY_API_ASSERT(CONDITION) static_assert(CONDITION, #CONDITION)
 #else
-#define FONT_API_ASSERT(CONDITION) _Static_assert(CONDITION, #CONDITION)
+#define FTY_API_ASSERT(CONDITION) _Static_assert(CONDITION, #CONDITION)
 #endif
-FONT_API_ASSERT(sizeof(font_status) == 4);
-FONT_API_ASSERT(sizeof(font_matrix) == 24 && offsetof(font_matrix, dy) == 20);
-FONT_API_ASSERT(sizeof(font_point) == 8 && offsetof(font_point, y) == 4);
-FONT_API_ASSERT(sizeof(font_pad) == 2 * sizeof(size_t) || sizeof(size_t) < 4);
-FONT_API_ASSERT(offsetof(font_pad, fill) == sizeof(size_t));
-FONT_API_ASSERT(offsetof(font_view, length) == sizeof(const uint8_t *));
-#undef FONT_API_ASSERT
+FTY_API_ASSERT(sizeof(fty_status) == 4);
+FTY_API_ASSERT(sizeof(fty_matrix) == 24 && offsetof(fty_matrix, dy) == 20);
+FTY_API_ASSERT(sizeof(fty_point) == 8 && offsetof(fty_point, y) == 4);
+FTY_API_ASSERT(sizeof(fty_pad) == 2 * sizeof(size_t) || sizeof(size_t) < 4);
+FTY_API_ASSERT(offsetof(fty_pad, fill) == sizeof(size_t));
+FTY_API_ASSERT(offsetof(fty_view, length) == sizeof(const uint8_t *));
+#undef FTY_API_ASSERT
 #endif
 
-#undef FONT_API_NOEXCEPT
-#undef FONT_API_NULL
-#undef FONT_API_AS
-#undef FONT_API_CONST
-#undef FONT_API_MUST_USE
-#undef FONT_API_PURE
-#undef FONT_API_INLINE
+#undef FTY_API_NOEXCEPT
+#undef FTY_API_NULL
+#undef FTY_API_AS
+#undef FTY_API_CONST
+#undef FTY_API_MUST_USE
+#undef FTY_API_PURE
+#undef FTY_API_INLINE
 /** @endcond */
 
 #endif

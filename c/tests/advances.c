@@ -12,11 +12,11 @@ enum { GLYPHS = 3, SIZE = MOST_PIXELS };
 static int cases, printed, both, messages, failures;
 
 /* The next bytes of the cases. */
-static font_view take(font_view *cases_left, size_t length) {
-    const font_view taken = font_part(*cases_left, 0, length);
+static fty_view take(fty_view *cases_left, size_t length) {
+    const fty_view taken = fty_part(*cases_left, 0, length);
     if (taken.bytes == NULL)
         exit(fail("cases", "end early"));
-    *cases_left = font_part(*cases_left, length, cases_left->length - length);
+    *cases_left = fty_part(*cases_left, length, cases_left->length - length);
     return taken;
 }
 
@@ -31,10 +31,10 @@ static int64_t nearest(int64_t number, int64_t divisor) {
 }
 
 /* Whether the advances are these of 16 bits, and the pixels those of them. */
-static int are(const struct advance *advances, font_view answer, uint16_t units_per_em) {
+static int are(const struct advance *advances, fty_view answer, uint16_t units_per_em) {
     int same = answer.length == 2 * GLYPHS;
     for (size_t i = 0; i < GLYPHS && same; i++) {
-        const uint16_t units = font_u16(answer, 2 * i);
+        const uint16_t units = fty_u16(answer, 2 * i);
         same = advances[i].units == units
                && advances[i].pixels == nearest((int64_t)SIZE * units, units_per_em);
     }
@@ -42,19 +42,19 @@ static int are(const struct advance *advances, font_view answer, uint16_t units_
 }
 
 /* The units per em of a font. */
-static uint16_t units_per_em_of(font_view file) {
+static uint16_t units_per_em_of(fty_view file) {
     struct font font = {0};
     font.file = file;
-    return font_u16(table(&font, FONT_TAG('h', 'e', 'a', 'd'), 54, "head"), 18);
+    return fty_u16(table(&font, FTY_TAG('h', 'e', 'a', 'd'), 54, "head"), 18);
 }
 
 /* What the program says of a font, and what it has to say. */
-static void check_case(uint8_t kind, font_view file, struct request *request, font_view glyphs,
-                       font_view answer) {
+static void check_case(uint8_t kind, fty_view file, struct request *request, fty_view glyphs,
+                       fty_view answer) {
     struct advance advances[GLYPHS];
     const char *error = NULL;
     for (size_t i = 0; i < GLYPHS && error == NULL; i++) {
-        request->glyph = font_u16(glyphs, 2 * i);
+        request->glyph = fty_u16(glyphs, 2 * i);
         error = read_advance(file, request, &advances[i]);
     }
     const int is_same = error == NULL && are(advances, answer, units_per_em_of(file));
@@ -72,31 +72,31 @@ static void check_case(uint8_t kind, font_view file, struct request *request, fo
     }
 }
 
-static void read_case(font_view *left) {
+static void read_case(fty_view *left) {
     struct setting settings[4];
     struct request request = {0, SIZE, settings, 0};
-    const uint8_t kind = font_u8(take(left, 1), 0);
-    const font_view font = take(left, font_u32(take(left, 4), 0));
-    const size_t count = font_u8(take(left, 1), 0);
+    const uint8_t kind = fty_u8(take(left, 1), 0);
+    const fty_view font = take(left, fty_u32(take(left, 4), 0));
+    const size_t count = fty_u8(take(left, 1), 0);
     for (size_t i = 0; i < count; i++) {
-        const font_view setting = take(left, 8);
-        settings[i].tag = font_u32(setting, 0), settings[i].value = font_i32(setting, 4);
+        const fty_view setting = take(left, 8);
+        settings[i].tag = fty_u32(setting, 0), settings[i].value = fty_i32(setting, 4);
     }
     request.setting_count = count;
-    const font_view glyphs = take(left, 2 * GLYPHS);
+    const fty_view glyphs = take(left, 2 * GLYPHS);
     /* Exactly as many bytes, so that the sanitizer sees a read of one more. */
     uint8_t *const bytes = (uint8_t *)malloc(font.length + (font.length == 0));
     if (bytes == NULL)
         exit(fail("cases", "no memory"));
     memcpy(bytes, font.bytes, font.length);
-    check_case(kind, (font_view){bytes, font.length}, &request, glyphs,
-               take(left, font_u8(take(left, 1), 0)));
+    check_case(kind, (fty_view){bytes, font.length}, &request, glyphs,
+               take(left, fty_u8(take(left, 1), 0)));
     free(bytes);
 }
 
 int main(int count, char **paths) {
-    const font_view all = count > 1 ? load(paths[1]) : absent;
-    for (font_view left = all; left.length > 0; cases++)
+    const fty_view all = count > 1 ? load(paths[1]) : absent;
+    for (fty_view left = all; left.length > 0; cases++)
         read_case(&left);
     free((void *)(uintptr_t)all.bytes);
     printf("advances: %d fonts, %d printed, %d mutations also by the proved Rust, %d messages, "

@@ -37,15 +37,15 @@ static void check(const char *name, int32_t ours, FT_Long theirs, int32_t x, int
                (int)theirs);
 }
 
-/* Two points by a random matrix, as FT_Outline_Transform and font_matrix_images move them. */
+/* Two points by a random matrix, as FT_Outline_Transform and fty_matrix_images move them. */
 static void check_outline(int32_t x, int32_t y) {
     const FT_Matrix a = {any(), any(), any(), any()};
-    const font_matrix m = {(int32_t)a.xx, (int32_t)a.yx, (int32_t)a.xy, (int32_t)a.yy, 0, 0};
+    const fty_matrix m = {(int32_t)a.xx, (int32_t)a.yx, (int32_t)a.xy, (int32_t)a.yy, 0, 0};
     FT_Vector vectors[] = {{x, y}, {y, x}};
-    font_point points[] = {{x, y}, {y, x}};
+    fty_point points[] = {{x, y}, {y, x}};
     FT_Outline outline = {0, 2, vectors, NULL, NULL, 0};
     FT_Outline_Transform(&outline, &a);
-    font_matrix_images(&m, points, 2);
+    fty_matrix_images(&m, points, 2);
     for (int i = 0; i < 2; i++) {
         check("images.x", points[i].x, vectors[i].x, x, y, i);
         check("images.y", points[i].y, vectors[i].y, x, y, i);
@@ -53,7 +53,7 @@ static void check_outline(int32_t x, int32_t y) {
 }
 
 /* What README.md names for FT_Matrix_Multiply(&a, &b). */
-static font_matrix multiplied(font_matrix a, font_matrix b) {
+static fty_matrix multiplied(fty_matrix a, fty_matrix b) {
 #include "multiply.inc"
     return b;
 }
@@ -64,25 +64,25 @@ int main(int count, char **arguments) {
         check(arguments[1], 1, 2, 0, 0, 0);
     for (int i = 0; i < ROUNDS; i++) {
         int32_t x = any(), y = any(), z = any();
-        check("mul", font_fixed_mul(x, y), FT_MulFix(x, y), x, y, 0);
-        check("div", font_fixed_div(x, y), FT_DivFix(x, y), x, y, 0);
-        check("mul_div", font_fixed_mul_div(x, y, z), FT_MulDiv(x, y, z), x, y, z);
+        check("mul", fty_fixed_mul(x, y), FT_MulFix(x, y), x, y, 0);
+        check("div", fty_fixed_div(x, y), FT_DivFix(x, y), x, y, 0);
+        check("mul_div", fty_fixed_mul_div(x, y, z), FT_MulDiv(x, y, z), x, y, z);
 #include "freetype.inc"
         check("ceil", ceiling, FT_CeilFix(x), x, 0, 0);
         check("round", rounded, FT_RoundFix(x), x, 0, 0);
         check("floor", largest, FT_FloorFix(x), x, 0, 0);
         check_outline(x, y);
         FT_Matrix a = {any(), any(), any(), any()}, b = {any(), any(), any(), any()};
-        font_matrix m = {(int32_t)a.xx, (int32_t)a.yx, (int32_t)a.xy, (int32_t)a.yy, 0, 0};
-        font_matrix n = {(int32_t)b.xx, (int32_t)b.yx, (int32_t)b.xy, (int32_t)b.yy, 0, 0};
-        font_matrix c = multiplied(m, n);
+        fty_matrix m = {(int32_t)a.xx, (int32_t)a.yx, (int32_t)a.xy, (int32_t)a.yy, 0, 0};
+        fty_matrix n = {(int32_t)b.xx, (int32_t)b.yx, (int32_t)b.xy, (int32_t)b.yy, 0, 0};
+        fty_matrix c = multiplied(m, n);
         FT_Matrix_Multiply(&a, &b);
         check("product.xx", c.xx, b.xx, x, y, z);
         check("product.yx", c.yx, b.yx, x, y, z);
         check("product.xy", c.xy, b.xy, x, y, z);
         check("product.yy", c.yy, b.yy, x, y, z);
         FT_Vector v = {x, y};
-        font_point p = font_matrix_vector(m, (font_point){x, y});
+        fty_point p = fty_matrix_vector(m, (fty_point){x, y});
         FT_Vector_Transform(&v, &a);
         check("vector.x", p.x, v.x, x, y, z);
         check("vector.y", p.y, v.y, x, y, z);

@@ -26,18 +26,18 @@ static void check(const char *name, int64_t x, int64_t y, int64_t found, int64_t
 /* ---- rounding ---- */
 
 /* The status of rounding a raw value, and what is stored. */
-static font_status rounded(int width, int64_t bits, uint32_t f, int64_t *result) {
+static fty_status rounded(int width, int64_t bits, uint32_t f, int64_t *result) {
     int16_t result_16 = KEPT;
     int32_t result_32 = KEPT;
     int64_t result_64 = KEPT;
-    const font_status status = width == 16   ? font_round_i16((int16_t)bits, f, &result_16)
-                               : width == 32 ? font_round_i32((int32_t)bits, f, &result_32)
-                                             : font_round_i64(bits, f, &result_64);
+    const fty_status status = width == 16   ? fty_round_i16((int16_t)bits, f, &result_16)
+                              : width == 32 ? fty_round_i32((int32_t)bits, f, &result_32)
+                                            : fty_round_i64(bits, f, &result_64);
     *result = width == 16 ? result_16 : width == 32 ? result_32 : result_64;
     return status;
 }
 
-static void check_rounded(int width, int64_t bits, uint32_t f, font_status status, int64_t result) {
+static void check_rounded(int width, int64_t bits, uint32_t f, fty_status status, int64_t result) {
     int64_t found;
     check("status of round", bits, f, rounded(width, bits, f, &found), status);
     check("round", bits, f, found, result);
@@ -48,9 +48,9 @@ static void check_round(int width, int64_t bits, uint32_t f) {
     const wide one = (wide)1 << f, sum = (wide)bits + one / 2, most = ((wide)1 << (width - 1)) - 1;
     const wide rest = (sum % one + one) % one, nearest = sum - rest;
     if (nearest <= most)
-        check_rounded(width, bits, f, FONT_OK, (int64_t)nearest);
+        check_rounded(width, bits, f, FTY_OK, (int64_t)nearest);
     else
-        check_rounded(width, bits, f, FONT_OUT_OF_RANGE, KEPT);
+        check_rounded(width, bits, f, FTY_OUT_OF_RANGE, KEPT);
 }
 
 static void check_widths(void) {
@@ -78,10 +78,10 @@ static void check_widths(void) {
     static const uint32_t others[] = {0, 1, 5, 15, 16, 30, 31, 32, 62, 64, 70, 262, UINT32_MAX};
     for (size_t i = 0; i < sizeof others / sizeof others[0]; i++) {
         if (others[i] < 6 || others[i] > 14)
-            check_rounded(16, 0, others[i], FONT_BAD_FRACTION, KEPT);
+            check_rounded(16, 0, others[i], FTY_BAD_FRACTION, KEPT);
         if (others[i] < 6 || others[i] > 30) {
-            check_rounded(32, 0, others[i], FONT_BAD_FRACTION, KEPT);
-            check_rounded(64, 0, others[i], FONT_BAD_FRACTION, KEPT);
+            check_rounded(32, 0, others[i], FTY_BAD_FRACTION, KEPT);
+            check_rounded(64, 0, others[i], FTY_BAD_FRACTION, KEPT);
         }
     }
 }
@@ -90,49 +90,49 @@ static void check_widths(void) {
 
 /* The status of reading a field, what is stored, and the value alone. */
 struct reading {
-    font_status status;
+    fty_status status;
     int64_t stored, alone;
 };
 
-#define READ(NAME, VALUE, READ_FIELD, FIELD)                                \
-    static struct reading NAME(font_view view, size_t offset) {             \
-        font_status (*const read)(font_view, size_t, VALUE *) = READ_FIELD; \
-        VALUE (*const field)(font_view, size_t) = FIELD;                    \
-        VALUE value = KEPT;                                                 \
-        struct reading reading;                                             \
-        reading.status = read(view, offset, &value);                        \
-        reading.stored = value;                                             \
-        reading.alone = field(view, offset);                                \
-        return reading;                                                     \
+#define READ(NAME, VALUE, READ_FIELD, FIELD)                              \
+    static struct reading NAME(fty_view view, size_t offset) {            \
+        fty_status (*const read)(fty_view, size_t, VALUE *) = READ_FIELD; \
+        VALUE (*const field)(fty_view, size_t) = FIELD;                   \
+        VALUE value = KEPT;                                               \
+        struct reading reading;                                           \
+        reading.status = read(view, offset, &value);                      \
+        reading.stored = value;                                           \
+        reading.alone = field(view, offset);                              \
+        return reading;                                                   \
     }
 
-READ(u8, uint8_t, font_read_u8, font_u8)
-READ(i8, int8_t, font_read_i8, font_i8)
-READ(u16, uint16_t, font_read_u16, font_u16)
-READ(i16, int16_t, font_read_i16, font_i16)
-READ(u24, uint32_t, font_read_u24, font_u24)
-READ(i24, int32_t, font_read_i24, font_i24)
-READ(u32, uint32_t, font_read_u32, font_u32)
-READ(i32, int32_t, font_read_i32, font_i32)
-READ(i64, int64_t, font_read_i64, font_i64)
+READ(u8, uint8_t, fty_read_u8, fty_u8)
+READ(i8, int8_t, fty_read_i8, fty_i8)
+READ(u16, uint16_t, fty_read_u16, fty_u16)
+READ(i16, int16_t, fty_read_i16, fty_i16)
+READ(u24, uint32_t, fty_read_u24, fty_u24)
+READ(i24, int32_t, fty_read_i24, fty_i24)
+READ(u32, uint32_t, fty_read_u32, fty_u32)
+READ(i32, int32_t, fty_read_i32, fty_i32)
+READ(i64, int64_t, fty_read_i64, fty_i64)
 
-static struct reading uint_of(font_view view, size_t offset, size_t size) {
+static struct reading uint_of(fty_view view, size_t offset, size_t size) {
     uint32_t value = KEPT;
     struct reading reading;
-    reading.status = font_read_uint(view, offset, size, &value);
+    reading.status = fty_read_uint(view, offset, size, &value);
     reading.stored = value;
-    reading.alone = font_uint(view, offset, size);
+    reading.alone = fty_uint(view, offset, size);
     return reading;
 }
 
-static struct reading uint_1(font_view view, size_t offset) { return uint_of(view, offset, 1); }
-static struct reading uint_2(font_view view, size_t offset) { return uint_of(view, offset, 2); }
-static struct reading uint_3(font_view view, size_t offset) { return uint_of(view, offset, 3); }
-static struct reading uint_4(font_view view, size_t offset) { return uint_of(view, offset, 4); }
+static struct reading uint_1(fty_view view, size_t offset) { return uint_of(view, offset, 1); }
+static struct reading uint_2(fty_view view, size_t offset) { return uint_of(view, offset, 2); }
+static struct reading uint_3(fty_view view, size_t offset) { return uint_of(view, offset, 3); }
+static struct reading uint_4(fty_view view, size_t offset) { return uint_of(view, offset, 4); }
 
 static const struct field {
     const char *name;
-    struct reading (*read)(font_view, size_t);
+    struct reading (*read)(fty_view, size_t);
     size_t size;
     int is_signed;
 } fields[] = {
@@ -153,22 +153,22 @@ static int64_t number_of(const uint8_t *bytes, size_t size, int is_signed) {
     return (int64_t)number;
 }
 
-static font_view view_of(const uint8_t *bytes, size_t length) {
-    font_view view;
+static fty_view view_of(const uint8_t *bytes, size_t length) {
+    fty_view view;
     view.bytes = bytes, view.length = length;
     return view;
 }
 
 /* Checks a field that is within a view, or that is not. */
-static void check_reading(const char *name, font_view view, size_t offset, struct reading reading,
+static void check_reading(const char *name, fty_view view, size_t offset, struct reading reading,
                           int within, int64_t number) {
     const int64_t x = (int64_t)view.length, y = (int64_t)offset;
-    check(name, x, y, reading.status, within ? FONT_OK : FONT_OUT_OF_BOUNDS);
+    check(name, x, y, reading.status, within ? FTY_OK : FTY_OUT_OF_BOUNDS);
     check(name, x, y, reading.stored, within ? number : KEPT);
     check(name, x, y, reading.alone, within ? number : 0);
 }
 
-static void check_field(const struct field *field, font_view view, size_t offset) {
+static void check_field(const struct field *field, fty_view view, size_t offset) {
     const int within = view.length >= field->size && offset <= view.length - field->size;
     const int64_t number =
         within ? number_of(view.bytes + offset, field->size, field->is_signed) : 0;
@@ -180,7 +180,7 @@ static const size_t far[] = {SIZE_MAX,     SIZE_MAX - 1, SIZE_MAX - 2, SIZE_MAX 
 enum { FAR = sizeof far / sizeof far[0] };
 
 static void check_fields(void) {
-    const font_view absent = view_of(NULL, 0);
+    const fty_view absent = view_of(NULL, 0);
     for (size_t k = 0; k < FIELDS; k++) {
         for (size_t length = 0; length <= 20; length++) {
             /* Exactly as many bytes, so that the sanitizer sees a read of one more. */
@@ -208,7 +208,7 @@ static void check_fields(void) {
     /* No integer has these sizes. */
     static const uint8_t bytes[16] = {1, 2, 3, 4, 5, 6, 7, 8, 9, 10, 11, 12, 13, 14, 15, 16};
     static const size_t sizes[] = {0, 5, 6, 8, 16, SIZE_MAX};
-    const font_view view = view_of(bytes, sizeof bytes);
+    const fty_view view = view_of(bytes, sizeof bytes);
     for (size_t i = 0; i < sizeof sizes / sizeof sizes[0]; i++)
         check_reading("uint", view, 0, uint_of(view, 0, sizes[i]), 0, 0);
 }
@@ -216,21 +216,21 @@ static void check_fields(void) {
 /* ---- parts of views ---- */
 
 /* Checks a part of a view from an offset on, or that it is absent, with no bytes. */
-static void check_part(const char *name, font_view view, size_t offset, size_t count,
-                       font_view part, int within, size_t length) {
+static void check_part(const char *name, fty_view view, size_t offset, size_t count,
+                       fty_view part, int within, size_t length) {
     const uint8_t *const bytes = !within || view.bytes == NULL ? NULL : view.bytes + offset;
     check(name, (int64_t)offset, (int64_t)count, part.bytes == bytes, 1);
     check(name, (int64_t)offset, (int64_t)count, (int64_t)part.length,
           within ? (int64_t)length : 0);
 }
 
-static void check_items(font_view view, size_t offset, size_t count, size_t size) {
+static void check_items(fty_view view, size_t offset, size_t count, size_t size) {
     const unsigned_wide end = offset + (unsigned_wide)count * size;
     const int within = end <= view.length;
-    check_part("items", view, offset, count, font_items(view, offset, count, size), within,
+    check_part("items", view, offset, count, fty_items(view, offset, count, size), within,
                count * size);
     if (size == 1)
-        check_part("part", view, offset, count, font_part(view, offset, count), within, count);
+        check_part("part", view, offset, count, fty_part(view, offset, count), within, count);
 }
 
 static void check_parts(void) {
@@ -254,19 +254,19 @@ static void check_parts(void) {
 /* The functions that follow offsets, by their sizes. */
 static const struct start {
     const char *name;
-    font_view (*part)(font_view, size_t);
+    fty_view (*part)(fty_view, size_t);
     size_t size;
 } starts[] = {
-    {"offset16", font_at_offset16, 2},
-    {"offset24", font_at_offset24, 3},
-    {"offset32", font_at_offset32, 4},
+    {"offset16", fty_at_offset16, 2},
+    {"offset24", fty_at_offset24, 3},
+    {"offset32", fty_at_offset32, 4},
 };
 enum { STARTS = sizeof starts / sizeof starts[0], LONGEST = 0x1000005 };
 
 /* Checks the bytes to which a number, at `offset`, points in a view: shorter views end in it. */
 static void check_start(const struct start *kind, uint32_t number, size_t length, size_t offset) {
     static uint8_t bytes[LONGEST];
-    const font_view view = view_of(bytes, length);
+    const fty_view view = view_of(bytes, length);
     const size_t size = kind->size, most = LONGEST - size;
     for (size_t i = 0; i < size && offset <= most; i++)
         bytes[offset + i] = (uint8_t)(number >> 8 * (size - 1 - i));
@@ -304,7 +304,7 @@ static void check_starts_of(const struct start *kind) {
         for (size_t k = 0; k < sizeof others / sizeof others[0]; k++)
             check_start(kind, others[k], lengths[i], 2);
     }
-    const font_view absent = view_of(NULL, 0);
+    const fty_view absent = view_of(NULL, 0);
     check_part(kind->name, absent, 0, 0, kind->part(absent, 0), 0, 0);
 }
 
@@ -328,23 +328,23 @@ static void check_sums(void) {
     for (size_t i = 0; i < count; i++) {
         for (size_t j = 0; j < count; j++) {
             const int32_t x = numbers[i], y = numbers[j];
-            check("add", x, y, font_fixed_add(x, y), wrap((int64_t)x + y));
-            check("sub", x, y, font_fixed_sub(x, y), wrap((int64_t)x - y));
+            check("add", x, y, fty_fixed_add(x, y), wrap((int64_t)x + y));
+            check("sub", x, y, fty_fixed_sub(x, y), wrap((int64_t)x - y));
         }
     }
     /* Each number of 16 bits, with a sign and without; and those of 32 bits. */
     for (int32_t x = INT16_MIN; x <= UINT16_MAX; x++)
-        check("from_i32", x, 0, font_fixed_from_i32(x), wrap(INT64_C(65536) * x));
+        check("from_i32", x, 0, fty_fixed_from_i32(x), wrap(INT64_C(65536) * x));
     for (size_t i = 0; i < count; i++)
-        check("from_i32", numbers[i], 0, font_fixed_from_i32(numbers[i]),
+        check("from_i32", numbers[i], 0, fty_fixed_from_i32(numbers[i]),
               wrap(INT64_C(65536) * numbers[i]));
 }
 
 /* Checks the 16.16 value of a 48.16 value, or that it does not fit, and nothing is stored. */
 static void check_fixed(int64_t bits, int fits) {
     int32_t fixed = KEPT;
-    check("status of to_fixed", bits, 0, font_f48dot16_to_fixed(bits, &fixed),
-          fits ? FONT_OK : FONT_OUT_OF_RANGE);
+    check("status of to_fixed", bits, 0, fty_f48dot16_to_fixed(bits, &fixed),
+          fits ? FTY_OK : FTY_OUT_OF_RANGE);
     check("to_fixed", bits, 0, fixed, fits ? bits : KEPT);
 }
 
@@ -378,23 +378,23 @@ static void check_row(const char *kind, int64_t x, uint64_t y, const char *resul
         /* The Rust types wrap, from the greatest values to the least. */
         const int64_t bits = (int64_t)y;
         if (bits > 0 && expected < 0)
-            check_rounded(width, bits, (uint32_t)x, FONT_OUT_OF_RANGE, KEPT);
+            check_rounded(width, bits, (uint32_t)x, FTY_OUT_OF_RANGE, KEPT);
         else
-            check_rounded(width, bits, (uint32_t)x, FONT_OK, expected);
+            check_rounded(width, bits, (uint32_t)x, FTY_OK, expected);
         return;
     }
     if (strcmp(kind, "add") == 0)
-        check(kind, x, (int64_t)y, font_fixed_add((int32_t)x, (int32_t)y), expected);
+        check(kind, x, (int64_t)y, fty_fixed_add((int32_t)x, (int32_t)y), expected);
     if (strcmp(kind, "sub") == 0)
-        check(kind, x, (int64_t)y, font_fixed_sub((int32_t)x, (int32_t)y), expected);
+        check(kind, x, (int64_t)y, fty_fixed_sub((int32_t)x, (int32_t)y), expected);
     if (strcmp(kind, "from") == 0)
-        check(kind, x, (int64_t)y, font_fixed_from_i32((int32_t)x), expected);
+        check(kind, x, (int64_t)y, fty_fixed_from_i32((int32_t)x), expected);
     if (strcmp(kind, "to") == 0) {
         const int fits = strcmp(result, "none") != 0;
         check("to_fixed of Rust", x, 0, fits ? expected : x, x);
         check_fixed(x, fits);
     }
-    const font_view view = view_of(row_bytes, (size_t)x);
+    const fty_view view = view_of(row_bytes, (size_t)x);
     for (size_t k = 0; k < FIELDS; k++)
         if (strcmp(kind, fields[k].name) == 0)
             check_reading(kind, view, (size_t)y, fields[k].read(view, (size_t)y),

@@ -3,8 +3,8 @@
 # The names that it declares, the libraries export and the table calls; and those that it has in C,
 # which the tests call.
 text=$(c++ -std=c++11 -x c++ -E -P include/font_types.h | tr '\n' ' ')
-functions=$(grep -oE '\bfont_[a-z0-9_]+\([^()]*\) noexcept *[;{]' <<<"$text" | grep -v '^font_api_')
-names() { grep -o '\bfont_[a-z0-9_]*' | sort -u; }
+functions=$(grep -oE '\bfty_[a-z0-9_]+\([^()]*\) noexcept *[;{]' <<<"$text" | grep -v '^fty_api_')
+names() { grep -o '\bfty_[a-z0-9_]*' | sort -u; }
 declared=$(grep ';$' <<<"$functions" | sed 's/(.*//' | names)
 inline=$(grep '{$' <<<"$functions" | sed 's/(.*//' | names)
 [[ $(nm --defined-only "$archive" 2>/dev/null | grep ' T ' | names) == "$declared" ]]
@@ -15,33 +15,33 @@ cc -std=c99 -Iinclude -c tests/table.c -o "$work/table.o"
 [[ $(nm -u "$work/table.o" | names) == "$declared" ]]
 [[ -z $(comm -23 <(echo "$inline") <(cat tests/*.c | names)) ]]
 
-# Each function is noexcept, and each but font_matrix_images warns of a result that is ignored.
-[[ $(grep -o '\bfont_[a-z0-9_]*(' <<<"$text" | grep -v '^font_api_' | names) == \
+# Each function is noexcept, and each but fty_matrix_images warns of a result that is ignored.
+[[ $(grep -o '\bfty_[a-z0-9_]*(' <<<"$text" | grep -v '^fty_api_' | names) == \
     $(sort -u <<<"$declared"$'\n'"$inline") ]]
-calls=$(sed -E 's/ noexcept.*//; s/\(void\)/()/; s/font_view view/v/; s/font_status status/FONT_OK/
-    s/font_matrix [a-z]/m/g; s/font_point [a-z]/p/g; s/(const )?[a-z0-9_]+ \*+[a-z_]+/0/g
+calls=$(sed -E 's/ noexcept.*//; s/\(void\)/()/; s/fty_view view/v/; s/fty_status status/FTY_OK/
+    s/fty_matrix [a-z]/m/g; s/fty_point [a-z]/p/g; s/(const )?[a-z0-9_]+ \*+[a-z_]+/0/g
     s/[a-z0-9_]+ [a-z_]+([,)])/9\1/g' <<<"$functions")
 {
     echo '#include "font_types.h"'
-    echo 'void f(font_matrix m, font_point p, font_view v) {'
+    echo 'void f(fty_matrix m, fty_point p, fty_view v) {'
     sed 's/$/;/' <<<"$calls"
     echo '}'
 } >"$work/calls.c"
 fails cc -Iinclude -Werror -c -o "$work/calls.o" "$work/calls.c"
 [[ $(grep -c 'unused-result' "$work/log") == $(($(wc -l <<<"$calls") - 1)) ]]
-sed -E 's/^(font_.*);$/static_assert(noexcept(\1), "");/' "$work/calls.c" >"$work/calls.cpp"
+sed -E 's/^(fty_.*);$/static_assert(noexcept(\1), "");/' "$work/calls.c" >"$work/calls.cpp"
 c++ -std=c++11 -w -Iinclude -fsyntax-only "$work/calls.cpp"
 
-# A guard; FONT_TAG of any expressions; and no other macro that is left.
+# A guard; FTY_TAG of any expressions; and no other macro that is left.
 c++ -std=c++11 -Iinclude -x c++ -fsyntax-only - <<'CPP'
 #include "font_types.h"
 #include "font_types.h"
-static_assert(FONT_TAG(true ? 1 : 2, 3, 4, 5) == 0x01030405, "");
-static_assert(FONT_TAG(-1, -2, -3, -4) == 0xFFFEFDFC && FONT_TAG(1, 2, 3, 4) / 2 == 0x00810182, "");
+static_assert(FTY_TAG(true ? 1 : 2, 3, 4, 5) == 0x01030405, "");
+static_assert(FTY_TAG(-1, -2, -3, -4) == 0xFFFEFDFC && FTY_TAG(1, 2, 3, 4) / 2 == 0x00810182, "");
 CPP
-macros=$(cc -E -dM include/font_types.h | grep -o '^#define FONT_[A-Z_]*' | sort | tr '\n' ' ')
-macros=${macros//#define FONT_/}
-[[ $macros == 'PAD_INIT TAG TYPES_H TYPES_VERSION TYPES_VERSION_NUMBER ' ]]
+macros=$(cc -E -dM include/font_types.h | grep -oE '^#define (FONT|FTY)_[A-Z_]*' | sort)
+[[ $(sed 's/#define //' <<<"$macros" | tr '\n' ' ') == \
+    'FONT_TYPES_H FTY_PAD_INIT FTY_TAG FTY_VERSION FTY_VERSION_NUMBER ' ]]
 
 # It compiles with a caller's warnings, and for 32 bits.
 echo '#include "font_types.h"' >"$work/alone.c"

@@ -79,7 +79,7 @@ fails make install BUILD="$work/none" DESTDIR="$work/relative"
 # debug assertions, and faults without: the library has none.
 cat >"$work/null.c" <<'C'
 #include "font_types.h"
-int main(void) { return (int)font_parse_i32(NULL, 1, 16, NULL); }
+int main(void) { return (int)fty_parse_i32(NULL, 1, 16, NULL); }
 C
 status_of_null() {
     cc -Iinclude "$work/null.c" "$1" -o "$work/null"

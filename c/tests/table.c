@@ -36,7 +36,7 @@ static void check_text(const char *table, size_t row, const char *found, size_t 
 
 /* The status of a call, and the value at its out-parameter. */
 struct result {
-    font_status status;
+    fty_status status;
     int64_t value;
 };
 
@@ -48,12 +48,12 @@ static void check_result(const char *table, size_t row, struct result found,
 
 /* Checks that a call succeeded, and stored a value. */
 static void check_value(const char *table, size_t row, struct result found, int64_t value) {
-    const struct result expected = {FONT_OK, value};
+    const struct result expected = {FTY_OK, value};
     check_result(table, row, found, expected);
 }
 
 /* Checks that a call returned an error, and stored nothing. */
-static void check_error(const char *table, size_t row, struct result found, font_status status) {
+static void check_error(const char *table, size_t row, struct result found, fty_status status) {
     const struct result expected = {status, KEPT};
     check_result(table, row, found, expected);
 }
@@ -70,38 +70,38 @@ static void check_error(const char *table, size_t row, struct result found, font
 
 /* ---- the header: a wrong value or type does not compile ---- */
 
-typedef char values[FONT_OK == 0 && FONT_NOT_DECIMAL == 1 && FONT_OUT_OF_RANGE == 2
-                            && FONT_BAD_FRACTION == 3 && FONT_BUFFER_TOO_SMALL == 4
-                            && FONT_BAD_PAD == 5 && FONT_OUT_OF_BOUNDS == 6
-                            && FONT_COUNT_MISMATCH == 7
-                            && FONT_TOO_MANY == 8 && FONT_TAG_LENGTH == 10
-                            && FONT_TAG_BYTE == 11 && FONT_TAG_AFTER_SPACE == 12 && FONT_LEFT == 0
-                            && FONT_CENTER == 1 && FONT_RIGHT == 2 && FONT_DECIMAL_ROOM == 24
-                            && FONT_TAG_ROOM == 25 && FONT_TYPES_VERSION_NUMBER == 0x000600
-                            && FONT_TAG('c', 'v', 't', ' ') == 0x63767420
+typedef char values[FTY_OK == 0 && FTY_NOT_DECIMAL == 1 && FTY_OUT_OF_RANGE == 2
+                            && FTY_BAD_FRACTION == 3 && FTY_BUFFER_TOO_SMALL == 4
+                            && FTY_BAD_PAD == 5 && FTY_OUT_OF_BOUNDS == 6
+                            && FTY_COUNT_MISMATCH == 7
+                            && FTY_TOO_MANY == 8 && FTY_TAG_LENGTH == 10
+                            && FTY_TAG_BYTE == 11 && FTY_TAG_AFTER_SPACE == 12 && FTY_LEFT == 0
+                            && FTY_CENTER == 1 && FTY_RIGHT == 2 && FTY_DECIMAL_ROOM == 24
+                            && FTY_TAG_ROOM == 25 && FTY_VERSION_NUMBER == 0x000600
+                            && FTY_TAG('c', 'v', 't', ' ') == 0x63767420
                         ? 1
                         : -1];
 
-typedef font_status pad_text(int64_t, uint32_t, const font_pad *, char *, size_t, size_t *);
-typedef font_status sum_deltas(const int32_t *, size_t, const int32_t *, size_t, int64_t *);
-typedef font_status sum_set(const int32_t *, size_t, const uint8_t *, size_t, uint16_t, int64_t *);
-typedef font_status make_tag(const char *, size_t, uint32_t *);
+typedef fty_status pad_text(int64_t, uint32_t, const fty_pad *, char *, size_t, size_t *);
+typedef fty_status sum_deltas(const int32_t *, size_t, const int32_t *, size_t, int64_t *);
+typedef fty_status sum_set(const int32_t *, size_t, const uint8_t *, size_t, uint16_t, int64_t *);
+typedef fty_status make_tag(const char *, size_t, uint32_t *);
 
-static font_status (*const format)(int64_t, uint32_t, char *, size_t, size_t *) = font_format;
-static pad_text *const format_padded = font_format_padded;
-static int32_t (*const mul_div)(int32_t, int32_t, int32_t) = font_fixed_mul_div;
-static font_matrix (*const product)(font_matrix, font_matrix) = font_matrix_product;
-static font_point (*const image)(font_matrix, font_point) = font_matrix_image;
-static font_point (*const vector_image)(font_matrix, font_point) = font_matrix_vector;
-static void (*const images)(const font_matrix *, font_point *, size_t) = font_matrix_images;
-static sum_deltas *const delta_sum = font_delta_sum;
-static sum_set *const delta_set_sum = font_delta_set_sum;
-static font_status (*const apply_i16)(int16_t, int64_t, int16_t *) = font_apply_delta_i16;
-static font_status (*const apply_u16)(uint16_t, int64_t, uint16_t *) = font_apply_delta_u16;
-static make_tag *const tag_new = font_tag_new;
-static font_status (*const tag_validate)(uint32_t, uint32_t *) = font_tag_validate;
-static font_status (*const tag_to_text)(uint32_t, char *, size_t, size_t *) = font_tag_to_text;
-static uint32_t (*const version)(void) = font_types_version;
+static fty_status (*const format)(int64_t, uint32_t, char *, size_t, size_t *) = fty_format;
+static pad_text *const format_padded = fty_format_padded;
+static int32_t (*const mul_div)(int32_t, int32_t, int32_t) = fty_fixed_mul_div;
+static fty_matrix (*const product)(fty_matrix, fty_matrix) = fty_matrix_product;
+static fty_point (*const image)(fty_matrix, fty_point) = fty_matrix_image;
+static fty_point (*const vector_image)(fty_matrix, fty_point) = fty_matrix_vector;
+static void (*const images)(const fty_matrix *, fty_point *, size_t) = fty_matrix_images;
+static sum_deltas *const delta_sum = fty_delta_sum;
+static sum_set *const delta_set_sum = fty_delta_set_sum;
+static fty_status (*const apply_i16)(int16_t, int64_t, int16_t *) = fty_apply_delta_i16;
+static fty_status (*const apply_u16)(uint16_t, int64_t, uint16_t *) = fty_apply_delta_u16;
+static make_tag *const tag_new = fty_tag_new;
+static fty_status (*const tag_validate)(uint32_t, uint32_t *) = fty_tag_validate;
+static fty_status (*const tag_to_text)(uint32_t, char *, size_t, size_t *) = fty_tag_to_text;
+static uint32_t (*const version)(void) = fty_version;
 
 static void check_header(void) {
     static const char *const texts[] = {
@@ -112,24 +112,24 @@ static void check_header(void) {
         "printable byte after a space in a tag", "unknown status",
     };
     for (size_t i = 0; i < COUNT(texts); i++) {
-        const char *text = font_status_text((font_status)i);
+        const char *text = fty_status_text((fty_status)i);
         check_text("statuses", i, text, strlen(text), texts[i]);
     }
-    font_pad pad = FONT_PAD_INIT(9);
-    check("FONT_PAD_INIT", 0, "width", (int64_t)pad.width, 9);
-    check("FONT_PAD_INIT", 0, "fill", pad.fill, ' ');
-    check("FONT_PAD_INIT", 0, "align", pad.align, FONT_RIGHT);
-    check("FONT_PAD_INIT", 0, "plus", pad.plus, 0);
-    check("FONT_PAD_INIT", 0, "zeros", pad.zeros, 0);
-    check("version", 0, "number", version(), FONT_TYPES_VERSION_NUMBER);
-    check_text("version", 0, FONT_TYPES_VERSION, strlen(FONT_TYPES_VERSION), "0.6.0");
+    fty_pad pad = FTY_PAD_INIT(9);
+    check("FTY_PAD_INIT", 0, "width", (int64_t)pad.width, 9);
+    check("FTY_PAD_INIT", 0, "fill", pad.fill, ' ');
+    check("FTY_PAD_INIT", 0, "align", pad.align, FTY_RIGHT);
+    check("FTY_PAD_INIT", 0, "plus", pad.plus, 0);
+    check("FTY_PAD_INIT", 0, "zeros", pad.zeros, 0);
+    check("version", 0, "number", version(), FTY_VERSION_NUMBER);
+    check_text("version", 0, FTY_VERSION, strlen(FTY_VERSION), "0.6.0");
 }
 
 /* ---- fixed-point types: a width, and fraction bits ---- */
 
-static font_status (*const parse_16)(const char *, size_t, uint32_t, int16_t *) = font_parse_i16;
-static font_status (*const parse_32)(const char *, size_t, uint32_t, int32_t *) = font_parse_i32;
-static font_status (*const parse_64)(const char *, size_t, uint32_t, int64_t *) = font_parse_i64;
+static fty_status (*const parse_16)(const char *, size_t, uint32_t, int16_t *) = fty_parse_i16;
+static fty_status (*const parse_32)(const char *, size_t, uint32_t, int32_t *) = fty_parse_i32;
+static fty_status (*const parse_64)(const char *, size_t, uint32_t, int64_t *) = fty_parse_i64;
 
 #define PARSED(WIDTH)                                                                          \
     RESULT(parsed_##WIDTH, int##WIDTH##_t, (const char *text, size_t length, uint32_t f),      \
@@ -144,10 +144,10 @@ struct type {
     uint32_t fraction_bits;
 };
 
-static const struct type f2dot14 = {16, FONT_F2DOT14_BITS}, f4dot12 = {16, FONT_F4DOT12_BITS},
-                         f6dot10 = {16, FONT_F6DOT10_BITS}, fixed = {32, FONT_FIXED_BITS},
-                         f26dot6 = {32, FONT_F26DOT6_BITS}, f2dot30 = {32, FONT_F2DOT30_BITS},
-                         f48dot16 = {64, FONT_F48DOT16_BITS};
+static const struct type f2dot14 = {16, FTY_F2DOT14_BITS}, f4dot12 = {16, FTY_F4DOT12_BITS},
+                         f6dot10 = {16, FTY_F6DOT10_BITS}, fixed = {32, FTY_FIXED_BITS},
+                         f26dot6 = {32, FTY_F26DOT6_BITS}, f2dot30 = {32, FTY_F2DOT30_BITS},
+                         f48dot16 = {64, FTY_F48DOT16_BITS};
 
 static struct result parse(const struct type *type, const char *text, size_t length) {
     return type->width == 16   ? parsed_16(text, length, type->fraction_bits)
@@ -159,24 +159,24 @@ static struct result parse(const struct type *type, const char *text, size_t len
 struct named {
     const struct type *type;
     struct result (*parse)(const char *, size_t);
-    font_status (*format)(int64_t, char *, size_t, size_t *);
-    font_status (*format_padded)(int64_t, const font_pad *, char *, size_t, size_t *);
+    fty_status (*format)(int64_t, char *, size_t, size_t *);
+    fty_status (*format_padded)(int64_t, const fty_pad *, char *, size_t, size_t *);
 };
 
 #define NAMED(NAME, BITS, PARSE, FORMAT, FORMAT_PADDED)                                        \
     RESULT(NAME##_parse, BITS, (const char *text, size_t length), PARSE(text, length, &place)) \
-    static font_status NAME##_format(int64_t bits, char *out, size_t room, size_t *length) {   \
+    static fty_status NAME##_format(int64_t bits, char *out, size_t room, size_t *length) {    \
         return FORMAT((BITS)bits, out, room, length);                                          \
     }                                                                                          \
-    static font_status NAME##_padded(int64_t bits, const font_pad *pad, char *out,             \
+    static fty_status NAME##_padded(int64_t bits, const fty_pad *pad, char *out,               \
                                      size_t room, size_t *length) {                            \
         return FORMAT_PADDED((BITS)bits, pad, out, room, length);                              \
     }                                                                                          \
     static const struct named named_##NAME = {&NAME, NAME##_parse, NAME##_format, NAME##_padded};
 
-NAMED(fixed, int32_t, font_fixed_parse, font_fixed_format, font_fixed_format_padded)
-NAMED(f2dot14, int16_t, font_f2dot14_parse, font_f2dot14_format, font_f2dot14_format_padded)
-NAMED(f26dot6, int32_t, font_f26dot6_parse, font_f26dot6_format, font_f26dot6_format_padded)
+NAMED(fixed, int32_t, fty_fixed_parse, fty_fixed_format, fty_fixed_format_padded)
+NAMED(f2dot14, int16_t, fty_f2dot14_parse, fty_f2dot14_format, fty_f2dot14_format_padded)
+NAMED(f26dot6, int32_t, fty_f26dot6_parse, fty_f26dot6_format, fty_f26dot6_format_padded)
 
 /* The named functions of a type, or null. */
 static const struct named *named_as(const struct type *type) {
@@ -216,49 +216,49 @@ static const struct {
     const char *text;
     struct result expected;
 } parsed[] = {
-    {&fixed, "-0", {FONT_OK, 0}},
-    {&fixed, "-0.00000762939453125", {FONT_OK, -1}},
-    {&fixed, "0.00000762939453124999", {FONT_OK, 0}},
-    {&f2dot14, "\xC3\xA9", {FONT_NOT_DECIMAL, KEPT}},
-    {&f4dot12, ".5", {FONT_NOT_DECIMAL, KEPT}},
-    {&f6dot10, "+1", {FONT_NOT_DECIMAL, KEPT}},
-    {&fixed, "1,5", {FONT_NOT_DECIMAL, KEPT}},
-    {&f26dot6, "1.", {FONT_NOT_DECIMAL, KEPT}},
-    {&f2dot30, " 1", {FONT_NOT_DECIMAL, KEPT}},
-    {&f48dot16, "-", {FONT_NOT_DECIMAL, KEPT}},
-    {&f6dot10, "31.998535156251", {FONT_OK, 32767}},
-    {&f6dot10, "31.99951171875", {FONT_OUT_OF_RANGE, KEPT}},
-    {&f26dot6, "-33554432.0078124", {FONT_OK, INT32_MIN}},
-    {&f2dot30, "1.9999999995343387126922607421875", {FONT_OUT_OF_RANGE, KEPT}},
-    {&f48dot16, "-140737488355328.00000762939453124", {FONT_OK, INT64_MIN}},
-    {&f48dot16, "140737488355327.99999237060546874", {FONT_OK, INT64_MAX}},
-    {&f48dot16, "140737488355327.99999237060546875", {FONT_OUT_OF_RANGE, KEPT}},
+    {&fixed, "-0", {FTY_OK, 0}},
+    {&fixed, "-0.00000762939453125", {FTY_OK, -1}},
+    {&fixed, "0.00000762939453124999", {FTY_OK, 0}},
+    {&f2dot14, "\xC3\xA9", {FTY_NOT_DECIMAL, KEPT}},
+    {&f4dot12, ".5", {FTY_NOT_DECIMAL, KEPT}},
+    {&f6dot10, "+1", {FTY_NOT_DECIMAL, KEPT}},
+    {&fixed, "1,5", {FTY_NOT_DECIMAL, KEPT}},
+    {&f26dot6, "1.", {FTY_NOT_DECIMAL, KEPT}},
+    {&f2dot30, " 1", {FTY_NOT_DECIMAL, KEPT}},
+    {&f48dot16, "-", {FTY_NOT_DECIMAL, KEPT}},
+    {&f6dot10, "31.998535156251", {FTY_OK, 32767}},
+    {&f6dot10, "31.99951171875", {FTY_OUT_OF_RANGE, KEPT}},
+    {&f26dot6, "-33554432.0078124", {FTY_OK, INT32_MIN}},
+    {&f2dot30, "1.9999999995343387126922607421875", {FTY_OUT_OF_RANGE, KEPT}},
+    {&f48dot16, "-140737488355328.00000762939453124", {FTY_OK, INT64_MIN}},
+    {&f48dot16, "140737488355327.99999237060546874", {FTY_OK, INT64_MAX}},
+    {&f48dot16, "140737488355327.99999237060546875", {FTY_OUT_OF_RANGE, KEPT}},
 };
 
 /* Padded text: the pad is width, fill, align, plus, zeros. */
 static const struct {
     const struct type *type;
     int64_t bits;
-    font_pad pad;
+    fty_pad pad;
     const char *text;
 } padded[] = {
-    {&f2dot14, 24576, {8, '.', FONT_CENTER, 2, 128}, "+00001.5"},
-    {&f4dot12, 6144, {13, '_', FONT_CENTER, 1, 0}, "____+1.5_____"},
-    {&f6dot10, 1536, {6, '*', FONT_LEFT, 0, 0}, "1.5***"},
-    {&fixed, 98304, {6, 0, FONT_RIGHT, 0, 0}, "   1.5"},
-    {&fixed, 98304, {4, 0x7F, FONT_LEFT, 0, 0}, "1.5\x7F"},
-    {&f26dot6, -96, {7, '#', FONT_RIGHT, 1, 0}, "###-1.5"},
-    {&f2dot30, -1610612736, {6, '#', FONT_LEFT, 0, 1}, "-001.5"},
-    {&f48dot16, 98304, {0, '#', FONT_LEFT, 1, 0}, "+1.5"},
-    {&fixed, 98304, {30, '#', FONT_RIGHT, 0, 0}, "###########################1.5"},
-    {&f2dot14, 24576, {30, '#', FONT_RIGHT, 0, 0}, "###########################1.5"},
-    {&f26dot6, 96, {30, '#', FONT_RIGHT, 0, 0}, "###########################1.5"},
-    {&f48dot16, INT64_MIN, {12, '.', FONT_RIGHT, 0, 0}, "-140737488355328"},
+    {&f2dot14, 24576, {8, '.', FTY_CENTER, 2, 128}, "+00001.5"},
+    {&f4dot12, 6144, {13, '_', FTY_CENTER, 1, 0}, "____+1.5_____"},
+    {&f6dot10, 1536, {6, '*', FTY_LEFT, 0, 0}, "1.5***"},
+    {&fixed, 98304, {6, 0, FTY_RIGHT, 0, 0}, "   1.5"},
+    {&fixed, 98304, {4, 0x7F, FTY_LEFT, 0, 0}, "1.5\x7F"},
+    {&f26dot6, -96, {7, '#', FTY_RIGHT, 1, 0}, "###-1.5"},
+    {&f2dot30, -1610612736, {6, '#', FTY_LEFT, 0, 1}, "-001.5"},
+    {&f48dot16, 98304, {0, '#', FTY_LEFT, 1, 0}, "+1.5"},
+    {&fixed, 98304, {30, '#', FTY_RIGHT, 0, 0}, "###########################1.5"},
+    {&f2dot14, 24576, {30, '#', FTY_RIGHT, 0, 0}, "###########################1.5"},
+    {&f26dot6, 96, {30, '#', FTY_RIGHT, 0, 0}, "###########################1.5"},
+    {&f48dot16, INT64_MIN, {12, '.', FTY_RIGHT, 0, 0}, "-140737488355328"},
 };
 
 /* Writes a decimal, padded if `pad` is not null, or the text of a tag if `type` is null. */
-static font_status write_text(const struct type *type, int64_t bits, const font_pad *pad,
-                              char *out, size_t room, size_t *length) {
+static fty_status write_text(const struct type *type, int64_t bits, const fty_pad *pad,
+                             char *out, size_t room, size_t *length) {
     if (type == NULL)
         return tag_to_text((uint32_t)bits, out, room, length);
     const struct named *named = named_as(type);
@@ -271,15 +271,15 @@ static font_status write_text(const struct type *type, int64_t bits, const font_
 
 /* Checks the text that write_text writes to a buffer of its length, and the error of one less. */
 static void check_written(const char *table, size_t row, const struct type *type, int64_t bits,
-                          const font_pad *pad, const char *text) {
+                          const fty_pad *pad, const char *text) {
     char out[BUFFER];
     memset(out, KEPT, sizeof out);
     size_t length = KEPT, needed = strlen(text);
-    font_status status = write_text(type, bits, pad, out, needed - 1, &length);
-    check(table, row, "status, no room", status, FONT_BUFFER_TOO_SMALL);
+    fty_status status = write_text(type, bits, pad, out, needed - 1, &length);
+    check(table, row, "status, no room", status, FTY_BUFFER_TOO_SMALL);
     check(table, row, "length, no room", (int64_t)length, KEPT);
     check(table, row, "buffer, no room", out[0], KEPT);
-    check(table, row, "status", write_text(type, bits, pad, out, needed, &length), FONT_OK);
+    check(table, row, "status", write_text(type, bits, pad, out, needed, &length), FTY_OK);
     check_text(table, row, out, length, text);
     check(table, row, "byte after the text", out[needed], KEPT);
 }
@@ -308,27 +308,27 @@ static void check_parsed(void) {
 /* A buffer for calls that must leave it unchanged if they fail. */
 static char written[BUFFER];
 
-RESULT(padded_zero, size_t, (const font_pad *pad, uint32_t fraction_bits),
+RESULT(padded_zero, size_t, (const fty_pad *pad, uint32_t fraction_bits),
        format_padded(0, fraction_bits, pad, written, BUFFER, &place))
 
 static void check_padded(void) {
     for (size_t i = 0; i < COUNT(padded); i++)
         check_written("padded", i, padded[i].type, padded[i].bits, &padded[i].pad, padded[i].text);
     /* By the names of the members. */
-    font_pad members[4] = {FONT_PAD_INIT(6), FONT_PAD_INIT(6), FONT_PAD_INIT(6), FONT_PAD_INIT(6)};
+    fty_pad members[4] = {FTY_PAD_INIT(6), FTY_PAD_INIT(6), FTY_PAD_INIT(6), FTY_PAD_INIT(6)};
     members[0].plus = 1;
     members[1].zeros = 1;
-    members[2].align = FONT_LEFT;
+    members[2].align = FTY_LEFT;
     members[3].fill = '*';
     static const char *const texts[] = {"  +1.5", "0001.5", "1.5   ", "***1.5"};
     for (size_t i = 0; i < COUNT(members); i++)
         check_written("members of a pad", i, &fixed, 98304, &members[i], texts[i]);
-    static const font_pad invalid[] = {
+    static const fty_pad invalid[] = {
         {4, 0x80, 0, 0, 0}, {4, 0x80, 2, 0, 1}, {4, 0xFF, 2, 0, 0},
         {4, ' ', 3, 0, 0},  {4, ' ', 255, 0, 0}};
     for (size_t i = 0; i < COUNT(invalid); i++) {
         written[0] = KEPT;
-        check_error("invalid pads", i, padded_zero(&invalid[i], 16), FONT_BAD_PAD);
+        check_error("invalid pads", i, padded_zero(&invalid[i], 16), FTY_BAD_PAD);
         check("invalid pads", i, "buffer", written[0], KEPT);
     }
 }
@@ -338,7 +338,7 @@ static void check_padded(void) {
 static struct result zero_parsed_16(uint32_t f) { return parsed_16("0", 1, f); }
 static struct result zero_parsed_32(uint32_t f) { return parsed_32("0", 1, f); }
 static struct result zero_parsed_64(uint32_t f) { return parsed_64("0", 1, f); }
-static const font_pad three_bytes = FONT_PAD_INIT(3);
+static const fty_pad three_bytes = FTY_PAD_INIT(3);
 RESULT(zero_formatted, size_t, (uint32_t f), format(0, f, written, BUFFER, &place))
 static struct result zero_padded(uint32_t f) {
     return padded_zero(&three_bytes, f);
@@ -370,7 +370,7 @@ static void check_fractions(void) {
             if (zeros[k].width >= fractions[i].width) {
                 check_value("fractions", i, found, zeros[k].value);
             } else {
-                check_error("other fractions", i, found, FONT_BAD_FRACTION);
+                check_error("other fractions", i, found, FTY_BAD_FRACTION);
                 check("other fractions", i, "buffer", written[0], KEPT);
             }
         }
@@ -397,10 +397,10 @@ static void check_ends(int width, uint32_t most) {
         }
         /* The text of the greatest is that of no other. */
         size_t len = 0;
-        check("greatest", f, "status", format(top, f, written, BUFFER, &len), FONT_OK);
+        check("greatest", f, "status", format(top, f, written, BUFFER, &len), FTY_OK);
         check_value("greatest", f, parse(&type, written, len), top);
         check_error("above the end", f, parse(&type, least + 1, strlen(least + 1)),
-                    FONT_OUT_OF_RANGE);
+                    FTY_OUT_OF_RANGE);
     }
 }
 
@@ -410,18 +410,18 @@ static const struct {
     int32_t (*call)(int32_t, int32_t);
     int32_t x, y, expected;
 } products[] = {
-    {font_fixed_mul, -1, 32768, -1},
-    {font_fixed_mul, INT32_MIN, INT32_MAX, 32768},
-    {font_fixed_div, -8, 3, -174763},
-    {font_fixed_div, INT32_MIN, -1, 0},
-    {font_fixed_div, 1, 0, INT32_MAX},
-    {font_fixed_div, -1, 0, -2147483647},
-    {font_f26dot6_mul, -1, 32, -1},
-    {font_f26dot6_mul, -18824, 1450175, -426532722},
-    {font_f26dot6_mul, INT32_MIN, -1, 33554432},
-    {font_f26dot6_div, -18824, 1450175, -1},
-    {font_f26dot6_div, INT32_MAX, 3, -1431655787},
-    {font_f26dot6_div, -5, 0, -2147483647},
+    {fty_fixed_mul, -1, 32768, -1},
+    {fty_fixed_mul, INT32_MIN, INT32_MAX, 32768},
+    {fty_fixed_div, -8, 3, -174763},
+    {fty_fixed_div, INT32_MIN, -1, 0},
+    {fty_fixed_div, 1, 0, INT32_MAX},
+    {fty_fixed_div, -1, 0, -2147483647},
+    {fty_f26dot6_mul, -1, 32, -1},
+    {fty_f26dot6_mul, -18824, 1450175, -426532722},
+    {fty_f26dot6_mul, INT32_MIN, -1, 33554432},
+    {fty_f26dot6_div, -18824, 1450175, -1},
+    {fty_f26dot6_div, INT32_MAX, 3, -1431655787},
+    {fty_f26dot6_div, -5, 0, -2147483647},
 };
 
 /* x, a, c and x * a / c. */
@@ -443,10 +443,10 @@ static void check_products(void) {
     }
 }
 
-#define NARROWED(NAME, FROM, TO)                                                               \
-    static TO (*const export_##NAME)(FROM) = font_##NAME;                                      \
-    static int64_t NAME(int64_t bits) {                                                        \
-        return export_##NAME((FROM)bits);                                                      \
+#define NARROWED(NAME, FROM, TO)                         \
+    static TO (*const export_##NAME)(FROM) = fty_##NAME; \
+    static int64_t NAME(int64_t bits) {                  \
+        return export_##NAME((FROM)bits);                \
     }
 
 NARROWED(fixed_to_i32, int32_t, int32_t)
@@ -487,10 +487,10 @@ static void check_narrowed(void) {
 
 /* a, b, p; a * b; p by a, and as a vector by a. */
 static const struct {
-    font_matrix a, b;
-    font_point p;
-    font_matrix product;
-    font_point image, vector;
+    fty_matrix a, b;
+    fty_point p;
+    fty_matrix product;
+    fty_point image, vector;
 } matrices[] = {
     {{-378574442, 414221304, -2093928787, -60996900, 103178631, 8877533},
      {-146468662, 52695503, 256691801, -259037822, 531082539, -242991319},
@@ -506,15 +506,15 @@ static const struct {
      {49155, -98302}},
 };
 
-static void check_point(const char *table, size_t row, font_point found, font_point expected) {
+static void check_point(const char *table, size_t row, fty_point found, fty_point expected) {
     check(table, row, "x", found.x, expected.x);
     check(table, row, "y", found.y, expected.y);
 }
 
 static void check_matrices(void) {
     for (size_t i = 0; i < COUNT(matrices); i++) {
-        const font_matrix expected = matrices[i].product;
-        const font_matrix found = product(matrices[i].a, matrices[i].b);
+        const fty_matrix expected = matrices[i].product;
+        const fty_matrix found = product(matrices[i].a, matrices[i].b);
         check("products", i, "xx", found.xx, expected.xx);
         check("products", i, "yx", found.yx, expected.yx);
         check("products", i, "xy", found.xy, expected.xy);
@@ -525,19 +525,19 @@ static void check_matrices(void) {
         check_point("vectors", i, vector_image(matrices[i].a, matrices[i].p), matrices[i].vector);
     }
     /* By the names of the members. */
-    font_matrix members = {0, 0, 0, 0, 0, 0};
+    fty_matrix members = {0, 0, 0, 0, 0, 0};
     members.xx = 65536, members.yx = 131072, members.xy = 196608, members.yy = 262144;
     members.dx = 5, members.dy = 7;
-    const font_point of_members = {10, 100}, right = {315, 427};
+    const fty_point of_members = {10, 100}, right = {315, 427};
     check_point("members of a matrix", 0, image(members, of_members), right);
-    font_matrix slanted = {65536, 0, 0, 65536, 10, -10};
+    fty_matrix slanted = {65536, 0, 0, 65536, 10, -10};
     slanted.xy = 32768;
-    font_point points[301];
+    fty_point points[301];
     for (int32_t i = 0; i < 301; i++)
         points[i].x = 2 * i, points[i].y = -2 * i;
     images(&slanted, points, 300);
     for (int32_t i = 0; i < 301; i++) {
-        const font_point moved = {i + 10, -2 * i - 10}, kept = {2 * i, -2 * i};
+        const fty_point moved = {i + 10, -2 * i - 10}, kept = {2 * i, -2 * i};
         check_point("300 points", (size_t)i, points[i], i < 300 ? moved : kept);
     }
 }
@@ -560,11 +560,11 @@ static const struct {
     size_t count;
     int32_t scalars[4], deltas[4];
 } sums[] = {
-    {{FONT_OK, 7864320}, 2, {98304, -65536}, {100, 30}},
-    {{FONT_OK, INT64_MAX}, 3, {INT32_MIN, INT32_MIN, 1}, {INT32_MIN, INT32_MIN, -1}},
-    {{FONT_OUT_OF_RANGE, KEPT}, 2, {INT32_MIN, INT32_MIN}, {INT32_MIN, INT32_MIN}},
-    {{FONT_OK, INT64_MIN}, 3, {INT32_MAX, INT32_MAX, INT32_MIN}, {INT32_MIN, INT32_MIN, 2}},
-    {{FONT_OUT_OF_RANGE, KEPT}, 4, {INT32_MAX, INT32_MAX, INT32_MIN, 1},
+    {{FTY_OK, 7864320}, 2, {98304, -65536}, {100, 30}},
+    {{FTY_OK, INT64_MAX}, 3, {INT32_MIN, INT32_MIN, 1}, {INT32_MIN, INT32_MIN, -1}},
+    {{FTY_OUT_OF_RANGE, KEPT}, 2, {INT32_MIN, INT32_MIN}, {INT32_MIN, INT32_MIN}},
+    {{FTY_OK, INT64_MIN}, 3, {INT32_MAX, INT32_MAX, INT32_MIN}, {INT32_MIN, INT32_MIN, 2}},
+    {{FTY_OUT_OF_RANGE, KEPT}, 4, {INT32_MAX, INT32_MAX, INT32_MIN, 1},
      {INT32_MIN, INT32_MIN, 2, -1}},
 };
 
@@ -576,33 +576,33 @@ static const struct {
     int32_t scalars[5];
     struct result expected;
 } sets[] = {
-    {0, "\xFF\x80", 2, 2, {65536, -65536}, {FONT_OK, 8323072}},
-    {1, "\x01\x2C\xFD", 3, 2, {65536, 32768}, {FONT_OK, 19562496}},
-    {1, "\x80\x00", 2, 1, {65536}, {FONT_OK, INT32_MIN}},
+    {0, "\xFF\x80", 2, 2, {65536, -65536}, {FTY_OK, 8323072}},
+    {1, "\x01\x2C\xFD", 3, 2, {65536, 32768}, {FTY_OK, 19562496}},
+    {1, "\x80\x00", 2, 1, {65536}, {FTY_OK, INT32_MIN}},
     {2, "\x7F\xFF\x80\x00\x7F\x80\xFF", 7, 5, {INT32_MAX, INT32_MIN, INT32_MAX, INT32_MIN, 1},
-     {FONT_OK, INT64_C(141282949169025)}},
-    {1, "\x01\x2C\xFD", 3, 3, {65536, 32768, 1}, {FONT_COUNT_MISMATCH, KEPT}},
-    {1, "\x01\x2C\xFD\x05", 4, 2, {65536, 32768}, {FONT_COUNT_MISMATCH, KEPT}},
-    {2, "\x01\x2C\xFD", 3, 1, {65536}, {FONT_COUNT_MISMATCH, KEPT}},
-    {0, "", 0, 0, {0}, {FONT_OK, 0}},
+     {FTY_OK, INT64_C(141282949169025)}},
+    {1, "\x01\x2C\xFD", 3, 3, {65536, 32768, 1}, {FTY_COUNT_MISMATCH, KEPT}},
+    {1, "\x01\x2C\xFD\x05", 4, 2, {65536, 32768}, {FTY_COUNT_MISMATCH, KEPT}},
+    {2, "\x01\x2C\xFD", 3, 1, {65536}, {FTY_COUNT_MISMATCH, KEPT}},
+    {0, "", 0, 0, {0}, {FTY_OK, 0}},
     /* long words */
-    {0x8000, "\x00\x01", 2, 1, {65536}, {FONT_OK, 65536}},
-    {0x8001, "\x80\x00\x00\x00\xFF\xFD", 6, 2, {1, 65536}, {FONT_OK, -INT64_C(0x80030000)}},
+    {0x8000, "\x00\x01", 2, 1, {65536}, {FTY_OK, 65536}},
+    {0x8001, "\x80\x00\x00\x00\xFF\xFD", 6, 2, {1, 65536}, {FTY_OK, -INT64_C(0x80030000)}},
     {0x8002, "\x00\x01\x86\xA0\xFF\xFE\x79\x60\x80\x00\x7F\xFF", 12, 4,
-     {65536, 32768, 65536, -1}, {FONT_OK, INT64_C(1129283585)}},
+     {65536, 32768, 65536, -1}, {FTY_OK, INT64_C(1129283585)}},
     {0x8002, "\x80\x00\x00\x00\x80\x00\x00\x00", 8, 2, {INT32_MIN, INT32_MIN},
-     {FONT_OUT_OF_RANGE, KEPT}},
+     {FTY_OUT_OF_RANGE, KEPT}},
     {0x8003, "\x80\x00\x00\x00\x80\x00\x00\x00\xFF\xFF\xFF\xFF", 12, 3,
-     {INT32_MIN, INT32_MIN, 1}, {FONT_OK, INT64_MAX}},
+     {INT32_MIN, INT32_MIN, 1}, {FTY_OK, INT64_MAX}},
     {0x8002, "\x80\x00\x00\x00\x80\x00\x00\x00\x00\x02", 10, 3, {INT32_MAX, INT32_MAX, INT32_MIN},
-     {FONT_OK, INT64_MIN}},
+     {FTY_OK, INT64_MIN}},
     {0x8002, "\x80\x00\x00\x00\x80\x00\x00\x00\x00\x02\xFF\xFF", 12, 4,
-     {INT32_MAX, INT32_MAX, INT32_MIN, 1}, {FONT_OUT_OF_RANGE, KEPT}},
-    {0x8001, "\x00\x00\x01", 3, 1, {65536}, {FONT_COUNT_MISMATCH, KEPT}},
-    {0x8001, "\x00\x00\x00\x01\x02", 5, 1, {65536}, {FONT_COUNT_MISMATCH, KEPT}},
-    {0x8001, "\x00\x01\x02", 3, 2, {65536, 1}, {FONT_COUNT_MISMATCH, KEPT}},
-    {0x8002, "\x00\x00\x00\x01", 4, 1, {65536}, {FONT_COUNT_MISMATCH, KEPT}},
-    {0xffff, "", 0, 0, {0}, {FONT_COUNT_MISMATCH, KEPT}},
+     {INT32_MAX, INT32_MAX, INT32_MIN, 1}, {FTY_OUT_OF_RANGE, KEPT}},
+    {0x8001, "\x00\x00\x01", 3, 1, {65536}, {FTY_COUNT_MISMATCH, KEPT}},
+    {0x8001, "\x00\x00\x00\x01\x02", 5, 1, {65536}, {FTY_COUNT_MISMATCH, KEPT}},
+    {0x8001, "\x00\x01\x02", 3, 2, {65536, 1}, {FTY_COUNT_MISMATCH, KEPT}},
+    {0x8002, "\x00\x00\x00\x01", 4, 1, {65536}, {FTY_COUNT_MISMATCH, KEPT}},
+    {0xffff, "", 0, 0, {0}, {FTY_COUNT_MISMATCH, KEPT}},
 };
 
 /* A base in font units, plus a delta. */
@@ -612,19 +612,19 @@ static const struct {
     int64_t delta;
     struct result units;
 } applied[] = {
-    {applied_i16, 100, -32768, {FONT_OK, 100}},
-    {applied_i16, 32767, 32767, {FONT_OK, 32767}},
-    {applied_i16, 32767, 32768, {FONT_OUT_OF_RANGE, KEPT}},
-    {applied_i16, -32768, -32768, {FONT_OK, -32768}},
-    {applied_i16, -32768, -32769, {FONT_OUT_OF_RANGE, KEPT}},
-    {applied_i16, 32767, INT64_MAX, {FONT_OUT_OF_RANGE, KEPT}},
-    {applied_i16, -32768, INT64_MIN, {FONT_OUT_OF_RANGE, KEPT}},
-    {applied_u16, 600, -6553600, {FONT_OK, 500}},
-    {applied_u16, 0, -32768, {FONT_OK, 0}},
-    {applied_u16, 0, -32769, {FONT_OUT_OF_RANGE, KEPT}},
-    {applied_u16, 65535, 32767, {FONT_OK, 65535}},
-    {applied_u16, 65535, 32768, {FONT_OUT_OF_RANGE, KEPT}},
-    {applied_u16, 65535, INT64_MAX, {FONT_OUT_OF_RANGE, KEPT}},
+    {applied_i16, 100, -32768, {FTY_OK, 100}},
+    {applied_i16, 32767, 32767, {FTY_OK, 32767}},
+    {applied_i16, 32767, 32768, {FTY_OUT_OF_RANGE, KEPT}},
+    {applied_i16, -32768, -32768, {FTY_OK, -32768}},
+    {applied_i16, -32768, -32769, {FTY_OUT_OF_RANGE, KEPT}},
+    {applied_i16, 32767, INT64_MAX, {FTY_OUT_OF_RANGE, KEPT}},
+    {applied_i16, -32768, INT64_MIN, {FTY_OUT_OF_RANGE, KEPT}},
+    {applied_u16, 600, -6553600, {FTY_OK, 500}},
+    {applied_u16, 0, -32768, {FTY_OK, 0}},
+    {applied_u16, 0, -32769, {FTY_OUT_OF_RANGE, KEPT}},
+    {applied_u16, 65535, 32767, {FTY_OK, 65535}},
+    {applied_u16, 65535, 32768, {FTY_OUT_OF_RANGE, KEPT}},
+    {applied_u16, 65535, INT64_MAX, {FTY_OUT_OF_RANGE, KEPT}},
 };
 
 static void check_sums(void) {
@@ -633,9 +633,9 @@ static void check_sums(void) {
         const size_t count = sums[i].count;
         check_result("sums", i, sum_of_deltas(scalars, count, deltas, count), sums[i].expected);
         check_error("fewer deltas", i, sum_of_deltas(scalars, count, deltas, count - 1),
-                    FONT_COUNT_MISMATCH);
+                    FTY_COUNT_MISMATCH);
         check_error("fewer scalars", i, sum_of_deltas(scalars, count - 1, deltas, count),
-                    FONT_COUNT_MISMATCH);
+                    FTY_COUNT_MISMATCH);
     }
     /* Partial sums far above 64 bits, and back. */
     static int32_t scalars[MANY_TERMS], deltas[MANY_TERMS];
@@ -666,20 +666,20 @@ static void check_sets(void) {
                 sum_of_set(scalars, MOST_SCALARS, bytes, MOST_SCALARS + 0x7FFF, 0x7FFF),
                 (INT64_C(0x7FFF) * 0x7F80 + INT64_C(0x8000) * 0x80) << 31);
     check_error("many scalars", 2,
-                sum_of_set(scalars, MOST_SCALARS + 1, bytes, MOST_SCALARS + 1, 0), FONT_TOO_MANY);
+                sum_of_set(scalars, MOST_SCALARS + 1, bytes, MOST_SCALARS + 1, 0), FTY_TOO_MANY);
     check_error("many scalars", 3,
                 sum_of_set(scalars, MOST_SCALARS + 1, bytes, 2 * (MOST_SCALARS + 1), 0x8000),
-                FONT_TOO_MANY);
+                FTY_TOO_MANY);
     check_value("many scalars", 4,
                 sum_of_set(scalars, MOST_SCALARS, bytes, 2 * MOST_SCALARS, 0x8000),
                 INT64_C(65535) * 0x7F80 << 31);
     check_error("many scalars", 5, sum_of_set(scalars, 0x7FFF, bytes, 4 * 0x7FFF, 0xFFFF),
-                FONT_OUT_OF_RANGE);
+                FTY_OUT_OF_RANGE);
     check_error("many scalars", 6, sum_of_set(scalars, 0x7FFF, bytes, 4 * 0x7FFE, 0xFFFF),
-                FONT_COUNT_MISMATCH);
+                FTY_COUNT_MISMATCH);
 }
 
-/* The length of a set is the only one that font_delta_set_sum takes. */
+/* The length of a set is the only one that fty_delta_set_sum takes. */
 static void check_lengths(void) {
     static const uint16_t numbers[] = {0,      1,      2,      3,      255,    256,   0x7FFF,
                                        0x8000, 0x8001, 0x8002, 0x80FF, 0x8100, 65535};
@@ -688,21 +688,21 @@ static void check_lengths(void) {
     for (size_t i = 0; i < COUNT(numbers); i++) {
         for (size_t j = 0; j < COUNT(numbers); j++) {
             const uint16_t count = numbers[i], words = numbers[j];
-            const size_t length = font_delta_set_length(words, count);
+            const size_t length = fty_delta_set_length(words, count);
             if ((words & 0x7FFF) > count)
                 continue;
             check_value("lengths", i, sum_of_set(scalars, count, set, length, words), 0);
             if (length > 0)
                 check_error("lengths, less", i, sum_of_set(scalars, count, set, length - 1, words),
-                            FONT_COUNT_MISMATCH);
+                            FTY_COUNT_MISMATCH);
             check_error("lengths, more", i, sum_of_set(scalars, count, set, length + 1, words),
-                        FONT_COUNT_MISMATCH);
+                        FTY_COUNT_MISMATCH);
         }
     }
-    check("lengths", 0, "of 2", (int64_t)font_delta_set_length(1, 2), 3);
-    check("lengths", 1, "of 2, long", (int64_t)font_delta_set_length(0x8001, 2), 6);
-    check("lengths", 2, "of none", (int64_t)font_delta_set_length(0xFFFF, 0), 65534);
-    check("lengths", 3, "of most", (int64_t)font_delta_set_length(0xFFFF, 65535), 196604);
+    check("lengths", 0, "of 2", (int64_t)fty_delta_set_length(1, 2), 3);
+    check("lengths", 1, "of 2, long", (int64_t)fty_delta_set_length(0x8001, 2), 6);
+    check("lengths", 2, "of none", (int64_t)fty_delta_set_length(0xFFFF, 0), 65534);
+    check("lengths", 3, "of most", (int64_t)fty_delta_set_length(0xFFFF, 65535), 196604);
 }
 
 static void check_applied(void) {
@@ -723,19 +723,19 @@ static const struct {
     struct result created, validated;
     const char *text;
 } tags[] = {
-    {"cvt ", 4, {FONT_OK, 0x63767420}, {FONT_OK, KEPT}, "cvt "},
-    {"~~~~", 4, {FONT_OK, 0x7E7E7E7E}, {FONT_OK, KEPT}, "~~~~"},
-    {"a", 1, {FONT_OK, 0x61202020}, {FONT_OK, 0}, NULL},
-    {"cvt", 3, {FONT_OK, 0x63767420}, {FONT_OK, 0}, NULL},
-    {"  ", 2, {FONT_TAG_BYTE, KEPT}, {FONT_OK, 0}, NULL},
-    {"GSUB ", 5, {FONT_TAG_LENGTH, KEPT}, {FONT_OK, 0}, NULL},
-    {"    ", 4, {FONT_TAG_BYTE, KEPT}, {FONT_TAG_LENGTH, KEPT}, "    "},
-    {" ABC", 4, {FONT_TAG_BYTE, KEPT}, {FONT_TAG_BYTE, 0}, " ABC"},
-    {"cvt\012", 4, {FONT_TAG_BYTE, KEPT}, {FONT_TAG_BYTE, 3}, "cvt{0x0A}"},
-    {"\177ABC", 4, {FONT_TAG_BYTE, KEPT}, {FONT_TAG_BYTE, 0}, "{0x7F}ABC"},
-    {"\000\377\037\231", 4, {FONT_TAG_BYTE, KEPT}, {FONT_TAG_BYTE, 0}, "{0x00}{0xFF}{0x1F}{0x99}"},
-    {"a b ", 4, {FONT_TAG_BYTE, KEPT}, {FONT_TAG_AFTER_SPACE, 2}, "a b "},
-    {"A  ~", 4, {FONT_TAG_BYTE, KEPT}, {FONT_TAG_AFTER_SPACE, 3}, "A  ~"},
+    {"cvt ", 4, {FTY_OK, 0x63767420}, {FTY_OK, KEPT}, "cvt "},
+    {"~~~~", 4, {FTY_OK, 0x7E7E7E7E}, {FTY_OK, KEPT}, "~~~~"},
+    {"a", 1, {FTY_OK, 0x61202020}, {FTY_OK, 0}, NULL},
+    {"cvt", 3, {FTY_OK, 0x63767420}, {FTY_OK, 0}, NULL},
+    {"  ", 2, {FTY_TAG_BYTE, KEPT}, {FTY_OK, 0}, NULL},
+    {"GSUB ", 5, {FTY_TAG_LENGTH, KEPT}, {FTY_OK, 0}, NULL},
+    {"    ", 4, {FTY_TAG_BYTE, KEPT}, {FTY_TAG_LENGTH, KEPT}, "    "},
+    {" ABC", 4, {FTY_TAG_BYTE, KEPT}, {FTY_TAG_BYTE, 0}, " ABC"},
+    {"cvt\012", 4, {FTY_TAG_BYTE, KEPT}, {FTY_TAG_BYTE, 3}, "cvt{0x0A}"},
+    {"\177ABC", 4, {FTY_TAG_BYTE, KEPT}, {FTY_TAG_BYTE, 0}, "{0x7F}ABC"},
+    {"\000\377\037\231", 4, {FTY_TAG_BYTE, KEPT}, {FTY_TAG_BYTE, 0}, "{0x00}{0xFF}{0x1F}{0x99}"},
+    {"a b ", 4, {FTY_TAG_BYTE, KEPT}, {FTY_TAG_AFTER_SPACE, 2}, "a b "},
+    {"A  ~", 4, {FTY_TAG_BYTE, KEPT}, {FTY_TAG_AFTER_SPACE, 3}, "A  ~"},
 };
 
 static void check_tags(void) {
@@ -744,7 +744,7 @@ static void check_tags(void) {
         check_result("created tags", i, new_tag(bytes, tags[i].length), tags[i].created);
         if (tags[i].text == NULL)
             continue;
-        const uint32_t tag = FONT_TAG(bytes[0], bytes[1], bytes[2], bytes[3]);
+        const uint32_t tag = FTY_TAG(bytes[0], bytes[1], bytes[2], bytes[3]);
         check_result("validated tags", i, validated(tag), tags[i].validated);
         check_written("tags", i, NULL, tag, NULL, tags[i].text);
     }
@@ -753,34 +753,34 @@ static void check_tags(void) {
 /* ---- null pointers, with no values ---- */
 
 static void check_nulls(void) {
-    const font_pad pad = FONT_PAD_INIT(0);
-    const font_matrix identity = {65536, 0, 0, 65536, 0, 0};
+    const fty_pad pad = FTY_PAD_INIT(0);
+    const fty_matrix identity = {65536, 0, 0, 65536, 0, 0};
     size_t length = KEPT;
     static const struct type *const types[] = {&f2dot14, &fixed, &f48dot16};
     for (size_t i = 0; i < COUNT(types); i++)
-        check_error("null text", i, parse(types[i], NULL, 0), FONT_NOT_DECIMAL);
+        check_error("null text", i, parse(types[i], NULL, 0), FTY_NOT_DECIMAL);
     check("nulls", 0, "format", write_text(&fixed, 0, NULL, NULL, 0, &length),
-          FONT_BUFFER_TOO_SMALL);
+          FTY_BUFFER_TOO_SMALL);
     check("nulls", 0, "padded", write_text(&fixed, 0, &pad, NULL, 0, &length),
-          FONT_BUFFER_TOO_SMALL);
-    check("nulls", 0, "tag", write_text(NULL, 0, NULL, NULL, 0, &length), FONT_BUFFER_TOO_SMALL);
+          FTY_BUFFER_TOO_SMALL);
+    check("nulls", 0, "tag", write_text(NULL, 0, NULL, NULL, 0, &length), FTY_BUFFER_TOO_SMALL);
     check("nulls", 0, "length", (int64_t)length, KEPT);
     check_value("null deltas", 0, sum_of_deltas(NULL, 0, NULL, 0), 0);
     check_value("null set", 0, sum_of_set(NULL, 0, NULL, 0, 0), 0);
     images(&identity, NULL, 0);
-    check_error("null tag", 0, new_tag(NULL, 0), FONT_TAG_LENGTH);
+    check_error("null tag", 0, new_tag(NULL, 0), FTY_TAG_LENGTH);
 }
 
 /* Values that are wrong, in one way each, so that a check of them has to fail. */
 static void check_wrong(int way) {
-    const struct result stored = {FONT_BUFFER_TOO_SMALL, 0};
+    const struct result stored = {FTY_BUFFER_TOO_SMALL, 0};
     switch (way) {
     case 1: check("wrong", 1, "value", 1, 2); break;
     case 2: check("wrong", 2, "value", 2, 1); break;
     case 3: check_text("wrong", 3, "1.4", 3, "1.5"); break;
     case 4: check_text("wrong", 4, "1.6", 3, "1.5"); break;
     case 5: check_text("wrong", 5, "1.5", 3, "1.50"); break;
-    default: check_error("wrong", 6, stored, FONT_BUFFER_TOO_SMALL);
+    default: check_error("wrong", 6, stored, FTY_BUFFER_TOO_SMALL);
     }
 }
 

@@ -9,7 +9,7 @@ rows=("${empty[@]}" cargo run --quiet --manifest-path ../Cargo.toml --target-dir
 "${rows[@]}" >"$work/rows.txt"
 "${rows[@]}" "$work/cases" "$work/whole.otf" "$work/large.otf"
 mkdir "$work/storing"
-sed 's/return FONT_OUT_OF_BOUNDS;/return *value = 0, FONT_OUT_OF_BOUNDS;/' include/font_types.h \
+sed 's/return FTY_OUT_OF_BOUNDS;/return *value = 0, FTY_OUT_OF_BOUNDS;/' include/font_types.h \
     >"$work/storing/font_types.h"
 cat >"$work/beyond.c" <<'C'
 static const char bytes[1] = {0};

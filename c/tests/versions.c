@@ -5,16 +5,16 @@
 #include "font_types.h"
 
 #if defined(STAND_IN)
-uint32_t font_types_version(void) { return 0x090000; }
+uint32_t fty_version(void) { return 0x090000; }
 #elif defined(PLUG_IN)
 uint32_t plugged_in(void);
-uint32_t plugged_in(void) { return font_types_version(); }
+uint32_t plugged_in(void) { return fty_version(); }
 #else
 #include <dlfcn.h>
 #include <stdio.h>
 
 int main(int count, char **paths) {
-    printf("%06x", (unsigned)font_types_version());
+    printf("%06x", (unsigned)fty_version());
     for (int i = 1; i < count; i++) {
         void *plug_in = dlopen(paths[i], RTLD_NOW);
         if (plug_in == NULL)

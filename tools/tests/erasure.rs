@@ -334,7 +334,7 @@ const UNSUPPORTED: &[&str] = &[
     "1 alias: type Number<'a> = &'a mut u32;",
     "1 `pub(..)`: impl S { pub(crate) fn f() {} }",
     "1 `extern`: pub extern \"C\" fn memcmp() {}",
-    "3 `bytes_len`: pub extern \"C\" fn font_f(\n    bytes: &[u8],\n) -> usize { bytes_len() }",
+    "3 `bytes_len`: pub extern \"C\" fn fty_f(\n    bytes: &[u8],\n) -> usize { bytes_len() }",
     "1 `clone`: fn f(n: N) -> bool { is(n.clone()) }",
     "1 `clone`: fn clone(&self) -> Result<N, AllocError> { Ok(N); Ok(M) }",
     "1 `clone`: fn clone(&self) -> Result<N, AllocError> { f(); Ok(N) }",
@@ -393,9 +393,9 @@ const CHANGED: &[&str] = &[
     "fn clone(&self) -> Result<S<T>, AllocError> { Ok(&(0..n) < b) } \
      ⇒ fn clone(&self) -> S<T> { &(0..n) < b }",
     "trait A<Rhs>: B<Rhs> { fn f(&Rhs); } ⇒ trait A<Rhs = Self>: B<Rhs> { fn f(&Rhs); }",
-    "extern \"C\" fn font_f(n: crate::N) { 0..n } ⇒ extern \"C\" fn font_f(n: OWN::N) { 0..n }",
-    "pub extern \"C\" fn font_f(n: &u8, a: &mut [T]) -> X<T> { g(&a[0..1]) < n } \
-     ⇒ pub unsafe extern \"C\" fn font_f(n: &u8, a: *mut T, a_len: usize) -> X<T> {\n    \
+    "extern \"C\" fn fty_f(n: crate::N) { 0..n } ⇒ extern \"C\" fn fty_f(n: OWN::N) { 0..n }",
+    "pub extern \"C\" fn fty_f(n: &u8, a: &mut [T]) -> X<T> { g(&a[0..1]) < n } \
+     ⇒ pub unsafe extern \"C\" fn fty_f(n: &u8, a: *mut T, a_len: usize) -> X<T> {\n    \
      let a = unsafe { crate::slice_mut(a, a_len) }; g(&a[0..1]) < n }",
     "fn f() { prove!((A & B) < X::<A>::C); } ⇒ fn f() { const { assert!((A & B) < X::<A>::C) }; }",
     "f<T: A<U> + Drop>(x: &T) where (T, U): B + Drop, ⇒ f<T: A<U> >(x: &T) where (T, U): B ,",

@@ -77,11 +77,11 @@ fn names_and_paths_of_the_pages() {
     assert!(unknown.is_empty(), "{unknown:#?}");
 }
 
-/// Returns whether the header declares a name: itself, or by `font_##NAME##_parse(`.
+/// Returns whether the header declares a name: itself, or by `fty_##NAME##_parse(`.
 fn is_declared(name: &str, header: &str) -> bool {
     let declared = words(header);
     let parts = name
-        .strip_prefix("font_")
+        .strip_prefix("fty_")
         .and_then(|rest| rest.split_once('_'));
     let is_pasted = parts.is_some_and(|(format, rest)| {
         declared.contains(format) && header.contains(&format!("##_{rest}("))
@@ -97,9 +97,7 @@ fn names_of_the_library_for_c() {
     for line in page.lines() {
         let row = line.strip_prefix("| ").and_then(|row| row.split_once('|'));
         for name in words(row.map_or(line, |(_, row)| row)) {
-            let lower = name.to_lowercase();
-            let is_file = lower.starts_with("font_types") || lower == "font_c";
-            if lower.starts_with("font_") && !is_file {
+            if name.to_lowercase().starts_with("fty_") {
                 assert!(is_declared(name, &header), "{name}");
                 count += 1;
             }

@@ -68,7 +68,7 @@ fn versions_are_alike() {
         let (_, after) = text.split_once(before).expect(path);
         after.split('"').next().unwrap().to_string()
     };
-    let header = version("c/include/font_types.h", "#define FONT_TYPES_VERSION \"");
+    let header = version("c/include/font_types.h", "#define FTY_VERSION \"");
     for path in [
         "Cargo.toml",
         "c/Cargo.toml",

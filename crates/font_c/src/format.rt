@@ -61,7 +61,7 @@ impl TryFrom<FontPad> for Pad {
 /// length to `written`.
 #[unsafe(no_mangle)]
 #[tactic(auto, using(crate::proofs::Texts::text_calls))]
-pub extern "C" fn font_format(
+pub extern "C" fn fty_format(
     bits: i64,
     fraction_bits: u32,
     out: &mut [u8],
@@ -85,7 +85,7 @@ pub extern "C" fn font_format(
 
 /// Writes that decimal padded to the start of `out`, and its length to `written`.
 #[unsafe(no_mangle)]
-pub extern "C" fn font_format_padded(
+pub extern "C" fn fty_format_padded(
     bits: i64,
     fraction_bits: u32,
     pad: &FontPad,

@@ -2,7 +2,7 @@
 //!
 //! Exports have no preconditions, because C callers are not checked. An export that can fail
 //! returns a status and stores its result at its last argument; if it fails, it leaves all memory
-//! unchanged, except that `font_tag_validate` stores the index of the invalid byte. Nothing is kept
+//! unchanged, except that `fty_tag_validate` stores the index of the invalid byte. Nothing is kept
 //! between calls, and nothing is allocated. `c/include/font_types.h` declares the exports, and has
 //! fields and rounding to integers as functions in C.
 #![tactic(auto)]

@@ -11,7 +11,7 @@ use font_types::DecimalFault;
 
 /// Parses a decimal as the nearest 16-bit raw value, rounding half away from zero.
 #[unsafe(no_mangle)]
-pub extern "C" fn font_parse_i16(text: &[u8], fraction_bits: u32, bits: &mut i16) -> u32
+pub extern "C" fn fty_parse_i16(text: &[u8], fraction_bits: u32, bits: &mut i16) -> u32
     ensures parsed { IsFraction 16 fraction_bits
         → ParsesInto w16 fraction_bits text.now result bits.old bits.new }
     ensures refused { ¬ IsFraction 16 fraction_bits
@@ -25,7 +25,7 @@ pub extern "C" fn font_parse_i16(text: &[u8], fraction_bits: u32, bits: &mut i16
 
 /// Parses a decimal as the nearest 32-bit raw value, rounding half away from zero.
 #[unsafe(no_mangle)]
-pub extern "C" fn font_parse_i32(text: &[u8], fraction_bits: u32, bits: &mut i32) -> u32
+pub extern "C" fn fty_parse_i32(text: &[u8], fraction_bits: u32, bits: &mut i32) -> u32
     ensures parsed { IsFraction 32 fraction_bits
         → ParsesInto w32 fraction_bits text.now result bits.old bits.new }
     ensures refused { ¬ IsFraction 32 fraction_bits
@@ -39,7 +39,7 @@ pub extern "C" fn font_parse_i32(text: &[u8], fraction_bits: u32, bits: &mut i32
 
 /// Parses a decimal as the nearest 64-bit raw value, rounding half away from zero.
 #[unsafe(no_mangle)]
-pub extern "C" fn font_parse_i64(text: &[u8], fraction_bits: u32, bits: &mut i64) -> u32
+pub extern "C" fn fty_parse_i64(text: &[u8], fraction_bits: u32, bits: &mut i64) -> u32
     ensures parsed { IsFraction 64 fraction_bits
         → ParsesInto w64 fraction_bits text.now result bits.old bits.new }
     ensures refused { ¬ IsFraction 64 fraction_bits

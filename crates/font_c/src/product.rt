@@ -6,7 +6,7 @@ use font_types::{F26Dot6, Fixed};
 
 /// Multiplies 16.16 values, rounding half away from zero and wrapping on overflow.
 #[unsafe(no_mangle)]
-pub extern "C" fn font_fixed_mul(x: i32, y: i32) -> i32
+pub extern "C" fn fty_fixed_mul(x: i32, y: i32) -> i32
     ensures { IsProduct 32 16 x y result }
 {
     (Fixed::from_bits(x) * Fixed::from_bits(y)).to_bits()
@@ -15,7 +15,7 @@ pub extern "C" fn font_fixed_mul(x: i32, y: i32) -> i32
 /// Divides 16.16 values, rounding half away from zero and wrapping on overflow. Division by zero
 /// gives the largest value, negated if `x` is negative.
 #[unsafe(no_mangle)]
-pub extern "C" fn font_fixed_div(x: i32, y: i32) -> i32
+pub extern "C" fn fty_fixed_div(x: i32, y: i32) -> i32
     ensures { IsQuotient 32 16 x y result }
 {
     (Fixed::from_bits(x) / Fixed::from_bits(y)).to_bits()
@@ -24,7 +24,7 @@ pub extern "C" fn font_fixed_div(x: i32, y: i32) -> i32
 /// Returns `x * a / c`, rounded once, half away from zero, wrapping on overflow. If `c` is zero,
 /// the result is the largest value, negated if exactly one of `x` and `a` is negative.
 #[unsafe(no_mangle)]
-pub extern "C" fn font_fixed_mul_div(x: i32, a: i32, c: i32) -> i32
+pub extern "C" fn fty_fixed_mul_div(x: i32, a: i32, c: i32) -> i32
     ensures { IsMulDiv 32 x a c result }
 {
     Fixed::from_bits(x)
@@ -34,7 +34,7 @@ pub extern "C" fn font_fixed_mul_div(x: i32, a: i32, c: i32) -> i32
 
 /// Multiplies 26.6 values, rounding half away from zero and wrapping on overflow.
 #[unsafe(no_mangle)]
-pub extern "C" fn font_f26dot6_mul(x: i32, y: i32) -> i32
+pub extern "C" fn fty_f26dot6_mul(x: i32, y: i32) -> i32
     ensures { IsProduct 32 6 x y result }
 {
     (F26Dot6::from_bits(x) * F26Dot6::from_bits(y)).to_bits()
@@ -43,7 +43,7 @@ pub extern "C" fn font_f26dot6_mul(x: i32, y: i32) -> i32
 /// Divides 26.6 values, rounding half away from zero and wrapping on overflow. Division by zero
 /// gives the largest value, negated if `x` is negative.
 #[unsafe(no_mangle)]
-pub extern "C" fn font_f26dot6_div(x: i32, y: i32) -> i32
+pub extern "C" fn fty_f26dot6_div(x: i32, y: i32) -> i32
     ensures { IsQuotient 32 6 x y result }
 {
     (F26Dot6::from_bits(x) / F26Dot6::from_bits(y)).to_bits()

@@ -1,4 +1,4 @@
-//! The results of the exports: `font_status` of the header.
+//! The results of the exports: `fty_status` of the header.
 
 ghost use Rattle.std.specs.Prelude.{◌↔◌, ◌≤◌, ◌+◌, IsTrue};
 ghost use Rattle.font_c.specs.Status.{IsFraction};

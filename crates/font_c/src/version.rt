@@ -4,7 +4,7 @@ ghost use Rattle.std.specs.Prelude.{◌≡◌};
 
 /// Returns the version as `major << 16 | minor << 8 | patch`.
 #[unsafe(no_mangle)]
-pub extern "C" fn font_types_version() -> u32
+pub extern "C" fn fty_version() -> u32
     ensures { result ≡ 0x00_0600 }
 {
     0x00_0600

@@ -64,9 +64,9 @@ impl Eraser<'_> {
             ["pub", "(", "crate", ")", "fn" | "const", ..] if self.depth == 0 => return Ok(()),
             ["pub", "(", ..] => "`pub(..)` of something else than a function",
             // Of another name it could be one that rustc calls, as `memcmp`.
-            ["extern", "\"C\"", "fn", name, ..] if name.starts_with("font_") => return Ok(()),
+            ["extern", "\"C\"", "fn", name, ..] if name.starts_with("fty_") => return Ok(()),
             [name, "::", ..] if self.of.left_out.contains(&name) => "a name of what is left out",
-            ["extern", ..] => "`extern` of something else than `font_..`",
+            ["extern", ..] => "`extern` of something else than `fty_..`",
             ["unsafe", _, "std", _, "str", _, "from_utf8_unchecked", ..] => return Ok(()),
             ["unsafe", ..] => "`unsafe` of something else than `from_utf8_unchecked`",
             // It returns another type.

@@ -51,7 +51,7 @@ impl TryFrom<FontPad> for Pad {
 /// Writes the shortest decimal that parses back to the raw value to the start of `out`, and its
 /// length to `written`.
 #[unsafe(no_mangle)]
-pub unsafe extern "C" fn font_format(
+pub unsafe extern "C" fn fty_format(
     bits: i64,
     fraction_bits: u32,
     out: *mut u8,
@@ -71,7 +71,7 @@ pub unsafe extern "C" fn font_format(
 
 /// Writes that decimal padded to the start of `out`, and its length to `written`.
 #[unsafe(no_mangle)]
-pub unsafe extern "C" fn font_format_padded(
+pub unsafe extern "C" fn fty_format_padded(
     bits: i64,
     fraction_bits: u32,
     pad: &FontPad,

@@ -8,7 +8,7 @@ use crate::font_types::DecimalFault;
 
 /// Parses a decimal as the nearest 16-bit raw value, rounding half away from zero.
 #[unsafe(no_mangle)]
-pub unsafe extern "C" fn font_parse_i16(
+pub unsafe extern "C" fn fty_parse_i16(
     text: *const u8,
     text_len: usize,
     fraction_bits: u32,
@@ -23,7 +23,7 @@ pub unsafe extern "C" fn font_parse_i16(
 
 /// Parses a decimal as the nearest 32-bit raw value, rounding half away from zero.
 #[unsafe(no_mangle)]
-pub unsafe extern "C" fn font_parse_i32(
+pub unsafe extern "C" fn fty_parse_i32(
     text: *const u8,
     text_len: usize,
     fraction_bits: u32,
@@ -38,7 +38,7 @@ pub unsafe extern "C" fn font_parse_i32(
 
 /// Parses a decimal as the nearest 64-bit raw value, rounding half away from zero.
 #[unsafe(no_mangle)]
-pub unsafe extern "C" fn font_parse_i64(
+pub unsafe extern "C" fn fty_parse_i64(
     text: *const u8,
     text_len: usize,
     fraction_bits: u32,

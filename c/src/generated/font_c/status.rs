@@ -1,6 +1,6 @@
 // @generated from crates/font_c/src/status.rt by tools/src/bin/erase.rs
 
-//! The results of the exports: `font_status` of the header.
+//! The results of the exports: `fty_status` of the header.
 
 /// Success: the result was stored.
 pub const OK: u32 = 0;

@@ -2,7 +2,7 @@ use Rattle.std.proofs.Common.{rules, ◌<◌, length}
 use Rattle.font_types.specs.Padding.{unsigned_body}
 use Rattle.font_types.specs.Shortest.{shortest_text}
 use Rattle.font_c.proofs.Texts.{printed_is_short}
-use Rattle.font_c.proofs.format.font_format_padded.Goals as goal
+use Rattle.font_c.proofs.format.fty_format_padded.Goals as goal
 
 pub returns-in-Ok : goal.returns-in-Ok
 returns-in-Ok c =
