@@ -288,6 +288,7 @@ fn sums_of_deltas() {
         (&[(Fixed::ONE, 3), up], 0x3_0000 - 1),
         (&[min], square),
         (&[min, min], 2 * square),
+        (&[up, (Fixed::ZERO, 5), up], -2),
         (&[min, max], 1 << 31),
         (&[min, min, max], 4611686020574871552),
         (&[max, max, down, down], -2 * square),
@@ -316,6 +317,9 @@ fn sums_of_deltas() {
         let mut other = sum;
         other.add(Fixed::EPSILON, 1);
         assert_ne!(sum, other);
+        let mut extended = sum;
+        extended.extend([(Fixed::EPSILON, 1)]);
+        assert_eq!(extended, other, "{terms:?}");
         let twice = i64::try_from(2 * exact + 1).ok().map(F48Dot16::from_bits);
         assert_eq!((sum + other).checked_finish(), twice, "{terms:?}");
         other += sum;

@@ -10,8 +10,8 @@ mod fonts;
 mod runner;
 
 use dump::dump;
-use font_types_proved::{F2Dot14, FWord, Fixed, GlyphId16, Tag, UfWord};
-use fonts::{MAP, MAPS, font, font_of, fvar, hvar, hvar_of_two_axes, long_axes, long_hvar};
+use font_types_proved::{F2Dot14, Fixed, GlyphId16, Tag, UfWord};
+use fonts::{MAP, MAPS, font, font_of, fvar, hvar, hvar_of_two_axes, large, long_axes, long_hvar};
 use fonts::{two_axes, words};
 use instance::proved::delta_sets::read_delta;
 use instance::proved::maps::read_delta_set_index;
@@ -482,6 +482,50 @@ fn program_instance_of_other_tables() {
     ] {
         assert_eq!(instance_of(&font, "wght=650").1, error);
     }
+}
+
+#[test]
+fn programs_of_a_large_font() {
+    let path = file(&large());
+    let path = path.to_str().unwrap();
+    let text = "\u{3E8}\u{63C}\u{20256}";
+    let name = format!("\nNameId 256: \u{1F600}{}\n", "n".repeat(300));
+    let glyphs = "\n\u{3E8}: glyph 7\n\u{63C}: glyph 299\n\u{20256}: glyph 300\n";
+    let found = run("dump", &[path, text]).0;
+    assert!(found.contains(&name) && found.ends_with(glyphs), "{found}");
+    // From glyph 300 on, the advance is that of the last metric; each has a delta of its own.
+    let advances = "\n\u{3E8}: 514\n\u{63C}: 1098\n\u{20256}: 1099\nglyph 305: 1104\n";
+    let found = run("instance", &[path, text, "305", "wght=900"]).0;
+    assert!(found.ends_with(advances), "{found}");
+}
+
+#[test]
+fn program_instance_of_two_axes() {
+    let path = file(&font_of([
+        (b"HVAR", hvar_of_two_axes(MAPS[1])),
+        (b"fvar", two_axes()),
+    ]));
+    let found = run("instance", &[path.to_str().unwrap(), "A", "wdth=150"]).0;
+    let axes = "wght: 400, from 100 to 900\nwdth: 150, from 50 to 200\n";
+    assert!(found.starts_with(axes), "{found}");
+    let found = run("instance", &[path.to_str().unwrap()]).1;
+    assert!(found.contains("-- FONT TEXT"), "{found}");
+}
+
+#[test]
+fn tables_that_end_early() {
+    let bytes = font_of([(b"head", words(&[1, 0])), (b"fvar", vec![0])]);
+    let font = dump::font::Font::new(&bytes).unwrap();
+    let mut text = String::new();
+    dump(&font, "", &mut text).unwrap();
+    let ends = text.starts_with("head version: ") && text.ends_with("\nFAMILY_NAME: Ütest\n");
+    assert!(ends, "{text}");
+    let font = instance::font::Font::new(&bytes).unwrap();
+    assert!(axes(&font).is_err_and(|text| text == "fvar: not of version 1"));
+    // The last table ends after the file.
+    let bytes = font_of([]);
+    let font = dump::font::Font::new(&bytes[..bytes.len() - 1]).unwrap();
+    assert!(font.table(b"name").is_none());
 }
 
 #[test]

@@ -138,6 +138,7 @@ fn compare_hash_and_print_fields() {
     let field = BigEndian::<i16>::from;
     assert!(field(-1) < field(0) && field(0xFF) < field(0x100) && field(2) == field(2));
     assert!(field(-1) == -1 && field(-1) != 255 && field(-1) != field(0x00FF) && field(0x100) != 0);
+    assert!(field(0x102) == 0x102 && field(0x102) != 0x103);
     let found = hash_of(BigEndian::<u16>::from(0x100));
     for other in [0x200, 0x101] {
         assert_ne!(found, hash_of(BigEndian::<u16>::from(other)), "{other}");

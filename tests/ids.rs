@@ -50,13 +50,14 @@ fn glyph_ids() {
 
 #[test]
 fn compare_glyph_ids_of_different_widths() {
-    let rows: [(u32, u16, Ordering); 7] = [
+    let rows: [(u32, u16, Ordering); 8] = [
         (65536, 65535, Greater),
         (6, 5, Greater),
         (5, 6, Less),
         (6, 6, Equal),
         (0x1_0005, 5, Greater),
         (0x1_0005, 0xFFFF, Greater),
+        (u32::MAX, 5, Greater),
         (0xFFFF, 0xFFFF, Equal),
     ];
     for (wide, narrow, order) in rows {
@@ -172,7 +173,16 @@ where
 #[test]
 fn offsets() {
     for n in [
-        0, 1, 7, 0xFFFF, 0x1_0000, 0x1_0007, 0xFF_FFFF, 0x100_0000, 0x100_0007,
+        0,
+        1,
+        7,
+        0xFFFF,
+        0x1_0000,
+        0x1_0007,
+        0xFF_FFFF,
+        0x100_0000,
+        0x100_0007,
+        0x8000_0007,
     ] {
         let narrow = Offset16::new(n as u16);
         let middle = Offset24::new(Uint24::new(n));

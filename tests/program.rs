@@ -96,14 +96,16 @@ fn write_errors() {
     }
 }
 
-/// Runs the program in a shell that has set a limit, unless Cargo has a runner, which the limit
-/// would break.
+/// Runs the program in a shell that has set a limit, or returns the runner that Cargo has, which
+/// the limit would break.
 #[cfg(unix)]
-fn limited(script: &str) -> Option<Output> {
+fn limited(script: &str) -> Result<Output, String> {
     let mut shell = Command::new("sh");
     shell.args(["-c", script, env!("CARGO_BIN_EXE_fontval"), LINES]);
-    let is_native = runner::runner().is_none();
-    is_native.then(|| shell.output().unwrap())
+    match runner::runner() {
+        Some(runner) => Err(runner),
+        None => Ok(shell.output().unwrap()),
+    }
 }
 
 // A file takes all of the answers except the last bytes, fewer than 512.
@@ -114,7 +116,7 @@ fn file_size_limit() {
     let file = Path::new(env!("CARGO_TARGET_TMPDIR")).join("limited");
     let file_name = file.display();
     let script = format!("trap '' XFSZ; ulimit -f {blocks}; \"$0\" <\"$1\" >'{file_name}'");
-    if let Some(run) = limited(&script) {
+    if let Ok(run) = limited(&script) {
         assert_fails(&run, "fontval: write\n");
         assert_answers(&fs::read(&file).unwrap(), &ANSWERS[..512 * blocks]);
         fs::remove_file(file).unwrap();
@@ -125,7 +127,7 @@ fn file_size_limit() {
 #[test]
 #[cfg(target_os = "linux")]
 fn no_descriptor_left() {
-    if let Some(run) = limited("exec <\"$1\" 3<&-; ulimit -n 4; exec \"$0\"") {
+    if let Ok(run) = limited("exec <\"$1\" 3<&-; ulimit -n 4; exec \"$0\"") {
         assert_fails(&run, "fontval: write\n");
         assert!(run.stdout.is_empty());
     }
@@ -137,7 +139,7 @@ fn no_descriptor_left() {
 fn out_of_memory() {
     for input in ["head -c 20000000 /dev/zero", "yes '' | head -c 1200000"] {
         let script = format!("ulimit -v 16000; {input} | \"$0\"");
-        if let Some(run) = limited(&script) {
+        if let Ok(run) = limited(&script) {
             assert_fails(&run, "fontval: memory\n");
             assert!(run.stdout.is_empty());
         }
@@ -148,7 +150,7 @@ fn out_of_memory() {
 #[test]
 #[cfg(target_os = "linux")]
 fn no_standard_error() {
-    if let Some(run) = limited("\"$0\" </ 2>/dev/full") {
+    if let Ok(run) = limited("\"$0\" </ 2>/dev/full") {
         assert_eq!(run.status.code(), Some(1));
     }
 }

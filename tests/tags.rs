@@ -95,6 +95,8 @@ fn display_and_debug() {
         assert_eq!(found, (bytes, bytes, &bytes));
         let number = u32::from_be_bytes(bytes);
         assert_eq!([Tag::from_be_bytes(bytes), Tag::from_u32(number)], [tag; 2]);
+        let other = [bytes[0], bytes[1], bytes[2], bytes[3] ^ 0x20];
+        assert!(tag == bytes && tag != other, "{text}");
         assert_eq!(tag.to_u32(), number);
     }
     let found = (Tag::default(), TTC_HEADER_TAG);

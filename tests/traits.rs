@@ -36,8 +36,21 @@ fn debug_and_hash_of_padding() {
         plus: true,
         ..zeros
     };
+    let unused = Pad {
+        fill: b'*',
+        ..zeros
+    };
     assert_distinct(
-        &[Pad::new(3), Pad::new(4), filled, left, plus, zeros, both],
+        &[
+            Pad::new(3),
+            Pad::new(4),
+            filled,
+            left,
+            plus,
+            zeros,
+            both,
+            unused,
+        ],
         &[
             "Pad { width: 3, fill: 32, align: Right, plus: false, zeros: false }",
             "Pad { width: 4, fill: 32, align: Right, plus: false, zeros: false }",
@@ -46,16 +59,18 @@ fn debug_and_hash_of_padding() {
             "Pad { width: 3, fill: 32, align: Right, plus: true, zeros: false }",
             "Pad { width: 3, fill: 32, align: Right, plus: false, zeros: true }",
             "Pad { width: 3, fill: 32, align: Right, plus: true, zeros: true }",
+            "Pad { width: 3, fill: 42, align: Right, plus: false, zeros: true }",
         ],
     );
 }
 
 #[test]
 fn debug_and_hash_of_shortest() {
-    let texts = [-3, 96, 95, 64, 640].map(|bits| Shortest::new(bits, 6));
+    let texts = [-3, 96, 95, 64, 640, 128].map(|bits| Shortest::new(bits, 6));
     assert_eq!(texts[0].as_ref() as &str, "-0.05");
+    assert_eq!(texts[4].as_ref() as &str, "10");
     assert_eq!(texts[1].to_string(), "1.5");
-    let debug = ["-0.05", "1.5", "1.48", "1", "10"].map(|text| format!("Shortest({text:?})"));
+    let debug = ["-0.05", "1.5", "1.48", "1", "10", "2"].map(|text| format!("Shortest({text:?})"));
     assert_distinct(&texts, &debug.each_ref().map(|text| &**text));
     // Equal texts are equal, whatever the type of their numbers.
     let ones = [Shortest::new(64, 6), Shortest::new(0x1_0000, 16)];
@@ -109,6 +124,9 @@ fn iterators() {
     }
     let names = is_exact(NameId::predefined());
     assert!(names.starts_with("[COPYRIGHT_NOTICE, FAMILY_NAME, ") && names.ends_with("_PREFIX]"));
+    let mut last = NameId::predefined();
+    last.nth(23);
+    assert_eq!(is_exact(last), "[VARIATIONS_POSTSCRIPT_NAME_PREFIX]");
     let array = ScalarArray::<u16>::new(&[0, 1, 0, 4]).unwrap();
     assert_eq!(is_exact(array.into_iter()), "[1, 4]");
     fn is_fused(_: impl ExactSizeIterator + DoubleEndedIterator + FusedIterator + Clone) {}
@@ -127,6 +145,7 @@ fn errors() {
     let error = |id| GlyphId16::try_from(GlyphId::new(id)).unwrap_err();
     for other in [70_001, 70_000 + 0x1_0000, 70_000 + 0x100_0000] {
         assert!(error(70_000) == error(70_000) && error(70_000) != error(other));
+        assert!(error(other) != error(70_000), "{other}");
     }
     let found = [
         texts(error(70_000)),

@@ -51,7 +51,8 @@ c/check)
         sed -n 's/^fn \(.*\)(.*/tests::memory::\1: test/p'
     echo "tests::numbers::some: test" ;;
 "font_types_tests "*)
-    [ "$REFUSE" -gt 2 ] && [ "$WRONG" != no-end ] || echo refused >&2
+    [ "$WRONG" = no-refusal ] || [ "$REFUSE" -gt 2 ] && [ "$WRONG" != no-end ] ||
+        echo refused >&2
     [ "$WRONG" != one-test ] || [ "$REFUSE" != 2 ] || exit 1
     [ "$WRONG" != last-test ] || [ "$REFUSE" != 3 ] || exit 1 ;;
 "fontval ")
@@ -74,7 +75,7 @@ esac
 
 /// The faults of `TOOL` with which the gate has to fail.
 const FAULTS: &str = "one-test no-test last-test early-answer message other-status status answers \
-    no-request no-end bad-edit status-of-ci";
+    no-request no-refusal no-end bad-edit status-of-ci";
 
 /// The tools without which the gate fails, and those that it can do without.
 const REQUIRED: [&str; 6] = ["cargo", "rustfmt", "cargo-clippy", "cc", "make", "rt"];

@@ -60,11 +60,17 @@ const ITEMS: [(&str, &[&str]); 11] = [
     ),
     (
         "fontval/src/device/from_read.rt",
-        &["pub fn new(reader: R) -> Self"],
+        &[
+            "#[derive(Drop)] pub struct FromRead<R> { reader: R, failed: bool, }",
+            "pub fn new(reader: R) -> Self",
+        ],
     ),
     (
         "fontval/src/device/from_write.rt",
-        &["pub fn new(writer: W) -> Self"],
+        &[
+            "#[derive(Drop)] pub struct FromWrite<W> { writer: W, failed: bool, }",
+            "pub fn new(writer: W) -> Self",
+        ],
     ),
 ];
 

@@ -1,7 +1,7 @@
 //! Whether versions and dates have the numbers of OpenType and of font-types, and what no clause
 //! says: texts of `Debug`.
 
-use crate::{LongDateTime, MajorMinor, Version16Dot16};
+use crate::{Compatible, LongDateTime, MajorMinor, Version16Dot16};
 use font_base::{FixedSize, Scalar};
 use std::test::Fail;
 
@@ -22,7 +22,7 @@ fn version16dot16_numbers(rt: HostRuntime) {
         );
     }
     let [low, nine, ten] = [65535, 9, 10].map(|minor| Version16Dot16::new(1, minor));
-    assert!(rt; low.to_major_minor() == (1, 9) && ten == nine);
+    assert!(rt; low.to_major_minor() == (1, 9) && ten == nine && nine.compatible((1, 12)));
 }
 
 #[test]
