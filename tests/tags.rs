@@ -113,6 +113,8 @@ fn comparisons() {
         ("kerm", false),
         ("Kern", false),
         ("ker", false),
+        ("ker ", false),
+        ("ke  ", false),
         ("kern ", false),
         ("", false),
     ] {
