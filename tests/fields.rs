@@ -33,6 +33,19 @@ where
             "{value:?} at {offset}"
         );
     }
+    for offset in [0, 1, 2, 3, usize::MAX] {
+        let blank = vec![9; bytes.len() + 2];
+        let [mut right, mut scalar, mut field] = [blank.clone(), blank.clone(), blank];
+        let place = right.get_mut(offset..);
+        let place = place.and_then(|left| left.get_mut(..bytes.len()));
+        let written = place.map(|place| place.copy_from_slice(bytes));
+        let found = [
+            value.write_at(&mut scalar, offset),
+            BigEndian::from(value).write_at(&mut field, offset),
+        ];
+        assert_eq!(found, [written; 2], "{value:?} at {offset}");
+        assert!(scalar == right && field == right, "{value:?} at {offset}");
+    }
     let zero = T::read(&vec![0; bytes.len()]).unwrap();
     for field in [
         BigEndian::new(value.to_raw()),

@@ -1,7 +1,7 @@
 //! Big-endian fields.
 
-ghost use Rattle.std.specs.Prelude.{◌≡◌, ⊤, nat_eq, Some, IsTrue, IsSome, IfSome, ◌↔◌, length};
-ghost use Rattle.std.specs.Prelude.{◌+◌, ◌≤◌, take, drop, refl};
+ghost use Rattle.std.specs.Prelude.{◌≡◌, ⊤, nat_eq, Some, IsTrue, IsSome, IfSome, IfNone};
+ghost use Rattle.std.specs.Prelude.{◌↔◌, ◌+◌, ◌≤◌, length, take, drop, refl};
 ghost use Rattle.std.proofs.Common.{rules, ap, sym, ◌∙◌};
 ghost use Rattle.std.specs.Ordering.{on};
 ghost use Rattle.std.specs.Cmp.{on_per, on_equiv, on_total, partial_equiv_from_equiv};
@@ -84,7 +84,31 @@ impl<T: Scalar> BigEndian<T> {
         ensures bytes { IfSome result (λ field.
             T.Raw.bytes (raw_value field) ≡ take T.RAW_BYTE_LEN (drop offset bytes.now)) }
     {
-        BigEndian::from_slice(bytes.get(offset..)?.get(..T::RAW_BYTE_LEN)?)
+        BigEndian::from_slice(bytes.get(offset..offset.checked_add(T::RAW_BYTE_LEN)?)?)
+    }
+
+    /// Writes the field's bytes at `offset`, or returns `None` and writes nothing if fewer than
+    /// `RAW_BYTE_LEN` bytes are left there.
+    ///
+    /// ```
+    /// use font_types::BigEndian;
+    /// let (field, mut bytes) = (BigEndian::<u16>::from(0x0102), [9; 3]);
+    /// assert_eq!(field.write_at(&mut bytes, 1), Some(()));
+    /// assert_eq!(bytes, [9, 1, 2]);
+    /// assert_eq!(field.write_at(&mut bytes, 2), None);
+    /// ```
+    #[must_use]
+    #[inline]
+    pub fn write_at(&self, bytes: &mut [u8], offset: usize) -> Option<()>
+        ensures variant { IsSome result ↔ (offset + T.RAW_BYTE_LEN ≤ length bytes.old) }
+        ensures before { take offset bytes.new ≡ take offset bytes.old }
+        ensures bytes { IfSome result (λ _. take T.RAW_BYTE_LEN (drop offset bytes.new)
+            ≡ T.Raw.bytes (raw_value self.now)) }
+        ensures after { drop (offset + T.RAW_BYTE_LEN) bytes.new
+            ≡ drop (offset + T.RAW_BYTE_LEN) bytes.old }
+        ensures kept { IfNone result (bytes.new ≡ bytes.old) }
+    {
+        self.get().write_at(bytes, offset)
     }
 
     /// Decodes the value.

@@ -1,7 +1,8 @@
 //! Scalars and their big-endian bytes.
 #![tactic(auto, using(crate::proofs::StdBytes::std_bytes))]
 
-ghost use Rattle.std.specs.Prelude.{◌≡◌, ℕ, pos, Bool, List, IsTrue, IsSome, IfSome, ◌↔◌, ◌^◌};
+ghost use Rattle.std.specs.Prelude.{◌≡◌, ℕ, pos, Bool, List, IsTrue, IsSome, IfSome, IfNone};
+ghost use Rattle.std.specs.Prelude.{◌↔◌, ◌^◌};
 ghost use Rattle.std.specs.Prelude.{◌+◌, ◌%◌, ◌++◌, ◌≤◌, nat_eq, nat_lt, length, take, drop};
 ghost use Rattle.std.specs.Prelude.{flat_map};
 ghost use Rattle.std.proofs.Common.{rules, lit<};
@@ -253,7 +254,39 @@ pub trait Scalar: FixedSize {
             IsValueOf Self.Raw.bytes of_raw (take Self.RAW_BYTE_LEN (drop offset bytes.now)) v) }
         ensures value { IfSome result (λ v. IsTrue (is_scalar v)) }
     {
-        Self::read(bytes.get(offset..)?.get(..Self::RAW_BYTE_LEN)?)
+        Self::read(bytes.get(offset..offset.checked_add(Self::RAW_BYTE_LEN)?)?)
+    }
+
+    /// Writes the raw bytes at `offset`, or returns `None` and writes nothing if fewer than
+    /// `RAW_BYTE_LEN` bytes are left there.
+    ///
+    /// ```
+    /// use font_types::{Scalar, Tag};
+    /// let mut head = *b"\x00\x01\x00\x00....";
+    /// assert_eq!(Tag::new(b"head").write_at(&mut head, 4), Some(()));
+    /// assert_eq!(head, *b"\x00\x01\x00\x00head");
+    /// assert_eq!(Tag::new(b"hhea").write_at(&mut head, 5), None);
+    /// ```
+    #[must_use]
+    #[inline]
+    #[tactic(auto, using(std::proofs::lemmas::Slice::overwrites))]
+    fn write_at(self, bytes: &mut [u8], offset: usize) -> Option<()>
+        ensures variant { IsSome result ↔ (offset + Self.RAW_BYTE_LEN ≤ length bytes.old) }
+        ensures before { take offset bytes.new ≡ take offset bytes.old }
+        ensures bytes { IfSome result (λ _.
+            take Self.RAW_BYTE_LEN (drop offset bytes.new) ≡ Self.Raw.bytes (raw_of self)) }
+        ensures after { drop (offset + Self.RAW_BYTE_LEN) bytes.new
+            ≡ drop (offset + Self.RAW_BYTE_LEN) bytes.old }
+        ensures kept { IfNone result (bytes.new ≡ bytes.old) }
+    {
+        prove!(Self::RAW_BYTE_LEN == <Self::Raw as BeByteArray>::LEN);
+        let raw = self.to_raw();
+        let end = offset.checked_add(Self::RAW_BYTE_LEN)?;
+        if bytes.len() < end {
+            return None;
+        }
+        bytes[offset..end].copy_from_slice(raw.as_slice());
+        Some(())
     }
 
     // Encoding and decoding are inverse, and the encoded size is `RAW_BYTE_LEN`.

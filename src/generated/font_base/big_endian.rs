@@ -61,7 +61,23 @@ impl<T: Scalar> BigEndian<T> {
     #[must_use]
     #[inline]
     pub fn read_at(bytes: &[u8], offset: usize) -> Option<BigEndian<T>> {
-        BigEndian::from_slice(bytes.get(offset..)?.get(..T::RAW_BYTE_LEN)?)
+        BigEndian::from_slice(bytes.get(offset..offset.checked_add(T::RAW_BYTE_LEN)?)?)
+    }
+
+    /// Writes the field's bytes at `offset`, or returns `None` and writes nothing if fewer than
+    /// `RAW_BYTE_LEN` bytes are left there.
+    ///
+    /// ```
+    /// use font_types_proved::BigEndian;
+    /// let (field, mut bytes) = (BigEndian::<u16>::from(0x0102), [9; 3]);
+    /// assert_eq!(field.write_at(&mut bytes, 1), Some(()));
+    /// assert_eq!(bytes, [9, 1, 2]);
+    /// assert_eq!(field.write_at(&mut bytes, 2), None);
+    /// ```
+    #[must_use]
+    #[inline]
+    pub fn write_at(&self, bytes: &mut [u8], offset: usize) -> Option<()> {
+        self.get().write_at(bytes, offset)
     }
 
     /// Decodes the value.

@@ -174,7 +174,30 @@ pub trait Scalar: FixedSize {
     #[must_use]
     #[inline]
     fn read_at(bytes: &[u8], offset: usize) -> Option<Self> {
-        Self::read(bytes.get(offset..)?.get(..Self::RAW_BYTE_LEN)?)
+        Self::read(bytes.get(offset..offset.checked_add(Self::RAW_BYTE_LEN)?)?)
+    }
+
+    /// Writes the raw bytes at `offset`, or returns `None` and writes nothing if fewer than
+    /// `RAW_BYTE_LEN` bytes are left there.
+    ///
+    /// ```
+    /// use font_types_proved::{Scalar, Tag};
+    /// let mut head = *b"\x00\x01\x00\x00....";
+    /// assert_eq!(Tag::new(b"head").write_at(&mut head, 4), Some(()));
+    /// assert_eq!(head, *b"\x00\x01\x00\x00head");
+    /// assert_eq!(Tag::new(b"hhea").write_at(&mut head, 5), None);
+    /// ```
+    #[must_use]
+    #[inline]
+    fn write_at(self, bytes: &mut [u8], offset: usize) -> Option<()> {
+        const { assert!(Self::RAW_BYTE_LEN == <Self::Raw as BeByteArray>::LEN) };
+        let raw = self.to_raw();
+        let end = offset.checked_add(Self::RAW_BYTE_LEN)?;
+        if bytes.len() < end {
+            return None;
+        }
+        bytes[offset..end].copy_from_slice(raw.as_slice());
+        Some(())
     }
 }
 
