@@ -75,12 +75,9 @@ mod cross_type;
 mod derives;
 mod traits;
 
-// The code of these pages is compiled and run.
+// The code of this page is compiled and run; that of the repository's README.md, by `tools`.
 #[cfg(doctest)]
 #[doc = include_str!("../docs/PORTING.md")]
 mod porting {}
-#[cfg(doctest)]
-#[doc = include_str!("../README.md")]
-mod readme {}
 
 pub use font_types::*;

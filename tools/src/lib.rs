@@ -5,3 +5,8 @@ pub mod mutants;
 pub mod repository;
 pub mod requirements;
 pub mod widths;
+
+// The code of this page is compiled and run.
+#[cfg(doctest)]
+#[doc = include_str!("../../README.md")]
+mod readme {}

@@ -28,7 +28,7 @@ fn files_of_the_package() {
         let code = code.filter(|path| !path.contains("/tests"));
         code.chain(files(&format!("{folder}/specs"), ".antt"))
     });
-    let others = "CHANGELOG.md Cargo.toml LICENSE-APACHE LICENSE-MIT README.md docs/PORTING.md";
+    let others = "CHANGELOG.md Cargo.toml LICENSE-APACHE LICENSE-MIT docs/PORTING.md";
     let expected = source.chain(contracts);
     let expected = expected
         .chain(others.split(' ').map(String::from))
@@ -36,6 +36,16 @@ fn files_of_the_package() {
     let found = packed();
     let wrong: Vec<&String> = found.symmetric_difference(&expected).collect();
     assert!(wrong.is_empty(), "{wrong:?}");
+}
+
+/// Its pages link to no file: their links are addresses, or items that rustdoc finds.
+#[test]
+fn pages_of_the_package_link_to_no_file() {
+    for page in packed().iter().filter(|path| path.ends_with(".md")) {
+        for link in text(page).split("](").skip(1) {
+            assert!(link.starts_with("https:"), "{page}: {link:.40}");
+        }
+    }
 }
 
 #[test]
@@ -77,6 +87,9 @@ fn versions_are_alike() {
     ] {
         assert_eq!(version(path, "\nversion = \""), header, "{path}");
         assert!(text(path).contains("\npublish = false\n"), "{path}");
+    }
+    for path in ["Cargo.lock", "c/Cargo.lock", "tools/Cargo.lock"] {
+        assert_eq!(version(path, "\nversion = \""), header, "{path}");
     }
     let parts: Vec<u32> = header
         .split('.')
