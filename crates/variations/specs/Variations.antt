@@ -254,7 +254,7 @@ exact_advance regions subtable coordinates set advance =
     plus (whole (pos advance)) (exact_delta regions subtable coordinates set (region_index_count subtable))
 
 -- a varied advance differs from the exact one by at most half a font unit and the bound of the set's sum:
--- |varied - exact| <= 1/2 + (axes - 1/2) * (sum of |delta|) / 65536
+-- |varied - exact| <= 1/2 + (axes - 1/2) * (sum of |delta|) / 65536, or 1/2 if there are no axes
 abbrev pub IsNearAdvance : List ℕ → List ℕ → List F2Dot14 → ℕ → ℕ → ℤ → Type 0
 IsNearAdvance regions subtable coordinates set advance varied =
     IsOffBy (65536 + sum_halves regions subtable set (region_index_count subtable)) (varied *ℤ pos 65536)
