@@ -69,8 +69,10 @@ fn functions_of_numbers() {
 fn functions_of_bytes() {
     functions! { [u8; 3]: from_slice fn(&[u8]) -> Option<T>, as_slice fn(&T) -> &[u8], }
     functions! { Tag: from_raw fn([u8; 4]) -> T, to_raw fn(T) -> [u8; 4],
-    read fn(&[u8]) -> Option<T>, }
+    read fn(&[u8]) -> Option<T>, read_at fn(&[u8], usize) -> Option<T>,
+    write_at fn(T, &mut [u8], usize) -> Option<()>, }
     functions! { BigEndian<Tag>: new fn([u8; 4]) -> T, from_slice fn(&[u8]) -> Option<T>,
+    read_at fn(&[u8], usize) -> Option<T>, write_at fn(&T, &mut [u8], usize) -> Option<()>,
     get fn(&T) -> Tag, set fn(&mut T, Tag), be_bytes fn(&T) -> &[u8],
     eq_value fn(&T, &Tag) -> bool, }
     functions! { SampleHeader: decode fn(&[u8]) -> T, }
@@ -93,11 +95,11 @@ fn functions_of_ids() {
     is_reserved fn(T) -> bool, checked_add fn(T, u16) -> Option<T>,
     to_be_bytes fn(T) -> [u8; 2], }
     functions! { Offset16: new fn(u16) -> T, is_null fn(T) -> bool, to_u32 fn(T) -> u32,
-    eq_u32 fn(&T, &u32) -> bool, value_u32 fn(&T) -> u32, }
+    eq_u32 fn(&T, &u32) -> bool, value_u32 fn(&T) -> u32, to_usize fn(T) -> usize, }
     functions! { Offset24: new fn(Uint24) -> T, is_null fn(T) -> bool, to_u32 fn(T) -> u32,
-    eq_u32 fn(&T, &u32) -> bool, value_u32 fn(&T) -> u32, }
+    eq_u32 fn(&T, &u32) -> bool, value_u32 fn(&T) -> u32, to_usize fn(T) -> usize, }
     functions! { Offset32: new fn(u32) -> T, is_null fn(T) -> bool, to_u32 fn(T) -> u32,
-    eq_u32 fn(&T, &u32) -> bool, value_u32 fn(&T) -> u32, }
+    eq_u32 fn(&T, &u32) -> bool, value_u32 fn(&T) -> u32, to_usize fn(T) -> usize, }
     functions! { Nullable<Offset16>: offset fn(&T) -> &Offset16, is_null fn(&T) -> bool,
     eq_u32 fn(&T, &u32) -> bool, }
     functions! { LongDateTime: new fn(i64) -> T, as_secs fn(&T) -> i64,
