@@ -14,7 +14,7 @@ ghost use Rattle.font_ids.specs.FWord.{fword_number, fword_of, ufword_number, uf
 ghost use Rattle.font_ids.specs.FWord.{nearest_unit};
 
 use font_base::{FixedSize, IdentityEq, Scalar};
-use font_fixed::{F48Dot16, Fixed, nearest_step, nearest_sum};
+use font_fixed::{F48Dot16, Fixed, fitting_16, nearest_step, nearest_sum};
 use std::fmt;
 
 /// A signed 16-bit quantity in font design units.
@@ -94,14 +94,16 @@ impl FWord {
     /// ```
     #[must_use]
     #[inline]
-    pub fn checked_add_delta(self, delta: F48Dot16) -> Option<FWord>
+    pub const fn checked_add_delta(self, delta: F48Dot16) -> Option<FWord>
         ensures variant { IsSome result ↔ FitsBits 16
             (nearest_unit (fword_number self *ℤ pos 65536 +ℤ f48dot16_bits delta)) }
         ensures value { IfSome result (λ word. fword_number word
             ≡ nearest_unit (fword_number self *ℤ pos 65536 +ℤ f48dot16_bits delta)) }
     {
-        let moved = nearest_sum(i32::from(self.0), delta);
-        Some(FWord::new(i16::try_from(moved).ok()?))
+        match fitting_16(nearest_sum(self.0 as i32, delta)) {
+            Some(number) => Some(Self(number)),
+            None => None,
+        }
     }
 
     /// Returns the big-endian bytes.
@@ -268,7 +270,7 @@ impl UfWord {
     /// is out of range: `round_delta` of `apply_delta`, in 64 bits.
     #[must_use]
     #[inline]
-    pub fn checked_add_delta(self, delta: F48Dot16) -> Option<UfWord>
+    pub const fn checked_add_delta(self, delta: F48Dot16) -> Option<UfWord>
         ensures variant { IsSome result ↔ (
             (pos 0 ≤ℤ nearest_unit (pos (ufword_number self) *ℤ pos 65536 +ℤ f48dot16_bits delta))
             × (nearest_unit (pos (ufword_number self) *ℤ pos 65536 +ℤ f48dot16_bits delta)
@@ -276,8 +278,12 @@ impl UfWord {
         ensures value { IfSome result (λ word. pos (ufword_number word)
             ≡ nearest_unit (pos (ufword_number self) *ℤ pos 65536 +ℤ f48dot16_bits delta)) }
     {
-        let moved = nearest_sum(i32::from(self.0), delta);
-        Some(UfWord::new(u16::try_from(moved).ok()?))
+        let moved = nearest_sum(self.0 as i32, delta);
+        if moved < 0 || moved > 0xFFFF {
+            None
+        } else {
+            Some(Self(moved as u16))
+        }
     }
 
     /// Returns the big-endian bytes.

@@ -25,7 +25,8 @@ pub use formats::Format;
 pub use products::{low_bits, mul_div, product};
 use products::{nearest_mul_div, nearest_product};
 pub use reading::{read_bits_16, read_bits_32, read_bits_64};
-use rounding::{fitting_16, fitting_32, half_up_32, half_up_64, narrow_32, narrow_64};
 pub use rounding::{
-    floor_bits_16, floor_bits_32, floor_bits_64, round_bits_16, round_bits_32, round_bits_64,
+    fitting_16, floor_bits_16, floor_bits_32, floor_bits_64, round_bits_16, round_bits_32,
+    round_bits_64,
 };
+use rounding::{fitting_32, half_up_32, half_up_64, narrow_32, narrow_64};

@@ -85,7 +85,7 @@ pub(crate) const fn half_up_64(n: i64, f: u32) -> i64 {
 
 /// Returns the number, or `None` if it does not fit in 16 bits.
 #[inline(always)]
-pub(crate) const fn fitting_16(n: i32) -> Option<i16> {
+pub const fn fitting_16(n: i64) -> Option<i16> {
     if n < -0x8000 || n > 0x7FFF {
         None
     } else {

@@ -3,7 +3,7 @@
 //! 16-bit quantities in font design units.
 
 use crate::font_base::{FixedSize, IdentityEq, Scalar};
-use crate::font_fixed::{F48Dot16, Fixed, nearest_step, nearest_sum};
+use crate::font_fixed::{F48Dot16, Fixed, fitting_16, nearest_step, nearest_sum};
 use core::fmt;
 
 /// A signed 16-bit quantity in font design units.
@@ -71,9 +71,11 @@ impl FWord {
     /// ```
     #[must_use]
     #[inline]
-    pub fn checked_add_delta(self, delta: F48Dot16) -> Option<FWord> {
-        let moved = nearest_sum(i32::from(self.0), delta);
-        Some(FWord::new(i16::try_from(moved).ok()?))
+    pub const fn checked_add_delta(self, delta: F48Dot16) -> Option<FWord> {
+        match fitting_16(nearest_sum(self.0 as i32, delta)) {
+            Some(number) => Some(Self(number)),
+            None => None,
+        }
     }
 
     /// Returns the big-endian bytes.
@@ -198,9 +200,13 @@ impl UfWord {
     /// is out of range: `round_delta` of `apply_delta`, in 64 bits.
     #[must_use]
     #[inline]
-    pub fn checked_add_delta(self, delta: F48Dot16) -> Option<UfWord> {
-        let moved = nearest_sum(i32::from(self.0), delta);
-        Some(UfWord::new(u16::try_from(moved).ok()?))
+    pub const fn checked_add_delta(self, delta: F48Dot16) -> Option<UfWord> {
+        let moved = nearest_sum(self.0 as i32, delta);
+        if moved < 0 || moved > 0xFFFF {
+            None
+        } else {
+            Some(Self(moved as u16))
+        }
     }
 
     /// Returns the big-endian bytes.

@@ -117,7 +117,7 @@ impl F2Dot30 {
         ensures variant { IsSome result ↔ FitsBits 16 (up (bits_of self) (2 ^ 16)) }
         ensures value { IfSome result (λ narrow. f2dot14_bits narrow ≡ up (bits_of self) (2 ^ 16)) }
     {
-        match fitting_16(half_up_32(self.0, 16)) {
+        match fitting_16(half_up_32(self.0, 16) as i64) {
             Some(bits) => Some(F2Dot14::from_bits(bits)),
             None => None,
         }

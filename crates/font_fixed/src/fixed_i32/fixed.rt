@@ -209,7 +209,7 @@ impl Fixed {
         ensures variant { IsSome result ↔ FitsBits 16 (up (bits_of self) 4) }
         ensures value { IfSome result (λ narrow. f2dot14_bits narrow ≡ up (bits_of self) 4) }
     {
-        match fitting_16(half_up_32(self.0, 2)) {
+        match fitting_16(half_up_32(self.0, 2) as i64) {
             Some(bits) => Some(F2Dot14::from_bits(bits)),
             None => None,
         }
@@ -264,10 +264,12 @@ impl Fixed {
     /// Adds a sum of deltas and rounds to the nearest value, half up, or returns `None` if that is
     /// out of range: `round_delta` of `apply_delta`, in 64 bits.
     ///
+    /// A delta of 1 is one unit of the raw value, `1 / 65536`.
+    ///
     /// ```
     /// use font_types::{F48Dot16, Fixed};
-    /// let delta = F48Dot16::from_bits(0x2_8000);
-    /// assert_eq!(Fixed::ONE.checked_add_delta(delta), Some(Fixed::from_bits(0x1_0003)));
+    /// let moved = Fixed::ONE.checked_add_delta(F48Dot16::ONE);
+    /// assert_eq!(moved, Some(Fixed::from_bits(0x1_0001)));
     /// ```
     #[must_use]
     #[inline]
@@ -304,7 +306,7 @@ pub fn nearest_step(moved: i128) -> i128
 
 /// Returns the sum of an integer and a delta, rounded to the nearest integer, half up.
 #[must_use]
-#[inline]
+#[inline(always)]
 pub const fn nearest_sum(number: i32, delta: F48Dot16) -> i64
     ensures { result ≡ up (number *ℤ pos 65536 +ℤ f48dot16_bits delta) 65536 }
 {
@@ -312,7 +314,7 @@ pub const fn nearest_sum(number: i32, delta: F48Dot16) -> i64
 }
 
 // Rounds to the nearest integer, half up.
-#[inline]
+#[inline(always)]
 #[tactic(auto, using(crate::proofs::Deltas::few_integers))]
 const fn nearest_integer(delta: F48Dot16) -> i64
     ensures value { result ≡ up (f48dot16_bits delta) 65536 }

@@ -4,7 +4,7 @@
 
 use super::FixedI16;
 use crate::font_fixed::formats::Format;
-use crate::font_fixed::{F48Dot16, Fixed, nearest_step, nearest_sum};
+use crate::font_fixed::{F48Dot16, Fixed, fitting_16, nearest_step, nearest_sum};
 
 /// A signed 2.14 fixed-point number, such as a coordinate of a normalized design space.
 ///
@@ -75,11 +75,20 @@ impl F2Dot14 {
 
     /// Adds a sum of deltas and rounds to the nearest value, half up, or returns `None` if that is
     /// out of range: `round_delta` of `apply_delta`, in 64 bits.
+    ///
+    /// A delta of 1 is one unit of the raw value, `1 / 16384`.
+    ///
+    /// ```
+    /// use font_types_proved::{F2Dot14, F48Dot16};
+    /// let moved = F2Dot14::ONE.checked_add_delta(F48Dot16::ONE);
+    /// assert_eq!(moved, Some(F2Dot14::from_bits(0x4001)));
+    /// ```
     #[must_use]
     #[inline]
-    pub fn checked_add_delta(self, delta: F48Dot16) -> Option<Self> {
-        Some(Self(
-            i16::try_from(nearest_sum(i32::from(self.0), delta)).ok()?,
-        ))
+    pub const fn checked_add_delta(self, delta: F48Dot16) -> Option<Self> {
+        match fitting_16(nearest_sum(self.0 as i32, delta)) {
+            Some(bits) => Some(Self(bits)),
+            None => None,
+        }
     }
 }

@@ -86,7 +86,7 @@ impl F2Dot30 {
     #[must_use]
     #[inline]
     pub const fn checked_to_f2dot14(self) -> Option<F2Dot14> {
-        match fitting_16(half_up_32(self.0, 16)) {
+        match fitting_16(half_up_32(self.0, 16) as i64) {
             Some(bits) => Some(F2Dot14::from_bits(bits)),
             None => None,
         }

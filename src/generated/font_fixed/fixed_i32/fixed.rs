@@ -151,7 +151,7 @@ impl Fixed {
     #[must_use]
     #[inline]
     pub const fn checked_to_f2dot14(self) -> Option<F2Dot14> {
-        match fitting_16(half_up_32(self.0, 2)) {
+        match fitting_16(half_up_32(self.0, 2) as i64) {
             Some(bits) => Some(F2Dot14::from_bits(bits)),
             None => None,
         }
@@ -197,10 +197,12 @@ impl Fixed {
     /// Adds a sum of deltas and rounds to the nearest value, half up, or returns `None` if that is
     /// out of range: `round_delta` of `apply_delta`, in 64 bits.
     ///
+    /// A delta of 1 is one unit of the raw value, `1 / 65536`.
+    ///
     /// ```
     /// use font_types_proved::{F48Dot16, Fixed};
-    /// let delta = F48Dot16::from_bits(0x2_8000);
-    /// assert_eq!(Fixed::ONE.checked_add_delta(delta), Some(Fixed::from_bits(0x1_0003)));
+    /// let moved = Fixed::ONE.checked_add_delta(F48Dot16::ONE);
+    /// assert_eq!(moved, Some(Fixed::from_bits(0x1_0001)));
     /// ```
     #[must_use]
     #[inline]
@@ -227,13 +229,13 @@ pub fn nearest_step(moved: i128) -> i128 {
 
 /// Returns the sum of an integer and a delta, rounded to the nearest integer, half up.
 #[must_use]
-#[inline]
+#[inline(always)]
 pub const fn nearest_sum(number: i32, delta: F48Dot16) -> i64 {
     number as i64 + nearest_integer(delta)
 }
 
 // Rounds to the nearest integer, half up.
-#[inline]
+#[inline(always)]
 const fn nearest_integer(delta: F48Dot16) -> i64 {
     half_up_64(delta.to_bits(), 16)
 }
