@@ -157,6 +157,7 @@ where
         [number == 0; 2],
         "{number:#X}"
     );
+    assert_eq!(offset.to_usize(), number as usize, "{number:#X}");
     assert_eq!(nullable == Nullable::default(), number == 0, "{number:#X}");
     assert_eq!(
         nullable.get(),

@@ -339,6 +339,23 @@ pub trait OffsetValue: Copy {
     fn value_u32(&self) -> u32
         ensures { result ≡ number_of self.now };
 
+    /// Returns the number as an index.
+    ///
+    /// ```
+    /// use font_types::{OffsetValue, Scalar};
+    /// fn rest<T: Scalar + OffsetValue>(table: &[u8]) -> Option<&[u8]> {
+    ///     table.get(T::read_at(table, 0)?.to_usize()..)
+    /// }
+    /// assert_eq!(rest::<font_types::Offset16>(&[0, 3, 9, 8]), Some(&[8][..]));
+    /// ```
+    #[must_use]
+    #[inline]
+    fn to_usize(self) -> usize
+        ensures { result ≡ number_of self }
+    {
+        self.value_u32() as usize
+    }
+
     // Null is zero.
     ghost null_is_zero: { number_of NULL ≡ 0 };
 }

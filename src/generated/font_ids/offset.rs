@@ -250,6 +250,21 @@ pub trait OffsetValue: Copy {
     /// Returns the number.
     #[must_use]
     fn value_u32(&self) -> u32;
+
+    /// Returns the number as an index.
+    ///
+    /// ```
+    /// use font_types_proved::{OffsetValue, Scalar};
+    /// fn rest<T: Scalar + OffsetValue>(table: &[u8]) -> Option<&[u8]> {
+    ///     table.get(T::read_at(table, 0)?.to_usize()..)
+    /// }
+    /// assert_eq!(rest::<font_types_proved::Offset16>(&[0, 3, 9, 8]), Some(&[8][..]));
+    /// ```
+    #[must_use]
+    #[inline]
+    fn to_usize(self) -> usize {
+        self.value_u32() as usize
+    }
 }
 
 impl OffsetValue for Offset16 {
