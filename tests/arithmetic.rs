@@ -7,7 +7,8 @@ use exact::{fits, near, up, wrap};
 use font_types_proved::laws::step_and_halves;
 use font_types_proved::*;
 use std::fmt::Debug;
-use std::ops::{Div, DivAssign, Mul, MulAssign};
+// With all operators in scope, a method that has the name of one is still found.
+use std::ops::*;
 
 /// Returns the integers of a width that are next to zero, to a limit or to a power of two. Ties of
 /// rounding are among them.
@@ -321,7 +322,6 @@ fn sums_of_deltas() {
         extended.extend([(Fixed::EPSILON, 1)]);
         assert_eq!(extended, other, "{terms:?}");
         let twice = i64::try_from(2 * exact + 1).ok().map(F48Dot16::from_bits);
-        assert_eq!((sum + other).checked_finish(), twice, "{terms:?}");
         other += sum;
         assert_eq!(other.checked_finish(), twice, "{terms:?}");
     }
@@ -484,6 +484,13 @@ fn constants_by_calls() {
     assert_eq!(NARROW, right);
     const UNITS: Option<Fixed> = UfWord::new(40000).checked_to_fixed();
     assert_eq!(UNITS, None);
+    const MOVED: (Option<FWord>, Option<UfWord>, Option<F2Dot14>) = (
+        FWord::new(-1).checked_add_delta(DELTA),
+        UfWord::new(0xFFFF).checked_add_delta(DELTA),
+        F2Dot14::ZERO.checked_add_delta(DELTA),
+    );
+    let two = F2Dot14::from_bits(2);
+    assert_eq!(MOVED, (Some(FWord::new(1)), None, Some(two)));
     const OFFSET: (u32, bool, bool) = {
         let offset = Offset16::new(7);
         (offset.to_u32(), offset.is_null(), offset.eq_u32(&7))

@@ -11,12 +11,12 @@ ghost use Rattle.font_types.specs.Delta.{exact_sum, sum_in_range, term_product, 
 
 use font_fixed::{F48Dot16, Fixed};
 use font_ids::FWord;
-use std::ops::{Add, AddAssign};
+use std::ops::AddAssign;
 
 /// An accumulator for products of scalars and deltas.
 ///
-/// The sum is a 16.16 raw value in 128 bits, enough for any `2^65 - 1` terms in any order; beyond
-/// that it may wrap.
+/// The sum is a 16.16 raw value in 128 bits, enough for any `2^65 - 1` terms in any order. A larger
+/// one, as `+=` of sums can make it, is taken modulo `2^128`.
 ///
 /// ```
 /// use font_types::{DeltaSum, Fixed};
@@ -82,7 +82,7 @@ impl DeltaSum {
         F48Dot16::from_bits(((self.steps << 64) >> 64) as i64)
     }
 
-    /// Returns the sum, or `None` if it does not fit in 64 bits.
+    /// Returns the sum, as it is modulo `2^128`, or `None` if that does not fit in 64 bits.
     #[must_use]
     #[inline]
     pub fn checked_finish(self) -> Option<F48Dot16>
@@ -94,32 +94,16 @@ impl DeltaSum {
     }
 }
 
-/// Adds the sum of other terms, wrapped to 128 bits.
-impl Add for DeltaSum {
-    type Output = DeltaSum;
-
-    ghost use Rattle.font_types.specs.DeltaSum.{steps_of};
-
-    ghost add_gives = { λ x y sum. WrapsTo 128 (steps_of x +ℤ steps_of y) (steps_of sum) };
-
-    #[inline]
-    #[tactic(auto, using(crate::proofs::SumCalls::delta_sum_calls))]
-    fn add(self, other: DeltaSum) -> DeltaSum {
-        DeltaSum {
-            steps: self.steps.wrapping_add(other.steps),
-        }
-    }
-}
-
-/// Adds the sum of other terms, wrapped to 128 bits.
+/// Adds the sum of other terms, modulo `2^128`.
 impl AddAssign for DeltaSum {
     ghost use Rattle.font_types.specs.DeltaSum.{steps_of};
 
     ghost add_assign_gives = { λ x y sum. WrapsTo 128 (steps_of x +ℤ steps_of y) (steps_of sum) };
 
     #[inline]
+    #[tactic(auto, using(crate::proofs::SumCalls::delta_sum_calls))]
     fn add_assign(&mut self, other: DeltaSum) {
-        *self = *self + other;
+        self.steps = self.steps.wrapping_add(other.steps);
     }
 }
 

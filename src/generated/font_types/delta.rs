@@ -4,12 +4,12 @@
 
 use crate::font_fixed::{F48Dot16, Fixed};
 use crate::font_ids::FWord;
-use core::ops::{Add, AddAssign};
+use core::ops::AddAssign;
 
 /// An accumulator for products of scalars and deltas.
 ///
-/// The sum is a 16.16 raw value in 128 bits, enough for any `2^65 - 1` terms in any order; beyond
-/// that it may wrap.
+/// The sum is a 16.16 raw value in 128 bits, enough for any `2^65 - 1` terms in any order. A larger
+/// one, as `+=` of sums can make it, is taken modulo `2^128`.
 ///
 /// ```
 /// use font_types_proved::{DeltaSum, Fixed};
@@ -54,7 +54,7 @@ impl DeltaSum {
         F48Dot16::from_bits(((self.steps << 64) >> 64) as i64)
     }
 
-    /// Returns the sum, or `None` if it does not fit in 64 bits.
+    /// Returns the sum, as it is modulo `2^128`, or `None` if that does not fit in 64 bits.
     #[must_use]
     #[inline]
     pub fn checked_finish(self) -> Option<F48Dot16> {
@@ -63,23 +63,11 @@ impl DeltaSum {
     }
 }
 
-/// Adds the sum of other terms, wrapped to 128 bits.
-impl Add for DeltaSum {
-    type Output = DeltaSum;
-
-    #[inline]
-    fn add(self, other: DeltaSum) -> DeltaSum {
-        DeltaSum {
-            steps: self.steps.wrapping_add(other.steps),
-        }
-    }
-}
-
-/// Adds the sum of other terms, wrapped to 128 bits.
+/// Adds the sum of other terms, modulo `2^128`.
 impl AddAssign for DeltaSum {
     #[inline]
     fn add_assign(&mut self, other: DeltaSum) {
-        *self = *self + other;
+        self.steps = self.steps.wrapping_add(other.steps);
     }
 }
 
