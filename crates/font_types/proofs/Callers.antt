@@ -41,7 +41,6 @@ pub use Rattle.font_types.proofs.Searches.{found_by_number}
 pub use Rattle.font_types.proofs.SumCalls.{running_total, running_total_from}
 pub use Rattle.font_types.proofs.Below.{hex_padded}
 pub use Rattle.font_types.proofs.Parts.{quotient_of_widened}
-pub use Rattle.font_types.proofs.Written.{written}
 pub use Rattle.font_types.specs.Json.Laws.{fixed_form, signed_form, unsigned_form, tag_form, version_form_of}
 
 -- numbers that fit, sums with 0, products with 0 and 1, quotients, and `mul_div`

@@ -7,5 +7,4 @@ pub mod Parts
 pub mod Narrowed
 pub mod ArrayNumbers
 pub mod Below
-pub mod Written
 pub mod Callers

@@ -111,8 +111,8 @@ fn arrays_searched(rt: HostRuntime) -> Result<(), Fail> {
 #[test]
 fn bytes_of_tables(rt: HostRuntime) {
     let mut bytes = [1, 2, 3, 4, 5, 6, 7];
-    write_word(&mut bytes, 2, 0xB1B0_AFBA);
-    assert!(rt; bytes == [1, 2, 0xB1, 0xB0, 0xAF, 0xBA, 7]);
+    let written = write_word(&mut bytes, 2, 0xB1B0_AFBA);
+    assert!(rt; written.is_some() && bytes == [1, 2, 0xB1, 0xB0, 0xAF, 0xBA, 7]);
     assert!(rt; table_bytes(&bytes, 5, 2) == Some(&[0xBA, 7]));
     let found = metric(&[2, 0, 0, 10, 1, 0, 0xFF, 0xFF], GlyphId16::new(1));
     let fields = found.map(|m| (m.advance_width.to_u16(), m.left_side_bearing.to_i16()));
