@@ -25,6 +25,7 @@ cargo test --quiet --manifest-path tools/Cargo.toml
 cargo test --quiet --release --manifest-path compare/Cargo.toml
 cargo test --quiet --release --test program --test original --test preconditions
 cc -shared -fPIC -o refuse.so tools/refuse.c
+python3 tools/mir
 rt ci";
 
 /// The command that may fail.
@@ -46,6 +47,8 @@ case $CARGO_TARGET_DIR in "$TMPDIR"/*) ;; *) exit 1 ;; esac
 case $call in
 c/check)
     [ "$WRONG" != no-freetype ] || echo "left out: FreeType" ;;
+"python3 tools/mir")
+    [ "$WRONG" != other-rustc ] || echo "left out: MIR" ;;
 "font_types_tests --list")
     [ "$WRONG" = no-test ] || grep -A1 '^#\[test\]' crates/font_types/src/tests/memory.rt |
         sed -n 's/^fn \(.*\)(.*/tests::memory::\1: test/p'
@@ -79,7 +82,7 @@ const FAULTS: &str = "one-test no-test last-test early-answer message other-stat
 
 /// The tools without which the gate fails, and those that it can do without.
 const REQUIRED: [&str; 6] = ["cargo", "rustfmt", "cargo-clippy", "cc", "make", "rt"];
-const OPTIONAL: [&str; 5] = ["c++", "pkg-config", "nm", "readelf", "ldd"];
+const OPTIONAL: [&str; 6] = ["c++", "pkg-config", "nm", "readelf", "ldd", "python3"];
 
 /// What the gate and its stand-ins call of the system.
 const SYSTEM: &str =
@@ -231,10 +234,14 @@ fn gate_names_what_it_leaves_out() {
     let calls = passed(gate.run_with(&[("FONT_TYPES_DIR", "/ft")]), "nothing");
     let given = "compare/Cargo.toml --offline --config patch.crates-io.font-types.path=\"/ft\"";
     assert_eq!(calls.iter().filter(|call| call.ends_with(given)).count(), 2);
+    passed(gate.run("", "other-rustc"), "MIR");
     for tool in OPTIONAL {
-        let left_out = format!("the library for C, which needs {tool}");
-        let calls = passed(gate.run_without(tool), &left_out);
-        assert!(!calls.contains(&"c/check".to_string()), "{tool}");
+        let (call, what) = match tool {
+            "python3" => ("python3 tools/mir", "the comparison of MIR"),
+            _ => ("c/check", "the library for C"),
+        };
+        let calls = passed(gate.run_without(tool), &format!("{what}, which needs {tool}"));
+        assert!(!calls.contains(&call.to_string()), "{tool}");
     }
 }
 
