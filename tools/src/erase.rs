@@ -6,7 +6,7 @@
 //! - ghost items: `ghost use ..;`, and `ghost NAME`, what it is, and its `,` or `;`;
 //! - `#[tactic(..)]`, `#[cfg(test)] mod tests;`, and the bound `+ Drop`;
 //! - `Drop` and `Error` at the end of a `derive(..)`, and `#[error(..)]`;
-//! - the modules that `tree.rs` lists for a crate, and the imports and statements of `UNUSED`;
+//! - the modules that `tree.rs` lists for a crate, the imports of `UNUSED`, and each `let _bytes`;
 //! - the comments above a clause or an item that is left out, and the lines that mark what the
 //!   widths of fixed-point numbers have alike.
 //!
@@ -26,13 +26,11 @@
 //! `Display` and `Error` of a type that derives `Error` are added, and in each file of the program
 //! the import of what Rattle has in scope.
 //!
-//! Else a file has the macros, attributes, derives, modules of `std`, items and imports of a form
-//! in `language.rs`: another is an [`Error`]. So are names that it lists, and a change in a macro's
-//! arguments. What is neither, rustc reads as it is.
+//! What else could mean something else in Rust is an [`Error`], as far as `language.rs` knows it.
+//! That the two mean the same is for `tools/mir` to say, which compares what compilers make of them.
 
 mod errors;
 mod language;
-mod left_out;
 mod tokens;
 mod tree;
 
@@ -40,7 +38,6 @@ use crate::widths;
 use std::ops::Range;
 use tokens::{Kind, Token, tokens};
 
-pub use left_out::check_left_out;
 pub use tokens::Error;
 pub use tree::{LIBRARY, generated_files, tree};
 
@@ -158,11 +155,9 @@ impl<'a> Eraser<'a> {
             ["#", ..] => self.attribute(at, at + 1),
             ["pub" | "ghost" | "mod" | "use", ..] => self.item(at),
             ["fn", name, ..] if name != "(" => self.function(at),
-            ["let", name, ..] if name.starts_with('_') && name.len() > 1 => {
+            // A fact for a proof. Only of the library does `tools/mir` see that it is no more.
+            ["let", "_bytes", ..] if self.of.target == Target::Library => {
                 let end = self.item_end(at)?;
-                if !self.is_unused(at, end) {
-                    return self.error(at, "a `let _name` that is not in `UNUSED`");
-                }
                 Ok(self.leave_out_with_comments(at..end))
             }
             ["Formatter", "<", "W", ">", ..] if self.is_of_writer(at) => {
@@ -215,7 +210,11 @@ impl<'a> Eraser<'a> {
             _ => at,
         };
         let end = match self.words[item..] {
-            ["ghost", "use", ..] => self.item_end(item)?,
+            ["ghost", "use", ..] => {
+                let end = self.item_end(item)?;
+                self.check_logic(item, end)?;
+                end
+            }
             ["ghost", ..] => self.ghost_end(item)?,
             ["mod", name, ";", ..] if self.is_root && self.of.left_out.contains(&name) => item + 3,
             ["use", ..] if self.is_unused(item, self.item_end(item)?) => self.item_end(item)?,
@@ -236,8 +235,14 @@ impl<'a> Eraser<'a> {
     fn attribute(&mut self, at: usize, open: usize) -> Result<usize, Error> {
         let end = self.group_end(open)?;
         let is_kept = match self.words[open + 1..end] {
-            ["error", "(", text, ..] if text.contains("{{") || text.contains('\\') => {
-                return self.error(open + 3, "`{{` or an escape in the text of an error");
+            // `f` is the formatter, and of `n$` rustc looks outside of the type.
+            ["error", "(", text, ..]
+                if ["{{", "{f}", "{f:", "$", "\\"]
+                    .iter()
+                    .any(|it| text.contains(it)) =>
+            {
+                let what = "`{{`, `{f`, `$` or an escape in the text of an error";
+                return self.error(open + 3, what);
             }
             ["tactic" | "error", ..] => false,
             ["cfg", "(", "test", ")", "]"] => match self.words[end..] {
@@ -368,20 +373,30 @@ impl<'a> Eraser<'a> {
         Ok(end + 1)
     }
 
-    // The end of a group of logic. Comments of the logic are unknown here.
+    // The end of a group of logic.
     fn logic_end(&self, at: usize) -> Result<usize, Error> {
         if self.words.get(at) != Some(&"{") {
             return self.error(at, "a clause or a ghost item of another form");
         }
         let end = self.group_end(at)?;
+        self.check_logic(at, end)?;
+        Ok(end)
+    }
+
+    // Checks that the logic ends where this text does: its comments, which begin with `--` or `{-`,
+    // are unknown here, and it has no `r".."` or `'x'`, of which the text may end elsewhere.
+    fn check_logic(&self, at: usize, end: usize) -> Result<(), Error> {
         let mut pairs = self.words[at..end].windows(2);
         let mut inside = self.tokens[self.places[at]..self.places[end - 1]].iter();
-        if pairs.any(|pair| matches!(pair, ["-" | "{", "-"]))
-            || inside.any(|token| matches!(token.kind, Kind::Comment | Kind::Head | Kind::Doc))
-        {
-            return self.error(at, "a comment in a clause or a ghost item");
+        let is_other = |token: &Token| match token.kind {
+            Kind::Space => false,
+            Kind::Code => !token.text.starts_with('"') && token.text.contains(['"', '\'']),
+            _ => true,
+        };
+        if pairs.any(|pair| matches!(pair, ["-" | "{", "-"])) || inside.any(is_other) {
+            return self.error(at, "a comment or a raw text in a clause or a ghost item");
         }
-        Ok(end)
+        Ok(())
     }
 
     // `requires` or `ensures`, a name or none, and what it says.

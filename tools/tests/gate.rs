@@ -240,7 +240,10 @@ fn gate_names_what_it_leaves_out() {
             "python3" => ("python3 tools/mir", "the comparison of MIR"),
             _ => ("c/check", "the library for C"),
         };
-        let calls = passed(gate.run_without(tool), &format!("{what}, which needs {tool}"));
+        let calls = passed(
+            gate.run_without(tool),
+            &format!("{what}, which needs {tool}"),
+        );
         assert!(!calls.contains(&call.to_string()), "{tool}");
     }
 }

@@ -1,5 +1,6 @@
-//! The language: what a kept file may have, which is what the source has today. A form that means
-//! the same in Rust is added to the list or the function that its error names.
+//! Forms that Rust could read in another way than Rattle, which are errors. Lists name what is known
+//! to mean the same, and an error names the list. Of any other form, rustc says whether it is Rust,
+//! and `tools/mir` compares what it becomes; not so in the program and in the library for C.
 
 use super::{Eraser, Error, Target, is_crate};
 
@@ -13,10 +14,8 @@ const ATTRIBUTES: &str = "ATTRIBUTES: doc(hidden)] inline(always)] inline(never)
 /// What is derived, beside `Drop` and `Error`.
 const DERIVES: &str = "DERIVES: Clone Copy Debug Default Eq Hash Ord PartialEq PartialOrd";
 
-/// The statements and imports that only a proof uses, or Rust does not have.
-const UNUSED: &str = "UNUSED: let_bytes=each_is_byte(self); let_bytes=each_is_byte(slice); \
-     let_bytes=raw.as_slice(); let_bytes=font_base::BeByteArray::as_slice(&self.0); \
-     let_bytes=each_is_byte(raw.as_slice()); usecrate::facts::each_is_byte; usethiserror::Error; \
+/// The imports that only a proof uses, or Rust does not have.
+const UNUSED: &str = "UNUSED: usecrate::facts::each_is_byte; usethiserror::Error; \
      usecrate::json::round_trip; usejson::{JsonFault,JsonScalar}; usestd::alloc::AllocError;";
 
 /// The modules of `std`.
@@ -26,9 +25,6 @@ const STD: &str = "STD: alloc cmp error fmt hash io iter marker ops process slic
 const OTHERS: &str = "Drop JsonFault JsonScalar _bytes assert core each_is_byte font_types_proved \
      round_trip thiserror Layout RangeFrom align_of align_of_val needs_drop size_of size_of_val \
      type_name type_name_of_val";
-
-/// An `as_slice` and an `each_is_byte`, which have no effect.
-const PURE: [&str; 2] = ["as_slice(&self)->&[u8]", "each_is_byte(slice:&[u8])"];
 
 impl Eraser<'_> {
     /// Refuses the form at this place, if it is not of the language.
@@ -65,13 +61,24 @@ impl Eraser<'_> {
             ["pub", "(", ..] => "`pub(..)` of something else than a function",
             // Of another name it could be one that rustc calls, as `memcmp`.
             ["extern", "\"C\"", "fn", name, ..] if name.starts_with("fty_") => return Ok(()),
-            [name, "::", ..] if self.of.left_out.contains(&name) => "a name of what is left out",
             ["extern", ..] => "`extern` of something else than `fty_..`",
             ["unsafe", _, "std", _, "str", _, "from_utf8_unchecked", ..] => return Ok(()),
             ["unsafe", ..] => "`unsafe` of something else than `from_utf8_unchecked`",
             // It returns another type.
-            ["clone" | "clone_from" | "cloned" | "to_owned", ..] if is_used => "a use of `clone`",
-            ["fn", ..] if !is_pure(&self.words[at + 1..]) => "such an `as_slice`, `each_is_byte`",
+            [
+                "clone" | "clone_from" | "cloned" | "repeat_n" | "to_owned",
+                ..,
+            ] if is_used => "a use of `clone`",
+            // Rust passes the bytes of a slice in one call, and Rattle in one for each.
+            ["Hasher", "for", ..] => "a `Hasher` of one's own",
+            // Rattle does not read it if each field is written: `..v[n]` may be past the end.
+            [",", ".", ".", name, next, ..]
+                if is_name(name) && !matches!(next, "}" | "]" | ")") =>
+            {
+                "a base or an end of a range that is not a name"
+            }
+            // Rust may ask the left one once less.
+            [".", "zip", ..] if !before.ends_with(&["iter", "(", ")"]) => "`zip` of a closure",
             ["std", "::", module, ..] if self.is_start(at) => return self.check(at, module, STD),
             ["crate", ")", ..] if before.ends_with(&["pub", "("]) => return Ok(()),
             [name, "::", ..] if is_root(name) && self.is_start(at) => return Ok(()),
@@ -101,7 +108,7 @@ impl Eraser<'_> {
         names.try_for_each(|name| self.check(name, self.words[name], DERIVES))
     }
 
-    /// Whether a statement or an import is one that is left out. The program has `AllocError`.
+    /// Whether an import is one that is left out. The program has `AllocError`.
     pub(super) fn is_unused(&self, at: usize, end: usize) -> bool {
         let is_kept = self.words[at + 1] == "std" && self.of.target == Target::Program;
         !is_kept && self.check_words(at, end, UNUSED).is_ok()
@@ -165,17 +172,8 @@ impl Eraser<'_> {
     }
 }
 
-/// Whether the function of which this is the name, if a `let` of it is left out, has no effect.
-pub fn is_pure(words: &[&str]) -> bool {
-    let text: String = words.iter().take(12).copied().collect();
-    let mut forms = PURE
-        .iter()
-        .map(|form| form.split_at(form.find('(').unwrap_or(0)));
-    forms.all(|(name, after)| words.first() != Some(&name) || text[name.len()..].starts_with(after))
-}
-
-/// Whether an item may begin at this place, not a type such as `impl Copy`.
-pub fn is_item(words: &[&str], at: usize) -> bool {
+// Whether an item may begin at this place, not a type such as `impl Copy`.
+fn is_item(words: &[&str], at: usize) -> bool {
     let types = [">", ":", "&", "(", ",", "<", "=", "+"];
     at == 0 || !types.contains(&words[at - 1])
 }

@@ -1,6 +1,6 @@
 //! The generated files of the repository.
 
-use super::{Crate, Error, Target, check_left_out, erase};
+use super::{Crate, Error, Target, erase};
 use crate::repository;
 use std::collections::BTreeMap;
 use std::io::Write;
@@ -47,7 +47,6 @@ pub fn tree() -> Result<BTreeMap<String, String>, String> {
         let from = format!("crates/{name}/src");
         let to = folder(name, target);
         add_file(&mut files, &of, [&from, root], [&to, "mod"])?;
-        check_others(&files, &from)?;
     }
     Ok(files)
 }
@@ -62,17 +61,6 @@ pub fn generated_files() -> Vec<String> {
 fn crates() -> impl Iterator<Item = (&'static str, Target, &'static [&'static str])> {
     let library = LIBRARY.map(|(name, left_out)| (name, Target::Library, left_out));
     library.into_iter().chain(ABOVE)
-}
-
-// Checks the files of a crate that are left out: its tests are too.
-fn check_others(files: &BTreeMap<String, String>, from: &str) -> Result<(), String> {
-    for path in repository::files(from, ".rt") {
-        let head = format!("// @generated from {path} ");
-        if !files.values().any(|rust| rust.starts_with(&head)) {
-            check_left_out(&repository::text(&path)).map_err(|error| message(&path, error))?;
-        }
-    }
-    Ok(())
 }
 
 fn message(source: &str, Error { line, what }: Error) -> String {
