@@ -125,7 +125,7 @@ def proved_bodies(library):
 def events(bodies, has_for=False):
     """Returns how often each event occurs under each condition, as the other side has it."""
     found = collections.Counter()
-    for (event, guard), count in (it for body in bodies for it in body.function.events().items()):
+    for (event, guard), count in (it for body in bodies for it in body.events().items()):
         for pattern, into in SAME:
             event = pattern.sub(into, event)
         if event:
@@ -164,7 +164,7 @@ def alone_in_rattle(name, bodies, rust):
     """Returns why only Rattle has a function, or None."""
     if module_of(name) not in rust.modules:
         return "its file is left out"
-    found = [event for body in bodies for event, _ in body.function.events().elements()]
+    found = [event for body in bodies for event, _ in body.events().elements()]
     owner, method = name.split("::")[-2:]
     if not found:
         return "a trait declares it"

@@ -2,10 +2,19 @@
 
 import re
 
-from functions import Function, bound, two, width
+from functions import Function, integer, two, width
 
-OPERATORS = {"BitAnd": "And", "BitOr": "Or", "BitXor": "Xor"}
 PLACE = re.compile(r"<impl at ([^:>]*):(\d+):(\d+): (\d+):(\d+)>")
+COPY = re.compile(r"(?:move|copy) (_\d+)$")
+NUMBER = re.compile(r"const (-?\d+)_(\w+)$")
+OPERATOR = re.compile(
+    r"(Not|Neg|Add|Sub|Mul|Div|Rem|BitAnd|BitOr|BitXor|Shl|Shr|Eq|Ne|Lt|Le|Gt|Ge)\((.*)\)$"
+)
+
+# What a `for` calls, and an index that is a range.
+INTO_ITER = re.compile(r"<&(?:mut )?\[.*?(?:; (\d+))?\] as .*::into_iter$|<core::ops::Range<(\w+)> as .*::into_iter$")
+NEXT = re.compile(r"<core::(?:slice::Iter|ops::Range)<.*> as core::iter::Iterator>::next$")
+INDEX = re.compile(r"<\[.*?(?:; (\d+))?\] as core::ops::Index(?:Mut)?<core::ops::(\w+)<.*::index")
 
 
 def outside(text):
@@ -34,13 +43,13 @@ def path_of(text):
     return text[: next(ends, len(text))]
 
 
+def names(path):
+    """Returns the names of a path, without what is in brackets."""
+    return [it.split("<")[0] for it in split(path, "::") if not it.startswith("<")]
+
+
 def last(path):
-    """Returns the last name of a path, without what is in brackets."""
-    return [it for it in split(path, "::") if not it.startswith("<")][-1].split("<")[0]
-
-
-COPY = re.compile(r"(?:move|copy) (_\d+)$")
-NUMBER = re.compile(r"const (-?\d+)_(\w+)$")
+    return names(path)[-1]
 
 
 class Text:
@@ -164,210 +173,183 @@ class Impl:
 def constant(path):
     """Returns the module and the name of a constant, without its type, which rustc writes in three
     ways."""
-    names = [it for it in split(path, "::") if not it.startswith("<")]
-    return "::".join(it for it in names[:-1] if it[:1].islower()), names[-1]
+    found = names(path)
+    return "::".join(it for it in found[:-1] if it[:1].islower()), found[-1]
 
 
-class Body:
+class Body(Function):
     """Reads the body of a function or a constant."""
 
     def __init__(self, text, name, within=()):
-        self.text, self.lines, self.locals = text, text.lines[name], text.locals[name]
-        self.within, self.function = (*within, name), Function()
-        self.indices = {it for line in self.lines for it in re.findall(r"\[(_\d+)\]", line)}
-        found = [it.groups() for it in (re.match(r"(_\d+) = (.*);$", line) for line in self.lines) if it]
-        self.values = dict(it for it in found if [other for other, _ in found].count(it[0]) == 1)
-        self.compared = {it for line in self.lines if re.match(r"_\d+ = [LG][te]\(", line) for it in re.findall(r"(?:move|copy) (_\d+)", line)}
-        self.negated, self.enums, self.next, self.step = {}, {}, {}, []
-        self.asserted = {it for line in self.lines for it in re.findall(r"^assert\(!?move (_\d+)", line)}
-        for into, value in reversed(found):
-            if into in self.asserted:
-                self.asserted.update(it for it in re.findall(r"move (_\d+)", value) if self.locals.get(it) == "bool")
-        calls = [line for line in self.lines if LOOP.match(self.call_of(line))]
-        self.has_for, self.ranges = bool(calls), {it for line in calls for it in re.findall(r"move (_\d+)\)", line)}
-        places = {"bb0": 0}
-        at = 0
-        for line in self.lines:
-            block = re.match(r"(bb\d+)(?: \(cleanup\))?: \{", line)
-            if block:
-                at = places.setdefault(block[1], None)
-                if at is None:
-                    at = places[block[1]] = self.function.block()
+        super().__init__()
+        self.text, self.locals, self.within = text, text.locals[name], (*within, name)
+        lines = text.lines[name]
+        found = [it.groups() for it in (re.match(r"(_\d+) = (.*);$", line) for line in lines) if it]
+        # Locals with one value, those of an index, of a bound, and of an assertion.
+        count = [into for into, _ in found].count
+        self.values = {into: value for into, value in found if count(into) == 1}
+        self.indices = {it for line in lines for it in re.findall(r"\[(_\d+)\]", line)}
+        compared = (it for line in lines for it in re.findall(r" = [LG][te]\((.*)\);", line))
+        self.bounds = {it for line in compared for it in re.findall(r"_\d+", line)}
+        self.asserted = {it for line in lines for it in re.findall(r"^assert\(!?move (_\d+)", line)}
+        for _, value in (it for it in reversed(found) if it[0] in self.asserted):
+            used = re.findall(r"move (_\d+)", value)
+            self.asserted.update(it for it in used if self.locals.get(it) == "bool")
+        # Of `for`: the ranges, what `next` returns with the events of a step, and those events.
+        loops = [value for _, value in found if INTO_ITER.match(path_of(value))]
+        self.ranges = {it for value in loops for it in re.findall(r"move (_\d+)\)", value)}
+        self.has_for, self.next, self.step, self.enums = bool(loops), {}, [], {}
+        self.read(lines)
+
+    def read(self, lines):
+        places, at = {"bb0": 0}, 0
+        for line in lines:
+            begun = re.match(r"(bb\d+)(?: \(cleanup\))?: \{", line)
+            if begun:
+                at = places.setdefault(begun[1], len(self.blocks))
+                self.blocks += [[]] * (at == len(self.blocks))
                 continue
             self.line(at, line)
-            for guard, target, events in self.targets(line):
-                if places.setdefault(target, None) is None:
-                    places[target] = self.function.block()
-                self.function.edge(at, places[target], guard)
-                self.function.blocks[places[target]] += events
-
-    def call_of(self, line):
-        found = re.match(r"_\d+ = (.*) -> \[", line)
-        return path_of(found[1]) if found else ""
+            for guard, target, step in self.targets(line):
+                to = places.setdefault(target, len(self.blocks))
+                self.blocks += [[]] * (to == len(self.blocks))
+                self.edge(at, to, guard)
+                self.blocks[to] = self.blocks[to] + step
 
     def targets(self, line):
-        """Returns the blocks after a line, each with its guard, and its events of a `for`."""
+        """Returns the blocks after a line, each with its guard, and with the step of a `for`."""
         switch = re.match(r"switchInt\((.*)\) -> \[(.*)\];", line)
         if not switch:
             found = re.findall(r"(?:return:|success:|goto ->) (bb\d+)", line)
             return [(None, target, []) for target in found]
-        targets = [it.split(": ") for it in split(switch[2])]
         local = (COPY.match(switch[1]) or [0, ""])[1]
+        values, targets = zip(*(it.split(": ") for it in split(switch[2])))
+        values = ["else" if it == "otherwise" else it for it in values]
+        steps = [[]] * len(values)
         if self.locals.get(local) == "bool":
-            negated = self.negated.get(local, False)
-            return [((value != "0") != negated, target, []) for value, target in targets]
-        if local in self.next:
-            guards = {"0": False, "1": True}
-            return [(guards.get(value), target, self.next[local] if value == "1" else []) for value, target in targets]
-        values = ["else" if value == "otherwise" else value for value, _ in targets]
-        if local in self.enums:
+            values = [(it != "0") != self.negated.get(local, False) for it in values]
+        elif local in self.next:
+            steps = [self.next[local] if it == "1" else [] for it in values]
+            values = [{"0": False, "1": True}.get(it) for it in values]
+        elif local in self.enums:
             own = self.text.discriminants.get(self.enums[local], [])
-            values = two([str(own.index(value)) if value in own else value for value in values])
-        return [(value, target, []) for value, (_, target) in zip(values, targets)]
+            values = two([str(own.index(it)) if it in own else it for it in values])
+        return zip(values, targets, steps)
 
     def line(self, block, line):
-        if line.startswith("switchInt"):
-            self.function.add(block, "branch")
-        for n, rest in re.findall(r"\)?\[(\d+)( of \d+|:)\]", line):
-            self.function.add(block, f"at {n}")
-            if rest == ":":
-                self.function.add(block, "op Sub u64")
-                self.function.add(block, f"literal {n} of 64")
+        self.add(block, *["branch"] * line.startswith("switchInt"))
+        for n, is_rest in re.findall(r"\[(\d+)(?: of \d+|(:))\]", line):
+            rest = ["op Sub u64", f"literal {n} of 64"] if is_rest else []
+            self.add(block, f"at {n}", *rest)
         found = re.match(r"(\S.*?) = (.*?)(?: -> .*)?;$", line)
         if not found or line.startswith("debug") or found[1] in self.asserted:
             return
         into, value = found.groups()
-        operator = re.match(r"(\w+)\((.*)\)$", value)
-        cast = re.match(r"(.*) as (\w+) \(IntToInt\)$", value)
+        operator, cast = OPERATOR.match(value), re.match(r"(.*) as (\w+) \(IntToInt\)$", value)
         if " -> " in line:
-            self.call(block, value, into)
+            self.call(block, path_of(value), value, into)
         elif cast:
             self.cast(block, self.type_of(cast[1]), cast[2])
             self.literals(block, cast[1])
-        elif operator and operator[1] in UNARY:
-            self.unary(block, into, operator[1], operator[2])
-        elif operator and operator[1] in BINARY:
-            self.binary(block, into, operator[1], split(operator[2]))
+        elif operator:
+            self.operator(block, into, operator[1], split(operator[2]))
         elif into in self.indices and NUMBER.match(value):
-            self.function.add(block, f"at {NUMBER.match(value)[1]}")
-        elif into in self.compared and into in self.values and NUMBER.match(value):
-            pass  # a bound
-        else:
+            self.add(block, f"at {NUMBER.match(value)[1]}")
+        elif into not in self.bounds or into not in self.values or not NUMBER.match(value):
             self.made(block, into, value)
 
     def made(self, block, into, value):
-        discriminant = re.match(r"discriminant\((.*)\)", value)
+        discriminant, copied = re.match(r"discriminant\((.*)\)", value), COPY.match(value)
         if discriminant and discriminant[1] in self.next:
             self.next[into] = self.next[discriminant[1]]
         elif discriminant:
             self.enums[into] = self.type_of(discriminant[1])
-        copied = COPY.match(value)
-        if copied:
+        elif copied:
             self.negated[into] = self.negated.get(copied[1], False)
         path = path_of(value.split(" { ")[0]) if re.match(r"\w+::", value) else ""
-        *_, of, variant = ["", "", *(it for it in split(path, "::") if not it.startswith("<"))]
-        if variant in self.text.variants.get(of, ()):
-            self.function.add(block, f"make {variant}")
+        of, variant = ["", "", *names(path)][-2:]
+        self.add(block, *[f"make {variant}"] * (variant in self.text.variants.get(of, ())))
         start = re.match(r"core::ops::Range(?:From)?::<usize> \{ start: const (\d+)_usize", value)
         if start and into not in self.ranges:
-            self.function.add(block, f"at {start[1]}")
+            self.add(block, f"at {start[1]}")
             value = value[start.end() :]
         self.literals(block, value)
 
     def literals(self, block, text):
         """Adds the literals of an operand, and the events of the constants in it."""
         for character in re.findall(r"const '(.)'", text):
-            self.function.add(block, f"literal {ord(character)} of 32")
+            self.literal(block, ord(character), 32)
         for value, of in re.findall(r"const (-?\d+)_([iu]\w+)", text):
-            self.function.add(block, f"literal {int(value) % (1 << width(of))} of {width(of)}")
+            self.literal(block, int(value), width(of))
         promoted = re.search(r"::(promoted\[\d+\])", text)
         if promoted:
             self.inline(block, f"{self.within[-1].removesuffix('()')}::{promoted[1]}")
             return
-        for place in re.finditer(r"const (?=[A-Za-z_<])", text):
-            path = text[place.end() :]
-            ends = (n for n in outside(path) if path[n] in ",;)]} ")
-            self.constant(block, path[: next(ends, len(path))])
-
-    def constant(self, block, path):
-        limit = re.match(r"(?:core::num::<impl (\w+)>|(\w+))::(MIN|MAX|BITS)$", path)
-        of = limit and (limit[1] or limit[2])
-        if limit and width(of):
-            bits = width(of)
-            value = {"MAX": (1 << bits - (sign(of) == "i")) - 1, "BITS": bits}.get(limit[3], 1 << bits - 1 if sign(of) == "i" else 0)
-            self.function.add(block, f"literal {value} of {32 if limit[3] == 'BITS' else bits}")
-        elif path.startswith("<") and " as " in path and "{" not in path:
-            self.function.add(block, f"call {self.text.callee(path)}")
-        elif "{constant#" not in path:
-            self.inline(block, self.text.constants.get(constant(path)))
+        for found in re.finditer(r"const (?=[A-Za-z_<])", text):
+            rest = text[found.end() :]
+            path = rest[: next((n for n in outside(rest) if rest[n] in ",;)]} "), len(rest))]
+            limit = re.match(r"(?:core::num::<impl )?([iu]\w+)>?::(MIN|MAX|BITS)$", path)
+            if limit:
+                bits, signed = width(limit[1]), limit[1].startswith("i")
+                limits = {"MAX": (1 << bits - signed) - 1, "MIN": signed << bits - 1}
+                self.literal(block, limits.get(limit[2], bits), 32 if limit[2] == "BITS" else bits)
+            elif path.startswith("<") and " as " in path and "{" not in path:
+                self.add(block, f"call {self.text.callee(path)}")
+            elif "{constant#" not in path:
+                self.inline(block, self.text.constants.get(constant(path)))
 
     def inline(self, block, name):
         """Adds the events of a constant where it is used."""
         if name and name not in self.within:
-            inner = Body(self.text, name, self.within).function
-            for event in (it for events in inner.blocks for it in events):
-                self.function.add(block, event)
+            inner = Body(self.text, name, self.within)
+            self.add(block, *(it for events in inner.blocks for it in events))
 
-    def call(self, block, value, into):
-        path = path_of(value)
-        if LOOP.match(path):
-            of = re.match(r"<&(?:mut )?\[.*?(?:; (\d+))?\] as|<core::ops::Range<(\w+)>", path)
-            bits = 64 if not of[2] else width(of[2])
-            self.function.add(block, f"op < u{bits} {of[1]}" if of[1] else f"op Lt {sign(of[2] or 'u')}{bits}")
-            self.step = [f"op Add {sign(of[2] or 'u')}{bits}", f"literal 1 of {bits}"]
-            if not of[2]:
-                self.function.add(block, "literal 0 of 64")
+    def call(self, block, path, value, into):
+        loop, index = INTO_ITER.match(path), INDEX.match(path)
+        if loop:
+            # A `for` over a slice, an array or a range is a loop in Rattle.
+            of = integer(loop[2] or "usize")
+            self.add(block, f"op < {loop[1]} {of}" if loop[1] else f"op Lt {of}")
+            self.add(block, *[] if loop[2] else ["literal 0 of 64"])
+            self.step = [f"op Add {of}", f"literal 1 of {of[1:]}"]
         elif self.has_for and NEXT.match(path):
             self.next[into] = self.step
-        elif INDEX.match(path):
-            length, kind = INDEX.match(path).groups()
-            if kind != "RangeTo":
-                self.function.add(block, "op Sub u64")
-            if kind == "RangeFrom" and length:
-                self.function.add(block, f"literal {length} of 64")
+        elif index:
+            # So is a part of a slice a distance and a length.
+            self.add(block, *["op Sub u64"] * (index[2] != "RangeTo"))
+            if index[2] == "RangeFrom" and index[1]:
+                self.literal(block, int(index[1]), 64)
         else:
             name = self.text.callee(path)
             wide = re.match(r"<(\w+) as core::convert::From<(\w+)>>::from$", path)
-            wrapping = re.match(r"([iu]\d+)::wrapping_(add|sub|mul)$", name)
+            wrapping = re.match(r"[iu](\d+)::wrapping_(add|sub|mul)$", name)
             if wide and width(wide[1]) and width(wide[2]):
                 self.cast(block, wide[2], wide[1])
             elif wrapping:
-                self.function.add(block, f"op Wrap{wrapping[2].title()} {width(wrapping[1])}")
+                self.add(block, f"op Wrap{wrapping[2].title()} {wrapping[1]}")
             else:
-                self.function.add(block, f"call {name}")
+                self.add(block, f"call {name}")
         self.literals(block, value[len(path) :])
 
     def cast(self, block, of, to):
-        of, to = (f"{sign(it)}{width(it)}" for it in (of, to))
-        if of != to:
-            self.function.add(block, f"cast {of} to {to}")
+        if integer(of) != integer(to):
+            self.add(block, f"cast {integer(of)} to {integer(to)}")
 
-    def unary(self, block, into, operator, operand):
-        of = self.type_of(operand)
-        if operator == "Not" and of == "bool":
-            local = COPY.match(operand)
-            self.negated[into] = not (local and self.negated.get(local[1], False))
-        elif operator == "Neg":
-            self.function.add(block, f"op Sub i{width(of)}")
-            self.function.add(block, f"literal 0 of {width(of)}")
-        else:
-            self.function.add(block, f"op {operator} {width(of)}")
-        self.literals(block, operand)
-
-    def binary(self, block, into, operator, operands):
+    def operator(self, block, into, operator, operands):
         of = next((it for it in map(self.type_of, operands) if it), "")
         if operator in ("Lt", "Le", "Gt", "Ge"):
-            given = [NUMBER.match(self.values.get((COPY.match(it) or [0, 0])[1], it)) for it in operands]
-            event, self.negated[into] = bound(operator, sign(of), width(of), *(it and int(it[1]) for it in given))
-            self.function.add(block, event)
-            for operand in (operand for it, operand in zip(given, operands) if not it):
-                self.literals(block, operand)
-            return
-        if of == "isize":
-            return  # the discriminants of an enum
-        name = OPERATORS.get(operator, operator)
-        signed = sign(of) if name in ("Add", "Sub", "Mul", "Div", "Rem", "Shr") else ""
-        self.function.add(block, f"op {name} {signed}{width(of)}")
+            values = [self.values.get((COPY.match(it) or [0, 0])[1], it) for it in operands]
+            found = [NUMBER.match(it) for it in values]
+            self.bound(block, into, operator, integer(of), *(it and int(it[1]) for it in found))
+            operands = [it for it, number in zip(operands, found) if not number]
+        elif operator == "Not" and of == "bool":
+            self.negated[into] = not self.negated.get((COPY.match(operands[0]) or [0, 0])[1], False)
+        elif operator == "Neg":
+            self.add(block, f"op Sub {integer(of)}", f"literal 0 of {width(of)}")
+        elif of != "isize":  # but the discriminants of an enum
+            has_sign = operator in ("Add", "Sub", "Mul", "Div", "Rem", "Shr")
+            of = integer(of) if has_sign else width(of)
+            self.add(block, f"op {operator.replace('Bit', '')} {of}")
         for operand in operands:
             self.literals(block, operand)
 
@@ -377,24 +359,12 @@ class Body:
         if number or operand in ("const true", "const false"):
             return number[2] if number else "bool"
         if operand.startswith("const "):
-            inner = re.match(r"core::num::<impl (\w+)>", operand[6:])
+            limit = re.match(r"const core::num::<impl (\w+)>", operand)
             name = self.text.constants.get(constant(operand[6:]))
-            return inner[1] if inner else self.text.locals[name]["_0"] if name else self.text.kinds.get(last(operand), "")
+            own = self.text.locals[name]["_0"] if name else self.text.kinds.get(last(operand), "")
+            return limit[1] if limit else own
         place = re.sub(r"^(move|copy) ", "", operand)
-        field = re.match(r"\(.*: (\w+)\)$", place)
-        if field:
-            return field[1]
-        index = re.match(r"(?:\(\*)?(_\d+)\)?\[", place)
-        of = re.sub(r"^&('\S+ )?(mut )?", "", self.locals.get(index[1] if index else place.strip("(*)"), ""))
-        return (re.match(r"\[(\w+)", of) or ["", ""])[1] if index else of
-
-
-def sign(of):
-    return "i" if of.startswith("i") else "u"
-
-
-UNARY = ("Not", "Neg")
-BINARY = "Add Sub Mul Div Rem BitAnd BitOr BitXor Shl Shr Eq Ne Lt Le Gt Ge".split()
-LOOP = re.compile(r"<(?:&(?:mut )?\[.*\]|core::ops::Range<\w+>) as core::iter::IntoIterator>::into_iter$")
-NEXT = re.compile(r"<core::(?:slice::Iter|ops::Range)<.*> as core::iter::Iterator>::next$")
-INDEX = re.compile(r"<\[.*?(?:; (\d+))?\] as core::ops::Index(?:Mut)?<core::ops::(\w+)<usize>>>::index")
+        field, index = re.match(r"\(.*: (\w+)\)$", place), re.match(r"\(?\*?(_\d+)\)?\[", place)
+        of = self.locals.get(index[1] if index else place.strip("(*)"), "")
+        of = re.sub(r"^&('\S+ )?(mut )?", "", of)
+        return field[1] if field else (re.match(r"\[(\w+)", of) or ["", ""])[1] if index else of
