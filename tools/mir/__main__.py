@@ -1,13 +1,15 @@
 """Compares the MIR that was proved with the MIR that rustc compiles from the erased Rust.
 
-`python3 tools/mir`, at the end of the gate. Of each function both have the same callees, with type
-and trait; the same operators, casts and literals, with width and sign; the same branches; and the
-same variants made; each under the same conditions. What differs by construction is in `SAME`, in
-`KINDS`, or where the two sides are read, and what else differs in `different.py`. Neither the order
-of calls nor their arguments are compared.
+`python3 tools/mir`, after `rt ci`, or after `rt lib` in the crates of `SOURCES`. Each function has
+on both sides the same callees with type and trait, operators, casts and literals with width and
+sign, branches, and variants made, each as often under the same condition: the value of the nearest
+branch. What differs by construction is in `SAME`, in `alone_in_rattle` and `alone_in_rust`, and at
+comments of the two readers; the rest in `different.py`. Operands and the order of calls are not
+compared, nor what `std` does, and formatting.
 """
 
 import collections
+import itertools
 import os
 import re
 import shutil
@@ -21,17 +23,15 @@ import proved
 from different import DIFFERENT, FAULTS
 
 ROOT = Path(__file__).resolve().parents[2]
-HEAD = re.compile(r"// @generated from crates/(\w+)/src/(.*)\.rt ")
-
 RUSTC = "1.95"
 
-# What cargo compiles, and the folder of its erased crates. The kit leaves no MIR of a program or
-# of a library for C.
-TARGETS = {"--lib": "src/generated", "--example=instance": "examples/proved"}
+# The folders of erased crates, by what cargo compiles. Of the program and the library for C, which
+# are no libraries of Rattle, `rt ci` leaves no MIR.
+SOURCES = {"--lib": "src/generated", "--example=instance": "examples/proved"}
 
-# rustc's MIR before its own optimizations, which are trusted, as are those of LLVM.
+# Without optimizations of MIR, which are trusted as LLVM is.
 FLAGS = "--emit=mir -Cpanic=abort -Coverflow-checks=off -Zmir-opt-level=0 -Zinline-mir=no"
-FLAGS += " -Ztrim-diagnostic-paths=no --cap-lints=allow"
+FLAGS += " -Ztrim-diagnostic-paths=no"
 
 # An event of either side as the other one has it, or none.
 SAME = [(re.compile(f"(?:{pattern})$"), into) for pattern, into in (
@@ -46,83 +46,64 @@ SAME = [(re.compile(f"(?:{pattern})$"), into) for pattern, into in (
     (r"call (Argument|Arguments)::.*|call (assertions::unreachable|panicking::panic)", ""),
 )]
 
-# A loop's step, which `?` in the loop puts under another condition.
+# The step of a `for`, which in Rattle is at its end, and there under a condition of a `?`.
 STEP = re.compile(r"op Add [iu]\d+|literal 1 of \d+")
 
 
-def erased(root):
-    """Returns the modules that were erased, with their files, by their names in Rattle, and the
-    name in Rust of each of their crates."""
-    modules, names = {}, {}
-    for folder in TARGETS.values():
-        for path in sorted((root / folder).rglob("*.rs")):
-            head = HEAD.match(path.read_text())
-            if head:
-                module = "::".join([head[1], *head[2].split("/")]).removesuffix("::lib")
-                modules[module] = path
-                if head[2] == "lib":
-                    names[head[1]] = path.parent.name
-    return modules, names
-
-
-def libraries(names):
-    """Returns the files of MIR of the crates, as `rt ci` and `rt lib` leave them."""
-    files = [ROOT / f"crates/{name}/out/rlib/{name}.rlib/toolchain/mir.json" for name in names]
-    for file in files:
-        assert file.exists(), f"{file} is missing: rt lib makes it"
-    return files
-
-
-def printed(root, target):
-    """Returns the MIR that rustc prints of a target of the package in a folder."""
-    with tempfile.TemporaryDirectory() as room:
-        cargo = ["cargo", "rustc", "--quiet", target, "--target-dir", room, "--", *FLAGS.split()]
-        subprocess.run(cargo, cwd=root, check=True, env={**os.environ, "RUSTC_BOOTSTRAP": "1"})
-        of = "examples" if "example" in target else "deps"
-        files = Path(room, "debug", of).glob("*.mir")
-        text = max(files, key=lambda it: it.stat().st_mtime).read_text()
-    # The package's own paths, and those of its types, as the library has them.
-    text = re.sub(r"\bfont_types_proved::(?=[A-Z])", "font_types::", text)
-    return text.replace("font_types_proved::", "").replace("std::", "core::")
-
-
 class Rust:
-    """The functions of the erased crates that rustc compiles."""
+    """The functions of the erased crates, as rustc compiles a package in a folder."""
 
     def __init__(self, root):
-        self.root = root
-        self.modules, self.names = erased(root)
-        sources = [path.read_text() for path in self.modules.values()]
-        text = "".join(printed(root, target) for target in TARGETS)
-        self.text = compiled.Text(text, sources)
-        self.bodies = {}
+        self.root, self.modules, self.crates, sources = root, set(), {}, []
+        for path in (it for folder in SOURCES.values() for it in (root / folder).rglob("*.rs")):
+            sources.append(path.read_text())
+            head = re.match(r"// @generated from crates/(\w+)/src/(.*)\.rt ", sources[-1])
+            if head:
+                self.modules.add("::".join(head[1].split() + head[2].split("/")))
+                self.crates.update({path.parent.name: head[1]} if head[2] == "lib" else {})
+        self.text = compiled.Text("".join(map(self.printed, SOURCES)), sources)
+        self.bodies = collections.defaultdict(list)
         for name in self.text.lines:
+            # A closure and an inline constant are parts of their function.
             function = re.sub(r"::\{.*", "()", name)
-            is_own = name.split("::")[0] in self.names.values() and "promoted[" not in name
+            is_own = name.split("::")[0] in self.crates and "promoted[" not in name
             if is_own and (function == name or function in self.text.lines):
-                body = compiled.Body(self.text, name)
-                self.bodies.setdefault(function, []).append(body)
+                self.bodies[function].append(compiled.Body(self.text, name))
+
+    def printed(self, target):
+        """Returns the MIR of a target, with the paths that it has in the library."""
+        with tempfile.TemporaryDirectory() as room:
+            cargo = ["cargo", "rustc", "--quiet", target, "--target-dir", room, "--"]
+            env = {**os.environ, "RUSTC_BOOTSTRAP": "1", "RUSTFLAGS": "--cap-lints=allow"}
+            subprocess.run([*cargo, *FLAGS.split()], cwd=self.root, check=True, env=env)
+            folder = "examples" if "example" in target else "deps"
+            (file,) = Path(room, "debug", folder).glob("*.mir")
+            text = re.sub(r"\bfont_types_proved::(?=[A-Z])", "font_types::", file.read_text())
+        return text.replace("font_types_proved::", "").replace("std::", "core::")
 
     def impl(self, name):
         place = compiled.PLACE.search(name)
         return compiled.Impl(self.root, place) if place else None
 
 
-def proved_bodies(library):
+def library(rust):
+    """Returns the crates as they were proved."""
+    file = "crates/{0}/out/rlib/{0}.rlib/toolchain/mir.json"
+    return proved.Library([ROOT / file.format(it) for it in rust.crates.values()], rust.text)
+
+
+def proved_bodies(crates):
     """Returns the bodies of each function, with those of its closures."""
-    bodies = {}
-    for name, body in library.bodies.items():
-        # What is dropped, and the other traits of a closure.
-        if "++" in name or "Destruct" in name or re.search(r"\+Fn(Mut|Once)?::", name):
-            continue
-        parts = re.sub(r"\+\w+", "", name).split("::")
-        if "fn" in parts:
-            parts = parts[: parts.index("fn")] + parts[parts.index("fn") + 1 : -1]
-        bodies.setdefault("::".join(parts), []).append(proved.Body(library, body))
+    bodies = collections.defaultdict(list)
+    for name, body in crates.bodies.items():
+        # What goes out of scope, and the other traits of a closure.
+        if not re.search(r"\+\+|Destruct|\+Fn(Mut|Once)?::", name):
+            name = re.sub(r"::fn::(.*)::\w+$", r"::\1", re.sub(r"\+\w+", "", name))
+            bodies[name].append(proved.Body(crates, body))
     return bodies
 
 
-def events(bodies, has_for=False):
+def events(bodies, has_for):
     """Returns how often each event occurs under each condition, as the other side has it."""
     found = collections.Counter()
     for (event, guard), count in (it for body in bodies for it in body.events().items()):
@@ -131,6 +112,12 @@ def events(bodies, has_for=False):
         if event:
             found[event, None if has_for and STEP.match(event) else guard] += count
     return found
+
+
+def derived(found):
+    """Returns what a derived function calls; each compiler writes it in its own way."""
+    called = (it for it in found.elements() if re.match("call (?!Formatter)|op Eq", it[0]))
+    return collections.Counter((event, None) for event, _ in called)
 
 
 def module_of(path):
@@ -142,53 +129,44 @@ def pairs(ours, rust):
     groups = collections.defaultdict(lambda: ([], []))
     for name in ours:
         groups[module_of(name), name.split("::")[-1]][0].append(name)
-    crates = {name: crate for crate, name in rust.names.items()}
     for name in rust.bodies:
-        module, last = compiled.constant(name.removesuffix("()"))
-        first, _, rest = module.partition("::")
-        groups["::".join([crates[first], *filter(None, [rest])]), last][1].append(name)
-    found = {}
-    for left, right in groups.values():
-        scores = []
-        for one, other in ((one, other) for one in left for other in right):
-            impl, owner = rust.impl(other), one.split("::")[-2].split("+")[0]
-            score = impl.likeness(owner) if impl else 1 + (other.split("::")[-2] == owner)
-            scores.append((score, one, other))
-        for score, one, other in sorted(scores, reverse=True):
-            if score and one not in found and other not in found.values():
-                found[one] = other
+        module, method = compiled.constant(name.removesuffix("()"))
+        first, *rest = module.split("::")
+        groups["::".join([rust.crates[first], *rest]), method][1].append(name)
+    scores = []
+    for one, other in itertools.chain(*(itertools.product(*it) for it in groups.values())):
+        impl, owner = rust.impl(other), one.split("::")[-2]
+        score = impl.likeness(owner) if impl else 1 + (other.split("::")[-2] == owner)
+        scores += [(score, one, other)] * (score > 0)
+    found, taken = {}, set()
+    for _, one, other in sorted(scores, reverse=True):
+        if one not in found and other not in taken:
+            found[one] = other
+            taken.add(other)
     return found
 
 
 def alone_in_rattle(name, bodies, rust):
-    """Returns why only Rattle has a function, or None."""
-    if module_of(name) not in rust.modules:
-        return "its file is left out"
+    """Returns whether only Rattle has a function, because its file is left out, a trait declares it
+    or it calls that of the trait, which Rust has too."""
     found = [event for body in bodies for event, _ in body.events().elements()]
     owner, method = name.split("::")[-2:]
-    if not found:
-        return "a trait declares it"
     default = re.match(r"call <.* as (\w+)>::(\w+)$", found[0]) if len(found) == 1 else None
-    if default and owner.endswith(default[1]) and method == default[2]:
-        return "it calls the trait's own"
-    return None
+    is_default = default and owner.endswith(default[1]) and method == default[2]
+    return module_of(name) not in rust.modules or not found or is_default
 
 
 def alone_in_rust(name, rust):
-    """Returns why only Rust has a function, or None."""
+    """Returns whether only Rust has a function, because it is a constant, which Rattle has where it
+    is used, the constructor of a tuple, or derived where Rattle needs none."""
     impl = rust.impl(name)
-    if impl and impl.derived and impl.trait in ("Clone", "Eq"):
-        return "it is derived, and Rattle needs none"
-    if not name.endswith("()"):
-        return "a constant, which Rattle has where it is used"
-    if compiled.last(name)[:1].isupper():
-        return "the constructor of a tuple"
-    return None
+    is_derived = impl and impl.derived and impl.trait in ("Clone", "Eq")
+    return is_derived or not name.endswith("()") or compiled.last(name)[:1].isupper()
 
 
 def compare(ours, rust):
-    """Returns the pairs of functions, and what differs: lines, by the function's name in Rattle, or
-    in Rust if only Rust has it."""
+    """Returns the pairs of functions, and what differs, by a function's name in Rattle, or in Rust
+    if only Rust has it."""
     both, differences = pairs(ours, rust), {}
     for one, other in both.items():
         impl, has_for = rust.impl(other), any(body.has_for for body in rust.bodies[other])
@@ -197,10 +175,13 @@ def compare(ours, rust):
             left, right = derived(left), derived(right)
         elif one.endswith("Clone::clone"):
             del left["make Ok", None]  # it is infallible in Rust
-        lines = [f"proved: {line(it)}" for it in (left - right).elements()]
-        lines += [f"compiled: {line(it)}" for it in (right - left).elements()]
-        if lines:
-            differences[one] = sorted(lines)
+        sides = ("proved", left - right), ("compiled", right - left)
+        lines = [
+            f"{side}: {event}" + ("" if guard is None else f", if {guard}")
+            for side, found in sides
+            for event, guard in found.elements()
+        ]
+        differences.update({one: sorted(lines)} if lines else {})
     for one in ours.keys() - both.keys():
         if not alone_in_rattle(one, ours[one], rust):
             differences[one] = ["Rust has no such function"]
@@ -210,48 +191,16 @@ def compare(ours, rust):
     return both, differences
 
 
-def derived(found):
-    """Returns the events of a derived function, which each compiler writes: what it calls."""
-    called = (it for it in found.elements() if re.match("call (?!Formatter)|op Eq", it[0]))
-    return collections.Counter((event, None) for event, _ in called)
-
-
-def line(event):
-    return event[0] + ("" if event[1] is None else f", if {event[1]}")
-
-
-def place(name, both, rust):
-    """Returns the file of a function of Rust, and its line."""
-    name = both.get(name, name).removesuffix("()")
-    found = compiled.PLACE.search(name)
-    crate = {name: crate for crate, name in rust.names.items()}.get(name.split("::")[0], "")
-    path = rust.modules.get("::".join([crate, *module_of(name).split("::")[1:]]))
-    path, first = (rust.root / found[1], int(found[2])) if found else (path, 1)
-    lines = path.read_text().split("\n") if path else []
-    is_it = re.compile(rf"\b(fn|const) {compiled.last(name)}\b")
-    at = next((n for n in range(first, len(lines) + 1) if is_it.search(lines[n - 1])), first)
-    return f"{path.relative_to(rust.root)}:{at}" if path else "its file is left out"
-
-
-def copy_of_package(room):
-    for path in ("Cargo.toml", "src", "examples", "README.md", "docs"):
-        copy = shutil.copytree if (ROOT / path).is_dir() else shutil.copy
-        copy(ROOT / path, Path(room, path))
-
-
-def missed(library):
-    """Plants each fault in a copy of the erased Rust, and returns those that are not seen."""
-    found = []
-    for path, old, new, function in FAULTS:
-        with tempfile.TemporaryDirectory() as room:
-            copy_of_package(room)
-            text = Path(room, path).read_text()
-            assert text.count(old) == 1, f"{path} has another number of {old!r} than one"
-            Path(room, path).write_text(text.replace(old, new))
-            rust = Rust(Path(room))
-            if function not in compare(proved_bodies(library), rust)[1].keys() - DIFFERENT.keys():
-                found.append(f"{path}: {new}")
-    return found
+def is_seen(crates, path, old, new, function):
+    """Returns whether the function differs if the erased Rust has another text in this place."""
+    with tempfile.TemporaryDirectory() as room:
+        for part in ("Cargo.toml", "README.md", "src", "docs", "examples"):
+            copy = shutil.copytree if (ROOT / part).is_dir() else shutil.copy
+            copy(ROOT / part, Path(room, part))
+        text = Path(room, path).read_text()
+        Path(room, path).write_text(text.replace(old, new))
+        found = compare(proved_bodies(crates), Rust(Path(room)))[1]
+        return text.count(old) == 1 and function in found.keys() - DIFFERENT.keys()
 
 
 def main():
@@ -260,22 +209,21 @@ def main():
         print(f"left out: the comparison of MIR, which is for rustc {RUSTC}")
         return 0
     rust = Rust(ROOT)
-    library = proved.Library(libraries(rust.names), rust.text)
-    ours = proved_bodies(library)
-    both, differences = compare(ours, rust)
+    crates = library(rust)
+    both, differences = compare(proved_bodies(crates), rust)
     errors = []
     for name in sorted(differences.keys() | DIFFERENT.keys()):
-        _, *listed = DIFFERENT.get(name, [""])
-        lines = differences.get(name, ["they are the same"])
+        lines, (_, *listed) = differences.get(name, ["nothing"]), DIFFERENT.get(name, [""])
         if lines != sorted(listed):
-            errors.append("\n    ".join([f"{name} ({place(name, both, rust)})", *lines]))
-    errors += [f"no function of {crate}" for crate in rust.names if not any(it.startswith(f"{crate}::") for it in both)]
-    if len(DIFFERENT) * 50 > len(both):
-        errors.append("less than 98 % are the same")
-    errors += [f"a planted fault is not seen: {it}" for it in missed(library)]
+            errors.append("\n    ".join([f"{name}, in Rust {both.get(name, name)}", *lines]))
+    left_out = set(rust.crates.values()) - {it.split("::")[0] for it in both}
+    errors += [f"no function of {it} is compared" for it in left_out]
+    errors += ["less than 98 % are the same"] * (len(DIFFERENT) * 50 > len(both))
+    errors += [f"{it[0]} may have {it[2]!r}" for it in FAULTS if not is_seen(crates, *it)]
     for error in errors:
         print(f"MIR that differs: {error}", file=sys.stderr)
-    print(f"functions with the same MIR: {len(both) - len(DIFFERENT)} of {len(both)}; others: {len(DIFFERENT)}")
+    same = len(both) - len(DIFFERENT)
+    print(f"functions with the same MIR: {same} of {len(both)}")
     return min(len(errors), 1)
 
 

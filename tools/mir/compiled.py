@@ -12,7 +12,9 @@ OPERATOR = re.compile(
 )
 
 # What a `for` calls, and an index that is a range.
-INTO_ITER = re.compile(r"<&(?:mut )?\[.*?(?:; (\d+))?\] as .*::into_iter$|<core::ops::Range<(\w+)> as .*::into_iter$")
+INTO_ITER = re.compile(
+    r"<(?:&(?:mut )?\[.*?(?:; (\d+))?\]|core::ops::Range<(\w+)>) as .*::into_iter$"
+)
 NEXT = re.compile(r"<core::(?:slice::Iter|ops::Range)<.*> as core::iter::Iterator>::next$")
 INDEX = re.compile(r"<\[.*?(?:; (\d+))?\] as core::ops::Index(?:Mut)?<core::ops::(\w+)<.*::index")
 
@@ -94,9 +96,10 @@ class Text:
             return None
         name = path_of(rest)
         if "{constant#" in name and not line.endswith("{"):
-            if ": isize" in rest:
-                self.discriminants.setdefault("::".join(name.split("::")[:-2]), []).append(re.search(r"const (-?\d+)_", rest)[1])
-            return None  # the value of a variant, or the length of an array
+            # The value of a variant, or the length of an array.
+            value, enum = re.search(r": isize = const (\d+)_", rest), name.rsplit("::", 2)[0]
+            self.discriminants.setdefault(enum, []).extend([value[1]] if value else [])
+            return None
         rest = rest[len(name) :]
         if kind == "fn":
             name += "()"
@@ -131,7 +134,8 @@ class Text:
             return f"{self.short(kind)}::{names[-1]}"
         impl = next((it for it in parts if it.startswith("<impl ")), None)
         if impl:
-            return f"{names[1] if names[1] in ('slice', 'str') else self.short(impl[6:-1])}::{names[-1]}"
+            of = names[1] if names[1] in ("slice", "str") else self.short(impl[6:-1])
+            return f"{of}::{names[-1]}"
         given = [it for part in parts if part.startswith("<") for it in split(part[1:-1])]
         values = ",".join(it for it in given if it.isdigit())
         return "::".join(names[-2:]) + (f"<{values}>" if values else "")
@@ -146,8 +150,8 @@ class Impl:
         text = " ".join(lines[: last_line - first + 1])[column - 1 :]
         self.derived = not text.startswith("impl")
         if self.derived:
-            declared = (re.match(r"\s*(?:pub(?:\(.*?\))? )?(?:struct|enum) (\w+)", it) for it in lines)
-            self.trait, self.of = text[: end - column], next(it[1] for it in declared if it)
+            types = (re.match(r"\s*(?:pub(?:\(.*?\))? )?(?:struct|enum) (\w+)", it) for it in lines)
+            self.trait, self.of = text[: end - column], next(it[1] for it in types if it)
             return
         text = re.sub(r" where .*| \{.*", "", re.sub(r"\s+", " ", text))[4:]
         if text.startswith("<"):
@@ -159,7 +163,8 @@ class Impl:
         """Returns how well a name that Rattle gives to an impl, `FixedI32Mul`, is that of this."""
         of = re.sub(r"^&('\w+ )?(mut )?", "Ref", self.of)
         array = re.match(r"(Ref)?\[(\w+);", of)
-        base = f"{array[1] or ''}Array{array[2]}" if array else re.sub(r"<.*", "", of).split("::")[-1]
+        base = re.sub(r"<.*", "", of).split("::")[-1]
+        base = f"{array[1] or ''}Array{array[2]}" if array else base
         trait = re.sub(r"<.*", "", self.trait)
         given = re.findall(r"\w+", self.trait[len(trait) :])
         given = "".join("Any" if len(it) == 1 else it for it in given)
@@ -184,7 +189,8 @@ class Body(Function):
         super().__init__()
         self.text, self.locals, self.within = text, text.locals[name], (*within, name)
         lines = text.lines[name]
-        found = [it.groups() for it in (re.match(r"(_\d+) = (.*);$", line) for line in lines) if it]
+        found = (re.match(r"(_\d+) = (.*);$", line) for line in lines)
+        found = [it.groups() for it in found if it]
         # Locals with one value, those of an index, of a bound, and of an assertion.
         count = [into for into, _ in found].count
         self.values = {into: value for into, value in found if count(into) == 1}
@@ -199,6 +205,10 @@ class Body(Function):
         loops = [value for _, value in found if INTO_ITER.match(path_of(value))]
         self.ranges = {it for value in loops for it in re.findall(r"move (_\d+)\)", value)}
         self.has_for, self.next, self.step, self.enums = bool(loops), {}, [], {}
+        # What is read at all, and what a branch reads.
+        reads = (re.sub(r"^(\S+)(?= = )|^(Storage|debug).*", "", line) for line in lines)
+        self.used = {"_0", *(it for line in reads for it in re.findall(r"_\d+", line))}
+        self.asked = {it for line in lines for it in re.findall(r"^switchInt\(move (_\d+)\)", line)}
         self.read(lines)
 
     def read(self, lines):
@@ -255,6 +265,8 @@ class Body(Function):
             self.operator(block, into, operator[1], split(operator[2]))
         elif into in self.indices and NUMBER.match(value):
             self.add(block, f"at {NUMBER.match(value)[1]}")
+        elif value in ("const true", "const false") and into not in self.used:
+            pass  # whether a value has been moved
         elif into not in self.bounds or into not in self.values or not NUMBER.match(value):
             self.made(block, into, value)
 
@@ -281,6 +293,8 @@ class Body(Function):
             self.literal(block, ord(character), 32)
         for value, of in re.findall(r"const (-?\d+)_([iu]\w+)", text):
             self.literal(block, int(value), width(of))
+        for value in re.findall(r"const (true|false)", text):
+            self.add(block, f"literal {value}")
         promoted = re.search(r"::(promoted\[\d+\])", text)
         if promoted:
             self.inline(block, f"{self.within[-1].removesuffix('()')}::{promoted[1]}")
@@ -344,6 +358,7 @@ class Body(Function):
             operands = [it for it, number in zip(operands, found) if not number]
         elif operator == "Not" and of == "bool":
             self.negated[into] = not self.negated.get((COPY.match(operands[0]) or [0, 0])[1], False)
+            self.add(block, *["op Not 1"] * (into not in self.asked))
         elif operator == "Neg":
             self.add(block, f"op Sub {integer(of)}", f"literal 0 of {width(of)}")
         elif of != "isize":  # but the discriminants of an enum

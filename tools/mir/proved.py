@@ -72,7 +72,8 @@ class Library:
     def split(self, owner, method):
         """Splits `FixedI32Mul` into the type and the trait that has the method."""
         traits = self.rust.traits.get(method, ())
-        trait = max((it for it in traits if owner.find(it, 1) > 0 or owner == it), key=len, default="")
+        traits = [it for it in traits if owner.find(it, 1) > 0 or owner == it]
+        trait = max(traits, key=len, default="")
         return (owner[: owner.find(trait, 1)] if trait and trait != owner else owner), trait
 
     def short(self, of, dicts=()):
@@ -81,12 +82,13 @@ class Library:
             return {"Bool": "bool", "Unit": "()"}.get(of, of)
         ((kind, it),) = of.items()
         if kind == "Int":
-            names = (re.match(f"({INTEGER})[A-Z]", last(it["Impl"][0])) for it in dicts if "Impl" in it)
+            names = (last(it["Impl"][0]) for it in dicts if "Impl" in it)
+            names = (re.match(f"({INTEGER})[A-Z]", name) for name in names)
             signed = [integer(found[1]) for found in names if found]
             return next((name for name in signed if name[1:] == str(it)), f"int{it}")
         if kind == "Named" and isinstance(it[0], dict):
-            name = last(it[0]["name"])
-            return "()" if name == "(,)" else self.rust.aliases.get(f"{name}<{constants(it[1])}>", name)
+            name = last(it[0]["name"]).replace("(,)", "()")
+            return self.rust.aliases.get(f"{name}<{constants(it[1])}>", name)
         if kind == "Struct":
             return "[]" if it[0].startswith("&[") else "str"
         return self.short(it[2]) if kind == "Ref" else "[]" if kind == "Array" else "?"
@@ -151,7 +153,12 @@ class Body(Function):
             operator, *_, right = value.get("Op2", [""] * 3)
             self.offsets.update([local(right)] if operator == "Offset" else [])
             self.shifts.update([local(right)] if operator == "Shl" or "Shr" in operator else [])
+        self.asked = {local(it["If"]) for it in self.tokens if isinstance(it, dict) and "If" in it}
+        self.target = None
         self.statement(0)
+        # Where the first part of `a || b` or `a && b` decides what it is.
+        for start, value, _ in self.parts.values():
+            self.add(start, f"literal {value}".lower())
 
     def statement(self, block):
         """Reads a statement, and returns the block after it, or None."""
@@ -191,7 +198,7 @@ class Body(Function):
 
     def branch(self, block, operand):
         after, negated = self.block(), self.negated.get(local(operand), False)
-        # After `a || b` and `a && b`, whose first part may decide, rustc asks the second alone.
+        # If a first part decides `a || b` or `a && b`, rustc does not ask for the whole.
         decided = []
         while block in self.parts and not self.blocks[block]:
             start, value, asked = self.parts.pop(block)
@@ -209,7 +216,7 @@ class Body(Function):
             # What is asserted is no condition of what follows.
             self.edges = [(a, b, guard if a != block else None) for a, b, guard in self.edges]
         for (is_empty, start, _), (_, _, end), value in zip(arms, arms[::-1], (True, False)):
-            if is_empty and end is not None:
+            if is_empty and end is not None and self.target == local(operand):
                 self.parts[after] = start, value, end
         return after
 
@@ -221,7 +228,8 @@ class Body(Function):
         self.edge(end, after)
         return end
 
-    def call(self, block, of, operands, _place):
+    def call(self, block, of, operands, place):
+        self.target = place["local"]
         path = of.get("Fn", [""])[0]
         # What `format_args!` makes of a text, and what only a proof needs.
         if "::literal::" in path or self.library.does_nothing(path):
@@ -236,12 +244,14 @@ class Body(Function):
 
     def operands(self, block, operands, bits=None):
         for it in operands:
+            if it in ("True", "False"):
+                self.add(block, f"literal {it.lower()}")
             if number(it) is not None:
                 self.literal(block, number(it), bits or it["Int"]["width"])
 
     def assign(self, block, place, value):
         ((kind, it),) = value.items()
-        into = place["local"]
+        into = self.target = place["local"]
         if kind == "Opd":
             self.negated[into] = self.negated.get(local(it), False)
             self.operands(block, [it])
@@ -268,6 +278,7 @@ class Body(Function):
         bits = self.width(operand)
         if operator == "Not" and bits == 1:
             self.negated[into] = not self.negated.get(local(operand), False)
+            self.add(block, *["op Not 1"] * (into not in self.asked))
         elif "Cast" not in operator:
             self.add(block, f"op {operator} {bits}")
         elif into not in self.shifts:
