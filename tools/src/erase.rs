@@ -26,8 +26,8 @@
 //! `Display` and `Error` of a type that derives `Error` are added, and in each file of the program
 //! the import of what Rattle has in scope.
 //!
-//! What else could mean something else in Rust is an [`Error`], as far as `language.rs` knows it.
-//! That the two mean the same is for `tools/mir` to say, which compares what compilers make of them.
+//! What Rust could read otherwise is an [`Error`], as far as `language.rs` knows it. `tools/mir`
+//! compares what both compilers make of the source and of the output.
 
 mod errors;
 mod language;

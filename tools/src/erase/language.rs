@@ -1,6 +1,6 @@
-//! Forms that Rust could read in another way than Rattle, which are errors. Lists name what is known
-//! to mean the same, and an error names the list. Of any other form, rustc says whether it is Rust,
-//! and `tools/mir` compares what it becomes; not so in the program and in the library for C.
+//! Forms that Rust could read otherwise than Rattle, which are errors. Lists name what is known to
+//! mean the same, and an error names the list. Any other form is for rustc to read, and what it
+//! becomes is compared by `tools/mir`, but not in the program and in the library for C.
 
 use super::{Eraser, Error, Target, is_crate};
 
