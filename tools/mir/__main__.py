@@ -218,6 +218,7 @@ def main():
             errors.append("\n    ".join([f"{name}, in Rust {both.get(name, name)}", *lines]))
     left_out = set(rust.crates.values()) - {it.split("::")[0] for it in both}
     errors += [f"no function of {it} is compared" for it in left_out]
+    errors += [f"{it} has the name of another type or trait" for it in rust.text.shared]
     errors += ["less than 98 % are the same"] * (len(DIFFERENT) * 50 > len(both))
     errors += [f"{it[0]} may have {it[2]!r}" for it in FAULTS if not is_seen(crates, *it)]
     for error in errors:

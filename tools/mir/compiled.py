@@ -1,5 +1,6 @@
 """The MIR that rustc compiles, as `--emit=mir` prints it."""
 
+import collections
 import re
 
 from functions import Function, integer, two, width
@@ -65,6 +66,10 @@ class Text:
         self.variants = {"Option": ["None", "Some"], "Result": ["Ok", "Err"]}
         for name, inner in re.findall(r"^(?:pub )?enum (\w+)[^{]*\{$(.*?)^\}", source, re.M | re.S):
             self.variants[name] = re.findall(r"^    (\w+)", inner, re.M)
+        # Types and traits are compared by their last name, which is to be that of one alone.
+        own = re.findall(r"^(?:pub )?(?:struct|enum|trait|type) (\w+)", source, re.M)
+        known = collections.Counter(own + list(set(re.findall(r"\bcore::(?:\w+::)*(\w+)", text))))
+        self.shared = [name for name in set(own) if known[name] > 1]
         self.traits = {}
         for trait, method in re.findall(r" as (?:\w+::)*(\w+)(?:<[^ ]*>)?>::(\w+)", text):
             self.traits.setdefault(method, set()).add(trait)

@@ -1,6 +1,8 @@
 """What differs in a way that no rule of the comparison says, and faults that it has to see."""
 
-# By function the reason, and what each side has alone. Tests of both call each.
+# By function the reason, and what each side has alone. Tests run each as Rattle and as Rust: in
+# `fields`, `names`, `tags` and `rows` of the crates, and in `fields`, `ids`, `tags` and `decimals`
+# of `tests`.
 DIFFERENT = {
     "font_base::array::ScalarArray::get": (
         "`as_slice`, which has no effect, is called for a fact that a proof needs",

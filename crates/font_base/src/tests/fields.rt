@@ -5,7 +5,7 @@ ghost use Rattle.std.specs.Prelude.{◌≡◌, length};
 ghost use Rattle.std.proofs.Common.{ap, rules};
 ghost use Rattle.font_base.specs.Bytes.{are_bytes};
 
-use crate::{BeByteArray, BigEndian, Int24, SampleHeader, TableDataRef, TableHeader};
+use crate::{BeByteArray, BigEndian, Int24, SampleHeader, ScalarArray, TableDataRef, TableHeader};
 use std::test::Fail;
 
 #[test]
@@ -13,6 +13,8 @@ fn field_order(rt: HostRuntime) {
     let below = BigEndian::<i16>::new([0xFF, 0xFF]);
     let above = BigEndian::<i16>::new([0x00, 0x01]);
     assert!(rt; below < above && below.get() == -1 && below.eq_value(&-1));
+    let array = ScalarArray::<i16>::new(&[0xFF, 0xFF, 0x00, 0x01]);
+    assert!(rt; array.map(|array| array.get(1)) == Some(Some(1)));
 }
 
 /// A user-defined array, which compares by the trait's default method.

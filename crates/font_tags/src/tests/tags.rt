@@ -2,6 +2,7 @@
 //! with flags, and of errors.
 
 use crate::{InvalidTag, Tag};
+use font_base::Scalar;
 use std::alloc::{AllocError, Global};
 use std::str::FromStr;
 use std::test::Fail;
@@ -12,6 +13,7 @@ fn valid_texts(rt: HostRuntime) {
     let tags = [b"a   ", b"bc  ", b"cv1 ", b"head", b"!   ", b"~   "].map(|tag| Ok(Tag::new(tag)));
     assert!(rt; texts.map(|text| Tag::new_checked(text.as_bytes())) == tags);
     assert!(rt; texts.map(Tag::from_str) == tags);
+    assert!(rt; Tag::new(b"head").to_raw() == *b"head");
 }
 
 #[test]
