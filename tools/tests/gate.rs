@@ -25,6 +25,7 @@ cargo test --quiet --manifest-path tools/Cargo.toml
 cargo test --quiet --release --manifest-path compare/Cargo.toml
 cargo test --quiet --release --test program --test original --test preconditions
 cc -shared -fPIC -o refuse.so tools/refuse.c
+python3 compare/fontations/edit.py
 python3 tools/mir
 rt ci";
 
@@ -39,6 +40,7 @@ const REQUESTS: usize = 2;
 const TOOL: &str = r#"#!/bin/sh
 call="$(basename "$0") $*"
 [ "$call" != "check " ] || call=c/check
+[ "$call" = "${call#*edit.py}" ] || call="python3 compare/fontations/edit.py"
 [ "${call%% *}" != cc ] || call="cc -shared -fPIC -o refuse.so tools/refuse.c"
 [ -z "$RUSTDOCFLAGS" ] || call="$call; $RUSTDOCFLAGS"
 echo "$call" >>"$LOG"
@@ -86,7 +88,7 @@ const OPTIONAL: [&str; 6] = ["c++", "pkg-config", "nm", "readelf", "ldd", "pytho
 
 /// What the gate and its stand-ins call of the system.
 const SYSTEM: &str =
-    "bash sh env basename cat cmp dirname grep mktemp paste rm sed tail tee touch wc";
+    "bash sh env basename cat cmp cp dirname grep mktemp paste rm sed tail tee touch wc";
 
 /// A repository of stand-ins, in a folder of this process.
 struct Gate {
@@ -115,6 +117,7 @@ impl Gate {
         ] {
             gate.put(path, &text(path));
         }
+        gate.put("src/lib.rs", "");
         for name in REQUIRED.iter().chain(&OPTIONAL) {
             gate.put(&format!("bin/{name}"), TOOL);
         }
@@ -237,7 +240,10 @@ fn gate_names_what_it_leaves_out() {
     passed(gate.run("", "other-rustc"), "MIR");
     for tool in OPTIONAL {
         let (call, what) = match tool {
-            "python3" => ("python3 tools/mir", "the comparison of MIR"),
+            "python3" => (
+                "python3 tools/mir",
+                "the comparison of MIR, with the edits for fontations",
+            ),
             _ => ("c/check", "the library for C"),
         };
         let calls = passed(
