@@ -778,7 +778,7 @@ FTY_API_INLINE const char *fty_status_text(fty_status status) FTY_API_NOEXCEPT {
 #else
 #define FTY_API_ASSERT(CONDITION) _Static_assert(CONDITION, #CONDITION)
 #endif
-FTY_API_ASSERT(sizeof(fty_status) == 4);
+FTY_API_ASSERT(sizeof(fty_status) <= 4);
 FTY_API_ASSERT(sizeof(fty_matrix) == 24 && offsetof(fty_matrix, dy) == 20);
 FTY_API_ASSERT(sizeof(fty_point) == 8 && offsetof(fty_point, y) == 4);
 FTY_API_ASSERT(sizeof(fty_pad) == 2 * sizeof(size_t) || sizeof(size_t) < 4);

@@ -43,6 +43,10 @@ macros=$(cc -E -dM include/font_types.h | grep -oE '^#define (FONT|FTY)_[A-Z_]*'
 [[ $(sed 's/#define //' <<<"$macros" | tr '\n' ' ') == \
     'FONT_TYPES_H FTY_PAD_INIT FTY_TAG FTY_VERSION FTY_VERSION_NUMBER ' ]]
 
+# Enums may be as short as those of ARM without an operating system.
+cc -std=c11 -fshort-enums $strict tests/table.c "$archive" -o "$work/table"
+run "$work/table"
+
 # It compiles with a caller's warnings, and for 32 bits.
 echo '#include "font_types.h"' >"$work/alone.c"
 for compiler in gcc clang; do
