@@ -4,14 +4,14 @@
 # font_types.pc that does not name DESTDIR.
 mkdir "$work/real"
 ln -s real "$work/link"
-make -s install DESTDIR="$work/stage" PREFIX="$work/link" LIBDIR="$work/link/lib/x" \
-    INCLUDEDIR="$work/inc" CARGO=false
+(umask 077 && make -s install DESTDIR="$work/stage" PREFIX="$work/link" \
+    LIBDIR="$work/link/lib/x" INCLUDEDIR="$work/inc" CARGO=false)
 found=$(cd "$work/stage$work" && find . \( -type f -o -type l \) -printf '%P %m %l\n' | sort)
 [[ $found == "inc/font_types.h 644 
 link/lib/x/libfont_types.a 644 
 link/lib/x/libfont_types.so 777 libfont_types.so.$version
 link/lib/x/libfont_types.so.$version 777 libfont_types.so.$version.0
-link/lib/x/libfont_types.so.$version.0 755 
+link/lib/x/libfont_types.so.$version.0 644 
 link/lib/x/pkgconfig/font_types.pc 644 " ]]
 staged=$work/stage$work/link/lib/x/pkgconfig
 [[ $(sed 3q "$staged/font_types.pc") == \
@@ -44,10 +44,11 @@ for part in 'a-cargo build --release --target-dir "a-folder" --a-flag' 'a-cc -sh
 done
 [[ $(make -n clean) == 'rm -rf "target" shared static' && $(make -n check) == ./check ]]
 
-# Uninstall leaves no file but those of others.
+# Uninstall leaves no file but those of others. Two jobs do not install what is not built yet.
 mkdir -p "$work/dest/usr/include" "$work/dest/usr/lib/pkgconfig"
 touch "$work"/dest/usr/{include/other.h,lib/libother.a,lib/pkgconfig/other.pc}
-make -s install uninstall DESTDIR="$work/dest" PREFIX=/usr
+"${empty[@]}" make -s -j2 all install CARGOFLAGS=--quiet DESTDIR="$work/dest" PREFIX=/usr
+make -s uninstall DESTDIR="$work/dest" PREFIX=/usr
 found=$(find "$work/dest" ! -type d -printf '%f\n' | sort | tr '\n' ' ')
 [[ $found == 'libother.a other.h other.pc ' ]]
 
@@ -68,7 +69,11 @@ done
 for path in '~/x' '~' '~root/x'; do
     refused PREFIX "$path" "begins with ~, which the shell has not replaced: $path. "
     refused BUILD "$path" "begins with ~, which the shell has not replaced: $path. "
+    fails make install "DESTDIR=$path"
+    [[ $(<"$work/log") == *"DESTDIR begins with ~, which the shell has not replaced: $path. "* ]]
 done
+fails env LIBDIR=lib make install DESTDIR="$work/relative"
+[[ $(<"$work/log") == *'LIBDIR is not absolute: lib. '* ]]
 refused PREFIX '' 'is empty. '
 refused BUILD '' 'is empty. '
 fails make install BUILD="$work/none" DESTDIR="$work/relative"

@@ -2,12 +2,6 @@
 # loaded; and FreeType's values. A table with one value that is wrong has to fail, and so have a row
 # that is, a header that stores when it fails, and a read out of bounds.
 
-# Rounded values, sums, conversions and fields of the proved Rust, with which the functions in C are
-# compared; and fonts, whole, mutated and broken, with what advance.c has to say of them.
-rows=("${empty[@]}" cargo run --quiet --manifest-path ../Cargo.toml --target-dir "$work/rows"
-    --example rows --)
-"${rows[@]}" >"$work/rows.txt"
-"${rows[@]}" "$work/cases" "$work/whole.otf" "$work/large.otf"
 mkdir "$work/storing"
 sed 's/return FTY_OUT_OF_BOUNDS;/return *value = 0, FTY_OUT_OF_BOUNDS;/' include/font_types.h \
     >"$work/storing/font_types.h"
