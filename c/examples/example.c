@@ -6,13 +6,15 @@
 int main(void) {
     /* begin */
     int32_t width;
-    fty_status status = fty_fixed_parse("1.5", 3, &width);            /* 98304 */
-    if (status != FTY_OK)
-        return fprintf(stderr, "width: %s\n", fty_status_text(status)), 1;
-    int32_t area = fty_fixed_mul(width, width);                        /* 147456 */
+    fty_status status = fty_fixed_parse("1.5", 3, &width);           /* 98304 */
+    if (status != FTY_OK) {
+        fprintf(stderr, "width: %s\n", fty_status_text(status));
+        return 1;
+    }
+    int32_t area = fty_fixed_mul(width, width);                      /* 147456 */
     char text[FTY_DECIMAL_ROOM];
     size_t length;
-    status = fty_fixed_format(area, text, sizeof text, &length);       /* 2.25 */
+    status = fty_fixed_format(area, text, sizeof text, &length);     /* 2.25 */
     fty_matrix half = {32768, 0, 0, 32768, 0, 0};
     fty_point moved = fty_matrix_image(half, (fty_point){width, 0}); /* (49152, 0) */
     /* end */
@@ -21,10 +23,10 @@ int main(void) {
     static const uint8_t bytes[] = {0, 1, 0x00, 0x01, 0x80, 0x00};
     /* begin */
     fty_view table = {bytes, sizeof bytes};
-    fty_view values = fty_items(table, 2, fty_u16(table, 0), 4);     /* one of 4 bytes */
-    int32_t value = fty_i32(values, 0);                                /* 98304 */
-    status = fty_read_i32(values, 4, &value);                          /* out of bounds */
-    int32_t missing = fty_i32(values, 4);                              /* 0 */
+    fty_view values = fty_items(table, 2, fty_u16(table, 0), 4); /* one of 4 bytes */
+    int32_t value = fty_i32(values, 0);                          /* 98304 */
+    status = fty_read_i32(values, 4, &value);                    /* out of bounds */
+    int32_t missing = fty_i32(values, 4);                        /* 0 */
     /* end */
     printf("%s: %d %d\n", fty_status_text(status), (int)value, (int)missing);
     return 0;

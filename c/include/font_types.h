@@ -262,7 +262,8 @@ void fty_matrix_images(const fty_matrix *m, fty_point *points,
 /* ---- sums of deltas: scalars are 16.16, deltas font units, sums 48.16 ---- */
 
 /**
- * The exact sum of scalar times delta over all items, even if partial sums overflow.
+ * The exact sum of scalar times delta over all items, even if partial sums overflow. Deltas may
+ * also be raw values of f fraction bits; the sum then has f + 16.
  * Fails by FTY_COUNT_MISMATCH, FTY_OUT_OF_RANGE.
  */
 FTY_API_MUST_USE fty_status fty_delta_sum(
@@ -361,13 +362,6 @@ FTY_API_INLINE fty_view fty_api_absent(void) FTY_API_NOEXCEPT {
     return absent;
 }
 
-/* The bytes from an offset to the end; absent if the offset is 0 or past the end. */
-FTY_API_INLINE fty_view fty_api_from(fty_view view, uint32_t start) FTY_API_NOEXCEPT {
-    if (start == 0 || start > view.length)
-        return fty_api_absent();
-    return fty_api_view(view, start, view.length - start);
-}
-
 /* The number of two, three, four and eight bytes. */
 FTY_API_INLINE uint32_t fty_api_two(const uint8_t *at) FTY_API_NOEXCEPT {
     return FTY_API_AS(uint32_t, at[0]) << 8 | at[1];
@@ -410,6 +404,20 @@ FTY_API_INLINE fty_view fty_items(
     return fty_api_view(view, offset, count * size);
 }
 
+/** The bytes from an offset to the end of the view; absent if the offset is past the end. */
+FTY_API_INLINE fty_view fty_from(fty_view view, size_t offset) FTY_API_NOEXCEPT {
+    if (offset > view.length)
+        return fty_api_absent();
+    return fty_api_view(view, offset, view.length - offset);
+}
+
+/** @cond */
+/* The bytes from where an offset of a font points, which is absent if it is 0. */
+FTY_API_INLINE fty_view fty_api_to(fty_view view, uint32_t start) FTY_API_NOEXCEPT {
+    return start == 0 ? fty_api_absent() : fty_from(view, start);
+}
+/** @endcond */
+
 /**
  * The bytes from where the 16-bit offset at `offset` points, to the end of the view; absent
  * if that offset is 0, missing, or past the end. (fty_part with the field's value would give
@@ -418,7 +426,7 @@ FTY_API_INLINE fty_view fty_items(
 FTY_API_INLINE fty_view fty_at_offset16(fty_view view, size_t offset) FTY_API_NOEXCEPT {
     if (!fty_api_within(view, offset, 2))
         return fty_api_absent();
-    return fty_api_from(view, fty_api_two(view.bytes + offset));
+    return fty_api_to(view, fty_api_two(view.bytes + offset));
 }
 
 /**
@@ -428,7 +436,7 @@ FTY_API_INLINE fty_view fty_at_offset16(fty_view view, size_t offset) FTY_API_NO
 FTY_API_INLINE fty_view fty_at_offset24(fty_view view, size_t offset) FTY_API_NOEXCEPT {
     if (!fty_api_within(view, offset, 3))
         return fty_api_absent();
-    return fty_api_from(view, fty_api_three(view.bytes + offset));
+    return fty_api_to(view, fty_api_three(view.bytes + offset));
 }
 
 /**
@@ -438,7 +446,7 @@ FTY_API_INLINE fty_view fty_at_offset24(fty_view view, size_t offset) FTY_API_NO
 FTY_API_INLINE fty_view fty_at_offset32(fty_view view, size_t offset) FTY_API_NOEXCEPT {
     if (!fty_api_within(view, offset, 4))
         return fty_api_absent();
-    return fty_api_from(view, fty_api_four(view.bytes + offset));
+    return fty_api_to(view, fty_api_four(view.bytes + offset));
 }
 
 /** Reads a uint8, or fails by FTY_OUT_OF_BOUNDS. */
