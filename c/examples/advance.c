@@ -96,11 +96,14 @@ static int32_t mapped(struct font *font, fty_view map, int32_t x) {
     for (size_t i = 0; i < map.length; i += 4) {
         const int32_t from = fty_i16(map, i) * 4, to = fty_i16(map, i + 2) * 4;
         require(font, i == 0 || low < from, "avar: a segment map is out of order");
+        const int is_between = i > 0 && low < x && x < from;
         if (x == from)
-            result = to, is_found = 1;
-        else if (i > 0 && low < x && x < from)
-            result = low_to + fty_fixed_mul_div(x - low, to - low_to, from - low), is_found = 1;
-        low = from, low_to = to;
+            result = to;
+        else if (is_between)
+            result = low_to + fty_fixed_mul_div(x - low, to - low_to, from - low);
+        is_found |= x == from || is_between;
+        low = from;
+        low_to = to;
     }
     require(font, is_found, "avar: a segment map without the coordinate");
     return result;
@@ -220,7 +223,8 @@ static int64_t delta_of(struct font *font, fty_view store, size_t outer, size_t 
 /* Stores the item of a glyph: by its index, or by a map, whose last entry is that of all others. */
 static void set_item(struct font *font, fty_view map, uint32_t glyph, size_t *outer,
                      size_t *inner) {
-    *outer = 0, *inner = glyph;
+    *outer = 0;
+    *inner = glyph;
     if (map.bytes == NULL)
         return;
     const int is_long = fty_u8(map, 0) == 1, bits = (fty_u8(map, 1) & 15) + 1;
@@ -231,7 +235,8 @@ static void set_item(struct font *font, fty_view map, uint32_t glyph, size_t *ou
                                       "HVAR: the map ends early");
     require(font, count > 0, "HVAR: the map is empty");
     const uint32_t entry = fty_uint(entries, size * (glyph < count ? glyph : count - 1), size);
-    *outer = entry >> bits, *inner = entry & ((UINT32_C(1) << bits) - 1);
+    *outer = entry >> bits;
+    *inner = entry & ((UINT32_C(1) << bits) - 1);
 }
 
 static uint16_t advance_of(struct font *font, uint32_t glyph) {
@@ -262,10 +267,15 @@ static void read_tables(struct font *font) {
     const fty_view hhea = table(font, FTY_TAG('h', 'h', 'e', 'a'), 36, "hhea ends early");
     const fty_view hmtx = table(font, FTY_TAG('h', 'm', 't', 'x'), 4, "hmtx ends early");
     const fty_view maxp = table(font, FTY_TAG('m', 'a', 'x', 'p'), 6, "maxp ends early");
-    font->units_per_em = fty_u16(head, 18), font->glyph_count = fty_u16(maxp, 4);
+    font->units_per_em = fty_u16(head, 18);
+    font->glyph_count = fty_u16(maxp, 4);
     require(font, 16 <= font->units_per_em && font->units_per_em <= 16384,
             "head: not 16 to 16384 units per em");
     require(font, font->glyph_count > 0, "no glyphs");
+    require(font, fty_u16(head, 0) == 1 && fty_u32(head, 12) == 0x5F0F3CF5,
+            "head: not of version 1");
+    require(font, fty_u32(maxp, 0) == 0x5000 || fty_u32(maxp, 0) == 0x10000,
+            "maxp: not of version 0.5 or 1");
     require(font, fty_u16(hhea, 34) > 0, "no advances");
     require(font, fty_u16(hhea, 0) == 1, "hhea: not of version 1");
     font->metrics = required(font, fty_items(hmtx, 0, fty_u16(hhea, 34), 4), "hmtx ends early");
@@ -286,7 +296,8 @@ static void read_variations(struct font *font) {
     require(font, font->hvar.bytes != NULL || gvar.bytes == NULL, "gvar without HVAR");
     font->axes =
         required(font, fty_items(fvar, fty_u16(fvar, 4), count, size), "fvar ends early");
-    font->axis_size = size, font->axis_count = font->error == NULL ? count : 0;
+    font->axis_size = size;
+    font->axis_count = font->error == NULL ? count : 0;
 }
 
 /* Stores the advance of a glyph. Returns null, or what is wrong. */

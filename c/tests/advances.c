@@ -16,7 +16,7 @@ static fty_view take(fty_view *cases_left, size_t length) {
     const fty_view taken = fty_part(*cases_left, 0, length);
     if (taken.bytes == NULL)
         exit(fail("cases", "end early"));
-    *cases_left = fty_part(*cases_left, length, cases_left->length - length);
+    *cases_left = fty_from(*cases_left, length);
     return taken;
 }
 
@@ -80,7 +80,8 @@ static void read_case(fty_view *left) {
     const size_t count = fty_u8(take(left, 1), 0);
     for (size_t i = 0; i < count; i++) {
         const fty_view setting = take(left, 8);
-        settings[i].tag = fty_u32(setting, 0), settings[i].value = fty_i32(setting, 4);
+        settings[i].tag = fty_u32(setting, 0);
+        settings[i].value = fty_i32(setting, 4);
     }
     request.setting_count = count;
     const fty_view glyphs = take(left, 2 * GLYPHS);
@@ -102,6 +103,6 @@ int main(int count, char **paths) {
     printf("advances: %d fonts, %d printed, %d mutations also by the proved Rust, %d messages, "
            "%d failed\n", cases, printed, both, messages, failures);
     /* With other numbers, a part was left out, or one more was refused. */
-    const int are_all = cases == 33400 && printed == 12249 && both == 11936 && messages == 67;
+    const int are_all = cases == 33403 && printed == 11476 && both == 11163 && messages == 70;
     return failures == 0 && are_all ? 0 : 1;
 }

@@ -139,7 +139,7 @@ fn fonts() -> Vec<(Vec<u8>, usize)> {
 
 /// Words that are not read: minor versions, reserved ones, lengths, flags, and those of a search.
 const UNREAD: [(&[u8; 4], &[usize]); 5] = [
-    (b"head", &[0, 2, 12, 14, 16]),
+    (b"head", &[2, 16]),
     (b"hhea", &[2, 4, 32]),
     (b"fvar", &[2, 6, 12, 14, 32, 34]),
     (b"avar", &[2, 4]),
@@ -232,7 +232,10 @@ maxp 5: maxp ends early
 head none: head: not 16 to 16384 units per em
 head 18 15: head: not 16 to 16384 units per em
 head 18 16385: head: not 16 to 16384 units per em
+head 0 2: head: not of version 1
+head 12 0x5F0F 0x3CF4: head: not of version 1
 maxp none: no glyphs
+maxp 0 2: maxp: not of version 0.5 or 1
 hhea none: no advances
 hhea 34 0: no advances
 hmtx none: hmtx ends early

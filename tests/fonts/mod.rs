@@ -89,8 +89,9 @@ pub fn font_of<const N: usize>(variations: [(&[u8; 4], Vec<u8>); N]) -> Vec<u8> 
     let os2 = table(78, &[(4, &[400]), (58, &[0x5445, 0x5354]), (68, &[800])]);
     // It was created one second before it was modified.
     let dates = [0, 0, 0, 1, 0, 0, 0, 2];
-    let head: [(_, &[u16]); 4] = [
+    let head: [(_, &[u16]); 5] = [
         (0, &[1, 0, 2, 0x8000]),
+        (12, &[0x5F0F, 0x3CF5]),
         (18, &[1000]),
         (20, &dates),
         (36, &[0xFFF6]),
