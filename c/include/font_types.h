@@ -5,9 +5,11 @@
  * For C99 and later, and for C++11 and later. Link with libfont_types.
  *
  * Each function that the library exports, in the first part below, has a contract that is
- * proved; its comment states it. The static inline functions in the second part, which read
- * views of bytes, round to integers, add, convert integers and 48.16 to 16.16, parse and print
- * by the name of a format, and give the text of a status, are C: they are tested, not proved.
+ * proved; its comment states it. The static inline functions in the second part are C. What
+ * they return is proved by CBMC, a bounded model checker, for every argument and every view
+ * of up to 2^48 bytes, and that they read nothing beyond a view; they have no loops. (Of
+ * fty_items: for items of 0 to 4, 6, 8, 12 and 16 bytes in views of less than 4 GB, and for
+ * any in views of up to 31 bytes.) That a compiler reads them as CBMC does is tested.
  *
  * A number is a raw value with a number of fraction bits f: the int32_t 98304 is
  * 98304 / 2^16 = 1.5 in 16.16, for which f is 16. f is from 6 to 30, and at most the
@@ -327,7 +329,7 @@ FTY_API_MUST_USE fty_status fty_tag_to_text(
 }
 #endif
 
-/* ---- the second part, in C: tested, not proved ---- */
+/* ---- the second part, in C: proved by CBMC ---- */
 
 /* ---- views: bytes of a font, and big-endian fields at byte offsets in them ---- */
 

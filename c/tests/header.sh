@@ -1,7 +1,7 @@
 # The header: its names, what it promises beyond values, and that each caller can include it.
 
 # The names that it declares, the libraries export and the table calls; and those that it has in C,
-# which the tests call.
+# which header.c calls.
 text=$(c++ -std=c++11 -x c++ -E -P include/font_types.h | tr '\n' ' ')
 functions=$(grep -oE '\bfty_[a-z0-9_]+\([^()]*\) noexcept *[;{]' <<<"$text" | grep -v '^fty_api_')
 names() { grep -o '\bfty_[a-z0-9_]*' | sort -u; }
@@ -13,7 +13,8 @@ fails grep -v "@@FONT_TYPES_$version\$" <<<"$exported"
 [[ $(names <<<"$exported") == "$declared" ]]
 cc -std=c99 -Iinclude -c tests/table.c -o "$work/table.o"
 [[ $(nm -u "$work/table.o" | names) == "$declared" ]]
-[[ -z $(comm -23 <(echo "$inline") <(cat tests/*.c | names)) ]]
+calls=$(cc -E -Iinclude tests/header.c | awk '/^# /{own = $3 == "\"tests/header.c\""} own' | names)
+[[ -z $(comm -23 <(echo "$inline") <(echo "$calls")) ]]
 
 # Each function is noexcept, and each but fty_matrix_images warns of a result that is ignored.
 [[ $(grep -o '\bfty_[a-z0-9_]*(' <<<"$text" | grep -v '^fty_api_' | names) == \
@@ -42,6 +43,31 @@ CPP
 macros=$(cc -E -dM include/font_types.h | grep -oE '^#define (FONT|FTY)_[A-Z_]*' | sort)
 [[ $(sed 's/#define //' <<<"$macros" | tr '\n' ' ') == \
     'FONT_TYPES_H FTY_PAD_INIT FTY_TAG FTY_VERSION FTY_VERSION_NUMBER ' ]]
+
+# What header.c states of them, proved by CBMC; and refused, each statement, if none may hold.
+proves() {
+    local asked=(cbmc --function "$1" -Iinclude tests/header.c --unwind 50 --unwinding-assertions
+        --bounds-check --pointer-check --pointer-overflow-check --pointer-primitive-check
+        --div-by-zero-check --signed-overflow-check --undefined-shift-check)
+    local status=0
+    "${asked[@]}" >"$work/$1.proof" 2>&1 || status=$?
+    "${asked[@]}" -DWRONG=1 >"$work/$1.wrong" 2>&1 || status+=" and $?"
+    if [[ $status != '0 and 10' ]] ||
+        grep '\.assertion\.[0-9]*\] .*: SUCCESS$' "$work/$1.wrong"; then
+        tail -n 20 "$work/$1.proof"
+        echo "$1: $status"
+        return 255
+    fi
+}
+if command -v cbmc >/dev/null; then
+    cc -std=c99 -Iinclude tests/header.c -o "$work/header"
+    export work
+    export -f proves
+    "$work/header" names | xargs -P "$(nproc)" -I{} bash -c 'proves {}'
+    echo "header: $("$work/header" names | wc -l) functions proved by CBMC"
+else
+    echo "left out: the proof by CBMC"
+fi
 
 # Enums may be as short as those of ARM without an operating system.
 cc -std=c11 -fshort-enums $strict tests/table.c "$archive" -o "$work/table"

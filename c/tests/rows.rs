@@ -1,5 +1,5 @@
 //! Prints results of the proved Rust, with which `c/tests/header.c` compares the functions that the
-//! header has in C: raw values rounded to integers, sums and conversions, and fields of 16 bytes.
+//! header has in C: raw values rounded to integers, sums and conversions.
 //! `rows CASES FONT LARGE` writes fonts, with what `c/examples/advance.c` has to say of them, and
 //! two of these.
 mod cases;
@@ -8,9 +8,7 @@ mod fonts;
 #[path = "../../examples/instance.rs"]
 mod instance;
 
-use font_types_proved::{
-    F2Dot14, F2Dot30, F4Dot12, F6Dot10, F26Dot6, F48Dot16, Fixed, Int24, Scalar, Uint24,
-};
+use font_types_proved::{F2Dot14, F2Dot30, F4Dot12, F6Dot10, F26Dot6, F48Dot16, Fixed};
 
 /// Prints the rounded value of each raw value of a format.
 macro_rules! round {
@@ -21,25 +19,6 @@ macro_rules! round {
         }
     };
 }
-
-/// Prints each field of a type that is within the first bytes, and that others are not.
-macro_rules! read {
-    ($name:literal, $kind:ty, $number:expr) => {
-        for len in 0..=BYTES.len() {
-            for offset in (0..=len + 1).chain([usize::MAX - 7, usize::MAX - 1, usize::MAX]) {
-                match <$kind>::read_at(&BYTES[..len], offset).map($number) {
-                    Some(number) => println!("{} {len} {offset} {number}", $name),
-                    None => println!("{} {len} {offset} none", $name),
-                }
-            }
-        }
-    };
-}
-
-/// As `header.c` has them.
-const BYTES: [u8; 16] = [
-    0x00, 0x80, 0xFF, 0x7F, 0xE3, 0x06, 0x29, 0x4C, 0x6F, 0x92, 0xB5, 0xD8, 0x01, 0xFF, 0xFF, 0x80,
-];
 
 /// Ends of 64 bits, ties and their neighbors with some fraction bits, and 10,000 numbers of random
 /// length.
@@ -105,13 +84,4 @@ fn main() {
     round!(F48Dot16, 64, 16, raw_values());
     sums(of_32());
     conversions();
-    read!("u8", u8, i64::from);
-    read!("i8", i8, i64::from);
-    read!("u16", u16, i64::from);
-    read!("i16", i16, i64::from);
-    read!("u24", Uint24, |number| number.to_u32());
-    read!("i24", Int24, |number| number.to_i32());
-    read!("u32", u32, i64::from);
-    read!("i32", i32, i64::from);
-    read!("i64", i64, i64::from);
 }

@@ -1,7 +1,7 @@
 /*
  * Calls each export, and each inline function of three formats, in C and in C++. Expected
  * values are exact: rational arithmetic, rounded and wrapped as font_types.h says.
- * header.c calls the other inline functions.
+ * header.c calls all inline functions.
  */
 #include "font_types.h"
 
@@ -10,9 +10,6 @@
 
 /* The sentinel that a call must leave in an out-parameter if it fails. */
 enum { KEPT = 7, BUFFER = 64, MOST_SCALARS = 65535, MANY_TERMS = 131073 };
-
-/* At least as many checks, or a part was left out. */
-enum { LEAST = 3600 };
 
 #define COUNT(ROWS) (sizeof(ROWS) / sizeof(ROWS)[0])
 
@@ -104,23 +101,6 @@ static fty_status (*const tag_to_text)(uint32_t, char *, size_t, size_t *) = fty
 static uint32_t (*const version)(void) = fty_version;
 
 static void check_header(void) {
-    static const char *const texts[] = {
-        "done", "not a decimal number", "result out of range",
-        "unsupported number of fraction bits", "buffer too small", "invalid padding",
-        "field out of bounds", "different numbers of scalars and deltas", "too many scalars",
-        "unknown status", "wrong length of a tag", "invalid byte in a tag",
-        "printable byte after a space in a tag", "unknown status",
-    };
-    for (size_t i = 0; i < COUNT(texts); i++) {
-        const char *text = fty_status_text((fty_status)i);
-        check_text("statuses", i, text, strlen(text), texts[i]);
-    }
-    fty_pad pad = FTY_PAD_INIT(9);
-    check("FTY_PAD_INIT", 0, "width", (int64_t)pad.width, 9);
-    check("FTY_PAD_INIT", 0, "fill", pad.fill, ' ');
-    check("FTY_PAD_INIT", 0, "align", pad.align, FTY_RIGHT);
-    check("FTY_PAD_INIT", 0, "plus", pad.plus, 0);
-    check("FTY_PAD_INIT", 0, "zeros", pad.zeros, 0);
     check("version", 0, "number", version(), FTY_VERSION_NUMBER);
     check_text("version", 0, FTY_VERSION, strlen(FTY_VERSION), "0.6.0");
 }
@@ -699,10 +679,6 @@ static void check_lengths(void) {
                         FTY_COUNT_MISMATCH);
         }
     }
-    check("lengths", 0, "of 2", (int64_t)fty_delta_set_length(1, 2), 3);
-    check("lengths", 1, "of 2, long", (int64_t)fty_delta_set_length(0x8001, 2), 6);
-    check("lengths", 2, "of none", (int64_t)fty_delta_set_length(0xFFFF, 0), 65534);
-    check("lengths", 3, "of most", (int64_t)fty_delta_set_length(0xFFFF, 65535), 196604);
 }
 
 static void check_applied(void) {
@@ -804,5 +780,6 @@ int main(int count, char **arguments) {
     check_tags();
     check_nulls();
     printf("table: %d checks, %d failed\n", checks, failures);
-    return failures == 0 && checks >= LEAST ? 0 : 1;
+    /* With another number, a part was left out. */
+    return failures == 0 && checks == 3824 ? 0 : 1;
 }
