@@ -213,8 +213,8 @@ def main():
     both, differences = compare(proved_bodies(crates), rust)
     errors = []
     for name in sorted(differences.keys() | DIFFERENT.keys()):
-        lines, (_, *listed) = differences.get(name, ["nothing"]), DIFFERENT.get(name, [""])
-        if lines != sorted(listed):
+        lines, (_, listed) = differences.get(name, ["nothing"]), DIFFERENT.get(name, ("", ""))
+        if lines != sorted(listed.split("; ")):
             errors.append("\n    ".join([f"{name}, in Rust {both.get(name, name)}", *lines]))
     left_out = set(rust.crates.values()) - {it.split("::")[0] for it in both}
     errors += [f"no function of {it} is compared" for it in left_out]

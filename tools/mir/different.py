@@ -18,45 +18,24 @@ DIFFERENT = {
     ),
     "font_decimal::grammar::after_point": (
         "a pattern of a slice, whose length Rust compares and Rattle has by `<`",
-        "compiled: branch, if False",
-        "compiled: literal 0 of 64",
-        "compiled: op < 1 u64, if False",
-        "compiled: op Eq 64",
-        "proved: op < 1 u64",
+        "compiled: branch, if False; compiled: literal 0 of 64; compiled: op < 1 u64, if False; "
+        "compiled: op Eq 64; proved: op < 1 u64",
     ),
     "font_ids::name_id::PredefinedIterator::size_hint": (
         "a pattern of ranges, which Rattle has as values",
-        "compiled: branch",
-        "compiled: branch, if False",
-        "compiled: literal 0 of 16",
-        "compiled: op < 0 u16",
-        "compiled: op < 16 u16, if False",
-        "proved: literal 0 of 16, if False",
+        "compiled: branch; compiled: branch, if False; compiled: literal 0 of 16; compiled: op "
+        "< 0 u16; compiled: op < 16 u16, if False; proved: literal 0 of 16, if False",
     ),
     "font_tags::tag::Tag::new_checked": (
         "patterns of a slice, as above: `==` of lengths in Rust, `<` in Rattle",
-        "compiled: branch",
-        "compiled: call tag::first_fault",
-        "compiled: literal 1 of 64",
-        "compiled: literal 2 of 64, if False",
-        "compiled: literal 3 of 64, if False",
-        "compiled: literal 4 of 64, if False",
-        "compiled: make Err, if False",
-        "compiled: make InvalidLength, if False",
-        "compiled: op Eq 64",
-        "compiled: op Eq 64, if False",
-        "compiled: op Eq 64, if False",
-        "compiled: op Eq 64, if False",
-        "proved: branch, if False",
-        "proved: branch, if False",
-        "proved: call tag::first_fault, if False",
-        "proved: make Err",
-        "proved: make InvalidLength",
-        "proved: op < 1 u64",
-        "proved: op < 2 u64, if False",
-        "proved: op < 3 u64, if False",
-        "proved: op < 4 u64, if False",
-        "proved: op < 5 u64, if False",
+        "compiled: branch; compiled: call tag::first_fault; compiled: literal 1 of 64; "
+        "compiled: literal 2 of 64, if False; compiled: literal 3 of 64, if False; compiled: "
+        "literal 4 of 64, if False; compiled: make Err, if False; compiled: make InvalidLength, "
+        "if False; compiled: op Eq 64; compiled: op Eq 64, if False; compiled: op Eq 64, if "
+        "False; compiled: op Eq 64, if False; proved: branch, if False; proved: branch, if "
+        "False; proved: call tag::first_fault, if False; proved: make Err; proved: make "
+        "InvalidLength; proved: op < 1 u64; proved: op < 2 u64, if False; proved: op < 3 u64, "
+        "if False; proved: op < 4 u64, if False; proved: op < 5 u64, if False",
     ),
 }
 
