@@ -1,0 +1,34 @@
+//! How many tests, modules, mutants and stored lines there are: a merge that loses some is seen.
+//! A commit that adds or removes one changes its number here.
+
+use font_types_tools::repository::{files, root};
+use std::fs;
+
+/// A folder, the ending of its files, a text, and how often they have it.
+const COUNTS: [(&str, &str, &str, usize); 12] = [
+    ("tests", ".rs", "#[test]\n", 116),
+    ("tools/tests", ".rs", "#[test]\n", 33),
+    ("compare/tests", ".rs", "#[test]\n", 41),
+    ("crates", ".rt", "#[test]\n", 169),
+    ("tests", ".rs", "#[ignore", 0),
+    ("compare/tests", ".rs", "#[ignore", 6),
+    ("crates", ".rt", "\nmod ", 116),
+    ("crates", ".edit", "# clause: ", 262),
+    ("crates", ".edit", "# control: ", 79),
+    ("crates/fontval", "stdin", "\n", 208),
+    ("c/tests", ".sh", "\n", 332),
+    ("tools/tests", ".faults", "\n", 37),
+];
+
+#[test]
+fn none_is_lost() {
+    for (folder, ending, what, number) in COUNTS {
+        let bytes = files(folder, ending)
+            .into_iter()
+            .map(|path| fs::read(root().join(path)).unwrap());
+        let found: usize = bytes
+            .map(|bytes| String::from_utf8_lossy(&bytes).matches(what).count())
+            .sum();
+        assert_eq!(found, number, "{what:?} in {folder}");
+    }
+}
