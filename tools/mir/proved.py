@@ -232,7 +232,7 @@ class Body(Function):
         self.target = place["local"]
         path = of.get("Fn", [""])[0]
         # What `format_args!` makes of a text, and what only a proof needs.
-        if "::literal::" in path or self.library.does_nothing(path):
+        if path.startswith("core::fmt::literal::") or self.library.does_nothing(path):
             return
         wide = re.search(rf"({INTEGER}|Char)From({INTEGER})::from$", path)
         if wide:

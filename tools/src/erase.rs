@@ -155,9 +155,10 @@ impl<'a> Eraser<'a> {
             ["#", ..] => self.attribute(at, at + 1),
             ["pub" | "ghost" | "mod" | "use", ..] => self.item(at),
             ["fn", name, ..] if name != "(" => self.function(at),
-            // A fact for a proof. Only of the library does `tools/mir` see that it is no more.
-            ["let", "_bytes", ..] if self.of.target == Target::Library => {
+            // A fact for a proof.
+            ["let", "_bytes", "=", ..] if self.of.target == Target::Library => {
                 let end = self.item_end(at)?;
+                self.check_fact(at + 3, end - 1)?;
                 Ok(self.leave_out_with_comments(at..end))
             }
             ["Formatter", "<", "W", ">", ..] if self.is_of_writer(at) => {

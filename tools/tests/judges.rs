@@ -106,6 +106,10 @@ fn program_that_erases() {
     let (old, new) = ("Self { x, y }", "Self /* */ { x, y }");
     let (passes, printed) = copy.with(source, old, new, erase);
     assert!(!passes && printed.contains(source), "{printed}");
+    let left_out = "crates/font_types/src/json/number.rt";
+    let (old, new) = ("impl JsonScalar for Int24", "impl Scaled for Int24");
+    let (passes, printed) = copy.with(left_out, old, new, erase);
+    assert!(!passes && printed.contains(left_out), "{printed}");
 }
 
 #[test]

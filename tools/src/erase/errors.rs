@@ -16,7 +16,7 @@ pub fn impls(words: &[&str]) -> String {
             false => ("Self".into(), words[kind + 2]),
         };
         // A field without a name is shown by its number.
-        let text = text.replace("{0", "{field_0");
+        let text = text.replace("{0}", "{field_0}").replace("{0:", "{field_0:");
         let pieces = text.split('{').skip(1);
         let shown = pieces.filter_map(|piece| piece.split([':', '}']).next());
         let shown: String = shown.map(|field| format!("{field}, ")).collect();

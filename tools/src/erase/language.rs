@@ -1,6 +1,6 @@
-//! Forms that Rust could read otherwise than Rattle, which are errors. Lists name what is known to
-//! mean the same, and an error names the list. Any other form is for rustc to read, and what it
-//! becomes is compared by `tools/mir`, but not in the program and in the library for C.
+//! Forms that Rust is known to read otherwise than Rattle, which are errors. Lists name what is
+//! known to mean the same, and an error names the list. Of any other form `tools/mir` compares the
+//! calls, operators, literals and branches, but not in the program and in the library for C.
 
 use super::{Eraser, Error, Target, is_crate};
 
@@ -17,6 +17,10 @@ const DERIVES: &str = "DERIVES: Clone Copy Debug Default Eq Hash Ord PartialEq P
 /// The imports that only a proof uses, or Rust does not have.
 const UNUSED: &str = "UNUSED: usecrate::facts::each_is_byte; usethiserror::Error; \
      usecrate::json::round_trip; usejson::{JsonFault,JsonScalar}; usestd::alloc::AllocError;";
+
+/// The values of `let _bytes`, of which only a proof needs the facts.
+const FACTS: &str = "FACTS: each_is_byte(self) each_is_byte(slice) raw.as_slice() \
+     each_is_byte(raw.as_slice()) font_base::BeByteArray::as_slice(&self.0)";
 
 /// The modules of `std`.
 const STD: &str = "STD: alloc cmp error fmt hash io iter marker ops process slice str";
@@ -56,6 +60,10 @@ impl Eraser<'_> {
             [".", ".", ")" | "}" | "{" | ";" | ",", ..] if !is_pattern => "a range with no end",
             ["use", ..] if self.words[at..self.item_end(at)?].contains(&"*") => "an import of all",
             ["use", ..] if self.words[at..self.item_end(at)?].contains(&"as") => "another name",
+            // Beside one for the value, a bound of one compiler alone would decide which is called.
+            ["for", "&", ..] if self.depth == 0 && !before.ends_with(&["IntoIterator"]) => {
+                "an `impl` for a reference"
+            }
             // A method that is public here would be so in the other crates.
             ["pub", "(", "crate", ")", "fn" | "const", ..] if self.depth == 0 => return Ok(()),
             ["pub", "(", ..] => "`pub(..)` of something else than a function",
@@ -73,12 +81,13 @@ impl Eraser<'_> {
             ["Hasher", "for", ..] => "a `Hasher` of one's own",
             // Rattle does not read it if each field is written: `..v[n]` may be past the end.
             [",", ".", ".", name, next, ..]
-                if is_name(name) && !matches!(next, "}" | "]" | ")") =>
+                if !(matches!(name, "}" | "]" | ")" | "=")
+                    || is_name(name) && matches!(next, "}" | "]" | ")")) =>
             {
                 "a base or an end of a range that is not a name"
             }
             // Rust may ask the left one once less.
-            [".", "zip", ..] if !before.ends_with(&["iter", "(", ")"]) => "`zip` of a closure",
+            ["zip", ..] if !before.ends_with(&["iter", "(", ")", "."]) => "`zip` of a closure",
             ["std", "::", module, ..] if self.is_start(at) => return self.check(at, module, STD),
             ["crate", ")", ..] if before.ends_with(&["pub", "("]) => return Ok(()),
             [name, "::", ..] if is_root(name) && self.is_start(at) => return Ok(()),
@@ -106,6 +115,11 @@ impl Eraser<'_> {
     pub(super) fn check_derives(&self, at: usize, end: usize) -> Result<(), Error> {
         let mut names = (at..end).filter(|name| self.words[*name] != ",");
         names.try_for_each(|name| self.check(name, self.words[name], DERIVES))
+    }
+
+    /// Refuses the value of a `let _bytes`, if it is not of the language.
+    pub(super) fn check_fact(&self, at: usize, end: usize) -> Result<(), Error> {
+        self.check_words(at, end, FACTS)
     }
 
     /// Whether an import is one that is left out. The program has `AllocError`.

@@ -78,6 +78,9 @@ fn add_file(
     let text = std::fs::read_to_string(repository::root().join(&source))
         .map_err(|error| format!("{source}: {error}"))?;
     let erased = erase(&text, of, module == "mod").map_err(|error| message(&source, error))?;
+    for left_out in of.left_out.iter().filter(|_| module == "mod") {
+        check_left_out(&format!("{from}/{left_out}"))?;
+    }
     let head = format!("// @generated from {source} by tools/src/bin/erase.rs\n\n");
     let rust = formatted(&(head + &erased.rust)).map_err(|error| format!("{source}: {error}"))?;
     files.insert(format!("{to}/{module}.rs"), rust);
@@ -89,6 +92,22 @@ fn add_file(
     for inner in erased.modules {
         let (from, to) = (below(from, name), below(to, module));
         add_file(files, of, [&from, inner], [&to, inner])?;
+    }
+    Ok(())
+}
+
+// Refuses an `impl` of a module that is left out, or below it, if a call that is kept could be of
+// it: it may be of the trait or for the error that are left out too.
+fn check_left_out(module: &str) -> Result<(), String> {
+    let below = repository::files(module, ".rt");
+    for path in [format!("{module}.rt")].into_iter().chain(below) {
+        let is_other = |line: &&str| {
+            let own = [" JsonScalar for ", " for JsonFault {"];
+            line.trim_start().starts_with("impl") && !own.iter().any(|own| line.contains(own))
+        };
+        if let Some(line) = repository::text(&path).lines().find(is_other) {
+            return Err(format!("{path}: `{line}`, in a module that is left out"));
+        }
     }
     Ok(())
 }
