@@ -35,11 +35,6 @@ fn components_scaled(rt: HostRuntime) {
     assert!(rt; scale_component(scale, component, point) == point);
     assert!(rt; in_turn(scale, component.transform, point) == point);
     assert!(rt; scale_in_turn(scale, component, point) == point);
-    // The first sum of the x coordinate leaves 32 bits, and the second is in them again.
-    let scale = Matrix::from_elements([1, 0, 1, 1, -30000, 0]).map(Fixed::from_i32);
-    let point = Point::new(20000, 20000).map(Fixed::from_i32);
-    let moved = Point::new(10000, 20000).map(Fixed::from_i32);
-    assert!(rt; scale_component(scale, component, point) == moved);
 }
 
 #[test]
