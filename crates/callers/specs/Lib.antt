@@ -5,3 +5,4 @@ pub mod Dumper
 pub mod Start
 pub mod Packed
 pub mod Hinting
+pub mod Writer

@@ -3,6 +3,7 @@
 //!
 //! - `start`: a first caller, which docs/CALLING.md shows.
 //! - `reader`: tables, as `head`, `hmtx`, coverage and `VORG`.
+//! - `writer`: fields, headers, and a `loca` of 16-bit offsets.
 //! - `packed`: packed deltas, as in `gvar` and `cvar`.
 //! - `scaler`: outlines through a chain of matrices.
 //! - `hinting`: extents of outlines, and positions between two others.
@@ -19,3 +20,4 @@ pub mod scaler;
 pub mod start;
 #[cfg(test)]
 mod tests;
+pub mod writer;

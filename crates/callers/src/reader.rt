@@ -142,18 +142,6 @@ pub fn has_bearings_at_zero(flags: u16) -> bool
     flags & 0x0002 != 0
 }
 
-/// Writes a word at an offset, as a checksum or an offset is mended in place, or returns `None` if
-/// the table ends before it.
-pub fn write_word(bytes: &mut [u8], offset: usize, word: u32) -> Option<()>
-    ensures variant { IsSome result ↔ (offset + 4 ≤ length bytes.old) }
-    ensures before { take offset bytes.new ≡ take offset bytes.old }
-    ensures word { IfSome result (λ _.
-        take 4 (drop offset bytes.new) ≡ bytes_of 4 (pos word)) }
-    ensures after { drop (offset + 4) bytes.new ≡ drop (offset + 4) bytes.old }
-{
-    word.write_at(bytes, offset)
-}
-
 // ---- `hmtx`
 
 /// A horizontal metric, a record of `hmtx`.

@@ -8,3 +8,4 @@ mod packed;
 mod reader;
 mod scaler;
 mod start;
+mod writer;

@@ -16,6 +16,7 @@ use Rattle.font_types.proofs.Parts.{part_calls, unit_calls, between_calls, lerp_
 use Rattle.font_types.proofs.Narrowed.{exact_narrow_calls, exact_sum_is_integral, negation_is_integral}
 use Rattle.font_types.proofs.ArrayNumbers.{array_number_calls}
 use Rattle.font_types.proofs.Below.{below_calls}
+use Rattle.font_types.proofs.Writes.{write_calls}
 pub use Rattle.font_base.proofs.ScalarCalls.{absent, nowhere, rises_by}
 pub use Rattle.font_base.proofs.Moved.{bytes_moved}
 pub use Rattle.font_base.specs.Wrap.Laws.{wrap_is, wrap_unique, wrap-fits}
@@ -41,6 +42,7 @@ pub use Rattle.font_types.proofs.Searches.{found_by_number}
 pub use Rattle.font_types.proofs.SumCalls.{running_total, running_total_from}
 pub use Rattle.font_types.proofs.Below.{hex_padded}
 pub use Rattle.font_types.proofs.Parts.{quotient_of_widened}
+pub use Rattle.font_types.proofs.Writes.{written_on}
 pub use Rattle.font_types.specs.Json.Laws.{fixed_form, signed_form, unsigned_form, tag_form, version_form_of}
 
 -- numbers that fit, sums with 0, products with 0 and 1, quotients, and `mul_div`
@@ -78,3 +80,6 @@ pub ruleset integers = (integral_rules, negation_is_integral, calls_32)
 
 -- for a narrowed number that fits
 pub ruleset narrowings = (exact_narrow_calls)
+
+-- for several writes in one body
+pub ruleset writes = (write_calls)
