@@ -2,7 +2,7 @@
 //! does, is missing or prints something else, and names what it leaves out.
 #![cfg(unix)]
 
-use font_types_tools::repository::text;
+use font_types_tools::repository::{root, text};
 use std::env;
 use std::fs;
 use std::os::unix::fs::{PermissionsExt, symlink};
@@ -27,7 +27,8 @@ cargo test --quiet --release --test program --test original --test preconditions
 cc -shared -fPIC -o refuse.so tools/refuse.c
 python3 compare/fontations/edit.py
 python3 tools/mir
-rt ci";
+rt ci
+tools/verdicts";
 
 /// The command that may fail.
 const FETCH: &str = "cargo fetch --quiet --manifest-path compare/Cargo.toml";
@@ -40,6 +41,7 @@ const REQUESTS: usize = 2;
 const TOOL: &str = r#"#!/bin/sh
 call="$(basename "$0") $*"
 [ "$call" != "check " ] || call=c/check
+[ "$call" != "verdicts " ] || call=tools/verdicts
 [ "$call" = "${call#*edit.py}" ] || call="python3 compare/fontations/edit.py"
 [ "${call%% *}" != cc ] || call="cc -shared -fPIC -o refuse.so tools/refuse.c"
 [ -z "$RUSTDOCFLAGS" ] || call="$call; $RUSTDOCFLAGS"
@@ -123,6 +125,7 @@ impl Gate {
         }
         for path in [
             "c/check",
+            "tools/verdicts",
             "crates/font_types/out/font_types_tests",
             "crates/fontval/out/fontval",
         ] {
@@ -263,4 +266,13 @@ fn gate_fails_without_a_tool() {
         assert!(!run.passes && run.errors.contains(&told), "{}", run.errors);
         assert_eq!(run.lines, ["0 passed, 1 failed"], "{tool}");
     }
+}
+
+#[test]
+fn verdicts_are_of_head() {
+    let mut bash = Command::new("bash");
+    let bash = bash.arg("tools/tests/verdicts.sh").current_dir(root());
+    let path = env::var_os("PATH").unwrap();
+    let output = bash.env_clear().env("PATH", path).output().unwrap();
+    assert!(output.status.success(), "{output:?}");
 }

@@ -3,9 +3,9 @@
 
 use font_types_tools::repository::{files, text};
 
-/// Endings of files of code, with two scripts by their paths.
+/// Endings of files of code, with three scripts by their paths.
 const CODE: [&str; 6] = [".rt", ".rs", ".c", ".h", ".cpp", ".sh"];
-const SCRIPTS: [&str; 2] = [".ci/run", "c/check"];
+const SCRIPTS: [&str; 3] = [".ci/run", "c/check", "tools/verdicts"];
 
 /// Endings of documents and proofs.
 const DOCUMENTS: [&str; 2] = [".md", ".antt"];

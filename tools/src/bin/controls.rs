@@ -77,6 +77,10 @@ fn are_proved(copy: &Path, controls: &[&Control]) -> bool {
 }
 
 fn main() -> ExitCode {
+    // The files that they are of.
+    Command::new(root().join("tools/verdicts"))
+        .status()
+        .unwrap();
     // All crates, or one.
     let folder = format!("crates/{}", env::args().nth(1).unwrap_or_default());
     let edits = files(folder.trim_end_matches('/'), ".edit").into_iter();
