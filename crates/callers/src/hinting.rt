@@ -2,7 +2,8 @@
 
 ghost use Rattle.std.specs.Prelude.{◌≡◌, ◌≢◌, ◌↔◌, ◌<◌, neg_ℤ, pos, ◌+ℤ◌, ◌-ℤ◌, ◌*ℤ◌};
 ghost use Rattle.std.specs.Prelude.{◌≤ℤ◌, ◌<ℤ◌, ◌≤◌, ◌^◌, unsigned_abs, length, All, IsTrue};
-ghost use Rattle.std.specs.Prelude.{int_lt};
+ghost use Rattle.std.specs.Prelude.{int_lt, MatchOption, IfOk};
+ghost use Rattle.std.specs.Int.{w32};
 ghost use Rattle.std.specs.List.{find};
 ghost use Rattle.font_types.specs.Fixed;
 ghost use Rattle.font_types.specs.Fixed.{fixed_bits};
@@ -12,10 +13,12 @@ ghost use Rattle.font_types.specs.F2Dot14.{f2dot14_bits};
 ghost use Rattle.font_types.specs.FWord.{fword_number};
 ghost use Rattle.font_types.specs.NameId.{name_number};
 ghost use Rattle.font_types.specs.Near.{near, up};
+ghost use Rattle.font_types.specs.NumberReading.{ParsesFixedPoint};
 ghost use Rattle.font_types.specs.FixedMatrix.{wrapped_sum, wrapped_product};
 ghost use Rattle.font_types.specs.Operations.{IsIntegral, IsMulDiv};
 ghost use Rattle.font_types.specs.Wrap.{FitsBits, wrap};
 ghost use Rattle.callers.specs.Hinting.{IsLeast, IsGreatest, ParsesScale};
+ghost use Rattle.callers.specs.Hinting.{high_start, AreEnds, HasValue, ParsesRange};
 
 use font_types::{BoundingBox, DecimalFault, F2Dot14, F26Dot6, FWord, Fixed, NameId};
 
@@ -323,6 +326,59 @@ pub fn read_scale(text: &str) -> Result<Fixed, ScaleError>
 {
     let number = text.strip_prefix("scale=").ok_or(ScaleError::Prefix)?;
     Fixed::from_decimal(number).map_err(ScaleError::Number)
+}
+
+/// A range of an axis, both ends included.
+#[derive(Clone, Copy, PartialEq, Debug)]
+pub struct AxisRange {
+    pub low: Fixed,
+    pub high: Fixed,
+}
+
+/// Why a text is not a range.
+#[derive(Clone, PartialEq, Debug, Drop)]
+pub enum RangeError {
+    /// It has no `:`.
+    NoHigh,
+    /// The part before the `:` is not a decimal number in range.
+    Low(DecimalFault),
+    /// The part after it is not a decimal number in range.
+    High(DecimalFault),
+    /// The first number is greater than the second.
+    Reversed(Fixed, Fixed),
+}
+
+// Splits a text at its first `:`.
+#[tactic(auto, using(std::proofs::lemmas::Str::Pattern::split_once_first))]
+fn split_range(text: &str) -> Option<(&str, &str)>
+    ensures { MatchOption result (high_start text.now ≡ length text.now)
+        (λ parts. AreEnds text.now parts.0.now parts.1.now) }
+{
+    text.split_once(':')
+}
+
+// Reads an end of a range, and ensures that there is a value.
+fn read_end(text: &str) -> Result<Fixed, DecimalFault>
+    ensures number { IfOk result (λ _. HasValue text.now) }
+    ensures value { ParsesFixedPoint w32 16 fixed_bits text.now result }
+{
+    Fixed::from_decimal(text)
+}
+
+/// Reads a range such as `0.5:2`, whose ends may be equal.
+///
+/// `High` says that there is a first value, which only a call can ensure: after `map_err(..)?`, it
+/// stays open. `Reversed` has both numbers, so that its clause names them.
+pub fn read_range(text: &str) -> Result<AxisRange, RangeError>
+    ensures { ParsesRange text.now result }
+{
+    let (low, high) = split_range(text).ok_or(RangeError::NoHigh)?;
+    let low = read_end(low).map_err(RangeError::Low)?;
+    let high = Fixed::from_decimal(high).map_err(RangeError::High)?;
+    if low > high {
+        return Err(RangeError::Reversed(low, high));
+    }
+    Ok(AxisRange { low, high })
 }
 
 // ---- `name`

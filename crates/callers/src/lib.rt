@@ -2,7 +2,7 @@
 //! proved against the contract that its caller wants, and run by a test.
 //!
 //! - `start`: a first caller, which docs/CALLING.md shows.
-//! - `reader`: tables, as `head`, `hmtx`, coverage and `VORG`.
+//! - `reader`: tables, as `head`, `hmtx`, `kern`, coverage and `VORG`.
 //! - `writer`: fields, headers, and a `loca` of 16-bit offsets.
 //! - `packed`: packed deltas, as in `gvar` and `cvar`.
 //! - `scaler`: outlines through a chain of matrices.

@@ -3,6 +3,7 @@
 ghost use Rattle.std.specs.Prelude.{◌≡◌, ◌≢◌, ◌↔◌, ◌≤◌, ◌<◌, ◌+◌, ◌*◌, ◌/◌, ◌%◌, ◌^◌, ◌&&◌, ◌++◌};
 ghost use Rattle.std.specs.Prelude.{ℕ, pos, nat_lt, refl};
 ghost use Rattle.std.specs.Prelude.{IsTrue, IsSome, IfSome, IfNone, IfOk, IfErr, MatchOption};
+ghost use Rattle.std.specs.Prelude.{MatchResult, IsSomeAnd, Result, None};
 ghost use Rattle.std.specs.Prelude.{length, take, drop, vec_len, All};
 ghost use Rattle.std.specs.List.{HoldsAt};
 ghost use Rattle.std.specs.List.Sorted.{IsSortedByKey};
@@ -19,11 +20,12 @@ ghost use Rattle.font_types.specs.Array.{IsSearched, IsPartitionPoint};
 ghost use Rattle.font_types.specs.BigEndian.{raw_value};
 ghost use Rattle.font_types.specs.Wrap.{fits_bits};
 ghost use Rattle.font_types.specs.FWord.{fword_number, fword_of, ufword_number, ufword_of};
-ghost use Rattle.font_types.specs.GlyphId.{glyph16_number};
+ghost use Rattle.font_types.specs.GlyphId.{glyph16_number, glyph16_of};
 ghost use Rattle.font_types.specs.LongDateTime.{date_seconds};
 ghost use Rattle.font_types.specs.Offset.{offset32_number};
 ghost use Rattle.font_types.specs.Uint24.{uint24_number};
 ghost use Rattle.callers.specs.Reader.{advance_offset, IsVertOrigin};
+ghost use Rattle.callers.specs.Reader.{pair_key};
 
 use font_types::{
     BigEndian, FWord, Fixed, FixedSize, GlyphId16, IdentityEq, LongDateTime, Offset32, Scalar,
@@ -218,6 +220,118 @@ pub fn advance_width(hmtx: &[u8], count: u16, glyph: GlyphId16) -> Option<UfWord
 {
     let last = usize::from(count) - 1;
     UfWord::read_at(hmtx, 4 * usize::from(glyph.to_u16()).min(last))
+}
+
+// ---- `kern`
+
+/// The glyphs of a kerning pair.
+#[derive(Clone, Copy)]
+pub struct GlyphPair {
+    pub left: GlyphId16,
+    pub right: GlyphId16,
+}
+
+impl GlyphPair {
+    /// Returns both glyphs as one number, by which pairs are sorted.
+    pub fn key(self) -> u32
+        ensures { result ≡ pair_key self }
+    {
+        self.left.to_u32() * 0x1_0000 + self.right.to_u32()
+    }
+}
+
+/// A kerning pair, a record of `kern`, format 0.
+///
+/// A record of three fields is a scalar if the first two are a struct of their own: `record_laws`
+/// takes the laws of that struct, by `record_laws`, and those of the third field.
+#[derive(Clone, Copy)]
+pub struct KernPair {
+    pub glyphs: GlyphPair,
+    pub value: FWord,
+}
+
+impl FixedSize for KernPair {
+    const RAW_BYTE_LEN: usize = 6;
+
+    ghost RAW_BYTE_LEN = { 6 };
+}
+
+impl Scalar for KernPair {
+    type Raw = [u8; 6];
+
+    ghost is_scalar = { λ pair. (nat_lt (glyph16_number pair.glyphs.left) (2 ^ 16)
+        && nat_lt (glyph16_number pair.glyphs.right) (2 ^ 16))
+        && fits_bits 16 (fword_number pair.value) };
+
+    ghost of_raw = { λ raw. record {
+      glyphs = record {
+        left = glyph16_of (numeral (take 2 (take 4 raw)));
+        right = glyph16_of (numeral (drop 2 (take 4 raw)));
+      };
+      value = fword_of (signed_numeral 2 (drop 4 raw));
+    } };
+
+    ghost raw_of = { λ pair. (bytes_of 2 (pos (glyph16_number pair.glyphs.left))
+        ++ bytes_of 2 (pos (glyph16_number pair.glyphs.right)))
+        ++ bytes_of 2 (fword_number pair.value) };
+
+    ghost laws = { record_laws 4 2 (λ pair. pair.glyphs) (λ pair. pair.value)
+        (λ glyphs value. record { glyphs = glyphs; value = value })
+        (λ _ _. refl) (λ _ _. refl) (λ _. refl)
+        (record_laws 2 2 (λ glyphs. glyphs.left) (λ glyphs. glyphs.right)
+        (λ left right. record { left = left; right = right })
+        (λ _ _. refl) (λ _ _. refl) (λ _. refl)
+        (unsigned_newtype 2 glyph16_number glyph16_of (λ _. refl) (λ _. refl))
+        (unsigned_newtype 2 glyph16_number glyph16_of (λ _. refl) (λ _. refl)))
+        (signed_newtype 2 (lit< tt) fword_number fword_of (λ _. refl) (λ _. refl)) };
+
+    fn from_raw(raw: [u8; 6]) -> KernPair {
+        let glyphs = &raw[..4];
+        KernPair {
+            glyphs: GlyphPair {
+                left: GlyphId16::read(&glyphs[..2]).unwrap(),
+                right: GlyphId16::read(&glyphs[2..]).unwrap(),
+            },
+            value: FWord::read(&raw[4..]).unwrap(),
+        }
+    }
+
+    fn to_raw(self) -> [u8; 6] {
+        let [a, b] = self.glyphs.left.to_be_bytes();
+        let [c, d] = self.glyphs.right.to_be_bytes();
+        let [e, f] = self.value.to_be_bytes();
+        [a, b, c, d, e, f]
+    }
+}
+
+/// Returns the index of a pair among pairs sorted by `key`, or else where it has its place.
+pub fn pair_index(pairs: &ScalarArray<'_, KernPair>, glyphs: GlyphPair) -> Result<usize, usize>
+    ensures { IsSearched pairs.now
+        (λ pair. nat_cmp (pair_key pair.glyphs) (pair_key glyphs)) result }
+{
+    pairs.binary_search_by(|pair| pair.glyphs.key().cmp(&glyphs.key()))
+}
+
+/// Returns the value of the pair at an index, or `None` if there are fewer pairs.
+pub fn pair_value(pairs: &ScalarArray<'_, KernPair>, index: usize) -> Option<FWord>
+    ensures variant { IsSome result ↔ (index < array_len pairs.now) }
+    ensures value { IfSome result (λ value. fword_number value
+        ≡ signed_numeral 2 (drop 4 (element_bytes pairs.now index))) }
+{
+    Some(pairs.get(index)?.value)
+}
+
+/// Returns the value of a pair of glyphs among pairs sorted by `key`, or `None` if it has none.
+///
+/// The clause says that there is a result of the search, and that the value is of the pair there.
+pub fn kerning(pairs: &ScalarArray<'_, KernPair>, glyphs: GlyphPair) -> Option<FWord>
+    ensures { (found : Result ℕ ℕ) × IsSearched pairs.now
+        (λ pair. nat_cmp (pair_key pair.glyphs) (pair_key glyphs)) found
+        × MatchResult found (λ k. IsSomeAnd result (λ value. fword_number value
+        ≡ signed_numeral 2 (drop 4 (element_bytes pairs.now k)))) (λ _. result ≡ None) }
+{
+    let index = pair_index(pairs, glyphs).ok()?;
+    pair_value(pairs, index)
 }
 
 // ---- searches

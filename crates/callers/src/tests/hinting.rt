@@ -1,9 +1,10 @@
 //! A hinter.
 
 use crate::hinting::{
-    Edge, NameRecord, ScaleError, are_within, between, blend, bounds, depth, far_edge, greatest,
-    interpolate, interpolate_point, is_windows_name, least, line_above, lowered, nearest_pixel,
-    opposite, read_scale, scaled_units, scaled_width, small_product, weighted_sum, zone_above,
+    AxisRange, Edge, NameRecord, RangeError, ScaleError, are_within, between, blend, bounds, depth,
+    far_edge, greatest, interpolate, interpolate_point, is_windows_name, least, line_above,
+    lowered, nearest_pixel, opposite, read_range, read_scale, scaled_units, scaled_width,
+    small_product, weighted_sum, zone_above,
 };
 use font_types::{BoundingBox, DecimalFault, F2Dot14, F26Dot6, FWord, Fixed, NameId};
 
@@ -40,6 +41,24 @@ fn settings(rt: HostRuntime) {
         ("scale", ScaleError::Prefix),
     ] {
         assert!(rt; read_scale(text) == Err(error), "{text}");
+    }
+}
+
+#[test]
+fn ranges(rt: HostRuntime) {
+    let [half, two] = [0x8000, 0x2_0000].map(Fixed::from_bits);
+    for &(text, low, high) in &[("0.5:2", half, two), ("2:2", two, two)] {
+        assert!(rt; read_range(text) == Ok(AxisRange { low, high }), "{text}");
+    }
+    for (text, error) in [
+        ("0.5", RangeError::NoHigh),
+        (":2", RangeError::Low(DecimalFault::Syntax)),
+        ("40000:x", RangeError::Low(DecimalFault::OutOfRange)),
+        ("0.5:", RangeError::High(DecimalFault::Syntax)),
+        ("0.5:2:3", RangeError::High(DecimalFault::Syntax)),
+        ("2:0.5", RangeError::Reversed(two, half)),
+    ] {
+        assert!(rt; read_range(text) == Err(error), "{text}");
     }
 }
 

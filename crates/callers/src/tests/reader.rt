@@ -1,9 +1,9 @@
 //! A reader of tables.
 
 use crate::reader::{
-    Head, VertOriginYMetrics, advance_width, coverage_index, day_of, has_bearings_at_zero, metric,
-    origin_index, read_selector, segment_of, selector_index, table_bytes, units_per_em,
-    vert_origin_y,
+    GlyphPair, Head, VertOriginYMetrics, advance_width, coverage_index, day_of,
+    has_bearings_at_zero, kerning, metric, origin_index, pair_index, pair_value, read_selector,
+    segment_of, selector_index, table_bytes, units_per_em, vert_origin_y,
 };
 use font_types::{
     FWord, Fixed, GlyphId16, LongDateTime, ScalarArray, TableDataRef, UfWord, Uint24,
@@ -80,6 +80,28 @@ fn metrics_of_glyphs(rt: HostRuntime) {
         let found = advance_width(&hmtx, 2, GlyphId16::new(glyph));
         assert!(rt; found == Some(UfWord::new(advance)), "advance of {glyph}");
     }
+}
+
+#[test]
+fn kerning_pairs(rt: HostRuntime) -> Result<(), Fail> {
+    let kern = [0, 3, 0, 9, 0xFF, 0xCE, 0, 3, 1, 0, 0, 20, 1, 0, 0, 3, 0, 7];
+    let pairs = ScalarArray::new(&kern).ok_or("three pairs")?;
+    for &(left, right, index, value) in &[
+        (3, 9, Ok(0), Some(-50)),
+        (3, 256, Ok(1), Some(20)),
+        (256, 3, Ok(2), Some(7)),
+        (9, 3, Err(2), None),
+    ] {
+        let [left, right] = [left, right].map(GlyphId16::new);
+        let glyphs = GlyphPair { left, right };
+        assert!(rt; pair_index(&pairs, glyphs) == index, "{left} {right}");
+        assert!(rt;
+            kerning(&pairs, glyphs) == value.map(FWord::new),
+            "{left} {right}"
+        );
+    }
+    assert!(rt; pair_value(&pairs, 3).is_none());
+    Ok(())
 }
 
 #[test]
