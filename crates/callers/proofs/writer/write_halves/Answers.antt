@@ -12,10 +12,11 @@ loop-index-preserved c =
     let offsets = c.args.offsets.now in
     let new = c.write_at.new.bytes in
     let word = bytes_of 2 (pos (get_or offsets i 0 / 2)) in
-    let next : halves (take (i + 1) offsets) ≡ halves (take i offsets) ++ word = grind (arith, common_steps, take-suc, flat_map-append) in
-    let bytes : take 2 (drop (i * 2) new) ≡ word = search rules in (
-      search (rules, writes),
-      written_on (i * 2) 2 ((i + 1) * 2) c.loop-index.loca new (halves (take i offsets)) word
-          (omega arith) c.write_at.ensures.before c.loop-index.invariant.1 bytes ∙ sym next,
-      search (rules, writes),
-    )
+    let so_far = halves (take i offsets) in
+    let next : halves (take (i + 1) offsets) ≡ so_far ++ word =
+        grind (arith, common_steps, take-suc, flat_map-append) in
+    let stored : take 2 (drop (i * 2) new) ≡ word = search rules in
+    let written : take ((i + 1) * 2) new ≡ so_far ++ word =
+        written_on (i * 2) 2 ((i + 1) * 2) c.loop-index.loca new so_far word (omega arith) c.write_at.ensures.before
+        c.loop-index.invariant.1 stored in
+    (search (rules, writes) , written ∙ sym next , search (rules, writes))
