@@ -11,7 +11,7 @@ use Rattle.font_base.proofs.Moved.{bytes_moved}
 use Rattle.font_base.proofs.Widths.{int_wrap-wrap}
 use Rattle.font_base.specs.Wrap.{wrap, FitsBits}
 use Rattle.font_base.specs.Wrap.Laws.{wrap-add_left, wrap-add_right, wrap-fits, wrap-wrap}
-use Rattle.font_fixed.proofs.Calls.{fits_16, fits_64}
+use Rattle.font_fixed.proofs.Calls.{fits_16}
 use Rattle.font_fixed.proofs.Wrapped.{wrapping_add-wrap}
 use Rattle.font_fixed.specs.Fixed.{Fixed}
 use Rattle.font_fixed.specs.Fixed.{fixed_bits}

@@ -17,7 +17,7 @@ module _ (at : ℕ) (old new kept : List ℕ) where
       → take n (drop k new) ≡ kept
   field_kept_before k n same within is =
       let start : take (k + n) new ≡ take (k + n) old = sym (take-take (k + n) at new within)
-          ∙ (ap (take (k + n)) same ∙ take-take (k + n) at old within) in
+      ∙ (ap (take (k + n)) same ∙ take-take (k + n) at old within) in
       sym (drop-take k n new) ∙ (ap (drop k) start ∙ (drop-take k n old ∙ is))
 
 -- after the field that ends at `end`

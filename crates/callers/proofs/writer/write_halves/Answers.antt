@@ -14,9 +14,9 @@ loop-index-preserved c =
     let word = bytes_of 2 (pos (get_or offsets i 0 / 2)) in
     let so_far = halves (take i offsets) in
     let next : halves (take (i + 1) offsets) ≡ so_far ++ word =
-        grind (arith, common_steps, take-suc, flat_map-append) in
+    grind (arith, common_steps, take-suc, flat_map-append) in
     let stored : take 2 (drop (i * 2) new) ≡ word = search rules in
     let written : take ((i + 1) * 2) new ≡ so_far ++ word =
-        written_on (i * 2) 2 ((i + 1) * 2) c.loop-index.loca new so_far word (omega arith) c.write_at.ensures.before
-        c.loop-index.invariant.1 stored in
-    (search (rules, writes) , written ∙ sym next , search (rules, writes))
+    written_on (i * 2) 2 ((i + 1) * 2) c.loop-index.loca new so_far word (omega arith) c.write_at.ensures.before
+    c.loop-index.invariant.1 stored in
+    (search (rules, writes), written ∙ sym next, search (rules, writes))
