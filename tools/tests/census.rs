@@ -5,9 +5,9 @@ use font_types_tools::repository::{files, root};
 use std::fs;
 
 /// A folder, the ending of its files, a text, and how often they have it.
-const COUNTS: [(&str, &str, &str, usize); 12] = [
+const COUNTS: [(&str, &str, &str, usize); 11] = [
     ("tests", ".rs", "#[test]\n", 116),
-    ("tools/tests", ".rs", "#[test]\n", 34),
+    ("tools/tests", ".rs", "#[test]\n", 28),
     ("compare/tests", ".rs", "#[test]\n", 41),
     ("crates", ".rt", "#[test]\n", 175),
     ("tests", ".rs", "#[ignore", 0),
@@ -17,7 +17,6 @@ const COUNTS: [(&str, &str, &str, usize); 12] = [
     ("crates", ".edit", "# control: ", 82),
     ("crates/fontval", "stdin", "\n", 208),
     ("c/tests", ".sh", "\n", 332),
-    ("tools/tests", ".faults", "\n", 37),
 ];
 
 #[test]
