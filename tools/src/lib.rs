@@ -3,7 +3,6 @@
 pub mod erase;
 pub mod mutants;
 pub mod repository;
-pub mod requirements;
 pub mod widths;
 
 // The code of this page is compiled and run.
