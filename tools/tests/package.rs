@@ -49,29 +49,6 @@ fn pages_of_the_package_link_to_no_file() {
 }
 
 #[test]
-fn source_that_the_package_names_is_in_it() {
-    let (packed, mut count) = (packed(), 0);
-    for path in packed.iter().filter(|path| path.starts_with("src/")) {
-        let text = text(path);
-        let named = text
-            .split("crates/")
-            .skip(1)
-            .map(|rest| rest.split_once(".rt"));
-        for (name, _) in named
-            .flatten()
-            .filter(|(name, _)| !name.contains(['*', ' ']))
-        {
-            assert!(
-                packed.contains(&format!("crates/{name}.rt")),
-                "{path}: {name}"
-            );
-            count += 1;
-        }
-    }
-    assert!(count > 50, "{count}");
-}
-
-#[test]
 fn versions_are_alike() {
     let version = |path: &str, before: &str| {
         let text = text(path);
