@@ -1,11 +1,16 @@
-//! Fonts, and what `c/examples/advance.c` has to say of them, for `c/tests/advances.c`.
+//! Writes fonts, with what `c/examples/advance.c` has to say of them, for `c/tests/advances.c`, and
+//! two of these: `cases CASES FONT LARGE`.
 
-use crate::fonts::{
+#[path = "../../tests/fonts/mod.rs"]
+mod fonts;
+#[path = "../../examples/instance.rs"]
+mod instance;
+
+use font_types_proved::{Fixed, GlyphId16, Tag};
+use fonts::{
     MAP, MAPS, font, font_of, fvar, hvar, hvar_of_two_axes, large, long_axes, long_hvar, two_axes,
     words,
 };
-use crate::instance;
-use font_types_proved::{Fixed, GlyphId16, Tag};
 
 /// Values of the two axes, at the ends of their ranges, at the default, and beyond.
 const SETTINGS: [[&str; 2]; 10] = [
@@ -195,12 +200,12 @@ fn compared(cases: &mut Vec<u8>) {
 }
 
 /// The font that is broken in [`broken`]: of one axis, with a map of glyphs.
-pub fn whole() -> Vec<u8> {
+fn whole() -> Vec<u8> {
     font(hvar())
 }
 
 /// A font of 400 glyphs, of which the last ones have an advance of more than 15 bits.
-pub fn of_many_glyphs() -> Vec<u8> {
+fn of_many_glyphs() -> Vec<u8> {
     with(large(), b"hmtx", 4 * 299, &[0x8001])
 }
 
@@ -347,7 +352,7 @@ fn others() -> [(Vec<u8>, &'static str); 10] {
 }
 
 /// Returns all cases, as `advances.c` reads them.
-pub fn cases() -> Vec<u8> {
+fn cases() -> Vec<u8> {
     let mut cases = Vec::new();
     compared(&mut cases);
     let setting = settings(["650", "100"], 1);
@@ -378,4 +383,11 @@ pub fn cases() -> Vec<u8> {
         );
     }
     cases
+}
+
+fn main() -> std::io::Result<()> {
+    let paths: Vec<_> = std::env::args_os().skip(1).collect();
+    std::fs::write(&paths[0], cases())?;
+    std::fs::write(&paths[1], whole())?;
+    std::fs::write(&paths[2], of_many_glyphs())
 }

@@ -4,8 +4,8 @@
  * nothing overflows: header.sh has the command.
  *
  * A compiler's program, in C and C++, tries ends, ties and random arguments, with views of exactly
- * their bytes, so that a sanitizer sees a read of one more; and, with rows.txt, results of the
- * proved Rust, as rows.rs prints them. With `names` it prints the names of the functions here.
+ * their bytes, so that a sanitizer sees a read of one more. With `names` it prints the names of the
+ * functions here.
  */
 #include "font_types.h"
 
@@ -383,49 +383,6 @@ static const struct {
 };
 enum { FUNCTIONS = sizeof all / sizeof all[0] };
 
-/* ---- rows of the proved Rust: a width, sum or conversion, two arguments, and the result ---- */
-
-/* What rounding stores: the Rust types wrap, from the greatest values to the least. */
-static int64_t rounded(int width, uint32_t f, int64_t bits) {
-    int16_t of_16 = KEPT;
-    int32_t of_32 = KEPT;
-    int64_t of_64 = KEPT;
-    const fty_status status = width == 16   ? fty_round_i16((int16_t)bits, f, &of_16)
-                              : width == 32 ? fty_round_i32((int32_t)bits, f, &of_32)
-                                            : fty_round_i64(bits, f, &of_64);
-    const int64_t stored = width == 16 ? of_16 : width == 32 ? of_32 : of_64;
-    return status == FTY_OK ? stored : -(INT64_C(1) << (width - 2)) * 2;
-}
-
-static void check_row(const char *kind, int64_t x, int64_t y, const char *result) {
-    const int64_t expected = strtoll(result, NULL, 10);
-    const int width = atoi(kind);
-    int32_t fixed = KEPT;
-    if (width != 0)
-        STATE(rounded(width, (uint32_t)x, y) == expected);
-    else if (strcmp(kind, "add") == 0)
-        STATE(fty_fixed_add((int32_t)x, (int32_t)y) == expected);
-    else if (strcmp(kind, "sub") == 0)
-        STATE(fty_fixed_sub((int32_t)x, (int32_t)y) == expected);
-    else if (strcmp(kind, "from") == 0)
-        STATE(fty_fixed_from_i32((int32_t)x) == expected);
-    else if (fty_f48dot16_to_fixed(x, &fixed) == FTY_OK)
-        STATE(fixed == expected && strcmp(result, "none") != 0);
-    else
-        STATE(strcmp(result, "none") == 0);
-}
-
-static void check_rows(const char *path) {
-    FILE *file = fopen(path, "r");
-    char kind[8], result[24];
-    long long x, y;
-    if (file == NULL)
-        return;
-    while (fscanf(file, "%7s %lld %lld %23s", kind, &x, &y, result) == 4)
-        check_row(kind, x, y, result);
-    (void)fclose(file);
-}
-
 int main(int count, char **words) {
     const int is_list = count > 1 && strcmp(words[1], "names") == 0;
     for (size_t k = 0; k < FUNCTIONS && is_list; k++)
@@ -435,10 +392,8 @@ int main(int count, char **words) {
     for (size_t k = 0; k < FUNCTIONS; k++)
         for (int i = 0; i < ROUNDS; i++)
             all[k].state();
-    if (count > 1)
-        check_rows(words[1]);
     printf("header: %d checks, %d failed\n", checks, failures);
     /* With another number, a part was left out. */
-    return failures == 0 && checks == 6222118 ? 0 : 1;
+    return failures == 0 && checks == 5943950 ? 0 : 1;
 }
 #endif

@@ -26,17 +26,11 @@ for compiler in 'gcc g++' 'clang clang++'; do
         [[ $(<"$work/log") == *' 1 failed' ]]
     done
     $cpp -std=c++20 $strict -x c++ tests/header.c -o "$work/header"
-    run "$work/header" "$work/rows.txt"
+    run "$work/header"
     $c -std=c99 $strict tests/header.c -o "$work/header"
-    run "$work/header" "$work/rows.txt"
-    for row in '16 14 1 16384' '16 14 16383 0' 'add 1 2 4' 'sub 1 2 3' 'from 1 0 1' 'to 1 0 2' \
-        'to 1 0 none'; do
-        fails "$work/header" /dev/stdin <<<"$row"
-        [[ $(<"$work/log") != *' 0 failed'* ]]
-    done
-    fails "$work/header" /dev/null
+    run "$work/header"
     $c -std=c99 "-I$work/storing" $strict tests/header.c -o "$work/header"
-    fails "$work/header" "$work/rows.txt"
+    fails "$work/header"
     [[ $(<"$work/log") != *' 0 failed'* ]]
     $c -std=c99 $strict $warnings tests/advances.c "$archive" -o "$work/advances"
     run "$work/advances" "$work/cases"

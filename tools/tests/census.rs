@@ -20,7 +20,7 @@ const COUNTS: [(&str, &str, &str, usize); 14] = [
     ("crates", ".edit", "# clause: ", 268),
     ("crates", ".edit", "# control: ", 82),
     ("crates/fontval", "stdin", "\n", 208),
-    ("c/tests", ".sh", "\n", 332),
+    ("c/tests", ".sh", "\n", 313),
 ];
 
 #[test]
