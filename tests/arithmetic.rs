@@ -328,6 +328,12 @@ fn sums_of_deltas() {
     let wrapped = delta_sum(&[min; 3]).to_bits();
     assert_eq!(wrapped, -0x4000_0000_0000_0000);
     assert_eq!(checked_delta_sum(&[min; 3]), None);
+    let many = vec![(Fixed::ONE, 1); 65_537];
+    let sums = [
+        checked_delta_sum(&many),
+        DeltaSum::from_iter(many).checked_finish(),
+    ];
+    assert_eq!(sums, [Some(F48Dot16::from_i32(65_537)); 2]);
     let quarters = [("1", 100), ("0.5", -250), ("0.25", 37)];
     let quarters = quarters.map(|(scalar, delta)| (scalar.parse().unwrap(), delta));
     assert_eq!(delta_sum(&quarters).to_string(), "-15.75");

@@ -284,6 +284,8 @@ fn long_array() {
     for n in (0..70_000).step_by(4321) {
         assert_eq!(array.binary_search(&n), Ok(n as usize));
     }
+    let found = (array.last(), array.into_iter().as_array().len());
+    assert_eq!(found, (Some(69_999), 70_000));
     assert_eq!(array.binary_search(&70_000), Err(70_000));
     assert_eq!(array.iter().map(u64::from).sum::<u64>(), 69_999 * 35_000);
 }
@@ -392,8 +394,8 @@ fn headers() {
     let (header, rest) = table.split();
     assert_eq!((header.b.get(), rest, table.rest()), (2, &[7, 8][..], rest));
     assert!(TableDataRef::<SampleHeader>::new(&bytes[..5]).is_none());
-    let exact = TableDataRef::<SampleHeader>::new(&bytes[..6]).unwrap();
-    let right = "TableDataRef([0, 1, 0, 0, 0, 2]) SampleHeader { a: 1, b: 2 }";
+    let exact = TableDataRef::<SampleHeader>::new(&bytes[..7]).unwrap();
+    let right = "TableDataRef([0, 1, 0, 0, 0, 2, 7]) SampleHeader { a: 1, b: 2 }";
     assert_eq!(format!("{exact:?} {:?}", exact.header()), right);
 }
 

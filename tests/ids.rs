@@ -164,7 +164,17 @@ where
         (number != 0).then_some(offset),
         "{number:#X}"
     );
-    for other in [0, 7, 8, 0xFFFF, 0x1_0000, 0x1_0007, 0x100_0007, !0] {
+    for other in [
+        0,
+        7,
+        8,
+        0xFFFF,
+        0x1_0000,
+        0x1_0007,
+        0x100_0007,
+        0x8000_0007,
+        !0,
+    ] {
         let found = [offset == other, nullable == other];
         assert_eq!(found, [number == other; 2], "{number:#X} {other:#X}");
     }
@@ -283,6 +293,9 @@ fn compatible_versions() {
     assert!(packed.compatible((1, 12)) && packed.compatible((1, 65535)));
     let [nine, twelve] = [9, 12].map(|minor| MajorMinor::new(1, minor));
     assert!(twelve.compatible((1, 11)) && !nine.compatible((1, 10)));
+    // Low bits, which no minor number has, do not count.
+    let of = |n: u32| Version16Dot16::from_raw(n.to_be_bytes());
+    assert!(of(0x0001_1000).compatible(of(0x0001_1FFF)));
     assert!(200u16.compatible(3) && 3u16.compatible(3));
     assert!(!3u16.compatible(200) && !200u16.compatible(0x8000));
 }

@@ -36,12 +36,6 @@ fn assert_shortest(bits: i32, f: u32, value: impl Display) {
 }
 
 #[test]
-#[should_panic(expected = "0.0: 0 over 10^0")]
-fn one_place_too_many() {
-    assert_shortest(0, 14, "0.0");
-}
-
-#[test]
 fn shortest_all() {
     for bits in i16::MIN..=i16::MAX {
         assert_shortest(bits.into(), 14, F2Dot14::from_bits(bits));

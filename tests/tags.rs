@@ -116,6 +116,8 @@ fn comparisons() {
         ("ker ", false),
         ("ke  ", false),
         ("kern ", false),
+        ("kern\0", false),
+        ("kern\n", false),
         ("", false),
     ] {
         let found = [kern == *text, kern == text, kern == text.as_bytes()];
@@ -135,5 +137,6 @@ fn comparisons() {
     assert_eq!(BTreeMap::from([(kern, 1)]).get(b"kern"), Some(&1));
     assert_eq!(HashMap::from([(kern, 1)]).get(b"kern"), Some(&1));
     assert_eq!(AsRef::<[u8]>::as_ref(&kern), b"kern");
-    assert_eq!(AsRef::<[u8]>::as_ref(&Tag::new(b"cvt ")), b"cvt ");
+    assert_eq!(AsRef::<[u8]>::as_ref(&Tag::new(b"a\0b ")), b"a\0b ");
+    assert!(Tag::default() != b"".as_slice());
 }

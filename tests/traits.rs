@@ -14,10 +14,12 @@ fn assert_distinct<T: Clone + Eq + Hash + Debug>(values: &[T], texts: &[&str]) {
     let printed: Vec<String> = values.iter().map(|value| format!("{value:?}")).collect();
     assert_eq!(printed, texts);
     let set: HashSet<T> = values.iter().chain(values).cloned().collect();
-    assert_eq!(set.len(), values.len(), "{values:?}");
-    let hash = |value: &T| set.hasher().hash_one(value);
+    let hashes: HashSet<u64> = values
+        .iter()
+        .map(|value| set.hasher().hash_one(value))
+        .collect();
+    assert_eq!([set.len(), hashes.len()], [values.len(); 2], "{values:?}");
     for (n, value) in values.iter().enumerate() {
-        assert_eq!(hash(value), hash(&value.clone()), "{value:?}");
         let found = values.iter().position(|other| other == value);
         assert_eq!(found, Some(n), "{value:?}");
     }

@@ -22,7 +22,7 @@ macro_rules! each_scalar {
                     let of_slice = k::BigEndian::<$Type>::from_slice(&first).unwrap();
                     let fields = [set, x.get().into(), of_slice];
                     let bytes = fields.map(|field| field.be_bytes().to_vec());
-                    (LEN, read, is_short, x == y, x == x.get(), bytes)
+                    (LEN, read, is_short, x == y, x == y.get(), bytes)
                 });)*
             }
         }

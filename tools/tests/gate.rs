@@ -1,10 +1,11 @@
-//! The gate: `.ci/run`, over stand-ins of its tools, calls these commands, and fails if one does.
+//! The gate: `.ci/run`, over stand-ins of its tools, calls these commands, fails if one of them
+//! does or is missing, and names what it leaves out.
 #![cfg(unix)]
 
 use font_types_tools::repository::text;
 use std::env;
 use std::fs;
-use std::os::unix::fs::PermissionsExt;
+use std::os::unix::fs::{PermissionsExt, symlink};
 use std::path::{Path, PathBuf};
 use std::process::Command;
 
@@ -32,6 +33,14 @@ tools/verdicts";
 /// The command that may fail.
 const FETCH: &str = "cargo fetch --quiet --manifest-path compare/Cargo.toml";
 
+/// The tools without which the gate fails, and those without which it leaves a part out.
+const REQUIRED: &str = "cargo rustfmt cargo-clippy cc make rt";
+const OPTIONAL: &str = "c++ pkg-config nm readelf ldd python3";
+
+/// What the gate and its stand-ins call of the system.
+const SYSTEM: &str =
+    "bash sh env basename cat cmp cp dirname grep mktemp paste rm sed tail tee touch wc";
+
 /// Other faults with which the gate has to fail.
 const FAULTS: &str = "test 1,test 2,early answer,message,answers,bad edit,status of ci";
 
@@ -49,6 +58,8 @@ esac
 echo "$call" >>"$LOG"
 [ "$call" != "$FAIL" ] || exit 1
 case $call in
+c/check) [ "$FAIL" != freetype ] || echo "left out: FreeType" ;;
+"python3 tools/mir") [ "$FAIL" != rustc ] || echo "left out: MIR" ;;
 "font_types_tests --list")
     sed -n '/^#\[test\]/{n; s/^fn \(.*\)(.*/tests::memory::\1: test/p}' \
         crates/font_types/src/tests/memory.rt ;;
@@ -78,29 +89,39 @@ fn put(folder: &Path, path: &str, text: &str) {
     fs::set_permissions(&path, fs::Permissions::from_mode(0o755)).unwrap();
 }
 
-/// Runs the gate while this call fails, and returns whether it passes, and its calls.
-fn run(folder: &Path, fail: &str) -> (bool, Vec<String>) {
+/// Runs the gate while this call fails, and returns what it leaves out, unless it fails, and its
+/// calls.
+fn run(folder: &Path, fail: &str) -> (Option<String>, Vec<String>) {
     let log = folder.join("log");
     fs::write(&log, "").unwrap();
-    let path = format!(
-        "{}:{}",
-        folder.join("bin").display(),
-        env::var("PATH").unwrap()
-    );
     let mut gate = Command::new(folder.join(".ci/run"));
-    let gate = gate.env("PATH", path).env("LOG", &log).env("FAIL", fail);
-    let output = gate.env_remove("FONT_TYPES_DIR").output().unwrap();
+    let gate = gate.env_clear().env("PATH", folder.join("bin"));
+    let output = gate.env("LOG", &log).env("FAIL", fail).output().unwrap();
     let printed = String::from_utf8_lossy(&output.stdout);
+    let mut lines = printed.lines().rev();
     let last = match output.status.success() {
         true => format!("3 passed, {} failed", u8::from(fail == "crate")),
         false => "0 passed, 1 failed".into(),
     };
-    assert_eq!(printed.lines().last(), Some(&*last), "{fail}: {output:?}");
+    assert_eq!(lines.next(), Some(&*last), "{fail}: {output:?}");
+    let told = lines
+        .next()
+        .and_then(|line| line.strip_prefix("left out: "));
+    let left_out = output
+        .status
+        .success()
+        .then(|| told.expect(fail).to_string());
     let calls = fs::read_to_string(&log).unwrap();
-    (
-        output.status.success(),
-        calls.lines().map(String::from).collect(),
-    )
+    (left_out, calls.lines().map(String::from).collect())
+}
+
+/// Runs the gate without a tool, and returns what it leaves out, unless it fails.
+fn run_without(folder: &Path, tool: &str) -> Option<String> {
+    let (path, kept) = (folder.join("bin").join(tool), folder.join("kept"));
+    fs::rename(&path, &kept).unwrap();
+    let (left_out, _) = run(folder, "");
+    fs::rename(kept, path).unwrap();
+    left_out
 }
 
 #[test]
@@ -115,29 +136,65 @@ fn gate_fails_if_a_step_does() {
     ] {
         put(&folder, path, &text(path));
     }
-    let tools = "c++ cargo cargo-clippy cc ldd make nm pkg-config python3 readelf rt rustfmt";
-    let tools = tools.split(' ').map(|name| format!("bin/{name}"));
+    let tools = [REQUIRED, OPTIONAL]
+        .map(|names| names.split(' '))
+        .into_iter()
+        .flatten();
     let others = "c/check tools/verdicts crates/font_types/out/font_types_tests \
         crates/fontval/out/fontval";
-    for path in tools.chain(others.split_whitespace().map(String::from)) {
+    for path in tools
+        .map(|name| format!("bin/{name}"))
+        .chain(others.split_whitespace().map(String::from))
+    {
         put(&folder, &path, TOOL);
     }
-    put(&folder, "src/lib.rs", "");
-    let (passes, calls) = run(&folder, "");
+    let path = env::var_os("PATH").unwrap();
+    for name in SYSTEM.split(' ') {
+        let place = env::split_paths(&path)
+            .map(|folder| folder.join(name))
+            .find(|place| place.is_file());
+        symlink(place.expect(name), folder.join("bin").join(name)).unwrap();
+    }
+    let old = "crates/font_types/out/rlib/old";
+    for path in ["src/lib.rs", old] {
+        put(&folder, path, "");
+    }
+    let (left_out, calls) = run(&folder, "");
+    assert!(!folder.join(old).exists());
     let (runs, mut others): (Vec<_>, Vec<_>) =
         calls.into_iter().partition(|c| c.starts_with("font"));
     others.sort();
-    assert!(
-        passes && others == COMMANDS.lines().collect::<Vec<_>>(),
-        "{others:#?}"
-    );
+    assert_eq!(left_out.as_deref(), Some("nothing"));
+    assert_eq!(others, COMMANDS.lines().collect::<Vec<_>>());
     // Each twice, and the list of tests.
     let tests = text("crates/font_types/src/tests/memory.rt")
         .matches("#[test]")
         .count();
     assert_eq!(runs.len(), 1 + 2 * (tests + 1));
     for command in COMMANDS.lines().chain(FAULTS.split(',')) {
-        assert_eq!(run(&folder, command).0, command == FETCH, "{command}");
+        let left_out = run(&folder, command).0;
+        let told = "the comparison with font-types, which cargo cannot fetch";
+        assert_eq!(
+            left_out.as_deref(),
+            (command == FETCH).then_some(told),
+            "{command}"
+        );
     }
-    run(&folder, "crate");
+    for (fault, told) in [
+        ("crate", "nothing"),
+        ("freetype", "FreeType"),
+        ("rustc", "MIR"),
+    ] {
+        assert_eq!(run(&folder, fault).0.as_deref(), Some(told));
+    }
+    for tool in REQUIRED.split(' ') {
+        assert_eq!(run_without(&folder, tool), None, "{tool}");
+    }
+    for tool in OPTIONAL.split(' ') {
+        let needs = format!(", which needs {tool}");
+        assert!(
+            run_without(&folder, tool).is_some_and(|told| told.ends_with(&needs)),
+            "{tool}"
+        );
+    }
 }
