@@ -1,23 +1,25 @@
 //! Prints fields of some tables of a font, and the glyphs of characters:
 //! `cargo run --example dump -- FONT [TEXT]`.
 
-#[macro_use]
 pub mod font;
 
 use core::fmt::{self, Write};
 use font::Font;
 use font_types_proved::{
     FWord, Fixed, LongDateTime, MajorMinor, NameId, Scalar, ScalarArray, Tag, UfWord,
-    Version16Dot16,
+    Version16Dot16, record,
 };
 
-record! { NameRecord 12:
-    platform: u16, 0 1;
-    encoding: u16, 2 3;
-    language: u16, 4 5;
-    name: NameId, 6 7;
-    length: u16, 8 9;
-    offset: u16, 10 11;
+record! {
+    #[derive(Clone, Copy, Debug, PartialEq)]
+    pub struct NameRecord {
+        pub platform: u16,
+        pub encoding: u16,
+        pub language: u16,
+        pub name: NameId,
+        pub length: u16,
+        pub offset: u16,
+    }
 }
 
 /// Writes a line for each table that the font has, and for each character.

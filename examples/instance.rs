@@ -9,22 +9,26 @@
 //! font units. "Exact" begins at those coordinates: what was rounded to reach them is not counted.
 //! c/README.md says what is rounded.
 
-#[macro_use]
 pub mod font;
 // Two fields of an axis are not read here.
 #[allow(dead_code)]
 pub mod proved;
 
 use font::{Font, at_offset};
-use font_types_proved::{F2Dot14, Fixed, GlyphId16, Offset32, Scalar, ScalarArray, Tag, UfWord};
+use font_types_proved::{
+    F2Dot14, Fixed, GlyphId16, Offset32, Scalar, ScalarArray, Tag, UfWord, record,
+};
 use proved::delta_sets::vary_advance;
 use proved::evaluator::{AxisValueMap, Setting, SettingError, VariationAxisRecord};
 use proved::evaluator::{final_coordinate, normalize, read_axis, read_setting};
 use proved::maps::{DeltaSetIndex, is_no_variation, read_delta_set_index};
 
-record! { AxisMap 4:
-    from: F2Dot14, 0 1;
-    to: F2Dot14, 2 3;
+record! {
+    #[derive(Clone, Copy, Debug, PartialEq)]
+    pub struct AxisMap {
+        pub from: F2Dot14,
+        pub to: F2Dot14,
+    }
 }
 
 /// A table, which must be of this major version, if the font has it.

@@ -157,3 +157,11 @@ impl Clone for TryFromUint24Error {
 }
 
 impl Copy for TryFromUint24Error {}
+
+impl PartialEq for TryFromUint24Error {
+    fn eq(&self, _: &Self) -> bool {
+        true
+    }
+}
+
+impl Eq for TryFromUint24Error {}

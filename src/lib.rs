@@ -73,6 +73,7 @@ mod font_types;
 
 mod cross_type;
 mod derives;
+mod record;
 mod traits;
 
 // The code of this page is compiled and run; that of the repository's README.md, by `tools`.

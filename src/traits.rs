@@ -51,6 +51,9 @@ impl<'a, T: Scalar> ScalarArray<'a, T> {
     /// `collect` or `extend`. `into_iter` returns the named
     /// [`ScalarArrayIter`](crate::ScalarArrayIter), which yields the same elements.
     ///
+    /// In both, `nth`, `skip` and `step_by` decode each element that they pass:
+    /// [`slice`](Self::slice) the array first, or decode what `as_raw().iter().step_by(n)` yields.
+    ///
     /// ```
     /// # use font_types_proved::ScalarArray;
     /// let words = ScalarArray::<u16>::new(&[0, 1, 0, 4, 0, 9]).unwrap();

@@ -154,7 +154,12 @@ fn dump_of_mutated_fonts() {
         let (place, len) = (random(bytes.len() - 8), 1 + random(8));
         bytes[place..place + len].fill([0, 0x7F, 0x80, 0xFF, random(256) as u8][random(5)]);
         if let Some(font) = dump::font::Font::new(&bytes) {
-            dump(&font, "\n\u{15}\u{99}\u{9A}😀\u{1F610}a", &mut String::new()).unwrap();
+            dump(
+                &font,
+                "\n\u{15}\u{99}\u{9A}😀\u{1F610}a",
+                &mut String::new(),
+            )
+            .unwrap();
         }
     }
 }

@@ -1,6 +1,7 @@
 //! Scalars in bytes, fields, arrays and headers, and 24-bit integers.
 
 use font_types_proved::*;
+use std::cell::Cell;
 use std::collections::HashSet;
 use std::collections::hash_map::DefaultHasher;
 use std::fmt::Debug;
@@ -397,6 +398,66 @@ fn headers() {
     let exact = TableDataRef::<SampleHeader>::new(&bytes[..7]).unwrap();
     let right = "TableDataRef([0, 1, 0, 0, 0, 2, 7]) SampleHeader { a: 1, b: 2 }";
     assert_eq!(format!("{exact:?} {:?}", exact.header()), right);
+}
+
+/// A scalar that counts how many were decoded in this thread.
+#[derive(Clone, Copy, Debug, PartialEq)]
+struct Counted(u8);
+
+thread_local! {
+    static DECODED: Cell<usize> = const { Cell::new(0) };
+}
+
+impl FixedSize for Counted {
+    const RAW_BYTE_LEN: usize = 1;
+}
+
+impl Scalar for Counted {
+    type Raw = [u8; 1];
+
+    fn from_raw([byte]: [u8; 1]) -> Self {
+        DECODED.set(DECODED.get() + 1);
+        Self(byte)
+    }
+
+    fn to_raw(self) -> [u8; 1] {
+        [self.0]
+    }
+}
+
+#[test]
+fn decoded_elements() {
+    let bytes: Vec<u8> = (0..=255).collect();
+    let array = ScalarArray::<Counted>::new(&bytes).unwrap();
+    let assert_decoded = |right, found: Option<Counted>, last, name| {
+        assert_eq!(
+            (found, DECODED.take()),
+            (Some(Counted(last)), right),
+            "{name}"
+        );
+    };
+    assert_decoded(1, array.get(200), 200, "get");
+    assert_decoded(1, array.last(), 255, "last");
+    let rest = array.slice(200, array.len()).unwrap();
+    assert_decoded(1, rest.iter().next(), 200, "slice, then iter");
+    assert_decoded(1, rest.into_iter().next(), 200, "slice, then into_iter");
+    // Each element that is passed is decoded, but not those of the raw bytes.
+    assert_decoded(201, array.iter().nth(200), 200, "iter, nth");
+    assert_decoded(201, array.into_iter().nth(200), 200, "into_iter, nth");
+    assert_decoded(
+        256,
+        array.iter().step_by(16).max_by_key(|it| it.0),
+        240,
+        "step_by",
+    );
+    let raw = array.as_raw().iter().step_by(16);
+    let stepped = raw.map(|raw| Counted::from_raw(*raw));
+    assert_decoded(
+        16,
+        stepped.max_by_key(|it| it.0),
+        240,
+        "step_by of raw bytes",
+    );
 }
 
 #[test]

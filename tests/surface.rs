@@ -281,8 +281,8 @@ fn traits() {
         [Shortest] "Copy Debug Display Eq Hash";
         [Pad, Align] "Copy Debug Eq Hash";
         [Predefined] "Debug";
-        [DecimalFault, InvalidTag, TryFromGlyphIdError] "Copy Debug Display Eq Error";
-        [TryFromUint24Error] "Copy Debug Display Error";
+        [DecimalFault, InvalidTag, TryFromGlyphIdError, TryFromUint24Error]
+            "Copy Debug Display Eq Error";
         [u8, u16, u32]
             "Copy Debug Default Display Eq Ord Hash FromStr FixedSize Scalar IdentityEq \
              Add Mul Div";

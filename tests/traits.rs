@@ -149,6 +149,7 @@ fn errors() {
         assert!(error(70_000) == error(70_000) && error(70_000) != error(other));
         assert!(error(other) != error(70_000), "{other}");
     }
+    assert_eq!(Uint24::try_from(usize::MAX), Err(TryFromUint24Error));
     let found = [
         texts(error(70_000)),
         texts(Uint24::try_from(1usize << 24).unwrap_err()),

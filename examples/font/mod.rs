@@ -2,7 +2,7 @@
 #![allow(dead_code)]
 
 use font_types_proved::{
-    FWord, GlyphId16, Offset32, Scalar, ScalarArray, TableDataRef, TableHeader, Tag, UfWord,
+    FWord, GlyphId16, Offset32, Scalar, ScalarArray, TableDataRef, TableHeader, Tag, UfWord, record,
 };
 
 /// Returns the bytes from where an [`Offset32`] at `offset` points, or `None` past the end.
@@ -10,44 +10,22 @@ pub fn at_offset(table: &[u8], offset: usize) -> Option<&[u8]> {
     table.get(Offset32::read_at(table, offset)?.to_u32() as usize..)
 }
 
-/// A record of fields, which can be an element of an array. Each field names its bytes.
-macro_rules! record {
-    ($name:ident $len:literal: $($field:ident: $kind:ty, $($at:literal)+;)*) => {
-        #[derive(Clone, Copy, Debug, PartialEq)]
-        pub struct $name {
-            $(pub $field: $kind,)*
-        }
-
-        impl font_types_proved::FixedSize for $name {
-            const RAW_BYTE_LEN: usize = $len;
-        }
-
-        impl font_types_proved::Scalar for $name {
-            type Raw = [u8; $len];
-
-            fn from_raw(raw: [u8; $len]) -> Self {
-                Self { $($field: <$kind>::from_raw([$(raw[$at]),+]),)* }
-            }
-
-            fn to_raw(self) -> [u8; $len] {
-                let mut raw = [0; $len];
-                $([$(raw[$at]),+] = self.$field.to_raw();)*
-                raw
-            }
-        }
-    };
+record! {
+    #[derive(Clone, Copy, Debug, PartialEq)]
+    pub struct TableRecord {
+        pub tag: Tag,
+        pub checksum: u32,
+        pub offset: Offset32,
+        pub length: u32,
+    }
 }
 
-record! { TableRecord 16:
-    tag: Tag, 0 1 2 3;
-    checksum: u32, 4 5 6 7;
-    offset: Offset32, 8 9 10 11;
-    length: u32, 12 13 14 15;
-}
-
-record! { LongMetric 4:
-    advance: UfWord, 0 1;
-    bearing: FWord, 2 3;
+record! {
+    #[derive(Clone, Copy, Debug, PartialEq)]
+    pub struct LongMetric {
+        pub advance: UfWord,
+        pub bearing: FWord,
+    }
 }
 
 /// The header of a font: how many tables it has.
@@ -122,10 +100,13 @@ fn of_format_4(subtable: &[u8], code: u16) -> Option<GlyphId16> {
     Some(GlyphId16::new(glyph.wrapping_add(deltas.get(segment)?)))
 }
 
-record! { Group 12:
-    start: u32, 0 1 2 3;
-    end: u32, 4 5 6 7;
-    glyph: u32, 8 9 10 11;
+record! {
+    #[derive(Clone, Copy, Debug, PartialEq)]
+    pub struct Group {
+        pub start: u32,
+        pub end: u32,
+        pub glyph: u32,
+    }
 }
 
 fn of_format_12(subtable: &[u8], code: u32) -> Option<GlyphId16> {

@@ -141,6 +141,7 @@ impl<T: Scalar> BigEndian<T> {
 }
 
 /// The named form of `==` across types, which Rattle needs.
+#[doc(hidden)]
 impl<T: Scalar> BigEndian<T> {
     ghost use Rattle.font_base.specs.BigEndian.{raw_value};
 

@@ -31,10 +31,10 @@ mod f48dot16;
 
 pub use f48dot16::F48Dot16;
 
-/// A signed fixed-point number of 64 bits, `F` of them fraction bits: see its format
-/// [`F48Dot16`].
+/// Read the page of the format: [`F48Dot16`].
 ///
-/// The raw value is an `i64` in units of `1 / 2^F`. Sums wrap on overflow.
+/// A signed fixed-point number of 64 bits, `F` of them fraction bits. The raw value is an `i64` in
+/// units of `1 / 2^F`. Sums wrap on overflow.
 ///
 /// The format also rounds, parses and prints, and has constants. Other fraction bits do not:
 ///
@@ -380,6 +380,8 @@ where
     }
 }
 
+/// Writes the text of [`to_decimal`](FixedI64::to_decimal). Width, fill, sign and precision are
+/// ignored: [`write_padded`](FixedI64::write_padded) pads.
 impl<const F: u32> fmt::Display for FixedI64<F>
 where
     Self: Format<64, F>,

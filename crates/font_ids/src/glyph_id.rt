@@ -79,6 +79,7 @@ impl GlyphId16 {
 }
 
 /// The named forms of `==` and `<` across types, which Rattle needs.
+#[doc(hidden)]
 impl GlyphId16 {
     /// Returns `true` if both are the same glyph, as `==` does.
     #[must_use]
@@ -385,6 +386,7 @@ impl GlyphId {
 }
 
 /// The named forms of `==` and `<` across types, which Rattle needs.
+#[doc(hidden)]
 impl GlyphId {
     /// Returns `true` if both are the same glyph, as `==` does.
     #[must_use]

@@ -11,6 +11,7 @@
 
 mod delta;
 mod json;
+#[doc(hidden)]
 pub mod laws;
 
 pub use delta::{DeltaSum, checked_delta_sum, delta_sum, vary};

@@ -262,7 +262,8 @@ impl<'a, T: Scalar> ScalarArray<'a, T> {
 
 /// An iterator over the elements of a [`ScalarArray`].
 ///
-/// To fill a `Vec` in Rust, collect [`ScalarArray::iter`], which is std's iterator, in its place.
+/// `nth`, `skip` and `step_by` decode each element that they pass: [`slice`](ScalarArray::slice)
+/// the array first. To fill a `Vec` in Rust, collect [`ScalarArray::iter`] instead.
 ///
 /// The source and its contracts: `crates/font_base/src/array.rt`.
 pub struct ScalarArrayIter<'a, T: Scalar> {

@@ -102,6 +102,7 @@ impl<T: Scalar> BigEndian<T> {
 }
 
 /// The named form of `==` across types, which Rattle needs.
+#[doc(hidden)]
 impl<T: Scalar> BigEndian<T> {
     /// Returns `true` if the decoded value equals `other`, as `==` does.
     #[must_use]

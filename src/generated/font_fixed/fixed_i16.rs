@@ -19,10 +19,10 @@ pub use f2dot14::F2Dot14;
 pub use f4dot12::F4Dot12;
 pub use f6dot10::F6Dot10;
 
-/// A signed fixed-point number of 16 bits, `F` of them fraction bits: see its formats [`F2Dot14`],
-/// [`F4Dot12`] and [`F6Dot10`].
+/// Read the page of the format: [`F2Dot14`], [`F4Dot12`] or [`F6Dot10`].
 ///
-/// The raw value is an `i16` in units of `1 / 2^F`. Sums wrap on overflow.
+/// A signed fixed-point number of 16 bits, `F` of them fraction bits. The raw value is an `i16` in
+/// units of `1 / 2^F`. Sums wrap on overflow.
 ///
 /// The formats also round, parse and print, and have constants. Other fraction bits do not:
 ///
@@ -310,6 +310,8 @@ where
     }
 }
 
+/// Writes the text of [`to_decimal`](FixedI16::to_decimal). Width, fill, sign and precision are
+/// ignored: [`write_padded`](FixedI16::write_padded) pads.
 impl<const F: u32> fmt::Display for FixedI16<F>
 where
     Self: Format<16, F>,

@@ -17,10 +17,10 @@ pub use f2dot30::F2Dot30;
 pub use f26dot6::F26Dot6;
 pub use fixed::{Fixed, nearest_step, nearest_sum};
 
-/// A signed fixed-point number of 32 bits, `F` of them fraction bits: see its formats [`Fixed`],
-/// [`F26Dot6`] and [`F2Dot30`].
+/// Read the page of the format: [`Fixed`], [`F26Dot6`] or [`F2Dot30`].
 ///
-/// The raw value is an `i32` in units of `1 / 2^F`. Sums wrap on overflow.
+/// A signed fixed-point number of 32 bits, `F` of them fraction bits. The raw value is an `i32` in
+/// units of `1 / 2^F`. Sums wrap on overflow.
 ///
 /// The formats also round, parse and print, and have constants. Other fraction bits do not:
 ///
@@ -288,6 +288,8 @@ where
     }
 }
 
+/// Writes the text of [`to_decimal`](FixedI32::to_decimal). Width, fill, sign and precision are
+/// ignored: [`write_padded`](FixedI32::write_padded) pads.
 impl<const F: u32> fmt::Display for FixedI32<F>
 where
     Self: Format<32, F>,

@@ -47,6 +47,7 @@ impl Offset16 {
 }
 
 /// The named form of `==` across types, which Rattle needs.
+#[doc(hidden)]
 impl Offset16 {
     /// Returns `true` if the offset is this number, as `==` does.
     #[must_use]
@@ -126,6 +127,7 @@ impl Offset24 {
 }
 
 /// The named form of `==` across types, which Rattle needs.
+#[doc(hidden)]
 impl Offset24 {
     /// Returns `true` if the offset is this number, as `==` does.
     #[must_use]
@@ -205,6 +207,7 @@ impl Offset32 {
 }
 
 /// The named form of `==` across types, which Rattle needs.
+#[doc(hidden)]
 impl Offset32 {
     /// Returns `true` if the offset is this number, as `==` does.
     #[must_use]
@@ -331,6 +334,7 @@ impl<T: OffsetValue> Nullable<T> {
 }
 
 /// The named form of `==` across types, which Rattle needs.
+#[doc(hidden)]
 impl<T: OffsetValue> Nullable<T> {
     /// Returns `true` if the offset is this number, as `==` does.
     #[must_use]

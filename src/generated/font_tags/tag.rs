@@ -127,6 +127,7 @@ impl Tag {
 }
 
 /// The named forms of `==` across types, which Rattle needs.
+#[doc(hidden)]
 impl Tag {
     /// Returns `true` if the tag has these bytes, as `==` does.
     #[must_use]

@@ -11,6 +11,7 @@
 //! ```
 
 mod delta;
+#[doc(hidden)]
 pub mod laws;
 
 pub use crate::font_base::{
