@@ -111,40 +111,13 @@ fn scalars_in_bytes_fields_and_arrays() {
 }
 
 #[test]
-fn uint24() {
-    let max = 0xFF_FFFF;
-    for n in [0, 1, 0xFFFF, 0x1_0000, max - 1, max, max + 1, u32::MAX] {
-        let (new, right) = (Uint24::new(n), n.min(max));
-        assert_eq!([new.to_u32(), new.into()], [right; 2]);
-        assert_eq!(usize::from(new), right as usize);
-        let checked = (n == right).then_some(new);
-        assert_eq!(Uint24::checked_new(n), checked, "{n}");
-        assert_eq!(Uint24::try_from(n as usize).ok(), checked, "{n}");
-        assert_eq!(format!("{new} {new:?}"), format!("{right} Uint24({right})"));
-        let [_, bytes @ ..] = right.to_be_bytes();
-        assert_eq!(new.to_be_bytes(), bytes, "{n}");
-        assert_eq!(Uint24::from_be_bytes(bytes), new);
+fn conversions_of_24_bits() {
+    for n in [0, 1, 0xFFFF, 0x1_0000, 0xFF_FFFF] {
+        let (unsigned, half) = (Uint24::new(n), -(n as i32) / 2);
+        assert_eq!((n, half), (unsigned.into(), Int24::new(half).into()));
+        assert_eq!(usize::from(unsigned), n as usize);
+        assert_eq!(Uint24::try_from(n as usize).ok(), Some(unsigned));
     }
-    assert_eq!([Uint24::MIN, Uint24::MAX], [0, max].map(Uint24::new));
-    assert_eq!(Uint24::default(), Uint24::MIN);
-    assert_eq!(format!("{0:>4}{0:02}", Uint24::new(7)), "   707");
-}
-
-#[test]
-fn int24() {
-    let (min, max) = (-0x80_0000, 0x7F_FFFF);
-    for n in [0, 1, -1, max - 1, max, max + 1, min, min - 1, i32::MIN] {
-        let (new, right) = (Int24::new(n), n.clamp(min, max));
-        assert_eq!([new.to_i32(), new.into()], [right; 2]);
-        assert_eq!(Int24::checked_new(n), (right == n).then_some(new), "{n}");
-        assert_eq!(format!("{new} {new:?}"), format!("{right} Int24({right})"));
-        let [_, bytes @ ..] = right.to_be_bytes();
-        assert_eq!(new.to_be_bytes(), bytes, "{n}");
-        assert_eq!(Int24::from_be_bytes(bytes), new);
-    }
-    assert_eq!([Int24::MIN, Int24::MAX], [min, max].map(Int24::new));
-    assert!(Int24::default() == Int24::new(0) && Int24::new(-1) < Int24::default());
-    assert_eq!(format!("{:+}", Int24::new(7)), "+7");
 }
 
 #[test]
@@ -389,12 +362,8 @@ fn caller_defined_bytes() {
 fn headers() {
     let bytes = [0, 1, 0, 0, 0, 2, 7, 8];
     let table = TableDataRef::<SampleHeader>::new(&bytes).unwrap();
-    let header = table.header();
-    assert_eq!((header.a.get(), header.b.get()), (1, 2));
-    assert_eq!(table.data(), bytes);
     let (header, rest) = table.split();
     assert_eq!((header.b.get(), rest, table.rest()), (2, &[7, 8][..], rest));
-    assert!(TableDataRef::<SampleHeader>::new(&bytes[..5]).is_none());
     let exact = TableDataRef::<SampleHeader>::new(&bytes[..7]).unwrap();
     let right = "TableDataRef([0, 1, 0, 0, 0, 2, 7]) SampleHeader { a: 1, b: 2 }";
     assert_eq!(format!("{exact:?} {:?}", exact.header()), right);

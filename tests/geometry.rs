@@ -1,7 +1,6 @@
-//! Points, matrices and boxes: over a non-commutative element, to check the order of operands, and
-//! over integers.
+//! Points, matrices and boxes over a non-commutative element, to check the order of operands.
 
-use font_types_proved::laws::{action, associative, fixed_identity, identity_neutral};
+use font_types_proved::laws::fixed_identity;
 use font_types_proved::*;
 use std::ops::*;
 
@@ -90,7 +89,6 @@ fn points() {
         seen.len()
     });
     assert_eq!((mapped, &*seen), (Point::new(1, 2), &[A, B][..]));
-    assert_eq!(format!("{mapped:?}"), "Point { x: 1, y: 2 }");
 }
 
 #[test]
@@ -126,8 +124,6 @@ fn matrices() {
     });
     assert_eq!(mapped.elements(), [1, 2, 3, 4, 5, 6]);
     assert_eq!(seen, elements);
-    let text = "Matrix { xx: 1, yx: 2, xy: 3, yy: 4, dx: 5, dy: 6 }";
-    assert_eq!(format!("{mapped:?}"), text);
     for n in 0..6 {
         let mut other = elements;
         other[n] = X;
@@ -136,55 +132,10 @@ fn matrices() {
 }
 
 #[test]
-fn laws_of_matrices() {
-    let matrix =
-        |n: i32| Matrix::from_elements([1, 2, 3, 5, 7, 11].map(|k| Fixed::from_i32(k * n)));
-    let p = Point::new(Fixed::from_i32(3), Fixed::from_i32(-4));
-    let (a, b) = (matrix(1), matrix(2));
+fn identity_of_matrices() {
+    let a = Matrix::from_elements([1, 2, 3, 5, 7, 11].map(Fixed::from_i32));
     assert_eq!(fixed_identity(a), (a, a));
-    assert_eq!(laws::composed(a, b, p), (a * b) * p);
-    assert_eq!(laws::in_turn(a, b, p), a * (b * p));
-    // A quarter of the least value rounds to zero, and half of its half to the least value.
-    let (half, step) = (Fixed::from_bits(0x8000), Point::broadcast(Fixed::EPSILON));
-    let halves = Matrix::<Fixed>::IDENTITY.map(|element| element * half);
-    assert_eq!(laws::composed(halves, halves, step), Point::default());
-    assert_eq!(laws::in_turn(halves, halves, step), step);
-    // Integers modulo 2^32 obey the laws of a ring.
-    let ring = |n: u32| Matrix::from_elements([n, n + 1, n * n, 7, n << 30, !n].map(Wrapping));
-    let (a, b, c) = (ring(3), ring(5), ring(9));
-    assert_eq!(associative(a, b, c), (a * b * c, a * (b * c)));
-    assert_eq!(a * b * c, a * (b * c));
-    let p = Point::new(Wrapping(77), Wrapping(1 << 31));
-    assert_eq!(action(a, b, p), ((a * b) * p, a * (b * p)));
-    assert_eq!((a * b) * p, a * (b * p));
-    assert_eq!(identity_neutral(a), (a, a));
 }
-
-#[test]
-fn points_of_integers() {
-    let (p, q) = (Point::new(10, 16), Point::new(1, 2));
-    assert!(p + q == Point::new(11, 18) && p - q == Point::new(9, 14));
-    assert!(-p == Point::new(-10, -16));
-    let q = Point::new(2, 3);
-    assert!(p * q == Point::new(20, 48) && p / q == Point::new(5, 5));
-    assert!(Point::new(1, 2) * 8 == Point::new(8, 16));
-}
-
-/// An integer modulo 2^32.
-#[derive(Clone, Copy, PartialEq, Debug)]
-struct Wrapping(u32);
-
-operators! { Wrapping:
-    Add add AddAssign add_assign |x: Self, y: Self| Self(x.0.wrapping_add(y.0));
-    Mul mul MulAssign mul_assign |x: Self, y: Self| Self(x.0.wrapping_mul(y.0));
-}
-
-impl MatrixElement for Wrapping {
-    const ZERO: Self = Self(0);
-    const ONE: Self = Self(1);
-}
-
-impl RingElement for Wrapping {}
 
 fn bounding_box<T>([x_min, y_min, x_max, y_max]: [T; 4]) -> BoundingBox<T> {
     BoundingBox {
@@ -197,17 +148,6 @@ fn bounding_box<T>([x_min, y_min, x_max, y_max]: [T; 4]) -> BoundingBox<T> {
 
 #[test]
 fn boxes() {
-    for (sides, normalized) in [
-        ([0., 1., 2., 3.], [0., 1., 2., 3.]),
-        ([2., 1., 0., 3.], [0., 1., 2., 3.]),
-        ([0., 3., 2., 1.], [0., 1., 2., 3.]),
-        ([2., 3., 0., 1.], [0., 1., 2., 3.]),
-        ([5., 5., 5., 5.], [5., 5., 5., 5.]),
-    ] {
-        let found = bounding_box(sides);
-        assert_eq!(found.is_normalized(), sides == normalized, "{sides:?}");
-        assert_eq!(found.normalize(), bounding_box(normalized));
-    }
     // A pair that does not compare is swapped too.
     let nan = f64::NAN;
     for (sides, swapped) in [
@@ -228,7 +168,4 @@ fn boxes() {
     assert_eq!(signs, [false, true, true, false]);
     let scaled = bounding_box([A, B, C, D]).scale(X);
     assert_eq!(scaled, bounding_box([A * X, B * X, C * X, D * X]));
-    assert_eq!(BoundingBox::default(), bounding_box([0; 4]));
-    let text = "BoundingBox { x_min: 1, y_min: 2, x_max: 3, y_max: 4 }";
-    assert_eq!(format!("{:?}", bounding_box([1, 2, 3, 4])), text);
 }

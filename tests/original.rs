@@ -3,14 +3,6 @@
 use font_types_proved::*;
 use std::fmt::Display;
 
-#[test]
-fn minor_version_clamped() {
-    for minor in (0..=10).chain([u16::MAX]) {
-        let numbers = Version16Dot16::new(1, minor).to_major_minor();
-        assert_eq!(numbers, (1, minor.min(9)), "{minor}");
-    }
-}
-
 /// Returns the integer nearest to `n * 2^f / 10^places`, half away from zero.
 fn parsed(n: i128, places: u32, f: u32) -> i128 {
     let ten = 10i128.pow(places);

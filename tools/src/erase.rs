@@ -52,6 +52,8 @@ pub enum Target {
     Program,
     /// Examples, which depend on the library and may be in any module.
     Examples,
+    /// Tests, which cargo compiles as one crate that has the library's crates as modules.
+    Tests,
 }
 
 /// A crate of Rattle.
@@ -107,7 +109,9 @@ pub fn erase<'a>(source: &'a str, of: &'a Crate, is_root: bool) -> Result<Erased
     while at < eraser.words.len() {
         at = eraser.step(at)?;
     }
-    eraser.check_kept()?;
+    if of.target != Target::Tests {
+        eraser.check_kept()?;
+    }
     Ok(Erased {
         rust: eraser.written(),
         modules: eraser.modules,
@@ -142,7 +146,10 @@ struct Eraser<'a> {
 impl<'a> Eraser<'a> {
     // Decides on the words at this place, and returns the place of the next.
     fn step(&mut self, at: usize) -> Result<usize, Error> {
-        self.check_form(at)?;
+        let is_test = self.of.target == Target::Tests;
+        if !is_test {
+            self.check_form(at)?;
+        }
         match self.words[at..] {
             ["requires" | "ensures", ..] if at >= self.header_end => {
                 self.error(at, "a clause elsewhere than before a function's body")
@@ -171,6 +178,13 @@ impl<'a> Eraser<'a> {
                 }
                 Ok(at + 1)
             }
+            // It returns the clone, not a `Result`.
+            [".", "clone", "(", ")", "?", ..] if is_test => Ok(self.leave_out(at + 4..at + 5)),
+            [".", "repeat", "(", "rt", _, "alloc", "(", ")", ",", ..] if is_test => {
+                let end = self.group_end(at + 2)?;
+                self.leave_out(end..end + 1);
+                Ok(self.leave_out(at + 3..at + 9))
+            }
             ["+", "Drop", next, ..] if next != "::" => Ok(self.leave_out(at..at + 2)),
             ["prove", "!", "(", ..] => {
                 let end = self.group_end(at + 2)?;
@@ -196,6 +210,7 @@ impl<'a> Eraser<'a> {
             "crate" if is_example => self.replace(at, "super"),
             "crate" => self.put(at + 2, format!("{}::", self.of.name)),
             "std" if is_program && RATTLE_STD.contains(&next) => self.replace(at, "crate::host"),
+            "std" if self.of.target == Target::Tests => self.replace(at, "crate::rattle"),
             "std" if !is_program => self.replace(at, "core"),
             "font_types" if is_program || is_example => self.replace(at, "font_types_proved"),
             _ if name != "std" && is_crate(name) => self.put(at, "crate::"),
@@ -251,6 +266,7 @@ impl<'a> Eraser<'a> {
                 _ => return self.error(at, "tests elsewhere than in `mod tests;`"),
             },
             ["derive", "(", ..] => self.derive(open + 3, end)?,
+            _ if self.of.target == Target::Tests => true,
             _ => self.check_attribute(open + 1, end).map(|()| true)?,
         };
         if !is_kept {
@@ -288,6 +304,11 @@ impl<'a> Eraser<'a> {
             self.put(at, "pub ");
         }
         match self.words[at + 1..] {
+            [_, "(", rt, ":", "HostRuntime", ")", ..] if self.of.target == Target::Tests => {
+                self.put[self.places[self.header_end] + 1]
+                    .push_str(&format!("let {rt} = crate::rattle::Host;"));
+                Ok(self.leave_out(at + 3..at + 6))
+            }
             [_, "<", "W", ":", "fmt", "::", "Write", ">", ..] => {
                 let end = self.group_end(self.header_end)?;
                 self.writers.push(at + 9..end);

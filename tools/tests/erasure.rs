@@ -168,10 +168,17 @@ fn changed_sources() {
         "fontval fn main() { 0..std::io::N } ⇒ pub fn main() { 0..crate::host::io::N }",
         "fontval fn f(n: &font_types::N) {} ⇒ fn f(n: &font_types_proved::N) {}",
         "variations fn f(n: &font_types::N) {} ⇒ fn f(n: &font_types_proved::N) {}",
+        "font_ids fn f(rt: HostRuntime) { 0..1 } ⇒ fn f() {let rt = crate::rattle::Host; 0..1 }",
+        "font_ids use std::test::Fail; n.clone()?; ⇒ use crate::rattle::test::Fail; n.clone();",
+        "font_ids x.repeat(rt.alloc(), n)?; crate::N ⇒ x.repeat( n); crate::font_ids::N",
     ] {
         let (name, row) = row.split_once(' ').unwrap();
         let (source, rust) = row.split_once(" ⇒ ").unwrap();
-        let target = [Target::Program, Target::Examples][usize::from(name == "variations")];
+        let target = match name {
+            "fontval" => Target::Program,
+            "variations" => Target::Examples,
+            _ => Target::Tests,
+        };
         let erased = erased(source, name, target).expect(row);
         assert!(erased.ends_with(rust), "{row}: {erased}");
     }

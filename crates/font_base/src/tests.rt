@@ -1,5 +1,4 @@
-//! Values of OpenType and font-types, impls of callers, traits and texts. `tests/fields.rs` and
-//! `tests/traits.rs` have the results, which cargo runs.
+//! Values of OpenType and font-types, impls of callers, traits and texts.
 
 mod fields;
 mod numbers;

@@ -1,6 +1,4 @@
 //! What no clause says: the texts and the numbers of the errors, and which types are `Copy`.
-//!
-//! Results are in `tests/decimals.rs`, which cargo runs.
 
 use crate::{Align, DecimalFault, Pad, Shortest};
 use std::fmt::{Debug, Display};

@@ -1,5 +1,5 @@
 //! Impls of callers, rows of docs/REQUIREMENTS.md, traits and texts. `tests/geometry.rs` has the
-//! order of operands, which cargo runs.
+//! order of operands.
 
 mod boxes;
 mod ring;

@@ -1,5 +1,4 @@
-//! Values of OpenType and font-types, an impl of a caller, traits and texts. `tests/ids.rs` has the
-//! results, which cargo runs.
+//! Values of OpenType and font-types, an impl of a caller, traits and texts.
 
 mod glyphs;
 mod headers;

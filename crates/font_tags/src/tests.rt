@@ -1,5 +1,4 @@
-//! Values of OpenType and font-types, traits and texts. `tests/tags.rs` and `tests/ids.rs` have the
-//! results, which cargo runs.
+//! Values of OpenType and font-types, traits and texts.
 
 mod compatible;
 mod tags;

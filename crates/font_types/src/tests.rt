@@ -1,5 +1,4 @@
-//! JSON forms and their errors, also if memory fails, and rows of sums of deltas. More of these are
-//! in `tests/arithmetic.rs`, which cargo runs.
+//! JSON forms and their errors, also if memory fails, and rows of sums of deltas.
 
 mod errors;
 mod fixed;

@@ -24,6 +24,23 @@ const ABOVE: [(&str, Target, &[&str]); 3] = [
     ("variations", Target::Examples, &[]),
 ];
 
+/// The crates whose tests cargo runs too, and the modules of each that are left out: calls of what
+/// the package does not export, and JSON and memory, which only Rattle has. For the same reasons
+/// `fontval` and `font_c` are not here, and of `callers` there is no Rust.
+const TESTS: [(&str, &[&str]); 8] = [
+    ("font_decimal", &[]),
+    ("font_base", &[]),
+    ("font_fixed", &["raw"]),
+    ("font_tags", &[]),
+    ("font_ids", &[]),
+    ("font_geom", &[]),
+    (
+        "font_types",
+        &["errors", "fixed", "memory", "numbers", "tags"],
+    ),
+    ("variations", &[]),
+];
+
 // The folder of the files of a crate.
 fn folder(name: &str, target: Target) -> String {
     match target {
@@ -31,6 +48,7 @@ fn folder(name: &str, target: Target) -> String {
         Target::Program => "src/bin/fontval/generated".into(),
         Target::Exports => format!("c/src/generated/{name}"),
         Target::Examples => "examples/proved".into(),
+        Target::Tests => format!("tests/generated/{name}"),
     }
 }
 
@@ -43,7 +61,11 @@ pub fn tree() -> Result<BTreeMap<String, String>, String> {
             target,
             left_out,
         };
-        let root = ["lib", "main"][usize::from(target == Target::Program)];
+        let root = match target {
+            Target::Program => "main",
+            Target::Tests => "tests",
+            _ => "lib",
+        };
         let from = format!("crates/{name}/src");
         let to = folder(name, target);
         add_file(&mut files, &of, [&from, root], [&to, "mod"])?;
@@ -60,7 +82,8 @@ pub fn generated_files() -> Vec<String> {
 
 fn crates() -> impl Iterator<Item = (&'static str, Target, &'static [&'static str])> {
     let library = LIBRARY.map(|(name, left_out)| (name, Target::Library, left_out));
-    library.into_iter().chain(ABOVE)
+    let tests = TESTS.map(|(name, left_out)| (name, Target::Tests, left_out));
+    library.into_iter().chain(ABOVE).chain(tests)
 }
 
 fn message(source: &str, Error { line, what }: Error) -> String {
@@ -78,15 +101,16 @@ fn add_file(
     let text = std::fs::read_to_string(repository::root().join(&source))
         .map_err(|error| format!("{source}: {error}"))?;
     let erased = erase(&text, of, module == "mod").map_err(|error| message(&source, error))?;
-    for left_out in of.left_out.iter().filter(|_| module == "mod") {
+    let has_left_out = module == "mod" && of.target != Target::Tests;
+    for left_out in of.left_out.iter().filter(|_| has_left_out) {
         check_left_out(&format!("{from}/{left_out}"))?;
     }
     let head = format!("// @generated from {source} by tools/src/bin/erase.rs\n\n");
     let rust = formatted(&(head + &erased.rust)).map_err(|error| format!("{source}: {error}"))?;
     files.insert(format!("{to}/{module}.rs"), rust);
     // A module of the root is in the same folder, and one of another file in a folder of its name.
-    let below = |folder: &str, file: &str| match module {
-        "mod" => folder.to_string(),
+    let below = |folder: &str, file: &str| match file {
+        "lib" | "main" | "mod" => folder.to_string(),
         _ => format!("{folder}/{file}"),
     };
     for inner in erased.modules {

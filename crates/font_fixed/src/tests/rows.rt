@@ -1,5 +1,4 @@
-//! Decimals of the seven formats, by rows of docs/REQUIREMENTS.md and of font-types. The test
-//! `tests/decimals.rs`, which cargo runs, reads the same tables.
+//! Decimals of the seven formats, by rows of docs/REQUIREMENTS.md and of font-types.
 
 use crate::*;
 use font_decimal::DecimalFault;

@@ -1,4 +1,4 @@
-//! An element of a caller, which cargo cannot compile: one that does not compare with every other.
+//! An element of a caller: one that does not compare with every other.
 //! Also whether boxes have the values of docs/REQUIREMENTS.md.
 
 ghost use Rattle.std.specs.Prelude.{◌≡◌, ◌&&◌, nat_le};

@@ -1,4 +1,4 @@
-//! An impl of a caller, which cargo cannot compile: `RingElement` for `u32` modulo `2^32`.
+//! An impl of a caller: `RingElement` for `u32` modulo `2^32`.
 
 ghost use Rattle.std.specs.Prelude.{◌≡◌, ◌+◌, ◌*◌, ◌%◌, ◌^◌, ◌<◌, refl};
 ghost use Rattle.std.proofs.Common.{lit<};

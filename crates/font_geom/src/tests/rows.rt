@@ -93,6 +93,9 @@ fn point_of_decimals(rt: HostRuntime) {
 
 #[test]
 fn points_of_integers(rt: HostRuntime) {
+    let (p, q) = (Point::new(10, 16), Point::new(1, 2));
+    assert!(rt; p + q == Point::new(11, 18) && p - q == Point::new(9, 14));
+    assert!(rt; p * Point::new(2, 3) == Point::new(20, 48) && -p == Point::new(-10, -16));
     assert!(rt; Point::new(10, 16) / Point::new(2, 3) == Point::new(5, 5));
     assert!(rt; Point::new(1, 2) * 8 == Point::new(8, 16));
 }

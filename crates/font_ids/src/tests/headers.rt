@@ -1,4 +1,4 @@
-//! An impl of a caller, which cargo cannot compile: a header of a tag, an offset and a version.
+//! An impl of a caller: a header of a tag, an offset and a version.
 
 ghost use Rattle.std.specs.Prelude.{◌≡◌, take, drop};
 ghost use Rattle.font_base.specs.BigEndian.{raw_value};

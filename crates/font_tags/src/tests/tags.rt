@@ -1,7 +1,7 @@
 //! Whether the definitions of tags give the results of font-types, and what no clause says: texts
 //! with flags, and of errors.
 
-use crate::{InvalidTag, Tag};
+use crate::{InvalidTag, TTC_HEADER_TAG, Tag};
 use font_base::Scalar;
 use std::alloc::{AllocError, Global};
 use std::str::FromStr;
@@ -13,7 +13,7 @@ fn valid_texts(rt: HostRuntime) {
     let tags = [b"a   ", b"bc  ", b"cv1 ", b"head", b"!   ", b"~   "].map(|tag| Ok(Tag::new(tag)));
     assert!(rt; texts.map(|text| Tag::new_checked(text.as_bytes())) == tags);
     assert!(rt; texts.map(Tag::from_str) == tags);
-    assert!(rt; Tag::new(b"head").to_raw() == *b"head");
+    assert!(rt; Tag::new(b"head").to_raw() == *b"head" && TTC_HEADER_TAG == Tag::new(b"ttcf"));
 }
 
 #[test]

@@ -21,6 +21,12 @@ fn version16dot16_numbers(rt: HostRuntime) {
             "{version}"
         );
     }
+    for minor in 0..10 {
+        assert!(rt;
+            Version16Dot16::new(1, minor).to_major_minor() == (1, minor),
+            "{minor}"
+        );
+    }
     let [low, nine, ten] = [65535, 9, 10].map(|minor| Version16Dot16::new(1, minor));
     assert!(rt; low.to_major_minor() == (1, 9) && ten == nine && nine.compatible((1, 12)));
 }

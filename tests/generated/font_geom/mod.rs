@@ -1,0 +1,9 @@
+// @generated from crates/font_geom/src/tests.rt by tools/src/bin/erase.rs
+
+//! Impls of callers, rows of docs/REQUIREMENTS.md, traits and texts. `tests/geometry.rs` has the
+//! order of operands.
+
+mod boxes;
+mod ring;
+mod rows;
+mod traits;

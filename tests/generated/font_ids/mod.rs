@@ -1,0 +1,10 @@
+// @generated from crates/font_ids/src/tests.rt by tools/src/bin/erase.rs
+
+//! Values of OpenType and font-types, an impl of a caller, traits and texts.
+
+mod glyphs;
+mod headers;
+mod names;
+mod offsets;
+mod traits;
+mod words;

@@ -1,0 +1,8 @@
+// @generated from crates/font_tags/src/tests.rt by tools/src/bin/erase.rs
+
+//! Values of OpenType and font-types, traits and texts.
+
+mod compatible;
+mod tags;
+mod traits;
+mod versions;

@@ -1,0 +1,5 @@
+// @generated from crates/font_types/src/tests.rt by tools/src/bin/erase.rs
+
+//! JSON forms and their errors, also if memory fails, and rows of sums of deltas.
+
+mod rows;

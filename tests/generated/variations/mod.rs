@@ -1,0 +1,7 @@
+// @generated from crates/variations/src/tests.rt by tools/src/bin/erase.rs
+
+//! A row or two for each function, from OpenType and from arithmetic by hand: no clause says that
+//! its definitions are those of the field.
+
+mod evaluator;
+mod variations;

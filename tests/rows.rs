@@ -1,0 +1,40 @@
+//! The tests of the crates, which the eraser writes, over the Rust that it writes.
+#![allow(clippy::clone_on_copy)]
+
+#[macro_use]
+mod rattle;
+
+macro_rules! crates {
+    ($($name:ident $folder:literal)*) => {$(
+        #[path = $folder]
+        mod $name {
+            pub use font_types_proved::*;
+
+            #[path = "mod.rs"]
+            mod tests;
+        }
+    )*};
+}
+
+crates! {
+    font_decimal "generated/font_decimal"
+    font_base "generated/font_base"
+    font_fixed "generated/font_fixed"
+    font_tags "generated/font_tags"
+    font_ids "generated/font_ids"
+    font_geom "generated/font_geom"
+    font_types "generated/font_types"
+}
+
+// The crate of the example `instance`, of which its tests call a part.
+#[allow(dead_code)]
+#[path = "../examples/proved/mod.rs"]
+mod proved;
+
+#[path = "generated/variations"]
+mod variations {
+    pub use crate::proved::*;
+
+    #[path = "mod.rs"]
+    mod tests;
+}
