@@ -10,6 +10,7 @@
 //! | integers of 24 bits | [`Uint24`], [`Int24`] |
 //! | stored arrays | [`ScalarArray`], [`ScalarArrayIter`], [`ByteChunks`] |
 //! | stored fields | [`Scalar`], [`BigEndian`], [`FixedSize`], [`BeByteArray`], [`IdentityEq`] |
+//! | records of scalars | [`record!`] |
 //! | headers of tables | [`TableHeader`], [`TableDataRef`] |
 //! | tags and dates | [`Tag`], [`LongDateTime`] |
 //! | versions | [`MajorMinor`], [`Version16Dot16`], [`Compatible`] |

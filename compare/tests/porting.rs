@@ -237,3 +237,39 @@ fn caller_defined_elements() {
     let there = there::Matrix::from_elements(bits) * there::Point::new(2.0, 4.0);
     assert_eq!([here.x.0, here.y.0], [there.x, there.y]);
 }
+
+/// Asserts that a call returns this in both crates, and that a row of docs/PORTING.md says so.
+macro_rules! assert_corrected {
+    ($($right:literal, |$k:ident| $call:expr;)*) => {$({
+        let there = {
+            use font_types as $k;
+            format!("{:?}", $call)
+        };
+        let here = {
+            use font_types_proved as $k;
+            format!("{:?}", $call)
+        };
+        let call = stringify!($call).replace("k::", "");
+        assert_eq!([there, here], [$right; 2], "{call}");
+        let page = include_str!("../../docs/PORTING.md");
+        let row = page.lines().find(|line| line.starts_with(&format!("| `{call}` |")));
+        assert!(row.expect(&call).contains(&format!("| `{}`", $right)), "{call}");
+    })*};
+}
+
+#[test]
+fn corrections() {
+    assert_corrected! {
+        "-1", |k| k::Int24::new(-1).to_i32();
+        "Err(InvalidByte { pos: 2, byte: 99 })", |k| k::Tag::new_checked(b"b c");
+        "Ok(Tag(head))", |k| k::Tag::new_checked(b"head");
+        "Ok(())", |k| k::Tag::new(b"!~0 ").validate();
+        "1", |k| k::Fixed::EPSILON.to_bits();
+        "true", |k| k::Offset16::new(0).is_null();
+        "-1673527296", |k| k::UfWord::new(40000).to_fixed().to_bits();
+        "-32768", |k| k::Fixed::from_bits(0x7FFF_8000).to_i32();
+        "-2097152", |k| k::Fixed::from_bits(0x7FFF_FE00).to_f26dot6().to_bits();
+        "-33554432", |k| k::F26Dot6::from_bits(0x7FFF_FFE0).to_i32();
+        "-140737488355328", |k| k::F48Dot16::from_bits(0x7FFF_FFFF_FFFF_8000).to_i64();
+    }
+}

@@ -29,7 +29,7 @@ fn split_setting(text: &str) -> Option<(&str, &str)> {
     text.split_once('=')
 }
 
-/// Reads a setting such as `wght=650` or `wdth=87.5`.
+/// Parses a name and a number: a setting such as `wght=650` or `wdth=87.5`.
 pub fn read_setting(text: &str) -> Result<Setting, SettingError> {
     let (axis, value) = split_setting(text).ok_or(SettingError::NoValue)?;
     let axis = Tag::new_checked(axis.as_bytes()).map_err(SettingError::Axis)?;
@@ -50,7 +50,7 @@ pub struct VariationAxisRecord {
     pub axis_name_id: NameId,
 }
 
-/// Reads an axis record, or returns `None` if there are fewer than 20 bytes.
+/// Reads a record: an axis of `fvar`, or returns `None` if there are fewer than 20 bytes.
 pub fn read_axis(bytes: &[u8]) -> Option<VariationAxisRecord> {
     Some(VariationAxisRecord {
         axis_tag: Tag::read_at(bytes, 0)?,
@@ -62,12 +62,12 @@ pub fn read_axis(bytes: &[u8]) -> Option<VariationAxisRecord> {
     })
 }
 
-/// Clamps a value to a range.
+/// Clamps: a value to a range.
 pub fn clamp(value: Fixed, min: Fixed, max: Fixed) -> Fixed {
     value.clamp(min, max)
 }
 
-/// Returns a part over its whole, from 0 to 1.
+/// Divides a part by its whole: a quotient from 0 to 1.
 pub fn ratio(part: Fixed, whole: Fixed) -> Fixed {
     part / whole
 }
@@ -115,7 +115,8 @@ pub fn lerp(coordinate: Fixed, start: AxisValueMap, end: AxisValueMap) -> Fixed 
     to + (end.to_coordinate - to).mul_div(coordinate - from, end.from_coordinate - from)
 }
 
-/// Returns the index of the mapping that ends the segment of a coordinate: the first at or above.
+/// Finds the first element by `position`: the index of the mapping that ends the segment of a
+/// coordinate, at or above it.
 pub fn segment_end(coordinate: Fixed, map: &[AxisValueMap]) -> Option<usize> {
     map.iter()
         .position(|mapping| coordinate <= mapping.from_coordinate)

@@ -1,6 +1,5 @@
 -- Dumps of font values.
-use Rattle.std.specs.Prelude.{◌≡◌, ◌⊎◌, ℕ, ◌-◌, ◌^◌, pos, false, List, [], IsTrue, Option, Some, None, Result, Ok, Err}
-use Rattle.std.specs.Fmt.{decimal, padded_integral, format_spec}
+use Rattle.std.specs.Prelude.{◌≡◌, ◌⊎◌, ℕ, ◌-◌, pos, false, List, IsTrue, Option, Some, None, Result, Ok, Err}
 use lib.Chars.{codes}
 use Rattle.serde_json.specs.Data.{Data, object, member, no_members, string, number}
 use Rattle.serde_json.specs.Find.{of_integer, get}
@@ -22,10 +21,6 @@ use Rattle.callers.specs.declared.dumper.Axis.{Axis}
 -- a column of that width, aligned to the right with spaces
 abbrev pub column : ℕ → Pad
 column width = record { width = width; fill = 32; align = Right; plus = false; zeros = false }
-
--- a number in at least five decimal digits, with zeros in front
-abbrev pub five_digits : ℕ → List ℕ
-five_digits n = padded_integral (format_spec 32 0 4 5 (2 ^ 64 - 1)) false [] (decimal n)
 
 -- each field is a value of its type
 pub record IsAxis (axis : Axis) : Type 0 where

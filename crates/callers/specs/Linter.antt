@@ -1,10 +1,8 @@
 -- Reports of a linter.
-use Rattle.std.specs.Prelude.{◌<◌, Bool, false, ◌||◌, ◌==◌, List, [], ◌∷◌, length}
+use Rattle.std.specs.Prelude.{◌<◌, List, length}
 use Rattle.std.specs.Prelude.{Err}
 use Rattle.std.specs.List.{AllWithin, HoldsAt}
-use Rattle.font_types.specs.declared.NameId.{NameId}
 use Rattle.font_types.specs.declared.Tag.{Tag}
-use Rattle.font_types.specs.NameId.{name_number}
 use Rattle.font_types.specs.Tag.{tag_bytes, IsGood, IsValidated}
 use Rattle.callers.specs.declared.linter.BadTag.{BadTag}
 
@@ -13,8 +11,3 @@ pub record IsFirstBad (tags : List Tag) (bad : BadTag) : Type 0 where
   pub within : bad.index < length tags
   pub before : AllWithin (λ tag. IsGood (tag_bytes tag)) tags 0 bad.index
   pub there : HoldsAt (λ tag. IsValidated (tag_bytes tag) (Err bad.error)) tags bad.index
-
--- one of the ids is this one
-unfoldable pub is_among : NameId → List NameId → Bool
-is_among id [] = false
-is_among id (other ∷ others) = name_number other == name_number id || is_among id others

@@ -1,31 +1,27 @@
-//! A dumper of font values: columns, raw values in hexadecimal, names of glyphs, and JSON.
+//! A dumper of font values: columns, raw values in hexadecimal, and JSON.
 
-ghost use Rattle.std.specs.Prelude.{◌≡◌, ◌≤◌, ◌<◌, ℕ, max, List, ◌∷◌, ◌++◌, length};
-ghost use Rattle.std.specs.Prelude.{Some, None, Ok, IsSome, IfSome, IfNone, IfOk, IfErr};
-ghost use Rattle.std.specs.Prelude.{MatchResult, string_bytes};
+ghost use Rattle.std.specs.Prelude.{◌≡◌, ◌≤◌, ◌<◌};
+ghost use Rattle.std.specs.Prelude.{Some, None, Ok, IfOk, IfErr};
+ghost use Rattle.std.specs.Prelude.{MatchResult};
 ghost use Rattle.std.specs.List.{flat_map};
 ghost use lib.Chars.{codes};
 ghost use Rattle.serde_json.specs.Data.{object, member, no_members};
 ghost use Rattle.serde_json.specs.Find.{get};
 ghost use Rattle.serde_json.specs.View.{view};
-ghost use Rattle.font_types.specs.Bytes.{numeral, bytes_of};
-ghost use Rattle.font_types.specs.Fixed.{fixed_bits, fixed_text};
-ghost use Rattle.font_types.specs.GlyphId.{glyph16_number};
+ghost use Rattle.font_types.specs.Fixed.{fixed_text};
 ghost use Rattle.font_types.specs.Padding.{padded_text};
-ghost use Rattle.font_types.specs.Shortest.{IsShortest};
 ghost use Rattle.font_types.specs.Tag.{tag_bytes, IsGood};
-ghost use Rattle.font_types.specs.Version.{hex_text};
 ghost use Rattle.callers.specs.declared.dumper.Axis.{Axis};
-ghost use Rattle.callers.specs.Dumper.{column, five_digits, IsAxis, axis_form};
+ghost use Rattle.callers.specs.Dumper.{column, IsAxis, axis_form};
 ghost use Rattle.callers.specs.Dumper.{ConvertsMember, ConvertsAxis};
 
-use font_types::{Fixed, GlyphId16, JsonFault, JsonScalar, NameId, Pad, Scalar, Tag};
+use font_types::{Fixed, JsonFault, JsonScalar, NameId, Pad, Tag};
 use serde_json::{Value, json};
 use std::alloc::{AllocError, Global};
 
 // ---- columns
 
-/// Returns numbers in columns of one width, aligned to the right; a longer number is wider.
+/// Prints columns: numbers in columns of one width, aligned to the right; a longer number is wider.
 ///
 /// `write_padded` always succeeds with 32 bytes, since no `Fixed` is longer than 12.
 pub fn row(numbers: &[Fixed], width: usize, alloc: Global) -> Result<Vec<u8>, AllocError>
@@ -45,34 +41,6 @@ pub fn row(numbers: &[Fixed], width: usize, alloc: Global) -> Result<Vec<u8>, Al
 
 // ---- texts
 
-/// Returns the shortest decimal that is read back as the number.
-pub fn printed(number: Fixed, alloc: Global) -> Result<String, AllocError>
-    ensures { IfOk result (λ text. IsShortest (fixed_bits number) 16 (string_bytes text)) }
-{
-    format!(in alloc; "{number}")
-}
-
-/// Returns the raw value in eight hexadecimal digits, and the number: `00018000 1.5`.
-///
-/// What `{:08x}` writes is `hex_text` by the lemma `hex_padded`.
-#[tactic(auto, using(font_types::proofs::Callers::calls, font_types::proofs::Callers::hex_padded))]
-pub fn raw_and_number(number: Fixed, alloc: Global) -> Result<String, AllocError>
-    ensures { IfOk result (λ text. string_bytes text
-        ≡ hex_text (numeral (bytes_of 4 (fixed_bits number))) ++ 32 ∷ fixed_text number) }
-{
-    let raw = u32::from_raw(number.to_raw());
-    format!(in alloc; "{raw:08x} {number}")
-}
-
-/// Returns the name of a glyph that `post` does not name, such as `glyph00036`.
-pub fn glyph_name(glyph: GlyphId16, alloc: Global) -> Result<String, AllocError>
-    ensures { IfOk result (λ text.
-        string_bytes text ≡ codes "glyph" ++ five_digits (glyph16_number glyph)) }
-{
-    let number = glyph.to_u16();
-    format!(in alloc; "glyph{number:05}")
-}
-
 // ---- JSON
 
 /// The fields of an axis that a dump shows.
@@ -84,7 +52,7 @@ pub struct Axis {
 }
 
 impl Axis {
-    /// Returns an object with a member for each field. `json!` is in a separate function.
+    /// Writes JSON: an object with a member for each field. `json!` is in a separate function.
     ///
     /// # Errors
     ///
@@ -101,7 +69,7 @@ impl Axis {
         Ok(object_of(&tag, &default, &name, alloc)?)
     }
 
-    /// Reads the members of an object.
+    /// Reads JSON: the members of an object.
     ///
     /// # Errors
     ///

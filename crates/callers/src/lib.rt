@@ -2,12 +2,12 @@
 //! proved against the contract that its caller wants, and run by a test.
 //!
 //! - `start`: a first caller, which docs/CALLING.md shows.
-//! - `reader`: tables, as `head`, `hmtx`, `kern`, coverage and `VORG`.
+//! - `reader`: tables, as `head`, `hmtx`, `kern` and coverage.
 //! - `writer`: fields, headers, and a `loca` of 16-bit offsets.
 //! - `packed`: packed deltas, as in `gvar` and `cvar`.
 //! - `scaler`: outlines through a chain of matrices.
-//! - `hinting`: extents of outlines, and positions between two others.
-//! - `linter`: tags, names, versions and the records of a table directory.
+//! - `hinting`: the grid, positions between two others, and a range.
+//! - `linter`: tags and the records of a table directory.
 //! - `dumper`: numbers in columns, raw values in hexadecimal, JSON.
 #![tactic(auto, using(font_types::proofs::Callers::calls))]
 

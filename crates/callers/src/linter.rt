@@ -1,17 +1,15 @@
-//! A linter of tags, names, versions and the records of a table directory.
+//! A linter of tags and of the records of a table directory.
 
 ghost use Rattle.std.specs.List.Sorted.{IsPermutation, IsSortedByKey};
 ghost use Rattle.std.specs.List.{AllAdjacentBelow, sum_by};
 ghost use Rattle.std.specs.Prelude.{◌≡◌, ◌↔◌, ◌<◌, ◌%◌, ◌^◌, All, IsTrue, MatchResult};
-ghost use Rattle.std.specs.Prelude.{IsSome, IfSome, length, sum, map};
+ghost use Rattle.std.specs.Prelude.{length, sum};
 ghost use Rattle.font_types.specs.Array.{array_elements};
 ghost use Rattle.font_types.specs.Bytes.{numeral};
-ghost use Rattle.font_types.specs.NameId.{name_id_of, predefined_numbers};
 ghost use Rattle.font_types.specs.Tag.{tag_bytes, IsGood};
-ghost use Rattle.font_types.specs.Version.{IsCompatible};
-ghost use Rattle.callers.specs.Linter.{IsFirstBad, is_among};
+ghost use Rattle.callers.specs.Linter.{IsFirstBad};
 
-use font_types::{Compatible, InvalidTag, MajorMinor, NameId, Offset32, ScalarArray, Tag};
+use font_types::{InvalidTag, Offset32, ScalarArray, Tag};
 use std::cmp::Ordering;
 use thiserror::Error;
 
@@ -25,7 +23,7 @@ pub struct BadTag {
     pub error: InvalidTag,
 }
 
-/// Validates tags, up to the first invalid one.
+/// Checks each element: tags, up to the first invalid one.
 ///
 /// The invariant of its loop says of the tags so far what the clause says of all, by `AllWithin`.
 pub fn validate(tags: &[Tag]) -> Result<(), BadTag>
@@ -40,7 +38,7 @@ pub fn validate(tags: &[Tag]) -> Result<(), BadTag>
     Ok(())
 }
 
-/// Returns whether tags are strictly ascending.
+/// Checks every two neighbors: whether tags are strictly ascending.
 ///
 /// The invariant compares their bytes by `slice_cmp nat_cmp`, which is the order of tags.
 pub fn is_ascending(tags: &[Tag]) -> bool
@@ -66,7 +64,7 @@ pub struct TableRecord {
     pub length: u32,
 }
 
-/// Sorts records by tag, as a table directory stores them.
+/// Sorts by a key: records by tag, as a table directory stores them.
 ///
 /// The clause of a sort by a closure is for each key that the closure gives; the answer names it.
 pub fn sort_by_tag(records: &mut [TableRecord])
@@ -76,7 +74,7 @@ pub fn sort_by_tag(records: &mut [TableRecord])
     records.sort_unstable_by_key(|record| record.tag);
 }
 
-/// Returns the checksum of a table, the sum of its words modulo 2^32.
+/// Adds the elements of an array: the checksum of a table, modulo 2^32.
 ///
 /// The invariant of its loop says that the sum so far and the words that are left make the sum.
 pub fn checksum(words: ScalarArray<'_, u32>) -> u32
@@ -87,43 +85,4 @@ pub fn checksum(words: ScalarArray<'_, u32>) -> u32
         total = total.wrapping_add(word);
     }
     total
-}
-
-/// Returns the length of all tables together, or `None` if it does not fit 32 bits.
-///
-/// The invariant of its loop has the range of the sum, too.
-pub fn total_length(lengths: &[u32]) -> Option<u32>
-    ensures variant { IsSome result ↔ (sum lengths.now < 2 ^ 32) }
-    ensures value { IfSome result (λ total. total ≡ sum lengths.now) }
-{
-    let mut total = 0u32;
-    for length in lengths {
-        total = total.checked_add(*length)?;
-    }
-    Some(total)
-}
-
-// ---- names and versions
-
-/// Returns whether OpenType defines a name id.
-///
-/// `is_among` recurs over the 25 predefined ids. It is `unfoldable`, since unfolding it at each of
-/// them would stop the search.
-#[tactic(auto, unfolding(crate::specs::Linter::is_among))]
-pub fn is_predefined(id: NameId) -> bool
-    ensures { IsTrue result ↔ IsTrue (is_among id (map name_id_of predefined_numbers)) }
-{
-    for other in NameId::predefined() {
-        if other == id {
-            return true;
-        }
-    }
-    false
-}
-
-/// Returns whether a table of one version can be read as another.
-pub fn is_supported(table: MajorMinor, supported: MajorMinor) -> bool
-    ensures { IsTrue result ↔ IsCompatible table.major table.minor supported.major supported.minor }
-{
-    table.compatible(supported)
 }

@@ -1,30 +1,22 @@
-//! A reader of tables: records, `head`, `hmtx`, arrays and searches.
+//! A reader of tables: `head`, `hmtx`, `kern`, arrays and searches.
 
 ghost use Rattle.std.specs.Prelude.{◌≡◌, ◌≢◌, ◌↔◌, ◌≤◌, ◌<◌, ◌+◌, ◌*◌, ◌/◌, ◌%◌, ◌^◌, ◌&&◌, ◌++◌};
 ghost use Rattle.std.specs.Prelude.{ℕ, pos, nat_lt, refl};
-ghost use Rattle.std.specs.Prelude.{IsTrue, IsSome, IfSome, IfNone, IfOk, IfErr, MatchOption};
+ghost use Rattle.std.specs.Prelude.{IsTrue, IsSome, IfSome, IfNone, MatchOption};
 ghost use Rattle.std.specs.Prelude.{MatchResult, IsSomeAnd, Result, None};
-ghost use Rattle.std.specs.Prelude.{length, take, drop, vec_len, All};
-ghost use Rattle.std.specs.List.{HoldsAt};
-ghost use Rattle.std.specs.List.Sorted.{IsSortedByKey};
+ghost use Rattle.std.specs.Prelude.{length, take, drop};
 ghost use Rattle.std.specs.Ordering.{nat_cmp};
-ghost use Rattle.std.specs.Int.{int_div_euclid};
 ghost use Rattle.std.specs.Int.Bits.{bit_and};
 ghost use Rattle.std.proofs.Common.{lit<};
 ghost use Rattle.font_types.specs.Bytes.{numeral, signed_numeral, bytes_of};
-ghost use Rattle.font_types.specs.Scalar.{IsValueOf};
 ghost use Rattle.font_types.specs.Scalar.Laws.{unsigned_newtype, unsigned_identity, signed_newtype};
 ghost use Rattle.font_types.specs.Records.{record_laws};
 ghost use Rattle.font_types.specs.Array.{array_len, element_bytes};
 ghost use Rattle.font_types.specs.Array.{IsSearched, IsPartitionPoint};
-ghost use Rattle.font_types.specs.BigEndian.{raw_value};
 ghost use Rattle.font_types.specs.Wrap.{fits_bits};
 ghost use Rattle.font_types.specs.FWord.{fword_number, fword_of, ufword_number, ufword_of};
 ghost use Rattle.font_types.specs.GlyphId.{glyph16_number, glyph16_of};
-ghost use Rattle.font_types.specs.LongDateTime.{date_seconds};
-ghost use Rattle.font_types.specs.Offset.{offset32_number};
-ghost use Rattle.font_types.specs.Uint24.{uint24_number};
-ghost use Rattle.callers.specs.Reader.{advance_offset, IsVertOrigin};
+ghost use Rattle.callers.specs.Reader.{advance_offset};
 ghost use Rattle.callers.specs.Reader.{pair_key};
 
 use font_types::{
@@ -32,22 +24,9 @@ use font_types::{
     ScalarArray, TableDataRef, TableHeader, UfWord, Uint24,
 };
 
-// ---- records, field by field
+// ---- bytes
 
-/// Reads a variation selector and the offset of its default mappings, the first seven bytes of a
-/// record of `cmap`, format 14; returns `None` if there are fewer.
-pub fn read_selector(bytes: &[u8]) -> Option<(Uint24, Offset32)>
-    ensures variant { IsSome result ↔ (7 ≤ length bytes.now) }
-    ensures selector { IfSome result (λ found.
-        uint24_number found.0 ≡ numeral (take 3 bytes.now)) }
-    ensures offset { IfSome result (λ found.
-        offset32_number found.1 ≡ numeral (take 4 (drop 3 bytes.now))) }
-{
-    Some((Uint24::read_at(bytes, 0)?, Offset32::read_at(bytes, 3)?))
-}
-
-/// Returns the bytes of a table, by the offset and the length of its record, or `None` if the font
-/// ends before them.
+/// Reads bytes by offset and length: those of a table, or `None` if the font ends before them.
 pub fn table_bytes(font: &[u8], offset: u32, len: u32) -> Option<&[u8]>
     ensures { MatchOption result (length font.now < offset + len)
         (λ table. (offset + len ≤ length font.now)
@@ -60,7 +39,7 @@ pub fn table_bytes(font: &[u8], offset: u32, len: u32) -> Option<&[u8]>
 
 // ---- `head`
 
-/// The table `head`, 54 bytes.
+/// A long header: the table `head`, 54 bytes.
 ///
 /// `IsHead` in `specs/` has a line for each field. Each is filled by `read_at`: one that went to
 /// the end of the bytes, as `&bytes[52..]`, would stop the search in a header of many fields.
@@ -119,7 +98,7 @@ impl TableHeader for Head {
     }
 }
 
-/// Returns the units per em, or `None` if `head` has fewer than 54 bytes.
+/// Reads a field of a header: the units per em, or `None` if `head` has fewer than 54 bytes.
 ///
 /// A clause on a field is about the header's bytes, the first 54 of the table's.
 pub fn units_per_em(head: &[u8]) -> Option<u16>
@@ -130,14 +109,7 @@ pub fn units_per_em(head: &[u8]) -> Option<u16>
     Some(head.header().units_per_em.get())
 }
 
-/// Returns the day of a date, counted from 1 January 1904.
-pub fn day_of(date: LongDateTime) -> i64
-    ensures { result ≡ int_div_euclid (date_seconds date) (pos 86400) }
-{
-    date.as_secs().div_euclid(86_400)
-}
-
-/// Returns whether the bit of `head.flags` for left side bearings at x = 0 is set.
+/// Tests a bit: that of `head.flags` for left side bearings at x = 0.
 pub fn has_bearings_at_zero(flags: u16) -> bool
     ensures { IsTrue result ↔ (bit_and flags 2 ≢ 0) }
 {
@@ -146,7 +118,7 @@ pub fn has_bearings_at_zero(flags: u16) -> bool
 
 // ---- `hmtx`
 
-/// A horizontal metric, a record of `hmtx`.
+/// A record of two fields: a horizontal metric of `hmtx`.
 ///
 /// A record of two fields is a scalar by `record_laws` and the laws of its fields, and so can be an
 /// element of an array.
@@ -197,7 +169,8 @@ impl Scalar for LongHorMetric {
     }
 }
 
-/// Returns the metric of a glyph, or `None` if the bytes are no array of metrics or end before it.
+/// Reads an element of an array: the metric of a glyph, or `None` if the bytes are no array of
+/// metrics or end before it.
 pub fn metric(metrics: &[u8], glyph: GlyphId16) -> Option<LongHorMetric>
     ensures variant { IsSome result ↔ ((length metrics.now % 4 ≡ 0)
         × (glyph16_number glyph < length metrics.now / 4)) }
@@ -209,8 +182,8 @@ pub fn metric(metrics: &[u8], glyph: GlyphId16) -> Option<LongHorMetric>
     ScalarArray::<LongHorMetric>::new(metrics)?.get(usize::from(glyph.to_u16()))
 }
 
-/// Returns the advance width of a glyph in `hmtx` of `count` metrics; glyphs beyond them have the
-/// last one's.
+/// Reads an element, and the last one for indices beyond: the advance width of a glyph in `hmtx` of
+/// `count` metrics.
 pub fn advance_width(hmtx: &[u8], count: u16, glyph: GlyphId16) -> Option<UfWord>
     requires { 0 < count }
     ensures variant { IsSome result
@@ -240,7 +213,7 @@ impl GlyphPair {
     }
 }
 
-/// A kerning pair, a record of `kern`, format 0.
+/// A record of three fields: a kerning pair of `kern`, format 0.
 ///
 /// A record of three fields is a scalar if the first two are a struct of their own: `record_laws`
 /// takes the laws of that struct, by `record_laws`, and those of the third field.
@@ -304,7 +277,8 @@ impl Scalar for KernPair {
     }
 }
 
-/// Returns the index of a pair among pairs sorted by `key`, or else where it has its place.
+/// Searches records by a key: the index of a pair among pairs sorted by `key`, or else where it has
+/// its place.
 pub fn pair_index(pairs: &ScalarArray<'_, KernPair>, glyphs: GlyphPair) -> Result<usize, usize>
     ensures { IsSearched pairs.now
         (λ pair. nat_cmp (pair_key pair.glyphs) (pair_key glyphs)) result }
@@ -312,7 +286,8 @@ pub fn pair_index(pairs: &ScalarArray<'_, KernPair>, glyphs: GlyphPair) -> Resul
     pairs.binary_search_by(|pair| pair.glyphs.key().cmp(&glyphs.key()))
 }
 
-/// Returns the value of the pair at an index, or `None` if there are fewer pairs.
+/// Reads a field of an element: the value of the pair at an index, or `None` if there are fewer
+/// pairs.
 pub fn pair_value(pairs: &ScalarArray<'_, KernPair>, index: usize) -> Option<FWord>
     ensures variant { IsSome result ↔ (index < array_len pairs.now) }
     ensures value { IfSome result (λ value. fword_number value
@@ -321,7 +296,8 @@ pub fn pair_value(pairs: &ScalarArray<'_, KernPair>, index: usize) -> Option<FWo
     Some(pairs.get(index)?.value)
 }
 
-/// Returns the value of a pair of glyphs among pairs sorted by `key`, or `None` if it has none.
+/// Finds a record by a key: the value of a pair of glyphs among pairs sorted by `key`, or `None` if
+/// it has none.
 ///
 /// The clause says that there is a result of the search, and that the value is of the pair there.
 pub fn kerning(pairs: &ScalarArray<'_, KernPair>, glyphs: GlyphPair) -> Option<FWord>
@@ -336,8 +312,8 @@ pub fn kerning(pairs: &ScalarArray<'_, KernPair>, glyphs: GlyphPair) -> Option<F
 
 // ---- searches
 
-/// Returns the coverage index of a glyph in a sorted array of glyph ids (coverage, format 1), or
-/// `None` if it is not covered.
+/// Finds a number in a sorted array: the coverage index of a glyph (coverage, format 1), or `None`
+/// if it is not covered.
 ///
 /// One clause has both the index and the element there. An absent number is given by its bytes.
 pub fn coverage_index(glyphs: &ScalarArray<'_, GlyphId16>, glyph: GlyphId16) -> Option<usize>
@@ -351,62 +327,17 @@ pub fn coverage_index(glyphs: &ScalarArray<'_, GlyphId16>, glyph: GlyphId16) -> 
     glyphs.binary_search(&glyph).ok()
 }
 
-/// Returns the index of a variation selector in a sorted array, or else where it has its place.
-///
-/// For types other than `u16` and `GlyphId16`, `IsSearched` says both of the `Result`.
-pub fn selector_index(selectors: &ScalarArray<'_, Uint24>, selector: Uint24) -> Result<usize, usize>
-    ensures { IsSearched selectors.now
-        (λ other. nat_cmp (uint24_number other) (uint24_number selector)) result }
-{
-    selectors.binary_search(&selector)
-}
-
-/// Returns the index of the segment of a character code (`cmap`, format 4), the first whose end is
-/// at or above the code, or their number if there is none.
+/// Finds the first element that fails a test: the segment of a character code (`cmap`, format 4),
+/// whose end is at or above the code, or the number of segments if there is none.
 pub fn segment_of(ends: &ScalarArray<'_, u16>, code: u16) -> usize
     ensures { IsPartitionPoint ends.now (λ end. nat_lt end code) result }
 {
     ends.partition_point(|end| end < code)
 }
 
-/// The vertical origin of a glyph, a record of `VORG`.
-#[derive(Clone, Copy)]
-pub struct VertOriginYMetrics {
-    pub glyph_index: GlyphId16,
-    pub vert_origin_y: i16,
-}
-
-/// Returns the index of a glyph's record among records sorted by glyph, or `None` if it has none.
-///
-/// A search by a closure says what it found for each key that the closure gives; the answer in
-/// `proofs/reader/origin_index` names that key.
-pub fn origin_index(records: &[VertOriginYMetrics], glyph: GlyphId16) -> Option<usize>
-    requires { IsSortedByKey (λ metric. glyph16_number metric.glyph_index) nat_cmp records.now }
-    ensures within { IfSome result (λ index. index < length records.now) }
-    ensures found { MatchOption result
-        (All (λ metric. glyph16_number metric.glyph_index ≢ glyph16_number glyph) records.now)
-        (λ index. HoldsAt (λ metric. glyph16_number metric.glyph_index ≡ glyph16_number glyph)
-        records.now index) }
-{
-    records
-        .binary_search_by_key(&glyph, |metric| metric.glyph_index)
-        .ok()
-}
-
-/// Returns the y coordinate of a glyph's vertical origin, or the default if it has no record.
-pub fn vert_origin_y(records: &[VertOriginYMetrics], default: i16, glyph: GlyphId16) -> i16
-    requires { IsSortedByKey (λ metric. glyph16_number metric.glyph_index) nat_cmp records.now }
-    ensures { IsVertOrigin (glyph16_number glyph) default result records.now }
-{
-    match origin_index(records, glyph) {
-        Some(index) => records[index].vert_origin_y,
-        None => default,
-    }
-}
-
 // ---- a scalar of one's own
 
-/// A size in pixels per em, as in `gasp` and `hdmx`.
+/// A scalar of one number: a size in pixels per em, as in `gasp` and `hdmx`.
 ///
 /// A newtype of a number takes five ghost items, and a sixth for `IdentityEq`. Every bit pattern
 /// has to be a value, because `read` fails only for a wrong length. Signed numbers have

@@ -13,7 +13,7 @@ ghost use Rattle.callers.specs.Start.{metric_offset};
 
 use font_types::{F26Dot6, Fixed, Scalar, UfWord};
 
-/// Returns the advance width at an index of `hmtx`, or `None` if the table ends before it.
+/// Reads a field at an offset: the advance width at an index of `hmtx`, or `None` past its end.
 pub fn advance_at(hmtx: &[u8], index: u16) -> Option<UfWord>
     ensures variant { IsSome result ↔ (metric_offset index + 2 ≤ length hmtx.now) }
     ensures value { IfSome result (λ advance.
@@ -22,7 +22,7 @@ pub fn advance_at(hmtx: &[u8], index: u16) -> Option<UfWord>
     UfWord::read_at(hmtx, usize::from(index) * 4)
 }
 
-/// Rounds the width of a stem to whole pixels, at least one.
+/// Rounds to the grid: the width of a stem, at least one pixel.
 pub fn snap_stem(width: F26Dot6) -> F26Dot6
     requires { FitsBits 32 (f26dot6_bits width +ℤ pos 32) }
     ensures whole { IsIntegral 6 (f26dot6_bits result) }
@@ -39,7 +39,7 @@ pub fn snap_stem(width: F26Dot6) -> F26Dot6
     }
 }
 
-/// Returns the sum of advances, wrapped once.
+/// Adds the numbers of a slice: advances, wrapped once.
 pub fn line_width(advances: &[Fixed]) -> Fixed
     ensures { fixed_bits result ≡ wrap 32 (total fixed_bits advances.now) }
 {

@@ -12,21 +12,8 @@ use font_types::{FWord, LongDateTime, Scalar};
 
 // ---- fields
 
-/// Writes a word at an offset, as a checksum or an offset is mended in place, or returns `None` if
-/// the table ends before it.
-pub fn write_word(bytes: &mut [u8], offset: usize, word: u32) -> Option<()>
-    ensures variant { IsSome result ↔ (offset + 4 ≤ length bytes.old) }
-    ensures before { take offset bytes.new ≡ take offset bytes.old }
-    ensures word { IfSome result (λ _.
-        take 4 (drop offset bytes.new) ≡ bytes_of 4 (pos word)) }
-    ensures after { drop (offset + 4) bytes.new ≡ drop (offset + 4) bytes.old }
-    ensures kept { IfNone result (bytes.new ≡ bytes.old) }
-{
-    word.write_at(bytes, offset)
-}
-
-/// Writes the date at which a font was modified into `head`, or returns `None` if the table ends
-/// before it.
+/// Writes a field: the date at which a font was modified into `head`, or returns `None` if the
+/// table ends before it.
 pub fn set_modified(head: &mut [u8], modified: LongDateTime) -> Option<()>
     ensures variant { IsSome result ↔ (36 ≤ length head.old) }
     ensures before { take 28 head.new ≡ take 28 head.old }
@@ -40,8 +27,8 @@ pub fn set_modified(head: &mut [u8], modified: LongDateTime) -> Option<()>
 
 // ---- several fields
 
-/// Writes the coordinates of a point at an offset, x and then y, as an anchor of `GPOS` has them,
-/// or returns `None` if the table ends before them.
+/// Writes two fields at an offset: the coordinates of a point, x and then y, as an anchor of `GPOS`
+/// has them, or returns `None` if the table ends before them.
 ///
 /// The last field is written first: if it has no room, nothing has been written.
 #[tactic(auto, using(font_types::proofs::Callers::calls, font_types::proofs::Callers::writes))]
@@ -59,7 +46,7 @@ pub fn write_pair(bytes: &mut [u8], offset: usize, x: FWord, y: FWord) -> Option
     x.write_at(bytes, offset)
 }
 
-/// Writes the header of `hdmx`: version 0, the number of records and the size of each. Returns
+/// Writes a header: of `hdmx`, version 0, the number of records and the size of each, or returns
 /// `None` if the table ends before them.
 pub fn write_hdmx_header(hdmx: &mut [u8], records: u16, size: u32) -> Option<()>
     ensures variant { IsSome result ↔ (8 ≤ length hdmx.old) }
@@ -85,8 +72,8 @@ pub enum ShortLocaError {
     Offset,
 }
 
-/// Returns whether each offset is even and half of it fits 16 bits, as a `loca` of 16-bit offsets
-/// requires.
+/// Tests each element: whether each offset is even and half of it fits 16 bits, as a `loca` of
+/// 16-bit offsets requires.
 pub fn are_short(offsets: &[u32]) -> bool
     ensures { IsTrue result ↔ All IsShort offsets.now }
 {
@@ -95,8 +82,8 @@ pub fn are_short(offsets: &[u32]) -> bool
         .all(|offset| offset % 2 == 0 && offset / 2 < 0x1_0000)
 }
 
-/// Writes offsets to a `loca` of 16-bit offsets, which has half of each, or returns an error and
-/// writes nothing.
+/// Writes numbers as words: half of each offset to a `loca` of 16-bit offsets, or returns an error
+/// and writes nothing.
 pub fn write_short_loca(loca: &mut [u8], offsets: &[u32]) -> Result<(), ShortLocaError>
     ensures variant { MatchResult result
         (λ _. (length offsets.now * 2 ≤ length loca.old) × All IsShort offsets.now)

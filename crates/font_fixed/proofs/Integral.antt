@@ -32,17 +32,20 @@ module _ (f : ℕ) where
   pub difference_is_integral : (a b : ℤ) → IsIntegral f a → IsIntegral f b → IsIntegral f (a -ℤ b)
   difference_is_integral a b is_a is_b = sum_is_integral a (neg_ℤ b) is_a (negated_is_integral b is_b)
 
+  turns_are_integral : (w : ℕ) (turns : ℤ) → f < w → IsIntegral f (turns *ℤ pos (2 ^ w))
+  turns_are_integral w turns few =
+      let split : w ≡ (w - f) + f = omega (arith, few) in
+      let power : 2 ^ w ≡ 2 ^ (w - f) * 2 ^ f = ap (λ n. 2 ^ n) split ∙ pow-add 2 (w - f) f in
+      record {
+        number = turns *ℤ pos (2 ^ (w - f));
+        is = rw power (sym (product-times turns (pos (2 ^ (w - f))) (pos (2 ^ f))));
+      }
+
   pub wrapped_is_integral : (w : ℕ) (a : ℤ) → f < w → IsIntegral f a → IsIntegral f (wrap w a)
   wrapped_is_integral w a few is_a =
       let whole = wrap_is w a (omega (arith, few)) in
-      let split : w ≡ (w - f) + f = omega (arith, few) in
-      let power : 2 ^ w ≡ 2 ^ (w - f) * 2 ^ f = ap (λ n. 2 ^ n) split ∙ pow-add 2 (w - f) f in
-      let turned : (whole.turns *ℤ pos (2 ^ w)) ≡ ((whole.turns *ℤ pos (2 ^ (w - f))) *ℤ pos (2 ^ f)) =
-      rw power (sym (product-times whole.turns (pos (2 ^ (w - f))) (pos (2 ^ f)))) in
-      let turns : IsIntegral f (whole.turns *ℤ pos (2 ^ w)) =
-      record { number = whole.turns *ℤ pos (2 ^ (w - f)); is = turned } in
       let unwound : wrap w a ≡ (a -ℤ (whole.turns *ℤ pos (2 ^ w))) = omega (arith, ints, whole.differs) in
-      rw unwound (difference_is_integral a _ is_a turns)
+      rw unwound (difference_is_integral a _ is_a (turns_are_integral w whole.turns few))
 
   -- rules: of a sum and a difference that a hypothesis has
   pub wrapped_sum_is_integral : (w : ℕ) (a b r : ℤ) → r ≡ wrap w (a +ℤ b) → f < w → IsIntegral f a → IsIntegral f b
@@ -55,6 +58,15 @@ module _ (f : ℕ) where
   wrapped_difference_is_integral w a b r is few is_a is_b =
       rw is (wrapped_is_integral w (a -ℤ b) few (difference_is_integral a b is_a is_b))
 
+  -- a half and another, added to an integer
+  pub half_more_is_integral : (w h : ℕ) (a b r : ℤ) → r ≡ wrap w (a +ℤ b) → f < w → b ≡ pos h → (h + h) % 2 ^ f ≡ 0
+      → IsIntegral f a → IsIntegral f (r +ℤ pos h)
+  half_more_is_integral w h a b r is few half divides is_a =
+      let given = wrap_is w (a +ℤ b) (omega (arith, few)) in
+      let whole = sum_is_integral a (pos (h + h)) is_a (constant_is_integral (h + h) divides) in
+      let all = difference_is_integral _ _ whole (turns_are_integral w given.turns few) in
+      record { number = all.number; is = omega (arith, ints, all.is, is, half, given.differs) }
+
   -- the greater of two numbers, or the lesser
   pub chosen_is_integral : {F : ℕ} (first : Bool) (a b r : FixedI32 F) → r ≡ cond first a b → IsIntegral f (bits_of a)
       → IsIntegral f (bits_of b) → IsIntegral f (bits_of r)
@@ -63,4 +75,4 @@ module _ (f : ℕ) where
 
 pub ruleset integral_calls = (constant_is_integral, wrapped_sum_is_integral, wrapped_difference_is_integral)
 
-pub ruleset integral_rules = (integral_calls, chosen_is_integral)
+pub ruleset integral_rules = (integral_calls, chosen_is_integral, half_more_is_integral)

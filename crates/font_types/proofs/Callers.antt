@@ -5,6 +5,7 @@ use Rattle.font_fixed.proofs.Calls.{calls_16, calls_32, calls_64}
 use Rattle.font_fixed.proofs.FixedCalls.{fixed_calls}
 use Rattle.font_fixed.proofs.Integral.{integral_calls, integral_rules}
 use Rattle.font_fixed.proofs.NarrowCalls.{narrow_calls, quarter_neg_one}
+use Rattle.font_fixed.proofs.Shifts.{shr_low, shr_high, shr_fits}
 use Rattle.font_tags.proofs.TagLaws.{tag_calls}
 use Rattle.font_tags.proofs.VersionLaws.{compatible_calls}
 use Rattle.font_geom.proofs.Bounds.{bound_calls}
@@ -75,11 +76,14 @@ pub ruleset lerps = (lerp_calls)
 -- for a sum over an index, in place of `calls`
 pub ruleset index_sums = (below_calls)
 
--- for `IsIntegral` of the greater of two integers, of a negation, or of a sum with a constant
+-- for `IsIntegral` of the greater of two integers, of a negation, or of a sum with a constant or with halves
 pub ruleset integers = (integral_rules, negation_is_integral, calls_32)
 
 -- for a narrowed number that fits
 pub ruleset narrowings = (exact_narrow_calls)
+
+-- for `>>`, beside std's `wraps`: the floor of a quotient by a power of two
+pub ruleset shifts = (shr_low, shr_high, shr_fits)
 
 -- for several writes in one body
 pub ruleset writes = (write_calls)

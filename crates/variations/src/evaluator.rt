@@ -47,7 +47,7 @@ fn split_setting(text: &str) -> Option<(&str, &str)>
     text.split_once('=')
 }
 
-/// Reads a setting such as `wght=650` or `wdth=87.5`.
+/// Parses a name and a number: a setting such as `wght=650` or `wdth=87.5`.
 pub fn read_setting(text: &str) -> Result<Setting, SettingError>
     ensures { ParsesSetting text.now result }
 {
@@ -70,7 +70,7 @@ pub struct VariationAxisRecord {
     pub axis_name_id: NameId,
 }
 
-/// Reads an axis record, or returns `None` if there are fewer than 20 bytes.
+/// Reads a record: an axis of `fvar`, or returns `None` if there are fewer than 20 bytes.
 pub fn read_axis(bytes: &[u8]) -> Option<VariationAxisRecord>
     ensures variant { IsSome result ↔ (20 ≤ length bytes.now) }
     ensures axis_tag { IfSome result (λ axis. tag_bytes axis.axis_tag ≡ take 4 bytes.now) }
@@ -94,7 +94,7 @@ pub fn read_axis(bytes: &[u8]) -> Option<VariationAxisRecord>
     })
 }
 
-/// Clamps a value to a range.
+/// Clamps: a value to a range.
 pub fn clamp(value: Fixed, min: Fixed, max: Fixed) -> Fixed
     requires { fixed_bits min ≤ℤ fixed_bits max }
     ensures low { fixed_bits min ≤ℤ fixed_bits result }
@@ -107,7 +107,7 @@ pub fn clamp(value: Fixed, min: Fixed, max: Fixed) -> Fixed
     value.clamp(min, max)
 }
 
-/// Returns a part over its whole, from 0 to 1.
+/// Divides a part by its whole: a quotient from 0 to 1.
 pub fn ratio(part: Fixed, whole: Fixed) -> Fixed
     requires part { (pos 0 ≤ℤ fixed_bits part) × (fixed_bits part ≤ℤ fixed_bits whole) }
     requires whole { whole ≢ Fixed.ZERO }
@@ -227,7 +227,8 @@ pub fn lerp(coordinate: Fixed, start: AxisValueMap, end: AxisValueMap) -> Fixed
     to + (end.to_coordinate - to).mul_div(coordinate - from, end.from_coordinate - from)
 }
 
-/// Returns the index of the mapping that ends the segment of a coordinate: the first at or above.
+/// Finds the first element by `position`: the index of the mapping that ends the segment of a
+/// coordinate, at or above it.
 pub fn segment_end(coordinate: Fixed, map: &[AxisValueMap]) -> Option<usize>
     ensures { MatchOption result
         (AreBelow map.now (length map.now) (fixed_bits coordinate))

@@ -1,5 +1,8 @@
 //! The program `fontval`: the proved source of `crates/fontval`, over the module `host`, which
 //! replaces the parts of Rattle's std that differ from Rust's.
+//!
+//! As cargo builds it, Rust's runtime opens `/dev/null` for a stream that was closed before: answers
+//! are then lost with status 0. It also aborts if an allocation at startup fails.
 
 mod host;
 

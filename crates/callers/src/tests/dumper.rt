@@ -1,8 +1,8 @@
 //! A dumper of font values.
 
-use crate::dumper::{Axis, glyph_name, printed, raw_and_number, round_trip, row};
+use crate::dumper::{Axis, round_trip, row};
 use font_types::JsonFault::{InvalidTag, MissingMember, Syntax};
-use font_types::{Fixed, GlyphId16, NameId, Tag};
+use font_types::{Fixed, NameId, Tag};
 use serde_json::Value;
 use std::test::Fail;
 
@@ -12,24 +12,6 @@ fn rows_of_columns(rt: HostRuntime) -> Result<(), Fail> {
     let numbers = [Fixed::from_bits(0x1_8000), Fixed::NEG_ONE, Fixed::MAX];
     assert!(rt; row(&numbers, 6, alloc)?.as_slice() == b"   1.5    -132767.99998".as_slice());
     assert!(rt; row(&[Fixed::ONE; 65], 1, alloc)?.as_slice() == [b'1'; 65].as_slice());
-    Ok(())
-}
-
-#[test]
-fn number_and_glyph_texts(rt: HostRuntime) -> Result<(), Fail> {
-    for &(bits, number, text) in &[
-        (0x1_8000, "1.5", "00018000 1.5"),
-        (-1, "-0.00002", "ffffffff -0.00002"),
-    ] {
-        let fixed = Fixed::from_bits(bits);
-        assert!(rt; printed(fixed, rt.alloc())?.as_str() == number, "{number}");
-        assert!(rt;
-            raw_and_number(fixed, rt.alloc())?.as_str() == text,
-            "{text}"
-        );
-    }
-    let found = glyph_name(GlyphId16::new(36), rt.alloc())?;
-    assert!(rt; found.as_str() == "glyph00036");
     Ok(())
 }
 

@@ -1,10 +1,7 @@
 //! Packed deltas, and terms.
 
-use crate::packed::{
-    delta_width, deltas_in_run, device_delta, nibble, read_run, region_terms, scaled_sum,
-    vary_and_round,
-};
-use font_types::{F48Dot16, FWord, Fixed};
+use crate::packed::{delta_width, deltas_in_run, read_run, scaled_sum};
+use font_types::{F48Dot16, Fixed};
 use std::test::Fail;
 
 // (OpenType, font variations common table formats: the example of packed deltas)
@@ -30,15 +27,6 @@ fn control_bytes(rt: HostRuntime) {
     }
 }
 
-// The number in each place of the word, unsigned and signed.
-#[test]
-fn nibbles(rt: HostRuntime) {
-    for &(index, unsigned, signed) in &[(0, 7, 7), (1, 8, -8), (2, 15, -1), (3, 0, 0)] {
-        assert!(rt; nibble(0x78F0, index) == unsigned, "{index}");
-        assert!(rt; device_delta(0x78F0, index) == signed, "{index}");
-    }
-}
-
 #[test]
 fn packed_runs(rt: HostRuntime) -> Result<(), Fail> {
     let (bytes, words) = ([10, -105, 0, -58], [4130, -1228]);
@@ -59,12 +47,8 @@ fn packed_runs(rt: HostRuntime) -> Result<(), Fail> {
 }
 
 #[test]
-fn terms_of_regions(rt: HostRuntime) -> Result<(), Fail> {
+fn sums_of_terms(rt: HostRuntime) {
     let half = Fixed::from_bits(0x8000);
-    let terms = region_terms(&[half, Fixed::ONE], &[3, -2], rt.alloc())?;
-    assert!(rt; terms.as_slice() == [(half, 3), (Fixed::ONE, -2)].as_slice());
     let sum = scaled_sum(&[half, Fixed::ONE], &[3, -2]);
     assert!(rt; sum == F48Dot16::from_bits(-0x8000));
-    assert!(rt; vary_and_round(FWord::new(100), &[(half, 1)]) == Some(FWord::new(101)));
-    Ok(())
 }

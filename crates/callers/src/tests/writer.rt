@@ -1,20 +1,17 @@
 //! A writer of tables.
 
 use crate::writer::{
-    ShortLocaError, set_modified, write_hdmx_header, write_pair, write_short_loca, write_word,
+    ShortLocaError, set_modified, write_hdmx_header, write_pair, write_short_loca,
 };
 use font_types::{FWord, LongDateTime};
 
 #[test]
 fn fields_in_place(rt: HostRuntime) {
-    let mut bytes = [1, 2, 3, 4, 5, 6, 7];
-    let written = write_word(&mut bytes, 2, 0xB1B0_AFBA);
-    assert!(rt; written.is_some() && bytes == [1, 2, 0xB1, 0xB0, 0xAF, 0xBA, 7]);
+    let mut bytes = [1, 2, 0xB1, 0xB0, 0xAF, 0xBA, 7];
     let written = write_pair(&mut bytes, 1, FWord::new(-2), FWord::new(258));
     assert!(rt; written.is_some() && bytes == [1, 0xFF, 0xFE, 1, 2, 0xBA, 7]);
     let written = write_pair(&mut bytes, 4, FWord::new(0), FWord::new(0));
     assert!(rt; written.is_none() && bytes == [1, 0xFF, 0xFE, 1, 2, 0xBA, 7]);
-    assert!(rt; write_word(&mut bytes, 4, 0).is_none() && bytes == [1, 0xFF, 0xFE, 1, 2, 0xBA, 7]);
 }
 
 #[test]
