@@ -29,5 +29,15 @@ int main(void) {
     int32_t missing = fty_i32(values, 4);                        /* 0 */
     /* end */
     printf("%s: %d %d\n", fty_status_text(status), (int)value, (int)missing);
+    /* begin */
+    uint8_t header[12] = {0};                             /* of a font with one table */
+    int is_written = fty_write_u32(header, sizeof header, 0, 0x00010000) == FTY_OK
+                     && fty_write_u16(header, sizeof header, 4, 1) == FTY_OK
+                     && fty_write_u16(header, sizeof header, 6, 16) == FTY_OK;
+    status = fty_write_u16(header, sizeof header, 11, 1); /* out of bounds: nothing is written */
+    /* end */
+    fty_view font = {header, sizeof header};
+    printf("%s: %d %d %d %d\n", fty_status_text(status), is_written, (int)fty_u32(font, 0),
+           (int)fty_u16(font, 4), (int)fty_u32(font, 8));
     return 0;
 }

@@ -6,10 +6,10 @@
  *
  * Each function that the library exports, in the first part below, has a contract that is
  * proved; its comment states it. The static inline functions in the second part are C. What
- * they return is proved by CBMC, a bounded model checker, for every argument and every view
- * of up to 2^48 bytes, and that they read nothing beyond a view; they have no loops. (Of
- * fty_items: for items of 0 to 4, 6, 8, 12 and 16 bytes in views of less than 4 GB, and for
- * any in views of up to 31 bytes.) That a compiler reads them as CBMC does is tested.
+ * they return and write is proved by CBMC, a bounded model checker, for every argument and
+ * every array of up to 2^48 bytes, and that they touch nothing beyond it. (Of fty_items: for
+ * items of 0, 1, 2, 4, 8, 16 and 256 bytes; of 3, 6 and 12 bytes in views of less than 4 GB;
+ * and of any size in views of up to 31 bytes.) That a compiler reads them as CBMC does is tested.
  *
  * A number is a raw value with a number of fraction bits f: the int32_t 98304 is
  * 98304 / 2^16 = 1.5 in 16.16, for which f is 16. f is from 6 to 30, and at most the
@@ -42,6 +42,10 @@
 
 #include <stddef.h>
 #include <stdint.h>
+
+#if SIZE_MAX < 0xFFFFFFFF || (defined(__INT_MAX__) && __INT_MAX__ < 0x7FFFFFFF)
+#error "font_types.h needs a size_t and an int of at least 32 bits"
+#endif
 
 /** The version of this header. */
 #define FTY_VERSION "0.6.0"
@@ -77,20 +81,20 @@ extern "C" {
 
 /** The result of a call that can fail. */
 typedef enum fty_status {
-    FTY_OK = 0,            /**< success: the result was stored */
-    FTY_NOT_DECIMAL = 1,    /**< the text is not a decimal */
-    FTY_OUT_OF_RANGE = 2,  /**< the result does not fit in its type */
-    FTY_BAD_FRACTION = 3,  /**< fraction bits below 6, above 30, or above the width less 2 */
-    FTY_BUFFER_TOO_SMALL = 4,       /**< the buffer is shorter than the text */
-    FTY_BAD_PAD = 5,       /**< `fill` is 0x80 or above, or `align` is not a fty_align */
-    FTY_OUT_OF_BOUNDS = 6, /**< the field, or the array, is not within the bytes */
+    FTY_OK = 0,               /**< success: the result was stored */
+    FTY_NOT_DECIMAL = 1,      /**< the text is not a decimal */
+    FTY_OUT_OF_RANGE = 2,     /**< the result does not fit in its type */
+    FTY_BAD_FRACTION = 3,     /**< fraction bits below 6, above 30, or above the width less 2 */
+    FTY_BUFFER_TOO_SMALL = 4, /**< the buffer is shorter than the text */
+    FTY_BAD_PAD = 5,          /**< `fill` is 0x80 or above, or `align` is not a fty_align */
+    FTY_OUT_OF_BOUNDS = 6,    /**< the field, or the array, is not within the bytes */
     FTY_COUNT_MISMATCH = 7,   /**< the number of scalars differs from the number of deltas */
-    FTY_TOO_MANY = 8,      /**< more than 65,535 scalars for a delta set */
+    FTY_TOO_MANY = 8,         /**< more than 65,535 scalars for a delta set */
     /* 9 was the status of delta sets with deltas of 32 bits until 0.4 */
-    FTY_TAG_LENGTH = 10,   /**< not 1 to 4 bytes; from fty_tag_validate: four spaces */
-    FTY_TAG_BYTE = 11,     /**< a byte outside 0x20 to 0x7E, or a leading space; from
-                                 fty_tag_new also a printable byte after a space */
-    FTY_TAG_AFTER_SPACE = 12 /**< from fty_tag_validate: a printable byte after a space */
+    FTY_TAG_LENGTH = 10,      /**< not 1 to 4 bytes; from fty_tag_validate: four spaces */
+    FTY_TAG_BYTE = 11,        /**< a byte outside 0x20 to 0x7E, or a leading space; from
+                                   fty_tag_new also a printable byte after a space */
+    FTY_TAG_AFTER_SPACE = 12  /**< from fty_tag_validate: a printable byte after a space */
 } fty_status;
 
 /**
@@ -344,6 +348,12 @@ typedef struct fty_view {
     size_t length;        /**< the number of bytes */
 } fty_view;
 
+/** A view that is absent. */
+FTY_API_INLINE fty_view fty_absent(void) FTY_API_NOEXCEPT {
+    fty_view absent = {FTY_API_NULL, 0};
+    return absent;
+}
+
 /** @cond */
 /* Whether `length` bytes at an offset are in a view. */
 FTY_API_INLINE int fty_api_within(
@@ -357,11 +367,6 @@ FTY_API_INLINE fty_view fty_api_view(
     fty_view part = {FTY_API_NULL, length};
     part.bytes = offset == 0 ? view.bytes : view.bytes + offset;
     return part;
-}
-
-FTY_API_INLINE fty_view fty_api_absent(void) FTY_API_NOEXCEPT {
-    fty_view absent = {FTY_API_NULL, 0};
-    return absent;
 }
 
 /* The number of two, three, four and eight bytes. */
@@ -394,29 +399,32 @@ FTY_API_INLINE uint64_t fty_api_eight(const uint8_t *at) FTY_API_NOEXCEPT {
 FTY_API_INLINE fty_view fty_part(
     fty_view view, size_t offset, size_t length) FTY_API_NOEXCEPT {
     if (!fty_api_within(view, offset, length))
-        return fty_api_absent();
+        return fty_absent();
     return fty_api_view(view, offset, length);
 }
 
-/** `count` items of `size` bytes at an offset; absent unless all of them are there. */
+/**
+ * `count` items of `size` bytes at an offset; absent unless all of them are there. A size that
+ * is no constant, as one that the font has, costs a division.
+ */
 FTY_API_INLINE fty_view fty_items(
     fty_view view, size_t offset, size_t count, size_t size) FTY_API_NOEXCEPT {
     if (offset > view.length || (size != 0 && count > (view.length - offset) / size))
-        return fty_api_absent();
+        return fty_absent();
     return fty_api_view(view, offset, count * size);
 }
 
 /** The bytes from an offset to the end of the view; absent if the offset is past the end. */
 FTY_API_INLINE fty_view fty_from(fty_view view, size_t offset) FTY_API_NOEXCEPT {
     if (offset > view.length)
-        return fty_api_absent();
+        return fty_absent();
     return fty_api_view(view, offset, view.length - offset);
 }
 
 /** @cond */
 /* The bytes from where an offset of a font points, which is absent if it is 0. */
 FTY_API_INLINE fty_view fty_api_to(fty_view view, uint32_t start) FTY_API_NOEXCEPT {
-    return start == 0 ? fty_api_absent() : fty_from(view, start);
+    return start == 0 ? fty_absent() : fty_from(view, start);
 }
 /** @endcond */
 
@@ -427,7 +435,7 @@ FTY_API_INLINE fty_view fty_api_to(fty_view view, uint32_t start) FTY_API_NOEXCE
  */
 FTY_API_INLINE fty_view fty_at_offset16(fty_view view, size_t offset) FTY_API_NOEXCEPT {
     if (!fty_api_within(view, offset, 2))
-        return fty_api_absent();
+        return fty_absent();
     return fty_api_to(view, fty_api_two(view.bytes + offset));
 }
 
@@ -437,7 +445,7 @@ FTY_API_INLINE fty_view fty_at_offset16(fty_view view, size_t offset) FTY_API_NO
  */
 FTY_API_INLINE fty_view fty_at_offset24(fty_view view, size_t offset) FTY_API_NOEXCEPT {
     if (!fty_api_within(view, offset, 3))
-        return fty_api_absent();
+        return fty_absent();
     return fty_api_to(view, fty_api_three(view.bytes + offset));
 }
 
@@ -447,7 +455,7 @@ FTY_API_INLINE fty_view fty_at_offset24(fty_view view, size_t offset) FTY_API_NO
  */
 FTY_API_INLINE fty_view fty_at_offset32(fty_view view, size_t offset) FTY_API_NOEXCEPT {
     if (!fty_api_within(view, offset, 4))
-        return fty_api_absent();
+        return fty_absent();
     return fty_api_to(view, fty_api_four(view.bytes + offset));
 }
 
@@ -625,6 +633,52 @@ FTY_API_INLINE uint32_t fty_uint(fty_view view, size_t offset, size_t size) FTY_
     }
 }
 
+/* ---- writing: big-endian fields at byte offsets in an array of `length` bytes; signed and
+ *      fixed-point values by a cast, as `(uint16_t)value` ---- */
+
+/**
+ * Writes the low `size` bytes of a value, 1 to 8. Fails by FTY_OUT_OF_BOUNDS unless all of them
+ * are within the array, also if `size` is another.
+ */
+FTY_API_INLINE fty_status fty_write_uint(
+    uint8_t *bytes, size_t length, size_t offset, size_t size, uint64_t value) FTY_API_NOEXCEPT {
+    if (size < 1 || size > 8 || size > length || offset > length - size)
+        return FTY_OUT_OF_BOUNDS;
+    for (size_t i = size; i > 0; i--, value >>= 8)
+        bytes[offset + i - 1] = FTY_API_AS(uint8_t, value & 0xFF);
+    return FTY_OK;
+}
+
+/** Writes a uint8, or fails by FTY_OUT_OF_BOUNDS. */
+FTY_API_INLINE fty_status fty_write_u8(
+    uint8_t *bytes, size_t length, size_t offset, uint8_t value) FTY_API_NOEXCEPT {
+    return fty_write_uint(bytes, length, offset, 1, value);
+}
+
+/** Writes a uint16, or fails by FTY_OUT_OF_BOUNDS. */
+FTY_API_INLINE fty_status fty_write_u16(
+    uint8_t *bytes, size_t length, size_t offset, uint16_t value) FTY_API_NOEXCEPT {
+    return fty_write_uint(bytes, length, offset, 2, value);
+}
+
+/** Writes a uint24, the low 24 bits of the value, or fails by FTY_OUT_OF_BOUNDS. */
+FTY_API_INLINE fty_status fty_write_u24(
+    uint8_t *bytes, size_t length, size_t offset, uint32_t value) FTY_API_NOEXCEPT {
+    return fty_write_uint(bytes, length, offset, 3, value);
+}
+
+/** Writes a uint32, or fails by FTY_OUT_OF_BOUNDS. */
+FTY_API_INLINE fty_status fty_write_u32(
+    uint8_t *bytes, size_t length, size_t offset, uint32_t value) FTY_API_NOEXCEPT {
+    return fty_write_uint(bytes, length, offset, 4, value);
+}
+
+/** Writes an integer of 64 bits, or fails by FTY_OUT_OF_BOUNDS. */
+FTY_API_INLINE fty_status fty_write_u64(
+    uint8_t *bytes, size_t length, size_t offset, uint64_t value) FTY_API_NOEXCEPT {
+    return fty_write_uint(bytes, length, offset, 8, value);
+}
+
 /* ---- rounding to integers, half up; the result is a raw value too ---- */
 
 /**
@@ -791,7 +845,7 @@ FTY_API_INLINE const char *fty_status_text(fty_status status) FTY_API_NOEXCEPT {
 FTY_API_ASSERT(sizeof(fty_status) <= 4);
 FTY_API_ASSERT(sizeof(fty_matrix) == 24 && offsetof(fty_matrix, dy) == 20);
 FTY_API_ASSERT(sizeof(fty_point) == 8 && offsetof(fty_point, y) == 4);
-FTY_API_ASSERT(sizeof(fty_pad) == 2 * sizeof(size_t) || sizeof(size_t) < 4);
+FTY_API_ASSERT(sizeof(fty_pad) == 2 * sizeof(size_t));
 FTY_API_ASSERT(offsetof(fty_pad, fill) == sizeof(size_t));
 FTY_API_ASSERT(offsetof(fty_view, length) == sizeof(const uint8_t *));
 #undef FTY_API_ASSERT

@@ -1,11 +1,11 @@
 /*
- * States what each function that the header has in C returns. CBMC proves it for every argument and
- * every view of up to 2^48 bytes (fty_items: see there), and that nothing beyond a view is read and
- * nothing overflows: header.sh has the command.
+ * States what each function that the header has in C returns and writes. CBMC proves it for every
+ * argument and every view of up to 2^48 bytes (fty_items: see there), and that nothing beyond a
+ * view is touched and nothing overflows: header.sh has the command.
  *
- * A compiler's program, in C and C++, tries ends, ties and random arguments, with views of exactly
- * their bytes, so that a sanitizer sees a read of one more. With `names` it prints the names of the
- * functions here.
+ * A compiler's program, in C and C++, tries values of OpenType, ends, ties and random arguments,
+ * with views of exactly their bytes, so that a sanitizer sees a read of one more. With `names` it
+ * prints the names of the functions here.
  */
 #include "font_types.h"
 
@@ -13,11 +13,18 @@
 #include <stdlib.h>
 #include <string.h>
 
-__extension__ typedef __int128 wide;
-__extension__ typedef unsigned __int128 unsigned_wide;
+/* Twice as wide as a size_t. */
+#if SIZE_MAX > 0xFFFFFFFF
+__extension__ typedef unsigned __int128 wide;
+#else
+typedef uint64_t wide;
+#endif
 
 /* What a call must leave at an out-parameter if it fails; and how often a program tries each. */
 enum { KEPT = 7, ROUNDS = 100000 };
+
+/* Of how many bits the length of a view is, and of one of items whose size is no power of two. */
+enum { BITS = SIZE_MAX > 0xFFFFFFFF ? 48 : 22, FEWER = SIZE_MAX > 0xFFFFFFFF ? 32 : 22 };
 
 #ifdef __CPROVER__
 /* If it is 1, no statement holds that is reached. */
@@ -31,7 +38,7 @@ static uint64_t any(void) { return nondet_u64(); }
 
 /* A view of fewer than 2^bits bytes, or one that is absent. */
 static fty_view any_view_below(int bits) {
-    fty_view view = {NULL, any() & ((UINT64_C(1) << bits) - 1)};
+    fty_view view = {NULL, (size_t)(any() & ((UINT64_C(1) << bits) - 1))};
     if (any() % 2 == 0)
         view.length = 0;
     else
@@ -80,16 +87,21 @@ static fty_view any_view_below(int bits) {
 }
 #endif
 
-static fty_view any_view(void) { return any_view_below(48); }
+static fty_view any_view(void) { return any_view_below(BITS); }
 
 /* ---- views ---- */
 
-static int is_within(fty_view view, size_t offset, unsigned_wide length) {
+static void absent(void) {
+    const fty_view view = fty_absent();
+    STATE(view.bytes == NULL && view.length == 0);
+}
+
+static int is_within(fty_view view, size_t offset, wide length) {
     return offset + length <= view.length;
 }
 
 /* Whether a part is the bytes of a view from an offset on, if they are within it, else absent. */
-static int is_part(fty_view part, fty_view view, size_t offset, unsigned_wide length) {
+static int is_part(fty_view part, fty_view view, size_t offset, wide length) {
     if (!is_within(view, offset, length))
         return part.bytes == NULL && part.length == 0;
     const uint8_t *const bytes = view.bytes == NULL ? NULL : view.bytes + offset;
@@ -111,22 +123,23 @@ static void from(void) {
 
 static void items(fty_view view, size_t size) {
     const size_t offset = (size_t)any(), count = (size_t)any();
-    const unsigned_wide length = (unsigned_wide)count * size;
+    const wide length = (wide)count * size;
     STATE(is_part(fty_items(view, offset, count, size), view, offset, length));
 }
 
-/* Of any count, in views of less than 4 GB. */
-#define ITEMS(SIZE) \
-    static void items_of_##SIZE(void) { items(any_view_below(32), SIZE); }
-ITEMS(0)
-ITEMS(1)
-ITEMS(2)
-ITEMS(3)
-ITEMS(4)
-ITEMS(6)
-ITEMS(8)
-ITEMS(12)
-ITEMS(16)
+/* Of any count. */
+#define ITEMS(SIZE, LENGTH_BITS) \
+    static void items_of_##SIZE(void) { items(any_view_below(LENGTH_BITS), SIZE); }
+ITEMS(0, BITS)
+ITEMS(1, BITS)
+ITEMS(2, BITS)
+ITEMS(3, FEWER)
+ITEMS(4, BITS)
+ITEMS(6, FEWER)
+ITEMS(8, BITS)
+ITEMS(12, FEWER)
+ITEMS(16, BITS)
+ITEMS(256, BITS)
 
 /* Of any count and size, in views of up to 31 bytes. */
 static void items_of_any_size(void) { items(any_view_below(5), (size_t)any()); }
@@ -180,7 +193,8 @@ static void uint_of(size_t size) {
         STATE(field == number_at(view, offset, (int)size, 0));
         STATE(status == FTY_OK && stored == field);
     } else {
-        STATE(status == FTY_OUT_OF_BOUNDS && stored == KEPT && field == 0);
+        STATE(field == 0);
+        STATE(status == FTY_OUT_OF_BOUNDS && stored == KEPT);
     }
 }
 
@@ -215,7 +229,57 @@ AT_OFFSET(16)
 AT_OFFSET(24)
 AT_OFFSET(32)
 
-/* ---- rounding: a multiple of one that is at most half above the number, and less below it ---- */
+/* ---- writing ---- */
+
+/* A byte of a view, or 0 beyond it. */
+static uint8_t byte_at(fty_view view, size_t place) {
+    return is_within(view, place, 1) ? view.bytes[place] : 0;
+}
+
+/* The big-endian bytes of a value are written, and no other; none unless all are in the view. */
+#define WRITE(NAME, WRITER, TYPE, SIZE, ...)                                                      \
+    static void NAME(void) {                                                                      \
+        const fty_view view = any_view();                                                         \
+        const size_t offset = (size_t)any(), place = (size_t)any(), size = SIZE;                  \
+        const TYPE value = (TYPE)any();                                                           \
+        const uint8_t before = byte_at(view, place);                                              \
+        const fty_status status = WRITER((uint8_t *)(uintptr_t)view.bytes, view.length, offset,   \
+                                         __VA_ARGS__);                                            \
+        const int fits = is_within(view, offset, size);                                           \
+        STATE(status == (fits ? FTY_OK : FTY_OUT_OF_BOUNDS));                                     \
+        if (fits && offset <= place && place - offset < size)                                     \
+            STATE(byte_at(view, place) == (uint8_t)(value >> 8 * (offset + size - 1 - place)));   \
+        else                                                                                      \
+            STATE(byte_at(view, place) == before);                                                \
+    }
+WRITE(write_u8, fty_write_u8, uint8_t, 1, value)
+WRITE(write_u16, fty_write_u16, uint16_t, 2, value)
+WRITE(write_u24, fty_write_u24, uint32_t, 3, value)
+WRITE(write_u32, fty_write_u32, uint32_t, 4, value)
+WRITE(write_u64, fty_write_u64, uint64_t, 8, value)
+
+#define WRITE_UINT(SIZE) \
+    WRITE(write_uint_of_##SIZE, fty_write_uint, uint64_t, SIZE, size, value)
+WRITE_UINT(1)
+WRITE_UINT(2)
+WRITE_UINT(3)
+WRITE_UINT(4)
+WRITE_UINT(5)
+WRITE_UINT(6)
+WRITE_UINT(7)
+WRITE_UINT(8)
+
+static void write_uint_of_another_size(void) {
+    const fty_view view = any_view();
+    const size_t offset = (size_t)any(), place = (size_t)any(), any_size = (size_t)any();
+    const size_t size = 1 <= any_size && any_size <= 8 ? 0 : any_size;
+    const uint8_t before = byte_at(view, place);
+    STATE(fty_write_uint((uint8_t *)(uintptr_t)view.bytes, view.length, offset, size, any())
+          == FTY_OUT_OF_BOUNDS);
+    STATE(byte_at(view, place) == before);
+}
+
+/* ---- rounding: to the multiple of one below, or from half on to the next ---- */
 
 #define ROUND(WIDTH, MOST)                                                                        \
     static void round_i##WIDTH(void) {                                                            \
@@ -227,12 +291,14 @@ AT_OFFSET(32)
             STATE(status == FTY_BAD_FRACTION && rounded == KEPT);                                 \
             return;                                                                               \
         }                                                                                         \
-        const wide one = (wide)1 << f, above = (wide)rounded - bits;                              \
-        if (bits + one / 2 > INT##WIDTH##_MAX)                                                    \
+        const int64_t one = INT64_C(1) << f;                                                      \
+        const int64_t fraction = bits & (one - 1), below = bits - fraction;                       \
+        if (fraction < one / 2)                                                                   \
+            STATE(status == FTY_OK && rounded == below);                                          \
+        else if (below > INT##WIDTH##_MAX - one)                                                  \
             STATE(status == FTY_OUT_OF_RANGE && rounded == KEPT);                                 \
         else                                                                                      \
-            STATE(status == FTY_OK && (rounded & (one - 1)) == 0 && -one / 2 < above              \
-                  && above <= one / 2);                                                           \
+            STATE(status == FTY_OK && rounded == below + one);                                    \
     }
 ROUND(16, 14)
 ROUND(32, 30)
@@ -322,16 +388,18 @@ static int is_last(fty_status status, int width, int64_t bits, uint32_t fraction
 
 #define NAMED(FORMAT, WIDTH, F)                                                                   \
     static void FORMAT##_named(void) {                                                            \
-        char text[1];                                                                             \
-        int##WIDTH##_t bits = (int##WIDTH##_t)any();                                              \
+        char text[1] = {KEPT};                                                                    \
+        const int##WIDTH##_t given = (int##WIDTH##_t)any();                                       \
+        int##WIDTH##_t bits = given;                                                              \
         const fty_pad pad = FTY_PAD_INIT(0);                                                      \
-        size_t length = (size_t)any(), written;                                                   \
+        size_t length = (size_t)any(), written = KEPT;                                            \
         fty_status status = fty_##FORMAT##_parse(text, length, &bits);                            \
         STATE(is_last(status, WIDTH, 0, F, text, NULL, length, &bits));                           \
         status = fty_##FORMAT##_format(bits, text, length, &written);                             \
         STATE(is_last(status, 0, bits, F, text, NULL, length, &written));                         \
         status = fty_##FORMAT##_format_padded(bits, &pad, text, length, &written);                \
         STATE(is_last(status, 0, bits, F, text, &pad, length, &written));                         \
+        STATE(bits == given && text[0] == KEPT && written == KEPT);                               \
     }
 NAMED(fixed, 32, 16)
 NAMED(f2dot14, 16, 14)
@@ -372,16 +440,56 @@ static const struct {
     const char *name;
     void (*state)(void);
 } all[] = {
-    OF(part), OF(from), OF(items_of_0), OF(items_of_1), OF(items_of_2), OF(items_of_3),
-    OF(items_of_4), OF(items_of_6), OF(items_of_8), OF(items_of_12), OF(items_of_16),
-    OF(items_of_any_size), OF(u8), OF(i8), OF(u16), OF(i16), OF(u24), OF(i24), OF(u32), OF(i32),
-    OF(i64), OF(read_u8), OF(read_i8), OF(read_u16), OF(read_i16), OF(read_u24), OF(read_i24),
-    OF(read_u32), OF(read_i32), OF(read_i64), OF(uint_of_1), OF(uint_of_2), OF(uint_of_3),
-    OF(uint_of_4), OF(uint_of_another_size), OF(at_offset16), OF(at_offset24), OF(at_offset32),
-    OF(round_i16), OF(round_i32), OF(round_i64), OF(sums), OF(to_fixed), OF(delta_set_length),
-    OF(fixed_named), OF(f2dot14_named), OF(f26dot6_named), OF(status_text), OF(macros),
+    OF(absent), OF(part), OF(from), OF(items_of_0), OF(items_of_1), OF(items_of_2),
+    OF(items_of_3), OF(items_of_4), OF(items_of_6), OF(items_of_8), OF(items_of_12),
+    OF(items_of_16), OF(items_of_256), OF(items_of_any_size), OF(u8), OF(i8), OF(u16), OF(i16),
+    OF(u24), OF(i24), OF(u32), OF(i32), OF(i64), OF(read_u8), OF(read_i8), OF(read_u16),
+    OF(read_i16), OF(read_u24), OF(read_i24), OF(read_u32), OF(read_i32), OF(read_i64),
+    OF(uint_of_1), OF(uint_of_2), OF(uint_of_3), OF(uint_of_4), OF(uint_of_another_size),
+    OF(at_offset16), OF(at_offset24), OF(at_offset32), OF(write_u8), OF(write_u16), OF(write_u24),
+    OF(write_u32), OF(write_u64), OF(write_uint_of_1), OF(write_uint_of_2), OF(write_uint_of_3),
+    OF(write_uint_of_4), OF(write_uint_of_5), OF(write_uint_of_6), OF(write_uint_of_7),
+    OF(write_uint_of_8), OF(write_uint_of_another_size), OF(round_i16), OF(round_i32),
+    OF(round_i64), OF(sums), OF(to_fixed), OF(delta_set_length), OF(fixed_named),
+    OF(f2dot14_named), OF(f26dot6_named), OF(status_text), OF(macros),
 };
 enum { FUNCTIONS = sizeof all / sizeof all[0] };
+
+/* ---- values from outside: a field of each kind, read and written, and rounded numbers ---- */
+
+#define FIELD_OF(NAME, BYTES, NUMBER)                                                             \
+    do {                                                                                          \
+        const fty_view view = {(const uint8_t *)BYTES, sizeof BYTES - 1};                         \
+        uint8_t written[8];                                                                       \
+        STATE(fty_##NAME(view, 0) == NUMBER);                                                     \
+        STATE(fty_write_uint(written, 8, 0, view.length, (uint64_t)NUMBER) == FTY_OK              \
+              && memcmp(written, BYTES, view.length) == 0);                                       \
+    } while (0)
+
+static void values_of_opentype(void) {
+    FIELD_OF(u8, "\x87", 135);                              /* gvar, packed deltas: 8 zeros */
+    FIELD_OF(i8, "\xC6", -58);                              /* gvar, packed deltas */
+    FIELD_OF(u16, "\xF0\x20", 61472);                       /* OS/2: U+F020 of a symbol font */
+    FIELD_OF(i16, "\xFB\x34", -1228);                       /* gvar, packed deltas */
+    FIELD_OF(u24, "\x0E\x01\x00", 917760);                  /* cmap, format 14: U+E0100 */
+    FIELD_OF(i24, "\x80\x00\x01", -8388607);                /* two's complement */
+    FIELD_OF(u32, "\xB1\xB0\xAF\xBA", 2981146554);          /* head: of its checksum */
+    FIELD_OF(i32, "\xFF\xF4\x80\x00", -753664);             /* post: an angle of -11.5 degrees */
+    FIELD_OF(i64, "\0\0\0\0\x7C\x25\xB0\x80", 2082844800); /* head: the first second of 1970 */
+    /* GPOS, example 2: a coverage table of one range, of glyphs that are lowered by 80 units. */
+    static const uint8_t bytes[] = {0, 1, 0,    8, 0,    2, 0xFF, 0xB0, 0,
+                                    2, 0, 1, 0x01, 0xB3, 1, 0xBC, 0,    0};
+    const fty_view subtable = {bytes, sizeof bytes}, coverage = fty_at_offset16(subtable, 2);
+    const fty_view range = fty_items(coverage, 4, fty_u16(coverage, 2), 6);
+    STATE(fty_i16(subtable, 6) == -80);
+    STATE(range.bytes == bytes + 12 && range.length == 6 && fty_u16(range, 2) == 444);
+    int16_t of_16 = KEPT;
+    int32_t of_32 = KEPT;
+    int64_t of_64 = KEPT;
+    STATE(fty_round_i16(-24576, 14, &of_16) == FTY_OK && of_16 == -16384); /* -1.5 to -1 */
+    STATE(fty_round_i32(98304, 16, &of_32) == FTY_OK && of_32 == 131072);  /* 1.5 to 2 */
+    STATE(fty_round_i64(-98304, 16, &of_64) == FTY_OK && of_64 == -65536);
+}
 
 int main(int count, char **words) {
     const int is_list = count > 1 && strcmp(words[1], "names") == 0;
@@ -389,11 +497,12 @@ int main(int count, char **words) {
         puts(all[k].name);
     if (is_list)
         return 0;
+    values_of_opentype();
     for (size_t k = 0; k < FUNCTIONS; k++)
         for (int i = 0; i < ROUNDS; i++)
             all[k].state();
     printf("header: %d checks, %d failed\n", checks, failures);
     /* With another number, a part was left out. */
-    return failures == 0 && checks == 5943950 ? 0 : 1;
+    return failures == 0 && checks == 9600023 ? 0 : 1;
 }
 #endif

@@ -46,9 +46,10 @@ macros=$(cc -E -dM include/font_types.h | grep -oE '^#define (FONT|FTY)_[A-Z_]*'
 
 # What header.c states of them, proved by CBMC; and refused, each statement, if none may hold.
 proves() {
-    local asked=(cbmc --function "$1" -Iinclude tests/header.c --unwind 50 --unwinding-assertions
-        --bounds-check --pointer-check --pointer-overflow-check --pointer-primitive-check
-        --div-by-zero-check --signed-overflow-check --undefined-shift-check)
+    local asked=(cbmc --function "$1" -Iinclude tests/header.c --unwinding-assertions --unwind 9
+        --unwindset strcmp.0:50 --bounds-check --pointer-check --pointer-overflow-check
+        --pointer-primitive-check --div-by-zero-check --signed-overflow-check
+        --undefined-shift-check)
     local status=0
     "${asked[@]}" >"$work/$1.proof" 2>&1 || status=$?
     "${asked[@]}" -DWRONG=1 >"$work/$1.wrong" 2>&1 || status+=" and $?"
@@ -86,4 +87,17 @@ if cc -m32 -E -x c /dev/null >/dev/null 2>&1; then
     cc -std=c11 $warnings -m32 -ffreestanding -Iinclude -fsyntax-only "$work/alone.c"
 else
     echo "left out: the header for 32 bits"
+fi
+
+# A size_t or an int of 16 bits is refused.
+refuses_16_bits() {
+    fails "$@" -Iinclude -fsyntax-only "$work/alone.c"
+    grep 'needs a size_t and an int of at least 32 bits' "$work/log" >/dev/null
+}
+refuses_16_bits cc -ffreestanding -w -D__SIZE_MAX__=0xFFFF
+refuses_16_bits cc -ffreestanding -w -D__INT_MAX__=0x7FFF
+if command -v avr-gcc >/dev/null; then
+    refuses_16_bits avr-gcc
+else
+    echo "left out: the header for 16 bits by avr-gcc"
 fi

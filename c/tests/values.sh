@@ -3,8 +3,8 @@
 # that is, a header that stores when it fails, and a read out of bounds.
 
 mkdir "$work/storing"
-sed 's/return FTY_OUT_OF_BOUNDS;/return *value = 0, FTY_OUT_OF_BOUNDS;/' include/font_types.h \
-    >"$work/storing/font_types.h"
+sed '/fty_read_/,/^}/s/return FTY_OUT_OF_BOUNDS;/return *value = 0, FTY_OUT_OF_BOUNDS;/' \
+    include/font_types.h >"$work/storing/font_types.h"
 cat >"$work/beyond.c" <<'C'
 static const char bytes[1] = {0};
 int main(int count, char **words) { return words == 0 ? 1 : bytes[count]; }
