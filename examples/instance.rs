@@ -110,7 +110,10 @@ pub fn advance(
     coordinates: &[F2Dot14],
 ) -> Result<UfWord, String> {
     of_version(font, b"hhea", 1)?;
-    let base = font.advance(glyph).ok_or("no `hmtx`")?;
+    if glyph.to_u16() >= font.glyph_count().ok_or("no `maxp`")? {
+        return Err("no such glyph".into());
+    }
+    let base = font.advance(glyph).ok_or("hmtx ends early")?;
     if font.table(b"fvar").is_none() {
         return Ok(base);
     }

@@ -12,7 +12,7 @@ mod runner;
 use dump::dump;
 use font_types_proved::{F2Dot14, Fixed, GlyphId16, Tag, UfWord};
 use fonts::{MAP, MAPS, font, font_of, fvar, hvar, hvar_of_two_axes, large, long_axes, long_hvar};
-use fonts::{two_axes, words};
+use fonts::{of_five_axes, two_axes, words};
 use instance::proved::delta_sets::read_delta;
 use instance::proved::maps::read_delta_set_index;
 use instance::proved::regions::region_scalar;
@@ -100,7 +100,7 @@ ascender: FWord(800)
 descender: FWord(-200)
 widest advance: UfWord(620)
 maxp version: Version16Dot16(00005000)
-glyphs: 3
+glyphs: 48
 weight class: 400
 vendor: Tag(TEST)
 typographic ascender: FWord(800)
@@ -344,6 +344,7 @@ fn program_instance() {
         ("wght=400", at("400") + "A: 620\na: 500\n"),
         ("wght=650", at("650") + "A: 620\na: 495\n"),
         ("1 wght=650", at("650") + "A: 620\na: 495\nglyph 1: 620\n"),
+        ("47", at("400") + "A: 620\na: 500\nglyph 47: 620\n"),
         ("wght=100 wght=775.0", at("775") + "A: 620\na: 548\n"),
         ("wght=1000", at("1000") + "A: 620\na: 600\n"),
     ] {
@@ -413,6 +414,10 @@ fn program_instance_of_other_tables() {
             "cmap: not of version 0",
         ),
         (
+            font_of([axes.clone(), (b"maxp", words(&[0, 0x5000, 47]))]),
+            "no such glyph",
+        ),
+        (
             font_of([axes.clone(), more_sets]),
             "HVAR: the store ends early",
         ),
@@ -457,10 +462,33 @@ fn programs_of_a_large_font() {
     let glyphs = "\n\u{3E8}: glyph 7\n\u{63C}: glyph 299\n\u{20256}: glyph 300\n";
     let found = run("dump", &[path, text]).0;
     assert!(found.contains(&name) && found.ends_with(glyphs), "{found}");
+    assert!(found.contains("\nglyphs: 40000\n"), "{found}");
     // From glyph 300 on, the advance is that of the last metric; each has a delta of its own.
     let advances = "\n\u{3E8}: 514\n\u{63C}: 1098\n\u{20256}: 1099\nglyph 305: 1104\n";
     let found = run("instance", &[path, text, "305", "wght=900"]).0;
     assert!(found.ends_with(advances), "{found}");
+    // A space is a character too.
+    let found = run("instance", &[path, " "]).0;
+    assert!(found.ends_with("\n : 500\n"), "{found}");
+    let found = run("instance", &[path, "", "40000"]).1;
+    assert_eq!(found, "Error: \"no such glyph\"\n");
+}
+
+#[test]
+fn program_instance_of_five_axes() {
+    let path = file(&of_five_axes());
+    let found = run("instance", &[path.to_str().unwrap(), "", "0", "wght=650"]).0;
+    let axes = [
+        "AAAA: 400",
+        "BBBB: 400",
+        "CCCC: 400",
+        "DDDD: 400",
+        "wght: 650",
+    ];
+    let axes = axes
+        .map(|axis| format!("{axis}, from 100 to 900\n"))
+        .concat();
+    assert_eq!(found, axes + "glyph 0: 525\n");
 }
 
 #[test]

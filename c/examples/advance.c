@@ -48,8 +48,6 @@ struct font {
     int16_t coordinates[AXES]; /* 2.14 */
 };
 
-static const fty_view absent = {NULL, 0};
-
 static void require(struct font *font, int condition, const char *message) {
     if (!condition && font->error == NULL)
         font->error = message;
@@ -58,7 +56,7 @@ static void require(struct font *font, int condition, const char *message) {
 /* A view that must not be absent. */
 static fty_view required(struct font *font, fty_view view, const char *message) {
     require(font, view.bytes != NULL, message);
-    return font->error == NULL ? view : absent;
+    return font->error == NULL ? view : fty_absent();
 }
 
 /* The bytes from where an offset points, at least `length`; absent if the offset is 0. */
@@ -75,7 +73,7 @@ static fty_view table(struct font *font, uint32_t tag, size_t length, const char
     const fty_view records = required(
         font, fty_items(font->file, 12, fty_u16(font->file, 4), 16),
         "the records of the tables end early");
-    fty_view found = absent;
+    fty_view found = fty_absent();
     for (size_t i = 0; i < records.length; i += 16) {
         require(font, i == 0 || fty_u32(records, i - 16) < fty_u32(records, i),
                 "the tables are out of order");
@@ -84,7 +82,7 @@ static fty_view table(struct font *font, uint32_t tag, size_t length, const char
         found = fty_part(font->file, fty_u32(records, i + 8), fty_u32(records, i + 12));
         (void)required(font, fty_part(found, 0, length), message);
     }
-    return font->error == NULL ? found : absent;
+    return font->error == NULL ? found : fty_absent();
 }
 
 /* ---- `fvar` and `avar`: the coordinates of the instance ---- */
@@ -276,9 +274,13 @@ static void read_tables(struct font *font) {
             "head: not of version 1");
     require(font, fty_u32(maxp, 0) == 0x5000 || fty_u32(maxp, 0) == 0x10000,
             "maxp: not of version 0.5 or 1");
-    require(font, fty_u16(hhea, 34) > 0, "no advances");
+    const size_t count = fty_u16(hhea, 34);
+    require(font, count > 0, "no advances");
     require(font, fty_u16(hhea, 0) == 1, "hhea: not of version 1");
-    font->metrics = required(font, fty_items(hmtx, 0, fty_u16(hhea, 34), 4), "hmtx ends early");
+    font->metrics = required(font, fty_items(hmtx, 0, count, 4), "hmtx ends early");
+    /* Each glyph after these has the last advance, and a bearing, which is not read. */
+    const size_t others = font->glyph_count > count ? font->glyph_count - count : 0;
+    (void)required(font, fty_items(hmtx, 4 * count, others, 2), "hmtx ends early");
 }
 
 /* Reads the axes, and the table of the advances that vary. */
@@ -337,7 +339,7 @@ static fty_view load(const char *path) {
         (void)fclose(file);
     if (!is_read)
         free(bytes);
-    return is_read ? (fty_view){bytes, length} : absent;
+    return is_read ? (fty_view){bytes, length} : fty_absent();
 }
 
 /* Parses TAG=VALUE. */

@@ -96,13 +96,13 @@ static void read_case(fty_view *left) {
 }
 
 int main(int count, char **paths) {
-    const fty_view all = count > 1 ? load(paths[1]) : absent;
+    const fty_view all = count > 1 ? load(paths[1]) : fty_absent();
     for (fty_view left = all; left.length > 0; cases++)
         read_case(&left);
     free((void *)(uintptr_t)all.bytes);
     printf("advances: %d fonts, %d printed, %d mutations also by the proved Rust, %d messages, "
            "%d failed\n", cases, printed, both, messages, failures);
     /* With other numbers, a part was left out, or one more was refused. */
-    const int are_all = cases == 33403 && printed == 11476 && both == 11163 && messages == 70;
+    const int are_all = cases == 35425 && printed == 14238 && both == 13915 && messages == 72;
     return failures == 0 && are_all ? 0 : 1;
 }

@@ -8,8 +8,8 @@ mod instance;
 
 use font_types_proved::{Fixed, GlyphId16, Tag};
 use fonts::{
-    MAP, MAPS, font, font_of, fvar, hvar, hvar_of_two_axes, large, long_axes, long_hvar, two_axes,
-    words,
+    MAP, MAPS, font, font_of, fvar, hvar, hvar_of_two_axes, large, long_axes, long_hvar,
+    of_five_axes, two_axes, words,
 };
 
 /// Values of the two axes, at the ends of their ranges, at the default, and beyond.
@@ -38,7 +38,7 @@ enum Answer {
     Message(&'static str),
 }
 
-/// Glyphs of a font that has three.
+/// Glyphs of a font that has 48.
 const GLYPHS: [u16; 3] = [0, 1, 2];
 
 /// Adds a case to the bytes of all.
@@ -128,6 +128,8 @@ fn fonts() -> Vec<(Vec<u8>, usize)> {
         // As many data as there is room for offsets.
         (with(font(hvar()), b"HVAR", 26, &[11]), 1),
         ([b"true", &font(hvar())[4..]].concat(), 1),
+        ([b"OTTO", &font(hvar())[4..]].concat(), 1),
+        (of_five_axes(), 1),
         (UNREAD.into_iter().fold(font(hvar()), with_other_words), 1),
         (font_of([(b"HVAR", hvar())]), 0),
         (
@@ -204,7 +206,7 @@ fn whole() -> Vec<u8> {
     font(hvar())
 }
 
-/// A font of 400 glyphs, of which the last ones have an advance of more than 15 bits.
+/// A font of 40,000 glyphs, of which the last ones have an advance of more than 15 bits.
 fn of_many_glyphs() -> Vec<u8> {
     with(large(), b"hmtx", 4 * 299, &[0x8001])
 }
@@ -232,7 +234,6 @@ const BROKEN: &str = "\
 hmtx 3: hmtx ends early
 head 53: head ends early
 hhea 35: hhea ends early
-hmtx 7: hmtx ends early
 maxp 5: maxp ends early
 head none: head: not 16 to 16384 units per em
 head 18 15: head: not 16 to 16384 units per em
@@ -243,7 +244,6 @@ maxp none: no glyphs
 maxp 0 2: maxp: not of version 0.5 or 1
 hhea none: no advances
 hhea 34 0: no advances
-hmtx none: hmtx ends early
 fvar 15: fvar ends early
 fvar 35: fvar ends early
 fvar 10 19: fvar: not of version 1
@@ -287,6 +287,9 @@ HVAR 68 0: HVAR: the map is empty
 
 /// Likewise, and `instance` says the same. Of `HVAR`, the number of data of the store is at 26.
 const BROKEN_FOR_BOTH: &str = "\
+hmtx none: hmtx ends early
+hmtx 7: hmtx ends early
+hmtx 99: hmtx ends early
 hhea 0 7: hhea: not of version 1
 fvar 0 2: fvar: not of version 1
 avar 0 2: avar: not of version 1
@@ -323,7 +326,7 @@ fn broken(line: &'static str) -> (Vec<u8>, &'static str) {
 }
 
 /// Other broken fonts.
-fn others() -> [(Vec<u8>, &'static str); 10] {
+fn others() -> [(Vec<u8>, &'static str); 11] {
     let [mut collection, mut many, mut swapped] = [whole(), whole(), whole()];
     let [mut twice, mut last_twice, mut beyond] = [whole(), whole(), whole()];
     collection[..4].copy_from_slice(b"ttcf");
@@ -335,6 +338,10 @@ fn others() -> [(Vec<u8>, &'static str); 10] {
     last_twice.copy_within(last - 16..last, last);
     let at = record(&beyond, b"hmtx") + 8;
     beyond[at] = 1;
+    // Of 39,700 bearings, the last is missing.
+    let mut short = large();
+    let at = record(&short, b"hmtx") + 15;
+    short[at] -= 2;
     let many_axes = fvar(&[(b"wght", [0, 0, 1]); 65]);
     let without_hvar = [(b"gvar", vec![0; 20]), (b"fvar", two_axes())];
     [
@@ -345,6 +352,7 @@ fn others() -> [(Vec<u8>, &'static str); 10] {
         (twice, "the tables are out of order"),
         (last_twice, "the tables are out of order"),
         (beyond, "hmtx ends early"),
+        (short, "hmtx ends early"),
         (font_of([(b"fvar", many_axes)]), "fvar: too many axes"),
         (font_of(without_hvar), "gvar without HVAR"),
         (font(hvar_of_regions(1025)), "HVAR: too many regions"),

@@ -38,7 +38,8 @@ refuses "$usage" "$work/whole.otf" 16 2 $settings wght=900
 for glyph in A '' -1 +1 ' 1' 65536 2x; do
     refuses 'not the number of a glyph' "$work/whole.otf" 16 "$glyph"
 done
-refuses 'no such glyph' "$work/whole.otf" 16 3
+refuses 'no such glyph' "$work/whole.otf" 16 48
+refuses 'no such glyph' "$work/large.otf" 16 40000
 for path in "$work/none" "$work"; do
     refuses 'cannot be read' "$path" 16 2
 done

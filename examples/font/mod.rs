@@ -61,10 +61,19 @@ impl<'a> Font<'a> {
         self.data.get(start..)?.get(..record.length as usize)
     }
 
-    /// The advance of a glyph. Glyphs past the last metric have its advance.
+    /// How many glyphs the font has.
+    pub fn glyph_count(&self) -> Option<u16> {
+        u16::read_at(self.table(b"maxp")?, 4)
+    }
+
+    /// The advance of a glyph. Glyphs past the last metric have its advance, and each a bearing,
+    /// which is not read.
     pub fn advance(&self, glyph: GlyphId16) -> Option<UfWord> {
+        let hmtx = self.table(b"hmtx")?;
         let count = u16::read_at(self.table(b"hhea")?, 34)?;
-        let metrics = ScalarArray::<LongMetric>::read_at(self.table(b"hmtx")?, 0, count.into())?;
+        let metrics = ScalarArray::<LongMetric>::read_at(hmtx, 0, count.into())?;
+        let others = self.glyph_count()?.saturating_sub(count);
+        ScalarArray::<FWord>::read_at(hmtx, 4 * metrics.len(), others.into())?;
         let metric = metrics.get(glyph.into()).or(metrics.last())?;
         Some(metric.advance)
     }

@@ -97,6 +97,9 @@ pub fn font_of<const N: usize>(variations: [(&[u8; 4], Vec<u8>); N]) -> Vec<u8> 
         (36, &[0xFFF6]),
     ];
     let hhea = table(36, &[(0, &[1, 0, 800, 0xFF38, 0, 620]), (34, &[2])]);
+    // Glyph 47, the last, is that of `A`. From glyph 2 on, only bearings are their own.
+    let hmtx = [&[500, 7, 620, 0xFFF0][..], &[9; 46]].concat();
+    let loca = [&[0, 0][..], &[6; 47]].concat();
     // The outline of glyph 1 has this box.
     let glyf = words(&[1, 0xFFF6, 0xFF38, 590, 700, 0]);
     let mut tables = BTreeMap::from([
@@ -105,9 +108,9 @@ pub fn font_of<const N: usize>(variations: [(&[u8; 4], Vec<u8>); N]) -> Vec<u8> 
         (b"glyf", glyf),
         (b"head", table(54, &head)),
         (b"hhea", hhea),
-        (b"hmtx", words(&[500, 7, 620, 0xFFF0, 9])),
-        (b"loca", words(&[0, 0, 6, 6])),
-        (b"maxp", words(&[0, 0x5000, 3])),
+        (b"hmtx", words(&hmtx)),
+        (b"loca", words(&loca)),
+        (b"maxp", words(&[0, 0x5000, 48])),
         (b"name", name("Ütest")),
     ]);
     tables.extend(variations);
@@ -190,6 +193,17 @@ pub fn two_axes() -> Vec<u8> {
     fvar(&[(b"wght", [100, 400, 900]), (b"wdth", [50, 100, 200])])
 }
 
+/// A font of five axes, of which the last has a segment map, and moves glyph 0 by up to 100 units.
+pub fn of_five_axes() -> Vec<u8> {
+    let axis = [100, 400, 900];
+    let axes = [b"AAAA", b"BBBB", b"CCCC", b"DDDD", b"wght"].map(|tag| (tag, axis));
+    let header = [1, 0, 0, 20, 0, 0, 0, 0, 0, 0, 1, 0, 12, 1, 0, 46];
+    let regions = [&[5, 1][..], &[0; 12], &[0, 0x4000, 0x4000]].concat();
+    let hvar = words(&[&header[..], &regions, &[1, 1, 1, 0, 100]].concat());
+    let avar = words(&[&[1, 0, 0, 5, 0, 0, 0, 0], &MAP[..]].concat());
+    font_of([(b"HVAR", hvar), (b"avar", avar), (b"fvar", fvar(&axes))])
+}
+
 /// Two axes, the second with its default at its end, in records of 24 bytes after a gap.
 pub fn long_axes() -> Vec<u8> {
     let axes = fvar(&[(b"wght", [100, 400, 900]), (b"wdth", [50, 100, 100])]);
@@ -233,11 +247,12 @@ fn large_cmap() -> Vec<u8> {
     )
 }
 
-/// A font of 400 glyphs, of which 300 have an advance of their own, and 310 a delta set, with no
+/// A font of 40,000 glyphs, of which 300 have an advance of their own, and 310 a delta set, with no
 /// map. What is read of it, apart from the records of tables, is beyond 64 KB.
 pub fn large() -> Vec<u8> {
     let sets: Vec<u16> = [310, 1, 1, 0].into_iter().chain(0..310).collect();
-    let metrics: Vec<u16> = (0..300).flat_map(|n| [500 + n, 0]).collect();
+    let metrics = (0..300).flat_map(|n| [500 + n, 0]);
+    let hmtx: Vec<u16> = metrics.chain([0; 39_700]).collect();
     let mut name = name(&("\u{1F600}".to_string() + &"n".repeat(300)));
     // The name has the id 256.
     name[24..26].copy_from_slice(&words(&[256]));
@@ -247,8 +262,8 @@ pub fn large() -> Vec<u8> {
         (b"cmap", large_cmap()),
         (b"fvar", fvar(&[(b"wght", [100, 400, 900])])),
         (b"hhea", table(36, &[(0, &[1, 0, 800]), (34, &[300])])),
-        (b"hmtx", words(&metrics)),
-        (b"maxp", words(&[0, 0x5000, 400])),
+        (b"hmtx", words(&hmtx)),
+        (b"maxp", words(&[0, 0x5000, 40_000])),
         (b"name", name),
     ])
 }
