@@ -9,7 +9,7 @@
 #include <string.h>
 
 /* The sentinel that a call must leave in an out-parameter if it fails. */
-enum { KEPT = 7, BUFFER = 64, MOST_SCALARS = 65535, MANY_TERMS = 131073 };
+enum { KEPT = 7, BUFFER = 64, MOST_SCALARS = 65535, MANY_TERMS = 131073, MANY_POINTS = 65537 };
 
 #define COUNT(ROWS) (sizeof(ROWS) / sizeof(ROWS)[0])
 
@@ -227,6 +227,7 @@ static const struct {
     {&f6dot10, 1536, {6, '*', FTY_LEFT, 0, 0}, "1.5***"},
     {&fixed, 98304, {6, 0, FTY_RIGHT, 0, 0}, "   1.5"},
     {&fixed, 98304, {4, 0x7F, FTY_LEFT, 0, 0}, "1.5\x7F"},
+    {&fixed, 98304, {5, '\n', FTY_LEFT, 0, 0}, "1.5\n\n"},
     {&f26dot6, -96, {7, '#', FTY_RIGHT, 1, 0}, "###-1.5"},
     {&f2dot30, -1610612736, {6, '#', FTY_LEFT, 0, 1}, "-001.5"},
     {&f48dot16, 98304, {0, '#', FTY_LEFT, 1, 0}, "+1.5"},
@@ -249,7 +250,8 @@ static fty_status write_text(const struct type *type, int64_t bits, const fty_pa
                          : named->format_padded(bits, pad, out, room, length);
 }
 
-/* Checks the text that write_text writes to a buffer of its length, and the error of one less. */
+/* Checks the text that write_text writes to a buffer of its length, that it writes no more to a
+   longer one, and the error of one less. */
 static void check_written(const char *table, size_t row, const struct type *type, int64_t bits,
                           const fty_pad *pad, const char *text) {
     char out[BUFFER];
@@ -261,6 +263,8 @@ static void check_written(const char *table, size_t row, const struct type *type
     check(table, row, "buffer, no room", out[0], KEPT);
     check(table, row, "status", write_text(type, bits, pad, out, needed, &length), FTY_OK);
     check_text(table, row, out, length, text);
+    check(table, row, "status, more room", write_text(type, bits, pad, out, BUFFER, &length),
+          FTY_OK);
     check(table, row, "byte after the text", out[needed], KEPT);
 }
 
@@ -283,6 +287,7 @@ static void check_parsed(void) {
     memset(digits + 1, '0', 299);
     digits[300] = '1';
     check_value("parsed, long", 0, parse(&fixed, digits, 301), -65536);
+    check_error("parsed, with the NUL", 0, parse(&fixed, "1.5", 4), FTY_NOT_DECIMAL);
 }
 
 /* A buffer for calls that must leave it unchanged if they fail. */
@@ -512,13 +517,13 @@ static void check_matrices(void) {
     check_point("members of a matrix", 0, image(members, of_members), right);
     fty_matrix slanted = {65536, 0, 0, 65536, 10, -10};
     slanted.xy = 32768;
-    fty_point points[301];
-    for (int32_t i = 0; i < 301; i++)
+    static fty_point points[MANY_POINTS + 1];
+    for (int32_t i = 0; i <= MANY_POINTS; i++)
         points[i].x = 2 * i, points[i].y = -2 * i;
-    images(&slanted, points, 300);
-    for (int32_t i = 0; i < 301; i++) {
+    images(&slanted, points, MANY_POINTS);
+    for (int32_t i = 0; i <= MANY_POINTS; i++) {
         const fty_point moved = {i + 10, -2 * i - 10}, kept = {2 * i, -2 * i};
-        check_point("300 points", (size_t)i, points[i], i < 300 ? moved : kept);
+        check_point("many points", (size_t)i, points[i], i < MANY_POINTS ? moved : kept);
     }
 }
 
@@ -781,5 +786,5 @@ int main(int count, char **arguments) {
     check_nulls();
     printf("table: %d checks, %d failed\n", checks, failures);
     /* With another number, a part was left out. */
-    return failures == 0 && checks == 3824 ? 0 : 1;
+    return failures == 0 && checks == 134525 ? 0 : 1;
 }
