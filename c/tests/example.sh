@@ -12,7 +12,7 @@ if command -v cmake >/dev/null; then
         echo 'add_executable(reader ../c/examples/example.c)'
         lines cmake 'Build and link'
     } >"$work/cmake/CMakeLists.txt"
-    "${empty[@]}" PKG_CONFIG_PATH="$PKG_CONFIG_PATH" \
+    "${empty[@]}" PKG_CONFIG_PATH="$PKG_CONFIG_PATH" CC="${CC:-cc}" \
         bash -euc 'cmake -S "$1" -B "$1/build" && cmake --build "$1/build"' - "$work/cmake" \
         >"$work/log"
     [[ $("${empty[@]}" "$work/cmake/build/reader") == "$shown" ]]

@@ -60,7 +60,7 @@ proves() {
         return 255
     fi
 }
-if command -v cbmc >/dev/null; then
+if [[ -z ${BUILT-} ]] && command -v cbmc >/dev/null; then
     cc -std=c99 -Iinclude tests/header.c -o "$work/header"
     export work
     export -f proves

@@ -42,7 +42,11 @@ for part in 'a-cargo build --release --target-dir "a-folder" --a-flag' 'a-cc -sh
     '--b-flag "a-folder/libraries"' 'an-ar x' 'an-ar t' 'an-ar rcs'; do
     [[ $commands == *"$part"* ]]
 done
-[[ $(make -n clean) == 'rm -rf "target" shared static' && $(make -n check) == ./check ]]
+[[ $(make -n clean) == 'rm -rf "target" shared static' ]]
+[[ $(make -n check CC=a-cc CXX=a-c++ CARGO=a-cargo) == \
+    'BUILT="$(realpath -- "target")" CARGO="a-cargo" CC="a-cc" CXX="a-c++" ./check' ]]
+fails make check BUILD="$work/none"
+[[ $(<"$work/log") == *'run make first'* ]]
 
 # Uninstall leaves no file but those of others. Two jobs do not install what is not built yet.
 mkdir -p "$work/dest/usr/include" "$work/dest/usr/lib/pkgconfig"
@@ -101,3 +105,6 @@ run "$work/table"
 "${empty[@]}" make -s CARGOFLAGS=--quiet
 cmp -s target/libraries/libfont_types.a "$root/lib/libfont_types.a"
 cmp -s target/libraries/libfont_types.so "$root/lib/libfont_types.so"
+
+# A part of what `make check` asks of what is built.
+run env BUILT="$PWD/target" ./check example | sed 's/^/make check: /'

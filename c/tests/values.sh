@@ -9,7 +9,7 @@ cat >"$work/beyond.c" <<'C'
 static const char bytes[1] = {0};
 int main(int count, char **words) { return words == 0 ? 1 : bytes[count]; }
 C
-for compiler in 'gcc g++' 'clang clang++'; do
+for compiler in "${compilers[@]}"; do
     read -r c cpp <<<"$compiler"
     command -v "$c" >/dev/null && command -v "$cpp" >/dev/null ||
         { echo "left out: the checks that need $c and $cpp"; continue; }
@@ -54,7 +54,11 @@ else
 fi
 
 # If FreeType is installed, its functions against those that README.md names for them.
-if pkg-config --exists freetype2; then
+links_freetype() {
+    pkg-config --exists freetype2 &&
+        cc -x c - $(pkg-config --libs freetype2) -o "$work/linked" <<<'int main(void) {}'
+}
+if ! fails links_freetype; then
     lines c 'From FreeType' >"$work/freetype.inc"
     sed -n 's/^| `FT_Matrix_Multiply(&a, &b)` | `\(.*\)` | .*/\1;/p' README.md >"$work/multiply.inc"
     cc -O2 -Iinclude "-I$work" $(pkg-config --cflags freetype2) tests/freetype.c "$archive" \
