@@ -1,4 +1,4 @@
-# What is installed, by the Makefile's variables.
+# What is installed, by the Makefile's variables, and which versions a process can load.
 
 # What is staged for a package: its folders, below a prefix that is a link; modes and links; and a
 # font_types.pc that does not name DESTDIR.
@@ -108,3 +108,16 @@ cmp -s target/libraries/libfont_types.so "$root/lib/libfont_types.so"
 
 # A part of what `make check` asks of what is built.
 run env BUILT="$PWD/target" ./check example | sed 's/^/make check: /'
+
+# Two versions in one process: a host with a stand-in of 9.0, and plug-ins with the shared library
+# and with the archive.
+sed "s/$version/9.0/" font_types.map >"$work/stand_in.map"
+cc -shared -fPIC -Iinclude -DSTAND_IN tests/versions.c \
+    "-Wl,-soname,libfont_types.so.9.0,--version-script=$work/stand_in.map" \
+    -o "$work/libfont_types.so.9.0"
+cc -shared -fPIC -Iinclude -DPLUG_IN tests/versions.c $shared -o "$work/shared.so"
+cc -shared -fPIC -Iinclude -DPLUG_IN tests/versions.c "$root/lib/libfont_types.a" \
+    -Wl,--exclude-libs,ALL -o "$work/archive.so"
+cc -Iinclude tests/versions.c "$work/libfont_types.so.9.0" "-Wl,-rpath,$work" -ldl -o "$work/host"
+ours=$(printf '00%02x00' "${version#*.}")
+[[ $("$work/host" "$work/shared.so" "$work/archive.so") == "090000 $ours $ours" ]]
