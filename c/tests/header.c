@@ -467,14 +467,14 @@ enum { FUNCTIONS = sizeof all / sizeof all[0] };
     } while (0)
 
 static void values_of_opentype(void) {
-    FIELD_OF(u8, "\x87", 135);                              /* gvar, packed deltas: 8 zeros */
-    FIELD_OF(i8, "\xC6", -58);                              /* gvar, packed deltas */
-    FIELD_OF(u16, "\xF0\x20", 61472);                       /* OS/2: U+F020 of a symbol font */
-    FIELD_OF(i16, "\xFB\x34", -1228);                       /* gvar, packed deltas */
-    FIELD_OF(u24, "\x0E\x01\x00", 917760);                  /* cmap, format 14: U+E0100 */
-    FIELD_OF(i24, "\x80\x00\x01", -8388607);                /* two's complement */
-    FIELD_OF(u32, "\xB1\xB0\xAF\xBA", 2981146554);          /* head: of its checksum */
-    FIELD_OF(i32, "\xFF\xF4\x80\x00", -753664);             /* post: an angle of -11.5 degrees */
+    FIELD_OF(u8, "\x87", 135);                             /* gvar, packed deltas: 8 zeros */
+    FIELD_OF(i8, "\xC6", -58);                             /* gvar, packed deltas */
+    FIELD_OF(u16, "\xF0\x20", 61472);                      /* OS/2: U+F020 of a symbol font */
+    FIELD_OF(i16, "\xFB\x34", -1228);                      /* gvar, packed deltas */
+    FIELD_OF(u24, "\x0E\x01\x00", 917760);                 /* cmap, format 14: U+E0100 */
+    FIELD_OF(i24, "\x80\x00\x01", -8388607);               /* two's complement */
+    FIELD_OF(u32, "\xB1\xB0\xAF\xBA", 2981146554);         /* head: of its checksum */
+    FIELD_OF(i32, "\xFF\xF4\x80\x00", -753664);            /* post: an angle of -11.5 degrees */
     FIELD_OF(i64, "\0\0\0\0\x7C\x25\xB0\x80", 2082844800); /* head: the first second of 1970 */
     /* GPOS, example 2: a coverage table of one range, of glyphs that are lowered by 80 units. */
     static const uint8_t bytes[] = {0, 1, 0,    8, 0,    2, 0xFF, 0xB0, 0,

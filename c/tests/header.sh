@@ -96,8 +96,4 @@ refuses_16_bits() {
 }
 refuses_16_bits cc -ffreestanding -w -D__SIZE_MAX__=0xFFFF
 refuses_16_bits cc -ffreestanding -w -D__INT_MAX__=0x7FFF
-if command -v avr-gcc >/dev/null; then
-    refuses_16_bits avr-gcc
-else
-    echo "left out: the header for 16 bits by avr-gcc"
-fi
+! command -v avr-gcc >/dev/null || refuses_16_bits avr-gcc

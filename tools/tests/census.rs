@@ -20,7 +20,7 @@ const COUNTS: [(&str, &str, &str, usize); 14] = [
     ("crates", ".edit", "# clause: ", 254),
     ("crates", ".edit", "# control: ", 81),
     ("crates/fontval", "stdin", "\n", 213),
-    ("c/tests", ".sh", "\n", 352),
+    ("c/tests", ".sh", "\n", 348),
 ];
 
 #[test]
