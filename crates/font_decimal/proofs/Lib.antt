@@ -6,6 +6,7 @@ pub mod Order
 pub mod Padded
 pub mod Printed
 pub mod Columns
+pub mod Buffer
 mod Digits
 mod Rounding
 mod Parts

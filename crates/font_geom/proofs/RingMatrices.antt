@@ -3,28 +3,13 @@
 use Rattle.std.proofs.Common.{◌≡◌}
 use Rattle.font_geom.specs.declared.matrix.Matrix.{Matrix}
 use Rattle.font_geom.specs.declared.point.Point.{Point}
-use Rattle.font_geom.specs.Matrix.{linear_form, affine_form, image_of, matrix_product}
+use Rattle.font_geom.specs.Matrix.{image_of, matrix_product}
 use Rattle.font_geom.specs.Ring.{RingLaws}
 
 module _ {T : Type 0} {zero one : T} {plus times : T → T → T} (ring : RingLaws zero one plus times) where
   -- with this, `simp` sorts the terms of a sum
   exchanged : (a b c : T) → plus a (plus b c) ≡ plus b (plus a c)
   exchanged a b c = cc (ring.sums_associate a b c, ring.sums_associate b a c, ring.sums_commute a b)
-
-  -- of a row (p, q) and two columns, each times a number
-  pub linear_form-linear_form : (p q r s t w u v : T) →
-      linear_form plus times (linear_form plus times p r q s) u (linear_form plus times p t q w) v
-      ≡ linear_form plus times p (linear_form plus times r u t v) q (linear_form plus times s u w v)
-  linear_form-linear_form p q r s t w u v = simp
-      (ring.sum_times, ring.times_sum, ring.products_associate, ring.sums_associate, exchanged)
-
-  -- and with shifts
-  pub affine_form-affine_form : (p q d r s t w e f u v : T) →
-      affine_form plus times (linear_form plus times p r q s) u (linear_form plus times p t q w) v
-      (affine_form plus times p e q f d)
-      ≡ affine_form plus times p (affine_form plus times r u t v e) q (affine_form plus times s u w v f) d
-  affine_form-affine_form p q d r s t w e f u v = simp
-      (ring.sum_times, ring.times_sum, ring.products_associate, ring.sums_associate, ring.sums_commute, exchanged)
 
   pub matrix_product-matrix_product : (a b c : Matrix T) → matrix_product plus times (matrix_product plus times a b) c
       ≡ matrix_product plus times a (matrix_product plus times b c)
