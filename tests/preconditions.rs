@@ -1,7 +1,12 @@
-//! Calls that break a precondition: they panic or return, and text is ASCII.
+//! Calls that break a precondition: they panic or return, and text is ASCII. Calls with unusual
+//! arguments that break none.
 
-use font_types_proved::{Align, Matrix, Pad, Point, SampleHeader, ScalarArray, Shortest};
-use font_types_proved::{TableHeader, laws, read_decimal, read_decimal_bytes, write_padded};
+mod exact;
+
+use exact::{Type, read};
+use font_types_proved::write_padded;
+use font_types_proved::{Align, DecimalFault, Matrix, Pad, Point, SampleHeader, ScalarArray};
+use font_types_proved::{Shortest, TableHeader, laws, read_decimal, read_decimal_bytes};
 use std::panic::{AssertUnwindSafe, catch_unwind};
 
 /// Fraction bits that are allowed, and others.
@@ -26,6 +31,16 @@ fn printed_with_any_fraction_bits() {
     }
 }
 
+/// Returns the nearest value, if it is in the range.
+fn parsed(text: &str, fraction: u32, min: i64, max: i64) -> Result<i64, DecimalFault> {
+    let width = 127;
+    let nearest = read(text.as_bytes(), Type { width, fraction });
+    let nearest = nearest.map_err(|_| DecimalFault::Syntax)?;
+    let is_in_range = (i128::from(min)..=i128::from(max)).contains(&nearest);
+    let found = is_in_range.then_some(nearest as i64);
+    found.ok_or(DecimalFault::OutOfRange)
+}
+
 #[test]
 fn parsed_with_any_fraction_bits_and_range() {
     let ranges = [(0, 0), (1, -1), (5, 10), (-10, -5), (i64::MAX, i64::MIN)];
@@ -39,15 +54,36 @@ fn parsed_with_any_fraction_bits_and_range() {
                 "99999999999999999999.99999999999999999999",
             ] {
                 let row = format!("{text} {f} {min} {max}");
+                let right = is_allowed.then(|| parsed(text, f, min, max));
                 let found = returned(|| read_decimal(text, f, min, max));
-                assert_eq!(found.is_some(), is_allowed, "{row}");
+                assert_eq!(found, right, "{row}");
                 let found = returned(|| read_decimal_bytes(text.as_bytes(), f, min, max));
-                assert_eq!(found.is_some(), is_allowed, "{row}");
+                assert_eq!(found, right, "{row}");
                 let found = returned(|| laws::reads_in_order("0.5", text, f, min, max));
-                assert_eq!(found.is_some(), is_allowed, "{row}");
+                let right = right.map(|right| (parsed("0.5", f, min, max), right));
+                assert_eq!(found, right, "{row}");
             }
         }
     }
+}
+
+/// Returns the text with a sign, padded.
+fn padded(text: &str, pad: &Pad) -> Vec<u8> {
+    let (sign, body) = match text.strip_prefix('-') {
+        Some(body) => (b"-", body.as_bytes()),
+        None => (b"+", text.as_bytes()),
+    };
+    let spare = pad.width.saturating_sub(1 + body.len());
+    if pad.zeros {
+        return [sign, &*vec![b'0'; spare], body].concat();
+    }
+    let front = match pad.align {
+        Align::Left => 0,
+        Align::Center => spare / 2,
+        Align::Right => spare,
+    };
+    let [front, back] = [front, spare - front].map(|count| vec![pad.fill; count]);
+    [&*front, sign, body, &*back].concat()
 }
 
 #[test]
@@ -68,11 +104,16 @@ fn padded_with_any_byte() {
                         zeros,
                     };
                     let mut out = [0xA5; 16];
-                    let found = returned(|| write_padded(text, &mut out[2..2 + len], &pad));
-                    let written = found.flatten().unwrap_or(0);
-                    assert!(written <= len, "{text} {pad:?}");
-                    let outside = out[..2].iter().chain(&out[2 + written..]);
-                    assert!(outside.eq(&vec![0xA5; 16 - written]), "{text} {pad:?}");
+                    let found = write_padded(text, &mut out[2..2 + len], &pad);
+                    let right = (width <= len).then(|| padded(text, &pad));
+                    let right = right.filter(|right| right.len() <= len);
+                    assert_eq!(found, right.as_ref().map(Vec::len), "{text} {pad:?}");
+                    let right = [&[0xA5; 2][..], &right.unwrap_or_default()].concat();
+                    assert!(out.starts_with(&right), "{text} {pad:?}");
+                    assert!(
+                        out[right.len()..].iter().all(|byte| *byte == 0xA5),
+                        "{text} {pad:?}"
+                    );
                 }
             }
         }

@@ -7,7 +7,7 @@ use Rattle.font_types.specs.Padding.{padded_text, unsigned_body}
 use Rattle.font_types.specs.declared.Pad.{Pad}
 use Rattle.font_types.specs.Shortest.{shortest_text}
 use Rattle.font_decimal.proofs.Padded.{padded_fits}
-use Rattle.font_decimal.proofs.Printed.{length-shortest_body-lt, shortest_is_decimal}
+use Rattle.font_decimal.proofs.Printed.{length-shortest_body-lt}
 
 -- the text of a 64-bit number has fewer than 22 bytes after its `-`
 pub printed_is_short : (b : ℤ) (f : ℕ) → SFits w64 b → f ≤ 30 → length (unsigned_body (shortest_text b f)) < 22
@@ -17,5 +17,3 @@ printed_is_short b f fits few = length-shortest_body-lt b f (omega (arith, ints,
 pub short_text_fits : (text : List ℕ) (pad : Pad) (n : ℕ) → length (unsigned_body text) < 22
     → max 22 pad.width ≤ n → length (padded_text text pad) ≤ n
 short_text_fits text pad n short enough = padded_fits text pad 22 n short enough
-
-pub ruleset text_calls = (shortest_is_decimal, short_text_fits)

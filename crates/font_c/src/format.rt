@@ -1,7 +1,6 @@
 //! Decimals written to buffers of C.
 
-ghost use Rattle.std.specs.Prelude.{◌≡◌, ◌≢◌, ◌<◌, ◌≤◌, length, max, MatchResult};
-ghost use Rattle.font_types.specs.Grammar.{IsDecimal};
+ghost use Rattle.std.specs.Prelude.{◌≡◌, ◌<◌, ◌≤◌, length, max, MatchResult};
 ghost use Rattle.font_types.specs.Shortest.{shortest_text};
 ghost use Rattle.font_types.specs.Padding.{padded_text, unsigned_body};
 ghost use Rattle.font_c.specs.Texts.{WritesText};
@@ -60,7 +59,7 @@ impl TryFrom<FontPad> for Pad {
 /// Writes the shortest decimal that parses back to the raw value to the start of `out`, and its
 /// length to `written`.
 #[unsafe(no_mangle)]
-#[tactic(auto, using(crate::proofs::Texts::text_calls))]
+#[tactic(auto, using(crate::proofs::Texts::short_text_fits))]
 pub extern "C" fn fty_format(
     bits: i64,
     fraction_bits: u32,
@@ -124,10 +123,8 @@ pub fn put_text(text: &[u8], out: &mut [u8], written: &mut usize) -> u32
 }
 
 // Writes a padded decimal to the start of a buffer, and its length.
-#[tactic(auto, using(crate::proofs::Texts::text_calls))]
+#[tactic(auto, using(crate::proofs::Texts::short_text_fits))]
 fn put_padded(text: &str, pad: &Pad, out: &mut [u8], written: &mut usize) -> u32
-    requires decimal { IsDecimal text.now }
-    requires ascii { pad.now.fill < 128 }
     ensures text { WritesText (padded_text text.now pad.now) result written.old written.new out.old
         out.new }
     ensures enough { length (unsigned_body text.now) < 22 → max 22 pad.now.width ≤ length out.old

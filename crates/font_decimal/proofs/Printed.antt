@@ -16,7 +16,7 @@ use Rattle.std.proofs.lemmas.Nat.{div-mul-add}
 use Rattle.std.proofs.lemmas.Str.{digit_value_digit}
 use Rattle.std.proofs.lemmas.Fmt.{decimal_is_IsNumeral, decimal_digit, first_decimal, length-decimal-le}
 use Rattle.font_decimal.specs.Near.{signed, Near}
-use Rattle.font_decimal.specs.Grammar.{fraction_text, Decimal, HasParts, IsDecimal}
+use Rattle.font_decimal.specs.Grammar.{fraction_text, Decimal, HasParts}
 use Rattle.font_decimal.specs.Shortest.{IsShortest, nearest_numeral, fewest_places, last_digits, decimal_text}
 use Rattle.font_decimal.specs.Shortest.{shortest_text}
 use Rattle.font_decimal.proofs.Near.{near_from, sign_and_magnitude, signed_times}
@@ -195,10 +195,6 @@ module _ (m f whole fraction places : ℕ) (few : places ≡ fewest_places m f)
   text_is b size = rw (fraction_is, whole_is, append-nil, few, size)
 
 -- ---- for callers
--- a shortest text is in the grammar
-pub shortest_is_decimal : (b : ℤ) (f : ℕ) (text : List ℕ) → IsShortest b f text → IsDecimal text
-shortest_is_decimal b f text s = record { numeral = s.numeral; places = s.places; decimal = s.plain.decimal }
-
 -- a printed text parses as its value and no other
 pub printed_rounds : (b : ℤ) (f : ℕ) → unsigned_abs b ≤ 2 ^ 63 → Rounds (shortest_text b f) f b
 printed_rounds b f small = (shortest_is b f small).rounds

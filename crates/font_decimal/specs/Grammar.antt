@@ -26,12 +26,6 @@ pub record Decimal (text : List ℕ) (n : ℤ) (k : ℕ) : Type 0 where
   pub numeral : n ≡ signed negative (digits_value 10 (whole ++ fraction))
   pub places : k ≡ length fraction
 
--- the text is a decimal
-pub record IsDecimal (text : List ℕ) : Type 0 where
-  pub numeral : ℤ
-  pub places : ℕ
-  pub decimal : Decimal text numeral places
-
 -- the text is not a decimal
 abbrev pub IsNoDecimal : List ℕ → Type 0
 IsNoDecimal text = (n : ℤ) (k : ℕ) → ¬ (Decimal text n k)

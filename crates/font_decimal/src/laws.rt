@@ -1,5 +1,5 @@
 //! A law of parsing, as the contract of a function.
-ghost use Rattle.std.specs.Prelude.{◌≡◌, ◌≤◌, ℤ, pos, ◌≤ℤ◌};
+ghost use Rattle.std.specs.Prelude.{◌≡◌, ◌≤◌, ℤ, ◌≤ℤ◌};
 ghost use Rattle.font_decimal.specs.Reading.{Parses, IsAtMost};
 
 use crate::{DecimalFault, read_decimal};
@@ -19,7 +19,6 @@ pub fn reads_in_order(
     max: i64,
 ) -> (Result<i64, DecimalFault>, Result<i64, DecimalFault>)
     requires bits_of_fraction { (6 ≤ f) × (f ≤ 30) }
-    requires around_zero { (min ≤ℤ pos 0) × (pos 0 ≤ℤ max) }
     ensures first { Parses s.now f min max result.0 }
     ensures second { Parses t.now f min max result.1 }
     ensures in_order { (a b : ℤ) → result.0 ≡ Ok a → result.1 ≡ Ok b → IsAtMost s.now t.now

@@ -1,7 +1,6 @@
 //! Padding a decimal to a width.
-ghost use Rattle.std.specs.Prelude.{◌≡◌, ℕ, ◌+◌, ◌≤◌, ◌<◌, ◌↔◌, List, ◌++◌, length, take, drop};
+ghost use Rattle.std.specs.Prelude.{◌≡◌, ℕ, ◌+◌, ◌≤◌, ◌↔◌, List, ◌++◌, length, take, drop};
 ghost use Rattle.std.specs.Prelude.{replicate, IfSome, IfNone, IsSome, false};
-ghost use Rattle.font_decimal.specs.Grammar.{IsDecimal};
 ghost use Rattle.font_decimal.specs.Padding.{shown_sign, unsigned_body, laid_out, padded_text};
 ghost use Rattle.font_decimal.specs.Padding.{FillsFront};
 
@@ -35,7 +34,7 @@ pub enum Align {
 pub struct Pad {
     /// The minimum width in bytes; 0 means none.
     pub width: usize,
-    /// The fill byte, below 0x80.
+    /// The fill byte. Padded text is ASCII if it is below 0x80.
     pub fill: u8,
     /// The alignment.
     pub align: Align,
@@ -73,12 +72,10 @@ impl Pad {
 /// Writes a padded decimal to the start of `out` and returns its length, or returns `None` and
 /// leaves `out` unchanged if it is too short.
 ///
-/// The text must be a decimal, in range or not, and `pad.fill` must be below 0x80.
+/// The text need not be a decimal: its sign is a `-` at its start.
 #[must_use]
 #[inline]
 pub fn write_padded(text: &str, out: &mut [u8], pad: &Pad) -> Option<usize>
-    requires decimal { IsDecimal text.now }
-    requires ascii { pad.now.fill < 128 }
     ensures written { IfSome result
         (λ n. FillsFront (padded_text text.now pad.now) n out.old out.new) }
     ensures variant { IsSome result ↔ (length (padded_text text.now pad.now) ≤ length out.old) }

@@ -1,7 +1,7 @@
 //! Parsing a decimal as the nearest fixed-point number.
 
 ghost use Rattle.std.specs.Prelude.{◌≡◌, ◌+◌, ◌-◌, ◌*◌, ◌/◌, ◌^◌, ◌<◌, ◌≤◌, ◌≤ℤ◌, ◌⊎◌, ◌↔◌, ◌++◌};
-ghost use Rattle.std.specs.Prelude.{ℕ, ℤ, pos, Bool, false, List, length, min, slice_index, take};
+ghost use Rattle.std.specs.Prelude.{ℕ, ℤ, Bool, false, List, length, min, slice_index, take};
 ghost use Rattle.std.specs.Prelude.{SomeIff, IfSome, IfNone, MatchOption};
 ghost use Rattle.std.specs.Fmt.{sign_text};
 ghost use Rattle.std.specs.Char.{digit_value};
@@ -37,7 +37,7 @@ pub enum DecimalFault {
 /// away from zero. For a value of a type, use its `from_decimal`.
 ///
 /// A decimal is an optional `-`, one or more digits, and optionally a point followed by one or more
-/// digits, of any length. `min..=max` must contain 0.
+/// digits, of any length.
 ///
 /// # Errors
 ///
@@ -57,7 +57,6 @@ pub enum DecimalFault {
 #[inline(always)]
 pub fn read_decimal(text: &str, f: u32, min: i64, max: i64) -> Result<i64, DecimalFault>
     requires bits_of_fraction { (6 ≤ f) × (f ≤ 30) }
-    requires around_zero { (min ≤ℤ pos 0) × (pos 0 ≤ℤ max) }
     ensures ok { (b : ℤ) → (result ≡ Ok b) ↔ Reads text.now f min max b }
     ensures reading { Parses text.now f min max result }
     ensures out_of_range { (result ≡ Err DecimalFault.OutOfRange)
@@ -79,7 +78,6 @@ pub fn read_decimal(text: &str, f: u32, min: i64, max: i64) -> Result<i64, Decim
 #[inline(always)]
 pub fn read_decimal_bytes(text: &[u8], f: u32, min: i64, max: i64) -> Result<i64, DecimalFault>
     requires bits_of_fraction { (6 ≤ f) × (f ≤ 30) }
-    requires around_zero { (min ≤ℤ pos 0) × (pos 0 ≤ℤ max) }
     ensures { Parses text.now f min max result }
 {
     let (negative, digits) = split_sign(text);

@@ -1,7 +1,6 @@
 -- The rules that the file of a fixed-point type names, so that its functions need no answers: the results of std's
 -- calls and of steps of code, at each width and every fraction, in the form of goals.
 use Rattle.std.proofs.Common.{w16, w32, w64}
-use Rattle.font_decimal.proofs.Printed.{shortest_is_decimal}
 use Rattle.font_fixed.proofs.Texts.{HasRoom, padded_has_room}
 use Rattle.font_fixed.proofs.Wrapped.{wrapping_add-wrap, wrapping_sub-wrap, wrapping_neg-wrap, wrapping_abs-wrap}
 use Rattle.font_fixed.proofs.Wrapped.{wrapping_mul-wrap}
@@ -28,5 +27,4 @@ pub ruleset number_code = (
   cell_16,
   cell_32,
   cell_64,
-  shortest_is_decimal,
 )

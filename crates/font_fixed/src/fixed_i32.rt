@@ -1,7 +1,7 @@
 //! 32-bit fixed-point numbers.
 #![tactic(auto, using(crate::proofs::Rules::number_code))]
 
-ghost use Rattle.std.specs.Prelude.{◌≡◌, ◌<◌, ◌≤◌, ◌↔◌, ◌/◌, ◌^◌, ℤ, pos, neg_ℤ, ◌+ℤ◌, ◌-ℤ◌};
+ghost use Rattle.std.specs.Prelude.{◌≡◌, ◌≤◌, ◌↔◌, ◌/◌, ◌^◌, ℤ, pos, neg_ℤ, ◌+ℤ◌, ◌-ℤ◌};
 ghost use Rattle.std.specs.Prelude.{◌≤ℤ◌, ◌<ℤ◌, Some};
 ghost use Rattle.std.specs.Prelude.{IsSome, IfSome, IfNone, length, max, unsigned_abs};
 ghost use Rattle.std.specs.Int.{w32};
@@ -288,7 +288,7 @@ where
 
     /// Writes the padded decimal to the start of `out` and returns its length, or returns `None`
     /// and leaves `out` unchanged if it is too short. A buffer of `max_text_len()` bytes, and of at
-    /// least `pad.width`, is long enough. `pad.fill` must be ASCII.
+    /// least `pad.width`, is long enough.
     ///
     /// ```
     /// use font_types::{Fixed, Pad};
@@ -299,7 +299,6 @@ where
     #[must_use]
     #[inline]
     pub fn write_padded(self, out: &mut [u8], pad: &Pad) -> Option<usize>
-        requires { pad.now.fill < 128 }
         ensures written { IfSome result
             (λ n. FillsFront (padded_text (text_of self.entry) pad.now) n out.old out.new) }
         ensures variant { IsSome result

@@ -32,7 +32,7 @@ pub enum Align {
 pub struct Pad {
     /// The minimum width in bytes; 0 means none.
     pub width: usize,
-    /// The fill byte, below 0x80.
+    /// The fill byte. Padded text is ASCII if it is below 0x80.
     pub fill: u8,
     /// The alignment.
     pub align: Align,
@@ -62,7 +62,7 @@ impl Pad {
 /// Writes a padded decimal to the start of `out` and returns its length, or returns `None` and
 /// leaves `out` unchanged if it is too short.
 ///
-/// The text must be a decimal, in range or not, and `pad.fill` must be below 0x80.
+/// The text need not be a decimal: its sign is a `-` at its start.
 #[must_use]
 #[inline]
 pub fn write_padded(text: &str, out: &mut [u8], pad: &Pad) -> Option<usize> {

@@ -37,7 +37,7 @@ impl core::fmt::Display for DecimalFault {
 /// away from zero. For a value of a type, use its `from_decimal`.
 ///
 /// A decimal is an optional `-`, one or more digits, and optionally a point followed by one or more
-/// digits, of any length. `min..=max` must contain 0.
+/// digits, of any length.
 ///
 /// # Errors
 ///

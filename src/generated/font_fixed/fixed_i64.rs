@@ -210,7 +210,7 @@ where
 
     /// Writes the padded decimal to the start of `out` and returns its length, or returns `None`
     /// and leaves `out` unchanged if it is too short. A buffer of `max_text_len()` bytes, and of at
-    /// least `pad.width`, is long enough. `pad.fill` must be ASCII.
+    /// least `pad.width`, is long enough.
     ///
     /// ```
     /// use font_types_proved::{F48Dot16, Pad};
