@@ -158,6 +158,7 @@ fn laws() {
     type Texts = (Result<i64, DecimalFault>, Result<i64, DecimalFault>);
     let _: fn(&'static str, &'static str, u32, i64, i64) -> Texts = reads_in_order;
     let _: [fn(Fixed, Fixed) -> [Fixed; 4]; 2] = [fixed::product_laws, fixed::quotient_laws];
+    let _: fn(Fixed, Fixed, Fixed, Fixed) -> (Fixed, Fixed) = fixed::scaled_in_order;
     let _: [fn(F26Dot6, F26Dot6) -> [F26Dot6; 3]; 2] =
         [f26dot6::product_laws, f26dot6::quotient_laws];
     type M = Matrix<Ring>;

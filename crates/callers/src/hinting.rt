@@ -14,7 +14,7 @@ ghost use Rattle.font_types.specs.FWord.{fword_number};
 ghost use Rattle.font_types.specs.Near.{near, up};
 ghost use Rattle.font_types.specs.NumberReading.{ParsesFixedPoint};
 ghost use Rattle.font_types.specs.FixedMatrix.{wrapped_sum, wrapped_product};
-ghost use Rattle.font_types.specs.Operations.{IsIntegral};
+ghost use Rattle.font_types.specs.Operations.{IsIntegral, IsMulDiv, rounded_mul_div};
 ghost use Rattle.font_types.specs.Wrap.{FitsBits, wrap};
 ghost use Rattle.callers.specs.Hinting.{IsLeast};
 ghost use Rattle.callers.specs.Hinting.{high_start, AreEnds, HasValue, ParsesRange};
@@ -107,6 +107,24 @@ pub fn scaled_width(width: FWord, scale: Fixed) -> F26Dot6
     ensures { f26dot6_bits result ≡ up (fword_number width *ℤ fixed_bits scale) 1024 }
 {
     (width.to_fixed() * scale).to_f26dot6()
+}
+
+/// Scales two values, in order: edges by one ratio, which keeps their order if neither overflows.
+///
+/// The ruleset `orders` has this of numbers that are scaled, narrowed or rounded.
+#[tactic(auto, using(font_types::proofs::Callers::orders))]
+pub fn scaled_edges(low: Fixed, high: Fixed, size: Fixed, units: Fixed) -> (Fixed, Fixed)
+    requires { (pos 0 ≤ℤ fixed_bits size) × (pos 0 <ℤ fixed_bits units) }
+    ensures low { IsMulDiv 32 (fixed_bits low) (fixed_bits size) (fixed_bits units)
+        (fixed_bits result.0) }
+    ensures high { IsMulDiv 32 (fixed_bits high) (fixed_bits size) (fixed_bits units)
+        (fixed_bits result.1) }
+    ensures order { fixed_bits low ≤ℤ fixed_bits high
+        → FitsBits 32 (rounded_mul_div (fixed_bits low) (fixed_bits size) (fixed_bits units))
+        → FitsBits 32 (rounded_mul_div (fixed_bits high) (fixed_bits size) (fixed_bits units))
+        → fixed_bits result.0 ≤ℤ fixed_bits result.1 }
+{
+    (low.mul_div(size, units), high.mul_div(size, units))
 }
 
 // ---- settings

@@ -13,5 +13,6 @@ pub mod Small
 pub mod Rules
 pub mod FixedCalls
 pub mod NarrowCalls
+pub mod Orders
 pub mod Rounds
 pub mod Deltas

@@ -5,6 +5,7 @@ use Rattle.font_fixed.proofs.Calls.{calls_16, calls_32, calls_64}
 use Rattle.font_fixed.proofs.FixedCalls.{fixed_calls}
 use Rattle.font_fixed.proofs.Integral.{integral_calls, integral_rules}
 use Rattle.font_fixed.proofs.NarrowCalls.{narrow_calls, quarter_neg_one}
+use Rattle.font_fixed.proofs.Orders.{order_calls}
 use Rattle.font_fixed.proofs.Shifts.{shr_low, shr_high, shr_fits}
 use Rattle.font_tags.proofs.TagLaws.{tag_calls}
 use Rattle.font_tags.proofs.VersionLaws.{compatible_calls}
@@ -22,7 +23,7 @@ pub use Rattle.font_base.proofs.ScalarCalls.{absent, nowhere, rises_by}
 pub use Rattle.font_base.proofs.Moved.{bytes_moved}
 pub use Rattle.font_base.specs.Wrap.Laws.{wrap_is, wrap_unique, wrap-fits}
 pub use Rattle.font_base.specs.Bytes.Laws.{bytes_of_is, bytes_of_are, bytes_unique, bytes_of-same, numeral_below}
-pub use Rattle.font_decimal.proofs.Near.{near_is, near_unique, near_monotone}
+pub use Rattle.font_decimal.proofs.Near.{near_is, near_unique, near_monotone, up_is, up_monotone}
 pub use Rattle.font_decimal.proofs.Readings.{reading_unique}
 pub use Rattle.font_decimal.proofs.Texts.{decimal_is_ascii, decimal_is_utf8, decimal_unique}
 pub use Rattle.font_decimal.proofs.Order.{order_of_readings}
@@ -31,6 +32,7 @@ pub use Rattle.font_decimal.proofs.Printed.{printed_is_read, printed_reads_once,
 pub use Rattle.font_decimal.proofs.Printed.{zero_ends_no_fraction}
 pub use Rattle.font_decimal.proofs.Columns.{trimmed_column}
 pub use Rattle.font_fixed.proofs.Small.{product_near}
+pub use Rattle.font_fixed.proofs.Orders
 pub use Rattle.font_fixed.proofs.Group
 pub use Rattle.font_fixed.proofs.NumberLaws as Laws
 pub use Rattle.font_tags.proofs.TagLaws.{validated_good, good_is_utf8}
@@ -84,6 +86,9 @@ pub ruleset narrowings = (exact_narrow_calls)
 
 -- for `>>`, beside std's `wraps`: the floor of a quotient by a power of two
 pub ruleset shifts = (shr_low, shr_high, shr_fits)
+
+-- for the order of two numbers that are scaled, narrowed or rounded
+pub ruleset orders = (order_calls)
 
 -- for several writes in one body
 pub ruleset writes = (write_calls)

@@ -1,8 +1,8 @@
 //! A hinter.
 
 use crate::hinting::{
-    AxisRange, RangeError, blend, half_line, halfway, interpolate, least, read_range, scaled_width,
-    zone_above,
+    AxisRange, RangeError, blend, half_line, halfway, interpolate, least, read_range, scaled_edges,
+    scaled_width, zone_above,
 };
 use font_types::{DecimalFault, F2Dot14, F26Dot6, FWord, Fixed};
 
@@ -34,6 +34,13 @@ fn zones_and_positions(rt: HostRuntime) {
         blend(ten, forty, half),
     ];
     assert!(rt; found == [25, 25].map(Fixed::from_bits));
+    let edges = scaled_edges(
+        Fixed::from_bits(3),
+        ten,
+        Fixed::ONE,
+        Fixed::from_bits(0x2_0000),
+    );
+    assert!(rt; edges == (Fixed::from_bits(2), Fixed::from_bits(5)));
 }
 
 #[test]

@@ -1,6 +1,9 @@
 //! Laws of [`Fixed`], as contracts of functions.
 
+ghost use Rattle.std.specs.Prelude.{pos, ◌≤ℤ◌, ◌<ℤ◌};
+ghost use Rattle.font_base.specs.Wrap.{FitsBits};
 ghost use Rattle.font_fixed.specs.Fixed.{fixed_bits};
+ghost use Rattle.font_fixed.specs.Operations.{IsMulDiv, rounded_mul_div};
 ghost use Rattle.font_fixed.specs.NumberLaws.{OnFour, ProductLaws, ProductInOneStep};
 ghost use Rattle.font_fixed.specs.NumberLaws.{QuotientLaws, QuotientInOneStep};
 
@@ -36,4 +39,23 @@ pub fn quotient_laws(x: Fixed, y: Fixed) -> [Fixed; 4]
         (fixed_bits quotient) (fixed_bits in_one_step)) }
 {
     [x / y, x.mul_div(Fixed::ONE, y), x / Fixed::ONE, x / x]
+}
+
+/// Returns `x.mul_div(a, c)` and `y.mul_div(a, c)`, two coordinates scaled by one ratio. If `a` is
+/// not negative, `c` is positive and neither overflows, the greater never becomes the smaller.
+#[must_use]
+#[inline]
+#[tactic(auto, using(crate::proofs::Orders::order_calls))]
+pub fn scaled_in_order(x: Fixed, y: Fixed, a: Fixed, c: Fixed) -> (Fixed, Fixed)
+    ensures first { IsMulDiv 32 (fixed_bits x) (fixed_bits a) (fixed_bits c)
+        (fixed_bits result.0) }
+    ensures second { IsMulDiv 32 (fixed_bits y) (fixed_bits a) (fixed_bits c)
+        (fixed_bits result.1) }
+    ensures in_order { pos 0 ≤ℤ fixed_bits a → pos 0 <ℤ fixed_bits c
+        → fixed_bits x ≤ℤ fixed_bits y
+        → FitsBits 32 (rounded_mul_div (fixed_bits x) (fixed_bits a) (fixed_bits c))
+        → FitsBits 32 (rounded_mul_div (fixed_bits y) (fixed_bits a) (fixed_bits c))
+        → fixed_bits result.0 ≤ℤ fixed_bits result.1 }
+{
+    (x.mul_div(a, c), y.mul_div(a, c))
 }

@@ -21,3 +21,11 @@ pub fn product_laws(x: Fixed, y: Fixed) -> [Fixed; 4] {
 pub fn quotient_laws(x: Fixed, y: Fixed) -> [Fixed; 4] {
     [x / y, x.mul_div(Fixed::ONE, y), x / Fixed::ONE, x / x]
 }
+
+/// Returns `x.mul_div(a, c)` and `y.mul_div(a, c)`, two coordinates scaled by one ratio. If `a` is
+/// not negative, `c` is positive and neither overflows, the greater never becomes the smaller.
+#[must_use]
+#[inline]
+pub fn scaled_in_order(x: Fixed, y: Fixed, a: Fixed, c: Fixed) -> (Fixed, Fixed) {
+    (x.mul_div(a, c), y.mul_div(a, c))
+}

@@ -1,0 +1,88 @@
+-- Results that do not overflow are the nearest numbers, so rounding and scaling keep the order; and the product by the
+-- opposite of a factor is the opposite product.
+use Rattle.std.proofs.Common.{◌≡◌, ◌∙◌, sym, ap, ℕ, zero, suc, ◌^◌, ◌<◌, ℤ, pos, negsuc, neg_ℤ, ◌*ℤ◌, ◌≤ℤ◌, ◌<ℤ◌}
+use Rattle.std.proofs.Common.{arith, pow_pos, unsigned_abs}
+use Rattle.std.proofs.lemmas.Bool.Decides.{nat_tests}
+use Rattle.std.proofs.lemmas.Int.{ints}
+use Rattle.std.proofs.Math.IntN.{*ℤ-negsuc, neg_ℤ-neg_ℤ}
+use Rattle.font_base.specs.Wrap.{wrap, FitsBits}
+use Rattle.font_base.specs.Wrap.Laws.{wrap-fits, wrap_is, wrap_same}
+use Rattle.font_decimal.specs.Near.{Near, near, up}
+use Rattle.font_decimal.proofs.Integers.{times_monotone, neg-times}
+use Rattle.font_decimal.proofs.Near.{near_is, near_gives, near_monotone, up_is, up_monotone}
+use Rattle.font_fixed.specs.Operations.{IsWrappedNear, IsMulDiv, IsProduct, IsNarrowed, IsNearestWhole}
+use Rattle.font_fixed.specs.Operations.{rounded_mul_div}
+use Rattle.font_fixed.specs.Rounding.{rounded}
+
+-- a product or a quotient that does not overflow is within half a step of the exact one
+pub kept_near : (w d : ℕ) (n r : ℤ) → 0 < w → 0 < d → IsWrappedNear w n d r → FitsBits w (near n d) → Near n d r
+kept_near w d n r wide some given fits = rw (given.is ∙ wrap-fits w (near n d) wide fits) (near_is n d some)
+
+-- ---- order
+
+-- of two numbers scaled by one ratio that is not negative, the greater never becomes the smaller
+pub scaled_in_order : (w : ℕ) (x y a c r s : ℤ) → 0 < w → IsMulDiv w x a c r → IsMulDiv w y a c s → pos 0 ≤ℤ a
+    → pos 0 <ℤ c → x ≤ℤ y → FitsBits w (rounded_mul_div x a c) → FitsBits w (rounded_mul_div y a c)
+    → r ≤ℤ s
+scaled_in_order w x y (pos a) (pos (suc c)) r s wide first second from some order fits_r fits_s =
+    near_monotone (omega arith) (omega arith) (kept_near w (suc c) _ r wide (omega arith) first fits_r)
+    (kept_near w (suc c) _ s wide (omega arith) second fits_s)
+    (times_monotone _ _ (suc c) (times_monotone x y a order))
+scaled_in_order w x y (negsuc a) (pos (suc c)) r s wide first second from some order fits_r fits_s =
+    absurd (omega (arith, ints, from))
+scaled_in_order w x y a (pos zero) r s wide first second from some order fits_r fits_s =
+    absurd (omega (arith, ints, some))
+scaled_in_order w x y a (negsuc c) r s wide first second from some order fits_r fits_s =
+    absurd (omega (arith, ints, some))
+
+-- nor of two that are narrowed
+pub narrowed_in_order : (w d : ℕ) (x y r s : ℤ) → 0 < w → 0 < d → IsNarrowed w x d r → IsNarrowed w y d s → x ≤ℤ y
+    → FitsBits w (up x d) → FitsBits w (up y d) → r ≤ℤ s
+narrowed_in_order w d x y r s wide some first second order fits_r fits_s =
+    let kept_r : r ≡ up x d = first.is ∙ wrap-fits w (up x d) wide fits_r in
+    let kept_s : s ≡ up y d = second.is ∙ wrap-fits w (up y d) wide fits_s in
+    rw (kept_r, kept_s) (up_monotone (up_is x d some) (up_is y d some) order)
+
+-- nor of two that are rounded to integers
+pub rounded_in_order : (w f : ℕ) (x y r s : ℤ) → 0 < w → IsNearestWhole w f x r → IsNearestWhole w f y s → x ≤ℤ y
+    → FitsBits w (rounded f x) → FitsBits w (rounded f y) → r ≤ℤ s
+rounded_in_order w f x y r s wide first second order fits_r fits_s =
+    let kept_r : r ≡ rounded f x = first.is ∙ wrap-fits w (rounded f x) wide fits_r in
+    let kept_s : s ≡ rounded f y = second.is ∙ wrap-fits w (rounded f y) wide fits_s in
+    let whole = up_monotone (up_is x (2 ^ f) (pow_pos f)) (up_is y (2 ^ f) (pow_pos f)) order in
+    rw (kept_r, kept_s) (times_monotone _ _ (2 ^ f) whole)
+
+-- ---- opposites
+
+-- the opposite of a fraction rounds to the opposite number
+pub near-neg : (n : ℤ) (d : ℕ) → 0 < d → near (neg_ℤ n) d ≡ neg_ℤ (near n d)
+near-neg n d some =
+    let h = near_is n d some in
+    let turned = neg-times (near n d) d in
+    let size : unsigned_abs (neg_ℤ (near n d)) ≡ unsigned_abs (near n d) = omega (arith, ints) in
+    sym (near_gives (neg_ℤ n) d (neg_ℤ (near n d)) some (record {
+      close = omega (arith, ints, turned, h.close);
+      away = λ tie. rw size (omega (arith, ints, h.away (omega (arith, ints, turned, tie))));
+    }))
+
+-- wrapping an opposite
+wrap-neg : (w : ℕ) (z : ℤ) → 0 < w → wrap w (neg_ℤ (wrap w z)) ≡ wrap w (neg_ℤ z)
+wrap-neg w z wide =
+    let given = wrap_is w z wide in
+    let turned = neg-times given.turns (2 ^ w) in
+    wrap_same w (neg_ℤ (wrap w z)) (neg_ℤ z) given.turns wide (omega (arith, ints, given.differs, turned))
+
+opposite_factor : (x y : ℤ) → neg_ℤ x *ℤ y ≡ neg_ℤ (x *ℤ y)
+opposite_factor x (pos d) = neg-times x d
+opposite_factor x (negsuc d) = grind (arith, nat_tests, *ℤ-negsuc, neg-times, neg_ℤ-neg_ℤ)
+
+-- the product by the opposite of a number is the opposite, wrapped
+pub product_of_opposite : (w f : ℕ) (x y r s : ℤ) → 0 < w → IsProduct w f x y r → IsProduct w f (neg_ℤ x) y s
+    → s ≡ wrap w (neg_ℤ r)
+product_of_opposite w f x y r s wide first second =
+    second.is ∙ ap (λ n. wrap w (near n (2 ^ f))) (opposite_factor x y)
+    ∙ ap (wrap w) (near-neg (x *ℤ y) (2 ^ f) (pow_pos f)) ∙ sym (wrap-neg w (near (x *ℤ y) (2 ^ f)) wide)
+    ∙ ap (λ n. wrap w (neg_ℤ n)) (sym first.is)
+
+-- ---- for callers
+pub ruleset order_calls = (scaled_in_order, narrowed_in_order, rounded_in_order)
