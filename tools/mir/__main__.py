@@ -1,8 +1,10 @@
 """Compares the MIR that was proved with the MIR that rustc compiles from the erased Rust.
 
-`python3 tools/mir`, after `rt ci`, or after `rt lib` in the crates of `PACKAGES`. Both are run on
-every path: there both have the same calls, in the same order, with the same operands, the same
-stores and the same result, under the same conditions, and Rust nothing more that may panic.
+`python3 tools/mir [FOLDER]`, with the MIR that `rt` left in `crates/*/out/rlib`, and the Rust of
+this repository or of a copy. Each function with code on either side has the same calls in the same
+order, operands, stores and result, under the same conditions, on every path; and Rust computes
+nothing that may panic and that Rattle does not compute and prove. `std.py` lists what has another
+form on either side, `names.py` what is on one side alone.
 """
 
 import collections
@@ -11,7 +13,6 @@ import re
 import subprocess
 import sys
 import tempfile
-import time
 from pathlib import Path
 
 import compiled
@@ -21,38 +22,48 @@ from callees import Callees
 from names import Names
 from paths import Differs, explore
 
-ROOT = Path(os.environ.get("ROOT") or Path(__file__).resolve().parents[2]).resolve()
-W = Path(os.environ.get("W", ROOT))
+ROOT = Path(__file__).resolve().parents[2]
 RUSTC = "1.95"
 
 # Without optimizations of MIR, which are trusted as LLVM is.
 FLAGS = "--emit=mir -Cpanic=abort -Coverflow-checks=off -Zmir-opt-level=0 -Zinline-mir=no"
 FLAGS += " -Ztrim-diagnostic-paths=no"
 
-# The packages that cargo compiles: a folder, a target of it, and where the erased crates are.
-PACKAGES = [(".", "--lib", "src/generated"), (".", "--example=instance", "examples/proved")]
+# What cargo compiles: a package, a target of it, the folder of erased crates, and their module.
+PACKAGES = (
+    (".", "--lib", "src/generated", ""),
+    (".", "--example=instance", "examples/proved", "proved"),
+    ("c", "--lib", "c/src/generated", ""),
+)
+
+# How many functions one side alone has, by the rule of `names.py`.
+ONE_SIDED = {
+    "a constant, in Rust": 110,
+    "an impl's copy of a trait's default, in Rattle": 78,
+    "another trait of a closure, in Rattle": 11,
+    "declared by a trait or dropped, in Rattle": 33,
+    "derived `Clone` or `Eq`, in Rust": 58,
+    "of a module that is left out, in Rattle": 48,
+    "the constructor of a tuple, in Rust": 20,
+}
 
 
 class Sources:
-    """The erased files, by the crates and modules of Rattle that they are of."""
+    """The erased files, and of which crates and modules of Rattle they are."""
 
     def __init__(self, root):
         self.crates, self.modules, self.lines, self.files = {}, set(), {}, {}
-        for folder in (it[2] for it in PACKAGES):
-            for path in (root / folder).rglob("*.rs"):
-                text = path.read_text()
-                place = str(path.relative_to(root))
-                head = re.match(r"// @generated from crates/(\w+)/src/(.*)\.rt ", text)
+        for folder, module in (it[2:] for it in PACKAGES):
+            for path in sorted((root / folder).rglob("*.rs")):
+                place, text = str(path.relative_to(root)), path.read_text()
                 self.lines[place] = text.split("\n")
-                module = list(path.relative_to(root / folder).with_suffix("").parts)
-                module = module if module[-1] != "mod" else module[:-1]
-                if folder.startswith("examples"):
-                    module = ["proved", *module]
-                self.files["::".join(module)] = place
+                parts = path.relative_to(root / folder).with_suffix("").parts
+                parts = [it for it in (module, *parts) if it not in ("", "mod")]
+                self.files["::".join(parts)] = place
+                head = re.match(r"// @generated from crates/(\w+)/src/(.*)\.rt ", text)
                 if head:
                     self.modules.add("::".join(head[1].split() + head[2].split("/")))
-                    if head[2] == "lib":
-                        self.crates[path.parent.name] = head[1]
+                    self.crates.update({parts[0]: head[1]} if head[2] == "lib" else {})
         self.text = "\n".join("\n".join(it) for it in self.lines.values())
 
 
@@ -65,47 +76,71 @@ def printed(root, package, target):
         folder = "examples" if "example" in target else "deps"
         (file,) = Path(room, "debug", folder).glob("*.mir")
         text = re.sub(r"\bfont_types_proved::(?=[A-Z])", "font_types::", file.read_text())
+    if package != ".":
+        text = re.sub(r"(@| at )src/(?:\.\./\.\./)?", rf"\1{package}/src/", text)
     return text.replace("font_types_proved::", "").replace("std::", "core::")
 
 
-def main():
-    begun = time.time()
-    facts.test()
-    sys.setrecursionlimit(20000)
-    sources = Sources(ROOT)
-    text = compiled.Text(["\n".join(it) for it in sources.lines.values()])
-    for package, target, _ in PACKAGES:
-        text.read(printed(ROOT, package, target), lambda it: it.split("::")[0] in sources.crates)
-    files = [W / f"crates/{it}/out/rlib/{it}.rlib/toolchain/mir.json" for it in sources.crates.values()]
+def read(root):
+    """Returns the functions of both sides, and what says whether they call the same."""
+    sources = Sources(root)
+    text = compiled.Text(sources.lines.values())
+    for package, target, folder, module in PACKAGES:
+        names = {path.name for path in (root / folder).iterdir()}
+        is_kept = lambda it: it.split("::")[0] in ({module} if module else names)
+        text.read(printed(root, package, target), is_kept)
+    files = [ROOT / f"crates/{it}/out/rlib/{it}.rlib/toolchain/mir.json" for it in sources.crates.values()]
     library = proved.Library(files)
     names = Names(text, library, sources)
-    callees = Callees(names, sources, text)
-    only, found = sys.argv[1:], collections.Counter()
-    most = 0
+    return text, library, names, Callees(names, sources)
+
+
+def compare(text, library, names, callees):
+    """Yields each function of Rattle, or of Rust alone, and how it differs, or None."""
     for one, other in sorted(names.both.items()):
-        if only and not any(it in one for it in only):
-            continue
         try:
-            left = proved.Body(library, one)
             right = compiled.Body(text, other, names.generics(other))
-            most = max(most, explore(left, right, callees))
-            found["same"] += 1
+            explore(proved.Body(library, one), right, callees)
+            yield one, None
         except Differs as error:
-            found["differs"] += 1
-            print(f"differs {one} | {other}\n        {error}"[:1500], file=sys.stderr)
-        except Exception as error:
-            found["error"] += 1
-            if only: raise
-            tb = error.__traceback__
-            while tb.tb_next: tb = tb.tb_next
-            print(f"error {one} | {other}\n        {type(error).__name__} {error} {tb.tb_frame.f_code.co_filename.split('/')[-1]}:{tb.tb_lineno}"[:900], file=sys.stderr)
-    reasons, errors = names.alone()
-    for it, count in sorted(reasons.items()):
-        print(count, it)
-    for it in errors:
-        print("alone:", it)
-    print(dict(found), f"{time.time() - begun:.1f} s, at most {most} paths")
-    return 0
+            yield one, f"in Rust {other}\n    {error}"
+        except (ArithmeticError, AttributeError, LookupError, TypeError, ValueError) as error:
+            place = error.__traceback__
+            while place.tb_next:
+                place = place.tb_next
+            where = f"{Path(place.tb_frame.f_code.co_filename).name}:{place.tb_lineno}"
+            yield one, f"in Rust {other}\n    {type(error).__name__}: {error}, at {where}\n{ADVICE}"
+
+
+ADVICE = """    A form that is not read: teach it to `compiled.py` or `proved.py`, or `std.py` what it is."""
+
+
+def main():
+    version = subprocess.run(["rustc", "--version"], capture_output=True, text=True, check=True)
+    if not version.stdout.startswith(f"rustc {RUSTC}."):
+        print(f"left out: the comparison of MIR, which is for rustc {RUSTC}")
+        return 0
+    sys.setrecursionlimit(20000)
+    facts.test()
+    both = read(Path(sys.argv[1]).resolve() if sys.argv[1:] else ROOT)
+    same, total, errors = collections.Counter(), collections.Counter(), []
+    reasons, alone = both[2].alone()
+    for name, fault in [*compare(*both), *((it, "on one side alone") for it in alone)]:
+        crate = name.split("::")[0]
+        total[crate] += 1
+        same[crate] += not fault
+        errors += [f"{name}, {fault}"] if fault else []
+    for reason in sorted(ONE_SIDED.keys() | reasons.keys()):
+        count, expected = reasons.get(reason, 0), ONE_SIDED.get(reason, 0)
+        print(f"on one side alone: {count}, {reason}")
+        if count != expected:
+            errors.append(f"{count} functions, not {expected}, are {reason}")
+    for error in errors:
+        print(f"MIR that differs: {error}", file=sys.stderr)
+    crates = ", ".join(f"{it} {same[it]}" for it in sorted(total))
+    same, total = sum(same.values()), sum(total.values())
+    print(f"functions with the same MIR on every path: {same} of {total} ({crates})")
+    return min(len(errors), 1)
 
 
 sys.exit(main())

@@ -112,8 +112,8 @@ class Text:
         # By which path rustc calls a constant, with its type, as the names of both sides say.
         self.resolve = None
         self.used = set()
-        for text in sources:
-            self.declare(text)
+        for lines in sources:
+            self.declare("\n".join(lines))
 
     def declare(self, source):
         for name, inner in re.findall(r"^(?:pub )?enum (\w+)[^{]*\{$(.*?)^\}", source, re.M | re.S):
@@ -216,14 +216,16 @@ class Body:
 
     def arguments(self):
         """Returns the parameters of Rattle: for C, a slice is a pointer and its length."""
-        found, count = [], 0
-        for n in range(1, self.function["count"] + 1):
-            name, after = (self.function["names"].get(f"_{it}") for it in (n, n + 1))
-            if self.types[f"_{n}"].startswith("*") and after == f"{name}_len":
-                found += [("ptr_of", ("param", count)), length(("param", count))]
-            if len(found) < n:
-                found.append(("param", count))
-            count += len(found) == n or not self.types[f"_{n}"].startswith("*")
+        found, count, names_of = [], 0, self.function["names"]
+        while len(found) < self.function["count"]:
+            local, after = (f"_{len(found) + n}" for n in (1, 2))
+            one, count = ("param", count), count + 1
+            if not self.types[local].startswith("*"):
+                found.append(one)
+            elif names_of.get(after) == f"{names_of.get(local)}_len":
+                found += [("ptr_of", one), length(one)]
+            else:
+                raise ValueError(f"the pointer {local} without a length")
         return found
 
     def blocks_from(self, block):

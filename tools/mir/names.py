@@ -6,42 +6,93 @@ import re
 
 import compiled
 import proved
-from compiled import PLACE, closing, split
+from compiled import PLACE, closing, split, width
 from terms import UNIT
+
+
+def parse(text, aliases):
+    """Returns a type of Rust as a tree: its last name, and the types in it, without lifetimes."""
+    text = re.sub(r"^'\w+ ", "", text.strip())
+    if text.startswith("&"):
+        inner = re.sub(r"^&('\w+ )?", "", text)
+        kind = "&mut" if inner.startswith("mut ") else "&"
+        return (kind, parse(inner.removeprefix("mut "), aliases))
+    if text[0] in "[(":
+        parts = split(text[1:-1], ";" if text[0] == "[" else ",")
+        return ("[]" if text[0] == "[" else "()", *(parse(it, aliases) for it in parts))
+    if text[0] in "<{*" or text.startswith("fn("):
+        return ({"<": "associated", "{": "closure"}.get(text[0], "pointer"), text)
+    if text[0].isdigit():
+        return ("number", text.split("_")[0])
+    name = split(text, "::")[-1].split("<")[0] or compiled.last(text)
+    given = split(text[text.index("<") + 1 : -1]) if text.endswith(">") else ()
+    given = tuple(parse(it, aliases) for it in given if not it.startswith("'"))
+    if width(name):
+        return ("integer", name)
+    return aliases.get(name, (name,)) if not given else (name, *given)
+
+
+def unify(pattern, tree, variables, found):
+    """Returns whether a type is the pattern, with types for its variables."""
+    if isinstance(pattern, str) or isinstance(tree, str):
+        return pattern == tree
+    if len(pattern) == 1 and pattern[0] in variables:
+        return found.setdefault(pattern[0], tree) == tree
+    alike = len(pattern) == len(tree)
+    return alike and all(unify(a, b, variables, found) for a, b in zip(pattern, tree))
+
+
+def owners(tree, aliases):
+    """Returns the names that a type may have in the name of an impl, or of a module, of Rattle."""
+    kind = tree[0]
+    if kind in ("&", "&mut"):
+        return {"Ref" + it for it in owners(tree[1], aliases)}
+    if kind == "[]":
+        return {"slice", "Slice", "RefSlice", "array", "Array"} | {"Array" + it for it in owners(tree[1], {})}
+    if kind == "integer":
+        return {tree[1], tree[1].title()} | ({"bytes"} if tree[1] == "u8" else set())
+    if kind in ("()", "str"):
+        return {"str", "Str"} if kind == "str" else {"Tuple", "Unit"}
+    given = "".join(it for inner in tree[1:] for it in named(inner, aliases))
+    return {kind, kind + given} | {name for name, it in aliases.items() if it == tree}
+
+
+def named(tree, aliases):
+    return [name for name, it in aliases.items() if it == tree] or [str(tree[0])]
 
 
 class Impl:
     """The `impl`, or the name in a `derive`, at a place of the sources."""
 
-    def __init__(self, lines, first, column, last, end):
+    def __init__(self, aliases, lines, first, column, last, end):
         text = " ".join(lines[first - 1 : last])[column - 1 :]
         self.derived, self.generics = not text.startswith("impl"), []
         if self.derived:
             pattern = r"\s*(?:pub(?:\(.*?\))? )?(?:struct|enum) (\w+)(<.*?>)?"
             found = next(filter(None, (re.match(pattern, it) for it in lines[first - 1 :])))
-            self.trait, self.of = text[: end - column], found[1]
-            self.generics = parameters(found[2] or "<>")
+            self.trait, self.generics = text[: end - column], parameters(found[2] or "<>")
+            self.trees = (found[1], *((it,) for it in self.generics)), (self.trait,)
             return
         text = re.sub(r" where .*| \{.*", "", re.sub(r"\s+", " ", text))[4:]
         if text.startswith("<"):
             n = closing(text[1:]) + 2
             self.generics, text = parameters(text[:n]), text[n:]
-        trait, _, of = text.strip().rpartition(" for ")
-        self.trait, self.of = trait.strip(), of.strip()
+        self.trait, _, of = (it.strip() for it in text.strip().rpartition(" for "))
+        of, trait = parse(of, aliases), parse(self.trait, aliases) if self.trait else None
+        if trait:
+            trait = tuple(of if it == ("Self",) else it for it in trait)
+        self.trees = of, trait
 
-    def likeness(self, owner):
+    def likeness(self, owner, aliases):
         """Returns whether a name of Rattle may be that of this `impl`, and whether it surely is."""
-        of = re.sub(r"^&('\w+ )?(mut )?", "Ref", self.of)
-        array = re.match(r"(Ref)?\[(\w+);", of)
-        base = f"{array[1] or ''}Array{array[2]}" if array else re.sub(r"<.*", "", of).split("::")[-1]
-        trait = re.sub(r"<.*", "", self.trait)
-        given = re.findall(r"\w+", self.trait[len(trait) :])
-        given = "".join("Any" if len(it) == 1 else it for it in given)
-        pattern = f"{re.escape(base)}(Any)?{trait.split('::')[-1]}(Tuple2)?(.*)$"
-        rest = re.match(pattern, owner, re.IGNORECASE)
-        if not rest or not trait and rest[3]:
-            return 0
-        return 2 if rest[3].lower() == given.lower() else 1
+        of, trait = self.trees
+        found = owners(of, aliases)
+        if not trait:
+            return 2 * (owner in found or owner.removesuffix("Any") in found)
+        base = "|".join(map(re.escape, sorted(found, key=len, reverse=True)))
+        rest = re.match(rf"(?:{base})(?:Any)?{trait[0]}(?:Tuple2)?(.*)$", owner)
+        given = "".join("Any" if len(it[0]) == 1 else it[-1] if it[0] == "integer" else named(it, aliases)[0] for it in trait[1:])
+        return 0 if not rest else 2 if rest[1].lower() == given.lower() else 1
 
 
 def parameters(text):
@@ -67,13 +118,19 @@ class Names:
         self.ours = [it for it in library.bodies if not is_declared(it)]
         inner = ("{constant", "promoted[", "{closure")
         self.theirs = [it for it in text.functions if not any(part in it for part in inner)]
+        self.constants = [it for it in self.theirs if not it.endswith("()")]
+        self.aliases = {}
+        for name, of in re.findall(r"^pub type (\w+) = (.+);", sources.text, re.M):
+            self.aliases[name] = parse(of, {})
         self.impls = {it: self.impl_at(it) for it in self.theirs}
         self.both = self.pairs()
         self.closures_of_both()
 
     def impl_at(self, name):
         place = PLACE.search(name)
-        return Impl(self.sources.lines[place[1]], *map(int, place.groups()[1:])) if place else None
+        if not place:
+            return None
+        return Impl(self.aliases, self.sources.lines[place[1]], *map(int, place.groups()[1:]))
 
     def generics(self, name):
         """Returns the parameters of a function of Rust, after those of its `impl` or trait."""
@@ -112,7 +169,7 @@ class Names:
         for one, other in itertools.chain(*(itertools.product(*it) for it in groups.values())):
             impl, owner = self.impls[other], plain(one).split("::")[-2]
             named = 1 + (other.split("::")[-2] == owner)
-            score = impl.likeness(owner) if impl else named
+            score = impl.likeness(owner, self.aliases) if impl else named
             scores += [(score, one, other)] * (score > 0)
         found, taken = {}, set()
         for _, one, other in sorted(scores, reverse=True):

@@ -130,7 +130,7 @@ class Path:
                 raise Differs(f"may panic in Rust alone: {extra}")
             answer = None
             if one[0] == "call":
-                self.callees.require(one[1], other[1], self)
+                self.callees.require(one[1], other[1], self.left)
                 sides = one[2], other[2]
                 if one[1][0] in THROUGH:
                     sides = (tuple(map(referred, it)) for it in sides)

@@ -67,6 +67,11 @@ def into_iter(body, found, terms):
     yield
 
 
+def iter_mut(body, found, terms):
+    return ("iter", terms[0], number(0, 64))
+    yield
+
+
 def next_of_slice(body, found, terms):
     place = place_of(terms[0])
     state = body.memory.read(place)
@@ -180,8 +185,10 @@ RUST = [(re.compile(pattern), reason, run) for pattern, reason, run in (
      "an operator of integers", integers_equal),
     (rf"<{ARRAY} as core::ops::Index(?:Mut)?<core::ops::(Range|RangeFrom|RangeTo)<usize>>>"
      r"::index(?:_mut)?", "a pointer to the first element with a length in Rattle", sliced),
-    (rf"<(&(?:mut )?{ARRAY}|core::ops::Range<\w+>) as core::iter::IntoIterator>::into_iter",
+    (rf"<(&(?:mut )?{ARRAY}|core::(?:ops::Range<\w+>|slice::IterMut<.*>)) as core::iter::IntoIterator>"
+     r"::into_iter",
      "a `for`, which is a loop over indices in Rattle", into_iter),
+    (r"core::slice::<impl \[.*\]>::iter_mut", "a `for`, as above", iter_mut),
     (r"<core::slice::Iter(?:Mut)?<.*> as core::iter::Iterator>::next",
      "a `for`, as above", next_of_slice),
     (rf"<core::ops::Range<{INT}> as core::iter::Iterator>::next", "a `for`", next_of_range),
