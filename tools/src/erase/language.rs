@@ -55,8 +55,8 @@ impl Eraser<'_> {
             ["fn", name, ..] if is_inner && name != "(" => "a function within another",
             ["type", _, "=", _, "<", _, ">", ";", ..] => return Ok(()),
             ["type", ..] if self.depth == 0 => "another alias than `X = Y<n>`",
-            // Rattle's ends below the top of its type. That of `bytes.get(n..)?` is an index.
-            [".", ".", ")", "?", ..] => return Ok(()),
+            // Rattle's ends below the top of its type. That of `bytes.get(n..)` is an index.
+            [".", ".", ")", ..] if is_index(before) => return Ok(()),
             [".", ".", ")" | "}" | "{" | ";" | ",", ..] if !is_pattern => "a range with no end",
             ["use", ..] if self.words[at..self.item_end(at)?].contains(&"*") => "an import of all",
             ["use", ..] if self.words[at..self.item_end(at)?].contains(&"as") => "another name",
@@ -81,7 +81,7 @@ impl Eraser<'_> {
             ["Hasher", "for", ..] => "a `Hasher` of one's own",
             // Rattle does not read it if each field is written: `..v[n]` may be past the end.
             [",", ".", ".", name, next, ..]
-                if !(matches!(name, "}" | "]" | ")" | "=")
+                if !(matches!(name, "," | "}" | "]" | ")" | "=")
                     || is_name(name) && matches!(next, "}" | "]" | ")")) =>
             {
                 "a base or an end of a range that is not a name"
@@ -190,6 +190,17 @@ impl Eraser<'_> {
 fn is_item(words: &[&str], at: usize) -> bool {
     let types = [">", ":", "&", "(", ",", "<", "=", "+"];
     at == 0 || !types.contains(&words[at - 1])
+}
+
+// Whether these words end within the argument of a `get`.
+fn is_index(words: &[&str]) -> bool {
+    let mut depth = 0;
+    let open = words.iter().rposition(|word| {
+        depth += i32::from(matches!(*word, ")" | "]" | "}"));
+        depth -= i32::from(matches!(*word, "(" | "[" | "{"));
+        depth < 0
+    });
+    open.is_some_and(|open| words[..open].ends_with(&[".", "get"]))
 }
 
 // The first names of paths in the crates.
