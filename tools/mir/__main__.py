@@ -8,6 +8,7 @@ form on either side, `names.py` what is on one side alone.
 """
 
 import collections
+import json
 import os
 import re
 import subprocess
@@ -38,7 +39,8 @@ PACKAGES = (
 
 # How many functions one side alone has, by the rule of `names.py`.
 ONE_SIDED = {
-    "a constant, in Rust": 110,
+    "a constant that a function uses, in Rust": 31,
+    "a constant that none uses, in Rust": 79,
     "an impl's copy of a trait's default, in Rattle": 78,
     "another trait of a closure, in Rattle": 11,
     "declared by a trait or dropped, in Rattle": 33,
@@ -46,6 +48,10 @@ ONE_SIDED = {
     "of a module that is left out, in Rattle": 48,
     "the constructor of a tuple, in Rust": 20,
 }
+
+# What a reader says of a form that is none of its own.
+FAULTS = (ArithmeticError, AttributeError, LookupError, TypeError, ValueError)
+ADVICE = "a form that is not read: teach it to compiled.py or proved.py, or std.py what it is"
 
 
 class Sources:
@@ -86,33 +92,48 @@ def read(root):
     sources = Sources(root)
     text = compiled.Text(sources.lines.values())
     for package, target, folder, module in PACKAGES:
-        names = {path.name for path in (root / folder).iterdir()}
-        is_kept = lambda it: it.split("::")[0] in ({module} if module else names)
-        text.read(printed(root, package, target), is_kept)
-    files = [ROOT / f"crates/{it}/out/rlib/{it}.rlib/toolchain/mir.json" for it in sources.crates.values()]
-    library = proved.Library(files)
+        crates = {module} if module else {it.name for it in (root / folder).iterdir()}
+        text.read(printed(root, package, target), crates)
+    crates = [f"{it}/out/rlib/{it}.rlib/toolchain/mir.json" for it in sources.crates.values()]
+    library = proved.Library([ROOT / "crates" / it for it in crates])
     names = Names(text, library, sources)
-    return text, library, names, Callees(names, sources)
+    return text, library, names, Callees(names)
 
 
 def compare(text, library, names, callees):
-    """Yields each function of Rattle, or of Rust alone, and how it differs, or None."""
+    """Yields each function of both sides, and how it differs, or None."""
     for one, other in sorted(names.both.items()):
+        fault = None
         try:
             right = compiled.Body(text, other, names.generics(other))
             explore(proved.Body(library, one), right, callees)
-            yield one, None
         except Differs as error:
-            yield one, f"in Rust {other}\n    {error}"
-        except (ArithmeticError, AttributeError, LookupError, TypeError, ValueError) as error:
-            place = error.__traceback__
-            while place.tb_next:
-                place = place.tb_next
-            where = f"{Path(place.tb_frame.f_code.co_filename).name}:{place.tb_lineno}"
-            yield one, f"in Rust {other}\n    {type(error).__name__}: {error}, at {where}\n{ADVICE}"
+            fault = f"{error}"
+        except FAULTS as error:
+            fault = f"{type(error).__name__}: {error}\n    {ADVICE}"
+        yield one, fault and f"in Rust {other}\n    {fault}"
 
 
-ADVICE = """    A form that is not read: teach it to `compiled.py` or `proved.py`, or `std.py` what it is."""
+def report(root):
+    """Compares all functions, and returns how many differ, or are on one side without a reason."""
+    text, library, names, callees = read(root)
+    compared = [*compare(text, library, names, callees)]
+    reasons, alone = names.alone()
+    compared += [(name, "on one side alone") for name in alone]
+    errors = [f"{name}, {fault}" for name, fault in compared if fault]
+    for reason in sorted(ONE_SIDED.keys() | reasons.keys()):
+        count, expected = reasons.get(reason, 0), ONE_SIDED.get(reason, 0)
+        print(f"on one side alone: {count} times {reason}")
+        if count != expected:
+            errors.append(f"{count} functions, not {expected}, are {reason}")
+    for error in errors:
+        print(f"MIR that differs: {error}", file=sys.stderr)
+    total = collections.Counter(name.split("::")[0] for name, _ in compared)
+    same = collections.Counter(name.split("::")[0] for name, fault in compared if not fault)
+    crates = ", ".join(f"{it} {same[it]} of {count}" for it, count in sorted(total.items()))
+    count = f"{same.total()} of {total.total()}"
+    print(f"functions with the same MIR on every path: {count} ({crates})")
+    return len(errors)
 
 
 def main():
@@ -122,25 +143,15 @@ def main():
         return 0
     sys.setrecursionlimit(20000)
     facts.test()
-    both = read(Path(sys.argv[1]).resolve() if sys.argv[1:] else ROOT)
-    same, total, errors = collections.Counter(), collections.Counter(), []
-    reasons, alone = both[2].alone()
-    for name, fault in [*compare(*both), *((it, "on one side alone") for it in alone)]:
-        crate = name.split("::")[0]
-        total[crate] += 1
-        same[crate] += not fault
-        errors += [f"{name}, {fault}"] if fault else []
-    for reason in sorted(ONE_SIDED.keys() | reasons.keys()):
-        count, expected = reasons.get(reason, 0), ONE_SIDED.get(reason, 0)
-        print(f"on one side alone: {count}, {reason}")
-        if count != expected:
-            errors.append(f"{count} functions, not {expected}, are {reason}")
-    for error in errors:
-        print(f"MIR that differs: {error}", file=sys.stderr)
-    crates = ", ".join(f"{it} {same[it]}" for it in sorted(total))
-    same, total = sum(same.values()), sum(total.values())
-    print(f"functions with the same MIR on every path: {same} of {total} ({crates})")
-    return min(len(errors), 1)
+    try:
+        return min(report(Path(sys.argv[1]).resolve() if sys.argv[1:] else ROOT), 1)
+    except FileNotFoundError as error:
+        print(f"{error.filename} is missing: run `rt lib` in font_types and variations, and in", file=sys.stderr)
+        print("font_c by a crates.txt without `staticlib`, as `.ci/run` does", file=sys.stderr)
+    except (json.JSONDecodeError, *FAULTS) as error:
+        print(f"{type(error).__name__}: {error}\n{ADVICE}", file=sys.stderr)
+    return 1
 
 
-sys.exit(main())
+if __name__ == "__main__":
+    sys.exit(main())

@@ -5,19 +5,18 @@ import ast
 import functools
 import re
 
-from std import RUST
-from terms import FALSE, TRUE, UNIT, Memory, amount, at, cast, compared, length, may_panic
-from terms import negated, number, of_parts, operation, place_of, pointer, value
+from std import RUST, known
+from terms import FALSE, TRUE, UNIT, Memory, at, cast, compared, length, may_panic, negated, number
+from terms import of_parts, operation, place_of, pointer, tag, text_of, value
 
 PLACE = re.compile(r"<impl at ([^:>]*):(\d+):(\d+): (\d+):(\d+)>")
 CLOSURE = re.compile(r"\{closure@([^}]*)\}")
-OPERATOR = re.compile(
-    r"(Not|Neg|Add|Sub|Mul|Div|Rem|BitAnd|BitOr|BitXor|Shl|Shr|Eq|Ne|Lt|Le|Gt|Ge)\((.*)\)$"
-)
+OPERATORS = "Not|Neg|Add|Sub|Mul|Div|Rem|BitAnd|BitOr|BitXor|Shl|Shr|Eq|Ne|Lt|Le|Gt|Ge"
 CALL = re.compile(r"(.+?) = (.*\)) -> (?:\[return: (bb\d+), unwind [^]]*\]|unwind .*|bb\d+);$")
 IGNORED = re.compile(r"Storage(Live|Dead)\(_\d+\);|ConstEvalCounter;|nop;|debug |scope \d+ \{|\}")
+LIMIT = re.compile(r"(?:core::num::<impl )?([iu]\w+?)>?::(MIN|MAX|BITS)")
 
-# An assertion for an operator, which has a check of its own; and that of an index.
+# What is asserted before a division, which has a check of its own; and before an index.
 ASSERTED = re.compile(
     r'assert\(!move _\d+, "attempt to (?:divide `\{\}` by zero|calculate the remainder of `\{\}` '
     r'with a divisor of zero|compute `\{\} [/%] \{\}`, which would overflow)", .*success: (bb\d+)'
@@ -27,22 +26,17 @@ INDEX = re.compile(
     r"(.*), (.*)\) -> \[success: (bb\d+), "
 )
 
-# The variants of enums of `core`, of which those of `Ordering` have other values.
+# What `core` declares: of enums the variants, and the discriminants if they are others.
 VARIANTS = {
     "Option": ["None", "Some"], "Result": ["Ok", "Err"], "ControlFlow": ["Continue", "Break"],
     "Ordering": ["Less", "Equal", "Greater"],
 }  # fmt: skip
-STRUCTS = ["Range", "RangeFrom", "RangeTo", "PhantomData"]
+STRUCTS = {"Range", "RangeFrom", "RangeTo", "PhantomData"}
 
 
 def width(name):
     found = re.match(r"[iu](8|16|32|64|128|size)$", name)
     return {"bool": 1, "char": 32}.get(name) or found and int(found[1].replace("size", "64"))
-
-
-def integer(name):
-    """Returns an integer type with its sign and width, as `u64` for `usize` or `Usize`."""
-    return f"{'i' if name[0] in 'iI' else 'u'}{width(name.lower())}"
 
 
 @functools.cache
@@ -71,16 +65,9 @@ def split(text, at_text=","):
     return tuple(it for it in (*parts, text[start:].strip()) if it)
 
 
-def closing(text):
-    """Returns the place of the bracket that closes one before the text."""
-    depth = 0
-    for n, it in enumerate(text):
-        depth += it in "([{<"
-        if it in ")]}" or it == ">" and text[n - 1] not in "-=":
-            if depth == 0:
-                return n
-            depth -= 1
-    raise ValueError(f"no bracket closes {text}")
+def bracketed(text):
+    """Returns a text up to the bracket that closes the one with which it begins."""
+    return text[: outside(text)[1] + 1] if len(outside(text)) > 1 else text
 
 
 @functools.cache
@@ -103,201 +90,182 @@ def unreferenced(of):
     return re.sub(r"^&('\w+ )?(mut )?", "", of.strip())
 
 
-class Text:
-    """The functions and constants of some packages, and what their sources declare."""
+class Function:
+    """A function or a constant, with its types and blocks."""
 
-    def __init__(self, sources):
-        self.variants, self.values, self.structs = dict(VARIANTS), {"Ordering": [-1, 0, 1]}, {}
-        self.functions, self.closures, self.constants = {}, {}, {}
-        # By which path rustc calls a constant, with its type, as the names of both sides say.
-        self.resolve = None
-        self.used = set()
-        for lines in sources:
-            self.declare("\n".join(lines))
-
-    def declare(self, source):
-        for name, inner in re.findall(r"^(?:pub )?enum (\w+)[^{]*\{$(.*?)^\}", source, re.M | re.S):
-            self.variants[name] = re.findall(r"^    (\w+)", inner, re.M)
-            if re.search(r"^    \w+ = -?\d+,", inner, re.M):
-                self.values[name], now = [], -1
-                for given in re.findall(r"^    \w+(?: = (-?\d+))?", inner, re.M):
-                    now = int(given) if given else now + 1
-                    self.values[name].append(now)
-        for name in re.findall(r"^(?:pub(?:\(.*?\))? )?struct (\w+)", source, re.M):
-            self.structs[name] = True
-        for name, of in re.findall(r"\bconst (\w+): ([^=;]+)(?: =|;)", source):
-            self.constants.setdefault(name, set()).add(of)
-
-    def read(self, text, is_kept):
-        """Reads what rustc prints of one package; of names that are kept, each has one text."""
-        again, name = False, None
-        for line in text.splitlines():
-            if line == "// MIR FOR CTFE":
-                again = True
-            elif line.startswith("alloc") or line.startswith("}"):
-                name = None
-            elif line[:1] not in (" ", "/", ""):
-                name, function = self.header(line)
-                if again and name.endswith("()") or not is_kept(name):
-                    name = None
-                elif name in self.functions:
-                    raise ValueError(f"two functions are printed as {name}")
-                else:
-                    self.functions[name] = function
-                again = False
-            elif name and line.startswith(" "):
-                self.line(self.functions[name], line.strip())
-
-    def header(self, line):
+    def __init__(self, line):
         kind, _, rest = line.partition(" ")
-        if kind not in ("fn", "const", "static"):
-            kind, rest = "const", line
-        name = head(rest)
-        rest = rest[len(name) :]
-        function = {"types": {}, "blocks": {}, "now": None, "name": name, "names": {}}
+        kind, rest = (kind, rest) if kind in ("fn", "const", "static") else ("const", line)
+        self.path = head(rest)
+        self.name = self.path + "()" * (kind == "fn")
+        self.types, self.blocks, self.now, self.names, self.heads = {}, {}, None, {}, None
+        rest = rest[len(self.path) :]
         if kind == "fn":
-            given = rest[1 : next(n for n in outside(rest) if rest[n] == ")")]
-            function["types"] = dict(it.split(": ", 1) for it in split(given))
-            closure = CLOSURE.search(next(iter(function["types"].values()), ""))
-            name += "()"
-            if name.endswith("}()") and closure:
-                self.closures.setdefault(closure[1], name)
-        else:
-            function["types"]["_0"] = re.sub(r" = .*| \{$", "", rest[2:])
-            if not line.endswith("{"):
-                function["blocks"] = {"bb0": [f"_0 = {rest.split(' = ', 1)[1]}", "return;"]}
-        function["count"] = len(function["types"]) if kind == "fn" else 0
-        return name, function
+            self.types = dict(it.split(": ", 1) for it in split(bracketed(rest)[1:-1]))
+        self.count = len(self.types)
+        if kind != "fn":
+            self.types["_0"] = re.sub(r" = .*| \{$", "", rest[2:])
+        if kind != "fn" and not line.endswith("{"):
+            self.blocks = {"bb0": [f"_0 = {rest.split(' = ', 1)[1]}", "return;"]}
 
-    def line(self, function, line):
+    def read(self, line):
         local = re.match(r"let (?:mut )?(_\d+): (.*);", line)
         block = re.match(r"(bb\d+)(?: \(cleanup\))?: \{", line)
         named = re.match(r"debug (\w+) => (_\d+);", line)
         if local:
-            function["types"][local[1]] = local[2]
+            self.types[local[1]] = local[2]
         elif named:
-            function["names"][named[2]] = named[1]
+            self.names[named[2]] = named[1]
         elif block:
-            function["now"] = function["blocks"].setdefault(block[1], [])
+            self.now = self.blocks.setdefault(block[1], [])
         elif not IGNORED.match(line):
-            function["now"].append(line)
+            self.now.append(line)
+
+    def loop_heads(self):
+        """Returns the blocks at which loops begin: those that a block after them goes back to."""
+        found, state = set(), {}
+
+        def visit(block):
+            state[block] = "open"
+            for line in self.blocks.get(block, ())[-1:]:
+                for after in re.findall(r"\bbb\d+", line.split(" -> ")[-1]):
+                    if state.get(after) == "open":
+                        found.add(after)
+                    elif after not in state:
+                        visit(after)
+            state[block] = "closed"
+
+        if self.heads is None:
+            visit("bb0")
+            self.heads = found
+        return self.heads
+
+
+class Text:
+    """The functions and constants of some packages, and what their sources declare."""
+
+    def __init__(self, sources):
+        self.variants, self.values, self.structs = dict(VARIANTS), {"Ordering": [-1, 0, 1]}, STRUCTS
+        self.functions, self.closures, self.constants, self.used = {}, {}, {}, set()
+        self.resolve = None  # which constant a path names
+        for lines in sources:
+            self.declare("\n".join(lines))
+
+    def declare(self, source):
+        enums = re.findall(r"^(?:pub )?enum (\w+)[^{]*\{$(.*?)^\}", source, re.M | re.S)
+        structs = re.findall(r"^(?:pub(?:\(.*?\))? )?struct (\w+)", source, re.M)
+        for name in [*structs, *(it[0] for it in enums)]:
+            if name in self.structs or name in self.variants:
+                raise ValueError(f"two types are named {name}")
+            self.structs = self.structs | ({name} & set(structs))
+        for name, inner in enums:
+            found = re.findall(r"^    (\w+)(?: = (-?\d+))?", inner, re.M)
+            self.variants[name], values = [it for it, _ in found], []
+            for _, given in found:
+                values.append(int(given) if given else (values or [-1])[-1] + 1)
+            self.values.update({name: values} if any(it for _, it in found) else {})
+        for name, of in re.findall(r"\bconst (\w+): ([^=;]+)(?: =|;)", source):
+            self.constants.setdefault(name, set()).add(of)
+
+    def read(self, text, crates):
+        """Reads what rustc prints of these crates in one package, each function once."""
+        again, function = False, None
+        for line in text.splitlines():
+            if line == "// MIR FOR CTFE":
+                again = True
+            elif line.startswith(("alloc", "}")):
+                function = None
+            elif line[:1] not in (" ", "/", ""):
+                function = Function(line)
+                closure = CLOSURE.search(function.types.get("_1", ""))
+                if function.name.endswith("}()") and closure:
+                    self.closures.setdefault(closure[1], function.name)
+                if again and function.name.endswith("()") or names(function.path)[0] not in crates:
+                    function = None
+                elif function.name in self.functions:
+                    raise ValueError(f"two functions are printed as {function.name}")
+                else:
+                    self.functions[function.name] = function
+                again = False
+            elif function and line.startswith(" "):
+                function.read(line.strip())
 
 
 class Body:
     def __init__(self, text, name, generics=()):
-        self.text, self.name, self.function = text, name, text.functions[name]
-        self.types, self.blocks = self.function["types"], self.function["blocks"]
-        self.generics = generics
-        self.heads = self.loop_heads()
-
-    def loop_heads(self):
-        """Returns the blocks at which loops begin: those that a block after them goes back to."""
-        heads, state = set(), {}
-
-        def visit(block):
-            state[block] = 1
-            for line in self.blocks.get(block, ())[-1:]:
-                line = line.split(" -> ")[-1] if " -> " in line else line
-                for after in re.findall(r"bb\d+", line):
-                    if state.get(after) == 1:
-                        heads.add(after)
-                    elif after not in state:
-                        visit(after)
-            state[block] = 2
-
-        visit("bb0")
-        return heads
+        self.text, self.function, self.generics = text, text.functions[name], generics
+        self.types, self.blocks = self.function.types, self.function.blocks
 
     def run(self):
-        self.memory, self.enums = Memory(self.arguments()), {}
-        yield from self.blocks_from("bb0")
-        result = self.memory.read((("loc", 0), ()))
-        yield ("return", self.memory.seen(result))
+        self.begin(self.arguments())
+        yield from self.statements()
+        yield ("return", self.memory.seen(self.memory.read((("loc", 0), ()))))
+
+    def begin(self, arguments):
+        # Of which enum locals have the discriminant.
+        self.memory, self.enums, self.enum = Memory(arguments), {}, None
 
     def arguments(self):
         """Returns the parameters of Rattle: for C, a slice is a pointer and its length."""
-        found, count, names_of = [], 0, self.function["names"]
-        while len(found) < self.function["count"]:
-            local, after = (f"_{len(found) + n}" for n in (1, 2))
-            one, count = ("param", count), count + 1
-            if not self.types[local].startswith("*"):
-                found.append(one)
-            elif names_of.get(after) == f"{names_of.get(local)}_len":
-                found += [("ptr_of", one), length(one)]
-            else:
+        found, count = [], 0
+        while len(found) < self.function.count:
+            local, after = (self.function.names.get(f"_{len(found) + n}") for n in (1, 2))
+            is_pointer = self.types[f"_{len(found) + 1}"].startswith("*")
+            if is_pointer and after != f"{local}_len":
                 raise ValueError(f"the pointer {local} without a length")
+            one, count = ("param", count), count + 1
+            found += [("ptr_of", one), length(one)] if is_pointer else [one]
         return found
 
-    def blocks_from(self, block):
+    def statements(self):
+        block = "bb0"
         while block:
-            if block in self.heads:
-                yield ("head", block, None)
+            if block in self.function.loop_heads():
+                yield ("head", block)
             block = yield from self.block(block)
 
     def block(self, name):
         """Runs a block, and returns the next one, or None after the last."""
         for line in self.blocks[name]:
-            kind = re.match(r"(goto|switchInt|return|unreachable|assert|drop)\b", line)
-            if not kind:
-                called = CALL.match(line)
-                if called:
-                    return (yield from self.call(*called.groups()))
-                yield from self.assign(line)
-            elif kind[1] == "goto":
-                return re.fullmatch(r"goto -> (bb\d+);", line)[1]
-            elif kind[1] == "switchInt":
-                return (yield from self.switch(line))
-            elif kind[1] == "return":
+            called, operator, index = CALL.match(line), ASSERTED.match(line), INDEX.match(line)
+            goto = re.fullmatch(r"goto -> (bb\d+);", line)
+            dropped = re.fullmatch(r"drop\((.*?)\) -> \[return: (bb\d+), unwind .*\];", line)
+            assigned = re.fullmatch(r"([_(].*?) = (.*);", line)
+            if line == "return;":
                 return None
-            elif kind[1] == "assert":
-                return (yield from self.asserted(line))
-            elif kind[1] == "drop":
-                found = re.fullmatch(r"drop\((.*?)\) -> \[return: (bb\d+), unwind .*\];", line)
-                dropped = self.memory.read(self.place(found[1]))
-                yield ("call", ("drop", "drop"), (self.memory.seen(dropped),))
-                return found[2]
-            else:
+            if line == "unreachable;":
                 yield ("dead",)
-        raise ValueError(f"{name} has no end")
-
-    def asserted(self, line):
-        operator, index = ASSERTED.match(line), INDEX.match(line)
-        if operator:
-            return operator[1]
-        if not index:
-            raise ValueError(line)
-        whole, at_index = (yield from self.operand(index[1])), (yield from self.operand(index[2]))
-        self.memory.check_index(at_index, whole)
-        return index[3]
-
-    def assign(self, line):
-        found = re.fullmatch(r"(.+?) = (.*);", line)
-        if not found:
-            raise ValueError(line)
-        self.enum = None
-        new = yield from self.rvalue(found[2])
-        if self.enum:
-            self.enums[found[1]] = self.enum
-        yield from self.store(self.place(found[1]), new)
-
-    def store(self, place, new):
-        root, path = place
-        self.memory.write(place, new)
-        if root[0] == "mem":
-            yield ("store", self.memory.seen(root), self.memory.seen(path), self.memory.seen(new))
+            if goto or operator:
+                return (goto or operator)[1]
+            if line.startswith("switchInt"):
+                return (yield from self.switch(line))
+            if index:
+                whole, place = yield from self.operands(f"{index[1]}, {index[2]}")
+                self.memory.check_index(place, whole)
+                return index[3]
+            if dropped:
+                term = self.memory.read(self.place(dropped[1]))
+                yield ("call", ("drop", "drop"), (self.memory.seen(term),))
+                return dropped[2]
+            if called:
+                return (yield from self.call(*called.groups()))
+            if not assigned:
+                break
+            self.enum = None
+            new = yield from self.rvalue(assigned[2])
+            self.enums[assigned[1]] = self.enum
+            yield from self.memory.store(self.place(assigned[1]), new)
+        raise ValueError(f"{name}: {line}")
 
     def switch(self, line):
-        found = re.fullmatch(r"switchInt\((.*)\) -> \[(.*)\];", line)
-        term = yield from self.operand(found[1])
-        of = self.type_of(found[1])
-        enum = self.enums.get(found[1].split(" ")[-1])
-        bits, arms = (8 if enum else width(of)), [it.split(": ") for it in split(found[2])]
-        default = arms.pop()[1]
-        if not bits or not line.split(", ")[-1].startswith("otherwise: "):
-            raise ValueError(f"{line} of {of}")
-        values = self.text.values.get(enum)
-        for n, (literal, target) in enumerate(sorted(arms, key=lambda it: int(it[0]))):
-            case = values.index(signed_of(int(literal), of)) if values else int(literal)
+        operand, arms, default = re.fullmatch(r"switchInt\((.*)\) -> \[(.*), otherwise: (bb\d+)\];", line).groups()
+        (term,), of = (yield from self.operands(operand)), self.type_of(operand)
+        enum = self.enums.get(operand.split(" ")[-1])
+        bits, values = 8 if enum else width(of), self.text.values.get(enum)
+        arms = sorted((int(n), target) for n, target in (it.split(": ") for it in split(arms)))
+        for n, (literal, target) in enumerate(arms):
+            # A discriminant is printed without a sign.
+            case = values.index(value(number(literal, width(of)), True)) if values else literal
             question = compared("Eq", False, bits, term, number(case, bits))
             if n == len(arms) - 1 and self.blocks[default] == ["unreachable;"]:
                 yield ("fact", question)
@@ -318,51 +286,44 @@ class Body:
         """Reads the place with which a text begins, and returns what is after it."""
         if text.startswith("(*"):
             root, path, rest = self.parse(text[2:])
-            root, path = place_of(self.memory.read((root, path)))
-            rest = rest.removeprefix(")")
+            (root, path), rest = place_of(self.memory.read((root, path))), rest.removeprefix(")")
         elif text.startswith("("):
             root, path, rest = self.parse(text[1:])
             variant, field = re.match(r" as (\w+)\)", rest), re.match(r"\.(\d+): ", rest)
             if variant:
                 path, rest = (*path, ("as", variant[1])), rest[variant.end() :]
             else:
-                of = None
-                if path and path[-1][0] == "as":
-                    of, path = self.variant(path[-1][1]), path[:-1]
-                path = (*path, ("f", of, int(field[1])))
-                rest = rest[field.end() + closing(rest[field.end() :]) + 1 :]
+                of = self.variant(path[-1][1]) if path and path[-1][0] == "as" else None
+                path = (*(path if of is None else path[:-1]), ("f", of, int(field[1])))
+                rest = text[len(bracketed(text)) :]
         else:
             local = re.match(r"_(\d+)", text)
             root, path, rest = ("loc", int(local[1])), (), text[local.end() :]
         while rest.startswith("["):
             inner, rest = rest[1 : rest.index("]")], rest[rest.index("]") + 1 :]
-            root, path = self.indexed(root, path, inner)
+            path = self.indexed(root, path, inner)
         return root, path, rest
 
     def indexed(self, root, path, inner):
-        one = re.fullmatch(r"(-?)(\d+) of \d+", inner)
-        some = re.fullmatch(r"(\d*):(-?)(\d*)", inner)
+        """Returns the path of an element, or, by a pattern, of elements from both ends."""
         if inner.startswith("_"):
-            return root, at(path, self.memory.read((("loc", int(inner[1:])), ())))
+            return at(path, self.memory.read((("loc", int(inner[1:])), ())))
+        one = re.fullmatch(r"(-?)(\d+) of \d+", inner)
         if one and not one[1]:
-            return root, at(path, number(int(one[2]), 64))
-        whole = self.length_at(root, path)
-        if one:
-            return root, at(path, operation("Sub", False, 64, whole, number(int(one[2]), 64)))
-        first, end = int(some[1] or 0), int(some[3] or 0)
-        if some[3] and not some[2]:
-            count = number(end - first, 64)
-        else:
-            count = operation("Sub", False, 64, whole, number(first + end, 64))
-        begun = at(path, number(first, 64))
-        return root, (*begun[:-1], ("win", begun[-1][1], count))
-
-    def length_at(self, root, path):
-        if path and path[-1][0] == "win":
-            return path[-1][2]
-        if root[0] != "mem" or path:
+            return at(path, number(int(one[2]), 64))
+        is_part = path and path[-1][0] == "win"
+        if not is_part and (root[0] != "mem" or path):
             raise ValueError(f"the length of {root} {path}")
-        return length(root[1])
+        whole = path[-1][2] if is_part else length(root[1])
+        from_end = lambda n: operation("Sub", False, 64, whole, number(n, 64))
+        if one:
+            return at(path, from_end(int(one[2])))
+        start, sign, end = re.fullmatch(r"(\d*):(-?)(\d*)", inner).groups()
+        start, end = int(start or 0), int(end or 0)
+        begun = at(path, number(start, 64))
+        is_counted = end and not sign
+        count = number(end - start, 64) if is_counted else from_end(start + end)
+        return (*begun[:-1], ("win", begun[-1][1], count))
 
     def variant(self, name):
         found = {it.index(name) for it in self.text.variants.values() if name in it}
@@ -374,32 +335,27 @@ class Body:
 
     def type_of(self, operand):
         """Returns the type of an operand, as far as its text says it."""
-        literal = re.fullmatch(r"const -?\d+_(\w+)", operand)
-        if literal:
-            return literal[1]
-        if operand in ("const true", "const false"):
-            return "bool"
-        if operand.startswith("const '"):
-            return "char"
-        place = re.sub(r"^(move|copy) ", "", operand)
+        literal, place = re.fullmatch(r"const -?\d+_(\w+)", operand), operand.split(" ", 1)[-1]
         field = re.match(r"\(.*\.\d+: ([^()]*)\)$", place)
-        if field:
-            return field[1]
         local = re.match(r"\(?\*?(_\d+)\)?(\[.*\])?$", place)
+        if literal or field:
+            return (literal or field)[1]
         if not local:
-            return self.constant_type(operand)
+            return self.constant_type(place)
         of = self.types[local[1]]
         of = of if place == local[1] else unreferenced(of)
         return re.sub(r"^\[(.*?)(; .*)?\]$", r"\1", of) if local[2] else of
 
-    def constant_type(self, operand):
-        limit = re.match(r"const (?:core::num::<impl )?([iu]\w+?)>?::(MIN|MAX|BITS)$", operand)
+    def constant_type(self, text):
+        limit = LIMIT.fullmatch(text)
         if limit:
             return "u32" if limit[2] == "BITS" else limit[1]
-        name = self.text.resolve(operand.removeprefix("const "))
+        if text in ("true", "false") or text.startswith("'"):
+            return "char" if text.startswith("'") else "bool"
+        name = None if text[0] in "\"b(" else self.text.resolve(text)
         if name:
-            return self.text.functions[name]["types"]["_0"]
-        types = self.text.constants.get(last(operand), ())  # a constant of a trait
+            return self.text.functions[name].types["_0"]
+        types = self.text.constants.get(text.split("::")[-1], ())  # a constant of a trait
         return next(iter(types)) if len(types) == 1 else ""
 
     def operand(self, text):
@@ -408,18 +364,16 @@ class Body:
             return self.memory.read(self.place(text))
         if not text.startswith("const "):
             return ("fn", "::".join(names(text)[-2:]))
-        text = text[6:]
-        found = re.fullmatch(r"(-?\d+)_(\w+)", text)
-        if found:
-            return number(int(found[1]), width(found[2]))
+        return (yield from self.constant(text.removeprefix("const ")))
+
+    def constant(self, text):
+        integer, limit = re.fullmatch(r"(-?\d+)(?:_(\w+))?", text), LIMIT.fullmatch(text)
+        if integer:
+            return number(int(integer[1]), width(integer[2] or "usize"))
         if text in ("true", "false", "()"):
             return {"true": TRUE, "false": FALSE, "()": UNIT}[text]
         if text[0] in "'\"b" and text[-1] in "'\"":
             return literal_of(text)
-        return (yield from self.constant(text))
-
-    def constant(self, text):
-        limit = re.fullmatch(r"(?:core::num::<impl )?([iu]\w+)>?::(MIN|MAX|BITS)", text)
         if limit:
             bits, signed = width(limit[1]), limit[1].startswith("i")
             n = {"MAX": (1 << bits - signed) - 1, "MIN": signed << bits - 1, "BITS": bits}
@@ -429,19 +383,19 @@ class Body:
         inner = re.search(r"::(promoted\[\d+\]|\{constant#\d+\})$", text)
         if not inner and text.startswith("<") and " as " in text:
             return (yield ("call", ("constant", text), ()))
-        name = f"{self.function['name']}::{inner[1]}" if inner else self.text.resolve(text)
+        name = f"{self.function.path}::{inner[1]}" if inner else self.text.resolve(text)
         if name not in self.text.functions:
             raise ValueError(f"the constant {text}")
         return (yield from self.evaluated(name))
 
     def evaluated(self, name):
-        """Returns what a constant has: what it refers to is one of its own locals, or static."""
+        """Returns what a constant has, where what it refers to is static."""
         self.text.used.add(name)
         body = Body(self.text, name, self.generics)
-        body.memory, body.enums = Memory([]), {}
-        yield from body.blocks_from("bb0")
+        body.begin([])
+        yield from body.statements()
         self.memory.checks |= body.memory.checks
-        return fixed(body.memory, body.memory.read((("loc", 0), ())))
+        return body.memory.fixed(body.memory.read((("loc", 0), ())))
 
     def operands(self, text):
         found = []
@@ -450,8 +404,10 @@ class Body:
         return tuple(found)
 
     def rvalue(self, text):
-        operator, unary = OPERATOR.match(text), re.fullmatch(r"(discriminant|PtrMetadata)\((.*)\)", text)
-        borrowed = re.match(r"&(?:mut )?(?=[_(])(.*)$", text)
+        operator = re.fullmatch(rf"({OPERATORS})\((.*)\)", text)
+        unary = re.fullmatch(r"(discriminant|PtrMetadata)\((.*)\)", text)
+        borrowed = re.fullmatch(r"&(?:mut )?([_(].*)", text)
+        is_operand = text.startswith(("copy ", "move ", "const "))
         cut = next((n for n in outside(text) if text.startswith(" as ", n)), None)
         if operator:
             terms = yield from self.operands(operator[2])
@@ -459,52 +415,42 @@ class Body:
         if unary and unary[1] == "PtrMetadata":
             return length((yield from self.operand(unary[2])))
         if unary:
-            whole = self.memory.read(self.place(unary[2]))
-            self.enum = names(unreferenced(self.type_of(unary[2])))[-1]
-            return tag(whole)
+            self.enum = last(unreferenced(self.type_of("copy " + unary[2])))
+            return tag(self.memory.read(self.place(unary[2])))
         if borrowed:
             return pointer(*self.place(borrowed[1]))
-        if cut and text.startswith(("copy ", "move ", "const ")):
+        if cut and is_operand:
             term = yield from self.operand(text[:cut])
             return self.casted(term, self.type_of(text[:cut]), text[cut + 4 :])
-        if text.startswith(("copy ", "move ", "const ")):
+        if is_operand:
             self.enum = self.enums.get(text.split(" ")[-1])
             return (yield from self.operand(text))
         return (yield from self.aggregate(text))
 
     def aggregate(self, text):
-        if text.startswith("(") or text.startswith("[") and len(split(text[1:-1], ";")) != 2:
+        parts = split(text[1:-1], ";")
+        if text.startswith("[") and len(parts) == 2:
+            first, count = yield from self.operands(f"{parts[0]}, const {parts[1].removeprefix('const ')}")
+            return ("repeat", first, count)
+        if text[0] in "([":
             return ("agg", None, (yield from self.operands(text[1:-1])))
-        if text.startswith("["):
-            first, count = split(text[1:-1], ";")
-            return ("repeat", (yield from self.operand(first)), (yield from self.count(count)))
         closure = CLOSURE.match(text)
         path = closure[0] if closure else head(text)
         rest, found = text[len(path) :].strip(), names(path)
-        variants = self.text.variants.get(found[-2] if len(found) > 1 else "", ())
-        if rest.startswith("("):
-            parts = yield from self.operands(rest[1:-1])
-        else:
-            fields = [it.split(": ", 1)[1] for it in split(rest[2:-2])] if rest else []
-            parts = yield from self.operands(", ".join(fields))
+        if rest.startswith("{"):
+            rest = ", ".join(["(", *(it.split(": ", 1)[1] for it in split(rest[2:-2])), ")"])
+        parts = yield from self.operands(rest[1:-1].strip(", "))
         if closure:
             return ("agg", ("closure", self.text.closures[closure[1]]), parts)
-        if found[-1] in variants:
-            return ("agg", variants.index(found[-1]), parts)
-        if found[-1] not in self.text.structs and found[-1] not in STRUCTS:
+        variants = self.text.variants.get(found[-2] if len(found) > 1 else "", ())
+        if found[-1] not in variants and found[-1] not in self.text.structs:
             raise ValueError(f"{path} is no type that is known: {text}")
-        return ("agg", None, parts)
-
-    def count(self, text):
-        text = text.removeprefix("const ")
-        if re.fullmatch(r"\d+(_usize)?", text):
-            return number(int(text.split("_")[0]), 64)
-        return (yield from self.constant(text))
+        return ("agg", variants.index(found[-1]) if found[-1] in variants else None, parts)
 
     def operated(self, name, operands, terms):
         of = next(filter(None, map(self.type_of, operands)), "")
         bits, signed = width(of), of.startswith("i")
-        if any(it.split(" ")[-1] in self.enums for it in operands):
+        if any(self.enums.get(it.split(" ")[-1]) for it in operands):
             bits = 8 if name in ("Eq", "Ne") else None
         if not bits:
             raise ValueError(f"{name} of {of}")
@@ -521,56 +467,35 @@ class Body:
         if how == "IntToInt":
             return cast(of.startswith("i"), 8 if term[0] == "tag" else width(of), width(to), term)
         array = re.fullmatch(r"\[.*; (.*)\]", unreferenced(of))
-        if not array:
-            return term  # a value as one of any type, for `Debug`
-        return of_parts(term, self.array_length(array[1]))
+        # Else it is a value as one of any type, for `Debug`.
+        return of_parts(term, self.array_length(array[1])) if array else term
 
     def array_length(self, text):
-        if text.isdigit():
-            return number(int(text), 64)
-        return ("gen", self.generics.index(text))
+        return number(int(text), 64) if text.isdigit() else ("gen", self.generics.index(text))
 
     # ---- calls
 
     def called(self, path, terms):
-        seen = tuple(map(self.memory.seen, terms))
-        return (yield ("call", (names(path)[-1], path), seen))
+        return (yield ("call", (last(path), path), tuple(map(self.memory.seen, terms))))
 
     def call(self, into, text, after):
         """Runs a call, and returns the block after it."""
         path = head(text)
-        given = split(text[len(path) + 1 : -1])
-        terms = yield from self.operands(text[len(path) + 1 : -1])
-        for pattern, _, run in RUST:
-            found = pattern.fullmatch(path)
-            if found:
-                result = yield from run(self, found, terms)
-                break
-        else:
+        given = text[len(path) + 1 : -1]
+        terms = yield from self.operands(given)
+        result = yield from known(RUST, path, self, terms)
+        if result is None:
             result = yield from self.called(path, terms)
-            for n, (term, operand) in enumerate(zip(terms, given)):
-                if is_lent(operand, term, self.type_of(operand)):
+            for n, (term, operand) in enumerate(zip(terms, split(given))):
+                is_reference = operand[:6] != "const " and self.type_of(operand).startswith("&")
+                is_mutable = is_reference and re.match(r"&('\w+ )?mut ", self.type_of(operand))
+                if is_mutable or not is_reference and term[0] in ("agg", "iter", "ptr", "slice"):
                     self.memory.lend(term, result, (n,))
         if not after:
             yield ("dead",)
-        yield from self.store(self.place(into), UNIT if self.type_of(into) == "()" else result)
+        is_unit = self.types.get(into) == "()"
+        yield from self.memory.store(self.place(into), UNIT if is_unit else result)
         return after
-
-
-def is_lent(operand, term, of):
-    """Returns whether a call may change what an operand refers to."""
-    if of.startswith("&") and not operand.startswith("const "):
-        return re.match(r"&('\w+ )?mut ", of) is not None
-    return term[0] in ("agg", "iter", "ptr", "slice")
-
-
-def signed_of(n, of):
-    """Returns a literal of a `switchInt`, which is printed without a sign."""
-    return value(number(n, width(of)), of.startswith("i"))
-
-
-def tag(term):
-    return number(term[1], 8) if term[0] == "agg" else ("tag", term)
 
 
 def literal_of(text):
@@ -578,22 +503,4 @@ def literal_of(text):
     found = ast.literal_eval(text)
     if text.startswith("b"):
         return ("ptr", ("static", found), ())
-    if text.startswith("'"):
-        return number(ord(found), 32)
-    data = found.encode()
-    return ("slice", ("static", data), (), number(0, 64), number(len(data), 64))
-
-
-def fixed(memory, term):
-    """Returns the term of a constant, which refers to no local."""
-    if not isinstance(term, tuple) or not term:
-        return term
-    if term[0] in ("ptr", "slice") and term[1][0] == "loc":
-        whole = fixed(memory, memory.read((term[1], ())))
-        return (term[0], ("static", static_of(memory, whole)), *term[2:])
-    return tuple(fixed(memory, it) for it in term)
-
-
-def static_of(memory, term):
-    found = memory.seen(term)
-    return found[1] if found[0] == "static" else found
+    return number(ord(found), 32) if text.startswith("'") else text_of(found.encode())

@@ -100,8 +100,9 @@ def test():
     """Tries each comparison of a byte with an integer, and pairs of facts about two small values."""
     names = {it.title(): getattr(operator, it) for it in ("eq", "ne", "lt", "le", "gt", "ge")}
     x, y = ("param", 0), ("param", 1)
+    all_raw = [[value(number(it, 8), signed) for it in range(256)] for signed in (False, True)]
     for (name, is_true), signed, n in itertools.product(names.items(), (False, True), range(256)):
-        raw = [value(number(it, 8), signed) for it in range(256)]
+        raw = all_raw[signed]
         for sides in ((x, number(n, 8)), (number(n, 8), x)):
             facts = Facts()
             facts.learn(compared(name, signed, 8, *sides), True)

@@ -170,7 +170,7 @@ class Path:
         found = {}
         if all(covers(a, b, variables, found) for a, b in pairs.values()):
             return True
-        new, prefix = {}, (*loop, turns)
+        new, prefix = {}, (loop, turns)
         state = {at: general(a, b, new, prefix) for at, (a, b) in sorted(pairs.items(), key=repr)}
         self.loops[loop] = head, state, set(new.values()), turns + 1
         for (n, root), term in state.items():
@@ -180,6 +180,7 @@ class Path:
 
 def explore(left, right, callees):
     """Runs both on every path, and returns how many there are."""
+    callees.require_types(left, right)
     todo, count = [[]], 0
     while todo:
         path = Path(left, right, callees, todo.pop())

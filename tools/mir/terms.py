@@ -199,6 +199,15 @@ def of_parts(first, count):
     return ("slice", root, path[:-1], path[-1][1], count)
 
 
+def tag(term):
+    """Returns which variant a term is of."""
+    return number(term[1], 8) if term[0] == "agg" else ("tag", term)
+
+
+def text_of(data):
+    return ("slice", ("static", data), (), number(0, 64), number(len(data), 64))
+
+
 class Memory:
     """What locals have, and what references of the caller, or from calls, point to."""
 
@@ -238,6 +247,22 @@ class Memory:
         if root[0] == "static":
             raise ValueError("a store to a constant")
         self.cells[root] = updated(self.read((root, ())), path, new)
+
+    def store(self, place, new):
+        """Writes a term; to what the caller has, that is an event."""
+        (root, path), seen = place, self.seen
+        self.write(place, new)
+        if root[0] == "mem":
+            yield ("store", seen(root), seen(path), seen(new))
+
+    def fixed(self, term):
+        """Returns a term with what it refers to as static, since the locals end."""
+        if not isinstance(term, tuple) or not term:
+            return term
+        if term[0] in ("ptr", "slice") and term[1][0] == "loc":
+            found = self.seen(self.fixed(self.read((term[1], ()))))
+            return (term[0], ("static", found[1] if found[0] == "static" else found), *term[2:])
+        return tuple(map(self.fixed, term))
 
     def lend(self, term, result, of):
         """Forgets what a call may change: what a term points to, and what that points to in turn.
