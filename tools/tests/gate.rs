@@ -28,6 +28,7 @@ cc tools/refuse.c
 python3 compare/fontations/edit.py
 python3 tools/mir
 rt ci
+rt lib
 tools/verdicts";
 
 /// The command that may fail.
@@ -78,6 +79,7 @@ c/check) [ "$FAIL" != freetype ] || echo "left out: FreeType" ;;
     echo "rt: must-fail a/b.edit: refused, as it must be: some"
     echo "3 passed, $([ "$FAIL" = crate ] && echo 1 || echo 0) failed"
     [ "$FAIL" != "status of ci" ] || exit 1 ;;
+"rt lib") mkdir -p out/rlib ;;
 *mutants) grep -q "refused, as it must be" ;;
 esac
 "#;
@@ -130,6 +132,9 @@ fn gate_fails_if_a_step_does() {
     let _ = fs::remove_dir_all(&folder);
     for path in [
         ".ci/run",
+        "HANDLES",
+        "crates.txt",
+        "crates/font_c/src/lib.rt",
         "crates/font_types/src/tests/memory.rt",
         "crates/fontval/memory/stdin",
         "crates/fontval/memory/stdout",

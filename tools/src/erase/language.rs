@@ -1,6 +1,6 @@
 //! Forms that Rust is known to read otherwise than Rattle, which are errors. Lists name what is
-//! known to mean the same, and an error names the list. Of any other form `tools/mir` compares the
-//! calls, operators, literals and branches, but not in the program and in the library for C.
+//! known to mean the same, and an error names the list. Of any other form `tools/mir` compares what
+//! both compilers make of it, but not in the program.
 
 use super::{Eraser, Error, Target, is_crate};
 
