@@ -7,7 +7,7 @@ import re
 
 from std import RUST, known
 from terms import FALSE, TRUE, UNIT, Memory, at, cast, compared, length, may_panic, negated, number
-from terms import of_parts, operation, place_of, pointer, tag, text_of, value
+from terms import operation, part, place_of, pointer, tag, text_of, value
 
 PLACE = re.compile(r"<impl at ([^:>]*):(\d+):(\d+): (\d+):(\d+)>")
 CLOSURE = re.compile(r"\{closure@([^}]*)\}")
@@ -421,6 +421,8 @@ class Body:
             return pointer(*self.place(borrowed[1]))
         if cut and is_operand:
             term = yield from self.operand(text[:cut])
+            if self.enums.get(text[:cut].split(" ")[-1]) in self.text.values:
+                raise ValueError(f"a discriminant that is not the number of a variant: {text}")
             return self.casted(term, self.type_of(text[:cut]), text[cut + 4 :])
         if is_operand:
             self.enum = self.enums.get(text.split(" ")[-1])
@@ -468,7 +470,7 @@ class Body:
             return cast(of.startswith("i"), 8 if term[0] == "tag" else width(of), width(to), term)
         array = re.fullmatch(r"\[.*; (.*)\]", unreferenced(of))
         # Else it is a value as one of any type, for `Debug`.
-        return of_parts(term, self.array_length(array[1])) if array else term
+        return part(term, number(0, 64), self.array_length(array[1])) if array else term
 
     def array_length(self, text):
         return number(int(text), 64) if text.isdigit() else ("gen", self.generics.index(text))

@@ -6,7 +6,7 @@ import re
 
 from std import RATTLE, known
 from terms import FALSE, TRUE, UNIT, Memory, at, cast, compared, length, may_panic, negated, number
-from terms import of_parts, operation, place_of, pointer, tag
+from terms import from_first, operation, place_of, pointer, tag
 
 
 def last(path):
@@ -194,9 +194,10 @@ class Body:
     def aggregate(self, of, operands):
         parts = tuple(map(self.operand, operands))
         if is_slice(of):
-            whole, first = self.origin_of(operands[0]["Copy"])
+            whole, first, is_array = self.origin_of(operands[0]["Copy"])
             self.memory.check_part(first, parts[1], whole)
-            return of_parts(*parts)
+            root, path = place_of(parts[0])
+            return from_first(root, at(path, first) if is_array else path, parts[1])
         if "Variants" in self.shape(of):
             return ("agg", parts[0][1], parts[1:])
         kind, named = kind_of(of)
@@ -228,15 +229,19 @@ class Body:
 
     def element(self, place, of, first, index):
         """Returns the pointer to an element, whose index Rattle proves to be in bounds."""
-        whole, before = self.origin_of(of)
+        whole, before, is_array = self.origin_of(of)
         here = operation("Add", False, 64, before, index)
         self.memory.check_index(here, whole)
-        self.origins[place["local"]] = whole, here
+        self.origins[place["local"]] = whole, here, False
         root, path = place_of(first)
-        return ("ptr", root, at(path, index))
+        if is_array:
+            return ("ptr", root, at(path, index))
+        *path, (_, start) = path
+        return ("ptr", root, (*path, ("e", operation("Add", False, 64, start, index))))
 
     def origin_of(self, place):
-        """Returns the length of what an element at a place is in, and its index there."""
+        """Returns the length of what an element at a place is in, its index there, and whether
+        what is at the place is all of it."""
         steps = [*self.walk(place)]
         if steps[-2:-1] and steps[-2][0] == "Deref" and kind_of(steps[-1][2])[0] != "Array":
             place = {**place, "steps": place["steps"][:-1]}
@@ -244,10 +249,10 @@ class Body:
         kind, of = kind_of(steps[-1][2])
         kind, of = kind_of(of[2]) if kind == "Ref" else (kind, of)
         if kind == "Array":
-            return self.amount(of[1]), number(0, 64)
+            return self.amount(of[1]), number(0, 64), True
         if len(steps) > 1 and is_slice(steps[-2][2]):
             inner = {**place, "steps": place["steps"][:-1]}
-            return length(self.read(*self.place(inner))), number(0, 64)
+            return length(self.read(*self.place(inner))), number(0, 64), False
         return self.origins.get(place["local"]) if len(steps) == 1 else None
 
     # ---- statements
@@ -319,7 +324,7 @@ class Body:
         else:
             raise ValueError(f"a constant {what}")
         whole = found[2] if kind == "Repeat" else number(len(values), 64)
-        self.origins[place["local"]] = whole, number(0, 64)
+        self.origins[place["local"]] = whole, number(0, 64), True
         yield from self.store(place, ("ptr", ("static", found), ()))
 
     # ---- calls

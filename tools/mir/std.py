@@ -1,10 +1,11 @@
 """What `core` has on one side in another form than on the other: each row with its reason. What is
 in no row is called on both sides, as a function of one name, type and trait."""
 
+import json
 import re
 import types
 
-from terms import FALSE, at, cast, compared, length, number, of_parts, operation, part, place_of
+from terms import FALSE, at, cast, compared, length, number, operation, part, place_of
 from terms import pointer, project, referred, tag, text_of
 
 ZERO = number(0, 64)
@@ -57,7 +58,7 @@ def sliced(body, found, terms):
 def into_iter(body, found, terms):
     if found[1].startswith("core"):
         return terms[0]
-    whole = of_parts(terms[0], body.array_length(found[2])) if found[2] else terms[0]
+    whole = part(terms[0], ZERO, body.array_length(found[2])) if found[2] else terms[0]
     return ("iter", whole, ZERO)
 
 
@@ -94,6 +95,11 @@ def debug(body, found, terms):
     words = [it[1][1].decode() if it else "" for it in (name, *labels)]
     text = " ".join([*words, ")" if found[1] == "tuple" else "}"])
     return (yield ("call", ("derived_fields", "derived_fields"), (formatter, text, *fields)))
+
+
+def with_type(how, integer):
+    """Returns how a value is shown; of an integer in decimal, its sign matters."""
+    return f"{how} {integer.lower()}" if integer and how in ("display", "debug") else how
 
 
 def write(body, found, terms):
@@ -167,8 +173,8 @@ RUST = rows(
     (rf"<core::ops::Range<{INT}> as {ITER}", "a `for`", next_of_range),
     (r"core::fmt::Formatter::<.*?>::debug_(tuple|struct)_field(\d|s)_finish",
      "derived `Debug`, for which each compiler calls functions of its own", debug),
-    (r"core::fmt::rt::Argument::<.*?>::new_(\w+)(?:::<.*>)?", "what a text shows",
-     lambda body, found, terms: ("shown", found[1], terms[0])),
+    (rf"core::fmt::rt::Argument::<.*?>::new_(\w+)::<&*({INT}|.*)>", "what a text shows",
+     lambda body, found, terms: ("shown", with_type(found[1], found[3]), terms[0])),
     (r"core::fmt::Arguments::<.*?>::from_str(?:::<.*>)?", "a text",
      lambda body, found, terms: ("pieces", (terms[0],))),
     (r"core::fmt::Arguments::<.*?>::new(?:::<.*>)?", "a text as the bytes that rustc writes", texts),
@@ -217,12 +223,13 @@ def derived_fields(body, _, of, terms):
 
 def write_format(body, _, of, terms):
     formatter, text = map(body.memory.seen, terms)
-    found = []
-    for it in text[2][0][2]:
+    found, by = [], of["Fn"][1]["dicts"][1]["Impl"][2][0]["Impl"][2]
+    for it, impl in zip(text[2][0][2], by):
         if it[0] == "agg" and it[2] and it[2][0][0] == "shown":
             it = (*it[2][0], it[2][1])
         elif it[0] != "shown" and not (it[0] == "&" and it[1][0] == "static"):
-            it = ("shown", "display", it)
+            integer = re.search(r"::([UI]\d+|[UI]size)Display", json.dumps(impl))
+            it = ("shown", with_type("display", integer and integer[1]), it)
         found.append(shown(it))
     return (yield ("call", ("write_fmt", of), (formatter, ("pieces", *found))))
 

@@ -167,8 +167,8 @@ def place_of(term):
 
 
 def at(path, index):
-    """Returns the place of an element, in a slice from its start."""
-    if path and path[-1][0] in ("win", "e"):
+    """Returns the place of an element of an array, or of a slice from its start."""
+    if path and path[-1][0] == "win":
         return (*path[:-1], ("e", operation("Add", False, 64, path[-1][1], index)))
     return (*path, ("e", index))
 
@@ -184,16 +184,13 @@ def referred(term):
 
 
 def part(term, start, count):
-    """Returns a part of a slice, from an index, of a length."""
+    """Returns a part of a slice, or of an array, from an index, of a length."""
     root, path = place_of(term)
-    return of_parts(("ptr", root, at(path, start)), count)
+    return from_first(root, at(path, start), count)
 
 
-def of_parts(first, count):
-    """Returns a slice from the pointer to its first element, and its length."""
-    root, path = place_of(first)
-    if not path or path[-1][0] != "e":
-        path = (*path, ("e", number(0, 64)))
+def from_first(root, path, count):
+    """Returns a slice from the place of its first element, and its length."""
     if root[0] == "mem" and path == (("e", number(0, 64)),) and count == length(root[1]):
         return root[1]
     return ("slice", root, path[:-1], path[-1][1], count)
@@ -290,7 +287,6 @@ class Memory:
         if term[0] == "repeat" and is_number(*term[1:]) and term[1][2] == 8:
             return ("static", bytes([term[1][1]] * term[2][1]))
         return term
-
 
     def forget(self):
         """Forgets what pointers had that nothing has any more."""
