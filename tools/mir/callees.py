@@ -11,7 +11,7 @@ from proved import last as short
 from trees import integers, owners, parse, unify
 
 # An integer in the name of an impl of Rattle, which has the sign that its types lack.
-INTEGER = r"::([UI](?:8|16|32|64|128|size))(?=[A-Z])"
+INTEGER = r"(?:::|[a-z])([UI](?:8|16|32|64|128|size))(?![a-z0-9])"
 
 # Methods that Rattle has beside the impls of a trait: those of integers, and in what is derived.
 BESIDE = ("min", "max", "clamp", "and_eq", "or_cmp", "or_partial_cmp")
@@ -182,18 +182,17 @@ class Callees:
             alike = path.kind and self.is_type({"Named": [{"name": name}, []]}, path.kind, {})
             return None if alike else f"{text}, but {name}"
         other = self.pairs.get(plain(name))
+        given = self.types_of(other, path) if other else None
+        signed = {it.lower() for it in re.findall(INTEGER, json.dumps(what) if way == "Fn" else "")}
+        theirs = given or () if other else (path.kind, path.trait) if path.trait else ()
+        theirs = {it for tree in theirs for it in integers(tree)}
+        if signed and not theirs <= signed:
+            return f"{text}, for {theirs}, but for {signed}"
         if not other:
             return self.std_fault(name, types, path, body)
-        given = self.types_of(other, path)
-        if given is None:
-            return f"{text}, but {other}"
-        return self.types_fault(json.dumps(what[1]) if way == "Fn" else "", types, given, body)
+        return f"{text}, but {other}" if given is None else self.types_fault(types, given, body)
 
-    def types_fault(self, dicts, types, given, body):
-        signed = {it.lower() for it in re.findall(INTEGER, dicts)}
-        theirs = {it for tree in given for it in integers(tree)}
-        if signed and not theirs <= signed:
-            return f"for {theirs}, but for {signed}"
+    def types_fault(self, types, given, body):
         # Rattle counts associated types too, after the parameters of the impl or of the function.
         for cut in range(len(given), -1, -1):
             bound, after = dict(body.types), len(types) - len(given) + cut

@@ -151,12 +151,20 @@ class Body:
             return {"True": TRUE, "False": FALSE, "Unit": UNIT}[it]
         kind, what = kind_of(it)
         if kind in ("Copy", "Move"):
+            self.use(what)
             return self.read(*self.place(what))
         if kind == "Int" and isinstance(what["value"], int):
             return number(what["value"], what["width"])
         if kind == "NumOf":
             return self.amount(what[1], what[0])
         raise ValueError(f"an operand {it}")
+
+    def use(self, place):
+        """Notes that an element is used, whose index Rattle proves to be in bounds; that of the
+        first element of a part may be the length."""
+        whole, index, is_array = self.origins.get(place["local"]) or (None, None, True)
+        if not is_array:
+            self.memory.check_index(index, whole)
 
     def operand_type(self, it):
         kind, what = kind_of(it)
@@ -176,6 +184,11 @@ class Body:
 
     def rvalue(self, place, value):
         kind, it = kind_of(value)
+        origin = self.origin_of(it) if kind == "AddrOf" else None
+        if kind == "AddrOf" and not origin:
+            self.use(it)
+        if not place["steps"]:
+            self.origins[place["local"]] = origin
         if kind == "Opd":
             return self.operand(it)
         if kind == "Aggregate":
@@ -183,7 +196,6 @@ class Body:
         if kind == "Repeat":
             return ("repeat", self.operand(it[0]), self.amount(it[1]))
         if kind == "AddrOf":
-            self.origins[place["local"]] = self.origin_of(it)
             return pointer(*self.place(it))
         if kind == "Op1":
             return self.unary(*it)
@@ -192,12 +204,13 @@ class Body:
         raise ValueError(f"a right side {kind}")
 
     def aggregate(self, of, operands):
-        parts = tuple(map(self.operand, operands))
         if is_slice(of):
-            whole, first, is_array = self.origin_of(operands[0]["Copy"])
-            self.memory.check_part(first, parts[1], whole)
-            root, path = place_of(parts[0])
-            return from_first(root, at(path, first) if is_array else path, parts[1])
+            first, count = operands[0]["Copy"], self.operand(operands[1])
+            whole, index, is_array = self.origin_of(first)
+            self.memory.check_part(index, count, whole)
+            root, path = place_of(self.read(*self.place(first)))
+            return from_first(root, at(path, index) if is_array else path, count)
+        parts = tuple(map(self.operand, operands))
         if "Variants" in self.shape(of):
             return ("agg", parts[0][1], parts[1:])
         kind, named = kind_of(of)
@@ -215,25 +228,23 @@ class Body:
 
     def binary(self, place, operator, a, b):
         name, sign = kind_of(operator)
+        if name == "Offset":
+            return self.element(place, a["Copy"], self.operand(b))
         left = self.operand(a)
         if name == "Mul" and place["local"] in self.distances and not place["steps"]:
             return left
-        right = self.operand(b)
-        if name == "Offset":
-            return self.element(place, a["Copy"], left, right)
-        bits, signed = self.width(a), sign == "Signed"
+        right, bits, signed = self.operand(b), self.width(a), sign == "Signed"
         if name in ("Shl", "Shr") and right[0] == "cast" and right[3] == bits:
             right = right[4]  # an amount of another type, which Rattle proves to be less than `bits`
         self.memory.check(may_panic(name, signed, bits, left, right))
         return operation(name, signed, bits, left, right)
 
-    def element(self, place, of, first, index):
-        """Returns the pointer to an element, whose index Rattle proves to be in bounds."""
+    def element(self, place, of, index):
+        """Returns the pointer to an element from that to another, or to an array."""
         whole, before, is_array = self.origin_of(of)
         here = operation("Add", False, 64, before, index)
-        self.memory.check_index(here, whole)
         self.origins[place["local"]] = whole, here, False
-        root, path = place_of(first)
+        root, path = place_of(self.read(*self.place(of)))
         if is_array:
             return ("ptr", root, at(path, index))
         *path, (_, start) = path
@@ -258,6 +269,8 @@ class Body:
     # ---- statements
 
     def store(self, place, new):
+        if place["steps"]:
+            self.use(place)
         yield from self.memory.store(self.place(place), new)
 
     def statement(self, it):
@@ -324,8 +337,8 @@ class Body:
         else:
             raise ValueError(f"a constant {what}")
         whole = found[2] if kind == "Repeat" else number(len(values), 64)
-        self.origins[place["local"]] = whole, number(0, 64), True
         yield from self.store(place, ("ptr", ("static", found), ()))
+        self.origins[place["local"]] = whole, number(0, 64), True
 
     # ---- calls
 
@@ -347,6 +360,8 @@ class Body:
                     self.memory.lend(term, result, (n,))
             if method == "clone" and "Fn" not in of or path.endswith("Clone::clone"):
                 result = ("agg", 0, (result,))  # it may fail in Rattle, for want of memory
+        if not place["steps"]:
+            self.origins[place["local"]] = None
         yield from self.store(place, UNIT if self.type_of(place) == "Unit" else result)
 
     def called(self, callee, terms):

@@ -38,7 +38,7 @@ def unify(pattern, tree, variables, found):
 
 def integers(tree):
     """Returns the integers in a type."""
-    if tree[0] == "integer":
+    if tree[:1] == ("integer",):
         return {tree[1]} - {"bool", "char"}
     return {of for it in tree[1:] if isinstance(it, tuple) for of in integers(it)}
 
