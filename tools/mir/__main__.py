@@ -146,7 +146,10 @@ def main():
     try:
         return min(report(Path(sys.argv[1]).resolve() if sys.argv[1:] else ROOT), 1)
     except FileNotFoundError as error:
-        print(f"{error.filename} is missing: run `rt lib` in font_types and variations, and in", file=sys.stderr)
+        print(
+            f"{error.filename} is missing: run `rt lib` in font_types and variations, and in",
+            file=sys.stderr,
+        )
         print("font_c by a crates.txt without `staticlib`, as `.ci/run` does", file=sys.stderr)
     except (json.JSONDecodeError, *FAULTS) as error:
         print(f"{type(error).__name__}: {error}\n{ADVICE}", file=sys.stderr)

@@ -21,7 +21,7 @@ OPERATORS = ("Default", "Neg", "Add", "Sub", "Mul", "Div")
 
 
 class Path:
-    """What rustc calls: a function of a module, or an item of a type or of its `impl` of a trait."""
+    """What rustc calls: a function of a module, or an item of a type or of its trait."""
 
     def __init__(self, text, aliases):
         parts = split(text, "::")
@@ -33,7 +33,10 @@ class Path:
         impl = next((it for it in given if it.startswith("<impl ")), None)
         if parts[0].startswith("<"):
             kind, *trait = split(parts[0][1:-1], " as ")
-            self.kind, self.trait = parse(kind, aliases), parse(trait[0], aliases) if trait else None
+            self.kind, self.trait = (
+                parse(kind, aliases),
+                parse(trait[0], aliases) if trait else None,
+            )
         elif impl:
             self.kind = parse(impl[6:-1], aliases)
         elif re.match("[A-Z]", self.module[-1]) or width(self.module[-1]):
@@ -140,13 +143,12 @@ class Callees:
 
     def require_types(self, left, right):
         """Requires that parameters and result are of the same types."""
-        types = [right.types[f"_{n}"] for n in range(right.function.count + 1)]
+        types = right.parameter_types()
         ours = left.locals[: len(types)]
         if left.name.endswith("Clone::clone"):  # it may fail in Rattle, for want of memory
             ours[0] = ours[0]["Named"][1][0]
         trees = [parse(it, self.names.aliases) for it in types]
-        is_of_c = any(it[0] == "pointer" for it in trees)  # which has slices in two parameters
-        if not is_of_c and not self.are_types(ours, trees, left.types):
+        if len(ours) != len(trees) or not self.are_types(ours, trees, left.types):
             raise Differs(f"the types {ours} are not {types}")
 
     # ---- calls

@@ -147,6 +147,7 @@ class Text:
     def __init__(self, sources):
         self.variants, self.values, self.structs = dict(VARIANTS), {"Ordering": [-1, 0, 1]}, STRUCTS
         self.functions, self.closures, self.constants, self.used = {}, {}, {}, set()
+        self.declared = set()
         self.resolve = None  # which constant a path names
         for lines in sources:
             self.declare("\n".join(lines))
@@ -154,10 +155,11 @@ class Text:
     def declare(self, source):
         enums = re.findall(r"^(?:pub )?enum (\w+)[^{]*\{$(.*?)^\}", source, re.M | re.S)
         structs = re.findall(r"^(?:pub(?:\(.*?\))? )?struct (\w+)", source, re.M)
-        for name in [*structs, *(it[0] for it in enums)]:
-            if name in self.structs or name in self.variants:
-                raise ValueError(f"two types are named {name}")
-            self.structs = self.structs | ({name} & set(structs))
+        traits = re.findall(r"^(?:pub(?:\(.*?\))? )?trait (\w+)", source, re.M)
+        for name in [*structs, *traits, *(it[0] for it in enums)]:
+            self.require_new(name)
+            self.declared.add(name)
+        self.structs = self.structs | set(structs)
         for name, inner in enums:
             found = re.findall(r"^    (\w+)(?: = (-?\d+))?", inner, re.M)
             self.variants[name], values = [it for it, _ in found], []
@@ -167,8 +169,14 @@ class Text:
         for name, of in re.findall(r"\bconst (\w+): ([^=;]+)(?: =|;)", source):
             self.constants.setdefault(name, set()).add(of)
 
+    def require_new(self, name):
+        if name in self.declared:
+            raise ValueError(f"two types or traits are named {name}")
+
     def read(self, text, crates):
         """Reads what rustc prints of these crates in one package, each function once."""
+        for name in set(re.findall(r"\b(?:core|alloc)::(?:\w+::)*([A-Z]\w*)", text)):
+            self.require_new(name)
         again, function = False, None
         for line in text.splitlines():
             if line == "// MIR FOR CTFE":
@@ -207,14 +215,26 @@ class Body:
 
     def arguments(self):
         """Returns the parameters of Rattle: for C, a slice is a pointer and its length."""
-        found, count = [], 0
-        while len(found) < self.function.count:
-            local, after = (self.function.names.get(f"_{len(found) + n}") for n in (1, 2))
+        found = []
+        for n, of in enumerate(self.parameter_types()[1:]):
+            local, after = (self.function.names.get(f"_{len(found) + it}") for it in (1, 2))
             is_pointer = self.types[f"_{len(found) + 1}"].startswith("*")
             if is_pointer and after != f"{local}_len":
                 raise ValueError(f"the pointer {local} without a length")
-            one, count = ("param", count), count + 1
+            one = ("param", n)
             found += [("ptr_of", one), length(one)] if is_pointer else [one]
+        return found
+
+    def parameter_types(self):
+        """Returns the types of the result and of the parameters that Rattle has."""
+        found = []
+        for n in range(self.function.count + 1):
+            of = self.types[f"_{n}"]
+            if not found or not found[-1].startswith("*"):
+                found.append(of)
+            else:  # the length of a slice
+                kind, inner = found[-1].split(" ", 1)
+                found[-1] = f"&mut [{inner}]" if kind == "*mut" else f"&[{inner}]"
         return found
 
     def statements(self):
@@ -258,7 +278,9 @@ class Body:
         raise ValueError(f"{name}: {line}")
 
     def switch(self, line):
-        operand, arms, default = re.fullmatch(r"switchInt\((.*)\) -> \[(.*), otherwise: (bb\d+)\];", line).groups()
+        operand, arms, default = re.fullmatch(
+            r"switchInt\((.*)\) -> \[(.*), otherwise: (bb\d+)\];", line
+        ).groups()
         (term,), of = (yield from self.operands(operand)), self.type_of(operand)
         enum = self.enums.get(operand.split(" ")[-1])
         bits, values = 8 if enum else width(of), self.text.values.get(enum)
@@ -352,7 +374,7 @@ class Body:
             return "u32" if limit[2] == "BITS" else limit[1]
         if text in ("true", "false") or text.startswith("'"):
             return "char" if text.startswith("'") else "bool"
-        name = None if text[0] in "\"b(" else self.text.resolve(text)
+        name = None if text[0] in '"b(' else self.text.resolve(text)
         if name:
             return self.text.functions[name].types["_0"]
         types = self.text.constants.get(text.split("::")[-1], ())  # a constant of a trait
@@ -432,7 +454,9 @@ class Body:
     def aggregate(self, text):
         parts = split(text[1:-1], ";")
         if text.startswith("[") and len(parts) == 2:
-            first, count = yield from self.operands(f"{parts[0]}, const {parts[1].removeprefix('const ')}")
+            first, count = yield from self.operands(
+                f"{parts[0]}, const {parts[1].removeprefix('const ')}"
+            )
             return ("repeat", first, count)
         if text[0] in "([":
             return ("agg", None, (yield from self.operands(text[1:-1])))
@@ -465,7 +489,9 @@ class Body:
         return operation(name, signed, bits, *terms)
 
     def casted(self, term, of, text):
-        to, how = re.fullmatch(r"(.*) \((IntToInt|PointerCoercion\(Unsize, Implicit\))\)", text).groups()
+        to, how = re.fullmatch(
+            r"(.*) \((IntToInt|PointerCoercion\(Unsize, Implicit\))\)", text
+        ).groups()
         if how == "IntToInt":
             return cast(of.startswith("i"), 8 if term[0] == "tag" else width(of), width(to), term)
         array = re.fullmatch(r"\[.*; (.*)\]", unreferenced(of))
@@ -495,6 +521,7 @@ class Body:
                     self.memory.lend(term, result, (n,))
         if not after:
             yield ("dead",)
+        self.enums[into] = None
         is_unit = self.types.get(into) == "()"
         yield from self.memory.store(self.place(into), UNIT if is_unit else result)
         return after

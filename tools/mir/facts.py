@@ -4,7 +4,7 @@ term it is true; of another condition, whether it is. `test` tries this against 
 import itertools
 import operator
 
-from terms import compared, is_number, negated, number, same, value
+from terms import compared, is_number, number, same, value
 
 
 def within(low, high, signed, bits):
@@ -97,7 +97,7 @@ class Facts:
 
 
 def test():
-    """Tries each comparison of a byte with an integer, and pairs of facts about two small values."""
+    """Tries each comparison of a byte with an integer, and pairs of facts about two values."""
     names = {it.title(): getattr(operator, it) for it in ("eq", "ne", "lt", "le", "gt", "ge")}
     x, y = ("param", 0), ("param", 1)
     all_raw = [[value(number(it, 8), signed) for it in range(256)] for signed in (False, True)]

@@ -148,7 +148,9 @@ class Names:
         if impl and impl.derived and impl.trait in (("Clone",), ("Eq",)):
             return "derived `Clone` or `Eq`"
         if not name.endswith("()"):
-            return "a constant that " + ("a function uses" if name in self.text.used else "none uses")
+            return "a constant that " + (
+                "a function uses" if name in self.text.used else "none uses"
+            )
         function = self.text.functions[name]
         lines, count = function.blocks.get("bb0", [""]), function.count
         made = re.fullmatch(r"_0 = [\w:]+(?:::<.*>)?\((move _\d+(?:, move _\d+)*)\);", lines[0])

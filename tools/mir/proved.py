@@ -170,7 +170,11 @@ class Body:
         kind, what = kind_of(it)
         if kind in ("Copy", "Move"):
             return self.type_of(what)
-        return "Bool" if it in ("True", "False") else {"Int": what["width"] if kind == "Int" else what[0]}
+        return (
+            "Bool"
+            if it in ("True", "False")
+            else {"Int": what["width"] if kind == "Int" else what[0]}
+        )
 
     def width(self, operand):
         of = self.operand_type(operand)
@@ -235,7 +239,9 @@ class Body:
             return left
         right, bits, signed = self.operand(b), self.width(a), sign == "Signed"
         if name in ("Shl", "Shr") and right[0] == "cast" and right[3] == bits:
-            right = right[4]  # an amount of another type, which Rattle proves to be less than `bits`
+            right = right[
+                4
+            ]  # an amount of another type, which Rattle proves to be less than `bits`
         self.memory.check(may_panic(name, signed, bits, left, right))
         return operation(name, signed, bits, left, right)
 
@@ -274,7 +280,7 @@ class Body:
         yield from self.memory.store(self.place(place), new)
 
     def statement(self, it):
-        """Runs a statement, and returns how it ends: None, "return" or the number of blocks left."""
+        """Runs a statement, and returns how it ends: None, "return" or the number of its block."""
         kind, *parts = it
         if kind == "Seq":
             end = yield from self.statement(parts[0])
@@ -369,7 +375,9 @@ class Body:
 
     def arguments(self, of, operands):
         """Returns the terms of operands. A function by its name is a unit and an impl of `Fn`."""
-        given = (it["Impl"][0] for it in (of["Fn"][1]["dicts"] if "Fn" in of else ()) if "Impl" in it)
+        given = (
+            it["Impl"][0] for it in (of["Fn"][1]["dicts"] if "Fn" in of else ()) if "Impl" in it
+        )
         found = (re.match(r".*\+(\w+)\+(\w+)\+Fn(?:Mut|Once)?$", it) for it in given)
         functions = iter([("fn", "::".join(it.groups())) for it in found if it])
         return [next(functions, UNIT) if it == "Unit" else self.operand(it) for it in operands]

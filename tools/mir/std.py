@@ -199,7 +199,9 @@ def and_eq(body, _, of, terms):
 
 def or_cmp(body, found, of, terms):
     parts = [terms[0], *([project(terms[0], ("f", 1, 0))] if found[1] else [])]
-    for it in parts:  # of an `Option`, whether it is `Some`; of an `Ordering`, whether it is `Equal`
+    for (
+        it
+    ) in parts:  # of an `Option`, whether it is `Some`; of an `Ordering`, whether it is `Equal`
         if not (yield ("if", compared("Eq", False, 8, tag(it), number(1, 8)))):
             return terms[0]
     return (yield from body.called((f"{found[1] or ''}cmp", of), terms[1:]))

@@ -1,4 +1,4 @@
-"""Values as terms over parameters and results of calls: tuples that name no local of either side."""
+"""Values as terms over parameters and results of calls, which are tuples."""
 
 
 def number(value, bits):
@@ -58,7 +58,7 @@ def amount(name, bits, b):
         return b
     while b[0] == "cast" and b[1] is False:  # a wider type
         b = b[4]
-    return number(b[1], 32) if is_number(b) else b
+    return ("int", b[1], 32) if is_number(b) else b
 
 
 def operation(name, signed, bits, a, b):
