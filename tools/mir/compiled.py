@@ -5,7 +5,7 @@ import ast
 import functools
 import re
 
-from std import RUST, known
+from std import RUST, field, known
 from terms import FALSE, TRUE, UNIT, Memory, at, cast, compared, length, may_panic, negated, number
 from terms import operation, part, place_of, pointer, tag, text_of, value
 
@@ -495,8 +495,11 @@ class Body:
         if how == "IntToInt":
             return cast(of.startswith("i"), 8 if term[0] == "tag" else width(of), width(to), term)
         array = re.fullmatch(r"\[.*; (.*)\]", unreferenced(of))
-        # Else it is a value as one of any type, for `Debug`.
-        return part(term, number(0, 64), self.array_length(array[1])) if array else term
+        if array:
+            return part(term, number(0, 64), self.array_length(array[1]))
+        # It is a value as one of any type, for `Debug`.
+        kind = re.sub(r"&|'\w+ |mut ", "", of)
+        return ("dyn", kind if width(kind) and kind not in ("bool", "char") else None, term)
 
     def array_length(self, text):
         return number(int(text), 64) if text.isdigit() else ("gen", self.generics.index(text))
@@ -504,7 +507,8 @@ class Body:
     # ---- calls
 
     def called(self, path, terms):
-        return (yield ("call", (last(path), path), tuple(map(self.memory.seen, terms))))
+        seen = (field(it) if it[0] == "dyn" else it for it in map(self.memory.seen, terms))
+        return (yield ("call", (last(path), path), tuple(seen)))
 
     def call(self, into, text, after):
         """Runs a call, and returns the block after it."""

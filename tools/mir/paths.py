@@ -68,7 +68,7 @@ class Path:
     def __init__(self, left, right, callees, decisions):
         self.left, self.right, self.callees = left, right, callees
         self.facts, self.decisions, self.taken, self.open = Facts(), decisions, [], []
-        self.loops, self.calls = {}, 0
+        self.loops, self.calls, self.idle = {}, 0, 0
 
     def decide(self, term):
         known = self.facts.decided(term)
@@ -120,7 +120,8 @@ class Path:
         while True:
             one, other = self.advance(left, answer), self.advance(right, answer)
             while one[0] == "call" and self.callees.is_idle(one[1], other):
-                one = self.advance(left, ("idle", self.calls))
+                self.idle += 1
+                one = self.advance(left, ("idle", self.idle))
             if one[0] != other[0]:
                 raise Differs(f"{one[0]} {one[1:]}\n        not {other[0]} {other[1:]}")
             if one[0] == "dead":

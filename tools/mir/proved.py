@@ -4,7 +4,7 @@ is not read is an error, as of a toolchain that writes another form."""
 import json
 import re
 
-from std import RATTLE, known
+from std import RATTLE, field, integer_of, known
 from terms import FALSE, TRUE, UNIT, Memory, at, cast, compared, length, may_panic, negated, number
 from terms import from_first, operation, place_of, pointer, tag
 
@@ -355,6 +355,8 @@ class Body:
         terms, method = self.arguments(of, operands), self.method(of)
         if "Method" in of and method in ("call", "call_mut", "call_once"):
             terms = [terms[0], ("agg", None, tuple(terms[1:]))]
+        if re.fullmatch(r"core::fmt::builders::\w+::field", path):
+            terms[-1] = field(self.memory.seen(terms[-1]), integer_of(of["Fn"][1]["dicts"][-1]))
         result = yield from known(RATTLE, path, self, of, terms)
         if result is None:
             result = yield from self.called((method, of), terms)

@@ -9,7 +9,10 @@ from terms import FALSE, at, cast, compared, length, number, operation, part, pl
 from terms import pointer, project, referred, tag, text_of
 
 ZERO = number(0, 64)
-SIGNED = lambda name: name[0] in "iI"
+
+
+def is_signed(name):
+    return name[0] in "iI"
 
 
 def bits_of(name):
@@ -29,7 +32,7 @@ def known(rows, path, *given):
 
 
 def widened(to, of, term):
-    return cast(SIGNED(of), bits_of(of), bits_of(to), term)
+    return cast(is_signed(of), bits_of(of), bits_of(to), term)
 
 
 def integers_equal(body, kind, name, terms, references=""):
@@ -78,7 +81,7 @@ def next_of_slice(body, found, terms):
 def next_of_range(body, found, terms):
     place = place_of(terms[0])
     _, _, (first, end) = body.memory.read(place)
-    integer = SIGNED(found[1]), bits_of(found[1])
+    integer = is_signed(found[1]), bits_of(found[1])
     if not (yield ("if", compared("Lt", *integer, first, end))):
         return ("agg", 0, ())
     after = operation("Add", *integer, first, number(1, integer[1]))
@@ -94,12 +97,19 @@ def debug(body, found, terms):
         labels, fields = (it[1][2] if it[0] == "part" else it[2] for it in lists)
     words = [it[1][1].decode() if it else "" for it in (name, *labels)]
     text = " ".join([*words, ")" if found[1] == "tuple" else "}"])
+    fields = map(field, fields)
     return (yield ("call", ("derived_fields", "derived_fields"), (formatter, text, *fields)))
+
+
+def field(term, integer=None):
+    """Returns a field that is shown, an integer with its type."""
+    integer, term = term[1:] if term[0] == "dyn" else (integer, term)
+    return ("shown", integer, referred(term))
 
 
 def with_type(how, integer):
     """Returns how a value is shown; of an integer in decimal, its sign matters."""
-    return f"{how} {integer.lower()}" if integer and how in ("display", "debug") else how
+    return f"{how} {integer}" if integer and how in ("display", "debug") else how
 
 
 def write(body, found, terms):
@@ -158,13 +168,13 @@ RUST = rows(
     (r"core::(?:slice|str)::<impl (?:\[.*\]|str)>::len", "the second field of a slice in Rattle",
      lambda body, found, terms: length(terms[0])),
     (rf"core::num::<impl {INT}>::wrapping_(add|sub|mul)", "an operator in Rattle",
-     lambda _, found, terms: operation(f"Wrap{found[2].title()}", False, bits_of(found[1]), *terms)),
+     lambda _, it, terms: operation(f"Wrap{it[2].title()}", False, bits_of(it[1]), *terms)),
     (r"<([iu]\d+|[iu]size|char) as core::convert::From<([iu]\d+|bool|char)>>::from", "a cast",
      lambda body, found, terms: widened(found[1], found[2], terms[0])),
     (rf"<(&*)(bool|char|{INT}) as core::cmp::PartialEq(?:<.*>)?>::(eq|ne)", "an operator",
      lambda body, found, terms: integers_equal(body, found[2], found[4], terms, found[1])),
     (rf"<{ARRAY} as core::ops::Index(?:Mut)?<core::ops::(Range|RangeFrom|RangeTo)<usize>>>"
-     r"::index(?:_mut)?", "a pointer to an element with a length, which has to be in bounds", sliced),
+     r"::index(?:_mut)?", "a pointer to an element, with a length", sliced),
     (rf"<(&(?:mut )?{ARRAY}|core::ops::Range<\w+>|core::slice::IterMut<.*>) as "
      r"core::iter::IntoIterator>::into_iter", "a `for`, in Rattle a loop over indices", into_iter),
     (r"core::slice::<impl \[.*\]>::iter_mut", "a `for`",
@@ -177,7 +187,7 @@ RUST = rows(
      lambda body, found, terms: ("shown", with_type(found[1], found[3]), terms[0])),
     (r"core::fmt::Arguments::<.*?>::from_str(?:::<.*>)?", "a text",
      lambda body, found, terms: ("pieces", (terms[0],))),
-    (r"core::fmt::Arguments::<.*?>::new(?:::<.*>)?", "a text as the bytes that rustc writes", texts),
+    (r"core::fmt::Arguments::<.*?>::new(?:::<.*>)?", "a text as bytes of rustc's", texts),
     (r"core::fmt::Formatter::<.*?>::write_fmt", "a text, as terms and not as what has them", write),
     (r"core::panicking::\w+(?:::<.*>)?", "never called, as Rattle proves", diverging),
     (r"slice(?:_mut)?::<.*>", "a slice from C, which is one parameter in Rattle", slice_of_c),
@@ -213,9 +223,16 @@ def derived_name(body, _, of, terms):
     return (yield from body.called(("write_str", of), (terms[0], word)))
 
 
+def integer_of(impl, trait="Debug"):
+    """Returns the integer of which this is the impl of a trait, or of references to it."""
+    found = re.search(rf"::([UI]\d+|[UI]size){trait}", json.dumps(impl))
+    return found and found[1].lower()
+
+
 def derived_fields(body, _, of, terms):
     formatter, before, text, *fields = map(body.memory.seen, terms)
     text = text[1][1].decode()
+    fields = [field(*it) for it in zip(fields, map(integer_of, of["Fn"][1]["dicts"][1:]))]
     if before[0] == "begun":  # what has many fields is shown by several calls
         text, fields = before[1].rstrip(" ") + text, [*before[2], *fields]
     if text[-1] not in ")}":
@@ -230,8 +247,7 @@ def write_format(body, _, of, terms):
         if it[0] == "agg" and it[2] and it[2][0][0] == "shown":
             it = (*it[2][0], it[2][1])
         elif it[0] != "shown" and not (it[0] == "&" and it[1][0] == "static"):
-            integer = re.search(r"::([UI]\d+|[UI]size)Display", json.dumps(impl))
-            it = ("shown", with_type("display", integer and integer[1]), it)
+            it = ("shown", with_type("display", integer_of(impl, "Display")), it)
         found.append(shown(it))
     return (yield ("call", ("write_fmt", of), (formatter, ("pieces", *found))))
 
@@ -247,7 +263,7 @@ RATTLE = rows(
     (r"core::cmp::(?:\w+::)*or_(partial_)?cmp", "derived: the next field, if equal so far", or_cmp),
     (r"core::fmt::formatter::Formatter::derived_name", "derived `Debug`", derived_name),
     (r"core::fmt::formatter::Formatter::derived_fields\d", "derived `Debug`", derived_fields),
-    (r"core::fmt::formatter::Formatter::write_fmt", "a text, of texts and what it shows", write_format),
+    (r"core::fmt::formatter::Formatter::write_fmt", "a text", write_format),
     (r"core::fmt::literal::in_radix", "what a text shows", in_radix),
     (r"core::fmt::literal::laid_out", "the layout of what a text shows",
      lambda body, found, of, terms: ("spec", *(it[1] for it in terms))),
