@@ -8,7 +8,6 @@ form on either side, `names.py` what is on one side alone.
 """
 
 import collections
-import json
 import os
 import re
 import subprocess
@@ -146,13 +145,13 @@ def main():
     try:
         return min(report(Path(sys.argv[1]).resolve() if sys.argv[1:] else ROOT), 1)
     except FileNotFoundError as error:
-        print(
-            f"{error.filename} is missing: run `rt lib` in font_types and variations, and in",
-            file=sys.stderr,
-        )
-        print("font_c by a crates.txt without `staticlib`, as `.ci/run` does", file=sys.stderr)
-    except (json.JSONDecodeError, *FAULTS) as error:
-        print(f"{type(error).__name__}: {error}\n{ADVICE}", file=sys.stderr)
+        fault = f"{error.filename} is missing: run `rt lib` in font_types and variations, and in\n"
+        fault += "font_c by a crates.txt without `staticlib`, as .ci/run does"
+    except subprocess.CalledProcessError as error:
+        fault = f"{error}"
+    except FAULTS as error:
+        fault = f"{type(error).__name__}: {error}\n{ADVICE}"
+    print(fault, file=sys.stderr)
     return 1
 
 
