@@ -69,7 +69,7 @@ def next_of_slice(body, found, terms):
     place = place_of(terms[0])
     state = body.memory.read(place)
     if state[0] != "iter":
-        return (yield from body.called(found[0], terms))
+        return None  # the method of an iterator, which is called
     _, of, now = state
     if not (yield ("if", compared("Lt", False, 64, now, length(of)))):
         return ("agg", 0, ())
