@@ -295,7 +295,7 @@ class Body:
         if kind == "Unreachable":
             yield ("dead",)
         elif kind == "Call":
-            yield from self.call(*parts[0][:3])
+            yield from self.call(*parts[0])
         elif kind == "Assign":
             place, value = parts[0]
             yield from self.store(place, self.rvalue(place, value))
