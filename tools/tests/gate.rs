@@ -40,7 +40,7 @@ const OPTIONAL: &str = "c++ pkg-config nm readelf ldd python3";
 
 /// What the gate and its stand-ins call of the system.
 const SYSTEM: &str =
-    "bash sh env basename cat cmp cp dirname grep mktemp paste rm sed tail tee touch wc";
+    "bash sh env basename cat cmp cp dirname grep mkdir mktemp paste rm sed tail tar tee touch wc";
 
 /// Other faults with which the gate has to fail.
 const FAULTS: &str = "test 1,test 2,early answer,message,answers,bad edit,status of ci";
@@ -74,7 +74,8 @@ c/check) [ "$FAIL" != freetype ] || echo "left out: FreeType" ;;
         exit 1
     fi
     [ "$FAIL" = answers ] || cat crates/fontval/memory/stdout ;;
-"rt ci")
+"rt help") [ "$FAIL" != --anew ] || echo "rt ci NAME.." ;;
+"rt ci"*)
     [ "$FAIL" != "bad edit" ] || echo "rt: note: bad must-fail edits: some"
     echo "rt: must-fail a/b.edit: refused, as it must be: some"
     echo "3 passed, $([ "$FAIL" = crate ] && echo 1 || echo 0) failed"
@@ -98,6 +99,7 @@ fn run(folder: &Path, fail: &str) -> (Option<String>, Vec<String>) {
     fs::write(&log, "").unwrap();
     let mut gate = Command::new(folder.join(".ci/run"));
     let gate = gate.env_clear().env("PATH", folder.join("bin"));
+    let gate = gate.args(fail.ends_with("--anew").then_some("--anew"));
     let output = gate.env("LOG", &log).env("FAIL", fail).output().unwrap();
     let printed = String::from_utf8_lossy(&output.stdout);
     let mut lines = printed.lines().rev();
@@ -191,6 +193,14 @@ fn gate_fails_if_a_step_does() {
         ("rustc", "MIR"),
     ] {
         assert_eq!(run(&folder, fault).0.as_deref(), Some(told));
+    }
+    // A kit that keeps no results does not know the argument.
+    for (kit, call) in [("--anew", "rt ci --anew"), ("old --anew", "rt ci")] {
+        let (left_out, calls) = run(&folder, kit);
+        assert!(
+            left_out.is_some() && calls.iter().any(|it| it == call),
+            "{kit}"
+        );
     }
     for tool in REQUIRED.split(' ') {
         assert_eq!(run_without(&folder, tool), None, "{tool}");
