@@ -82,4 +82,20 @@ mod traits;
 #[doc = include_str!("../docs/PORTING.md")]
 mod porting {}
 
+/// As in the guide, by `read_at`:
+///
+/// ```compile_fail,E0080
+/// # use font_types_proved::{FixedSize, Scalar, ScalarArray};
+/// # struct Sign(i8);
+/// # impl FixedSize for Sign { const RAW_BYTE_LEN: usize = 2; }
+/// # impl Scalar for Sign {
+/// #     type Raw = [u8; 1];
+/// #     fn from_raw(raw: [u8; 1]) -> Self { Self(i8::from_be_bytes(raw)) }
+/// #     fn to_raw(self) -> [u8; 1] { self.0.to_be_bytes() }
+/// # }
+/// assert!(ScalarArray::<Sign>::read_at(&[0; 4], 2, 1).is_some());
+/// ```
+#[cfg(doctest)]
+mod length_of_another {}
+
 pub use font_types::*;
