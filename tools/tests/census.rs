@@ -10,7 +10,7 @@ const COUNTS: [(&str, &str, &str, usize); 14] = [
     ("tests", ".rs", "#[test]\n", 215),
     ("tools/tests", ".rs", "#[test]\n", 15),
     ("compare/tests", ".rs", "#[test]\n", 42),
-    ("crates", ".rt", "#[test]\n", 165),
+    ("crates", ".rt", "#[test]\n", 166),
     ("tests", ".rs", "#[ignore", 0),
     ("compare/tests", ".rs", "#[ignore", 6),
     ("tests", ".rs", "#[cfg", 11),
@@ -18,7 +18,7 @@ const COUNTS: [(&str, &str, &str, usize); 14] = [
     ("tests", ".rs", "/*", 0),
     ("crates", ".rt", "\nmod ", 118),
     ("crates", ".edit", "# clause: ", 256),
-    ("crates", ".edit", "# control: ", 81),
+    ("crates", ".edit", "# control: ", 68),
     ("crates/fontval", "stdin", "\n", 213),
     ("c/tests", ".sh", "\n", 348),
 ];

@@ -34,12 +34,12 @@ fn zones_and_positions(rt: HostRuntime) {
         blend(ten, forty, half),
     ];
     assert!(rt; found == [25, 25].map(Fixed::from_bits));
-    let edges = scaled_edges(
-        Fixed::from_bits(3),
-        ten,
-        Fixed::ONE,
-        Fixed::from_bits(0x2_0000),
-    );
+}
+
+#[test]
+fn edges_in_order(rt: HostRuntime) {
+    let [low, high] = [Fixed::from_bits(3), Fixed::from_bits(10)];
+    let edges = scaled_edges(low, high, Fixed::ONE, Fixed::from_bits(0x2_0000));
     assert!(rt; edges == (Fixed::from_bits(2), Fixed::from_bits(5)));
 }
 

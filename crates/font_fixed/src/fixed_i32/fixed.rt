@@ -307,6 +307,7 @@ pub fn nearest_step(moved: i128) -> i128
 /// Returns the sum of an integer and a delta, rounded to the nearest integer, half up.
 #[must_use]
 #[inline(always)]
+#[tactic(auto, using(std::proofs::lemmas::Int::wraps, crate::proofs::Deltas::integer_added))]
 pub const fn nearest_sum(number: i32, delta: F48Dot16) -> i64
     ensures { result ≡ up (number *ℤ pos 65536 +ℤ f48dot16_bits delta) 65536 }
 {

@@ -1,4 +1,5 @@
-use Rattle.std.proofs.Common.{◌+◌, ◌-◌, ◌^◌, ◌≤◌, arith, sym, ◌∙◌}
+use Rattle.std.proofs.Common.{◌≡◌, ◌+◌, ◌-◌, ◌^◌, ◌≤◌, min, take, arith, sym, ◌∙◌}
+use Rattle.std.specs.Str.Parse.{digits_value}
 use Rattle.std.proofs.Math.Nat.{pow-le-pow_right}
 use Rattle.std.proofs.lemmas.List.{take_rest}
 use Rattle.std.proofs.lemmas.Nat.{one_shl}
@@ -20,10 +21,13 @@ returns-in_err-after_point-clause-none c = grind (arith, take_rest, fraction_fou
 pub returns-in_err-half_units-clause-none : goal.returns-in_err-half_units-clause-none
 returns-in_err-half_units-clause-none c = grind (arith, same_point, fraction_found, take_rest)
 
+cap : (c : goal.In_ok-half_units) → c.whole_digits-whole.result.0
+    ≡ min (digits_value 10 (take c.whole_digits-whole.result.1 c.args.digits.now)) (2 ^ (63 - c.args.f) + 1)
+cap c = omega (arith, one_shl (63 - c.args.f) 64 (omega arith), c.whole_digits-whole.ensures.number)
+
 fit : (c : goal.In_ok-half_units) → UnitsFit c.args.f c.whole_digits-whole.result.0 c.in_ok-half_units.half_units
 fit c = units_fit c.args.f _ _ _
-    (omega (arith, c.requires)) (rw (one_shl (63 - c.args.f) 64 (omega arith)) at c.whole_digits-whole.ensures.number)
-    (half_units_below (c.args.f + 1) _ c.in_ok-half_units.ensures)
+    (omega (arith, c.requires)) (cap c) (half_units_below (c.args.f + 1) _ c.in_ok-half_units.ensures)
 
 pub overflow_add-result : goal.overflow_add-result
 overflow_add-result c = omega (arith, (fit c).one_more)
@@ -37,10 +41,9 @@ returns-clause-some c =
     let digits = c.args.digits.now in
     let halves = c.in_ok-half_units.ensures in
     let rest = sym (take_rest digits whole.result.1) ∙ c.in_ok-after_point.ensures in
-    let cap = rw (one_shl (63 - c.args.f) 64 (omega arith)) at whole.ensures.number in
     rw (fit c).shifted (
       _,
-      units_capped c.args.f _ _ _ (omega (arith, c.requires)) cap,
+      units_capped c.args.f _ _ _ (omega (arith, c.requires)) (cap c),
       λ s. rw halves.1 (rounds_by c.args.f (parts_found _ _ _ s
-          whole.ensures.digits (omega (arith, c.if-len-eq0.false)) whole.ensures.within rest halves.0)),
+          whole.ensures.digits (omega arith) whole.ensures.within rest halves.0)),
     )

@@ -1,4 +1,4 @@
-use Rattle.std.proofs.Common.{arith, to_z-of_z}
+use Rattle.std.proofs.Common.{◌≡◌, ℕ, ◌<◌, ◌^◌, ◌⊎◌, arith, to_z-of_z}
 use Rattle.font_decimal.proofs.Parts.{no_decimal}
 use Rattle.font_decimal.proofs.Readings.{judged_by_range}
 use Rattle.font_decimal.proofs.reader.read_decimal_bytes.Goals as goal
@@ -8,5 +8,14 @@ returns-in_default c =
     let sign = c.split_sign-negative.ensures in
     no_decimal _ _ _ sign.minus sign.plain c.in_default.ensures.none
 
+same_units : {n m units : ℕ} → n ≡ m → (m ≡ units) ⊎ ((2 ^ 63 < m) × (2 ^ 63 < units))
+    → (n ≡ units) ⊎ ((2 ^ 63 < n) × (2 ^ 63 < units))
+same_units e same = rw e same
+
 pub returns : goal.returns
-returns c = grind (arith, judged_by_range, to_z-of_z)
+returns c =
+    let sign = c.split_sign-negative in
+    let some = c.in-Some.ensures.some in
+    rw c.ok_or.ensures.value (judged_by_range sign.result.0 _ some.0 c.args.min c.args.max _ c.ranges.min c.ranges.max
+    (same_units (omega arith) some.1) (rw sign.ensures.minus (some.2 sign.result.0))
+    (simp (to_z-of_z, c.ranges.min, c.ranges.max) at c.in_range.ensures))

@@ -10,7 +10,7 @@ returns-clause-bytes g c =
     read_bytes raw.is_value raw.bytes g.T.FixedSize.RAW_BYTE_LEN c.args.count
     c.args.offset c.as_chunks.result.0.now c.in_ok-get-2.field-0.now c.args.bytes.now c.in_ok-get.field-0.now
     c.as_chunks.result.1.now are c.in_ok-get-2.ensures.lookup.0.1 c.as_chunks.ensures.bytes
-    c.in_ok-get.ensures.lookup.0.2 c.in_ok-get-2.ensures.lookup.0.2
+    (search rules) c.in_ok-get-2.ensures.lookup.0.2
 
 pub returns-clause-elements : goal.returns-clause-elements
 returns-clause-elements g c =
