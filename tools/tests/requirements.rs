@@ -1,4 +1,4 @@
-//! Each row of docs/REQUIREMENTS.md is shown by literals in a test, or by a mutant.
+//! Each row of tools/tests/requirements.md is shown by literals in a test, or by a mutant.
 
 use font_types_tools::repository::{files, text};
 
@@ -44,9 +44,9 @@ fn stored_lines() -> String {
 
 #[test]
 fn rows_are_shown() {
-    let page = text("docs/REQUIREMENTS.md");
+    let page = text("tools/tests/requirements.md");
     let path_of = |label: &str| {
-        let start = format!("\n[{label}]: ../");
+        let start = format!("\n[{label}]: ../../");
         let (_, path) = page.split_once(&start).expect(label);
         path.lines().next().unwrap()
     };
@@ -88,7 +88,7 @@ fn rows_are_shown() {
     // Those are required that say so.
     let edits = files("crates", ".edit").into_iter();
     let required =
-        edits.filter(|path| text(path).contains("\n# required by docs/REQUIREMENTS.md\n"));
+        edits.filter(|path| text(path).contains("\n# required by tools/tests/requirements.md\n"));
     let name = |path: String| {
         path.rsplit('/')
             .next()

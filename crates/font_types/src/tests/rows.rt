@@ -1,4 +1,4 @@
-//! Versions of font files, and sums of deltas and what they move, by rows of docs/REQUIREMENTS.md
+//! Versions of font files, and sums of deltas and what they move, by rows of tools/tests/requirements.md
 //! and of font-types.
 
 use crate::{
