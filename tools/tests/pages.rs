@@ -109,7 +109,6 @@ fn assert_shown(page: &str, start: &str, source: &str) {
 fn shown_code() {
     let fixed = "crates/font_fixed/src/fixed_i32.rt";
     assert_shown("README.md", "pub const fn checked_add", fixed);
-    assert_shown("src/guide.md", "pub const fn floor", fixed);
     let page = text("docs/CALLING.md");
     let (_, link) = page
         .split_once("](../crates/callers/")
