@@ -125,66 +125,6 @@ fn products_and_quotients() {
 }
 
 #[test]
-fn laws_of_products_and_quotients() {
-    for x in factors() {
-        for y in factors() {
-            let [a, b] = [x, y].map(Fixed::from_bits);
-            let found = [
-                laws::fixed::product_laws(a, b),
-                laws::fixed::quotient_laws(a, b),
-            ];
-            let by_itself = if x == 0 { a / a } else { Fixed::ONE };
-            let right = [[a * b, a * b, a, a * b], [a / b, a / b, a, by_itself]];
-            assert_eq!(found, right, "{x}, {y}");
-            let [a, b] = [x, y].map(F26Dot6::from_bits);
-            let found = [
-                laws::f26dot6::product_laws(a, b),
-                laws::f26dot6::quotient_laws(a, b),
-            ];
-            let by_itself = if x == 0 { a / a } else { F26Dot6::ONE };
-            assert_eq!(
-                found,
-                [[a * b, a * b, a], [a / b, a, by_itself]],
-                "{x}, {y}"
-            );
-        }
-    }
-}
-
-#[test]
-fn order_and_bounds() {
-    for (x, y, a, c, right) in [
-        (3, 5, 1, 2, [2, 3]),
-        (-5, -3, 1, 2, [-3, -2]),
-        // 1000 and 1001 units at a size of 12 and 2048 units per em.
-        (
-            65_536_000,
-            65_601_536,
-            786_432,
-            134_217_728,
-            [384_000, 384_384],
-        ),
-    ] {
-        let [x, y, a, c] = [x, y, a, c].map(Fixed::from_bits);
-        let (first, second) = laws::fixed::scaled_in_order(x, y, a, c);
-        assert_eq!([first, second].map(Fixed::to_bits), right, "{x}, {y}");
-    }
-    let ties = [-0x8001, -0x8000, 0x7FFF, 0x8000].map(Fixed::from_bits);
-    assert_eq!(ties.map(Fixed::to_i32), [-1, 0, 0, 1]);
-    assert_eq!(ties.map(Fixed::round), [-1, 0, 0, 1].map(Fixed::from_i32));
-    let ends = [i16::MIN, -1, i16::MAX];
-    let back = |n| F2Dot14::from_bits(n).to_fixed().to_f2dot14().to_bits();
-    assert_eq!(ends.map(back), ends);
-    let back = |n: i16| Fixed::from_i32(n.into()).to_i32();
-    assert_eq!(ends.map(back), ends.map(i32::from));
-    let thirds = [3, -3].map(|n| Fixed::from_i32(2) / Fixed::from_i32(n));
-    assert_eq!(thirds.map(Fixed::to_bits), [43_691, -43_691]);
-    let tie = Fixed::from_bits(0x8000);
-    let products = [3, -3].map(|n| (Fixed::from_bits(n) * tie).to_bits());
-    assert_eq!(products, [2, -2]);
-}
-
-#[test]
 fn checked_products_and_quotients() {
     for x in factors() {
         for y in factors() {

@@ -264,22 +264,6 @@ fn long_array() {
     assert_eq!(array.iter().map(u64::from).sum::<u64>(), 69_999 * 35_000);
 }
 
-/// Raw bytes of a caller's scalar.
-#[derive(Clone, Copy)]
-struct Bytes<const N: usize>([u8; N]);
-
-impl<const N: usize> BeByteArray for Bytes<N> {
-    const LEN: usize = N;
-
-    fn from_slice(slice: &[u8]) -> Option<Self> {
-        slice.try_into().ok().map(Self)
-    }
-
-    fn as_slice(&self) -> &[u8] {
-        &self.0
-    }
-}
-
 /// A caller's scalar of any number of bytes.
 #[derive(Clone, Copy, PartialEq, Debug)]
 struct Record<const N: usize>([u8; N]);
@@ -329,33 +313,6 @@ fn zero_byte_scalar() {
         [Some(0), Some(0), None]
     );
     assert_eq!(Record::<0>::read(&[]), Some(Record([])));
-}
-
-/// A caller's scalar with raw bytes of its own: a field, but no array.
-#[derive(Clone, Copy, PartialEq, Debug)]
-struct Own([u8; 2]);
-
-impl FixedSize for Own {
-    const RAW_BYTE_LEN: usize = 2;
-}
-
-impl Scalar for Own {
-    type Raw = Bytes<2>;
-
-    fn from_raw(raw: Bytes<2>) -> Self {
-        Self(raw.0)
-    }
-
-    fn to_raw(self) -> Bytes<2> {
-        Bytes(self.0)
-    }
-}
-
-#[test]
-fn caller_defined_bytes() {
-    let field = BigEndian::from(Own(*b"ab"));
-    assert_eq!((field.be_bytes(), field.get()), (&b"ab"[..], Own(*b"ab")));
-    assert_ne!(field, BigEndian::from(Own(*b"ac")));
 }
 
 #[test]

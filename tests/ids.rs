@@ -198,17 +198,6 @@ fn major_minor() {
     let pair = MajorMinor::new(1, 10);
     let found = (pair.major, pair.minor, pair.to_be_bytes());
     assert_eq!(found, (1, 10, [0, 1, 0, 10]));
-    let found = format!("{pair} {pair:?}");
-    assert_eq!(found, "1.10 MajorMinor { major: 1, minor: 10 }");
-    let named = [
-        MajorMinor::VERSION_1_0,
-        MajorMinor::VERSION_1_1,
-        MajorMinor::VERSION_1_2,
-        MajorMinor::VERSION_1_3,
-        MajorMinor::VERSION_2_0,
-    ];
-    let numbers = named.map(|version| (version.major, version.minor));
-    assert_eq!(numbers, [(1, 0), (1, 1), (1, 2), (1, 3), (2, 0)]);
 }
 
 #[test]

@@ -207,3 +207,33 @@ fn bytes(rt: HostRuntime) {
     assert!(rt; BigEndian::from(Fixed::NEG_ONE) < BigEndian::from(Fixed::ZERO));
     assert!(rt; BigEndian::from(F2Dot30::NEG_ONE) < BigEndian::from(F2Dot30::ZERO));
 }
+
+#[test]
+fn order_and_bounds(rt: HostRuntime) {
+    for &(x, y, a, c, right) in &[
+        (3, 5, 1, 2, [2, 3]),
+        (-5, -3, 1, 2, [-3, -2]),
+        // 1000 and 1001 units at a size of 12 and 2048 units per em.
+        (65536000, 65601536, 786432, 134217728, [384000, 384384]),
+    ] {
+        let (first, second) = fixed::scaled_in_order(
+            Fixed::from_bits(x),
+            Fixed::from_bits(y),
+            Fixed::from_bits(a),
+            Fixed::from_bits(c),
+        );
+        assert!(rt; [first, second].map(Fixed::to_bits) == right, "{x}, {y}");
+    }
+    let ties = [-0x8001, -0x8000, 0x7FFF, 0x8000].map(Fixed::from_bits);
+    assert!(rt; ties.map(Fixed::to_i32) == [-1, 0, 0, 1]);
+    assert!(rt; ties.map(Fixed::round) == [-1, 0, 0, 1].map(Fixed::from_i32));
+    for &end in &[i16::MIN, -1, i16::MAX] {
+        assert!(rt; F2Dot14::from_bits(end).to_fixed().to_f2dot14() == F2Dot14::from_bits(end));
+        assert!(rt; Fixed::from_i32(i32::from(end)).to_i32() == i32::from(end));
+    }
+    let (two, tie) = (Fixed::from_i32(2), Fixed::from_bits(0x8000));
+    assert!(rt; two / Fixed::from_i32(3) == Fixed::from_bits(43691));
+    assert!(rt; two / Fixed::from_i32(-3) == Fixed::from_bits(-43691));
+    assert!(rt; Fixed::from_bits(3) * tie == Fixed::from_bits(2));
+    assert!(rt; Fixed::from_bits(-3) * tie == Fixed::from_bits(-2));
+}
