@@ -1,5 +1,5 @@
 -- Dumps of font values.
-use Rattle.std.specs.Prelude.{◌≡◌, ◌⊎◌, ℕ, ◌-◌, pos, false, List, IsTrue, Option, Some, None, Result, Ok, Err}
+use Rattle.std.specs.Prelude.{◌≡◌, ◌⊎◌, ℕ, pos, false, List, IsTrue, Option, Some, None, Result, Ok, Err}
 use lib.Chars.{codes}
 use Rattle.serde_json.specs.Data.{Data, object, member, no_members, string, number}
 use Rattle.serde_json.specs.Find.{of_integer, get}
