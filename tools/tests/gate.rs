@@ -212,4 +212,6 @@ fn gate_fails_if_a_step_does() {
             "{tool}"
         );
     }
+    // `rt` reads each `crates.txt` below the root.
+    fs::remove_dir_all(folder).unwrap();
 }
