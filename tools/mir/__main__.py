@@ -36,6 +36,9 @@ PACKAGES = (
     ("c", "--lib", "c/src/generated", ""),
 )
 
+# A literal, or a crate with which a path begins.
+PATHS = r'"(?:\\.|[^"\\\n])*"|\b(std|font_types_proved)::(?=([A-Z])?)'
+
 # How many functions one side alone has, by the rule of `names.py`.
 ONE_SIDED = {
     "a constant that a function uses, in Rust": 31,
@@ -72,6 +75,14 @@ class Sources:
         self.text = "\n".join("\n".join(it) for it in self.lines.values())
 
 
+def path(found):
+    """Returns the beginning of a path as the library has it; a literal remains."""
+    crate, kind = found.groups()
+    if not crate:
+        return found[0]
+    return "core::" if crate == "std" else "font_types::" if kind else ""
+
+
 def printed(root, package, target):
     """Returns the MIR of a target, with the paths that it has in the library."""
     with tempfile.TemporaryDirectory() as room:
@@ -80,10 +91,10 @@ def printed(root, package, target):
         subprocess.run(cargo, cwd=root / package, check=True, env=env)
         folder = "examples" if "example" in target else "deps"
         (file,) = Path(room, "debug", folder).glob("*.mir")
-        text = re.sub(r"\bfont_types_proved::(?=[A-Z])", "font_types::", file.read_text())
+        text = re.sub(PATHS, path, file.read_text())
     if package != ".":
         text = re.sub(r"(@| at )src/(?:\.\./\.\./)?", rf"\1{package}/src/", text)
-    return text.replace("font_types_proved::", "").replace("std::", "core::")
+    return text
 
 
 def read(root):
@@ -91,7 +102,7 @@ def read(root):
     sources = Sources(root)
     text = compiled.Text(sources.lines.values())
     for package, target, folder, module in PACKAGES:
-        crates = {module} if module else {it.name for it in (root / folder).iterdir()}
+        crates = {module} if module else {it.stem for it in (root / folder).iterdir()}
         text.read(printed(root, package, target), crates)
     crates = [f"{it}/out/rlib/{it}.rlib/toolchain/mir.json" for it in sources.crates.values()]
     library = proved.Library([ROOT / "crates" / it for it in crates])

@@ -148,7 +148,8 @@ class Callees:
         if left.name.endswith("Clone::clone"):  # it may fail in Rattle, for want of memory
             ours[0] = ours[0]["Named"][1][0]
         trees = [parse(it, self.names.aliases) for it in types]
-        if len(ours) != len(trees) or not self.are_types(ours, trees, left.types):
+        is_one = left.count + 1 == len(trees)
+        if not is_one or not self.are_types(ours, trees, left.types):
             raise Differs(f"the types {ours} are not {types}")
 
     # ---- calls

@@ -532,7 +532,9 @@ class Body:
 
 
 def literal_of(text):
-    text = re.sub(r"\\u\{(\w+)\}", lambda it: "\\U" + it[1].zfill(8), text)
+    zero = lambda it: "\\x00" if it[1] == "0" else it[0]
+    escape = lambda it: "\\U" + it[2].zfill(8) if it[2] else zero(it)
+    text = re.sub(r"\\(u\{(\w+)\}|.)", escape, text)
     found = ast.literal_eval(text)
     if text.startswith("b"):
         return ("ptr", ("static", found), ())

@@ -54,8 +54,9 @@ class Names:
 
     def __init__(self, text, library, sources):
         self.text, self.library, self.sources = text, library, sources
-        parts = ("{constant", "promoted[", "{closure")
-        self.theirs = [it for it in text.functions if not any(part in it for part in parts)]
+        # Those that rustc names end with a bracket: `{constant#0}`, `promoted[0]`, `{closure#0}`.
+        is_inner = lambda name: name.removesuffix("()")[-1] in "}]"
+        self.theirs = [it for it in text.functions if not is_inner(it)]
         aliases = re.findall(r"^pub type (\w+) = (.+);", sources.text, re.M)
         self.aliases = {name: parse(of, {}) for name, of in aliases}
         self.impls = {it: self.impl_at(it) for it in self.theirs}

@@ -10,7 +10,7 @@ one of those that these variables stand for, all of whose paths are run.
 """
 
 from facts import Facts
-from terms import referred
+from terms import is_number, referred
 
 PATHS, TURNS = 3000, 9
 
@@ -100,7 +100,7 @@ class Path:
 
     def equal(self, x, y):
         """Returns whether two terms are equal; of conditions, whether both are true or false."""
-        if x == y or not x or not y:
+        if x == y or not x or not y or is_number(x, y):
             return x == y
         if is_condition(x) or is_condition(y):
             return self.decide(x) == self.decide(y)

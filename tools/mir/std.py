@@ -132,6 +132,8 @@ def pieces(data, shown_terms):
             take(count)
             yield text_of(data[place - count : place])
             continue
+        if first & 0xF0 != 0xC0:
+            raise ValueError(f"a width or precision that is an argument, {first}")
         flags = take(4) if first & 1 else 0x20
         wide = take(2) if first & 2 else 0
         precise = take(2) if first & 4 else (1 << 64) - 1
