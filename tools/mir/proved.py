@@ -69,10 +69,17 @@ class Body:
         self.locals, self.count = [it["ty"] for it in self.body["locals"]], self.body["params"]
         tokens = self.body["body"] if isinstance(self.body["body"], list) else [self.body["body"]]
         self.tree = tree(iter(tokens))
-        # The locals that are distances in memory, not indices.
-        assigned = (it["Assign"][1] for it in tokens if "Assign" in it)
-        offsets = (it["Op2"][2] for it in assigned if it.get("Op2", [0])[0] == "Offset")
-        self.distances = {it["Copy"]["local"] for it in offsets if "Copy" in it}
+        # The locals that are distances in memory, not indices; of what has one byte they are both.
+        assigned = [it["Assign"] for it in tokens if "Assign" in it]
+        arrays = {it["local"]: self.type_of(of["AddrOf"]) for it, of in assigned if "AddrOf" in of}
+        lent = (it["LendStatic"] for it in tokens if "LendStatic" in it)
+        arrays.update((it["local"], of) for it, of, _ in lent)
+        offsets = [it["Op2"] for _, it in assigned if it.get("Op2", [0])[0] == "Offset"]
+        self.distances = {
+            it["Copy"]["local"]
+            for _, of, it in offsets
+            if "Copy" in it and not self.is_byte(self.pointed(of["Copy"], arrays))
+        }
         # What types the parameters are; of a pointer to an element, in what length at what index.
         self.types, self.origins = {}, {}
 
@@ -106,6 +113,17 @@ class Body:
                 raise ValueError(f"a step {step}")
             variant = n if kind == "Variant" else None
         yield None, None, of, variant
+
+    def pointed(self, place, arrays):
+        """Returns the type of the elements to one of which a pointer is."""
+        kind, of = kind_of(self.type_of(place))
+        kind, of = kind_of(arrays[place["local"]] if kind == "Ptr" else of[2])
+        return of[0] if kind == "Array" else {kind: of} if of is not None else kind
+
+    def is_byte(self, of):
+        shape = self.shape(of)
+        is_one = len(shape.get("Fields", ())) == 1 and self.is_byte(self.field(of, None, 0))
+        return of in ("Bool", {"Int": 8}) or is_one or not any(shape.get("Variants", (of,)))
 
     def field(self, of, variant, n):
         if is_slice(of):
