@@ -160,7 +160,7 @@ class Callees:
 
     def require(self, one, other, body):
         method, of = one
-        if method == other[0] and method in ("drop", "derived_fields"):
+        if method == other[1] and method in ("drop", "derived_fields"):
             return
         fault = other[1] if method != last(other[1]) else self.fault(of, other[1], body)
         if fault:
