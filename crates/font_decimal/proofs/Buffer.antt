@@ -14,7 +14,7 @@ pub digits_fit_buffer : (left whole : ℕ) (text old : List ℕ) → left < 2 ^ 
 digits_fit_buffer left whole text old small e fits =
     omega (arith, ap length e, length-append {A = ℕ}, decimal_nonempty left small)
 
-pub ruleset buffer_rules = (
+pub ruleset buffers = (
   length-drop,
   drop-set,
   take_all,

@@ -1,5 +1,5 @@
 //! The shortest decimal of a fixed-point number.
-#![tactic(auto, using(crate::proofs::Buffer::buffer_rules))]
+#![tactic(auto, using(crate::proofs::Buffer::buffers))]
 
 ghost use Rattle.std.specs.Prelude.{◌≡◌, ◌+◌, ◌*◌, ◌%◌, ◌^◌, ◌≤◌, ◌<◌, [], ◌∷◌, ◌++◌};
 ghost use Rattle.std.specs.Prelude.{ℕ, length, slice_index, Some};
@@ -69,7 +69,7 @@ impl Shortest {
     /// Returns the decimal as a string.
     #[must_use]
     #[inline]
-    #[tactic(auto, using(crate::proofs::Buffer::buffer_rules), unfolding(crate::specs::Shown::shown))]
+    #[tactic(auto, using(crate::proofs::Buffer::buffers), unfolding(crate::specs::Shown::shown))]
     pub fn as_str(&self) -> &str
         ensures text { result.now ≡ shown self.now }
         ensures short { length result.now ≤ 22 }
@@ -79,7 +79,7 @@ impl Shortest {
     }
 
     #[inline]
-    #[tactic(auto, using(crate::proofs::Buffer::buffer_rules), unfolding(crate::specs::Shown::shown))]
+    #[tactic(auto, using(crate::proofs::Buffer::buffers), unfolding(crate::specs::Shown::shown))]
     fn empty() -> Self
         ensures { shown result ≡ [] }
     {
@@ -91,7 +91,7 @@ impl Shortest {
 
     // Prepends a byte.
     #[inline]
-    #[tactic(auto, using(crate::proofs::Buffer::buffer_rules), unfolding(crate::specs::Shown::shown))]
+    #[tactic(auto, using(crate::proofs::Buffer::buffers), unfolding(crate::specs::Shown::shown))]
     fn push(&mut self, byte: u8)
         requires { (byte < 128) × (length (shown self.old) < 22) }
         ensures { shown self.new ≡ byte ∷ shown self.old }

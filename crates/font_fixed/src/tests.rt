@@ -1,4 +1,4 @@
-//! Rows of tools/tests/requirements.md and of font-types, and every value of 16 bits. `arithmetic.rs` and
+//! Rows of requirements.md and of font-types, and every value of 16 bits. `arithmetic.rs` and
 //! `decimals.rs` of `tests` compare each type with exact values.
 
 mod arithmetic;

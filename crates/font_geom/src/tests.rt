@@ -1,4 +1,4 @@
-//! Impls of callers, rows of tools/tests/requirements.md, traits and texts. `tests/geometry.rs` has the
+//! Impls of callers, rows of requirements.md, traits and texts. `tests/geometry.rs` has the
 //! order of operands.
 
 mod boxes;

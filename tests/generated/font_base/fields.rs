@@ -1,7 +1,7 @@
 // @generated from crates/font_base/src/tests/fields.rt by tools/src/bin/erase.rs
 
 //! Impls of callers: an array of bytes and a header. Also whether fields and headers have the
-//! values of tools/tests/requirements.md, and texts, which no clause says.
+//! values of requirements.md, and texts, which no clause says.
 
 use crate::font_base::{
     BeByteArray, BigEndian, Int24, SampleHeader, ScalarArray, TableDataRef, TableHeader,

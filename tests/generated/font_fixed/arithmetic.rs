@@ -1,7 +1,7 @@
 // @generated from crates/font_fixed/src/tests/arithmetic.rt by tools/src/bin/erase.rs
 
 //! Whether the definitions of sums, products, quotients, rounding and bytes give the values of
-//! tools/tests/requirements.md and of font-types.
+//! requirements.md and of font-types.
 
 use crate::font_base::{BigEndian, Scalar};
 use crate::font_fixed::laws::{f26dot6, fixed};

@@ -1,6 +1,6 @@
 // @generated from crates/font_fixed/src/tests/conversions.rt by tools/src/bin/erase.rs
 
-//! Whether the definitions of conversions give the values of tools/tests/requirements.md and font-types.
+//! Whether the definitions of conversions give the values of requirements.md and font-types.
 
 use crate::font_fixed::*;
 

@@ -1,6 +1,6 @@
 // @generated from crates/font_fixed/src/tests/padded.rt by tools/src/bin/erase.rs
 
-//! Whether the definition of padding gives the texts of tools/tests/requirements.md.
+//! Whether the definition of padding gives the texts of requirements.md.
 
 use crate::font_decimal::Align::{Center, Left, Right};
 use crate::font_decimal::Pad;

@@ -1,6 +1,6 @@
 // @generated from crates/font_fixed/src/tests/rows.rt by tools/src/bin/erase.rs
 
-//! Decimals of the seven formats, by rows of tools/tests/requirements.md and of font-types.
+//! Decimals of the seven formats, by rows of requirements.md and of font-types.
 
 use crate::font_decimal::DecimalFault;
 use crate::font_fixed::*;

@@ -1,7 +1,7 @@
 // @generated from crates/font_geom/src/tests/boxes.rt by tools/src/bin/erase.rs
 
 //! An element of a caller: one that does not compare with every other.
-//! Also whether boxes have the values of tools/tests/requirements.md.
+//! Also whether boxes have the values of requirements.md.
 
 use crate::font_geom::BoundingBox;
 use crate::rattle::cmp::Ordering;

@@ -1,6 +1,6 @@
 // @generated from crates/font_geom/src/tests.rt by tools/src/bin/erase.rs
 
-//! Impls of callers, rows of tools/tests/requirements.md, traits and texts. `tests/geometry.rs` has the
+//! Impls of callers, rows of requirements.md, traits and texts. `tests/geometry.rs` has the
 //! order of operands.
 
 mod boxes;

@@ -1,6 +1,6 @@
 // @generated from crates/font_geom/src/tests/rows.rt by tools/src/bin/erase.rs
 
-//! Products of matrices of `Fixed` and images of points, by rows of tools/tests/requirements.md.
+//! Products of matrices of `Fixed` and images of points, by rows of requirements.md.
 
 use crate::font_fixed::{F26Dot6, Fixed};
 use crate::font_geom::laws::{composed, in_turn};

@@ -1,6 +1,6 @@
 // @generated from crates/font_ids/src/tests/glyphs.rt by tools/src/bin/erase.rs
 
-//! What no clause says: texts of glyph ids, and of the error. And a row of tools/tests/requirements.md.
+//! What no clause says: texts of glyph ids, and of the error. And a row of requirements.md.
 
 use crate::font_ids::{GlyphId, GlyphId16, GlyphId24};
 use crate::rattle::cmp::Ordering;

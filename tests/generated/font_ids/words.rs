@@ -1,6 +1,6 @@
 // @generated from crates/font_ids/src/tests/words.rt by tools/src/bin/erase.rs
 
-//! What no clause says: texts of font units. And a row of tools/tests/requirements.md.
+//! What no clause says: texts of font units. And a row of requirements.md.
 
 use crate::font_ids::{FWord, UfWord};
 use crate::rattle::test::Fail;

@@ -1,6 +1,6 @@
 // @generated from crates/font_types/src/tests/rows.rt by tools/src/bin/erase.rs
 
-//! Versions of font files, and sums of deltas and what they move, by rows of tools/tests/requirements.md
+//! Versions of font files, and sums of deltas and what they move, by rows of requirements.md
 //! and of font-types.
 
 use crate::font_types::{

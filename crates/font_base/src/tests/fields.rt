@@ -1,5 +1,5 @@
 //! Impls of callers: an array of bytes and a header. Also whether fields and headers have the
-//! values of tools/tests/requirements.md, and texts, which no clause says.
+//! values of requirements.md, and texts, which no clause says.
 
 ghost use Rattle.std.specs.Prelude.{◌≡◌, length};
 ghost use Rattle.std.proofs.Common.{ap, rules};

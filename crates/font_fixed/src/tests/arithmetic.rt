@@ -1,5 +1,5 @@
 //! Whether the definitions of sums, products, quotients, rounding and bytes give the values of
-//! tools/tests/requirements.md and of font-types.
+//! requirements.md and of font-types.
 
 use crate::laws::{f26dot6, fixed};
 use crate::*;

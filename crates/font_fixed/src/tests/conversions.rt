@@ -1,4 +1,4 @@
-//! Whether the definitions of conversions give the values of tools/tests/requirements.md and font-types.
+//! Whether the definitions of conversions give the values of requirements.md and font-types.
 
 use crate::*;
 

@@ -1,4 +1,4 @@
-//! Whether the definition of padding gives the texts of tools/tests/requirements.md.
+//! Whether the definition of padding gives the texts of requirements.md.
 
 use crate::*;
 use font_decimal::Align::{Center, Left, Right};

@@ -1,4 +1,4 @@
-//! Decimals of the seven formats, by rows of tools/tests/requirements.md and of font-types.
+//! Decimals of the seven formats, by rows of requirements.md and of font-types.
 
 use crate::*;
 use font_decimal::DecimalFault;

@@ -1,5 +1,5 @@
 //! An element of a caller: one that does not compare with every other.
-//! Also whether boxes have the values of tools/tests/requirements.md.
+//! Also whether boxes have the values of requirements.md.
 
 ghost use Rattle.std.specs.Prelude.{◌≡◌, ◌&&◌, nat_le};
 ghost use Rattle.font_geom.specs.BoundingBox.Laws.{is_tied, order_of, equality_laws, order_laws};

@@ -1,4 +1,4 @@
-//! Products of matrices of `Fixed` and images of points, by rows of tools/tests/requirements.md.
+//! Products of matrices of `Fixed` and images of points, by rows of requirements.md.
 
 use crate::laws::{composed, in_turn};
 use crate::{Matrix, Point};

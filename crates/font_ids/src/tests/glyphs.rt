@@ -1,4 +1,4 @@
-//! What no clause says: texts of glyph ids, and of the error. And a row of tools/tests/requirements.md.
+//! What no clause says: texts of glyph ids, and of the error. And a row of requirements.md.
 
 use crate::{GlyphId, GlyphId16, GlyphId24};
 use std::cmp::Ordering;

@@ -1,4 +1,4 @@
-//! What no clause says: texts of font units. And a row of tools/tests/requirements.md.
+//! What no clause says: texts of font units. And a row of requirements.md.
 
 use crate::{FWord, UfWord};
 use std::test::Fail;

@@ -1,4 +1,4 @@
-//! Versions of font files, and sums of deltas and what they move, by rows of tools/tests/requirements.md
+//! Versions of font files, and sums of deltas and what they move, by rows of requirements.md
 //! and of font-types.
 
 use crate::{

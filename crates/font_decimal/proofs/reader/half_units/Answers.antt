@@ -23,8 +23,8 @@ power_of_ten_fits f g bits few most = omega
 pub returns-in_ok-numeral : goal.returns-in_ok-numeral
 returns-in_ok-numeral c =
     half_units_of_kept 64 _ _
-    (power_of_ten_fits c.args.f 18 64 c.if-f-le18.true (omega arith)) (omega (arith, c.min-places.ensures)) c.split_at.ensures.by_index.0
-    c.split_at.ensures.front c.in_ok-numeral.ensures (by_test.to _ (sym c.if-not-are_digits.ensures))
+    (power_of_ten_fits c.args.f 18 64 c.if-f-le18.true (omega arith)) (omega (arith, c.min-places.ensures))
+    c.split_at.ensures.by_index.0 c.split_at.ensures.front c.in_ok-numeral.ensures (by_test.to _ (sym c.if-not-are_digits.ensures))
 
 pub returns-in_err-numeral-2 : goal.returns-in_err-numeral-2
 returns-in_err-numeral-2 c = rw c.from_residual-in_err-numeral-2.ensures
@@ -36,8 +36,8 @@ nonzero_div-result-else-f-le18 c = rw c.in_ok-numeral-2.ensures.2 (one-le-pow _ 
 pub returns-in_ok-numeral-2 : goal.returns-in_ok-numeral-2
 returns-in_ok-numeral-2 c =
     half_units_of_kept 128 _ _
-    (power_of_ten_fits c.args.f 30 128 c.requires (omega arith)) (omega (arith, c.min-places.ensures)) c.split_at.ensures.by_index.0
-    c.split_at.ensures.front c.in_ok-numeral-2.ensures (by_test.to _ (sym c.if-not-are_digits.ensures))
+    (power_of_ten_fits c.args.f 30 128 c.requires (omega arith)) (omega (arith, c.min-places.ensures))
+    c.split_at.ensures.by_index.0 c.split_at.ensures.front c.in_ok-numeral-2.ensures (by_test.to _ (sym c.if-not-are_digits.ensures))
 
 pub overflow_cast-result-else-f-le18 : goal.overflow_cast-result-else-f-le18
 overflow_cast-result-else-f-le18 c = omega (

@@ -33,7 +33,8 @@ loop-margin-preserved c =
 fewest : (c : After-loop-margin) → IsFewest c.args.magnitude c.args.f c.loop-margin.places
 fewest c =
     let l = c.loop-margin in
-    stopped l.invariant.rest (omega (arith, c.min.ensures, unit_is c.args.f c.requires)) l.invariant.within l.invariant.fail
+    stopped l.invariant.rest (omega (arith, c.min.ensures, unit_is c.args.f c.requires)) l.invariant.within
+    l.invariant.fail
 
 -- if the last digit is raised
 pub returns-then-rest-unit-clause-places : goal.returns-then-rest-unit-clause-places
