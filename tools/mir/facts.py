@@ -7,15 +7,6 @@ import operator
 from terms import compared, is_number, number, same, value
 
 
-def within(low, high, signed, bits):
-    """Returns the ranges of raw values of the integers from `low` to `high`."""
-    if not signed:
-        return [(low, high)] if low <= high else []
-    size = 1 << bits
-    parts = [(low + size, min(high, -1) + size), (max(low, 0), high)]
-    return sorted(it for it in parts if it[0] <= it[1])
-
-
 def complement(ranges, bits):
     starts = [0, *(high + 1 for _, high in ranges)]
     ends = [*(low - 1 for low, _ in ranges), (1 << bits) - 1]
@@ -28,20 +19,23 @@ def common(some, others):
 
 
 def asked(term):
-    """Returns the term that is compared with an integer, its width, and for what it is true."""
+    """Returns the term that is compared with an integer, its width, and the ranges of the raw
+    values for which it is true; or None."""
     if term[0] not in ("eq", "lt") or is_number(*term[-2:]) or not any(map(is_number, term[-2:])):
         return None
     a, b = term[-2:]
-    n = a if is_number(a) else b
-    bits, signed = n[2], term[0] == "lt" and term[1]
-    low, high = (-(1 << bits - 1), (1 << bits - 1) - 1) if signed else (0, (1 << bits) - 1)
+    of, n = (b, a) if is_number(a) else (a, b)
+    bits, half = n[2], 1 << n[2] - 1
     if term[0] == "eq":
-        return (b if n is a else a), bits, [(n[1], n[1])]
-    if n is a:
-        return b, bits, within(value(n, signed) + 1, high, signed, bits)
-    return a, bits, within(low, value(n, signed) - 1, signed, bits)
+        return of, bits, [(n[1], n[1])]
+    low, high = (-half, half - 1) if term[1] else (0, 2 * half - 1)
+    low, high = (value(n, term[1]) + 1, high) if n is a else (low, value(n, term[1]) - 1)
+    negative = (low + 2 * half, min(high, -1) + 2 * half)
+    return of, bits, [it for it in ((max(low, 0), high), negative) if it[0] <= it[1]]
 
 
+# A fact is what a branch of this path asked, so it is true of the term wherever that occurs: terms
+# are values, which no store changes. Nothing is known but by a question, or as both are equal.
 class Facts:
     def __init__(self):
         self.known, self.values, self.equal = {}, {}, []
@@ -49,10 +43,8 @@ class Facts:
     def values_of(self, term, bits):
         """Returns the values that a term may have, which terms that are equal have too."""
         found = self.values.get(term, [(0, (1 << bits) - 1)])
-        for pair in self.equal:
-            if term in pair:
-                other = pair[term == pair[0]]
-                found = common(found, self.values.get(other, found))
+        for pair in (it for it in self.equal if term in it):
+            found = common(found, self.values.get(pair[term == pair[0]], found))
         return found
 
     def decided(self, term):
@@ -62,28 +54,19 @@ class Facts:
         if term[0] == "not":
             inner = self.decided(term[1])
             return None if inner is None else not inner
-        if term in self.known:
-            return self.known[term]
-        if term[0] == "eq" and all(self.is_one(it) for it in term[1:]):
-            return self.values[term[1]] == self.values[term[2]]
         question = asked(term)
-        if question:
-            of, bits, values = question
-            now = self.values_of(of, bits)
-            if not common(now, values):
-                return False
-            return None if common(now, complement(values, bits)) else True
-        return None
-
-    def is_one(self, term):
-        found = self.values.get(term, ())
-        return len(found) == 1 and found[0][0] == found[0][1]
+        if term in self.known or not question:
+            return self.known.get(term)
+        of, bits, values = question
+        now = self.values_of(of, bits)
+        if not common(now, values):
+            return False
+        return None if common(now, complement(values, bits)) else True
 
     def learn(self, term, is_true):
         if term[0] == "not":
             return self.learn(term[1], not is_true)
-        self.known[term] = is_true
-        question = asked(term)
+        self.known[term], question = is_true, asked(term)
         if question:
             of, bits, values = question
             values = values if is_true else complement(values, bits)
@@ -100,15 +83,14 @@ def test():
     """Tries each comparison of a byte with an integer, and pairs of facts about two values."""
     names = {it.title(): getattr(operator, it) for it in ("eq", "ne", "lt", "le", "gt", "ge")}
     x, y = ("param", 0), ("param", 1)
-    all_raw = [[value(number(it, 8), signed) for it in range(256)] for signed in (False, True)]
     for (name, is_true), signed, n in itertools.product(names.items(), (False, True), range(256)):
-        raw = all_raw[signed]
+        raw = [value(number(it, 8), signed) for it in range(256)]
         for sides in ((x, number(n, 8)), (number(n, 8), x)):
             facts = Facts()
             facts.learn(compared(name, signed, 8, *sides), True)
-            found = [it for low, high in facts.values[x] for it in range(low, high + 1)]
+            found = {it for low, high in facts.values[x] for it in range(low, high + 1)}
             compare = is_true if sides[0] == x else lambda a, b: is_true(b, a)
-            assert found == [it for it in range(256) if compare(raw[it], raw[n])], (name, sides)
+            assert found == {it for it in range(256) if compare(raw[it], raw[n])}, (name, sides)
 
     cases, space = {}, list(itertools.product(range(4), repeat=2))
     terms = [x, y, *(number(it, 2) for it in range(4))]

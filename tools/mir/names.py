@@ -1,109 +1,159 @@
-"""Pairs the functions of both sides, and says which are of one side alone, and why."""
+"""Which functions of both sides are a pair, which calls are of the same, and what is on one side
+alone, and why. A name of Rattle has the type, the trait and its arguments in one word."""
 
 import collections
 import itertools
+import json
+import pathlib
 import re
+import sys
 
-import compiled
-import proved
-from compiled import PLACE, bracketed
-from proved import plain
+import rattle
+from machine import Machine
+from paths import Differs
+from rattle import kind_of, last, plain
+from rust import PLACE, bracketed, names, split
 from terms import UNIT
-from trees import owner, owners, parameters, parse
+from trees import form, is_type, joined, owners, parse, unreferenced
+
+sys.path.append(str(pathlib.Path(__file__).resolve().parents[1] / "erase"))
+from eraser import DERIVED
+
+# An integer in the name of an impl of Rattle, which has the sign that its types lack.
+INTEGER = r"(?:::|[a-z])([UI](?:8|16|32|64|128|size))(?![a-z0-9])"
+
+# What Rattle alone may call, for its contract: by a shared reference, so that it changes nothing.
+IDLE = [f"font_base::raw::{it}BeByteArray::as_slice" for it in ("", "ArrayU8")]
+
+# Methods that Rattle has beside the impls of a trait: those of integers, and in what is derived.
+BESIDE = ("min", "max", "clamp", "and_eq", "or_cmp", "or_partial_cmp")
+
+# What both compilers call by names of their own: these in Rattle, none if it is of a bound, and in
+# Rust.
+OWN = {
+    "drop": (r"(?:std\w*::.*::|.*Destruct::)drop|", "drop"),
+    "derived_fields": (r"core::fmt::formatter::.*", r"core::fmt::Formatter::.*"),
+}
+
+# What Rattle calls the type with which `?` returns; and traits that it has not of references.
+RESIDUAL = {"FromResidual": ("NoValue", "ErrResidual")}
+COMPARED = ("PartialEq", "PartialOrd", "Ord")
+FUNCTIONS = ("Fn", "FnMut", "FnOnce")
 
 
-class Impl:
-    """The `impl`, or the name in a `derive`, at a place of the sources."""
+class Path:
+    """A function or constant of Rust: its name, the type and the trait of its impl, if it has one,
+    and what it is called with."""
 
-    def __init__(self, aliases, lines, first, column, last, end):
-        text = " ".join(lines[first - 1 : last])[column - 1 :]
-        self.derived, self.generics = not text.startswith("impl"), []
-        if self.derived:
-            pattern = r"\s*(?:pub(?:\(.*?\))? )?(?:struct|enum) (\w+)(<.*?>)?"
-            found = next(filter(None, (re.match(pattern, it) for it in lines[first - 1 :])))
-            self.generics = parameters(found[2] or "<>")
-            self.of, self.trait = (found[1],), (text[: end - column],)
+    def __init__(self, text, aliases, impl=None):
+        parts, (*self.module, self.name) = split(text, "::"), names(text)
+        given = split(parts[-1][1:-1]) if text[-1] == ">" else ()
+        self.given = [parse(it, aliases) for it in given if it[0] != "'"]
+        self.kind, self.trait, self.derived, self.generics = impl or (None, None, False, [])
+        inherent = next((it for it in parts if it.startswith("<impl ")), None)
+        if parts[0][0] == "<":
+            kind = [parse(it, aliases) for it in split(parts[0][1:-1], " as ")]
+            self.kind, self.trait = [*kind, None][:2]
+        elif inherent and not impl:
+            self.kind = parse(inherent[6:-1], aliases)
+        elif not impl and self.module and self.module[-1][0].isupper():
+            # The last type before the name, with what it is given.
+            end = max(n for n, it in enumerate(parts) if it.split("<")[0] == self.module[-1])
+            kind = parts[: end + 1 + (parts[end + 1][0] == "<")]
+            self.kind = parse("::".join(kind).replace("::<", "<"), aliases)
+
+    def keys(self, aliases):
+        """Yields the names that Rattle may have, each with the types that are no part of it."""
+        if not self.kind:
+            yield "::".join([*self.module, self.name]), []
             return
-        text = re.sub(r" where .*| \{.*", "", re.sub(r"\s+", " ", text))[4:]
-        if text.startswith("<"):
-            generics = bracketed(text)
-            self.generics, text = parameters(generics), text[len(generics) :]
-        trait, _, of = (it.strip() for it in text.strip().rpartition(" for "))
-        self.of, self.trait = parse(of, aliases), parse(trait, aliases) if trait else None
-        if trait:
-            self.trait = tuple(self.of if it == ("Self",) else it for it in self.trait)
-
-    def likeness(self, name, aliases):
-        """Returns whether a name of Rattle may be that of this `impl`, and whether it surely is."""
-        found = owners(self.of, aliases)
-        if not self.trait:
-            return 2 * (name.removesuffix("Any") in found or name in found)
-        found = "|".join(map(re.escape, sorted(found, key=len, reverse=True)))
-        rest = re.fullmatch(rf"(?:{found})(?:Any)?{self.trait[0]}(?:Tuple2)?(.*)", name)
-        given = (owner(it, aliases) for it in self.trait[1:])
-        given = "".join("Any" if len(it) == 1 else it for it in given)
-        return 0 if not rest else 2 if rest[1].lower() == given.lower() else 1
-
-
-def module_of(path):
-    return "::".join(it for it in path.split("::")[:-1] if it[:1].islower() and it != "fn")
+        trait, *given = self.trait or ("",)
+        found = owners(self.kind, aliases)
+        if self.kind[0] == "&" and trait in COMPARED:  # of references, as of what they refer to
+            found += owners(unreferenced(self.kind), aliases)
+            given = [unreferenced(it) for it in given]
+        others = [*joined(given, aliases), *((it, given) for it in RESIDUAL.get(trait, ("",)))]
+        for (name, rest), (other, more) in itertools.product(found, others):
+            more = [it for it in more if it not in rest]
+            yield f"{name}{trait}{other}::{self.name}", rest + more
 
 
 class Names:
     """The functions of both sides, by name."""
 
     def __init__(self, text, library, sources):
-        self.text, self.library, self.sources = text, library, sources
-        # Those that rustc names end with a bracket: `{constant#0}`, `promoted[0]`, `{closure#0}`.
-        is_inner = lambda name: name.removesuffix("()")[-1] in "}]"
-        self.theirs = [it for it in text.functions if not is_inner(it)]
-        aliases = re.findall(r"^pub type (\w+) = (.+);", sources.text, re.M)
+        self.text, self.library, self.sources, self.paths = text, library, sources, {}
+        lines = "\n".join(it for lines in sources.lines.values() for it in lines)
+        aliases = re.findall(r"^(?:pub(?:\(.*?\))? )?type (\w+) = (.+);", lines, re.M)
+        twice = [it for it, n in collections.Counter(it for it, _ in aliases).items() if n > 1]
+        renamed = re.findall(r"\b[A-Z]\w* as [A-Z]\w*\s*[,;}]|^(?! *//).*/\*", lines, re.M)
+        if twice or renamed:
+            raise ValueError(f"types of other names, or in comments: {twice} {renamed}")
         self.aliases = {name: parse(of, {}) for name, of in aliases}
-        self.impls = {it: self.impl_at(it) for it in self.theirs}
-        self.both = self.pairs()
+        # Those that rustc names end with a bracket: `{constant#0}`, `promoted[0]`, `{closure#0}`.
+        named = [it for it in text.functions if it.removesuffix("()")[-1] not in "}]"]
+        self.theirs = {it: self.path(it.removesuffix("()"), self.impl_at(it)) for it in named}
+        self.ours, self.both, self.constants = {}, {}, {}
+        for name in library.bodies:
+            if "::fn::" not in name and not is_declared(name):
+                self.insert(self.ours, key_of(name), name)
+        for other, path in self.theirs.items():
+            one, _ = self.found(path)
+            if one:
+                self.insert(self.both, one, other)
+            if other[-2:] != "()":
+                self.insert(self.constants, next(iter(path.keys(self.aliases)))[0], other)
         self.both.update(self.closures())
-        library.closures = {plain(one): other for one, other in self.both.items()}
+        places = {function: "{closure@" + it + "}" for it, function in text.closures.items()}
+        closures = {plain(one): places.get(other) for one, other in self.both.items()}
+        library.closures = {one: it for one, it in closures.items() if it}
+        text.resolve, text.crates, library.order = self.constant, sources.crates, self.order()
+
+    def insert(self, found, key, name):
+        if found.setdefault(key, name) != name:
+            raise ValueError(f"{name} and {found[key]} are both {key}")
+
+    def path(self, text, impl=None):
+        if text not in self.paths:
+            path = self.paths[text] = Path(text, self.aliases, impl)
+            path.module[:1] = [self.sources.crates.get(it, it) for it in path.module[:1]]
+        return self.paths[text]
 
     def impl_at(self, name):
+        """Returns the type, the trait and the parameters of the `impl`, or the `derive`, at the
+        place that a name has, and whether it is derived."""
         place = PLACE.search(name)
-        given = place and (self.sources.lines[place[1]], *map(int, place.groups()[1:]))
-        return Impl(self.aliases, *given) if place else None
+        if not place:
+            return None
+        first, column, end, end_column = map(int, place.groups()[1:])
+        lines = self.sources.lines[place[1]]
+        text = " ".join(lines[first - 1 : end])[column - 1 :]
+        if not text.startswith("impl"):
+            pattern = r"\s*(?:pub(?:\(.*?\))? )?(?:struct|enum) (\w+)"
+            found = next(filter(None, (re.match(pattern, it) for it in lines[first - 1 :])))
+            return (found[1],), (text[: end_column - column],), True, []
+        text = re.sub(r" where .*| \{.*", "", re.sub(r"\s+", " ", text))[4:]
+        if "//" in text or "/*" in text:
+            raise ValueError(f"a comment in {text}")
+        generics = bracketed(text) if text[0] == "<" else ""
+        trait, _, of = (it.strip() for it in text[len(generics) :].rpartition(" for "))
+        of, trait = parse(of, self.aliases), parse(trait, self.aliases) if trait else None
+        own = [re.match(r"(?:const )?('?\w+)", it)[1] for it in split(generics[1:-1])]
+        return of, trait, False, [it for it in own if it[0] != "'"]
 
-    def generics(self, name):
-        """Returns the parameters of a function of Rust, after those of its `impl` or trait."""
-        name = re.sub(r"(::\{.*)?(\(\))?$", "", name)
-        impl, place = self.impls[name + "()" * (name + "()" in self.impls)], PLACE.search(name)
-        *path, method = re.sub(r"<impl .*?>", "", name).split("::")
-        is_trait = not place and path[-1][:1].isupper()
-        base = impl.generics if impl else ["Self"] * is_trait
-        if impl and impl.derived:
-            return base
-        file = place[1] if place else self.sources.files["::".join(path[: len(path) - is_trait])]
-        text = "\n".join(self.sources.lines[file][int(place[2]) - 1 if place else 0 :])
-        text = text[: re.search(r"^\}", text, re.M).end()] if place else text
-        found = re.search(rf"fn {re.escape(method)}(<)", text)
-        own = re.sub(r"\s+", " ", bracketed(text[found.start(1) :])) if found else "<>"
-        return base + parameters(own)
+    def found(self, path):
+        """Returns the function of Rattle that a path of Rust names, and with what types."""
+        found = ((self.ours[it], rest) for it, rest in path.keys(self.aliases) if it in self.ours)
+        return next(found, (None, []))
 
-    def pairs(self):
-        """Pairs functions by module, impl and name."""
-        groups, scores = collections.defaultdict(lambda: ([], [])), []
-        for name in self.library.bodies:
-            if "::fn::" not in name and not is_declared(name):
-                groups[module_of(plain(name)), plain(name).split("::")[-1]][0].append(name)
-        for name in self.theirs:
-            *module, method = compiled.names(name.removesuffix("()"))
-            first, *rest = (it for it in module if it[:1].islower())
-            groups["::".join([self.sources.crates[first], *rest]), method][1].append(name)
-        for one, other in itertools.chain(*(itertools.product(*it) for it in groups.values())):
-            impl, of = self.impls[other], plain(one).split("::")[-2]
-            named = 1 + (other.split("::")[-2] == of)
-            score = impl.likeness(of, self.aliases) if impl else named
-            scores += [(score, one, other)] * (score > 0)
-        found = {}
-        for _, one, other in sorted(scores, reverse=True):
-            if one not in found and other not in found.values():
-                found[one] = other
+    def constant(self, text):
+        """Returns the constant of ours that a path names, or None. One of an impl with parameters
+        is that of these parameters alone, as its value has their names."""
+        path = self.path(text)
+        keys = (it for it, _ in path.keys(self.aliases))
+        found = next((self.constants[it] for it in keys if it in self.constants), None)
+        if found and self.theirs[found].generics and self.theirs[found].kind != path.kind:
+            raise ValueError(f"the constant {text}, not of {self.theirs[found].kind}")
         return found
 
     def closures(self):
@@ -113,29 +163,174 @@ class Names:
         for name in self.library.bodies:
             if "::fn::" in name and "+" not in name.split("::")[-1] and not is_declared(name):
                 some[plain(re.sub(r"::fn::(.*)::\w+$", r"::\1", name))].append(name)
-        for of, names in some.items():
+        for of, ours in some.items():
             other = of_both.get(of, "").removesuffix("()") + "::{closure#"
             theirs = [it for it in self.text.functions if it.startswith(other)]
-            found.update(zip(names, theirs) if len(theirs) == len(names) else ())
+            found.update(zip(ours, theirs) if len(theirs) == len(ours) else ())
         return found
+
+    def order(self):
+        """Returns the names of the methods of traits, by their numbers in Rattle."""
+        found = {}
+        for impl in self.library.impls.values():
+            for n, method in enumerate(impl["methods"]):
+                found.setdefault((last(impl["of"]["of"]), n), last(method))
+        for name, of in self.library.methods:
+            if "Trait" in of:
+                found.setdefault((last(of["Trait"][0]), of["Trait"][1]), last(name))
+        return found
+
+    # ---- whether both sides call the same
+
+    def require_types(self, left, right):
+        """Requires that parameters and result are of the same types. A closure has the type
+        parameters of its function too."""
+        outer = re.sub(r"::\{closure.*", "()", right.name)
+        if outer != right.name:
+            (one,) = (it for it, other in self.both.items() if other == outer)
+            around = rattle.Body(self.library, one)
+            self.require_types(around, self.text.functions[outer])
+            left.types = around.types
+        types = [right.types["_0"], *(it for it, _ in right.parameters())]
+        ours = left.locals[: len(types)]
+        if left.name.endswith("Clone::clone"):  # it may fail in Rattle, for want of memory
+            ours[0] = ours[0]["Named"][1][0]
+        given = [parse(it, self.aliases) for it in types]
+        if left.count + 1 != len(given) or not self.are_types(ours, given, left.types):
+            raise Differs(f"the types {ours} are not {types}")
+        path = self.theirs.get(right.name)
+        generics, shown = (path.generics, leaves((path.kind, path.trait))) if path else ([], [])
+        if [*dict.fromkeys(it for it in shown if it in generics)] == generics:
+            left.types = {**{n: (name,) for n, name in enumerate(generics)}, **left.types}
+        self.bind_associated(left)
+
+    def bind_associated(self, left):
+        """Binds the one type that is associated with a type parameter to how its name begins, and
+        the others that no parameter shows to nothing."""
+        for bound in left.body["generics"]["bounds"]:
+            kinds = map(kind_of, bound["types"])
+            of, *others = (n if kind == "Param" else None for kind, n in kinds)
+            others = [it for it in others if it is not None and it not in left.types]
+            if left.types.get(of) and len(others) == 1:
+                left.types[others[0]] = ("<", left.types[of][0])
+        for n in range(len(left.body["generics"]["types"])):
+            left.types.setdefault(n, ())
+
+    def are_types(self, some, trees, bound):
+        closures = self.library.closures
+        return all(is_type(form(a), b, bound, closures) for a, b in zip(some, trees))
+
+    # A call by shared references alone changes nothing, and Rattle proves that it returns. So Rust
+    # may leave it out, if nothing that both sides have depends on its result.
+    def is_idle(self, one, other, body):
+        """Returns whether only Rattle makes a call: of a method that is made for its contract."""
+        way, what = kind_of(one[2])
+        given = way == "Method" and body.body["generics"]["bounds"][what[0]["Given"]]["of"]
+        is_own = other[0] == "call" and other[1][0] == one[0]
+        return not is_own and (f"{given}::{one[0]}" if given else what[0]) in IDLE
+
+    def require(self, one, other, body):
+        own = OWN.get(one[0])
+        if own and one[0] == other[0] and all(map(re.fullmatch, own, (one[1], other[1]))):
+            return
+        fault = other[1] if one[0] != other[0] else self.fault(one, self.path(other[1]), body)
+        if fault:
+            raise Differs(f"{one[1] or one[2]} is called, not {other[1]}: {fault}")
+
+    def fault(self, one, path, body):
+        """Returns why a callee of Rattle is not the one of a path, or None."""
+        way, what = kind_of(one[2])
+        if way == "Method":
+            return self.bound_fault(what, path, body)
+        name, types = what[0], what[1]["types"]
+        if "::fn::" in name:
+            is_same = path.kind and path.kind[0] == self.library.closures[plain(name)]
+            return None if is_same else "another closure"
+        ours, (other, rest) = self.ours.get(key_of(name)), self.found(path)
+        given = [*rest, *path.given] if other else [path.kind, path.trait] if path.trait else []
+        signed = re.findall(INTEGER, json.dumps(what))
+        is_try = "::AnyTryFrom::" in name  # by an impl from one to the other
+        if not are_signs(signed, given[::-1] if is_try else given):
+            return f"the signs of {signed}"
+        if not ours and (not other or path.trait and last(name) in BESIDE):
+            return self.std_fault(name, types, path, body)
+        if other != ours:
+            return f"{other}"
+        return self.types_fault(self.library.bodies[ours], what[1], rest, path.given, body)
+
+    # Types of bounds have no signs, and Rust leaves out defaults, so that one bound alone may be of
+    # the trait and the types that Rust names.
+    def bound_fault(self, what, path, body):
+        """Returns why a method of a bound is not the one of a path, or None."""
+        (way, _, own), bounds = what, body.body["generics"]["bounds"]
+        given, (trait, *types) = bounds[way["Given"]], path.trait or ("",)
+        types = types[0][1:] if last(given["of"]) in FUNCTIONS else types
+        are = lambda it, bound: self.are_types(it["types"], [path.kind, *types], bound)
+        found = [it for it in bounds if last(it["of"]) == trait and are(it, dict(body.types))]
+        is_own = self.are_types(own["types"], path.given, body.types)
+        is_alike = found == [given] and are(given, body.types) and is_own
+        return None if is_alike else f"of {given}"
+
+    # A type of Rattle has no signs, so the impl of a bound says that of its integer. Which of the
+    # types are associated is known by places, and not by what would fit.
+    def types_fault(self, callee, what, rest, given, body):
+        """Returns how types differ, those of an impl and of a function. Rattle counts associated
+        types too, after the parameters of the impl or of the function."""
+        cuts = {len(rest) + len(given), len(rest) if rest else len(given)}
+        types, given = what["types"], [*rest, *given]
+        count = len(types) - len(given)
+        options = [[*range(cut), *range(cut + count, len(types))] for cut in cuts]
+        if count and len(cuts) == 2:  # after either, or after both: as the bounds say
+            named = associated(callee)
+            options = [[it for it in range(len(types)) if it not in named]]
+        for places in options:
+            bound, is_whole = dict(body.types), count >= 0 and len(places) == len(given)
+            is_same = is_whole and self.are_types([types[it] for it in places], given, bound)
+            if is_same and self.are_signs(callee, what, dict(zip(places, given))):
+                body.types = bound
+                return None
+        return f"{types} for {given}"
+
+    def are_signs(self, callee, what, given):
+        """Returns whether the impl of each bound is of the integer that Rust gives for its type."""
+        for bound, by in zip(callee["generics"]["bounds"], what["dicts"]):
+            kind, n = kind_of(bound["types"][0])
+            signed = re.findall(INTEGER, str(by.get("Impl")))
+            if kind == "Param" and n in given and not are_signs(signed, given[n]):
+                return False
+        return True
+
+    def std_fault(self, name, types, path, body):
+        """Returns how the names of the type and trait of a function of `std` differ, or None."""
+        of, method = key_of(name).split("::")
+        keys = {it.split("::")[-2] for it, _ in path.keys(self.aliases)}
+        if of in keys:
+            return None
+        trait = path.trait and path.trait[0]
+        is_of = lambda it: is_type(form(it), path.kind, dict(body.types))
+        generic = (trait, f"Any{trait}", "Ordering") if method in BESIDE else (trait, f"Any{trait}")
+        if trait and of in generic and any(map(is_of, types[:2])):
+            return None
+        beside = {it for it, _ in owners(path.kind, self.aliases)} if method in BESIDE else ()
+        return None if of in beside else f"of {of}, not {keys}"
+
+    # ---- what is on one side alone
 
     def alone(self):
         """Returns how many functions one side alone has, by the reason, and those without one."""
-        reasons, errors = collections.Counter(), []
+        reasons, errors, taken = collections.Counter(), [], set(self.both.values())
         closures = [it for it in self.text.functions if it.endswith("}()") and "{closure" in it]
-        taken = set(self.both.values())
-        for name in sorted(self.library.bodies.keys() - self.both.keys()):
-            reason = self.reason_in_rattle(name)
-            reasons[f"{reason}, in Rattle"] += 1
-            errors += [] if reason else [name]
-        for name in [*self.theirs, *closures]:
-            reason = self.reason_in_rust(name) if name not in taken else "paired"
-            reasons[f"{reason}, in Rust"] += 1
-            errors += [] if reason else [name]
-        found = {it: n for it, n in reasons.items() if it[:4] not in ("None", "pair")}
-        return found, errors
+        ours = ((it, self.reason_in_rattle(it), "Rattle") for it in self.library.bodies)
+        theirs = ((it, self.reason_in_rust(it), "Rust") for it in [*self.theirs, *closures])
+        for name, reason, side in [*sorted(ours), *theirs]:
+            if name not in self.both and name not in taken:
+                reasons.update([f"{reason}, in {side}"] if reason else [])
+                errors += [] if reason else [name]
+        return reasons, errors
 
     def reason_in_rattle(self, name):
+        if name in self.both:
+            return None
         if is_declared(name):
             return "declared by a trait or dropped"
         if re.search(r"\+Fn(Mut|Once)?::", name):
@@ -145,35 +340,67 @@ class Names:
         return "an impl's copy of a trait's default" if self.is_default(name) else None
 
     def reason_in_rust(self, name):
-        impl = self.impls.get(name)
-        if impl and impl.derived and impl.trait in (("Clone",), ("Eq",)):
+        path, function = self.theirs.get(name), self.text.functions[name]
+        if path and path.derived and path.trait in (("Clone",), ("Eq",)):
             return "derived `Clone` or `Eq`"
-        if not name.endswith("()"):
-            return "a constant that " + (
-                "a function uses" if name in self.text.used else "none uses"
-            )
-        function = self.text.functions[name]
-        lines, count = function.blocks.get("bb0", [""]), function.count
-        made = re.fullmatch(r"_0 = [\w:]+(?:::<.*>)?\((move _\d+(?:, move _\d+)*)\);", lines[0])
-        order = ", ".join(f"move _{n + 1}" for n in range(count))
-        is_made = made and made[1] == order and lines[1:] == ["return;"]
-        return "the constructor of a tuple" if is_made else None
+        if path and path.derived and path.kind[0] in DERIVED:
+            return "derived besides"
+        if name[-2:] != "()":
+            used = "a function" if name in self.text.used else "none"
+            return f"a constant that {used} uses"
+        order = ", ".join(f"move _{n + 1}" for n in range(function.count))
+        made, *after = function.lines.get(0, [""])
+        is_made = re.fullmatch(rf"_0 = [\w:]+(?:::<.*>)?\({order}\);", made) and order
+        return "the constructor of a tuple" if is_made and after == ["return;"] else None
 
     def is_default(self, name):
         """Returns whether a function calls the default of its trait, with its own parameters."""
-        body = proved.Body(self.library, name)
-        run = body.run()
+        machine = Machine(rattle.Body(self.library, name))
+        run = machine.run()
         kind, *event = run.send(None)
-        if kind != "call" or "Fn" not in event[0][1]:
+        if kind != "call" or "Fn" not in event[0][2]:
             return False
-        (path, given), (impl, method) = event[0][1]["Fn"], name.rsplit("::", 1)
+        callee, terms = event
+        (path, given), (impl, method) = callee[2]["Fn"], name.rsplit("::", 1)
         *_, trait, called = path.split("::")
         dicts, own = [it.get("Impl", [""])[0] for it in given["dicts"]], plain(impl).endswith(trait)
         is_called = called == method and own and dicts[:1] == [impl]
-        parameters = tuple(("param", n) for n in range(body.count))
-        result = UNIT if body.locals[0] == "Unit" else ("ret", 0)
-        return is_called and event[1] == parameters and run.send(("ret", 0)) == ("return", result)
+        result = UNIT if machine.function.locals[0] == "Unit" else ("ret", 0)
+        is_returned = run.send(("ret", 0)) == ("return", result)
+        return is_called and terms == tuple(machine.function.arguments()) and is_returned
+
+
+def key_of(name):
+    """Returns the path of a function of Rattle; in an impl or in std, its last two words."""
+    *module, of, name = plain(name).split("::")
+    is_short = of[0].isupper() or module[:1] == ["core"]
+    return "::".join([of, name] if is_short else [*module, of, name])
+
+
+def module_of(path):
+    return "::".join(it for it in path.split("::")[:-1] if it[:1].islower() and it != "fn")
 
 
 def is_declared(name):
     return re.search(r"\+\+|Destruct|\+decl$", name) is not None
+
+
+def associated(callee):
+    """Returns the numbers of the types that bounds have beside the type that they are of, except
+    what a function takes and returns."""
+    bounds = [it for it in callee["generics"]["bounds"] if last(it["of"]) not in FUNCTIONS]
+    others = [kind_of(of) for it in bounds for of in it["types"][1:]]
+    return {n for kind, n in others if kind == "Param"}
+
+
+def leaves(tree):
+    """Yields the names in a type, or in some."""
+    for it in tree or ():
+        yield from leaves(it) if isinstance(it, tuple) else [it]
+
+
+def are_signs(signed, trees):
+    """Returns whether the integers in types are, in order, those that impls name, if they do."""
+    theirs = [*dict.fromkeys(it for it in leaves(trees) if re.fullmatch(r"[iu](\d+|size)", it))]
+    named = dict.fromkeys(it.lower() for it in signed)
+    return not signed or [it for it in named if it in theirs] == theirs

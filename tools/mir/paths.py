@@ -10,7 +10,8 @@ one of those that these variables stand for, all of whose paths are run.
 """
 
 from facts import Facts
-from terms import is_number, referred
+from machine import Machine
+from terms import is_lost, is_number, referred
 
 PATHS, TURNS = 3000, 9
 
@@ -30,7 +31,7 @@ def children(term):
     """Returns the parts of a term of which a loop may change some, and keeps the others."""
     if term[0] == "agg":
         return term[2]
-    return term[3:] if term[0] == "slice" else term[2:] if term[0] == "iter" else ()
+    return term[3:] if term[0] == "slice" else term[2:] if term[0] in ("iter", "elem") else ()
 
 
 def rebuilt(term, parts):
@@ -39,36 +40,42 @@ def rebuilt(term, parts):
     return (*term[: len(term) - len(parts)], *parts)
 
 
-def is_alike(one, other):
+# Only a part that is known by its place is a pair of its own, so that what two terms that are
+# alike have beside their parts is equal. Any other change is of the whole term.
+def pairs(one, other):
+    """Returns the pairs of the parts of two terms, or none if more than these parts differ."""
     parts = children(one), children(other)
-    return len(parts[0]) == len(parts[1]) > 0 and rebuilt(one, parts[1]) == other
+    is_alike = len(parts[0]) == len(parts[1]) and rebuilt(one, parts[1]) == other
+    return [*zip(*parts)] if is_alike else []
 
 
+# Two cells, of either side, get one variable only if both had the same values in both turns; that
+# they have the same in each turn is what `covers` requires. What a term refers to is not in it.
 def general(one, other, variables, prefix):
     """Returns a term that both are, for some values of the variables."""
     if one == other:
         return one
-    if is_alike(one, other):
-        pairs = zip(children(one), children(other))
-        return rebuilt(one, [general(a, b, variables, prefix) for a, b in pairs])
-    return variables.setdefault((one, other), ("fresh", *prefix, len(variables)))
+    parts = [general(a, b, variables, prefix) for a, b in pairs(one, other)]
+    kind = "lost" if is_lost(one) or is_lost(other) else "fresh"
+    new = (kind, *prefix, len(variables))
+    return rebuilt(one, parts) if parts else variables.setdefault((one, other), new)
 
 
+# By induction over turns: a state with values for the variables is one whose paths all are run.
+# Equal terms do not suffice, since each variable must have one value, in parts of them too.
 def covers(term, other, variables, found):
     """Returns whether a term is another one for some values of the variables."""
     if term in variables:
         return found.setdefault(term, other) == other
-    if term == other:
-        return True
-    pairs = zip(children(term), children(other))
-    return is_alike(term, other) and all(covers(a, b, variables, found) for a, b in pairs)
+    parts = pairs(term, other)
+    return all(covers(a, b, variables, found) for a, b in parts) if parts else term == other
 
 
 class Path:
-    def __init__(self, left, right, callees, decisions):
-        self.left, self.right, self.callees = left, right, callees
+    def __init__(self, left, right, names, decisions):
+        self.left, self.right, self.names = left, right, names
         self.facts, self.decisions, self.taken, self.open = Facts(), decisions, [], []
-        self.loops, self.calls, self.idle = {}, 0, 0
+        self.loops, self.calls = {}, 0
 
     def decide(self, term):
         known = self.facts.decided(term)
@@ -94,24 +101,22 @@ class Path:
                 event = run.send(None)
         return event
 
-    def require(self, what, x, y):
-        if not self.equal(x, y):
-            raise Differs(f"{what}: {x}\n        not {y}")
-
+    # Two terms of one form are equal if their parts are; terms of another form are equal only if
+    # they are one term. A condition has two values, and each path has decided both sides' alike.
     def equal(self, x, y):
         """Returns whether two terms are equal; of conditions, whether both are true or false."""
-        if x == y or not x or not y or is_number(x, y):
+        if x == y or not (isinstance(x, tuple) and isinstance(y, tuple) and x and y):
             return x == y
+        if is_number(x, y) or isinstance(x[0], tuple) or isinstance(y[0], tuple):
+            return not is_number(x, y) and len(x) == len(y) and all(map(self.equal, x, y))
         if is_condition(x) or is_condition(y):
             return self.decide(x) == self.decide(y)
-        if x[0] != y[0] or len(x) != len(y) or x[0] not in ("agg", "&", "shown"):
-            return False
-        if x[0] == "agg":
-            inner = x[1] == y[1] and len(x[2]) == len(y[2]) and zip(x[2], y[2])
-        else:
-            inner = zip(x[1:], y[1:])
-        parts = list(inner or [(x, ())])
-        return all(a == b or isinstance(a, tuple) and self.equal(a, b) for a, b in parts)
+        is_whole = x[0] == y[0] and len(x) == len(y) and x[0] in ("agg", "&", "shown")
+        return is_whole and all(map(self.equal, x[1:], y[1:]))
+
+    def require(self, what, some, others):
+        if len(some) != len(others) or not all(map(self.equal, some, others)):
+            raise Differs(f"{what}: {some}\n        not {others}")
 
     def run(self):
         """Runs both to the end of the path; each event of one is that of the other."""
@@ -119,9 +124,9 @@ class Path:
         answer = None
         while True:
             one, other = self.advance(left, answer), self.advance(right, answer)
-            while one[0] == "call" and self.callees.is_idle(one[1], other):
-                self.idle += 1
-                one = self.advance(left, ("idle", self.idle))
+            while one[0] == "call" and self.names.is_idle(one[1], other, self.left.function):
+                self.calls += 1
+                one = self.advance(left, ("idle", self.calls))
             if one[0] != other[0]:
                 raise Differs(f"{one[0]} {one[1:]}\n        not {other[0]} {other[1:]}")
             if one[0] == "dead":
@@ -131,60 +136,50 @@ class Path:
                 raise Differs(f"may panic in Rust alone: {extra}")
             answer = None
             if one[0] == "call":
-                self.callees.require(one[1], other[1], self.left)
+                self.names.require(one[1], other[1], self.left.function)
                 sides = one[2], other[2]
                 if one[1][0] in THROUGH:
                     sides = (tuple(map(referred, it)) for it in sides)
-                self.require_all(f"arguments of {one[1][0]}", *sides)
+                self.require(f"arguments of {one[1][0]}", *sides)
                 answer, self.calls = ("ret", self.calls), self.calls + 1
             elif one[0] == "head":
                 if self.is_closed(one[1], other[1]):
                     return
             else:
-                self.require_all(one[0], one[1:], other[1:])
+                self.require(one[0], one[1:], other[1:])
                 if one[0] == "return":
                     return
 
-    def require_all(self, what, some, others):
-        if len(some) != len(others):
-            raise Differs(f"{what}: {some}\n        not {others}")
-        for x, y in zip(some, others):
-            self.require(what, x, y)
-
+    # All cells of both sides are compared, so that no place is left to what it had before; the
+    # facts and checks of the path are of terms that later turns do not change.
     def is_closed(self, loop, head):
         """Returns whether this state of a loop is one that is run already, and otherwise goes on
         with one that it and those before are, in the memory of both sides."""
         memories = self.left.memory, self.right.memory
-        for it in memories:
-            it.forget()
         state = {(n, root): it for n, of in enumerate(memories) for root, it in of.cells.items()}
-        if loop not in self.loops:
-            self.loops[loop] = head, state, (), 1
-            return False
-        at_head, before, variables, turns = self.loops[loop]
+        at_head, before, variables, turns = self.loops.get(loop, (head, state, None, 0))
         if at_head != head or turns > TURNS:
             raise Differs(f"a loop at {head}, turn {turns}")
-        pairs = {}
+        both = {}
         for n, root in before.keys() | state.keys():
             unset = memories[n].unset(root)
-            pairs[n, root] = before.get((n, root), unset), state.get((n, root), unset)
+            both[n, root] = before.get((n, root), unset), state.get((n, root), unset)
         found = {}
-        if all(covers(a, b, variables, found) for a, b in pairs.values()):
+        if turns and all(covers(a, b, variables, found) for a, b in both.values()):
             return True
-        new, prefix = {}, (loop, turns)
-        state = {at: general(a, b, new, prefix) for at, (a, b) in sorted(pairs.items(), key=repr)}
+        new = {}
+        for (n, root), (a, b) in sorted(both.items(), key=repr):
+            memories[n].cells[root] = state[n, root] = general(a, b, new, (loop, turns))
         self.loops[loop] = head, state, set(new.values()), turns + 1
-        for (n, root), term in state.items():
-            memories[n].cells[root] = term
         return False
 
 
-def explore(left, right, callees):
+def explore(left, right, names):
     """Runs both on every path, and returns how many there are."""
-    callees.require_types(left, right)
+    names.require_types(left, right)
     todo, count = [[]], 0
     while todo:
-        path = Path(left, right, callees, todo.pop())
+        path = Path(Machine(left), Machine(right), names, todo.pop())
         path.run()
         todo += path.open
         count += 1

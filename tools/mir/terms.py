@@ -1,5 +1,13 @@
 """Values as terms over parameters and results of calls, which are tuples."""
 
+import functools
+import re
+
+
+def width(name):
+    found = re.fullmatch(r"[iu](8|16|32|64|128|size)", name)
+    return {"bool": 1, "char": 32}.get(name) or found and int(found[1].replace("size", "64"))
+
 
 def number(value, bits):
     return ("int", value % (1 << bits), bits)
@@ -44,54 +52,31 @@ def compared(name, signed, bits, a, b):
     return same(a, b) if name == "Eq" else ("lt", signed, a, b)
 
 
-FOLD = {
-    "Add": lambda a, b: a + b, "Sub": lambda a, b: a - b, "Mul": lambda a, b: a * b,
-    "Or": lambda a, b: a | b, "And": lambda a, b: a & b, "Xor": lambda a, b: a ^ b,
-    "Shl": lambda a, b: a << b,
-}  # fmt: skip
 SIGNLESS = ("And", "Or", "Xor", "Shl", "WrapAdd", "WrapSub", "WrapMul")
+PANICS = ("Add", "Sub", "Mul", "Div", "Rem")
 
 
-def amount(name, bits, b):
+def amount(name, b):
     """Returns an operand on the right; an amount of bits without the width that it has."""
-    if name not in ("Shl", "Shr"):
-        return b
-    while b[0] == "cast" and b[1] is False:  # a wider type
-        b = b[4]
-    return ("int", b[1], 32) if is_number(b) else b
+    return ("int", b[1], 32) if name in ("Shl", "Shr") and is_number(b) else b
 
 
 def operation(name, signed, bits, a, b):
     if name in ("Eq", "Ne", "Lt", "Le", "Gt", "Ge"):
         return compared(name, signed, bits, a, b)
-    b = amount(name, bits, b)
-    folded = FOLD.get(name.removeprefix("Wrap"))
-    if is_number(a, b) and folded and not (name == "Shl" and b[1] >= bits):
-        return number(folded(value(a, signed), value(b, signed)), bits)
     if name in ("Add", "Sub") and is_number(b) and b[1] == 0:
         return a
     if name == "Add" and is_number(a) and a[1] == 0:
         return b
-    return ("op", name, None if name in SIGNLESS else signed, bits, a, b)
+    return ("op", name, None if name in SIGNLESS else signed, bits, a, amount(name, b))
 
 
 def may_panic(name, signed, bits, a, b):
-    """Returns the check of an operation that may overflow or divide by zero with these operands."""
-    if name not in ("Add", "Sub", "Mul", "Div", "Rem", "Shl", "Shr"):
-        return None
-    b = amount(name, bits, b)
+    """Returns the check of an operation that may overflow or divide by zero, or None."""
     if name in ("Shl", "Shr"):
-        return None if is_number(b) and b[1] < bits else ("shift", bits, b)
-    if is_number(b):
-        n = value(b, signed)
-        if name in ("Div", "Rem") and n not in (0, -1) or name in ("Add", "Sub") and n == 0:
-            return None
-        if is_number(a) and name in FOLD:
-            exact = FOLD[name](value(a, signed), n)
-            return None if exact == value(number(exact, bits), signed) else ("overflow",)
-    if name == "Add" and is_number(a) and a[1] == 0:
-        return None
-    return (name, signed, bits, a, b)
+        return None if is_number(b) and b[1] < bits else ("shift", bits, amount(name, b))
+    is_safe = name in ("Div", "Rem") and is_number(b) and value(b, signed) not in (0, -1)
+    return None if is_safe or name not in PANICS else (name, signed, bits, a, b)
 
 
 def cast(of_signed, of, to, a):
@@ -107,31 +92,15 @@ def project(term, step):
     """Returns a part of a term: `("f", VARIANT, N)` of a struct or enum, `("e", INDEX)` of an
     array, or `("win", START, COUNT)` of it."""
     kind = term[0]
+    if step[0] in ("tag", "len", "first"):
+        return {"tag": tag, "len": length, "first": first}[step[0]](term)
     if step[0] == "win":
         return ("part", term, *step[1:])
     if step[0] == "f" and kind == "agg":
         return term[2][step[2]]
-    if step[0] == "e" and kind == "repeat":
-        return term[1]
-    if step[0] == "e" and is_number(step[1]):
-        n = step[1][1]
-        if kind == "agg" and n < len(term[2]):
-            return term[2][n]
-        if kind == "static" and isinstance(term[1], bytes) and n < len(term[1]):
-            return number(term[1][n], 8)
-    if kind == "upd":
-        if term[2] == step:
-            return term[3]
-        if are_apart(step, term[2]):
-            return project(term[1], step)
-    return ("get", term, step)
-
-
-def are_apart(one, other):
-    """Returns whether two parts of one whole have nothing in common, whatever it is."""
-    if one[0] != other[0]:
-        return False
-    return one[0] == "f" or one[0] == "e" and is_number(one[1], other[1]) and one != other
+    if step[0] == "e" and kind == "agg" and is_number(step[1]) and step[1][1] < len(term[2]):
+        return term[2][step[1][1]]
+    return term[3] if kind == "upd" and term[2] == step else ("get", term, step)
 
 
 def updated(term, path, new):
@@ -143,8 +112,6 @@ def updated(term, path, new):
     n = step[2] if step[0] == "f" else step[1][1] if is_element else None
     if term[0] == "agg" and n is not None and n < len(term[2]):
         return (*term[:2], (*term[2][:n], inner, *term[2][n + 1 :]))
-    if term[0] == "upd" and term[2] == step:
-        term = term[1]
     return ("upd", term, step, inner)
 
 
@@ -163,7 +130,48 @@ def place_of(term):
         return term[1], term[2]
     if term[0] == "slice":
         return term[1], (*term[2], ("win", *term[3:]))
+    if term[0] == "elem":
+        root, path = place_of(term[1])
+        return root, at(path, term[2])
+    if is_lost(term):
+        raise ValueError(f"a reference to one of some locals: {term}")
     return ("mem", term), ()
+
+
+# The content of a local is in its cell alone. So a term that may be a reference to one of some
+# locals, or a variable for such terms, says nothing of what is read through it: that is an error.
+@functools.cache
+def is_lost(term):
+    """Returns whether a term has a reference to a local, or one of which it is not known to what
+    it is; what it refers to is not in the term."""
+    if not isinstance(term, tuple) or not term:
+        return False
+    is_local = term[0] in ("ptr", "slice") and term[1][0] == "loc"
+    return is_local or term[0] == "lost" or any(map(is_lost, term))
+
+
+def is_picked(term):
+    """Returns whether an index picks a reference from some."""
+    if term[0] == "get" and term[2][0] == "e" and not is_number(term[2][1]) or term[0] == "upd":
+        return True
+    return term[0] in ("get", "*", "part") and is_picked(term[1])
+
+
+def origins(term):
+    """Returns of what a reference is a part, or one of some: of which parameters and results."""
+    kind = term[0]
+    if kind in ("ptr", "slice"):
+        return origins(term[1][1]) if term[1][0] == "mem" else {term[1]}
+    if kind in ("agg", "upd"):
+        return set().union(*map(origins, term[2] if kind == "agg" else term[1::2]))
+    if kind == "*":
+        return {("*", it) for it in origins(term[1])}
+    return origins(term[1]) if kind in ("get", "part", "elem", "after") else {term}
+
+
+def may_lend(term):
+    """Returns whether a value that is no shared reference may be or have another to a local."""
+    return term[0] in ("agg", "iter", "ptr", "slice") or is_lost(term)
 
 
 def at(path, index):
@@ -189,11 +197,46 @@ def part(term, start, count):
     return from_first(root, at(path, start), count)
 
 
+# Rattle multiplies an index by the size of an element, unless that is one byte, and folds it if
+# both are known. So the index is the other factor or the quotient, and any other distance an error.
+def counted(distance, size):
+    """Returns the index of what is at a distance of some bytes, if an element has so many."""
+    if is_number(distance, size) and size[1] and distance[1] % size[1] == 0:
+        return number(distance[1] // size[1], 64)
+    if distance == number(0, 64) or size == number(1, 64):
+        return distance
+    if distance[:2] == ("op", "Mul") and distance[5] == size:
+        return distance[4]
+    raise ValueError(f"the distance {distance} between elements of {size} bytes")
+
+
+# A pointer to an element has the slice that it is in, and the index there; one to an array starts
+# at 0. Which of the two a pointer is must be so of its term and of its type.
+def element(base, array, index):
+    """Returns the pointer to an element from that to another, or to an array of a length."""
+    if bool(array) == (base[0] == "elem"):
+        raise ValueError(f"an element of {base}, which is {'an array' if array else 'none'}")
+    if array:
+        base = ("elem", ("slice", *place_of(base), number(0, 64), array), number(0, 64))
+    return (*base[:2], operation("Add", False, 64, base[2], index))
+
+
+def slice_of(memory, base, array, count):
+    """Returns a slice from a pointer to its first element, and its length."""
+    _, whole, start = element(base, array, number(0, 64))
+    memory.check_part(start, count, length(whole))
+    return from_first(*place_of(("elem", whole, start)), count)
+
+
 def from_first(root, path, count):
     """Returns a slice from the place of its first element, and its length."""
     if root[0] == "mem" and path == (("e", number(0, 64)),) and count == length(root[1]):
         return root[1]
     return ("slice", root, path[:-1], path[-1][1], count)
+
+
+def first(term):
+    return ("elem", term, number(0, 64))
 
 
 def tag(term):
@@ -208,9 +251,25 @@ def text_of(data):
 class Memory:
     """What locals have, and what references of the caller, or from calls, point to."""
 
-    def __init__(self, arguments):
+    def __init__(self, arguments, used):
         self.cells = {("loc", n + 1): it for n, it in enumerate(arguments)}
-        self.checks = set()
+        self.checks, self.used = set(), used
+
+    # Two references that are other terms are to other places, since `&mut` is the only one to its
+    # own. But one that an index picks from some may be any of these: if one of the two is written,
+    # on any path, it is not known what the other has.
+    def use(self, root, is_write):
+        """Notes that a place is read or written. It is an error if another, of which one is
+        written, may be the same."""
+        known = self.used.get(root)
+        if root[0] != "mem" or known or known == is_write:
+            return
+        self.used[root] = is_write
+        one = root[1]
+        for (_, other), was_written in self.used.items():
+            is_known = one == other or not origins(one) & origins(other)
+            if (is_write or was_written) and not is_known and (is_picked(one) or is_picked(other)):
+                raise ValueError(f"a reference that may be another: {one}, {other}")
 
     def unset(self, root):
         return ("*" if root[0] == "mem" else "none", root[1])
@@ -230,6 +289,7 @@ class Memory:
 
     def read(self, place):
         root, path = place
+        self.use(root, False)
         if root[0] == "static":
             is_term = isinstance(root[1], tuple) and isinstance(root[1][0], str)
             term = root[1] if is_term else root
@@ -243,6 +303,7 @@ class Memory:
         root, path = place
         if root[0] == "static":
             raise ValueError("a store to a constant")
+        self.use(root, True)
         self.cells[root] = updated(self.read((root, ())), path, new)
 
     def store(self, place, new):
@@ -261,6 +322,8 @@ class Memory:
             return (term[0], ("static", found[1] if found[0] == "static" else found), *term[2:])
         return tuple(map(self.fixed, term))
 
+    # What a call may change is what it can reach by a mutable reference. The same call of the same
+    # leaves the same there, so that both sides may name that by the call's result.
     def lend(self, term, result, of):
         """Forgets what a call may change: what a term points to, and what that points to in turn.
         A value that no part is known of is a pointer if it is one of some that a call is given."""
@@ -271,42 +334,21 @@ class Memory:
             root, path = place_of(term)
             if root[0] != "static":
                 inside = self.read((root, path))
-                if inside[0] in ("agg", "iter", "ptr", "slice"):
+                if may_lend(inside):
                     self.lend(inside, result, (*of, "*"))
                 self.write((root, path), ("after", result, *of))
 
+    # A local may have another number on either side, so a call and a result have what references to
+    # locals refer to, whole, and those to the caller's places as they are.
     def seen(self, term):
         """Returns a term as a call sees it: with what its own references point to."""
         if not isinstance(term, tuple) or not term:
             return term
+        if term[0] == "lost":
+            raise ValueError(f"a reference to one of some locals: {term}")
         if term[0] in ("ptr", "slice") and term[1][0] != "mem":
             return ("&", self.seen(self.read(term[1:3])), *map(self.seen, term[3:]))
         term = tuple(map(self.seen, term))
-        if term[0] == "agg" and term[1] is None and term[2] and is_bytes(term[2]):
-            return ("static", bytes(it[1] for it in term[2]))
         if term[0] == "repeat" and is_number(*term[1:]) and term[1][2] == 8:
             return ("static", bytes([term[1][1]] * term[2][1]))
         return term
-
-    def forget(self):
-        """Forgets what pointers had that nothing has any more."""
-        found = {("param", it) for it in range(len(self.cells))}
-
-        def visit(term):
-            if isinstance(term, tuple) and term not in found:
-                found.add(term)
-                for it in term:
-                    visit(it)
-
-        for term in self.cells.values():
-            visit(term)
-        for root in [it for it in self.cells if it[0] == "mem"]:
-            base = root[1]
-            while base[0] in ("get", "*"):
-                base = base[1]
-            if base not in found:
-                del self.cells[root]
-
-
-def is_bytes(terms):
-    return all(it[0] == "int" and it[2] == 8 for it in terms)

@@ -1,71 +1,98 @@
-"""Types of Rust as trees: the last name of a path, and the types in it, without lifetimes."""
+"""Types of Rust and of Rattle as trees: a name, and the trees in it."""
 
+import itertools
 import re
 
-from compiled import last, split, width
+from rattle import kind_of, last, plain
+from rust import split
+from terms import width
 
 
 def parse(text, aliases):
-    text = re.sub(r"^'\w+ ", "", text.strip())
-    reference = re.match(r"&('\w+ )?(mut )?", text)
+    """Returns a type of Rust: the last name of a path, and the types in it, without lifetimes."""
+    text = re.sub(r"^(&?)'\w+ ", r"\1", text.strip())
+    reference = re.match(r"&(mut )?", text)
     if reference:
-        kind = "&mut" if reference[2] else "&"
-        return (kind, parse(text[reference.end() :], aliases))
+        return ("&mut" if reference[1] else "&", parse(text[reference.end() :], aliases))
     if text[0] in "[(":
         parts = split(text[1:-1], ";" if text[0] == "[" else ",")
-        return (text[0], *(parse(it, aliases) for it in parts))
+        kind = "[;" if text[0] == "[" and len(parts) > 1 else text[0]
+        return (kind, *(parse(it, aliases) for it in parts))
     if text[0] in "<{*" or text.startswith("fn("):
-        return ({"<": "associated", "{": "closure"}.get(text[0], "pointer"), text)
+        return (text,)
     if text[0].isdigit():
-        return ("number", text.split("_")[0])
-    name = split(text, "::")[-1].split("<")[0] or last(text)
-    if width(name):
-        return ("integer", name)
-    given = split(text[text.index("<") + 1 : -1]) if text.endswith(">") else ()
-    given = tuple(parse(it, aliases) for it in given if not it.startswith("'"))
+        return (text.split("_")[0],)
+    *_, name = (it.split("<")[0] for it in split(text, "::") if it[0] != "<")
+    given = split(text[text.index("<") + 1 : -1]) if text[-1] == ">" else ()
+    given = tuple(parse(it, aliases) for it in given if it[0] != "'")
     return (name, *given) if given else aliases.get(name, (name,))
 
 
-def unify(pattern, tree, variables, found):
-    """Returns whether a type is the pattern, with types for its variables."""
-    if isinstance(pattern, str) or isinstance(tree, str):
-        return pattern == tree
-    if len(pattern) == 1 and pattern[0] in variables:
-        return found.setdefault(pattern[0], tree) == tree
-    alike = len(pattern) == len(tree)
-    return alike and all(unify(a, b, variables, found) for a, b in zip(pattern, tree))
+def form(of):
+    """Returns a type of Rattle, whose integers have no signs, and whose parameters are numbers."""
+    kind, it = kind_of(of)
+    if kind in ("Ref", "Struct"):
+        _, mutable, inner = it if kind == "Ref" else it[1][0]["Ref"]
+        inner = form(inner) if kind == "Ref" else ("[", form(inner))
+        return ("&mut" if mutable == "Mut" else "&", inner)
+    if kind == "Array":
+        return ("[;", *map(form, it))
+    if kind == "Named":
+        name = it[0]["name"] if isinstance(it[0], dict) else str(it[0])
+        closure = ("closure", plain(name)) if "::fn::" in name else None
+        return closure or ("(" if name[0] == "(" else last(name), *map(form, it[1]))
+    return {"Unit": ("(",), "Bool": ("bool",)}.get(kind) or (kind, it)
 
 
-def integers(tree):
-    """Returns the integers in a type."""
-    if tree[:1] == ("integer",):
-        return {tree[1]} - {"bool", "char"}
-    return {of for it in tree[1:] if isinstance(it, tuple) for of in integers(it)}
+def is_type(pattern, tree, bound, closures={}):
+    """Returns whether a type of Rust is one of Rattle, with types for the parameters of that."""
+    kind, name = pattern[0], tree[0]
+    if kind == "Param":
+        of = bound.setdefault(pattern[1], tree)
+        if of[:1] == ("<",) and name.startswith(f"<{of[1]} as "):  # an associated type of that
+            bound[pattern[1]] = tree
+        return bound[pattern[1]] == tree
+    if kind in ("Const", "Lit"):
+        return tree == (str(pattern[1]),)
+    if kind == "Int":
+        return name != "bool" and width(name) == pattern[1]
+    if kind == "closure":
+        return closures.get(pattern[1]) == name
+    if (kind, name) == ("[", "str"):
+        return pattern[1] == ("Int", 8)
+    # Rattle counts associated types too, after the parameters of a type.
+    is_one = name == kind.replace("NoValue", "Infallible") and len(tree) <= len(pattern)
+    is_whole = len(tree) == len(pattern) or name[0].isalpha()
+    return is_one and is_whole and all(
+        is_type(a, b, bound, closures) for a, b in zip(pattern[1:], tree[1:])
+    )
+
+
+def unreferenced(tree):
+    return unreferenced(tree[1]) if tree[0] == "&" else tree
+
+
+def joined(trees, aliases):
+    """Yields what Rattle may call some types in one word, and what is no part of that."""
+    for some in itertools.product(*(owners(it, aliases) for it in trees)):
+        yield "".join(it for it, _ in some), [it for _, rest in some for it in rest]
 
 
 def owners(tree, aliases):
-    """Returns what Rattle may call a type, in the name of an impl or as a module."""
-    kind = tree[0]
+    """Returns what Rattle may call a type in the name of an `impl`, and what of it is no part of
+    that name, the most special first."""
+    kind, *inner = tree
     if kind in ("&", "&mut"):
-        return {"Ref" + it for it in owners(tree[1], aliases)}
-    if kind == "[":
-        elements = {"Array" + it for it in owners(tree[1], aliases)}
-        return {"slice", "Slice", "RefSlice", "array", "Array"} | elements
-    if kind == "integer":
-        return {tree[1], tree[1].title()} | ({"bytes"} if tree[1] == "u8" else set())
-    given = "".join(owner(it, aliases) for it in tree[1:])
-    of_alias = {name for name, it in aliases.items() if it == tree}
-    return {"str", "Str"} if kind == "str" else {kind, kind + given} | of_alias
-
-
-def owner(tree, aliases):
-    """Returns what Rattle calls a type in the name of an impl of a trait, after the trait."""
-    if tree[0] == "integer":
-        return tree[1].title()
-    return next((name for name, it in aliases.items() if it == tree), tree[0])
-
-
-def parameters(text):
-    """Returns the names of generic parameters, without lifetimes."""
-    given = (it for it in split(text.strip()[1:-1]) if not it.startswith("'"))
-    return [re.match(r"(?:const )?(\w+)", it)[1] for it in given]
+        return [("Ref" + it, rest) for it, rest in owners(inner[0], aliases)] + [("Ref", inner)]
+    if kind in ("[", "[;"):
+        name = "Array" if kind == "[;" else "Slice"
+        found = [(name + it, rest + inner[1:]) for it, rest in owners(inner[0], aliases)]
+        return found + [(it, inner) for it in (name, name.lower(), "Ref" + name)]
+    if kind == "(":
+        return [(f"Tuple{len(inner)}{it}", rest) for it, rest in joined(inner, aliases)]
+    found = [(name, []) for name, it in aliases.items() if it == tree]
+    if width(kind) or kind == "str":
+        found = [(it, []) for it in (kind.title(), kind, *["bytes"] * (kind == "u8"))]
+    elif inner:
+        found += [(kind + it, rest) for it, rest in joined(inner, aliases)]
+    return [*found, (kind, inner), ("Any", [tree])]

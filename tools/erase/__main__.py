@@ -1,0 +1,109 @@
+"""Writes what is generated: the sources of fixed-point numbers of 16 and 64 bits, and the Rust of
+the crates that cargo compiles: `python3 tools/erase`."""
+
+import pathlib
+import subprocess
+import sys
+
+sys.dont_write_bytecode = True
+import definitions
+import eraser
+import widths
+from eraser import Crate, Eraser, Refused
+
+ROOT = pathlib.Path(__file__).resolve().parents[2]
+
+# The modules of the library's crates that are left out.
+LEFT_OUT = {"font_base": ["facts"], "font_types": ["json"]}
+
+# The crates whose tests cargo runs too, and the modules of each that are left out: calls of what
+# the package does not export, and JSON and memory, which only Rattle has. For the same reasons
+# `fontval` and `font_c` are not here, and of `callers` there is no Rust.
+TESTS = dict.fromkeys([*eraser.LIBRARY, "variations"], ()) | {
+    "font_fixed": ["raw"],
+    "font_types": ["errors", "fixed", "memory", "numbers", "tags"],
+}
+
+# The definitions that contracts name, in pages of rustdoc.
+PAGES = "src/generated/definitions.rs"
+
+# Each crate, the name of its root, and the folder of its files.
+CRATES = [
+    *(
+        (Crate(name, "library", LEFT_OUT.get(name, ())), "lib", f"src/generated/{name}")
+        for name in eraser.LIBRARY
+    ),
+    (Crate("fontval", "program", ()), "main", "src/bin/fontval/generated"),
+    (Crate("font_c", "exports", ()), "lib", "c/src/generated/font_c"),
+    (Crate("variations", "variations", ()), "lib", "variations/src/generated"),
+    *(
+        (Crate(name, "tests", out), "tests", f"tests/generated/{name}")
+        for name, out in TESTS.items()
+    ),
+]
+
+
+def add_file(files, of, source, name, folder, module):
+    """Adds a file and the modules that it declares."""
+    path = f"{source}/{name}.rt"
+    try:
+        erased = Eraser((ROOT / path).read_text(), of, module == "mod", DEFINITIONS)
+    except Refused as error:
+        line, what = error.args
+        sys.exit(f"{path}:{line}: {what}: see tools/erase/forms.py")
+    except (IndexError, StopIteration):
+        sys.exit(f"{path}: it ends within an item")
+    if module == "mod" and of.target != "tests":
+        for left_out in of.left_out:
+            check_left_out(source, left_out)
+    SHOWN.update(erased.contracts.shown.values())
+    files[f"{folder}/{module}.rs"] = formatted(path, erased.written())
+    # A module of the root is in the same folder, and one of another file in a folder of its name.
+    below = lambda folder, file: folder if file in ("lib", "main", "mod") else f"{folder}/{file}"
+    for inner in erased.modules:
+        add_file(files, of, below(source, name), inner, below(folder, module), inner)
+
+
+def formatted(path, text):
+    head = f"// @generated from {path} by tools/erase\n\n"
+    rustfmt = ["rustfmt", "--edition=2024", f"--config-path={ROOT}"]
+    rustfmt = subprocess.run(rustfmt, input=head + text, capture_output=True, text=True)
+    if rustfmt.returncode != 0:
+        sys.exit(f"{path}: rustfmt cannot parse the erased text\n{rustfmt.stderr}")
+    return rustfmt.stdout
+
+
+def check_left_out(source, module):
+    """Refuses an `impl` of a module that is left out, or below it, if a call that is kept could be
+    of it: it may be of the trait or for the error that are left out too."""
+    for path in [ROOT / source / f"{module}.rt", *(ROOT / source / module).rglob("*.rt")]:
+        for line in path.read_text().splitlines():
+            if line.lstrip().startswith("impl") and not any(
+                own in line for own in (" JsonScalar for ", " for JsonFault {")
+            ):
+                sys.exit(f"{path}: `{line}`, in a module that is left out")
+
+
+def update(files, old):
+    """Writes the files that have another text, and removes old ones."""
+    for path in sorted(old | set(files)):
+        file, text = ROOT / path, files.get(path)
+        if text == (file.read_text() if file.exists() else None):
+            continue
+        print("removed:" if text is None else "written:", path)
+        if text is None:
+            file.unlink()
+        else:
+            file.parent.mkdir(parents=True, exist_ok=True)
+            file.write_text(text)
+
+
+update(*widths.tree(ROOT))
+files, old = {}, {PAGES}
+# The definitions of the library, the comments of their files, and the definitions that are shown.
+(DEFINITIONS, HEADS), SHOWN = definitions.read(ROOT, eraser.LIBRARY), set()
+for of, name, folder in CRATES:
+    add_file(files, of, f"crates/{of.name}/src", name, folder, "mod")
+    old.update(str(path.relative_to(ROOT)) for path in (ROOT / folder).rglob("*") if path.is_file())
+files[PAGES] = formatted("crates/*/specs", definitions.pages(DEFINITIONS, HEADS, SHOWN))
+update(files, old)

@@ -1,0 +1,127 @@
+"""The definitions that contracts name, as pages of rustdoc: a module for each crate, for each file
+of its `specs`, and for each definition. Only rustdoc compiles them."""
+
+import re
+
+# A definition begins so; a lemma does not. One of a `module _` is indented.
+START = re.compile(r"\s*(?:abbrev |unfoldable |record |pub )+(\w+)", re.UNICODE)
+IMPORT = re.compile(r"^use Rattle\.([\w.]+)\.\{(.*)\}", re.MULTILINE)
+
+
+class Definition:
+    """A definition: the comment above it, or above the one before, which then is of both; its
+    text; and the paths of other definitions, by their names in it."""
+
+    def __init__(self, comment, text):
+        self.comment, self.text, self.names = comment, text, {}
+
+
+def read(root, crates):
+    """Returns the definitions of these crates by their paths, as `font_decimal::Near::Up`, and the
+    comments of their files."""
+    definitions, heads, imports = {}, {}, {}
+    for crate in crates:
+        for file in sorted((root / f"crates/{crate}/specs").glob("*.antt")):
+            module, text = f"{crate}::{file.stem}", file.read_text()
+            heads[module], imports[module] = comment_of(text), IMPORT.findall(text)
+            comment = ""
+            for block in re.sub(r"(?m)^module _ .*\n", "", text).split("\n\n"):
+                block = dedented(block.rstrip())
+                comment = comment_of(block) or comment
+                block = re.sub(r"(?m)\A(--.*\n)*", "", block)
+                if (name := START.match(block)) and not block.startswith("pub mod"):
+                    definitions[f"{module}::{name[1]}"] = Definition(comment, block)
+    for path, definition in definitions.items():
+        module = path.rpartition("::")[0]
+        known = {it.rpartition("::")[2]: it for it in definitions if it.startswith(f"{module}::")}
+        for line in imports[module]:
+            known |= imported(*line, definitions)
+        definition.names = named(definition.text, known)
+        definition.names.pop(path.rpartition("::")[2], None)
+    return definitions, heads
+
+
+def comment_of(text):
+    """Returns the lines of the comment with which a text begins."""
+    lines = re.match(r"(--.*\n?)*", text)[0].splitlines()
+    return "\n".join(line[3:] for line in lines)
+
+
+def dedented(text):
+    indent = len(text) - len(text.lstrip(" "))
+    return "\n".join(line[indent:] for line in text.splitlines())
+
+
+def imported(path, names, definitions):
+    """Returns the paths of the names of an import that are definitions, by the names that it gives
+    them."""
+    module, known = path.replace(".specs.", "::").replace(".", "::"), {}
+    for name in names.split(","):
+        name, _, own = name.strip().partition(" as ")
+        if f"{module}::{name}" in definitions:
+            known[own or name] = f"{module}::{name}"
+    return known
+
+
+def named(text, known):
+    """Returns those of the known names that a text has, in its order."""
+    return {word: known[word] for word in re.findall(r"\w+", text) if word in known}
+
+
+def docs(text):
+    """Returns a text as lines of documentation."""
+    return "".join(f"/// {line}".rstrip() + "\n" for line in text.strip("\n").splitlines())
+
+
+def links(names):
+    """Returns links to definitions, below a text that names them."""
+    return "\n" + ", ".join(f"[`{name}`]" for name in names) if names else ""
+
+
+def pages(definitions, heads, wanted):
+    """Returns the pages of these definitions, and of those that they name."""
+    kept, left = set(), list(wanted)
+    while left:
+        path = left.pop()
+        if path not in kept:
+            kept.add(path)
+            left += definitions[path].names.values()
+    rust = '#![doc = include_str!("../contracts.md")]\n#![allow(non_snake_case)]\n\n'
+    crate = None
+    for module, head in heads.items():
+        of, file = module.split("::")
+        own = [path for path in definitions if path in kept and path.startswith(f"{module}::")]
+        if not own:
+            continue
+        if of != crate:
+            rust += "}\n\n" * (crate is not None)
+            rust += f"/// Definitions of the crate `{of}`.\npub mod {of} {{\n"
+            crate = of
+        names = [path.rpartition("::")[2] for path in own]
+        order = ", ".join(f"[`{name}`](mod@{file}::{name})" for name in names)
+        rust += docs(f"{head}\n\nIn the order of `crates/{of}/specs/{file}.antt`: {order}.")
+        others = {
+            (name, other)
+            for path in own
+            for name, other in definitions[path].names.items()
+            if not other.startswith(f"{module}::")
+        }
+        rust += f"pub mod {file} {{\n{imports(others)}"
+        rust += "".join(page(path, definitions[path]) for path in own) + "}\n\n"
+    return rust + "}\n"
+
+
+def imports(names):
+    """Returns the imports of definitions, which are names and their paths."""
+    uses = ""
+    for name, path in sorted(names):
+        own = "" if path.endswith(f"::{name}") else f" as {name}"
+        uses += f"use crate::definitions::{path}{own};\n"
+    return uses
+
+
+def page(path, definition):
+    """Returns the page of a definition."""
+    code = re.sub(r"\bpub ", "", definition.text)
+    text = f"{definition.comment}\n\n```text\n{code}\n```{links(definition.names)}"
+    return f"{docs(text)}pub mod {path.rpartition('::')[2]} {{}}\n\n"

@@ -1,0 +1,33 @@
+"""Compares each function that both sides have."""
+
+import rattle
+import rust
+from names import Names
+from packages import PACKAGES, printed
+from paths import Differs, explore
+
+# What a reader says of a form that is none of its own.
+FAULTS = (ArithmeticError, AttributeError, LookupError, TypeError, ValueError)
+ADVICE = "a form that is not read: teach it to rust.py or rattle.py, or std.py what it is"
+
+
+def read(root, sources, crates):
+    """Returns the functions of both sides, by name: of Rust as cargo compiles it, and of crates."""
+    text = rust.Text(sources.lines.values())
+    for package, target, folder, module in PACKAGES:
+        modules = {module} if module else {it.stem for it in (root / folder).iterdir()}
+        text.read(printed(root, package, target), modules)
+    return Names(text, rattle.Library(crates.values()), sources)
+
+
+def compare(names):
+    """Yields each function of both sides, and how it differs, or None."""
+    for one, other in sorted(names.both.items()):
+        fault = None
+        try:
+            explore(rattle.Body(names.library, one), names.text.functions[other], names)
+        except Differs as error:
+            fault = f"{error}"
+        except FAULTS as error:
+            fault = f"{type(error).__name__}: {error}\n    {ADVICE}"
+        yield one, fault and f"in Rust {other}\n    {fault}"

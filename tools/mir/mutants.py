@@ -1,0 +1,128 @@
+"""The mutants of `crates/*/must-fail` as wrong Rust, which the comparison has to refuse."""
+
+import collections
+import re
+import shutil
+import sys
+import tempfile
+from pathlib import Path
+
+from compare import compare, read
+from packages import Sources
+from rust import PLACE
+
+# What cargo needs of the repository.
+NEEDED = ("Cargo.toml", "Cargo.lock", "src", "examples", "c", "variations")
+
+EDIT = re.compile(r"^old: (.*)\nnew: (.*)$", re.M)
+START = re.compile(r"^( *)(?:[\w\"()]+ )*?fn (\w+)", re.M)
+OUTER = re.compile(r"^(?:pub(?:\(.*?\))? )?(?:impl|trait (\w+))", re.M)
+CONSTANT = re.compile(r"^const (\w+): ", re.M)
+
+
+class Edit:
+    """An edit of a file of Rattle: where it changes the Rust, and the keys of which functions; or
+    why it has no place there."""
+
+    def __init__(self, path, sources):
+        text, crate = path.read_text(), path.parts[-3]
+        self.name, self.changes, self.keys, self.reason = f"{crate}/{path.stem}", [], set(), None
+        self.file = sources.files.get(f"{crate}/{re.search('^file: (.*)', text, re.M)[1]}")
+        if not self.file:
+            self.reason = f"change a file of {crate} whose MIR is not compared"
+            return
+        self.source, self.module = "\n".join(sources.lines[self.file]), sources.module(self.file)
+        function = re.match(r"# clause: (?:\w+::)*(\w+)", text)[1]
+        text = re.sub(r"\bcrate::", f"crate::{self.module.split('::')[0]}::", text)
+        for old, new in EDIT.findall(text):
+            self.find(function, old, new)
+
+    def find(self, function, old, new):
+        """Finds the one place of a text, laid out in any way; of several, that in the function."""
+        words = r"\s*".join(map(re.escape, re.findall(r"\w+|[^\w\s]", old.removesuffix(","))))
+        after = r"(?:,|(?=\s*[})]))" if old.endswith(",") else ""
+        found = [*re.finditer(words + after, self.source)]
+        if len(found) > 1:
+            is_in = lambda it: (self.key_at(it.start()) or "").endswith(f"::{function}")
+            found = [it for it in found if is_in(it) and self.source[it.end()] not in ".("]
+        if len(found) == 1:
+            self.changes.append((*found[0].span(), new))
+            self.keys |= {self.key_at(it) for it in self.uses(found[0])}
+        if len(found) != 1 or None in self.keys:
+            self.reason = "change what is in no function of the Rust"
+
+    def uses(self, found):
+        """Returns where a text is or, of a constant, where the file uses that."""
+        constant = CONSTANT.match(self.source, found.start())
+        uses = constant and re.finditer(rf"\b{constant[1]}\b(?!: )", self.source)
+        return [it.start() for it in uses or [found]]
+
+    def key_at(self, place):
+        """Returns the key of the function that a place is in, or None."""
+        *_, start = [None, *START.finditer(self.source, 0, place)]
+        if not start or re.search(rf"^{start[1]}\}}", self.source[start.end() : place], re.M):
+            return None
+        outer = [*OUTER.finditer(self.source, 0, place)][-1] if start[1] else None
+        if outer and not outer[1]:
+            line = self.source.count("\n", 0, outer.start()) + 1
+            return f"{self.file}:{line}::{start[2]}"
+        return "::".join([self.module, *([outer[1]] if outer else []), start[2]])
+
+
+def key_of(name):
+    """Returns the path of a function of Rust, with the line of its `impl`; of a closure, the path
+    of the function that it is in."""
+    name = re.sub(r"(::\{closure.*)?\(\)$", "", name)
+    place = PLACE.search(name)
+    return f"{place[1]}:{place[2]}::{name.split('::')[-1]}" if place else name
+
+
+def batches(edits):
+    """Returns lists of the edits, of which no two change one function."""
+    found = []
+    for edit in edits:
+        free = (it for it in found if not any(edit.keys & other.keys for other in it))
+        batch = next(free, None)
+        if batch is None:
+            found.append(batch := [])
+        batch.append(edit)
+    return found
+
+
+def differing(root, batch, crates):
+    """Returns the functions of Rattle that differ from the Rust with these edits."""
+    changes = collections.defaultdict(list)
+    for edit in batch:
+        changes[edit.file] += edit.changes
+    with tempfile.TemporaryDirectory() as room:
+        room = Path(room)
+        for name in NEEDED:
+            copy = shutil.copytree if (root / name).is_dir() else shutil.copy
+            copy(root / name, room / name)
+        for file, found in changes.items():
+            text = (room / file).read_text()
+            for start, end, new in sorted(found, reverse=True):
+                text = text[:start] + new + text[end:]
+            (room / file).write_text(text)
+        return {one for one, fault in compare(read(room, Sources(room), crates)) if fault}
+
+
+def report(root, both, crates):
+    """Compares the Rust with as many mutants at a time as change different functions, and returns
+    how many faults there are: functions with a mutant that are equal, or without that are not."""
+    edits = [Edit(it, both.sources) for it in sorted(root.glob("crates/*/must-fail/*.edit"))]
+    placed = [it for it in edits if not it.reason]
+    keys = {one: key_of(other) for one, other in both.both.items()}
+    errors, passed = [], set()
+    for batch in batches(placed):
+        found = {keys[it] for it in differing(root, batch, crates)}
+        passed |= {it.name for it in batch if not it.keys <= found}
+        alone = found - set().union(*(it.keys for it in batch))
+        errors += [f"{it} differs without a mutant" for it in sorted(alone)]
+    for error in errors + [f"{it} passes as a mutant of MIR" for it in sorted(passed)]:
+        print(error, file=sys.stderr)
+    reasons = collections.Counter(it.reason for it in edits if it.reason)
+    others = "; ".join(f"{count} {reason}" for reason, count in sorted(reasons.items()))
+    count = f"{len(placed) - len(passed)} of {len(placed)}"
+    print(f"mutants of MIR: {count} refused ({others})")
+    return len(errors) + len(passed)

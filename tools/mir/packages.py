@@ -1,0 +1,62 @@
+"""What cargo compiles of the erased Rust, and of which crates of Rattle that is."""
+
+import os
+import re
+import subprocess
+import tempfile
+from pathlib import Path
+
+# Without optimizations of MIR, which are trusted as LLVM is.
+FLAGS = "--emit=mir -Cpanic=abort -Coverflow-checks=off -Zmir-opt-level=0 -Zinline-mir=no".split()
+FLAGS.append("-Ztrim-diagnostic-paths=no")
+ENVIRONMENT = {"RUSTC_BOOTSTRAP": "1", "RUSTFLAGS": "--cap-lints=allow"}
+
+# What cargo compiles: a package, a target of it, the folder of erased crates, and their module.
+PACKAGES = (
+    (".", "--lib", "src/generated", ""),
+    ("variations", "--lib", "variations/src/generated", "generated"),
+    ("c", "--lib", "c/src/generated", ""),
+)
+
+# A literal, or a crate with which a path begins, as the library has it.
+PATHS = r'("(?:\\.|[^"\\\n])*")|\b(?:(std)|font_types_proved)::(?=([A-Z])?)'
+
+
+class Sources:
+    """The erased files, and of which crates, modules and files of Rattle they are."""
+
+    def __init__(self, root):
+        self.crates, self.modules, self.lines, self.files = {}, set(), {}, {}
+        for _, _, folder, module in PACKAGES:
+            for path in sorted((root / folder).rglob("*.rs")):
+                text, first = path.read_text(), module or path.relative_to(root / folder).parts[0]
+                self.lines[str(path.relative_to(root))] = text.split("\n")
+                head = re.match(r"// @generated from crates/(\w+)/src/(.*)\.rt ", text)
+                if head:
+                    self.files[f"{head[1]}/src/{head[2]}.rt"] = str(path.relative_to(root))
+                    self.modules.add("::".join(head[1].split() + head[2].split("/")))
+                    self.crates[first.removesuffix(".rs")] = head[1]
+
+    def module(self, file):
+        """Returns the module that an erased file is."""
+        folder, module = next(it[2:] for it in PACKAGES if file.startswith(it[2]))
+        parts = Path(file).relative_to(folder).with_suffix("").parts
+        return "::".join(it for it in (module, *parts) if it not in ("", "mod"))
+
+
+def as_in_library(text):
+    """Returns MIR with the paths that it has in the library."""
+    crate = lambda it: it[1] or ("core::" if it[2] else "font_types::" if it[3] else "")
+    return re.sub(PATHS, crate, text)
+
+
+def printed(root, package, target):
+    """Returns the MIR of a target, with the paths that it has in the library."""
+    with tempfile.TemporaryDirectory() as room:
+        cargo = ["cargo", "rustc", "--quiet", target, "--target-dir", room, "--", *FLAGS]
+        subprocess.run(cargo, cwd=root / package, check=True, env=os.environ | ENVIRONMENT)
+        folder = "examples" if "example" in target else "deps"
+        (file,) = Path(room, "debug", folder).glob("*.mir")
+        text = as_in_library(file.read_text())
+    own = rf"\1{package}/src/"
+    return text if package == "." else re.sub(r"(@| at )src/(?:\.\./\.\./)?", own, text)

@@ -1,0 +1,426 @@
+"""Reads the MIR that rustc compiles, as `--emit=mir` prints it. What is not read is an error: each
+statement, terminator, right side and constant has a known form."""
+
+import ast
+import functools
+import re
+
+from machine import Function
+from terms import FALSE, TRUE, UNIT, length, number, text_of, value, width
+
+PLACE = re.compile(r"<impl at ([^:>]*):(\d+):(\d+): (\d+):(\d+)>")
+CLOSURE = re.compile(r"\{closure@([^}]*)\}")
+OPERATION = re.compile(r"(Not|Neg|Add|Sub|Mul|Div|Rem|Bit\w+|Shl|Shr|Eq|Ne|Lt|Le|Gt|Ge)\((.*)\)")
+IGNORED = re.compile(r"Storage(Live|Dead)\(_\d+\);|ConstEvalCounter;|nop;|debug |scope \d+ \{|\}")
+LIMIT = re.compile(r"(?:core::num::<impl )?([iu]\w+?)>?::(MIN|MAX|BITS)")
+
+SWITCH = r"switchInt\((.*)\) -> \[(.*), otherwise: bb(\d+)\];"
+ENDED = re.compile(
+    r"(.*?) -> (?:\[(?:return|success): bb(\d+), unwind [\w()]+\]|bb(\d+)|unwind [\w()]+);"
+)
+
+# A type or trait that a source declares; an enum with what is in it; and a variant of that.
+DECLARED = r"^(?! *//).*?\b(?:enum|struct|trait)\s+([A-Z]\w*)"
+ENUM = r"^(?:pub(?:\(.*?\))? )?enum (\w+)[^\n{]*\{$(.*?)^\}"
+VARIANT = r"(?:#\[[^\]]*\]\s*)*(\w+)(?:\s*[({].*[)}]|\s*=\s*(-?\d+))?"
+
+# What `core` declares: of enums the variants, and the discriminants if they are others.
+VARIANTS = {
+    "Option": ["None", "Some"], "Result": ["Ok", "Err"], "ControlFlow": ["Continue", "Break"],
+    "Ordering": ["Less", "Equal", "Greater"],
+}  # fmt: skip
+STRUCTS = {"Range", "RangeFrom", "RangeTo", "PhantomData"}
+
+
+def outside(text, at):
+    """Yields the places of some texts in one where no bracket or literal is open."""
+    some, depth = "|".join(map(re.escape, at)), 0
+    for it in re.finditer(rf"\"(\\.|[^\"\\])*\"|'(\\.[^']*|[^'\\])'|->|=>|({some})|.", text):
+        depth -= it[0] in (")", "]", "}", ">")
+        if it[3] and depth == 0:
+            yield it.start()
+        depth += it[0][-1] in "<([{"
+
+
+@functools.cache
+def split(text, at=","):
+    start, parts = 0, []
+    for n in outside(text, [at]):
+        parts.append(text[start:n].strip())
+        start = n + len(at)
+    return tuple(it for it in (*parts, text[start:].strip()) if it)
+
+
+def bracketed(text):
+    """Returns a text up to the bracket that closes the one with which it begins."""
+    return text[: next(outside(text, ")]}>")) + 1]
+
+
+@functools.cache
+def head(text):
+    """Returns the path with which a text begins: to a `(`, a ` {`, or `: `."""
+    return text[: next(outside(text, ["(", " {", ": "]), len(text))]
+
+
+@functools.cache
+def names(path):
+    return [it.split("<")[0] for it in split(path, "::") if it[0] != "<"]
+
+
+def last(path):
+    return names(path)[-1]
+
+
+def unreferenced(of):
+    return re.sub(r"^&('\w+ )?(mut )?", "", of.strip())
+
+
+class Text:
+    """The functions and constants of some packages, and what their sources declare."""
+
+    def __init__(self, sources):
+        self.variants, self.values, self.declared = dict(VARIANTS), {"Ordering": [-1, 0, 1]}, set()
+        self.functions, self.closures, self.constants, self.used = {}, {}, {}, set()
+        self.resolve, self.crates = None, {}  # which constant a path names; crates of modules
+        for source in map("\n".join, sources):
+            for name in re.findall(DECLARED, source, re.M):
+                self.require_new(name)
+                self.declared.add(name)
+            for name, inner in re.findall(ENUM, source, re.M | re.S):
+                self.add_enum(name, split(re.sub("//.*", "", inner)))
+            for name, of in re.findall(r"\bconst (\w+): ([^=;]+)(?: =|;)", source):
+                self.constants.setdefault(name, set()).add(of)
+
+    def add_enum(self, name, variants):
+        found, values = [re.fullmatch(VARIANT, it, re.S) for it in variants], []
+        if None in found:
+            raise ValueError(f"the variants of {name}: {variants}")
+        self.variants[name] = [it[1] for it in found]
+        for it in found:
+            values.append(int(it[2]) if it[2] else (values or [-1])[-1] + 1)
+        self.values.update({name: values} if any(it[2] for it in found) else {})
+
+    def require_new(self, name):
+        if name in self.declared:
+            raise ValueError(f"two types or traits are named {name}")
+
+    def read(self, text, crates):
+        """Reads what rustc prints of these crates in one package, each function once."""
+        for name in set(re.findall(r"\b(?:core|alloc)::(?:\w+::)*([A-Z]\w*)", text)):
+            self.require_new(name)
+        again, function = False, None
+        for line in text.splitlines():
+            if line == "// MIR FOR CTFE":
+                again = True
+            elif line.startswith(("alloc", "}")):
+                function = None
+            elif line[:1] not in (" ", "/", ""):
+                function = Body(self, line)
+                closure = CLOSURE.search(function.types.get("_1", ""))
+                if function.name.endswith("}()") and closure:
+                    self.closures.setdefault(closure[1], function.name)
+                if again and function.name.endswith("()") or names(function.path)[0] not in crates:
+                    function = None
+                elif self.functions.setdefault(function.name, function) is not function:
+                    raise ValueError(f"two functions are printed as {function.name}")
+                again = False
+            elif function and line.startswith(" "):
+                function.read(line.strip())
+
+
+class Body(Function):
+    """A function or a constant, with its types and lines."""
+
+    def __init__(self, text, line):
+        kind, _, rest = line.partition(" ")
+        kind, rest = (kind, rest) if kind in ("fn", "const", "static") else ("const", line)
+        self.text, self.path, self.temporaries = text, head(rest), 0
+        super().__init__(self.path + "()" * (kind == "fn"))
+        self.types, self.lines, rest = {}, {}, rest[len(self.path) :]
+        if kind == "fn":
+            self.types = dict(it.split(": ", 1) for it in split(bracketed(rest)[1:-1]))
+        self.count = len(self.types)
+        if kind != "fn":
+            self.types["_0"] = re.sub(r" = .*| \{$", "", rest[2:])
+            if not line.endswith("{"):
+                self.lines = {0: [f"_0 = {rest.split(' = ', 1)[1]}", "return;"]}
+
+    def read(self, line):
+        local = re.match(r"let (?:mut )?(_\d+): (.*);", line)
+        block = re.match(r"bb(\d+)(?: \(cleanup\))?: \{", line)
+        if local:
+            self.types[local[1]] = local[2]
+        elif block:
+            self.now = self.lines[int(block[1])] = []
+        elif not IGNORED.match(line):
+            self.now.append(line)
+
+    def parameters(self):
+        """Yields the type of each parameter of Rattle, and the terms that it is here: for C, a
+        slice is a pointer and its length."""
+        types, n = [self.types[f"_{it + 1}"] for it in range(self.count)], 0
+        while types:
+            of, one, n = types.pop(0), ("param", n), n + 1
+            if of[0] == "*":
+                types.pop(0)
+                kind, of = of.split(" ", 1)
+                of = f"&mut [{of}]" if kind == "*mut" else f"&[{of}]"
+                yield of, [("ptr_of", one), length(one)]
+            else:
+                yield of, [one]
+
+    def arguments(self):
+        return [it for _, terms in self.parameters() for it in terms]
+
+    # ---- statements
+
+    def lower(self):
+        self.enums = {}  # of which enum a local has the discriminant
+        for line in (it for lines in self.lines.values() for it in lines):
+            tag = re.fullmatch(r"(_\d+) = (?:discriminant\((.*)\)|(?:copy|move) (_\d+));", line)
+            if tag and tag[2]:
+                enum = self.enums[tag[1]] = last(unreferenced(self.type_of(tag[2])))
+                if not self.text.variants.get(enum):
+                    raise ValueError(f"the variants of {enum}")
+            elif tag and tag[3] in self.enums:
+                self.enums[tag[1]] = self.enums[tag[3]]
+        for label, lines in self.lines.items():
+            self.now = self.blocks[label] = []
+            for line in lines:
+                self.statement(line)
+
+    def statement(self, line):
+        ended, assigned = ENDED.fullmatch(line), re.fullmatch(r"([_(].*?) = (.*);", line)
+        text, label = (ended[1], ended[2] or ended[3]) if ended else (line, None)
+        goto = ("goto", int(label)) if label else ("dead",)
+        form = next((it for it in FORMS if re.fullmatch(it[0], text)), None) if ended else None
+        if line in ("return;", "unreachable;", "resume;"):
+            self.now.append(("return" if line == "return;" else "dead",))
+        elif form:
+            form[1](self, *re.fullmatch(form[0], text).groups())
+            self.now.append(goto)
+        elif line.startswith("switchInt"):
+            self.switch(*re.fullmatch(SWITCH, line).groups())
+        elif assigned:
+            self.now.append(("set", self.place(assigned[1]), self.value(assigned[2])))
+        else:
+            raise ValueError(line)
+
+    def goes_on(self, _):
+        pass
+
+    def index_check(self, operands):
+        self.now.append(("index", *self.operands(operands)))
+
+    def drop(self, place):
+        given = [("copy", self.place(place))]
+        self.now.append(("call", ("drop", "drop", None), given, ("unused", ()), "&", "unit"))
+
+    def call(self, to, text):
+        path, form = head(text), "unit" if self.types.get(to) == "()" else None
+        given = split(text[len(path) + 1 : -1])
+        terms, lent = [*map(self.operand, given)], [*map(self.lent, given)]
+        self.now.append(("call", (last(path), path, None), terms, self.place(to), lent, form))
+
+    def lent(self, operand):
+        """Returns "mut" or "&" for such a reference; "mut" if the type is not known."""
+        if not operand.startswith(("move ", "copy ")):
+            return ""
+        of = self.type_of(operand)
+        return "mut" if not of or re.match(r"&('\w+ )?mut ", of) else of[:1]
+
+    def enum(self, operand):
+        return self.enums.get(operand.split(" ")[-1])
+
+    def switch(self, operand, arms, default):
+        of, enum, operand = self.type_of(operand), self.enum(operand), self.operand(operand)
+        values, arms = self.text.values.get(enum), [it.split(": bb") for it in split(arms)]
+        # A discriminant is printed without a sign.
+        raw = lambda n: values.index(value(number(n, width(of)), True)) if values else n
+        arms = sorted((raw(int(n)), int(label)) for n, label in arms)
+        default = None if self.lines[int(default)] == ["unreachable;"] else int(default)
+        self.now.append(("switch", (operand, 8 if enum else width(of)), arms, default))
+
+    # ---- places
+
+    def place(self, text):
+        place, rest = self.parse(text)
+        if rest:
+            raise ValueError(f"the place {text}")
+        return place
+
+    def parse(self, text):
+        """Reads the place with which a text begins, and returns what is after it."""
+        found = re.match(r"_(\d+)", text)
+        if found:
+            (local, steps), rest = (int(found[1]), ()), text[found.end() :]
+        else:
+            (local, steps), rest = self.parse(text[2 if text.startswith("(*") else 1 :])
+            variant, field = re.match(r" as (\w+)", rest), re.match(r"\.(\d+): ", rest)
+            if variant:
+                steps = (*steps, self.variant(variant[1]))
+            elif field:
+                of = steps[-1] if steps and isinstance(steps[-1], int) else None
+                steps = (*(steps if of is None else steps[:-1]), ("f", of, int(field[1])))
+            else:
+                steps = (*steps, ("*",))
+            rest = text[len(bracketed(text)) :]
+        while rest.startswith("["):
+            inner, rest = rest[1:].split("]", 1)
+            steps = (*steps, self.index(inner))
+        return (local, steps), rest
+
+    def index(self, inner):
+        """Returns the step to an element, or, by a pattern, to elements from both ends."""
+        one, some = re.fullmatch(r"(-?)(\d+) of \d+", inner), re.fullmatch(r"(\d*):-?(\d*)", inner)
+        if inner.startswith("_"):
+            return ("e", ("copy", (int(inner[1:]), ())))
+        if one:
+            return ("end", int(one[2])) if one[1] else ("e", ("term", number(int(one[2]), 64)))
+        if some[2] and ":-" not in inner:
+            raise ValueError(f"the part {inner} of an array")
+        return ("win", int(some[1] or 0), int(some[2] or 0))
+
+    def variant(self, name):
+        (found,) = {it.index(name) for it in self.text.variants.values() if name in it}
+        return found
+
+    # ---- values
+
+    def type_of(self, text):
+        """Returns the type of an operand, as far as its text says it."""
+        text = re.sub("^(copy|move|const) ", "", text)
+        literal = re.fullmatch(r"-?\d+_(\w+)|\(.*\.\d+: ([^()]*)\)", text)
+        local = re.fullmatch(r"(\(\*)?(_\d+)\)?(\[.*\])?", text)
+        limit, is_char = LIMIT.fullmatch(text), text[0] == "'"
+        if literal:
+            return literal[1] or literal[2]
+        if local:
+            of = self.types[local[2]]
+            of = unreferenced(of) if local[1] or local[3] else of
+            return re.sub(r"^\[(.*?)(; .*)?\]$", r"\1", of) if local[3] else of
+        if limit:
+            return "u32" if limit[2] == "BITS" else limit[1]
+        if is_char or text in ("true", "false"):
+            return "char" if is_char else "bool"
+        name = None if text[0] in '"b(' else self.text.resolve(text)
+        types = self.text.constants.get(text.split("::")[-1], ())  # a constant of a trait
+        of_trait = next(iter(types)) if len(types) == 1 else ""
+        return self.text.functions[name].types["_0"] if name else of_trait
+
+    def operand(self, text):
+        if text[:5] in ("move ", "copy "):
+            return ("copy", self.place(text[5:]))
+        if not text.startswith("const "):
+            crate, *path = names(text)
+            return ("term", ("fn", "::".join([self.text.crates.get(crate, crate), *path])))
+        text = text.removeprefix("const ")
+        term = self.term(text)
+        if term:
+            return ("term", term)
+        self.temporaries += 1
+        place = (f"constant {self.temporaries}", ())
+        inner = re.search(r"::(promoted\[\d+\]|\{constant#\d+\})$", text)
+        if not inner and text.startswith("<") and " as " in text:
+            self.now.append(("call", (last(text), text, None), (), place, (), None))
+        else:
+            name = f"{self.path}::{inner[1]}" if inner else self.text.resolve(text)
+            self.text.used.add(name)
+            self.now.append(("constant", place, self.text.functions[name]))
+        return ("copy", place)
+
+    def operands(self, text):
+        return tuple(map(self.operand, split(text)))
+
+    def term(self, text):
+        """Returns a constant that needs no code, or None."""
+        integer, limit = re.fullmatch(r"(-?\d+)(?:_(\w+))?", text), LIMIT.fullmatch(text)
+        if integer:
+            return number(int(integer[1]), width(integer[2] or "usize"))
+        if limit:
+            bits, signed = width(limit[1]), limit[1][0] == "i"
+            n = {"MAX": (1 << bits - signed) - 1, "MIN": signed << bits - 1, "BITS": bits}
+            return number(n[limit[2]], 32 if limit[2] == "BITS" else bits)
+        if text[0] in "'\"b" and text[-1] in "'\"":
+            return literal_of(text)
+        known = {"true": TRUE, "false": FALSE, "()": UNIT}
+        return known.get(text) or (("gen", text) if re.fullmatch("[A-Z]+", text) else None)
+
+    def value(self, text):
+        operation = OPERATION.fullmatch(text)
+        unary = re.fullmatch(r"(discriminant|PtrMetadata)\((?:copy |move )?(.*)\)", text)
+        borrowed = re.fullmatch(r"&(?:mut )?([_(].*)", text)
+        if operation:
+            return self.operated(operation[1].removeprefix("Bit"), split(operation[2]))
+        if unary:
+            local, steps = self.place(unary[2])
+            step = "tag" if unary[1] == "discriminant" else "len"
+            return ("use", ("copy", (local, (*steps, (step,)))))
+        if borrowed:
+            return ("ref", self.place(borrowed[1]))
+        if text[:5] in ("copy ", "move ", "const"):
+            operand, *to = split(text, " as ")
+            return self.casted(operand, *to) if to else ("use", self.operand(operand))
+        return self.aggregate(text)
+
+    def aggregate(self, text):
+        item, *count = split(text[1:-1], ";") or ("",)
+        if text[0] == "[" and count:
+            count = count[0].removeprefix("const ")
+            return ("repeat", self.operand(item), self.operand("const " + count))
+        closure = CLOSURE.match(text)
+        path = closure[0] if closure else head(text) if text[0] not in "[(" else ""
+        parts, found = text[len(path) :].strip()[1:-1].strip(", "), names(path)
+        if " {" in text[len(path) :][:2]:
+            parts = ", ".join(it.split(": ", 1)[1] for it in split(parts))
+        variants = self.text.variants.get(found[-2] if len(found) > 1 else "", ())
+        variant = variants.index(found[-1]) if found and found[-1] in variants else None
+        is_struct = bool(found) and found[-1] in self.text.declared | STRUCTS
+        if found and not closure and variant is None and not is_struct:
+            raise ValueError(f"{path} is no type that is known: {text}")
+        return ("agg", ("closure", path) if closure else variant, self.operands(parts))
+
+    def operated(self, name, operands):
+        typed = operands[:1] if name in ("Shl", "Shr") else operands  # not the amount's type
+        of, terms = next(filter(None, map(self.type_of, typed)), ""), map(self.operand, operands)
+        bits, signed = width(of), of[:1] == "i"
+        if any(map(self.enum, operands)):
+            bits = 8 if name in ("Eq", "Ne") else None
+        if not bits:
+            raise ValueError(f"{name} of {of}")
+        if name == "Not":
+            return (name, bits, *terms)
+        zero = [("term", number(0, bits))] if name == "Neg" else []
+        return ("Sub" if zero else name, signed, bits, *zero, *terms)
+
+    def casted(self, operand, text):
+        to, how = re.fullmatch(r"(.*) \((IntToInt|PointerCoercion\(Unsize, .*\))\)", text).groups()
+        of, enum, term = self.type_of(operand), self.enum(operand), self.operand(operand)
+        if enum in self.text.values:
+            raise ValueError(f"a discriminant that is not the number of a variant: {text}")
+        if how == "IntToInt":
+            return ("cast", of[0] == "i", 8 if enum else width(of), width(to), term)
+        array = re.fullmatch(r"\[.*; (.*)\]", unreferenced(of))
+        if array:
+            return ("whole", term, self.term(array[1]))
+        # It is a value as one of any type, for `Debug`.
+        kind = re.sub(r"&|'\w+ |mut ", "", of)
+        return ("dyn", kind if width(kind) and kind not in ("bool", "char") else None, term)
+
+
+# How a statement that ends a block is read. What is asserted before a division has a check of its
+# own.
+FORMS = (
+    (r'goto|assert\(!move _\d+, "attempt to (divide|calculate|compute `\{\} [/%]).*', Body.goes_on),
+    (r'assert\(move _\d+, "index out of bounds:[^"]*", (.*)\)', Body.index_check),
+    (r"drop\((.*)\)", Body.drop),
+    (r"([_(].*?) = (.*\))", Body.call),
+)  # fmt: skip
+
+
+def literal_of(text):
+    escape = lambda it: "\\U" + it[2].zfill(8) if it[2] else "\\x00" if it[1] == "0" else it[0]
+    found = ast.literal_eval(re.sub(r"\\(u\{(\w+)\}|.)", escape, text))
+    if text[0] == "b":
+        return ("ptr", ("static", found), ())
+    return number(ord(found), 32) if text[0] == "'" else text_of(found.encode())

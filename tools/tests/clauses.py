@@ -1,0 +1,119 @@
+"""Each public function, trait method, law and export has a contract for what it gives: its clauses
+name `result`, if it returns something, and `x.new` of each `x: &mut T`; and each `impl` of a trait
+has a ghost item."""
+
+import pathlib
+import re
+import sys
+import unittest
+
+ROOT = pathlib.Path(__file__).resolve().parents[2]
+sys.path.append(str(ROOT / "tools/erase"))
+import forms
+from eraser import LIBRARY, Crate, Eraser
+
+# Clauses of no name, of std and of a call, and what an edit adds.
+OF_OTHERS = {"ensures", "steps", "exact", "place", "decode"}
+OF_EDITS = {"call of decode", "five bytes", "Level"}
+
+# The clauses of these traits are of their functions alone.
+WITHOUT_GHOST = ("ExactSizeIterator", "ByteChunks")
+
+
+def angle_end(words, at):
+    """The end of the generics that open here."""
+    depth = 0
+    for n in range(at, len(words)):
+        depth += (words[n] == "<") - (words[n] == ">" and words[n - 1] != "-")
+        if depth == 0:
+            return n + 1
+
+
+def gives(eraser, at):
+    """Returns what the clauses of a function have to name, by its header."""
+    words = eraser.words
+    opens = angle_end(words, at + 2) if words[at + 2] == "<" else at + 2
+    end = eraser.group_end(opens)
+    parameters = " ".join(words[opens:end])
+    found = [f"{name} . new" for name in re.findall(r"(\w+) : & (?:'\w+ )?mut ", parameters)]
+    found += ["self . new"] * bool(re.match(r"\( & (?:'\w+ )?mut self ", parameters))
+    if words[end : end + 2] != ["-", ">"]:
+        return found
+    if words[end + 2] != "(":
+        return found + ["result"]
+    # Each part of a tuple.
+    part, parts = end + 3, 1
+    while words[part] != ")":
+        parts += words[part] == ","
+        part = angle_end(words, part) if words[part] == "<" else eraser.group_end(part)
+    return found + [f"result . {n}" for n in range(parts)]
+
+
+def says(eraser, start, end):
+    """Returns the words of an `ensures`, or nothing if it says what is always so."""
+    if eraser.words[start] != "ensures":
+        return ""
+    text = " ".join(eraser.words[eraser.words.index("{", start) + 1 : end - 1])
+    one, _, other = text.partition(" ≡ ")
+    return "" if one == other or text == "IsTrue true" else f" {text} "
+
+
+def before(words, at):
+    """The words before `fn`: its visibility and what it is."""
+    first = at
+    while first > 0 and words[first - 1] not in ("{", "}", ";", "]"):
+        first -= 1
+    return words[first:at]
+
+
+def missing(eraser):
+    """Yields each place of a file where a contract lacks something, and what."""
+    words, traits = eraser.words, []
+    for at in eraser.visited:
+        if words[at] in ("impl", "trait") and forms.is_item(words, at):
+            opens = eraser.header_end(at)
+            header, inside = words[at:opens], words[opens : eraser.group_end(opens)]
+            if header[0] == "trait":
+                traits.append(range(opens, opens + len(inside)))
+            ghosts = [name for it, name in zip(inside, inside[1:]) if it == "ghost"]
+            is_known = any(name in header for name in WITHOUT_GHOST) or set(ghosts) - {"use"}
+            if "for" in header and "fn" in inside and not is_known:
+                yield at, "an `impl` without a ghost item"
+        elif words[at] == "fn" and words[at + 1] != "(":
+            kinds = before(words, at)
+            if "crate" in kinds or "pub" not in kinds and not any(at in it for it in traits):
+                continue
+            clauses = [says(eraser, *clause) for clause in eraser.header_and_clauses(at)[1]]
+            text = "".join(clauses)
+            is_whole = re.search(r" result (?!\. \d)", text)
+            for name in gives(eraser, at):
+                if f" {name} " not in text and not (name[:6] == "result" and is_whole):
+                    yield at, f"`{words[at + 1]}`: no clause says `{name.replace(' ', '')}`"
+
+
+class Contracts(unittest.TestCase):
+    def test_all_that_is_given(self):
+        faults, functions = [], 0
+        for crate in [*LIBRARY, "variations", "font_c"]:
+            for path in sorted((ROOT / f"crates/{crate}/src").rglob("*.rt")):
+                if "tests" in path.parts or path.stem == "tests":
+                    continue
+                eraser = Eraser(path.read_text(), Crate(crate, "tests", []), False)
+                functions += eraser.words.count("fn")
+                for at, what in missing(eraser):
+                    line = eraser.tokens[eraser.places[at]][2]
+                    faults.append(f"{path.relative_to(ROOT)}:{line}: {what}")
+        self.assertFalse(faults, "\n".join(faults))
+        self.assertGreater(functions, 600)
+
+    def test_first_lines_of_mutants(self):
+        """Each names a function, and a clause, a ghost item or a part of a definition."""
+        specs = [path.read_text() for path in ROOT.glob("crates/*/specs/**/*.antt")]
+        for crate in ROOT.glob("crates/*"):
+            source = "".join(path.read_text() for path in crate.glob("src/**/*.rt"))
+            named = re.findall(r"\b(?:ensures|ghost|pub) (\w+)", "".join([source, *specs]))
+            for edit in crate.glob("must-fail/*.edit"):
+                of, clauses = re.match("# clause: (.*?), (.*)\n", edit.read_text()).groups()
+                functions = set(re.split(r" for |::", of)) - set(re.findall(r"\w+", source))
+                lost = set(clauses.split(", ")) - {*named, *OF_OTHERS} | functions - OF_EDITS
+                self.assertFalse(lost, edit)

@@ -1,0 +1,223 @@
+"""The eraser: the committed files are what it writes, it changes what these rows say, and refuses
+the others. `tools/mir` compares what the compilers make of its output and of the source. `⏎` is the
+end of a line."""
+
+import pathlib
+import shutil
+import subprocess
+import sys
+import tempfile
+import unittest
+
+ROOT = pathlib.Path(__file__).resolve().parents[2]
+sys.path.append(str(ROOT / "tools/erase"))
+from eraser import Crate, Eraser, Refused
+
+# Sources that are errors, each after its line and what the error says.
+REFUSED = r"""
+2 `{{`: #[derive(Error)]⏎#[error("{{0, 1}}")]⏎struct Fault;
+2 escape: #[derive(Error)]⏎#[error("\x7bN}")]⏎struct Fault;
+1 `unsafe`: fn f(n: u32) -> i32 { unsafe { U { n }.m } }
+2 `/* */`: fn f() {⏎/* a comment */ }
+1 unterminated: fn f() -> char { '⏎' }
+1 raw name: const r#crate: u32 = 1;
+1 quote: const TEXT: &[u8] = br"a\";
+1 ASCII: const K: u32 = 1;
+1 no end: fn f() { for n in 250u8.. {} }
+1 no end: fn f() { for (n, m) in rows.iter().zip(0u8..) {} }
+1 no end: fn f(n: N) -> Option<u8> { n.get(g(250u8..))? }
+1 `RangeFrom`: fn f(r: RangeFrom<u8>) { for n in r {} }
+1 `Drop`: fn f(n: N) -> N { n + Drop::drop(m) }
+2 `W`: struct W;⏎fn f<W: fmt::Write>(w: &Formatter<W>) -> A<{ N }> { W::size() }
+1 comment: fn f() ensures { -- }⏎} {}
+1 clause: fn f() -> u32 { if requires { return 1; } { 2 } }
+1 ghost: fn f(n: u32) { while n < ghost - 1 { return; } {} }
+// In the logic `r` is a name, and `\\\"` no end of a text.
+1 raw text: fn f(r: u8) -> u8 ensures { two r"\" } { 2 } fn g() {} //" } { 1 }
+1 comment: ghost use M.{a, -- }; impl S { fn f(self) {} } use crate::m::{⏎b};
+1 Hasher: impl Hasher for H { fn finish(&self) -> u64 { 0 } }
+1 base: fn f(v: &[S], n: usize) -> S { S { a: 1, ..v[n] } }
+1 base: fn f(v: &[S], n: usize) -> S { S { a: 1, ..(v[n]) } }
+1 reference: impl<T: Mark> Told for &T { fn told(self) -> u8 { 1 } }
+1 FACTS: fn f(mut n: u8) -> u8 { let _bytes = { n = 2; }; n }
+1 FACTS: fn f(raw: u8) -> u8 { let _bytes = { return raw; }; 2 }
+1 FACTS: fn f(mut n: u8) -> u8 { let _bytes = crate::literal::store(&mut n); n }
+1 `zip`: fn f(s: &[u8]) -> usize { s.iter().map(|n| g(n)).zip(t).count() }
+1 `zip`: fn f(s: &[u8]) -> usize { Iterator::zip(s.iter().map(|n| g(n)), t).count() }
+1 `clone`: fn f() -> u8 { repeat_n(N(5), 1).next() }
+2 `{f`: #[derive(Error)]⏎#[error("{f:?}")]⏎struct Fault { f: N }
+2 `$`: #[derive(Error)]⏎#[error("{n:>w$}")]⏎struct Fault { n: u8, w: usize }
+1 MACROS: fn f() -> u32 { parts!(5 + Drop) }
+1 MACROS: fn f() -> u32 { depth!(font_base::facts) }
+1 MACROS: fn f() -> usize { stringify!(std::mem).len() }
+1 MACROS: fn f() -> bool { matches! { 1, 1 } }
+1 in a macro: fn f(n: u32) -> bool { matches!(n, crate::LIMIT) }
+1 defined: macro_rules! assert { ($all:tt) => {} }
+1 defined: static N: u32 = 1;
+1 ATTRIBUTES: #[macro_use]⏎mod facts;
+1 ATTRIBUTES: #[path = "other.rs"]⏎mod facts;
+1 tests: #[cfg(test)]⏎mod others;
+1 `unsafe`: #[unsafe(no_mangle)]⏎pub fn memcmp() {}
+1 DERIVES: #[derive(Other)]⏎struct S;
+1 `Drop`: const Drop: u32 = 3;⏎fn f(n: u32) -> u32 { n + Drop }
+2 trait: use json::{JsonFault, JsonScalar};⏎fn f(count: Count) -> u32 { count.size() }
+2 `AllocError`: use std::alloc::AllocError;⏎fn f(n: N) { match n { AllocError => 1 } }
+1 another name: use crate::facts::one as size_of;
+1 all: use super::*;
+1 `_bytes`: fn f(_bytes: u32, raw: Raw) -> u32 { let _bytes = raw.as_slice(); _bytes }
+1 another name: use crate as me;⏎fn f() -> u32 { me::laws::number() }
+1 `extern`: extern crate self as me;
+1 crate: mod std;
+2 within a file: pub⏎mod std { pub fn size() {} }
+1 `core`: pub mod core;
+1 `core`: use crate::parts::core;
+1 crate: struct font_base;
+1 crate: fn f(n: N) -> u32 { n.font_base::<u32>() }
+1 crate: fn f() -> u32 { self::std::fmt::number() }
+1 STD: use std::mem::swap;
+1 `thiserror`: mod thiserror;
+1 `assert`: use crate::parts::assert;
+// They depend on the compiler: Rust lays out this struct in 8 bytes, and C in 12.
+2 `size_of`: struct Row { tag: u8, at: u32, len: u8 }⏎fn f() -> usize { size_of::<Row>() }
+1 within a function: fn f() -> u32 { use crate::laws::number; number() }
+1 within another: fn f() -> impl Copy { fn g() {} }
+1 alias: type Number<'a> = &'a mut u32;
+1 `pub(..)`: impl S { pub(crate) fn f() {} }
+1 `extern`: pub extern "C" fn memcmp() {}
+3 `bytes_len`: pub extern "C" fn fty_f(⏎    bytes: &[u8],⏎) -> usize { bytes_len() }
+1 all: pub use super::*;
+1 ATTRIBUTES: #[macro_export]⏎fn f() {}
+1 `clone`: fn f(n: N) -> N { n.to_owned() }
+1 `clone`: fn f(n: N) { n.clone_from(m) }
+1 union: union U { n: u32 }
+1 within a function: fn f() { impl S {} }
+1 `needs_drop`: fn f() -> bool { needs_drop::<N>() }
+1 no end: fn f() { let r = 5..; }
+1 DERIVES: #[derive(Clone, Other)]⏎struct S;
+1 base: fn f(n: usize) -> S { S { a: 1, ..g(n) } }
+1 `unsafe`: fn f(b: B) { unsafe { std::str::from_utf8_unchecked_mut(b) } }
+1 `clone`: fn f(n: N) -> bool { is(n.clone()) }
+1 `clone`: fn clone(&self) -> Result<N, AllocError> { Ok(N); Ok(M) }
+1 `clone`: fn clone(&self) -> Result<N, AllocError> { f(); Ok(N) }
+1 `clone`: fn clone(&self) -> Result<Option<N>, AllocError> { Ok(Some(g()?)) }
+2 `W`: struct W;⏎fn f<W: fmt::Write>(w: &W) -> u32 { w.size() }
+1 unknown kind: impl A for B { ghost other = { 2 }; }
+"""
+
+# Ordinary functions.
+SAME = r"""
+fn f(n: i32) -> u32 { n.unsigned_abs().trailing_zeros().midpoint(n.count_ones()) }
+fn f(n: i32) -> i32 { match n { n if n < 0 => -1, 0 => 0, n if !(n > 9) => 1, _ => 2 } }
+fn f() { 'rows: loop { for n in 0..9 { if n == 1 { continue 'rows; } break 'rows; } } }
+fn f(a: bool) -> bool { if !(a) { return !(a); } loop { break !(a); } }
+fn f(s: &[u8]) -> bool { match s { [a, .., b] => a < b, _ => false } }
+fn f(s: &[u8]) -> &[u8] { s.get(s[..2].len()..).unwrap_or(&[]) }
+const TEXT: &str = r"\"; const N: u32 = 1;
+const TEXT: [&str; 2] = [r#"+ Drop"; /* crate::A */"#, "std::fmt"];
+"""
+
+# Sources, each with its Rust: what is changed, beside other signs, and contracts that are shown.
+SHORT = {
+    "OWN": "crate::font_base",
+    "FOLD": "/// <details><summary>Contract</summary>\n///\n/// ```text\n",
+    "END": "/// ```\n/// </details>",
+}
+CHANGED = r"""
+0..crate::A < (&crate::B, <crate::C>) ⇒ 0..OWN::A < (&OWN::B, <OWN::C>)
+0..font_ids::A < (&font_ids::B) ⇒ 0..crate::font_ids::A < (&crate::font_ids::B)
+0..std::fmt < (&std::fmt, <std::fmt>) ⇒ 0..core::fmt < (&core::fmt, <core::fmt>)
+fn f<W: fmt::Write>(f: &Formatter<W>) { 0..f } ⇒ fn f(f: &Formatter<'_>) { 0..f }
+fn clone(&self) -> Result<S<T>, AllocError> { Ok(&(0..n) < b) } ⇒ \
+fn clone(&self) -> S<T> { &(0..n) < b }
+trait A<Rhs>: B<Rhs> { fn f(&Rhs); } ⇒ trait A<Rhs = Self>: B<Rhs> { fn f(&Rhs); }
+extern "C" fn fty_f(n: crate::N) { 0..n } ⇒ extern "C" fn fty_f(n: OWN::N) { 0..n }
+pub extern "C" fn fty_f(n: &u8, a: &mut [T]) -> X<T> { g(&a[0..1]) < n } ⇒ \
+pub unsafe extern "C" fn fty_f(n: &u8, a: *mut T, a_len: usize) -> X<T> {⏎\
+    let a = unsafe { crate::slice_mut(a, a_len) }; g(&a[0..1]) < n }
+fn f() { prove!((A & B) < X::<A>::C); } ⇒ fn f() { const { assert!((A & B) < X::<A>::C) }; }
+f<T: A<U> + Drop>(x: &T) where (T, U): B + Drop, ⇒ f<T: A<U> >(x: &T) where (T, U): B ,
+#[derive(Clone, Drop)]⏎struct S(pub u8); ⇒ #[derive(Clone)]⏎struct S(pub u8);
+fn f() { let _bytes = raw.as_slice(); &(0..n < 1) } ⇒ fn f() {  &(0..n < 1) }
+/// Two.⏎fn f() -> u8⏎    ensures { T }⏎    // For proofs.⏎    ensures { U }⏎\
+    ensures b {⏎        V }⏎{ 2 } ⇒ \
+/// Two.⏎///⏎FOLD/// ensures { T }⏎/// ensures b {⏎///     V }⏎END⏎fn f() -> u8⏎{ 2 }
+pub trait A { ghost b: { Self }; ghost K: { ℕ }; } ⇒ \
+FOLD/// ghost b: { Self };⏎END⏎pub trait A {   }
+impl A for B { ghost a_gives = { 2 }; ghost laws = { 3 }; } ⇒ \
+FOLD/// ghost a_gives = { 2 };⏎END⏎impl A for B {   }
+"""
+
+# The same of other crates.
+OF_OTHERS = r"""
+fontval fn main() { 0..std::io::N } ⇒ pub fn main() { 0..crate::host::io::N }
+fontval fn f(n: &font_types::N) {} ⇒ fn f(n: &font_types_proved::N) {}
+variations fn f(n: &font_types::N) {} ⇒ fn f(n: &font_types_proved::N) {}
+font_ids fn f(rt: HostRuntime) { 0..1 } ⇒ fn f() {let rt = crate::rattle::Host; 0..1 }
+font_ids use std::test::Fail; n.clone()?; ⇒ use crate::rattle::test::Fail; n.clone();
+font_ids x.repeat(rt.alloc(), n)?; crate::N ⇒ x.repeat( n); crate::font_ids::N
+"""
+
+
+def rows(table):
+    lines = table.replace("\\\n", "").strip().splitlines()
+    return [line.replace("⏎", "\n") for line in lines if not line.startswith("// ")]
+
+
+def erased(source, name="font_base", target="library", is_root=True):
+    return Eraser(source, Crate(name, target, ["facts", "json"]), is_root).written()
+
+
+class Erasure(unittest.TestCase):
+    def setUp(self):
+        self.folder = pathlib.Path(self.enterContext(tempfile.TemporaryDirectory()))
+        for name in "c/src crates src tests tools/erase variations".split():
+            left_out = shutil.ignore_patterns("out", "__pycache__")
+            shutil.copytree(ROOT / name, self.folder / name, ignore=left_out)
+        shutil.copy(ROOT / "rustfmt.toml", self.folder)
+
+    def erase(self):
+        eraser = [sys.executable, self.folder / "tools/erase"]
+        return subprocess.run(eraser, capture_output=True, text=True)
+
+    def test_committed_files(self):
+        """It writes what has another text or is gone, removes what is extra, and nothing else."""
+        width, changed = "crates/font_fixed/src/fixed_i16.rt", "c/src/generated/font_c/laws.rs"
+        gone, extra = "src/generated/font_tags/tag.rs", "tests/generated/font_tags/extra.rs"
+        for path in width, changed, extra:
+            with open(self.folder / path, "a") as file:
+                file.write("// changed")
+        (self.folder / gone).unlink()
+        told = [f"written: {path}" for path in (width, changed, gone)] + [f"removed: {extra}"]
+        self.assertEqual(self.erase().stdout.splitlines(), told)
+        for path in width, changed, gone:
+            self.assertEqual((self.folder / path).read_text(), (ROOT / path).read_text(), path)
+
+    def test_left_out_modules(self):
+        """A call that is kept could be of an `impl` that is left out."""
+        with open(self.folder / "crates/font_base/src/facts.rt", "a") as file:
+            file.write("\nimpl From<Uint24> for u64 {\n")
+        self.assertIn("`impl From<Uint24> for u64 {`, in a module", self.erase().stderr)
+
+    def test_refused(self):
+        for row in rows(REFUSED):
+            where, source = row.split(": ", 1)
+            line, what = where.split(" ", 1)
+            with self.assertRaises(Refused, msg=row) as error:
+                erased(source)
+            found, told = error.exception.args
+            self.assertTrue(str(found) == line and what in told, f"{row}: {found} {told}")
+        for source, is_root in ("fn f() { crate::g() }", True), ("mod inner;", False):
+            with self.assertRaises(Refused, msg=source):
+                erased(source, "variations", "variations", is_root)
+
+    def test_changed(self):
+        for row in rows(SAME) + rows(CHANGED):
+            source, _, rust = row.partition(" ⇒ ")
+            for short, text in SHORT.items():
+                rust = rust.replace(short, text)
+            self.assertEqual(erased(source), rust or source)
+        for row in rows(OF_OTHERS):
+            name, row = row.split(" ", 1)
+            source, rust = row.split(" ⇒ ")
+            target = {"fontval": "program", "variations": "variations"}.get(name, "tests")
+            self.assertTrue(erased(source, name, target).endswith(rust), row)

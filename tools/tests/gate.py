@@ -1,0 +1,110 @@
+"""The gate: `.ci/run`, over stand-ins of what it calls, fails if a call fails or a tool is missing,
+and names what it leaves out."""
+
+import pathlib
+import re
+import shutil
+import subprocess
+import tempfile
+import unittest
+
+ROOT = pathlib.Path(__file__).resolve().parents[2]
+MEMORY = "crates/font_types/src/tests/memory.rt"
+STORED = "crates/fontval/memory/stdin crates/fontval/memory/stdout"
+BUILT = (
+    "c/check tools/verdicts tools/mutants crates/font_types/out/font_types_tests "
+    "crates/fontval/out/fontval"
+)
+TOOLS, TOOLS_FOR_C = (
+    found.split() for found in re.findall(r"\ntools\w*=\((.*)\)", (ROOT / ".ci/run").read_text())
+)
+# What the gate and its stand-ins call of the system.
+SYSTEM = "bash sh env basename cat cmp cp dirname grep mktemp paste rm sed tail tee wc"
+
+# Faults, beside a call that fails, with which the gate fails, and what others leave out.
+FAULTS = "test 1,test 2,early answer,message,answers,bad edit,status of ci".split(",")
+FETCH = "cargo fetch --quiet --manifest-path compare/Cargo.toml"
+LEFT_OUT = {"crate": "nothing", "--anew": "nothing", "freetype": "FreeType", "rustc": "MIR"}
+LEFT_OUT[FETCH] = "the comparison with font-types, which cargo cannot fetch"
+
+# It logs its call, and fails if `$FAIL` is its call. What `rt ci` builds asks for one allocation.
+STAND_IN = r"""#!/bin/sh
+call=$(echo "$(basename "$0") $*" | sed "s|$CARGO_TARGET_DIR|TARGET|g")
+echo "$call" >>"$LOG"
+[ "$call" != "$FAIL" ] || exit 1
+case $call in
+"check ") [ "$FAIL" != freetype ] || echo "left out: FreeType" ;;
+"python3 tools/mir --proved --mutants") [ "$FAIL" != rustc ] || echo "left out: MIR" ;;
+"font_types_tests --list")
+    sed -n '/^#\[test\]/{n; s/^fn \(.*\)(.*/tests::memory::\1: test/p}' MEMORY ;;
+"font_types_tests "*)
+    [ "$REFUSE" != 1 ] || echo refused >&2
+    [ "$FAIL" != "test $REFUSE" ] ;;
+"fontval ")
+    [ "$FAIL" = answers ] || [ "$REFUSE" = 1 ] || exec cat crates/fontval/memory/stdout
+    [ "$FAIL" != "early answer" ] || echo 0
+    printf 'refused\nfontval: %s\n' "$([ "$FAIL" = message ] || echo memory)" >&2
+    [ "$REFUSE" != 1 ] ;;
+"rt help") [ "$FAIL" != --anew ] || echo "rt ci NAME.." ;;
+"rt ci"*)
+    [ "$FAIL" != "bad edit" ] || echo "rt: note: bad must-fail edits: some"
+    echo "3 passed, $([ "$FAIL" = crate ] && echo 1 || echo 0) failed"
+    [ "$FAIL" != "status of ci" ] ;;
+"mutants ") grep -q passed ;;
+"cargo doc"*) [ "$RUSTDOCFLAGS" = -Dwarnings ] ;;
+esac
+""".replace(
+    "MEMORY", MEMORY
+)
+
+
+class Gate(unittest.TestCase):
+    def setUp(self):
+        self.folder = pathlib.Path(self.enterContext(tempfile.TemporaryDirectory()))
+        for path in f".ci/run {STORED} {MEMORY}".split():
+            self.put(path, (ROOT / path).read_text())
+        for path in BUILT.split() + [f"bin/{name}" for name in TOOLS + TOOLS_FOR_C]:
+            self.put(path, STAND_IN)
+        for name in SYSTEM.split():
+            (self.folder / "bin" / name).symlink_to(shutil.which(name))
+        self.put("src/lib.rs", "")
+        self.put("crates/font_types/out/rlib/old", "")
+
+    def put(self, path, text):
+        path = self.folder / path
+        path.parent.mkdir(parents=True, exist_ok=True)
+        path.write_text(text)
+        path.chmod(0o755)
+
+    def run_gate(self, fail=""):
+        """Runs the gate while a call fails. Returns what it leaves out, unless it fails."""
+        (self.folder / "log").write_text("")
+        command = [self.folder / ".ci/run"] + ["--anew"] * (fail in ("--anew", "old"))
+        environment = {"PATH": self.folder / "bin", "LOG": self.folder / "log", "FAIL": fail}
+        gate = subprocess.run(command, env=environment, capture_output=True, text=True)
+        told, last = ["", *gate.stdout.splitlines()][-2:]
+        passed = f"3 passed, {int(fail == 'crate')} failed"
+        self.assertEqual(last, passed if gate.returncode == 0 else "0 passed, 1 failed", fail)
+        return re.fullmatch("left out: (.*)", told)[1] if gate.returncode == 0 else None
+
+    def test_calls(self):
+        self.assertEqual(self.run_gate(), "nothing")
+        calls = (self.folder / "log").read_text().splitlines()
+        self.assertFalse((self.folder / "crates/font_types/out/rlib/old").exists())
+        steps = {call for call in calls if not call.startswith("font")}
+        # A step that is lost or added changes this number.
+        self.assertEqual(len(steps), 23)
+        for fail in [*steps, *FAULTS, *LEFT_OUT]:
+            self.assertEqual(self.run_gate(fail), LEFT_OUT.get(fail), fail)
+        # A kit that keeps no results does not know the argument.
+        for kit, call in ("--anew", "rt ci --anew"), ("old", "rt ci"):
+            self.assertEqual(self.run_gate(kit), "nothing")
+            self.assertIn(call, (self.folder / "log").read_text().splitlines())
+
+    def test_missing_tools(self):
+        for tool in TOOLS + TOOLS_FOR_C:
+            path = self.folder / "bin" / tool
+            left_out = f"the library for C, which needs {tool}" if tool in TOOLS_FOR_C else None
+            path.rename(self.folder / "kept")
+            self.assertEqual(self.run_gate(), left_out, tool)
+            (self.folder / "kept").rename(path)

@@ -1,0 +1,195 @@
+"""The repository: what its pages name, link to and show is there; its package is whole and of one
+version; and no test, mutant or stored line is lost."""
+
+import pathlib
+import re
+import subprocess
+import unittest
+
+ROOT = pathlib.Path(__file__).resolve().parents[2]
+
+
+def run(*command):
+    return subprocess.run(
+        command, cwd=ROOT, check=True, capture_output=True, text=True
+    ).stdout.splitlines()
+
+
+FILES = run("git", "ls-files", "--cached", "--others", "--exclude-standard")
+
+# Names of std, of other crates and libraries, and of earlier versions.
+OTHERS = (
+    "__udivti3 FT_Matrix_Invert bytemuck cast_slice get_mut size_of strip_suffix type_name "
+    "bit_and round_steps from_steps scalar_at"
+)
+
+# How many tests, modules, mutants and stored lines there are, and conditions, returns and blocks of
+# comments in tests: a commit that adds or removes one changes its number here. A path, the ending
+# of its files, and a text.
+COUNTS = [
+    ("tests/", ".rs", "#[test]\n", 194),
+    ("compare/tests/", ".rs", "#[test]\n", 33),
+    ("crates/", ".rt", "#[test]\n", 152),
+    ("tests/", ".rs", "#[ignore", 0),
+    ("compare/tests/", ".rs", "#[ignore", 0),
+    ("tests/", ".rs", "#[cfg", 11),
+    ("tests/", ".rs", "return;", 0),
+    ("tests/", ".rs", "/*", 0),
+    ("crates/", ".rt", "\nmod ", 111),
+    ("crates/", ".edit", "# clause: ", 260),
+    ("crates/", ".edit", "# control: ", 68),
+    ("crates/fontval/", "stdin", "\n", 213),
+    ("c/tests/", ".sh", "\n", 360),
+]
+
+# Items of which no test of Rattle shows what they lack: the crate, and the code in one line.
+ITEMS = [
+    ("font_base/src/uint24.rt", "#[derive(Debug, Drop, Error)] pub struct TryFromUint24Error;"),
+    ("font_ids/src/glyph_id.rt", "#[derive(Debug, Drop, Error)] pub struct TryFromGlyphIdError"),
+    (
+        "font_tags/src/tag.rt",
+        "#[derive(Clone, Debug, PartialEq, Eq, Drop, Error)] pub enum InvalidTag",
+    ),
+    (
+        "font_decimal/src/reader.rt",
+        "#[derive(Clone, PartialEq, Eq, Debug, Drop, Error)] pub enum DecimalFault",
+    ),
+    (
+        "font_types/src/json.rt",
+        "#[derive(Clone, Debug, PartialEq, Eq, Drop, Error)] pub enum JsonFault",
+    ),
+    ("fontval/src/serve.rt", "#[derive(Debug, Drop, Error)] pub enum ServeFault"),
+    ("fontval/src/device.rt", "#[derive(Drop)] pub struct Failed;"),
+    (
+        "fontval/src/device/from_read.rt",
+        "#[derive(Drop)] pub struct FromRead<R> { reader: R, failed: bool, }",
+    ),
+    (
+        "fontval/src/device/from_write.rt",
+        "#[derive(Drop)] pub struct FromWrite<W> { writer: W, failed: bool, }",
+    ),
+]
+
+
+def text(path):
+    return (ROOT / path).read_text()
+
+
+def of(start, *endings):
+    return [path for path in FILES if path.startswith(start) and path.endswith(endings or "")]
+
+
+def words(text):
+    return set(re.findall(r"[A-Za-z0-9_]+", text))
+
+
+def quoted(page, others):
+    """What a page, without its blocks of code, quotes in characters of names and these."""
+    texts = "\n".join(page.split("```")[::2]).split("`")[1::2]
+    return [it for it in texts if re.fullmatch(rf"[A-Za-z0-9_{others}]+", it)]
+
+
+class Pages(unittest.TestCase):
+    def test_names_paths_and_links(self):
+        texts = map(text, of("", ".rt", ".antt", ".rs", ".c", ".h", ".txt", ".py"))
+        source = words(" ".join([*FILES, OTHERS, *texts]))
+        callers = {
+            pathlib.Path(path).stem: words(text(path))
+            for name in ("callers", "variations")
+            for path in of(f"crates/{name}/src/", ".rt")
+        }
+        # The documentation of each type names its file.
+        pages = [path for path in of("", ".md") if path != "CHANGELOG.md"]
+        for page in pages + of("src/generated/", ".rs"):
+            wrong, shown = [], text(page)
+            for name in quoted(shown, ":"):
+                parts = name.split("::")
+                # A form that a page names is in its module of a caller.
+                in_caller = len(parts) == 1 or parts[1] in callers.get(parts[0], parts)
+                if ("::" in name or "_" in name) and not (set(parts) <= source and in_caller):
+                    wrong.append(name)
+            for path in quoted(shown, "/."):
+                is_any = any(not part or part.isupper() for part in re.split("[/.]", path))
+                is_there = path in FILES or of("", "/" + path)
+                if path.endswith((".rt", ".antt", ".rs")) and not is_any and not is_there:
+                    wrong.append(path)
+            for link in re.findall(r"\]\(([^)#]+)", shown) if page in pages else ():
+                if ":" not in link and not (ROOT / page).parent.joinpath(link).exists():
+                    wrong.append(link)
+            self.assertFalse(wrong, page)
+
+    def test_shown_code(self):
+        # README shows a contract and two definitions, CALLING a file.
+        squeezed = lambda text: "".join(text.split())
+        files = ["src/reader.rt", "specs/Reading.antt", "specs/Near.antt"]
+        source = squeezed("".join(text(f"crates/font_decimal/{file}") for file in files))
+        blocks = text("README.md").partition("### What a contract looks like")[2].split("```")
+        shown = [it.split("\n", 1)[1] for it in blocks[1:6:2]]
+        for block in shown:
+            self.assertTrue(squeezed(block) in source, block)
+        file, after = text("docs/CALLING.md").split("](../crates/callers/", 1)[1].split(")", 1)
+        self.assertEqual(after.split("```")[1].split("\n", 1)[1], text(f"crates/callers/{file}"))
+
+
+class Package(unittest.TestCase):
+    def test_files(self):
+        """The package has the Rust, the source that it is made from, and the words of its
+        contracts; its pages link to no file."""
+        packed = set(run("cargo", "package", "--list", "--allow-dirty", "--offline"))
+        packed -= {"Cargo.lock", "Cargo.toml.orig", ".cargo_vcs_info.json"}
+        expected = {path for path in of("src/") if not path.startswith("src/bin/")}
+        for name in "base decimal fixed geom ids tags types".split():
+            expected.update(
+                path for path in of(f"crates/font_{name}/src/", ".rt") if "/tests" not in path
+            )
+            expected.update(of(f"crates/font_{name}/specs/", ".antt"))
+        expected.update(
+            "CHANGELOG.md Cargo.toml LICENSE-APACHE LICENSE-MIT docs/PORTING.md".split()
+        )
+        self.assertEqual(packed, expected)
+        for page in packed:
+            for link in text(page).split("](")[1:] if page.endswith(".md") else ():
+                self.assertTrue(link.startswith("https:"), f"{page}: {link[:40]}")
+
+    def test_versions(self):
+        version = lambda path, before: text(path).split(before, 1)[1].split('"')[0]
+        header = version("c/include/font_types.h", '#define FTY_VERSION "')
+        tomls = "Cargo.toml c/Cargo.toml compare/Cargo.toml variations/Cargo.toml"
+        for name in f"{tomls} Cargo.lock c/Cargo.lock variations/Cargo.lock".split():
+            self.assertEqual(version(name, '\nversion = "'), header, name)
+            self.assertTrue(name.endswith("lock") or "\npublish = false\n" in text(name), name)
+        major, minor, patch = map(int, header.split("."))
+        for path, shown in [
+            ("c/font_types.map", f"FONT_TYPES_{major}.{minor} {{"),
+            ("c/check", f"\nversion={major}.{minor}\n"),
+            ("c/tests/table.c", f'"{header}"'),
+            ("c/include/font_types.h", f"VERSION_NUMBER 0x{major:02X}{minor:02X}{patch:02X}\n"),
+            ("c/README.md", f"`FONT_TYPES_{major}.{minor}`"),
+            ("crates/font_c/src/version.rt", f"\n    0x{major:02X}_{minor:02X}{patch:02X}\n"),
+        ]:
+            self.assertIn(shown, text(path), path)
+
+    def test_names_on_its_first_page(self):
+        page, exports = text("src/lib.rs"), text("src/generated/font_types/mod.rs")
+        names = re.findall(r"\w+", " ".join(re.findall(r"pub use [^{;]*\{([^}]*)\}", exports)))
+        # What tests of headers use and a constant are elsewhere.
+        missing = [name for name in names if f"[`{name}`]" not in page]
+        self.assertEqual(missing, ["SampleHeader", "TTC_HEADER_TAG"])
+
+
+class Census(unittest.TestCase):
+    def test_none_is_lost(self):
+        for start, ending, what, number in COUNTS:
+            found = sum(
+                (ROOT / path).read_bytes().count(what.encode()) for path in of(start, ending)
+            )
+            self.assertEqual(found, number, f"{what!r} in {start}")
+
+    def test_items(self):
+        for path, item in ITEMS:
+            lines = [line.strip() for line in text(f"crates/{path}").splitlines()]
+            code = " ".join(line for line in lines if not line.startswith(("#[error", "//")))
+            self.assertIn(item, code, path)
+        # `Nullable` has no constructor but those of its traits.
+        _, nullable = text("crates/font_ids/src/offset.rt").split("pub struct Nullable<T>")
+        self.assertEqual(nullable.split(" for Nullable<T>")[0].count("    pub "), 4)

@@ -1,0 +1,56 @@
+"""Each row of requirements.md is shown by literals in a test, or by a mutant."""
+
+import pathlib
+import re
+import unittest
+
+ROOT = pathlib.Path(__file__).resolve().parents[2]
+PAGE = (ROOT / "tools/tests/requirements.md").read_text()
+PATHS = dict(re.findall(r"^\[(.*)\]: ../../(.*)$", PAGE, re.MULTILINE))
+
+
+def in_one_line(text):
+    """Returns the code of a text in one line, as if no bracket were on a line of its own."""
+    code = " ".join(
+        " ".join(line for line in text.splitlines() if not line.strip().startswith("//")).split()
+    )
+    return re.sub(r",? ([)\]])", r"\1", re.sub(r"([(\[]) ", r"\1", code))
+
+
+def has(code, literal):
+    """Returns whether the code has a literal, or `fn NAME .. LITERAL` in this function."""
+    function, dots, row = literal.partition(" .. ")
+    if not dots:
+        return literal in code
+    return row in code.partition(f"{function}(")[2].split("#[test]")[0]
+
+
+class Requirements(unittest.TestCase):
+    def test_rows_are_shown(self):
+        lines, answers = [
+            (ROOT / f"crates/fontval/{name}").read_bytes().split(b"\n")
+            for name in ("stdin", "stdout")
+        ]
+        stored = dict(zip(lines, answers))
+        text = lambda path: (ROOT / path).read_bytes().decode(errors="replace")
+        codes = {label: in_one_line(text(path)) for label, path in PATHS.items()}
+        mutants, rows, literals = [], 0, 0
+        for row in re.findall(r"^\| .* \| (?:(?=\[)|(?=`))(.*) \|$", PAGE, re.MULTILINE):
+            rows += 1
+            for label, shown in re.findall(r"(?:\[([^\]]*)\] )?((?:`[^`]*` ?)+)", row):
+                shown = [it.replace("\\|", "|") for it in re.findall("`([^`]*)`", shown)]
+                literals += len(shown)
+                if not label:
+                    mutants += shown
+                elif label == "stdin":
+                    for line, answer in zip(shown[::2], shown[1::2], strict=True):
+                        self.assertEqual(stored.get(line.encode()), answer.encode(), line)
+                for literal in shown if label and label != "stdin" else ():
+                    self.assertTrue(has(codes[label], in_one_line(literal)), f"{label}: {literal}")
+        self.assertEqual((rows, literals), (234, 699))
+        # Those are required that say so.
+        says = "\n# required by tools/tests/requirements.md\n"
+        required = [
+            edit.stem for edit in ROOT.glob("crates/*/must-fail/*.edit") if says in edit.read_text()
+        ]
+        self.assertEqual(sorted(mutants), sorted(required))
