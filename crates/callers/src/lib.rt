@@ -1,5 +1,5 @@
 //! Callers of `font_types`: one file for each kind of program that builds on it. Each function is
-//! proved against the contract that its caller wants, and run by a test.
+//! proved against the contract that its caller wants.
 //!
 //! - `start`: a first caller, which docs/CALLING.md shows.
 //! - `reader`: tables, as `head`, `hmtx`, `kern` and coverage.

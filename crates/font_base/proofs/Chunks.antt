@@ -1,5 +1,5 @@
 -- std's chunks of bytes.
-use Rattle.std.proofs.Common.{◌≡◌, ap, refl, ℕ, zero, suc, ◌+◌, ◌*◌, ◌/◌, ◌<◌, ◌≤◌, IsTrue}
+use Rattle.std.proofs.Common.{◌≡◌, refl, ℕ, zero, suc, ◌+◌, ◌*◌, ◌/◌, ◌<◌, ◌≤◌, IsTrue}
 use Rattle.std.proofs.Common.{List, [], ◌∷◌, ◌++◌, length, take, drop, get_or, flat_map, arith, ◌&&◌, ◌==◌}
 use Rattle.std.proofs.Common.{length-drop, length-take-le, suc-mul, zero-mul, take-add, get_or-drop}
 use Rattle.std.proofs.lemmas.Bool.Decides.{nat_tests}
@@ -25,8 +25,7 @@ byte_take (suc n) (b ∷ bytes) each (suc i) = byte_take n bytes (λ j. each (su
 -- the first n bytes are an array
 pub front_is_bytes : (n : ℕ) (bytes front : List ℕ) → n ≤ length bytes → front ≡ take n bytes → ByteAt bytes
     → IsTrue (are_bytes n front)
-front_is_bytes n bytes front fits is each =
-    rw is (are_bytes_in n (take n bytes) (length-take-le n bytes fits) (byte_take n bytes each))
+front_is_bytes n bytes front fits is each = grind (arith, are_bytes_in, length-take-le, byte_take)
 
 next_fits : (n k : ℕ) (bytes : List ℕ) → suc k * n ≤ length bytes → k * n ≤ length (drop n bytes)
 next_fits n k bytes fits = omega (arith, fits, length-drop n bytes, suc-mul k n)
@@ -42,22 +41,17 @@ chunk_each n (suc k) bytes each fits =
 
 chunk_flat : (n k : ℕ) (bytes : List ℕ) → flat_map (λ a. a) (first_chunks n k bytes) ≡ take (k * n) bytes
 chunk_flat n zero bytes = rw (zero-mul n)
-chunk_flat n (suc k) bytes =
-    let many : suc k * n ≡ n + k * n = omega (arith, suc-mul k n) in
-    rw (many, take-add n (k * n) bytes) (ap (λ l. take n bytes ++ l) (chunk_flat n k (drop n bytes)))
+chunk_flat n (suc k) bytes = grind (arith, chunk_flat n k (drop n bytes), take-add)
 
 whole_chunks_fit : (len n : ℕ) → 0 < n → len / n * n ≤ len
 whole_chunks_fit len n some = omega arith
 
 pub chunks_are : (n : ℕ) (bytes : List ℕ) (chunks : List (List ℕ)) → 0 < n → ByteAt bytes
     → chunks ≡ first_chunks n (length bytes / n) bytes → AreRaw (are_bytes n) (λ a. a) n chunks
-chunks_are n bytes chunks some each is = rw is (record {
-  each = chunk_each n (length bytes / n) bytes each (whole_chunks_fit (length bytes) n some);
-  none = λ empty. absurd (omega arith);
-})
+chunks_are n bytes chunks some each is =
+    grind (arith, chunk_each n (length bytes / n) bytes each (whole_chunks_fit (length bytes) n some))
 
 pub chunks_flat : (n : ℕ) (bytes left : List ℕ) (chunks : List (List ℕ))
     → chunks ≡ first_chunks n (length bytes / n) bytes → left ≡ drop (length bytes / n * n) bytes
     → flat_map (λ a. a) chunks ++ left ≡ bytes
-chunks_flat n bytes left chunks is rest = rw (is, rest, chunk_flat n (length bytes / n) bytes)
-    (take-append-drop (length bytes / n * n) bytes)
+chunks_flat n bytes left chunks is rest = grind (arith, chunk_flat, take-append-drop)

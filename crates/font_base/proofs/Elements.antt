@@ -1,7 +1,7 @@
 -- Elements of an array, and the byte arrays that they are.
 use Rattle.std.proofs.Common.{◌≡◌, ◌∙◌, sym, ap, refl, ℕ, zero, suc, ◌+◌, ◌-◌, ◌*◌, ◌/◌, ◌%◌, ◌<◌, ◌≤◌, Bool, IsTrue}
 use Rattle.std.proofs.Common.{List, [], ◌∷◌, ◌++◌, map, length, take, drop, get_or, flat_map, arith, ◌&&◌, ◌==◌}
-use Rattle.std.proofs.Common.{length-append, length-drop, suc-mul, zero-mul, drop-drop, take_all, take-take}
+use Rattle.std.proofs.Common.{length-append, suc-mul, zero-mul, drop-drop, take-take}
 use Rattle.std.proofs.Math.Seq.{take-append_seam, drop-append_seam, take-append-add, drop-append-add}
 use Rattle.std.proofs.lemmas.Bool.Decides.{nat_tests}
 use Rattle.std.proofs.lemmas.Grind.{common_steps}
@@ -48,8 +48,7 @@ module _ {R : Type 0} (is_value : R → Bool) (bytes : R → List ℕ) (size : �
 
   long : (xs : List R) → Each xs → length (flat_map bytes xs) ≡ length xs * size
   long [] each = rw (zero-mul size)
-  long (x ∷ xs) each = length-append (bytes x) (flat_map bytes xs)
-      ∙ omega (arith, long xs (tail_each x xs each), next_bytes (length xs) x xs each)
+  long (x ∷ xs) each = grind (arith, long xs (tail_each x xs each), length-append)
 
   pub all_long : (xs : List R) → Are xs → length (flat_map bytes xs) ≡ length xs * size
   all_long xs are = long xs are.each
@@ -70,30 +69,20 @@ module _ {R : Type 0} (is_value : R → Bool) (bytes : R → List ℕ) (size : �
   each_drop (suc n) (x ∷ xs) each = each_drop n xs (tail_each x xs each)
 
   pub are_take : (n : ℕ) (xs : List R) → Are xs → Are (take n xs)
-  are_take n xs are = record {
-    each = each_take n xs are.each;
-    none = λ empty. grind (arith, common_steps, are.none empty);
-  }
+  are_take n xs are = grind (arith, each_take, common_steps)
 
   pub are_drop : (n : ℕ) (xs : List R) → Are xs → Are (drop n xs)
-  are_drop n xs are = record {
-    each = each_drop n xs are.each;
-    none = λ empty. grind (arith, common_steps, are.none empty);
-  }
+  are_drop n xs are = grind (arith, each_drop, common_steps)
 
   flat_take : (n : ℕ) (xs : List R) → Each xs → flat_map bytes (take n xs) ≡ take (n * size) (flat_map bytes xs)
   flat_take zero xs each = rw (zero-mul size)
   flat_take (suc n) [] each = grind (arith, common_steps)
-  flat_take (suc n) (x ∷ xs) each =
-      rw (next_bytes n x xs each, take-append-add (bytes x) (flat_map bytes xs) (n * size))
-      (ap (λ l. bytes x ++ l) (flat_take n xs (tail_each x xs each)))
+  flat_take (suc n) (x ∷ xs) each = grind (arith, flat_take n xs (tail_each x xs each), next_bytes, take-append-add)
 
   flat_drop : (n : ℕ) (xs : List R) → Each xs → flat_map bytes (drop n xs) ≡ drop (n * size) (flat_map bytes xs)
   flat_drop zero xs each = rw (zero-mul size)
   flat_drop (suc n) [] each = grind (arith, common_steps)
-  flat_drop (suc n) (x ∷ xs) each =
-      rw (next_bytes n x xs each, drop-append-add (bytes x) (flat_map bytes xs) (n * size))
-      (flat_drop n xs (tail_each x xs each))
+  flat_drop (suc n) (x ∷ xs) each = grind (arith, flat_drop n xs (tail_each x xs each), drop-append-add)
 
   -- ---- an element
 
@@ -105,8 +94,7 @@ module _ {R : Type 0} (is_value : R → Bool) (bytes : R → List ℕ) (size : �
   element_at i [] d each within = absurd (omega arith)
   element_at zero (x ∷ xs) d each within = rw (zero-mul size) (first_is x xs each)
   element_at (suc i) (x ∷ xs) d each within =
-      rw (next_bytes i x xs each, drop-append-add (bytes x) (flat_map bytes xs) (i * size))
-      (element_at i xs d (tail_each x xs each) (omega arith))
+      grind (arith, element_at i xs d (tail_each x xs each) (omega arith), drop-append-add)
 
   pub value_at : (i : ℕ) (xs : List R) (d : R) → Each xs → i < length xs → IsTrue (is_value (get_or xs i d))
   value_at i [] d each within = absurd (omega arith)
@@ -122,10 +110,7 @@ module _ {R : Type 0} (is_value : R → Bool) (bytes : R → List ℕ) (size : �
 
   elements_are : (xs : List R) → Each xs → elements size (length xs) (flat_map bytes xs) ≡ map bytes xs
   elements_are [] each = refl
-  elements_are (x ∷ xs) each =
-      let rest : drop size (flat_map bytes (x ∷ xs)) ≡ flat_map bytes xs =
-      rw (← head_long x xs each) (drop-append_seam (bytes x) (flat_map bytes xs)) in
-      rw (first_is x xs each, rest, elements_are xs (tail_each x xs each))
+  elements_are (x ∷ xs) each = grind (arith, elements_are xs (tail_each x xs each), drop-append_seam, first_is)
 
   -- the elements of an array
   pub all_elements : (xs : List R) → Are xs
@@ -137,47 +122,29 @@ module _ {R : Type 0} (is_value : R → Bool) (bytes : R → List ℕ) (size : �
   -- the first n of the arrays that bytes begin with, after which `left` is too short for one
   part_bytes : (n : ℕ) (xs : List R) (all left : List ℕ) → Are xs → n ≤ length xs
       → flat_map bytes xs ++ left ≡ all → flat_map bytes (take n xs) ≡ take (n * size) all
-  part_bytes n xs all left are within is =
-      let fits : n * size ≤ length (flat_map bytes xs) = grind (arith, nat_tests, all_long xs are) in
-      rw (← is, take-append-le (n * size) (flat_map bytes xs) left fits) (flat_take n xs are.each)
+  part_bytes n xs all left are within is = grind (arith, flat_map, all_long, take-append-le, flat_take)
 
   pub part_many : (n : ℕ) (xs : List R) (all left : List ℕ) → Are xs → 0 < size
       → flat_map bytes xs ++ left ≡ all → length left ≡ length all % size
       → (n ≤ length xs → n * size ≤ length all) × (n * size ≤ length all → n ≤ length xs)
-  part_many n xs all left are some is short =
-      let whole : length all ≡ length xs * size + length left =
-      ap length (sym is) ∙ length-append (flat_map bytes xs) left ∙ ap (λ k. k + length left) (all_long xs are) in
-      (λ within. grind (arith, nat_tests), λ fits. grind (arith, nat_tests))
+  part_many n xs all left are some is short = grind (arith, length-append, flat_map, all_long)
 
   -- the elements from `start` up to `end`
   pub middle_bytes : (start end : ℕ) (xs part : List R) → Are xs → part ≡ take (end - start) (drop start xs)
       → flat_map bytes part ≡ take ((end - start) * size) (drop (start * size) (flat_map bytes xs))
-  middle_bytes start end xs part are is =
-      rw is (flat_take (end - start) (drop start xs) (each_drop start xs are.each)
-      ∙ ap (take ((end - start) * size)) (flat_drop start xs are.each))
+  middle_bytes start end xs part are is = grind (arith, flat_take, each_drop, flat_drop)
 
   pub middle_elements : (start end : ℕ) (xs part : List R) → Are xs → Are part
       → part ≡ take (end - start) (drop start xs)
       → elements size (length (flat_map bytes part) / size) (flat_map bytes part)
       ≡ take (end - start) (drop start (elements size (length (flat_map bytes xs) / size) (flat_map bytes xs)))
-  middle_elements start end xs part are part_are is =
-      rw (
-        all_elements part part_are,
-        all_elements xs are,
-        is,
-        drop-map bytes start xs,
-        take-map bytes (end - start) (drop start xs),
-      )
+  middle_elements start end xs part are part_are is = grind (arith, all_elements, drop-map, take-map)
 
   -- those that begin at an offset
   pub read_bytes : (n offset : ℕ) (xs part : List R) (file all left : List ℕ) → Are xs → n ≤ length xs
       → flat_map bytes xs ++ left ≡ all → all ≡ take (length file - offset) (drop offset file)
       → part ≡ take (n - 0) xs → flat_map bytes part ≡ take (n * size) (drop offset file)
-  read_bytes n offset xs part file all left are within is from part_is =
-      let n_is : n - 0 ≡ n = omega arith in
-      let whole : all ≡ drop offset file =
-      from ∙ take_all (length file - offset) (drop offset file) (omega (arith, length-drop offset file)) in
-      rw (part_is, n_is) (part_bytes n xs all left are within is ∙ ap (take (n * size)) whole)
+  read_bytes n offset xs part file all left are within is from part_is = grind (arith, common_steps, part_bytes)
 
   pub read_elements : (n offset : ℕ) (part : List R) (file : List ℕ)
       → flat_map bytes part ≡ take (n * size) (drop offset file) → (i : ℕ) → i < n

@@ -1,5 +1,5 @@
 -- The bytes of the sum of an unsigned and a signed 16-bit number.
-use Rattle.std.proofs.Common.{◌≡◌, ◌∙◌, ap, ℕ, ◌+◌, ◌-◌, ◌<◌, ◌%◌, ℤ, pos, negsuc, neg_ℤ, ◌+ℤ◌, ◌-ℤ◌, ◌/◌, arith, SFits}
+use Rattle.std.proofs.Common.{◌≡◌, ℕ, ◌+◌, ◌-◌, ◌<◌, ◌%◌, ℤ, pos, negsuc, neg_ℤ, ◌+ℤ◌, ◌-ℤ◌, ◌/◌, arith, SFits}
 use Rattle.std.proofs.Common.{of_z, w16}
 use Rattle.std.proofs.lemmas.Int.{ints}
 use Rattle.font_base.specs.Bytes.{bytes_of}
@@ -18,6 +18,4 @@ moved_down m d below small =
 pub bytes_moved : (m : ℕ) (y : ℤ) → m < 65536 → SFits w16 y
     → bytes_of 2 (pos ((m + of_z w16 y) % 65536)) ≡ bytes_of 2 (pos m +ℤ y)
 bytes_moved m (pos d) below fits = moved_up m d below (omega (arith, ints, fits))
-bytes_moved m (negsuc d) below fits =
-    let is : of_z w16 (negsuc d) ≡ 65535 - d = omega arith in
-    ap (λ n. bytes_of 2 (pos ((m + n) % 65536))) is ∙ moved_down m d below (omega (arith, ints, fits))
+bytes_moved m (negsuc d) below fits = grind (arith, moved_down m d below (omega (arith, ints, fits)))

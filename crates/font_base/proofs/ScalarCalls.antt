@@ -44,8 +44,7 @@ module _ {V : Type 0} (is_scalar : V → Bool) (stored : V → List ℕ) (answer
   -- a search finds every element that compares as equal, if the comparisons are sorted
   pub nowhere : (i k : ℕ) (v : V) → Rises is_scalar stored answer at n → (Rises is_scalar stored answer at n
       → Splits is_scalar stored answer at n i i) → k < n → IsStored is_scalar stored (at k) v → answer v ≢ Equal
-  nowhere i k v rises splits within is same =
-      let sides = splits rises in grind (arith, cases_lt k i, sides.less k v, sides.greater k v)
+  nowhere i k v rises splits within is same = grind arith
 
   -- comparisons with a key are sorted if the numbers are
   pub rises_by : (number_of : V → ℕ) (key : ℕ) → ((v : V) → answer v ≡ nat_cmp (number_of v) key)

@@ -1,8 +1,7 @@
 -- Searches of std, as searches of an array.
 use Rattle.std.proofs.Common.{◌≡◌, ◌∙◌, sym, ap, ℕ, ◌/◌, ◌<◌, ◌≤◌, Bool, true, false, IsTrue, arith}
 use Rattle.std.proofs.Common.{List, [], ◌∷◌, length, get_or, flat_map, Result, Ok, Err, MatchResult, IfOk, IfErr}
-use Rattle.std.proofs.Common.{Ordering}
-use Rattle.std.proofs.Common.{Less, Equal, Greater}
+use Rattle.std.proofs.Common.{Ordering, Less, Equal, Greater}
 use Rattle.std.proofs.lemmas.Bool.Decides.{nat_tests}
 use Rattle.std.specs.List.{AllWithin}
 use Rattle.std.specs.List.Sorted.{IsBinarySearchResult, IsNonDecreasingBy, IsPartitionedBy, IsSearchInRange}
@@ -30,8 +29,7 @@ module _ {R : Type 0} (is_value : R → Bool) (bytes : R → List ℕ) (size : �
 
   pub absent_within : (result : Result ℕ ℕ) → IsSearchInRange result (length xs)
       → IfErr result (λ i. i ≤ length (flat_map bytes xs) / size)
-  absent_within (Ok i) within = tt
-  absent_within (Err i) within = omega (arith, within, counted is_value bytes size xs are)
+  absent_within result within = grind (arith, counted)
 
 module _ {V R : Type 0} (is_scalar : V → Bool) (is_value : R → Bool) (of_raw : R → V) (raw_of : V → R)
     (bytes : R → List ℕ) (raw_len size : ℕ) (laws : ScalarLaws is_scalar is_value of_raw raw_of raw_len size)
@@ -60,22 +58,14 @@ module _ {V R : Type 0} (is_scalar : V → Bool) (is_value : R → Bool) (of_raw
 
   -- the value that an element stores
   decoded : (k : ℕ) (v : V) (d : R) → k < length xs → IsStored is_scalar stored (at k) v → of_raw (get_or xs k d) ≡ v
-  decoded k v d within is =
-      ap of_raw (sym (same (raw_of v) (get_or xs k d) (laws.raw_of_value v is.is_value) (value_of k d within)
-      (is.bytes_are ∙ bytes_at k d within))) ∙ laws.back v is.is_value
+  decoded k v d within is = grind (arith, value_of, bytes_at)
 
   stored_at : (k : ℕ) (d : R) → k < length xs → IsStored is_scalar stored (at k) (of_raw (get_or xs k d))
-  stored_at k d within = record {
-    bytes_are = ap bytes (laws.forth (get_or xs k d) (value_of k d within)) ∙ sym (bytes_at k d within);
-    is_value = laws.of_raw_value (get_or xs k d) (value_of k d within);
-  }
+  stored_at k d within = grind (arith, value_of, bytes_at)
 
   module _ (answer : V → Ordering) where
     rising : Rises is_scalar stored answer at many → IsNonDecreasingBy (λ y. ordering_index (answer (of_raw y))) xs
-    rising rises i j d order within =
-        let first : i < length xs = omega (arith, order, within) in
-        rises.keeps i j (of_raw (get_or xs i d)) (of_raw (get_or xs j d)) order (many_within j within)
-        (stored_at i d first) (stored_at j d within)
+    rising rises i j d order within = grind (arith, many_within j within, stored_at, stored_at j d within)
 
     split : (place : ℕ) → place ≤ length xs → AllWithin (λ y. answer (of_raw y) ≡ Less) xs 0 place
         → AllWithin (λ y. answer (of_raw y) ≡ Greater) xs place (length xs)
@@ -104,10 +94,7 @@ module _ {V R : Type 0} (is_scalar : V → Bool) (is_value : R → Bool) (of_raw
             holds = found d;
           },
         )
-    searched (Err i) within found = (
-      omega (arith, within, counted is_value bytes size xs are),
-      λ rises. let parts = found (rising rises) in split i within parts.0 parts.1,
-    )
+    searched (Err i) within found = grind (arith, counted, rising, split)
 
   module _ (before : V → Bool) where
     partitioned : Rises is_scalar stored (λ v. side (before v)) at many → IsPartitionedBy (λ y. before (of_raw y)) xs
@@ -123,10 +110,4 @@ module _ {V R : Type 0} (is_scalar : V → Bool) (is_value : R → Bool) (of_raw
         → IsPartitionPoint (λ y. before (of_raw y) ≡ true) (λ y. before (of_raw y) ≡ false) xs place)
         → (place ≤ many) × (Rises is_scalar stored (λ v. side (before v)) at many
         → Splits is_scalar stored (λ v. side (before v)) at many place place)
-    parted place within found = (
-      omega (arith, within, counted is_value bytes size xs are),
-      λ rises.
-          let parts = found (partitioned rises) in
-          split (λ v. side (before v)) place within (λ k d low high. ap side (parts.0 k d low high))
-          (λ k d low high. ap side (parts.1 k d low high)),
-    )
+    parted place within found = grind (arith, counted, partitioned, split)

@@ -4,10 +4,10 @@ use Rattle.std.proofs.Common.{pos, negsuc, ◌+ℤ◌, ◌*ℤ◌, List, [], ◌
 use Rattle.std.proofs.Common.{arith, mod-eq_of_lt, w8, w16, w32, w64, SFits, to_z, of_z}
 use Rattle.std.proofs.lemmas.Int.{to_z-of_z}
 use Rattle.std.proofs.lemmas.Bool.Decides.{nat_tests}
-use Rattle.std.proofs.Math.Facts.{Fits-of_z, sfits_to_z}
-use Rattle.std.specs.Int.{Width, w128, byte_len, to_be_bytes, from_be_bytes}
+use Rattle.std.proofs.Math.Facts.{Fits-of_z}
+use Rattle.std.specs.Int.{Width, byte_len, to_be_bytes, from_be_bytes}
+use Rattle.std.proofs.lemmas.Grind.{common_steps}
 use mir.Val.{bits, hbits}
-use Rattle.font_base.specs.Wrap.{wrap}
 use Rattle.font_base.specs.Bytes.{numeral, bytes_of, signed_numeral}
 use Rattle.font_base.specs.Bytes.Laws.{bytes_of-same}
 use Rattle.font_base.proofs.Widths.{to_z-wrap}
@@ -41,40 +41,27 @@ items (suc n) i bytes = get_or bytes i 0 ∷ items n (suc i) bytes
 
 pub items_are : (n i : ℕ) (bytes : List ℕ) → length bytes ≡ i + n → drop i bytes ≡ items n i bytes
 items_are zero i bytes many = drop_of_length-le bytes (omega arith)
-items_are (suc n) i bytes many =
-    drop-cons bytes i 0 (omega arith) ∙ ap (λ xs. get_or bytes i 0 ∷ xs) (items_are n (suc i) bytes (omega arith))
+items_are (suc n) i bytes many = grind (arith, items_are n (suc i) bytes (omega arith), drop-cons)
 
 pub from_be_bytes-numeral : (w : Width) (bytes : List ℕ) → length bytes ≡ byte_len w
     → from_be_bytes w bytes ≡ numeral bytes
-from_be_bytes-numeral w bytes many =
-    let e = items_are (byte_len w) 0 bytes (omega arith) in
-    ap (from_be_bytes w) e ∙ same w ∙ sym (ap numeral e)
-  where
-    same : (w : Width) → from_be_bytes w (items (byte_len w) 0 bytes) ≡ numeral (items (byte_len w) 0 bytes)
-    same w8 = omega arith
-    same w16 = omega arith
-    same w32 = omega arith
-    same w64 = omega arith
-    same w128 = omega arith
+from_be_bytes-numeral w bytes many = grind (arith, common_steps)
 
 -- a cast of the bytes' number to the signed type
 pub to_z-signed_numeral : (w : Width) (bytes : List ℕ) → numeral bytes < 2 ^ bits w
     → to_z w (numeral bytes) ≡ signed_numeral (byte_len w) bytes
 unfolding signed_numeral
-to_z-signed_numeral w bytes below =
-    to_z-wrap w (numeral bytes) below ∙ ap (λ k. wrap k (pos (numeral bytes))) (width_facts w).1
+to_z-signed_numeral w bytes below = grind (arith, to_z-wrap, width_facts)
 
 -- ---- std's calls, in the form of the goals of `from_raw` and `to_raw`
 
 pub signed_read : (w : Width) (bytes : List ℕ) (n : ℕ) (z : ℤ) → length bytes ≡ byte_len w → n < 2 ^ bits w
     → n ≡ from_be_bytes w bytes → z ≡ to_z w n → to_z w (of_z w z) ≡ signed_numeral (byte_len w) bytes
-signed_read w bytes n z many below is cast =
-    grind (arith, nat_tests, from_be_bytes-numeral, sfits_to_z, to_z-of_z, to_z-signed_numeral)
+signed_read w bytes n z many below is cast = grind (arith, from_be_bytes-numeral, to_z-signed_numeral)
 
 signed_written : (w : Width) (z : ℤ) (bytes : List ℕ) → SFits w z → bytes ≡ to_be_bytes w (of_z w (to_z w (of_z w z)))
     → bytes ≡ bytes_of (byte_len w) z
-signed_written w z bytes fits is = is ∙ ap (λ y. to_be_bytes w (of_z w y)) (to_z-of_z w z fits)
-    ∙ to_be_bytes-signed w z fits
+signed_written w z bytes fits is = grind (arith, to_z-of_z, to_be_bytes-signed)
 
 pub unsigned_read : (w : Width) (bytes : List ℕ) (n : ℕ) → length bytes ≡ byte_len w → n ≡ from_be_bytes w bytes
     → n ≡ numeral bytes
@@ -86,10 +73,7 @@ u8_written n bytes below is = is ∙ ap (λ b. b ∷ []) (sym (mod-eq_of_lt belo
 
 pub i8_written : (z : ℤ) (bytes : List ℕ) → SFits w8 z → bytes ≡ of_z w8 (to_z w8 (of_z w8 z)) ∷ []
     → bytes ≡ bytes_of 1 z
-i8_written z bytes fits is =
-    let below = (Fits-of_z fits).fits in
-    is ∙ ap (λ y. of_z w8 y ∷ []) (to_z-of_z w8 z fits) ∙ ap (λ b. b ∷ []) (sym (mod-eq_of_lt below))
-    ∙ to_be_bytes-signed w8 z fits
+i8_written z bytes fits is = grind (arith, to_be_bytes-signed w8 z fits)
 
 pub u16_written : (n : ℕ) (bytes : List ℕ) → n < 2 ^ 16 → bytes ≡ to_be_bytes w16 n → bytes ≡ bytes_of 2 (pos n)
 u16_written n bytes below is = is ∙ to_be_bytes-bytes_of w16 n below

@@ -1,27 +1,13 @@
 -- Integers: multiplication distributes over addition and is associative. (std has that it commutes, `*ℤ_comm`.)
 use Rattle.std.proofs.Common.{◌≡◌, ◌∙◌, sym, ap, ℕ, ◌+◌, ◌*◌, ℤ, ◌+ℤ◌, ◌*ℤ◌, arith}
-use Rattle.std.proofs.Math.Nat.{mul_assoc, mul-add, add-mul}
+use Rattle.std.proofs.Math.Nat.{add-mul}
 use borrow.Author.Differences.{up, down, same_in, sum_is_lem, product_is}
 
 -- (x + y) * z, if s and t are the parts of x + y
 parts_times : (s t a b c d m n : ℕ) → s + b + d ≡ t + a + c
     → (s * m + t * n) + ((a * n + b * m) + (c * n + d * m)) ≡ ((a * m + b * n) + (c * m + d * n)) + (s * n + t * m)
 parts_times s t a b c d m n same =
-    let first = ap (λ k. k * m) same in
-    let second = ap (λ k. k * n) same in
-    omega (
-      arith,
-      first,
-      second,
-      add-mul (s + b) d m,
-      add-mul s b m,
-      add-mul (t + a) c m,
-      add-mul t a m,
-      add-mul (s + b) d n,
-      add-mul s b n,
-      add-mul (t + a) c n,
-      add-mul t a n,
-    )
+    grind (arith, add-mul (s + b) d m, add-mul (t + a) c m, add-mul (s + b) d n, add-mul (t + a) c n)
 
 -- (x + y) * z is x * z + y * z
 pub sum-times : (x y z : ℤ) → ((x +ℤ y) *ℤ z) ≡ ((x *ℤ z) +ℤ (y *ℤ z))
@@ -34,18 +20,7 @@ sum-times x y z =
 -- of the parts a - b, c - d and m - n of three numbers
 parts_product : (a b c d m n : ℕ) → (a * c + b * d) * m + (a * d + b * c) * n ≡ a * (c * m + d * n) + b
     * (c * n + d * m)
-parts_product a b c d m n =
-    omega (
-      arith,
-      add-mul (a * c) (b * d) m,
-      add-mul (a * d) (b * c) n,
-      mul_assoc a c m,
-      mul_assoc b d m,
-      mul_assoc a d n,
-      mul_assoc b c n,
-      mul-add a (c * m) (d * n),
-      mul-add b (c * n) (d * m),
-    )
+parts_product a b c d m n = grind arith
 
 -- (x * y) * z is x * (y * z)
 pub product-times : (x y z : ℤ) → ((x *ℤ y) *ℤ z) ≡ (x *ℤ (y *ℤ z))

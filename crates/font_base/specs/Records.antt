@@ -1,6 +1,6 @@
 -- A record of two consecutive scalars is a scalar (OpenType, the tables' formats: records).
 use Rattle.std.proofs.Common.{◌≡◌, ◌∙◌, sym, ap, ℕ, ◌+◌, Bool, ◌&&◌, ◌==◌, IsTrue, List, ◌++◌, length, take}
-use Rattle.std.proofs.Common.{drop, arith, refl, true, eq-eqb}
+use Rattle.std.proofs.Common.{drop, arith, true, eq-eqb}
 use Rattle.std.proofs.lemmas.List.{take-append-drop, length-append, length-drop, length-take-le, take_at, drop_at}
 use Rattle.std.proofs.lemmas.List.Folds.{list_all-append}
 use Rattle.std.specs.Cmp.{first_so, second_so}
@@ -32,11 +32,7 @@ back_bytes m n bytes are =
 
 joined_bytes : (m n : ℕ) (xs ys : List ℕ) → IsTrue (are_bytes m xs) → IsTrue (are_bytes n ys)
     → IsTrue (are_bytes (m + n) (xs ++ ys))
-joined_bytes m n xs ys of_xs of_ys =
-    both_true
-    (eq-eqb (length (xs ++ ys)) (m + n)
-    (length-append xs ys ∙ omega (arith, are_bytes-length m xs of_xs, are_bytes-length n ys of_ys)))
-    (list_all-append is_byte xs ys ∙ both_true (all_are m xs of_xs) (all_are n ys of_ys))
+joined_bytes m n xs ys of_xs of_ys = grind (arith, length-append, list_all-append)
 
 -- a record whose first field has m bytes, followed by a second field of n bytes
 pub record_laws : {A B T : Type 0} {is_a : A → Bool} {of_a : List ℕ → A} {a_of : A → List ℕ} {is_b : B → Bool}
@@ -48,31 +44,5 @@ pub record_laws : {A B T : Type 0} {is_a : A → Bool} {of_a : List ℕ → A} {
     (λ bytes. make (of_a (take m bytes)) (of_b (drop m bytes))) (λ t. a_of (first t) ++ b_of (second t)) (m + n)
     (m + n)
 record_laws {is_a = is_a} {of_a = of_a} {a_of = a_of} {is_b = is_b} {of_b = of_b} {b_of = b_of} m n first second make
-    is_first is_second whole of_first of_second = record {
-      of_raw_value = λ bytes are. rw (
-        is_first (of_a (take m bytes)) (of_b (drop m bytes)),
-        is_second (of_a (take m bytes)) (of_b (drop m bytes)),
-      )
-          (both_true (of_first.of_raw_value (take m bytes) (front_bytes m n bytes are))
-          (of_second.of_raw_value (drop m bytes) (back_bytes m n bytes are)));
-      raw_of_value = λ t value. joined_bytes m n (a_of (first t)) (b_of (second t))
-          (of_first.raw_of_value (first t) (first_so (is_a (first t)) (is_b (second t)) value))
-          (of_second.raw_of_value (second t) (second_so (is_a (first t)) (is_b (second t)) value));
-      back = λ t value.
-          let a_is = first_so (is_a (first t)) (is_b (second t)) value in
-          let b_is = second_so (is_a (first t)) (is_b (second t)) value in
-          let long = are_bytes-length m (a_of (first t)) (of_first.raw_of_value (first t) a_is) in
-          ap (λ bytes. make (of_a bytes) (of_b (drop m (a_of (first t) ++ b_of (second t)))))
-          (take_at (a_of (first t)) (b_of (second t)) m long)
-          ∙ ap (λ bytes. make (of_a (a_of (first t))) (of_b bytes)) (drop_at (a_of (first t)) (b_of (second t)) m long)
-          ∙ ap (λ a. make a (of_b (b_of (second t)))) (of_first.back (first t) a_is)
-          ∙ ap (λ b. make (first t) b) (of_second.back (second t) b_is) ∙ whole t;
-      forth = λ bytes are.
-          ap (λ a. a_of a ++ b_of (second (make (of_a (take m bytes)) (of_b (drop m bytes)))))
-          (is_first (of_a (take m bytes)) (of_b (drop m bytes)))
-          ∙ ap (λ b. a_of (of_a (take m bytes)) ++ b_of b) (is_second (of_a (take m bytes)) (of_b (drop m bytes)))
-          ∙ ap (λ xs. xs ++ b_of (of_b (drop m bytes))) (of_first.forth (take m bytes) (front_bytes m n bytes are))
-          ∙ ap (λ ys. take m bytes ++ ys) (of_second.forth (drop m bytes) (back_bytes m n bytes are))
-          ∙ take-append-drop m bytes;
-      lengths_agree = refl;
-    }
+        is_first is_second whole of_first of_second =
+    grind (arith, front_bytes, back_bytes, joined_bytes, are_bytes-length, take_at, drop_at, take-append-drop)

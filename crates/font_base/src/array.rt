@@ -157,8 +157,10 @@ impl<'a, T: Scalar> ScalarArray<'a, T> {
         ensures variant { IsSome result ↔ (index < array_len self.now) }
         ensures stored { IfSome result (λ v.
             T.Raw.bytes (T.raw_of v) ≡ element_bytes self.now index) }
+        // For proofs.
         ensures reads { IfSome result (λ v.
             IsValueOf T.Raw.bytes T.of_raw (element_bytes self.now index) v) }
+        // For proofs.
         ensures value { IfSome result (λ v. IsTrue (T.is_scalar v)) }
     {
         let raw = self.raw.get(index)?;
@@ -173,8 +175,10 @@ impl<'a, T: Scalar> ScalarArray<'a, T> {
         ensures variant { IsSome result ↔ (0 < array_len self.now) }
         ensures stored { IfSome result (λ v.
             T.Raw.bytes (T.raw_of v) ≡ element_bytes self.now 0) }
+        // For proofs.
         ensures reads { IfSome result (λ v.
             IsValueOf T.Raw.bytes T.of_raw (element_bytes self.now 0) v) }
+        // For proofs.
         ensures value { IfSome result (λ v. IsTrue (T.is_scalar v)) }
     {
         self.get(0)
@@ -187,8 +191,10 @@ impl<'a, T: Scalar> ScalarArray<'a, T> {
         ensures variant { IsSome result ↔ (0 < array_len self.now) }
         ensures stored { IfSome result (λ v.
             T.Raw.bytes (T.raw_of v) ≡ element_bytes self.now (array_len self.now - 1)) }
+        // For proofs.
         ensures reads { IfSome result (λ v. IsValueOf T.Raw.bytes T.of_raw
             (element_bytes self.now (array_len self.now - 1)) v) }
+        // For proofs.
         ensures value { IfSome result (λ v. IsTrue (T.is_scalar v)) }
     {
         self.get(self.len().checked_sub(1)?)

@@ -1,8 +1,10 @@
 //! 24-bit signed integers.
 
-ghost use Rattle.std.specs.Prelude.{◌≡◌, ◌≤ℤ◌, ◌<ℤ◌, ◌↔◌, pos, neg_ℤ, Some, IsSome, IfSome};
+ghost use Rattle.std.specs.Prelude.{◌≡◌, ◌≤ℤ◌, ◌<ℤ◌, ◌↔◌, ◌++◌, pos, neg_ℤ};
+ghost use Rattle.std.specs.Prelude.{Some, IsSome, IfSome};
 ghost use Rattle.std.specs.Int.{int_min, int_max};
 ghost use Rattle.std.specs.Fmt.{signed_decimal};
+ghost use lib.Chars.{codes};
 
 use crate::raw::{FixedSize, IdentityEq, Scalar};
 use std::fmt;
@@ -106,8 +108,13 @@ impl Default for Int24 {
 }
 
 impl fmt::Debug for Int24 {
+    ghost use Rattle.font_base.specs.Int24.{int24_number};
+
+    ghost debug_output = { λ n. Some
+        (codes "Int24(" ++ signed_decimal (int24_number n) ++ codes ")") };
+
     fn fmt<W: fmt::Write>(&self, f: &mut fmt::Formatter<W>) -> fmt::Result {
-        f.debug_tuple("Int24").field(&self.value).finish()
+        write!(f, "Int24({})", self.value)
     }
 }
 

@@ -1,8 +1,9 @@
 //! 24-bit unsigned integers.
 
-ghost use Rattle.std.specs.Prelude.{◌≡◌, ◌≤◌, ◌<◌, ◌^◌, ◌↔◌, min, pos, Some, IsSome, IfSome};
+ghost use Rattle.std.specs.Prelude.{◌≡◌, ◌≤◌, ◌<◌, ◌^◌, ◌↔◌, ◌++◌, min, pos, Some, IsSome, IfSome};
 ghost use Rattle.std.specs.Prelude.{MatchResult};
 ghost use Rattle.std.specs.Fmt.{decimal};
+ghost use lib.Chars.{codes};
 
 use crate::raw::{FixedSize, IdentityEq, Scalar};
 use std::fmt;
@@ -104,8 +105,12 @@ impl Default for Uint24 {
 }
 
 impl fmt::Debug for Uint24 {
+    ghost use Rattle.font_base.specs.Uint24.{uint24_number};
+
+    ghost debug_output = { λ n. Some (codes "Uint24(" ++ decimal (uint24_number n) ++ codes ")") };
+
     fn fmt<W: fmt::Write>(&self, f: &mut fmt::Formatter<W>) -> fmt::Result {
-        f.debug_tuple("Uint24").field(&self.value).finish()
+        write!(f, "Uint24({})", self.value)
     }
 }
 

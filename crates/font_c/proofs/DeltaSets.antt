@@ -1,8 +1,8 @@
 -- The sum over a delta set, product by product.
 use Rattle.std.proofs.Common.{◌≡◌, ◌∙◌, ap, ◌+◌, ◌-◌, ◌*◌, ◌^◌, ◌<◌, ◌≤◌, ℕ, zero, List, [], ◌∷◌, ℤ, pos, ◌+ℤ◌, ◌*ℤ◌}
-use Rattle.std.proofs.Common.{get_or, refl, suc, arith, unsigned_abs}
-use Rattle.std.proofs.Common.{length, take, drop}
+use Rattle.std.proofs.Common.{get_or, refl, suc, arith, unsigned_abs, length, take, drop}
 use Rattle.std.proofs.lemmas.List.{drop-drop, drop-take, get_or-drop, get_or-take, take-take}
+use Rattle.std.proofs.lemmas.Grind.{common_steps}
 use Rattle.font_types.specs.Bytes.{signed_numeral}
 use Rattle.font_c.specs.DeltaSets.{delta_at, first_products}
 
@@ -22,19 +22,14 @@ pub next_product : (wide narrow words : ℕ) (set : List ℕ) (scalars : List �
     → first_products wide narrow words set scalars (n + 1)
     ≡ (first_products wide narrow words set scalars n
     +ℤ (get_or scalars n (pos 0) *ℤ delta_at wide narrow words set n))
-next_product wide narrow words set scalars n =
-    let one_more : n + 1 ≡ suc n = omega arith in
-    rw one_more (after wide narrow words set scalars n)
+next_product wide narrow words set scalars n = grind (arith, common_steps, after)
 
 -- an accumulator of 128 bits holds a sum with one product more
 pub sum_grows : (n : ℕ) (first product sum term next : ℤ) → n < 2 ^ 64
     → (sum ≡ first) × (unsigned_abs sum ≤ n * 2 ^ 62) → term ≡ product
     → (unsigned_abs sum ≤ 2 ^ 126 → (next ≡ (sum +ℤ term)) × (unsigned_abs next ≤ unsigned_abs sum + 2 ^ 62))
     → (next ≡ (first +ℤ product)) × (unsigned_abs next ≤ (n + 1) * 2 ^ 62)
-sum_grows n first product sum term next few so_far is small =
-    let far = so_far.1 in
-    let added = small (omega (arith, far)) in
-    (added.0 ∙ ap (λ z. z +ℤ term) so_far.0 ∙ ap (λ z. first +ℤ z) is, omega (arith, far, added.1))
+sum_grows n first product sum term next few so_far is small = grind arith
 
 -- ---- the scalars and the bytes at either end
 
@@ -62,5 +57,4 @@ pub narrow_product : (m n k p words i : ℕ) (set narrow : List ℕ) (scalars ba
     → k + n ≡ p → back ≡ drop words scalars → narrow ≡ drop k set
     → product ≡ (get_or back i (pos 0) *ℤ signed_numeral m (take m (drop n narrow)))
     → product ≡ (get_or scalars (words + i) (pos 0) *ℤ signed_numeral m (take m (drop p set)))
-narrow_product m n k p words i set narrow scalars back product place one two is =
-    is ∙ rw (one, two, get_or-drop words scalars i (pos 0), drop-drop n k set, place) refl
+narrow_product m n k p words i set narrow scalars back product place one two is = grind (arith, get_or-drop, drop-drop)

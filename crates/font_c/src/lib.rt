@@ -12,7 +12,6 @@ mod delta_set;
 mod format;
 pub mod laws;
 mod matrix;
-mod narrow;
 mod parse;
 mod product;
 mod status;

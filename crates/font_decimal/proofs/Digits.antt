@@ -1,14 +1,11 @@
 -- The number of digits that are joined or split.
-use Rattle.std.proofs.Common.{◌≡◌, ℕ, zero, suc, ◌+◌, ◌-◌, ◌*◌, ◌%◌, ◌^◌, ◌<◌, ◌≤◌, inl, inr, List, [], ◌∷◌, ◌++◌}
-use Rattle.std.proofs.Common.{length, take, drop, refl, sym, ap, ◌∙◌, arith, rules, length-append, length-drop, get_or}
-use Rattle.std.proofs.Common.{true, pow-add, take-append-drop, length-take, pow-suc, mul-lt-mul_of_pos_right}
-use Rattle.std.proofs.Common.{mod-eq_of_lt}
+use Rattle.std.proofs.Common.{◌≡◌, ℕ, zero, suc, ◌+◌, ◌-◌, ◌*◌, ◌^◌, ◌<◌, ◌≤◌, List, [], ◌∷◌, ◌++◌}
+use Rattle.std.proofs.Common.{length, take, drop, refl, ◌∙◌, arith, rules, get_or}
+use Rattle.std.proofs.Common.{true, pow-add, length-take, pow-suc, mul-lt-mul_of_pos_right}
 use Rattle.std.specs.Str.Parse.{digits_value, digits_value_after, AllDigits}
 use Rattle.std.specs.Char.{digit_value, is_ascii_digit, IsAsciiDigit}
 use Rattle.std.specs.List.{list_all}
-use Rattle.std.proofs.Math.Nat.{one-le-pow, pow-le-pow_right}
-use Rattle.std.proofs.lemmas.Bool.{cases_lt}
-use Rattle.std.proofs.lemmas.Nat.{mul-pow}
+use Rattle.std.proofs.Math.Nat.{one-le-pow}
 use Rattle.std.proofs.lemmas.Int.Digits.{digits_value-lt, digits_value_more}
 use Rattle.std.proofs.lemmas.Str.{digit_value_digit}
 use Rattle.std.proofs.lemmas.Str.Parse.{IsNumeralModel, numerals_by_value, tells_digits, digits_value_short}
@@ -56,77 +53,10 @@ pub few_digits : (xs : List ℕ) (i : ℕ) → AllDigits 10 (take i xs) → i �
 few_digits xs i h few =
     digits_value_short (numerals_by_value _ tells_digits) (take i xs) 18 h (omega (arith, length-take i xs))
 
--- the numeral of the first p digits, with zeros for those that are missing
-abbrev pub kept_numeral : ℕ → List ℕ → ℕ
-kept_numeral p ds = digits_value 10 (take p ds) * 10 ^ (p - length ds)
-
--- a fraction is its first p digits, and a rest below their last place
-pub record IsCut (p : ℕ) (ds : List ℕ) : Type 0 where
-  pub rest : ℕ
-  pub is : digits_value 10 ds * 10 ^ p ≡ kept_numeral p ds * 10 ^ length ds + rest
-  pub below : rest < 10 ^ length ds
-
--- each fraction has such digits and such a rest
-pub is_cut : (p : ℕ) (ds : List ℕ) → AllDigits 10 ds → IsCut p ds
-is_cut p ds h =
-    let k = length ds in
-    let front = digits_value 10 (take p ds) in
-    let back = digits_value 10 (drop p ds) in
-    let joined : digits_value 10 ds ≡ front * 10 ^ (k - p) + back =
-    rw (← length-drop p ds, ← digits_value-append (take p ds) (drop p ds), take-append-drop) in
-    let same : k - p + p ≡ p - k + k = omega arith in
-    let powers : 10 ^ (k - p) * 10 ^ p ≡ 10 ^ (p - k) * 10 ^ k =
-    rw (← pow-add 10 (k - p) p, same) (pow-add 10 (p - k) k) in
-    let small : back < 10 ^ (k - p) = rw (length-drop p ds) at (digits_value-lt 10 _ (digits_parts p ds h).1) in
-    record {
-      rest = back * 10 ^ p;
-      is = rw joined (omega (arith, ap (λ n. front * n) powers));
-      below = elim (cases_lt p k) [
-        | inl long ↦
-            let none : p - k ≡ 0 = omega arith in
-            omega (arith, rw none at powers, mul-lt-mul_of_pos_right small (one-le-pow p 10 (omega arith)))
-        | inr short ↦
-            let none : k - p ≡ 0 = omega arith in
-            let empty : back ≡ 0 = omega (arith, rw none at small) in
-            rw empty (omega (arith, one-le-pow k 10 (omega arith)))
-      ];
-    }
-
--- and the numeral that is kept has at most p digits
-pub kept_below : (p : ℕ) (ds : List ℕ) → AllDigits 10 ds → kept_numeral p ds < 10 ^ p
-kept_below p ds h =
-    let kept = take p ds in
-    let split : p ≡ length kept + (p - length ds) = omega (arith, length-take p ds) in
-    rw (ap (λ n. 10 ^ n) split ∙ pow-add 10 (length kept) (p - length ds))
-    (mul-lt-mul_of_pos_right (digits_value-lt 10 _ (digits_parts p ds h).0)
-    (one-le-pow (p - length ds) 10 (omega arith)))
-
--- these are digits with their number, and five to the power of their count
-abbrev pub HasNumeral : List ℕ → ℕ → ℕ → Type 0
-HasNumeral ds numeral power_of_five = AllDigits 10 ds × (numeral ≡ digits_value 10 ds) × (power_of_five ≡ 5 ^ length ds)
-
--- the same for digits in two parts, by those of each, in 128 bits
-pub record IsJoined (ds : List ℕ) (back high low high_power low_power : ℕ) : Type 0 where
-  pub digits : AllDigits 10 ds
-  pub tens : low_power * 2 ^ back % 2 ^ 128 ≡ 10 ^ back
-  pub numeral : high * 10 ^ back + low ≡ digits_value 10 ds
-  pub fits : digits_value 10 ds < 2 ^ 128
-  pub power_of_five : high_power * low_power ≡ 5 ^ length ds
-
-pub numeral_of_parts : {ds : List ℕ} {high low high_power low_power : ℕ} (front back : List ℕ) → length ds ≤ 31
-    → ds ≡ front ++ back → HasNumeral front high high_power → HasNumeral back low low_power
-    → IsJoined ds (length back) high low high_power low_power
-numeral_of_parts {ds = ds} front back few parts first second =
-    let b = length back in
-    let count : length ds ≡ length front + b = ap length parts ∙ length-append _ _ in
-    let ten : 10 ^ b ≡ 5 ^ b * 2 ^ b = mul-pow 5 2 b in
-    let small : 5 ^ b * 2 ^ b < 2 ^ 128 =
-    omega (arith, pow-le-pow_right {n = 10} (omega arith) {i = b} {j = 31} (omega arith)) in
-    let digits : AllDigits 10 ds = rw parts (digits-append _ _ first.0 second.0) in
-    record {
-      digits = digits;
-      tens = rw second.2 (mod-eq_of_lt small ∙ sym ten);
-      numeral = rw (first.1, second.1, parts, digits_value-append);
-      fits = omega (arith, digits_value-lt 10 _ digits, pow-le-pow_right {n = 10} (omega arith) few);
-      power_of_five = rw (first.2, second.2, count) (sym (pow-add 5 (length front) b));
-    }
+-- at most n digits, with zeros behind them, are a number below 10^n
+pub padded_below : (n : ℕ) (digits : List ℕ) → AllDigits 10 digits → length digits ≤ n
+    → digits_value 10 digits * 10 ^ (n - length digits) < 10 ^ n
+padded_below n digits all few =
+    let whole : length digits + (n - length digits) ≡ n = omega arith in
+    let split = rw whole at (pow-add 10 (length digits) (n - length digits)) in
+    rw split (mul-lt-mul_of_pos_right (digits_value-lt 10 _ all) (one-le-pow (n - length digits) 10 (omega arith)))

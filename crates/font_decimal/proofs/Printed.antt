@@ -1,7 +1,7 @@
 -- The text of the shortest decimal: in the grammar, nearest, parsed back, with the fewest places, and at most 22 bytes
 -- long; and lemmas on printed texts for callers.
 use Rattle.std.proofs.Common.{◌≡◌, ℕ, zero, suc, ◌+◌, ◌-◌, ◌*◌, ◌/◌, ◌%◌, ◌^◌, ◌<◌, ◌≤◌, Bool, [], ◌∷◌, ◌++◌, length}
-use Rattle.std.proofs.Common.{get_or, lit<, ℤ, pos, refl, sym, ap, subst, ◌∙◌, arith, add-one, ◌*ℤ◌, ◌<ℤ◌, ◌↔◌, IsTrue}
+use Rattle.std.proofs.Common.{get_or, lit<, ℤ, pos, refl, sym, ap, subst, ◌∙◌, arith, ◌*ℤ◌, ◌<ℤ◌, ◌↔◌, IsTrue}
 use Rattle.std.proofs.Common.{unsigned_abs, pow_pos, pow-add, append-nil, ◌≢◌, true, List, append_assoc, length-append}
 use Rattle.std.proofs.Common.{◌≤ℤ◌, Result, Ok, decimal, mul-le-mul_right, pow-suc, div-mul-le_self, div-add-mod'}
 use Rattle.std.proofs.Common.{le-mul_of_pos_right, mul-le-mul_left, lt_of_mul-lt-mul_right, div-one, lt_of_le_of_lt}
@@ -10,9 +10,8 @@ use Rattle.std.specs.Int.{is_negative, abs_diff}
 use Rattle.std.specs.Fmt.{sign_text}
 use Rattle.std.specs.Str.Parse.{digits_value, AllDigits}
 use Rattle.std.specs.Char.{digit_value}
-use Rattle.std.proofs.Math.Nat.{div-div-eq-div-mul, pow-le-pow_right, add-mul-div_left, add-mul-mod_self_right}
+use Rattle.std.proofs.Math.Nat.{div-div-eq-div-mul, pow-le-pow_right}
 use Rattle.std.proofs.lemmas.Int.{ints}
-use Rattle.std.proofs.lemmas.Nat.{div-mul-add}
 use Rattle.std.proofs.lemmas.Str.{digit_value_digit}
 use Rattle.std.proofs.lemmas.Fmt.{decimal_is_IsNumeral, decimal_digit, first_decimal, length-decimal-le}
 use Rattle.font_decimal.specs.Near.{signed, Near}
@@ -21,7 +20,8 @@ use Rattle.font_decimal.specs.Shortest.{IsShortest, nearest_numeral, fewest_plac
 use Rattle.font_decimal.specs.Shortest.{shortest_text}
 use Rattle.font_decimal.proofs.Near.{near_from, sign_and_magnitude, signed_times}
 use Rattle.font_decimal.proofs.Digits.{after_is, digits_value-append}
-use Rattle.font_decimal.proofs.Readings.{ten_pos, rounds_unique, reading_unique}
+use Rattle.font_decimal.proofs.Powers.{ten_pos}
+use Rattle.font_decimal.proofs.Readings.{rounds_unique, reading_unique}
 use Rattle.font_decimal.proofs.Fewest.{fewest_is, within_half, none_fewer, unit_is_below, rounded_at, IsFewest}
 use Rattle.font_decimal.proofs.Fewest.{zero_drops}
 use Rattle.std.proofs.lemmas.List.{same_from_push}
@@ -155,44 +155,12 @@ digits_fit m f small few =
           (whole_fits m f small),
     )
 
--- ---- the digits are written from the last one on
-pub last_more : (left n p : ℕ) → left ≡ n / 10 ^ p → (48 + left % 10) ∷ last_digits p n ≡ last_digits (p + 1) n
-last_more left n p e = rw (e, add-one)
-
-pub left_more : (left n p : ℕ) → left ≡ n / 10 ^ p → left / 10 ≡ n / 10 ^ (p + 1)
-left_more left n p e = rw (e, add-one, pow-suc 10 p) (div-div-eq-div-mul n (10 ^ p) 10)
-
--- digits further in front change nothing
-last_after : (p w n : ℕ) → last_digits p (n + 10 ^ p * w) ≡ last_digits p n
-last_after zero w n = refl
-last_after (suc p) w n =
-    let split : n + 10 ^ suc p * w ≡ n + 10 ^ p * (w * 10) = rw (pow-suc 10 p) (omega arith) in
-    rw (
-      split,
-      add-mul-div_left n (w * 10) (ten_pos p),
-      add-mul-mod_self_right (n / 10 ^ p) w 10,
-      last_after p (w * 10) n,
-    )
-
--- ---- the text of a magnitude, for which the buffer is long enough
-module _ (m f whole fraction places : ℕ) (few : places ≡ fewest_places m f)
-    (nearest : whole * 10 ^ places + fraction ≡ nearest_numeral m f places) (below : fraction < 10 ^ places) where
-  whole_is : whole ≡ nearest_numeral m f places / 10 ^ places
-  whole_is = rw (← nearest) (sym (div-mul-add whole (10 ^ places) fraction below))
-
-  pub digits_room : m ≤ 2 ^ 63 → f ≤ 30 → length (decimal whole) + places ≤ 20
-  digits_room small high = rw (whole_is, few) (digits_fit m f small high)
-
-  fraction_is : last_digits places fraction ≡ last_digits places (nearest_numeral m f places)
-  fraction_is =
-      let turned : whole * 10 ^ places + fraction ≡ fraction + 10 ^ places * whole = omega arith in
-      rw (← nearest, turned) (sym (last_after places whole fraction))
-
-  pub text_is : (b : ℤ) → m ≡ unsigned_abs b
-      → sign_text (is_negative b) ++ (decimal whole ++ (fraction_text (last_digits places fraction) ++ []))
-      ≡ shortest_text b f
-  unfolding shortest_text
-  text_is b size = rw (fraction_is, whole_is, append-nil, few, size)
+-- ---- the digits are written from the first one on
+pub last_is : (p n : ℕ) → last_digits (suc p) n ≡ last_digits p (n / 10) ++ ((48 + n % 10) ∷ [])
+last_is zero n = rw div-one
+last_is (suc p) n =
+    let power : 10 ^ suc p ≡ 10 * 10 ^ p = omega (arith, pow-suc 10 p) in
+    rw (power, ← div-div-eq-div-mul n 10 (10 ^ p), last_is p n)
 
 -- ---- for callers
 -- a printed text parses as its value and no other
@@ -226,12 +194,6 @@ printed_is_not_minus_zero b f small e =
     omega (arith, ints)
 
 -- ---- no printed text with a point ends in 0
-last_is : (p n : ℕ) → last_digits (suc p) n ≡ last_digits p (n / 10) ++ ((48 + n % 10) ∷ [])
-last_is zero n = rw div-one
-last_is (suc p) n =
-    let power : 10 ^ suc p ≡ 10 * 10 ^ p = omega (arith, pow-suc 10 p) in
-    rw (power, ← div-div-eq-div-mul n 10 (10 ^ p), last_is p n)
-
 no_point_at : (ds : List ℕ) (i : ℕ) → AllDigits 10 ds → get_or ds i 0 ≢ 46
 no_point_at [] i h e = omega arith
 no_point_at (c ∷ cs) zero h e = omega (arith, digit_from_value c h.0)

@@ -1,11 +1,9 @@
 -- Each text has exactly one result: a value, out of range, or not a decimal.
 use Rattle.std.proofs.Common.{◌≡◌, ℕ, ◌+◌, ◌*◌, ◌/◌, ◌^◌, ◌<◌, ◌↔◌, ◌⊎◌, Bool, List, ◌++◌, length, min, ℤ, refl, ap}
-use Rattle.std.proofs.Common.{◌∙◌, arith, Option, Result, Ok, Err, SomeIff, FitsSigned, ◌≤ℤ◌, ok_or, w64, pow-add}
+use Rattle.std.proofs.Common.{arith, Option, Result, Ok, Err, SomeIff, FitsSigned, ◌≤ℤ◌, ok_or, w64, pow-add}
 use Rattle.std.proofs.lemmas.Bool.Decides.{nat_tests}
 use Rattle.std.specs.Str.Parse.{digits_value}
-use Rattle.std.proofs.Math.Nat.{one-le-pow}
 use Rattle.std.proofs.lemmas.Int.{ints}
-use Rattle.std.proofs.lemmas.Nat.{mul-pow}
 use Rattle.font_decimal.specs.Near.{signed}
 use Rattle.font_decimal.specs.Grammar.{HasParts}
 use Rattle.font_decimal.specs.Reading.{Rounds, Reads, IsOutOfRange, Parses}
@@ -13,11 +11,9 @@ use Rattle.font_decimal.specs.declared.reader.DecimalFault.{DecimalFault}
 use Rattle.font_decimal.specs.declared.reader.DecimalFault.TheVariants.{Syntax, OutOfRange}
 use Rattle.font_decimal.proofs.Near.{near_from, near_unique, signed_times}
 use Rattle.font_decimal.proofs.Texts.{decimal_of, decimal_unique}
-use Rattle.font_decimal.proofs.Digits.{digits_value-append, kept_numeral, is_cut}
+use Rattle.font_decimal.proofs.Digits.{digits_value-append}
 use Rattle.font_decimal.proofs.Rounding.{half_units_halved}
-
-pub ten_pos : (k : ℕ) → 0 < 10 ^ k
-ten_pos k = one-le-pow k 10 (omega arith)
+use Rattle.font_decimal.proofs.Powers.{ten_pos}
 
 -- a text rounds to one number
 pub rounds_unique : (text : List ℕ) (f : ℕ) (b c : ℤ) → Rounds text f b → Rounds text f c → b ≡ c
@@ -25,15 +21,13 @@ rounds_unique text f b c x y =
     let same = decimal_unique text _ _ _ _ x.decimal y.decimal in
     near_unique _ _ b c (ten_pos x.places) x.nearest (rw (← same.numeral, ← same.places) at y.nearest)
 
--- the nearest number of units, by the first f + 1 digits of the fraction
+-- the nearest number of units, by the half units of the fraction
 pub rounds_by : {text : List ℕ} {s : Bool} {w e : List ℕ} (f : ℕ) → HasParts text s w e
-    → Rounds text f (signed s (digits_value 10 w * 2 ^ f + (kept_numeral (f + 1) e / 5 ^ (f + 1) + 1) / 2))
+    → Rounds text f (signed s (digits_value 10 w * 2 ^ f + (digits_value 10 e * 2 ^ (f + 1) / 10 ^ length e + 1) / 2))
 rounds_by {s = s} {w = w} {e = e} f parts =
-    let t = 2 ^ f in
     let k = length e in
-    let cut = is_cut (f + 1) e parts.fraction_digits in
-    let unit : 10 ^ (f + 1) ≡ 2 * t * 5 ^ (f + 1) = mul-pow 2 5 (f + 1) ∙ rw (pow-add 2 f 1) (omega arith) in
-    let fraction = half_units_halved _ _ _ _ t _ (one-le-pow (f + 1) 5 (omega arith)) (rw unit at cut.is) cut.below in
+    let units : 2 ^ (f + 1) ≡ 2 * 2 ^ f = rw (pow-add 2 f 1) (omega arith) in
+    let fraction = rw (← units) at (half_units_halved (digits_value 10 e) (10 ^ k) (2 ^ f) (ten_pos k)) in
     record {
       numeral = signed s (digits_value 10 (w ++ e));
       places = k;
@@ -66,7 +60,8 @@ answers_as text f min max q r x =
     (λ e. rw e at x, λ y. reading_unique text f min max q r x y)
 
 -- the test of the range holds of both of two numbers of units that are equal or both above 2^63, or of neither
-pub judged_by_range : {text : List ℕ} {f : ℕ} (s : Bool) (n units : ℕ) (min max : ℤ) (r : Option ℤ) → FitsSigned w64 min
-    → FitsSigned w64 max → (n ≡ units) ⊎ ((2 ^ 63 < n) × (2 ^ 63 < units)) → Rounds text f (signed s units)
+pub judged_by_range : (text : List ℕ) (f : ℕ) (s : Bool) (n units : ℕ) (min max : ℤ) (r : Option ℤ)
+    → FitsSigned w64 min → FitsSigned w64 max → (n ≡ units) ⊎ ((2 ^ 63 < n) × (2 ^ 63 < units))
+    → Rounds text f (signed s units)
     → SomeIff r ((min ≤ℤ signed s n) × (signed s n ≤ℤ max)) (signed s n) → Parses text f min max (ok_or r OutOfRange)
-judged_by_range s n units min max r least most same rounds given = grind (arith, nat_tests)
+judged_by_range text f s n units min max r least most same rounds given = grind (arith, nat_tests)

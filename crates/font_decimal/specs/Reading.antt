@@ -1,5 +1,7 @@
 -- Parsing a decimal as a multiple of 1 / 2^f.
-use Rattle.std.specs.Prelude.{ℕ, ◌^◌, ◌⊎◌, List, ℤ, pos, ◌*ℤ◌, ◌≤ℤ◌, ◌<ℤ◌, Result, Ok, Err}
+use Rattle.std.specs.Prelude.{◌≡◌, ℕ, ◌*◌, ◌/◌, ◌^◌, ◌⊎◌, List, length, ℤ, pos, ◌*ℤ◌, ◌≤ℤ◌, ◌<ℤ◌}
+use Rattle.std.specs.Prelude.{Result, Ok, Err}
+use Rattle.std.specs.Str.Parse.{digits_value, AllDigits}
 use Rattle.font_decimal.specs.Near.{Near}
 use Rattle.font_decimal.specs.Grammar.{Decimal, IsNoDecimal}
 use Rattle.font_decimal.specs.declared.reader.DecimalFault.{DecimalFault}
@@ -29,6 +31,11 @@ abbrev pub Parses : List ℕ → ℕ → ℤ → ℤ → Result ℤ DecimalFault
 Parses text f min max (Ok b) = Reads text f min max b
 Parses text f min max (Err Syntax) = IsNoDecimal text
 Parses text f min max (Err OutOfRange) = IsOutOfRange text f min max
+
+-- a fraction in units of 1 / 2^n, rounded down
+pub record HasUnits (n : ℕ) (fraction : List ℕ) (units : ℕ) : Type 0 where
+  pub digits : AllDigits 10 fraction
+  pub floor : units ≡ digits_value 10 fraction * 2 ^ n / 10 ^ length fraction
 
 -- the value of one decimal is less than or equal to that of the other
 pub record IsAtMost (lesser greater : List ℕ) : Type 0 where

@@ -9,7 +9,7 @@ ghost use Rattle.font_decimal.specs.Grammar.{fraction_text};
 // Splits off a leading `-`.
 #[must_use]
 #[inline]
-pub fn split_sign(text: &[u8]) -> (bool, &[u8])
+pub const fn split_sign(text: &[u8]) -> (bool, &[u8])
     ensures minus { text.now ≡ sign_text result.0 ++ result.1.now }
     ensures plain { result.0 ≡ false → (rest : List ℕ) → text.now ≢ 45 ∷ rest }
 {
@@ -36,12 +36,14 @@ pub fn after_point(text: &[u8]) -> Option<&[u8]>
 // No early exit, so that it vectorizes.
 #[must_use]
 #[inline]
-pub fn are_digits(text: &[u8]) -> bool
+pub const fn are_digits(text: &[u8]) -> bool
     ensures { result ≡ list_all is_ascii_digit text.now }
 {
     let mut all = true;
-    for byte in text {
-        all &= byte.is_ascii_digit();
+    let mut place = 0;
+    while place < text.len() {
+        all &= text[place].is_ascii_digit();
+        place += 1;
     }
     all
 }

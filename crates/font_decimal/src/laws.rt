@@ -1,8 +1,11 @@
-//! A law of parsing, as the contract of a function.
+//! Laws of parsing and printing, as contracts of functions.
+
 ghost use Rattle.std.specs.Prelude.{◌≡◌, ◌≤◌, ℤ, ◌≤ℤ◌};
 ghost use Rattle.font_decimal.specs.Reading.{Parses, IsAtMost};
+ghost use Rattle.font_decimal.specs.Shortest.{shortest_text};
+ghost use Rattle.font_decimal.specs.Shown.{shown};
 
-use crate::{DecimalFault, read_decimal};
+use crate::{DecimalFault, Shortest, read_decimal};
 
 /// Parses both texts by `read_decimal`. If both are accepted, the greater decimal never gives the
 /// smaller value.
@@ -25,4 +28,20 @@ pub fn reads_in_order(
         → a ≤ℤ b }
 {
     (read_decimal(s, f, min, max), read_decimal(t, f, min, max))
+}
+
+/// Formats both raw values by `Shortest::new`. The greater value never prints the smaller decimal.
+///
+/// # Panics
+///
+/// Panics in Rust as `Shortest::new` does.
+#[must_use]
+#[inline]
+pub fn prints_in_order(a: i64, b: i64, f: u32) -> (Shortest, Shortest)
+    requires bits_of_fraction { (6 ≤ f) × (f ≤ 30) }
+    ensures first { shown result.0 ≡ shortest_text a f }
+    ensures second { shown result.1 ≡ shortest_text b f }
+    ensures in_order { a ≤ℤ b → IsAtMost (shown result.0) (shown result.1) }
+{
+    (Shortest::new(a, f), Shortest::new(b, f))
 }

@@ -1,5 +1,5 @@
 -- Sums and products with 0 and with 1, for callers, as equations of `wrap` and `near`.
-use Rattle.std.proofs.Common.{◌≡◌, sym, ℕ, ◌<◌, ℤ, pos, neg_ℤ, ◌+ℤ◌, ◌-ℤ◌, ◌*ℤ◌, arith, w16, w32, w64, SFits}
+use Rattle.std.proofs.Common.{◌≡◌, sym, ℕ, ◌<◌, ℤ, pos, ◌+ℤ◌, ◌-ℤ◌, ◌*ℤ◌, arith, w16, w32, w64, SFits}
 use Rattle.std.proofs.lemmas.Int.{ints}
 use Rattle.std.proofs.Math.IntN.{*ℤ_comm, +ℤ-neg_ℤ_cancel, -ℤ-+ℤ_cancel}
 use Rattle.std.specs.Int.{Width}
@@ -27,12 +27,10 @@ sub_zero z = omega (arith, ints)
 
 -- adding and then subtracting a number, and the other way round
 pub wrap-add_sub_cancel : (w : Width) (a b : ℤ) → SFits w a → wrap (bits w) (wrap (bits w) (a +ℤ b) -ℤ b) ≡ a
-wrap-add_sub_cancel w a b fits =
-    rw (wrap-add_left (bits w) (a +ℤ b) (neg_ℤ b) (bits_positive w), +ℤ-neg_ℤ_cancel) (wrap-signed_fits w a fits)
+wrap-add_sub_cancel w a b fits = grind (arith, wrap-add_left, bits_positive, +ℤ-neg_ℤ_cancel, wrap-signed_fits)
 
 pub wrap-sub_add_cancel : (w : Width) (a b : ℤ) → SFits w a → wrap (bits w) (wrap (bits w) (a -ℤ b) +ℤ b) ≡ a
-wrap-sub_add_cancel w a b fits =
-    rw (wrap-add_left (bits w) (a -ℤ b) b (bits_positive w), -ℤ-+ℤ_cancel) (wrap-signed_fits w a fits)
+wrap-sub_add_cancel w a b fits = grind (arith, wrap-add_left, bits_positive, -ℤ-+ℤ_cancel, wrap-signed_fits)
 
 -- rules at each width: a sum with zero, a number added and subtracted, and wrapping of a number that fits
 pub fits_16 : (z : ℤ) → SFits w16 z → wrap 16 z ≡ z
@@ -76,8 +74,7 @@ pub near-times_left : (q : ℤ) (d : ℕ) → 0 < d → near (pos d *ℤ q) d �
 near-times_left q d some = rw (*ℤ_comm (pos d) q) (near-times q d some)
 
 pub near-times_zero : (q : ℤ) (d : ℕ) → 0 < d → near (q *ℤ pos 0) d ≡ pos 0
-near-times_zero q d some = let none : (q *ℤ pos 0) ≡ (pos 0 *ℤ pos d) = omega (arith, ints) in
-    rw none (near-times (pos 0) d some)
+near-times_zero q d some = grind (arith, near-times (pos 0) d some)
 
 pub near-zero_times : (q : ℤ) (d : ℕ) → 0 < d → near (pos 0 *ℤ q) d ≡ pos 0
 near-zero_times q d some = rw (*ℤ_comm (pos 0) q) (near-times_zero q d some)

@@ -17,8 +17,4 @@ integer_added n d =
 
 -- 64 raw bits of 48.16 are less than 2^47 integers
 pub few_integers : (d : ℤ) → SFits w64 d → unsigned_abs (up d 65536) ≤ 2 ^ 47
-few_integers d fits =
-    let it = up_is d 65536 (lit< tt) in
-    let low = it.low in
-    let high = it.high in
-    omega (arith, ints, low, high, fits)
+few_integers d fits = grind (arith, up_is d 65536 (lit< tt))

@@ -1,6 +1,6 @@
 -- Rules for callers of `Fixed`: products and quotients by 0, by 1 and by -1, sums with 0, differences, a number over
 -- itself, a part of a whole, `mul_div`, and wrapping of a number that fits.
-use Rattle.std.proofs.Common.{◌≡◌, ◌≢◌, ◌∙◌, sym, ap, refl, arith, lit<, lit≤, ℤ, pos, negsuc, neg_ℤ, ◌+ℤ◌, ◌-ℤ◌, ◌*ℤ◌}
+use Rattle.std.proofs.Common.{◌≡◌, ◌≢◌, ◌∙◌, ap, refl, arith, lit<, lit≤, ℤ, pos, negsuc, neg_ℤ, ◌+ℤ◌, ◌-ℤ◌, ◌*ℤ◌}
 use Rattle.std.proofs.Common.{◌≤ℤ◌, w32, SFits}
 use Rattle.std.proofs.lemmas.Int.{ints}
 use Rattle.std.proofs.Math.IntN.{*ℤ_comm}
@@ -9,8 +9,7 @@ use Rattle.font_base.specs.Wrap.{wrap, FitsBits}
 use Rattle.font_base.specs.Wrap.Laws.{wrap-add_right, wrap-wrap}
 use Rattle.font_decimal.specs.Near.{near}
 use Rattle.font_fixed.specs.Operations.{IsQuotient, IsMulDiv, floor_of, fract_of}
-use Rattle.font_fixed.proofs.Calls.{near-times, near-times_left, near-times_zero, near-zero_times, add_zero, fits_32}
-use Rattle.font_fixed.proofs.Calls.{calls_32}
+use Rattle.font_fixed.proofs.Calls.{near-times, near-times_left, near-times_zero, near-zero_times, fits_32, calls_32}
 use Rattle.font_fixed.proofs.NumberLaws.{itself, mul_div_exact, mul_div_between, quotient_between}
 
 pub mul_one : (x : ℤ) → near (x *ℤ pos 65536) 65536 ≡ x
@@ -26,9 +25,7 @@ pub zero_mul : (x : ℤ) → near (pos 0 *ℤ x) 65536 ≡ pos 0
 zero_mul x = near-zero_times x 65536 (lit< tt)
 
 pub mul_neg_one : (x : ℤ) → near (x *ℤ negsuc 65535) 65536 ≡ neg_ℤ x
-mul_neg_one x =
-    let whole : (x *ℤ negsuc 65535) ≡ (neg_ℤ x *ℤ pos 65536) = omega (arith, ints) in
-    ap (λ n. near n 65536) whole ∙ mul_one (neg_ℤ x)
+mul_neg_one x = grind (arith, mul_one (neg_ℤ x))
 
 pub neg_one_by : (x : ℤ) → near (negsuc 65535 *ℤ x) 65536 ≡ neg_ℤ x
 neg_one_by x = ap (λ n. near n 65536) (*ℤ_comm (negsuc 65535) x) ∙ mul_neg_one x
@@ -47,14 +44,11 @@ add_sub_cancel a b fits = grind (arith, ints, wrap-add_right, fits_32)
 
 -- a number less itself is 0
 pub sub_self : (a : ℤ) → wrap 32 (a -ℤ a) ≡ pos 0
-sub_self a = let none : (a -ℤ a) ≡ pos 0 = omega (arith, ints) in ap (wrap 32) none ∙ fits_32 (pos 0)
-    (omega (arith, ints))
+sub_self a = grind (arith, fits_32)
 
 -- different numbers have a difference that is not 0
 pub difference_is_not_zero : (a b : ℤ) → SFits w32 a → SFits w32 b → a ≢ b → wrap 32 (b -ℤ a) ≢ pos 0
-difference_is_not_zero a b fits_a fits_b other none =
-    other (sym (ap (wrap 32) (add_zero a) ∙ fits_32 a fits_a) ∙ ap (λ n. wrap 32 (a +ℤ n)) (sym none)
-    ∙ add_sub_cancel a b fits_b)
+difference_is_not_zero a b fits_a fits_b other none = grind (arith, fits_32 a fits_a, add_sub_cancel a b fits_b)
 
 -- ---- quotients
 
@@ -95,13 +89,11 @@ self_mul_div a c r given fits some =
 
 pub mul_div_is_not_negative : (x a c r : ℤ) → IsMulDiv 32 x a c r → SFits w32 x → pos 0 ≤ℤ x → pos 0 ≤ℤ a → a ≤ℤ c
     → c ≢ pos 0 → pos 0 ≤ℤ r
-mul_div_is_not_negative x a c r given fits low from to some =
-    (mul_div_between 32 x a c r (lit< tt) (signed_fits w32 x fits) given low from to some).0
+mul_div_is_not_negative x a c r given fits low from to some = grind (arith, mul_div_between, signed_fits)
 
 pub mul_div_is_at_most : (x a c r : ℤ) → IsMulDiv 32 x a c r → SFits w32 x → pos 0 ≤ℤ x → pos 0 ≤ℤ a → a ≤ℤ c
     → c ≢ pos 0 → r ≤ℤ x
-mul_div_is_at_most x a c r given fits low from to some =
-    (mul_div_between 32 x a c r (lit< tt) (signed_fits w32 x fits) given low from to some).1
+mul_div_is_at_most x a c r given fits low from to some = grind (arith, mul_div_between, signed_fits)
 
 pub ruleset fixed_calls = (
   calls_32,

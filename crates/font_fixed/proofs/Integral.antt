@@ -1,6 +1,6 @@
 -- Raw values of integers: constants, sums and differences, and what wraps.
 use Rattle.std.proofs.Common.{◌≡◌, ◌∙◌, sym, ap, ℕ, ◌+◌, ◌-◌, ◌*◌, ◌/◌, ◌%◌, ◌^◌, ◌<◌, ℤ, pos, neg_ℤ, ◌+ℤ◌, ◌-ℤ◌, ◌*ℤ◌}
-use Rattle.std.proofs.Common.{arith, div-add-mod', pow-add, Bool, true, false, cond}
+use Rattle.std.proofs.Common.{arith, div-add-mod', pow-add, Bool, cond}
 use Rattle.std.proofs.lemmas.Int.{ints}
 use Rattle.font_base.specs.Integers.{sum-times, product-times}
 use Rattle.font_base.specs.Wrap.{wrap}
@@ -24,10 +24,7 @@ module _ (f : ℕ) where
   }
 
   pub negated_is_integral : (a : ℤ) → IsIntegral f a → IsIntegral f (neg_ℤ a)
-  negated_is_integral a is_a = record {
-    number = neg_ℤ is_a.number;
-    is = omega (arith, ints, is_a.is, neg-times is_a.number (2 ^ f));
-  }
+  negated_is_integral a is_a = grind (arith, neg-times is_a.number (2 ^ f))
 
   pub difference_is_integral : (a b : ℤ) → IsIntegral f a → IsIntegral f b → IsIntegral f (a -ℤ b)
   difference_is_integral a b is_a is_b = sum_is_integral a (neg_ℤ b) is_a (negated_is_integral b is_b)
@@ -50,13 +47,11 @@ module _ (f : ℕ) where
   -- rules: of a sum and a difference that a hypothesis has
   pub wrapped_sum_is_integral : (w : ℕ) (a b r : ℤ) → r ≡ wrap w (a +ℤ b) → f < w → IsIntegral f a → IsIntegral f b
       → IsIntegral f r
-  wrapped_sum_is_integral w a b r is few is_a is_b =
-      rw is (wrapped_is_integral w (a +ℤ b) few (sum_is_integral a b is_a is_b))
+  wrapped_sum_is_integral w a b r is few is_a is_b = grind (arith, wrapped_is_integral, sum_is_integral)
 
   pub wrapped_difference_is_integral : (w : ℕ) (a b r : ℤ) → r ≡ wrap w (a -ℤ b) → f < w → IsIntegral f a
       → IsIntegral f b → IsIntegral f r
-  wrapped_difference_is_integral w a b r is few is_a is_b =
-      rw is (wrapped_is_integral w (a -ℤ b) few (difference_is_integral a b is_a is_b))
+  wrapped_difference_is_integral w a b r is few is_a is_b = grind (arith, wrapped_is_integral, difference_is_integral)
 
   -- a half and another, added to an integer
   pub half_more_is_integral : (w h : ℕ) (a b r : ℤ) → r ≡ wrap w (a +ℤ b) → f < w → b ≡ pos h → (h + h) % 2 ^ f ≡ 0
@@ -70,8 +65,7 @@ module _ (f : ℕ) where
   -- the greater of two numbers, or the lesser
   pub chosen_is_integral : {F : ℕ} (first : Bool) (a b r : FixedI32 F) → r ≡ cond first a b → IsIntegral f (bits_of a)
       → IsIntegral f (bits_of b) → IsIntegral f (bits_of r)
-  chosen_is_integral true a b r is is_a is_b = rw is is_a
-  chosen_is_integral false a b r is is_a is_b = rw is is_b
+  chosen_is_integral v0 a b r is is_a is_b = grind arith
 
 pub ruleset integral_calls = (constant_is_integral, wrapped_sum_is_integral, wrapped_difference_is_integral)
 

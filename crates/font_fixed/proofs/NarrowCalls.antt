@@ -43,8 +43,7 @@ narrowed-wrap_times u v d q long wide split some =
 
 narrowed-wrapped_times : (u v d : ℕ) (z : ℤ) → 0 < u → 0 < v → 2 ^ u ≡ 2 ^ v * d → 0 < d → FitsBits v z
     → wrap v (up (wrap u (z *ℤ pos d)) d) ≡ z
-narrowed-wrapped_times u v d z long wide split some fits =
-    narrowed-wrap_times u v d z long wide split some ∙ wrap-fits v z wide fits
+narrowed-wrapped_times u v d z long wide split some fits = grind (arith, narrowed-wrap_times, wrap-fits)
 
 -- ---- 16.16 to 2.14
 
@@ -85,21 +84,18 @@ pub whole_16_back : (z : ℤ) → SFits w16 z → wrap 16 (up (z *ℤ pos 65536)
 whole_16_back z fits = narrowed-times 16 65536 z (lit< tt) (lit< tt) (omega (arith, ints))
 
 pub whole_16_back_wrapped : (z : ℤ) → SFits w16 z → wrap 16 (up (wrap 32 (z *ℤ pos 65536)) 65536) ≡ z
-whole_16_back_wrapped z fits =
-    narrowed-wrapped_times 32 16 65536 z (lit< tt) (lit< tt) refl (lit< tt) (omega (arith, ints))
+whole_16_back_wrapped z fits = grind (arith, narrowed-wrapped_times)
 
 -- and from there as 26.6
 steps_of_64 : (z : ℤ) → (z *ℤ pos 65536) ≡ ((z *ℤ pos 64) *ℤ pos 1024)
 steps_of_64 z = omega (arith, ints)
 
 pub whole_as_26_6_wrapped : (z : ℤ) → SFits w16 z → wrap 22 (up (wrap 32 (z *ℤ pos 65536)) 1024) ≡ (z *ℤ pos 64)
-whole_as_26_6_wrapped z fits = rw (steps_of_64 z)
-    (narrowed-wrapped_times 32 22 1024 (z *ℤ pos 64) (lit< tt) (lit< tt) refl (lit< tt) (omega (arith, ints)))
+whole_as_26_6_wrapped z fits = grind (arith, steps_of_64, narrowed-wrapped_times)
 
 -- the same if 16.16 was exact
 pub whole_as_26_6 : (z : ℤ) → SFits w16 z → wrap 22 (up (z *ℤ pos 65536) 1024) ≡ (z *ℤ pos 64)
-whole_as_26_6 z fits =
-    rw (steps_of_64 z) (narrowed-times 22 1024 (z *ℤ pos 64) (lit< tt) (lit< tt) (omega (arith, ints)))
+whole_as_26_6 z fits = grind (arith, steps_of_64, narrowed-times)
 
 -- of 26 bits, in 26.6
 pub whole_26_back : (z : ℤ) → neg_ℤ (pos 33554432) ≤ℤ z → z <ℤ pos 33554432 → wrap 26 (up (z *ℤ pos 64) 64) ≡ z
@@ -107,8 +103,7 @@ whole_26_back z low high = narrowed-times 26 64 z (lit< tt) (lit< tt) (record { 
 
 pub whole_26_back_wrapped : (z : ℤ) → neg_ℤ (pos 33554432) ≤ℤ z → z <ℤ pos 33554432
     → wrap 26 (up (wrap 32 (z *ℤ pos 64)) 64) ≡ z
-whole_26_back_wrapped z low high =
-    narrowed-wrapped_times 32 26 64 z (lit< tt) (lit< tt) refl (lit< tt) (record { low = low; high = high })
+whole_26_back_wrapped z low high = grind (arith, narrowed-wrapped_times)
 
 -- of 32 and of 48 bits, in 48.16
 pub whole_32_back : (z : ℤ) → SFits w32 z → wrap 32 (up (z *ℤ pos 65536) 65536) ≡ z
@@ -123,8 +118,7 @@ as_64 z fits = to_z-of_z w64 z (omega (arith, ints))
 
 pub whole_48_back_wrapped : (z : ℤ) → neg_ℤ (pos 140737488355328) ≤ℤ z → z <ℤ pos 140737488355328
     → wrap 48 (up (wrap 64 (z *ℤ pos 65536)) 65536) ≡ z
-whole_48_back_wrapped z low high =
-    narrowed-wrapped_times 64 48 65536 z (lit< tt) (lit< tt) refl (lit< tt) (record { low = low; high = high })
+whole_48_back_wrapped z low high = grind (arith, narrowed-wrapped_times)
 
 -- ---- unsigned font units from 32768 on, in 16.16
 

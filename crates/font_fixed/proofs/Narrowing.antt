@@ -5,6 +5,7 @@ use Rattle.std.proofs.Common.{◌%◌, ◌≤ℤ◌, ◌<ℤ◌, arith, IsTrue, 
 use Rattle.std.proofs.lemmas.Int.{ints, by_lt_z, to_z-of_z}
 use Rattle.std.proofs.lemmas.Bool.Decides.{nat_tests}
 use Rattle.std.specs.Int.{Width}
+use Rattle.std.proofs.lemmas.Grind.{common_steps}
 use mir.Val.{bits}
 use lib.Signed.{shr_z}
 use Rattle.font_base.specs.Integers.{sum-times, product-times}
@@ -26,8 +27,7 @@ fits_low d h s q low below = by_lt_z q h (λ less.
     absurd (omega (arith, sums, low, below, scaled, times-next q d))) (λ more. more)
 
 fits_high : (d h : ℕ) (s q : ℤ) → s <ℤ pos (h * d) → (q *ℤ pos d) ≤ℤ s → q <ℤ pos h
-fits_high d h s q high low = by_lt_z q (pos h) (λ less. less)
-    (λ more. absurd (omega (arith, sums, high, low, times_monotone (pos h) q d more)))
+fits_high d h s q high low = grind (arith, common_steps)
 
 -- numbers of w bits are integers of v bits, each of d steps, and half an integer is `half` steps
 abbrev pub is_width_split : ℕ → ℕ → ℕ → ℕ → Bool
@@ -111,16 +111,11 @@ shr_is_narrowed w v d half x s fits is test =
 pub narrowed_low_bits : (w u : Width) (v : ℕ) (x : ℤ) (d : ℕ) (q l r : ℤ) → 0 < d → bits u ≤ v → IsNarrowed v x d q
     → SFits w q → l ≡ wrap (bits u) (to_z w (of_z w q)) → SFits u l
     → r ≡ to_z u (of_z u l) → IsNarrowed (bits u) x d r
-narrowed_low_bits w u v x d q l r some less given fits is narrow same =
-    grind (arith, nat_tests, to_z-of_z, wrap-wrap, bits_positive, up_gives)
+narrowed_low_bits w u v x d q l r some less given fits is narrow same = grind (arith, to_z-of_z, wrap-wrap)
 
 -- a number of v bits, shifted to the left of w and back
-shr_back : (d : ℕ) (z : ℤ) → 0 < d → shr_z (z *ℤ pos d) d ≡ z
-shr_back d z some =
-    let s = shr_z (z *ℤ pos d) d in
-    let less = fits_low d s (z *ℤ pos d) z (shr_low (z *ℤ pos d) d some) (omega (arith, sums, some)) in
-    let more = fits_low d z (z *ℤ pos d) s (omega (arith, sums)) (shr_high (z *ℤ pos d) d some) in
-    omega (arith, sums, less, more)
+pub shr_back : (d : ℕ) (z : ℤ) → 0 < d → shr_z (z *ℤ pos d) d ≡ z
+shr_back d z some = grind (arith, sums)
 
 -- the low bits of a number, by two shifts
 pub shifts-wrap : (w v : Width) (m d : ℕ) (x : ℤ) → m ≡ 2 ^ bits w

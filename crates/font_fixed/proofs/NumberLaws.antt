@@ -7,7 +7,7 @@ use Rattle.font_base.specs.Wrap.{wrap, FitsBits}
 use Rattle.font_base.specs.Wrap.Laws.{wrap-fits}
 use Rattle.font_decimal.specs.Near.{Near}
 use Rattle.font_decimal.proofs.Near.{IsNearMagnitude, near_to, near_gives}
-use Rattle.font_fixed.specs.Operations.{IsWrappedNear, wrapped_near, IsProduct, IsQuotient, IsMulDiv}
+use Rattle.font_fixed.specs.Operations.{IsWrappedNear, IsProduct, IsQuotient, IsMulDiv}
 use Rattle.font_fixed.specs.NumberLaws.{ProductLaws, ProductInOneStep, QuotientLaws, QuotientInOneStep}
 
 -- an integer needs no rounding
@@ -26,13 +26,8 @@ mul_div_rounded w x a d r some p = grind (arith, nat_tests)
 pub product_laws_hold : (w f : ℕ) (x y product flipped by_one : ℤ) → 0 < w → FitsBits w x → IsProduct w f x y product
     → IsProduct w f y x flipped
     → IsProduct w f x (pos (2 ^ f)) by_one → ProductLaws w f x y product flipped by_one
-product_laws_hold w f x y product flipped by_one wide fits p q r = record {
-  is_product = p;
-  is_flipped = q;
-  is_by_one = r;
-  commutes = q.is ∙ ap (λ n. wrapped_near w n (2 ^ f)) (*ℤ_comm y x) ∙ sym p.is;
-  one_is_neutral = rounded_exact w x (2 ^ f) by_one wide (pow_pos f) fits r;
-}
+product_laws_hold w f x y product flipped by_one wide fits p q r =
+    grind (arith, rounded_exact w x (2 ^ f) by_one wide (pow_pos f) fits r)
 
 pub product_in_one_step : (w f : ℕ) (x y product in_one_step : ℤ) → IsProduct w f x y product
     → IsMulDiv w x y (pos (2 ^ f)) in_one_step → ProductInOneStep w f x y product in_one_step
@@ -48,8 +43,7 @@ mul_div_comm w x a c r other given = grind (arith, nat_tests)
 
 -- a number over itself is 1
 pub itself : (w f : ℕ) (x r : ℤ) → 0 < w → FitsBits w (pos (2 ^ f)) → IsQuotient w f x x r → x ≢ pos 0 → r ≡ pos (2 ^ f)
-itself w f x r wide fits p other =
-    mul_div_exact w (pos (2 ^ f)) x (pos (2 ^ f)) x r wide fits (*ℤ_comm x (pos (2 ^ f))) p other
+itself w f x r wide fits p other = grind (arith, mul_div_exact, *ℤ_comm)
 
 -- x * a / d is at most x, for a from 0 to d
 share_at_most : (x a d m : ℕ) → a ≤ d → IsNearMagnitude (x * a) d m → m ≤ x

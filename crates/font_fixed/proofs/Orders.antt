@@ -1,17 +1,16 @@
--- Results that do not overflow are the nearest numbers, so rounding and scaling keep the order; and the product by the
--- opposite of a factor is the opposite product.
-use Rattle.std.proofs.Common.{◌≡◌, ◌∙◌, sym, ap, ℕ, zero, suc, ◌^◌, ◌<◌, ℤ, pos, negsuc, neg_ℤ, ◌*ℤ◌, ◌≤ℤ◌, ◌<ℤ◌}
-use Rattle.std.proofs.Common.{arith, pow_pos, unsigned_abs}
-use Rattle.std.proofs.lemmas.Bool.Decides.{nat_tests}
-use Rattle.std.proofs.lemmas.Int.{ints}
+-- Results that do not overflow are the nearest numbers, so rounding and scaling keep the order, and distances but for
+-- one unit; and the product by the opposite of a factor is the opposite product.
+use Rattle.std.proofs.Common.{◌≡◌, ◌≢◌, ◌∙◌, sym, ap, refl, ℕ, zero, suc, ◌*◌, ◌^◌, ◌<◌, ◌≤◌, ℤ, pos, negsuc, neg_ℤ}
+use Rattle.std.proofs.Common.{◌+ℤ◌, ◌-ℤ◌, ◌*ℤ◌, ◌≤ℤ◌, ◌<ℤ◌, arith, pow_pos, unsigned_abs}
+use Rattle.std.proofs.lemmas.Int.{ints, unsigned_abs-mul}
 use Rattle.std.proofs.Math.IntN.{*ℤ-negsuc, neg_ℤ-neg_ℤ}
+use Rattle.font_base.specs.Integers.{sum-times}
 use Rattle.font_base.specs.Wrap.{wrap, FitsBits}
 use Rattle.font_base.specs.Wrap.Laws.{wrap-fits, wrap_is, wrap_same}
 use Rattle.font_decimal.specs.Near.{Near, near, up}
 use Rattle.font_decimal.proofs.Integers.{times_monotone, neg-times}
 use Rattle.font_decimal.proofs.Near.{near_is, near_gives, near_monotone, up_is, up_monotone}
-use Rattle.font_fixed.specs.Operations.{IsWrappedNear, IsMulDiv, IsProduct, IsNarrowed, IsNearestWhole}
-use Rattle.font_fixed.specs.Operations.{rounded_mul_div}
+use Rattle.font_fixed.specs.Operations.{IsWrappedNear, IsMulDiv, IsProduct, IsNarrowed, IsNearestWhole, rounded_mul_div}
 use Rattle.font_fixed.specs.Rounding.{rounded}
 
 -- a product or a quotient that does not overflow is within half a step of the exact one
@@ -28,12 +27,9 @@ scaled_in_order w x y (pos a) (pos (suc c)) r s wide first second from some orde
     near_monotone (omega arith) (omega arith) (kept_near w (suc c) _ r wide (omega arith) first fits_r)
     (kept_near w (suc c) _ s wide (omega arith) second fits_s)
     (times_monotone _ _ (suc c) (times_monotone x y a order))
-scaled_in_order w x y (negsuc a) (pos (suc c)) r s wide first second from some order fits_r fits_s =
-    absurd (omega (arith, ints, from))
-scaled_in_order w x y a (pos zero) r s wide first second from some order fits_r fits_s =
-    absurd (omega (arith, ints, some))
-scaled_in_order w x y a (negsuc c) r s wide first second from some order fits_r fits_s =
-    absurd (omega (arith, ints, some))
+scaled_in_order w x y (negsuc a) (pos (suc c)) r s wide first second from some order fits_r fits_s = grind arith
+scaled_in_order w x y a (pos zero) r s wide first second from some order fits_r fits_s = grind arith
+scaled_in_order w x y a (negsuc c) r s wide first second from some order fits_r fits_s = grind arith
 
 -- nor of two that are narrowed
 pub narrowed_in_order : (w d : ℕ) (x y r s : ℤ) → 0 < w → 0 < d → IsNarrowed w x d r → IsNarrowed w y d s → x ≤ℤ y
@@ -73,16 +69,50 @@ wrap-neg w z wide =
     wrap_same w (neg_ℤ (wrap w z)) (neg_ℤ z) given.turns wide (omega (arith, ints, given.differs, turned))
 
 opposite_factor : (x y : ℤ) → neg_ℤ x *ℤ y ≡ neg_ℤ (x *ℤ y)
-opposite_factor x (pos d) = neg-times x d
-opposite_factor x (negsuc d) = grind (arith, nat_tests, *ℤ-negsuc, neg-times, neg_ℤ-neg_ℤ)
+opposite_factor x v1 = grind (arith, neg-times, *ℤ-negsuc, neg_ℤ-neg_ℤ)
 
 -- the product by the opposite of a number is the opposite, wrapped
 pub product_of_opposite : (w f : ℕ) (x y r s : ℤ) → 0 < w → IsProduct w f x y r → IsProduct w f (neg_ℤ x) y s
     → s ≡ wrap w (neg_ℤ r)
-product_of_opposite w f x y r s wide first second =
-    second.is ∙ ap (λ n. wrap w (near n (2 ^ f))) (opposite_factor x y)
-    ∙ ap (wrap w) (near-neg (x *ℤ y) (2 ^ f) (pow_pos f)) ∙ sym (wrap-neg w (near (x *ℤ y) (2 ^ f)) wide)
-    ∙ ap (λ n. wrap w (neg_ℤ n)) (sym first.is)
+product_of_opposite w f x y r s wide first second = grind (arith, opposite_factor, near-neg, pow_pos, wrap-neg)
+
+-- ---- distances
+
+difference-times : (x y z : ℤ) → ((x -ℤ y) *ℤ z) ≡ ((x *ℤ z) -ℤ (y *ℤ z))
+difference-times x y z =
+    let split : x ≡ ((x -ℤ y) +ℤ y) = omega (arith, ints) in
+    omega (arith, ints, ap (λ n. n *ℤ z) split ∙ sum-times (x -ℤ y) y z)
+
+-- two numbers rounded to the nearest, and their difference
+near_difference : (n m : ℤ) (d : ℕ) (p q r : ℤ) → 0 < d → Near n d p → Near m d q → Near (n -ℤ m) d r
+    → unsigned_abs ((p -ℤ q) -ℤ r) ≤ 1
+near_difference n m d p q r some x y z =
+    let spread = difference-times (p -ℤ q) r (pos d) in
+    let parts = difference-times p q (pos d) in
+    grind (arith, ints, spread, parts, unsigned_abs-mul ((p -ℤ q) -ℤ r) (pos d))
+
+exact_distance : (w : ℕ) (x y a c r s t : ℤ) → 0 < w → c ≢ pos 0 → IsMulDiv w x a c r → IsMulDiv w y a c s
+    → IsMulDiv w (x -ℤ y) a c t → FitsBits w (rounded_mul_div x a c) → FitsBits w (rounded_mul_div y a c)
+    → FitsBits w (rounded_mul_div (x -ℤ y) a c) → unsigned_abs ((r -ℤ s) -ℤ t) ≤ 1
+exact_distance w x y a (pos zero) r s t wide some first second third fits_r fits_s fits_t = absurd (some refl)
+exact_distance w x y a (pos (suc c)) r s t wide some first second third fits_r fits_s fits_t =
+    near_difference (x *ℤ a) (y *ℤ a) (suc c) r s t (omega arith)
+    (kept_near w (suc c) _ r wide (omega arith) first fits_r) (kept_near w (suc c) _ s wide (omega arith) second fits_s)
+    (rw difference-times at (kept_near w (suc c) _ t wide (omega arith) third fits_t))
+exact_distance w x y a (negsuc c) r s t wide some first second third fits_r fits_s fits_t =
+    let turned : neg_ℤ ((x -ℤ y) *ℤ a) ≡ (neg_ℤ (x *ℤ a) -ℤ neg_ℤ (y *ℤ a)) =
+    omega (arith, ints, difference-times x y a) in
+    near_difference (neg_ℤ (x *ℤ a)) (neg_ℤ (y *ℤ a)) (suc c) r s t (omega arith)
+    (kept_near w (suc c) _ r wide (omega arith) first fits_r) (kept_near w (suc c) _ s wide (omega arith) second fits_s)
+    (rw turned at (kept_near w (suc c) _ t wide (omega arith) third fits_t))
+
+-- the distance of two scaled numbers is within one unit of their scaled distance
+pub scaled_distance : (w : ℕ) (x y a c r s t : ℤ) → 0 < w → c ≢ pos 0 → IsMulDiv w x a c r → IsMulDiv w y a c s
+    → IsMulDiv w (wrap w (x -ℤ y)) a c t → FitsBits w (x -ℤ y) → FitsBits w (rounded_mul_div x a c)
+    → FitsBits w (rounded_mul_div y a c) → FitsBits w (rounded_mul_div (x -ℤ y) a c)
+    → unsigned_abs ((r -ℤ s) -ℤ t) ≤ 1
+scaled_distance w x y a c r s t wide some first second third fits fits_r fits_s fits_t =
+    grind (arith, exact_distance, wrap-fits)
 
 -- ---- for callers
 pub ruleset order_calls = (scaled_in_order, narrowed_in_order, rounded_in_order)

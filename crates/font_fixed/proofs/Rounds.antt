@@ -1,8 +1,8 @@
 -- Numbers of w bits with f fraction bits, for every f in range: the steps and halves of code, floors by shifts, and the
 -- nearest integer as the floor of half a step more.
-use Rattle.std.proofs.Common.{◌≡◌, ◌∙◌, ap, ℕ, suc, ◌+◌, ◌-◌, ◌*◌, ◌/◌, ◌%◌, ◌^◌, ◌<◌, ◌≤◌, ℤ, pos, negsuc, neg_ℤ}
+use Rattle.std.proofs.Common.{◌≡◌, ◌∙◌, ap, ℕ, ◌+◌, ◌-◌, ◌*◌, ◌/◌, ◌%◌, ◌^◌, ◌<◌, ◌≤◌, ℤ, pos, neg_ℤ}
 use Rattle.std.proofs.Common.{◌+ℤ◌, ◌*ℤ◌, ◌≤ℤ◌, ◌<ℤ◌, arith, pow_pos, div-add-mod', IsTrue, SFits, to_z, of_z}
-use Rattle.std.proofs.Common.{◌-ℤ◌, lit<, pow-add, mod-lt}
+use Rattle.std.proofs.Common.{pow-add, mod-lt}
 use Rattle.std.proofs.lemmas.Int.{ints, by_lt_z, to_z_pos, to_z-of_z}
 use Rattle.std.proofs.lemmas.Bool.Decides.{nat_tests}
 use Rattle.std.proofs.lemmas.Nat.{one_shl}
@@ -16,14 +16,12 @@ use Rattle.font_base.proofs.Widths.{bits_positive, half_range-bits}
 use Rattle.font_decimal.specs.Near.{Up, up}
 use Rattle.font_decimal.proofs.Integers.{neg-times, times-next, times_monotone}
 use Rattle.font_decimal.proofs.Near.{up_gives, up_is}
-use Rattle.font_fixed.specs.Operations.{WrapsTo, IsFract, IsFloor, IsNearestWhole, fract_of, floor_of}
+use Rattle.font_fixed.specs.Operations.{IsFloor, IsNearestWhole, fract_of, floor_of}
 use Rattle.font_fixed.specs.Rounding.{rounded}
-use Rattle.font_fixed.proofs.Narrowing.{is_width_split, floor_is_nearest_whole, fits_low}
+use Rattle.font_fixed.proofs.Narrowing.{is_width_split, floor_is_nearest_whole, fits_low, shr_back}
+use Rattle.font_fixed.proofs.Steps.{halves}
 use Rattle.font_fixed.proofs.Shifts.{shr_fits, shr_high, shr_low}
 use Rattle.font_fixed.proofs.Wrapped.{wrapping_mul-wrap}
-
-halves : (f : ℕ) → 6 ≤ f → 2 ^ f ≡ 2 ^ (f - 1) + 2 ^ (f - 1)
-halves f many = let is : f ≡ suc (f - 1) = omega (arith, many) in ap (λ n. 2 ^ n) is ∙ two-pow-succ (f - 1)
 
 two_halves : (f : ℕ) → 6 ≤ f → 2 ^ f ≡ 2 ^ f / 2 + 2 ^ f / 2
 two_halves f many = omega (arith, halves f many)
@@ -53,25 +51,20 @@ half_is w m f is many few = grind (arith, nat_tests, halves, step_is)
 
 pub whole_is : (w : Width) (m f : ℕ) (x s r : ℤ) → m ≡ 2 ^ bits w → 6 ≤ f → f + 2 ≤ bits w
     → s ≡ wrap (bits w) (x +ℤ to_z w (1 * 2 ^ (f - 1) % m)) → IsFloor f s r → IsNearestWhole (bits w) f x r
-whole_is w m f x s r all many few is floor = floor_is_nearest_whole (bits w) f x s r
-    (rw (half_is w m f all many few) at is) floor (split_at (bits w) f many few) (bits_positive w)
+whole_is w m f x s r all many few is floor = grind (arith, floor_is_nearest_whole, half_is, split_at, bits_positive)
 
 -- the same by its bounds, if half a step more fits
 pub nearest_kept : (w : Width) (m f : ℕ) (x s r : ℤ) → m ≡ 2 ^ bits w → 6 ≤ f → f + 2 ≤ bits w
     → s ≡ wrap (bits w) (x +ℤ to_z w (1 * 2 ^ (f - 1) % m)) → IsFloor f s r → FitsBits (bits w) (x +ℤ pos (2 ^ f / 2))
     → (r ≤ℤ (x +ℤ pos (2 ^ f / 2))) × ((x +ℤ pos (2 ^ f / 2)) <ℤ (r +ℤ pos (2 ^ f)))
-nearest_kept w m f x s r all many few is floor fits =
-    let same = rw (half_is w m f all many few) at is
-    ∙ wrap-fits (bits w) (x +ℤ pos (2 ^ f / 2)) (bits_positive w) fits in
-    (rw same at floor.low, rw same at floor.high)
+nearest_kept w m f x s r all many few is floor fits = grind (arith, half_is, wrap-fits)
 
 -- ---- floors by shifts
 
 -- the rest above the greatest multiple
 shr_rest : (f : ℕ) (x : ℤ) → (shr_z x (2 ^ f) *ℤ pos (2 ^ f)) ≡ floor_of f x
 unfolding fract_of
-shr_rest f (pos n) = omega (arith, ints, div-add-mod' n (2 ^ f))
-shr_rest f (negsuc n) = omega (arith, ints, div-add-mod' n (2 ^ f), mod-lt n (pow_pos f))
+shr_rest f v1 = grind (arith, div-add-mod', mod-lt, pow_pos)
 
 shr_is_floor : (f : ℕ) (x : ℤ) → IsFloor f x (shr_z x (2 ^ f) *ℤ pos (2 ^ f))
 shr_is_floor f x = grind (arith, nat_tests, shr_low, pow_pos, shr_high, shr_rest)
@@ -100,21 +93,6 @@ shifted_is_floor w n m f x is all fits few =
       is,
       wrap-fits (bits w) (shr_z x d *ℤ pos d) (bits_positive w) kept,
     ) floor
-
--- what is above the floor
-pub rest_is_fract : (w f : ℕ) (x l r : ℤ) → f + 2 ≤ w → IsFloor f x l → WrapsTo w (x -ℤ l) r → IsFract f x r
-rest_is_fract w f x l r few floor rest =
-    let room : 2 ^ f ≤ 2 ^ (w - 1) = pow-le-pow_right {n = 2} (lit< tt) {i = f} {j = w - 1} (omega (arith, few)) in
-    let fits : FitsBits w (x -ℤ l) = record {
-      low = omega (arith, ints, floor.low);
-      high = omega (arith, ints, floor.high, room);
-    } in
-    record {
-      floor = l;
-      is_floor = floor;
-      rest = rest.1 fits;
-      is = rest.1 fits ∙ omega (arith, ints, floor.is);
-    }
 
 -- ---- the nearest integer
 
@@ -173,16 +151,7 @@ raw_value_fits w f u few fits =
     let high = times_monotone (u +ℤ pos 1) half (2 ^ f) (omega (arith, ints, fits.high)) in
     record { low = omega (arith, ints); high = omega (arith, ints, pow_pos f) }
 
-shr_back : (f : ℕ) (u : ℤ) → shr_z (u *ℤ pos (2 ^ f)) (2 ^ f) ≡ u
-shr_back f u =
-    let x : ℤ = u *ℤ pos (2 ^ f) in
-    let s = shr_z x (2 ^ f) in
-    let less = low_times f s u (shr_low x (2 ^ f) (pow_pos f)) in
-    let more = fits_low (2 ^ f) u x s (omega (arith, ints)) (shr_high x (2 ^ f) (pow_pos f)) in
-    omega (arith, ints, less, more)
-
 -- the integer, from its raw value
 pub shifted_back : (w : Width) (f : ℕ) (x r : ℤ) → SFits w r → r ≡ rounded f x
     → to_z w (of_z w (shr_z (to_z w (of_z w r)) (2 ^ f))) ≡ up x (2 ^ f)
-shifted_back w f x r fits is =
-    rw (to_z-of_z w r fits, to_z-of_z w (shr_z r (2 ^ f)) (shr_fits w r (2 ^ f) fits), is) (shr_back f (up x (2 ^ f)))
+shifted_back w f x r fits is = grind (arith, to_z-of_z, shr_fits, shr_back, pow_pos)

@@ -40,7 +40,7 @@ half_small f few = pow-le-pow_right {n = 2} (lit< tt) {i = f - 1} {j = 30} (omeg
 half_is : (f : ℕ) → f ≤ 30 → to_z w64 (half_code f) ≡ pos (2 ^ (f - 1))
 half_is f few = omega (arith, ints, half_small f few)
 
-halves : (f : ℕ) → 6 ≤ f → 2 ^ f ≡ 2 ^ (f - 1) + 2 ^ (f - 1)
+pub halves : (f : ℕ) → 6 ≤ f → 2 ^ f ≡ 2 ^ (f - 1) + 2 ^ (f - 1)
 halves f many = let is : f ≡ suc (f - 1) = omega (arith, many) in ap (λ n. 2 ^ n) is ∙ two-pow-succ (f - 1)
 
 -- e is 1 if n is negative, else 0

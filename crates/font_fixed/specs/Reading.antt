@@ -15,8 +15,10 @@ use Rattle.font_fixed.specs.Operations.{ReadsBits, IsTooFar, ParsesBits}
 pub record ParsesFixedPoint {T : Type 0} (w : Width) (f : ℕ) (bits_of : T → ℤ) (text : List ℕ)
     (result : Result T DecimalFault) : Type 0 where
   pub ok : (x : T) → (result ≡ Ok x) ↔ ReadsBits (bits w) f text (bits_of x)
+  -- for proofs: forms of `ok`, and the printed text of a value
   pub reads : IfOk result (λ x. ReadsBits (bits w) f text (bits_of x))
   pub gives : ParsesBits (bits w) f text (result_map_both bits_of (λ fault. fault) result)
   pub printed : (x : T) → FitsSigned w (bits_of x) → text ≡ shortest_text (bits_of x) f → result ≡ Ok x
+  -- the two errors
   pub out_of_range : (result ≡ Err OutOfRange) ↔ IsTooFar (bits w) f text
   pub syntax : (result ≡ Err Syntax) ↔ IsNoDecimal text

@@ -188,7 +188,9 @@ where
     #[inline(always)]
     pub const fn round(self) -> Self
         ensures nearest { IsNearestWhole 64 F (bits_of self.entry) (bits_of result) }
+        // For proofs.
         ensures whole { IsIntegral F (bits_of result) }
+        // For proofs.
         ensures exact { FitsBits 64 (bits_of self.entry +ℤ pos (2 ^ F / 2))
             → (bits_of result ≤ℤ (bits_of self.entry +ℤ pos (2 ^ F / 2)))
             × ((bits_of self.entry +ℤ pos (2 ^ F / 2)) <ℤ (bits_of result +ℤ pos (2 ^ F))) }
@@ -252,7 +254,10 @@ where
     pub fn from_decimal_bytes(text: &[u8]) -> Result<Self, DecimalFault>
         ensures { ParsesFixedPoint w64 F bits_of text.now result }
     {
-        Ok(Self(read_bits_64(text, F)?))
+        match read_bits_64(text, F) {
+            Ok(bits) => Ok(Self(bits)),
+            Err(fault) => Err(fault),
+        }
     }
 
     /// Returns the shortest decimal that parses back to the value, the text of `{}`, in a buffer.
@@ -300,6 +305,7 @@ where
         ensures variant { IsSome result
             ↔ (length (padded_text (text_of self.entry) pad.now) ≤ length out.old) }
         ensures cell { max (longest 64 F) pad.now.width ≤ length out.old → IsSome result }
+        // For proofs.
         ensures fills { length out.old ≤ pad.now.width
             → IfSome result (λ _. out.new ≡ padded_text (text_of self.entry) pad.now) }
         ensures untouched { IfNone result (out.new ≡ out.old) }

@@ -13,8 +13,10 @@ pub fn read_bits_16(text: &[u8], f: u32) -> Result<i16, DecimalFault>
     requires { (6 ≤ f) × (f ≤ 30) }
     ensures { ParsesFixedPoint w16 f (λ bits. bits) text.now result }
 {
-    let bits = read_decimal_bytes(text, f, i64::from(i16::MIN), i64::from(i16::MAX))?;
-    Ok(bits as i16)
+    match read_decimal_bytes(text, f, i16::MIN as i64, i16::MAX as i64) {
+        Ok(bits) => Ok(bits as i16),
+        Err(fault) => Err(fault),
+    }
 }
 
 /// Parses a decimal as the nearest 32-bit raw value with `f` fraction bits, rounding half away from
@@ -24,8 +26,10 @@ pub fn read_bits_32(text: &[u8], f: u32) -> Result<i32, DecimalFault>
     requires { (6 ≤ f) × (f ≤ 30) }
     ensures { ParsesFixedPoint w32 f (λ bits. bits) text.now result }
 {
-    let bits = read_decimal_bytes(text, f, i64::from(i32::MIN), i64::from(i32::MAX))?;
-    Ok(bits as i32)
+    match read_decimal_bytes(text, f, i32::MIN as i64, i32::MAX as i64) {
+        Ok(bits) => Ok(bits as i32),
+        Err(fault) => Err(fault),
+    }
 }
 
 /// Parses a decimal as the nearest 64-bit raw value with `f` fraction bits, rounding half away from

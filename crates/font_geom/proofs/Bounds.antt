@@ -1,7 +1,7 @@
 -- The distance of a point from its exact image, if all entries and coordinates fit in 32 bits; and lemmas for callers
 -- on matrices whose entries are small enough for that.
 use Rattle.std.proofs.Common.{◌≡◌, ◌∙◌, ap, ℕ, ◌+◌, ◌*◌, ◌^◌, ◌<◌, ◌≤◌, ℤ, pos, ◌+ℤ◌, ◌-ℤ◌, ◌*ℤ◌, ◌≤ℤ◌, unsigned_abs}
-use Rattle.std.proofs.Common.{lit<, arith, ◌/◌, ◌&&◌, IsTrue, nat_lt, mul-le-mul_right, mul-le-mul, le_trans}
+use Rattle.std.proofs.Common.{lit<, arith, ◌/◌, ◌&&◌, IsTrue, nat_lt, mul-le-mul_right, le_trans}
 use Rattle.std.proofs.lemmas.Int.{unsigned_abs-mul, ints}
 use Rattle.std.proofs.Math.IntN.{*ℤ_comm, +ℤ_comm, +ℤ_assoc}
 use Rattle.font_base.specs.Integers.{sum-times, product-times}
@@ -111,33 +111,20 @@ in_turn_close p q d b at =
 
 -- ---- results of the calls: wrapping changes nothing if the exact sums fit in 32 bits
 
-some_bits : 0 < 32
-some_bits = lit< tt
-
 pub composed_is_close : (a b : Matrix ℤ) (p moved : Point ℤ) → moved ≡ image_of wrapped_sum wrapped_product
     (matrix_product wrapped_sum wrapped_product a b) p
     → FitsComposed a b p → IsCloseComposed a b p moved
-composed_is_close a b p moved value fits =
-    grind (arith, nat_tests, wrap-add_left, wrap-add_right, wrap-fits, some_bits, composed_close)
+composed_is_close a b p moved value fits = grind (arith, wrap-add_left, wrap-add_right, wrap-fits, composed_close)
 
 pub in_turn_is_close : (a b : Matrix ℤ) (p moved : Point ℤ) → moved ≡ image_of wrapped_sum wrapped_product a
     (image_of wrapped_sum wrapped_product b p)
     → FitsInTurn a b p → IsCloseInTurn a b p moved
-in_turn_is_close a b p moved value fits =
-    grind (arith, nat_tests, wrap-add_left, wrap-add_right, wrap-fits, some_bits, in_turn_close)
+in_turn_is_close a b p moved value fits = grind (arith, wrap-add_left, wrap-add_right, wrap-fits, in_turn_close)
 
 -- ---- small entries
 product_bound : (u v : ℕ) (x y : ℤ) → unsigned_abs x ≤ u → unsigned_abs y ≤ v
     → unsigned_abs (rounded_product x y) ≤ u * v / 65536 + 1
-product_bound u v x y low high =
-    let nearest = near_is (x *ℤ y) 65536 (lit< tt) in
-    omega (
-      arith,
-      sums,
-      nearest.close,
-      unsigned_abs-mul x y,
-      mul-le-mul {n₁ = unsigned_abs x} {m₁ = unsigned_abs y} {n₂ = u} {m₂ = v} low high,
-    )
+product_bound u v x y low high = grind (arith, near_is (x *ℤ y) 65536 (lit< tt), unsigned_abs-mul x y)
 
 linear_bound : (u v : ℕ) (p x q y : ℤ) → unsigned_abs p ≤ u → unsigned_abs x ≤ v → unsigned_abs q ≤ u
     → unsigned_abs y ≤ v

@@ -1,5 +1,5 @@
-//! Impls of callers, rows of requirements.md, traits and texts. `tests/geometry.rs` has the
-//! order of operands.
+//! Impls of callers, rows of requirements.md, traits and texts. `tests/definitions.rs`
+//! has the order of operands.
 
 mod boxes;
 mod ring;

@@ -5,6 +5,7 @@ use Rattle.std.proofs.lemmas.Grind.{common_steps}
 use Rattle.std.proofs.lemmas.Bool.{agree_below_at, or_cases, eqb-true}
 use Rattle.std.specs.Cmp.Lexicographic.{pointwise, bytes_decides}
 use Rattle.font_ids.specs.NameId.{predefined_numbers}
+use Rattle.std.proofs.lemmas.Bool.Decides.{nat_tests}
 
 -- the predefined numbers that are not below n
 abbrev pub left_from : ℕ → List ℕ
@@ -34,11 +35,7 @@ left_from-low n low =
     eqb-true _ _ (agree_below_at (λ m. length (left_from m) == 25 - m) (λ _. true) 16 n refl (omega arith))
 
 pub left_from-high : (n : ℕ) → 15 < n → n ≤ 25 → length (left_from n) ≡ 26 - n
-left_from-high n high small =
-    let here : 16 + (n - 16) ≡ n = omega arith in
-    let count : length (left_from (16 + (n - 16))) ≡ 10 - (n - 16) = eqb-true _ _
-    (agree_below_at (λ m. length (left_from (16 + m)) == 10 - m) (λ _. true) 10 (n - 16) refl (omega arith)) in
-    sym (ap (λ m. length (left_from m)) here) ∙ count ∙ omega arith
+left_from-high n high small = grind (arith, nat_tests)
 
 pub left_from-none : (n : ℕ) → 25 < n → length (left_from n) ≡ 0
 left_from-none n large = grind (arith, common_steps)

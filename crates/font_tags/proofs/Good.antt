@@ -61,8 +61,7 @@ run_fault bytes n m some visible end from below spaces other =
 -- ---- spaces that fill
 
 pub spaces_not_good : (bytes : List ℕ) → bytes ≡ four_spaces → IsGood bytes → ⊥
-spaces_not_good bytes same good = let to = to_good bytes good in
-    omega (arith, to, ap (λ list. get_or list 0 0) same)
+spaces_not_good bytes same good = grind (arith, to_good bytes good)
 
 -- spaces fill good bytes
 pub filled_good : (bytes : List ℕ) (k : ℕ) → IsGood bytes → IsGood (bytes ++ replicate k 0x20)

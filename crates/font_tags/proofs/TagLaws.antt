@@ -1,21 +1,18 @@
 -- Laws of tags: `validate` and `new_checked` agree, and a printed text is that of one tag alone.
 use Rattle.std.proofs.Common.{◌≡◌, ◌≢◌, sym, ap, refl, ℕ, suc, ◌/◌, ◌%◌, ◌<◌, ◌≤◌, ◌⊎◌, inl, inr, true, IsTrue, List}
-use Rattle.std.proofs.Common.{[], ◌∷◌, ◌++◌, length, get_or, Result, Ok, Err, IsOk, ◌↔◌, nat_lt, ◌==◌, IsUtf8, arith}
-use Rattle.std.proofs.Common.{rules}
-use Rattle.std.proofs.lemmas.Bool.{and_parts}
+use Rattle.std.proofs.Common.{[], ◌∷◌, ◌++◌, length, get_or, Result, IsOk, ◌↔◌, IsUtf8, arith, rules}
 use Rattle.std.proofs.lemmas.Bool.Decides.{nat_tests}
 use Rattle.std.proofs.lemmas.List.{get_or_past}
-use Rattle.std.proofs.lemmas.List.Sums.{AllPass-from_list_all}
 use Rattle.std.proofs.lemmas.Str.{IsUtf8-from_ascii}
 use Rattle.std.specs.List.{AllByRecursion}
 use Rattle.std.specs.Fmt.{digit_glyph}
+use Rattle.std.proofs.lemmas.Grind.{common_steps}
 use Rattle.font_base.specs.Bytes.{are_bytes}
 use Rattle.font_base.specs.Bytes.Laws.{are_bytes-length}
 use Rattle.font_tags.specs.declared.tag.Tag.{Tag}
 use Rattle.font_tags.specs.declared.tag.InvalidTag.{InvalidTag}
-use Rattle.font_tags.specs.declared.tag.InvalidTag.TheVariants.{InvalidLength, InvalidByte, ByteAfterSpace}
 use Rattle.font_tags.specs.Tag.{tag_bytes, tag_of, IsGood, IsChecked, IsValidated, byte_text, tag_text}
-use Rattle.font_tags.proofs.Good.{tag_judgements, spaces_not_good, filled_good, to_good}
+use Rattle.font_tags.proofs.Good.{tag_judgements, to_good}
 use Rattle.font_tags.proofs.TagText.{IsHidden, byte_text-hidden}
 
 -- ---- validation
@@ -23,10 +20,7 @@ use Rattle.font_tags.proofs.TagText.{IsHidden, byte_text-hidden}
 -- `validate` accepts exactly good bytes
 pub validated_good : (bytes : List ℕ) (validated : Result (Unit {0}) InvalidTag) → IsValidated bytes validated
     → IsOk validated ↔ IsGood bytes
-validated_good bytes (Ok u) judged = search (rules, tag_judgements)
-validated_good bytes (Err (InvalidLength n)) judged = search (rules, spaces_not_good bytes judged.0)
-validated_good bytes (Err (InvalidByte index byte)) judged = search (rules, tag_judgements, judged)
-validated_good bytes (Err (ByteAfterSpace index)) judged = search (rules, tag_judgements, judged)
+validated_good bytes result judged = grind (arith, common_steps, tag_judgements)
 
 -- and so does `new_checked`, of as many bytes as a tag may have
 pub checked_good : (bytes : List ℕ) (checked : Result Tag InvalidTag) → 0 < length bytes → length bytes ≤ 4
@@ -37,16 +31,7 @@ checked_good bytes checked some few judged = grind (arith, nat_tests, tag_judgem
 pub validates_where_checked : (tag : Tag) (checked : Result Tag InvalidTag) (validated : Result (Unit {0}) InvalidTag)
     → IsTrue (are_bytes 4 (tag_bytes tag))
     → IsChecked (tag_bytes tag) checked → IsValidated (tag_bytes tag) validated → IsOk validated ↔ IsOk checked
-validates_where_checked tag checked validated are first second =
-    let many = are_bytes-length 4 (tag_bytes tag) are in
-    let left = validated_good (tag_bytes tag) validated second in
-    let right = checked_good (tag_bytes tag) checked (omega (arith, many)) (omega (arith, many)) first in
-    search (left.0, left.1, right.0, right.1)
-
--- a tag created from accepted bytes validates
-pub checked_validates : (bytes : List ℕ) (tag : Tag) (validated : Result (Unit {0}) InvalidTag)
-    → IsChecked bytes (Ok tag) → IsValidated (tag_bytes tag) validated → IsOk validated
-checked_validates bytes tag validated checked judged = grind (arith, nat_tests, validated_good, filled_good)
+validates_where_checked tag checked validated are first second = grind (arith, validated_good, checked_good)
 
 -- ---- good bytes are text: each is below 0x80
 
@@ -127,9 +112,7 @@ same_bytes (x ∷ xs) (y ∷ ys) few many bytes_x bytes_y same =
     ]
 
 each_byte : (n : ℕ) (bytes : List ℕ) → IsTrue (are_bytes n bytes) → (i : ℕ) → get_or bytes i 0 < 256
-each_byte n bytes are i =
-    let all = AllPass-from_list_all (λ byte. nat_lt byte 256) bytes (and_parts (length bytes == n) _ are).1 in
-    grind (arith, nat_tests, all i 0, get_or_past bytes i 0)
+each_byte n bytes are i = grind (arith, common_steps)
 
 -- two tags with the same printed text are equal
 pub printed_once : (a b : Tag) → IsTrue (are_bytes 4 (tag_bytes a)) → IsTrue (are_bytes 4 (tag_bytes b))

@@ -20,5 +20,4 @@ pub hidden_written : {W : Type 0} (took : W → List ℕ → W → Type 0) (f : 
     → s ≡ format_spec 32 0 4 2 18446744073709551615
     → DisplaysOnOk took f r (Some (123 ∷ 48 ∷ 120 ∷ []) ++? styled_digits_output d s ++? Some (125 ∷ [])) g
     → WritesOnOk took f r (byte_text byte) g
-hidden_written took f r g d s byte small hidden output spec written =
-    rw (byte_text-hidden byte hidden) (rw (spec, output, hex_byte true byte small) at written)
+hidden_written took f r g d s byte small hidden output spec written = grind (arith, byte_text-hidden, hex_byte)

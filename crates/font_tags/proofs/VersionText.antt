@@ -1,14 +1,14 @@
 -- The printed bits of a version.
-use Rattle.std.proofs.Common.{◌≡◌, ap, ℕ, ◌-◌, false, Some, List, [], ◌++◌, length, replicate, arith, append-nil}
+use Rattle.std.proofs.Common.{◌≡◌, ℕ, ◌-◌, false, Some, List, [], ◌++◌, arith, append-nil}
 use Rattle.std.specs.Fmt.{digits, digits_output, styled_digits_output, format_spec, padded_integral, char_count}
 use Rattle.std.specs.Fmt.{WritesOnOk, DisplaysOnOk, ◌++?◌}
 use Rattle.font_tags.specs.Version.{hex_text}
 
--- a numeral in a width of eight, with zeros in front
-padded_integral-eight : (shown : List ℕ) → padded_integral (format_spec 32 0 4 8 18446744073709551615) false [] shown
-    ≡ replicate (8 - length shown) 48 ++ shown
+-- what `{:08x}` writes, as a version prints itself
+pub hex_padded : (n : ℕ)
+    → padded_integral (format_spec 32 0 4 8 18446744073709551615) false [] (digits 16 false n) ≡ hex_text n
 unfolding padded_integral char_count
-padded_integral-eight shown = rw append-nil (ap (λ zeros. replicate zeros 48 ++ shown) (omega arith))
+hex_padded n = grind (arith, append-nil)
 
 -- `{:08x}`
 pub bits_written : {W : Type 0} (took : W → List ℕ → W → Type 0) (f : _) (r : _) (g : _) (d : _) (s : _) (bits : ℕ)
@@ -16,5 +16,4 @@ pub bits_written : {W : Type 0} (took : W → List ℕ → W → Type 0) (f : _)
     → digits_output d ≡ Some (digits 16 false bits) → s ≡ format_spec 32 0 4 8 18446744073709551615
     → DisplaysOnOk took f r (Some front ++? styled_digits_output d s ++? Some back) g
     → WritesOnOk took f r (front ++ (hex_text bits ++ back)) g
-bits_written took f r g d s bits front back output spec written =
-    rw (spec, output, padded_integral-eight (digits 16 false bits)) at written
+bits_written took f r g d s bits front back output spec written = grind (arith, hex_padded)

@@ -12,15 +12,9 @@ use Rattle.font_base.proofs.Widths.{signed_fits}
 
 element_at : (size n i : ℕ) (bytes d : List ℕ) → i < n → get_or (elements size n bytes) i d ≡ element size bytes i
 element_at size zero i bytes d within = absurd (omega arith)
-element_at size (suc n) zero bytes d within =
-    let none : 0 ≡ 0 * size = omega arith in ap (λ k. take size (drop k bytes)) none
+element_at size (suc n) zero bytes d within = grind arith
 element_at size (suc n) (suc i) bytes d within =
-    let next : i * size + size ≡ suc i * size = omega (arith, times i size) in
-    element_at size n i (drop size bytes) d (omega arith)
-    ∙ ap (take size) (drop-drop (i * size) size bytes ∙ ap (λ k. drop k bytes) (omega (arith, next)))
-  where
-    times : (k m : ℕ) → suc k * m ≡ k * m + m
-    times k m = grind arith
+    grind (arith, element_at size n i (drop size bytes) d (omega arith), drop-drop)
 
 pub numbers_more : (size n i : ℕ) (bytes : List ℕ) → i < n
     → sum_by numeral (take (i + 1) (elements size n bytes))

@@ -1,14 +1,10 @@
 -- Sums over an index: the empty sum, and one term more; and hexadecimal text.
-use Rattle.std.proofs.Common.{◌≡◌, ◌∙◌, sym, ap, refl, lit<, ℕ, ◌+◌, ◌-◌, ℤ, pos, ◌+ℤ◌, add-one}
-use Rattle.std.proofs.Common.{[], ◌++◌, length, false, replicate}
-use Rattle.std.proofs.lemmas.List.{append-nil}
+use Rattle.std.proofs.Common.{◌≡◌, refl, ℕ, ◌+◌, ◌-◌, ℤ, pos, ◌+ℤ◌, add-one}
 use Rattle.std.proofs.Math.IntN.{+ℤ_assoc}
-use Rattle.std.specs.Fmt.{char_count, padded_integral, format_spec, digits}
-use native.Mathlib.Numerals.{unary_clauses}
 use Rattle.font_base.specs.Wrap.{wrap}
 use Rattle.font_base.specs.Wrap.Laws.{wrap-add_left}
 use Rattle.font_types.specs.Delta.{total_below}
-use Rattle.font_types.specs.Version.{hex_text}
+use Rattle.std.proofs.Common.{arith}
 
 pub none_below : (number_at : ℕ → ℤ) → total_below number_at 0 ≡ pos 0
 unfolding total_below
@@ -23,34 +19,20 @@ one_more_below number_at n = rw (add-one n) refl
 pub running_below_32 : (base : ℤ) (number_at : ℕ → ℤ) (n : ℕ)
     → wrap 32 (base +ℤ total_below number_at (n + 1))
     ≡ wrap 32 (wrap 32 (base +ℤ total_below number_at n) +ℤ number_at n)
-running_below_32 base number_at n = ap (λ t. wrap 32 (base +ℤ t)) (one_more_below number_at n)
-    ∙ ap (wrap 32) (sym (+ℤ_assoc base (total_below number_at n) (number_at n)))
-    ∙ sym (wrap-add_left 32 (base +ℤ total_below number_at n) (number_at n) (lit< tt))
+running_below_32 base number_at n = grind (arith, one_more_below, +ℤ_assoc, wrap-add_left)
 
 pub running_below_64 : (base : ℤ) (number_at : ℕ → ℤ) (n : ℕ)
     → wrap 64 (base +ℤ total_below number_at (n + 1))
     ≡ wrap 64 (wrap 64 (base +ℤ total_below number_at n) +ℤ number_at n)
-running_below_64 base number_at n = ap (λ t. wrap 64 (base +ℤ t)) (one_more_below number_at n)
-    ∙ ap (wrap 64) (sym (+ℤ_assoc base (total_below number_at n) (number_at n)))
-    ∙ sym (wrap-add_left 64 (base +ℤ total_below number_at n) (number_at n) (lit< tt))
+running_below_64 base number_at n = grind (arith, one_more_below, +ℤ_assoc, wrap-add_left)
 
 -- the same from 0
 pub running_32 : (number_at : ℕ → ℤ) (n : ℕ)
     → wrap 32 (total_below number_at (n + 1)) ≡ wrap 32 (wrap 32 (total_below number_at n) +ℤ number_at n)
-running_32 number_at n = ap (wrap 32) (one_more_below number_at n)
-    ∙ sym (wrap-add_left 32 (total_below number_at n) (number_at n) (lit< tt))
+running_32 number_at n = grind (arith, one_more_below, wrap-add_left)
 
 pub running_64 : (number_at : ℕ → ℤ) (n : ℕ)
     → wrap 64 (total_below number_at (n + 1)) ≡ wrap 64 (wrap 64 (total_below number_at n) +ℤ number_at n)
-running_64 number_at n = ap (wrap 64) (one_more_below number_at n)
-    ∙ sym (wrap-add_left 64 (total_below number_at n) (number_at n) (lit< tt))
+running_64 number_at n = grind (arith, one_more_below, wrap-add_left)
 
 pub ruleset below_calls = (none_below, one_more_below, running_below_32, running_below_64, running_32, running_64)
-
--- what `{:08x}` writes, as a version prints itself
-pub hex_padded : (n : ℕ)
-    → padded_integral (format_spec 32 0 4 8 18446744073709551615) false [] (digits 16 false n) ≡ hex_text n
-unfolding padded_integral char_count
-hex_padded n =
-    let zeros = replicate (8 - length (digits 16 false n)) 48 in
-    simp unary_clauses (ap (λ tail. zeros ++ tail) (append-nil (digits 16 false n)))

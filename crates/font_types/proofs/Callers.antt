@@ -43,7 +43,7 @@ pub use Rattle.font_geom.proofs.RingCalls
 pub use Rattle.font_geom.proofs.RingMatrices
 pub use Rattle.font_types.proofs.Searches.{found_by_number}
 pub use Rattle.font_types.proofs.SumCalls.{running_total, running_total_from}
-pub use Rattle.font_types.proofs.Below.{hex_padded}
+pub use Rattle.font_tags.proofs.VersionText.{hex_padded}
 pub use Rattle.font_types.proofs.Parts.{quotient_of_widened}
 pub use Rattle.font_types.proofs.Writes.{written_on}
 pub use Rattle.font_types.specs.Json.Laws.{fixed_form, signed_form, unsigned_form, tag_form, version_form_of}

@@ -1,4 +1,3 @@
-pub mod FourBytes
 pub mod SumCalls
 pub mod StoredBytes
 pub mod Searches

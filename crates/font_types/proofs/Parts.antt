@@ -5,36 +5,24 @@ use Rattle.std.proofs.Common.{◌*◌, ◌<◌, neg_ℤ, ◌+ℤ◌, ◌-ℤ◌,
 use Rattle.std.proofs.lemmas.Int.{ints}
 use Rattle.std.proofs.Math.IntN.{*ℤ_comm}
 use Rattle.std.proofs.Math.Nat.{mul_assoc}
-use Rattle.font_base.specs.Integers.{product-times, sum-times}
+use Rattle.font_base.specs.Integers.{product-times}
 use Rattle.font_base.specs.Wrap.{wrap, FitsBits}
 use Rattle.font_base.specs.Wrap.Laws.{wrap-add_left, wrap-add_right, wrap-fits}
 use Rattle.font_decimal.specs.Near.{Near, near}
 use Rattle.font_decimal.proofs.Integers.{times_monotone}
 use Rattle.font_decimal.proofs.Near.{near_is, near_gives, near_monotone}
 use Rattle.font_fixed.proofs.Calls.{fits_32}
-use Rattle.font_fixed.specs.Operations.{IsMulDiv, IsWrappedNear}
+use Rattle.font_fixed.specs.Operations.{IsMulDiv}
 use Rattle.font_fixed.proofs.NumberLaws.{near_exact}
+use Rattle.std.proofs.lemmas.Bool.Decides.{nat_tests}
+use Rattle.std.proofs.lemmas.Grind.{common_steps}
 
 -- a product by a number from 0 to m lies between 0 and m times the other number
-parts_of : (x : ℤ) (k d m : ℕ) → k + d ≡ m → ((x *ℤ pos k) +ℤ (x *ℤ pos d)) ≡ (x *ℤ pos m)
-parts_of x k d m is = rw (*ℤ_comm x (pos k), *ℤ_comm x (pos d), *ℤ_comm x (pos m), ← sum-times (pos k) (pos d) x)
-    (ap (λ n. pos n *ℤ x) is)
-
 rises : (x y : ℤ) (m : ℕ) → pos 0 ≤ℤ x → pos 0 ≤ℤ y → y ≤ℤ pos m → (pos 0 ≤ℤ (x *ℤ y)) × ((x *ℤ y) ≤ℤ (x *ℤ pos m))
-rises x (pos k) m from_x from to =
-    let parts = parts_of x k (m - k) m (omega (arith, ints, to)) in
-    let low = times_monotone (pos 0) x k from_x in
-    let rest = times_monotone (pos 0) x (m - k) from_x in
-    (omega (arith, ints, low), omega (arith, ints, parts, rest))
-rises x (negsuc k) m from_x from to = absurd (omega (arith, ints, from))
+rises x y m from_x from to = grind (arith, common_steps)
 
 falls : (x y : ℤ) (m : ℕ) → x ≤ℤ pos 0 → pos 0 ≤ℤ y → y ≤ℤ pos m → ((x *ℤ y) ≤ℤ pos 0) × ((x *ℤ pos m) ≤ℤ (x *ℤ y))
-falls x (pos k) m to_x from to =
-    let parts = parts_of x k (m - k) m (omega (arith, ints, to)) in
-    let high = times_monotone x (pos 0) k to_x in
-    let rest = times_monotone x (pos 0) (m - k) to_x in
-    (omega (arith, ints, high), omega (arith, ints, parts, rest))
-falls x (negsuc k) m to_x from to = absurd (omega (arith, ints, from))
+falls x y m to_x from to = grind (arith, common_steps)
 
 -- rules: stated of the term of `*`, because a rule's conclusion has to show all its variables
 module _ (x y : ℤ) (fits : SFits w32 x) (from : pos 0 ≤ℤ y) (to : y ≤ℤ pos 65536) where
@@ -42,16 +30,14 @@ module _ (x y : ℤ) (fits : SFits w32 x) (from : pos 0 ≤ℤ y) (to : y ≤ℤ
   nearest = near_is (x *ℤ y) 65536 (lit< tt)
 
   not_negative : pos 0 ≤ℤ x → pos 0 ≤ℤ near (x *ℤ y) 65536
-  not_negative from_x = near_monotone (lit< tt) (lit< tt) (near_exact (pos 0) 65536 (lit< tt)) nearest
-      (omega (arith, ints, (rises x y 65536 from_x from to).0))
+  not_negative from_x = grind (arith, near_monotone, near_exact, nearest, rises)
 
   at_most : pos 0 ≤ℤ x → near (x *ℤ y) 65536 ≤ℤ x
   at_most from_x = near_monotone (lit< tt) (lit< tt) nearest (near_exact x 65536 (lit< tt))
       (omega (arith, ints, (rises x y 65536 from_x from to).1))
 
   not_positive : x ≤ℤ pos 0 → near (x *ℤ y) 65536 ≤ℤ pos 0
-  not_positive to_x = near_monotone (lit< tt) (lit< tt) nearest (near_exact (pos 0) 65536 (lit< tt))
-      (omega (arith, ints, (falls x y 65536 to_x from to).0))
+  not_positive to_x = grind (arith, near_monotone, nearest, near_exact, falls)
 
   at_least : x ≤ℤ pos 0 → x ≤ℤ near (x *ℤ y) 65536
   at_least to_x = near_monotone (lit< tt) (lit< tt) (near_exact x 65536 (lit< tt)) nearest
@@ -156,16 +142,10 @@ number_by_units a y = ap (λ n. near n 65536) (*ℤ_comm y (a *ℤ pos 65536)) �
 
 units_by_part_within : (a y : ℤ) → SFits w16 a → pos 0 ≤ℤ y → y ≤ℤ pos 65536
     → (neg_ℤ (pos 2147483648) ≤ℤ (a *ℤ y)) × ((a *ℤ y) ≤ℤ pos 2147418112)
-units_by_part_within (pos n) y fits from to =
-    let up = rises (pos n) y 65536 (omega (arith, ints)) from to in
-    (omega (arith, ints, up.0), omega (arith, ints, fits, up.1))
-units_by_part_within (negsuc n) y fits from to =
-    let down = falls (negsuc n) y 65536 (omega (arith, ints)) from to in
-    (omega (arith, ints, fits, down.1), omega (arith, ints, down.0))
+units_by_part_within a y fits from to = grind (arith, common_steps)
 
 units_by_part_fit : (a y : ℤ) → SFits w16 a → pos 0 ≤ℤ y → y ≤ℤ pos 65536 → SFits w32 (a *ℤ y)
-units_by_part_fit a y fits from to =
-    let within = units_by_part_within a y fits from to in omega (arith, ints, within.0, within.1)
+units_by_part_fit a y fits from to = grind (arith, ints)
 
 module _ (a y : ℤ) (fits : SFits w16 a) (from : pos 0 ≤ℤ y) (to : y ≤ℤ pos 65536) where
   pub units_by_part_is_at_most : (m : ℤ) → pos 2147418112 ≤ℤ m → (a *ℤ y) ≤ℤ m
@@ -193,12 +173,10 @@ pub ruleset unit_calls = (
 
 module _ (a b r : ℤ) (fits_a : SFits w32 a) (fits_b : SFits w32 b) where
   sum_up : (pos 0 ≤ℤ r) × (r ≤ℤ (b -ℤ a)) → (a ≤ℤ wrap 32 (a +ℤ r)) × (wrap 32 (a +ℤ r) ≤ℤ b)
-  sum_up share = let sum = fits_32 (a +ℤ r) (omega (arith, ints, share, fits_a, fits_b)) in
-      (omega (arith, ints, share, sum), omega (arith, ints, share, sum))
+  sum_up share = grind (arith, fits_32)
 
   sum_down : (r ≤ℤ pos 0) × ((b -ℤ a) ≤ℤ r) → (b ≤ℤ wrap 32 (a +ℤ r)) × (wrap 32 (a +ℤ r) ≤ℤ a)
-  sum_down share = let sum = fits_32 (a +ℤ r) (omega (arith, ints, share, fits_a, fits_b)) in
-      (omega (arith, ints, share, sum), omega (arith, ints, share, sum))
+  sum_down share = grind (arith, nat_tests, fits_32)
 
 module _ (a b t : ℤ) (fits_a : SFits w32 a) (fits_b : SFits w32 b) (fits : FitsBits 32 (b -ℤ a))
     (from : pos 0 ≤ℤ t) (to : t ≤ℤ pos 65536) where
@@ -212,16 +190,10 @@ module _ (a b t : ℤ) (fits_a : SFits w32 a) (fits_b : SFits w32 b) (fits : Fit
   difference_fits = omega (arith, ints, fits.low, fits.high)
 
   upward : a ≤ℤ b → (pos 0 ≤ℤ rise) × (rise ≤ℤ (b -ℤ a))
-  upward order = rw exact (
-    product_by_part_is_not_negative (b -ℤ a) t difference_fits from to (omega (arith, ints, order)),
-    product_by_part_is_at_most (b -ℤ a) t difference_fits from to (omega (arith, ints, order)),
-  )
+  upward order = grind (arith, exact, product_by_part_is_not_negative, difference_fits, product_by_part_is_at_most)
 
   downward : b ≤ℤ a → (rise ≤ℤ pos 0) × ((b -ℤ a) ≤ℤ rise)
-  downward order = rw exact (
-    product_by_part_is_not_positive (b -ℤ a) t difference_fits from to (omega (arith, ints, order)),
-    product_by_part_is_at_least (b -ℤ a) t difference_fits from to (omega (arith, ints, order)),
-  )
+  downward order = grind (arith, exact, product_by_part_is_not_positive, difference_fits, product_by_part_is_at_least)
 
   pub between_from_low : a ≤ℤ b → a ≤ℤ wrap 32 (a +ℤ wrap 32 (near (wrap 32 (b -ℤ a) *ℤ t) 65536))
   between_from_low order = (sum_up a b rise fits_a fits_b (upward order)).0
@@ -276,8 +248,7 @@ pub near_by_widened : (x t : ℤ) → near (x *ℤ (t *ℤ pos 4)) 65536 ≡ nea
 near_by_widened x t = ap (λ n. near n 65536) (sym (product-times x t (pos 4))) ∙ near_fourth (x *ℤ t)
 
 pub near_of_widened : (x t : ℤ) → near ((t *ℤ pos 4) *ℤ x) 65536 ≡ near (t *ℤ x) 16384
-near_of_widened x t = ap (λ n. near n 65536) (*ℤ_comm (t *ℤ pos 4) x) ∙ near_by_widened x t
-    ∙ ap (λ n. near n 16384) (*ℤ_comm x t)
+near_of_widened x t = grind (arith, *ℤ_comm, near_by_widened)
 
 -- ---- a quotient of two differences that were widened from 2.14: it is rounded as that of the differences themselves
 
@@ -296,21 +267,7 @@ pub quotient_of_widened : (a b r : ℤ) → pos 0 <ℤ b → IsMulDiv 32 (a *ℤ
 quotient_of_widened a (pos zero) r some given = absurd (omega (arith, ints, some))
 quotient_of_widened a (negsuc d) r some given = absurd (omega (arith, ints, some))
 quotient_of_widened a (pos (suc d)) r some given =
-    let size : suc d * 4 ≡ suc (d * 4 + 3) = omega arith in
-    let wide : IsWrappedNear 32 ((a *ℤ pos 4) *ℤ pos 65536) (suc (d * 4 + 3)) r =
-    rw size at given in
-    let moved : ((a *ℤ pos 4) *ℤ pos 65536) ≡ ((a *ℤ pos 65536) *ℤ pos 4) = product-times a (pos 4) (pos 65536)
-    ∙ sym (product-times a (pos 65536) (pos 4)) in
-    let same : near ((a *ℤ pos 4) *ℤ pos 65536) (suc (d * 4 + 3)) ≡ near (a *ℤ pos 65536) (suc d) =
-    ap (λ n. near n (suc (d * 4 + 3))) moved ∙ ap (near ((a *ℤ pos 65536) *ℤ pos 4)) (sym size)
-    ∙ near_quarters (a *ℤ pos 65536) (suc d) (omega arith) in
-    let is = wide.is ∙ ap (wrap 32) same in
-    record {
-      rounded = near (a *ℤ pos 65536) (suc d);
-      nearest = near_is (a *ℤ pos 65536) (suc d) (omega arith);
-      wrapped = is;
-      is = is;
-    }
+    grind (arith, near_quarters (a *ℤ pos 65536) (suc d) (omega arith), near_is (a *ℤ pos 65536) (suc d) (omega arith))
 
 -- ---- a wrapped number as a part of a sum that wraps
 

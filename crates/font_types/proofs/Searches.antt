@@ -1,12 +1,11 @@
 -- The results of searches, in the form of their callers' goals: in an array of glyph ids, and among records sorted by
 -- a number.
-use Rattle.std.proofs.Common.{◌≡◌, ◌≢◌, ◌<◌, ◌≤◌, ◌^◌, ℕ, pos, nat_lt, refl, subst, List, get_or}
-use Rattle.std.proofs.Common.{Result, Ok, Err, IfOk, IfErr, IfSome, IfNone, MatchResult}
-use Rattle.std.specs.Cmp.{ranks}
+use Rattle.std.proofs.Common.{◌≡◌, ◌≢◌, ◌<◌, ◌≤◌, ◌^◌, ℕ, pos, nat_lt, refl, List}
+use Rattle.std.proofs.Common.{Result, IfOk, IfErr, IfSome, IfNone, MatchResult}
 use Rattle.std.specs.Result.{result_ok}
 use Rattle.std.specs.List.{All, HoldsAt}
 use Rattle.std.specs.List.Sorted.{IsSortedByKey, IsBinarySearchResult}
-use Rattle.std.specs.Ordering.{nat_cmp, MatchOrdering}
+use Rattle.std.specs.Ordering.{nat_cmp}
 use Rattle.std.specs.declared.cmp.Ordering.TheVariants.{Equal}
 use Rattle.font_base.specs.Bytes.{numeral, bytes_of}
 use Rattle.font_base.specs.Elements.{element, StoresOne, Rises, Splits}
@@ -14,6 +13,7 @@ use Rattle.font_base.proofs.ScalarCalls.{absent, array_calls, number_found, nume
 use Rattle.font_base.proofs.ScalarCalls.{IsSearchedWord, word_numeral, word_absent}
 use Rattle.font_ids.specs.declared.glyph_id.GlyphId16.{GlyphId16}
 use Rattle.font_ids.specs.GlyphId.{glyph16_number}
+use Rattle.std.proofs.Common.{arith}
 
 module _ (bytes : List ℕ) (n : ℕ) (key : GlyphId16) (result : Result ℕ ℕ) where
   abbrev IsSearchedGlyph : Type 0
@@ -43,12 +43,10 @@ module _ (bytes : List ℕ) (n : ℕ) (key : GlyphId16) (result : Result ℕ ℕ
 
 -- the same for the index alone, as `ok` returns it
 found_some : (P : ℕ → Type 0) (result : Result ℕ ℕ) → IfOk result P → IfSome (result_ok result) P
-found_some P (Ok i) found = found
-found_some P (Err i) found = tt
+found_some v0 v1 found = grind arith
 
 absent_none : (P : Type 0) (result : Result ℕ ℕ) → IfErr result (λ _. P) → IfNone (result_ok result) P
-absent_none P (Ok i) absent = tt
-absent_none P (Err i) absent = absent
+absent_none v0 v1 absent = grind (arith, absent)
 
 module _ (bytes : List ℕ) (n : ℕ) (key : GlyphId16) (result : Result ℕ ℕ) where
   pub glyph_numeral_some : IsSearchedGlyph bytes n key result
@@ -87,7 +85,4 @@ pub ruleset search_calls = (
 pub found_by_number : {X : Type 0} (number_of : X → ℕ) (xs : List X) (n : ℕ) (result : Result ℕ ℕ)
     → IsSortedByKey number_of nat_cmp xs → IsBinarySearchResult (λ x. nat_cmp (number_of x) n) xs result
     → MatchResult result (HoldsAt (λ x. number_of x ≡ n) xs) (λ _. All (λ x. number_of x ≢ n) xs)
-found_by_number number_of xs n (Ok place) sorted searched = λ d.
-    let x = number_of (get_or xs place d) in
-    subst (λ o. MatchOrdering o (x < n) (x ≡ n) (n < x)) (searched d) (ranks x n)
-found_by_number number_of xs n (Err place) sorted searched = absent number_of xs n (Err place) sorted searched
+found_by_number number_of xs n v3 sorted searched = grind (arith, absent)

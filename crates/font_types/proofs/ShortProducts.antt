@@ -8,15 +8,7 @@ short : (a : ℤ) → SFits w16 a → unsigned_abs a ≤ 2 ^ 15
 short a fits = omega (arith, ints, fits)
 
 size : (a b : ℤ) → SFits w16 a → SFits w16 b → unsigned_abs (a *ℤ b) ≤ 2 ^ 30
-size a b fits_a fits_b =
-    let low : unsigned_abs a ≤ 2 ^ 15 = short a fits_a in
-    let high : unsigned_abs b ≤ 2 ^ 15 = short b fits_b in
-    omega (
-      arith,
-      unsigned_abs-mul a b,
-      mul-le-mul {n₁ = unsigned_abs a} {m₁ = unsigned_abs b} {n₂ = 2 ^ 15}
-          {m₂ = 2 ^ 15} low high,
-    )
+size a b fits_a fits_b = grind (arith, short, unsigned_abs-mul, mul-le-mul)
 
 module _ (a b : ℤ) (fits_a : SFits w16 a) (fits_b : SFits w16 b) where
   pub short_product_low : neg_ℤ (pos (2 ^ 30)) ≤ℤ (a *ℤ b)

@@ -40,8 +40,7 @@ shortest_read_2 f bytes = let fits = FitsBits-signed_numeral 2 bytes (lit< tt) i
 
 pub uint24_of_read : (bytes : List ℕ) → IsTrue (are_bytes (length bytes) bytes) → length bytes ≤ 3
     → uint24_number (uint24_of (numeral bytes)) ≡ numeral bytes
-uint24_of_read bytes are short = uint24_number-of (numeral bytes)
-    (omega (arith, numeral_below (length bytes) bytes are, pow-le-pow_right {n = 256} (lit< tt) short))
+uint24_of_read bytes are short = grind (arith, uint24_number-of, numeral_below, pow-le-pow_right)
 
 pub int24_of_read : (bytes : List ℕ) → int24_number (int24_of (signed_numeral 3 bytes)) ≡ signed_numeral 3 bytes
 int24_of_read bytes = int24_number-of (signed_numeral 3 bytes) (FitsBits-signed_numeral 3 bytes (lit< tt))

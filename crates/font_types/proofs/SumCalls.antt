@@ -1,9 +1,9 @@
 -- Sums that wrap at each step: each is the exact sum, wrapped.
 use Rattle.std.proofs.Common.{◌≡◌, ◌∙◌, sym, ap, ℕ, ◌+◌, ◌<◌, List, length, take, get_or, ℤ, pos, ◌+ℤ◌, lit<, arith}
-use Rattle.std.proofs.Common.{◌≤◌, ◌*ℤ◌, ◌%◌, ◌^◌, w16, w32, SFits, to_z, of_z, refl, lit≤, unsigned_abs}
+use Rattle.std.proofs.Common.{◌≤◌, ◌++◌, ◌*ℤ◌, ◌%◌, ◌^◌, w16, w32, SFits, to_z, of_z, refl, lit≤, unsigned_abs}
 use Rattle.std.specs.Int.{w128}
 use Rattle.std.proofs.Math.IntN.{+ℤ_assoc}
-use Rattle.std.proofs.lemmas.Int.{ints, unsigned_abs-mul, wrapping_add_onto}
+use Rattle.std.proofs.lemmas.Int.{ints, wrapping_add_onto}
 use Rattle.std.proofs.Math.Nat.{mul-le-mul}
 use Rattle.std.proofs.lemmas.List.{take_all}
 use Rattle.std.proofs.lemmas.List.Sums.{fold_more}
@@ -13,24 +13,20 @@ use Rattle.font_base.specs.Wrap.{wrap, FitsBits}
 use Rattle.font_base.specs.Wrap.Laws.{wrap-add_left, wrap-add_right, wrap-fits, wrap-wrap}
 use Rattle.font_fixed.proofs.Calls.{fits_16}
 use Rattle.font_fixed.proofs.Wrapped.{wrapping_add-wrap}
-use Rattle.font_fixed.specs.Fixed.{Fixed}
-use Rattle.font_fixed.specs.Fixed.{fixed_bits}
+use Rattle.font_fixed.specs.Fixed.{Fixed, fixed_bits}
 use Rattle.font_fixed.specs.F26Dot6.{f26dot6_bits}
 use Rattle.font_fixed.specs.F48Dot16.{f48dot16_bits}
 use Rattle.font_fixed.proofs.FixedCalls.{fixed_calls}
 use Rattle.font_geom.specs.declared.point.Point.{Point}
 use Rattle.font_ids.specs.FWord.{fword_number}
 use Rattle.font_types.specs.Delta.{total, term_product, exact_sum}
+use Rattle.font_types.specs.Delta.Laws.{total-append}
 
 -- one term more, of a list of anything
 pub running_total : {T : Type 0} (w : ℕ) (number_of : T → ℤ) (xs : List T) (i : ℕ) (d : T) → 0 < w → i < length xs
     → wrap w (wrap w (total number_of (take i xs)) +ℤ number_of (get_or xs i d)) ≡ wrap w
     (total number_of (take (i + 1) xs))
-running_total w number_of xs i d some within =
-    rw (
-      wrap-add_left w (total number_of (take i xs)) (number_of (get_or xs i d)) some,
-      fold_more (λ sum x. sum +ℤ number_of x) (pos 0) xs i d within,
-    )
+running_total w number_of xs i d some within = grind (arith, wrap-add_left, fold_more)
 
 -- the same for each kind of number, because `search` does not find the general one
 abbrev pub IsRunning : {T : Type 0} → ℕ → (T → ℤ) → Type 0
@@ -77,12 +73,7 @@ pub running_total_from : {T : Type 0} (w : ℕ) (number_of : T → ℤ) (start :
     → i < length xs
     → wrap w (wrap w (start +ℤ total number_of (take i xs)) +ℤ number_of (get_or xs i d)) ≡ wrap w
     (start +ℤ total number_of (take (i + 1) xs))
-running_total_from w number_of start xs i d some within =
-    rw (
-      wrap-add_left w (start +ℤ total number_of (take i xs)) (number_of (get_or xs i d)) some,
-      +ℤ_assoc,
-      fold_more (λ sum x. sum +ℤ number_of x) (pos 0) xs i d within,
-    )
+running_total_from w number_of start xs i d some within = grind (arith, wrap-add_left, +ℤ_assoc, fold_more)
 
 abbrev pub IsRunningFrom : {T : Type 0} → ℕ → (T → ℤ) → Type 0
 IsRunningFrom {T} w number_of = (start : ℤ) (xs : List T) (i : ℕ) (d : T) → i < length xs
@@ -141,15 +132,7 @@ cut_to_64 z = wrap-wrap 64 128 z (lit< tt) (lit≤ tt)
 
 -- a product of two 32-bit numbers
 pub term_bound : (x y : ℤ) → SFits w32 x → SFits w32 y → unsigned_abs (x *ℤ y) ≤ 2 ^ 62
-term_bound x y fits_x fits_y =
-    let low : unsigned_abs x ≤ 2 ^ 31 = omega (arith, ints, fits_x) in
-    let high : unsigned_abs y ≤ 2 ^ 31 = omega (arith, ints, fits_y) in
-    omega (
-      arith,
-      unsigned_abs-mul x y,
-      mul-le-mul {n₁ = unsigned_abs x} {m₁ = unsigned_abs y} {n₂ = 2 ^ 31}
-          {m₂ = 2 ^ 31} low high,
-    )
+term_bound x y fits_x fits_y = grind (arith, mul-le-mul)
 
 -- a sum that wraps at 128 bits, one term more, and at its end
 pub sum_starts : pos 0 ≡ wrap 128 (pos 0)
@@ -158,12 +141,26 @@ sum_starts = sym (fits_128 (pos 0) (record { low = omega (arith, ints); high = o
 pub sum_goes_on : (xs : List (Fixed × ℤ)) (i : ℕ) (d : Fixed × ℤ) (sum next : ℤ) → i < length xs
     → sum ≡ wrap 128 (exact_sum (take i xs)) → next ≡ wrap 128 (sum +ℤ term_product (get_or xs i d))
     → next ≡ wrap 128 (exact_sum (take (i + 1) xs))
-sum_goes_on xs i d sum next within so_far is = is ∙ ap (λ z. wrap 128 (z +ℤ term_product (get_or xs i d))) so_far
-    ∙ running_total 128 term_product xs i d (lit< tt) within
+sum_goes_on xs i d sum next within so_far is = grind (arith, running_total 128 term_product xs i d (lit< tt) within)
 
 pub sum_ends : (xs : List (Fixed × ℤ)) (i : ℕ) (sum : ℤ) → length xs ≤ i → sum ≡ wrap 128 (exact_sum (take i xs))
     → wrap 64 sum ≡ wrap 64 (exact_sum xs)
 sum_ends xs i sum all so_far = ap (wrap 64) so_far ∙ cut_to_64 _ ∙ ap (λ ys. wrap 64 (exact_sum ys)) (take_all i xs all)
+
+-- the sums of two lists, and that of the joined list
+joined : (w : ℕ) (xs ys : List (Fixed × ℤ)) → 0 < w
+    → wrap w (wrap w (exact_sum xs) +ℤ wrap w (exact_sum ys)) ≡ wrap w (exact_sum (xs ++ ys))
+joined w xs ys some = grind (arith, wrap-add_left, wrap-add_right, total-append term_product xs ys)
+
+pub joined_64 : (xs ys : List (Fixed × ℤ))
+    → wrap 64 (wrap 64 (exact_sum xs) +ℤ wrap 64 (exact_sum ys)) ≡ wrap 64 (exact_sum (xs ++ ys))
+joined_64 xs ys = joined 64 xs ys (lit< tt)
+
+pub joined_128 : (xs ys : List (Fixed × ℤ))
+    → wrap 128 (wrap 128 (exact_sum xs) +ℤ wrap 128 (exact_sum ys)) ≡ wrap 128 (exact_sum (xs ++ ys))
+joined_128 xs ys = joined 128 xs ys (lit< tt)
+
+pub ruleset joined_sums = (joined_64, joined_128)
 
 pub ruleset delta_rules = (
   added_128,

@@ -4,8 +4,7 @@ use Rattle.std.proofs.Math.Seq.{take-add}
 use Rattle.std.proofs.lemmas.List.{take-take, drop-drop, drop-take}
 
 dropped_on : (end m : ℕ) (xs : List ℕ) → end ≤ m → drop (m - end) (drop end xs) ≡ drop m xs
-dropped_on end m xs within =
-    let is : end + (m - end) ≡ m = omega (arith, within) in drop-drop (m - end) end xs ∙ ap (λ j. drop j xs) is
+dropped_on end m xs within = grind (arith, drop-drop)
 
 -- before the field at `at`
 module _ (at : ℕ) (old new kept : List ℕ) where
@@ -23,13 +22,11 @@ module _ (at : ℕ) (old new kept : List ℕ) where
 -- after the field that ends at `end`
 module _ (end : ℕ) (old new kept : List ℕ) where
   pub rest_kept : (m : ℕ) → drop end new ≡ drop end old → end ≤ m → drop m old ≡ kept → drop m new ≡ kept
-  rest_kept m same within is =
-      sym (dropped_on end m new within) ∙ (ap (drop (m - end)) same ∙ (dropped_on end m old within ∙ is))
+  rest_kept m same within is = grind (arith, dropped_on end m new within, dropped_on end m old within)
 
   pub field_kept_after : (k n : ℕ) → drop end new ≡ drop end old → end ≤ k → take n (drop k old) ≡ kept
       → take n (drop k new) ≡ kept
-  field_kept_after k n same within is = ap (take n) (sym (dropped_on end k new within)
-      ∙ (ap (drop (k - end)) same ∙ dropped_on end k old within)) ∙ is
+  field_kept_after k n same within is = grind (arith, dropped_on end k new within, dropped_on end k old within)
 
 -- for `grind`, whose facts have both sides
 pub rest_same : (end m : ℕ) (old new : List ℕ) → drop end new ≡ drop end old → end ≤ m → drop m new ≡ drop m old
@@ -38,7 +35,6 @@ rest_same end m old new same within = rest_kept end old new (drop m old) m same 
 -- the bytes up to the end of a field that is written after the others
 pub written_on : (at n end : ℕ) (old new start field : List ℕ) → end ≡ at + n → take at new ≡ take at old
     → take at old ≡ start → take n (drop at new) ≡ field → take end new ≡ start ++ field
-written_on at n end old new start field sum same begins is =
-    rw sum (take-add at n new ∙ (ap (λ xs. xs ++ take n (drop at new)) (same ∙ begins) ∙ ap (λ xs. start ++ xs) is))
+written_on at n end old new start field sum same begins is = grind (arith, take-add)
 
 pub ruleset write_calls = (start_kept, field_kept_before, rest_kept, field_kept_after, rest_same, written_on)

@@ -1,5 +1,8 @@
 -- Sums of deltas: each term is the product of a scalar, a `Fixed`, and a delta in font units.
 -- (OpenType, item variation stores: an interpolated delta is the sum of the scaled deltas of all regions)
+-- A joined list has the sum of both, and the order of the terms does not matter (lemmas `total-append`,
+-- `total-permuted`).
+pub mod Laws
 use Rattle.std.specs.Prelude.{ℕ, zero, suc, List, fold, Option, Some, None, option_map, if◌then◌else◌}
 use Rattle.std.specs.Prelude.{ℤ, pos, ◌+ℤ◌, ◌*ℤ◌}
 use Rattle.font_base.specs.Wrap.{fits_bits}

@@ -8,6 +8,7 @@ ghost use Rattle.font_fixed.specs.Fixed.{fixed_bits};
 ghost use Rattle.font_fixed.specs.F48Dot16.{f48dot16_bits};
 ghost use Rattle.font_ids.specs.FWord.{fword_number};
 ghost use Rattle.font_types.specs.Delta.{exact_sum, sum_in_range, term_product, varied};
+ghost use Rattle.font_types.specs.DeltaSum.{steps_of};
 
 use font_fixed::{F48Dot16, Fixed};
 use font_ids::FWord;
@@ -33,8 +34,6 @@ pub struct DeltaSum {
 }
 
 impl DeltaSum {
-    ghost use Rattle.font_types.specs.DeltaSum.{steps_of};
-
     /// Creates an empty sum, 0.
     #[must_use]
     #[inline]
@@ -96,8 +95,6 @@ impl DeltaSum {
 
 /// Adds the sum of other terms, modulo `2^128`.
 impl AddAssign for DeltaSum {
-    ghost use Rattle.font_types.specs.DeltaSum.{steps_of};
-
     ghost add_assign_gives = { λ x y sum. WrapsTo 128 (steps_of x +ℤ steps_of y) (steps_of sum) };
 
     #[inline]
@@ -108,14 +105,25 @@ impl AddAssign for DeltaSum {
 }
 
 impl Default for DeltaSum {
-    ghost use Rattle.font_types.specs.DeltaSum.{steps_of};
-
     ghost is_default = { λ sum. steps_of sum ≡ pos 0 };
 
     #[inline]
     fn default() -> DeltaSum {
         DeltaSum::new()
     }
+}
+
+// Returns the sum of the products of all terms.
+#[inline]
+#[tactic(auto, using(crate::proofs::SumCalls::delta_sum_calls))]
+pub(crate) fn sum_of(terms: &[(Fixed, i32)]) -> DeltaSum
+    ensures { steps_of result ≡ wrap 128 (exact_sum terms.now) }
+{
+    let mut sum = DeltaSum::new();
+    for term in terms {
+        sum.add_term(term);
+    }
+    sum
 }
 
 /// Returns the sum of scalar times delta over all terms, in font units, wrapped to 64 bits.
@@ -133,11 +141,7 @@ impl Default for DeltaSum {
 pub fn delta_sum(terms: &[(Fixed, i32)]) -> F48Dot16
     ensures { f48dot16_bits result ≡ wrap 64 (exact_sum terms.now) }
 {
-    let mut sum = DeltaSum::new();
-    for term in terms {
-        sum.add_term(term);
-    }
-    sum.finish()
+    sum_of(terms).finish()
 }
 
 /// Returns the exact sum of scalar times delta over all terms, in font units, or `None` if it does
@@ -155,6 +159,7 @@ pub fn delta_sum(terms: &[(Fixed, i32)]) -> F48Dot16
 pub fn checked_delta_sum(terms: &[(Fixed, i32)]) -> Option<F48Dot16>
     ensures variant { IsSome result ↔ FitsBits 64 (exact_sum terms.now) }
     ensures value { IfSome result (λ sum. f48dot16_bits sum ≡ exact_sum terms.now) }
+    // For proofs.
     ensures gives { option_map f48dot16_bits result ≡ sum_in_range terms.now }
 {
     // A list has fewer than 2^64 terms, so every partial sum fits in 128 bits.
@@ -180,6 +185,7 @@ pub fn vary(base: FWord, terms: &[(Fixed, i32)]) -> Option<i128>
     ensures variant { IsSome result ↔ FitsBits 64 (exact_sum terms.now) }
     ensures value { IfSome result (λ units.
         units ≡ (fword_number base *ℤ pos 65536 +ℤ exact_sum terms.now)) }
+    // For proofs.
     ensures gives { result ≡ varied (fword_number base) terms.now }
 {
     let sum = checked_delta_sum(terms)?;

@@ -1,8 +1,7 @@
 -- The bytes that a read number gives, and that an input has one output: each definition on the way from a line to its
 -- text has one result.
 use Rattle.std.proofs.Common.{◌≡◌, ℕ, List, refl, sym, Result, rules, [], ◌∷◌, ◌++◌, Ok, ◌∙◌, ℤ, ◌/◌}
-use Rattle.std.proofs.Common.{Bool, arith, get_or}
-use Rattle.std.proofs.Common.{append_assoc, append-nil}
+use Rattle.std.proofs.Common.{Bool, arith, append_assoc, append-nil, length, slice_index}
 use Rattle.fontval.specs.Error.{Answer, GivesAnswer}
 use Rattle.fontval.specs.declared.error.LineError.{LineError}
 use Rattle.fontval.specs.declared.error.CommandError.{CommandError}
@@ -12,13 +11,13 @@ use Rattle.font_types.specs.DecimalFault.{DecimalFault}
 use Rattle.font_types.specs.NumberReading.{ParsesFixedPoint}
 use Rattle.std.specs.Int.{Width}
 use mir.Val.{bits}
-use Rattle.font_types.specs.Tag.{IsValidated, IsFault, IsVisible, four_spaces}
+use Rattle.font_types.specs.Tag.{IsValidated, byte_text, tag_text}
 use Rattle.fontval.specs.Command.{AnswersWords, ReportsTag, IsNamedType, ShowsParsed, fixed_row}
 use Rattle.fontval.specs.Command.{IsAnswer, IsNamed, ShowsBytes}
 use Rattle.fontval.specs.Numbers.{ScansNumber, ScansFixed, ScansInteger, ScansTerm, CollectsEach}
-use Rattle.fontval.specs.Numbers.{CollectsFixed, CollectsTerms}
-use Rattle.fontval.specs.Numbers.{AndThen, pairs_of}
-use Rattle.fontval.specs.Deltas.{Varies}
+use Rattle.fontval.specs.Numbers.{CollectsFixed, CollectsTerms, AndThen, pairs_of}
+use Rattle.fontval.specs.Deltas.{Varies, varied_answer}
+use Rattle.fontval.proofs.WordByWord.{even_terms}
 use Rattle.fontval.specs.Images.{ShowsImages}
 use Rattle.font_types.specs.Fixed.{Fixed}
 use Rattle.fontval.specs.declared.command.Command.{Command}
@@ -27,6 +26,7 @@ use Rattle.fontval.specs.declared.command.FixedType.{FixedType}
 use Rattle.std.specs.Bool.{MatchBool}
 use Rattle.font_types.specs.Fixed.{fixed_of}
 use Rattle.font_types.proofs.Callers.{reading_unique, validated_good}
+use Rattle.fontval.specs.Answers.Laws.{answers_in_turn}
 use Rattle.fontval.specs.Answers.{Answers, AnswersLine, AnswersLines, AppendsAnswer}
 use Rattle.fontval.specs.Text.{lines_of, words_of}
 
@@ -47,11 +47,33 @@ pub given_number : {T U : Type 0} (type : FixedType) {text old new : List ℕ} {
     → GivesAnswer (ShowsParsed type text) old new outcome
 given_number type {text = text} {bits_of = bits_of} {raw_of = raw_of} {read = read} {number = number}
     shown reads same row =
-    given_as (ShowsBytes raw_of number) (ShowsParsed type text) _ _ _ (λ answer right. rw row (record {
-      bits = result_map_both bits_of (λ fault. fault) read;
-      read = reads.gives;
-      gives = grind (arith, same, right.is);
-    })) shown
+    grind arith
+
+-- ---- the text of a tag and of its validation
+-- four bytes one after another
+pub four_texts : (bytes : List ℕ) → length bytes ≡ 4
+    → byte_text (slice_index bytes 0) ++ (byte_text (slice_index bytes 1) ++ (byte_text (slice_index bytes 2)
+    ++ byte_text (slice_index bytes 3))) ≡ tag_text bytes
+four_texts (a ∷ b ∷ c ∷ d ∷ []) four = simp append-nil refl
+four_texts bytes four = grind (arith, four)
+
+-- the text that follows another
+pub given_after : (text last : List ℕ) {old middle new : List ℕ} (IsRight : Answer → Type 0)
+    (outcome : Result (Unit {0}) CommandError) → middle ≡ old ++ text → IsRight (Ok (text ++ last))
+    → GivesAnswer (λ answer. answer ≡ Ok last) middle new outcome → GivesAnswer IsRight old new outcome
+given_after text last IsRight outcome first right second = grind (arith, append_assoc)
+
+-- a value varied by terms, of whose words there are not an odd number
+pub given_varied : (line words : List (List ℕ)) (base : List ℕ) (units : ℤ) (terms : List (Fixed × ℤ))
+    (old new : List ℕ) (outcome : Result (Unit {0}) CommandError) → line ≡ base ∷ words → ScansInteger 16 base (Ok units)
+    → CollectsTerms words (Ok terms) → GivesAnswer (λ answer. answer ≡ varied_answer units terms) old new outcome
+    → GivesAnswer (Varies line) old new outcome
+given_varied line words base units terms old new outcome first scanned read given = rw first (given_as _ _ _ _ _
+    (λ answer is. rw (even_terms words terms read) (record {
+      first = Ok units;
+      is_first = scanned;
+      goes_on = record { first = Ok terms; is_first = read; goes_on = is };
+    })) given)
 
 -- ---- there is one answer
 -- at most one value satisfies the predicate
@@ -67,12 +89,10 @@ module _ {T : Type 0} (P Q : T → Type 0) where
 
 module _ {A B : Type 0} (GoesOn : A → Result B LineError → Type 0) (one : (value : A) → IsOne (GoesOn value)) where
   one_then : (IsFirst : Result A LineError → Type 0) → IsOne IsFirst → IsOne (AndThen IsFirst GoesOn)
-  one_then IsFirst one_first x y p q =
-      let same = one_first p.first q.first p.is_first q.is_first in grind arith
+  one_then IsFirst one_first x y p q = grind arith
 
 one_number : {T : Type 0} (w f : ℕ) (value : ℤ → T) (text : List ℕ) → IsOne (ScansNumber w f value text)
-one_number w f value text x y p q =
-    let same = reading_unique text f _ _ p.bits q.bits p.read q.read in cc
+one_number w f value text x y p q = grind (arith, reading_unique)
 
 one_whole : (w : ℕ) (word : List ℕ) → IsOne (ScansInteger w word)
 one_whole w word x y p q = grind arith
@@ -100,16 +120,9 @@ one_named_type word x y p q = search rules
 
 -- ---- tags
 
-one_fault : (bytes : List ℕ) → IsOne (IsFault bytes)
-one_fault bytes i j p q = grind (arith, p.least j, q.least i)
-
-spaces_hidden : (i : ℕ) → ¬ (IsVisible (get_or four_spaces i 0))
-spaces_hidden i visible = grind arith
-
 module _ (bytes : List ℕ) where
   one_validation : IsOne (IsValidated bytes)
-  one_validation x y p q =
-      grind (arith, one_fault bytes, spaces_hidden, validated_good bytes x p, validated_good bytes y q)
+  one_validation x y p q = grind (arith, validated_good)
 
   one_report : IsOne (ReportsTag bytes)
   one_report x y p q = let same = one_validation p.validation q.validation p.is_validation q.is_validation in cc
@@ -132,8 +145,7 @@ one_answer_of words Sum = one_then _ (λ terms. one_value _) _ (one_terms words)
 one_answer_of words Vary = one_vary words
 
 one_answer : (words : List (List ℕ)) → IsOne (IsAnswer words)
-one_answer [] = one_value _
-one_answer (name ∷ words) = search (rules, one_then, one_answer_of, one_named)
+one_answer words = grind (arith, one_answer_of, one_named)
 
 one_text : (line : List ℕ) → IsOne (AnswersLine line)
 one_text line x y p q = let same = one_answer (words_of line) p.answer q.answer p.meant q.meant in cc
@@ -145,6 +157,12 @@ one_output (line ∷ lines) x y p q =
     let text = one_text line p.text q.text p.answers q.answers in
     let rest = one_output lines p.rest q.rest p.others q.others in
     cc
+
+-- an input that is cut after a line feed is answered as its parts are
+pub answers_of_parts : (front second a b whole : List ℕ) → Answers (front ++ 10 ∷ []) a → Answers second b
+    → Answers (front ++ 10 ∷ second) whole → whole ≡ a ++ b
+answers_of_parts front second a b whole first then_b given =
+    one_output _ whole (a ++ b) given (answers_in_turn front second a b first then_b)
 
 -- ---- line after line
 -- the output answers the input before `left`: the answers to the lines of `left` complete it

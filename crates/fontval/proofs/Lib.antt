@@ -2,4 +2,4 @@ pub mod WordByWord
 pub mod Commands
 pub mod Writes
 pub mod Lines
-pub mod Hexadecimal
+pub mod Integers

@@ -28,8 +28,7 @@ longer_line byte (next ∷ rest) = grind (arith, one-add, longer_line next rest)
 pub first_line : (input : List ℕ) → 0 < length input
     → lines_of input ≡ before_first is_line_feed input ∷ lines_of (after_first is_line_feed input)
 unfolding lines_of
-first_line [] some = absurd (omega arith)
-first_line (byte ∷ rest) some = grind (arith, one-add, longer_line byte rest)
+first_line input some = grind (arith, longer_line)
 
 pub ruleset line_steps = (first_line, no_lines)
 
@@ -72,9 +71,7 @@ first_word line start found =
 -- a line that has no word
 pub no_words : (line : List ℕ) → position (λ byte. not (is_blank byte)) line ≡ None → words_of line ≡ []
 unfolding words_of
-no_words line absent =
-    let past : length line ≤ position_or_len (λ byte. not (is_blank byte)) line = grind (arith, common_steps) in
-    words_after_blanks line ∙ rw (drop_all _ line past) refl
+no_words line absent = grind (arith, words_after_blanks, drop_all)
 
 -- there is at most one word more than bytes
 pub words_fit : (line : List ℕ) → length (words_of line) ≤ length line + 1

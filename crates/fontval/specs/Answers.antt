@@ -1,4 +1,6 @@
--- The program's output for an input, by the program's own rule.
+-- The program's output for an input, by the program's own rule. Lines are answered one by one: the answers to an input
+-- that is cut after a line feed are those to the first part and then those to the second (lemma `answers_in_turn`).
+pub mod Laws
 use Rattle.std.specs.Prelude.{◌≡◌, ℕ, List, [], ◌∷◌, ◌++◌}
 use Rattle.fontval.specs.Command.{IsAnswer}
 use Rattle.fontval.specs.Error.{Answer, answer_text}

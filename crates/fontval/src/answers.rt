@@ -1,6 +1,6 @@
 //! The answers to the lines of an input.
 
-ghost use Rattle.std.specs.Prelude.{◌≡◌, ℕ, List, string_bytes, IfOk, OnOk};
+ghost use Rattle.std.specs.Prelude.{◌≡◌, ℕ, List, IfOk, OnOk};
 ghost use Rattle.fontval.specs.Answers.{AppendsAnswer, Answers};
 ghost use Rattle.fontval.specs.Command.{IsAnswer};
 ghost use Rattle.fontval.specs.Error.{GivesAnswer};
@@ -13,15 +13,15 @@ use std::alloc::{AllocError, Allocator};
 
 /// Returns the answers to the lines of an input, each followed by a line feed.
 #[tactic(auto, using(crate::proofs::Commands::answer_steps))]
-pub fn answers<A: Allocator + Copy>(alloc: A, input: &[u8]) -> Result<String<A>, AllocError>
-    ensures answers { IfOk result (λ output. Answers input.now (string_bytes output)) }
+pub fn answers<A: Allocator + Copy>(alloc: A, input: &[u8]) -> Result<Vec<u8, A>, AllocError>
+    ensures answers { IfOk result (λ output. Answers input.now output.items) }
     ensures only { IfOk result (λ output. (other : List ℕ)
-        → Answers input.now other → other ≡ string_bytes output) }
+        → Answers input.now other → other ≡ output.items) }
 {
-    let mut output = String::new(alloc);
+    let mut output = Vec::new(alloc);
     for line in Lines::new(input) {
         append_answer(alloc, line, &mut output)?;
-        output.push_str("\n")?;
+        output.push(b'\n')?;
     }
     Ok(output)
 }
@@ -31,15 +31,15 @@ pub fn answers<A: Allocator + Copy>(alloc: A, input: &[u8]) -> Result<String<A>,
 fn append_answer<A: Allocator>(
     alloc: A,
     line: &[u8],
-    output: &mut String<A>,
+    output: &mut Vec<u8, A>,
 ) -> Result<(), AllocError>
     ensures { OnOk result
-        (AppendsAnswer line.now (string_bytes output.old) (string_bytes output.new)) }
+        (AppendsAnswer line.now output.old.items output.new.items) }
 {
     match append_text(alloc, line, output) {
         Ok(()) => Ok(()),
         Err(CommandError::Memory) => Err(AllocError),
-        Err(CommandError::Line(error)) => write!(output, "error {}", error as u8),
+        Err(CommandError::Line(error)) => output.extend_from_slice(error.answer()),
     }
 }
 
@@ -48,10 +48,10 @@ fn append_answer<A: Allocator>(
 fn append_text<A: Allocator>(
     alloc: A,
     line: &[u8],
-    output: &mut String<A>,
+    output: &mut Vec<u8, A>,
 ) -> Result<(), CommandError>
     ensures { GivesAnswer (IsAnswer (words_of line.now))
-        (string_bytes output.old) (string_bytes output.new) result }
+        output.old.items output.new.items result }
 {
     let mut words = Words::new(line);
     let name = words.next().ok_or(LineError::UnknownCommand)?;

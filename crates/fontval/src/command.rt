@@ -1,23 +1,25 @@
 //! The commands and their answers.
 
-ghost use Rattle.std.specs.Prelude.{◌≡◌, string_bytes};
-ghost use Rattle.font_types.specs.Tag.{tag_bytes};
-ghost use Rattle.fontval.specs.Command.{AnswersWords, IsNamed, IsNamedType, ReportsTag};
+ghost use Rattle.std.specs.Prelude.{◌≡◌};
+ghost use Rattle.std.specs.Result.{result_map_both};
+ghost use Rattle.font_types.specs.Shown.{shown};
+ghost use Rattle.fontval.specs.Command.{AnswersWords, IsNamed, IsNamedType};
 ghost use Rattle.fontval.specs.Command.{ShowsParsed, fixed_point, integer};
 ghost use Rattle.fontval.specs.Deltas.{sum_of, varied_answer};
 ghost use Rattle.fontval.specs.Error.{GivesAnswer};
 ghost use Rattle.fontval.specs.Text.{words_of};
 
 use crate::error::{CommandError, LineError};
-use crate::images::Images;
-use crate::numbers::{check_even, fixed_numbers, integer_16, terms};
-use crate::output::{append, append_read};
+use crate::images::{Images, append_images};
+use crate::integer::{append_integer, append_signed};
+use crate::numbers::{error_if_even, fixed_numbers, integer_16, terms};
+use crate::output::{append_decimal, append_read};
 use crate::parse::{hexadecimal, two_words};
-use crate::report::TagReport;
+use crate::report::append_report;
 use crate::text::Words;
 use font_types::{
-    F2Dot14, F2Dot30, F4Dot12, F6Dot10, F26Dot6, F48Dot16, FWord, Fixed, Int24, Scalar, Tag,
-    Uint24, checked_delta_sum, vary,
+    F2Dot14, F2Dot30, F4Dot12, F6Dot10, F26Dot6, F48Dot16, FWord, Fixed, Int24, Scalar, Shortest,
+    Tag, Uint24, checked_delta_sum, vary,
 };
 use std::alloc::Allocator;
 
@@ -100,16 +102,16 @@ impl Command {
         self,
         alloc: A,
         words: Words<'_>,
-        output: &mut String<A>,
+        output: &mut Vec<u8, A>,
     ) -> Result<(), CommandError>
         ensures { GivesAnswer (AnswersWords (words_of words.entry.rest.now) self)
-            (string_bytes output.old) (string_bytes output.new) result }
+            output.old.items output.new.items result }
     {
         match self {
-            Command::Integer(kind) => append(kind.number(words)?, output),
+            Command::Integer(kind) => append_integer(kind.number(words)?, output),
             Command::FixedPoint(kind) => kind.show(words, output),
             Command::Read => read(words, output),
-            Command::Tag => append_tag(Tag::from_be_bytes(hexadecimal(words)?), output),
+            Command::Tag => append_report(Tag::from_be_bytes(hexadecimal(words)?), output),
             Command::Image => image(words, output),
             Command::Sum => sum(alloc, words, output),
             Command::Vary => append_varied(alloc, words, output),
@@ -157,33 +159,40 @@ impl FixedType {
     fn show<A: Allocator>(
         self,
         words: Words<'_>,
-        output: &mut String<A>,
+        output: &mut Vec<u8, A>,
     ) -> Result<(), CommandError>
         ensures { GivesAnswer (λ answer. answer ≡ fixed_point self (words_of words.entry.rest.now))
-            (string_bytes output.old) (string_bytes output.new) result }
+            output.old.items output.new.items result }
     {
-        match self {
-            FixedType::F2Dot14 => append(F2Dot14::from_raw(hexadecimal(words)?), output),
-            FixedType::F4Dot12 => append(F4Dot12::from_raw(hexadecimal(words)?), output),
-            FixedType::F6Dot10 => append(F6Dot10::from_raw(hexadecimal(words)?), output),
-            FixedType::Fixed => append(Fixed::from_raw(hexadecimal(words)?), output),
-            FixedType::F26Dot6 => append(
-                F26Dot6::from_bits(i32::from_raw(hexadecimal(words)?)),
-                output,
-            ),
-            FixedType::F48Dot16 => append(
-                F48Dot16::from_bits(i64::from_raw(hexadecimal(words)?)),
-                output,
-            ),
-            FixedType::F2Dot30 => append(F2Dot30::from_raw(hexadecimal(words)?), output),
-        }
+        append_decimal(self.decimal(words)?, output)
+    }
+
+    // Returns the decimal of the number whose bytes the only word has.
+    #[inline(always)]
+    fn decimal(self, words: Words<'_>) -> Result<Shortest, LineError>
+        ensures { result_map_both shown (λ error. error) result
+            ≡ fixed_point self (words_of words.entry.rest.now) }
+    {
+        Ok(match self {
+            FixedType::F2Dot14 => F2Dot14::from_raw(hexadecimal(words)?).to_decimal(),
+            FixedType::F4Dot12 => F4Dot12::from_raw(hexadecimal(words)?).to_decimal(),
+            FixedType::F6Dot10 => F6Dot10::from_raw(hexadecimal(words)?).to_decimal(),
+            FixedType::Fixed => Fixed::from_raw(hexadecimal(words)?).to_decimal(),
+            FixedType::F26Dot6 => {
+                F26Dot6::from_bits(i32::from_raw(hexadecimal(words)?)).to_decimal()
+            }
+            FixedType::F48Dot16 => {
+                F48Dot16::from_bits(i64::from_raw(hexadecimal(words)?)).to_decimal()
+            }
+            FixedType::F2Dot30 => F2Dot30::from_raw(hexadecimal(words)?).to_decimal(),
+        })
     }
 
     // Appends the bytes of the number that a word is read as.
     #[tactic(auto, using(crate::proofs::Commands::given_number))]
-    fn read<A: Allocator>(self, word: &[u8], output: &mut String<A>) -> Result<(), CommandError>
+    fn read<A: Allocator>(self, word: &[u8], output: &mut Vec<u8, A>) -> Result<(), CommandError>
         ensures { GivesAnswer (ShowsParsed self word.now)
-            (string_bytes output.old) (string_bytes output.new) result }
+            output.old.items output.new.items result }
     {
         match self {
             FixedType::F2Dot14 => append_read(F2Dot14::from_decimal_bytes(word), output),
@@ -206,42 +215,36 @@ impl FixedType {
 // Appends the bytes of the number that the second word is read as, of the type that the first
 // names.
 #[inline(never)]
-fn read<A: Allocator>(words: Words<'_>, output: &mut String<A>) -> Result<(), CommandError>
+fn read<A: Allocator>(words: Words<'_>, output: &mut Vec<u8, A>) -> Result<(), CommandError>
     ensures { GivesAnswer (AnswersWords (words_of words.entry.rest.now) Command.Read)
-        (string_bytes output.old) (string_bytes output.new) result }
+        output.old.items output.new.items result }
 {
     let (name, word) = two_words(words)?;
     FixedType::named(name)?.read(word, output)
 }
 
-// Appends a tag and the result of its validation.
-#[inline(never)]
-fn append_tag<A: Allocator>(tag: Tag, output: &mut String<A>) -> Result<(), CommandError>
-    ensures { GivesAnswer (ReportsTag (tag_bytes tag))
-        (string_bytes output.old) (string_bytes output.new) result }
-{
-    let validation = tag.validate();
-    append(TagReport { tag, validation }, output)
-}
-
 // Appends the images of a point under two matrices.
 #[inline(never)]
-fn image<A: Allocator>(words: Words<'_>, output: &mut String<A>) -> Result<(), CommandError>
+fn image<A: Allocator>(words: Words<'_>, output: &mut Vec<u8, A>) -> Result<(), CommandError>
     ensures { GivesAnswer (AnswersWords (words_of words.entry.rest.now) Command.Image)
-        (string_bytes output.old) (string_bytes output.new) result }
+        output.old.items output.new.items result }
 {
-    append(Images::from(fixed_numbers(words)?), output)
+    append_images(Images::from(fixed_numbers(words)?), output)
 }
 
 // Appends the sum of terms.
 #[inline(never)]
-fn sum<A: Allocator>(alloc: A, words: Words<'_>, output: &mut String<A>) -> Result<(), CommandError>
+fn sum<A: Allocator>(
+    alloc: A,
+    words: Words<'_>,
+    output: &mut Vec<u8, A>,
+) -> Result<(), CommandError>
     ensures { GivesAnswer (AnswersWords (words_of words.entry.rest.now) Command.Sum)
-        (string_bytes output.old) (string_bytes output.new) result }
+        output.old.items output.new.items result }
 {
     let terms = terms(alloc, words)?;
     let sum = checked_delta_sum(&terms).ok_or(LineError::OutOfRange)?;
-    append(sum, output)
+    append_decimal(sum.to_decimal(), output)
 }
 
 // Appends a value in font units varied by the sum of terms.
@@ -249,15 +252,17 @@ fn sum<A: Allocator>(alloc: A, words: Words<'_>, output: &mut String<A>) -> Resu
 fn append_varied<A: Allocator>(
     alloc: A,
     mut words: Words<'_>,
-    output: &mut String<A>,
+    output: &mut Vec<u8, A>,
 ) -> Result<(), CommandError>
     ensures { GivesAnswer (AnswersWords (words_of words.entry.rest.now) Command.Vary)
-        (string_bytes output.old) (string_bytes output.new) result }
+        output.old.items output.new.items result }
 {
     let base = words.next().ok_or(LineError::WordCount)?;
-    check_even(&words)?;
-    let units = integer_16(base)?;
+    let units = match integer_16(base) {
+        Ok(units) => units,
+        Err(error) => return Err(error_if_even(&words, error).into()),
+    };
     let terms = terms(alloc, words)?;
     let varied = vary(FWord::new(units), &terms).ok_or(LineError::OutOfRange)?;
-    append(varied, output)
+    append_signed(varied < 0, varied.unsigned_abs() as u64, output)
 }

@@ -1,7 +1,7 @@
 //! The errors of lines and of commands.
 
-ghost use Rattle.std.specs.Prelude.{◌≡◌};
-ghost use Rattle.fontval.specs.Error.{line_error_of};
+ghost use Rattle.std.specs.Prelude.{◌≡◌, Err};
+ghost use Rattle.fontval.specs.Error.{answer_text, line_error_of};
 ghost use Rattle.fontval.specs.declared.error.CommandError.{CommandError};
 
 use font_types::DecimalFault;
@@ -32,6 +32,23 @@ pub enum LineError {
     /// A word that is not an integer: an optional `-`, and one or more digits.
     #[error("not an integer")]
     NotInteger = 6,
+}
+
+impl LineError {
+    /// Returns the answer to a line that has the error.
+    #[tactic(auto, using(crate::proofs::Integers::integers))]
+    pub fn answer(self) -> &'static [u8]
+        ensures { result.now ≡ answer_text (Err self) }
+    {
+        match self {
+            LineError::UnknownCommand => b"error 1",
+            LineError::WordCount => b"error 2",
+            LineError::NotHexadecimal => b"error 3",
+            LineError::NotDecimal => b"error 4",
+            LineError::OutOfRange => b"error 5",
+            LineError::NotInteger => b"error 6",
+        }
+    }
 }
 
 impl From<DecimalFault> for LineError {

@@ -1,14 +1,17 @@
 //! The images of a point under two matrices.
 
-ghost use Rattle.std.specs.Prelude.{◌≡◌, [], ◌∷◌, ◌++◌, Some};
+ghost use Rattle.std.specs.Prelude.{◌≡◌, [], ◌∷◌, ◌++◌, Ok};
 ghost use Rattle.font_types.specs.Matrix.{elements_of};
 ghost use Rattle.font_types.specs.FixedMatrix.{matrix_bits, point_bits};
-ghost use Rattle.fontval.specs.Images.{images_text};
+ghost use Rattle.fontval.specs.Error.{GivesAnswer};
+ghost use Rattle.fontval.specs.Images.{coordinates_text, images_text};
 
+use crate::error::CommandError;
+use crate::output::{append, append_decimal};
 use font_types::{Fixed, Matrix, Point, laws};
-use std::fmt;
+use std::alloc::Allocator;
 
-/// A point and two matrices, printed as the images of the point.
+/// A point and two matrices.
 #[derive(Clone, Copy)]
 pub struct Images {
     /// The matrix that is applied last.
@@ -35,17 +38,29 @@ impl From<[Fixed; 14]> for Images {
     }
 }
 
-// Prints the image under the product of the matrices, and that under one after the other.
-impl fmt::Display for Images {
-    ghost output = { λ m. Some (images_text (matrix_bits m.a) (matrix_bits m.b) (point_bits m.p)) };
+/// Appends the image under the product of the matrices, and that under one after the other.
+pub fn append_images<A: Allocator>(
+    images: Images,
+    output: &mut Vec<u8, A>,
+) -> Result<(), CommandError>
+    ensures { GivesAnswer (λ answer. answer ≡ Ok (images_text
+        (matrix_bits images.a) (matrix_bits images.b) (point_bits images.p)))
+        output.old.items output.new.items result }
+{
+    append_point(laws::composed(images.a, images.b, images.p), output)?;
+    append(b" ", output)?;
+    append_point(laws::in_turn(images.a, images.b, images.p), output)
+}
 
-    fn fmt<W: fmt::Write>(&self, f: &mut fmt::Formatter<W>) -> fmt::Result {
-        let composed = laws::composed(self.a, self.b, self.p);
-        let in_turn = laws::in_turn(self.a, self.b, self.p);
-        write!(
-            f,
-            "{} {} {} {}",
-            composed.x, composed.y, in_turn.x, in_turn.y
-        )
-    }
+// Appends the coordinates of a point.
+fn append_point<A: Allocator>(
+    point: Point<Fixed>,
+    output: &mut Vec<u8, A>,
+) -> Result<(), CommandError>
+    ensures { GivesAnswer (λ answer. answer ≡ Ok (coordinates_text (point_bits point)))
+        output.old.items output.new.items result }
+{
+    append_decimal(point.x.to_decimal(), output)?;
+    append(b" ", output)?;
+    append_decimal(point.y.to_decimal(), output)
 }

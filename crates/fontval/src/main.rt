@@ -8,6 +8,7 @@ pub mod device;
 mod error;
 mod exit;
 mod images;
+mod integer;
 mod numbers;
 mod output;
 mod parse;

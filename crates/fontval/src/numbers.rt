@@ -1,6 +1,6 @@
 //! Reads the words of a line as numbers.
 
-ghost use Rattle.std.specs.Prelude.{◌≡◌, ◌%◌, ◌^◌, ◌==◌, Ok, Err, true, false, length, min, pos};
+ghost use Rattle.std.specs.Prelude.{◌≡◌, ◌%◌, ◌^◌, ◌==◌, if◌then◌else◌, Ok, Err, length, min, pos};
 ghost use Rattle.std.specs.Prelude.{MatchOption, MatchResult};
 ghost use Rattle.std.specs.Str.Parse.{IsNumeral, digits_value, starts_with_minus};
 ghost use Rattle.fontval.specs.Numbers.{ScansFixed, ScansInteger, ScansTerm, CollectsFixed};
@@ -18,21 +18,35 @@ const INITIAL_TERMS: usize = 16;
 
 /// Reads exactly `N` words as numbers.
 ///
-/// The words are counted first: a wrong number of words is reported before a wrong word.
+/// A wrong number of words is reported before a wrong word: after one, the others are counted.
 #[tactic(auto, using(crate::proofs::WordByWord::number_steps))]
-pub fn fixed_numbers<const N: usize>(words: Words<'_>) -> Result<[Fixed; N], LineError>
+pub fn fixed_numbers<const N: usize>(mut words: Words<'_>) -> Result<[Fixed; N], LineError>
     ensures { CollectsFixed N (words_of words.entry.rest.now) result }
 {
-    if words.count_left() != N {
-        return Err(LineError::WordCount);
-    }
     let mut numbers = [Fixed::ZERO; N];
     let mut at = 0;
-    for word in words {
-        numbers[at] = fixed_number(word)?;
+    while let Some(word) = words.next() {
+        if at == N {
+            return Err(LineError::WordCount);
+        }
+        match fixed_number(word) {
+            Ok(number) => numbers[at] = number,
+            Err(error) => return Err(error_if(words.count_left() == N - at - 1, error)),
+        }
         at += 1;
     }
-    Ok(numbers)
+    if at == N {
+        Ok(numbers)
+    } else {
+        Err(LineError::WordCount)
+    }
+}
+
+/// Returns the error of a word, or that of a wrong number of words.
+pub fn error_if(counted: bool, error: LineError) -> LineError
+    ensures { result ≡ if counted then error else LineError.WordCount }
+{
+    if counted { error } else { LineError::WordCount }
 }
 
 // Reads a word as a `Fixed`.
@@ -44,7 +58,8 @@ fn fixed_number(word: &[u8]) -> Result<Fixed, LineError>
 
 /// Reads words as terms, two by two: a scalar, and a delta in font units.
 ///
-/// The words are counted first, as in `fixed_numbers`.
+/// The words are counted as in `fixed_numbers`.
+#[tactic(auto, using(crate::proofs::WordByWord::term_steps))]
 pub fn terms<A: Allocator>(
     alloc: A,
     mut words: Words<'_>,
@@ -54,28 +69,23 @@ pub fn terms<A: Allocator>(
         (λ reason. OnLineError reason
         (λ error. CollectsTerms (words_of words.entry.rest.now) (Err error))) }
 {
-    check_even(&words)?;
     let mut terms = Vec::with_capacity(alloc, INITIAL_TERMS)?;
-    while let (Some(scalar), Some(delta)) = (words.next(), words.next()) {
-        terms
-            .push(term(scalar, delta)?)
-            .map_err(|_| CommandError::Memory)?;
+    while let Some(scalar) = words.next() {
+        let delta = words.next().ok_or(LineError::WordCount)?;
+        match term(scalar, delta) {
+            Ok(term) => terms.push(term).map_err(|_| CommandError::Memory)?,
+            Err(error) => return Err(error_if_even(&words, error).into()),
+        }
     }
     Ok(terms)
 }
 
-/// Returns an error if the number of words is odd.
-pub fn check_even(words: &Words<'_>) -> Result<(), LineError>
-    ensures { MatchResult result
-        (λ _. (length (words_of words.now.rest.now) % 2 == 0) ≡ true)
-        (λ error. ((length (words_of words.now.rest.now) % 2 == 0) ≡ false)
-        × (error ≡ LineError.WordCount)) }
+/// Returns the error of a word, or that of a wrong number of words if an odd number is left.
+pub fn error_if_even(words: &Words<'_>, error: LineError) -> LineError
+    ensures { result
+        ≡ if length (words_of words.now.rest.now) % 2 == 0 then error else LineError.WordCount }
 {
-    if words.count_left().is_multiple_of(2) {
-        Ok(())
-    } else {
-        Err(LineError::WordCount)
-    }
+    error_if(words.count_left().is_multiple_of(2), error)
 }
 
 // Reads two words as a term.

@@ -67,7 +67,7 @@ pub fn serve<A: Allocator + Copy, S: Source, K: Sink>(
     let Ok(output) = answers(alloc, &input) else {
         return Err(ServeFault::Memory);
     };
-    write_all(sink, output.as_bytes())
+    write_all(sink, &output)
 }
 
 // Reads a source to its end.

@@ -1,11 +1,10 @@
 -- How far rounded scalars, their products and their sums are off the exact ones.
 use Rattle.std.proofs.Common.{◌≡◌, ◌∙◌, refl, ap, lit<, ℕ, suc, ◌+◌, ◌*◌, ◌≤◌, ◌<◌, ◌⊎◌, Bool, true, false}
 use Rattle.std.proofs.Common.{ℤ, pos, negsuc, ◌+ℤ◌, ◌-ℤ◌, ◌*ℤ◌, ◌≤ℤ◌, ◌<ℤ◌, unsigned_abs, int_lt, int_le, arith}
-use Rattle.std.proofs.Common.{Decides, mul-le-mul_right, zero, ⊎_elim, inl, inr, if◌then◌else◌, ◌||◌}
+use Rattle.std.proofs.Common.{Decides, mul-le-mul_right, ⊎_elim, inl, inr, if◌then◌else◌, ◌||◌}
 use Rattle.std.specs.Ordering.{int_eq}
-use Rattle.std.proofs.Math.Nat.{mul-one, one-mul}
 use Rattle.std.proofs.lemmas.Int.{ints, by_lt_z}
-use Rattle.std.proofs.lemmas.Bool.Decides.{Decides-or, Decides-and, Decides-int_eq, not_from_Decides}
+use Rattle.std.proofs.lemmas.Bool.Decides.{Decides-or, Decides-int_eq, not_from_Decides, nat_tests}
 use borrow.Author.Differences.{up as above, down as below, sum_is_lem, product_is}
 use Rattle.font_types.specs.Wrap.{FitsBits}
 use Rattle.font_types.specs.Near.{Near, up}
@@ -32,16 +31,7 @@ off_by k raw x off = record { some = off.some; close = rw (off.is_bits, off.is_p
 -- ---- one axis
 
 whole_is : (n : ℕ) (raw : ℤ) → n ≤ 1 → raw ≡ pos (n * 65536) → IsPartOff 1 raw (whole (pos n))
-whole_is n raw to is = record {
-  bits = n * 65536;
-  is_bits = is;
-  to = omega (arith, to);
-  part = n;
-  is_part = refl;
-  part_to = to;
-  some = lit< tt;
-  close = omega (arith, ints);
-}
+whole_is n raw to is = grind arith
 
 -- a rounded quotient of a part by its whole
 module _ (a d : ℕ) (raw : ℤ) (to : a ≤ suc d) (given : IsWrappedNear 32 (pos a *ℤ pos 65536) (suc d) raw) where
@@ -68,27 +58,14 @@ module _ (a d : ℕ) (raw : ℤ) (to : a ≤ suc d) (given : IsWrappedNear 32 (p
 
   near_quotient : (r : ℤ) → raw ≡ r → Near (pos a *ℤ pos 65536) (suc d) r → pos 0 ≤ℤ r → r ≤ℤ pos 65536
       → IsPartOff 1 raw (part_of (pos a) (pos (suc d)))
-  near_quotient (pos r) is near _ high = record {
-    bits = r;
-    is_bits = is;
-    to = omega (arith, ints, high);
-    part = a;
-    is_part = refl;
-    part_to = to;
-    some = d_some;
-    close = omega (arith, ints, near.close);
-  }
-  near_quotient (negsuc r) is near low high = absurd (omega (arith, ints, low))
+  near_quotient r is near low high = grind arith
 
   pub quotient_off : IsPartOff 1 raw (part_of (pos a) (pos (suc d)))
   quotient_off = near_quotient given.rounded quotient_is given.nearest quotient_from quotient_to
 
 part_is : (part way raw : ℤ) → pos 0 ≤ℤ part → part ≤ℤ way → pos 0 <ℤ way → IsQuotient 32 16 part way raw
     → IsPartOff 1 raw (part_of part way)
-part_is (negsuc a) way raw from to some given = absurd (omega (arith, ints, from))
-part_is (pos a) (pos zero) raw from to some given = absurd (omega (arith, ints, some))
-part_is (pos a) (negsuc d) raw from to some given = absurd (omega (arith, ints, some))
-part_is (pos a) (pos (suc d)) raw from to some given = quotient_off a d raw (omega (arith, ints, to)) given
+part_is part way raw from to some given = grind (arith, quotient_off)
 
 less : (a b : ℤ) → Decides (int_lt a b) (a <ℤ b)
 less a b = (λ e. grind (arith, ints), λ h. grind (arith, ints))
@@ -98,8 +75,7 @@ at_most a b = (λ e. grind (arith, ints), λ h. grind (arith, ints))
 
 module _ (start peak end coordinate raw : ℤ) (given : IsAxisScalar start peak end coordinate raw) where
   ignored : Decides (is_ignored_axis start peak end) (IsIgnored start peak end)
-  ignored = Decides-or _ _ (less peak start) (Decides-or _ _ (less end peak)
-      (Decides-or _ _ (Decides-and _ _ (less start (pos 0)) (less (pos 0) end)) (Decides-int_eq peak (pos 0))))
+  ignored = grind arith
 
   at_one : Decides (is_ignored_axis start peak end || int_eq coordinate peak)
       (IsIgnored start peak end ⊎ (coordinate ≡ peak))
@@ -124,15 +100,7 @@ module _ (start peak end coordinate raw : ℤ) (given : IsAxisScalar start peak 
       let after : start <ℤ coordinate = by_lt_z start coordinate (λ h. h) (λ h. absurd (inside (inl h))) in
       part_is (coordinate -ℤ start) (peak -ℤ start) raw (omega (arith, ints, after)) (omega (arith, ints, before))
       (omega (arith, ints, after, before)) (given.rising (λ i. away (inl i)) after before)
-  by false false false one outside up_to =
-      let away = not_from_Decides _ at_one one in
-      let inside = not_from_Decides _ off outside in
-      let not_before = not_from_Decides _ (less coordinate peak) up_to in
-      let before : coordinate <ℤ end = by_lt_z coordinate end (λ h. h) (λ h. absurd (inside (inr h))) in
-      let after : peak <ℤ coordinate = by_lt_z peak coordinate (λ h. h) (λ h. absurd (away (inr
-      (by_lt_z coordinate peak (λ l. absurd (not_before l)) (λ g. omega (arith, ints, h, g)))))) in
-      part_is (end -ℤ coordinate) (end -ℤ peak) raw (omega (arith, ints, before)) (omega (arith, ints, after))
-      (omega (arith, ints, after, before)) (given.falling (λ i. away (inl i)) after before)
+  by false false false one outside up_to = grind (arith, nat_tests, ints, off, part_is)
 
 pub axis_off : (start peak end coordinate raw : ℤ) → IsAxisScalar start peak end coordinate raw
     → IsPartOff 1 raw (exact_axis_scalar start peak end coordinate)
@@ -142,9 +110,7 @@ axis_off start peak end coordinate raw given = by start peak end coordinate raw 
 -- ---- a product
 
 product_some : (d e : ℕ) → 0 < d → 0 < e → 0 < d * e
-product_some d e d_some e_some =
-    let one : 1 ≤ d = omega (arith, d_some) in
-    omega (arith, e_some, mul-le-mul_right e one)
+product_some d e d_some e_some = grind arith
 
 -- what a bound on a distance says of each side
 sides : (a b c : ℕ) → 2 * unsigned_abs (pos a -ℤ pos b) ≤ c → (2 * a ≤ 2 * b + c) × (2 * b ≤ 2 * a + c)
@@ -185,48 +151,24 @@ module _ (k : ℕ) (s t : ℤ) (x y : Fraction) (so_far : IsPartOff k s x) (next
   both_to : so_far.part * next.part ≤ x.denominator * y.denominator
   both_to = omega (arith, mul-le-mul_right next.part so_far.part_to, mul-le-mul_right x.denominator next.part_to)
 
-  part_product : x.numerator *ℤ y.numerator ≡ pos (so_far.part * next.part)
-  part_product = rw (so_far.is_part, next.is_part) refl
-
   scaled_to : so_far.bits * next.bits ≤ 65536 * 65536
   scaled_to = omega (arith, mul-le-mul_right next.bits so_far.to, next.to)
 
   times_off : (r : ℤ) → 2 * unsigned_abs (r *ℤ pos 65536 -ℤ pos so_far.bits *ℤ pos next.bits) ≤ 65536
       → IsPartOff (k + 2) r (times x y)
-  times_off (pos r) rounded = record {
-    bits = r;
-    is_bits = refl;
-    to = omega (arith, ints, rounded, scaled_to);
-    part = so_far.part * next.part;
-    is_part = part_product;
-    part_to = both_to;
-    some = product_some x.denominator y.denominator so_far.some next.some;
-    close = product_error k so_far.bits next.bits r x.denominator next.part y.denominator so_far.to next.part_to rounded
-        (omega (arith, next.close)) so_far.part so_far.close;
-  }
+  times_off (pos r) rounded = grind (arith, scaled_to, both_to, product_some, product_error)
   times_off (negsuc r) rounded = absurd (omega (arith, ints, rounded))
 
   pub next_axis_off : (r : ℤ) → IsProduct 32 16 s t r → IsPartOff (k + 2) r (times x y)
-  next_axis_off r product = times_off r (rounding_error so_far.bits next.bits r so_far.to next.to
-      (rw (so_far.is_bits, next.is_bits) at product))
+  next_axis_off r product = grind (arith, times_off, rounding_error)
 
 module _ (t : ℤ) (y : Fraction) (next : IsPartOff 1 t y) where
   first_off : (r : ℤ) → 2 * unsigned_abs (r *ℤ pos 65536 -ℤ pos 65536 *ℤ pos next.bits) ≤ 65536
       → IsPartOff 1 r (times (whole (pos 1)) y)
-  first_off r rounded = record {
-    bits = next.bits;
-    is_bits = omega (arith, ints, rounded);
-    to = next.to;
-    part = next.part;
-    is_part = rw next.is_part (omega (arith, ints));
-    part_to = omega (arith, next.part_to);
-    some = omega (arith, next.some);
-    close = rw (one-mul y.denominator) next.close;
-  }
+  first_off r rounded = grind arith
 
   pub first_axis_off : (r : ℤ) → IsProduct 32 16 (pos 65536) t r → IsPartOff 1 r (times (whole (pos 1)) y)
-  first_axis_off r product = first_off r (rounding_error 65536 next.bits r (omega arith) next.to
-      (rw next.is_bits at product))
+  first_axis_off r product = grind (arith, first_off, rounding_error)
 
 -- ---- sums
 
@@ -253,10 +195,7 @@ sum_error k m d e v w n o first_close second_close =
 
 pub plus_off : (k m : ℕ) (v w : ℤ) (x y : Fraction) → IsOffBy k v x → IsOffBy m w y
     → IsOffBy (k + m) (v +ℤ w) (plus x y)
-plus_off k m v w x y first second = record {
-  some = product_some x.denominator y.denominator first.some second.some;
-  close = sum_error k m x.denominator y.denominator v w x.numerator y.numerator first.close second.close;
-}
+plus_off k m v w x y first second = grind (arith, sum_error)
 
 scaled_error : (k s p e : ℕ) (delta : ℤ) → 2 * unsigned_abs (pos s *ℤ pos e -ℤ pos p *ℤ pos 65536) ≤ k * e
     → 2 * unsigned_abs ((pos s *ℤ delta) *ℤ pos e -ℤ (pos p *ℤ delta) *ℤ pos 65536) ≤ k * unsigned_abs delta * e
@@ -276,10 +215,7 @@ scaled_error k s p e (negsuc delta) close =
 
 pub scaled_off : (k : ℕ) (s delta : ℤ) (x : Fraction) → IsPartOff k s x
     → IsOffBy (k * unsigned_abs delta) (s *ℤ delta) (times x (whole delta))
-scaled_off k s delta x off = record {
-  some = omega (arith, off.some);
-  close = rw (off.is_bits, off.is_part, mul-one) (scaled_error k off.bits off.part x.denominator delta off.close);
-}
+scaled_off k s delta x off = grind (arith, scaled_error)
 
 pub whole_off : (n : ℤ) → IsOffBy 0 (n *ℤ pos 65536) (whole n)
 whole_off n = record { some = lit< tt; close = omega (arith, ints) }
@@ -288,8 +224,7 @@ whole_off n = record { some = lit< tt; close = omega (arith, ints) }
 
 half_up_error : (z : ℤ) → 2 * unsigned_abs (up z 65536 *ℤ pos 65536 -ℤ z) ≤ 65536
 unfolding up
-half_up_error (pos n) = omega (arith, ints)
-half_up_error (negsuc n) = omega (arith, ints)
+half_up_error z = grind arith
 
 module _ (k d : ℕ) (z n w : ℤ) (rounded : 2 * unsigned_abs (w -ℤ z) ≤ 65536)
     (off : 2 * unsigned_abs (z *ℤ pos d -ℤ n *ℤ pos 65536) ≤ k * d) where
@@ -303,7 +238,4 @@ module _ (k d : ℕ) (z n w : ℤ) (rounded : 2 * unsigned_abs (w -ℤ z) ≤ 65
   rounded_error = omega (arith, ints, off, mul-le-mul_right d w_high, mul-le-mul_right d w_low)
 
 pub rounded_off : (k : ℕ) (z : ℤ) (x : Fraction) → IsOffBy k z x → IsOffBy (65536 + k) (up z 65536 *ℤ pos 65536) x
-rounded_off k z x off = record {
-  some = off.some;
-  close = rounded_error k x.denominator z x.numerator (up z 65536 *ℤ pos 65536) (half_up_error z) off.close;
-}
+rounded_off k z x off = grind (arith, rounded_error, half_up_error)

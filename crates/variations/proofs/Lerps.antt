@@ -1,18 +1,15 @@
 -- The value on the line through two mappings, if nothing overflows.
-use Rattle.std.proofs.Common.{◌≡◌, ◌≢◌, ◌∙◌, ap, refl, lit<, ℤ, pos, negsuc, zero, suc, ◌+ℤ◌}
+use Rattle.std.proofs.Common.{◌≡◌, ◌≢◌, ◌∙◌, ap, lit<, ℤ, pos, ◌+ℤ◌, arith}
 use Rattle.font_types.specs.Wrap.{wrap, FitsBits}
 use Rattle.font_types.specs.Wrap.Laws.{wrap-add_right}
-use Rattle.font_types.specs.Fixed.{fixed_bits}
-use Rattle.font_types.specs.Fixed.{Fixed}
+use Rattle.font_types.specs.Fixed.{fixed_bits, Fixed}
 use Rattle.font_types.specs.Operations.{IsMulDiv, rounded_mul_div}
 use Rattle.font_types.proofs.Callers.{wrap-fits}
 use Rattle.variations.specs.declared.evaluator.AxisValueMap.{AxisValueMap}
 use Rattle.variations.specs.Evaluator.{IsLerp, FitsLerp, lerp_part, lerp_whole, lerp_rise, on_line}
 
 wrapped_share : (x a c r : ℤ) → c ≢ pos 0 → IsMulDiv 32 x a c r → r ≡ wrap 32 (rounded_mul_div x a c)
-wrapped_share x a (pos zero) r some is = absurd (some refl)
-wrapped_share x a (pos (suc c)) r some is = is.is
-wrapped_share x a (negsuc c) r some is = is.is
+wrapped_share x a c r some is = grind arith
 
 module _ (coordinate : Fixed) (start end : AxisValueMap) (result : Fixed) (share : ℤ)
     (some : lerp_whole start end ≢ pos 0)

@@ -1,3 +1,4 @@
 pub mod Fractions
 pub mod Lerps
+pub mod Segments
 pub mod Stores

@@ -1,21 +1,19 @@
 -- Products along axes and sums of columns: none, and one more; and how far they are off the exact ones.
 use Rattle.std.proofs.Common.{◌≡◌, refl, lit<, ℕ, zero, suc, ◌+◌, ◌-◌, ◌*◌, ℤ, pos, add-one, List, ◌+ℤ◌, ◌*ℤ◌}
-use Rattle.std.proofs.Common.{unsigned_abs, arith, negsuc, ◌≤◌, ◌<◌, ◌^◌, ◌≤ℤ◌, mul-le-mul_right}
+use Rattle.std.proofs.Common.{unsigned_abs, arith, ◌≤◌, ◌<◌, ◌^◌, ◌≤ℤ◌}
 use Rattle.std.proofs.Math.Nat.{mul-add, zero-add}
-use Rattle.std.proofs.lemmas.Int.{ints, unsigned_abs-mul}
+use Rattle.std.proofs.lemmas.Int.{ints}
+use Rattle.std.proofs.lemmas.Grind.{common_steps}
 use Rattle.font_types.specs.Operations.{IsProduct}
 use Rattle.font_types.specs.F2Dot14.{F2Dot14}
-use Rattle.font_types.specs.Fixed.{fixed_bits}
-use Rattle.font_types.specs.Fixed.{Fixed}
+use Rattle.font_types.specs.Fixed.{fixed_bits, Fixed}
 use Rattle.font_types.specs.Wrap.{FitsBits}
-use Rattle.variations.specs.Variations.{IsScalarOf, IsScalarAlong, IsNearScalar, exact_scalar, IsOffBy, times}
-use Rattle.variations.specs.Variations.{whole}
+use Rattle.variations.specs.Variations.{IsScalarOf, IsScalarAlong, IsNearScalar, exact_scalar, IsOffBy, times, whole}
 use Rattle.variations.specs.Variations.{IsSumThrough, IsTerm, IsTermProduct, IsSetSum, IsNearSetSum, IsNearAdvance}
 use Rattle.variations.specs.Variations.{exact_delta, sum_halves, sum_of_magnitudes, region_bytes, region_index}
 use Rattle.variations.specs.Variations.{region_index_count, axis_count, delta_of, moved, exact_region_scalar}
 use Rattle.variations.proofs.Fractions.{IsPartOff, off_by, axis_off, next_axis_off, first_axis_off, plus_off}
-use Rattle.variations.proofs.Fractions.{scaled_off}
-use Rattle.variations.proofs.Fractions.{whole_off, rounded_off}
+use Rattle.variations.proofs.Fractions.{scaled_off, whole_off, rounded_off}
 
 pub no_axis : (region : List ℕ) (coordinates : List F2Dot14) → IsScalarOf region coordinates 0 (pos 65536)
 unfolding IsScalarOf
@@ -68,36 +66,13 @@ one_more_column regions subtable coordinates set n before product sum so_far nex
     rw (add-one n) (before, product, so_far, next, is_sum)
 
 -- the sum and one more product, which 64 bits hold
-module _ (n s : ℕ) (sum delta : ℤ) (few : n < 65535) (small : unsigned_abs sum ≤ n * 2 ^ 47) (to : s ≤ 65536)
-    (narrow : unsigned_abs delta ≤ 2 ^ 31) where
-  product_size : unsigned_abs (pos s *ℤ delta) ≤ 2 ^ 47
-  product_size =
-      let scaled : s * unsigned_abs delta ≤ 65536 * unsigned_abs delta = mul-le-mul_right (unsigned_abs delta) to in
-      rw (unsigned_abs-mul (pos s) delta) (omega (arith, scaled, narrow))
-
-  next_size : unsigned_abs (sum +ℤ (pos s *ℤ delta)) ≤ (n + 1) * 2 ^ 47
-  next_size = small_sum (pos s *ℤ delta) product_size
-    where
-      small_sum : (p : ℤ) → unsigned_abs p ≤ 2 ^ 47 → unsigned_abs (sum +ℤ p) ≤ (n + 1) * 2 ^ 47
-      small_sum p size = omega (arith, ints, small, size)
-
-  next_fits : FitsBits 64 (sum +ℤ (pos s *ℤ delta))
-  next_fits = let size = next_size in fits (sum +ℤ (pos s *ℤ delta)) size
-    where
-      fits : (z : ℤ) → unsigned_abs z ≤ (n + 1) * 2 ^ 47 → FitsBits 64 z
-      fits z size = record { low = omega (arith, ints, few, size); high = omega (arith, ints, few, size) }
-
 pub term_fits : (n : ℕ) (sum s delta : ℤ) → n < 65535 → unsigned_abs sum ≤ n * 2 ^ 47 → pos 0 ≤ℤ s → s ≤ℤ pos 65536
     → unsigned_abs delta ≤ 2 ^ 31 → FitsBits 64 (sum +ℤ (s *ℤ delta))
-term_fits n sum (pos s) delta few small from to narrow =
-    next_fits n s sum delta few small (omega (arith, ints, to)) narrow
-term_fits n sum (negsuc s) delta few small from to narrow = absurd (omega (arith, ints, from))
+term_fits n sum s delta few small from to narrow = grind (arith, common_steps)
 
 pub term_small : (n : ℕ) (sum s delta : ℤ) → n < 65535 → unsigned_abs sum ≤ n * 2 ^ 47 → pos 0 ≤ℤ s → s ≤ℤ pos 65536
     → unsigned_abs delta ≤ 2 ^ 31 → unsigned_abs (sum +ℤ (s *ℤ delta)) ≤ (n + 1) * 2 ^ 47
-term_small n sum (pos s) delta few small from to narrow =
-    next_size n s sum delta few small (omega (arith, ints, to)) narrow
-term_small n sum (negsuc s) delta few small from to narrow = absurd (omega (arith, ints, from))
+term_small n sum s delta few small from to narrow = grind (arith, common_steps)
 
 pub one_more_term : (regions subtable : List ℕ) (coordinates : List F2Dot14) (set n : ℕ) (before : ℤ)
     (scalar : Fixed) (delta : ℤ) → IsSumThrough regions subtable coordinates set n before

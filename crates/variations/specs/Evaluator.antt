@@ -1,8 +1,9 @@
 -- Values of an evaluator of variations.
 use Rattle.std.specs.Prelude.{◌≡◌, ◌≢◌, ◌⊎◌, ℕ, ◌-◌, ◌<◌, ℤ, pos, neg_ℤ, ◌+ℤ◌, ◌-ℤ◌, ◌≤ℤ◌, ◌<ℤ◌, ◌==◌}
-use Rattle.std.specs.Prelude.{List, length, slice_index_or, Result, Ok, Err}
+use Rattle.std.specs.Prelude.{List, length, take, drop, Result, Ok, Err, zero, suc, ◌+◌, ◌*◌, ◌/◌, ◌≤◌, ◌*ℤ◌}
 use Rattle.std.specs.Int.{w32}
 use Rattle.std.specs.List.{position_or_len, before_first, after_first}
+use Rattle.font_types.specs.Bytes.{numeral}
 use Rattle.font_types.specs.Wrap.{wrap, FitsBits}
 use Rattle.font_types.specs.NumberReading.{ParsesFixedPoint}
 use Rattle.font_types.specs.Operations.{IsMulDiv, IsNarrowed, rounded_mul_div}
@@ -11,6 +12,7 @@ use Rattle.font_types.specs.Fixed.{Fixed, ONE, NEG_ONE}
 use Rattle.font_types.specs.F2Dot14.{f2dot14_bits}
 use Rattle.font_types.specs.F2Dot14.{F2Dot14}
 use Rattle.font_types.specs.Tag.{IsChecked, IsAcceptable}
+use Rattle.variations.specs.Variations.{stored_bits}
 use Rattle.variations.specs.declared.evaluator.Setting.{Setting}
 use Rattle.variations.specs.declared.evaluator.SettingError.{SettingError}
 use Rattle.variations.specs.declared.evaluator.SettingError.TheVariants.{NoValue, Axis, Value}
@@ -46,6 +48,14 @@ ParsesSetting text (Err (Axis fault)) = (value_start text < length text) × IsCh
 ParsesSetting text (Err (Value fault)) = (value_start text < length text) × IsAcceptable (axis_part text)
     × ParsesFixedPoint w32 16 fixed_bits (value_part text) (Err fault)
 
+-- ---- axes (OpenType, fvar: "VariationAxisRecord")
+
+-- an axis that values can be normalized by: the default is within the range, and 16.16 holds the length of the range
+pub record HasRange (min default max : ℤ) : Type 0 where
+  pub low : min ≤ℤ default
+  pub high : default ≤ℤ max
+  pub width : FitsBits 32 (max -ℤ min)
+
 -- ---- segment maps (OpenType, avar: linear between two mappings)
 
 -- the distance of the coordinate from the start, that of the end, and the rise between their coordinates
@@ -79,34 +89,67 @@ pub record IsLerp (coordinate : Fixed) (start end : AxisValueMap) (result : Fixe
       (wrap 32 (lerp_whole start end)) share
   pub is_sum : fixed_bits result ≡ wrap 32 (fixed_bits start.to_coordinate +ℤ share)
 
--- the mapping at k, and past the end the one of zero to zero
-abbrev pub mapping_at : List AxisValueMap → ℕ → AxisValueMap
-mapping_at map k = slice_index_or map k
-    (record { from_coordinate = fixed_of (pos 0); to_coordinate = fixed_of (pos 0) })
+-- how many mappings there are: of four bytes each
+abbrev pub mapping_count : List ℕ → ℕ
+mapping_count map = length map / 4
+
+-- the mapping at k, two coordinates of 2.14, in 16.16
+abbrev pub mapping_at : List ℕ → ℕ → AxisValueMap
+mapping_at map k = record {
+  from_coordinate = fixed_of (stored_bits map (4 * k) *ℤ pos 4);
+  to_coordinate = fixed_of (stored_bits map (4 * k + 2) *ℤ pos 4);
+}
 
 -- the first n mappings are below the bits
-abbrev pub AreBelow : List AxisValueMap → ℕ → ℤ → Type 0
+abbrev pub AreBelow : List ℕ → ℕ → ℤ → Type 0
 AreBelow map n bits = (k : ℕ) → k < n → fixed_bits (mapping_at map k).from_coordinate <ℤ bits
 
 -- the mapping that ends the segment of the bits: the first at or above them
-pub record IsSegmentEnd (bits : ℤ) (map : List AxisValueMap) (end : ℕ) : Type 0 where
-  pub within : end < length map
+pub record IsSegmentEnd (bits : ℤ) (map : List ℕ) (end : ℕ) : Type 0 where
+  pub within : end < mapping_count map
   pub before : AreBelow map end bits
   pub there : bits ≤ℤ fixed_bits (mapping_at map end).from_coordinate
 
 -- the coordinate by that mapping: at it, what it is mapped to; else linear from the mapping before, or itself if there
 -- is none
-pub record IsMappedIn (coordinate : Fixed) (map : List AxisValueMap) (end : ℕ) (result : Fixed) : Type 0 where
+pub record IsMappedIn (coordinate : Fixed) (map : List ℕ) (end : ℕ) (result : Fixed) : Type 0 where
   pub at : coordinate ≡ (mapping_at map end).from_coordinate → result ≡ (mapping_at map end).to_coordinate
   pub between : coordinate ≢ (mapping_at map end).from_coordinate → 0 < end
       → IsLerp coordinate (mapping_at map (end - 1)) (mapping_at map end) result
   pub outside : coordinate ≢ (mapping_at map end).from_coordinate → end ≡ 0 → result ≡ coordinate
 
 -- the coordinate by the segment that it is in, or itself above all mappings, as of an empty map
-abbrev pub IsMapped : Fixed → List AxisValueMap → Fixed → Type 0
+abbrev pub IsMapped : Fixed → List ℕ → Fixed → Type 0
 IsMapped coordinate map result =
-    (AreBelow map (length map) (fixed_bits coordinate) × (result ≡ coordinate))
+    (AreBelow map (mapping_count map) (fixed_bits coordinate) × (result ≡ coordinate))
     ⊎ ((end : ℕ) × IsSegmentEnd (fixed_bits coordinate) map end × IsMappedIn coordinate map end result)
+
+-- ---- where the segment map of an axis is (OpenType, avar: axisCount at 6, and from 8 on for each axis
+-- positionMapCount and as many mappings)
+
+abbrev pub avar_axis_count : List ℕ → ℕ
+avar_axis_count avar = numeral (take 2 (drop 6 avar))
+
+-- how many mappings the map at an offset has
+abbrev pub position_map_count : List ℕ → ℕ → ℕ
+position_map_count avar offset = numeral (take 2 (drop offset avar))
+
+-- where the map of an axis is: after those of the axes before it
+unfoldable pub map_offset : List ℕ → ℕ → ℕ
+map_offset avar zero = 8
+map_offset avar (suc axis) = map_offset avar axis + 2 + 4 * position_map_count avar (map_offset avar axis)
+
+abbrev pub map_length : List ℕ → ℕ → ℕ
+map_length avar axis = 4 * position_map_count avar (map_offset avar axis)
+
+-- the table has the axis, and does not end before the map of the axis does
+pub record HasSegmentMap (avar : List ℕ) (axis : ℕ) : Type 0 where
+  pub within : axis < avar_axis_count avar
+  pub bytes : map_offset avar axis + 2 + map_length avar axis ≤ length avar
+
+-- the bytes of its mappings
+abbrev pub segment_map_bytes : List ℕ → ℕ → List ℕ
+segment_map_bytes avar axis = take (map_length avar axis) (drop (map_offset avar axis + 2) avar)
 
 -- ---- coordinates as they are stored (OpenType, coordinate scales and normalization: converted to 2.14 at the end)
 
@@ -118,5 +161,5 @@ pub record IsStoredCoordinate (coordinate : Fixed) (stored : F2Dot14) : Type 0 w
   pub above : fixed_bits ONE ≤ℤ fixed_bits coordinate → f2dot14_bits stored ≡ pos 16384
 
 -- the coordinate mapped, and only then rounded
-abbrev pub IsFinal : Fixed → List AxisValueMap → F2Dot14 → Type 0
+abbrev pub IsFinal : Fixed → List ℕ → F2Dot14 → Type 0
 IsFinal coordinate map stored = (mapped : Fixed) × IsMapped coordinate map mapped × IsStoredCoordinate mapped stored

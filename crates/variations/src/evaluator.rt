@@ -1,7 +1,8 @@
 //! Coordinates of an instance: settings, `fvar` and `avar`.
 
 ghost use Rattle.std.specs.Prelude.{◌≡◌, ◌≢◌, ◌↔◌, pos, neg_ℤ, ◌≤ℤ◌, ◌<ℤ◌, ◌+ℤ◌, ◌-ℤ◌, ◌*ℤ◌};
-ghost use Rattle.std.specs.Prelude.{◌≤◌, IsSome, IfSome, MatchOption, length, take, drop};
+ghost use Rattle.std.specs.Prelude.{◌≤◌, ◌+◌, ◌*◌, IsTrue, IsSome, IfSome, MatchOption};
+ghost use Rattle.std.specs.Prelude.{length, take, drop};
 ghost use Rattle.font_types.specs.Bytes.{numeral, signed_numeral};
 ghost use Rattle.font_types.specs.Wrap.{FitsBits};
 ghost use Rattle.font_types.specs.Operations.{IsQuotient};
@@ -12,7 +13,8 @@ ghost use Rattle.font_types.specs.F2Dot14.{f2dot14_bits};
 ghost use Rattle.font_types.specs.NameId.{name_number};
 ghost use Rattle.font_types.specs.Tag.{tag_bytes};
 ghost use Rattle.variations.specs.Evaluator.{value_start, AreParts, ParsesSetting, IsLerp};
-ghost use Rattle.variations.specs.Evaluator.{AreBelow};
+ghost use Rattle.variations.specs.Evaluator.{AreBelow, HasRange, mapping_at, mapping_count};
+ghost use Rattle.variations.specs.Evaluator.{HasSegmentMap, segment_map_bytes};
 ghost use Rattle.variations.specs.Evaluator.{IsSegmentEnd, IsMappedIn, IsMapped, IsFinal};
 ghost use Rattle.variations.specs.Evaluator.{IsStoredCoordinate};
 
@@ -23,7 +25,9 @@ use font_types::{DecimalFault, F2Dot14, Fixed, InvalidTag, NameId, Scalar, Tag};
 /// A user's value on an axis.
 #[derive(Clone, Copy, PartialEq, Debug)]
 pub struct Setting {
+    /// The tag of the axis.
     pub axis: Tag,
+    /// The value, in the unit of the axis.
     pub value: Fixed,
 }
 
@@ -47,7 +51,12 @@ fn split_setting(text: &str) -> Option<(&str, &str)>
     text.split_once('=')
 }
 
-/// Parses a name and a number: a setting such as `wght=650` or `wdth=87.5`.
+/// Parses a setting such as `wght=650` or `wdth=87.5`: the tag of an axis, and a decimal.
+///
+/// # Errors
+///
+/// Returns the error of the first wrong part: `NoValue` without a `=`, `Axis` if the text before it
+/// is not a tag, `Value` if the text after it is not a decimal in range.
 pub fn read_setting(text: &str) -> Result<Setting, SettingError>
     ensures { ParsesSetting text.now result }
 {
@@ -62,15 +71,22 @@ pub fn read_setting(text: &str) -> Result<Setting, SettingError>
 /// A variation axis, a record of `fvar`.
 #[derive(Clone, Copy)]
 pub struct VariationAxisRecord {
+    /// The tag of the axis, as `wght`.
     pub axis_tag: Tag,
+    /// The least value.
     pub min_value: Fixed,
+    /// The value of the default instance.
     pub default_value: Fixed,
+    /// The greatest value.
     pub max_value: Fixed,
+    /// Flags: 1 for an axis that is not shown to users.
     pub flags: u16,
+    /// The name of the axis in the table `name`.
     pub axis_name_id: NameId,
 }
 
-/// Reads a record: an axis of `fvar`, or returns `None` if there are fewer than 20 bytes.
+/// Reads an axis of `fvar`, or returns `None` if there are fewer than 20 bytes.
+#[must_use]
 pub fn read_axis(bytes: &[u8]) -> Option<VariationAxisRecord>
     ensures variant { IsSome result ↔ (20 ≤ length bytes.now) }
     ensures axis_tag { IfSome result (λ axis. tag_bytes axis.axis_tag ≡ take 4 bytes.now) }
@@ -94,8 +110,8 @@ pub fn read_axis(bytes: &[u8]) -> Option<VariationAxisRecord>
     })
 }
 
-/// Clamps: a value to a range.
-pub fn clamp(value: Fixed, min: Fixed, max: Fixed) -> Fixed
+// Clamps a value to a range.
+fn clamp(value: Fixed, min: Fixed, max: Fixed) -> Fixed
     requires { fixed_bits min ≤ℤ fixed_bits max }
     ensures low { fixed_bits min ≤ℤ fixed_bits result }
     ensures high { fixed_bits result ≤ℤ fixed_bits max }
@@ -107,8 +123,8 @@ pub fn clamp(value: Fixed, min: Fixed, max: Fixed) -> Fixed
     value.clamp(min, max)
 }
 
-/// Divides a part by its whole: a quotient from 0 to 1.
-pub fn ratio(part: Fixed, whole: Fixed) -> Fixed
+// Divides a part by its whole, as a quotient from 0 to 1.
+pub(crate) fn ratio(part: Fixed, whole: Fixed) -> Fixed
     requires part { (pos 0 ≤ℤ fixed_bits part) × (fixed_bits part ≤ℤ fixed_bits whole) }
     requires whole { whole ≢ Fixed.ZERO }
     ensures value { IsQuotient 32 16 (fixed_bits part) (fixed_bits whole) (fixed_bits result) }
@@ -134,35 +150,57 @@ fn negated_ratio(part: Fixed, whole: Fixed) -> Fixed
     -ratio(part, whole)
 }
 
+// Returns whether values can be normalized by an axis.
+fn has_range(axis: VariationAxisRecord) -> bool
+    ensures { IsTrue result ↔ HasRange (fixed_bits axis.min_value)
+        (fixed_bits axis.default_value) (fixed_bits axis.max_value) }
+{
+    axis.min_value <= axis.default_value
+        && axis.default_value <= axis.max_value
+        && axis.max_value.checked_sub(axis.min_value).is_some()
+}
+
 /// Normalizes a value of an axis to -1..1: clamps it to the axis, and divides its distance from the
-/// default by that of the end on its side.
-pub fn normalize(value: Fixed, axis: VariationAxisRecord) -> Fixed
-    requires order { (fixed_bits axis.min_value ≤ℤ fixed_bits axis.default_value)
-        × (fixed_bits axis.default_value ≤ℤ fixed_bits axis.max_value) }
-    requires width { FitsBits 32 (fixed_bits axis.max_value -ℤ fixed_bits axis.min_value) }
-    ensures default { fixed_bits value ≡ fixed_bits axis.default_value → fixed_bits result ≡ pos 0 }
-    ensures above { fixed_bits axis.default_value <ℤ fixed_bits value
+/// default by that of the end on its side. Returns `None` unless `min <= default <= max` and 16.16
+/// holds `max - min`.
+#[must_use]
+pub fn normalize(value: Fixed, axis: VariationAxisRecord) -> Option<Fixed>
+    ensures variant { IsSome result ↔ HasRange (fixed_bits axis.min_value)
+        (fixed_bits axis.default_value) (fixed_bits axis.max_value) }
+    ensures default { IfSome result (λ coordinate. fixed_bits value ≡ fixed_bits axis.default_value
+        → fixed_bits coordinate ≡ pos 0) }
+    ensures above { IfSome result (λ coordinate. fixed_bits axis.default_value <ℤ fixed_bits value
         → fixed_bits value ≤ℤ fixed_bits axis.max_value
         → IsQuotient 32 16 (fixed_bits value -ℤ fixed_bits axis.default_value)
-        (fixed_bits axis.max_value -ℤ fixed_bits axis.default_value) (fixed_bits result) }
-    ensures below { fixed_bits value <ℤ fixed_bits axis.default_value
+        (fixed_bits axis.max_value -ℤ fixed_bits axis.default_value) (fixed_bits coordinate)) }
+    ensures below { IfSome result (λ coordinate. fixed_bits value <ℤ fixed_bits axis.default_value
         → fixed_bits axis.min_value ≤ℤ fixed_bits value
         → IsQuotient 32 16 (fixed_bits axis.default_value -ℤ fixed_bits value)
-        (fixed_bits axis.default_value -ℤ fixed_bits axis.min_value) (neg_ℤ (fixed_bits result)) }
-    ensures no_rise { fixed_bits axis.max_value ≡ fixed_bits axis.default_value
-        → fixed_bits axis.default_value ≤ℤ fixed_bits value → fixed_bits result ≡ pos 0 }
-    ensures no_fall { fixed_bits axis.min_value ≡ fixed_bits axis.default_value
-        → fixed_bits value ≤ℤ fixed_bits axis.default_value → fixed_bits result ≡ pos 0 }
-    ensures max { fixed_bits axis.default_value <ℤ fixed_bits axis.max_value
+        (fixed_bits axis.default_value -ℤ fixed_bits axis.min_value)
+        (neg_ℤ (fixed_bits coordinate))) }
+    ensures no_rise { IfSome result (λ coordinate.
+        fixed_bits axis.max_value ≡ fixed_bits axis.default_value
+        → fixed_bits axis.default_value ≤ℤ fixed_bits value → fixed_bits coordinate ≡ pos 0) }
+    ensures no_fall { IfSome result (λ coordinate.
+        fixed_bits axis.min_value ≡ fixed_bits axis.default_value
+        → fixed_bits value ≤ℤ fixed_bits axis.default_value → fixed_bits coordinate ≡ pos 0) }
+    ensures max { IfSome result (λ coordinate.
+        fixed_bits axis.default_value <ℤ fixed_bits axis.max_value
         → fixed_bits axis.max_value ≤ℤ fixed_bits value
-        → fixed_bits result ≡ fixed_bits Fixed.ONE }
-    ensures min { fixed_bits axis.min_value <ℤ fixed_bits axis.default_value
+        → fixed_bits coordinate ≡ fixed_bits Fixed.ONE) }
+    ensures min { IfSome result (λ coordinate.
+        fixed_bits axis.min_value <ℤ fixed_bits axis.default_value
         → fixed_bits value ≤ℤ fixed_bits axis.min_value
-        → fixed_bits result ≡ fixed_bits Fixed.NEG_ONE }
-    ensures low { fixed_bits Fixed.NEG_ONE ≤ℤ fixed_bits result }
-    ensures high { fixed_bits result ≤ℤ fixed_bits Fixed.ONE }
+        → fixed_bits coordinate ≡ fixed_bits Fixed.NEG_ONE) }
+    ensures low { IfSome result (λ coordinate. fixed_bits Fixed.NEG_ONE ≤ℤ fixed_bits coordinate) }
+    ensures high { IfSome result (λ coordinate. fixed_bits coordinate ≤ℤ fixed_bits Fixed.ONE) }
 {
-    normalize_clamped(clamp(value, axis.min_value, axis.max_value), axis)
+    if has_range(axis) {
+        let clamped = clamp(value, axis.min_value, axis.max_value);
+        Some(normalize_clamped(clamped, axis))
+    } else {
+        None
+    }
 }
 
 // Normalizes a value within the axis.
@@ -199,6 +237,7 @@ fn normalize_clamped(value: Fixed, axis: VariationAxisRecord) -> Fixed
 }
 
 /// Clamps a coordinate to -1..1, and rounds it half up to 2.14, as `avar` and tuples store it.
+#[must_use]
 pub fn to_stored(coordinate: Fixed) -> F2Dot14
     ensures value { IsStoredCoordinate coordinate result }
     ensures low { f2dot14_bits F2Dot14.NEG_ONE ≤ℤ f2dot14_bits result }
@@ -209,15 +248,34 @@ pub fn to_stored(coordinate: Fixed) -> F2Dot14
 
 // ---- `avar`: segment maps
 
-/// A mapping of a segment map, widened.
-#[derive(Clone, Copy, PartialEq, Debug)]
-pub struct AxisValueMap {
-    pub from_coordinate: Fixed,
-    pub to_coordinate: Fixed,
+/// Finds the mappings of an axis in a table `avar`, each of four bytes. Returns `None` if the table
+/// has no such axis, or ends before the map of the axis does.
+#[must_use]
+#[tactic(auto, using(font_types::proofs::Callers::calls, crate::proofs::Segments::map_rules))]
+pub fn segment_map(avar: &[u8], axis: u16) -> Option<&[u8]>
+    ensures variant { IsSome result ↔ HasSegmentMap avar.now axis }
+    ensures value { IfSome result (λ map. map.now ≡ segment_map_bytes avar.now axis) }
+{
+    if axis >= u16::read_at(avar, 6)? {
+        return None;
+    }
+    let mut start = 8;
+    for _ in 0..axis {
+        start += 2 + 4 * usize::from(u16::read_at(avar, start)?);
+    }
+    let count = u16::read_at(avar, start)?;
+    avar.get(start + 2..)?.get(..4 * usize::from(count))
 }
 
-/// Interpolates linearly between two mappings; at either end the result is that end's coordinate.
-pub fn lerp(coordinate: Fixed, start: AxisValueMap, end: AxisValueMap) -> Fixed
+// A mapping of a segment map, in 16.16.
+#[derive(Clone, Copy)]
+struct AxisValueMap {
+    from_coordinate: Fixed,
+    to_coordinate: Fixed,
+}
+
+// Interpolates linearly between two mappings; at either end the result is that end's coordinate.
+fn lerp(coordinate: Fixed, start: AxisValueMap, end: AxisValueMap) -> Fixed
     requires { start.from_coordinate ≢ end.from_coordinate }
     ensures value { IsLerp coordinate start end result }
     ensures start { coordinate ≡ start.from_coordinate → result ≡ start.to_coordinate }
@@ -227,34 +285,50 @@ pub fn lerp(coordinate: Fixed, start: AxisValueMap, end: AxisValueMap) -> Fixed
     to + (end.to_coordinate - to).mul_div(coordinate - from, end.from_coordinate - from)
 }
 
-/// Finds the first element by `position`: the index of the mapping that ends the segment of a
-/// coordinate, at or above it.
-pub fn segment_end(coordinate: Fixed, map: &[AxisValueMap]) -> Option<usize>
+// Reads a mapping.
+fn read_mapping(map: &[u8], index: usize) -> AxisValueMap
+    requires { 4 * index + 4 ≤ length map.now }
+    ensures { result ≡ mapping_at map.now index }
+{
+    AxisValueMap {
+        from_coordinate: F2Dot14::read_at(map, 4 * index).unwrap().to_fixed(),
+        to_coordinate: F2Dot14::read_at(map, 4 * index + 2).unwrap().to_fixed(),
+    }
+}
+
+// Returns the index of the first mapping at or above a coordinate, which ends its segment.
+fn segment_end(coordinate: Fixed, map: &[u8]) -> Option<usize>
     ensures { MatchOption result
-        (AreBelow map.now (length map.now) (fixed_bits coordinate))
+        (AreBelow map.now (mapping_count map.now) (fixed_bits coordinate))
         (λ end. IsSegmentEnd (fixed_bits coordinate) map.now end) }
 {
-    map.iter()
-        .position(|mapping| coordinate <= mapping.from_coordinate)
+    for index in 0..map.len() / 4 {
+        if coordinate <= read_mapping(map, index).from_coordinate {
+            return Some(index);
+        }
+    }
+    None
 }
 
 // Maps a coordinate by the mapping that ends its segment, and the one before.
-fn map_in_segment(coordinate: Fixed, map: &[AxisValueMap], end: usize) -> Fixed
+fn map_in_segment(coordinate: Fixed, map: &[u8], end: usize) -> Fixed
     requires { IsSegmentEnd (fixed_bits coordinate) map.now end }
     ensures { IsMappedIn coordinate map.now end result }
 {
-    let mapping = map[end];
+    let mapping = read_mapping(map, end);
     if mapping.from_coordinate == coordinate {
         mapping.to_coordinate
     } else if end == 0 {
         coordinate
     } else {
-        lerp(coordinate, map[end - 1], mapping)
+        lerp(coordinate, read_mapping(map, end - 1), mapping)
     }
 }
 
-/// Maps a coordinate by a segment map, and leaves one below or above all mappings.
-pub fn map_coordinate(coordinate: Fixed, map: &[AxisValueMap]) -> Fixed
+/// Maps a coordinate by the mappings of a segment map, the bytes that [`segment_map`] returns. A
+/// coordinate below or above all mappings does not change.
+#[must_use]
+pub fn map_coordinate(coordinate: Fixed, map: &[u8]) -> Fixed
     ensures { IsMapped coordinate map.now result }
 {
     match segment_end(coordinate, map) {
@@ -263,8 +337,10 @@ pub fn map_coordinate(coordinate: Fixed, map: &[AxisValueMap]) -> Fixed
     }
 }
 
-/// Maps a coordinate as `normalize` gives it, and rounds it to 2.14 after that.
-pub fn final_coordinate(coordinate: Fixed, map: &[AxisValueMap]) -> F2Dot14
+/// Maps a coordinate from [`normalize`] by the mappings of a segment map, and then rounds it to
+/// 2.14. A font without `avar` has no mappings: `&[]`.
+#[must_use]
+pub fn final_coordinate(coordinate: Fixed, map: &[u8]) -> F2Dot14
     ensures { IsFinal coordinate map.now result }
 {
     to_stored(map_coordinate(coordinate, map))

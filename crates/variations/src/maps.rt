@@ -10,11 +10,14 @@ use font_types::{Scalar, Uint24};
 /// The indices of a delta set: of a subtable, and in it.
 #[derive(Clone, Copy, PartialEq, Debug)]
 pub struct DeltaSetIndex {
+    /// The index of the subtable in the store.
     pub outer: u32,
+    /// The index of the set in the subtable.
     pub inner: u32,
 }
 
 /// Returns whether the indices are those of an item without variation data.
+#[must_use]
 pub fn is_no_variation(set: DeltaSetIndex) -> bool
     ensures { IsTrue result ↔ IsNoVariation set.outer set.inner }
 {
@@ -29,6 +32,7 @@ const MAP_ENTRY_SIZE_MASK: u8 = 0x30;
 /// Reads the delta set of an index by a map of format 0 or 1; the last entry is that of all later
 /// indices. Returns `None` for another format or a map of no entries, or if the map ends before the
 /// entry does.
+#[must_use]
 pub fn read_delta_set_index(map: &[u8], index: u32) -> Option<DeltaSetIndex>
     ensures variant { IsSome result ↔ HasEntry map.now index }
     ensures outer { IfSome result (λ set.

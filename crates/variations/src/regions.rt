@@ -20,13 +20,17 @@ use font_types::{F2Dot14, Fixed, Scalar};
 /// The extent of a region along one axis.
 #[derive(Clone, Copy, PartialEq, Debug)]
 pub struct RegionAxisCoordinates {
+    /// Where the region starts.
     pub start_coord: F2Dot14,
+    /// Where its scalar is 1.
     pub peak_coord: F2Dot14,
+    /// Where it ends.
     pub end_coord: F2Dot14,
 }
 
 /// Returns whether an axis is ignored in a region: its coordinates are out of order or on both
 /// sides of zero, or the peak is zero.
+#[must_use]
 pub fn is_ignored(axis: RegionAxisCoordinates) -> bool
     ensures { IsTrue result ↔ IsIgnored (f2dot14_bits axis.start_coord)
         (f2dot14_bits axis.peak_coord) (f2dot14_bits axis.end_coord) }
@@ -39,6 +43,7 @@ pub fn is_ignored(axis: RegionAxisCoordinates) -> bool
 }
 
 /// Returns the scalar of a region along one axis, from 0 to 1.
+#[must_use]
 pub fn axis_scalar(axis: RegionAxisCoordinates, coordinate: F2Dot14) -> Fixed
     ensures value { IsAxisScalar (f2dot14_bits axis.start_coord) (f2dot14_bits axis.peak_coord)
         (f2dot14_bits axis.end_coord) (f2dot14_bits coordinate) (fixed_bits result) }
@@ -168,6 +173,7 @@ fn find_region(regions: &[u8], region: u16) -> Option<&[u8]>
 
 /// Returns the scalar of a region, the product of those of its axes, from 0 to 1, or `None` if the
 /// list does not have the region. Axes beyond the coordinates are at their default.
+#[must_use]
 pub fn region_scalar(regions: &[u8], region: u16, coordinates: &[F2Dot14]) -> Option<Fixed>
     ensures variant { IsSome result ↔ HasRegion regions.now region }
     ensures value { IfSome result (λ scalar.

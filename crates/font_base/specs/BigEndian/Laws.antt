@@ -1,7 +1,6 @@
 -- Fields are equal if and only if their bytes are, and their order agrees with that.
-use Rattle.std.proofs.Common.{◌≡◌, sym, ◌∙◌, ℕ, List, Bool, nat_eq, IsTrue}
+use Rattle.std.proofs.Common.{◌≡◌, ℕ, List, Bool, nat_eq, IsTrue}
 use Rattle.std.specs.Bool.{Decides}
-use Rattle.std.specs.Cmp.{both_ways}
 use Rattle.std.specs.Cmp.Lexicographic.{pointwise, bytes_decides}
 use Rattle.std.specs.Ordering.{is_eq}
 use mathlib.Core.HLevel.{is_prop→PathP}
@@ -12,15 +11,13 @@ use Rattle.font_base.specs.declared.raw.Scalar as Scalar
 use Rattle.font_base.specs.declared.big_endian.BigEndian.{BigEndian}
 use Rattle.font_base.specs.BigEndian.{raw_value}
 use Rattle.std.specs.declared.cmp.Ordering.{Ordering}
+use Rattle.std.proofs.Common.{arith}
 
 -- if `==` of the values is identity, an order that agrees with it also agrees with equality of their bytes
 pub same_answer : {V : Type 0} (R : V → V → Ordering) (E : V → V → Bool) → ((a b : V) → E a b ≡ is_eq (R a b))
     → ((a b : V) → Decides (E a b) (a ≡ b))
     → (a b : V) (xs ys : List ℕ) → (xs ≡ ys → a ≡ b) → (a ≡ b → xs ≡ ys) → pointwise nat_eq xs ys ≡ is_eq (R a b)
-same_answer R E agrees identity a b xs ys to from =
-    both_ways (pointwise nat_eq xs ys) (is_eq (R a b))
-    (λ same. sym (agrees a b) ∙ (identity a b).1 (to ((bytes_decides xs ys).0 same)))
-    (λ tied. (bytes_decides xs ys).1 (from ((identity a b).0 (agrees a b ∙ tied))))
+same_answer R E agrees identity a b xs ys to from = grind (arith, bytes_decides)
 
 -- fields with the same raw bytes are the same
 pub same_field : {T R X : Type 0} {scalar : Scalar.Ghosts T X} {size : FixedSize.Ghosts T} {x : BeByteArray.Ghosts X}

@@ -1,5 +1,5 @@
 -- An integer and its bytes determine each other.
-use Rattle.std.proofs.Common.{◌≡◌, ◌∙◌, sym, ap, subst, refl, ℕ, zero, suc, ◌+◌, ◌*◌, ◌/◌, ◌%◌, ◌^◌, ◌<◌, Bool, true, ℤ}
+use Rattle.std.proofs.Common.{◌≡◌, ◌∙◌, sym, ap, refl, ℕ, zero, suc, ◌+◌, ◌*◌, ◌/◌, ◌%◌, ◌^◌, ◌<◌, Bool, true, ℤ}
 use Rattle.std.proofs.Common.{pos, ◌+ℤ◌, ◌*ℤ◌, List, [], ◌∷◌, length, get_or, fold, arith, IsTrue, nat_lt, ◌==◌, lit<}
 use Rattle.std.proofs.Common.{pow-add, div-add-mod', eq-eqb, eqb-true, lt-ltb, ltb-true}
 use Rattle.std.proofs.lemmas.Int.{ints}
@@ -12,8 +12,7 @@ use Rattle.std.specs.Int.{bytes_high_first, byte_at}
 use lib.Arith.{digits_lt, digits_div, mod-mul}
 use Rattle.font_base.specs.Integers.{sum-times}
 use Rattle.font_base.specs.Wrap.{FitsBits, fits_bits, wrap}
-use Rattle.font_base.specs.Wrap.Laws.{fits_bits-true, FitsBits-fits_bits, remainder, same_rest, wrap_is, wrap_same}
-use Rattle.font_base.specs.Wrap.Laws.{wrap-fits}
+use Rattle.font_base.specs.Wrap.Laws.{fits_bits-true, remainder, same_rest, wrap_is, wrap_same, wrap-fits}
 use Rattle.font_base.specs.Bytes.{numeral, are_bytes, IsBytesOf, bytes_of, signed_numeral}
 
 -- one step of `numeral`
@@ -23,13 +22,7 @@ push_byte n byte = n * 256 + byte
 fold-numeral : (a : ℕ) (bytes : List ℕ) → fold push_byte a bytes ≡ a * 256 ^ length bytes + numeral bytes
 fold-numeral a [] = omega arith
 fold-numeral a (b ∷ bs) =
-    rw (fold-numeral (a * 256 + b) bs, fold-numeral (0 * 256 + b) bs)
-    (omega (
-      arith,
-      add-mul (a * 256) b (256 ^ length bs),
-      mul_assoc a 256 (256 ^ length bs),
-      ap (λ p. a * p) (pow-suc 256 (length bs)),
-    ))
+    grind (arith, fold-numeral (a * 256 + b) bs, fold-numeral (0 * 256 + b) bs, add-mul, mul_assoc)
 
 -- the first byte is the most significant
 pub numeral-cons : (b : ℕ) (bs : List ℕ) → numeral (b ∷ bs) ≡ b * 256 ^ length bs + numeral bs
@@ -60,18 +53,14 @@ length-bytes_high_first zero n = refl
 length-bytes_high_first (suc k) n = ap suc (length-bytes_high_first k n)
 
 byte_at_is : (k n : ℕ) → byte_at k n ≡ n / 256 ^ k % 256
-byte_at_is zero n = ap (λ q. q % 256) (omega arith)
-byte_at_is (suc k) n = refl
+byte_at_is v0 n = grind arith
 
 each_high_first : (k n : ℕ) → list_all is_byte (bytes_high_first k n) ≡ true
 each_high_first zero n = refl
-each_high_first (suc k) n =
-    both_true (rw (byte_at_is k n) (lt-ltb (n / 256 ^ k % 256) 256 (mod-lt (n / 256 ^ k) (lit< tt))))
-    (each_high_first k n)
+each_high_first (suc k) n = grind (arith, each_high_first k n)
 
 are_bytes-high_first : (k n : ℕ) → IsTrue (are_bytes k (bytes_high_first k n))
-are_bytes-high_first k n =
-    both_true (eq-eqb (length (bytes_high_first k n)) k (length-bytes_high_first k n)) (each_high_first k n)
+are_bytes-high_first k n = grind (arith, eq-eqb, length-bytes_high_first, each_high_first)
 
 some_power : (k : ℕ) → 0 < 256 ^ k
 some_power k = one-le-pow k 256 (lit< tt)
@@ -121,23 +110,15 @@ bytes_high_first-numeral (b ∷ bs) each =
 
 pow-256 : (n : ℕ) → 256 ^ n ≡ 2 ^ (8 * n)
 pow-256 zero = refl
-pow-256 (suc n) =
-    pow-suc 256 n ∙ ap (λ p. p * 256) (pow-256 n) ∙ sym (pow-add 2 (8 * n) 8) ∙ ap (λ k. 2 ^ k) (omega arith)
+pow-256 (suc n) = grind (arith, pow-256 n, pow-add 2 (8 * n) 8)
 
 pub bytes_of_is : (n : ℕ) (v : ℤ) → IsBytesOf n v (bytes_of n v)
 unfolding bytes_of
 bytes_of_is n v =
-    let parts = remainder v (256 ^ n) (some_power n) in
-    rw parts.is (record {
-      are = are_bytes-high_first n parts.rest;
-      turns = parts.turns;
-      differs = rw (numeral-bytes_high_first n parts.rest, mod-eq_of_lt parts.below) parts.parts;
-    })
+    grind (arith, remainder v (256 ^ n) (some_power n), are_bytes-high_first, numeral-bytes_high_first, mod-eq_of_lt)
 
 pub numeral_below : (n : ℕ) (bytes : List ℕ) → IsTrue (are_bytes n bytes) → numeral bytes < 256 ^ n
-numeral_below n bytes are =
-    let many = are_bytes-length n bytes are in
-    subst (λ (k : ℕ). numeral bytes < 256 ^ k) many (numeral_of_bytes_below bytes (are_bytes-each n bytes are))
+numeral_below n bytes are = grind (arith, numeral_of_bytes_below)
 
 -- the n bytes of an integer are unique
 pub bytes_unique : (n : ℕ) (v : ℤ) (xs ys : List ℕ) → IsBytesOf n v xs → IsBytesOf n v ys → xs ≡ ys
@@ -195,8 +176,7 @@ bytes_of-numeral n bytes are = sym (bytes_of_gives n (pos (numeral bytes)) bytes
 
 pub numeral-bytes_of : (n v : ℕ) → v < 256 ^ n → numeral (bytes_of n (pos v)) ≡ v
 unfolding bytes_of
-numeral-bytes_of n v below =
-    numeral-bytes_high_first n (v % 256 ^ n) ∙ mod-eq_of_lt (mod-lt v (some_power n)) ∙ mod-eq_of_lt below
+numeral-bytes_of n v below = grind (arith, numeral-bytes_high_first, mod-eq_of_lt, mod-lt, some_power)
 
 pub bytes_of-signed_numeral : (n : ℕ) (bytes : List ℕ) → 0 < n → IsTrue (are_bytes n bytes)
     → bytes_of n (signed_numeral n bytes) ≡ bytes
@@ -227,8 +207,7 @@ unsigned_back n v test = numeral-bytes_of n v (ltb-true v (256 ^ n) test)
 
 pub signed_value : (n : ℕ) → 0 < n → (bytes : List ℕ) → IsTrue (are_bytes n bytes)
     → IsTrue (fits_bits (8 * n) (signed_numeral n bytes))
-signed_value n some bytes are = FitsBits-fits_bits (8 * n) (signed_numeral n bytes)
-    (FitsBits-signed_numeral n bytes some)
+signed_value n some bytes are = grind (arith, FitsBits-signed_numeral)
 
 pub signed_back : (n : ℕ) → 0 < n → (v : ℤ) → IsTrue (fits_bits (8 * n) v) → signed_numeral n (bytes_of n v) ≡ v
 signed_back n some v test = signed_numeral-bytes_of n v some (fits_bits-true (8 * n) v test)

@@ -1,41 +1,30 @@
 -- The laws of a scalar that is an integer or a newtype of one: for a type of `n` bytes, with the functions from a value
 -- to its integer and back.
-use Rattle.std.proofs.Common.{◌≡◌, ◌∙◌, sym, ap, refl, ℕ, ◌^◌, ◌*◌, ◌<◌, ℤ, pos, nat_eq, nat_lt}
+use Rattle.std.proofs.Common.{◌≡◌, refl, ℕ, ◌^◌, ◌*◌, ◌<◌, ℤ, pos, nat_eq, nat_lt}
 use Rattle.std.specs.Bool.{Decides}
-use Rattle.std.specs.Cmp.{signed_Decides, unsigned_Decides}
 use Rattle.std.specs.Ordering.{int_eq}
 use Rattle.font_base.specs.Wrap.{fits_bits}
 use Rattle.font_base.specs.Bytes.{numeral, are_bytes, bytes_of, signed_numeral}
 use Rattle.font_base.specs.Bytes.Laws.{are_bytes-bytes_of, bytes_of-numeral, bytes_of-signed_numeral, unsigned_value}
 use Rattle.font_base.specs.Bytes.Laws.{unsigned_back, signed_value, signed_back}
 use Rattle.font_base.specs.Scalar.{ScalarLaws}
+use Rattle.std.proofs.Common.{arith}
 
 -- a newtype of an unsigned integer
 pub unsigned_newtype : {T : Type 0} (n : ℕ) (number_of : T → ℕ) (of_number : ℕ → T)
     → ((m : ℕ) → number_of (of_number m) ≡ m) → ((x : T) → of_number (number_of x) ≡ x)
     → ScalarLaws (λ x. nat_lt (number_of x) (256 ^ n)) (are_bytes n) (λ bytes. of_number (numeral bytes))
     (λ x. bytes_of n (pos (number_of x))) n n
-unsigned_newtype n number_of of_number there back = record {
-  of_raw_value = λ bytes are. rw (there (numeral bytes)) (unsigned_value n bytes are);
-  raw_of_value = λ x _. are_bytes-bytes_of n (pos (number_of x));
-  back = λ x value. ap of_number (unsigned_back n (number_of x) value) ∙ back x;
-  forth = λ bytes are. ap (λ m. bytes_of n (pos m)) (there (numeral bytes)) ∙ bytes_of-numeral n bytes are;
-  lengths_agree = refl;
-}
+unsigned_newtype n number_of of_number there back =
+    grind (arith, unsigned_value, are_bytes-bytes_of, unsigned_back, bytes_of-numeral)
 
 -- a newtype of a signed integer
 pub signed_newtype : {T : Type 0} (n : ℕ) → 0 < n → (number_of : T → ℤ) (of_number : ℤ → T)
     → ((z : ℤ) → number_of (of_number z) ≡ z) → ((x : T) → of_number (number_of x) ≡ x)
     → ScalarLaws (λ x. fits_bits (8 * n) (number_of x)) (are_bytes n) (λ bytes. of_number (signed_numeral n bytes))
     (λ x. bytes_of n (number_of x)) n n
-signed_newtype n some number_of of_number there back = record {
-  of_raw_value = λ bytes are. rw (there (signed_numeral n bytes)) (signed_value n some bytes are);
-  raw_of_value = λ x _. are_bytes-bytes_of n (number_of x);
-  back = λ x value. ap of_number (signed_back n some (number_of x) value) ∙ back x;
-  forth = λ bytes are. ap (λ z. bytes_of n z) (there (signed_numeral n bytes))
-      ∙ bytes_of-signed_numeral n bytes some are;
-  lengths_agree = refl;
-}
+signed_newtype n some number_of of_number there back =
+    grind (arith, signed_value, are_bytes-bytes_of, signed_back, bytes_of-signed_numeral)
 
 -- the integer itself
 pub unsigned_laws : (n : ℕ) → ScalarLaws (λ (m : ℕ). nat_lt m (256 ^ n)) (are_bytes n) numeral
@@ -48,12 +37,8 @@ signed_laws n some = signed_newtype n some (λ z. z) (λ z. z) (λ _. refl) (λ 
 -- if a value is determined by its integer, `==` of the integers is identity
 pub unsigned_identity : {T : Type 0} (number_of : T → ℕ) (of_number : ℕ → T) → ((x : T) → of_number (number_of x) ≡ x)
     → (x y : T) → Decides (nat_eq (number_of x) (number_of y)) (x ≡ y)
-unsigned_identity number_of of_number back x y =
-    let decides = unsigned_Decides (number_of x) (number_of y) in
-    (λ same. sym (back x) ∙ ap of_number (decides.0 same) ∙ back y, λ same. decides.1 (ap number_of same))
+unsigned_identity number_of of_number back x y = grind arith
 
 pub signed_identity : {T : Type 0} (number_of : T → ℤ) (of_number : ℤ → T) → ((x : T) → of_number (number_of x) ≡ x)
     → (x y : T) → Decides (int_eq (number_of x) (number_of y)) (x ≡ y)
-signed_identity number_of of_number back x y =
-    let decides = signed_Decides (number_of x) (number_of y) in
-    (λ same. sym (back x) ∙ ap of_number (decides.0 same) ∙ back y, λ same. decides.1 (ap number_of same))
+signed_identity number_of of_number back x y = grind arith

@@ -1,11 +1,8 @@
 -- Wrapping is unique, and commutes with sums, negation and wrapping to fewer bits.
 use Rattle.std.proofs.Common.{◌≡◌, ◌∙◌, sym, ap, refl, ℕ, zero, suc, ◌+◌, ◌-◌, ◌*◌, ◌/◌, ◌%◌, ◌^◌, ◌<◌, ◌≤◌, ℤ, pos}
-use Rattle.std.proofs.Common.{negsuc, ◌+ℤ◌, ◌*ℤ◌, neg_ℤ, ◌≤ℤ◌, ◌<ℤ◌, true, int_le, int_lt, IsTrue, arith, pow_pos}
-use Rattle.std.proofs.Common.{pow-add, div-add-mod'}
+use Rattle.std.proofs.Common.{negsuc, ◌+ℤ◌, ◌*ℤ◌, ◌≤ℤ◌, ◌<ℤ◌, IsTrue, arith, pow_pos, pow-add, div-add-mod'}
 use Rattle.std.proofs.lemmas.Int.{by_lt_z}
-use Rattle.std.proofs.Math.Nat.{mul-le-mul_right, pow-suc, add-mul, mod-lt}
-use Rattle.std.specs.Cmp.{first_so, second_so}
-use Rattle.std.specs.Cmp.Derive.{both_true}
+use Rattle.std.proofs.Math.Nat.{mul-le-mul_right, add-mul, mod-lt}
 use Rattle.std.specs.Int.{int_rem_euclid}
 use borrow.Author.Differences.{ints, up, down}
 use Rattle.font_base.specs.Integers.{sum-times, product-times}
@@ -14,8 +11,7 @@ use Rattle.font_base.specs.Wrap.{half_range, FitsBits, fits_bits, IsWrapped, wra
 -- w bits have twice as many values as w - 1 bits
 pub two_halves : (w : ℕ) → 0 < w → 2 ^ w ≡ half_range w + half_range w
 two_halves zero positive = absurd (omega arith)
-two_halves (suc w) positive =
-    let less : suc w - 1 ≡ w = omega arith in rw less (omega (arith, pow-suc 2 w))
+two_halves (suc w) positive = grind arith
 
 -- an integer is its remainder plus a multiple of the divisor
 pub record Remainder (z : ℤ) (d : ℕ) : Type 0 where
@@ -123,13 +119,7 @@ wrap-wrap u v z some less =
 -- ---- the decidable form
 
 pub fits_bits-true : (w : ℕ) (z : ℤ) → IsTrue (fits_bits w z) → FitsBits w z
-fits_bits-true w z test =
-    let low = first_so (int_le (neg_ℤ (pos (half_range w))) z) (int_lt z (pos (half_range w))) test in
-    let high = second_so (int_le (neg_ℤ (pos (half_range w))) z) (int_lt z (pos (half_range w))) test in
-    record { low = omega (arith, ints, low); high = omega (arith, ints, high) }
+fits_bits-true w z test = grind arith
 
 pub FitsBits-fits_bits : (w : ℕ) (z : ℤ) → FitsBits w z → IsTrue (fits_bits w z)
-FitsBits-fits_bits w z fits =
-    let low : true ≡ int_le (neg_ℤ (pos (half_range w))) z = omega (arith, ints, fits.low) in
-    let high : true ≡ int_lt z (pos (half_range w)) = omega (arith, ints, fits.high) in
-    both_true (sym low) (sym high)
+FitsBits-fits_bits w z fits = grind arith

@@ -1,7 +1,7 @@
 //! Laws of [`Fixed`], as contracts of functions.
 
-ghost use Rattle.std.specs.Prelude.{pos, ◌≤ℤ◌, ◌<ℤ◌};
-ghost use Rattle.font_base.specs.Wrap.{FitsBits};
+ghost use Rattle.std.specs.Prelude.{pos, unsigned_abs, ◌≢◌, ◌≤◌, ◌-ℤ◌, ◌≤ℤ◌, ◌<ℤ◌};
+ghost use Rattle.font_base.specs.Wrap.{wrap, FitsBits};
 ghost use Rattle.font_fixed.specs.Fixed.{fixed_bits};
 ghost use Rattle.font_fixed.specs.Operations.{IsMulDiv, rounded_mul_div};
 ghost use Rattle.font_fixed.specs.NumberLaws.{OnFour, ProductLaws, ProductInOneStep};
@@ -58,4 +58,27 @@ pub fn scaled_in_order(x: Fixed, y: Fixed, a: Fixed, c: Fixed) -> (Fixed, Fixed)
         → fixed_bits result.0 ≤ℤ fixed_bits result.1 }
 {
     (x.mul_div(a, c), y.mul_div(a, c))
+}
+
+/// Returns `x.mul_div(a, c)`, `y.mul_div(a, c)` and `(x - y).mul_div(a, c)`: two coordinates and
+/// their distance, scaled by one ratio. If `c` is not zero and nothing overflows, the difference of
+/// the first two is within one raw unit of the third.
+#[must_use]
+#[inline]
+#[tactic(auto, using(crate::proofs::Orders::scaled_distance))]
+pub fn scaled_distance(x: Fixed, y: Fixed, a: Fixed, c: Fixed) -> (Fixed, Fixed, Fixed)
+    ensures first { IsMulDiv 32 (fixed_bits x) (fixed_bits a) (fixed_bits c)
+        (fixed_bits result.0) }
+    ensures second { IsMulDiv 32 (fixed_bits y) (fixed_bits a) (fixed_bits c)
+        (fixed_bits result.1) }
+    ensures third { IsMulDiv 32 (wrap 32 (fixed_bits x -ℤ fixed_bits y)) (fixed_bits a)
+        (fixed_bits c) (fixed_bits result.2) }
+    ensures close { fixed_bits c ≢ pos 0 → FitsBits 32 (fixed_bits x -ℤ fixed_bits y)
+        → FitsBits 32 (rounded_mul_div (fixed_bits x) (fixed_bits a) (fixed_bits c))
+        → FitsBits 32 (rounded_mul_div (fixed_bits y) (fixed_bits a) (fixed_bits c))
+        → FitsBits 32
+        (rounded_mul_div (fixed_bits x -ℤ fixed_bits y) (fixed_bits a) (fixed_bits c))
+        → unsigned_abs ((fixed_bits result.0 -ℤ fixed_bits result.1) -ℤ fixed_bits result.2) ≤ 1 }
+{
+    (x.mul_div(a, c), y.mul_div(a, c), (x - y).mul_div(a, c))
 }

@@ -224,6 +224,9 @@ fn order_and_bounds(rt: HostRuntime) {
         );
         assert!(rt; [first, second].map(Fixed::to_bits) == right, "{x}, {y}");
     }
+    // Each rounds away from zero, and their distance is one unit more than the scaled distance.
+    let [x, y, c] = [1, -1, 2].map(Fixed::from_bits);
+    assert!(rt; fixed::scaled_distance(x, y, x, c) == (x, y, x));
     let ties = [-0x8001, -0x8000, 0x7FFF, 0x8000].map(Fixed::from_bits);
     assert!(rt; ties.map(Fixed::to_i32) == [-1, 0, 0, 1]);
     assert!(rt; ties.map(Fixed::round) == [-1, 0, 0, 1].map(Fixed::from_i32));

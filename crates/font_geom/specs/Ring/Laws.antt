@@ -26,28 +26,22 @@ module _ {T : Type 0} {n : ℕ} {number : T → ℕ} {zero one : T} {plus times 
     (it : IsModular n number zero one plus times) where
   -- a sum of sums, and a product of products
   plus_sum : (x y z : T) → number (plus (plus x y) z) ≡ (number x + number y + number z) % n
-  plus_sum x y z = it.number-plus (plus x y) z ∙ ap (λ k. (k + number z) % n) (it.number-plus x y) ∙ mod-add-mod
-      (number x + number y) n (number z)
+  plus_sum x y z = grind (arith, mod-add-mod)
 
   sum_plus : (x y z : T) → number (plus x (plus y z)) ≡ (number x + (number y + number z)) % n
-  sum_plus x y z = it.number-plus x (plus y z) ∙ ap (λ k. (number x + k) % n) (it.number-plus y z) ∙ add-mod-mod
-      (number x) (number y + number z) n
+  sum_plus x y z = grind (arith, add-mod-mod (number x) (number y + number z) n)
 
   times_product : (x y z : T) → number (times (times x y) z) ≡ (number x * number y * number z) % n
-  times_product x y z = it.number-times (times x y) z ∙ ap (λ k. (k * number z) % n) (it.number-times x y)
-      ∙ mul-mod_first (number x * number y) (number z) n
+  times_product x y z = grind (arith, mul-mod_first)
 
   product_times : (x y z : T) → number (times x (times y z)) ≡ (number x * (number y * number z)) % n
-  product_times x y z = it.number-times x (times y z) ∙ ap (λ k. (number x * k) % n) (it.number-times y z)
-      ∙ mul-mod_second (number x) (number y * number z) n
+  product_times x y z = grind (arith, mul-mod_second)
 
   times_plus : (x y z : T) → number (times x (plus y z)) ≡ (number x * (number y + number z)) % n
-  times_plus x y z = it.number-times x (plus y z) ∙ ap (λ k. (number x * k) % n) (it.number-plus y z) ∙ mul-mod_second
-      (number x) (number y + number z) n
+  times_plus x y z = grind (arith, mul-mod_second)
 
   plus_times : (x y z : T) → number (times (plus x y) z) ≡ ((number x + number y) * number z) % n
-  plus_times x y z = it.number-times (plus x y) z ∙ ap (λ k. (k * number z) % n) (it.number-plus x y) ∙ mul-mod_first
-      (number x + number y) (number z) n
+  plus_times x y z = grind (arith, mul-mod_first)
 
   both_products : (j k a b : T) → number (plus (times j k) (times a b))
       ≡ (number j * number k + number a * number b) % n

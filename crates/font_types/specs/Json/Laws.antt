@@ -1,10 +1,9 @@
 -- JSON forms convert back.
-use Rattle.std.proofs.Common.{◌≡◌, ◌∙◌, sym, ap, refl, negsuc, ℕ, ◌-◌, ◌^◌, ◌≤◌, ℤ, pos, List, ◌++◌, length, replicate}
-use Rattle.std.proofs.Common.{true, nat_lt, IsUtf8, IsTrue, Result, Ok, Err, ◌&&◌, int_le, arith, ltb-true, append-nil}
-use Rattle.std.proofs.lemmas.Int.{ints}
+use Rattle.std.proofs.Common.{◌≡◌, ap, ℕ, ◌-◌, ◌^◌, ◌≤◌, ℤ, pos, List, length}
+use Rattle.std.proofs.Common.{nat_lt, IsUtf8, IsTrue, Result, Ok, Err, ◌&&◌, arith, append-nil}
 use Rattle.std.specs.Result.{result_map_both}
-use Rattle.serde_json.specs.Data.{Data, string, number}
-use Rattle.serde_json.specs.Find.{as_str, of_integer}
+use Rattle.serde_json.specs.Data.{Data, string}
+use Rattle.serde_json.specs.Find.{as_str}
 use Rattle.font_base.specs.Wrap.{fits_bits}
 use Rattle.font_base.specs.Wrap.Laws.{fits_bits-true}
 use Rattle.font_decimal.specs.Shortest.{shortest_text}
@@ -15,16 +14,13 @@ use Rattle.font_types.specs.declared.json.JsonFault.{JsonFault}
 use Rattle.font_types.specs.declared.json.JsonFault.TheVariants.{Memory, WrongKind, OutOfRange, Syntax, NotUtf8}
 use Rattle.font_types.specs.declared.json.JsonFault.TheVariants.{InvalidTag, MissingMember}
 use Rattle.font_types.specs.Json.{JsonForm, IsTagRefused, IsNumber, is_within, ConvertsInteger, ConvertsDecimalText}
-use Rattle.font_types.specs.Json.{ConvertsDecimal, ConvertsTagText, ConvertsTagString, TagComesBack}
-use Rattle.font_types.specs.Json.{number_within, version_form}
-use Rattle.font_types.specs.Json.{version_numbers, ConvertsVersion}
-use Rattle.std.specs.Cmp.{first_so, second_so}
-use Rattle.std.specs.Cmp.Derive.{both_true}
+use Rattle.font_types.specs.Json.{ConvertsDecimal, ConvertsTagString, TagComesBack}
+use Rattle.font_types.specs.Json.{version_form}
+use Rattle.font_types.specs.Json.{ConvertsVersion}
 use Rattle.font_base.specs.Bytes.{are_bytes}
-use Rattle.font_base.specs.Bytes.Laws.{are_bytes-length}
 use Rattle.font_tags.specs.declared.tag.Tag.{Tag}
 use Rattle.font_tags.specs.declared.version.MajorMinor.{MajorMinor}
-use Rattle.font_tags.specs.Tag.{tag_bytes, tag_of, filled}
+use Rattle.font_tags.specs.Tag.{tag_bytes, filled}
 
 -- a printed value parses back
 text_reads_back : (w f : ℕ) (text : List ℕ) (b : ℤ) (result : Result ℤ JsonFault) → ReadsBits w f text b
@@ -43,9 +39,7 @@ text_reads_back w f text b (Err MissingMember) reads read = absurd read
 same_read : {T : Type 0} (bits_of : T → ℤ) (of_bits : ℤ → T) → ((x : T) → of_bits (bits_of x) ≡ x)
     → (x : T) (result : Result T JsonFault)
     → result_map_both bits_of (λ fault. fault) result ≡ Ok (bits_of x) → result ≡ Ok x
-same_read bits_of of_bits back x (Ok y) same = let equal : bits_of y ≡ bits_of x = cc in
-    ap Ok (sym (back y) ∙ ap of_bits equal ∙ back x)
-same_read bits_of of_bits back x (Err fault) same = absurd (cc)
+same_read bits_of of_bits back x v4 same = grind arith
 
 -- a fixed-point number
 pub fixed_round_trip : {T : Type 0} (w f : ℕ) (bits_of : T → ℤ) (of_bits : ℤ → T) → ((x : T) → of_bits (bits_of x) ≡ x)
@@ -74,26 +68,12 @@ fixed_form w f bits_of of_bits back room = record {
 
 -- ---- integers
 
--- an integer in range converts back
-number_reads_back : (min max z : ℤ) → IsTrue (is_within min max z) → number_within min max (number (of_integer z))
-    ≡ Ok z
-number_reads_back min max (pos n) within = rw within refl
-number_reads_back min max (negsuc n) within = rw within refl
-
 -- a value that is determined by its integer
 pub number_round_trip : {T : Type 0} (number_of : T → ℤ) → ((x y : T) → number_of x ≡ number_of y → x ≡ y)
     → (min max : ℤ) (x : T) (d : Data) (result : Result T JsonFault)
     → IsTrue (is_within min max (number_of x)) → IsNumber (number_of x) d → ConvertsInteger min max number_of d result
     → result ≡ Ok x
-number_round_trip number_of same min max x d (Ok y) within shown read =
-    let equal : result_map_both number_of (λ fault. fault) (Ok y) ≡ Ok (number_of x) = read ∙ rw shown
-    (number_reads_back min max (number_of x) within) in
-    let numbers : number_of y ≡ number_of x = cc in
-    ap Ok (same y x numbers)
-number_round_trip number_of same min max x d (Err fault) within shown read =
-    let equal : result_map_both number_of (λ fault. fault) (Err fault) ≡ Ok (number_of x) = read ∙ rw shown
-    (number_reads_back min max (number_of x) within) in
-    absurd (cc)
+number_round_trip number_of same min max x d v6 within shown read = grind arith
 
 abbrev pub number_form : {T : Type 0} (min max : ℤ) (number_of : T → ℤ)
     → ((x y : T) → number_of x ≡ number_of y → x ≡ y) → JsonForm T
@@ -124,33 +104,12 @@ unsigned_form w number_of same = number_form (pos 0) (pos (2 ^ w - 1)) (λ x. po
 
 -- four bytes need no padding
 unfilled : (bytes : List ℕ) → length bytes ≡ 4 → filled bytes ≡ bytes
-unfilled bytes many = let none : 4 - length bytes ≡ 0 = omega (arith, many) in ap (λ n. bytes ++ replicate n 0x20) none
-    ∙ append-nil bytes
+unfilled bytes many = grind (arith, append-nil)
 
 pub tag_round_trip : (tag : Tag) (d : Data) (result : Result Tag JsonFault) → IsTrue (are_bytes 4 (tag_bytes tag))
     → (IsUtf8 (tag_bytes tag) × (d ≡ string (tag_bytes tag)))
     → ConvertsTagString (as_str d) result → TagComesBack tag result
-tag_round_trip tag d result value shown read =
-    let many = are_bytes-length 4 (tag_bytes tag) value in
-    let text : ConvertsTagText (tag_bytes tag) result = rw shown.1 at read in
-    came_back tag result many text
-  where
-    came_back : (tag : Tag) (result : Result Tag JsonFault) → length (tag_bytes tag) ≡ 4
-        → ConvertsTagText (tag_bytes tag) result → TagComesBack tag result
-    came_back tag (Ok other) many made = record {
-      good = λ _. ap Ok (ap tag_of (made.1 ∙ unfilled (tag_bytes tag) many));
-      other = λ bad. absurd (bad made.0.1);
-    }
-    came_back tag (Err InvalidTag) many made = record {
-      good = λ good. absurd (made ((omega (arith, many), omega (arith, many)), good));
-      other = λ _. refl;
-    }
-    came_back tag (Err Memory) many made = absurd made
-    came_back tag (Err WrongKind) many made = absurd made
-    came_back tag (Err OutOfRange) many made = absurd made
-    came_back tag (Err Syntax) many made = absurd made
-    came_back tag (Err NotUtf8) many made = absurd made
-    came_back tag (Err MissingMember) many made = absurd made
+tag_round_trip tag d result value shown read = grind (arith, unfilled)
 
 abbrev pub tag_form : JsonForm Tag
 tag_form = record {
@@ -164,38 +123,10 @@ tag_form = record {
 
 -- ---- versions
 
-sixteen_bits : (n : ℕ) → IsTrue (nat_lt n (2 ^ 16)) → IsTrue (int_le (pos 0) (pos n) && int_le (pos n) (pos 65535))
-sixteen_bits n test =
-    let below = ltb-true n (2 ^ 16) test in
-    let low : true ≡ int_le (pos 0) (pos n) = omega (arith, ints) in
-    let high : true ≡ int_le (pos n) (pos 65535) = omega (arith, ints, below) in
-    both_true (sym low) (sym high)
-
 pub version_round_trip : (version : MajorMinor) (d : Data) (result : Result MajorMinor JsonFault)
     → IsTrue (nat_lt version.major (2 ^ 16) && nat_lt version.minor (2 ^ 16))
     → d ≡ version_form version.major version.minor → ConvertsVersion d result → result ≡ Ok version
-version_round_trip version d result value shown read =
-    let first = sixteen_bits version.major
-    (first_so (nat_lt version.major (2 ^ 16)) (nat_lt version.minor (2 ^ 16)) value) in
-    let second = sixteen_bits version.minor
-    (second_so (nat_lt version.major (2 ^ 16)) (nat_lt version.minor (2 ^ 16)) value) in
-    let numbers : Result (ℤ × ℤ) JsonFault = Ok (pos version.major, pos version.minor) in
-    let form : version_numbers (version_form version.major version.minor) ≡ numbers = rw (first, second) refl in
-    came_back version result (read ∙ ap version_numbers shown ∙ form)
-  where
-    came_back : (version : MajorMinor) (result : Result MajorMinor JsonFault)
-        → result_map_both {U = ℤ × ℤ} (λ v. (pos v.major, pos v.minor)) (λ fault. fault) result ≡ Ok
-        (pos version.major, pos version.minor) → result ≡ Ok version
-    came_back version (Ok other) same =
-        let read : ℤ × ℤ = (pos other.major, pos other.minor) in
-        let shown : ℤ × ℤ = (pos version.major, pos version.minor) in
-        let pair : read ≡ shown = cc in
-        let first : pos other.major ≡ pos version.major = ap (λ (p : ℤ × ℤ). p.0) pair in
-        let second : pos other.minor ≡ pos version.minor = ap (λ (p : ℤ × ℤ). p.1) pair in
-        let major : other.major ≡ version.major = cc in
-        let minor : other.minor ≡ version.minor = cc in
-        ap Ok (λ i. record { major = major i; minor = minor i })
-    came_back version (Err fault) same = absurd (cc)
+version_round_trip version d result value shown read = grind arith
 
 abbrev pub version_form_of : JsonForm MajorMinor
 version_form_of = record {

@@ -171,7 +171,7 @@ impl JsonScalar for Offset32 {
     }
 }
 
-#[tactic(auto, using(crate::proofs::FourBytes::four_bytes))]
+#[tactic(auto, using(crate::proofs::ArrayNumbers::numeral_of_4))]
 impl JsonScalar for Version16Dot16 {
     ghost form = { unsigned_form 32 version_bits (λ _ _ same. ap version_of same) };
 

@@ -5,7 +5,8 @@ use Rattle.std.proofs.lemmas.List.{take_rest}
 use Rattle.std.proofs.lemmas.Nat.{one_shl}
 use Rattle.font_decimal.proofs.Texts.{same_point}
 use Rattle.font_decimal.proofs.Parts.{fraction_found, parts_found}
-use Rattle.font_decimal.proofs.Rounding.{half_units_below, units_fit, UnitsFit, units_capped}
+use Rattle.font_decimal.proofs.Rounding.{units_fit, UnitsFit, units_capped}
+use Rattle.font_decimal.proofs.Powers.{units_below}
 use Rattle.font_decimal.proofs.Readings.{rounds_by}
 use Rattle.font_decimal.proofs.reader.nearest_raw.Goals as goal
 
@@ -15,19 +16,19 @@ whole_digits-whole-requires c =
     (omega (arith, c.requires)) in
     rw (one_shl (63 - c.args.f) 64 (omega arith)) (omega arith)
 
-pub returns-in_err-after_point-clause-none : goal.returns-in_err-after_point-clause-none
-returns-in_err-after_point-clause-none c = grind (arith, take_rest, fraction_found)
+pub returns-in_default-clause-none : goal.returns-in_default-clause-none
+returns-in_default-clause-none c = grind (arith, take_rest, fraction_found)
 
-pub returns-in_err-half_units-clause-none : goal.returns-in_err-half_units-clause-none
-returns-in_err-half_units-clause-none c = grind (arith, same_point, fraction_found, take_rest)
+pub returns-in_default-half_units-clause-none : goal.returns-in_default-half_units-clause-none
+returns-in_default-half_units-clause-none c = grind (arith, same_point, fraction_found, take_rest)
 
-cap : (c : goal.In_ok-half_units) → c.whole_digits-whole.result.0
+cap : (c : goal.In-Some-half_units) → c.whole_digits-whole.result.0
     ≡ min (digits_value 10 (take c.whole_digits-whole.result.1 c.args.digits.now)) (2 ^ (63 - c.args.f) + 1)
 cap c = omega (arith, one_shl (63 - c.args.f) 64 (omega arith), c.whole_digits-whole.ensures.number)
 
-fit : (c : goal.In_ok-half_units) → UnitsFit c.args.f c.whole_digits-whole.result.0 c.in_ok-half_units.half_units
+fit : (c : goal.In-Some-half_units) → UnitsFit c.args.f c.whole_digits-whole.result.0 c.in-Some-half_units.half_units
 fit c = units_fit c.args.f _ _ _
-    (omega (arith, c.requires)) (cap c) (half_units_below (c.args.f + 1) _ c.in_ok-half_units.ensures)
+    (omega (arith, c.requires)) (cap c) (units_below (c.args.f + 1) _ c.in-Some-half_units.ensures)
 
 pub overflow_add-result : goal.overflow_add-result
 overflow_add-result c = omega (arith, (fit c).one_more)
@@ -39,11 +40,11 @@ pub returns-clause-some : goal.returns-clause-some
 returns-clause-some c =
     let whole = c.whole_digits-whole in
     let digits = c.args.digits.now in
-    let halves = c.in_ok-half_units.ensures in
-    let rest = sym (take_rest digits whole.result.1) ∙ c.in_ok-after_point.ensures in
+    let halves = c.in-Some-half_units.ensures in
+    let rest = sym c.split_at.ensures.back ∙ c.in-Some.ensures in
     rw (fit c).shifted (
       _,
       units_capped c.args.f _ _ _ (omega (arith, c.requires)) (cap c),
-      λ s. rw halves.1 (rounds_by c.args.f (parts_found _ _ _ s
-          whole.ensures.digits (omega arith) whole.ensures.within rest halves.0)),
+      λ s. rw halves.floor (rounds_by c.args.f (parts_found _ _ _ s
+          whole.ensures.digits (omega arith) whole.ensures.within rest halves.digits)),
     )

@@ -1,6 +1,5 @@
-use Rattle.std.proofs.Common.{string_bytes}
 use Rattle.fontval.proofs.Commands.{IsAnsweredUpTo}
 use Rattle.fontval.proofs.answers.answers.Given as goal
 
 abbrev pub invariant-loop-line : goal.invariant-loop-line
-invariant-loop-line g l = IsAnsweredUpTo l.input l.line-iterator.rest.now (string_bytes l.output)
+invariant-loop-line g l = IsAnsweredUpTo l.input l.line-iterator.rest.now l.output.items

@@ -4,4 +4,4 @@ use Rattle.fontval.proofs.numbers.fixed_numbers.Given as goal
 
 abbrev pub invariant-loop-word : goal.invariant-loop-word
 invariant-loop-word g l =
-    AreNumbersUpTo g.row.N (words_of l.fn.words.rest.now) (words_of l.word-iterator.rest.now) l.numbers l.at
+    AreNumbersUpTo g.row.N (words_of l.fn.words.rest.now) (words_of l.words.rest.now) l.numbers l.at

@@ -1,49 +1,48 @@
-use Rattle.std.proofs.Common.{◌≡◌, arith, length-append, ◌∙◌, w64, FitsSigned, to_z-of_z, unsigned_abs, append-nil}
+use Rattle.std.proofs.Common.{arith, w64, FitsSigned, to_z-of_z, unsigned_abs, ◌≡◌, ◌<◌, ◌+◌}
+use Rattle.font_decimal.proofs.Buffer.{IsText, text_made}
+use Rattle.font_decimal.proofs.Printed.{shortest_is}
+use Rattle.font_decimal.specs.Shortest.{IsShortest, shortest_text}
 use Rattle.font_decimal.specs.Shown.{shown}
-use Rattle.font_decimal.specs.Shortest.{shortest_text}
-use Rattle.font_decimal.proofs.Printed.{shortest_is, text_is, digits_room, point_length}
+use Rattle.font_decimal.proofs.Texts.{decimal_is_ascii}
 use Rattle.font_decimal.proofs.shortest.Shortest.new.Goals as goal
+use Rattle.font_decimal.proofs.shortest.Shortest.new.Goals.{then-places-gt0, else-places-gt0}
 
-pub push_fraction-requires : goal.push_fraction-requires
-push_fraction-requires c =
-    let made = c.shortest_digits-digits in
-    rw c.empty-text.ensures (omega (
-      arith,
-      digits_room _ _ _ _ _ made.ensures.places made.ensures.numeral
-          made.ensures.below c.unsigned_abs.ensures.bound c.requires.1,
-    ))
-
-pub push_whole-requires : goal.push_whole-requires
-push_whole-requires c =
-    let made = c.shortest_digits-digits in
-    rw (c.push_fraction.ensures, c.empty-text.ensures, append-nil)
-    (omega (
-      arith,
-      digits_room _ _ _ _ _ made.ensures.places made.ensures.numeral made.ensures.below
-          c.unsigned_abs.ensures.bound c.requires.1,
-      point_length made.result.places made.result.fraction,
-    ))
-
-pub push_sign-requires : goal.push_sign-requires
-push_sign-requires c =
-    let made = c.shortest_digits-digits in
-    rw (c.push_whole.ensures, c.push_fraction.ensures, c.empty-text.ensures, append-nil, length-append)
-    (omega (
-      arith,
-      digits_room _ _ _ _ _ made.ensures.places made.ensures.numeral made.ensures.below
-          c.unsigned_abs.ensures.bound c.requires.1,
-      point_length made.result.places made.result.fraction,
-    ))
-
-pub returns : goal.returns
-returns c =
-    let made = c.shortest_digits-digits in
+size : (c : goal.After-put_sign-start) → c.unsigned_abs-magnitude.result ≡ unsigned_abs c.args.bits
+size c =
     let fits : FitsSigned w64 c.args.bits = c.ranges.bits in
-    let size : c.unsigned_abs.result ≡ unsigned_abs c.args.bits = simp to_z-of_z at c.unsigned_abs.ensures.value in
-    let text : shown c.push_sign.new.self ≡ shortest_text c.args.bits c.args.f = (simp to_z-of_z at c.push_sign.ensures)
-    ∙ rw (c.push_whole.ensures, c.push_fraction.ensures, c.empty-text.ensures)
-    (text_is _ _ _ _ _ made.ensures.places made.ensures.numeral made.ensures.below c.args.bits size) in
-    record {
-      shortest = rw text (shortest_is c.args.bits c.args.f (omega (arith, size, c.unsigned_abs.ensures.bound)));
-      text = text;
-    }
+    simp to_z-of_z at c.unsigned_abs-magnitude.ensures.value
+
+made : (c : goal.After-put_sign-start)
+    → IsText c.args.bits c.args.f c.put_sign-start.result c.if-places-gt0.end c.put_sign-start.new.bytes
+made c =
+    let fits : FitsSigned w64 c.args.bits = c.ranges.bits in
+    let fraction = c.shortest_fraction-places in
+    let some : 0 < fraction.result → c.if-places-gt0.end ≡ 20 + fraction.result = λ h. elim c.if-places-gt0.branch [
+      | then-places-gt0 w ↦ w.end-is
+      | else-places-gt0 w ↦ absurd (omega arith)
+    ] in
+    let none : fraction.result ≡ 0 → c.if-places-gt0.end ≡ 19 = λ h. elim c.if-places-gt0.branch [
+      | then-places-gt0 w ↦ absurd (omega arith)
+      | else-places-gt0 w ↦ w.end-is
+    ] in
+    text_made c.args.bits _ c.put_whole-start.new.bytes c.requires.0 c.requires.1 (size c)
+    c.unsigned_abs-magnitude.ensures.bound fraction.ensures.places fraction.ensures.digits some none
+    c.put_whole-start.ensures.start c.put_whole-start.ensures.text
+    (simp to_z-of_z at c.put_sign-start.ensures.start) (simp to_z-of_z at c.put_sign-start.ensures.text)
+
+shortest : (c : goal.After-put_sign-start) → IsShortest c.args.bits c.args.f (shortest_text c.args.bits c.args.f)
+shortest c = shortest_is c.args.bits c.args.f (omega (arith, size c, c.unsigned_abs-magnitude.ensures.bound))
+
+pub invariant_of-result : goal.invariant_of-result
+invariant_of-result c =
+    let is = made c in
+    let ascii = decimal_is_ascii _ _ _ (shortest c).plain.decimal in
+    record { within = is.within; ascii = rw is.text ascii }
+
+pub returns-clause-shortest : goal.returns-clause-shortest
+unfolding shown
+returns-clause-shortest c = rw (made c.before).text (shortest c.before)
+
+pub returns-clause-text : goal.returns-clause-text
+unfolding shown
+returns-clause-text c = (made c.before).text

@@ -3,6 +3,10 @@ use Rattle.font_fixed.proofs.Texts.{reads_by}
 use Rattle.font_fixed.specs.FixedI32.{bits_of, of_bits}
 use Rattle.font_fixed.proofs.fixed_i32.FixedI32.from_decimal_bytes.Goals as goal
 
-pub returns : goal.returns
-returns g c =
+pub returns-in-Ok : goal.returns-in-Ok
+returns-in-Ok g c =
+    reads_by w32 g.row.F bits_of of_bits c.args.text.now _ (λ _. refl) (lit≤ tt) (search rules)
+
+pub returns-in-Err : goal.returns-in-Err
+returns-in-Err g c =
     reads_by w32 g.row.F bits_of of_bits c.args.text.now _ (λ _. refl) (lit≤ tt) (search rules)
