@@ -10,7 +10,7 @@
 //! | integers of 24 bits | [`Uint24`], [`Int24`] |
 //! | stored arrays | [`ScalarArray`], [`ScalarArrayIter`], [`ByteChunks`] |
 //! | stored fields | [`Scalar`], [`BigEndian`], [`FixedSize`], [`BeByteArray`], [`IdentityEq`] |
-//! | records of scalars | [`record!`] |
+//! | records of scalars and of arrays of them | [`record!`] |
 //! | headers of tables | [`TableHeader`], [`TableDataRef`] |
 //! | tags and dates | [`Tag`], [`LongDateTime`] |
 //! | versions | [`MajorMinor`], [`Version16Dot16`], [`Compatible`] |
@@ -23,21 +23,30 @@
 //! | decimal text, printed | [`Shortest`], [`write_padded`], [`Pad`], [`Align`] |
 //! | errors | [`DecimalFault`], [`InvalidTag`], [`TryFromGlyphIdError`], [`TryFromUint24Error`] |
 //!
+//! The data types of OpenType, each of which is a [`Scalar`]:
+//!
+//! | In OpenType | Here |
+//! |---|---|
+//! | `uint8`, `int8`, `uint16`, `int16`, `uint32`, `int32` | `u8`, `i8`, `u16`, `i16`, `u32`, `i32` |
+//! | `uint24` | [`Uint24`] |
+//! | `Fixed`, `F2DOT14` | [`Fixed`], [`F2Dot14`] |
+//! | `FWORD`, `UFWORD` | [`FWord`], [`UfWord`] |
+//! | `LONGDATETIME` | [`LongDateTime`] |
+//! | `Tag` | [`Tag`] |
+//! | `Offset8` | `u8` |
+//! | `Offset16`, `Offset24`, `Offset32` | [`Offset16`], [`Offset24`], [`Offset32`], or [`Nullable`] of each |
+//! | `Version16Dot16` | [`Version16Dot16`] |
+//! | `uint16` for a major and one for a minor version | [`MajorMinor`] |
+//! | `uint16` for a glyph, `uint24` for a glyph | [`GlyphId16`], [`GlyphId24`] |
+//! | `uint16` for a name of the table `name` | [`NameId`] |
+//!
 //! The folder `examples` of the repository has a dump of a font's tables and the advances of an
 //! instance.
 //!
 #![doc = include_str!("guide.md")]
 #![no_std]
-#![warn(
-    missing_docs,
-    missing_debug_implementations,
-    missing_copy_implementations
-)]
-#![warn(
-    clippy::must_use_candidate,
-    clippy::missing_errors_doc,
-    clippy::missing_panics_doc
-)]
+#![warn(missing_docs, missing_debug_implementations, missing_copy_implementations)]
+#![warn(clippy::must_use_candidate, clippy::missing_errors_doc, clippy::missing_panics_doc)]
 #![warn(clippy::undocumented_unsafe_blocks)]
 // The generated source is written for its proofs, as a law that divides a number by itself, and for
 // debug builds, in which the `match` of an iterator calls less than `map`.
@@ -72,8 +81,13 @@ mod font_tags;
 #[path = "generated/font_types/mod.rs"]
 mod font_types;
 
+#[cfg(doc)]
+#[path = "generated/definitions.rs"]
+pub mod definitions;
+
 mod cross_type;
 mod derives;
+mod literal;
 mod record;
 mod traits;
 
@@ -99,3 +113,5 @@ mod porting {}
 mod length_of_another {}
 
 pub use font_types::*;
+#[doc(hidden)]
+pub use record::RecordField;

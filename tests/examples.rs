@@ -10,12 +10,11 @@ mod fonts;
 mod runner;
 
 use dump::dump;
-use font_types_proved::{F2Dot14, Fixed, GlyphId16, Tag, UfWord};
-use fonts::{MAP, MAPS, font, font_of, fvar, hvar, hvar_of_two_axes, large, long_axes, long_hvar};
-use fonts::{of_five_axes, two_axes, words};
-use instance::proved::delta_sets::read_delta;
-use instance::proved::maps::read_delta_set_index;
-use instance::proved::regions::region_scalar;
+use font_types_proved::{F2Dot14, Fixed, GlyphId16, UfWord};
+use font_variations_proved::delta_sets::{read_delta, set_sum};
+use font_variations_proved::maps::{DeltaSetIndex, read_delta_set_index};
+use fonts::{MAP, MAPS, at_the_limits, font, font_of, fvar, hvar, hvar_of_two_axes};
+use fonts::{long_axes, of_five_axes, two_axes, words};
 use instance::{advance, axes, normalized};
 use std::fs;
 use std::path::{Path, PathBuf};
@@ -50,9 +49,7 @@ fn run(program: &str, arguments: &[&str]) -> (String, String) {
 fn dump_of_an_odd_name() {
     let mut bytes = font(hvar());
     let record = words(&[3, 1, 0x409, 1]);
-    let place = bytes
-        .windows(record.len())
-        .position(|bytes| *bytes == record);
+    let place = bytes.windows(record.len()).position(|bytes| *bytes == record);
     let place = place.unwrap();
     bytes[place + 3] = 10;
     bytes[place + 9] -= 1;
@@ -65,9 +62,7 @@ fn dump_of_an_odd_name() {
 // In another language, after a gap, with half of a pair.
 #[test]
 fn dump_of_a_name_in_a_gap() {
-    let name = [
-        0, 1, 24, 3, 1, 0x407, 1, 6, 2, 88, 88, 88, 65, 66, 0xD800, 67,
-    ];
+    let name = [0, 1, 24, 3, 1, 0x407, 1, 6, 2, 88, 88, 88, 65, 66, 0xD800, 67];
     let bytes = font_of([(b"name", words(&name))]);
     let mut text = String::new();
     dump(&dump::font::Font::new(&bytes).unwrap(), "", &mut text).unwrap();
@@ -91,19 +86,19 @@ fn dump_of_a_font() {
     let mut text = String::new();
     dump(&font, "\n\u{1000A}\u{15}\u{99}\u{9A}🗿😀😁😐😑a", &mut text).unwrap();
     let wanted = "\
-head version: MajorMinor { major: 1, minor: 0 }
+head version: 1.0
 font revision: 2.5
 units per em: 1000
-modified: LongDateTime(2)
-x min: FWord(-10)
-ascender: FWord(800)
-descender: FWord(-200)
-widest advance: UfWord(620)
-maxp version: Version16Dot16(00005000)
+modified, in seconds since 1904: 2
+x min: -10
+ascender: 800
+descender: -200
+widest advance: 620
+maxp version: 0.5
 glyphs: 48
 weight class: 400
-vendor: Tag(TEST)
-typographic ascender: FWord(800)
+vendor: TEST
+typographic ascender: 800
 FAMILY_NAME: Ütest
 \n: glyph 1
 \u{1000A}: no glyph
@@ -119,19 +114,10 @@ a: no glyph
 ";
     assert_eq!(text, wanted);
     let path = file(&bytes);
-    let [path, characters] = [
-        path.to_str().unwrap(),
-        "\n\u{1000A}\u{15}\u{99}\u{9A}🗿😀😁😐😑a",
-    ];
-    assert_eq!(
-        run("dump", &[path, characters]),
-        (wanted.into(), String::new())
-    );
+    let [path, characters] = [path.to_str().unwrap(), "\n\u{1000A}\u{15}\u{99}\u{9A}🗿😀😁😐😑a"];
+    assert_eq!(run("dump", &[path, characters]), (wanted.into(), String::new()));
     let without_characters = wanted.split_inclusive("test\n").next().unwrap();
-    assert_eq!(
-        run("dump", &[path]),
-        (without_characters.into(), String::new())
-    );
+    assert_eq!(run("dump", &[path]), (without_characters.into(), String::new()));
     // A truncated font is read as far as it goes.
     for len in 0..bytes.len() {
         if let Some(font) = dump::font::Font::new(&bytes[..len]) {
@@ -154,68 +140,8 @@ fn dump_of_mutated_fonts() {
         let (place, len) = (random(bytes.len() - 8), 1 + random(8));
         bytes[place..place + len].fill([0, 0x7F, 0x80, 0xFF, random(256) as u8][random(5)]);
         if let Some(font) = dump::font::Font::new(&bytes) {
-            dump(
-                &font,
-                "\n\u{15}\u{99}\u{9A}😀\u{1F610}a",
-                &mut String::new(),
-            )
-            .unwrap();
+            dump(&font, "\n\u{15}\u{99}\u{9A}😀\u{1F610}a", &mut String::new()).unwrap();
         }
-    }
-}
-
-// Modulo 2^32, each offset is within these bytes.
-#[test]
-fn offsets_of_more_than_32_bits() {
-    let mut list = words(&[21848, 0x7FFF]);
-    list.resize(393_204, 0);
-    assert_eq!(region_scalar(&list, 32766, &[]), None);
-    let mut subtable = words(&[0xFFFF; 3]);
-    subtable.resize(174_768, 0);
-    assert_eq!(read_delta(&subtable, 21846, 0), None);
-    let map = [1, 0x3F, 0x40, 0, 0, 1, 0, 1, 0, 2];
-    assert_eq!(read_delta_set_index(&map, 0x4000_0000), None);
-}
-
-#[test]
-fn advances_by_long_deltas_and_a_map_of_format_1() {
-    let bytes = font(long_hvar());
-    let font = instance::font::Font::new(&bytes).unwrap();
-    for (at, glyph, moved) in [
-        (0, 0, 500),
-        (0x4000, 0, 60500),
-        (0x4000, 2, 60620),
-        (0x1000, 0, 15200),
-    ] {
-        let at = F2Dot14::from_bits(at);
-        let found = advance(&font, GlyphId16::new(glyph), &[at]);
-        assert_eq!(found, Ok(UfWord::new(moved)), "{at} {glyph}");
-    }
-}
-
-#[test]
-fn coordinates_and_advances_along_an_axis() {
-    let bytes = font(hvar());
-    let font = instance::font::Font::new(&bytes).unwrap();
-    let axis = axes(&font).unwrap()[0];
-    assert_eq!(axis.axis_tag, Tag::new(b"wght"));
-    for (place, coordinate, moved) in [
-        ("0", "-1", 500),
-        ("250", "-0.5", 500),
-        ("400", "0", 500),
-        ("650", "0.25", 495),
-        ("775", "0.625", 548),
-        ("900", "1", 600),
-        ("1000", "1", 600),
-    ] {
-        let [place, at] = [place, coordinate].map(|text| Fixed::from_decimal(text).unwrap());
-        let at: F2Dot14 = at.to_f2dot14();
-        assert_eq!(normalized(&font, 0, axis, place), Ok(at), "{place}");
-        let advance = |glyph| advance(&font, GlyphId16::new(glyph), &[at]);
-        assert_eq!(advance(0), Ok(UfWord::new(moved)), "{place}");
-        // The last entry of the map is that of all later glyphs.
-        assert_eq!(advance(1), Ok(UfWord::new(620)), "{place}");
-        assert_eq!(advance(2), Ok(UfWord::new(620)), "{place}");
     }
 }
 
@@ -323,14 +249,9 @@ fn coordinates_of_two_axes() {
 /// Returns the output of `instance`, and the error that it names.
 fn instance_of(font: &[u8], words: &str) -> (String, String) {
     let path = file(font);
-    let arguments = [path.to_str().unwrap(), "Aa"]
-        .into_iter()
-        .chain(words.split_whitespace());
+    let arguments = [path.to_str().unwrap(), "Aa"].into_iter().chain(words.split_whitespace());
     let (output, error) = run("instance", &arguments.collect::<Vec<_>>());
-    let error = error
-        .trim_end()
-        .trim_start_matches("Error: \"")
-        .trim_end_matches('"');
+    let error = error.trim_end().trim_start_matches("Error: \"").trim_end_matches('"');
     (output, error.into())
 }
 
@@ -397,111 +318,118 @@ fn program_instance_of_other_tables() {
         (font_of([]), "wght=650: the font has no such axis"),
         (font_of([axes.clone(), gvar]), "`gvar` without `HVAR`"),
         (font_of([second(axes.clone())]), "fvar: not of version 1"),
-        (
-            font_of([axes.clone(), second(map.clone())]),
-            "avar: not of version 1",
-        ),
-        (
-            font_of([axes.clone(), second(hvar)]),
-            "HVAR: not of version 1",
-        ),
-        (
-            font_of([axes.clone(), (b"hhea", words(&[7, 0]))]),
-            "hhea: not of version 1",
-        ),
-        (
-            font_of([axes.clone(), (b"cmap", words(&[7, 0]))]),
-            "cmap: not of version 0",
-        ),
-        (
-            font_of([axes.clone(), (b"maxp", words(&[0, 0x5000, 47]))]),
-            "no such glyph",
-        ),
-        (
-            font_of([axes.clone(), more_sets]),
-            "HVAR: the store ends early",
-        ),
-        (
-            font_of([axes.clone(), other_store]),
-            "glyph 47: no advance by `HVAR`",
-        ),
-        (
-            font_of([axes.clone(), (b"HVAR", two)]),
-            "glyph 47: no advance by `HVAR`",
-        ),
+        (font_of([axes.clone(), second(map.clone())]), "avar: not of version 1"),
+        (font_of([axes.clone(), second(hvar)]), "HVAR: not of version 1"),
+        (font_of([axes.clone(), (b"hhea", words(&[7, 0]))]), "hhea: not of version 1"),
+        (font_of([axes.clone(), (b"cmap", words(&[7, 0]))]), "cmap: not of version 0"),
+        (font_of([axes.clone(), (b"maxp", words(&[0, 0x5000, 47]))]), "no such glyph"),
+        (font_of([axes.clone(), more_sets]), "glyph 47: no advance by `HVAR`"),
+        (font_of([axes.clone(), other_store]), "glyph 47: no advance by `HVAR`"),
+        (font_of([axes.clone(), (b"HVAR", two)]), "glyph 47: no advance by `HVAR`"),
         (font_of([not_in_order]), "wght: an invalid axis"),
         (font_of([too_wide]), "wght: an invalid axis"),
-        (
-            font_of([(b"fvar", two_axes()), map]),
-            "wdth: no map in `avar`",
-        ),
+        (font_of([(b"fvar", two_axes()), map]), "wdth: no map in `avar`"),
         // Bytes after the maps that `avar` counts.
-        (
-            font_of([(b"fvar", two_axes()), longer_map]),
-            "wdth: no map in `avar`",
-        ),
-        (
-            font_of([(b"fvar", two_axes()), fewer_sets]),
-            "glyph 0: no advance by `HVAR`",
-        ),
-        (
-            font_of([(b"fvar", words(&[1, 0, 16, 2, 1, 20, 0, 8]))]),
-            "`fvar` ends before its axes",
-        ),
+        (font_of([(b"fvar", two_axes()), longer_map]), "wdth: no map in `avar`"),
+        (font_of([(b"fvar", two_axes()), fewer_sets]), "glyph 0: no advance by `HVAR`"),
+        (font_of([(b"fvar", words(&[1, 0, 16, 2, 1, 20, 0, 8]))]), "`fvar` ends before its axes"),
     ] {
         assert_eq!(instance_of(&font, "wght=650").1, error);
     }
 }
 
 #[test]
-fn programs_of_a_large_font() {
-    let path = file(&large());
+fn programs_of_a_font_at_the_limits() {
+    let path = file(&at_the_limits());
     let path = path.to_str().unwrap();
-    let text = "\u{3E8}\u{63C}\u{20256}";
-    let name = format!("\nNameId 256: \u{1F600}{}\n", "n".repeat(300));
-    let glyphs = "\n\u{3E8}: glyph 7\n\u{63C}: glyph 299\n\u{20256}: glyph 300\n";
+    let name = format!("NameId 256: \u{1F600}{}\n", "n".repeat(16_498));
+    // A segment of one code, the ends of that with an array, after them, and groups.
+    let (text, glyphs) = (
+        "\u{801E}\u{9C40}\u{B3AF}\u{B3B0}\u{20008}\u{301CE}",
+        ["glyph 32805", "glyph 30001", "glyph 36000", "no glyph", "glyph 5", "glyph 33000"],
+    );
+    let lines = text.chars().zip(glyphs).map(|(code, glyph)| format!("{code}: {glyph}\n"));
     let found = run("dump", &[path, text]).0;
-    assert!(found.contains(&name) && found.ends_with(glyphs), "{found}");
-    assert!(found.contains("\nglyphs: 40000\n"), "{found}");
-    // From glyph 300 on, the advance is that of the last metric; each has a delta of its own.
-    let advances = "\n\u{3E8}: 514\n\u{63C}: 1098\n\u{20256}: 1099\nglyph 305: 1104\n";
-    let found = run("instance", &[path, text, "305", "wght=900"]).0;
-    assert!(found.ends_with(advances), "{found}");
-    // A space is a character too.
-    let found = run("instance", &[path, " "]).0;
-    assert!(found.ends_with("\n : 500\n"), "{found}");
-    let found = run("instance", &[path, "", "40000"]).1;
+    assert!(found.ends_with(&(name + &lines.collect::<String>())), "{}", found.len());
+    assert!(found.contains("\nglyphs: 65535\nweight class: 40000\n"));
+    // The last metric is that of all glyphs after it; sets are counted from glyph 40,000 on again.
+    for (glyph, setting, advance) in [
+        ("7", "wght=1000", 7 + 20_000),
+        ("7", "wght=500", 7 + 5000),
+        ("8191", "wght=1000", 8191 + 2047),
+        ("32998", "wght=1000", 32_998 + 8249),
+        ("39999", "wght=1000", 32_999 + 9999),
+        ("65534", "wght=1000", 32_999 + 6383),
+        ("65534", "wght=500", 32_999 + 1596),
+        ("65534", "wght=0", 32_999),
+    ] {
+        let found = run("instance", &[path, "", glyph, setting]).0;
+        assert!(found.ends_with(&format!("\nglyph {glyph}: {advance}\n")), "{glyph} {setting}");
+    }
+    let found = run("instance", &[path, "\u{20008} "]).0;
+    assert!(found.ends_with("\n\u{20008}: 5\n : 39\n"), "{found}");
+    let found = run("instance", &[path, "", "65535"]).1;
     assert_eq!(found, "Error: \"no such glyph\"\n");
 }
 
 #[test]
 fn program_instance_of_five_axes() {
     let path = file(&of_five_axes());
-    let found = run("instance", &[path.to_str().unwrap(), "", "0", "wght=650"]).0;
-    let axes = [
-        "AAAA: 400",
-        "BBBB: 400",
-        "CCCC: 400",
-        "DDDD: 400",
-        "wght: 650",
-    ];
-    let axes = axes
-        .map(|axis| format!("{axis}, from 100 to 900\n"))
-        .concat();
-    assert_eq!(found, axes + "glyph 0: 525\n");
+    let found = run("instance", &[path.to_str().unwrap(), "\u{7F}", "0", "wght=650"]).0;
+    let axes = ["AAAA: 400", "BBBB: 400", "CCCC: 400", "DDDD: 400", "wght: 650"];
+    let axes = axes.map(|axis| format!("{axis}, from 100 to 900\n")).concat();
+    assert_eq!(found, axes + "\u{7F}: 525\nglyph 0: 525\n");
 }
 
 #[test]
 fn program_instance_of_two_axes() {
-    let path = file(&font_of([
-        (b"HVAR", hvar_of_two_axes(MAPS[1])),
-        (b"fvar", two_axes()),
-    ]));
+    let path = file(&font_of([(b"HVAR", hvar_of_two_axes(MAPS[1])), (b"fvar", two_axes())]));
     let found = run("instance", &[path.to_str().unwrap(), "A", "wdth=150"]).0;
     let axes = "wght: 400, from 100 to 900\nwdth: 150, from 50 to 200\n";
     assert!(found.starts_with(axes), "{found}");
     let found = run("instance", &[path.to_str().unwrap()]).1;
     assert!(found.contains("-- FONT TEXT"), "{found}");
+}
+
+// A set or a column at the count, and an outer index of 17 bits.
+#[test]
+fn delta_sets_at_the_count() {
+    let subtable = words(&[1, 1, 1, 0, 5, 6, 7]);
+    let found = [(0, 0), (1, 0), (0, 1)].map(|(set, column)| read_delta(&subtable, set, column));
+    assert_eq!(found, [Some(5), None, None]);
+    for table in [words(&[1, 0, 0]), subtable] {
+        assert_eq!(set_sum(&words(&[0, 1]), &table, 1, &[]), None);
+    }
+    let map = [1, 0x30, 0, 0, 0, 1, 0, 2, 0, 1];
+    let set = DeltaSetIndex { outer: 0x1_0000, inner: 1 };
+    assert_eq!(read_delta_set_index(&map, 0), Some(set));
+}
+
+// The first of two encodings that has the character counts, also as glyph 0; format 13 is not read.
+#[test]
+fn characters_in_two_encodings() {
+    let format_4 = |glyph: u16| {
+        [4, 32, 0, 4, 4, 1, 0, 65, 0xFFFF, 0, 65, 0xFFFF, glyph.wrapping_sub(65), 1, 0, 0]
+    };
+    let format_13 = [13, 0, 0, 28, 0, 0, 0, 1, 0, 66, 0, 66, 0, 9, 0, 0];
+    for (first, second, lines) in [
+        (format_4(3), format_4(4), "A: glyph 3\nB: no glyph\n"),
+        (format_4(0), format_13, "A: glyph 0\nB: no glyph\n"),
+        (format_13, format_4(4), "A: glyph 4\nB: no glyph\n"),
+    ] {
+        let cmap = words(&[&[0, 2, 3, 1, 0, 20, 3, 10, 0, 52][..], &first, &second].concat());
+        let bytes = font_of([(b"cmap", cmap)]);
+        let mut text = String::new();
+        dump(&dump::font::Font::new(&bytes).unwrap(), "AB", &mut text).unwrap();
+        assert!(text.ends_with(lines), "{text}");
+    }
+}
+
+#[test]
+fn more_metrics_than_glyphs() {
+    let bytes = font_of([(b"maxp", words(&[0, 0x5000, 1]))]);
+    let font = instance::font::Font::new(&bytes).unwrap();
+    assert_eq!(font.advance(GlyphId16::new(0)), Some(UfWord::new(500)));
 }
 
 #[test]
@@ -528,11 +456,7 @@ fn programs_of_other_files() {
         assert!(usage.starts_with(&format!("Error: \"cargo run --example {program} -- FONT")));
         let found = run(program, &[path.to_str().unwrap(), ""]).1;
         assert_eq!(found, "Error: \"no font of one face\"\n");
-        let found = run(
-            program,
-            &[concat!(env!("CARGO_TARGET_TMPDIR"), "/absent"), ""],
-        )
-        .1;
+        let found = run(program, &[concat!(env!("CARGO_TARGET_TMPDIR"), "/absent"), ""]).1;
         assert!(found.starts_with("Error: Os {"), "{found}");
     }
 }

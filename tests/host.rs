@@ -19,7 +19,7 @@ mod fontval;
 use fontval::device::{FromRead, FromWrite};
 use fontval::serve::{ServeFault, serve};
 use fontval_lines::{ANSWERS, LINES, assert_answers};
-use host::alloc::{Global, String, Vec};
+use host::alloc::{Global, Vec};
 use host::{hex, io};
 use std::alloc::{GlobalAlloc, Layout, System};
 use std::cell::Cell;
@@ -118,20 +118,6 @@ fn vector_allocation_errors() {
     let pushed = count_until_error(|| vec.extend_from_slice(&[1u8, 2, 3]));
     assert_eq!(*vec, [1, 2, 3].repeat(pushed));
     assert!(pushed > 1 << 17);
-}
-
-#[test]
-fn string_allocation_errors() {
-    let mut text = String::new(Global);
-    let pushed = count_until_error(|| text.push_str("a ä"));
-    assert_eq!(*text, "a ä".repeat(pushed));
-    assert!(pushed > 1 << 17);
-    let mut text = String::new(Global);
-    let written = count_until_error(|| write!(text, "{:?}", (5, "b")));
-    assert!(text.starts_with("(5, \"b\")(5, \"b\")") && written > 1 << 16);
-    let mut text = String::new(Global);
-    let written = count_until_error(|| (&mut text as &mut dyn std::fmt::Write).write_str("ab"));
-    assert_eq!(text.len(), 2 * written);
 }
 
 /// A reader that reads one byte a call.

@@ -40,6 +40,9 @@ macro_rules! fixed_point_types {
             let same = x.saturating_add($Type::ZERO).saturating_sub($Type::ZERO).abs();
             assert!(same.to_bits() == 3 && x.fract().to_bits() == 3 && x.floor().to_bits() == 0);
             assert!(x.round().to_be_bytes()[0] == 0 && !matches!($Type::MIN, $Type::MAX));
+            assert!(x.checked_add(x).is_some() && x.checked_sub($Type::MIN).is_none());
+            assert!(x.checked_neg().is_some() && $Type::MIN.checked_abs().is_none());
+            assert!(x.checked_round().is_some());
         };
     )*};
 }
@@ -54,6 +57,13 @@ const _: () = {
     assert!(F48Dot16::from_i32(1).to_i64() == 1 && F48Dot16::from_i64(1).to_i32() == 1);
     assert!(F2Dot30::from_fixed(one).to_fixed().to_bits() == 0x1_0000);
     assert!(F2Dot30::from_f2dot14(F2Dot14::ONE).to_f2dot14().to_bits() == 0x4000);
+    assert!(one.checked_mul(one).is_some() && one.checked_mul_div(one, Fixed::ZERO).is_none());
+    assert!(Fixed::MAX.checked_to_i32().is_none() && one.checked_to_f26dot6().is_some());
+    assert!(F2Dot30::NEG_ONE.checked_to_f2dot14().is_some());
+    let delta = F48Dot16::from_bits(0x18000);
+    assert!(
+        one.checked_add_delta(delta).is_some() && F2Dot14::MAX.checked_add_delta(delta).is_none()
+    );
     assert!(DeltaSum::new().finish().to_bits() == 0 && Pad::new(3).width == 3);
 };
 
@@ -64,6 +74,9 @@ const _: () = {
     assert!(Int24::from_be_bytes([0, 0, 7]).to_i32() == 7 && Int24::checked_new(-1).is_some());
     assert!(FWord::new(-1).to_i16() == -1 && FWord::new(1).to_fixed().to_be_bytes()[1] == 1);
     assert!(UfWord::new(1).to_u16() == 1 && UfWord::new(1).to_fixed().to_be_bytes()[1] == 1);
+    assert!(FWord::new(-1).checked_add_delta(F48Dot16::ZERO).is_some());
+    assert!(UfWord::new(1).checked_add_delta(F48Dot16::ZERO).is_some());
+    assert!(UfWord::new(40000).checked_to_fixed().is_none());
     assert!(FWord::new(1).to_be_bytes()[1] == 1 && UfWord::new(1).to_be_bytes()[1] == 1);
 };
 
@@ -78,10 +91,12 @@ const _: () = {
     let (narrow, wide) = (Offset16::new(12), Offset32::new(12));
     assert!(!matches!(narrow, Offset16::NULL) && !matches!(wide, Offset32::NULL));
     assert!(Offset24::new(Uint24::MAX).to_u32() == 0xFF_FFFF);
+    assert!(narrow.to_u32() == 12 && !narrow.is_null() && narrow.eq_u32(&12));
 };
 
 const _: () = {
     assert!(matches!(Tag::new_checked(b"cvt"), Ok(CVT)));
+    assert!(CVT.to_u32() == 0x6376_7420);
     assert!(CVT.to_be_bytes()[0] == b'c' && CVT.into_bytes()[1] == b'v');
     assert!(CVT.as_bytes()[2] == b't' && matches!(Tag::from_u32(0x6376_7420), CVT));
     let packed = Version16Dot16::new(2, 5);
@@ -96,10 +111,7 @@ const CVT: Tag = Tag::new(b"cvt ");
 // The test harness links `std`, so the attributes are read from the sources.
 #[test]
 fn library_is_no_std() {
-    let roots = [
-        include_str!("../src/lib.rs"),
-        include_str!("../c/src/lib.rs"),
-    ];
+    let roots = [include_str!("../src/lib.rs"), include_str!("../c/src/lib.rs")];
     for root in roots {
         assert!(root.lines().any(|line| line == "#![no_std]"));
         assert!(!root.contains("extern crate"));

@@ -13,9 +13,7 @@ fn parsed(n: i128, places: u32, f: u32) -> i128 {
 /// with one place less does.
 fn assert_shortest(bits: i32, f: u32, value: impl Display) {
     let (text, bits) = (value.to_string(), i128::from(bits));
-    let places = text
-        .split_once('.')
-        .map_or(0, |(_, digits)| digits.len() as u32);
+    let places = text.split_once('.').map_or(0, |(_, digits)| digits.len() as u32);
     let n = text.replace('.', "").parse().unwrap();
     assert_eq!(parsed(n, places, f), bits, "{text}");
     assert_ne!(text, "-0");

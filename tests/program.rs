@@ -30,21 +30,47 @@ fn stored_lines() {
     assert_answers(&run.stdout, ANSWERS);
 }
 
+/// Runs the program over a file of these bytes, and returns what it writes.
+fn answers(name: &str, input: &[u8]) -> Vec<u8> {
+    let file = Path::new(env!("CARGO_TARGET_TMPDIR")).join(name);
+    fs::write(&file, input).unwrap();
+    let run = fontval(File::open(&file).unwrap(), Stdio::piped());
+    fs::remove_file(file).unwrap();
+    assert!(run.status.success() && run.stderr.is_empty(), "{name}");
+    run.stdout
+}
+
 // Each row begins with a line, and its second cell with the answer.
 #[test]
-fn answers_of_the_readme() {
-    let rows = include_str!("../README.md").lines().filter_map(|row| {
+fn answers_of_the_reference() {
+    let rows = include_str!("../docs/FONTVAL.md").lines().filter_map(|row| {
         let (line, answer) = row.strip_prefix("| `")?.split_once(" | `")?;
         Some((line.split('`').next()?, answer.split('`').next()?))
     });
-    let (lines, answers): (Vec<&str>, Vec<&str>) = rows.unzip();
-    let file = Path::new(env!("CARGO_TARGET_TMPDIR")).join("readme");
-    fs::write(&file, lines.join("\n")).unwrap();
-    let run = fontval(File::open(&file).unwrap(), Stdio::piped());
-    fs::remove_file(file).unwrap();
-    let found = String::from_utf8(run.stdout).unwrap();
-    assert_eq!(found.lines().collect::<Vec<_>>(), answers, "{lines:?}");
-    assert_eq!(answers.len(), 6);
+    let (lines, right): (Vec<&str>, Vec<&str>) = rows.unzip();
+    let found = String::from_utf8(answers("reference", lines.join("\n").as_bytes())).unwrap();
+    assert_eq!(found.lines().collect::<Vec<_>>(), right, "{lines:?}");
+    assert_eq!(right.len(), 6);
+}
+
+// The answers to an input that is cut after a line feed are those to its parts.
+#[test]
+fn stored_lines_in_parts() {
+    let lines = fs::read(LINES).unwrap();
+    for (end, _) in lines.iter().enumerate().filter(|(_, byte)| **byte == b'\n') {
+        let parts = [&lines[..=end], &lines[end + 1..]].map(|part| answers("part", part));
+        assert!(parts.concat() == ANSWERS, "cut at byte {end}");
+    }
+}
+
+// A line of more than 64 KB, the byte 0x04 at the end, and an argument, which is not read.
+#[test]
+fn long_lines_and_arguments() {
+    let line = format!("sum{}\nint8 04\n\x04", " 1 1".repeat(20_000));
+    assert_eq!(answers("long-line", line.as_bytes()), b"20000\n4\nerror 1\n");
+    let mut command = runner::command(Path::new(env!("CARGO_BIN_EXE_fontval")));
+    let run = command.arg("x").stdin(Stdio::null()).output().unwrap();
+    assert!(run.status.success() && run.stdout.is_empty() && run.stderr.is_empty());
 }
 
 #[test]
@@ -72,7 +98,10 @@ fn many_empty_lines() {
 fn read_errors() {
     let folder = File::open(env!("CARGO_MANIFEST_DIR")).unwrap();
     let only_written = File::create("/dev/null").unwrap();
-    for input in [folder, only_written] {
+    // A reader that would block has not ended.
+    let (_open, blocks) = std::os::unix::net::UnixStream::pair().unwrap();
+    blocks.set_nonblocking(true).unwrap();
+    for input in [folder.into(), only_written.into(), std::os::fd::OwnedFd::from(blocks)] {
         let run = fontval(input, Stdio::piped());
         assert_fails(&run, "fontval: read\n");
         assert!(run.stdout.is_empty());

@@ -26,14 +26,9 @@ crates! {
     font_types "generated/font_types"
 }
 
-// The crate of the example `instance`, of which its tests call a part.
-#[allow(dead_code)]
-#[path = "../examples/proved/mod.rs"]
-mod proved;
-
 #[path = "generated/variations"]
 mod variations {
-    pub use crate::proved::*;
+    pub use font_variations_proved::*;
 
     #[path = "mod.rs"]
     mod tests;

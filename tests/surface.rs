@@ -9,7 +9,8 @@ use core::hash::Hash;
 use core::ops;
 use core::str::FromStr;
 use font_types_proved::laws::{action, associative, fixed_identity, identity_neutral};
-use font_types_proved::laws::{composed, f26dot6, fixed, in_turn, reads_in_order};
+use font_types_proved::laws::{composed, f26dot6, fixed, in_turn};
+use font_types_proved::laws::{prints_in_order, reads_in_order, sum_in_parts};
 use font_types_proved::*;
 
 /// Compiles if the functions of a type have these types.
@@ -30,7 +31,7 @@ macro_rules! of_each_width {
             wrapping_sub fn(T, T) -> T, saturating_add fn(T, T) -> T,
             saturating_sub fn(T, T) -> T, checked_add fn(T, T) -> Option<T>,
             to_be_bytes fn(T) -> [u8; $bytes],
-            from_decimal fn(&str) -> Result<T, DecimalFault>,
+            from_decimal fn(&str) -> Result<T, DecimalFault>, lit fn(&str) -> T,
             write_padded fn(T, &mut [u8], &Pad) -> Option<usize>,
         }
     )*};
@@ -157,8 +158,12 @@ impl RingElement for Ring {}
 fn laws() {
     type Texts = (Result<i64, DecimalFault>, Result<i64, DecimalFault>);
     let _: fn(&'static str, &'static str, u32, i64, i64) -> Texts = reads_in_order;
+    let _: fn(i64, i64, u32) -> (Shortest, Shortest) = prints_in_order;
+    type Terms = &'static [(Fixed, i32)];
+    let _: fn(Terms, Terms) -> (F48Dot16, DeltaSum) = sum_in_parts;
     let _: [fn(Fixed, Fixed) -> [Fixed; 4]; 2] = [fixed::product_laws, fixed::quotient_laws];
     let _: fn(Fixed, Fixed, Fixed, Fixed) -> (Fixed, Fixed) = fixed::scaled_in_order;
+    let _: fn(Fixed, Fixed, Fixed, Fixed) -> (Fixed, Fixed, Fixed) = fixed::scaled_distance;
     let _: [fn(F26Dot6, F26Dot6) -> [F26Dot6; 3]; 2] =
         [f26dot6::product_laws, f26dot6::quotient_laws];
     type M = Matrix<Ring>;
@@ -193,18 +198,9 @@ fn constants_and_fields() {
     let _: Tag = TTC_HEADER_TAG;
     let _: [u32; 3] = [TT_SFNT_VERSION, TRUE_SFNT_VERSION, CFF_SFNT_VERSION];
     let _: [usize; 3] = [<[u8; 2]>::LEN, Tag::RAW_BYTE_LEN, SampleHeader::BYTE_LEN];
-    let _: [Fixed; 2] = [
-        <Fixed as MatrixElement>::ZERO,
-        <Fixed as MatrixElement>::ONE,
-    ];
+    let _: [Fixed; 2] = [<Fixed as MatrixElement>::ZERO, <Fixed as MatrixElement>::ONE];
     let _: Offset24 = <Offset24 as OffsetValue>::NULL;
-    let Pad {
-        width,
-        fill,
-        align,
-        plus,
-        zeros,
-    } = Pad::new(3);
+    let Pad { width, fill, align, plus, zeros } = Pad::new(3);
     let _: (usize, u8, bool, bool) = (width, fill, plus, zeros);
     match align {
         Align::Left | Align::Center | Align::Right => {}

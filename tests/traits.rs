@@ -1,8 +1,9 @@
-//! The impls of `src/traits.rs`, `src/derives.rs` and `src/cross_type.rs`. Comparisons are in
-//! `ids.rs` and `tags.rs`, and `iter` of arrays is in `fields.rs`.
+//! The hand-written impls of `src/traits.rs`, `src/derives.rs` and `src/cross_type.rs`.
 
 use font_types_proved::*;
-use std::collections::HashSet;
+use std::cell::Cell;
+use std::cmp::Ordering::{self, Equal, Greater, Less};
+use std::collections::{BTreeMap, HashMap, HashSet};
 use std::error::Error;
 use std::fmt::Debug;
 use std::hash::{BuildHasher, Hash};
@@ -14,10 +15,12 @@ fn assert_distinct<T: Clone + Eq + Hash + Debug>(values: &[T], texts: &[&str]) {
     let printed: Vec<String> = values.iter().map(|value| format!("{value:?}")).collect();
     assert_eq!(printed, texts);
     let set: HashSet<T> = values.iter().chain(values).cloned().collect();
-    let hashes: HashSet<u64> = values
-        .iter()
-        .map(|value| set.hasher().hash_one(value))
-        .collect();
+    // Copies in other places have the same hashes.
+    let copies: Vec<Box<T>> = values.iter().cloned().map(Box::new).collect();
+    let copied = copies.iter().map(|value| set.hasher().hash_one(&**value));
+    let hashes: Vec<u64> = values.iter().map(|value| set.hasher().hash_one(value)).collect();
+    assert!(hashes.iter().copied().eq(copied), "{values:?}");
+    let hashes: HashSet<u64> = hashes.into_iter().collect();
     assert_eq!([set.len(), hashes.len()], [values.len(); 2], "{values:?}");
     for (n, value) in values.iter().enumerate() {
         let found = values.iter().position(|other| other == value);
@@ -34,25 +37,10 @@ fn debug_and_hash_of_padding() {
     left.align = Align::Left;
     plus.plus = true;
     zeros.zeros = true;
-    let both = Pad {
-        plus: true,
-        ..zeros
-    };
-    let unused = Pad {
-        fill: b'*',
-        ..zeros
-    };
+    let both = Pad { plus: true, ..zeros };
+    let unused = Pad { fill: b'*', ..zeros };
     assert_distinct(
-        &[
-            Pad::new(3),
-            Pad::new(4),
-            filled,
-            left,
-            plus,
-            zeros,
-            both,
-            unused,
-        ],
+        &[Pad::new(3), Pad::new(4), filled, left, plus, zeros, both, unused],
         &[
             "Pad { width: 3, fill: 32, align: Right, plus: false, zeros: false }",
             "Pad { width: 4, fill: 32, align: Right, plus: false, zeros: false }",
@@ -68,11 +56,11 @@ fn debug_and_hash_of_padding() {
 
 #[test]
 fn debug_and_hash_of_shortest() {
-    let texts = [-3, 96, 95, 64, 640, 128].map(|bits| Shortest::new(bits, 6));
+    let texts = [-3, 96, 95, 64, 640, 0].map(|bits| Shortest::new(bits, 6));
     assert_eq!(texts[0].as_ref() as &str, "-0.05");
     assert_eq!(texts[4].as_ref() as &str, "10");
     assert_eq!(texts[1].to_string(), "1.5");
-    let debug = ["-0.05", "1.5", "1.48", "1", "10", "2"].map(|text| format!("Shortest({text:?})"));
+    let debug = ["-0.05", "1.5", "1.48", "1", "10", "0"].map(|text| format!("Shortest({text:?})"));
     assert_distinct(&texts, &debug.each_ref().map(|text| &**text));
     // Equal texts are equal, whatever the type of their numbers.
     let ones = [Shortest::new(64, 6), Shortest::new(0x1_0000, 16)];
@@ -133,7 +121,10 @@ fn iterators() {
     assert_eq!(is_exact(array.into_iter()), "[1, 4]");
     fn is_fused(_: impl ExactSizeIterator + DoubleEndedIterator + FusedIterator + Clone) {}
     is_fused(array.iter());
-    assert_eq!(format!("{array:?}"), "[1, 4]");
+    let numbers: Vec<u16> = (0..300).collect();
+    let bytes: Vec<u8> = numbers.iter().flat_map(|n| n.to_be_bytes()).collect();
+    let array = ScalarArray::<u16>::new(&bytes).unwrap();
+    assert_eq!(format!("{array:?}"), format!("{numbers:?}"));
     let mut ended = NameId::predefined();
     let found = [ended.nth(25), ended.next(), ended.next()];
     assert_eq!(found, [None; 3]);
@@ -175,10 +166,152 @@ Non-space character after first space ByteAfterSpace { pos: 2 }";
 #[test]
 fn copy_send_and_sync() {
     fn is_copy<T: Copy + Send + Sync>(_: T) {}
-    let table = TableDataRef::<SampleHeader>::new(&[0; 6]).unwrap();
+    let table = TableDataRef::<SampleHeader>::new(&[0, 1, 0, 3, 0, 2, 7]).unwrap();
+    let right = "TableDataRef([0, 1, 0, 3, 0, 2, 7]) SampleHeader { a: 1, b: 196610 }";
+    assert_eq!(format!("{table:?} {:?}", table.header()), right);
     is_copy((table, table.header()));
     is_copy(ScalarArray::<Tag>::new(&[]).unwrap());
     is_copy((Nullable::<Offset24>::default(), BigEndian::<i64>::from(0)));
     is_copy((Matrix::<Fixed>::default(), Point::new(0i32, 0)));
     is_copy((BoundingBox::<i16>::default(), DeltaSum::new(), Pad::new(0)));
+}
+
+#[test]
+fn compare_glyph_ids_of_different_widths() {
+    let rows: [(u32, u16, Ordering); 7] = [
+        (65536, 65535, Greater),
+        (6, 5, Greater),
+        (5, 6, Less),
+        (6, 6, Equal),
+        (0x1_0005, 5, Greater),
+        (u32::MAX, 0xFFFF, Greater),
+        (0xFFFF, 0xFFFF, Equal),
+    ];
+    for (wide, narrow, order) in rows {
+        let (wide, narrow) = (GlyphId::new(wide), GlyphId16::new(narrow));
+        let found = (wide.partial_cmp(&narrow), narrow.partial_cmp(&wide));
+        assert_eq!(found, (Some(order), Some(order.reverse())), "{wide} {narrow}");
+        assert_eq!([wide == narrow, narrow == wide], [order == Equal; 2], "{wide} {narrow}");
+    }
+}
+
+#[test]
+fn compare_offsets_with_numbers() {
+    fn assert_equal_to<T>(offset: T, number: u32)
+    where
+        T: OffsetValue + Scalar + PartialEq<u32>,
+    {
+        let nullable = Nullable::<T>::read(offset.to_raw().as_slice()).unwrap();
+        for other in [0, 7, 8, 0xFFFF, 0x1_0000, 0x1_0007, 0x100_0007, 0x8000_0007, !0] {
+            let found = [offset == other, nullable == other];
+            assert_eq!(found, [number == other; 2], "{number:#X} {other:#X}");
+        }
+    }
+    for n in [0, 7, 0xFFFF, 0x1_0000, 0x1_0007, 0x100_0007, 0x8000_0007] {
+        assert_equal_to(Offset16::new(n as u16), n & 0xFFFF);
+        assert_equal_to(Offset24::new(Uint24::new(n)), n.min(0xFF_FFFF));
+        assert_equal_to(Offset32::new(n), n);
+    }
+}
+
+#[test]
+fn compare_tags_with_texts() {
+    let kern = Tag::new(b"kern");
+    for text in ["kern", "kerm", "Kern", "ker", "ker ", "kern ", "kern\0", "kern\n", ""] {
+        let found = [kern == *text, kern == text, kern == text.as_bytes()];
+        assert_eq!(found, [text == "kern"; 3], "{text}");
+    }
+    assert!(kern == *b"kern" && kern != *b"Kern" && kern != *b"kerm");
+    assert!(Tag::new(b"cvt ") == "cvt " && Tag::new(b"cvt ") != "cvt" && Tag::default() != "");
+    assert!(Tag::new(b"cvt ") == *b"cvt " && Tag::new(b"cvt ") != *b"cvt\0");
+    assert!(Tag::default() != b"".as_slice());
+    assert_eq!(BTreeMap::from([(kern, 1)]).get(b"kern"), Some(&1));
+    assert_eq!(HashMap::from([(kern, 1)]).get(b"kern"), Some(&1));
+    assert_eq!(AsRef::<[u8]>::as_ref(&Tag::new(b"a\0b ")), b"a\0b ");
+}
+
+#[test]
+fn compare_fields_with_values() {
+    let field = BigEndian::<i16>::from;
+    assert!(field(-1) == -1 && field(-1) != 255 && field(0x100) != 0 && field(0x102) != 0x103);
+    assert!(field(-1) < field(0) && field(0xFF) < field(0x100) && field(-1) != field(0x00FF));
+    assert_eq!(HashSet::from([field(1), field(1), field(256)]).len(), 2);
+    assert_eq!(BigEndian::<NameId>::default().get(), NameId::new(0xFFFF));
+}
+
+#[test]
+fn sums_of_terms() {
+    let many = vec![(Fixed::ONE, -1 << 20); 65_537];
+    let mut sum = DeltaSum::from_iter(many.iter().copied());
+    assert_eq!(sum.checked_finish(), Some(F48Dot16::from_i64(-65_537 << 20)));
+    sum.extend([(Fixed::ZERO, 5), (Fixed::EPSILON, 1)]);
+    assert_eq!(
+        sum.checked_finish(),
+        checked_delta_sum(&[&many[..], &[(Fixed::EPSILON, 1)]].concat())
+    );
+}
+
+/// A borrowed array, and its iterator, can be taken for those of a shorter borrow.
+#[test]
+fn lifetimes() {
+    fn shortened<'a>(
+        array: ScalarArray<'static, u16>,
+        _borrow: &'a [u8],
+    ) -> (ScalarArray<'a, u16>, ScalarArrayIter<'a, u16>) {
+        (array, array.into_iter())
+    }
+    let local = vec![0, 2];
+    let (array, mut numbers) = shortened(ScalarArray::new(&[0, 1]).unwrap(), &local);
+    let arrays = [array, ScalarArray::new(&local).unwrap()];
+    assert_eq!((arrays.map(|array| array.get(0)), numbers.next()), ([Some(1), Some(2)], Some(1)));
+}
+
+/// A scalar that counts how many were decoded in this thread.
+#[derive(Clone, Copy, Debug, PartialEq)]
+struct Counted(u8);
+
+thread_local! {
+    static DECODED: Cell<usize> = const { Cell::new(0) };
+}
+
+impl FixedSize for Counted {
+    const RAW_BYTE_LEN: usize = 1;
+}
+
+impl Scalar for Counted {
+    type Raw = [u8; 1];
+
+    fn from_raw([byte]: [u8; 1]) -> Self {
+        DECODED.set(DECODED.get() + 1);
+        Self(byte)
+    }
+
+    fn to_raw(self) -> [u8; 1] {
+        [self.0]
+    }
+}
+
+// Each element that is passed is decoded, but not those of the raw bytes.
+#[test]
+fn decoded_elements() {
+    let bytes: Vec<u8> = (0..=255).collect();
+    let array = ScalarArray::<Counted>::new(&bytes).unwrap();
+    let rest = array.slice(200, 256).unwrap();
+    let raw = array.as_raw().iter().map(|raw| Counted::from_raw(*raw));
+    for (decoded, last, mut found) in [
+        (1, 200, Box::new(rest.iter().take(1)) as Box<dyn Iterator<Item = Counted>>),
+        (1, 200, Box::new(rest.into_iter().take(1))),
+        (201, 200, Box::new(array.iter().skip(200).take(1))),
+        (201, 200, Box::new(array.into_iter().skip(200).take(1))),
+        (256, 240, Box::new(array.iter().step_by(16))),
+        (256, 255, Box::new(raw)),
+    ] {
+        assert_eq!((found.by_ref().last(), DECODED.take()), (Some(Counted(last)), decoded));
+    }
+    let stepped = array.as_raw().iter().step_by(16).map(|raw| Counted::from_raw(*raw));
+    assert_eq!((stepped.max_by_key(|it| it.0), DECODED.take()), (Some(Counted(240)), 16));
+    assert_eq!(
+        (array.get(200), array.last(), DECODED.take()),
+        (Some(Counted(200)), Some(Counted(255)), 2)
+    );
 }

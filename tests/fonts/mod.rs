@@ -25,9 +25,8 @@ pub fn cmap() -> Vec<u8> {
         4, 52, 0, 8, 8, 2, 0, 20, 90, 154, 0xFFFF, 0, 10, 30, 153, 0xFFFF, 0xFFF7, 0xFFEE, 7, 1, 0,
         0, 4, 0, 100, 0,
     ];
-    let format_12 = [
-        12, 0, 0, 40, 0, 0, 0, 2, 1, 0xF600, 1, 0xF60F, 0, 500, 1, 0xF610, 1, 0xF611, 0, 0xFFFF,
-    ];
+    let format_12 =
+        [12, 0, 0, 40, 0, 0, 0, 2, 1, 0xF600, 1, 0xF60F, 0, 500, 1, 0xF610, 1, 0xF611, 0, 0xFFFF];
     let encodings = [0, 2, 0, 3, 0, 20, 0, 10, 0, 20 + 52];
     words(&[&encodings[..], &format_4, &format_12].concat())
 }
@@ -86,6 +85,10 @@ pub fn font(hvar: Vec<u8>) -> Vec<u8> {
 
 /// A font with these tables and the others that all fonts here have.
 pub fn font_of<const N: usize>(variations: [(&[u8; 4], Vec<u8>); N]) -> Vec<u8> {
+    font_of_tables(variations.into_iter().map(|(tag, table)| (*tag, table)))
+}
+
+fn font_of_tables(others: impl IntoIterator<Item = ([u8; 4], Vec<u8>)>) -> Vec<u8> {
     let os2 = table(78, &[(4, &[400]), (58, &[0x5445, 0x5354]), (68, &[800])]);
     // It was created one second before it was modified.
     let dates = [0, 0, 0, 1, 0, 0, 0, 2];
@@ -103,21 +106,21 @@ pub fn font_of<const N: usize>(variations: [(&[u8; 4], Vec<u8>); N]) -> Vec<u8> 
     // The outline of glyph 1 has this box.
     let glyf = words(&[1, 0xFFF6, 0xFF38, 590, 700, 0]);
     let mut tables = BTreeMap::from([
-        (b"OS/2", os2),
-        (b"cmap", cmap()),
-        (b"glyf", glyf),
-        (b"head", table(54, &head)),
-        (b"hhea", hhea),
-        (b"hmtx", words(&hmtx)),
-        (b"loca", words(&loca)),
-        (b"maxp", words(&[0, 0x5000, 48])),
-        (b"name", name("Ütest")),
+        (*b"OS/2", os2),
+        (*b"cmap", cmap()),
+        (*b"glyf", glyf),
+        (*b"head", table(54, &head)),
+        (*b"hhea", hhea),
+        (*b"hmtx", words(&hmtx)),
+        (*b"loca", words(&loca)),
+        (*b"maxp", words(&[0, 0x5000, 48])),
+        (*b"name", name("Ütest")),
     ]);
-    tables.extend(variations);
+    tables.extend(others);
     let mut font = words(&[1, 0, tables.len() as u16, 0, 0, 0]);
     let mut offset = 12 + 16 * tables.len();
     for (tag, table) in &tables {
-        font.extend(*tag);
+        font.extend(tag);
         for number in [0, offset, table.len()] {
             font.extend((number as u32).to_be_bytes());
         }
@@ -147,10 +150,7 @@ pub fn hvar_of_two_axes(map: &[u16]) -> Vec<u8> {
         (&[2, 0, 2, 0, 1], &[10, 20, 30, 40]),
         (&[2, 0, 3, 2, 3, 4], &[16, 32, 64, 8, 24, 72]),
         (&[1, 0x8001, 2, 5, 6], &[0, 0, 0xEA, 0x60, 0xFE, 0xD4]),
-        (
-            &[2, 1, 3, 6, 1, 5],
-            &[0xFF, 0x38, 10, 0x80, 1, 0x2C, 0xF6, 127],
-        ),
+        (&[2, 1, 3, 6, 1, 5], &[0xFF, 0x38, 10, 0x80, 1, 0x2C, 0xF6, 127]),
     ];
     let regions = REGIONS.concat().concat();
     let list = words(&[&[2, REGIONS.len() as u16][..], &regions].concat());
@@ -166,11 +166,7 @@ pub fn hvar_of_two_axes(map: &[u16]) -> Vec<u8> {
         store.extend(words(head));
         store.extend(sets);
     }
-    let map_offset = if map.is_empty() {
-        0
-    } else {
-        20 + offset as u16
-    };
+    let map_offset = if map.is_empty() { 0 } else { 20 + offset as u16 };
     let header = words(&[1, 0, 0, 20, 0, map_offset, 0, 0, 0, 0]);
     [header, store, words(map)].concat()
 }
@@ -212,58 +208,134 @@ pub fn long_axes() -> Vec<u8> {
     [header, records.collect::<Vec<_>>().concat()].concat()
 }
 
-/// Six encodings, of which the last two are read: 300 segments of a character each, the first by an
-/// array far away, and 300 groups.
-fn large_cmap() -> Vec<u8> {
-    let ends: Vec<u16> = (0..299).map(|n| 1000 + 2 * n).chain([0xFFFF]).collect();
-    let deltas = ends[1..]
-        .iter()
-        .zip(2u16..)
-        .map(|(end, glyph)| glyph.wrapping_sub(*end));
-    let deltas: Vec<u16> = [0].into_iter().chain(deltas).collect();
-    let mut offsets = vec![0; 300];
-    offsets[0] = 600;
-    let arrays = [&ends[..], &[0], &ends, &deltas, &offsets, &[7]].concat();
-    let format_4 = [&[4, 0, 0, 600, 0, 0, 0], &arrays[..]].concat();
-    let groups: Vec<u16> = (0..300)
-        .flat_map(|n| [2, 2 * n, 2, 2 * n, 0, n + 1])
-        .collect();
-    let (other, at) = ([6, 10, 0, 0, 0], 4 + 8 * 6);
-    let (of_4, of_12) = (at + 10, at + 10 + 2 * format_4.len() as u16);
-    let records = [[3, 10, 0, at]; 4].concat();
-    let last = [3, 1, 0, of_4, 3, 10, 0, of_12];
-    let head_of_12 = [12, 0, 0, 0, 0, 0, 0, 300];
-    words(
-        &[
-            &[0, 6],
-            &records[..],
-            &last,
-            &other,
-            &format_4,
-            &head_of_12,
-            &groups,
-        ]
-        .concat(),
-    )
+/// What is counted in more than 15 bits.
+pub const MANY: u16 = 33_000;
+
+/// Many encodings, of which the last two are read: 16,400 segments of the even codes and one of
+/// 6,000 codes by an array, far away; and many groups, of the even characters from 0x20000 on.
+fn cmap_at_the_limits() -> Vec<u8> {
+    let codes = (0..16_400).map(|n| 2 * n);
+    let ends: Vec<u16> = codes.clone().chain([45_999, 0xFFFF]).collect();
+    let starts: Vec<u16> = codes.chain([40_000, 0xFFFF]).collect();
+    let count = ends.len();
+    let (mut deltas, mut offsets) = (vec![7; count], vec![0; count]);
+    deltas[count - 2..].copy_from_slice(&[30_000, 1]);
+    offsets[count - 2] = 4 + 33_000;
+    let array: Vec<u16> = (1..=6000).collect();
+    let head = [4, 0, 0, 2 * count as u16, 0, 0, 0];
+    let arrays = [&ends[..], &[0], &starts, &deltas, &offsets, &[0; 16_500], &array].concat();
+    let format_4 = words(&[&head[..], &arrays].concat());
+    let groups = (0..MANY).flat_map(|n| {
+        let [high, low] = [2 + (n >> 15), n << 1];
+        [high, low, high, low, 0, n + 1]
+    });
+    let format_12: Vec<u16> = [12, 0, 0, 0, 0, 0, 0, MANY].into_iter().chain(groups).collect();
+    let other = 4 + 8 * u32::from(MANY);
+    let mut cmap = words(&[0, MANY]);
+    for n in 0..MANY {
+        let offset = match MANY - n {
+            1 => other + 2 + format_4.len() as u32,
+            2 => other + 2,
+            _ => other,
+        };
+        cmap.extend(words(&[3, 10]));
+        cmap.extend(offset.to_be_bytes());
+    }
+    [cmap, words(&[6]), format_4, words(&format_12)].concat()
 }
 
-/// A font of 40,000 glyphs, of which 300 have an advance of their own, and 310 a delta set, with no
-/// map. What is read of it, apart from the records of tables, is beyond 64 KB.
-pub fn large() -> Vec<u8> {
-    let sets: Vec<u16> = [310, 1, 1, 0].into_iter().chain(0..310).collect();
-    let metrics = (0..300).flat_map(|n| [500 + n, 0]);
-    let hmtx: Vec<u16> = metrics.chain([0; 39_700]).collect();
-    let mut name = name(&("\u{1F600}".to_string() + &"n".repeat(300)));
-    // The name has the id 256.
-    name[24..26].copy_from_slice(&words(&[256]));
-    font_of([
-        (b"BASE", vec![0; 0x10000]),
-        (b"HVAR", words(&variations(0, &sets))),
-        (b"cmap", large_cmap()),
-        (b"fvar", fvar(&[(b"wght", [100, 400, 900])])),
-        (b"hhea", table(36, &[(0, &[1, 0, 800]), (34, &[300])])),
-        (b"hmtx", words(&hmtx)),
-        (b"maxp", words(&[0, 0x5000, 40_000])),
-        (b"name", name),
-    ])
+/// 5,000 names, of which the last is for Windows, of 16,500 units after 40,000 bytes.
+fn name_at_the_limits() -> Vec<u8> {
+    let mut records = vec![0, 5000, 60_010];
+    for n in 1..=5000 {
+        let platform = if n == 5000 { 3 } else { 1 };
+        records.extend([platform, 1, 0x409, 256, 33_000, 40_000]);
+    }
+    let units = [&[0; 20_002][..], &[0xD83D, 0xDE00], &[110; 16_498]].concat();
+    words(&[records, units].concat())
+}
+
+/// 64 axes in long records after a gap, all but the last with their default at both ends.
+fn fvar_at_the_limits() -> Vec<u8> {
+    let mut table = vec![0; 40_000 + 64 * 33_000];
+    table[..12].copy_from_slice(&words(&[1, 0, 40_000, 2, 64, MANY]));
+    for n in 0..64 {
+        let max = if n == 63 { 1000 } else { 0 };
+        let tag = if n == 63 { *b"wght" } else { [b'A', b'A' + n / 8, b'A' + n % 8, b' '] };
+        let record = [&tag[..], &words(&[0, 0, 0, 0, max, 0])].concat();
+        table[40_000 + 33_000 * usize::from(n)..][..16].copy_from_slice(&record);
+    }
+    table
+}
+
+/// Maps of 10,000 mappings for the first axis, of none for the others, and for the last of all
+/// coordinates, of which that of one half is at a quarter.
+fn avar_at_the_limits() -> Vec<u8> {
+    let ramp = |n: i16| [n as u16, n as u16];
+    let first = [10_000].into_iter().chain((0..10_000).flat_map(ramp));
+    let mut last: Vec<u16> = (-0x4000..=0x4000).flat_map(ramp).collect();
+    last[2 * 0x6000 + 1] = 0x1000;
+    words(&[&[1, 0, 0, 64][..], &first.collect::<Vec<_>>(), &[0; 62], &[0x8001], &last].concat())
+}
+
+/// Two tables of delta sets after many others: of one set of 5,000 long words, and of 40,000 sets
+/// of two words; 5,000 regions, of which the last is that of the last axis; and a map of each
+/// glyph.
+fn hvar_at_the_limits() -> Vec<u8> {
+    let region = |n: u16| {
+        let mut axes = [0; 3 * 64];
+        axes[if n == 4999 { 189 } else { 0 }..][..3].copy_from_slice(&[0, 0x4000, 0x4000]);
+        axes
+    };
+    let regions =
+        words(&[&[64, 5000][..], &(0..5000).flat_map(region).collect::<Vec<_>>()].concat());
+    let wide: Vec<u16> = [1, 0x8000 + 5000, 5000].into_iter().chain(0..5000).collect();
+    let deltas = (0..5000).flat_map(|n| [0, if n == 4999 { 20_000 } else { n }]);
+    let wide = words(&[wide, deltas.collect()].concat());
+    let long = [40_000, 2, 2, 0, 4999].into_iter().chain((0..40_000).flat_map(|n| [1, n / 4]));
+    let tables = 8 + 4 * u32::from(MANY);
+    let (after_wide, after_long) = (wide.len() as u32, wide.len() as u32 + 10 + 160_000);
+    let mut store = words(&[1]);
+    store.extend((tables + after_long).to_be_bytes());
+    store.extend(words(&[MANY]));
+    store.extend((1..MANY).flat_map(|_| tables.to_be_bytes()));
+    store.extend((tables + after_wide).to_be_bytes());
+    store.extend(wide);
+    store.extend(words(&long.collect::<Vec<_>>()));
+    store.extend(regions);
+    // Entries of four bytes, with an inner index of 16 bits.
+    let mut table = words(&[1, 0, 0, 20]);
+    table.extend((20 + store.len() as u32).to_be_bytes());
+    table.extend([0; 8]);
+    table.extend(store);
+    table.extend(words(&[0x013F, 1, 0]));
+    for glyph in 0..=0xFFFF {
+        let set = if glyph == 7 { [MANY - 2, 0] } else { [MANY - 1, glyph % 40_000] };
+        table.extend(words(&set));
+    }
+    table
+}
+
+/// A font at the limits: each count and offset has more than 15 bits, or as many as its format, or
+/// `c/examples/advance.c`, allows. Glyph `n` of 65,535 has the advance `n`, up to the last of the
+/// metrics, and the delta `n / 4`.
+pub fn at_the_limits() -> Vec<u8> {
+    let metrics: Vec<u16> = (0..MANY).flat_map(|n| [n, 0]).collect();
+    let os2 = table(78, &[(4, &[40_000])]);
+    let empty = (0..MANY).map(|n| {
+        let [high, low] = n.to_be_bytes();
+        ([b'a', high, low, 0xFF], Vec::new())
+    });
+    let tables = [
+        (*b"HVAR", hvar_at_the_limits()),
+        (*b"OS/2", os2),
+        (*b"avar", avar_at_the_limits()),
+        (*b"cmap", cmap_at_the_limits()),
+        (*b"fvar", fvar_at_the_limits()),
+        (*b"hhea", table(36, &[(0, &[1, 0, 800]), (34, &[MANY])])),
+        (*b"hmtx", words(&[metrics, vec![0; usize::from(0xFFFF - MANY)]].concat())),
+        (*b"maxp", words(&[0, 0x5000, 0xFFFF])),
+        (*b"name", name_at_the_limits()),
+    ];
+    font_of_tables(empty.chain(tables))
 }

@@ -1,6 +1,23 @@
-// @generated from crates/font_base/src/array.rt by tools/src/bin/erase.rs
+// @generated from crates/font_base/src/array.rt by tools/erase
 
 //! Borrowed arrays of big-endian scalars.
+
+#[cfg(doc)]
+use crate::definitions::font_base::Array::IsPartitionPoint;
+#[cfg(doc)]
+use crate::definitions::font_base::Array::IsSearched;
+#[cfg(doc)]
+use crate::definitions::font_base::Array::array_bytes;
+#[cfg(doc)]
+use crate::definitions::font_base::Array::array_elements;
+#[cfg(doc)]
+use crate::definitions::font_base::Array::array_len;
+#[cfg(doc)]
+use crate::definitions::font_base::Array::element_bytes;
+#[cfg(doc)]
+use crate::definitions::font_base::Array::elements_left;
+#[cfg(doc)]
+use crate::definitions::font_base::Elements::AreRaw;
 
 use crate::font_base::raw::{BeByteArray, ByteChunks, Scalar};
 use core::cmp::Ordering;
@@ -22,6 +39,14 @@ use core::slice::Iter;
 /// ```
 ///
 /// The source and its contracts: `crates/font_base/src/array.rt`.
+///
+/// <details><summary>Contract</summary>
+///
+/// ```text
+/// ghost are_raw: { AreRaw T.Raw.is_value T.Raw.bytes T.RAW_BYTE_LEN raw.now },
+/// ```
+/// [`AreRaw`]
+/// </details>
 pub struct ScalarArray<'a, T: Scalar> {
     raw: &'a [T::Raw],
 }
@@ -31,6 +56,15 @@ impl<'a, T: Scalar> ScalarArray<'a, T> {
     /// `RAW_BYTE_LEN`.
     ///
     /// If `RAW_BYTE_LEN` is 0, only empty data is an array, and it is empty.
+    ///
+    /// <details><summary>Contract</summary>
+    ///
+    /// ```text
+    /// ensures variant { IsSome result ↔ (length «data».now % T.RAW_BYTE_LEN ≡ 0) }
+    /// ensures bytes { IfSome result (λ array. array_bytes array ≡ «data».now) }
+    /// ```
+    /// [`array_bytes`]
+    /// </details>
     #[must_use]
     #[inline]
     pub fn new(data: &'a [u8]) -> Option<ScalarArray<'a, T>>
@@ -57,6 +91,19 @@ impl<'a, T: Scalar> ScalarArray<'a, T> {
     /// assert_eq!((ends.len(), ends.last()), (2, Some(0x7A)));
     /// assert!(ScalarArray::<u16>::read_at(&table, 2, 3).is_none());
     /// ```
+    ///
+    /// <details><summary>Contract</summary>
+    ///
+    /// ```text
+    /// ensures variant { IsSome result ↔ (offset + count * T.RAW_BYTE_LEN ≤ length bytes.now) }
+    /// ensures bytes { IfSome result (λ array.
+    ///     array_bytes array ≡ take (count * T.RAW_BYTE_LEN) (drop offset bytes.now)) }
+    /// ensures len { 0 < T.RAW_BYTE_LEN → IfSome result (λ array. array_len array ≡ count) }
+    /// ensures elements { IfSome result (λ array. (i : ℕ) → i < count → element_bytes array i
+    ///     ≡ take T.RAW_BYTE_LEN (drop (offset + i * T.RAW_BYTE_LEN) bytes.now)) }
+    /// ```
+    /// [`array_bytes`], [`array_len`], [`element_bytes`]
+    /// </details>
     #[must_use]
     #[inline]
     pub fn read_at(bytes: &'a [u8], offset: usize, count: usize) -> Option<ScalarArray<'a, T>>
@@ -69,12 +116,19 @@ impl<'a, T: Scalar> ScalarArray<'a, T> {
         if T::RAW_BYTE_LEN == 0 {
             return Some(ScalarArray { raw });
         }
-        Some(ScalarArray {
-            raw: raw.get(..count)?,
-        })
+        Some(ScalarArray { raw: raw.get(..count)? })
     }
 
     /// Returns the number of elements.
+    ///
+    /// <details><summary>Contract</summary>
+    ///
+    /// ```text
+    /// ensures value { result ≡ array_len self.now }
+    /// ensures bytes { result * T.RAW_BYTE_LEN ≡ length (array_bytes self.now) }
+    /// ```
+    /// [`array_len`], [`array_bytes`]
+    /// </details>
     #[must_use]
     #[inline]
     pub const fn len(&self) -> usize {
@@ -82,6 +136,14 @@ impl<'a, T: Scalar> ScalarArray<'a, T> {
     }
 
     /// Returns `true` if the array has no elements.
+    ///
+    /// <details><summary>Contract</summary>
+    ///
+    /// ```text
+    /// ensures { IsTrue result ↔ (array_len self.now ≡ 0) }
+    /// ```
+    /// [`array_len`]
+    /// </details>
     #[must_use]
     #[inline]
     pub fn is_empty(&self) -> bool {
@@ -89,6 +151,14 @@ impl<'a, T: Scalar> ScalarArray<'a, T> {
     }
 
     /// Returns the underlying bytes.
+    ///
+    /// <details><summary>Contract</summary>
+    ///
+    /// ```text
+    /// ensures { result.now ≡ array_bytes self.now }
+    /// ```
+    /// [`array_bytes`]
+    /// </details>
     #[must_use]
     #[inline]
     pub fn as_bytes(&self) -> &'a [u8]
@@ -108,6 +178,14 @@ impl<'a, T: Scalar> ScalarArray<'a, T> {
     /// let ends = ends.as_raw().iter().map(|raw| u16::from_raw(*raw));
     /// assert!(ends.rev().eq([0xFFFF, 0x7A, 0x5A]));
     /// ```
+    ///
+    /// <details><summary>Contract</summary>
+    ///
+    /// ```text
+    /// ensures { map T.Raw.bytes result.now ≡ array_elements self.now }
+    /// ```
+    /// [`array_elements`]
+    /// </details>
     #[must_use]
     #[inline]
     pub const fn as_raw(&self) -> &'a [T::Raw] {
@@ -115,6 +193,16 @@ impl<'a, T: Scalar> ScalarArray<'a, T> {
     }
 
     /// Returns the element at `index`, or `None` if out of bounds.
+    ///
+    /// <details><summary>Contract</summary>
+    ///
+    /// ```text
+    /// ensures variant { IsSome result ↔ (index < array_len self.now) }
+    /// ensures stored { IfSome result (λ v.
+    ///     T.Raw.bytes (T.raw_of v) ≡ element_bytes self.now index) }
+    /// ```
+    /// [`array_len`], [`element_bytes`]
+    /// </details>
     #[must_use]
     #[inline]
     pub fn get(&self, index: usize) -> Option<T> {
@@ -123,6 +211,16 @@ impl<'a, T: Scalar> ScalarArray<'a, T> {
     }
 
     /// Returns the first element, or `None` if there is none.
+    ///
+    /// <details><summary>Contract</summary>
+    ///
+    /// ```text
+    /// ensures variant { IsSome result ↔ (0 < array_len self.now) }
+    /// ensures stored { IfSome result (λ v.
+    ///     T.Raw.bytes (T.raw_of v) ≡ element_bytes self.now 0) }
+    /// ```
+    /// [`array_len`], [`element_bytes`]
+    /// </details>
     #[must_use]
     #[inline]
     pub fn first(&self) -> Option<T> {
@@ -130,6 +228,16 @@ impl<'a, T: Scalar> ScalarArray<'a, T> {
     }
 
     /// Returns the last element, or `None` if there is none.
+    ///
+    /// <details><summary>Contract</summary>
+    ///
+    /// ```text
+    /// ensures variant { IsSome result ↔ (0 < array_len self.now) }
+    /// ensures stored { IfSome result (λ v.
+    ///     T.Raw.bytes (T.raw_of v) ≡ element_bytes self.now (array_len self.now - 1)) }
+    /// ```
+    /// [`array_len`], [`element_bytes`]
+    /// </details>
     #[must_use]
     #[inline]
     pub fn last(&self) -> Option<T> {
@@ -145,20 +253,29 @@ impl<'a, T: Scalar> ScalarArray<'a, T> {
     /// assert_eq!(array.slice(1, 3).unwrap().as_bytes(), [0, 2, 0, 3]);
     /// assert!(array.slice(1, 4).is_none());
     /// ```
+    ///
+    /// <details><summary>Contract</summary>
+    ///
+    /// ```text
+    /// ensures variant { IsSome result ↔ ((start ≤ end) × (end ≤ array_len self.now)) }
+    /// ensures elements { IfSome result (λ part.
+    ///     array_elements part ≡ take (end - start) (drop start (array_elements self.now))) }
+    /// ensures bytes { IfSome result (λ part. array_bytes part
+    ///     ≡ take ((end - start) * T.RAW_BYTE_LEN)
+    ///     (drop (start * T.RAW_BYTE_LEN) (array_bytes self.now))) }
+    /// ```
+    /// [`array_len`], [`array_elements`], [`array_bytes`]
+    /// </details>
     #[must_use]
     #[inline]
     pub fn slice(&self, start: usize, end: usize) -> Option<ScalarArray<'a, T>> {
-        Some(ScalarArray {
-            raw: self.raw.get(start..end)?,
-        })
+        Some(ScalarArray { raw: self.raw.get(start..end)? })
     }
 
     // Returns the named iterator over the elements.
     #[inline]
     fn elements(&self) -> ScalarArrayIter<'a, T> {
-        ScalarArrayIter {
-            rest: self.raw.iter(),
-        }
+        ScalarArrayIter { rest: self.raw.iter() }
     }
 }
 
@@ -172,6 +289,14 @@ impl<'a, T: Scalar> Clone for ScalarArray<'a, T> {
 impl<'a, T: Scalar> Copy for ScalarArray<'a, T> {}
 
 /// Returns an empty array.
+///
+/// <details><summary>Contract</summary>
+///
+/// ```text
+/// ghost is_default = { λ array. array_bytes array ≡ [] };
+/// ```
+/// [`array_bytes`]
+/// </details>
 impl<'a, T: Scalar> Default for ScalarArray<'a, T> {
     #[inline]
     fn default() -> ScalarArray<'a, T> {
@@ -181,6 +306,14 @@ impl<'a, T: Scalar> Default for ScalarArray<'a, T> {
 }
 
 /// Two arrays are equal if their bytes are.
+///
+/// <details><summary>Contract</summary>
+///
+/// ```text
+/// ghost eq = { on array_bytes (pointwise nat_eq) };
+/// ```
+/// [`array_bytes`]
+/// </details>
 impl<'a, T: Scalar> PartialEq for ScalarArray<'a, T>
 where
     T::Raw: ByteChunks,
@@ -210,6 +343,19 @@ impl<'a, T: Scalar> ScalarArray<'a, T> {
     /// # Errors
     ///
     /// If there is none, returns the index at which it could be inserted.
+    ///
+    /// <details><summary>Contract</summary>
+    ///
+    /// ```text
+    /// requires { F.IsAlwaysCallable compare }
+    /// ensures found { IfOk result (λ i. i < array_len self.now) }
+    /// ensures absent { IfErr result (λ i. i ≤ array_len self.now) }
+    /// ensures place { (answer : T → Ordering)
+    ///     → ((v : T) (o : Ordering) → F.post compare v o → o ≡ answer v)
+    ///     → IsSearched self.now answer result }
+    /// ```
+    /// [`array_len`], [`IsSearched`]
+    /// </details>
     #[inline]
     pub fn binary_search_by<F: Fn(T) -> Ordering>(&self, compare: F) -> Result<usize, usize> {
         self.raw.binary_search_by(|raw| compare(T::from_raw(*raw)))
@@ -221,14 +367,25 @@ impl<'a, T: Scalar> ScalarArray<'a, T> {
     /// # Errors
     ///
     /// If there is none, returns the index at which it could be inserted.
+    ///
+    /// <details><summary>Contract</summary>
+    ///
+    /// ```text
+    /// requires { F.IsAlwaysCallable key_of }
+    /// ensures found { IfOk result (λ i. i < array_len self.now) }
+    /// ensures absent { IfErr result (λ i. i ≤ array_len self.now) }
+    /// ensures place { (of : T → K) → ((v : T) (k : K) → F.post key_of v k → k ≡ of v)
+    ///     → IsSearched self.now (λ v. K.cmp (of v) key.now) result }
+    /// ```
+    /// [`array_len`], [`IsSearched`]
+    /// </details>
     #[inline]
     pub fn binary_search_by_key<K: Ord, F: Fn(T) -> K>(
         &self,
         key: &K,
         key_of: F,
     ) -> Result<usize, usize> {
-        self.raw
-            .binary_search_by_key(key, |raw| key_of(T::from_raw(*raw)))
+        self.raw.binary_search_by_key(key, |raw| key_of(T::from_raw(*raw)))
     }
 
     /// Returns the number of elements at the front for which `is_before` returns `true`. The array
@@ -239,6 +396,18 @@ impl<'a, T: Scalar> ScalarArray<'a, T> {
     /// let ends = ScalarArray::<u16>::new(&[0x00, 0x5A, 0x00, 0x7A, 0xFF, 0xFF]).unwrap();
     /// assert_eq!(ends.partition_point(|end| end < 0x7A), 1);
     /// ```
+    ///
+    /// <details><summary>Contract</summary>
+    ///
+    /// ```text
+    /// requires { F.IsAlwaysCallable is_before }
+    /// ensures within { result ≤ array_len self.now }
+    /// ensures place { (before : T → Bool)
+    ///     → ((v : T) (b : Bool) → F.post is_before v b → b ≡ before v)
+    ///     → IsPartitionPoint self.now before result }
+    /// ```
+    /// [`array_len`], [`IsPartitionPoint`]
+    /// </details>
     #[must_use]
     #[inline]
     pub fn partition_point<F: Fn(T) -> bool>(&self, is_before: F) -> usize {
@@ -251,6 +420,14 @@ impl<'a, T: Scalar> ScalarArray<'a, T> {
     /// # Errors
     ///
     /// If there is none, returns the index at which it could be inserted.
+    ///
+    /// <details><summary>Contract</summary>
+    ///
+    /// ```text
+    /// ensures { IsSearched self.now (λ v. T.cmp v key.now) result }
+    /// ```
+    /// [`IsSearched`]
+    /// </details>
     #[inline]
     pub fn binary_search(&self, key: &T) -> Result<usize, usize>
     where
@@ -266,21 +443,43 @@ impl<'a, T: Scalar> ScalarArray<'a, T> {
 /// the array first. To fill a `Vec` in Rust, collect [`ScalarArray::iter`] instead.
 ///
 /// The source and its contracts: `crates/font_base/src/array.rt`.
+///
+/// <details><summary>Contract</summary>
+///
+/// ```text
+/// ghost are_raw: { AreRaw T.Raw.is_value T.Raw.bytes T.RAW_BYTE_LEN (iter_rest rest) },
+/// ```
+/// [`AreRaw`]
+/// </details>
 pub struct ScalarArrayIter<'a, T: Scalar> {
     rest: Iter<'a, T::Raw>,
 }
 
 impl<'a, T: Scalar> ScalarArrayIter<'a, T> {
     /// Returns the elements that are left, as an array.
+    ///
+    /// <details><summary>Contract</summary>
+    ///
+    /// ```text
+    /// ensures { array_elements result ≡ elements_left self.now }
+    /// ```
+    /// [`array_elements`], [`elements_left`]
+    /// </details>
     #[must_use]
     #[inline]
     pub fn as_array(&self) -> ScalarArray<'a, T> {
-        ScalarArray {
-            raw: self.rest.as_slice(),
-        }
+        ScalarArray { raw: self.rest.as_slice() }
     }
 }
 
+/// <details><summary>Contract</summary>
+///
+/// ```text
+/// ghost next_gives = { YieldsFirstBy (λ v. T.Raw.bytes (T.raw_of v)) elements_left };
+/// ghost remaining = { item_count elements_left };
+/// ```
+/// [`elements_left`]
+/// </details>
 impl<'a, T: Scalar> Iterator for ScalarArrayIter<'a, T> {
     type Item = T;
 
@@ -299,6 +498,13 @@ impl<'a, T: Scalar> Iterator for ScalarArrayIter<'a, T> {
     }
 }
 
+/// <details><summary>Contract</summary>
+///
+/// ```text
+/// ghost next_back_gives = { YieldsLastBy (λ v. T.Raw.bytes (T.raw_of v)) elements_left };
+/// ```
+/// [`elements_left`]
+/// </details>
 impl<'a, T: Scalar> DoubleEndedIterator for ScalarArrayIter<'a, T> {
     #[inline]
     fn next_back(&mut self) -> Option<T> {
@@ -321,12 +527,17 @@ impl<'a, T: Scalar> FusedIterator for ScalarArrayIter<'a, T> {}
 impl<'a, T: Scalar> Clone for ScalarArrayIter<'a, T> {
     #[inline]
     fn clone(&self) -> ScalarArrayIter<'a, T> {
-        ScalarArrayIter {
-            rest: self.rest.as_slice().iter(),
-        }
+        ScalarArrayIter { rest: self.rest.as_slice().iter() }
     }
 }
 
+/// <details><summary>Contract</summary>
+///
+/// ```text
+/// ghost into_iter_gives = { λ array iter. elements_left iter ≡ array_elements array };
+/// ```
+/// [`elements_left`], [`array_elements`]
+/// </details>
 impl<'a, T: Scalar> IntoIterator for ScalarArray<'a, T> {
     type Item = T;
 
@@ -338,6 +549,13 @@ impl<'a, T: Scalar> IntoIterator for ScalarArray<'a, T> {
     }
 }
 
+/// <details><summary>Contract</summary>
+///
+/// ```text
+/// ghost into_iter_gives = { λ array iter. elements_left iter ≡ array_elements array.now };
+/// ```
+/// [`elements_left`], [`array_elements`]
+/// </details>
 impl<'a, T: Scalar> IntoIterator for &ScalarArray<'a, T> {
     type Item = T;
 

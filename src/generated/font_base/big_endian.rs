@@ -1,6 +1,9 @@
-// @generated from crates/font_base/src/big_endian.rt by tools/src/bin/erase.rs
+// @generated from crates/font_base/src/big_endian.rt by tools/erase
 
 //! Big-endian fields.
+
+#[cfg(doc)]
+use crate::definitions::font_base::BigEndian::raw_value;
 
 use crate::font_base::raw::{BeByteArray, FixedSize, IdentityEq, Scalar};
 use core::cmp::Ordering;
@@ -20,6 +23,13 @@ use core::marker::PhantomData;
 /// ```
 ///
 /// The source and its contracts: `crates/font_base/src/big_endian.rt`.
+///
+/// <details><summary>Contract</summary>
+///
+/// ```text
+/// ghost value: { IsTrue (R.is_value raw) },
+/// ```
+/// </details>
 pub struct BigEndian<T: Scalar, R: BeByteArray = <T as Scalar>::Raw> {
     raw: R,
     scalar: PhantomData<T>,
@@ -27,26 +37,37 @@ pub struct BigEndian<T: Scalar, R: BeByteArray = <T as Scalar>::Raw> {
 
 impl<T: Scalar> BigEndian<T> {
     /// Creates a field from its raw bytes.
+    ///
+    /// <details><summary>Contract</summary>
+    ///
+    /// ```text
+    /// ensures { raw_value result ≡ raw }
+    /// ```
+    /// [`raw_value`]
+    /// </details>
     #[must_use]
     #[inline]
     pub fn new(raw: T::Raw) -> BigEndian<T> {
         const { assert!(T::RAW_BYTE_LEN == <T::Raw as BeByteArray>::LEN) };
-        BigEndian {
-            raw,
-            scalar: PhantomData,
-        }
+        BigEndian { raw, scalar: PhantomData }
     }
 
     /// Creates a field from a slice, or returns `None` unless its length is `RAW_BYTE_LEN`.
+    ///
+    /// <details><summary>Contract</summary>
+    ///
+    /// ```text
+    /// ensures variant { IsSome result ↔ (length slice.now ≡ T.RAW_BYTE_LEN) }
+    /// ensures bytes { IfSome result (λ field. T.Raw.bytes (raw_value field) ≡ slice.now) }
+    /// ```
+    /// [`raw_value`]
+    /// </details>
     #[must_use]
     #[inline]
     pub fn from_slice(slice: &[u8]) -> Option<BigEndian<T>> {
         const { assert!(T::RAW_BYTE_LEN == <T::Raw as BeByteArray>::LEN) };
         let raw = T::Raw::from_slice(slice)?;
-        Some(BigEndian {
-            raw,
-            scalar: PhantomData,
-        })
+        Some(BigEndian { raw, scalar: PhantomData })
     }
 
     /// Reads the field at `offset`, or returns `None` if fewer than `RAW_BYTE_LEN` bytes are left
@@ -58,6 +79,16 @@ impl<T: Scalar> BigEndian<T> {
     /// assert_eq!(field.get(), 0x0102);
     /// assert!(BigEndian::<u16>::read_at(&[9, 1, 2], 2).is_none());
     /// ```
+    ///
+    /// <details><summary>Contract</summary>
+    ///
+    /// ```text
+    /// ensures variant { IsSome result ↔ (offset + T.RAW_BYTE_LEN ≤ length bytes.now) }
+    /// ensures bytes { IfSome result (λ field.
+    ///     T.Raw.bytes (raw_value field) ≡ take T.RAW_BYTE_LEN (drop offset bytes.now)) }
+    /// ```
+    /// [`raw_value`]
+    /// </details>
     #[must_use]
     #[inline]
     pub fn read_at(bytes: &[u8], offset: usize) -> Option<BigEndian<T>> {
@@ -74,6 +105,20 @@ impl<T: Scalar> BigEndian<T> {
     /// assert_eq!(bytes, [9, 1, 2]);
     /// assert_eq!(field.write_at(&mut bytes, 2), None);
     /// ```
+    ///
+    /// <details><summary>Contract</summary>
+    ///
+    /// ```text
+    /// ensures variant { IsSome result ↔ (offset + T.RAW_BYTE_LEN ≤ length bytes.old) }
+    /// ensures before { take offset bytes.new ≡ take offset bytes.old }
+    /// ensures bytes { IfSome result (λ _. take T.RAW_BYTE_LEN (drop offset bytes.new)
+    ///     ≡ T.Raw.bytes (raw_value self.now)) }
+    /// ensures after { drop (offset + T.RAW_BYTE_LEN) bytes.new
+    ///     ≡ drop (offset + T.RAW_BYTE_LEN) bytes.old }
+    /// ensures kept { IfNone result (bytes.new ≡ bytes.old) }
+    /// ```
+    /// [`raw_value`]
+    /// </details>
     #[must_use]
     #[inline]
     pub fn write_at(&self, bytes: &mut [u8], offset: usize) -> Option<()> {
@@ -81,6 +126,15 @@ impl<T: Scalar> BigEndian<T> {
     }
 
     /// Decodes the value.
+    ///
+    /// <details><summary>Contract</summary>
+    ///
+    /// ```text
+    /// ensures value { result ≡ T.of_raw (raw_value self.now) }
+    /// ensures back { T.raw_of result ≡ raw_value self.now }
+    /// ```
+    /// [`raw_value`]
+    /// </details>
     #[must_use]
     #[inline(always)]
     pub fn get(&self) -> T {
@@ -88,12 +142,29 @@ impl<T: Scalar> BigEndian<T> {
     }
 
     /// Overwrites the field with the bytes of `value`.
+    ///
+    /// <details><summary>Contract</summary>
+    ///
+    /// ```text
+    /// ensures bytes { raw_value self.new ≡ T.raw_of value }
+    /// ensures back { T.of_raw (raw_value self.new) ≡ value }
+    /// ```
+    /// [`raw_value`]
+    /// </details>
     #[inline]
     pub fn set(&mut self, value: T) {
         self.raw = value.to_raw();
     }
 
     /// Returns the raw big-endian bytes.
+    ///
+    /// <details><summary>Contract</summary>
+    ///
+    /// ```text
+    /// ensures { result.now ≡ T.Raw.bytes (raw_value self.now) }
+    /// ```
+    /// [`raw_value`]
+    /// </details>
     #[must_use]
     #[inline]
     pub fn be_bytes(&self) -> &[u8] {
@@ -105,6 +176,14 @@ impl<T: Scalar> BigEndian<T> {
 #[doc(hidden)]
 impl<T: Scalar> BigEndian<T> {
     /// Returns `true` if the decoded value equals `other`, as `==` does.
+    ///
+    /// <details><summary>Contract</summary>
+    ///
+    /// ```text
+    /// ensures { result ≡ T.eq (T.of_raw (raw_value self.now)) other.now }
+    /// ```
+    /// [`raw_value`]
+    /// </details>
     #[must_use]
     #[inline]
     pub fn eq_value(&self, other: &T) -> bool
@@ -118,10 +197,7 @@ impl<T: Scalar> BigEndian<T> {
 impl<T: Scalar, R: BeByteArray> Clone for BigEndian<T, R> {
     #[inline]
     fn clone(&self) -> BigEndian<T, R> {
-        BigEndian {
-            raw: self.raw,
-            scalar: PhantomData,
-        }
+        BigEndian { raw: self.raw, scalar: PhantomData }
     }
 }
 
@@ -131,6 +207,14 @@ impl<T: Scalar> FixedSize for BigEndian<T> {
     const RAW_BYTE_LEN: usize = T::RAW_BYTE_LEN;
 }
 
+/// <details><summary>Contract</summary>
+///
+/// ```text
+/// ghost from_gives = { λ value field. (raw_value field ≡ T.raw_of value)
+///     × (T.of_raw (raw_value field) ≡ value) };
+/// ```
+/// [`raw_value`]
+/// </details>
 impl<T: Scalar> From<T> for BigEndian<T> {
     #[inline]
     fn from(value: T) -> BigEndian<T> {
@@ -138,6 +222,13 @@ impl<T: Scalar> From<T> for BigEndian<T> {
     }
 }
 
+/// <details><summary>Contract</summary>
+///
+/// ```text
+/// ghost eq = { on (λ field. T.Raw.bytes (raw_value field)) (pointwise nat_eq) };
+/// ```
+/// [`raw_value`]
+/// </details>
 impl<T: Scalar> PartialEq for BigEndian<T> {
     #[inline]
     fn eq(&self, other: &BigEndian<T>) -> bool {
@@ -147,6 +238,13 @@ impl<T: Scalar> PartialEq for BigEndian<T> {
 
 impl<T: Scalar> Eq for BigEndian<T> {}
 
+/// <details><summary>Contract</summary>
+///
+/// ```text
+/// ghost hash_input = { λ field. fed.slice fed.u8 (T.Raw.bytes (raw_value field)) };
+/// ```
+/// [`raw_value`]
+/// </details>
 impl<T: Scalar> Hash for BigEndian<T> {
     #[inline]
     fn hash<H: Hasher>(&self, state: &mut H) {
@@ -154,6 +252,13 @@ impl<T: Scalar> Hash for BigEndian<T> {
     }
 }
 
+/// <details><summary>Contract</summary>
+///
+/// ```text
+/// ghost partial_cmp = { λ a b. Some (T.cmp (T.of_raw (raw_value a)) (T.of_raw (raw_value b))) };
+/// ```
+/// [`raw_value`]
+/// </details>
 impl<T: Scalar + Copy + Ord + IdentityEq> PartialOrd for BigEndian<T> {
     #[inline]
     fn partial_cmp(&self, other: &BigEndian<T>) -> Option<Ordering> {
@@ -161,6 +266,13 @@ impl<T: Scalar + Copy + Ord + IdentityEq> PartialOrd for BigEndian<T> {
     }
 }
 
+/// <details><summary>Contract</summary>
+///
+/// ```text
+/// ghost cmp = { on (λ field. T.of_raw (raw_value field)) T.cmp };
+/// ```
+/// [`raw_value`]
+/// </details>
 impl<T: Scalar + Copy + Ord + IdentityEq> Ord for BigEndian<T> {
     #[inline]
     fn cmp(&self, other: &BigEndian<T>) -> Ordering {
@@ -168,6 +280,13 @@ impl<T: Scalar + Copy + Ord + IdentityEq> Ord for BigEndian<T> {
     }
 }
 
+/// <details><summary>Contract</summary>
+///
+/// ```text
+/// ghost is_default = { λ field. T.is_default (T.of_raw (raw_value field)) };
+/// ```
+/// [`raw_value`]
+/// </details>
 impl<T: Scalar + Default> Default for BigEndian<T> {
     #[inline]
     fn default() -> BigEndian<T> {
@@ -175,12 +294,26 @@ impl<T: Scalar + Default> Default for BigEndian<T> {
     }
 }
 
+/// <details><summary>Contract</summary>
+///
+/// ```text
+/// ghost output = { λ field. T.output (T.of_raw (raw_value field)) };
+/// ```
+/// [`raw_value`]
+/// </details>
 impl<T: Scalar + Copy + fmt::Display> fmt::Display for BigEndian<T> {
     fn fmt(&self, f: &mut fmt::Formatter<'_>) -> fmt::Result {
         fmt::Display::fmt(&self.get(), f)
     }
 }
 
+/// <details><summary>Contract</summary>
+///
+/// ```text
+/// ghost debug_output = { λ field. T.debug_output (T.of_raw (raw_value field)) };
+/// ```
+/// [`raw_value`]
+/// </details>
 impl<T: Scalar + Copy + fmt::Debug> fmt::Debug for BigEndian<T> {
     fn fmt(&self, f: &mut fmt::Formatter<'_>) -> fmt::Result {
         fmt::Debug::fmt(&self.get(), f)

@@ -1,6 +1,21 @@
-// @generated from crates/font_base/src/int24.rt by tools/src/bin/erase.rs
+// @generated from crates/font_base/src/int24.rt by tools/erase
 
 //! 24-bit signed integers.
+
+#[cfg(doc)]
+use crate::definitions::font_base::Bytes::bytes_of;
+#[cfg(doc)]
+use crate::definitions::font_base::Bytes::signed_numeral;
+#[cfg(doc)]
+use crate::definitions::font_base::Int24::INT24_MAX;
+#[cfg(doc)]
+use crate::definitions::font_base::Int24::INT24_MIN;
+#[cfg(doc)]
+use crate::definitions::font_base::Int24::bytes_of_int24;
+#[cfg(doc)]
+use crate::definitions::font_base::Int24::int24_number;
+#[cfg(doc)]
+use crate::definitions::font_base::Int24::int24_of_bytes;
 
 use crate::font_base::raw::{FixedSize, IdentityEq, Scalar};
 use core::fmt;
@@ -14,6 +29,14 @@ use core::fmt;
 /// ```
 ///
 /// The source and its contracts: `crates/font_base/src/int24.rt`.
+///
+/// <details><summary>Contract</summary>
+///
+/// ```text
+/// ghost low: { neg_ℤ (pos 8388608) ≤ℤ value },
+/// ghost high: { value <ℤ pos 8388608 },
+/// ```
+/// </details>
 #[derive(Clone, Copy, PartialEq, Eq, PartialOrd, Ord, Hash)]
 pub struct Int24 {
     value: i32,
@@ -27,6 +50,14 @@ impl Int24 {
     pub const MAX: Self = Int24 { value: 0x7F_FFFF };
 
     /// Converts an `i32`, saturating at `MIN` and `MAX`.
+    ///
+    /// <details><summary>Contract</summary>
+    ///
+    /// ```text
+    /// ensures { int24_number result ≡ int_max INT24_MIN (int_min raw INT24_MAX) }
+    /// ```
+    /// [`int24_number`], [`INT24_MIN`], [`INT24_MAX`]
+    /// </details>
     #[must_use]
     #[inline]
     pub const fn new(raw: i32) -> Int24 {
@@ -40,6 +71,15 @@ impl Int24 {
     }
 
     /// Converts an `i32`, or returns `None` if it is out of range.
+    ///
+    /// <details><summary>Contract</summary>
+    ///
+    /// ```text
+    /// ensures variant { IsSome result ↔ ((INT24_MIN ≤ℤ raw) × (raw ≤ℤ INT24_MAX)) }
+    /// ensures value { IfSome result (λ n. int24_number n ≡ raw) }
+    /// ```
+    /// [`INT24_MIN`], [`INT24_MAX`], [`int24_number`]
+    /// </details>
     #[must_use]
     #[inline]
     pub const fn checked_new(raw: i32) -> Option<Int24> {
@@ -51,6 +91,14 @@ impl Int24 {
     }
 
     /// Returns the value as an `i32`.
+    ///
+    /// <details><summary>Contract</summary>
+    ///
+    /// ```text
+    /// ensures { result ≡ int24_number self }
+    /// ```
+    /// [`int24_number`]
+    /// </details>
     #[must_use]
     #[inline]
     pub const fn to_i32(self) -> i32 {
@@ -58,6 +106,14 @@ impl Int24 {
     }
 
     /// Returns the big-endian bytes, in two's complement.
+    ///
+    /// <details><summary>Contract</summary>
+    ///
+    /// ```text
+    /// ensures { result ≡ bytes_of 3 (int24_number self) }
+    /// ```
+    /// [`bytes_of`], [`int24_number`]
+    /// </details>
     #[must_use]
     #[inline]
     pub const fn to_be_bytes(self) -> [u8; 3] {
@@ -66,6 +122,15 @@ impl Int24 {
     }
 
     /// Creates a value from big-endian bytes in two's complement.
+    ///
+    /// <details><summary>Contract</summary>
+    ///
+    /// ```text
+    /// ensures bytes { bytes ≡ bytes_of 3 (int24_number result) }
+    /// ensures number { int24_number result ≡ signed_numeral 3 bytes }
+    /// ```
+    /// [`bytes_of`], [`int24_number`], [`signed_numeral`]
+    /// </details>
     #[must_use]
     #[inline]
     pub const fn from_be_bytes(bytes: [u8; 3]) -> Int24 {
@@ -75,6 +140,13 @@ impl Int24 {
     }
 }
 
+/// <details><summary>Contract</summary>
+///
+/// ```text
+/// ghost is_default = { λ n. int24_number n ≡ pos 0 };
+/// ```
+/// [`int24_number`]
+/// </details>
 impl Default for Int24 {
     #[inline]
     fn default() -> Int24 {
@@ -82,18 +154,40 @@ impl Default for Int24 {
     }
 }
 
+/// <details><summary>Contract</summary>
+///
+/// ```text
+/// ghost debug_output = { λ n. Some
+///     (codes "Int24(" ++ signed_decimal (int24_number n) ++ codes ")") };
+/// ```
+/// [`int24_number`]
+/// </details>
 impl fmt::Debug for Int24 {
     fn fmt(&self, f: &mut fmt::Formatter<'_>) -> fmt::Result {
-        f.debug_tuple("Int24").field(&self.value).finish()
+        write!(f, "Int24({})", self.value)
     }
 }
 
+/// <details><summary>Contract</summary>
+///
+/// ```text
+/// ghost output = { λ n. Some (signed_decimal (int24_number n)) };
+/// ```
+/// [`int24_number`]
+/// </details>
 impl fmt::Display for Int24 {
     fn fmt(&self, f: &mut fmt::Formatter<'_>) -> fmt::Result {
         fmt::Display::fmt(&self.value, f)
     }
 }
 
+/// <details><summary>Contract</summary>
+///
+/// ```text
+/// ghost from_gives = { λ n number. number ≡ int24_number n };
+/// ```
+/// [`int24_number`]
+/// </details>
 impl From<Int24> for i32 {
     #[inline]
     fn from(n: Int24) -> i32 {
@@ -105,6 +199,15 @@ impl FixedSize for Int24 {
     const RAW_BYTE_LEN: usize = 3;
 }
 
+/// <details><summary>Contract</summary>
+///
+/// ```text
+/// ghost is_scalar = { λ _. true };
+/// ghost of_raw = { int24_of_bytes };
+/// ghost raw_of = { bytes_of_int24 };
+/// ```
+/// [`int24_of_bytes`], [`bytes_of_int24`]
+/// </details>
 impl Scalar for Int24 {
     type Raw = [u8; 3];
 

@@ -1,4 +1,4 @@
-// @generated from crates/font_base/src/lib.rt by tools/src/bin/erase.rs
+// @generated from crates/font_base/src/lib.rt by tools/erase
 
 //! Big-endian scalars, arrays and table headers, and 24-bit integers.
 //!

@@ -1,6 +1,23 @@
-// @generated from crates/font_base/src/raw.rt by tools/src/bin/erase.rs
+// @generated from crates/font_base/src/raw.rt by tools/erase
 
 //! Scalars and their big-endian bytes.
+
+#[cfg(doc)]
+use crate::definitions::font_base::Bytes::are_bytes;
+#[cfg(doc)]
+use crate::definitions::font_base::Bytes::bytes_of;
+#[cfg(doc)]
+use crate::definitions::font_base::Bytes::numeral;
+#[cfg(doc)]
+use crate::definitions::font_base::Bytes::signed_numeral;
+#[cfg(doc)]
+use crate::definitions::font_base::Elements::AreRaw;
+#[cfg(doc)]
+use crate::definitions::font_base::Scalar::IsValueOf;
+#[cfg(doc)]
+use crate::definitions::font_base::Scalar::ScalarLaws;
+#[cfg(doc)]
+use crate::definitions::font_base::Wrap::fits_bits;
 
 /// A fixed-size big-endian byte array.
 ///
@@ -13,19 +30,59 @@
 /// - Arrays with equal bytes are the same value.
 ///
 /// The source and its contracts: `crates/font_base/src/raw.rt`.
+///
+/// <details><summary>Contract</summary>
+///
+/// ```text
+/// // the bytes, in order
+/// ghost bytes: { Self → List ℕ };
+/// // it has `LEN` bytes, each below 256
+/// ghost is_value: { Self → Bool };
+/// // Every value has `LEN` bytes.
+/// ghost length_is: { (a : Self) → IsTrue (is_value a) → length (bytes a) ≡ LEN };
+/// // Equal bytes mean equal values.
+/// ghost same_bytes: { (a b : Self) → IsTrue (is_value a) → IsTrue (is_value b) → bytes a ≡ bytes b
+///     → a ≡ b };
+/// ```
+/// </details>
 pub trait BeByteArray: Copy {
     /// The number of bytes.
     const LEN: usize;
 
     /// Copies a slice, or returns `None` unless its length is `LEN`.
+    ///
+    /// <details><summary>Contract</summary>
+    ///
+    /// ```text
+    /// ensures variant { IsSome result ↔ (length slice.now ≡ LEN) }
+    /// ensures value { IfSome result (λ array. IsTrue (is_value array)) }
+    /// ensures bytes { IfSome result (λ array. bytes array ≡ slice.now) }
+    /// ```
+    /// </details>
     #[must_use]
     fn from_slice(slice: &[u8]) -> Option<Self>;
 
     /// Returns the bytes as a slice.
+    ///
+    /// <details><summary>Contract</summary>
+    ///
+    /// ```text
+    /// ensures bytes { result.now ≡ bytes self.now }
+    /// ensures length { length result.now ≡ LEN }
+    /// ensures value { IsTrue (is_value self.now) }
+    /// ```
+    /// </details>
     #[must_use]
     fn as_slice(&self) -> &[u8];
 
     /// Returns `true` if both arrays have the same bytes.
+    ///
+    /// <details><summary>Contract</summary>
+    ///
+    /// ```text
+    /// ensures { result ≡ pointwise nat_eq (bytes self.now) (bytes other.now) }
+    /// ```
+    /// </details>
     #[must_use]
     #[inline]
     fn eq_array(&self, other: &Self) -> bool {
@@ -33,6 +90,14 @@ pub trait BeByteArray: Copy {
     }
 }
 
+/// <details><summary>Contract</summary>
+///
+/// ```text
+/// ghost bytes = { λ a. a };
+/// ghost is_value = { are_bytes N };
+/// ```
+/// [`are_bytes`]
+/// </details>
 impl<const N: usize> BeByteArray for [u8; N] {
     const LEN: usize = N;
 
@@ -82,10 +147,27 @@ impl<const N: usize> BeByteArray for [u8; N] {
 /// The source and its contracts: `crates/font_base/src/raw.rt`.
 pub trait ByteChunks: BeByteArray {
     /// Splits a slice into arrays, from its start, and the bytes that are left.
+    ///
+    /// <details><summary>Contract</summary>
+    ///
+    /// ```text
+    /// ensures are_raw { AreRaw Self.is_value Self.bytes Self.LEN result.0.now }
+    /// ensures bytes { flat_map Self.bytes result.0.now ++ result.1.now ≡ bytes.now }
+    /// ensures left { length result.1.now ≡ length bytes.now % Self.LEN }
+    /// ```
+    /// [`AreRaw`]
+    /// </details>
     #[must_use]
     fn as_chunks(bytes: &[u8]) -> (&[Self], &[u8]);
 
     /// Returns the bytes of the arrays.
+    ///
+    /// <details><summary>Contract</summary>
+    ///
+    /// ```text
+    /// ensures { result.now ≡ flat_map Self.bytes arrays.now }
+    /// ```
+    /// </details>
     #[must_use]
     fn as_flattened(arrays: &[Self]) -> &[u8];
 }
@@ -142,19 +224,61 @@ pub trait FixedSize: Sized {
 /// - `Raw::LEN` equals `RAW_BYTE_LEN`.
 ///
 /// The source and its contracts: `crates/font_base/src/raw.rt`.
+///
+/// <details><summary>Contract</summary>
+///
+/// ```text
+/// // it is a value of the type
+/// ghost is_scalar: { Self → Bool };
+/// // the value with these raw bytes
+/// ghost of_raw: { Self.Raw → Self };
+/// // the raw bytes of a value
+/// ghost raw_of: { Self → Self.Raw };
+/// // Encoding and decoding are inverse, and the encoded size is `RAW_BYTE_LEN`.
+/// ghost laws: { ScalarLaws is_scalar Self.Raw.is_value of_raw raw_of
+///     Self.Raw.LEN Self.RAW_BYTE_LEN };
+/// ```
+/// [`ScalarLaws`]
+/// </details>
 pub trait Scalar: FixedSize {
     /// The raw bytes.
     type Raw: BeByteArray;
 
     /// Decodes a value from its raw bytes.
+    ///
+    /// <details><summary>Contract</summary>
+    ///
+    /// ```text
+    /// ensures { result ≡ of_raw raw }
+    /// ```
+    /// </details>
     #[must_use]
     fn from_raw(raw: Self::Raw) -> Self;
 
     /// Encodes the value as raw bytes.
+    ///
+    /// <details><summary>Contract</summary>
+    ///
+    /// ```text
+    /// ensures raw { result ≡ raw_of self }
+    /// ensures value { IsTrue (is_scalar self) }
+    /// ```
+    /// </details>
     #[must_use]
     fn to_raw(self) -> Self::Raw;
 
     /// Reads a value from a slice, or returns `None` unless its length is `RAW_BYTE_LEN`.
+    ///
+    /// <details><summary>Contract</summary>
+    ///
+    /// ```text
+    /// ensures variant { IsSome result ↔ (length slice.now ≡ Self.RAW_BYTE_LEN) }
+    /// ensures bytes { IfSome result (λ v. Self.Raw.bytes (raw_of v) ≡ slice.now) }
+    /// ensures reads { IfSome result (λ v. IsValueOf Self.Raw.bytes of_raw slice.now v) }
+    /// ensures value { IfSome result (λ v. IsTrue (is_scalar v)) }
+    /// ```
+    /// [`IsValueOf`]
+    /// </details>
     #[must_use]
     #[inline]
     fn read(slice: &[u8]) -> Option<Self> {
@@ -171,6 +295,19 @@ pub trait Scalar: FixedSize {
     /// assert_eq!(Tag::read_at(head, 4), Some(Tag::new(b"head")));
     /// assert_eq!(Tag::read_at(head, 5), None);
     /// ```
+    ///
+    /// <details><summary>Contract</summary>
+    ///
+    /// ```text
+    /// ensures variant { IsSome result ↔ (offset + Self.RAW_BYTE_LEN ≤ length bytes.now) }
+    /// ensures bytes { IfSome result (λ v.
+    ///     Self.Raw.bytes (raw_of v) ≡ take Self.RAW_BYTE_LEN (drop offset bytes.now)) }
+    /// ensures reads { IfSome result (λ v.
+    ///     IsValueOf Self.Raw.bytes of_raw (take Self.RAW_BYTE_LEN (drop offset bytes.now)) v) }
+    /// ensures value { IfSome result (λ v. IsTrue (is_scalar v)) }
+    /// ```
+    /// [`IsValueOf`]
+    /// </details>
     #[must_use]
     #[inline]
     fn read_at(bytes: &[u8], offset: usize) -> Option<Self> {
@@ -187,6 +324,19 @@ pub trait Scalar: FixedSize {
     /// assert_eq!(head, *b"\x00\x01\x00\x00head");
     /// assert_eq!(Tag::new(b"hhea").write_at(&mut head, 5), None);
     /// ```
+    ///
+    /// <details><summary>Contract</summary>
+    ///
+    /// ```text
+    /// ensures variant { IsSome result ↔ (offset + Self.RAW_BYTE_LEN ≤ length bytes.old) }
+    /// ensures before { take offset bytes.new ≡ take offset bytes.old }
+    /// ensures bytes { IfSome result (λ _.
+    ///     take Self.RAW_BYTE_LEN (drop offset bytes.new) ≡ Self.Raw.bytes (raw_of self)) }
+    /// ensures after { drop (offset + Self.RAW_BYTE_LEN) bytes.new
+    ///     ≡ drop (offset + Self.RAW_BYTE_LEN) bytes.old }
+    /// ensures kept { IfNone result (bytes.new ≡ bytes.old) }
+    /// ```
+    /// </details>
     #[must_use]
     #[inline]
     fn write_at(self, bytes: &mut [u8], offset: usize) -> Option<()> {
@@ -210,12 +360,28 @@ pub trait Scalar: FixedSize {
 /// - `a == b` if and only if they are the same value, with the same raw bytes.
 ///
 /// The source and its contracts: `crates/font_base/src/raw.rt`.
+///
+/// <details><summary>Contract</summary>
+///
+/// ```text
+/// ghost identity: { (a b : Self) → Decides (Self.eq a b) (a ≡ b) };
+/// ```
+/// </details>
 pub trait IdentityEq: Eq {}
 
 impl FixedSize for u8 {
     const RAW_BYTE_LEN: usize = 1;
 }
 
+/// <details><summary>Contract</summary>
+///
+/// ```text
+/// ghost is_scalar = { λ n. nat_lt n (2 ^ 8) };
+/// ghost of_raw = { numeral };
+/// ghost raw_of = { λ n. bytes_of 1 (pos n) };
+/// ```
+/// [`numeral`], [`bytes_of`]
+/// </details>
 impl Scalar for u8 {
     type Raw = [u8; 1];
 
@@ -236,6 +402,15 @@ impl FixedSize for u16 {
     const RAW_BYTE_LEN: usize = 2;
 }
 
+/// <details><summary>Contract</summary>
+///
+/// ```text
+/// ghost is_scalar = { λ n. nat_lt n (2 ^ 16) };
+/// ghost of_raw = { numeral };
+/// ghost raw_of = { λ n. bytes_of 2 (pos n) };
+/// ```
+/// [`numeral`], [`bytes_of`]
+/// </details>
 impl Scalar for u16 {
     type Raw = [u8; 2];
 
@@ -256,6 +431,15 @@ impl FixedSize for u32 {
     const RAW_BYTE_LEN: usize = 4;
 }
 
+/// <details><summary>Contract</summary>
+///
+/// ```text
+/// ghost is_scalar = { λ n. nat_lt n (2 ^ 32) };
+/// ghost of_raw = { numeral };
+/// ghost raw_of = { λ n. bytes_of 4 (pos n) };
+/// ```
+/// [`numeral`], [`bytes_of`]
+/// </details>
 impl Scalar for u32 {
     type Raw = [u8; 4];
 
@@ -276,6 +460,15 @@ impl FixedSize for i8 {
     const RAW_BYTE_LEN: usize = 1;
 }
 
+/// <details><summary>Contract</summary>
+///
+/// ```text
+/// ghost is_scalar = { fits_bits 8 };
+/// ghost of_raw = { signed_numeral 1 };
+/// ghost raw_of = { bytes_of 1 };
+/// ```
+/// [`fits_bits`], [`signed_numeral`], [`bytes_of`]
+/// </details>
 impl Scalar for i8 {
     type Raw = [u8; 1];
 
@@ -296,6 +489,15 @@ impl FixedSize for i16 {
     const RAW_BYTE_LEN: usize = 2;
 }
 
+/// <details><summary>Contract</summary>
+///
+/// ```text
+/// ghost is_scalar = { fits_bits 16 };
+/// ghost of_raw = { signed_numeral 2 };
+/// ghost raw_of = { bytes_of 2 };
+/// ```
+/// [`fits_bits`], [`signed_numeral`], [`bytes_of`]
+/// </details>
 impl Scalar for i16 {
     type Raw = [u8; 2];
 
@@ -316,6 +518,15 @@ impl FixedSize for i32 {
     const RAW_BYTE_LEN: usize = 4;
 }
 
+/// <details><summary>Contract</summary>
+///
+/// ```text
+/// ghost is_scalar = { fits_bits 32 };
+/// ghost of_raw = { signed_numeral 4 };
+/// ghost raw_of = { bytes_of 4 };
+/// ```
+/// [`fits_bits`], [`signed_numeral`], [`bytes_of`]
+/// </details>
 impl Scalar for i32 {
     type Raw = [u8; 4];
 
@@ -336,6 +547,15 @@ impl FixedSize for i64 {
     const RAW_BYTE_LEN: usize = 8;
 }
 
+/// <details><summary>Contract</summary>
+///
+/// ```text
+/// ghost is_scalar = { fits_bits 64 };
+/// ghost of_raw = { signed_numeral 8 };
+/// ghost raw_of = { bytes_of 8 };
+/// ```
+/// [`fits_bits`], [`signed_numeral`], [`bytes_of`]
+/// </details>
 impl Scalar for i64 {
     type Raw = [u8; 8];
 

@@ -1,6 +1,11 @@
-// @generated from crates/font_base/src/table_data.rt by tools/src/bin/erase.rs
+// @generated from crates/font_base/src/table_data.rt by tools/erase
 
 //! Table data with a fixed-size header.
+
+#[cfg(doc)]
+use crate::definitions::font_base::TableData::IsSampleHeader;
+#[cfg(doc)]
+use crate::definitions::font_base::TableData::table_bytes;
 
 use crate::font_base::big_endian::BigEndian;
 use core::marker::PhantomData;
@@ -40,11 +45,27 @@ use core::marker::PhantomData;
 /// ```
 ///
 /// The source and its contracts: `crates/font_base/src/table_data.rt`.
+///
+/// <details><summary>Contract</summary>
+///
+/// ```text
+/// // these bytes are the encoded header
+/// ghost decodes: { List ℕ → Self → Type 0 };
+/// ```
+/// </details>
 pub trait TableHeader: Sized {
     /// The size of the header, in bytes.
     const BYTE_LEN: usize;
 
     /// Decodes a header from exactly `BYTE_LEN` bytes. May panic at any other length.
+    ///
+    /// <details><summary>Contract</summary>
+    ///
+    /// ```text
+    /// requires { length bytes.now ≡ BYTE_LEN }
+    /// ensures { decodes bytes.now result }
+    /// ```
+    /// </details>
     #[must_use]
     fn decode(bytes: &[u8]) -> Self;
 }
@@ -73,6 +94,13 @@ pub trait TableHeader: Sized {
 /// ```
 ///
 /// The source and its contracts: `crates/font_base/src/table_data.rt`.
+///
+/// <details><summary>Contract</summary>
+///
+/// ```text
+/// ghost long: { H.BYTE_LEN ≤ length «data».now },
+/// ```
+/// </details>
 pub struct TableDataRef<'a, H: TableHeader> {
     data: &'a [u8],
     header: PhantomData<H>,
@@ -80,19 +108,33 @@ pub struct TableDataRef<'a, H: TableHeader> {
 
 impl<'a, H: TableHeader> TableDataRef<'a, H> {
     /// Creates a table over `data`, or returns `None` if it is too short for the header.
+    ///
+    /// <details><summary>Contract</summary>
+    ///
+    /// ```text
+    /// ensures variant { IsSome result ↔ (H.BYTE_LEN ≤ length «data».now) }
+    /// ensures bytes { IfSome result (λ table. table_bytes table ≡ «data».now) }
+    /// ```
+    /// [`table_bytes`]
+    /// </details>
     #[must_use]
     #[inline(always)]
     pub const fn new(data: &'a [u8]) -> Option<TableDataRef<'a, H>> {
         if data.len() < H::BYTE_LEN {
             return None;
         }
-        Some(TableDataRef {
-            data,
-            header: PhantomData,
-        })
+        Some(TableDataRef { data, header: PhantomData })
     }
 
     /// Decodes the header from the first `BYTE_LEN` bytes.
+    ///
+    /// <details><summary>Contract</summary>
+    ///
+    /// ```text
+    /// ensures { H.decodes (take H.BYTE_LEN (table_bytes self.now)) result }
+    /// ```
+    /// [`table_bytes`]
+    /// </details>
     #[must_use]
     #[inline(always)]
     pub fn header(&self) -> H {
@@ -100,6 +142,14 @@ impl<'a, H: TableHeader> TableDataRef<'a, H> {
     }
 
     /// Returns all the bytes, including the header.
+    ///
+    /// <details><summary>Contract</summary>
+    ///
+    /// ```text
+    /// ensures { result.now ≡ table_bytes self.now }
+    /// ```
+    /// [`table_bytes`]
+    /// </details>
     #[must_use]
     #[inline(always)]
     pub const fn data(&self) -> &'a [u8] {
@@ -107,6 +157,14 @@ impl<'a, H: TableHeader> TableDataRef<'a, H> {
     }
 
     /// Returns the bytes after the header.
+    ///
+    /// <details><summary>Contract</summary>
+    ///
+    /// ```text
+    /// ensures { result.now ≡ drop H.BYTE_LEN (table_bytes self.now) }
+    /// ```
+    /// [`table_bytes`]
+    /// </details>
     #[must_use]
     #[inline]
     pub fn rest(&self) -> &'a [u8] {
@@ -114,6 +172,15 @@ impl<'a, H: TableHeader> TableDataRef<'a, H> {
     }
 
     /// Returns the header and the bytes after it.
+    ///
+    /// <details><summary>Contract</summary>
+    ///
+    /// ```text
+    /// ensures header { H.decodes (take H.BYTE_LEN (table_bytes self.now)) result.0 }
+    /// ensures rest { result.1.now ≡ drop H.BYTE_LEN (table_bytes self.now) }
+    /// ```
+    /// [`table_bytes`]
+    /// </details>
     #[must_use]
     #[inline]
     pub fn split(&self) -> (H, &'a [u8]) {
@@ -124,10 +191,7 @@ impl<'a, H: TableHeader> TableDataRef<'a, H> {
 impl<'a, H: TableHeader> Clone for TableDataRef<'a, H> {
     #[inline]
     fn clone(&self) -> TableDataRef<'a, H> {
-        TableDataRef {
-            data: self.data,
-            header: PhantomData,
-        }
+        TableDataRef { data: self.data, header: PhantomData }
     }
 }
 
@@ -137,6 +201,7 @@ impl<'a, H: TableHeader> Copy for TableDataRef<'a, H> {}
 ///
 /// The source and its contracts: `crates/font_base/src/table_data.rt`.
 #[doc(hidden)]
+#[derive(Clone, Copy, Debug)]
 pub struct SampleHeader {
     /// Bytes 0 and 1.
     pub a: BigEndian<u16>,
@@ -144,6 +209,13 @@ pub struct SampleHeader {
     pub b: BigEndian<u32>,
 }
 
+/// <details><summary>Contract</summary>
+///
+/// ```text
+/// ghost decodes = { IsSampleHeader };
+/// ```
+/// [`IsSampleHeader`]
+/// </details>
 impl TableHeader for SampleHeader {
     const BYTE_LEN: usize = 6;
 

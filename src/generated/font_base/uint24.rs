@@ -1,6 +1,19 @@
-// @generated from crates/font_base/src/uint24.rt by tools/src/bin/erase.rs
+// @generated from crates/font_base/src/uint24.rt by tools/erase
 
 //! 24-bit unsigned integers.
+
+#[cfg(doc)]
+use crate::definitions::font_base::Bytes::bytes_of;
+#[cfg(doc)]
+use crate::definitions::font_base::Bytes::numeral;
+#[cfg(doc)]
+use crate::definitions::font_base::Uint24::UINT24_MAX;
+#[cfg(doc)]
+use crate::definitions::font_base::Uint24::bytes_of_uint24;
+#[cfg(doc)]
+use crate::definitions::font_base::Uint24::uint24_number;
+#[cfg(doc)]
+use crate::definitions::font_base::Uint24::uint24_of_bytes;
 
 use crate::font_base::raw::{FixedSize, IdentityEq, Scalar};
 use core::fmt;
@@ -14,6 +27,13 @@ use core::fmt;
 /// ```
 ///
 /// The source and its contracts: `crates/font_base/src/uint24.rt`.
+///
+/// <details><summary>Contract</summary>
+///
+/// ```text
+/// ghost in_range: { value < 2 ^ 24 },
+/// ```
+/// </details>
 #[derive(Clone, Copy, PartialEq, Eq, PartialOrd, Ord, Hash)]
 pub struct Uint24 {
     value: u32,
@@ -27,28 +47,45 @@ impl Uint24 {
     pub const MAX: Self = Uint24 { value: 0xFF_FFFF };
 
     /// Converts a `u32`, saturating at `MAX`.
+    ///
+    /// <details><summary>Contract</summary>
+    ///
+    /// ```text
+    /// ensures { uint24_number result ≡ min raw UINT24_MAX }
+    /// ```
+    /// [`uint24_number`], [`UINT24_MAX`]
+    /// </details>
     #[must_use]
     #[inline]
     pub const fn new(raw: u32) -> Uint24 {
-        if raw > Self::MAX.value {
-            Self::MAX
-        } else {
-            Uint24 { value: raw }
-        }
+        if raw > Self::MAX.value { Self::MAX } else { Uint24 { value: raw } }
     }
 
     /// Converts a `u32`, or returns `None` if it exceeds `MAX`.
+    ///
+    /// <details><summary>Contract</summary>
+    ///
+    /// ```text
+    /// ensures variant { IsSome result ↔ (raw ≤ UINT24_MAX) }
+    /// ensures value { IfSome result (λ n. uint24_number n ≡ raw) }
+    /// ```
+    /// [`UINT24_MAX`], [`uint24_number`]
+    /// </details>
     #[must_use]
     #[inline]
     pub const fn checked_new(raw: u32) -> Option<Uint24> {
-        if raw > Self::MAX.value {
-            None
-        } else {
-            Some(Uint24 { value: raw })
-        }
+        if raw > Self::MAX.value { None } else { Some(Uint24 { value: raw }) }
     }
 
     /// Returns the value as a `u32`.
+    ///
+    /// <details><summary>Contract</summary>
+    ///
+    /// ```text
+    /// ensures { result ≡ uint24_number self }
+    /// ```
+    /// [`uint24_number`]
+    /// </details>
     #[must_use]
     #[inline]
     pub const fn to_u32(self) -> u32 {
@@ -56,6 +93,14 @@ impl Uint24 {
     }
 
     /// Returns the big-endian bytes.
+    ///
+    /// <details><summary>Contract</summary>
+    ///
+    /// ```text
+    /// ensures { result ≡ bytes_of 3 (pos (uint24_number self)) }
+    /// ```
+    /// [`bytes_of`], [`uint24_number`]
+    /// </details>
     #[must_use]
     #[inline]
     pub const fn to_be_bytes(self) -> [u8; 3] {
@@ -64,6 +109,15 @@ impl Uint24 {
     }
 
     /// Creates a value from big-endian bytes.
+    ///
+    /// <details><summary>Contract</summary>
+    ///
+    /// ```text
+    /// ensures bytes { bytes ≡ bytes_of 3 (pos (uint24_number result)) }
+    /// ensures number { uint24_number result ≡ numeral bytes }
+    /// ```
+    /// [`bytes_of`], [`uint24_number`], [`numeral`]
+    /// </details>
     #[must_use]
     #[inline]
     pub const fn from_be_bytes(bytes: [u8; 3]) -> Uint24 {
@@ -73,6 +127,13 @@ impl Uint24 {
     }
 }
 
+/// <details><summary>Contract</summary>
+///
+/// ```text
+/// ghost is_default = { λ n. uint24_number n ≡ 0 };
+/// ```
+/// [`uint24_number`]
+/// </details>
 impl Default for Uint24 {
     #[inline]
     fn default() -> Uint24 {
@@ -80,18 +141,39 @@ impl Default for Uint24 {
     }
 }
 
+/// <details><summary>Contract</summary>
+///
+/// ```text
+/// ghost debug_output = { λ n. Some (codes "Uint24(" ++ decimal (uint24_number n) ++ codes ")") };
+/// ```
+/// [`uint24_number`]
+/// </details>
 impl fmt::Debug for Uint24 {
     fn fmt(&self, f: &mut fmt::Formatter<'_>) -> fmt::Result {
-        f.debug_tuple("Uint24").field(&self.value).finish()
+        write!(f, "Uint24({})", self.value)
     }
 }
 
+/// <details><summary>Contract</summary>
+///
+/// ```text
+/// ghost output = { λ n. Some (decimal (uint24_number n)) };
+/// ```
+/// [`uint24_number`]
+/// </details>
 impl fmt::Display for Uint24 {
     fn fmt(&self, f: &mut fmt::Formatter<'_>) -> fmt::Result {
         fmt::Display::fmt(&self.value, f)
     }
 }
 
+/// <details><summary>Contract</summary>
+///
+/// ```text
+/// ghost from_gives = { λ n number. number ≡ uint24_number n };
+/// ```
+/// [`uint24_number`]
+/// </details>
 impl From<Uint24> for u32 {
     #[inline]
     fn from(n: Uint24) -> u32 {
@@ -99,6 +181,13 @@ impl From<Uint24> for u32 {
     }
 }
 
+/// <details><summary>Contract</summary>
+///
+/// ```text
+/// ghost from_gives = { λ n number. number ≡ uint24_number n };
+/// ```
+/// [`uint24_number`]
+/// </details>
 impl From<Uint24> for usize {
     #[inline]
     fn from(n: Uint24) -> usize {
@@ -109,7 +198,7 @@ impl From<Uint24> for usize {
 /// The error of a conversion from a `usize` that exceeds [`Uint24::MAX`].
 ///
 /// The source and its contracts: `crates/font_base/src/uint24.rt`.
-#[derive(Debug)]
+#[derive(Debug, Clone, Copy, PartialEq, Eq)]
 pub struct TryFromUint24Error;
 
 impl core::error::Error for TryFromUint24Error {}
@@ -123,6 +212,16 @@ impl core::fmt::Display for TryFromUint24Error {
 }
 
 /// Fails if the number exceeds `MAX`.
+///
+/// <details><summary>Contract</summary>
+///
+/// ```text
+/// ghost try_from_gives = { λ number result. MatchResult result
+///     (λ n. uint24_number n ≡ number)
+///     (λ _. UINT24_MAX < number) };
+/// ```
+/// [`uint24_number`], [`UINT24_MAX`]
+/// </details>
 impl TryFrom<usize> for Uint24 {
     type Error = TryFromUint24Error;
 
@@ -131,9 +230,7 @@ impl TryFrom<usize> for Uint24 {
         if number > Self::MAX.value as usize {
             Err(TryFromUint24Error)
         } else {
-            Ok(Uint24 {
-                value: number as u32,
-            })
+            Ok(Uint24 { value: number as u32 })
         }
     }
 }
@@ -142,6 +239,15 @@ impl FixedSize for Uint24 {
     const RAW_BYTE_LEN: usize = 3;
 }
 
+/// <details><summary>Contract</summary>
+///
+/// ```text
+/// ghost is_scalar = { λ _. true };
+/// ghost of_raw = { uint24_of_bytes };
+/// ghost raw_of = { bytes_of_uint24 };
+/// ```
+/// [`uint24_of_bytes`], [`bytes_of_uint24`]
+/// </details>
 impl Scalar for Uint24 {
     type Raw = [u8; 3];
 

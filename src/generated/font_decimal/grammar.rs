@@ -1,11 +1,11 @@
-// @generated from crates/font_decimal/src/grammar.rt by tools/src/bin/erase.rs
+// @generated from crates/font_decimal/src/grammar.rt by tools/erase
 
 //! The parts of a decimal.
 
 // Splits off a leading `-`.
 #[must_use]
 #[inline]
-pub fn split_sign(text: &[u8]) -> (bool, &[u8]) {
+pub const fn split_sign(text: &[u8]) -> (bool, &[u8]) {
     match text {
         [b'-', rest @ ..] => (true, rest),
         _ => (false, text),
@@ -15,7 +15,7 @@ pub fn split_sign(text: &[u8]) -> (bool, &[u8]) {
 // Returns the fraction, without its point: empty, or one byte or more after a point.
 #[must_use]
 #[inline]
-pub fn after_point(text: &[u8]) -> Option<&[u8]> {
+pub const fn after_point(text: &[u8]) -> Option<&[u8]> {
     match text {
         [] => Some(text),
         [b'.', fraction @ ..] if !fraction.is_empty() => Some(fraction),
@@ -26,10 +26,12 @@ pub fn after_point(text: &[u8]) -> Option<&[u8]> {
 // No early exit, so that it vectorizes.
 #[must_use]
 #[inline]
-pub fn are_digits(text: &[u8]) -> bool {
+pub const fn are_digits(text: &[u8]) -> bool {
     let mut all = true;
-    for byte in text {
-        all &= byte.is_ascii_digit();
+    let mut place = 0;
+    while place < text.len() {
+        all &= text[place].is_ascii_digit();
+        place += 1;
     }
     all
 }

@@ -1,8 +1,17 @@
-// @generated from crates/font_decimal/src/laws.rt by tools/src/bin/erase.rs
+// @generated from crates/font_decimal/src/laws.rt by tools/erase
 
-//! A law of parsing, as the contract of a function.
+//! Laws of parsing and printing, as contracts of functions.
 
-use crate::font_decimal::{DecimalFault, read_decimal};
+#[cfg(doc)]
+use crate::definitions::font_decimal::Reading::IsAtMost;
+#[cfg(doc)]
+use crate::definitions::font_decimal::Reading::Parses;
+#[cfg(doc)]
+use crate::definitions::font_decimal::Shortest::shortest_text;
+#[cfg(doc)]
+use crate::definitions::font_decimal::Shown::shown;
+
+use crate::font_decimal::{DecimalFault, Shortest, read_decimal};
 
 /// Parses both texts by `read_decimal`. If both are accepted, the greater decimal never gives the
 /// smaller value.
@@ -10,6 +19,18 @@ use crate::font_decimal::{DecimalFault, read_decimal};
 /// # Panics
 ///
 /// Panics in Rust as `read_decimal` does.
+///
+/// <details><summary>Contract</summary>
+///
+/// ```text
+/// requires bits_of_fraction { (6 ≤ f) × (f ≤ 30) }
+/// ensures first { Parses s.now f min max result.0 }
+/// ensures second { Parses t.now f min max result.1 }
+/// ensures in_order { (a b : ℤ) → result.0 ≡ Ok a → result.1 ≡ Ok b → IsAtMost s.now t.now
+///     → a ≤ℤ b }
+/// ```
+/// [`Parses`], [`IsAtMost`]
+/// </details>
 #[inline]
 pub fn reads_in_order(
     s: &str,
@@ -19,4 +40,26 @@ pub fn reads_in_order(
     max: i64,
 ) -> (Result<i64, DecimalFault>, Result<i64, DecimalFault>) {
     (read_decimal(s, f, min, max), read_decimal(t, f, min, max))
+}
+
+/// Formats both raw values by `Shortest::new`. The greater value never prints the smaller decimal.
+///
+/// # Panics
+///
+/// Panics in Rust as `Shortest::new` does.
+///
+/// <details><summary>Contract</summary>
+///
+/// ```text
+/// requires bits_of_fraction { (6 ≤ f) × (f ≤ 30) }
+/// ensures first { shown result.0 ≡ shortest_text a f }
+/// ensures second { shown result.1 ≡ shortest_text b f }
+/// ensures in_order { a ≤ℤ b → IsAtMost (shown result.0) (shown result.1) }
+/// ```
+/// [`shown`], [`shortest_text`], [`IsAtMost`]
+/// </details>
+#[must_use]
+#[inline]
+pub fn prints_in_order(a: i64, b: i64, f: u32) -> (Shortest, Shortest) {
+    (Shortest::new(a, f), Shortest::new(b, f))
 }

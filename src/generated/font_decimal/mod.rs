@@ -1,4 +1,4 @@
-// @generated from crates/font_decimal/src/lib.rt by tools/src/bin/erase.rs
+// @generated from crates/font_decimal/src/lib.rt by tools/erase
 
 //! Decimals of fixed-point numbers: parsing, shortest printing, padding.
 //!

@@ -1,11 +1,15 @@
-// @generated from crates/font_decimal/src/padding.rt by tools/src/bin/erase.rs
+// @generated from crates/font_decimal/src/padding.rt by tools/erase
 
 //! Padding a decimal to a width.
+#[cfg(doc)]
+use crate::definitions::font_decimal::Padding::FillsFront;
+#[cfg(doc)]
+use crate::definitions::font_decimal::Padding::padded_text;
 
 /// The alignment of text that is shorter than the width.
 ///
 /// The source and its contracts: `crates/font_decimal/src/padding.rt`.
-#[derive(Clone, Copy)]
+#[derive(Clone, Copy, Debug, PartialEq, Eq, Hash)]
 pub enum Align {
     /// Left-aligned, with the fill on the right.
     Left,
@@ -28,7 +32,7 @@ pub enum Align {
 /// ```
 ///
 /// The source and its contracts: `crates/font_decimal/src/padding.rt`.
-#[derive(Clone, Copy)]
+#[derive(Clone, Copy, Debug, PartialEq, Eq, Hash)]
 pub struct Pad {
     /// The minimum width in bytes; 0 means none.
     pub width: usize,
@@ -46,16 +50,23 @@ impl Pad {
     /// Creates a padding of at least `width` bytes, right-aligned, filled with spaces.
     ///
     /// The fields are public: `Pad { plus: true, ..Pad::new(8) }` also writes a plus sign.
+    ///
+    /// <details><summary>Contract</summary>
+    ///
+    /// ```text
+    /// ensures { result ≡ record {
+    ///   width = width;
+    ///   fill = 32;
+    ///   align = Align.Right;
+    ///   plus = false;
+    ///   zeros = false;
+    /// } }
+    /// ```
+    /// </details>
     #[must_use]
     #[inline]
     pub const fn new(width: usize) -> Self {
-        Self {
-            width,
-            fill: b' ',
-            align: Align::Right,
-            plus: false,
-            zeros: false,
-        }
+        Self { width, fill: b' ', align: Align::Right, plus: false, zeros: false }
     }
 }
 
@@ -63,6 +74,19 @@ impl Pad {
 /// leaves `out` unchanged if it is too short.
 ///
 /// The text need not be a decimal: its sign is a `-` at its start.
+///
+/// <details><summary>Contract</summary>
+///
+/// ```text
+/// ensures written { IfSome result
+///     (λ n. FillsFront (padded_text text.now pad.now) n out.old out.new) }
+/// ensures variant { IsSome result ↔ (length (padded_text text.now pad.now) ≤ length out.old) }
+/// ensures fills { length out.old ≤ pad.now.width
+///     → IfSome result (λ _. out.new ≡ padded_text text.now pad.now) }
+/// ensures untouched { IfNone result (out.new ≡ out.old) }
+/// ```
+/// [`FillsFront`], [`padded_text`]
+/// </details>
 #[must_use]
 #[inline]
 pub fn write_padded(text: &str, out: &mut [u8], pad: &Pad) -> Option<usize> {

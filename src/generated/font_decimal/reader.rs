@@ -1,9 +1,49 @@
-// @generated from crates/font_decimal/src/reader.rt by tools/src/bin/erase.rs
+// @generated from crates/font_decimal/src/reader.rt by tools/erase
 
 //! Parsing a decimal as the nearest fixed-point number.
 
+#[cfg(doc)]
+use crate::definitions::font_decimal::Grammar::IsNoDecimal;
+#[cfg(doc)]
+use crate::definitions::font_decimal::Reading::IsOutOfRange;
+#[cfg(doc)]
+use crate::definitions::font_decimal::Reading::Parses;
+#[cfg(doc)]
+use crate::definitions::font_decimal::Reading::Reads;
+
 use crate::font_decimal::fraction::check_fraction_bits;
 use crate::font_decimal::grammar::{after_point, are_digits, split_sign};
+
+// Powers of five.
+const FIVE_13: u64 = 1_220_703_125;
+
+const FIVE_18: u64 = 3_814_697_265_625;
+
+const FIVE_19: u64 = 19_073_486_328_125;
+
+// The powers of ten.
+const TENS: [u64; 20] = [
+    1,
+    10,
+    100,
+    1_000,
+    10_000,
+    100_000,
+    1_000_000,
+    10_000_000,
+    100_000_000,
+    1_000_000_000,
+    10_000_000_000,
+    100_000_000_000,
+    1_000_000_000_000,
+    10_000_000_000_000,
+    100_000_000_000_000,
+    1_000_000_000_000_000,
+    10_000_000_000_000_000,
+    100_000_000_000_000_000,
+    1_000_000_000_000_000_000,
+    10_000_000_000_000_000_000,
+];
 
 /// Why a text was not parsed.
 ///
@@ -33,6 +73,8 @@ impl core::fmt::Display for DecimalFault {
     }
 }
 
+impl Copy for DecimalFault {}
+
 /// Parses a decimal as the nearest raw value with `f` fraction bits, from 6 to 30, rounding half
 /// away from zero. For a value of a type, use its `from_decimal`.
 ///
@@ -54,8 +96,20 @@ impl core::fmt::Display for DecimalFault {
 /// use font_types_proved::read_decimal;
 /// assert_eq!(read_decimal("-1.5", 16, i64::MIN, i64::MAX), Ok(-98304));
 /// ```
+///
+/// <details><summary>Contract</summary>
+///
+/// ```text
+/// requires bits_of_fraction { (6 ≤ f) × (f ≤ 30) }
+/// ensures ok { (b : ℤ) → (result ≡ Ok b) ↔ Reads text.now f min max b }
+/// ensures out_of_range { (result ≡ Err DecimalFault.OutOfRange)
+///     ↔ IsOutOfRange text.now f min max }
+/// ensures syntax { (result ≡ Err DecimalFault.Syntax) ↔ IsNoDecimal text.now }
+/// ```
+/// [`Reads`], [`IsOutOfRange`], [`IsNoDecimal`]
+/// </details>
 #[inline(always)]
-pub fn read_decimal(text: &str, f: u32, min: i64, max: i64) -> Result<i64, DecimalFault> {
+pub const fn read_decimal(text: &str, f: u32, min: i64, max: i64) -> Result<i64, DecimalFault> {
     read_decimal_bytes(text.as_bytes(), f, min, max)
 }
 
@@ -68,101 +122,133 @@ pub fn read_decimal(text: &str, f: u32, min: i64, max: i64) -> Result<i64, Decim
 /// # Panics
 ///
 /// Panics in Rust as `read_decimal` does.
+///
+/// <details><summary>Contract</summary>
+///
+/// ```text
+/// requires bits_of_fraction { (6 ≤ f) × (f ≤ 30) }
+/// ensures { Parses text.now f min max result }
+/// ```
+/// [`Parses`]
+/// </details>
 #[inline(always)]
-pub fn read_decimal_bytes(text: &[u8], f: u32, min: i64, max: i64) -> Result<i64, DecimalFault> {
+pub const fn read_decimal_bytes(
+    text: &[u8],
+    f: u32,
+    min: i64,
+    max: i64,
+) -> Result<i64, DecimalFault> {
     let (negative, digits) = split_sign(text);
     let Some(magnitude) = nearest_raw(digits, f) else {
         return Err(DecimalFault::Syntax);
     };
-    in_range(negative, magnitude, min, max).ok_or(DecimalFault::OutOfRange)
+    match in_range(negative, magnitude, min, max) {
+        Some(bits) => Ok(bits),
+        None => Err(DecimalFault::OutOfRange),
+    }
 }
 
 // Returns the raw value nearest to a decimal without a sign, or, if that exceeds 2^63, some number
 // that does.
 #[inline(always)]
-fn nearest_raw(digits: &[u8], f: u32) -> Option<u64> {
+const fn nearest_raw(digits: &[u8], f: u32) -> Option<u64> {
     check_fraction_bits(f);
     // An integer part that exceeds 2^63 raw units is out of every range.
     let (whole, len) = whole_digits(digits, (1 << (63 - f)) + 1);
     if len == 0 {
         return None;
     }
-    let half_units = half_units(after_point(&digits[len..])?, f)?;
+    let Some(fraction) = after_point(digits.split_at(len).1) else {
+        return None;
+    };
+    let Some(half_units) = half_units(fraction, f) else {
+        return None;
+    };
     Some((whole << f) + (half_units + 1) / 2)
 }
 
 // Returns the value of the leading digits, or `too_large` if it is greater, and how many digits
 // there are.
 #[inline(always)]
-fn whole_digits(text: &[u8], too_large: u64) -> (u64, usize) {
-    let mut whole = 0u64;
-    for place in 0..text.len() {
+const fn whole_digits(text: &[u8], too_large: u64) -> (u64, usize) {
+    let mut whole = 0;
+    let mut place = 0;
+    while place < text.len() {
         let digit = text[place];
         if !digit.is_ascii_digit() {
             return (whole, place);
         }
-        whole = (whole * 10 + u64::from(digit - b'0')).min(too_large);
+        let more = whole * 10 + (digit - b'0') as u64;
+        whole = if more < too_large { more } else { too_large };
+        place += 1;
     }
     (whole, text.len())
 }
 
 // Returns a fraction in half units of `1 / 2^f`, rounded down. A half unit has `f + 1` decimal
-// places, so later digits do not count; if there are fewer digits, the power of five is smaller as
-// well.
+// places, so later digits do not count.
 #[inline(always)]
-fn half_units(fraction: &[u8], f: u32) -> Option<u64> {
-    let places = fraction.len().min(f as usize + 1);
+const fn half_units(fraction: &[u8], f: u32) -> Option<u64> {
+    let most = f as usize + 1;
+    let places = if fraction.len() < most { fraction.len() } else { most };
     let (kept, late) = fraction.split_at(places);
     if !are_digits(late) {
         return None;
     }
-    let missing = f as usize + 1 - places;
     // 19 digits fit in 64 bits.
     if f <= 18 {
-        let (numeral, power_of_five) = numeral_and_power(kept)?;
-        Some((numeral << missing) / power_of_five)
+        let Some(numeral) = decimal_places(kept, 19) else {
+            return None;
+        };
+        Some((numeral / FIVE_19) >> (18 - f))
     } else {
-        let (numeral, power_of_five) = long_numeral_and_power(kept)?;
-        Some(((numeral << missing) / power_of_five) as u64)
+        let Some(units) = long_units(kept) else {
+            return None;
+        };
+        Some(units >> (30 - f))
     }
 }
 
-// Returns the value of the digits, and five to the power of their number.
+// Returns a fraction of up to 31 digits in units of `1 / 2^31`, rounded down.
 #[inline(always)]
-fn numeral_and_power(digits: &[u8]) -> Option<(u64, u64)> {
-    let mut numeral = 0u64;
-    let mut power_of_five = 1u64;
-    for digit in digits {
+const fn long_units(fraction: &[u8]) -> Option<u64> {
+    let places = if fraction.len() < 13 { fraction.len() } else { 13 };
+    let (front, back) = fraction.split_at(places);
+    let Some(high) = decimal_places(front, 13) else {
+        return None;
+    };
+    let Some(low) = decimal_places(back, 18) else {
+        return None;
+    };
+    Some(((high << 18) + low / FIVE_18) / FIVE_13)
+}
+
+// Returns digits as an integer, with zeros behind them up to `places` digits.
+#[inline(always)]
+const fn decimal_places(text: &[u8], places: usize) -> Option<u64> {
+    let mut numeral = 0;
+    let mut place = 0;
+    while place < text.len() {
+        let digit = text[place];
         if !digit.is_ascii_digit() {
             return None;
         }
-        numeral = numeral * 10 + u64::from(*digit - b'0');
-        power_of_five *= 5;
+        numeral = numeral * 10 + (digit - b'0') as u64;
+        place += 1;
     }
-    Some((numeral, power_of_five))
-}
-
-// Returns what `numeral_and_power` does, for up to 31 digits, by halves.
-#[inline]
-fn long_numeral_and_power(digits: &[u8]) -> Option<(u128, u128)> {
-    let (front, back) = digits.split_at(digits.len() / 2);
-    let (high, high_power) = numeral_and_power(front)?;
-    let (low, low_power) = numeral_and_power(back)?;
-    let tens = u128::from(low_power) << back.len();
-    let numeral = u128::from(high) * tens + u128::from(low);
-    Some((numeral, u128::from(high_power) * u128::from(low_power)))
+    Some(numeral * TENS[places - text.len()])
 }
 
 // Returns the signed raw value, or `None` if it is out of range.
 #[inline(always)]
-fn in_range(negative: bool, magnitude: u64, min: i64, max: i64) -> Option<i64> {
+const fn in_range(negative: bool, magnitude: u64, min: i64, max: i64) -> Option<i64> {
     let number = if negative {
-        0i64.checked_sub_unsigned(magnitude)?
+        0i64.checked_sub_unsigned(magnitude)
     } else {
-        0i64.checked_add_unsigned(magnitude)?
+        0i64.checked_add_unsigned(magnitude)
     };
-    if number < min || number > max {
-        return None;
+    match number {
+        Some(number) if min <= number && number <= max => Some(number),
+        _ => None,
     }
-    Some(number)
 }

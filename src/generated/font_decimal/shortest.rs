@@ -1,21 +1,22 @@
-// @generated from crates/font_decimal/src/shortest.rt by tools/src/bin/erase.rs
+// @generated from crates/font_decimal/src/shortest.rt by tools/erase
 
 //! The shortest decimal of a fixed-point number.
+
+#[cfg(doc)]
+use crate::definitions::font_decimal::Shortest::IsShortest;
+#[cfg(doc)]
+use crate::definitions::font_decimal::Shortest::shortest_text;
+#[cfg(doc)]
+use crate::definitions::font_decimal::Shown::shown;
 
 use crate::font_decimal::fraction::check_fraction_bits;
 use core::fmt;
 
-const LEN: usize = 22;
+const LEN: usize = 30;
+// The index of the point: a sign and an integer have at most 19 bytes, a point and a fraction 11.
+const POINT: usize = 19;
 
-// The digits of a decimal: its integer part, and its fraction as an integer with `places` digits.
-#[derive(Clone, Copy)]
-struct Digits {
-    whole: u64,
-    fraction: u64,
-    places: u32,
-}
-
-/// The shortest decimal of a fixed-point number, in a buffer of 22 bytes.
+/// The shortest decimal of a fixed-point number, of at most 22 bytes, in a buffer.
 ///
 /// ```
 /// use font_types_proved::Shortest;
@@ -23,11 +24,20 @@ struct Digits {
 /// ```
 ///
 /// The source and its contracts: `crates/font_decimal/src/shortest.rt`.
+///
+/// <details><summary>Contract</summary>
+///
+/// ```text
+/// ghost within: { (start ≤ end) × (end ≤ 30) × (end ≤ start + 22) },
+/// ghost ascii: { IsAscii (take (end - start) (drop start bytes)) },
+/// ```
+/// </details>
 #[derive(Clone, Copy)]
 pub struct Shortest {
-    // The text ends at the end of the buffer, because it is written from its last byte.
     bytes: [u8; LEN],
+    // The text is in these places.
     start: usize,
+    end: usize,
 }
 
 impl Shortest {
@@ -40,105 +50,115 @@ impl Shortest {
     /// # Panics
     ///
     /// Panics in Rust if `f` is not from 6 to 30. In Rattle that is a precondition.
+    ///
+    /// <details><summary>Contract</summary>
+    ///
+    /// ```text
+    /// requires { (6 ≤ f) × (f ≤ 30) }
+    /// ensures shortest { IsShortest bits f (shown result) }
+    /// ensures text { shown result ≡ shortest_text bits f }
+    /// ```
+    /// [`IsShortest`], [`shown`], [`shortest_text`]
+    /// </details>
     #[must_use]
-    #[inline]
+    #[inline(always)]
     pub fn new(bits: i64, f: u32) -> Self {
         check_fraction_bits(f);
-        let digits = shortest_digits(bits.unsigned_abs(), f);
-        let mut text = Self::empty();
-        text.push_fraction(digits.fraction, digits.places);
-        text.push_whole(digits.whole);
-        text.push_sign(bits < 0);
-        text
+        let magnitude = bits.unsigned_abs();
+        // The point is there before the digits.
+        let mut bytes = [b'.'; LEN];
+        let places = shortest_fraction(&mut bytes, magnitude, f);
+        let end = if places > 0 { POINT + 1 + places } else { POINT };
+        let start = put_whole(&mut bytes, magnitude >> f);
+        let start = put_sign(&mut bytes, start, bits < 0);
+        Self { bytes, start, end }
     }
 
     /// Returns the decimal as a string.
+    ///
+    /// <details><summary>Contract</summary>
+    ///
+    /// ```text
+    /// ensures text { result.now ≡ shown self.now }
+    /// ensures short { length result.now ≤ 22 }
+    /// ```
+    /// [`shown`]
+    /// </details>
     #[must_use]
     #[inline]
     pub fn as_str(&self) -> &str {
-        // SAFETY: only `push` writes bytes, and only digits, `.` and `-`, so the text is ASCII.
-        unsafe { core::str::from_utf8_unchecked(&self.bytes[self.start..]) }
-    }
-
-    #[inline]
-    fn empty() -> Self {
-        Self {
-            bytes: [0; LEN],
-            start: LEN,
-        }
-    }
-
-    // Prepends a byte.
-    #[inline]
-    fn push(&mut self, byte: u8) {
-        self.start -= 1;
-        self.bytes[self.start] = byte;
-    }
-
-    // Prepends the last `places` digits of a fraction, and then a point.
-    #[inline]
-    fn push_fraction(&mut self, fraction: u64, places: u32) {
-        let mut left = fraction;
-        for _place in 0..places {
-            self.push(b'0' + (left % 10) as u8);
-            left /= 10;
-        }
-        if places > 0 {
-            self.push(b'.');
-        }
-    }
-
-    // Prepends the digits of an integer.
-    #[inline]
-    fn push_whole(&mut self, whole: u64) {
-        let mut left = whole;
-        while left >= 10 {
-            self.push(b'0' + (left % 10) as u8);
-            left /= 10;
-        }
-        self.push(b'0' + left as u8);
-    }
-
-    // Prepends a `-` to a negative number.
-    #[inline]
-    fn push_sign(&mut self, negative: bool) {
-        if negative {
-            self.push(b'-');
-        }
+        // SAFETY: only `new` makes the bytes, and the text is digits, `.` and `-`, so it is ASCII.
+        unsafe { core::str::from_utf8_unchecked(&self.bytes[self.start..self.end]) }
     }
 }
 
+/// <details><summary>Contract</summary>
+///
+/// ```text
+/// ghost output = { λ s. Some (shown s) };
+/// ```
+/// [`shown`]
+/// </details>
 impl fmt::Display for Shortest {
     fn fmt(&self, f: &mut fmt::Formatter<'_>) -> fmt::Result {
         f.write_str(self.as_str())
     }
 }
 
-// Returns the shortest decimal of `magnitude / 2^f`. In units of the last place written so far, the
-// remainder is `rest / unit`, and half a unit of the raw value is `margin / unit`.
-#[inline]
-fn shortest_digits(magnitude: u64, f: u32) -> Digits {
+// Writes the digits of the shortest fraction of `magnitude / 2^f` after the point, and returns how
+// many there are. In units of the last place written so far, the remainder is `rest / unit`, and
+// half a unit of the raw value is `margin / unit`.
+#[inline(always)]
+fn shortest_fraction(bytes: &mut [u8; LEN], magnitude: u64, f: u32) -> usize {
     let step = 1u64 << f;
     let unit = 1u64 << (f + 1);
-    let whole = magnitude / step;
     let mut rest = 2 * (magnitude % step);
     let mut margin = 1u64;
-    let mut fraction = 0;
     let mut places = 0;
     while rest.min(unit - rest) >= margin {
         let tenfold = 10 * rest;
-        fraction = 10 * fraction + tenfold / unit;
+        bytes[POINT + 1 + places] = b'0' + (tenfold / unit) as u8;
         rest = tenfold % unit;
         margin *= 10;
         places += 1;
     }
     if 2 * rest >= unit {
-        // This never carries into the integer part.
-        fraction += 1;
+        // This never carries: if the last digit was 9, one place fewer would do.
+        bytes[POINT + places] += 1;
     }
-    Digits {
-        whole,
-        fraction,
-        places,
+    places
+}
+
+// Writes an integer before the point, and returns where it begins.
+#[inline(always)]
+fn put_whole(bytes: &mut [u8; LEN], whole: u64) -> usize {
+    let mut left = whole;
+    let mut start = POINT;
+    while left >= 100 {
+        start = put_pair(bytes, start, (left % 100) as u8);
+        left /= 100;
     }
+    if left >= 10 {
+        return put_pair(bytes, start, left as u8);
+    }
+    bytes[start - 1] = b'0' + left as u8;
+    start - 1
+}
+
+// Writes two digits before index `end`, and returns where they begin.
+#[inline(always)]
+fn put_pair(bytes: &mut [u8; LEN], end: usize, pair: u8) -> usize {
+    bytes[end - 1] = b'0' + pair % 10;
+    bytes[end - 2] = b'0' + pair / 10;
+    end - 2
+}
+
+// Writes a `-` before a negative number, and returns where the text begins.
+#[inline(always)]
+fn put_sign(bytes: &mut [u8; LEN], start: usize, negative: bool) -> usize {
+    if !negative {
+        return start;
+    }
+    bytes[start - 1] = b'-';
+    start - 1
 }

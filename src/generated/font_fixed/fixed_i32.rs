@@ -1,6 +1,39 @@
-// @generated from crates/font_fixed/src/fixed_i32.rt by tools/src/bin/erase.rs
+// @generated from crates/font_fixed/src/fixed_i32.rt by tools/erase
 
 //! 32-bit fixed-point numbers.
+
+#[cfg(doc)]
+use crate::definitions::font_base::Bytes::bytes_of;
+#[cfg(doc)]
+use crate::definitions::font_base::Wrap::FitsBits;
+#[cfg(doc)]
+use crate::definitions::font_decimal::Padding::FillsFront;
+#[cfg(doc)]
+use crate::definitions::font_decimal::Padding::padded_text;
+#[cfg(doc)]
+use crate::definitions::font_decimal::Shortest::IsShortest;
+#[cfg(doc)]
+use crate::definitions::font_decimal::Shown::shown;
+#[cfg(doc)]
+use crate::definitions::font_fixed::FixedI32::bits_of;
+#[cfg(doc)]
+use crate::definitions::font_fixed::FixedI32::text_of;
+#[cfg(doc)]
+use crate::definitions::font_fixed::Longest::longest;
+#[cfg(doc)]
+use crate::definitions::font_fixed::Operations::IsFloor;
+#[cfg(doc)]
+use crate::definitions::font_fixed::Operations::IsFract;
+#[cfg(doc)]
+use crate::definitions::font_fixed::Operations::IsNearestWhole;
+#[cfg(doc)]
+use crate::definitions::font_fixed::Operations::WrapsTo;
+#[cfg(doc)]
+use crate::definitions::font_fixed::Operations::clamp;
+#[cfg(doc)]
+use crate::definitions::font_fixed::Reading::ParsesFixedPoint;
+#[cfg(doc)]
+use crate::definitions::font_fixed::Rounding::rounded;
 
 use crate::font_decimal::{DecimalFault, Pad, Shortest};
 use crate::font_fixed::formats::Format;
@@ -35,6 +68,14 @@ pub struct FixedI32<const F: u32>(i32);
 
 impl<const F: u32> FixedI32<F> {
     /// Creates a value from its raw bits.
+    ///
+    /// <details><summary>Contract</summary>
+    ///
+    /// ```text
+    /// ensures { bits_of result ≡ bits }
+    /// ```
+    /// [`bits_of`]
+    /// </details>
     #[must_use]
     #[inline(always)]
     pub const fn from_bits(bits: i32) -> Self {
@@ -42,6 +83,14 @@ impl<const F: u32> FixedI32<F> {
     }
 
     /// Returns the raw bits.
+    ///
+    /// <details><summary>Contract</summary>
+    ///
+    /// ```text
+    /// ensures { result ≡ bits_of self.entry }
+    /// ```
+    /// [`bits_of`]
+    /// </details>
     #[must_use]
     #[inline(always)]
     pub const fn to_bits(self) -> i32 {
@@ -49,6 +98,14 @@ impl<const F: u32> FixedI32<F> {
     }
 
     /// Returns the absolute value; wraps: `MIN.abs()` is `MIN`.
+    ///
+    /// <details><summary>Contract</summary>
+    ///
+    /// ```text
+    /// ensures { WrapsTo 32 (pos (unsigned_abs (bits_of self.entry))) (bits_of result) }
+    /// ```
+    /// [`WrapsTo`], [`bits_of`]
+    /// </details>
     #[must_use]
     #[inline(always)]
     pub const fn abs(self) -> Self {
@@ -56,6 +113,14 @@ impl<const F: u32> FixedI32<F> {
     }
 
     /// Returns `self + other`, wrapping on overflow.
+    ///
+    /// <details><summary>Contract</summary>
+    ///
+    /// ```text
+    /// ensures { WrapsTo 32 (bits_of self.entry +ℤ bits_of other.entry) (bits_of result) }
+    /// ```
+    /// [`WrapsTo`], [`bits_of`]
+    /// </details>
     #[must_use]
     #[inline(always)]
     pub const fn wrapping_add(self, other: Self) -> Self {
@@ -63,6 +128,14 @@ impl<const F: u32> FixedI32<F> {
     }
 
     /// Returns `self - other`, wrapping on overflow.
+    ///
+    /// <details><summary>Contract</summary>
+    ///
+    /// ```text
+    /// ensures { WrapsTo 32 (bits_of self.entry -ℤ bits_of other.entry) (bits_of result) }
+    /// ```
+    /// [`WrapsTo`], [`bits_of`]
+    /// </details>
     #[must_use]
     #[inline(always)]
     pub const fn wrapping_sub(self, other: Self) -> Self {
@@ -70,6 +143,14 @@ impl<const F: u32> FixedI32<F> {
     }
 
     /// Returns `self + other`, saturating at `MIN` and `MAX`.
+    ///
+    /// <details><summary>Contract</summary>
+    ///
+    /// ```text
+    /// ensures { bits_of result ≡ clamp 32 (bits_of self.entry +ℤ bits_of other.entry) }
+    /// ```
+    /// [`bits_of`], [`clamp`]
+    /// </details>
     #[must_use]
     #[inline(always)]
     pub const fn saturating_add(self, other: Self) -> Self {
@@ -77,6 +158,14 @@ impl<const F: u32> FixedI32<F> {
     }
 
     /// Returns `self - other`, saturating at `MIN` and `MAX`.
+    ///
+    /// <details><summary>Contract</summary>
+    ///
+    /// ```text
+    /// ensures { bits_of result ≡ clamp 32 (bits_of self.entry -ℤ bits_of other.entry) }
+    /// ```
+    /// [`bits_of`], [`clamp`]
+    /// </details>
     #[must_use]
     #[inline(always)]
     pub const fn saturating_sub(self, other: Self) -> Self {
@@ -84,6 +173,16 @@ impl<const F: u32> FixedI32<F> {
     }
 
     /// Returns `self + other`, or `None` on overflow.
+    ///
+    /// <details><summary>Contract</summary>
+    ///
+    /// ```text
+    /// ensures variant { IsSome result ↔ FitsBits 32 (bits_of self.entry +ℤ bits_of other.entry) }
+    /// ensures value { IfSome result
+    ///     (λ sum. bits_of sum ≡ (bits_of self.entry +ℤ bits_of other.entry)) }
+    /// ```
+    /// [`FitsBits`], [`bits_of`]
+    /// </details>
     #[must_use]
     #[inline(always)]
     pub const fn checked_add(self, other: Self) -> Option<Self> {
@@ -94,6 +193,16 @@ impl<const F: u32> FixedI32<F> {
     }
 
     /// Returns `self - other`, or `None` on overflow.
+    ///
+    /// <details><summary>Contract</summary>
+    ///
+    /// ```text
+    /// ensures variant { IsSome result ↔ FitsBits 32 (bits_of self.entry -ℤ bits_of other.entry) }
+    /// ensures value { IfSome result
+    ///     (λ difference. bits_of difference ≡ (bits_of self.entry -ℤ bits_of other.entry)) }
+    /// ```
+    /// [`FitsBits`], [`bits_of`]
+    /// </details>
     #[must_use]
     #[inline(always)]
     pub const fn checked_sub(self, other: Self) -> Option<Self> {
@@ -104,6 +213,15 @@ impl<const F: u32> FixedI32<F> {
     }
 
     /// Returns `-self`, or `None` on overflow, that is, for `MIN`.
+    ///
+    /// <details><summary>Contract</summary>
+    ///
+    /// ```text
+    /// ensures variant { IsSome result ↔ FitsBits 32 (neg_ℤ (bits_of self.entry)) }
+    /// ensures value { IfSome result (λ negated. bits_of negated ≡ neg_ℤ (bits_of self.entry)) }
+    /// ```
+    /// [`FitsBits`], [`bits_of`]
+    /// </details>
     #[must_use]
     #[inline(always)]
     pub const fn checked_neg(self) -> Option<Self> {
@@ -114,6 +232,16 @@ impl<const F: u32> FixedI32<F> {
     }
 
     /// Returns the absolute value, or `None` on overflow, that is, for `MIN`.
+    ///
+    /// <details><summary>Contract</summary>
+    ///
+    /// ```text
+    /// ensures variant { IsSome result ↔ FitsBits 32 (pos (unsigned_abs (bits_of self.entry))) }
+    /// ensures value { IfSome result
+    ///     (λ magnitude. bits_of magnitude ≡ pos (unsigned_abs (bits_of self.entry))) }
+    /// ```
+    /// [`FitsBits`], [`bits_of`]
+    /// </details>
     #[must_use]
     #[inline(always)]
     pub const fn checked_abs(self) -> Option<Self> {
@@ -124,6 +252,14 @@ impl<const F: u32> FixedI32<F> {
     }
 
     /// Returns the raw bits as big-endian bytes.
+    ///
+    /// <details><summary>Contract</summary>
+    ///
+    /// ```text
+    /// ensures { result ≡ bytes_of 4 (bits_of self.entry) }
+    /// ```
+    /// [`bytes_of`], [`bits_of`]
+    /// </details>
     #[must_use]
     #[inline(always)]
     pub const fn to_be_bytes(self) -> [u8; 4] {
@@ -136,6 +272,14 @@ where
     Self: Format<32, F>,
 {
     /// Rounds to the nearest integer, half up; wraps: `MAX.round()` is `MIN`.
+    ///
+    /// <details><summary>Contract</summary>
+    ///
+    /// ```text
+    /// ensures nearest { IsNearestWhole 32 F (bits_of self.entry) (bits_of result) }
+    /// ```
+    /// [`IsNearestWhole`], [`bits_of`]
+    /// </details>
     #[must_use]
     #[inline(always)]
     pub const fn round(self) -> Self {
@@ -143,6 +287,15 @@ where
     }
 
     /// Rounds to the nearest integer, half up, or returns `None` on overflow.
+    ///
+    /// <details><summary>Contract</summary>
+    ///
+    /// ```text
+    /// ensures variant { IsSome result ↔ FitsBits 32 (rounded F (bits_of self.entry)) }
+    /// ensures value { IfSome result (λ whole. bits_of whole ≡ rounded F (bits_of self.entry)) }
+    /// ```
+    /// [`FitsBits`], [`rounded`], [`bits_of`]
+    /// </details>
     #[must_use]
     #[inline(always)]
     pub const fn checked_round(self) -> Option<Self> {
@@ -153,6 +306,14 @@ where
     }
 
     /// Returns the largest integer less than or equal to `self`.
+    ///
+    /// <details><summary>Contract</summary>
+    ///
+    /// ```text
+    /// ensures { IsFloor F (bits_of self.entry) (bits_of result) }
+    /// ```
+    /// [`IsFloor`], [`bits_of`]
+    /// </details>
     #[must_use]
     #[inline(always)]
     pub const fn floor(self) -> Self {
@@ -160,6 +321,14 @@ where
     }
 
     /// Returns the fractional part, `self - self.floor()`, at least 0 and less than 1.
+    ///
+    /// <details><summary>Contract</summary>
+    ///
+    /// ```text
+    /// ensures { IsFract F (bits_of self.entry) (bits_of result) }
+    /// ```
+    /// [`IsFract`], [`bits_of`]
+    /// </details>
     #[must_use]
     #[inline(always)]
     pub const fn fract(self) -> Self {
@@ -175,8 +344,16 @@ where
     ///
     /// Returns `Syntax` if the text is not a decimal, and `OutOfRange` if its nearest value is less
     /// than `MIN` or greater than `MAX`.
+    ///
+    /// <details><summary>Contract</summary>
+    ///
+    /// ```text
+    /// ensures { ParsesFixedPoint w32 F bits_of text.now result }
+    /// ```
+    /// [`ParsesFixedPoint`], [`bits_of`]
+    /// </details>
     #[inline]
-    pub fn from_decimal(text: &str) -> Result<Self, DecimalFault> {
+    pub const fn from_decimal(text: &str) -> Result<Self, DecimalFault> {
         Self::from_decimal_bytes(text.as_bytes())
     }
 
@@ -185,9 +362,20 @@ where
     /// # Errors
     ///
     /// Returns the errors of `from_decimal`, and `Syntax` if the bytes are not UTF-8.
+    ///
+    /// <details><summary>Contract</summary>
+    ///
+    /// ```text
+    /// ensures { ParsesFixedPoint w32 F bits_of text.now result }
+    /// ```
+    /// [`ParsesFixedPoint`], [`bits_of`]
+    /// </details>
     #[inline]
-    pub fn from_decimal_bytes(text: &[u8]) -> Result<Self, DecimalFault> {
-        Ok(Self(read_bits_32(text, F)?))
+    pub const fn from_decimal_bytes(text: &[u8]) -> Result<Self, DecimalFault> {
+        match read_bits_32(text, F) {
+            Ok(bits) => Ok(Self(bits)),
+            Err(fault) => Err(fault),
+        }
     }
 
     /// Returns the shortest decimal that parses back to the value, the text of `{}`, in a buffer.
@@ -197,6 +385,15 @@ where
     /// let value: Fixed = "0.1".parse().unwrap();
     /// assert_eq!(value.to_decimal().as_str(), "0.1");
     /// ```
+    ///
+    /// <details><summary>Contract</summary>
+    ///
+    /// ```text
+    /// ensures shortest { IsShortest (bits_of self.entry) F (shown result) }
+    /// ensures text { shown result ≡ text_of self.entry }
+    /// ```
+    /// [`IsShortest`], [`bits_of`], [`shown`], [`text_of`]
+    /// </details>
     #[must_use]
     #[inline]
     pub fn to_decimal(self) -> Shortest {
@@ -205,6 +402,14 @@ where
 
     /// Returns the length of the longest text of the format: a sign, a point, and the digits before
     /// and after it.
+    ///
+    /// <details><summary>Contract</summary>
+    ///
+    /// ```text
+    /// ensures { result ≡ longest 32 F }
+    /// ```
+    /// [`longest`]
+    /// </details>
     #[must_use]
     #[inline]
     pub const fn max_text_len() -> usize {
@@ -222,6 +427,19 @@ where
     /// let len = Fixed::MIN.write_padded(&mut out, &Pad::new(0)).unwrap();
     /// assert_eq!(out[..len], *Fixed::MIN.to_string().as_bytes());
     /// ```
+    ///
+    /// <details><summary>Contract</summary>
+    ///
+    /// ```text
+    /// ensures written { IfSome result
+    ///     (λ n. FillsFront (padded_text (text_of self.entry) pad.now) n out.old out.new) }
+    /// ensures variant { IsSome result
+    ///     ↔ (length (padded_text (text_of self.entry) pad.now) ≤ length out.old) }
+    /// ensures cell { max (longest 32 F) pad.now.width ≤ length out.old → IsSome result }
+    /// ensures untouched { IfNone result (out.new ≡ out.old) }
+    /// ```
+    /// [`FillsFront`], [`padded_text`], [`text_of`], [`longest`]
+    /// </details>
     #[must_use]
     #[inline]
     pub fn write_padded(self, out: &mut [u8], pad: &Pad) -> Option<usize> {
@@ -230,6 +448,14 @@ where
 }
 
 /// Wraps on overflow.
+///
+/// <details><summary>Contract</summary>
+///
+/// ```text
+/// ghost add_gives = { λ x y sum. WrapsTo 32 (bits_of x +ℤ bits_of y) (bits_of sum) };
+/// ```
+/// [`WrapsTo`], [`bits_of`]
+/// </details>
 impl<const F: u32> Add for FixedI32<F> {
     type Output = FixedI32<F>;
 
@@ -240,6 +466,14 @@ impl<const F: u32> Add for FixedI32<F> {
 }
 
 /// Wraps on overflow.
+///
+/// <details><summary>Contract</summary>
+///
+/// ```text
+/// ghost add_assign_gives = { λ x y sum. WrapsTo 32 (bits_of x +ℤ bits_of y) (bits_of sum) };
+/// ```
+/// [`WrapsTo`], [`bits_of`]
+/// </details>
 impl<const F: u32> AddAssign for FixedI32<F> {
     #[inline(always)]
     fn add_assign(&mut self, other: FixedI32<F>) {
@@ -248,6 +482,14 @@ impl<const F: u32> AddAssign for FixedI32<F> {
 }
 
 /// Wraps on overflow.
+///
+/// <details><summary>Contract</summary>
+///
+/// ```text
+/// ghost sub_gives = { λ x y rest. WrapsTo 32 (bits_of x -ℤ bits_of y) (bits_of rest) };
+/// ```
+/// [`WrapsTo`], [`bits_of`]
+/// </details>
 impl<const F: u32> Sub for FixedI32<F> {
     type Output = FixedI32<F>;
 
@@ -258,6 +500,14 @@ impl<const F: u32> Sub for FixedI32<F> {
 }
 
 /// Wraps on overflow.
+///
+/// <details><summary>Contract</summary>
+///
+/// ```text
+/// ghost sub_assign_gives = { λ x y rest. WrapsTo 32 (bits_of x -ℤ bits_of y) (bits_of rest) };
+/// ```
+/// [`WrapsTo`], [`bits_of`]
+/// </details>
 impl<const F: u32> SubAssign for FixedI32<F> {
     #[inline(always)]
     fn sub_assign(&mut self, other: FixedI32<F>) {
@@ -266,6 +516,14 @@ impl<const F: u32> SubAssign for FixedI32<F> {
 }
 
 /// Wraps: `-MIN` is `MIN`.
+///
+/// <details><summary>Contract</summary>
+///
+/// ```text
+/// ghost neg_gives = { λ x opposite. WrapsTo 32 (neg_ℤ (bits_of x)) (bits_of opposite) };
+/// ```
+/// [`WrapsTo`], [`bits_of`]
+/// </details>
 impl<const F: u32> Neg for FixedI32<F> {
     type Output = FixedI32<F>;
 
@@ -276,6 +534,14 @@ impl<const F: u32> Neg for FixedI32<F> {
 }
 
 /// Parses a decimal as `from_decimal` does: `"1.5".parse()`; not `+1`, `.5`, `1.` or `1e3`.
+///
+/// <details><summary>Contract</summary>
+///
+/// ```text
+/// ghost from_str_gives = { λ text result. ParsesFixedPoint w32 F bits_of text result };
+/// ```
+/// [`ParsesFixedPoint`], [`bits_of`]
+/// </details>
 impl<const F: u32> FromStr for FixedI32<F>
 where
     Self: Format<32, F>,
@@ -290,6 +556,14 @@ where
 
 /// Writes the text of [`to_decimal`](FixedI32::to_decimal). Width, fill, sign and precision are
 /// ignored: [`write_padded`](FixedI32::write_padded) pads.
+///
+/// <details><summary>Contract</summary>
+///
+/// ```text
+/// ghost output = { λ x. Some (text_of x) };
+/// ```
+/// [`text_of`]
+/// </details>
 impl<const F: u32> fmt::Display for FixedI32<F>
 where
     Self: Format<32, F>,
@@ -299,6 +573,13 @@ where
     }
 }
 
+/// <details><summary>Contract</summary>
+///
+/// ```text
+/// ghost debug_output = { λ x. Some (text_of x) };
+/// ```
+/// [`text_of`]
+/// </details>
 impl<const F: u32> fmt::Debug for FixedI32<F>
 where
     Self: Format<32, F>,

@@ -1,6 +1,39 @@
-// @generated from crates/font_fixed/src/fixed_i64.rt by tools/src/bin/erase.rs
+// @generated from crates/font_fixed/src/fixed_i64.rt by tools/erase
 
 //! 64-bit fixed-point numbers.
+
+#[cfg(doc)]
+use crate::definitions::font_base::Bytes::bytes_of;
+#[cfg(doc)]
+use crate::definitions::font_base::Wrap::FitsBits;
+#[cfg(doc)]
+use crate::definitions::font_decimal::Padding::FillsFront;
+#[cfg(doc)]
+use crate::definitions::font_decimal::Padding::padded_text;
+#[cfg(doc)]
+use crate::definitions::font_decimal::Shortest::IsShortest;
+#[cfg(doc)]
+use crate::definitions::font_decimal::Shown::shown;
+#[cfg(doc)]
+use crate::definitions::font_fixed::FixedI64::bits_of;
+#[cfg(doc)]
+use crate::definitions::font_fixed::FixedI64::text_of;
+#[cfg(doc)]
+use crate::definitions::font_fixed::Longest::longest;
+#[cfg(doc)]
+use crate::definitions::font_fixed::Operations::IsFloor;
+#[cfg(doc)]
+use crate::definitions::font_fixed::Operations::IsFract;
+#[cfg(doc)]
+use crate::definitions::font_fixed::Operations::IsNearestWhole;
+#[cfg(doc)]
+use crate::definitions::font_fixed::Operations::WrapsTo;
+#[cfg(doc)]
+use crate::definitions::font_fixed::Operations::clamp;
+#[cfg(doc)]
+use crate::definitions::font_fixed::Reading::ParsesFixedPoint;
+#[cfg(doc)]
+use crate::definitions::font_fixed::Rounding::rounded;
 
 use crate::font_decimal::{DecimalFault, Pad, Shortest};
 use crate::font_fixed::formats::Format;
@@ -31,6 +64,14 @@ pub struct FixedI64<const F: u32>(i64);
 
 impl<const F: u32> FixedI64<F> {
     /// Creates a value from its raw bits.
+    ///
+    /// <details><summary>Contract</summary>
+    ///
+    /// ```text
+    /// ensures { bits_of result ≡ bits }
+    /// ```
+    /// [`bits_of`]
+    /// </details>
     #[must_use]
     #[inline(always)]
     pub const fn from_bits(bits: i64) -> Self {
@@ -38,6 +79,14 @@ impl<const F: u32> FixedI64<F> {
     }
 
     /// Returns the raw bits.
+    ///
+    /// <details><summary>Contract</summary>
+    ///
+    /// ```text
+    /// ensures { result ≡ bits_of self.entry }
+    /// ```
+    /// [`bits_of`]
+    /// </details>
     #[must_use]
     #[inline(always)]
     pub const fn to_bits(self) -> i64 {
@@ -45,6 +94,14 @@ impl<const F: u32> FixedI64<F> {
     }
 
     /// Returns the absolute value; wraps: `MIN.abs()` is `MIN`.
+    ///
+    /// <details><summary>Contract</summary>
+    ///
+    /// ```text
+    /// ensures { WrapsTo 64 (pos (unsigned_abs (bits_of self.entry))) (bits_of result) }
+    /// ```
+    /// [`WrapsTo`], [`bits_of`]
+    /// </details>
     #[must_use]
     #[inline(always)]
     pub const fn abs(self) -> Self {
@@ -52,6 +109,14 @@ impl<const F: u32> FixedI64<F> {
     }
 
     /// Returns `self + other`, wrapping on overflow.
+    ///
+    /// <details><summary>Contract</summary>
+    ///
+    /// ```text
+    /// ensures { WrapsTo 64 (bits_of self.entry +ℤ bits_of other.entry) (bits_of result) }
+    /// ```
+    /// [`WrapsTo`], [`bits_of`]
+    /// </details>
     #[must_use]
     #[inline(always)]
     pub const fn wrapping_add(self, other: Self) -> Self {
@@ -59,6 +124,14 @@ impl<const F: u32> FixedI64<F> {
     }
 
     /// Returns `self - other`, wrapping on overflow.
+    ///
+    /// <details><summary>Contract</summary>
+    ///
+    /// ```text
+    /// ensures { WrapsTo 64 (bits_of self.entry -ℤ bits_of other.entry) (bits_of result) }
+    /// ```
+    /// [`WrapsTo`], [`bits_of`]
+    /// </details>
     #[must_use]
     #[inline(always)]
     pub const fn wrapping_sub(self, other: Self) -> Self {
@@ -66,6 +139,14 @@ impl<const F: u32> FixedI64<F> {
     }
 
     /// Returns `self + other`, saturating at `MIN` and `MAX`.
+    ///
+    /// <details><summary>Contract</summary>
+    ///
+    /// ```text
+    /// ensures { bits_of result ≡ clamp 64 (bits_of self.entry +ℤ bits_of other.entry) }
+    /// ```
+    /// [`bits_of`], [`clamp`]
+    /// </details>
     #[must_use]
     #[inline(always)]
     pub const fn saturating_add(self, other: Self) -> Self {
@@ -73,6 +154,14 @@ impl<const F: u32> FixedI64<F> {
     }
 
     /// Returns `self - other`, saturating at `MIN` and `MAX`.
+    ///
+    /// <details><summary>Contract</summary>
+    ///
+    /// ```text
+    /// ensures { bits_of result ≡ clamp 64 (bits_of self.entry -ℤ bits_of other.entry) }
+    /// ```
+    /// [`bits_of`], [`clamp`]
+    /// </details>
     #[must_use]
     #[inline(always)]
     pub const fn saturating_sub(self, other: Self) -> Self {
@@ -80,6 +169,16 @@ impl<const F: u32> FixedI64<F> {
     }
 
     /// Returns `self + other`, or `None` on overflow.
+    ///
+    /// <details><summary>Contract</summary>
+    ///
+    /// ```text
+    /// ensures variant { IsSome result ↔ FitsBits 64 (bits_of self.entry +ℤ bits_of other.entry) }
+    /// ensures value { IfSome result
+    ///     (λ sum. bits_of sum ≡ (bits_of self.entry +ℤ bits_of other.entry)) }
+    /// ```
+    /// [`FitsBits`], [`bits_of`]
+    /// </details>
     #[must_use]
     #[inline(always)]
     pub const fn checked_add(self, other: Self) -> Option<Self> {
@@ -90,6 +189,16 @@ impl<const F: u32> FixedI64<F> {
     }
 
     /// Returns `self - other`, or `None` on overflow.
+    ///
+    /// <details><summary>Contract</summary>
+    ///
+    /// ```text
+    /// ensures variant { IsSome result ↔ FitsBits 64 (bits_of self.entry -ℤ bits_of other.entry) }
+    /// ensures value { IfSome result
+    ///     (λ difference. bits_of difference ≡ (bits_of self.entry -ℤ bits_of other.entry)) }
+    /// ```
+    /// [`FitsBits`], [`bits_of`]
+    /// </details>
     #[must_use]
     #[inline(always)]
     pub const fn checked_sub(self, other: Self) -> Option<Self> {
@@ -100,6 +209,15 @@ impl<const F: u32> FixedI64<F> {
     }
 
     /// Returns `-self`, or `None` on overflow, that is, for `MIN`.
+    ///
+    /// <details><summary>Contract</summary>
+    ///
+    /// ```text
+    /// ensures variant { IsSome result ↔ FitsBits 64 (neg_ℤ (bits_of self.entry)) }
+    /// ensures value { IfSome result (λ negated. bits_of negated ≡ neg_ℤ (bits_of self.entry)) }
+    /// ```
+    /// [`FitsBits`], [`bits_of`]
+    /// </details>
     #[must_use]
     #[inline(always)]
     pub const fn checked_neg(self) -> Option<Self> {
@@ -110,6 +228,16 @@ impl<const F: u32> FixedI64<F> {
     }
 
     /// Returns the absolute value, or `None` on overflow, that is, for `MIN`.
+    ///
+    /// <details><summary>Contract</summary>
+    ///
+    /// ```text
+    /// ensures variant { IsSome result ↔ FitsBits 64 (pos (unsigned_abs (bits_of self.entry))) }
+    /// ensures value { IfSome result
+    ///     (λ magnitude. bits_of magnitude ≡ pos (unsigned_abs (bits_of self.entry))) }
+    /// ```
+    /// [`FitsBits`], [`bits_of`]
+    /// </details>
     #[must_use]
     #[inline(always)]
     pub const fn checked_abs(self) -> Option<Self> {
@@ -120,6 +248,14 @@ impl<const F: u32> FixedI64<F> {
     }
 
     /// Returns the raw bits as big-endian bytes.
+    ///
+    /// <details><summary>Contract</summary>
+    ///
+    /// ```text
+    /// ensures { result ≡ bytes_of 8 (bits_of self.entry) }
+    /// ```
+    /// [`bytes_of`], [`bits_of`]
+    /// </details>
     #[must_use]
     #[inline(always)]
     pub const fn to_be_bytes(self) -> [u8; 8] {
@@ -132,6 +268,14 @@ where
     Self: Format<64, F>,
 {
     /// Rounds to the nearest integer, half up; wraps: `MAX.round()` is `MIN`.
+    ///
+    /// <details><summary>Contract</summary>
+    ///
+    /// ```text
+    /// ensures nearest { IsNearestWhole 64 F (bits_of self.entry) (bits_of result) }
+    /// ```
+    /// [`IsNearestWhole`], [`bits_of`]
+    /// </details>
     #[must_use]
     #[inline(always)]
     pub const fn round(self) -> Self {
@@ -139,6 +283,15 @@ where
     }
 
     /// Rounds to the nearest integer, half up, or returns `None` on overflow.
+    ///
+    /// <details><summary>Contract</summary>
+    ///
+    /// ```text
+    /// ensures variant { IsSome result ↔ FitsBits 64 (rounded F (bits_of self.entry)) }
+    /// ensures value { IfSome result (λ whole. bits_of whole ≡ rounded F (bits_of self.entry)) }
+    /// ```
+    /// [`FitsBits`], [`rounded`], [`bits_of`]
+    /// </details>
     #[must_use]
     #[inline(always)]
     pub const fn checked_round(self) -> Option<Self> {
@@ -149,6 +302,14 @@ where
     }
 
     /// Returns the largest integer less than or equal to `self`.
+    ///
+    /// <details><summary>Contract</summary>
+    ///
+    /// ```text
+    /// ensures { IsFloor F (bits_of self.entry) (bits_of result) }
+    /// ```
+    /// [`IsFloor`], [`bits_of`]
+    /// </details>
     #[must_use]
     #[inline(always)]
     pub const fn floor(self) -> Self {
@@ -156,6 +317,14 @@ where
     }
 
     /// Returns the fractional part, `self - self.floor()`, at least 0 and less than 1.
+    ///
+    /// <details><summary>Contract</summary>
+    ///
+    /// ```text
+    /// ensures { IsFract F (bits_of self.entry) (bits_of result) }
+    /// ```
+    /// [`IsFract`], [`bits_of`]
+    /// </details>
     #[must_use]
     #[inline(always)]
     pub const fn fract(self) -> Self {
@@ -171,8 +340,16 @@ where
     ///
     /// Returns `Syntax` if the text is not a decimal, and `OutOfRange` if its nearest value is less
     /// than `MIN` or greater than `MAX`.
+    ///
+    /// <details><summary>Contract</summary>
+    ///
+    /// ```text
+    /// ensures { ParsesFixedPoint w64 F bits_of text.now result }
+    /// ```
+    /// [`ParsesFixedPoint`], [`bits_of`]
+    /// </details>
     #[inline]
-    pub fn from_decimal(text: &str) -> Result<Self, DecimalFault> {
+    pub const fn from_decimal(text: &str) -> Result<Self, DecimalFault> {
         Self::from_decimal_bytes(text.as_bytes())
     }
 
@@ -181,9 +358,20 @@ where
     /// # Errors
     ///
     /// Returns the errors of `from_decimal`, and `Syntax` if the bytes are not UTF-8.
+    ///
+    /// <details><summary>Contract</summary>
+    ///
+    /// ```text
+    /// ensures { ParsesFixedPoint w64 F bits_of text.now result }
+    /// ```
+    /// [`ParsesFixedPoint`], [`bits_of`]
+    /// </details>
     #[inline]
-    pub fn from_decimal_bytes(text: &[u8]) -> Result<Self, DecimalFault> {
-        Ok(Self(read_bits_64(text, F)?))
+    pub const fn from_decimal_bytes(text: &[u8]) -> Result<Self, DecimalFault> {
+        match read_bits_64(text, F) {
+            Ok(bits) => Ok(Self(bits)),
+            Err(fault) => Err(fault),
+        }
     }
 
     /// Returns the shortest decimal that parses back to the value, the text of `{}`, in a buffer.
@@ -193,6 +381,15 @@ where
     /// let value: F48Dot16 = "0.1".parse().unwrap();
     /// assert_eq!(value.to_decimal().as_str(), "0.1");
     /// ```
+    ///
+    /// <details><summary>Contract</summary>
+    ///
+    /// ```text
+    /// ensures shortest { IsShortest (bits_of self.entry) F (shown result) }
+    /// ensures text { shown result ≡ text_of self.entry }
+    /// ```
+    /// [`IsShortest`], [`bits_of`], [`shown`], [`text_of`]
+    /// </details>
     #[must_use]
     #[inline]
     pub fn to_decimal(self) -> Shortest {
@@ -201,6 +398,14 @@ where
 
     /// Returns the length of the longest text of the format: a sign, a point, and the digits before
     /// and after it.
+    ///
+    /// <details><summary>Contract</summary>
+    ///
+    /// ```text
+    /// ensures { result ≡ longest 64 F }
+    /// ```
+    /// [`longest`]
+    /// </details>
     #[must_use]
     #[inline]
     pub const fn max_text_len() -> usize {
@@ -218,6 +423,19 @@ where
     /// let len = F48Dot16::MIN.write_padded(&mut out, &Pad::new(0)).unwrap();
     /// assert_eq!(out[..len], *F48Dot16::MIN.to_string().as_bytes());
     /// ```
+    ///
+    /// <details><summary>Contract</summary>
+    ///
+    /// ```text
+    /// ensures written { IfSome result
+    ///     (λ n. FillsFront (padded_text (text_of self.entry) pad.now) n out.old out.new) }
+    /// ensures variant { IsSome result
+    ///     ↔ (length (padded_text (text_of self.entry) pad.now) ≤ length out.old) }
+    /// ensures cell { max (longest 64 F) pad.now.width ≤ length out.old → IsSome result }
+    /// ensures untouched { IfNone result (out.new ≡ out.old) }
+    /// ```
+    /// [`FillsFront`], [`padded_text`], [`text_of`], [`longest`]
+    /// </details>
     #[must_use]
     #[inline]
     pub fn write_padded(self, out: &mut [u8], pad: &Pad) -> Option<usize> {
@@ -226,6 +444,14 @@ where
 }
 
 /// Wraps on overflow.
+///
+/// <details><summary>Contract</summary>
+///
+/// ```text
+/// ghost add_gives = { λ x y sum. WrapsTo 64 (bits_of x +ℤ bits_of y) (bits_of sum) };
+/// ```
+/// [`WrapsTo`], [`bits_of`]
+/// </details>
 impl<const F: u32> Add for FixedI64<F> {
     type Output = FixedI64<F>;
 
@@ -236,6 +462,14 @@ impl<const F: u32> Add for FixedI64<F> {
 }
 
 /// Wraps on overflow.
+///
+/// <details><summary>Contract</summary>
+///
+/// ```text
+/// ghost add_assign_gives = { λ x y sum. WrapsTo 64 (bits_of x +ℤ bits_of y) (bits_of sum) };
+/// ```
+/// [`WrapsTo`], [`bits_of`]
+/// </details>
 impl<const F: u32> AddAssign for FixedI64<F> {
     #[inline(always)]
     fn add_assign(&mut self, other: FixedI64<F>) {
@@ -244,6 +478,14 @@ impl<const F: u32> AddAssign for FixedI64<F> {
 }
 
 /// Wraps on overflow.
+///
+/// <details><summary>Contract</summary>
+///
+/// ```text
+/// ghost sub_gives = { λ x y rest. WrapsTo 64 (bits_of x -ℤ bits_of y) (bits_of rest) };
+/// ```
+/// [`WrapsTo`], [`bits_of`]
+/// </details>
 impl<const F: u32> Sub for FixedI64<F> {
     type Output = FixedI64<F>;
 
@@ -254,6 +496,14 @@ impl<const F: u32> Sub for FixedI64<F> {
 }
 
 /// Wraps on overflow.
+///
+/// <details><summary>Contract</summary>
+///
+/// ```text
+/// ghost sub_assign_gives = { λ x y rest. WrapsTo 64 (bits_of x -ℤ bits_of y) (bits_of rest) };
+/// ```
+/// [`WrapsTo`], [`bits_of`]
+/// </details>
 impl<const F: u32> SubAssign for FixedI64<F> {
     #[inline(always)]
     fn sub_assign(&mut self, other: FixedI64<F>) {
@@ -262,6 +512,14 @@ impl<const F: u32> SubAssign for FixedI64<F> {
 }
 
 /// Wraps: `-MIN` is `MIN`.
+///
+/// <details><summary>Contract</summary>
+///
+/// ```text
+/// ghost neg_gives = { λ x opposite. WrapsTo 64 (neg_ℤ (bits_of x)) (bits_of opposite) };
+/// ```
+/// [`WrapsTo`], [`bits_of`]
+/// </details>
 impl<const F: u32> Neg for FixedI64<F> {
     type Output = FixedI64<F>;
 
@@ -272,6 +530,14 @@ impl<const F: u32> Neg for FixedI64<F> {
 }
 
 /// Parses a decimal as `from_decimal` does: `"1.5".parse()`; not `+1`, `.5`, `1.` or `1e3`.
+///
+/// <details><summary>Contract</summary>
+///
+/// ```text
+/// ghost from_str_gives = { λ text result. ParsesFixedPoint w64 F bits_of text result };
+/// ```
+/// [`ParsesFixedPoint`], [`bits_of`]
+/// </details>
 impl<const F: u32> FromStr for FixedI64<F>
 where
     Self: Format<64, F>,
@@ -286,6 +552,14 @@ where
 
 /// Writes the text of [`to_decimal`](FixedI64::to_decimal). Width, fill, sign and precision are
 /// ignored: [`write_padded`](FixedI64::write_padded) pads.
+///
+/// <details><summary>Contract</summary>
+///
+/// ```text
+/// ghost output = { λ x. Some (text_of x) };
+/// ```
+/// [`text_of`]
+/// </details>
 impl<const F: u32> fmt::Display for FixedI64<F>
 where
     Self: Format<64, F>,
@@ -295,6 +569,13 @@ where
     }
 }
 
+/// <details><summary>Contract</summary>
+///
+/// ```text
+/// ghost debug_output = { λ x. Some (text_of x) };
+/// ```
+/// [`text_of`]
+/// </details>
 impl<const F: u32> fmt::Debug for FixedI64<F>
 where
     Self: Format<64, F>,

@@ -1,4 +1,4 @@
-// @generated from crates/font_fixed/src/formats.rt by tools/src/bin/erase.rs
+// @generated from crates/font_fixed/src/formats.rt by tools/erase
 
 //! The formats of fixed-point numbers.
 
@@ -14,6 +14,15 @@ use crate::font_fixed::{FixedI16, FixedI32, FixedI64};
 /// ```
 ///
 /// The source and its contracts: `crates/font_fixed/src/formats.rt`.
+///
+/// <details><summary>Contract</summary>
+///
+/// ```text
+/// ghost least: { 6 ≤ F };
+/// ghost most: { F ≤ 30 };
+/// ghost whole: { F + 2 ≤ W };
+/// ```
+/// </details>
 pub trait Format<const W: u32, const F: u32>: Sealed {}
 
 // No other crate can name it.

@@ -1,4 +1,4 @@
-// @generated from crates/font_fixed/src/laws.rt by tools/src/bin/erase.rs
+// @generated from crates/font_fixed/src/laws.rt by tools/erase
 
 //! Laws of arithmetic, as contracts of functions.
 

@@ -1,4 +1,4 @@
-// @generated from crates/font_fixed/src/lib.rt by tools/src/bin/erase.rs
+// @generated from crates/font_fixed/src/lib.rt by tools/erase
 
 //! Fixed-point numbers: [`FixedI16`], [`FixedI32`] and [`FixedI64`] over any number of fraction
 //! bits, and seven formats, which are names for some of them.

@@ -1,9 +1,33 @@
-// @generated from crates/font_fixed/src/products.rt by tools/src/bin/erase.rs
+// @generated from crates/font_fixed/src/products.rt by tools/erase
 
 //! Products and quotients of 32-bit fixed-point numbers, over their raw bits.
 
+#[cfg(doc)]
+use crate::definitions::font_base::Wrap::wrap;
+#[cfg(doc)]
+use crate::definitions::font_decimal::Near::near;
+#[cfg(doc)]
+use crate::definitions::font_decimal::Near::signed;
+#[cfg(doc)]
+use crate::definitions::font_fixed::Operations::IsMulDiv;
+#[cfg(doc)]
+use crate::definitions::font_fixed::Operations::IsProduct;
+#[cfg(doc)]
+use crate::definitions::font_fixed::Operations::differ_in_sign;
+#[cfg(doc)]
+use crate::definitions::font_fixed::Operations::rounded_mul_div;
+
 /// Multiplies two numbers with `f` fraction bits, rounding half away from zero and wrapping on
 /// overflow.
+///
+/// <details><summary>Contract</summary>
+///
+/// ```text
+/// requires { (6 ≤ f) × (f ≤ 30) }
+/// ensures { IsProduct 32 f x y result }
+/// ```
+/// [`IsProduct`]
+/// </details>
 #[must_use]
 #[inline(always)]
 pub const fn product(x: i32, y: i32, f: u32) -> i32 {
@@ -13,6 +37,14 @@ pub const fn product(x: i32, y: i32, f: u32) -> i32 {
 /// Returns `x * a / c`, rounded once, half away from zero, wrapping on overflow.
 ///
 /// If `c` is zero, the result is `i32::MAX`, negated if exactly one of `x` and `a` is negative.
+///
+/// <details><summary>Contract</summary>
+///
+/// ```text
+/// ensures { IsMulDiv 32 x a c result }
+/// ```
+/// [`IsMulDiv`]
+/// </details>
 #[must_use]
 #[inline(always)]
 pub const fn mul_div(x: i32, a: i32, c: i32) -> i32 {
@@ -20,6 +52,14 @@ pub const fn mul_div(x: i32, a: i32, c: i32) -> i32 {
 }
 
 /// Truncates to the low 32 bits.
+///
+/// <details><summary>Contract</summary>
+///
+/// ```text
+/// ensures { result ≡ wrap 32 n }
+/// ```
+/// [`wrap`]
+/// </details>
 #[must_use]
 #[inline(always)]
 pub const fn low_bits(n: i64) -> i32 {
@@ -27,6 +67,15 @@ pub const fn low_bits(n: i64) -> i32 {
 }
 
 /// Multiplies two numbers with `f` fraction bits, rounding half away from zero.
+///
+/// <details><summary>Contract</summary>
+///
+/// ```text
+/// requires { (6 ≤ f) × (f ≤ 30) }
+/// ensures { result ≡ near (x *ℤ y) (2 ^ f) }
+/// ```
+/// [`near`]
+/// </details>
 #[inline(always)]
 pub(crate) const fn nearest_product(x: i32, y: i32, f: u32) -> i64 {
     rounded_shift(x as i64 * y as i64, f)
@@ -41,6 +90,15 @@ const fn rounded_shift(n: i64, f: u32) -> i64 {
 
 /// Returns `x * a / c`, rounded half away from zero, or, if `c` is zero, `i32::MAX`, negated if
 /// exactly one of `x` and `a` is negative.
+///
+/// <details><summary>Contract</summary>
+///
+/// ```text
+/// ensures nearest { c ≢ pos 0 → result ≡ rounded_mul_div x a c }
+/// ensures zero { c ≡ pos 0 → result ≡ signed (differ_in_sign x a) (2 ^ 31 - 1) }
+/// ```
+/// [`rounded_mul_div`], [`signed`], [`differ_in_sign`]
+/// </details>
 #[inline]
 pub(crate) const fn nearest_mul_div(x: i32, a: i32, c: i32) -> i64 {
     let product = magnitude(x) * magnitude(a);
@@ -57,11 +115,7 @@ const fn rounded_quotient(n: u64, d: u64) -> u64 {
 // Applies a sign to a magnitude.
 #[inline(always)]
 const fn with_sign(negative: bool, magnitude: u64) -> i64 {
-    if negative {
-        -(magnitude as i64)
-    } else {
-        magnitude as i64
-    }
+    if negative { -(magnitude as i64) } else { magnitude as i64 }
 }
 
 #[inline(always)]

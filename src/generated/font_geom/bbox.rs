@@ -1,6 +1,19 @@
-// @generated from crates/font_geom/src/bbox.rt by tools/src/bin/erase.rs
+// @generated from crates/font_geom/src/bbox.rt by tools/erase
 
 //! Axis-aligned bounding boxes.
+
+#[cfg(doc)]
+use crate::definitions::font_geom::BoundingBox::CanScale;
+#[cfg(doc)]
+use crate::definitions::font_geom::BoundingBox::Compares;
+#[cfg(doc)]
+use crate::definitions::font_geom::BoundingBox::HasSamePairs;
+#[cfg(doc)]
+use crate::definitions::font_geom::BoundingBox::IsScaled;
+#[cfg(doc)]
+use crate::definitions::font_geom::BoundingBox::is_normalized;
+#[cfg(doc)]
+use crate::definitions::font_geom::BoundingBox::normalized_box;
 
 use core::ops::Mul;
 
@@ -30,6 +43,15 @@ impl<T: Mul<Output = T> + Copy> BoundingBox<T> {
     /// Multiplies each coordinate by `factor`.
     ///
     /// A negative factor swaps minimum and maximum: call `normalize` afterwards.
+    ///
+    /// <details><summary>Contract</summary>
+    ///
+    /// ```text
+    /// requires { CanScale T.can_mul self.now factor }
+    /// ensures { IsScaled T.mul_gives self.now factor result }
+    /// ```
+    /// [`CanScale`], [`IsScaled`]
+    /// </details>
     #[must_use]
     #[inline]
     pub fn scale(&self, factor: T) -> Self {
@@ -44,6 +66,14 @@ impl<T: Mul<Output = T> + Copy> BoundingBox<T> {
 
 impl<T: PartialOrd + Copy> BoundingBox<T> {
     /// Returns `true` if `x_min <= x_max` and `y_min <= y_max`.
+    ///
+    /// <details><summary>Contract</summary>
+    ///
+    /// ```text
+    /// ensures { result ≡ is_normalized (partial_le T.partial_cmp) self.now }
+    /// ```
+    /// [`is_normalized`]
+    /// </details>
     #[must_use]
     #[inline]
     pub fn is_normalized(&self) -> bool {
@@ -53,6 +83,19 @@ impl<T: PartialOrd + Copy> BoundingBox<T> {
     /// Swaps each pair unless `min <= max`.
     ///
     /// A pair that does not compare is swapped too, and then the box is not normalized.
+    ///
+    /// <details><summary>Contract</summary>
+    ///
+    /// ```text
+    /// ensures value { result ≡ normalized_box (partial_le T.partial_cmp) self.now }
+    /// ensures pairs { HasSamePairs self.now result }
+    /// ensures in_order { Compares (partial_le T.partial_cmp) self.now
+    ///     → IsTrue (is_normalized (partial_le T.partial_cmp) result) }
+    /// ensures once { Compares (partial_le T.partial_cmp) self.now
+    ///     → normalized_box (partial_le T.partial_cmp) result ≡ result }
+    /// ```
+    /// [`normalized_box`], [`HasSamePairs`], [`Compares`], [`is_normalized`]
+    /// </details>
     #[must_use]
     #[inline]
     pub fn normalize(&self) -> Self {
@@ -66,11 +109,6 @@ impl<T: PartialOrd + Copy> BoundingBox<T> {
         } else {
             (self.y_max, self.y_min)
         };
-        Self {
-            x_min,
-            y_min,
-            x_max,
-            y_max,
-        }
+        Self { x_min, y_min, x_max, y_max }
     }
 }

@@ -1,11 +1,49 @@
-// @generated from crates/font_geom/src/laws.rt by tools/src/bin/erase.rs
+// @generated from crates/font_geom/src/laws.rt by tools/erase
 
 //! Laws of matrices, as contracts of functions that make the calls and return their results.
+
+#[cfg(doc)]
+use crate::definitions::font_fixed::Fixed::fixed_bits;
+#[cfg(doc)]
+use crate::definitions::font_geom::FixedMatrix::FitsComposed;
+#[cfg(doc)]
+use crate::definitions::font_geom::FixedMatrix::FitsInTurn;
+#[cfg(doc)]
+use crate::definitions::font_geom::FixedMatrix::IsCloseComposed;
+#[cfg(doc)]
+use crate::definitions::font_geom::FixedMatrix::IsCloseInTurn;
+#[cfg(doc)]
+use crate::definitions::font_geom::FixedMatrix::ProductsAssociate;
+#[cfg(doc)]
+use crate::definitions::font_geom::FixedMatrix::matrix_bits;
+#[cfg(doc)]
+use crate::definitions::font_geom::FixedMatrix::point_bits;
+#[cfg(doc)]
+use crate::definitions::font_geom::FixedMatrix::wrapped_product;
+#[cfg(doc)]
+use crate::definitions::font_geom::FixedMatrix::wrapped_sum;
+#[cfg(doc)]
+use crate::definitions::font_geom::Matrix::identity_matrix;
+#[cfg(doc)]
+use crate::definitions::font_geom::Matrix::image_of;
+#[cfg(doc)]
+use crate::definitions::font_geom::Matrix::matrix_product;
 
 use crate::font_fixed::Fixed;
 use crate::font_geom::{Matrix, Point, RingElement};
 
 /// Returns `(a * b) * c` and `a * (b * c)`, which are equal.
+///
+/// <details><summary>Contract</summary>
+///
+/// ```text
+/// ensures first { result.0 ≡ matrix_product T.plus T.times (matrix_product T.plus T.times a b) c }
+/// ensures second { result.1
+///     ≡ matrix_product T.plus T.times a (matrix_product T.plus T.times b c) }
+/// ensures equal { result.0 ≡ result.1 }
+/// ```
+/// [`matrix_product`]
+/// </details>
 #[must_use]
 #[inline]
 pub fn associative<T: RingElement>(
@@ -17,6 +55,16 @@ pub fn associative<T: RingElement>(
 }
 
 /// Returns `(a * b) * p` and `a * (b * p)`, which are equal.
+///
+/// <details><summary>Contract</summary>
+///
+/// ```text
+/// ensures first { result.0 ≡ image_of T.plus T.times (matrix_product T.plus T.times a b) p }
+/// ensures second { result.1 ≡ image_of T.plus T.times a (image_of T.plus T.times b p) }
+/// ensures equal { result.0 ≡ result.1 }
+/// ```
+/// [`image_of`], [`matrix_product`]
+/// </details>
 #[must_use]
 #[inline]
 pub fn action<T: RingElement>(a: Matrix<T>, b: Matrix<T>, p: Point<T>) -> (Point<T>, Point<T>) {
@@ -24,6 +72,17 @@ pub fn action<T: RingElement>(a: Matrix<T>, b: Matrix<T>, p: Point<T>) -> (Point
 }
 
 /// Returns the identity times `a`, and `a` times the identity: both are `a`.
+///
+/// <details><summary>Contract</summary>
+///
+/// ```text
+/// ensures first { result.0 ≡ matrix_product T.plus T.times (identity_matrix T.ZERO T.ONE) a }
+/// ensures second { result.1 ≡ matrix_product T.plus T.times a (identity_matrix T.ZERO T.ONE) }
+/// ensures left { result.0 ≡ a }
+/// ensures right { result.1 ≡ a }
+/// ```
+/// [`matrix_product`], [`identity_matrix`]
+/// </details>
 #[must_use]
 #[inline]
 pub fn identity_neutral<T: RingElement>(a: Matrix<T>) -> (Matrix<T>, Matrix<T>) {
@@ -32,6 +91,19 @@ pub fn identity_neutral<T: RingElement>(a: Matrix<T>) -> (Matrix<T>, Matrix<T>) 
 
 /// Returns the identity times `a`, and `a` times the identity: both are `a`, even though products
 /// round and sums wrap.
+///
+/// <details><summary>Contract</summary>
+///
+/// ```text
+/// ensures first { matrix_bits result.0 ≡ matrix_product wrapped_sum wrapped_product
+///     (identity_matrix (pos 0) (pos 65536)) (matrix_bits a) }
+/// ensures second { matrix_bits result.1 ≡ matrix_product wrapped_sum wrapped_product
+///     (matrix_bits a) (identity_matrix (pos 0) (pos 65536)) }
+/// ensures left { result.0 ≡ a }
+/// ensures right { result.1 ≡ a }
+/// ```
+/// [`matrix_bits`], [`matrix_product`], [`wrapped_sum`], [`wrapped_product`], [`identity_matrix`]
+/// </details>
 #[must_use]
 #[inline]
 pub fn fixed_identity(a: Matrix<Fixed>) -> (Matrix<Fixed>, Matrix<Fixed>) {
@@ -42,6 +114,16 @@ pub fn fixed_identity(a: Matrix<Fixed>) -> (Matrix<Fixed>, Matrix<Fixed>) {
 /// Returns `(e * h) * h` and `e * (h * h)` for `e = Fixed::EPSILON` and `h` one half: `e` and zero.
 ///
 /// So products of [`Fixed`] are not associative, and [`Fixed`] is not a [`RingElement`].
+///
+/// <details><summary>Contract</summary>
+///
+/// ```text
+/// ensures first { fixed_bits result.0 ≡ pos 1 }
+/// ensures second { fixed_bits result.1 ≡ pos 0 }
+/// ensures apart { ¬ ProductsAssociate }
+/// ```
+/// [`fixed_bits`], [`ProductsAssociate`]
+/// </details>
 #[must_use]
 #[inline]
 pub fn step_and_halves() -> (Fixed, Fixed) {
@@ -54,6 +136,18 @@ pub fn step_and_halves() -> (Fixed, Fixed) {
 /// If no entry of `a * b` and no coordinate of the result overflows 32 bits, each coordinate is at
 /// most `(|x| + |y|) / 65536 + 2` from the exact one, all as raw values. Intermediate sums may
 /// wrap.
+///
+/// <details><summary>Contract</summary>
+///
+/// ```text
+/// ensures value { point_bits result
+///     ≡ image_of wrapped_sum wrapped_product (matrix_product wrapped_sum wrapped_product
+///     (matrix_bits a) (matrix_bits b)) (point_bits p) }
+/// ensures close { FitsComposed (matrix_bits a) (matrix_bits b) (point_bits p)
+///     → IsCloseComposed (matrix_bits a) (matrix_bits b) (point_bits p) (point_bits result) }
+/// ```
+/// [`point_bits`], [`image_of`], [`wrapped_sum`], [`wrapped_product`], [`matrix_product`], [`matrix_bits`], [`FitsComposed`], [`IsCloseComposed`]
+/// </details>
 #[must_use]
 #[inline]
 pub fn composed(a: Matrix<Fixed>, b: Matrix<Fixed>, p: Point<Fixed>) -> Point<Fixed> {
@@ -65,6 +159,18 @@ pub fn composed(a: Matrix<Fixed>, b: Matrix<Fixed>, p: Point<Fixed>) -> Point<Fi
 /// If no coordinate of `b * p` and none of the result overflows 32 bits, `x` is at most
 /// `(|a.xx| + |a.xy|) / 65536 + 1` from the exact one, and `y` at most
 /// `(|a.yx| + |a.yy|) / 65536 + 1`, all as raw values. Intermediate sums may wrap.
+///
+/// <details><summary>Contract</summary>
+///
+/// ```text
+/// ensures value { point_bits result
+///     ≡ image_of wrapped_sum wrapped_product (matrix_bits a)
+///     (image_of wrapped_sum wrapped_product (matrix_bits b) (point_bits p)) }
+/// ensures close { FitsInTurn (matrix_bits a) (matrix_bits b) (point_bits p)
+///     → IsCloseInTurn (matrix_bits a) (matrix_bits b) (point_bits p) (point_bits result) }
+/// ```
+/// [`point_bits`], [`image_of`], [`wrapped_sum`], [`wrapped_product`], [`matrix_bits`], [`FitsInTurn`], [`IsCloseInTurn`]
+/// </details>
 #[must_use]
 #[inline]
 pub fn in_turn(a: Matrix<Fixed>, b: Matrix<Fixed>, p: Point<Fixed>) -> Point<Fixed> {

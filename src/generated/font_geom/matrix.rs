@@ -1,6 +1,23 @@
-// @generated from crates/font_geom/src/matrix.rt by tools/src/bin/erase.rs
+// @generated from crates/font_geom/src/matrix.rt by tools/erase
 
 //! Affine matrices.
+
+#[cfg(doc)]
+use crate::definitions::font_geom::Calls::CallsEach;
+#[cfg(doc)]
+use crate::definitions::font_geom::Calls::CanCallEach;
+#[cfg(doc)]
+use crate::definitions::font_geom::Matrix::CanMultiply;
+#[cfg(doc)]
+use crate::definitions::font_geom::Matrix::CanTransform;
+#[cfg(doc)]
+use crate::definitions::font_geom::Matrix::IsProductOf;
+#[cfg(doc)]
+use crate::definitions::font_geom::Matrix::IsTransformed;
+#[cfg(doc)]
+use crate::definitions::font_geom::Matrix::elements_of;
+#[cfg(doc)]
+use crate::definitions::font_geom::Matrix::identity_matrix;
 
 use crate::font_fixed::Fixed;
 use crate::font_geom::Point;
@@ -97,21 +114,30 @@ impl MatrixElement for Fixed {
 
 impl<T: Copy> Matrix<T> {
     /// Creates a matrix from its elements in the order `[xx, yx, xy, yy, dx, dy]`.
+    ///
+    /// <details><summary>Contract</summary>
+    ///
+    /// ```text
+    /// ensures { elements_of result ≡ elements }
+    /// ```
+    /// [`elements_of`]
+    /// </details>
     #[must_use]
     #[inline]
     pub const fn from_elements(elements: [T; 6]) -> Self {
         let [xx, yx, xy, yy, dx, dy] = elements;
-        Self {
-            xx,
-            yx,
-            xy,
-            yy,
-            dx,
-            dy,
-        }
+        Self { xx, yx, xy, yy, dx, dy }
     }
 
     /// Returns the elements in the order `[xx, yx, xy, yy, dx, dy]`.
+    ///
+    /// <details><summary>Contract</summary>
+    ///
+    /// ```text
+    /// ensures { result ≡ elements_of self.now }
+    /// ```
+    /// [`elements_of`]
+    /// </details>
     #[must_use]
     #[inline]
     pub const fn elements(&self) -> [T; 6] {
@@ -119,6 +145,15 @@ impl<T: Copy> Matrix<T> {
     }
 
     /// Applies a function to each element, in the order of `elements`.
+    ///
+    /// <details><summary>Contract</summary>
+    ///
+    /// ```text
+    /// requires { CanCallEach F.pre F.step f (elements_of self) }
+    /// ensures { CallsEach F.step f (elements_of self) (elements_of result) }
+    /// ```
+    /// [`CanCallEach`], [`elements_of`], [`CallsEach`]
+    /// </details>
     #[must_use]
     #[inline(always)]
     pub fn map<U: Copy, F: FnMut(T) -> U>(self, mut f: F) -> Matrix<U> {
@@ -135,30 +170,44 @@ impl<T: Copy> Matrix<T> {
 
 impl<T: MatrixElement> Matrix<T> {
     /// Returns the identity matrix: `ONE` in `xx` and `yy`, and `ZERO` elsewhere.
+    ///
+    /// <details><summary>Contract</summary>
+    ///
+    /// ```text
+    /// ensures { result ≡ identity_matrix T.ZERO T.ONE }
+    /// ```
+    /// [`identity_matrix`]
+    /// </details>
     #[must_use]
     #[inline]
     pub const fn identity() -> Self {
-        Self {
-            xx: T::ONE,
-            yx: T::ZERO,
-            xy: T::ZERO,
-            yy: T::ONE,
-            dx: T::ZERO,
-            dy: T::ZERO,
-        }
+        Self { xx: T::ONE, yx: T::ZERO, xy: T::ZERO, yy: T::ONE, dx: T::ZERO, dy: T::ZERO }
     }
 
     /// Returns `(xx * x + xy * y + dx, yx * x + yy * y + dy)`, the image of the point `(x, y)`.
+    ///
+    /// <details><summary>Contract</summary>
+    ///
+    /// ```text
+    /// requires { CanTransform T.can_mul T.mul_gives T.can_add T.add_gives self.now x y }
+    /// ensures { IsTransformed T.mul_gives T.add_gives self.now x y result.0 result.1 }
+    /// ```
+    /// [`CanTransform`], [`IsTransformed`]
+    /// </details>
     #[must_use]
     #[inline]
     pub fn transform(&self, x: T, y: T) -> (T, T) {
-        (
-            self.xx * x + self.xy * y + self.dx,
-            self.yx * x + self.yy * y + self.dy,
-        )
+        (self.xx * x + self.xy * y + self.dx, self.yx * x + self.yy * y + self.dy)
     }
 }
 
+/// <details><summary>Contract</summary>
+///
+/// ```text
+/// ghost is_default = { λ matrix. matrix ≡ identity_matrix T.ZERO T.ONE };
+/// ```
+/// [`identity_matrix`]
+/// </details>
 impl<T: MatrixElement> Default for Matrix<T> {
     #[inline]
     fn default() -> Matrix<T> {
@@ -170,6 +219,15 @@ impl<T: MatrixElement> Default for Matrix<T> {
 ///
 /// Its `xx` is `self.xx * rhs.xx + self.xy * rhs.yx`, and its `dx` is
 /// `self.xx * rhs.dx + self.xy * rhs.dy + self.dx`.
+///
+/// <details><summary>Contract</summary>
+///
+/// ```text
+/// ghost can_mul = { CanMultiply T.can_mul T.mul_gives T.can_add T.add_gives };
+/// ghost mul_gives = { IsProductOf T.mul_gives T.add_gives };
+/// ```
+/// [`CanMultiply`], [`IsProductOf`]
+/// </details>
 impl<T: MatrixElement> Mul for Matrix<T> {
     type Output = Matrix<T>;
 
@@ -187,6 +245,15 @@ impl<T: MatrixElement> Mul for Matrix<T> {
 }
 
 /// Multiplies as `*` does.
+///
+/// <details><summary>Contract</summary>
+///
+/// ```text
+/// ghost can_mul_assign = { CanMultiply T.can_mul T.mul_gives T.can_add T.add_gives };
+/// ghost mul_assign_gives = { IsProductOf T.mul_gives T.add_gives };
+/// ```
+/// [`CanMultiply`], [`IsProductOf`]
+/// </details>
 impl<T: MatrixElement> MulAssign for Matrix<T> {
     #[inline]
     fn mul_assign(&mut self, rhs: Matrix<T>) {
@@ -195,6 +262,17 @@ impl<T: MatrixElement> MulAssign for Matrix<T> {
 }
 
 /// Transforms a point, as `transform` does.
+///
+/// <details><summary>Contract</summary>
+///
+/// ```text
+/// ghost can_mul = { λ matrix p.
+///     CanTransform T.can_mul T.mul_gives T.can_add T.add_gives matrix p.x p.y };
+/// ghost mul_gives = { λ matrix p moved.
+///     IsTransformed T.mul_gives T.add_gives matrix p.x p.y moved.x moved.y };
+/// ```
+/// [`CanTransform`], [`IsTransformed`]
+/// </details>
 impl<T: MatrixElement> Mul<Point<T>> for Matrix<T> {
     type Output = Point<T>;
 

@@ -1,4 +1,4 @@
-// @generated from crates/font_geom/src/lib.rt by tools/src/bin/erase.rs
+// @generated from crates/font_geom/src/lib.rt by tools/erase
 
 //! Points, boxes and matrices over any element.
 //!

@@ -1,6 +1,11 @@
-// @generated from crates/font_geom/src/point.rt by tools/src/bin/erase.rs
+// @generated from crates/font_geom/src/point.rt by tools/erase
 
 //! Two-dimensional points.
+
+#[cfg(doc)]
+use crate::definitions::font_geom::Calls::CallsEach;
+#[cfg(doc)]
+use crate::definitions::font_geom::Calls::CanCallEach;
 
 use core::ops::{Add, AddAssign, Div, DivAssign, Mul, MulAssign, Neg, Sub, SubAssign};
 
@@ -22,6 +27,13 @@ pub struct Point<T> {
 
 impl<T> Point<T> {
     /// Creates a point.
+    ///
+    /// <details><summary>Contract</summary>
+    ///
+    /// ```text
+    /// ensures { result ≡ record { x = x; y = y } }
+    /// ```
+    /// </details>
     #[must_use]
     #[inline(always)]
     pub const fn new(x: T, y: T) -> Self {
@@ -29,6 +41,13 @@ impl<T> Point<T> {
     }
 
     /// Creates a point with both coordinates equal to `xy`.
+    ///
+    /// <details><summary>Contract</summary>
+    ///
+    /// ```text
+    /// ensures { result ≡ record { x = xy; y = xy } }
+    /// ```
+    /// </details>
     #[must_use]
     #[inline]
     pub const fn broadcast(xy: T) -> Self
@@ -41,30 +60,50 @@ impl<T> Point<T> {
     /// Applies a function to each coordinate, x first.
     ///
     /// `point.map(|n| n / 2)` halves both.
+    ///
+    /// <details><summary>Contract</summary>
+    ///
+    /// ```text
+    /// requires { CanCallEach F.pre F.step f (self.x ∷ self.y ∷ []) }
+    /// ensures { CallsEach F.step f (self.x ∷ self.y ∷ []) (result.x ∷ result.y ∷ []) }
+    /// ```
+    /// [`CanCallEach`], [`CallsEach`]
+    /// </details>
     #[must_use]
     #[inline(always)]
     pub fn map<U, F: FnMut(T) -> U>(self, mut f: F) -> Point<U> {
-        Point {
-            x: f(self.x),
-            y: f(self.y),
-        }
+        Point { x: f(self.x), y: f(self.y) }
     }
 }
 
 /// Adds coordinate by coordinate.
+///
+/// <details><summary>Contract</summary>
+///
+/// ```text
+/// ghost can_add = { λ p q. T.can_add p.x q.x × T.can_add p.y q.y };
+/// ghost add_gives = { λ p q sum. T.add_gives p.x q.x sum.x × T.add_gives p.y q.y sum.y };
+/// ```
+/// </details>
 impl<T: Add<Output = T>> Add for Point<T> {
     type Output = Point<T>;
 
     #[inline(always)]
     fn add(self, rhs: Point<T>) -> Point<T> {
-        Point {
-            x: self.x + rhs.x,
-            y: self.y + rhs.y,
-        }
+        Point { x: self.x + rhs.x, y: self.y + rhs.y }
     }
 }
 
 /// Adds coordinate by coordinate.
+///
+/// <details><summary>Contract</summary>
+///
+/// ```text
+/// ghost can_add_assign = { λ p q. T.can_add_assign p.x q.x × T.can_add_assign p.y q.y };
+/// ghost add_assign_gives = { λ p q sum. T.add_assign_gives p.x q.x sum.x
+///     × T.add_assign_gives p.y q.y sum.y };
+/// ```
+/// </details>
 impl<T: AddAssign> AddAssign for Point<T> {
     #[inline(always)]
     fn add_assign(&mut self, rhs: Point<T>) {
@@ -74,19 +113,33 @@ impl<T: AddAssign> AddAssign for Point<T> {
 }
 
 /// Subtracts coordinate by coordinate.
+///
+/// <details><summary>Contract</summary>
+///
+/// ```text
+/// ghost can_sub = { λ p q. T.can_sub p.x q.x × T.can_sub p.y q.y };
+/// ghost sub_gives = { λ p q rest. T.sub_gives p.x q.x rest.x × T.sub_gives p.y q.y rest.y };
+/// ```
+/// </details>
 impl<T: Sub<Output = T>> Sub for Point<T> {
     type Output = Point<T>;
 
     #[inline(always)]
     fn sub(self, rhs: Point<T>) -> Point<T> {
-        Point {
-            x: self.x - rhs.x,
-            y: self.y - rhs.y,
-        }
+        Point { x: self.x - rhs.x, y: self.y - rhs.y }
     }
 }
 
 /// Subtracts coordinate by coordinate.
+///
+/// <details><summary>Contract</summary>
+///
+/// ```text
+/// ghost can_sub_assign = { λ p q. T.can_sub_assign p.x q.x × T.can_sub_assign p.y q.y };
+/// ghost sub_assign_gives = { λ p q rest. T.sub_assign_gives p.x q.x rest.x
+///     × T.sub_assign_gives p.y q.y rest.y };
+/// ```
+/// </details>
 impl<T: SubAssign> SubAssign for Point<T> {
     #[inline(always)]
     fn sub_assign(&mut self, rhs: Point<T>) {
@@ -96,32 +149,53 @@ impl<T: SubAssign> SubAssign for Point<T> {
 }
 
 /// Multiplies coordinate by coordinate.
+///
+/// <details><summary>Contract</summary>
+///
+/// ```text
+/// ghost can_mul = { λ p q. T.can_mul p.x q.x × T.can_mul p.y q.y };
+/// ghost mul_gives = { λ p q product. T.mul_gives p.x q.x product.x
+///     × T.mul_gives p.y q.y product.y };
+/// ```
+/// </details>
 impl<T: Mul<Output = T>> Mul for Point<T> {
     type Output = Point<T>;
 
     #[inline(always)]
     fn mul(self, rhs: Point<T>) -> Point<T> {
-        Point {
-            x: self.x * rhs.x,
-            y: self.y * rhs.y,
-        }
+        Point { x: self.x * rhs.x, y: self.y * rhs.y }
     }
 }
 
 /// Multiplies each coordinate by a number.
+///
+/// <details><summary>Contract</summary>
+///
+/// ```text
+/// ghost can_mul = { λ p factor. T.can_mul p.x factor × T.can_mul p.y factor };
+/// ghost mul_gives = { λ p factor product. T.mul_gives p.x factor product.x
+///     × T.mul_gives p.y factor product.y };
+/// ```
+/// </details>
 impl<T: Mul<Output = T> + Copy> Mul<T> for Point<T> {
     type Output = Point<T>;
 
     #[inline(always)]
     fn mul(self, rhs: T) -> Point<T> {
-        Point {
-            x: self.x * rhs,
-            y: self.y * rhs,
-        }
+        Point { x: self.x * rhs, y: self.y * rhs }
     }
 }
 
 /// Multiplies coordinate by coordinate.
+///
+/// <details><summary>Contract</summary>
+///
+/// ```text
+/// ghost can_mul_assign = { λ p q. T.can_mul_assign p.x q.x × T.can_mul_assign p.y q.y };
+/// ghost mul_assign_gives = { λ p q product. T.mul_assign_gives p.x q.x product.x
+///     × T.mul_assign_gives p.y q.y product.y };
+/// ```
+/// </details>
 impl<T: MulAssign> MulAssign for Point<T> {
     #[inline(always)]
     fn mul_assign(&mut self, rhs: Point<T>) {
@@ -131,6 +205,16 @@ impl<T: MulAssign> MulAssign for Point<T> {
 }
 
 /// Multiplies each coordinate by a number.
+///
+/// <details><summary>Contract</summary>
+///
+/// ```text
+/// ghost can_mul_assign = { λ p factor. T.can_mul_assign p.x factor
+///     × T.can_mul_assign p.y factor };
+/// ghost mul_assign_gives = { λ p factor product. T.mul_assign_gives p.x factor product.x
+///     × T.mul_assign_gives p.y factor product.y };
+/// ```
+/// </details>
 impl<T: MulAssign + Copy> MulAssign<T> for Point<T> {
     #[inline(always)]
     fn mul_assign(&mut self, rhs: T) {
@@ -140,32 +224,53 @@ impl<T: MulAssign + Copy> MulAssign<T> for Point<T> {
 }
 
 /// Divides coordinate by coordinate.
+///
+/// <details><summary>Contract</summary>
+///
+/// ```text
+/// ghost can_div = { λ p q. T.can_div p.x q.x × T.can_div p.y q.y };
+/// ghost div_gives = { λ p q quotient. T.div_gives p.x q.x quotient.x
+///     × T.div_gives p.y q.y quotient.y };
+/// ```
+/// </details>
 impl<T: Div<Output = T>> Div for Point<T> {
     type Output = Point<T>;
 
     #[inline(always)]
     fn div(self, rhs: Point<T>) -> Point<T> {
-        Point {
-            x: self.x / rhs.x,
-            y: self.y / rhs.y,
-        }
+        Point { x: self.x / rhs.x, y: self.y / rhs.y }
     }
 }
 
 /// Divides each coordinate by a number.
+///
+/// <details><summary>Contract</summary>
+///
+/// ```text
+/// ghost can_div = { λ p divisor. T.can_div p.x divisor × T.can_div p.y divisor };
+/// ghost div_gives = { λ p divisor quotient. T.div_gives p.x divisor quotient.x
+///     × T.div_gives p.y divisor quotient.y };
+/// ```
+/// </details>
 impl<T: Div<Output = T> + Copy> Div<T> for Point<T> {
     type Output = Point<T>;
 
     #[inline(always)]
     fn div(self, rhs: T) -> Point<T> {
-        Point {
-            x: self.x / rhs,
-            y: self.y / rhs,
-        }
+        Point { x: self.x / rhs, y: self.y / rhs }
     }
 }
 
 /// Divides coordinate by coordinate.
+///
+/// <details><summary>Contract</summary>
+///
+/// ```text
+/// ghost can_div_assign = { λ p q. T.can_div_assign p.x q.x × T.can_div_assign p.y q.y };
+/// ghost div_assign_gives = { λ p q quotient. T.div_assign_gives p.x q.x quotient.x
+///     × T.div_assign_gives p.y q.y quotient.y };
+/// ```
+/// </details>
 impl<T: DivAssign> DivAssign for Point<T> {
     #[inline(always)]
     fn div_assign(&mut self, rhs: Point<T>) {
@@ -175,6 +280,16 @@ impl<T: DivAssign> DivAssign for Point<T> {
 }
 
 /// Divides each coordinate by a number.
+///
+/// <details><summary>Contract</summary>
+///
+/// ```text
+/// ghost can_div_assign = { λ p divisor. T.can_div_assign p.x divisor
+///     × T.can_div_assign p.y divisor };
+/// ghost div_assign_gives = { λ p divisor quotient. T.div_assign_gives p.x divisor quotient.x
+///     × T.div_assign_gives p.y divisor quotient.y };
+/// ```
+/// </details>
 impl<T: DivAssign + Copy> DivAssign<T> for Point<T> {
     #[inline(always)]
     fn div_assign(&mut self, rhs: T) {
@@ -184,14 +299,19 @@ impl<T: DivAssign + Copy> DivAssign<T> for Point<T> {
 }
 
 /// Negates each coordinate.
+///
+/// <details><summary>Contract</summary>
+///
+/// ```text
+/// ghost can_neg = { λ p. T.can_neg p.x × T.can_neg p.y };
+/// ghost neg_gives = { λ p opposite. T.neg_gives p.x opposite.x × T.neg_gives p.y opposite.y };
+/// ```
+/// </details>
 impl<T: Neg<Output = T>> Neg for Point<T> {
     type Output = Point<T>;
 
     #[inline]
     fn neg(self) -> Point<T> {
-        Point {
-            x: -self.x,
-            y: -self.y,
-        }
+        Point { x: -self.x, y: -self.y }
     }
 }

@@ -1,6 +1,9 @@
-// @generated from crates/font_geom/src/ring.rt by tools/src/bin/erase.rs
+// @generated from crates/font_geom/src/ring.rt by tools/erase
 
 //! Matrix elements that form a ring.
+
+#[cfg(doc)]
+use crate::definitions::font_geom::Ring::RingLaws;
 
 use crate::font_geom::MatrixElement;
 
@@ -19,4 +22,21 @@ use crate::font_geom::MatrixElement;
 ///   is the other factor, and one with `ZERO` is `ZERO`.
 ///
 /// The source and its contracts: `crates/font_geom/src/ring.rt`.
+///
+/// <details><summary>Contract</summary>
+///
+/// ```text
+/// // the result of `x + y`
+/// ghost plus: { Self → Self → Self };
+/// // the result of `x * y`
+/// ghost times: { Self → Self → Self };
+/// // Both accept all values, and have no other results.
+/// ghost can_add_all: { (x y : Self) → Self.can_add x y };
+/// ghost can_multiply_all: { (x y : Self) → Self.can_mul x y };
+/// ghost sum_is: { (x y r : Self) → Self.add_gives x y r → r ≡ plus x y };
+/// ghost product_is: { (x y r : Self) → Self.mul_gives x y r → r ≡ times x y };
+/// ghost ring: { RingLaws Self.ZERO Self.ONE plus times };
+/// ```
+/// [`RingLaws`]
+/// </details>
 pub trait RingElement: MatrixElement {}

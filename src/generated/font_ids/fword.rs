@@ -1,6 +1,33 @@
-// @generated from crates/font_ids/src/fword.rt by tools/src/bin/erase.rs
+// @generated from crates/font_ids/src/fword.rt by tools/erase
 
 //! 16-bit quantities in font design units.
+
+#[cfg(doc)]
+use crate::definitions::font_base::Bytes::bytes_of;
+#[cfg(doc)]
+use crate::definitions::font_base::Bytes::numeral;
+#[cfg(doc)]
+use crate::definitions::font_base::Bytes::signed_numeral;
+#[cfg(doc)]
+use crate::definitions::font_base::Wrap::FitsBits;
+#[cfg(doc)]
+use crate::definitions::font_base::Wrap::fits_bits;
+#[cfg(doc)]
+use crate::definitions::font_base::Wrap::wrap;
+#[cfg(doc)]
+use crate::definitions::font_fixed::F48Dot16::f48dot16_bits;
+#[cfg(doc)]
+use crate::definitions::font_fixed::Fixed::fixed_bits;
+#[cfg(doc)]
+use crate::definitions::font_ids::FWord::fword_number;
+#[cfg(doc)]
+use crate::definitions::font_ids::FWord::fword_of;
+#[cfg(doc)]
+use crate::definitions::font_ids::FWord::nearest_unit;
+#[cfg(doc)]
+use crate::definitions::font_ids::FWord::ufword_number;
+#[cfg(doc)]
+use crate::definitions::font_ids::FWord::ufword_of;
 
 use crate::font_base::{FixedSize, IdentityEq, Scalar};
 use crate::font_fixed::{F48Dot16, Fixed, fitting_16, nearest_step, nearest_sum};
@@ -20,6 +47,14 @@ pub struct FWord(i16);
 
 impl FWord {
     /// Creates a quantity from a number of font units.
+    ///
+    /// <details><summary>Contract</summary>
+    ///
+    /// ```text
+    /// ensures { fword_number result ≡ raw }
+    /// ```
+    /// [`fword_number`]
+    /// </details>
     #[must_use]
     #[inline]
     pub const fn new(raw: i16) -> Self {
@@ -27,6 +62,14 @@ impl FWord {
     }
 
     /// Returns the number of font units.
+    ///
+    /// <details><summary>Contract</summary>
+    ///
+    /// ```text
+    /// ensures { result ≡ fword_number self }
+    /// ```
+    /// [`fword_number`]
+    /// </details>
     #[must_use]
     #[inline]
     pub const fn to_i16(self) -> i16 {
@@ -34,6 +77,14 @@ impl FWord {
     }
 
     /// Converts to 16.16, exactly.
+    ///
+    /// <details><summary>Contract</summary>
+    ///
+    /// ```text
+    /// ensures { fixed_bits result ≡ (fword_number self *ℤ pos (2 ^ 16)) }
+    /// ```
+    /// [`fixed_bits`], [`fword_number`]
+    /// </details>
     #[must_use]
     #[inline]
     pub const fn to_fixed(self) -> Fixed {
@@ -41,6 +92,14 @@ impl FWord {
     }
 
     /// Adds a sum of deltas, exactly. The result is a 16.16 raw value.
+    ///
+    /// <details><summary>Contract</summary>
+    ///
+    /// ```text
+    /// ensures { result ≡ (fword_number self *ℤ pos 65536 +ℤ f48dot16_bits delta) }
+    /// ```
+    /// [`fword_number`], [`f48dot16_bits`]
+    /// </details>
     #[must_use]
     #[inline]
     pub fn apply_delta(self, delta: F48Dot16) -> i128 {
@@ -55,6 +114,15 @@ impl FWord {
     /// let moved = vary(FWord::new(100), &[(Fixed::from_bits(0x8000), 3)]).unwrap();
     /// assert_eq!(FWord::round_delta(moved), Some(FWord::new(102)));
     /// ```
+    ///
+    /// <details><summary>Contract</summary>
+    ///
+    /// ```text
+    /// ensures variant { IsSome result ↔ FitsBits 16 (nearest_unit moved) }
+    /// ensures value { IfSome result (λ word. fword_number word ≡ nearest_unit moved) }
+    /// ```
+    /// [`FitsBits`], [`nearest_unit`], [`fword_number`]
+    /// </details>
     #[must_use]
     #[inline]
     pub fn round_delta(moved: i128) -> Option<FWord> {
@@ -69,6 +137,17 @@ impl FWord {
     /// let delta = F48Dot16::from_bits(0x18000);
     /// assert_eq!(FWord::new(100).checked_add_delta(delta), Some(FWord::new(102)));
     /// ```
+    ///
+    /// <details><summary>Contract</summary>
+    ///
+    /// ```text
+    /// ensures variant { IsSome result ↔ FitsBits 16
+    ///     (nearest_unit (fword_number self *ℤ pos 65536 +ℤ f48dot16_bits delta)) }
+    /// ensures value { IfSome result (λ word. fword_number word
+    ///     ≡ nearest_unit (fword_number self *ℤ pos 65536 +ℤ f48dot16_bits delta)) }
+    /// ```
+    /// [`FitsBits`], [`nearest_unit`], [`fword_number`], [`f48dot16_bits`]
+    /// </details>
     #[must_use]
     #[inline]
     pub const fn checked_add_delta(self, delta: F48Dot16) -> Option<FWord> {
@@ -79,6 +158,14 @@ impl FWord {
     }
 
     /// Returns the big-endian bytes.
+    ///
+    /// <details><summary>Contract</summary>
+    ///
+    /// ```text
+    /// ensures { result ≡ bytes_of 2 (fword_number self) }
+    /// ```
+    /// [`bytes_of`], [`fword_number`]
+    /// </details>
     #[must_use]
     #[inline]
     pub const fn to_be_bytes(self) -> [u8; 2] {
@@ -86,12 +173,26 @@ impl FWord {
     }
 }
 
+/// <details><summary>Contract</summary>
+///
+/// ```text
+/// ghost output = { λ word. Some (signed_decimal (fword_number word)) };
+/// ```
+/// [`fword_number`]
+/// </details>
 impl fmt::Display for FWord {
     fn fmt(&self, f: &mut fmt::Formatter<'_>) -> fmt::Result {
         fmt::Display::fmt(&self.0, f)
     }
 }
 
+/// <details><summary>Contract</summary>
+///
+/// ```text
+/// ghost from_gives = { λ number word. fword_number word ≡ number };
+/// ```
+/// [`fword_number`]
+/// </details>
 impl From<i16> for FWord {
     #[inline]
     fn from(number: i16) -> FWord {
@@ -99,6 +200,13 @@ impl From<i16> for FWord {
     }
 }
 
+/// <details><summary>Contract</summary>
+///
+/// ```text
+/// ghost from_gives = { λ word number. number ≡ fword_number word };
+/// ```
+/// [`fword_number`]
+/// </details>
 impl From<FWord> for i16 {
     #[inline]
     fn from(word: FWord) -> i16 {
@@ -106,6 +214,13 @@ impl From<FWord> for i16 {
     }
 }
 
+/// <details><summary>Contract</summary>
+///
+/// ```text
+/// ghost from_gives = { λ word number. number ≡ fword_number word };
+/// ```
+/// [`fword_number`]
+/// </details>
 impl From<FWord> for i32 {
     #[inline]
     fn from(word: FWord) -> i32 {
@@ -114,6 +229,14 @@ impl From<FWord> for i32 {
 }
 
 /// Converts as `to_fixed` does, exactly.
+///
+/// <details><summary>Contract</summary>
+///
+/// ```text
+/// ghost from_gives = { λ word x. fixed_bits x ≡ (fword_number word *ℤ pos (2 ^ 16)) };
+/// ```
+/// [`fixed_bits`], [`fword_number`]
+/// </details>
 impl From<FWord> for Fixed {
     #[inline]
     fn from(word: FWord) -> Fixed {
@@ -125,6 +248,15 @@ impl FixedSize for FWord {
     const RAW_BYTE_LEN: usize = 2;
 }
 
+/// <details><summary>Contract</summary>
+///
+/// ```text
+/// ghost is_scalar = { λ word. fits_bits 16 (fword_number word) };
+/// ghost of_raw = { λ raw. fword_of (signed_numeral 2 raw) };
+/// ghost raw_of = { λ word. bytes_of 2 (fword_number word) };
+/// ```
+/// [`fits_bits`], [`fword_number`], [`fword_of`], [`signed_numeral`], [`bytes_of`]
+/// </details>
 impl Scalar for FWord {
     type Raw = [u8; 2];
 
@@ -154,6 +286,14 @@ pub struct UfWord(u16);
 
 impl UfWord {
     /// Creates a quantity from a number of font units.
+    ///
+    /// <details><summary>Contract</summary>
+    ///
+    /// ```text
+    /// ensures { ufword_number result ≡ raw }
+    /// ```
+    /// [`ufword_number`]
+    /// </details>
     #[must_use]
     #[inline]
     pub const fn new(raw: u16) -> Self {
@@ -161,6 +301,14 @@ impl UfWord {
     }
 
     /// Returns the number of font units.
+    ///
+    /// <details><summary>Contract</summary>
+    ///
+    /// ```text
+    /// ensures { result ≡ ufword_number self }
+    /// ```
+    /// [`ufword_number`]
+    /// </details>
     #[must_use]
     #[inline]
     pub const fn to_u16(self) -> u16 {
@@ -168,6 +316,14 @@ impl UfWord {
     }
 
     /// Converts to 16.16, wrapping: 32768 and above become negative.
+    ///
+    /// <details><summary>Contract</summary>
+    ///
+    /// ```text
+    /// ensures { fixed_bits result ≡ wrap 32 (pos (ufword_number self) *ℤ pos (2 ^ 16)) }
+    /// ```
+    /// [`fixed_bits`], [`wrap`], [`ufword_number`]
+    /// </details>
     #[must_use]
     #[inline]
     pub const fn to_fixed(self) -> Fixed {
@@ -175,6 +331,17 @@ impl UfWord {
     }
 
     /// Converts to 16.16, or returns `None` on overflow, that is, for 32768 and above.
+    ///
+    /// <details><summary>Contract</summary>
+    ///
+    /// ```text
+    /// ensures variant { IsSome result
+    ///     ↔ FitsBits 32 (pos (ufword_number self) *ℤ pos (2 ^ 16)) }
+    /// ensures value { IfSome result
+    ///     (λ number. fixed_bits number ≡ (pos (ufword_number self) *ℤ pos (2 ^ 16))) }
+    /// ```
+    /// [`FitsBits`], [`ufword_number`], [`fixed_bits`]
+    /// </details>
     #[must_use]
     #[inline]
     pub const fn checked_to_fixed(self) -> Option<Fixed> {
@@ -182,6 +349,14 @@ impl UfWord {
     }
 
     /// Adds a sum of deltas, exactly. The result is a 16.16 raw value.
+    ///
+    /// <details><summary>Contract</summary>
+    ///
+    /// ```text
+    /// ensures { result ≡ (pos (ufword_number self) *ℤ pos 65536 +ℤ f48dot16_bits delta) }
+    /// ```
+    /// [`ufword_number`], [`f48dot16_bits`]
+    /// </details>
     #[must_use]
     #[inline]
     pub fn apply_delta(self, delta: F48Dot16) -> i128 {
@@ -190,6 +365,16 @@ impl UfWord {
 
     /// Rounds a 16.16 raw value, such as the result of `apply_delta`, to the nearest font unit,
     /// half up, or returns `None` if that is out of range.
+    ///
+    /// <details><summary>Contract</summary>
+    ///
+    /// ```text
+    /// ensures variant { IsSome result
+    ///     ↔ ((pos 0 ≤ℤ nearest_unit moved) × (nearest_unit moved <ℤ pos 65536)) }
+    /// ensures value { IfSome result (λ word. pos (ufword_number word) ≡ nearest_unit moved) }
+    /// ```
+    /// [`nearest_unit`], [`ufword_number`]
+    /// </details>
     #[must_use]
     #[inline]
     pub fn round_delta(moved: i128) -> Option<UfWord> {
@@ -198,18 +383,35 @@ impl UfWord {
 
     /// Adds a sum of deltas and rounds to the nearest font unit, half up, or returns `None` if that
     /// is out of range: `round_delta` of `apply_delta`, in 64 bits.
+    ///
+    /// <details><summary>Contract</summary>
+    ///
+    /// ```text
+    /// ensures variant { IsSome result ↔ (
+    ///     (pos 0 ≤ℤ nearest_unit (pos (ufword_number self) *ℤ pos 65536 +ℤ f48dot16_bits delta))
+    ///     × (nearest_unit (pos (ufword_number self) *ℤ pos 65536 +ℤ f48dot16_bits delta)
+    ///     <ℤ pos 65536)) }
+    /// ensures value { IfSome result (λ word. pos (ufword_number word)
+    ///     ≡ nearest_unit (pos (ufword_number self) *ℤ pos 65536 +ℤ f48dot16_bits delta)) }
+    /// ```
+    /// [`nearest_unit`], [`ufword_number`], [`f48dot16_bits`]
+    /// </details>
     #[must_use]
     #[inline]
     pub const fn checked_add_delta(self, delta: F48Dot16) -> Option<UfWord> {
         let moved = nearest_sum(self.0 as i32, delta);
-        if moved < 0 || moved > 0xFFFF {
-            None
-        } else {
-            Some(Self(moved as u16))
-        }
+        if moved < 0 || moved > 0xFFFF { None } else { Some(Self(moved as u16)) }
     }
 
     /// Returns the big-endian bytes.
+    ///
+    /// <details><summary>Contract</summary>
+    ///
+    /// ```text
+    /// ensures { result ≡ bytes_of 2 (pos (ufword_number self)) }
+    /// ```
+    /// [`bytes_of`], [`ufword_number`]
+    /// </details>
     #[must_use]
     #[inline]
     pub const fn to_be_bytes(self) -> [u8; 2] {
@@ -217,12 +419,26 @@ impl UfWord {
     }
 }
 
+/// <details><summary>Contract</summary>
+///
+/// ```text
+/// ghost output = { λ word. Some (decimal (ufword_number word)) };
+/// ```
+/// [`ufword_number`]
+/// </details>
 impl fmt::Display for UfWord {
     fn fmt(&self, f: &mut fmt::Formatter<'_>) -> fmt::Result {
         fmt::Display::fmt(&self.0, f)
     }
 }
 
+/// <details><summary>Contract</summary>
+///
+/// ```text
+/// ghost from_gives = { λ number word. ufword_number word ≡ number };
+/// ```
+/// [`ufword_number`]
+/// </details>
 impl From<u16> for UfWord {
     #[inline]
     fn from(number: u16) -> UfWord {
@@ -230,6 +446,13 @@ impl From<u16> for UfWord {
     }
 }
 
+/// <details><summary>Contract</summary>
+///
+/// ```text
+/// ghost from_gives = { λ word number. number ≡ ufword_number word };
+/// ```
+/// [`ufword_number`]
+/// </details>
 impl From<UfWord> for u16 {
     #[inline]
     fn from(word: UfWord) -> u16 {
@@ -237,6 +460,13 @@ impl From<UfWord> for u16 {
     }
 }
 
+/// <details><summary>Contract</summary>
+///
+/// ```text
+/// ghost from_gives = { λ word number. number ≡ pos (ufword_number word) };
+/// ```
+/// [`ufword_number`]
+/// </details>
 impl From<UfWord> for i32 {
     #[inline]
     fn from(word: UfWord) -> i32 {
@@ -248,6 +478,15 @@ impl FixedSize for UfWord {
     const RAW_BYTE_LEN: usize = 2;
 }
 
+/// <details><summary>Contract</summary>
+///
+/// ```text
+/// ghost is_scalar = { λ word. nat_lt (ufword_number word) (2 ^ 16) };
+/// ghost of_raw = { λ raw. ufword_of (numeral raw) };
+/// ghost raw_of = { λ word. bytes_of 2 (pos (ufword_number word)) };
+/// ```
+/// [`ufword_number`], [`ufword_of`], [`numeral`], [`bytes_of`]
+/// </details>
 impl Scalar for UfWord {
     type Raw = [u8; 2];
 

@@ -1,6 +1,31 @@
-// @generated from crates/font_ids/src/glyph_id.rt by tools/src/bin/erase.rs
+// @generated from crates/font_ids/src/glyph_id.rt by tools/erase
 
 //! Glyph ids.
+
+#[cfg(doc)]
+use crate::definitions::font_base::Bytes::bytes_of;
+#[cfg(doc)]
+use crate::definitions::font_base::Bytes::numeral;
+#[cfg(doc)]
+use crate::definitions::font_base::Uint24::UINT24_MAX;
+#[cfg(doc)]
+use crate::definitions::font_base::Uint24::bytes_of_uint24;
+#[cfg(doc)]
+use crate::definitions::font_base::Uint24::uint24_of_bytes;
+#[cfg(doc)]
+use crate::definitions::font_ids::GlyphId::glyph_number;
+#[cfg(doc)]
+use crate::definitions::font_ids::GlyphId::glyph_text;
+#[cfg(doc)]
+use crate::definitions::font_ids::GlyphId::glyph16_number;
+#[cfg(doc)]
+use crate::definitions::font_ids::GlyphId::glyph16_of;
+#[cfg(doc)]
+use crate::definitions::font_ids::GlyphId::glyph24_number;
+#[cfg(doc)]
+use crate::definitions::font_ids::GlyphId::glyph24_of;
+#[cfg(doc)]
+use crate::definitions::font_ids::GlyphId::refused_number;
 
 use crate::font_base::{FixedSize, IdentityEq, Scalar, Uint24};
 use core::cmp::Ordering;
@@ -22,6 +47,14 @@ impl GlyphId16 {
     pub const NOTDEF: Self = Self(0);
 
     /// Creates a glyph id.
+    ///
+    /// <details><summary>Contract</summary>
+    ///
+    /// ```text
+    /// ensures { glyph16_number result ≡ raw }
+    /// ```
+    /// [`glyph16_number`]
+    /// </details>
     #[must_use]
     #[inline]
     pub const fn new(raw: u16) -> Self {
@@ -29,6 +62,14 @@ impl GlyphId16 {
     }
 
     /// Returns the number.
+    ///
+    /// <details><summary>Contract</summary>
+    ///
+    /// ```text
+    /// ensures { result ≡ glyph16_number self }
+    /// ```
+    /// [`glyph16_number`]
+    /// </details>
     #[must_use]
     #[inline]
     pub const fn to_u16(self) -> u16 {
@@ -36,6 +77,14 @@ impl GlyphId16 {
     }
 
     /// Returns the number.
+    ///
+    /// <details><summary>Contract</summary>
+    ///
+    /// ```text
+    /// ensures { result ≡ glyph16_number self }
+    /// ```
+    /// [`glyph16_number`]
+    /// </details>
     #[must_use]
     #[inline]
     pub const fn to_u32(self) -> u32 {
@@ -43,6 +92,14 @@ impl GlyphId16 {
     }
 
     /// Returns the number as an index.
+    ///
+    /// <details><summary>Contract</summary>
+    ///
+    /// ```text
+    /// ensures { result ≡ glyph16_number self }
+    /// ```
+    /// [`glyph16_number`]
+    /// </details>
     #[must_use]
     #[inline]
     pub const fn to_usize(self) -> usize {
@@ -50,6 +107,14 @@ impl GlyphId16 {
     }
 
     /// Returns the big-endian bytes.
+    ///
+    /// <details><summary>Contract</summary>
+    ///
+    /// ```text
+    /// ensures { result ≡ bytes_of 2 (pos (glyph16_number self)) }
+    /// ```
+    /// [`bytes_of`], [`glyph16_number`]
+    /// </details>
     #[must_use]
     #[inline]
     pub const fn to_be_bytes(self) -> [u8; 2] {
@@ -61,6 +126,14 @@ impl GlyphId16 {
 #[doc(hidden)]
 impl GlyphId16 {
     /// Returns `true` if both are the same glyph, as `==` does.
+    ///
+    /// <details><summary>Contract</summary>
+    ///
+    /// ```text
+    /// ensures { IsTrue result ↔ (glyph16_number self.now ≡ glyph_number other.now) }
+    /// ```
+    /// [`glyph16_number`], [`glyph_number`]
+    /// </details>
     #[must_use]
     #[inline]
     pub fn eq_gid(&self, other: &GlyphId) -> bool {
@@ -68,6 +141,14 @@ impl GlyphId16 {
     }
 
     /// Compares the two numbers, as `<` and `>` do.
+    ///
+    /// <details><summary>Contract</summary>
+    ///
+    /// ```text
+    /// ensures { result ≡ nat_cmp (glyph16_number self.now) (glyph_number other.now) }
+    /// ```
+    /// [`glyph16_number`], [`glyph_number`]
+    /// </details>
     #[must_use]
     #[inline]
     pub fn cmp_gid(&self, other: &GlyphId) -> Ordering {
@@ -75,12 +156,26 @@ impl GlyphId16 {
     }
 }
 
+/// <details><summary>Contract</summary>
+///
+/// ```text
+/// ghost output = { λ id. Some (glyph_text (glyph16_number id)) };
+/// ```
+/// [`glyph_text`], [`glyph16_number`]
+/// </details>
 impl fmt::Display for GlyphId16 {
     fn fmt(&self, f: &mut fmt::Formatter<'_>) -> fmt::Result {
         write!(f, "GID_{}", self.0)
     }
 }
 
+/// <details><summary>Contract</summary>
+///
+/// ```text
+/// ghost from_gives = { λ number id. glyph16_number id ≡ number };
+/// ```
+/// [`glyph16_number`]
+/// </details>
 impl From<u16> for GlyphId16 {
     #[inline]
     fn from(number: u16) -> GlyphId16 {
@@ -88,6 +183,13 @@ impl From<u16> for GlyphId16 {
     }
 }
 
+/// <details><summary>Contract</summary>
+///
+/// ```text
+/// ghost from_gives = { λ id number. number ≡ glyph16_number id };
+/// ```
+/// [`glyph16_number`]
+/// </details>
 impl From<GlyphId16> for u16 {
     #[inline]
     fn from(id: GlyphId16) -> u16 {
@@ -95,6 +197,13 @@ impl From<GlyphId16> for u16 {
     }
 }
 
+/// <details><summary>Contract</summary>
+///
+/// ```text
+/// ghost from_gives = { λ id number. number ≡ glyph16_number id };
+/// ```
+/// [`glyph16_number`]
+/// </details>
 impl From<GlyphId16> for u32 {
     #[inline]
     fn from(id: GlyphId16) -> u32 {
@@ -102,6 +211,13 @@ impl From<GlyphId16> for u32 {
     }
 }
 
+/// <details><summary>Contract</summary>
+///
+/// ```text
+/// ghost from_gives = { λ id number. number ≡ glyph16_number id };
+/// ```
+/// [`glyph16_number`]
+/// </details>
 impl From<GlyphId16> for usize {
     #[inline]
     fn from(id: GlyphId16) -> usize {
@@ -110,6 +226,16 @@ impl From<GlyphId16> for usize {
 }
 
 /// Fails if the number exceeds 65535.
+///
+/// <details><summary>Contract</summary>
+///
+/// ```text
+/// ghost try_from_gives = { λ id result. MatchResult result
+///     (λ narrow. glyph16_number narrow ≡ glyph_number id)
+///     (λ error. (2 ^ 16 ≤ glyph_number id) × (refused_number error ≡ glyph_number id)) };
+/// ```
+/// [`glyph16_number`], [`glyph_number`], [`refused_number`]
+/// </details>
 impl TryFrom<GlyphId> for GlyphId16 {
     type Error = TryFromGlyphIdError;
 
@@ -126,6 +252,15 @@ impl FixedSize for GlyphId16 {
     const RAW_BYTE_LEN: usize = 2;
 }
 
+/// <details><summary>Contract</summary>
+///
+/// ```text
+/// ghost is_scalar = { λ id. nat_lt (glyph16_number id) (2 ^ 16) };
+/// ghost of_raw = { λ raw. glyph16_of (numeral raw) };
+/// ghost raw_of = { λ id. bytes_of 2 (pos (glyph16_number id)) };
+/// ```
+/// [`glyph16_number`], [`glyph16_of`], [`numeral`], [`bytes_of`]
+/// </details>
 impl Scalar for GlyphId16 {
     type Raw = [u8; 2];
 
@@ -158,6 +293,14 @@ impl GlyphId24 {
     pub const NOTDEF: Self = Self(Uint24::MIN);
 
     /// Creates a glyph id, saturating at 16777215.
+    ///
+    /// <details><summary>Contract</summary>
+    ///
+    /// ```text
+    /// ensures { glyph24_number result ≡ min raw UINT24_MAX }
+    /// ```
+    /// [`glyph24_number`], [`UINT24_MAX`]
+    /// </details>
     #[must_use]
     #[inline]
     pub const fn new(raw: u32) -> Self {
@@ -165,6 +308,15 @@ impl GlyphId24 {
     }
 
     /// Creates a glyph id, or returns `None` if the number exceeds 16777215.
+    ///
+    /// <details><summary>Contract</summary>
+    ///
+    /// ```text
+    /// ensures variant { IsSome result ↔ (raw ≤ UINT24_MAX) }
+    /// ensures value { IfSome result (λ id. glyph24_number id ≡ raw) }
+    /// ```
+    /// [`UINT24_MAX`], [`glyph24_number`]
+    /// </details>
     #[must_use]
     #[inline]
     pub const fn checked_new(raw: u32) -> Option<Self> {
@@ -175,6 +327,14 @@ impl GlyphId24 {
     }
 
     /// Returns the number.
+    ///
+    /// <details><summary>Contract</summary>
+    ///
+    /// ```text
+    /// ensures { result ≡ glyph24_number self }
+    /// ```
+    /// [`glyph24_number`]
+    /// </details>
     #[must_use]
     #[inline]
     pub const fn to_u32(self) -> u32 {
@@ -182,6 +342,14 @@ impl GlyphId24 {
     }
 
     /// Returns the number as an index.
+    ///
+    /// <details><summary>Contract</summary>
+    ///
+    /// ```text
+    /// ensures { result ≡ glyph24_number self }
+    /// ```
+    /// [`glyph24_number`]
+    /// </details>
     #[must_use]
     #[inline]
     pub const fn to_usize(self) -> usize {
@@ -189,6 +357,14 @@ impl GlyphId24 {
     }
 
     /// Returns the big-endian bytes.
+    ///
+    /// <details><summary>Contract</summary>
+    ///
+    /// ```text
+    /// ensures { result ≡ bytes_of 3 (pos (glyph24_number self)) }
+    /// ```
+    /// [`bytes_of`], [`glyph24_number`]
+    /// </details>
     #[must_use]
     #[inline]
     pub const fn to_be_bytes(self) -> [u8; 3] {
@@ -196,6 +372,14 @@ impl GlyphId24 {
     }
 
     /// Creates a glyph id from big-endian bytes.
+    ///
+    /// <details><summary>Contract</summary>
+    ///
+    /// ```text
+    /// ensures { bytes ≡ bytes_of 3 (pos (glyph24_number result)) }
+    /// ```
+    /// [`bytes_of`], [`glyph24_number`]
+    /// </details>
     #[must_use]
     #[inline]
     pub const fn from_be_bytes(bytes: [u8; 3]) -> Self {
@@ -203,12 +387,26 @@ impl GlyphId24 {
     }
 }
 
+/// <details><summary>Contract</summary>
+///
+/// ```text
+/// ghost output = { λ id. Some (glyph_text (glyph24_number id)) };
+/// ```
+/// [`glyph_text`], [`glyph24_number`]
+/// </details>
 impl fmt::Display for GlyphId24 {
     fn fmt(&self, f: &mut fmt::Formatter<'_>) -> fmt::Result {
         write!(f, "GID_{}", self.to_u32())
     }
 }
 
+/// <details><summary>Contract</summary>
+///
+/// ```text
+/// ghost from_gives = { λ id number. number ≡ glyph24_number id };
+/// ```
+/// [`glyph24_number`]
+/// </details>
 impl From<GlyphId24> for u32 {
     #[inline]
     fn from(id: GlyphId24) -> u32 {
@@ -216,6 +414,13 @@ impl From<GlyphId24> for u32 {
     }
 }
 
+/// <details><summary>Contract</summary>
+///
+/// ```text
+/// ghost from_gives = { λ id number. number ≡ glyph24_number id };
+/// ```
+/// [`glyph24_number`]
+/// </details>
 impl From<GlyphId24> for usize {
     #[inline]
     fn from(id: GlyphId24) -> usize {
@@ -224,6 +429,16 @@ impl From<GlyphId24> for usize {
 }
 
 /// Fails if the number exceeds 16777215.
+///
+/// <details><summary>Contract</summary>
+///
+/// ```text
+/// ghost try_from_gives = { λ id result. MatchResult result
+///     (λ narrow. glyph24_number narrow ≡ glyph_number id)
+///     (λ error. (2 ^ 24 ≤ glyph_number id) × (refused_number error ≡ glyph_number id)) };
+/// ```
+/// [`glyph24_number`], [`glyph_number`], [`refused_number`]
+/// </details>
 impl TryFrom<GlyphId> for GlyphId24 {
     type Error = TryFromGlyphIdError;
 
@@ -240,6 +455,15 @@ impl FixedSize for GlyphId24 {
     const RAW_BYTE_LEN: usize = 3;
 }
 
+/// <details><summary>Contract</summary>
+///
+/// ```text
+/// ghost is_scalar = { λ _. true };
+/// ghost of_raw = { λ raw. glyph24_of (uint24_of_bytes raw) };
+/// ghost raw_of = { λ id. bytes_of_uint24 id.0 };
+/// ```
+/// [`glyph24_of`], [`uint24_of_bytes`], [`bytes_of_uint24`]
+/// </details>
 impl Scalar for GlyphId24 {
     type Raw = [u8; 3];
 
@@ -272,6 +496,14 @@ impl GlyphId {
     pub const NOTDEF: Self = Self(0);
 
     /// Creates a glyph id.
+    ///
+    /// <details><summary>Contract</summary>
+    ///
+    /// ```text
+    /// ensures { glyph_number result ≡ raw }
+    /// ```
+    /// [`glyph_number`]
+    /// </details>
     #[must_use]
     #[inline]
     pub const fn new(raw: u32) -> Self {
@@ -279,6 +511,14 @@ impl GlyphId {
     }
 
     /// Returns the number.
+    ///
+    /// <details><summary>Contract</summary>
+    ///
+    /// ```text
+    /// ensures { result ≡ glyph_number self }
+    /// ```
+    /// [`glyph_number`]
+    /// </details>
     #[must_use]
     #[inline]
     pub const fn to_u32(self) -> u32 {
@@ -286,6 +526,14 @@ impl GlyphId {
     }
 
     /// Returns the number as an index.
+    ///
+    /// <details><summary>Contract</summary>
+    ///
+    /// ```text
+    /// ensures { result ≡ glyph_number self }
+    /// ```
+    /// [`glyph_number`]
+    /// </details>
     #[must_use]
     #[inline]
     pub const fn to_usize(self) -> usize {
@@ -297,6 +545,14 @@ impl GlyphId {
 #[doc(hidden)]
 impl GlyphId {
     /// Returns `true` if both are the same glyph, as `==` does.
+    ///
+    /// <details><summary>Contract</summary>
+    ///
+    /// ```text
+    /// ensures { IsTrue result ↔ (glyph_number self.now ≡ glyph16_number other.now) }
+    /// ```
+    /// [`glyph_number`], [`glyph16_number`]
+    /// </details>
     #[must_use]
     #[inline]
     pub fn eq_gid16(&self, other: &GlyphId16) -> bool {
@@ -304,6 +560,14 @@ impl GlyphId {
     }
 
     /// Compares the two numbers, as `<` and `>` do.
+    ///
+    /// <details><summary>Contract</summary>
+    ///
+    /// ```text
+    /// ensures { result ≡ nat_cmp (glyph_number self.now) (glyph16_number other.now) }
+    /// ```
+    /// [`glyph_number`], [`glyph16_number`]
+    /// </details>
     #[must_use]
     #[inline]
     pub fn cmp_gid16(&self, other: &GlyphId16) -> Ordering {
@@ -311,12 +575,26 @@ impl GlyphId {
     }
 }
 
+/// <details><summary>Contract</summary>
+///
+/// ```text
+/// ghost output = { λ id. Some (glyph_text (glyph_number id)) };
+/// ```
+/// [`glyph_text`], [`glyph_number`]
+/// </details>
 impl fmt::Display for GlyphId {
     fn fmt(&self, f: &mut fmt::Formatter<'_>) -> fmt::Result {
         write!(f, "GID_{}", self.0)
     }
 }
 
+/// <details><summary>Contract</summary>
+///
+/// ```text
+/// ghost from_gives = { λ number id. glyph_number id ≡ number };
+/// ```
+/// [`glyph_number`]
+/// </details>
 impl From<u16> for GlyphId {
     #[inline]
     fn from(number: u16) -> GlyphId {
@@ -324,6 +602,13 @@ impl From<u16> for GlyphId {
     }
 }
 
+/// <details><summary>Contract</summary>
+///
+/// ```text
+/// ghost from_gives = { λ number id. glyph_number id ≡ number };
+/// ```
+/// [`glyph_number`]
+/// </details>
 impl From<u32> for GlyphId {
     #[inline]
     fn from(number: u32) -> GlyphId {
@@ -331,6 +616,13 @@ impl From<u32> for GlyphId {
     }
 }
 
+/// <details><summary>Contract</summary>
+///
+/// ```text
+/// ghost from_gives = { λ narrow id. glyph_number id ≡ glyph16_number narrow };
+/// ```
+/// [`glyph_number`], [`glyph16_number`]
+/// </details>
 impl From<GlyphId16> for GlyphId {
     #[inline]
     fn from(narrow: GlyphId16) -> GlyphId {
@@ -338,6 +630,13 @@ impl From<GlyphId16> for GlyphId {
     }
 }
 
+/// <details><summary>Contract</summary>
+///
+/// ```text
+/// ghost from_gives = { λ narrow id. glyph_number id ≡ glyph24_number narrow };
+/// ```
+/// [`glyph_number`], [`glyph24_number`]
+/// </details>
 impl From<GlyphId24> for GlyphId {
     #[inline]
     fn from(narrow: GlyphId24) -> GlyphId {
@@ -345,6 +644,13 @@ impl From<GlyphId24> for GlyphId {
     }
 }
 
+/// <details><summary>Contract</summary>
+///
+/// ```text
+/// ghost from_gives = { λ id number. number ≡ glyph_number id };
+/// ```
+/// [`glyph_number`]
+/// </details>
 impl From<GlyphId> for u32 {
     #[inline]
     fn from(id: GlyphId) -> u32 {
@@ -361,7 +667,7 @@ impl From<GlyphId> for u32 {
 /// ```
 ///
 /// The source and its contracts: `crates/font_ids/src/glyph_id.rt`.
-#[derive(Debug)]
+#[derive(Debug, Clone, Copy, PartialEq, Eq)]
 pub struct TryFromGlyphIdError(u32);
 
 impl core::error::Error for TryFromGlyphIdError {}
@@ -376,6 +682,14 @@ impl core::fmt::Display for TryFromGlyphIdError {
 
 impl TryFromGlyphIdError {
     /// Returns the number that was too large.
+    ///
+    /// <details><summary>Contract</summary>
+    ///
+    /// ```text
+    /// ensures { result ≡ refused_number self.now }
+    /// ```
+    /// [`refused_number`]
+    /// </details>
     #[must_use]
     #[inline]
     pub const fn value(&self) -> u32 {

@@ -1,4 +1,4 @@
-// @generated from crates/font_ids/src/lib.rt by tools/src/bin/erase.rs
+// @generated from crates/font_ids/src/lib.rt by tools/erase
 
 //! Font units, glyph ids, name ids and offsets, and the tags, versions and dates of `font_tags`.
 //!

@@ -1,6 +1,25 @@
-// @generated from crates/font_ids/src/name_id.rt by tools/src/bin/erase.rs
+// @generated from crates/font_ids/src/name_id.rt by tools/erase
 
 //! Name ids of the `name` table.
+
+#[cfg(doc)]
+use crate::definitions::font_base::Bytes::bytes_of;
+#[cfg(doc)]
+use crate::definitions::font_base::Bytes::numeral;
+#[cfg(doc)]
+use crate::definitions::font_ids::NameId::last_allowed;
+#[cfg(doc)]
+use crate::definitions::font_ids::NameId::last_reserved;
+#[cfg(doc)]
+use crate::definitions::font_ids::NameId::name_id_of;
+#[cfg(doc)]
+use crate::definitions::font_ids::NameId::name_number;
+#[cfg(doc)]
+use crate::definitions::font_ids::NameId::name_text;
+#[cfg(doc)]
+use crate::definitions::font_ids::NameId::predefined_left;
+#[cfg(doc)]
+use crate::definitions::font_ids::NameId::predefined_numbers;
 
 use crate::font_base::{FixedSize, IdentityEq, Scalar};
 use core::fmt;
@@ -103,6 +122,14 @@ impl NameId {
     pub const LAST_ALLOWED_NAME_ID: Self = Self(32767);
 
     /// Creates a name id.
+    ///
+    /// <details><summary>Contract</summary>
+    ///
+    /// ```text
+    /// ensures { name_number result ≡ raw }
+    /// ```
+    /// [`name_number`]
+    /// </details>
     #[must_use]
     #[inline]
     pub const fn new(raw: u16) -> Self {
@@ -110,6 +137,15 @@ impl NameId {
     }
 
     /// Returns an iterator over the predefined ids in order: 0 to 14 and 16 to 25.
+    ///
+    /// <details><summary>Contract</summary>
+    ///
+    /// ```text
+    /// ensures ids { predefined_left result ≡ map name_id_of predefined_numbers }
+    /// ensures count { length (predefined_left result) ≡ 25 }
+    /// ```
+    /// [`predefined_left`], [`name_id_of`], [`predefined_numbers`]
+    /// </details>
     #[must_use]
     #[inline]
     pub const fn predefined() -> Predefined {
@@ -117,6 +153,14 @@ impl NameId {
     }
 
     /// Returns the number.
+    ///
+    /// <details><summary>Contract</summary>
+    ///
+    /// ```text
+    /// ensures { result ≡ name_number self }
+    /// ```
+    /// [`name_number`]
+    /// </details>
     #[must_use]
     #[inline]
     pub const fn to_u16(self) -> u16 {
@@ -124,6 +168,14 @@ impl NameId {
     }
 
     /// Returns `true` if the id is reserved, that is, at most 255.
+    ///
+    /// <details><summary>Contract</summary>
+    ///
+    /// ```text
+    /// ensures { IsTrue result ↔ (name_number self ≤ last_reserved) }
+    /// ```
+    /// [`name_number`], [`last_reserved`]
+    /// </details>
     #[must_use]
     #[inline]
     pub const fn is_reserved(self) -> bool {
@@ -131,18 +183,31 @@ impl NameId {
     }
 
     /// Returns `self + rhs`, or `None` if that exceeds `LAST_ALLOWED_NAME_ID`, even if `rhs` is 0.
+    ///
+    /// <details><summary>Contract</summary>
+    ///
+    /// ```text
+    /// ensures variant { IsSome result ↔ (name_number self + rhs ≤ last_allowed) }
+    /// ensures value { IfSome result (λ id. name_number id ≡ name_number self + rhs) }
+    /// ```
+    /// [`name_number`], [`last_allowed`]
+    /// </details>
     #[must_use]
     #[inline]
     pub const fn checked_add(self, rhs: u16) -> Option<Self> {
         let sum = Self(self.0.saturating_add(rhs));
-        if sum.0 > Self::LAST_ALLOWED_NAME_ID.0 {
-            None
-        } else {
-            Some(sum)
-        }
+        if sum.0 > Self::LAST_ALLOWED_NAME_ID.0 { None } else { Some(sum) }
     }
 
     /// Returns the big-endian bytes.
+    ///
+    /// <details><summary>Contract</summary>
+    ///
+    /// ```text
+    /// ensures { result ≡ bytes_of 2 (pos (name_number self)) }
+    /// ```
+    /// [`bytes_of`], [`name_number`]
+    /// </details>
     #[must_use]
     #[inline]
     pub const fn to_be_bytes(self) -> [u8; 2] {
@@ -151,6 +216,14 @@ impl NameId {
 }
 
 /// 65535, which is not an id of a name.
+///
+/// <details><summary>Contract</summary>
+///
+/// ```text
+/// ghost is_default = { λ id. name_number id ≡ 65535 };
+/// ```
+/// [`name_number`]
+/// </details>
 impl Default for NameId {
     #[inline]
     fn default() -> NameId {
@@ -158,6 +231,13 @@ impl Default for NameId {
     }
 }
 
+/// <details><summary>Contract</summary>
+///
+/// ```text
+/// ghost from_gives = { λ number id. name_number id ≡ number };
+/// ```
+/// [`name_number`]
+/// </details>
 impl From<u16> for NameId {
     #[inline]
     fn from(number: u16) -> NameId {
@@ -165,6 +245,13 @@ impl From<u16> for NameId {
     }
 }
 
+/// <details><summary>Contract</summary>
+///
+/// ```text
+/// ghost from_gives = { λ id number. number ≡ name_number id };
+/// ```
+/// [`name_number`]
+/// </details>
 impl From<NameId> for u16 {
     #[inline]
     fn from(id: NameId) -> u16 {
@@ -173,6 +260,14 @@ impl From<NameId> for u16 {
 }
 
 /// Writes the name of the constant, or [`NameId`] and the number.
+///
+/// <details><summary>Contract</summary>
+///
+/// ```text
+/// ghost debug_output = { λ id. Some (name_text (name_number id)) };
+/// ```
+/// [`name_text`], [`name_number`]
+/// </details>
 impl fmt::Debug for NameId {
     fn fmt(&self, f: &mut fmt::Formatter<'_>) -> fmt::Result {
         let name = match *self {
@@ -208,6 +303,14 @@ impl fmt::Debug for NameId {
 }
 
 /// Writes the name of the constant, or [`NameId`] and the number.
+///
+/// <details><summary>Contract</summary>
+///
+/// ```text
+/// ghost output = { λ id. Some (name_text (name_number id)) };
+/// ```
+/// [`name_text`], [`name_number`]
+/// </details>
 impl fmt::Display for NameId {
     fn fmt(&self, f: &mut fmt::Formatter<'_>) -> fmt::Result {
         fmt::Debug::fmt(self, f)
@@ -218,6 +321,15 @@ impl FixedSize for NameId {
     const RAW_BYTE_LEN: usize = 2;
 }
 
+/// <details><summary>Contract</summary>
+///
+/// ```text
+/// ghost is_scalar = { λ id. nat_lt (name_number id) (2 ^ 16) };
+/// ghost of_raw = { λ raw. name_id_of (numeral raw) };
+/// ghost raw_of = { λ id. bytes_of 2 (pos (name_number id)) };
+/// ```
+/// [`name_number`], [`name_id_of`], [`numeral`], [`bytes_of`]
+/// </details>
 impl Scalar for NameId {
     type Raw = [u8; 2];
 
@@ -247,6 +359,14 @@ pub struct Predefined {
     next: u16,
 }
 
+/// <details><summary>Contract</summary>
+///
+/// ```text
+/// ghost next_gives = { YieldsFirst predefined_left };
+/// ghost remaining = { item_count predefined_left };
+/// ```
+/// [`predefined_left`]
+/// </details>
 impl Iterator for Predefined {
     type Item = NameId;
 

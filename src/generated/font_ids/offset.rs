@@ -1,6 +1,33 @@
-// @generated from crates/font_ids/src/offset.rt by tools/src/bin/erase.rs
+// @generated from crates/font_ids/src/offset.rt by tools/erase
 
 //! Offsets to tables.
+
+#[cfg(doc)]
+use crate::definitions::font_base::Bytes::bytes_of;
+#[cfg(doc)]
+use crate::definitions::font_base::Bytes::numeral;
+#[cfg(doc)]
+use crate::definitions::font_base::Uint24::bytes_of_uint24;
+#[cfg(doc)]
+use crate::definitions::font_base::Uint24::uint24_number;
+#[cfg(doc)]
+use crate::definitions::font_base::Uint24::uint24_of_bytes;
+#[cfg(doc)]
+use crate::definitions::font_ids::Offset::nullable_of;
+#[cfg(doc)]
+use crate::definitions::font_ids::Offset::nullable_offset;
+#[cfg(doc)]
+use crate::definitions::font_ids::Offset::offset16_number;
+#[cfg(doc)]
+use crate::definitions::font_ids::Offset::offset16_of;
+#[cfg(doc)]
+use crate::definitions::font_ids::Offset::offset24_number;
+#[cfg(doc)]
+use crate::definitions::font_ids::Offset::offset24_of;
+#[cfg(doc)]
+use crate::definitions::font_ids::Offset::offset32_number;
+#[cfg(doc)]
+use crate::definitions::font_ids::Offset::offset32_of;
 
 use crate::font_base::{FixedSize, IdentityEq, Scalar, Uint24};
 
@@ -18,6 +45,14 @@ pub struct Offset16(u16);
 
 impl Offset16 {
     /// Creates an offset.
+    ///
+    /// <details><summary>Contract</summary>
+    ///
+    /// ```text
+    /// ensures { offset16_number result ≡ raw }
+    /// ```
+    /// [`offset16_number`]
+    /// </details>
     #[must_use]
     #[inline]
     pub const fn new(raw: u16) -> Self {
@@ -25,6 +60,14 @@ impl Offset16 {
     }
 
     /// Returns `true` if the offset is zero.
+    ///
+    /// <details><summary>Contract</summary>
+    ///
+    /// ```text
+    /// ensures { IsTrue result ↔ (offset16_number self ≡ 0) }
+    /// ```
+    /// [`offset16_number`]
+    /// </details>
     #[must_use]
     #[inline]
     pub const fn is_null(self) -> bool {
@@ -32,6 +75,14 @@ impl Offset16 {
     }
 
     /// Returns the number.
+    ///
+    /// <details><summary>Contract</summary>
+    ///
+    /// ```text
+    /// ensures { result ≡ offset16_number self }
+    /// ```
+    /// [`offset16_number`]
+    /// </details>
     #[must_use]
     #[inline]
     pub const fn to_u32(self) -> u32 {
@@ -39,6 +90,14 @@ impl Offset16 {
     }
 
     /// Returns the number as an index.
+    ///
+    /// <details><summary>Contract</summary>
+    ///
+    /// ```text
+    /// ensures { result ≡ offset16_number self }
+    /// ```
+    /// [`offset16_number`]
+    /// </details>
     #[must_use]
     #[inline]
     pub const fn to_usize(self) -> usize {
@@ -50,6 +109,14 @@ impl Offset16 {
 #[doc(hidden)]
 impl Offset16 {
     /// Returns `true` if the offset is this number, as `==` does.
+    ///
+    /// <details><summary>Contract</summary>
+    ///
+    /// ```text
+    /// ensures { IsTrue result ↔ (offset16_number self.now ≡ other.now) }
+    /// ```
+    /// [`offset16_number`]
+    /// </details>
     #[must_use]
     #[inline]
     pub const fn eq_u32(&self, other: &u32) -> bool {
@@ -57,6 +124,13 @@ impl Offset16 {
     }
 }
 
+/// <details><summary>Contract</summary>
+///
+/// ```text
+/// ghost from_gives = { λ offset number. number ≡ offset16_number offset };
+/// ```
+/// [`offset16_number`]
+/// </details>
 impl From<Offset16> for usize {
     #[inline]
     fn from(offset: Offset16) -> usize {
@@ -68,6 +142,15 @@ impl FixedSize for Offset16 {
     const RAW_BYTE_LEN: usize = 2;
 }
 
+/// <details><summary>Contract</summary>
+///
+/// ```text
+/// ghost is_scalar = { λ offset. nat_lt (offset16_number offset) (2 ^ 16) };
+/// ghost of_raw = { λ raw. offset16_of (numeral raw) };
+/// ghost raw_of = { λ offset. bytes_of 2 (pos (offset16_number offset)) };
+/// ```
+/// [`offset16_number`], [`offset16_of`], [`numeral`], [`bytes_of`]
+/// </details>
 impl Scalar for Offset16 {
     type Raw = [u8; 2];
 
@@ -98,6 +181,14 @@ pub struct Offset24(Uint24);
 
 impl Offset24 {
     /// Creates an offset.
+    ///
+    /// <details><summary>Contract</summary>
+    ///
+    /// ```text
+    /// ensures { offset24_number result ≡ uint24_number raw }
+    /// ```
+    /// [`offset24_number`], [`uint24_number`]
+    /// </details>
     #[must_use]
     #[inline]
     pub const fn new(raw: Uint24) -> Self {
@@ -105,6 +196,14 @@ impl Offset24 {
     }
 
     /// Returns `true` if the offset is zero.
+    ///
+    /// <details><summary>Contract</summary>
+    ///
+    /// ```text
+    /// ensures { IsTrue result ↔ (offset24_number self ≡ 0) }
+    /// ```
+    /// [`offset24_number`]
+    /// </details>
     #[must_use]
     #[inline]
     pub const fn is_null(self) -> bool {
@@ -112,6 +211,14 @@ impl Offset24 {
     }
 
     /// Returns the number.
+    ///
+    /// <details><summary>Contract</summary>
+    ///
+    /// ```text
+    /// ensures { result ≡ offset24_number self }
+    /// ```
+    /// [`offset24_number`]
+    /// </details>
     #[must_use]
     #[inline]
     pub const fn to_u32(self) -> u32 {
@@ -119,6 +226,14 @@ impl Offset24 {
     }
 
     /// Returns the number as an index.
+    ///
+    /// <details><summary>Contract</summary>
+    ///
+    /// ```text
+    /// ensures { result ≡ offset24_number self }
+    /// ```
+    /// [`offset24_number`]
+    /// </details>
     #[must_use]
     #[inline]
     pub const fn to_usize(self) -> usize {
@@ -130,6 +245,14 @@ impl Offset24 {
 #[doc(hidden)]
 impl Offset24 {
     /// Returns `true` if the offset is this number, as `==` does.
+    ///
+    /// <details><summary>Contract</summary>
+    ///
+    /// ```text
+    /// ensures { IsTrue result ↔ (offset24_number self.now ≡ other.now) }
+    /// ```
+    /// [`offset24_number`]
+    /// </details>
     #[must_use]
     #[inline]
     pub const fn eq_u32(&self, other: &u32) -> bool {
@@ -137,6 +260,13 @@ impl Offset24 {
     }
 }
 
+/// <details><summary>Contract</summary>
+///
+/// ```text
+/// ghost from_gives = { λ offset number. number ≡ offset24_number offset };
+/// ```
+/// [`offset24_number`]
+/// </details>
 impl From<Offset24> for usize {
     #[inline]
     fn from(offset: Offset24) -> usize {
@@ -148,6 +278,15 @@ impl FixedSize for Offset24 {
     const RAW_BYTE_LEN: usize = 3;
 }
 
+/// <details><summary>Contract</summary>
+///
+/// ```text
+/// ghost is_scalar = { λ _. true };
+/// ghost of_raw = { λ raw. offset24_of (uint24_of_bytes raw) };
+/// ghost raw_of = { λ offset. bytes_of_uint24 offset.0 };
+/// ```
+/// [`offset24_of`], [`uint24_of_bytes`], [`bytes_of_uint24`]
+/// </details>
 impl Scalar for Offset24 {
     type Raw = [u8; 3];
 
@@ -178,6 +317,14 @@ pub struct Offset32(u32);
 
 impl Offset32 {
     /// Creates an offset.
+    ///
+    /// <details><summary>Contract</summary>
+    ///
+    /// ```text
+    /// ensures { offset32_number result ≡ raw }
+    /// ```
+    /// [`offset32_number`]
+    /// </details>
     #[must_use]
     #[inline]
     pub const fn new(raw: u32) -> Self {
@@ -185,6 +332,14 @@ impl Offset32 {
     }
 
     /// Returns `true` if the offset is zero.
+    ///
+    /// <details><summary>Contract</summary>
+    ///
+    /// ```text
+    /// ensures { IsTrue result ↔ (offset32_number self ≡ 0) }
+    /// ```
+    /// [`offset32_number`]
+    /// </details>
     #[must_use]
     #[inline]
     pub const fn is_null(self) -> bool {
@@ -192,6 +347,14 @@ impl Offset32 {
     }
 
     /// Returns the number.
+    ///
+    /// <details><summary>Contract</summary>
+    ///
+    /// ```text
+    /// ensures { result ≡ offset32_number self }
+    /// ```
+    /// [`offset32_number`]
+    /// </details>
     #[must_use]
     #[inline]
     pub const fn to_u32(self) -> u32 {
@@ -199,6 +362,14 @@ impl Offset32 {
     }
 
     /// Returns the number as an index.
+    ///
+    /// <details><summary>Contract</summary>
+    ///
+    /// ```text
+    /// ensures { result ≡ offset32_number self }
+    /// ```
+    /// [`offset32_number`]
+    /// </details>
     #[must_use]
     #[inline]
     pub const fn to_usize(self) -> usize {
@@ -210,6 +381,14 @@ impl Offset32 {
 #[doc(hidden)]
 impl Offset32 {
     /// Returns `true` if the offset is this number, as `==` does.
+    ///
+    /// <details><summary>Contract</summary>
+    ///
+    /// ```text
+    /// ensures { IsTrue result ↔ (offset32_number self.now ≡ other.now) }
+    /// ```
+    /// [`offset32_number`]
+    /// </details>
     #[must_use]
     #[inline]
     pub const fn eq_u32(&self, other: &u32) -> bool {
@@ -221,6 +400,15 @@ impl FixedSize for Offset32 {
     const RAW_BYTE_LEN: usize = 4;
 }
 
+/// <details><summary>Contract</summary>
+///
+/// ```text
+/// ghost is_scalar = { λ offset. nat_lt (offset32_number offset) (2 ^ 32) };
+/// ghost of_raw = { λ raw. offset32_of (numeral raw) };
+/// ghost raw_of = { λ offset. bytes_of 4 (pos (offset32_number offset)) };
+/// ```
+/// [`offset32_number`], [`offset32_of`], [`numeral`], [`bytes_of`]
+/// </details>
 impl Scalar for Offset32 {
     type Raw = [u8; 4];
 
@@ -246,11 +434,28 @@ impl IdentityEq for Offset32 {}
 /// - `NULL.value_u32()` is 0.
 ///
 /// The source and its contracts: `crates/font_ids/src/offset.rt`.
+///
+/// <details><summary>Contract</summary>
+///
+/// ```text
+/// // the number of the offset
+/// ghost number_of: { Self → ℕ };
+/// // Null is zero.
+/// ghost null_is_zero: { number_of NULL ≡ 0 };
+/// ```
+/// </details>
 pub trait OffsetValue: Copy {
     /// The null offset, 0.
     const NULL: Self;
 
     /// Returns the number.
+    ///
+    /// <details><summary>Contract</summary>
+    ///
+    /// ```text
+    /// ensures { result ≡ number_of self.now }
+    /// ```
+    /// </details>
     #[must_use]
     fn value_u32(&self) -> u32;
 
@@ -263,6 +468,13 @@ pub trait OffsetValue: Copy {
     /// }
     /// assert_eq!(rest::<font_types_proved::Offset16>(&[0, 3, 9, 8]), Some(&[8][..]));
     /// ```
+    ///
+    /// <details><summary>Contract</summary>
+    ///
+    /// ```text
+    /// ensures { result ≡ number_of self }
+    /// ```
+    /// </details>
     #[must_use]
     #[inline]
     fn to_usize(self) -> usize {
@@ -270,6 +482,13 @@ pub trait OffsetValue: Copy {
     }
 }
 
+/// <details><summary>Contract</summary>
+///
+/// ```text
+/// ghost number_of = { offset16_number };
+/// ```
+/// [`offset16_number`]
+/// </details>
 impl OffsetValue for Offset16 {
     const NULL: Offset16 = Offset16(0);
 
@@ -279,6 +498,13 @@ impl OffsetValue for Offset16 {
     }
 }
 
+/// <details><summary>Contract</summary>
+///
+/// ```text
+/// ghost number_of = { offset24_number };
+/// ```
+/// [`offset24_number`]
+/// </details>
 impl OffsetValue for Offset24 {
     const NULL: Offset24 = Offset24(Uint24::MIN);
 
@@ -288,6 +514,13 @@ impl OffsetValue for Offset24 {
     }
 }
 
+/// <details><summary>Contract</summary>
+///
+/// ```text
+/// ghost number_of = { offset32_number };
+/// ```
+/// [`offset32_number`]
+/// </details>
 impl OffsetValue for Offset32 {
     const NULL: Offset32 = Offset32(0);
 
@@ -310,6 +543,14 @@ pub struct Nullable<T>(T);
 
 impl<T> Nullable<T> {
     /// Returns the offset, whether null or not.
+    ///
+    /// <details><summary>Contract</summary>
+    ///
+    /// ```text
+    /// ensures { result.now ≡ nullable_offset self.now }
+    /// ```
+    /// [`nullable_offset`]
+    /// </details>
     #[must_use]
     #[inline]
     pub const fn offset(&self) -> &T {
@@ -319,6 +560,14 @@ impl<T> Nullable<T> {
 
 impl<T: OffsetValue> Nullable<T> {
     /// Returns `true` if the offset is zero.
+    ///
+    /// <details><summary>Contract</summary>
+    ///
+    /// ```text
+    /// ensures { IsTrue result ↔ (T.number_of (nullable_offset self.now) ≡ 0) }
+    /// ```
+    /// [`nullable_offset`]
+    /// </details>
     #[must_use]
     #[inline]
     pub fn is_null(&self) -> bool {
@@ -326,6 +575,15 @@ impl<T: OffsetValue> Nullable<T> {
     }
 
     /// Returns the offset, or `None` if it is null.
+    ///
+    /// <details><summary>Contract</summary>
+    ///
+    /// ```text
+    /// ensures variant { IsNone result ↔ (T.number_of (nullable_offset self) ≡ 0) }
+    /// ensures value { IfSome result (λ offset. offset ≡ nullable_offset self) }
+    /// ```
+    /// [`nullable_offset`]
+    /// </details>
     #[must_use]
     #[inline]
     pub fn get(self) -> Option<T> {
@@ -337,6 +595,14 @@ impl<T: OffsetValue> Nullable<T> {
 #[doc(hidden)]
 impl<T: OffsetValue> Nullable<T> {
     /// Returns `true` if the offset is this number, as `==` does.
+    ///
+    /// <details><summary>Contract</summary>
+    ///
+    /// ```text
+    /// ensures { IsTrue result ↔ (T.number_of (nullable_offset self.now) ≡ other.now) }
+    /// ```
+    /// [`nullable_offset`]
+    /// </details>
     #[must_use]
     #[inline]
     pub fn eq_u32(&self, other: &u32) -> bool {
@@ -345,6 +611,14 @@ impl<T: OffsetValue> Nullable<T> {
 }
 
 /// Null.
+///
+/// <details><summary>Contract</summary>
+///
+/// ```text
+/// ghost is_default = { λ nullable. nullable_offset nullable ≡ T.NULL };
+/// ```
+/// [`nullable_offset`]
+/// </details>
 impl<T: OffsetValue> Default for Nullable<T> {
     #[inline]
     fn default() -> Nullable<T> {
@@ -356,6 +630,15 @@ impl<T: FixedSize> FixedSize for Nullable<T> {
     const RAW_BYTE_LEN: usize = T::RAW_BYTE_LEN;
 }
 
+/// <details><summary>Contract</summary>
+///
+/// ```text
+/// ghost is_scalar = { λ nullable. T.is_scalar (nullable_offset nullable) };
+/// ghost of_raw = { λ raw. nullable_of (T.of_raw raw) };
+/// ghost raw_of = { λ nullable. T.raw_of (nullable_offset nullable) };
+/// ```
+/// [`nullable_offset`], [`nullable_of`]
+/// </details>
 impl<T: Scalar> Scalar for Nullable<T> {
     type Raw = T::Raw;
 

@@ -1,6 +1,17 @@
-// @generated from crates/font_tags/src/longdatetime.rt by tools/src/bin/erase.rs
+// @generated from crates/font_tags/src/longdatetime.rt by tools/erase
 
 //! Dates and times.
+
+#[cfg(doc)]
+use crate::definitions::font_base::Bytes::bytes_of;
+#[cfg(doc)]
+use crate::definitions::font_base::Bytes::signed_numeral;
+#[cfg(doc)]
+use crate::definitions::font_base::Wrap::fits_bits;
+#[cfg(doc)]
+use crate::definitions::font_tags::LongDateTime::date_of;
+#[cfg(doc)]
+use crate::definitions::font_tags::LongDateTime::date_seconds;
 
 use crate::font_base::{FixedSize, IdentityEq, Scalar};
 
@@ -18,6 +29,14 @@ pub struct LongDateTime(i64);
 
 impl LongDateTime {
     /// Creates a date from seconds since 1904-01-01 00:00 UTC.
+    ///
+    /// <details><summary>Contract</summary>
+    ///
+    /// ```text
+    /// ensures { date_seconds result ≡ secs }
+    /// ```
+    /// [`date_seconds`]
+    /// </details>
     #[must_use]
     #[inline]
     pub const fn new(secs: i64) -> Self {
@@ -25,6 +44,14 @@ impl LongDateTime {
     }
 
     /// Returns the seconds since 1904-01-01 00:00 UTC.
+    ///
+    /// <details><summary>Contract</summary>
+    ///
+    /// ```text
+    /// ensures { result ≡ date_seconds self.now }
+    /// ```
+    /// [`date_seconds`]
+    /// </details>
     #[must_use]
     #[inline]
     pub const fn as_secs(&self) -> i64 {
@@ -32,6 +59,14 @@ impl LongDateTime {
     }
 
     /// Returns the seconds as big-endian bytes.
+    ///
+    /// <details><summary>Contract</summary>
+    ///
+    /// ```text
+    /// ensures { result ≡ bytes_of 8 (date_seconds self) }
+    /// ```
+    /// [`bytes_of`], [`date_seconds`]
+    /// </details>
     #[must_use]
     #[inline]
     pub const fn to_be_bytes(self) -> [u8; 8] {
@@ -43,6 +78,15 @@ impl FixedSize for LongDateTime {
     const RAW_BYTE_LEN: usize = 8;
 }
 
+/// <details><summary>Contract</summary>
+///
+/// ```text
+/// ghost is_scalar = { λ date. fits_bits 64 (date_seconds date) };
+/// ghost of_raw = { λ raw. date_of (signed_numeral 8 raw) };
+/// ghost raw_of = { λ date. bytes_of 8 (date_seconds date) };
+/// ```
+/// [`fits_bits`], [`date_seconds`], [`date_of`], [`signed_numeral`], [`bytes_of`]
+/// </details>
 impl Scalar for LongDateTime {
     type Raw = [u8; 8];
 

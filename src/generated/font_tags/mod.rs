@@ -1,4 +1,4 @@
-// @generated from crates/font_tags/src/lib.rt by tools/src/bin/erase.rs
+// @generated from crates/font_tags/src/lib.rt by tools/erase
 
 //! Tags, versions and dates of font files.
 //!

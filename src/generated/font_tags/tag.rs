@@ -1,6 +1,29 @@
-// @generated from crates/font_tags/src/tag.rt by tools/src/bin/erase.rs
+// @generated from crates/font_tags/src/tag.rt by tools/erase
 
 //! Four-byte tags.
+
+#[cfg(doc)]
+use crate::definitions::font_base::Bytes::are_bytes;
+#[cfg(doc)]
+use crate::definitions::font_base::Bytes::bytes_of;
+#[cfg(doc)]
+use crate::definitions::font_base::Bytes::numeral;
+#[cfg(doc)]
+use crate::definitions::font_tags::Tag::IsAcceptable;
+#[cfg(doc)]
+use crate::definitions::font_tags::Tag::IsChecked;
+#[cfg(doc)]
+use crate::definitions::font_tags::Tag::IsGood;
+#[cfg(doc)]
+use crate::definitions::font_tags::Tag::IsValidated;
+#[cfg(doc)]
+use crate::definitions::font_tags::Tag::four_spaces;
+#[cfg(doc)]
+use crate::definitions::font_tags::Tag::tag_bytes;
+#[cfg(doc)]
+use crate::definitions::font_tags::Tag::tag_of;
+#[cfg(doc)]
+use crate::definitions::font_tags::Tag::tag_text;
 
 use crate::font_base::{FixedSize, IdentityEq, Scalar};
 use core::cmp::Ordering;
@@ -28,6 +51,14 @@ pub struct Tag([u8; 4]);
 
 impl Tag {
     /// Creates a tag from four bytes, without validation.
+    ///
+    /// <details><summary>Contract</summary>
+    ///
+    /// ```text
+    /// ensures { tag_bytes result ≡ src.now }
+    /// ```
+    /// [`tag_bytes`]
+    /// </details>
     #[must_use]
     #[inline]
     pub const fn new(src: &[u8; 4]) -> Self {
@@ -43,6 +74,16 @@ impl Tag {
     /// Returns `InvalidLength` unless there are one to four bytes. Any other error is
     /// `InvalidByte` at the first byte that cannot be there: a space at the start, a byte that is
     /// not printable ASCII, or a printable byte after a space.
+    ///
+    /// <details><summary>Contract</summary>
+    ///
+    /// ```text
+    /// ensures judged { IsChecked src.now result }
+    /// ensures ok { IsOk result ↔ IsAcceptable src.now }
+    /// ensures valid { IfOk result (λ tag. IsGood (tag_bytes tag)) }
+    /// ```
+    /// [`IsChecked`], [`IsAcceptable`], [`IsGood`], [`tag_bytes`]
+    /// </details>
     #[inline]
     pub const fn new_checked(src: &[u8]) -> Result<Self, InvalidTag> {
         let bytes = match *src {
@@ -53,15 +94,20 @@ impl Tag {
             _ => return Err(InvalidTag::InvalidLength(src.len())),
         };
         if let Some(pos) = first_fault(src) {
-            return Err(InvalidTag::InvalidByte {
-                pos,
-                byte: src[pos],
-            });
+            return Err(InvalidTag::InvalidByte { pos, byte: src[pos] });
         }
         Ok(Self(bytes))
     }
 
     /// Creates a tag from the big-endian bytes of a number.
+    ///
+    /// <details><summary>Contract</summary>
+    ///
+    /// ```text
+    /// ensures { tag_bytes result ≡ bytes_of 4 (pos src) }
+    /// ```
+    /// [`tag_bytes`], [`bytes_of`]
+    /// </details>
     #[must_use]
     #[inline]
     pub const fn from_u32(src: u32) -> Self {
@@ -69,6 +115,14 @@ impl Tag {
     }
 
     /// Returns the number whose big-endian bytes are those of the tag.
+    ///
+    /// <details><summary>Contract</summary>
+    ///
+    /// ```text
+    /// ensures { result ≡ numeral (tag_bytes self) }
+    /// ```
+    /// [`numeral`], [`tag_bytes`]
+    /// </details>
     #[must_use]
     #[inline]
     pub const fn to_u32(self) -> u32 {
@@ -76,6 +130,14 @@ impl Tag {
     }
 
     /// Creates a tag from four bytes, without validation.
+    ///
+    /// <details><summary>Contract</summary>
+    ///
+    /// ```text
+    /// ensures { tag_bytes result ≡ bytes }
+    /// ```
+    /// [`tag_bytes`]
+    /// </details>
     #[must_use]
     #[inline]
     pub const fn from_be_bytes(bytes: [u8; 4]) -> Self {
@@ -83,6 +145,14 @@ impl Tag {
     }
 
     /// Returns the four bytes.
+    ///
+    /// <details><summary>Contract</summary>
+    ///
+    /// ```text
+    /// ensures { result ≡ tag_bytes self }
+    /// ```
+    /// [`tag_bytes`]
+    /// </details>
     #[must_use]
     #[inline]
     pub const fn to_be_bytes(self) -> [u8; 4] {
@@ -90,6 +160,14 @@ impl Tag {
     }
 
     /// Returns the four bytes.
+    ///
+    /// <details><summary>Contract</summary>
+    ///
+    /// ```text
+    /// ensures { result ≡ tag_bytes self }
+    /// ```
+    /// [`tag_bytes`]
+    /// </details>
     #[must_use]
     #[inline]
     pub const fn into_bytes(self) -> [u8; 4] {
@@ -97,6 +175,14 @@ impl Tag {
     }
 
     /// Returns the four bytes.
+    ///
+    /// <details><summary>Contract</summary>
+    ///
+    /// ```text
+    /// ensures { result.now ≡ tag_bytes self.now }
+    /// ```
+    /// [`tag_bytes`]
+    /// </details>
     #[must_use]
     #[inline]
     pub const fn as_bytes(&self) -> &[u8; 4] {
@@ -110,6 +196,15 @@ impl Tag {
     /// Returns `InvalidLength(0)` for four spaces. Otherwise the error is of the first byte that
     /// cannot be there: `ByteAfterSpace` for a printable byte after a space, and `InvalidByte` for
     /// a space at the start or a byte that is not printable ASCII.
+    ///
+    /// <details><summary>Contract</summary>
+    ///
+    /// ```text
+    /// ensures judged { IsValidated (tag_bytes self) result }
+    /// ensures ok { IsOk result ↔ IsGood (tag_bytes self) }
+    /// ```
+    /// [`IsValidated`], [`tag_bytes`], [`IsGood`]
+    /// </details>
     #[inline]
     pub fn validate(self) -> Result<(), InvalidTag> {
         if self.eq_bytes(&[b' '; 4]) {
@@ -118,10 +213,7 @@ impl Tag {
         match first_fault(&self.0) {
             None => Ok(()),
             Some(pos) if self.0[pos].is_ascii_graphic() => Err(InvalidTag::ByteAfterSpace { pos }),
-            Some(pos) => Err(InvalidTag::InvalidByte {
-                pos,
-                byte: self.0[pos],
-            }),
+            Some(pos) => Err(InvalidTag::InvalidByte { pos, byte: self.0[pos] }),
         }
     }
 }
@@ -130,6 +222,14 @@ impl Tag {
 #[doc(hidden)]
 impl Tag {
     /// Returns `true` if the tag has these bytes, as `==` does.
+    ///
+    /// <details><summary>Contract</summary>
+    ///
+    /// ```text
+    /// ensures { IsTrue result ↔ (tag_bytes self.now ≡ other.now) }
+    /// ```
+    /// [`tag_bytes`]
+    /// </details>
     #[must_use]
     #[inline]
     pub fn eq_bytes(&self, other: &[u8; 4]) -> bool {
@@ -137,6 +237,14 @@ impl Tag {
     }
 
     /// Returns `true` if the tag has the bytes of this string, as `==` does.
+    ///
+    /// <details><summary>Contract</summary>
+    ///
+    /// ```text
+    /// ensures { IsTrue result ↔ (tag_bytes self.now ≡ other.now) }
+    /// ```
+    /// [`tag_bytes`]
+    /// </details>
     #[must_use]
     #[inline]
     pub fn eq_str(&self, other: &str) -> bool {
@@ -144,6 +252,14 @@ impl Tag {
     }
 
     /// Returns `true` if the tag has the bytes of this slice, as `==` does.
+    ///
+    /// <details><summary>Contract</summary>
+    ///
+    /// ```text
+    /// ensures { IsTrue result ↔ (tag_bytes self.now ≡ other.now) }
+    /// ```
+    /// [`tag_bytes`]
+    /// </details>
     #[must_use]
     #[inline]
     pub fn eq_slice(&self, other: &[u8]) -> bool {
@@ -225,6 +341,15 @@ impl core::fmt::Display for InvalidTag {
     }
 }
 
+impl Copy for InvalidTag {}
+
+/// <details><summary>Contract</summary>
+///
+/// ```text
+/// ghost partial_cmp = { λ a b. Some (slice_cmp nat_cmp (tag_bytes a) (tag_bytes b)) };
+/// ```
+/// [`tag_bytes`]
+/// </details>
 impl PartialOrd for Tag {
     #[inline]
     fn partial_cmp(&self, other: &Tag) -> Option<Ordering> {
@@ -232,6 +357,13 @@ impl PartialOrd for Tag {
     }
 }
 
+/// <details><summary>Contract</summary>
+///
+/// ```text
+/// ghost cmp = { on tag_bytes (slice_cmp nat_cmp) };
+/// ```
+/// [`tag_bytes`]
+/// </details>
 impl Ord for Tag {
     #[inline]
     fn cmp(&self, other: &Tag) -> Ordering {
@@ -240,6 +372,14 @@ impl Ord for Tag {
 }
 
 /// Parses as `new_checked` does, of the bytes of the text.
+///
+/// <details><summary>Contract</summary>
+///
+/// ```text
+/// ghost from_str_gives = { IsChecked };
+/// ```
+/// [`IsChecked`]
+/// </details>
 impl FromStr for Tag {
     type Err = InvalidTag;
 
@@ -250,6 +390,14 @@ impl FromStr for Tag {
 }
 
 /// Four spaces.
+///
+/// <details><summary>Contract</summary>
+///
+/// ```text
+/// ghost is_default = { λ tag. tag_bytes tag ≡ four_spaces };
+/// ```
+/// [`tag_bytes`], [`four_spaces`]
+/// </details>
 impl Default for Tag {
     #[inline]
     fn default() -> Tag {
@@ -257,6 +405,13 @@ impl Default for Tag {
     }
 }
 
+/// <details><summary>Contract</summary>
+///
+/// ```text
+/// ghost output = { λ tag. Some (tag_text (tag_bytes tag)) };
+/// ```
+/// [`tag_text`], [`tag_bytes`]
+/// </details>
 impl fmt::Display for Tag {
     fn fmt(&self, f: &mut fmt::Formatter<'_>) -> fmt::Result {
         for byte in &self.0 {
@@ -274,6 +429,13 @@ fn write_byte(f: &mut fmt::Formatter<'_>, byte: u8) -> fmt::Result {
     }
 }
 
+/// <details><summary>Contract</summary>
+///
+/// ```text
+/// ghost debug_output = { λ tag. Some (codes "Tag(" ++ tag_text (tag_bytes tag) ++ codes ")") };
+/// ```
+/// [`tag_text`], [`tag_bytes`]
+/// </details>
 impl fmt::Debug for Tag {
     fn fmt(&self, f: &mut fmt::Formatter<'_>) -> fmt::Result {
         write!(f, "Tag({self})")
@@ -284,6 +446,15 @@ impl FixedSize for Tag {
     const RAW_BYTE_LEN: usize = 4;
 }
 
+/// <details><summary>Contract</summary>
+///
+/// ```text
+/// ghost is_scalar = { λ tag. are_bytes 4 (tag_bytes tag) };
+/// ghost of_raw = { tag_of };
+/// ghost raw_of = { tag_bytes };
+/// ```
+/// [`are_bytes`], [`tag_bytes`], [`tag_of`]
+/// </details>
 impl Scalar for Tag {
     type Raw = [u8; 4];
 

@@ -1,6 +1,31 @@
-// @generated from crates/font_tags/src/version.rt by tools/src/bin/erase.rs
+// @generated from crates/font_tags/src/version.rt by tools/erase
 
 //! Table versions.
+
+#[cfg(doc)]
+use crate::definitions::font_base::Bytes::bytes_of;
+#[cfg(doc)]
+use crate::definitions::font_base::Bytes::numeral;
+#[cfg(doc)]
+use crate::definitions::font_tags::Version::IsCompatible;
+#[cfg(doc)]
+use crate::definitions::font_tags::Version::hex_text;
+#[cfg(doc)]
+use crate::definitions::font_tags::Version::major_minor_bytes;
+#[cfg(doc)]
+use crate::definitions::font_tags::Version::major_minor_of;
+#[cfg(doc)]
+use crate::definitions::font_tags::Version::packed_version;
+#[cfg(doc)]
+use crate::definitions::font_tags::Version::version_bits;
+#[cfg(doc)]
+use crate::definitions::font_tags::Version::version_major;
+#[cfg(doc)]
+use crate::definitions::font_tags::Version::version_minor;
+#[cfg(doc)]
+use crate::definitions::font_tags::Version::version_of;
+#[cfg(doc)]
+use crate::definitions::font_tags::Version::version_text;
 
 use crate::font_base::{FixedSize, IdentityEq, Scalar};
 use core::fmt;
@@ -41,6 +66,14 @@ impl Version16Dot16 {
     pub const VERSION_3_0: Self = Self(0x0003_0000);
 
     /// Creates a version. A minor number above 9 counts as 9.
+    ///
+    /// <details><summary>Contract</summary>
+    ///
+    /// ```text
+    /// ensures { version_bits result ≡ packed_version major minor }
+    /// ```
+    /// [`version_bits`], [`packed_version`]
+    /// </details>
     #[must_use]
     #[inline]
     pub const fn new(major: u16, minor: u16) -> Self {
@@ -50,16 +83,30 @@ impl Version16Dot16 {
 
     /// Returns the major and minor numbers. The minor number can be up to 15 unless the version was
     /// created by `new`.
+    ///
+    /// <details><summary>Contract</summary>
+    ///
+    /// ```text
+    /// ensures major { result.0 ≡ version_major self }
+    /// ensures minor { result.1 ≡ version_minor self }
+    /// ```
+    /// [`version_major`], [`version_minor`]
+    /// </details>
     #[must_use]
     #[inline]
     pub const fn to_major_minor(self) -> (u16, u16) {
-        (
-            (self.0 / 0x1_0000) as u16,
-            (self.0 % 0x1_0000 / 0x1000) as u16,
-        )
+        ((self.0 / 0x1_0000) as u16, (self.0 % 0x1_0000 / 0x1000) as u16)
     }
 
     /// Returns the big-endian bytes.
+    ///
+    /// <details><summary>Contract</summary>
+    ///
+    /// ```text
+    /// ensures { result ≡ bytes_of 4 (pos (version_bits self)) }
+    /// ```
+    /// [`bytes_of`], [`version_bits`]
+    /// </details>
     #[must_use]
     #[inline]
     pub const fn to_be_bytes(self) -> [u8; 4] {
@@ -67,6 +114,14 @@ impl Version16Dot16 {
     }
 }
 
+/// <details><summary>Contract</summary>
+///
+/// ```text
+/// ghost output = { λ version.
+///     Some (version_text (version_major version) (version_minor version)) };
+/// ```
+/// [`version_text`], [`version_major`], [`version_minor`]
+/// </details>
 impl fmt::Display for Version16Dot16 {
     fn fmt(&self, f: &mut fmt::Formatter<'_>) -> fmt::Result {
         let (major, minor) = self.to_major_minor();
@@ -74,6 +129,14 @@ impl fmt::Display for Version16Dot16 {
     }
 }
 
+/// <details><summary>Contract</summary>
+///
+/// ```text
+/// ghost debug_output = { λ version.
+///     Some (codes "Version16Dot16(" ++ hex_text (version_bits version) ++ codes ")") };
+/// ```
+/// [`hex_text`], [`version_bits`]
+/// </details>
 impl fmt::Debug for Version16Dot16 {
     fn fmt(&self, f: &mut fmt::Formatter<'_>) -> fmt::Result {
         write!(f, "Version16Dot16({:08x})", self.0)
@@ -84,6 +147,15 @@ impl FixedSize for Version16Dot16 {
     const RAW_BYTE_LEN: usize = 4;
 }
 
+/// <details><summary>Contract</summary>
+///
+/// ```text
+/// ghost is_scalar = { λ version. nat_lt (version_bits version) (2 ^ 32) };
+/// ghost of_raw = { λ raw. version_of (numeral raw) };
+/// ghost raw_of = { λ version. bytes_of 4 (pos (version_bits version)) };
+/// ```
+/// [`version_bits`], [`version_of`], [`numeral`], [`bytes_of`]
+/// </details>
 impl Scalar for Version16Dot16 {
     type Raw = [u8; 4];
 
@@ -134,6 +206,14 @@ impl MajorMinor {
     pub const VERSION_2_0: Self = MajorMinor { major: 2, minor: 0 };
 
     /// Creates a version.
+    ///
+    /// <details><summary>Contract</summary>
+    ///
+    /// ```text
+    /// ensures major { result.major ≡ major }
+    /// ensures minor { result.minor ≡ minor }
+    /// ```
+    /// </details>
     #[must_use]
     #[inline]
     pub const fn new(major: u16, minor: u16) -> Self {
@@ -141,6 +221,14 @@ impl MajorMinor {
     }
 
     /// Returns the big-endian bytes, the major number first.
+    ///
+    /// <details><summary>Contract</summary>
+    ///
+    /// ```text
+    /// ensures { result ≡ bytes_of 2 (pos self.major) ++ bytes_of 2 (pos self.minor) }
+    /// ```
+    /// [`bytes_of`]
+    /// </details>
     #[must_use]
     #[inline]
     pub const fn to_be_bytes(self) -> [u8; 4] {
@@ -150,6 +238,13 @@ impl MajorMinor {
     }
 }
 
+/// <details><summary>Contract</summary>
+///
+/// ```text
+/// ghost output = { λ version. Some (version_text version.major version.minor) };
+/// ```
+/// [`version_text`]
+/// </details>
 impl fmt::Display for MajorMinor {
     fn fmt(&self, f: &mut fmt::Formatter<'_>) -> fmt::Result {
         let MajorMinor { major, minor } = self;
@@ -161,16 +256,22 @@ impl FixedSize for MajorMinor {
     const RAW_BYTE_LEN: usize = 4;
 }
 
+/// <details><summary>Contract</summary>
+///
+/// ```text
+/// ghost is_scalar = { λ version. nat_lt version.major (2 ^ 16) && nat_lt version.minor (2 ^ 16) };
+/// ghost of_raw = { major_minor_of };
+/// ghost raw_of = { major_minor_bytes };
+/// ```
+/// [`major_minor_of`], [`major_minor_bytes`]
+/// </details>
 impl Scalar for MajorMinor {
     type Raw = [u8; 4];
 
     #[inline]
     fn from_raw(raw: [u8; 4]) -> MajorMinor {
         let [a, b, c, d] = raw;
-        MajorMinor {
-            major: u16::from_raw([a, b]),
-            minor: u16::from_raw([c, d]),
-        }
+        MajorMinor { major: u16::from_raw([a, b]), minor: u16::from_raw([c, d]) }
     }
 
     #[inline]
@@ -200,12 +301,35 @@ impl IdentityEq for MajorMinor {}
 /// ```
 ///
 /// The source and its contracts: `crates/font_tags/src/version.rt`.
+///
+/// <details><summary>Contract</summary>
+///
+/// ```text
+/// // every field that a reader of the other version needs is present
+/// ghost is_compatible: { Self → Rhs → Type 0 };
+/// ```
+/// </details>
 pub trait Compatible<Rhs = Self>: Sized {
     /// Returns `true` if the major numbers are equal and this minor number is at least the other's.
+    ///
+    /// <details><summary>Contract</summary>
+    ///
+    /// ```text
+    /// ensures { IsTrue result ↔ is_compatible self.now other }
+    /// ```
+    /// </details>
     #[must_use]
     fn compatible(&self, other: Rhs) -> bool;
 }
 
+/// <details><summary>Contract</summary>
+///
+/// ```text
+/// ghost is_compatible = { λ version other. IsCompatible (version_major version)
+///     (version_minor version) (version_major other) (version_minor other) };
+/// ```
+/// [`IsCompatible`], [`version_major`], [`version_minor`]
+/// </details>
 impl Compatible<Version16Dot16> for Version16Dot16 {
     #[inline]
     fn compatible(&self, other: Version16Dot16) -> bool {
@@ -216,6 +340,15 @@ impl Compatible<Version16Dot16> for Version16Dot16 {
 }
 
 /// A minor number above 9 counts as 9.
+///
+/// <details><summary>Contract</summary>
+///
+/// ```text
+/// ghost is_compatible = { λ version other.
+///     IsCompatible (version_major version) (version_minor version) other.0 (min other.1 9) };
+/// ```
+/// [`IsCompatible`], [`version_major`], [`version_minor`]
+/// </details>
 impl Compatible<(u16, u16)> for Version16Dot16 {
     #[inline]
     fn compatible(&self, other: (u16, u16)) -> bool {
@@ -223,6 +356,14 @@ impl Compatible<(u16, u16)> for Version16Dot16 {
     }
 }
 
+/// <details><summary>Contract</summary>
+///
+/// ```text
+/// ghost is_compatible = { λ version other.
+///     IsCompatible version.major version.minor other.major other.minor };
+/// ```
+/// [`IsCompatible`]
+/// </details>
 impl Compatible<MajorMinor> for MajorMinor {
     #[inline]
     fn compatible(&self, other: MajorMinor) -> bool {
@@ -230,6 +371,14 @@ impl Compatible<MajorMinor> for MajorMinor {
     }
 }
 
+/// <details><summary>Contract</summary>
+///
+/// ```text
+/// ghost is_compatible = { λ version other.
+///     IsCompatible version.major version.minor other.0 other.1 };
+/// ```
+/// [`IsCompatible`]
+/// </details>
 impl Compatible<(u16, u16)> for MajorMinor {
     #[inline]
     fn compatible(&self, other: (u16, u16)) -> bool {
@@ -238,6 +387,13 @@ impl Compatible<(u16, u16)> for MajorMinor {
 }
 
 /// A version of one number is compatible if it is at least the other.
+///
+/// <details><summary>Contract</summary>
+///
+/// ```text
+/// ghost is_compatible = { λ version other. other ≤ version };
+/// ```
+/// </details>
 impl Compatible<u16> for u16 {
     #[inline]
     fn compatible(&self, other: u16) -> bool {

@@ -1,6 +1,23 @@
-// @generated from crates/font_types/src/delta.rt by tools/src/bin/erase.rs
+// @generated from crates/font_types/src/delta.rt by tools/erase
 
 //! Sums of deltas.
+
+#[cfg(doc)]
+use crate::definitions::font_base::Wrap::FitsBits;
+#[cfg(doc)]
+use crate::definitions::font_base::Wrap::wrap;
+#[cfg(doc)]
+use crate::definitions::font_fixed::F48Dot16::f48dot16_bits;
+#[cfg(doc)]
+use crate::definitions::font_fixed::Fixed::fixed_bits;
+#[cfg(doc)]
+use crate::definitions::font_fixed::Operations::WrapsTo;
+#[cfg(doc)]
+use crate::definitions::font_ids::FWord::fword_number;
+#[cfg(doc)]
+use crate::definitions::font_types::Delta::exact_sum;
+#[cfg(doc)]
+use crate::definitions::font_types::DeltaSum::steps_of;
 
 use crate::font_fixed::{F48Dot16, Fixed};
 use crate::font_ids::FWord;
@@ -27,6 +44,14 @@ pub struct DeltaSum {
 
 impl DeltaSum {
     /// Creates an empty sum, 0.
+    ///
+    /// <details><summary>Contract</summary>
+    ///
+    /// ```text
+    /// ensures { steps_of result ≡ pos 0 }
+    /// ```
+    /// [`steps_of`]
+    /// </details>
     #[must_use]
     #[inline]
     pub const fn new() -> DeltaSum {
@@ -34,6 +59,20 @@ impl DeltaSum {
     }
 
     /// Adds the product of a scalar and a delta in font units.
+    ///
+    /// <details><summary>Contract</summary>
+    ///
+    /// ```text
+    /// ensures wrapped { steps_of self.new
+    ///     ≡ wrap 128 (steps_of self.old +ℤ fixed_bits scalar *ℤ delta) }
+    /// ensures exact { FitsBits 128 (steps_of self.old +ℤ fixed_bits scalar *ℤ delta)
+    ///     → steps_of self.new ≡ (steps_of self.old +ℤ fixed_bits scalar *ℤ delta) }
+    /// ensures small { unsigned_abs (steps_of self.old) ≤ 2 ^ 126
+    ///     → (steps_of self.new ≡ (steps_of self.old +ℤ fixed_bits scalar *ℤ delta))
+    ///     × (unsigned_abs (steps_of self.new) ≤ unsigned_abs (steps_of self.old) + 2 ^ 62) }
+    /// ```
+    /// [`steps_of`], [`wrap`], [`fixed_bits`], [`FitsBits`]
+    /// </details>
     #[inline]
     pub fn add(&mut self, scalar: Fixed, delta: i32) {
         let product = scalar.mul_i32(delta);
@@ -48,6 +87,14 @@ impl DeltaSum {
     }
 
     /// Returns the sum, wrapped to 64 bits.
+    ///
+    /// <details><summary>Contract</summary>
+    ///
+    /// ```text
+    /// ensures { f48dot16_bits result ≡ wrap 64 (steps_of self) }
+    /// ```
+    /// [`f48dot16_bits`], [`wrap`], [`steps_of`]
+    /// </details>
     #[must_use]
     #[inline]
     pub const fn finish(self) -> F48Dot16 {
@@ -55,6 +102,15 @@ impl DeltaSum {
     }
 
     /// Returns the sum, as it is modulo `2^128`, or `None` if that does not fit in 64 bits.
+    ///
+    /// <details><summary>Contract</summary>
+    ///
+    /// ```text
+    /// ensures variant { IsSome result ↔ FitsBits 64 (steps_of self) }
+    /// ensures value { IfSome result (λ sum. f48dot16_bits sum ≡ steps_of self) }
+    /// ```
+    /// [`FitsBits`], [`steps_of`], [`f48dot16_bits`]
+    /// </details>
     #[must_use]
     #[inline]
     pub fn checked_finish(self) -> Option<F48Dot16> {
@@ -64,6 +120,14 @@ impl DeltaSum {
 }
 
 /// Adds the sum of other terms, modulo `2^128`.
+///
+/// <details><summary>Contract</summary>
+///
+/// ```text
+/// ghost add_assign_gives = { λ x y sum. WrapsTo 128 (steps_of x +ℤ steps_of y) (steps_of sum) };
+/// ```
+/// [`WrapsTo`], [`steps_of`]
+/// </details>
 impl AddAssign for DeltaSum {
     #[inline]
     fn add_assign(&mut self, other: DeltaSum) {
@@ -71,11 +135,28 @@ impl AddAssign for DeltaSum {
     }
 }
 
+/// <details><summary>Contract</summary>
+///
+/// ```text
+/// ghost is_default = { λ sum. steps_of sum ≡ pos 0 };
+/// ```
+/// [`steps_of`]
+/// </details>
 impl Default for DeltaSum {
     #[inline]
     fn default() -> DeltaSum {
         DeltaSum::new()
     }
+}
+
+// Returns the sum of the products of all terms.
+#[inline]
+pub(crate) fn sum_of(terms: &[(Fixed, i32)]) -> DeltaSum {
+    let mut sum = DeltaSum::new();
+    for term in terms {
+        sum.add_term(term);
+    }
+    sum
 }
 
 /// Returns the sum of scalar times delta over all terms, in font units, wrapped to 64 bits.
@@ -87,14 +168,18 @@ impl Default for DeltaSum {
 /// let half = Fixed::from_bits(0x8000);
 /// assert_eq!(delta_sum(&[(half, 3), (Fixed::NEG_ONE, 2)]).to_string(), "-0.5");
 /// ```
+///
+/// <details><summary>Contract</summary>
+///
+/// ```text
+/// ensures { f48dot16_bits result ≡ wrap 64 (exact_sum terms.now) }
+/// ```
+/// [`f48dot16_bits`], [`wrap`], [`exact_sum`]
+/// </details>
 #[must_use]
 #[inline]
 pub fn delta_sum(terms: &[(Fixed, i32)]) -> F48Dot16 {
-    let mut sum = DeltaSum::new();
-    for term in terms {
-        sum.add_term(term);
-    }
-    sum.finish()
+    sum_of(terms).finish()
 }
 
 /// Returns the exact sum of scalar times delta over all terms, in font units, or `None` if it does
@@ -107,6 +192,15 @@ pub fn delta_sum(terms: &[(Fixed, i32)]) -> F48Dot16 {
 /// let sum = checked_delta_sum(&[(Fixed::from_bits(0x8000), 3)]).unwrap();
 /// assert_eq!(sum.to_bits(), 98304);
 /// ```
+///
+/// <details><summary>Contract</summary>
+///
+/// ```text
+/// ensures variant { IsSome result ↔ FitsBits 64 (exact_sum terms.now) }
+/// ensures value { IfSome result (λ sum. f48dot16_bits sum ≡ exact_sum terms.now) }
+/// ```
+/// [`FitsBits`], [`exact_sum`], [`f48dot16_bits`]
+/// </details>
 #[must_use]
 #[inline]
 pub fn checked_delta_sum(terms: &[(Fixed, i32)]) -> Option<F48Dot16> {
@@ -127,6 +221,16 @@ pub fn checked_delta_sum(terms: &[(Fixed, i32)]) -> Option<F48Dot16> {
 /// use font_types_proved::{FWord, Fixed, vary};
 /// assert_eq!(vary(FWord::new(100), &[(Fixed::from_bits(0x8000), 3)]), Some(6651904));
 /// ```
+///
+/// <details><summary>Contract</summary>
+///
+/// ```text
+/// ensures variant { IsSome result ↔ FitsBits 64 (exact_sum terms.now) }
+/// ensures value { IfSome result (λ units.
+///     units ≡ (fword_number base *ℤ pos 65536 +ℤ exact_sum terms.now)) }
+/// ```
+/// [`FitsBits`], [`exact_sum`], [`fword_number`]
+/// </details>
 #[must_use]
 #[inline]
 pub fn vary(base: FWord, terms: &[(Fixed, i32)]) -> Option<i128> {

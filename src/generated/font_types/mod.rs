@@ -1,4 +1,4 @@
-// @generated from crates/font_types/src/lib.rt by tools/src/bin/erase.rs
+// @generated from crates/font_types/src/lib.rt by tools/erase
 
 //! The scalar types of OpenType, for readers of font tables, evaluators of deltas, scalers of
 //! outlines and dumpers of font values.

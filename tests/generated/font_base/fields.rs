@@ -1,4 +1,4 @@
-// @generated from crates/font_base/src/tests/fields.rt by tools/src/bin/erase.rs
+// @generated from crates/font_base/src/tests/fields.rt by tools/erase
 
 //! Impls of callers: an array of bytes and a header. Also whether fields and headers have the
 //! values of requirements.md, and texts, which no clause says.
@@ -78,9 +78,7 @@ fn header_and_data() -> Result<(), Fail> {
 fn header_of_a_subslice() -> Result<(), Fail> {
     let rt = crate::rattle::Host;
     let bytes = [0xFF, 0x00, 0x03, 0x00, 0x00, 0x00, 0x04];
-    let header = TableDataRef::<SampleHeader>::new(&bytes[1..])
-        .ok_or("long enough")?
-        .header();
+    let header = TableDataRef::<SampleHeader>::new(&bytes[1..]).ok_or("long enough")?.header();
     assert!(rt; header.a.get() == 3 && header.b.get() == 4);
     Ok(())
 }

@@ -1,4 +1,4 @@
-// @generated from crates/font_base/src/tests.rt by tools/src/bin/erase.rs
+// @generated from crates/font_base/src/tests.rt by tools/erase
 
 //! Values of OpenType and font-types, impls of callers, traits and texts.
 

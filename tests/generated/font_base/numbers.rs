@@ -1,4 +1,4 @@
-// @generated from crates/font_base/src/tests/numbers.rt by tools/src/bin/erase.rs
+// @generated from crates/font_base/src/tests/numbers.rt by tools/erase
 
 //! Whether the definitions of bytes give the values of OpenType and of font-types, and what no
 //! clause says: texts with flags, and of the error.
@@ -27,11 +27,9 @@ fn int24_bytes() {
 #[test]
 fn uint24_bytes() {
     let rt = crate::rattle::Host;
-    for &(number, bytes) in &[
-        (16755404, [0xFF, 0xAA, 0xCC]),
-        (16777215, [0xFF, 0xFF, 0xFF]),
-        (0, [0x00, 0x00, 0x00]),
-    ] {
+    for &(number, bytes) in
+        &[(16755404, [0xFF, 0xAA, 0xCC]), (16777215, [0xFF, 0xFF, 0xFF]), (0, [0x00, 0x00, 0x00])]
+    {
         let read = Uint24::from_be_bytes(bytes).to_u32();
         assert!(rt;
             Uint24::new(number).to_be_bytes() == bytes && read == number,
@@ -65,11 +63,7 @@ fn text_of_24_bit_integers() -> Result<(), Fail> {
         (0, 0, "0 Uint24(0), 0 Int24(0)"),
         (-5, 5, "5 Uint24(5), -5 Int24(-5)"),
         (65536, 65536, "65536 Uint24(65536), 65536 Int24(65536)"),
-        (
-            8388607,
-            16777215,
-            "16777215 Uint24(16777215), 8388607 Int24(8388607)",
-        ),
+        (8388607, 16777215, "16777215 Uint24(16777215), 8388607 Int24(8388607)"),
         (-8388608, 0, "0 Uint24(0), -8388608 Int24(-8388608)"),
     ] {
         let (unsigned, signed) = (Uint24::new(unsigned), Int24::new(number));

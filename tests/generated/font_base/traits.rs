@@ -1,4 +1,4 @@
-// @generated from crates/font_base/src/tests/traits.rt by tools/src/bin/erase.rs
+// @generated from crates/font_base/src/tests/traits.rt by tools/erase
 
 //! What no clause says: the traits of each type, by functions with bounds.
 

@@ -1,4 +1,4 @@
-// @generated from crates/font_decimal/src/tests.rt by tools/src/bin/erase.rs
+// @generated from crates/font_decimal/src/tests.rt by tools/erase
 
 //! What no clause says: the texts and the numbers of the errors, and which types are `Copy`.
 

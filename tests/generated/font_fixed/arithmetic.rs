@@ -1,4 +1,4 @@
-// @generated from crates/font_fixed/src/tests/arithmetic.rt by tools/src/bin/erase.rs
+// @generated from crates/font_fixed/src/tests/arithmetic.rt by tools/erase
 
 //! Whether the definitions of sums, products, quotients, rounding and bytes give the values of
 //! requirements.md and of font-types.
@@ -143,15 +143,9 @@ fn rounding_of_16_bits() {
         let parts = [x.round(), x.floor(), x.fract()].map(F2Dot14::to_bits);
         assert!(rt; parts == [round, floor, fract], "{x}");
     }
-    let ties = [
-        F4Dot12::from_bits(-0x1800).round(),
-        F4Dot12::from_bits(0x1800).round(),
-    ];
+    let ties = [F4Dot12::from_bits(-0x1800).round(), F4Dot12::from_bits(0x1800).round()];
     assert!(rt; ties.map(F4Dot12::to_bits) == [-0x1000, 0x2000], "4.12");
-    let ties = [
-        F6Dot10::from_bits(-0x600).round(),
-        F6Dot10::from_bits(0x600).round(),
-    ];
+    let ties = [F6Dot10::from_bits(-0x600).round(), F6Dot10::from_bits(0x600).round()];
     assert!(rt; ties.map(F6Dot10::to_bits) == [-0x400, 0x800], "6.10");
 }
 
@@ -170,15 +164,9 @@ fn rounding_of_32_bits() {
         let parts = [x.round(), x.floor(), x.fract()].map(Fixed::to_bits);
         assert!(rt; parts == [round, floor, fract], "{x}");
     }
-    let parts = [
-        F26Dot6::from_bits(-96).round(),
-        F26Dot6::from_bits(-97).floor(),
-    ];
+    let parts = [F26Dot6::from_bits(-96).round(), F26Dot6::from_bits(-97).floor()];
     assert!(rt; parts.map(F26Dot6::to_bits) == [-64, -128], "26.6");
-    let parts = [
-        F2Dot30::from_bits(0x6000_0000).round(),
-        F2Dot30::from_bits(-1).fract(),
-    ];
+    let parts = [F2Dot30::from_bits(0x6000_0000).round(), F2Dot30::from_bits(-1).fract()];
     assert!(rt;
         parts.map(F2Dot30::to_bits) == [i32::MIN, 0x3FFF_FFFF],
         "2.30"
@@ -236,6 +224,9 @@ fn order_and_bounds() {
         );
         assert!(rt; [first, second].map(Fixed::to_bits) == right, "{x}, {y}");
     }
+    // Each rounds away from zero, and their distance is one unit more than the scaled distance.
+    let [x, y, c] = [1, -1, 2].map(Fixed::from_bits);
+    assert!(rt; fixed::scaled_distance(x, y, x, c) == (x, y, x));
     let ties = [-0x8001, -0x8000, 0x7FFF, 0x8000].map(Fixed::from_bits);
     assert!(rt; ties.map(Fixed::to_i32) == [-1, 0, 0, 1]);
     assert!(rt; ties.map(Fixed::round) == [-1, 0, 0, 1].map(Fixed::from_i32));

@@ -1,4 +1,4 @@
-// @generated from crates/font_fixed/src/tests/conversions.rt by tools/src/bin/erase.rs
+// @generated from crates/font_fixed/src/tests/conversions.rt by tools/erase
 
 //! Whether the definitions of conversions give the values of requirements.md and font-types.
 
@@ -59,15 +59,9 @@ fn narrowed_48_16() {
 #[test]
 fn narrowed_26_6() {
     let rt = crate::rattle::Host;
-    for &(bits, whole) in &[
-        (64, 1),
-        (96, 2),
-        (-96, -1),
-        (95, 1),
-        (31, 0),
-        (-97, -2),
-        (i32::MAX, -33554432),
-    ] {
+    for &(bits, whole) in
+        &[(64, 1), (96, 2), (-96, -1), (95, 1), (31, 0), (-97, -2), (i32::MAX, -33554432)]
+    {
         assert!(rt; F26Dot6::from_bits(bits).to_i32() == whole, "{bits}");
     }
 }

@@ -1,7 +1,7 @@
-// @generated from crates/font_fixed/src/tests.rt by tools/src/bin/erase.rs
+// @generated from crates/font_fixed/src/tests.rt by tools/erase
 
-//! Rows of requirements.md and of font-types, and every value of 16 bits. `arithmetic.rs` and
-//! `decimals.rs` of `tests` compare each type with exact values.
+//! Rows of requirements.md and of font-types, and every value of 16 bits. `tests/definitions.rs`
+//! compares what font-types lacks with exact values.
 
 mod arithmetic;
 mod conversions;

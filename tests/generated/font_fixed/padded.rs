@@ -1,4 +1,4 @@
-// @generated from crates/font_fixed/src/tests/padded.rt by tools/src/bin/erase.rs
+// @generated from crates/font_fixed/src/tests/padded.rt by tools/erase
 
 //! Whether the definition of padding gives the texts of requirements.md.
 

@@ -1,4 +1,4 @@
-// @generated from crates/font_fixed/src/tests/rows.rt by tools/src/bin/erase.rs
+// @generated from crates/font_fixed/src/tests/rows.rt by tools/erase
 
 //! Decimals of the seven formats, by rows of requirements.md and of font-types.
 
@@ -199,9 +199,8 @@ fn decimals_out_of_range() {
 fn no_decimals() {
     let rt = crate::rattle::Host;
     for &text in &["", "-", ".5", "5.", "+1", "1e3", "1.2.3", " 1", "1 "] {
-        for &format in &[
-            "F2Dot14", "F4Dot12", "F6Dot10", "Fixed", "F26Dot6", "F2Dot30", "F48Dot16",
-        ] {
+        for &format in &["F2Dot14", "F4Dot12", "F6Dot10", "Fixed", "F26Dot6", "F2Dot30", "F48Dot16"]
+        {
             let read = parsed(format, text);
             assert!(rt; read == Err(DecimalFault::Syntax), "{format} {text}");
         }
@@ -219,40 +218,12 @@ fn thousands_of_digits() -> Result<(), Fail> {
         ("Fixed", "1", "0", 4999, "", Err(DecimalFault::OutOfRange)),
         ("Fixed", "", "9", 4999, "x", Err(DecimalFault::Syntax)),
         ("Fixed", "0.00000762939453124", "9", 3000, "", Ok(0)),
-        (
-            "Fixed",
-            "32767.99999237060546874",
-            "9",
-            3000,
-            "",
-            Ok(2147483647),
-        ),
-        (
-            "Fixed",
-            "-32768.00000762939453124",
-            "9",
-            3000,
-            "",
-            Ok(-2147483648),
-        ),
+        ("Fixed", "32767.99999237060546874", "9", 3000, "", Ok(2147483647)),
+        ("Fixed", "-32768.00000762939453124", "9", 3000, "", Ok(-2147483648)),
         ("F26Dot6", "0.0078124", "9", 3000, "", Ok(0)),
         ("F26Dot6", "33554431.9921874", "9", 3000, "", Ok(2147483647)),
-        (
-            "F26Dot6",
-            "-33554432.0078124",
-            "9",
-            3000,
-            "",
-            Ok(-2147483648),
-        ),
-        (
-            "F2Dot30",
-            "0.0000000004656612873077392578124",
-            "9",
-            3000,
-            "",
-            Ok(0),
-        ),
+        ("F26Dot6", "-33554432.0078124", "9", 3000, "", Ok(-2147483648)),
+        ("F2Dot30", "0.0000000004656612873077392578124", "9", 3000, "", Ok(0)),
     ] {
         let digits = digit.repeat(count);
         let text = format!(in rt.alloc(); "{head}{digits}{tail}")?;
@@ -293,13 +264,9 @@ fn products_and_quotients_of_decimals() {
 #[test]
 fn integers_of_decimals() {
     let rt = crate::rattle::Host;
-    for &(text, integer) in &[
-        ("1", 1),
-        ("1.5", 2),
-        ("-1.5", -1),
-        ("1099511627776.25", 1 << 40),
-        ("-15.75", -16),
-    ] {
+    for &(text, integer) in
+        &[("1", 1), ("1.5", 2), ("-1.5", -1), ("1099511627776.25", 1 << 40), ("-15.75", -16)]
+    {
         let x = F48Dot16::from_decimal(text).unwrap_or(F48Dot16::MIN);
         assert!(rt; x.to_i64() == integer, "{text}");
         assert!(rt; x.round() == F48Dot16::from_i64(integer), "{text}");

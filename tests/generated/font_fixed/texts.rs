@@ -1,4 +1,4 @@
-// @generated from crates/font_fixed/src/tests/texts.rt by tools/src/bin/erase.rs
+// @generated from crates/font_fixed/src/tests/texts.rt by tools/erase
 
 //! What no clause says: printing ignores flags. Also, each value of 16 bits parses back from its
 //! text.

@@ -1,4 +1,4 @@
-// @generated from crates/font_geom/src/tests/boxes.rt by tools/src/bin/erase.rs
+// @generated from crates/font_geom/src/tests/boxes.rt by tools/erase
 
 //! An element of a caller: one that does not compare with every other.
 //! Also whether boxes have the values of requirements.md.
@@ -7,12 +7,7 @@ use crate::font_geom::BoundingBox;
 use crate::rattle::cmp::Ordering;
 
 pub(super) fn sides(x_min: i32, y_min: i32, x_max: i32, y_max: i32) -> BoundingBox<i32> {
-    BoundingBox {
-        x_min,
-        y_min,
-        x_max,
-        y_max,
-    }
+    BoundingBox { x_min, y_min, x_max, y_max }
 }
 
 #[test]
@@ -69,12 +64,7 @@ fn normalize_incomparable_sides() {
     let rt = crate::rattle::Host;
     let (left, right) = (Corner { x: 1, y: 2 }, Corner { x: 2, y: 1 });
     assert!(rt; left.partial_cmp(&right).is_none());
-    let odd = BoundingBox {
-        x_min: left,
-        y_min: left,
-        x_max: right,
-        y_max: left,
-    };
+    let odd = BoundingBox { x_min: left, y_min: left, x_max: right, y_max: left };
     let swapped = odd.normalize();
     assert!(rt; swapped.x_min == right && swapped.x_max == left);
     assert!(rt; swapped.y_min == left && swapped.y_max == left);

@@ -1,7 +1,7 @@
-// @generated from crates/font_geom/src/tests.rt by tools/src/bin/erase.rs
+// @generated from crates/font_geom/src/tests.rt by tools/erase
 
-//! Impls of callers, rows of requirements.md, traits and texts. `tests/geometry.rs` has the
-//! order of operands.
+//! Impls of callers, rows of requirements.md, traits and texts. `tests/definitions.rs`
+//! has the order of operands.
 
 mod boxes;
 mod ring;

@@ -1,4 +1,4 @@
-// @generated from crates/font_geom/src/tests/ring.rt by tools/src/bin/erase.rs
+// @generated from crates/font_geom/src/tests/ring.rt by tools/erase
 
 //! An impl of a caller: `RingElement` for `u32` modulo `2^32`.
 
@@ -17,9 +17,7 @@ impl Add for Turn {
     type Output = Turn;
 
     fn add(self, rhs: Turn) -> Turn {
-        Turn {
-            number: self.number.wrapping_add(rhs.number),
-        }
+        Turn { number: self.number.wrapping_add(rhs.number) }
     }
 }
 
@@ -27,9 +25,7 @@ impl Mul for Turn {
     type Output = Turn;
 
     fn mul(self, rhs: Turn) -> Turn {
-        Turn {
-            number: self.number.wrapping_mul(rhs.number),
-        }
+        Turn { number: self.number.wrapping_mul(rhs.number) }
     }
 }
 

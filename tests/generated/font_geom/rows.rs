@@ -1,4 +1,4 @@
-// @generated from crates/font_geom/src/tests/rows.rt by tools/src/bin/erase.rs
+// @generated from crates/font_geom/src/tests/rows.rt by tools/erase
 
 //! Products of matrices of `Fixed` and images of points, by rows of requirements.md.
 
@@ -18,21 +18,9 @@ fn at((x, y): (i32, i32)) -> Point<Fixed> {
 fn products() {
     let rt = crate::rattle::Host;
     for &(a, b, product) in &[
-        (
-            [2, 0, 0, 3, 0, 0],
-            [1, 0, 0, 1, 10, 20],
-            [2, 0, 0, 3, 20, 60],
-        ),
-        (
-            [1, 0, 0, 1, 10, 20],
-            [2, 0, 0, 3, 0, 0],
-            [2, 0, 0, 3, 10, 20],
-        ),
-        (
-            [2, 3, 5, 7, 11, 13],
-            [17, 19, 23, 29, 31, 37],
-            [129, 184, 191, 272, 258, 365],
-        ),
+        ([2, 0, 0, 3, 0, 0], [1, 0, 0, 1, 10, 20], [2, 0, 0, 3, 20, 60]),
+        ([1, 0, 0, 1, 10, 20], [2, 0, 0, 3, 0, 0], [2, 0, 0, 3, 10, 20]),
+        ([2, 3, 5, 7, 11, 13], [17, 19, 23, 29, 31, 37], [129, 184, 191, 272, 258, 365]),
     ] {
         assert!(rt; whole(a) * whole(b) == whole(product), "{a:?} * {b:?}");
     }
@@ -56,19 +44,9 @@ fn images_composed_and_in_turn() {
     for &(a, b, p, image) in &[
         // Nothing is rounded.
         ([2, 0, 0, 3, 0, 0], [1, 0, 0, 1, 10, 20], (5, -22), (30, -6)),
-        (
-            [1, 0, 0, 1, 10, 20],
-            [2, 0, 0, 3, 0, 0],
-            (5, -22),
-            (20, -46),
-        ),
+        ([1, 0, 0, 1, 10, 20], [2, 0, 0, 3, 0, 0], (5, -22), (20, -46)),
         // Only a partial sum leaves 32 bits.
-        (
-            [1, 0, 1, 1, -30000, 0],
-            [1, 0, 0, 1, 0, 0],
-            (20000, 20000),
-            (10000, 20000),
-        ),
+        ([1, 0, 1, 1, -30000, 0], [1, 0, 0, 1, 0, 0], (20000, 20000), (10000, 20000)),
         // An entry and a coordinate leave 32 bits.
         ([32767, 0, 0, 1, 0, 0], [2, 0, 0, 1, 0, 0], (1, 0), (-2, 0)),
     ] {

@@ -1,4 +1,4 @@
-// @generated from crates/font_ids/src/tests/glyphs.rt by tools/src/bin/erase.rs
+// @generated from crates/font_ids/src/tests/glyphs.rt by tools/erase
 
 //! What no clause says: texts of glyph ids, and of the error. And a row of requirements.md.
 

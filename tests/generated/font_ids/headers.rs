@@ -1,4 +1,4 @@
-// @generated from crates/font_ids/src/tests/headers.rt by tools/src/bin/erase.rs
+// @generated from crates/font_ids/src/tests/headers.rt by tools/erase
 
 //! An impl of a caller: a header of a tag, an offset and a version.
 
@@ -24,9 +24,8 @@ impl TableHeader for RecordHeader {
     }
 }
 
-const BYTES: [u8; 13] = [
-    0x68, 0x65, 0x61, 0x64, 0x00, 0x00, 0x00, 0x2C, 0x00, 0x02, 0x50, 0x00, 0xFF,
-];
+const BYTES: [u8; 13] =
+    [0x68, 0x65, 0x61, 0x64, 0x00, 0x00, 0x00, 0x2C, 0x00, 0x02, 0x50, 0x00, 0xFF];
 
 #[test]
 fn header_of_twelve_bytes() -> Result<(), Fail> {

@@ -1,4 +1,4 @@
-// @generated from crates/font_ids/src/tests.rt by tools/src/bin/erase.rs
+// @generated from crates/font_ids/src/tests.rt by tools/erase
 
 //! Values of OpenType and font-types, an impl of a caller, traits and texts.
 

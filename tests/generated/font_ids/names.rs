@@ -1,4 +1,4 @@
-// @generated from crates/font_ids/src/tests/names.rt by tools/src/bin/erase.rs
+// @generated from crates/font_ids/src/tests/names.rt by tools/erase
 
 //! Whether name ids have the numbers and names of OpenType.
 

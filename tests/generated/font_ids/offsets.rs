@@ -1,4 +1,4 @@
-// @generated from crates/font_ids/src/tests/offsets.rt by tools/src/bin/erase.rs
+// @generated from crates/font_ids/src/tests/offsets.rt by tools/erase
 
 //! Whether three zero bytes are a null offset, and what no clause says: texts of `Debug`.
 

@@ -1,4 +1,4 @@
-// @generated from crates/font_ids/src/tests/words.rt by tools/src/bin/erase.rs
+// @generated from crates/font_ids/src/tests/words.rt by tools/erase
 
 //! What no clause says: texts of font units. And a row of requirements.md.
 

@@ -1,4 +1,4 @@
-// @generated from crates/font_tags/src/tests/compatible.rt by tools/src/bin/erase.rs
+// @generated from crates/font_tags/src/tests/compatible.rt by tools/erase
 
 //! What no clause of one call says: `compatible` is reflexive and transitive, proved of the
 //! contract of each impl.

@@ -1,4 +1,4 @@
-// @generated from crates/font_tags/src/tests.rt by tools/src/bin/erase.rs
+// @generated from crates/font_tags/src/tests.rt by tools/erase
 
 //! Values of OpenType and font-types, traits and texts.
 

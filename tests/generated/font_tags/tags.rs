@@ -1,4 +1,4 @@
-// @generated from crates/font_tags/src/tests/tags.rt by tools/src/bin/erase.rs
+// @generated from crates/font_tags/src/tests/tags.rt by tools/erase
 
 //! Whether the definitions of tags give the results of font-types, and what no clause says: texts
 //! with flags, and of errors.
@@ -103,10 +103,7 @@ fn tag_texts() -> Result<(), Fail> {
 fn error_texts() -> Result<(), Fail> {
     let rt = crate::rattle::Host;
     for &(ref fault, text) in &[
-        (
-            InvalidTag::InvalidLength(5),
-            "Invalid length (5) InvalidLength(5)",
-        ),
+        (InvalidTag::InvalidLength(5), "Invalid length (5) InvalidLength(5)"),
         (
             InvalidTag::InvalidByte { pos: 2, byte: 0x0A },
             "Invalid byte 0xA at index 2 InvalidByte { pos: 2, byte: 10 }",

@@ -1,4 +1,4 @@
-// @generated from crates/font_tags/src/tests/versions.rt by tools/src/bin/erase.rs
+// @generated from crates/font_tags/src/tests/versions.rt by tools/erase
 
 //! Whether versions and dates have the numbers of OpenType and of font-types, and what no clause
 //! says: texts of `Debug`.

@@ -1,4 +1,4 @@
-// @generated from crates/font_types/src/tests.rt by tools/src/bin/erase.rs
+// @generated from crates/font_types/src/tests.rt by tools/erase
 
 //! JSON forms and their errors, also if memory fails, and rows of sums of deltas.
 

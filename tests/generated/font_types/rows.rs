@@ -1,8 +1,9 @@
-// @generated from crates/font_types/src/tests/rows.rt by tools/src/bin/erase.rs
+// @generated from crates/font_types/src/tests/rows.rt by tools/erase
 
 //! Versions of font files, and sums of deltas and what they move, by rows of requirements.md
 //! and of font-types.
 
+use crate::font_types::laws::sum_in_parts;
 use crate::font_types::{
     CFF_SFNT_VERSION, DeltaSum, F2Dot14, F48Dot16, FWord, Fixed, TRUE_SFNT_VERSION,
     TT_SFNT_VERSION, UfWord, checked_delta_sum, delta_sum, vary,
@@ -43,6 +44,18 @@ fn sums_that_print() -> Result<(), Fail> {
     }
     assert!(rt; delta_sum(&[]) == F48Dot16::ZERO);
     Ok(())
+}
+
+#[test]
+fn sums_in_parts() {
+    let rt = crate::rattle::Host;
+    for &(terms, bits) in &[(quarters(), -1032192), ([LEAST, LEAST, BACK], 4611686020574871552)] {
+        let [first, second, third] = terms;
+        let (whole, parts) = sum_in_parts(&[first], &[second, third]);
+        let right = F48Dot16::from_bits(bits);
+        let in_another_order = delta_sum(&[third, first, second]);
+        assert!(rt; [whole, parts.finish(), in_another_order] == [right; 3], "{bits}");
+    }
 }
 
 // The terms are checked together: the first two do not fit without the third.

@@ -1,4 +1,4 @@
-// @generated from crates/variations/src/tests/variations.rt by tools/src/bin/erase.rs
+// @generated from crates/variations/src/tests/variations.rt by tools/erase
 
 //! Item variation stores: what `tests/examples.rs` does not see, with values from exact arithmetic.
 
@@ -46,9 +46,8 @@ fn scalars_of_axes() {
 }
 
 // One region of two axes, each from 0 to a peak that is the end, at 12854 and at 9584 of 2.14.
-const NEAR_THE_PEAKS: [u8; 16] = [
-    0, 2, 0, 1, 0, 0, 0x32, 0x36, 0x32, 0x36, 0, 0, 0x25, 0x70, 0x25, 0x70,
-];
+const NEAR_THE_PEAKS: [u8; 16] =
+    [0, 2, 0, 1, 0, 0, 0x32, 0x36, 0x32, 0x36, 0, 0, 0x25, 0x70, 0x25, 0x70];
 
 // 65536 * 12788/12854 * 9513/9584 is 64716.49: the scalar is off by 1.49, of at most 1.5.
 #[test]
@@ -60,9 +59,8 @@ fn scalar_of_two_axes_near_its_bound() {
 }
 
 // Two axes and two regions: both axes from 0 to a peak at 3 of 2.14; the second alone.
-const REGIONS: [u8; 28] = [
-    0, 2, 0, 2, 0, 0, 0, 3, 0, 3, 0, 0, 0, 3, 0, 3, 0, 0, 0, 0, 0, 0, 0, 0, 0, 3, 0, 3,
-];
+const REGIONS: [u8; 28] =
+    [0, 2, 0, 2, 0, 0, 0, 3, 0, 3, 0, 0, 0, 3, 0, 3, 0, 0, 0, 0, 0, 0, 0, 0, 0, 3, 0, 3];
 
 #[test]
 fn scalars_of_regions() {

@@ -1,4 +1,4 @@
-// @generated from crates/fontval/src/answers.rt by tools/src/bin/erase.rs
+// @generated from crates/fontval/src/answers.rt by tools/erase
 
 //! The answers to the lines of an input.
 
@@ -10,11 +10,11 @@ use crate::fontval::text::{Lines, Words};
 use crate::host::alloc::{AllocError, Allocator};
 
 /// Returns the answers to the lines of an input, each followed by a line feed.
-pub fn answers<A: Allocator + Copy>(alloc: A, input: &[u8]) -> Result<String<A>, AllocError> {
-    let mut output = String::new(alloc);
+pub fn answers<A: Allocator + Copy>(alloc: A, input: &[u8]) -> Result<Vec<u8, A>, AllocError> {
+    let mut output = Vec::new(alloc);
     for line in Lines::new(input) {
         append_answer(alloc, line, &mut output)?;
-        output.push_str("\n")?;
+        output.push(b'\n')?;
     }
     Ok(output)
 }
@@ -24,12 +24,12 @@ pub fn answers<A: Allocator + Copy>(alloc: A, input: &[u8]) -> Result<String<A>,
 fn append_answer<A: Allocator>(
     alloc: A,
     line: &[u8],
-    output: &mut String<A>,
+    output: &mut Vec<u8, A>,
 ) -> Result<(), AllocError> {
     match append_text(alloc, line, output) {
         Ok(()) => Ok(()),
         Err(CommandError::Memory) => Err(AllocError),
-        Err(CommandError::Line(error)) => write!(output, "error {}", error as u8),
+        Err(CommandError::Line(error)) => output.extend_from_slice(error.answer()),
     }
 }
 
@@ -38,7 +38,7 @@ fn append_answer<A: Allocator>(
 fn append_text<A: Allocator>(
     alloc: A,
     line: &[u8],
-    output: &mut String<A>,
+    output: &mut Vec<u8, A>,
 ) -> Result<(), CommandError> {
     let mut words = Words::new(line);
     let name = words.next().ok_or(LineError::UnknownCommand)?;

@@ -1,20 +1,21 @@
-// @generated from crates/fontval/src/command.rt by tools/src/bin/erase.rs
+// @generated from crates/fontval/src/command.rt by tools/erase
 
 //! The commands and their answers.
 
 use crate::host::*;
 
 use crate::fontval::error::{CommandError, LineError};
-use crate::fontval::images::Images;
-use crate::fontval::numbers::{check_even, fixed_numbers, integer_16, terms};
-use crate::fontval::output::{append, append_read};
+use crate::fontval::images::{Images, append_images};
+use crate::fontval::integer::{append_integer, append_signed};
+use crate::fontval::numbers::{error_if_even, fixed_numbers, integer_16, terms};
+use crate::fontval::output::{append_decimal, append_read};
 use crate::fontval::parse::{hexadecimal, two_words};
-use crate::fontval::report::TagReport;
+use crate::fontval::report::append_report;
 use crate::fontval::text::Words;
 use crate::host::alloc::Allocator;
 use font_types_proved::{
-    F2Dot14, F2Dot30, F4Dot12, F6Dot10, F26Dot6, F48Dot16, FWord, Fixed, Int24, Scalar, Tag,
-    Uint24, checked_delta_sum, vary,
+    F2Dot14, F2Dot30, F4Dot12, F6Dot10, F26Dot6, F48Dot16, FWord, Fixed, Int24, Scalar, Shortest,
+    Tag, Uint24, checked_delta_sum, vary,
 };
 
 /// A command.
@@ -94,13 +95,13 @@ impl Command {
         self,
         alloc: A,
         words: Words<'_>,
-        output: &mut String<A>,
+        output: &mut Vec<u8, A>,
     ) -> Result<(), CommandError> {
         match self {
-            Command::Integer(kind) => append(kind.number(words)?, output),
+            Command::Integer(kind) => append_integer(kind.number(words)?, output),
             Command::FixedPoint(kind) => kind.show(words, output),
             Command::Read => read(words, output),
-            Command::Tag => append_tag(Tag::from_be_bytes(hexadecimal(words)?), output),
+            Command::Tag => append_report(Tag::from_be_bytes(hexadecimal(words)?), output),
             Command::Image => image(words, output),
             Command::Sum => sum(alloc, words, output),
             Command::Vary => append_varied(alloc, words, output),
@@ -144,40 +145,42 @@ impl FixedType {
     fn show<A: Allocator>(
         self,
         words: Words<'_>,
-        output: &mut String<A>,
+        output: &mut Vec<u8, A>,
     ) -> Result<(), CommandError> {
-        match self {
-            FixedType::F2Dot14 => append(F2Dot14::from_raw(hexadecimal(words)?), output),
-            FixedType::F4Dot12 => append(F4Dot12::from_raw(hexadecimal(words)?), output),
-            FixedType::F6Dot10 => append(F6Dot10::from_raw(hexadecimal(words)?), output),
-            FixedType::Fixed => append(Fixed::from_raw(hexadecimal(words)?), output),
-            FixedType::F26Dot6 => append(
-                F26Dot6::from_bits(i32::from_raw(hexadecimal(words)?)),
-                output,
-            ),
-            FixedType::F48Dot16 => append(
-                F48Dot16::from_bits(i64::from_raw(hexadecimal(words)?)),
-                output,
-            ),
-            FixedType::F2Dot30 => append(F2Dot30::from_raw(hexadecimal(words)?), output),
-        }
+        append_decimal(self.decimal(words)?, output)
+    }
+
+    // Returns the decimal of the number whose bytes the only word has.
+    #[inline(always)]
+    fn decimal(self, words: Words<'_>) -> Result<Shortest, LineError> {
+        Ok(match self {
+            FixedType::F2Dot14 => F2Dot14::from_raw(hexadecimal(words)?).to_decimal(),
+            FixedType::F4Dot12 => F4Dot12::from_raw(hexadecimal(words)?).to_decimal(),
+            FixedType::F6Dot10 => F6Dot10::from_raw(hexadecimal(words)?).to_decimal(),
+            FixedType::Fixed => Fixed::from_raw(hexadecimal(words)?).to_decimal(),
+            FixedType::F26Dot6 => {
+                F26Dot6::from_bits(i32::from_raw(hexadecimal(words)?)).to_decimal()
+            }
+            FixedType::F48Dot16 => {
+                F48Dot16::from_bits(i64::from_raw(hexadecimal(words)?)).to_decimal()
+            }
+            FixedType::F2Dot30 => F2Dot30::from_raw(hexadecimal(words)?).to_decimal(),
+        })
     }
 
     // Appends the bytes of the number that a word is read as.
-    fn read<A: Allocator>(self, word: &[u8], output: &mut String<A>) -> Result<(), CommandError> {
+    fn read<A: Allocator>(self, word: &[u8], output: &mut Vec<u8, A>) -> Result<(), CommandError> {
         match self {
             FixedType::F2Dot14 => append_read(F2Dot14::from_decimal_bytes(word), output),
             FixedType::F4Dot12 => append_read(F4Dot12::from_decimal_bytes(word), output),
             FixedType::F6Dot10 => append_read(F6Dot10::from_decimal_bytes(word), output),
             FixedType::Fixed => append_read(Fixed::from_decimal_bytes(word), output),
-            FixedType::F26Dot6 => append_read(
-                F26Dot6::from_decimal_bytes(word).map(F26Dot6::to_bits),
-                output,
-            ),
-            FixedType::F48Dot16 => append_read(
-                F48Dot16::from_decimal_bytes(word).map(F48Dot16::to_bits),
-                output,
-            ),
+            FixedType::F26Dot6 => {
+                append_read(F26Dot6::from_decimal_bytes(word).map(F26Dot6::to_bits), output)
+            }
+            FixedType::F48Dot16 => {
+                append_read(F48Dot16::from_decimal_bytes(word).map(F48Dot16::to_bits), output)
+            }
             FixedType::F2Dot30 => append_read(F2Dot30::from_decimal_bytes(word), output),
         }
     }
@@ -186,22 +189,15 @@ impl FixedType {
 // Appends the bytes of the number that the second word is read as, of the type that the first
 // names.
 #[inline(never)]
-fn read<A: Allocator>(words: Words<'_>, output: &mut String<A>) -> Result<(), CommandError> {
+fn read<A: Allocator>(words: Words<'_>, output: &mut Vec<u8, A>) -> Result<(), CommandError> {
     let (name, word) = two_words(words)?;
     FixedType::named(name)?.read(word, output)
 }
 
-// Appends a tag and the result of its validation.
-#[inline(never)]
-fn append_tag<A: Allocator>(tag: Tag, output: &mut String<A>) -> Result<(), CommandError> {
-    let validation = tag.validate();
-    append(TagReport { tag, validation }, output)
-}
-
 // Appends the images of a point under two matrices.
 #[inline(never)]
-fn image<A: Allocator>(words: Words<'_>, output: &mut String<A>) -> Result<(), CommandError> {
-    append(Images::from(fixed_numbers(words)?), output)
+fn image<A: Allocator>(words: Words<'_>, output: &mut Vec<u8, A>) -> Result<(), CommandError> {
+    append_images(Images::from(fixed_numbers(words)?), output)
 }
 
 // Appends the sum of terms.
@@ -209,11 +205,11 @@ fn image<A: Allocator>(words: Words<'_>, output: &mut String<A>) -> Result<(), C
 fn sum<A: Allocator>(
     alloc: A,
     words: Words<'_>,
-    output: &mut String<A>,
+    output: &mut Vec<u8, A>,
 ) -> Result<(), CommandError> {
     let terms = terms(alloc, words)?;
     let sum = checked_delta_sum(&terms).ok_or(LineError::OutOfRange)?;
-    append(sum, output)
+    append_decimal(sum.to_decimal(), output)
 }
 
 // Appends a value in font units varied by the sum of terms.
@@ -221,12 +217,14 @@ fn sum<A: Allocator>(
 fn append_varied<A: Allocator>(
     alloc: A,
     mut words: Words<'_>,
-    output: &mut String<A>,
+    output: &mut Vec<u8, A>,
 ) -> Result<(), CommandError> {
     let base = words.next().ok_or(LineError::WordCount)?;
-    check_even(&words)?;
-    let units = integer_16(base)?;
+    let units = match integer_16(base) {
+        Ok(units) => units,
+        Err(error) => return Err(error_if_even(&words, error).into()),
+    };
     let terms = terms(alloc, words)?;
     let varied = vary(FWord::new(units), &terms).ok_or(LineError::OutOfRange)?;
-    append(varied, output)
+    append_signed(varied < 0, varied.unsigned_abs() as u64, output)
 }

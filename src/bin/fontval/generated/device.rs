@@ -1,4 +1,4 @@
-// @generated from crates/fontval/src/device.rt by tools/src/bin/erase.rs
+// @generated from crates/fontval/src/device.rt by tools/erase
 
 //! The source and the sink of a run.
 

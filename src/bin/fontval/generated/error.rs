@@ -1,4 +1,4 @@
-// @generated from crates/fontval/src/error.rt by tools/src/bin/erase.rs
+// @generated from crates/fontval/src/error.rt by tools/erase
 
 //! The errors of lines and of commands.
 
@@ -35,6 +35,20 @@ impl core::fmt::Display for LineError {
             Self::NotDecimal => write!(f, "not a decimal number"),
             Self::OutOfRange => write!(f, "number out of range"),
             Self::NotInteger => write!(f, "not an integer"),
+        }
+    }
+}
+
+impl LineError {
+    /// Returns the answer to a line that has the error.
+    pub fn answer(self) -> &'static [u8] {
+        match self {
+            LineError::UnknownCommand => b"error 1",
+            LineError::WordCount => b"error 2",
+            LineError::NotHexadecimal => b"error 3",
+            LineError::NotDecimal => b"error 4",
+            LineError::OutOfRange => b"error 5",
+            LineError::NotInteger => b"error 6",
         }
     }
 }

@@ -1,4 +1,4 @@
-// @generated from crates/fontval/src/exit.rt by tools/src/bin/erase.rs
+// @generated from crates/fontval/src/exit.rt by tools/erase
 
 //! The exit status and the message.
 

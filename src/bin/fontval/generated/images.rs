@@ -1,13 +1,15 @@
-// @generated from crates/fontval/src/images.rt by tools/src/bin/erase.rs
+// @generated from crates/fontval/src/images.rt by tools/erase
 
 //! The images of a point under two matrices.
 
 use crate::host::*;
 
+use crate::fontval::error::CommandError;
+use crate::fontval::output::{append, append_decimal};
+use crate::host::alloc::Allocator;
 use font_types_proved::{Fixed, Matrix, Point, laws};
-use std::fmt;
 
-/// A point and two matrices, printed as the images of the point.
+/// A point and two matrices.
 #[derive(Clone, Copy)]
 pub struct Images {
     /// The matrix that is applied last.
@@ -31,15 +33,22 @@ impl From<[Fixed; 14]> for Images {
     }
 }
 
-// Prints the image under the product of the matrices, and that under one after the other.
-impl fmt::Display for Images {
-    fn fmt(&self, f: &mut fmt::Formatter<'_>) -> fmt::Result {
-        let composed = laws::composed(self.a, self.b, self.p);
-        let in_turn = laws::in_turn(self.a, self.b, self.p);
-        write!(
-            f,
-            "{} {} {} {}",
-            composed.x, composed.y, in_turn.x, in_turn.y
-        )
-    }
+/// Appends the image under the product of the matrices, and that under one after the other.
+pub fn append_images<A: Allocator>(
+    images: Images,
+    output: &mut Vec<u8, A>,
+) -> Result<(), CommandError> {
+    append_point(laws::composed(images.a, images.b, images.p), output)?;
+    append(b" ", output)?;
+    append_point(laws::in_turn(images.a, images.b, images.p), output)
+}
+
+// Appends the coordinates of a point.
+fn append_point<A: Allocator>(
+    point: Point<Fixed>,
+    output: &mut Vec<u8, A>,
+) -> Result<(), CommandError> {
+    append_decimal(point.x.to_decimal(), output)?;
+    append(b" ", output)?;
+    append_decimal(point.y.to_decimal(), output)
 }

@@ -1,4 +1,4 @@
-// @generated from crates/fontval/src/main.rt by tools/src/bin/erase.rs
+// @generated from crates/fontval/src/main.rt by tools/erase
 
 //! `fontval` reads lines of commands from standard input to its end, and writes an answer to each
 //! on standard output. It takes no arguments.
@@ -10,6 +10,7 @@ pub mod device;
 mod error;
 mod exit;
 mod images;
+mod integer;
 mod numbers;
 mod output;
 mod parse;

@@ -1,4 +1,4 @@
-// @generated from crates/fontval/src/numbers.rt by tools/src/bin/erase.rs
+// @generated from crates/fontval/src/numbers.rt by tools/erase
 
 //! Reads the words of a line as numbers.
 
@@ -14,18 +14,26 @@ const INITIAL_TERMS: usize = 16;
 
 /// Reads exactly `N` words as numbers.
 ///
-/// The words are counted first: a wrong number of words is reported before a wrong word.
-pub fn fixed_numbers<const N: usize>(words: Words<'_>) -> Result<[Fixed; N], LineError> {
-    if words.count_left() != N {
-        return Err(LineError::WordCount);
-    }
+/// A wrong number of words is reported before a wrong word: after one, the others are counted.
+pub fn fixed_numbers<const N: usize>(mut words: Words<'_>) -> Result<[Fixed; N], LineError> {
     let mut numbers = [Fixed::ZERO; N];
     let mut at = 0;
-    for word in words {
-        numbers[at] = fixed_number(word)?;
+    while let Some(word) = words.next() {
+        if at == N {
+            return Err(LineError::WordCount);
+        }
+        match fixed_number(word) {
+            Ok(number) => numbers[at] = number,
+            Err(error) => return Err(error_if(words.count_left() == N - at - 1, error)),
+        }
         at += 1;
     }
-    Ok(numbers)
+    if at == N { Ok(numbers) } else { Err(LineError::WordCount) }
+}
+
+/// Returns the error of a word, or that of a wrong number of words.
+pub fn error_if(counted: bool, error: LineError) -> LineError {
+    if counted { error } else { LineError::WordCount }
 }
 
 // Reads a word as a `Fixed`.
@@ -35,28 +43,25 @@ fn fixed_number(word: &[u8]) -> Result<Fixed, LineError> {
 
 /// Reads words as terms, two by two: a scalar, and a delta in font units.
 ///
-/// The words are counted first, as in `fixed_numbers`.
+/// The words are counted as in `fixed_numbers`.
 pub fn terms<A: Allocator>(
     alloc: A,
     mut words: Words<'_>,
 ) -> Result<Vec<(Fixed, i32), A>, CommandError> {
-    check_even(&words)?;
     let mut terms = Vec::with_capacity(alloc, INITIAL_TERMS)?;
-    while let (Some(scalar), Some(delta)) = (words.next(), words.next()) {
-        terms
-            .push(term(scalar, delta)?)
-            .map_err(|_| CommandError::Memory)?;
+    while let Some(scalar) = words.next() {
+        let delta = words.next().ok_or(LineError::WordCount)?;
+        match term(scalar, delta) {
+            Ok(term) => terms.push(term).map_err(|_| CommandError::Memory)?,
+            Err(error) => return Err(error_if_even(&words, error).into()),
+        }
     }
     Ok(terms)
 }
 
-/// Returns an error if the number of words is odd.
-pub fn check_even(words: &Words<'_>) -> Result<(), LineError> {
-    if words.count_left().is_multiple_of(2) {
-        Ok(())
-    } else {
-        Err(LineError::WordCount)
-    }
+/// Returns the error of a word, or that of a wrong number of words if an odd number is left.
+pub fn error_if_even(words: &Words<'_>, error: LineError) -> LineError {
+    error_if(words.count_left().is_multiple_of(2), error)
 }
 
 // Reads two words as a term.

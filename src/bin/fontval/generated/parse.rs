@@ -1,4 +1,4 @@
-// @generated from crates/fontval/src/parse.rt by tools/src/bin/erase.rs
+// @generated from crates/fontval/src/parse.rt by tools/erase
 
 //! Reads the words of a command.
 

@@ -1,4 +1,4 @@
-// @generated from crates/fontval/src/serve.rt by tools/src/bin/erase.rs
+// @generated from crates/fontval/src/serve.rt by tools/erase
 
 //! A run: reads all input, makes all answers, and then writes them.
 
@@ -48,7 +48,7 @@ pub fn serve<A: Allocator + Copy, S: Source, K: Sink>(
     let Ok(output) = answers(alloc, &input) else {
         return Err(ServeFault::Memory);
     };
-    write_all(sink, output.as_bytes())
+    write_all(sink, &output)
 }
 
 // Reads a source to its end.

@@ -1,4 +1,4 @@
-// @generated from crates/fontval/src/text.rt by tools/src/bin/erase.rs
+// @generated from crates/fontval/src/text.rt by tools/erase
 
 //! The lines of an input and the words of a line.
 

@@ -1,9 +1,8 @@
-//! Fallible vectors and strings over std's, which abort if allocation fails.
+//! Fallible vectors over std's, which abort if allocation fails.
 
-use core::fmt;
 use core::marker::PhantomData;
 use core::ops::Deref;
-use std::{string, vec};
+use std::vec;
 
 /// Allocation failed.
 #[derive(Clone, Copy, Debug)]
@@ -26,10 +25,7 @@ pub struct Vec<T, A> {
 
 impl<T, A: Allocator> Vec<T, A> {
     pub fn new(_alloc: A) -> Self {
-        Self {
-            items: vec::Vec::new(),
-            alloc: PhantomData,
-        }
+        Self { items: vec::Vec::new(), alloc: PhantomData }
     }
 
     pub fn with_capacity(alloc: A, capacity: usize) -> Result<Self, AllocError> {
@@ -60,45 +56,5 @@ impl<T, A> Deref for Vec<T, A> {
 
     fn deref(&self) -> &[T] {
         &self.items
-    }
-}
-
-/// A string.
-pub struct String<A> {
-    text: string::String,
-    alloc: PhantomData<A>,
-}
-
-impl<A: Allocator> String<A> {
-    pub fn new(_alloc: A) -> Self {
-        Self {
-            text: string::String::new(),
-            alloc: PhantomData,
-        }
-    }
-
-    pub fn push_str(&mut self, text: &str) -> Result<(), AllocError> {
-        self.text.try_reserve(text.len()).map_err(|_| AllocError)?;
-        self.text.push_str(text);
-        Ok(())
-    }
-
-    /// Writes formatted text, as `write!` does; only an allocation can fail.
-    pub fn write_fmt(&mut self, text: fmt::Arguments<'_>) -> Result<(), AllocError> {
-        fmt::Write::write_fmt(self, text).map_err(|_| AllocError)
-    }
-}
-
-impl<A: Allocator> fmt::Write for String<A> {
-    fn write_str(&mut self, text: &str) -> fmt::Result {
-        self.push_str(text).map_err(|_| fmt::Error)
-    }
-}
-
-impl<A> Deref for String<A> {
-    type Target = str;
-
-    fn deref(&self) -> &str {
-        &self.text
     }
 }

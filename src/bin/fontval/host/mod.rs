@@ -6,7 +6,7 @@ pub mod hex;
 pub mod io;
 
 #[allow(unused_imports)]
-pub use alloc::{String, Vec};
+pub use alloc::Vec;
 
 /// A handle to the host's standard streams and allocator.
 pub struct HostRuntime;

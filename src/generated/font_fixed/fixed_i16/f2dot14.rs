@@ -1,6 +1,17 @@
-// @generated from crates/font_fixed/src/fixed_i16/f2dot14.rt by tools/src/bin/erase.rs
+// @generated from crates/font_fixed/src/fixed_i16/f2dot14.rt by tools/erase
 
 //! 2.14 fixed-point numbers.
+
+#[cfg(doc)]
+use crate::definitions::font_base::Wrap::FitsBits;
+#[cfg(doc)]
+use crate::definitions::font_decimal::Near::up;
+#[cfg(doc)]
+use crate::definitions::font_fixed::F2Dot14::f2dot14_bits as bits_of;
+#[cfg(doc)]
+use crate::definitions::font_fixed::F48Dot16::f48dot16_bits;
+#[cfg(doc)]
+use crate::definitions::font_fixed::Fixed::fixed_bits;
 
 use super::FixedI16;
 use crate::font_fixed::formats::Format;
@@ -44,6 +55,14 @@ impl F2Dot14 {
     pub const NEG_ONE: Self = Self(-0x4000);
 
     /// Converts to [`Fixed`], exactly.
+    ///
+    /// <details><summary>Contract</summary>
+    ///
+    /// ```text
+    /// ensures { fixed_bits result ≡ (bits_of self *ℤ pos 4) }
+    /// ```
+    /// [`fixed_bits`], [`bits_of`]
+    /// </details>
     #[must_use]
     #[inline(always)]
     pub const fn to_fixed(self) -> Fixed {
@@ -53,6 +72,14 @@ impl F2Dot14 {
     /// Adds a sum of deltas, exactly. The result is in units of `2^-30`.
     ///
     /// A delta of 1 is one unit of the raw value, `1 / 16384`.
+    ///
+    /// <details><summary>Contract</summary>
+    ///
+    /// ```text
+    /// ensures { result ≡ (bits_of self *ℤ pos 65536 +ℤ f48dot16_bits delta) }
+    /// ```
+    /// [`bits_of`], [`f48dot16_bits`]
+    /// </details>
     #[must_use]
     #[inline]
     pub fn apply_delta(self, delta: F48Dot16) -> i128 {
@@ -67,6 +94,15 @@ impl F2Dot14 {
     /// let moved = F2Dot14::ONE.apply_delta(F48Dot16::from_i32(-3));
     /// assert_eq!(F2Dot14::round_delta(moved), Some(F2Dot14::from_bits(0x3FFD)));
     /// ```
+    ///
+    /// <details><summary>Contract</summary>
+    ///
+    /// ```text
+    /// ensures variant { IsSome result ↔ FitsBits 16 (up moved 65536) }
+    /// ensures value { IfSome result (λ number. bits_of number ≡ up moved 65536) }
+    /// ```
+    /// [`FitsBits`], [`up`], [`bits_of`]
+    /// </details>
     #[must_use]
     #[inline]
     pub fn round_delta(moved: i128) -> Option<Self> {
@@ -83,6 +119,17 @@ impl F2Dot14 {
     /// let moved = F2Dot14::ONE.checked_add_delta(F48Dot16::ONE);
     /// assert_eq!(moved, Some(F2Dot14::from_bits(0x4001)));
     /// ```
+    ///
+    /// <details><summary>Contract</summary>
+    ///
+    /// ```text
+    /// ensures variant { IsSome result
+    ///     ↔ FitsBits 16 (up (bits_of self *ℤ pos 65536 +ℤ f48dot16_bits delta) 65536) }
+    /// ensures value { IfSome result (λ number. bits_of number
+    ///     ≡ up (bits_of self *ℤ pos 65536 +ℤ f48dot16_bits delta) 65536) }
+    /// ```
+    /// [`FitsBits`], [`up`], [`bits_of`], [`f48dot16_bits`]
+    /// </details>
     #[must_use]
     #[inline]
     pub const fn checked_add_delta(self, delta: F48Dot16) -> Option<Self> {

@@ -1,4 +1,4 @@
-// @generated from crates/font_fixed/src/fixed_i16/f4dot12.rt by tools/src/bin/erase.rs
+// @generated from crates/font_fixed/src/fixed_i16/f4dot12.rt by tools/erase
 
 //! 4.12 fixed-point numbers.
 

@@ -1,4 +1,4 @@
-// @generated from crates/font_fixed/src/fixed_i16/f6dot10.rt by tools/src/bin/erase.rs
+// @generated from crates/font_fixed/src/fixed_i16/f6dot10.rt by tools/erase
 
 //! 6.10 fixed-point numbers.
 

@@ -1,6 +1,25 @@
-// @generated from crates/font_fixed/src/fixed_i32/f26dot6.rt by tools/src/bin/erase.rs
+// @generated from crates/font_fixed/src/fixed_i32/f26dot6.rt by tools/erase
 
 //! 26.6 fixed-point numbers.
+
+#[cfg(doc)]
+use crate::definitions::font_base::Wrap::FitsBits;
+#[cfg(doc)]
+use crate::definitions::font_base::Wrap::wrap;
+#[cfg(doc)]
+use crate::definitions::font_decimal::Near::near;
+#[cfg(doc)]
+use crate::definitions::font_decimal::Near::up;
+#[cfg(doc)]
+use crate::definitions::font_fixed::F26Dot6::f26dot6_bits as bits_of;
+#[cfg(doc)]
+use crate::definitions::font_fixed::Operations::IsNarrowed;
+#[cfg(doc)]
+use crate::definitions::font_fixed::Operations::IsProduct;
+#[cfg(doc)]
+use crate::definitions::font_fixed::Operations::IsQuotient;
+#[cfg(doc)]
+use crate::definitions::font_fixed::Operations::rounded_mul_div;
 
 use super::FixedI32;
 use crate::font_fixed::formats::Format;
@@ -47,6 +66,17 @@ impl F26Dot6 {
     pub const NEG_ONE: Self = Self(-64);
 
     /// Returns `self * other`, rounded half away from zero, or `None` on overflow.
+    ///
+    /// <details><summary>Contract</summary>
+    ///
+    /// ```text
+    /// ensures variant { IsSome result
+    ///     ↔ FitsBits 32 (near (bits_of self *ℤ bits_of other) (2 ^ 6)) }
+    /// ensures value { IfSome result
+    ///     (λ product. bits_of product ≡ near (bits_of self *ℤ bits_of other) (2 ^ 6)) }
+    /// ```
+    /// [`FitsBits`], [`near`], [`bits_of`]
+    /// </details>
     #[must_use]
     #[inline]
     pub const fn checked_mul(self, other: Self) -> Option<Self> {
@@ -58,6 +88,17 @@ impl F26Dot6 {
 
     /// Returns `self / other`, rounded half away from zero, or `None` on overflow or division by
     /// zero.
+    ///
+    /// <details><summary>Contract</summary>
+    ///
+    /// ```text
+    /// ensures variant { IsSome result ↔ ((bits_of other ≢ pos 0)
+    ///     × FitsBits 32 (rounded_mul_div (bits_of self) (pos (2 ^ 6)) (bits_of other))) }
+    /// ensures value { IfSome result (λ quotient. bits_of quotient
+    ///     ≡ rounded_mul_div (bits_of self) (pos (2 ^ 6)) (bits_of other)) }
+    /// ```
+    /// [`bits_of`], [`FitsBits`], [`rounded_mul_div`]
+    /// </details>
     #[must_use]
     #[inline]
     pub const fn checked_div(self, other: Self) -> Option<Self> {
@@ -71,6 +112,15 @@ impl F26Dot6 {
     }
 
     /// Converts an integer from -33554432 to 33554431, wrapping on overflow.
+    ///
+    /// <details><summary>Contract</summary>
+    ///
+    /// ```text
+    /// ensures wrapped { bits_of result ≡ wrap 32 (number *ℤ pos (2 ^ 6)) }
+    /// ensures exact { FitsBits 26 number → bits_of result ≡ (number *ℤ pos (2 ^ 6)) }
+    /// ```
+    /// [`bits_of`], [`wrap`], [`FitsBits`]
+    /// </details>
     #[must_use]
     #[inline(always)]
     pub const fn from_i32(number: i32) -> Self {
@@ -78,6 +128,15 @@ impl F26Dot6 {
     }
 
     /// Converts an integer from -33554432 to 33554431, or returns `None` on overflow.
+    ///
+    /// <details><summary>Contract</summary>
+    ///
+    /// ```text
+    /// ensures variant { IsSome result ↔ FitsBits 32 (number *ℤ pos (2 ^ 6)) }
+    /// ensures value { IfSome result (λ long. bits_of long ≡ (number *ℤ pos (2 ^ 6))) }
+    /// ```
+    /// [`FitsBits`], [`bits_of`]
+    /// </details>
     #[must_use]
     #[inline]
     pub const fn checked_from_i32(number: i32) -> Option<Self> {
@@ -89,6 +148,14 @@ impl F26Dot6 {
 
     /// Rounds to the nearest integer, half up, wrapped to 26 bits: from 33554431.5 on it gives
     /// -33554432.
+    ///
+    /// <details><summary>Contract</summary>
+    ///
+    /// ```text
+    /// ensures { IsNarrowed 26 (bits_of self) (2 ^ 6) result }
+    /// ```
+    /// [`IsNarrowed`], [`bits_of`]
+    /// </details>
     #[must_use]
     #[inline(always)]
     pub const fn to_i32(self) -> i32 {
@@ -96,6 +163,15 @@ impl F26Dot6 {
     }
 
     /// Rounds to the nearest integer, half up, or returns `None` if `to_i32` wraps.
+    ///
+    /// <details><summary>Contract</summary>
+    ///
+    /// ```text
+    /// ensures variant { IsSome result ↔ FitsBits 26 (up (bits_of self) (2 ^ 6)) }
+    /// ensures value { IfSome result (λ number. number ≡ up (bits_of self) (2 ^ 6)) }
+    /// ```
+    /// [`FitsBits`], [`up`], [`bits_of`]
+    /// </details>
     #[must_use]
     #[inline]
     pub const fn checked_to_i32(self) -> Option<i32> {
@@ -104,6 +180,15 @@ impl F26Dot6 {
 }
 
 /// Rounds half away from zero, and wraps on overflow.
+///
+/// <details><summary>Contract</summary>
+///
+/// ```text
+/// ghost mul_gives = { λ x y product.
+///     IsProduct 32 6 (bits_of x) (bits_of y) (bits_of product) };
+/// ```
+/// [`IsProduct`], [`bits_of`]
+/// </details>
 impl Mul for F26Dot6 {
     type Output = F26Dot6;
 
@@ -114,6 +199,15 @@ impl Mul for F26Dot6 {
 }
 
 /// Rounds half away from zero, and wraps on overflow.
+///
+/// <details><summary>Contract</summary>
+///
+/// ```text
+/// ghost mul_assign_gives = { λ x y product.
+///     IsProduct 32 6 (bits_of x) (bits_of y) (bits_of product) };
+/// ```
+/// [`IsProduct`], [`bits_of`]
+/// </details>
 impl MulAssign for F26Dot6 {
     #[inline(always)]
     fn mul_assign(&mut self, other: F26Dot6) {
@@ -124,6 +218,15 @@ impl MulAssign for F26Dot6 {
 /// Rounds half away from zero, and wraps on overflow.
 ///
 /// Division by zero gives [`F26Dot6::MAX`], or `-F26Dot6::MAX` if the dividend is negative.
+///
+/// <details><summary>Contract</summary>
+///
+/// ```text
+/// ghost div_gives = { λ x y quotient.
+///     IsQuotient 32 6 (bits_of x) (bits_of y) (bits_of quotient) };
+/// ```
+/// [`IsQuotient`], [`bits_of`]
+/// </details>
 impl Div for F26Dot6 {
     type Output = F26Dot6;
 
@@ -134,6 +237,15 @@ impl Div for F26Dot6 {
 }
 
 /// Divides as `/` does.
+///
+/// <details><summary>Contract</summary>
+///
+/// ```text
+/// ghost div_assign_gives = { λ x y quotient.
+///     IsQuotient 32 6 (bits_of x) (bits_of y) (bits_of quotient) };
+/// ```
+/// [`IsQuotient`], [`bits_of`]
+/// </details>
 impl DivAssign for F26Dot6 {
     #[inline(always)]
     fn div_assign(&mut self, other: F26Dot6) {

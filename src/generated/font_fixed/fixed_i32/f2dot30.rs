@@ -1,6 +1,29 @@
-// @generated from crates/font_fixed/src/fixed_i32/f2dot30.rt by tools/src/bin/erase.rs
+// @generated from crates/font_fixed/src/fixed_i32/f2dot30.rt by tools/erase
 
 //! 2.30 fixed-point numbers.
+
+#[cfg(doc)]
+use crate::definitions::font_base::Bytes::bytes_of;
+#[cfg(doc)]
+use crate::definitions::font_base::Bytes::signed_numeral;
+#[cfg(doc)]
+use crate::definitions::font_base::Wrap::FitsBits;
+#[cfg(doc)]
+use crate::definitions::font_base::Wrap::fits_bits;
+#[cfg(doc)]
+use crate::definitions::font_base::Wrap::wrap;
+#[cfg(doc)]
+use crate::definitions::font_decimal::Near::up;
+#[cfg(doc)]
+use crate::definitions::font_fixed::F2Dot14::f2dot14_bits;
+#[cfg(doc)]
+use crate::definitions::font_fixed::F2Dot30::f2dot30_bits as bits_of;
+#[cfg(doc)]
+use crate::definitions::font_fixed::F2Dot30::f2dot30_of as of_bits;
+#[cfg(doc)]
+use crate::definitions::font_fixed::Fixed::fixed_bits;
+#[cfg(doc)]
+use crate::definitions::font_fixed::Operations::IsNarrowed;
 
 use super::FixedI32;
 use crate::font_base::{FixedSize, IdentityEq, Scalar};
@@ -45,6 +68,14 @@ impl F2Dot30 {
     pub const NEG_ONE: Self = Self(-0x4000_0000);
 
     /// Converts from [`Fixed`], wrapping on overflow: exact from -2 up to but not including 2.
+    ///
+    /// <details><summary>Contract</summary>
+    ///
+    /// ```text
+    /// ensures { bits_of result ≡ wrap 32 (fixed_bits number *ℤ pos (2 ^ 14)) }
+    /// ```
+    /// [`bits_of`], [`wrap`], [`fixed_bits`]
+    /// </details>
     #[must_use]
     #[inline]
     pub const fn from_fixed(number: Fixed) -> Self {
@@ -52,6 +83,16 @@ impl F2Dot30 {
     }
 
     /// Converts from [`Fixed`], or returns `None` on overflow.
+    ///
+    /// <details><summary>Contract</summary>
+    ///
+    /// ```text
+    /// ensures variant { IsSome result ↔ FitsBits 32 (fixed_bits number *ℤ pos (2 ^ 14)) }
+    /// ensures value { IfSome result
+    ///     (λ long. bits_of long ≡ (fixed_bits number *ℤ pos (2 ^ 14))) }
+    /// ```
+    /// [`FitsBits`], [`fixed_bits`], [`bits_of`]
+    /// </details>
     #[must_use]
     #[inline]
     pub const fn checked_from_fixed(number: Fixed) -> Option<Self> {
@@ -62,6 +103,14 @@ impl F2Dot30 {
     }
 
     /// Converts from [`F2Dot14`], exactly.
+    ///
+    /// <details><summary>Contract</summary>
+    ///
+    /// ```text
+    /// ensures { bits_of result ≡ (f2dot14_bits number *ℤ pos (2 ^ 16)) }
+    /// ```
+    /// [`bits_of`], [`f2dot14_bits`]
+    /// </details>
     #[must_use]
     #[inline]
     pub const fn from_f2dot14(number: F2Dot14) -> Self {
@@ -69,6 +118,14 @@ impl F2Dot30 {
     }
 
     /// Rounds to the nearest [`Fixed`], half up.
+    ///
+    /// <details><summary>Contract</summary>
+    ///
+    /// ```text
+    /// ensures { fixed_bits result ≡ up (bits_of self) (2 ^ 14) }
+    /// ```
+    /// [`fixed_bits`], [`up`], [`bits_of`]
+    /// </details>
     #[must_use]
     #[inline(always)]
     pub const fn to_fixed(self) -> Fixed {
@@ -76,6 +133,14 @@ impl F2Dot30 {
     }
 
     /// Rounds to the nearest [`F2Dot14`], half up, wrapping on overflow.
+    ///
+    /// <details><summary>Contract</summary>
+    ///
+    /// ```text
+    /// ensures { IsNarrowed 16 (bits_of self) (2 ^ 16) (f2dot14_bits result) }
+    /// ```
+    /// [`IsNarrowed`], [`bits_of`], [`f2dot14_bits`]
+    /// </details>
     #[must_use]
     #[inline(always)]
     pub const fn to_f2dot14(self) -> F2Dot14 {
@@ -83,6 +148,15 @@ impl F2Dot30 {
     }
 
     /// Rounds to the nearest [`F2Dot14`], half up, or returns `None` on overflow.
+    ///
+    /// <details><summary>Contract</summary>
+    ///
+    /// ```text
+    /// ensures variant { IsSome result ↔ FitsBits 16 (up (bits_of self) (2 ^ 16)) }
+    /// ensures value { IfSome result (λ narrow. f2dot14_bits narrow ≡ up (bits_of self) (2 ^ 16)) }
+    /// ```
+    /// [`FitsBits`], [`up`], [`bits_of`], [`f2dot14_bits`]
+    /// </details>
     #[must_use]
     #[inline]
     pub const fn checked_to_f2dot14(self) -> Option<F2Dot14> {
@@ -94,6 +168,14 @@ impl F2Dot30 {
 }
 
 /// Converts exactly, as `from_f2dot14` does.
+///
+/// <details><summary>Contract</summary>
+///
+/// ```text
+/// ghost from_gives = { λ number long. bits_of long ≡ (f2dot14_bits number *ℤ pos (2 ^ 16)) };
+/// ```
+/// [`bits_of`], [`f2dot14_bits`]
+/// </details>
 impl From<F2Dot14> for F2Dot30 {
     #[inline]
     fn from(number: F2Dot14) -> F2Dot30 {
@@ -105,6 +187,15 @@ impl FixedSize for F2Dot30 {
     const RAW_BYTE_LEN: usize = 4;
 }
 
+/// <details><summary>Contract</summary>
+///
+/// ```text
+/// ghost is_scalar = { λ x. fits_bits 32 (bits_of x) };
+/// ghost of_raw = { λ bytes. of_bits (signed_numeral 4 bytes) };
+/// ghost raw_of = { λ x. bytes_of 4 (bits_of x) };
+/// ```
+/// [`fits_bits`], [`bits_of`], [`of_bits`], [`signed_numeral`], [`bytes_of`]
+/// </details>
 impl Scalar for F2Dot30 {
     type Raw = [u8; 4];
 

@@ -1,6 +1,41 @@
-// @generated from crates/font_fixed/src/fixed_i32/fixed.rt by tools/src/bin/erase.rs
+// @generated from crates/font_fixed/src/fixed_i32/fixed.rt by tools/erase
 
 //! 16.16 fixed-point numbers.
+
+#[cfg(doc)]
+use crate::definitions::font_base::Bytes::bytes_of;
+#[cfg(doc)]
+use crate::definitions::font_base::Bytes::signed_numeral;
+#[cfg(doc)]
+use crate::definitions::font_base::Wrap::FitsBits;
+#[cfg(doc)]
+use crate::definitions::font_base::Wrap::fits_bits;
+#[cfg(doc)]
+use crate::definitions::font_base::Wrap::wrap;
+#[cfg(doc)]
+use crate::definitions::font_decimal::Near::near;
+#[cfg(doc)]
+use crate::definitions::font_decimal::Near::up;
+#[cfg(doc)]
+use crate::definitions::font_fixed::F2Dot14::f2dot14_bits;
+#[cfg(doc)]
+use crate::definitions::font_fixed::F26Dot6::f26dot6_bits;
+#[cfg(doc)]
+use crate::definitions::font_fixed::F48Dot16::f48dot16_bits;
+#[cfg(doc)]
+use crate::definitions::font_fixed::Fixed::fixed_bits as bits_of;
+#[cfg(doc)]
+use crate::definitions::font_fixed::Fixed::fixed_of as of_bits;
+#[cfg(doc)]
+use crate::definitions::font_fixed::Operations::IsMulDiv;
+#[cfg(doc)]
+use crate::definitions::font_fixed::Operations::IsNarrowed;
+#[cfg(doc)]
+use crate::definitions::font_fixed::Operations::IsProduct;
+#[cfg(doc)]
+use crate::definitions::font_fixed::Operations::IsQuotient;
+#[cfg(doc)]
+use crate::definitions::font_fixed::Operations::rounded_mul_div;
 
 use super::FixedI32;
 use crate::font_base::{FixedSize, IdentityEq, Scalar};
@@ -53,6 +88,15 @@ impl Fixed {
     ///
     /// If `c` is zero, the result is [`Fixed::MAX`], negated if exactly one of `self` and `a` is
     /// negative.
+    ///
+    /// <details><summary>Contract</summary>
+    ///
+    /// ```text
+    /// ensures { IsMulDiv 32 (bits_of self.now) (bits_of a) (bits_of c)
+    ///     (bits_of result) }
+    /// ```
+    /// [`IsMulDiv`], [`bits_of`]
+    /// </details>
     #[must_use]
     #[inline(always)]
     pub const fn mul_div(&self, a: Self, c: Self) -> Self {
@@ -60,6 +104,17 @@ impl Fixed {
     }
 
     /// Returns `self * other`, rounded half away from zero, or `None` on overflow.
+    ///
+    /// <details><summary>Contract</summary>
+    ///
+    /// ```text
+    /// ensures variant { IsSome result
+    ///     ↔ FitsBits 32 (near (bits_of self *ℤ bits_of other) (2 ^ 16)) }
+    /// ensures value { IfSome result
+    ///     (λ product. bits_of product ≡ near (bits_of self *ℤ bits_of other) (2 ^ 16)) }
+    /// ```
+    /// [`FitsBits`], [`near`], [`bits_of`]
+    /// </details>
     #[must_use]
     #[inline]
     pub const fn checked_mul(self, other: Self) -> Option<Self> {
@@ -71,6 +126,17 @@ impl Fixed {
 
     /// Returns `self / other`, rounded half away from zero, or `None` on overflow or division by
     /// zero.
+    ///
+    /// <details><summary>Contract</summary>
+    ///
+    /// ```text
+    /// ensures variant { IsSome result ↔ ((bits_of other ≢ pos 0)
+    ///     × FitsBits 32 (rounded_mul_div (bits_of self) (pos (2 ^ 16)) (bits_of other))) }
+    /// ensures value { IfSome result (λ quotient. bits_of quotient
+    ///     ≡ rounded_mul_div (bits_of self) (pos (2 ^ 16)) (bits_of other)) }
+    /// ```
+    /// [`bits_of`], [`FitsBits`], [`rounded_mul_div`]
+    /// </details>
     #[must_use]
     #[inline]
     pub const fn checked_div(self, other: Self) -> Option<Self> {
@@ -79,6 +145,17 @@ impl Fixed {
 
     /// Returns `self * a / c`, rounded once, half away from zero, or `None` on overflow or if `c`
     /// is zero.
+    ///
+    /// <details><summary>Contract</summary>
+    ///
+    /// ```text
+    /// ensures variant { IsSome result ↔ ((bits_of c ≢ pos 0)
+    ///     × FitsBits 32 (rounded_mul_div (bits_of self) (bits_of a) (bits_of c))) }
+    /// ensures value { IfSome result (λ quotient. bits_of quotient
+    ///     ≡ rounded_mul_div (bits_of self) (bits_of a) (bits_of c)) }
+    /// ```
+    /// [`bits_of`], [`FitsBits`], [`rounded_mul_div`]
+    /// </details>
     #[must_use]
     #[inline]
     pub const fn checked_mul_div(self, a: Self, c: Self) -> Option<Self> {
@@ -92,6 +169,15 @@ impl Fixed {
     }
 
     /// Converts an integer from -32768 to 32767, wrapping on overflow.
+    ///
+    /// <details><summary>Contract</summary>
+    ///
+    /// ```text
+    /// ensures wrapped { bits_of result ≡ wrap 32 (number *ℤ pos (2 ^ 16)) }
+    /// ensures exact { FitsBits 16 number → bits_of result ≡ (number *ℤ pos (2 ^ 16)) }
+    /// ```
+    /// [`bits_of`], [`wrap`], [`FitsBits`]
+    /// </details>
     #[must_use]
     #[inline(always)]
     pub const fn from_i32(number: i32) -> Self {
@@ -99,6 +185,15 @@ impl Fixed {
     }
 
     /// Converts an integer from -32768 to 32767, or returns `None` on overflow.
+    ///
+    /// <details><summary>Contract</summary>
+    ///
+    /// ```text
+    /// ensures variant { IsSome result ↔ FitsBits 32 (number *ℤ pos (2 ^ 16)) }
+    /// ensures value { IfSome result (λ fixed. bits_of fixed ≡ (number *ℤ pos (2 ^ 16))) }
+    /// ```
+    /// [`FitsBits`], [`bits_of`]
+    /// </details>
     #[must_use]
     #[inline]
     pub const fn checked_from_i32(number: i32) -> Option<Self> {
@@ -109,6 +204,14 @@ impl Fixed {
     }
 
     /// Rounds to the nearest integer, half up, wrapped to 16 bits: from 32767.5 on it gives -32768.
+    ///
+    /// <details><summary>Contract</summary>
+    ///
+    /// ```text
+    /// ensures { IsNarrowed 16 (bits_of self) (2 ^ 16) result }
+    /// ```
+    /// [`IsNarrowed`], [`bits_of`]
+    /// </details>
     #[must_use]
     #[inline(always)]
     pub const fn to_i32(self) -> i32 {
@@ -116,6 +219,15 @@ impl Fixed {
     }
 
     /// Rounds to the nearest integer, half up, or returns `None` if `to_i32` wraps.
+    ///
+    /// <details><summary>Contract</summary>
+    ///
+    /// ```text
+    /// ensures variant { IsSome result ↔ FitsBits 16 (up (bits_of self) (2 ^ 16)) }
+    /// ensures value { IfSome result (λ number. number ≡ up (bits_of self) (2 ^ 16)) }
+    /// ```
+    /// [`FitsBits`], [`up`], [`bits_of`]
+    /// </details>
     #[must_use]
     #[inline]
     pub const fn checked_to_i32(self) -> Option<i32> {
@@ -124,6 +236,14 @@ impl Fixed {
 
     /// Rounds to the nearest [`F26Dot6`], half up, its raw bits wrapped to 22 bits: from
     /// `32768 - 1 / 128` on it gives -32768.
+    ///
+    /// <details><summary>Contract</summary>
+    ///
+    /// ```text
+    /// ensures { IsNarrowed 22 (bits_of self) (2 ^ 10) (f26dot6_bits result) }
+    /// ```
+    /// [`IsNarrowed`], [`bits_of`], [`f26dot6_bits`]
+    /// </details>
     #[must_use]
     #[inline(always)]
     pub const fn to_f26dot6(self) -> F26Dot6 {
@@ -131,6 +251,15 @@ impl Fixed {
     }
 
     /// Rounds to the nearest [`F26Dot6`], half up, or returns `None` if `to_f26dot6` wraps.
+    ///
+    /// <details><summary>Contract</summary>
+    ///
+    /// ```text
+    /// ensures variant { IsSome result ↔ FitsBits 22 (up (bits_of self) (2 ^ 10)) }
+    /// ensures value { IfSome result (λ long. f26dot6_bits long ≡ up (bits_of self) (2 ^ 10)) }
+    /// ```
+    /// [`FitsBits`], [`up`], [`bits_of`], [`f26dot6_bits`]
+    /// </details>
     #[must_use]
     #[inline]
     pub const fn checked_to_f26dot6(self) -> Option<F26Dot6> {
@@ -141,6 +270,14 @@ impl Fixed {
     }
 
     /// Rounds to the nearest [`F2Dot14`], half up, wrapping on overflow.
+    ///
+    /// <details><summary>Contract</summary>
+    ///
+    /// ```text
+    /// ensures { IsNarrowed 16 (bits_of self) 4 (f2dot14_bits result) }
+    /// ```
+    /// [`IsNarrowed`], [`bits_of`], [`f2dot14_bits`]
+    /// </details>
     #[must_use]
     #[inline(always)]
     pub const fn to_f2dot14(self) -> F2Dot14 {
@@ -148,6 +285,15 @@ impl Fixed {
     }
 
     /// Rounds to the nearest [`F2Dot14`], half up, or returns `None` on overflow.
+    ///
+    /// <details><summary>Contract</summary>
+    ///
+    /// ```text
+    /// ensures variant { IsSome result ↔ FitsBits 16 (up (bits_of self) 4) }
+    /// ensures value { IfSome result (λ narrow. f2dot14_bits narrow ≡ up (bits_of self) 4) }
+    /// ```
+    /// [`FitsBits`], [`up`], [`bits_of`], [`f2dot14_bits`]
+    /// </details>
     #[must_use]
     #[inline]
     pub const fn checked_to_f2dot14(self) -> Option<F2Dot14> {
@@ -158,6 +304,14 @@ impl Fixed {
     }
 
     /// Converts to [`F48Dot16`], exactly.
+    ///
+    /// <details><summary>Contract</summary>
+    ///
+    /// ```text
+    /// ensures { f48dot16_bits result ≡ bits_of self }
+    /// ```
+    /// [`f48dot16_bits`], [`bits_of`]
+    /// </details>
     #[must_use]
     #[inline(always)]
     pub const fn to_f48dot16(self) -> F48Dot16 {
@@ -165,6 +319,14 @@ impl Fixed {
     }
 
     /// Returns the exact product with an integer.
+    ///
+    /// <details><summary>Contract</summary>
+    ///
+    /// ```text
+    /// ensures { f48dot16_bits result ≡ (bits_of self *ℤ number) }
+    /// ```
+    /// [`f48dot16_bits`], [`bits_of`]
+    /// </details>
     #[must_use]
     #[inline(always)]
     pub const fn mul_i32(self, number: i32) -> F48Dot16 {
@@ -174,6 +336,14 @@ impl Fixed {
     /// Adds a sum of deltas, exactly. The result is in units of `2^-32`.
     ///
     /// A delta of 1 is one unit of the raw value, `1 / 65536`.
+    ///
+    /// <details><summary>Contract</summary>
+    ///
+    /// ```text
+    /// ensures { result ≡ (bits_of self *ℤ pos 65536 +ℤ f48dot16_bits delta) }
+    /// ```
+    /// [`bits_of`], [`f48dot16_bits`]
+    /// </details>
     #[must_use]
     #[inline]
     pub fn apply_delta(self, delta: F48Dot16) -> i128 {
@@ -188,6 +358,15 @@ impl Fixed {
     /// let moved = Fixed::ONE.apply_delta(F48Dot16::from_i32(3));
     /// assert_eq!(Fixed::round_delta(moved), Some(Fixed::from_bits(0x1_0003)));
     /// ```
+    ///
+    /// <details><summary>Contract</summary>
+    ///
+    /// ```text
+    /// ensures variant { IsSome result ↔ FitsBits 32 (up moved 65536) }
+    /// ensures value { IfSome result (λ number. bits_of number ≡ up moved 65536) }
+    /// ```
+    /// [`FitsBits`], [`up`], [`bits_of`]
+    /// </details>
     #[must_use]
     #[inline]
     pub fn round_delta(moved: i128) -> Option<Self> {
@@ -204,6 +383,17 @@ impl Fixed {
     /// let moved = Fixed::ONE.checked_add_delta(F48Dot16::ONE);
     /// assert_eq!(moved, Some(Fixed::from_bits(0x1_0001)));
     /// ```
+    ///
+    /// <details><summary>Contract</summary>
+    ///
+    /// ```text
+    /// ensures variant { IsSome result
+    ///     ↔ FitsBits 32 (up (bits_of self *ℤ pos 65536 +ℤ f48dot16_bits delta) 65536) }
+    /// ensures value { IfSome result (λ number. bits_of number
+    ///     ≡ up (bits_of self *ℤ pos 65536 +ℤ f48dot16_bits delta) 65536) }
+    /// ```
+    /// [`FitsBits`], [`up`], [`bits_of`], [`f48dot16_bits`]
+    /// </details>
     #[must_use]
     #[inline]
     pub const fn checked_add_delta(self, delta: F48Dot16) -> Option<Self> {
@@ -221,6 +411,14 @@ impl Fixed {
 }
 
 /// Returns `moved / 65536`, rounded to the nearest integer, half up.
+///
+/// <details><summary>Contract</summary>
+///
+/// ```text
+/// ensures { result ≡ up moved 65536 }
+/// ```
+/// [`up`]
+/// </details>
 #[must_use]
 #[inline]
 pub fn nearest_step(moved: i128) -> i128 {
@@ -228,6 +426,14 @@ pub fn nearest_step(moved: i128) -> i128 {
 }
 
 /// Returns the sum of an integer and a delta, rounded to the nearest integer, half up.
+///
+/// <details><summary>Contract</summary>
+///
+/// ```text
+/// ensures { result ≡ up (number *ℤ pos 65536 +ℤ f48dot16_bits delta) 65536 }
+/// ```
+/// [`up`], [`f48dot16_bits`]
+/// </details>
 #[must_use]
 #[inline(always)]
 pub const fn nearest_sum(number: i32, delta: F48Dot16) -> i64 {
@@ -247,6 +453,15 @@ const fn low_half(n: i32) -> i16 {
 }
 
 /// Rounds half away from zero, and wraps on overflow.
+///
+/// <details><summary>Contract</summary>
+///
+/// ```text
+/// ghost mul_gives = { λ x y product.
+///     IsProduct 32 16 (bits_of x) (bits_of y) (bits_of product) };
+/// ```
+/// [`IsProduct`], [`bits_of`]
+/// </details>
 impl Mul for Fixed {
     type Output = Fixed;
 
@@ -257,6 +472,15 @@ impl Mul for Fixed {
 }
 
 /// Rounds half away from zero, and wraps on overflow.
+///
+/// <details><summary>Contract</summary>
+///
+/// ```text
+/// ghost mul_assign_gives = { λ x y product.
+///     IsProduct 32 16 (bits_of x) (bits_of y) (bits_of product) };
+/// ```
+/// [`IsProduct`], [`bits_of`]
+/// </details>
 impl MulAssign for Fixed {
     #[inline(always)]
     fn mul_assign(&mut self, other: Fixed) {
@@ -267,6 +491,15 @@ impl MulAssign for Fixed {
 /// Rounds half away from zero, and wraps on overflow.
 ///
 /// Division by zero gives [`Fixed::MAX`], or `-Fixed::MAX` if the dividend is negative.
+///
+/// <details><summary>Contract</summary>
+///
+/// ```text
+/// ghost div_gives = { λ x y quotient.
+///     IsQuotient 32 16 (bits_of x) (bits_of y) (bits_of quotient) };
+/// ```
+/// [`IsQuotient`], [`bits_of`]
+/// </details>
 impl Div for Fixed {
     type Output = Fixed;
 
@@ -277,6 +510,15 @@ impl Div for Fixed {
 }
 
 /// Divides as `/` does.
+///
+/// <details><summary>Contract</summary>
+///
+/// ```text
+/// ghost div_assign_gives = { λ x y quotient.
+///     IsQuotient 32 16 (bits_of x) (bits_of y) (bits_of quotient) };
+/// ```
+/// [`IsQuotient`], [`bits_of`]
+/// </details>
 impl DivAssign for Fixed {
     #[inline(always)]
     fn div_assign(&mut self, other: Fixed) {
@@ -285,6 +527,14 @@ impl DivAssign for Fixed {
 }
 
 /// Converts as `from_i32` does, wrapping on overflow.
+///
+/// <details><summary>Contract</summary>
+///
+/// ```text
+/// ghost from_gives = { λ number fixed. bits_of fixed ≡ wrap 32 (number *ℤ pos (2 ^ 16)) };
+/// ```
+/// [`bits_of`], [`wrap`]
+/// </details>
 impl From<i32> for Fixed {
     #[inline]
     fn from(number: i32) -> Fixed {
@@ -293,6 +543,14 @@ impl From<i32> for Fixed {
 }
 
 /// Converts exactly, as `to_fixed` does.
+///
+/// <details><summary>Contract</summary>
+///
+/// ```text
+/// ghost from_gives = { λ number fixed. bits_of fixed ≡ (f2dot14_bits number *ℤ pos 4) };
+/// ```
+/// [`bits_of`], [`f2dot14_bits`]
+/// </details>
 impl From<F2Dot14> for Fixed {
     #[inline]
     fn from(number: F2Dot14) -> Fixed {
@@ -304,6 +562,15 @@ impl FixedSize for Fixed {
     const RAW_BYTE_LEN: usize = 4;
 }
 
+/// <details><summary>Contract</summary>
+///
+/// ```text
+/// ghost is_scalar = { λ x. fits_bits 32 (bits_of x) };
+/// ghost of_raw = { λ bytes. of_bits (signed_numeral 4 bytes) };
+/// ghost raw_of = { λ x. bytes_of 4 (bits_of x) };
+/// ```
+/// [`fits_bits`], [`bits_of`], [`of_bits`], [`signed_numeral`], [`bytes_of`]
+/// </details>
 impl Scalar for Fixed {
     type Raw = [u8; 4];
 

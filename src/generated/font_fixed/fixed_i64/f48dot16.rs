@@ -1,6 +1,19 @@
-// @generated from crates/font_fixed/src/fixed_i64/f48dot16.rt by tools/src/bin/erase.rs
+// @generated from crates/font_fixed/src/fixed_i64/f48dot16.rt by tools/erase
 
 //! 48.16 fixed-point numbers.
+
+#[cfg(doc)]
+use crate::definitions::font_base::Wrap::FitsBits;
+#[cfg(doc)]
+use crate::definitions::font_base::Wrap::wrap;
+#[cfg(doc)]
+use crate::definitions::font_decimal::Near::up;
+#[cfg(doc)]
+use crate::definitions::font_fixed::F48Dot16::f48dot16_bits as bits_of;
+#[cfg(doc)]
+use crate::definitions::font_fixed::Fixed::fixed_bits;
+#[cfg(doc)]
+use crate::definitions::font_fixed::Operations::IsNarrowed;
 
 use super::FixedI64;
 use crate::font_fixed::formats::Format;
@@ -44,6 +57,14 @@ impl F48Dot16 {
     pub const NEG_ONE: Self = Self(-0x1_0000);
 
     /// Converts an integer from `-2^47` to `2^47 - 1`, wrapping on overflow.
+    ///
+    /// <details><summary>Contract</summary>
+    ///
+    /// ```text
+    /// ensures { bits_of result ≡ wrap 64 (number *ℤ pos (2 ^ 16)) }
+    /// ```
+    /// [`bits_of`], [`wrap`]
+    /// </details>
     #[must_use]
     #[inline(always)]
     pub const fn from_i64(number: i64) -> Self {
@@ -51,6 +72,15 @@ impl F48Dot16 {
     }
 
     /// Converts an integer from `-2^47` to `2^47 - 1`, or returns `None` on overflow.
+    ///
+    /// <details><summary>Contract</summary>
+    ///
+    /// ```text
+    /// ensures variant { IsSome result ↔ FitsBits 64 (number *ℤ pos (2 ^ 16)) }
+    /// ensures value { IfSome result (λ wide. bits_of wide ≡ (number *ℤ pos (2 ^ 16))) }
+    /// ```
+    /// [`FitsBits`], [`bits_of`]
+    /// </details>
     #[must_use]
     #[inline]
     pub const fn checked_from_i64(number: i64) -> Option<Self> {
@@ -61,6 +91,14 @@ impl F48Dot16 {
     }
 
     /// Converts an integer, exactly.
+    ///
+    /// <details><summary>Contract</summary>
+    ///
+    /// ```text
+    /// ensures { bits_of result ≡ (number *ℤ pos (2 ^ 16)) }
+    /// ```
+    /// [`bits_of`]
+    /// </details>
     #[must_use]
     #[inline(always)]
     pub const fn from_i32(number: i32) -> Self {
@@ -69,6 +107,14 @@ impl F48Dot16 {
 
     /// Rounds to the nearest integer, half up, wrapped to 48 bits: from `2^47 - 1 / 2` on it gives
     /// `-2^47`.
+    ///
+    /// <details><summary>Contract</summary>
+    ///
+    /// ```text
+    /// ensures { IsNarrowed 48 (bits_of self) (2 ^ 16) result }
+    /// ```
+    /// [`IsNarrowed`], [`bits_of`]
+    /// </details>
     #[must_use]
     #[inline(always)]
     pub const fn to_i64(self) -> i64 {
@@ -76,6 +122,15 @@ impl F48Dot16 {
     }
 
     /// Rounds to the nearest integer, half up, or returns `None` if `to_i64` wraps.
+    ///
+    /// <details><summary>Contract</summary>
+    ///
+    /// ```text
+    /// ensures variant { IsSome result ↔ FitsBits 48 (up (bits_of self) (2 ^ 16)) }
+    /// ensures value { IfSome result (λ number. number ≡ up (bits_of self) (2 ^ 16)) }
+    /// ```
+    /// [`FitsBits`], [`up`], [`bits_of`]
+    /// </details>
     #[must_use]
     #[inline]
     pub const fn checked_to_i64(self) -> Option<i64> {
@@ -83,6 +138,14 @@ impl F48Dot16 {
     }
 
     /// Rounds to the nearest integer, half up, wrapped to 32 bits.
+    ///
+    /// <details><summary>Contract</summary>
+    ///
+    /// ```text
+    /// ensures { IsNarrowed 32 (bits_of self) (2 ^ 16) result }
+    /// ```
+    /// [`IsNarrowed`], [`bits_of`]
+    /// </details>
     #[must_use]
     #[inline(always)]
     pub const fn to_i32(self) -> i32 {
@@ -90,6 +153,15 @@ impl F48Dot16 {
     }
 
     /// Rounds to the nearest integer, half up, or returns `None` on overflow.
+    ///
+    /// <details><summary>Contract</summary>
+    ///
+    /// ```text
+    /// ensures variant { IsSome result ↔ FitsBits 32 (up (bits_of self) (2 ^ 16)) }
+    /// ensures value { IfSome result (λ number. number ≡ up (bits_of self) (2 ^ 16)) }
+    /// ```
+    /// [`FitsBits`], [`up`], [`bits_of`]
+    /// </details>
     #[must_use]
     #[inline]
     pub const fn checked_to_i32(self) -> Option<i32> {
@@ -97,6 +169,15 @@ impl F48Dot16 {
     }
 
     /// Converts to [`Fixed`], or returns `None` on overflow.
+    ///
+    /// <details><summary>Contract</summary>
+    ///
+    /// ```text
+    /// ensures variant { IsSome result ↔ FitsBits 32 (bits_of self) }
+    /// ensures value { IfSome result (λ fixed. fixed_bits fixed ≡ bits_of self) }
+    /// ```
+    /// [`FitsBits`], [`bits_of`], [`fixed_bits`]
+    /// </details>
     #[must_use]
     #[inline]
     pub const fn checked_to_fixed(self) -> Option<Fixed> {
@@ -107,6 +188,14 @@ impl F48Dot16 {
     }
 
     /// Converts to [`Fixed`], wrapping on overflow.
+    ///
+    /// <details><summary>Contract</summary>
+    ///
+    /// ```text
+    /// ensures { fixed_bits result ≡ wrap 32 (bits_of self) }
+    /// ```
+    /// [`fixed_bits`], [`wrap`], [`bits_of`]
+    /// </details>
     #[must_use]
     #[inline(always)]
     pub const fn to_fixed(self) -> Fixed {

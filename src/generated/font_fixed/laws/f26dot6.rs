@@ -1,10 +1,29 @@
-// @generated from crates/font_fixed/src/laws/f26dot6.rt by tools/src/bin/erase.rs
+// @generated from crates/font_fixed/src/laws/f26dot6.rt by tools/erase
 
 //! Laws of [`F26Dot6`], as contracts of functions.
+
+#[cfg(doc)]
+use crate::definitions::font_fixed::F26Dot6::f26dot6_bits;
+#[cfg(doc)]
+use crate::definitions::font_fixed::NumberLaws::OnThree;
+#[cfg(doc)]
+use crate::definitions::font_fixed::NumberLaws::ProductLaws;
+#[cfg(doc)]
+use crate::definitions::font_fixed::NumberLaws::QuotientLaws;
 
 use crate::font_fixed::F26Dot6;
 
 /// Returns `x * y`, `y * x` and `x * ONE`: the first two are equal, and the third is `x`.
+///
+/// <details><summary>Contract</summary>
+///
+/// ```text
+/// ensures { OnThree result (λ product flipped by_one.
+///     ProductLaws 32 6 (f26dot6_bits x) (f26dot6_bits y)
+///     (f26dot6_bits product) (f26dot6_bits flipped) (f26dot6_bits by_one)) }
+/// ```
+/// [`OnThree`], [`ProductLaws`], [`f26dot6_bits`]
+/// </details>
 #[must_use]
 #[inline]
 pub fn product_laws(x: F26Dot6, y: F26Dot6) -> [F26Dot6; 3] {
@@ -13,6 +32,16 @@ pub fn product_laws(x: F26Dot6, y: F26Dot6) -> [F26Dot6; 3] {
 
 /// Returns `x / y`, `x / ONE` and `x / x`: the second is `x`, and the last is `ONE` unless `x` is
 /// zero.
+///
+/// <details><summary>Contract</summary>
+///
+/// ```text
+/// ensures { OnThree result (λ quotient by_one by_itself.
+///     QuotientLaws 32 6 (f26dot6_bits x) (f26dot6_bits y)
+///     (f26dot6_bits quotient) (f26dot6_bits by_one) (f26dot6_bits by_itself)) }
+/// ```
+/// [`OnThree`], [`QuotientLaws`], [`f26dot6_bits`]
+/// </details>
 #[must_use]
 #[inline]
 pub fn quotient_laws(x: F26Dot6, y: F26Dot6) -> [F26Dot6; 3] {

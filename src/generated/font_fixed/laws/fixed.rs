@@ -1,11 +1,45 @@
-// @generated from crates/font_fixed/src/laws/fixed.rt by tools/src/bin/erase.rs
+// @generated from crates/font_fixed/src/laws/fixed.rt by tools/erase
 
 //! Laws of [`Fixed`], as contracts of functions.
+
+#[cfg(doc)]
+use crate::definitions::font_base::Wrap::FitsBits;
+#[cfg(doc)]
+use crate::definitions::font_base::Wrap::wrap;
+#[cfg(doc)]
+use crate::definitions::font_fixed::Fixed::fixed_bits;
+#[cfg(doc)]
+use crate::definitions::font_fixed::NumberLaws::OnFour;
+#[cfg(doc)]
+use crate::definitions::font_fixed::NumberLaws::ProductInOneStep;
+#[cfg(doc)]
+use crate::definitions::font_fixed::NumberLaws::ProductLaws;
+#[cfg(doc)]
+use crate::definitions::font_fixed::NumberLaws::QuotientInOneStep;
+#[cfg(doc)]
+use crate::definitions::font_fixed::NumberLaws::QuotientLaws;
+#[cfg(doc)]
+use crate::definitions::font_fixed::Operations::IsMulDiv;
+#[cfg(doc)]
+use crate::definitions::font_fixed::Operations::rounded_mul_div;
 
 use crate::font_fixed::Fixed;
 
 /// Returns `x * y`, `y * x`, `x * ONE` and `x.mul_div(y, ONE)`: the third is `x`, and the others
 /// are equal.
+///
+/// <details><summary>Contract</summary>
+///
+/// ```text
+/// ensures laws { OnFour result (λ product flipped by_one in_one_step.
+///     ProductLaws 32 16 (fixed_bits x) (fixed_bits y)
+///     (fixed_bits product) (fixed_bits flipped) (fixed_bits by_one)) }
+/// ensures in_one_step { OnFour result (λ product flipped by_one in_one_step.
+///     ProductInOneStep 32 16 (fixed_bits x) (fixed_bits y)
+///     (fixed_bits product) (fixed_bits in_one_step)) }
+/// ```
+/// [`OnFour`], [`ProductLaws`], [`fixed_bits`], [`ProductInOneStep`]
+/// </details>
 #[must_use]
 #[inline]
 pub fn product_laws(x: Fixed, y: Fixed) -> [Fixed; 4] {
@@ -16,6 +50,19 @@ pub fn product_laws(x: Fixed, y: Fixed) -> [Fixed; 4] {
 ///
 /// The first two are equal, even if `y` is zero; the third is `x`, and the last is `ONE` unless `x`
 /// is zero.
+///
+/// <details><summary>Contract</summary>
+///
+/// ```text
+/// ensures laws { OnFour result (λ quotient in_one_step by_one by_itself.
+///     QuotientLaws 32 16 (fixed_bits x) (fixed_bits y)
+///     (fixed_bits quotient) (fixed_bits by_one) (fixed_bits by_itself)) }
+/// ensures in_one_step { OnFour result (λ quotient in_one_step by_one by_itself.
+///     QuotientInOneStep 32 16 (fixed_bits x) (fixed_bits y)
+///     (fixed_bits quotient) (fixed_bits in_one_step)) }
+/// ```
+/// [`OnFour`], [`QuotientLaws`], [`fixed_bits`], [`QuotientInOneStep`]
+/// </details>
 #[must_use]
 #[inline]
 pub fn quotient_laws(x: Fixed, y: Fixed) -> [Fixed; 4] {
@@ -24,8 +71,52 @@ pub fn quotient_laws(x: Fixed, y: Fixed) -> [Fixed; 4] {
 
 /// Returns `x.mul_div(a, c)` and `y.mul_div(a, c)`, two coordinates scaled by one ratio. If `a` is
 /// not negative, `c` is positive and neither overflows, the greater never becomes the smaller.
+///
+/// <details><summary>Contract</summary>
+///
+/// ```text
+/// ensures first { IsMulDiv 32 (fixed_bits x) (fixed_bits a) (fixed_bits c)
+///     (fixed_bits result.0) }
+/// ensures second { IsMulDiv 32 (fixed_bits y) (fixed_bits a) (fixed_bits c)
+///     (fixed_bits result.1) }
+/// ensures in_order { pos 0 ≤ℤ fixed_bits a → pos 0 <ℤ fixed_bits c
+///     → fixed_bits x ≤ℤ fixed_bits y
+///     → FitsBits 32 (rounded_mul_div (fixed_bits x) (fixed_bits a) (fixed_bits c))
+///     → FitsBits 32 (rounded_mul_div (fixed_bits y) (fixed_bits a) (fixed_bits c))
+///     → fixed_bits result.0 ≤ℤ fixed_bits result.1 }
+/// ```
+/// [`IsMulDiv`], [`fixed_bits`], [`FitsBits`], [`rounded_mul_div`]
+/// </details>
 #[must_use]
 #[inline]
 pub fn scaled_in_order(x: Fixed, y: Fixed, a: Fixed, c: Fixed) -> (Fixed, Fixed) {
     (x.mul_div(a, c), y.mul_div(a, c))
+}
+
+/// Returns `x.mul_div(a, c)`, `y.mul_div(a, c)` and `(x - y).mul_div(a, c)`: two coordinates and
+/// their distance, scaled by one ratio. If `c` is not zero and nothing overflows, the difference of
+/// the first two is within one raw unit of the third.
+///
+/// <details><summary>Contract</summary>
+///
+/// ```text
+/// ensures first { IsMulDiv 32 (fixed_bits x) (fixed_bits a) (fixed_bits c)
+///     (fixed_bits result.0) }
+/// ensures second { IsMulDiv 32 (fixed_bits y) (fixed_bits a) (fixed_bits c)
+///     (fixed_bits result.1) }
+/// ensures third { IsMulDiv 32 (wrap 32 (fixed_bits x -ℤ fixed_bits y)) (fixed_bits a)
+///     (fixed_bits c) (fixed_bits result.2) }
+/// ensures close { fixed_bits c ≢ pos 0 → FitsBits 32 (fixed_bits x -ℤ fixed_bits y)
+///     → FitsBits 32 (rounded_mul_div (fixed_bits x) (fixed_bits a) (fixed_bits c))
+///     → FitsBits 32 (rounded_mul_div (fixed_bits y) (fixed_bits a) (fixed_bits c))
+///     → FitsBits 32
+///     (rounded_mul_div (fixed_bits x -ℤ fixed_bits y) (fixed_bits a) (fixed_bits c))
+///     → unsigned_abs ((fixed_bits result.0 -ℤ fixed_bits result.1) -ℤ fixed_bits result.2) ≤ 1 }
+/// ```
+/// [`IsMulDiv`], [`fixed_bits`], [`wrap`], [`FitsBits`], [`rounded_mul_div`]
+/// </details>
+#[must_use]
+#[inline]
+pub fn scaled_distance(x: Fixed, y: Fixed, a: Fixed, c: Fixed) -> (Fixed, Fixed, Fixed) {
+    (x.mul_div(a, c), y.mul_div(a, c), (x - y).mul_div(a, c))
 }

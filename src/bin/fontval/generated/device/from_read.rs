@@ -1,4 +1,4 @@
-// @generated from crates/fontval/src/device/from_read.rt by tools/src/bin/erase.rs
+// @generated from crates/fontval/src/device/from_read.rt by tools/erase
 
 //! A reader as a source.
 
@@ -16,10 +16,7 @@ pub struct FromRead<R> {
 impl<R: Read> FromRead<R> {
     /// Creates a source that has not failed.
     pub fn new(reader: R) -> Self {
-        FromRead {
-            reader,
-            failed: false,
-        }
+        FromRead { reader, failed: false }
     }
 }
 

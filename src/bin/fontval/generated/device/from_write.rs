@@ -1,4 +1,4 @@
-// @generated from crates/fontval/src/device/from_write.rt by tools/src/bin/erase.rs
+// @generated from crates/fontval/src/device/from_write.rt by tools/erase
 
 //! A writer as a sink.
 
@@ -17,10 +17,7 @@ pub struct FromWrite<W> {
 impl<W: Write> FromWrite<W> {
     /// Creates a sink that has not failed.
     pub fn new(writer: W) -> Self {
-        FromWrite {
-            writer,
-            failed: false,
-        }
+        FromWrite { writer, failed: false }
     }
 }
 

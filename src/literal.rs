@@ -1,0 +1,44 @@
+//! Decimal literals, which the compiler checks.
+
+use crate::{FixedI16, FixedI32, FixedI64, Format};
+
+macro_rules! literal {
+    ($($Type:ident, $width:literal;)*) => {$(
+        impl<const F: u32> $Type<F>
+        where
+            Self: Format<$width, F>,
+        {
+            /// Returns the value of a decimal literal, as `from_decimal` does. In a constant, what
+            /// `from_decimal` refuses does not compile.
+            ///
+            /// # Panics
+            ///
+            /// Panics if `from_decimal` returns an error.
+            ///
+            /// # Examples
+            ///
+            /// ```
+            /// use font_types_proved::Fixed;
+            /// const HALF: Fixed = Fixed::lit("0.5");
+            /// assert_eq!(HALF.to_bits(), 0x8000);
+            /// ```
+            ///
+            /// ```compile_fail,E0080
+            /// use font_types_proved::Fixed;
+            /// const HALF: Fixed = Fixed::lit(".5");
+            /// ```
+            #[must_use]
+            #[inline]
+            #[track_caller]
+            pub const fn lit(decimal: &str) -> Self {
+                let value = match Self::from_decimal(decimal) {
+                    Ok(value) => Some(value),
+                    Err(_) => None,
+                };
+                value.expect("not a decimal, or out of range")
+            }
+        }
+    )*};
+}
+
+literal! { FixedI16, 16; FixedI32, 32; FixedI64, 64; }
