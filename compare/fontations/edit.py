@@ -15,7 +15,7 @@ EDITS = [
     (r"\{BeByteArray, ByteChunks, Scalar\}", "{BeByteArray, ByteChunks, FixedSize, Scalar}", 1),
     (r"pub trait BeByteArray: Copy", r"\g<0> + AsRef<[u8]> + bytemuck::AnyBitPattern", 1),
     (r"Copy \+ Ord \+ IdentityEq> PartialOrd", "Copy + PartialOrd> PartialOrd", 1),
-    (r"Some\(self\.cmp\(other\)\)\n    \}\n\}\n\nimpl<T: Scalar \+ Copy", r"self.get().partial_cmp(&other.get())\n    }\n}\n\nimpl<T: Scalar + Copy", 1),
+    (r"Some\(self\.cmp\(other\)\)(\n    \}\n\}\n\n(///[^\n]*\n)*impl<T: Scalar \+ Copy)", r"self.get().partial_cmp(&other.get())\1", 1),
     (r" \+ Ord \+ IdentityEq> Ord for", " + Ord> Ord for", 1),
     (rf"^pub struct (({NUMBERS})\(|[UI]i?nt24 |BigEndian<)", r"#[repr(transparent)]\n\g<0>", 19),
     (r"^pub struct (Matrix<T>|Point<T>|MajorMinor) ", r"#[repr(C)]\n\g<0>", 3),

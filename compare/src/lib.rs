@@ -86,3 +86,14 @@ pub fn edges(width: u32) -> Vec<i64> {
     edges.dedup();
     edges
 }
+
+font_types_proved::record! {
+    /// A record of an `hmtx` table, which the bench reads from another crate.
+    #[derive(Clone, Copy)]
+    pub struct Metric {
+        /// The advance width.
+        pub advance: u16,
+        /// The left side bearing.
+        pub bearing: i16,
+    }
+}

@@ -53,12 +53,6 @@ fn conversions() {
 }
 
 #[test]
-#[ignore = "all of 2^32 values"]
-fn every_conversion() {
-    (i32::MIN..=i32::MAX).for_each(conversions_of);
-}
-
-#[test]
 fn conversions_of_f48dot16() {
     let mut random = Random::new(2);
     let random: Vec<i64> = (0..2_000_000).map(|_| random.signed(64)).collect();

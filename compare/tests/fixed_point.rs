@@ -1,8 +1,9 @@
-//! Each fixed-point type: text, padding, rounding, sums and bytes. `f2dot30.rs` has the type that
-//! `font-types` lacks.
+//! Each fixed-point type: text, padding, rounding, sums and bytes. `F2Dot30`, which `font-types`
+//! lacks, has its text and rounding compared with exact integers.
 
-use compare::{Random, assert_same, edges, exact, sampled};
-use font_types_proved::{Align, Pad};
+use compare::exact::{self, up, wrap};
+use compare::{Random, assert_same, edges, sampled};
+use font_types_proved::{Align, F2Dot30, Pad};
 
 macro_rules! each_type {
     ($($name:ident $Type:ident $bits:ident $f:literal;)*) => {$(
@@ -77,20 +78,12 @@ each_type! {
 }
 
 fn pads() -> [Pad; 4] {
-    let pad = |width, fill, align| Pad {
-        fill,
-        align,
-        ..Pad::new(width)
-    };
+    let pad = |width, fill, align| Pad { fill, align, ..Pad::new(width) };
     [
         Pad::new(12),
         pad(9, b'*', Align::Left),
         pad(13, b'_', Align::Center),
-        Pad {
-            plus: true,
-            zeros: true,
-            ..Pad::new(12)
-        },
+        Pad { plus: true, zeros: true, ..Pad::new(12) },
     ]
 }
 
@@ -132,10 +125,15 @@ fn sixty_four_bits() {
 }
 
 #[test]
-#[ignore = "all of 2^32 values"]
-fn every_value_of_32_bits() {
-    for bits in i32::MIN..=i32::MAX {
-        fixed::text_and_rounding(bits);
-        f26dot6::text_and_rounding(bits);
+fn f2dot30() {
+    let edges = edges(32).into_iter().map(|bits| bits as i32);
+    for bits in sampled().step_by(4).map(|bits| bits as i32).chain(edges) {
+        let (x, n, one) = (F2Dot30::from_bits(bits), i128::from(bits), 1 << 30);
+        let text = x.to_string();
+        assert_eq!(text, exact::shortest(n, 30), "{bits}");
+        assert_eq!(F2Dot30::from_decimal(&text), Ok(x), "{bits}");
+        let right = [up(n, one) * one, n.div_euclid(one) * one, n.rem_euclid(one)];
+        let found = [x.round(), x.floor(), x.fract()].map(|y| i128::from(y.to_bits()));
+        assert_eq!(found, right.map(|n| wrap(32, n)), "{bits}");
     }
 }

@@ -18,10 +18,7 @@ fn types() -> [Type; 7] {
         ($Type:ident $width:literal $fraction:literal $from_f64:expr) => {
             Type {
                 name: stringify!($Type),
-                exact: exact::Type {
-                    width: $width,
-                    fraction: $fraction,
-                },
+                exact: exact::Type { width: $width, fraction: $fraction },
                 parse: |text| {
                     let x = font_types_proved::$Type::from_decimal(text)?;
                     Ok(x.to_bits().into())
@@ -63,36 +60,6 @@ impl Type {
     fn tie_above(&self, bits: i64) -> (i128, u32) {
         let places = self.exact.fraction + 1;
         ((2 * i128::from(bits) + 1) * 5i128.pow(places), places)
-    }
-}
-
-#[test]
-fn checks_find_differences() {
-    let [right, ..] = types();
-    let zero = Type {
-        parse: |_| Ok(0),
-        ..right
-    };
-    let refused = Type {
-        parse: |_| Err(DecimalFault::Syntax),
-        ..right
-    };
-    let other = Type {
-        from_f64: |_| 0,
-        ..right
-    };
-    type Check = fn(&Type, &str);
-    let rows: [(&Type, Check, &str); 6] = [
-        (&zero, Type::check, "1.5"),
-        (&zero, Type::check, "1e5"),
-        (&zero, Type::check, "2"),
-        (&refused, Type::check, "1.5"),
-        (&refused, Type::check, "2"),
-        (&other, Type::check_with_f64, "1.5"),
-    ];
-    for (n, (of, check, text)) in rows.into_iter().enumerate() {
-        let result = std::panic::catch_unwind(|| check(of, text));
-        assert!(result.is_err(), "{n} {text}");
     }
 }
 
@@ -153,9 +120,7 @@ fn texts_of_up_to_5000_digits() {
                 1 => format!("{tie}{filler}1"),
                 _ => format!("{below}9{}", filler.replace('0', "9")),
             };
-            let (sign, text) = text
-                .strip_prefix('-')
-                .map_or(("", &*text), |text| ("-", text));
+            let (sign, text) = text.strip_prefix('-').map_or(("", &*text), |text| ("-", text));
             of.check(&format!("{sign}{zeros}{text}"));
         }
     }

@@ -90,10 +90,7 @@ fn power(name: &str) -> u32 {
 /// The low bits are those of a wrapping sum of `font-types`, and the value is near its float, whose
 /// terms are rounded to 24 bits.
 fn check_apply_delta(base: i16, raw: i64) {
-    let (ours, theirs) = (
-        here::F48Dot16::from_bits(raw),
-        there::F48Dot16::from_bits(raw),
-    );
+    let (ours, theirs) = (here::F48Dot16::from_bits(raw), there::F48Dot16::from_bits(raw));
     macro_rules! moved {
         ($($Type:ident::$new:ident($base:expr)),*) => {
             [$((
@@ -115,10 +112,7 @@ fn check_apply_delta(base: i16, raw: i64) {
         assert_eq!(moved as i64, sum.to_bits(), "{name} {base} {raw}");
         let far = moved as f64 - f64::from(float) * (1u64 << power(name)) as f64;
         let terms = base.unsigned_abs() as f64 * 65536.0 + raw.unsigned_abs() as f64;
-        assert!(
-            far.abs() <= terms / f64::from(1 << 22),
-            "{name} {base} {raw}: {moved} {float}"
-        );
+        assert!(far.abs() <= terms / f64::from(1 << 22), "{name} {base} {raw}: {moved} {float}");
     }
 }
 
