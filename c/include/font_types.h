@@ -58,10 +58,12 @@
 #define FTY_API_NOEXCEPT noexcept
 #define FTY_API_NULL nullptr
 #define FTY_API_AS(TYPE, VALUE) static_cast<TYPE>(VALUE)
+#define FTY_API_ADDRESS(POINTER) reinterpret_cast<uintptr_t>(POINTER)
 #else
 #define FTY_API_NOEXCEPT
 #define FTY_API_NULL NULL
 #define FTY_API_AS(TYPE, VALUE) ((TYPE)(VALUE))
+#define FTY_API_ADDRESS(POINTER) ((uintptr_t)(POINTER))
 #endif
 #if defined(__GNUC__) || defined(__clang__)
 #define FTY_API_CONST __attribute__((const))
@@ -195,31 +197,6 @@ FTY_API_PURE int32_t fty_f26dot6_mul(int32_t x, int32_t y) FTY_API_NOEXCEPT;
 /** x / y in 26.6, half away from zero; wraps. If y is 0, INT32_MAX, negated if x is negative. */
 FTY_API_PURE int32_t fty_f26dot6_div(int32_t x, int32_t y) FTY_API_NOEXCEPT;
 
-/* ---- conversions to fewer fraction bits, half up; those to as many or more are C, as `bits * 4`
- *      from 2.14 to 16.16, `units * INT64_C(65536)` from font units to 48.16, `(int32_t)bits`
- *      from 48.16 to 16.16, which wraps, fty_f48dot16_to_fixed and fty_fixed_from_i32 ---- */
-
-/** 16.16 to the nearest integer, which is no raw value: 98304 to 2; wraps to 16 bits. */
-FTY_API_PURE int32_t fty_fixed_to_i32(int32_t bits) FTY_API_NOEXCEPT;
-
-/** 16.16 to the nearest 26.6; wraps to 22 bits. */
-FTY_API_PURE int32_t fty_fixed_to_f26dot6(int32_t bits) FTY_API_NOEXCEPT;
-
-/** 16.16 to the nearest 2.14; wraps. */
-FTY_API_PURE int16_t fty_fixed_to_f2dot14(int32_t bits) FTY_API_NOEXCEPT;
-
-/** 26.6 to the nearest integer, which is no raw value: 96 to 2; wraps to 26 bits. */
-FTY_API_PURE int32_t fty_f26dot6_to_i32(int32_t bits) FTY_API_NOEXCEPT;
-
-/** 48.16 to the nearest integer, which is no raw value: 98304 to 2; wraps to 48 bits. */
-FTY_API_PURE int64_t fty_f48dot16_to_i64(int64_t bits) FTY_API_NOEXCEPT;
-
-/** 2.30 to the nearest 16.16. */
-FTY_API_PURE int32_t fty_f2dot30_to_fixed(int32_t bits) FTY_API_NOEXCEPT;
-
-/** 2.30 to the nearest 2.14; wraps. */
-FTY_API_PURE int16_t fty_f2dot30_to_f2dot14(int32_t bits) FTY_API_NOEXCEPT;
-
 /* ---- matrices and points of 16.16 values: products are fty_fixed_mul, sums wrap ---- */
 
 /**
@@ -348,7 +325,7 @@ typedef struct fty_view {
     size_t length;        /**< the number of bytes */
 } fty_view;
 
-/** A view that is absent. */
+/** A view that is absent. (A part of no bytes is not: its bytes are not null.) */
 FTY_API_INLINE fty_view fty_absent(void) FTY_API_NOEXCEPT {
     fty_view absent = {FTY_API_NULL, 0};
     return absent;
@@ -649,16 +626,35 @@ FTY_API_INLINE fty_status fty_write_uint(
     return FTY_OK;
 }
 
+/** @cond */
+/* Stores the last two and four bytes of a number. (Not by a loop, which GCC leaves one at -O2.) */
+static inline void fty_api_put_two(uint8_t *at, uint32_t value) FTY_API_NOEXCEPT {
+    at[0] = FTY_API_AS(uint8_t, value >> 8 & 0xFF);
+    at[1] = FTY_API_AS(uint8_t, value & 0xFF);
+}
+
+static inline void fty_api_put_four(uint8_t *at, uint32_t value) FTY_API_NOEXCEPT {
+    fty_api_put_two(at, value >> 16);
+    fty_api_put_two(at + 2, value);
+}
+/** @endcond */
+
 /** Writes a uint8, or fails by FTY_OUT_OF_BOUNDS. */
 FTY_API_INLINE fty_status fty_write_u8(
     uint8_t *bytes, size_t length, size_t offset, uint8_t value) FTY_API_NOEXCEPT {
-    return fty_write_uint(bytes, length, offset, 1, value);
+    if (offset >= length)
+        return FTY_OUT_OF_BOUNDS;
+    bytes[offset] = value;
+    return FTY_OK;
 }
 
 /** Writes a uint16, or fails by FTY_OUT_OF_BOUNDS. */
 FTY_API_INLINE fty_status fty_write_u16(
     uint8_t *bytes, size_t length, size_t offset, uint16_t value) FTY_API_NOEXCEPT {
-    return fty_write_uint(bytes, length, offset, 2, value);
+    if (length < 2 || offset > length - 2)
+        return FTY_OUT_OF_BOUNDS;
+    fty_api_put_two(bytes + offset, value);
+    return FTY_OK;
 }
 
 /** Writes a uint24, the low 24 bits of the value, or fails by FTY_OUT_OF_BOUNDS. */
@@ -670,13 +666,42 @@ FTY_API_INLINE fty_status fty_write_u24(
 /** Writes a uint32, or fails by FTY_OUT_OF_BOUNDS. */
 FTY_API_INLINE fty_status fty_write_u32(
     uint8_t *bytes, size_t length, size_t offset, uint32_t value) FTY_API_NOEXCEPT {
-    return fty_write_uint(bytes, length, offset, 4, value);
+    if (length < 4 || offset > length - 4)
+        return FTY_OUT_OF_BOUNDS;
+    fty_api_put_four(bytes + offset, value);
+    return FTY_OK;
 }
 
 /** Writes an integer of 64 bits, or fails by FTY_OUT_OF_BOUNDS. */
 FTY_API_INLINE fty_status fty_write_u64(
     uint8_t *bytes, size_t length, size_t offset, uint64_t value) FTY_API_NOEXCEPT {
-    return fty_write_uint(bytes, length, offset, 8, value);
+    if (length < 8 || offset > length - 8)
+        return FTY_OUT_OF_BOUNDS;
+    fty_api_put_four(bytes + offset, FTY_API_AS(uint32_t, value >> 32));
+    fty_api_put_four(bytes + offset + 4, FTY_API_AS(uint32_t, value & 0xFFFFFFFF));
+    return FTY_OK;
+}
+
+/**
+ * Copies the bytes of a view, also if they overlap those that are written. Fails by
+ * FTY_OUT_OF_BOUNDS if the view is absent, or unless all of them are within the array.
+ */
+FTY_API_INLINE fty_status fty_write_bytes(
+    uint8_t *bytes, size_t length, size_t offset, fty_view view) FTY_API_NOEXCEPT {
+    const size_t count = view.length;
+    if (view.bytes == FTY_API_NULL || count > length || offset > length - count)
+        return FTY_OUT_OF_BOUNDS;
+    if (count == 0)
+        return FTY_OK;
+    uint8_t *const at = bytes + offset;
+    if (FTY_API_ADDRESS(at) <= FTY_API_ADDRESS(view.bytes)) {
+        for (size_t i = 0; i < count; i++)
+            at[i] = view.bytes[i];
+    } else {
+        for (size_t i = count; i > 0; i--)
+            at[i - 1] = view.bytes[i - 1];
+    }
+    return FTY_OK;
 }
 
 /* ---- rounding to integers, half up; the result is a raw value too ---- */
@@ -726,6 +751,57 @@ FTY_API_INLINE fty_status fty_round_i64(
     return FTY_OK;
 }
 
+/* ---- conversions to fewer fraction bits, half up; those to as many or more are C, as `bits * 4`
+ *      from 2.14 to 16.16, `units * INT64_C(65536)` from font units to 48.16, `(int32_t)bits`
+ *      from 48.16 to 16.16, which wraps, fty_f48dot16_to_fixed and fty_fixed_from_i32 ---- */
+
+/** @cond */
+/* A number of two's complement, by its bits and the weight of its sign. */
+static inline int32_t fty_api_signed(uint32_t bits, uint32_t sign) FTY_API_NOEXCEPT {
+    return FTY_API_AS(int32_t, bits ^ sign) - FTY_API_AS(int32_t, sign);
+}
+/** @endcond */
+
+/** 16.16 to the nearest integer, which is no raw value: 98304 to 2; wraps to 16 bits. */
+FTY_API_INLINE int32_t fty_fixed_to_i32(int32_t bits) FTY_API_NOEXCEPT {
+    return fty_api_signed((FTY_API_AS(uint32_t, bits) + 0x8000u) >> 16, 0x8000u);
+}
+
+/** 16.16 to the nearest 26.6; wraps to 22 bits. */
+FTY_API_INLINE int32_t fty_fixed_to_f26dot6(int32_t bits) FTY_API_NOEXCEPT {
+    return fty_api_signed((FTY_API_AS(uint32_t, bits) + 0x200u) >> 10, 0x200000u);
+}
+
+/** 16.16 to the nearest 2.14; wraps. */
+FTY_API_INLINE int16_t fty_fixed_to_f2dot14(int32_t bits) FTY_API_NOEXCEPT {
+    const uint32_t nearest = (FTY_API_AS(uint32_t, bits) + 2u) >> 2;
+    return FTY_API_AS(int16_t, fty_api_signed(nearest & 0xFFFFu, 0x8000u));
+}
+
+/** 26.6 to the nearest integer, which is no raw value: 96 to 2; wraps to 26 bits. */
+FTY_API_INLINE int32_t fty_f26dot6_to_i32(int32_t bits) FTY_API_NOEXCEPT {
+    return fty_api_signed((FTY_API_AS(uint32_t, bits) + 32u) >> 6, 0x2000000u);
+}
+
+/** 48.16 to the nearest integer, which is no raw value: 98304 to 2; wraps to 48 bits. */
+FTY_API_INLINE int64_t fty_f48dot16_to_i64(int64_t bits) FTY_API_NOEXCEPT {
+    const uint64_t sign = UINT64_C(1) << 47;
+    const uint64_t nearest = (FTY_API_AS(uint64_t, bits) + 0x8000u) >> 16;
+    return FTY_API_AS(int64_t, nearest ^ sign) - FTY_API_AS(int64_t, sign);
+}
+
+/** 2.30 to the nearest 16.16. */
+FTY_API_INLINE int32_t fty_f2dot30_to_fixed(int32_t bits) FTY_API_NOEXCEPT {
+    /* From the least value on, so that nothing wraps. */
+    const uint32_t halves = (FTY_API_AS(uint32_t, bits) ^ UINT32_C(0x80000000)) >> 13;
+    return FTY_API_AS(int32_t, (halves + 1u) >> 1) - 0x20000;
+}
+
+/** 2.30 to the nearest 2.14; wraps. */
+FTY_API_INLINE int16_t fty_f2dot30_to_f2dot14(int32_t bits) FTY_API_NOEXCEPT {
+    return FTY_API_AS(int16_t, fty_fixed_to_i32(bits));
+}
+
 /* ---- sums and products that wrap: `x - y` of two fields, and `x * 65536` of one, may overflow,
  *      which is undefined behavior in C ---- */
 
@@ -739,7 +815,10 @@ FTY_API_INLINE int32_t fty_fixed_sub(int32_t x, int32_t y) FTY_API_NOEXCEPT {
     return FTY_API_AS(int32_t, FTY_API_AS(uint32_t, x) - FTY_API_AS(uint32_t, y));
 }
 
-/** An integer, as font units, to 16.16, x * 65536; wraps unless x is from -32768 to 32767. */
+/**
+ * An integer, as font units, to 16.16, x * 65536; wraps unless x is from -32768 to 32767. (By
+ * intent: `-fsanitize=integer` of Clang reports it.)
+ */
 FTY_API_INLINE int32_t fty_fixed_from_i32(int32_t x) FTY_API_NOEXCEPT {
     return FTY_API_AS(int32_t, FTY_API_AS(uint32_t, x) * UINT32_C(65536));
 }
@@ -854,6 +933,7 @@ FTY_API_ASSERT(offsetof(fty_view, length) == sizeof(const uint8_t *));
 #undef FTY_API_NOEXCEPT
 #undef FTY_API_NULL
 #undef FTY_API_AS
+#undef FTY_API_ADDRESS
 #undef FTY_API_CONST
 #undef FTY_API_MUST_USE
 #undef FTY_API_PURE

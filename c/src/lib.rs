@@ -25,6 +25,10 @@ mod font_types;
 #[path = "generated/font_c/mod.rs"]
 pub mod font_c;
 
+#[cfg(doc)]
+#[path = "../../src/generated/definitions.rs"]
+pub mod definitions;
+
 /// Returns the values that a caller in C passes. If `len` is zero, the pointer may be null.
 ///
 /// # Safety

@@ -1,7 +1,7 @@
 /*
  * Reads fonts as examples/advance.c does, and compares what it says with the cases of cases.rs:
- * the advances of three glyphs, which the proved Rust gives, or a message. Among them are
- * mutations of each font: a sanitizer sees a read out of bounds.
+ * the advances of three glyphs, which the proved Rust gives, or that it is refused. Among them
+ * are mutations of each font: a sanitizer sees a read out of bounds.
  */
 #define main advance_main
 #include "../examples/advance.c"
@@ -9,7 +9,7 @@
 
 enum { GLYPHS = 3, SIZE = MOST_PIXELS };
 
-static int cases, printed, both, messages, failures;
+static int cases, printed, both, failures;
 
 /* The next bytes of the cases. */
 static fty_view take(fty_view *cases_left, size_t length) {
@@ -18,11 +18,6 @@ static fty_view take(fty_view *cases_left, size_t length) {
         exit(fail("cases", "end early"));
     *cases_left = fty_from(*cases_left, length);
     return taken;
-}
-
-static void check(int holds, const char *what) {
-    if (!holds && failures++ < 20)
-        printf("case %d: %s\n", cases, what);
 }
 
 /* The nearest quotient, half up, of numbers that are not negative. */
@@ -48,8 +43,8 @@ static uint16_t units_per_em_of(fty_view file) {
     return fty_u16(table(&font, FTY_TAG('h', 'e', 'a', 'd'), 54, "head"), 18);
 }
 
-/* What the program says of a font, and what it has to say. */
-static void check_case(uint8_t kind, fty_view file, struct request *request, fty_view glyphs,
+/* What the program says of a font, and what it has to say; of a mutation, if it prints advances. */
+static void check_case(int is_mutated, fty_view file, struct request *request, fty_view glyphs,
                        fty_view answer) {
     struct advance advances[GLYPHS];
     const char *error = NULL;
@@ -57,25 +52,18 @@ static void check_case(uint8_t kind, fty_view file, struct request *request, fty
         request->glyph = fty_u16(glyphs, 2 * i);
         error = read_advance(file, request, &advances[i]);
     }
-    const int is_same = error == NULL && are(advances, answer, units_per_em_of(file));
     printed += error == NULL;
-    switch (kind) {
-    case 'a': check(answer.length == 0 ? error != NULL : is_same, "other advances"); break;
-    case 'c':
-        both += error == NULL && answer.length > 0;
-        check(error != NULL || is_same, "other advances of a mutation");
-        break;
-    default:
-        messages++;
-        check(error != NULL && strlen(error) == answer.length
-                  && memcmp(error, answer.bytes, answer.length) == 0, error);
-    }
+    both += is_mutated && error == NULL && answer.length > 0;
+    const int is_right = error == NULL ? are(advances, answer, units_per_em_of(file))
+                                       : is_mutated || answer.length == 0;
+    if (!is_right && failures++ < 20)
+        printf("case %d: other advances\n", cases);
 }
 
 static void read_case(fty_view *left) {
     struct setting settings[4];
     struct request request = {0, SIZE, settings, 0};
-    const uint8_t kind = fty_u8(take(left, 1), 0);
+    const int is_mutated = fty_u8(take(left, 1), 0);
     const fty_view font = take(left, fty_u32(take(left, 4), 0));
     const size_t count = fty_u8(take(left, 1), 0);
     for (size_t i = 0; i < count; i++) {
@@ -90,7 +78,7 @@ static void read_case(fty_view *left) {
     if (bytes == NULL)
         exit(fail("cases", "no memory"));
     memcpy(bytes, font.bytes, font.length);
-    check_case(kind, (fty_view){bytes, font.length}, &request, glyphs,
+    check_case(is_mutated, (fty_view){bytes, font.length}, &request, glyphs,
                take(left, fty_u8(take(left, 1), 0)));
     free(bytes);
 }
@@ -100,9 +88,9 @@ int main(int count, char **paths) {
     for (fty_view left = all; left.length > 0; cases++)
         read_case(&left);
     free((void *)(uintptr_t)all.bytes);
-    printf("advances: %d fonts, %d printed, %d mutations also by the proved Rust, %d messages, "
-           "%d failed\n", cases, printed, both, messages, failures);
+    printf("advances: %d fonts, %d printed, %d mutations also by the proved Rust, %d failed\n",
+           cases, printed, both, failures);
     /* With other numbers, a part was left out, or one more was refused. */
-    const int are_all = cases == 35425 && printed == 14238 && both == 13915 && messages == 72;
+    const int are_all = cases == 35366 && printed == 14238 && both == 13915;
     return failures == 0 && are_all ? 0 : 1;
 }

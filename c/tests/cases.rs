@@ -8,7 +8,7 @@ mod instance;
 
 use font_types_proved::{Fixed, GlyphId16, Tag};
 use fonts::{
-    MAP, MAPS, font, font_of, fvar, hvar, hvar_of_two_axes, large, long_axes, long_hvar,
+    MAP, MAPS, at_the_limits, font, font_of, fvar, hvar, hvar_of_two_axes, long_axes, long_hvar,
     of_five_axes, two_axes, words,
 };
 
@@ -29,26 +29,28 @@ const SETTINGS: [[&str; 2]; 10] = [
 /// A value of an axis.
 type Setting = (Tag, Fixed);
 
-/// What the program has to say.
-enum Answer {
-    /// The advances of three glyphs, or any message if there are none.
-    Advances(Option<[u16; 3]>),
-    /// If it prints advances, then these.
-    Compared(Option<[u16; 3]>),
-    Message(&'static str),
-}
-
 /// Glyphs of a font that has 48.
 const GLYPHS: [u16; 3] = [0, 1, 2];
 
+/// What is said of a font.
+#[derive(Clone, Copy, PartialEq)]
+enum Font {
+    /// The program prints the advances, or refuses it if there are none.
+    Whole,
+    /// If the program prints advances, then these.
+    Mutated,
+}
+
 /// Adds a case to the bytes of all.
-fn push(cases: &mut Vec<u8>, font: &[u8], settings: &[Setting], glyphs: [u16; 3], answer: &Answer) {
-    let kind = match answer {
-        Answer::Advances(_) => b'a',
-        Answer::Compared(_) => b'c',
-        Answer::Message(_) => b'm',
-    };
-    cases.push(kind);
+fn push(
+    cases: &mut Vec<u8>,
+    kind: Font,
+    font: &[u8],
+    settings: &[Setting],
+    glyphs: [u16; 3],
+    advances: Option<[u16; 3]>,
+) {
+    cases.push(u8::from(kind == Font::Mutated));
     cases.extend((font.len() as u32).to_be_bytes());
     cases.extend(font);
     cases.push(settings.len() as u8);
@@ -57,12 +59,7 @@ fn push(cases: &mut Vec<u8>, font: &[u8], settings: &[Setting], glyphs: [u16; 3]
         cases.extend(value.to_be_bytes());
     }
     cases.extend(words(&glyphs));
-    let answer = match answer {
-        Answer::Advances(units) | Answer::Compared(units) => {
-            units.map_or_else(Vec::new, |units| words(&units))
-        }
-        Answer::Message(message) => message.as_bytes().to_vec(),
-    };
+    let answer = advances.map_or_else(Vec::new, |units| words(&units));
     cases.push(answer.len() as u8);
     cases.extend(answer);
 }
@@ -132,10 +129,7 @@ fn fonts() -> Vec<(Vec<u8>, usize)> {
         (of_five_axes(), 1),
         (UNREAD.into_iter().fold(font(hvar()), with_other_words), 1),
         (font_of([(b"HVAR", hvar())]), 0),
-        (
-            font_of([(b"HVAR", hvar_of_two_axes(MAPS[2])), (b"fvar", long_axes())]),
-            2,
-        ),
+        (font_of([(b"HVAR", hvar_of_two_axes(MAPS[2])), (b"fvar", long_axes())]), 2),
     ];
     fonts.extend(MAPS.map(of_two_axes));
     // A map to below -1, and a region with its peak there.
@@ -188,32 +182,28 @@ fn compared(cases: &mut Vec<u8>) {
     };
     for (font, axes) in fonts() {
         for setting in SETTINGS.map(|values| settings(values, axes)) {
-            let answer = Answer::Advances(by_instance(&font, &setting, GLYPHS).ok());
-            push(cases, &font, &setting, GLYPHS, &answer);
+            let advances = by_instance(&font, &setting, GLYPHS).ok();
+            push(cases, Font::Whole, &font, &setting, GLYPHS, advances);
         }
         for n in 0..1000 {
             let mut font = font.clone();
             mutate(&mut font, &mut random);
             let setting = settings(SETTINGS[n % SETTINGS.len()], axes);
-            let answer = Answer::Compared(by_instance(&font, &setting, GLYPHS).ok());
-            push(cases, &font, &setting, GLYPHS, &answer);
+            let advances = by_instance(&font, &setting, GLYPHS).ok();
+            push(cases, Font::Mutated, &font, &setting, GLYPHS, advances);
         }
     }
 }
 
-/// The font that is broken in [`broken`]: of one axis, with a map of glyphs.
+/// The font that is broken in [`refused`]: of one axis, with a map of glyphs.
 fn whole() -> Vec<u8> {
     font(hvar())
 }
 
-/// A font of 40,000 glyphs, of which the last ones have an advance of more than 15 bits.
-fn of_many_glyphs() -> Vec<u8> {
-    with(large(), b"hmtx", 4 * 299, &[0x8001])
-}
-
 /// The place of the record of a table.
 fn record(font: &[u8], tag: &[u8; 4]) -> usize {
-    let mut records = (12..).step_by(16).take(usize::from(font[5]));
+    let count = u16::from_be_bytes([font[4], font[5]]);
+    let mut records = (12..).step_by(16).take(count.into());
     let record = records.find(|place| font[*place..].starts_with(tag));
     record.expect("a table")
 }
@@ -226,136 +216,32 @@ fn with(mut font: Vec<u8>, tag: &[u8; 4], offset: usize, new: &[u16]) -> Vec<u8>
     font
 }
 
-/// What is wrong with a font, and what the program says: the length of a table, `none` for a table
-/// that is missing, or an offset of a table and other words. Of `fvar`, the values of the axis are
-/// at 20; of `avar`, the segment map is at 8; of `HVAR`, the store is at 20, its regions at 32, its
-/// data at 48, with sets at 58, and the map at 66.
-const BROKEN: &str = "\
-hmtx 3: hmtx ends early
-head 53: head ends early
-hhea 35: hhea ends early
-maxp 5: maxp ends early
-head none: head: not 16 to 16384 units per em
-head 18 15: head: not 16 to 16384 units per em
-head 18 16385: head: not 16 to 16384 units per em
-head 0 2: head: not of version 1
-head 12 0x5F0F 0x3CF4: head: not of version 1
-maxp none: no glyphs
-maxp 0 2: maxp: not of version 0.5 or 1
-hhea none: no advances
-hhea 34 0: no advances
-fvar 15: fvar ends early
-fvar 35: fvar ends early
-fvar 10 19: fvar: not of version 1
-fvar 20 401: fvar: the values of an axis are out of order
-fvar 28 399: fvar: the values of an axis are out of order
-fvar 20 0x8000: fvar: the values of an axis are too far apart
-fvar 20 0x8000 0 0x8000: fvar: the values of an axis are too far apart
-fvar 20 0x8000 0 0x8000 0 0 0: fvar: the values of an axis are too far apart
-avar 7: avar ends early
-avar 9: avar ends early
-avar 25: avar ends early
-avar 6 2: avar: not as many axes
-avar 14 0xC000: avar: a segment map is out of order
-avar 8 2: avar: a segment map without the coordinate
-fvar none: no such axis
-HVAR 19: HVAR ends early
-HVAR 6 0: HVAR: the store ends early
-HVAR 6 65: HVAR: the store ends early
-HVAR 20 2: HVAR: not a store of format 1
-HVAR 24 0: HVAR: the store ends early
-HVAR 24 49: HVAR: the store ends early
-HVAR 30 0: HVAR: the store ends early
-HVAR 30 47: HVAR: the store ends early
-HVAR 48 5: HVAR: the store ends early
-HVAR 52 10: HVAR: the store ends early
-HVAR 32 2: HVAR: not as many axes
-HVAR 34 0x8000: HVAR: a reserved count of regions
-HVAR 34 7: HVAR: the regions end early
-HVAR 56 2: HVAR: no such region
-HVAR 50 3: HVAR: a delta set without a sum
-HVAR 58 0x8000: HVAR: an advance out of range
-HVAR 48 1: HVAR: no such item
-HVAR 70 0x0202: HVAR: no such item
-HVAR 67: HVAR: the map ends early
-HVAR 69: HVAR: the map ends early
-HVAR 71: HVAR: the map ends early
-HVAR 66 0x0100: HVAR: the map ends early
-HVAR 66 0x0200: HVAR: not a map of format 0 or 1
-HVAR 68 0: HVAR: the map is empty
-";
-
-/// Likewise, and `instance` says the same. Of `HVAR`, the number of data of the store is at 26.
-const BROKEN_FOR_BOTH: &str = "\
-hmtx none: hmtx ends early
-hmtx 7: hmtx ends early
-hmtx 99: hmtx ends early
-hhea 0 7: hhea: not of version 1
-fvar 0 2: fvar: not of version 1
-avar 0 2: avar: not of version 1
-HVAR 0 2: HVAR: not of version 1
-HVAR 26 12: HVAR: the store ends early
-HVAR 26 0xFF00: HVAR: the store ends early
-";
-
-/// A number, also of 16 digits.
-fn number(word: &str) -> u16 {
-    match word.strip_prefix("0x") {
-        Some(digits) => u16::from_str_radix(digits, 16).expect(word),
-        None => word.parse().expect(word),
-    }
-}
-
-/// Returns the font of [`whole`], broken as a line says, and what the program says.
-fn broken(line: &'static str) -> (Vec<u8>, &'static str) {
-    let (fault, message) = line.split_once(": ").expect(line);
-    let words: Vec<&str> = fault.split(' ').collect();
-    let (mut font, tag) = (whole(), words[0].as_bytes().try_into().expect("a tag"));
-    let at = record(&font, tag);
-    match words[1..] {
-        // The next tag is in its place.
-        ["none"] => font[at + 3] += 1,
-        [len] => font[at + 12..][..4].copy_from_slice(&u32::from(number(len)).to_be_bytes()),
-        [offset, ref new @ ..] => {
-            let new: Vec<u16> = new.iter().copied().map(number).collect();
-            font = with(font, tag, number(offset).into(), &new);
-        }
-        [] => panic!("{line}"),
-    }
-    (font, message)
-}
-
-/// Other broken fonts.
-fn others() -> [(Vec<u8>, &'static str); 11] {
-    let [mut collection, mut many, mut swapped] = [whole(), whole(), whole()];
-    let [mut twice, mut last_twice, mut beyond] = [whole(), whole(), whole()];
+/// Fonts that are refused, though nothing that is read may be beyond them, or that have more than
+/// there is room for.
+fn refused() -> [Vec<u8>; 13] {
+    let [mut collection, mut twice, mut beyond] = [whole(), whole(), whole()];
     collection[..4].copy_from_slice(b"ttcf");
-    many[4] = 1;
-    let (first, others) = swapped[12..].split_at_mut(16);
-    first.swap_with_slice(&mut others[..16]);
     twice.copy_within(12..28, 28);
-    let last = record(&last_twice, b"name");
-    last_twice.copy_within(last - 16..last, last);
     let at = record(&beyond, b"hmtx") + 8;
     beyond[at] = 1;
-    // Of 39,700 bearings, the last is missing.
-    let mut short = large();
+    // The last bearing is missing.
+    let mut short = at_the_limits();
     let at = record(&short, b"hmtx") + 15;
     short[at] -= 2;
-    let many_axes = fvar(&[(b"wght", [0, 0, 1]); 65]);
-    let without_hvar = [(b"gvar", vec![0; 20]), (b"fvar", two_axes())];
     [
-        (Vec::new(), "not a font of one face"),
-        (collection, "not a font of one face"),
-        (many, "the records of the tables end early"),
-        (swapped, "the tables are out of order"),
-        (twice, "the tables are out of order"),
-        (last_twice, "the tables are out of order"),
-        (beyond, "hmtx ends early"),
-        (short, "hmtx ends early"),
-        (font_of([(b"fvar", many_axes)]), "fvar: too many axes"),
-        (font_of(without_hvar), "gvar without HVAR"),
-        (font(hvar_of_regions(1025)), "HVAR: too many regions"),
+        Vec::new(),
+        collection,
+        twice,
+        beyond,
+        short,
+        font_of([(b"fvar", fvar(&[(b"wght", [0, 0, 1]); 65]))]),
+        font_of([(b"gvar", vec![0; 20]), (b"fvar", two_axes())]),
+        font(hvar_of_regions(1025)),
+        with(whole(), b"head", 18, &[15]),
+        with(whole(), b"head", 18, &[16385]),
+        with(whole(), b"fvar", 20, &[401]),
+        with(whole(), b"HVAR", 34, &[0x8000]),
+        with(whole(), b"HVAR", 66, &[0x0200]),
     ]
 }
 
@@ -364,31 +250,16 @@ fn cases() -> Vec<u8> {
     let mut cases = Vec::new();
     compared(&mut cases);
     let setting = settings(["650", "100"], 1);
-    let [by_c, by_both] = [BROKEN, BROKEN_FOR_BOTH].map(|lines| lines.lines().map(broken));
-    for (font, message) in by_both.clone() {
-        assert_eq!(by_instance(&font, &setting, GLYPHS), Err(message.into()));
+    for font in refused() {
+        push(&mut cases, Font::Whole, &font, &setting, GLYPHS, None);
     }
-    for (font, message) in others().into_iter().chain(by_c).chain(by_both) {
-        push(
-            &mut cases,
-            &font,
-            &setting,
-            GLYPHS,
-            &Answer::Message(message),
-        );
-    }
-    // The second glyph has the last advance of its own, and the third one, after it, the same.
-    for value in ["400", "900", "100"] {
-        let (font, setting, glyphs) =
-            (of_many_glyphs(), settings([value, "100"], 1), [7, 299, 305]);
-        let answer = by_instance(&font, &setting, glyphs).expect("advances");
-        push(
-            &mut cases,
-            &font,
-            &setting,
-            glyphs,
-            &Answer::Advances(Some(answer)),
-        );
+    // The second glyph has the last advance but one of its own, and the third one that of the last.
+    let font = at_the_limits();
+    for value in ["0", "500", "1000"] {
+        let (setting, glyphs) = (settings([value, "100"], 1), [9, 32_998, 65_534]);
+        let advances = by_instance(&font, &setting, glyphs).ok();
+        assert!(advances.is_some());
+        push(&mut cases, Font::Whole, &font, &setting, glyphs, advances);
     }
     cases
 }
@@ -397,5 +268,5 @@ fn main() -> std::io::Result<()> {
     let paths: Vec<_> = std::env::args_os().skip(1).collect();
     std::fs::write(&paths[0], cases())?;
     std::fs::write(&paths[1], whole())?;
-    std::fs::write(&paths[2], of_many_glyphs())
+    std::fs::write(&paths[2], at_the_limits())
 }

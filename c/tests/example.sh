@@ -23,7 +23,8 @@ fi
 # What advance.c prints, of a file of more bytes than it reads at once too.
 cc -std=c99 $strict $warnings examples/advance.c "$archive" -o "$work/advance"
 [[ $("$work/advance" "$work/whole.otf" 16.5 0 wght=1 wght=900) == 'glyph 0: 600, 9.9 pixels' ]]
-[[ $("$work/advance" "$work/large.otf" 16.5 305 wght=900) == 'glyph 305: 33074, 545.72 pixels' ]]
+[[ $("$work/advance" "$work/large.otf" 16.5 33305 wght=1000) == \
+    'glyph 33305: 41325, 681.86 pixels' ]]
 settings=$(printf ' wght=900%.0s' {1..64})
 [[ $("$work/advance" "$work/whole.otf" 4096 2 $settings) == 'glyph 2: 620, 2539.52 pixels' ]]
 
@@ -39,7 +40,7 @@ for glyph in A '' -1 +1 ' 1' 65536 2x; do
     refuses 'not the number of a glyph' "$work/whole.otf" 16 "$glyph"
 done
 refuses 'no such glyph' "$work/whole.otf" 16 48
-refuses 'no such glyph' "$work/large.otf" 16 40000
+refuses 'no such glyph' "$work/large.otf" 16 65535
 for path in "$work/none" "$work"; do
     refuses 'cannot be read' "$path" 16 2
 done

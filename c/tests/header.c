@@ -279,6 +279,32 @@ static void write_uint_of_another_size(void) {
     STATE(byte_at(view, place) == before);
 }
 
+/* Up to 3 bytes of a view are copied, and no other byte is changed. */
+static void copied(fty_view array, fty_view view) {
+    const size_t offset = (size_t)any(), place = (size_t)any();
+    const uint8_t before = byte_at(array, place), copy = byte_at(view, place - offset);
+    const fty_status status =
+        fty_write_bytes((uint8_t *)(uintptr_t)array.bytes, array.length, offset, view);
+    const int fits = view.bytes != NULL && is_within(array, offset, view.length);
+    STATE(status == (fits ? FTY_OK : FTY_OUT_OF_BOUNDS));
+    if (fits && offset <= place && place - offset < view.length)
+        STATE(byte_at(array, place) == copy);
+    else
+        STATE(byte_at(array, place) == before);
+}
+
+static void write_bytes(void) {
+    const uint8_t others[3] = {(uint8_t)any(), (uint8_t)any(), (uint8_t)any()};
+    const fty_view view = {any() % 4 == 0 ? NULL : others, (size_t)(any() % 4)};
+    copied(any_view(), view.bytes == NULL ? fty_absent() : view);
+}
+
+/* Of the same array, of up to 31 bytes, with overlap. */
+static void write_own_bytes(void) {
+    const fty_view array = any_view_below(5);
+    copied(array, fty_part(array, (size_t)any(), (size_t)(any() % 4)));
+}
+
 /* ---- rounding: to the multiple of one below, or from half on to the next ---- */
 
 #define ROUND(WIDTH, MOST)                                                                        \
@@ -317,6 +343,23 @@ static void sums(void) {
     STATE(is_wrapped(fty_fixed_sub(x, y), (int64_t)x - y));
     STATE(is_wrapped(fty_fixed_from_i32(x), INT64_C(65536) * x));
 }
+
+/* The nearest integer, half up, of two's complement in as many bits. */
+#define NARROW(NAME, FROM, SHIFT, WIDTH)                                                          \
+    static void NAME(void) {                                                                      \
+        const FROM bits = (FROM)any();                                                            \
+        const int64_t one = INT64_C(1) << SHIFT, fraction = bits & (one - 1);                     \
+        const int64_t nearest = (bits - fraction) / one + (fraction >= one / 2);                  \
+        const int64_t half = INT64_C(1) << (WIDTH - 1), result = fty_##NAME(bits);                \
+        STATE(-half <= result && result < half && ((result - nearest) & (2 * half - 1)) == 0);    \
+    }
+NARROW(fixed_to_i32, int32_t, 16, 16)
+NARROW(fixed_to_f26dot6, int32_t, 10, 22)
+NARROW(fixed_to_f2dot14, int32_t, 2, 16)
+NARROW(f26dot6_to_i32, int32_t, 6, 26)
+NARROW(f48dot16_to_i64, int64_t, 16, 48)
+NARROW(f2dot30_to_fixed, int32_t, 14, 32)
+NARROW(f2dot30_to_f2dot14, int32_t, 16, 16)
 
 static void to_fixed(void) {
     const int64_t bits = (int64_t)any();
@@ -449,8 +492,10 @@ static const struct {
     OF(at_offset16), OF(at_offset24), OF(at_offset32), OF(write_u8), OF(write_u16), OF(write_u24),
     OF(write_u32), OF(write_u64), OF(write_uint_of_1), OF(write_uint_of_2), OF(write_uint_of_3),
     OF(write_uint_of_4), OF(write_uint_of_5), OF(write_uint_of_6), OF(write_uint_of_7),
-    OF(write_uint_of_8), OF(write_uint_of_another_size), OF(round_i16), OF(round_i32),
-    OF(round_i64), OF(sums), OF(to_fixed), OF(delta_set_length), OF(fixed_named),
+    OF(write_uint_of_8), OF(write_uint_of_another_size), OF(write_bytes), OF(write_own_bytes),
+    OF(round_i16), OF(round_i32), OF(round_i64), OF(sums), OF(fixed_to_i32), OF(fixed_to_f26dot6),
+    OF(fixed_to_f2dot14), OF(f26dot6_to_i32), OF(f48dot16_to_i64), OF(f2dot30_to_fixed),
+    OF(f2dot30_to_f2dot14), OF(to_fixed), OF(delta_set_length), OF(fixed_named),
     OF(f2dot14_named), OF(f26dot6_named), OF(status_text), OF(macros),
 };
 enum { FUNCTIONS = sizeof all / sizeof all[0] };
@@ -483,12 +528,64 @@ static void values_of_opentype(void) {
     const fty_view range = fty_items(coverage, 4, fty_u16(coverage, 2), 6);
     STATE(fty_i16(subtable, 6) == -80);
     STATE(range.bytes == bytes + 12 && range.length == 6 && fty_u16(range, 2) == 444);
+    STATE(fty_from(subtable, 18).bytes == bytes + 18 && fty_from(subtable, 19).bytes == NULL);
+    STATE(fty_at_offset16(subtable, 16).bytes == NULL && fty_u24(subtable, 16) == 0);
+    static const uint8_t far[65537] = {1, 0, 0};
+    const fty_view table = {far, sizeof far};
+    STATE(fty_at_offset24(table, 0).bytes == far + 65536);
+    /* A record that is written: a Tag, a uint24, and the date above. */
+    static const char record[] = "glyf\x01\xF0\x20\0\0\0\0\x7C\x25\xB0\x80";
+    uint8_t written[15] = {0};
+    STATE(fty_write_u64(written, 15, 7, 2082844800) == FTY_OK
+          && fty_write_u24(written, 15, 4, 0x101F020) == FTY_OK
+          && fty_write_u32(written, 15, 0, FTY_TAG('g', 'l', 'y', 'f')) == FTY_OK
+          && fty_write_u16(written, 15, 14, 7) == FTY_OUT_OF_BOUNDS
+          && fty_write_uint(written, 15, 0, 0, 7) == FTY_OUT_OF_BOUNDS
+          && memcmp(written, record, 15) == 0);
+    uint16_t kept = KEPT;
+    STATE(fty_read_u16(subtable, 17, &kept) == FTY_OUT_OF_BOUNDS && kept == KEPT);
+    STATE(fty_fixed_from_i32(-1000) == -65536000 && fty_fixed_sub(1000, 400) == 600
+          && fty_fixed_add(INT32_MAX, 1) == INT32_MIN);
     int16_t of_16 = KEPT;
     int32_t of_32 = KEPT;
     int64_t of_64 = KEPT;
     STATE(fty_round_i16(-24576, 14, &of_16) == FTY_OK && of_16 == -16384); /* -1.5 to -1 */
     STATE(fty_round_i32(98304, 16, &of_32) == FTY_OK && of_32 == 131072);  /* 1.5 to 2 */
     STATE(fty_round_i64(-98304, 16, &of_64) == FTY_OK && of_64 == -65536);
+    STATE(fty_round_i32(0, 5, &of_32) == FTY_BAD_FRACTION && of_32 == 131072);
+    STATE(fty_f48dot16_to_fixed(INT32_MIN, &of_32) == FTY_OK && of_32 == INT32_MIN);
+    /* Ties, and the greatest values, which wrap; 0.6 of 2.30. */
+    STATE(fty_fixed_to_i32(-98304) == -1 && fty_fixed_to_i32(INT32_MAX) == -32768);
+    STATE(fty_fixed_to_f26dot6(512) == 1 && fty_fixed_to_f26dot6(INT32_MAX) == -2097152);
+    STATE(fty_fixed_to_f2dot14(-2) == 0 && fty_fixed_to_f2dot14(788970743) == -20674);
+    STATE(fty_f26dot6_to_i32(-32) == 0 && fty_f26dot6_to_i32(INT32_MAX) == -33554432);
+    STATE(fty_f48dot16_to_i64(-98304) == -1
+          && fty_f48dot16_to_i64(INT64_MAX) == INT64_C(-140737488355328));
+    STATE(fty_f2dot30_to_fixed(0x26666666) == 39322 && fty_f2dot30_to_fixed(INT32_MAX) == 131072);
+    STATE(fty_f2dot30_to_f2dot14(0x26666666) == 9830
+          && fty_f2dot30_to_f2dot14(2147475456) == -32768);
+    /* A part of no bytes is there, and an absent one is not written. */
+    const fty_view none = fty_part(subtable, sizeof bytes, 0);
+    STATE(none.bytes == bytes + sizeof bytes && fty_write_bytes(written, 15, 15, none) == FTY_OK
+          && fty_write_bytes(written, 15, 0, fty_absent()) == FTY_OUT_OF_BOUNDS);
+    /* Bytes of the array itself, in both directions. */
+    const fty_view tag = {written, 4}, date = {written + 11, 4};
+    STATE(fty_write_bytes(written, 15, 2, tag) == FTY_OK && memcmp(written, "glglyf", 6) == 0);
+    STATE(fty_write_bytes(written, 15, 9, date) == FTY_OK
+          && memcmp(written + 9, "\x7C\x25\xB0\x80\xB0\x80", 6) == 0);
+    STATE(fty_write_bytes(written, 15, 12, tag) == FTY_OUT_OF_BOUNDS);
+}
+
+/* Bytes of an array that are copied within it, as by memmove. */
+static void like_memmove(void) {
+    uint8_t one[64], other[64];
+    for (size_t i = 0; i < 64; i++)
+        one[i] = other[i] = (uint8_t)any();
+    const size_t start = (size_t)(any() % 65), offset = (size_t)(any() % 65);
+    const fty_view all_bytes = {one, 64}, view = fty_part(all_bytes, start, (size_t)(any() % 65));
+    if (fty_write_bytes(one, 64, offset, view) == FTY_OK)
+        memmove(other + offset, other + start, view.length);
+    STATE(memcmp(one, other, 64) == 0);
 }
 
 int main(int count, char **words) {
@@ -498,11 +595,13 @@ int main(int count, char **words) {
     if (is_list)
         return 0;
     values_of_opentype();
+    for (int i = 0; i < ROUNDS; i++)
+        like_memmove();
     for (size_t k = 0; k < FUNCTIONS; k++)
         for (int i = 0; i < ROUNDS; i++)
             all[k].state();
     printf("header: %d checks, %d failed\n", checks, failures);
     /* With another number, a part was left out. */
-    return failures == 0 && checks == 9600023 ? 0 : 1;
+    return failures == 0 && checks == 10800042 ? 0 : 1;
 }
 #endif

@@ -13,6 +13,17 @@ fails grep -v "@@FONT_TYPES_$version\$" <<<"$exported"
 [[ $(names <<<"$exported") == "$declared" ]]
 cc -std=c99 -Iinclude -c tests/table.c -o "$work/table.o"
 [[ $(nm -u "$work/table.o" | names) == "$declared" ]]
+# Their types are those of the Rust that is compiled. An enum is returned as 32 bits.
+in_c=$(grep -oE '[a-z0-9_]+ fty_[a-z0-9_]+\([^()]*\) noexcept *;' <<<"$text" | sed -E '
+    s/ noexcept *;//; s/\(void\)/()/; s/ *\*[a-z_]+/*/g; s/ [a-z_]+([,)])/\1/g
+    s/\bchar\b/uint8_t/g; s/\bfty_status\b/uint32_t/; s/([(,]) +/\1/g' | sort)
+in_rust=$(cat src/generated/font_c/*.rs | tr -d '\n' | grep -oE '"C" fn fty_[^{]*' | sed -E '
+    s/"C" fn (.*)\) -> (\w+) *$/\2 \1)/; s/"C" fn /void /; s/[a-z_]+: //g; s/,? *\) *$/)/
+    s/\*const (\w+)/const \1*/g; s/[*&]mut (\w+)/\1*/g; s/&(\w+)/const \1*/g
+    s/Font(Matrix|Pad|Point)/fty_\L\1/g; s/\bu(8|16|32|64)\b/uint\1_t/g
+    s/\bi(8|16|32|64)\b/int\1_t/g; s/usize/size_t/g; s/([(,]) +/\1/g' | sort)
+diff <(echo "$in_c") <(echo "$in_rust")
+
 calls=$(cc -E -Iinclude tests/header.c | awk '/^# /{own = $3 == "\"tests/header.c\""} own' | names)
 [[ -z $(comm -23 <(echo "$inline") <(echo "$calls")) ]]
 

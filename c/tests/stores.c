@@ -1,5 +1,5 @@
 /*
- * Calls each function that stores a result, with places that were never stored to, each once. It
+ * Calls each export that stores a result, with places that were never stored to, each once. It
  * prints the upper digits of their addresses: a trace of its memory must have no load from there.
  */
 #include "font_types.h"
@@ -74,30 +74,6 @@ static void make_tags(void) {
     results += fty_tag_to_text(tag, (char *)place(25), any() % 26, (size_t *)place(8));
 }
 
-/* The functions that the header has in C. */
-static void read_round_and_write(void) {
-    const uint64_t bytes = any();
-    const fty_view view = {(const uint8_t *)&bytes, any() % 9};
-    const size_t offset = any() % 5;
-    const uint32_t f = (uint32_t)(any() % 33);
-    const int64_t bits = (int64_t)any() >> any() % 64;
-    results += fty_read_u8(view, offset, (uint8_t *)place(1));
-    results += fty_read_i8(view, offset, (int8_t *)place(1));
-    results += fty_read_u16(view, offset, (uint16_t *)place(2));
-    results += fty_read_i16(view, offset, (int16_t *)place(2));
-    results += fty_read_u24(view, offset, (uint32_t *)place(4));
-    results += fty_read_i24(view, offset, (int32_t *)place(4));
-    results += fty_read_u32(view, offset, (uint32_t *)place(4));
-    results += fty_read_i32(view, offset, (int32_t *)place(4));
-    results += fty_read_i64(view, 0, (int64_t *)place(8));
-    results += fty_read_uint(view, offset, any() % 6, (uint32_t *)place(4));
-    results += fty_round_i16((int16_t)bits, f, (int16_t *)place(2));
-    results += fty_round_i32((int32_t)bits, f, (int32_t *)place(4));
-    results += fty_round_i64(bits, f, (int64_t *)place(8));
-    results += fty_f48dot16_to_fixed(bits, (int32_t *)place(4));
-    results += fty_write_uint((uint8_t *)place(16), 16, offset, any() % 10, bytes);
-}
-
 int main(int count, char **arguments) {
     uint8_t *const places = (uint8_t *)aligned_alloc(PLACES, PLACES);
     if (places == NULL)
@@ -110,7 +86,6 @@ int main(int count, char **arguments) {
         parse_and_format();
         sum();
         make_tags();
-        read_round_and_write();
     }
     printf("%llx\n", (unsigned long long)(uintptr_t)places / PLACES);
     return results == 0;

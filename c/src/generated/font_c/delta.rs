@@ -1,4 +1,4 @@
-// @generated from crates/font_c/src/delta.rt by tools/src/bin/erase.rs
+// @generated from crates/font_c/src/delta.rt by tools/erase
 
 //! Sums of deltas, and what they move.
 

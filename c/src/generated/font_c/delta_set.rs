@@ -1,4 +1,4 @@
-// @generated from crates/font_c/src/delta_set.rt by tools/src/bin/erase.rs
+// @generated from crates/font_c/src/delta_set.rt by tools/erase
 
 //! Sums over delta sets of item variation stores.
 

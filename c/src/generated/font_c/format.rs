@@ -1,4 +1,4 @@
-// @generated from crates/font_c/src/format.rt by tools/src/bin/erase.rs
+// @generated from crates/font_c/src/format.rt by tools/erase
 
 //! Decimals written to buffers of C.
 
@@ -62,11 +62,7 @@ pub unsafe extern "C" fn fty_format(
     if !is_fraction(64, fraction_bits) {
         return BAD_FRACTION;
     }
-    put_text(
-        Shortest::new(bits, fraction_bits).as_str().as_bytes(),
-        out,
-        written,
-    )
+    put_text(Shortest::new(bits, fraction_bits).as_str().as_bytes(), out, written)
 }
 
 /// Writes that decimal padded to the start of `out`, and its length to `written`.
@@ -84,12 +80,7 @@ pub unsafe extern "C" fn fty_format_padded(
         return BAD_FRACTION;
     }
     match Pad::try_from(*pad) {
-        Ok(pad) => put_padded(
-            Shortest::new(bits, fraction_bits).as_str(),
-            &pad,
-            out,
-            written,
-        ),
+        Ok(pad) => put_padded(Shortest::new(bits, fraction_bits).as_str(), &pad, out, written),
         Err(_) => BAD_PAD,
     }
 }

@@ -1,4 +1,4 @@
-// @generated from crates/font_c/src/laws.rt by tools/src/bin/erase.rs
+// @generated from crates/font_c/src/laws.rt by tools/erase
 
 //! The bounds of matrices, as contracts of functions that make two calls of exports.
 

@@ -1,4 +1,4 @@
-// @generated from crates/font_c/src/matrix.rt by tools/src/bin/erase.rs
+// @generated from crates/font_c/src/matrix.rt by tools/erase
 
 //! Matrices and points of 16.16 values.
 
@@ -53,10 +53,7 @@ impl From<FontMatrix> for Matrix<Fixed> {
 
 impl From<Point<Fixed>> for FontPoint {
     fn from(point: Point<Fixed>) -> Self {
-        Self {
-            x: point.x.to_bits(),
-            y: point.y.to_bits(),
-        }
+        Self { x: point.x.to_bits(), y: point.y.to_bits() }
     }
 }
 

@@ -1,4 +1,4 @@
-// @generated from crates/font_c/src/lib.rt by tools/src/bin/erase.rs
+// @generated from crates/font_c/src/lib.rt by tools/erase
 
 //! The library for C: fixed-point numbers, matrices, tags and sums of deltas.
 //!
@@ -13,7 +13,6 @@ mod delta_set;
 mod format;
 pub mod laws;
 mod matrix;
-mod narrow;
 mod parse;
 mod product;
 mod status;

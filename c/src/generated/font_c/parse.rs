@@ -1,4 +1,4 @@
-// @generated from crates/font_c/src/parse.rt by tools/src/bin/erase.rs
+// @generated from crates/font_c/src/parse.rt by tools/erase
 
 //! Decimals parsed to raw values.
 

@@ -1,4 +1,4 @@
-// @generated from crates/font_c/src/product.rt by tools/src/bin/erase.rs
+// @generated from crates/font_c/src/product.rt by tools/erase
 
 //! Products and quotients of 16.16 and 26.6 raw values.
 
@@ -21,9 +21,7 @@ pub extern "C" fn fty_fixed_div(x: i32, y: i32) -> i32 {
 /// the result is the largest value, negated if exactly one of `x` and `a` is negative.
 #[unsafe(no_mangle)]
 pub extern "C" fn fty_fixed_mul_div(x: i32, a: i32, c: i32) -> i32 {
-    Fixed::from_bits(x)
-        .mul_div(Fixed::from_bits(a), Fixed::from_bits(c))
-        .to_bits()
+    Fixed::from_bits(x).mul_div(Fixed::from_bits(a), Fixed::from_bits(c)).to_bits()
 }
 
 /// Multiplies 26.6 values, rounding half away from zero and wrapping on overflow.

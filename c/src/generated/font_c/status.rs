@@ -1,4 +1,4 @@
-// @generated from crates/font_c/src/status.rt by tools/src/bin/erase.rs
+// @generated from crates/font_c/src/status.rt by tools/erase
 
 //! The results of the exports: `fty_status` of the header.
 

@@ -1,4 +1,4 @@
-// @generated from crates/font_c/src/tag.rt by tools/src/bin/erase.rs
+// @generated from crates/font_c/src/tag.rt by tools/erase
 
 //! Tags, as 32-bit numbers with their big-endian bytes.
 

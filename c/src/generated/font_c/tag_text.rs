@@ -1,4 +1,4 @@
-// @generated from crates/font_c/src/tag_text.rt by tools/src/bin/erase.rs
+// @generated from crates/font_c/src/tag_text.rt by tools/erase
 
 //! The text of a tag, in a buffer of its own.
 
@@ -32,10 +32,7 @@ impl TagText {
     }
 
     fn empty() -> Self {
-        Self {
-            bytes: [0; LEN],
-            len: 0,
-        }
+        Self { bytes: [0; LEN], len: 0 }
     }
 
     // Appends the text of a byte.

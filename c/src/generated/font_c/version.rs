@@ -1,4 +1,4 @@
-// @generated from crates/font_c/src/version.rt by tools/src/bin/erase.rs
+// @generated from crates/font_c/src/version.rt by tools/erase
 
 //! The version of the library.
 
