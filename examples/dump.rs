@@ -28,7 +28,8 @@ pub fn dump(font: &Font<'_>, characters: &str, out: &mut impl Write) -> fmt::Res
         line::<MajorMinor>(out, "head version", head, 0)?;
         line::<Fixed>(out, "font revision", head, 4)?;
         line::<u16>(out, "units per em", head, 18)?;
-        line::<LongDateTime>(out, "modified", head, 28)?;
+        let modified = LongDateTime::read_at(head, 28).map(|date| date.as_secs());
+        value(out, "modified, in seconds since 1904", modified)?;
         line::<FWord>(out, "x min", head, 36)?;
     }
     if let Some(hhea) = font.table(b"hhea") {
@@ -56,14 +57,19 @@ pub fn dump(font: &Font<'_>, characters: &str, out: &mut impl Write) -> fmt::Res
 }
 
 /// Writes a field, if the table has it.
-fn line<T: Scalar + fmt::Debug>(
+fn line<T: Scalar + fmt::Display>(
     out: &mut impl Write,
     what: &str,
     table: &[u8],
     offset: usize,
 ) -> fmt::Result {
-    match T::read_at(table, offset) {
-        Some(value) => writeln!(out, "{what}: {value:?}"),
+    value(out, what, T::read_at(table, offset))
+}
+
+/// Writes a value, if there is one.
+fn value(out: &mut impl Write, what: &str, value: Option<impl fmt::Display>) -> fmt::Result {
+    match value {
+        Some(value) => writeln!(out, "{what}: {value}"),
         None => Ok(()),
     }
 }

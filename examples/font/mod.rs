@@ -2,7 +2,7 @@
 #![allow(dead_code)]
 
 use font_types_proved::{
-    FWord, GlyphId16, Offset32, Scalar, ScalarArray, TableDataRef, TableHeader, Tag, UfWord, record,
+    FWord, GlyphId16, Offset32, Scalar, ScalarArray, TableDataRef, Tag, UfWord, record,
 };
 
 /// Returns the bytes from where an [`Offset32`] at `offset` points, or `None` past the end.
@@ -28,14 +28,11 @@ record! {
     }
 }
 
-/// The header of a font: how many tables it has.
-struct Header(u16);
-
-impl TableHeader for Header {
-    const BYTE_LEN: usize = 12;
-
-    fn decode(bytes: &[u8]) -> Self {
-        Self(u16::read_at(bytes, 4).expect("12 bytes"))
+record! {
+    struct FontHeader {
+        version: u32,
+        table_count: u16,
+        search: [u16; 3],
     }
 }
 
@@ -47,15 +44,13 @@ pub struct Font<'a> {
 
 impl<'a> Font<'a> {
     pub fn new(data: &'a [u8]) -> Option<Self> {
-        let (Header(count), rest) = TableDataRef::<Header>::new(data)?.split();
-        let tables = ScalarArray::read_at(rest, 0, count.into())?;
+        let (header, rest) = TableDataRef::<FontHeader>::new(data)?.split();
+        let tables = ScalarArray::read_at(rest, 0, header.table_count.into())?;
         Some(Self { data, tables })
     }
 
     pub fn table(&self, tag: &[u8; 4]) -> Option<&'a [u8]> {
-        let place = self
-            .tables
-            .binary_search_by_key(&Tag::new(tag), |table| table.tag);
+        let place = self.tables.binary_search_by_key(&Tag::new(tag), |table| table.tag);
         let record = self.tables.get(place.ok()?)?;
         let start = record.offset.to_u32() as usize;
         self.data.get(start..)?.get(..record.length as usize)

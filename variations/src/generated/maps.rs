@@ -1,4 +1,4 @@
-// @generated from crates/variations/src/maps.rt by tools/src/bin/erase.rs
+// @generated from crates/variations/src/maps.rt by tools/erase
 
 //! Maps from indices to delta sets.
 
@@ -7,11 +7,14 @@ use font_types_proved::{Scalar, Uint24};
 /// The indices of a delta set: of a subtable, and in it.
 #[derive(Clone, Copy, PartialEq, Debug)]
 pub struct DeltaSetIndex {
+    /// The index of the subtable in the store.
     pub outer: u32,
+    /// The index of the set in the subtable.
     pub inner: u32,
 }
 
 /// Returns whether the indices are those of an item without variation data.
+#[must_use]
 pub fn is_no_variation(set: DeltaSetIndex) -> bool {
     set.outer == 0xFFFF && set.inner == 0xFFFF
 }
@@ -24,6 +27,7 @@ const MAP_ENTRY_SIZE_MASK: u8 = 0x30;
 /// Reads the delta set of an index by a map of format 0 or 1; the last entry is that of all later
 /// indices. Returns `None` for another format or a map of no entries, or if the map ends before the
 /// entry does.
+#[must_use]
 pub fn read_delta_set_index(map: &[u8], index: u32) -> Option<DeltaSetIndex> {
     let (count, start) = match u8::read_at(map, 0)? {
         0 => (u32::from(u16::read_at(map, 2)?), 4),
@@ -60,8 +64,5 @@ fn read_entry(map: &[u8], offset: usize, width: usize) -> Option<u32> {
 
 // Splits an entry: the inner index is its low bits.
 fn split_entry(entry: u32, bits: u32) -> DeltaSetIndex {
-    DeltaSetIndex {
-        outer: entry >> bits,
-        inner: entry & ((1 << bits) - 1),
-    }
+    DeltaSetIndex { outer: entry >> bits, inner: entry & ((1 << bits) - 1) }
 }

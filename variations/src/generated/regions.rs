@@ -1,4 +1,4 @@
-// @generated from crates/variations/src/regions.rt by tools/src/bin/erase.rs
+// @generated from crates/variations/src/regions.rt by tools/erase
 
 //! Variation regions: the scalar of each axis, and of a region.
 
@@ -8,13 +8,17 @@ use font_types_proved::{F2Dot14, Fixed, Scalar};
 /// The extent of a region along one axis.
 #[derive(Clone, Copy, PartialEq, Debug)]
 pub struct RegionAxisCoordinates {
+    /// Where the region starts.
     pub start_coord: F2Dot14,
+    /// Where its scalar is 1.
     pub peak_coord: F2Dot14,
+    /// Where it ends.
     pub end_coord: F2Dot14,
 }
 
 /// Returns whether an axis is ignored in a region: its coordinates are out of order or on both
 /// sides of zero, or the peak is zero.
+#[must_use]
 pub fn is_ignored(axis: RegionAxisCoordinates) -> bool {
     let zero = F2Dot14::ZERO;
     axis.peak_coord < axis.start_coord
@@ -24,6 +28,7 @@ pub fn is_ignored(axis: RegionAxisCoordinates) -> bool {
 }
 
 /// Returns the scalar of a region along one axis, from 0 to 1.
+#[must_use]
 pub fn axis_scalar(axis: RegionAxisCoordinates, coordinate: F2Dot14) -> Fixed {
     if is_ignored(axis) || coordinate == axis.peak_coord {
         Fixed::ONE
@@ -100,6 +105,7 @@ fn find_region(regions: &[u8], region: u16) -> Option<&[u8]> {
 
 /// Returns the scalar of a region, the product of those of its axes, from 0 to 1, or `None` if the
 /// list does not have the region. Axes beyond the coordinates are at their default.
+#[must_use]
 pub fn region_scalar(regions: &[u8], region: u16, coordinates: &[F2Dot14]) -> Option<Fixed> {
     let region = find_region(regions, region)?;
     let axes = u16::read_at(regions, 0)?;

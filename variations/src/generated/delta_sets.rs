@@ -1,4 +1,4 @@
-// @generated from crates/variations/src/delta_sets.rt by tools/src/bin/erase.rs
+// @generated from crates/variations/src/delta_sets.rt by tools/erase
 
 //! Delta sets of item variation data: their deltas, their sums, and advances that they move.
 
@@ -12,6 +12,7 @@ const WORD_DELTA_COUNT_MASK: u16 = 0x7FFF;
 
 /// Reads the delta of a column in a set, or returns `None` if the subtable does not have it. The
 /// first columns are wide, and all are twice as wide in a subtable of long words.
+#[must_use]
 pub fn read_delta(subtable: &[u8], set: u16, column: u16) -> Option<i32> {
     let (words, count) = (u16::read_at(subtable, 2)?, u16::read_at(subtable, 4)?);
     if set >= u16::read_at(subtable, 0)? || column >= count || words & WORD_DELTA_COUNT_MASK > count
@@ -57,6 +58,7 @@ fn read_signed(bytes: &[u8], offset: usize, width: usize) -> Option<i32> {
 
 /// Returns the scalar of a column's region and the delta of the column in a set, or `None` if the
 /// subtable does not have the delta or the list the region.
+#[must_use]
 pub fn column_term(
     regions: &[u8],
     subtable: &[u8],
@@ -71,6 +73,7 @@ pub fn column_term(
 
 /// Returns the exact sum of the deltas of a set, each times the scalar of its region, or `None` if
 /// the subtable does not have the set or the list not all its regions.
+#[must_use]
 pub fn set_sum(
     regions: &[u8],
     subtable: &[u8],
@@ -91,6 +94,7 @@ pub fn set_sum(
 
 /// Adds the sum of a delta set at these coordinates to an advance and rounds once, half up, or
 /// returns `None` if the set is not there or the result is out of range.
+#[must_use]
 pub fn vary_advance(
     advance: UfWord,
     regions: &[u8],

@@ -1,0 +1,63 @@
+// @generated from crates/variations/src/advances.rt by tools/erase
+
+//! Advances by a table `HVAR`, from its bytes to a varied advance.
+
+use super::delta_sets::vary_advance;
+use super::maps::{DeltaSetIndex, is_no_variation, read_delta_set_index};
+use font_types_proved::{F2Dot14, GlyphId16, Scalar, UfWord};
+
+// Returns the bytes from where an offset points, or `None` if it is null or points past the end.
+fn at_offset(table: &[u8], place: usize) -> Option<&[u8]> {
+    let offset = u32::read_at(table, place)?;
+    if offset == 0 {
+        return None;
+    }
+    table.get(offset as usize..)
+}
+
+// Reads the delta set of a glyph: in a table without a map, the set whose index is the glyph.
+fn glyph_set(hvar: &[u8], glyph: u16) -> Option<DeltaSetIndex> {
+    let (outer, inner) = (0, u32::from(glyph));
+    if u32::read_at(hvar, 8)? == 0 {
+        return Some(DeltaSetIndex { outer, inner });
+    }
+    read_delta_set_index(at_offset(hvar, 8)?, inner)
+}
+
+/// Finds the item variation store of a table `HVAR`, and the delta set of a glyph's advance in it.
+/// Returns `None` if an offset is null or points past the end, or if the map has no entry.
+#[must_use]
+pub fn store_and_set(hvar: &[u8], glyph: GlyphId16) -> Option<(&[u8], DeltaSetIndex)> {
+    let store = at_offset(hvar, 4)?;
+    let set = glyph_set(hvar, glyph.to_u16())?;
+    Some((store, set))
+}
+
+// Finds the list of regions, the subtable of a delta set, and the index of the set in it.
+fn data_of(store: &[u8], set: DeltaSetIndex) -> Option<(&[u8], &[u8], u16)> {
+    let (format, count) = (u16::read_at(store, 0)?, u16::read_at(store, 6)?);
+    if format != 1 || store.len() < 8 + 4 * usize::from(count) || set.outer >= u32::from(count) {
+        return None;
+    }
+    let regions = at_offset(store, 2)?;
+    let subtable = at_offset(store, 8 + 4 * set.outer as usize)?;
+    Some((regions, subtable, u16::try_from(set.inner).ok()?))
+}
+
+/// Varies an advance by a delta set of an item variation store at these coordinates, and rounds it
+/// once, half up, as [`vary_advance`] does. The set without variation data, 0xFFFF and 0xFFFF, does
+/// not change the advance. Returns `None` if the store does not have the set, or the result is out
+/// of range.
+#[must_use]
+pub fn varied_by(
+    advance: UfWord,
+    store: &[u8],
+    set: DeltaSetIndex,
+    coordinates: &[F2Dot14],
+) -> Option<UfWord> {
+    if is_no_variation(set) {
+        return Some(advance);
+    }
+    let (regions, subtable, inner) = data_of(store, set)?;
+    vary_advance(advance, regions, subtable, inner, coordinates)
+}

@@ -1,0 +1,209 @@
+// @generated from crates/variations/src/evaluator.rt by tools/erase
+
+//! Coordinates of an instance: settings, `fvar` and `avar`.
+
+use font_types_proved::{DecimalFault, F2Dot14, Fixed, InvalidTag, NameId, Scalar, Tag};
+
+// ---- settings
+
+/// A user's value on an axis.
+#[derive(Clone, Copy, PartialEq, Debug)]
+pub struct Setting {
+    /// The tag of the axis.
+    pub axis: Tag,
+    /// The value, in the unit of the axis.
+    pub value: Fixed,
+}
+
+/// Why a text is not a setting.
+#[derive(Clone, PartialEq, Debug)]
+pub enum SettingError {
+    /// It has no `=`.
+    NoValue,
+    /// The part before the `=` is not a tag.
+    Axis(InvalidTag),
+    /// The part after it is not a decimal number in range.
+    Value(DecimalFault),
+}
+
+impl Copy for SettingError {}
+
+// Splits a text at its first `=`.
+fn split_setting(text: &str) -> Option<(&str, &str)> {
+    text.split_once('=')
+}
+
+/// Parses a setting such as `wght=650` or `wdth=87.5`: the tag of an axis, and a decimal.
+///
+/// # Errors
+///
+/// Returns the error of the first wrong part: `NoValue` without a `=`, `Axis` if the text before it
+/// is not a tag, `Value` if the text after it is not a decimal in range.
+pub fn read_setting(text: &str) -> Result<Setting, SettingError> {
+    let (axis, value) = split_setting(text).ok_or(SettingError::NoValue)?;
+    let axis = Tag::new_checked(axis.as_bytes()).map_err(SettingError::Axis)?;
+    let value = Fixed::from_decimal(value).map_err(SettingError::Value)?;
+    Ok(Setting { axis, value })
+}
+
+// ---- `fvar`: normalized coordinates
+
+/// A variation axis, a record of `fvar`.
+#[derive(Clone, Copy, Debug, PartialEq)]
+pub struct VariationAxisRecord {
+    /// The tag of the axis, as `wght`.
+    pub axis_tag: Tag,
+    /// The least value.
+    pub min_value: Fixed,
+    /// The value of the default instance.
+    pub default_value: Fixed,
+    /// The greatest value.
+    pub max_value: Fixed,
+    /// Flags: 1 for an axis that is not shown to users.
+    pub flags: u16,
+    /// The name of the axis in the table `name`.
+    pub axis_name_id: NameId,
+}
+
+/// Reads an axis of `fvar`, or returns `None` if there are fewer than 20 bytes.
+#[must_use]
+pub fn read_axis(bytes: &[u8]) -> Option<VariationAxisRecord> {
+    Some(VariationAxisRecord {
+        axis_tag: Tag::read_at(bytes, 0)?,
+        min_value: Fixed::read_at(bytes, 4)?,
+        default_value: Fixed::read_at(bytes, 8)?,
+        max_value: Fixed::read_at(bytes, 12)?,
+        flags: u16::read_at(bytes, 16)?,
+        axis_name_id: NameId::read_at(bytes, 18)?,
+    })
+}
+
+// Clamps a value to a range.
+fn clamp(value: Fixed, min: Fixed, max: Fixed) -> Fixed {
+    value.clamp(min, max)
+}
+
+// Divides a part by its whole, as a quotient from 0 to 1.
+pub(crate) fn ratio(part: Fixed, whole: Fixed) -> Fixed {
+    part / whole
+}
+
+// Returns `ratio`, negated.
+fn negated_ratio(part: Fixed, whole: Fixed) -> Fixed {
+    -ratio(part, whole)
+}
+
+// Returns whether values can be normalized by an axis.
+fn has_range(axis: VariationAxisRecord) -> bool {
+    axis.min_value <= axis.default_value
+        && axis.default_value <= axis.max_value
+        && axis.max_value.checked_sub(axis.min_value).is_some()
+}
+
+/// Normalizes a value of an axis to -1..1: clamps it to the axis, and divides its distance from the
+/// default by that of the end on its side. Returns `None` unless `min <= default <= max` and 16.16
+/// holds `max - min`.
+#[must_use]
+pub fn normalize(value: Fixed, axis: VariationAxisRecord) -> Option<Fixed> {
+    if has_range(axis) {
+        let clamped = clamp(value, axis.min_value, axis.max_value);
+        Some(normalize_clamped(clamped, axis))
+    } else {
+        None
+    }
+}
+
+// Normalizes a value within the axis.
+fn normalize_clamped(value: Fixed, axis: VariationAxisRecord) -> Fixed {
+    let default = axis.default_value;
+    if value < default {
+        negated_ratio(default - value, default - axis.min_value)
+    } else if default < value {
+        ratio(value - default, axis.max_value - default)
+    } else {
+        Fixed::ZERO
+    }
+}
+
+/// Clamps a coordinate to -1..1, and rounds it half up to 2.14, as `avar` and tuples store it.
+#[must_use]
+pub fn to_stored(coordinate: Fixed) -> F2Dot14 {
+    coordinate.clamp(Fixed::NEG_ONE, Fixed::ONE).to_f2dot14()
+}
+
+// ---- `avar`: segment maps
+
+/// Finds the mappings of an axis in a table `avar`, each of four bytes. Returns `None` if the table
+/// has no such axis, or ends before the map of the axis does.
+#[must_use]
+pub fn segment_map(avar: &[u8], axis: u16) -> Option<&[u8]> {
+    if axis >= u16::read_at(avar, 6)? {
+        return None;
+    }
+    let mut start = 8;
+    for _ in 0..axis {
+        start += 2 + 4 * usize::from(u16::read_at(avar, start)?);
+    }
+    let count = u16::read_at(avar, start)?;
+    avar.get(start + 2..)?.get(..4 * usize::from(count))
+}
+
+// A mapping of a segment map, in 16.16.
+#[derive(Clone, Copy)]
+struct AxisValueMap {
+    from_coordinate: Fixed,
+    to_coordinate: Fixed,
+}
+
+// Interpolates linearly between two mappings; at either end the result is that end's coordinate.
+fn lerp(coordinate: Fixed, start: AxisValueMap, end: AxisValueMap) -> Fixed {
+    let (from, to) = (start.from_coordinate, start.to_coordinate);
+    to + (end.to_coordinate - to).mul_div(coordinate - from, end.from_coordinate - from)
+}
+
+// Reads a mapping.
+fn read_mapping(map: &[u8], index: usize) -> AxisValueMap {
+    AxisValueMap {
+        from_coordinate: F2Dot14::read_at(map, 4 * index).unwrap().to_fixed(),
+        to_coordinate: F2Dot14::read_at(map, 4 * index + 2).unwrap().to_fixed(),
+    }
+}
+
+// Returns the index of the first mapping at or above a coordinate, which ends its segment.
+fn segment_end(coordinate: Fixed, map: &[u8]) -> Option<usize> {
+    for index in 0..map.len() / 4 {
+        if coordinate <= read_mapping(map, index).from_coordinate {
+            return Some(index);
+        }
+    }
+    None
+}
+
+// Maps a coordinate by the mapping that ends its segment, and the one before.
+fn map_in_segment(coordinate: Fixed, map: &[u8], end: usize) -> Fixed {
+    let mapping = read_mapping(map, end);
+    if mapping.from_coordinate == coordinate {
+        mapping.to_coordinate
+    } else if end == 0 {
+        coordinate
+    } else {
+        lerp(coordinate, read_mapping(map, end - 1), mapping)
+    }
+}
+
+/// Maps a coordinate by the mappings of a segment map, the bytes that [`segment_map`] returns. A
+/// coordinate below or above all mappings does not change.
+#[must_use]
+pub fn map_coordinate(coordinate: Fixed, map: &[u8]) -> Fixed {
+    match segment_end(coordinate, map) {
+        Some(end) => map_in_segment(coordinate, map, end),
+        None => coordinate,
+    }
+}
+
+/// Maps a coordinate from [`normalize`] by the mappings of a segment map, and then rounds it to
+/// 2.14. A font without `avar` has no mappings: `&[]`.
+#[must_use]
+pub fn final_coordinate(coordinate: Fixed, map: &[u8]) -> F2Dot14 {
+    to_stored(map_coordinate(coordinate, map))
+}

@@ -1,0 +1,10 @@
+#![doc = include_str!("../README.md")]
+#![no_std]
+#![warn(missing_docs, missing_debug_implementations, missing_copy_implementations)]
+#![warn(clippy::must_use_candidate, clippy::missing_errors_doc, clippy::missing_panics_doc)]
+// The generated source is written for its proofs.
+#![allow(clippy::manual_find)]
+
+mod generated;
+
+pub use generated::*;
