@@ -48,10 +48,10 @@
 #endif
 
 /** The version of this header. */
-#define FTY_VERSION "0.6.0"
+#define FTY_VERSION "0.7.0"
 
 /** The same as a number, major << 16 | minor << 8 | patch: later versions are greater. */
-#define FTY_VERSION_NUMBER 0x000600
+#define FTY_VERSION_NUMBER 0x000700
 
 /** @cond */
 #ifdef __cplusplus
