@@ -44,5 +44,5 @@ pub record_laws : {A B T : Type 0} {is_a : A → Bool} {of_a : List ℕ → A} {
     (λ bytes. make (of_a (take m bytes)) (of_b (drop m bytes))) (λ t. a_of (first t) ++ b_of (second t)) (m + n)
     (m + n)
 record_laws {is_a = is_a} {of_a = of_a} {a_of = a_of} {is_b = is_b} {of_b = of_b} {b_of = b_of} m n first second make
-        is_first is_second whole of_first of_second =
+    is_first is_second whole of_first of_second =
     grind (arith, front_bytes, back_bytes, joined_bytes, are_bytes-length, take_at, drop_at, take-append-drop)

@@ -32,5 +32,15 @@ pub signed_is : (z : ℤ) → sign_text (is_negative z) ++ decimal (unsigned_abs
 signed_is (pos n) = grind arith
 signed_is (negsuc n) = grind arith
 
-pub ruleset integers = (length-drop, drop-set, take_all, decimal_digit, pair_length, two_digits, decimal_pair,
-    twenty_digits, signed_is, append_assoc)
+pub ruleset integers = (
+  length-drop,
+  drop-set,
+  take_all,
+  decimal_digit,
+  pair_length,
+  two_digits,
+  decimal_pair,
+  twenty_digits,
+  signed_is,
+  append_assoc,
+)

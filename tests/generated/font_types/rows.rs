@@ -54,7 +54,10 @@ fn sums_in_parts() {
         let (whole, parts) = sum_in_parts(&[first], &[second, third]);
         let right = F48Dot16::from_bits(bits);
         let in_another_order = delta_sum(&[third, first, second]);
-        assert!(rt; [whole, parts.finish(), in_another_order] == [right; 3], "{bits}");
+        assert!(rt;
+            [whole, parts.finish(), in_another_order] == [right; 3],
+            "{bits}"
+        );
     }
 }
 

@@ -7,7 +7,7 @@ pub returns : goal.returns
 returns g c =
     let bytes = c.to_be_bytes.result in
     let three = byte_text (slice_index bytes 0)
-        ++ (byte_text (slice_index bytes 1) ++ byte_text (slice_index bytes 2)) in
+    ++ (byte_text (slice_index bytes 1) ++ byte_text (slice_index bytes 2)) in
     let same : bytes ≡ tag_bytes c.args.tag = search rules in
     let four : three ++ byte_text (slice_index bytes 3) ≡ tag_text (tag_bytes c.args.tag) =
     rw (append_assoc, append_assoc) (four_texts bytes (search rules)) ∙ ap tag_text same in
