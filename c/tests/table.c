@@ -78,7 +78,7 @@ RESULT(padded, size_t, (int64_t bits, uint32_t f, const fty_pad *pad, size_t roo
        fty_format_padded(bits, f, pad, out, room, &place))
 RESULT(tag_text, size_t, (uint32_t tag, size_t room), fty_tag_to_text(tag, out, room, &place))
 
-/* Checks a text that was written to `out` with ample room, and the error with too little. */
+/* Checks a text that was written to `out`, and the error with too little room. */
 static void check_written(const char *table, size_t row, struct result found, const char *text) {
     const size_t length = strlen(text);
     check_result(table, row, found, FTY_OK, (int64_t)length);
@@ -143,6 +143,21 @@ static const struct {
     {{4, ' ', 3, 0, 0}, FTY_BAD_PAD, ""},
 };
 
+/* 1.5, by the names of a format. */
+#define NAMED(FORMAT, TYPE, BITS)                                                              \
+    do {                                                                                       \
+        TYPE bits = KEPT;                                                                      \
+        size_t length = KEPT;                                                                  \
+        check(#FORMAT, 0, fty_##FORMAT##_parse("1.5", 3, &bits), FTY_OK);                      \
+        check(#FORMAT, 1, bits, BITS);                                                         \
+        check(#FORMAT, 2, fty_##FORMAT##_format(BITS, out, BUFFER, &length), FTY_OK);          \
+        check(#FORMAT, 3, length == 3 && memcmp(out, "1.5", length) == 0, 1);                  \
+        check(#FORMAT, 4, fty_##FORMAT##_format_padded(BITS, &named, out, BUFFER, &length),    \
+              FTY_OK);                                                                         \
+        check(#FORMAT, 5, length == 6 && memcmp(out, "+1.5**", length) == 0, 1);               \
+        memset(out, KEPT, sizeof out);                                                         \
+    } while (0)
+
 static void check_decimals(void) {
     memset(out, KEPT, sizeof out);
     for (size_t i = 0; i < COUNT(decimals); i++) {
@@ -154,7 +169,7 @@ static void check_decimals(void) {
         if (!decimals[i].is_shortest)
             continue;
         check_short("formatted", i, formatted(bits, f, length - 1));
-        check_written("formatted", i, formatted(bits, f, BUFFER), text);
+        check_written("formatted", i, formatted(bits, f, length), text);
     }
     for (size_t i = 0; i < COUNT(pads); i++) {
         const fty_pad *pad = &pads[i].pad;
@@ -174,10 +189,9 @@ static void check_decimals(void) {
     check_written("named", 1, padded(98304, 16, &named, BUFFER), "+001.5");
     named.zeros = 0, named.align = FTY_LEFT, named.fill = '*';
     check_written("named", 2, padded(98304, 16, &named, BUFFER), "+1.5**");
-    size_t length = KEPT;
-    check("by format", 0, fty_f2dot14_format_padded(24576, &named, out, BUFFER, &length), FTY_OK);
-    check("by format", 1, length == 6 && memcmp(out, "+1.5**", length) == 0, 1);
-    memset(out, KEPT, sizeof out);
+    NAMED(fixed, int32_t, 98304);
+    NAMED(f2dot14, int16_t, 24576);
+    NAMED(f26dot6, int32_t, 96);
     check_result("formatted, 5 bits", 0, formatted(0, 5, 0), FTY_BAD_FRACTION, 0);
     check_result("parsed, with the NUL", 0, parsed_32("1.5", 4, 16), FTY_NOT_DECIMAL, 0);
 }
@@ -197,6 +211,9 @@ static const struct {
     {fty_f26dot6_div, -18824, 1450175, -1},
     {fty_f26dot6_div, INT32_MAX, 3, -1431655787},
     {fty_f26dot6_div, 0, 0, INT32_MAX},
+    {fty_fixed_div, 0, 0, INT32_MAX},
+    {fty_fixed_div, -1, 131072, -1},
+    {fty_f26dot6_div, -1, 128, -1},
 };
 
 static void check_numbers(void) {
@@ -227,12 +244,15 @@ static void check_matrices(void) {
     check("product", 5, product.dy, 883029838);
     check_point("image", fty_matrix_image(a, p), -109377813, -272076778);
     check_point("vector", fty_matrix_vector(a, p), -212556444, -280954311);
-    fty_point points[3] = {{98304, -98304}, {10, 100}, {10, 100}};
+    fty_point points[1000] = {{98304, -98304}, {0, 0}};
+    for (size_t i = 1; i < COUNT(points); i++)
+        points[i].x = 10, points[i].y = 100;
     const fty_matrix m = {65536, 131072, 196608, 262144, 5, 7};
-    fty_matrix_images(&m, points, 2);
+    fty_matrix_images(&m, points, COUNT(points) - 1);
     check_point("images", points[0], -196603, -196601);
     check_point("images", points[1], 315, 427);
-    check_point("no image", points[2], 10, 100);
+    check_point("images", points[998], 315, 427);
+    check_point("no image", points[999], 10, 100);
 }
 
 /* ---- sums of deltas ---- */
@@ -276,12 +296,14 @@ static const struct {
 };
 
 static void check_sums(void) {
-    const int32_t scalars[] = {98304, INT32_MIN, INT32_MIN}, deltas[] = {100, INT32_MIN, INT32_MIN};
+    const int32_t scalars[] = {98304, INT32_MIN, INT32_MIN, 1};
+    const int32_t deltas[] = {100, INT32_MIN, INT32_MIN, -9830401};
     check_result("sums", 0, sum_of_deltas(scalars, 2, deltas, 2), FTY_OK,
                  (INT64_C(1) << 62) + 9830400);
     check_result("sums", 1, sum_of_deltas(scalars, 2, deltas, 1), FTY_COUNT_MISMATCH, 0);
     check_result("sums", 2, sum_of_deltas(scalars, 1, deltas, 2), FTY_COUNT_MISMATCH, 0);
     check_result("sums", 3, sum_of_deltas(scalars, 3, deltas, 3), FTY_OUT_OF_RANGE, 0);
+    check_result("sums", 4, sum_of_deltas(scalars, 4, deltas, 4), FTY_OK, INT64_MAX);
     for (size_t i = 0; i < COUNT(sets); i++)
         check_result("sets", i, sum_of_set(sets[i].scalars, sets[i].count,
                                            (const uint8_t *)sets[i].set, sets[i].length,
@@ -373,5 +395,5 @@ int main(int count, char **arguments) {
     check_nulls();
     printf("table: %d checks, %d failed\n", checks, failures);
     /* With another number, a part was left out. */
-    return failures == 0 && checks == 492 ? 0 : 1;
+    return failures == 0 && checks == 515 ? 0 : 1;
 }
