@@ -9,7 +9,8 @@
  * they return and write is proved by CBMC, a bounded model checker, for every argument and
  * every array of up to 2^48 bytes, and that they touch nothing beyond it. (Of fty_items: for
  * items of 0, 1, 2, 4, 8, 16 and 256 bytes; of 3, 6 and 12 bytes in views of less than 4 GB;
- * and of any size in views of up to 31 bytes.) That a compiler reads them as CBMC does is tested.
+ * and of any size in views of up to 31 bytes. Of fty_write_bytes: for views of up to 3 bytes,
+ * and within one array if that has up to 31.) That a compiler reads them as CBMC does is tested.
  *
  * A number is a raw value with a number of fraction bits f: the int32_t 98304 is
  * 98304 / 2^16 = 1.5 in 16.16, for which f is 16. f is from 6 to 30, and at most the

@@ -1,7 +1,7 @@
 /*
  * States what each function that the header has in C returns and writes. CBMC proves it for every
- * argument and every view of up to 2^48 bytes (fty_items: see there), and that nothing beyond a
- * view is touched and nothing overflows: header.sh has the command.
+ * argument and every view of up to 2^48 bytes (fty_items and fty_write_bytes: see there), and that
+ * nothing beyond a view is touched and nothing overflows: header.sh has the command.
  *
  * A compiler's program, in C and C++, tries values of OpenType, ends, ties and random arguments,
  * with views of exactly their bytes, so that a sanitizer sees a read of one more. With `names` it
