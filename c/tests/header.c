@@ -502,11 +502,23 @@ enum { FUNCTIONS = sizeof all / sizeof all[0] };
 
 /* ---- values from outside: a field of each kind, read and written, and rounded numbers ---- */
 
+/* One of each kind. */
+static struct {
+    uint8_t u8;
+    int8_t i8;
+    uint16_t u16;
+    int16_t i16;
+    uint32_t u24, u32;
+    int32_t i24, i32;
+    int64_t i64;
+} found;
+
 #define FIELD_OF(NAME, BYTES, NUMBER)                                                             \
     do {                                                                                          \
         const fty_view view = {(const uint8_t *)BYTES, sizeof BYTES - 1};                         \
         uint8_t written[8];                                                                       \
-        STATE(fty_##NAME(view, 0) == NUMBER);                                                     \
+        STATE(fty_##NAME(view, 0) == NUMBER && fty_##NAME(view, 1) == 0);                         \
+        STATE(fty_read_##NAME(view, 0, &found.NAME) == FTY_OK && found.NAME == NUMBER);           \
         STATE(fty_write_uint(written, 8, 0, view.length, (uint64_t)NUMBER) == FTY_OK              \
               && memcmp(written, BYTES, view.length) == 0);                                       \
     } while (0)
@@ -530,18 +542,43 @@ static void values_of_opentype(void) {
     STATE(range.bytes == bytes + 12 && range.length == 6 && fty_u16(range, 2) == 444);
     STATE(fty_from(subtable, 18).bytes == bytes + 18 && fty_from(subtable, 19).bytes == NULL);
     STATE(fty_at_offset16(subtable, 16).bytes == NULL && fty_u24(subtable, 16) == 0);
-    static const uint8_t far[65537] = {1, 0, 0};
-    const fty_view table = {far, sizeof far};
-    STATE(fty_at_offset24(table, 0).bytes == far + 65536);
-    /* A record that is written: a Tag, a uint24, and the date above. */
-    static const char record[] = "glyf\x01\xF0\x20\0\0\0\0\x7C\x25\xB0\x80";
-    uint8_t written[15] = {0};
-    STATE(fty_write_u64(written, 15, 7, 2082844800) == FTY_OK
-          && fty_write_u24(written, 15, 4, 0x101F020) == FTY_OK
-          && fty_write_u32(written, 15, 0, FTY_TAG('g', 'l', 'y', 'f')) == FTY_OK
+    /* More bytes than 16 bits count: a part of no bytes at their end, and a copy. */
+    static uint8_t far[2 * 65536] = {0, 1, 0, 0};
+    far[65535] = 7;
+    const fty_view table = {far, 65536};
+    STATE(fty_at_offset24(table, 1).bytes == far + 65536);
+    STATE(fty_write_bytes(far, sizeof far, 65536, table) == FTY_OK
+          && memcmp(far, far + 65536, 65536) == 0);
+    /* Offsets of each size, of the end, in fields that are not the first. */
+    const fty_view five = {(const uint8_t *)"\0\0\0\0\5", 5};
+    STATE(fty_at_offset16(five, 3).bytes == five.bytes + 5
+          && fty_at_offset24(five, 2).bytes == five.bytes + 5
+          && fty_at_offset32(five, 1).bytes == five.bytes + 5);
+    /* Numbers of each size, at the end. */
+    const fty_view eight = {(const uint8_t *)"\1\2\3\4\5\6\7\10", 8};
+    const uint64_t number = UINT64_C(0x0102030405060708);
+    for (size_t size = 1, at = 7; size <= 8; size++, at--) {
+        uint8_t last[8];
+        uint32_t low = KEPT;
+        STATE(fty_write_uint(last, 8, at, size, number) == FTY_OK
+              && memcmp(last + at, eight.bytes + at, size) == 0);
+        const uint32_t least = (uint32_t)(size > 4 ? 0 : number & UINT64_MAX >> 8 * at);
+        const fty_status status = fty_read_uint(eight, at, size, &low);
+        STATE(fty_uint(eight, at, size) == least
+              && (size > 4 ? status == FTY_OUT_OF_BOUNDS : status == FTY_OK && low == least));
+    }
+    /* A record, of which each field ends where an array does: a Tag, a uint24, the date above, a
+     * uint16 and a uint8. */
+    static const char record[] = "glyf\x01\xF0\x20\0\0\0\0\x7C\x25\xB0\x80\xF0\x20\x87";
+    uint8_t written[18] = {0};
+    STATE(fty_write_u32(written, 4, 0, FTY_TAG('g', 'l', 'y', 'f')) == FTY_OK
+          && fty_write_u24(written, 7, 4, 0x101F020) == FTY_OK
+          && fty_write_u64(written, 15, 7, 2082844800) == FTY_OK
+          && fty_write_u16(written, 17, 15, 61472) == FTY_OK
+          && fty_write_u8(written, 18, 17, 135) == FTY_OK
           && fty_write_u16(written, 15, 14, 7) == FTY_OUT_OF_BOUNDS
           && fty_write_uint(written, 15, 0, 0, 7) == FTY_OUT_OF_BOUNDS
-          && memcmp(written, record, 15) == 0);
+          && memcmp(written, record, 18) == 0);
     uint16_t kept = KEPT;
     STATE(fty_read_u16(subtable, 17, &kept) == FTY_OUT_OF_BOUNDS && kept == KEPT);
     STATE(fty_fixed_from_i32(-1000) == -65536000 && fty_fixed_sub(1000, 400) == 600
@@ -553,7 +590,14 @@ static void values_of_opentype(void) {
     STATE(fty_round_i32(98304, 16, &of_32) == FTY_OK && of_32 == 131072);  /* 1.5 to 2 */
     STATE(fty_round_i64(-98304, 16, &of_64) == FTY_OK && of_64 == -65536);
     STATE(fty_round_i32(0, 5, &of_32) == FTY_BAD_FRACTION && of_32 == 131072);
+    /* A half, of the most and the fewest fraction bits. */
+    STATE(fty_round_i32(1 << 29, 30, &of_32) == FTY_OK && of_32 == 1 << 30);
+    STATE(fty_round_i32(32, 6, &of_32) == FTY_OK && of_32 == 64);
+    STATE(fty_round_i64(1 << 29, 30, &of_64) == FTY_OK && of_64 == 1 << 30);
+    STATE(fty_round_i64(0, 31, &of_64) == FTY_BAD_FRACTION && of_64 == 1 << 30);
+    STATE(fty_round_i16(INT16_MAX, 14, &of_16) == FTY_OUT_OF_RANGE && of_16 == -16384);
     STATE(fty_f48dot16_to_fixed(INT32_MIN, &of_32) == FTY_OK && of_32 == INT32_MIN);
+    STATE(fty_f48dot16_to_fixed(INT32_MAX, &of_32) == FTY_OK && of_32 == INT32_MAX);
     /* Ties, and the greatest values, which wrap; 0.6 of 2.30. */
     STATE(fty_fixed_to_i32(-98304) == -1 && fty_fixed_to_i32(INT32_MAX) == -32768);
     STATE(fty_fixed_to_f26dot6(512) == 1 && fty_fixed_to_f26dot6(INT32_MAX) == -2097152);
@@ -574,6 +618,13 @@ static void values_of_opentype(void) {
     STATE(fty_write_bytes(written, 15, 9, date) == FTY_OK
           && memcmp(written + 9, "\x7C\x25\xB0\x80\xB0\x80", 6) == 0);
     STATE(fty_write_bytes(written, 15, 12, tag) == FTY_OUT_OF_BOUNDS);
+    /* A word of each text, by the number of its status. */
+    static const char *const words[] = {
+        "done", "decimal", "range", "fraction", "small", "padding", "bounds", "different",
+        "too many", "unknown", "length", "invalid byte", "after a space",
+    };
+    for (uint32_t k = 0; k <= FTY_TAG_AFTER_SPACE; k++)
+        STATE(strstr(fty_status_text((fty_status)k), words[k]) != NULL);
 }
 
 /* Bytes of an array that are copied within it, as by memmove. */
@@ -602,6 +653,6 @@ int main(int count, char **words) {
             all[k].state();
     printf("header: %d checks, %d failed\n", checks, failures);
     /* With another number, a part was left out. */
-    return failures == 0 && checks == 10800042 ? 0 : 1;
+    return failures == 0 && checks == 10800088 ? 0 : 1;
 }
 #endif
