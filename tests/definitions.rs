@@ -105,6 +105,10 @@ fn checked_products_and_quotients() {
             [fitting(near(n * m, 1 << 16)), of_quotient(n << 16, m), of_quotient(n * m, d)],
             "{x} {y} {z}"
         );
+        let [mut product, mut quotient] = [a; 2];
+        product *= b;
+        quotient /= b;
+        assert_eq!([product, quotient], [a * b, a / b], "{x} {y}");
         let [a, b] = [x, y].map(F26Dot6::from_bits);
         let found = [a.checked_mul(b), a.checked_div(b)].map(|n| n.map(F26Dot6::to_bits));
         assert_eq!(found, [fitting(near(n * m, 64)), of_quotient(n << 6, m)], "{x} {y}");
@@ -481,6 +485,7 @@ fn numbers_of_ids_offsets_and_versions() {
         assert_eq!(nullable.get(), (n != 0).then_some(offset));
         assert_eq!(Tag::from_u32(long).to_u32(), long);
     }
+    assert_eq!((Uint24::default(), Int24::default()), (Uint24::new(0), Int24::new(0)));
     let zeros = (GlyphId::new(0), GlyphId16::new(0), GlyphId24::new(0));
     assert_eq!((GlyphId::NOTDEF, GlyphId16::NOTDEF, GlyphId24::NOTDEF), zeros);
     for n in [0, 0xFF_FFFF, 0x100_0000] {
