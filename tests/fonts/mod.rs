@@ -278,7 +278,7 @@ fn avar_at_the_limits() -> Vec<u8> {
     words(&[&[1, 0, 0, 64][..], &first.collect::<Vec<_>>(), &[0; 62], &[0x8001], &last].concat())
 }
 
-/// Two tables of delta sets after many others: of one set of 5,000 long words, and of 40,000 sets
+/// Two tables of delta sets after many others: of two sets of 5,000 long words, and of 40,000 sets
 /// of two words; 5,000 regions, of which the last is that of the last axis; and a map of each
 /// glyph.
 fn hvar_at_the_limits() -> Vec<u8> {
@@ -289,8 +289,8 @@ fn hvar_at_the_limits() -> Vec<u8> {
     };
     let regions =
         words(&[&[64, 5000][..], &(0..5000).flat_map(region).collect::<Vec<_>>()].concat());
-    let wide: Vec<u16> = [1, 0x8000 + 5000, 5000].into_iter().chain(0..5000).collect();
-    let deltas = (0..5000).flat_map(|n| [0, if n == 4999 { 20_000 } else { n }]);
+    let wide: Vec<u16> = [2, 0x8000 + 5000, 5000].into_iter().chain(0..5000).collect();
+    let deltas = (0..10_000).flat_map(|n| [0, if n == 9999 { 20_000 } else { n }]);
     let wide = words(&[wide, deltas.collect()].concat());
     let long = [40_000, 2, 2, 0, 4999].into_iter().chain((0..40_000).flat_map(|n| [1, n / 4]));
     let tables = 8 + 4 * u32::from(MANY);
@@ -310,7 +310,7 @@ fn hvar_at_the_limits() -> Vec<u8> {
     table.extend(store);
     table.extend(words(&[0x013F, 1, 0]));
     for glyph in 0..=0xFFFF {
-        let set = if glyph == 7 { [MANY - 2, 0] } else { [MANY - 1, glyph % 40_000] };
+        let set = if glyph == 7 { [MANY - 2, 1] } else { [MANY - 1, glyph % 40_000] };
         table.extend(words(&set));
     }
     table

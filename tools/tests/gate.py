@@ -45,7 +45,7 @@ case $call in
     [ "$FAIL" != "early answer" ] || echo 0
     printf 'refused\nfontval: %s\n' "$([ "$FAIL" = message ] || echo memory)" >&2
     [ "$REFUSE" != 1 ] ;;
-"rt help") [ "$FAIL" != --anew ] || echo "rt ci NAME.." ;;
+"rt help") [ "$FAIL" != --anew ] || echo "rt ci NAME.." >&2 ;;
 "rt ci"*)
     [ "$FAIL" != "bad edit" ] || echo "rt: note: bad must-fail edits: some"
     echo "3 passed, $([ "$FAIL" = crate ] && echo 1 || echo 0) failed"
