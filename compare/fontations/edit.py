@@ -4,7 +4,10 @@ Each edit is made as often as it says, so that a renamed type is seen. The gate 
 """
 import pathlib, re, sys
 
-NUMBERS = r"FixedI\d+<const F: u32>|FWord|UfWord|GlyphId\d*|NameId|Offset\d+|Nullable<T>|Tag|Version16Dot16|LongDateTime"
+NUMBERS = (
+    r"FixedI\d+<const F: u32>|FWord|UfWord|GlyphId\d*|NameId|Offset\d+|Nullable<T>|Tag"
+    r"|Version16Dot16|LongDateTime"
+)
 EDITS = [
     (r"^impl(<[^>]*>)? FixedSize for (?!BigEndian)\S+ \{.*?^\}\n", "", 25),
     (r"pub trait FixedSize: Sized", r"""impl<T: Scalar> FixedSize for T {
@@ -15,11 +18,20 @@ EDITS = [
     (r"\{BeByteArray, ByteChunks, Scalar\}", "{BeByteArray, ByteChunks, FixedSize, Scalar}", 1),
     (r"pub trait BeByteArray: Copy", r"\g<0> + AsRef<[u8]> + bytemuck::AnyBitPattern", 1),
     (r"Copy \+ Ord \+ IdentityEq> PartialOrd", "Copy + PartialOrd> PartialOrd", 1),
-    (r"Some\(self\.cmp\(other\)\)(\n    \}\n\}\n\n(///[^\n]*\n)*impl<T: Scalar \+ Copy)", r"self.get().partial_cmp(&other.get())\1", 1),
+    (
+        r"Some\(self\.cmp\(other\)\)(\n    \}\n\}\n\n(///[^\n]*\n)*impl<T: Scalar \+ Copy)",
+        r"self.get().partial_cmp(&other.get())\1",
+        1,
+    ),
     (r" \+ Ord \+ IdentityEq> Ord for", " + Ord> Ord for", 1),
     (rf"^pub struct (({NUMBERS})\(|[UI]i?nt24 |BigEndian<)", r"#[repr(transparent)]\n\g<0>", 19),
     (r"^pub struct (Matrix<T>|Point<T>|MajorMinor) ", r"#[repr(C)]\n\g<0>", 3),
-    (r"^mod cross_type;", r"#[allow(missing_docs, clippy::all)]\nmod compat;\npub mod raw {\n    pub use crate::Scalar;\n}\n\g<0>", 1),
+    (
+        r"^mod cross_type;",
+        r"#[allow(missing_docs, clippy::all)]\nmod compat;\n"
+        r"pub mod raw {\n    pub use crate::Scalar;\n}\n\g<0>",
+        1,
+    ),
 ]
 made = [0] * len(EDITS)
 for path in pathlib.Path(sys.argv[1]).rglob("*.rs"):
