@@ -110,10 +110,16 @@ static const struct {
     {parsed_16, 14, "-2", FTY_OK, -32768, 1},
     {parsed_32, 16, "32767.99998", FTY_OK, INT32_MAX, 1},
     {parsed_64, 16, "-140737488355327.99998", FTY_OK, INT64_C(-9223372036854775807), 1},
+    {parsed_64, 16, "-140737488355328", FTY_OK, INT64_MIN, 1},
+    {parsed_64, 16, "140737488355327.99998", FTY_OK, INT64_MAX, 1},
+    {parsed_64, 16, "-140737488355328.00000762939453124", FTY_OK, INT64_MIN, 0},
     {parsed_32, 16, "-0.00000762939453125", FTY_OK, -1, 0},
     {parsed_32, 16, "0.00000762939453124999", FTY_OK, 0, 0},
     {parsed_16, 14, "\xC3\xA9", FTY_NOT_DECIMAL, 0, 0},
     {parsed_32, 16, ".5", FTY_NOT_DECIMAL, 0, 0},
+    {parsed_32, 6, "1.", FTY_NOT_DECIMAL, 0, 0},
+    {parsed_32, 30, " 1", FTY_NOT_DECIMAL, 0, 0},
+    {parsed_64, 16, "-", FTY_NOT_DECIMAL, 0, 0},
     {parsed_64, 16, "+1", FTY_NOT_DECIMAL, 0, 0},
     {parsed_16, 10, "31.99951171875", FTY_OUT_OF_RANGE, 0, 0},
     {parsed_32, 30, "1.9999999995343387126922607421875", FTY_OUT_OF_RANGE, 0, 0},
@@ -139,6 +145,7 @@ static const struct {
     {{13, 0x7F, FTY_CENTER, 2, 0}, FTY_OK, "\x7F\x7F\x7F\x7F+1.5\x7F\x7F\x7F\x7F\x7F"},
     {{7, '#', FTY_LEFT, 0, 128}, FTY_OK, "00001.5"},
     {{6, '\n', FTY_RIGHT, 0, 0}, FTY_OK, "\n\n\n1.5"},
+    {{30, '#', FTY_RIGHT, 0, 0}, FTY_OK, "###########################1.5"},
     {{4, 0x80, 2, 0, 1}, FTY_BAD_PAD, ""},
     {{4, ' ', 3, 0, 0}, FTY_BAD_PAD, ""},
 };
@@ -174,8 +181,9 @@ static void check_decimals(void) {
     for (size_t i = 0; i < COUNT(pads); i++) {
         const fty_pad *pad = &pads[i].pad;
         if (pads[i].status == FTY_OK) {
-            check_short("padded", i, padded(98304, 16, pad, strlen(pads[i].text) - 1));
-            check_written("padded", i, padded(98304, 16, pad, BUFFER), pads[i].text);
+            const size_t length = strlen(pads[i].text);
+            check_short("padded", i, padded(98304, 16, pad, length - 1));
+            check_written("padded", i, padded(98304, 16, pad, length), pads[i].text);
         } else {
             check_result("padded", i, padded(98304, 16, pad, 0), FTY_BAD_PAD, 0);
         }
@@ -187,13 +195,18 @@ static void check_decimals(void) {
     check_written("named", 0, padded(98304, 16, &named, BUFFER), "  +1.5");
     named.zeros = 1;
     check_written("named", 1, padded(98304, 16, &named, BUFFER), "+001.5");
+    check_written("named", 2, padded(-98304, 16, &named, BUFFER), "-001.5");
     named.zeros = 0, named.align = FTY_LEFT, named.fill = '*';
-    check_written("named", 2, padded(98304, 16, &named, BUFFER), "+1.5**");
+    check_written("named", 3, padded(98304, 16, &named, BUFFER), "+1.5**");
     NAMED(fixed, int32_t, 98304);
     NAMED(f2dot14, int16_t, 24576);
     NAMED(f26dot6, int32_t, 96);
     check_result("formatted, 5 bits", 0, formatted(0, 5, 0), FTY_BAD_FRACTION, 0);
     check_result("parsed, with the NUL", 0, parsed_32("1.5", 4, 16), FTY_NOT_DECIMAL, 0);
+    char digits[300];
+    memset(digits, '0', sizeof digits);
+    digits[0] = '-', digits[sizeof digits - 1] = '1';
+    check_result("parsed, long", 0, parsed_32(digits, sizeof digits, 16), FTY_OK, -65536);
 }
 
 /* ---- products and conversions ---- */
@@ -314,6 +327,7 @@ static void check_sums(void) {
     const size_t most = TOO_MANY_SCALARS - 1;
     check_result("many scalars", 0, sum_of_set(many, most, set, most, 0), FTY_OK, 0);
     check_result("many scalars", 1, sum_of_set(many, most + 1, set, most, 1), FTY_TOO_MANY, 0);
+    check_result("many deltas", 0, sum_of_deltas(many, most + 1, many, most + 1), FTY_OK, 0);
     check_result("signed", 0, applied_i16(32767, 32767), FTY_OK, 32767);
     check_result("signed", 1, applied_i16(32767, 32768), FTY_OUT_OF_RANGE, 0);
     check_result("signed", 2, applied_i16(-32768, -32768), FTY_OK, -32768);
@@ -395,5 +409,5 @@ int main(int count, char **arguments) {
     check_nulls();
     printf("table: %d checks, %d failed\n", checks, failures);
     /* With another number, a part was left out. */
-    return failures == 0 && checks == 515 ? 0 : 1;
+    return failures == 0 && checks == 554 ? 0 : 1;
 }
