@@ -29,9 +29,9 @@
  * Pointers must be valid for the length that goes with them (1 for a single value),
  * aligned, and not null, even if the call fails. A pointer whose length is 0 may be
  * null (this is tested, not proved). What a call writes must not overlap its other
- * arguments. Strings are bytes with a length: a terminating NUL is not needed, and none
- * is written, so print them by "%.*s". Functions allocate nothing, keep nothing between
- * calls and may be called from any thread.
+ * arguments, except in fty_write_bytes. Strings are bytes with a length: a terminating
+ * NUL is not needed, and none is written, so print them by "%.*s". Functions allocate
+ * nothing, keep nothing between calls and may be called from any thread.
  *
  * What a call writes may be uninitialized. The library is Rust, which asks for initialized
  * values there: callers rely on its object code, which loads nothing from where it writes

@@ -74,7 +74,8 @@ fn packed_deltas(rt: HostRuntime) -> Result<(), Fail> {
 fn fields_of_head(rt: HostRuntime) -> Result<(), Fail> {
     let table = TableDataRef::<Head>::new(
         b"\0\x01\0\x02\0\x01\x80\0\xB1\xB0\xAF\xBA\x5F\x0F\x3C\xF5\0\x0B\x08\0\0\0\0\0\xB7\xC0\
-        \x7A\x80\0\0\0\0\xE2\x06\x22\x40\xFE\0\xFE\x51\x09\x92\x07\x6C\0\x03\0\x08\0\x02\0\x01\xFF\xFE",
+        \x7A\x80\0\0\0\0\xE2\x06\x22\x40\xFE\0\xFE\x51\x09\x92\x07\x6C\0\x03\0\x08\0\x02\
+        \0\x01\xFF\xFE",
     );
     let head = table.ok_or("54 bytes")?.header();
     let words = [&head.major_version, &head.minor_version, &head.flags].map(|field| field.get());
