@@ -15,6 +15,9 @@ from rust import PLACE
 NEEDED = ("Cargo.toml", "Cargo.lock", "src", "examples", "c", "variations")
 
 EDIT = re.compile(r"^old: (.*)\nnew: (.*)$", re.M)
+# How many edits have no place in the Rust, such as those of ghost items and of whole `impl`s.
+NOWHERE, HOW_MANY = "change what is in no function of the Rust", 5
+
 START = re.compile(r"^( *)(?:[\w\"()]+ )*?fn (\w+)", re.M)
 OUTER = re.compile(r"^(?:pub(?:\(.*?\))? )?(?:impl|trait (\w+))", re.M)
 CONSTANT = re.compile(r"^const (\w+): ", re.M)
@@ -48,8 +51,8 @@ class Edit:
         if len(found) == 1:
             self.changes.append((*found[0].span(), new))
             self.keys |= {self.key_at(it) for it in self.uses(found[0])}
-        if len(found) != 1 or None in self.keys:
-            self.reason = "change what is in no function of the Rust"
+        if len(found) != 1 or None in self.keys or not self.keys:
+            self.reason = NOWHERE
 
     def uses(self, found):
         """Returns where a text is or, of a constant, where the file uses that."""
@@ -119,9 +122,11 @@ def report(root, both, crates):
         passed |= {it.name for it in batch if not it.keys <= found}
         alone = found - set().union(*(it.keys for it in batch))
         errors += [f"{it} differs without a mutant" for it in sorted(alone)]
+    reasons = collections.Counter(it.reason for it in edits if it.reason)
+    if reasons[NOWHERE] != HOW_MANY:
+        errors.append(f"{reasons[NOWHERE]} mutants, not {HOW_MANY}, {NOWHERE}")
     for error in errors + [f"{it} passes as a mutant of MIR" for it in sorted(passed)]:
         print(error, file=sys.stderr)
-    reasons = collections.Counter(it.reason for it in edits if it.reason)
     others = "; ".join(f"{count} {reason}" for reason, count in sorted(reasons.items()))
     count = f"{len(placed) - len(passed)} of {len(placed)}"
     print(f"mutants of MIR: {count} refused ({others})")
