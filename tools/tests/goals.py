@@ -1,0 +1,47 @@
+"""`tools/mutants` finds a mutant that is refused at another goal than that of its first line."""
+
+import pathlib
+import subprocess
+import unittest
+
+ROOT = pathlib.Path(__file__).resolve().parents[2]
+
+# The first line of one names the clause `judged` of `Tag::validate`; that of the other, which is of
+# an `impl`, names no function.
+TAG, ORDER = "font_tags/faults_of_a_tag_swapped.edit", "font_base/ordered_without_identity.edit"
+
+# A mutant, what `rt` says of it, and whether this is another goal.
+ROWS = [
+    (TAG, "note: src/tag.rt:OWN:5: .. (`returns-then-clause-judged`); ..", False),
+    (TAG, "note: src/tag.rt:OWN:5: .. (`returns`)", False),
+    (TAG, "note: src/tag.rt:OWN:5: .. (`returns-clause-valid`)", True),
+    (TAG, "note: src/tag.rt:OTHER:5: .. (`returns`)", True),
+    (TAG, "./proofs/tag/Tag/validate/Answers.antt:9:5: error: `returns-clause-judged`: ..", False),
+    (TAG, "./proofs/tag/Tag/validate/Answers.antt:9:5: error: `returns-clause-valid`: ..", True),
+    (TAG, "./proofs/tag/Tag/new_checked/Answers.antt:9:5: error: `returns-clause-judged`", True),
+    (TAG, "", True),
+    (ORDER, "a.rt:9:5: .. (`matches_eq-x`)", False),
+    (ORDER, "a.rt:9:5: .. (`returns-clause-matches_eq`)", True),
+]
+
+
+def misnamed(output):
+    """Returns the status, and what is said of the mutants that are not refused where they say."""
+    run = subprocess.run([ROOT / "tools/mutants"], input=output, capture_output=True, text=True)
+    return run.returncode, run.stderr.splitlines()
+
+
+class Goals(unittest.TestCase):
+    def test_goals_are_compared_with_clauses(self):
+        lines = (ROOT / "crates/font_tags/src/tag.rt").read_text().splitlines()
+        line_of = lambda code: str(1 + next(n for n, it in enumerate(lines) if code in it))
+        for name, told, is_other in ROWS:
+            told = told.replace("OWN", line_of("fn validate("))
+            told = told.replace("OTHER", line_of("fn as_bytes("))
+            status, wrong = misnamed(f"rt: must-fail {name}: refused, as it must be: {told}\n")
+            found = any(it.startswith(name) for it in wrong)
+            self.assertEqual((status, found), (1, is_other), told)
+
+    def test_each_mutant_is_looked_for(self):
+        edits = list(ROOT.glob("crates/*/must-fail/*.edit"))
+        self.assertEqual((misnamed("")[0], len(misnamed("")[1])), (1, len(edits)))
