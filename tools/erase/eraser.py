@@ -135,10 +135,8 @@ class Eraser:
                 self.refuse(at, "a clause elsewhere than before a function's body")
             case ["requires" | "ensures", *_]:
                 return self.leave_out_with_comments(at, self.clause_end(at))
-            case ["#", "!", *_]:
-                return self.attribute(at, at + 2)
-            case ["#", *_]:
-                return self.attribute(at, at + 1)
+            case ["#", *after]:
+                return self.attribute(at, at + 1 + (after[:1] == ["!"]))
             case ["pub" | "ghost" | "mod" | "use", *_]:
                 return self.item(at)
             case ["fn", name, *_] if name != "(":

@@ -131,9 +131,7 @@ def check_attribute(eraser, at, words, after):
 
 
 def check(eraser):
-    """Refuses a form that is not of the language; what is changed in a macro's arguments; and what
-    is kept and has a name of another meaning, a trait in scope that is left out, or a `W` that was
-    a parameter."""
+    """Refuses a form that is not of the language, and what `check_words` does."""
     words, target = eraser.words, eraser.of.target
     is_text = lambda word: word[-1] in "\"'" and word != '"C"'
     starts, text = [], "; "
@@ -167,6 +165,13 @@ def check(eraser):
         depth = max(depth + (word in ("(", "[", "{")) - (word in (")", "]", "}")), 0)
         if depth == 0 and (found := OUTER.match(text, start)):
             outer = int(found[0] in ("impl ", "trait "))
+    check_words(eraser)
+
+
+def check_words(eraser):
+    """Refuses what is changed in a macro's arguments; and what is kept and has a name of another
+    meaning, a trait in scope that is left out, or a `W` that was a parameter."""
+    words, target = eraser.words, eraser.of.target
     for at, word in enumerate(words):
         kept, put = eraser.kept[eraser.places[at]], eraser.put_before[eraser.places[at]]
         if any(at in group for group in eraser.macros) and (put or not kept):
