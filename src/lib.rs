@@ -91,7 +91,7 @@ mod literal;
 mod record;
 mod traits;
 
-// The code of this page is compiled and run; that of the repository's README.md, by `tools`.
+// The code of this page is compiled and run; that of README.md of the repository, by `.ci/run`.
 #[cfg(doctest)]
 #[doc = include_str!("../docs/PORTING.md")]
 mod porting {}
