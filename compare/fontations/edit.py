@@ -1,6 +1,6 @@
 """Edits a copy of `src`, as `edit.py FOLDER`: adds what the package leaves out of font-types.
 
-Each edit is made as often as it says, so that a renamed type is seen. The gate runs it.
+Each edit is made as often as it says, so that a renamed type is seen.
 """
 import pathlib, re, sys
 
@@ -14,6 +14,7 @@ EDITS = [
     const RAW_BYTE_LEN: usize = <T::Raw as BeByteArray>::LEN;
 }
 \g<0>""", 1),
+    (r"^/// The raw bytes of an array: .*?(?=^/// What a field of a)", "", 1),
     (r"pub trait Scalar: FixedSize", "pub trait Scalar: Sized", 1),
     (r"\{BeByteArray, ByteChunks, Scalar\}", "{BeByteArray, ByteChunks, FixedSize, Scalar}", 1),
     (r"pub trait BeByteArray: Copy", r"\g<0> + AsRef<[u8]> + bytemuck::AnyBitPattern", 1),
