@@ -1,16 +1,17 @@
-//! Calls that break a precondition: they panic or return, and text is ASCII.
+//! Calls that break a precondition: they panic or return. Decimals of each allowed number of
+//! fraction bits.
 
 mod exact;
 
-use exact::{Type, read};
+use exact::{Type, read, shortest};
 use font_types_proved::{DecimalFault, SampleHeader, Shortest, TableHeader};
 use font_types_proved::{laws, read_decimal, read_decimal_bytes};
 use std::panic::{AssertUnwindSafe, catch_unwind};
 
 /// Fraction bits that are allowed, and others.
-fn fraction_bits() -> impl Iterator<Item = (u32, bool)> {
+fn fraction_bits(least: u32) -> impl Iterator<Item = (u32, bool)> {
     let all = (0..=255).chain([u32::MAX]);
-    all.map(|f| (f, (6..=30).contains(&f)))
+    all.map(move |f| (f, (least..=30).contains(&f)))
 }
 
 /// Returns what a call returns, or `None` if it panics.
@@ -20,13 +21,15 @@ fn returned<T>(call: impl FnOnce() -> T) -> Option<T> {
 
 #[test]
 fn printed_with_any_fraction_bits() {
-    for (f, is_allowed) in fraction_bits() {
-        for bits in [0, 1, 5, -1, i64::MAX, i64::MIN] {
+    let ends = [i64::MAX, i64::MAX - 1, 1 << 62, (1 << 62) + 1, 10_i64.pow(18), i64::MIN];
+    for (f, is_allowed) in fraction_bits(0) {
+        let near = if is_allowed { 400 } else { 1 };
+        for bits in (-near..=near).chain(ends) {
             let text = returned(|| Shortest::new(bits, f).to_string());
-            assert_eq!(text.is_some(), is_allowed, "{bits} {f}");
-            assert!(text.is_none_or(|text| text.is_ascii()), "{bits} {f}");
+            assert_eq!(text, is_allowed.then(|| shortest(bits.into(), f)), "{bits} {f}");
         }
     }
+    assert_eq!(Shortest::new(i64::MIN, 0).as_str(), i64::MIN.to_string());
 }
 
 /// Returns the nearest value, if it is in the range.
@@ -42,7 +45,7 @@ fn parsed(text: &str, fraction: u32, min: i64, max: i64) -> Result<i64, DecimalF
 #[test]
 fn parsed_with_any_fraction_bits_and_range() {
     let ranges = [(0, 0), (1, -1), (5, 10), (-10, -5), (i64::MAX, i64::MIN)];
-    for (f, is_allowed) in fraction_bits() {
+    for (f, is_allowed) in fraction_bits(6) {
         for (min, max) in ranges {
             for text in ["0.5", "-3", "1e3", "", "99999999999999999999.99999999999999999999"] {
                 let row = format!("{text} {f} {min} {max}");

@@ -2,7 +2,7 @@
 use Rattle.std.proofs.Common.{◌≡◌, ℕ, ◌+◌, ◌/◌, ◌%◌, ◌^◌, ◌<◌, ◌≤◌, List, [], ◌∷◌, ◌++◌, length, arith, length-append}
 use Rattle.std.proofs.Common.{◌∙◌, length-drop, take_all, append_assoc, decimal, take, get_or, set, add-one, suc, zero}
 use Rattle.std.proofs.Common.{drop, sym, ap, replicate, refl, min, ◌*◌, ◌-◌, ◌≢◌, pow_pos, append-nil, ℤ, unsigned_abs}
-use Rattle.std.proofs.Common.{inl, inr, div-mul-le_self, mul-le-mul_left, pow-suc}
+use Rattle.std.proofs.Common.{inl, inr, div-le_self, le_trans, pow-suc}
 use Rattle.std.specs.Int.{is_negative}
 use Rattle.std.specs.Fmt.{sign_text}
 use Rattle.std.proofs.Math.Nat.{pow-le-pow_right}
@@ -49,18 +49,18 @@ digit_more p q d small =
 
 -- the last digit of the bytes, raised
 pub record IsRaised (p : ℕ) (bytes front : List ℕ) (numeral : ℕ) : Type 0 where
-  pub fits : get_or bytes (19 + p) 0 < 57
-  pub text : take (20 + p) (set bytes (19 + p) (get_or bytes (19 + p) 0 + 1)) ≡ front ++ last_digits p numeral
+  pub fits : get_or bytes (20 + p) 0 < 57
+  pub text : take (21 + p) (set bytes (20 + p) (get_or bytes (20 + p) 0 + 1)) ≡ front ++ last_digits p numeral
 
 pub digit_raised : {m f q rest : ℕ} (p : ℕ) (bytes front : List ℕ) → IsFewest m f p → HasRest m f p q rest
-    → 2 ^ f ≤ rest → min rest (2 * 2 ^ f - rest) < 10 ^ p → 20 + p ≤ length bytes
-    → take (20 + p) bytes ≡ front ++ last_digits p q
+    → 2 ^ f ≤ rest → min rest (2 * 2 ^ f - rest) < 10 ^ p → 21 + p ≤ length bytes
+    → take (21 + p) bytes ≡ front ++ last_digits p q
     → IsRaised p bytes front (q + 1)
 digit_raised {f = f} zero bytes front fewest h high close long is = absurd (omega (arith, h.below, pow_pos f))
 digit_raised {q = q} (suc k) bytes front fewest h high close long is =
-    let n = 20 + k in
-    let at : 19 + suc k ≡ n = omega arith in
-    let end : 20 + suc k ≡ n + 1 = omega arith in
+    let n = 21 + k in
+    let at : 20 + suc k ≡ n = omega arith in
+    let end : 21 + suc k ≡ n + 1 = omega arith in
     let pushed : take n bytes ++ (get_or bytes n 0 ∷ []) ≡ (front ++ last_digits k (q / 10)) ++ ((48 + q % 10) ∷ []) =
     sym (take_more bytes n 0 (omega arith)) ∙ rw end at is ∙ rw (last_is k q, append_assoc) in
     let ends = same_from_push _ _ _ _ pushed in
@@ -77,31 +77,29 @@ digit_raised {q = q} (suc k) bytes front fewest h high close long is =
     }
 
 -- the point and the digits after it
-pub fraction_shown : (p n : ℕ) (bytes : List ℕ) → take (20 + p) bytes ≡ take 20 (replicate 30 46) ++ last_digits p n
-    → take (p + 1) (drop 19 bytes) ≡ 46 ∷ last_digits p n
+pub fraction_shown : (p n : ℕ) (bytes : List ℕ) → take (21 + p) bytes ≡ take 21 (replicate 31 46) ++ last_digits p n
+    → take (p + 1) (drop 20 bytes) ≡ 46 ∷ last_digits p n
 fraction_shown p n bytes is =
-    let end : 19 + (p + 1) ≡ 20 + p = omega arith in
-    sym (drop-take 19 (p + 1) bytes) ∙ rw end (ap (drop 19) is)
+    let end : 20 + (p + 1) ≡ 21 + p = omega arith in
+    sym (drop-take 20 (p + 1) bytes) ∙ rw end (ap (drop 20) is)
 
 -- a text of bytes, its point and its digits
-joined : (p n start end : ℕ) (front bytes fraction : List ℕ) → (0 < p → end ≡ 20 + p) → (p ≡ 0 → end ≡ 19)
-    → start + length front ≡ 19 → drop start bytes ≡ front ++ drop 19 fraction
-    → take (20 + p) fraction ≡ take 20 (replicate 30 46) ++ last_digits p n
+joined : (p n start end : ℕ) (front bytes fraction : List ℕ) → (0 < p → end ≡ 21 + p) → (p ≡ 0 → end ≡ 20)
+    → start + length front ≡ 20 → drop start bytes ≡ front ++ drop 20 fraction
+    → take (21 + p) fraction ≡ take 21 (replicate 31 46) ++ last_digits p n
     → take (end - start) (drop start bytes) ≡ front ++ fraction_text (last_digits p n)
 joined zero n start end front bytes fraction some none place is after =
     let long : end - start ≡ length front = omega (arith, none refl) in
-    rw (is, append-nil) (take_at front (drop 19 fraction) (end - start) (sym long))
+    rw (is, append-nil) (take_at front (drop 20 fraction) (end - start) (sym long))
 joined (suc k) n start end front bytes fraction some none place is after =
     let long : end - start ≡ length front + (suc k + 1) = omega (arith, some (omega arith)) in
-    rw (is, long, ← fraction_shown (suc k) n fraction after) (take-append-add front (drop 19 fraction) (suc k + 1))
+    rw (is, long, ← fraction_shown (suc k) n fraction after) (take-append-add front (drop 20 fraction) (suc k + 1))
 
--- the integer has at most 18 digits
-pub whole_short : (m f : ℕ) → 6 ≤ f → m ≤ 2 ^ 63 → length (decimal (m / 2 ^ f)) ≤ 18
-whole_short m f bits small =
-    let w = m / 2 ^ f in
-    let step : w * 2 ^ 6 ≤ w * 2 ^ f = mul-le-mul_left w (pow-le-pow_right {n = 2} (omega arith) bits) in
-    let below : w < 10 ^ 18 = omega (arith, step, div-mul-le_self m (2 ^ f)) in
-    length-decimal-le 18 w (omega arith) below (omega arith)
+-- the integer has at most 19 digits
+pub whole_short : (m f : ℕ) → m ≤ 2 ^ 63 → length (decimal (m / 2 ^ f)) ≤ 19
+whole_short m f small =
+    let below : m / 2 ^ f ≤ 2 ^ 63 = le_trans (div-le_self m (2 ^ f)) small in
+    length-decimal-le 19 (m / 2 ^ f) (omega arith) (omega (arith, below)) (omega (arith, below))
 
 -- and the fraction at most 10
 pub ten_places : (m f : ℕ) → f ≤ 30 → fewest_places m f ≤ 10
@@ -110,17 +108,17 @@ ten_places m f most = few_places m f 10
 
 -- the bytes from start to end are the shortest text
 pub record IsText (b : ℤ) (f start end : ℕ) (bytes : List ℕ) : Type 0 where
-  pub within : (start ≤ end) × (end ≤ 30) × (end ≤ start + 22)
+  pub within : (start ≤ end) × (end ≤ 31) × (end ≤ start + 22)
   pub text : take (end - start) (drop start bytes) ≡ shortest_text b f
 
-pub text_made : {m f p end middle start : ℕ} {bytes : List ℕ} (b : ℤ) (first second : List ℕ) → 6 ≤ f → f ≤ 30
+pub text_made : {m f p end middle start : ℕ} {bytes : List ℕ} (b : ℤ) (first second : List ℕ) → f ≤ 30
     → m ≡ unsigned_abs b → m ≤ 2 ^ 63 → p ≡ fewest_places m f
-    → take (20 + p) first ≡ take 20 (replicate 30 46) ++ last_digits p (nearest_numeral m f p)
-    → (0 < p → end ≡ 20 + p) → (p ≡ 0 → end ≡ 19) → middle + length (decimal (m / 2 ^ f)) ≡ 19
-    → drop middle second ≡ decimal (m / 2 ^ f) ++ drop 19 first → start + length (sign_text (is_negative b)) ≡ middle
+    → take (21 + p) first ≡ take 21 (replicate 31 46) ++ last_digits p (nearest_numeral m f p)
+    → (0 < p → end ≡ 21 + p) → (p ≡ 0 → end ≡ 20) → middle + length (decimal (m / 2 ^ f)) ≡ 20
+    → drop middle second ≡ decimal (m / 2 ^ f) ++ drop 20 first → start + length (sign_text (is_negative b)) ≡ middle
     → drop start bytes ≡ sign_text (is_negative b) ++ drop middle second → IsText b f start end bytes
 unfolding shortest_text
-text_made {m = m} {f = f} {p = p} {end = end} {start = start} {bytes = bytes} b first second least most size small
+text_made {m = m} {f = f} {p = p} {end = end} {start = start} {bytes = bytes} b first second most size small
     places digits some none whole_place whole sign_place sign =
     let minus = sign_text (is_negative b) in
     let whole_text = decimal (m / 2 ^ f) in
@@ -128,7 +126,7 @@ text_made {m = m} {f = f} {p = p} {end = end} {start = start} {bytes = bytes} b 
     let both = length-append minus whole_text in
     let room = rw (← kept, ← places) at (digits_fit m f small most) in
     let one : length minus ≤ 1 = grind (arith, nat_tests) in
-    let close : (19 ≤ end) × (end ≤ 20 + p) = elim (cases_lt 0 p) [
+    let close : (20 ≤ end) × (end ≤ 21 + p) = elim (cases_lt 0 p) [
       | inl more ↦ omega (arith, some more)
       | inr fewer ↦ omega (arith, none (omega arith))
     ] in

@@ -38,7 +38,7 @@ pub fn reads_in_order(
 #[must_use]
 #[inline]
 pub fn prints_in_order(a: i64, b: i64, f: u32) -> (Shortest, Shortest)
-    requires bits_of_fraction { (6 ≤ f) × (f ≤ 30) }
+    requires bits_of_fraction { f ≤ 30 }
     ensures first { shown result.0 ≡ shortest_text a f }
     ensures second { shown result.1 ≡ shortest_text b f }
     ensures in_order { a ≤ℤ b → IsAtMost (shown result.0) (shown result.1) }

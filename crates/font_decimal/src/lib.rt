@@ -9,7 +9,6 @@
 //! ```
 #![tactic(auto)]
 
-mod fraction;
 mod grammar;
 pub mod laws;
 mod padding;

@@ -10,7 +10,6 @@ ghost use Rattle.font_decimal.specs.Near.{signed};
 ghost use Rattle.font_decimal.specs.Grammar.{HasParts, IsNoDecimal};
 ghost use Rattle.font_decimal.specs.Reading.{Rounds, Reads, IsOutOfRange, Parses, HasUnits};
 
-use crate::fraction::check_fraction_bits;
 use crate::grammar::{after_point, are_digits, split_sign};
 use thiserror::Error;
 
@@ -134,7 +133,8 @@ fn nearest_raw(digits: &[u8], f: u32) -> Option<u64>
         × ((negative : Bool)
         → Rounds (sign_text negative ++ digits.now) f (signed negative magnitude))) }
 {
-    check_fraction_bits(f);
+    // Rust, which does not check the precondition, panics here.
+    24u32.checked_sub(f - 6).unwrap();
     // An integer part that exceeds 2^63 raw units is out of every range.
     let (whole, len) = whole_digits(digits, (1 << (63 - f)) + 1);
     if len == 0 {

@@ -7,12 +7,11 @@ ghost use Rattle.std.specs.Str.{IsAscii};
 ghost use Rattle.std.specs.Fmt.{decimal, sign_text};
 ghost use Rattle.font_decimal.specs.Shortest.{fewest_places, nearest_numeral, last_digits};
 
-use crate::fraction::check_fraction_bits;
 use std::fmt;
 
-const LEN: usize = 30;
-// The index of the point: a sign and an integer have at most 19 bytes, a point and a fraction 11.
-const POINT: usize = 19;
+const LEN: usize = 31;
+// The index of the point: a sign and an integer have at most 20 bytes, a point and a fraction 11.
+const POINT: usize = 20;
 
 /// The shortest decimal of a fixed-point number, of at most 22 bytes, in a buffer.
 ///
@@ -28,7 +27,7 @@ pub struct Shortest {
     // The text is in these places.
     start: usize,
     end: usize,
-    ghost within: { (start ≤ end) × (end ≤ 30) × (end ≤ start + 22) },
+    ghost within: { (start ≤ end) × (end ≤ 31) × (end ≤ start + 22) },
     ghost ascii: { IsAscii (take (end - start) (drop start bytes)) },
 }
 
@@ -36,23 +35,24 @@ impl Shortest {
     ghost use Rattle.font_decimal.specs.Shortest.{IsShortest, shortest_text};
     ghost use Rattle.font_decimal.specs.Shown.{shown};
 
-    /// Formats the raw value `bits` with `f` fraction bits, from 6 to 30. For a value of a type,
-    /// use its `to_decimal`.
+    /// Formats the raw value `bits` with `f` fraction bits, at most 30: of 0, an integer. For a
+    /// value of a type, use its `to_decimal`.
     ///
     /// Of the decimals with the fewest fractional digits that parse back to `bits`, this is the
     /// nearest, and of two the one farther from zero.
     ///
     /// # Panics
     ///
-    /// Panics in Rust if `f` is not from 6 to 30. In Rattle that is a precondition.
+    /// Panics in Rust if `f` exceeds 30. In Rattle that is a precondition.
     #[must_use]
     #[inline(always)]
     pub fn new(bits: i64, f: u32) -> Self
-        requires { (6 ≤ f) × (f ≤ 30) }
+        requires { f ≤ 30 }
         ensures shortest { IsShortest bits f (shown result) }
         ensures text { shown result ≡ shortest_text bits f }
     {
-        check_fraction_bits(f);
+        // Rust, which does not check the precondition, panics here.
+        30u32.checked_sub(f).unwrap();
         let magnitude = bits.unsigned_abs();
         // The point is there before the digits.
         let mut bytes = [b'.'; LEN];
@@ -97,8 +97,8 @@ impl fmt::Display for Shortest {
 fn shortest_fraction(bytes: &mut [u8; LEN], magnitude: u64, f: u32) -> usize
     requires { f ≤ 30 }
     ensures places { result ≡ fewest_places magnitude f }
-    ensures digits { take (20 + result) bytes.new
-        ≡ take 20 bytes.old ++ last_digits result (nearest_numeral magnitude f result) }
+    ensures digits { take (21 + result) bytes.new
+        ≡ take 21 bytes.old ++ last_digits result (nearest_numeral magnitude f result) }
 {
     let step = 1u64 << f;
     let unit = 1u64 << (f + 1);
@@ -123,8 +123,8 @@ fn shortest_fraction(bytes: &mut [u8; LEN], magnitude: u64, f: u32) -> usize
 #[inline(always)]
 fn put_whole(bytes: &mut [u8; LEN], whole: u64) -> usize
     requires { length (decimal whole) ≤ 19 }
-    ensures start { result + length (decimal whole) ≡ 19 }
-    ensures text { drop result bytes.new ≡ decimal whole ++ drop 19 bytes.old }
+    ensures start { result + length (decimal whole) ≡ 20 }
+    ensures text { drop result bytes.new ≡ decimal whole ++ drop 20 bytes.old }
 {
     let mut left = whole;
     let mut start = POINT;
@@ -142,7 +142,7 @@ fn put_whole(bytes: &mut [u8; LEN], whole: u64) -> usize
 // Writes two digits before index `end`, and returns where they begin.
 #[inline(always)]
 fn put_pair(bytes: &mut [u8; LEN], end: usize, pair: u8) -> usize
-    requires room { (2 ≤ end) × (end ≤ 30) }
+    requires room { (2 ≤ end) × (end ≤ 31) }
     requires digits { pair < 100 }
     ensures start { result + 2 ≡ end }
     ensures text { drop result bytes.new
@@ -156,7 +156,7 @@ fn put_pair(bytes: &mut [u8; LEN], end: usize, pair: u8) -> usize
 // Writes a `-` before a negative number, and returns where the text begins.
 #[inline(always)]
 fn put_sign(bytes: &mut [u8; LEN], start: usize, negative: bool) -> usize
-    requires { (0 < start) × (start ≤ 30) }
+    requires { (0 < start) × (start ≤ 31) }
     ensures start { result + length (sign_text negative) ≡ start }
     ensures text { drop result bytes.new ≡ sign_text negative ++ drop start bytes.old }
 {

@@ -51,7 +51,7 @@ pub fn reads_in_order(
 /// <details><summary>Contract</summary>
 ///
 /// ```text
-/// requires bits_of_fraction { (6 ≤ f) × (f ≤ 30) }
+/// requires bits_of_fraction { f ≤ 30 }
 /// ensures first { shown result.0 ≡ shortest_text a f }
 /// ensures second { shown result.1 ≡ shortest_text b f }
 /// ensures in_order { a ≤ℤ b → IsAtMost (shown result.0) (shown result.1) }

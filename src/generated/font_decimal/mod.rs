@@ -10,7 +10,6 @@
 //! Shortest::new(9830, 14).as_str()                      // "0.6"
 //! ```
 
-mod fraction;
 mod grammar;
 pub mod laws;
 mod padding;

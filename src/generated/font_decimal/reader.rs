@@ -11,7 +11,6 @@ use crate::definitions::font_decimal::Reading::Parses;
 #[cfg(doc)]
 use crate::definitions::font_decimal::Reading::Reads;
 
-use crate::font_decimal::fraction::check_fraction_bits;
 use crate::font_decimal::grammar::{after_point, are_digits, split_sign};
 
 // Powers of five.
@@ -152,7 +151,8 @@ pub const fn read_decimal_bytes(
 // that does.
 #[inline(always)]
 const fn nearest_raw(digits: &[u8], f: u32) -> Option<u64> {
-    check_fraction_bits(f);
+    // Rust, which does not check the precondition, panics here.
+    24u32.checked_sub(f - 6).unwrap();
     // An integer part that exceeds 2^63 raw units is out of every range.
     let (whole, len) = whole_digits(digits, (1 << (63 - f)) + 1);
     if len == 0 {

@@ -9,12 +9,11 @@ use crate::definitions::font_decimal::Shortest::shortest_text;
 #[cfg(doc)]
 use crate::definitions::font_decimal::Shown::shown;
 
-use crate::font_decimal::fraction::check_fraction_bits;
 use core::fmt;
 
-const LEN: usize = 30;
-// The index of the point: a sign and an integer have at most 19 bytes, a point and a fraction 11.
-const POINT: usize = 19;
+const LEN: usize = 31;
+// The index of the point: a sign and an integer have at most 20 bytes, a point and a fraction 11.
+const POINT: usize = 20;
 
 /// The shortest decimal of a fixed-point number, of at most 22 bytes, in a buffer.
 ///
@@ -28,7 +27,7 @@ const POINT: usize = 19;
 /// <details><summary>Contract</summary>
 ///
 /// ```text
-/// ghost within: { (start ≤ end) × (end ≤ 30) × (end ≤ start + 22) },
+/// ghost within: { (start ≤ end) × (end ≤ 31) × (end ≤ start + 22) },
 /// ghost ascii: { IsAscii (take (end - start) (drop start bytes)) },
 /// ```
 /// </details>
@@ -41,20 +40,20 @@ pub struct Shortest {
 }
 
 impl Shortest {
-    /// Formats the raw value `bits` with `f` fraction bits, from 6 to 30. For a value of a type,
-    /// use its `to_decimal`.
+    /// Formats the raw value `bits` with `f` fraction bits, at most 30: of 0, an integer. For a
+    /// value of a type, use its `to_decimal`.
     ///
     /// Of the decimals with the fewest fractional digits that parse back to `bits`, this is the
     /// nearest, and of two the one farther from zero.
     ///
     /// # Panics
     ///
-    /// Panics in Rust if `f` is not from 6 to 30. In Rattle that is a precondition.
+    /// Panics in Rust if `f` exceeds 30. In Rattle that is a precondition.
     ///
     /// <details><summary>Contract</summary>
     ///
     /// ```text
-    /// requires { (6 ≤ f) × (f ≤ 30) }
+    /// requires { f ≤ 30 }
     /// ensures shortest { IsShortest bits f (shown result) }
     /// ensures text { shown result ≡ shortest_text bits f }
     /// ```
@@ -63,7 +62,8 @@ impl Shortest {
     #[must_use]
     #[inline(always)]
     pub fn new(bits: i64, f: u32) -> Self {
-        check_fraction_bits(f);
+        // Rust, which does not check the precondition, panics here.
+        30u32.checked_sub(f).unwrap();
         let magnitude = bits.unsigned_abs();
         // The point is there before the digits.
         let mut bytes = [b'.'; LEN];

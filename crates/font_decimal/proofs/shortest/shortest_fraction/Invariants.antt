@@ -7,8 +7,8 @@ abbrev pub invariant-loop-margin : goal.invariant-loop-margin
 invariant-loop-margin l = record {
   margin : l.margin ≡ 10 ^ l.places;
   numeral : ℕ;
-  digits : take (20 + l.places) l.bytes ≡ take 20 l.fn.bytes ++ last_digits l.places numeral;
-  long : length l.bytes ≡ 30;
+  digits : take (21 + l.places) l.bytes ≡ take 21 l.fn.bytes ++ last_digits l.places numeral;
+  long : length l.bytes ≡ 31;
   rest : HasRest l.magnitude l.f l.places numeral l.rest;
   few : l.places ≤ 10;
   within : l.places ≤ l.f;

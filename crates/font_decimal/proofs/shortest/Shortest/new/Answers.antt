@@ -17,15 +17,15 @@ made : (c : goal.After-put_sign-start)
 made c =
     let fits : FitsSigned w64 c.args.bits = c.ranges.bits in
     let fraction = c.shortest_fraction-places in
-    let some : 0 < fraction.result → c.if-places-gt0.end ≡ 20 + fraction.result = λ h. elim c.if-places-gt0.branch [
+    let some : 0 < fraction.result → c.if-places-gt0.end ≡ 21 + fraction.result = λ h. elim c.if-places-gt0.branch [
       | then-places-gt0 w ↦ w.end-is
       | else-places-gt0 w ↦ absurd (omega arith)
     ] in
-    let none : fraction.result ≡ 0 → c.if-places-gt0.end ≡ 19 = λ h. elim c.if-places-gt0.branch [
+    let none : fraction.result ≡ 0 → c.if-places-gt0.end ≡ 20 = λ h. elim c.if-places-gt0.branch [
       | then-places-gt0 w ↦ absurd (omega arith)
       | else-places-gt0 w ↦ w.end-is
     ] in
-    text_made c.args.bits _ c.put_whole-start.new.bytes c.requires.0 c.requires.1 (size c)
+    text_made c.args.bits _ c.put_whole-start.new.bytes c.requires (size c)
     c.unsigned_abs-magnitude.ensures.bound fraction.ensures.places fraction.ensures.digits some none
     c.put_whole-start.ensures.start c.put_whole-start.ensures.text
     (simp to_z-of_z at c.put_sign-start.ensures.start) (simp to_z-of_z at c.put_sign-start.ensures.text)
