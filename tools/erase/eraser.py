@@ -21,7 +21,8 @@ These are changed, and nothing else:
 - an `extern "C"` function with a slice or a reference, which becomes `unsafe`;
 - `prove!(..)`, which becomes `const { assert!(..) }`: rustc checks it of each type;
 - the program's `fn main`, which becomes `pub`;
-- functions of `CONST`, which become `const`;
+- functions of `CONST`, which become `const`, and those of the library, which become `#[inline]` and
+  `#[must_use]`;
 - in documentation the package's name.
 
 `Display` and `Error` of a type that derives `Error` are added, what `DERIVED` lists, and in each
@@ -108,7 +109,7 @@ class Eraser:
         # Of each token whether it is written, and what is written before it.
         self.kept = [text not in MARKS for _, text, _ in self.tokens]
         self.put_before = [""] * (len(self.tokens) + 1)
-        self.modules, self.header = [], 0
+        self.modules, self.header, self.trait_end = [], 0, 0
         # Names that mean something else in Rust, functions that had a parameter `W`, arguments of
         # macros, and the words whose form is checked.
         self.gone, self.writers, self.macros, self.visited = [], [], [], []
@@ -149,8 +150,10 @@ class Eraser:
             case ["Formatter", "<", "W", ">", *_] if self.is_of_writer(at):
                 self.replace(at + 2, "'_")
                 return at + 3
-            case ["trait", _, "<", "Rhs", ">", *_]:
-                self.put(at + 4, " = Self")
+            case ["trait", _, *generics] if forms.is_item(self.words, at):
+                self.trait_end = self.group_end(self.header_end(at))
+                if generics[:3] == ["<", "Rhs", ">"]:
+                    self.put(at + 4, " = Self")
             # It returns the clone, not a `Result`.
             case [".", "clone", "(", ")", "?", *_] if target == "tests":
                 return self.leave_out(at + 4, at + 5)
@@ -231,6 +234,8 @@ class Eraser:
                 return self.leave_out_with_comments(at, end + 3)
             case ["derive", "(", *_]:
                 is_kept = self.derive(opens + 3, end)
+            case ["inline" | "must_use", "]"] if self.of.target == "library":
+                self.refuse(at, "an attribute that the eraser writes")
             case words:
                 is_kept = True
                 if self.of.target != "tests":
@@ -264,8 +269,10 @@ class Eraser:
             return self.export(at)
         if is_root and target == "program" and self.words[at + 1] == "main":
             self.put(at, "pub ")
-        if target == "library" and self.words[at + 1] in CONST:
-            self.put(at, "const ")
+        if target == "library":
+            self.put_attributes(at)
+            if self.words[at + 1] in CONST:
+                self.put(at, "const ")
         match self.words[at + 2 : at + 11]:
             case ["(", rt, ":", "HostRuntime", ")", *_] if target == "tests":
                 self.put_after(self.header, f"let {rt} = crate::rattle::Host;")
@@ -278,6 +285,18 @@ class Eraser:
             ] == "clone":
                 return self.clone_of_copy(at)
         return at + 1
+
+    def put_attributes(self, at):
+        """Writes `#[must_use]` above a function of a type, a module or a trait that returns a value
+        in which no `Result` stands, which has that attribute itself; and `#[inline]` above each
+        that has a body, does not print, and has no other."""
+        first = self.contracts.first(at)
+        before, header = self.words[first:at], " ".join(self.words[at : self.header])
+        is_public = re.search(r"pub(?! \()", " ".join(before)) or at < self.trait_end
+        if is_public and re.search(r"- > (?!.*- > |.*Result )", header):
+            self.put(first, "#[must_use]\n")
+        if self.words[self.header] == "{" and self.words[at + 1] != "fmt" and "inline" not in before:
+            self.put(first, "#[inline]\n")
 
     def export(self, at):
         """`extern "C" fn f(x: &[T]) { .. }` becomes `extern "C" fn f(x: *const T, x_len: usize) {

@@ -3,6 +3,7 @@ the others. `tools/mir` compares what the compilers make of its output and of th
 end of a line."""
 
 import pathlib
+import re
 import shutil
 import subprocess
 import sys
@@ -87,6 +88,8 @@ REFUSED = r"""
 3 `bytes_len`: pub extern "C" fn fty_f(⏎    bytes: &[u8],⏎) -> usize { bytes_len() }
 1 all: pub use super::*;
 1 ATTRIBUTES: #[macro_export]⏎fn f() {}
+1 eraser writes: #[inline]⏎fn f() {}
+2 eraser writes: impl N {⏎    #[must_use]⏎    pub fn f(self) -> u8 { 1 } }
 1 `clone`: fn f(n: N) -> N { n.to_owned() }
 1 `clone`: fn f(n: N) { n.clone_from(m) }
 1 union: union U { n: u32 }
@@ -145,6 +148,18 @@ pub trait A { ghost b: { Self }; ghost K: { ℕ }; } ⇒ \
 FOLD/// ghost b: { Self };⏎END⏎pub trait A {   }
 impl A for B { ghost a_gives = { 2 }; ghost laws = { 3 }; } ⇒ \
 FOLD/// ghost a_gives = { 2 };⏎END⏎impl A for B {   }
+"""
+
+# Functions of the library, each with the attributes that they get.
+ATTRIBUTES = r"""
+pub fn f() -> u8 { 1 } ⇒ #[must_use]⏎#[inline]⏎
+pub fn f() -> Result<u8, E> { Ok(1) } ⇒ #[inline]⏎
+pub fn f<F: Fn(u8) -> u8>(g: F) -> Result<u8, E> { Ok(g(1)) } ⇒ #[inline]⏎
+pub fn f() -> (u8, Option<Result<u8, E>>) { (1, None) } ⇒ #[inline]⏎
+pub(crate) fn f() -> u8 { 1 } ⇒ #[inline]⏎
+pub fn f(n: &mut u8) {} ⇒ #[inline]⏎
+#[inline(never)]⏎pub fn f() -> u8 { 1 } ⇒ #[must_use]⏎
+fn fmt(f: &mut F) -> fmt::Result { f.g() }
 """
 
 # The same of other crates.
@@ -215,7 +230,11 @@ class Erasure(unittest.TestCase):
             source, _, rust = row.partition(" ⇒ ")
             for short, text in SHORT.items():
                 rust = rust.replace(short, text)
-            self.assertEqual(erased(source), rust or source)
+            found = re.sub(r"#\[(inline|must_use)\]\n", "", erased(source))
+            self.assertEqual(found, rust or source)
+        for row in rows(ATTRIBUTES):
+            source, _, attributes = row.partition(" ⇒ ")
+            self.assertEqual(erased(source), attributes + source)
         for row in rows(OF_OTHERS):
             name, row = row.split(" ", 1)
             source, rust = row.split(" ⇒ ")

@@ -47,8 +47,6 @@ impl<'a, T: Scalar> ScalarArray<'a, T> {
     /// `RAW_BYTE_LEN`.
     ///
     /// If `RAW_BYTE_LEN` is 0, only empty data is an array, and it is empty.
-    #[must_use]
-    #[inline]
     pub fn new(data: &'a [u8]) -> Option<ScalarArray<'a, T>>
     where
         T::Raw: ByteChunks,
@@ -75,8 +73,6 @@ impl<'a, T: Scalar> ScalarArray<'a, T> {
     /// assert_eq!((ends.len(), ends.last()), (2, Some(0x7A)));
     /// assert!(ScalarArray::<u16>::read_at(&table, 2, 3).is_none());
     /// ```
-    #[must_use]
-    #[inline]
     #[tactic(auto, using(crate::proofs::Elements::part_rules))]
     pub fn read_at(bytes: &'a [u8], offset: usize, count: usize) -> Option<ScalarArray<'a, T>>
     where
@@ -100,8 +96,6 @@ impl<'a, T: Scalar> ScalarArray<'a, T> {
     }
 
     /// Returns the number of elements.
-    #[must_use]
-    #[inline]
     #[tactic(auto, using(crate::proofs::Elements::len_rules))]
     pub const fn len(&self) -> usize
         ensures value { result ≡ array_len self.now }
@@ -111,8 +105,6 @@ impl<'a, T: Scalar> ScalarArray<'a, T> {
     }
 
     /// Returns `true` if the array has no elements.
-    #[must_use]
-    #[inline]
     pub fn is_empty(&self) -> bool
         ensures { IsTrue result ↔ (array_len self.now ≡ 0) }
     {
@@ -120,8 +112,6 @@ impl<'a, T: Scalar> ScalarArray<'a, T> {
     }
 
     /// Returns the underlying bytes.
-    #[must_use]
-    #[inline]
     pub fn as_bytes(&self) -> &'a [u8]
     where
         T::Raw: ByteChunks,
@@ -140,8 +130,6 @@ impl<'a, T: Scalar> ScalarArray<'a, T> {
     /// let ends = ends.as_raw().iter().map(|raw| u16::from_raw(*raw));
     /// assert!(ends.rev().eq([0xFFFF, 0x7A, 0x5A]));
     /// ```
-    #[must_use]
-    #[inline]
     #[tactic(auto, using(crate::proofs::Elements::iter_rules))]
     pub const fn as_raw(&self) -> &'a [T::Raw]
         ensures { map T.Raw.bytes result.now ≡ array_elements self.now }
@@ -150,8 +138,6 @@ impl<'a, T: Scalar> ScalarArray<'a, T> {
     }
 
     /// Returns the element at `index`, or `None` if out of bounds.
-    #[must_use]
-    #[inline]
     #[tactic(auto, using(crate::proofs::Elements::element_rules))]
     pub fn get(&self, index: usize) -> Option<T>
         ensures variant { IsSome result ↔ (index < array_len self.now) }
@@ -169,8 +155,6 @@ impl<'a, T: Scalar> ScalarArray<'a, T> {
     }
 
     /// Returns the first element, or `None` if there is none.
-    #[must_use]
-    #[inline]
     pub fn first(&self) -> Option<T>
         ensures variant { IsSome result ↔ (0 < array_len self.now) }
         ensures stored { IfSome result (λ v.
@@ -185,8 +169,6 @@ impl<'a, T: Scalar> ScalarArray<'a, T> {
     }
 
     /// Returns the last element, or `None` if there is none.
-    #[must_use]
-    #[inline]
     pub fn last(&self) -> Option<T>
         ensures variant { IsSome result ↔ (0 < array_len self.now) }
         ensures stored { IfSome result (λ v.
@@ -209,8 +191,6 @@ impl<'a, T: Scalar> ScalarArray<'a, T> {
     /// assert_eq!(array.slice(1, 3).unwrap().as_bytes(), [0, 2, 0, 3]);
     /// assert!(array.slice(1, 4).is_none());
     /// ```
-    #[must_use]
-    #[inline]
     #[tactic(auto, using(crate::proofs::Elements::slice_rules))]
     pub fn slice(&self, start: usize, end: usize) -> Option<ScalarArray<'a, T>>
         ensures variant { IsSome result ↔ ((start ≤ end) × (end ≤ array_len self.now)) }
@@ -226,7 +206,6 @@ impl<'a, T: Scalar> ScalarArray<'a, T> {
     }
 
     // Returns the named iterator over the elements.
-    #[inline]
     #[tactic(auto, using(crate::proofs::Elements::iter_rules))]
     fn elements(&self) -> ScalarArrayIter<'a, T>
         ensures { elements_left result ≡ array_elements self.now }
@@ -244,7 +223,6 @@ impl<'a, T: Scalar> Clone for ScalarArray<'a, T> {
 
     ghost is_infallible = { λ _. ⊤ };
 
-    #[inline]
     fn clone(&self) -> Result<ScalarArray<'a, T>, AllocError> {
         Ok(ScalarArray { raw: self.raw })
     }
@@ -258,7 +236,6 @@ impl<'a, T: Scalar> Default for ScalarArray<'a, T> {
 
     ghost is_default = { λ array. array_bytes array ≡ [] };
 
-    #[inline]
     fn default() -> ScalarArray<'a, T> {
         prove!(T::RAW_BYTE_LEN == <T::Raw as BeByteArray>::LEN);
         ScalarArray { raw: &[] }
@@ -276,7 +253,6 @@ where
 
     ghost laws = { on_per array_bytes (partial_equiv_from_equiv nat_list_eq_equiv) };
 
-    #[inline]
     fn eq(&self, other: &ScalarArray<'a, T>) -> bool {
         self.as_bytes() == other.as_bytes()
     }
@@ -310,7 +286,6 @@ impl<'a, T: Scalar> ScalarArray<'a, T> {
     /// # Errors
     ///
     /// If there is none, returns the index at which it could be inserted.
-    #[inline]
     pub fn binary_search_by<F: Fn(T) -> Ordering>(&self, compare: F) -> Result<usize, usize>
         requires { F.IsAlwaysCallable compare }
         ensures found { IfOk result (λ i. i < array_len self.now) }
@@ -328,7 +303,6 @@ impl<'a, T: Scalar> ScalarArray<'a, T> {
     /// # Errors
     ///
     /// If there is none, returns the index at which it could be inserted.
-    #[inline]
     pub fn binary_search_by_key<K: Ord + Drop, F: Fn(T) -> K>(
         &self,
         key: &K,
@@ -352,8 +326,6 @@ impl<'a, T: Scalar> ScalarArray<'a, T> {
     /// let ends = ScalarArray::<u16>::new(&[0x00, 0x5A, 0x00, 0x7A, 0xFF, 0xFF]).unwrap();
     /// assert_eq!(ends.partition_point(|end| end < 0x7A), 1);
     /// ```
-    #[must_use]
-    #[inline]
     #[tactic(auto, using(crate::proofs::Elements::len_rules))]
     pub fn partition_point<F: Fn(T) -> bool>(&self, is_before: F) -> usize
         requires { F.IsAlwaysCallable is_before }
@@ -371,7 +343,6 @@ impl<'a, T: Scalar> ScalarArray<'a, T> {
     /// # Errors
     ///
     /// If there is none, returns the index at which it could be inserted.
-    #[inline]
     pub fn binary_search(&self, key: &T) -> Result<usize, usize>
     where
         T: Ord + Copy,
@@ -397,8 +368,6 @@ impl<'a, T: Scalar> ScalarArrayIter<'a, T> {
     ghost use Rattle.font_base.specs.Array.{array_elements, elements_left};
 
     /// Returns the elements that are left, as an array.
-    #[must_use]
-    #[inline]
     #[tactic(auto, using(crate::proofs::Elements::iter_rules))]
     pub fn as_array(&self) -> ScalarArray<'a, T>
         ensures { array_elements result ≡ elements_left self.now }
@@ -418,7 +387,6 @@ impl<'a, T: Scalar> Iterator for ScalarArrayIter<'a, T> {
 
     ghost remaining = { item_count elements_left };
 
-    #[inline]
     fn next(&mut self) -> Option<T> {
         match self.rest.next() {
             Some(raw) => Some(T::from_raw(*raw)),
@@ -426,7 +394,6 @@ impl<'a, T: Scalar> Iterator for ScalarArrayIter<'a, T> {
         }
     }
 
-    #[inline]
     fn size_hint(&self) -> (usize, Option<usize>)
         ensures lower { IsWithinCount result.0 (item_count elements_left self.now) }
         ensures upper { IfSome result.1 (UpTo (item_count elements_left self.now)) }
@@ -442,7 +409,6 @@ impl<'a, T: Scalar> DoubleEndedIterator for ScalarArrayIter<'a, T> {
 
     ghost next_back_gives = { YieldsLastBy (λ v. T.Raw.bytes (T.raw_of v)) elements_left };
 
-    #[inline]
     fn next_back(&mut self) -> Option<T> {
         match self.rest.next_back() {
             Some(raw) => Some(T::from_raw(*raw)),
@@ -452,7 +418,6 @@ impl<'a, T: Scalar> DoubleEndedIterator for ScalarArrayIter<'a, T> {
 }
 
 impl<'a, T: Scalar> ExactSizeIterator for ScalarArrayIter<'a, T> {
-    #[inline]
     fn len(&self) -> usize {
         self.rest.len()
     }
@@ -467,7 +432,6 @@ impl<'a, T: Scalar> Clone for ScalarArrayIter<'a, T> {
 
     ghost is_infallible = { λ _. ⊤ };
 
-    #[inline]
     fn clone(&self) -> Result<ScalarArrayIter<'a, T>, AllocError> {
         Ok(ScalarArrayIter {
             rest: self.rest.as_slice().iter(),
@@ -484,7 +448,6 @@ impl<'a, T: Scalar> IntoIterator for ScalarArray<'a, T> {
 
     ghost into_iter_gives = { λ array iter. elements_left iter ≡ array_elements array };
 
-    #[inline]
     fn into_iter(self) -> ScalarArrayIter<'a, T> {
         self.elements()
     }
@@ -499,7 +462,6 @@ impl<'a, T: Scalar> IntoIterator for &ScalarArray<'a, T> {
 
     ghost into_iter_gives = { λ array iter. elements_left iter ≡ array_elements array.now };
 
-    #[inline]
     fn into_iter(self) -> ScalarArrayIter<'a, T> {
         self.elements()
     }

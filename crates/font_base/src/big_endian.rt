@@ -39,8 +39,6 @@ impl<T: Scalar> BigEndian<T> {
     ghost use Rattle.font_base.specs.BigEndian.{raw_value};
 
     /// Creates a field from its raw bytes.
-    #[must_use]
-    #[inline]
     pub fn new(raw: T::Raw) -> BigEndian<T>
         ensures { raw_value result ≡ raw }
     {
@@ -54,8 +52,6 @@ impl<T: Scalar> BigEndian<T> {
     }
 
     /// Creates a field from a slice, or returns `None` unless its length is `RAW_BYTE_LEN`.
-    #[must_use]
-    #[inline]
     pub fn from_slice(slice: &[u8]) -> Option<BigEndian<T>>
         ensures variant { IsSome result ↔ (length slice.now ≡ T.RAW_BYTE_LEN) }
         ensures bytes { IfSome result (λ field. T.Raw.bytes (raw_value field) ≡ slice.now) }
@@ -77,8 +73,6 @@ impl<T: Scalar> BigEndian<T> {
     /// assert_eq!(field.get(), 0x0102);
     /// assert!(BigEndian::<u16>::read_at(&[9, 1, 2], 2).is_none());
     /// ```
-    #[must_use]
-    #[inline]
     pub fn read_at(bytes: &[u8], offset: usize) -> Option<BigEndian<T>>
         ensures variant { IsSome result ↔ (offset + T.RAW_BYTE_LEN ≤ length bytes.now) }
         ensures bytes { IfSome result (λ field.
@@ -97,8 +91,6 @@ impl<T: Scalar> BigEndian<T> {
     /// assert_eq!(bytes, [9, 1, 2]);
     /// assert_eq!(field.write_at(&mut bytes, 2), None);
     /// ```
-    #[must_use]
-    #[inline]
     pub fn write_at(&self, bytes: &mut [u8], offset: usize) -> Option<()>
         ensures variant { IsSome result ↔ (offset + T.RAW_BYTE_LEN ≤ length bytes.old) }
         ensures before { take offset bytes.new ≡ take offset bytes.old }
@@ -112,7 +104,6 @@ impl<T: Scalar> BigEndian<T> {
     }
 
     /// Decodes the value.
-    #[must_use]
     #[inline(always)]
     pub fn get(&self) -> T
         ensures value { result ≡ T.of_raw (raw_value self.now) }
@@ -122,7 +113,6 @@ impl<T: Scalar> BigEndian<T> {
     }
 
     /// Overwrites the field with the bytes of `value`.
-    #[inline]
     pub fn set(&mut self, value: T)
         ensures bytes { raw_value self.new ≡ T.raw_of value }
         ensures back { T.of_raw (raw_value self.new) ≡ value }
@@ -131,8 +121,6 @@ impl<T: Scalar> BigEndian<T> {
     }
 
     /// Returns the raw big-endian bytes.
-    #[must_use]
-    #[inline]
     pub fn be_bytes(&self) -> &[u8]
         ensures { result.now ≡ T.Raw.bytes (raw_value self.now) }
     {
@@ -146,8 +134,6 @@ impl<T: Scalar> BigEndian<T> {
     ghost use Rattle.font_base.specs.BigEndian.{raw_value};
 
     /// Returns `true` if the decoded value equals `other`, as `==` does.
-    #[must_use]
-    #[inline]
     pub fn eq_value(&self, other: &T) -> bool
     where
         T: Copy + PartialEq,
@@ -162,7 +148,6 @@ impl<T: Scalar, R: BeByteArray> Clone for BigEndian<T, R> {
 
     ghost is_infallible = { λ _. ⊤ };
 
-    #[inline]
     fn clone(&self) -> Result<BigEndian<T, R>, AllocError> {
         Ok(BigEndian {
             raw: self.raw,
@@ -185,7 +170,6 @@ impl<T: Scalar> From<T> for BigEndian<T> {
     ghost from_gives = { λ value field. (raw_value field ≡ T.raw_of value)
         × (T.of_raw (raw_value field) ≡ value) };
 
-    #[inline]
     fn from(value: T) -> BigEndian<T> {
         BigEndian::new(value.to_raw())
     }
@@ -199,7 +183,6 @@ impl<T: Scalar> PartialEq for BigEndian<T> {
     ghost laws = { on_per
         (λ field. T.Raw.bytes (raw_value field)) (partial_equiv_from_equiv nat_list_eq_equiv) };
 
-    #[inline]
     fn eq(&self, other: &BigEndian<T>) -> bool {
         self.raw.eq_array(&other.raw)
     }
@@ -218,7 +201,6 @@ impl<T: Scalar> Hash for BigEndian<T> {
 
     ghost respects_eq = { Prim.search (hashing, rules) };
 
-    #[inline]
     fn hash<H: Hasher>(&self, state: &mut H) {
         self.be_bytes().hash(state);
     }
@@ -241,7 +223,6 @@ impl<T: Scalar + Copy + Ord + IdentityEq> PartialOrd for BigEndian<T> {
         (λ same. ap T.Raw.bytes (sym (T.Scalar.laws.forth (raw_value a) a.value) ∙ ap T.raw_of same
         ∙ T.Scalar.laws.forth (raw_value b) b.value))) };
 
-    #[inline]
     fn partial_cmp(&self, other: &BigEndian<T>) -> Option<Ordering> {
         Some(self.cmp(other))
     }
@@ -264,7 +245,6 @@ impl<T: Scalar + Copy + Ord + IdentityEq> Ord for BigEndian<T> {
         (λ same. ap T.Raw.bytes (sym (T.Scalar.laws.forth (raw_value a) a.value) ∙ ap T.raw_of same
         ∙ T.Scalar.laws.forth (raw_value b) b.value)) };
 
-    #[inline]
     fn cmp(&self, other: &BigEndian<T>) -> Ordering {
         self.get().cmp(&other.get())
     }
@@ -275,7 +255,6 @@ impl<T: Scalar + Default> Default for BigEndian<T> {
 
     ghost is_default = { λ field. T.is_default (T.of_raw (raw_value field)) };
 
-    #[inline]
     fn default() -> BigEndian<T> {
         BigEndian::from(T::default())
     }

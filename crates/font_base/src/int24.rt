@@ -36,8 +36,6 @@ impl Int24 {
     pub const MAX: Self = Int24 { value: 0x7F_FFFF };
 
     /// Converts an `i32`, saturating at `MIN` and `MAX`.
-    #[must_use]
-    #[inline]
     pub const fn new(raw: i32) -> Int24
         ensures { int24_number result ≡ int_max INT24_MIN (int_min raw INT24_MAX) }
     {
@@ -51,8 +49,6 @@ impl Int24 {
     }
 
     /// Converts an `i32`, or returns `None` if it is out of range.
-    #[must_use]
-    #[inline]
     pub const fn checked_new(raw: i32) -> Option<Int24>
         ensures variant { IsSome result ↔ ((INT24_MIN ≤ℤ raw) × (raw ≤ℤ INT24_MAX)) }
         ensures value { IfSome result (λ n. int24_number n ≡ raw) }
@@ -65,8 +61,6 @@ impl Int24 {
     }
 
     /// Returns the value as an `i32`.
-    #[must_use]
-    #[inline]
     pub const fn to_i32(self) -> i32
         ensures { result ≡ int24_number self }
     {
@@ -74,8 +68,6 @@ impl Int24 {
     }
 
     /// Returns the big-endian bytes, in two's complement.
-    #[must_use]
-    #[inline]
     pub const fn to_be_bytes(self) -> [u8; 3]
         ensures { result ≡ bytes_of 3 (int24_number self) }
     {
@@ -84,8 +76,6 @@ impl Int24 {
     }
 
     /// Creates a value from big-endian bytes in two's complement.
-    #[must_use]
-    #[inline]
     pub const fn from_be_bytes(bytes: [u8; 3]) -> Int24
         ensures bytes { bytes ≡ bytes_of 3 (int24_number result) }
         ensures number { int24_number result ≡ signed_numeral 3 bytes }
@@ -101,7 +91,6 @@ impl Default for Int24 {
 
     ghost is_default = { λ n. int24_number n ≡ pos 0 };
 
-    #[inline]
     fn default() -> Int24 {
         Int24 { value: 0 }
     }
@@ -133,7 +122,6 @@ impl From<Int24> for i32 {
 
     ghost from_gives = { λ n number. number ≡ int24_number n };
 
-    #[inline]
     fn from(n: Int24) -> i32 {
         n.value
     }
@@ -160,12 +148,10 @@ impl Scalar for Int24 {
 
     ghost laws = { int24_laws };
 
-    #[inline]
     fn from_raw(raw: [u8; 3]) -> Int24 {
         Int24::from_be_bytes(raw)
     }
 
-    #[inline]
     fn to_raw(self) -> [u8; 3] {
         self.to_be_bytes()
     }

@@ -41,22 +41,18 @@ pub trait BeByteArray: Copy {
     ghost is_value: { Self → Bool };
 
     /// Copies a slice, or returns `None` unless its length is `LEN`.
-    #[must_use]
     fn from_slice(slice: &[u8]) -> Option<Self>
         ensures variant { IsSome result ↔ (length slice.now ≡ LEN) }
         ensures value { IfSome result (λ array. IsTrue (is_value array)) }
         ensures bytes { IfSome result (λ array. bytes array ≡ slice.now) };
 
     /// Returns the bytes as a slice.
-    #[must_use]
     fn as_slice(&self) -> &[u8]
         ensures bytes { result.now ≡ bytes self.now }
         ensures length { length result.now ≡ LEN }
         ensures value { IsTrue (is_value self.now) };
 
     /// Returns `true` if both arrays have the same bytes.
-    #[must_use]
-    #[inline]
     fn eq_array(&self, other: &Self) -> bool
         ensures { result ≡ pointwise nat_eq (bytes self.now) (bytes other.now) }
     {
@@ -84,7 +80,6 @@ impl<const N: usize> BeByteArray for [u8; N] {
 
     ghost same_bytes = { λ a b _ _ same. same };
 
-    #[inline]
     fn from_slice(slice: &[u8]) -> Option<[u8; N]> {
         if slice.len() != N {
             return None;
@@ -92,13 +87,11 @@ impl<const N: usize> BeByteArray for [u8; N] {
         Some(*slice.first_chunk()?)
     }
 
-    #[inline]
     fn as_slice(&self) -> &[u8] {
         let _bytes = each_is_byte(self);
         self
     }
 
-    #[inline]
     fn eq_array(&self, other: &[u8; N]) -> bool {
         self == other
     }
@@ -131,20 +124,17 @@ impl<const N: usize> BeByteArray for [u8; N] {
 /// The source and its contracts: `crates/font_base/src/raw.rt`.
 pub trait ByteChunks: BeByteArray {
     /// Splits a slice into arrays, from its start, and the bytes that are left.
-    #[must_use]
     fn as_chunks(bytes: &[u8]) -> (&[Self], &[u8])
         ensures are_raw { AreRaw Self.is_value Self.bytes Self.LEN result.0.now }
         ensures bytes { flat_map Self.bytes result.0.now ++ result.1.now ≡ bytes.now }
         ensures left { length result.1.now ≡ length bytes.now % Self.LEN };
 
     /// Returns the bytes of the arrays.
-    #[must_use]
     fn as_flattened(arrays: &[Self]) -> &[u8]
         ensures { result.now ≡ flat_map Self.bytes arrays.now };
 }
 
 impl<const N: usize> ByteChunks for [u8; N] {
-    #[inline]
     fn as_chunks(bytes: &[u8]) -> (&[[u8; N]], &[u8]) {
         if N == 0 {
             return (&[], bytes);
@@ -152,7 +142,6 @@ impl<const N: usize> ByteChunks for [u8; N] {
         bytes.as_chunks()
     }
 
-    #[inline]
     fn as_flattened(arrays: &[[u8; N]]) -> &[u8] {
         arrays.as_flattened()
     }
@@ -211,19 +200,15 @@ pub trait Scalar: FixedSize {
     ghost raw_of: { Self → Self.Raw };
 
     /// Decodes a value from its raw bytes.
-    #[must_use]
     fn from_raw(raw: Self::Raw) -> Self
         ensures { result ≡ of_raw raw };
 
     /// Encodes the value as raw bytes.
-    #[must_use]
     fn to_raw(self) -> Self::Raw
         ensures raw { result ≡ raw_of self }
         ensures value { IsTrue (is_scalar self) };
 
     /// Reads a value from a slice, or returns `None` unless its length is `RAW_BYTE_LEN`.
-    #[must_use]
-    #[inline]
     fn read(slice: &[u8]) -> Option<Self>
         ensures variant { IsSome result ↔ (length slice.now ≡ Self.RAW_BYTE_LEN) }
         ensures bytes { IfSome result (λ v. Self.Raw.bytes (raw_of v) ≡ slice.now) }
@@ -244,8 +229,6 @@ pub trait Scalar: FixedSize {
     /// assert_eq!(Tag::read_at(head, 4), Some(Tag::new(b"head")));
     /// assert_eq!(Tag::read_at(head, 5), None);
     /// ```
-    #[must_use]
-    #[inline]
     fn read_at(bytes: &[u8], offset: usize) -> Option<Self>
         ensures variant { IsSome result ↔ (offset + Self.RAW_BYTE_LEN ≤ length bytes.now) }
         ensures bytes { IfSome result (λ v.
@@ -267,8 +250,6 @@ pub trait Scalar: FixedSize {
     /// assert_eq!(head, *b"\x00\x01\x00\x00head");
     /// assert_eq!(Tag::new(b"hhea").write_at(&mut head, 5), None);
     /// ```
-    #[must_use]
-    #[inline]
     #[tactic(auto, using(std::proofs::lemmas::Slice::overwrites))]
     fn write_at(self, bytes: &mut [u8], offset: usize) -> Option<()>
         ensures variant { IsSome result ↔ (offset + Self.RAW_BYTE_LEN ≤ length bytes.old) }
@@ -324,12 +305,10 @@ impl Scalar for u8 {
 
     ghost laws = { unsigned_laws 1 };
 
-    #[inline]
     fn from_raw(raw: [u8; 1]) -> u8 {
         u8::from_be_bytes(raw)
     }
 
-    #[inline]
     fn to_raw(self) -> [u8; 1] {
         self.to_be_bytes()
     }
@@ -356,12 +335,10 @@ impl Scalar for u16 {
 
     ghost laws = { unsigned_laws 2 };
 
-    #[inline]
     fn from_raw(raw: [u8; 2]) -> u16 {
         u16::from_be_bytes(raw)
     }
 
-    #[inline]
     fn to_raw(self) -> [u8; 2] {
         self.to_be_bytes()
     }
@@ -388,12 +365,10 @@ impl Scalar for u32 {
 
     ghost laws = { unsigned_laws 4 };
 
-    #[inline]
     fn from_raw(raw: [u8; 4]) -> u32 {
         u32::from_be_bytes(raw)
     }
 
-    #[inline]
     fn to_raw(self) -> [u8; 4] {
         self.to_be_bytes()
     }
@@ -420,12 +395,10 @@ impl Scalar for i8 {
 
     ghost laws = { signed_laws 1 (lit< tt) };
 
-    #[inline]
     fn from_raw(raw: [u8; 1]) -> i8 {
         u8::from_be_bytes(raw).cast_signed()
     }
 
-    #[inline]
     fn to_raw(self) -> [u8; 1] {
         self.to_be_bytes()
     }
@@ -452,12 +425,10 @@ impl Scalar for i16 {
 
     ghost laws = { signed_laws 2 (lit< tt) };
 
-    #[inline]
     fn from_raw(raw: [u8; 2]) -> i16 {
         u16::from_be_bytes(raw).cast_signed()
     }
 
-    #[inline]
     fn to_raw(self) -> [u8; 2] {
         self.to_be_bytes()
     }
@@ -484,12 +455,10 @@ impl Scalar for i32 {
 
     ghost laws = { signed_laws 4 (lit< tt) };
 
-    #[inline]
     fn from_raw(raw: [u8; 4]) -> i32 {
         u32::from_be_bytes(raw).cast_signed()
     }
 
-    #[inline]
     fn to_raw(self) -> [u8; 4] {
         self.to_be_bytes()
     }
@@ -516,12 +485,10 @@ impl Scalar for i64 {
 
     ghost laws = { signed_laws 8 (lit< tt) };
 
-    #[inline]
     fn from_raw(raw: [u8; 8]) -> i64 {
         u64::from_be_bytes(raw).cast_signed()
     }
 
-    #[inline]
     fn to_raw(self) -> [u8; 8] {
         self.to_be_bytes()
     }

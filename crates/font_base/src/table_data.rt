@@ -51,7 +51,6 @@ pub trait TableHeader: Sized {
     ghost decodes: { List ℕ → Self → Type 0 };
 
     /// Decodes a header from exactly `BYTE_LEN` bytes. May panic at any other length.
-    #[must_use]
     fn decode(bytes: &[u8]) -> Self
         requires { length bytes.now ≡ BYTE_LEN }
         ensures { decodes bytes.now result };
@@ -91,7 +90,6 @@ impl<'a, H: TableHeader> TableDataRef<'a, H> {
     ghost use Rattle.font_base.specs.TableData.{table_bytes};
 
     /// Creates a table over `data`, or returns `None` if it is too short for the header.
-    #[must_use]
     #[inline(always)]
     pub const fn new(data: &'a [u8]) -> Option<TableDataRef<'a, H>>
         ensures variant { IsSome result ↔ (H.BYTE_LEN ≤ length «data».now) }
@@ -107,7 +105,6 @@ impl<'a, H: TableHeader> TableDataRef<'a, H> {
     }
 
     /// Decodes the header from the first `BYTE_LEN` bytes.
-    #[must_use]
     #[inline(always)]
     pub fn header(&self) -> H
         ensures { H.decodes (take H.BYTE_LEN (table_bytes self.now)) result }
@@ -116,7 +113,6 @@ impl<'a, H: TableHeader> TableDataRef<'a, H> {
     }
 
     /// Returns all the bytes, including the header.
-    #[must_use]
     #[inline(always)]
     pub const fn data(&self) -> &'a [u8]
         ensures { result.now ≡ table_bytes self.now }
@@ -125,8 +121,6 @@ impl<'a, H: TableHeader> TableDataRef<'a, H> {
     }
 
     /// Returns the bytes after the header.
-    #[must_use]
-    #[inline]
     pub fn rest(&self) -> &'a [u8]
         ensures { result.now ≡ drop H.BYTE_LEN (table_bytes self.now) }
     {
@@ -134,8 +128,6 @@ impl<'a, H: TableHeader> TableDataRef<'a, H> {
     }
 
     /// Returns the header and the bytes after it.
-    #[must_use]
-    #[inline]
     pub fn split(&self) -> (H, &'a [u8])
         ensures header { H.decodes (take H.BYTE_LEN (table_bytes self.now)) result.0 }
         ensures rest { result.1.now ≡ drop H.BYTE_LEN (table_bytes self.now) }
@@ -151,7 +143,6 @@ impl<'a, H: TableHeader> Clone for TableDataRef<'a, H> {
 
     ghost is_infallible = { λ _. ⊤ };
 
-    #[inline]
     fn clone(&self) -> Result<TableDataRef<'a, H>, AllocError> {
         Ok(TableDataRef {
             data: self.data,
@@ -183,7 +174,6 @@ impl TableHeader for SampleHeader {
 
     ghost decodes = { IsSampleHeader };
 
-    #[inline]
     fn decode(bytes: &[u8]) -> SampleHeader {
         SampleHeader {
             a: BigEndian::from_slice(&bytes[..2]).unwrap(),

@@ -35,8 +35,6 @@ impl Uint24 {
     pub const MAX: Self = Uint24 { value: 0xFF_FFFF };
 
     /// Converts a `u32`, saturating at `MAX`.
-    #[must_use]
-    #[inline]
     pub const fn new(raw: u32) -> Uint24
         ensures { uint24_number result ≡ min raw UINT24_MAX }
     {
@@ -48,8 +46,6 @@ impl Uint24 {
     }
 
     /// Converts a `u32`, or returns `None` if it exceeds `MAX`.
-    #[must_use]
-    #[inline]
     pub const fn checked_new(raw: u32) -> Option<Uint24>
         ensures variant { IsSome result ↔ (raw ≤ UINT24_MAX) }
         ensures value { IfSome result (λ n. uint24_number n ≡ raw) }
@@ -62,8 +58,6 @@ impl Uint24 {
     }
 
     /// Returns the value as a `u32`.
-    #[must_use]
-    #[inline]
     pub const fn to_u32(self) -> u32
         ensures { result ≡ uint24_number self }
     {
@@ -71,8 +65,6 @@ impl Uint24 {
     }
 
     /// Returns the big-endian bytes.
-    #[must_use]
-    #[inline]
     pub const fn to_be_bytes(self) -> [u8; 3]
         ensures { result ≡ bytes_of 3 (pos (uint24_number self)) }
     {
@@ -81,8 +73,6 @@ impl Uint24 {
     }
 
     /// Creates a value from big-endian bytes.
-    #[must_use]
-    #[inline]
     pub const fn from_be_bytes(bytes: [u8; 3]) -> Uint24
         ensures bytes { bytes ≡ bytes_of 3 (pos (uint24_number result)) }
         ensures number { uint24_number result ≡ numeral bytes }
@@ -98,7 +88,6 @@ impl Default for Uint24 {
 
     ghost is_default = { λ n. uint24_number n ≡ 0 };
 
-    #[inline]
     fn default() -> Uint24 {
         Self::MIN
     }
@@ -129,7 +118,6 @@ impl From<Uint24> for u32 {
 
     ghost from_gives = { λ n number. number ≡ uint24_number n };
 
-    #[inline]
     fn from(n: Uint24) -> u32 {
         n.value
     }
@@ -140,7 +128,6 @@ impl From<Uint24> for usize {
 
     ghost from_gives = { λ n number. number ≡ uint24_number n };
 
-    #[inline]
     fn from(n: Uint24) -> usize {
         n.value as usize
     }
@@ -163,7 +150,6 @@ impl TryFrom<usize> for Uint24 {
         (λ n. uint24_number n ≡ number)
         (λ _. UINT24_MAX < number) };
 
-    #[inline]
     fn try_from(number: usize) -> Result<Uint24, TryFromUint24Error> {
         if number > Self::MAX.value as usize {
             Err(TryFromUint24Error)
@@ -196,12 +182,10 @@ impl Scalar for Uint24 {
 
     ghost laws = { uint24_laws };
 
-    #[inline]
     fn from_raw(raw: [u8; 3]) -> Uint24 {
         Uint24::from_be_bytes(raw)
     }
 
-    #[inline]
     fn to_raw(self) -> [u8; 3] {
         self.to_be_bytes()
     }

@@ -7,8 +7,6 @@ ghost use Rattle.std.specs.List.{list_all};
 ghost use Rattle.font_decimal.specs.Grammar.{fraction_text};
 
 // Splits off a leading `-`.
-#[must_use]
-#[inline]
 pub const fn split_sign(text: &[u8]) -> (bool, &[u8])
     ensures minus { text.now ≡ sign_text result.0 ++ result.1.now }
     ensures plain { result.0 ≡ false → (rest : List ℕ) → text.now ≢ 45 ∷ rest }
@@ -20,8 +18,6 @@ pub const fn split_sign(text: &[u8]) -> (bool, &[u8])
 }
 
 // Returns the fraction, without its point: empty, or one byte or more after a point.
-#[must_use]
-#[inline]
 pub fn after_point(text: &[u8]) -> Option<&[u8]>
     ensures { MatchOption result ((fraction : List ℕ) → text.now ≢ fraction_text fraction)
         (λ fraction. text.now ≡ fraction_text fraction.now) }
@@ -34,8 +30,6 @@ pub fn after_point(text: &[u8]) -> Option<&[u8]>
 }
 
 // No early exit, so that it vectorizes.
-#[must_use]
-#[inline]
 pub const fn are_digits(text: &[u8]) -> bool
     ensures { result ≡ list_all is_ascii_digit text.now }
 {

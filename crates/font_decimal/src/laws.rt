@@ -13,7 +13,6 @@ use crate::{DecimalFault, Shortest, read_decimal};
 /// # Panics
 ///
 /// Panics in Rust as `read_decimal` does.
-#[inline]
 pub fn reads_in_order(
     s: &str,
     t: &str,
@@ -35,8 +34,6 @@ pub fn reads_in_order(
 /// # Panics
 ///
 /// Panics in Rust as `Shortest::new` does.
-#[must_use]
-#[inline]
 pub fn prints_in_order(a: i64, b: i64, f: u32) -> (Shortest, Shortest)
     requires bits_of_fraction { f ≤ 30 }
     ensures first { shown result.0 ≡ shortest_text a f }

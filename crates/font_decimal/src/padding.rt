@@ -48,8 +48,6 @@ impl Pad {
     /// Creates a padding of at least `width` bytes, right-aligned, filled with spaces.
     ///
     /// The fields are public: `Pad { plus: true, ..Pad::new(8) }` also writes a plus sign.
-    #[must_use]
-    #[inline]
     pub const fn new(width: usize) -> Self
         ensures { result ≡ record {
           width = width;
@@ -73,8 +71,6 @@ impl Pad {
 /// leaves `out` unchanged if it is too short.
 ///
 /// The text need not be a decimal: its sign is a `-` at its start.
-#[must_use]
-#[inline]
 pub fn write_padded(text: &str, out: &mut [u8], pad: &Pad) -> Option<usize>
     ensures written { IfSome result
         (λ n. FillsFront (padded_text text.now pad.now) n out.old out.new) }
@@ -98,7 +94,6 @@ pub fn write_padded(text: &str, out: &mut [u8], pad: &Pad) -> Option<usize>
 }
 
 // Returns the sign to write, and the text without its own sign.
-#[inline]
 fn shown_parts(text: &str, plus: bool) -> (&'static str, &str)
     ensures sign { result.0.now ≡ shown_sign plus text.now }
     ensures body { result.1.now ≡ unsigned_body text.now }
@@ -111,7 +106,6 @@ fn shown_parts(text: &str, plus: bool) -> (&'static str, &str)
 }
 
 // Splits the padding into fill on the left, zeros after the sign, and fill on the right.
-#[inline]
 fn spread(spare: usize, pad: &Pad) -> (usize, usize, usize)
     ensures all { result.0 + result.1 + result.2 ≡ spare }
     ensures places { (sign body : List ℕ) → laid_out pad.now sign body spare
@@ -130,7 +124,6 @@ fn spread(spare: usize, pad: &Pad) -> (usize, usize, usize)
 }
 
 // Writes bytes at index `at`, and returns the index after them.
-#[inline]
 fn put(out: &mut [u8], at: usize, bytes: &[u8]) -> usize
     requires { at + length bytes.now ≤ length out.old }
     ensures end { result ≡ at + length bytes.now }
@@ -143,7 +136,6 @@ fn put(out: &mut [u8], at: usize, bytes: &[u8]) -> usize
 }
 
 // Writes a byte `count` times at index `at`, and returns the index after them.
-#[inline]
 fn put_fill(out: &mut [u8], at: usize, byte: u8, count: usize) -> usize
     requires { at + count ≤ length out.old }
     ensures end { result ≡ at + count }

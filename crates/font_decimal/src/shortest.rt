@@ -44,7 +44,6 @@ impl Shortest {
     /// # Panics
     ///
     /// Panics in Rust if `f` exceeds 30. In Rattle that is a precondition.
-    #[must_use]
     #[inline(always)]
     pub fn new(bits: i64, f: u32) -> Self
         requires { f ≤ 30 }
@@ -68,8 +67,6 @@ impl Shortest {
     }
 
     /// Returns the decimal as a string.
-    #[must_use]
-    #[inline]
     #[tactic(auto, using(crate::proofs::Buffer::buffers), unfolding(crate::specs::Shown::shown))]
     pub fn as_str(&self) -> &str
         ensures text { result.now ≡ shown self.now }

@@ -96,7 +96,6 @@ impl<const F: u32> IdentityEq for FixedI16<F> {
 
 impl<const F: u32> FixedI16<F> {
     /// Creates a value from its raw bits.
-    #[must_use]
     #[inline(always)]
     pub const fn from_bits(bits: i16) -> Self
         ensures { bits_of result ≡ bits }
@@ -105,7 +104,6 @@ impl<const F: u32> FixedI16<F> {
     }
 
     /// Returns the raw bits.
-    #[must_use]
     #[inline(always)]
     pub const fn to_bits(self) -> i16
         ensures { result ≡ bits_of self.entry }
@@ -114,7 +112,6 @@ impl<const F: u32> FixedI16<F> {
     }
 
     /// Returns the absolute value; wraps: `MIN.abs()` is `MIN`.
-    #[must_use]
     #[inline(always)]
     pub const fn abs(self) -> Self
         ensures { WrapsTo 16 (pos (unsigned_abs (bits_of self.entry))) (bits_of result) }
@@ -123,7 +120,6 @@ impl<const F: u32> FixedI16<F> {
     }
 
     /// Returns `self + other`, wrapping on overflow.
-    #[must_use]
     #[inline(always)]
     pub const fn wrapping_add(self, other: Self) -> Self
         ensures { WrapsTo 16 (bits_of self.entry +ℤ bits_of other.entry) (bits_of result) }
@@ -132,7 +128,6 @@ impl<const F: u32> FixedI16<F> {
     }
 
     /// Returns `self - other`, wrapping on overflow.
-    #[must_use]
     #[inline(always)]
     pub const fn wrapping_sub(self, other: Self) -> Self
         ensures { WrapsTo 16 (bits_of self.entry -ℤ bits_of other.entry) (bits_of result) }
@@ -141,7 +136,6 @@ impl<const F: u32> FixedI16<F> {
     }
 
     /// Returns `self + other`, saturating at `MIN` and `MAX`.
-    #[must_use]
     #[inline(always)]
     pub const fn saturating_add(self, other: Self) -> Self
         ensures { bits_of result ≡ clamp 16 (bits_of self.entry +ℤ bits_of other.entry) }
@@ -150,7 +144,6 @@ impl<const F: u32> FixedI16<F> {
     }
 
     /// Returns `self - other`, saturating at `MIN` and `MAX`.
-    #[must_use]
     #[inline(always)]
     pub const fn saturating_sub(self, other: Self) -> Self
         ensures { bits_of result ≡ clamp 16 (bits_of self.entry -ℤ bits_of other.entry) }
@@ -159,7 +152,6 @@ impl<const F: u32> FixedI16<F> {
     }
 
     /// Returns `self + other`, or `None` on overflow.
-    #[must_use]
     #[inline(always)]
     pub const fn checked_add(self, other: Self) -> Option<Self>
         ensures variant { IsSome result ↔ FitsBits 16 (bits_of self.entry +ℤ bits_of other.entry) }
@@ -173,7 +165,6 @@ impl<const F: u32> FixedI16<F> {
     }
 
     /// Returns `self - other`, or `None` on overflow.
-    #[must_use]
     #[inline(always)]
     pub const fn checked_sub(self, other: Self) -> Option<Self>
         ensures variant { IsSome result ↔ FitsBits 16 (bits_of self.entry -ℤ bits_of other.entry) }
@@ -187,7 +178,6 @@ impl<const F: u32> FixedI16<F> {
     }
 
     /// Returns `-self`, or `None` on overflow, that is, for `MIN`.
-    #[must_use]
     #[inline(always)]
     pub const fn checked_neg(self) -> Option<Self>
         ensures variant { IsSome result ↔ FitsBits 16 (neg_ℤ (bits_of self.entry)) }
@@ -200,7 +190,6 @@ impl<const F: u32> FixedI16<F> {
     }
 
     /// Returns the absolute value, or `None` on overflow, that is, for `MIN`.
-    #[must_use]
     #[inline(always)]
     pub const fn checked_abs(self) -> Option<Self>
         ensures variant { IsSome result ↔ FitsBits 16 (pos (unsigned_abs (bits_of self.entry))) }
@@ -214,7 +203,6 @@ impl<const F: u32> FixedI16<F> {
     }
 
     /// Returns the raw bits as big-endian bytes.
-    #[must_use]
     #[inline(always)]
     #[tactic(auto, using(font_base::proofs::StdBytes::std_bytes))]
     pub const fn to_be_bytes(self) -> [u8; 2]
@@ -229,7 +217,6 @@ where
     Self: Format<16, F>,
 {
     /// Rounds to the nearest integer, half up; wraps: `MAX.round()` is `MIN`.
-    #[must_use]
     #[inline(always)]
     pub const fn round(self) -> Self
         ensures nearest { IsNearestWhole 16 F (bits_of self.entry) (bits_of result) }
@@ -244,7 +231,6 @@ where
     }
 
     /// Rounds to the nearest integer, half up, or returns `None` on overflow.
-    #[must_use]
     #[inline(always)]
     pub const fn checked_round(self) -> Option<Self>
         ensures variant { IsSome result ↔ FitsBits 16 (rounded F (bits_of self.entry)) }
@@ -257,7 +243,6 @@ where
     }
 
     /// Returns the largest integer less than or equal to `self`.
-    #[must_use]
     #[inline(always)]
     pub const fn floor(self) -> Self
         ensures { IsFloor F (bits_of self.entry) (bits_of result) }
@@ -266,7 +251,6 @@ where
     }
 
     /// Returns the fractional part, `self - self.floor()`, at least 0 and less than 1.
-    #[must_use]
     #[inline(always)]
     pub const fn fract(self) -> Self
         ensures { IsFract F (bits_of self.entry) (bits_of result) }
@@ -283,7 +267,6 @@ where
     ///
     /// Returns `Syntax` if the text is not a decimal, and `OutOfRange` if its nearest value is less
     /// than `MIN` or greater than `MAX`.
-    #[inline]
     pub fn from_decimal(text: &str) -> Result<Self, DecimalFault>
         ensures { ParsesFixedPoint w16 F bits_of text.now result }
     {
@@ -295,7 +278,6 @@ where
     /// # Errors
     ///
     /// Returns the errors of `from_decimal`, and `Syntax` if the bytes are not UTF-8.
-    #[inline]
     pub fn from_decimal_bytes(text: &[u8]) -> Result<Self, DecimalFault>
         ensures { ParsesFixedPoint w16 F bits_of text.now result }
     {
@@ -312,8 +294,6 @@ where
     /// let value: F2Dot14 = "0.1".parse().unwrap();
     /// assert_eq!(value.to_decimal().as_str(), "0.1");
     /// ```
-    #[must_use]
-    #[inline]
     pub fn to_decimal(self) -> Shortest
         ensures shortest { IsShortest (bits_of self.entry) F (shown result) }
         ensures text { shown result ≡ text_of self.entry }
@@ -323,8 +303,6 @@ where
 
     /// Returns the length of the longest text of the format: a sign, a point, and the digits before
     /// and after it.
-    #[must_use]
-    #[inline]
     pub const fn max_text_len() -> usize
         ensures { result ≡ longest 16 F }
     {
@@ -342,8 +320,6 @@ where
     /// let len = F2Dot14::MIN.write_padded(&mut out, &Pad::new(0)).unwrap();
     /// assert_eq!(out[..len], *F2Dot14::MIN.to_string().as_bytes());
     /// ```
-    #[must_use]
-    #[inline]
     pub fn write_padded(self, out: &mut [u8], pad: &Pad) -> Option<usize>
         ensures written { IfSome result
             (λ n. FillsFront (padded_text (text_of self.entry) pad.now) n out.old out.new) }
@@ -424,7 +400,6 @@ where
 
     ghost from_str_gives = { λ text result. ParsesFixedPoint w16 F bits_of text result };
 
-    #[inline]
     fn from_str(text: &str) -> Result<Self, DecimalFault> {
         Self::from_decimal(text)
     }

@@ -55,7 +55,6 @@ pub struct FixedI32<const F: u32>(i32);
 
 impl<const F: u32> FixedI32<F> {
     /// Creates a value from its raw bits.
-    #[must_use]
     #[inline(always)]
     pub const fn from_bits(bits: i32) -> Self
         ensures { bits_of result ≡ bits }
@@ -64,7 +63,6 @@ impl<const F: u32> FixedI32<F> {
     }
 
     /// Returns the raw bits.
-    #[must_use]
     #[inline(always)]
     pub const fn to_bits(self) -> i32
         ensures { result ≡ bits_of self.entry }
@@ -73,7 +71,6 @@ impl<const F: u32> FixedI32<F> {
     }
 
     /// Returns the absolute value; wraps: `MIN.abs()` is `MIN`.
-    #[must_use]
     #[inline(always)]
     pub const fn abs(self) -> Self
         ensures { WrapsTo 32 (pos (unsigned_abs (bits_of self.entry))) (bits_of result) }
@@ -82,7 +79,6 @@ impl<const F: u32> FixedI32<F> {
     }
 
     /// Returns `self + other`, wrapping on overflow.
-    #[must_use]
     #[inline(always)]
     pub const fn wrapping_add(self, other: Self) -> Self
         ensures { WrapsTo 32 (bits_of self.entry +ℤ bits_of other.entry) (bits_of result) }
@@ -91,7 +87,6 @@ impl<const F: u32> FixedI32<F> {
     }
 
     /// Returns `self - other`, wrapping on overflow.
-    #[must_use]
     #[inline(always)]
     pub const fn wrapping_sub(self, other: Self) -> Self
         ensures { WrapsTo 32 (bits_of self.entry -ℤ bits_of other.entry) (bits_of result) }
@@ -100,7 +95,6 @@ impl<const F: u32> FixedI32<F> {
     }
 
     /// Returns `self + other`, saturating at `MIN` and `MAX`.
-    #[must_use]
     #[inline(always)]
     pub const fn saturating_add(self, other: Self) -> Self
         ensures { bits_of result ≡ clamp 32 (bits_of self.entry +ℤ bits_of other.entry) }
@@ -109,7 +103,6 @@ impl<const F: u32> FixedI32<F> {
     }
 
     /// Returns `self - other`, saturating at `MIN` and `MAX`.
-    #[must_use]
     #[inline(always)]
     pub const fn saturating_sub(self, other: Self) -> Self
         ensures { bits_of result ≡ clamp 32 (bits_of self.entry -ℤ bits_of other.entry) }
@@ -118,7 +111,6 @@ impl<const F: u32> FixedI32<F> {
     }
 
     /// Returns `self + other`, or `None` on overflow.
-    #[must_use]
     #[inline(always)]
     pub const fn checked_add(self, other: Self) -> Option<Self>
         ensures variant { IsSome result ↔ FitsBits 32 (bits_of self.entry +ℤ bits_of other.entry) }
@@ -132,7 +124,6 @@ impl<const F: u32> FixedI32<F> {
     }
 
     /// Returns `self - other`, or `None` on overflow.
-    #[must_use]
     #[inline(always)]
     pub const fn checked_sub(self, other: Self) -> Option<Self>
         ensures variant { IsSome result ↔ FitsBits 32 (bits_of self.entry -ℤ bits_of other.entry) }
@@ -146,7 +137,6 @@ impl<const F: u32> FixedI32<F> {
     }
 
     /// Returns `-self`, or `None` on overflow, that is, for `MIN`.
-    #[must_use]
     #[inline(always)]
     pub const fn checked_neg(self) -> Option<Self>
         ensures variant { IsSome result ↔ FitsBits 32 (neg_ℤ (bits_of self.entry)) }
@@ -159,7 +149,6 @@ impl<const F: u32> FixedI32<F> {
     }
 
     /// Returns the absolute value, or `None` on overflow, that is, for `MIN`.
-    #[must_use]
     #[inline(always)]
     pub const fn checked_abs(self) -> Option<Self>
         ensures variant { IsSome result ↔ FitsBits 32 (pos (unsigned_abs (bits_of self.entry))) }
@@ -173,7 +162,6 @@ impl<const F: u32> FixedI32<F> {
     }
 
     /// Returns the raw bits as big-endian bytes.
-    #[must_use]
     #[inline(always)]
     #[tactic(auto, using(font_base::proofs::StdBytes::std_bytes))]
     pub const fn to_be_bytes(self) -> [u8; 4]
@@ -188,7 +176,6 @@ where
     Self: Format<32, F>,
 {
     /// Rounds to the nearest integer, half up; wraps: `MAX.round()` is `MIN`.
-    #[must_use]
     #[inline(always)]
     pub const fn round(self) -> Self
         ensures nearest { IsNearestWhole 32 F (bits_of self.entry) (bits_of result) }
@@ -203,7 +190,6 @@ where
     }
 
     /// Rounds to the nearest integer, half up, or returns `None` on overflow.
-    #[must_use]
     #[inline(always)]
     pub const fn checked_round(self) -> Option<Self>
         ensures variant { IsSome result ↔ FitsBits 32 (rounded F (bits_of self.entry)) }
@@ -216,7 +202,6 @@ where
     }
 
     /// Returns the largest integer less than or equal to `self`.
-    #[must_use]
     #[inline(always)]
     pub const fn floor(self) -> Self
         ensures { IsFloor F (bits_of self.entry) (bits_of result) }
@@ -225,7 +210,6 @@ where
     }
 
     /// Returns the fractional part, `self - self.floor()`, at least 0 and less than 1.
-    #[must_use]
     #[inline(always)]
     pub const fn fract(self) -> Self
         ensures { IsFract F (bits_of self.entry) (bits_of result) }
@@ -242,7 +226,6 @@ where
     ///
     /// Returns `Syntax` if the text is not a decimal, and `OutOfRange` if its nearest value is less
     /// than `MIN` or greater than `MAX`.
-    #[inline]
     pub fn from_decimal(text: &str) -> Result<Self, DecimalFault>
         ensures { ParsesFixedPoint w32 F bits_of text.now result }
     {
@@ -254,7 +237,6 @@ where
     /// # Errors
     ///
     /// Returns the errors of `from_decimal`, and `Syntax` if the bytes are not UTF-8.
-    #[inline]
     pub fn from_decimal_bytes(text: &[u8]) -> Result<Self, DecimalFault>
         ensures { ParsesFixedPoint w32 F bits_of text.now result }
     {
@@ -271,8 +253,6 @@ where
     /// let value: Fixed = "0.1".parse().unwrap();
     /// assert_eq!(value.to_decimal().as_str(), "0.1");
     /// ```
-    #[must_use]
-    #[inline]
     pub fn to_decimal(self) -> Shortest
         ensures shortest { IsShortest (bits_of self.entry) F (shown result) }
         ensures text { shown result ≡ text_of self.entry }
@@ -282,8 +262,6 @@ where
 
     /// Returns the length of the longest text of the format: a sign, a point, and the digits before
     /// and after it.
-    #[must_use]
-    #[inline]
     pub const fn max_text_len() -> usize
         ensures { result ≡ longest 32 F }
     {
@@ -301,8 +279,6 @@ where
     /// let len = Fixed::MIN.write_padded(&mut out, &Pad::new(0)).unwrap();
     /// assert_eq!(out[..len], *Fixed::MIN.to_string().as_bytes());
     /// ```
-    #[must_use]
-    #[inline]
     pub fn write_padded(self, out: &mut [u8], pad: &Pad) -> Option<usize>
         ensures written { IfSome result
             (λ n. FillsFront (padded_text (text_of self.entry) pad.now) n out.old out.new) }
@@ -383,7 +359,6 @@ where
 
     ghost from_str_gives = { λ text result. ParsesFixedPoint w32 F bits_of text result };
 
-    #[inline]
     fn from_str(text: &str) -> Result<Self, DecimalFault> {
         Self::from_decimal(text)
     }

@@ -51,7 +51,6 @@ pub struct FixedI64<const F: u32>(i64);
 
 impl<const F: u32> FixedI64<F> {
     /// Creates a value from its raw bits.
-    #[must_use]
     #[inline(always)]
     pub const fn from_bits(bits: i64) -> Self
         ensures { bits_of result ≡ bits }
@@ -60,7 +59,6 @@ impl<const F: u32> FixedI64<F> {
     }
 
     /// Returns the raw bits.
-    #[must_use]
     #[inline(always)]
     pub const fn to_bits(self) -> i64
         ensures { result ≡ bits_of self.entry }
@@ -69,7 +67,6 @@ impl<const F: u32> FixedI64<F> {
     }
 
     /// Returns the absolute value; wraps: `MIN.abs()` is `MIN`.
-    #[must_use]
     #[inline(always)]
     pub const fn abs(self) -> Self
         ensures { WrapsTo 64 (pos (unsigned_abs (bits_of self.entry))) (bits_of result) }
@@ -78,7 +75,6 @@ impl<const F: u32> FixedI64<F> {
     }
 
     /// Returns `self + other`, wrapping on overflow.
-    #[must_use]
     #[inline(always)]
     pub const fn wrapping_add(self, other: Self) -> Self
         ensures { WrapsTo 64 (bits_of self.entry +ℤ bits_of other.entry) (bits_of result) }
@@ -87,7 +83,6 @@ impl<const F: u32> FixedI64<F> {
     }
 
     /// Returns `self - other`, wrapping on overflow.
-    #[must_use]
     #[inline(always)]
     pub const fn wrapping_sub(self, other: Self) -> Self
         ensures { WrapsTo 64 (bits_of self.entry -ℤ bits_of other.entry) (bits_of result) }
@@ -96,7 +91,6 @@ impl<const F: u32> FixedI64<F> {
     }
 
     /// Returns `self + other`, saturating at `MIN` and `MAX`.
-    #[must_use]
     #[inline(always)]
     pub const fn saturating_add(self, other: Self) -> Self
         ensures { bits_of result ≡ clamp 64 (bits_of self.entry +ℤ bits_of other.entry) }
@@ -105,7 +99,6 @@ impl<const F: u32> FixedI64<F> {
     }
 
     /// Returns `self - other`, saturating at `MIN` and `MAX`.
-    #[must_use]
     #[inline(always)]
     pub const fn saturating_sub(self, other: Self) -> Self
         ensures { bits_of result ≡ clamp 64 (bits_of self.entry -ℤ bits_of other.entry) }
@@ -114,7 +107,6 @@ impl<const F: u32> FixedI64<F> {
     }
 
     /// Returns `self + other`, or `None` on overflow.
-    #[must_use]
     #[inline(always)]
     pub const fn checked_add(self, other: Self) -> Option<Self>
         ensures variant { IsSome result ↔ FitsBits 64 (bits_of self.entry +ℤ bits_of other.entry) }
@@ -128,7 +120,6 @@ impl<const F: u32> FixedI64<F> {
     }
 
     /// Returns `self - other`, or `None` on overflow.
-    #[must_use]
     #[inline(always)]
     pub const fn checked_sub(self, other: Self) -> Option<Self>
         ensures variant { IsSome result ↔ FitsBits 64 (bits_of self.entry -ℤ bits_of other.entry) }
@@ -142,7 +133,6 @@ impl<const F: u32> FixedI64<F> {
     }
 
     /// Returns `-self`, or `None` on overflow, that is, for `MIN`.
-    #[must_use]
     #[inline(always)]
     pub const fn checked_neg(self) -> Option<Self>
         ensures variant { IsSome result ↔ FitsBits 64 (neg_ℤ (bits_of self.entry)) }
@@ -155,7 +145,6 @@ impl<const F: u32> FixedI64<F> {
     }
 
     /// Returns the absolute value, or `None` on overflow, that is, for `MIN`.
-    #[must_use]
     #[inline(always)]
     pub const fn checked_abs(self) -> Option<Self>
         ensures variant { IsSome result ↔ FitsBits 64 (pos (unsigned_abs (bits_of self.entry))) }
@@ -169,7 +158,6 @@ impl<const F: u32> FixedI64<F> {
     }
 
     /// Returns the raw bits as big-endian bytes.
-    #[must_use]
     #[inline(always)]
     #[tactic(auto, using(font_base::proofs::StdBytes::std_bytes))]
     pub const fn to_be_bytes(self) -> [u8; 8]
@@ -184,7 +172,6 @@ where
     Self: Format<64, F>,
 {
     /// Rounds to the nearest integer, half up; wraps: `MAX.round()` is `MIN`.
-    #[must_use]
     #[inline(always)]
     pub const fn round(self) -> Self
         ensures nearest { IsNearestWhole 64 F (bits_of self.entry) (bits_of result) }
@@ -199,7 +186,6 @@ where
     }
 
     /// Rounds to the nearest integer, half up, or returns `None` on overflow.
-    #[must_use]
     #[inline(always)]
     pub const fn checked_round(self) -> Option<Self>
         ensures variant { IsSome result ↔ FitsBits 64 (rounded F (bits_of self.entry)) }
@@ -212,7 +198,6 @@ where
     }
 
     /// Returns the largest integer less than or equal to `self`.
-    #[must_use]
     #[inline(always)]
     pub const fn floor(self) -> Self
         ensures { IsFloor F (bits_of self.entry) (bits_of result) }
@@ -221,7 +206,6 @@ where
     }
 
     /// Returns the fractional part, `self - self.floor()`, at least 0 and less than 1.
-    #[must_use]
     #[inline(always)]
     pub const fn fract(self) -> Self
         ensures { IsFract F (bits_of self.entry) (bits_of result) }
@@ -238,7 +222,6 @@ where
     ///
     /// Returns `Syntax` if the text is not a decimal, and `OutOfRange` if its nearest value is less
     /// than `MIN` or greater than `MAX`.
-    #[inline]
     pub fn from_decimal(text: &str) -> Result<Self, DecimalFault>
         ensures { ParsesFixedPoint w64 F bits_of text.now result }
     {
@@ -250,7 +233,6 @@ where
     /// # Errors
     ///
     /// Returns the errors of `from_decimal`, and `Syntax` if the bytes are not UTF-8.
-    #[inline]
     pub fn from_decimal_bytes(text: &[u8]) -> Result<Self, DecimalFault>
         ensures { ParsesFixedPoint w64 F bits_of text.now result }
     {
@@ -267,8 +249,6 @@ where
     /// let value: F48Dot16 = "0.1".parse().unwrap();
     /// assert_eq!(value.to_decimal().as_str(), "0.1");
     /// ```
-    #[must_use]
-    #[inline]
     pub fn to_decimal(self) -> Shortest
         ensures shortest { IsShortest (bits_of self.entry) F (shown result) }
         ensures text { shown result ≡ text_of self.entry }
@@ -278,8 +258,6 @@ where
 
     /// Returns the length of the longest text of the format: a sign, a point, and the digits before
     /// and after it.
-    #[must_use]
-    #[inline]
     pub const fn max_text_len() -> usize
         ensures { result ≡ longest 64 F }
     {
@@ -297,8 +275,6 @@ where
     /// let len = F48Dot16::MIN.write_padded(&mut out, &Pad::new(0)).unwrap();
     /// assert_eq!(out[..len], *F48Dot16::MIN.to_string().as_bytes());
     /// ```
-    #[must_use]
-    #[inline]
     pub fn write_padded(self, out: &mut [u8], pad: &Pad) -> Option<usize>
         ensures written { IfSome result
             (λ n. FillsFront (padded_text (text_of self.entry) pad.now) n out.old out.new) }
@@ -379,7 +355,6 @@ where
 
     ghost from_str_gives = { λ text result. ParsesFixedPoint w64 F bits_of text result };
 
-    #[inline]
     fn from_str(text: &str) -> Result<Self, DecimalFault> {
         Self::from_decimal(text)
     }

@@ -10,7 +10,6 @@ ghost use Rattle.font_fixed.specs.Operations.{rounded_mul_div};
 
 /// Multiplies two numbers with `f` fraction bits, rounding half away from zero and wrapping on
 /// overflow.
-#[must_use]
 #[inline(always)]
 pub const fn product(x: i32, y: i32, f: u32) -> i32
     requires { (6 ≤ f) × (f ≤ 30) }
@@ -22,7 +21,6 @@ pub const fn product(x: i32, y: i32, f: u32) -> i32
 /// Returns `x * a / c`, rounded once, half away from zero, wrapping on overflow.
 ///
 /// If `c` is zero, the result is `i32::MAX`, negated if exactly one of `x` and `a` is negative.
-#[must_use]
 #[inline(always)]
 pub const fn mul_div(x: i32, a: i32, c: i32) -> i32
     ensures { IsMulDiv 32 x a c result }
@@ -31,7 +29,6 @@ pub const fn mul_div(x: i32, a: i32, c: i32) -> i32
 }
 
 /// Truncates to the low 32 bits.
-#[must_use]
 #[inline(always)]
 pub const fn low_bits(n: i64) -> i32
     ensures { result ≡ wrap 32 n }
@@ -61,7 +58,6 @@ const fn rounded_shift(n: i64, f: u32) -> i64
 
 /// Returns `x * a / c`, rounded half away from zero, or, if `c` is zero, `i32::MAX`, negated if
 /// exactly one of `x` and `a` is negative.
-#[inline]
 pub(crate) const fn nearest_mul_div(x: i32, a: i32, c: i32) -> i64
     ensures nearest { c ≢ pos 0 → result ≡ rounded_mul_div x a c }
     ensures zero { c ≡ pos 0 → result ≡ signed (differ_in_sign x a) (2 ^ 31 - 1) }

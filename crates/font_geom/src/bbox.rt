@@ -33,8 +33,6 @@ impl<T: Mul<Output = T> + Copy> BoundingBox<T> {
     /// Multiplies each coordinate by `factor`.
     ///
     /// A negative factor swaps minimum and maximum: call `normalize` afterwards.
-    #[must_use]
-    #[inline]
     pub fn scale(&self, factor: T) -> Self
         requires { CanScale T.can_mul self.now factor }
         ensures { IsScaled T.mul_gives self.now factor result }
@@ -50,8 +48,6 @@ impl<T: Mul<Output = T> + Copy> BoundingBox<T> {
 
 impl<T: PartialOrd + Copy> BoundingBox<T> {
     /// Returns `true` if `x_min <= x_max` and `y_min <= y_max`.
-    #[must_use]
-    #[inline]
     pub fn is_normalized(&self) -> bool
         ensures { result ≡ is_normalized (partial_le T.partial_cmp) self.now }
     {
@@ -61,8 +57,6 @@ impl<T: PartialOrd + Copy> BoundingBox<T> {
     /// Swaps each pair unless `min <= max`.
     ///
     /// A pair that does not compare is swapped too, and then the box is not normalized.
-    #[must_use]
-    #[inline]
     pub fn normalize(&self) -> Self
         ensures value { result ≡ normalized_box (partial_le T.partial_cmp) self.now }
         ensures pairs { HasSamePairs self.now result }

@@ -11,8 +11,6 @@ use crate::{Matrix, Point, RingElement};
 use font_fixed::Fixed;
 
 /// Returns `(a * b) * c` and `a * (b * c)`, which are equal.
-#[must_use]
-#[inline]
 pub fn associative<T: RingElement>(
     a: Matrix<T>,
     b: Matrix<T>,
@@ -27,8 +25,6 @@ pub fn associative<T: RingElement>(
 }
 
 /// Returns `(a * b) * p` and `a * (b * p)`, which are equal.
-#[must_use]
-#[inline]
 pub fn action<T: RingElement>(a: Matrix<T>, b: Matrix<T>, p: Point<T>) -> (Point<T>, Point<T>)
     ensures first { result.0 ≡ image_of T.plus T.times (matrix_product T.plus T.times a b) p }
     ensures second { result.1 ≡ image_of T.plus T.times a (image_of T.plus T.times b p) }
@@ -38,8 +34,6 @@ pub fn action<T: RingElement>(a: Matrix<T>, b: Matrix<T>, p: Point<T>) -> (Point
 }
 
 /// Returns the identity times `a`, and `a` times the identity: both are `a`.
-#[must_use]
-#[inline]
 pub fn identity_neutral<T: RingElement>(a: Matrix<T>) -> (Matrix<T>, Matrix<T>)
     ensures first { result.0 ≡ matrix_product T.plus T.times (identity_matrix T.ZERO T.ONE) a }
     ensures second { result.1 ≡ matrix_product T.plus T.times a (identity_matrix T.ZERO T.ONE) }
@@ -51,8 +45,6 @@ pub fn identity_neutral<T: RingElement>(a: Matrix<T>) -> (Matrix<T>, Matrix<T>)
 
 /// Returns the identity times `a`, and `a` times the identity: both are `a`, even though products
 /// round and sums wrap.
-#[must_use]
-#[inline]
 #[tactic(auto, using(font_fixed::proofs::FixedCalls::fixed_calls))]
 pub fn fixed_identity(a: Matrix<Fixed>) -> (Matrix<Fixed>, Matrix<Fixed>)
     ensures first { matrix_bits result.0 ≡ matrix_product wrapped_sum wrapped_product
@@ -69,8 +61,6 @@ pub fn fixed_identity(a: Matrix<Fixed>) -> (Matrix<Fixed>, Matrix<Fixed>)
 /// Returns `(e * h) * h` and `e * (h * h)` for `e = Fixed::EPSILON` and `h` one half: `e` and zero.
 ///
 /// So products of [`Fixed`] are not associative, and [`Fixed`] is not a [`RingElement`].
-#[must_use]
-#[inline]
 pub fn step_and_halves() -> (Fixed, Fixed)
     ensures first { fixed_bits result.0 ≡ pos 1 }
     ensures second { fixed_bits result.1 ≡ pos 0 }
@@ -85,8 +75,6 @@ pub fn step_and_halves() -> (Fixed, Fixed)
 /// If no entry of `a * b` and no coordinate of the result overflows 32 bits, each coordinate is at
 /// most `(|x| + |y|) / 65536 + 2` from the exact one, all as raw values. Intermediate sums may
 /// wrap.
-#[must_use]
-#[inline]
 pub fn composed(a: Matrix<Fixed>, b: Matrix<Fixed>, p: Point<Fixed>) -> Point<Fixed>
     ensures value { point_bits result
         ≡ image_of wrapped_sum wrapped_product (matrix_product wrapped_sum wrapped_product
@@ -102,8 +90,6 @@ pub fn composed(a: Matrix<Fixed>, b: Matrix<Fixed>, p: Point<Fixed>) -> Point<Fi
 /// If no coordinate of `b * p` and none of the result overflows 32 bits, `x` is at most
 /// `(|a.xx| + |a.xy|) / 65536 + 1` from the exact one, and `y` at most
 /// `(|a.yx| + |a.yy|) / 65536 + 1`, all as raw values. Intermediate sums may wrap.
-#[must_use]
-#[inline]
 pub fn in_turn(a: Matrix<Fixed>, b: Matrix<Fixed>, p: Point<Fixed>) -> Point<Fixed>
     ensures value { point_bits result
         ≡ image_of wrapped_sum wrapped_product (matrix_bits a)

@@ -109,8 +109,6 @@ impl MatrixElement for Fixed {
 
 impl<T: Copy> Matrix<T> {
     /// Creates a matrix from its elements in the order `[xx, yx, xy, yy, dx, dy]`.
-    #[must_use]
-    #[inline]
     pub const fn from_elements(elements: [T; 6]) -> Self
         ensures { elements_of result ≡ elements }
     {
@@ -126,8 +124,6 @@ impl<T: Copy> Matrix<T> {
     }
 
     /// Returns the elements in the order `[xx, yx, xy, yy, dx, dy]`.
-    #[must_use]
-    #[inline]
     pub const fn elements(&self) -> [T; 6]
         ensures { result ≡ elements_of self.now }
     {
@@ -135,7 +131,6 @@ impl<T: Copy> Matrix<T> {
     }
 
     /// Applies a function to each element, in the order of `elements`.
-    #[must_use]
     #[inline(always)]
     pub fn map<U: Copy, F: FnMut(T) -> U>(self, mut f: F) -> Matrix<U>
         requires { CanCallEach F.pre F.step f (elements_of self) }
@@ -154,8 +149,6 @@ impl<T: Copy> Matrix<T> {
 
 impl<T: MatrixElement> Matrix<T> {
     /// Returns the identity matrix: `ONE` in `xx` and `yy`, and `ZERO` elsewhere.
-    #[must_use]
-    #[inline]
     pub const fn identity() -> Self
         ensures { result ≡ identity_matrix T.ZERO T.ONE }
     {
@@ -170,8 +163,6 @@ impl<T: MatrixElement> Matrix<T> {
     }
 
     /// Returns `(xx * x + xy * y + dx, yx * x + yy * y + dy)`, the image of the point `(x, y)`.
-    #[must_use]
-    #[inline]
     pub fn transform(&self, x: T, y: T) -> (T, T)
         requires { CanTransform T.can_mul T.mul_gives T.can_add T.add_gives self.now x y }
         ensures { IsTransformed T.mul_gives T.add_gives self.now x y result.0 result.1 }
@@ -186,7 +177,6 @@ impl<T: MatrixElement> Matrix<T> {
 impl<T: MatrixElement> Default for Matrix<T> {
     ghost is_default = { λ matrix. matrix ≡ identity_matrix T.ZERO T.ONE };
 
-    #[inline]
     fn default() -> Matrix<T> {
         Self::identity()
     }
@@ -203,7 +193,6 @@ impl<T: MatrixElement> Mul for Matrix<T> {
 
     ghost mul_gives = { IsProductOf T.mul_gives T.add_gives };
 
-    #[inline]
     fn mul(self, rhs: Matrix<T>) -> Matrix<T> {
         Matrix {
             xx: self.xx * rhs.xx + self.xy * rhs.yx,
@@ -222,7 +211,6 @@ impl<T: MatrixElement> MulAssign for Matrix<T> {
 
     ghost mul_assign_gives = { IsProductOf T.mul_gives T.add_gives };
 
-    #[inline]
     fn mul_assign(&mut self, rhs: Matrix<T>) {
         *self = *self * rhs;
     }
@@ -238,7 +226,6 @@ impl<T: MatrixElement> Mul<Point<T>> for Matrix<T> {
     ghost mul_gives = { λ matrix p moved.
         IsTransformed T.mul_gives T.add_gives matrix p.x p.y moved.x moved.y };
 
-    #[inline]
     fn mul(self, rhs: Point<T>) -> Point<T> {
         let (x, y) = self.transform(rhs.x, rhs.y);
         Point::new(x, y)

@@ -23,7 +23,6 @@ pub struct Point<T> {
 
 impl<T> Point<T> {
     /// Creates a point.
-    #[must_use]
     #[inline(always)]
     pub const fn new(x: T, y: T) -> Self
         ensures { result ≡ record { x = x; y = y } }
@@ -32,8 +31,6 @@ impl<T> Point<T> {
     }
 
     /// Creates a point with both coordinates equal to `xy`.
-    #[must_use]
-    #[inline]
     pub const fn broadcast(xy: T) -> Self
     where
         T: Copy,
@@ -45,7 +42,6 @@ impl<T> Point<T> {
     /// Applies a function to each coordinate, x first.
     ///
     /// `point.map(|n| n / 2)` halves both.
-    #[must_use]
     #[inline(always)]
     pub fn map<U, F: FnMut(T) -> U>(self, mut f: F) -> Point<U>
         requires { CanCallEach F.pre F.step f (self.x ∷ self.y ∷ []) }
@@ -258,7 +254,6 @@ impl<T: Neg<Output = T>> Neg for Point<T> {
 
     ghost neg_gives = { λ p opposite. T.neg_gives p.x opposite.x × T.neg_gives p.y opposite.y };
 
-    #[inline]
     fn neg(self) -> Point<T> {
         Point {
             x: -self.x,

@@ -31,8 +31,6 @@ pub struct FWord(i16);
 
 impl FWord {
     /// Creates a quantity from a number of font units.
-    #[must_use]
-    #[inline]
     pub const fn new(raw: i16) -> Self
         ensures { fword_number result ≡ raw }
     {
@@ -40,8 +38,6 @@ impl FWord {
     }
 
     /// Returns the number of font units.
-    #[must_use]
-    #[inline]
     pub const fn to_i16(self) -> i16
         ensures { result ≡ fword_number self }
     {
@@ -49,8 +45,6 @@ impl FWord {
     }
 
     /// Converts to 16.16, exactly.
-    #[must_use]
-    #[inline]
     #[tactic(auto, using(font_fixed::proofs::FixedCalls::fixed_calls))]
     pub const fn to_fixed(self) -> Fixed
         ensures { fixed_bits result ≡ (fword_number self *ℤ pos (2 ^ 16)) }
@@ -59,8 +53,6 @@ impl FWord {
     }
 
     /// Adds a sum of deltas, exactly. The result is a 16.16 raw value.
-    #[must_use]
-    #[inline]
     pub fn apply_delta(self, delta: F48Dot16) -> i128
         ensures { result ≡ (fword_number self *ℤ pos 65536 +ℤ f48dot16_bits delta) }
     {
@@ -75,8 +67,6 @@ impl FWord {
     /// let moved = vary(FWord::new(100), &[(Fixed::from_bits(0x8000), 3)]).unwrap();
     /// assert_eq!(FWord::round_delta(moved), Some(FWord::new(102)));
     /// ```
-    #[must_use]
-    #[inline]
     pub fn round_delta(moved: i128) -> Option<FWord>
         ensures variant { IsSome result ↔ FitsBits 16 (nearest_unit moved) }
         ensures value { IfSome result (λ word. fword_number word ≡ nearest_unit moved) }
@@ -92,8 +82,6 @@ impl FWord {
     /// let delta = F48Dot16::from_bits(0x18000);
     /// assert_eq!(FWord::new(100).checked_add_delta(delta), Some(FWord::new(102)));
     /// ```
-    #[must_use]
-    #[inline]
     pub const fn checked_add_delta(self, delta: F48Dot16) -> Option<FWord>
         ensures variant { IsSome result ↔ FitsBits 16
             (nearest_unit (fword_number self *ℤ pos 65536 +ℤ f48dot16_bits delta)) }
@@ -107,8 +95,6 @@ impl FWord {
     }
 
     /// Returns the big-endian bytes.
-    #[must_use]
-    #[inline]
     #[tactic(auto, using(font_base::proofs::StdBytes::std_bytes))]
     pub const fn to_be_bytes(self) -> [u8; 2]
         ensures { result ≡ bytes_of 2 (fword_number self) }
@@ -128,7 +114,6 @@ impl fmt::Display for FWord {
 impl From<i16> for FWord {
     ghost from_gives = { λ number word. fword_number word ≡ number };
 
-    #[inline]
     fn from(number: i16) -> FWord {
         FWord(number)
     }
@@ -137,7 +122,6 @@ impl From<i16> for FWord {
 impl From<FWord> for i16 {
     ghost from_gives = { λ word number. number ≡ fword_number word };
 
-    #[inline]
     fn from(word: FWord) -> i16 {
         word.0
     }
@@ -146,7 +130,6 @@ impl From<FWord> for i16 {
 impl From<FWord> for i32 {
     ghost from_gives = { λ word number. number ≡ fword_number word };
 
-    #[inline]
     fn from(word: FWord) -> i32 {
         i32::from(word.0)
     }
@@ -156,7 +139,6 @@ impl From<FWord> for i32 {
 impl From<FWord> for Fixed {
     ghost from_gives = { λ word x. fixed_bits x ≡ (fword_number word *ℤ pos (2 ^ 16)) };
 
-    #[inline]
     fn from(word: FWord) -> Fixed {
         word.to_fixed()
     }
@@ -179,12 +161,10 @@ impl Scalar for FWord {
 
     ghost laws = { signed_newtype 2 (lit< tt) fword_number fword_of (λ _. refl) (λ _. refl) };
 
-    #[inline]
     fn from_raw(raw: [u8; 2]) -> FWord {
         FWord(i16::from_raw(raw))
     }
 
-    #[inline]
     fn to_raw(self) -> [u8; 2] {
         i16::to_raw(self.0)
     }
@@ -207,8 +187,6 @@ pub struct UfWord(u16);
 
 impl UfWord {
     /// Creates a quantity from a number of font units.
-    #[must_use]
-    #[inline]
     pub const fn new(raw: u16) -> Self
         ensures { ufword_number result ≡ raw }
     {
@@ -216,8 +194,6 @@ impl UfWord {
     }
 
     /// Returns the number of font units.
-    #[must_use]
-    #[inline]
     pub const fn to_u16(self) -> u16
         ensures { result ≡ ufword_number self }
     {
@@ -225,8 +201,6 @@ impl UfWord {
     }
 
     /// Converts to 16.16, wrapping: 32768 and above become negative.
-    #[must_use]
-    #[inline]
     pub const fn to_fixed(self) -> Fixed
         ensures { fixed_bits result ≡ wrap 32 (pos (ufword_number self) *ℤ pos (2 ^ 16)) }
     {
@@ -234,8 +208,6 @@ impl UfWord {
     }
 
     /// Converts to 16.16, or returns `None` on overflow, that is, for 32768 and above.
-    #[must_use]
-    #[inline]
     pub const fn checked_to_fixed(self) -> Option<Fixed>
         ensures variant { IsSome result
             ↔ FitsBits 32 (pos (ufword_number self) *ℤ pos (2 ^ 16)) }
@@ -246,8 +218,6 @@ impl UfWord {
     }
 
     /// Adds a sum of deltas, exactly. The result is a 16.16 raw value.
-    #[must_use]
-    #[inline]
     pub fn apply_delta(self, delta: F48Dot16) -> i128
         ensures { result ≡ (pos (ufword_number self) *ℤ pos 65536 +ℤ f48dot16_bits delta) }
     {
@@ -256,8 +226,6 @@ impl UfWord {
 
     /// Rounds a 16.16 raw value, such as the result of `apply_delta`, to the nearest font unit,
     /// half up, or returns `None` if that is out of range.
-    #[must_use]
-    #[inline]
     pub fn round_delta(moved: i128) -> Option<UfWord>
         ensures variant { IsSome result
             ↔ ((pos 0 ≤ℤ nearest_unit moved) × (nearest_unit moved <ℤ pos 65536)) }
@@ -268,8 +236,6 @@ impl UfWord {
 
     /// Adds a sum of deltas and rounds to the nearest font unit, half up, or returns `None` if that
     /// is out of range: `round_delta` of `apply_delta`, in 64 bits.
-    #[must_use]
-    #[inline]
     pub const fn checked_add_delta(self, delta: F48Dot16) -> Option<UfWord>
         ensures variant { IsSome result ↔ (
             (pos 0 ≤ℤ nearest_unit (pos (ufword_number self) *ℤ pos 65536 +ℤ f48dot16_bits delta))
@@ -287,8 +253,6 @@ impl UfWord {
     }
 
     /// Returns the big-endian bytes.
-    #[must_use]
-    #[inline]
     #[tactic(auto, using(font_base::proofs::StdBytes::std_bytes))]
     pub const fn to_be_bytes(self) -> [u8; 2]
         ensures { result ≡ bytes_of 2 (pos (ufword_number self)) }
@@ -308,7 +272,6 @@ impl fmt::Display for UfWord {
 impl From<u16> for UfWord {
     ghost from_gives = { λ number word. ufword_number word ≡ number };
 
-    #[inline]
     fn from(number: u16) -> UfWord {
         UfWord(number)
     }
@@ -317,7 +280,6 @@ impl From<u16> for UfWord {
 impl From<UfWord> for u16 {
     ghost from_gives = { λ word number. number ≡ ufword_number word };
 
-    #[inline]
     fn from(word: UfWord) -> u16 {
         word.0
     }
@@ -326,7 +288,6 @@ impl From<UfWord> for u16 {
 impl From<UfWord> for i32 {
     ghost from_gives = { λ word number. number ≡ pos (ufword_number word) };
 
-    #[inline]
     fn from(word: UfWord) -> i32 {
         i32::from(word.0)
     }
@@ -349,12 +310,10 @@ impl Scalar for UfWord {
 
     ghost laws = { unsigned_newtype 2 ufword_number ufword_of (λ _. refl) (λ _. refl) };
 
-    #[inline]
     fn from_raw(raw: [u8; 2]) -> UfWord {
         UfWord(u16::from_raw(raw))
     }
 
-    #[inline]
     fn to_raw(self) -> [u8; 2] {
         u16::to_raw(self.0)
     }

@@ -32,8 +32,6 @@ impl GlyphId16 {
     pub const NOTDEF: Self = Self(0);
 
     /// Creates a glyph id.
-    #[must_use]
-    #[inline]
     pub const fn new(raw: u16) -> Self
         ensures { glyph16_number result ≡ raw }
     {
@@ -41,8 +39,6 @@ impl GlyphId16 {
     }
 
     /// Returns the number.
-    #[must_use]
-    #[inline]
     pub const fn to_u16(self) -> u16
         ensures { result ≡ glyph16_number self }
     {
@@ -50,8 +46,6 @@ impl GlyphId16 {
     }
 
     /// Returns the number.
-    #[must_use]
-    #[inline]
     pub const fn to_u32(self) -> u32
         ensures { result ≡ glyph16_number self }
     {
@@ -59,8 +53,6 @@ impl GlyphId16 {
     }
 
     /// Returns the number as an index.
-    #[must_use]
-    #[inline]
     pub const fn to_usize(self) -> usize
         ensures { result ≡ glyph16_number self }
     {
@@ -68,8 +60,6 @@ impl GlyphId16 {
     }
 
     /// Returns the big-endian bytes.
-    #[must_use]
-    #[inline]
     #[tactic(auto, using(font_base::proofs::StdBytes::std_bytes))]
     pub const fn to_be_bytes(self) -> [u8; 2]
         ensures { result ≡ bytes_of 2 (pos (glyph16_number self)) }
@@ -82,8 +72,6 @@ impl GlyphId16 {
 #[doc(hidden)]
 impl GlyphId16 {
     /// Returns `true` if both are the same glyph, as `==` does.
-    #[must_use]
-    #[inline]
     pub fn eq_gid(&self, other: &GlyphId) -> bool
         ensures { IsTrue result ↔ (glyph16_number self.now ≡ glyph_number other.now) }
     {
@@ -91,8 +79,6 @@ impl GlyphId16 {
     }
 
     /// Compares the two numbers, as `<` and `>` do.
-    #[must_use]
-    #[inline]
     pub fn cmp_gid(&self, other: &GlyphId) -> Ordering
         ensures { result ≡ nat_cmp (glyph16_number self.now) (glyph_number other.now) }
     {
@@ -111,7 +97,6 @@ impl fmt::Display for GlyphId16 {
 impl From<u16> for GlyphId16 {
     ghost from_gives = { λ number id. glyph16_number id ≡ number };
 
-    #[inline]
     fn from(number: u16) -> GlyphId16 {
         GlyphId16(number)
     }
@@ -120,7 +105,6 @@ impl From<u16> for GlyphId16 {
 impl From<GlyphId16> for u16 {
     ghost from_gives = { λ id number. number ≡ glyph16_number id };
 
-    #[inline]
     fn from(id: GlyphId16) -> u16 {
         id.0
     }
@@ -129,7 +113,6 @@ impl From<GlyphId16> for u16 {
 impl From<GlyphId16> for u32 {
     ghost from_gives = { λ id number. number ≡ glyph16_number id };
 
-    #[inline]
     fn from(id: GlyphId16) -> u32 {
         id.to_u32()
     }
@@ -138,7 +121,6 @@ impl From<GlyphId16> for u32 {
 impl From<GlyphId16> for usize {
     ghost from_gives = { λ id number. number ≡ glyph16_number id };
 
-    #[inline]
     fn from(id: GlyphId16) -> usize {
         usize::from(id.0)
     }
@@ -152,7 +134,6 @@ impl TryFrom<GlyphId> for GlyphId16 {
         (λ narrow. glyph16_number narrow ≡ glyph_number id)
         (λ error. (2 ^ 16 ≤ glyph_number id) × (refused_number error ≡ glyph_number id)) };
 
-    #[inline]
     fn try_from(id: GlyphId) -> Result<GlyphId16, TryFromGlyphIdError> {
         match u16::try_from(id.0) {
             Ok(number) => Ok(GlyphId16(number)),
@@ -178,12 +159,10 @@ impl Scalar for GlyphId16 {
 
     ghost laws = { unsigned_newtype 2 glyph16_number glyph16_of (λ _. refl) (λ _. refl) };
 
-    #[inline]
     fn from_raw(raw: [u8; 2]) -> GlyphId16 {
         GlyphId16(u16::from_raw(raw))
     }
 
-    #[inline]
     fn to_raw(self) -> [u8; 2] {
         self.0.to_raw()
     }
@@ -209,8 +188,6 @@ impl GlyphId24 {
     pub const NOTDEF: Self = Self(Uint24::MIN);
 
     /// Creates a glyph id, saturating at 16777215.
-    #[must_use]
-    #[inline]
     pub const fn new(raw: u32) -> Self
         ensures { glyph24_number result ≡ min raw UINT24_MAX }
     {
@@ -218,8 +195,6 @@ impl GlyphId24 {
     }
 
     /// Creates a glyph id, or returns `None` if the number exceeds 16777215.
-    #[must_use]
-    #[inline]
     pub const fn checked_new(raw: u32) -> Option<Self>
         ensures variant { IsSome result ↔ (raw ≤ UINT24_MAX) }
         ensures value { IfSome result (λ id. glyph24_number id ≡ raw) }
@@ -231,8 +206,6 @@ impl GlyphId24 {
     }
 
     /// Returns the number.
-    #[must_use]
-    #[inline]
     pub const fn to_u32(self) -> u32
         ensures { result ≡ glyph24_number self }
     {
@@ -240,8 +213,6 @@ impl GlyphId24 {
     }
 
     /// Returns the number as an index.
-    #[must_use]
-    #[inline]
     pub const fn to_usize(self) -> usize
         ensures { result ≡ glyph24_number self }
     {
@@ -249,8 +220,6 @@ impl GlyphId24 {
     }
 
     /// Returns the big-endian bytes.
-    #[must_use]
-    #[inline]
     pub const fn to_be_bytes(self) -> [u8; 3]
         ensures { result ≡ bytes_of 3 (pos (glyph24_number self)) }
     {
@@ -258,8 +227,6 @@ impl GlyphId24 {
     }
 
     /// Creates a glyph id from big-endian bytes.
-    #[must_use]
-    #[inline]
     pub const fn from_be_bytes(bytes: [u8; 3]) -> Self
         ensures { bytes ≡ bytes_of 3 (pos (glyph24_number result)) }
     {
@@ -278,7 +245,6 @@ impl fmt::Display for GlyphId24 {
 impl From<GlyphId24> for u32 {
     ghost from_gives = { λ id number. number ≡ glyph24_number id };
 
-    #[inline]
     fn from(id: GlyphId24) -> u32 {
         id.to_u32()
     }
@@ -287,7 +253,6 @@ impl From<GlyphId24> for u32 {
 impl From<GlyphId24> for usize {
     ghost from_gives = { λ id number. number ≡ glyph24_number id };
 
-    #[inline]
     fn from(id: GlyphId24) -> usize {
         usize::from(id.0)
     }
@@ -301,7 +266,6 @@ impl TryFrom<GlyphId> for GlyphId24 {
         (λ narrow. glyph24_number narrow ≡ glyph_number id)
         (λ error. (2 ^ 24 ≤ glyph_number id) × (refused_number error ≡ glyph_number id)) };
 
-    #[inline]
     fn try_from(id: GlyphId) -> Result<GlyphId24, TryFromGlyphIdError> {
         match Uint24::checked_new(id.0) {
             Some(number) => Ok(GlyphId24(number)),
@@ -327,12 +291,10 @@ impl Scalar for GlyphId24 {
 
     ghost laws = { newtype_laws (λ id. id.0) glyph24_of (λ _. refl) (λ _. refl) uint24_laws };
 
-    #[inline]
     fn from_raw(raw: [u8; 3]) -> GlyphId24 {
         GlyphId24(Uint24::from_raw(raw))
     }
 
-    #[inline]
     fn to_raw(self) -> [u8; 3] {
         self.0.to_raw()
     }
@@ -358,8 +320,6 @@ impl GlyphId {
     pub const NOTDEF: Self = Self(0);
 
     /// Creates a glyph id.
-    #[must_use]
-    #[inline]
     pub const fn new(raw: u32) -> Self
         ensures { glyph_number result ≡ raw }
     {
@@ -367,8 +327,6 @@ impl GlyphId {
     }
 
     /// Returns the number.
-    #[must_use]
-    #[inline]
     pub const fn to_u32(self) -> u32
         ensures { result ≡ glyph_number self }
     {
@@ -376,8 +334,6 @@ impl GlyphId {
     }
 
     /// Returns the number as an index.
-    #[must_use]
-    #[inline]
     pub const fn to_usize(self) -> usize
         ensures { result ≡ glyph_number self }
     {
@@ -389,8 +345,6 @@ impl GlyphId {
 #[doc(hidden)]
 impl GlyphId {
     /// Returns `true` if both are the same glyph, as `==` does.
-    #[must_use]
-    #[inline]
     pub fn eq_gid16(&self, other: &GlyphId16) -> bool
         ensures { IsTrue result ↔ (glyph_number self.now ≡ glyph16_number other.now) }
     {
@@ -398,8 +352,6 @@ impl GlyphId {
     }
 
     /// Compares the two numbers, as `<` and `>` do.
-    #[must_use]
-    #[inline]
     pub fn cmp_gid16(&self, other: &GlyphId16) -> Ordering
         ensures { result ≡ nat_cmp (glyph_number self.now) (glyph16_number other.now) }
     {
@@ -418,7 +370,6 @@ impl fmt::Display for GlyphId {
 impl From<u16> for GlyphId {
     ghost from_gives = { λ number id. glyph_number id ≡ number };
 
-    #[inline]
     fn from(number: u16) -> GlyphId {
         GlyphId(u32::from(number))
     }
@@ -427,7 +378,6 @@ impl From<u16> for GlyphId {
 impl From<u32> for GlyphId {
     ghost from_gives = { λ number id. glyph_number id ≡ number };
 
-    #[inline]
     fn from(number: u32) -> GlyphId {
         GlyphId(number)
     }
@@ -436,7 +386,6 @@ impl From<u32> for GlyphId {
 impl From<GlyphId16> for GlyphId {
     ghost from_gives = { λ narrow id. glyph_number id ≡ glyph16_number narrow };
 
-    #[inline]
     fn from(narrow: GlyphId16) -> GlyphId {
         GlyphId(narrow.to_u32())
     }
@@ -445,7 +394,6 @@ impl From<GlyphId16> for GlyphId {
 impl From<GlyphId24> for GlyphId {
     ghost from_gives = { λ narrow id. glyph_number id ≡ glyph24_number narrow };
 
-    #[inline]
     fn from(narrow: GlyphId24) -> GlyphId {
         GlyphId(narrow.to_u32())
     }
@@ -454,7 +402,6 @@ impl From<GlyphId24> for GlyphId {
 impl From<GlyphId> for u32 {
     ghost from_gives = { λ id number. number ≡ glyph_number id };
 
-    #[inline]
     fn from(id: GlyphId) -> u32 {
         id.0
     }
@@ -475,8 +422,6 @@ pub struct TryFromGlyphIdError(u32);
 
 impl TryFromGlyphIdError {
     /// Returns the number that was too large.
-    #[must_use]
-    #[inline]
     pub const fn value(&self) -> u32
         ensures { result ≡ refused_number self.now }
     {

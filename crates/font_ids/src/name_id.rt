@@ -110,8 +110,6 @@ impl NameId {
     pub const LAST_ALLOWED_NAME_ID: Self = Self(32767);
 
     /// Creates a name id.
-    #[must_use]
-    #[inline]
     pub const fn new(raw: u16) -> Self
         ensures { name_number result ≡ raw }
     {
@@ -119,8 +117,6 @@ impl NameId {
     }
 
     /// Returns an iterator over the predefined ids in order: 0 to 14 and 16 to 25.
-    #[must_use]
-    #[inline]
     #[tactic(auto, unfolding(crate::specs::NameId::predefined_left))]
     pub const fn predefined() -> Predefined
         ensures ids { predefined_left result ≡ map name_id_of predefined_numbers }
@@ -130,8 +126,6 @@ impl NameId {
     }
 
     /// Returns the number.
-    #[must_use]
-    #[inline]
     pub const fn to_u16(self) -> u16
         ensures { result ≡ name_number self }
     {
@@ -139,8 +133,6 @@ impl NameId {
     }
 
     /// Returns `true` if the id is reserved, that is, at most 255.
-    #[must_use]
-    #[inline]
     pub const fn is_reserved(self) -> bool
         ensures { IsTrue result ↔ (name_number self ≤ last_reserved) }
     {
@@ -148,8 +140,6 @@ impl NameId {
     }
 
     /// Returns `self + rhs`, or `None` if that exceeds `LAST_ALLOWED_NAME_ID`, even if `rhs` is 0.
-    #[must_use]
-    #[inline]
     pub const fn checked_add(self, rhs: u16) -> Option<Self>
         ensures variant { IsSome result ↔ (name_number self + rhs ≤ last_allowed) }
         ensures value { IfSome result (λ id. name_number id ≡ name_number self + rhs) }
@@ -163,8 +153,6 @@ impl NameId {
     }
 
     /// Returns the big-endian bytes.
-    #[must_use]
-    #[inline]
     #[tactic(auto, using(font_base::proofs::StdBytes::std_bytes))]
     pub const fn to_be_bytes(self) -> [u8; 2]
         ensures { result ≡ bytes_of 2 (pos (name_number self)) }
@@ -177,7 +165,6 @@ impl NameId {
 impl Default for NameId {
     ghost is_default = { λ id. name_number id ≡ 65535 };
 
-    #[inline]
     fn default() -> NameId {
         NameId(0xFFFF)
     }
@@ -186,7 +173,6 @@ impl Default for NameId {
 impl From<u16> for NameId {
     ghost from_gives = { λ number id. name_number id ≡ number };
 
-    #[inline]
     fn from(number: u16) -> NameId {
         NameId(number)
     }
@@ -195,7 +181,6 @@ impl From<u16> for NameId {
 impl From<NameId> for u16 {
     ghost from_gives = { λ id number. number ≡ name_number id };
 
-    #[inline]
     fn from(id: NameId) -> u16 {
         id.0
     }
@@ -264,12 +249,10 @@ impl Scalar for NameId {
 
     ghost laws = { unsigned_newtype 2 name_number name_id_of (λ _. refl) (λ _. refl) };
 
-    #[inline]
     fn from_raw(raw: [u8; 2]) -> NameId {
         NameId(u16::from_raw(raw))
     }
 
-    #[inline]
     fn to_raw(self) -> [u8; 2] {
         self.0.to_raw()
     }
@@ -299,7 +282,6 @@ impl Iterator for Predefined {
 
     ghost remaining = { item_count predefined_left };
 
-    #[inline]
     #[tactic(auto, unfolding(crate::specs::NameId::predefined_left))]
     fn next(&mut self) -> Option<NameId> {
         let number = if self.next == 15 { 16 } else { self.next };
@@ -310,7 +292,6 @@ impl Iterator for Predefined {
         Some(NameId(number))
     }
 
-    #[inline]
     #[tactic(auto, unfolding(crate::specs::NameId::predefined_left))]
     fn size_hint(&self) -> (usize, Option<usize>)
         ensures lower { IsWithinCount result.0 (item_count predefined_left self.now) }

@@ -28,8 +28,6 @@ pub struct Offset16(u16);
 
 impl Offset16 {
     /// Creates an offset.
-    #[must_use]
-    #[inline]
     pub const fn new(raw: u16) -> Self
         ensures { offset16_number result ≡ raw }
     {
@@ -37,8 +35,6 @@ impl Offset16 {
     }
 
     /// Returns `true` if the offset is zero.
-    #[must_use]
-    #[inline]
     pub const fn is_null(self) -> bool
         ensures { IsTrue result ↔ (offset16_number self ≡ 0) }
     {
@@ -46,8 +42,6 @@ impl Offset16 {
     }
 
     /// Returns the number.
-    #[must_use]
-    #[inline]
     pub const fn to_u32(self) -> u32
         ensures { result ≡ offset16_number self }
     {
@@ -55,8 +49,6 @@ impl Offset16 {
     }
 
     /// Returns the number as an index.
-    #[must_use]
-    #[inline]
     pub const fn to_usize(self) -> usize
         ensures { result ≡ offset16_number self }
     {
@@ -68,8 +60,6 @@ impl Offset16 {
 #[doc(hidden)]
 impl Offset16 {
     /// Returns `true` if the offset is this number, as `==` does.
-    #[must_use]
-    #[inline]
     pub const fn eq_u32(&self, other: &u32) -> bool
         ensures { IsTrue result ↔ (offset16_number self.now ≡ other.now) }
     {
@@ -80,7 +70,6 @@ impl Offset16 {
 impl From<Offset16> for usize {
     ghost from_gives = { λ offset number. number ≡ offset16_number offset };
 
-    #[inline]
     fn from(offset: Offset16) -> usize {
         usize::from(offset.0)
     }
@@ -103,12 +92,10 @@ impl Scalar for Offset16 {
 
     ghost laws = { unsigned_newtype 2 offset16_number offset16_of (λ _. refl) (λ _. refl) };
 
-    #[inline]
     fn from_raw(raw: [u8; 2]) -> Offset16 {
         Offset16(u16::from_raw(raw))
     }
 
-    #[inline]
     fn to_raw(self) -> [u8; 2] {
         self.0.to_raw()
     }
@@ -132,8 +119,6 @@ pub struct Offset24(Uint24);
 
 impl Offset24 {
     /// Creates an offset.
-    #[must_use]
-    #[inline]
     pub const fn new(raw: Uint24) -> Self
         ensures { offset24_number result ≡ uint24_number raw }
     {
@@ -141,8 +126,6 @@ impl Offset24 {
     }
 
     /// Returns `true` if the offset is zero.
-    #[must_use]
-    #[inline]
     pub const fn is_null(self) -> bool
         ensures { IsTrue result ↔ (offset24_number self ≡ 0) }
     {
@@ -150,8 +133,6 @@ impl Offset24 {
     }
 
     /// Returns the number.
-    #[must_use]
-    #[inline]
     pub const fn to_u32(self) -> u32
         ensures { result ≡ offset24_number self }
     {
@@ -159,8 +140,6 @@ impl Offset24 {
     }
 
     /// Returns the number as an index.
-    #[must_use]
-    #[inline]
     pub const fn to_usize(self) -> usize
         ensures { result ≡ offset24_number self }
     {
@@ -172,8 +151,6 @@ impl Offset24 {
 #[doc(hidden)]
 impl Offset24 {
     /// Returns `true` if the offset is this number, as `==` does.
-    #[must_use]
-    #[inline]
     pub const fn eq_u32(&self, other: &u32) -> bool
         ensures { IsTrue result ↔ (offset24_number self.now ≡ other.now) }
     {
@@ -184,7 +161,6 @@ impl Offset24 {
 impl From<Offset24> for usize {
     ghost from_gives = { λ offset number. number ≡ offset24_number offset };
 
-    #[inline]
     fn from(offset: Offset24) -> usize {
         usize::from(offset.0)
     }
@@ -208,12 +184,10 @@ impl Scalar for Offset24 {
     ghost laws = { newtype_laws (λ offset. offset.0) offset24_of (λ _. refl)
         (λ _. refl) uint24_laws };
 
-    #[inline]
     fn from_raw(raw: [u8; 3]) -> Offset24 {
         Offset24(Uint24::from_raw(raw))
     }
 
-    #[inline]
     fn to_raw(self) -> [u8; 3] {
         self.0.to_raw()
     }
@@ -238,8 +212,6 @@ pub struct Offset32(u32);
 
 impl Offset32 {
     /// Creates an offset.
-    #[must_use]
-    #[inline]
     pub const fn new(raw: u32) -> Self
         ensures { offset32_number result ≡ raw }
     {
@@ -247,8 +219,6 @@ impl Offset32 {
     }
 
     /// Returns `true` if the offset is zero.
-    #[must_use]
-    #[inline]
     pub const fn is_null(self) -> bool
         ensures { IsTrue result ↔ (offset32_number self ≡ 0) }
     {
@@ -256,8 +226,6 @@ impl Offset32 {
     }
 
     /// Returns the number.
-    #[must_use]
-    #[inline]
     pub const fn to_u32(self) -> u32
         ensures { result ≡ offset32_number self }
     {
@@ -265,8 +233,6 @@ impl Offset32 {
     }
 
     /// Returns the number as an index.
-    #[must_use]
-    #[inline]
     pub const fn to_usize(self) -> usize
         ensures { result ≡ offset32_number self }
     {
@@ -278,8 +244,6 @@ impl Offset32 {
 #[doc(hidden)]
 impl Offset32 {
     /// Returns `true` if the offset is this number, as `==` does.
-    #[must_use]
-    #[inline]
     pub const fn eq_u32(&self, other: &u32) -> bool
         ensures { IsTrue result ↔ (offset32_number self.now ≡ other.now) }
     {
@@ -304,12 +268,10 @@ impl Scalar for Offset32 {
 
     ghost laws = { unsigned_newtype 4 offset32_number offset32_of (λ _. refl) (λ _. refl) };
 
-    #[inline]
     fn from_raw(raw: [u8; 4]) -> Offset32 {
         Offset32(u32::from_raw(raw))
     }
 
-    #[inline]
     fn to_raw(self) -> [u8; 4] {
         self.0.to_raw()
     }
@@ -338,7 +300,6 @@ pub trait OffsetValue: Copy {
     ghost number_of: { Self → ℕ };
 
     /// Returns the number.
-    #[must_use]
     fn value_u32(&self) -> u32
         ensures { result ≡ number_of self.now };
 
@@ -351,8 +312,6 @@ pub trait OffsetValue: Copy {
     /// }
     /// assert_eq!(rest::<font_types::Offset16>(&[0, 3, 9, 8]), Some(&[8][..]));
     /// ```
-    #[must_use]
-    #[inline]
     fn to_usize(self) -> usize
         ensures { result ≡ number_of self }
     {
@@ -372,7 +331,6 @@ impl OffsetValue for Offset16 {
 
     ghost null_is_zero = { refl };
 
-    #[inline]
     fn value_u32(&self) -> u32 {
         self.to_u32()
     }
@@ -387,7 +345,6 @@ impl OffsetValue for Offset24 {
 
     ghost null_is_zero = { uint24_number-of 0 (lit< tt) };
 
-    #[inline]
     fn value_u32(&self) -> u32 {
         self.to_u32()
     }
@@ -402,7 +359,6 @@ impl OffsetValue for Offset32 {
 
     ghost null_is_zero = { refl };
 
-    #[inline]
     fn value_u32(&self) -> u32 {
         self.to_u32()
     }
@@ -421,8 +377,6 @@ pub struct Nullable<T>(T);
 
 impl<T> Nullable<T> {
     /// Returns the offset, whether null or not.
-    #[must_use]
-    #[inline]
     pub const fn offset(&self) -> &T
         ensures { result.now ≡ nullable_offset self.now }
     {
@@ -432,8 +386,6 @@ impl<T> Nullable<T> {
 
 impl<T: OffsetValue> Nullable<T> {
     /// Returns `true` if the offset is zero.
-    #[must_use]
-    #[inline]
     pub fn is_null(&self) -> bool
         ensures { IsTrue result ↔ (T.number_of (nullable_offset self.now) ≡ 0) }
     {
@@ -441,8 +393,6 @@ impl<T: OffsetValue> Nullable<T> {
     }
 
     /// Returns the offset, or `None` if it is null.
-    #[must_use]
-    #[inline]
     pub fn get(self) -> Option<T>
         ensures variant { IsNone result ↔ (T.number_of (nullable_offset self) ≡ 0) }
         ensures value { IfSome result (λ offset. offset ≡ nullable_offset self) }
@@ -455,8 +405,6 @@ impl<T: OffsetValue> Nullable<T> {
 #[doc(hidden)]
 impl<T: OffsetValue> Nullable<T> {
     /// Returns `true` if the offset is this number, as `==` does.
-    #[must_use]
-    #[inline]
     pub fn eq_u32(&self, other: &u32) -> bool
         ensures { IsTrue result ↔ (T.number_of (nullable_offset self.now) ≡ other.now) }
     {
@@ -468,7 +416,6 @@ impl<T: OffsetValue> Nullable<T> {
 impl<T: OffsetValue> Default for Nullable<T> {
     ghost is_default = { λ nullable. nullable_offset nullable ≡ T.NULL };
 
-    #[inline]
     fn default() -> Nullable<T> {
         Nullable(T::NULL)
     }
@@ -491,12 +438,10 @@ impl<T: Scalar> Scalar for Nullable<T> {
 
     ghost laws = { newtype_laws nullable_offset nullable_of (λ _. refl) (λ _. refl) T.Scalar.laws };
 
-    #[inline]
     fn from_raw(raw: T::Raw) -> Nullable<T> {
         Nullable(T::from_raw(raw))
     }
 
-    #[inline]
     fn to_raw(self) -> T::Raw {
         T::to_raw(self.0)
     }

@@ -23,8 +23,6 @@ pub struct LongDateTime(i64);
 
 impl LongDateTime {
     /// Creates a date from seconds since 1904-01-01 00:00 UTC.
-    #[must_use]
-    #[inline]
     pub const fn new(secs: i64) -> Self
         ensures { date_seconds result ≡ secs }
     {
@@ -32,8 +30,6 @@ impl LongDateTime {
     }
 
     /// Returns the seconds since 1904-01-01 00:00 UTC.
-    #[must_use]
-    #[inline]
     pub const fn as_secs(&self) -> i64
         ensures { result ≡ date_seconds self.now }
     {
@@ -41,8 +37,6 @@ impl LongDateTime {
     }
 
     /// Returns the seconds as big-endian bytes.
-    #[must_use]
-    #[inline]
     #[tactic(auto, using(font_base::proofs::StdBytes::std_bytes))]
     pub const fn to_be_bytes(self) -> [u8; 8]
         ensures { result ≡ bytes_of 8 (date_seconds self) }
@@ -68,12 +62,10 @@ impl Scalar for LongDateTime {
 
     ghost laws = { signed_newtype 8 (lit< tt) date_seconds date_of (λ _. refl) (λ _. refl) };
 
-    #[inline]
     fn from_raw(raw: [u8; 8]) -> LongDateTime {
         LongDateTime(i64::from_raw(raw))
     }
 
-    #[inline]
     fn to_raw(self) -> [u8; 8] {
         self.0.to_raw()
     }

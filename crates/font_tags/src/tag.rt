@@ -39,8 +39,6 @@ pub struct Tag([u8; 4]);
 
 impl Tag {
     /// Creates a tag from four bytes, without validation.
-    #[must_use]
-    #[inline]
     pub const fn new(src: &[u8; 4]) -> Self
         ensures { tag_bytes result ≡ src.now }
     {
@@ -56,7 +54,6 @@ impl Tag {
     /// Returns `InvalidLength` unless there are one to four bytes. Any other error is
     /// `InvalidByte` at the first byte that cannot be there: a space at the start, a byte that is
     /// not printable ASCII, or a printable byte after a space.
-    #[inline]
     #[tactic(auto, using(crate::proofs::Good::tag_judgements))]
     pub const fn new_checked(src: &[u8]) -> Result<Self, InvalidTag>
         ensures judged { IsChecked src.now result }
@@ -80,8 +77,6 @@ impl Tag {
     }
 
     /// Creates a tag from the big-endian bytes of a number.
-    #[must_use]
-    #[inline]
     #[tactic(auto, using(font_base::proofs::StdBytes::std_bytes))]
     pub const fn from_u32(src: u32) -> Self
         ensures { tag_bytes result ≡ bytes_of 4 (pos src) }
@@ -90,8 +85,6 @@ impl Tag {
     }
 
     /// Returns the number whose big-endian bytes are those of the tag.
-    #[must_use]
-    #[inline]
     pub const fn to_u32(self) -> u32
         ensures { result ≡ numeral (tag_bytes self) }
     {
@@ -99,8 +92,6 @@ impl Tag {
     }
 
     /// Creates a tag from four bytes, without validation.
-    #[must_use]
-    #[inline]
     pub const fn from_be_bytes(bytes: [u8; 4]) -> Self
         ensures { tag_bytes result ≡ bytes }
     {
@@ -108,8 +99,6 @@ impl Tag {
     }
 
     /// Returns the four bytes.
-    #[must_use]
-    #[inline]
     pub const fn to_be_bytes(self) -> [u8; 4]
         ensures { result ≡ tag_bytes self }
     {
@@ -117,8 +106,6 @@ impl Tag {
     }
 
     /// Returns the four bytes.
-    #[must_use]
-    #[inline]
     pub const fn into_bytes(self) -> [u8; 4]
         ensures { result ≡ tag_bytes self }
     {
@@ -126,8 +113,6 @@ impl Tag {
     }
 
     /// Returns the four bytes.
-    #[must_use]
-    #[inline]
     pub const fn as_bytes(&self) -> &[u8; 4]
         ensures { result.now ≡ tag_bytes self.now }
     {
@@ -141,7 +126,6 @@ impl Tag {
     /// Returns `InvalidLength(0)` for four spaces. Otherwise the error is of the first byte that
     /// cannot be there: `ByteAfterSpace` for a printable byte after a space, and `InvalidByte` for
     /// a space at the start or a byte that is not printable ASCII.
-    #[inline]
     #[tactic(auto, using(crate::proofs::Good::tag_judgements))]
     pub fn validate(self) -> Result<(), InvalidTag>
         ensures judged { IsValidated (tag_bytes self) result }
@@ -165,8 +149,6 @@ impl Tag {
 #[doc(hidden)]
 impl Tag {
     /// Returns `true` if the tag has these bytes, as `==` does.
-    #[must_use]
-    #[inline]
     pub fn eq_bytes(&self, other: &[u8; 4]) -> bool
         ensures { IsTrue result ↔ (tag_bytes self.now ≡ other.now) }
     {
@@ -174,8 +156,6 @@ impl Tag {
     }
 
     /// Returns `true` if the tag has the bytes of this string, as `==` does.
-    #[must_use]
-    #[inline]
     pub fn eq_str(&self, other: &str) -> bool
         ensures { IsTrue result ↔ (tag_bytes self.now ≡ other.now) }
     {
@@ -183,8 +163,6 @@ impl Tag {
     }
 
     /// Returns `true` if the tag has the bytes of this slice, as `==` does.
-    #[must_use]
-    #[inline]
     pub fn eq_slice(&self, other: &[u8]) -> bool
         ensures { IsTrue result ↔ (tag_bytes self.now ≡ other.now) }
     {
@@ -193,7 +171,6 @@ impl Tag {
 }
 
 // Returns the index of the first invalid byte, or `None` if all are valid.
-#[inline]
 const fn first_fault(bytes: &[u8]) -> Option<usize>
     requires { 0 < length bytes.now }
     ensures { MatchOption result (IsGood bytes.now) (λ index. IsFault bytes.now index) }
@@ -207,7 +184,6 @@ const fn first_fault(bytes: &[u8]) -> Option<usize>
 }
 
 // Returns the number of leading printable bytes other than spaces.
-#[inline]
 const fn visible_run(bytes: &[u8]) -> usize
     ensures within { result ≤ length bytes.now }
     ensures visible { (i : ℕ) → i < result → IsVisible (slice_index bytes.now i) }
@@ -221,7 +197,6 @@ const fn visible_run(bytes: &[u8]) -> usize
 }
 
 // Returns the index after the spaces that start at `from`.
-#[inline]
 const fn after_spaces(bytes: &[u8], from: usize) -> usize
     requires { from ≤ length bytes.now }
     ensures within { (from ≤ result) × (result ≤ length bytes.now) }
@@ -272,7 +247,6 @@ impl PartialOrd for Tag {
 
     ghost laws = { on_po tag_bytes texts_po };
 
-    #[inline]
     fn partial_cmp(&self, other: &Tag) -> Option<Ordering> {
         Some(self.cmp(other))
     }
@@ -287,7 +261,6 @@ impl Ord for Tag {
 
     ghost matches_eq = { λ a b. texts_ties (tag_bytes a) (tag_bytes b) };
 
-    #[inline]
     fn cmp(&self, other: &Tag) -> Ordering {
         self.0.cmp(&other.0)
     }
@@ -299,7 +272,6 @@ impl FromStr for Tag {
 
     ghost from_str_gives = { IsChecked };
 
-    #[inline]
     fn from_str(src: &str) -> Result<Self, InvalidTag> {
         Tag::new_checked(src.as_bytes())
     }
@@ -309,7 +281,6 @@ impl FromStr for Tag {
 impl Default for Tag {
     ghost is_default = { λ tag. tag_bytes tag ≡ four_spaces };
 
-    #[inline]
     fn default() -> Tag {
         Tag([b' '; 4])
     }
@@ -367,12 +338,10 @@ impl Scalar for Tag {
       lengths_agree = refl;
     } };
 
-    #[inline]
     fn from_raw(raw: [u8; 4]) -> Tag {
         Tag(raw)
     }
 
-    #[inline]
     fn to_raw(self) -> [u8; 4] {
         let _bytes = font_base::BeByteArray::as_slice(&self.0);
         self.0

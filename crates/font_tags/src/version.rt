@@ -48,8 +48,6 @@ impl Version16Dot16 {
     pub const VERSION_3_0: Self = Self(0x0003_0000);
 
     /// Creates a version. A minor number above 9 counts as 9.
-    #[must_use]
-    #[inline]
     pub const fn new(major: u16, minor: u16) -> Self
         ensures { version_bits result ≡ packed_version major minor }
     {
@@ -59,8 +57,6 @@ impl Version16Dot16 {
 
     /// Returns the major and minor numbers. The minor number can be up to 15 unless the version was
     /// created by `new`.
-    #[must_use]
-    #[inline]
     pub const fn to_major_minor(self) -> (u16, u16)
         ensures major { result.0 ≡ version_major self }
         ensures minor { result.1 ≡ version_minor self }
@@ -72,8 +68,6 @@ impl Version16Dot16 {
     }
 
     /// Returns the big-endian bytes.
-    #[must_use]
-    #[inline]
     #[tactic(auto, using(font_base::proofs::StdBytes::std_bytes))]
     pub const fn to_be_bytes(self) -> [u8; 4]
         ensures { result ≡ bytes_of 4 (pos (version_bits self)) }
@@ -118,12 +112,10 @@ impl Scalar for Version16Dot16 {
 
     ghost laws = { unsigned_newtype 4 version_bits version_of (λ _. refl) (λ _. refl) };
 
-    #[inline]
     fn from_raw(raw: [u8; 4]) -> Version16Dot16 {
         Version16Dot16(u32::from_raw(raw))
     }
 
-    #[inline]
     fn to_raw(self) -> [u8; 4] {
         self.0.to_raw()
     }
@@ -167,8 +159,6 @@ impl MajorMinor {
     pub const VERSION_2_0: Self = MajorMinor { major: 2, minor: 0 };
 
     /// Creates a version.
-    #[must_use]
-    #[inline]
     pub const fn new(major: u16, minor: u16) -> Self
         ensures major { result.major ≡ major }
         ensures minor { result.minor ≡ minor }
@@ -177,8 +167,6 @@ impl MajorMinor {
     }
 
     /// Returns the big-endian bytes, the major number first.
-    #[must_use]
-    #[inline]
     #[tactic(auto, using(font_base::proofs::StdBytes::std_bytes))]
     pub const fn to_be_bytes(self) -> [u8; 4]
         ensures { result ≡ bytes_of 2 (pos self.major) ++ bytes_of 2 (pos self.minor) }
@@ -217,7 +205,6 @@ impl Scalar for MajorMinor {
 
     ghost laws = { major_minor_laws };
 
-    #[inline]
     fn from_raw(raw: [u8; 4]) -> MajorMinor {
         let [a, b, c, d] = raw;
         MajorMinor {
@@ -226,7 +213,6 @@ impl Scalar for MajorMinor {
         }
     }
 
-    #[inline]
     fn to_raw(self) -> [u8; 4] {
         let [a, b] = self.major.to_raw();
         let [c, d] = self.minor.to_raw();
@@ -262,7 +248,6 @@ pub trait Compatible<Rhs>: Sized {
     ghost is_compatible: { Self → Rhs → Type 0 };
 
     /// Returns `true` if the major numbers are equal and this minor number is at least the other's.
-    #[must_use]
     fn compatible(&self, other: Rhs) -> bool
         ensures { IsTrue result ↔ is_compatible self.now other };
 }
@@ -271,7 +256,6 @@ impl Compatible<Version16Dot16> for Version16Dot16 {
     ghost is_compatible = { λ version other. IsCompatible (version_major version)
         (version_minor version) (version_major other) (version_minor other) };
 
-    #[inline]
     fn compatible(&self, other: Version16Dot16) -> bool {
         let (major, minor) = self.to_major_minor();
         let (other_major, other_minor) = other.to_major_minor();
@@ -284,7 +268,6 @@ impl Compatible<(u16, u16)> for Version16Dot16 {
     ghost is_compatible = { λ version other.
         IsCompatible (version_major version) (version_minor version) other.0 (min other.1 9) };
 
-    #[inline]
     fn compatible(&self, other: (u16, u16)) -> bool {
         self.compatible(Version16Dot16::new(other.0, other.1))
     }
@@ -294,7 +277,6 @@ impl Compatible<MajorMinor> for MajorMinor {
     ghost is_compatible = { λ version other.
         IsCompatible version.major version.minor other.major other.minor };
 
-    #[inline]
     fn compatible(&self, other: MajorMinor) -> bool {
         self.major == other.major && self.minor >= other.minor
     }
@@ -304,7 +286,6 @@ impl Compatible<(u16, u16)> for MajorMinor {
     ghost is_compatible = { λ version other.
         IsCompatible version.major version.minor other.0 other.1 };
 
-    #[inline]
     fn compatible(&self, other: (u16, u16)) -> bool {
         self.compatible(MajorMinor::new(other.0, other.1))
     }
@@ -314,7 +295,6 @@ impl Compatible<(u16, u16)> for MajorMinor {
 impl Compatible<u16> for u16 {
     ghost is_compatible = { λ version other. other ≤ version };
 
-    #[inline]
     fn compatible(&self, other: u16) -> bool {
         *self >= other
     }

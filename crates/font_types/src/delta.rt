@@ -35,8 +35,6 @@ pub struct DeltaSum {
 
 impl DeltaSum {
     /// Creates an empty sum, 0.
-    #[must_use]
-    #[inline]
     pub const fn new() -> DeltaSum
         ensures { steps_of result ≡ pos 0 }
     {
@@ -44,7 +42,6 @@ impl DeltaSum {
     }
 
     /// Adds the product of a scalar and a delta in font units.
-    #[inline]
     #[tactic(auto, using(crate::proofs::SumCalls::delta_sum_calls))]
     pub fn add(&mut self, scalar: Fixed, delta: i32)
         ensures wrapped { steps_of self.new
@@ -60,7 +57,6 @@ impl DeltaSum {
     }
 
     // Adds the product of a term.
-    #[inline]
     fn add_term(&mut self, term: &(Fixed, i32))
         ensures wrapped { steps_of self.new
             ≡ wrap 128 (steps_of self.old +ℤ term_product term.now) }
@@ -73,8 +69,6 @@ impl DeltaSum {
     }
 
     /// Returns the sum, wrapped to 64 bits.
-    #[must_use]
-    #[inline]
     pub const fn finish(self) -> F48Dot16
         ensures { f48dot16_bits result ≡ wrap 64 (steps_of self) }
     {
@@ -82,8 +76,6 @@ impl DeltaSum {
     }
 
     /// Returns the sum, as it is modulo `2^128`, or `None` if that does not fit in 64 bits.
-    #[must_use]
-    #[inline]
     pub fn checked_finish(self) -> Option<F48Dot16>
         ensures variant { IsSome result ↔ FitsBits 64 (steps_of self) }
         ensures value { IfSome result (λ sum. f48dot16_bits sum ≡ steps_of self) }
@@ -97,7 +89,6 @@ impl DeltaSum {
 impl AddAssign for DeltaSum {
     ghost add_assign_gives = { λ x y sum. WrapsTo 128 (steps_of x +ℤ steps_of y) (steps_of sum) };
 
-    #[inline]
     #[tactic(auto, using(crate::proofs::SumCalls::delta_sum_calls))]
     fn add_assign(&mut self, other: DeltaSum) {
         self.steps = self.steps.wrapping_add(other.steps);
@@ -107,14 +98,12 @@ impl AddAssign for DeltaSum {
 impl Default for DeltaSum {
     ghost is_default = { λ sum. steps_of sum ≡ pos 0 };
 
-    #[inline]
     fn default() -> DeltaSum {
         DeltaSum::new()
     }
 }
 
 // Returns the sum of the products of all terms.
-#[inline]
 #[tactic(auto, using(crate::proofs::SumCalls::delta_sum_calls))]
 pub(crate) fn sum_of(terms: &[(Fixed, i32)]) -> DeltaSum
     ensures { steps_of result ≡ wrap 128 (exact_sum terms.now) }
@@ -135,8 +124,6 @@ pub(crate) fn sum_of(terms: &[(Fixed, i32)]) -> DeltaSum
 /// let half = Fixed::from_bits(0x8000);
 /// assert_eq!(delta_sum(&[(half, 3), (Fixed::NEG_ONE, 2)]).to_string(), "-0.5");
 /// ```
-#[must_use]
-#[inline]
 #[tactic(auto, using(crate::proofs::SumCalls::delta_sum_calls))]
 pub fn delta_sum(terms: &[(Fixed, i32)]) -> F48Dot16
     ensures { f48dot16_bits result ≡ wrap 64 (exact_sum terms.now) }
@@ -154,8 +141,6 @@ pub fn delta_sum(terms: &[(Fixed, i32)]) -> F48Dot16
 /// let sum = checked_delta_sum(&[(Fixed::from_bits(0x8000), 3)]).unwrap();
 /// assert_eq!(sum.to_bits(), 98304);
 /// ```
-#[must_use]
-#[inline]
 pub fn checked_delta_sum(terms: &[(Fixed, i32)]) -> Option<F48Dot16>
     ensures variant { IsSome result ↔ FitsBits 64 (exact_sum terms.now) }
     ensures value { IfSome result (λ sum. f48dot16_bits sum ≡ exact_sum terms.now) }
@@ -179,8 +164,6 @@ pub fn checked_delta_sum(terms: &[(Fixed, i32)]) -> Option<F48Dot16>
 /// use font_types::{FWord, Fixed, vary};
 /// assert_eq!(vary(FWord::new(100), &[(Fixed::from_bits(0x8000), 3)]), Some(6651904));
 /// ```
-#[must_use]
-#[inline]
 pub fn vary(base: FWord, terms: &[(Fixed, i32)]) -> Option<i128>
     ensures variant { IsSome result ↔ FitsBits 64 (exact_sum terms.now) }
     ensures value { IfSome result (λ units.

@@ -18,8 +18,6 @@ pub use font_geom::laws::{
 
 /// Returns the sum of two lists of terms, each summed apart, by `delta_sum` and by `DeltaSum`. Both
 /// are the sum of the joined list.
-#[must_use]
-#[inline]
 #[tactic(auto, using(crate::proofs::SumCalls::joined_sums))]
 pub fn sum_in_parts(first: &[(Fixed, i32)], second: &[(Fixed, i32)]) -> (F48Dot16, DeltaSum)
     ensures wrapped { f48dot16_bits result.0 ≡ wrap 64 (exact_sum (first.now ++ second.now)) }

@@ -22,6 +22,7 @@ use crate::definitions::font_fixed::Rounding::rounded;
 /// ```
 /// [`IsFloor`]
 /// </details>
+#[must_use]
 #[inline(always)]
 pub const fn floor_bits_16(bits: i16, f: u32) -> i16 {
     (bits >> f) << f
@@ -38,6 +39,7 @@ pub const fn floor_bits_16(bits: i16, f: u32) -> i16 {
 /// ```
 /// [`IsFloor`]
 /// </details>
+#[must_use]
 #[inline(always)]
 pub const fn floor_bits_32(bits: i32, f: u32) -> i32 {
     (bits >> f) << f
@@ -54,6 +56,7 @@ pub const fn floor_bits_32(bits: i32, f: u32) -> i32 {
 /// ```
 /// [`IsFloor`]
 /// </details>
+#[must_use]
 #[inline(always)]
 pub const fn floor_bits_64(bits: i64, f: u32) -> i64 {
     (bits >> f) << f
@@ -71,6 +74,7 @@ pub const fn floor_bits_64(bits: i64, f: u32) -> i64 {
 /// ```
 /// [`FitsBits`], [`rounded`]
 /// </details>
+#[must_use]
 #[inline(always)]
 pub const fn round_bits_16(bits: i16, f: u32) -> Option<i16> {
     match bits.checked_add(1 << (f - 1)) {
@@ -91,6 +95,7 @@ pub const fn round_bits_16(bits: i16, f: u32) -> Option<i16> {
 /// ```
 /// [`FitsBits`], [`rounded`]
 /// </details>
+#[must_use]
 #[inline(always)]
 pub const fn round_bits_32(bits: i32, f: u32) -> Option<i32> {
     match bits.checked_add(1 << (f - 1)) {
@@ -111,6 +116,7 @@ pub const fn round_bits_32(bits: i32, f: u32) -> Option<i32> {
 /// ```
 /// [`FitsBits`], [`rounded`]
 /// </details>
+#[must_use]
 #[inline(always)]
 pub const fn round_bits_64(bits: i64, f: u32) -> Option<i64> {
     match bits.checked_add(1 << (f - 1)) {
@@ -197,6 +203,7 @@ pub(crate) const fn half_up_64(n: i64, f: u32) -> i64 {
 /// ```
 /// [`FitsBits`]
 /// </details>
+#[must_use]
 #[inline(always)]
 pub const fn fitting_16(n: i64) -> Option<i16> {
     if n < -0x8000 || n > 0x7FFF { None } else { Some(n as i16) }

@@ -422,6 +422,7 @@ impl fmt::Display for Tag {
 }
 
 // Writes a byte as in the text of a tag.
+#[inline]
 fn write_byte(f: &mut fmt::Formatter<'_>, byte: u8) -> fmt::Result {
     match byte {
         0x20..=0x7E => f.write_str(char::from(byte).encode_utf8(&mut [0; 4])),

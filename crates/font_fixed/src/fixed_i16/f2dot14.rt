@@ -57,7 +57,6 @@ impl F2Dot14 {
     pub const NEG_ONE: Self = Self(-0x4000);
 
     /// Converts to [`Fixed`], exactly.
-    #[must_use]
     #[inline(always)]
     pub const fn to_fixed(self) -> Fixed
         ensures { fixed_bits result ≡ (bits_of self *ℤ pos 4) }
@@ -68,8 +67,6 @@ impl F2Dot14 {
     /// Adds a sum of deltas, exactly. The result is in units of `2^-30`.
     ///
     /// A delta of 1 is one unit of the raw value, `1 / 16384`.
-    #[must_use]
-    #[inline]
     pub fn apply_delta(self, delta: F48Dot16) -> i128
         ensures { result ≡ (bits_of self *ℤ pos 65536 +ℤ f48dot16_bits delta) }
     {
@@ -84,8 +81,6 @@ impl F2Dot14 {
     /// let moved = F2Dot14::ONE.apply_delta(F48Dot16::from_i32(-3));
     /// assert_eq!(F2Dot14::round_delta(moved), Some(F2Dot14::from_bits(0x3FFD)));
     /// ```
-    #[must_use]
-    #[inline]
     pub fn round_delta(moved: i128) -> Option<Self>
         ensures variant { IsSome result ↔ FitsBits 16 (up moved 65536) }
         ensures value { IfSome result (λ number. bits_of number ≡ up moved 65536) }
@@ -103,8 +98,6 @@ impl F2Dot14 {
     /// let moved = F2Dot14::ONE.checked_add_delta(F48Dot16::ONE);
     /// assert_eq!(moved, Some(F2Dot14::from_bits(0x4001)));
     /// ```
-    #[must_use]
-    #[inline]
     pub const fn checked_add_delta(self, delta: F48Dot16) -> Option<Self>
         ensures variant { IsSome result
             ↔ FitsBits 16 (up (bits_of self *ℤ pos 65536 +ℤ f48dot16_bits delta) 65536) }

@@ -57,8 +57,6 @@ impl F26Dot6 {
     pub const NEG_ONE: Self = Self(-64);
 
     /// Returns `self * other`, rounded half away from zero, or `None` on overflow.
-    #[must_use]
-    #[inline]
     pub const fn checked_mul(self, other: Self) -> Option<Self>
         ensures variant { IsSome result
             ↔ FitsBits 32 (near (bits_of self *ℤ bits_of other) (2 ^ 6)) }
@@ -73,8 +71,6 @@ impl F26Dot6 {
 
     /// Returns `self / other`, rounded half away from zero, or `None` on overflow or division by
     /// zero.
-    #[must_use]
-    #[inline]
     pub const fn checked_div(self, other: Self) -> Option<Self>
         ensures variant { IsSome result ↔ ((bits_of other ≢ pos 0)
             × FitsBits 32 (rounded_mul_div (bits_of self) (pos (2 ^ 6)) (bits_of other))) }
@@ -91,7 +87,6 @@ impl F26Dot6 {
     }
 
     /// Converts an integer from -33554432 to 33554431, wrapping on overflow.
-    #[must_use]
     #[inline(always)]
     pub const fn from_i32(number: i32) -> Self
         ensures wrapped { bits_of result ≡ wrap 32 (number *ℤ pos (2 ^ 6)) }
@@ -101,8 +96,6 @@ impl F26Dot6 {
     }
 
     /// Converts an integer from -33554432 to 33554431, or returns `None` on overflow.
-    #[must_use]
-    #[inline]
     pub const fn checked_from_i32(number: i32) -> Option<Self>
         ensures variant { IsSome result ↔ FitsBits 32 (number *ℤ pos (2 ^ 6)) }
         ensures value { IfSome result (λ long. bits_of long ≡ (number *ℤ pos (2 ^ 6))) }
@@ -115,7 +108,6 @@ impl F26Dot6 {
 
     /// Rounds to the nearest integer, half up, wrapped to 26 bits: from 33554431.5 on it gives
     /// -33554432.
-    #[must_use]
     #[inline(always)]
     pub const fn to_i32(self) -> i32
         ensures { IsNarrowed 26 (bits_of self) (2 ^ 6) result }
@@ -124,8 +116,6 @@ impl F26Dot6 {
     }
 
     /// Rounds to the nearest integer, half up, or returns `None` if `to_i32` wraps.
-    #[must_use]
-    #[inline]
     pub const fn checked_to_i32(self) -> Option<i32>
         ensures variant { IsSome result ↔ FitsBits 26 (up (bits_of self) (2 ^ 6)) }
         ensures value { IfSome result (λ number. number ≡ up (bits_of self) (2 ^ 6)) }

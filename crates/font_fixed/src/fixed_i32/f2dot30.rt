@@ -61,8 +61,6 @@ impl F2Dot30 {
     pub const NEG_ONE: Self = Self(-0x4000_0000);
 
     /// Converts from [`Fixed`], wrapping on overflow: exact from -2 up to but not including 2.
-    #[must_use]
-    #[inline]
     pub const fn from_fixed(number: Fixed) -> Self
         ensures { bits_of result ≡ wrap 32 (fixed_bits number *ℤ pos (2 ^ 14)) }
     {
@@ -70,8 +68,6 @@ impl F2Dot30 {
     }
 
     /// Converts from [`Fixed`], or returns `None` on overflow.
-    #[must_use]
-    #[inline]
     pub const fn checked_from_fixed(number: Fixed) -> Option<Self>
         ensures variant { IsSome result ↔ FitsBits 32 (fixed_bits number *ℤ pos (2 ^ 14)) }
         ensures value { IfSome result
@@ -84,8 +80,6 @@ impl F2Dot30 {
     }
 
     /// Converts from [`F2Dot14`], exactly.
-    #[must_use]
-    #[inline]
     pub const fn from_f2dot14(number: F2Dot14) -> Self
         ensures { bits_of result ≡ (f2dot14_bits number *ℤ pos (2 ^ 16)) }
     {
@@ -93,7 +87,6 @@ impl F2Dot30 {
     }
 
     /// Rounds to the nearest [`Fixed`], half up.
-    #[must_use]
     #[inline(always)]
     pub const fn to_fixed(self) -> Fixed
         ensures { fixed_bits result ≡ up (bits_of self) (2 ^ 14) }
@@ -102,7 +95,6 @@ impl F2Dot30 {
     }
 
     /// Rounds to the nearest [`F2Dot14`], half up, wrapping on overflow.
-    #[must_use]
     #[inline(always)]
     pub const fn to_f2dot14(self) -> F2Dot14
         ensures { IsNarrowed 16 (bits_of self) (2 ^ 16) (f2dot14_bits result) }
@@ -111,8 +103,6 @@ impl F2Dot30 {
     }
 
     /// Rounds to the nearest [`F2Dot14`], half up, or returns `None` on overflow.
-    #[must_use]
-    #[inline]
     pub const fn checked_to_f2dot14(self) -> Option<F2Dot14>
         ensures variant { IsSome result ↔ FitsBits 16 (up (bits_of self) (2 ^ 16)) }
         ensures value { IfSome result (λ narrow. f2dot14_bits narrow ≡ up (bits_of self) (2 ^ 16)) }
@@ -128,7 +118,6 @@ impl F2Dot30 {
 impl From<F2Dot14> for F2Dot30 {
     ghost from_gives = { λ number long. bits_of long ≡ (f2dot14_bits number *ℤ pos (2 ^ 16)) };
 
-    #[inline]
     fn from(number: F2Dot14) -> F2Dot30 {
         F2Dot30::from_f2dot14(number)
     }

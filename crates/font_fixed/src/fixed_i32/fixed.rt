@@ -72,7 +72,6 @@ impl Fixed {
     ///
     /// If `c` is zero, the result is [`Fixed::MAX`], negated if exactly one of `self` and `a` is
     /// negative.
-    #[must_use]
     #[inline(always)]
     pub const fn mul_div(&self, a: Self, c: Self) -> Self
         ensures { IsMulDiv 32 (bits_of self.now) (bits_of a) (bits_of c)
@@ -82,8 +81,6 @@ impl Fixed {
     }
 
     /// Returns `self * other`, rounded half away from zero, or `None` on overflow.
-    #[must_use]
-    #[inline]
     pub const fn checked_mul(self, other: Self) -> Option<Self>
         ensures variant { IsSome result
             ↔ FitsBits 32 (near (bits_of self *ℤ bits_of other) (2 ^ 16)) }
@@ -98,8 +95,6 @@ impl Fixed {
 
     /// Returns `self / other`, rounded half away from zero, or `None` on overflow or division by
     /// zero.
-    #[must_use]
-    #[inline]
     pub const fn checked_div(self, other: Self) -> Option<Self>
         ensures variant { IsSome result ↔ ((bits_of other ≢ pos 0)
             × FitsBits 32 (rounded_mul_div (bits_of self) (pos (2 ^ 16)) (bits_of other))) }
@@ -111,8 +106,6 @@ impl Fixed {
 
     /// Returns `self * a / c`, rounded once, half away from zero, or `None` on overflow or if `c`
     /// is zero.
-    #[must_use]
-    #[inline]
     pub const fn checked_mul_div(self, a: Self, c: Self) -> Option<Self>
         ensures variant { IsSome result ↔ ((bits_of c ≢ pos 0)
             × FitsBits 32 (rounded_mul_div (bits_of self) (bits_of a) (bits_of c))) }
@@ -129,7 +122,6 @@ impl Fixed {
     }
 
     /// Converts an integer from -32768 to 32767, wrapping on overflow.
-    #[must_use]
     #[inline(always)]
     pub const fn from_i32(number: i32) -> Self
         ensures wrapped { bits_of result ≡ wrap 32 (number *ℤ pos (2 ^ 16)) }
@@ -139,8 +131,6 @@ impl Fixed {
     }
 
     /// Converts an integer from -32768 to 32767, or returns `None` on overflow.
-    #[must_use]
-    #[inline]
     pub const fn checked_from_i32(number: i32) -> Option<Self>
         ensures variant { IsSome result ↔ FitsBits 32 (number *ℤ pos (2 ^ 16)) }
         ensures value { IfSome result (λ fixed. bits_of fixed ≡ (number *ℤ pos (2 ^ 16))) }
@@ -152,7 +142,6 @@ impl Fixed {
     }
 
     /// Rounds to the nearest integer, half up, wrapped to 16 bits: from 32767.5 on it gives -32768.
-    #[must_use]
     #[inline(always)]
     pub const fn to_i32(self) -> i32
         ensures { IsNarrowed 16 (bits_of self) (2 ^ 16) result }
@@ -161,8 +150,6 @@ impl Fixed {
     }
 
     /// Rounds to the nearest integer, half up, or returns `None` if `to_i32` wraps.
-    #[must_use]
-    #[inline]
     pub const fn checked_to_i32(self) -> Option<i32>
         ensures variant { IsSome result ↔ FitsBits 16 (up (bits_of self) (2 ^ 16)) }
         ensures value { IfSome result (λ number. number ≡ up (bits_of self) (2 ^ 16)) }
@@ -172,7 +159,6 @@ impl Fixed {
 
     /// Rounds to the nearest [`F26Dot6`], half up, its raw bits wrapped to 22 bits: from
     /// `32768 - 1 / 128` on it gives -32768.
-    #[must_use]
     #[inline(always)]
     pub const fn to_f26dot6(self) -> F26Dot6
         ensures { IsNarrowed 22 (bits_of self) (2 ^ 10) (f26dot6_bits result) }
@@ -181,8 +167,6 @@ impl Fixed {
     }
 
     /// Rounds to the nearest [`F26Dot6`], half up, or returns `None` if `to_f26dot6` wraps.
-    #[must_use]
-    #[inline]
     pub const fn checked_to_f26dot6(self) -> Option<F26Dot6>
         ensures variant { IsSome result ↔ FitsBits 22 (up (bits_of self) (2 ^ 10)) }
         ensures value { IfSome result (λ long. f26dot6_bits long ≡ up (bits_of self) (2 ^ 10)) }
@@ -194,7 +178,6 @@ impl Fixed {
     }
 
     /// Rounds to the nearest [`F2Dot14`], half up, wrapping on overflow.
-    #[must_use]
     #[inline(always)]
     pub const fn to_f2dot14(self) -> F2Dot14
         ensures { IsNarrowed 16 (bits_of self) 4 (f2dot14_bits result) }
@@ -203,8 +186,6 @@ impl Fixed {
     }
 
     /// Rounds to the nearest [`F2Dot14`], half up, or returns `None` on overflow.
-    #[must_use]
-    #[inline]
     pub const fn checked_to_f2dot14(self) -> Option<F2Dot14>
         ensures variant { IsSome result ↔ FitsBits 16 (up (bits_of self) 4) }
         ensures value { IfSome result (λ narrow. f2dot14_bits narrow ≡ up (bits_of self) 4) }
@@ -216,7 +197,6 @@ impl Fixed {
     }
 
     /// Converts to [`F48Dot16`], exactly.
-    #[must_use]
     #[inline(always)]
     pub const fn to_f48dot16(self) -> F48Dot16
         ensures { f48dot16_bits result ≡ bits_of self }
@@ -225,7 +205,6 @@ impl Fixed {
     }
 
     /// Returns the exact product with an integer.
-    #[must_use]
     #[inline(always)]
     pub const fn mul_i32(self, number: i32) -> F48Dot16
         ensures { f48dot16_bits result ≡ (bits_of self *ℤ number) }
@@ -236,8 +215,6 @@ impl Fixed {
     /// Adds a sum of deltas, exactly. The result is in units of `2^-32`.
     ///
     /// A delta of 1 is one unit of the raw value, `1 / 65536`.
-    #[must_use]
-    #[inline]
     pub fn apply_delta(self, delta: F48Dot16) -> i128
         ensures { result ≡ (bits_of self *ℤ pos 65536 +ℤ f48dot16_bits delta) }
     {
@@ -252,8 +229,6 @@ impl Fixed {
     /// let moved = Fixed::ONE.apply_delta(F48Dot16::from_i32(3));
     /// assert_eq!(Fixed::round_delta(moved), Some(Fixed::from_bits(0x1_0003)));
     /// ```
-    #[must_use]
-    #[inline]
     pub fn round_delta(moved: i128) -> Option<Self>
         ensures variant { IsSome result ↔ FitsBits 32 (up moved 65536) }
         ensures value { IfSome result (λ number. bits_of number ≡ up moved 65536) }
@@ -271,8 +246,6 @@ impl Fixed {
     /// let moved = Fixed::ONE.checked_add_delta(F48Dot16::ONE);
     /// assert_eq!(moved, Some(Fixed::from_bits(0x1_0001)));
     /// ```
-    #[must_use]
-    #[inline]
     pub const fn checked_add_delta(self, delta: F48Dot16) -> Option<Self>
         ensures variant { IsSome result
             ↔ FitsBits 32 (up (bits_of self *ℤ pos 65536 +ℤ f48dot16_bits delta) 65536) }
@@ -295,8 +268,6 @@ impl Fixed {
 }
 
 /// Returns `moved / 65536`, rounded to the nearest integer, half up.
-#[must_use]
-#[inline]
 #[tactic(auto, using(crate::proofs::Shifts::halves_up_128))]
 pub fn nearest_step(moved: i128) -> i128
     ensures { result ≡ up moved 65536 }
@@ -305,7 +276,6 @@ pub fn nearest_step(moved: i128) -> i128
 }
 
 /// Returns the sum of an integer and a delta, rounded to the nearest integer, half up.
-#[must_use]
 #[inline(always)]
 #[tactic(auto, using(std::proofs::lemmas::Int::wraps, crate::proofs::Deltas::integer_added))]
 pub const fn nearest_sum(number: i32, delta: F48Dot16) -> i64
@@ -386,7 +356,6 @@ impl DivAssign for Fixed {
 impl From<i32> for Fixed {
     ghost from_gives = { λ number fixed. bits_of fixed ≡ wrap 32 (number *ℤ pos (2 ^ 16)) };
 
-    #[inline]
     fn from(number: i32) -> Fixed {
         Fixed::from_i32(number)
     }
@@ -396,7 +365,6 @@ impl From<i32> for Fixed {
 impl From<F2Dot14> for Fixed {
     ghost from_gives = { λ number fixed. bits_of fixed ≡ (f2dot14_bits number *ℤ pos 4) };
 
-    #[inline]
     fn from(number: F2Dot14) -> Fixed {
         number.to_fixed()
     }

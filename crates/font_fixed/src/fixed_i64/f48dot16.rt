@@ -57,7 +57,6 @@ impl F48Dot16 {
     pub const NEG_ONE: Self = Self(-0x1_0000);
 
     /// Converts an integer from `-2^47` to `2^47 - 1`, wrapping on overflow.
-    #[must_use]
     #[inline(always)]
     pub const fn from_i64(number: i64) -> Self
         ensures { bits_of result ≡ wrap 64 (number *ℤ pos (2 ^ 16)) }
@@ -66,8 +65,6 @@ impl F48Dot16 {
     }
 
     /// Converts an integer from `-2^47` to `2^47 - 1`, or returns `None` on overflow.
-    #[must_use]
-    #[inline]
     pub const fn checked_from_i64(number: i64) -> Option<Self>
         ensures variant { IsSome result ↔ FitsBits 64 (number *ℤ pos (2 ^ 16)) }
         ensures value { IfSome result (λ wide. bits_of wide ≡ (number *ℤ pos (2 ^ 16))) }
@@ -79,7 +76,6 @@ impl F48Dot16 {
     }
 
     /// Converts an integer, exactly.
-    #[must_use]
     #[inline(always)]
     pub const fn from_i32(number: i32) -> Self
         ensures { bits_of result ≡ (number *ℤ pos (2 ^ 16)) }
@@ -89,7 +85,6 @@ impl F48Dot16 {
 
     /// Rounds to the nearest integer, half up, wrapped to 48 bits: from `2^47 - 1 / 2` on it gives
     /// `-2^47`.
-    #[must_use]
     #[inline(always)]
     pub const fn to_i64(self) -> i64
         ensures { IsNarrowed 48 (bits_of self) (2 ^ 16) result }
@@ -98,8 +93,6 @@ impl F48Dot16 {
     }
 
     /// Rounds to the nearest integer, half up, or returns `None` if `to_i64` wraps.
-    #[must_use]
-    #[inline]
     pub const fn checked_to_i64(self) -> Option<i64>
         ensures variant { IsSome result ↔ FitsBits 48 (up (bits_of self) (2 ^ 16)) }
         ensures value { IfSome result (λ number. number ≡ up (bits_of self) (2 ^ 16)) }
@@ -108,7 +101,6 @@ impl F48Dot16 {
     }
 
     /// Rounds to the nearest integer, half up, wrapped to 32 bits.
-    #[must_use]
     #[inline(always)]
     pub const fn to_i32(self) -> i32
         ensures { IsNarrowed 32 (bits_of self) (2 ^ 16) result }
@@ -117,8 +109,6 @@ impl F48Dot16 {
     }
 
     /// Rounds to the nearest integer, half up, or returns `None` on overflow.
-    #[must_use]
-    #[inline]
     pub const fn checked_to_i32(self) -> Option<i32>
         ensures variant { IsSome result ↔ FitsBits 32 (up (bits_of self) (2 ^ 16)) }
         ensures value { IfSome result (λ number. number ≡ up (bits_of self) (2 ^ 16)) }
@@ -127,8 +117,6 @@ impl F48Dot16 {
     }
 
     /// Converts to [`Fixed`], or returns `None` on overflow.
-    #[must_use]
-    #[inline]
     pub const fn checked_to_fixed(self) -> Option<Fixed>
         ensures variant { IsSome result ↔ FitsBits 32 (bits_of self) }
         ensures value { IfSome result (λ fixed. fixed_bits fixed ≡ bits_of self) }
@@ -140,7 +128,6 @@ impl F48Dot16 {
     }
 
     /// Converts to [`Fixed`], wrapping on overflow.
-    #[must_use]
     #[inline(always)]
     pub const fn to_fixed(self) -> Fixed
         ensures { fixed_bits result ≡ wrap 32 (bits_of self) }

@@ -6,8 +6,6 @@ ghost use Rattle.font_fixed.specs.NumberLaws.{OnThree, ProductLaws, QuotientLaws
 use crate::F26Dot6;
 
 /// Returns `x * y`, `y * x` and `x * ONE`: the first two are equal, and the third is `x`.
-#[must_use]
-#[inline]
 pub fn product_laws(x: F26Dot6, y: F26Dot6) -> [F26Dot6; 3]
     ensures { OnThree result (λ product flipped by_one.
         ProductLaws 32 6 (f26dot6_bits x) (f26dot6_bits y)
@@ -18,8 +16,6 @@ pub fn product_laws(x: F26Dot6, y: F26Dot6) -> [F26Dot6; 3]
 
 /// Returns `x / y`, `x / ONE` and `x / x`: the second is `x`, and the last is `ONE` unless `x` is
 /// zero.
-#[must_use]
-#[inline]
 pub fn quotient_laws(x: F26Dot6, y: F26Dot6) -> [F26Dot6; 3]
     ensures { OnThree result (λ quotient by_one by_itself.
         QuotientLaws 32 6 (f26dot6_bits x) (f26dot6_bits y)

@@ -11,8 +11,6 @@ use crate::Fixed;
 
 /// Returns `x * y`, `y * x`, `x * ONE` and `x.mul_div(y, ONE)`: the third is `x`, and the others
 /// are equal.
-#[must_use]
-#[inline]
 pub fn product_laws(x: Fixed, y: Fixed) -> [Fixed; 4]
     ensures laws { OnFour result (λ product flipped by_one in_one_step.
         ProductLaws 32 16 (fixed_bits x) (fixed_bits y)
@@ -28,8 +26,6 @@ pub fn product_laws(x: Fixed, y: Fixed) -> [Fixed; 4]
 ///
 /// The first two are equal, even if `y` is zero; the third is `x`, and the last is `ONE` unless `x`
 /// is zero.
-#[must_use]
-#[inline]
 pub fn quotient_laws(x: Fixed, y: Fixed) -> [Fixed; 4]
     ensures laws { OnFour result (λ quotient in_one_step by_one by_itself.
         QuotientLaws 32 16 (fixed_bits x) (fixed_bits y)
@@ -43,8 +39,6 @@ pub fn quotient_laws(x: Fixed, y: Fixed) -> [Fixed; 4]
 
 /// Returns `x.mul_div(a, c)` and `y.mul_div(a, c)`, two coordinates scaled by one ratio. If `a` is
 /// not negative, `c` is positive and neither overflows, the greater never becomes the smaller.
-#[must_use]
-#[inline]
 #[tactic(auto, using(crate::proofs::Orders::order_calls))]
 pub fn scaled_in_order(x: Fixed, y: Fixed, a: Fixed, c: Fixed) -> (Fixed, Fixed)
     ensures first { IsMulDiv 32 (fixed_bits x) (fixed_bits a) (fixed_bits c)
@@ -63,8 +57,6 @@ pub fn scaled_in_order(x: Fixed, y: Fixed, a: Fixed, c: Fixed) -> (Fixed, Fixed)
 /// Returns `x.mul_div(a, c)`, `y.mul_div(a, c)` and `(x - y).mul_div(a, c)`: two coordinates and
 /// their distance, scaled by one ratio. If `c` is not zero and nothing overflows, the difference of
 /// the first two is within one raw unit of the third.
-#[must_use]
-#[inline]
 #[tactic(auto, using(crate::proofs::Orders::scaled_distance))]
 pub fn scaled_distance(x: Fixed, y: Fixed, a: Fixed, c: Fixed) -> (Fixed, Fixed, Fixed)
     ensures first { IsMulDiv 32 (fixed_bits x) (fixed_bits a) (fixed_bits c)
