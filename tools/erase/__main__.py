@@ -47,7 +47,7 @@ def add_file(files, of, source, name, folder, module):
     """Adds a file and the modules that it declares."""
     path = f"{source}/{name}.rt"
     try:
-        erased = Eraser((ROOT / path).read_text(), of, module == "mod", DEFINITIONS)
+        erased = Eraser((ROOT / path).read_text(), of, module == "mod", DEFINITIONS, path)
     except Refused as error:
         line, what = error.args
         sys.exit(f"{path}:{line}: {what}: see tools/erase/forms.py")

@@ -19,6 +19,9 @@ HIDDEN = set(
     "null_is_zero respects_eq same_bytes total whole".split()
 )
 
+# A public type's or trait's documentation names its source.
+TYPES = ("struct", "enum", "trait", "type")
+
 # The line above a clause that says what other clauses say, in a form that proofs use.
 AID = "// For proofs."
 
@@ -37,6 +40,9 @@ class Contracts:
         first word is at this place."""
         words = self.eraser.words
         end = self.doc_end(at)
+        if words[at] in TYPES and words[at - 1] == "pub" and end is not None:
+            text = f"The source and its contracts: `{self.eraser.file}`."
+            self.eraser.put_before[end] += f"\n///\n/// {text}"
         if words[at] == "fn" and words[at + 1] != "(":
             clauses = self.eraser.header_and_clauses(at)[1] if end is not None else []
         elif words[at] in ("trait", "struct", "enum", "impl") and forms.is_item(words, at):

@@ -102,8 +102,8 @@ def tokens(source):
 class Eraser:
     """A file. Places in it are counted in words."""
 
-    def __init__(self, source, of, is_root, known=None):
-        self.tokens, self.of, self.is_root = tokens(source), of, is_root
+    def __init__(self, source, of, is_root, known=None, path=""):
+        self.tokens, self.of, self.is_root, self.file = tokens(source), of, is_root, path
         self.places = [n for n, (kind, _, _) in enumerate(self.tokens) if kind == "code"]
         self.words = [self.tokens[n][1] for n in self.places]
         # Of each token whether it is written, and what is written before it.
@@ -205,10 +205,10 @@ class Eraser:
             case ["enum", name, *_] if name in COPIED and self.of.target in DERIVING:
                 after = self.group_end(self.header_end(item))
                 self.put_after(after - 1, f"\n\nimpl Copy for {name} {{}}\n")
-                return item + 2
+                return item
             case ["struct" | "enum", name, *_] if name in DERIVED and self.of.target in DERIVING:
                 self.put(at, f"#[derive({DERIVED[name]})]\n")
-                return item + 2
+                return item
             case ["mod", name, *_] if item == at:
                 self.modules.append(name)
                 return at + 1

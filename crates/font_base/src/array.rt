@@ -32,8 +32,6 @@ use std::slice::Iter;
 /// assert_eq!(ends.into_iter().next_back(), Some(0xFFFF));
 /// assert!(ScalarArray::<u16>::new(&[0x00]).is_none());
 /// ```
-///
-/// The source and its contracts: `crates/font_base/src/array.rt`.
 pub struct ScalarArray<'a, T: Scalar> {
     raw: &'a [T::Raw],
     ghost are_raw: { AreRaw T.Raw.is_value T.Raw.bytes T.RAW_BYTE_LEN raw.now },
@@ -356,8 +354,6 @@ impl<'a, T: Scalar> ScalarArray<'a, T> {
 ///
 /// `nth`, `skip` and `step_by` decode each element that they pass: [`slice`](ScalarArray::slice)
 /// the array first. To fill a `Vec` in Rust, collect [`ScalarArray::iter`] instead.
-///
-/// The source and its contracts: `crates/font_base/src/array.rt`.
 #[derive(Drop)]
 pub struct ScalarArrayIter<'a, T: Scalar> {
     rest: Iter<'a, T::Raw>,

@@ -27,8 +27,6 @@ use std::marker::PhantomData;
 /// let field = BigEndian::<FWord>::from_slice(&[0xFF, 0xFE]).unwrap();
 /// assert_eq!(field.get(), FWord::new(-2));
 /// ```
-///
-/// The source and its contracts: `crates/font_base/src/big_endian.rt`.
 pub struct BigEndian<T: Scalar, R: BeByteArray = <T as Scalar>::Raw> {
     raw: R,
     scalar: PhantomData<T>,

@@ -16,8 +16,6 @@ use std::fmt;
 /// assert_eq!(Int24::new(-2).to_be_bytes(), [0xFF, 0xFF, 0xFE]);
 /// assert_eq!(Int24::checked_new(8388608), None);
 /// ```
-///
-/// The source and its contracts: `crates/font_base/src/int24.rt`.
 #[derive(Clone, Copy, PartialEq, Eq, PartialOrd, Ord, Hash)]
 pub struct Int24 {
     value: i32,

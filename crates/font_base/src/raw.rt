@@ -26,8 +26,6 @@ use crate::facts::each_is_byte;
 /// - `from_slice` accepts exactly the slices of `LEN` bytes.
 /// - `as_slice` returns `LEN` bytes, those that `from_slice` was given.
 /// - Arrays with equal bytes are the same value.
-///
-/// The source and its contracts: `crates/font_base/src/raw.rt`.
 pub trait BeByteArray: Copy {
     /// The number of bytes.
     const LEN: usize;
@@ -120,8 +118,6 @@ impl<const N: usize> BeByteArray for [u8; N] {
 /// - `as_chunks` splits a slice into as many arrays as it has bytes for, and the bytes after them.
 ///   If `LEN` is 0, there are no arrays, and all bytes are left.
 /// - `as_flattened` returns the bytes of the arrays, in order.
-///
-/// The source and its contracts: `crates/font_base/src/raw.rt`.
 pub trait ByteChunks: BeByteArray {
     /// Splits a slice into arrays, from its start, and the bytes that are left.
     fn as_chunks(bytes: &[u8]) -> (&[Self], &[u8])
@@ -159,8 +155,6 @@ impl<const N: usize> ByteChunks for [u8; N] {
 /// Rattle proves this of every [`Scalar`]; rustc does not check it.
 ///
 /// - A value has `RAW_BYTE_LEN` raw bytes.
-///
-/// The source and its contracts: `crates/font_base/src/raw.rt`.
 pub trait FixedSize: Sized {
     /// The encoded size, in bytes.
     const RAW_BYTE_LEN: usize;
@@ -184,8 +178,6 @@ pub trait FixedSize: Sized {
 ///
 /// - `from_raw(value.to_raw())` is `value`, and `from_raw(raw).to_raw()` is `raw`.
 /// - `Raw::LEN` equals `RAW_BYTE_LEN`.
-///
-/// The source and its contracts: `crates/font_base/src/raw.rt`.
 pub trait Scalar: FixedSize {
     /// The raw bytes.
     type Raw: BeByteArray;
@@ -282,8 +274,6 @@ pub trait Scalar: FixedSize {
 /// Rattle proves this of every implementation; rustc does not check it.
 ///
 /// - `a == b` if and only if they are the same value, with the same raw bytes.
-///
-/// The source and its contracts: `crates/font_base/src/raw.rt`.
 pub trait IdentityEq: Eq {
     ghost identity: { (a b : Self) → Decides (Self.eq a b) (a ≡ b) };
 }

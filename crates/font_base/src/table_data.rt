@@ -39,8 +39,6 @@ use std::marker::PhantomData;
 /// assert_eq!(maxp.header().glyph_count, 260);
 /// assert!(TableDataRef::<MaxpHeader>::new(&[0, 0, 0x50, 0, 1]).is_none());
 /// ```
-///
-/// The source and its contracts: `crates/font_base/src/table_data.rt`.
 pub trait TableHeader: Sized {
     /// The size of the header, in bytes.
     const BYTE_LEN: usize;
@@ -78,8 +76,6 @@ pub trait TableHeader: Sized {
 /// assert_eq!(maxp.header().0, 260);
 /// assert_eq!(maxp.rest(), [0, 9]);
 /// ```
-///
-/// The source and its contracts: `crates/font_base/src/table_data.rt`.
 pub struct TableDataRef<'a, H: TableHeader> {
     data: &'a [u8],
     header: PhantomData<H>,
@@ -154,8 +150,6 @@ impl<'a, H: TableHeader> Clone for TableDataRef<'a, H> {
 impl<'a, H: TableHeader> Copy for TableDataRef<'a, H> {}
 
 /// An example of a header, with two fields.
-///
-/// The source and its contracts: `crates/font_base/src/table_data.rt`.
 #[doc(hidden)]
 #[derive(Drop)]
 pub struct SampleHeader {

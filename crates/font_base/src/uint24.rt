@@ -16,8 +16,6 @@ use thiserror::Error;
 /// assert_eq!(Uint24::new(5).to_be_bytes(), [0, 0, 5]);
 /// assert!(Uint24::try_from(16777216_usize).is_err());
 /// ```
-///
-/// The source and its contracts: `crates/font_base/src/uint24.rt`.
 #[derive(Clone, Copy, PartialEq, Eq, PartialOrd, Ord, Hash)]
 pub struct Uint24 {
     value: u32,
@@ -134,8 +132,6 @@ impl From<Uint24> for usize {
 }
 
 /// The error of a conversion from a `usize` that exceeds [`Uint24::MAX`].
-///
-/// The source and its contracts: `crates/font_base/src/uint24.rt`.
 #[derive(Debug, Drop, Error)]
 #[error("failed to convert usize value into Uint24.")]
 pub struct TryFromUint24Error;

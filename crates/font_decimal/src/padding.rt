@@ -5,8 +5,6 @@ ghost use Rattle.font_decimal.specs.Padding.{shown_sign, unsigned_body, laid_out
 ghost use Rattle.font_decimal.specs.Padding.{FillsFront};
 
 /// The alignment of text that is shorter than the width.
-///
-/// The source and its contracts: `crates/font_decimal/src/padding.rt`.
 #[derive(Clone, Copy)]
 pub enum Align {
     /// Left-aligned, with the fill on the right.
@@ -28,8 +26,6 @@ pub enum Align {
 /// assert_eq!(Fixed::ONE.write_padded(&mut out, &pad), Some(6));
 /// assert_eq!(&out, b"1.....");
 /// ```
-///
-/// The source and its contracts: `crates/font_decimal/src/padding.rt`.
 #[derive(Clone, Copy)]
 pub struct Pad {
     /// The minimum width in bytes; 0 means none.

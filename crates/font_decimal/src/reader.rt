@@ -51,8 +51,6 @@ const TENS: [u64; 20] = [
 /// assert_eq!(Fixed::from_decimal("1e5"), Err(DecimalFault::Syntax));
 /// assert_eq!(Fixed::from_decimal("100000"), Err(DecimalFault::OutOfRange));
 /// ```
-///
-/// The source and its contracts: `crates/font_decimal/src/reader.rt`.
 #[derive(Clone, PartialEq, Eq, Debug, Drop, Error)]
 pub enum DecimalFault {
     /// The text is not a decimal.

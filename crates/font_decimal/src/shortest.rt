@@ -19,8 +19,6 @@ const POINT: usize = 20;
 /// use font_types::Shortest;
 /// assert_eq!(Shortest::new(9830, 14).as_str(), "0.6");
 /// ```
-///
-/// The source and its contracts: `crates/font_decimal/src/shortest.rt`.
 #[derive(Clone, Copy)]
 pub struct Shortest {
     bytes: [u8; LEN],

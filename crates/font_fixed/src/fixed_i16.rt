@@ -55,8 +55,6 @@ pub use f6dot10::F6Dot10;
 /// use font_types::FixedI16;
 /// FixedI16::<3>::from_bits(12).round();
 /// ```
-///
-/// The source and its contracts: `crates/font_fixed/src/fixed_i16.rt`.
 #[derive(Clone, Copy, PartialEq, Eq, PartialOrd, Ord, Hash, Default)]
 pub struct FixedI16<const F: u32>(i16);
 

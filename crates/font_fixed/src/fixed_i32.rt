@@ -46,8 +46,6 @@ pub use fixed::{Fixed, nearest_step, nearest_sum};
 /// use font_types::FixedI32;
 /// FixedI32::<3>::from_bits(12).round();
 /// ```
-///
-/// The source and its contracts: `crates/font_fixed/src/fixed_i32.rt`.
 #[derive(Clone, Copy, PartialEq, Eq, PartialOrd, Ord, Hash, Default)]
 pub struct FixedI32<const F: u32>(i32);
 

@@ -42,8 +42,6 @@ pub use f48dot16::F48Dot16;
 /// use font_types::FixedI64;
 /// FixedI64::<3>::from_bits(12).round();
 /// ```
-///
-/// The source and its contracts: `crates/font_fixed/src/fixed_i64.rt`.
 #[derive(Clone, Copy, PartialEq, Eq, PartialOrd, Ord, Hash, Default)]
 pub struct FixedI64<const F: u32>(i64);
 

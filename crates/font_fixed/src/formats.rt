@@ -12,8 +12,6 @@ use crate::{FixedI16, FixedI32, FixedI64};
 /// struct Mine;
 /// impl font_types::Format<32, 16> for Mine {}
 /// ```
-///
-/// The source and its contracts: `crates/font_fixed/src/formats.rt`.
 pub trait Format<const W: u32, const F: u32>: Sealed {
     ghost least: { 6 ≤ F };
 

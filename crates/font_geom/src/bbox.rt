@@ -15,8 +15,6 @@ use std::ops::Mul;
 /// assert_eq!(region.normalize(), BoundingBox { x_min: 1, y_min: 0, x_max: 3, y_max: 2 });
 /// assert_eq!(region.scale(2).y_max, 4);
 /// ```
-///
-/// The source and its contracts: `crates/font_geom/src/bbox.rt`.
 #[derive(Clone, Copy, PartialEq, Eq, Default, Debug)]
 pub struct BoundingBox<T> {
     /// The minimum x coordinate.

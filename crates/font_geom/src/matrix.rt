@@ -26,8 +26,6 @@ use std::ops::{Add, Mul, MulAssign};
 /// let shrink = Matrix { xx: half, yy: half, ..Matrix::identity() };
 /// assert_eq!(shrink * Point::new(Fixed::ONE, half), Point::new(half, half * half));
 /// ```
-///
-/// The source and its contracts: `crates/font_geom/src/matrix.rt`.
 #[derive(Clone, Copy, PartialEq, Eq, Debug)]
 pub struct Matrix<T> {
     /// The factor of x in x.
@@ -83,8 +81,6 @@ pub struct Matrix<T> {
 /// let shift = Matrix { dx: Units(5), ..Matrix::identity() };
 /// assert_eq!(shift * Point::new(Units(1), Units(2)), Point::new(Units(6), Units(2)));
 /// ```
-///
-/// The source and its contracts: `crates/font_geom/src/matrix.rt`.
 pub trait MatrixElement: Copy + Add<Output = Self> + Mul<Output = Self> {
     /// The value 0.
     const ZERO: Self;

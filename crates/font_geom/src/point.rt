@@ -11,8 +11,6 @@ use std::ops::{Add, AddAssign, Div, DivAssign, Mul, MulAssign, Neg, Sub, SubAssi
 /// use font_types::Point;
 /// assert_eq!(Point::new(3, 4) - Point::broadcast(1), Point::new(2, 3));
 /// ```
-///
-/// The source and its contracts: `crates/font_geom/src/point.rt`.
 #[derive(Clone, Copy, PartialEq, Eq, Default, Debug)]
 pub struct Point<T> {
     /// The x coordinate.

@@ -18,8 +18,6 @@ use crate::MatrixElement;
 /// - `+` is associative and commutative, and `x + ZERO` is `x`.
 /// - `*` is associative and distributes over `+` on both sides. On both sides a product with `ONE`
 ///   is the other factor, and one with `ZERO` is `ZERO`.
-///
-/// The source and its contracts: `crates/font_geom/src/ring.rt`.
 pub trait RingElement: MatrixElement {
     // the result of `x + y`
     ghost plus: { Self → Self → Self };

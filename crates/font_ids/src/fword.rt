@@ -24,8 +24,6 @@ use std::fmt;
 /// let ascender = FWord::read(&[0xFF, 0xFE]).unwrap();
 /// assert_eq!(ascender.to_fixed(), Fixed::from_i32(-2));
 /// ```
-///
-/// The source and its contracts: `crates/font_ids/src/fword.rt`.
 #[derive(Clone, Copy, Debug, Default, PartialEq, Eq, PartialOrd, Ord, Hash)]
 pub struct FWord(i16);
 
@@ -180,8 +178,6 @@ impl IdentityEq for FWord {
 /// use font_types::{Scalar, UfWord};
 /// assert_eq!(UfWord::read(&[0xFF, 0xFE]), Some(UfWord::new(65534)));
 /// ```
-///
-/// The source and its contracts: `crates/font_ids/src/fword.rt`.
 #[derive(Clone, Copy, Debug, Default, PartialEq, Eq, PartialOrd, Ord, Hash)]
 pub struct UfWord(u16);
 

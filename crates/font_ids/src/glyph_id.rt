@@ -22,8 +22,6 @@ use thiserror::Error;
 /// use font_types::{GlyphId, GlyphId16};
 /// assert_eq!(GlyphId16::try_from(GlyphId::new(7)).unwrap(), GlyphId16::new(7));
 /// ```
-///
-/// The source and its contracts: `crates/font_ids/src/glyph_id.rt`.
 #[derive(Clone, Copy, Debug, Default, PartialEq, Eq, PartialOrd, Ord, Hash)]
 pub struct GlyphId16(u16);
 
@@ -178,8 +176,6 @@ impl IdentityEq for GlyphId16 {
 /// use font_types::GlyphId24;
 /// assert_eq!(GlyphId24::checked_new(0x01_0000).unwrap().to_be_bytes(), [1, 0, 0]);
 /// ```
-///
-/// The source and its contracts: `crates/font_ids/src/glyph_id.rt`.
 #[derive(Clone, Copy, Debug, Default, PartialEq, Eq, PartialOrd, Ord, Hash)]
 pub struct GlyphId24(Uint24);
 
@@ -310,8 +306,6 @@ impl IdentityEq for GlyphId24 {
 /// use font_types::{GlyphId, GlyphId16};
 /// assert_eq!(GlyphId::from(GlyphId16::new(7)).to_u32(), 7);
 /// ```
-///
-/// The source and its contracts: `crates/font_ids/src/glyph_id.rt`.
 #[derive(Clone, Copy, Debug, Default, PartialEq, Eq, PartialOrd, Ord, Hash)]
 pub struct GlyphId(u32);
 
@@ -414,8 +408,6 @@ impl From<GlyphId> for u32 {
 /// let error = GlyphId16::try_from(GlyphId::new(65536)).unwrap_err();
 /// assert_eq!(error.value(), 65536);
 /// ```
-///
-/// The source and its contracts: `crates/font_ids/src/glyph_id.rt`.
 #[derive(Debug, Drop, Error)]
 #[error("glyph identifier {0} too large for conversion")]
 pub struct TryFromGlyphIdError(u32);

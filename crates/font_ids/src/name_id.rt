@@ -22,8 +22,6 @@ use std::fmt;
 /// assert_eq!(NameId::new(1), NameId::FAMILY_NAME);
 /// assert!(NameId::FAMILY_NAME.is_reserved());
 /// ```
-///
-/// The source and its contracts: `crates/font_ids/src/name_id.rt`.
 #[derive(Clone, Copy, PartialEq, Eq, PartialOrd, Ord, Hash)]
 pub struct NameId(u16);
 
@@ -268,8 +266,6 @@ impl IdentityEq for NameId {
 /// use font_types::NameId;
 /// assert_eq!(NameId::predefined().nth(1), Some(NameId::FAMILY_NAME));
 /// ```
-///
-/// The source and its contracts: `crates/font_ids/src/name_id.rt`.
 #[derive(Clone, Drop)]
 pub struct Predefined {
     next: u16,

@@ -21,8 +21,6 @@ use font_base::{FixedSize, IdentityEq, Scalar, Uint24};
 /// let offset = Offset16::new(7);
 /// assert!(!offset.is_null() && offset.to_u32() == 7);
 /// ```
-///
-/// The source and its contracts: `crates/font_ids/src/offset.rt`.
 #[derive(Clone, Copy, Debug, PartialEq, Eq, PartialOrd, Ord)]
 pub struct Offset16(u16);
 
@@ -112,8 +110,6 @@ impl IdentityEq for Offset16 {
 /// let offset = Offset24::new(Uint24::new(7));
 /// assert!(!offset.is_null() && offset.to_u32() == 7);
 /// ```
-///
-/// The source and its contracts: `crates/font_ids/src/offset.rt`.
 #[derive(Clone, Copy, Debug, PartialEq, Eq, PartialOrd, Ord)]
 pub struct Offset24(Uint24);
 
@@ -205,8 +201,6 @@ impl IdentityEq for Offset24 {
 /// let offset = Offset32::new(7);
 /// assert!(!offset.is_null() && offset.to_u32() == 7);
 /// ```
-///
-/// The source and its contracts: `crates/font_ids/src/offset.rt`.
 #[derive(Clone, Copy, Debug, PartialEq, Eq, PartialOrd, Ord)]
 pub struct Offset32(u32);
 
@@ -288,8 +282,6 @@ impl IdentityEq for Offset32 {
 /// Rattle proves this of every implementation; rustc does not check it.
 ///
 /// - `NULL.value_u32()` is 0.
-///
-/// The source and its contracts: `crates/font_ids/src/offset.rt`.
 pub trait OffsetValue: Copy {
     /// The null offset, 0.
     const NULL: Self;
@@ -370,8 +362,6 @@ impl OffsetValue for Offset32 {
 /// use font_types::{Nullable, Offset16, Scalar};
 /// assert!(Nullable::<Offset16>::read(&[0, 0]).unwrap().is_null());
 /// ```
-///
-/// The source and its contracts: `crates/font_ids/src/offset.rt`.
 #[derive(Clone, Copy, Debug, PartialEq, Eq)]
 pub struct Nullable<T>(T);
 

@@ -16,8 +16,6 @@ use font_base::{FixedSize, IdentityEq, Scalar};
 /// let epoch_of_unix = LongDateTime::read(&[0, 0, 0, 0, 0x7C, 0x25, 0xB0, 0x80]).unwrap();
 /// assert_eq!(epoch_of_unix.as_secs(), 2_082_844_800);
 /// ```
-///
-/// The source and its contracts: `crates/font_tags/src/longdatetime.rt`.
 #[derive(Clone, Copy, Debug, Default, PartialEq, Eq, PartialOrd, Ord, Hash)]
 pub struct LongDateTime(i64);
 

@@ -32,8 +32,6 @@ pub const TTC_HEADER_TAG: Tag = Tag([0x74, 0x74, 0x63, 0x66]);
 /// assert_eq!(Tag::new_checked(b"cvt").unwrap(), Tag::new(b"cvt "));
 /// assert_eq!(Tag::new_checked(b"glyph"), Err(InvalidTag::InvalidLength(5)));
 /// ```
-///
-/// The source and its contracts: `crates/font_tags/src/tag.rt`.
 #[derive(Clone, Copy, PartialEq, Eq, Hash)]
 pub struct Tag([u8; 4]);
 
@@ -219,8 +217,6 @@ const fn after_spaces(bytes: &[u8], from: usize) -> usize
 /// assert_eq!(tag.unwrap_err().to_string(), "Invalid byte 0x9 at index 1");
 /// assert_eq!(Tag::new(b"a b ").validate(), Err(InvalidTag::ByteAfterSpace { pos: 2 }));
 /// ```
-///
-/// The source and its contracts: `crates/font_tags/src/tag.rt`.
 #[derive(Clone, Debug, PartialEq, Eq, Drop, Error)]
 pub enum InvalidTag {
     /// There are not one to four bytes; a tag of four spaces has length 0.

@@ -23,8 +23,6 @@ use std::fmt;
 /// assert_eq!(version.to_be_bytes(), [0, 0, 0x50, 0]);
 /// assert!(version.compatible((0, 5)));
 /// ```
-///
-/// The source and its contracts: `crates/font_tags/src/version.rt`.
 #[derive(Clone, Copy, Default, PartialEq, Eq, PartialOrd, Ord, Hash)]
 pub struct Version16Dot16(u32);
 
@@ -132,8 +130,6 @@ impl IdentityEq for Version16Dot16 {
 /// let version = MajorMinor::new(1, 2);
 /// assert!(version.compatible((1, 0)) && !version.compatible((1, 3)));
 /// ```
-///
-/// The source and its contracts: `crates/font_tags/src/version.rt`.
 #[derive(Clone, Copy, Debug, Default, PartialEq, Eq, PartialOrd, Ord, Hash)]
 pub struct MajorMinor {
     /// The major number.
@@ -241,8 +237,6 @@ impl IdentityEq for MajorMinor {
 /// assert!(version.compatible((1, 1)) && version.compatible(MajorMinor::VERSION_1_2));
 /// assert!(!version.compatible((1, 3)) && !version.compatible((0, 2)));
 /// ```
-///
-/// The source and its contracts: `crates/font_tags/src/version.rt`.
 pub trait Compatible<Rhs>: Sized {
     // every field that a reader of the other version needs is present
     ghost is_compatible: { Self → Rhs → Type 0 };

@@ -26,8 +26,6 @@ use std::ops::AddAssign;
 /// sum.add(Fixed::NEG_ONE, 2);
 /// assert_eq!(sum.finish().to_string(), "-0.5");
 /// ```
-///
-/// The source and its contracts: `crates/font_types/src/delta.rt`.
 #[derive(Clone, Copy, Debug, PartialEq, Eq, Drop)]
 pub struct DeltaSum {
     steps: i128,

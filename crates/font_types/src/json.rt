@@ -21,8 +21,6 @@ use std::alloc::{AllocError, Global};
 use thiserror::Error;
 
 /// Why a conversion to or from JSON failed.
-///
-/// The source and its contracts: `crates/font_types/src/json.rt`.
 #[derive(Clone, Debug, PartialEq, Eq, Drop, Error)]
 pub enum JsonFault {
     /// Out of memory.
@@ -72,8 +70,6 @@ impl From<DecimalFault> for JsonFault {
 /// A type with a JSON form.
 ///
 /// Fixed-point numbers and tags are strings, integers are numbers, and a `MajorMinor` is an object.
-///
-/// The source and its contracts: `crates/font_types/src/json.rt`.
 pub trait JsonScalar: Sized {
     // which JSON a value has, and what JSON is read as
     ghost form: { JsonForm Self };

@@ -25,8 +25,6 @@ use crate::{F48Dot16, Fixed, fitting_16, nearest_step, nearest_sum};
 /// ```
 ///
 /// Its other methods, as `from_bits` and `round`, are those of [`FixedI16`].
-///
-/// The source and its contracts: `crates/font_fixed/src/fixed_i16/f2dot14.rt`.
 pub type F2Dot14 = FixedI16<14>;
 
 impl Format<16, 14> for F2Dot14 {

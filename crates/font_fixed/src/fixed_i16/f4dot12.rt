@@ -17,8 +17,6 @@ use crate::formats::Format;
 /// ```
 ///
 /// Its other methods, as `from_bits` and `round`, are those of [`FixedI16`].
-///
-/// The source and its contracts: `crates/font_fixed/src/fixed_i16/f4dot12.rt`.
 pub type F4Dot12 = FixedI16<12>;
 
 impl Format<16, 12> for F4Dot12 {

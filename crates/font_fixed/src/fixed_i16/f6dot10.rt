@@ -17,8 +17,6 @@ use crate::formats::Format;
 /// ```
 ///
 /// Its other methods, as `from_bits` and `round`, are those of [`FixedI16`].
-///
-/// The source and its contracts: `crates/font_fixed/src/fixed_i16/f6dot10.rt`.
 pub type F6Dot10 = FixedI16<10>;
 
 impl Format<16, 10> for F6Dot10 {

@@ -25,8 +25,6 @@ use std::ops::{Div, DivAssign, Mul, MulAssign};
 /// ```
 ///
 /// Its other methods, as `from_bits` and `round`, are those of [`FixedI32`].
-///
-/// The source and its contracts: `crates/font_fixed/src/fixed_i32/f26dot6.rt`.
 pub type F26Dot6 = FixedI32<6>;
 
 impl Format<32, 6> for F26Dot6 {

@@ -29,8 +29,6 @@ use font_base::{FixedSize, IdentityEq, Scalar};
 /// ```
 ///
 /// Its other methods, as `from_bits` and `round`, are those of [`FixedI32`].
-///
-/// The source and its contracts: `crates/font_fixed/src/fixed_i32/f2dot30.rt`.
 pub type F2Dot30 = FixedI32<30>;
 
 impl Format<32, 30> for F2Dot30 {

@@ -37,8 +37,6 @@ use std::ops::{Div, DivAssign, Mul, MulAssign};
 /// ```
 ///
 /// Its other methods, as `from_bits` and `round`, are those of [`FixedI32`].
-///
-/// The source and its contracts: `crates/font_fixed/src/fixed_i32/fixed.rt`.
 pub type Fixed = FixedI32<16>;
 
 impl Format<32, 16> for Fixed {

@@ -25,8 +25,6 @@ use crate::{Fixed, fitting_32, half_up_64, low_bits, narrow_64};
 /// ```
 ///
 /// Its other methods, as `from_bits` and `round`, are those of [`FixedI64`].
-///
-/// The source and its contracts: `crates/font_fixed/src/fixed_i64/f48dot16.rt`.
 pub type F48Dot16 = FixedI64<16>;
 
 impl Format<64, 16> for F48Dot16 {
